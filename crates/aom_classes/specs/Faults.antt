@@ -1,0 +1,28 @@
+-- What the faults say.
+use Rattle.std.specs.Prelude.{ℕ}
+use Rattle.aom_image.specs.Image.{Image}
+use Rattle.aom_classes.specs.Admitted.{IsAdmitted}
+use Rattle.aom_classes.specs.Linked.{AllJumpWell, HasMain}
+use Rattle.aom_classes.specs.declared.fault.LinkFault.{LinkFault}
+use Rattle.aom_classes.specs.declared.fault.LinkFault.TheVariants.{NotYet, ClassOrder, CallOrder, MissingRole, DoubleRole, RoleShape, BadJump, BadLoop, NoMain, OutOfMemory}
+
+-- the number of a fault
+unfoldable pub number_of : LinkFault → ℕ
+number_of NotYet = 0
+number_of ClassOrder = 1
+number_of CallOrder = 2
+number_of MissingRole = 3
+number_of DoubleRole = 4
+number_of RoleShape = 5
+number_of BadJump = 6
+number_of BadLoop = 7
+number_of NoMain = 8
+number_of OutOfMemory = 9
+
+-- the image fails the fault's condition, and none of a lower number; an admitted image fails no other condition
+unfoldable pub Refuses : Image → LinkFault → Type 0
+Refuses p NotYet = ¬ IsAdmitted p
+Refuses p BadJump = IsAdmitted p × ¬ AllJumpWell p
+Refuses p NoMain = IsAdmitted p × AllJumpWell p × ¬ HasMain p
+Refuses p OutOfMemory = Unit {0}
+Refuses p _ = ⊥

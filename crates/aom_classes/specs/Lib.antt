@@ -1,0 +1,5 @@
+pub mod Admitted
+pub mod Faults
+pub mod Jumps
+pub mod Linked
+pub mod Roles

@@ -1,0 +1,18 @@
+-- The conditions under which an image is linked.
+use Rattle.std.specs.Prelude.{ℕ, IfSome, IsSome, slice_get}
+use Rattle.aom_image.specs.Image.{Image}
+use Rattle.aom_classes.specs.Jumps.{JumpsWell}
+use Rattle.aom_classes.specs.Roles.{main_of}
+
+-- the jumps of each method go forward, and none of its places has a successor past its end
+abbrev pub AllJumpWell : Image → Type 0
+AllJumpWell p = (m : ℕ) → IfSome (slice_get p.methods m) (λ d. JumpsWell d.code)
+
+-- there is a main
+abbrev pub HasMain : Image → Type 0
+HasMain p = IsSome (main_of p)
+
+-- a linked image
+pub record IsLinked (p : Image) : Type 0 where
+  pub jumps : AllJumpWell p
+  pub main : HasMain p

@@ -1,0 +1,44 @@
+-- Which method has a role.
+use Rattle.std.specs.Prelude.{ℕ, Bool, false, ◌&&◌, nat_eq, Option, Some, None, position}
+use Rattle.aom_image.specs.Image.{Image}
+use Rattle.aom_image.specs.declared.method.Method.{Method}
+use Rattle.aom_image.specs.declared.method.Role.{Role}
+use Rattle.aom_image.specs.declared.method.Role.TheVariants.{Do, Main, Construct, Destruct, Run, Cancel, Error, Accept, Service, Undo}
+
+-- the number of a role, from 0 to 9
+unfoldable pub role_number : Role → ℕ
+role_number Do = 0
+role_number Main = 1
+role_number Construct = 2
+role_number Destruct = 3
+role_number Run = 4
+role_number Cancel = 5
+role_number Error = 6
+role_number Accept = 7
+role_number Service = 8
+role_number Undo = 9
+
+-- whether two roles are one
+abbrev pub same_role : Role → Role → Bool
+same_role a b = nat_eq (role_number a) (role_number b)
+
+-- whether a method's class is that one
+abbrev pub is_class : ℕ → Option ℕ → Bool
+is_class c None = false
+is_class c (Some d) = nat_eq d c
+
+-- whether a method is of that class and has that role
+unfoldable pub plays : ℕ → Role → Method → Bool
+plays c r m = is_class c m.class && same_role m.role r
+
+-- the first method of that class with that role
+unfoldable pub role_of : Image → ℕ → Role → Option ℕ
+role_of p c r = position (plays c r) p.methods
+
+-- whether a method is main
+abbrev pub is_main : Method → Bool
+is_main m = same_role m.role Main
+
+-- the first method with the role main
+unfoldable pub main_of : Image → Option ℕ
+main_of p = position is_main p.methods

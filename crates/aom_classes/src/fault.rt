@@ -1,0 +1,51 @@
+//! Why an image is not linked.
+ghost use Rattle.std.specs.Prelude.{◌≡◌};
+ghost use Rattle.aom_classes.specs.Faults.{number_of};
+
+use thiserror::Error;
+
+/// The first condition that an image fails, in the order of their numbers.
+#[derive(Clone, Copy, PartialEq, Eq, Debug, Error)]
+pub enum LinkFault {
+    /// It has something that is not admitted yet.
+    #[error("link 0")]
+    NotYet,
+    #[error("link 1")]
+    ClassOrder,
+    #[error("link 2")]
+    CallOrder,
+    #[error("link 3")]
+    MissingRole,
+    #[error("link 4")]
+    DoubleRole,
+    #[error("link 5")]
+    RoleShape,
+    #[error("link 6")]
+    BadJump,
+    #[error("link 7")]
+    BadLoop,
+    #[error("link 8")]
+    NoMain,
+    #[error("link 9")]
+    OutOfMemory,
+}
+
+impl LinkFault {
+    #[tactic(auto, unfolding(crate::specs::Faults::number_of))]
+    pub fn number(self) -> u8
+        ensures { result ≡ number_of self }
+    {
+        match self {
+            LinkFault::NotYet => 0,
+            LinkFault::ClassOrder => 1,
+            LinkFault::CallOrder => 2,
+            LinkFault::MissingRole => 3,
+            LinkFault::DoubleRole => 4,
+            LinkFault::RoleShape => 5,
+            LinkFault::BadJump => 6,
+            LinkFault::BadLoop => 7,
+            LinkFault::NoMain => 8,
+            LinkFault::OutOfMemory => 9,
+        }
+    }
+}

@@ -1,0 +1,15 @@
+//! Linking: what an image must keep between its classes and methods before its instructions are looked at.
+//!
+//! `link` takes an image and answers a `Linked`, or the first condition that the image fails. A `Linked` is
+//! the image given, with its main, and its views answer the image's own parts by their numbers.
+//! Nothing here knows of cells, frames or the state of a register.
+#![tactic(auto)]
+
+mod admitted;
+mod fault;
+mod jumps;
+mod linked;
+mod roles;
+
+pub use fault::LinkFault;
+pub use linked::{Linked, link};

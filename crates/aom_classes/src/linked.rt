@@ -1,0 +1,129 @@
+//! A linked image.
+ghost use Rattle.std.specs.Prelude.{◌≡◌, IfOk, IfErr, IsSome, Some, slice_get};
+ghost use Rattle.aom_image.specs.Views.{class_at, method_at, instr_at, fields_of};
+ghost use Rattle.aom_classes.specs.Admitted.{IsAdmitted};
+ghost use Rattle.aom_classes.specs.Linked.{IsLinked};
+ghost use Rattle.aom_classes.specs.Roles.{main_of, role_of};
+ghost use Rattle.aom_classes.specs.Faults.{Refuses};
+
+use crate::LinkFault;
+use crate::admitted::is_admitted;
+use crate::jumps::all_jump_well;
+use crate::roles::{find_main, find_role};
+use aom_image::{
+    ClassDecl, ClassNumber, FieldIndex, Image, Instr, Method, MethodNumber, Role, Thing,
+};
+use std::alloc::Global;
+use std::marker::Model;
+
+/// An image that keeps the link conditions, with its main.
+#[derive(Drop)]
+pub struct Linked {
+    image: Image,
+    main: MethodNumber,
+}
+
+impl Model for Linked {
+    ghost use Rattle.std.specs.Prelude.{◌≡◌, Some};
+    ghost use Rattle.aom_image.specs.Image.{Image};
+    ghost use Rattle.aom_classes.specs.Admitted.{IsAdmitted};
+    ghost use Rattle.aom_classes.specs.Linked.{IsLinked};
+    ghost use Rattle.aom_classes.specs.Roles.{main_of};
+
+    ghost Value = { Image };
+
+    ghost view = { λ l. l.image };
+
+    ghost invariant = { λ l. IsAdmitted l.image × IsLinked l.image × (main_of l.image ≡ Some l.main) };
+}
+
+/// Links an image: the image as it was, or the first condition that it fails. A refused image is dropped.
+pub fn link(_alloc: Global, image: Image) -> Result<Linked, LinkFault>
+    ensures ok { IfOk result (λ l. (l ≡ image) × IsAdmitted image × IsLinked image) }
+    ensures err { IfErr result (λ fault. Refuses image fault) }
+{
+    let main = check_conditions(&image)?;
+    Ok(Linked { image, main })
+}
+
+/// The main of an image that keeps the conditions.
+#[tactic(auto, unfolding(crate::specs::Roles::main_of, crate::specs::Faults::Refuses))]
+fn check_conditions(image: &Image) -> Result<MethodNumber, LinkFault>
+    ensures ok { IfOk result (λ main. IsAdmitted image.now × IsLinked image.now × (main_of image.now ≡ Some main)) }
+    ensures err { IfErr result (λ fault. Refuses image.now fault) }
+{
+    if !is_admitted(image) {
+        return Err(LinkFault::NotYet);
+    }
+    if !all_jump_well(image) {
+        return Err(LinkFault::BadJump);
+    }
+    match find_main(image.methods().as_slice()) {
+        Some(main) => Ok(main),
+        None => Err(LinkFault::NoMain),
+    }
+}
+
+impl Linked {
+    /// The image that was linked.
+    pub fn image(&self) -> &Image
+        ensures { result.now ≡ self.now }
+    {
+        &self.image
+    }
+
+    /// It keeps what is asked of a linked image, and has nothing that is not admitted.
+    pub fn facts(&self)
+        ensures linked { IsLinked self.now }
+        ensures admitted { IsAdmitted self.now }
+    {
+        let _ = &self.image;
+    }
+
+    /// The method that a run begins with.
+    pub fn main(&self) -> MethodNumber
+        ensures { main_of self.now ≡ Some result }
+    {
+        self.main
+    }
+
+    /// A class of the image.
+    pub fn class(&self, class: ClassNumber) -> &ClassDecl
+        requires { IsSome (class_at self.now class) }
+        ensures { class_at self.now class ≡ Some result.now }
+    {
+        self.image.classes().at(class.number() as usize)
+    }
+
+    /// A method of the image.
+    pub fn method(&self, method: MethodNumber) -> &Method
+        requires { IsSome (method_at self.now method) }
+        ensures { method_at self.now method ≡ Some result.now }
+    {
+        self.image.methods().at(method.number() as usize)
+    }
+
+    /// The instruction at a place of a method.
+    pub fn instr(&self, method: MethodNumber, place: usize) -> Instr
+        requires { IsSome (instr_at self.now method place) }
+        ensures { instr_at self.now method place ≡ Some result }
+    {
+        *self.method(method).code.at(place)
+    }
+
+    /// The first method of that class with that role.
+    #[tactic(auto, unfolding(crate::specs::Roles::role_of))]
+    pub fn role(&self, class: ClassNumber, role: Role) -> Option<MethodNumber>
+        ensures { result ≡ role_of self.now class role }
+    {
+        find_role(self.image.methods().as_slice(), class, role)
+    }
+
+    /// What a field of a class may own.
+    pub fn field_class(&self, class: ClassNumber, field: FieldIndex) -> Thing
+        requires { IsSome (slice_get (fields_of self.now class) field) }
+        ensures { slice_get (fields_of self.now class) field ≡ Some result }
+    {
+        *self.class(class).fields.at(field.number() as usize)
+    }
+}

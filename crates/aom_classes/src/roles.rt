@@ -1,0 +1,94 @@
+//! Which method has a role.
+ghost use Rattle.std.specs.Prelude.{◌≡◌, ◌<◌, ◌≤◌, length, position};
+ghost use Rattle.aom_classes.specs.Roles.{role_number, same_role, is_main, plays, is_class};
+
+use aom_image::{ClassNumber, Method, MethodNumber, Role};
+
+/// The number of a role, from 0 to 9.
+#[tactic(auto, unfolding(crate::specs::Roles::role_number))]
+pub fn role_number(role: Role) -> usize
+    ensures { result ≡ role_number role }
+{
+    match role {
+        Role::Do => 0,
+        Role::Main => 1,
+        Role::Construct => 2,
+        Role::Destruct => 3,
+        Role::Run => 4,
+        Role::Cancel => 5,
+        Role::Error => 6,
+        Role::Accept => 7,
+        Role::Service => 8,
+        Role::Undo => 9,
+    }
+}
+
+pub fn same_role(one: Role, other: Role) -> bool
+    ensures { result ≡ same_role one other }
+{
+    role_number(one) == role_number(other)
+}
+
+pub fn is_main(method: &Method) -> bool
+    ensures { result ≡ is_main method.now }
+{
+    same_role(method.role, Role::Main)
+}
+
+fn is_class(class: ClassNumber, of: Option<ClassNumber>) -> bool
+    ensures { result ≡ is_class class of }
+{
+    match of {
+        Some(of) => of.number() == class.number(),
+        None => false,
+    }
+}
+
+#[tactic(auto, unfolding(crate::specs::Roles::plays))]
+pub fn plays(class: ClassNumber, role: Role, method: &Method) -> bool
+    ensures { result ≡ plays class role method.now }
+{
+    is_class(class, method.class) && same_role(method.role, role)
+}
+
+/// The number of the method at an index.
+fn number_at(index: usize) -> MethodNumber
+    requires { index < 1024 }
+    ensures { result ≡ index }
+{
+    MethodNumber::new(index as u16).unwrap()
+}
+
+fn main_index(methods: &[Method]) -> Option<usize>
+    ensures { result ≡ position is_main methods.now }
+{
+    methods.iter().position(|method| is_main(method))
+}
+
+/// The first main.
+pub fn find_main(methods: &[Method]) -> Option<MethodNumber>
+    requires { length methods.now ≤ 1024 }
+    ensures { result ≡ position is_main methods.now }
+{
+    match main_index(methods) {
+        Some(index) => Some(number_at(index)),
+        None => None,
+    }
+}
+
+fn role_index(methods: &[Method], class: ClassNumber, role: Role) -> Option<usize>
+    ensures { result ≡ position (plays class role) methods.now }
+{
+    methods.iter().position(|method| plays(class, role, method))
+}
+
+/// The first method of that class with that role.
+pub fn find_role(methods: &[Method], class: ClassNumber, role: Role) -> Option<MethodNumber>
+    requires { length methods.now ≤ 1024 }
+    ensures { result ≡ position (plays class role) methods.now }
+{
+    match role_index(methods, class, role) {
+        Some(index) => Some(number_at(index)),
+        None => None,
+    }
+}

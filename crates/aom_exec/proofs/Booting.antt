@@ -1,0 +1,95 @@
+-- A machine that has booted stands for the boot state.
+use Rattle.std.proofs.Common.{zero, suc, inl, inr, ◌≡◌, ◌==◌, ℕ, Bool, true, false, cond, length, List, [], ◌∷◌, Option, Some, None, slice_index_or, replicate, refl, sym, ap, ◌∙◌, subst, arith}
+use Rattle.std.proofs.lemmas.List.{get_or-replicate, get_or_past, length-replicate}
+use Rattle.aom_image.specs.Image.{Image}
+use Rattle.aom_classes.specs.Admitted.{IsAdmitted}
+use Rattle.aom_classes.specs.Linked.{IsLinked}
+use Rattle.std.proofs.lemmas.Bool.{cases_lt}
+use Rattle.aom_classes.specs.Roles.{main_of}
+use Rattle.aom_cells.specs.Heap.{Heap, null, cell_at, field_at, count}
+use Rattle.aom_cells.specs.declared.cell.Cell.{Cell as Held_cell}
+use Rattle.aom_frames.specs.Tasks.{fresh}
+use Rattle.aom_frames.specs.declared.task.Task.TheVariants.{Run as Runs_frame, Trapped as Is_trap, Dispatched as Ends}
+use Rattle.aom_frames.specs.declared.task.Dispatch.TheVariants.{Main}
+use Rattle.aom_sound.specs.State.{AtRoot, frame_of, Run, Trapped, Dispatched, Of_main}
+use Rattle.aom_shape.specs.Typing.{Typing, IsTyped}
+use Rattle.aom_sound.specs.Places.{Place, Register, Entry, Field, Going, Elsewhere, Root, held}
+use Rattle.aom_sound.specs.Laws.{IsWired, BootKeeps, StepKeeps, LinkedIsWired}
+use Rattle.aom_sound.specs.World.{main_tasks, boot_state}
+use Rattle.aom_exec.specs.declared.parts.Parts.{Parts}
+use Rattle.aom_exec.specs.Boot.{Booted}
+use Rattle.aom_exec.specs.Places.{register_in, going_in, value}
+use Rattle.aom_exec.specs.Room.{IsMainAlone}
+use Rattle.aom_exec.specs.Agrees.{SameTasks, word_in, word_at, thing_in, Agrees}
+use Rattle.aom_exec.proofs.CallActs.{shows_null}
+use Rattle.aom_exec.specs.Steps.{Sound, StandsFor}
+
+same_cond : {A : Type 0} (b : Bool) (x : A) → cond b x x ≡ x
+same_cond true x = refl
+same_cond false x = refl
+
+no_register : (i : ℕ) → slice_index_or (replicate 16 null) i null ≡ null
+no_register i = elim (cases_lt i 16) [ inl within ↦ get_or-replicate 16 i null null within | inr past ↦ get_or_past (replicate 16 null) i null (let n = length-replicate 16 null in omega (arith, n, past)) ]
+
+-- three tasks, none of which has anything there
+all_none : {A : Type 0} (a b c : Bool) (x y : A) → x ≡ y → cond a x (cond b y (cond c y y)) ≡ y
+all_none true b c x y e = e
+all_none false true c x y e = refl
+all_none false false c x y e = same_cond c y
+
+boot_tasks : (p : Image) (main : ℕ) → main_of p ≡ Some main → main_tasks (main_of p) ≡ Run (frame_of main AtRoot 1) ∷ Trapped ∷ Dispatched Of_main ∷ []
+boot_tasks p main e = ap main_tasks e
+
+module _ (p : Image) (m : Parts) (booted : Booted p m) where
+  -- no place has anything
+  no_value : (r : Place) → value m r ≡ null
+  no_value (Register d i) = ap (λ us. register_in us d i) booted.tasks ∙ all_none (2 == d) (1 == d) (0 == d) _ null (no_register i)
+  no_value (Entry zero) = ap (λ xs. slice_index_or xs 0 null) booted.entries
+  no_value (Entry (suc k)) = ap (λ xs. slice_index_or xs (suc k) null) booted.entries
+  no_value (Field n f) = ap (λ h. field_at h n f) booted.cells
+  no_value (Going k) = ap (λ us. going_in us k) booted.tasks ∙ all_none (2 == k) (1 == k) (0 == k) null null refl
+  no_value (Elsewhere Root) = booted.root
+
+  no_word_yet : (r : Place) → word_at (main_tasks (main_of p)) r ≡ None
+  no_word_yet (Register d i) = ap (λ us. word_in us d i) (boot_tasks p booted.main booted.is_main) ∙ all_none (2 == d) (1 == d) (0 == d) None None refl
+  no_word_yet (Entry k) = refl
+  no_word_yet (Field n f) = refl
+  no_word_yet (Going k) = refl
+  no_word_yet (Elsewhere o) = refl
+
+  no_cell : (n : ℕ) → cell_at m.cells n ≡ None
+  no_cell n = ap (λ h. cell_at h n) booted.cells
+
+  boot_agrees : Agrees p m (boot_state p)
+  boot_agrees = record {
+    tasks = subst (λ us. SameTasks us (main_tasks (main_of p))) (sym booted.tasks) (subst (λ us. SameTasks (Runs_frame (fresh booted.main null) ∷ Is_trap ∷ Ends Main ∷ []) us) (sym (boot_tasks p booted.main booted.is_main))
+        (record { method = refl; place = refl; this = refl; wide = length-replicate 16 null }, (tt, (refl, tt))));
+    values = λ r. shows_null _ _ _ (no_value r) (no_word_yet r) refl;
+    cells = record {
+      things = λ n. ap thing_in (no_cell n);
+      count = ap count booted.cells;
+      limit = ap (λ (h : Heap). h.limit) booted.cells;
+      wide = λ n c e. absurd (never n c e);
+      classes = λ n c e. absurd (never n c e);
+      null_is_none = no_cell null;
+    };
+    entries = ap length booted.entries;
+    rest = booted.rest;
+    room = record { alone = subst IsMainAlone (sym booted.tasks) tt; depth = (let d = booted.depth in omega arith) };
+  }
+    where
+      never : (n : ℕ) (c : Held_cell) → cell_at m.cells n ≡ Some c → ⊥
+      never n c e = some_none (sym e ∙ no_cell n)
+        where
+          some_none : Some c ≡ None → ⊥
+          some_none e = cc
+
+pub boots : (p : Image) (m : Parts) → IsLinked p → IsAdmitted p → (t : Typing) → IsTyped p t → BootKeeps → StepKeeps → LinkedIsWired → Booted p m → StandsFor (record { image = p; parts = m }) (boot_state p)
+boots p m linked admitted t typed boot_keeps step_keeps wired booted =
+    let w = wired p linked admitted in
+    record {
+      typing = t;
+      sound = record { formed = booted.formed; linked = linked; admitted = admitted; typed = typed; keeps = λ c s well unused. step_keeps p t w.0 typed c s well unused };
+      typed = boot_keeps p t w.0 typed;
+      agrees = boot_agrees p m booted;
+    }

@@ -1,0 +1,128 @@
+-- Main returns, and `stop`.
+use Rattle.std.proofs.Common.{zero, suc, ◌≡◌, ◌==◌, ℕ, ℤ, ◌<◌, ◌≤◌, ◌-◌, Bool, true, false, cond, length, List, [], ◌∷◌, Option, Some, None, take, slice_index_or, refl, sym, ap, ◌∙◌, subst, arith}
+use Rattle.aom_image.specs.Image.{Image}
+use Rattle.aom_image.specs.declared.instr.Instr.TheVariants.{Return, Stop}
+use Rattle.aom_image.specs.Views.{gives_of}
+use Rattle.aom_image.specs.declared.method.Gives.{Gives}
+use Rattle.aom_image.specs.declared.method.Gives.TheVariants.{Nothing}
+use Rattle.std.proofs.lemmas.List.{length-take}
+use Rattle.aom_exec.specs.Room.{IsTrapOfDispatch}
+use Rattle.aom_shape.specs.declared.kind.Kind.TheVariants.{Null}
+use Rattle.aom_cells.specs.Heap.{null}
+use Rattle.aom_shape.specs.Typing.{Typing}
+use Rattle.aom_sound.specs.Places.{Place, Register, Entry, Field, Going, Elsewhere, Object, Cell, held}
+use Rattle.aom_sound.specs.State.{Frame, Dispatch, next, Task, Run, Trapped, Destroy, Dispatched, Item, Rest, State}
+use Rattle.aom_sound.specs.Calls.{returned, below_top}
+use Rattle.aom_sound.specs.Claims.{Layer, Method, Mark, Dying, Dispatching, tasks_of, claim, declared}
+use Rattle.aom_sound.specs.WellTyped.{WellTyped, Good, Fits}
+use Rattle.aom_frames.specs.Tasks.{on_top, with_place, place_here}
+use Rattle.aom_frames.specs.declared.frame.Frame.{Frame as Held_frame}
+use Rattle.aom_frames.specs.declared.task.Task.{Task as Held_task}
+use Rattle.aom_frames.specs.declared.task.Task.TheVariants.{Run as Runs_frame, Trapped as Is_trap, Destroy as Destroys, Dispatched as Ends}
+use Rattle.aom_frames.specs.declared.task.Dispatch.{Dispatch as Held_dispatch}
+use Rattle.aom_exec.specs.declared.parts.Parts.{Parts}
+use Rattle.aom_exec.specs.Places.{value_in, with_tasks, below_first}
+use Rattle.aom_exec.specs.Agrees.{word_at, Shows, SameTasks, dispatch_of, number, Agrees}
+use Rattle.aom_exec.specs.Acts.{At_hand, requested, Does}
+use Rattle.aom_exec.specs.Acts as acts
+use Rattle.aom_exec.proofs.Standing.{by_top, stays, an_open, Traps, traps}
+use Rattle.aom_exec.proofs.Admits.{gives_none}
+
+pub stop_does : (m : Parts) (refused : List ℕ) → Does refused Stop m (acts.next (record m { rest = record m.rest { stopped = true } }))
+stop_does m refused p admitted h =
+    let c = an_open p refused m h.state h.agrees in (
+      c.0,
+      c.1,
+      λ needs typed. by_top p m h
+          (λ us. Agrees p (record m { stack = record m.stack { tasks = on_top (with_place (suc (place_here us))) us }; rest = record m.rest { stopped = true } }) (record (requested Stop h.state) { tasks = Run (next h.frame) ∷ h.below; rest = record h.state.rest { stopped = true } }))
+          (λ f ms top. stays p m h.state _ _ (suc f.place) (suc h.frame.place) f ms h.frame h.below h.agrees top (ap (λ (r : Rest). record r { stopped = true }) h.agrees.rest) (ap suc top.frame.place)),
+    )
+
+-- where a dispatch is at its end, no register, entry or destruction owns
+pub record Closing (s : State) : Type 0 where
+  pub registers : (d i : ℕ) → held s.cells (Register d i) ≡ None
+  pub entries : (k : ℕ) → held s.cells (Entry k) ≡ None
+  pub goings : (k : ℕ) → held s.cells (Going k) ≡ None
+
+fits_null : (p : Image) (h : Place → Option Object) (o : Option Object) → Fits p h o Null → o ≡ None
+fits_null p h None e = refl
+fits_null p h (Some o) e = absurd e
+
+pub closing : (p : Image) (t : Typing) (s : State) (d : Dispatch) → WellTyped p t s → s.tasks ≡ Dispatched d ∷ [] → Closing s
+closing p t s d typed e = go typed.layers (sym typed.tasks ∙ e) typed.good
+  where
+    go : (ls : List Layer) → tasks_of ls ≡ Dispatched d ∷ [] → Good p t s.cells ls → Closing s
+    go [] e good = cc
+    go (Method fr sh ∷ ls) e good = cc
+    go (Mark gv ∷ ls) e good = cc
+    go (Dying o ∷ ls) e good = cc
+    go (Dispatching x ∷ Method fr sh ∷ ls) e good = cc
+    go (Dispatching x ∷ Mark gv ∷ ls) e good = cc
+    go (Dispatching x ∷ Dying o ∷ ls) e good = cc
+    go (Dispatching x ∷ Dispatching y ∷ ls) e good = cc
+    go (Dispatching x ∷ []) e good = record {
+      registers = λ d i. fits_null p (held s.cells) _ (good.fits (Register d i));
+      entries = λ k. fits_null p (held s.cells) _ (good.fits (Entry k));
+      goings = λ k. fits_null p (held s.cells) _ (good.fits (Going k));
+    }
+
+-- a shorter list, read where the longer one has null
+shorter : (n : ℕ) (xs : List ℕ) (k : ℕ) → slice_index_or xs k null ≡ null → slice_index_or (take n xs) k null ≡ null
+shorter zero xs k e = refl
+shorter (suc n) [] k e = refl
+shorter (suc n) (x ∷ xs) zero e = e
+shorter (suc n) (x ∷ xs) (suc k) e = shorter n xs k e
+
+one_fewer : (xs : List ℕ) (items : List Item) → length xs ≡ length items → length (take (length xs - 1) xs) ≡ length (below_top items)
+one_fewer [] [] e = refl
+one_fewer [] (i ∷ items) e = cc
+one_fewer (x ∷ xs) [] e = cc
+one_fewer (x ∷ xs) (i ∷ items) e = simp length-take (omega arith)
+
+same_cond : {A : Type 0} (b : Bool) (x : A) → cond b x x ≡ x
+same_cond true x = refl
+same_cond false x = refl
+
+pub shows_null : (n : ℕ) (w : Option ℤ) (o : Option Object) → n ≡ null → w ≡ None → o ≡ None → Shows n w o
+shows_null n w o e f g = subst (λ w. Shows n w o) (sym f) (subst (λ o. Shows n None o) (sym g) e)
+
+-- as main ends, its dispatch is at its end
+ended : (p : Image) (m e : Parts) (s : State) (x : Held_dispatch) (d : Dispatch) → Agrees p m s → e.entries.items ≡ take (length m.entries.items - 1) m.entries.items → dispatch_of x ≡ d
+    → Closing (record s { tasks = Dispatched d ∷ []; items = below_top s.items })
+    → Agrees p (record m { stack = record m.stack { tasks = Ends x ∷ [] }; entries = e.entries }) (record s { tasks = Dispatched d ∷ []; items = below_top s.items })
+ended p m e s x d agrees short same shut = record {
+  tasks = (same, tt);
+  values = values;
+  cells = agrees.cells;
+  entries = ap length short ∙ one_fewer m.entries.items s.items agrees.entries;
+  rest = agrees.rest;
+  room = record { alone = refl; depth = agrees.room.depth };
+}
+  where
+    values : (r : Place) → Shows (value_in (Ends x ∷ []) m.cells e.entries.items m.root r) (word_at (Dispatched d ∷ []) r) (held s.cells r)
+    values (Register k i) = shows_null _ _ _ (same_cond (0 == k) null) (same_cond (0 == k) None) (shut.registers k i)
+    values (Entry k) = shows_null _ _ _ (ap (λ xs. slice_index_or xs k null) short ∙ shorter _ m.entries.items k (agrees.values (Entry k) ∙ ap number (shut.entries k))) refl (shut.entries k)
+    values (Field n f) = agrees.values (Field n f)
+    values (Going k) = shows_null _ _ _ (same_cond (0 == k) null) refl (shut.goings k)
+    values (Elsewhere o) = agrees.values (Elsewhere o)
+
+pub return_does : (m e : Parts) (refused : List ℕ) (a : ℕ) → e.entries.items ≡ take (length m.entries.items - 1) m.entries.items
+    → Does refused (Return a) m (record m { stack = record m.stack { tasks = below_first (below_first m.stack.tasks) }; entries = e.entries })
+return_does m e refused a short p admitted h =
+    let c = an_open p refused m h.state h.agrees in (
+      c.0,
+      c.1,
+      λ needs typed. by_top p m h
+          (λ us. Agrees p (record m { stack = record m.stack { tasks = below_first (below_first us) }; entries = e.entries }) (returned p h.frame h.below (requested (Return a) h.state) (gives_of p h.frame.method) a h.below))
+          (λ f ms top. subst (λ g. Left g ms h.below) (sym (gives_none p admitted h.frame.method)) (left ms h.below (traps ms h.below top.alone top.below)) typed),
+    )
+  where
+    Left : Gives → List Held_task → List Task → Type 0
+    Left g ms ts =
+        WellTyped p h.typing (returned p h.frame h.below (requested (Return a) h.state) g a ts)
+        → Agrees p (record m { stack = record m.stack { tasks = below_first ms }; entries = e.entries }) (returned p h.frame h.below (requested (Return a) h.state) g a ts)
+
+    left : (ms : List Held_task) (ts : List Task) → Traps ms ts → Left Nothing ms ts
+    left ms ts trap =
+        subst (λ us. Left Nothing us ts) (sym trap.held) (subst (λ us. Left Nothing (Is_trap ∷ Ends trap.machine ∷ []) us) (sym trap.tasks)
+        (λ typed. ended p m e (requested (Return a) h.state) trap.machine trap.state (record { tasks = h.agrees.tasks; values = h.agrees.values; cells = h.agrees.cells; entries = h.agrees.entries; rest = h.agrees.rest; room = h.agrees.room }) short trap.same (closing p h.typing _ trap.state typed refl)))

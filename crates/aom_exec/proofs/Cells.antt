@@ -1,0 +1,66 @@
+-- The machine's cells, where owners move and where a cell goes.
+use Rattle.std.proofs.Common.{suc, ◌≡◌, ℕ, ◌+◌, Bool, true, false, cond, ◌==◌, length, List, [], ◌∷◌, Option, Some, None, refl, sym, ap, ◌∙◌, subst, arith}
+use Rattle.std.proofs.lemmas.Bool.{eqb-true, eq-eqb, false≢true}
+use Rattle.aom_image.specs.Image.{Image}
+use Rattle.aom_cells.specs.Heap.{Heap, null, cell_at, count, Changes}
+use Rattle.aom_sound.specs.Places.{Place, Object, Cell, same_place, held, named, moved, without, Tidy}
+use Rattle.aom_sound.proofs.Maps.{same_place-true, named_moved, named_without, unnamed, held_lives}
+use Rattle.aom_exec.specs.Agrees.{SameCells, thing_in, thing_of}
+use Rattle.aom_exec.proofs.Values.{cases}
+
+length_moved : (cs : List Cell) (p q : Place) → length (moved p q cs) ≡ length cs
+length_moved [] p q = refl
+length_moved (c ∷ cs) p q = ap suc (length_moved cs p q)
+
+pub cells_moved : (p : Image) (h : Heap) (cs : List Cell) (from to : Place) → SameCells p h cs → SameCells p h (moved from to cs)
+cells_moved p h cs from to same = record {
+  things = λ n. same.things n ∙ ap thing_of (sym (named_moved cs from to n));
+  count = same.count ∙ sym (length_moved cs from to);
+  limit = same.limit;
+  wide = same.wide;
+  classes = same.classes;
+  null_is_none = same.null_is_none;
+}
+
+-- where a place owns nothing, nothing of its goes
+without_free : (cs : List Cell) (g : Place) → held cs g ≡ None → without g cs ≡ cs
+without_free [] g e = refl
+without_free (c ∷ cs) g e = go (same_place c.owner g) (without_free cs g) e
+  where
+    go : (b : Bool) → (held cs g ≡ None → without g cs ≡ cs) → cond b (Some c.object) (held cs g) ≡ None → cond b (without g cs) (c ∷ without g cs) ≡ c ∷ cs
+    go true rest e = cc
+    go false rest e = ap (λ (ds : List Cell). c ∷ ds) (rest e)
+
+length_without : (cs : List Cell) (g : Place) (o : Object) → Tidy cs → held cs g ≡ Some o → length cs ≡ suc (length (without g cs))
+length_without [] g o tidy e = cc
+length_without (c ∷ cs) g o tidy e = go (same_place c.owner g) refl (length_without cs g o tidy.2) e
+  where
+    go : (b : Bool) → same_place c.owner g ≡ b → (held cs g ≡ Some o → length cs ≡ suc (length (without g cs))) → cond b (Some c.object) (held cs g) ≡ Some o → suc (length cs) ≡ suc (length (cond b (without g cs) (c ∷ without g cs)))
+    go true is rest e = ap (λ (ds : List Cell). suc (length ds)) (sym (without_free cs g (ap (held cs) (sym (same_place-true c.owner g is)) ∙ tidy.0)))
+    go false is rest e = ap suc (rest e)
+
+-- the cell that a place owned goes
+pub cells_without : (p : Image) (h h' : Heap) (cs : List Cell) (g : Place) (o : Object) → SameCells p h cs → Tidy cs → held cs g ≡ Some o → Changes h h' o.name None → count h' + 1 ≡ count h → SameCells p h' (without g cs)
+cells_without p h h' cs g o same tidy is ch less = record {
+  things = λ k. cases (o.name == k)
+      (λ e. ap (λ i. thing_in (cell_at h' i)) (sym (eqb-true o.name k e)) ∙ ap thing_in ch.here ∙ sym (ap thing_of (ap (named (without g cs)) (sym (eqb-true o.name k e)) ∙ unnamed cs g o tidy is)))
+      (λ e. ap thing_in (other k e) ∙ same.things k ∙ ap thing_of (sym (named_without cs g o k tidy is e)));
+  count = (let a = length_without cs g o tidy is in let b = same.count in omega arith);
+  limit = ch.limit ∙ same.limit;
+  wide = λ k c e. same.wide k c (sym (still k c e) ∙ e);
+  classes = λ k c e. same.classes k c (sym (still k c e) ∙ e);
+  null_is_none = cases (o.name == null)
+      (λ e. ap (cell_at h') (sym (eqb-true o.name null e)) ∙ ch.here)
+      (λ e. other null e ∙ same.null_is_none);
+}
+  where
+    other : (k : ℕ) → (o.name == k) ≡ false → cell_at h' k ≡ cell_at h k
+    other k e = ch.others k (λ d. false≢true (sym e ∙ eq-eqb o.name k (sym d)))
+
+    still : (k : ℕ) (c : _) → cell_at h' k ≡ Some c → cell_at h' k ≡ cell_at h k
+    still k c is' = cases (o.name == k)
+        (λ e. let none : cell_at h' k ≡ None = ap (cell_at h') (sym (eqb-true o.name k e)) ∙ ch.here in absurd (some_none (sym is' ∙ none)))
+        (λ e. other k e)
+      where
+        some_none : Some c ≡ None → ⊥
+        some_none e = cc

@@ -1,0 +1,13 @@
+pub mod Values
+pub mod Standing
+pub mod Cells
+pub mod Admits
+pub mod WordActs
+pub mod ObjectActs
+pub mod CallActs
+pub mod GoingActs
+pub mod Stepping
+pub mod Finding
+pub mod Ranking
+pub mod Progressing
+pub mod Booting

@@ -1,0 +1,225 @@
+-- Instructions on objects: a jump where there is none, a new cell, a destruction that begins.
+use Rattle.std.proofs.Common.{inl, inr, suc, ◌≡◌, ◌≢◌, ℕ, ◌<◌, ◌+◌, Bool, true, false, cond, ◌==◌, ◌||◌, length, List, [], ◌∷◌, Option, Some, None, replicate, slice_set, slice_index_or, refl, sym, ap, ◌∙◌, subst, arith}
+use Rattle.std.specs.Prelude.{nat_le}
+use Rattle.std.specs.List.{list_any}
+use Rattle.std.proofs.lemmas.List.{get_or_past, length-set, length-replicate, get_or-replicate}
+use Rattle.std.proofs.lemmas.Bool.{cases_lt, eq-eqb, eqb-true, false≢true}
+use Rattle.aom_image.specs.Image.{Image}
+use Rattle.aom_image.specs.declared.instr.Instr.TheVariants.{JumpNull, New, Delete}
+use Rattle.aom_image.specs.declared.method.Thing.TheVariants.{Object as An_object_of}
+use Rattle.aom_classes.specs.Admitted.{IsAdmitted}
+use Rattle.aom_cells.specs.Heap.{Heap, null, cell_at, field_of, count, blank, Changes}
+use Rattle.aom_sound.specs.Places.{Place, Register, Entry, Field, Going, Elsewhere, same_place, Object, Cell, held, named, moved, changed, with_new}
+use Rattle.aom_sound.specs.State.{Frame, word, next, set_word, Task, Run, Rest, State, Choice, raised}
+use Rattle.aom_sound.specs.Destruction.{begun_by}
+use Rattle.aom_sound.specs.Objects.{jumped, deleted}
+use Rattle.aom_sound.specs.Moves.{is_refused, IsOpen}
+use Rattle.aom_sound.specs.WellTyped.{WellTyped}
+use Rattle.aom_sound.proofs.Maps.{held_moved, named_moved, held_lives}
+use Rattle.aom_lines.specs.Turn.{Turn}
+use Rattle.aom_frames.specs.Tasks.{on_top, with_place, with_register, place_here, register_here}
+use Rattle.aom_frames.specs.declared.frame.Frame.{Frame as Held_frame}
+use Rattle.aom_frames.specs.declared.task.Task.{Task as Held_task}
+use Rattle.aom_frames.specs.declared.task.Task.TheVariants.{Run as Runs_frame, Destroy as Destroys}
+use Rattle.aom_exec.specs.declared.parts.Parts.{Parts}
+use Rattle.aom_exec.specs.Places.{value_in, with_tasks}
+use Rattle.aom_exec.specs.Agrees.{word_at, Shows, number, SameTasks, SameCells, thing_in, thing_of, Agrees}
+use Rattle.aom_exec.specs.Acts.{At_hand, requested, set_register, Does, refuses, Made}
+use Rattle.aom_exec.specs.Acts as acts
+use Rattle.aom_exec.proofs.Values.{cases, moves, writes, kept, value_here, value_written, word_written, destroys_value, destroys_word, going_past}
+use Rattle.aom_exec.proofs.Standing.{Top, by_top, goes_on, stays, moved_on, word_here, register_shows, free, no_word, unnamed, an_open, not_null, nothing_held}
+use Rattle.aom_exec.proofs.Cells.{cells_moved}
+use Rattle.aom_exec.proofs.Admits.{no_destructor}
+
+-- what a register shows that has no word
+shown : (p : Image) (m : Parts) (h : At_hand p m) (f : Held_frame) (ms : List Held_task) → Top m h.state h.frame h.below f ms → (a : ℕ) → word h.frame a ≡ None → slice_index_or f.registers a null ≡ number (held h.state.cells (Register (length h.below) a))
+shown p m h f ms top a none = subst (λ w. Shows (slice_index_or f.registers a null) w (held h.state.cells (Register (length h.below) a))) none (register_shows m h.state h.frame h.below f ms top a)
+
+module _ (m : Parts) (refused : List ℕ) where
+  pub jump_null_does : (a to : ℕ) → register_here m.stack.tasks a ≡ null → Does refused (JumpNull a to) m (acts.to_place to m)
+  jump_null_does a to is p admitted h =
+      let c = an_open p refused m h.state h.agrees in (
+        c.0,
+        c.1,
+        λ needs typed. by_top p m h
+            (λ us. register_here us a ≡ null → Agrees p (with_tasks (on_top (with_place to) us) m) (jumped p c.0 h.frame h.below (requested (JumpNull a to) h.state) (held h.state.cells (Register (length h.below) a)) to))
+            (λ f ms top is. go c.0 f ms top (held h.state.cells (Register (length h.below) a)) refl (sym (shown p m h f ms top a (no_word _ needs.0)) ∙ is))
+            is,
+      )
+    where
+      go : (c : Choice) (f : Held_frame) (ms : List Held_task) → Top m h.state h.frame h.below f ms → (o : Option Object) → held h.state.cells (Register (length h.below) a) ≡ o → number o ≡ null → Agrees p (with_tasks (Runs_frame (record f { place = to }) ∷ ms) m) (jumped p c h.frame h.below (requested (JumpNull a to) h.state) o to)
+      go c f ms top None e n = stays p m h.state m.rest _ to to f ms h.frame h.below h.agrees top h.agrees.rest refl
+      go c f ms top (Some o) e n = absurd (not_null p m h.typing h.state h.typed h.agrees _ o e n)
+
+  pub jump_object_does : (a to : ℕ) → (register_here m.stack.tasks a ≡ null → ⊥) → Does refused (JumpNull a to) m (acts.next m)
+  jump_object_does a to is p admitted h =
+      let c = an_open p refused m h.state h.agrees in (
+        c.0,
+        c.1,
+        λ needs typed. by_top p m h
+            (λ us. (register_here us a ≡ null → ⊥) → Agrees p (with_tasks (on_top (with_place (suc (place_here us))) us) m) (jumped p c.0 h.frame h.below (requested (JumpNull a to) h.state) (held h.state.cells (Register (length h.below) a)) to))
+            (λ f ms top is. go c.0 f ms top (held h.state.cells (Register (length h.below) a)) (λ n. is (shown p m h f ms top a (no_word _ needs.0) ∙ n)))
+            is,
+      )
+    where
+      go : (c : Choice) (f : Held_frame) (ms : List Held_task) → Top m h.state h.frame h.below f ms → (o : Option Object) → (number o ≡ null → ⊥) → Agrees p (with_tasks (Runs_frame (record f { place = suc f.place }) ∷ ms) m) (jumped p c h.frame h.below (requested (JumpNull a to) h.state) o to)
+      go c f ms top None n = absurd (n refl)
+      go c f ms top (Some o) n = stays p m h.state m.rest _ (suc f.place) (suc h.frame.place) f ms h.frame h.below h.agrees top h.agrees.rest (ap suc top.frame.place)
+
+  -- null is written, where the register owns nothing
+  nulled : (p : Image) (h : At_hand p m) (a : ℕ) (r r' : Rest) (f : Held_frame) (ms : List Held_task) → a < 16 → r ≡ r' → Top m h.state h.frame h.below f ms → held h.state.cells (Register (length h.below) a) ≡ None
+      → Agrees p (record m { stack = record m.stack { tasks = Runs_frame (record f { registers = slice_set f.registers a null; place = suc f.place }) ∷ ms }; rest = r }) (record h.state { tasks = Run (next (set_word h.frame a None)) ∷ h.below; rest = r' })
+  nulled p h a r r' f ms small rest top none =
+      let s = h.state in
+      let fr = h.frame in
+      let ts = h.below in
+      let wide = top.frame.wide in
+      goes_on p m s m.cells s.cells r r' _ ms (next (set_word fr a None)) ts h.agrees h.agrees.cells rest top.alone top.below
+      (moved_on f fr (slice_set f.registers a null) _ top.frame (length-set f.registers a null ∙ wide))
+      (writes _ _ _ _ _ _ (Register (length ts) a) null None None top.values refl
+      (value_written f ms m.cells m.entries.items m.root (length ts) a null (suc f.place) top.deep (omega arith))
+      (word_written fr ts a (suc fr.place) None)
+      (λ q. kept (held s.cells) (Register (length ts) a) q ∙ ap (λ o. changed (held s.cells) (Register (length ts) a) o q) none))
+
+  pub delete_null_does : (a : ℕ) → a < 16 → register_here m.stack.tasks a ≡ null → Does refused (Delete a) m (acts.next (set_register a null m))
+  delete_null_does a small is p admitted h =
+      let c = an_open p refused m h.state h.agrees in (
+        c.0,
+        c.1,
+        λ needs typed. by_top p m h
+            (λ us. register_here us a ≡ null → Agrees p (with_tasks (on_top (with_place (suc (place_here (on_top (with_register a null) us)))) (on_top (with_register a null) us)) m) (deleted p c.0 h.frame h.below (requested (Delete a) h.state) (held h.state.cells (Register (length h.below) a)) a))
+            (λ f ms top is.
+            let none = nothing_held p m h.typing h.state h.typed h.agrees (Register (length h.below) a) (sym is ∙ shown p m h f ms top a (no_word _ needs.0)) in
+            subst (λ o. Agrees p (with_tasks (Runs_frame (record f { registers = slice_set f.registers a null; place = suc f.place }) ∷ ms) m) (deleted p c.0 h.frame h.below (requested (Delete a) h.state) o a)) (sym none)
+            (nulled p h a m.rest _ f ms small h.agrees.rest top none))
+            is,
+      )
+
+  pub delete_does : (a : ℕ) → a < 16 → (register_here m.stack.tasks a ≡ null → ⊥)
+      → Does refused (Delete a) m (with_tasks (Destroys (register_here m.stack.tasks a) ∷ on_top (with_register a null) m.stack.tasks) m)
+  delete_does a small is p admitted h =
+      let c = an_open p refused m h.state h.agrees in (
+        c.0,
+        c.1,
+        λ needs typed. by_top p m h
+            (λ us. (register_here us a ≡ null → ⊥) → Agrees p (with_tasks (Destroys (register_here us a) ∷ on_top (with_register a null) us) m) (deleted p c.0 h.frame h.below (requested (Delete a) h.state) (held h.state.cells (Register (length h.below) a)) a))
+            (λ f ms top is. object c.0 f ms top (no_word _ needs.0) (held h.state.cells (Register (length h.below) a)) (λ n. is (shown p m h f ms top a (no_word _ needs.0) ∙ n)))
+            is,
+      )
+    where
+      object : (c : Choice) (f : Held_frame) (ms : List Held_task) → Top m h.state h.frame h.below f ms → word h.frame a ≡ None → (o : Option Object) → (number o ≡ null → ⊥)
+          → Agrees p (with_tasks (Destroys (slice_index_or f.registers a null) ∷ Runs_frame (record f { registers = slice_set f.registers a null }) ∷ ms) m) (deleted p c h.frame h.below (requested (Delete a) h.state) o a)
+      object c f ms top none None n = absurd (n refl)
+      object c f ms top none (Some o) n =
+          let s = h.state in
+          let fr = h.frame in
+          let ts = h.below in
+          let here = Register (length ts) a in
+          let there = Going (suc (length ts)) in
+          let v = value_in (Runs_frame f ∷ ms) m.cells m.entries.items m.root in
+          let k = slice_index_or f.registers a null in
+          let wide = top.frame.wide in
+          let f' = record f { registers = slice_set f.registers a null } in
+          let deep : length (Runs_frame f' ∷ ms) ≡ suc (length ts) = ap suc top.deep in
+          let empty : held s.cells there ≡ None = nothing_held p m h.typing s h.typed h.agrees there (sym (going_past (Runs_frame f ∷ ms) (suc (length ts)) (let d = top.deep in omega arith)) ∙ top.values there) in
+          subst (λ d. Agrees p (with_tasks (Destroys k ∷ Runs_frame f' ∷ ms) m) (record s { cells = moved here there s.cells; tasks = begun_by d o (length s.items) (Run (set_word fr a None) ∷ ts) })) (sym (no_destructor p admitted o.thing))
+          (record {
+            tasks = (tt, (record { method = top.frame.method; place = top.frame.place; this = top.frame.this; wide = length-set f.registers a null ∙ wide }, top.below));
+            values = moves v _ _ _ _ _ here there top.values (word_here fr ts a ∙ none)
+                (λ r. destroys_value (Runs_frame f' ∷ ms) m.cells m.entries.items m.root k (suc (length ts)) deep r
+                ∙ ap (λ x. cond (same_place there r) k x) (value_written f ms m.cells m.entries.items m.root (length ts) a null f.place top.deep (omega arith) r)
+                ∙ ap (λ x. changed (changed v here null) there x r) (sym (value_here f ms m.cells m.entries.items m.root (length ts) a top.deep)))
+                (λ r. destroys_word (Run (set_word fr a None) ∷ ts) (suc (length ts)) r ∙ ap (λ x. cond (same_place there r) None x) (word_written fr ts a fr.place None r ∙ sym (kept (word_at (Run fr ∷ ts)) here r ∙ ap (λ x. changed (word_at (Run fr ∷ ts)) here x r) (word_here fr ts a ∙ none))))
+                (λ r. held_moved s.cells here there r empty);
+            cells = cells_moved p m.cells s.cells here there h.agrees.cells;
+            entries = h.agrees.entries;
+            rest = h.agrees.rest;
+            room = record { alone = top.alone; depth = h.agrees.room.depth };
+          })
+
+-- the fields of a new cell are null, and so are those of one that is not there
+nulls : (g : ℕ) → slice_index_or (replicate 8 null) g null ≡ null
+nulls g = elim (cases_lt g 8) [ inl within ↦ get_or-replicate 8 g null null within | inr past ↦ get_or_past (replicate 8 null) g null (let n = length-replicate 8 null in omega (arith, n, past)) ]
+
+values_kept : (ms : List Held_task) (h h' : Heap) (es : List ℕ) (root n class : ℕ) → cell_at h n ≡ None → Changes h h' n (Some (blank class)) → (r : Place) → value_in ms h' es root r ≡ value_in ms h es root r
+values_kept ms h h' es root n class none ch (Field k g) = cases (n == k)
+    (λ e.
+    let same = eqb-true n k e in
+    ap (λ i. field_of (cell_at h' i) g) (sym same) ∙ ap (λ o. field_of o g) ch.here ∙ nulls g ∙ ap (λ o. field_of o g) (sym none) ∙ ap (λ i. field_of (cell_at h i) g) same)
+    (λ e. ap (λ o. field_of o g) (ch.others k (λ d. false≢true (sym e ∙ eq-eqb n k (sym d)))))
+values_kept ms h h' es root n class none ch (Register d i) = refl
+values_kept ms h h' es root n class none ch (Entry k) = refl
+values_kept ms h h' es root n class none ch (Going k) = refl
+values_kept ms h h' es root n class none ch (Elsewhere o) = refl
+
+-- the cells with a new one
+cells_made : (p : Image) (h h' : Heap) (cs : List Cell) (n class : ℕ) (q : Place) → SameCells p h cs → class < 256 → cell_at h n ≡ None → n ≢ null → Changes h h' n (Some (blank class)) → count h' ≡ count h + 1 → SameCells p h' (with_new n (An_object_of class) q cs)
+cells_made p h h' cs n class q same small none some ch more = record {
+  things = λ k. cases (n == k)
+      (λ e. ap (λ i. thing_in (cell_at h' i)) (sym (eqb-true n k e)) ∙ ap thing_in ch.here ∙ ap (λ b. thing_of (cond b (Some (record { name = n; thing = An_object_of class })) (named cs k))) (sym e))
+      (λ e. ap thing_in (other k e) ∙ same.things k ∙ ap (λ b. thing_of (cond b (Some (record { name = n; thing = An_object_of class })) (named cs k))) (sym e));
+  count = (let c = same.count in omega arith);
+  limit = ch.limit ∙ same.limit;
+  wide = λ k c is. cases (n == k)
+      (λ e. let it : blank class ≡ c = new k c e is in ap (λ z. length z.fields) (sym it) ∙ length-replicate 8 null)
+      (λ e. same.wide k c (sym (other k e) ∙ is));
+  classes = λ k c is. cases (n == k)
+      (λ e. let it : blank class ≡ c = new k c e is in subst (λ z. z.class < 256) it small)
+      (λ e. same.classes k c (sym (other k e) ∙ is));
+  null_is_none = ch.others null (λ d. some (sym d)) ∙ same.null_is_none;
+}
+  where
+    other : (k : ℕ) → (n == k) ≡ false → cell_at h' k ≡ cell_at h k
+    other k e = ch.others k (λ d. false≢true (sym e ∙ eq-eqb n k (sym d)))
+
+    new : (k : ℕ) (c : _) → (n == k) ≡ true → cell_at h' k ≡ Some c → blank class ≡ c
+    new k c e is = let both : Some (blank class) ≡ Some c = sym ch.here ∙ ap (λ i. cell_at h' i) (eqb-true n k e) ∙ is in cc
+
+-- what the machine refuses is what the checked machine hears
+same_refusal : (p : Image) (turn : Turn) (m : Parts) (s : State) → Agrees p m s → refuses turn m ≡ is_refused p turn.refused s
+same_refusal p turn m s agrees =
+    ap (λ r. list_any (λ n. n == raised r.requests) turn.refused || nat_le m.cells.limit (count m.cells)) agrees.rest
+    ∙ ap (λ l. list_any (λ n. n == raised s.rest.requests) turn.refused || nat_le l (count m.cells)) agrees.cells.limit
+    ∙ ap (λ k. list_any (λ n. n == raised s.rest.requests) turn.refused || nat_le p.header.cells k) agrees.cells.count
+
+module _ (m : Parts) (turn : Turn) where
+  -- the machine whose request is counted, with these cells
+  abbrev asked : Heap → Parts
+  asked heap = record m { cells = heap; rest = record m.rest { requests = raised m.rest.requests } }
+
+  refused_does : (a class : ℕ) → a < 16 → true ≡ refuses turn m → Does turn.refused (New a class) m (acts.next (set_register a null (asked m.cells)))
+  refused_does a class small full p admitted h = (
+    record { name = null; refused = true },
+    record { name = unnamed p m h.state null h.agrees h.agrees.cells.null_is_none; refusal = full ∙ same_refusal p turn m h.state h.agrees },
+    λ needs typed. by_top p m h
+        (λ us. Agrees p (record m { stack = record m.stack { tasks = on_top (with_place (suc (place_here (on_top (with_register a null) us)))) (on_top (with_register a null) us) }; rest = record m.rest { requests = raised m.rest.requests } }) (record (requested (New a class) h.state) { tasks = Run (next (set_word h.frame a None)) ∷ h.below }))
+        (λ f ms top. nulled m turn.refused p h a _ _ f ms small (ap (λ (r : Rest). record r { requests = raised r.requests }) h.agrees.rest) top (free _ needs.0)),
+  )
+
+  made_does : (a class n : ℕ) (heap : Heap) → a < 16 → false ≡ refuses turn m → class < 256 → cell_at m.cells n ≡ None → n ≢ null → Changes m.cells heap n (Some (blank class)) → count heap ≡ count m.cells + 1
+      → Does turn.refused (New a class) m (acts.next (set_register a n (asked heap)))
+  made_does a class n heap small granted fits none some ch more p admitted h =
+      let s = h.state in
+      let fr = h.frame in
+      let ts = h.below in (
+        record { name = n; refused = false },
+        record { name = unnamed p m s n h.agrees none; refusal = granted ∙ same_refusal p turn m s h.agrees },
+        λ needs typed. by_top p m h
+            (λ us. Agrees p (record m { stack = record m.stack { tasks = on_top (with_place (suc (place_here (on_top (with_register a n) us)))) (on_top (with_register a n) us) }; cells = heap; rest = record m.rest { requests = raised m.rest.requests } }) (record (requested (New a class) s) { cells = with_new n (An_object_of class) (Register (length ts) a) s.cells; tasks = Run (next (set_word fr a None)) ∷ ts }))
+            (λ f ms top.
+            let wide = top.frame.wide in
+            goes_on p m s heap (with_new n (An_object_of class) (Register (length ts) a) s.cells) _ _ _ ms (next (set_word fr a None)) ts h.agrees
+            (cells_made p m.cells heap s.cells n class (Register (length ts) a) h.agrees.cells fits none some ch more)
+            (ap (λ (r : Rest). record r { requests = raised r.requests }) h.agrees.rest) top.alone top.below
+            (moved_on f fr (slice_set f.registers a n) (set_word fr a None).words top.frame (length-set f.registers a n ∙ wide))
+            (writes _ _ _ _ (held s.cells) _ (Register (length ts) a) n None (Some (record { name = n; thing = An_object_of class })) top.values refl
+            (λ r. value_written f ms heap m.entries.items m.root (length ts) a n (suc f.place) top.deep (omega arith) r ∙ ap (λ x. changed (λ q. x) (Register (length ts) a) n r) (values_kept (Runs_frame f ∷ ms) m.cells heap m.entries.items m.root n class none ch r))
+            (word_written fr ts a (suc fr.place) None)
+            (λ r. refl))),
+      )
+
+  pub new_does : (a class n : ℕ) (refused : Bool) (heap : Heap) → a < 16 → refused ≡ refuses turn m → Made class refused n m.cells heap → Does turn.refused (New a class) m (acts.next (set_register a n (asked heap)))
+  new_does a class n refused heap small same it = elim it [
+    | inl null_made ↦ subst (λ x. Does turn.refused (New a class) m (acts.next (set_register a n (asked x)))) (sym null_made.2) (subst (λ k. Does turn.refused (New a class) m (acts.next (set_register a k (asked m.cells)))) (sym null_made.1) (refused_does a class small (sym null_made.0 ∙ same)))
+    | inr new_made ↦ made_does a class n heap small (sym new_made.0 ∙ same) new_made.1 new_made.2 new_made.3 new_made.4 new_made.5
+  ]

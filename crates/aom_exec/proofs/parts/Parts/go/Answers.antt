@@ -1,0 +1,9 @@
+use Rattle.aom_exec.proofs.GoingActs.{go_does}
+use Rattle.aom_exec.proofs.parts.Parts.go.Goals as goal
+
+pub returns : goal.returns
+returns c =
+    let class = rw c.drop_task.ensures at c.release-class.ensures.class in
+    let gone = rw c.drop_task.ensures at c.release-class.ensures.gone in
+    let count = rw c.drop_task.ensures at c.release-class.ensures.count in
+    rw (c.next.ensures, c.release-class.ensures.rest, c.drop_task.ensures, c.push.ensures) (go_does c.args.self.now c.release-class.new.self.cells c.going-number.result c.release-class.result c.args.turn.now c.going-number.ensures class gone count)

@@ -1,0 +1,15 @@
+use Rattle.std.proofs.Common.{rules, ap, ◌∙◌, ◌≡◌, w32, FitsSigned, to_z, of_z, ◌++◌, ◌∷◌, []}
+use Rattle.std.proofs.lemmas.Int.{to_z-of_z}
+use Rattle.aom_sound.specs.declared.line.Line.TheVariants.{Out}
+use Rattle.aom_frames.specs.Tasks.{register_here}
+use Rattle.aom_exec.proofs.WordActs.{print_does, print_tells}
+use Rattle.aom_exec.proofs.parts.Parts.print.Goals as goal
+
+pub returns-clause-does : goal.returns-clause-does
+returns-clause-does c = λ refused. rw c.next.ensures (print_does c.args.self.now refused c.args.from)
+
+pub returns-clause-tells : goal.returns-clause-tells
+returns-clause-tells c = λ p h choice needs.
+    let fits : FitsSigned w32 c.cast_signed-word.result = search rules in
+    let word : to_z w32 (of_z w32 c.cast_signed-word.result) ≡ to_z w32 (register_here c.args.self.now.stack.tasks c.args.from) = to_z-of_z w32 c.cast_signed-word.result fits ∙ c.cast_signed-word.ensures ∙ ap (to_z w32) c.register.ensures.value in
+    c.push.ensures ∙ ap (λ w. record c.args.turn.now { lines = c.args.turn.now.lines ++ Out w ∷ [] }) word ∙ print_tells c.args.self.now c.args.turn.now c.args.from p h choice needs

@@ -1,0 +1,102 @@
+-- What the machine's numbers stand for.
+use Rattle.std.specs.Prelude.{◌≡◌, ◌<◌, ℕ, ℤ, cond, ◌==◌, List, [], ◌∷◌, length, Option, Some, None}
+use Rattle.std.specs.Int.{w32, cast_signed}
+use Rattle.aom_image.specs.Image.{Image}
+use Rattle.aom_image.specs.declared.method.Thing.{Thing}
+use Rattle.aom_image.specs.declared.method.Thing.TheVariants.{Object as An_object_of}
+use Rattle.aom_cells.specs.Heap.{Heap, null, cell_at, count}
+use Rattle.aom_cells.specs.declared.cell.Cell.{Cell as Held_cell}
+use Rattle.aom_sound.specs.Places.{Place, Register, Entry, Field, Going, Elsewhere, Object, Cell, held, named}
+use Rattle.aom_sound.specs.State.{Home, Static, AtRoot, Inside, Frame, Dispatch, Of_main, word, Task, Run, Trapped, Destroy, Dispatched, State}
+use Rattle.aom_frames.specs.declared.frame.Frame.{Frame as Held_frame}
+use Rattle.aom_frames.specs.declared.task.Task.{Task as Held_task}
+use Rattle.aom_frames.specs.declared.task.Task.TheVariants.{Run as Runs_frame, Trapped as Is_trap, Destroy as Destroys, Dispatched as Ends}
+use Rattle.aom_frames.specs.declared.task.Dispatch.{Dispatch as Held_dispatch}
+use Rattle.aom_frames.specs.declared.task.Dispatch.TheVariants.{Main}
+use Rattle.aom_exec.specs.declared.parts.Parts.{Parts}
+use Rattle.aom_exec.specs.Places.{value}
+use Rattle.aom_exec.specs.Room.{HasRoom}
+
+-- the number of what a place owns, and null where it owns nothing
+abbrev pub number : Option Object → ℕ
+number None = null
+number (Some o) = o.name
+
+-- a number stands for what a place of the checked machine has: its word, else its object's name, else null
+abbrev pub Shows : ℕ → Option ℤ → Option Object → Type 0
+Shows n (Some w) None = cast_signed w32 n ≡ w
+Shows n (Some w) (Some o) = ⊥
+Shows n None o = n ≡ number o
+
+-- the word in each place of the checked machine; registers alone have words
+abbrev pub word_of : Task → ℕ → Option ℤ
+word_of (Run fr) i = word fr i
+word_of Trapped i = None
+word_of Destroy i = None
+word_of (Dispatched d) i = None
+
+abbrev pub word_in : List Task → ℕ → ℕ → Option ℤ
+word_in [] d i = None
+word_in (t ∷ ts) d i = cond (length ts == d) (word_of t i) (word_in ts d i)
+
+abbrev pub word_at : List Task → Place → Option ℤ
+word_at ts (Register d i) = word_in ts d i
+word_at ts (Entry k) = None
+word_at ts (Field n f) = None
+word_at ts (Going k) = None
+word_at ts (Elsewhere o) = None
+
+-- the cell that a method works on
+abbrev pub home_number : Home → ℕ
+home_number Static = null
+home_number AtRoot = null
+home_number (Inside o from) = o.name
+
+pub record SameFrame (f : Held_frame) (fr : Frame) : Type 0 where
+  pub method : f.method ≡ fr.method
+  pub place : f.place ≡ fr.place
+  pub this : f.this ≡ home_number fr.home
+  pub wide : length f.registers ≡ 16
+
+abbrev pub dispatch_of : Held_dispatch → Dispatch
+dispatch_of Main = Of_main
+
+-- frames and other tasks, one by one
+abbrev pub SameTask : Held_task → Task → Type 0
+SameTask (Runs_frame f) (Run fr) = SameFrame f fr
+SameTask Is_trap Trapped = Unit {0}
+SameTask (Destroys x) Destroy = Unit {0}
+SameTask (Ends d) (Dispatched e) = dispatch_of d ≡ e
+SameTask _ _ = ⊥
+
+abbrev pub SameTasks : List Held_task → List Task → Type 0
+SameTasks [] [] = Unit {0}
+SameTasks (t ∷ ts) (u ∷ us) = SameTask t u × SameTasks ts us
+SameTasks _ _ = ⊥
+
+-- what lives under a number
+abbrev pub thing_in : Option Held_cell → Option Thing
+thing_in None = None
+thing_in (Some c) = Some (An_object_of c.class)
+
+abbrev pub thing_of : Option Object → Option Thing
+thing_of None = None
+thing_of (Some o) = Some o.thing
+
+-- the same cells live, by their numbers
+pub record SameCells (p : Image) (h : Heap) (cs : List Cell) : Type 0 where
+  pub things : (n : ℕ) → thing_in (cell_at h n) ≡ thing_of (named cs n)
+  pub count : count h ≡ length cs
+  pub limit : h.limit ≡ p.header.cells
+  pub wide : (n : ℕ) (c : Held_cell) → cell_at h n ≡ Some c → length c.fields ≡ 8
+  pub classes : (n : ℕ) (c : Held_cell) → cell_at h n ≡ Some c → c.class < 256
+  pub null_is_none : cell_at h null ≡ None
+
+-- the machine stands for a state
+pub record Agrees (p : Image) (m : Parts) (s : State) : Type 0 where
+  pub tasks : SameTasks m.stack.tasks s.tasks
+  pub values : (r : Place) → Shows (value m r) (word_at s.tasks r) (held s.cells r)
+  pub cells : SameCells p m.cells s.cells
+  pub entries : length m.entries.items ≡ length s.items
+  pub rest : m.rest ≡ s.rest
+  pub room : HasRoom m.stack

@@ -1,0 +1,67 @@
+-- The number in each place of the machine.
+use Rattle.std.specs.Prelude.{ℕ, cond, ◌==◌, List, [], ◌∷◌, length, Option, Some, None, slice_index_or}
+use Rattle.aom_cells.specs.Heap.{Heap, null, field_at}
+use Rattle.aom_sound.specs.Places.{Place, Register, Entry, Field, Going, Elsewhere, Other, Root}
+use Rattle.aom_frames.specs.Tasks.{register_of}
+use Rattle.aom_frames.specs.declared.task.Task.{Task}
+use Rattle.aom_frames.specs.declared.task.Task.TheVariants.{Run, Trapped, Destroy, Dispatched}
+use Rattle.aom_exec.specs.declared.parts.Parts.{Parts}
+
+-- tasks are counted from the bottom
+abbrev pub register_in : List Task → ℕ → ℕ → ℕ
+register_in [] d i = null
+register_in (t ∷ ts) d i = cond (length ts == d) (register_of t i) (register_in ts d i)
+
+-- the cell that goes
+abbrev pub going_of : Task → ℕ
+going_of (Run f) = null
+going_of Trapped = null
+going_of (Destroy x) = x
+going_of (Dispatched d) = null
+
+abbrev pub going_in : List Task → ℕ → ℕ
+going_in [] d = null
+going_in (t ∷ ts) d = cond (length ts == d) (going_of t) (going_in ts d)
+
+abbrev pub other_in : ℕ → Other → ℕ
+other_in root Root = root
+
+-- the number in a place
+abbrev pub value_in : List Task → Heap → List ℕ → ℕ → Place → ℕ
+value_in tasks heap entries root (Register d i) = register_in tasks d i
+value_in tasks heap entries root (Entry k) = slice_index_or entries k null
+value_in tasks heap entries root (Field n f) = field_at heap n f
+value_in tasks heap entries root (Going k) = going_in tasks k
+value_in tasks heap entries root (Elsewhere o) = other_in root o
+
+abbrev pub value : Parts → Place → ℕ
+value m = value_in m.stack.tasks m.cells m.entries.items m.root
+
+-- the machine with other tasks
+abbrev pub with_tasks : List Task → Parts → Parts
+with_tasks ts m = record m { stack = record m.stack { tasks = ts } }
+
+-- the tasks below the innermost
+abbrev pub below_first : List Task → List Task
+below_first [] = []
+below_first (t ∷ ts) = ts
+
+-- the innermost task is a destruction, of that cell
+abbrev pub IsDestroying : List Task → Type 0
+IsDestroying [] = ⊥
+IsDestroying (Run f ∷ ts) = ⊥
+IsDestroying (Trapped ∷ ts) = ⊥
+IsDestroying (Destroy x ∷ ts) = Unit {0}
+IsDestroying (Dispatched d ∷ ts) = ⊥
+
+abbrev pub going_here : List Task → ℕ
+going_here [] = null
+going_here (t ∷ ts) = going_of t
+
+-- the innermost task is the end of a dispatch
+abbrev pub IsEnding : List Task → Type 0
+IsEnding [] = ⊥
+IsEnding (Run f ∷ ts) = ⊥
+IsEnding (Trapped ∷ ts) = ⊥
+IsEnding (Destroy x ∷ ts) = ⊥
+IsEnding (Dispatched d ∷ ts) = Unit {0}

@@ -1,0 +1,22 @@
+-- How far the checked machine has come.
+use Rattle.std.specs.Prelude.{List, [], ◌∷◌, Option, Some, None}
+use Rattle.aom_sound.specs.State.{State}
+use Rattle.aom_sound.specs.declared.line.Ending.{Ending}
+use Rattle.aom_sound.specs.declared.line.Ending.TheVariants as endings
+use Rattle.aom_exec.specs.declared.progress.Outcome.{Outcome}
+use Rattle.aom_exec.specs.declared.progress.Outcome.TheVariants.{Stopped, Waiting}
+use Rattle.aom_exec.specs.declared.progress.Progress.{Progress}
+use Rattle.aom_exec.specs.declared.progress.Progress.TheVariants.{Running, Turned, Ended}
+
+abbrev pub outcome_of : Ending → Outcome
+outcome_of endings.Stopped = Stopped
+outcome_of endings.Waiting = Waiting
+
+abbrev pub progress_by : {T : Type 0} → Option Ending → List T → Progress
+progress_by (Some ending) tasks = Ended (outcome_of ending)
+progress_by None [] = Turned
+progress_by None (task ∷ tasks) = Running
+
+-- the run is over, or nothing is at hand, or something is
+abbrev pub progress_of : State → Progress
+progress_of s = progress_by s.rest.ended s.tasks

@@ -1,0 +1,24 @@
+//! The machine: what an accepted image does, one step after another.
+//!
+//! Its values are plain numbers. A register, a field or an entry holds a word, the number of a cell or the reserved
+//! null, and nothing in it says which; no instruction tests for it. `Machine::boot` gives a machine that stands for the
+//! boot state of the checked machine, and `Machine::step` goes with it as the checked machine goes (`Stepped` of
+//! `specs/Steps.antt`), so that nothing is ever stuck here. All memory is taken by `boot`: no later call has an
+//! allocator. This room knows neither scripts nor texts; lines go out as values in a `Turn`.
+#![tactic(auto)]
+
+mod calls;
+mod fault;
+mod machine;
+mod moves;
+mod objects;
+mod parts;
+mod progress;
+mod rest;
+// #[cfg(test)]
+// mod tests;
+mod words;
+
+pub use fault::BootFault;
+pub use machine::Machine;
+pub use progress::{Outcome, Progress};

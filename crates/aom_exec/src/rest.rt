@@ -1,0 +1,111 @@
+//! The clock, the counts, and how far the run has come.
+ghost use Rattle.std.specs.Prelude.{◌≡◌, Some, None, true, false, cond};
+ghost use Rattle.aom_sound.specs.State.{raised};
+ghost use Rattle.aom_sound.specs.declared.line.Ending.TheVariants.{Stopped, Waiting};
+
+use aom_sound::Ending;
+use std::marker::Model;
+
+/// What no place of the machine tells.
+#[derive(Drop)]
+pub struct Rest {
+    clock: u64,
+    requests: u64,
+    steps: u64,
+    announced: bool,
+    stopped: bool,
+    ended: Option<Ending>,
+}
+
+impl Model for Rest {
+    ghost use Rattle.aom_sound.specs.State.{Rest as RestRecord};
+
+    ghost Value = { RestRecord };
+
+    ghost view = { λ r. record { clock = r.clock; requests = r.requests; steps = r.steps; announced = r.announced; stopped = r.stopped; ended = r.ended } };
+}
+
+impl Rest {
+    /// Time 0, before anything.
+    pub fn new() -> Rest
+        ensures { result ≡ record { clock = 0; requests = 0; steps = 0; announced = false; stopped = false; ended = None } }
+    {
+        Rest {
+            clock: 0,
+            requests: 0,
+            steps: 0,
+            announced: false,
+            stopped: false,
+            ended: None,
+        }
+    }
+
+    pub fn clock(&self) -> u64
+        ensures { result ≡ self.now.clock }
+    {
+        self.clock
+    }
+
+    /// How many allocation requests there were.
+    pub fn requests(&self) -> u64
+        ensures { result ≡ self.now.requests }
+    {
+        self.requests
+    }
+
+    /// Whether main's line is written.
+    pub fn is_announced(&self) -> bool
+        ensures { result ≡ self.now.announced }
+    {
+        self.announced
+    }
+
+    pub fn ended(&self) -> Option<Ending>
+        ensures { result ≡ self.now.ended }
+    {
+        self.ended
+    }
+
+    pub fn announce(&mut self)
+        ensures { self.new ≡ record self.old { announced = true } }
+    {
+        self.announced = true;
+    }
+
+    pub fn count_step(&mut self)
+        ensures { self.new ≡ record self.old { steps = raised self.old.steps } }
+    {
+        self.steps = self.steps.saturating_add(1);
+    }
+
+    pub fn count_request(&mut self)
+        ensures { self.new ≡ record self.old { requests = raised self.old.requests } }
+    {
+        self.requests = self.requests.saturating_add(1);
+    }
+
+    pub fn stop(&mut self)
+        ensures { self.new ≡ record self.old { stopped = true } }
+    {
+        self.stopped = true;
+    }
+
+    /// The end of a dispatch.
+    pub fn close(&mut self)
+        ensures { self.new ≡ record self.old { clock = raised self.old.clock; ended = cond self.old.stopped (Some Stopped) None } }
+    {
+        self.clock = self.clock.saturating_add(1);
+        self.ended = if self.stopped {
+            Some(Ending::Stopped)
+        } else {
+            None
+        };
+    }
+
+    /// A turn in which nothing is due.
+    pub fn wait(&mut self)
+        ensures { self.new ≡ record self.old { ended = Some Waiting } }
+    {
+        self.ended = Some(Ending::Waiting);
+    }
+}

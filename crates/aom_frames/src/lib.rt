@@ -1,0 +1,18 @@
+//! The stack of what is at hand: methods, traps, destructions and dispatches, the innermost on top.
+//!
+//! A `Frame` is where a method stands and its sixteen registers, plain numbers with nothing that tells a word from the
+//! number of a cell; it begins with nulls. `Tasks::with_depth` takes all the memory that the stack will ever have, so
+//! that `push` asks for room and answers nothing. Contracts see a list with the innermost task first (`Stack` of
+//! `specs/Tasks.antt`), and each write as a change of the frame on top. This room knows neither cells nor instructions:
+//! it is told where a method goes on.
+#![tactic(auto)]
+
+mod frame;
+mod task;
+mod tasks;
+#[cfg(test)]
+mod tests;
+
+pub use frame::Frame;
+pub use task::{Dispatch, Task};
+pub use tasks::Tasks;

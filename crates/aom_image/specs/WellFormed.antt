@@ -1,0 +1,123 @@
+-- Which images are well formed: every field in its range, and the spelling at most 1 MiB.
+use Rattle.std.specs.Prelude.{ℕ, ◌<◌, ◌≤◌, ◌^◌, Bool, true, false, List, length, All, count_by, IfSome}
+use Rattle.aom_image.specs.Image.{Image}
+use Rattle.aom_image.specs.Spelling.{spell}
+use Rattle.aom_image.specs.declared.limits.Limits.{Limits}
+use Rattle.aom_image.specs.Words.{WordsFit}
+use Rattle.aom_image.specs.declared.instr.Instr.{Instr}
+use Rattle.aom_image.specs.declared.image.Header.{Header}
+use Rattle.aom_image.specs.declared.class.ClassDecl.{ClassDecl}
+use Rattle.aom_image.specs.declared.class.ClassKind.{ClassKind}
+use Rattle.aom_image.specs.declared.class.ClassKind.TheVariants as kinds
+use Rattle.aom_image.specs.declared.class.Provider.{Provider}
+use Rattle.aom_image.specs.declared.class.Provider.TheVariants as providers
+use Rattle.aom_image.specs.declared.method.Thing.{Thing}
+use Rattle.aom_image.specs.declared.method.Thing.TheVariants.{Object, Message}
+use Rattle.aom_image.specs.declared.method.Argument.{Argument}
+use Rattle.aom_image.specs.declared.method.Argument.TheVariants as arguments
+use Rattle.aom_image.specs.declared.method.Gives.{Gives}
+use Rattle.aom_image.specs.declared.method.Gives.TheVariants as gives
+use Rattle.aom_image.specs.declared.method.Method.{Method}
+
+-- ---- classes
+
+-- what may be owned is of a class that is there
+abbrev pub ThingFits : ℕ → Thing → Type 0
+ThingFits classes (Object c) = c < classes
+ThingFits classes Message = Unit {0}
+
+-- a native is one of those that the image names
+abbrev pub ProviderFits : ℕ → Provider → Type 0
+ProviderFits natives providers.Own = Unit {0}
+ProviderFits natives providers.Timer = Unit {0}
+ProviderFits natives (providers.Native n) = n < natives
+
+-- a kind of class, beside so many classes and natives
+abbrev pub KindFits : ℕ → ℕ → ClassKind → Type 0
+KindFits classes natives kinds.Plain = Unit {0}
+KindFits classes natives (kinds.Active provider budget) = ProviderFits natives provider × (budget < 2 ^ 32)
+KindFits classes natives (kinds.Server sessions session budget) = (1 ≤ sessions) × (sessions ≤ 64) × (session < classes) × (budget < 2 ^ 32)
+KindFits classes natives kinds.Session = Unit {0}
+
+-- a class, beside so many classes and natives
+pub record ClassFits (classes natives : ℕ) (c : ClassDecl) : Type 0 where
+  pub kind : KindFits classes natives c.kind
+  pub words : c.words ≤ 8
+  pub field_count : length c.fields ≤ 8
+  pub fields : All (ThingFits classes) c.fields
+
+-- the kind of servers
+abbrev pub is_server_kind : ClassKind → Bool
+is_server_kind kinds.Plain = false
+is_server_kind (kinds.Active provider budget) = false
+is_server_kind (kinds.Server sessions session budget) = true
+is_server_kind kinds.Session = false
+
+-- servers among the classes
+abbrev pub is_server : ClassDecl → Bool
+is_server c = is_server_kind c.kind
+
+-- ---- methods
+
+-- each group of instructions passes on what is not its own
+abbrev pub InstrFits : Limits → Instr → Type 0
+InstrFits l i = WordsFit l i
+
+-- an argument, beside so many classes
+abbrev pub ArgumentFits : ℕ → Argument → Type 0
+ArgumentFits classes arguments.Word = Unit {0}
+ArgumentFits classes (arguments.Own t) = ThingFits classes t
+
+-- a result, beside so many classes
+abbrev pub GivesFits : ℕ → Gives → Type 0
+GivesFits classes gives.Nothing = Unit {0}
+GivesFits classes gives.Word = Unit {0}
+GivesFits classes (gives.Own t) = ThingFits classes t
+GivesFits classes (gives.Maybe t) = ThingFits classes t
+GivesFits classes (gives.Left c) = c < classes
+
+-- what the operands of a method's code are measured by
+abbrev pub limits : ℕ → ℕ → ℕ → Limits
+limits classes methods places = record { classes = classes; methods = methods; places = places }
+
+-- a method, beside so many classes and methods
+pub record MethodFits (classes methods : ℕ) (m : Method) : Type 0 where
+  pub class : IfSome m.class (λ c. c < classes)
+  pub flags : m.flags.0 < 4
+  pub before : m.before.0 < 64
+  pub after : m.after.0 < 64
+  pub argument_count : length m.arguments ≤ 6
+  pub arguments : All (ArgumentFits classes) m.arguments
+  pub gives : GivesFits classes m.gives
+  pub some_code : 1 ≤ length m.code
+  pub code_length : length m.code ≤ 1024
+  pub code : All (InstrFits (limits classes methods (length m.code))) m.code
+
+-- ---- the whole
+
+-- a header, beside so many classes
+pub record HeaderFits (classes : ℕ) (h : Header) : Type 0 where
+  pub cells : h.cells ≤ 4096
+  pub messages : h.messages ≤ 1024
+  pub natives : h.natives ≤ 16
+  pub root : IfSome h.root (λ c. c < classes)
+  pub budget : h.budget < 2 ^ 32
+
+-- the classes, beside so many natives
+pub record ClassesFit (natives : ℕ) (classes : List ClassDecl) : Type 0 where
+  pub count : length classes ≤ 256
+  pub each : All (ClassFits (length classes) natives) classes
+  pub servers : count_by is_server classes ≤ 8
+
+-- the methods, beside so many classes
+pub record MethodsFit (classes : ℕ) (methods : List Method) : Type 0 where
+  pub some : 1 ≤ length methods
+  pub count : length methods ≤ 1024
+  pub each : All (MethodFits classes (length methods)) methods
+
+-- an image with every field in its range
+pub record WellFormed (i : Image) : Type 0 where
+  pub header : HeaderFits (length i.classes) i.header
+  pub classes : ClassesFit i.header.natives i.classes
+  pub methods : MethodsFit (length i.classes) i.methods
+  pub size : length (spell i) ≤ 2 ^ 20

@@ -1,0 +1,169 @@
+//! Whether parts make a well-formed image.
+ghost use Rattle.std.specs.Prelude.{◌≡◌, ◌<◌, ◌≤◌, ◌↔◌, IsTrue, IfSome, All, length, count_by, ◌+◌, ◌*◌, ◌^◌, sum_by, codes};
+ghost use Rattle.aom_image.specs.WellFormed.{ThingFits, ProviderFits, KindFits, ClassFits, ClassesFit, MethodsFit, ArgumentFits, GivesFits, InstrFits, MethodFits, HeaderFits, WellFormed, is_server};
+
+use crate::limits::Limits;
+use crate::{
+    Argument, ClassDecl, ClassKind, ClassNumber, Gives, Header, Instr, Method, Provider, Thing,
+    words,
+};
+
+fn class_fits(class: ClassNumber, classes: usize) -> bool
+    ensures { IsTrue result ↔ (class < classes) }
+{
+    (class.number() as usize) < classes
+}
+
+fn thing_fits(thing: Thing, classes: usize) -> bool
+    ensures { IsTrue result ↔ ThingFits classes thing }
+{
+    match thing {
+        Thing::Object(class) => class_fits(class, classes),
+        Thing::Message => true,
+    }
+}
+
+fn argument_fits(argument: Argument, classes: usize) -> bool
+    ensures { IsTrue result ↔ ArgumentFits classes argument }
+{
+    match argument {
+        Argument::Word => true,
+        Argument::Own(thing) => thing_fits(thing, classes),
+    }
+}
+
+fn gives_fits(gives: Gives, classes: usize) -> bool
+    ensures { IsTrue result ↔ GivesFits classes gives }
+{
+    match gives {
+        Gives::Nothing | Gives::Word => true,
+        Gives::Own(thing) | Gives::Maybe(thing) => thing_fits(thing, classes),
+        Gives::Left(class) => class_fits(class, classes),
+    }
+}
+
+fn provider_fits(provider: Provider, natives: u8) -> bool
+    ensures { IsTrue result ↔ ProviderFits natives provider }
+{
+    match provider {
+        Provider::Own | Provider::Timer => true,
+        Provider::Native(native) => native.number() < natives,
+    }
+}
+
+fn kind_fits(kind: ClassKind, classes: usize, natives: u8) -> bool
+    ensures { IsTrue result ↔ KindFits classes natives kind }
+{
+    match kind {
+        ClassKind::Plain | ClassKind::Session => true,
+        ClassKind::Active { provider, .. } => provider_fits(provider, natives),
+        ClassKind::Server {
+            sessions,
+            session,
+            ..
+        } => 1 <= sessions && sessions <= 64 && class_fits(session, classes),
+    }
+}
+
+fn class_ok(class: &ClassDecl, classes: usize, natives: u8) -> bool
+    ensures { IsTrue result ↔ ClassFits classes natives class.now }
+{
+    kind_fits(class.kind, classes, natives)
+        && class.words <= 8
+        && class.fields.len() <= 8
+        && class
+            .fields
+            .as_slice()
+            .iter()
+            .all(|field| thing_fits(*field, classes))
+}
+
+fn method_ok(method: &Method, classes: usize, methods: usize) -> bool
+    ensures { IsTrue result ↔ MethodFits classes methods method.now }
+{
+    let limits = Limits {
+        classes,
+        methods,
+        places: method.code.len(),
+    };
+    let class_is_there = match method.class {
+        Some(class) => class_fits(class, classes),
+        None => true,
+    };
+    class_is_there
+        && method.flags.is_known()
+        && method.before.is_known()
+        && method.after.is_known()
+        && method.arguments.len() <= 6
+        && method
+            .arguments
+            .as_slice()
+            .iter()
+            .all(|argument| argument_fits(*argument, classes))
+        && gives_fits(method.gives, classes)
+        && 1 <= limits.places
+        && limits.places <= 1024
+        && method
+            .code
+            .as_slice()
+            .iter()
+            .all(|instr| words::fits(*instr, limits))
+}
+
+fn header_ok(header: &Header, classes: usize) -> bool
+    ensures { IsTrue result ↔ HeaderFits classes header.now }
+{
+    let _budget = header.budget;
+    let root_is_there = match header.root {
+        Some(class) => class_fits(class, classes),
+        None => true,
+    };
+    header.cells <= 4096 && header.messages <= 1024 && header.natives <= 16 && root_is_there
+}
+
+/// How many bytes spell so many classes and these methods.
+pub fn spelled_len(classes: usize, methods: &[Method]) -> usize
+    requires few { classes ≤ 256 }
+    requires fits { All (λ m. length m.code ≤ 1024) methods.now }
+    requires some { length methods.now ≤ 1024 }
+    ensures { result ≡ 24 + 28 * classes + sum_by (λ m. 24 + 8 * length m.code) methods.now }
+{
+    let mut len = 24 + 28 * classes;
+    for method in methods {
+        len += 24 + 8 * method.code.len();
+    }
+    len
+}
+
+fn classes_ok(classes: &[ClassDecl], natives: u8) -> bool
+    ensures { IsTrue result ↔ ClassesFit natives classes.now }
+{
+    classes.len() <= 256
+        && classes
+            .iter()
+            .all(|class| class_ok(class, classes.len(), natives))
+        && classes.iter().filter(|class| class.is_server()).count() <= 8
+}
+
+fn methods_ok(methods: &[Method], classes: usize) -> bool
+    ensures { IsTrue result ↔ MethodsFit classes methods.now }
+{
+    1 <= methods.len()
+        && methods.len() <= 1024
+        && methods
+            .iter()
+            .all(|method| method_ok(method, classes, methods.len()))
+}
+
+/// Whether these are the parts of a well-formed image.
+pub fn form_ok(header: &Header, classes: &[ClassDecl], methods: &[Method]) -> bool
+    ensures { IsTrue result ↔ WellFormed (record { header = header.now; classes = classes.now; methods = methods.now }) }
+{
+    if !header_ok(header, classes.len())
+        || !classes_ok(classes, header.natives)
+        || !methods_ok(methods, classes.len())
+    {
+        return false;
+    }
+    spelled_len(classes.len(), methods) <= 1 << 20
+}

@@ -1,0 +1,13 @@
+//! What a run shows: lines as values, the room for them, and their text.
+//!
+//! A `Turn` has room for every line that one call of the machine can write, and the numbers of the requests that are
+//! to be refused; a `Text` is one line of the transcript in a small buffer. It promises that after `Turn::new` nothing
+//! here takes memory, by signature, and that a text is the one that `specs/Text.antt` spells. It knows no machine.
+#![tactic(auto)]
+
+mod refusals;
+mod text;
+mod turn;
+
+pub use text::Text;
+pub use turn::Turn;

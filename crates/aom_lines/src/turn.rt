@@ -1,0 +1,79 @@
+//! The lines of a turn, and the room for them.
+ghost use Rattle.std.specs.Prelude.{◌≡◌, ◌+◌, ◌<◌, ◌==◌, [], ◌∷◌, ◌++◌, length, IfOk};
+ghost use Rattle.std.specs.List.{list_any};
+
+use crate::refusals::Refusals;
+use aom_budget::Accepted;
+use aom_sound::Line;
+use std::alloc::{AllocError, Global};
+use std::marker::Model;
+
+/// How many lines one call of the machine can write beside those of the messages.
+const OTHER_LINES: usize = 80;
+
+/// The lines that were written since it was cleared, with room for more, and the refused requests.
+#[derive(Drop)]
+pub struct Turn {
+    lines: Vec<Line>,
+    refused: Refusals,
+    room: usize,
+}
+
+impl Model for Turn {
+    ghost use Rattle.std.specs.Prelude.{◌≤◌, length, vec_capacity};
+    ghost use Rattle.aom_lines.specs.Turn.{Turn as TurnRecord};
+
+    ghost Value = { TurnRecord };
+
+    ghost view = { λ t. record { lines = t.lines.items; refused = t.refused; room = t.room } };
+
+    ghost invariant = { λ t. (length t.lines.items ≤ t.room) × (t.room ≤ vec_capacity t.lines) };
+}
+
+impl Turn {
+    /// No lines, and room for all that one call of the image's machine can write.
+    pub fn new(alloc: Global, accepted: &Accepted, refused: Vec<u32>) -> Result<Turn, AllocError>
+        ensures lines { IfOk result (λ t. t.lines ≡ []) }
+        ensures refused { IfOk result (λ t. t.refused ≡ refused.items) }
+        ensures room { IfOk result (λ t. t.room ≡ accepted.now.header.messages + 80) }
+    {
+        let header = accepted.checked().linked().image().header();
+        let room = header.messages as usize + OTHER_LINES;
+        let lines = Vec::with_capacity(alloc, room)?;
+        let refused = Refusals::new(alloc, refused)?;
+        Ok(Turn {
+            lines,
+            refused,
+            room,
+        })
+    }
+
+    /// Writes a line. It takes no memory.
+    pub fn push(&mut self, line: Line)
+        requires { length self.old.lines < self.old.room }
+        ensures { self.new ≡ record self.old { lines = self.old.lines ++ line ∷ [] } }
+    {
+        self.lines.push(line).unwrap();
+    }
+
+    /// The lines, in the order in which they were written.
+    pub fn lines(&self) -> &[Line]
+        ensures { result.now ≡ self.now.lines }
+    {
+        self.lines.as_slice()
+    }
+
+    /// Forgets the lines.
+    pub fn clear(&mut self)
+        ensures { self.new ≡ record self.old { lines = [] } }
+    {
+        self.lines.clear();
+    }
+
+    /// Whether the request of that number, counted from 1, is to be refused.
+    pub fn is_refused(&self, number: u64) -> bool
+        ensures { result ≡ list_any (λ n. n == number) self.now.refused }
+    {
+        self.refused.contains(number)
+    }
+}

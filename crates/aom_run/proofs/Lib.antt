@@ -1,0 +1,6 @@
+pub mod Completing
+pub mod Lines
+pub mod Prefix
+pub mod Running
+pub mod Sending
+pub mod Standing

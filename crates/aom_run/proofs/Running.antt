@@ -1,0 +1,193 @@
+-- A run, one step of the machine after another.
+use Rattle.std.proofs.Common.{◌≡◌, ℕ, suc, min, ◌+◌, Bool, true, false, List, [], ◌∷◌, ◌++◌, Option, Some, None, option_map, length, take, refl, sym, ap, subst, ◌∙◌, append-nil, append_assoc, arith}
+use Rattle.aom_image.specs.Image.{Image}
+use Rattle.aom_sound.specs.State.{State, Task, Dispatched}
+use Rattle.aom_sound.specs.World.{boot_state, Reaches, begins, moves as moved, waits as waited, Run_of, IsBusy, waiting}
+use Rattle.aom_sound.specs.declared.line.Line.{Line}
+use Rattle.aom_sound.specs.declared.line.Ending.{Ending}
+use Rattle.aom_sound.specs.declared.line.Ending.TheVariants as endings
+use Rattle.aom_lines.specs.Turn.{Turn}
+use Rattle.aom_lines.specs.Text.{text_of, ended, end_text, transcript}
+use Rattle.aom_exec.specs.declared.progress.Outcome.{Outcome}
+use Rattle.aom_exec.specs.declared.progress.Outcome.TheVariants.{Stopped, Waiting, WriteFault}
+use Rattle.aom_exec.specs.declared.progress.Progress.{Progress}
+use Rattle.aom_exec.specs.declared.progress.Progress.TheVariants as progresses
+use Rattle.aom_exec.specs.Steps.{Machine, StandsFor, Steps, rests, moves, closes, Stepped, Waited, IsClosing, progress as reached}
+use Rattle.aom_exec.specs.Progress.{progress_of, progress_by, outcome_of}
+use Rattle.aom_exec.proofs.Admits.{no_destructor}
+use Rattle.aom_run.specs.Runs.{after, Ended, Told, CutShort, Ran}
+use Rattle.aom_run.proofs.Completing.{Completed, completes, left}
+use Rattle.aom_run.proofs.Standing.{alone_of, same_progress}
+use Rattle.aom_run.proofs.Sending.{cut_short, after_both, after_none, text_of_both, cut_next}
+
+-- the machine stands for a state that a run comes to, and the run's lines are out
+pub record SoFar (p : Image) (refused : List ℕ) (before now : Option (List ℕ)) (m : Machine) : Type 0 where
+  pub lines : List Line
+  pub state : State
+  pub reaches : Reaches p refused (boot_state p) lines state
+  pub stands : StandsFor m state
+  pub out : now ≡ after before (text_of lines)
+
+pub starts : (refused : List ℕ) (out : Option (List ℕ)) (m : Machine) → StandsFor m (boot_state m.image) → SoFar m.image refused out out m
+starts refused out m fresh = record { lines = []; state = boot_state m.image; reaches = begins; stands = fresh; out = after_none out }
+
+is_busy : (s : State) → IsClosing s → IsBusy s
+is_busy s closing = (Dispatched closing.0, [], closing.1)
+
+-- a step of the machine is none, one or two moves of a run
+reaches_on : (p : Image) (refused : List ℕ) (b : State) (lines : List Line) (s : State) (more : List Line) (u : State)
+    → Reaches p refused b lines s → Steps p refused s more u → Reaches p refused b (lines ++ more) u
+reaches_on p refused b lines s more u r (rests done) = subst (λ ls. Reaches p refused b ls s) (sym (append-nil lines)) r
+reaches_on p refused b lines s more u r (moves c hand free goes not) = moved c r hand.busy free goes
+reaches_on p refused b lines s more u r (closes c d v hand free goes closing free_end ends) =
+    subst (λ ls. Reaches p refused b ls u) (append_assoc lines _ _) (moved d (moved c r hand.busy free goes) (is_busy v closing) free_end ends)
+
+-- a run that has come to a state that the machine stands for can be brought to an end
+completed : (p : Image) (refused : List ℕ) (lines : List Line) (s : State) (m : Machine) → m.image ≡ p → Reaches p refused (boot_state p) lines s → StandsFor m s → Completed p refused lines
+completed p refused lines s m image r stands =
+    let Whole : Image → Type 0 = λ q. Reaches q refused (boot_state q) lines s → Completed q refused lines in
+    let sound = stands.sound in
+    subst Whole image (λ r'. completes m.image stands.typing refused sound.linked sound.admitted (no_destructor m.image sound.admitted) sound.keeps (suc (left m.image s.tasks)) lines s (omega arith) r' stands.typed (alone_of m.image m.parts.stack.tasks s.tasks stands.agrees.tasks stands.agrees.room.alone)) r
+
+-- the beginning of the lines of a run is one of its transcript
+cut_of : (p : Image) (refused : List ℕ) (before now : Option (List ℕ)) (lines : List Line) → Completed p refused lines → (n : ℕ) → now ≡ after before (take n (text_of lines)) → CutShort p refused before now
+cut_of p refused before now lines all n out =
+    let rest = text_of all.more ++ ended (end_text all.ending (length all.last.cells)) in
+    let whole : transcript (lines ++ all.more) all.ending (length all.last.cells) ≡ text_of lines ++ rest = ap (λ t. t ++ ended (end_text all.ending (length all.last.cells))) (text_of_both lines all.more) ∙ append_assoc (text_of lines) (text_of all.more) (ended (end_text all.ending (length all.last.cells))) in
+    let short = cut_short n (text_of lines) rest in
+    record {
+      lines = lines ++ all.more;
+      state = all.last;
+      ending = all.ending;
+      run = all.run;
+      sent = min n (length (text_of lines));
+      out = out ∙ ap (after before) (short ∙ ap (take (min n (length (text_of lines)))) (sym whole));
+    }
+
+-- what is known after a step, before its lines are out
+pub record Next (p : Image) (refused : List ℕ) (before mid : Option (List ℕ)) (told : List Line) (progress : Progress) (new : Machine) : Type 0 where
+  pub lines : List Line
+  pub state : State
+  pub reaches : Reaches p refused (boot_state p) lines state
+  pub stands : StandsFor new state
+  pub is : progress ≡ progress_of state
+  pub sent : ℕ
+  pub part : (n : ℕ) → after mid (take n (text_of told)) ≡ after before (take (sent + n) (text_of lines))
+  pub whole : after mid (text_of told) ≡ after before (text_of lines)
+
+pub next : (p : Image) (refused : List ℕ) (before mid : Option (List ℕ)) (m new : Machine) (old now : Turn) (progress : Progress)
+    → SoFar p refused before mid m → m.image ≡ p → old.refused ≡ refused → old.lines ≡ [] → Stepped m progress old now new
+    → Next p refused before mid now.lines progress new
+next p refused before mid m new old now progress far image same clear stepped =
+    let s = stepped far.state far.stands in
+    let told : now.lines ≡ s.0 = ap (λ (t : Turn). t.lines) s.3 ∙ ap (λ ls. ls ++ s.0) clear in
+    let steps = subst (λ q. Steps q refused far.state s.0 s.1) image (subst (λ r. Steps m.image r far.state s.0 s.1) same s.2) in
+    record {
+      lines = far.lines ++ s.0;
+      state = s.1;
+      reaches = reaches_on p refused (boot_state p) far.lines far.state s.0 s.1 far.reaches steps;
+      stands = s.5;
+      is = s.4;
+      sent = length (text_of far.lines);
+      part = λ n.
+          ap (λ ls. after mid (take n (text_of ls))) told ∙ ap (λ o. after o (take n (text_of s.0))) far.out ∙ cut_next before (text_of far.lines) (text_of s.0) n
+          ∙ ap (λ t. after before (take (length (text_of far.lines) + n) t)) (sym (text_of_both far.lines s.0));
+      whole =
+          ap (λ ls. after mid (text_of ls)) told ∙ ap (λ o. after o (text_of s.0)) far.out ∙ after_both before (text_of far.lines) (text_of s.0)
+          ∙ ap (after before) (sym (text_of_both far.lines s.0));
+    }
+
+-- what a step leaves of its turn
+pub room_kept : (m new : Machine) (old now : Turn) (progress : Progress) (s : State) → StandsFor m s → Stepped m progress old now new → now.room ≡ old.room
+room_kept m new old now progress s stands stepped = ap (λ (t : Turn). t.room) (stepped s stands).3
+
+pub refused_kept : (m new : Machine) (old now : Turn) (progress : Progress) (s : State) → StandsFor m s → Stepped m progress old now new → now.refused ≡ old.refused
+refused_kept m new old now progress s stands stepped = ap (λ (t : Turn). t.refused) (stepped s stands).3
+
+same_outcome : (d e : Ending) → outcome_of d ≡ outcome_of e → d ≡ e
+same_outcome endings.Stopped endings.Stopped is = refl
+same_outcome endings.Stopped endings.Waiting is = absurd cc
+same_outcome endings.Waiting endings.Stopped is = absurd cc
+same_outcome endings.Waiting endings.Waiting is = refl
+
+ended_same : (a b : Outcome) → progresses.Ended a ≡ progresses.Ended b → a ≡ b
+ended_same a b is = cc
+
+ended_by : (ended : Option Ending) (tasks : List Task) (ending : Ending) → progress_by ended tasks ≡ progresses.Ended (outcome_of ending) → ended ≡ Some ending
+ended_by (Some e) tasks ending is = ap (λ x. Some x) (same_outcome e ending (ended_same _ _ is))
+ended_by None [] ending is = absurd cc
+ended_by None (t ∷ ts) ending is = absurd cc
+
+by_ending : (ended : Option Ending) (tasks : List Task) → progress_by ended tasks ≡ progresses.Ended WriteFault → ⊥
+by_ending (Some endings.Stopped) tasks is = cc
+by_ending (Some endings.Waiting) tasks is = cc
+by_ending None [] is = cc
+by_ending None (t ∷ ts) is = cc
+
+module _ (p : Image) (refused : List ℕ) (before mid now : Option (List ℕ)) (told : List Line) (progress : Progress) (new : Machine) (n : Next p refused before mid told progress new) where
+  pub goes_on : now ≡ after mid (text_of told) → SoFar p refused before now new
+  goes_on out = record { lines = n.lines; state = n.state; reaches = n.reaches; stands = n.stands; out = out ∙ n.whole }
+
+  pub cut : new.image ≡ p → (count : ℕ) → now ≡ after mid (take count (text_of told)) → CutShort p refused before now
+  cut image count out =
+      let all = completed p refused n.lines n.state new image n.reaches n.stands in
+      cut_of p refused before now n.lines all (n.sent + count) (out ∙ n.part count)
+
+  pub turned : progress ≡ progresses.Turned → reached new ≡ progresses.Turned
+  turned is = same_progress new n.state n.stands ∙ sym n.is ∙ is
+
+  pub waits : (last : Machine) → Waited new last → now ≡ after mid (text_of told) → Ended p refused endings.Waiting before now last
+  waits last wait out =
+      let w = wait n.state n.stands in
+      record {
+        lines = n.lines;
+        state = waiting n.state;
+        run = record { reaches = waited n.reaches w.0; ended = refl };
+        stands = w.1;
+        out = out ∙ n.whole;
+      }
+
+  pub ends : (outcome : Outcome) (ending : Ending) → progress ≡ progresses.Ended outcome → outcome ≡ outcome_of ending → now ≡ after mid (text_of told) → Ended p refused ending before now new
+  ends outcome ending is by out =
+      record {
+        lines = n.lines;
+        state = n.state;
+        run = record { reaches = n.reaches; ended = ended_by n.state.rest.ended n.state.tasks ending (sym n.is ∙ is ∙ ap progresses.Ended by) };
+        stands = n.stands;
+        out = out ∙ n.whole;
+      }
+
+  pub no_fault : (outcome : Outcome) → progress ≡ progresses.Ended outcome → outcome ≡ WriteFault → ⊥
+  no_fault outcome is fault = by_ending n.state.rest.ended n.state.tasks (sym n.is ∙ is ∙ ap progresses.Ended fault)
+
+-- the last line after the others
+module _ (m new : Machine) (refused : List ℕ) (ending : Ending) (before mid now : Option (List ℕ)) (failed : Bool) (run : Ended m.image refused ending before mid new) where
+  last : List ℕ
+  last = ended (end_text ending (length run.state.cells))
+
+  told : now ≡ after mid last → Told m.image refused ending before now new
+  unfolding last
+  told out = record { lines = run.lines; state = run.state; run = run.run; stands = run.stands; out = out ∙ ap (λ o. after o last) run.out ∙ after_both before (text_of run.lines) last }
+
+  cut_last : (n : ℕ) → now ≡ after mid (take n last) → CutShort m.image refused before now
+  unfolding last
+  cut_last n out =
+      record {
+        lines = run.lines;
+        state = run.state;
+        ending = ending;
+        run = run.run;
+        sent = length (text_of run.lines) + n;
+        out = out ∙ ap (λ o. after o (take n last)) run.out ∙ cut_next before (text_of run.lines) last n;
+      }
+
+  pub ran : (outcome : Outcome) → (outcome ≡ WriteFault → failed ≡ true) → ((outcome ≡ WriteFault → ⊥) → outcome ≡ outcome_of ending)
+      → ((s : State) → StandsFor new s → (n : ℕ) × (now ≡ after mid (take n (ended (end_text ending (length s.cells))))))
+      → ((outcome ≡ WriteFault → ⊥) → (s : State) → StandsFor new s → now ≡ after mid (ended (end_text ending (length s.cells))))
+      → Ran m refused outcome failed before now new
+  unfolding last
+  ran Stopped fault is part whole = subst (λ e. Told m.image refused e before now new) (sym (same_outcome endings.Stopped ending (is (λ f. cc)))) (told (whole (λ f. cc) run.state run.stands))
+  ran Waiting fault is part whole = subst (λ e. Told m.image refused e before now new) (sym (same_outcome endings.Waiting ending (is (λ f. cc)))) (told (whole (λ f. cc) run.state run.stands))
+  ran WriteFault fault is part whole =
+      let sent = part run.state run.stands in
+      (fault refl, cut_last sent.0 sent.1)

@@ -1,0 +1,51 @@
+-- What a run of the machine tells of the checked machine.
+use Rattle.std.specs.Prelude.{◌≡◌, ℕ, Bool, true, List, ◌++◌, Option, length, take, option_map}
+use Rattle.aom_image.specs.Image.{Image}
+use Rattle.aom_sound.specs.State.{State}
+use Rattle.aom_sound.specs.World.{boot_state, Run_of}
+use Rattle.aom_sound.specs.declared.line.Line.{Line}
+use Rattle.aom_sound.specs.declared.line.Ending.{Ending}
+use Rattle.aom_sound.specs.declared.line.Ending.TheVariants as endings
+use Rattle.aom_lines.specs.Text.{text_of, transcript}
+use Rattle.aom_exec.specs.declared.progress.Outcome.{Outcome}
+use Rattle.aom_exec.specs.declared.progress.Outcome.TheVariants.{Stopped, Waiting, WriteFault}
+use Rattle.aom_exec.specs.Steps.{Machine, StandsFor}
+
+-- what is out once a text is out too, where the sink tells it
+abbrev pub after : Option (List ℕ) → List ℕ → Option (List ℕ)
+after out text = option_map (λ t. t ++ text) out
+
+-- a machine that has not run: it stands for the boot state
+abbrev pub IsFresh : Machine → Type 0
+IsFresh m = StandsFor m (boot_state m.image)
+
+-- a run to its end: the machine stands for its last state, and its lines are out
+pub record Ended (p : Image) (refused : List ℕ) (ending : Ending) (before now : Option (List ℕ)) (new : Machine) : Type 0 where
+  pub lines : List Line
+  pub state : State
+  pub run : Run_of p refused lines state ending
+  pub stands : StandsFor new state
+  pub out : now ≡ after before (text_of lines)
+
+-- and its last line too
+pub record Told (p : Image) (refused : List ℕ) (ending : Ending) (before now : Option (List ℕ)) (new : Machine) : Type 0 where
+  pub lines : List Line
+  pub state : State
+  pub run : Run_of p refused lines state ending
+  pub stands : StandsFor new state
+  pub out : now ≡ after before (transcript lines ending (length state.cells))
+
+-- a run whose sink failed: a beginning of the transcript of a run is out
+pub record CutShort (p : Image) (refused : List ℕ) (before now : Option (List ℕ)) : Type 0 where
+  pub lines : List Line
+  pub state : State
+  pub ending : Ending
+  pub run : Run_of p refused lines state ending
+  pub sent : ℕ
+  pub out : now ≡ after before (take sent (transcript lines ending (length state.cells)))
+
+-- what an outcome says of the run
+abbrev pub Ran : Machine → List ℕ → Outcome → Bool → Option (List ℕ) → Option (List ℕ) → Machine → Type 0
+Ran old refused Stopped failed before now new = Told old.image refused endings.Stopped before now new
+Ran old refused Waiting failed before now new = Told old.image refused endings.Waiting before now new
+Ran old refused WriteFault failed before now new = (failed ≡ true) × CutShort old.image refused before now

@@ -1,0 +1,59 @@
+//! Why a script is refused.
+ghost use Rattle.std.specs.Prelude.{◌≡◌};
+ghost use Rattle.aom_run.specs.Faults.{number_of};
+
+use std::fmt;
+
+/// What is wrong with a line. Of several the first here is told.
+#[derive(Clone, Copy, PartialEq, Eq, Debug)]
+pub enum ScriptFaultKind {
+    /// A byte outside 32 to 126 that is no tab, carriage return or line feed.
+    NotAscii,
+    /// No line of a script begins so, or it has too few or too many words.
+    BadLine,
+    /// A word that should be a number is none.
+    BadNumber,
+    /// A time below that of the line before.
+    TimeBack,
+    /// A number out of its range, a line too many, or a text too long.
+    LimitPassed,
+    OutOfMemory,
+}
+
+impl ScriptFaultKind {
+    /// The number that stands for it in a message.
+    pub fn number(self) -> u32
+        ensures { result ≡ number_of self }
+    {
+        match self {
+            ScriptFaultKind::NotAscii => 1,
+            ScriptFaultKind::BadLine => 2,
+            ScriptFaultKind::BadNumber => 3,
+            ScriptFaultKind::TimeBack => 4,
+            ScriptFaultKind::LimitPassed => 5,
+            ScriptFaultKind::OutOfMemory => 6,
+        }
+    }
+}
+
+/// The first faulty line of a script, counted from 1, and its first fault.
+#[derive(Clone, Copy, PartialEq, Eq, Debug)]
+pub struct ScriptFault {
+    pub line: u32,
+    pub kind: ScriptFaultKind,
+}
+
+impl fmt::Display for ScriptFault {
+    ghost use Rattle.std.specs.Prelude.{Some};
+    ghost use Rattle.aom_run.specs.Faults.{fault_text};
+
+    ghost output = { λ f. Some (fault_text f) };
+
+    fn fmt<W: fmt::Write>(&self, f: &mut fmt::Formatter<W>) -> fmt::Result {
+        let line = self.line;
+        let number = self.kind.number();
+        write!(f, "script {line} {number}")
+    }
+}
+
+impl std::error::Error for ScriptFault {}

@@ -1,0 +1,97 @@
+//! A run, from a fresh machine to its end, with its transcript.
+ghost use Rattle.std.specs.Prelude.{ℕ, true, false, ◌≡◌, ◌+◌, ◌≤◌, length, take, IfNone, IfSome};
+ghost use Rattle.aom_sound.specs.State.{State};
+ghost use Rattle.aom_lines.specs.Text.{text_of, ended, end_text};
+ghost use Rattle.aom_run.specs.Runs.{IsFresh, Ran, Ended, CutShort, after};
+ghost use Rattle.aom_exec.specs.Progress.{outcome_of};
+ghost use Rattle.aom_exec.specs.Steps.{StandsFor};
+
+use crate::{Script, Sink, write_text};
+use aom_exec::{Machine, Outcome, Progress};
+use aom_lines::{Text, Turn};
+use aom_sound::{Ending, Line};
+
+/// Runs a fresh machine to its end and writes the transcript, one step after another. It stops where the sink fails.
+///
+/// The limit is of dispatches after main's, from 1 to 10^9; so far there is none, and no line of a script either.
+pub fn run<W: Sink>(
+    machine: &mut Machine,
+    _script: &Script,
+    turn: &mut Turn,
+    _limit: u32,
+    out: &mut W,
+) -> Outcome
+    requires fresh { IsFresh machine.old }
+    requires room { machine.old.image.header.messages + 80 ≤ turn.old.room }
+    requires limit { (1 ≤ _limit) × (_limit ≤ 1000000000) }
+    ensures { Ran machine.old turn.old.refused result (W.failed out.new) (W.out out.old) (W.out out.new) machine.new }
+{
+    match run_lines(machine, turn, out) {
+        None => Outcome::WriteFault,
+        Some(ending) => finish(machine, ending, out),
+    }
+}
+
+/// Runs a fresh machine to its end and writes its lines, or gives up where the sink fails.
+fn run_lines<W: Sink>(machine: &mut Machine, turn: &mut Turn, out: &mut W) -> Option<Ending>
+    requires fresh { IsFresh machine.old }
+    requires room { machine.old.image.header.messages + 80 ≤ turn.old.room }
+    ensures image { machine.new.image ≡ machine.old.image }
+    ensures none { IfNone result ((W.failed out.new ≡ true) × CutShort machine.old.image turn.old.refused (W.out out.old) (W.out out.new)) }
+    ensures some { IfSome result (λ ending. Ended machine.old.image turn.old.refused ending (W.out out.old) (W.out out.new) machine.new) }
+{
+    loop {
+        turn.clear();
+        let progress = machine.step(turn);
+        write_lines(out, turn.lines());
+        if out.has_failed() {
+            return None;
+        }
+        match progress {
+            Progress::Running => {}
+            Progress::Turned => {
+                machine.wait();
+                return Some(Ending::Waiting);
+            }
+            Progress::Ended(outcome) => return Some(ending_of(outcome)),
+        }
+    }
+}
+
+/// Writes the last line.
+fn finish<W: Sink>(machine: &Machine, ending: Ending, out: &mut W) -> Outcome
+    ensures fault { result ≡ Outcome.WriteFault → W.failed out.new ≡ true }
+    ensures outcome { (result ≡ Outcome.WriteFault → ⊥) → result ≡ outcome_of ending }
+    ensures prefix { (s : State) → StandsFor machine.now s → (n : ℕ) × (W.out out.new ≡ after (W.out out.old) (take n (ended (end_text ending (length s.cells))))) }
+    ensures whole { (result ≡ Outcome.WriteFault → ⊥) → (s : State) → StandsFor machine.now s → W.out out.new ≡ after (W.out out.old) (ended (end_text ending (length s.cells))) }
+{
+    write_text(out, Text::of_end(ending, machine.count()).as_bytes());
+    if out.has_failed() {
+        return Outcome::WriteFault;
+    }
+    Outcome::of(ending)
+}
+
+fn ending_of(outcome: Outcome) -> Ending
+    requires { outcome ≡ Outcome.WriteFault → ⊥ }
+    ensures { outcome ≡ outcome_of result }
+{
+    match outcome {
+        Outcome::Stopped => Ending::Stopped,
+        Outcome::Waiting => Ending::Waiting,
+        Outcome::WriteFault => unreachable!(),
+    }
+}
+
+/// Writes lines out, and stops where the sink fails.
+fn write_lines<W: Sink>(out: &mut W, lines: &[Line])
+    ensures prefix { (n : ℕ) × (W.out out.new ≡ after (W.out out.old) (take n (text_of lines.now))) }
+    ensures whole { W.failed out.new ≡ false → W.out out.new ≡ after (W.out out.old) (text_of lines.now) }
+{
+    for line in lines {
+        write_text(out, Text::of_line(line).as_bytes());
+        if out.has_failed() {
+            return;
+        }
+    }
+}

@@ -1,0 +1,122 @@
+-- The tests on kinds and fillings decide the order, and the meet of two kinds is the strongest below both.
+use Rattle.std.proofs.Common.{◌≡◌, Bool, true, false, ◌&&◌, refl, ap}
+use Rattle.std.proofs.lemmas.Bool.{eqb-true, eq-eqb}
+use Rattle.aom_image.specs.declared.method.Thing.{Thing}
+use Rattle.aom_image.specs.declared.method.Thing.TheVariants.{Object, Message}
+use Rattle.aom_shape.specs.Things.{same_thing}
+use Rattle.aom_shape.specs.Order.{Weaker, WeakerFilling}
+use Rattle.aom_shape.specs.Order.Weaker.{alike, unset_word, unset_null, maybe_null, maybe_own}
+use Rattle.aom_shape.specs.Order.WeakerFilling.{alike_filling, perhaps_empty, perhaps_full}
+use Rattle.aom_shape.specs.Tests.{same_age, no_more, no_more_filling}
+use Rattle.aom_shape.specs.declared.kind.Age.{Age}
+use Rattle.aom_shape.specs.declared.kind.Age.TheVariants.{Fresh, Ready}
+use Rattle.aom_shape.specs.declared.kind.Kind.{Kind}
+use Rattle.aom_shape.specs.declared.kind.Kind.TheVariants.{Unset, Word, Null, Own, Maybe}
+use Rattle.aom_shape.specs.declared.kind.Filling.{Filling}
+use Rattle.aom_shape.specs.declared.kind.Filling.TheVariants.{Empty, Full, Perhaps}
+
+pub both : (a b : Bool) → (a && b) ≡ true → (a ≡ true) × (b ≡ true)
+both true true h = (refl, refl)
+both true false h = cc
+both false true h = cc
+both false false h = cc
+
+pub thing_is : (t u : Thing) → same_thing t u ≡ true → t ≡ u
+thing_is (Object c) (Object d) h = ap Object (eqb-true c d h)
+thing_is (Object c) Message h = cc
+thing_is Message (Object d) h = cc
+thing_is Message Message h = refl
+
+pub thing_self : (t : Thing) → same_thing t t ≡ true
+thing_self (Object c) = eq-eqb c c refl
+thing_self Message = refl
+
+age_is : (a b : Age) → same_age a b ≡ true → a ≡ b
+age_is Fresh Fresh h = refl
+age_is Fresh Ready h = cc
+age_is Ready Fresh h = cc
+age_is Ready Ready h = refl
+
+age_self : (a : Age) → same_age a a ≡ true
+age_self Fresh = refl
+age_self Ready = refl
+
+pub object_self : (t : Thing) (a : Age) → (same_thing t t && same_age a a) ≡ true
+object_self t a = rw (thing_self t, age_self a)
+
+pub no_more_self : (k : Kind) → no_more k k ≡ true
+no_more_self Unset = refl
+no_more_self Word = refl
+no_more_self Null = refl
+no_more_self (Own t a) = object_self t a
+no_more_self (Maybe t a) = object_self t a
+
+-- the test is true where the first kind says no more
+pub weaker_tests : (a b : Kind) → Weaker a b → no_more a b ≡ true
+weaker_tests a b (alike {k = k}) = no_more_self a
+weaker_tests a b unset_word = refl
+weaker_tests a b unset_null = refl
+weaker_tests a b (maybe_null {t = t} {a = age}) = refl
+weaker_tests a b (maybe_own {t = t} {a = age}) = object_self t age
+
+-- and only there
+pub same_own : (t u : Thing) (a b : Age) → (same_thing t u && same_age a b) ≡ true → (t ≡ u) × (a ≡ b)
+same_own t u a b h = let both_are = both (same_thing t u) (same_age a b) h in (thing_is t u both_are.0, age_is a b both_are.1)
+
+pub weaker_tested : (a b : Kind) → no_more a b ≡ true → Weaker a b
+weaker_tested Unset Unset h = alike
+weaker_tested Unset Word h = unset_word
+weaker_tested Unset Null h = unset_null
+weaker_tested Unset (Own t a) h = absurd cc
+weaker_tested Unset (Maybe t a) h = absurd cc
+weaker_tested Word Unset h = absurd cc
+weaker_tested Word Word h = alike
+weaker_tested Word Null h = absurd cc
+weaker_tested Word (Own t a) h = absurd cc
+weaker_tested Word (Maybe t a) h = absurd cc
+weaker_tested Null Unset h = absurd cc
+weaker_tested Null Word h = absurd cc
+weaker_tested Null Null h = alike
+weaker_tested Null (Own t a) h = absurd cc
+weaker_tested Null (Maybe t a) h = absurd cc
+weaker_tested (Own u b) Unset h = absurd cc
+weaker_tested (Own u b) Word h = absurd cc
+weaker_tested (Own u b) Null h = absurd cc
+weaker_tested (Own u b) (Own t a) h = let s = same_own u t b a h in rw (s.0, s.1) alike
+weaker_tested (Own u b) (Maybe t a) h = absurd cc
+weaker_tested (Maybe u b) Unset h = absurd cc
+weaker_tested (Maybe u b) Word h = absurd cc
+weaker_tested (Maybe u b) Null h = maybe_null
+weaker_tested (Maybe u b) (Own t a) h = let s = same_own u t b a h in rw (s.0, s.1) maybe_own
+weaker_tested (Maybe u b) (Maybe t a) h = let s = same_own u t b a h in rw (s.0, s.1) alike
+
+pub fillings_test : (x y : Filling) → WeakerFilling x y → no_more_filling x y ≡ true
+fillings_test Empty y (alike_filling {x = x}) = refl
+fillings_test Full y (alike_filling {x = x}) = refl
+fillings_test Perhaps y (alike_filling {x = x}) = refl
+fillings_test x y perhaps_empty = refl
+fillings_test x y perhaps_full = refl
+
+pub fillings_tested : (x y : Filling) → no_more_filling x y ≡ true → WeakerFilling x y
+fillings_tested Empty Empty h = alike_filling
+fillings_tested Empty Full h = absurd cc
+fillings_tested Empty Perhaps h = absurd cc
+fillings_tested Full Empty h = absurd cc
+fillings_tested Full Full h = alike_filling
+fillings_tested Full Perhaps h = absurd cc
+fillings_tested Perhaps Empty h = perhaps_empty
+fillings_tested Perhaps Full h = perhaps_full
+fillings_tested Perhaps Perhaps h = alike_filling
+
+-- the order is transitive
+pub weaker_along : (a b c : Kind) → Weaker a b → Weaker b c → Weaker a c
+weaker_along a b c (alike {k = k}) h = h
+weaker_along a b c unset_word (alike {k = k}) = unset_word
+weaker_along a b c unset_null (alike {k = k}) = unset_null
+weaker_along a b c (maybe_null {t = t} {a = age}) (alike {k = k}) = maybe_null
+weaker_along a b c (maybe_own {t = t} {a = age}) (alike {k = k}) = maybe_own
+
+pub fillings_along : (x y z : Filling) → WeakerFilling x y → WeakerFilling y z → WeakerFilling x z
+fillings_along x y z (alike_filling {x = f}) h = h
+fillings_along x y z perhaps_empty (alike_filling {x = f}) = perhaps_empty
+fillings_along x y z perhaps_full (alike_filling {x = f}) = perhaps_full

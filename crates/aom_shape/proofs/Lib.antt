@@ -1,0 +1,11 @@
+pub mod Lists
+pub mod Views
+pub mod Deciding
+pub mod Judging
+pub mod Meeting
+pub mod Starting
+pub mod Emptying
+pub mod Telling
+pub mod Monotone
+pub mod Examples
+pub mod Ordering

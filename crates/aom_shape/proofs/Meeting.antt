@@ -1,0 +1,230 @@
+-- The meet of two states, kind by kind and filling by filling.
+use Rattle.std.proofs.Common.{◌≡◌, ℕ, ◌+◌, ◌<◌, Bool, true, false, cond, List, length, slice_index_or, slice_set, Some, None, inl, inr, refl, sym, ◌∙◌, arith}
+use Rattle.std.proofs.lemmas.List.{length-set}
+use Rattle.std.proofs.lemmas.Bool.Decides.{eqb_tells, leb_tells}
+use Rattle.aom_image.specs.declared.method.Thing.{Thing}
+use Rattle.aom_shape.specs.declared.kind.Age.{Age}
+use Rattle.aom_shape.specs.Kinds.{register, field}
+use Rattle.aom_shape.specs.Meet.{Met, Unmet, MetFillings, IsMeet, NoMeet}
+use Rattle.aom_shape.specs.Order.{Weaker, WeakerFilling}
+use Rattle.aom_shape.specs.Order.Weaker.{alike, unset_word, unset_null, maybe_null, maybe_own}
+use Rattle.aom_shape.specs.Order.WeakerFilling.{alike_filling, perhaps_empty, perhaps_full}
+use Rattle.aom_shape.specs.Shape.{Shape}
+use Rattle.aom_shape.specs.Tables.{at}
+use Rattle.aom_shape.specs.Tests.{no_more, apart, meet_kind, no_more_filling, meet_filling}
+use Rattle.aom_shape.specs.declared.kind.Kind.{Kind}
+use Rattle.aom_shape.specs.declared.kind.Kind.TheVariants.{Unset, Word, Null, Own, Maybe}
+use Rattle.aom_shape.specs.declared.kind.Filling.{Filling}
+use Rattle.aom_shape.specs.declared.kind.Filling.TheVariants.{Empty, Full, Perhaps}
+use Rattle.aom_shape.proofs.Deciding.{weaker_tests, weaker_tested, same_own, object_self, fillings_test}
+use Rattle.aom_shape.proofs.Lists.{at_within, at_set_here, at_set_other, at_past}
+
+-- the meet of two kinds says no more than either, and what says no more than both says no more than it
+pub record IsMeetKind (m a b : Kind) : Type 0 where
+  pub first : Weaker m a
+  pub second : Weaker m b
+  pub strongest : (n : Kind) → Weaker n a → Weaker n b → Weaker n m
+
+below_word_and_null : (n : Kind) → no_more n Word ≡ true → no_more n Null ≡ true → no_more n Unset ≡ true
+below_word_and_null Unset h k = refl
+below_word_and_null Word h k = absurd cc
+below_word_and_null Null h k = absurd cc
+below_word_and_null (Own u b) h k = absurd cc
+below_word_and_null (Maybe u b) h k = absurd cc
+
+below_null_and_own : (t : Thing) (a : Age) (n : Kind) → no_more n Null ≡ true → no_more n (Own t a) ≡ true → no_more n (Maybe t a) ≡ true
+below_null_and_own t a Unset h k = absurd cc
+below_null_and_own t a Word h k = absurd cc
+below_null_and_own t a Null h k = absurd cc
+below_null_and_own t a (Own u b) h k = absurd cc
+below_null_and_own t a (Maybe u b) h k = k
+
+word_and_null : IsMeetKind Unset Word Null
+word_and_null = record { first = unset_word; second = unset_null; strongest = λ n h k. weaker_tested n Unset (below_word_and_null n (weaker_tests n Word h) (weaker_tests n Null k)) }
+
+null_and_own : (t : Thing) (a : Age) → IsMeetKind (Maybe t a) Null (Own t a)
+null_and_own t a = record { first = maybe_null; second = maybe_own; strongest = λ n h k. weaker_tested n (Maybe t a) (below_null_and_own t a n (weaker_tests n Null h) (weaker_tests n (Own t a) k)) }
+
+turned : (m a b : Kind) → IsMeetKind m a b → IsMeetKind m b a
+turned m a b h = record { first = h.second; second = h.first; strongest = λ n k l. h.strongest n l k }
+
+-- what two kinds that differ have in common
+apart_meets : (a b m : Kind) → apart a b ≡ Some m → IsMeetKind m a b
+apart_meets Unset Unset m e = absurd cc
+apart_meets Unset Word m e = absurd cc
+apart_meets Unset Null m e = absurd cc
+apart_meets Unset (Own u b) m e = absurd cc
+apart_meets Unset (Maybe u b) m e = absurd cc
+apart_meets Word Unset m e = absurd cc
+apart_meets Word Word m e = absurd cc
+apart_meets Word Null m e = let same : Unset ≡ m = cc in rw (← same) word_and_null
+apart_meets Word (Own u b) m e = absurd cc
+apart_meets Word (Maybe u b) m e = absurd cc
+apart_meets Null Unset m e = absurd cc
+apart_meets Null Word m e = let same : Unset ≡ m = cc in rw (← same) (turned Unset Word Null word_and_null)
+apart_meets Null Null m e = absurd cc
+apart_meets Null (Own u b) m e = let same : Maybe u b ≡ m = cc in rw (← same) (null_and_own u b)
+apart_meets Null (Maybe u b) m e = absurd cc
+apart_meets (Own t a) Unset m e = absurd cc
+apart_meets (Own t a) Word m e = absurd cc
+apart_meets (Own t a) Null m e = let same : Maybe t a ≡ m = cc in rw (← same) (turned (Maybe t a) Null (Own t a) (null_and_own t a))
+apart_meets (Own t a) (Own u b) m e = absurd cc
+apart_meets (Own t a) (Maybe u b) m e = absurd cc
+apart_meets (Maybe t a) Unset m e = absurd cc
+apart_meets (Maybe t a) Word m e = absurd cc
+apart_meets (Maybe t a) Null m e = absurd cc
+apart_meets (Maybe t a) (Own u b) m e = absurd cc
+apart_meets (Maybe t a) (Maybe u b) m e = absurd cc
+
+pub meet_found : (a b m : Kind) → meet_kind a b ≡ Some m → IsMeetKind m a b
+meet_found a b m e = go (no_more a b) refl (no_more b a) refl e
+  where
+    go : (p : Bool) → no_more a b ≡ p → (q : Bool) → no_more b a ≡ q → cond p (Some a) (cond q (Some b) (apart a b)) ≡ Some m → IsMeetKind m a b
+    go true hp q hq e = let same : a ≡ m = cc in rw (← same) (record { first = alike; second = weaker_tested a b hp; strongest = λ n h k. h })
+    go false hp true hq e = let same : b ≡ m = cc in rw (← same) (record { first = weaker_tested b a hq; second = alike; strongest = λ n h k. k })
+    go false hp false hq e = apart_meets a b m e
+
+-- two kinds, neither of which says no more than the other, and which have nothing in common
+record Strangers (a b : Kind) : Type 0 where
+  first : no_more a b ≡ false
+  second : no_more b a ≡ false
+  nothing : apart a b ≡ None
+
+unset_under_word : (b : Kind) → Strangers Word b → no_more Unset b ≡ true → ⊥
+unset_under_word Unset s h = let f = s.second in cc
+unset_under_word Word s h = let f = s.first in cc
+unset_under_word Null s h = let f = s.nothing in cc
+unset_under_word (Own u y) s h = cc
+unset_under_word (Maybe u y) s h = cc
+
+unset_under_null : (b : Kind) → Strangers Null b → no_more Unset b ≡ true → ⊥
+unset_under_null Unset s h = let f = s.second in cc
+unset_under_null Word s h = let f = s.nothing in cc
+unset_under_null Null s h = let f = s.first in cc
+unset_under_null (Own u y) s h = cc
+unset_under_null (Maybe u y) s h = cc
+
+maybe_under_null : (t : Thing) (x : Age) (b : Kind) → Strangers Null b → no_more (Maybe t x) b ≡ true → ⊥
+maybe_under_null t x Unset s h = cc
+maybe_under_null t x Word s h = cc
+maybe_under_null t x Null s h = let f = s.first in cc
+maybe_under_null t x (Own u y) s h = let f = s.nothing in cc
+maybe_under_null t x (Maybe u y) s h = let f = s.second in cc
+
+maybe_under_own : (t : Thing) (x : Age) (b : Kind) → Strangers (Own t x) b → no_more (Maybe t x) b ≡ true → ⊥
+maybe_under_own t x Unset s h = cc
+maybe_under_own t x Word s h = cc
+maybe_under_own t x Null s h = let f = s.nothing in cc
+maybe_under_own t x (Own u y) s h = let f = s.first in cc
+maybe_under_own t x (Maybe u y) s h =
+    let same = same_own t u x y h in
+    let f : no_more (Maybe u y) (Own t x) ≡ true = rw (same.0, same.1) (object_self u y) in
+    let g = s.second in cc
+
+strangers_apart : (a b n : Kind) → Strangers a b → Weaker n a → Weaker n b → ⊥
+strangers_apart a b n s (alike {k = k}) h = let f = weaker_tests a b h in let g = s.first in cc
+strangers_apart a b n s unset_word h = unset_under_word b s (weaker_tests Unset b h)
+strangers_apart a b n s unset_null h = unset_under_null b s (weaker_tests Unset b h)
+strangers_apart a b n s (maybe_null {t = t} {a = age}) h = maybe_under_null t age b s (weaker_tests (Maybe t age) b h)
+strangers_apart a b n s (maybe_own {t = t} {a = age}) h = maybe_under_own t age b s (weaker_tests (Maybe t age) b h)
+
+pub meet_missing : (a b n : Kind) → meet_kind a b ≡ None → Weaker n a → Weaker n b → ⊥
+meet_missing a b n e = go (no_more a b) refl (no_more b a) refl e
+  where
+    go : (p : Bool) → no_more a b ≡ p → (q : Bool) → no_more b a ≡ q → cond p (Some a) (cond q (Some b) (apart a b)) ≡ None → Weaker n a → Weaker n b → ⊥
+    go true hp q hq e = absurd cc
+    go false hp true hq e = absurd cc
+    go false hp false hq e = strangers_apart a b n (record { first = hp; second = hq; nothing = e })
+
+-- one more meet is written
+pub met_more : (a b m : List Kind) (i : ℕ) (x y r : Kind) → Met a b m i → i < 16 → length a ≡ 16 → length b ≡ 16 → meet_kind (slice_index_or a i x) (slice_index_or b i y) ≡ Some r → Met a b (slice_set m i r) (i + 1)
+met_more a b m i x y r h within la lb e = record {
+  size = length-set m i r ∙ h.size;
+  each = λ k below. elim (eqb_tells k i) [
+    | inl w ↦ rw (w.1, ← at_within Unset x a i (omega arith), ← at_within Unset y b i (omega arith), at_set_here Unset m i r (omega (arith, h.size))) e
+    | inr w ↦ rw (at_set_other Unset m i k r w.1) (h.each k (omega (arith, w.1)))
+  ];
+}
+
+pub met_none : (a b : List Kind) (i : ℕ) (x y : Kind) → i < 16 → length a ≡ 16 → length b ≡ 16 → meet_kind (slice_index_or a i x) (slice_index_or b i y) ≡ None → Unmet a b
+met_none a b i x y within la lb e = record {
+  place = i;
+  none = rw (← at_within Unset x a i (omega arith), ← at_within Unset y b i (omega arith)) e;
+}
+
+pub met_more_fillings : (a b m : List Filling) (i : ℕ) (e : Filling) → MetFillings a b m i → i < 8 → length a ≡ 8 → length b ≡ 8 → MetFillings a b (slice_set m i (meet_filling (slice_index_or a i e) (slice_index_or b i e))) (i + 1)
+met_more_fillings a b m i e h within la lb = record {
+  size = length-set m i (meet_filling (slice_index_or a i e) (slice_index_or b i e)) ∙ h.size;
+  each = λ k below. elim (eqb_tells k i) [
+    | inl w ↦ rw (w.1, at_set_here Perhaps m i (meet_filling (slice_index_or a i e) (slice_index_or b i e)) (omega (arith, h.size)), at_within Perhaps e a i (omega arith), at_within Perhaps e b i (omega arith))
+    | inr w ↦ rw (at_set_other Perhaps m i k (meet_filling (slice_index_or a i e) (slice_index_or b i e)) w.1) (h.each k (omega (arith, w.1)))
+  ];
+}
+
+-- the meet of two fillings is the strongest below both
+filling_first : (x y : Filling) → WeakerFilling (meet_filling x y) x
+filling_first Empty Empty = alike_filling
+filling_first Empty Full = perhaps_empty
+filling_first Empty Perhaps = perhaps_empty
+filling_first Full Empty = perhaps_full
+filling_first Full Full = alike_filling
+filling_first Full Perhaps = perhaps_full
+filling_first Perhaps y = alike_filling
+
+filling_second : (x y : Filling) → WeakerFilling (meet_filling x y) y
+filling_second Empty Empty = alike_filling
+filling_second Empty Full = perhaps_full
+filling_second Empty Perhaps = alike_filling
+filling_second Full Empty = perhaps_empty
+filling_second Full Full = alike_filling
+filling_second Full Perhaps = alike_filling
+filling_second Perhaps Empty = perhaps_empty
+filling_second Perhaps Full = perhaps_full
+filling_second Perhaps Perhaps = alike_filling
+
+below_empty_and_full : (n : Filling) → no_more_filling n Empty ≡ true → no_more_filling n Full ≡ true → n ≡ Perhaps
+below_empty_and_full Empty h k = absurd cc
+below_empty_and_full Full h k = absurd cc
+below_empty_and_full Perhaps h k = refl
+
+filling_strongest : (x y n : Filling) → WeakerFilling n x → WeakerFilling n y → WeakerFilling n (meet_filling x y)
+filling_strongest Empty Empty n h k = h
+filling_strongest Empty Full n h k = rw (below_empty_and_full n (fillings_test n Empty h) (fillings_test n Full k)) alike_filling
+filling_strongest Empty Perhaps n h k = k
+filling_strongest Full Empty n h k = rw (below_empty_and_full n (fillings_test n Empty k) (fillings_test n Full h)) alike_filling
+filling_strongest Full Full n h k = h
+filling_strongest Full Perhaps n h k = k
+filling_strongest Perhaps y n h k = h
+
+met_everywhere : (a b m : List Kind) → length a ≡ 16 → length b ≡ 16 → Met a b m 16 → (i : ℕ) → IsMeetKind (at Unset m i) (at Unset a i) (at Unset b i)
+met_everywhere a b m la lb h i =
+    elim (leb_tells 16 i) [
+      | inr w ↦ meet_found (at Unset a i) (at Unset b i) (at Unset m i) (h.each i w.1)
+      | inl w ↦ rw (at_past Unset a i (omega (arith, w.1)), at_past Unset b i (omega (arith, w.1)), at_past Unset m i (omega (arith, w.1, h.size))) (meet_found Unset Unset Unset refl)
+    ]
+
+fillings_everywhere : (a b m : List Filling) → length a ≡ 8 → length b ≡ 8 → MetFillings a b m 8 → (i : ℕ) → at Perhaps m i ≡ meet_filling (at Perhaps a i) (at Perhaps b i)
+fillings_everywhere a b m la lb h i =
+    elim (leb_tells 8 i) [
+      | inr w ↦ h.each i w.1
+      | inl w ↦ rw (at_past Perhaps a i (omega (arith, w.1)), at_past Perhaps m i (omega (arith, w.1, h.size)))
+    ]
+
+-- a state of the meets is the meet
+pub met : (a b m : Shape) → length a.registers ≡ 16 → length b.registers ≡ 16 → length a.fields ≡ 8 → length b.fields ≡ 8 → Met a.registers b.registers m.registers 16 → MetFillings a.fields b.fields m.fields 8 → m.entries ≡ a.entries → m.entries ≡ b.entries → IsMeet m a b
+met a b m la lb fa fb registers fields first second =
+    let kinds = met_everywhere a.registers b.registers m.registers la lb registers in
+    let fillings = fillings_everywhere a.fields b.fields m.fields fa fb fields in
+    record {
+      first = record { registers = λ i. (kinds i).first; fields = λ i. rw (fillings i) (filling_first (field a i) (field b i)); entries = first };
+      second = record { registers = λ i. (kinds i).second; fields = λ i. rw (fillings i) (filling_second (field a i) (field b i)); entries = second };
+      strongest = λ n h k. record {
+        registers = λ i. (kinds i).strongest (register n i) (h.registers i) (k.registers i);
+        fields = λ i. rw (fillings i) (filling_strongest (field a i) (field b i) (field n i) (h.fields i) (k.fields i));
+        entries = h.entries ∙ sym first;
+      };
+    }
+
+-- where two kinds have no meet, nothing says no more than both
+pub unmet : (a b : Shape) → Unmet a.registers b.registers → NoMeet a b
+unmet a b h = record { none = λ n k l. meet_missing (register a h.place) (register b h.place) (register n h.place) h.none (k.registers h.place) (l.registers h.place) }

@@ -1,0 +1,81 @@
+-- The registers as a method begins: its arguments, and unset ones after them.
+use Rattle.std.proofs.Common.{◌≡◌, ℕ, zero, suc, ◌+◌, ◌<◌, ◌≤◌, List, [], ◌∷◌, length, map, replicate, slice_index_or, slice_set, Some, inl, inr, refl, sym, subst, ◌∙◌, arith}
+use Rattle.std.proofs.lemmas.List.{length-set}
+use Rattle.std.proofs.lemmas.Bool.Decides.{eqb_tells, leb_tells}
+use Rattle.aom_image.specs.Image.{Image}
+use Rattle.aom_image.specs.Views.{method_at, method_role, arguments_of}
+use Rattle.aom_image.specs.declared.method.Argument.{Argument}
+use Rattle.aom_image.specs.declared.method.Method.{Method}
+use Rattle.aom_shape.specs.Kinds.{register}
+use Rattle.aom_shape.specs.Order.{WeakerFilling, SaysNoMore}
+use Rattle.aom_shape.specs.Order.Weaker.{alike}
+use Rattle.aom_shape.specs.Order.WeakerFilling.{alike_filling}
+use Rattle.aom_shape.specs.Shape.{Shape}
+use Rattle.aom_shape.specs.Tables.{at}
+use Rattle.aom_shape.specs.Typing.{argument_kind, entry_fields, entry_shape}
+use Rattle.aom_shape.specs.declared.kind.Filling.{Filling}
+use Rattle.aom_shape.specs.declared.kind.Filling.TheVariants.{Perhaps}
+use Rattle.aom_shape.specs.declared.kind.Kind.{Kind}
+use Rattle.aom_shape.specs.declared.kind.Kind.TheVariants.{Unset}
+use Rattle.aom_shape.proofs.Views.{arguments_there, role_there}
+use Rattle.aom_shape.proofs.Lists.{at_set_here, at_set_other}
+
+-- the first arguments stand in their registers
+pub record Placed (arguments : List Argument) (kinds : List Kind) (n : ℕ) : Type 0 where
+  pub size : length kinds ≡ 16
+  pub below : (k : ℕ) → k < n → at Unset kinds k ≡ at Unset (map argument_kind arguments) k
+  pub above : (k : ℕ) → n ≤ k → at Unset kinds k ≡ Unset
+
+at_map : (xs : List Argument) (i : ℕ) (x : Argument) → i < length xs → at Unset (map argument_kind xs) i ≡ argument_kind (slice_index_or xs i x)
+at_map [] i x h = absurd (omega arith)
+at_map (y ∷ ys) zero x h = refl
+at_map (y ∷ ys) (suc i) x h = at_map ys i x (omega arith)
+
+map_past : (xs : List Argument) (i : ℕ) → length xs ≤ i → at Unset (map argument_kind xs) i ≡ Unset
+map_past [] i h = refl
+map_past (y ∷ ys) zero h = absurd (omega arith)
+map_past (y ∷ ys) (suc i) h = map_past ys i (omega arith)
+
+unset_everywhere : (n k : ℕ) → at Unset (replicate n Unset) k ≡ Unset
+unset_everywhere zero k = refl
+unset_everywhere (suc n) zero = refl
+unset_everywhere (suc n) (suc k) = unset_everywhere n k
+
+pub none_placed : (arguments : List Argument) → Placed arguments (replicate 16 Unset) 0
+none_placed arguments = record { size = refl; below = λ k h. absurd (omega arith); above = λ k h. unset_everywhere 16 k }
+
+pub one_placed : (arguments : List Argument) (kinds : List Kind) (i : ℕ) (x : Argument) → Placed arguments kinds i → i < length arguments → length arguments ≤ 16 → x ≡ slice_index_or arguments i x → Placed arguments (slice_set kinds i (argument_kind x)) (i + 1)
+one_placed arguments kinds i x h within fits e =
+    let kind = argument_kind x in
+    record {
+      size = length-set kinds i kind ∙ h.size;
+      below = λ k below. elim (eqb_tells k i) [
+        | inl w ↦ rw (w.1, at_set_here Unset kinds i kind (omega (arith, h.size)), at_map arguments i x within, ← e)
+        | inr w ↦ rw (at_set_other Unset kinds i k kind w.1) (h.below k (omega (arith, w.1)))
+      ];
+      above = λ k above. rw (at_set_other Unset kinds i k kind (λ e. omega (arith, e))) (h.above k (omega arith));
+    }
+
+pub all_placed : (arguments : List Argument) (kinds : List Kind) (n : ℕ) → Placed arguments kinds n → length arguments ≤ n → (k : ℕ) → at Unset kinds k ≡ at Unset (map argument_kind arguments) k
+all_placed arguments kinds n h ended k =
+    elim (leb_tells n k) [
+      | inl w ↦ rw (h.above k w.1, map_past arguments k (omega (arith, w.1)))
+      | inr w ↦ h.below k w.1
+    ]
+
+-- two states that have the same everywhere say the same
+pub says_the_same : (a b : Shape) → ((i : ℕ) → register a i ≡ register b i) → a.fields ≡ b.fields → a.entries ≡ b.entries → SaysNoMore a b
+says_the_same a b registers fields entries = record {
+  registers = λ i. rw (registers i) alike;
+  fields = λ i. let P : List Filling → Type 0 = λ fs. WeakerFilling (at Perhaps a.fields i) (at Perhaps fs i) in subst P fields alike_filling;
+  entries = entries;
+}
+
+-- the registers and fields that a method begins with
+pub begun : (p : Image) (m : ℕ) (d : Method) (kinds : List Kind) (fillings : List Filling) → method_at p m ≡ Some d → ((k : ℕ) → at Unset kinds k ≡ at Unset (map argument_kind d.arguments) k) → fillings ≡ entry_fields (Some d.role) → SaysNoMore (record { registers = kinds; fields = fillings; entries = [] }) (entry_shape p m) × SaysNoMore (entry_shape p m) (record { registers = kinds; fields = fillings; entries = [] })
+begun p m d kinds fillings e registers fields =
+    let same : (k : ℕ) → at Unset kinds k ≡ at Unset (map argument_kind (arguments_of p m)) k = λ k. rw (arguments_there p m d e) (registers k) in
+    let fields_same : fillings ≡ entry_fields (method_role p m) = rw (role_there p m d e) fields in (
+      says_the_same (record { registers = kinds; fields = fillings; entries = [] }) (entry_shape p m) same fields_same refl,
+      says_the_same (entry_shape p m) (record { registers = kinds; fields = fillings; entries = [] }) (λ k. sym (same k)) (sym fields_same) refl,
+    )

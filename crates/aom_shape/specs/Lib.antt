@@ -1,0 +1,15 @@
+pub mod Tables
+pub mod Things
+pub mod Shape
+pub mod Kinds
+pub mod Order
+pub mod Tests
+pub mod Meet
+pub mod Needs
+pub mod Words
+pub mod Objects
+pub mod Calls
+pub mod Rules
+pub mod Typing
+pub mod Laws
+pub mod Whys

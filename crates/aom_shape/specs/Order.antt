@@ -1,0 +1,28 @@
+-- When one abstract state says no more than another.
+use Rattle.std.specs.Prelude.{ℕ, ◌≡◌}
+use Rattle.aom_image.specs.declared.method.Thing.{Thing}
+use Rattle.aom_shape.specs.Shape.{Shape}
+use Rattle.aom_shape.specs.Kinds.{register, field}
+use Rattle.aom_shape.specs.declared.kind.Age.{Age}
+use Rattle.aom_shape.specs.declared.kind.Kind.{Kind}
+use Rattle.aom_shape.specs.declared.kind.Kind.TheVariants.{Unset, Word, Null, Own, Maybe}
+use Rattle.aom_shape.specs.declared.kind.Filling.{Filling}
+use Rattle.aom_shape.specs.declared.kind.Filling.TheVariants.{Empty, Full, Perhaps}
+
+-- the first kind says no more than the second
+pub data Weaker : Kind → Kind → Type 0 where
+  alike : {k : Kind} → Weaker k k
+  unset_word : Weaker Unset Word
+  unset_null : Weaker Unset Null
+  maybe_null : {t : Thing} {a : Age} → Weaker (Maybe t a) Null
+  maybe_own : {t : Thing} {a : Age} → Weaker (Maybe t a) (Own t a)
+
+pub data WeakerFilling : Filling → Filling → Type 0 where
+  alike_filling : {x : Filling} → WeakerFilling x x
+  perhaps_empty : WeakerFilling Perhaps Empty
+  perhaps_full : WeakerFilling Perhaps Full
+
+pub record SaysNoMore (a b : Shape) : Type 0 where
+  pub registers : (i : ℕ) → Weaker (register a i) (register b i)
+  pub fields : (i : ℕ) → WeakerFilling (field a i) (field b i)
+  pub entries : a.entries ≡ b.entries

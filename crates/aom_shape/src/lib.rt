@@ -1,0 +1,29 @@
+//! Abstract states of a method, the order between them, and the verifier's rules.
+//!
+//! `weaker` is the order, and `meet` is the strongest state that says no more than either, or a Why where there is
+//! none. `rule` is the table of rules: the first need that an instruction's state does not meet, or each place where a
+//! run may go on with what is known there. `rules_are_monotone` says that what passes for a state passes for one that
+//! says more. Nothing here takes memory, and nothing knows of the machine, of sweeps or of prices.
+#![tactic(auto)]
+
+mod calls;
+mod flow;
+mod kind;
+mod laws;
+mod objects;
+mod order;
+mod rules;
+mod shape;
+#[cfg(test)]
+mod tests;
+mod things;
+mod why;
+mod words;
+
+pub use flow::Flow;
+pub use kind::{Age, Entry, Filling, Kind};
+pub use laws::{order_is_one, rules_are_monotone};
+pub use order::{meet, weaker};
+pub use rules::rule;
+pub use shape::Shape;
+pub use why::Why;

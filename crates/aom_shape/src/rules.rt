@@ -1,0 +1,40 @@
+//! The rule of each instruction.
+ghost use Rattle.std.specs.Prelude.{◌≡◌, suc, ◌<◌, ◌^◌, IsSome, IfSome, Some};
+ghost use Rattle.aom_image.specs.Views.{instr_at, method_at};
+ghost use Rattle.aom_shape.specs.Rules.{rule};
+
+use crate::{Flow, Shape, Why, calls, objects, words};
+use aom_classes::Linked;
+use aom_image::{Instr, MethodNumber};
+
+/// The instruction at a place, after which a place can be counted.
+fn instr_at(linked: &Linked, method: MethodNumber, place: usize) -> Instr
+    requires { IsSome (instr_at linked.now method place) }
+    ensures value { instr_at linked.now method place ≡ Some result }
+    ensures method { IsSome (method_at linked.now method) }
+    ensures place { suc place < 2 ^ 64 }
+{
+    linked.method(method).code.as_slice()[place]
+}
+
+/// What the instruction at that place asks of the abstract state, and where a run may go on from there: the first need
+/// that is not met, or each place with what is known there.
+pub fn rule(linked: &Linked, method: MethodNumber, place: usize, shape: &Shape) -> Result<Flow, Why>
+    requires { IsSome (instr_at linked.now method place) }
+    ensures { IfSome (instr_at linked.now method place) (λ i. result ≡ rule linked.now method place shape.now i) }
+{
+    match instr_at(linked, method, place) {
+        Instr::Const(a, _) => words::rule_const(place, shape, a),
+        Instr::Jump(to) => words::rule_jump(place, shape, to),
+        Instr::JumpNull(a, to) => objects::rule_jump_null(linked, method, place, shape, a, to),
+        Instr::Print(a) => words::rule_print(place, shape, a),
+        Instr::Move(a, b) => objects::rule_move(linked, method, place, shape, a, b),
+        Instr::Take(a, f) => objects::rule_take(linked, method, place, shape, a, f),
+        Instr::Put(f, b) => objects::rule_put(linked, method, place, shape, f, b),
+        Instr::New(a, class) => objects::rule_new(linked, method, place, shape, a, class),
+        Instr::Delete(a) => objects::rule_delete(linked, method, place, shape, a),
+        Instr::Return(a) => calls::rule_return(linked, method, place, shape, a),
+        Instr::Stop => calls::rule_stop(linked, method, place, shape),
+        _ => Err(Why::RegisterKind),
+    }
+}

@@ -1,0 +1,92 @@
+//! Examples of the order, of meets and of rules.
+use crate::{Age, Filling, Kind, Shape, Why, meet, weaker, words};
+use aom_image::{ClassNumber, FieldIndex, Place, Register, Thing};
+use std::test::Fail;
+
+fn own(class: u16) -> Kind {
+    match ClassNumber::new(class) {
+        Some(class) => Kind::Own(Thing::Object(class), Age::Ready),
+        None => Kind::Unset,
+    }
+}
+
+fn with(number: Register, kind: Kind) -> Shape {
+    Shape::unset().with_register(number, kind)
+}
+
+#[test]
+fn own_and_null_meet_in_maybe(rt: HostRuntime) -> Result<(), Fail> {
+    let Some(third) = Register::new(3) else {
+        return Err(Fail::from("no register"));
+    };
+    let Ok(met) = meet(&with(third, own(7)), &with(third, Kind::Null)) else {
+        return Err(Fail::from("no meet"));
+    };
+    assert!(rt; matches!(met.register(third), Kind::Maybe(_, Age::Ready)));
+    assert!(rt; weaker(&met, &with(third, own(7))));
+    assert!(rt; weaker(&met, &with(third, Kind::Null)));
+    assert!(rt; !weaker(&with(third, own(7)), &met));
+    Ok(())
+}
+
+#[test]
+fn owns_of_two_classes_do_not_meet(rt: HostRuntime) -> Result<(), Fail> {
+    let Some(third) = Register::new(3) else {
+        return Err(Fail::from("no register"));
+    };
+    let Err(why) = meet(&with(third, own(7)), &with(third, own(8))) else {
+        return Err(Fail::from("a meet"));
+    };
+    assert!(rt; why == Why::RegisterKind);
+    Ok(())
+}
+
+#[test]
+fn fields_that_differ_meet_in_perhaps(rt: HostRuntime) -> Result<(), Fail> {
+    let Some(field) = FieldIndex::new(2) else {
+        return Err(Fail::from("no field"));
+    };
+    let empty = Shape::unset().with_field(field, Filling::Empty);
+    let full = Shape::unset().with_field(field, Filling::Full);
+    let Ok(met) = meet(&empty, &full) else {
+        return Err(Fail::from("no meet"));
+    };
+    assert!(rt; met.field(field) == Filling::Perhaps);
+    Ok(())
+}
+
+#[test]
+fn const_into_an_owning_register_is_refused(rt: HostRuntime) -> Result<(), Fail> {
+    let (Some(third), Some(fourth)) = (Register::new(3), Register::new(4)) else {
+        return Err(Fail::from("no registers"));
+    };
+    let shape = with(third, own(7));
+    let Err(why) = words::rule_const(5, &shape, third) else {
+        return Err(Fail::from("an own is lost"));
+    };
+    assert!(rt; why == Why::RegisterKind);
+    assert!(rt; words::rule_const(5, &shape, fourth).is_ok());
+    Ok(())
+}
+
+#[test]
+fn a_jump_leads_to_its_place(rt: HostRuntime) -> Result<(), Fail> {
+    let Some(to) = Place::new(9) else {
+        return Err(Fail::from("no place"));
+    };
+    let Ok(flow) = words::rule_jump(5, &Shape::unset(), to) else {
+        return Err(Fail::from("no flow"));
+    };
+    assert_eq!(rt; flow.as_slice().len(), 1);
+    for (place, _) in flow.as_slice() {
+        assert_eq!(rt; *place, 9);
+    }
+    Ok(())
+}
+
+#[test]
+fn numbers_go_from_1_to_21(rt: HostRuntime) -> Result<(), Fail> {
+    assert_eq!(rt; Why::RegisterKind.number(), 1);
+    assert_eq!(rt; Why::QuietBroken.number(), 21);
+    Ok(())
+}

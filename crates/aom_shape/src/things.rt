@@ -1,0 +1,124 @@
+//! What a place may own, by what is declared.
+ghost use Rattle.std.specs.Prelude.{◌≡◌, IsSome, Some};
+ghost use Rattle.aom_image.specs.Views.{fields_of, method_at};
+ghost use Rattle.aom_shape.specs.Calls.{is_own_for};
+ghost use Rattle.aom_shape.specs.Kinds.{is_object, may_be, may_be_declared};
+ghost use Rattle.aom_shape.specs.Things.{same_thing, stands_for, root_thing, field_thing, holder_by, holder_of};
+
+use crate::Kind;
+use aom_classes::Linked;
+use aom_image::{ClassNumber, FieldIndex, MethodNumber, Role, Thing};
+
+pub(crate) fn is_object(thing: Thing) -> bool
+    ensures { result ≡ is_object thing }
+{
+    match thing {
+        Thing::Object(_) => true,
+        Thing::Message => false,
+    }
+}
+
+pub(crate) fn same_thing(one: Thing, other: Thing) -> bool
+    ensures { result ≡ same_thing one other }
+{
+    match one {
+        Thing::Object(class) => match other {
+            Thing::Object(number) => class.number() == number.number(),
+            Thing::Message => false,
+        },
+        Thing::Message => !is_object(other),
+    }
+}
+
+/// A thing of the first kind may stand where one of the second is declared.
+pub(crate) fn stands_for(_linked: &Linked, one: Thing, other: Thing) -> bool
+    ensures { result ≡ stands_for _linked.now one other }
+{
+    same_thing(one, other)
+}
+
+/// It owns what may stand for that thing.
+pub(crate) fn is_own_for(linked: &Linked, thing: Thing, kind: Kind) -> bool
+    ensures { result ≡ is_own_for linked.now thing kind }
+{
+    match kind {
+        Kind::Unset | Kind::Word | Kind::Null | Kind::Maybe(_, _) => false,
+        Kind::Own(own, _) => stands_for(linked, own, thing),
+    }
+}
+
+/// It is what may stand for that thing, or null.
+pub(crate) fn may_be(linked: &Linked, thing: Thing, kind: Kind) -> bool
+    ensures { result ≡ may_be linked.now thing kind }
+{
+    match kind {
+        Kind::Unset | Kind::Word => false,
+        Kind::Null => true,
+        Kind::Own(own, _) | Kind::Maybe(own, _) => stands_for(linked, own, thing),
+    }
+}
+
+pub(crate) fn may_be_declared(linked: &Linked, declared: Option<Thing>, kind: Kind) -> bool
+    ensures { result ≡ may_be_declared linked.now declared kind }
+{
+    match declared {
+        None => false,
+        Some(thing) => may_be(linked, thing, kind),
+    }
+}
+
+/// What the owning fields of a class may own.
+pub(crate) fn class_fields<'a>(linked: &'a Linked, class: ClassNumber) -> &'a [Thing]
+    ensures { result.now ≡ fields_of linked.now class }
+{
+    match linked
+        .image()
+        .classes()
+        .as_slice()
+        .get(class.number() as usize)
+    {
+        None => &[],
+        Some(declared) => declared.fields.as_slice(),
+    }
+}
+
+/// What main's fields may own: the root is the only one.
+fn root_thing(root: Option<ClassNumber>, field: FieldIndex) -> Option<Thing>
+    ensures { result ≡ root_thing root field }
+{
+    if field.number() == 0 {
+        root.map(|class| Thing::Object(class))
+    } else {
+        None
+    }
+}
+
+/// What is declared of a field, by the role and the class of a method that works on it.
+fn thing_by(
+    linked: &Linked,
+    role: Role,
+    class: Option<ClassNumber>,
+    field: FieldIndex,
+) -> Option<Thing>
+    ensures { result ≡ field_thing linked.now (holder_by (Some role) class) field }
+{
+    match role {
+        Role::Main => root_thing(linked.image().header().root, field),
+        _ => match class {
+            None => None,
+            Some(class) => class_fields(linked, class)
+                .get(field.number() as usize)
+                .copied(),
+        },
+    }
+}
+
+/// What is declared of a field that the method works on.
+#[tactic(auto, using(crate::proofs::Views::holder_there))]
+pub(crate) fn field_thing(linked: &Linked, method: MethodNumber, field: FieldIndex) -> Option<Thing>
+    requires { IsSome (method_at linked.now method) }
+    ensures { result ≡ field_thing linked.now (holder_of linked.now method) field }
+{
+    let declared = linked.method(method);
+    thing_by(linked, declared.role, declared.class, field)
+}

@@ -1,0 +1,433 @@
+-- How the claims change with the abstract state of the top method, and how they go on to hold.
+use Rattle.std.proofs.Common.{Bool, List, None, Option, Some, [], ap, arith, cond, false, inl, inr, length, refl, subst, suc, sym, true, zero, ℕ, ℤ, ◌&&◌, ◌<◌, ◌==◌, ◌∙◌, ◌∷◌, ◌≡◌, ◌≤◌}
+use Rattle.std.proofs.lemmas.Bool.{cases_Bool, eq-eqb, eqb-true, ne_eqb, true≢false}
+use Rattle.std.specs.Prelude.{is_some}
+use Rattle.aom_image.specs.Image.{Image}
+use Rattle.aom_image.specs.declared.method.Thing.{Thing}
+use Rattle.aom_shape.specs.Kinds.{entry_kind, field, filled, is_ready_kind, register, set_field, set_register}
+use Rattle.aom_shape.specs.Order.{SaysNoMore, Weaker, WeakerFilling, alike, alike_filling, maybe_null, maybe_own, perhaps_empty, perhaps_full, unset_null, unset_word}
+use Rattle.aom_shape.specs.Shape.{Shape}
+use Rattle.aom_shape.specs.Tables.{at, put_at}
+use Rattle.aom_shape.specs.Things.{Program, field_thing}
+use Rattle.aom_shape.specs.Typing.{Typing}
+use Rattle.aom_shape.specs.declared.kind.Age.TheVariants.{Fresh, Ready}
+use Rattle.aom_shape.specs.declared.kind.Entry.{Entry as Pushed}
+use Rattle.aom_shape.specs.declared.kind.Filling.{Filling}
+use Rattle.aom_shape.specs.declared.kind.Filling.TheVariants.{Perhaps}
+use Rattle.aom_shape.specs.declared.kind.Kind.{Kind}
+use Rattle.aom_shape.specs.declared.kind.Kind.TheVariants.{Maybe, Null, Own, Unset, Word}
+use Rattle.aom_sound.proofs.Maps.{at-put_at, held_moved, named_moved, same_place-true, same_place_refl, transfer}
+use Rattle.aom_sound.specs.Claims.{Dispatching, Dying, Layer, Mark, Method, claim, declared, declared_field, entries_of, entry_claim, home_claim, items_of, layer_claim, objects, root_claim, tasks_of}
+use Rattle.aom_sound.specs.Places.{Cell, Elsewhere, Entry, Field, Going, Object, Place, Register, Root, changed, held, moved, named, same_place}
+use Rattle.aom_sound.specs.State.{AtRoot, Frame, Home, Inside, Item, Static, field_place, home_holder, thing_holder}
+use Rattle.aom_sound.specs.WellTyped.{Back, Caught, Fits, Gone, Holds, IsBelow, IsHoused, IsNoFieldOf, NoneFrom, NoneIn, NotFrom, NotIn, Returns, Stack, Unclaimed, WordFits, by_field}
+use mathlib.Core.Path.{fun_ext}
+
+-- a frame counts for the claims by its home alone
+pub claim_frame : (p : Image) (d : Place → Kind) (fr fr' : Frame) (sh : Shape) (ls : List Layer) (r : Place) → fr'.home ≡ fr.home → claim p d (Method fr' sh ∷ ls) r ≡ claim p d (Method fr sh ∷ ls) r
+claim_frame p d fr fr' sh ls (Register f i) e = refl
+claim_frame p d fr fr' sh ls (Entry k) e = refl
+claim_frame p d fr fr' sh ls (Field n f) e = ap (λ h. home_claim p h sh n f (claim p d ls (Field n f))) e
+claim_frame p d fr fr' sh ls (Elsewhere Root) e = ap (λ h. root_claim p h sh (claim p d ls (Elsewhere Root))) e
+claim_frame p d fr fr' sh ls (Going k) e = refl
+
+pub claim-set_register : (p : Image) (d : Place → Kind) (fr : Frame) (sh : Shape) (ls : List Layer) (a : ℕ) (v : Kind) (r : Place) → claim p d (Method fr (set_register sh a v) ∷ ls) r ≡ changed (claim p d (Method fr sh ∷ ls)) (Register (length (tasks_of ls)) a) v r
+claim-set_register p d fr sh ls a v (Register f i) = go (length (tasks_of ls) == f)
+  where
+    go : (b : Bool) → cond b (at Unset (put_at Unset sh.registers a v) i) (claim p d ls (Register f i)) ≡ cond (b && (a == i)) v (cond b (at Unset sh.registers i) (claim p d ls (Register f i)))
+    go true = at-put_at Unset sh.registers a i v
+    go false = refl
+claim-set_register p d fr sh ls a v (Entry k) = refl
+claim-set_register p d fr sh ls a v (Field n f) = go fr.home
+  where
+    go : (h : Home) → home_claim p h (set_register sh a v) n f (claim p d ls (Field n f)) ≡ home_claim p h sh n f (claim p d ls (Field n f))
+    go Static = refl
+    go AtRoot = refl
+    go (Inside o from) = refl
+claim-set_register p d fr sh ls a v (Elsewhere Root) = go fr.home
+  where
+    go : (h : Home) → root_claim p h (set_register sh a v) (claim p d ls (Elsewhere Root)) ≡ root_claim p h sh (claim p d ls (Elsewhere Root))
+    go Static = refl
+    go AtRoot = refl
+    go (Inside o from) = refl
+claim-set_register p d fr sh ls a v (Going k) = refl
+
+-- what a field is claimed to be, with another filling
+filled_at : (thing : ℕ → Option Thing) (xs : List Filling) (a : ℕ) (x : Filling) (v : Kind) (f : ℕ) → filled (thing a) x ≡ v → filled (thing f) (at Perhaps (put_at Perhaps xs a x) f) ≡ cond (a == f) v (filled (thing f) (at Perhaps xs f))
+filled_at thing xs a x v f same = ap (λ y. filled (thing f) y) (at-put_at Perhaps xs a f x) ∙ push (a == f) refl
+  where
+    push : (b : Bool) → (a == f) ≡ b → filled (thing f) (cond b x (at Perhaps xs f)) ≡ cond b v (filled (thing f) (at Perhaps xs f))
+    push true e = ap (λ y. filled (thing y) x) (sym (eqb-true a f e)) ∙ same
+    push false e = refl
+
+claim-set_member : (p : Image) (d : Place → Kind) (fr : Frame) (o : Object) (from : Place) (sh : Shape) (ls : List Layer) (a : ℕ) (x : Filling) (v : Kind) (r : Place) → fr.home ≡ Inside o from → filled (field_thing p (thing_holder o.thing) a) x ≡ v → claim p d (Method fr (set_field sh a x) ∷ ls) r ≡ changed (claim p d (Method fr sh ∷ ls)) (Field o.name a) v r
+claim-set_member p d fr o from sh ls a x v (Register f i) e same = refl
+claim-set_member p d fr o from sh ls a x v (Entry k) e same = refl
+claim-set_member p d fr o from sh ls a x v (Field n f) e same = ap (λ h. home_claim p h (set_field sh a x) n f (claim p d ls (Field n f))) e ∙ go (o.name == n) ∙ ap (λ h. cond ((o.name == n) && (a == f)) v (home_claim p h sh n f (claim p d ls (Field n f)))) (sym e)
+  where
+    go : (b : Bool) → cond b (filled (field_thing p (thing_holder o.thing) f) (at Perhaps (put_at Perhaps sh.fields a x) f)) (claim p d ls (Field n f)) ≡ cond (b && (a == f)) v (cond b (filled (field_thing p (thing_holder o.thing) f) (field sh f)) (claim p d ls (Field n f)))
+    go true = filled_at (λ f. field_thing p (thing_holder o.thing) f) sh.fields a x v f same
+    go false = refl
+claim-set_member p d fr o from sh ls a x v (Elsewhere Root) e same = ap (λ h. root_claim p h (set_field sh a x) (claim p d ls (Elsewhere Root))) e ∙ ap (λ h. root_claim p h sh (claim p d ls (Elsewhere Root))) (sym e)
+claim-set_member p d fr o from sh ls a x v (Going k) e same = refl
+
+claim-set_root : (p : Image) (d : Place → Kind) (fr : Frame) (sh : Shape) (ls : List Layer) (x : Filling) (v : Kind) (r : Place) → fr.home ≡ AtRoot → filled (field_thing p Program 0) x ≡ v → claim p d (Method fr (set_field sh 0 x) ∷ ls) r ≡ changed (claim p d (Method fr sh ∷ ls)) (Elsewhere Root) v r
+claim-set_root p d fr sh ls x v (Register f i) e same = refl
+claim-set_root p d fr sh ls x v (Entry k) e same = refl
+claim-set_root p d fr sh ls x v (Field n f) e same = ap (λ h. home_claim p h (set_field sh 0 x) n f (claim p d ls (Field n f))) e ∙ ap (λ h. home_claim p h sh n f (claim p d ls (Field n f))) (sym e)
+claim-set_root p d fr sh ls x v (Elsewhere Root) e same = ap (λ h. root_claim p h (set_field sh 0 x) (claim p d ls (Elsewhere Root))) e ∙ filled_at (λ f. field_thing p Program f) sh.fields 0 x v 0 same
+claim-set_root p d fr sh ls x v (Going k) e same = refl
+
+-- a field of the top method is claimed anew
+pub claim-set_field : (p : Image) (d : Place → Kind) (fr : Frame) (home : Home) (sh : Shape) (ls : List Layer) (a : ℕ) (x : Filling) (v : Kind) (r : Place) → fr.home ≡ home → is_some (field_thing p (home_holder home) a) ≡ true → filled (field_thing p (home_holder home) a) x ≡ v → claim p d (Method fr (set_field sh a x) ∷ ls) r ≡ changed (claim p d (Method fr sh ∷ ls)) (field_place home a) v r
+claim-set_field p d fr Static sh ls a x v r e some same = cc
+claim-set_field p d fr AtRoot sh ls zero x v r e some same = claim-set_root p d fr sh ls x v r e same
+claim-set_field p d fr AtRoot sh ls (suc a) x v r e some same = cc
+claim-set_field p d fr (Inside o from) sh ls a x v r e some same = claim-set_member p d fr o from sh ls a x v r e same
+
+-- one more entry, and one less
+pub claim_push : (p : Image) (d : Place → Kind) (fr : Frame) (sh : Shape) (ls : List Layer) (v : Pushed) (r : Place) → claim p d (Method fr (record sh { entries = v ∷ sh.entries }) ∷ ls) r ≡ changed (claim p d (Method fr sh ∷ ls)) (Entry (length (items_of (Method fr sh ∷ ls)))) (entry_kind v) r
+claim_push p d fr sh ls v (Register f i) = refl
+claim_push p d fr sh ls v (Entry k) = go (length (objects sh.entries (items_of ls)) == k)
+  where
+    go : (b : Bool) → cond b (entry_kind v) (entry_claim sh.entries (items_of ls) k (claim p d ls (Entry k))) ≡ cond (b && true) (entry_kind v) (entry_claim sh.entries (items_of ls) k (claim p d ls (Entry k)))
+    go true = refl
+    go false = refl
+claim_push p d fr sh ls v (Field n f) = go fr.home
+  where
+    go : (h : Home) → home_claim p h (record sh { entries = v ∷ sh.entries }) n f (claim p d ls (Field n f)) ≡ home_claim p h sh n f (claim p d ls (Field n f))
+    go Static = refl
+    go AtRoot = refl
+    go (Inside o from) = refl
+claim_push p d fr sh ls v (Elsewhere Root) = go fr.home
+  where
+    go : (h : Home) → root_claim p h (record sh { entries = v ∷ sh.entries }) (claim p d ls (Elsewhere Root)) ≡ root_claim p h sh (claim p d ls (Elsewhere Root))
+    go Static = refl
+    go AtRoot = refl
+    go (Inside o from) = refl
+claim_push p d fr sh ls v (Going k) = refl
+
+pub filled_weaker : (c : Option Thing) {x y : Filling} → WeakerFilling x y → Weaker (filled c x) (filled c y)
+filled_weaker c alike_filling = alike
+filled_weaker None perhaps_empty = alike
+filled_weaker (Some c) perhaps_empty = maybe_null
+filled_weaker None perhaps_full = alike
+filled_weaker (Some c) perhaps_full = maybe_own
+
+-- what says no more claims no more
+pub claim_weaker : (p : Image) (d : Place → Kind) (fr : Frame) (a b : Shape) (ls : List Layer) (r : Place) → SaysNoMore a b → Weaker (claim p d (Method fr a ∷ ls) r) (claim p d (Method fr b ∷ ls) r)
+claim_weaker p d fr a b ls (Register f i) w = go (length (tasks_of ls) == f)
+  where
+    go : (x : Bool) → Weaker (cond x (register a i) (claim p d ls (Register f i))) (cond x (register b i) (claim p d ls (Register f i)))
+    go true = w.registers i
+    go false = alike
+claim_weaker p d fr a b ls (Entry k) w = subst (λ es. Weaker (entry_claim a.entries (items_of ls) k (claim p d ls (Entry k))) (entry_claim es (items_of ls) k (claim p d ls (Entry k)))) w.entries alike
+claim_weaker p d fr a b ls (Field n f) w = go fr.home
+  where
+    go : (h : Home) → Weaker (home_claim p h a n f (claim p d ls (Field n f))) (home_claim p h b n f (claim p d ls (Field n f)))
+    go Static = alike
+    go AtRoot = alike
+    go (Inside o from) = inside (o.name == n)
+      where
+        inside : (x : Bool) → Weaker (cond x (filled (field_thing p (thing_holder o.thing) f) (field a f)) (claim p d ls (Field n f))) (cond x (filled (field_thing p (thing_holder o.thing) f) (field b f)) (claim p d ls (Field n f)))
+        inside true = filled_weaker (field_thing p (thing_holder o.thing) f) (w.fields f)
+        inside false = alike
+claim_weaker p d fr a b ls (Elsewhere Root) w = go fr.home
+  where
+    go : (h : Home) → Weaker (root_claim p h a (claim p d ls (Elsewhere Root))) (root_claim p h b (claim p d ls (Elsewhere Root)))
+    go Static = alike
+    go AtRoot = filled_weaker (field_thing p Program 0) (w.fields 0)
+    go (Inside o from) = alike
+claim_weaker p d fr a b ls (Going k) w = alike
+
+pub fits_weaker : (p : Image) (h : Place → Option Object) (o : Option Object) {a b : Kind} → Weaker a b → Fits p h o b → Fits p h o a
+fits_weaker p h o alike f = f
+fits_weaker p h None unset_word f = tt
+fits_weaker p h (Some o) unset_word f = absurd f
+fits_weaker p h None unset_null f = tt
+fits_weaker p h (Some o) unset_null f = absurd f
+fits_weaker p h None maybe_null f = tt
+fits_weaker p h (Some o) maybe_null f = absurd f
+fits_weaker p h None maybe_own f = tt
+fits_weaker p h (Some o) maybe_own f = f
+
+pub word_fits_weaker : (w : Option ℤ) {a b : Kind} → Weaker a b → WordFits w b → WordFits w a
+word_fits_weaker w alike f = f
+word_fits_weaker w unset_word f = tt
+word_fits_weaker w unset_null f = tt
+word_fits_weaker w maybe_null f = f
+word_fits_weaker w maybe_own f = f
+
+-- fresh cells stay fresh where no field of theirs is filled
+pub fits_age : (p : Image) (h h' : Place → Option Object) (o : Option Object) (k : Kind) → ((x : Object) → o ≡ Some x → is_ready_kind k ≡ false → (f : ℕ) → h (Field x.name f) ≡ None → h' (Field x.name f) ≡ None) → Fits p h o k → Fits p h' o k
+fits_age p h h' None Unset g f = f
+fits_age p h h' None Word g f = f
+fits_age p h h' None Null g f = f
+fits_age p h h' None (Own c a) g f = f
+fits_age p h h' None (Maybe c a) g f = f
+fits_age p h h' (Some o) Unset g f = f
+fits_age p h h' (Some o) Word g f = f
+fits_age p h h' (Some o) Null g f = f
+fits_age p h h' (Some o) (Own c Fresh) g f = (f.0, λ i. g o refl refl i (f.1 i))
+fits_age p h h' (Some o) (Own c Ready) g f = f
+fits_age p h h' (Some o) (Maybe c Fresh) g f = (f.0, λ i. g o refl refl i (f.1 i))
+fits_age p h h' (Some o) (Maybe c Ready) g f = f
+
+-- a thing and its claim move together
+pub keep_fits :
+    (image : Image) (h h' : Place → Option Object) (k k' : Place → Kind) (p q : Place) →
+    ((r : Place) → h' r ≡ transfer p q h r) →
+    ((r : Place) → k' r ≡ changed (changed k p Null) q (k p) r) →
+    ((r : Place) (x : Object) → h r ≡ Some x → is_ready_kind (k r) ≡ false → (f : ℕ) → same_place q (Field x.name f) ≡ false) →
+    ((r : Place) → Fits image h (h r) (k r)) →
+    (r : Place) → Fits image h' (h' r) (k' r)
+keep_fits image h h' k k' p q eh ek apart fits r =
+    subst (λ x. Fits image h' x (k' r)) (sym (eh r)) (subst (λ x. Fits image h' (transfer p q h r) x) (sym (ek r)) (go (same_place q r) (same_place p r)))
+  where
+    stays : (s : Place) (x : Object) → h s ≡ Some x → is_ready_kind (k s) ≡ false → (f : ℕ) → h (Field x.name f) ≡ None → h' (Field x.name f) ≡ None
+    stays s x e fresh f n = eh (Field x.name f) ∙ ap (λ b. cond b (h p) (cond (same_place p (Field x.name f)) None (h (Field x.name f)))) (apart s x e fresh f) ∙ ap (λ v. cond (same_place p (Field x.name f)) None v) n ∙ both (same_place p (Field x.name f))
+      where
+        both : (b : Bool) → ◌≡◌ {A = Option Object} (cond b None None) None
+        both true = refl
+        both false = refl
+
+    go : (b c : Bool) → Fits image h' (cond b (h p) (cond c None (h r))) (cond b (k p) (cond c Null (k r)))
+    go true c = fits_age image h h' (h p) (k p) (stays p) (fits p)
+    go false true = tt
+    go false false = fits_age image h h' (h r) (k r) (stays r) (fits r)
+
+-- above the layers nothing is claimed
+entries_above : (es : List Pushed) (items : List Item) (k : ℕ) (below : Kind) → length (objects es items) ≤ k → entry_claim es items k below ≡ below
+entries_above [] items k below le = refl
+entries_above (x ∷ es) items k below le =
+    ap (λ b. cond b (entry_kind x) (entry_claim es items k below)) (ne_eqb (length (objects es items)) k (λ e. absurd (omega arith)))
+    ∙ entries_above es items k below (omega arith)
+
+pub length_objects : (es : List Pushed) (items : List Item) → length items ≤ length (objects es items)
+length_objects [] items = omega arith
+length_objects (x ∷ es) items = omega (arith, length_objects es items)
+
+pub claim_entry_above : (p : Image) (cs : List Cell) (ls : List Layer) (k : ℕ) → length (items_of ls) ≤ k → claim p (declared p cs) ls (Entry k) ≡ Null
+claim_entry_above p cs [] k le = refl
+claim_entry_above p cs (Method fr sh ∷ ls) k le = entries_above sh.entries (items_of ls) k _ le ∙ claim_entry_above p cs ls k (omega (arith, length_objects sh.entries (items_of ls)))
+claim_entry_above p cs (Mark gv ∷ ls) k le = claim_entry_above p cs ls k (omega arith)
+claim_entry_above p cs (Dispatching w ∷ ls) k le = claim_entry_above p cs ls k (omega arith)
+claim_entry_above p cs (Dying o ∷ ls) k le = claim_entry_above p cs ls k le
+
+pub declared_moved : (p : Image) (cs : List Cell) (a b : Place) → declared p (moved a b cs) ≡ declared p cs
+declared_moved p cs a b = fun_ext go
+  where
+    go : (r : Place) → declared p (moved a b cs) r ≡ declared p cs r
+    go (Register f i) = refl
+    go (Entry k) = refl
+    go (Field n f) = ap (λ o. declared_field p o f) (named_moved cs a b n)
+    go (Elsewhere Root) = refl
+    go (Going k) = refl
+
+-- a place of the top method, or above it
+abbrev pub Outside : Place → List Layer → Type 0
+Outside (Register f i) ls = length (tasks_of ls) ≤ f
+Outside (Entry k) ls = length (items_of ls) ≤ k
+Outside (Field n f) ls = NoneIn n ls
+Outside (Elsewhere w) ls = NoneFrom (Elsewhere w) ls
+Outside (Going k) ls = length (tasks_of ls) ≤ k
+
+length_items : (l : Layer) (ls : List Layer) → length (items_of ls) ≤ length (items_of (l ∷ ls))
+length_items (Method fr sh) ls = length_objects sh.entries (items_of ls)
+length_items (Mark gv) ls = omega arith
+length_items (Dispatching w) ls = omega arith
+length_items (Dying o) ls = omega arith
+
+none_in_less : (n : ℕ) (l : Layer) (ls : List Layer) → NoneIn n (l ∷ ls) → NoneIn n ls
+none_in_less n (Method fr sh) ls h = h.1
+none_in_less n (Mark gv) ls h = h
+none_in_less n (Dispatching w) ls h = h
+none_in_less n (Dying o) ls h = h
+
+none_from_less : (q : Place) (l : Layer) (ls : List Layer) → NoneFrom q (l ∷ ls) → NoneFrom q ls
+none_from_less q (Method fr sh) ls h = h.1
+none_from_less q (Mark gv) ls h = h
+none_from_less q (Dying o) ls h = h
+none_from_less q (Dispatching w) ls h = h
+
+pub outside_less : (q : Place) (l : Layer) (ls : List Layer) → Outside q (l ∷ ls) → Outside q ls
+outside_less (Register f i) l ls h = omega arith
+outside_less (Entry k) l ls h = omega (arith, length_items l ls)
+outside_less (Field n f) l ls h = none_in_less n l ls h
+outside_less (Elsewhere w) l ls h = none_from_less (Elsewhere w) l ls h
+outside_less (Going k) l ls h = omega arith
+
+-- what holds a method's cell is below the method
+abbrev pub NoFieldHere : Place → Place → Type 0
+NoFieldHere (Register f i) from = Unit {0}
+NoFieldHere (Entry k) from = Unit {0}
+NoFieldHere (Field n f) from = IsNoFieldOf n from
+NoFieldHere (Elsewhere w) from = same_place (Elsewhere w) from ≡ false
+NoFieldHere (Going k) from = Unit {0}
+
+-- no place is both
+outside_below : (q : Place) (ls : List Layer) → Outside q ls → NoFieldHere q q → IsBelow q ls → ⊥
+outside_below (Register f i) ls h n b = omega arith
+outside_below (Entry k) ls h n b = omega arith
+outside_below (Field m f) ls h n b = true≢false (sym (eq-eqb m m refl) ∙ n)
+outside_below (Elsewhere w) ls h n b = true≢false (sym (same_place_refl (Elsewhere w)) ∙ n)
+outside_below (Going k) ls h n b = omega arith
+
+pub outside_differs : (q from : Place) (ls : List Layer) → Outside q ls → NoFieldHere q from → IsBelow from ls → same_place q from ≡ false
+outside_differs q from ls h n b = elim (cases_Bool (same_place q from)) as (λ x. same_place q from ≡ false) [
+  | inl e ↦ let same = same_place-true q from e in absurd (outside_below q ls h (subst (λ r. NoFieldHere q r) (sym same) n) (subst (λ r. IsBelow r ls) (sym same) b))
+  | inr e ↦ e
+]
+
+no_field_here : (q : Place) (fr : Frame) (o : Object) (from : Place) (sh : Shape) (ls : List Layer) → fr.home ≡ Inside o from → Outside q (Method fr sh ∷ ls) → NoFieldHere q from
+no_field_here (Register f i) fr o from sh ls e h = tt
+no_field_here (Entry k) fr o from sh ls e h = tt
+no_field_here (Field n f) fr o from sh ls e h = subst (NotIn n) e h.0
+no_field_here (Elsewhere w) fr o from sh ls e h = subst (λ home. NotFrom (Elsewhere w) home) e h.0
+no_field_here (Going k) fr o from sh ls e h = tt
+
+pub holds_moved : (p : Image) (cs : List Cell) (a b : Place) (ls : List Layer) (o : Object) (from : Place) → held cs b ≡ None → same_place a from ≡ false → same_place b from ≡ false → Holds p cs ls o from → Holds p (moved a b cs) ls o from
+holds_moved p cs a b ls o from free na nb h = record {
+  there = held_moved cs a b from free ∙ ap (λ x. cond x (held cs a) (cond (same_place a from) None (held cs from))) nb ∙ ap (λ x. cond x None (held cs from)) na ∙ h.there;
+  lives = named_moved cs a b o.name ∙ h.lives;
+  below = h.below;
+  ready = h.ready;
+}
+
+housed_moved : (p : Image) (cs : List Cell) (a b : Place) (fr : Frame) (sh : Shape) (ls : List Layer) (home : Home) → fr.home ≡ home → held cs b ≡ None → Outside a (Method fr sh ∷ ls) → Outside b (Method fr sh ∷ ls) → IsHoused p cs ls home → IsHoused p (moved a b cs) ls home
+housed_moved p cs a b fr sh ls Static e free oa ob h = h
+housed_moved p cs a b fr sh ls AtRoot e free oa ob h = h
+housed_moved p cs a b fr sh ls (Inside o from) e free oa ob h =
+    holds_moved p cs a b ls o from free (outside_differs a from ls (outside_less a _ ls oa) (no_field_here a fr o from sh ls e oa) h.below) (outside_differs b from ls (outside_less b _ ls ob) (no_field_here b fr o from sh ls e ob) h.below) h
+
+pub going_differs : (r : Place) (o : Object) (ls : List Layer) → Outside r (Dying o ∷ ls) → same_place r (Going (length (tasks_of ls))) ≡ false
+going_differs (Register f i) o ls h = refl
+going_differs (Entry k) o ls h = refl
+going_differs (Field n f) o ls h = refl
+going_differs (Elsewhere w) o ls h = refl
+going_differs (Going k) o ls h = ap (λ x. x && true) (ne_eqb k (length (tasks_of ls)) (λ e. absurd (omega arith)))
+
+going_moved : (cs : List Cell) (a b : Place) (o : Object) (ls : List Layer) → held cs b ≡ None → Outside a (Dying o ∷ ls) → Outside b (Dying o ∷ ls) → held cs (Going (length (tasks_of ls))) ≡ Some o → held (moved a b cs) (Going (length (tasks_of ls))) ≡ Some o
+going_moved cs a b o ls free oa ob e =
+    let q = Going (length (tasks_of ls)) in
+    held_moved cs a b q free
+    ∙ ap (λ x. cond x (held cs a) (cond (same_place a q) None (held cs q))) (going_differs b o ls ob)
+    ∙ ap (λ x. cond x None (held cs q)) (going_differs a o ls oa)
+    ∙ e
+
+pub stack_moved : (p : Image) (t : Typing) (cs : List Cell) (a b : Place) (ls : List Layer) (back : Back) → held cs b ≡ None → Outside a ls → Outside b ls → Stack p t cs back ls → Stack p t (moved a b cs) back ls
+stack_moved p t cs a b [] back free oa ob s = s
+stack_moved p t cs a b (Method fr sh ∷ ls) back free oa ob s =
+    (s.0, s.1, housed_moved p cs a b fr sh ls fr.home refl free oa ob s.2, s.3, stack_moved p t cs a b ls _ free (outside_less a _ ls oa) (outside_less b _ ls ob) s.4)
+stack_moved p t cs a b (Mark gv ∷ ls) back free oa ob s = (s.0, stack_moved p t cs a b ls _ free (outside_less a (Mark gv) ls oa) (outside_less b (Mark gv) ls ob) s.1)
+stack_moved p t cs a b (Dispatching w ∷ ls) back free oa ob s = s
+stack_moved p t cs a b (Dying o ∷ ls) back free oa ob s = ((named_moved cs a b o.name ∙ s.0.0, going_moved cs a b o ls free oa ob s.0.1), s.1, stack_moved p t cs a b ls _ free (outside_less a (Dying o) ls oa) (outside_less b (Dying o) ls ob) s.2)
+
+-- what holds a method's cell is claimed as it was before the method was called
+entries_below : (es : List Pushed) (items : List Item) (k : ℕ) (below : Kind) → k < length items → entry_claim es items k below ≡ below
+entries_below [] items k below lt = refl
+entries_below (x ∷ es) items k below lt =
+    ap (λ b. cond b (entry_kind x) (entry_claim es items k below)) (ne_eqb (length (objects es items)) k (λ e. absurd (omega (arith, length_objects es items))))
+    ∙ entries_below es items k below lt
+
+pub claim_from : (p : Image) (d : Place → Kind) (fr : Frame) (o : Object) (from : Place) (sh : Shape) (ls : List Layer) → fr.home ≡ Inside o from → IsNoFieldOf o.name from → IsBelow from ls → claim p d (Method fr sh ∷ ls) from ≡ claim p d ls from
+claim_from p d fr o (Register g j) sh ls e n b = ap (λ x. cond x (register sh j) (claim p d ls (Register g j))) (ne_eqb (length (tasks_of ls)) g (λ e. absurd (omega arith)))
+claim_from p d fr o (Entry k) sh ls e n b = entries_below sh.entries (items_of ls) k (claim p d ls (Entry k)) b
+claim_from p d fr o (Field m g) sh ls e n b = ap (λ h. home_claim p h sh m g (claim p d ls (Field m g))) e ∙ ap (λ x. cond x (filled (field_thing p (thing_holder o.thing) g) (field sh g)) (claim p d ls (Field m g))) n
+claim_from p d fr o (Elsewhere Root) sh ls e n b = ap (λ h. root_claim p h sh (claim p d ls (Elsewhere Root))) e
+claim_from p d fr o (Going k) sh ls e n b = refl
+
+-- a layer's claims follow those below it
+cond_rel : (R : Kind → Kind → Type 0) → ((k : Kind) → R k k) → (b : Bool) (z x y : Kind) → R x y → R (cond b z x) (cond b z y)
+cond_rel R same true z x y h = same z
+cond_rel R same false z x y h = h
+
+entry_rel : (R : Kind → Kind → Type 0) → ((k : Kind) → R k k) → (es : List Pushed) (items : List Item) (k : ℕ) (x y : Kind) → R x y → R (entry_claim es items k x) (entry_claim es items k y)
+entry_rel R same [] items k x y h = h
+entry_rel R same (z ∷ es) items k x y h = cond_rel R same (length (objects es items) == k) (entry_kind z) _ _ (entry_rel R same es items k x y h)
+
+home_rel : (R : Kind → Kind → Type 0) → ((k : Kind) → R k k) → (p : Image) (home : Home) (sh : Shape) (n f : ℕ) (x y : Kind) → R x y → R (home_claim p home sh n f x) (home_claim p home sh n f y)
+home_rel R same p Static sh n f x y h = h
+home_rel R same p AtRoot sh n f x y h = h
+home_rel R same p (Inside o from) sh n f x y h = cond_rel R same (o.name == n) _ x y h
+
+root_rel : (R : Kind → Kind → Type 0) → ((k : Kind) → R k k) → (p : Image) (home : Home) (sh : Shape) (x y : Kind) → R x y → R (root_claim p home sh x) (root_claim p home sh y)
+root_rel R same p Static sh x y h = h
+root_rel R same p AtRoot sh x y h = same _
+root_rel R same p (Inside o from) sh x y h = h
+
+pub layer_rel : (R : Kind → Kind → Type 0) → ((k : Kind) → R k k) → (p : Image) (l : Layer) (depth : ℕ) (items : List Item) (r : Place) (x y : Kind) → R x y → R (layer_claim p l depth items r x) (layer_claim p l depth items r y)
+layer_rel R same p (Method fr sh) depth items (Register f i) x y h = cond_rel R same (depth == f) (register sh i) x y h
+layer_rel R same p (Mark gv) depth items (Register f i) x y h = h
+layer_rel R same p (Dispatching w) depth items (Register f i) x y h = h
+layer_rel R same p (Dying o) depth items (Register f i) x y h = h
+layer_rel R same p l depth items (Entry k) x y h = entry_rel R same (entries_of l) items k x y h
+layer_rel R same p (Method fr sh) depth items (Field n f) x y h = home_rel R same p fr.home sh n f x y h
+layer_rel R same p (Mark gv) depth items (Field n f) x y h = h
+layer_rel R same p (Dispatching w) depth items (Field n f) x y h = h
+layer_rel R same p (Dying o) depth items (Field n f) x y h = cond_rel R same (o.name == n) Null x y h
+layer_rel R same p (Method fr sh) depth items (Elsewhere Root) x y h = root_rel R same p fr.home sh x y h
+layer_rel R same p (Mark gv) depth items (Elsewhere Root) x y h = h
+layer_rel R same p (Dying o) depth items (Elsewhere Root) x y h = h
+layer_rel R same p (Dispatching w) depth items (Elsewhere Root) x y h = h
+layer_rel R same p (Method fr sh) depth items (Going k) x y h = h
+layer_rel R same p (Mark gv) depth items (Going k) x y h = h
+layer_rel R same p (Dispatching w) depth items (Going k) x y h = h
+layer_rel R same p (Dying o) depth items (Going k) x y h = cond_rel R same (depth == k) (Own o.thing Ready) x y h
+
+pub claim_rel : (R : Kind → Kind → Type 0) → ((k : Kind) → R k k) → (p : Image) (d d' : Place → Kind) (ls : List Layer) (r : Place) → R (d r) (d' r) → R (claim p d ls r) (claim p d' ls r)
+claim_rel R same p d d' [] r h = h
+claim_rel R same p d d' (l ∷ ls) r h = layer_rel R same p l _ _ r _ _ (claim_rel R same p d d' ls r h)
+
+perhaps_ready : (t : Option Thing) → is_ready_kind (filled t Perhaps) ≡ true
+perhaps_ready None = refl
+perhaps_ready (Some t) = refl
+
+declared_ready : (p : Image) (cs : List Cell) (r : Place) → is_ready_kind (declared p cs r) ≡ true
+declared_ready p cs (Register f i) = refl
+declared_ready p cs (Entry k) = refl
+declared_ready p cs (Field n f) = go (named cs n)
+  where
+    go : (o : Option Object) → is_ready_kind (declared_field p o f) ≡ true
+    go None = refl
+    go (Some o) = perhaps_ready (field_thing p (thing_holder o.thing) f)
+declared_ready p cs (Elsewhere Root) = perhaps_ready (field_thing p Program 0)
+declared_ready p cs (Going k) = refl
+
+-- declared fields are ready, so that a claim which is ready with nothing declared is ready
+pub claim_ready : (p : Image) (cs : List Cell) (ls : List Layer) (r : Place) → is_ready_kind (claim p (λ x. Null) ls r) ≡ true → is_ready_kind (claim p (declared p cs) ls r) ≡ true
+claim_ready p cs ls r e = claim_rel (λ x y. is_ready_kind x ≡ true → is_ready_kind y ≡ true) (λ k h. h) p (λ x. Null) (declared p cs) ls r (λ h. declared_ready p cs r) e
+
+-- of a cell that is not there nothing is claimed but what is declared
+pub claim_unnamed : (p : Image) (t : Typing) (cs : List Cell) (d : Place → Kind) (ls : List Layer) (back : Back) (n f : ℕ) → Stack p t cs back ls → named cs n ≡ None → claim p d ls (Field n f) ≡ d (Field n f)
+claim_unnamed p t cs d [] back n f s e = refl
+claim_unnamed p t cs d (Method fr sh ∷ ls) back n f s e = go fr.home s.2 ∙ claim_unnamed p t cs d ls (Returns fr.method fr.home) n f s.4 e
+  where
+    go : (h : Home) → IsHoused p cs ls h → home_claim p h sh n f (claim p d ls (Field n f)) ≡ claim p d ls (Field n f)
+    go Static h = refl
+    go AtRoot h = refl
+    go (Inside o from) h = ap (λ b. cond b (filled (field_thing p (thing_holder o.thing) f) (field sh f)) (claim p d ls (Field n f))) (ne_eqb o.name n (λ same. let l = h.lives in let e' : Some o ≡ None = sym l ∙ ap (λ x. named cs x) same ∙ e in cc))
+claim_unnamed p t cs d (Mark gv ∷ ls) back n f s e = claim_unnamed p t cs d ls (Caught gv) n f s.1 e
+claim_unnamed p t cs d (Dispatching w ∷ ls) back n f s e = ap (λ l. claim p d l (Field n f)) s.1
+claim_unnamed p t cs d (Dying o ∷ ls) back n f s e =
+    ap (λ b. cond b Null (claim p d ls (Field n f))) (ne_eqb o.name n (λ same. let l = s.0.0 in let e' : Some o ≡ None = sym l ∙ ap (λ x. named cs x) same ∙ e in cc))
+    ∙ claim_unnamed p t cs d ls Gone n f s.2 e
+
+-- registers above the layers
+pub claim_register_above : (p : Image) (cs : List Cell) (ls : List Layer) (f i : ℕ) → length (tasks_of ls) ≤ f → claim p (declared p cs) ls (Register f i) ≡ Null
+claim_register_above p cs [] f i le = refl
+claim_register_above p cs (Method fr sh ∷ ls) f i le = ap (λ b. cond b (register sh i) (claim p (declared p cs) ls (Register f i))) (ne_eqb (length (tasks_of ls)) f (λ e. absurd (omega arith))) ∙ claim_register_above p cs ls f i (omega arith)
+claim_register_above p cs (Mark gv ∷ ls) f i le = claim_register_above p cs ls f i (omega arith)
+claim_register_above p cs (Dispatching w ∷ ls) f i le = claim_register_above p cs ls f i (omega arith)
+claim_register_above p cs (Dying o ∷ ls) f i le = claim_register_above p cs ls f i (omega arith)
+
+-- of a cell of which the layers claim nothing more
+pub claim_unclaimed : (p : Image) (d : Place → Kind) (ls : List Layer) (n f : ℕ) (k : ℕ → Kind) → Unclaimed p k n ls → d (Field n f) ≡ k f → claim p d ls (Field n f) ≡ k f
+claim_unclaimed p d ls n f k u e = claim_rel (λ x y. x ≡ y) (λ k. refl) p d (by_field k) ls (Field n f) e ∙ u f
+
+pub claim_going_above : (p : Image) (cs : List Cell) (ls : List Layer) (k : ℕ) → length (tasks_of ls) ≤ k → claim p (declared p cs) ls (Going k) ≡ Null
+claim_going_above p cs [] k le = refl
+claim_going_above p cs (Method fr sh ∷ ls) k le = claim_going_above p cs ls k (omega arith)
+claim_going_above p cs (Mark gv ∷ ls) k le = claim_going_above p cs ls k (omega arith)
+claim_going_above p cs (Dispatching w ∷ ls) k le = claim_going_above p cs ls k (omega arith)
+claim_going_above p cs (Dying o ∷ ls) k le = ap (λ b. cond b (Own o.thing Ready) (claim p (declared p cs) ls (Going k))) (ne_eqb (length (tasks_of ls)) k (λ e. absurd (omega arith))) ∙ claim_going_above p cs ls k (omega arith)

@@ -1,0 +1,308 @@
+-- Destruction begins: from a delete, and as an entry is unwound.
+use Rattle.std.proofs.Common.{Bool, List, None, Option, Some, [], ap, arith, cond, false, inl, inr, length, refl, subst, suc, sym, true, zero, ℕ, ⊎_elim, ◌&&◌, ◌==◌, ◌∙◌, ◌∷◌, ◌≡◌, ◌≤◌}
+use Rattle.std.proofs.lemmas.Bool.{cases_Bool, eq-eqb, eqb-true, ne_eqb, true≢false}
+use Rattle.std.specs.Prelude.{IsSome, is_none, map, replicate}
+use Rattle.aom_image.specs.Image.{Image}
+use Rattle.aom_image.specs.Views.{arguments_of, gives_of, leaves, method_at, method_class, method_role}
+use Rattle.aom_image.specs.declared.instr.Instr.TheVariants.{Delete}
+use Rattle.aom_image.specs.declared.method.Gives.TheVariants.{Nothing}
+use Rattle.aom_image.specs.declared.method.Role.TheVariants.{Destruct}
+use Rattle.aom_image.specs.declared.method.Thing.{Thing}
+use Rattle.aom_image.specs.declared.method.Thing.TheVariants.{Message, Object as An_object_of}
+use Rattle.aom_shape.specs.Calls.{is_destruct}
+use Rattle.aom_shape.specs.Kinds.{field, filled, is_object, is_object_or_null, is_ready_kind, may_be_destroyed, register, set_register}
+use Rattle.aom_shape.specs.Order.{SaysNoMore, Weaker, WeakerFilling, alike, alike_filling}
+use Rattle.aom_shape.specs.Shape.{Shape}
+use Rattle.aom_shape.specs.Tables.{at}
+use Rattle.aom_shape.specs.Things.{field_thing, holder_by, holder_of}
+use Rattle.aom_shape.specs.Typing.{IsTyped, Typing, argument_kind, entry_fields, entry_shape}
+use Rattle.aom_shape.specs.declared.kind.Age.TheVariants.{Ready}
+use Rattle.aom_shape.specs.declared.kind.Filling.{Filling}
+use Rattle.aom_shape.specs.declared.kind.Filling.TheVariants.{Perhaps}
+use Rattle.aom_shape.specs.declared.kind.Kind.{Kind}
+use Rattle.aom_shape.specs.declared.kind.Kind.TheVariants.{Maybe, Null, Own, Unset, Word}
+use Rattle.aom_sound.proofs.Claimed.{NoFieldHere, Outside, claim-set_register, claim_frame, claim_going_above, claim_register_above, claim_unclaimed, declared_moved, going_differs, keep_fits, outside_differs, outside_less, stack_moved}
+use Rattle.aom_sound.proofs.Maps.{held_lives, held_moved, named_moved, one_place, same_place-true, same_place_refl, tidy_moved}
+use Rattle.aom_sound.proofs.Straight.{At, Law, fits_unowning, fitted, housed_relocated, kind_fits, no_word, relabel, settle, top, well, words_set}
+use Rattle.aom_sound.proofs.Things.{stands_itself, stands_same}
+use Rattle.aom_sound.specs.Claims.{Dispatching, Dying, Layer, Mark, Method, claim, declared, declared_field, entry_claim, home_claim, items_of, objects, tasks_of}
+use Rattle.aom_sound.specs.Destruction.{begun, begun_by, destructor_of}
+use Rattle.aom_sound.specs.Laws.{IsWired}
+use Rattle.aom_sound.specs.Objects.{deleted, is_no_message}
+use Rattle.aom_sound.specs.Places.{Cell, Elsewhere, Entry, Field, Going, Object, Place, Register, Root, Tidy, changed, held, moved, named, same_place}
+use Rattle.aom_sound.specs.State.{AtRoot, Choice, Frame, Home, Inside, Run, State, Static, frame_of, next, set_word, thing_holder, word}
+use Rattle.aom_sound.specs.WellTyped.{Back, Caught, Fits, Gone, Good, IsBelow, IsHoused, IsNoFieldOf, NoneIn, NotIn, Returns, SomeIn, Stack, Unclaimed, WellTyped, WordFits, WorksOn}
+
+-- no layer works on that cell, or claims anything of its fields but what is declared
+pub record Untouched (p : Image) (k : ℕ → Kind) (n : ℕ) (ls : List Layer) : Type 0 where
+  pub some : SomeIn n ls → ⊥
+  pub unclaimed : Unclaimed p k n ls
+  pub none_in : NoneIn n ls
+
+pub eqb_comm : (a b : ℕ) → (a == b) ≡ (b == a)
+eqb_comm a b = elim (cases_Bool (a == b)) as (λ x. (a == b) ≡ (b == a)) [
+  | inl e ↦ e ∙ sym (eq-eqb b a (sym (eqb-true a b e)))
+  | inr e ↦ e ∙ sym (ne_eqb b a (λ f. true≢false (sym (eq-eqb a b (sym f)) ∙ e)))
+]
+
+module _ (p : Image) (t : Typing) (cs : List Cell) (q : Place) (o : Object) (tidy : Tidy cs) (there : held cs q ≡ Some o) where
+  pub other_name : (from : Place) (x : Object) → held cs from ≡ Some x → same_place q from ≡ false → (x.name == o.name) ≡ false
+  other_name from x h e = ne_eqb x.name o.name (λ same. true≢false (sym (ap (λ r. same_place q r) (one_place cs from q x o tidy h there same) ∙ same_place_refl q) ∙ e))
+
+  pub untouched_method : (k : ℕ → Kind) (fr : Frame) (sh : Shape) (ls : List Layer) → ((from : Place) → NoFieldHere q from) → Outside q ls → IsHoused p cs ls fr.home → Untouched p k o.name ls → Untouched p k o.name (Method fr sh ∷ ls)
+  untouched_method k fr sh ls plain out housed u = go fr.home housed
+    where
+      Result : Home → Type 0
+      Result home = (WorksOn o.name home → ⊥) × ((f : ℕ) → home_claim p home sh o.name f (k f) ≡ k f) × NotIn o.name home
+
+      not_in : (from : Place) → IsBelow from ls → IsNoFieldOf o.name from
+      not_in (Register f i) b = tt
+      not_in (Entry j) b = tt
+      not_in (Field m f) b = ne_eqb o.name m (λ e. u.some (subst (λ x. SomeIn x ls) (sym e) b))
+      not_in (Elsewhere x) b = tt
+      not_in (Going j) b = tt
+
+      of : (home : Home) → IsHoused p cs ls home → Result home
+      of Static h = (λ x. x, λ f. refl, tt)
+      of AtRoot h = (λ x. x, λ f. refl, tt)
+      of (Inside x from) h =
+          let e = other_name from x h.there (outside_differs q from ls out (plain from) h.below) in
+          (λ same. true≢false (sym (eq-eqb x.name o.name same) ∙ e), λ f. ap (λ b. cond b (filled (field_thing p (thing_holder x.thing) f) (field sh f)) (k f)) e, not_in from h.below)
+
+      go : (home : Home) → IsHoused p cs ls fr.home → Untouched p k o.name (Method fr sh ∷ ls)
+      go home h = let r = of fr.home h in record {
+        some = λ s. ⊎_elim r.0 u.some s;
+        unclaimed = λ f. ap (λ x. home_claim p fr.home sh o.name f x) (u.unclaimed f) ∙ r.1 f;
+        none_in = (r.2, u.none_in);
+      }
+
+  pub untouched : (k : ℕ → Kind) (ls : List Layer) (back : Back) → ((from : Place) → NoFieldHere q from) → Outside q ls → Stack p t cs back ls → Untouched p k o.name ls
+  untouched k [] back plain out s = record { some = λ x. x; unclaimed = λ f. refl; none_in = tt }
+  untouched k (Method fr sh ∷ ls) back plain out s = untouched_method k fr sh ls plain (outside_less q (Method fr sh) ls out) s.2 (untouched k ls (Returns fr.method fr.home) plain (outside_less q (Method fr sh) ls out) s.4)
+  untouched k (Mark gv ∷ ls) back plain out s =
+      let u = untouched k ls (Caught gv) plain (outside_less q (Mark gv) ls out) s.1 in
+      record { some = u.some; unclaimed = u.unclaimed; none_in = u.none_in }
+  untouched k (Dying x ∷ ls) back plain out s =
+      let u = untouched k ls Gone plain (outside_less q (Dying x) ls out) s.2 in
+      record { some = u.some; unclaimed = λ f. ap (λ y. cond (x.name == o.name) Null y) (u.unclaimed f) ∙ ap (λ b. cond b Null (k f)) (other_name (Going (length (tasks_of ls))) x s.0.1 (going_differs q x ls out)); none_in = u.none_in }
+  untouched k (Dispatching w ∷ ls) back plain out s = subst (λ l. Untouched p k o.name (Dispatching w ∷ l)) (sym s.1) (record { some = λ x. x; unclaimed = λ f. refl; none_in = tt })
+
+-- what the link has found of a thing's destructor
+pub record Destroys (p : Image) (x : Thing) (m : ℕ) : Type 0 where
+  pub there : IsSome (method_at p m)
+  pub role : method_role p m ≡ Some Destruct
+  pub holder : holder_of p m ≡ thing_holder x
+  pub stays : leaves p m ≡ false
+  pub gives : gives_of p m ≡ Nothing
+  pub arguments : arguments_of p m ≡ []
+
+pub destroys : (p : Image) → IsWired p → (x : Thing) (m : ℕ) → destructor_of p x ≡ Some m → Destroys p x m
+destroys p wired (An_object_of c) m e =
+    let w = wired.destructor c m e in
+    record {
+      there = w.0;
+      role = w.1;
+      holder = ap (λ r. holder_by r (method_class p m)) w.1 ∙ ap (λ k. holder_by (Some Destruct) k) w.2;
+      stays = w.3;
+      gives = w.4;
+      arguments = w.5;
+    }
+destroys p wired Message m e = cc
+
+no_fields_declared : (p : Image) → IsWired p → (x : Thing) → destructor_of p x ≡ None → (f : ℕ) → field_thing p (thing_holder x) f ≡ None
+no_fields_declared p wired (An_object_of c) e f = wired.no_destructor c e f
+no_fields_declared p wired Message e f = refl
+
+-- with no arguments nothing is known of the registers as a method begins, and of the fields only where it constructs or is main
+pub entry_registers : (p : Image) (m : ℕ) → arguments_of p m ≡ [] → (i : ℕ) → register (entry_shape p m) i ≡ Unset
+entry_registers p m e i = ap (λ xs. at Unset (map argument_kind xs) i) e
+
+at_alike : (n : ℕ) (x : Filling) (i : ℕ) → at x (replicate n x) i ≡ x
+at_alike zero x i = refl
+at_alike (suc n) x zero = refl
+at_alike (suc n) x (suc i) = at_alike n x i
+
+destruct_fields : (p : Image) (m : ℕ) → method_role p m ≡ Some Destruct → (f : ℕ) → field (entry_shape p m) f ≡ Perhaps
+destruct_fields p m e f = ap (λ r. at Perhaps (entry_fields r) f) e ∙ at_alike 8 Perhaps f
+
+-- claimed once more at the place of a destruction
+abbrev Dies : Image → List Cell → Object → List Layer → Place → Kind
+Dies p cs o ls = changed (claim p (declared p cs) ls) (Going (length (tasks_of ls))) (Own o.thing Ready)
+
+null_of : (p : Image) (h : Place → Option Object) (x : Option Object) (k : Kind) → k ≡ Null → Fits p h x k → Fits p h x Null
+null_of p h x k e f = subst (λ k. Fits p h x k) e f
+
+pub unset_only : {k : Kind} → Weaker k Unset → k ≡ Unset
+unset_only alike = refl
+
+pub perhaps_only : {x : Filling} → WeakerFilling x Perhaps → x ≡ Perhaps
+perhaps_only alike_filling = refl
+
+module _ (p : Image) (t : Typing) (linked : IsWired p) (typed : IsTyped p t) (cs : List Cell) (o : Object) (ls : List Layer)
+    (fits : (r : Place) → Fits p (held cs) (held cs r) (Dies p cs o ls r))
+    (tidy : Tidy cs)
+    (stack : Stack p t cs Gone ls)
+    (there : held cs (Going (length (tasks_of ls))) ≡ Some o)
+    (lives : named cs o.name ≡ Some o)
+    (apart : Untouched p (λ f. filled (field_thing p (thing_holder o.thing) f) Perhaps) o.name ls) where
+  fields_claim : (f : ℕ) → claim p (declared p cs) ls (Field o.name f) ≡ filled (field_thing p (thing_holder o.thing) f) Perhaps
+  fields_claim f = claim_unclaimed p (declared p cs) ls o.name f (λ f. filled (field_thing p (thing_holder o.thing) f) Perhaps) apart.unclaimed (ap (λ x. declared_field p x f) lives)
+
+  fields_fit : (n f : ℕ) → (o.name == n) ≡ true → Fits p (held cs) (held cs (Field n f)) (filled (field_thing p (thing_holder o.thing) f) Perhaps)
+  fields_fit n f e = subst (λ m. Fits p (held cs) (held cs (Field m f)) (filled (field_thing p (thing_holder o.thing) f) Perhaps)) (eqb-true o.name n e) (subst (λ k. Fits p (held cs) (held cs (Field o.name f)) k) (fields_claim f) (fits (Field o.name f)))
+
+  -- with no destructor
+  bare : destructor_of p o.thing ≡ None → (r : Place) → Fits p (held cs) (held cs r) (claim p (declared p cs) (Dying o ∷ ls) r)
+  bare none (Register f i) = fits (Register f i)
+  bare none (Entry k) = fits (Entry k)
+  bare none (Field n f) = go (o.name == n) refl
+    where
+      go : (b : Bool) → (o.name == n) ≡ b → Fits p (held cs) (held cs (Field n f)) (cond b Null (claim p (declared p cs) ls (Field n f)))
+      go true e = subst (λ x. Fits p (held cs) (held cs (Field n f)) (filled x Perhaps)) (no_fields_declared p linked o.thing none f) (fields_fit n f e)
+      go false e = fits (Field n f)
+  bare none (Elsewhere Root) = fits (Elsewhere Root)
+  bare none (Going k) = subst (λ b. Fits p (held cs) (held cs (Going k)) (cond b (Own o.thing Ready) (claim p (declared p cs) ls (Going k)))) (tail (length (tasks_of ls) == k)) (fits (Going k))
+    where
+      tail : (b : Bool) → (b && true) ≡ b
+      tail true = refl
+      tail false = refl
+
+  -- with one
+  clothed : (m height : ℕ) (after : Shape) → Destroys p o.thing m → SaysNoMore after (entry_shape p m) → (r : Place) → Fits p (held cs) (held cs r) (claim p (declared p cs) (Method (frame_of m (Inside o (Going (length (tasks_of ls)))) height) after ∷ Dying o ∷ ls) r)
+  clothed m height after is w (Register f i) = go (length (tasks_of (Dying o ∷ ls)) == f) refl
+    where
+      go : (b : Bool) → (length (tasks_of (Dying o ∷ ls)) == f) ≡ b → Fits p (held cs) (held cs (Register f i)) (cond b (register after i) (claim p (declared p cs) ls (Register f i)))
+      go true e = subst (λ k. Fits p (held cs) (held cs (Register f i)) k) (sym (unset_only (subst (λ k. Weaker (register after i) k) (entry_registers p m is.arguments i) (w.registers i))))
+          (subst (λ x. Fits p (held cs) x Unset) (sym (fits_unowning p (held cs) _ Null refl (null_of p (held cs) _ _ (claim_register_above p cs ls f i (omega (arith, eqb-true _ _ e))) (fits (Register f i))))) tt)
+      go false e = fits (Register f i)
+  clothed m height after is w (Entry k) = subst (λ es. Fits p (held cs) (held cs (Entry k)) (entry_claim es (items_of ls) k (claim p (declared p cs) ls (Entry k)))) (sym w.entries) (fits (Entry k))
+  clothed m height after is w (Field n f) = go (o.name == n) refl
+    where
+      go : (b : Bool) → (o.name == n) ≡ b → Fits p (held cs) (held cs (Field n f)) (cond b (filled (field_thing p (thing_holder o.thing) f) (field after f)) (cond b Null (claim p (declared p cs) ls (Field n f))))
+      go true e = subst (λ x. Fits p (held cs) (held cs (Field n f)) (filled (field_thing p (thing_holder o.thing) f) x)) (sym (perhaps_only (subst (λ x. WeakerFilling (field after f) x) (destruct_fields p m is.role f) (w.fields f)))) (fields_fit n f e)
+      go false e = fits (Field n f)
+  clothed m height after is w (Elsewhere Root) = fits (Elsewhere Root)
+  clothed m height after is w (Going k) = subst (λ b. Fits p (held cs) (held cs (Going k)) (cond b (Own o.thing Ready) (claim p (declared p cs) ls (Going k)))) (tail (length (tasks_of ls) == k)) (fits (Going k))
+    where
+      tail : (b : Bool) → (b && true) ≡ b
+      tail true = refl
+      tail false = refl
+
+  -- so a destruction begins
+  pub begin : (s : State) (height : ℕ) → height ≡ length (items_of ls) → s.cells ≡ cs → s.tasks ≡ begun p o height (tasks_of ls) → s.items ≡ items_of ls → WellTyped p t s
+  begin s height high cells tasks items = go (destructor_of p o.thing) refl tasks
+    where
+      go : (d : Option ℕ) → destructor_of p o.thing ≡ d → s.tasks ≡ begun_by d o height (tasks_of ls) → WellTyped p t s
+      go None e tasks = record {
+        layers = Dying o ∷ ls;
+        tasks = tasks;
+        items = items;
+        good = subst (λ cs. Good p t cs (Dying o ∷ ls)) (sym cells) (record { stack = ((lives, there), tt, stack); fits = bare e; tidy = tidy });
+      }
+      go (Some m) e tasks =
+          let d = destroys p linked o.thing m e in
+          let leads = typed.entry m d.there in
+          let w = leads.2 in
+          let fr = frame_of m (Inside o (Going (length (tasks_of ls)))) height in
+          let good : Good p t cs (Method fr leads.0 ∷ Dying o ∷ ls) = record {
+            stack = (
+              leads.1,
+              record { words = λ i. subst (λ k. WordFits None k) (sym (unset_only (subst (λ k. Weaker (register leads.0 i) k) (entry_registers p m d.arguments i) (w.registers i)))) tt; holder = sym d.holder; height = high },
+              record { there = there; lives = lives; below = omega arith; ready = ap (λ b. is_ready_kind (cond b (Own o.thing Ready) (claim p (λ x. Null) ls (Going (length (tasks_of ls)))))) (eq-eqb (length (tasks_of ls)) _ refl) },
+              (tt, apart.none_in, apart.unclaimed),
+              ((lives, there), (d.stays, refl, ap is_destruct d.role, d.gives), stack),
+            );
+            fits = clothed m height leads.0 d w;
+            tidy = tidy;
+          } in
+          record {
+            layers = Method fr leads.0 ∷ Dying o ∷ ls;
+            tasks = tasks;
+            items = items ∙ ap (λ es. objects es (items_of ls)) (sym w.entries);
+            good = subst (λ cs. Good p t cs (Method fr leads.0 ∷ Dying o ∷ ls)) (sym cells) good;
+          }
+
+-- a thing goes from q to the place of its destruction
+module _ (p : Image) (t : Typing) (cs : List Cell) (o : Object) (q : Place) (ls ls' : List Layer)
+    (fits : (r : Place) → Fits p (held cs) (held cs r) (claim p (declared p cs) ls r))
+    (there : held cs q ≡ Some o)
+    (same : length (tasks_of ls) ≤ length (tasks_of ls'))
+    (claims : (r : Place) → claim p (declared p cs) ls' r ≡ changed (claim p (declared p cs) ls) q Null r) where
+  pub no_going : held cs (Going (length (tasks_of ls'))) ≡ None
+  no_going = fits_unowning p (held cs) _ Null refl (subst (λ k. Fits p (held cs) (held cs (Going (length (tasks_of ls')))) k) (claim_going_above p cs ls (length (tasks_of ls')) same) (fits (Going (length (tasks_of ls')))))
+
+  pub goes_there : held (moved q (Going (length (tasks_of ls'))) cs) (Going (length (tasks_of ls'))) ≡ Some o
+  goes_there = held_moved cs q (Going (length (tasks_of ls'))) (Going (length (tasks_of ls'))) no_going
+      ∙ ap (λ b. cond b (held cs q) (cond (same_place q (Going (length (tasks_of ls')))) None (held cs (Going (length (tasks_of ls')))))) (same_place_refl (Going (length (tasks_of ls')))) ∙ there
+
+  pub goes_fitting : (r : Place) → Fits p (held (moved q (Going (length (tasks_of ls'))) cs)) (held (moved q (Going (length (tasks_of ls'))) cs) r) (Dies p (moved q (Going (length (tasks_of ls'))) cs) o ls' r)
+  goes_fitting r =
+      subst (λ d. Fits p (held cs') (held cs' r) (cond (same_place g r) (Own o.thing Ready) (claim p d ls' r))) (sym (declared_moved p cs q g))
+      (go (same_place g r) refl (keep_fits p (held cs) (held cs') (claim p (declared p cs) ls) (changed (changed (claim p (declared p cs) ls) q Null) g (claim p (declared p cs) ls q)) q g (λ r. held_moved cs q g r no_going) (λ r. refl) (λ r x e k f. refl) fits r))
+    where
+      g : Place
+      g = Going (length (tasks_of ls'))
+
+      cs' : List Cell
+      cs' = moved q g cs
+
+      go : (b : Bool) → same_place g r ≡ b → Fits p (held cs') (held cs' r) (cond b (claim p (declared p cs) ls q) (changed (claim p (declared p cs) ls) q Null r)) → Fits p (held cs') (held cs' r) (cond b (Own o.thing Ready) (claim p (declared p cs) ls' r))
+      go true e f = subst (λ x. Fits p (held cs') (held cs' x) (Own o.thing Ready)) (same_place-true g r e) (subst (λ x. Fits p (held cs') x (Own o.thing Ready)) (sym goes_there) (stands_itself p o.thing, tt))
+      go false e f = subst (λ k. Fits p (held cs') (held cs' r) k) (sym (claims r)) f
+
+module _ (p : Image) (t : Typing) (c : Choice) (s : State) (fr : Frame) (sh : Shape) (ls : List Layer) (at_hand : At p t s fr sh ls) where
+  pub law_delete : IsWired p → IsTyped p t → (a : ℕ) → Law p t c s fr sh ls at_hand (Delete a)
+  law_delete linked typed a n leads = ((ap is_none none, (no_message (held s.cells (top ls a)) (register sh a) n.0 (kind_fits p t c s fr sh ls at_hand a), tt)), go (held s.cells (top ls a)) refl)
+    where
+      destroyed_object : (k : Kind) → may_be_destroyed k ≡ true → is_object_or_null k ≡ true
+      destroyed_object Unset e = cc
+      destroyed_object Word e = cc
+      destroyed_object Null e = refl
+      destroyed_object (Own x a) e = refl
+      destroyed_object (Maybe x a) e = refl
+
+      no_message : (o : Option Object) (k : Kind) → may_be_destroyed k ≡ true → Fits p (held s.cells) o k → is_no_message o ≡ true
+      no_message None k e f = refl
+      no_message (Some o) Unset e f = absurd f
+      no_message (Some o) Word e f = absurd f
+      no_message (Some o) Null e f = absurd f
+      no_message (Some o) (Own x a) e f = ap is_object (stands_same p o.thing x f.0) ∙ e
+      no_message (Some o) (Maybe x a) e f = ap is_object (stands_same p o.thing x f.0) ∙ e
+
+      cs : List Cell
+      cs = s.cells
+
+      none : word fr a ≡ None
+      none = no_word p t c s fr sh ls at_hand a (destroyed_object (register sh a) n.0)
+
+      fr' : Frame
+      fr' = set_word fr a None
+
+      sh' : Shape
+      sh' = set_register sh a Null
+
+      words : (i : ℕ) → WordFits (word (set_word fr a None) i) (register (set_register sh a Null) i)
+      words = words_set fr.words sh a None Null at_hand.good.stack.1.words refl
+
+      claims : (r : Place) → claim p (declared p cs) (Method fr' sh' ∷ ls) r ≡ changed (claim p (declared p cs) (Method fr sh ∷ ls)) (top ls a) Null r
+      claims r = claim_frame p (declared p cs) fr fr' sh' ls r refl ∙ claim-set_register p (declared p cs) fr sh ls a Null r
+
+      go : (x : Option Object) → held s.cells (top ls a) ≡ x → WellTyped p t (deleted p c fr (tasks_of ls) s x a)
+      go None e = well p t c s fr sh ls at_hand (deleted p c fr (tasks_of ls) s None a) (next fr') sh' refl at_hand.items
+          (settle p t cs (next fr') sh' ls (relabel p t cs fr (next fr') sh sh' ls (top ls a) Null (fitted p t cs fr sh ls at_hand.good) refl refl refl (subst (λ o. Fits p (held cs) o Null) (sym e) tt) (λ r. claim-set_register p (declared p cs) fr sh ls a Null r) words) leads.0)
+      go (Some o) e =
+          let q = top ls a in
+          let g = Going (length (Run fr ∷ tasks_of ls)) in
+          let before = Method fr sh ∷ ls in
+          let below = Method fr' sh' ∷ ls in
+          let free = no_going p t cs o q before below at_hand.good.fits e (omega arith) claims in
+          let housed = housed_relocated p cs q g ls fr.home free (omega arith) (omega arith) (λ o from e. (tt, tt)) at_hand.good.stack.2 in
+          let k : ℕ → Kind = λ f. filled (field_thing p (thing_holder o.thing) f) Perhaps in
+          begin p t linked typed (moved q g cs) o below
+          (goes_fitting p t cs o q before below at_hand.good.fits e (omega arith) claims)
+          (tidy_moved cs q g free at_hand.good.tidy)
+          (leads.0, record { words = words; holder = at_hand.good.stack.1.holder; height = at_hand.good.stack.1.height }, housed, at_hand.good.stack.3, stack_moved p t cs q g ls _ free (omega arith) (omega arith) at_hand.good.stack.4)
+          (goes_there p t cs o q before below at_hand.good.fits e (omega arith) claims)
+          (named_moved cs q g o.name ∙ held_lives cs q o at_hand.good.tidy e)
+          (untouched_method p t cs q o at_hand.good.tidy e k fr' sh' ls (λ from. tt) (omega arith) at_hand.good.stack.2 (untouched p t cs q o at_hand.good.tidy e k ls _ (λ from. tt) (omega arith) at_hand.good.stack.4))
+          (deleted p c fr (tasks_of ls) s (Some o) a) (length s.items) (ap length at_hand.items) refl refl at_hand.items

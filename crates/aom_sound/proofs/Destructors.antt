@@ -1,0 +1,90 @@
+-- A destructor returns: its cell goes next.
+use Rattle.std.proofs.Common.{Bool, List, None, Option, Some, [], ap, arith, cond, false, length, refl, subst, suc, sym, true, zero, ℕ, ◌==◌, ◌∙◌, ◌∷◌, ◌≡◌}
+use Rattle.std.proofs.lemmas.Bool.{and_parts, eqb-true}
+use Rattle.std.specs.Prelude.{slice_get}
+use Rattle.aom_image.specs.Image.{Image}
+use Rattle.aom_image.specs.Views.{fields_of}
+use Rattle.aom_image.specs.declared.instr.Instr.TheVariants.{Return}
+use Rattle.aom_image.specs.declared.method.Thing.{Thing}
+use Rattle.aom_image.specs.declared.method.Thing.TheVariants.{Message, Object as An_object_of}
+use Rattle.aom_shape.specs.Calls.{all_empty, fields_done, result_moved}
+use Rattle.aom_shape.specs.Kinds.{field, filled, is_empty, no_entry, none_owns, register}
+use Rattle.aom_shape.specs.Needs.{AllTrue}
+use Rattle.aom_shape.specs.Shape.{Shape}
+use Rattle.aom_shape.specs.Tables.{at}
+use Rattle.aom_shape.specs.Things.{field_thing, holder_of}
+use Rattle.aom_shape.specs.Typing.{Typing}
+use Rattle.aom_shape.specs.declared.kind.Filling.{Filling}
+use Rattle.aom_shape.specs.declared.kind.Filling.TheVariants.{Empty, Full, Perhaps}
+use Rattle.aom_shape.specs.declared.kind.Kind.TheVariants.{Null}
+use Rattle.aom_sound.proofs.Claimed.{claim_register_above}
+use Rattle.aom_sound.proofs.Finishing.{no_entries, none_owns_at, return_needs, returnable, same_items}
+use Rattle.aom_sound.proofs.Going.{no_fields, nothing_in}
+use Rattle.aom_sound.proofs.Straight.{At, Law, fits_unowning}
+use Rattle.aom_sound.specs.Calls.{home_name, result_needs}
+use Rattle.aom_sound.specs.Claims.{Dying, Layer, claim, declared, entry_claim, home_claim, items_of, root_claim, tasks_of}
+use Rattle.aom_sound.specs.Destruction.{owns_nothing}
+use Rattle.aom_sound.specs.Places.{Elsewhere, Entry, Field, Going, Object, Place, Register, Root, held}
+use Rattle.aom_sound.specs.State.{Choice, Frame, Inside, State, home_holder, thing_holder}
+use Rattle.aom_sound.specs.WellTyped.{Fits, Good}
+
+empty_at : (ts : List Thing) (xs : List Filling) (f : ℕ) (y : Thing) → all_empty ts xs ≡ true → slice_get ts f ≡ Some y → is_empty (at Perhaps xs f) ≡ true
+empty_at [] xs f y e h = absurd (nothing_there f h)
+  where
+    nothing_there : (f : ℕ) → slice_get {X = Thing} [] f ≡ Some y → ⊥
+    nothing_there f h = cc
+empty_at (t ∷ ts) [] f y e h = cc
+empty_at (t ∷ ts) (x ∷ xs) zero y e h = (and_parts _ _ e).0
+empty_at (t ∷ ts) (x ∷ xs) (suc f) y e h = empty_at ts xs f y (and_parts _ _ e).1 h
+
+-- a field that is declared is empty where the fields are done
+empty_field : (p : Image) (x : Thing) (xs : List Filling) (f : ℕ) (y : Thing) → fields_done p true (thing_holder x) xs ≡ true → field_thing p (thing_holder x) f ≡ Some y → is_empty (at Perhaps xs f) ≡ true
+empty_field p (An_object_of c) xs f y done e = empty_at (fields_of p c) xs f y done e
+empty_field p Message xs f y done e = cc
+
+module _ (p : Image) (t : Typing) (c : Choice) (s : State) (fr : Frame) (sh : Shape) (o : Object) (ls : List Layer) (at_hand : At p t s fr sh (Dying o ∷ ls)) where
+  -- what the rule says of the fields, as the claim of the cell that goes
+  null_field : (f : ℕ) (x : Option Object) → fields_done p true (thing_holder o.thing) sh.fields ≡ true → Fits p (held s.cells) x (filled (field_thing p (thing_holder o.thing) f) (field sh f)) → Fits p (held s.cells) x Null
+  null_field f x done h = go (field_thing p (thing_holder o.thing) f) refl h
+    where
+      go : (k : Option Thing) → field_thing p (thing_holder o.thing) f ≡ k → Fits p (held s.cells) x (filled k (field sh f)) → Fits p (held s.cells) x Null
+      go None e h = h
+      go (Some y) e h = empty (field sh f) (empty_field p o.thing sh.fields f y done e) h
+        where
+          empty : (z : Filling) → is_empty z ≡ true → Fits p (held s.cells) x (filled (Some y) z) → Fits p (held s.cells) x Null
+          empty Empty e h = h
+          empty Full e h = cc
+          empty Perhaps e h = cc
+
+  fits_dying : fr.home ≡ Inside o (Going (length (tasks_of ls))) → no_entry sh.entries ≡ true → none_owns sh.registers ≡ true → fields_done p true (thing_holder o.thing) sh.fields ≡ true → (r : Place) → Fits p (held s.cells) (held s.cells r) (claim p (declared p s.cells) (Dying o ∷ ls) r)
+  fits_dying eh e n done (Register f i) = go (length (tasks_of (Dying o ∷ ls)) == f) refl (at_hand.good.fits (Register f i))
+    where
+      go : (b : Bool) → (length (tasks_of (Dying o ∷ ls)) == f) ≡ b → Fits p (held s.cells) (held s.cells (Register f i)) (cond b (register sh i) (claim p (declared p s.cells) ls (Register f i))) → Fits p (held s.cells) (held s.cells (Register f i)) (claim p (declared p s.cells) ls (Register f i))
+      go true e h = subst (λ k. Fits p (held s.cells) (held s.cells (Register f i)) k) (sym (claim_register_above p s.cells ls f i (omega (arith, eqb-true _ _ e)))) (subst (λ x. Fits p (held s.cells) x Null) (sym (fits_unowning p (held s.cells) _ (register sh i) (none_owns_at sh.registers i n) h)) tt)
+      go false e h = h
+  fits_dying eh e n done (Entry k) = subst (λ es. Fits p (held s.cells) (held s.cells (Entry k)) (entry_claim es (items_of ls) k (claim p (declared p s.cells) ls (Entry k)))) (no_entries sh.entries e) (at_hand.good.fits (Entry k))
+  fits_dying eh e n done (Field m f) = go (o.name == m) (subst (λ h. Fits p (held s.cells) (held s.cells (Field m f)) (home_claim p h sh m f (cond (o.name == m) Null (claim p (declared p s.cells) ls (Field m f))))) eh (at_hand.good.fits (Field m f)))
+    where
+      go : (b : Bool) → Fits p (held s.cells) (held s.cells (Field m f)) (cond b (filled (field_thing p (thing_holder o.thing) f) (field sh f)) (cond b Null (claim p (declared p s.cells) ls (Field m f)))) → Fits p (held s.cells) (held s.cells (Field m f)) (cond b Null (claim p (declared p s.cells) ls (Field m f)))
+      go true h = null_field f (held s.cells (Field m f)) done h
+      go false h = h
+  fits_dying eh e n done (Elsewhere Root) = subst (λ h. Fits p (held s.cells) (held s.cells (Elsewhere Root)) (root_claim p h sh (claim p (declared p s.cells) ls (Elsewhere Root)))) eh (at_hand.good.fits (Elsewhere Root))
+  fits_dying eh e n done (Going k) = at_hand.good.fits (Going k)
+
+  pub law_destructor : (a : ℕ) → Law p t c s fr sh (Dying o ∷ ls) at_hand (Return a)
+  law_destructor a n leads =
+      let r = returnable p fr sh a n in
+      let above = at_hand.good.stack.4.1 in
+      let holder : holder_of p fr.method ≡ thing_holder o.thing = sym at_hand.good.stack.1.holder ∙ ap home_holder above.1 in
+      let done : fields_done p true (thing_holder o.thing) sh.fields ≡ true = ap (λ k. fields_done p true k sh.fields) (sym holder) ∙ ap (λ b. fields_done p b (holder_of p fr.method) sh.fields) (sym above.2) ∙ r.fields in
+      let free : none_owns sh.registers ≡ true = ap (λ g. none_owns (result_moved p fr.method fr.place sh g a).registers) (sym above.3) ∙ r.free in
+      let good : Good p t s.cells (Dying o ∷ ls) = record {
+        stack = (at_hand.good.stack.4.0, tt, at_hand.good.stack.4.2);
+        fits = fits_dying above.1 r.entries free done;
+        tidy = at_hand.good.tidy;
+      } in (
+        return_needs p t c s fr sh (Dying o ∷ ls) at_hand a r
+            (subst (λ g. AllTrue (result_needs p fr (tasks_of (Dying o ∷ ls)) s g a)) (sym above.3) tt)
+            (ap (λ h. owns_nothing s.cells (home_name h)) above.1 ∙ nothing_in s.cells o.name (no_fields p t s.cells o ls good), tt),
+        record { layers = Dying o ∷ ls; tasks = refl; items = same_items p t c s fr sh (Dying o ∷ ls) at_hand a r; good = good },
+      )

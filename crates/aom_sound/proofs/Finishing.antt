@@ -1,0 +1,176 @@
+-- A method is about to return: nothing but its result is owned, its entries are gone, and the layers below claim the rest.
+use Rattle.std.proofs.Common.{Bool, List, None, Option, Some, [], ap, arith, cond, false, inl, inr, length, refl, subst, suc, sym, true, zero, ℕ, ◌&&◌, ◌==◌, ◌∙◌, ◌∷◌, ◌≡◌}
+use Rattle.std.proofs.lemmas.Bool.{and_from, and_parts, cases_Bool, eq-eqb, eqb-true, true≢false}
+use Rattle.std.specs.Prelude.{not, ◌++◌}
+use Rattle.aom_image.specs.Image.{Image}
+use Rattle.aom_image.specs.Views.{gives_of}
+use Rattle.aom_image.specs.declared.instr.Instr.TheVariants.{Return}
+use Rattle.aom_image.specs.declared.method.Gives.{Gives}
+use Rattle.aom_image.specs.declared.method.Gives.TheVariants.{Left, Maybe as A_maybe, Nothing, Own as An_own, Word as A_word}
+use Rattle.aom_image.specs.declared.method.Thing.{Thing}
+use Rattle.aom_shape.specs.Calls.{fields_done, is_destructor, result_moved, rule_result}
+use Rattle.aom_shape.specs.Kinds.{field, filled, is_unowning, no_entry, none_owns, register, set_register}
+use Rattle.aom_shape.specs.Needs.{AllTrue}
+use Rattle.aom_shape.specs.Rules.{rule_needs}
+use Rattle.aom_shape.specs.Shape.{Shape}
+use Rattle.aom_shape.specs.Tables.{at}
+use Rattle.aom_shape.specs.Things.{Program, field_thing, holder_of}
+use Rattle.aom_shape.specs.Typing.{Typing}
+use Rattle.aom_shape.specs.declared.kind.Age.TheVariants.{Ready}
+use Rattle.aom_shape.specs.declared.kind.Entry.{Entry as Pushed}
+use Rattle.aom_shape.specs.declared.kind.Filling.{Filling}
+use Rattle.aom_shape.specs.declared.kind.Filling.TheVariants.{Empty, Full, Perhaps}
+use Rattle.aom_shape.specs.declared.kind.Kind.{Kind}
+use Rattle.aom_shape.specs.declared.kind.Kind.TheVariants.{Maybe, Null, Own, Unset}
+use Rattle.aom_sound.proofs.Claimed.{claim_register_above, claim_unclaimed}
+use Rattle.aom_sound.proofs.Destroying.{eqb_comm}
+use Rattle.aom_sound.proofs.Maps.{at-put_at, front_free}
+use Rattle.aom_sound.proofs.Straight.{At, fits_unowning, free_register, top}
+use Rattle.aom_sound.specs.Calls.{end_needs, is_register_but, none_owns_but, result_needs, result_source}
+use Rattle.aom_sound.specs.Claims.{Dispatching, Dying, Layer, Mark, Method, claim, declared, declared_field, entry_claim, home_claim, items_of, objects, root_claim, tasks_of}
+use Rattle.aom_sound.specs.Moves.{needs}
+use Rattle.aom_sound.specs.Places.{Cell, Elsewhere, Entry, Field, Going, Object, Place, Register, Root, held, same_place}
+use Rattle.aom_sound.specs.State.{AtRoot, Choice, Frame, Home, Inside, State, Static, thing_holder}
+use Rattle.aom_sound.specs.WellTyped.{Fits, IsApart, IsHoused, NotAtRoot, RootUnclaimed, Unclaimed, past_going}
+
+pub none_owns_at : (ks : List Kind) (i : ℕ) → none_owns ks ≡ true → is_unowning (at Unset ks i) ≡ true
+none_owns_at [] i e = refl
+none_owns_at (k ∷ ks) zero e = (and_parts _ _ e).0
+none_owns_at (k ∷ ks) (suc i) e = none_owns_at ks i (and_parts _ _ e).1
+
+pub no_entries : (es : List Pushed) → no_entry es ≡ true → es ≡ []
+no_entries [] e = refl
+no_entries (x ∷ es) e = cc
+
+-- needs in two parts
+pub all_parts : {W : Type 0} (xs ys : List (Bool × W)) → AllTrue (xs ++ ys) → AllTrue xs × AllTrue ys
+all_parts [] ys h = (tt, h)
+all_parts (x ∷ xs) ys h = let r = all_parts xs ys h.1 in ((h.0, r.0), r.1)
+
+pub all_join : {W : Type 0} (xs ys : List (Bool × W)) → AllTrue xs → AllTrue ys → AllTrue (xs ++ ys)
+all_join [] ys h g = g
+all_join (x ∷ xs) ys h g = (h.0, all_join xs ys h.1 g)
+
+-- the register of the result is spared
+abbrev pub spares : Option ℕ → ℕ → Bool
+spares None i = false
+spares (Some a) i = i == a
+
+none_owns_from : (cs : List Cell) (d : ℕ) (spared : Option ℕ) → ((i : ℕ) → spares spared i ≡ false → held cs (Register d i) ≡ None) → none_owns_but cs d spared ≡ true
+none_owns_from [] d spared h = refl
+none_owns_from (c ∷ cs) d spared h = and_from _ _ (go spared c.owner h) (none_owns_from cs d spared (λ i n. (front_free _ _ _ (h i n)).1))
+  where
+    here : (f j : ℕ) → (f == d) ≡ true → cond (same_place (Register f j) (Register d j)) (Some c.object) (held cs (Register d j)) ≡ None → ⊥
+    here f j e h = true≢false (sym (ap (λ b. b && (j == j)) e ∙ eq-eqb j j refl) ∙ (front_free _ _ _ h).0)
+
+    go : (spared : Option ℕ) (r : Place) → ((i : ℕ) → spares spared i ≡ false → cond (same_place r (Register d i)) (Some c.object) (held cs (Register d i)) ≡ None) → not (is_register_but d spared r) ≡ true
+    go None (Register f j) h = elim (cases_Bool (f == d)) as (λ x. not (f == d) ≡ true) [
+      | inl e ↦ absurd (here f j e (h j refl))
+      | inr e ↦ ap not e
+    ]
+    go (Some a) (Register f j) h = elim (cases_Bool (f == d)) as (λ x. not ((f == d) && not (j == a)) ≡ true) [
+      | inl e ↦ elim (cases_Bool (j == a)) as (λ x. not ((f == d) && not (j == a)) ≡ true) [
+        | inl same ↦ ap (λ b. not (b && not (j == a))) e ∙ ap (λ b. not (not b)) same
+        | inr other ↦ absurd (here f j e (h j other))
+      ]
+      | inr e ↦ ap (λ b. not (b && not (j == a))) e
+    ]
+    go None (Entry k) h = refl
+    go None (Field n f) h = refl
+    go None (Going k) h = refl
+    go None (Elsewhere o) h = refl
+    go (Some a) (Entry k) h = refl
+    go (Some a) (Field n f) h = refl
+    go (Some a) (Going k) h = refl
+    go (Some a) (Elsewhere o) h = refl
+
+-- what holds of a field holds when nothing is known of it
+pub perhaps_fits : (p : Image) (h : Place → Option Object) (o : Option Object) (x : Option Thing) (y : Filling) → Fits p h o (filled x y) → Fits p h o (filled x Perhaps)
+perhaps_fits p h o None y g = g
+perhaps_fits p h o (Some x) Empty g = subst (λ o. Fits p h o (Maybe x Ready)) (sym (fits_unowning p h o Null refl g)) tt
+perhaps_fits p h o (Some x) Full g = full o g
+  where
+    full : (o : Option Object) → Fits p h o (Own x Ready) → Fits p h o (Maybe x Ready)
+    full None g = tt
+    full (Some y) g = g
+perhaps_fits p h o (Some x) Perhaps g = g
+
+pub claim_root : (p : Image) (d : Place → Kind) (ls : List Layer) → RootUnclaimed ls → claim p d ls (Elsewhere Root) ≡ d (Elsewhere Root)
+claim_root p d [] u = refl
+claim_root p d (Method fr sh ∷ ls) u = go fr.home u.0 ∙ claim_root p d ls u.1
+  where
+    go : (h : Home) → NotAtRoot h → root_claim p h sh (claim p d ls (Elsewhere Root)) ≡ claim p d ls (Elsewhere Root)
+    go Static n = refl
+    go AtRoot n = absurd n
+    go (Inside o from) n = refl
+claim_root p d (Mark gv ∷ ls) u = claim_root p d ls u
+claim_root p d (Dying o ∷ ls) u = claim_root p d ls u
+claim_root p d (Dispatching w ∷ ls) u = claim_root p d ls u
+
+-- a method ends
+pub ended : (p : Image) (cs : List Cell) (fr : Frame) (sh : Shape) (ls : List Layer) → IsHoused p cs ls fr.home → IsApart p fr.home ls → past_going ls ≡ ls → no_entry sh.entries ≡ true → none_owns sh.registers ≡ true → (r : Place) (h : Place → Option Object) (o : Option Object) → Fits p h o (claim p (declared p cs) (Method fr sh ∷ ls) r) → Fits p h o (claim p (declared p cs) ls r)
+ended p cs fr sh ls housed apart at_top e n (Register f i) h o fits = go (length (tasks_of ls) == f) refl fits
+  where
+    go : (b : Bool) → (length (tasks_of ls) == f) ≡ b → Fits p h o (cond b (register sh i) (claim p (declared p cs) ls (Register f i))) → Fits p h o (claim p (declared p cs) ls (Register f i))
+    go true e fits = subst (λ k. Fits p h o k) (sym (claim_register_above p cs ls f i (omega (arith, eqb-true _ _ e)))) (subst (λ x. Fits p h x Null) (sym (fits_unowning p h o (register sh i) (none_owns_at sh.registers i n) fits)) tt)
+    go false e fits = fits
+ended p cs fr sh ls housed apart at_top e n (Entry k) h o fits = subst (λ es. Fits p h o (entry_claim es (items_of ls) k (claim p (declared p cs) ls (Entry k)))) (no_entries sh.entries e) fits
+ended p cs fr sh ls housed apart at_top e n (Field m f) h o fits = go fr.home housed apart fits
+  where
+    go : (home : Home) → IsHoused p cs ls home → IsApart p home ls → Fits p h o (home_claim p home sh m f (claim p (declared p cs) ls (Field m f))) → Fits p h o (claim p (declared p cs) ls (Field m f))
+    go Static hs ap' fits = fits
+    go AtRoot hs ap' fits = fits
+    go (Inside x from) hs ap' fits = cases (x.name == m) refl fits
+      where
+        cases : (b : Bool) → (x.name == m) ≡ b → Fits p h o (cond b (filled (field_thing p (thing_holder x.thing) f) (field sh f)) (claim p (declared p cs) ls (Field m f))) → Fits p h o (claim p (declared p cs) ls (Field m f))
+        cases false e fits = fits
+        cases true e fits =
+            let same = eqb-true x.name m e in
+            let unclaimed = subst (λ l. Unclaimed p (λ f. filled (field_thing p (thing_holder x.thing) f) Perhaps) x.name l) at_top ap'.2 in
+            let claims = claim_unclaimed p (declared p cs) ls x.name f (λ f. filled (field_thing p (thing_holder x.thing) f) Perhaps) unclaimed (ap (λ y. declared_field p y f) hs.lives) in
+            subst (λ k. Fits p h o k) (sym claims ∙ ap (λ y. claim p (declared p cs) ls (Field y f)) same) (perhaps_fits p h o (field_thing p (thing_holder x.thing) f) (field sh f) fits)
+ended p cs fr sh ls housed apart at_top e n (Elsewhere Root) h o fits = go fr.home apart fits
+  where
+    go : (home : Home) → IsApart p home ls → Fits p h o (root_claim p home sh (claim p (declared p cs) ls (Elsewhere Root))) → Fits p h o (claim p (declared p cs) ls (Elsewhere Root))
+    go Static ap' fits = fits
+    go AtRoot ap' fits = subst (λ k. Fits p h o k) (sym (claim_root p (declared p cs) ls ap'.0)) (perhaps_fits p h o (field_thing p Program 0) (field sh 0) fits)
+    go (Inside x from) ap' fits = fits
+ended p cs fr sh ls housed apart at_top e n (Going k) h o fits = fits
+
+-- what the rule says of a return
+pub record Returnable (p : Image) (fr : Frame) (sh : Shape) (a : ℕ) : Type 0 where
+  pub result : AllTrue (rule_result p fr.method fr.place sh (gives_of p fr.method) a)
+  pub entries : no_entry sh.entries ≡ true
+  pub free : none_owns (result_moved p fr.method fr.place sh (gives_of p fr.method) a).registers ≡ true
+  pub fields : fields_done p (is_destructor p fr.method) (holder_of p fr.method) sh.fields ≡ true
+
+pub returnable : (p : Image) (fr : Frame) (sh : Shape) (a : ℕ) → AllTrue (rule_needs p fr.method fr.place sh (Return a)) → Returnable p fr sh a
+returnable p fr sh a n =
+    let parts = all_parts (rule_result p fr.method fr.place sh (gives_of p fr.method) a) _ n in
+    record { result = parts.0; entries = parts.1.0; free = parts.1.1.0; fields = parts.1.1.1.0 }
+
+module _ (p : Image) (t : Typing) (c : Choice) (s : State) (fr : Frame) (sh : Shape) (ls : List Layer) (at_hand : At p t s fr sh ls) (a : ℕ) (r : Returnable p fr sh a) where
+  -- the cleanup stack is as it was
+  pub same_items : s.items ≡ items_of ls
+  same_items = at_hand.items ∙ ap (λ es. objects es (items_of ls)) (no_entries sh.entries r.entries)
+
+  spared : (g : Gives) → none_owns (result_moved p fr.method fr.place sh g a).registers ≡ true → (i : ℕ) → spares (result_source g a) i ≡ false → held s.cells (top ls i) ≡ None
+  spared Nothing n i other = free_register p t c s fr sh ls at_hand i (none_owns_at sh.registers i n)
+  spared A_word n i other = free_register p t c s fr sh ls at_hand i (none_owns_at sh.registers i n)
+  spared (An_own x) n i other = free_register p t c s fr sh ls at_hand i (unmoved i n other)
+    where
+      unmoved : (i : ℕ) → none_owns (set_register sh a Null).registers ≡ true → (i == a) ≡ false → is_unowning (register sh i) ≡ true
+      unmoved i n other = sym (ap is_unowning (at-put_at Unset sh.registers a i Null ∙ ap (λ b. cond b Null (register sh i)) (eqb_comm a i ∙ other))) ∙ none_owns_at (set_register sh a Null).registers i n
+  spared (A_maybe x) n i other = free_register p t c s fr sh ls at_hand i (unmoved i n other)
+    where
+      unmoved : (i : ℕ) → none_owns (set_register sh a Null).registers ≡ true → (i == a) ≡ false → is_unowning (register sh i) ≡ true
+      unmoved i n other = sym (ap is_unowning (at-put_at Unset sh.registers a i Null ∙ ap (λ b. cond b Null (register sh i)) (eqb_comm a i ∙ other))) ∙ none_owns_at (set_register sh a Null).registers i n
+  spared (Left x) n i other = free_register p t c s fr sh ls at_hand i (none_owns_at sh.registers i n)
+
+  -- the needs of a return, from those of its result and of what it returns to
+  pub return_needs : AllTrue (result_needs p fr (tasks_of ls) s (gives_of p fr.method) a) → AllTrue (end_needs p fr (tasks_of ls) s (tasks_of ls)) → AllTrue (needs p c fr (tasks_of ls) s (Return a))
+  return_needs result end =
+      all_join (result_needs p fr (tasks_of ls) s (gives_of p fr.method) a) _ result (
+        eq-eqb _ _ (ap length same_items ∙ sym at_hand.good.stack.1.height),
+        (none_owns_from s.cells (length (tasks_of ls)) (result_source (gives_of p fr.method) a) (spared (gives_of p fr.method) r.free), end),
+      )

@@ -1,0 +1,17 @@
+pub mod Maps
+pub mod Things
+pub mod Claimed
+pub mod Straight
+pub mod Moves
+pub mod Creation
+pub mod Destroying
+pub mod Going
+pub mod Finishing
+pub mod Destructors
+pub mod Returning
+pub mod Steps
+pub mod Booting
+pub mod Owners
+pub mod Soundness
+pub mod Wiring
+pub mod Stuck

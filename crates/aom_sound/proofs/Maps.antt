@@ -1,0 +1,202 @@
+-- What a move of ownership does to the places, and lists that are read and written by place.
+use Rattle.std.proofs.Common.{Bool, List, None, Option, Some, [], ap, cond, false, refl, subst, suc, sym, true, zero, ℕ, ◌==◌, ◌∙◌, ◌∷◌, ◌≡◌}
+use Rattle.std.proofs.lemmas.Bool.{and_from, and_parts, eq-eqb, eqb-true, false≢true, ne_eqb, true≢false}
+use Rattle.aom_shape.specs.Tables.{at, put_at}
+use Rattle.aom_sound.specs.Places.{Cell, Elsewhere, Entry, Field, Going, Object, Other, Place, Register, Root, Tidy, changed, held, moved, named, place_inner, place_kind, place_outer, same_place, without}
+use lib.Dec.{eqb-suc-suc, eqb-suc-zero, eqb-zero-suc}
+
+-- equal numbers, equal places
+pub other_from : ℕ → Other
+other_from a = Root
+
+pub place_from : ℕ → ℕ → ℕ → Place
+place_from zero a b = Register a b
+place_from (suc zero) a b = Entry a
+place_from (suc (suc zero)) a b = Field a b
+place_from (suc (suc (suc zero))) a b = Going a
+place_from (suc (suc (suc (suc k)))) a b = Elsewhere (other_from a)
+
+place_again : (p : Place) → place_from (place_kind p) (place_outer p) (place_inner p) ≡ p
+unfolding place_from other_from
+place_again (Register f r) = refl
+place_again (Entry k) = refl
+place_again (Field n f) = refl
+place_again (Elsewhere Root) = refl
+place_again (Going k) = refl
+
+pub same_place-true : (p q : Place) → same_place p q ≡ true → p ≡ q
+same_place-true p q e =
+    let a = and_parts _ _ e in
+    let b = and_parts _ _ a.1 in
+    sym (place_again p)
+    ∙ ap (λ k. place_from k (place_outer p) (place_inner p)) (eqb-true _ _ a.0)
+    ∙ ap (λ k. place_from (place_kind q) k (place_inner p)) (eqb-true _ _ b.0)
+    ∙ ap (λ k. place_from (place_kind q) (place_outer q) k) (eqb-true _ _ b.1)
+    ∙ place_again q
+
+pub same_place_refl : (p : Place) → same_place p p ≡ true
+same_place_refl p =
+    and_from _ _ (eq-eqb (place_kind p) _ refl) (and_from _ _ (eq-eqb (place_outer p) _ refl) (eq-eqb (place_inner p) _ refl))
+
+pub same_place_comm : (p q : Place) → same_place p q ≡ same_place q p
+same_place_comm p q = go (same_place p q) (same_place q p) refl refl
+  where
+    go : (b c : Bool) → same_place p q ≡ b → same_place q p ≡ c → b ≡ c
+    go true true e f = refl
+    go false false e f = refl
+    go true false e f = sym (subst (λ r. same_place r p ≡ true) (same_place-true p q e) (same_place_refl p)) ∙ f
+    go false true e f = sym e ∙ subst (λ r. same_place r q ≡ true) (same_place-true q p f) (same_place_refl q)
+
+-- where one place is a third, the other is as well
+pub same_place_along : (p q r : Place) → same_place p q ≡ true → same_place p r ≡ same_place q r
+same_place_along p q r e = ap (λ x. same_place x r) (same_place-true p q e)
+
+cond_same : {A : Type 0} (b : Bool) (x : A) → cond b x x ≡ x
+cond_same true x = refl
+cond_same false x = refl
+
+some_none : {A : Type 0} {x : A} → Some x ≡ None → ⊥
+some_none e = cc
+
+-- the front cell does not stand where nothing is held
+pub front_free : (b : Bool) (o : Object) (rest : Option Object) → cond b (Some o) rest ≡ None → (b ≡ false) × (rest ≡ None)
+front_free true o rest e = absurd (some_none e)
+front_free false o rest e = (refl, e)
+
+-- what the places hold after p's thing moved to q
+abbrev pub transfer : Place → Place → (Place → Option Object) → Place → Option Object
+transfer p q h = changed (changed h p None) q (h p)
+
+pub held_moved : (cs : List Cell) (p q r : Place) → held cs q ≡ None → held (moved p q cs) r ≡ transfer p q (held cs) r
+held_moved [] p q r free = sym (ap (λ x. cond (same_place q r) None x) (cond_same (same_place p r) None) ∙ cond_same (same_place q r) None)
+held_moved (c ∷ cs) p q r free =
+    let f = front_free _ _ _ free in
+    first (same_place c.owner p) refl f.0 (held_moved cs p q r f.1)
+  where
+    second : (x y z : Bool) → same_place c.owner p ≡ false → same_place c.owner q ≡ false → same_place c.owner r ≡ x → same_place q r ≡ y → same_place p r ≡ z → held (moved p q cs) r ≡ cond y (held cs p) (cond z None (held cs r)) → cond x (Some c.object) (held (moved p q cs) r) ≡ cond y (held cs p) (cond z None (cond x (Some c.object) (held cs r)))
+    second false y z np nq e f g ih = ih
+    second true false false np nq e f g ih = refl
+    second true true z np nq e f g ih = absurd (true≢false (sym (same_place_along c.owner r q e ∙ same_place_comm r q ∙ f) ∙ nq))
+    second true false true np nq e f g ih = absurd (true≢false (sym (same_place_along c.owner r p e ∙ same_place_comm r p ∙ g) ∙ np))
+
+    third : (y z : Bool) → same_place c.owner r ≡ z → held (moved p q cs) r ≡ cond y (held cs p) (cond z None (held cs r)) → cond y (Some c.object) (held (moved p q cs) r) ≡ cond y (Some c.object) (cond z None (cond (same_place c.owner r) (Some c.object) (held cs r)))
+    third true z e ih = refl
+    third false true e ih = ih
+    third false false e ih = ih ∙ sym (ap (λ b. cond b (Some c.object) (held cs r)) e)
+
+    first : (b : Bool) → same_place c.owner p ≡ b → same_place c.owner q ≡ false → held (moved p q cs) r ≡ transfer p q (held cs) r → cond (same_place (cond b q c.owner) r) (Some c.object) (held (moved p q cs) r) ≡ cond (same_place q r) (cond b (Some c.object) (held cs p)) (cond (same_place p r) None (cond (same_place c.owner r) (Some c.object) (held cs r)))
+    first true e nq ih = third (same_place q r) (same_place p r) (same_place_along c.owner p r e) ih
+    first false e nq ih = second (same_place c.owner r) (same_place q r) (same_place p r) e nq refl refl refl ih
+
+pub named_moved : (cs : List Cell) (p q : Place) (n : ℕ) → named (moved p q cs) n ≡ named cs n
+named_moved [] p q n = refl
+named_moved (c ∷ cs) p q n = ap (λ x. cond (c.object.name == n) (Some c.object) x) (named_moved cs p q n)
+
+pub tidy_moved : (cs : List Cell) (p q : Place) → held cs q ≡ None → Tidy cs → Tidy (moved p q cs)
+tidy_moved [] p q free t = tt
+tidy_moved (c ∷ cs) p q free t =
+    let f = front_free _ _ _ free in
+    (own (same_place c.owner p) refl f.0 f.1, named_moved cs p q c.object.name ∙ t.1, tidy_moved cs p q f.1 t.2)
+  where
+    rest : (r : Place) → held cs q ≡ None → same_place q r ≡ false → held cs r ≡ None → held (moved p q cs) r ≡ None
+    rest r free e h = held_moved cs p q r free ∙ ap (λ b. cond b (held cs p) (cond (same_place p r) None (held cs r))) e ∙ ap (λ x. cond (same_place p r) None x) h ∙ cond_same (same_place p r) None
+
+    own : (b : Bool) → same_place c.owner p ≡ b → same_place c.owner q ≡ false → held cs q ≡ None → held (moved p q cs) (cond b q c.owner) ≡ None
+    own true e nq free = held_moved cs p q q free ∙ ap (λ b. cond b (held cs p) (cond (same_place p q) None (held cs q))) (same_place_refl q) ∙ ap (λ r. held cs r) (sym (same_place-true c.owner p e)) ∙ t.0
+    own false e nq free = rest c.owner free (same_place_comm q c.owner ∙ nq) t.0
+
+-- a list written at one place
+pub at-put_at : {A : Type 0} (d : A) (xs : List A) (i j : ℕ) (v : A) → at d (put_at d xs i v) j ≡ cond (i == j) v (at d xs j)
+at-put_at d [] zero zero v = refl
+at-put_at d [] zero (suc j) v = ap (λ b. cond b v d) (sym (eqb-zero-suc j))
+at-put_at d [] (suc i) zero v = ap (λ b. cond b v d) (sym (eqb-suc-zero i))
+at-put_at d [] (suc i) (suc j) v = at-put_at d [] i j v ∙ ap (λ b. cond b v d) (sym (eqb-suc-suc i j))
+at-put_at d (x ∷ xs) zero zero v = refl
+at-put_at d (x ∷ xs) zero (suc j) v = ap (λ b. cond b v (at d xs j)) (sym (eqb-zero-suc j))
+at-put_at d (x ∷ xs) (suc i) zero v = ap (λ b. cond b v x) (sym (eqb-suc-zero i))
+at-put_at d (x ∷ xs) (suc i) (suc j) v = at-put_at d xs i j v ∙ ap (λ b. cond b v (at d xs j)) (sym (eqb-suc-suc i j))
+
+-- a cell stands in one place
+pub held_named : (cs : List Cell) (p : Place) (o : Object) → held cs p ≡ Some o → named cs o.name ≡ None → ⊥
+held_named [] p o e n = cc
+held_named (c ∷ cs) p o e n = go (same_place c.owner p) (c.object.name == o.name) refl (held_named cs p o) e n
+  where
+    go : (b x : Bool) → (c.object.name == o.name) ≡ x → (held cs p ≡ Some o → named cs o.name ≡ None → ⊥) → cond b (Some c.object) (held cs p) ≡ Some o → cond x (Some c.object) (named cs o.name) ≡ None → ⊥
+    go b true f ih e n = some_none n
+    go true false f ih e n = let same : c.object ≡ o = cc in false≢true (sym f ∙ eq-eqb _ _ (ap (λ x. x.name) same))
+    go false false f ih e n = ih e n
+
+pub one_place : (cs : List Cell) (p q : Place) (o x : Object) → Tidy cs → held cs p ≡ Some o → held cs q ≡ Some x → o.name ≡ x.name → p ≡ q
+one_place [] p q o x t e f n = cc
+one_place (c ∷ cs) p q o x t e f n = go (same_place c.owner p) (same_place c.owner q) (λ e f. one_place cs p q o x t.2 e f n) refl refl e f
+  where
+    go : (a b : Bool) → (held cs p ≡ Some o → held cs q ≡ Some x → p ≡ q) → same_place c.owner p ≡ a → same_place c.owner q ≡ b → cond a (Some c.object) (held cs p) ≡ Some o → cond b (Some c.object) (held cs q) ≡ Some x → p ≡ q
+    go true true ih ea eb e f = sym (same_place-true c.owner p ea) ∙ same_place-true c.owner q eb
+    go false false ih ea eb e f = ih e f
+    go true false ih ea eb e f = let same : c.object ≡ o = cc in absurd (held_named cs q x f (ap (λ k. named cs k) (sym n ∙ sym (ap (λ y. y.name) same)) ∙ t.1))
+    go false true ih ea eb e f = let same : c.object ≡ x = cc in absurd (held_named cs p o e (ap (λ k. named cs k) (n ∙ sym (ap (λ y. y.name) same)) ∙ t.1))
+
+-- what is held is there under its name
+pub held_lives : (cs : List Cell) (p : Place) (o : Object) → Tidy cs → held cs p ≡ Some o → named cs o.name ≡ Some o
+held_lives [] p o t e = cc
+held_lives (c ∷ cs) p o t e = go (same_place c.owner p) (c.object.name == o.name) refl (held_lives cs p o t.2) e
+  where
+    go : (b x : Bool) → (c.object.name == o.name) ≡ x → (held cs p ≡ Some o → named cs o.name ≡ Some o) → cond b (Some c.object) (held cs p) ≡ Some o → cond x (Some c.object) (named cs o.name) ≡ Some o
+    go true true f ih e = e
+    go true false f ih e = let same : c.object ≡ o = cc in absurd (false≢true (sym f ∙ eq-eqb _ _ (ap (λ x. x.name) same)))
+    go false false f ih e = ih e
+    go false true f ih e = absurd (held_named cs p o e (ap (λ k. named cs k) (sym (eqb-true _ _ f)) ∙ t.1))
+
+-- what goes
+without_none : (cs : List Cell) (g : Place) → held cs g ≡ None → without g cs ≡ cs
+without_none [] g e = refl
+without_none (c ∷ cs) g e = let f = front_free _ _ _ e in ap (λ b. cond b (without g cs) (c ∷ without g cs)) f.0 ∙ ap (λ x. c ∷ x) (without_none cs g f.1)
+
+pub held_without : (cs : List Cell) (g r : Place) → held (without g cs) r ≡ changed (held cs) g None r
+held_without [] g r = sym (cond_same (same_place g r) None)
+held_without (c ∷ cs) g r = go (same_place c.owner g) (same_place g r) (same_place c.owner r) refl refl refl (held_without cs g r)
+  where
+    go : (x y z : Bool) → same_place c.owner g ≡ x → same_place g r ≡ y → same_place c.owner r ≡ z → held (without g cs) r ≡ cond y None (held cs r) → held (cond x (without g cs) (c ∷ without g cs)) r ≡ cond y None (cond z (Some c.object) (held cs r))
+    go true true z ex ey ez ih = ih
+    go true false z ex ey ez ih = ih ∙ ap (λ b. cond b (Some c.object) (held cs r)) (sym (sym ez ∙ same_place_along c.owner g r ex ∙ ey))
+    go false true z ex ey ez ih = ap (λ b. cond b (Some c.object) (held (without g cs) r)) (ap (λ q. same_place c.owner q) (sym (same_place-true g r ey)) ∙ ex) ∙ ih
+    go false false true ex ey ez ih = ap (λ b. cond b (Some c.object) (held (without g cs) r)) ez
+    go false false false ex ey ez ih = ap (λ b. cond b (Some c.object) (held (without g cs) r)) ez ∙ ih
+
+pub named_without : (cs : List Cell) (g : Place) (o : Object) (n : ℕ) → Tidy cs → held cs g ≡ Some o → (o.name == n) ≡ false → named (without g cs) n ≡ named cs n
+named_without [] g o n t e d = refl
+named_without (c ∷ cs) g o n t e d = go (same_place c.owner g) refl (named_without cs g o n t.2) e
+  where
+    go : (x : Bool) → same_place c.owner g ≡ x → (held cs g ≡ Some o → (o.name == n) ≡ false → named (without g cs) n ≡ named cs n) → cond x (Some c.object) (held cs g) ≡ Some o → named (cond x (without g cs) (c ∷ without g cs)) n ≡ cond (c.object.name == n) (Some c.object) (named cs n)
+    go true f ih e =
+        let same : c.object ≡ o = cc in
+        ap (λ l. named l n) (without_none cs g (ap (λ q. held cs q) (sym (same_place-true c.owner g f)) ∙ t.0))
+        ∙ ap (λ b. cond b (Some c.object) (named cs n)) (sym (ap (λ x. x.name == n) same ∙ d))
+    go false f ih e = ap (λ x. cond (c.object.name == n) (Some c.object) x) (ih e d)
+
+named_gone : (cs : List Cell) (g : Place) (n : ℕ) → named cs n ≡ None → named (without g cs) n ≡ None
+named_gone [] g n e = refl
+named_gone (c ∷ cs) g n e = let f = front_free _ _ _ e in go (same_place c.owner g) f.0 (named_gone cs g n f.1)
+  where
+    go : (x : Bool) → (c.object.name == n) ≡ false → named (without g cs) n ≡ None → named (cond x (without g cs) (c ∷ without g cs)) n ≡ None
+    go true d ih = ih
+    go false d ih = ap (λ b. cond b (Some c.object) (named (without g cs) n)) d ∙ ih
+
+-- the cell that goes is there no more
+pub unnamed : (cs : List Cell) (g : Place) (o : Object) → Tidy cs → held cs g ≡ Some o → named (without g cs) o.name ≡ None
+unnamed [] g o t e = cc
+unnamed (c ∷ cs) g o t e = go (same_place c.owner g) refl (unnamed cs g o t.2) e
+  where
+    go : (x : Bool) → same_place c.owner g ≡ x → (held cs g ≡ Some o → named (without g cs) o.name ≡ None) → cond x (Some c.object) (held cs g) ≡ Some o → named (cond x (without g cs) (c ∷ without g cs)) o.name ≡ None
+    go true f ih e = let same : c.object ≡ o = cc in named_gone cs g o.name (ap (λ x. named cs x.name) (sym same) ∙ t.1)
+    go false f ih e = ap (λ b. cond b (Some c.object) (named (without g cs) o.name)) (ne_eqb c.object.name o.name (λ s. held_named cs g o e (ap (λ k. named cs k) (sym s) ∙ t.1))) ∙ ih e
+
+pub tidy_without : (cs : List Cell) (g : Place) → Tidy cs → Tidy (without g cs)
+tidy_without [] g t = tt
+tidy_without (c ∷ cs) g t = go (same_place c.owner g)
+    (held_without cs g c.owner ∙ ap (λ x. cond (same_place g c.owner) None x) t.0 ∙ cond_same (same_place g c.owner) None)
+    (tidy_without cs g t.2)
+  where
+    go : (x : Bool) → held (without g cs) c.owner ≡ None → Tidy (without g cs) → Tidy (cond x (without g cs) (c ∷ without g cs))
+    go true e ih = ih
+    go false e ih = (e, named_gone cs g c.object.name t.1, ih)

@@ -1,0 +1,317 @@
+-- A method returns to the one that called it.
+use Rattle.std.proofs.Common.{Bool, List, None, Option, Some, ap, arith, cond, false, length, pos, refl, subst, suc, sym, true, ℕ, ℤ, ◌<◌, ◌==◌, ◌∙◌, ◌∷◌, ◌≡◌}
+use Rattle.std.proofs.lemmas.Bool.{ne_eqb}
+use Rattle.std.specs.Prelude.{is_none, is_some}
+use Rattle.aom_image.specs.Image.{Image}
+use Rattle.aom_image.specs.Views.{gives_of, instr_at}
+use Rattle.aom_image.specs.declared.instr.Instr.TheVariants.{Return}
+use Rattle.aom_image.specs.declared.method.Gives.{Gives}
+use Rattle.aom_image.specs.declared.method.Gives.TheVariants.{Left, Maybe as A_maybe, Nothing, Own as An_own, Word as A_word}
+use Rattle.aom_image.specs.declared.method.Thing.{Thing}
+use Rattle.aom_shape.specs.Calls.{is_own_for, result_moved, rule_result}
+use Rattle.aom_shape.specs.Kinds.{is_object_or_null, is_ready_kind, is_unowning, is_word, may_be, no_entry, none_owns, register, set_register}
+use Rattle.aom_shape.specs.Needs.{AllTrue}
+use Rattle.aom_shape.specs.Order.{SaysNoMore, Weaker, alike, alike_filling, maybe_null, maybe_own}
+use Rattle.aom_shape.specs.Shape.{Shape}
+use Rattle.aom_shape.specs.Tables.{at, put_at}
+use Rattle.aom_shape.specs.Typing.{Leads, Typing}
+use Rattle.aom_shape.specs.declared.kind.Age.TheVariants.{Fresh, Ready}
+use Rattle.aom_shape.specs.declared.kind.Kind.{Kind}
+use Rattle.aom_shape.specs.declared.kind.Kind.TheVariants.{Maybe, Null, Own, Unset, Word}
+use Rattle.aom_sound.proofs.Claimed.{claim-set_register, claim_frame, claim_register_above, claim_weaker, declared_moved, fits_weaker, keep_fits, stack_moved, word_fits_weaker}
+use Rattle.aom_sound.proofs.Finishing.{ended, return_needs, returnable, same_items}
+use Rattle.aom_sound.proofs.Maps.{at-put_at, held_moved, same_place-true, same_place_refl, tidy_moved}
+use Rattle.aom_sound.proofs.Straight.{At, Fitted, Law, claim_register, fits_unowning, housed_relocated, no_word_fits, register_fits, settle, stepped, top, word_of_object, words_set, write}
+use Rattle.aom_sound.proofs.Things.{stands_same}
+use Rattle.aom_sound.specs.Calls.{below_top, received, result_cells, result_needs, result_register}
+use Rattle.aom_sound.specs.Claims.{Dispatching, Layer, Mark, Method, claim, declared, items_of, objects, tasks_of}
+use Rattle.aom_sound.specs.Objects.{is_thing}
+use Rattle.aom_sound.specs.Places.{Cell, Elsewhere, Entry, Field, Going, Object, Place, Register, Root, changed, held, moved, same_place}
+use Rattle.aom_sound.specs.State.{A_mark, Choice, Dispatch, Frame, Of_main, Run, State, next, set_word, word}
+use Rattle.aom_sound.specs.WellTyped.{Awaits, Back, Caught, EndsDispatch, Fits, Now, Returns, Stack, WellTyped, WordFits, brought, caught, past_going}
+
+loosen : (p : Image) (t : Typing) (cs : List Cell) (fr : Frame) (sh : Shape) (ls : List Layer) (c : ℕ) (k v : Kind) → Weaker v k → Fitted p t cs fr (set_register sh c k) ls → Fitted p t cs fr (set_register sh c v) ls
+loosen p t cs fr sh ls c k v w g = record {
+  fits = λ r. fits_weaker p (held cs) (held cs r) (claim_weaker p (declared p cs) fr (set_register sh c v) (set_register sh c k) ls r says) (g.fits r);
+  tidy = g.tidy;
+  frames = record { words = λ i. word_fits_weaker (word fr i) (says.registers i) (g.frames.words i); holder = g.frames.holder; height = g.frames.height };
+  housed = g.housed;
+  apart = g.apart;
+  stack = g.stack;
+}
+  where
+    says : SaysNoMore (set_register sh c v) (set_register sh c k)
+    says = record {
+      registers = λ i. subst (λ x. Weaker x (register (set_register sh c k) i)) (sym (at-put_at Unset sh.registers c i v)) (subst (λ x. Weaker (cond (c == i) v (register sh i)) x) (sym (at-put_at Unset sh.registers c i k)) (go (c == i) (register sh i)));
+      fields = λ i. alike_filling;
+      entries = refl;
+    }
+      where
+        go : (b : Bool) (x : Kind) → Weaker (cond b v x) (cond b k x)
+        go true x = w
+        go false x = alike
+
+module _ (p : Image) (t : Typing) (c : Choice) (s : State) (fr fr2 : Frame) (sh sh2 : Shape) (ls below : List Layer) (at_hand : At p t s fr sh below) (back : Back)
+    (caller : Stack p t s.cells back (Method fr2 sh2 ∷ ls))
+    (same_claims : (d : Place → Kind) (r : Place) → claim p d below r ≡ claim p d (Method fr2 sh2 ∷ ls) r)
+    (deeper : length (tasks_of ls) < length (tasks_of below))
+    (at_top : past_going below ≡ below) where
+  -- with no result in cells
+  pub plain : no_entry sh.entries ≡ true → none_owns sh.registers ≡ true → Fitted p t s.cells fr2 sh2 ls
+  plain e n = let g = at_hand.good in record {
+    fits = λ r. subst (λ k. Fits p (held s.cells) (held s.cells r) k) (same_claims (declared p s.cells) r)
+        (ended p s.cells fr sh below g.stack.2 g.stack.3 at_top e n r (held s.cells) (held s.cells r) (g.fits r));
+    tidy = g.tidy;
+    frames = caller.1;
+    housed = caller.2;
+    apart = caller.3;
+    stack = caller.4;
+  }
+
+  -- the result goes to its register
+  pub carried : (a x : ℕ) → no_entry sh.entries ≡ true → none_owns (set_register sh a Null).registers ≡ true → is_unowning (register sh2 x) ≡ true → is_object_or_null (register sh a) ≡ true → Fitted p t (moved (top below a) (top ls x) s.cells) (set_word fr2 x None) (set_register sh2 x (register sh a)) ls
+  carried a x e n u obj =
+      let g = at_hand.good in
+      let free = fits_unowning p h _ (register sh2 x) u caller_fits in
+      record {
+        fits = λ r. subst (λ d. Fits p (held cs') (held cs' r) (claim p d (Method (set_word fr2 x None) (set_register sh2 x k) ∷ ls) r)) (sym (declared_moved p cs q to))
+            (subst (λ k. Fits p (held cs') (held cs' r) k) (sym (claim_frame p d fr2 (set_word fr2 x None) (set_register sh2 x k) ls r refl))
+            (keep_fits p h (held cs') (changed (claim p d (Method fr2 sh2 ∷ ls)) q k) (claim p d (Method fr2 (set_register sh2 x k) ∷ ls)) q to (λ r. held_moved cs q to r free) same (λ r x e k f. refl) fits_aside r));
+        tidy = tidy_moved cs q to free g.tidy;
+        frames = record { words = words_set fr2.words sh2 x None k caller.1.words (no_word_fits k obj); holder = caller.1.holder; height = caller.1.height };
+        housed = housed_relocated p cs q to ls fr2.home free (omega arith) (omega arith) (λ o from e. (tt, tt)) caller.2;
+        apart = caller.3;
+        stack = stack_moved p t cs q to ls (Returns fr2.method fr2.home) free (omega arith) (omega arith) caller.4;
+      }
+    where
+      cs : List Cell
+      cs = s.cells
+
+      h : Place → Option Object
+      h = held s.cells
+
+      d : Place → Kind
+      d = declared p s.cells
+
+      k : Kind
+      k = register sh a
+
+      q : Place
+      q = top below a
+
+      to : Place
+      to = top ls x
+
+      cs' : List Cell
+      cs' = moved q to s.cells
+
+      caller_fits : Fits p (held s.cells) (held s.cells (top ls x)) (register sh2 x)
+      caller_fits = subst (λ k. Fits p (held s.cells) (held s.cells (top ls x)) k)
+          (ap (λ b. cond b (register sh x) (claim p d below (top ls x))) (ne_eqb (length (tasks_of below)) (length (tasks_of ls)) (λ e. absurd (omega arith))) ∙ same_claims d (top ls x) ∙ claim_register p d fr2 sh2 ls x)
+          (at_hand.good.fits (top ls x))
+
+      fits_aside : (r : Place) → Fits p (held s.cells) (held s.cells r) (changed (claim p (declared p s.cells) (Method fr2 sh2 ∷ ls)) q k r)
+      fits_aside r = go (same_place q r) refl
+        where
+          go : (b : Bool) → same_place q r ≡ b → Fits p (held s.cells) (held s.cells r) (cond b k (claim p (declared p s.cells) (Method fr2 sh2 ∷ ls) r))
+          go true e = subst (λ y. Fits p (held s.cells) (held s.cells y) k) (same_place-true q r e) (register_fits p s.cells fr sh below at_hand.good.fits a)
+          go false f =
+              subst (λ k. Fits p (held s.cells) (held s.cells r) k) (same_claims (declared p s.cells) r)
+              (ended p s.cells fr (set_register sh a Null) below at_hand.good.stack.2 at_hand.good.stack.3 at_top e n r (held s.cells) (held s.cells r)
+              (subst (λ k. Fits p (held s.cells) (held s.cells r) k) (sym (claim-set_register p (declared p s.cells) fr sh below a Null r ∙ ap (λ b. cond b Null (claim p (declared p s.cells) (Method fr sh ∷ below) r)) f)) (at_hand.good.fits r)))
+
+      same : (r : Place) → claim p d (Method fr2 (set_register sh2 x k) ∷ ls) r ≡ changed (changed (changed (claim p d (Method fr2 sh2 ∷ ls)) q k) q Null) to (changed (claim p d (Method fr2 sh2 ∷ ls)) q k q) r
+      same r = claim-set_register p d fr2 sh2 ls x k r ∙ go (same_place to r) (same_place q r) refl
+        where
+          go : (b c : Bool) → same_place q r ≡ c → cond b k (claim p d (Method fr2 sh2 ∷ ls) r) ≡ cond b (cond (same_place q q) k (claim p d (Method fr2 sh2 ∷ ls) q)) (cond c Null (cond c k (claim p d (Method fr2 sh2 ∷ ls) r)))
+          go true c f = ap (λ b. cond b k (claim p d (Method fr2 sh2 ∷ ls) q)) (sym (same_place_refl q))
+          go false true f = ap (λ y. claim p d (Method fr2 sh2 ∷ ls) y) (sym (same_place-true q r f)) ∙ claim_register_above p s.cells (Method fr2 sh2 ∷ ls) (length (tasks_of below)) a (omega arith)
+          go false false f = refl
+
+-- what the rule says of the result, by its kind
+module _ (p : Image) (s : State) where
+  pub may_own : (x : Thing) (k : Kind) → is_own_for p x k ≡ true → is_ready_kind k ≡ true → k ≡ Own x Ready
+  may_own x Unset e r = cc
+  may_own x Word e r = cc
+  may_own x Null e r = cc
+  may_own x (Own y Fresh) e r = cc
+  may_own x (Own y Ready) e r = ap (λ z. Own z Ready) (stands_same p y x e)
+  may_own x (Maybe y a) e r = cc
+
+  pub may_hold : (x : Thing) (k : Kind) → may_be p x k ≡ true → is_ready_kind k ≡ true → Weaker (Maybe x Ready) k
+  may_hold x Unset e r = cc
+  may_hold x Word e r = cc
+  may_hold x Null e r = maybe_null
+  may_hold x (Own y Fresh) e r = cc
+  may_hold x (Own y Ready) e r = subst (λ z. Weaker (Maybe x Ready) (Own z Ready)) (sym (stands_same p y x e)) maybe_own
+  may_hold x (Maybe y Fresh) e r = cc
+  may_hold x (Maybe y Ready) e r = subst (λ z. Weaker (Maybe x Ready) (Maybe z Ready)) (sym (stands_same p y x e)) alike
+
+  pub word_is : (w : Option ℤ) (k : Kind) → is_word k ≡ true → WordFits w k → (is_some w ≡ true) × WordFits w Word
+  word_is w Unset e f = cc
+  word_is None Word e f = absurd f
+  word_is (Some w) Word e f = (refl, tt)
+  word_is w Null e f = cc
+  word_is w (Own x a) e f = cc
+  word_is w (Maybe x a) e f = cc
+
+  pub held_thing : (x : Thing) (o : Option Object) → Fits p (held s.cells) o (Own x Ready) → (is_some o ≡ true) × (is_thing p x o ≡ true)
+  held_thing x None f = absurd f
+  held_thing x (Some o) f = (refl, f.0)
+
+  pub held_maybe : (x : Thing) (o : Option Object) → Fits p (held s.cells) o (Maybe x Ready) → is_thing p x o ≡ true
+  held_maybe x None f = refl
+  held_maybe x (Some o) f = f.0
+
+  pub object_of : (x : Thing) (k : Kind) → may_be p x k ≡ true → is_object_or_null k ≡ true
+  object_of x Unset e = cc
+  object_of x Word e = cc
+  object_of x Null e = refl
+  object_of x (Own y a) e = refl
+  object_of x (Maybe y a) e = refl
+
+module _ (p : Image) (t : Typing) (c : Choice) (s : State) (fr fr2 : Frame) (sh sh2 : Shape) (ls : List Layer) (at_hand : At p t s fr sh (Method fr2 sh2 ∷ ls)) where
+  abbrev pub below : List Layer
+  below = Method fr2 sh2 ∷ ls
+
+  pub law_return : (a : ℕ) → Law p t c s fr sh (Method fr2 sh2 ∷ ls) at_hand (Return a)
+  law_return a n leads =
+      let r = returnable p fr sh a n in
+      let w = go (gives_of p fr.method) r.result r.entries r.free at_hand.good.stack.4.0.1 at_hand.good.stack.4.0.2 in
+      (return_needs p t c s fr sh below at_hand a r w.0 tt, w.1)
+    where
+      x : ℕ
+      x = result_register (instr_at p fr2.method fr2.place)
+
+      items : s.items ≡ objects sh2.entries (items_of ls)
+      items = same_items p t c s fr sh below at_hand a (returnable p fr sh a n)
+
+      finish : (cs : List Cell) (fr' : Frame) (sh' : Shape) → fr'.method ≡ fr2.method → fr'.place ≡ fr2.place → sh'.entries ≡ sh2.entries → Fitted p t cs fr' sh' ls → Leads t fr2.method (suc fr2.place) sh' → WellTyped p t (record s { cells = cs; tasks = Run (next fr') ∷ tasks_of ls })
+      finish cs fr' sh' em ep ee f leads =
+          let g = settle p t cs (next fr') sh' ls (stepped p t cs fr' sh' ls f) (subst (λ m. Leads t m (suc fr'.place) sh') (sym em) (subst (λ l. Leads t fr2.method (suc l) sh') (sym ep) leads)) in
+          record { layers = Method (next fr') g.0 ∷ ls; tasks = refl; items = items ∙ ap (λ es. objects es (items_of ls)) (sym (g.2 ∙ ee)); good = g.1 }
+
+      Goal : Gives → Type 0
+      Goal g = AllTrue (result_needs p fr (tasks_of below) s g a) × WellTyped p t (record s { cells = result_cells p fr (tasks_of below) s g a x (tasks_of ls); tasks = Run (next (received p fr (tasks_of below) s g a x fr2)) ∷ tasks_of ls })
+
+      go : (g : Gives) → AllTrue (rule_result p fr.method fr.place sh g a) → no_entry sh.entries ≡ true → none_owns (result_moved p fr.method fr.place sh g a).registers ≡ true → Awaits g x sh2 → Leads t fr2.method (suc fr2.place) (brought g x sh2) → Goal g
+      go Nothing r e n w leads = (tt, finish s.cells fr2 sh2 refl refl refl (plain p t c s fr fr2 sh sh2 ls below at_hand (Returns fr.method fr.home) at_hand.good.stack.4 (λ d r. refl) (omega arith) refl e n) leads)
+      go A_word r e n w leads =
+          let i = word_is p s (word fr a) (register sh a) r.0 (at_hand.good.stack.1.words a) in
+          ((i.0, tt), finish s.cells (set_word fr2 x (word fr a)) (set_register sh2 x Word) refl refl refl (write p t s.cells fr2 sh2 ls x (word fr a) Word (plain p t c s fr fr2 sh sh2 ls below at_hand (Returns fr.method fr.home) at_hand.good.stack.4 (λ d r. refl) (omega arith) refl e n) w (λ h. tt) i.1) leads)
+      go (An_own y) r e n w leads =
+          let k = may_own p s y (register sh a) r.0 r.1.0 in
+          let f = carried p t c s fr fr2 sh sh2 ls below at_hand (Returns fr.method fr.home) at_hand.good.stack.4 (λ d r. refl) (omega arith) refl a x e n w (ap is_object_or_null k) in
+          let h = held_thing p s y (held s.cells (top below a)) (subst (λ k. Fits p (held s.cells) (held s.cells (top below a)) k) k (register_fits p s.cells fr sh below at_hand.good.fits a)) in
+          ((h.0, (h.1, tt)), finish (moved (top below a) (top ls x) s.cells) (set_word fr2 x None) (set_register sh2 x (Own y Ready)) refl refl refl (subst (λ k. Fitted p t (moved (top below a) (top ls x) s.cells) (set_word fr2 x None) (set_register sh2 x k) ls) k f) leads)
+      go (A_maybe y) r e n w leads =
+          let obj : is_object_or_null (register sh a) ≡ true = object_of p s y (register sh a) r.0 in
+          let f = carried p t c s fr fr2 sh sh2 ls below at_hand (Returns fr.method fr.home) at_hand.good.stack.4 (λ d r. refl) (omega arith) refl a x e n w obj in
+          let weak = may_hold p s y (register sh a) r.0 r.1.0 in
+          let h = held_maybe p s y (held s.cells (top below a)) (fits_weaker p (held s.cells) (held s.cells (top below a)) weak (register_fits p s.cells fr sh below at_hand.good.fits a)) in
+          ((ap is_none (word_of_object (word fr a) (register sh a) obj (at_hand.good.stack.1.words a)), (h, tt)), finish (moved (top below a) (top ls x) s.cells) (set_word fr2 x None) (set_register sh2 x (Maybe y Ready)) refl refl refl (loosen p t (moved (top below a) (top ls x) s.cells) (set_word fr2 x None) sh2 ls x (register sh a) (Maybe y Ready) weak f) leads)
+      go (Left y) r e n w leads = absurd w
+
+-- the same through a trap: an object is maybe there, and the code is 0
+module _ (p : Image) (t : Typing) (c : Choice) (s : State) (fr fr2 : Frame) (sh sh2 : Shape) (gv : Gives) (ls : List Layer) (at_hand : At p t s fr sh (Mark gv ∷ Method fr2 sh2 ∷ ls)) where
+  abbrev pub marked : List Layer
+  marked = Mark gv ∷ Method fr2 sh2 ∷ ls
+
+  mark_claims : (d : Place → Kind) (r : Place) → claim p d (Mark gv ∷ Method fr2 sh2 ∷ ls) r ≡ claim p d (Method fr2 sh2 ∷ ls) r
+  mark_claims d (Register f i) = refl
+  mark_claims d (Entry k) = refl
+  mark_claims d (Field n f) = refl
+  mark_claims d (Elsewhere Root) = refl
+  mark_claims d (Going k) = refl
+
+  pub law_return_caught : (a : ℕ) → Law p t c s fr sh (Mark gv ∷ Method fr2 sh2 ∷ ls) at_hand (Return a)
+  law_return_caught a n leads =
+      let e = at_hand.good.stack.4.0 in
+      let r = returnable p fr sh a n in
+      let w = go (gives_of p fr.method) r.result r.entries r.free caller.0.1 (subst (λ g. Awaits g x sh2) (sym e) caller.0.2) (subst (λ g. Leads t fr2.method (suc fr2.place) (caught g x sh2)) (sym e) caller.0.3) in
+      (return_needs p t c s fr sh marked at_hand a r w.0 tt, w.1)
+    where
+      x : ℕ
+      x = result_register (instr_at p fr2.method fr2.place)
+
+      caller : Stack p t s.cells (Caught gv) (Method fr2 sh2 ∷ ls)
+      caller = at_hand.good.stack.4.1
+
+      items : s.items ≡ A_mark ∷ objects sh2.entries (items_of ls)
+      items = same_items p t c s fr sh marked at_hand a (returnable p fr sh a n)
+
+      still : (ks : List Kind) (c : ℕ) (k : Kind) → is_unowning (at Unset ks (suc c)) ≡ true → is_unowning (at Unset (put_at Unset ks c k) (suc c)) ≡ true
+      still ks c k u = ap is_unowning (at-put_at Unset ks c (suc c) k ∙ ap (λ b. cond b k (at Unset ks (suc c))) (ne_eqb c (suc c) (λ e. absurd (omega arith)))) ∙ u
+
+      -- the code, and on
+      finish : (cs : List Cell) (fr' : Frame) (sh' : Shape) → fr'.method ≡ fr2.method → fr'.place ≡ fr2.place → sh'.entries ≡ sh2.entries → is_unowning (register sh' (suc x)) ≡ true → Fitted p t cs fr' sh' ls → Leads t fr2.method (suc fr2.place) (set_register sh' (suc x) Word) → WellTyped p t (record s { cells = cs; tasks = Run (next (set_word fr' (suc x) (Some (pos 0)))) ∷ tasks_of ls; items = below_top s.items })
+      finish cs fr' sh' em ep ee u f leads =
+          let fr'' = set_word fr' (suc x) (Some (pos 0)) in
+          let sh'' = set_register sh' (suc x) Word in
+          let w = write p t cs fr' sh' ls (suc x) (Some (pos 0)) Word f u (λ h. tt) tt in
+          let g = settle p t cs (next fr'') sh'' ls (stepped p t cs fr'' sh'' ls w) (subst (λ m. Leads t m (suc fr'.place) sh'') (sym em) (subst (λ l. Leads t fr2.method (suc l) sh'') (sym ep) leads)) in
+          record {
+            layers = Method (next fr'') g.0 ∷ ls;
+            tasks = refl;
+            items = ap below_top items ∙ ap (λ es. objects es (items_of ls)) (sym (g.2 ∙ ee));
+            good = g.1;
+          }
+
+      Goal : Gives → Type 0
+      Goal g = AllTrue (result_needs p fr (tasks_of marked) s g a) × WellTyped p t (record s { cells = result_cells p fr (tasks_of marked) s g a x (tasks_of ls); tasks = Run (next (set_word (received p fr (tasks_of marked) s g a x fr2) (suc x) (Some (pos 0)))) ∷ tasks_of ls; items = below_top s.items })
+
+      go : (g : Gives) → AllTrue (rule_result p fr.method fr.place sh g a) → no_entry sh.entries ≡ true → none_owns (result_moved p fr.method fr.place sh g a).registers ≡ true → is_unowning (register sh2 (suc x)) ≡ true → Awaits g x sh2 → Leads t fr2.method (suc fr2.place) (caught g x sh2) → Goal g
+      go Nothing r e n u w leads = (tt, finish s.cells fr2 sh2 refl refl refl u (plain p t c s fr fr2 sh sh2 ls marked at_hand (Caught gv) caller mark_claims (omega arith) refl e n) leads)
+      go A_word r e n u w leads =
+          let i = word_is p s (word fr a) (register sh a) r.0 (at_hand.good.stack.1.words a) in
+          ((i.0, tt), finish s.cells (set_word fr2 x (word fr a)) (set_register sh2 x Word) refl refl refl (still sh2.registers x Word u) (write p t s.cells fr2 sh2 ls x (word fr a) Word (plain p t c s fr fr2 sh sh2 ls marked at_hand (Caught gv) caller mark_claims (omega arith) refl e n) w (λ h. tt) i.1) leads)
+      go (An_own y) r e n u w leads =
+          let k = may_own p s y (register sh a) r.0 r.1.0 in
+          let f = carried p t c s fr fr2 sh sh2 ls marked at_hand (Caught gv) caller mark_claims (omega arith) refl a x e n w (ap is_object_or_null k) in
+          let h = held_thing p s y (held s.cells (top marked a)) (subst (λ k. Fits p (held s.cells) (held s.cells (top marked a)) k) k (register_fits p s.cells fr sh marked at_hand.good.fits a)) in
+          let weak : Weaker (Maybe y Ready) (register sh a) = subst (λ k. Weaker (Maybe y Ready) k) (sym k) maybe_own in
+          ((h.0, (h.1, tt)), finish (moved (top marked a) (top ls x) s.cells) (set_word fr2 x None) (set_register sh2 x (Maybe y Ready)) refl refl refl (still sh2.registers x (Maybe y Ready) u) (loosen p t (moved (top marked a) (top ls x) s.cells) (set_word fr2 x None) sh2 ls x (register sh a) (Maybe y Ready) weak f) leads)
+      go (A_maybe y) r e n u w leads =
+          let obj : is_object_or_null (register sh a) ≡ true = object_of p s y (register sh a) r.0 in
+          let f = carried p t c s fr fr2 sh sh2 ls marked at_hand (Caught gv) caller mark_claims (omega arith) refl a x e n w obj in
+          let weak = may_hold p s y (register sh a) r.0 r.1.0 in
+          let h = held_maybe p s y (held s.cells (top marked a)) (fits_weaker p (held s.cells) (held s.cells (top marked a)) weak (register_fits p s.cells fr sh marked at_hand.good.fits a)) in
+          ((ap is_none (word_of_object (word fr a) (register sh a) obj (at_hand.good.stack.1.words a)), (h, tt)), finish (moved (top marked a) (top ls x) s.cells) (set_word fr2 x None) (set_register sh2 x (Maybe y Ready)) refl refl refl (still sh2.registers x (Maybe y Ready) u) (loosen p t (moved (top marked a) (top ls x) s.cells) (set_word fr2 x None) sh2 ls x (register sh a) (Maybe y Ready) weak f) leads)
+      go (Left y) r e n u w leads = absurd w
+
+-- main returns to its dispatch
+module _ (p : Image) (t : Typing) (c : Choice) (s : State) (fr : Frame) (sh : Shape) (gv : Gives) (w : Dispatch) (ls : List Layer) (at_hand : At p t s fr sh (Mark gv ∷ Dispatching w ∷ ls)) where
+  abbrev pub dispatched : List Layer
+  dispatched = Mark gv ∷ Dispatching w ∷ ls
+
+  dispatch_claims : (d : Place → Kind) (r : Place) → claim p d (Mark gv ∷ Dispatching w ∷ ls) r ≡ claim p d (Dispatching w ∷ ls) r
+  dispatch_claims d (Register f i) = refl
+  dispatch_claims d (Entry k) = refl
+  dispatch_claims d (Field n f) = refl
+  dispatch_claims d (Elsewhere Root) = refl
+  dispatch_claims d (Going k) = refl
+
+  gives_nothing : (w : Dispatch) → EndsDispatch p w (Caught gv) → gv ≡ Nothing
+  gives_nothing Of_main e = e
+
+  ends : (w : Dispatch) → EndsDispatch p w Now
+  ends Of_main = tt
+
+  pub law_return_dispatch : (a : ℕ) → Law p t c s fr sh (Mark gv ∷ Dispatching w ∷ ls) at_hand (Return a)
+  law_return_dispatch a n leads =
+      let r = returnable p fr sh a n in
+      let below = at_hand.good.stack.4.1 in
+      let nothing : gives_of p fr.method ≡ Nothing = at_hand.good.stack.4.0 ∙ gives_nothing w below.0 in
+      let free : none_owns sh.registers ≡ true = ap (λ g. none_owns (result_moved p fr.method fr.place sh g a).registers) (sym nothing) ∙ r.free in (
+        return_needs p t c s fr sh dispatched at_hand a r (subst (λ g. AllTrue (result_needs p fr (tasks_of dispatched) s g a)) (sym nothing) tt) tt,
+        record {
+          layers = Dispatching w ∷ ls;
+          tasks = refl;
+          items = ap below_top (same_items p t c s fr sh dispatched at_hand a r);
+          good = record {
+            stack = (ends w, below.1);
+            fits = λ q. subst (λ k. Fits p (held s.cells) (held s.cells q) k) (dispatch_claims (declared p s.cells) q) (ended p s.cells fr sh dispatched at_hand.good.stack.2 at_hand.good.stack.3 refl r.entries free q (held s.cells) (held s.cells q) (at_hand.good.fits q));
+            tidy = at_hand.good.tidy;
+          };
+        },
+      )

@@ -1,0 +1,141 @@
+-- Each run of an image that has a typing: every state that it comes to is well typed, and where it ended nothing is at hand.
+use Rattle.std.proofs.Common.{Bool, List, None, Option, Some, [], ap, cond, false, inl, inr, length, refl, subst, sym, true, ℕ, ⊎_elim, ◌∙◌, ◌∷◌, ◌≡◌}
+use Rattle.std.specs.Prelude.{◌⊎◌}
+use Rattle.aom_image.specs.Image.{Image}
+use Rattle.aom_image.specs.Views.{gives_of, instr_at}
+use Rattle.aom_image.specs.declared.instr.Instr.{Instr}
+use Rattle.aom_image.specs.declared.instr.Instr.TheVariants.{Delete, JumpNull, Return}
+use Rattle.aom_image.specs.declared.method.Gives.{Gives}
+use Rattle.aom_shape.specs.Kinds.{filled}
+use Rattle.aom_shape.specs.Things.{root_thing}
+use Rattle.aom_shape.specs.Typing.{IsTyped, Typing}
+use Rattle.aom_shape.specs.declared.kind.Filling.TheVariants.{Perhaps}
+use Rattle.aom_shape.specs.declared.kind.Kind.TheVariants.{Null}
+use Rattle.aom_sound.proofs.Booting.{boot_keeps}
+use Rattle.aom_sound.proofs.Owners.{ends_empty, ends_owned, layers_none}
+use Rattle.aom_sound.proofs.Steps.{step_keeps}
+use Rattle.aom_sound.proofs.Straight.{fits_unowning}
+use Rattle.aom_sound.specs.Calls.{returned}
+use Rattle.aom_sound.specs.Claims.{claim, declared}
+use Rattle.aom_sound.specs.Destruction.{gone, owns_nothing}
+use Rattle.aom_sound.specs.Laws.{IsSound, IsWired}
+use Rattle.aom_sound.specs.Moves.{IsOpen, counted, does, needs, step, step_instr, step_task}
+use Rattle.aom_sound.specs.Objects.{deleted, jumped}
+use Rattle.aom_sound.specs.Places.{Elsewhere, Going, Object, Register, Root, held, without}
+use Rattle.aom_sound.specs.State.{Choice, Destroy, Dispatched, Frame, Goes, IsStuck, Need, Orphan, Outcome, Run, State, Task, Trapped, guarded, resumed}
+use Rattle.aom_sound.specs.WellTyped.{Fits, Keeps, WellTyped}
+use Rattle.aom_sound.specs.World.{IsBusy, Reaches, begins, boot_state, moves, waits}
+use Rattle.aom_sound.specs.declared.line.Ending.{Ending}
+use Rattle.aom_sound.specs.declared.line.Ending.TheVariants.{Stopped}
+use Rattle.aom_sound.specs.declared.line.Line.{Line}
+
+-- the run is not over, or nothing is at hand
+abbrev GoesOn : State → Type 0
+GoesOn s = (s.rest.ended ≡ None) ⊎ (s.tasks ≡ [])
+
+-- a move ends the run only where it leaves nothing at hand
+abbrev Holds_on : Option Ending → Outcome → Type 0
+Holds_on e (Goes u) = (u.rest.ended ≡ e) ⊎ (u.tasks ≡ [])
+Holds_on e (IsStuck kind) = Unit {0}
+
+guarded_holds : (e : Option Ending) (needs : List Need) (u : State) → Holds_on e (Goes u) → Holds_on e (guarded needs u)
+guarded_holds e [] u h = h
+guarded_holds e (need ∷ needs) u h = go need.0 (guarded_holds e needs u h)
+  where
+    go : (b : Bool) → Holds_on e (guarded needs u) → Holds_on e (cond b (guarded needs u) (IsStuck need.1))
+    go true rest = rest
+    go false rest = tt
+
+module _ (p : Image) (c : Choice) (fr : Frame) (ts : List Task) (s : State) where
+  jump_ends : (o : Option Object) (to : ℕ) → (jumped p c fr ts s o to).rest.ended ≡ s.rest.ended
+  jump_ends None to = refl
+  jump_ends (Some o) to = refl
+
+  delete_ends : (o : Option Object) (a : ℕ) → (deleted p c fr ts s o a).rest.ended ≡ s.rest.ended
+  delete_ends None a = refl
+  delete_ends (Some o) a = refl
+
+  return_ends : (g : Gives) (a : ℕ) (ts' : List Task) → (returned p fr ts s g a ts').rest.ended ≡ s.rest.ended
+  return_ends g a [] = refl
+  return_ends g a (Run caller ∷ under) = refl
+  return_ends g a (Trapped ∷ []) = refl
+  return_ends g a (Trapped ∷ Run caller ∷ under) = refl
+  return_ends g a (Trapped ∷ Trapped ∷ under) = refl
+  return_ends g a (Trapped ∷ Destroy ∷ under) = refl
+  return_ends g a (Trapped ∷ Dispatched d ∷ under) = refl
+  return_ends g a (Destroy ∷ under) = refl
+  return_ends g a (Dispatched d ∷ under) = refl
+
+  -- no instruction ends the run
+  instr_ends : (i : Instr) → (does p c fr ts s i).rest.ended ≡ s.rest.ended
+  instr_ends (JumpNull a to) = jump_ends (held s.cells (Register (length ts) a)) to
+  instr_ends (Delete a) = delete_ends (held s.cells (Register (length ts) a)) a
+  instr_ends (Return a) = return_ends (gives_of p fr.method) a ts
+  instr_ends _ = refl
+
+  instr_holds : (i : Option Instr) → Holds_on s.rest.ended (step_instr p c fr ts s i)
+  instr_holds None = tt
+  instr_holds (Some i) = guarded_holds s.rest.ended (needs p c fr ts s i) (does p c fr ts s i) (inl (instr_ends i))
+
+gone_holds : (o : Option Object) (ts : List Task) (s : State) → Holds_on s.rest.ended (gone o ts s)
+gone_holds None ts s = tt
+gone_holds (Some o) ts s = guarded_holds s.rest.ended ((owns_nothing s.cells o.name, Orphan) ∷ []) (record s { cells = without (Going (length ts)) s.cells; tasks = resumed ts }) (inl refl)
+
+task_holds : (p : Image) (c : Choice) (s : State) (ts : List Task) → Holds_on s.rest.ended (step_task p c s ts)
+task_holds p c s [] = inl refl
+task_holds p c s (Run fr ∷ ts) = instr_holds p c fr ts s (instr_at p fr.method fr.place)
+task_holds p c s (Trapped ∷ ts) = inl refl
+task_holds p c s (Destroy ∷ ts) = gone_holds (held s.cells (Going (length ts))) ts s
+task_holds p c s (Dispatched d ∷ ts) = inr refl
+
+busy_open : (s : State) → IsBusy s → GoesOn s → s.rest.ended ≡ None
+busy_open s busy (inl e) = e
+busy_open s busy (inr idle) = let clash : busy.0 ∷ busy.1 ≡ [] = sym busy.2 ∙ idle in cc
+
+module _ (p : Image) (t : Typing) (refused : List ℕ) (wired : IsWired p) (typed : IsTyped p t) where
+  -- what holds of each state of a run
+  record Stays (s : State) : Type 0 where
+    well : WellTyped p t s
+    goes_on : GoesOn s
+
+  moved_on : (s u : State) (c : Choice) → Stays s → IsBusy s → IsOpen p refused c s → step p c s ≡ Goes u → Stays u
+  moved_on s u c h busy choice e = record {
+    well = subst (λ o. Keeps p t o) e (step_keeps p t wired typed c s h.well choice.name);
+    goes_on = ⊎_elim (λ same. inl (same ∙ busy_open s busy h.goes_on)) (λ idle. inr idle) (subst (λ o. Holds_on s.rest.ended o) e (task_holds p c (counted p s) s.tasks));
+  }
+
+  stays : (lines : List Line) (s : State) → Reaches p refused (boot_state p) lines s → Stays s
+  stays _ _ begins = record { well = boot_keeps p t wired typed; goes_on = inl refl }
+  stays _ _ (moves {lines = lines} {s = s} {u = u} c before busy choice e) = moved_on s u c (stays lines s before) busy choice e
+  stays _ _ (waits {lines = lines} {s = s} before between) = let h = stays lines s before in record {
+    well = record { layers = h.well.layers; tasks = h.well.tasks; items = h.well.items; good = h.well.good };
+    goes_on = inr between.idle;
+  }
+
+  goes : (o : Outcome) → Keeps p t o → (u : State) × (o ≡ Goes u)
+  goes (Goes u) k = (u, refl)
+  goes (IsStuck kind) k = absurd k
+
+  -- with no class for a root the root holds nothing
+  no_root : (s : State) → WellTyped p t s → s.tasks ≡ [] → p.header.root ≡ None → held s.cells (Elsewhere Root) ≡ None
+  no_root s w idle rootless = fits_unowning p (held s.cells) _ Null refl (subst (λ k. Fits p (held s.cells) (held s.cells (Elsewhere Root)) k) (ap (λ l. claim p (declared p s.cells) l (Elsewhere Root)) (layers_none w.layers (sym w.tasks ∙ idle)) ∙ ap (λ r. filled (root_thing r 0) Perhaps) rootless) (w.good.fits (Elsewhere Root)))
+
+  stopped : (s : State) → Stays s → s.rest.ended ≡ Some Stopped → s.tasks ≡ []
+  stopped s h e = go h.goes_on
+    where
+      go : GoesOn s → s.tasks ≡ []
+      go (inl on) = let clash : Some Stopped ≡ None = sym e ∙ on in cc
+      go (inr idle) = idle
+
+  pub sound : p.header.root ≡ None → IsSound p refused
+  sound rootless = record {
+    goes_on = λ lines s r busy c choice. goes (step p c s) (step_keeps p t wired typed c s (stays lines s r).well choice.name);
+    owned = λ lines s d r e. (ends_owned p t wired s (stays lines s r).well).0 d e;
+    stopped_empty = λ lines s r e.
+        let h = stays lines s r in
+        let idle = stopped s h e in
+        ends_empty p t wired s h.well idle (no_root s h.well idle rootless);
+  }
+
+pub typed_is_sound : (p : Image) (t : Typing) (refused : List ℕ) → IsWired p → IsTyped p t → p.header.root ≡ None → IsSound p refused
+typed_is_sound p t refused wired typed rootless = sound p t refused wired typed rootless

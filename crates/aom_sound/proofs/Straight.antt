@@ -1,0 +1,293 @@
+-- The laws of the instructions that stay in their method.
+use Rattle.std.proofs.Common.{Bool, List, None, Option, Some, ap, cond, false, length, refl, subst, suc, sym, true, zero, ℕ, ℤ, ◌&&◌, ◌==◌, ◌∙◌, ◌∷◌, ◌≡◌}
+use Rattle.std.proofs.lemmas.Bool.{eq-eqb, eqb-true, ne_eqb, true≢false}
+use Rattle.std.specs.Prelude.{is_some}
+use Rattle.aom_image.specs.Image.{Image}
+use Rattle.aom_image.specs.declared.instr.Instr.{Instr}
+use Rattle.aom_image.specs.declared.method.Thing.{Thing}
+use Rattle.aom_shape.specs.Kinds.{field, filled, filling_of, is_empty, is_object_or_null, is_ready_kind, is_unowning, may_be, may_be_declared, register, set_register}
+use Rattle.aom_shape.specs.Needs.{AllTrue}
+use Rattle.aom_shape.specs.Rules.{flows, rule_needs}
+use Rattle.aom_shape.specs.Shape.{Shape}
+use Rattle.aom_shape.specs.Tables.{at, put_at}
+use Rattle.aom_shape.specs.Things.{field_thing, holder_of}
+use Rattle.aom_shape.specs.Typing.{AllLead, Leads, Typing}
+use Rattle.aom_shape.specs.declared.kind.Age.TheVariants.{Fresh, Ready}
+use Rattle.aom_shape.specs.declared.kind.Filling.{Filling}
+use Rattle.aom_shape.specs.declared.kind.Filling.TheVariants.{Empty, Full, Perhaps}
+use Rattle.aom_shape.specs.declared.kind.Kind.{Kind}
+use Rattle.aom_shape.specs.declared.kind.Kind.TheVariants.{Maybe, Null, Own, Unset, Word}
+use Rattle.aom_sound.proofs.Claimed.{NoFieldHere, Outside, claim-set_register, claim_frame, claim_from, claim_ready, claim_weaker, declared_moved, fits_weaker, holds_moved, keep_fits, outside_differs, stack_moved, word_fits_weaker}
+use Rattle.aom_sound.proofs.Maps.{at-put_at, held_moved, one_place, same_place-true, tidy_moved}
+use Rattle.aom_sound.proofs.Things.{stands_along, stands_same}
+use Rattle.aom_sound.specs.Claims.{Layer, Method, claim, declared, home_claim, items_of, objects, root_claim, tasks_of}
+use Rattle.aom_sound.specs.Moves.{does, needs}
+use Rattle.aom_sound.specs.Objects.{is_declared_thing, is_thing}
+use Rattle.aom_sound.specs.Places.{Cell, Elsewhere, Field, Object, Place, Register, Root, Tidy, changed, held, moved, same_place}
+use Rattle.aom_sound.specs.State.{AtRoot, Choice, Frame, Home, Inside, Run, State, Static, field_place, home_holder, next, set_word, thing_holder, word}
+use Rattle.aom_sound.specs.WellTyped.{Fits, Frames, Good, Holds, IsApart, IsHoused, IsNoFieldOf, Returns, Stack, WellTyped, WordFits}
+
+-- a state whose top task is a method
+pub record At (p : Image) (t : Typing) (s : State) (fr : Frame) (sh : Shape) (ls : List Layer) : Type 0 where
+  pub tasks : s.tasks ≡ Run fr ∷ tasks_of ls
+  pub items : s.items ≡ items_of (Method fr sh ∷ ls)
+  pub good : Good p t s.cells (Method fr sh ∷ ls)
+
+-- what a register is, on either side
+pub register_fits : (p : Image) (cs : List Cell) (fr : Frame) (sh : Shape) (ls : List Layer) → ((r : Place) → Fits p (held cs) (held cs r) (claim p (declared p cs) (Method fr sh ∷ ls) r)) → (i : ℕ) → Fits p (held cs) (held cs (Register (length (tasks_of ls)) i)) (register sh i)
+register_fits p cs fr sh ls fits i =
+    subst (λ b. Fits p (held cs) (held cs (Register (length (tasks_of ls)) i)) (cond b (register sh i) (claim p (declared p cs) ls (Register (length (tasks_of ls)) i)))) (eq-eqb (length (tasks_of ls)) _ refl) (fits (Register (length (tasks_of ls)) i))
+
+pub fits_unowning : (p : Image) (h : Place → Option Object) (o : Option Object) (k : Kind) → is_unowning k ≡ true → Fits p h o k → o ≡ None
+fits_unowning p h None k u f = refl
+fits_unowning p h (Some o) Unset u f = absurd f
+fits_unowning p h (Some o) Word u f = absurd f
+fits_unowning p h (Some o) Null u f = absurd f
+fits_unowning p h (Some o) (Own c a) u f = cc
+fits_unowning p h (Some o) (Maybe c a) u f = cc
+
+pub word_of_object : (w : Option ℤ) (k : Kind) → is_object_or_null k ≡ true → WordFits w k → w ≡ None
+word_of_object w Unset e f = cc
+word_of_object w Word e f = cc
+word_of_object w Null e f = f
+word_of_object w (Own c a) e f = f
+word_of_object w (Maybe c a) e f = f
+
+-- the cells are as the layers claim, where the top method may be in the middle of its instruction
+pub record Fitted (p : Image) (t : Typing) (cs : List Cell) (fr : Frame) (sh : Shape) (ls : List Layer) : Type 0 where
+  pub fits : (r : Place) → Fits p (held cs) (held cs r) (claim p (declared p cs) (Method fr sh ∷ ls) r)
+  pub tidy : Tidy cs
+  pub frames : Frames p ls fr sh
+  pub housed : IsHoused p cs ls fr.home
+  pub apart : IsApart p fr.home ls
+  pub stack : Stack p t cs (Returns fr.method fr.home) ls
+
+pub fitted : (p : Image) (t : Typing) (cs : List Cell) (fr : Frame) (sh : Shape) (ls : List Layer) → Good p t cs (Method fr sh ∷ ls) → Fitted p t cs fr sh ls
+fitted p t cs fr sh ls g = record { fits = g.fits; tidy = g.tidy; frames = g.stack.1; housed = g.stack.2; apart = g.stack.3; stack = g.stack.4 }
+
+-- the state that the typing has at the next place takes the flow's place
+pub settle : (p : Image) (t : Typing) (cs : List Cell) (fr : Frame) (sh : Shape) (ls : List Layer) → Fitted p t cs fr sh ls → Leads t fr.method fr.place sh → (after : Shape) × Good p t cs (Method fr after ∷ ls) × (after.entries ≡ sh.entries)
+settle p t cs fr sh ls g leads =
+    let w = leads.2 in (
+      leads.0,
+      record {
+        stack = (leads.1, record { words = λ i. word_fits_weaker (word fr i) (w.registers i) (g.frames.words i); holder = g.frames.holder; height = g.frames.height }, g.housed, g.apart, g.stack);
+        fits = λ r. fits_weaker p (held cs) (held cs r) (claim_weaker p (declared p cs) fr leads.0 sh ls r w) (g.fits r);
+        tidy = g.tidy;
+      },
+      w.entries,
+    )
+
+pub housed_relocated : (p : Image) (cs : List Cell) (a b : Place) (ls : List Layer) (home : Home) → held cs b ≡ None → Outside a ls → Outside b ls → ((o : Object) (from : Place) → home ≡ Inside o from → NoFieldHere a from × NoFieldHere b from) → IsHoused p cs ls home → IsHoused p (moved a b cs) ls home
+housed_relocated p cs a b ls Static free oa ob n h = h
+housed_relocated p cs a b ls AtRoot free oa ob n h = h
+housed_relocated p cs a b ls (Inside o from) free oa ob n h =
+    let m = n o from refl in
+    holds_moved p cs a b ls o from free (outside_differs a from ls oa m.0 h.below) (outside_differs b from ls ob m.1 h.below) h
+
+-- a thing moves from one local place to another, with its claim
+pub relocate :
+    (p : Image) (t : Typing) (cs : List Cell) (fr fr' : Frame) (sh sh' : Shape) (ls : List Layer) (a b : Place) →
+    Fitted p t cs fr sh ls →
+    fr'.home ≡ fr.home → fr'.method ≡ fr.method → fr'.height ≡ fr.height →
+    held cs b ≡ None →
+    Outside a ls → Outside b ls →
+    ((o : Object) (from : Place) → fr'.home ≡ Inside o from → NoFieldHere a from × NoFieldHere b from) →
+    ((r : Place) (x : Object) → held cs r ≡ Some x → is_ready_kind (claim p (declared p cs) (Method fr sh ∷ ls) r) ≡ false → (f : ℕ) → same_place b (Field x.name f) ≡ false) →
+    ((r : Place) → claim p (declared p cs) (Method fr sh' ∷ ls) r ≡ changed (changed (claim p (declared p cs) (Method fr sh ∷ ls)) a Null) b (claim p (declared p cs) (Method fr sh ∷ ls) a) r) →
+    ((i : ℕ) → WordFits (word fr' i) (register sh' i)) →
+    Fitted p t (moved a b cs) fr' sh' ls
+relocate p t cs fr fr' sh sh' ls a b g eh em eg free oa ob nf fresh claims words =
+    let cs' = moved a b cs in
+    let d = declared p cs in
+    let fits : (r : Place) → Fits p (held cs') (held cs' r) (claim p d (Method fr sh' ∷ ls) r) =
+    keep_fits p (held cs) (held cs') (claim p d (Method fr sh ∷ ls)) (claim p d (Method fr sh' ∷ ls)) a b (λ r. held_moved cs a b r free) claims fresh g.fits in
+    record {
+      fits = λ r. subst (λ k. Fits p (held cs') (held cs' r) k) (ap (λ e. claim p e (Method fr sh' ∷ ls) r) (sym (declared_moved p cs a b)) ∙ sym (claim_frame p (declared p cs') fr fr' sh' ls r eh)) (fits r);
+      tidy = tidy_moved cs a b free g.tidy;
+      frames = record { words = words; holder = ap home_holder eh ∙ g.frames.holder ∙ ap (λ m. holder_of p m) (sym em); height = eg ∙ g.frames.height };
+      housed = housed_relocated p cs a b ls fr'.home free oa ob nf (subst (λ h. IsHoused p cs ls h) (sym eh) g.housed);
+      apart = subst (λ h. IsApart p h ls) (sym eh) g.apart;
+      stack = subst (λ m. Stack p t cs' (Returns m fr'.home) ls) (sym em) (subst (λ h. Stack p t cs' (Returns fr.method h) ls) (sym eh) (stack_moved p t cs a b ls _ free oa ob g.stack));
+    }
+
+-- one place is claimed anew
+pub relabel :
+    (p : Image) (t : Typing) (cs : List Cell) (fr fr' : Frame) (sh sh' : Shape) (ls : List Layer) (a : Place) (v : Kind) →
+    Fitted p t cs fr sh ls →
+    fr'.home ≡ fr.home → fr'.method ≡ fr.method → fr'.height ≡ fr.height →
+    Fits p (held cs) (held cs a) v →
+    ((r : Place) → claim p (declared p cs) (Method fr sh' ∷ ls) r ≡ changed (claim p (declared p cs) (Method fr sh ∷ ls)) a v r) →
+    ((i : ℕ) → WordFits (word fr' i) (register sh' i)) →
+    Fitted p t cs fr' sh' ls
+relabel p t cs fr fr' sh sh' ls a v g eh em eg new claims words = record {
+  fits = λ r. subst (λ k. Fits p (held cs) (held cs r) k) (sym (claim_frame p (declared p cs) fr fr' sh' ls r eh ∙ claims r)) (go r (same_place a r) refl);
+  tidy = g.tidy;
+  frames = record { words = words; holder = ap home_holder eh ∙ g.frames.holder ∙ ap (λ m. holder_of p m) (sym em); height = eg ∙ g.frames.height };
+  housed = subst (λ h. IsHoused p cs ls h) (sym eh) g.housed;
+  apart = subst (λ h. IsApart p h ls) (sym eh) g.apart;
+  stack = subst (λ m. Stack p t cs (Returns m fr'.home) ls) (sym em) (subst (λ h. Stack p t cs (Returns fr.method h) ls) (sym eh) g.stack);
+}
+  where
+    go : (r : Place) (b : Bool) → same_place a r ≡ b → Fits p (held cs) (held cs r) (cond b v (claim p (declared p cs) (Method fr sh ∷ ls) r))
+    go r true e = subst (λ q. Fits p (held cs) (held cs q) v) (same_place-true a r e) new
+    go r false e = g.fits r
+
+pub claim_register : (p : Image) (d : Place → Kind) (fr : Frame) (sh : Shape) (ls : List Layer) (i : ℕ) → claim p d (Method fr sh ∷ ls) (Register (length (tasks_of ls)) i) ≡ register sh i
+claim_register p d fr sh ls i = ap (λ b. cond b (register sh i) (claim p d ls (Register (length (tasks_of ls)) i))) (eq-eqb (length (tasks_of ls)) _ refl)
+
+-- a register is written
+pub words_set : (words : List (Option ℤ)) (sh : Shape) (a : ℕ) (w : Option ℤ) (k : Kind) → ((i : ℕ) → WordFits (at None words i) (register sh i)) → WordFits w k → (i : ℕ) → WordFits (at None (put_at None words a w) i) (register (set_register sh a k) i)
+words_set words sh a w k h g i =
+    subst (λ x. WordFits x (at Unset (put_at Unset sh.registers a k) i)) (sym (at-put_at None words a i w))
+    (subst (λ x. WordFits (cond (a == i) w (at None words i)) x) (sym (at-put_at Unset sh.registers a i k)) (go (a == i)))
+  where
+    go : (b : Bool) → WordFits (cond b w (at None words i)) (cond b k (register sh i))
+    go true = g
+    go false = h i
+
+-- a register without a word becomes null
+pub words_null : (words : List (Option ℤ)) (sh : Shape) (a : ℕ) → ((i : ℕ) → WordFits (at None words i) (register sh i)) → at None words a ≡ None → (i : ℕ) → WordFits (at None words i) (register (set_register sh a Null) i)
+words_null words sh a h e i = subst (λ x. WordFits (at None words i) x) (sym (at-put_at Unset sh.registers a i Null)) (go (a == i) refl)
+  where
+    go : (b : Bool) → (a == i) ≡ b → WordFits (at None words i) (cond b Null (register sh i))
+    go true f = ap (λ x. at None words x) (sym (eqb-true a i f)) ∙ e
+    go false f = h i
+
+pub no_word_fits : (k : Kind) → is_object_or_null k ≡ true → WordFits None k
+no_word_fits Unset e = tt
+no_word_fits Word e = cc
+no_word_fits Null e = refl
+no_word_fits (Own c a) e = refl
+no_word_fits (Maybe c a) e = refl
+
+-- a register of the top method
+abbrev pub top : List Layer → ℕ → Place
+top ls i = Register (length (tasks_of ls)) i
+
+-- the place alone differs
+pub stepped : (p : Image) (t : Typing) (cs : List Cell) (fr : Frame) (sh : Shape) (ls : List Layer) → Fitted p t cs fr sh ls → Fitted p t cs (next fr) sh ls
+stepped p t cs fr sh ls g = record {
+  fits = λ r. subst (λ k. Fits p (held cs) (held cs r) k) (sym (claim_frame p (declared p cs) fr (next fr) sh ls r refl)) (g.fits r);
+  tidy = g.tidy;
+  frames = record { words = g.frames.words; holder = g.frames.holder; height = g.frames.height };
+  housed = g.housed;
+  apart = g.apart;
+  stack = g.stack;
+}
+
+-- a register that owns nothing is written
+pub write :
+    (p : Image) (t : Typing) (cs : List Cell) (fr : Frame) (sh : Shape) (ls : List Layer) (a : ℕ) (w : Option ℤ) (k : Kind) →
+    Fitted p t cs fr sh ls → is_unowning (register sh a) ≡ true → ((h : Place → Option Object) → Fits p h None k) → WordFits w k →
+    Fitted p t cs (set_word fr a w) (set_register sh a k) ls
+write p t cs fr sh ls a w k g u new word =
+    let free = fits_unowning p (held cs) _ (register sh a) u (register_fits p cs fr sh ls g.fits a) in
+    relabel p t cs fr (set_word fr a w) sh (set_register sh a k) ls (top ls a) k g refl refl refl
+    (subst (λ o. Fits p (held cs) o k) (sym free) (new (held cs))) (λ r. claim-set_register p (declared p cs) fr sh ls a k r) (words_set fr.words sh a w k g.frames.words word)
+
+module _ (p : Image) (t : Typing) (c : Choice) (s : State) (fr : Frame) (sh : Shape) (ls : List Layer) (at_hand : At p t s fr sh ls) where
+  pub free_register : (a : ℕ) → is_unowning (register sh a) ≡ true → held s.cells (Register (length (tasks_of ls)) a) ≡ None
+  free_register a u = fits_unowning p (held s.cells) _ (register sh a) u (register_fits p s.cells fr sh ls at_hand.good.fits a)
+
+  pub no_word : (b : ℕ) → is_object_or_null (register sh b) ≡ true → word fr b ≡ None
+  no_word b e = word_of_object (word fr b) (register sh b) e (at_hand.good.stack.1.words b)
+
+  abbrev pub Law : Instr → Type 0
+  Law i = AllTrue (rule_needs p fr.method fr.place sh i) → AllLead t fr.method (flows p fr.method fr.place sh i) → AllTrue (needs p c fr (tasks_of ls) s i) × WellTyped p t (does p c fr (tasks_of ls) s i)
+
+  -- a well-typed state from its parts
+  pub well : (s' : State) (fr' : Frame) (sh' : Shape) → s'.tasks ≡ Run fr' ∷ tasks_of ls → s'.items ≡ objects sh'.entries (items_of ls) → (after : Shape) × Good p t s'.cells (Method fr' after ∷ ls) × (after.entries ≡ sh'.entries) → WellTyped p t s'
+  well s' fr' sh' tasks items g = record {
+    layers = Method fr' g.0 ∷ ls;
+    tasks = tasks;
+    items = items ∙ ap (λ es. objects es (items_of ls)) (sym g.2);
+    good = g.1;
+  }
+
+  -- a field of what the frame works on
+  pub claim_field : (d : Place → Kind) (home : Home) (f : ℕ) → fr.home ≡ home → is_some (field_thing p (home_holder home) f) ≡ true → claim p d (Method fr sh ∷ ls) (field_place home f) ≡ filled (field_thing p (home_holder home) f) (field sh f)
+  claim_field d Static f e some = cc
+  claim_field d AtRoot zero e some = ap (λ h. root_claim p h sh (claim p d ls (Elsewhere Root))) e
+  claim_field d AtRoot (suc f) e some = cc
+  claim_field d (Inside o from) f e some = ap (λ h. home_claim p h sh o.name f (claim p d ls (Field o.name f))) e ∙ ap (λ b. cond b (filled (field_thing p (thing_holder o.thing) f) (field sh f)) (claim p d ls (Field o.name f))) (eq-eqb o.name _ refl)
+
+  pub field_fits : (f : ℕ) → is_some (field_thing p (home_holder fr.home) f) ≡ true → Fits p (held s.cells) (held s.cells (field_place fr.home f)) (filled (field_thing p (home_holder fr.home) f) (field sh f))
+  field_fits f some = subst (λ k. Fits p (held s.cells) (held s.cells (field_place fr.home f)) k) (claim_field (declared p s.cells) fr.home f refl some) (at_hand.good.fits (field_place fr.home f))
+
+  pub field_outside : (home : Home) (f : ℕ) → fr.home ≡ home → is_some (field_thing p (home_holder home) f) ≡ true → Outside (field_place home f) ls
+  field_outside Static f e some = cc
+  field_outside AtRoot f e some = let apart : IsApart p AtRoot ls = subst (λ h. IsApart p h ls) e at_hand.good.stack.3 in apart.1
+  field_outside (Inside o from) f e some = let apart : IsApart p (Inside o from) ls = subst (λ h. IsApart p h ls) e at_hand.good.stack.3 in apart.1
+
+  pub field_not_from : (home : Home) (f : ℕ) → fr.home ≡ home → (o : Object) (from : Place) → home ≡ Inside o from → NoFieldHere (field_place home f) from
+  field_not_from Static f e o from e' = cc
+  field_not_from AtRoot f e o from e' = cc
+  field_not_from (Inside x q) f e o from e' =
+      let apart : IsApart p (Inside x q) ls = subst (λ h. IsApart p h ls) e at_hand.good.stack.3 in
+      let same : q ≡ from = cc in
+      subst (λ r. IsNoFieldOf x.name r) same apart.0
+
+  pub kind_fits : (b : ℕ) → Fits p (held s.cells) (held s.cells (top ls b)) (register sh b)
+  kind_fits b = register_fits p s.cells fr sh ls at_hand.good.fits b
+
+  pub thing_ok : (x : Thing) (o : Option Object) (k : Kind) → may_be p x k ≡ true → Fits p (held s.cells) o k → is_thing p x o ≡ true
+  thing_ok x None k e f = refl
+  thing_ok x (Some o) Unset e f = absurd f
+  thing_ok x (Some o) Word e f = absurd f
+  thing_ok x (Some o) Null e f = absurd f
+  thing_ok x (Some o) (Own y a) e f = stands_along p o.thing y x f.0 e
+  thing_ok x (Some o) (Maybe y a) e f = stands_along p o.thing y x f.0 e
+
+  pub declared_ok : (x : Option Thing) (o : Option Object) (k : Kind) → may_be_declared p x k ≡ true → Fits p (held s.cells) o k → is_declared_thing p x o ≡ true
+  declared_ok None o k e f = cc
+  declared_ok (Some x) o k e f = thing_ok x o k e f
+
+  pub may_be_object : (x : Thing) (k : Kind) → may_be p x k ≡ true → is_object_or_null k ≡ true
+  may_be_object x Unset e = cc
+  may_be_object x Word e = cc
+  may_be_object x Null e = refl
+  may_be_object x (Own y a) e = refl
+  may_be_object x (Maybe y a) e = refl
+
+  pub declared_object : (x : Option Thing) (k : Kind) → may_be_declared p x k ≡ true → is_object_or_null k ≡ true
+  declared_object None k e = cc
+  declared_object (Some x) k e = may_be_object x k e
+
+  pub refills : (x : Option Thing) (k : Kind) → may_be_declared p x k ≡ true → is_ready_kind k ≡ true → filled x (filling_of k) ≡ k
+  refills None k e r = cc
+  refills (Some x) Unset e r = cc
+  refills (Some x) Word e r = cc
+  refills (Some x) Null e r = refl
+  refills (Some x) (Own y Fresh) e r = cc
+  refills (Some x) (Own y Ready) e r = ap (λ z. Own z Ready) (sym (stands_same p y x e))
+  refills (Some x) (Maybe y Fresh) e r = cc
+  refills (Some x) (Maybe y Ready) e r = ap (λ z. Maybe z Ready) (sym (stands_same p y x e))
+
+  pub empties : (x : Option Thing) (y : Filling) → is_empty y ≡ true → is_unowning (filled x y) ≡ true
+  empties None y e = refl
+  empties (Some x) Empty e = refl
+  empties (Some x) Full e = cc
+  empties (Some x) Perhaps e = cc
+
+  pub may_be_some : (x : Option Thing) (k : Kind) → may_be_declared p x k ≡ true → is_some x ≡ true
+  may_be_some None k e = cc
+  may_be_some (Some x) k e = refl
+
+  -- what the frame works on is nowhere claimed to be fresh
+  pub this_is_ready : (home : Home) (f : ℕ) → fr.home ≡ home → (r : Place) (x : Object) → held s.cells r ≡ Some x → is_ready_kind (claim p (declared p s.cells) (Method fr sh ∷ ls) r) ≡ false → (g : ℕ) → same_place (field_place home f) (Field x.name g) ≡ false
+  this_is_ready Static f e r x h fresh g = refl
+  this_is_ready AtRoot f e r x h fresh g = refl
+  this_is_ready (Inside o from) f e r x h fresh g = ap (λ b. b && (f == g)) (ne_eqb o.name x.name differs)
+    where
+      holds : Holds p s.cells ls o from
+      holds = subst (λ h. IsHoused p s.cells ls h) e at_hand.good.stack.2
+
+      apart : IsApart p (Inside o from) ls
+      apart = subst (λ h. IsApart p h ls) e at_hand.good.stack.3
+
+      differs : o.name ≡ x.name → ⊥
+      differs n =
+          let here : from ≡ r = one_place s.cells from r o x at_hand.good.tidy holds.there h n in
+          let ready = ap is_ready_kind (claim_from p (declared p s.cells) fr o from sh ls e apart.0 holds.below) ∙ claim_ready p s.cells ls from holds.ready in
+          true≢false (sym ready ∙ ap (λ r. is_ready_kind (claim p (declared p s.cells) (Method fr sh ∷ ls) r)) here ∙ fresh)

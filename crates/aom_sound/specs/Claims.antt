@@ -1,0 +1,117 @@
+-- What is claimed of each place, from the methods at hand and their abstract states.
+use Rattle.std.specs.Prelude.{ℕ, cond, ◌==◌, List, [], ◌∷◌, Option, Some, None, length}
+use Rattle.aom_image.specs.Image.{Image}
+use Rattle.aom_image.specs.declared.method.Gives.{Gives}
+use Rattle.aom_shape.specs.Things.{Program, field_thing}
+use Rattle.aom_shape.specs.Shape.{Shape}
+use Rattle.aom_shape.specs.Kinds.{entry_kind, filled, register, field}
+use Rattle.aom_shape.specs.declared.kind.Age.TheVariants.{Ready}
+use Rattle.aom_shape.specs.declared.kind.Entry.{Entry as Pushed}
+use Rattle.aom_shape.specs.declared.kind.Filling.TheVariants.{Perhaps}
+use Rattle.aom_shape.specs.declared.kind.Kind.{Kind}
+use Rattle.aom_shape.specs.declared.kind.Kind.TheVariants.{Null, Own}
+use Rattle.aom_sound.specs.Places.{Place, Register, Entry, Field, Going, Elsewhere, Other, Root, Object, Cell, named}
+use Rattle.aom_sound.specs.State.{Home, Static, AtRoot, Inside, Frame, Dispatch, Task, Run, Trapped, Destroy, Dispatched, Item, An_object, A_mark, thing_holder}
+
+-- what stands behind a task: a method with its abstract state, a trap's mark, a cell that is going, or a dispatch
+pub data Layer : Type 0 where
+  Method : Frame → Shape → Layer
+  Mark : (gives : Gives) → Layer
+  Dying : Object → Layer
+  Dispatching : Dispatch → Layer
+
+abbrev pub task_of : Layer → Task
+task_of (Method fr sh) = Run fr
+task_of (Mark gv) = Trapped
+task_of (Dying o) = Destroy
+task_of (Dispatching d) = Dispatched d
+
+abbrev pub tasks_of : List Layer → List Task
+tasks_of [] = []
+tasks_of (l ∷ ls) = task_of l ∷ tasks_of ls
+
+abbrev pub entries_of : Layer → List Pushed
+entries_of (Method fr sh) = sh.entries
+entries_of (Mark gv) = []
+entries_of (Dying o) = []
+entries_of (Dispatching d) = []
+
+-- an item for each entry, over others
+abbrev pub objects : List Pushed → List Item → List Item
+objects [] below = below
+objects (e ∷ es) below = An_object ∷ objects es below
+
+abbrev pub layer_items : Layer → List Item → List Item
+layer_items (Method fr sh) below = objects sh.entries below
+layer_items (Mark gv) below = A_mark ∷ below
+layer_items (Dying o) below = below
+layer_items (Dispatching d) below = below
+
+abbrev pub items_of : List Layer → List Item
+items_of [] = []
+items_of (l ∷ ls) = layer_items l (items_of ls)
+
+-- a claim of each layer goes before those of the layers below it
+abbrev pub entry_claim : List Pushed → List Item → ℕ → Kind → Kind
+entry_claim [] items k below = below
+entry_claim (x ∷ xs) items k below = cond (length (objects xs items) == k) (entry_kind x) (entry_claim xs items k below)
+
+abbrev pub register_claim : Layer → ℕ → ℕ → ℕ → Kind → Kind
+register_claim (Method fr sh) depth f i below = cond (depth == f) (register sh i) below
+register_claim (Mark gv) depth f i below = below
+register_claim (Dying o) depth f i below = below
+register_claim (Dispatching d) depth f i below = below
+
+abbrev pub home_claim : Image → Home → Shape → ℕ → ℕ → Kind → Kind
+home_claim p Static sh n f below = below
+home_claim p AtRoot sh n f below = below
+home_claim p (Inside o from) sh n f below = cond (o.name == n) (filled (field_thing p (thing_holder o.thing) f) (field sh f)) below
+
+abbrev pub field_claim : Image → Layer → ℕ → ℕ → Kind → Kind
+field_claim p (Method fr sh) n f below = home_claim p fr.home sh n f below
+field_claim p (Mark gv) n f below = below
+field_claim p (Dying o) n f below = cond (o.name == n) Null below
+field_claim p (Dispatching d) n f below = below
+
+abbrev pub going_claim : Layer → ℕ → ℕ → Kind → Kind
+going_claim (Method fr sh) depth k below = below
+going_claim (Mark gv) depth k below = below
+going_claim (Dying o) depth k below = cond (depth == k) (Own o.thing Ready) below
+going_claim (Dispatching d) depth k below = below
+
+abbrev pub root_claim : Image → Home → Shape → Kind → Kind
+root_claim p Static sh below = below
+root_claim p AtRoot sh below = filled (field_thing p Program 0) (field sh 0)
+root_claim p (Inside o from) sh below = below
+
+abbrev pub other_claim : Image → Layer → Other → Kind → Kind
+other_claim p (Method fr sh) Root below = root_claim p fr.home sh below
+other_claim p (Mark gv) Root below = below
+other_claim p (Dying o) Root below = below
+other_claim p (Dispatching d) Root below = below
+
+abbrev pub layer_claim : Image → Layer → ℕ → List Item → Place → Kind → Kind
+layer_claim p l depth items (Register f i) below = register_claim l depth f i below
+layer_claim p l depth items (Entry k) below = entry_claim (entries_of l) items k below
+layer_claim p l depth items (Field n f) below = field_claim p l n f below
+layer_claim p l depth items (Going k) below = going_claim l depth k below
+layer_claim p l depth items (Elsewhere o) below = other_claim p l o below
+
+abbrev pub claim : Image → (Place → Kind) → List Layer → Place → Kind
+claim p declared [] r = declared r
+claim p declared (l ∷ ls) r = layer_claim p l (length (tasks_of ls)) (items_of ls) r (claim p declared ls r)
+
+-- what holds of each place with no method at hand: fields and the root are null or hold ready objects of their classes
+abbrev pub declared_field : Image → Option Object → ℕ → Kind
+declared_field p None f = Null
+declared_field p (Some o) f = filled (field_thing p (thing_holder o.thing) f) Perhaps
+
+abbrev pub declared_other : Image → Other → Kind
+declared_other p Root = filled (field_thing p Program 0) Perhaps
+
+abbrev pub declared : Image → List Cell → Place → Kind
+declared p cs (Register f i) = Null
+declared p cs (Entry k) = Null
+declared p cs (Field n f) = declared_field p (named cs n) f
+declared p cs (Going k) = Null
+declared p cs (Elsewhere o) = declared_other p o

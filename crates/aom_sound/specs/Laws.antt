@@ -1,0 +1,69 @@
+-- The laws of the checked machine.
+use Rattle.std.specs.Prelude.{ℕ, false, ◌≡◌, ◌<◌, IsSome, List, [], ◌∷◌, Some, None}
+use Rattle.aom_image.specs.Image.{Image}
+use Rattle.aom_image.specs.Views.{method_at, method_class, method_role, leaves, gives_of, arguments_of}
+use Rattle.aom_image.specs.declared.method.Gives.TheVariants.{Nothing}
+use Rattle.aom_image.specs.declared.method.Role.TheVariants.{Main, Destruct}
+use Rattle.aom_image.specs.declared.method.Thing.TheVariants.{Object as An_object_of}
+use Rattle.aom_classes.specs.Admitted.{IsAdmitted}
+use Rattle.aom_classes.specs.Linked.{IsLinked}
+use Rattle.aom_classes.specs.Roles.{role_of, main_of}
+use Rattle.aom_shape.specs.Things.{Member, field_thing}
+use Rattle.aom_shape.specs.Typing.{Typing, IsTyped}
+use Rattle.aom_sound.specs.Places.{Elsewhere, Root, held, named}
+use Rattle.aom_sound.specs.State.{Dispatch, Frame, Task, Run, Destroy, Dispatched, State, Choice, Goes}
+use Rattle.aom_sound.specs.Moves.{step, IsOpen}
+use Rattle.aom_sound.specs.WellTyped.{WellTyped, Keeps}
+use Rattle.aom_sound.specs.Owned.{Owned}
+use Rattle.aom_sound.specs.World.{boot_state, IsBusy, Reaches}
+use Rattle.aom_sound.specs.declared.line.Line.{Line}
+use Rattle.aom_sound.specs.declared.line.Ending.TheVariants.{Stopped}
+
+-- what linking has found, as far as the laws use it
+pub record IsWired (p : Image) : Type 0 where
+  pub has_main : IsSome (main_of p)
+  pub main : (m : ℕ) → main_of p ≡ Some m → (IsSome (method_at p m)) × (method_role p m ≡ Some Main) × (gives_of p m ≡ Nothing) × (arguments_of p m ≡ [])
+  pub destructor : (c m : ℕ) → role_of p c Destruct ≡ Some m → (IsSome (method_at p m)) × (method_role p m ≡ Some Destruct) × (method_class p m ≡ Some c) × (leaves p m ≡ false) × (gives_of p m ≡ Nothing) × (arguments_of p m ≡ [])
+  pub no_destructor : (c : ℕ) → role_of p c Destruct ≡ None → (f : ℕ) → field_thing p (Member c) f ≡ None
+  -- what a field may own has a lower class
+  pub ordered : (c d f : ℕ) → field_thing p (Member c) f ≡ Some (An_object_of d) → d < c
+
+-- the boot state is well typed
+abbrev pub BootKeeps : Type 0
+BootKeeps = (p : Image) (t : Typing) → IsWired p → IsTyped p t → WellTyped p t (boot_state p)
+
+-- a move from a well-typed state is not stuck, and leads to a well-typed state
+abbrev pub StepKeeps : Type 0
+StepKeeps = (p : Image) (t : Typing) → IsWired p → IsTyped p t → (c : Choice) (s : State) → WellTyped p t s → named s.cells c.name ≡ None → Keeps p t (step p c s)
+
+-- at a dispatch's end, and between dispatches, each cell has exactly one living owner
+abbrev pub EndsOwned : Type 0
+EndsOwned = (p : Image) (t : Typing) → IsWired p → (s : State) → WellTyped p t s → ((d : Dispatch) → s.tasks ≡ Dispatched d ∷ [] → Owned s) × (s.tasks ≡ [] → Owned s)
+
+-- and where the root holds nothing then, no cell is left
+abbrev pub EndsEmpty : Type 0
+EndsEmpty = (p : Image) (t : Typing) → IsWired p → (s : State) → WellTyped p t s → s.tasks ≡ [] → held s.cells (Elsewhere Root) ≡ None → s.cells ≡ []
+
+-- of each run of an image: it is never stuck, at each dispatch's end each cell has one living owner, and where it stopped no cell is left
+pub record IsSound (p : Image) (refused : List ℕ) : Type 0 where
+  pub goes_on : (lines : List Line) (s : State) → Reaches p refused (boot_state p) lines s → IsBusy s → (c : Choice) → IsOpen p refused c s → (u : State) × (step p c s ≡ Goes u)
+  pub owned : (lines : List Line) (s : State) (d : Dispatch) → Reaches p refused (boot_state p) lines s → s.tasks ≡ Dispatched d ∷ [] → Owned s
+  pub stopped_empty : (lines : List Line) (s : State) → Reaches p refused (boot_state p) lines s → s.rest.ended ≡ Some Stopped → s.cells ≡ []
+
+-- each linked image that has a typing is sound, whatever is refused
+abbrev pub TypedIsSound : Type 0
+TypedIsSound = (p : Image) (t : Typing) (refused : List ℕ) → IsWired p → IsTyped p t → p.header.root ≡ None → IsSound p refused
+
+-- what a linked image of the admitted kind gives the laws
+abbrev pub LinkedIsWired : Type 0
+LinkedIsWired = (p : Image) → IsLinked p → IsAdmitted p → IsWired p × (p.header.root ≡ None)
+
+-- a move of a method, of a destruction, and the end of a dispatch
+abbrev pub InstructionKeeps : Type 0
+InstructionKeeps = (p : Image) (t : Typing) → IsWired p → IsTyped p t → (c : Choice) (s : State) (fr : Frame) (tasks : List Task) → WellTyped p t s → s.tasks ≡ Run fr ∷ tasks → named s.cells c.name ≡ None → Keeps p t (step p c s)
+
+abbrev pub DestructionKeeps : Type 0
+DestructionKeeps = (p : Image) (t : Typing) (c : Choice) (s : State) (tasks : List Task) → WellTyped p t s → s.tasks ≡ Destroy ∷ tasks → Keeps p t (step p c s)
+
+abbrev pub TurnKeeps : Type 0
+TurnKeeps = (p : Image) (t : Typing) (c : Choice) (s : State) (d : Dispatch) (tasks : List Task) → WellTyped p t s → s.tasks ≡ Dispatched d ∷ tasks → Keeps p t (step p c s)

@@ -1,0 +1,13 @@
+pub mod Places
+pub mod State
+pub mod Destruction
+pub mod Words
+pub mod Objects
+pub mod Calls
+pub mod Moves
+pub mod Claims
+pub mod WellTyped
+pub mod Owned
+pub mod World
+pub mod Laws
+pub mod Examples

@@ -1,0 +1,86 @@
+-- Places, the cells with their owners, and what a place holds.
+use Rattle.std.specs.Prelude.{ℕ, ℤ, Bool, cond, ◌&&◌, ◌==◌, ◌≡◌, List, [], ◌∷◌, Option, Some, None}
+use Rattle.aom_image.specs.declared.method.Thing.{Thing}
+
+-- places that no method's frame speaks of but main's
+pub data Other : Type 0 where
+  Root : Other
+
+-- where a cell can be owned
+pub data Place : Type 0 where
+  Register : (frame register : ℕ) → Place
+  Entry : (index : ℕ) → Place
+  Field : (cell field : ℕ) → Place
+  Going : (index : ℕ) → Place
+  Elsewhere : Other → Place
+
+-- a place as three numbers, so that places are compared as numbers are
+abbrev pub other_outer : Other → ℕ
+other_outer Root = 0
+
+abbrev pub place_kind : Place → ℕ
+place_kind (Register f r) = 0
+place_kind (Entry k) = 1
+place_kind (Field n f) = 2
+place_kind (Going k) = 3
+place_kind (Elsewhere o) = 4
+
+abbrev pub place_outer : Place → ℕ
+place_outer (Register f r) = f
+place_outer (Entry k) = k
+place_outer (Field n f) = n
+place_outer (Going k) = k
+place_outer (Elsewhere o) = other_outer o
+
+abbrev pub place_inner : Place → ℕ
+place_inner (Register f r) = r
+place_inner (Entry k) = 0
+place_inner (Field n f) = f
+place_inner (Going k) = 0
+place_inner (Elsewhere o) = 0
+
+abbrev pub same_place : Place → Place → Bool
+same_place p q = (place_kind p == place_kind q) && ((place_outer p == place_outer q) && (place_inner p == place_inner q))
+
+-- a name, and what it is the name of
+pub record Object : Type 0 where
+  pub name : ℕ
+  pub thing : Thing
+
+pub record Cell : Type 0 where
+  pub object : Object
+  pub words : List ℤ
+  pub owner : Place
+
+-- what a place holds: the cell that it owns
+abbrev pub held : List Cell → Place → Option Object
+held [] p = None
+held (c ∷ cs) p = cond (same_place c.owner p) (Some c.object) (held cs p)
+
+-- the cell of that name
+abbrev pub named : List Cell → ℕ → Option Object
+named [] n = None
+named (c ∷ cs) n = cond (c.object.name == n) (Some c.object) (named cs n)
+
+-- whatever p owns is owned by q from then on
+abbrev pub moved : Place → Place → List Cell → List Cell
+moved p q [] = []
+moved p q (c ∷ cs) = record c { owner = cond (same_place c.owner p) q c.owner } ∷ moved p q cs
+
+-- whatever p owns goes
+abbrev pub without : Place → List Cell → List Cell
+without p [] = []
+without p (c ∷ cs) = cond (same_place c.owner p) (without p cs) (c ∷ without p cs)
+
+-- one more cell, whose words are 0
+abbrev pub with_new : ℕ → Thing → Place → List Cell → List Cell
+with_new name thing owner cs = record { object = record { name = name; thing = thing }; words = []; owner = owner } ∷ cs
+
+-- names and places stand once
+abbrev pub Tidy : List Cell → Type 0
+Tidy [] = Unit {0}
+Tidy (c ∷ cs) = (held cs c.owner ≡ None) × (named cs c.object.name ≡ None) × Tidy cs
+
+-- a function of places with one value changed
+abbrev pub changed : {A : Type 0} → (Place → A) → Place → A → Place → A
+changed f p v r = cond (same_place p r) v (f r)

@@ -1,0 +1,139 @@
+-- The state of the checked machine.
+use Rattle.std.specs.Prelude.{ℕ, suc, ℤ, Bool, cond, ◌+◌, ◌-◌, ◌^◌, min, List, [], ◌∷◌, Option, None}
+use Rattle.aom_image.specs.declared.method.Thing.{Thing}
+use Rattle.aom_image.specs.declared.method.Thing.TheVariants.{Object as An_object_of, Message}
+use Rattle.aom_shape.specs.Tables.{at, put_at}
+use Rattle.aom_shape.specs.Things.{Holder, Nobody, Program, Member}
+use Rattle.aom_sound.specs.Places.{Place, Field, Elsewhere, Root, Object, Cell}
+use Rattle.aom_sound.specs.declared.line.Ending.{Ending}
+
+-- whose fields a frame works on: nobody's, the root as main's only field, or a cell's, with the place that held it when the frame was made
+pub data Home : Type 0 where
+  Static : Home
+  AtRoot : Home
+  Inside : (this : Object) (from : Place) → Home
+
+pub record Frame : Type 0 where
+  pub method : ℕ
+  pub place : ℕ
+  -- none where a register holds no word
+  pub words : List (Option ℤ)
+  pub home : Home
+  -- how many items the cleanup stack had as it began
+  pub height : ℕ
+
+-- what a dispatch is of
+pub data Dispatch : Type 0 where
+  Of_main : Dispatch
+
+-- what is at hand, the innermost first
+pub data Task : Type 0 where
+  Run : Frame → Task
+  Trapped : Task
+  Destroy : Task
+  Dispatched : Dispatch → Task
+
+-- an item of the cleanup stack
+pub data Item : Type 0 where
+  An_object : Item
+  A_mark : Item
+
+-- what no place tells: the clock, counts, and how far the run has come
+pub record Rest : Type 0 where
+  pub clock : ℕ
+  -- allocation requests so far
+  pub requests : ℕ
+  -- steps of the dispatch at hand
+  pub steps : ℕ
+  -- main's line is written
+  pub announced : Bool
+  -- `stop` was run
+  pub stopped : Bool
+  -- the run is over
+  pub ended : Option Ending
+
+pub record State : Type 0 where
+  pub cells : List Cell
+  pub tasks : List Task
+  -- last first
+  pub items : List Item
+  pub rest : Rest
+
+-- what is left free, and what the request at hand will hear: the name of a new cell, and whether the request is refused
+pub record Choice : Type 0 where
+  pub name : ℕ
+  pub refused : Bool
+
+-- the kinds of stuck states
+pub data Stuck : Type 0 where
+  Unbalanced : Stuck
+  PopUnder : Stuck
+  PushNoTrap : Stuck
+  LeaveNoTrap : Stuck
+  AlreadyActive : Stuck
+  ActiveDestroyed : Stuck
+  Stray : Stuck
+  AddedWrong : Stuck
+  RequestOverlap : Stuck
+  CancelHang : Stuck
+  CompletedTwice : Stuck
+  MessageLost : Stuck
+  Orphan : Stuck
+  NullOrDead : Stuck
+  WrongKind : Stuck
+  ClosedWhileOutstanding : Stuck
+
+pub data Outcome : Type 0 where
+  Goes : State → Outcome
+  IsStuck : Stuck → Outcome
+
+-- a need of the machine: a test, and the kind of its failure
+abbrev pub Need : Type 0
+Need = Bool × Stuck
+
+abbrev pub guarded : List Need → State → Outcome
+guarded [] s = Goes s
+guarded (need ∷ needs) s = cond need.0 (guarded needs s) (IsStuck need.1)
+
+-- counts and times stay at their greatest value
+abbrev pub raised : ℕ → ℕ
+raised n = min (n + 1) (2 ^ 64 - 1)
+
+-- of a frame
+abbrev pub word : Frame → ℕ → Option ℤ
+word fr i = at None fr.words i
+
+abbrev pub set_word : Frame → ℕ → Option ℤ → Frame
+set_word fr i w = record fr { words = put_at None fr.words i w }
+
+abbrev pub next : Frame → Frame
+next fr = record fr { place = suc fr.place }
+
+abbrev pub to_place : Frame → ℕ → Frame
+to_place fr to = record fr { place = to }
+
+abbrev pub frame_of : ℕ → Home → ℕ → Frame
+frame_of m home height = record { method = m; place = 0; words = []; home = home; height = height }
+
+-- the place of a field, and whose fields these are
+abbrev pub field_place : Home → ℕ → Place
+field_place Static f = Elsewhere Root
+field_place AtRoot f = Elsewhere Root
+field_place (Inside o from) f = Field o.name f
+
+abbrev pub thing_holder : Thing → Holder
+thing_holder (An_object_of c) = Member c
+thing_holder Message = Nobody
+
+abbrev pub home_holder : Home → Holder
+home_holder Static = Nobody
+home_holder AtRoot = Program
+home_holder (Inside o from) = thing_holder o.thing
+
+-- what was at hand is over, and the method below goes on
+abbrev pub resumed : List Task → List Task
+resumed [] = []
+resumed (Run fr ∷ ts) = Run (next fr) ∷ ts
+resumed (Trapped ∷ ts) = Trapped ∷ ts
+resumed (Destroy ∷ ts) = Destroy ∷ ts
+resumed (Dispatched d ∷ ts) = Dispatched d ∷ ts

@@ -1,0 +1,259 @@
+-- The well-typed states: what the typing says of the methods at hand holds of the cells and their owners.
+use Rattle.std.specs.Prelude.{ℕ, suc, true, false, ◌==◌, ◌≡◌, ◌⊎◌, ◌<◌, ℤ, length, List, [], ◌∷◌, Option, Some, None}
+use Rattle.aom_image.specs.Image.{Image}
+use Rattle.aom_image.specs.Views.{instr_at, leaves, gives_of}
+use Rattle.aom_image.specs.declared.method.Gives.{Gives}
+use Rattle.aom_image.specs.declared.method.Gives.TheVariants.{Nothing, Word as A_word, Own as An_own, Maybe as A_maybe, Left}
+use Rattle.aom_shape.specs.Things.{stands_for, field_thing, holder_of}
+use Rattle.aom_shape.specs.Shape.{Shape}
+use Rattle.aom_shape.specs.Kinds.{register, set_register, filled, is_unowning, is_ready_kind, none_owns}
+use Rattle.aom_shape.specs.Typing.{Typing, shape_at, Leads}
+use Rattle.aom_shape.specs.Calls.{is_destructor}
+use Rattle.aom_shape.specs.declared.kind.Age.{Age}
+use Rattle.aom_shape.specs.declared.kind.Age.TheVariants.{Fresh, Ready}
+use Rattle.aom_shape.specs.declared.kind.Filling.TheVariants.{Perhaps}
+use Rattle.aom_shape.specs.declared.kind.Kind.{Kind}
+use Rattle.aom_shape.specs.declared.kind.Kind.TheVariants.{Unset, Word, Null, Own, Maybe}
+use Rattle.aom_sound.specs.Places.{Place, Register, Entry, Field, Going, Elsewhere, Root, same_place, Object, Cell, held, named, Tidy}
+use Rattle.aom_sound.specs.State.{Home, Static, AtRoot, Inside, Frame, Dispatch, Of_main, word, State, Outcome, Goes, IsStuck, home_holder, thing_holder}
+use Rattle.aom_sound.specs.Calls.{result_register, called}
+use Rattle.aom_sound.specs.Claims.{Layer, Method, Mark, Dying, Dispatching, tasks_of, items_of, claim, declared}
+
+-- fresh: all fields are null
+abbrev pub HasAge : (Place → Option Object) → Object → Age → Type 0
+HasAge h o Fresh = (f : ℕ) → h (Field o.name f) ≡ None
+HasAge h o Ready = Unit {0}
+
+-- a kind holds of what a place holds
+abbrev pub Fits : Image → (Place → Option Object) → Option Object → Kind → Type 0
+Fits p h None Unset = Unit {0}
+Fits p h None Word = Unit {0}
+Fits p h None Null = Unit {0}
+Fits p h None (Own t a) = ⊥
+Fits p h None (Maybe t a) = Unit {0}
+Fits p h (Some o) Unset = ⊥
+Fits p h (Some o) Word = ⊥
+Fits p h (Some o) Null = ⊥
+Fits p h (Some o) (Own t a) = (stands_for p o.thing t ≡ true) × HasAge h o a
+Fits p h (Some o) (Maybe t a) = (stands_for p o.thing t ≡ true) × HasAge h o a
+
+-- a kind holds of a register's word
+abbrev pub WordFits : Option ℤ → Kind → Type 0
+WordFits w Unset = Unit {0}
+WordFits None Word = ⊥
+WordFits (Some w) Word = Unit {0}
+WordFits w Null = w ≡ None
+WordFits w (Own t a) = w ≡ None
+WordFits w (Maybe t a) = w ≡ None
+
+-- what the task above a method brings back to it
+pub data Back : Type 0 where
+  Now : Back
+  Returns : (method : ℕ) (home : Home) → Back
+  Caught : (gives : Gives) → Back
+  Gone : Back
+
+-- the frame's registers are as the state says, and its home and its height are its own
+pub record Frames (p : Image) (ls : List Layer) (fr : Frame) (sh : Shape) : Type 0 where
+  pub words : (i : ℕ) → WordFits (word fr i) (register sh i)
+  pub holder : home_holder fr.home ≡ holder_of p fr.method
+  pub height : fr.height ≡ length (items_of ls)
+
+-- the abstract state after a return, from the one that holds while the call lasts
+abbrev pub brought : Gives → ℕ → Shape → Shape
+brought Nothing c sh = sh
+brought A_word c sh = set_register sh c Word
+brought (An_own t) c sh = set_register sh c (Own t Ready)
+brought (A_maybe t) c sh = set_register sh c (Maybe t Ready)
+brought (Left x) c sh = sh
+
+-- the same after a trap: null where it left, and the code in the next register
+abbrev pub caught : Gives → ℕ → Shape → Shape
+caught Nothing c sh = set_register sh (suc c) Word
+caught A_word c sh = set_register (set_register sh c Word) (suc c) Word
+caught (An_own t) c sh = set_register (set_register sh c (Maybe t Ready)) (suc c) Word
+caught (A_maybe t) c sh = set_register (set_register sh c (Maybe t Ready)) (suc c) Word
+caught (Left x) c sh = sh
+
+-- what the result goes to owns nothing while the call lasts
+abbrev pub Awaits : Gives → ℕ → Shape → Type 0
+Awaits Nothing c sh = Unit {0}
+Awaits A_word c sh = is_unowning (register sh c) ≡ true
+Awaits (An_own t) c sh = is_unowning (register sh c) ≡ true
+Awaits (A_maybe t) c sh = is_unowning (register sh c) ≡ true
+Awaits (Left x) c sh = ⊥
+
+-- the typing has that state where the frame stands, or where it goes on once the task above is over
+abbrev pub Stands : Image → Typing → Back → Frame → Shape → Type 0
+Stands p t Now fr sh = shape_at t fr.method fr.place ≡ Some sh
+Stands p t (Returns m home) fr sh =
+    (leaves p m ≡ true → (leaves p fr.method ≡ true) × (none_owns sh.registers ≡ true))
+    × Awaits (gives_of p m) (result_register (instr_at p fr.method fr.place)) sh
+    × Leads t fr.method (suc fr.place) (brought (gives_of p m) (result_register (instr_at p fr.method fr.place)) sh)
+Stands p t (Caught g) fr sh =
+    (called p (instr_at p fr.method fr.place) ≡ g)
+    × (is_unowning (register sh (suc (result_register (instr_at p fr.method fr.place)))) ≡ true)
+    × Awaits g (result_register (instr_at p fr.method fr.place)) sh
+    × Leads t fr.method (suc fr.place) (caught g (result_register (instr_at p fr.method fr.place)) sh)
+Stands p t Gone fr sh = Leads t fr.method (suc fr.place) sh
+
+-- that place is no field of that cell
+abbrev pub IsNoFieldOf : ℕ → Place → Type 0
+IsNoFieldOf n (Register f r) = Unit {0}
+IsNoFieldOf n (Entry k) = Unit {0}
+IsNoFieldOf n (Field m f) = (n == m) ≡ false
+IsNoFieldOf n (Going k) = Unit {0}
+IsNoFieldOf n (Elsewhere o) = Unit {0}
+
+abbrev pub NotIn : ℕ → Home → Type 0
+NotIn n Static = Unit {0}
+NotIn n AtRoot = Unit {0}
+NotIn n (Inside o from) = IsNoFieldOf n from
+
+-- no layer's method was called on a field of that cell
+abbrev pub NoneIn : ℕ → List Layer → Type 0
+NoneIn n [] = Unit {0}
+NoneIn n (Method fr sh ∷ ls) = NotIn n fr.home × NoneIn n ls
+NoneIn n (Mark gv ∷ ls) = NoneIn n ls
+NoneIn n (Dying o ∷ ls) = NoneIn n ls
+NoneIn n (Dispatching d ∷ ls) = NoneIn n ls
+
+-- the layers claim nothing of that cell's fields beyond what its class declares
+abbrev pub by_field : (ℕ → Kind) → Place → Kind
+by_field d (Register f r) = Null
+by_field d (Entry k) = Null
+by_field d (Field m f) = d f
+by_field d (Going k) = Null
+by_field d (Elsewhere o) = Null
+
+abbrev pub Unclaimed : Image → (ℕ → Kind) → ℕ → List Layer → Type 0
+Unclaimed p d n ls = (f : ℕ) → claim p (by_field d) ls (Field n f) ≡ d f
+
+-- below the going of a cell its fields are claimed to be null
+abbrev pub past_going : List Layer → List Layer
+past_going [] = []
+past_going (Dying o ∷ ls) = ls
+past_going (Method fr sh ∷ ls) = Method fr sh ∷ ls
+past_going (Mark gv ∷ ls) = Mark gv ∷ ls
+past_going (Dispatching d ∷ ls) = Dispatching d ∷ ls
+
+abbrev pub NotAtRoot : Home → Type 0
+NotAtRoot Static = Unit {0}
+NotAtRoot AtRoot = ⊥
+NotAtRoot (Inside o from) = Unit {0}
+
+-- no layer claims the root
+abbrev pub RootUnclaimed : List Layer → Type 0
+RootUnclaimed [] = Unit {0}
+RootUnclaimed (Method fr sh ∷ ls) = NotAtRoot fr.home × RootUnclaimed ls
+RootUnclaimed (Mark gv ∷ ls) = RootUnclaimed ls
+RootUnclaimed (Dying o ∷ ls) = RootUnclaimed ls
+RootUnclaimed (Dispatching d ∷ ls) = RootUnclaimed ls
+
+abbrev pub NotFrom : Place → Home → Type 0
+NotFrom q Static = Unit {0}
+NotFrom q AtRoot = Unit {0}
+NotFrom q (Inside o from) = same_place q from ≡ false
+
+-- no layer's method was called on what that place held
+abbrev pub NoneFrom : Place → List Layer → Type 0
+NoneFrom q [] = Unit {0}
+NoneFrom q (Method fr sh ∷ ls) = NotFrom q fr.home × NoneFrom q ls
+NoneFrom q (Mark gv ∷ ls) = NoneFrom q ls
+NoneFrom q (Dying o ∷ ls) = NoneFrom q ls
+NoneFrom q (Dispatching d ∷ ls) = NoneFrom q ls
+
+-- the layers below claim of the fields that a method works on no more than what is declared
+abbrev pub IsApart : Image → Home → List Layer → Type 0
+IsApart p Static ls = Unit {0}
+IsApart p AtRoot ls = RootUnclaimed ls × NoneFrom (Elsewhere Root) ls
+IsApart p (Inside o from) ls =
+    IsNoFieldOf o.name from
+    × NoneIn o.name ls
+    × Unclaimed p (λ f. filled (field_thing p (thing_holder o.thing) f) Perhaps) o.name (past_going ls)
+
+-- some layer's method works on that cell
+abbrev pub WorksOn : ℕ → Home → Type 0
+WorksOn n Static = ⊥
+WorksOn n AtRoot = ⊥
+WorksOn n (Inside o from) = o.name ≡ n
+
+abbrev pub SomeIn : ℕ → List Layer → Type 0
+SomeIn n [] = ⊥
+SomeIn n (Method fr sh ∷ ls) = WorksOn n fr.home ⊎ SomeIn n ls
+SomeIn n (Mark gv ∷ ls) = SomeIn n ls
+SomeIn n (Dying o ∷ ls) = SomeIn n ls
+SomeIn n (Dispatching d ∷ ls) = SomeIn n ls
+
+-- the place belongs to the layers
+abbrev pub IsBelow : Place → List Layer → Type 0
+IsBelow (Register f r) ls = f < length (tasks_of ls)
+IsBelow (Entry k) ls = k < length (items_of ls)
+IsBelow (Field n f) ls = SomeIn n ls
+IsBelow (Going k) ls = k < length (tasks_of ls)
+IsBelow (Elsewhere o) ls = Unit {0}
+
+-- what holds this is below the frame, and is claimed to be ready
+pub record Holds (p : Image) (cs : List Cell) (ls : List Layer) (o : Object) (from : Place) : Type 0 where
+  pub there : held cs from ≡ Some o
+  pub lives : named cs o.name ≡ Some o
+  pub below : IsBelow from ls
+  pub ready : is_ready_kind (claim p (λ r. Null) ls from) ≡ true
+
+abbrev pub IsHoused : Image → List Cell → List Layer → Home → Type 0
+IsHoused p cs ls Static = Unit {0}
+IsHoused p cs ls AtRoot = Unit {0}
+IsHoused p cs ls (Inside o from) = Holds p cs ls o from
+
+-- a trap knows what the method that it was set for gives
+abbrev pub Catches : Image → Back → Gives → Type 0
+Catches p Now g = ⊥
+Catches p (Returns m home) g = gives_of p m ≡ g
+Catches p (Caught g') g = ⊥
+Catches p Gone g = ⊥
+
+-- right above a cell that goes stands its destructor
+abbrev pub IsDestructorOf : Image → ℕ → Object → Back → Type 0
+IsDestructorOf p depth o Now = Unit {0}
+IsDestructorOf p depth o (Returns m home) = (leaves p m ≡ false) × (home ≡ Inside o (Going depth)) × (is_destructor p m ≡ true) × (gives_of p m ≡ Nothing)
+IsDestructorOf p depth o (Caught g) = ⊥
+IsDestructorOf p depth o Gone = ⊥
+
+-- a dispatch is at its end, or its method runs under its trap
+abbrev pub EndsDispatch : Image → Dispatch → Back → Type 0
+EndsDispatch p Of_main Now = Unit {0}
+EndsDispatch p Of_main (Returns m home) = ⊥
+EndsDispatch p Of_main (Caught g) = g ≡ Nothing
+EndsDispatch p Of_main Gone = ⊥
+
+abbrev pub Stack : Image → Typing → List Cell → Back → List Layer → Type 0
+Stack p t cs back [] = back ≡ Now
+Stack p t cs back (Method fr sh ∷ ls) =
+    Stands p t back fr sh
+    × Frames p ls fr sh
+    × IsHoused p cs ls fr.home
+    × IsApart p fr.home ls
+    × Stack p t cs (Returns fr.method fr.home) ls
+Stack p t cs back (Mark gv ∷ ls) = Catches p back gv × Stack p t cs (Caught gv) ls
+Stack p t cs back (Dying o ∷ ls) =
+    ((named cs o.name ≡ Some o) × (held cs (Going (length (tasks_of ls))) ≡ Some o))
+    × IsDestructorOf p (length (tasks_of ls)) o back
+    × Stack p t cs Gone ls
+Stack p t cs back (Dispatching d ∷ ls) = EndsDispatch p d back × (ls ≡ [])
+
+-- a well-typed state, by its layers
+pub record Good (p : Image) (t : Typing) (cs : List Cell) (ls : List Layer) : Type 0 where
+  pub stack : Stack p t cs Now ls
+  pub fits : (r : Place) → Fits p (held cs) (held cs r) (claim p (declared p cs) ls r)
+  pub tidy : Tidy cs
+
+pub record WellTyped (p : Image) (t : Typing) (s : State) : Type 0 where
+  pub layers : List Layer
+  pub tasks : s.tasks ≡ tasks_of layers
+  pub items : s.items ≡ items_of layers
+  pub good : Good p t s.cells layers
+
+-- not stuck, and on to a well-typed state
+abbrev pub Keeps : Image → Typing → Outcome → Type 0
+Keeps p t (Goes s) = WellTyped p t s
+Keeps p t (IsStuck kind) = ⊥

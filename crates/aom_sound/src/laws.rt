@@ -1,0 +1,53 @@
+//! The laws, each as the contract of a function that does nothing.
+ghost use Rattle.aom_sound.specs.Laws.{BootKeeps, InstructionKeeps, DestructionKeeps, TurnKeeps, StepKeeps, EndsOwned, EndsEmpty, TypedIsSound, LinkedIsWired};
+ghost use Rattle.aom_sound.specs.Examples.{StuckExamples};
+
+/// A run of a typed image begins well typed.
+pub fn boot_keeps()
+    ensures { BootKeeps }
+{}
+
+/// An instruction of a well-typed state is not stuck.
+pub fn instruction_keeps()
+    ensures { InstructionKeeps }
+{}
+
+/// A cell that goes leaves no orphan.
+pub fn destruction_keeps()
+    ensures { DestructionKeeps }
+{}
+
+/// A dispatch ends well typed.
+pub fn turn_keeps()
+    ensures { TurnKeeps }
+{}
+
+/// Every move of a well-typed state is one of the three above.
+pub fn step_keeps()
+    ensures { StepKeeps }
+{}
+
+/// Ownership is a forest at the end of each dispatch.
+pub fn ends_owned()
+    ensures { EndsOwned }
+{}
+
+/// Without a root nothing is left.
+pub fn ends_empty()
+    ensures { EndsEmpty }
+{}
+
+/// The whole of a run.
+pub fn typed_is_sound()
+    ensures { TypedIsSound }
+{}
+
+/// What the laws ask of an image is what linking has checked.
+pub fn linked_is_wired()
+    ensures { LinkedIsWired }
+{}
+
+/// The checked machine has stuck states, so that the laws say something.
+pub fn stuck_examples()
+    ensures { StuckExamples }
+{}

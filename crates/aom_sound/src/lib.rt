@@ -1,0 +1,16 @@
+//! The checked machine and its laws.
+//!
+//! What a run does is defined here apart from the code that runs: states with a map of owners, what each instruction
+//! needs and does, destruction, the world. Nothing in this crate runs but the types of what a run shows. It promises
+//! that a move from a well-typed state is not stuck and leads to a well-typed one; each law is the contract of a
+//! public function with an empty body.
+#![tactic(auto)]
+
+mod laws;
+mod line;
+
+pub use laws::{
+    boot_keeps, destruction_keeps, ends_empty, ends_owned, instruction_keeps, linked_is_wired,
+    step_keeps, stuck_examples, turn_keeps, typed_is_sound,
+};
+pub use line::{Ending, Line};

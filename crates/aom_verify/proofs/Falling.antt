@@ -1,0 +1,93 @@
+-- A state that says strictly less has a lower rank, and changes of lists of states add up.
+use Rattle.std.proofs.Common.{◌≡◌, ◌≢◌, ℕ, zero, suc, ◌<◌, ◌≤◌, List, [], ◌∷◌, sym, ◌∙◌, arith}
+use Rattle.std.specs.List.{sum_by}
+use Rattle.std.proofs.lemmas.List.Sums.{sum_by-cons}
+use Rattle.aom_shape.specs.Order.{Weaker, WeakerFilling, SaysNoMore}
+use Rattle.aom_shape.specs.Order.Weaker.{alike, unset_word, unset_null, maybe_null, maybe_own}
+use Rattle.aom_shape.specs.Order.WeakerFilling.{alike_filling, perhaps_empty, perhaps_full}
+use Rattle.aom_shape.specs.Shape.{Shape}
+use Rattle.aom_shape.specs.Tables.{at}
+use Rattle.aom_shape.specs.declared.kind.Filling.{Filling}
+use Rattle.aom_shape.specs.declared.kind.Filling.TheVariants.{Perhaps}
+use Rattle.aom_shape.specs.declared.kind.Kind.{Kind}
+use Rattle.aom_shape.specs.declared.kind.Kind.TheVariants.{Unset}
+use Rattle.aom_verify.specs.Change.{kind_rank, filling_rank, shape_rank, IsChange, then}
+use Rattle.aom_verify.specs.Shapes.{Shapes}
+use Rattle.aom_verify.specs.declared.change.Change.{Change}
+use Rattle.aom_verify.specs.declared.change.Change.TheVariants.{Nothing, Fell, Reached}
+
+-- a weaker kind can fall no more often
+kind_falls : (a b : Kind) → Weaker a b → kind_rank a ≤ kind_rank b
+kind_falls a b (alike {k = k}) = omega arith
+kind_falls a b unset_word = omega arith
+kind_falls a b unset_null = omega arith
+kind_falls a b (maybe_null {t = t} {a = age}) = omega arith
+kind_falls a b (maybe_own {t = t} {a = age}) = omega arith
+
+-- and if it can fall as often it is the same
+kind_stays : (a b : Kind) → Weaker a b → kind_rank a ≡ kind_rank b → Weaker b a
+kind_stays a b (alike {k = k}) e = alike
+kind_stays a b unset_word e = absurd (omega arith)
+kind_stays a b unset_null e = absurd (omega arith)
+kind_stays a b (maybe_null {t = t} {a = age}) e = absurd (omega arith)
+kind_stays a b (maybe_own {t = t} {a = age}) e = absurd (omega arith)
+
+filling_falls : (a b : Filling) → WeakerFilling a b → filling_rank a ≤ filling_rank b
+filling_falls a b (alike_filling {x = x}) = omega arith
+filling_falls a b perhaps_empty = omega arith
+filling_falls a b perhaps_full = omega arith
+
+filling_stays : (a b : Filling) → WeakerFilling a b → filling_rank a ≡ filling_rank b → WeakerFilling b a
+filling_stays a b (alike_filling {x = x}) e = alike_filling
+filling_stays a b perhaps_empty e = absurd (omega arith)
+filling_stays a b perhaps_full e = absurd (omega arith)
+
+kinds_fall : (xs ys : List Kind) → ((i : ℕ) → Weaker (at Unset xs i) (at Unset ys i)) → sum_by kind_rank xs ≤ sum_by kind_rank ys
+kinds_fall [] ys h = omega arith
+kinds_fall (x ∷ xs) [] h = omega (arith, sum_by-cons kind_rank x xs, kind_falls x Unset (h 0), kinds_fall xs [] (λ i. h (suc i)))
+kinds_fall (x ∷ xs) (y ∷ ys) h = omega (arith, sum_by-cons kind_rank x xs, sum_by-cons kind_rank y ys, kind_falls x y (h 0), kinds_fall xs ys (λ i. h (suc i)))
+
+kinds_stay : (xs ys : List Kind) → ((i : ℕ) → Weaker (at Unset xs i) (at Unset ys i)) → sum_by kind_rank xs ≡ sum_by kind_rank ys → (i : ℕ) → Weaker (at Unset ys i) (at Unset xs i)
+kinds_stay [] [] h e i = alike
+kinds_stay [] (y ∷ ys) h e zero = kind_stays Unset y (h 0) (omega (arith, sum_by-cons kind_rank y ys, kind_falls Unset y (h 0), kinds_fall [] ys (λ i. h (suc i))))
+kinds_stay [] (y ∷ ys) h e (suc i) = kinds_stay [] ys (λ i. h (suc i)) (omega (arith, sum_by-cons kind_rank y ys, kind_falls Unset y (h 0), kinds_fall [] ys (λ i. h (suc i)))) i
+kinds_stay (x ∷ xs) [] h e zero = kind_stays x Unset (h 0) (omega (arith, sum_by-cons kind_rank x xs, kind_falls x Unset (h 0), kinds_fall xs [] (λ i. h (suc i))))
+kinds_stay (x ∷ xs) [] h e (suc i) = kinds_stay xs [] (λ i. h (suc i)) (omega (arith, sum_by-cons kind_rank x xs, kind_falls x Unset (h 0), kinds_fall xs [] (λ i. h (suc i)))) i
+kinds_stay (x ∷ xs) (y ∷ ys) h e zero = kind_stays x y (h 0) (omega (arith, sum_by-cons kind_rank x xs, sum_by-cons kind_rank y ys, kind_falls x y (h 0), kinds_fall xs ys (λ i. h (suc i))))
+kinds_stay (x ∷ xs) (y ∷ ys) h e (suc i) = kinds_stay xs ys (λ i. h (suc i)) (omega (arith, sum_by-cons kind_rank x xs, sum_by-cons kind_rank y ys, kind_falls x y (h 0), kinds_fall xs ys (λ i. h (suc i)))) i
+
+fillings_fall : (xs ys : List Filling) → ((i : ℕ) → WeakerFilling (at Perhaps xs i) (at Perhaps ys i)) → sum_by filling_rank xs ≤ sum_by filling_rank ys
+fillings_fall [] ys h = omega arith
+fillings_fall (x ∷ xs) [] h = omega (arith, sum_by-cons filling_rank x xs, filling_falls x Perhaps (h 0), fillings_fall xs [] (λ i. h (suc i)))
+fillings_fall (x ∷ xs) (y ∷ ys) h = omega (arith, sum_by-cons filling_rank x xs, sum_by-cons filling_rank y ys, filling_falls x y (h 0), fillings_fall xs ys (λ i. h (suc i)))
+
+fillings_stay : (xs ys : List Filling) → ((i : ℕ) → WeakerFilling (at Perhaps xs i) (at Perhaps ys i)) → sum_by filling_rank xs ≡ sum_by filling_rank ys → (i : ℕ) → WeakerFilling (at Perhaps ys i) (at Perhaps xs i)
+fillings_stay [] [] h e i = alike_filling
+fillings_stay [] (y ∷ ys) h e zero = filling_stays Perhaps y (h 0) (omega (arith, sum_by-cons filling_rank y ys, filling_falls Perhaps y (h 0), fillings_fall [] ys (λ i. h (suc i))))
+fillings_stay [] (y ∷ ys) h e (suc i) = fillings_stay [] ys (λ i. h (suc i)) (omega (arith, sum_by-cons filling_rank y ys, filling_falls Perhaps y (h 0), fillings_fall [] ys (λ i. h (suc i)))) i
+fillings_stay (x ∷ xs) [] h e zero = filling_stays x Perhaps (h 0) (omega (arith, sum_by-cons filling_rank x xs, filling_falls x Perhaps (h 0), fillings_fall xs [] (λ i. h (suc i))))
+fillings_stay (x ∷ xs) [] h e (suc i) = fillings_stay xs [] (λ i. h (suc i)) (omega (arith, sum_by-cons filling_rank x xs, filling_falls x Perhaps (h 0), fillings_fall xs [] (λ i. h (suc i)))) i
+fillings_stay (x ∷ xs) (y ∷ ys) h e zero = filling_stays x y (h 0) (omega (arith, sum_by-cons filling_rank x xs, sum_by-cons filling_rank y ys, filling_falls x y (h 0), fillings_fall xs ys (λ i. h (suc i))))
+fillings_stay (x ∷ xs) (y ∷ ys) h e (suc i) = fillings_stay xs ys (λ i. h (suc i)) (omega (arith, sum_by-cons filling_rank x xs, sum_by-cons filling_rank y ys, filling_falls x y (h 0), fillings_fall xs ys (λ i. h (suc i)))) i
+
+-- a state that says strictly less
+pub shape_falls : (a b : Shape) → SaysNoMore a b → ¬ SaysNoMore b a → shape_rank a < shape_rank b
+shape_falls a b h refused =
+    let registers = kinds_fall a.registers b.registers h.registers in
+    let fields = fillings_fall a.fields b.fields h.fields in
+    let differ : shape_rank a ≢ shape_rank b = λ e. refused (record {
+      registers = kinds_stay a.registers b.registers h.registers (omega arith);
+      fields = fillings_stay a.fields b.fields h.fields (omega arith);
+      entries = sym h.entries;
+    }) in
+    omega (arith, registers, fields, differ)
+
+-- two changes add up
+pub changes_add : (a b c : Shapes) (x y : Change) → IsChange a b x → IsChange b c y → IsChange a c (then x y)
+changes_add a b c Nothing y e h = rw (← e) h
+changes_add a b c Fell Nothing h e = rw e h
+changes_add a b c Fell Fell h k = (k.0 ∙ h.0, omega (arith, h.1, k.1))
+changes_add a b c Fell Reached h k = omega (arith, h.0, k)
+changes_add a b c Reached Nothing h e = rw e h
+changes_add a b c Reached Fell h k = omega (arith, h, k.0)
+changes_add a b c Reached Reached h k = omega (arith, h, k)

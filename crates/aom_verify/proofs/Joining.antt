@@ -1,0 +1,162 @@
+-- Meeting a flow into the state at a place, and meeting several one after the other.
+use Rattle.std.proofs.Common.{◌≡◌, ℕ, zero, suc, ◌<◌, ◌+◌, Bool, false, IsTrue, List, [], ◌∷◌, ◌++◌, length, Option, Some, None, slice_set, slice_index_or, take, drop, inl, inr, refl, sym, ◌∙◌, ap, arith}
+use Rattle.std.proofs.lemmas.Bool.Decides.{eqb_tells}
+use Rattle.std.proofs.lemmas.List.{length-set, take_more, take-append-drop}
+use Rattle.std.proofs.lemmas.List.Sums.{sum_by-set}
+use Rattle.aom_shape.specs.Meet.{IsMeet, NoMeet}
+use Rattle.aom_shape.specs.Needs.{Flow}
+use Rattle.aom_shape.specs.Order.{SaysNoMore}
+use Rattle.aom_shape.specs.Shape.{Shape}
+use Rattle.aom_shape.specs.Tables.{at}
+use Rattle.aom_shape.proofs.Ordering.{reflexive, transitive}
+use Rattle.aom_shape.proofs.Lists.{at_within, at_set_here, at_set_other}
+use Rattle.aom_verify.specs.Change.{place_rank, unreached, IsChange, then}
+use Rattle.aom_verify.specs.Shapes.{Shapes, Meets, AllMet}
+use Rattle.aom_verify.specs.Sweep.{IsBelow, AllWithin, Joins, CannotJoin}
+use Rattle.aom_verify.specs.declared.change.Change.{Change}
+use Rattle.aom_verify.specs.declared.change.Change.TheVariants.{Nothing, Fell, Reached}
+use Rattle.aom_verify.proofs.Ordering.{meets_below, below_self, below_along}
+use Rattle.aom_verify.proofs.Falling.{shape_falls, changes_add}
+
+-- what a new state at a place owes: it says no more than the flow and than the old state, and is the strongest such
+pub record IsPut (s : Shapes) (to : ℕ) (sh m : Shape) : Type 0 where
+  pub within : to < length s
+  pub no_more : SaysNoMore m sh
+  pub old : (there : Shape) → at None s to ≡ Some there → SaysNoMore m there
+  pub strongest : (n : Shape) → SaysNoMore n sh → ((there : Shape) → at None s to ≡ Some there → SaysNoMore n there) → SaysNoMore n m
+
+pub put_here : (s : Shapes) (to : ℕ) (m : Shape) → to < length s → at None (slice_set s to (Some m)) to ≡ Some m
+put_here s to m h = at_set_here None s to (Some m) h
+
+put_below : (s : Shapes) (to : ℕ) (sh m : Shape) → IsPut s to sh m → IsBelow (slice_set s to (Some m)) s
+put_below s to sh m h = record {
+  each = λ pc x e. elim (eqb_tells pc to) [
+    | inl w ↦ record { next = m; there = rw w.1 (put_here s to m h.within); no_more = h.old x (rw w.1 at e) }
+    | inr w ↦ record { next = x; there = at_set_other None s to pc (Some m) w.1 ∙ e; no_more = reflexive x }
+  ];
+}
+
+-- a list of states below the old ones that meets the flow
+below_at : (t s : Shapes) (to : ℕ) (sh : Shape) (meets : Meets t to sh) → IsBelow t s → (there : Shape) → at None s to ≡ Some there → SaysNoMore meets.next there
+below_at t s to sh meets below there e =
+    let other = below.each to there e in
+    let same : other.next ≡ meets.next = let f = other.there in let g = meets.there in cc in
+    rw same at other.no_more
+
+put_strongest : (t s : Shapes) (to : ℕ) (sh m : Shape) → IsPut s to sh m → IsBelow t s → Meets t to sh → IsBelow t (slice_set s to (Some m))
+put_strongest t s to sh m h below meets = record {
+  each = λ pc x e. elim (eqb_tells pc to) [
+    | inl w ↦
+        let here = put_here s to m h.within in
+        let same : m ≡ x = let f = rw w.1 at e in cc in
+        let found : Meets t to m = record { next = meets.next; there = meets.there; no_more = h.strongest meets.next meets.no_more (below_at t s to sh meets below) } in
+        rw (w.1, ← same) found
+    | inr w ↦ below.each pc x (sym (at_set_other None s to pc (Some m) w.1) ∙ e)
+  ];
+}
+
+joins_put : (s : Shapes) (to : ℕ) (sh m : Shape) (change : Change) → IsPut s to sh m → IsChange s (slice_set s to (Some m)) change → Joins s (slice_set s to (Some m)) ((to, sh) ∷ []) change
+joins_put s to sh m change h changed = record {
+  size = length-set s to (Some m);
+  below_old = put_below s to sh m h;
+  met = (record { next = m; there = put_here s to m h.within; no_more = h.no_more }, tt);
+  strongest = λ t below meets. put_strongest t s to sh m h below meets.0;
+  changed = changed;
+}
+
+-- a place is reached first
+pub joins_first : (s : Shapes) (to : ℕ) (sh : Shape) → to < length s → at None s to ≡ None → Joins s (slice_set s to (Some sh)) ((to, sh) ∷ []) Reached
+joins_first s to sh within e =
+    let read : slice_index_or s to None ≡ None = at_within None None s to within ∙ e in
+    joins_put s to sh sh Reached
+    (record { within = within; no_more = reflexive sh; old = λ there f. absurd cc; strongest = λ n h k. h })
+    (omega (arith, sum_by-set unreached s to (Some sh) None within, ap unreached read))
+
+-- the state there says no more already
+pub joins_none : (s : Shapes) (to : ℕ) (sh there : Shape) → at None s to ≡ Some there → SaysNoMore there sh → Joins s s ((to, sh) ∷ []) Nothing
+joins_none s to sh there here h =
+    record {
+      size = refl;
+      below_old = below_self s;
+      met = (record { next = there; there = here; no_more = h }, tt);
+      strongest = λ t below meets. below;
+      changed = refl;
+    }
+
+-- the state there falls
+pub joins_lower : (s : Shapes) (to : ℕ) (sh there less : Shape) → to < length s → at None s to ≡ Some there → ¬ SaysNoMore there sh → IsMeet less there sh → Joins s (slice_set s to (Some less)) ((to, sh) ∷ []) Fell
+joins_lower s to sh there less within here differs meet =
+    let read : slice_index_or s to (Some there) ≡ Some there = at_within None (Some there) s to within ∙ here in
+    let falls = shape_falls less there meet.first (λ h. differs (transitive there less sh h meet.second)) in
+    joins_put s to sh less Fell
+    (record {
+      within = within;
+      no_more = meet.second;
+      old = λ other f. let same : there ≡ other = cc in rw same at meet.first;
+      strongest = λ n h k. meet.strongest n (k there here) h;
+    }) (
+      omega (arith, sum_by-set unreached s to (Some less) (Some there) within, ap unreached read),
+      omega (arith, sum_by-set place_rank s to (Some less) (Some there) within, ap place_rank read, falls),
+    )
+
+-- nothing says no more than the state there and the flow
+pub cannot_join : (s : Shapes) (to : ℕ) (sh there : Shape) → at None s to ≡ Some there → NoMeet there sh → CannotJoin s ((to, sh) ∷ [])
+cannot_join s to sh there here no_meet =
+    record { none = λ t below meets. no_meet.none meets.0.next (below_at t s to sh meets.0 below there here) meets.0.no_more }
+
+-- what is read at a place of the list
+pub read : (s xs : Shapes) (to : ℕ) (o : Option Shape) → xs ≡ s → to < length s → o ≡ slice_index_or xs to o → at None s to ≡ o
+read s xs to o e within h = sym (at_within None o s to within) ∙ sym (rw e at h)
+
+all_met_add : (s : Shapes) (xs ys : List Flow) → AllMet s xs → AllMet s ys → AllMet s (xs ++ ys)
+all_met_add s [] ys h k = k
+all_met_add s (x ∷ xs) ys h k = (h.0, all_met_add s xs ys h.1 k)
+
+all_met_first : (s : Shapes) (xs ys : List Flow) → AllMet s (xs ++ ys) → AllMet s xs
+all_met_first s [] ys h = tt
+all_met_first s (x ∷ xs) ys h = (h.0, all_met_first s xs ys h.1)
+
+all_met_last : (s : Shapes) (xs ys : List Flow) → AllMet s (xs ++ ys) → AllMet s ys
+all_met_last s [] ys h = h
+all_met_last s (x ∷ xs) ys h = all_met_last s xs ys h.1
+
+all_met_below : (t s : Shapes) (xs : List Flow) → IsBelow t s → AllMet s xs → AllMet t xs
+all_met_below t s [] h k = tt
+all_met_below t s (x ∷ xs) h k = (meets_below t s x.0 x.1 h k.0, all_met_below t s xs h k.1)
+
+pub joins_self : (s : Shapes) → Joins s s [] Nothing
+joins_self s = record { size = refl; below_old = below_self s; met = tt; strongest = λ t below met. below; changed = refl }
+
+joins_add : (a b c : Shapes) (xs ys : List Flow) (x y : Change) → Joins a b xs x → Joins b c ys y → Joins a c (xs ++ ys) (then x y)
+joins_add a b c xs ys x y h k = record {
+  size = k.size ∙ h.size;
+  below_old = below_along c b a k.below_old h.below_old;
+  met = all_met_add c xs ys (all_met_below c b xs k.below_old h.met) k.met;
+  strongest = λ t below met. k.strongest t (h.strongest t below (all_met_first t xs ys met)) (all_met_last t xs ys met);
+  changed = changes_add a b c x y h.changed k.changed;
+}
+
+-- a way of the list, by its number
+pub record IsWay (ways : List Flow) (i : ℕ) (way : Flow) : Type 0 where
+  pub within : i < length ways
+  pub is : way ≡ slice_index_or ways i way
+
+pub joins_more : (a b c : Shapes) (ways : List Flow) (i : ℕ) (way : Flow) (x y : Change) → IsWay ways i way → Joins a b (take i ways) x → Joins b c (way ∷ []) y → Joins a c (take (i + 1) ways) (then x y)
+joins_more a b c ways i way x y w h k = rw (take_more ways i way w.within, ← w.is) (joins_add a b c (take i ways) (way ∷ []) x y h k)
+
+pub cannot_more : (a b : Shapes) (ways : List Flow) (i : ℕ) (way : Flow) (x : Change) → IsWay ways i way → Joins a b (take i ways) x → CannotJoin b (way ∷ []) → CannotJoin a ways
+cannot_more a b ways i way x w h k = record {
+  none = λ t below met.
+      let whole : AllMet t (take (i + 1) ways ++ drop (i + 1) ways) = rw (take-append-drop (i + 1) ways) met in
+      let some : AllMet t (take i ways ++ way ∷ []) = rw (take_more ways i way w.within, ← w.is) at (all_met_first t (take (i + 1) ways) (drop (i + 1) ways) whole) in
+      k.none t (h.strongest t below (all_met_first t (take i ways) (way ∷ []) some)) (all_met_last t (take i ways) (way ∷ []) some);
+}
+
+pub way_within : (n : ℕ) (ways : List Flow) (i : ℕ) (way : Flow) → AllWithin n ways → IsWay ways i way → way.0 < n
+way_within n [] i way h w = absurd (omega (arith, w.within))
+way_within n (x ∷ xs) zero way h w = let same : way ≡ x = w.is in rw same h.0
+way_within n (x ∷ xs) (suc i) way h w = way_within n xs i way h.1 (record { within = omega (arith, w.within); is = w.is })
+
+-- a test that failed does not hold
+pub refused_test : (b : Bool) → b ≡ false → IsTrue b → ⊥
+refused_test b e h = cc

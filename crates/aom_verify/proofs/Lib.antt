@@ -1,0 +1,10 @@
+pub mod Ordering
+pub mod Falling
+pub mod Joining
+pub mod Following
+pub mod Ways
+pub mod Visiting
+pub mod Sweeping
+pub mod Typings
+pub mod Places
+pub mod Refusing

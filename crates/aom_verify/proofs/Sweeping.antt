@@ -1,0 +1,116 @@
+-- Visits add up to a sweep, and sweeps to the states that they find.
+use Rattle.std.proofs.Common.{◌≡◌, ℕ, zero, suc, ◌<◌, ◌+◌, length, Option, Some, None, replicate, slice_set, inl, inr, refl, ◌∙◌, arith}
+use Rattle.std.proofs.lemmas.Bool.Decides.{eqb_tells, leb_tells}
+use Rattle.std.proofs.lemmas.List.{length-set, length-replicate}
+use Rattle.aom_image.specs.Image.{Image}
+use Rattle.aom_shape.specs.Order.{SaysNoMore}
+use Rattle.aom_shape.specs.Shape.{Shape}
+use Rattle.aom_shape.specs.Tables.{at}
+use Rattle.aom_shape.specs.Typing.{entry_shape}
+use Rattle.aom_shape.proofs.Lists.{at_set_other, at_past}
+use Rattle.aom_verify.specs.Change.{then}
+use Rattle.aom_verify.specs.Shapes.{Shapes, IsMethodTyped, HasTyping}
+use Rattle.aom_verify.specs.Sweep.{Spans, IsBelow, Keeps, AppliesAt, Visits, Sweeps, Settles, NoTypingBelow}
+use Rattle.aom_verify.specs.declared.change.Change.{Change}
+use Rattle.aom_verify.specs.declared.change.Change.TheVariants.{Nothing, Fell, Reached}
+use Rattle.aom_verify.proofs.Ordering.{meets_more, below_self, below_along}
+use Rattle.aom_verify.proofs.Falling.{changes_add}
+
+pub spans_kept : (p : Image) (m : ℕ) (s new : Shapes) → Spans p m s → length new ≡ length s → Spans p m new
+spans_kept p m s new h e = record { method = h.method; is = h.is; size = e ∙ h.size }
+
+pub keeps_self : (p : Image) (m : ℕ) (s : Shapes) → Keeps p m s s
+keeps_self p m s = record { size = refl; below_old = below_self s; typings = λ t typed below. below }
+
+pub keeps_along : (p : Image) (m : ℕ) (a b c : Shapes) → Keeps p m a b → Keeps p m b c → Keeps p m a c
+keeps_along p m a b c h k = record {
+  size = k.size ∙ h.size;
+  below_old = below_along c b a k.below_old h.below_old;
+  typings = λ t typed below. k.typings t typed (h.typings t typed below);
+}
+
+pub none_before : (p : Image) (m : ℕ) (a b : Shapes) → Keeps p m a b → NoTypingBelow p m b → NoTypingBelow p m a
+none_before p m a b h k = record { none = λ t typed below. k.none t typed (h.typings t typed below) }
+
+pub sweeps_self : (p : Image) (m : ℕ) (s : Shapes) → Sweeps p m s s 0 Nothing
+sweeps_self p m s = record { keeps = keeps_self p m s; changed = refl; applies = λ nothing pc below. absurd (omega arith) }
+
+nothing_first : (x y : Change) → then x y ≡ Nothing → x ≡ Nothing
+nothing_first Nothing y e = refl
+nothing_first Fell Nothing e = cc
+nothing_first Fell Fell e = cc
+nothing_first Fell Reached e = cc
+nothing_first Reached Nothing e = cc
+nothing_first Reached Fell e = cc
+nothing_first Reached Reached e = cc
+
+nothing_last : (x y : Change) → then x y ≡ Nothing → y ≡ Nothing
+nothing_last Nothing y e = e
+nothing_last Fell Nothing e = refl
+nothing_last Fell Fell e = cc
+nothing_last Fell Reached e = cc
+nothing_last Reached Nothing e = refl
+nothing_last Reached Fell e = cc
+nothing_last Reached Reached e = cc
+
+applies_more : (p : Image) (m : ℕ) (b c : Shapes) (count : ℕ) → c ≡ b → ((pc : ℕ) → pc < count → AppliesAt p m b pc) → AppliesAt p m c count → (pc : ℕ) → pc < count + 1 → AppliesAt p m c pc
+applies_more p m b c count same lower here pc below =
+    elim (eqb_tells pc count) [
+      | inl w ↦ rw w.1 here
+      | inr w ↦ rw same (lower pc (omega (arith, w.1)))
+    ]
+
+pub sweeps_more : (p : Image) (m : ℕ) (a b c : Shapes) (count : ℕ) (x y : Change) → Sweeps p m a b count x → Visits p m b c count y → Sweeps p m a c (count + 1) (then x y)
+sweeps_more p m a b c count x y h k = record {
+  keeps = keeps_along p m a b c h.keeps k.keeps;
+  changed = changes_add a b c x y h.changed k.changed;
+  applies = λ nothing.
+      let last = nothing_last x y nothing in
+      applies_more p m b c count (rw last at k.changed) (h.applies (nothing_first x y nothing)) (k.applies last);
+}
+
+-- the states before the first sweep
+abbrev pub first_shapes : ℕ → Shape → Shapes
+first_shapes places entry = slice_set (replicate places None) 0 (Some entry)
+
+pub first_count : (places : ℕ) (entry : Shape) → length (first_shapes places entry) ≡ places
+first_count places entry = length-set (replicate places None) 0 (Some entry) ∙ length-replicate places None
+
+none_elsewhere : (n : ℕ) (pc : ℕ) → at {A = Option Shape} None (replicate n None) pc ≡ None
+none_elsewhere zero pc = refl
+none_elsewhere (suc n) zero = refl
+none_elsewhere (suc n) (suc pc) = none_elsewhere n pc
+
+entry_stands : (places : ℕ) (entry : Shape) → 0 < places → at None (first_shapes places entry) 0 ≡ Some entry
+entry_stands zero entry h = absurd (omega arith)
+entry_stands (suc n) entry h = refl
+
+pub typing_below_first : (p : Image) (m : ℕ) (t : Shapes) (places : ℕ) (entry : Shape) → 0 < places → SaysNoMore (entry_shape p m) entry → IsMethodTyped p m t → IsBelow t (first_shapes places entry)
+typing_below_first p m t places entry some no_less typed = record {
+  each = λ pc sh e. elim (eqb_tells pc 0) [
+    | inl w ↦
+        let same : entry ≡ sh = let f = rw w.1 at e in let g = entry_stands places entry some in cc in
+        rw (w.1, ← same) (meets_more t 0 (entry_shape p m) entry typed.entry no_less)
+    | inr w ↦
+        let other = at_set_other None (replicate places None) 0 pc (Some entry) w.1 in
+        let missing = none_elsewhere places pc in
+        absurd cc
+  ];
+}
+
+-- settled states are a typing
+pub settled : (p : Image) (m : ℕ) (places : ℕ) (entry : Shape) (s : Shapes) → 0 < places → SaysNoMore entry (entry_shape p m) → Settles p m (first_shapes places entry) s → HasTyping p m
+settled p m places entry s some no_more h = record {
+  states = s;
+  typed = record {
+    each = λ pc sh e. elim (leb_tells (length s) pc) [
+      | inl w ↦ let past = at_past None s pc w.1 in absurd cc
+      | inr w ↦ h.applies pc (omega (arith, w.1)) sh e
+    ];
+    entry = meets_more s 0 entry (entry_shape p m) (h.keeps.below_old.each 0 entry (entry_stands places entry some)) no_more;
+  };
+}
+
+-- and where there is no typing below the first states the method has none
+pub untyped : (p : Image) (m : ℕ) (places : ℕ) (entry : Shape) → 0 < places → SaysNoMore (entry_shape p m) entry → NoTypingBelow p m (first_shapes places entry) → ¬ HasTyping p m
+untyped p m places entry some no_less h = λ typing. h.none typing.states typing.typed (typing_below_first p m typing.states places entry some no_less typing.typed)

@@ -1,0 +1,89 @@
+-- A visit of one place: what it changes, and that no typing is lost.
+use Rattle.std.proofs.Common.{◌≡◌, ℕ, zero, suc, ◌<◌, List, [], ◌∷◌, length, Some, None, IsSome, slice_get, refl, arith}
+use Rattle.aom_image.specs.Image.{Image}
+use Rattle.aom_image.specs.Views.{instr_at, instr_in}
+use Rattle.aom_image.specs.declared.instr.Instr.{Instr}
+use Rattle.aom_shape.specs.Needs.{Flow}
+use Rattle.aom_shape.specs.Order.{SaysNoMore}
+use Rattle.aom_shape.specs.Rules.{flows}
+use Rattle.aom_shape.specs.Shape.{Shape}
+use Rattle.aom_shape.specs.Tables.{at}
+use Rattle.aom_shape.proofs.Monotone.{needs_more, flows_more}
+use Rattle.aom_verify.specs.Shapes.{Shapes, AllMet, Applies, IsMethodTyped}
+use Rattle.aom_verify.specs.Sweep.{Spans, IsBelow, Joins, CannotJoin, Flows, Fails, AppliesAt, Visits, NoTypingBelow, AllWithin, WithinMethod}
+use Rattle.aom_verify.specs.declared.change.Change.{Change}
+use Rattle.aom_verify.specs.declared.change.Change.TheVariants.{Nothing}
+use Rattle.aom_verify.proofs.Ordering.{below_self}
+use Rattle.aom_verify.proofs.Following.{follow_met}
+
+-- each place below the count has an instruction
+pub has_instr : (p : Image) (m : ℕ) (s : Shapes) (pc : ℕ) → Spans p m s → pc < length s → IsSome (instr_at p m pc)
+unfolding instr_in
+has_instr p m s pc h below =
+    let within : pc < length h.method.code = rw h.size at below in
+    rw (h.is) (is_there h.method.code pc within)
+  where
+    is_there : (code : List Instr) (k : ℕ) → k < length code → IsSome (slice_get code k)
+    is_there [] k h = absurd (omega arith)
+    is_there (x ∷ xs) zero h = refl
+    is_there (x ∷ xs) (suc k) h = is_there xs k (omega arith)
+
+pub within_shapes : (p : Image) (m : ℕ) (s : Shapes) (ways : List Flow) → Spans p m s → WithinMethod p m ways → AllWithin (length s) ways
+within_shapes p m s ways h w = rw h.size (w.each h.method h.is)
+
+-- a typing below the states says no more than the one state
+record IsTypedBelow (p : Image) (m : ℕ) (t : Shapes) (pc : ℕ) (sh : Shape) : Type 0 where
+  next : Shape
+  no_more : SaysNoMore next sh
+  applies : Applies p m t pc next
+
+typed_below : (p : Image) (m : ℕ) (t s : Shapes) (pc : ℕ) (sh : Shape) → IsMethodTyped p m t → IsBelow t s → at None s pc ≡ Some sh → IsTypedBelow p m t pc sh
+typed_below p m t s pc sh typed below e =
+    let meets = below.each pc sh e in
+    record { next = meets.next; no_more = meets.no_more; applies = typed.each pc meets.next meets.there }
+
+-- it meets the flows
+typing_meets : (p : Image) (m : ℕ) (t s : Shapes) (pc : ℕ) (sh : Shape) (ways : List Flow) → at None s pc ≡ Some sh → Flows p m pc sh ways → IsMethodTyped p m t → IsBelow t s → AllMet t ways
+typing_meets p m t s pc sh ways e h typed below =
+    let found = typed_below p m t s pc sh typed below e in
+    let same : found.applies.instr ≡ h.instr = let f = found.applies.stands in let g = h.stands in cc in
+    let follow = flows_more p m pc found.next sh h.instr found.no_more (rw same at found.applies.needs) in
+    rw h.is (follow_met t (flows p m pc found.next h.instr) (flows p m pc sh h.instr) follow (rw same at found.applies.flows))
+
+-- where the rule fails there is none
+pub failed_visit : (p : Image) (m : ℕ) (s : Shapes) (pc : ℕ) (sh : Shape) → at None s pc ≡ Some sh → Fails p m pc sh → NoTypingBelow p m s
+failed_visit p m s pc sh e h = record {
+  none = λ t typed below.
+      let found = typed_below p m t s pc sh typed below e in
+      let same : found.applies.instr ≡ h.instr = let f = found.applies.stands in let g = h.stands in cc in
+      h.unmet (needs_more p m pc found.next sh h.instr found.no_more (rw same at found.applies.needs));
+}
+
+-- where the flows cannot be joined there is none
+pub failed_join : (p : Image) (m : ℕ) (s : Shapes) (pc : ℕ) (sh : Shape) (ways : List Flow) → at None s pc ≡ Some sh → Flows p m pc sh ways → CannotJoin s ways → NoTypingBelow p m s
+failed_join p m s pc sh ways e h k = record { none = λ t typed below. k.none t below (typing_meets p m t s pc sh ways e h typed below) }
+
+applies_after : (p : Image) (m : ℕ) (s new : Shapes) (pc : ℕ) (sh : Shape) (ways : List Flow) → at None s pc ≡ Some sh → Flows p m pc sh ways → AllMet new ways → new ≡ s → AppliesAt p m new pc
+applies_after p m s new pc sh ways e h met same = λ x f.
+    let alike : sh ≡ x = let g = rw same at f in cc in
+    let found : Applies p m new pc sh = record { instr = h.instr; stands = h.stands; needs = h.needs; flows = rw h.is at met } in
+    rw alike at found
+
+pub visited : (p : Image) (m : ℕ) (s new : Shapes) (pc : ℕ) (sh : Shape) (ways : List Flow) (change : Change) → at None s pc ≡ Some sh → Flows p m pc sh ways → Joins s new ways change → Visits p m s new pc change
+visited p m s new pc sh ways change e h k = record {
+  keeps = record {
+    size = k.size;
+    below_old = k.below_old;
+    typings = λ t typed below. k.strongest t below (typing_meets p m t s pc sh ways e h typed below);
+  };
+  changed = k.changed;
+  applies = λ nothing. applies_after p m s new pc sh ways e h k.met (rw nothing at k.changed);
+}
+
+-- a place that is not reached
+pub visited_none : (p : Image) (m : ℕ) (s : Shapes) (pc : ℕ) → at None s pc ≡ None → Visits p m s s pc Nothing
+visited_none p m s pc e = record {
+  keeps = record { size = refl; below_old = below_self s; typings = λ t typed below. below };
+  changed = refl;
+  applies = λ nothing sh f. absurd cc;
+}

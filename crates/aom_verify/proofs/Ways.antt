@@ -1,0 +1,78 @@
+-- What the rule answers: its needs hold and its flows stay within the method, or a need fails.
+use Rattle.std.proofs.Common.{◌≡◌, ℕ, suc, ◌<◌, true, false, cond, List, [], ◌∷◌, length, IsSome, IfSome, Some, None, Ok, Err, refl, sym}
+use Rattle.aom_image.specs.Image.{Image}
+use Rattle.aom_image.specs.Views.{instr_at}
+use Rattle.aom_image.specs.declared.instr.Instr.{Instr}
+use Rattle.aom_image.specs.declared.instr.Instr.TheVariants.{Const, Jump, JumpNull, Print, Move, Take, Put, New, Delete, Return, Stop}
+use Rattle.aom_classes.specs.Jumps.{KeepsWithin, jump_of, goes_on}
+use Rattle.aom_classes.specs.Linked.{IsLinked}
+use Rattle.aom_classes.proofs.Facts.{of_method, linked_place}
+use Rattle.aom_shape.specs.Kinds.{register}
+use Rattle.aom_shape.specs.Needs.{Need, Flow, AllTrue, judged}
+use Rattle.aom_shape.specs.Objects.{flow_jump_null}
+use Rattle.aom_shape.specs.Rules.{rule_needs, flows, rule}
+use Rattle.aom_shape.specs.Shape.{Shape}
+use Rattle.aom_shape.specs.declared.kind.Kind.{Kind}
+use Rattle.aom_shape.specs.declared.kind.Kind.TheVariants as kinds
+use Rattle.aom_shape.specs.declared.why.Why.{Why}
+use Rattle.aom_verify.specs.Sweep.{AllWithin, Flows, Fails, WithinMethod}
+
+judged_ok : (needs : List Need) (fs gs : List Flow) → judged needs fs ≡ Ok gs → AllTrue needs × (gs ≡ fs)
+judged_ok [] fs gs e = (tt, cc)
+judged_ok (need ∷ needs) fs gs e =
+    elim need.0 as (λ b. cond b (judged needs fs) (Err need.1) ≡ Ok gs → ((b ≡ true) × AllTrue needs) × (gs ≡ fs)) [
+      | true ↦ λ e. let r = judged_ok needs fs gs e in ((refl, r.0), r.1)
+      | false ↦ λ e. absurd cc
+    ] e
+
+judged_err : (needs : List Need) (fs : List Flow) (why : Why) → judged needs fs ≡ Err why → ¬ AllTrue needs
+judged_err [] fs why e = λ all. cc
+judged_err (need ∷ needs) fs why e = λ all. judged_err needs fs why (rw all.0 at e) all.1
+
+pub has_flows : (p : Image) (m pc : ℕ) (sh : Shape) (ways : List Flow) → IsSome (instr_at p m pc) → IfSome (instr_at p m pc) (λ i. Ok ways ≡ rule p m pc sh i) → Flows p m pc sh ways
+has_flows p m pc sh ways some h =
+    elim (instr_at p m pc) as (λ o. instr_at p m pc ≡ o → IsSome o → IfSome o (λ i. Ok ways ≡ rule p m pc sh i) → Flows p m pc sh ways) [
+      | None ↦ λ e some h. absurd cc
+      | Some i ↦ λ e some h.
+          let r = judged_ok (rule_needs p m pc sh i) (flows p m pc sh i) ways (sym h) in
+          record { instr = i; stands = e; needs = r.0; is = r.1 }
+    ] refl some h
+
+pub has_failed : (p : Image) (m pc : ℕ) (sh : Shape) (why : Why) → IsSome (instr_at p m pc) → IfSome (instr_at p m pc) (λ i. Err why ≡ rule p m pc sh i) → Fails p m pc sh
+has_failed p m pc sh why some h =
+    elim (instr_at p m pc) as (λ o. instr_at p m pc ≡ o → IsSome o → IfSome o (λ i. Err why ≡ rule p m pc sh i) → Fails p m pc sh) [
+      | None ↦ λ e some h. absurd cc
+      | Some i ↦ λ e some h. record { instr = i; stands = e; unmet = judged_err (rule_needs p m pc sh i) (flows p m pc sh i) why (sym h) }
+    ] refl some h
+
+null_within : (p : Image) (m n pc : ℕ) (sh : Shape) (k : Kind) (a to : ℕ) → to < n → suc pc < n → AllWithin n (flow_jump_null p m pc sh k a to)
+null_within p m n pc sh kinds.Unset a to h next = tt
+null_within p m n pc sh kinds.Word a to h next = tt
+null_within p m n pc sh kinds.Null a to h next = (h, tt)
+null_within p m n pc sh (kinds.Own t age) a to h next = (next, tt)
+null_within p m n pc sh (kinds.Maybe t age) a to h next = (next, (h, tt))
+
+-- the flows of an instruction that keeps within its method
+flows_within : (p : Image) (m n pc : ℕ) (sh : Shape) (i : Instr) → KeepsWithin n pc i → AllWithin n (flows p m pc sh i)
+unfolding jump_of goes_on
+flows_within p m n pc sh (Const a w) h = (h.ends refl, tt)
+flows_within p m n pc sh (Jump to) h = (h.within, tt)
+flows_within p m n pc sh (JumpNull a to) h = null_within p m n pc sh (register sh a) a to h.within (h.ends refl)
+flows_within p m n pc sh (Print a) h = (h.ends refl, tt)
+flows_within p m n pc sh (Move a b) h = (h.ends refl, tt)
+flows_within p m n pc sh (Take a f) h = (h.ends refl, tt)
+flows_within p m n pc sh (Put f b) h = (h.ends refl, tt)
+flows_within p m n pc sh (New a c) h = (h.ends refl, tt)
+flows_within p m n pc sh (Delete a) h = (h.ends refl, tt)
+flows_within p m n pc sh (Return a) h = tt
+flows_within p m n pc sh Stop h = (h.ends refl, tt)
+flows_within p m n pc sh _ h = tt
+
+pub ways_within : (p : Image) (m pc : ℕ) (sh : Shape) (ways : List Flow) → IsLinked p → Flows p m pc sh ways → WithinMethod p m ways
+ways_within p m pc sh ways linked h = record {
+  each = λ d e.
+      let w = of_method p m pc h.instr h.stands in
+      let same : w.0 ≡ d = let f = w.1 in cc in
+      let keeps = linked_place p m pc d h.instr linked e (rw same at w.2) in
+      rw h.is (flows_within p m (length d.code) pc sh h.instr keeps);
+}

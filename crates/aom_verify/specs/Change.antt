@@ -1,0 +1,57 @@
+-- What a sweep changes, and why that ends: places are reached, or states fall.
+use Rattle.std.specs.Prelude.{ℕ, ◌≡◌, ◌<◌, ◌+◌, Option, Some, None}
+use Rattle.std.specs.List.{sum_by}
+use Rattle.aom_shape.specs.Shape.{Shape}
+use Rattle.aom_shape.specs.declared.kind.Filling.{Filling}
+use Rattle.aom_shape.specs.declared.kind.Filling.TheVariants.{Empty, Full, Perhaps}
+use Rattle.aom_shape.specs.declared.kind.Kind.{Kind}
+use Rattle.aom_shape.specs.declared.kind.Kind.TheVariants.{Unset, Word, Null, Own, Maybe}
+use Rattle.aom_verify.specs.Shapes.{Shapes}
+use Rattle.aom_verify.specs.declared.change.Change.{Change}
+use Rattle.aom_verify.specs.declared.change.Change.TheVariants.{Nothing, Fell, Reached}
+
+-- how often a kind can still fall
+abbrev pub kind_rank : Kind → ℕ
+kind_rank Unset = 0
+kind_rank Word = 1
+kind_rank Null = 1
+kind_rank (Own t a) = 1
+kind_rank (Maybe t a) = 0
+
+abbrev pub filling_rank : Filling → ℕ
+filling_rank Empty = 1
+filling_rank Full = 1
+filling_rank Perhaps = 0
+
+abbrev pub shape_rank : Shape → ℕ
+shape_rank sh = sum_by kind_rank sh.registers + sum_by filling_rank sh.fields
+
+abbrev pub place_rank : Option Shape → ℕ
+place_rank None = 0
+place_rank (Some sh) = shape_rank sh
+
+-- how often the states can still fall
+abbrev pub rank : Shapes → ℕ
+rank s = sum_by place_rank s
+
+abbrev pub unreached : Option Shape → ℕ
+unreached None = 1
+unreached (Some sh) = 0
+
+-- how many places are not reached
+abbrev pub unreached_count : Shapes → ℕ
+unreached_count s = sum_by unreached s
+
+-- the states after that change
+abbrev pub IsChange : Shapes → Shapes → Change → Type 0
+IsChange old new Nothing = new ≡ old
+IsChange old new Fell = (unreached_count new ≡ unreached_count old) × (rank new < rank old)
+IsChange old new Reached = unreached_count new < unreached_count old
+
+-- one change and then another
+abbrev pub then : Change → Change → Change
+then Nothing after = after
+then Fell Nothing = Fell
+then Fell Fell = Fell
+then Fell Reached = Reached
+then Reached after = Reached

@@ -1,0 +1,4 @@
+pub mod Shapes
+pub mod Change
+pub mod Sweep
+pub mod Refusals

@@ -1,0 +1,29 @@
+-- What a refusal says.
+use Rattle.std.specs.Prelude.{ℕ, ◌≡◌, ◌<◌, ◌++◌, List, IsSome, codes}
+use Rattle.std.specs.Fmt.{decimal}
+use Rattle.aom_image.specs.Image.{Image}
+use Rattle.aom_image.specs.Views.{method_at, instr_at}
+use Rattle.aom_shape.specs.Whys.{why_number}
+use Rattle.aom_verify.specs.Shapes.{HasTyping}
+use Rattle.aom_verify.specs.declared.refusal.Refusal.{Refusal}
+use Rattle.aom_verify.specs.declared.refusal.Refusal.TheVariants.{OutOfMemory, Refused}
+
+-- the first method that has no typing
+pub record IsFirstUntyped (p : Image) (m : ℕ) : Type 0 where
+  pub method : IsSome (method_at p m)
+  pub lower : (k : ℕ) → k < m → HasTyping p k
+  pub none : ¬ HasTyping p m
+
+abbrev pub Refuses : Image → Refusal → Type 0
+Refuses p OutOfMemory = Unit {0}
+Refuses p (Refused m place why) = IsFirstUntyped p m × IsSome (instr_at p m place)
+
+-- the same of one method
+abbrev pub RefusesMethod : Image → ℕ → Refusal → Type 0
+RefusesMethod p m OutOfMemory = Unit {0}
+RefusesMethod p m (Refused method place why) = (method ≡ m) × (¬ HasTyping p m) × IsSome (instr_at p m place)
+
+-- the line by which a refusal is told
+abbrev pub line_of : Refusal → List ℕ
+line_of OutOfMemory = codes "memory"
+line_of (Refused m place why) = codes "verify " ++ decimal m ++ codes " " ++ decimal place ++ codes " " ++ decimal (why_number why)

@@ -1,0 +1,104 @@
+-- What a step of a sweep keeps.
+use Rattle.std.specs.Prelude.{ℕ, ◌≡◌, ◌<◌, Bool, true, false, length, List, [], ◌∷◌, Some, None}
+use Rattle.aom_image.specs.Image.{Image}
+use Rattle.aom_image.specs.Views.{method_at, instr_at}
+use Rattle.aom_image.specs.declared.instr.Instr.{Instr}
+use Rattle.aom_image.specs.declared.method.Method.{Method}
+use Rattle.aom_shape.specs.Tables.{at}
+use Rattle.aom_shape.specs.Shape.{Shape}
+use Rattle.aom_shape.specs.Needs.{Flow, AllTrue}
+use Rattle.aom_shape.specs.Rules.{rule_needs, flows}
+use Rattle.aom_verify.specs.Change.{IsChange, unreached_count}
+use Rattle.aom_verify.specs.Shapes.{Shapes, Meets, AllMet, Applies, IsMethodTyped}
+use Rattle.aom_verify.specs.declared.change.Change.{Change}
+use Rattle.aom_verify.specs.declared.change.Change.TheVariants.{Nothing}
+
+-- the method has so many places
+pub record HasPlaces (p : Image) (m n : ℕ) : Type 0 where
+  pub method : Method
+  pub is : method_at p m ≡ Some method
+  pub size : n ≡ length method.code
+
+-- there is an optional state for each place of the method
+pub record Spans (p : Image) (m : ℕ) (s : Shapes) : Type 0 where
+  pub method : Method
+  pub is : method_at p m ≡ Some method
+  pub size : length s ≡ length method.code
+
+-- wherever the second list has a state, the first has one that says no more
+pub record IsBelow (t s : Shapes) : Type 0 where
+  pub each : (pc : ℕ) (sh : Shape) → at None s pc ≡ Some sh → Meets t pc sh
+
+-- each way is to one of so many places
+abbrev pub AllWithin : ℕ → List Flow → Type 0
+AllWithin n [] = Unit {0}
+AllWithin n (way ∷ ways) = (way.0 < n) × AllWithin n ways
+
+-- each way is to a place of the method
+pub record WithinMethod (p : Image) (m : ℕ) (ways : List Flow) : Type 0 where
+  pub each : (d : Method) → method_at p m ≡ Some d → AllWithin (length d.code) ways
+
+-- the new states are the strongest that say no more than the old ones and than those ways
+pub record Joins (old new : Shapes) (ways : List Flow) (change : Change) : Type 0 where
+  pub size : length new ≡ length old
+  pub below_old : IsBelow new old
+  pub met : AllMet new ways
+  pub strongest : (t : Shapes) → IsBelow t old → AllMet t ways → IsBelow t new
+  pub changed : IsChange old new change
+
+-- nothing says no more than the states and than those ways
+pub record CannotJoin (old : Shapes) (ways : List Flow) : Type 0 where
+  pub none : (t : Shapes) → IsBelow t old → AllMet t ways → ⊥
+
+-- what the rule answers at a place with that state
+pub record Flows (p : Image) (m pc : ℕ) (sh : Shape) (ways : List Flow) : Type 0 where
+  pub instr : Instr
+  pub stands : instr_at p m pc ≡ Some instr
+  pub needs : AllTrue (rule_needs p m pc sh instr)
+  pub is : ways ≡ flows p m pc sh instr
+
+-- the rule does not apply there
+pub record Fails (p : Image) (m pc : ℕ) (sh : Shape) : Type 0 where
+  pub instr : Instr
+  pub stands : instr_at p m pc ≡ Some instr
+  pub unmet : ¬ AllTrue (rule_needs p m pc sh instr)
+
+-- the new states say no more than the old ones, and a typing that says no more than the old ones says no more than the new ones
+pub record Keeps (p : Image) (m : ℕ) (old new : Shapes) : Type 0 where
+  pub size : length new ≡ length old
+  pub below_old : IsBelow new old
+  pub typings : (t : Shapes) → IsMethodTyped p m t → IsBelow t old → IsBelow t new
+
+-- the rule applies to the state at that place, if it is reached
+abbrev pub AppliesAt : Image → ℕ → Shapes → ℕ → Type 0
+AppliesAt p m s pc = (sh : Shape) → at None s pc ≡ Some sh → Applies p m s pc sh
+
+-- one place was visited
+pub record Visits (p : Image) (m : ℕ) (old new : Shapes) (pc : ℕ) (change : Change) : Type 0 where
+  pub keeps : Keeps p m old new
+  pub changed : IsChange old new change
+  pub applies : change ≡ Nothing → AppliesAt p m new pc
+
+-- the places below a count were visited
+pub record Sweeps (p : Image) (m : ℕ) (old new : Shapes) (count : ℕ) (change : Change) : Type 0 where
+  pub keeps : Keeps p m old new
+  pub changed : IsChange old new change
+  pub applies : change ≡ Nothing → (pc : ℕ) → pc < count → AppliesAt p m new pc
+
+-- sweeps have reached a place first, or the rule applies at each place that is reached
+abbrev pub SweptOn : Image → ℕ → Shapes → Shapes → Bool → Type 0
+SweptOn p m old new true = unreached_count new < unreached_count old
+SweptOn p m old new false = (pc : ℕ) → pc < length new → AppliesAt p m new pc
+
+pub record SweepsOn (p : Image) (m : ℕ) (old new : Shapes) (reached : Bool) : Type 0 where
+  pub keeps : Keeps p m old new
+  pub swept : SweptOn p m old new reached
+
+-- the rule applies at each place that is reached
+pub record Settles (p : Image) (m : ℕ) (old new : Shapes) : Type 0 where
+  pub keeps : Keeps p m old new
+  pub applies : (pc : ℕ) → pc < length new → AppliesAt p m new pc
+
+-- no typing of the method says no more than the states
+pub record NoTypingBelow (p : Image) (m : ℕ) (s : Shapes) : Type 0 where
+  pub none : (t : Shapes) → IsMethodTyped p m t → IsBelow t s → ⊥

@@ -1,0 +1,158 @@
+//! The abstract states of one method, by place, and the sweeps that find them.
+ghost use Rattle.std.specs.Prelude.{◌≡◌, ◌<◌, [], ◌∷◌, length, replicate, slice_set, IfOk, IfErr, IfSome, IsSome, Some, None};
+ghost use Rattle.aom_image.specs.Views.{instr_at};
+ghost use Rattle.aom_shape.specs.Rules.{rule};
+ghost use Rattle.aom_verify.specs.Change.{unreached_count};
+ghost use Rattle.aom_verify.specs.Sweep.{Spans, AllWithin, Joins, CannotJoin, Flows, Fails, WithinMethod, Visits, Sweeps, SweepsOn, Settles, NoTypingBelow};
+
+use crate::change::Change;
+use aom_classes::Linked;
+use aom_image::MethodNumber;
+use aom_shape::{Flow, Shape, Why, meet, rule, weaker};
+use std::alloc::{AllocError, Global};
+use std::marker::Model;
+
+/// Where a rule or a meet fails.
+#[derive(Clone, Copy)]
+pub(crate) struct Fault {
+    pub(crate) place: usize,
+    pub(crate) why: Why,
+}
+
+/// A state for each place of a method that has been reached.
+#[derive(Drop)]
+pub(crate) struct Sheet {
+    shapes: Vec<Option<Shape>>,
+}
+
+impl Model for Sheet {
+    ghost use Rattle.aom_verify.specs.Shapes.{Shapes};
+
+    ghost Value = { Shapes };
+
+    ghost view = { λ s. s.shapes.items };
+}
+
+impl Sheet {
+    /// So many places, of which the first alone is reached.
+    pub(crate) fn new(alloc: Global, places: usize, entry: Shape) -> Result<Sheet, AllocError>
+        requires { 0 < places }
+        ensures { IfOk result (λ s. s ≡ slice_set (replicate places None) 0 (Some entry)) }
+    {
+        let mut shapes = vec![in alloc; None; places]?;
+        shapes[0] = Some(entry);
+        Ok(Sheet { shapes })
+    }
+
+    /// What is known at a place from one flow to it.
+    fn join(&mut self, to: usize, shape: &Shape) -> Result<Change, Fault>
+        requires { to < length self.old }
+        ensures ok { IfOk result (λ change. Joins self.old self.new ((to, shape.now) ∷ []) change) }
+        ensures err { IfErr result (λ fault. CannotJoin self.old ((to, shape.now) ∷ []) × (fault.place ≡ to)) }
+    {
+        let Some(there) = self.shapes[to] else {
+            self.shapes[to] = Some(*shape);
+            return Ok(Change::Reached);
+        };
+        if weaker(&there, shape) {
+            return Ok(Change::Nothing);
+        }
+        match meet(&there, shape) {
+            Ok(less) => {
+                self.shapes[to] = Some(less);
+                Ok(Change::Fell)
+            }
+            Err(why) => Err(Fault { place: to, why }),
+        }
+    }
+
+    fn join_all(&mut self, ways: &[(usize, Shape)]) -> Result<Change, Fault>
+        requires { AllWithin (length self.old) ways.now }
+        ensures ok { IfOk result (λ change. Joins self.old self.new ways.now change) }
+        ensures err { IfErr result (λ fault. CannotJoin self.old ways.now × (fault.place < length self.old)) }
+    {
+        let mut change = Change::Nothing;
+        for (to, shape) in ways {
+            change = change.then(self.join(*to, shape)?);
+        }
+        Ok(change)
+    }
+
+    /// Applies the rule at a place, if it is reached, and meets its flows into their targets, the lower target first.
+    fn visit(
+        &mut self,
+        linked: &Linked,
+        method: MethodNumber,
+        place: usize,
+    ) -> Result<Change, Fault>
+        requires spans { Spans linked.now method self.old }
+        requires place { place < length self.old }
+        ensures ok { IfOk result (λ change. Visits linked.now method self.old self.new place change) }
+        ensures err { IfErr result (λ fault. NoTypingBelow linked.now method self.old × (fault.place < length self.old)) }
+    {
+        match self.shapes[place] {
+            None => Ok(Change::Nothing),
+            Some(shape) => {
+                let flow = flow_of(linked, method, place, &shape)?;
+                self.join_all(flow.as_slice())
+            }
+        }
+    }
+
+    /// Visits each place in order.
+    fn sweep(&mut self, linked: &Linked, method: MethodNumber) -> Result<Change, Fault>
+        requires { Spans linked.now method self.old }
+        ensures ok { IfOk result (λ change. Sweeps linked.now method self.old self.new (length self.old) change) }
+        ensures err { IfErr result (λ fault. NoTypingBelow linked.now method self.old × (fault.place < length self.old)) }
+    {
+        let mut change = Change::Nothing;
+        for place in 0..self.shapes.len() {
+            change = change.then(self.visit(linked, method, place)?);
+        }
+        Ok(change)
+    }
+
+    /// Sweeps until one reaches a place, or changes nothing. Whether one did reach a place.
+    fn sweep_on(&mut self, linked: &Linked, method: MethodNumber) -> Result<bool, Fault>
+        requires { Spans linked.now method self.old }
+        ensures ok { IfOk result (λ reached. SweepsOn linked.now method self.old self.new reached) }
+        ensures err { IfErr result (λ fault. NoTypingBelow linked.now method self.old × (fault.place < length self.old)) }
+    {
+        loop {
+            match self.sweep(linked, method)? {
+                Change::Nothing => return Ok(false),
+                Change::Fell => {}
+                Change::Reached => return Ok(true),
+            }
+        }
+    }
+
+    /// Sweeps until one changes nothing.
+    pub(crate) fn settle(&mut self, linked: &Linked, method: MethodNumber) -> Result<(), Fault>
+        requires { Spans linked.now method self.old }
+        ensures ok { IfOk result (λ _. Settles linked.now method self.old self.new) }
+        ensures err { IfErr result (λ fault. NoTypingBelow linked.now method self.old × (fault.place < length self.old)) }
+    {
+        while self.sweep_on(linked, method)? {}
+        Ok(())
+    }
+}
+
+/// Where a run may go on from a place with that state, or the need that fails there.
+fn flow_of(
+    linked: &Linked,
+    method: MethodNumber,
+    place: usize,
+    shape: &Shape,
+) -> Result<Flow, Fault>
+    requires { IsSome (instr_at linked.now method place) }
+    ensures ok { IfOk result (λ ways. Flows linked.now method place shape.now ways) }
+    ensures within { IfOk result (λ ways. WithinMethod linked.now method ways) }
+    ensures err { IfErr result (λ fault. Fails linked.now method place shape.now × (fault.place ≡ place)) }
+{
+    linked.facts();
+    match rule(linked, method, place, shape) {
+        Ok(flow) => Ok(flow),
+        Err(why) => Err(Fault { place, why }),
+    }
+}
