@@ -1,4 +1,5 @@
 pub mod Admitted
+pub mod Classes
 pub mod Faults
 pub mod Jumps
 pub mod Linked

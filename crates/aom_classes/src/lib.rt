@@ -6,6 +6,7 @@
 #![tactic(auto)]
 
 mod admitted;
+mod class_order;
 mod fault;
 mod jumps;
 mod linked;
