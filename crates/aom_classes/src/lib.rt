@@ -6,10 +6,12 @@
 #![tactic(auto)]
 
 mod admitted;
+mod call_order;
 mod class_order;
 mod fault;
 mod jumps;
 mod linked;
+mod needs;
 mod roles;
 
 pub use fault::LinkFault;
