@@ -6,3 +6,5 @@ pub mod Jumps
 pub mod Linked
 pub mod Needs
 pub mod Roles
+pub mod Shapes
+pub mod States

@@ -66,7 +66,7 @@ fn may_give(image: &Image, method: usize, gives: Gives) -> bool
 
 /// What a method gives.
 #[tactic(auto, unfolding(aom_image::specs::Views::gives_in, aom_image::specs::Views::method_at))]
-fn gives_of(image: &Image, method: MethodNumber) -> Gives
+pub fn gives_of(image: &Image, method: MethodNumber) -> Gives
     ensures { result ≡ gives_of image.now method }
 {
     let methods = image.methods();

@@ -1,6 +1,6 @@
 //! What classes own, and whose sessions they are.
 ghost use Rattle.std.specs.Prelude.{◌≡◌, ◌<◌, ◌↔◌, IsTrue};
-ghost use Rattle.aom_classes.specs.Classes.{sessions_of, is_session_kind, kind_at, is_session, sessions_at, OwnsBefore, SessionsBefore, ClassOrdered, EachOrdered, RootOrdered, ClassesOrdered};
+ghost use Rattle.aom_classes.specs.Classes.{sessions_of, is_session_kind, kind_at, is_session_in, is_session, sessions_in, sessions_at, OwnsBefore, SessionsBefore, ClassOrdered, EachOrdered, RootOrdered, ClassesOrdered};
 
 use aom_image::{ClassDecl, ClassKind, ClassNumber, Image, Thing};
 
@@ -33,24 +33,36 @@ pub fn kind_at(image: &Image, class: ClassNumber) -> Option<ClassKind>
 }
 
 #[tactic(auto, unfolding(crate::specs::Classes::is_session_in))]
-fn is_session(image: &Image, class: ClassNumber) -> bool
-    ensures { result ≡ is_session image.now class }
+pub fn is_session_in(kind: Option<ClassKind>) -> bool
+    ensures { result ≡ is_session_in kind }
 {
-    match kind_at(image, class) {
+    match kind {
         Some(kind) => is_session_kind(kind),
         None => false,
     }
 }
 
-/// The class of the sessions of a class.
-#[tactic(auto, unfolding(crate::specs::Classes::sessions_in))]
-pub fn sessions_at(image: &Image, class: ClassNumber) -> Option<ClassNumber>
-    ensures { result ≡ sessions_at image.now class }
+fn is_session(image: &Image, class: ClassNumber) -> bool
+    ensures { result ≡ is_session image.now class }
 {
-    match kind_at(image, class) {
+    is_session_in(kind_at(image, class))
+}
+
+#[tactic(auto, unfolding(crate::specs::Classes::sessions_in))]
+pub fn sessions_in(kind: Option<ClassKind>) -> Option<ClassNumber>
+    ensures { result ≡ sessions_in kind }
+{
+    match kind {
         Some(kind) => sessions_of(kind),
         None => None,
     }
+}
+
+/// The class of the sessions of a class.
+pub fn sessions_at(image: &Image, class: ClassNumber) -> Option<ClassNumber>
+    ensures { result ≡ sessions_at image.now class }
+{
+    sessions_in(kind_at(image, class))
 }
 
 fn owns_before(image: &Image, class: usize, thing: Thing) -> bool

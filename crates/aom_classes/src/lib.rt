@@ -13,6 +13,8 @@ mod jumps;
 mod linked;
 mod needs;
 mod roles;
+mod shapes;
+mod states;
 
 pub use fault::LinkFault;
 pub use linked::{Linked, link};
