@@ -4,7 +4,9 @@ pub mod Classes
 pub mod Faults
 pub mod Jumps
 pub mod Linked
+pub mod Loops
 pub mod Needs
 pub mod Roles
+pub mod Scanning
 pub mod Shapes
 pub mod States

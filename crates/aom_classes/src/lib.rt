@@ -11,6 +11,7 @@ mod class_order;
 mod fault;
 mod jumps;
 mod linked;
+mod loops;
 mod needs;
 mod roles;
 mod shapes;
