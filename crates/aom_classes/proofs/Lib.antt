@@ -1,3 +1,4 @@
 pub mod Each
 pub mod Facts
+pub mod Nesting
 pub mod Views

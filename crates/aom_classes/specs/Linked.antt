@@ -2,11 +2,16 @@
 use Rattle.std.specs.Prelude.{ℕ, IfSome, IsSome, slice_get}
 use Rattle.aom_image.specs.Image.{Image}
 use Rattle.aom_classes.specs.Jumps.{JumpsWell}
+use Rattle.aom_classes.specs.Loops.{LoopsNest}
 use Rattle.aom_classes.specs.Roles.{main_of}
 
 -- the jumps of each method go forward, and none of its places has a successor past its end
 abbrev pub AllJumpWell : Image → Type 0
 AllJumpWell p = (m : ℕ) → IfSome (slice_get p.methods m) (λ d. JumpsWell d.code)
+
+-- the loops of each method lie within each other or apart
+abbrev pub AllLoopsNest : Image → Type 0
+AllLoopsNest p = (m : ℕ) → IfSome (slice_get p.methods m) (λ d. LoopsNest d.code)
 
 -- there is a main
 abbrev pub HasMain : Image → Type 0
