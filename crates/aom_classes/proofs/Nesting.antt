@@ -136,11 +136,13 @@ scanned_enter code i d x s t e is no_next l n a h =
       count = (let b = counted code i x is_loop e l in let f = not_counted code i x is_next e n in let c = h.count in let m = length-append s (i ∷ []) in omega arith);
     })
 
+same_ending : (a b : Ending) → Some a ≡ Some b → a ≡ b
+same_ending a b e = cc
+
 -- a next closes the one loop that it goes back to
 same_start : (code : List Instr) (i d c p t : ℕ) → next_at code i ≡ Some (record { number = d; back = suc t }) → Closes code c p i → (p ≡ t) × (c ≡ d)
 same_start code i d c p t e one =
-    let f : Some (record { number = c; back = suc p }) ≡ Some (record { number = d; back = suc t }) = sym one.ends ∙ e in
-    let g : (let a : Ending = record { number = c; back = suc p } in a) ≡ record { number = d; back = suc t } = cc in
+    let g = same_ending _ _ (sym one.ends ∙ e) in
     let b : suc p ≡ suc t = ap (λ (x : Ending). x.back) g in
     (cc, ap (λ (x : Ending). x.number) g)
 
@@ -286,10 +288,7 @@ closes_top code i d t s is h nest =
       | inr w ↦ w.0
     ] in
     let split = ends_with s d p open_here (omega arith) in
-    let back : t ≡ suc p = (
-      let f : Some (record { number = d; back = suc p }) ≡ Some (record { number = d; back = t }) = sym it.ends ∙ is in
-      let g : (let a : Ending = record { number = d; back = suc p } in a) ≡ record { number = d; back = t } = cc in
-      sym (ap (λ (x : Ending). x.back) g)) in
+    let back : t ≡ suc p = ap (λ (x : Ending). x.back) (same_ending (record { number = d; back = t }) (record { number = d; back = suc p }) (sym {a = next_at code i} is ∙ it.ends)) in
     (split.0, record { start = p; last = split.1; back = back; number = sym split.2 })
 
 -- where loops nest, each instruction goes on as it must

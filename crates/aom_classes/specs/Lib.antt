@@ -10,3 +10,4 @@ pub mod Roles
 pub mod Scanning
 pub mod Shapes
 pub mod States
+pub mod Table

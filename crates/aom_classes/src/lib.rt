@@ -13,6 +13,7 @@ mod jumps;
 mod linked;
 mod loops;
 mod needs;
+mod role_table;
 mod roles;
 mod shapes;
 mod states;

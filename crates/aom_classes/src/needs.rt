@@ -7,7 +7,7 @@ use crate::roles::{find_role, is_main, plays};
 use aom_image::{ClassDecl, ClassKind, ClassNumber, Image, Method, Role};
 
 /// The number of the class at an index.
-fn class_number(index: usize) -> ClassNumber
+pub fn class_number(index: usize) -> ClassNumber
     requires { index < 256 }
     ensures { result ≡ index }
 {
