@@ -28,7 +28,6 @@ pub record IsWired (p : Image) : Type 0 where
   pub no_destructor : (c : ℕ) → role_of p c Destruct ≡ None → (f : ℕ) → field_thing p (Member c) f ≡ None
   -- what a field may own has a lower class
   pub ordered : (c d f : ℕ) → field_thing p (Member c) f ≡ Some (An_object_of d) → d < c
-
   -- each instruction has a move
   pub moves : (m pc : ℕ) (i : Instr) → instr_at p m pc ≡ Some i → has_move i ≡ true
 
