@@ -1,5 +1,5 @@
 -- One refused instruction for each why that the rules give so far, and states that meet and do not meet.
-use Rattle.std.proofs.Common.{◌≡◌, ℕ, pos, List, [], ◌∷◌, Option, Some, None, Err, refl, slice_get}
+use Rattle.std.proofs.Common.{◌≡◌, ℕ, pos, List, [], ◌∷◌, Option, Some, None, Err, refl}
 use Rattle.aom_image.specs.Image.{Image}
 use Rattle.aom_image.specs.Views.{method_at, class_at, gives_in, quiet_in, role_in, class_in, fields_in}
 use Rattle.aom_image.specs.declared.class.ClassDecl.{ClassDecl}
@@ -7,7 +7,6 @@ use Rattle.aom_image.specs.declared.class.ClassKind.TheVariants.{Plain}
 use Rattle.aom_image.specs.declared.instr.Instr.TheVariants.{Const, Put, New, Return}
 use Rattle.aom_image.specs.declared.method.Gives.{Gives}
 use Rattle.aom_image.specs.declared.method.Gives.TheVariants.{Nothing, Left}
-use Rattle.aom_image.specs.declared.method.Method.{Method}
 use Rattle.aom_image.specs.declared.method.Role.{Role}
 use Rattle.aom_image.specs.declared.method.Role.TheVariants.{Main, Do, Destruct}
 use Rattle.aom_image.specs.declared.method.Thing.TheVariants.{Object}
