@@ -279,7 +279,7 @@ outside_differs q from ls h n b = elim (cases_Bool (same_place q from)) as (λ x
   | inr e ↦ e
 ]
 
-no_field_here : (q : Place) (fr : Frame) (o : Object) (from : Place) (sh : Shape) (ls : List Layer) → fr.home ≡ Inside o from → Outside q (Method fr sh ∷ ls) → NoFieldHere q from
+pub no_field_here : (q : Place) (fr : Frame) (o : Object) (from : Place) (sh : Shape) (ls : List Layer) → fr.home ≡ Inside o from → Outside q (Method fr sh ∷ ls) → NoFieldHere q from
 no_field_here (Register f i) fr o from sh ls e h = tt
 no_field_here (Entry k) fr o from sh ls e h = tt
 no_field_here (Field n f) fr o from sh ls e h = subst (NotIn n) e h.0

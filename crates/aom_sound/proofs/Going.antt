@@ -87,7 +87,7 @@ module _ (p : Image) (t : Typing) (cs : List Cell) (o : Object) (ls : List Layer
           none false = refl
 
       u : Untouched p (λ f. Null) o.name ls
-      u = untouched p t cs g o good.tidy good.stack.0.1 (λ f. Null) ls Gone (λ from. tt) (omega arith) good.stack.2
+      u = untouched p t cs g o good.tidy good.stack.0.1 (λ f. Null) ls Gone (omega arith) good.stack.2
 
       same_declared : (r : Place) → ((n f : ℕ) → r ≡ Field n f → (o.name == n) ≡ false) → declared p cs r ≡ declared p cs' r
       same_declared (Register f i) h = refl

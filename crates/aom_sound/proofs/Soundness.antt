@@ -1,10 +1,11 @@
 -- Each run of an image that has a typing: every state that it comes to is well typed, and where it ended nothing is at hand.
-use Rattle.std.proofs.Common.{Bool, List, None, Option, Some, [], ap, cond, false, inl, inr, length, refl, subst, sym, true, ℕ, ⊎_elim, ◌∙◌, ◌∷◌, ◌≡◌}
-use Rattle.std.specs.Prelude.{◌⊎◌}
+use Rattle.std.proofs.Common.{Bool, List, None, Option, Some, [], ap, cond, false, inl, inr, length, refl, subst, suc, sym, true, zero, ℕ, ⊎_elim, ◌-◌, ◌∙◌, ◌∷◌, ◌≡◌}
+use Rattle.std.specs.Ordering.{int_eq}
+use Rattle.std.specs.Prelude.{◌⊎◌, int_lt}
 use Rattle.aom_image.specs.Image.{Image}
 use Rattle.aom_image.specs.Views.{gives_of, instr_at}
 use Rattle.aom_image.specs.declared.instr.Instr.{Instr}
-use Rattle.aom_image.specs.declared.instr.Instr.TheVariants.{Delete, JumpNull, Return}
+use Rattle.aom_image.specs.declared.instr.Instr.TheVariants.{Delete, JumpEmpty, JumpEqual, JumpLess, JumpNull, Next, Return}
 use Rattle.aom_image.specs.declared.method.Gives.{Gives}
 use Rattle.aom_shape.specs.Kinds.{filled}
 use Rattle.aom_shape.specs.Things.{root_thing}
@@ -22,8 +23,9 @@ use Rattle.aom_sound.specs.Laws.{IsSound, IsWired}
 use Rattle.aom_sound.specs.Moves.{IsOpen, counted, does, needs, step, step_instr, step_task}
 use Rattle.aom_sound.specs.Objects.{deleted, jumped}
 use Rattle.aom_sound.specs.Places.{Elsewhere, Going, Object, Register, Root, held, without}
-use Rattle.aom_sound.specs.State.{Choice, Destroy, Dispatched, Frame, Goes, IsStuck, Need, Orphan, Outcome, Run, State, Task, Trapped, guarded, resumed}
+use Rattle.aom_sound.specs.State.{counter, field_place, Choice, Destroy, Dispatched, Frame, Goes, IsStuck, Need, Orphan, Outcome, Run, State, Task, Trapped, guarded, resumed}
 use Rattle.aom_sound.specs.WellTyped.{Fits, Keeps, WellTyped}
+use Rattle.aom_sound.specs.Words.{branched, looped, read}
 use Rattle.aom_sound.specs.World.{IsBusy, Reaches, begins, boot_state, moves, waits}
 use Rattle.aom_sound.specs.declared.line.Ending.{Ending}
 use Rattle.aom_sound.specs.declared.line.Ending.TheVariants.{Stopped}
@@ -51,6 +53,14 @@ module _ (p : Image) (c : Choice) (fr : Frame) (ts : List Task) (s : State) wher
   jump_ends None to = refl
   jump_ends (Some o) to = refl
 
+  branch_ends : (b : Bool) (to : ℕ) → (branched fr ts s b to).rest.ended ≡ s.rest.ended
+  branch_ends true to = refl
+  branch_ends false to = refl
+
+  loop_ends : (left depth to : ℕ) → (looped fr ts s left depth to).rest.ended ≡ s.rest.ended
+  loop_ends zero depth to = refl
+  loop_ends (suc left) depth to = refl
+
   delete_ends : (o : Option Object) (a : ℕ) → (deleted p c fr ts s o a).rest.ended ≡ s.rest.ended
   delete_ends None a = refl
   delete_ends (Some o) a = refl
@@ -68,6 +78,10 @@ module _ (p : Image) (c : Choice) (fr : Frame) (ts : List Task) (s : State) wher
 
   -- no instruction ends the run
   instr_ends : (i : Instr) → (does p c fr ts s i).rest.ended ≡ s.rest.ended
+  instr_ends (JumpEqual a b to) = branch_ends (int_eq (read fr ts s a) (read fr ts s b)) to
+  instr_ends (JumpLess a b to) = branch_ends (int_lt (read fr ts s a) (read fr ts s b)) to
+  instr_ends (JumpEmpty f to) = jump_ends (held s.cells (field_place fr.home f)) to
+  instr_ends (Next depth to) = loop_ends (counter fr depth - 1) depth to
   instr_ends (JumpNull a to) = jump_ends (held s.cells (Register (length ts) a)) to
   instr_ends (Delete a) = delete_ends (held s.cells (Register (length ts) a)) a
   instr_ends (Return a) = return_ends (gives_of p fr.method) a ts

@@ -50,7 +50,7 @@ pub record StuckExamples : Type 0 where
   -- a return with a lower cleanup stack than the method found
   pub unbalanced : IsStuckBy Unbalanced Nothing (Return 0) [] []
   -- a word is written over a cell's only owner
-  pub orphan : IsStuckBy Orphan Nothing (Const 0 (pos 7)) (with_new 0 (Object 0) (Register 2 0) []) (A_mark ∷ [])
+  pub orphan : IsStuckBy Orphan Nothing (Const 0 (pos 7)) (with_new 0 (Object 0) [] (Register 2 0) []) (A_mark ∷ [])
   -- an object is given back, and there is none
   pub null_or_dead : IsStuckBy NullOrDead (Own (Object 0)) (Return 0) [] (A_mark ∷ [])
   -- what is printed is no word

@@ -59,7 +59,7 @@ pub record Frames (p : Image) (ls : List Layer) (fr : Frame) (sh : Shape) : Type
   pub holder : home_holder fr.home ≡ holder_of p fr.method
   pub height : fr.height ≡ length (items_of ls)
 
--- the abstract state after a trap, from the one that holds while the call lasts: null where it left, and the code in the next register
+-- the abstract state after a trap: null where it left, and the code in the next register
 abbrev pub caught : Gives → ℕ → Shape → Shape
 caught Nothing c sh = set_register sh (suc c) Word
 caught A_word c sh = set_register (set_register sh c Word) (suc c) Word
