@@ -100,9 +100,9 @@ called_by class role flags arguments gives caller caller_flags = record {
   header = record { cells = 4; messages = 0; natives = 0; root = None; budget = 100 };
   classes = classes;
   methods =
-    record { class = class; role = role; flags = record { 0 = flags }; before = record { 0 = 0 }; after = record { 0 = 0 }; arguments = arguments; gives = gives; code = [] }
-    ∷ record { class = caller; role = Do; flags = record { 0 = caller_flags }; before = record { 0 = 0 }; after = record { 0 = 0 }; arguments = []; gives = Nothing; code = [] }
-    ∷ [];
+      record { class = class; role = role; flags = record { 0 = flags }; before = record { 0 = 0 }; after = record { 0 = 0 }; arguments = arguments; gives = gives; code = [] }
+      ∷ record { class = caller; role = Do; flags = record { 0 = caller_flags }; before = record { 0 = 0 }; after = record { 0 = 0 }; arguments = []; gives = Nothing; code = [] }
+      ∷ [];
 }
 
 call_on_an_argument : rule (called_by (Some 0) Do 0 (An_own_argument (Object 0) ∷ []) Nothing None 0) 1 0 (state (Own (Object 0) Ready) Unset Empty) (Call (Register 0) 0 0 1) ≡ Err RegisterKind
