@@ -44,7 +44,7 @@ use Rattle.aom_sound.specs.Laws.{IsCalled, IsWired}
 use Rattle.aom_sound.specs.Moves.{does}
 use Rattle.aom_sound.specs.Objects.{is_thing}
 use Rattle.aom_sound.specs.Places.{Cell, Elsewhere, Entry, Field, Going, Object, Place, Register, Root, changed, held, moved, named, same_place}
-use Rattle.aom_sound.specs.State.{AtRoot, Choice, Frame, Home, Inside, Run, State, Static, field_place, frame_of, home_holder, thing_holder, word}
+use Rattle.aom_sound.specs.State.{AtRoot, Choice, Frame, Home, Inside, Run, State, Static, WrongKind, field_place, frame_of, home_holder, thing_holder, word}
 use Rattle.aom_sound.specs.WellTyped.{Awaits, Fits, Frames, Good, Holds, IsApart, IsBelow, IsHoused, IsNoFieldOf, NotIn, Returns, SomeIn, Stack, Stands, Unclaimed, WellTyped, WordFits, WorksOn, by_field}
 
 -- what a test that is asked for says
@@ -479,6 +479,10 @@ module _ (p : Image) (t : Typing) (wired : IsWired p) (typed : IsTyped p t) (c :
           apart_so : IsApart p (Inside kept_in.0 spot) (Method fr after_arguments ∷ ls)
           apart_so = (no_field_of fr.home refl, u.none_in, u.unclaimed)
 
+    -- what a place owns is what the method works on
+    at_home : (q : Place) (o : Object) (sh' : Shape) → held s.cells q ≡ Some o → Entering (Inside o q) sh' → Entering (home_at (held s.cells q) q) sh'
+    at_home q o sh' there g = subst (λ x. Entering (home_at x q) sh') (sym there) g
+
     -- each kind of target
     on_this : (k : Option ℕ) → method_class p m ≡ k → AllTrue (rule_target p fr.method sh This (method_class p m) (is_construct (method_role p m)) first (length xs)) → Answer This
     on_this None e n = (
@@ -515,9 +519,9 @@ module _ (p : Image) (t : Typing) (wired : IsWired p) (typed : IsTyped p t) (c :
         let x = owned r y e w.0 w.1 w.2 w.3 aside in (
           (
             ap is_none (word_of_object (word fr r) (register sh r) (ap is_object_or_null w.2) (at_hand.good.stack.1.words r)),
-            (n.1.0, subst (λ k. AllTrue (needs_target_object p k (held s.cells (top ls r)))) (sym e) (target_met y (held s.cells (top ls r)) x.0 w.0 x.1 x.2 w.3)),
+            all_join (needs_target_object p (method_class p m) (held s.cells (top ls r))) ((not (is_among first (length xs) r), WrongKind) ∷ []) (subst (λ k. AllTrue (needs_target_object p k (held s.cells (top ls r)))) (sym e) (target_met y (held s.cells (top ls r)) x.0 w.0 x.1 x.2 w.3)) (n.1.0, tt),
           ),
-          subst (λ o. Entering (home_at o (top ls r)) (while_called (On_register r) (method_class p m) after_arguments)) (sym x.1)
+          at_home (top ls r) x.0 (while_called (On_register r) (method_class p m) after_arguments) x.1
               (on_register r y e w.0 w.1 w.2 w.3 aside (ages w.0 w.1 w.2 (age_of (register sh r) n.1.1))),
         )
       where
@@ -533,10 +537,10 @@ module _ (p : Image) (t : Typing) (wired : IsWired p) (typed : IsTyped p t) (c :
         let same : kind ≡ filled (field_thing p (holder_of p fr.method) f) (field sh f) = ap (λ h. filled (field_thing p h f) (field sh f)) at_hand.good.stack.1.holder in
         let w = own_for p (An_object_of y) kind (ap (λ k. is_own_for p (An_object_of y) k) same ∙ sym (ap (λ x. is_target p x (filled (field_thing p (holder_of p fr.method) f) (field sh f))) e) ∙ n.0) in
         let there = something (field_thing p (home_holder fr.home) f) (field sh f) w.0 w.1 w.2 in
-        let does_so = ready (field_thing p (home_holder fr.home) f) (field sh f) (age_of kind (subst (λ k. AllTrue (age_need (is_construct (method_role p m)) k ∷ [])) (sym same) n.1)) in
+        let does_so = ready (field_thing p (holder_of p fr.method) f) (field sh f) (age_of (filled (field_thing p (holder_of p fr.method) f) (field sh f)) n.1) in
         let x = kept_in f y e w.0 w.1 w.2 w.3 there does_so in (
           (there, subst (λ k. AllTrue (needs_target_object p k (held s.cells (field_place fr.home f)))) (sym e) (target_met y (held s.cells (field_place fr.home f)) x.0 w.0 x.1 x.2 w.3)),
-          subst (λ o. Entering (home_at o (field_place fr.home f)) after_arguments) (sym x.1) (on_field f y e w.0 w.1 w.2 w.3 there does_so),
+          at_home (field_place fr.home f) x.0 after_arguments x.1 (on_field f y e w.0 w.1 w.2 w.3 there does_so),
         )
       where
         something : (x : Option Thing) (y : Filling) (z : Thing) (a : Age) → filled x y ≡ Own z a → is_some x ≡ true

@@ -12,6 +12,7 @@ pub mod Going
 pub mod Finishing
 pub mod Destructors
 pub mod Returning
+pub mod Closing
 pub mod Passing
 pub mod Calling
 pub mod Steps

@@ -22,6 +22,7 @@ use Rattle.aom_sound.proofs.Claimed.{claim-set_register, claim_frame}
 use Rattle.aom_sound.proofs.Creation.{law_new}
 use Rattle.aom_sound.proofs.Destroying.{law_delete}
 use Rattle.aom_sound.proofs.Destructors.{law_destructor}
+use Rattle.aom_sound.proofs.Closing.{dispatch_keeps}
 use Rattle.aom_sound.proofs.Going.{going_keeps}
 use Rattle.aom_sound.proofs.Jumps.{law_jump, law_jump_empty, law_jump_null, law_loop, law_next}
 use Rattle.aom_sound.proofs.Words.{law_binary, law_compare, law_const, law_copy, law_load, law_print, law_store}
@@ -30,10 +31,10 @@ use Rattle.aom_sound.proofs.Returning.{law_return, law_return_caught, law_return
 use Rattle.aom_sound.proofs.Straight.{At, Fitted, Law, fitted, kind_fits, no_word, relabel, settle, stepped, top, well}
 use Rattle.aom_sound.specs.Claims.{Dispatching, Dying, Layer, Mark, Method, claim, declared, items_of, tasks_of}
 use Rattle.aom_sound.specs.Laws.{IsWired}
-use Rattle.aom_sound.specs.Moves.{closed, counted, does, needs, step, step_instr, step_task}
+use Rattle.aom_sound.specs.Moves.{counted, dispatch_ends, does, needs, step, step_instr, step_task}
 use Rattle.aom_sound.specs.Objects.{jumped}
 use Rattle.aom_sound.specs.Places.{Elsewhere, Entry, Field, Going, Object, Place, Register, Root, held, named}
-use Rattle.aom_sound.specs.State.{Choice, Destroy, Dispatch, Dispatched, Frame, IsStuck, Need, Of_main, Run, State, Task, Trapped, guarded, home_holder, next, to_place, word}
+use Rattle.aom_sound.specs.State.{Choice, Destroy, Dispatch, Dispatched, Frame, IsStuck, Need, Of_main, Of_root, Run, State, Task, Trapped, guarded, home_holder, next, to_place, word}
 use Rattle.aom_sound.specs.WellTyped.{Caught, Fits, Good, IsApart, IsHoused, Keeps, Now, Returns, Stack, WellTyped, WordFits}
 
 -- a state goes on where all needs are met
@@ -84,6 +85,7 @@ returns p t c s fr sh [] h a = absurd (nothing_below h.good.stack.4)
 returns p t c s fr sh (Method fr2 sh2 ∷ ls) h a = law_return p t c s fr fr2 sh sh2 ls h a
 returns p t c s fr sh (Dying o ∷ ls) h a = law_destructor p t c s fr sh o ls h a
 returns p t c s fr sh (Dispatching Of_main ∷ ls) h a = absurd h.good.stack.4.0
+returns p t c s fr sh (Dispatching Of_root ∷ ls) h a = absurd h.good.stack.4.0
 returns p t c s fr sh (Mark gv ∷ []) h a = absurd (nothing_below h.good.stack.4.1)
   where
     nothing_below : Caught gv ≡ Now → ⊥
@@ -99,25 +101,6 @@ instruction_keeps p t wired typed c s fr sh ls at_hand unused =
     let x = typed.each fr.method fr.place sh at_hand.good.stack.0 in
     let l = law p t wired typed c s fr sh ls at_hand unused x.instr x.stands (λ a. returns p t c s fr sh ls at_hand a) x.needs x.flows in
     subst (λ i. Keeps p t (step_instr p c fr (tasks_of ls) s i)) (sym x.stands) (kept p t (needs p c fr (tasks_of ls) s x.instr) (does p c fr (tasks_of ls) s x.instr) l.0 l.1)
-
--- a dispatch ends
-pub dispatch_keeps : (p : Image) (t : Typing) (s : State) (w : Dispatch) (ls : List Layer) → Good p t s.cells (Dispatching w ∷ ls) → s.items ≡ items_of ls → WellTyped p t (closed s)
-dispatch_keeps p t s w ls good items = record {
-  layers = [];
-  tasks = refl;
-  items = items ∙ ap items_of good.stack.1;
-  good = record { stack = refl; fits = fits; tidy = good.tidy };
-}
-  where
-    last : (r : Place) → claim p (declared p s.cells) (Dispatching w ∷ []) r ≡ declared p s.cells r
-    last (Register f i) = refl
-    last (Entry k) = refl
-    last (Field n f) = refl
-    last (Elsewhere Root) = refl
-    last (Going k) = refl
-
-    fits : (r : Place) → Fits p (held s.cells) (held s.cells r) (declared p s.cells r)
-    fits r = subst (λ k. Fits p (held s.cells) (held s.cells r) k) (ap (λ l. claim p (declared p s.cells) (Dispatching w ∷ l) r) good.stack.1 ∙ last r) (good.fits r)
 
 -- the counts of a move are no concern of the typing
 pub counted_well : (p : Image) (t : Typing) (s : State) → WellTyped p t s → WellTyped p t (counted p s)
@@ -148,22 +131,22 @@ module _ (p : Image) (t : Typing) (c : Choice) (s : State) where
       go (Dying o ∷ ls) at items good = subst (λ l. Keeps p t (step_task p c s l)) (sym at) (going_keeps p t s o ls good items)
       go (Dispatching d ∷ ls) at items good = cc
 
-  of_dispatch : (d : Dispatch) (ts : List Task) → s.tasks ≡ Dispatched d ∷ ts → WellTyped p t s → Keeps p t (step_task p c s s.tasks)
-  of_dispatch d ts e w = by_layers (Dispatched d ∷ ts) e go w
+  of_dispatch : IsWired p → IsTyped p t → (d : Dispatch) (ts : List Task) → s.tasks ≡ Dispatched d ∷ ts → WellTyped p t s → Keeps p t (step_task p c s s.tasks)
+  of_dispatch wired typed d ts e w = by_layers (Dispatched d ∷ ts) e go w
     where
       go : (ls : List Layer) → Dispatched d ∷ ts ≡ tasks_of ls → s.items ≡ items_of ls → Good p t s.cells ls → Keeps p t (step_task p c s (Dispatched d ∷ ts))
       go [] at items good = cc
       go (Method fr' sh ∷ ls) at items good = cc
       go (Mark gv ∷ ls) at items good = cc
       go (Dying o ∷ ls) at items good = cc
-      go (Dispatching w ∷ ls) at items good = dispatch_keeps p t s w ls good items
+      go (Dispatching w ∷ ls) at items good = let same : d ≡ w = cc in subst (λ x. WellTyped p t (dispatch_ends p x s)) (sym same) (dispatch_keeps p t wired typed s w ls good items)
 
   -- a trap is never on top
   of_any : IsWired p → IsTyped p t → named s.cells c.name ≡ None → (ts : List Task) → s.tasks ≡ ts → WellTyped p t s → Keeps p t (step_task p c s s.tasks)
   of_any wired typed unused [] e w = subst (λ l. Keeps p t (step_task p c s l)) (sym e) w
   of_any wired typed unused (Run fr ∷ ts) e w = of_method wired typed unused fr ts e w
   of_any wired typed unused (Destroy ∷ ts) e w = of_going ts e w
-  of_any wired typed unused (Dispatched d ∷ ts) e w = of_dispatch d ts e w
+  of_any wired typed unused (Dispatched d ∷ ts) e w = of_dispatch wired typed d ts e w
   of_any wired typed unused (Trapped ∷ ts) e w = subst (λ l. Keeps p t (step_task p c s l)) (sym e) w
 
 pub move_keeps : (p : Image) (t : Typing) → IsWired p → IsTyped p t → (c : Choice) (s : State) (fr : Frame) (ts : List Task) → WellTyped p t s → s.tasks ≡ Run fr ∷ ts → named s.cells c.name ≡ None → Keeps p t (step p c s)
@@ -172,8 +155,8 @@ move_keeps p t wired typed c s fr ts w e unused = of_method p t c (counted p s) 
 pub destruction_keeps : (p : Image) (t : Typing) (c : Choice) (s : State) (ts : List Task) → WellTyped p t s → s.tasks ≡ Destroy ∷ ts → Keeps p t (step p c s)
 destruction_keeps p t c s ts w e = of_going p t c (counted p s) ts e (counted_well p t s w)
 
-pub turn_keeps : (p : Image) (t : Typing) (c : Choice) (s : State) (d : Dispatch) (ts : List Task) → WellTyped p t s → s.tasks ≡ Dispatched d ∷ ts → Keeps p t (step p c s)
-turn_keeps p t c s d ts w e = of_dispatch p t c (counted p s) d ts e (counted_well p t s w)
+pub turn_keeps : (p : Image) (t : Typing) → IsWired p → IsTyped p t → (c : Choice) (s : State) (d : Dispatch) (ts : List Task) → WellTyped p t s → s.tasks ≡ Dispatched d ∷ ts → Keeps p t (step p c s)
+turn_keeps p t wired typed c s d ts w e = of_dispatch p t c (counted p s) wired typed d ts e (counted_well p t s w)
 
 pub step_keeps : (p : Image) (t : Typing) → IsWired p → IsTyped p t → (c : Choice) (s : State) → WellTyped p t s → named s.cells c.name ≡ None → Keeps p t (step p c s)
 step_keeps p t wired typed c s w unused = of_any p t c (counted p s) wired typed unused s.tasks refl (counted_well p t s w)

@@ -28,9 +28,12 @@ works_on p (Some c) Program = false
 works_on p (Some c) (Member x) = stands_for p (An_object_of x) (An_object_of c)
 
 -- a method of that class may work on this object
+abbrev pub is_worked_on : Image → Option ℕ → Option Object → Bool
+is_worked_on p None o = false
+is_worked_on p (Some c) o = is_thing p (An_object_of c) o
+
 abbrev pub needs_target_object : Image → Option ℕ → Option Object → List Need
-needs_target_object p None o = (false, WrongKind) ∷ []
-needs_target_object p (Some c) o = (is_some o, NullOrDead) ∷ (is_thing p (An_object_of c) o, WrongKind) ∷ []
+needs_target_object p class o = (is_some o, NullOrDead) ∷ (is_worked_on p class o, WrongKind) ∷ []
 
 -- what a place owns, as what a method works on
 abbrev pub home_at : Option Object → Place → Home
@@ -43,12 +46,21 @@ own_home None home = Static
 own_home (Some c) home = home
 
 module _ (p : Image) (fr : Frame) (ts : List Task) (s : State) where
+  -- a register owns what may stand for that thing
+  abbrev pub needs_own : Thing → ℕ → List Need
+  needs_own t a =
+      (is_none (word fr a), WrongKind)
+      ∷ (is_some (held s.cells (here fr ts s a)), NullOrDead)
+      ∷ (is_thing p t (held s.cells (here fr ts s a)), WrongKind)
+      ∷ []
+
   abbrev pub needs_target : Target → Option ℕ → ℕ → ℕ → List Need
   needs_target This class first count = (works_on p class (home_holder fr.home), WrongKind) ∷ []
   needs_target (On_register r) class first count =
       (is_none (word fr r), WrongKind)
-      ∷ (not (is_among first count r), WrongKind)
-      ∷ needs_target_object p class (held s.cells (here fr ts s r))
+      ∷ (needs_target_object p class (held s.cells (here fr ts s r))
+      ++ ((not (is_among first count r), WrongKind)
+      ∷ []))
   needs_target (On_field f) class first count =
       (is_some (field_thing p (home_holder fr.home) f), WrongKind)
       ∷ needs_target_object p class (held s.cells (field_place fr.home f))
@@ -64,11 +76,7 @@ module _ (p : Image) (fr : Frame) (ts : List Task) (s : State) where
   -- a register is passed on
   abbrev pub needs_argument : Argument → ℕ → List Need
   needs_argument Takes_word a = needs_word fr ts s a ∷ []
-  needs_argument (Takes_own t) a =
-      (is_none (word fr a), WrongKind)
-      ∷ (is_some (held s.cells (here fr ts s a)), NullOrDead)
-      ∷ (is_thing p t (held s.cells (here fr ts s a)), WrongKind)
-      ∷ []
+  needs_argument (Takes_own t) a = needs_own t a
 
   -- the arguments, from that register on
   abbrev pub needs_each : List Argument → ℕ → List Need
@@ -157,7 +165,7 @@ module _ (p : Image) (fr : Frame) (ts : List Task) (s : State) where
   abbrev pub result_needs : Gives → ℕ → List Need
   result_needs Nothing a = []
   result_needs A_word a = (is_some (word fr a), WrongKind) ∷ []
-  result_needs (An_own t) a = (is_some (held s.cells (here fr ts s a)), NullOrDead) ∷ (is_thing p t (held s.cells (here fr ts s a)), WrongKind) ∷ []
+  result_needs (An_own t) a = needs_own p fr ts s t a
   result_needs (A_maybe t) a = (is_none (word fr a), WrongKind) ∷ (is_thing p t (held s.cells (here fr ts s a)), WrongKind) ∷ []
   -- comes with the cleanup stack
   result_needs (Left c) a = (false, Unbalanced) ∷ []

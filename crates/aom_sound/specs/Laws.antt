@@ -61,7 +61,7 @@ pub record IsSound (p : Image) (refused : List ℕ) : Type 0 where
 
 -- each linked image that has a typing is sound, whatever is refused
 abbrev pub TypedIsSound : Type 0
-TypedIsSound = (p : Image) (t : Typing) (refused : List ℕ) → IsWired p → IsTyped p t → p.header.root ≡ None → IsSound p refused
+TypedIsSound = (p : Image) (t : Typing) (refused : List ℕ) → IsWired p → IsTyped p t → IsSound p refused
 
 -- what a linked image of the admitted kind gives the laws
 abbrev pub LinkedIsWired : Type 0
@@ -75,4 +75,4 @@ abbrev pub DestructionKeeps : Type 0
 DestructionKeeps = (p : Image) (t : Typing) (c : Choice) (s : State) (tasks : List Task) → WellTyped p t s → s.tasks ≡ Destroy ∷ tasks → Keeps p t (step p c s)
 
 abbrev pub TurnKeeps : Type 0
-TurnKeeps = (p : Image) (t : Typing) (c : Choice) (s : State) (d : Dispatch) (tasks : List Task) → WellTyped p t s → s.tasks ≡ Dispatched d ∷ tasks → Keeps p t (step p c s)
+TurnKeeps = (p : Image) (t : Typing) → IsWired p → IsTyped p t → (c : Choice) (s : State) (d : Dispatch) (tasks : List Task) → WellTyped p t s → s.tasks ≡ Dispatched d ∷ tasks → Keeps p t (step p c s)

@@ -24,9 +24,10 @@ pub record Frame : Type 0 where
   -- how many items the cleanup stack had as it began
   pub height : ℕ
 
--- what a dispatch is of
+-- what stands below all else: main's dispatch, or the end of a stopped run, which destroys the root
 pub data Dispatch : Type 0 where
   Of_main : Dispatch
+  Of_root : Dispatch
 
 -- what is at hand, the innermost first
 pub data Task : Type 0 where
