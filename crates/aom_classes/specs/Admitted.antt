@@ -7,7 +7,7 @@ use Rattle.aom_image.specs.declared.class.ClassKind.{ClassKind}
 use Rattle.aom_image.specs.declared.class.ClassKind.TheVariants.{Plain}
 use Rattle.aom_image.specs.declared.image.Header.{Header}
 use Rattle.aom_image.specs.declared.instr.Instr.{Instr}
-use Rattle.aom_image.specs.declared.instr.Instr.TheVariants.{Const, Jump, JumpNull, Print, New, Delete, Return, Stop}
+use Rattle.aom_image.specs.declared.instr.Instr.TheVariants.{Const, Copy, Add, Sub, Mul, And, Or, Xor, Jump, JumpEqual, JumpLess, JumpNull, Print, New, Delete, Return, Stop}
 use Rattle.aom_image.specs.declared.method.Method.{Method}
 use Rattle.aom_image.specs.declared.method.Gives.{Gives}
 use Rattle.aom_image.specs.declared.method.Gives.TheVariants.{Nothing}
@@ -16,7 +16,16 @@ use Rattle.aom_classes.specs.Roles.{is_main}
 -- whether an instruction is one of those
 unfoldable pub admits_instr : Instr → Bool
 admits_instr (Const r w) = true
+admits_instr (Copy a b) = true
+admits_instr (Add a b c) = true
+admits_instr (Sub a b c) = true
+admits_instr (Mul a b c) = true
+admits_instr (And a b c) = true
+admits_instr (Or a b c) = true
+admits_instr (Xor a b c) = true
 admits_instr (Jump t) = true
+admits_instr (JumpEqual a b t) = true
+admits_instr (JumpLess a b t) = true
 admits_instr (JumpNull r t) = true
 admits_instr (Print r) = true
 admits_instr (New r c) = true

@@ -14,7 +14,16 @@ fn admits_instr(instr: &Instr) -> bool
     matches!(
         instr,
         Instr::Const(_, _)
+            | Instr::Copy(_, _)
+            | Instr::Add(_, _, _)
+            | Instr::Sub(_, _, _)
+            | Instr::Mul(_, _, _)
+            | Instr::And(_, _, _)
+            | Instr::Or(_, _, _)
+            | Instr::Xor(_, _, _)
             | Instr::Jump(_)
+            | Instr::JumpEqual(_, _, _)
+            | Instr::JumpLess(_, _, _)
             | Instr::JumpNull(_, _)
             | Instr::Print(_)
             | Instr::New(_, _)
