@@ -10,7 +10,7 @@ use Rattle.aom_image.specs.declared.instr.Instr.{Instr}
 use Rattle.aom_image.specs.declared.instr.Instr.TheVariants.{Const, Jump, JumpNull, Print, New, Delete, Return, Stop}
 use Rattle.aom_image.specs.declared.method.Method.{Method}
 use Rattle.aom_classes.specs.Roles.{is_main}
-pub use Rattle.aom_roles.specs.Shapes.{gives_nothing}
+unfoldable pub use Rattle.aom_roles.specs.Shapes.{gives_nothing}
 
 -- whether an instruction is one of those
 unfoldable pub admits_instr : Instr → Bool

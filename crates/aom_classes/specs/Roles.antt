@@ -4,7 +4,8 @@ use Rattle.aom_image.specs.Image.{Image}
 use Rattle.aom_image.specs.declared.method.Method.{Method}
 use Rattle.aom_image.specs.declared.method.Role.{Role}
 use Rattle.aom_image.specs.declared.method.Role.TheVariants.{Main}
-pub use Rattle.aom_roles.specs.Roles.{role_number, same_role}
+unfoldable pub use Rattle.aom_roles.specs.Roles.{role_number}
+pub use Rattle.aom_roles.specs.Roles.{same_role}
 
 -- whether a method's class is that one
 abbrev pub is_class : ℕ → Option ℕ → Bool
