@@ -9,9 +9,8 @@ use Rattle.aom_image.specs.declared.image.Header.{Header}
 use Rattle.aom_image.specs.declared.instr.Instr.{Instr}
 use Rattle.aom_image.specs.declared.instr.Instr.TheVariants.{Const, Copy, Add, Sub, Mul, And, Or, Xor, Jump, JumpEqual, JumpLess, JumpNull, Print, New, Delete, Return, Stop}
 use Rattle.aom_image.specs.declared.method.Method.{Method}
-use Rattle.aom_image.specs.declared.method.Gives.{Gives}
-use Rattle.aom_image.specs.declared.method.Gives.TheVariants.{Nothing}
 use Rattle.aom_classes.specs.Roles.{is_main}
+unfoldable pub use Rattle.aom_roles.specs.Shapes.{gives_nothing}
 
 -- whether an instruction is one of those
 unfoldable pub admits_instr : Instr → Bool
@@ -42,11 +41,6 @@ is_plain _ = false
 -- whether a class is plain, with neither words nor owning fields
 unfoldable pub admits_class : ClassDecl → Bool
 admits_class c = is_plain c.kind && nat_eq c.words 0 && nat_eq (length c.fields) 0
-
--- whether a method gives nothing
-unfoldable pub gives_nothing : Gives → Bool
-gives_nothing Nothing = true
-gives_nothing _ = false
 
 -- whether a method is static, without flags and sets
 abbrev pub is_bare : Method → Bool

@@ -1,10 +1,11 @@
 //! What an image may have so far.
 ghost use Rattle.std.specs.Prelude.{◌≡◌, ◌↔◌, IsTrue};
 ghost use Rattle.std.specs.List.{list_all};
-ghost use Rattle.aom_classes.specs.Admitted.{admits_instr, is_plain, admits_class, gives_nothing, is_bare, admits_method, admits_header, EachPasses, IsAdmitted};
+ghost use Rattle.aom_classes.specs.Admitted.{admits_instr, is_plain, admits_class, is_bare, admits_method, admits_header, EachPasses, IsAdmitted};
 
 use crate::roles::is_main;
-use aom_image::{ClassDecl, ClassKind, Gives, Header, Image, Instr, Method};
+use aom_image::{ClassDecl, ClassKind, Header, Image, Instr, Method};
+use aom_roles::gives_nothing;
 use bitflags::Flags;
 
 #[tactic(auto, unfolding(crate::specs::Admitted::admits_instr))]
@@ -45,13 +46,6 @@ fn admits_class(class: &ClassDecl) -> bool
     ensures { result ≡ admits_class class.now }
 {
     is_plain(class.kind) && class.words == 0 && class.fields.is_empty()
-}
-
-#[tactic(auto, unfolding(crate::specs::Admitted::gives_nothing))]
-pub fn gives_nothing(gives: Gives) -> bool
-    ensures { result ≡ gives_nothing gives }
-{
-    matches!(gives, Gives::Nothing)
 }
 
 fn admits_code(code: &[Instr]) -> bool

@@ -1,12 +1,10 @@
 //! The shape that each role asks of a method.
 ghost use Rattle.std.specs.Prelude.{◌≡◌, ◌↔◌, ◌||◌, IsTrue, All};
 ghost use Rattle.std.specs.List.{list_all};
-ghost use Rattle.aom_image.specs.Views.{method_role};
-ghost use Rattle.aom_classes.specs.Roles.{role_number};
-ghost use Rattle.aom_classes.specs.Shapes.{may_leave, is_quiet, is_word, TakesWords, gives_word, gives_left, is_object, gives_object, is_active_in, kind_of, StandsStill, DoesActive, DoesServer, IsDo, IsMain, IsConstruct, IsDestruct, IsRun, IsCancel, IsError, IsAccept, IsService, IsUndo, HasShape, FlagsFit, is_role, has_role, IsTrapped, NamesRoles, IsShaped, AllShaped};
+ghost use Rattle.aom_image.specs.Views.{gives_of, method_role};
+ghost use Rattle.aom_roles.specs.Roles.{role_number};
+ghost use Rattle.aom_roles.specs.Shapes.{may_leave, is_quiet, is_word, TakesWords, gives_nothing, gives_word, gives_left, is_object, gives_object, is_active_in, kind_of, StandsStill, DoesActive, DoesServer, IsDo, IsMain, IsConstruct, IsDestruct, IsRun, IsCancel, IsError, IsAccept, IsService, IsUndo, HasShape, FlagsFit, is_role, has_role, IsTrapped, NamesRoles, IsShaped, AllShaped};
 
-use crate::admitted::gives_nothing;
-use crate::call_order::gives_of;
 use crate::class_order::{is_session_in, kind_at, sessions_in};
 use crate::roles::same_role;
 use crate::states::{
@@ -47,6 +45,13 @@ fn takes_words(method: &Method, count: usize) -> bool
     ensures { IsTrue result ↔ TakesWords count method.now }
 {
     method.arguments.len() == count && are_words(method.arguments.as_slice())
+}
+
+#[tactic(auto, unfolding(crate::specs::Shapes::gives_nothing))]
+pub fn gives_nothing(gives: Gives) -> bool
+    ensures { result ≡ gives_nothing gives }
+{
+    matches!(gives, Gives::Nothing)
 }
 
 #[tactic(auto, unfolding(crate::specs::Shapes::gives_word))]
@@ -255,6 +260,18 @@ fn has_role(image: &Image, method: MethodNumber, role: Role) -> bool
     match methods.as_slice().get(method.number() as usize) {
         Some(method) => same_role(method.role, role),
         None => false,
+    }
+}
+
+/// What a method gives.
+#[tactic(auto, unfolding(aom_image::specs::Views::gives_in, aom_image::specs::Views::method_at))]
+pub fn gives_of(image: &Image, method: MethodNumber) -> Gives
+    ensures { result ≡ gives_of image.now method }
+{
+    let methods = image.methods();
+    match methods.as_slice().get(method.number() as usize) {
+        Some(method) => method.gives,
+        None => Gives::Nothing,
     }
 }
 

@@ -1,6 +1,6 @@
 //! Sets of request states.
 ghost use Rattle.std.specs.Prelude.{◌≡◌, ◌↔◌, IsTrue};
-ghost use Rattle.aom_classes.specs.States.{server_states, active_states, states_of, first_of, last_of, IsPart};
+ghost use Rattle.aom_roles.specs.States.{server_states, active_states, states_of, first_of, last_of, IsPart};
 
 use aom_image::{ClassKind, States};
 use bitflags::Flags;

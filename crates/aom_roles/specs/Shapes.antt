@@ -1,5 +1,5 @@
 -- The shape that each role asks of a method.
-use Rattle.std.specs.Prelude.{◌≡◌, ◌≢◌, ◌||◌, ℕ, Bool, true, false, List, length, All, Option, Some, None, IfSome, IsTrue, IsSome, is_none, nat_eq, slice_get, bit_or}
+use Rattle.std.specs.Prelude.{◌≡◌, ◌≢◌, ◌||◌, ℕ, Bool, true, false, length, All, Option, Some, None, IfSome, IsTrue, IsSome, is_none, nat_eq, bit_or}
 use Rattle.std.specs.List.{list_all}
 use Rattle.aom_image.specs.Image.{Image}
 use Rattle.aom_image.specs.Views.{has, gives_of, method_role}
@@ -16,10 +16,9 @@ use Rattle.aom_image.specs.declared.method.Role.{Role}
 use Rattle.aom_image.specs.declared.method.Role.TheVariants as roles
 use Rattle.aom_image.specs.declared.method.Thing.{Thing}
 use Rattle.aom_image.specs.declared.method.Thing.TheVariants.{Object, Message}
-use Rattle.aom_classes.specs.Admitted.{gives_nothing}
-use Rattle.aom_classes.specs.Classes.{is_session_in, kind_at, sessions_in}
-use Rattle.aom_classes.specs.Roles.{same_role}
-use Rattle.aom_classes.specs.States.{no_state, idle, issued, active, cancel_open, cancel_done, server_states, active_states, states_of, first_of, last_of, IsPart}
+use Rattle.aom_roles.specs.Classes.{is_session_in, kind_at, sessions_in}
+use Rattle.aom_roles.specs.Roles.{same_role}
+use Rattle.aom_roles.specs.States.{no_state, idle, issued, active, cancel_open, cancel_done, server_states, active_states, states_of, first_of, last_of, IsPart}
 
 -- ---- the parts of a shape
 
@@ -37,6 +36,10 @@ is_word (arguments.Own t) = false
 pub record TakesWords (n : ℕ) (m : Method) : Type 0 where
   pub count : length m.arguments ≡ n
   pub words : IsTrue (list_all is_word m.arguments)
+
+unfoldable pub gives_nothing : Gives → Bool
+gives_nothing gives.Nothing = true
+gives_nothing _ = false
 
 unfoldable pub gives_word : Gives → Bool
 gives_word gives.Word = true

@@ -1,6 +1,6 @@
 //! What classes own, and whose sessions they are.
 ghost use Rattle.std.specs.Prelude.{◌≡◌, ◌<◌, ◌↔◌, IsTrue};
-ghost use Rattle.aom_classes.specs.Classes.{sessions_of, is_session_kind, kind_at, is_session_in, is_session, sessions_in, sessions_at, OwnsBefore, SessionsBefore, ClassOrdered, EachOrdered, RootOrdered, ClassesOrdered};
+ghost use Rattle.aom_roles.specs.Classes.{sessions_of, is_session_kind, kind_at, is_session_in, is_session, sessions_in, sessions_at, OwnsBefore, SessionsBefore, ClassOrdered, EachOrdered, RootOrdered, ClassesOrdered};
 
 use aom_image::{ClassDecl, ClassKind, ClassNumber, Image, Thing};
 
