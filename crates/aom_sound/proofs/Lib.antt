@@ -18,7 +18,7 @@ pub mod Calling
 pub mod Steps
 pub mod Booting
 pub mod Owners
-pub mod Looping
 pub mod Soundness
 pub mod Wiring
+pub mod Looping
 pub mod Stuck

@@ -12,6 +12,7 @@ use Rattle.aom_image.specs.declared.method.Gives.{Gives}
 use Rattle.aom_image.specs.declared.method.Gives.TheVariants.{Left, Maybe as A_maybe, Nothing, Own as An_own, Word as A_word}
 use Rattle.aom_classes.specs.Jumps.{jump_of}
 use Rattle.aom_classes.specs.Roles.{main_of}
+use Rattle.aom_sound.proofs.Wiring.{linked_is_looped}
 use Rattle.aom_sound.proofs.Maps.{at-put_at}
 use Rattle.aom_sound.specs.Calls.{entered, received, result_register, returned}
 use Rattle.aom_sound.specs.Destruction.{begun_by, destructor_of, gone, owns_nothing}
@@ -261,7 +262,7 @@ moves p looped_so c s u h e = go s.tasks refl h e
     go (Dispatched d ∷ ts) at h e = subst (λ v. RoundsLeft p v.tasks) (goes_same (dispatch_ends p d (counted p s)) u e) (ends p (counted p s) d)
 
 pub loops_keep : LoopsKeep
-loops_keep = record { boot = boot; moves = moves }
+loops_keep = record { linked = linked_is_looped; boot = boot; moves = moves }
   where
     boot : (p : Image) → RoundsLeft p (boot_state p).tasks
     boot p = begins (main_of p)
