@@ -26,7 +26,7 @@ runs_of bytes text p script linked admitted typed wired sound spelled denotes =
       acceptable = record { admitted = admitted; linked = linked; typing = typed.0; typed = typed.1 };
       script = script;
       denotes = denotes;
-      sound = sound p typed.0 script.refused w.0 typed.1 w.1;
+      sound = sound p typed.0 script.refused w.0 typed.1;
     }
 
 -- the output failed, and that is told

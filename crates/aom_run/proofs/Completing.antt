@@ -1,5 +1,5 @@
 -- A run can always be brought to an end: with each move less is left to do.
-use Rattle.std.proofs.Common.{◌≡◌, ℕ, suc, ◌+◌, ◌-◌, ◌*◌, ◌<◌, ◌≤◌, ◌==◌, Bool, true, false, cond, IsTrue, IfSome, List, [], ◌∷◌, ◌++◌, Option, Some, None, length, refl, sym, ap, subst, zero, arith, append-nil, append_assoc}
+use Rattle.std.proofs.Common.{◌≡◌, ℕ, suc, ◌+◌, ◌-◌, ◌*◌, ◌<◌, ◌≤◌, ◌==◌, Bool, true, false, cond, IsTrue, IfSome, List, [], ◌∷◌, ◌++◌, ◌∙◌, Option, Some, None, length, refl, sym, ap, subst, zero, arith, append-nil, append_assoc}
 use Rattle.std.specs.Prelude.{int_lt}
 use Rattle.std.specs.Ordering.{int_eq}
 use Rattle.std.proofs.lemmas.Bool.{ne_eqb}
@@ -186,7 +186,7 @@ module _ (p : Image) (t : Typing) (refused : List ℕ) (linked : IsLinked p) (ad
   by_move lines s r typed alone busy again =
       let free = is_open s in
       let then_is = goes_of (step p (choice s) s) (keeps (choice s) s typed free.name) in
-      let on = steps_on p linked admitted bare s.tasks alone (choice s) (counted p s) then_is.0 (λ e. not_idle _ _ _ busy.2 e) (λ e. root_null p t s admitted typed e) then_is.1 in
+      let on = steps_on p linked admitted bare s.tasks alone (choice s) (counted p s) then_is.0 (λ e. not_idle _ _ _ busy.2 e) (λ e. root_null p t s linked admitted typed e) then_is.1 in
       further lines (written p s) (again (written p s) then_is.0 on.less (moves (choice s) r busy free then_is.1) then_is.2 on.alone)
 
   by_tasks : (ts : List Task) (lines : List Line) (s : State) → s.tasks ≡ ts → s.rest.ended ≡ None → Reaches p refused (boot_state p) lines s → (IsBusy s → Completed p refused lines) → Completed p refused lines
