@@ -1,6 +1,7 @@
 pub mod Classes
 pub mod Calls
 pub mod Cleanup
+pub mod Headers
 pub mod Keywords
 pub mod Messages
 pub mod Methods

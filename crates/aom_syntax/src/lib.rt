@@ -4,6 +4,7 @@
 mod calls;
 mod class;
 mod cleanup;
+mod header;
 mod instruction;
 mod keyword;
 mod messages;
