@@ -1,5 +1,5 @@
 -- The image that a text denotes.
-use Rattle.std.specs.Prelude.{◌≢◌, ℕ, ◌==◌, ◌+◌, ◌^◌, max, Bool, true, false, nat_lt, nat_le, is_some, if◌then◌else◌, List, [], ◌∷◌, ◌++◌, length, count_by, Option, Some, None, Result, Ok, Err}
+use Rattle.std.specs.Prelude.{◌≡◌, ◌≢◌, ℕ, ◌==◌, ◌+◌, ◌^◌, max, Bool, true, false, nat_lt, nat_le, is_some, if◌then◌else◌, List, [], ◌∷◌, ◌++◌, length, count_by, Option, Some, None, Result, Ok, Err}
 use Rattle.aom_text.specs.Text.{statements, line_count}
 use Rattle.aom_text.specs.declared.text.Statement.{Statement}
 use Rattle.aom_text.specs.declared.fault.AsmFault.{AsmFault}
@@ -68,14 +68,14 @@ opened scope ws = image_statement scope ws >>= λ h. Ok (record { header = h.0; 
 abbrev pub with_class : Scope → Program → List (List ℕ) → Result Program AsmFaultKind
 with_class scope p ws =
     if nat_lt (length p.classes) 256 then
-      (class_statement scope p.header.natives (length p.classes) (count_by is_server p.classes) ws >>= λ c. grown 28 p.size >>= λ size. Ok (record p { classes = p.classes ++ c.0 ∷ []; size = size }))
+    (class_statement scope p.header.natives (length p.classes) (count_by is_server p.classes) ws >>= λ c. grown 28 p.size >>= λ size. Ok (record p { classes = p.classes ++ c.0 ∷ []; size = size }))
     else Err LimitPassed
 
 -- the beginning of a method, before these statements
 abbrev pub with_heading : Scope → List Statement → Program → List (List ℕ) → Result Program AsmFaultKind
 with_heading scope rest p ws =
     if nat_lt (length p.methods) 1024 then
-      (heading scope (length p.methods) ws >>= λ h. grown 24 p.size >>= λ size. Ok (record p { body = Some (record { heading = h.0; labels = labels_of [] rest; code = [] }); size = size }))
+    (heading scope (length p.methods) ws >>= λ h. grown 24 p.size >>= λ size. Ok (record p { body = Some (record { heading = h.0; labels = labels_of [] rest; code = [] }); size = size }))
     else Err LimitPassed
 
 -- a class or the beginning of a method
@@ -100,7 +100,7 @@ step_by None scope rest p ws = any_keyword ws >>= λ key. declaration scope rest
 step_by (Some b) scope rest p ws = in_body scope p b ws
 
 abbrev pub step : Scope → List Statement → Program → List (List ℕ) → Result Program AsmFaultKind
-step scope rest p ws = step_by p.body scope rest p ws
+step scope rest p ws = step_by p.body scope rest (record p { body = None }) ws
 
 -- ---- texts
 
@@ -113,10 +113,14 @@ abbrev pub read_rest : ℕ → Scope → Program → List Statement → Result P
 read_rest last scope p [] = at_line last (closed p)
 read_rest last scope p (s ∷ ss) = and_then (at_line s.line (step scope ss p s.words)) (λ q. read_rest last scope q ss)
 
+-- the first statement, and those after it
+abbrev pub read_after : ℕ → Scope → Statement → List Statement → Result Program AsmFault
+read_after last scope s ss = and_then (at_line s.line (opened scope s.words)) (λ p. read_rest last scope p ss)
+
 -- all statements
 abbrev pub read_program : ℕ → Scope → List Statement → Result Program AsmFault
 read_program last scope [] = Err (record { line = last; kind = BadShape })
-read_program last scope (s ∷ ss) = and_then (at_line s.line (opened scope s.words)) (λ p. read_rest last scope p ss)
+read_program last scope (s ∷ ss) = read_after last scope s ss
 
 -- the names of a text, told apart or not, beside classes that were read before
 abbrev pub scope_of : Bool → List Statement → List ClassDecl → Scope
@@ -134,7 +138,7 @@ read_statements last ss =
 
 -- the last line of a text
 abbrev pub last_line_of : List ℕ → ℕ
-last_line_of text = max 1 (line_count text)
+last_line_of text = max (line_count text) 1
 
 -- what a text denotes: an image, or its first fault
 abbrev pub denoted : List ℕ → Result Image AsmFault

@@ -54,7 +54,7 @@ impl<'a> Body<'a> {
 
     /// The method, at its `end`.
     pub fn close(self) -> Result<Method, AsmFaultKind>
-        ensures { result ≡ method_of self }
+        ensures { result ≡ method_of self.entry }
     {
         let _told: Option<Target> = None;
         if self.code.is_empty() {

@@ -2,7 +2,7 @@
 ghost use Rattle.std.specs.Prelude.{◌≡◌, ◌≤◌, ◌+◌, ◌^◌, [], None, count_by, IfOk, IfSome};
 ghost use Rattle.aom_image.specs.WellFormed.{is_server, WellFormed};
 ghost use Rattle.aom_syntax.specs.Reading.{Reads, ReadsOrNoMemory};
-ghost use Rattle.aom_asm.specs.Denoted.{grown, opened, with_class, with_heading, with_method, in_body, step, closed, image_of};
+ghost use Rattle.aom_asm.specs.Denoted.{grown, opened, with_class, with_heading, with_method, in_body, step, step_by, closed, image_of};
 
 use crate::body::Body;
 use crate::names::labels_of;
@@ -150,10 +150,31 @@ impl<'a> Program<'a> {
     ) -> Result<(), AsmFaultKind>
         ensures { ReadsOrNoMemory (λ _. self.new) result (step scope.now text.now self.old reader.entry) }
     {
-        let mut reader = reader;
-        if let Some(body) = self.body.take() {
-            return self.go_on(scope, body, reader);
+        match self.take_body() {
+            Some(body) => self.go_on(scope, body, reader),
+            None => self.declare(alloc, scope, reader, text),
         }
+    }
+
+    /// The method that is open, which is open no more.
+    fn take_body(&mut self) -> Option<Body<'a>>
+        ensures body { result ≡ self.old.body }
+        ensures rest { self.new ≡ record self.old { body = None } }
+    {
+        self.body.take()
+    }
+
+    /// Adds a class, or the beginning of a method.
+    fn declare(
+        &mut self,
+        alloc: Global,
+        scope: &Scope,
+        reader: Reader<'a>,
+        text: &Text<'a>,
+    ) -> Result<(), AsmFaultKind>
+        ensures { ReadsOrNoMemory (λ _. self.new) result (step_by None scope.now text.now self.old reader.entry) }
+    {
+        let mut reader = reader;
         match reader.any_keyword()? {
             Keyword::Class => self.add_class(alloc, scope, &mut reader),
             Keyword::Method => self.open_method(alloc, scope, &mut reader, text),
@@ -175,26 +196,22 @@ impl<'a> Program<'a> {
     }
 
     pub fn into_classes(self) -> Items<ClassDecl>
-        ensures { result ≡ self.classes }
+        ensures { result ≡ self.entry.classes }
     {
         Items::from_vec(self.classes)
     }
 
     /// The image of what was read, if it is one.
     pub fn into_image(self) -> Option<Image>
-        ensures image { IfSome result (λ i. i ≡ image_of self) }
-        ensures none { result ≡ None → WellFormed (image_of self) → ⊥ }
+        ensures image { IfSome result (λ i. i ≡ image_of self.entry) }
+        ensures none { result ≡ None → WellFormed (image_of self.entry) → ⊥ }
     {
         if form_ok(
             &self.header,
             self.classes.as_slice(),
             self.methods.as_slice(),
         ) {
-            Some(Image::make(
-                self.header,
-                self.classes,
-                self.methods,
-            ))
+            Some(Image::make(self.header, self.classes, self.methods))
         } else {
             None
         }
