@@ -86,7 +86,7 @@ declaration scope rest p key ws = Err BadShape
 
 -- the end of a method
 abbrev pub with_method : Program → Body → List (List ℕ) → Result Program AsmFaultKind
-with_method p b ws = nothing_more false ws >>= λ u. method_of b >>= λ m. Ok (record p { methods = p.methods ++ m ∷ []; body = None })
+with_method p b ws = method_of b >>= λ m. nothing_more false ws >>= λ u. Ok (record p { methods = p.methods ++ m ∷ []; body = None })
 
 -- an instruction, or the end of a method
 abbrev pub in_body : Scope → Program → Body → List (List ℕ) → Result Program AsmFaultKind
@@ -144,7 +144,7 @@ last_line_of text = max (line_count text) 1
 abbrev pub denoted : List ℕ → Result Image AsmFault
 denoted text = if nat_le (length text) (2 ^ 20) then read_statements (last_line_of text) (statements text) else Err (record { line = 1; kind = LimitPassed })
 
--- what was read is no image
-abbrev pub NoImage : Result Image AsmFault → Type 0
-NoImage (Ok i) = WellFormed i → ⊥
-NoImage (Err e) = ⊥
+-- what was read is no image, and that is a limit fault of line 1
+abbrev pub NoImage : Result Image AsmFault → AsmFault → Type 0
+NoImage (Ok i) e = (WellFormed i → ⊥) × (e ≡ record { line = 1; kind = LimitPassed })
+NoImage (Err fault) e = ⊥

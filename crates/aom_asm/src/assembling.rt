@@ -135,7 +135,7 @@ fn read_text<'a>(alloc: Global, text: &'a [u8]) -> Result<Program<'a>, AsmFault>
 /// The image that a text denotes. A text that denotes none has a fault, with the line of the first.
 pub fn assemble(alloc: Global, text: &[u8]) -> Result<Image, AsmFault>
     ensures image { IfOk result (λ i. denoted text.now ≡ Ok i) }
-    ensures fault { IfErr result (λ e. e.kind ≢ OutOfMemory → (denoted text.now ≡ Err e) ⊎ NoImage (denoted text.now)) }
+    ensures fault { IfErr result (λ e. e.kind ≢ OutOfMemory → (denoted text.now ≡ Err e) ⊎ NoImage (denoted text.now) e) }
 {
     match read_text(alloc, text) {
         Ok(program) => match program.into_image() {

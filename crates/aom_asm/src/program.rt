@@ -130,8 +130,9 @@ impl<'a> Program<'a> {
         let mut body = body;
         let mut reader = reader;
         if reader.took(Keyword::End) {
+            let method = body.close()?;
             reader.nothing_more(false)?;
-            self.methods.push(body.close()?)?;
+            self.methods.push(method)?;
             return Ok(());
         }
         body.add(scope, reader)?;
