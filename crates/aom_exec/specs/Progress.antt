@@ -13,7 +13,7 @@ outcome_of endings.Stopped = Stopped
 outcome_of endings.Waiting = Waiting
 
 abbrev pub progress_by : {T : Type 0} → Option Ending → List T → Progress
-progress_by (Some ending) tasks = Ended (outcome_of ending)
+progress_by (Some ending) tasks = Ended ending
 progress_by None [] = Turned
 progress_by None (task ∷ tasks) = Running
 

@@ -15,8 +15,8 @@ mod objects;
 mod parts;
 mod progress;
 mod rest;
-// #[cfg(test)]
-// mod tests;
+#[cfg(test)]
+mod tests;
 mod words;
 
 pub use fault::BootFault;

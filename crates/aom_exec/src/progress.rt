@@ -20,7 +20,7 @@ pub enum Progress {
     Running,
     /// Nothing is at hand, and the next turn is due.
     Turned,
-    Ended(Outcome),
+    Ended(Ending),
 }
 
 impl Outcome {

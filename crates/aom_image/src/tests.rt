@@ -1,4 +1,4 @@
-//! Outside vectors, and that calls succeed. Want of memory is taken as an answer everywhere.
+//! Outside vectors, and that calls succeed. Want of memory is taken as an answer everywhere but in one test.
 use super::*;
 use std::alloc::{AllocError, Global};
 use std::process::Abort;
@@ -163,6 +163,17 @@ fn worked_images(rt: HostRuntime) {
             )
         );
     }
+}
+
+/// With memory enough both calls succeed.
+#[test]
+fn an_image_is_decoded_and_encoded(rt: HostRuntime) -> Result<(), Fail> {
+    for bytes in [FIRST.as_slice(), SECOND.as_slice()] {
+        let image = decode(rt.alloc(), bytes)?;
+        let again = encode(rt.alloc(), &image)?;
+        assert_eq!(rt; again.as_slice(), bytes);
+    }
+    Ok(())
 }
 
 #[test]

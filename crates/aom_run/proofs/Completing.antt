@@ -1,5 +1,5 @@
 -- A run can always be brought to an end: with each move less is left to do.
-use Rattle.std.proofs.Common.{◌≡◌, ℕ, suc, ◌+◌, ◌-◌, ◌*◌, ◌<◌, ◌≤◌, ◌==◌, Bool, true, false, cond, IsTrue, IfSome, List, [], ◌∷◌, ◌++◌, Option, Some, None, length, slice_get, refl, sym, ap, subst, ◌∙◌, zero, arith, append-nil, append_assoc}
+use Rattle.std.proofs.Common.{◌≡◌, ℕ, suc, ◌+◌, ◌-◌, ◌*◌, ◌<◌, ◌≤◌, ◌==◌, true, false, cond, IsTrue, IfSome, List, [], ◌∷◌, ◌++◌, Option, Some, None, length, refl, sym, ap, subst, zero, arith, append-nil, append_assoc}
 use Rattle.std.proofs.lemmas.Bool.{ne_eqb}
 use Rattle.std.proofs.lemmas.Option.{slice_get_within}
 use Rattle.aom_image.specs.Image.{Image}
@@ -9,12 +9,12 @@ use Rattle.aom_image.specs.declared.instr.Instr.TheVariants.{Const, Jump, JumpNu
 use Rattle.aom_image.specs.declared.method.Method.{Method}
 use Rattle.aom_image.specs.declared.method.Thing.{Thing}
 use Rattle.aom_classes.specs.Linked.{IsLinked}
-use Rattle.aom_classes.specs.Jumps.{jump_of, KeepsWithin}
+use Rattle.aom_classes.specs.Jumps.{jump_of}
 use Rattle.aom_classes.specs.Admitted.{IsAdmitted, admits_instr}
 use Rattle.aom_classes.proofs.Facts.{of_method, admitted_instr, linked_place}
 use Rattle.aom_shape.specs.Typing.{Typing}
 use Rattle.aom_sound.specs.Places.{Object, Cell, held, named, without, Going}
-use Rattle.aom_sound.specs.State.{Frame, Dispatch, Task, Run, Trapped, Destroy, Dispatched, State, Choice, Need, Orphan, Outcome, Goes, IsStuck, guarded, set_word, next, to_place}
+use Rattle.aom_sound.specs.State.{Frame, Dispatch, Task, Run, Trapped, Destroy, Dispatched, State, Choice, Need, Orphan, Outcome, Goes, IsStuck, guarded, set_word, next}
 use Rattle.aom_sound.specs.Destruction.{destructor_of, begun_by, gone, owns_nothing}
 use Rattle.aom_sound.specs.Objects.{jumped, deleted}
 use Rattle.aom_sound.specs.Words.{here}
@@ -23,7 +23,7 @@ use Rattle.aom_sound.specs.WellTyped.{WellTyped, Keeps}
 use Rattle.aom_sound.specs.World.{boot_state, Reaches, moves, waits, Run_of, IsBusy, waiting}
 use Rattle.aom_sound.specs.declared.line.Line.{Line}
 use Rattle.aom_sound.specs.declared.line.Ending.{Ending}
-use Rattle.aom_sound.specs.declared.line.Ending.TheVariants.{Stopped, Waiting}
+use Rattle.aom_sound.specs.declared.line.Ending.TheVariants.{Waiting}
 
 -- how many places a method has
 abbrev pub places_in : Option Method → ℕ

@@ -1,8 +1,8 @@
 -- A run, one step of the machine after another.
-use Rattle.std.proofs.Common.{◌≡◌, ℕ, suc, min, ◌+◌, Bool, true, false, List, [], ◌∷◌, ◌++◌, Option, Some, None, option_map, length, take, refl, sym, ap, subst, ◌∙◌, append-nil, append_assoc, arith}
+use Rattle.std.proofs.Common.{◌≡◌, ℕ, suc, min, ◌+◌, Bool, true, List, [], ◌∷◌, ◌++◌, Option, Some, None, length, take, refl, sym, ap, subst, ◌∙◌, append-nil, append_assoc, arith}
 use Rattle.aom_image.specs.Image.{Image}
 use Rattle.aom_sound.specs.State.{State, Task, Dispatched}
-use Rattle.aom_sound.specs.World.{boot_state, Reaches, begins, moves as moved, waits as waited, Run_of, IsBusy, waiting}
+use Rattle.aom_sound.specs.World.{boot_state, Reaches, begins, moves as moved, waits as waited, IsBusy, waiting}
 use Rattle.aom_sound.specs.declared.line.Line.{Line}
 use Rattle.aom_sound.specs.declared.line.Ending.{Ending}
 use Rattle.aom_sound.specs.declared.line.Ending.TheVariants as endings
@@ -110,19 +110,13 @@ same_outcome endings.Stopped endings.Waiting is = absurd cc
 same_outcome endings.Waiting endings.Stopped is = absurd cc
 same_outcome endings.Waiting endings.Waiting is = refl
 
-ended_same : (a b : Outcome) → progresses.Ended a ≡ progresses.Ended b → a ≡ b
+ended_same : (a b : Ending) → progresses.Ended a ≡ progresses.Ended b → a ≡ b
 ended_same a b is = cc
 
-ended_by : (ended : Option Ending) (tasks : List Task) (ending : Ending) → progress_by ended tasks ≡ progresses.Ended (outcome_of ending) → ended ≡ Some ending
-ended_by (Some e) tasks ending is = ap (λ x. Some x) (same_outcome e ending (ended_same _ _ is))
+ended_by : (ended : Option Ending) (tasks : List Task) (ending : Ending) → progress_by ended tasks ≡ progresses.Ended ending → ended ≡ Some ending
+ended_by (Some e) tasks ending is = ap (λ x. Some x) (ended_same e ending is)
 ended_by None [] ending is = absurd cc
 ended_by None (t ∷ ts) ending is = absurd cc
-
-by_ending : (ended : Option Ending) (tasks : List Task) → progress_by ended tasks ≡ progresses.Ended WriteFault → ⊥
-by_ending (Some endings.Stopped) tasks is = cc
-by_ending (Some endings.Waiting) tasks is = cc
-by_ending None [] is = cc
-by_ending None (t ∷ ts) is = cc
 
 module _ (p : Image) (refused : List ℕ) (before mid now : Option (List ℕ)) (told : List Line) (progress : Progress) (new : Machine) (n : Next p refused before mid told progress new) where
   pub goes_on : now ≡ after mid (text_of told) → SoFar p refused before now new
@@ -147,18 +141,15 @@ module _ (p : Image) (refused : List ℕ) (before mid now : Option (List ℕ)) (
         out = out ∙ n.whole;
       }
 
-  pub ends : (outcome : Outcome) (ending : Ending) → progress ≡ progresses.Ended outcome → outcome ≡ outcome_of ending → now ≡ after mid (text_of told) → Ended p refused ending before now new
-  ends outcome ending is by out =
+  pub ends : (ending : Ending) → progress ≡ progresses.Ended ending → now ≡ after mid (text_of told) → Ended p refused ending before now new
+  ends ending is out =
       record {
         lines = n.lines;
         state = n.state;
-        run = record { reaches = n.reaches; ended = ended_by n.state.rest.ended n.state.tasks ending (sym n.is ∙ is ∙ ap progresses.Ended by) };
+        run = record { reaches = n.reaches; ended = ended_by n.state.rest.ended n.state.tasks ending (sym n.is ∙ is) };
         stands = n.stands;
         out = out ∙ n.whole;
       }
-
-  pub no_fault : (outcome : Outcome) → progress ≡ progresses.Ended outcome → outcome ≡ WriteFault → ⊥
-  no_fault outcome is fault = by_ending n.state.rest.ended n.state.tasks (sym n.is ∙ is ∙ ap progresses.Ended fault)
 
 -- the last line after the others
 module _ (m new : Machine) (refused : List ℕ) (ending : Ending) (before mid now : Option (List ℕ)) (failed : Bool) (run : Ended m.image refused ending before mid new) where

@@ -24,7 +24,8 @@ pub fn run<W: Sink>(
     requires fresh { IsFresh machine.old }
     requires room { machine.old.image.header.messages + 80 ≤ turn.old.room }
     requires limit { (1 ≤ _limit) × (_limit ≤ 1000000000) }
-    ensures { Ran machine.old turn.old.refused result (W.failed out.new) (W.out out.old) (W.out out.new) machine.new }
+    ensures image { machine.new.image ≡ machine.old.image }
+    ensures ran { Ran machine.old turn.old.refused result (W.failed out.new) (W.out out.old) (W.out out.new) machine.new }
 {
     match run_lines(machine, turn, out) {
         None => Outcome::WriteFault,
@@ -53,7 +54,7 @@ fn run_lines<W: Sink>(machine: &mut Machine, turn: &mut Turn, out: &mut W) -> Op
                 machine.wait();
                 return Some(Ending::Waiting);
             }
-            Progress::Ended(outcome) => return Some(ending_of(outcome)),
+            Progress::Ended(ending) => return Some(ending),
         }
     }
 }
@@ -70,17 +71,6 @@ fn finish<W: Sink>(machine: &Machine, ending: Ending, out: &mut W) -> Outcome
         return Outcome::WriteFault;
     }
     Outcome::of(ending)
-}
-
-fn ending_of(outcome: Outcome) -> Ending
-    requires { outcome ≡ Outcome.WriteFault → ⊥ }
-    ensures { outcome ≡ outcome_of result }
-{
-    match outcome {
-        Outcome::Stopped => Ending::Stopped,
-        Outcome::Waiting => Ending::Waiting,
-        Outcome::WriteFault => unreachable!(),
-    }
 }
 
 /// Writes lines out, and stops where the sink fails.

@@ -1,7 +1,7 @@
 use Rattle.aom_run.proofs.Running.{ran}
 use Rattle.aom_run.proofs.runs.run.Goals as goal
 
-pub returns-in-Some : goal.returns-in-Some
-returns-in-Some g c =
+pub returns-in-Some-clause-ran : goal.returns-in-Some-clause-ran
+returns-in-Some-clause-ran g c =
     let finish = c.finish.ensures in
     ran c.args.machine.now c.run_lines.new.machine _ _ _ _ _ _ c.in-Some.ensures.some c.finish.result finish.fault finish.outcome finish.prefix finish.whole

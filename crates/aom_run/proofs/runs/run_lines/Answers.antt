@@ -1,8 +1,8 @@
-use Rattle.std.proofs.Common.{◌≡◌, ◌∙◌, ap, sym, refl, take, arith}
+use Rattle.std.proofs.Common.{◌∙◌, ap, sym, refl, take, arith}
 use Rattle.aom_lines.specs.Turn.{Turn}
 use Rattle.aom_lines.specs.Text.{text_of}
 use Rattle.aom_run.specs.Runs.{after}
-use Rattle.aom_run.proofs.Running.{Next, starts, next, goes_on, cut, turned, waits, ends, no_fault, room_kept, refused_kept}
+use Rattle.aom_run.proofs.Running.{starts, next, goes_on, cut, turned, waits, ends, room_kept, refused_kept}
 use Rattle.aom_run.proofs.runs.run_lines.Goals as goal
 
 pub loop-progress-init : goal.loop-progress-init
@@ -52,14 +52,6 @@ returns-in-Turned-clause-some g c =
     let out = c.write_lines.ensures.whole (sym c.has_failed.ensures ∙ c.if-has_failed.false) ∙ ap (λ ls. after (g.W.Sink.out c.loop-progress.out) (text_of ls)) c.lines.ensures in
     waits _ _ _ _ _ _ _ _ n _ c.wait.ensures.waited out
 
-pub ending_of-requires : goal.ending_of-requires
-ending_of-requires g c =
-    let i = c.loop-progress.invariant in
-    let refused = ap (λ (t : Turn). t.refused) c.clear.ensures ∙ i.refused in
-    let clear = ap (λ (t : Turn). t.lines) c.clear.ensures in
-    let n = next _ _ _ _ _ _ _ _ _ i.so_far i.image refused clear c.step-progress.ensures.steps in
-    no_fault _ _ _ _ (g.W.Sink.out c.write_lines.new.out) _ _ _ n _ c.in-Ended.is
-
 pub returns-in-Ended-clause-some : goal.returns-in-Ended-clause-some
 returns-in-Ended-clause-some g c =
     let i = c.loop-progress.invariant in
@@ -67,4 +59,4 @@ returns-in-Ended-clause-some g c =
     let clear = ap (λ (t : Turn). t.lines) c.clear.ensures in
     let n = next _ _ _ _ _ _ _ _ _ i.so_far i.image refused clear c.step-progress.ensures.steps in
     let out = c.write_lines.ensures.whole (sym c.has_failed.ensures ∙ c.if-has_failed.false) ∙ ap (λ ls. after (g.W.Sink.out c.loop-progress.out) (text_of ls)) c.lines.ensures in
-    ends _ _ _ _ _ _ _ _ n _ _ c.in-Ended.is c.ending_of.ensures out
+    ends _ _ _ _ _ _ _ _ n _ c.in-Ended.is out

@@ -1,4 +1,4 @@
-use Rattle.std.proofs.Common.{◌∙◌, sym, ap}
+use Rattle.std.proofs.Common.{sym, ap}
 use Rattle.aom_run.specs.Script.{with_words}
 use Rattle.aom_run.proofs.Lines.{words_none, words_some}
 use Rattle.aom_run.proofs.script.read_words.Goals as goal

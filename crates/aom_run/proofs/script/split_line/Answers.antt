@@ -1,4 +1,4 @@
-use Rattle.std.proofs.Common.{◌∙◌, sym, ap}
+use Rattle.std.proofs.Common.{sym}
 use Rattle.aom_run.proofs.Lines.{lines_first, lines_only}
 use Rattle.aom_run.proofs.script.split_line.Goals as goal
 

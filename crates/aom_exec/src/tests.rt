@@ -1,0 +1,240 @@
+//! A machine that boots and runs, with what each step gives.
+ghost use Rattle.std.specs.Prelude.{◌<◌};
+
+use crate::{BootFault, Machine, Outcome, Progress};
+use aom_budget::{Accepted, accept};
+use aom_classes::link;
+use aom_image::{
+    ClassDecl, ClassKind, ClassNumber, Gives, Header, Image, Instr, Items, Method, MethodFlags,
+    Place, Register, Role, States, form_ok,
+};
+use aom_lines::{Text, Turn};
+use aom_sound::Ending;
+use aom_verify::check;
+use std::alloc::{AllocError, Global};
+use std::process::Abort;
+use std::test::Fail;
+
+/// A heap of one cell.
+const HEADER: Header = Header {
+    cells: 1,
+    messages: 0,
+    natives: 0,
+    root: None,
+    budget: 100,
+};
+
+fn register(number: u8) -> Register
+    requires { number < 16 }
+{
+    Register::new(number).unwrap()
+}
+
+fn place(number: u16) -> Place
+    requires { number < 1024 }
+{
+    Place::new(number).unwrap()
+}
+
+/// The one class of the programs.
+fn class() -> ClassNumber {
+    ClassNumber::new(0).unwrap()
+}
+
+/// A main of that code.
+fn main_of(alloc: Global, code: &[Instr]) -> Result<Method, AllocError> {
+    Ok(Method {
+        class: None,
+        role: Role::Main,
+        flags: MethodFlags::NONE,
+        before: States::NONE,
+        after: States::NONE,
+        arguments: Items::from_vec(Vec::new(alloc)),
+        gives: Gives::Nothing,
+        code: Items::from_vec(code.to_vec(alloc)?),
+    })
+}
+
+/// An image of one plain class and that main.
+fn image_of(alloc: Global, code: &[Instr]) -> Result<Option<Image>, AllocError> {
+    let mut classes = Vec::with_capacity(alloc, 1)?;
+    classes.push(ClassDecl {
+        kind: ClassKind::Plain,
+        words: 0,
+        fields: Items::from_vec(Vec::new(alloc)),
+    })?;
+    let mut methods = Vec::with_capacity(alloc, 1)?;
+    methods.push(main_of(alloc, code)?)?;
+    if !form_ok(&HEADER, classes.as_slice(), methods.as_slice()) {
+        return Ok(None);
+    }
+    Ok(Some(Image::make(HEADER, classes, methods)))
+}
+
+fn accepted_of(alloc: Global, code: &[Instr]) -> Option<Accepted> {
+    let image = image_of(alloc, code).ok()??;
+    let linked = link(alloc, image).ok()?;
+    let checked = check(alloc, linked).ok()?;
+    accept(alloc, checked).ok()
+}
+
+/// One step, and the text of its lines.
+fn step_text(
+    alloc: Global,
+    accepted: &Accepted,
+    refused: &[u32],
+    machine: &mut Machine,
+) -> Result<(Progress, Vec<u8>), AllocError> {
+    let mut turn = Turn::new(alloc, accepted, refused.to_vec(alloc)?)?;
+    let progress = machine.step(&mut turn);
+    let mut text = Vec::new(alloc);
+    for line in turn.lines() {
+        text.extend_from_slice(Text::of_line(line).as_bytes())?;
+    }
+    Ok((progress, text))
+}
+
+/// Runs the code from its boot, and compares each step's text and the count of cells after it.
+fn walk(
+    rt: &impl Abort,
+    alloc: Global,
+    code: &[Instr],
+    refused: &[u32],
+    steps: &[(&str, usize)],
+    last: Progress,
+) -> Result<(), Fail> {
+    let Some(accepted) = accepted_of(alloc, code) else {
+        return Err(Fail::from("the image is not accepted"));
+    };
+    let Ok(mut machine) = Machine::boot(alloc, &accepted) else {
+        return Err(Fail::from("the machine does not boot"));
+    };
+    for (at, (wanted, count)) in steps.iter().enumerate() {
+        assert_eq!(rt; machine.progress(), Progress::Running, "before step {at}");
+        let (progress, text) = step_text(alloc, &accepted, refused, &mut machine)?;
+        assert_eq!(rt; text.as_slice(), wanted.as_bytes(), "at step {at}");
+        assert_eq!(rt; machine.count(), *count, "after step {at}");
+        assert_eq!(rt; machine.progress(), progress, "after step {at}");
+    }
+    assert_eq!(rt; machine.progress(), last);
+    Ok(())
+}
+
+/// Two objects are wanted. What is printed tells whether the second was had.
+fn two_objects() -> [Instr; 10] {
+    [
+        Instr::New(register(0), class()),
+        Instr::New(register(1), class()),
+        Instr::Const(register(2), 1),
+        Instr::JumpNull(register(1), place(5)),
+        Instr::Const(register(2), 2),
+        Instr::Print(register(2)),
+        Instr::Delete(register(0)),
+        Instr::Delete(register(1)),
+        Instr::Stop,
+        Instr::Return(register(0)),
+    ]
+}
+
+#[test]
+fn a_full_heap_refuses_the_second_object(rt: HostRuntime) -> Result<(), Fail> {
+    let steps = [
+        ("@0 main\n", 1),
+        ("", 1),
+        ("", 1),
+        ("", 1),
+        ("out 1\n", 1),
+        ("", 1),
+        ("gone 0\n", 0),
+        ("", 0),
+        ("", 0),
+        ("", 0),
+    ];
+    walk(
+        &rt,
+        rt.alloc(),
+        &two_objects(),
+        &[],
+        &steps,
+        Progress::Ended(Ending::Stopped),
+    )
+}
+
+#[test]
+fn the_first_request_is_refused_by_its_number(rt: HostRuntime) -> Result<(), Fail> {
+    let steps = [
+        ("@0 main\n", 0),
+        ("", 1),
+        ("", 1),
+        ("", 1),
+        ("", 1),
+        ("out 2\n", 1),
+        ("", 1),
+        ("", 1),
+        ("gone 0\n", 0),
+        ("", 0),
+        ("", 0),
+    ];
+    walk(
+        &rt,
+        rt.alloc(),
+        &two_objects(),
+        &[1],
+        &steps,
+        Progress::Ended(Ending::Stopped),
+    )
+}
+
+#[test]
+fn a_jump_passes_over(rt: HostRuntime) -> Result<(), Fail> {
+    let code = [
+        Instr::Const(register(3), -1),
+        Instr::Jump(place(3)),
+        Instr::Const(register(3), 5),
+        Instr::Print(register(3)),
+        Instr::Return(register(0)),
+    ];
+    let steps = [("@0 main\n", 0), ("", 0), ("out -1\n", 0), ("", 0)];
+    walk(&rt, rt.alloc(), &code, &[], &steps, Progress::Turned)
+}
+
+#[test]
+fn a_run_waits_and_is_over(rt: HostRuntime) -> Result<(), Fail> {
+    let Some(accepted) = accepted_of(rt.alloc(), &[Instr::Return(register(0))]) else {
+        return Err(Fail::from("the image is not accepted"));
+    };
+    let Ok(mut machine) = Machine::boot(rt.alloc(), &accepted) else {
+        return Err(Fail::from("the machine does not boot"));
+    };
+    assert_eq!(rt; machine.progress(), Progress::Running);
+    assert_eq!(rt; machine.clock(), 0);
+    assert_eq!(rt; machine.count(), 0);
+    assert!(rt; !machine.is_between());
+    let (progress, text) = step_text(rt.alloc(), &accepted, &[], &mut machine)?;
+    assert_eq!(rt; progress, Progress::Turned);
+    assert_eq!(rt; text.as_slice(), b"@0 main\n".as_slice());
+    assert_eq!(rt; machine.clock(), 1);
+    assert!(rt; machine.is_between());
+    if machine.is_between() {
+        machine.wait();
+    }
+    let (progress, text) = step_text(rt.alloc(), &accepted, &[], &mut machine)?;
+    assert_eq!(rt; progress, Progress::Ended(Ending::Waiting));
+    assert!(rt; text.is_empty());
+    assert!(rt; !machine.is_between());
+    Ok(())
+}
+
+#[test]
+fn an_ending_is_told_as_an_outcome(rt: HostRuntime) {
+    assert_eq!(rt; Outcome::of(Ending::Stopped), Outcome::Stopped);
+    assert_eq!(rt; Outcome::of(Ending::Waiting), Outcome::Waiting);
+}
+
+#[test]
+fn want_of_memory_is_told_in_a_line(rt: HostRuntime) -> Result<(), Fail> {
+    let fault = BootFault::from(AllocError);
+    assert_eq!(rt; fault.number(), 2);
+    assert_eq!(rt; fault.to_string(rt.alloc())?.as_str(), "boot 2");
+    Ok(())
+}
