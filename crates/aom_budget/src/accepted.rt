@@ -11,7 +11,7 @@ use std::marker::Model;
 
 /// Why a checked image is not accepted. There is no reason yet: what an image declares is compared from the stage with
 /// prices on, and the faults come then.
-#[derive(Clone, Copy, PartialEq, Eq, Debug)]
+#[derive(Clone, Copy)]
 pub enum BudgetFault {}
 
 /// A checked image that keeps within what it declares.

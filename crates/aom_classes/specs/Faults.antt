@@ -2,7 +2,11 @@
 use Rattle.std.specs.Prelude.{ℕ}
 use Rattle.aom_image.specs.Image.{Image}
 use Rattle.aom_classes.specs.Admitted.{IsAdmitted}
-use Rattle.aom_classes.specs.Linked.{AllJumpWell, HasMain}
+use Rattle.aom_classes.specs.Calls.{AllCallsOrdered}
+use Rattle.aom_classes.specs.Classes.{ClassesOrdered}
+use Rattle.aom_classes.specs.Linked.{AllJumpWell, AllLoopsNest, HasMain}
+use Rattle.aom_classes.specs.Needs.{AllNeedsMet, RolesSingle}
+use Rattle.aom_classes.specs.Shapes.{AllShaped}
 use Rattle.aom_classes.specs.declared.fault.LinkFault.{LinkFault}
 use Rattle.aom_classes.specs.declared.fault.LinkFault.TheVariants.{NotYet, ClassOrder, CallOrder, MissingRole, DoubleRole, RoleShape, BadJump, BadLoop, NoMain, OutOfMemory}
 
@@ -19,10 +23,15 @@ number_of BadLoop = 7
 number_of NoMain = 8
 number_of OutOfMemory = 9
 
--- the image fails the fault's condition, and none of a lower number; an admitted image fails no other condition
+-- the image fails the fault's condition, and keeps all of lower numbers
 unfoldable pub Refuses : Image → LinkFault → Type 0
 Refuses p NotYet = ¬ IsAdmitted p
-Refuses p BadJump = IsAdmitted p × ¬ AllJumpWell p
-Refuses p NoMain = IsAdmitted p × AllJumpWell p × ¬ HasMain p
+Refuses p ClassOrder = IsAdmitted p × ¬ ClassesOrdered p
+Refuses p CallOrder = IsAdmitted p × ClassesOrdered p × ¬ AllCallsOrdered p
+Refuses p MissingRole = IsAdmitted p × ClassesOrdered p × AllCallsOrdered p × ¬ AllNeedsMet p
+Refuses p DoubleRole = IsAdmitted p × ClassesOrdered p × AllCallsOrdered p × AllNeedsMet p × ¬ RolesSingle p
+Refuses p RoleShape = IsAdmitted p × ClassesOrdered p × AllCallsOrdered p × AllNeedsMet p × RolesSingle p × ¬ AllShaped p
+Refuses p BadJump = IsAdmitted p × ClassesOrdered p × AllCallsOrdered p × AllNeedsMet p × RolesSingle p × AllShaped p × ¬ AllJumpWell p
+Refuses p BadLoop = IsAdmitted p × ClassesOrdered p × AllCallsOrdered p × AllNeedsMet p × RolesSingle p × AllShaped p × AllJumpWell p × ¬ AllLoopsNest p
+Refuses p NoMain = IsAdmitted p × ClassesOrdered p × AllCallsOrdered p × AllNeedsMet p × RolesSingle p × AllShaped p × AllJumpWell p × AllLoopsNest p × ¬ HasMain p
 Refuses p OutOfMemory = Unit {0}
-Refuses p _ = ⊥

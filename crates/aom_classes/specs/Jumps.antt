@@ -1,7 +1,7 @@
 -- Where an instruction may go on, and what is asked of it.
-use Rattle.std.specs.Prelude.{ℕ, suc, ◌<◌, Bool, true, false, List, length, Option, Some, None, IfSome, IsTrue, slice_get}
+use Rattle.std.specs.Prelude.{ℕ, suc, ◌≡◌, ◌<◌, ◌≤◌, Bool, true, false, List, length, Option, Some, None, IfSome, IsTrue, slice_get}
 use Rattle.aom_image.specs.declared.instr.Instr.{Instr}
-use Rattle.aom_image.specs.declared.instr.Instr.TheVariants.{Jump, JumpEqual, JumpLess, JumpNull, JumpEmpty, JumpActive, JumpAdded, Return, Leave}
+use Rattle.aom_image.specs.declared.instr.Instr.TheVariants.{Jump, JumpEqual, JumpLess, JumpNull, JumpEmpty, JumpActive, JumpAdded, Loop, Next, Return, Leave}
 
 -- where a jump goes that is not taken back to a loop's first place
 unfoldable pub jump_of : Instr → Option ℕ
@@ -27,6 +27,43 @@ pub record KeepsWithin (count place : ℕ) (i : Instr) : Type 0 where
   pub within : IfSome (jump_of i) (λ t. t < count)
   pub ends : IsTrue (goes_on i) → suc place < count
 
--- a method's jumps go forward, and no place has a successor past its end
+abbrev pub AllKeepWithin : List Instr → Type 0
+AllKeepWithin code = (place : ℕ) → IfSome (slice_get code place) (KeepsWithin (length code) place)
+
+-- ---- the bodies of loops
+
+unfoldable pub begins_loop : Instr → Bool
+begins_loop (Loop d n) = true
+begins_loop _ = false
+
+-- where a next goes back to
+unfoldable pub back_of : Instr → Option ℕ
+back_of (Next d t) = Some t
+back_of _ = None
+
+-- a loop at p, and a next at a later place q that goes back to the place after it
+pub record Body (code : List Instr) (p q : ℕ) : Type 0 where
+  pub begins : IfSome (slice_get code p) (λ i. IsTrue (begins_loop i))
+  pub later : p < q
+  pub back : IfSome (slice_get code q) (λ i. back_of i ≡ Some (suc p))
+
+-- a jump at s leads to a place after p and up to q only from there
+abbrev pub StaysOut : ℕ → ℕ → ℕ → Instr → Type 0
+StaysOut p q s i = IfSome (jump_of i) (λ t. p < t → t ≤ q → (p < s) × (s ≤ q))
+
+-- no jump leads into a body from outside
+abbrev pub IsClosed : List Instr → ℕ → ℕ → Type 0
+IsClosed code p q = (s : ℕ) → IfSome (slice_get code s) (StaysOut p q s)
+
+abbrev pub EndsClosed : List Instr → ℕ → Type 0
+EndsClosed code q = (p : ℕ) → Body code p q → IsClosed code p q
+
+abbrev pub AllEndClosed : List Instr → Type 0
+AllEndClosed code = (q : ℕ) → q < length code → EndsClosed code q
+
+-- ---- the whole
+
+-- a method's jumps go forward and into no loop, and no place has a successor past its end
 pub record JumpsWell (code : List Instr) : Type 0 where
-  pub each : (place : ℕ) → IfSome (slice_get code place) (KeepsWithin (length code) place)
+  pub each : AllKeepWithin code
+  pub bodies : AllEndClosed code

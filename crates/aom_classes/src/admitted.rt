@@ -39,7 +39,7 @@ fn admits_class(class: &ClassDecl) -> bool
 }
 
 #[tactic(auto, unfolding(crate::specs::Admitted::gives_nothing))]
-fn gives_nothing(gives: Gives) -> bool
+pub fn gives_nothing(gives: Gives) -> bool
     ensures { result ≡ gives_nothing gives }
 {
     matches!(gives, Gives::Nothing)

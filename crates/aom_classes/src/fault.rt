@@ -1,7 +1,9 @@
 //! Why an image is not linked.
 ghost use Rattle.std.specs.Prelude.{◌≡◌};
 ghost use Rattle.aom_classes.specs.Faults.{number_of};
+ghost use Rattle.aom_classes.specs.declared.fault.LinkFault.TheVariants.{OutOfMemory};
 
+use std::alloc::AllocError;
 use thiserror::Error;
 
 /// The first condition that an image fails, in the order of their numbers.
@@ -47,5 +49,13 @@ impl LinkFault {
             LinkFault::NoMain => 8,
             LinkFault::OutOfMemory => 9,
         }
+    }
+}
+
+impl From<AllocError> for LinkFault {
+    ghost from_gives = { λ _ e. e ≡ OutOfMemory };
+
+    fn from(_error: AllocError) -> LinkFault {
+        LinkFault::OutOfMemory
     }
 }

@@ -6,10 +6,17 @@
 #![tactic(auto)]
 
 mod admitted;
+mod call_order;
+mod class_order;
 mod fault;
 mod jumps;
 mod linked;
+mod loops;
+mod needs;
+mod role_table;
 mod roles;
+mod shapes;
+mod states;
 
 pub use fault::LinkFault;
 pub use linked::{Linked, link};

@@ -8,8 +8,14 @@ ghost use Rattle.aom_classes.specs.Faults.{Refuses};
 
 use crate::LinkFault;
 use crate::admitted::is_admitted;
+use crate::call_order::calls_are_ordered;
+use crate::class_order::classes_are_ordered;
 use crate::jumps::all_jump_well;
-use crate::roles::{find_main, find_role};
+use crate::loops::all_loops_nest;
+use crate::needs::{needs_are_met, roles_are_single};
+use crate::role_table::RoleTable;
+use crate::roles::find_main;
+use crate::shapes::all_are_shaped;
 use aom_image::{
     ClassDecl, ClassNumber, FieldIndex, Image, Instr, Method, MethodNumber, Role, Thing,
 };
@@ -20,6 +26,7 @@ use std::marker::Model;
 #[derive(Drop)]
 pub struct Linked {
     image: Image,
+    roles: RoleTable,
     main: MethodNumber,
 }
 
@@ -29,21 +36,24 @@ impl Model for Linked {
     ghost use Rattle.aom_classes.specs.Admitted.{IsAdmitted};
     ghost use Rattle.aom_classes.specs.Linked.{IsLinked};
     ghost use Rattle.aom_classes.specs.Roles.{main_of};
+    ghost use Rattle.aom_classes.specs.Table.{IsTable};
 
     ghost Value = { Image };
 
     ghost view = { λ l. l.image };
 
-    ghost invariant = { λ l. IsAdmitted l.image × IsLinked l.image × (main_of l.image ≡ Some l.main) };
+    ghost invariant = { λ l. IsAdmitted l.image × IsLinked l.image × (main_of l.image ≡ Some l.main) × IsTable l.image l.roles.rows.items };
 }
 
 /// Links an image: the image as it was, or the first condition that it fails. A refused image is dropped.
-pub fn link(_alloc: Global, image: Image) -> Result<Linked, LinkFault>
+#[tactic(auto, unfolding(crate::specs::Faults::Refuses))]
+pub fn link(alloc: Global, image: Image) -> Result<Linked, LinkFault>
     ensures ok { IfOk result (λ l. (l ≡ image) × IsAdmitted image × IsLinked image) }
     ensures err { IfErr result (λ fault. Refuses image fault) }
 {
     let main = check_conditions(&image)?;
-    Ok(Linked { image, main })
+    let roles = RoleTable::of_image(alloc, &image)?;
+    Ok(Linked { image, roles, main })
 }
 
 /// The main of an image that keeps the conditions.
@@ -55,8 +65,26 @@ fn check_conditions(image: &Image) -> Result<MethodNumber, LinkFault>
     if !is_admitted(image) {
         return Err(LinkFault::NotYet);
     }
+    if !classes_are_ordered(image) {
+        return Err(LinkFault::ClassOrder);
+    }
+    if !calls_are_ordered(image) {
+        return Err(LinkFault::CallOrder);
+    }
+    if !needs_are_met(image) {
+        return Err(LinkFault::MissingRole);
+    }
+    if !roles_are_single(image) {
+        return Err(LinkFault::DoubleRole);
+    }
+    if !all_are_shaped(image) {
+        return Err(LinkFault::RoleShape);
+    }
     if !all_jump_well(image) {
         return Err(LinkFault::BadJump);
+    }
+    if !all_loops_nest(image) {
+        return Err(LinkFault::BadLoop);
     }
     match find_main(image.methods().as_slice()) {
         Some(main) => Ok(main),
@@ -112,11 +140,10 @@ impl Linked {
     }
 
     /// The first method of that class with that role.
-    #[tactic(auto, unfolding(crate::specs::Roles::role_of))]
     pub fn role(&self, class: ClassNumber, role: Role) -> Option<MethodNumber>
         ensures { result ≡ role_of self.now class role }
     {
-        find_role(self.image.methods().as_slice(), class, role)
+        self.roles.role(class, role)
     }
 
     /// What a field of a class may own.

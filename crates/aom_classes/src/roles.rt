@@ -7,7 +7,8 @@ use aom_image::{ClassNumber, Method, MethodNumber, Role};
 /// The number of a role, from 0 to 9.
 #[tactic(auto, unfolding(crate::specs::Roles::role_number))]
 pub fn role_number(role: Role) -> usize
-    ensures { result ≡ role_number role }
+    ensures value { result ≡ role_number role }
+    ensures small { result < 10 }
 {
     match role {
         Role::Do => 0,

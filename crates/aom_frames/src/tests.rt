@@ -5,7 +5,7 @@ use std::test::Fail;
 
 #[test]
 fn what_is_pushed_last_is_on_top(rt: HostRuntime) -> Result<(), Fail> {
-    let mut tasks = Tasks::with_depth(rt.alloc(), 3)?;
+    let mut tasks = Tasks::with_depth(rt.alloc(), 1024)?;
     assert!(rt; tasks.is_empty());
     let Some(main) = MethodNumber::new(2) else {
         return Err(Fail::from("no method"));
@@ -14,9 +14,12 @@ fn what_is_pushed_last_is_on_top(rt: HostRuntime) -> Result<(), Fail> {
     tasks.push(Task::Run(Frame::begin(main, NULL)));
     tasks.set_register(3, 41);
     tasks.set_place(7);
+    tasks.set_counter(2, 65535);
     assert_eq!(rt; tasks.len(), 2);
     assert_eq!(rt; tasks.register(3), 41);
     assert_eq!(rt; tasks.place(), 7);
+    assert_eq!(rt; tasks.counter(2), 65535);
+    assert_eq!(rt; tasks.counter(1), 0);
     assert_eq!(rt; tasks.method(), main);
     assert_eq!(rt; tasks.this(), NULL);
     Ok(())

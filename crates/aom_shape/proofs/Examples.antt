@@ -1,24 +1,27 @@
 -- One refused instruction for each why that the rules give so far, and states that meet and do not meet.
-use Rattle.std.proofs.Common.{◌≡◌, ℕ, pos, List, [], ◌∷◌, Option, Some, None, Err, refl, slice_get}
+use Rattle.std.proofs.Common.{◌≡◌, ℕ, pos, List, [], ◌∷◌, Option, Some, None, Ok, Err, refl}
 use Rattle.aom_image.specs.Image.{Image}
-use Rattle.aom_image.specs.Views.{method_at, class_at, gives_in, quiet_in, role_in, class_in, fields_in}
+use Rattle.aom_image.specs.Views.{method_at, class_at, arguments_in, gives_in, leaves_in, quiet_in, role_in, class_in, fields_in}
 use Rattle.aom_image.specs.declared.class.ClassDecl.{ClassDecl}
 use Rattle.aom_image.specs.declared.class.ClassKind.TheVariants.{Plain}
-use Rattle.aom_image.specs.declared.instr.Instr.TheVariants.{Const, Put, New, Return}
+use Rattle.aom_image.specs.declared.instr.Instr.TheVariants.{Const, Add, JumpEmpty, Load, Store, Put, New, Call, Return}
+use Rattle.aom_image.specs.declared.instr.Target.TheVariants.{This, Register, Field, Entry}
+use Rattle.aom_image.specs.declared.method.Argument.{Argument}
+use Rattle.aom_image.specs.declared.method.Argument.TheVariants.{Own as An_own_argument}
 use Rattle.aom_image.specs.declared.method.Gives.{Gives}
-use Rattle.aom_image.specs.declared.method.Gives.TheVariants.{Nothing, Left}
-use Rattle.aom_image.specs.declared.method.Method.{Method}
+use Rattle.aom_image.specs.declared.method.Gives.TheVariants.{Nothing, Word as A_word, Left}
 use Rattle.aom_image.specs.declared.method.Role.{Role}
-use Rattle.aom_image.specs.declared.method.Role.TheVariants.{Main, Do, Destruct}
+use Rattle.aom_image.specs.declared.method.Role.TheVariants.{Main, Do, Construct, Destruct}
 use Rattle.aom_image.specs.declared.method.Thing.TheVariants.{Object}
 use Rattle.aom_shape.specs.Rules.{rule}
 use Rattle.aom_shape.specs.Shape.{Shape}
+use Rattle.aom_shape.specs.Things.{words_in}
 use Rattle.aom_shape.specs.declared.kind.Age.TheVariants.{Fresh, Ready}
 use Rattle.aom_shape.specs.declared.kind.Filling.{Filling}
-use Rattle.aom_shape.specs.declared.kind.Filling.TheVariants.{Empty, Full}
+use Rattle.aom_shape.specs.declared.kind.Filling.TheVariants.{Empty, Full, Perhaps}
 use Rattle.aom_shape.specs.declared.kind.Kind.{Kind}
-use Rattle.aom_shape.specs.declared.kind.Kind.TheVariants.{Unset, Null, Own}
-use Rattle.aom_shape.specs.declared.why.Why.TheVariants.{RegisterKind, OwnedAtReturn, CleanupAtReturn, FieldNotNull, FieldsLeft, StillFresh, QuietBroken}
+use Rattle.aom_shape.specs.declared.kind.Kind.TheVariants.{Unset, Word, Null, Own}
+use Rattle.aom_shape.specs.declared.why.Why.TheVariants.{RegisterKind, OwnedAtLeave, OwnedAtReturn, CleanupAtReturn, PopEmpty, LeaveNotAllowed, FieldNotNull, FieldsLeft, NotFresh, StillFresh, QuietBroken}
 
 -- class 1 has a field of class 0
 classes : List ClassDecl
@@ -74,3 +77,87 @@ destructor_with_a_full_field = refl
 nothing_left_at_return : rule (with_method None Do 1 (Left 0)) 0 0 (state Unset Unset Empty) (Return 0) ≡ Err CleanupAtReturn
 unfolding with_method state method_at gives_in
 nothing_left_at_return = refl
+
+add_of_an_owner : rule (with_method None Main 0 Nothing) 0 0 (state Null Unset Empty) (Add 1 0 0) ≡ Err RegisterKind
+unfolding with_method state
+add_of_an_owner = refl
+
+load_past_the_words : rule (with_method (Some 1) Do 0 Nothing) 0 0 (state Unset Unset Empty) (Load 0 0) ≡ Err RegisterKind
+unfolding with_method state classes method_at class_at role_in class_in words_in
+load_past_the_words = refl
+
+store_of_main : rule (with_method None Main 0 Nothing) 0 0 (state Word Unset Empty) (Store 0 0) ≡ Err RegisterKind
+unfolding with_method state method_at role_in class_in
+store_of_main = refl
+
+jump_past_the_fields : rule (with_method (Some 1) Do 0 Nothing) 0 0 (state Unset Unset Empty) (JumpEmpty 1 5) ≡ Err RegisterKind
+unfolding with_method state classes method_at class_at role_in class_in fields_in
+jump_past_the_fields = refl
+
+-- method 0 is called by method 1
+called_by : (class : Option ℕ) (role : Role) (flags : ℕ) (arguments : List Argument) (gives : Gives) (caller : Option ℕ) (caller_flags : ℕ) → Image
+called_by class role flags arguments gives caller caller_flags = record {
+  header = record { cells = 4; messages = 0; natives = 0; root = None; budget = 100 };
+  classes = classes;
+  methods =
+      record { class = class; role = role; flags = record { 0 = flags }; before = record { 0 = 0 }; after = record { 0 = 0 }; arguments = arguments; gives = gives; code = [] }
+      ∷ record { class = caller; role = Do; flags = record { 0 = caller_flags }; before = record { 0 = 0 }; after = record { 0 = 0 }; arguments = []; gives = Nothing; code = [] }
+      ∷ [];
+}
+
+call_on_an_argument : rule (called_by (Some 0) Do 0 (An_own_argument (Object 0) ∷ []) Nothing None 0) 1 0 (state (Own (Object 0) Ready) Unset Empty) (Call (Register 0) 0 0 1) ≡ Err RegisterKind
+unfolding called_by state method_at arguments_in role_in class_in
+call_on_an_argument = refl
+
+call_of_another_class_on_self : rule (called_by (Some 0) Do 0 [] Nothing (Some 1) 0) 1 0 (state Unset Unset Empty) (Call This 0 0 0) ≡ Err RegisterKind
+unfolding called_by state method_at arguments_in role_in class_in
+call_of_another_class_on_self = refl
+
+call_on_a_field_that_may_be_null : rule (called_by (Some 0) Do 0 [] Nothing (Some 1) 0) 1 0 (state Unset Unset Perhaps) (Call (Field 0) 0 0 0) ≡ Err RegisterKind
+unfolding called_by state classes method_at class_at arguments_in role_in class_in fields_in
+call_on_a_field_that_may_be_null = refl
+
+call_on_a_missing_entry : rule (called_by (Some 0) Do 0 [] Nothing None 0) 1 0 (state Unset Unset Empty) (Call (Entry 0) 0 0 0) ≡ Err PopEmpty
+unfolding called_by state method_at arguments_in role_in class_in
+call_on_a_missing_entry = refl
+
+call_on_a_fresh_object : rule (called_by (Some 0) Do 0 [] Nothing None 0) 1 0 (state (Own (Object 0) Fresh) Unset Empty) (Call (Register 0) 0 1 1) ≡ Err StillFresh
+unfolding called_by state method_at arguments_in role_in class_in
+call_on_a_fresh_object = refl
+
+construct_of_a_ready_object : rule (called_by (Some 0) Construct 0 [] Nothing None 0) 1 0 (state (Own (Object 0) Ready) Unset Empty) (Call (Register 0) 0 1 1) ≡ Err NotFresh
+unfolding called_by state method_at arguments_in role_in class_in
+construct_of_a_ready_object = refl
+
+construct_on_self : rule (called_by (Some 0) Construct 0 [] Nothing (Some 0) 0) 1 0 (state Unset Unset Empty) (Call This 0 0 0) ≡ Err NotFresh
+unfolding called_by state method_at arguments_in role_in class_in
+construct_on_self = refl
+
+argument_past_the_registers : rule (called_by None Do 0 (An_own_argument (Object 0) ∷ An_own_argument (Object 0) ∷ []) Nothing None 0) 1 0 (state Unset Unset Empty) (Call This 0 15 0) ≡ Err RegisterKind
+unfolding called_by state method_at arguments_in role_in class_in
+argument_past_the_registers = refl
+
+fresh_argument : rule (called_by None Do 0 (An_own_argument (Object 0) ∷ []) Nothing None 0) 1 0 (state (Own (Object 0) Fresh) Unset Empty) (Call This 0 0 1) ≡ Err StillFresh
+unfolding called_by state method_at arguments_in role_in class_in
+fresh_argument = refl
+
+quiet_calls_another : rule (called_by None Do 0 [] Nothing None 2) 1 0 (state Unset Unset Empty) (Call This 0 0 0) ≡ Err QuietBroken
+unfolding called_by state method_at arguments_in role_in class_in quiet_in
+quiet_calls_another = refl
+
+result_over_an_owner : rule (called_by None Do 0 [] A_word None 0) 1 0 (state (Own (Object 0) Ready) Unset Empty) (Call This 0 0 0) ≡ Err RegisterKind
+unfolding called_by state method_at arguments_in role_in class_in quiet_in gives_in
+result_over_an_owner = refl
+
+leave_from_a_method_that_may_not : rule (called_by None Do 1 [] Nothing None 0) 1 0 (state Unset Unset Empty) (Call This 0 0 0) ≡ Err LeaveNotAllowed
+unfolding called_by state method_at arguments_in role_in class_in quiet_in gives_in leaves_in
+leave_from_a_method_that_may_not = refl
+
+leave_with_an_owner : rule (called_by None Do 1 [] Nothing None 1) 1 0 (state (Own (Object 0) Ready) Unset Empty) (Call This 0 1 1) ≡ Err OwnedAtLeave
+unfolding called_by state method_at arguments_in role_in class_in quiet_in gives_in leaves_in
+leave_with_an_owner = refl
+
+-- and one that passes: the object is ready after its construct method, and the argument has moved
+construct_with_an_argument : rule (called_by (Some 1) Construct 0 (An_own_argument (Object 0) ∷ []) Nothing None 0) 1 0 (state (Own (Object 1) Fresh) (Own (Object 0) Ready) Empty) (Call (Register 0) 0 1 0) ≡ Ok ((1, state (Own (Object 1) Ready) Null Empty) ∷ [])
+unfolding called_by state method_at arguments_in role_in class_in quiet_in gives_in leaves_in
+construct_with_an_argument = refl

@@ -2,6 +2,9 @@ pub mod Lists
 pub mod Views
 pub mod Deciding
 pub mod Judging
+pub mod Arguments
+pub mod Calling
+pub mod Callees
 pub mod Meeting
 pub mod Starting
 pub mod Emptying

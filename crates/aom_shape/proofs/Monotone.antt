@@ -1,31 +1,37 @@
 -- The rules are monotone: each instruction's needs and flows, from a state to one that says more.
-use Rattle.std.proofs.Common.{◌≡◌, ℕ, Bool, true, false, cond, ◌==◌, List, [], ◌∷◌, ◌++◌, inl, inr, refl}
+use Rattle.std.proofs.Common.{◌≡◌, ℕ, suc, Bool, true, false, cond, ◌==◌, List, [], ◌∷◌, ◌++◌, length, Option, Some, None, inl, inr, refl}
 use Rattle.std.proofs.lemmas.Bool.{false≢true, eqb-true}
 use Rattle.aom_image.specs.Image.{Image}
-use Rattle.aom_image.specs.Views.{gives_of, fields_of}
+use Rattle.aom_image.specs.Views.{arguments_of, gives_of, fields_of, leaves, method_class, method_role}
 use Rattle.aom_image.specs.declared.instr.Instr.{Instr}
-use Rattle.aom_image.specs.declared.instr.Instr.TheVariants.{Const, Jump, JumpNull, Print, Move, Take, Put, New, Delete, Return, Stop}
+use Rattle.aom_image.specs.declared.instr.Instr.TheVariants.{Const, Copy, Move, Add, Sub, Mul, And, Or, Xor, Jump, JumpEqual, JumpLess, JumpNull, JumpEmpty, Loop, Next, Print, Load, Store, Take, Put, New, Delete, Call, Return, Stop}
+use Rattle.aom_image.specs.declared.instr.Target.{Target}
+use Rattle.aom_image.specs.declared.instr.Target.TheVariants.{This, Register, Field, Entry}
+use Rattle.aom_image.specs.declared.method.Argument.{Argument}
+use Rattle.aom_image.specs.declared.method.Argument.TheVariants.{Word as A_word_argument, Own as An_own_argument}
 use Rattle.aom_image.specs.declared.method.Gives.{Gives}
 use Rattle.aom_image.specs.declared.method.Gives.TheVariants.{Nothing, Word as A_word, Own as An_own, Maybe as A_maybe, Left}
 use Rattle.aom_image.specs.declared.method.Thing.TheVariants.{Object}
-use Rattle.aom_shape.specs.Calls.{is_destructor, fields_done, rule_result, result_moved}
-use Rattle.aom_shape.specs.Kinds.{register, field, set_register, set_field, filled, filling_of, is_object_or_null}
+use Rattle.aom_shape.specs.Calls.{is_construct, is_destructor, is_target, age_need, awaits, brought, fields_worked, while_called, argument_needs, each_argument, argument_moved, arguments_moved, rule_target, rule_arguments, rule_moved, fields_done, rule_result, result_moved}
+use Rattle.aom_shape.specs.Kinds.{register, field, set_register, set_field, filled, filling_of, is_object_or_null, none_owns, readied}
 use Rattle.aom_shape.specs.Laws.{AllFollow}
-use Rattle.aom_shape.specs.Needs.{Need, AllTrue}
-use Rattle.aom_shape.specs.Objects.{new_age, flow_jump_null}
+use Rattle.aom_shape.specs.Needs.{Need, AllTrue, only_if}
+use Rattle.aom_shape.specs.Objects.{new_age, flow_jump_null, flow_jump_empty}
+use Rattle.aom_shape.specs.Words.{rule_copy, rule_combine, rule_compare, flow_word}
 use Rattle.aom_shape.specs.Order.{Weaker, WeakerFilling, SaysNoMore}
 use Rattle.aom_shape.specs.Order.Weaker.{alike, unset_word, unset_null, maybe_null, maybe_own}
-use Rattle.aom_shape.specs.Order.WeakerFilling.{alike_filling}
+use Rattle.aom_shape.specs.Order.WeakerFilling.{alike_filling, perhaps_empty, perhaps_full}
 use Rattle.aom_shape.specs.Rules.{rule_needs, flows}
 use Rattle.aom_shape.specs.Shape.{Shape}
 use Rattle.aom_shape.specs.Things.{Holder, Nobody, Program, Member, field_thing, holder_of}
+use Rattle.aom_shape.specs.declared.kind.Age.TheVariants.{Ready}
 use Rattle.aom_shape.specs.declared.kind.Kind.{Kind}
 use Rattle.aom_shape.specs.declared.kind.Kind.TheVariants.{Unset, Word, Null, Own, Maybe}
 use Rattle.aom_shape.specs.declared.kind.Filling.{Filling}
-use Rattle.aom_shape.specs.declared.kind.Filling.TheVariants.{Empty, Perhaps}
+use Rattle.aom_shape.specs.declared.kind.Filling.TheVariants.{Empty, Full, Perhaps}
 use Rattle.aom_shape.proofs.Judging.{left_needs}
 use Rattle.aom_shape.proofs.Lists.{at_put}
-use Rattle.aom_shape.proofs.Telling.{word_more, unowning_more, object_or_null_more, destroyed_more, ready_more, own_more, may_be_more, declared_more, empty_more, filled_more, filling_more, none_owns_more, all_empty_more}
+use Rattle.aom_shape.proofs.Telling.{fresh_more, readied_more, word_more, unowning_more, object_or_null_more, destroyed_more, ready_more, own_more, may_be_more, declared_more, empty_more, filled_more, filling_more, none_owns_more, all_empty_more}
 
 -- two states with a register written alike
 pub register_more : (a b : Shape) (i : ℕ) (k l : Kind) → SaysNoMore a b → Weaker k l → SaysNoMore (set_register a i k) (set_register b i l)
@@ -62,6 +68,30 @@ register_told a b i k h w = record {
     go j true e = rw (← eqb-true i j e) w
     go j false e = h.registers j
 
+-- a field written with what a state that says more has there
+pub field_told : (a b : Shape) (i : ℕ) (x : Filling) → SaysNoMore a b → WeakerFilling x (field b i) → SaysNoMore (set_field a i x) b
+field_told a b i x h w = record {
+  registers = h.registers;
+  fields = λ j. rw (at_put Perhaps a.fields i j x) (go j (i == j) refl);
+  entries = h.entries;
+}
+  where
+    go : (j : ℕ) (c : Bool) → (i == j) ≡ c → WeakerFilling (cond c x (field a j)) (field b j)
+    go j true e = rw (← eqb-true i j e) w
+    go j false e = h.fields j
+
+copy_more : (pc : ℕ) (a b : Shape) (r s : ℕ) → SaysNoMore a b → AllTrue (rule_copy pc a r s) → AllTrue (rule_copy pc b r s)
+copy_more pc a b r s h n = (word_more (register a s) (register b s) (h.registers s) n.0, (unowning_more (register a r) (register b r) (h.registers r) n.1.0, tt))
+
+combine_more : (pc : ℕ) (a b : Shape) (r s t : ℕ) → SaysNoMore a b → AllTrue (rule_combine pc a r s t) → AllTrue (rule_combine pc b r s t)
+combine_more pc a b r s t h n = (
+  word_more (register a s) (register b s) (h.registers s) n.0,
+  (word_more (register a t) (register b t) (h.registers t) n.1.0, (unowning_more (register a r) (register b r) (h.registers r) n.1.1.0, tt)),
+)
+
+compare_more : (pc : ℕ) (a b : Shape) (r s : ℕ) → SaysNoMore a b → AllTrue (rule_compare pc a r s) → AllTrue (rule_compare pc b r s)
+compare_more pc a b r s h n = (word_more (register a r) (register b r) (h.registers r) n.0, (word_more (register a s) (register b s) (h.registers s) n.1.0, tt))
+
 result_more : (p : Image) (m pc : ℕ) (a b : Shape) (g : Gives) (r : ℕ) → SaysNoMore a b → AllTrue (rule_result p m pc a g r) → AllTrue (rule_result p m pc b g r)
 result_more p m pc a b Nothing r h n = n
 result_more p m pc a b A_word r h n = (word_more (register a r) (register b r) (h.registers r) n.0, tt)
@@ -94,9 +124,117 @@ all_true_both : (xs ys : List Need) → AllTrue xs → AllTrue ys → AllTrue (x
 all_true_both [] ys h k = k
 all_true_both (x ∷ xs) ys h k = (h.0, all_true_both xs ys h.1 k)
 
+-- a call's target
+target_more : (p : Image) (class : Option ℕ) (k l : Kind) → Weaker k l → is_target p class k ≡ true → is_target p class l ≡ true
+target_more p None k l w h = h
+target_more p (Some c) k l w h = own_more p (Object c) k l w h
+
+age_more : (constructs : Bool) (k l : Kind) → Weaker k l → (age_need constructs k).0 ≡ true → (age_need constructs l).0 ≡ true
+age_more true k l w h = fresh_more k l w h
+age_more false k l w h = ready_more k l w h
+
+called_on_more : (p : Image) (m : ℕ) (a b : Shape) (target : Target) (class : Option ℕ) (constructs : Bool) (first count : ℕ) → SaysNoMore a b → AllTrue (rule_target p m a target class constructs first count) → AllTrue (rule_target p m b target class constructs first count)
+called_on_more p m a b This class constructs first count h n = n
+called_on_more p m a b (Register r) class constructs first count h n = (
+  target_more p class (register a r) (register b r) (h.registers r) n.0,
+  (n.1.0, (age_more constructs (register a r) (register b r) (h.registers r) n.1.1.0, tt)),
+)
+called_on_more p m a b (Field f) class constructs first count h n =
+    let o = field_thing p (holder_of p m) f in
+    let w = filled_more o (field a f) (field b f) (h.fields f) in
+    (target_more p class (filled o (field a f)) (filled o (field b f)) w n.0, (age_more constructs (filled o (field a f)) (filled o (field b f)) w n.1.0, tt))
+called_on_more p m a b (Entry k) class constructs first count h n = n
+
+-- its arguments
+argument_more : (p : Image) (x : Argument) (k l : Kind) → Weaker k l → AllTrue (argument_needs p x k) → AllTrue (argument_needs p x l)
+argument_more p A_word_argument k l w n = (word_more k l w n.0, tt)
+argument_more p (An_own_argument t) k l w n = (own_more p t k l w n.0, (ready_more k l w n.1.0, tt))
+
+arguments_more : (p : Image) (a b : Shape) (xs : List Argument) (first : ℕ) → SaysNoMore a b → AllTrue (each_argument p a xs first) → AllTrue (each_argument p b xs first)
+arguments_more p a b [] first h n = tt
+arguments_more p a b (x ∷ xs) first h n =
+    let here = argument_needs p x (register a first) in
+    let rest = each_argument p a xs (suc first) in
+    all_true_both (argument_needs p x (register b first)) (each_argument p b xs (suc first)) (argument_more p x (register a first) (register b first) (h.registers first) (all_true_first here rest n)) (arguments_more p a b xs (suc first) h (all_true_rest here rest n))
+
+argument_moved_more : (x : Argument) (r : ℕ) (a b : Shape) → SaysNoMore a b → SaysNoMore (argument_moved x r a) (argument_moved x r b)
+argument_moved_more A_word_argument r a b h = h
+argument_moved_more (An_own_argument t) r a b h = register_more a b r Null Null h alike
+
+arguments_moved_more : (xs : List Argument) (first : ℕ) (a b : Shape) → SaysNoMore a b → SaysNoMore (arguments_moved xs first a) (arguments_moved xs first b)
+arguments_moved_more [] first a b h = h
+arguments_moved_more (x ∷ xs) first a b h = arguments_moved_more xs (suc first) (argument_moved x first a) (argument_moved x first b) (argument_moved_more x first a b h)
+
+-- and what is asked once they have moved
+awaits_more : (g : Gives) (k l : Kind) → Weaker k l → awaits g k ≡ true → awaits g l ≡ true
+awaits_more Nothing k l w h = h
+awaits_more A_word k l w h = unowning_more k l w h
+awaits_more (An_own t) k l w h = unowning_more k l w h
+awaits_more (A_maybe t) k l w h = unowning_more k l w h
+awaits_more (Left c) k l w h = h
+
+only_if_more : (asked x y : Bool) → (x ≡ true → y ≡ true) → only_if asked x ≡ true → only_if asked y ≡ true
+only_if_more true x y f h = f h
+only_if_more false x y f h = h
+
+after_more : (p : Image) (m : ℕ) (a b : Shape) (m' c : ℕ) → SaysNoMore a b → AllTrue (rule_moved p m a m' c) → AllTrue (rule_moved p m b m' c)
+after_more p m a b m' c h n = (
+  n.0,
+  (
+    awaits_more (gives_of p m') (register a c) (register b c) (h.registers c) n.1.0,
+    (n.1.1.0, (only_if_more (leaves p m') (none_owns a.registers) (none_owns b.registers) (none_owns_more a.registers b.registers h.registers) n.1.1.1.0, tt)),
+  ),
+)
+
+call_more : (p : Image) (m pc : ℕ) (a b : Shape) (target : Target) (m' first c : ℕ) → SaysNoMore a b → AllTrue (rule_needs p m pc a (Call target m' first c)) → AllTrue (rule_needs p m pc b (Call target m' first c))
+call_more p m pc a b target m' first c h n =
+    let xs = arguments_of p m' in
+    let class = method_class p m' in
+    let constructs = is_construct (method_role p m') in
+    let one = rule_target p m a target class constructs first (length xs) in
+    let two = rule_arguments p a xs first in
+    let three = rule_moved p m (arguments_moved xs first a) m' c in
+    let rest = all_true_rest one (two ++ three) n in
+    let args = all_true_first two three rest in
+    all_true_both (rule_target p m b target class constructs first (length xs)) (rule_arguments p b xs first ++ rule_moved p m (arguments_moved xs first b) m' c) (called_on_more p m a b target class constructs first (length xs) h (all_true_first one (two ++ three) n))
+    (all_true_both (rule_arguments p b xs first) (rule_moved p m (arguments_moved xs first b) m' c) (args.0, arguments_more p a b xs first h args.1)
+    (after_more p m (arguments_moved xs first a) (arguments_moved xs first b) m' c (arguments_moved_more xs first a b h) (all_true_rest two three rest)))
+
+-- what a call leaves
+brought_more : (g : Gives) (c : ℕ) (a b : Shape) → SaysNoMore a b → SaysNoMore (brought g c a) (brought g c b)
+brought_more Nothing c a b h = h
+brought_more A_word c a b h = register_more a b c Word Word h alike
+brought_more (An_own t) c a b h = register_more a b c (Own t Ready) (Own t Ready) h alike
+brought_more (A_maybe t) c a b h = register_more a b c (Maybe t Ready) (Maybe t Ready) h alike
+brought_more (Left x) c a b h = h
+
+worked_more : (class : Option ℕ) (a b : Shape) → SaysNoMore a b → SaysNoMore (fields_worked class a) (fields_worked class b)
+worked_more None a b h = h
+worked_more (Some c) a b h = record { registers = h.registers; fields = λ i. alike_filling; entries = h.entries }
+
+called_more : (target : Target) (class : Option ℕ) (a b : Shape) → SaysNoMore a b → SaysNoMore (while_called target class a) (while_called target class b)
+called_more This class a b h = worked_more class a b h
+called_more (Register r) class a b h = register_more a b r (readied (register a r)) (readied (register b r)) h (readied_more (register a r) (register b r) (h.registers r))
+called_more (Field f) class a b h = h
+called_more (Entry k) class a b h = h
+
 pub needs_more : (p : Image) (m pc : ℕ) (a b : Shape) (i : Instr) → SaysNoMore a b → AllTrue (rule_needs p m pc a i) → AllTrue (rule_needs p m pc b i)
 needs_more p m pc a b (Const r w) h n = (unowning_more (register a r) (register b r) (h.registers r) n.0, tt)
+needs_more p m pc a b (Copy r s) h n = copy_more pc a b r s h n
+needs_more p m pc a b (Add r s t) h n = combine_more pc a b r s t h n
+needs_more p m pc a b (Sub r s t) h n = combine_more pc a b r s t h n
+needs_more p m pc a b (Mul r s t) h n = combine_more pc a b r s t h n
+needs_more p m pc a b (And r s t) h n = combine_more pc a b r s t h n
+needs_more p m pc a b (Or r s t) h n = combine_more pc a b r s t h n
+needs_more p m pc a b (Xor r s t) h n = combine_more pc a b r s t h n
 needs_more p m pc a b (Jump to) h n = tt
+needs_more p m pc a b (JumpEqual r s to) h n = compare_more pc a b r s h n
+needs_more p m pc a b (JumpLess r s to) h n = compare_more pc a b r s h n
+needs_more p m pc a b (Loop depth rounds) h n = tt
+needs_more p m pc a b (Next depth to) h n = tt
+needs_more p m pc a b (Load r w) h n = (n.0, (unowning_more (register a r) (register b r) (h.registers r) n.1.0, tt))
+needs_more p m pc a b (Store w s) h n = (n.0, (word_more (register a s) (register b s) (h.registers s) n.1.0, tt))
+needs_more p m pc a b (JumpEmpty f to) h n = n
 needs_more p m pc a b (JumpNull r to) h n = (object_or_null_more (register a r) (register b r) (h.registers r) n.0, tt)
 needs_more p m pc a b (Print r) h n = (word_more (register a r) (register b r) (h.registers r) n.0, tt)
 needs_more p m pc a b (Move r s) h n = (object_or_null_more (register a s) (register b s) (h.registers s) n.0, (unowning_more (register a r) (register b r) (h.registers r) n.1.0, tt))
@@ -107,6 +245,7 @@ needs_more p m pc a b (Put f s) h n = (
 )
 needs_more p m pc a b (New r c) h n = (unowning_more (register a r) (register b r) (h.registers r) n.0, n.1)
 needs_more p m pc a b (Delete r) h n = (destroyed_more (register a r) (register b r) (h.registers r) n.0, tt)
+needs_more p m pc a b (Call target m' first c) h n = call_more p m pc a b target m' first c h n
 needs_more p m pc a b (Return r) h n =
     let g = gives_of p m in
     let first = all_true_first (rule_result p m pc a g r) (left_needs p m pc a r) n in
@@ -135,9 +274,40 @@ jump_more p m pc a b r to h k l unset_null e n = absurd (false≢true n)
 jump_more p m pc a b r to h k l (maybe_null {t = t} {a = x}) e n = (inr (inl (refl, register_told a b r Null h (rw e alike))), tt)
 jump_more p m pc a b r to h k l (maybe_own {t = t} {a = x}) e n = (inl (refl, register_told a b r (Own t x) h (rw e alike)), tt)
 
+same_empty : (p : Image) (m pc : ℕ) (a b : Shape) (f to : ℕ) → SaysNoMore a b → (x : Filling) → AllFollow (flow_jump_empty p m pc a x f to) (flow_jump_empty p m pc b x f to)
+same_empty p m pc a b f to h Empty = (inl (refl, h), tt)
+same_empty p m pc a b f to h Full = (inl (refl, h), tt)
+same_empty p m pc a b f to h Perhaps = (inl (refl, field_more a b f Full Full h alike_filling), (inr (inl (refl, field_more a b f Empty Empty h alike_filling)), tt))
+
+empty_jump_more : (p : Image) (m pc : ℕ) (a b : Shape) (f to : ℕ) → SaysNoMore a b → (x y : Filling) → WeakerFilling x y → field b f ≡ y → AllFollow (flow_jump_empty p m pc a x f to) (flow_jump_empty p m pc b y f to)
+empty_jump_more p m pc a b f to h x y (alike_filling {x = same}) e = same_empty p m pc a b f to h x
+empty_jump_more p m pc a b f to h x y perhaps_empty e = (inr (inl (refl, field_told a b f Empty h (rw e alike_filling))), tt)
+empty_jump_more p m pc a b f to h x y perhaps_full e = (inl (refl, field_told a b f Full h (rw e alike_filling)), tt)
+
+-- a word in the same register
+word_flow_more : (pc : ℕ) (a b : Shape) (r : ℕ) → SaysNoMore a b → AllFollow (flow_word pc a r) (flow_word pc b r)
+word_flow_more pc a b r h = (inl (refl, register_more a b r Word Word h alike), tt)
+
+both_ways_more : (x y : ℕ) (a b : Shape) → SaysNoMore a b → AllFollow ((x, a) ∷ (y, a) ∷ []) ((x, b) ∷ (y, b) ∷ [])
+both_ways_more x y a b h = (inl (refl, h), (inr (inl (refl, h)), tt))
+
 pub flows_more : (p : Image) (m pc : ℕ) (a b : Shape) (i : Instr) → SaysNoMore a b → AllTrue (rule_needs p m pc a i) → AllFollow (flows p m pc a i) (flows p m pc b i)
-flows_more p m pc a b (Const r w) h n = (inl (refl, register_more a b r Word Word h alike), tt)
+flows_more p m pc a b (Const r w) h n = word_flow_more pc a b r h
+flows_more p m pc a b (Copy r s) h n = word_flow_more pc a b r h
+flows_more p m pc a b (Add r s t) h n = word_flow_more pc a b r h
+flows_more p m pc a b (Sub r s t) h n = word_flow_more pc a b r h
+flows_more p m pc a b (Mul r s t) h n = word_flow_more pc a b r h
+flows_more p m pc a b (And r s t) h n = word_flow_more pc a b r h
+flows_more p m pc a b (Or r s t) h n = word_flow_more pc a b r h
+flows_more p m pc a b (Xor r s t) h n = word_flow_more pc a b r h
 flows_more p m pc a b (Jump to) h n = (inl (refl, h), tt)
+flows_more p m pc a b (JumpEqual r s to) h n = both_ways_more (suc pc) to a b h
+flows_more p m pc a b (JumpLess r s to) h n = both_ways_more (suc pc) to a b h
+flows_more p m pc a b (Loop depth rounds) h n = (inl (refl, h), tt)
+flows_more p m pc a b (Next depth to) h n = both_ways_more to (suc pc) a b h
+flows_more p m pc a b (Load r w) h n = word_flow_more pc a b r h
+flows_more p m pc a b (Store w s) h n = (inl (refl, h), tt)
+flows_more p m pc a b (JumpEmpty f to) h n = empty_jump_more p m pc a b f to h (field a f) (field b f) (h.fields f) refl
 flows_more p m pc a b (JumpNull r to) h n = jump_more p m pc a b r to h (register a r) (register b r) (h.registers r) refl n.0
 flows_more p m pc a b (Print r) h n = (inl (refl, h), tt)
 flows_more p m pc a b (Move r s) h n = (inl (refl, register_more (set_register a s Null) (set_register b s Null) r (register a s) (register b s) (register_more a b s Null Null h alike) (h.registers s)), tt)
@@ -147,6 +317,11 @@ flows_more p m pc a b (Take r f) h n =
 flows_more p m pc a b (Put f s) h n = (inl (refl, field_more (set_register a s Null) (set_register b s Null) f (filling_of (register a s)) (filling_of (register b s)) (register_more a b s Null Null h alike) (filling_more (register a s) (register b s) (h.registers s))), tt)
 flows_more p m pc a b (New r c) h n = (inl (refl, register_more a b r (Maybe (Object c) (new_age p c)) (Maybe (Object c) (new_age p c)) h alike), tt)
 flows_more p m pc a b (Delete r) h n = (inl (refl, register_more a b r Null Null h alike), tt)
+flows_more p m pc a b (Call target m' first c) h n =
+    let xs = arguments_of p m' in
+    let class = method_class p m' in
+    let moved = arguments_moved_more xs first a b h in
+    (inl (refl, brought_more (gives_of p m') c (while_called target class (arguments_moved xs first a)) (while_called target class (arguments_moved xs first b)) (called_more target class (arguments_moved xs first a) (arguments_moved xs first b) moved)), tt)
 flows_more p m pc a b (Return r) h n = tt
 flows_more p m pc a b Stop h n = (inl (refl, h), tt)
 flows_more p m pc a b _ h n = tt

@@ -4,7 +4,7 @@ use Rattle.std.proofs.lemmas.Bool.{false≢true}
 use Rattle.aom_image.specs.Image.{Image}
 use Rattle.aom_image.specs.declared.method.Thing.{Thing}
 use Rattle.aom_shape.specs.Calls.{all_empty, is_own_for}
-use Rattle.aom_shape.specs.Kinds.{is_word, is_unowning, is_object_or_null, may_be_destroyed, may_be, may_be_declared, is_ready_kind, none_owns, is_empty, filled, filling_of}
+use Rattle.aom_shape.specs.Kinds.{is_word, is_unowning, is_object_or_null, may_be_destroyed, may_be, may_be_declared, is_fresh_kind, is_ready_kind, readied, none_owns, is_empty, filled, filling_of}
 use Rattle.aom_shape.specs.Order.{Weaker, WeakerFilling}
 use Rattle.aom_shape.specs.Order.Weaker.{alike, unset_word, unset_null, maybe_null, maybe_own}
 use Rattle.aom_shape.specs.Order.WeakerFilling.{alike_filling, perhaps_empty, perhaps_full}
@@ -85,6 +85,20 @@ filling_more a b unset_word = alike_filling
 filling_more a b unset_null = perhaps_empty
 filling_more a b (maybe_null {t = t} {a = age}) = perhaps_empty
 filling_more a b (maybe_own {t = t} {a = age}) = perhaps_full
+
+pub fresh_more : (a b : Kind) → Weaker a b → is_fresh_kind a ≡ true → is_fresh_kind b ≡ true
+fresh_more a b (alike {k = k}) h = h
+fresh_more a b unset_word h = absurd (false≢true h)
+fresh_more a b unset_null h = absurd (false≢true h)
+fresh_more a b (maybe_null {t = t} {a = age}) h = absurd (false≢true h)
+fresh_more a b (maybe_own {t = t} {a = age}) h = absurd (false≢true h)
+
+pub readied_more : (a b : Kind) → Weaker a b → Weaker (readied a) (readied b)
+readied_more a b (alike {k = k}) = alike
+readied_more a b unset_word = unset_word
+readied_more a b unset_null = unset_null
+readied_more a b (maybe_null {t = t} {a = age}) = maybe_null
+readied_more a b (maybe_own {t = t} {a = age}) = maybe_own
 
 -- no register owns, read by their numbers
 none_at : (xs : List Kind) → none_owns xs ≡ true → (i : ℕ) → is_unowning (at Unset xs i) ≡ true

@@ -1,11 +1,11 @@
 -- What a method or a class says, from what the lists of an image have.
-use Rattle.std.proofs.Common.{◌≡◌, ℕ, ◌<◌, ◌≤◌, List, [], length, Option, Some, slice_get, slice_index_or, refl, ap, subst, sym}
+use Rattle.std.proofs.Common.{◌≡◌, ℕ, ◌<◌, ◌≤◌, List, [], length, Some, None, slice_get, slice_index_or, refl, ap, subst, sym}
 use Rattle.std.proofs.lemmas.Option.{slice_get_past, slice_get_read}
 use Rattle.aom_image.specs.Image.{Image}
-use Rattle.aom_image.specs.Views.{method_at, gives_of, gives_in, is_quiet, quiet_in, has, method_role, role_in, method_class, class_in, arguments_of, arguments_in, class_at, fields_of, fields_in}
+use Rattle.aom_image.specs.Views.{method_at, gives_of, gives_in, is_quiet, quiet_in, leaves, leaves_in, has, method_role, role_in, method_class, class_in, arguments_of, arguments_in, class_at, fields_of, fields_in}
 use Rattle.aom_image.specs.declared.class.ClassDecl.{ClassDecl}
 use Rattle.aom_image.specs.declared.method.Method.{Method}
-use Rattle.aom_shape.specs.Things.{holder_of, holder_by}
+use Rattle.aom_shape.specs.Things.{holder_of, holder_by, words_of, words_in}
 
 pub gives_there : (p : Image) (m : ℕ) (d : Method) → method_at p m ≡ Some d → gives_of p m ≡ d.gives
 unfolding gives_in
@@ -14,6 +14,10 @@ gives_there p m d e = ap gives_in e
 pub quiet_there : (p : Image) (m : ℕ) (d : Method) → method_at p m ≡ Some d → is_quiet p m ≡ has d.flags.0 2
 unfolding quiet_in
 quiet_there p m d e = ap quiet_in e
+
+pub leaves_there : (p : Image) (m : ℕ) (d : Method) → method_at p m ≡ Some d → leaves p m ≡ has d.flags.0 1
+unfolding leaves_in
+leaves_there p m d e = ap leaves_in e
 
 pub role_there : (p : Image) (m : ℕ) (d : Method) → method_at p m ≡ Some d → method_role p m ≡ Some d.role
 unfolding role_in
@@ -31,14 +35,27 @@ pub arguments_there : (p : Image) (m : ℕ) (d : Method) → method_at p m ≡ S
 unfolding arguments_in
 arguments_there p m d e = ap arguments_in e
 
-pub fields_there : (p : Image) (c : ℕ) (o : Option ClassDecl) → class_at p c ≡ o → fields_of p c ≡ fields_in o
-fields_there p c o e = ap fields_in e
+-- a class that the list has, and one that it has not
+class_none : (p : Image) (c i : ℕ) (xs : List ClassDecl) → xs ≡ p.classes → i ≡ c → length xs ≤ i → class_at p c ≡ None
+unfolding class_at
+class_none p c i xs e f h = slice_get_past p.classes c (subst (λ ys. length ys ≤ c) e (subst (λ j. length xs ≤ j) f h))
 
--- the fields of a class that the list has, and of one that it has not
+class_some : (p : Image) (c i : ℕ) (xs : List ClassDecl) (d : ClassDecl) → xs ≡ p.classes → i ≡ c → i < length xs → d ≡ slice_index_or xs i d → class_at p c ≡ Some d
+unfolding class_at
+class_some p c i xs d e f h g = subst (λ ys. slice_get ys c ≡ Some d) e (subst (λ j. slice_get xs j ≡ Some d) f (slice_get_read xs (length xs) i d refl h g))
+
 pub fields_none : (p : Image) (c i : ℕ) (xs : List ClassDecl) → xs ≡ p.classes → i ≡ c → length xs ≤ i → [] ≡ fields_of p c
-unfolding class_at fields_in
-fields_none p c i xs e f h = rw (slice_get_past p.classes c (subst (λ ys. length ys ≤ c) e (subst (λ j. length xs ≤ j) f h)))
+unfolding fields_in
+fields_none p c i xs e f h = sym (ap fields_in (class_none p c i xs e f h))
 
 pub fields_some : (p : Image) (c i : ℕ) (xs : List ClassDecl) (d : ClassDecl) → xs ≡ p.classes → i ≡ c → i < length xs → d ≡ slice_index_or xs i d → d.fields ≡ fields_of p c
-unfolding class_at fields_in
-fields_some p c i xs d e f h g = sym (ap fields_in (subst (λ ys. slice_get ys c ≡ Some d) e (subst (λ j. slice_get xs j ≡ Some d) f (slice_get_read xs (length xs) i d refl h g))))
+unfolding fields_in
+fields_some p c i xs d e f h g = sym (ap fields_in (class_some p c i xs d e f h g))
+
+pub words_none : (p : Image) (c i : ℕ) (xs : List ClassDecl) → xs ≡ p.classes → i ≡ c → length xs ≤ i → 0 ≡ words_of p c
+unfolding words_in
+words_none p c i xs e f h = sym (ap words_in (class_none p c i xs e f h))
+
+pub words_some : (p : Image) (c i : ℕ) (xs : List ClassDecl) (d : ClassDecl) → xs ≡ p.classes → i ≡ c → i < length xs → d ≡ slice_index_or xs i d → d.words ≡ words_of p c
+unfolding words_in
+words_some p c i xs d e f h g = sym (ap words_in (class_some p c i xs d e f h g))

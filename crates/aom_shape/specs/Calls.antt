@@ -1,27 +1,29 @@
--- The rules of returns and of stop.
-use Rattle.std.specs.Prelude.{ℕ, Bool, true, false, ◌&&◌, ◌==◌, List, [], ◌∷◌, ◌++◌, Option, Some}
+-- The rules of calls, of returns and of stop.
+use Rattle.std.specs.Prelude.{ℕ, suc, ◌+◌, Bool, true, false, not, ◌&&◌, ◌==◌, nat_le, nat_lt, List, [], ◌∷◌, ◌++◌, length, replicate, IsSome, Option, Some, None}
 use Rattle.aom_image.specs.Image.{Image}
-use Rattle.aom_image.specs.Views.{fields_of, gives_of, method_role}
+use Rattle.aom_image.specs.Views.{arguments_of, fields_of, gives_of, is_quiet, leaves, method_at, method_class, method_role}
+use Rattle.aom_image.specs.declared.instr.Instr.{Instr}
+use Rattle.aom_image.specs.declared.instr.Instr.TheVariants.{Call}
+use Rattle.aom_image.specs.declared.instr.Target.{Target}
+use Rattle.aom_image.specs.declared.instr.Target.TheVariants.{This, Register, Field, Entry}
+use Rattle.aom_image.specs.declared.method.Argument.{Argument}
+use Rattle.aom_image.specs.declared.method.Argument.TheVariants.{Word as A_word_argument, Own as An_own_argument}
 use Rattle.aom_image.specs.declared.method.Gives.{Gives}
 use Rattle.aom_image.specs.declared.method.Gives.TheVariants.{Nothing, Word as A_word, Own as An_own, Maybe as A_maybe, Left}
 use Rattle.aom_image.specs.declared.method.Role.{Role}
-use Rattle.aom_image.specs.declared.method.Role.TheVariants.{Destruct}
+use Rattle.aom_image.specs.declared.method.Role.TheVariants.{Construct, Destruct}
 use Rattle.aom_image.specs.declared.method.Thing.{Thing}
-use Rattle.aom_shape.specs.Things.{Holder, Nobody, Program, Member, stands_for, holder_of}
+use Rattle.aom_image.specs.declared.method.Thing.TheVariants.{Object}
+use Rattle.aom_shape.specs.Things.{Holder, Nobody, Program, Member, field_thing, stands_for, holder_of}
 use Rattle.aom_shape.specs.Shape.{Shape}
-use Rattle.aom_shape.specs.Kinds.{register, set_register, is_word, is_empty, is_ready_kind, may_be, none_owns, no_entry}
-use Rattle.aom_shape.specs.Needs.{Need, Flow, to_next}
+use Rattle.aom_shape.specs.Kinds.{register, field, set_register, filled, is_word, is_empty, is_unowning, is_fresh_kind, is_ready_kind, readied, may_be, none_owns, no_entry}
+use Rattle.aom_shape.specs.Needs.{Need, Flow, only_if, to_next}
+use Rattle.aom_shape.specs.declared.kind.Age.TheVariants.{Ready}
 use Rattle.aom_shape.specs.declared.kind.Filling.{Filling}
+use Rattle.aom_shape.specs.declared.kind.Filling.TheVariants.{Perhaps}
 use Rattle.aom_shape.specs.declared.kind.Kind.{Kind}
 use Rattle.aom_shape.specs.declared.kind.Kind.TheVariants.{Unset, Word, Null, Own, Maybe}
-use Rattle.aom_shape.specs.declared.why.Why.TheVariants.{RegisterKind, OwnedAtReturn, CleanupAtReturn, FieldsLeft, StillFresh}
-
-abbrev pub is_destruct : Option Role → Bool
-is_destruct (Some Destruct) = true
-is_destruct _ = false
-
-abbrev pub is_destructor : Image → ℕ → Bool
-is_destructor p m = is_destruct (method_role p m)
+use Rattle.aom_shape.specs.declared.why.Why.TheVariants.{RegisterKind, OwnedAtLeave, OwnedAtReturn, CleanupAtReturn, PopEmpty, LeaveNotAllowed, FieldsLeft, NotFresh, StillFresh, QuietBroken}
 
 -- it owns what may stand for that thing
 abbrev pub is_own_for : Image → Thing → Kind → Bool
@@ -30,6 +32,134 @@ is_own_for p t Word = false
 is_own_for p t Null = false
 is_own_for p t (Own x a) = stands_for p x t
 is_own_for p t (Maybe x a) = false
+
+-- ---- calls
+
+abbrev pub is_construct : Option Role → Bool
+is_construct (Some Construct) = true
+is_construct _ = false
+
+-- a method of the first class may call one of the second class on its own object, and any method a static one
+abbrev pub stands_here : Image → Option ℕ → Option ℕ → Bool
+stands_here p here None = true
+stands_here p None (Some c) = false
+stands_here p (Some x) (Some c) = stands_for p (Object x) (Object c)
+
+-- it owns an object on which a method of that class works
+abbrev pub is_target : Image → Option ℕ → Kind → Bool
+is_target p None k = false
+is_target p (Some c) k = is_own_for p (Object c) k
+
+-- a construct method works on a fresh object, another method on a ready one
+abbrev pub age_need : Bool → Kind → Need
+age_need true k = (is_fresh_kind k, NotFresh)
+age_need false k = (is_ready_kind k, StillFresh)
+
+-- the register is one of so many from the first on
+abbrev pub is_among : ℕ → ℕ → ℕ → Bool
+is_among first count r = nat_le first r && nat_lt r (first + count)
+
+-- the result has a register to come to
+abbrev pub awaits : Gives → Kind → Bool
+awaits Nothing k = true
+awaits A_word k = is_unowning k
+awaits (An_own t) k = is_unowning k
+awaits (A_maybe t) k = is_unowning k
+-- comes with the cleanup stack
+awaits (Left c) k = false
+
+-- the state with the result, from the one that holds while the call lasts
+abbrev pub brought : Gives → ℕ → Shape → Shape
+brought Nothing c sh = sh
+brought A_word c sh = set_register sh c Word
+brought (An_own t) c sh = set_register sh c (Own t Ready)
+brought (A_maybe t) c sh = set_register sh c (Maybe t Ready)
+brought (Left x) c sh = sh
+
+-- what is known of one's own fields once a method of that class has worked on them; a static method works on none
+abbrev pub fields_worked : Option ℕ → Shape → Shape
+fields_worked None sh = sh
+fields_worked (Some c) sh = record sh { fields = replicate 8 Perhaps }
+
+-- while the call of a method of that class lasts: what a register is called on will be ready
+abbrev pub while_called : Target → Option ℕ → Shape → Shape
+while_called This class sh = fields_worked class sh
+while_called (Register r) class sh = set_register sh r (readied (register sh r))
+while_called (Field f) class sh = sh
+while_called (Entry k) class sh = sh
+
+-- an argument has left its register: a word is copied, and what is owned moves
+abbrev pub argument_moved : Argument → ℕ → Shape → Shape
+argument_moved A_word_argument r sh = sh
+argument_moved (An_own_argument t) r sh = set_register sh r Null
+
+-- each argument has, from that register on
+abbrev pub arguments_moved : List Argument → ℕ → Shape → Shape
+arguments_moved [] first sh = sh
+arguments_moved (x ∷ xs) first sh = arguments_moved xs (suc first) (argument_moved x first sh)
+
+-- an argument is a word, or a ready object or a message that may stand for the declared thing
+abbrev pub argument_needs : Image → Argument → Kind → List Need
+argument_needs p A_word_argument k = (is_word k, RegisterKind) ∷ []
+argument_needs p (An_own_argument t) k = (is_own_for p t k, RegisterKind) ∷ (is_ready_kind k, StillFresh) ∷ []
+
+-- each argument in its register, from that one on
+abbrev pub each_argument : Image → Shape → List Argument → ℕ → List Need
+each_argument p sh [] first = []
+each_argument p sh (x ∷ xs) first = argument_needs p x (register sh first) ++ each_argument p sh xs (suc first)
+
+-- the last argument is within the registers
+abbrev pub rule_arguments : Image → Shape → List Argument → ℕ → List Need
+rule_arguments p sh xs first = (nat_le (first + length xs) 16, RegisterKind) ∷ each_argument p sh xs first
+
+module _ (p : Image) (m : ℕ) (sh : Shape) where
+  -- what a method of that class is called on: itself, or an own object of its class that is no argument, fresh for a construct method and else ready
+  abbrev pub rule_target : Target → Option ℕ → Bool → ℕ → ℕ → List Need
+  rule_target This class constructs first count = (stands_here p (method_class p m) class, RegisterKind) ∷ (not constructs, NotFresh) ∷ []
+  rule_target (Register r) class constructs first count =
+      (is_target p class (register sh r), RegisterKind)
+      ∷ (not (is_among first count r), RegisterKind)
+      ∷ age_need constructs (register sh r)
+      ∷ []
+  rule_target (Field f) class constructs first count =
+      (is_target p class (filled (field_thing p (holder_of p m) f) (field sh f)), RegisterKind)
+      ∷ age_need constructs (filled (field_thing p (holder_of p m) f) (field sh f))
+      ∷ []
+  -- comes with the cleanup stack
+  rule_target (Entry k) class constructs first count = (false, PopEmpty) ∷ []
+
+  -- what is asked once the arguments have moved: a quiet method calls quiet ones, the result has a register, and where the called method may leave, this one may, and owns nothing
+  abbrev pub rule_moved : ℕ → ℕ → List Need
+  rule_moved m' c =
+      (only_if (is_quiet p m) (is_quiet p m'), QuietBroken)
+      ∷ (awaits (gives_of p m') (register sh c), RegisterKind)
+      ∷ (only_if (leaves p m') (leaves p m), LeaveNotAllowed)
+      ∷ (only_if (leaves p m') (none_owns sh.registers), OwnedAtLeave)
+      ∷ []
+
+-- the method that an instruction calls is one of the image
+abbrev pub HasCallee : Image → Instr → Type 0
+HasCallee p (Call target m' first c) = IsSome (method_at p m')
+HasCallee p _ = Unit {0}
+
+module _ (p : Image) (m : ℕ) (pc : ℕ) (sh : Shape) where
+  abbrev pub rule_call : Target → ℕ → ℕ → ℕ → List Need
+  rule_call target m' first c =
+      rule_target p m sh target (method_class p m') (is_construct (method_role p m')) first (length (arguments_of p m'))
+      ++ (rule_arguments p sh (arguments_of p m') first
+      ++ rule_moved p m (arguments_moved (arguments_of p m') first sh) m' c)
+
+  abbrev pub flow_call : Target → ℕ → ℕ → ℕ → List Flow
+  flow_call target m' first c = to_next pc (brought (gives_of p m') c (while_called target (method_class p m') (arguments_moved (arguments_of p m') first sh)))
+
+-- ---- returns
+
+abbrev pub is_destruct : Option Role → Bool
+is_destruct (Some Destruct) = true
+is_destruct _ = false
+
+abbrev pub is_destructor : Image → ℕ → Bool
+is_destructor p m = is_destruct (method_role p m)
 
 -- the fields that a class declares are null
 abbrev pub all_empty : List Thing → List Filling → Bool

@@ -1,5 +1,5 @@
 -- Kinds of registers, fields and cleanup entries, and tests on them.
-use Rattle.std.specs.Prelude.{ℕ, Bool, true, false, ◌&&◌, List, [], ◌∷◌, Option, Some, None}
+use Rattle.std.specs.Prelude.{ℕ, Bool, true, false, not, ◌&&◌, List, [], ◌∷◌, Option, Some, None}
 use Rattle.aom_image.specs.declared.method.Thing.{Thing}
 use Rattle.aom_image.specs.declared.method.Thing.TheVariants.{Object, Message}
 use Rattle.aom_image.specs.Image.{Image}
@@ -108,6 +108,22 @@ is_ready_kind Word = true
 is_ready_kind Null = true
 is_ready_kind (Own t a) = is_ready a
 is_ready_kind (Maybe t a) = is_ready a
+
+-- an object that is fresh
+abbrev pub is_fresh_kind : Kind → Bool
+is_fresh_kind Unset = false
+is_fresh_kind Word = false
+is_fresh_kind Null = false
+is_fresh_kind (Own t a) = not (is_ready a)
+is_fresh_kind (Maybe t a) = false
+
+-- the same, ready where it is an object at all
+abbrev pub readied : Kind → Kind
+readied Unset = Unset
+readied Word = Word
+readied Null = Null
+readied (Own t a) = Own t Ready
+readied (Maybe t a) = Maybe t Ready
 
 abbrev pub none_owns : List Kind → Bool
 none_owns [] = true

@@ -1,18 +1,28 @@
 -- Needs: tests in the order in which they are looked at, each with the name of its failure.
-use Rattle.std.specs.Prelude.{ℕ, suc, Bool, true, cond, ◌≡◌, List, [], ◌∷◌, Result, Ok, Err}
+use Rattle.std.specs.Prelude.{ℕ, suc, Bool, true, false, cond, ◌≡◌, List, [], ◌∷◌, Result, Ok, Err}
 use Rattle.aom_shape.specs.Shape.{Shape}
 use Rattle.aom_shape.specs.declared.why.Why.{Why}
 
 abbrev pub Need : Type 0
 Need = Bool × Why
 
+-- a need that is asked only where the first holds
+abbrev pub only_if : Bool → Bool → Bool
+only_if true b = b
+only_if false b = true
+
 -- where a run may go on, and what is known there
 abbrev pub Flow : Type 0
 Flow = ℕ × Shape
 
-abbrev pub judged : List Need → List Flow → Result (List Flow) Why
-judged [] flows = Ok flows
-judged (need ∷ needs) flows = cond need.0 (judged needs flows) (Err need.1)
+-- the first need that is not met, or what there is where all are
+abbrev pub judged : {A : Type 0} → List Need → A → Result A Why
+judged [] value = Ok value
+judged (need ∷ needs) value = cond need.0 (judged needs value) (Err need.1)
+
+-- the first need that is not met
+abbrev pub tested : List Need → Result (Unit {0}) Why
+tested needs = judged needs tt
 
 abbrev pub AllTrue : {W : Type 0} → List (Bool × W) → Type 0
 AllTrue [] = Unit {0}

@@ -13,7 +13,8 @@ use Rattle.aom_shape.specs.declared.kind.Age.{Age}
 use Rattle.aom_shape.specs.declared.kind.Age.TheVariants.{Fresh, Ready}
 use Rattle.aom_shape.specs.declared.kind.Kind.{Kind}
 use Rattle.aom_shape.specs.declared.kind.Kind.TheVariants.{Unset, Word, Null, Own, Maybe}
-use Rattle.aom_shape.specs.declared.kind.Filling.TheVariants.{Empty}
+use Rattle.aom_shape.specs.declared.kind.Filling.{Filling}
+use Rattle.aom_shape.specs.declared.kind.Filling.TheVariants.{Empty, Full, Perhaps}
 use Rattle.aom_shape.specs.declared.why.Why.TheVariants.{RegisterKind, FieldNotNull, StillFresh, QuietBroken}
 
 -- the age of a new object
@@ -37,6 +38,14 @@ module _ (p : Image) (m : ℕ) (pc : ℕ) (sh : Shape) where
   flow_jump_null (Maybe t age) a to = (suc pc, set_register sh a (Own t age)) ∷ (to, set_register sh a Null) ∷ []
   flow_jump_null Unset a to = []
   flow_jump_null Word a to = []
+
+  abbrev pub rule_jump_empty : ℕ → List Need
+  rule_jump_empty f = (is_some (field_thing p (holder_of p m) f), RegisterKind) ∷ []
+
+  abbrev pub flow_jump_empty : Filling → ℕ → ℕ → List Flow
+  flow_jump_empty Empty f to = (to, sh) ∷ []
+  flow_jump_empty Full f to = (suc pc, sh) ∷ []
+  flow_jump_empty Perhaps f to = (suc pc, set_field sh f Full) ∷ (to, set_field sh f Empty) ∷ []
 
   abbrev pub rule_take : ℕ → ℕ → List Need
   rule_take a f = (is_some (field_thing p (holder_of p m) f), RegisterKind) ∷ (is_unowning (register sh a), RegisterKind) ∷ []

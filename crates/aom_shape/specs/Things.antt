@@ -1,7 +1,8 @@
 -- What a place may own, by what is declared.
 use Rattle.std.specs.Prelude.{ℕ, zero, suc, Bool, true, false, ◌==◌, Option, Some, None, option_map, slice_get}
 use Rattle.aom_image.specs.Image.{Image}
-use Rattle.aom_image.specs.Views.{fields_of, method_class, method_role}
+use Rattle.aom_image.specs.Views.{class_at, fields_of, method_class, method_role}
+use Rattle.aom_image.specs.declared.class.ClassDecl.{ClassDecl}
 use Rattle.aom_image.specs.declared.method.Role.{Role}
 use Rattle.aom_image.specs.declared.method.Role.TheVariants.{Main}
 use Rattle.aom_image.specs.declared.method.Thing.{Thing}
@@ -43,6 +44,20 @@ abbrev pub field_thing : Image → Holder → ℕ → Option Thing
 field_thing p Nobody f = None
 field_thing p Program f = root_thing p.header.root f
 field_thing p (Member c) f = slice_get (fields_of p c) f
+
+unfoldable pub words_in : Option ClassDecl → ℕ
+words_in None = 0
+words_in (Some c) = c.words
+
+-- how many words an object of a class has
+abbrev pub words_of : Image → ℕ → ℕ
+words_of p c = words_in (class_at p c)
+
+-- how many words a method works on
+abbrev pub word_count : Image → Holder → ℕ
+word_count p Nobody = 0
+word_count p Program = 0
+word_count p (Member c) = words_of p c
 
 abbrev pub holder_by : Option Role → Option ℕ → Holder
 holder_by (Some Main) c = Program

@@ -1,15 +1,258 @@
-//! The rules of returns and of stop.
-ghost use Rattle.std.specs.Prelude.{◌≡◌, [], suc, ◌<◌, ◌^◌, IsSome, Some};
-ghost use Rattle.aom_image.specs.Views.{gives_of, method_at};
-ghost use Rattle.aom_shape.specs.Calls.{is_destruct, is_destructor, fields_done, rule_result, result_moved, rule_return, flow_stop};
-ghost use Rattle.aom_shape.specs.Needs.{judged};
+//! The rules of calls, of returns and of stop.
+ghost use Rattle.std.specs.Prelude.{◌≡◌, ◌≤◌, ◌+◌, [], suc, ◌<◌, ◌^◌, IsSome, Some, length};
+ghost use Rattle.aom_image.specs.Views.{gives_of, leaves, method_at, method_class};
+ghost use Rattle.aom_shape.specs.Calls.{is_construct, stands_here, is_target, age_need, is_among, awaits, brought, fields_worked, while_called, arguments_moved, argument_needs, rule_arguments, rule_target, rule_moved, rule_call, flow_call, is_destruct, is_destructor, fields_done, rule_result, result_moved, rule_return, flow_stop};
+ghost use Rattle.aom_shape.specs.Needs.{judged, tested};
 ghost use Rattle.aom_shape.specs.Things.{holder_by, holder_of};
 
-use crate::flow::judge;
-use crate::things::{class_fields, is_own_for, may_be};
-use crate::{Flow, Kind, Shape, Why};
+use crate::flow::{judge, judge_all, only_if};
+use crate::objects::is_quiet;
+use crate::things::{class_fields, field_thing, is_own_for, may_be, stands_for};
+use crate::{Age, Filling, Flow, Kind, Shape, Why};
 use aom_classes::Linked;
-use aom_image::{ClassNumber, Gives, MethodNumber, Register, Role};
+use aom_image::{
+    Argument, ClassNumber, Gives, Method, MethodFlags, MethodNumber, Register, Role, Target, Thing,
+};
+use bitflags::Flags;
+
+/// A call, as its instruction says it.
+#[derive(Clone, Copy)]
+pub(crate) struct Call {
+    pub(crate) target: Target,
+    pub(crate) method: MethodNumber,
+    pub(crate) first: Register,
+    pub(crate) result: Register,
+}
+
+fn is_construct(role: Role) -> bool
+    ensures { result ≡ is_construct (Some role) }
+{
+    matches!(role, Role::Construct)
+}
+
+/// A method of the first class may call one of the second class on its own object, and any method a static one.
+fn stands_here(linked: &Linked, here: Option<ClassNumber>, class: Option<ClassNumber>) -> bool
+    ensures { result ≡ stands_here linked.now here class }
+{
+    match class {
+        None => true,
+        Some(class) => match here {
+            None => false,
+            Some(here) => stands_for(linked, Thing::Object(here), Thing::Object(class)),
+        },
+    }
+}
+
+/// It owns an object on which a method of that class works.
+fn is_target(linked: &Linked, class: Option<ClassNumber>, kind: &Kind) -> bool
+    ensures { result ≡ is_target linked.now class kind.now }
+{
+    match class {
+        None => false,
+        Some(class) => is_own_for(linked, Thing::Object(class), *kind),
+    }
+}
+
+/// A construct method works on a fresh object, another method on a ready one.
+fn age_need(constructs: bool, kind: &Kind) -> (bool, Why)
+    ensures { result ≡ age_need constructs kind.now }
+{
+    if constructs {
+        (kind.is_fresh(), Why::NotFresh)
+    } else {
+        (kind.is_ready(), Why::StillFresh)
+    }
+}
+
+/// The register is one of so many from the first on.
+fn is_among(first: Register, count: usize, register: Register) -> bool
+    ensures { result ≡ is_among first count register }
+{
+    let first = first.number() as usize;
+    let number = register.number() as usize;
+    first <= number && number - first < count
+}
+
+/// What is asked of what the method is called on.
+#[tactic(auto, using(crate::proofs::Views::class_there))]
+fn judge_target(
+    linked: &Linked,
+    method: MethodNumber,
+    shape: &Shape,
+    call: &Call,
+    callee: &Method,
+) -> Result<(), Why>
+    requires { IsSome (method_at linked.now method) }
+    ensures { result ≡ tested (rule_target linked.now method shape.now call.now.target callee.now.class (is_construct (Some callee.now.role)) call.now.first (length callee.now.arguments)) }
+{
+    let constructs = is_construct(callee.role);
+    match call.target {
+        Target::This => {
+            let here = linked.method(method).class;
+            let needs = [
+                (stands_here(linked, here, callee.class), Why::RegisterKind),
+                (!constructs, Why::NotFresh),
+            ];
+            judge_all(&needs)
+        }
+        Target::Register(register) => {
+            let kind = shape.register(register);
+            let age = age_need(constructs, &kind);
+            let is_argument = is_among(call.first, callee.arguments.len(), register);
+            let needs = [
+                (is_target(linked, callee.class, &kind), Why::RegisterKind),
+                (!is_argument, Why::RegisterKind),
+                age,
+            ];
+            judge_all(&needs)
+        }
+        Target::Field(field) => {
+            let kind = shape.field(field).kind(field_thing(linked, method, field));
+            let age = age_need(constructs, &kind);
+            let needs = [
+                (is_target(linked, callee.class, &kind), Why::RegisterKind),
+                age,
+            ];
+            judge_all(&needs)
+        }
+        Target::Entry(_) => Err(Why::PopEmpty),
+    }
+}
+
+fn judge_argument(linked: &Linked, argument: Argument, kind: &Kind) -> Result<(), Why>
+    ensures { result ≡ tested (argument_needs linked.now argument kind.now) }
+{
+    match argument {
+        Argument::Word => {
+            let needs = [(kind.is_word(), Why::RegisterKind)];
+            judge_all(&needs)
+        }
+        Argument::Own(thing) => {
+            let needs = [
+                (is_own_for(linked, thing, *kind), Why::RegisterKind),
+                (kind.is_ready(), Why::StillFresh),
+            ];
+            judge_all(&needs)
+        }
+    }
+}
+
+/// What is asked of the arguments, which stand in the registers from the first on.
+fn judge_arguments(
+    linked: &Linked,
+    shape: &Shape,
+    arguments: &[Argument],
+    first: Register,
+) -> Result<(), Why>
+    ensures { result ≡ tested (rule_arguments linked.now shape.now arguments.now first) }
+{
+    let first = first.number() as usize;
+    if 16 - first < arguments.len() {
+        return Err(Why::RegisterKind);
+    }
+    for index in 0..arguments.len() {
+        judge_argument(linked, arguments[index], &shape.kind_at(first + index))?;
+    }
+    Ok(())
+}
+
+/// The result has a register to come to.
+fn awaits(gives: Gives, kind: Kind) -> bool
+    ensures { result ≡ awaits gives kind }
+{
+    match gives {
+        Gives::Nothing => true,
+        Gives::Word | Gives::Own(_) | Gives::Maybe(_) => kind.is_unowning(),
+        Gives::Left(_) => false,
+    }
+}
+
+#[tactic(auto, using(crate::proofs::Views::leaves_there))]
+fn leaves(linked: &Linked, method: MethodNumber) -> bool
+    requires { IsSome (method_at linked.now method) }
+    ensures { result ≡ leaves linked.now method }
+{
+    linked.method(method).flags.contains(MethodFlags::LEAVES)
+}
+
+/// What is asked once the arguments have moved.
+#[tactic(auto, using(crate::proofs::Views::gives_there))]
+fn judge_moved(linked: &Linked, method: MethodNumber, moved: &Shape, call: &Call) -> Result<(), Why>
+    requires method { IsSome (method_at linked.now method) }
+    requires callee { IsSome (method_at linked.now call.now.method) }
+    ensures { result ≡ tested (rule_moved linked.now method moved.now call.now.method call.now.result) }
+{
+    let gives = linked.method(call.method).gives;
+    let may_leave = leaves(linked, call.method);
+    let quiet = is_quiet(linked, method);
+    let needs = [
+        (
+            only_if(quiet, is_quiet(linked, call.method)),
+            Why::QuietBroken,
+        ),
+        (
+            awaits(gives, moved.register(call.result)),
+            Why::RegisterKind,
+        ),
+        (
+            only_if(may_leave, leaves(linked, method)),
+            Why::LeaveNotAllowed,
+        ),
+        (only_if(may_leave, moved.none_owns()), Why::OwnedAtLeave),
+    ];
+    judge_all(&needs)
+}
+
+/// The state while a call of a method of that class lasts.
+fn while_called(target: Target, class: Option<ClassNumber>, shape: &Shape) -> Shape
+    ensures { result ≡ while_called target class shape.now }
+{
+    match target {
+        Target::This => match class {
+            None => *shape,
+            Some(_) => shape.with_fields_unknown(),
+        },
+        Target::Register(register) => {
+            shape.with_register(register, shape.register(register).readied())
+        }
+        Target::Field(_) | Target::Entry(_) => *shape,
+    }
+}
+
+/// The state with the result.
+fn brought(gives: Gives, c: Register, shape: &Shape) -> Shape
+    ensures { result ≡ brought gives c shape.now }
+{
+    match gives {
+        Gives::Nothing | Gives::Left(_) => *shape,
+        Gives::Word => shape.with_register(c, Kind::Word),
+        Gives::Own(thing) => shape.with_register(c, Kind::Own(thing, Age::Ready)),
+        Gives::Maybe(thing) => shape.with_register(c, Kind::Maybe(thing, Age::Ready)),
+    }
+}
+
+pub(crate) fn rule_call(
+    linked: &Linked,
+    method: MethodNumber,
+    place: usize,
+    shape: &Shape,
+    call: &Call,
+) -> Result<Flow, Why>
+    requires method { IsSome (method_at linked.now method) }
+    requires callee { IsSome (method_at linked.now call.now.method) }
+    requires place { suc place < 2 ^ 64 }
+    ensures { result ≡ judged (rule_call linked.now method place shape.now call.now.target call.now.method call.now.first call.now.result) (flow_call linked.now method place shape.now call.now.target call.now.method call.now.first call.now.result) }
+{
+    let callee = linked.method(call.method);
+    let arguments = callee.arguments.as_slice();
+    judge_target(linked, method, shape, call, callee)?;
+    judge_arguments(linked, shape, arguments, call.first)?;
+    let moved = shape.without_arguments(arguments, call.first);
+    judge_moved(linked, method, &moved, call)?;
+    let lasting = while_called(call.target, callee.class, &moved);
+    let after = brought(callee.gives, call.result, &lasting);
+    Ok(Flow::to_next(place, after))
+}
 
 /// Whether the fields may be left as they are, by the role and the class of the method: a destructor leaves them null.
 fn done_by(linked: &Linked, role: Role, class: Option<ClassNumber>, shape: &Shape) -> bool

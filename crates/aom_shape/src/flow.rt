@@ -1,6 +1,6 @@
 //! Where a run may go on.
 ghost use Rattle.std.specs.Prelude.{◌≡◌, [], ◌∷◌, suc, ◌<◌, ◌^◌};
-ghost use Rattle.aom_shape.specs.Needs.{judged, to_next};
+ghost use Rattle.aom_shape.specs.Needs.{judged, only_if, tested, to_next};
 
 use crate::{Shape, Why};
 use std::marker::Model;
@@ -67,14 +67,29 @@ impl Flow {
     }
 }
 
-/// The first need that is not met, or the flow.
-pub(crate) fn judge(needs: &[(bool, Why)], flow: Flow) -> Result<Flow, Why>
-    ensures { result ≡ judged needs.now flow }
+/// A need that is asked only where the first holds.
+pub(crate) fn only_if(asked: bool, holds: bool) -> bool
+    ensures { result ≡ only_if asked holds }
+{
+    !asked || holds
+}
+
+/// The first need that is not met.
+pub(crate) fn judge_all(needs: &[(bool, Why)]) -> Result<(), Why>
+    ensures { result ≡ tested needs.now }
 {
     for (holds, why) in needs {
         if !*holds {
             return Err(*why);
         }
     }
+    Ok(())
+}
+
+/// The first need that is not met, or the flow.
+pub(crate) fn judge(needs: &[(bool, Why)], flow: Flow) -> Result<Flow, Why>
+    ensures { result ≡ judged needs.now flow }
+{
+    judge_all(needs)?;
     Ok(flow)
 }

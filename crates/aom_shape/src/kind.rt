@@ -1,6 +1,6 @@
 //! What is known of one place.
 ghost use Rattle.std.specs.Prelude.{◌≡◌};
-ghost use Rattle.aom_shape.specs.Kinds.{is_empty, is_ready, is_word, is_unowning, is_object_or_null, may_be_destroyed, is_ready_kind, filled, filling_of};
+ghost use Rattle.aom_shape.specs.Kinds.{is_empty, is_ready, is_word, is_unowning, is_object_or_null, may_be_destroyed, is_ready_kind, is_fresh_kind, readied, filled, filling_of};
 ghost use Rattle.aom_shape.specs.Tests.{same_age, is_unset, may_be_null, may_own, may_be_same, no_more, no_more_filling, meet_kind, apart, meet_filling};
 
 use crate::things::{is_object, same_thing};
@@ -92,6 +92,27 @@ impl Kind {
         match self {
             Kind::Unset | Kind::Word | Kind::Null => true,
             Kind::Own(_, age) | Kind::Maybe(_, age) => age.is_ready(),
+        }
+    }
+
+    /// It is an object that is fresh.
+    pub(crate) fn is_fresh(self) -> bool
+        ensures { result ≡ is_fresh_kind self }
+    {
+        match self {
+            Kind::Unset | Kind::Word | Kind::Null | Kind::Maybe(_, _) => false,
+            Kind::Own(_, age) => !age.is_ready(),
+        }
+    }
+
+    /// The same, ready where it is an object at all.
+    pub(crate) fn readied(self) -> Kind
+        ensures { result ≡ readied self }
+    {
+        match self {
+            Kind::Unset | Kind::Word | Kind::Null => self,
+            Kind::Own(thing, _) => Kind::Own(thing, Age::Ready),
+            Kind::Maybe(thing, _) => Kind::Maybe(thing, Age::Ready),
         }
     }
 

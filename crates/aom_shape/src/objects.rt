@@ -1,9 +1,9 @@
 //! The rules of instructions on objects.
 ghost use Rattle.std.specs.Prelude.{◌≡◌, suc, ◌<◌, ◌^◌, IsSome};
 ghost use Rattle.aom_image.specs.Views.{is_quiet, method_at};
-ghost use Rattle.aom_shape.specs.Kinds.{register};
+ghost use Rattle.aom_shape.specs.Kinds.{register, field};
 ghost use Rattle.aom_shape.specs.Needs.{judged};
-ghost use Rattle.aom_shape.specs.Objects.{new_age, rule_move, flow_move, rule_jump_null, flow_jump_null, rule_take, flow_take, rule_put, flow_put, rule_new, flow_new, rule_delete, flow_delete};
+ghost use Rattle.aom_shape.specs.Objects.{new_age, rule_move, flow_move, rule_jump_null, flow_jump_null, rule_jump_empty, flow_jump_empty, rule_take, flow_take, rule_put, flow_put, rule_new, flow_new, rule_delete, flow_delete};
 
 use crate::flow::judge;
 use crate::things::{field_thing, may_be_declared};
@@ -73,6 +73,47 @@ pub(crate) fn rule_jump_null(
     judge(&needs, flow_jump_null(linked, method, place, shape, a, to))
 }
 
+/// A flow that cannot be is left out.
+fn flow_jump_empty(
+    linked: &Linked,
+    method: MethodNumber,
+    place: usize,
+    shape: &Shape,
+    f: FieldIndex,
+    to: Place,
+) -> Flow
+    requires { suc place < 2 ^ 64 }
+    ensures { result ≡ flow_jump_empty linked.now method place shape.now (field shape.now f) f to }
+{
+    let to = to.number() as usize;
+    match shape.field(f) {
+        Filling::Empty => Flow::to(to, *shape),
+        Filling::Full => Flow::to_next(place, *shape),
+        Filling::Perhaps => {
+            let full = shape.with_field(f, Filling::Full);
+            let empty = shape.with_field(f, Filling::Empty);
+            Flow::to_either(place + 1, full, to, empty)
+        }
+    }
+}
+
+pub(crate) fn rule_jump_empty(
+    linked: &Linked,
+    method: MethodNumber,
+    place: usize,
+    shape: &Shape,
+    f: FieldIndex,
+    to: Place,
+) -> Result<Flow, Why>
+    requires method { IsSome (method_at linked.now method) }
+    requires place { suc place < 2 ^ 64 }
+    ensures { result ≡ judged (rule_jump_empty linked.now method place shape.now f) (flow_jump_empty linked.now method place shape.now (field shape.now f) f to) }
+{
+    let declared = field_thing(linked, method, f);
+    let needs = [(declared.is_some(), Why::RegisterKind)];
+    judge(&needs, flow_jump_empty(linked, method, place, shape, f, to))
+}
+
 pub(crate) fn rule_take(
     linked: &Linked,
     method: MethodNumber,
@@ -135,7 +176,7 @@ fn new_age(linked: &Linked, class: ClassNumber) -> Age
 
 /// The method may not make objects.
 #[tactic(auto, using(crate::proofs::Views::quiet_there))]
-fn is_quiet(linked: &Linked, method: MethodNumber) -> bool
+pub(crate) fn is_quiet(linked: &Linked, method: MethodNumber) -> bool
     requires { IsSome (method_at linked.now method) }
     ensures { result ≡ is_quiet linked.now method }
 {

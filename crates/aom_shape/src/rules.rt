@@ -1,8 +1,10 @@
 //! The rule of each instruction.
 ghost use Rattle.std.specs.Prelude.{◌≡◌, suc, ◌<◌, ◌^◌, IsSome, IfSome, Some};
 ghost use Rattle.aom_image.specs.Views.{instr_at, method_at};
+ghost use Rattle.aom_shape.specs.Calls.{HasCallee};
 ghost use Rattle.aom_shape.specs.Rules.{rule};
 
+use crate::calls::Call;
 use crate::{Flow, Shape, Why, calls, objects, words};
 use aom_classes::Linked;
 use aom_image::{Instr, MethodNumber};
@@ -13,7 +15,9 @@ fn instr_at(linked: &Linked, method: MethodNumber, place: usize) -> Instr
     ensures value { instr_at linked.now method place ≡ Some result }
     ensures method { IsSome (method_at linked.now method) }
     ensures place { suc place < 2 ^ 64 }
+    ensures callee { HasCallee linked.now result }
 {
+    let _formed = linked.image().methods();
     linked.method(method).code.as_slice()[place]
 }
 
@@ -25,16 +29,61 @@ pub fn rule(linked: &Linked, method: MethodNumber, place: usize, shape: &Shape) 
 {
     match instr_at(linked, method, place) {
         Instr::Const(a, _) => words::rule_const(place, shape, a),
+        Instr::Copy(a, b) => words::rule_copy(place, shape, a, b),
+        Instr::Add(a, b, c)
+        | Instr::Sub(a, b, c)
+        | Instr::Mul(a, b, c)
+        | Instr::And(a, b, c)
+        | Instr::Or(a, b, c)
+        | Instr::Xor(a, b, c) => words::rule_combine(place, shape, a, b, c),
         Instr::Jump(to) => words::rule_jump(place, shape, to),
-        Instr::JumpNull(a, to) => objects::rule_jump_null(linked, method, place, shape, a, to),
+        Instr::JumpEqual(a, b, to) | Instr::JumpLess(a, b, to) => words::rule_compare(
+            place, shape, a, b, to,
+        ),
+        Instr::Loop(_, _) => words::rule_loop(place, shape),
+        Instr::Next(_, to) => words::rule_next(place, shape, to),
         Instr::Print(a) => words::rule_print(place, shape, a),
+        Instr::Load(a, w) => words::rule_load(linked, method, place, shape, a, w),
+        Instr::Store(w, b) => words::rule_store(linked, method, place, shape, w, b),
         Instr::Move(a, b) => objects::rule_move(linked, method, place, shape, a, b),
+        Instr::JumpNull(a, to) => objects::rule_jump_null(linked, method, place, shape, a, to),
+        Instr::JumpEmpty(f, to) => objects::rule_jump_empty(linked, method, place, shape, f, to),
         Instr::Take(a, f) => objects::rule_take(linked, method, place, shape, a, f),
         Instr::Put(f, b) => objects::rule_put(linked, method, place, shape, f, b),
         Instr::New(a, class) => objects::rule_new(linked, method, place, shape, a, class),
         Instr::Delete(a) => objects::rule_delete(linked, method, place, shape, a),
+        Instr::Call(target, callee, first, result) => {
+            let call = Call {
+                target,
+                method: callee,
+                first,
+                result,
+            };
+            calls::rule_call(linked, method, place, shape, &call)
+        }
         Instr::Return(a) => calls::rule_return(linked, method, place, shape, a),
         Instr::Stop => calls::rule_stop(linked, method, place, shape),
-        _ => Err(Why::RegisterKind),
+        Instr::JumpActive(_)
+        | Instr::JumpAdded(_)
+        | Instr::NewOrLeave(_, _)
+        | Instr::Push(_)
+        | Instr::PushOperation(_, _)
+        | Instr::Pop(_)
+        | Instr::PopOperation
+        | Instr::PopDelete
+        | Instr::Trap(_, _, _, _)
+        | Instr::Leave(_)
+        | Instr::LeaveIf(_)
+        | Instr::Enlist(_)
+        | Instr::Issue(_, _)
+        | Instr::SetActive
+        | Instr::Cancel
+        | Instr::Abort
+        | Instr::Status(_)
+        | Instr::Connect(_)
+        | Instr::Ask(_, _, _)
+        | Instr::Close
+        | Instr::TakeMessage(_)
+        | Instr::Reply(_, _) => Err(Why::RegisterKind),
     }
 }

@@ -1,7 +1,7 @@
 //! Abstract states.
-ghost use Rattle.std.specs.Prelude.{◌≡◌, ◌≤◌, ℕ, IsSome, Some, [], length, map, replicate};
+ghost use Rattle.std.specs.Prelude.{◌≡◌, ◌≤◌, ◌<◌, ◌+◌, ℕ, IsSome, Some, [], length, map, replicate};
 ghost use Rattle.aom_image.specs.Views.{method_at};
-ghost use Rattle.aom_shape.specs.Calls.{all_empty};
+ghost use Rattle.aom_shape.specs.Calls.{all_empty, argument_moved, arguments_moved};
 ghost use Rattle.aom_shape.specs.Kinds.{register, field, set_register, set_field, none_owns, no_entry};
 ghost use Rattle.aom_shape.specs.Order.{SaysNoMore};
 ghost use Rattle.aom_shape.specs.Tables.{at};
@@ -48,7 +48,7 @@ impl Shape {
     pub fn register(&self, number: Register) -> Kind
         ensures { result ≡ register self.now number }
     {
-        self.registers[number.number() as usize]
+        self.kind_at(number.number() as usize)
     }
 
     pub fn field(&self, number: FieldIndex) -> Filling
@@ -57,12 +57,58 @@ impl Shape {
         self.fields[number.number() as usize]
     }
 
+    /// The kind of the register of that number.
+    pub(crate) fn kind_at(&self, index: usize) -> Kind
+        requires { index < 16 }
+        ensures { result ≡ register self.now index }
+    {
+        self.registers[index]
+    }
+
+    fn with_kind(mut self, index: usize, kind: Kind) -> Shape
+        requires { index < 16 }
+        ensures { result ≡ set_register self index kind }
+    {
+        self.registers[index] = kind;
+        self
+    }
+
     /// The same with another kind in a register.
-    pub fn with_register(mut self, number: Register, kind: Kind) -> Shape
+    pub fn with_register(self, number: Register, kind: Kind) -> Shape
         ensures { result ≡ set_register self number kind }
     {
-        let index = number.number() as usize;
-        self.registers[index] = kind;
+        self.with_kind(number.number() as usize, kind)
+    }
+
+    /// The same once that argument has left its register.
+    fn without_argument(self, argument: Argument, index: usize) -> Shape
+        requires { index < 16 }
+        ensures { result ≡ argument_moved argument index self }
+    {
+        match argument {
+            Argument::Word => self,
+            Argument::Own(_) => self.with_kind(index, Kind::Null),
+        }
+    }
+
+    /// The same once the arguments have left their registers, from that one on.
+    pub(crate) fn without_arguments(&self, arguments: &[Argument], first: Register) -> Shape
+        requires { first + length arguments.now ≤ 16 }
+        ensures { result ≡ arguments_moved arguments.now first self.now }
+    {
+        let first = first.number() as usize;
+        let mut left = *self;
+        for index in 0..arguments.len() {
+            left = left.without_argument(arguments[index], first + index);
+        }
+        left
+    }
+
+    /// The same with nothing known of the fields.
+    pub(crate) fn with_fields_unknown(mut self) -> Shape
+        ensures { result ≡ record self { fields = replicate 8 Perhaps } }
+    {
+        self.fields = [Filling::Perhaps; 8];
         self
     }
 

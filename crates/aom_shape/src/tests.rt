@@ -85,6 +85,38 @@ fn a_jump_leads_to_its_place(rt: HostRuntime) -> Result<(), Fail> {
 }
 
 #[test]
+fn a_loop_goes_back_or_on(rt: HostRuntime) -> Result<(), Fail> {
+    let Some(to) = Place::new(2) else {
+        return Err(Fail::from("no place"));
+    };
+    let Ok(flow) = words::rule_next(5, &Shape::unset(), to) else {
+        return Err(Fail::from("no flow"));
+    };
+    let [(back, _), (on, _)] = flow.as_slice() else {
+        return Err(Fail::from("not two ways"));
+    };
+    assert_eq!(rt; *back, 2);
+    assert_eq!(rt; *on, 6);
+    Ok(())
+}
+
+#[test]
+fn a_sum_of_words_is_a_word(rt: HostRuntime) -> Result<(), Fail> {
+    let (Some(third), Some(fourth)) = (Register::new(3), Register::new(4)) else {
+        return Err(Fail::from("no registers"));
+    };
+    let shape = with(third, Kind::Word);
+    let Ok(flow) = words::rule_combine(5, &shape, fourth, third, third) else {
+        return Err(Fail::from("no flow"));
+    };
+    for (_, after) in flow.as_slice() {
+        assert!(rt; matches!(after.register(fourth), Kind::Word));
+    }
+    assert!(rt; words::rule_combine(5, &shape, third, third, fourth).is_err());
+    Ok(())
+}
+
+#[test]
 fn numbers_go_from_1_to_21(rt: HostRuntime) -> Result<(), Fail> {
     assert_eq!(rt; Why::RegisterKind.number(), 1);
     assert_eq!(rt; Why::QuietBroken.number(), 21);

@@ -3,7 +3,7 @@ ghost use Rattle.std.specs.Prelude.{◌≡◌, IsSome, Some};
 ghost use Rattle.aom_image.specs.Views.{fields_of, method_at};
 ghost use Rattle.aom_shape.specs.Calls.{is_own_for};
 ghost use Rattle.aom_shape.specs.Kinds.{is_object, may_be, may_be_declared};
-ghost use Rattle.aom_shape.specs.Things.{same_thing, stands_for, root_thing, field_thing, holder_by, holder_of};
+ghost use Rattle.aom_shape.specs.Things.{same_thing, stands_for, root_thing, field_thing, holder_by, holder_of, words_of, word_count};
 
 use crate::Kind;
 use aom_classes::Linked;
@@ -121,4 +121,42 @@ pub(crate) fn field_thing(linked: &Linked, method: MethodNumber, field: FieldInd
 {
     let declared = linked.method(method);
     thing_by(linked, declared.role, declared.class, field)
+}
+
+/// How many words an object of a class has.
+fn class_words(linked: &Linked, class: ClassNumber) -> u8
+    ensures { result ≡ words_of linked.now class }
+{
+    match linked
+        .image()
+        .classes()
+        .as_slice()
+        .get(class.number() as usize)
+    {
+        None => 0,
+        Some(declared) => declared.words,
+    }
+}
+
+/// How many words a method works on, by its role and its class.
+fn words_by(linked: &Linked, role: Role, class: Option<ClassNumber>) -> u8
+    ensures { result ≡ word_count linked.now (holder_by (Some role) class) }
+{
+    match role {
+        Role::Main => 0,
+        _ => match class {
+            None => 0,
+            Some(class) => class_words(linked, class),
+        },
+    }
+}
+
+/// How many words the method works on.
+#[tactic(auto, using(crate::proofs::Views::holder_there))]
+pub(crate) fn word_count(linked: &Linked, method: MethodNumber) -> u8
+    requires { IsSome (method_at linked.now method) }
+    ensures { result ≡ word_count linked.now (holder_of linked.now method) }
+{
+    let declared = linked.method(method);
+    words_by(linked, declared.role, declared.class)
 }

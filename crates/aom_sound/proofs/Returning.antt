@@ -8,7 +8,7 @@ use Rattle.aom_image.specs.declared.instr.Instr.TheVariants.{Return}
 use Rattle.aom_image.specs.declared.method.Gives.{Gives}
 use Rattle.aom_image.specs.declared.method.Gives.TheVariants.{Left, Maybe as A_maybe, Nothing, Own as An_own, Word as A_word}
 use Rattle.aom_image.specs.declared.method.Thing.{Thing}
-use Rattle.aom_shape.specs.Calls.{is_own_for, result_moved, rule_result}
+use Rattle.aom_shape.specs.Calls.{brought, is_own_for, result_moved, rule_result}
 use Rattle.aom_shape.specs.Kinds.{is_object_or_null, is_ready_kind, is_unowning, is_word, may_be, no_entry, none_owns, register, set_register}
 use Rattle.aom_shape.specs.Needs.{AllTrue}
 use Rattle.aom_shape.specs.Order.{SaysNoMore, Weaker, alike, alike_filling, maybe_null, maybe_own}
@@ -28,7 +28,7 @@ use Rattle.aom_sound.specs.Claims.{Dispatching, Layer, Mark, Method, claim, decl
 use Rattle.aom_sound.specs.Objects.{is_thing}
 use Rattle.aom_sound.specs.Places.{Cell, Elsewhere, Entry, Field, Going, Object, Place, Register, Root, changed, held, moved, same_place}
 use Rattle.aom_sound.specs.State.{A_mark, Choice, Dispatch, Frame, Of_main, Run, State, next, set_word, word}
-use Rattle.aom_sound.specs.WellTyped.{Awaits, Back, Caught, EndsDispatch, Fits, Now, Returns, Stack, WellTyped, WordFits, brought, caught, past_going}
+use Rattle.aom_sound.specs.WellTyped.{Awaits, Back, Caught, EndsDispatch, Fits, Now, Returns, Stack, WellTyped, WordFits, caught, past_going}
 
 loosen : (p : Image) (t : Typing) (cs : List Cell) (fr : Frame) (sh : Shape) (ls : List Layer) (c : ℕ) (k v : Kind) → Weaker v k → Fitted p t cs fr (set_register sh c k) ls → Fitted p t cs fr (set_register sh c v) ls
 loosen p t cs fr sh ls c k v w g = record {

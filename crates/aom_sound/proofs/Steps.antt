@@ -1,6 +1,6 @@
 -- Every move from a well-typed state.
 use Rattle.std.proofs.Common.{Bool, List, None, Option, Some, [], ap, cond, false, refl, subst, sym, true, ℕ, ℤ, ◌==◌, ◌∙◌, ◌∷◌, ◌≡◌}
-use Rattle.std.proofs.lemmas.Bool.{eqb-true}
+use Rattle.std.proofs.lemmas.Bool.{eqb-true, false≢true}
 use Rattle.std.specs.Prelude.{is_none, is_some}
 use Rattle.aom_image.specs.Image.{Image}
 use Rattle.aom_image.specs.Views.{instr_at}
@@ -26,7 +26,7 @@ use Rattle.aom_sound.proofs.Returning.{law_return, law_return_caught, law_return
 use Rattle.aom_sound.proofs.Straight.{At, Fitted, Law, fitted, kind_fits, no_word, relabel, settle, stepped, top, well}
 use Rattle.aom_sound.specs.Claims.{Dispatching, Dying, Layer, Mark, Method, claim, declared, items_of, tasks_of}
 use Rattle.aom_sound.specs.Laws.{IsWired}
-use Rattle.aom_sound.specs.Moves.{closed, counted, does, needs, step, step_instr, step_task}
+use Rattle.aom_sound.specs.Moves.{closed, counted, does, has_move, needs, step, step_instr, step_task}
 use Rattle.aom_sound.specs.Objects.{jumped}
 use Rattle.aom_sound.specs.Places.{Elsewhere, Entry, Field, Going, Object, Place, Register, Root, held, named}
 use Rattle.aom_sound.specs.State.{Choice, Destroy, Dispatch, Dispatched, Frame, IsStuck, Need, Of_main, Run, State, Task, Trapped, guarded, home_holder, next, to_place, word}
@@ -98,19 +98,19 @@ module _ (p : Image) (t : Typing) (wired : IsWired p) (typed : IsTyped p t) (c :
   law_stop n leads = (tt, well p t c s fr sh ls at_hand (does p c fr (tasks_of ls) s Stop) (next fr) sh refl at_hand.items (settle p t s.cells (next fr) sh ls (stepped p t s.cells fr sh ls g) leads.0))
 
   -- each instruction by its law
-  law : (i : Instr) → ((a : ℕ) → Law p t c s fr sh ls at_hand (Return a)) → Law p t c s fr sh ls at_hand i
-  law (Const a w) back = law_const p t c s fr sh ls at_hand a w
-  law (Jump to) back = law_jump to
-  law (JumpNull a to) back = law_jump_null a to
-  law (Print a) back = law_print a
-  law (Move a b) back = law_move p t c s fr sh ls at_hand a b
-  law (Take a f) back = law_take p t c s fr sh ls at_hand a f
-  law (Put f b) back = law_put p t c s fr sh ls at_hand f b
-  law (New a x) back = law_new p t c s fr sh ls at_hand a x unused
-  law (Delete a) back = law_delete p t c s fr sh ls at_hand wired typed a
-  law (Return a) back = back a
-  law Stop back = law_stop
-  law _ back = λ n l. cc
+  law : (i : Instr) → has_move i ≡ true → ((a : ℕ) → Law p t c s fr sh ls at_hand (Return a)) → Law p t c s fr sh ls at_hand i
+  law (Const a w) known back = law_const p t c s fr sh ls at_hand a w
+  law (Jump to) known back = law_jump to
+  law (JumpNull a to) known back = law_jump_null a to
+  law (Print a) known back = law_print a
+  law (Move a b) known back = law_move p t c s fr sh ls at_hand a b
+  law (Take a f) known back = law_take p t c s fr sh ls at_hand a f
+  law (Put f b) known back = law_put p t c s fr sh ls at_hand f b
+  law (New a x) known back = law_new p t c s fr sh ls at_hand a x unused
+  law (Delete a) known back = law_delete p t c s fr sh ls at_hand wired typed a
+  law (Return a) known back = back a
+  law Stop known back = law_stop
+  law _ known back = absurd (false≢true known)
 
 -- a method returns to what stands below it
 returns : (p : Image) (t : Typing) (c : Choice) (s : State) (fr : Frame) (sh : Shape) (ls : List Layer) (at_hand : At p t s fr sh ls) (a : ℕ) → Law p t c s fr sh ls at_hand (Return a)
@@ -134,7 +134,7 @@ returns p t c s fr sh (Mark gv ∷ Dispatching w ∷ ls) h a = law_return_dispat
 pub instruction_keeps : (p : Image) (t : Typing) → IsWired p → IsTyped p t → (c : Choice) (s : State) (fr : Frame) (sh : Shape) (ls : List Layer) → At p t s fr sh ls → named s.cells c.name ≡ None → Keeps p t (step_instr p c fr (tasks_of ls) s (instr_at p fr.method fr.place))
 instruction_keeps p t wired typed c s fr sh ls at_hand unused =
     let x = typed.each fr.method fr.place sh at_hand.good.stack.0 in
-    let l = law p t wired typed c s fr sh ls at_hand unused x.instr (λ a. returns p t c s fr sh ls at_hand a) x.needs x.flows in
+    let l = law p t wired typed c s fr sh ls at_hand unused x.instr (wired.moves fr.method fr.place x.instr x.stands) (λ a. returns p t c s fr sh ls at_hand a) x.needs x.flows in
     subst (λ i. Keeps p t (step_instr p c fr (tasks_of ls) s i)) (sym x.stands) (kept p t (needs p c fr (tasks_of ls) s x.instr) (does p c fr (tasks_of ls) s x.instr) l.0 l.1)
 
 -- a dispatch ends

@@ -1,14 +1,16 @@
 -- What a linked image of the admitted kind gives the laws: main is as it must be, and there are no destructors, no fields and no root.
 use Rattle.std.proofs.Common.{List, None, Option, Some, [], ap, length, refl, sym, true, ℕ, ◌&&◌, ◌∙◌, ◌∷◌, ◌≡◌}
-use Rattle.std.proofs.lemmas.Bool.{eqb-true}
+use Rattle.std.proofs.lemmas.Bool.{eqb-true, false≢true}
 use Rattle.std.proofs.lemmas.Option.{slice_get-get_or}
-use Rattle.std.specs.Prelude.{IsSome, get_or, is_none, nat_eq, position, slice_get}
-use Rattle.aom_classes.specs.Admitted.{IsAdmitted, admits_class, gives_nothing, is_plain}
+use Rattle.std.specs.Prelude.{IsSome, IsTrue, get_or, is_none, nat_eq, position, slice_get}
+use Rattle.aom_classes.specs.Admitted.{IsAdmitted, admits_class, admits_instr, gives_nothing, is_plain}
 use Rattle.aom_classes.specs.Linked.{IsLinked}
 use Rattle.aom_classes.specs.Roles.{is_class, main_of, plays, role_number, role_of, same_role}
 use Rattle.aom_image.specs.Image.{Image}
 use Rattle.aom_image.specs.Views.{arguments_in, arguments_of, class_at, fields_in, gives_in, gives_of, method_at, method_role, role_in}
 use Rattle.aom_image.specs.declared.class.ClassDecl.{ClassDecl}
+use Rattle.aom_image.specs.declared.instr.Instr.{Instr}
+use Rattle.aom_image.specs.declared.instr.Instr.TheVariants.{Const, Jump, JumpNull, Print, New, Delete, Return, Stop}
 use Rattle.aom_image.specs.declared.method.Gives.{Gives}
 use Rattle.aom_image.specs.declared.method.Gives.TheVariants.{Left, Maybe as A_maybe, Nothing, Own as An_own, Word as A_word}
 use Rattle.aom_image.specs.declared.method.Method.{Method as Method_declared}
@@ -17,8 +19,9 @@ use Rattle.aom_image.specs.declared.method.Role.TheVariants.{Accept, Cancel as R
 use Rattle.aom_image.specs.declared.method.Thing.TheVariants.{Object as An_object_of}
 use Rattle.aom_shape.specs.Things.{Member, field_thing}
 use Rattle.aom_sound.specs.Laws.{IsWired}
+use Rattle.aom_sound.specs.Moves.{has_move}
 use Rattle.aom_classes.proofs.Each.{both}  -- keep
-use Rattle.aom_classes.proofs.Facts.{Bare, bare_of, admitted_method, admitted_class, main_is_there}  -- keep
+use Rattle.aom_classes.proofs.Facts.{Bare, bare_of, admitted_instr, admitted_method, admitted_class, main_is_there}  -- keep
 use Rattle.std.proofs.lemmas.List.Quantifiers.{position-Some}  -- keep
 
 some_method : (p : Image) (m : ℕ) → IsSome (method_at p m) → (d : Method_declared) × (method_at p m ≡ Some d)
@@ -55,6 +58,18 @@ empty_list (x ∷ xs) e = cc
 
 nothing_there : {A : Type 0} (f : ℕ) (y : A) → slice_get [] f ≡ Some y → ⊥
 nothing_there f y e = cc
+
+known : (i : Instr) → IsTrue (admits_instr i) → has_move i ≡ true
+unfolding admits_instr
+known (Const a w) h = refl
+known (Jump to) h = refl
+known (JumpNull a to) h = refl
+known (Print a) h = refl
+known (New a x) h = refl
+known (Delete a) h = refl
+known (Return a) h = refl
+known Stop h = refl
+known _ h = absurd (false≢true h)
 
 module _ (p : Image) (linked : IsLinked p) (admitted : IsAdmitted p) where
   bare : (m : ℕ) (d : Method_declared) → method_at p m ≡ Some d → Bare d
@@ -115,6 +130,7 @@ module _ (p : Image) (linked : IsLinked p) (admitted : IsAdmitted p) where
     destructor = λ c m e. absurd (no_role c m Destruct e);
     no_destructor = λ c e f. no_fields c f;
     ordered = λ c d f e. let clash : Some (An_object_of d) ≡ None = sym e ∙ no_fields c f in cc;
+    moves = λ m pc i e. known i (admitted_instr p m pc i admitted e);
   }
 
   rootless : p.header.root ≡ None

@@ -1,7 +1,8 @@
 -- The laws of the checked machine.
-use Rattle.std.specs.Prelude.{ℕ, false, ◌≡◌, ◌<◌, IsSome, List, [], ◌∷◌, Some, None}
+use Rattle.std.specs.Prelude.{ℕ, true, false, ◌≡◌, ◌<◌, IsSome, List, [], ◌∷◌, Some, None}
 use Rattle.aom_image.specs.Image.{Image}
-use Rattle.aom_image.specs.Views.{method_at, method_class, method_role, leaves, gives_of, arguments_of}
+use Rattle.aom_image.specs.Views.{instr_at, method_at, method_class, method_role, leaves, gives_of, arguments_of}
+use Rattle.aom_image.specs.declared.instr.Instr.{Instr}
 use Rattle.aom_image.specs.declared.method.Gives.TheVariants.{Nothing}
 use Rattle.aom_image.specs.declared.method.Role.TheVariants.{Main, Destruct}
 use Rattle.aom_image.specs.declared.method.Thing.TheVariants.{Object as An_object_of}
@@ -12,7 +13,7 @@ use Rattle.aom_shape.specs.Things.{Member, field_thing}
 use Rattle.aom_shape.specs.Typing.{Typing, IsTyped}
 use Rattle.aom_sound.specs.Places.{Elsewhere, Root, held, named}
 use Rattle.aom_sound.specs.State.{Dispatch, Frame, Task, Run, Destroy, Dispatched, State, Choice, Goes}
-use Rattle.aom_sound.specs.Moves.{step, IsOpen}
+use Rattle.aom_sound.specs.Moves.{has_move, step, IsOpen}
 use Rattle.aom_sound.specs.WellTyped.{WellTyped, Keeps}
 use Rattle.aom_sound.specs.Owned.{Owned}
 use Rattle.aom_sound.specs.World.{boot_state, IsBusy, Reaches}
@@ -27,6 +28,8 @@ pub record IsWired (p : Image) : Type 0 where
   pub no_destructor : (c : ℕ) → role_of p c Destruct ≡ None → (f : ℕ) → field_thing p (Member c) f ≡ None
   -- what a field may own has a lower class
   pub ordered : (c d f : ℕ) → field_thing p (Member c) f ≡ Some (An_object_of d) → d < c
+  -- each instruction has a move
+  pub moves : (m pc : ℕ) (i : Instr) → instr_at p m pc ≡ Some i → has_move i ≡ true
 
 -- the boot state is well typed
 abbrev pub BootKeeps : Type 0

@@ -8,7 +8,7 @@ use Rattle.aom_shape.specs.Things.{stands_for, field_thing, holder_of}
 use Rattle.aom_shape.specs.Shape.{Shape}
 use Rattle.aom_shape.specs.Kinds.{register, set_register, filled, is_unowning, is_ready_kind, none_owns}
 use Rattle.aom_shape.specs.Typing.{Typing, shape_at, Leads}
-use Rattle.aom_shape.specs.Calls.{is_destructor}
+use Rattle.aom_shape.specs.Calls.{brought, is_destructor}
 use Rattle.aom_shape.specs.declared.kind.Age.{Age}
 use Rattle.aom_shape.specs.declared.kind.Age.TheVariants.{Fresh, Ready}
 use Rattle.aom_shape.specs.declared.kind.Filling.TheVariants.{Perhaps}
@@ -59,15 +59,7 @@ pub record Frames (p : Image) (ls : List Layer) (fr : Frame) (sh : Shape) : Type
   pub holder : home_holder fr.home ≡ holder_of p fr.method
   pub height : fr.height ≡ length (items_of ls)
 
--- the abstract state after a return, from the one that holds while the call lasts
-abbrev pub brought : Gives → ℕ → Shape → Shape
-brought Nothing c sh = sh
-brought A_word c sh = set_register sh c Word
-brought (An_own t) c sh = set_register sh c (Own t Ready)
-brought (A_maybe t) c sh = set_register sh c (Maybe t Ready)
-brought (Left x) c sh = sh
-
--- the same after a trap: null where it left, and the code in the next register
+-- the abstract state after a trap, from the one that holds while the call lasts: null where it left, and the code in the next register
 abbrev pub caught : Gives → ℕ → Shape → Shape
 caught Nothing c sh = set_register sh (suc c) Word
 caught A_word c sh = set_register (set_register sh c Word) (suc c) Word

@@ -1,0 +1,88 @@
+//! The program: reads words and files, and hands their bytes on to the library.
+//!
+//! What is done with the bytes, what is written of it and with which status the program ends is said and proved there.
+//! Here is what a contract can say nothing of: the command line as the system gives it, files, and the two outputs.
+#![tactic(auto)]
+
+ghost use Rattle.aom_main.specs.Limits.{KeepsLimit};
+
+mod files;
+mod output;
+
+use crate::files::read_file;
+use crate::output::Output;
+use aom_main::{ExitStatus, Fault, Words, WordsFault, check_bytes, read_words, run_bytes, tell};
+use aom_run::{Sink, write_text};
+use std::process::ExitCode;
+use std::{env, io};
+
+fn main(rt: HostRuntime) -> ExitCode {
+    let mut out = Output::new(rt.stdout());
+    let mut errors = Output::new(rt.stderr());
+    let status = match given_words(&rt) {
+        Ok(words) => answer(&rt, words, &mut out, &mut errors),
+        Err(fault) => refuse(&rt, fault, &mut errors),
+    };
+    ExitCode::from(status.number())
+}
+
+/// The words that the system has handed over. One that is no text is no word of any command.
+fn given_words(rt: &HostRuntime) -> Result<Vec<String>, WordsFault> {
+    let alloc = rt.alloc();
+    match env::args(rt) {
+        Ok(words) => Ok(words.collect(alloc)?),
+        Err(error) if error.kind() == io::ErrorKind::OutOfMemory => Err(WordsFault::Memory),
+        Err(_) => Err(WordsFault::Text(String::from_str(alloc, "error: a word that is no text\n")?)),
+    }
+}
+
+/// Does what the words ask.
+fn answer<W: Sink, E: Sink>(
+    rt: &HostRuntime,
+    words: Vec<String>,
+    out: &mut W,
+    errors: &mut E,
+) -> ExitStatus {
+    match read_words(rt.alloc(), words) {
+        Ok(words) => match obey(rt, &words, out, errors) {
+            Ok(status) => status,
+            Err(fault) => tell(rt.alloc(), &fault, errors),
+        },
+        Err(fault) => refuse(rt, fault, errors),
+    }
+}
+
+/// Tells why the words are refused.
+fn refuse<E: Sink>(rt: &HostRuntime, fault: WordsFault, errors: &mut E) -> ExitStatus {
+    match fault {
+        WordsFault::Text(text) => {
+            write_text(errors, text.as_bytes());
+            ExitStatus::CallRefused
+        }
+        WordsFault::Native => tell(rt.alloc(), &Fault::Native, errors),
+        WordsFault::Memory => tell(rt.alloc(), &Fault::Memory, errors),
+    }
+}
+
+/// Reads the files and runs the command. All files are read before anything is looked at.
+fn obey<W: Sink, E: Sink>(
+    rt: &HostRuntime,
+    words: &Words,
+    out: &mut W,
+    errors: &mut E,
+) -> Result<ExitStatus, Fault>
+    requires limit { KeepsLimit words.now }
+{
+    let alloc = rt.alloc();
+    match words {
+        Words::Check { image } => {
+            let image = read_file(rt, image)?;
+            Ok(check_bytes(alloc, &image, out, errors))
+        }
+        Words::Run { image, script, limit } => {
+            let image = read_file(rt, image)?;
+            let script = read_file(rt, script)?;
+            Ok(run_bytes(alloc, &image, &script, *limit, out, errors))
+        }
+    }
+}

@@ -1,0 +1,329 @@
+-- That going over a method's code with the open loops in hand finds out whether its loops nest.
+use Rattle.std.proofs.Common.{◌≡◌, ◌<◌, ◌≤◌, ◌+◌, ◌∙◌, ℕ, zero, suc, Bool, true, false, List, [], ◌∷◌, ◌++◌, length, take, Option, Some, None, IfSome, slice_get, inl, inr, ⊎_elim, refl, sym, ap, arith, subst}
+use Rattle.std.specs.Prelude.{◌⊎◌}
+use Rattle.std.specs.List.{count_by}
+use Rattle.std.proofs.lemmas.Bool.{cases_lt}
+use Rattle.std.proofs.lemmas.List.Sums.{count_by_more_yes, count_by_more_no}
+use Rattle.std.proofs.lemmas.Option.{slice_get_within, get_or_from_slice_get, slice_get_cases}
+use Rattle.std.proofs.lemmas.List.{length-append}
+use Rattle.aom_image.specs.declared.instr.Instr.{Instr}
+use Rattle.aom_image.specs.declared.instr.Instr.TheVariants.{Loop, Next}
+use Rattle.aom_classes.specs.Loops.{loop_in, loop_at, Ending, next_in, next_at, Closes, ClosedOnce, ClosesSome, ApartOrWithin, is_loop, is_next, begun, ended, LoopsNest}
+use Rattle.aom_classes.specs.Scanning.{Enters, Leaves, Passes}
+
+-- ---- lists
+
+at_or_before : (p i : ℕ) → p < i + 1 → (p < i) ⊎ (p ≡ i)
+at_or_before p i h = ⊎_elim (λ lt. inl lt) (λ ge. inr (omega arith)) (cases_lt p i)
+
+-- a place of a list with one more element
+last_get : (xs : List ℕ) (x k p : ℕ) → slice_get (xs ++ x ∷ []) k ≡ Some p → (slice_get xs k ≡ Some p) ⊎ ((k ≡ length xs) × (p ≡ x))
+last_get [] x zero p e = inr (refl, cc)
+last_get [] x (suc k) p e = absurd (cc)
+last_get (y ∷ xs) x zero p e = inl e
+last_get (y ∷ xs) x (suc k) p e = ⊎_elim (λ h. inl h) (λ h. inr (ap suc h.0, h.1)) (last_get xs x k p e)
+
+keep_get : (xs : List ℕ) (x k p : ℕ) → slice_get xs k ≡ Some p → slice_get (xs ++ x ∷ []) k ≡ Some p
+keep_get [] x k p e = absurd (cc)
+keep_get (y ∷ xs) x zero p e = e
+keep_get (y ∷ xs) x (suc k) p e = keep_get xs x k p e
+
+at_last : (xs : List ℕ) (x : ℕ) → slice_get (xs ++ x ∷ []) (length xs) ≡ Some x
+at_last [] x = refl
+at_last (y ∷ xs) x = at_last xs x
+
+-- a list ends with its last element
+ends_with : (xs : List ℕ) (d p : ℕ) → slice_get xs d ≡ Some p → length xs ≡ suc d → (ys : List ℕ) × (xs ≡ ys ++ p ∷ []) × (length ys ≡ d)
+ends_with [] d p e n = absurd (cc)
+ends_with (x ∷ []) zero p e n = ([], (cc), refl)
+ends_with (x ∷ (y ∷ xs)) zero p e n = absurd (omega (arith, n))
+ends_with (x ∷ xs) (suc d) p e n =
+    let r = ends_with xs d p e (omega (arith, n)) in
+    (x ∷ r.0, ap (λ (l : List ℕ). x ∷ l) r.1, ap suc r.2)
+
+-- ---- the state of the scan
+
+-- closed by one next before a place
+pub record ClosedBefore (code : List Instr) (i d p : ℕ) : Type 0 where
+  pub place : ℕ
+  pub below : place < i
+  pub closes : Closes code d p place
+  pub only : (q : ℕ) → q < i → Closes code d p q → q ≡ place
+
+-- the loops before a place are as they must be, and these are open
+pub record Scanned (code : List Instr) (i : ℕ) (open_loops : List ℕ) : Type 0 where
+  pub opens : (k p : ℕ) → slice_get open_loops k ≡ Some p → (p < i) × (loop_at code p ≡ Some k)
+  pub rising : (j k p r : ℕ) → slice_get open_loops j ≡ Some p → slice_get open_loops k ≡ Some r → j < k → p < r
+  pub unclosed : (k d p q : ℕ) → slice_get open_loops k ≡ Some p → Closes code d p q → i ≤ q
+  pub loops : (p d : ℕ) → p < i → loop_at code p ≡ Some d → (slice_get open_loops d ≡ Some p) ⊎ ClosedBefore code i d p
+  pub closing : (q : ℕ) (e : Ending) → q < i → next_at code q ≡ Some e → ClosesSome code e.number q
+  pub apart : (c d p q r s : ℕ) → Closes code c p q → Closes code d r s → q < i → s < i → p < r → ApartOrWithin q r s
+  pub before : (k c p q r : ℕ) → slice_get open_loops k ≡ Some r → Closes code c p q → q < i → p < r → q < r
+  pub number : (p d : ℕ) → p < i → loop_at code p ≡ Some d → d + ended code p ≡ begun code p
+  pub count : length open_loops + ended code i ≡ begun code i
+
+-- ---- one step
+
+-- a place without a next closes nothing
+earlier : (code : List Instr) (i d p q : ℕ) → next_at code i ≡ None → Closes code d p q → q < i + 1 → q < i
+earlier code i d p q none c h = ⊎_elim (λ lt. lt) (λ e. let f = c.ends in absurd (cc)) (at_or_before q i h)
+
+later : (code : List Instr) (i d p q : ℕ) → next_at code i ≡ None → Closes code d p q → i ≤ q → i + 1 ≤ q
+later code i d p q none c h = ⊎_elim (λ lt. let r = earlier code i d p q none c lt in omega arith) (λ ge. ge) (cases_lt q (i + 1))
+
+-- what was closed stays closed, where nothing else closes it
+still_closed : (code : List Instr) (i d p : ℕ) → next_at code i ≡ None → ClosedBefore code i d p → ClosedBefore code (i + 1) d p
+still_closed code i d p none b =
+    record { place = b.place; below = (let h = b.below in omega arith); closes = b.closes; only = λ q h c. b.only q (earlier code i d p q none c h) c }
+
+counted : (code : List Instr) (i : ℕ) (x : Instr) (test : Instr → Bool) → slice_get code i ≡ Some x → test x ≡ true → count_by test (take (i + 1) code) ≡ count_by test (take i code) + 1
+counted code i x test e t = count_by_more_yes test code i x (slice_get_within code i x e) (ap test (get_or_from_slice_get code i x x e) ∙ t)
+
+not_counted : (code : List Instr) (i : ℕ) (x : Instr) (test : Instr → Bool) → slice_get code i ≡ Some x → test x ≡ false → count_by test (take (i + 1) code) ≡ count_by test (take i code)
+not_counted code i x test e t = count_by_more_no test code i x (slice_get_within code i x e) (ap test (get_or_from_slice_get code i x x e) ∙ t)
+
+scanned_plain : (code : List Instr) (i : ℕ) (x : Instr) (s : List ℕ) → slice_get code i ≡ Some x → loop_at code i ≡ None → next_at code i ≡ None → is_loop x ≡ false → is_next x ≡ false → Scanned code i s → Scanned code (i + 1) s
+scanned_plain code i x s e no_loop no_next l n h = record {
+  opens = λ k p g. let o = h.opens k p g in (omega (arith, o.0), o.1);
+  rising = h.rising;
+  unclosed = λ k d p q g c. later code i d p q no_next c (h.unclosed k d p q g c);
+  loops = λ p d lt g. ⊎_elim
+    (λ (below : p < i). ⊎_elim (λ o. inl o) (λ b. inr (still_closed code i d p no_next b)) (h.loops p d below g))
+    (λ (same : p ≡ i). absurd (cc))
+    (at_or_before p i lt);
+  closing = λ q f lt g. ⊎_elim (λ (below : q < i). h.closing q f below g) (λ (same : q ≡ i). absurd (cc)) (at_or_before q i lt);
+  apart = λ c d p q r t one other lq lt. h.apart c d p q r t one other (earlier code i c p q no_next one lq) (earlier code i d r t no_next other lt);
+  before = λ k c p q r g one lq. h.before k c p q r g one (earlier code i c p q no_next one lq);
+  number = λ p d lt g. ⊎_elim (λ (below : p < i). h.number p d below g) (λ (same : p ≡ i). absurd (cc)) (at_or_before p i lt);
+  count = (let b = not_counted code i x is_loop e l in let f = not_counted code i x is_next e n in let c = h.count in omega arith);
+}
+
+scanned_enter : (code : List Instr) (i d : ℕ) (x : Instr) (s t : List ℕ) → slice_get code i ≡ Some x → loop_at code i ≡ Some d → next_at code i ≡ None → is_loop x ≡ true → is_next x ≡ false → Enters d i s t → Scanned code i s → Scanned code (i + 1) t
+scanned_enter code i d x s t e is no_next l n a h =
+    rw a.last (record {
+      opens = λ k p g. ⊎_elim
+        (λ (old : slice_get s k ≡ Some p). let o = h.opens k p old in (omega (arith, o.0), o.1))
+        (λ (new : (k ≡ length s) × (p ≡ i)). let w = new.0 in let v = new.1 in let u = a.number in (omega arith, ap (loop_at code) v ∙ (is ∙ ap (λ (m : ℕ). Some m) (u ∙ sym w))))
+        (last_get s i k p g);
+      rising = λ j k p r g f lt. ⊎_elim
+        (λ (old : slice_get s k ≡ Some r). ⊎_elim
+          (λ (one : slice_get s j ≡ Some p). h.rising j k p r one old lt)
+          (λ (new : (j ≡ length s) × (p ≡ i)). let w = slice_get_within s k r old in absurd (omega (arith, new.0, w, lt)))
+          (last_get s i j p g))
+        (λ (new : (k ≡ length s) × (r ≡ i)). ⊎_elim
+          (λ (one : slice_get s j ≡ Some p). let o = h.opens j p one in omega (arith, o.0, new.1))
+          (λ (other : (j ≡ length s) × (p ≡ i)). absurd (omega (arith, new.0, other.0, lt)))
+          (last_get s i j p g))
+        (last_get s i k r f);
+      unclosed = λ k c p q g one. ⊎_elim
+        (λ (old : slice_get s k ≡ Some p). later code i c p q no_next one (h.unclosed k c p q old one))
+        (λ (new : (k ≡ length s) × (p ≡ i)). let w = one.later in omega (arith, w, new.1))
+        (last_get s i k p g);
+      loops = λ p c lt g. ⊎_elim
+        (λ (below : p < i). ⊎_elim (λ o. inl (keep_get s i c p o)) (λ b. inr (still_closed code i c p no_next b)) (h.loops p c below g))
+        (λ (same : p ≡ i). inl (let u = a.number in let v : c ≡ length s = cc in rw (v, same) (at_last s i)))
+        (at_or_before p i lt);
+      closing = λ q f lt g. ⊎_elim (λ (below : q < i). h.closing q f below g) (λ (same : q ≡ i). absurd (cc)) (at_or_before q i lt);
+      apart = λ c d p q r t one other lq lt. h.apart c d p q r t one other (earlier code i c p q no_next one lq) (earlier code i d r t no_next other lt);
+      before = λ k c p q r g one lq lt. ⊎_elim
+        (λ (old : slice_get s k ≡ Some r). h.before k c p q r old one (earlier code i c p q no_next one lq) lt)
+        (λ (new : (k ≡ length s) × (r ≡ i)). let w = earlier code i c p q no_next one lq in omega (arith, w, new.1))
+        (last_get s i k r g);
+      number = λ p c lt g. ⊎_elim
+        (λ (below : p < i). h.number p c below g)
+        (λ (same : p ≡ i). let u = a.number in let v : c ≡ length s = cc in rw (v, same) h.count)
+        (at_or_before p i lt);
+      count = (let b = counted code i x is_loop e l in let f = not_counted code i x is_next e n in let c = h.count in let m = length-append s (i ∷ []) in omega arith);
+    })
+
+same_ending : (a b : Ending) → Some a ≡ Some b → a ≡ b
+same_ending a b e = cc
+
+-- a next closes the one loop that it goes back to
+same_start : (code : List Instr) (i d c p t : ℕ) → next_at code i ≡ Some (record { number = d; back = suc t }) → Closes code c p i → (p ≡ t) × (c ≡ d)
+same_start code i d c p t e one =
+    let g = same_ending _ _ (sym one.ends ∙ e) in
+    let b : suc p ≡ suc t = ap (λ (x : Ending). x.back) g in
+    (cc, ap (λ (x : Ending). x.number) g)
+
+scanned_leave : (code : List Instr) (i d t : ℕ) (x : Instr) (s r : List ℕ) → slice_get code i ≡ Some x → loop_at code i ≡ None → next_at code i ≡ Some (record { number = d; back = suc t }) → is_loop x ≡ false → is_next x ≡ true → s ≡ r ++ t ∷ [] → d ≡ length r → Scanned code i s → Scanned code (i + 1) r
+scanned_leave code i d t x s r e no_loop is l n last number h =
+    let top : slice_get s d ≡ Some t = rw (last, number) (at_last r t) in
+    let keep = λ (k p : ℕ) (g : slice_get r k ≡ Some p). let out : slice_get s k ≡ Some p = rw last (keep_get r t k p g) in out in
+    let under = λ (k p : ℕ) (g : slice_get r k ≡ Some p). let lt : k < d = rw number (slice_get_within r k p g) in h.rising k d p t (keep k p g) top lt in
+    let closes : Closes code d t i = record { begins = (h.opens d t top).1; later = (h.opens d t top).0; ends = is } in
+    record {
+      opens = λ k p g. let o = h.opens k p (keep k p g) in (omega (arith, o.0), o.1);
+      rising = λ j k p q g f. h.rising j k p q (keep j p g) (keep k q f);
+      unclosed = λ k c p q g one. ⊎_elim
+        (λ (lt : q < i + 1). let le = h.unclosed k c p q (keep k p g) one in let same : q ≡ i = omega arith in let w = same_start code i d c p t is (subst (λ (v : ℕ). Closes code c p v) same one) in let u = under k p g in absurd (omega (arith, u, w.0)))
+        (λ (ge : i + 1 ≤ q). ge)
+        (cases_lt q (i + 1));
+      loops = λ p c lt g. ⊎_elim
+        (λ (below : p < i). ⊎_elim
+          (λ (o : slice_get s c ≡ Some p). ⊎_elim
+            (λ (old : slice_get r c ≡ Some p). inl old)
+            (λ (new : (c ≡ length r) × (p ≡ t)).
+              let same : c ≡ d = new.0 ∙ sym number in
+              let it : Closes code c p i = rw (same, new.1) closes in
+              inr (record {
+                place = i;
+                below = omega arith;
+                closes = it;
+                only = λ q lq one. let le = h.unclosed c c p q o one in omega arith;
+              }))
+            (last_get r t c p (rw last at o)))
+          (λ (b : ClosedBefore code i c p). inr (record {
+            place = b.place;
+            below = (let w = b.below in omega arith);
+            closes = b.closes;
+            only = λ q lq one. ⊎_elim
+              (λ (lq : q < i). b.only q lq one)
+              (λ (same : q ≡ i).
+                let w = same_start code i d c p t is (subst (λ (v : ℕ). Closes code c p v) same one) in
+                let it = subst (λ (v : ℕ). Closes code c v b.place) w.0 b.closes in
+                let le = h.unclosed d c t b.place top it in
+                let lt = b.below in
+                absurd (omega arith))
+              (at_or_before q i lq);
+          }))
+          (h.loops p c below g))
+        (λ (same : p ≡ i). absurd (cc))
+        (at_or_before p i lt);
+      closing = λ q f lt g. ⊎_elim
+        (λ (below : q < i). h.closing q f below g)
+        (λ (same : q ≡ i).
+          let w : Some f ≡ Some (record { number = d; back = suc t }) = sym g ∙ (ap (next_at code) same ∙ is) in
+          let v : f ≡ record { number = d; back = suc t } = cc in
+          let u : f.number ≡ d = ap (λ (a : Ending). a.number) v in
+          rw (u, same) (record { place = t; closes = closes }))
+        (at_or_before q i lt);
+      apart = λ c b p q m z one other lq lz lt. ⊎_elim
+        (λ (q_below : q < i). ⊎_elim
+          (λ (z_below : z < i). h.apart c b p q m z one other q_below z_below lt)
+          (λ (same : z ≡ i).
+            let w = same_start code i d b m t is (subst (λ (v : ℕ). Closes code b m v) same other) in
+            let u = h.before d c p q t top one q_below (omega (arith, w.0, lt)) in
+            inl (omega (arith, u, w.0)))
+          (at_or_before z i lz))
+        (λ (same : q ≡ i). ⊎_elim
+          (λ (z_below : z < i). inr (omega (arith, z_below, same)))
+          (λ (also : z ≡ i).
+            let w = same_start code i d c p t is (subst (λ (v : ℕ). Closes code c p v) same one) in
+            let u = same_start code i d b m t is (subst (λ (v : ℕ). Closes code b m v) also other) in
+            absurd (omega (arith, w.0, u.0, lt)))
+          (at_or_before z i lz))
+        (at_or_before q i lq);
+      before = λ k c p q m g one lq lt. ⊎_elim
+        (λ (q_below : q < i). h.before k c p q m (keep k m g) one q_below lt)
+        (λ (same : q ≡ i).
+          let w = same_start code i d c p t is (subst (λ (v : ℕ). Closes code c p v) same one) in
+          let u = under k m g in
+          absurd (omega (arith, w.0, u, lt)))
+        (at_or_before q i lq);
+      number = λ p c lt g. ⊎_elim (λ (below : p < i). h.number p c below g) (λ (same : p ≡ i). absurd (cc)) (at_or_before p i lt);
+      count = (let b = not_counted code i x is_loop e l in let f = counted code i x is_next e n in let c = h.count in let m = length-append r (t ∷ []) in let k : length s ≡ length (r ++ t ∷ []) = ap length last in omega arith);
+    }
+
+-- an instruction that goes on as it must keeps the scan going
+pub scanned_more : (code : List Instr) (i : ℕ) (x : Instr) (s r : List ℕ) → slice_get code i ≡ Some x → Passes i x s r → Scanned code i s → Scanned code (i + 1) r
+unfolding loop_in next_in is_loop is_next
+scanned_more code i (Loop d n) s r e a h = scanned_enter code i d (Loop d n) s r e (ap loop_in e) (ap next_in e) refl refl a h
+scanned_more code i (Next d t) s r e a h = scanned_leave code i d a.start (Next d t) s r e (ap loop_in e) (ap next_in e ∙ ap (λ (b : ℕ). Some (record { number = d; back = b })) a.back) refl refl a.last a.number h
+scanned_more code i x s r e a h = rw a (scanned_plain code i x s e (ap loop_in e) (ap next_in e) refl refl h)
+
+pub scanned_none : (code : List Instr) → Scanned code 0 []
+scanned_none code = record {
+  opens = λ k p g. absurd (cc);
+  rising = λ j k p r g f lt. absurd (cc);
+  unclosed = λ k d p q g c. omega arith;
+  loops = λ p d lt g. absurd (omega arith);
+  closing = λ q e lt g. absurd (omega arith);
+  apart = λ c d p q r s one other lq ls lt. absurd (omega arith);
+  before = λ k c p q r g one lq lt. absurd (omega arith);
+  number = λ p d lt g. absurd (omega arith);
+  count = refl;
+}
+
+-- ---- from the definition
+
+loop_within : (code : List Instr) (p d : ℕ) → loop_at code p ≡ Some d → p < length code
+unfolding loop_in
+loop_within code p d e =
+    elim (slice_get code p) as (λ o. slice_get code p ≡ o → loop_in o ≡ Some d → p < length code) [
+      | None ↦ λ f g. absurd (cc)
+      | Some x ↦ λ f g. slice_get_within code p x f
+    ] refl e
+
+next_within : (code : List Instr) (q : ℕ) (e : Ending) → next_at code q ≡ Some e → q < length code
+unfolding next_in
+next_within code q e h =
+    elim (slice_get code q) as (λ o. slice_get code q ≡ o → next_in o ≡ Some e → q < length code) [
+      | None ↦ λ f g. absurd (cc)
+      | Some x ↦ λ f g. slice_get_within code q x f
+    ] refl h
+
+-- where loops nest, the innermost open loop is the one that a next closes
+closes_top : (code : List Instr) (i d t : ℕ) (s : List ℕ) → next_at code i ≡ Some (record { number = d; back = t }) → Scanned code i s → LoopsNest code → (r : List ℕ) × Leaves d t s r
+closes_top code i d t s is h nest =
+    let some : ClosesSome code d i = (let w = nest.closing i in rw is at w) in
+    let p = some.place in
+    let it : Closes code d p i = some.closes in
+    let below : p < i = it.later in
+    let one = nest.closed p d it.begins in
+    let open_here : slice_get s d ≡ Some p = ⊎_elim
+      (λ (o : slice_get s d ≡ Some p). o)
+      (λ (b : ClosedBefore code i d p). let u = one.only i it in let v = one.only b.place b.closes in let w = b.below in absurd (omega arith))
+      (h.loops p d below it.begins) in
+    let long : d < length s = slice_get_within s d p open_here in
+    let short : length s ≤ suc d = elim (slice_get_cases s (suc d)).1 as (λ _. length s ≤ suc d) [
+      | inl w ↦
+        let r = w.0 in
+        let up = h.rising d (suc d) p r open_here w.2 (omega arith) in
+        let under = h.opens (suc d) r w.2 in
+        let other = nest.closed r (suc d) under.1 in
+        let late = h.unclosed (suc d) (suc d) r other.place w.2 other.closes in
+        let apart = nest.nested d (suc d) p i r other.place it other.closes up in
+        ⊎_elim (λ (a : i < r). absurd (omega (arith, a, under.0))) (λ (a : other.place < i). absurd (omega (arith, a, late))) apart
+      | inr w ↦ w.0
+    ] in
+    let split = ends_with s d p open_here (omega arith) in
+    let back : t ≡ suc p = ap (λ (x : Ending). x.back) (same_ending (record { number = d; back = t }) (record { number = d; back = suc p }) (sym {a = next_at code i} is ∙ it.ends)) in
+    (split.0, record { start = p; last = split.1; back = back; number = sym split.2 })
+
+-- where loops nest, each instruction goes on as it must
+pub must_pass : (code : List Instr) (i : ℕ) (x : Instr) (s : List ℕ) → slice_get code i ≡ Some x → Scanned code i s → LoopsNest code → (r : List ℕ) × Passes i x s r
+unfolding loop_in next_in
+must_pass code i (Loop d n) s e h nest =
+    let w = nest.number i d (ap loop_in e) in
+    let c = h.count in
+    (s ++ i ∷ [], record { number = omega arith; last = refl })
+must_pass code i (Next d t) s e h nest = closes_top code i d t s (ap next_in e) h nest
+must_pass code i x s e h nest = (s, refl)
+
+-- where loops nest, none is open at the end
+pub none_open : (code : List Instr) (i : ℕ) (s : List ℕ) → length code ≤ i → Scanned code i s → LoopsNest code → length s ≡ 0
+none_open code i [] le h nest = refl
+none_open code i (p ∷ s) le h nest =
+    let o = h.opens 0 p refl in
+    let one = nest.closed p 0 o.1 in
+    let late = h.unclosed 0 0 p one.place refl one.closes in
+    let within = next_within code one.place _ one.closes.ends in
+    absurd (omega arith)
+
+-- what was gone over whole, with no loop open, nests
+pub nests : (code : List Instr) (i : ℕ) (s : List ℕ) → length code ≤ i → length s ≡ 0 → Scanned code i s → LoopsNest code
+unfolding next_in
+nests code i (p ∷ s) le none h = absurd (omega (arith, none))
+nests code i [] le none h = record {
+  closed = λ p d e. ⊎_elim
+    (λ (o : slice_get [] d ≡ Some p). absurd (cc))
+    (λ (b : ClosedBefore code i d p). record { place = b.place; closes = b.closes; only = λ q c. b.only q (let w = next_within code q _ c.ends in omega arith) c })
+    (h.loops p d (let w = loop_within code p d e in omega arith) e);
+  closing = λ q. elim (next_at code q) as (λ o. next_at code q ≡ o → IfSome o (λ e. ClosesSome code e.number q)) [
+    | None ↦ λ f. tt
+    | Some e ↦ λ f. h.closing q e (let w = next_within code q e f in omega arith) f
+  ] refl;
+  nested = λ c d p q r t one other lt. h.apart c d p q r t one other (let w = next_within code q _ one.ends in omega arith) (let w = next_within code t _ other.ends in omega arith) lt;
+  number = λ p d e. h.number p d (let w = loop_within code p d e in omega arith) e;
+}

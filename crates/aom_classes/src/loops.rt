@@ -1,0 +1,70 @@
+//! How the loops of a method lie.
+ghost use Rattle.std.specs.Prelude.{◌≡◌, ◌↔◌, ◌<◌, ◌≤◌, IsTrue, List, ℕ, length, slice_get, IfSome, false};
+ghost use Rattle.aom_classes.specs.Loops.{LoopsNest};
+ghost use Rattle.aom_classes.specs.Linked.{AllLoopsNest};
+ghost use Rattle.aom_classes.specs.Scanning.{Enters, Leaves, Passes};
+
+use aom_image::{Image, Instr, LoopDepth, Place};
+use arrayvec::ArrayVec;
+
+/// The loops around a place, each by its own place, the outermost first.
+type Around = ArrayVec<usize, 4>;
+
+fn enter(around: &mut Around, place: usize, number: LoopDepth) -> bool
+    ensures done { IsTrue result → Enters number place around.old.items around.new.items }
+    ensures refused { result ≡ false → (after : List ℕ) → ¬ Enters number place around.old.items after }
+{
+    if number.number() as usize != around.len() {
+        return false;
+    }
+    around.push(place);
+    true
+}
+
+fn leave(around: &mut Around, number: LoopDepth, back: Place) -> bool
+    ensures done { IsTrue result → Leaves number back around.old.items around.new.items }
+    ensures refused { result ≡ false → (after : List ℕ) → ¬ Leaves number back around.old.items after }
+{
+    match around.pop() {
+        Some(start) => {
+            let back = back.number() as usize;
+            start < back && back - start == 1 && number.number() as usize == around.len()
+        }
+        None => false,
+    }
+}
+
+fn pass(around: &mut Around, place: usize, instr: &Instr) -> bool
+    ensures done { IsTrue result → Passes place instr.now around.old.items around.new.items }
+    ensures refused { result ≡ false → (after : List ℕ) → ¬ Passes place instr.now around.old.items after }
+{
+    match *instr {
+        Instr::Loop(number, _) => enter(around, place, number),
+        Instr::Next(number, back) => leave(around, number, back),
+        _ => true,
+    }
+}
+
+fn loops_nest(code: &[Instr]) -> bool
+    ensures { IsTrue result ↔ LoopsNest code.now }
+{
+    let mut around: Around = ArrayVec::new();
+    for (place, instr) in code.iter().enumerate() {
+        if !pass(&mut around, place, instr) {
+            return false;
+        }
+    }
+    around.is_empty()
+}
+
+pub fn all_loops_nest(image: &Image) -> bool
+    ensures { IsTrue result ↔ AllLoopsNest image.now }
+{
+    let methods = image.methods();
+    for method in methods.as_slice() {
+        if !loops_nest(method.code.as_slice()) {
+            return false;
+        }
+    }
+    true
+}

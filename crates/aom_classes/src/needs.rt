@@ -1,0 +1,115 @@
+//! Which methods a class needs, and which it may have once.
+ghost use Rattle.std.specs.Prelude.{◌≡◌, ◌≤◌, ◌<◌, ◌↔◌, IsTrue, length, count_by};
+ghost use Rattle.aom_classes.specs.Roles.{plays, is_main};
+ghost use Rattle.aom_classes.specs.Needs.{Has, HasActive, KindNeeds, NeedsMet, EachNeedsMet, AllNeedsMet, AtMostOne, ClassSingle, EachSingle, RolesSingle};
+
+use crate::roles::{find_role, is_main, plays};
+use aom_image::{ClassDecl, ClassKind, ClassNumber, Image, Method, Role};
+
+/// The number of the class at an index.
+pub fn class_number(index: usize) -> ClassNumber
+    requires { index < 256 }
+    ensures { result ≡ index }
+{
+    ClassNumber::new(index as u16).unwrap()
+}
+
+#[tactic(auto, unfolding(crate::specs::Roles::role_of))]
+fn has_role(image: &Image, class: ClassNumber, role: Role) -> bool
+    ensures { IsTrue result ↔ Has image.now class role }
+{
+    find_role(image.methods().as_slice(), class, role).is_some()
+}
+
+fn has_active(image: &Image, class: ClassNumber) -> bool
+    ensures { IsTrue result ↔ HasActive image.now class }
+{
+    has_role(image, class, Role::Run)
+        && has_role(image, class, Role::Cancel)
+        && has_role(image, class, Role::Destruct)
+}
+
+fn meets_kind(image: &Image, class: ClassNumber, kind: ClassKind) -> bool
+    ensures { IsTrue result ↔ KindNeeds image.now class kind }
+{
+    match kind {
+        ClassKind::Plain => true,
+        ClassKind::Active { .. } => has_active(image, class),
+        ClassKind::Server { .. } => has_role(image, class, Role::Accept),
+        ClassKind::Session => has_role(image, class, Role::Service),
+    }
+}
+
+fn meets_needs(image: &Image, class: ClassNumber, decl: &ClassDecl) -> bool
+    ensures { IsTrue result ↔ NeedsMet image.now class decl.now }
+{
+    meets_kind(image, class, decl.kind)
+        && (decl.fields.is_empty() || has_role(image, class, Role::Destruct))
+}
+
+fn each_meets_needs(image: &Image, classes: &[ClassDecl]) -> bool
+    requires { length classes.now ≤ 256 }
+    ensures { IsTrue result ↔ EachNeedsMet image.now classes.now }
+{
+    for (class, decl) in classes.iter().enumerate() {
+        if !meets_needs(image, class_number(class), decl) {
+            return false;
+        }
+    }
+    true
+}
+
+/// Whether each class has the methods that it needs.
+pub fn needs_are_met(image: &Image) -> bool
+    ensures { IsTrue result ↔ AllNeedsMet image.now }
+{
+    each_meets_needs(image, image.classes().as_slice())
+}
+
+fn at_most_one(methods: &[Method], class: ClassNumber, role: Role) -> bool
+    ensures { IsTrue result ↔ AtMostOne methods.now class role }
+{
+    methods
+        .iter()
+        .filter(|method| plays(class, role, method))
+        .count()
+        <= 1
+}
+
+fn is_single(methods: &[Method], class: ClassNumber) -> bool
+    ensures { IsTrue result ↔ ClassSingle methods.now class }
+{
+    at_most_one(methods, class, Role::Construct)
+        && at_most_one(methods, class, Role::Destruct)
+        && at_most_one(methods, class, Role::Run)
+        && at_most_one(methods, class, Role::Cancel)
+        && at_most_one(methods, class, Role::Error)
+        && at_most_one(methods, class, Role::Accept)
+        && at_most_one(methods, class, Role::Service)
+}
+
+fn is_each_single(methods: &[Method], classes: &[ClassDecl]) -> bool
+    requires { length classes.now ≤ 256 }
+    ensures { IsTrue result ↔ EachSingle methods.now classes.now }
+{
+    for (class, _decl) in classes.iter().enumerate() {
+        if !is_single(methods, class_number(class)) {
+            return false;
+        }
+    }
+    true
+}
+
+fn has_one_main(methods: &[Method]) -> bool
+    ensures { IsTrue result ↔ (count_by is_main methods.now ≤ 1) }
+{
+    methods.iter().filter(|method| is_main(method)).count() <= 1
+}
+
+/// Whether no class has two methods of one role that it may have once, and there are no two mains.
+pub fn roles_are_single(image: &Image) -> bool
+    ensures { IsTrue result ↔ RolesSingle image.now }
+{
+    let methods = image.methods().as_slice();
+    is_each_single(methods, image.classes().as_slice()) && has_one_main(methods)
+}

@@ -1,0 +1,33 @@
+-- Which bytes are an accepted image, and why others are not.
+use Rattle.std.specs.Prelude.{ℕ, ◌≡◌, List, Some}
+use Rattle.aom_image.specs.Image.{Image}
+use Rattle.aom_image.specs.Spelling.{spell}
+use Rattle.aom_image.specs.WellFormed.{WellFormed}
+use Rattle.aom_image.specs.Format.{first_fault}
+use Rattle.aom_classes.specs.Admitted.{IsAdmitted}
+use Rattle.aom_classes.specs.Linked.{IsLinked}
+use Rattle.aom_classes.specs.Faults.{Refuses as RefusesLink}
+use Rattle.aom_shape.specs.Typing.{Typing, IsTyped}
+use Rattle.aom_verify.specs.Refusals.{Refuses as RefusesTyping}
+use Rattle.aom_main.specs.declared.faults.Fault.{Fault}
+use Rattle.aom_main.specs.declared.faults.Fault.TheVariants.{Load, Link, Verify, Memory}
+
+-- the bytes are the spelling of that well-formed image
+pub record IsSpelled (bytes : List ℕ) (p : Image) : Type 0 where
+  pub formed : WellFormed p
+  pub spelling : bytes ≡ spell p
+
+-- the image is admitted, keeps the link conditions, and has a typing
+pub record IsAcceptable (p : Image) : Type 0 where
+  pub admitted : IsAdmitted p
+  pub linked : IsLinked p
+  pub typing : Typing
+  pub typed : IsTyped p typing
+
+-- why the bytes are no accepted image: the first fault of the way from them to one
+abbrev pub Refuses : List ℕ → Fault → Type 0
+Refuses bytes (Load fault) = first_fault bytes ≡ Some fault
+Refuses bytes (Link fault) = (p : Image) × IsSpelled bytes p × RefusesLink p fault
+Refuses bytes (Verify refusal) = (p : Image) × IsSpelled bytes p × IsAdmitted p × IsLinked p × RefusesTyping p refusal
+Refuses bytes Memory = Unit {0}
+Refuses bytes _ = ⊥

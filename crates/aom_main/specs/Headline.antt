@@ -1,0 +1,130 @@
+-- What a call promises of its sinks and its status, from bytes to bytes.
+use Rattle.std.specs.Prelude.{ℕ, ◌≡◌, ◌⊎◌, Bool, true, false, List, Option, length, take, codes, Ok, Err}
+use Rattle.aom_image.specs.Image.{Image}
+use Rattle.aom_sound.specs.State.{State}
+use Rattle.aom_sound.specs.World.{Run_of}
+use Rattle.aom_sound.specs.Laws.{IsSound}
+use Rattle.aom_sound.specs.declared.line.Line.{Line}
+use Rattle.aom_sound.specs.declared.line.Ending.{Ending}
+use Rattle.aom_sound.specs.declared.line.Ending.TheVariants as endings
+use Rattle.aom_lines.specs.Text.{ended, transcript}
+use Rattle.aom_exec.specs.declared.progress.Outcome.{Outcome}
+use Rattle.aom_exec.specs.declared.progress.Outcome.TheVariants as outcomes
+use Rattle.aom_run.specs.Runs.{after, CutShort}
+use Rattle.aom_run.specs.Script.{Script, denoted}
+use Rattle.aom_run.specs.declared.fault.ScriptFault.{ScriptFault}
+use Rattle.aom_main.specs.declared.status.ExitStatus.{ExitStatus}
+use Rattle.aom_main.specs.declared.status.ExitStatus.TheVariants.{Done, ImageRefused, CallRefused, Unfinished, Fault as Faulty}
+use Rattle.aom_main.specs.declared.faults.Fault.{Fault}
+use Rattle.aom_main.specs.declared.faults.Fault.TheVariants as faults
+use Rattle.aom_main.specs.Status.{fault_line, status_of}
+use Rattle.aom_main.specs.Acceptable.{IsSpelled, IsAcceptable, Refuses}
+
+-- a sink over a call: what was out before it and what is out after it, where the sink tells, and whether it has failed then
+pub record Sent : Type 0 where
+  pub before : Option (List ℕ)
+  pub now : Option (List ℕ)
+  pub failed : Bool
+
+-- nothing went out
+abbrev pub IsSilent : Sent → Type 0
+IsSilent sent = sent.now ≡ sent.before
+
+-- a text went out, or a beginning of it where the sink has failed
+pub record Says (text : List ℕ) (sent : Sent) : Type 0 where
+  pub count : ℕ
+  pub part : sent.now ≡ after sent.before (take count text)
+  pub whole : sent.failed ≡ false → sent.now ≡ after sent.before text
+
+-- the line of a fault went out
+abbrev pub Tells : Fault → Sent → Type 0
+Tells fault sent = Says (ended (fault_line fault)) sent
+
+-- a fault is told with its status, or there is no memory for its line, which is then told
+abbrev pub Told : Fault → ExitStatus → Sent → Type 0
+Told fault status errors = ((status ≡ status_of fault) × Tells fault errors) ⊎ ((status ≡ Faulty) × Tells faults.Memory errors)
+
+-- the transcript of a run of the checked machine went out
+pub record Transcribed (p : Image) (refused : List ℕ) (ending : Ending) (sent : Sent) : Type 0 where
+  pub lines : List Line
+  pub last : State
+  pub run : Run_of p refused lines last ending
+  pub out : sent.now ≡ after sent.before (transcript lines ending (length last.cells))
+
+-- the sink has failed, and a beginning of such a transcript went out
+pub record Cut (p : Image) (refused : List ℕ) (sent : Sent) : Type 0 where
+  pub failed : sent.failed ≡ true
+  pub beginning : CutShort p refused sent.before sent.now
+
+-- what an outcome says of the transcript
+abbrev pub Shows : Image → List ℕ → Outcome → Sent → Type 0
+Shows p refused outcomes.Stopped out = Transcribed p refused endings.Stopped out
+Shows p refused outcomes.Waiting out = Transcribed p refused endings.Waiting out
+Shows p refused outcomes.WriteFault out = Cut p refused out
+
+-- the status of a run, and what the errors say of it
+abbrev pub Ends : Outcome → ExitStatus → Sent → Type 0
+Ends outcomes.Stopped status errors = (status ≡ Done) × IsSilent errors
+Ends outcomes.Waiting status errors = (status ≡ Unfinished) × IsSilent errors
+Ends outcomes.WriteFault status errors = Told faults.Write status errors
+
+-- the bytes are an accepted image
+pub record Accepts (bytes : List ℕ) : Type 0 where
+  pub image : Image
+  pub spelled : IsSpelled bytes image
+  pub acceptable : IsAcceptable image
+
+-- they are, and the text is a script; no run of that image under that script goes wrong
+pub record Runs (bytes text : List ℕ) : Type 0 where
+  pub image : Image
+  pub spelled : IsSpelled bytes image
+  pub acceptable : IsAcceptable image
+  pub script : Script
+  pub denotes : denoted text ≡ Ok script
+  pub sound : IsSound image script.refused
+
+-- the bytes are no accepted image, and the errors say why
+pub record IsRefused (bytes : List ℕ) (out errors : Sent) : Type 0 where
+  pub silent : IsSilent out
+  pub fault : Fault
+  pub refuses : Refuses bytes fault
+  pub none : (p : Image) → IsSpelled bytes p → IsAcceptable p → ⊥
+  pub status : status_of fault ≡ ImageRefused
+  pub tells : Tells fault errors
+
+-- the bytes are an accepted image, the text is no script, and the errors say why
+pub record IsNoScript (bytes text : List ℕ) (out errors : Sent) : Type 0 where
+  pub silent : IsSilent out
+  pub accepts : Accepts bytes
+  pub fault : ScriptFault
+  pub denotes : denoted text ≡ Err fault
+  pub tells : Tells (faults.Script fault) errors
+
+-- memory was wanting before anything went out, or the output failed
+pub data RunBreaks (bytes text : List ℕ) (out errors : Sent) : Type 0 where
+  wants_memory : IsSilent out → Tells faults.Memory errors → RunBreaks bytes text out errors
+  output_fails : (r : Runs bytes text) → Cut r.image r.script.refused out → Told faults.Write Faulty errors → RunBreaks bytes text out errors
+
+-- what each status says of a call of `run`
+abbrev pub RunAnswers : List ℕ → List ℕ → Sent → Sent → ExitStatus → Type 0
+RunAnswers bytes text out errors Done = (r : Runs bytes text) × Transcribed r.image r.script.refused endings.Stopped out × IsSilent errors
+RunAnswers bytes text out errors Unfinished = (r : Runs bytes text) × Transcribed r.image r.script.refused endings.Waiting out × IsSilent errors
+RunAnswers bytes text out errors ImageRefused = IsRefused bytes out errors
+RunAnswers bytes text out errors CallRefused = IsNoScript bytes text out errors
+RunAnswers bytes text out errors Faulty = RunBreaks bytes text out errors
+
+-- what `check` writes of an accepted image
+abbrev pub accepted_text : List ℕ
+accepted_text = ended (codes "accepted")
+
+-- memory was wanting before anything went out, or the output failed
+pub data CheckBreaks (bytes : List ℕ) (out errors : Sent) : Type 0 where
+  wants_memory : IsSilent out → Tells faults.Memory errors → CheckBreaks bytes out errors
+  output_fails : Accepts bytes → out.failed ≡ true → Says accepted_text out → Told faults.Write Faulty errors → CheckBreaks bytes out errors
+
+-- what each status says of a call of `check`
+abbrev pub CheckAnswers : List ℕ → Sent → Sent → ExitStatus → Type 0
+CheckAnswers bytes out errors Done = Accepts bytes × (out.now ≡ after out.before accepted_text) × IsSilent errors
+CheckAnswers bytes out errors ImageRefused = IsRefused bytes out errors
+CheckAnswers bytes out errors Faulty = CheckBreaks bytes out errors
+CheckAnswers bytes out errors _ = ⊥

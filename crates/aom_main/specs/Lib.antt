@@ -1,0 +1,4 @@
+pub mod Acceptable
+pub mod Headline
+pub mod Limits
+pub mod Status

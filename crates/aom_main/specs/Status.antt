@@ -1,0 +1,70 @@
+-- The exit statuses, and the line and the status of each fault.
+use Rattle.std.specs.Prelude.{ℕ, List, ◌++◌, codes}
+use Rattle.std.specs.Fmt.{decimal}
+use Rattle.aom_image.specs.Faults.{fault_number}
+use Rattle.aom_image.specs.declared.fault.LoadFault.{LoadFault}
+use Rattle.aom_image.specs.declared.fault.LoadFault.TheVariants as loads
+use Rattle.aom_classes.specs.Faults.{number_of}
+use Rattle.aom_classes.specs.declared.fault.LinkFault.{LinkFault}
+use Rattle.aom_classes.specs.declared.fault.LinkFault.TheVariants as links
+use Rattle.aom_verify.specs.Refusals.{line_of}
+use Rattle.aom_verify.specs.declared.refusal.Refusal.{Refusal}
+use Rattle.aom_verify.specs.declared.refusal.Refusal.TheVariants as refusals
+use Rattle.aom_run.specs.Faults.{fault_text}
+use Rattle.aom_run.specs.declared.fault.ScriptFault.{ScriptFault}
+use Rattle.aom_run.specs.declared.fault.ScriptFaultKind.{ScriptFaultKind}
+use Rattle.aom_run.specs.declared.fault.ScriptFaultKind.TheVariants as kinds
+use Rattle.aom_main.specs.declared.status.ExitStatus.{ExitStatus}
+use Rattle.aom_main.specs.declared.status.ExitStatus.TheVariants as statuses
+use Rattle.aom_main.specs.declared.faults.Fault.{Fault}
+use Rattle.aom_main.specs.declared.faults.Fault.TheVariants.{Load, Link, Verify, Script, Native, File, Write, Memory}
+
+-- the number that the system gets
+abbrev pub status_number : ExitStatus → ℕ
+status_number statuses.Done = 0
+status_number statuses.ImageRefused = 1
+status_number statuses.CallRefused = 2
+status_number statuses.Unfinished = 3
+status_number statuses.Fault = 5
+
+-- the line by which a fault is told, without its line feed
+abbrev pub fault_line : Fault → List ℕ
+fault_line (Load fault) = codes "load " ++ decimal (fault_number fault)
+fault_line (Link fault) = codes "link " ++ decimal (number_of fault)
+fault_line (Verify refusal) = line_of refusal
+fault_line (Script fault) = fault_text fault
+fault_line Native = codes "native"
+fault_line File = codes "file"
+fault_line Write = codes "write"
+fault_line Memory = codes "memory"
+
+-- the status that goes with it
+abbrev pub status_of : Fault → ExitStatus
+status_of (Load fault) = statuses.ImageRefused
+status_of (Link fault) = statuses.ImageRefused
+status_of (Verify refusal) = statuses.ImageRefused
+status_of (Script fault) = statuses.CallRefused
+status_of Native = statuses.CallRefused
+status_of File = statuses.Fault
+status_of Write = statuses.Fault
+status_of Memory = statuses.Fault
+
+-- want of memory is one fault, wherever it comes
+abbrev pub of_load : LoadFault → Fault
+of_load loads.OutOfMemory = Memory
+of_load fault = Load fault
+
+abbrev pub of_link : LinkFault → Fault
+of_link links.OutOfMemory = Memory
+of_link fault = Link fault
+
+abbrev pub of_refusal : Refusal → Fault
+of_refusal refusals.OutOfMemory = Memory
+of_refusal refusal = Verify refusal
+
+abbrev pub of_script_kind : ScriptFault → ScriptFaultKind → Fault
+of_script_kind fault kinds.OutOfMemory = Memory
+of_script_kind fault kind = Script fault
+
+abbrev pub of_script : ScriptFault → Fault
+of_script fault = of_script_kind fault fault.kind

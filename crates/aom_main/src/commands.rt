@@ -1,0 +1,108 @@
+//! The commands, over the bytes of files.
+ghost use Rattle.std.specs.Prelude.{ℕ, ◌≡◌, ◌≤◌, List, Ok};
+ghost use Rattle.aom_run.specs.Script.{denoted};
+ghost use Rattle.aom_main.specs.Acceptable.{IsSpelled};
+ghost use Rattle.aom_main.specs.Headline.{Accepts, Ends, RunAnswers, CheckAnswers};
+
+use crate::accepting::accept_bytes;
+use crate::running::run_accepted;
+use crate::{ExitStatus, Fault, tell};
+use aom_budget::Accepted;
+use aom_exec::Outcome;
+use aom_run::{Script, Sink, read_script, write_text};
+use std::alloc::Global;
+
+/// Runs an image under a script, and writes the transcript. The image is looked at before the script.
+pub fn run_bytes<W: Sink, E: Sink>(
+    alloc: Global,
+    image: &[u8],
+    script: &[u8],
+    limit: u32,
+    out: &mut W,
+    errors: &mut E,
+) -> ExitStatus
+    requires limit { (1 ≤ limit) × (limit ≤ 1000000000) }
+    ensures { RunAnswers image.now script.now (record { before = W.out out.old; now = W.out out.new; failed = W.failed out.new }) (record { before = E.out errors.old; now = E.out errors.new; failed = E.failed errors.new }) result }
+{
+    match accept_bytes(alloc, image) {
+        Ok(accepted) => run_text(alloc, &accepted, script, limit, out, errors),
+        Err(fault) => tell(alloc, &fault, errors),
+    }
+}
+
+/// Runs an accepted image under the script that a text is.
+fn run_text<W: Sink, E: Sink>(
+    alloc: Global,
+    accepted: &Accepted,
+    text: &[u8],
+    limit: u32,
+    out: &mut W,
+    errors: &mut E,
+) -> ExitStatus
+    requires limit { (1 ≤ limit) × (limit ≤ 1000000000) }
+    ensures { (bytes : List ℕ) → IsSpelled bytes accepted.now → RunAnswers bytes text.now (record { before = W.out out.old; now = W.out out.new; failed = W.failed out.new }) (record { before = E.out errors.old; now = E.out errors.new; failed = E.failed errors.new }) result }
+{
+    accepted.facts();
+    match read_script(alloc, text) {
+        Ok(script) => run_script(alloc, accepted, &script, limit, out, errors),
+        Err(fault) => tell(alloc, &Fault::from(fault), errors),
+    }
+}
+
+/// Runs an accepted image under a script.
+fn run_script<W: Sink, E: Sink>(
+    alloc: Global,
+    accepted: &Accepted,
+    script: &Script,
+    limit: u32,
+    out: &mut W,
+    errors: &mut E,
+) -> ExitStatus
+    requires limit { (1 ≤ limit) × (limit ≤ 1000000000) }
+    ensures { (bytes text : List ℕ) → IsSpelled bytes accepted.now → denoted text ≡ Ok script.now → RunAnswers bytes text (record { before = W.out out.old; now = W.out out.new; failed = W.failed out.new }) (record { before = E.out errors.old; now = E.out errors.new; failed = E.failed errors.new }) result }
+{
+    accepted.facts();
+    aom_sound::linked_is_wired();
+    aom_sound::typed_is_sound();
+    match run_accepted(alloc, accepted, script, limit, out) {
+        Ok(outcome) => end(alloc, outcome, errors),
+        Err(fault) => tell(alloc, &fault, errors),
+    }
+}
+
+/// The status of a run that ended so.
+fn end<E: Sink>(alloc: Global, outcome: Outcome, errors: &mut E) -> ExitStatus
+    ensures { Ends outcome result (record { before = E.out errors.old; now = E.out errors.new; failed = E.failed errors.new }) }
+{
+    match outcome {
+        Outcome::Stopped => ExitStatus::Done,
+        Outcome::Waiting => ExitStatus::Unfinished,
+        Outcome::WriteFault => tell(alloc, &Fault::Write, errors),
+    }
+}
+
+/// Tells whether an image is accepted.
+pub fn check_bytes<W: Sink, E: Sink>(
+    alloc: Global,
+    image: &[u8],
+    out: &mut W,
+    errors: &mut E,
+) -> ExitStatus
+    ensures { CheckAnswers image.now (record { before = W.out out.old; now = W.out out.new; failed = W.failed out.new }) (record { before = E.out errors.old; now = E.out errors.new; failed = E.failed errors.new }) result }
+{
+    match accept_bytes(alloc, image) {
+        Ok(_accepted) => say_accepted(alloc, out, errors),
+        Err(fault) => tell(alloc, &fault, errors),
+    }
+}
+
+/// Writes that an image is accepted.
+fn say_accepted<W: Sink, E: Sink>(alloc: Global, out: &mut W, errors: &mut E) -> ExitStatus
+    ensures { (bytes : List ℕ) → Accepts bytes → CheckAnswers bytes (record { before = W.out out.old; now = W.out out.new; failed = W.failed out.new }) (record { before = E.out errors.old; now = E.out errors.new; failed = E.failed errors.new }) result }
+{
+    write_text(out, b"accepted\n");
+    if out.has_failed() {
+        return tell(alloc, &Fault::Write, errors);
+    }
+    ExitStatus::Done
+}

@@ -1,0 +1,169 @@
+//! What a call is refused for, and how that is told.
+ghost use Rattle.std.specs.Prelude.{◌≡◌};
+ghost use Rattle.aom_main.specs.Status.{status_of};
+ghost use Rattle.aom_main.specs.Headline.{Told};
+
+use crate::ExitStatus;
+use aom_budget::BudgetFault;
+use aom_classes::LinkFault;
+use aom_exec::BootFault;
+use aom_image::LoadFault;
+use aom_run::{ScriptFault, ScriptFaultKind, Sink, write_text};
+use aom_verify::Refusal;
+use std::alloc::{AllocError, Global};
+use std::fmt;
+
+/// Why a call does not do what is asked. Each is told in one line.
+#[derive(Clone, Copy, PartialEq, Eq, Debug)]
+pub enum Fault {
+    Load(LoadFault),
+    Link(LinkFault),
+    Verify(Refusal),
+    Script(ScriptFault),
+    /// No native of that name.
+    Native,
+    /// A file that cannot be read.
+    File,
+    /// The output has failed.
+    Write,
+    Memory,
+}
+
+impl Fault {
+    /// The status of a call that ends so.
+    pub fn status(&self) -> ExitStatus
+        ensures { result ≡ status_of self.now }
+    {
+        match self {
+            Fault::Load(_) | Fault::Link(_) | Fault::Verify(_) => ExitStatus::ImageRefused,
+            Fault::Script(_) | Fault::Native => ExitStatus::CallRefused,
+            Fault::File | Fault::Write | Fault::Memory => ExitStatus::Fault,
+        }
+    }
+}
+
+/// The line, without its line feed.
+impl fmt::Display for Fault {
+    ghost use Rattle.std.specs.Prelude.{Some};
+    ghost use Rattle.aom_main.specs.Status.{fault_line};
+
+    ghost output = { λ f. Some (fault_line f) };
+
+    fn fmt<W: fmt::Write>(&self, f: &mut fmt::Formatter<W>) -> fmt::Result {
+        match self {
+            Fault::Load(fault) => write!(f, "{fault}"),
+            Fault::Link(fault) => {
+                let number = fault.number();
+                write!(f, "link {number}")
+            }
+            Fault::Verify(refusal) => write!(f, "{refusal}"),
+            Fault::Script(fault) => write!(f, "{fault}"),
+            Fault::Native => write!(f, "native"),
+            Fault::File => write!(f, "file"),
+            Fault::Write => write!(f, "write"),
+            Fault::Memory => write!(f, "memory"),
+        }
+    }
+}
+
+impl From<LoadFault> for Fault {
+    ghost use Rattle.std.specs.Prelude.{◌≡◌};
+    ghost use Rattle.aom_main.specs.Status.{of_load};
+
+    ghost from_gives = { λ e f. f ≡ of_load e };
+
+    fn from(fault: LoadFault) -> Fault {
+        match fault {
+            LoadFault::OutOfMemory => Fault::Memory,
+            _ => Fault::Load(fault),
+        }
+    }
+}
+
+impl From<LinkFault> for Fault {
+    ghost use Rattle.std.specs.Prelude.{◌≡◌};
+    ghost use Rattle.aom_main.specs.Status.{of_link};
+
+    ghost from_gives = { λ e f. f ≡ of_link e };
+
+    fn from(fault: LinkFault) -> Fault {
+        match fault {
+            LinkFault::OutOfMemory => Fault::Memory,
+            _ => Fault::Link(fault),
+        }
+    }
+}
+
+impl From<Refusal> for Fault {
+    ghost use Rattle.std.specs.Prelude.{◌≡◌};
+    ghost use Rattle.aom_main.specs.Status.{of_refusal};
+
+    ghost from_gives = { λ e f. f ≡ of_refusal e };
+
+    fn from(refusal: Refusal) -> Fault {
+        match refusal {
+            Refusal::OutOfMemory => Fault::Memory,
+            _ => Fault::Verify(refusal),
+        }
+    }
+}
+
+impl From<BudgetFault> for Fault {
+    fn from(fault: BudgetFault) -> Fault {
+        match fault {}
+    }
+}
+
+impl From<ScriptFault> for Fault {
+    ghost use Rattle.std.specs.Prelude.{◌≡◌};
+    ghost use Rattle.aom_main.specs.Status.{of_script};
+
+    ghost from_gives = { λ e f. f ≡ of_script e };
+
+    fn from(fault: ScriptFault) -> Fault {
+        match fault.kind {
+            ScriptFaultKind::OutOfMemory => Fault::Memory,
+            _ => Fault::Script(fault),
+        }
+    }
+}
+
+impl From<BootFault> for Fault {
+    ghost use Rattle.std.specs.Prelude.{◌≡◌};
+    ghost use Rattle.aom_main.specs.declared.faults.Fault.TheVariants.{Memory};
+
+    ghost from_gives = { λ _ f. f ≡ Memory };
+
+    fn from(fault: BootFault) -> Fault {
+        match fault {
+            BootFault::OutOfMemory => Fault::Memory,
+        }
+    }
+}
+
+impl From<AllocError> for Fault {
+    ghost use Rattle.std.specs.Prelude.{◌≡◌};
+    ghost use Rattle.aom_main.specs.declared.faults.Fault.TheVariants.{Memory};
+
+    ghost from_gives = { λ _ f. f ≡ Memory };
+
+    fn from(_error: AllocError) -> Fault {
+        Fault::Memory
+    }
+}
+
+/// Writes a fault's line, and answers its status. Where there is no memory for the line, it is that which is told.
+pub fn tell<E: Sink>(alloc: Global, fault: &Fault, errors: &mut E) -> ExitStatus
+    ensures { Told fault.now result (record { before = E.out errors.old; now = E.out errors.new; failed = E.failed errors.new }) }
+{
+    match format!(in alloc; "{fault}\n") {
+        Ok(line) => {
+            write_text(errors, line.as_bytes());
+            fault.status()
+        }
+        Err(_) => {
+            write_text(errors, b"memory\n");
+            ExitStatus::Fault
+        }
+    }
+}

@@ -1,0 +1,28 @@
+//! The run of an accepted image.
+ghost use Rattle.std.specs.Prelude.{◌≡◌, ◌≤◌, IfOk, IfErr};
+ghost use Rattle.aom_main.specs.Headline.{Shows};
+
+use crate::Fault;
+use aom_budget::Accepted;
+use aom_exec::{Machine, Outcome};
+use aom_lines::Turn;
+use aom_run::{Script, Sink, run};
+use std::alloc::Global;
+
+/// Boots a machine and runs it to its end. All memory is taken before anything is written.
+pub fn run_accepted<W: Sink>(
+    alloc: Global,
+    accepted: &Accepted,
+    script: &Script,
+    limit: u32,
+    out: &mut W,
+) -> Result<Outcome, Fault>
+    requires limit { (1 ≤ limit) × (limit ≤ 1000000000) }
+    ensures ok { IfOk result (λ outcome. Shows accepted.now script.now.refused outcome (record { before = W.out out.old; now = W.out out.new; failed = W.failed out.new })) }
+    ensures err { IfErr result (λ fault. (fault ≡ Fault.Memory) × (W.out out.new ≡ W.out out.old)) }
+{
+    let refused = Vec::from_slice(alloc, script.refused())?;
+    let mut turn = Turn::new(alloc, accepted, refused)?;
+    let mut machine = Machine::boot(alloc, accepted)?;
+    Ok(run(&mut machine, script, &mut turn, limit, out))
+}

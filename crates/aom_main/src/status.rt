@@ -1,0 +1,31 @@
+//! How the program ends.
+ghost use Rattle.std.specs.Prelude.{◌≡◌};
+ghost use Rattle.aom_main.specs.Status.{status_number};
+
+/// What the system is told as the program ends.
+#[derive(Clone, Copy, PartialEq, Eq, Debug)]
+pub enum ExitStatus {
+    /// An image is accepted, or a run has stopped.
+    Done,
+    ImageRefused,
+    /// The command line, a native's word or the script is refused.
+    CallRefused,
+    /// A run has ended before it stopped.
+    Unfinished,
+    /// A file, the output or the memory has failed.
+    Fault,
+}
+
+impl ExitStatus {
+    pub fn number(self) -> u8
+        ensures { result ≡ status_number self }
+    {
+        match self {
+            ExitStatus::Done => 0,
+            ExitStatus::ImageRefused => 1,
+            ExitStatus::CallRefused => 2,
+            ExitStatus::Unfinished => 3,
+            ExitStatus::Fault => 5,
+        }
+    }
+}

@@ -1,0 +1,293 @@
+use super::*;
+use aom_run::Sink;
+use std::alloc::Global;
+use std::test::Fail;
+
+/// A sink that takes so many bytes in all.
+#[derive(Drop)]
+struct Page {
+    text: Vec<u8>,
+    room: usize,
+    is_full: bool,
+}
+
+impl Sink for Page {
+    ghost use Rattle.std.specs.Prelude.{Some};
+
+    ghost out = { λ s. Some s.text.items };
+
+    ghost failed = { λ s. s.is_full };
+
+    fn put(&mut self, bytes: &[u8]) -> usize {
+        if self.is_full || bytes.is_empty() {
+            return 0;
+        }
+        let count = bytes.len().min(self.room);
+        if count == 0 || self.text.extend_from_slice(&bytes[..count]).is_err() {
+            self.is_full = true;
+            return 0;
+        }
+        self.room -= count;
+        count
+    }
+
+    fn has_failed(&self) -> bool {
+        self.is_full
+    }
+}
+
+fn page_of(alloc: Global, room: usize) -> Page {
+    Page {
+        text: Vec::new(alloc),
+        room,
+        is_full: false,
+    }
+}
+
+/// A main that prints 7 and stops.
+const FIRST: [u8; 80] = [
+    0x41, 0x4f, 0x49, 0x4d, 0, 1, 0, 0, 0, 1, 0, 1, 0, 0, 0, 0, 0xff, 0xff, 0, 0, 0, 0, 0, 4, //
+    0xff, 0xff, 1, 0, 0, 0, 0, 0, 0, 0, 0, 0, 0, 0, 0, 0, 0, 0, 0, 0, 0xff, 0xff, 0, 4, //
+    1, 0, 0, 0, 0, 0, 0, 7, 0x13, 0, 0, 0, 0, 0, 0, 0, 0x30, 0, 0, 0, 0, 0, 0, 0, 0x22, 0, 0, 0, 0,
+    0, 0, 0,
+];
+
+/// Makes a cell, then another in a full heap, and deletes what it got.
+const FULL_HEAP: [u8; 156] = [
+    0x41, 0x4f, 0x49, 0x4d, 0, 1, 0, 1, 0, 1, 0, 1, 0, 0, 0, 0, 0xff, 0xff, 0, 0, 0, 0, 0, 0x0c, 0,
+    0, 0, 0, 0, 0, 0xff, 0xff, 0, 0, 0, 0, 0, 0, 0, 0, 0, 0, 0, 0, 0, 0, 0, 0, 0, 0, 0, 0, 0xff,
+    0xff, 1, 0, 0, 0, 0, 0, 0, 0, 0, 0, 0, 0, 0, 0, 0, 0, 0, 0, 0xff, 0xff, 0, 0x0a, 0x18, 0, 0, 0,
+    0, 0, 0, 0, 0x18, 1, 0, 0, 0, 0, 0, 0, 1, 2, 0, 0, 0, 0, 0, 1, 0x0d, 1, 0, 0, 0, 0, 0, 5, 1, 2,
+    0, 0, 0, 0, 0, 2, 0x13, 2, 0, 0, 0, 0, 0, 0, 0x1a, 0, 0, 0, 0, 0, 0, 0, 0x1a, 1, 0, 0, 0, 0, 0,
+    0, 0x30, 0, 0, 0, 0, 0, 0, 0, 0x22, 0, 0, 0, 0, 0, 0, 0,
+];
+
+/// What a call answered and wrote.
+#[derive(Debug, PartialEq, Eq, Drop)]
+struct Answer {
+    status: ExitStatus,
+    out: Vec<u8>,
+    errors: Vec<u8>,
+}
+
+fn answer_of(alloc: Global, status: ExitStatus, out: &str, errors: &str) -> Result<Answer, Fail> {
+    Ok(Answer {
+        status,
+        out: Vec::from_slice(alloc, out.as_bytes())?,
+        errors: Vec::from_slice(alloc, errors.as_bytes())?,
+    })
+}
+
+/// Runs an image, with so much room for the output.
+fn runs(alloc: Global, image: &[u8], script: &[u8], room: usize) -> Answer {
+    let mut out = page_of(alloc, room);
+    let mut errors = page_of(alloc, 100);
+    let status = run_bytes(alloc, image, script, 1_000_000, &mut out, &mut errors);
+    Answer {
+        status,
+        out: out.text,
+        errors: errors.text,
+    }
+}
+
+/// Checks an image, with so much room for the output.
+fn checks(alloc: Global, image: &[u8], room: usize) -> Answer {
+    let mut out = page_of(alloc, room);
+    let mut errors = page_of(alloc, 100);
+    let status = check_bytes(alloc, image, &mut out, &mut errors);
+    Answer {
+        status,
+        out: out.text,
+        errors: errors.text,
+    }
+}
+
+/// The first image with another byte at a place.
+fn changed(alloc: Global, place: usize, byte: u8) -> Result<Vec<u8>, Fail> {
+    let mut bytes = Vec::from_slice(alloc, &FIRST)?;
+    if let Some(old) = bytes.get_mut(place) {
+        *old = byte;
+    }
+    Ok(bytes)
+}
+
+const FIRST_TEXT: &str = "@0 main\nout 7\nend stopped cells 0\n";
+
+#[test]
+fn the_first_image_is_accepted_and_runs(rt: HostRuntime) -> Result<(), Fail> {
+    let alloc = rt.alloc();
+    let accepted = answer_of(alloc, ExitStatus::Done, "accepted\n", "")?;
+    assert_eq!(rt; checks(alloc, &FIRST, 100), accepted);
+    let told = answer_of(alloc, ExitStatus::Done, FIRST_TEXT, "")?;
+    assert_eq!(rt; runs(alloc, &FIRST, b"", 100), told);
+    Ok(())
+}
+
+#[test]
+fn other_bytes_are_refused(rt: HostRuntime) -> Result<(), Fail> {
+    let alloc = rt.alloc();
+    let mut longer = Vec::from_slice(alloc, &FIRST)?;
+    longer.push(0)?;
+    let other_magic = changed(alloc, 0, 0x40)?;
+    let one_native = changed(alloc, 14, 1)?;
+    let unset_register = changed(alloc, 57, 2)?;
+    for (bytes, line) in [
+        (&FIRST[..79], "load 3\n"),
+        (longer.as_slice(), "load 4\n"),
+        (other_magic.as_slice(), "load 1\n"),
+        (one_native.as_slice(), "link 0\n"),
+        (unset_register.as_slice(), "verify 0 1 1\n"),
+    ] {
+        let refused = answer_of(alloc, ExitStatus::ImageRefused, "", line)?;
+        assert_eq!(rt; checks(alloc, bytes, 100), refused);
+        assert_eq!(rt; runs(alloc, bytes, b"x", 100), refused);
+    }
+    Ok(())
+}
+
+#[test]
+fn a_full_heap_gives_null(rt: HostRuntime) -> Result<(), Fail> {
+    let alloc = rt.alloc();
+    let text = "@0 main\nout 1\ngone 0\nend stopped cells 0\n";
+    let told = answer_of(alloc, ExitStatus::Done, text, "")?;
+    assert_eq!(rt; runs(alloc, &FULL_HEAP, b"\n", 100), told);
+    Ok(())
+}
+
+#[test]
+fn a_run_may_end_waiting(rt: HostRuntime) -> Result<(), Fail> {
+    let alloc = rt.alloc();
+    let prints_twice = changed(alloc, 64, 0x13)?;
+    let text = "@0 main\nout 7\nout 7\nend waiting cells 0\n";
+    let told = answer_of(alloc, ExitStatus::Unfinished, text, "")?;
+    assert_eq!(rt; runs(alloc, &prints_twice, b"", 100), told);
+    Ok(())
+}
+
+#[test]
+fn a_script_may_be_refused(rt: HostRuntime) -> Result<(), Fail> {
+    let alloc = rt.alloc();
+    for (script, line) in [
+        ("x".as_bytes(), "script 1 2\n"),
+        (b"\n\n \x01\n", "script 3 1\n"),
+    ] {
+        let refused = answer_of(alloc, ExitStatus::CallRefused, "", line)?;
+        assert_eq!(rt; runs(alloc, &FIRST, script, 100), refused);
+    }
+    Ok(())
+}
+
+#[test]
+fn the_output_may_fail(rt: HostRuntime) -> Result<(), Fail> {
+    let alloc = rt.alloc();
+    for (room, text) in [(0, ""), (10, "@0 main\nou"), (20, "@0 main\nout 7\nend st")] {
+        let cut = answer_of(alloc, ExitStatus::Fault, text, "write\n")?;
+        assert_eq!(rt; runs(alloc, &FIRST, b"", room), cut);
+    }
+    let cut = answer_of(alloc, ExitStatus::Fault, "accep", "write\n")?;
+    assert_eq!(rt; checks(alloc, &FIRST, 5), cut);
+    Ok(())
+}
+
+#[test]
+fn errors_that_fail_change_nothing_else(rt: HostRuntime) -> Result<(), Fail> {
+    let alloc = rt.alloc();
+    let mut out = page_of(alloc, 100);
+    let mut errors = page_of(alloc, 3);
+    let status = run_bytes(alloc, b"", b"", 1, &mut out, &mut errors);
+    assert_eq!(rt; status, ExitStatus::ImageRefused);
+    assert_eq!(rt; errors.text.as_slice(), b"loa".as_slice());
+    assert!(rt; out.text.is_empty());
+    Ok(())
+}
+
+#[test]
+fn each_fault_has_its_line_and_status(rt: HostRuntime) -> Result<(), Fail> {
+    let alloc = rt.alloc();
+    for (fault, line, number) in [
+        (Fault::Native, "native\n", 2),
+        (Fault::File, "file\n", 5),
+        (Fault::Write, "write\n", 5),
+        (Fault::Memory, "memory\n", 5),
+    ] {
+        let mut errors = page_of(alloc, 100);
+        let status = tell(alloc, &fault, &mut errors);
+        assert_eq!(rt; status.number(), number);
+        assert_eq!(rt; errors.text.as_slice(), line.as_bytes());
+    }
+    assert_eq!(rt; ExitStatus::Done.number(), 0);
+    assert_eq!(rt; ExitStatus::ImageRefused.number(), 1);
+    assert_eq!(rt; ExitStatus::Unfinished.number(), 3);
+    Ok(())
+}
+
+/// What a command line asks or is refused for, in short.
+#[derive(Clone, Copy, PartialEq, Eq, Debug)]
+enum Asked {
+    Check,
+    Run(u32),
+    Text,
+    Native,
+    Memory,
+}
+
+fn ask(alloc: Global, line: &str) -> Result<Asked, Fail> {
+    let mut words = Vec::new(alloc);
+    for word in line.split(' ') {
+        words.push(String::from_str(alloc, word)?)?;
+    }
+    Ok(match &read_words(alloc, words) {
+        Ok(Words::Check { image }) if image.as_str() == "one.image" => Asked::Check,
+        Ok(
+            Words::Run {
+                image,
+                script,
+                limit,
+            },
+        ) if image.as_str() == "one.image" && script.as_str() == "one.script" => {
+            Asked::Run(*limit)
+        }
+        Ok(_) => return Err(Fail::from("another file")),
+        Err(WordsFault::Text(text)) if text.is_empty() => return Err(Fail::from("no text")),
+        Err(WordsFault::Text(_)) => Asked::Text,
+        Err(WordsFault::Native) => Asked::Native,
+        Err(WordsFault::Memory) => Asked::Memory,
+    })
+}
+
+#[test]
+fn the_command_line_is_read(rt: HostRuntime) -> Result<(), Fail> {
+    for (line, expected) in [
+        ("aom check one.image", Asked::Check),
+        ("aom run one.image one.script", Asked::Run(1_000_000)),
+        ("aom run --limit 7 one.image one.script", Asked::Run(7)),
+        (
+            "aom run one.image one.script --limit 1000000000",
+            Asked::Run(1_000_000_000),
+        ),
+        ("aom run --limit 0 one.image one.script", Asked::Text),
+        (
+            "aom run --limit 1000000001 one.image one.script",
+            Asked::Text,
+        ),
+        ("aom run --limit 7x one.image one.script", Asked::Text),
+        ("aom run one.image", Asked::Text),
+        ("aom check one.image one.script", Asked::Text),
+        ("aom", Asked::Text),
+        ("aom --help", Asked::Text),
+        ("aom help run", Asked::Text),
+        ("aom walk", Asked::Text),
+        ("aom run one.image one.script counter", Asked::Native),
+        (
+            "aom run one.image one.script a b c d e f g h i j k l m n o p q",
+            Asked::Native,
+        ),
+        (
+            "aom run --limit 0 one.image one.script counter",
+            Asked::Text,
+        ),
+    ] {
+        assert_eq!(rt; ask(rt.alloc(), line)?, expected);
+    }
+    Ok(())
+}

@@ -1,0 +1,201 @@
+-- The parts of a text by where the first end is.
+use Rattle.std.proofs.Common.{◌≡◌, ℕ, suc, ◌+◌, ◌-◌, ◌<◌, ◌≤◌, ◌==◌, ◌&&◌, ◌||◌, Bool, true, false, not, cond, nat_lt, nat_le, List, [], ◌∷◌, ◌++◌, Option, Some, None, length, take, drop, map, refl, sym, ap, subst, ◌∙◌, arith, rules, tests}
+use Rattle.std.specs.List.{filter, slice_split, onto_first, list_all, find, position, position_or_len, before_first, after_first}
+use Rattle.std.proofs.lemmas.Grind.{common_steps}
+use Rattle.std.proofs.lemmas.List.{take_rest}
+use Rattle.std.proofs.lemmas.List.Splits.{slice_split_first}
+use Rattle.aom_text.specs.Words.{is_blank, is_plain, has_bytes, words}
+use Rattle.aom_text.specs.Text.{true_lines, lines_of, worded, put_words, has_words, in_line, other_byte, comment_statements}
+use Rattle.aom_text.specs.declared.text.Statement.{Statement}
+
+-- where a place is chosen, it is the one that the test was for
+chosen : (t : Bool) (n i : ℕ) → cond t (Some n) None ≡ Some i → (t ≡ true) × (n ≡ i)
+chosen true n i is = (refl, cc)
+chosen false n i is = absurd cc
+
+not_chosen : (t : Bool) (n : ℕ) → cond t (Some n) None ≡ None → t ≡ false
+not_chosen true n is = absurd cc
+not_chosen false n is = refl
+
+-- ---- parts in general
+
+pub split_some : (p : ℕ → Bool) (bs : List ℕ) (i : ℕ) → position p bs ≡ Some i → slice_split p bs ≡ take i bs ∷ slice_split p (take (length bs - (i + 1)) (drop (i + 1) bs))
+split_some p bs i is =
+    let at = chosen (nat_lt (position_or_len p bs) (length bs)) (position_or_len p bs) i is in
+    let within : position_or_len p bs < length bs = search (rules, tests, at.0) in
+    slice_split_first p bs 0 within
+    ∙ ap (λ n. take n bs ∷ slice_split p (drop (n + 1) bs)) at.1
+    ∙ ap (λ (rest : List ℕ). take i bs ∷ slice_split p rest) (sym (take_rest bs (i + 1)))
+
+one_part : (p : ℕ → Bool) (bs : List ℕ) → nat_lt (position_or_len p bs) (length bs) ≡ false → slice_split p bs ≡ bs ∷ []
+one_part p [] h = refl
+one_part p (b ∷ bs) h =
+    elim (p b) as (λ t. nat_lt (cond (not t) (1 + position_or_len p bs) 0) (length (b ∷ bs)) ≡ false → cond t ([] ∷ slice_split p bs) (onto_first b (slice_split p bs)) ≡ (b ∷ bs) ∷ []) [
+      | true ↦ λ past. absurd (grind (arith, common_steps))
+      | false ↦ λ past. ap (onto_first b) (one_part p bs (grind (arith, common_steps)))
+    ] h
+
+pub split_none : (p : ℕ → Bool) (bs : List ℕ) → position p bs ≡ None → slice_split p bs ≡ bs ∷ []
+split_none p bs is = one_part p bs (not_chosen _ _ is)
+
+-- what a list of parts begins with
+pub record Parts (parts : List (List ℕ)) : Type 0 where
+  pub part : List ℕ
+  pub more : List (List ℕ)
+  pub is : parts ≡ part ∷ more
+
+-- a list is cut into one part at least
+has_parts : (p : ℕ → Bool) (bs : List ℕ) → Parts (slice_split p bs)
+has_parts p [] = record { part = []; more = []; is = refl }
+has_parts p (b ∷ bs) =
+    elim (p b) as (λ t. Parts (cond t ([] ∷ slice_split p bs) (onto_first b (slice_split p bs)))) [
+      | true ↦ record { part = []; more = slice_split p bs; is = refl }
+      | false ↦ let rest = has_parts p bs in record { part = b ∷ rest.part; more = rest.more; is = ap (onto_first b) rest.is }
+    ]
+
+-- ---- lines
+
+-- a part before others is a line
+one_more : (part : List ℕ) (parts : List (List ℕ)) → Parts parts → true_lines (part ∷ parts) ≡ part ∷ true_lines parts
+one_more part parts h = subst (λ ps. true_lines (part ∷ ps) ≡ part ∷ true_lines ps) (sym h.is) refl
+
+pub lines_first : (bs : List ℕ) (i : ℕ) → position (λ b. b == 10) bs ≡ Some i → lines_of bs ≡ take i bs ∷ lines_of (take (length bs - (i + 1)) (drop (i + 1) bs))
+lines_first bs i is = ap true_lines (split_some (λ b. b == 10) bs i is) ∙ one_more (take i bs) (slice_split (λ b. b == 10) (take (length bs - (i + 1)) (drop (i + 1) bs))) (has_parts (λ b. b == 10) (take (length bs - (i + 1)) (drop (i + 1) bs)))
+
+pub lines_only : (bs : List ℕ) → position (λ b. b == 10) bs ≡ None → 0 < length bs → lines_of bs ≡ bs ∷ []
+lines_only [] is some = absurd (omega arith)
+lines_only (b ∷ bs) is some = ap true_lines (split_none (λ b. b == 10) (b ∷ bs) is)
+
+-- ---- parts of a line
+
+put_is : (ws : List (List ℕ)) (rest : List (List (List ℕ))) → filter has_words (ws ∷ rest) ≡ put_words ws (filter has_words rest)
+put_is [] rest = refl
+put_is (w ∷ ws) rest = refl
+
+pub worded_first : (bs : List ℕ) (i : ℕ) → position (λ b. b == 59) bs ≡ Some i → worded bs ≡ put_words (words (take i bs)) (worded (take (length bs - (i + 1)) (drop (i + 1) bs)))
+worded_first bs i is = ap (λ ps. filter has_words (map words ps)) (split_some (λ b. b == 59) bs i is) ∙ put_is (words (take i bs)) (map words (slice_split (λ b. b == 59) (take (length bs - (i + 1)) (drop (i + 1) bs))))
+
+pub worded_only : (bs : List ℕ) → position (λ b. b == 59) bs ≡ None → worded bs ≡ put_words (words bs) []
+worded_only bs is = ap (λ ps. filter has_words (map words ps)) (split_none (λ b. b == 59) bs is) ∙ put_is (words bs) []
+
+-- ---- words
+
+one_on : (n : ℕ) → 1 + n ≡ suc n
+one_on n = omega arith
+
+drop_one : (n b : ℕ) (bs : List ℕ) → drop (1 + n) (b ∷ bs) ≡ drop n bs
+drop_one n b bs = ap (λ k. drop k (b ∷ bs)) (one_on n)
+
+take_one : (n b : ℕ) (bs : List ℕ) → take (1 + n) (b ∷ bs) ≡ b ∷ take n bs
+take_one n b bs = ap (λ k. take k (b ∷ bs)) (one_on n)
+
+-- the words begin where the first byte is that is no blank
+pub record Inked (bs : List ℕ) (i : ℕ) : Type 0 where
+  pub first : ℕ
+  pub more : List ℕ
+  pub at : drop i bs ≡ first ∷ more
+  pub is : is_blank first ≡ false
+  pub same : words bs ≡ words (first ∷ more)
+
+inked : (bs : List ℕ) → nat_lt (position_or_len (λ b. not (is_blank b)) bs) (length bs) ≡ true → Inked bs (position_or_len (λ b. not (is_blank b)) bs)
+inked [] h = absurd cc
+inked (b ∷ bs) h =
+    let known : (t : Bool) → is_blank b ≡ t → nat_lt (cond (not (not t)) (1 + position_or_len (λ b. not (is_blank b)) bs) 0) (length (b ∷ bs)) ≡ true → Inked (b ∷ bs) (cond (not (not t)) (1 + position_or_len (λ b. not (is_blank b)) bs) 0) =
+    λ t. elim t as (λ t. is_blank b ≡ t → nat_lt (cond (not (not t)) (1 + position_or_len (λ b. not (is_blank b)) bs) 0) (length (b ∷ bs)) ≡ true → Inked (b ∷ bs) (cond (not (not t)) (1 + position_or_len (λ b. not (is_blank b)) bs) 0)) [
+      | true ↦ λ e past. let rest = inked bs (grind (arith, common_steps)) in record {
+        first = rest.first;
+        more = rest.more;
+        at = drop_one (position_or_len (λ b. not (is_blank b)) bs) b bs ∙ rest.at;
+        is = rest.is;
+        same = ap (λ t. filter has_bytes (cond t ([] ∷ slice_split is_blank bs) (onto_first b (slice_split is_blank bs)))) e ∙ rest.same;
+      }
+      | false ↦ λ e past. record { first = b; more = bs; at = refl; is = e; same = refl }
+    ] in
+    known (is_blank b) refl h
+
+all_blank : (bs : List ℕ) → nat_lt (position_or_len (λ b. not (is_blank b)) bs) (length bs) ≡ false → words bs ≡ []
+all_blank [] h = refl
+all_blank (b ∷ bs) h =
+    elim (is_blank b) as (λ t. nat_lt (cond (not (not t)) (1 + position_or_len (λ b. not (is_blank b)) bs) 0) (length (b ∷ bs)) ≡ false → filter has_bytes (cond t ([] ∷ slice_split is_blank bs) (onto_first b (slice_split is_blank bs))) ≡ []) [
+      | true ↦ λ past. all_blank bs (grind (arith, common_steps))
+      | false ↦ λ past. absurd (grind (arith, common_steps))
+    ] h
+
+pub words_none : (bs : List ℕ) → position (λ b. not (is_blank b)) bs ≡ None → words bs ≡ []
+words_none bs is = all_blank bs (not_chosen _ _ is)
+
+-- the first word, of what begins with no blank
+cut_word : (b : ℕ) (bs : List ℕ) (parts : List (List ℕ)) (n : ℕ) → is_blank b ≡ false → filter has_bytes (take (cond (not (is_blank b)) (1 + n) 0) (b ∷ bs) ∷ parts) ≡ take (cond (not (is_blank b)) (1 + n) 0) (b ∷ bs) ∷ filter has_bytes parts
+cut_word b bs parts n e = subst (λ t. filter has_bytes (take (cond (not t) (1 + n) 0) (b ∷ bs) ∷ parts) ≡ take (cond (not t) (1 + n) 0) (b ∷ bs) ∷ filter has_bytes parts) (sym e) (subst (λ (t : List ℕ). filter has_bytes (t ∷ parts) ≡ t ∷ filter has_bytes parts) (sym (take_one n b bs)) refl)
+
+word_then : (b : ℕ) (bs : List ℕ) (e : ℕ) → is_blank b ≡ false → position is_blank (b ∷ bs) ≡ Some e → words (b ∷ bs) ≡ take e (b ∷ bs) ∷ words (take (length (b ∷ bs) - (e + 1)) (drop (e + 1) (b ∷ bs)))
+word_then b bs e ink is =
+    let at = chosen (nat_lt (position_or_len is_blank (b ∷ bs)) (length (b ∷ bs))) (position_or_len is_blank (b ∷ bs)) e is in
+    ap (filter has_bytes) (split_some is_blank (b ∷ bs) e is)
+    ∙ ap (λ n. filter has_bytes (take n (b ∷ bs) ∷ slice_split is_blank (take (length (b ∷ bs) - (e + 1)) (drop (e + 1) (b ∷ bs))))) (sym at.1)
+    ∙ cut_word b bs (slice_split is_blank (take (length (b ∷ bs) - (e + 1)) (drop (e + 1) (b ∷ bs)))) (position_or_len is_blank bs) ink
+    ∙ ap (λ n. take n (b ∷ bs) ∷ words (take (length (b ∷ bs) - (e + 1)) (drop (e + 1) (b ∷ bs)))) at.1
+
+pub word_first : (bs : List ℕ) (i e : ℕ) → position (λ b. not (is_blank b)) bs ≡ Some i → position is_blank (take (length bs - i) (drop i bs)) ≡ Some e
+    → words bs ≡ take e (take (length bs - i) (drop i bs)) ∷ words (take (length (take (length bs - i) (drop i bs)) - (e + 1)) (drop (e + 1) (take (length bs - i) (drop i bs))))
+word_first bs i e is ends =
+    let at = chosen (nat_lt (position_or_len (λ b. not (is_blank b)) bs) (length bs)) (position_or_len (λ b. not (is_blank b)) bs) i is in
+    let ink : Inked bs i = subst (Inked bs) at.1 (inked bs at.0) in
+    let same : take (length bs - i) (drop i bs) ≡ ink.first ∷ ink.more = take_rest bs i ∙ ink.at in
+    subst (λ (t : List ℕ). position is_blank t ≡ Some e → words bs ≡ take e t ∷ words (take (length t - (e + 1)) (drop (e + 1) t))) (sym same) (λ h. ink.same ∙ word_then ink.first ink.more e ink.is h) ends
+
+pub word_only : (bs : List ℕ) (i : ℕ) → position (λ b. not (is_blank b)) bs ≡ Some i → position is_blank (take (length bs - i) (drop i bs)) ≡ None
+    → words bs ≡ take (length bs - i) (drop i bs) ∷ []
+word_only bs i is ends =
+    let at = chosen (nat_lt (position_or_len (λ b. not (is_blank b)) bs) (length bs)) (position_or_len (λ b. not (is_blank b)) bs) i is in
+    let ink : Inked bs i = subst (Inked bs) at.1 (inked bs at.0) in
+    let same : take (length bs - i) (drop i bs) ≡ ink.first ∷ ink.more = take_rest bs i ∙ ink.at in
+    subst (λ (t : List ℕ). position is_blank t ≡ None → words bs ≡ t ∷ []) (sym same) (λ h. ink.same ∙ ap (filter has_bytes) (split_none is_blank (ink.first ∷ ink.more) h)) ends
+
+-- ---- comments
+
+-- the first byte that a text may not have
+pub record Other (bs : List ℕ) (i : ℕ) : Type 0 where
+  pub first : ℕ
+  pub at : take 1 (drop i bs) ≡ first ∷ []
+  pub is : is_plain first ≡ false
+  pub found : find (λ b. not (is_plain b)) bs ≡ Some first
+
+other : (bs : List ℕ) → nat_lt (position_or_len (λ b. not (is_plain b)) bs) (length bs) ≡ true → Other bs (position_or_len (λ b. not (is_plain b)) bs)
+other [] h = absurd cc
+other (b ∷ bs) h =
+    let known : (t : Bool) → is_plain b ≡ t → nat_lt (cond (not (not t)) (1 + position_or_len (λ b. not (is_plain b)) bs) 0) (length (b ∷ bs)) ≡ true → Other (b ∷ bs) (cond (not (not t)) (1 + position_or_len (λ b. not (is_plain b)) bs) 0) =
+    λ t. elim t as (λ t. is_plain b ≡ t → nat_lt (cond (not (not t)) (1 + position_or_len (λ b. not (is_plain b)) bs) 0) (length (b ∷ bs)) ≡ true → Other (b ∷ bs) (cond (not (not t)) (1 + position_or_len (λ b. not (is_plain b)) bs) 0)) [
+      | true ↦ λ e past. let rest = other bs (grind (arith, common_steps)) in record {
+        first = rest.first;
+        at = ap (take 1) (drop_one (position_or_len (λ b. not (is_plain b)) bs) b bs) ∙ rest.at;
+        is = rest.is;
+        found = ap (λ t. cond (not t) (Some b) (find (λ b. not (is_plain b)) bs)) e ∙ rest.found;
+      }
+      | false ↦ λ e past. record { first = b; at = refl; is = e; found = ap (λ t. cond (not t) (Some b) (find (λ b. not (is_plain b)) bs)) e }
+    ] in
+    known (is_plain b) refl h
+
+no_other : (bs : List ℕ) → nat_lt (position_or_len (λ b. not (is_plain b)) bs) (length bs) ≡ false → find (λ b. not (is_plain b)) bs ≡ None
+no_other [] h = refl
+no_other (b ∷ bs) h =
+    elim (is_plain b) as (λ t. nat_lt (cond (not (not t)) (1 + position_or_len (λ b. not (is_plain b)) bs) 0) (length (b ∷ bs)) ≡ false → cond (not t) (Some b) (find (λ b. not (is_plain b)) bs) ≡ None) [
+      | true ↦ λ past. no_other bs (grind (arith, common_steps))
+      | false ↦ λ past. absurd (grind (arith, common_steps))
+    ] h
+
+second : (p q : Bool) → (p || q) ≡ false → q ≡ false
+second true q h = absurd cc
+second false q h = h
+
+one_word : (b : ℕ) → is_blank b ≡ false → words (b ∷ []) ≡ (b ∷ []) ∷ []
+one_word b e = ap (λ t. filter has_bytes (cond t ([] ∷ slice_split is_blank []) (onto_first b (slice_split is_blank [])))) e
+
+pub comment_some : (n : ℕ) (bs : List ℕ) (i : ℕ) → position (λ b. not (is_plain b)) bs ≡ Some i → comment_statements n bs ≡ in_line n (words (take 1 (drop i bs))) ∷ []
+comment_some n bs i is =
+    let at = chosen (nat_lt (position_or_len (λ b. not (is_plain b)) bs) (length bs)) (position_or_len (λ b. not (is_plain b)) bs) i is in
+    let it : Other bs i = subst (Other bs) at.1 (other bs at.0) in
+    ap (other_byte n) it.found ∙ ap (λ ws. in_line n ws ∷ []) (sym (ap words it.at ∙ one_word it.first (second ((nat_le 32 it.first && nat_le it.first 126)) (is_blank it.first) it.is)))
+
+pub comment_none : (n : ℕ) (bs : List ℕ) → position (λ b. not (is_plain b)) bs ≡ None → comment_statements n bs ≡ []
+comment_none n bs is = ap (other_byte n) (no_other bs (not_chosen _ _ is))

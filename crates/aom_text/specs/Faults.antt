@@ -1,0 +1,20 @@
+-- The faults of a text, as they are told.
+use Rattle.std.specs.Prelude.{ℕ, List, ◌++◌, codes, decimal}
+use Rattle.aom_text.specs.declared.fault.AsmFault.{AsmFault}
+use Rattle.aom_text.specs.declared.fault.AsmFaultKind.{AsmFaultKind}
+use Rattle.aom_text.specs.declared.fault.AsmFaultKind.TheVariants.{NotAscii, UnknownWord, BadNumber, UnknownName, DoubleName, BadShape, LimitPassed, OutOfMemory}
+
+-- the number of a fault
+abbrev pub number_of : AsmFaultKind → ℕ
+number_of NotAscii = 1
+number_of UnknownWord = 2
+number_of BadNumber = 3
+number_of UnknownName = 4
+number_of DoubleName = 5
+number_of BadShape = 6
+number_of LimitPassed = 7
+number_of OutOfMemory = 8
+
+-- a fault's line and number
+abbrev pub fault_text : AsmFault → List ℕ
+fault_text fault = codes "asm " ++ decimal fault.line ++ codes " " ++ decimal (number_of fault.kind)

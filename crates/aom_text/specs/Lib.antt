@@ -1,0 +1,5 @@
+pub mod Faults
+pub mod Names
+pub mod Numbers
+pub mod Text
+pub mod Words

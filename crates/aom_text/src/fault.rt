@@ -1,0 +1,65 @@
+//! Why a text is refused.
+ghost use Rattle.std.specs.Prelude.{◌≡◌};
+ghost use Rattle.aom_text.specs.Faults.{number_of};
+
+use std::fmt;
+
+/// What is wrong with a statement.
+#[derive(Clone, Copy, PartialEq, Eq, Debug)]
+pub enum AsmFaultKind {
+    /// A byte outside 32 to 126 that is no tab, carriage return or line feed.
+    NotAscii,
+    /// Where a word of the language is expected, a word that is none.
+    UnknownWord,
+    /// A word that should be a number is none.
+    BadNumber,
+    /// A name that is declared nowhere.
+    UnknownName,
+    /// A name that is declared twice.
+    DoubleName,
+    /// Words that are missing, too many, or in the wrong place or form.
+    BadShape,
+    /// A number out of its range, one too many of anything, or a text too long.
+    LimitPassed,
+    OutOfMemory,
+}
+
+impl AsmFaultKind {
+    /// The number that stands for it in a message.
+    pub fn number(self) -> u32
+        ensures { result ≡ number_of self }
+    {
+        match self {
+            AsmFaultKind::NotAscii => 1,
+            AsmFaultKind::UnknownWord => 2,
+            AsmFaultKind::BadNumber => 3,
+            AsmFaultKind::UnknownName => 4,
+            AsmFaultKind::DoubleName => 5,
+            AsmFaultKind::BadShape => 6,
+            AsmFaultKind::LimitPassed => 7,
+            AsmFaultKind::OutOfMemory => 8,
+        }
+    }
+}
+
+/// The line of a fault, counted from 1, and what is wrong there.
+#[derive(Clone, Copy, PartialEq, Eq, Debug)]
+pub struct AsmFault {
+    pub line: u32,
+    pub kind: AsmFaultKind,
+}
+
+impl fmt::Display for AsmFault {
+    ghost use Rattle.std.specs.Prelude.{Some};
+    ghost use Rattle.aom_text.specs.Faults.{fault_text};
+
+    ghost output = { λ f. Some (fault_text f) };
+
+    fn fmt<W: fmt::Write>(&self, f: &mut fmt::Formatter<W>) -> fmt::Result {
+        let line = self.line;
+        let number = self.kind.number();
+        write!(f, "asm {line} {number}")
+    }
+}
+
+impl std::error::Error for AsmFault {}

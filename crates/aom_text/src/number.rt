@@ -1,0 +1,95 @@
+//! Numbers.
+ghost use Rattle.std.specs.Prelude.{◌≡◌, ◌≤◌, ◌<◌, ◌^◌, not, length};
+ghost use Rattle.std.specs.List.{list_all};
+ghost use Rattle.aom_text.specs.Numbers.{is_digit, is_digits, digits_size, most, number_from, number_of, number_within, number_signed};
+
+/// Sizes from here on are not told apart: each is out of every range.
+const MOST: u64 = 1 << 40;
+
+/// A decimal number, with a minus or without.
+#[derive(Clone, Copy, PartialEq, Eq, Debug)]
+pub struct Number {
+    pub is_negative: bool,
+    /// At most 2^40, which also stands for what is larger.
+    pub size: u64,
+}
+
+impl Number {
+    /// The number that a word spells.
+    pub fn of(word: &[u8]) -> Option<Number>
+        ensures { result ≡ number_of word.now }
+    {
+        match word {
+            [b'-', digits @ ..] => Number::of_digits(true, digits),
+            _ => Number::of_digits(false, word),
+        }
+    }
+
+    fn of_digits(is_negative: bool, digits: &[u8]) -> Option<Number>
+        ensures { result ≡ number_from is_negative digits.now }
+    {
+        if is_digits(digits) {
+            Some(Number {
+                is_negative,
+                size: size_of(digits),
+            })
+        } else {
+            None
+        }
+    }
+
+    /// The number, if it is from low to high.
+    pub fn within(self, low: u32, high: u32) -> Option<u32>
+        ensures { result ≡ number_within low high self }
+    {
+        let is_below_zero = self.is_negative && self.size != 0;
+        if !is_below_zero && u64::from(low) <= self.size && self.size <= u64::from(high) {
+            Some(self.size as u32)
+        } else {
+            None
+        }
+    }
+
+    /// The number, if it has 32 bits with its sign.
+    pub fn signed(self) -> Option<i32>
+        ensures { result ≡ number_signed self }
+    {
+        if self.is_negative && self.size <= 1 << 31 {
+            Some((-(self.size as i64)) as i32)
+        } else if !self.is_negative && self.size < 1 << 31 {
+            Some(self.size as i32)
+        } else {
+            None
+        }
+    }
+}
+
+fn is_digit(b: u8) -> bool
+    ensures { result ≡ is_digit b }
+{
+    matches!(b, b'0'..=b'9')
+}
+
+fn is_digits(word: &[u8]) -> bool
+    ensures { result ≡ is_digits word.now }
+{
+    !word.is_empty() && all_digits(word)
+}
+
+/// The size that digits spell.
+fn size_of(digits: &[u8]) -> u64
+    ensures size { result ≡ most (digits_size digits.now) }
+    ensures bounded { result ≤ 2 ^ 40 }
+{
+    let mut size = 0;
+    for digit in digits {
+        size = (10 * size + u64::from(digit.saturating_sub(b'0'))).min(MOST);
+    }
+    size
+}
+
+fn all_digits(word: &[u8]) -> bool
+    ensures { result ≡ list_all is_digit word.now }
+{
+    word.iter().all(|b| is_digit(*b))
+}
