@@ -11,7 +11,7 @@ use Rattle.aom_classes.specs.Linked.{IsLinked}
 use Rattle.aom_classes.proofs.Facts.{of_method, linked_place, admitted_instr}
 use Rattle.aom_shape.specs.Typing.{Typing}
 use Rattle.aom_sound.specs.Places.{Register, Going, Object, held}
-use Rattle.aom_sound.specs.State.{Frame, Dispatch, Task, Run, Trapped, Destroy, Dispatched, next, set_word, State, Choice, Outcome, Goes, IsStuck, Need, guarded}
+use Rattle.aom_sound.specs.State.{Frame, Dispatch, Of_main, Task, Run, Trapped, Destroy, Dispatched, next, set_word, State, Choice, Outcome, Goes, IsStuck, Need, guarded}
 use Rattle.aom_sound.specs.Destruction.{begun_by}
 use Rattle.aom_sound.specs.Objects.{jumped, deleted}
 use Rattle.aom_sound.specs.Moves.{needs, does, closed, step}
@@ -120,10 +120,10 @@ module _ (p : Image) (t : Typing) (refused : List ℕ) (m new : Parts) (s : Stat
       let within = within_code p fr.method (suc fr.place) (goes_there p t s sound typed fr ts top) in
       subst (After p s.tasks) same (subst (λ us. After p us (without_going (at_step s) (Run fr ∷ ts))) (sym top) (record { falls = omega arith; announced = refl }))
 
-  of_ending : (d : Dispatch) → s.tasks ≡ Dispatched d ∷ [] → After p s.tasks moved.state
-  of_ending d top =
+  of_ending : s.tasks ≡ Dispatched Of_main ∷ [] → After p s.tasks moved.state
+  of_ending top =
       let u = closed (record s { rest = record s.rest { announced = true } }) in
-      let same : u ≡ moved.state = goes_same _ _ (sym (step_of_ending p moved.choice s d [] top) ∙ moved.goes) in
+      let same : u ≡ moved.state = goes_same _ _ (sym (step_of_ending p t moved.choice s sound typed top) ∙ moved.goes) in
       subst (After p s.tasks) same (subst (λ us. After p us u) (sym top) (record { falls = omega arith; announced = refl }))
 
   pub moved_after : 0 < length m.stack.tasks → After p s.tasks moved.state
@@ -142,7 +142,7 @@ module _ (p : Image) (t : Typing) (refused : List ℕ) (m new : Parts) (s : Stat
           by_going p m (record { typing = t; state = s; below = f.0; top = f.1; typed = typed; agrees = agrees }) (λ us ts. s.tasks ≡ Destroy ∷ ts → After p s.tasks moved.state) (λ x g ms fr ts top e. of_going fr ts e) f.1
       go (Ends x ∷ ms) e busy =
           let d = ending_of m.stack.tasks s.tasks (subst IsEnding (sym e) tt) agrees.room.alone agrees.tasks in
-          of_ending d.0 d.1
+          of_ending d.0
 
   pub moved_falls : 0 < length m.stack.tasks → rank_of p new.stack.tasks < rank_of p m.stack.tasks
   moved_falls busy =

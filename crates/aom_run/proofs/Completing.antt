@@ -13,8 +13,8 @@ use Rattle.aom_classes.specs.Jumps.{jump_of}
 use Rattle.aom_classes.specs.Admitted.{IsAdmitted, admits_instr}
 use Rattle.aom_classes.proofs.Facts.{of_method, admitted_instr, linked_place}
 use Rattle.aom_shape.specs.Typing.{Typing}
-use Rattle.aom_sound.specs.Places.{Object, Cell, held, named, without, Going}
-use Rattle.aom_sound.specs.State.{Frame, Dispatch, Task, Run, Trapped, Destroy, Dispatched, State, Choice, Need, Orphan, Outcome, Goes, IsStuck, guarded, set_word, next}
+use Rattle.aom_sound.specs.Places.{Object, Cell, held, named, without, Elsewhere, Going, Root}
+use Rattle.aom_sound.specs.State.{Frame, Dispatch, Of_main, Of_root, Task, Run, Trapped, Destroy, Dispatched, State, Choice, Need, Orphan, Outcome, Goes, IsStuck, guarded, set_word, next, to_place}
 use Rattle.aom_sound.specs.Destruction.{destructor_of, begun_by, gone, owns_nothing}
 use Rattle.aom_sound.specs.Objects.{jumped, deleted}
 use Rattle.aom_sound.specs.Words.{here}
@@ -22,6 +22,8 @@ use Rattle.aom_sound.specs.Moves.{does, needs, step, step_task, step_instr, coun
 use Rattle.aom_sound.specs.WellTyped.{WellTyped, Keeps}
 use Rattle.aom_sound.specs.World.{boot_state, Reaches, moves, waits, Run_of, IsBusy, waiting}
 use Rattle.aom_sound.specs.declared.line.Line.{Line}
+use Rattle.aom_exec.proofs.CallActs.{root_null}
+use Rattle.aom_exec.proofs.Stepping.{ends_closed}
 use Rattle.aom_sound.specs.declared.line.Ending.{Ending}
 use Rattle.aom_sound.specs.declared.line.Ending.TheVariants.{Waiting}
 
@@ -110,11 +112,13 @@ module _ (p : Image) (linked : IsLinked p) (admitted : IsAdmitted p) (bare : (x 
 
 module _ (p : Image) (linked : IsLinked p) (admitted : IsAdmitted p) (bare : (x : Thing) → destructor_of p x ≡ None) where
   -- a move leaves less to do
-  steps_on : (ts : List Task) → Alone p ts → (c : Choice) (s u : State) → (ts ≡ [] → ⊥) → step_task p c s ts ≡ Goes u → On p ts u.tasks
-  steps_on _ idle c s u busy e = absurd (busy refl)
-  steps_on _ (closing d) c s u busy e = subst (λ v. On p (Dispatched d ∷ []) v.tasks) (guarded_goes [] _ u e) (record { alone = idle; less = omega arith })
-  steps_on _ (running fr d) c s u busy e = runs_on p linked admitted bare fr d (instr_at p fr.method fr.place) c s u refl e
-  steps_on _ (going fr d) c s u busy e = goes_on p linked admitted bare fr d _ s u e
+  steps_on : (ts : List Task) → Alone p ts → (c : Choice) (s u : State) → (ts ≡ [] → ⊥) → (ts ≡ Dispatched Of_main ∷ [] → held s.cells (Elsewhere Root) ≡ None) → step_task p c s ts ≡ Goes u → On p ts u.tasks
+  steps_on _ idle c s u busy rootless e = absurd (busy refl)
+  steps_on _ (closing Of_main) c s u busy rootless e =
+      subst (λ v. On p (Dispatched Of_main ∷ []) v.tasks) (sym (ends_closed p s.rest.stopped (held s.cells (Elsewhere Root)) s (rootless refl)) ∙ guarded_goes [] _ u e) (record { alone = idle; less = omega arith })
+  steps_on _ (closing Of_root) c s u busy rootless e = subst (λ v. On p (Dispatched Of_root ∷ []) v.tasks) (guarded_goes [] _ u e) (record { alone = idle; less = omega arith })
+  steps_on _ (running fr d) c s u busy rootless e = runs_on p linked admitted bare fr d (instr_at p fr.method fr.place) c s u refl e
+  steps_on _ (going fr d) c s u busy rootless e = goes_on p linked admitted bare fr d _ s u e
 
 not_idle : (ts : List Task) (task : Task) (tasks : List Task) → ts ≡ task ∷ tasks → ts ≡ [] → ⊥
 not_idle ts task tasks busy none = cc
@@ -166,7 +170,7 @@ module _ (p : Image) (t : Typing) (refused : List ℕ) (linked : IsLinked p) (ad
   by_move lines s r typed alone busy again =
       let free = is_open s in
       let then_is = goes_of (step p (choice s) s) (keeps (choice s) s typed free.name) in
-      let on = steps_on p linked admitted bare s.tasks alone (choice s) (counted p s) then_is.0 (λ e. not_idle _ _ _ busy.2 e) then_is.1 in
+      let on = steps_on p linked admitted bare s.tasks alone (choice s) (counted p s) then_is.0 (λ e. not_idle _ _ _ busy.2 e) (λ e. root_null p t s admitted typed e) then_is.1 in
       further lines (written p s) (again (written p s) then_is.0 on.less (moves (choice s) r busy free then_is.1) then_is.2 on.alone)
 
   by_tasks : (ts : List Task) (lines : List Line) (s : State) → s.tasks ≡ ts → s.rest.ended ≡ None → Reaches p refused (boot_state p) lines s → (IsBusy s → Completed p refused lines) → Completed p refused lines
