@@ -13,9 +13,13 @@ use Rattle.aom_shape.specs.Typing.{IsTyped, Typing}
 use Rattle.aom_sound.specs.Calls.{result_register, returned}
 use Rattle.aom_sound.specs.Claims.{Dispatching, Dying, Layer, Mark, Method, tasks_of}
 use Rattle.aom_sound.specs.Destruction.{gone, owns_nothing}
+use Rattle.aom_sound.proofs.Steps.{step_keeps}
+use Rattle.aom_sound.specs.Laws.{IsWired}
+use Rattle.aom_ranks.specs.Laws.{Moves, no_move, one_move}
+use Rattle.aom_sound.specs.WellTyped.{Keeps}
 use Rattle.aom_sound.specs.Moves.{counted, dispatch_ends, main_ends, step, step_instr, step_task}
 use Rattle.aom_sound.specs.Places.{Elsewhere, Going, Object, Root, held, moved, without}
-use Rattle.aom_sound.specs.State.{Choice, Destroy, Dispatch, Dispatched, Frame, Goes, Of_main, Of_root, Orphan, Run, State, Task, Trapped, resumed}
+use Rattle.aom_sound.specs.State.{Choice, Destroy, Dispatch, Dispatched, Frame, Goes, Of_main, Of_root, Orphan, Outcome, Run, State, Task, Trapped, resumed}
 use Rattle.aom_sound.specs.WellTyped.{Caught, Good, Now, Returns, Stack, WellTyped}
 use Rattle.aom_sound.specs.World.{IsBusy}
 use Rattle.aom_ranks.specs.Ranks.{cell_rank, frame_rank, rank, standing, tasks_rank, waiting_rank}
@@ -107,3 +111,18 @@ moves_lower_ranks p t linked typed c s u w busy moves =
     let go = by_layers p t linked typed c (counted p s) w.layers w.good busy.0 busy.1 (sym w.tasks ∙ busy.2) in
     let there : Falls p (rank p s) (step p c s) = subst (λ ts. Falls p (tasks_rank p ts + standing s.cells * cell_rank p) (step_task p c (counted p s) ts)) (sym w.tasks) go in
     subst (λ o. Falls p (rank p s) o) moves there
+
+-- a move that goes on keeps the typing
+keeps_on : (p : Image) (t : Typing) (u : State) (o : Outcome) → o ≡ Goes u → Keeps p t o → WellTyped p t u
+keeps_on p t u o e k = subst (λ x. Keeps p t x) e k
+
+module _ (p : Image) (t : Typing) (wired : IsWired p) (linked : IsLinked p) (typed : IsTyped p t) where
+  bound : {n : ℕ} {s u : State} → WellTyped p t s → Moves p n s u → n + rank p u ≤ rank p s
+  bound w no_move = omega arith
+  bound {s = s} w (one_move {u = u} c busy unused goes more) =
+      let lower = moves_lower_ranks p t linked typed c s u w busy goes in
+      let kept = keeps_on p t u (step p c s) goes (step_keeps p t wired typed c s w unused) in
+      omega (arith, lower, bound kept more)
+
+pub ranks_bound_moves : (p : Image) (t : Typing) → IsWired p → IsLinked p → IsTyped p t → (n : ℕ) (s u : State) → WellTyped p t s → Moves p n s u → n + rank p u ≤ rank p s
+ranks_bound_moves p t wired linked typed n s u w moves = bound p t wired linked typed w moves

@@ -7,4 +7,4 @@
 
 mod laws;
 
-pub use laws::moves_lower_ranks;
+pub use laws::{moves_lower_ranks, ranks_bound_moves};
