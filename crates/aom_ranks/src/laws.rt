@@ -1,0 +1,12 @@
+//! The laws, each as the contract of a function that does nothing.
+ghost use Rattle.aom_ranks.specs.Laws.{MovesLowerRanks, RanksBoundMoves};
+
+/// A move of a well-typed state lowers its rank, whatever the choice.
+pub fn moves_lower_ranks()
+    ensures { MovesLowerRanks }
+{}
+
+/// Each dispatch ends: a rank falls no further than to nothing.
+pub fn ranks_bound_moves()
+    ensures { RanksBoundMoves }
+{}
