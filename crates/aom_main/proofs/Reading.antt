@@ -1,5 +1,5 @@
 -- What `clap` answers of the words of a command line.
-use Rattle.std.proofs.Common.{◌≡◌, ◌∙◌, ℕ, Bool, true, false, ◌≤◌, ◌<◌, ◌^◌, List, [], Option, Some, None, Result, Ok, Err, option_map, unwrap_or, is_some, IsSome, refl, sym, ap, subst, arith}
+use Rattle.std.proofs.Common.{◌≡◌, ◌∙◌, ℕ, Bool, true, false, ◌≤◌, List, [], Option, Some, None, Result, Ok, Err, option_map, unwrap_or, is_some, IsSome, refl, sym, ap, subst, arith}
 use Rattle.std.specs.Borrow.{Bor}
 use Rattle.std.specs.Fmt.{decimal}
 use Rattle.std.specs.Str.Parse.{ParsesUnsigned}

@@ -1,5 +1,5 @@
 -- An acceptable image is refused for want of memory alone.
-use Rattle.std.proofs.Common.{◌≡◌, IfErr, Result, Ok, Err, refl, ap, ◌∙◌}
+use Rattle.std.proofs.Common.{◌≡◌, refl}
 use Rattle.aom_image.specs.Image.{Image}
 use Rattle.aom_classes.specs.Faults.{Refuses as RefusesLink}
 use Rattle.aom_classes.specs.declared.fault.LinkFault.{LinkFault}

@@ -9,7 +9,6 @@ use Rattle.aom_exec.specs.declared.progress.Outcome.{Outcome}
 use Rattle.aom_exec.specs.declared.progress.Outcome.TheVariants.{Stopped, Waiting, WriteFault}
 use Rattle.aom_run.specs.Script.{Script, denoted}
 use Rattle.aom_main.specs.declared.status.ExitStatus.{ExitStatus}
-use Rattle.aom_main.specs.declared.status.ExitStatus.TheVariants.{Fault as Faulty}
 use Rattle.aom_main.specs.declared.faults.Fault.TheVariants.{Write}
 use Rattle.aom_main.specs.Acceptable.{IsSpelled}
 use Rattle.aom_main.specs.Headline.{Sent, Told, Shows, Ends, Runs, RunAnswers}

@@ -1,6 +1,5 @@
 -- Without a command nothing is asked.
-use Rattle.std.proofs.Common.{◌∙◌, ap, sym, option_map}
-use Rattle.clap.specs.Words.{found_of, rows_of, subcommand_rows_of}
+use Rattle.clap.specs.Words.{subcommand_rows_of}
 use Rattle.aom_main.proofs.Reading.{nothing_met}
 use Rattle.aom_main.proofs.words.words_of.Goals as goal
 
