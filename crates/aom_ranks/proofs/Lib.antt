@@ -5,3 +5,4 @@ pub mod Standing
 pub mod Levels
 pub mod Falling
 pub mod Ranking
+pub mod Goings

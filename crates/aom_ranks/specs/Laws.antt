@@ -1,5 +1,5 @@
 -- The laws of ranks.
-use Rattle.std.specs.Prelude.{ℕ, zero, suc, ◌≡◌, ◌<◌, ◌≤◌, ◌+◌, None}
+use Rattle.std.specs.Prelude.{ℕ, zero, suc, ◌≡◌, ◌<◌, ◌≤◌, ◌+◌, length, None}
 use Rattle.aom_image.specs.Image.{Image}
 use Rattle.aom_classes.specs.Linked.{IsLinked}
 use Rattle.aom_shape.specs.Typing.{Typing, IsTyped}
@@ -9,7 +9,7 @@ use Rattle.aom_sound.specs.State.{State, Choice, Goes}
 use Rattle.aom_sound.specs.Moves.{step}
 use Rattle.aom_sound.specs.WellTyped.{WellTyped}
 use Rattle.aom_sound.specs.World.{IsBusy}
-use Rattle.aom_ranks.specs.Ranks.{rank}
+use Rattle.aom_ranks.specs.Ranks.{rank, standing, destructions}
 
 -- of an image that is linked and has a typing, a move of a well-typed state at which something is at hand leads to a lower rank
 abbrev pub MovesLowerRanks : Type 0
@@ -23,3 +23,7 @@ pub data Moves (p : Image) : ℕ → State → State → Type 0 where
 -- no more moves than the rank tells lead on from a well-typed state, before nothing is at hand
 abbrev pub RanksBoundMoves : Type 0
 RanksBoundMoves = (p : Image) (t : Typing) → IsWired p → IsLinked p → IsTyped p t → (n : ℕ) (s u : State) → WellTyped p t s → Moves p n s u → n + rank p u ≤ rank p s
+
+-- of the cells of a well-typed state, those stand that no destruction is at hand for
+abbrev pub CellsStandOrGo : Type 0
+CellsStandOrGo = (p : Image) (t : Typing) (s : State) → WellTyped p t s → standing s.cells + destructions s.tasks ≡ length s.cells

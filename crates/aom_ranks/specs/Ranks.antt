@@ -65,3 +65,11 @@ standing (c ∷ cs) = cond (is_going c.owner) (standing cs) (suc (standing cs))
 
 abbrev pub rank : Image → State → ℕ
 rank p s = tasks_rank p s.tasks + standing s.cells * cell_rank p
+
+-- how many destructions are at hand
+abbrev pub destructions : List Task → ℕ
+destructions [] = 0
+destructions (Destroy ∷ ts) = suc (destructions ts)
+destructions (Run fr ∷ ts) = destructions ts
+destructions (Trapped ∷ ts) = destructions ts
+destructions (Dispatched d ∷ ts) = destructions ts
