@@ -1,7 +1,7 @@
 -- An acceptable image is refused for want of memory alone.
 use Rattle.std.proofs.Common.{◌≡◌, refl}
 use Rattle.aom_image.specs.Image.{Image}
-use Rattle.aom_classes.specs.Faults.{Refuses as RefusesLink}
+use Rattle.aom_classes.specs.Faults.{Fails, Refuses as RefusesLink}
 use Rattle.aom_classes.specs.declared.fault.LinkFault.{LinkFault}
 use Rattle.aom_classes.specs.declared.fault.LinkFault.TheVariants.{NotYet, ClassOrder, CallOrder, MissingRole, DoubleRole, RoleShape, BadJump, BadLoop, NoMain, OutOfMemory}
 use Rattle.aom_main.specs.declared.faults.Fault.TheVariants.{Memory}
@@ -9,7 +9,7 @@ use Rattle.aom_main.specs.Status.{of_link}
 use Rattle.aom_main.specs.Acceptable.{IsAcceptable}
 
 pub linked_memory : (p : Image) (fault : LinkFault) → RefusesLink p fault → IsAcceptable p → of_link fault ≡ Memory
-unfolding RefusesLink
+unfolding RefusesLink Fails
 linked_memory p NotYet refused a = absurd (refused a.admitted)
 linked_memory p ClassOrder refused a = absurd (refused.1 a.linked.classes)
 linked_memory p CallOrder refused a = absurd (refused.2 a.linked.calls)
