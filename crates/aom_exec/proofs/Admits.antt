@@ -1,6 +1,6 @@
 -- What an admitted image has not.
 use Rattle.std.proofs.Common.{◌≡◌, ℕ, Bool, true, false, ◌&&◌, length, List, [], ◌∷◌, Option, Some, None, slice_get, refl, sym, ap, ◌∙◌, subst, position}
-use Rattle.std.specs.Prelude.{IsTrue, is_none, nat_eq}
+use Rattle.std.specs.Prelude.{IsTrue, is_none}
 use Rattle.aom_image.specs.Image.{Image}
 use Rattle.aom_image.specs.Views.{method_at, gives_in, gives_of}
 use Rattle.aom_image.specs.declared.method.Method.{Method}
@@ -40,18 +40,6 @@ position_none f (m ∷ n ∷ ms) one h = cc
 pub no_role : (p : Image) → IsAdmitted p → (c : ℕ) (r : Role) → role_of p c r ≡ None
 unfolding role_of method_at
 no_role p admitted c r = position_none (plays c r) p.methods admitted.alone (λ m e. none_plays c r m (classless p admitted 0 m e))
-
--- there is no root
-pub rootless : (p : Image) → IsAdmitted p → p.header.root ≡ None
-rootless p admitted = go p.header.root (second_of (nat_eq p.header.natives 0) (is_none p.header.root) admitted.header)
-  where
-    second_of : (a b : Bool) → IsTrue (a && b) → IsTrue b
-    second_of true b e = e
-    second_of false b e = cc
-
-    go : (r : Option ℕ) → IsTrue (is_none r) → r ≡ None
-    go None e = refl
-    go (Some c) e = cc
 
 pub no_destructor : (p : Image) → IsAdmitted p → (t : Thing) → destructor_of p t ≡ None
 no_destructor p admitted (Object c) = no_role p admitted c Destruct

@@ -8,12 +8,14 @@ use Rattle.aom_image.specs.declared.method.Gives.TheVariants.{Nothing}
 use Rattle.std.proofs.lemmas.List.{length-take}
 use Rattle.aom_exec.specs.Room.{IsTrapOfDispatch}
 use Rattle.aom_classes.specs.Admitted.{IsAdmitted}
+use Rattle.aom_classes.specs.Linked.{IsLinked}
 use Rattle.aom_shape.specs.Kinds.{filled}
 use Rattle.aom_shape.specs.Things.{root_thing}
 use Rattle.aom_shape.specs.declared.kind.Filling.TheVariants.{Perhaps}
 use Rattle.aom_shape.specs.declared.kind.Kind.TheVariants.{Null}
 use Rattle.aom_cells.specs.Heap.{null}
 use Rattle.aom_shape.specs.Typing.{Typing}
+use Rattle.aom_sound.proofs.Wiring.{linked_is_wired}
 use Rattle.aom_sound.specs.Places.{Place, Register, Entry, Field, Going, Elsewhere, Root, Object, Cell, held}
 use Rattle.aom_sound.specs.State.{Frame, Dispatch, Of_main, Of_root, next, Task, Run, Trapped, Destroy, Dispatched, Item, Rest, State}
 use Rattle.aom_sound.specs.Calls.{returned, below_top}
@@ -30,7 +32,7 @@ use Rattle.aom_exec.specs.Agrees.{word_at, Shows, SameTasks, dispatch_of, number
 use Rattle.aom_exec.specs.Acts.{At_hand, requested, Does}
 use Rattle.aom_exec.specs.Acts as acts
 use Rattle.aom_exec.proofs.Standing.{by_top, stays, an_open, Traps, traps}
-use Rattle.aom_exec.proofs.Admits.{gives_none, rootless}
+use Rattle.aom_exec.proofs.Admits.{gives_none}
 
 pub stop_does : (m : Parts) (refused : List ℕ) → Does refused Stop m (acts.next (record m { rest = record m.rest { stopped = true } }))
 stop_does m refused p admitted h =
@@ -71,8 +73,8 @@ closing p t s d typed e = go typed.layers (sym typed.tasks ∙ e) typed.good
     }
 
 -- and with no class for a root the root holds nothing
-pub root_null : (p : Image) (t : Typing) (s : State) → IsAdmitted p → WellTyped p t s → s.tasks ≡ Dispatched Of_main ∷ [] → held s.cells (Elsewhere Root) ≡ None
-root_null p t s admitted typed e = go typed.layers (sym typed.tasks ∙ e) typed.good
+pub root_null : (p : Image) (t : Typing) (s : State) → IsLinked p → IsAdmitted p → WellTyped p t s → s.tasks ≡ Dispatched Of_main ∷ [] → held s.cells (Elsewhere Root) ≡ None
+root_null p t s linked admitted typed e = go typed.layers (sym typed.tasks ∙ e) typed.good
   where
     go : (ls : List Layer) → tasks_of ls ≡ Dispatched Of_main ∷ [] → Good p t s.cells ls → held s.cells (Elsewhere Root) ≡ None
     go [] e good = cc
@@ -81,7 +83,7 @@ root_null p t s admitted typed e = go typed.layers (sym typed.tasks ∙ e) typed
     go (Dying o ∷ ls) e good = cc
     go (Dispatching Of_root ∷ ls) e good = cc
     go (Dispatching Of_main ∷ l ∷ ls) e good = cc
-    go (Dispatching Of_main ∷ []) e good = fits_null p (held s.cells) _ (subst (λ r. Fits p (held s.cells) (held s.cells (Elsewhere Root)) (filled (root_thing r 0) Perhaps)) (rootless p admitted) (good.fits (Elsewhere Root)))
+    go (Dispatching Of_main ∷ []) e good = fits_null p (held s.cells) _ (subst (λ r. Fits p (held s.cells) (held s.cells (Elsewhere Root)) (filled (root_thing r 0) Perhaps)) (linked_is_wired p linked admitted).1 (good.fits (Elsewhere Root)))
 
 -- a shorter list, read where the longer one has null
 shorter : (n : ℕ) (xs : List ℕ) (k : ℕ) → slice_index_or xs k null ≡ null → slice_index_or (take n xs) k null ≡ null

@@ -16,7 +16,7 @@ use Rattle.aom_image.specs.declared.method.Thing.TheVariants.{Object as An_objec
 use Rattle.aom_classes.specs.Calls.{CallsOrdered, RunsBelow}
 use Rattle.aom_classes.specs.Linked.{IsLinked}
 use Rattle.aom_classes.specs.Roles.{is_class, plays, role_number, role_of, same_role}
-use Rattle.aom_classes.specs.Shapes.{HasShape, IsShaped, kind_of}
+use Rattle.aom_roles.specs.Shapes.{HasShape, IsShaped, kind_of}
 use Rattle.aom_classes.proofs.Each.{both}
 use Rattle.aom_classes.proofs.Facts.{at_place}
 use Rattle.aom_sound.specs.Destruction.{begun, begun_by, destructor_of}

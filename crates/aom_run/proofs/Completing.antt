@@ -1,11 +1,13 @@
 -- A run can always be brought to an end: with each move less is left to do.
-use Rattle.std.proofs.Common.{◌≡◌, ℕ, suc, ◌+◌, ◌-◌, ◌*◌, ◌<◌, ◌≤◌, ◌==◌, true, false, cond, IsTrue, IfSome, List, [], ◌∷◌, ◌++◌, Option, Some, None, length, refl, sym, ap, subst, zero, arith, append-nil, append_assoc}
+use Rattle.std.proofs.Common.{◌≡◌, ℕ, suc, ◌+◌, ◌-◌, ◌*◌, ◌<◌, ◌≤◌, ◌==◌, Bool, true, false, cond, IsTrue, IfSome, List, [], ◌∷◌, ◌++◌, ◌∙◌, Option, Some, None, length, refl, sym, ap, subst, zero, arith, append-nil, append_assoc}
+use Rattle.std.specs.Prelude.{int_lt}
+use Rattle.std.specs.Ordering.{int_eq}
 use Rattle.std.proofs.lemmas.Bool.{ne_eqb}
 use Rattle.std.proofs.lemmas.Option.{slice_get_within}
 use Rattle.aom_image.specs.Image.{Image}
 use Rattle.aom_image.specs.Views.{method_at, instr_at}
 use Rattle.aom_image.specs.declared.instr.Instr.{Instr}
-use Rattle.aom_image.specs.declared.instr.Instr.TheVariants.{Const, Jump, JumpNull, Print, New, Delete, Return, Stop}
+use Rattle.aom_image.specs.declared.instr.Instr.TheVariants.{Const, Copy, Add, Sub, Mul, And, Or, Xor, Jump, JumpEqual, JumpLess, JumpNull, Print, New, Delete, Return, Stop}
 use Rattle.aom_image.specs.declared.method.Method.{Method}
 use Rattle.aom_image.specs.declared.method.Thing.{Thing}
 use Rattle.aom_classes.specs.Linked.{IsLinked}
@@ -17,7 +19,7 @@ use Rattle.aom_sound.specs.Places.{Object, Cell, held, named, without, Elsewhere
 use Rattle.aom_sound.specs.State.{Frame, Dispatch, Of_main, Of_root, Task, Run, Trapped, Destroy, Dispatched, State, Choice, Need, Orphan, Outcome, Goes, IsStuck, guarded, set_word, next, to_place}
 use Rattle.aom_sound.specs.Destruction.{destructor_of, begun_by, gone, owns_nothing}
 use Rattle.aom_sound.specs.Objects.{jumped, deleted}
-use Rattle.aom_sound.specs.Words.{here}
+use Rattle.aom_sound.specs.Words.{here, read, branched}
 use Rattle.aom_sound.specs.Moves.{does, needs, step, step_task, step_instr, counted, written, is_refused, IsOpen}
 use Rattle.aom_sound.specs.WellTyped.{WellTyped, Keeps}
 use Rattle.aom_sound.specs.World.{boot_state, Reaches, moves, waits, Run_of, IsBusy, waiting}
@@ -75,10 +77,24 @@ module _ (p : Image) (linked : IsLinked p) (admitted : IsAdmitted p) (bare : (x 
       let count : places p other.method ≡ places p fr.method = ap (places p) same in
       record { alone = running other d; less = omega (arith, count) }
 
+  -- it jumps, or goes on
+  branches : (b : Bool) (to : ℕ) (s : State) → fr.place < to → fr.place < places p fr.method → On p (Run fr ∷ below) (branched fr below s b to).tasks
+  branches true to s ahead within = goes_to _ refl ahead within
+  branches false to s ahead within = goes_to _ refl (omega arith) within
+
   acts : (i : Instr) (c : Choice) (s : State) → IsTrue (admits_instr i) → fr.place < places p fr.method → ((to : ℕ) → jump_of i ≡ Some to → fr.place < to) → On p (Run fr ∷ below) (does p c fr below s i).tasks
   unfolding admits_instr jump_of
   acts (Const a w) c s admits within jumps = goes_to _ refl (omega arith) within
+  acts (Copy a b) c s admits within jumps = goes_to _ refl (omega arith) within
+  acts (Add a b x) c s admits within jumps = goes_to _ refl (omega arith) within
+  acts (Sub a b x) c s admits within jumps = goes_to _ refl (omega arith) within
+  acts (Mul a b x) c s admits within jumps = goes_to _ refl (omega arith) within
+  acts (And a b x) c s admits within jumps = goes_to _ refl (omega arith) within
+  acts (Or a b x) c s admits within jumps = goes_to _ refl (omega arith) within
+  acts (Xor a b x) c s admits within jumps = goes_to _ refl (omega arith) within
   acts (Jump to) c s admits within jumps = goes_to _ refl (jumps to refl) within
+  acts (JumpEqual a b to) c s admits within jumps = branches (int_eq (read fr below s a) (read fr below s b)) to s (jumps to refl) within
+  acts (JumpLess a b to) c s admits within jumps = branches (int_lt (read fr below s a) (read fr below s b)) to s (jumps to refl) within
   acts (JumpNull a to) c s admits within jumps =
       elim (held s.cells (here fr below s a)) as (λ o. On p (Run fr ∷ below) (jumped p c fr below s o to).tasks) [
         | None ↦ goes_to _ refl (jumps to refl) within
@@ -170,7 +186,7 @@ module _ (p : Image) (t : Typing) (refused : List ℕ) (linked : IsLinked p) (ad
   by_move lines s r typed alone busy again =
       let free = is_open s in
       let then_is = goes_of (step p (choice s) s) (keeps (choice s) s typed free.name) in
-      let on = steps_on p linked admitted bare s.tasks alone (choice s) (counted p s) then_is.0 (λ e. not_idle _ _ _ busy.2 e) (λ e. root_null p t s admitted typed e) then_is.1 in
+      let on = steps_on p linked admitted bare s.tasks alone (choice s) (counted p s) then_is.0 (λ e. not_idle _ _ _ busy.2 e) (λ e. root_null p t s linked admitted typed e) then_is.1 in
       further lines (written p s) (again (written p s) then_is.0 on.less (moves (choice s) r busy free then_is.1) then_is.2 on.alone)
 
   by_tasks : (ts : List Task) (lines : List Line) (s : State) → s.tasks ≡ ts → s.rest.ended ≡ None → Reaches p refused (boot_state p) lines s → (IsBusy s → Completed p refused lines) → Completed p refused lines

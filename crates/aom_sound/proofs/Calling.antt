@@ -1,8 +1,8 @@
 -- A method is called: on its caller's own object, on what a register or a field owns, or on nothing.
 use Rattle.std.proofs.Common.{Bool, List, None, Option, Some, [], ap, arith, cond, false, inl, inr, length, refl, subst, suc, sym, true, zero, ℕ, ℤ, ◌&&◌, ◌+◌, ◌<◌, ◌==◌, ◌∙◌, ◌∷◌, ◌≡◌, ◌≤◌}
-use Rattle.std.proofs.lemmas.Bool.{and_from, eq-eqb, eqb-true, le-leb, ne_eqb, true≢false}
+use Rattle.std.proofs.lemmas.Bool.{and_from, eq-eqb, eqb-true, ne_eqb, true≢false}
 use Rattle.std.proofs.lemmas.Bool.Decides.{leb_tells}
-use Rattle.std.specs.Prelude.{is_none, is_some, map, not, replicate, ◌++◌, ◌⊎◌}
+use Rattle.std.specs.Prelude.{is_none, is_some, map, not, replicate, ◌⊎◌}
 use Rattle.aom_image.specs.Image.{Image}
 use Rattle.aom_image.specs.Views.{arguments_of, gives_of, instr_at, leaves, method_class, method_role}
 use Rattle.aom_image.specs.declared.instr.Instr.TheVariants.{Call}
@@ -15,14 +15,14 @@ use Rattle.aom_image.specs.declared.method.Gives.TheVariants.{Left, Maybe as A_m
 use Rattle.aom_image.specs.declared.method.Role.{Role}
 use Rattle.aom_image.specs.declared.method.Role.TheVariants.{Accept, Cancel, Construct, Destruct, Do, Error, Main, Run as Runs, Service, Undo}
 use Rattle.aom_image.specs.declared.method.Thing.{Thing}
-use Rattle.aom_image.specs.declared.method.Thing.TheVariants.{Message, Object as An_object_of}
+use Rattle.aom_image.specs.declared.method.Thing.TheVariants.{Object as An_object_of}
 use Rattle.aom_shape.specs.Calls.{age_need, arguments_moved, awaits, brought, is_among, is_construct, is_own_for, is_target, each_argument, rule_target, stands_here, while_called}
 use Rattle.aom_shape.specs.Kinds.{field, filled, is_fresh_kind, is_object_or_null, is_ready_kind, is_unowning, none_owns, readied, register, set_register}
 use Rattle.aom_shape.specs.Needs.{AllTrue, only_if}
 use Rattle.aom_shape.specs.Order.{SaysNoMore, Weaker, WeakerFilling, alike, alike_filling, perhaps_empty, perhaps_full}
 use Rattle.aom_shape.specs.Shape.{Shape}
-use Rattle.aom_shape.specs.Tables.{at, put_at}
-use Rattle.aom_shape.specs.Things.{Holder, Member, Nobody, Program, field_thing, holder_by, holder_of, stands_for}
+use Rattle.aom_shape.specs.Tables.{at}
+use Rattle.aom_shape.specs.Things.{Member, Nobody, field_thing, holder_by, holder_of, stands_for}
 use Rattle.aom_shape.specs.Typing.{IsTyped, Leads, Typing, argument_kind, entry_fields, entry_shape}
 use Rattle.aom_shape.specs.declared.kind.Age.{Age}
 use Rattle.aom_shape.specs.declared.kind.Age.TheVariants.{Fresh, Ready}
@@ -30,7 +30,7 @@ use Rattle.aom_shape.specs.declared.kind.Filling.{Filling}
 use Rattle.aom_shape.specs.declared.kind.Filling.TheVariants.{Empty, Full, Perhaps}
 use Rattle.aom_shape.specs.declared.kind.Kind.{Kind}
 use Rattle.aom_shape.specs.declared.kind.Kind.TheVariants.{Maybe, Null, Own, Unset, Word}
-use Rattle.aom_sound.proofs.Claimed.{NoFieldHere, Outside, claim_from, claim_register_above, claim_unclaimed, claim_weaker, filled_weaker, fits_weaker, layer_rel, length_objects, no_field_here, outside_differs, word_fits_weaker}
+use Rattle.aom_sound.proofs.Claimed.{Outside, claim_from, claim_register_above, claim_unclaimed, claim_weaker, filled_weaker, fits_weaker, layer_rel, length_objects, outside_differs, word_fits_weaker}
 use Rattle.aom_sound.proofs.Destroying.{Untouched, at_alike, eqb_comm, other_name, untouched, untouched_method}
 use Rattle.aom_sound.proofs.Finishing.{all_join, all_parts, none_owns_at}
 use Rattle.aom_sound.proofs.Jumps.{words_kept}
@@ -38,14 +38,13 @@ use Rattle.aom_sound.proofs.Maps.{at-put_at, held_lives, held_moved, same_place-
 use Rattle.aom_sound.proofs.Passing.{Passed, all_passed, each_met, lower, none_passed, taken, taker, under, upper}
 use Rattle.aom_sound.proofs.Straight.{At, Law, claim_field, claim_register, field_fits, field_not_from, field_outside, fits_unowning, kind_fits, top, word_of_object}
 use Rattle.aom_sound.proofs.Things.{stands_along, stands_same}
-use Rattle.aom_sound.specs.Calls.{entered, needs_each, needs_result, needs_target, needs_target_object, home_at, own_home, passed_cells, passed_words, result_register, target_home, works_on}
+use Rattle.aom_sound.specs.Calls.{needs_each, needs_result, needs_target, needs_target_object, home_at, own_home, passed_cells, passed_words, result_register, target_home, works_on}
 use Rattle.aom_sound.specs.Claims.{Layer, Method, claim, declared, declared_field, home_claim, items_of, objects, tasks_of}
 use Rattle.aom_sound.specs.Laws.{IsCalled, IsWired}
 use Rattle.aom_sound.specs.Moves.{does}
-use Rattle.aom_sound.specs.Objects.{is_thing}
-use Rattle.aom_sound.specs.Places.{Cell, Elsewhere, Entry, Field, Going, Object, Place, Register, Root, changed, held, moved, named, same_place}
+use Rattle.aom_sound.specs.Places.{Cell, Elsewhere, Entry, Field, Going, Object, Place, Register, Root, held, moved, named, same_place}
 use Rattle.aom_sound.specs.State.{AtRoot, Choice, Frame, Home, Inside, Run, State, Static, WrongKind, field_place, frame_of, home_holder, thing_holder, word}
-use Rattle.aom_sound.specs.WellTyped.{Awaits, Fits, Frames, Good, Holds, IsApart, IsBelow, IsHoused, IsNoFieldOf, NotIn, Returns, SomeIn, Stack, Stands, Unclaimed, WellTyped, WordFits, WorksOn, by_field}
+use Rattle.aom_sound.specs.WellTyped.{Awaits, Fits, Good, Holds, IsApart, IsBelow, IsHoused, IsNoFieldOf, NotIn, Returns, Stands, Unclaimed, WellTyped, WordFits, WorksOn, by_field}
 
 -- what a test that is asked for says
 only_then : (a b : Bool) → only_if a b ≡ true → a ≡ true → b ≡ true
@@ -148,11 +147,11 @@ module _ (p : Image) (s : State) (fr : Frame) (ls : List Layer) where
       let a = lower p t fr ls first in
       let b = upper p t fr ls to in
       passed_elsewhere t xs (suc first) (suc to) (moved a b cs) q
-          (λ i le. held_moved cs a b (upper p t fr ls i) (free to (omega arith))
-              ∙ ap (λ y. cond y (held cs a) (cond (same_place a (upper p t fr ls i)) None (held cs (upper p t fr ls i)))) (same_upper i le)
-              ∙ ap (λ y. cond y None (held cs (upper p t fr ls i))) (lower_upper i)
-              ∙ free i (omega arith))
-          (λ i le lt. lo i (omega arith) (omega arith)) up
+      (λ i le. held_moved cs a b (upper p t fr ls i) (free to (omega arith))
+      ∙ ap (λ y. cond y (held cs a) (cond (same_place a (upper p t fr ls i)) None (held cs (upper p t fr ls i)))) (same_upper i le)
+      ∙ ap (λ y. cond y None (held cs (upper p t fr ls i))) (lower_upper i)
+      ∙ free i (omega arith))
+      (λ i le lt. lo i (omega arith) (omega arith)) up
       ∙ held_moved cs a b q (free to (omega arith))
       ∙ ap (λ y. cond y (held cs a) (cond (same_place a q) None (held cs q))) (up to)
       ∙ ap (λ y. cond y None (held cs q)) (lo first (omega arith) (omega arith))

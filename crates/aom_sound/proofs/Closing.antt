@@ -1,14 +1,13 @@
 -- A dispatch ends: the run goes on, or it is over, or the root goes first.
-use Rattle.std.proofs.Common.{Bool, List, None, Option, Some, [], ap, arith, cond, false, length, refl, subst, sym, true, ℕ, ◌∙◌, ◌∷◌, ◌≡◌}
+use Rattle.std.proofs.Common.{Bool, List, None, Option, Some, [], ap, arith, false, length, refl, subst, sym, true, ◌∙◌, ◌∷◌, ◌≡◌}
 use Rattle.aom_image.specs.Image.{Image}
 use Rattle.aom_image.specs.declared.method.Thing.{Thing}
 use Rattle.aom_shape.specs.Kinds.{filled}
 use Rattle.aom_shape.specs.Things.{Program, field_thing}
 use Rattle.aom_shape.specs.Typing.{IsTyped, Typing}
 use Rattle.aom_shape.specs.declared.kind.Filling.TheVariants.{Perhaps}
-use Rattle.aom_shape.specs.declared.kind.Kind.{Kind}
 use Rattle.aom_shape.specs.declared.kind.Kind.TheVariants.{Null}
-use Rattle.aom_sound.proofs.Destroying.{Untouched, begin, goes_fitting, goes_there, no_going}
+use Rattle.aom_sound.proofs.Destroying.{begin, goes_fitting, goes_there, no_going}
 use Rattle.aom_sound.proofs.Maps.{held_lives, named_moved, tidy_moved}
 use Rattle.aom_sound.proofs.Straight.{fits_unowning}
 use Rattle.aom_sound.specs.Claims.{Dispatching, Layer, claim, declared, items_of, tasks_of}

@@ -19,7 +19,7 @@ use Rattle.aom_shape.specs.declared.kind.Kind.TheVariants.{Maybe, Null, Own, Uns
 use Rattle.aom_sound.proofs.Claimed.{claim-set_field, claim-set_register, claim_frame}
 use Rattle.aom_sound.proofs.Maps.{at-put_at}
 use Rattle.aom_sound.proofs.Straight.{At, Fitted, Law, field_fits, fitted, kind_fits, no_word, relabel, settle, stepped, top, well}
-use Rattle.aom_sound.specs.Claims.{Layer, claim, declared, items_of, objects, tasks_of}
+use Rattle.aom_sound.specs.Claims.{Layer, declared, items_of, objects, tasks_of}
 use Rattle.aom_sound.specs.Moves.{does}
 use Rattle.aom_sound.specs.Objects.{jumped}
 use Rattle.aom_sound.specs.Places.{Object, Place, held}

@@ -20,4 +20,5 @@ pub mod Booting
 pub mod Owners
 pub mod Soundness
 pub mod Wiring
+pub mod Looping
 pub mod Stuck

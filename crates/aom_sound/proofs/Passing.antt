@@ -1,13 +1,12 @@
 -- The arguments of a call go over to the method called, one after the other.
-use Rattle.std.proofs.Common.{Bool, List, None, Option, Some, [], ap, append-nil, append_assoc, arith, cond, false, length, refl, subst, suc, sym, true, zero, ℕ, ℤ, ◌&&◌, ◌<◌, ◌==◌, ◌∙◌, ◌∷◌, ◌≡◌}
+use Rattle.std.proofs.Common.{Bool, List, None, Option, [], ap, append-nil, append_assoc, arith, cond, false, length, refl, subst, suc, sym, true, ℕ, ℤ, ◌&&◌, ◌<◌, ◌==◌, ◌∙◌, ◌∷◌, ◌≡◌}
 use Rattle.std.proofs.lemmas.Bool.{eqb-true, ne_eqb}
-use Rattle.std.specs.Prelude.{is_none, is_some, map, ◌++◌}
+use Rattle.std.specs.Prelude.{is_none, map, ◌++◌}
 use Rattle.aom_image.specs.Image.{Image}
 use Rattle.aom_image.specs.declared.method.Argument.{Argument}
 use Rattle.aom_image.specs.declared.method.Argument.TheVariants.{Own as Takes_own, Word as Takes_word}
-use Rattle.aom_image.specs.declared.method.Thing.{Thing}
-use Rattle.aom_shape.specs.Calls.{argument_needs, arguments_moved, each_argument, is_own_for}
-use Rattle.aom_shape.specs.Kinds.{is_object_or_null, is_ready_kind, is_word, register, set_register}
+use Rattle.aom_shape.specs.Calls.{argument_needs, arguments_moved, each_argument}
+use Rattle.aom_shape.specs.Kinds.{is_object_or_null, register, set_register}
 use Rattle.aom_shape.specs.Needs.{AllTrue}
 use Rattle.aom_shape.specs.Shape.{Shape}
 use Rattle.aom_shape.specs.Tables.{at, put_at}
@@ -20,10 +19,10 @@ use Rattle.aom_sound.proofs.Finishing.{all_join, all_parts}
 use Rattle.aom_sound.proofs.Maps.{at-put_at, held_moved, same_place-true, tidy_moved}
 use Rattle.aom_sound.proofs.Returning.{held_thing, may_own, word_is}
 use Rattle.aom_sound.proofs.Straight.{At, claim_register, fits_unowning, housed_relocated, kind_fits, no_word_fits, word_of_object, words_null, words_set}
-use Rattle.aom_sound.specs.Calls.{needs_argument, needs_each, passed_cells, passed_words}
+use Rattle.aom_sound.specs.Calls.{needs_each, passed_cells, passed_words}
 use Rattle.aom_sound.specs.Claims.{Layer, Method, claim, declared, tasks_of}
 use Rattle.aom_sound.specs.Places.{Cell, Elsewhere, Entry, Field, Going, Place, Register, Root, Tidy, changed, held, moved, same_place}
-use Rattle.aom_sound.specs.State.{Choice, Frame, Run, State, Static, frame_of, word}
+use Rattle.aom_sound.specs.State.{Choice, Frame, State, Static, frame_of, word}
 use Rattle.aom_sound.specs.WellTyped.{Fits, Good, IsHoused, Returns, Stack, WordFits}
 
 -- a list written at its end, and read there

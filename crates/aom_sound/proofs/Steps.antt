@@ -1,6 +1,5 @@
 -- Every move from a well-typed state.
-use Rattle.std.proofs.Common.{Bool, List, None, Option, Some, [], ap, cond, false, refl, subst, sym, true, ℕ, ℤ, ◌==◌, ◌∙◌, ◌∷◌, ◌≡◌}
-use Rattle.std.proofs.lemmas.Bool.{eqb-true}
+use Rattle.std.proofs.Common.{List, None, Some, [], cond, refl, subst, sym, ℕ, ◌∙◌, ◌∷◌, ◌≡◌}
 use Rattle.std.specs.Int.{w32, int_bit_and, int_bit_or, int_bit_xor, int_wrapping_add, int_wrapping_mul, int_wrapping_sub}
 use Rattle.std.specs.Ordering.{int_eq}
 use Rattle.std.specs.Prelude.{int_lt}
@@ -8,17 +7,11 @@ use Rattle.aom_image.specs.Image.{Image}
 use Rattle.aom_image.specs.Views.{instr_at}
 use Rattle.aom_image.specs.declared.instr.Instr.{Instr}
 use Rattle.aom_image.specs.declared.instr.Instr.TheVariants.{Add, And, Call, Const, Copy, Delete, Jump, JumpEmpty, JumpEqual, JumpLess, Load, Loop, Next, Store, JumpNull, Move, Mul, New, Or, Print, Put, Return, Stop, Sub, Take, Xor}
-use Rattle.aom_shape.specs.Kinds.{is_object_or_null, is_word, register, set_register}
 use Rattle.aom_shape.specs.Needs.{AllTrue}
-use Rattle.aom_shape.specs.Objects.{flow_jump_null}
 use Rattle.aom_shape.specs.Shape.{Shape}
 use Rattle.aom_shape.specs.Tables.{at}
-use Rattle.aom_shape.specs.Things.{holder_of}
-use Rattle.aom_shape.specs.Typing.{AllLead, IsTyped, Typing}
-use Rattle.aom_shape.specs.declared.kind.Kind.{Kind}
-use Rattle.aom_shape.specs.declared.kind.Kind.TheVariants.{Maybe, Null, Own, Unset, Word}
+use Rattle.aom_shape.specs.Typing.{IsTyped, Typing}
 use Rattle.aom_sound.proofs.Calling.{law_call}
-use Rattle.aom_sound.proofs.Claimed.{claim-set_register, claim_frame}
 use Rattle.aom_sound.proofs.Creation.{law_new}
 use Rattle.aom_sound.proofs.Destroying.{law_delete}
 use Rattle.aom_sound.proofs.Destructors.{law_destructor}
@@ -28,14 +21,13 @@ use Rattle.aom_sound.proofs.Jumps.{law_jump, law_jump_empty, law_jump_null, law_
 use Rattle.aom_sound.proofs.Words.{law_binary, law_compare, law_const, law_copy, law_load, law_print, law_store}
 use Rattle.aom_sound.proofs.Moves.{law_move, law_put, law_take}
 use Rattle.aom_sound.proofs.Returning.{law_return, law_return_caught, law_return_dispatch}
-use Rattle.aom_sound.proofs.Straight.{At, Fitted, Law, fitted, kind_fits, no_word, relabel, settle, stepped, top, well}
-use Rattle.aom_sound.specs.Claims.{Dispatching, Dying, Layer, Mark, Method, claim, declared, items_of, tasks_of}
+use Rattle.aom_sound.proofs.Straight.{At, Law, fitted, settle, stepped, well}
+use Rattle.aom_sound.specs.Claims.{Dispatching, Dying, Layer, Mark, Method, items_of, tasks_of}
 use Rattle.aom_sound.specs.Laws.{IsWired}
 use Rattle.aom_sound.specs.Moves.{counted, dispatch_ends, does, needs, step, step_instr, step_task}
-use Rattle.aom_sound.specs.Objects.{jumped}
-use Rattle.aom_sound.specs.Places.{Elsewhere, Entry, Field, Going, Object, Place, Register, Root, held, named}
-use Rattle.aom_sound.specs.State.{Choice, Destroy, Dispatch, Dispatched, Frame, IsStuck, Need, Of_main, Of_root, Run, State, Task, Trapped, guarded, home_holder, next, to_place, word}
-use Rattle.aom_sound.specs.WellTyped.{Caught, Fits, Good, IsApart, IsHoused, Keeps, Now, Returns, Stack, WellTyped, WordFits}
+use Rattle.aom_sound.specs.Places.{named}
+use Rattle.aom_sound.specs.State.{Choice, Destroy, Dispatch, Dispatched, Frame, IsStuck, Need, Of_main, Of_root, Run, State, Task, Trapped, guarded, next}
+use Rattle.aom_sound.specs.WellTyped.{Caught, Good, Keeps, Now, Returns, WellTyped}
 
 -- a state goes on where all needs are met
 kept : (p : Image) (t : Typing) (needs : List Need) (s : State) → AllTrue needs → WellTyped p t s → Keeps p t (guarded needs s)

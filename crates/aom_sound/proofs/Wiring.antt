@@ -9,7 +9,8 @@ use Rattle.aom_classes.specs.Roles.{is_class, main_of, plays, role_number, role_
 use Rattle.aom_image.specs.Image.{Image}
 use Rattle.aom_image.specs.Views.{arguments_in, arguments_of, class_at, class_in, instr_at, instr_in, method_class, fields_in, gives_in, gives_of, method_at, method_role, role_in}
 use Rattle.aom_image.specs.declared.class.ClassDecl.{ClassDecl}
-use Rattle.aom_image.specs.declared.instr.Instr.TheVariants.{Call}
+use Rattle.aom_image.specs.declared.instr.Instr.{Instr}
+use Rattle.aom_image.specs.declared.instr.Instr.TheVariants.{Call, Loop, Next}
 use Rattle.aom_image.specs.declared.instr.Target.{Target}
 use Rattle.aom_image.specs.declared.method.Gives.{Gives}
 use Rattle.aom_image.specs.declared.method.Gives.TheVariants.{Left, Maybe as A_maybe, Nothing, Own as An_own, Word as A_word}
@@ -19,6 +20,7 @@ use Rattle.aom_image.specs.declared.method.Role.TheVariants.{Accept, Cancel as R
 use Rattle.aom_image.specs.declared.method.Thing.TheVariants.{Object as An_object_of}
 use Rattle.aom_shape.specs.Things.{Member, field_thing}
 use Rattle.aom_sound.specs.Laws.{IsWired}
+use Rattle.aom_sound.specs.Loops.{IsLooped}
 use Rattle.aom_classes.proofs.Each.{both}  -- keep
 use Rattle.aom_classes.proofs.Facts.{Bare, bare_of, admitted_method, admitted_class, main_is_there}  -- keep
 use Rattle.std.proofs.lemmas.List.Quantifiers.{position-Some}  -- keep
@@ -119,17 +121,39 @@ module _ (p : Image) (linked : IsLinked p) (admitted : IsAdmitted p) where
       go None e = refl
       go (Some d) e = static m d e
 
-  -- no method calls
-  no_call : (m place : ℕ) (target : Target) (m' first x : ℕ) → instr_at p m place ≡ Some (Call target m' first x) → ⊥
-  unfolding instr_in admits_instr
-  no_call m place target m' first x e = go (method_at p m) refl e
+  -- no other instruction stands in it
+  unadmitted : (m place : ℕ) (i : Instr) → admits_instr i ≡ false → instr_at p m place ≡ Some i → ⊥
+  unfolding instr_in
+  unadmitted m place i other e = go (method_at p m) refl e
     where
-      go : (o : Option Method_declared) → method_at p m ≡ o → instr_in o place ≡ Some (Call target m' first x) → ⊥
+      go : (o : Option Method_declared) → method_at p m ≡ o → instr_in o place ≡ Some i → ⊥
       go None f e = cc
       go (Some d) f e =
           let passes = (bare m d f).code place in
-          let clash : false ≡ true = subst (λ o. IfSome o (λ i. IsTrue (admits_instr i))) e passes in
+          let clash : false ≡ true = sym other ∙ subst (λ o. IfSome o (λ i. IsTrue (admits_instr i))) e passes in
           cc
+
+  no_call : (m place : ℕ) (target : Target) (m' first x : ℕ) → instr_at p m place ≡ Some (Call target m' first x) → ⊥
+  unfolding admits_instr
+  no_call m place target m' first x e = unadmitted m place (Call target m' first x) refl e
+
+  no_loop : (m place d n : ℕ) → instr_at p m place ≡ Some (Loop d n) → ⊥
+  unfolding admits_instr
+  no_loop m place d n e = unadmitted m place (Loop d n) refl e
+
+  no_next : (m place d t : ℕ) → instr_at p m place ≡ Some (Next d t) → ⊥
+  unfolding admits_instr
+  no_next m place d t e = unadmitted m place (Next d t) refl e
+
+  is_looped : IsLooped p
+  is_looped = record {
+    jumps = λ m place t i at jump from to d n body inside. absurd (no_loop m from d n body.begins);
+    nexts = λ m place e t at from to d n body inside. absurd (no_loop m from d n body.begins);
+    begins = λ m place d n at. absurd (no_loop m place d n at);
+    closes = λ m place d t at. absurd (no_next m place d t at);
+    once = λ m from to to' d n body other. absurd (no_loop m from d n body.begins);
+    apart = λ m from to d n from' to' d' n' place body other differs here there. absurd (no_loop m from d n body.begins);
+  }
 
   is_wired : IsWired p
   is_wired = record {
@@ -151,3 +175,6 @@ module _ (p : Image) (linked : IsLinked p) (admitted : IsAdmitted p) where
 
 pub linked_is_wired : (p : Image) → IsLinked p → IsAdmitted p → IsWired p × (p.header.root ≡ None)
 linked_is_wired p linked admitted = (is_wired p linked admitted, rootless p linked admitted)
+
+pub linked_is_looped : (p : Image) → IsLinked p → IsAdmitted p → IsLooped p
+linked_is_looped p linked admitted = is_looped p linked admitted

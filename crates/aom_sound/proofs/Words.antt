@@ -1,5 +1,5 @@
 -- The laws of the instructions on words.
-use Rattle.std.proofs.Common.{Bool, List, None, Option, Some, ap, refl, subst, sym, true, ℕ, ℤ, ◌∙◌, ◌∷◌, ◌≡◌}
+use Rattle.std.proofs.Common.{Bool, List, None, Option, Some, ap, refl, true, ℕ, ℤ, ◌∙◌, ◌≡◌}
 use Rattle.std.specs.Prelude.{is_none, is_some, length, nat_lt}
 use Rattle.aom_image.specs.Image.{Image}
 use Rattle.aom_image.specs.declared.instr.Instr.TheVariants.{Const, Copy, Load, Print, Store}
@@ -7,7 +7,7 @@ use Rattle.aom_shape.specs.Kinds.{is_unowning, is_word, register, set_register}
 use Rattle.aom_shape.specs.Needs.{AllTrue}
 use Rattle.aom_shape.specs.Shape.{Shape}
 use Rattle.aom_shape.specs.Things.{holder_of, word_count}
-use Rattle.aom_shape.specs.Typing.{AllLead, Leads, Typing}
+use Rattle.aom_shape.specs.Typing.{AllLead, Typing}
 use Rattle.aom_shape.specs.Words.{flow_compare, flow_word, rule_combine, rule_compare}
 use Rattle.aom_shape.specs.declared.kind.Kind.{Kind}
 use Rattle.aom_shape.specs.declared.kind.Kind.TheVariants.{Maybe, Null, Own, Unset, Word}
@@ -19,7 +19,7 @@ use Rattle.aom_sound.specs.Moves.{does}
 use Rattle.aom_sound.specs.Places.{Register, held}
 use Rattle.aom_sound.specs.State.{Choice, Frame, State, home_holder, next, set_word, word}
 use Rattle.aom_sound.specs.WellTyped.{WellTyped, WordFits}
-use Rattle.aom_sound.specs.Words.{branched, does_binary, does_compare, does_const, needs_binary, needs_compare, loaded, read, stored}
+use Rattle.aom_sound.specs.Words.{does_binary, does_compare, does_const, needs_binary, needs_compare, loaded, read, stored}
 
 is_read : (w : Option ℤ) (k : Kind) → is_word k ≡ true → WordFits w k → is_some w ≡ true
 is_read w Unset e f = cc
