@@ -24,6 +24,6 @@ pub data Moves (p : Image) : ℕ → State → State → Type 0 where
 abbrev pub RanksBoundMoves : Type 0
 RanksBoundMoves = (p : Image) (t : Typing) → IsWired p → IsLinked p → IsTyped p t → (n : ℕ) (s u : State) → WellTyped p t s → Moves p n s u → n + rank p u ≤ rank p s
 
--- of the cells of a well-typed state, those stand that no destruction is at hand for
+-- in a well-typed state each cell stands, or is the one that a destruction at hand is for
 abbrev pub CellsStandOrGo : Type 0
 CellsStandOrGo = (p : Image) (t : Typing) (s : State) → WellTyped p t s → standing s.cells + destructions s.tasks ≡ length s.cells
