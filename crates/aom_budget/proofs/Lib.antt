@@ -1,0 +1,4 @@
+pub mod Calling
+pub mod Greatest
+pub mod Raising
+pub mod Settled
