@@ -2,3 +2,4 @@ pub mod Calling
 pub mod Greatest
 pub mod Raising
 pub mod Settled
+pub mod Examples
