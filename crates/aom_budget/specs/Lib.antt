@@ -1,0 +1,4 @@
+pub mod Calls
+pub mod Depths
+pub mod Faults
+pub mod Tables

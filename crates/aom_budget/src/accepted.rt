@@ -1,20 +1,20 @@
 //! Accepted images.
-ghost use Rattle.std.specs.Prelude.{◌≡◌, IfOk, IsOk};
+ghost use Rattle.std.specs.Prelude.{◌≡◌, IfOk, IfErr};
 ghost use Rattle.aom_classes.specs.Admitted.{IsAdmitted};
 ghost use Rattle.aom_classes.specs.Linked.{IsLinked};
 ghost use Rattle.aom_shape.specs.Typing.{Typing, IsTyped};
+ghost use Rattle.aom_verify.specs.Strongest.{IsStrongest};
+ghost use Rattle.aom_budget.specs.Depths.{HasDepths, DepthsWithin};
+ghost use Rattle.aom_budget.specs.Faults.{Refuses};
 
+use crate::BudgetFault;
+use crate::depths::Depths;
 use aom_classes::Linked;
 use aom_verify::Checked;
 use std::alloc::Global;
 use std::marker::Model;
 
-/// Why a checked image is not accepted. There is no reason yet: what an image declares is compared from the stage with
-/// prices on, and the faults come then.
-#[derive(Clone, Copy)]
-pub enum BudgetFault {}
-
-/// A checked image that keeps within what it declares.
+/// A checked image that keeps within its limits.
 #[derive(Drop)]
 pub struct Accepted {
     checked: Checked,
@@ -22,10 +22,13 @@ pub struct Accepted {
 
 impl Model for Accepted {
     ghost use Rattle.aom_image.specs.Image.{Image};
+    ghost use Rattle.aom_budget.specs.Depths.{HasDepths};
 
     ghost Value = { Image };
 
     ghost view = { λ a. a.checked };
+
+    ghost invariant = { λ a. HasDepths a.checked };
 }
 
 impl Accepted {
@@ -41,21 +44,27 @@ impl Accepted {
         self.checked.linked()
     }
 
-    /// It is linked, has nothing that is not admitted yet, and has a typing.
+    /// It is linked, has nothing that is not admitted yet, and has a typing. What an instruction that its strongest
+    /// typing reaches may call is less deep than its own method, so no stack of such frames is higher than 256.
     pub fn facts(&self)
         ensures linked { IsLinked self.now }
         ensures admitted { IsAdmitted self.now }
         ensures typed { (t : Typing) × IsTyped self.now t }
+        ensures strongest { (t : Typing) × IsStrongest self.now t }
+        ensures depths { HasDepths self.now }
+        ensures within { DepthsWithin self.now }
     {
         self.linked().facts();
         self.checked.typed();
     }
 }
 
-/// Accepts an image: the image as it was. Every checked image is accepted as long as nothing is compared.
-pub fn accept(_alloc: Global, checked: Checked) -> Result<Accepted, BudgetFault>
-    ensures always { IsOk result }
+/// Accepts an image, or refuses it where a method may come to more than 256 frames. A refused image is dropped.
+pub fn accept(alloc: Global, checked: Checked) -> Result<Accepted, BudgetFault>
     ensures ok { IfOk result (λ accepted. accepted ≡ checked) }
+    ensures refused { IfErr result (λ fault. Refuses checked fault) }
+    ensures complete { DepthsWithin checked → IfErr result (λ fault. fault ≡ BudgetFault.OutOfMemory) }
 {
+    Depths::of_image(alloc, &checked)?;
     Ok(Accepted { checked })
 }

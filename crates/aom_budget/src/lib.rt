@@ -1,10 +1,14 @@
-//! Acceptance: whether a checked image keeps within what it declares.
+//! Acceptance: whether a checked image keeps within its limits.
 //!
-//! Promises: `accept` answers an `Accepted`, which hands out all that is known of a linked, checked and accepted image.
-//! Budgets and depths are not compared yet, so every checked image is accepted; refusals come with prices. It knows
-//! nothing of the machine.
+//! Promises: `accept` answers an `Accepted` where no method may come to more than 256 frames, and an `Accepted` hands
+//! out all that is known of a linked, checked and accepted image. What the image declares is not compared yet: that
+//! comes with prices. It knows nothing of the machine.
 #![tactic(auto)]
 
 mod accepted;
+mod callees;
+mod depths;
+mod fault;
 
-pub use accepted::{Accepted, BudgetFault, accept};
+pub use accepted::{Accepted, accept};
+pub use fault::BudgetFault;

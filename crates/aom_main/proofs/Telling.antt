@@ -4,6 +4,7 @@ use Rattle.aom_image.specs.Image.{Image}
 use Rattle.aom_classes.specs.Admitted.{IsAdmitted}
 use Rattle.aom_classes.specs.Linked.{IsLinked}
 use Rattle.aom_shape.specs.Typing.{Typing, IsTyped}
+use Rattle.aom_budget.specs.Depths.{DepthsWithin}
 use Rattle.aom_sound.specs.Laws.{LinkedIsWired, TypedIsSound}
 use Rattle.aom_exec.specs.declared.progress.Outcome.{Outcome}
 use Rattle.aom_exec.specs.declared.progress.Outcome.TheVariants.{Stopped, Waiting, WriteFault}
@@ -15,14 +16,14 @@ use Rattle.aom_main.specs.Headline.{Sent, Told, Shows, Ends, Runs, RunAnswers}
 use Rattle.aom_main.specs.Headline.RunBreaks.{output_fails}
 
 -- a run of a linked image that has a typing
-abbrev pub runs_of : (bytes text : List ℕ) (p : Image) (script : Script) → IsLinked p → IsAdmitted p → (t : Typing) × IsTyped p t → LinkedIsWired → TypedIsSound
+abbrev pub runs_of : (bytes text : List ℕ) (p : Image) (script : Script) → IsLinked p → IsAdmitted p → (t : Typing) × IsTyped p t → DepthsWithin p → LinkedIsWired → TypedIsSound
     → IsSpelled bytes p → denoted text ≡ Ok script → Runs bytes text
-runs_of bytes text p script linked admitted typed wired sound spelled denotes =
+runs_of bytes text p script linked admitted typed depths wired sound spelled denotes =
     let w = wired p linked admitted in
     record {
       image = p;
       spelled = spelled;
-      acceptable = record { admitted = admitted; linked = linked; typing = typed.0; typed = typed.1 };
+      acceptable = record { admitted = admitted; linked = linked; typing = typed.0; typed = typed.1; depths = depths };
       script = script;
       denotes = denotes;
       sound = sound p typed.0 script.refused w.0 typed.1;

@@ -9,25 +9,29 @@ use Rattle.aom_classes.specs.Linked.{IsLinked}
 use Rattle.aom_classes.specs.Faults.{Refuses as RefusesLink}
 use Rattle.aom_shape.specs.Typing.{Typing, IsTyped}
 use Rattle.aom_verify.specs.Refusals.{Refuses as RefusesTyping}
+use Rattle.aom_budget.specs.Depths.{DepthsWithin}
+use Rattle.aom_budget.specs.Faults.{Refuses as RefusesDepths}
 use Rattle.aom_main.specs.declared.faults.Fault.{Fault}
-use Rattle.aom_main.specs.declared.faults.Fault.TheVariants.{Load, Link, Verify, Memory}
+use Rattle.aom_main.specs.declared.faults.Fault.TheVariants.{Load, Link, Verify, Budget, Memory}
 
 -- the bytes are the spelling of that well-formed image
 pub record IsSpelled (bytes : List ℕ) (p : Image) : Type 0 where
   pub formed : WellFormed p
   pub spelling : bytes ≡ spell p
 
--- the image is admitted, keeps the link conditions, and has a typing
+-- the image is admitted, keeps the link conditions, has a typing, and comes to no more than 256 frames by it
 pub record IsAcceptable (p : Image) : Type 0 where
   pub admitted : IsAdmitted p
   pub linked : IsLinked p
   pub typing : Typing
   pub typed : IsTyped p typing
+  pub depths : DepthsWithin p
 
 -- why the bytes are no accepted image: the first fault of the way from them to one
 abbrev pub Refuses : List ℕ → Fault → Type 0
 Refuses bytes (Load fault) = first_fault bytes ≡ Some fault
 Refuses bytes (Link fault) = (p : Image) × IsSpelled bytes p × RefusesLink p fault
 Refuses bytes (Verify refusal) = (p : Image) × IsSpelled bytes p × IsAdmitted p × IsLinked p × RefusesTyping p refusal
+Refuses bytes (Budget fault) = (p : Image) × IsSpelled bytes p × IsAdmitted p × IsLinked p × ((t : Typing) × IsTyped p t) × RefusesDepths p fault
 Refuses bytes Memory = Unit {0}
 Refuses bytes _ = ⊥

@@ -10,6 +10,9 @@ use Rattle.aom_classes.specs.declared.fault.LinkFault.TheVariants as links
 use Rattle.aom_verify.specs.Refusals.{line_of}
 use Rattle.aom_verify.specs.declared.refusal.Refusal.{Refusal}
 use Rattle.aom_verify.specs.declared.refusal.Refusal.TheVariants as refusals
+use Rattle.aom_budget.specs.Faults.{number_of as budget_number}
+use Rattle.aom_budget.specs.declared.fault.BudgetFault.{BudgetFault}
+use Rattle.aom_budget.specs.declared.fault.BudgetFault.TheVariants as budgets
 use Rattle.aom_run.specs.Faults.{fault_text}
 use Rattle.aom_run.specs.declared.fault.ScriptFault.{ScriptFault}
 use Rattle.aom_run.specs.declared.fault.ScriptFaultKind.{ScriptFaultKind}
@@ -17,7 +20,7 @@ use Rattle.aom_run.specs.declared.fault.ScriptFaultKind.TheVariants as kinds
 use Rattle.aom_main.specs.declared.status.ExitStatus.{ExitStatus}
 use Rattle.aom_main.specs.declared.status.ExitStatus.TheVariants as statuses
 use Rattle.aom_main.specs.declared.faults.Fault.{Fault}
-use Rattle.aom_main.specs.declared.faults.Fault.TheVariants.{Load, Link, Verify, Script, Native, File, Write, Memory}
+use Rattle.aom_main.specs.declared.faults.Fault.TheVariants.{Load, Link, Verify, Budget, Script, Native, File, Write, Memory}
 
 -- the number that the system gets
 abbrev pub status_number : ExitStatus → ℕ
@@ -32,6 +35,7 @@ abbrev pub fault_line : Fault → List ℕ
 fault_line (Load fault) = codes "load " ++ decimal (fault_number fault)
 fault_line (Link fault) = codes "link " ++ decimal (number_of fault)
 fault_line (Verify refusal) = line_of refusal
+fault_line (Budget fault) = codes "budget " ++ decimal (budget_number fault)
 fault_line (Script fault) = fault_text fault
 fault_line Native = codes "native"
 fault_line File = codes "file"
@@ -43,6 +47,7 @@ abbrev pub status_of : Fault → ExitStatus
 status_of (Load fault) = statuses.ImageRefused
 status_of (Link fault) = statuses.ImageRefused
 status_of (Verify refusal) = statuses.ImageRefused
+status_of (Budget fault) = statuses.ImageRefused
 status_of (Script fault) = statuses.CallRefused
 status_of Native = statuses.CallRefused
 status_of File = statuses.Fault
@@ -61,6 +66,10 @@ of_link fault = Link fault
 abbrev pub of_refusal : Refusal → Fault
 of_refusal refusals.OutOfMemory = Memory
 of_refusal refusal = Verify refusal
+
+abbrev pub of_budget : BudgetFault → Fault
+of_budget budgets.OutOfMemory = Memory
+of_budget fault = Budget fault
 
 abbrev pub of_script_kind : ScriptFault → ScriptFaultKind → Fault
 of_script_kind fault kinds.OutOfMemory = Memory

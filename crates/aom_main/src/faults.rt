@@ -19,6 +19,7 @@ pub enum Fault {
     Load(LoadFault),
     Link(LinkFault),
     Verify(Refusal),
+    Budget(BudgetFault),
     Script(ScriptFault),
     /// No native of that name.
     Native,
@@ -35,7 +36,9 @@ impl Fault {
         ensures { result ≡ status_of self.now }
     {
         match self {
-            Fault::Load(_) | Fault::Link(_) | Fault::Verify(_) => ExitStatus::ImageRefused,
+            Fault::Load(_) | Fault::Link(_) | Fault::Verify(_) | Fault::Budget(_) => {
+                ExitStatus::ImageRefused
+            }
             Fault::Script(_) | Fault::Native => ExitStatus::CallRefused,
             Fault::File | Fault::Write | Fault::Memory => ExitStatus::Fault,
         }
@@ -57,6 +60,10 @@ impl fmt::Display for Fault {
                 write!(f, "link {number}")
             }
             Fault::Verify(refusal) => write!(f, "{refusal}"),
+            Fault::Budget(fault) => {
+                let number = fault.number();
+                write!(f, "budget {number}")
+            }
             Fault::Script(fault) => write!(f, "{fault}"),
             Fault::Native => write!(f, "native"),
             Fault::File => write!(f, "file"),
@@ -109,8 +116,16 @@ impl From<Refusal> for Fault {
 }
 
 impl From<BudgetFault> for Fault {
+    ghost use Rattle.std.specs.Prelude.{◌≡◌};
+    ghost use Rattle.aom_main.specs.Status.{of_budget};
+
+    ghost from_gives = { λ e f. f ≡ of_budget e };
+
     fn from(fault: BudgetFault) -> Fault {
-        match fault {}
+        match fault {
+            BudgetFault::OutOfMemory => Fault::Memory,
+            _ => Fault::Budget(fault),
+        }
     }
 }
 

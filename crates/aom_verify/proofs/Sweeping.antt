@@ -10,6 +10,7 @@ use Rattle.aom_shape.specs.Typing.{entry_shape}
 use Rattle.aom_shape.proofs.Lists.{at_set_other, at_past}
 use Rattle.aom_verify.specs.Change.{then}
 use Rattle.aom_verify.specs.Shapes.{Shapes, IsMethodTyped, HasTyping}
+use Rattle.aom_verify.specs.Strongest.{IsMethodStrongest}
 use Rattle.aom_verify.specs.Sweep.{Spans, IsBelow, Keeps, AppliesAt, Visits, Sweeps, Settles, NoTypingBelow}
 use Rattle.aom_verify.specs.declared.change.Change.{Change}
 use Rattle.aom_verify.specs.declared.change.Change.TheVariants.{Nothing, Fell, Reached}
@@ -98,10 +99,9 @@ typing_below_first p m t places entry some no_less typed = record {
   ];
 }
 
--- settled states are a typing
-pub settled : (p : Image) (m : ℕ) (places : ℕ) (entry : Shape) (s : Shapes) → 0 < places → SaysNoMore entry (entry_shape p m) → Settles p m (first_shapes places entry) s → HasTyping p m
-settled p m places entry s some no_more h = record {
-  states = s;
+-- settled states are the strongest typing
+pub settled : (p : Image) (m : ℕ) (places : ℕ) (entry : Shape) (s : Shapes) → 0 < places → SaysNoMore entry (entry_shape p m) → SaysNoMore (entry_shape p m) entry → Settles p m (first_shapes places entry) s → IsMethodStrongest p m s
+settled p m places entry s some no_more no_less h = record {
   typed = record {
     each = λ pc sh e. elim (leb_tells (length s) pc) [
       | inl w ↦ let past = at_past None s pc w.1 in absurd cc
@@ -109,6 +109,7 @@ settled p m places entry s some no_more h = record {
     ];
     entry = meets_more s 0 entry (entry_shape p m) (h.keeps.below_old.each 0 entry (entry_stands places entry some)) no_more;
   };
+  least = λ t typed. h.keeps.typings t typed (typing_below_first p m t places entry some no_less typed);
 }
 
 -- and where there is no typing below the first states the method has none

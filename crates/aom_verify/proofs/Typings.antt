@@ -8,7 +8,8 @@ use Rattle.aom_shape.specs.Needs.{Flow}
 use Rattle.aom_shape.specs.Shape.{Shape}
 use Rattle.aom_shape.specs.Tables.{at}
 use Rattle.aom_shape.specs.Typing.{Typing, IsTyped, Passes, AllLead, shape_at}
-use Rattle.aom_verify.specs.Shapes.{Shapes, AllMet, Applies, IsMethodTyped, HasTyping, EachHasTyping}
+use Rattle.aom_verify.specs.Shapes.{Shapes, AllMet, Applies, IsMethodTyped, HasTyping}
+use Rattle.aom_verify.specs.Strongest.{IsMethodStrongest, HasStrongest, EachHasStrongest, IsStrongest}
 
 leads_all : (t : Typing) (m : ℕ) (ways : List Flow) → AllMet (at [] t m) ways → AllLead t m ways
 leads_all t m [] h = tt
@@ -62,27 +63,36 @@ passes p t m pc sh h = record { instr = h.instr; stands = h.stands; needs = h.ne
 applies : (p : Image) (t : Typing) (m pc : ℕ) (sh : Shape) → Passes p t m pc sh → Applies p m (at [] t m) pc sh
 applies p t m pc sh h = record { instr = h.instr; stands = h.stands; needs = h.needs; flows = meets_all t m _ h.flows }
 
-pub image_typed : (p : Image) → EachHasTyping p → (t : Typing) × IsTyped p t
-image_typed p h =
-    let found = gather (λ m s. IsMethodTyped p m s) (length p.methods) (λ m below. let w = h.each m (within_method p m below) in record { states = w.states; holds = w.typed }) in (
+states_typed : (p : Image) (t : Typing) (m : ℕ) → IsTyped p t → IsSome (method_at p m) → IsMethodTyped p m (at [] t m)
+states_typed p t m h some = record {
+  each = λ pc sh e. applies p t m pc sh (h.each m pc sh e);
+  entry = let k = h.entry m some in record { next = k.0; there = k.1; no_more = k.2 };
+}
+
+pub method_typed : (p : Image) (t : Typing) (m : ℕ) → IsTyped p t → IsSome (method_at p m) → HasTyping p m
+method_typed p t m h some = record { states = at [] t m; typed = states_typed p t m h some }
+
+pub has_typing : (p : Image) (m : ℕ) → HasStrongest p m → HasTyping p m
+has_typing p m h = record { states = h.states; typed = h.strongest.typed }
+
+pub image_strongest : (p : Image) → EachHasStrongest p → (t : Typing) × IsStrongest p t
+image_strongest p h =
+    let found = gather (λ m s. IsMethodStrongest p m s) (length p.methods) (λ m below. let w = h.each m (within_method p m below) in record { states = w.states; holds = w.strongest }) in (
       found.all,
       record {
-        each = λ m pc sh e. elim (leb_tells (length p.methods) m) [
-          | inl w ↦ let none = found.outside m w.1 in absurd (no_state found.all m pc sh none e)
-          | inr w ↦ passes p found.all m pc sh ((found.inside m (omega (arith, w.1))).each pc sh e)
-        ];
-        entry = λ m some. let k = (found.inside m (method_within p m some)).entry in (k.next, k.there, k.no_more);
+        typed = record {
+          each = λ m pc sh e. elim (leb_tells (length p.methods) m) [
+            | inl w ↦ absurd (no_state found.all m pc sh (found.outside m w.1) e)
+            | inr w ↦ passes p found.all m pc sh ((found.inside m (omega (arith, w.1))).typed.each pc sh e)
+          ];
+          entry = λ m some. let k = (found.inside m (method_within p m some)).typed.entry in (k.next, k.there, k.no_more);
+        };
+        each = λ m some. found.inside m (method_within p m some);
       },
     )
   where
     no_state : (t : Typing) (m pc : ℕ) (sh : Shape) → at [] t m ≡ [] → shape_at t m pc ≡ Some sh → ⊥
     no_state t m pc sh none e = let f : None ≡ Some sh = rw none at e in cc
 
-pub method_typed : (p : Image) (t : Typing) (m : ℕ) → IsTyped p t → IsSome (method_at p m) → HasTyping p m
-method_typed p t m h some = record {
-  states = at [] t m;
-  typed = record {
-    each = λ pc sh e. applies p t m pc sh (h.each m pc sh e);
-    entry = let k = h.entry m some in record { next = k.0; there = k.1; no_more = k.2 };
-  };
-}
+pub has_strongest : (p : Image) (m : ℕ) (s : Shapes) → IsMethodStrongest p m s → HasStrongest p m
+has_strongest p m s h = record { states = s; strongest = h }

@@ -1,4 +1,5 @@
 pub mod Shapes
 pub mod Change
 pub mod Sweep
+pub mod Strongest
 pub mod Refusals

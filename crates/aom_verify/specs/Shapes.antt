@@ -1,7 +1,7 @@
 -- The typing of one method: an abstract state for each of its places that is reached.
-use Rattle.std.specs.Prelude.{ℕ, ◌≡◌, IsSome, List, [], ◌∷◌, Option, Some, None}
+use Rattle.std.specs.Prelude.{ℕ, ◌≡◌, List, [], ◌∷◌, Option, Some, None}
 use Rattle.aom_image.specs.Image.{Image}
-use Rattle.aom_image.specs.Views.{instr_at, method_at}
+use Rattle.aom_image.specs.Views.{instr_at}
 use Rattle.aom_image.specs.declared.instr.Instr.{Instr}
 use Rattle.aom_shape.specs.Tables.{at}
 use Rattle.aom_shape.specs.Shape.{Shape}
@@ -39,6 +39,3 @@ pub record IsMethodTyped (p : Image) (m : ℕ) (s : Shapes) : Type 0 where
 pub record HasTyping (p : Image) (m : ℕ) : Type 0 where
   pub states : Shapes
   pub typed : IsMethodTyped p m states
-
-pub record EachHasTyping (p : Image) : Type 0 where
-  pub each : (m : ℕ) → IsSome (method_at p m) → HasTyping p m

@@ -3,7 +3,7 @@ ghost use Rattle.std.specs.Prelude.{◌≡◌, ◌<◌, IfOk, IfErr, IsSome};
 ghost use Rattle.aom_image.specs.Views.{method_at};
 ghost use Rattle.aom_shape.specs.Typing.{Typing, IsTyped};
 ghost use Rattle.aom_verify.specs.Refusals.{Refuses, RefusesMethod};
-ghost use Rattle.aom_verify.specs.Shapes.{HasTyping, EachHasTyping};
+ghost use Rattle.aom_verify.specs.Strongest.{IsMethodStrongest, EachHasStrongest, IsStrongest};
 ghost use Rattle.aom_verify.specs.Sweep.{HasPlaces};
 
 use crate::Refusal;
@@ -11,10 +11,10 @@ use crate::sheet::Sheet;
 use aom_classes::Linked;
 use aom_image::MethodNumber;
 use aom_shape::Shape;
-use std::alloc::Global;
+use std::alloc::{AllocError, Global};
 use std::marker::Model;
 
-/// A linked image whose methods all have a typing.
+/// A linked image whose methods all have a typing. Its states are found again where they are asked for.
 #[derive(Drop)]
 pub struct Checked {
     linked: Linked,
@@ -22,13 +22,14 @@ pub struct Checked {
 
 impl Model for Checked {
     ghost use Rattle.aom_image.specs.Image.{Image};
-    ghost use Rattle.aom_shape.specs.Typing.{Typing, IsTyped};
+    ghost use Rattle.aom_shape.specs.Typing.{Typing};
+    ghost use Rattle.aom_verify.specs.Strongest.{IsStrongest};
 
     ghost Value = { Image };
 
     ghost view = { λ c. c.linked };
 
-    ghost invariant = { λ c. (t : Typing) × IsTyped c.linked t };
+    ghost invariant = { λ c. (t : Typing) × IsStrongest c.linked t };
 }
 
 impl Checked {
@@ -38,11 +39,23 @@ impl Checked {
         &self.linked
     }
 
-    /// It has a typing.
+    /// It has a typing, and so a strongest one.
     pub fn typed(&self)
-        ensures { (t : Typing) × IsTyped self.now t }
+        ensures { (t : Typing) × IsStrongest self.now t }
     {
         let _ = &self.linked;
+    }
+
+    /// The states of a method in the strongest typing. They are swept for again at each call.
+    pub fn sheet(&self, alloc: Global, method: MethodNumber) -> Result<Sheet, AllocError>
+        requires { IsSome (method_at self.now method) }
+        ensures { IfOk result (λ s. IsMethodStrongest self.now method s) }
+    {
+        match sheet_of(alloc, &self.linked, method) {
+            Ok(sheet) => Ok(sheet),
+            Err(Refusal::OutOfMemory) => Err(AllocError),
+            Err(Refusal::Refused { .. }) => unreachable!(),
+        }
     }
 }
 
@@ -57,12 +70,12 @@ pub fn check(alloc: Global, linked: Linked) -> Result<Checked, Refusal>
 }
 
 fn check_methods(alloc: Global, linked: &Linked) -> Result<(), Refusal>
-    ensures ok { IfOk result (λ _. EachHasTyping linked.now) }
+    ensures ok { IfOk result (λ _. EachHasStrongest linked.now) }
     ensures err { IfErr result (λ refusal. Refuses linked.now refusal) }
 {
     let methods = linked.image().methods();
     for index in 0..methods.len() {
-        check_method(alloc, linked, number_at(index))?;
+        sheet_of(alloc, linked, number_at(index))?;
     }
     Ok(())
 }
@@ -85,15 +98,16 @@ fn place_count(linked: &Linked, method: MethodNumber) -> usize
     methods.at(method.number() as usize).code.len()
 }
 
-fn check_method(alloc: Global, linked: &Linked, method: MethodNumber) -> Result<(), Refusal>
+/// The states of a method, or why it has none.
+fn sheet_of(alloc: Global, linked: &Linked, method: MethodNumber) -> Result<Sheet, Refusal>
     requires { IsSome (method_at linked.now method) }
-    ensures ok { IfOk result (λ _. HasTyping linked.now method) }
+    ensures ok { IfOk result (λ s. IsMethodStrongest linked.now method s) }
     ensures err { IfErr result (λ refusal. RefusesMethod linked.now method refusal) }
 {
     let entry = Shape::entry(linked, method);
     let mut sheet = Sheet::new(alloc, place_count(linked, method), entry)?;
     match sheet.settle(linked, method) {
-        Ok(()) => Ok(()),
+        Ok(()) => Ok(sheet),
         Err(fault) => Err(Refusal::Refused {
             method,
             place: fault.place,

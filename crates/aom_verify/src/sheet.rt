@@ -2,6 +2,7 @@
 ghost use Rattle.std.specs.Prelude.{◌≡◌, ◌<◌, [], ◌∷◌, length, replicate, slice_set, IfOk, IfErr, IfSome, IsSome, Some, None};
 ghost use Rattle.aom_image.specs.Views.{instr_at};
 ghost use Rattle.aom_shape.specs.Rules.{rule};
+ghost use Rattle.aom_shape.specs.Tables.{at};
 ghost use Rattle.aom_verify.specs.Change.{unreached_count};
 ghost use Rattle.aom_verify.specs.Sweep.{Spans, AllWithin, Joins, CannotJoin, Flows, Fails, WithinMethod, Visits, Sweeps, SweepsOn, Settles, NoTypingBelow};
 
@@ -19,9 +20,9 @@ pub(crate) struct Fault {
     pub(crate) why: Why,
 }
 
-/// A state for each place of a method that has been reached.
+/// A state for each place of a method that is reached.
 #[derive(Drop)]
-pub(crate) struct Sheet {
+pub struct Sheet {
     shapes: Vec<Option<Shape>>,
 }
 
@@ -42,6 +43,21 @@ impl Sheet {
         let mut shapes = vec![in alloc; None; places]?;
         shapes[0] = Some(entry);
         Ok(Sheet { shapes })
+    }
+
+    /// How many places there are.
+    pub fn len(&self) -> usize
+        ensures { result ≡ length self.now }
+    {
+        self.shapes.len()
+    }
+
+    /// The state at a place, if that place is reached.
+    pub fn shape(&self, place: usize) -> Option<Shape>
+        requires { place < length self.now }
+        ensures { result ≡ at None self.now place }
+    {
+        self.shapes[place]
     }
 
     /// What is known at a place from one flow to it.

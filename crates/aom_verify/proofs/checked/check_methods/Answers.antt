@@ -3,27 +3,27 @@ use Rattle.std.proofs.Common.{◌≡◌, List, length, ◌∙◌, ap, arith, bel
 use Rattle.std.proofs.lemmas.Result.{err_from_is_err_and}
 use Rattle.aom_image.specs.Image.{Image}
 use Rattle.aom_image.specs.declared.method.Method.{Method}
-use Rattle.aom_verify.specs.Shapes.{HasTyping}
+use Rattle.aom_verify.specs.Strongest.{HasStrongest}
 use Rattle.aom_verify.proofs.Refusing.{refuses}
-use Rattle.aom_verify.proofs.Typings.{within_method, method_within}
+use Rattle.aom_verify.proofs.Typings.{within_method, method_within, has_typing, has_strongest}
 use Rattle.aom_verify.proofs.checked.check_methods.Goals as goal
 
-pub check_method-requires : goal.check_method-requires
-check_method-requires c =
+pub sheet_of-requires : goal.sheet_of-requires
+sheet_of-requires c =
     let shown : c.methods-methods.result.now ≡ c.args.linked.now.methods = c.methods-methods.ensures.value ∙ ap (λ (p : Image). p.methods) c.image.ensures in
     let count : c.len-index-end.result ≡ length c.args.linked.now.methods = c.len-index-end.ensures ∙ ap (λ (xs : List Method). length xs) shown in
     rw c.number_at.ensures (within_method c.args.linked.now _ (omega (arith, c.loop-index-test.true, count)))
 
-pub returns-in_err-check_method-clause-err : goal.returns-in_err-check_method-clause-err
-returns-in_err-check_method-clause-err c =
+pub returns-in_err-sheet_of-clause-err : goal.returns-in_err-sheet_of-clause-err
+returns-in_err-sheet_of-clause-err c =
     let p = err_from_is_err_and c.from_residual.result c.from_residual.ensures.1 in
     let shown : c.methods-methods.result.now ≡ c.args.linked.now.methods = c.methods-methods.ensures.value ∙ ap (λ (p : Image). p.methods) c.image.ensures in
     let count : c.len-index-end.result ≡ length c.args.linked.now.methods = c.len-index-end.ensures ∙ ap (λ (xs : List Method). length xs) shown in
     let some = within_method c.args.linked.now c.number_at.result (omega (arith, c.loop-index-test.true, count, c.number_at.ensures)) in
-    rw (p.1, p.2) (refuses _ _ _ some (λ k below. c.loop-index.invariant k (omega (arith, below, c.number_at.ensures))) c.in_err-check_method.ensures.err)
+    rw (p.1, p.2) (refuses _ _ _ some (λ k below. has_typing _ _ (c.loop-index.invariant k (omega (arith, below, c.number_at.ensures)))) c.in_err-sheet_of.ensures.err)
 
 pub loop-index-preserved : goal.loop-index-preserved
-loop-index-preserved c = below_more (λ k. HasTyping c.args.linked.now k) _ c.loop-index.invariant (rw c.number_at.ensures at c.in_ok-check_method.ensures.ok)
+loop-index-preserved c = below_more (λ k. HasStrongest c.args.linked.now k) _ c.loop-index.invariant (rw c.number_at.ensures at (has_strongest _ _ _ c.in_ok-sheet_of.ensures.ok))
 
 pub returns-clause-ok : goal.returns-clause-ok
 returns-clause-ok c =

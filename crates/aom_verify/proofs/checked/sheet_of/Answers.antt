@@ -1,15 +1,15 @@
--- Settled states are a typing of the method, and where the sweeps fail there is none.
+-- Settled states are the strongest typing of the method, and where the sweeps fail there is none.
 use Rattle.std.proofs.Common.{refl}
 use Rattle.aom_verify.proofs.Places.{spanned}
 use Rattle.aom_verify.proofs.Sweeping.{first_shapes, first_count, settled, untyped}
 use Rattle.aom_verify.proofs.Visiting.{has_instr}
-use Rattle.aom_verify.proofs.checked.check_method.Goals as goal
+use Rattle.aom_verify.proofs.checked.sheet_of.Goals as goal
 
 pub returns-in-Ok-clause-ok : goal.returns-in-Ok-clause-ok
-returns-in-Ok-clause-ok c = settled _ _ _ _ _ c.place_count.ensures.some c.entry-entry.ensures.no_more (rw c.in_ok-sheet.ensures at c.in-Ok.ensures.ok)
+returns-in-Ok-clause-ok c = settled _ _ _ _ _ c.place_count.ensures.some c.entry-entry.ensures.no_more c.entry-entry.ensures.no_less (rw c.in_ok-sheet.ensures at c.in-Ok.ensures.ok)
 
-pub returns-clause-err : goal.returns-clause-err
-returns-clause-err c =
+pub returns-in-Err-clause-err : goal.returns-in-Err-clause-err
+returns-in-Err-clause-err c =
     let failed = rw c.in_ok-sheet.ensures at c.in-Err.ensures.err in
     let spans = spanned c.args.linked.now c.args.method c.place_count.result (first_shapes c.place_count.result c.entry-entry.result) c.place_count.ensures.all (first_count c.place_count.result c.entry-entry.result) in (
       refl,

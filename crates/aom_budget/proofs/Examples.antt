@@ -1,0 +1,69 @@
+-- What some instructions may call, and a chain of methods that is too deep.
+use Rattle.std.proofs.Common.{◌≡◌, ℕ, zero, suc, ◌<◌, ◌≤◌, List, [], ◌∷◌, Option, Some, None, IsSome, refl, arith}
+use Rattle.aom_image.specs.Image.{Image}
+use Rattle.aom_image.specs.Views.{method_at, class_at, class_in}
+use Rattle.aom_image.specs.declared.class.ClassKind.TheVariants.{Session, Server}
+use Rattle.aom_image.specs.declared.instr.Instr.TheVariants.{Push, PushOperation, Delete, Call, Trap, Cancel, PopDelete}
+use Rattle.aom_image.specs.declared.instr.Target.TheVariants.{This}
+use Rattle.aom_image.specs.declared.method.Gives.TheVariants.{Nothing}
+use Rattle.aom_image.specs.declared.method.Method.{Method}
+use Rattle.aom_image.specs.declared.method.Role.{Role}
+use Rattle.aom_image.specs.declared.method.Role.TheVariants as roles
+use Rattle.aom_image.specs.declared.method.Thing.TheVariants.{Object, Message}
+use Rattle.aom_classes.specs.Classes.{kind_in, sessions_in, sessions_of}
+use Rattle.aom_classes.specs.Roles.{role_number, plays, role_of}
+use Rattle.aom_shape.specs.Shape.{Shape}
+use Rattle.aom_shape.specs.declared.kind.Age.TheVariants.{Ready}
+use Rattle.aom_shape.specs.declared.kind.Kind.{Kind}
+use Rattle.aom_shape.specs.declared.kind.Kind.TheVariants.{Null, Own, Maybe}
+use Rattle.aom_budget.specs.Calls.{callees, MayCall}
+use Rattle.aom_budget.specs.Depths.{Frames, IsTooDeep}
+use Rattle.aom_budget.specs.Depths.Frames.{alone, calling}
+
+method : ℕ → Role → Method
+method class role = record { class = Some class; role = role; flags = record { 0 = 0 }; before = record { 0 = 0 }; after = record { 0 = 0 }; arguments = []; gives = Nothing; code = [] }
+
+-- class 0 is the session class of the server class 1; their destructors are the methods 0 and 1
+image : Image
+image = record {
+  header = record { cells = 4; messages = 0; natives = 0; root = None; budget = 100 };
+  classes = record { kind = Session; words = 0; fields = [] } ∷ record { kind = Server 4 0 10; words = 0; fields = [] } ∷ [];
+  methods = method 0 roles.Destruct ∷ method 1 roles.Destruct ∷ method 1 roles.Cancel ∷ method 1 roles.Do ∷ [];
+}
+
+holding : Kind → Shape
+holding kind = record { registers = kind ∷ []; fields = []; entries = [] }
+
+delete_of_a_server : callees image 3 (holding (Own (Object 1) Ready)) (Delete 0) ≡ 1 ∷ 0 ∷ []
+unfolding image method holding class_at kind_in sessions_in sessions_of role_of plays role_number
+delete_of_a_server = refl
+
+push_of_perhaps_a_session : callees image 3 (holding (Maybe (Object 0) Ready)) (Push 0) ≡ 0 ∷ []
+unfolding image method holding class_at kind_in sessions_in sessions_of role_of plays role_number
+push_of_perhaps_a_session = refl
+
+delete_of_null : callees image 3 (holding Null) (Delete 0) ≡ []
+unfolding holding
+delete_of_null = refl
+
+cancel_of_its_class : callees image 3 (holding Null) Cancel ≡ 2 ∷ []
+unfolding image method method_at class_in role_of plays role_number
+cancel_of_its_class = refl
+
+operation_is_called : callees image 3 (holding Null) (PushOperation 0 2) ≡ 2 ∷ []
+operation_is_called = refl
+
+trap_calls : callees image 3 (holding Null) (Trap This 2 0 0) ≡ 2 ∷ []
+trap_calls = refl
+
+-- what goes was counted where it was pushed
+pop_calls_nothing : callees image 3 (holding Null) PopDelete ≡ []
+pop_calls_nothing = refl
+
+chain : (p : Image) → IsSome (method_at p 0) → ((m : ℕ) → m < 256 → MayCall p (suc m) m) → (n : ℕ) → n ≤ 256 → Frames p n (suc n)
+chain p first calls zero h = alone first
+chain p first calls (suc n) h = calling (calls n (omega (arith, h))) (chain p first calls n (omega (arith, h)))
+
+-- 257 methods, each of which calls the one before it
+chain_of_257 : (p : Image) → IsSome (method_at p 0) → ((m : ℕ) → m < 256 → MayCall p (suc m) m) → IsTooDeep p
+chain_of_257 p first calls = record { method = 256; count = 257; frames = chain p first calls 256 (omega arith); many = omega arith }

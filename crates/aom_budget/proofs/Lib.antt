@@ -1,0 +1,5 @@
+pub mod Calling
+pub mod Greatest
+pub mod Raising
+pub mod Settled
+pub mod Examples

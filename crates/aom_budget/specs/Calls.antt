@@ -1,0 +1,80 @@
+-- What an instruction may call, by what is known where it stands.
+use Rattle.std.specs.Prelude.{ℕ, ◌≡◌, ◌⊎◌, List, [], ◌∷◌, ◌++◌, Option, Some, None}
+use Rattle.aom_image.specs.Image.{Image}
+use Rattle.aom_image.specs.Views.{instr_at, method_class}
+use Rattle.aom_image.specs.declared.instr.Instr.{Instr}
+use Rattle.aom_image.specs.declared.instr.Instr.TheVariants.{Call, Trap, Push, PushOperation, Delete, Cancel}
+use Rattle.aom_image.specs.declared.method.Role.TheVariants as roles
+use Rattle.aom_image.specs.declared.method.Thing.{Thing}
+use Rattle.aom_image.specs.declared.method.Thing.TheVariants.{Object, Message}
+use Rattle.aom_classes.specs.Classes.{sessions_at}
+use Rattle.aom_classes.specs.Roles.{role_of}
+use Rattle.aom_shape.specs.Kinds.{register}
+use Rattle.aom_shape.specs.Shape.{Shape}
+use Rattle.aom_shape.specs.Tables.{at}
+use Rattle.aom_shape.specs.declared.kind.Kind.{Kind}
+use Rattle.aom_shape.specs.declared.kind.Kind.TheVariants.{Unset, Word, Null, Own, Maybe}
+use Rattle.aom_verify.specs.Shapes.{Shapes}
+use Rattle.aom_verify.specs.Strongest.{IsMethodStrongest}
+
+-- one method, or none
+abbrev pub listed : Option ℕ → List ℕ
+listed None = []
+listed (Some k) = k ∷ []
+
+abbrev pub destructor_of : Image → Option ℕ → Option ℕ
+destructor_of p None = None
+destructor_of p (Some c) = role_of p c roles.Destruct
+
+abbrev pub sessions_with : Image → Option ℕ → Option ℕ
+sessions_with p None = None
+sessions_with p (Some c) = sessions_at p c
+
+-- what runs as an object of a class goes: its destructor, and that of its sessions
+abbrev pub destructors : Image → Option ℕ → List ℕ
+destructors p class = listed (destructor_of p class) ++ listed (destructor_of p (sessions_with p class))
+
+abbrev pub cancel_of : Image → Option ℕ → Option ℕ
+cancel_of p None = None
+cancel_of p (Some c) = role_of p c roles.Cancel
+
+abbrev pub thing_class : Thing → Option ℕ
+thing_class (Object c) = Some c
+thing_class Message = None
+
+-- the class of the object that is there, or may be there
+abbrev pub object_class : Kind → Option ℕ
+object_class Unset = None
+object_class Word = None
+object_class Null = None
+object_class (Own t a) = thing_class t
+object_class (Maybe t a) = thing_class t
+
+-- the methods that an instruction of a method may call; an operation or an object that is pushed is called for, or goes, when it leaves the cleanup stack
+abbrev pub callees : Image → ℕ → Shape → Instr → List ℕ
+callees p m sh (Call target k first c) = k ∷ []
+callees p m sh (Trap target k first c) = k ∷ []
+callees p m sh (PushOperation r k) = k ∷ []
+callees p m sh (Push r) = destructors p (object_class (register sh r))
+callees p m sh (Delete r) = destructors p (object_class (register sh r))
+callees p m sh Cancel = listed (cancel_of p (method_class p m))
+callees p m sh _ = []
+
+abbrev pub Among : ℕ → List ℕ → Type 0
+Among k [] = ⊥
+Among k (x ∷ xs) = (k ≡ x) ⊎ Among k xs
+
+-- an instruction at that place, reached with those states, may call a method
+pub record CallsAt (p : Image) (m : ℕ) (s : Shapes) (pc k : ℕ) : Type 0 where
+  pub shape : Shape
+  pub there : at None s pc ≡ Some shape
+  pub instr : Instr
+  pub stands : instr_at p m pc ≡ Some instr
+  pub calls : Among k (callees p m shape instr)
+
+-- an instruction that the strongest typing reaches may call it
+pub record MayCall (p : Image) (m k : ℕ) : Type 0 where
+  pub states : Shapes
+  pub strongest : IsMethodStrongest p m states
+  pub place : ℕ
+  pub calls : CallsAt p m states place k

@@ -1,0 +1,153 @@
+//! What an instruction may call.
+ghost use Rattle.std.specs.Prelude.{◌≡◌, ◌++◌, [], ◌∷◌, Some};
+ghost use Rattle.aom_classes.specs.Classes.{sessions_of, sessions_at};
+ghost use Rattle.aom_budget.specs.Calls.{listed, destructors, cancel_of, thing_class, object_class, callees};
+ghost use Rattle.aom_image.specs.Views.{method_class};
+
+use aom_classes::Linked;
+use aom_image::{ClassKind, ClassNumber, Instr, MethodNumber, Role, Thing};
+use aom_shape::{Kind, Shape};
+
+/// At most two methods.
+#[derive(Clone, Copy)]
+pub(crate) struct Callees {
+    pub(crate) first: Option<MethodNumber>,
+    pub(crate) second: Option<MethodNumber>,
+}
+
+/// The class of the sessions of that kind's objects.
+#[tactic(auto, unfolding(aom_classes::specs::Classes::sessions_of))]
+fn sessions_of(kind: ClassKind) -> Option<ClassNumber>
+    ensures { result ≡ sessions_of kind }
+{
+    match kind {
+        ClassKind::Server { session, .. } => Some(session),
+        _ => None,
+    }
+}
+
+#[tactic(auto, unfolding(aom_classes::specs::Classes::sessions_in, aom_classes::specs::Classes::kind_in, aom_image::specs::Views::class_at))]
+fn sessions_at(linked: &Linked, class: ClassNumber) -> Option<ClassNumber>
+    ensures { result ≡ sessions_at linked.now class }
+{
+    let classes = linked.image().classes();
+    match classes.as_slice().get(class.number() as usize) {
+        Some(class) => sessions_of(class.kind),
+        None => None,
+    }
+}
+
+fn cancel_of(linked: &Linked, class: Option<ClassNumber>) -> Option<MethodNumber>
+    ensures { result ≡ cancel_of linked.now class }
+{
+    match class {
+        Some(class) => linked.role(class, Role::Cancel),
+        None => None,
+    }
+}
+
+fn thing_class(thing: Thing) -> Option<ClassNumber>
+    ensures { result ≡ thing_class thing }
+{
+    match thing {
+        Thing::Object(class) => Some(class),
+        Thing::Message => None,
+    }
+}
+
+/// The class of the object that is there, or may be there.
+fn object_class(kind: Kind) -> Option<ClassNumber>
+    ensures { result ≡ object_class kind }
+{
+    match kind {
+        Kind::Unset | Kind::Word | Kind::Null => None,
+        Kind::Own(thing, _) | Kind::Maybe(thing, _) => thing_class(thing),
+    }
+}
+
+#[tactic(auto, unfolding(aom_image::specs::Views::class_in, aom_image::specs::Views::method_at))]
+fn class_of(linked: &Linked, method: MethodNumber) -> Option<ClassNumber>
+    ensures { result ≡ method_class linked.now method }
+{
+    let methods = linked.image().methods();
+    match methods.as_slice().get(method.number() as usize) {
+        Some(method) => method.class,
+        None => None,
+    }
+}
+
+impl Callees {
+    fn none() -> Callees
+        ensures { listed result.first ++ listed result.second ≡ [] }
+    {
+        Callees {
+            first: None,
+            second: None,
+        }
+    }
+
+    fn one(method: MethodNumber) -> Callees
+        ensures { listed result.first ++ listed result.second ≡ method ∷ [] }
+    {
+        Callees {
+            first: Some(method),
+            second: None,
+        }
+    }
+
+    fn perhaps(method: Option<MethodNumber>) -> Callees
+        ensures { listed result.first ++ listed result.second ≡ listed method }
+    {
+        match method {
+            Some(method) => Callees::one(method),
+            None => Callees::none(),
+        }
+    }
+
+    /// What runs as an object of that class goes.
+    fn of_class(linked: &Linked, class: ClassNumber) -> Callees
+        ensures { listed result.first ++ listed result.second ≡ destructors linked.now (Some class) }
+    {
+        let first = linked.role(class, Role::Destruct);
+        match sessions_at(linked, class) {
+            Some(sessions) => {
+                let second = linked.role(sessions, Role::Destruct);
+                Callees { first, second }
+            }
+            None => Callees {
+                first,
+                second: None,
+            },
+        }
+    }
+
+    fn destructors(linked: &Linked, class: Option<ClassNumber>) -> Callees
+        ensures { listed result.first ++ listed result.second ≡ destructors linked.now class }
+    {
+        match class {
+            Some(class) => Callees::of_class(linked, class),
+            None => Callees::none(),
+        }
+    }
+
+    /// What an instruction of a method may call, by what is known where it stands.
+    pub(crate) fn of_instr(
+        linked: &Linked,
+        method: MethodNumber,
+        shape: &Shape,
+        instr: Instr,
+    ) -> Callees
+        ensures { listed result.first ++ listed result.second ≡ callees linked.now method shape.now instr }
+    {
+        match instr {
+            Instr::Call(_, called, _, _)
+            | Instr::Trap(_, called, _, _)
+            | Instr::PushOperation(_, called) => Callees::one(called),
+            Instr::Push(register) | Instr::Delete(register) => {
+                Callees::destructors(linked, object_class(shape.register(register)))
+            }
+            Instr::Cancel => Callees::perhaps(cancel_of(linked, class_of(linked, method))),
+            _ => Callees::none(),
+        }
+    }
+}
