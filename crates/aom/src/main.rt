@@ -4,7 +4,7 @@
 //! Here is what a contract can say nothing of: the command line as the system gives it, files, and the two outputs.
 #![tactic(auto)]
 
-ghost use Rattle.aom_main.specs.Limits.{KeepsLimit};
+ghost use Rattle.aom_main.specs.CommandLine.{KeepsLimit};
 
 mod files;
 mod output;
@@ -32,7 +32,10 @@ fn given_words(rt: &HostRuntime) -> Result<Vec<String>, WordsFault> {
     match env::args(rt) {
         Ok(words) => Ok(words.collect(alloc)?),
         Err(error) if error.kind() == io::ErrorKind::OutOfMemory => Err(WordsFault::Memory),
-        Err(_) => Err(WordsFault::Text(String::from_str(alloc, "error: a word that is no text\n")?)),
+        Err(_) => Err(WordsFault::Text(String::from_str(
+            alloc,
+            "error: a word that is no text\n",
+        )?)),
     }
 }
 
@@ -79,7 +82,11 @@ fn obey<W: Sink, E: Sink>(
             let image = read_file(rt, image)?;
             Ok(check_bytes(alloc, &image, out, errors))
         }
-        Words::Run { image, script, limit } => {
+        Words::Run {
+            image,
+            script,
+            limit,
+        } => {
             let image = read_file(rt, image)?;
             let script = read_file(rt, script)?;
             Ok(run_bytes(alloc, &image, &script, *limit, out, errors))

@@ -1,12 +1,8 @@
 -- What holds of each element of a list, place by place.
-use Rattle.std.proofs.Common.{◌+◌, ◌<◌, ◌≤◌, inl, inr, arith, length, slice_index_or, sym, ◌∙◌, below_more, ◌≡◌, ℕ, zero, suc, Bool, true, false, ◌&&◌, List, [], ◌∷◌, IsTrue, IfSome, slice_get, ◌↔◌, refl}
+use Rattle.std.proofs.Common.{sym, ◌∙◌, ◌≡◌, zero, suc, Bool, true, false, ◌&&◌, List, [], ◌∷◌, IsTrue, ◌↔◌, refl}
 use Rattle.std.specs.List.{list_all}
-use Rattle.std.proofs.lemmas.Option.{slice_get_read, slice_get_cases}
 use Rattle.aom_classes.specs.Admitted.{EachPasses}
-
--- it holds of each element below a place
-abbrev pub EachBelow : {X : Type 0} → (ℕ → X → Type 0) → List X → ℕ → Type 0
-EachBelow P xs i = (k : ℕ) → k < i → IfSome (slice_get xs k) (P k)
+pub use Rattle.aom_roles.proofs.Each.{EachBelow, each_more, each_all}
 
 pub both : (a b : Bool) → IsTrue (a && b) → IsTrue a × IsTrue b
 both true b h = (refl, h)
@@ -36,22 +32,6 @@ all_pass test (x ∷ xs) h = join (test x) (list_all test xs) (h zero) (all_pass
 
 pub list_all_each : {X : Type 0} (test : X → Bool) (xs : List X) (r : Bool) → r ≡ list_all test xs → IsTrue r ↔ EachPasses test xs
 list_all_each test xs r e = (λ h. each_passes test xs (sym e ∙ h), λ h. e ∙ all_pass test xs h)
-
--- what holds of each element before one, and of that one
-pub each_more : {X : Type 0} (P : ℕ → X → Type 0) (xs : List X) (i : ℕ) (x : X) → EachBelow P xs i → i < length xs → x ≡ slice_index_or xs i x → P i x → EachBelow P xs (i + 1)
-each_more P xs i x h lt e p = below_more _ _ h (rw (slice_get_read xs (length xs) i x refl lt e) p)
-
--- what holds of each element of the list's length holds at each place
-pub each_all : {X : Type 0} (P : ℕ → X → Type 0) (xs : List X) (i : ℕ) → length xs ≤ i → EachBelow P xs i → (k : ℕ) → IfSome (slice_get xs k) (P k)
-each_all P xs i le h k =
-    elim (slice_get_cases xs k).1 [
-      | inl w ↦ h k (omega (arith, w.1))
-      | inr w ↦ rw w.1 tt
-    ]
-
--- an element of which it does not hold
-pub not_each : {X : Type 0} (P : ℕ → X → Type 0) (xs : List X) (i : ℕ) (x : X) → i < length xs → x ≡ slice_index_or xs i x → ((k : ℕ) → IfSome (slice_get xs k) (P k)) → P i x
-not_each P xs i x lt e h = let here = h i in rw (slice_get_read xs (length xs) i x refl lt e) at here
 
 -- what a test says no to
 pub refused : {P : Type 0} (r : Bool) → IsTrue r ↔ P → r ≡ false → ¬ P

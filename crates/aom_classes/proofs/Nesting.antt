@@ -1,5 +1,5 @@
 -- That going over a method's code with the open loops in hand finds out whether its loops nest.
-use Rattle.std.proofs.Common.{◌≡◌, ◌<◌, ◌≤◌, ◌+◌, ◌∙◌, ℕ, zero, suc, Bool, true, false, List, [], ◌∷◌, ◌++◌, length, take, Option, Some, None, IfSome, slice_get, inl, inr, ⊎_elim, refl, sym, ap, arith, subst}
+use Rattle.std.proofs.Common.{◌≡◌, ◌<◌, ◌≤◌, ◌+◌, ◌∙◌, ℕ, zero, suc, Bool, true, false, List, [], ◌∷◌, ◌++◌, length, take, Some, None, IfSome, slice_get, inl, inr, ⊎_elim, refl, sym, ap, arith, subst}
 use Rattle.std.specs.Prelude.{◌⊎◌}
 use Rattle.std.specs.List.{count_by}
 use Rattle.std.proofs.lemmas.Bool.{cases_lt}
@@ -8,7 +8,7 @@ use Rattle.std.proofs.lemmas.Option.{slice_get_within, get_or_from_slice_get, sl
 use Rattle.std.proofs.lemmas.List.{length-append}
 use Rattle.aom_image.specs.declared.instr.Instr.{Instr}
 use Rattle.aom_image.specs.declared.instr.Instr.TheVariants.{Loop, Next}
-use Rattle.aom_classes.specs.Loops.{loop_in, loop_at, Ending, next_in, next_at, Closes, ClosedOnce, ClosesSome, ApartOrWithin, is_loop, is_next, begun, ended, LoopsNest}
+use Rattle.aom_classes.specs.Loops.{loop_in, loop_at, Ending, next_in, next_at, Closes, ClosesSome, ApartOrWithin, is_loop, is_next, begun, ended, LoopsNest}
 use Rattle.aom_classes.specs.Scanning.{Enters, Leaves, Passes}
 
 -- ---- lists
@@ -88,9 +88,9 @@ scanned_plain code i x s e no_loop no_next l n h = record {
   rising = h.rising;
   unclosed = λ k d p q g c. later code i d p q no_next c (h.unclosed k d p q g c);
   loops = λ p d lt g. ⊎_elim
-    (λ (below : p < i). ⊎_elim (λ o. inl o) (λ b. inr (still_closed code i d p no_next b)) (h.loops p d below g))
-    (λ (same : p ≡ i). absurd (cc))
-    (at_or_before p i lt);
+      (λ (below : p < i). ⊎_elim (λ o. inl o) (λ b. inr (still_closed code i d p no_next b)) (h.loops p d below g))
+      (λ (same : p ≡ i). absurd (cc))
+      (at_or_before p i lt);
   closing = λ q f lt g. ⊎_elim (λ (below : q < i). h.closing q f below g) (λ (same : q ≡ i). absurd (cc)) (at_or_before q i lt);
   apart = λ c d p q r t one other lq lt. h.apart c d p q r t one other (earlier code i c p q no_next one lq) (earlier code i d r t no_next other lt);
   before = λ k c p q r g one lq. h.before k c p q r g one (earlier code i c p q no_next one lq);
@@ -102,37 +102,37 @@ scanned_enter : (code : List Instr) (i d : ℕ) (x : Instr) (s t : List ℕ) →
 scanned_enter code i d x s t e is no_next l n a h =
     rw a.last (record {
       opens = λ k p g. ⊎_elim
-        (λ (old : slice_get s k ≡ Some p). let o = h.opens k p old in (omega (arith, o.0), o.1))
-        (λ (new : (k ≡ length s) × (p ≡ i)). let w = new.0 in let v = new.1 in let u = a.number in (omega arith, ap (loop_at code) v ∙ (is ∙ ap (λ (m : ℕ). Some m) (u ∙ sym w))))
-        (last_get s i k p g);
+          (λ (old : slice_get s k ≡ Some p). let o = h.opens k p old in (omega (arith, o.0), o.1))
+          (λ (new : (k ≡ length s) × (p ≡ i)). let w = new.0 in let v = new.1 in let u = a.number in (omega arith, ap (loop_at code) v ∙ (is ∙ ap (λ (m : ℕ). Some m) (u ∙ sym w))))
+          (last_get s i k p g);
       rising = λ j k p r g f lt. ⊎_elim
-        (λ (old : slice_get s k ≡ Some r). ⊎_elim
+          (λ (old : slice_get s k ≡ Some r). ⊎_elim
           (λ (one : slice_get s j ≡ Some p). h.rising j k p r one old lt)
           (λ (new : (j ≡ length s) × (p ≡ i)). let w = slice_get_within s k r old in absurd (omega (arith, new.0, w, lt)))
           (last_get s i j p g))
-        (λ (new : (k ≡ length s) × (r ≡ i)). ⊎_elim
+          (λ (new : (k ≡ length s) × (r ≡ i)). ⊎_elim
           (λ (one : slice_get s j ≡ Some p). let o = h.opens j p one in omega (arith, o.0, new.1))
           (λ (other : (j ≡ length s) × (p ≡ i)). absurd (omega (arith, new.0, other.0, lt)))
           (last_get s i j p g))
-        (last_get s i k r f);
+          (last_get s i k r f);
       unclosed = λ k c p q g one. ⊎_elim
-        (λ (old : slice_get s k ≡ Some p). later code i c p q no_next one (h.unclosed k c p q old one))
-        (λ (new : (k ≡ length s) × (p ≡ i)). let w = one.later in omega (arith, w, new.1))
-        (last_get s i k p g);
+          (λ (old : slice_get s k ≡ Some p). later code i c p q no_next one (h.unclosed k c p q old one))
+          (λ (new : (k ≡ length s) × (p ≡ i)). let w = one.later in omega (arith, w, new.1))
+          (last_get s i k p g);
       loops = λ p c lt g. ⊎_elim
-        (λ (below : p < i). ⊎_elim (λ o. inl (keep_get s i c p o)) (λ b. inr (still_closed code i c p no_next b)) (h.loops p c below g))
-        (λ (same : p ≡ i). inl (let u = a.number in let v : c ≡ length s = cc in rw (v, same) (at_last s i)))
-        (at_or_before p i lt);
+          (λ (below : p < i). ⊎_elim (λ o. inl (keep_get s i c p o)) (λ b. inr (still_closed code i c p no_next b)) (h.loops p c below g))
+          (λ (same : p ≡ i). inl (let u = a.number in let v : c ≡ length s = cc in rw (v, same) (at_last s i)))
+          (at_or_before p i lt);
       closing = λ q f lt g. ⊎_elim (λ (below : q < i). h.closing q f below g) (λ (same : q ≡ i). absurd (cc)) (at_or_before q i lt);
       apart = λ c d p q r t one other lq lt. h.apart c d p q r t one other (earlier code i c p q no_next one lq) (earlier code i d r t no_next other lt);
       before = λ k c p q r g one lq lt. ⊎_elim
-        (λ (old : slice_get s k ≡ Some r). h.before k c p q r old one (earlier code i c p q no_next one lq) lt)
-        (λ (new : (k ≡ length s) × (r ≡ i)). let w = earlier code i c p q no_next one lq in omega (arith, w, new.1))
-        (last_get s i k r g);
+          (λ (old : slice_get s k ≡ Some r). h.before k c p q r old one (earlier code i c p q no_next one lq) lt)
+          (λ (new : (k ≡ length s) × (r ≡ i)). let w = earlier code i c p q no_next one lq in omega (arith, w, new.1))
+          (last_get s i k r g);
       number = λ p c lt g. ⊎_elim
-        (λ (below : p < i). h.number p c below g)
-        (λ (same : p ≡ i). let u = a.number in let v : c ≡ length s = cc in rw (v, same) h.count)
-        (at_or_before p i lt);
+          (λ (below : p < i). h.number p c below g)
+          (λ (same : p ≡ i). let u = a.number in let v : c ≡ length s = cc in rw (v, same) h.count)
+          (at_or_before p i lt);
       count = (let b = counted code i x is_loop e l in let f = not_counted code i x is_next e n in let c = h.count in let m = length-append s (i ∷ []) in omega arith);
     })
 
@@ -156,71 +156,71 @@ scanned_leave code i d t x s r e no_loop is l n last number h =
       opens = λ k p g. let o = h.opens k p (keep k p g) in (omega (arith, o.0), o.1);
       rising = λ j k p q g f. h.rising j k p q (keep j p g) (keep k q f);
       unclosed = λ k c p q g one. ⊎_elim
-        (λ (lt : q < i + 1). let le = h.unclosed k c p q (keep k p g) one in let same : q ≡ i = omega arith in let w = same_start code i d c p t is (subst (λ (v : ℕ). Closes code c p v) same one) in let u = under k p g in absurd (omega (arith, u, w.0)))
-        (λ (ge : i + 1 ≤ q). ge)
-        (cases_lt q (i + 1));
+          (λ (lt : q < i + 1). let le = h.unclosed k c p q (keep k p g) one in let same : q ≡ i = omega arith in let w = same_start code i d c p t is (subst (λ (v : ℕ). Closes code c p v) same one) in let u = under k p g in absurd (omega (arith, u, w.0)))
+          (λ (ge : i + 1 ≤ q). ge)
+          (cases_lt q (i + 1));
       loops = λ p c lt g. ⊎_elim
-        (λ (below : p < i). ⊎_elim
+          (λ (below : p < i). ⊎_elim
           (λ (o : slice_get s c ≡ Some p). ⊎_elim
-            (λ (old : slice_get r c ≡ Some p). inl old)
-            (λ (new : (c ≡ length r) × (p ≡ t)).
-              let same : c ≡ d = new.0 ∙ sym number in
-              let it : Closes code c p i = rw (same, new.1) closes in
-              inr (record {
-                place = i;
-                below = omega arith;
-                closes = it;
-                only = λ q lq one. let le = h.unclosed c c p q o one in omega arith;
-              }))
-            (last_get r t c p (rw last at o)))
+          (λ (old : slice_get r c ≡ Some p). inl old)
+          (λ (new : (c ≡ length r) × (p ≡ t)).
+          let same : c ≡ d = new.0 ∙ sym number in
+          let it : Closes code c p i = rw (same, new.1) closes in
+          inr (record {
+            place = i;
+            below = omega arith;
+            closes = it;
+            only = λ q lq one. let le = h.unclosed c c p q o one in omega arith;
+          }))
+          (last_get r t c p (rw last at o)))
           (λ (b : ClosedBefore code i c p). inr (record {
             place = b.place;
             below = (let w = b.below in omega arith);
             closes = b.closes;
             only = λ q lq one. ⊎_elim
-              (λ (lq : q < i). b.only q lq one)
-              (λ (same : q ≡ i).
+                (λ (lq : q < i). b.only q lq one)
+                (λ (same : q ≡ i).
                 let w = same_start code i d c p t is (subst (λ (v : ℕ). Closes code c p v) same one) in
                 let it = subst (λ (v : ℕ). Closes code c v b.place) w.0 b.closes in
                 let le = h.unclosed d c t b.place top it in
                 let lt = b.below in
                 absurd (omega arith))
-              (at_or_before q i lq);
+                (at_or_before q i lq);
           }))
           (h.loops p c below g))
-        (λ (same : p ≡ i). absurd (cc))
-        (at_or_before p i lt);
+          (λ (same : p ≡ i). absurd (cc))
+          (at_or_before p i lt);
       closing = λ q f lt g. ⊎_elim
-        (λ (below : q < i). h.closing q f below g)
-        (λ (same : q ≡ i).
+          (λ (below : q < i). h.closing q f below g)
+          (λ (same : q ≡ i).
           let w : Some f ≡ Some (record { number = d; back = suc t }) = sym g ∙ (ap (next_at code) same ∙ is) in
           let v : f ≡ record { number = d; back = suc t } = cc in
           let u : f.number ≡ d = ap (λ (a : Ending). a.number) v in
           rw (u, same) (record { place = t; closes = closes }))
-        (at_or_before q i lt);
+          (at_or_before q i lt);
       apart = λ c b p q m z one other lq lz lt. ⊎_elim
-        (λ (q_below : q < i). ⊎_elim
+          (λ (q_below : q < i). ⊎_elim
           (λ (z_below : z < i). h.apart c b p q m z one other q_below z_below lt)
           (λ (same : z ≡ i).
-            let w = same_start code i d b m t is (subst (λ (v : ℕ). Closes code b m v) same other) in
-            let u = h.before d c p q t top one q_below (omega (arith, w.0, lt)) in
-            inl (omega (arith, u, w.0)))
+          let w = same_start code i d b m t is (subst (λ (v : ℕ). Closes code b m v) same other) in
+          let u = h.before d c p q t top one q_below (omega (arith, w.0, lt)) in
+          inl (omega (arith, u, w.0)))
           (at_or_before z i lz))
-        (λ (same : q ≡ i). ⊎_elim
+          (λ (same : q ≡ i). ⊎_elim
           (λ (z_below : z < i). inr (omega (arith, z_below, same)))
           (λ (also : z ≡ i).
-            let w = same_start code i d c p t is (subst (λ (v : ℕ). Closes code c p v) same one) in
-            let u = same_start code i d b m t is (subst (λ (v : ℕ). Closes code b m v) also other) in
-            absurd (omega (arith, w.0, u.0, lt)))
+          let w = same_start code i d c p t is (subst (λ (v : ℕ). Closes code c p v) same one) in
+          let u = same_start code i d b m t is (subst (λ (v : ℕ). Closes code b m v) also other) in
+          absurd (omega (arith, w.0, u.0, lt)))
           (at_or_before z i lz))
-        (at_or_before q i lq);
+          (at_or_before q i lq);
       before = λ k c p q m g one lq lt. ⊎_elim
-        (λ (q_below : q < i). h.before k c p q m (keep k m g) one q_below lt)
-        (λ (same : q ≡ i).
+          (λ (q_below : q < i). h.before k c p q m (keep k m g) one q_below lt)
+          (λ (same : q ≡ i).
           let w = same_start code i d c p t is (subst (λ (v : ℕ). Closes code c p v) same one) in
           let u = under k m g in
           absurd (omega (arith, w.0, u, lt)))
-        (at_or_before q i lq);
+          (at_or_before q i lq);
       number = λ p c lt g. ⊎_elim (λ (below : p < i). h.number p c below g) (λ (same : p ≡ i). absurd (cc)) (at_or_before p i lt);
       count = (let b = not_counted code i x is_loop e l in let f = counted code i x is_next e n in let c = h.count in let m = length-append r (t ∷ []) in let k : length s ≡ length (r ++ t ∷ []) = ap length last in omega arith);
     }
@@ -272,24 +272,25 @@ closes_top code i d t s is h nest =
     let below : p < i = it.later in
     let one = nest.closed p d it.begins in
     let open_here : slice_get s d ≡ Some p = ⊎_elim
-      (λ (o : slice_get s d ≡ Some p). o)
-      (λ (b : ClosedBefore code i d p). let u = one.only i it in let v = one.only b.place b.closes in let w = b.below in absurd (omega arith))
-      (h.loops p d below it.begins) in
+    (λ (o : slice_get s d ≡ Some p). o)
+    (λ (b : ClosedBefore code i d p). let u = one.only i it in let v = one.only b.place b.closes in let w = b.below in absurd (omega arith))
+    (h.loops p d below it.begins) in
     let long : d < length s = slice_get_within s d p open_here in
     let short : length s ≤ suc d = elim (slice_get_cases s (suc d)).1 as (λ _. length s ≤ suc d) [
       | inl w ↦
-        let r = w.0 in
-        let up = h.rising d (suc d) p r open_here w.2 (omega arith) in
-        let under = h.opens (suc d) r w.2 in
-        let other = nest.closed r (suc d) under.1 in
-        let late = h.unclosed (suc d) (suc d) r other.place w.2 other.closes in
-        let apart = nest.nested d (suc d) p i r other.place it other.closes up in
-        ⊎_elim (λ (a : i < r). absurd (omega (arith, a, under.0))) (λ (a : other.place < i). absurd (omega (arith, a, late))) apart
+          let r = w.0 in
+          let up = h.rising d (suc d) p r open_here w.2 (omega arith) in
+          let under = h.opens (suc d) r w.2 in
+          let other = nest.closed r (suc d) under.1 in
+          let late = h.unclosed (suc d) (suc d) r other.place w.2 other.closes in
+          let apart = nest.nested d (suc d) p i r other.place it other.closes up in
+          ⊎_elim (λ (a : i < r). absurd (omega (arith, a, under.0))) (λ (a : other.place < i). absurd (omega (arith, a, late))) apart
       | inr w ↦ w.0
     ] in
     let split = ends_with s d p open_here (omega arith) in
     let back : t ≡ suc p = ap (λ (x : Ending). x.back) (same_ending (record { number = d; back = t }) (record { number = d; back = suc p }) (sym {a = next_at code i} is ∙ it.ends)) in
-    (split.0, record { start = p; last = split.1; back = back; number = sym split.2 })
+    let number : d ≡ length split.0 = sym {a = length split.0} split.2 in
+    (split.0, record { start = p; last = split.1; back = back; number = number })
 
 -- where loops nest, each instruction goes on as it must
 pub must_pass : (code : List Instr) (i : ℕ) (x : Instr) (s : List ℕ) → slice_get code i ≡ Some x → Scanned code i s → LoopsNest code → (r : List ℕ) × Passes i x s r
@@ -317,9 +318,9 @@ unfolding next_in
 nests code i (p ∷ s) le none h = absurd (omega (arith, none))
 nests code i [] le none h = record {
   closed = λ p d e. ⊎_elim
-    (λ (o : slice_get [] d ≡ Some p). absurd (cc))
-    (λ (b : ClosedBefore code i d p). record { place = b.place; closes = b.closes; only = λ q c. b.only q (let w = next_within code q _ c.ends in omega arith) c })
-    (h.loops p d (let w = loop_within code p d e in omega arith) e);
+      (λ (o : slice_get [] d ≡ Some p). absurd (cc))
+      (λ (b : ClosedBefore code i d p). record { place = b.place; closes = b.closes; only = λ q c. b.only q (let w = next_within code q _ c.ends in omega arith) c })
+      (h.loops p d (let w = loop_within code p d e in omega arith) e);
   closing = λ q. elim (next_at code q) as (λ o. next_at code q ≡ o → IfSome o (λ e. ClosesSome code e.number q)) [
     | None ↦ λ f. tt
     | Some e ↦ λ f. h.closing q e (let w = next_within code q e f in omega arith) f

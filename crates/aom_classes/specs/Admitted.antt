@@ -7,16 +7,24 @@ use Rattle.aom_image.specs.declared.class.ClassKind.{ClassKind}
 use Rattle.aom_image.specs.declared.class.ClassKind.TheVariants.{Plain}
 use Rattle.aom_image.specs.declared.image.Header.{Header}
 use Rattle.aom_image.specs.declared.instr.Instr.{Instr}
-use Rattle.aom_image.specs.declared.instr.Instr.TheVariants.{Const, Jump, JumpNull, Print, New, Delete, Return, Stop}
+use Rattle.aom_image.specs.declared.instr.Instr.TheVariants.{Const, Copy, Add, Sub, Mul, And, Or, Xor, Jump, JumpEqual, JumpLess, JumpNull, Print, New, Delete, Return, Stop}
 use Rattle.aom_image.specs.declared.method.Method.{Method}
-use Rattle.aom_image.specs.declared.method.Gives.{Gives}
-use Rattle.aom_image.specs.declared.method.Gives.TheVariants.{Nothing}
 use Rattle.aom_classes.specs.Roles.{is_main}
+unfoldable pub use Rattle.aom_roles.specs.Shapes.{gives_nothing}
 
 -- whether an instruction is one of those
 unfoldable pub admits_instr : Instr → Bool
 admits_instr (Const r w) = true
+admits_instr (Copy a b) = true
+admits_instr (Add a b c) = true
+admits_instr (Sub a b c) = true
+admits_instr (Mul a b c) = true
+admits_instr (And a b c) = true
+admits_instr (Or a b c) = true
+admits_instr (Xor a b c) = true
 admits_instr (Jump t) = true
+admits_instr (JumpEqual a b t) = true
+admits_instr (JumpLess a b t) = true
 admits_instr (JumpNull r t) = true
 admits_instr (Print r) = true
 admits_instr (New r c) = true
@@ -33,11 +41,6 @@ is_plain _ = false
 -- whether a class is plain, with neither words nor owning fields
 unfoldable pub admits_class : ClassDecl → Bool
 admits_class c = is_plain c.kind && nat_eq c.words 0 && nat_eq (length c.fields) 0
-
--- whether a method gives nothing
-unfoldable pub gives_nothing : Gives → Bool
-gives_nothing Nothing = true
-gives_nothing _ = false
 
 -- whether a method is static, without flags and sets
 abbrev pub is_bare : Method → Bool

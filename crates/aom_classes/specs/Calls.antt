@@ -13,7 +13,7 @@ use Rattle.aom_image.specs.declared.method.Role.{Role}
 use Rattle.aom_image.specs.declared.method.Role.TheVariants as roles
 use Rattle.aom_image.specs.declared.method.Thing.{Thing}
 use Rattle.aom_image.specs.declared.method.Thing.TheVariants.{Object, Message}
-use Rattle.aom_classes.specs.Classes.{sessions_at}
+use Rattle.aom_roles.specs.Classes.{sessions_at}
 use Rattle.aom_classes.specs.Roles.{plays, is_main}
 
 -- every method of a class with that role has a number below m

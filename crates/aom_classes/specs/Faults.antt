@@ -3,10 +3,10 @@ use Rattle.std.specs.Prelude.{ℕ}
 use Rattle.aom_image.specs.Image.{Image}
 use Rattle.aom_classes.specs.Admitted.{IsAdmitted}
 use Rattle.aom_classes.specs.Calls.{AllCallsOrdered}
-use Rattle.aom_classes.specs.Classes.{ClassesOrdered}
+use Rattle.aom_roles.specs.Classes.{ClassesOrdered}
 use Rattle.aom_classes.specs.Linked.{AllJumpWell, AllLoopsNest, HasMain}
 use Rattle.aom_classes.specs.Needs.{AllNeedsMet, RolesSingle}
-use Rattle.aom_classes.specs.Shapes.{AllShaped}
+use Rattle.aom_roles.specs.Shapes.{AllShaped}
 use Rattle.aom_classes.specs.declared.fault.LinkFault.{LinkFault}
 use Rattle.aom_classes.specs.declared.fault.LinkFault.TheVariants.{NotYet, ClassOrder, CallOrder, MissingRole, DoubleRole, RoleShape, BadJump, BadLoop, NoMain, OutOfMemory}
 
@@ -24,14 +24,19 @@ number_of NoMain = 8
 number_of OutOfMemory = 9
 
 -- the image fails the fault's condition, and keeps all of lower numbers
+unfoldable pub Fails : Image → LinkFault → Type 0
+Fails p ClassOrder = ¬ ClassesOrdered p
+Fails p CallOrder = ClassesOrdered p × ¬ AllCallsOrdered p
+Fails p MissingRole = ClassesOrdered p × AllCallsOrdered p × ¬ AllNeedsMet p
+Fails p DoubleRole = ClassesOrdered p × AllCallsOrdered p × AllNeedsMet p × ¬ RolesSingle p
+Fails p RoleShape = ClassesOrdered p × AllCallsOrdered p × AllNeedsMet p × RolesSingle p × ¬ AllShaped p
+Fails p BadJump = ClassesOrdered p × AllCallsOrdered p × AllNeedsMet p × RolesSingle p × AllShaped p × ¬ AllJumpWell p
+Fails p BadLoop = ClassesOrdered p × AllCallsOrdered p × AllNeedsMet p × RolesSingle p × AllShaped p × AllJumpWell p × ¬ AllLoopsNest p
+Fails p NoMain = ClassesOrdered p × AllCallsOrdered p × AllNeedsMet p × RolesSingle p × AllShaped p × AllJumpWell p × AllLoopsNest p × ¬ HasMain p
+Fails p _ = ⊥
+
+-- an image is not admitted, or fails a condition; want of memory says nothing
 unfoldable pub Refuses : Image → LinkFault → Type 0
 Refuses p NotYet = ¬ IsAdmitted p
-Refuses p ClassOrder = IsAdmitted p × ¬ ClassesOrdered p
-Refuses p CallOrder = IsAdmitted p × ClassesOrdered p × ¬ AllCallsOrdered p
-Refuses p MissingRole = IsAdmitted p × ClassesOrdered p × AllCallsOrdered p × ¬ AllNeedsMet p
-Refuses p DoubleRole = IsAdmitted p × ClassesOrdered p × AllCallsOrdered p × AllNeedsMet p × ¬ RolesSingle p
-Refuses p RoleShape = IsAdmitted p × ClassesOrdered p × AllCallsOrdered p × AllNeedsMet p × RolesSingle p × ¬ AllShaped p
-Refuses p BadJump = IsAdmitted p × ClassesOrdered p × AllCallsOrdered p × AllNeedsMet p × RolesSingle p × AllShaped p × ¬ AllJumpWell p
-Refuses p BadLoop = IsAdmitted p × ClassesOrdered p × AllCallsOrdered p × AllNeedsMet p × RolesSingle p × AllShaped p × AllJumpWell p × ¬ AllLoopsNest p
-Refuses p NoMain = IsAdmitted p × ClassesOrdered p × AllCallsOrdered p × AllNeedsMet p × RolesSingle p × AllShaped p × AllJumpWell p × AllLoopsNest p × ¬ HasMain p
 Refuses p OutOfMemory = Unit {0}
+Refuses p fault = IsAdmitted p × Fails p fault

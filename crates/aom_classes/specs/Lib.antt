@@ -1,6 +1,5 @@
 pub mod Admitted
 pub mod Calls
-pub mod Classes
 pub mod Faults
 pub mod Jumps
 pub mod Linked
@@ -8,6 +7,4 @@ pub mod Loops
 pub mod Needs
 pub mod Roles
 pub mod Scanning
-pub mod Shapes
-pub mod States
 pub mod Table

@@ -2,12 +2,12 @@
 use Rattle.std.specs.Prelude.{ℕ, IfSome, IsSome, slice_get}
 use Rattle.aom_image.specs.Image.{Image}
 use Rattle.aom_classes.specs.Calls.{AllCallsOrdered}
-use Rattle.aom_classes.specs.Classes.{ClassesOrdered}
+use Rattle.aom_roles.specs.Classes.{ClassesOrdered}
 use Rattle.aom_classes.specs.Jumps.{JumpsWell}
 use Rattle.aom_classes.specs.Loops.{LoopsNest}
 use Rattle.aom_classes.specs.Needs.{AllNeedsMet, RolesSingle}
 use Rattle.aom_classes.specs.Roles.{main_of}
-use Rattle.aom_classes.specs.Shapes.{AllShaped}
+use Rattle.aom_roles.specs.Shapes.{AllShaped}
 
 -- the jumps of each method go forward, and none of its places has a successor past its end
 abbrev pub AllJumpWell : Image → Type 0

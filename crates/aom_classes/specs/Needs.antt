@@ -1,5 +1,5 @@
 -- Which methods a class needs, and which it may have once.
-use Rattle.std.specs.Prelude.{◌≡◌, ◌≤◌, ◌<◌, ℕ, List, length, IfSome, IsSome, slice_get, count_by}
+use Rattle.std.specs.Prelude.{◌≤◌, ◌<◌, ℕ, List, length, IfSome, IsSome, slice_get, count_by}
 use Rattle.aom_image.specs.Image.{Image}
 use Rattle.aom_image.specs.declared.class.ClassDecl.{ClassDecl}
 use Rattle.aom_image.specs.declared.class.ClassKind.{ClassKind}

@@ -1,10 +1,11 @@
 //! What an image may have so far.
 ghost use Rattle.std.specs.Prelude.{◌≡◌, ◌↔◌, IsTrue};
 ghost use Rattle.std.specs.List.{list_all};
-ghost use Rattle.aom_classes.specs.Admitted.{admits_instr, is_plain, admits_class, gives_nothing, is_bare, admits_method, admits_header, EachPasses, IsAdmitted};
+ghost use Rattle.aom_classes.specs.Admitted.{admits_instr, is_plain, admits_class, is_bare, admits_method, admits_header, EachPasses, IsAdmitted};
 
 use crate::roles::is_main;
-use aom_image::{ClassDecl, ClassKind, Gives, Header, Image, Instr, Method};
+use aom_image::{ClassDecl, ClassKind, Header, Image, Instr, Method};
+use aom_roles::gives_nothing;
 use bitflags::Flags;
 
 #[tactic(auto, unfolding(crate::specs::Admitted::admits_instr))]
@@ -14,7 +15,16 @@ fn admits_instr(instr: &Instr) -> bool
     matches!(
         instr,
         Instr::Const(_, _)
+            | Instr::Copy(_, _)
+            | Instr::Add(_, _, _)
+            | Instr::Sub(_, _, _)
+            | Instr::Mul(_, _, _)
+            | Instr::And(_, _, _)
+            | Instr::Or(_, _, _)
+            | Instr::Xor(_, _, _)
             | Instr::Jump(_)
+            | Instr::JumpEqual(_, _, _)
+            | Instr::JumpLess(_, _, _)
             | Instr::JumpNull(_, _)
             | Instr::Print(_)
             | Instr::New(_, _)
@@ -36,13 +46,6 @@ fn admits_class(class: &ClassDecl) -> bool
     ensures { result ≡ admits_class class.now }
 {
     is_plain(class.kind) && class.words == 0 && class.fields.is_empty()
-}
-
-#[tactic(auto, unfolding(crate::specs::Admitted::gives_nothing))]
-pub fn gives_nothing(gives: Gives) -> bool
-    ensures { result ≡ gives_nothing gives }
-{
-    matches!(gives, Gives::Nothing)
 }
 
 fn admits_code(code: &[Instr]) -> bool

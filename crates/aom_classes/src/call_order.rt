@@ -1,12 +1,12 @@
 //! What a method may run, and which destructors may come of what it mentions.
 ghost use Rattle.std.specs.Prelude.{◌≡◌, ◌<◌, ◌↔◌, IsTrue, All};
-ghost use Rattle.aom_image.specs.Views.{gives_of, fields_of};
+ghost use Rattle.aom_image.specs.Views.{fields_of};
 ghost use Rattle.aom_classes.specs.Roles.{plays};
 ghost use Rattle.aom_classes.specs.Calls.{AllBelow, Mentions, MentionsThing, MentionsArgument, MentionsResult, CallsBelow, RunsBelow, MentionsFields, MentionsRoot, CallsOrdered, EachCallsOrdered, AllCallsOrdered};
 
-use crate::class_order::sessions_at;
 use crate::roles::{is_main, plays};
 use aom_image::{Argument, ClassNumber, Gives, Image, Instr, Method, MethodNumber, Role, Thing};
+use aom_roles::{gives_of, sessions_at};
 
 /// Whether no method of that class with that role has the number or a higher one.
 fn all_below(methods: &[Method], method: usize, class: ClassNumber, role: Role) -> bool
@@ -61,18 +61,6 @@ fn may_give(image: &Image, method: usize, gives: Gives) -> bool
         Gives::Nothing | Gives::Word => true,
         Gives::Own(thing) | Gives::Maybe(thing) => may_mention_thing(image, method, thing),
         Gives::Left(class) => may_mention(image, method, class),
-    }
-}
-
-/// What a method gives.
-#[tactic(auto, unfolding(aom_image::specs::Views::gives_in, aom_image::specs::Views::method_at))]
-pub fn gives_of(image: &Image, method: MethodNumber) -> Gives
-    ensures { result ≡ gives_of image.now method }
-{
-    let methods = image.methods();
-    match methods.as_slice().get(method.number() as usize) {
-        Some(method) => method.gives,
-        None => Gives::Nothing,
     }
 }
 

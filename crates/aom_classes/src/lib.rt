@@ -7,7 +7,6 @@
 
 mod admitted;
 mod call_order;
-mod class_order;
 mod fault;
 mod jumps;
 mod linked;
@@ -15,8 +14,11 @@ mod loops;
 mod needs;
 mod role_table;
 mod roles;
-mod shapes;
-mod states;
 
 pub use fault::LinkFault;
 pub use linked::{Linked, link};
+
+#[cfg(test)]
+mod drafts;
+#[cfg(test)]
+mod tests;

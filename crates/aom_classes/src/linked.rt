@@ -4,21 +4,20 @@ ghost use Rattle.aom_image.specs.Views.{class_at, method_at, instr_at, fields_of
 ghost use Rattle.aom_classes.specs.Admitted.{IsAdmitted};
 ghost use Rattle.aom_classes.specs.Linked.{IsLinked};
 ghost use Rattle.aom_classes.specs.Roles.{main_of, role_of};
-ghost use Rattle.aom_classes.specs.Faults.{Refuses};
+ghost use Rattle.aom_classes.specs.Faults.{Fails, Refuses};
 
 use crate::LinkFault;
 use crate::admitted::is_admitted;
 use crate::call_order::calls_are_ordered;
-use crate::class_order::classes_are_ordered;
 use crate::jumps::all_jump_well;
 use crate::loops::all_loops_nest;
 use crate::needs::{needs_are_met, roles_are_single};
 use crate::role_table::RoleTable;
 use crate::roles::find_main;
-use crate::shapes::all_are_shaped;
 use aom_image::{
     ClassDecl, ClassNumber, FieldIndex, Image, Instr, Method, MethodNumber, Role, Thing,
 };
+use aom_roles::{all_are_shaped, classes_are_ordered};
 use std::alloc::Global;
 use std::marker::Model;
 
@@ -51,20 +50,20 @@ pub fn link(alloc: Global, image: Image) -> Result<Linked, LinkFault>
     ensures ok { IfOk result (λ l. (l ≡ image) × IsAdmitted image × IsLinked image) }
     ensures err { IfErr result (λ fault. Refuses image fault) }
 {
+    if !is_admitted(&image) {
+        return Err(LinkFault::NotYet);
+    }
     let main = check_conditions(&image)?;
     let roles = RoleTable::of_image(alloc, &image)?;
     Ok(Linked { image, roles, main })
 }
 
-/// The main of an image that keeps the conditions.
-#[tactic(auto, unfolding(crate::specs::Roles::main_of, crate::specs::Faults::Refuses))]
-fn check_conditions(image: &Image) -> Result<MethodNumber, LinkFault>
-    ensures ok { IfOk result (λ main. IsAdmitted image.now × IsLinked image.now × (main_of image.now ≡ Some main)) }
-    ensures err { IfErr result (λ fault. Refuses image.now fault) }
+/// The main of an image that keeps the conditions, whatever is admitted.
+#[tactic(auto, unfolding(crate::specs::Roles::main_of, crate::specs::Faults::Fails))]
+pub fn check_conditions(image: &Image) -> Result<MethodNumber, LinkFault>
+    ensures ok { IfOk result (λ main. IsLinked image.now × (main_of image.now ≡ Some main)) }
+    ensures err { IfErr result (λ fault. Fails image.now fault) }
 {
-    if !is_admitted(image) {
-        return Err(LinkFault::NotYet);
-    }
     if !classes_are_ordered(image) {
         return Err(LinkFault::ClassOrder);
     }

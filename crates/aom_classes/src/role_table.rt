@@ -5,8 +5,9 @@ ghost use Rattle.aom_classes.specs.Roles.{role_of};
 ghost use Rattle.aom_classes.specs.Table.{IsRow, IsTable};
 
 use crate::needs::class_number;
-use crate::roles::{find_role, role_number};
+use crate::roles::find_role;
 use aom_image::{ClassNumber, Image, Method, MethodNumber, Role};
+use aom_roles::role_number;
 use std::alloc::{AllocError, Global};
 
 /// For each class the first method of each role.
@@ -15,7 +16,7 @@ pub struct RoleTable {
     pub rows: Vec<[Option<MethodNumber>; 10]>,
 }
 
-#[tactic(auto, unfolding(crate::specs::Roles::role_number))]
+#[tactic(auto, unfolding(aom_roles::specs::Roles::role_number))]
 fn row_of(methods: &[Method], class: ClassNumber) -> [Option<MethodNumber>; 10]
     requires { length methods.now ≤ 1024 }
     ensures { IsRow methods.now class result }

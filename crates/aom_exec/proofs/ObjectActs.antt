@@ -1,5 +1,5 @@
 -- Instructions on objects: a jump where there is none, a new cell, a destruction that begins.
-use Rattle.std.proofs.Common.{inl, inr, suc, ◌≡◌, ◌≢◌, ℕ, ◌<◌, ◌+◌, Bool, true, false, cond, ◌==◌, ◌||◌, length, List, [], ◌∷◌, Option, Some, None, replicate, slice_set, slice_index_or, refl, sym, ap, ◌∙◌, subst, arith}
+use Rattle.std.proofs.Common.{inl, inr, suc, ◌≡◌, ◌≢◌, ℕ, ◌<◌, ◌+◌, Bool, true, false, cond, ◌==◌, ◌||◌, length, List, [], ◌∷◌, Option, Some, None, replicate, slice_set, slice_index_or, refl, sym, ap, ◌∙◌, subst, arith, ℤ, pos}
 use Rattle.std.specs.Prelude.{nat_le}
 use Rattle.std.specs.List.{list_any}
 use Rattle.std.proofs.lemmas.List.{get_or_past, length-set, length-replicate, get_or-replicate}
@@ -9,6 +9,7 @@ use Rattle.aom_image.specs.declared.instr.Instr.TheVariants.{JumpNull, New, Dele
 use Rattle.aom_image.specs.declared.method.Thing.TheVariants.{Object as An_object_of}
 use Rattle.aom_classes.specs.Admitted.{IsAdmitted}
 use Rattle.aom_cells.specs.Heap.{Heap, null, cell_at, field_of, count, blank, Changes}
+use Rattle.aom_shape.specs.Things.{words_of}
 use Rattle.aom_sound.specs.Places.{Place, Register, Entry, Field, Going, Elsewhere, same_place, Object, Cell, held, named, moved, changed, with_new}
 use Rattle.aom_sound.specs.State.{Frame, word, next, set_word, Task, Run, Rest, State, Choice, raised}
 use Rattle.aom_sound.specs.Destruction.{begun_by}
@@ -152,9 +153,13 @@ values_kept ms h h' es root n class none ch (Entry k) = refl
 values_kept ms h h' es root n class none ch (Going k) = refl
 values_kept ms h h' es root n class none ch (Elsewhere o) = refl
 
+-- the words of a new object
+abbrev zeros : Image → ℕ → List ℤ
+zeros p class = replicate (words_of p class) (pos 0)
+
 -- the cells with a new one
-cells_made : (p : Image) (h h' : Heap) (cs : List Cell) (n class : ℕ) (q : Place) → SameCells p h cs → class < 256 → cell_at h n ≡ None → n ≢ null → Changes h h' n (Some (blank class)) → count h' ≡ count h + 1 → SameCells p h' (with_new n (An_object_of class) q cs)
-cells_made p h h' cs n class q same small none some ch more = record {
+cells_made : (p : Image) (h h' : Heap) (cs : List Cell) (n class : ℕ) (ws : List ℤ) (q : Place) → SameCells p h cs → class < 256 → cell_at h n ≡ None → n ≢ null → Changes h h' n (Some (blank class)) → count h' ≡ count h + 1 → SameCells p h' (with_new n (An_object_of class) ws q cs)
+cells_made p h h' cs n class ws q same small none some ch more = record {
   things = λ k. cases (n == k)
       (λ e. ap (λ i. thing_in (cell_at h' i)) (sym (eqb-true n k e)) ∙ ap thing_in ch.here ∙ ap (λ b. thing_of (cond b (Some (record { name = n; thing = An_object_of class })) (named cs k))) (sym e))
       (λ e. ap thing_in (other k e) ∙ same.things k ∙ ap (λ b. thing_of (cond b (Some (record { name = n; thing = An_object_of class })) (named cs k))) (sym e));
@@ -205,11 +210,11 @@ module _ (m : Parts) (turn : Turn) where
         record { name = n; refused = false },
         record { name = unnamed p m s n h.agrees none; refusal = granted ∙ same_refusal p turn m s h.agrees },
         λ needs typed. by_top p m h
-            (λ us. Agrees p (record m { stack = record m.stack { tasks = on_top (with_place (suc (place_here (on_top (with_register a n) us)))) (on_top (with_register a n) us) }; cells = heap; rest = record m.rest { requests = raised m.rest.requests } }) (record (requested (New a class) s) { cells = with_new n (An_object_of class) (Register (length ts) a) s.cells; tasks = Run (next (set_word fr a None)) ∷ ts }))
+            (λ us. Agrees p (record m { stack = record m.stack { tasks = on_top (with_place (suc (place_here (on_top (with_register a n) us)))) (on_top (with_register a n) us) }; cells = heap; rest = record m.rest { requests = raised m.rest.requests } }) (record (requested (New a class) s) { cells = with_new n (An_object_of class) (zeros p class) (Register (length ts) a) s.cells; tasks = Run (next (set_word fr a None)) ∷ ts }))
             (λ f ms top.
             let wide = top.frame.wide in
-            goes_on p m s heap (with_new n (An_object_of class) (Register (length ts) a) s.cells) _ _ _ ms (next (set_word fr a None)) ts h.agrees
-            (cells_made p m.cells heap s.cells n class (Register (length ts) a) h.agrees.cells fits none some ch more)
+            goes_on p m s heap (with_new n (An_object_of class) (zeros p class) (Register (length ts) a) s.cells) _ _ _ ms (next (set_word fr a None)) ts h.agrees
+            (cells_made p m.cells heap s.cells n class (zeros p class) (Register (length ts) a) h.agrees.cells fits none some ch more)
             (ap (λ (r : Rest). record r { requests = raised r.requests }) h.agrees.rest) top.alone top.below
             (moved_on f fr (slice_set f.registers a n) (set_word fr a None).words top.frame (length-set f.registers a n ∙ wide))
             (writes _ _ _ _ (held s.cells) _ (Register (length ts) a) n None (Some (record { name = n; thing = An_object_of class })) top.values refl

@@ -1,18 +1,20 @@
 -- Each move makes the rank fall, and leaves main's line written.
 use Rattle.std.proofs.Common.{suc, ◌≡◌, ℕ, ◌<◌, ◌+◌, ◌-◌, ◌*◌, Bool, true, false, length, List, [], ◌∷◌, Option, Some, None, IsSome, IsTrue, refl, sym, ap, ◌∙◌, subst, arith}
-use Rattle.std.specs.Prelude.{is_some}
+use Rattle.std.specs.Prelude.{is_some, int_lt}
+use Rattle.std.specs.Ordering.{int_eq}
 use Rattle.aom_image.specs.Image.{Image}
 use Rattle.aom_image.specs.Views.{method_at, instr_at}
 use Rattle.aom_image.specs.declared.instr.Instr.{Instr}
-use Rattle.aom_image.specs.declared.instr.Instr.TheVariants.{Const, Jump, JumpNull, Print, New, Delete, Return, Stop}
+use Rattle.aom_image.specs.declared.instr.Instr.TheVariants.{Const, Copy, Add, Sub, Mul, And, Or, Xor, Jump, JumpEqual, JumpLess, JumpNull, Print, New, Delete, Return, Stop}
 use Rattle.aom_classes.specs.Admitted.{IsAdmitted, admits_instr}
 use Rattle.aom_classes.specs.Jumps.{jump_of}
 use Rattle.aom_classes.specs.Linked.{IsLinked}
 use Rattle.aom_classes.proofs.Facts.{of_method, linked_place, admitted_instr}
 use Rattle.aom_shape.specs.Typing.{Typing}
 use Rattle.aom_sound.specs.Places.{Register, Going, Object, held}
-use Rattle.aom_sound.specs.State.{Frame, Dispatch, Task, Run, Trapped, Destroy, Dispatched, next, set_word, State, Choice, Outcome, Goes, IsStuck, Need, guarded}
+use Rattle.aom_sound.specs.State.{Frame, Dispatch, Of_main, Task, Run, Trapped, Destroy, Dispatched, next, set_word, State, Choice, Outcome, Goes, IsStuck, Need, guarded}
 use Rattle.aom_sound.specs.Destruction.{begun_by}
+use Rattle.aom_sound.specs.Words.{read, branched}
 use Rattle.aom_sound.specs.Objects.{jumped, deleted}
 use Rattle.aom_sound.specs.Moves.{needs, does, closed, step}
 use Rattle.aom_sound.specs.WellTyped.{WellTyped, Keeps}
@@ -73,10 +75,23 @@ module _ (p : Image) (linked : IsLinked p) (admitted : IsAdmitted p) (c : Choice
       let k = linked_place p fr.method fr.place w.0 i linked w.1 w.2 in
       rw e at k.forward
 
+  branch_after : (i : Instr) (b : Bool) (to : ℕ) → instr_at p fr.method fr.place ≡ Some i → jump_of i ≡ Some to → fr.place < length_in (method_at p fr.method) → After p (Run fr ∷ under) (branched fr under s b to)
+  branch_after i true to here jumps within = let ahead = forward i to here jumps in record { falls = omega arith; announced = told }
+  branch_after i false to here jumps within = record { falls = omega arith; announced = told }
+
   instr_after : (i : Instr) → instr_at p fr.method fr.place ≡ Some i → IsTrue (admits_instr i) → fr.place < length_in (method_at p fr.method) → After p (Run fr ∷ under) (does p c fr under s i)
   unfolding admits_instr jump_of
   instr_after (Const a w) here ok within = record { falls = omega arith; announced = told }
+  instr_after (Copy a b) here ok within = record { falls = omega arith; announced = told }
+  instr_after (Add a b x) here ok within = record { falls = omega arith; announced = told }
+  instr_after (Sub a b x) here ok within = record { falls = omega arith; announced = told }
+  instr_after (Mul a b x) here ok within = record { falls = omega arith; announced = told }
+  instr_after (And a b x) here ok within = record { falls = omega arith; announced = told }
+  instr_after (Or a b x) here ok within = record { falls = omega arith; announced = told }
+  instr_after (Xor a b x) here ok within = record { falls = omega arith; announced = told }
   instr_after (Jump to) here ok within = let ahead = forward (Jump to) to here refl in record { falls = omega arith; announced = told }
+  instr_after (JumpEqual a b to) here ok within = branch_after (JumpEqual a b to) (int_eq (read fr under s a) (read fr under s b)) to here refl within
+  instr_after (JumpLess a b to) here ok within = branch_after (JumpLess a b to) (int_lt (read fr under s a) (read fr under s b)) to here refl within
   instr_after (JumpNull a to) here ok within = go (held s.cells (Register (length under) a))
     where
       go : (o : Option Object) → After p (Run fr ∷ under) (jumped p c fr under s o to)
@@ -120,10 +135,10 @@ module _ (p : Image) (t : Typing) (refused : List ℕ) (m new : Parts) (s : Stat
       let within = within_code p fr.method (suc fr.place) (goes_there p t s sound typed fr ts top) in
       subst (After p s.tasks) same (subst (λ us. After p us (without_going (at_step s) (Run fr ∷ ts))) (sym top) (record { falls = omega arith; announced = refl }))
 
-  of_ending : (d : Dispatch) → s.tasks ≡ Dispatched d ∷ [] → After p s.tasks moved.state
-  of_ending d top =
+  of_ending : s.tasks ≡ Dispatched Of_main ∷ [] → After p s.tasks moved.state
+  of_ending top =
       let u = closed (record s { rest = record s.rest { announced = true } }) in
-      let same : u ≡ moved.state = goes_same _ _ (sym (step_of_ending p moved.choice s d [] top) ∙ moved.goes) in
+      let same : u ≡ moved.state = goes_same _ _ (sym (step_of_ending p t moved.choice s sound typed top) ∙ moved.goes) in
       subst (After p s.tasks) same (subst (λ us. After p us u) (sym top) (record { falls = omega arith; announced = refl }))
 
   pub moved_after : 0 < length m.stack.tasks → After p s.tasks moved.state
@@ -142,7 +157,7 @@ module _ (p : Image) (t : Typing) (refused : List ℕ) (m new : Parts) (s : Stat
           by_going p m (record { typing = t; state = s; below = f.0; top = f.1; typed = typed; agrees = agrees }) (λ us ts. s.tasks ≡ Destroy ∷ ts → After p s.tasks moved.state) (λ x g ms fr ts top e. of_going fr ts e) f.1
       go (Ends x ∷ ms) e busy =
           let d = ending_of m.stack.tasks s.tasks (subst IsEnding (sym e) tt) agrees.room.alone agrees.tasks in
-          of_ending d.0 d.1
+          of_ending d.0
 
   pub moved_falls : 0 < length m.stack.tasks → rank_of p new.stack.tasks < rank_of p m.stack.tasks
   moved_falls busy =

@@ -6,6 +6,8 @@
 #![tactic(auto)]
 
 mod refusals;
+#[cfg(test)]
+mod tests;
 mod text;
 mod turn;
 

@@ -10,7 +10,6 @@ use Rattle.aom_exec.specs.declared.progress.Outcome.{Outcome}
 use Rattle.aom_exec.specs.declared.progress.Outcome.TheVariants.{Stopped, Waiting, WriteFault}
 use Rattle.aom_run.specs.Script.{Script, denoted}
 use Rattle.aom_main.specs.declared.status.ExitStatus.{ExitStatus}
-use Rattle.aom_main.specs.declared.status.ExitStatus.TheVariants.{Fault as Faulty}
 use Rattle.aom_main.specs.declared.faults.Fault.TheVariants.{Write}
 use Rattle.aom_main.specs.Acceptable.{IsSpelled}
 use Rattle.aom_main.specs.Headline.{Sent, Told, Shows, Ends, Runs, RunAnswers}
@@ -27,7 +26,7 @@ runs_of bytes text p script linked admitted typed depths wired sound spelled den
       acceptable = record { admitted = admitted; linked = linked; typing = typed.0; typed = typed.1; depths = depths };
       script = script;
       denotes = denotes;
-      sound = sound p typed.0 script.refused w.0 typed.1 w.1;
+      sound = sound p typed.0 script.refused w.0 typed.1;
     }
 
 -- the output failed, and that is told

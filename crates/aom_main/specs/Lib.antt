@@ -1,4 +1,4 @@
 pub mod Acceptable
+pub mod CommandLine
 pub mod Headline
-pub mod Limits
 pub mod Status

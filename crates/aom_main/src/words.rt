@@ -1,6 +1,9 @@
 //! The command line.
-ghost use Rattle.std.specs.Prelude.{◌≤◌, IfOk};
-ghost use Rattle.aom_main.specs.Limits.{KeepsLimit};
+ghost use Rattle.std.specs.Prelude.{◌≡◌, ◌≤◌, IfOk, IfErr, Some, false, true, codes};
+ghost use Rattle.std.specs.String.{string_bytes};
+ghost use Rattle.clap.specs.declared.builder.command.Command.TheViews.{out-Command as fields_of};
+ghost use Rattle.clap.specs.Words.{app_of, found_of, kind_of, one_of, rows_of, rule_of, subcommand_of, subcommand_rows_of, takes};
+ghost use Rattle.aom_main.specs.CommandLine.{check_form, run_form, form, file_rule, limit_rule, native_rule, texts_of, word_of, Asks, Declines, IsLimit, KeepsLimit, Says};
 
 use clap::error::ErrorKind;
 use clap::{Arg, ArgAction, ArgMatches, Command, Error, value_parser};
@@ -31,6 +34,11 @@ pub enum WordsFault {
 }
 
 impl From<AllocError> for WordsFault {
+    ghost use Rattle.std.specs.Prelude.{◌≡◌};
+    ghost use Rattle.aom_main.specs.declared.words.WordsFault.TheVariants.{Memory};
+
+    ghost from_gives = { λ _ f. f ≡ Memory };
+
     fn from(_error: AllocError) -> WordsFault {
         WordsFault::Memory
     }
@@ -38,92 +46,147 @@ impl From<AllocError> for WordsFault {
 
 /// Reads a command line, the program's own word first.
 pub fn read_words(alloc: Global, words: Vec<String>) -> Result<Words, WordsFault>
-    ensures limit { IfOk result (λ words. KeepsLimit words) }
+    ensures asks { IfOk result (λ asked. Asks (subcommand_of form (texts_of words.items)) asked) }
+    ensures declines { IfErr result (λ fault. Declines (takes form (texts_of words.items)) (subcommand_of form (texts_of words.items)) fault) }
+    ensures limit { IfOk result (λ asked. KeepsLimit asked) }
 {
-    match aom_command(alloc)?.try_get_matches_from(words.as_slice()) {
+    let command = aom_command(alloc)?;
+    match command.try_get_matches_from(words.as_slice()) {
         Ok(matches) => words_of(alloc, &matches),
-        Err(error) => Err(text_of(alloc, &error)?),
+        Err(error) => Err(refusal_of(alloc, &error)),
     }
 }
 
 /// The program's command line: a word for what is done, and that command's own words.
-fn aom_command<'a>(alloc: Global) -> Result<Command<'a>, AllocError> {
+fn aom_command<'a>(alloc: Global) -> Result<Command<'a>, AllocError>
+    ensures { IfOk result (λ c. app_of c ≡ form) }
+{
+    let check = check_command(alloc)?;
+    let run = run_command(alloc)?;
     Command::new(alloc, "aom")
         .about("Checks and runs images of programs of active objects")
         .subcommand_required(true)
-        .subcommand(check_command(alloc)?)?
-        .subcommand(run_command(alloc)?)
+        .subcommand(check)?
+        .subcommand(run)
 }
 
-fn check_command<'a>(alloc: Global) -> Result<Command<'a>, AllocError> {
+fn check_command<'a>(alloc: Global) -> Result<Command<'a>, AllocError>
+    ensures form { IfOk result (λ c. app_of c ≡ check_form) }
+    ensures own { IfOk result (λ c. (fields_of c).has_globals ≡ false) }
+{
     Command::new(alloc, "check")
         .about("Tells whether an image is accepted")
-        .arg(Arg::new(alloc, "IMAGE").required(true))
+        .arg(file_arg(alloc, "IMAGE", "The file of an image"))
 }
 
-fn run_command<'a>(alloc: Global) -> Result<Command<'a>, AllocError> {
-    let limit = Arg::new(alloc, "limit")
+fn run_command<'a>(alloc: Global) -> Result<Command<'a>, AllocError>
+    ensures form { IfOk result (λ c. app_of c ≡ run_form) }
+    ensures own { IfOk result (λ c. (fields_of c).has_globals ≡ false) }
+{
+    Command::new(alloc, "run")
+        .about("Runs an image under a script and writes the transcript")
+        .arg(limit_arg(alloc))?
+        .arg(file_arg(alloc, "IMAGE", "The file of an image"))?
+        .arg(file_arg(alloc, "SCRIPT", "The file of a script"))?
+        .arg(native_arg(alloc))
+}
+
+/// A file that has to be named.
+fn file_arg<'a>(alloc: Global, id: &'a str, help: &'a str) -> Arg<'a>
+    ensures rule { rule_of result ≡ file_rule id.entry.now }
+    ensures own { result.global ≡ false }
+{
+    Arg::new(alloc, id).help(help).required(true)
+}
+
+fn native_arg<'a>(alloc: Global) -> Arg<'a>
+    ensures rule { rule_of result ≡ native_rule }
+    ensures own { result.global ≡ false }
+{
+    Arg::new(alloc, "NATIVE")
+        .help("The natives, from number 0 on")
+        .action(ArgAction::Append)
+        .num_args(0..)
+}
+
+fn limit_arg<'a>(alloc: Global) -> Arg<'a>
+    ensures rule { rule_of result ≡ limit_rule }
+    ensures own { result.global ≡ false }
+{
+    Arg::new(alloc, "limit")
         .long("limit")
         .value_name("N")
         .help("The most dispatches after main's")
         .value_parser(value_parser!(u32).range(1..=1_000_000_000))
-        .default_value("1000000");
-    let natives = Arg::new(alloc, "NATIVE")
-        .action(ArgAction::Append)
-        .num_args(0..);
-    Command::new(alloc, "run")
-        .about("Runs an image under a script and writes the transcript")
-        .arg(limit)?
-        .arg(Arg::new(alloc, "IMAGE").required(true))?
-        .arg(Arg::new(alloc, "SCRIPT").required(true))?
-        .arg(natives)
+        .default_value("1000000")
 }
 
 /// What `clap` has to say of the words, unless it had no memory for that.
-fn text_of(alloc: Global, error: &Error) -> Result<WordsFault, AllocError> {
+fn refusal_of(alloc: Global, error: &Error) -> WordsFault
+    ensures { Says (kind_of error.now) result }
+{
     if error.kind() == ErrorKind::OutOfMemory {
-        return Ok(WordsFault::Memory);
+        return WordsFault::Memory;
     }
-    Ok(WordsFault::Text(error.to_string(alloc)?))
+    match error.to_string(alloc) {
+        Ok(text) => WordsFault::Text(text),
+        Err(_) => WordsFault::Memory,
+    }
 }
 
 /// What the words ask. Without a command, which `clap` lets nobody leave out, there is nothing to say.
 fn words_of(alloc: Global, matches: &ArgMatches) -> Result<Words, WordsFault>
-    ensures { IfOk result (λ words. KeepsLimit words) }
+    ensures asks { IfOk result (λ asked. Asks (subcommand_rows_of matches.now) asked) }
+    ensures declines { IfErr result (λ fault. Declines true (subcommand_rows_of matches.now) fault) }
 {
     match matches.subcommand() {
-        Some(("check", check)) => Ok(Words::Check {
-            image: word_of(alloc, check, "IMAGE")?,
+        Some((command, own)) => command_words(alloc, command, own),
+        None => Err(WordsFault::Text(String::new(alloc))),
+    }
+}
+
+/// What a command asks, with the words of its own.
+fn command_words(alloc: Global, command: &str, own: &ArgMatches) -> Result<Words, WordsFault>
+    ensures asks { IfOk result (λ asked. Asks (Some (command.now, rows_of (found_of own.now))) asked) }
+    ensures declines { IfErr result (λ fault. Declines true (Some (command.now, rows_of (found_of own.now))) fault) }
+{
+    match command {
+        "check" => Ok(Words::Check {
+            image: word_of(alloc, own, "IMAGE")?,
         }),
-        Some(("run", run)) => run_words(alloc, run),
+        "run" => run_words(alloc, own),
         _ => Err(WordsFault::Text(String::new(alloc))),
     }
 }
 
 /// What the words after `run` ask. There are no natives yet, so no word names one.
-fn run_words(alloc: Global, run: &ArgMatches) -> Result<Words, WordsFault>
-    ensures { IfOk result (λ words. KeepsLimit words) }
+fn run_words(alloc: Global, own: &ArgMatches) -> Result<Words, WordsFault>
+    ensures asks { IfOk result (λ asked. Asks (Some (codes "run", rows_of (found_of own.now))) asked) }
+    ensures declines { IfErr result (λ fault. Declines true (Some (codes "run", rows_of (found_of own.now))) fault) }
 {
-    if run.contains_id("NATIVE") {
+    if own.contains_id("NATIVE") {
         return Err(WordsFault::Native);
     }
+    let image = word_of(alloc, own, "IMAGE")?;
+    let script = word_of(alloc, own, "SCRIPT")?;
     Ok(Words::Run {
-        image: word_of(alloc, run, "IMAGE")?,
-        script: word_of(alloc, run, "SCRIPT")?,
-        limit: limit_of(run),
+        image,
+        script,
+        limit: limit_of(own),
     })
 }
 
-/// The limit, which `clap` has found to be in its range.
-fn limit_of(run: &ArgMatches) -> u32
-    ensures least { 1 ≤ result }
-    ensures most { result ≤ 1000000000 }
+/// The limit. `clap` has found it to be in its range, so bringing it there changes nothing.
+fn limit_of(own: &ArgMatches) -> u32
+    ensures { IsLimit (one_of (codes "limit") (rows_of (found_of own.now))) result }
 {
-    let limit = run.get_one::<u32>("limit").unwrap_or(1_000_000);
+    let limit = own.get_one::<u32>("limit").unwrap_or(1_000_000);
     limit.clamp(1, 1_000_000_000)
 }
 
-/// A word that `clap` has found to be there: nothing is refused here, and a name without letters would be no file's.
-fn word_of(alloc: Global, matches: &ArgMatches, id: &str) -> Result<String, AllocError> {
-    String::from_str(alloc, matches.get_str(id).unwrap_or(""))
+/// The word found for that name. `clap` has found one where it is needed; no file has a name without letters.
+fn word_of(alloc: Global, own: &ArgMatches, id: &str) -> Result<String, AllocError>
+    ensures { IfOk result (λ word. string_bytes word ≡ word_of id.now (rows_of (found_of own.now))) }
+{
+    String::from_str(alloc, own.get_str(id).unwrap_or(""))
 }

@@ -1,11 +1,13 @@
 -- A run can always be brought to an end: with each move less is left to do.
-use Rattle.std.proofs.Common.{◌≡◌, ℕ, suc, ◌+◌, ◌-◌, ◌*◌, ◌<◌, ◌≤◌, ◌==◌, true, false, cond, IsTrue, IfSome, List, [], ◌∷◌, ◌++◌, Option, Some, None, length, refl, sym, ap, subst, zero, arith, append-nil, append_assoc}
+use Rattle.std.proofs.Common.{◌≡◌, ℕ, suc, ◌+◌, ◌-◌, ◌*◌, ◌<◌, ◌≤◌, ◌==◌, Bool, true, false, cond, IsTrue, IfSome, List, [], ◌∷◌, ◌++◌, ◌∙◌, Option, Some, None, length, refl, sym, ap, subst, zero, arith, append-nil, append_assoc}
+use Rattle.std.specs.Prelude.{int_lt}
+use Rattle.std.specs.Ordering.{int_eq}
 use Rattle.std.proofs.lemmas.Bool.{ne_eqb}
 use Rattle.std.proofs.lemmas.Option.{slice_get_within}
 use Rattle.aom_image.specs.Image.{Image}
 use Rattle.aom_image.specs.Views.{method_at, instr_at}
 use Rattle.aom_image.specs.declared.instr.Instr.{Instr}
-use Rattle.aom_image.specs.declared.instr.Instr.TheVariants.{Const, Jump, JumpNull, Print, New, Delete, Return, Stop}
+use Rattle.aom_image.specs.declared.instr.Instr.TheVariants.{Const, Copy, Add, Sub, Mul, And, Or, Xor, Jump, JumpEqual, JumpLess, JumpNull, Print, New, Delete, Return, Stop}
 use Rattle.aom_image.specs.declared.method.Method.{Method}
 use Rattle.aom_image.specs.declared.method.Thing.{Thing}
 use Rattle.aom_classes.specs.Linked.{IsLinked}
@@ -13,15 +15,17 @@ use Rattle.aom_classes.specs.Jumps.{jump_of}
 use Rattle.aom_classes.specs.Admitted.{IsAdmitted, admits_instr}
 use Rattle.aom_classes.proofs.Facts.{of_method, admitted_instr, linked_place}
 use Rattle.aom_shape.specs.Typing.{Typing}
-use Rattle.aom_sound.specs.Places.{Object, Cell, held, named, without, Going}
-use Rattle.aom_sound.specs.State.{Frame, Dispatch, Task, Run, Trapped, Destroy, Dispatched, State, Choice, Need, Orphan, Outcome, Goes, IsStuck, guarded, set_word, next}
+use Rattle.aom_sound.specs.Places.{Object, Cell, held, named, without, Elsewhere, Going, Root}
+use Rattle.aom_sound.specs.State.{Frame, Dispatch, Of_main, Of_root, Task, Run, Trapped, Destroy, Dispatched, State, Choice, Need, Orphan, Outcome, Goes, IsStuck, guarded, set_word, next, to_place}
 use Rattle.aom_sound.specs.Destruction.{destructor_of, begun_by, gone, owns_nothing}
 use Rattle.aom_sound.specs.Objects.{jumped, deleted}
-use Rattle.aom_sound.specs.Words.{here}
+use Rattle.aom_sound.specs.Words.{here, read, branched}
 use Rattle.aom_sound.specs.Moves.{does, needs, step, step_task, step_instr, counted, written, is_refused, IsOpen}
 use Rattle.aom_sound.specs.WellTyped.{WellTyped, Keeps}
 use Rattle.aom_sound.specs.World.{boot_state, Reaches, moves, waits, Run_of, IsBusy, waiting}
 use Rattle.aom_sound.specs.declared.line.Line.{Line}
+use Rattle.aom_exec.proofs.CallActs.{root_null}
+use Rattle.aom_exec.proofs.Stepping.{ends_closed}
 use Rattle.aom_sound.specs.declared.line.Ending.{Ending}
 use Rattle.aom_sound.specs.declared.line.Ending.TheVariants.{Waiting}
 
@@ -73,10 +77,24 @@ module _ (p : Image) (linked : IsLinked p) (admitted : IsAdmitted p) (bare : (x 
       let count : places p other.method ≡ places p fr.method = ap (places p) same in
       record { alone = running other d; less = omega (arith, count) }
 
+  -- it jumps, or goes on
+  branches : (b : Bool) (to : ℕ) (s : State) → fr.place < to → fr.place < places p fr.method → On p (Run fr ∷ below) (branched fr below s b to).tasks
+  branches true to s ahead within = goes_to _ refl ahead within
+  branches false to s ahead within = goes_to _ refl (omega arith) within
+
   acts : (i : Instr) (c : Choice) (s : State) → IsTrue (admits_instr i) → fr.place < places p fr.method → ((to : ℕ) → jump_of i ≡ Some to → fr.place < to) → On p (Run fr ∷ below) (does p c fr below s i).tasks
   unfolding admits_instr jump_of
   acts (Const a w) c s admits within jumps = goes_to _ refl (omega arith) within
+  acts (Copy a b) c s admits within jumps = goes_to _ refl (omega arith) within
+  acts (Add a b x) c s admits within jumps = goes_to _ refl (omega arith) within
+  acts (Sub a b x) c s admits within jumps = goes_to _ refl (omega arith) within
+  acts (Mul a b x) c s admits within jumps = goes_to _ refl (omega arith) within
+  acts (And a b x) c s admits within jumps = goes_to _ refl (omega arith) within
+  acts (Or a b x) c s admits within jumps = goes_to _ refl (omega arith) within
+  acts (Xor a b x) c s admits within jumps = goes_to _ refl (omega arith) within
   acts (Jump to) c s admits within jumps = goes_to _ refl (jumps to refl) within
+  acts (JumpEqual a b to) c s admits within jumps = branches (int_eq (read fr below s a) (read fr below s b)) to s (jumps to refl) within
+  acts (JumpLess a b to) c s admits within jumps = branches (int_lt (read fr below s a) (read fr below s b)) to s (jumps to refl) within
   acts (JumpNull a to) c s admits within jumps =
       elim (held s.cells (here fr below s a)) as (λ o. On p (Run fr ∷ below) (jumped p c fr below s o to).tasks) [
         | None ↦ goes_to _ refl (jumps to refl) within
@@ -110,11 +128,13 @@ module _ (p : Image) (linked : IsLinked p) (admitted : IsAdmitted p) (bare : (x 
 
 module _ (p : Image) (linked : IsLinked p) (admitted : IsAdmitted p) (bare : (x : Thing) → destructor_of p x ≡ None) where
   -- a move leaves less to do
-  steps_on : (ts : List Task) → Alone p ts → (c : Choice) (s u : State) → (ts ≡ [] → ⊥) → step_task p c s ts ≡ Goes u → On p ts u.tasks
-  steps_on _ idle c s u busy e = absurd (busy refl)
-  steps_on _ (closing d) c s u busy e = subst (λ v. On p (Dispatched d ∷ []) v.tasks) (guarded_goes [] _ u e) (record { alone = idle; less = omega arith })
-  steps_on _ (running fr d) c s u busy e = runs_on p linked admitted bare fr d (instr_at p fr.method fr.place) c s u refl e
-  steps_on _ (going fr d) c s u busy e = goes_on p linked admitted bare fr d _ s u e
+  steps_on : (ts : List Task) → Alone p ts → (c : Choice) (s u : State) → (ts ≡ [] → ⊥) → (ts ≡ Dispatched Of_main ∷ [] → held s.cells (Elsewhere Root) ≡ None) → step_task p c s ts ≡ Goes u → On p ts u.tasks
+  steps_on _ idle c s u busy rootless e = absurd (busy refl)
+  steps_on _ (closing Of_main) c s u busy rootless e =
+      subst (λ v. On p (Dispatched Of_main ∷ []) v.tasks) (sym (ends_closed p s.rest.stopped (held s.cells (Elsewhere Root)) s (rootless refl)) ∙ guarded_goes [] _ u e) (record { alone = idle; less = omega arith })
+  steps_on _ (closing Of_root) c s u busy rootless e = subst (λ v. On p (Dispatched Of_root ∷ []) v.tasks) (guarded_goes [] _ u e) (record { alone = idle; less = omega arith })
+  steps_on _ (running fr d) c s u busy rootless e = runs_on p linked admitted bare fr d (instr_at p fr.method fr.place) c s u refl e
+  steps_on _ (going fr d) c s u busy rootless e = goes_on p linked admitted bare fr d _ s u e
 
 not_idle : (ts : List Task) (task : Task) (tasks : List Task) → ts ≡ task ∷ tasks → ts ≡ [] → ⊥
 not_idle ts task tasks busy none = cc
@@ -166,7 +186,7 @@ module _ (p : Image) (t : Typing) (refused : List ℕ) (linked : IsLinked p) (ad
   by_move lines s r typed alone busy again =
       let free = is_open s in
       let then_is = goes_of (step p (choice s) s) (keeps (choice s) s typed free.name) in
-      let on = steps_on p linked admitted bare s.tasks alone (choice s) (counted p s) then_is.0 (λ e. not_idle _ _ _ busy.2 e) then_is.1 in
+      let on = steps_on p linked admitted bare s.tasks alone (choice s) (counted p s) then_is.0 (λ e. not_idle _ _ _ busy.2 e) (λ e. root_null p t s linked admitted typed e) then_is.1 in
       further lines (written p s) (again (written p s) then_is.0 on.less (moves (choice s) r busy free then_is.1) then_is.2 on.alone)
 
   by_tasks : (ts : List Task) (lines : List Line) (s : State) → s.tasks ≡ ts → s.rest.ended ≡ None → Reaches p refused (boot_state p) lines s → (IsBusy s → Completed p refused lines) → Completed p refused lines

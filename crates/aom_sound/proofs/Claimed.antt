@@ -19,7 +19,7 @@ use Rattle.aom_shape.specs.declared.kind.Kind.TheVariants.{Maybe, Null, Own, Uns
 use Rattle.aom_sound.proofs.Maps.{at-put_at, held_moved, named_moved, same_place-true, same_place_refl, transfer}
 use Rattle.aom_sound.specs.Claims.{Dispatching, Dying, Layer, Mark, Method, claim, declared, declared_field, entries_of, entry_claim, home_claim, items_of, layer_claim, objects, root_claim, tasks_of}
 use Rattle.aom_sound.specs.Places.{Cell, Elsewhere, Entry, Field, Going, Object, Place, Register, Root, changed, held, moved, named, same_place}
-use Rattle.aom_sound.specs.State.{AtRoot, Frame, Home, Inside, Item, Static, field_place, home_holder, thing_holder}
+use Rattle.aom_sound.specs.State.{AtRoot, Frame, Home, Inside, Item, Of_main, Of_root, Static, field_place, home_holder, thing_holder}
 use Rattle.aom_sound.specs.WellTyped.{Back, Caught, Fits, Gone, Holds, IsBelow, IsHoused, IsNoFieldOf, NoneFrom, NoneIn, NotFrom, NotIn, Returns, Stack, Unclaimed, WordFits, by_field}
 use mathlib.Core.Path.{fun_ext}
 
@@ -279,7 +279,7 @@ outside_differs q from ls h n b = elim (cases_Bool (same_place q from)) as (λ x
   | inr e ↦ e
 ]
 
-no_field_here : (q : Place) (fr : Frame) (o : Object) (from : Place) (sh : Shape) (ls : List Layer) → fr.home ≡ Inside o from → Outside q (Method fr sh ∷ ls) → NoFieldHere q from
+pub no_field_here : (q : Place) (fr : Frame) (o : Object) (from : Place) (sh : Shape) (ls : List Layer) → fr.home ≡ Inside o from → Outside q (Method fr sh ∷ ls) → NoFieldHere q from
 no_field_here (Register f i) fr o from sh ls e h = tt
 no_field_here (Entry k) fr o from sh ls e h = tt
 no_field_here (Field n f) fr o from sh ls e h = subst (NotIn n) e h.0
@@ -369,7 +369,8 @@ layer_rel R same p (Dying o) depth items (Field n f) x y h = cond_rel R same (o.
 layer_rel R same p (Method fr sh) depth items (Elsewhere Root) x y h = root_rel R same p fr.home sh x y h
 layer_rel R same p (Mark gv) depth items (Elsewhere Root) x y h = h
 layer_rel R same p (Dying o) depth items (Elsewhere Root) x y h = h
-layer_rel R same p (Dispatching w) depth items (Elsewhere Root) x y h = h
+layer_rel R same p (Dispatching Of_main) depth items (Elsewhere Root) x y h = h
+layer_rel R same p (Dispatching Of_root) depth items (Elsewhere Root) x y h = same Null
 layer_rel R same p (Method fr sh) depth items (Going k) x y h = h
 layer_rel R same p (Mark gv) depth items (Going k) x y h = h
 layer_rel R same p (Dispatching w) depth items (Going k) x y h = h

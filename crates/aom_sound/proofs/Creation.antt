@@ -1,9 +1,9 @@
--- The laws of the instructions that write a word or make a cell.
+-- The law of a new cell.
 use Rattle.std.proofs.Common.{Bool, List, None, Option, Some, [], ap, arith, cond, false, length, refl, subst, sym, true, ℕ, ℤ, ◌==◌, ◌∙◌, ◌∷◌, ◌≡◌, ◌≤◌}
 use Rattle.std.proofs.lemmas.Bool.{eqb-true, ne_eqb}
 use Rattle.std.specs.Prelude.{is_none}
 use Rattle.aom_image.specs.Image.{Image}
-use Rattle.aom_image.specs.declared.instr.Instr.TheVariants.{Const, New}
+use Rattle.aom_image.specs.declared.instr.Instr.TheVariants.{New}
 use Rattle.aom_image.specs.declared.method.Thing.{Thing}
 use Rattle.aom_image.specs.declared.method.Thing.TheVariants.{Object as An_object_of}
 use Rattle.aom_shape.specs.Kinds.{field, filled, set_register}
@@ -16,21 +16,21 @@ use Rattle.aom_shape.specs.declared.kind.Age.{Age}
 use Rattle.aom_shape.specs.declared.kind.Age.TheVariants.{Fresh, Ready}
 use Rattle.aom_shape.specs.declared.kind.Filling.TheVariants.{Perhaps}
 use Rattle.aom_shape.specs.declared.kind.Kind.{Kind}
-use Rattle.aom_shape.specs.declared.kind.Kind.TheVariants.{Maybe, Null, Word}
+use Rattle.aom_shape.specs.declared.kind.Kind.TheVariants.{Maybe, Null}
 use Rattle.aom_sound.proofs.Claimed.{NoFieldHere, Outside, claim-set_register, claim_frame, claim_rel, claim_unnamed, fits_age, fits_weaker, outside_differs}
 use Rattle.aom_sound.proofs.Straight.{At, Fitted, Law, fits_unowning, fitted, free_register, relabel, settle, top, well, words_set}
 use Rattle.aom_sound.proofs.Things.{stands_itself}
 use Rattle.aom_sound.specs.Claims.{Dispatching, Dying, Layer, Mark, Method, claim, declared, declared_field, home_claim, tasks_of}
-use Rattle.aom_sound.specs.Moves.{does}
+use Rattle.aom_sound.specs.Objects.{no_words}
 use Rattle.aom_sound.specs.Places.{Cell, Elsewhere, Entry, Field, Going, Object, Place, Register, Root, held, named, same_place, with_new}
 use Rattle.aom_sound.specs.State.{AtRoot, Choice, Frame, Home, Inside, Run, State, Static, next, set_word, thing_holder, word}
 use Rattle.aom_sound.specs.WellTyped.{Back, Fits, HasAge, IsHoused, Returns, Stack, WellTyped, WordFits}
 
 -- nothing but a new cell's fields is declared anew
-declared_new : (p : Image) (cs : List Cell) (n : ℕ) (x : Thing) (owner : Place) → named cs n ≡ None → (r : Place) → Weaker (declared p (with_new n x owner cs) r) (declared p cs r)
-declared_new p cs n x owner e (Register f i) = alike
-declared_new p cs n x owner e (Entry k) = alike
-declared_new p cs n x owner e (Field m f) = go (n == m) refl
+declared_new : (p : Image) (cs : List Cell) (n : ℕ) (x : Thing) (ws : List ℤ) (owner : Place) → named cs n ≡ None → (r : Place) → Weaker (declared p (with_new n x ws owner cs) r) (declared p cs r)
+declared_new p cs n x ws owner e (Register f i) = alike
+declared_new p cs n x ws owner e (Entry k) = alike
+declared_new p cs n x ws owner e (Field m f) = go (n == m) refl
   where
     null : (c : Option Thing) → Weaker (filled c Perhaps) Null
     null None = alike
@@ -39,49 +39,49 @@ declared_new p cs n x owner e (Field m f) = go (n == m) refl
     go : (b : Bool) → (n == m) ≡ b → Weaker (declared_field p (cond b (Some (record { name = n; thing = x })) (named cs m)) f) (declared_field p (named cs m) f)
     go true h = subst (λ o. Weaker (filled (field_thing p (thing_holder x) f) Perhaps) (declared_field p o f)) (sym e ∙ ap (λ k. named cs k) (eqb-true n m h)) (null (field_thing p (thing_holder x) f))
     go false h = alike
-declared_new p cs n x owner e (Elsewhere Root) = alike
-declared_new p cs n x owner e (Going k) = alike
+declared_new p cs n x ws owner e (Elsewhere Root) = alike
+declared_new p cs n x ws owner e (Going k) = alike
 
-lives_new : (cs : List Cell) (n : ℕ) (x : Thing) (owner : Place) (o : Object) → named cs n ≡ None → named cs o.name ≡ Some o → named (with_new n x owner cs) o.name ≡ Some o
-lives_new cs n x owner o e h = ap (λ b. cond b (Some (record { name = n; thing = x })) (named cs o.name)) (ne_eqb n o.name (λ same. let e' : Some o ≡ None = sym h ∙ ap (λ k. named cs k) (sym same) ∙ e in cc)) ∙ h
+lives_new : (cs : List Cell) (n : ℕ) (x : Thing) (ws : List ℤ) (owner : Place) (o : Object) → named cs n ≡ None → named cs o.name ≡ Some o → named (with_new n x ws owner cs) o.name ≡ Some o
+lives_new cs n x ws owner o e h = ap (λ b. cond b (Some (record { name = n; thing = x })) (named cs o.name)) (ne_eqb n o.name (λ same. let e' : Some o ≡ None = sym h ∙ ap (λ k. named cs k) (sym same) ∙ e in cc)) ∙ h
 
-holds_new : (p : Image) (cs : List Cell) (n : ℕ) (x : Thing) (owner : Place) (ls : List Layer) (home : Home) → named cs n ≡ None → Outside owner ls → ((o : Object) (from : Place) → home ≡ Inside o from → NoFieldHere owner from) → IsHoused p cs ls home → IsHoused p (with_new n x owner cs) ls home
-holds_new p cs n x owner ls Static e out nf h = h
-holds_new p cs n x owner ls AtRoot e out nf h = h
-holds_new p cs n x owner ls (Inside o from) e out nf h = record {
+holds_new : (p : Image) (cs : List Cell) (n : ℕ) (x : Thing) (ws : List ℤ) (owner : Place) (ls : List Layer) (home : Home) → named cs n ≡ None → Outside owner ls → ((o : Object) (from : Place) → home ≡ Inside o from → NoFieldHere owner from) → IsHoused p cs ls home → IsHoused p (with_new n x ws owner cs) ls home
+holds_new p cs n x ws owner ls Static e out nf h = h
+holds_new p cs n x ws owner ls AtRoot e out nf h = h
+holds_new p cs n x ws owner ls (Inside o from) e out nf h = record {
   there = ap (λ b. cond b (Some (record { name = n; thing = x })) (held cs from)) (outside_differs owner from ls out (nf o from refl) h.below) ∙ h.there;
-  lives = lives_new cs n x owner o e h.lives;
+  lives = lives_new cs n x ws owner o e h.lives;
   below = h.below;
   ready = h.ready;
 }
 
-stack_new : (p : Image) (t : Typing) (cs : List Cell) (n : ℕ) (x : Thing) (f i : ℕ) (ls : List Layer) (back : Back) → named cs n ≡ None → length (tasks_of ls) ≤ f → Stack p t cs back ls → Stack p t (with_new n x (Register f i) cs) back ls
-stack_new p t cs n x f i [] back e out s = s
-stack_new p t cs n x f i (Method fr sh ∷ ls) back e out s = (s.0, s.1, holds_new p cs n x (Register f i) ls fr.home e (omega arith) (λ o from e. tt) s.2, s.3, stack_new p t cs n x f i ls _ e (omega arith) s.4)
-stack_new p t cs n x f i (Mark gv ∷ ls) back e out s = (s.0, stack_new p t cs n x f i ls _ e (omega arith) s.1)
-stack_new p t cs n x f i (Dispatching w ∷ ls) back e out s = s
-stack_new p t cs n x f i (Dying o ∷ ls) back e out s = ((lives_new cs n x (Register f i) o e s.0.0, s.0.1), s.1, stack_new p t cs n x f i ls _ e (omega arith) s.2)
+stack_new : (p : Image) (t : Typing) (cs : List Cell) (n : ℕ) (x : Thing) (ws : List ℤ) (f i : ℕ) (ls : List Layer) (back : Back) → named cs n ≡ None → length (tasks_of ls) ≤ f → Stack p t cs back ls → Stack p t (with_new n x ws (Register f i) cs) back ls
+stack_new p t cs n x ws f i [] back e out s = s
+stack_new p t cs n x ws f i (Method fr sh ∷ ls) back e out s = (s.0, s.1, holds_new p cs n x ws (Register f i) ls fr.home e (omega arith) (λ o from e. tt) s.2, s.3, stack_new p t cs n x ws f i ls _ e (omega arith) s.4)
+stack_new p t cs n x ws f i (Mark gv ∷ ls) back e out s = (s.0, stack_new p t cs n x ws f i ls _ e (omega arith) s.1)
+stack_new p t cs n x ws f i (Dispatching w ∷ ls) back e out s = s
+stack_new p t cs n x ws f i (Dying o ∷ ls) back e out s = ((lives_new cs n x ws (Register f i) o e s.0.0, s.0.1), s.1, stack_new p t cs n x ws f i ls _ e (omega arith) s.2)
 
 -- a new cell in a register of the top method
 pub create :
-    (p : Image) (t : Typing) (cs : List Cell) (fr : Frame) (sh : Shape) (ls : List Layer) (n : ℕ) (x : Thing) (a : ℕ) (k : Kind) →
+    (p : Image) (t : Typing) (cs : List Cell) (fr : Frame) (sh : Shape) (ls : List Layer) (n : ℕ) (x : Thing) (ws : List ℤ) (a : ℕ) (k : Kind) →
     Fitted p t cs fr sh ls →
     named cs n ≡ None →
     held cs (top ls a) ≡ None →
     ((h : Place → Option Object) → ((f : ℕ) → h (Field n f) ≡ None) → Fits p h (Some (record { name = n; thing = x })) k) →
     WordFits None k →
-    Fitted p t (with_new n x (top ls a) cs) (next (set_word fr a None)) (set_register sh a k) ls
-create p t cs fr sh ls n x a k g e free new word = record {
+    Fitted p t (with_new n x ws (top ls a) cs) (next (set_word fr a None)) (set_register sh a k) ls
+create p t cs fr sh ls n x ws a k g e free new word = record {
   fits = fits;
   tidy = (free, e, g.tidy);
   frames = record { words = words_set fr.words sh a None k g.frames.words word; holder = g.frames.holder; height = g.frames.height };
-  housed = holds_new p cs n x (top ls a) ls fr.home e (omega arith) (λ o from e. tt) g.housed;
+  housed = holds_new p cs n x ws (top ls a) ls fr.home e (omega arith) (λ o from e. tt) g.housed;
   apart = g.apart;
-  stack = stack_new p t cs n x (length (tasks_of ls)) a ls _ e (omega arith) g.stack;
+  stack = stack_new p t cs n x ws (length (tasks_of ls)) a ls _ e (omega arith) g.stack;
 }
   where
     cs' : List Cell
-    cs' = with_new n x (top ls a) cs
+    cs' = with_new n x ws (top ls a) cs
 
     back : Back
     back = Returns fr.method fr.home
@@ -103,23 +103,12 @@ create p t cs fr sh ls n x a k g e free new word = record {
         go : (b : Bool) → Fits p (held cs') (cond b (Some (record { name = n; thing = x })) (held cs r)) (cond b k (claim p (declared p cs') (Method fr sh ∷ ls) r))
         go true = new (held cs') no_field
         go false = fits_weaker p (held cs') (held cs r)
-            (claim_rel Weaker (λ k. alike) p (declared p cs') (declared p cs) (Method fr sh ∷ ls) r (declared_new p cs n x (top ls a) e r))
+            (claim_rel Weaker (λ k. alike) p (declared p cs') (declared p cs) (Method fr sh ∷ ls) r (declared_new p cs n x ws (top ls a) e r))
             (fits_age p (held cs) (held cs') (held cs r) _ (λ y e' fresh f nf. nf) (g.fits r))
 
 module _ (p : Image) (t : Typing) (c : Choice) (s : State) (fr : Frame) (sh : Shape) (ls : List Layer) (at_hand : At p t s fr sh ls) where
   d : Place → Kind
   d = declared p s.cells
-
-  pub law_const : (a : ℕ) (w : ℤ) → Law p t c s fr sh ls at_hand (Const a w)
-  law_const a w n leads =
-      let free = free_register p t c s fr sh ls at_hand a n.0 in
-      let h = relabel p t s.cells fr (next (set_word fr a (Some w))) sh (set_register sh a Word) ls (top ls a) Word (fitted p t s.cells fr sh ls at_hand.good) refl refl refl
-      (subst (λ o. Fits p (held s.cells) o Word) (sym free) tt)
-      (λ r. claim-set_register p (declared p s.cells) fr sh ls a Word r)
-      (words_set fr.words sh a (Some w) Word at_hand.good.stack.1.words tt) in (
-        (ap is_none free, tt),
-        well p t c s fr sh ls at_hand (does p c fr (tasks_of ls) s (Const a w)) (next (set_word fr a (Some w))) (set_register sh a Word) refl at_hand.items (settle p t s.cells (next (set_word fr a (Some w))) (set_register sh a Word) ls h leads.0),
-      )
 
   -- the name that the choice gives a new cell is free
   abbrev pub IsUnused : Type 0
@@ -145,9 +134,9 @@ module _ (p : Image) (t : Typing) (c : Choice) (s : State) (fr : Frame) (sh : Sh
       refuses = relabel p t s.cells fr fr' sh (set_register sh a k) ls (top ls a) k (fitted p t s.cells fr sh ls at_hand.good) refl refl refl
           (subst (λ o. Fits p (held s.cells) o k) (sym free) tt) (λ r. claim-set_register p (declared p s.cells) fr sh ls a k r) (words_set fr.words sh a None k at_hand.good.stack.1.words refl)
 
-      makes : Fitted p t (with_new c.name (An_object_of x) (top ls a) s.cells) fr' (set_register sh a k) ls
-      makes = create p t s.cells fr sh ls c.name (An_object_of x) a k (fitted p t s.cells fr sh ls at_hand.good) unused free (λ h nf. (stands_itself p (An_object_of x), age_fits h (new_age p x) (record { name = c.name; thing = An_object_of x }) nf)) refl
+      makes : Fitted p t (with_new c.name (An_object_of x) (no_words p c fr (tasks_of ls) s x) (top ls a) s.cells) fr' (set_register sh a k) ls
+      makes = create p t s.cells fr sh ls c.name (An_object_of x) (no_words p c fr (tasks_of ls) s x) a k (fitted p t s.cells fr sh ls at_hand.good) unused free (λ h nf. (stands_itself p (An_object_of x), age_fits h (new_age p x) (record { name = c.name; thing = An_object_of x }) nf)) refl
 
-      go : (b : Bool) → WellTyped p t (record s { cells = cond b s.cells (with_new c.name (An_object_of x) (top ls a) s.cells); tasks = Run fr' ∷ tasks_of ls })
+      go : (b : Bool) → WellTyped p t (record s { cells = cond b s.cells (with_new c.name (An_object_of x) (no_words p c fr (tasks_of ls) s x) (top ls a) s.cells); tasks = Run fr' ∷ tasks_of ls })
       go true = well p t c s fr sh ls at_hand _ fr' (set_register sh a k) refl at_hand.items (settle p t _ fr' (set_register sh a k) ls refuses leads.0)
       go false = well p t c s fr sh ls at_hand _ fr' (set_register sh a k) refl at_hand.items (settle p t _ fr' (set_register sh a k) ls makes leads.0)

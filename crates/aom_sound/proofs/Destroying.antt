@@ -21,7 +21,7 @@ use Rattle.aom_shape.specs.declared.kind.Filling.{Filling}
 use Rattle.aom_shape.specs.declared.kind.Filling.TheVariants.{Perhaps}
 use Rattle.aom_shape.specs.declared.kind.Kind.{Kind}
 use Rattle.aom_shape.specs.declared.kind.Kind.TheVariants.{Maybe, Null, Own, Unset, Word}
-use Rattle.aom_sound.proofs.Claimed.{NoFieldHere, Outside, claim-set_register, claim_frame, claim_going_above, claim_register_above, claim_unclaimed, declared_moved, going_differs, keep_fits, outside_differs, outside_less, stack_moved}
+use Rattle.aom_sound.proofs.Claimed.{NoFieldHere, Outside, claim-set_register, claim_frame, claim_going_above, claim_register_above, claim_unclaimed, declared_moved, going_differs, keep_fits, no_field_here, outside_differs, outside_less, stack_moved}
 use Rattle.aom_sound.proofs.Maps.{held_lives, held_moved, named_moved, one_place, same_place-true, same_place_refl, tidy_moved}
 use Rattle.aom_sound.proofs.Straight.{At, Law, fits_unowning, fitted, housed_relocated, kind_fits, no_word, relabel, settle, top, well, words_set}
 use Rattle.aom_sound.proofs.Things.{stands_itself, stands_same}
@@ -49,8 +49,8 @@ module _ (p : Image) (t : Typing) (cs : List Cell) (q : Place) (o : Object) (tid
   pub other_name : (from : Place) (x : Object) → held cs from ≡ Some x → same_place q from ≡ false → (x.name == o.name) ≡ false
   other_name from x h e = ne_eqb x.name o.name (λ same. true≢false (sym (ap (λ r. same_place q r) (one_place cs from q x o tidy h there same) ∙ same_place_refl q) ∙ e))
 
-  pub untouched_method : (k : ℕ → Kind) (fr : Frame) (sh : Shape) (ls : List Layer) → ((from : Place) → NoFieldHere q from) → Outside q ls → IsHoused p cs ls fr.home → Untouched p k o.name ls → Untouched p k o.name (Method fr sh ∷ ls)
-  untouched_method k fr sh ls plain out housed u = go fr.home housed
+  pub untouched_method : (k : ℕ → Kind) (fr : Frame) (sh : Shape) (ls : List Layer) → ((x : Object) (from : Place) → fr.home ≡ Inside x from → NoFieldHere q from) → Outside q ls → IsHoused p cs ls fr.home → Untouched p k o.name ls → Untouched p k o.name (Method fr sh ∷ ls)
+  untouched_method k fr sh ls aside out housed u = go housed
     where
       Result : Home → Type 0
       Result home = (WorksOn o.name home → ⊥) × ((f : ℕ) → home_claim p home sh o.name f (k f) ≡ k f) × NotIn o.name home
@@ -62,30 +62,30 @@ module _ (p : Image) (t : Typing) (cs : List Cell) (q : Place) (o : Object) (tid
       not_in (Elsewhere x) b = tt
       not_in (Going j) b = tt
 
-      of : (home : Home) → IsHoused p cs ls home → Result home
-      of Static h = (λ x. x, λ f. refl, tt)
-      of AtRoot h = (λ x. x, λ f. refl, tt)
-      of (Inside x from) h =
-          let e = other_name from x h.there (outside_differs q from ls out (plain from) h.below) in
+      of : (home : Home) → fr.home ≡ home → IsHoused p cs ls home → Result home
+      of Static same h = (λ x. x, λ f. refl, tt)
+      of AtRoot same h = (λ x. x, λ f. refl, tt)
+      of (Inside x from) same h =
+          let e = other_name from x h.there (outside_differs q from ls out (aside x from same) h.below) in
           (λ same. true≢false (sym (eq-eqb x.name o.name same) ∙ e), λ f. ap (λ b. cond b (filled (field_thing p (thing_holder x.thing) f) (field sh f)) (k f)) e, not_in from h.below)
 
-      go : (home : Home) → IsHoused p cs ls fr.home → Untouched p k o.name (Method fr sh ∷ ls)
-      go home h = let r = of fr.home h in record {
+      go : IsHoused p cs ls fr.home → Untouched p k o.name (Method fr sh ∷ ls)
+      go h = let r = of fr.home refl h in record {
         some = λ s. ⊎_elim r.0 u.some s;
         unclaimed = λ f. ap (λ x. home_claim p fr.home sh o.name f x) (u.unclaimed f) ∙ r.1 f;
         none_in = (r.2, u.none_in);
       }
 
-  pub untouched : (k : ℕ → Kind) (ls : List Layer) (back : Back) → ((from : Place) → NoFieldHere q from) → Outside q ls → Stack p t cs back ls → Untouched p k o.name ls
-  untouched k [] back plain out s = record { some = λ x. x; unclaimed = λ f. refl; none_in = tt }
-  untouched k (Method fr sh ∷ ls) back plain out s = untouched_method k fr sh ls plain (outside_less q (Method fr sh) ls out) s.2 (untouched k ls (Returns fr.method fr.home) plain (outside_less q (Method fr sh) ls out) s.4)
-  untouched k (Mark gv ∷ ls) back plain out s =
-      let u = untouched k ls (Caught gv) plain (outside_less q (Mark gv) ls out) s.1 in
+  pub untouched : (k : ℕ → Kind) (ls : List Layer) (back : Back) → Outside q ls → Stack p t cs back ls → Untouched p k o.name ls
+  untouched k [] back out s = record { some = λ x. x; unclaimed = λ f. refl; none_in = tt }
+  untouched k (Method fr sh ∷ ls) back out s = untouched_method k fr sh ls (λ x from e. no_field_here q fr x from sh ls e out) (outside_less q (Method fr sh) ls out) s.2 (untouched k ls (Returns fr.method fr.home) (outside_less q (Method fr sh) ls out) s.4)
+  untouched k (Mark gv ∷ ls) back out s =
+      let u = untouched k ls (Caught gv) (outside_less q (Mark gv) ls out) s.1 in
       record { some = u.some; unclaimed = u.unclaimed; none_in = u.none_in }
-  untouched k (Dying x ∷ ls) back plain out s =
-      let u = untouched k ls Gone plain (outside_less q (Dying x) ls out) s.2 in
+  untouched k (Dying x ∷ ls) back out s =
+      let u = untouched k ls Gone (outside_less q (Dying x) ls out) s.2 in
       record { some = u.some; unclaimed = λ f. ap (λ y. cond (x.name == o.name) Null y) (u.unclaimed f) ∙ ap (λ b. cond b Null (k f)) (other_name (Going (length (tasks_of ls))) x s.0.1 (going_differs q x ls out)); none_in = u.none_in }
-  untouched k (Dispatching w ∷ ls) back plain out s = subst (λ l. Untouched p k o.name (Dispatching w ∷ l)) (sym s.1) (record { some = λ x. x; unclaimed = λ f. refl; none_in = tt })
+  untouched k (Dispatching w ∷ ls) back out s = subst (λ l. Untouched p k o.name (Dispatching w ∷ l)) (sym s.1) (record { some = λ x. x; unclaimed = λ f. refl; none_in = tt })
 
 -- what the link has found of a thing's destructor
 pub record Destroys (p : Image) (x : Thing) (m : ℕ) : Type 0 where
@@ -117,7 +117,7 @@ no_fields_declared p wired Message e f = refl
 pub entry_registers : (p : Image) (m : ℕ) → arguments_of p m ≡ [] → (i : ℕ) → register (entry_shape p m) i ≡ Unset
 entry_registers p m e i = ap (λ xs. at Unset (map argument_kind xs) i) e
 
-at_alike : (n : ℕ) (x : Filling) (i : ℕ) → at x (replicate n x) i ≡ x
+pub at_alike : (n : ℕ) (x : Filling) (i : ℕ) → at x (replicate n x) i ≡ x
 at_alike zero x i = refl
 at_alike (suc n) x zero = refl
 at_alike (suc n) x (suc i) = at_alike n x i
@@ -304,5 +304,5 @@ module _ (p : Image) (t : Typing) (c : Choice) (s : State) (fr : Frame) (sh : Sh
           (leads.0, record { words = words; holder = at_hand.good.stack.1.holder; height = at_hand.good.stack.1.height }, housed, at_hand.good.stack.3, stack_moved p t cs q g ls _ free (omega arith) (omega arith) at_hand.good.stack.4)
           (goes_there p t cs o q before below at_hand.good.fits e (omega arith) claims)
           (named_moved cs q g o.name ∙ held_lives cs q o at_hand.good.tidy e)
-          (untouched_method p t cs q o at_hand.good.tidy e k fr' sh' ls (λ from. tt) (omega arith) at_hand.good.stack.2 (untouched p t cs q o at_hand.good.tidy e k ls _ (λ from. tt) (omega arith) at_hand.good.stack.4))
+          (untouched_method p t cs q o at_hand.good.tidy e k fr' sh' ls (λ x from e. tt) (omega arith) at_hand.good.stack.2 (untouched p t cs q o at_hand.good.tidy e k ls _ (omega arith) at_hand.good.stack.4))
           (deleted p c fr (tasks_of ls) s (Some o) a) (length s.items) (ap length at_hand.items) refl refl at_hand.items

@@ -30,7 +30,7 @@ use Rattle.aom_sound.specs.Calls.{end_needs, is_register_but, none_owns_but, res
 use Rattle.aom_sound.specs.Claims.{Dispatching, Dying, Layer, Mark, Method, claim, declared, declared_field, entry_claim, home_claim, items_of, objects, root_claim, tasks_of}
 use Rattle.aom_sound.specs.Moves.{needs}
 use Rattle.aom_sound.specs.Places.{Cell, Elsewhere, Entry, Field, Going, Object, Place, Register, Root, held, same_place}
-use Rattle.aom_sound.specs.State.{AtRoot, Choice, Frame, Home, Inside, State, Static, thing_holder}
+use Rattle.aom_sound.specs.State.{AtRoot, Choice, Frame, Home, Inside, Of_main, Of_root, State, Static, thing_holder}
 use Rattle.aom_sound.specs.WellTyped.{Fits, IsApart, IsHoused, NotAtRoot, RootUnclaimed, Unclaimed, past_going}
 
 pub none_owns_at : (ks : List Kind) (i : ℕ) → none_owns ks ≡ true → is_unowning (at Unset ks i) ≡ true
@@ -105,7 +105,8 @@ claim_root p d (Method fr sh ∷ ls) u = go fr.home u.0 ∙ claim_root p d ls u.
     go (Inside o from) n = refl
 claim_root p d (Mark gv ∷ ls) u = claim_root p d ls u
 claim_root p d (Dying o ∷ ls) u = claim_root p d ls u
-claim_root p d (Dispatching w ∷ ls) u = claim_root p d ls u
+claim_root p d (Dispatching Of_main ∷ ls) u = claim_root p d ls u
+claim_root p d (Dispatching Of_root ∷ ls) u = absurd u
 
 -- a method ends
 pub ended : (p : Image) (cs : List Cell) (fr : Frame) (sh : Shape) (ls : List Layer) → IsHoused p cs ls fr.home → IsApart p fr.home ls → past_going ls ≡ ls → no_entry sh.entries ≡ true → none_owns sh.registers ≡ true → (r : Place) (h : Place → Option Object) (o : Option Object) → Fits p h o (claim p (declared p cs) (Method fr sh ∷ ls) r) → Fits p h o (claim p (declared p cs) ls r)

@@ -13,7 +13,7 @@ use Rattle.aom_sound.proofs.Straight.{Fitted, fits_unowning, settle}
 use Rattle.aom_sound.specs.Claims.{Dispatching, Dying, Layer, Mark, Method, claim, declared, declared_field, items_of, objects, tasks_of}
 use Rattle.aom_sound.specs.Destruction.{gone, is_field_of, owns_nothing}
 use Rattle.aom_sound.specs.Places.{Cell, Elsewhere, Entry, Field, Going, Object, Place, Register, Root, Tidy, held, same_place, without}
-use Rattle.aom_sound.specs.State.{AtRoot, Home, Inside, IsStuck, Of_main, Orphan, State, Static, guarded, next, resumed}
+use Rattle.aom_sound.specs.State.{AtRoot, Home, Inside, IsStuck, Of_main, Of_root, Orphan, State, Static, guarded, next, resumed}
 use Rattle.aom_sound.specs.WellTyped.{Back, Caught, Fits, Gone, Good, Holds, IsHoused, Keeps, Now, Returns, Stack, WellTyped}
 
 -- the fields of a cell that goes are null, so nothing is owned by it
@@ -87,7 +87,7 @@ module _ (p : Image) (t : Typing) (cs : List Cell) (o : Object) (ls : List Layer
           none false = refl
 
       u : Untouched p (λ f. Null) o.name ls
-      u = untouched p t cs g o good.tidy good.stack.0.1 (λ f. Null) ls Gone (λ from. tt) (omega arith) good.stack.2
+      u = untouched p t cs g o good.tidy good.stack.0.1 (λ f. Null) ls Gone (omega arith) good.stack.2
 
       same_declared : (r : Place) → ((n f : ℕ) → r ≡ Field n f → (o.name == n) ≡ false) → declared p cs r ≡ declared p cs' r
       same_declared (Register f i) h = refl
@@ -135,7 +135,7 @@ module _ (p : Image) (t : Typing) (cs : List Cell) (o : Object) (ls : List Layer
       go true e = subst (λ k. Fits p (held cs') None k) (sym (ap (λ q. claim p (declared p cs') ls q) (sym (same_place-true g r e)) ∙ claim_going_above p cs' ls (length (tasks_of ls)) (omega arith))) tt
       go false e = others r e
 
--- the method below goes on
+-- the method below goes on, or the run is at its end
 goes_on : (p : Image) (t : Typing) (s : State) (ls : List Layer) → Stack p t s.cells Gone ls → ((r : Place) → Fits p (held s.cells) (held s.cells r) (claim p (declared p s.cells) ls r)) → Tidy s.cells → s.tasks ≡ resumed (tasks_of ls) → s.items ≡ items_of ls → WellTyped p t s
 goes_on p t s [] stack fits tidy tasks items = absurd (gone_now stack)
   where
@@ -154,6 +154,7 @@ goes_on p t s (Method fr sh ∷ ls) stack fits tidy tasks items =
     record { layers = Method (next fr) g.0 ∷ ls; tasks = tasks; items = items ∙ ap (λ es. objects es (items_of ls)) (sym g.2); good = g.1 }
 goes_on p t s (Mark gv ∷ ls) stack fits tidy tasks items = absurd stack.0
 goes_on p t s (Dispatching Of_main ∷ ls) stack fits tidy tasks items = absurd stack.0
+goes_on p t s (Dispatching Of_root ∷ ls) stack fits tidy tasks items = record { layers = Dispatching Of_root ∷ ls; tasks = tasks; items = items; good = record { stack = (tt, stack.1); fits = fits; tidy = tidy } }
 goes_on p t s (Dying o ∷ ls) stack fits tidy tasks items = record { layers = Dying o ∷ ls; tasks = tasks; items = items; good = record { stack = (stack.0, tt, stack.2); fits = fits; tidy = tidy } }
 
 pub going_keeps : (p : Image) (t : Typing) (s : State) (o : Object) (ls : List Layer) → Good p t s.cells (Dying o ∷ ls) → s.items ≡ items_of ls → Keeps p t (gone (held s.cells (Going (length (tasks_of ls)))) (tasks_of ls) s)

@@ -2,6 +2,9 @@ pub mod Maps
 pub mod Things
 pub mod Claimed
 pub mod Straight
+pub mod Jumps
+pub mod Storing
+pub mod Words
 pub mod Moves
 pub mod Creation
 pub mod Destroying
@@ -9,9 +12,13 @@ pub mod Going
 pub mod Finishing
 pub mod Destructors
 pub mod Returning
+pub mod Closing
+pub mod Passing
+pub mod Calling
 pub mod Steps
 pub mod Booting
 pub mod Owners
 pub mod Soundness
 pub mod Wiring
+pub mod Looping
 pub mod Stuck

@@ -127,7 +127,7 @@ module _ (p : Image) (t : Typing) (c : Choice) (s : State) (fr : Frame) (sh : Sh
       claims r =
           claim-set_register p d fr (set_field sh f Empty) ls a k r
           ∙ ap (λ x. cond (same_place (top ls a) r) k x) (claim-set_field p d fr fr.home sh ls f Empty Null r refl some (null_filled (field_thing p (home_holder fr.home) f)))
-          ∙ ap (λ x. changed (changed (claim p d (Method fr sh ∷ ls)) q Null) (top ls a) x r) (ap (λ h. filled (field_thing p h f) (field sh f)) (sym same) ∙ sym (claim_field p t c s fr sh ls at_hand d fr.home f refl some))
+          ∙ ap (λ x. changed (changed (claim p d (Method fr sh ∷ ls)) q Null) (top ls a) x r) (ap (λ h. filled (field_thing p h f) (field sh f)) (sym same) ∙ sym (claim_field p d fr sh ls fr.home f refl some))
 
       goes : Fitted p t (moved (field_place fr.home f) (top ls a) s.cells) (next (set_word fr a None)) (set_register (set_field sh f Empty) a k) ls
       goes = relocate p t s.cells fr (next (set_word fr a None)) sh (set_register (set_field sh f Empty) a k) ls q (top ls a)

@@ -27,7 +27,7 @@ use Rattle.aom_sound.specs.Calls.{below_top, received, result_cells, result_need
 use Rattle.aom_sound.specs.Claims.{Dispatching, Layer, Mark, Method, claim, declared, items_of, objects, tasks_of}
 use Rattle.aom_sound.specs.Objects.{is_thing}
 use Rattle.aom_sound.specs.Places.{Cell, Elsewhere, Entry, Field, Going, Object, Place, Register, Root, changed, held, moved, same_place}
-use Rattle.aom_sound.specs.State.{A_mark, Choice, Dispatch, Frame, Of_main, Run, State, next, set_word, word}
+use Rattle.aom_sound.specs.State.{A_mark, Choice, Dispatch, Frame, Of_main, Of_root, Run, State, next, set_word, word}
 use Rattle.aom_sound.specs.WellTyped.{Awaits, Back, Caught, EndsDispatch, Fits, Now, Returns, Stack, WellTyped, WordFits, caught, past_going}
 
 loosen : (p : Image) (t : Typing) (cs : List Cell) (fr : Frame) (sh : Shape) (ls : List Layer) (c : ℕ) (k v : Kind) → Weaker v k → Fitted p t cs fr (set_register sh c k) ls → Fitted p t cs fr (set_register sh c v) ls
@@ -203,7 +203,7 @@ module _ (p : Image) (t : Typing) (c : Choice) (s : State) (fr fr2 : Frame) (sh 
           let k = may_own p s y (register sh a) r.0 r.1.0 in
           let f = carried p t c s fr fr2 sh sh2 ls below at_hand (Returns fr.method fr.home) at_hand.good.stack.4 (λ d r. refl) (omega arith) refl a x e n w (ap is_object_or_null k) in
           let h = held_thing p s y (held s.cells (top below a)) (subst (λ k. Fits p (held s.cells) (held s.cells (top below a)) k) k (register_fits p s.cells fr sh below at_hand.good.fits a)) in
-          ((h.0, (h.1, tt)), finish (moved (top below a) (top ls x) s.cells) (set_word fr2 x None) (set_register sh2 x (Own y Ready)) refl refl refl (subst (λ k. Fitted p t (moved (top below a) (top ls x) s.cells) (set_word fr2 x None) (set_register sh2 x k) ls) k f) leads)
+          ((ap is_none (word_of_object (word fr a) (register sh a) (ap is_object_or_null k) (at_hand.good.stack.1.words a)), (h.0, (h.1, tt))), finish (moved (top below a) (top ls x) s.cells) (set_word fr2 x None) (set_register sh2 x (Own y Ready)) refl refl refl (subst (λ k. Fitted p t (moved (top below a) (top ls x) s.cells) (set_word fr2 x None) (set_register sh2 x k) ls) k f) leads)
       go (A_maybe y) r e n w leads =
           let obj : is_object_or_null (register sh a) ≡ true = object_of p s y (register sh a) r.0 in
           let f = carried p t c s fr fr2 sh sh2 ls below at_hand (Returns fr.method fr.home) at_hand.good.stack.4 (λ d r. refl) (omega arith) refl a x e n w obj in
@@ -270,7 +270,7 @@ module _ (p : Image) (t : Typing) (c : Choice) (s : State) (fr fr2 : Frame) (sh 
           let f = carried p t c s fr fr2 sh sh2 ls marked at_hand (Caught gv) caller mark_claims (omega arith) refl a x e n w (ap is_object_or_null k) in
           let h = held_thing p s y (held s.cells (top marked a)) (subst (λ k. Fits p (held s.cells) (held s.cells (top marked a)) k) k (register_fits p s.cells fr sh marked at_hand.good.fits a)) in
           let weak : Weaker (Maybe y Ready) (register sh a) = subst (λ k. Weaker (Maybe y Ready) k) (sym k) maybe_own in
-          ((h.0, (h.1, tt)), finish (moved (top marked a) (top ls x) s.cells) (set_word fr2 x None) (set_register sh2 x (Maybe y Ready)) refl refl refl (still sh2.registers x (Maybe y Ready) u) (loosen p t (moved (top marked a) (top ls x) s.cells) (set_word fr2 x None) sh2 ls x (register sh a) (Maybe y Ready) weak f) leads)
+          ((ap is_none (word_of_object (word fr a) (register sh a) (ap is_object_or_null k) (at_hand.good.stack.1.words a)), (h.0, (h.1, tt))), finish (moved (top marked a) (top ls x) s.cells) (set_word fr2 x None) (set_register sh2 x (Maybe y Ready)) refl refl refl (still sh2.registers x (Maybe y Ready) u) (loosen p t (moved (top marked a) (top ls x) s.cells) (set_word fr2 x None) sh2 ls x (register sh a) (Maybe y Ready) weak f) leads)
       go (A_maybe y) r e n u w leads =
           let obj : is_object_or_null (register sh a) ≡ true = object_of p s y (register sh a) r.0 in
           let f = carried p t c s fr fr2 sh sh2 ls marked at_hand (Caught gv) caller mark_claims (omega arith) refl a x e n w obj in
@@ -293,9 +293,11 @@ module _ (p : Image) (t : Typing) (c : Choice) (s : State) (fr : Frame) (sh : Sh
 
   gives_nothing : (w : Dispatch) → EndsDispatch p w (Caught gv) → gv ≡ Nothing
   gives_nothing Of_main e = e
+  gives_nothing Of_root e = absurd e
 
   ends : (w : Dispatch) → EndsDispatch p w Now
   ends Of_main = tt
+  ends Of_root = tt
 
   pub law_return_dispatch : (a : ℕ) → Law p t c s fr sh (Mark gv ∷ Dispatching w ∷ ls) at_hand (Return a)
   law_return_dispatch a n leads =

@@ -1,42 +1,52 @@
 -- Each run of an image that has a typing: every state that it comes to is well typed, and where it ended nothing is at hand.
-use Rattle.std.proofs.Common.{Bool, List, None, Option, Some, [], ap, cond, false, inl, inr, length, refl, subst, sym, true, ℕ, ⊎_elim, ◌∙◌, ◌∷◌, ◌≡◌}
-use Rattle.std.specs.Prelude.{◌⊎◌}
+use Rattle.std.proofs.Common.{Bool, List, None, Option, Some, [], ap, cond, false, inl, inr, length, refl, subst, suc, sym, true, zero, ℕ, ⊎_elim, ◌-◌, ◌∙◌, ◌∷◌, ◌≡◌}
+use Rattle.std.specs.Ordering.{int_eq}
+use Rattle.std.specs.Prelude.{◌⊎◌, int_lt}
 use Rattle.aom_image.specs.Image.{Image}
 use Rattle.aom_image.specs.Views.{gives_of, instr_at}
 use Rattle.aom_image.specs.declared.instr.Instr.{Instr}
-use Rattle.aom_image.specs.declared.instr.Instr.TheVariants.{Delete, JumpNull, Return}
+use Rattle.aom_image.specs.declared.instr.Instr.TheVariants.{Delete, JumpEmpty, JumpEqual, JumpLess, JumpNull, Next, Return}
 use Rattle.aom_image.specs.declared.method.Gives.{Gives}
-use Rattle.aom_shape.specs.Kinds.{filled}
-use Rattle.aom_shape.specs.Things.{root_thing}
 use Rattle.aom_shape.specs.Typing.{IsTyped, Typing}
-use Rattle.aom_shape.specs.declared.kind.Filling.TheVariants.{Perhaps}
-use Rattle.aom_shape.specs.declared.kind.Kind.TheVariants.{Null}
 use Rattle.aom_sound.proofs.Booting.{boot_keeps}
-use Rattle.aom_sound.proofs.Owners.{ends_empty, ends_owned, layers_none}
+use Rattle.aom_sound.proofs.Closing.{root_gone}
+use Rattle.aom_sound.proofs.Owners.{ends_empty, ends_owned}
 use Rattle.aom_sound.proofs.Steps.{step_keeps}
-use Rattle.aom_sound.proofs.Straight.{fits_unowning}
 use Rattle.aom_sound.specs.Calls.{returned}
-use Rattle.aom_sound.specs.Claims.{claim, declared}
+use Rattle.aom_sound.specs.Claims.{Dispatching, Dying, Layer, Mark, Method, tasks_of}
 use Rattle.aom_sound.specs.Destruction.{gone, owns_nothing}
 use Rattle.aom_sound.specs.Laws.{IsSound, IsWired}
-use Rattle.aom_sound.specs.Moves.{IsOpen, counted, does, needs, step, step_instr, step_task}
+use Rattle.aom_sound.specs.Moves.{IsOpen, counted, dispatch_ends, does, main_ends, needs, step, step_instr, step_task}
 use Rattle.aom_sound.specs.Objects.{deleted, jumped}
 use Rattle.aom_sound.specs.Places.{Elsewhere, Going, Object, Register, Root, held, without}
-use Rattle.aom_sound.specs.State.{Choice, Destroy, Dispatched, Frame, Goes, IsStuck, Need, Orphan, Outcome, Run, State, Task, Trapped, guarded, resumed}
-use Rattle.aom_sound.specs.WellTyped.{Fits, Keeps, WellTyped}
+use Rattle.aom_sound.specs.State.{counter, field_place, Choice, Destroy, Dispatch, Dispatched, Frame, Goes, IsStuck, Need, Of_main, Of_root, Orphan, Outcome, Run, State, Task, Trapped, guarded, resumed}
+use Rattle.aom_sound.specs.WellTyped.{Good, Keeps, WellTyped}
+use Rattle.aom_sound.specs.Words.{branched, looped, read}
 use Rattle.aom_sound.specs.World.{IsBusy, Reaches, begins, boot_state, moves, waits}
 use Rattle.aom_sound.specs.declared.line.Ending.{Ending}
-use Rattle.aom_sound.specs.declared.line.Ending.TheVariants.{Stopped}
+use Rattle.aom_sound.specs.declared.line.Ending.TheVariants.{Stopped, Waiting}
 use Rattle.aom_sound.specs.declared.line.Line.{Line}
+
+-- nothing is at hand, and where the run is over as stopped the root holds nothing
+record Settled (s : State) : Type 0 where
+  idle : s.tasks ≡ []
+  rootless : s.rest.ended ≡ Some Stopped → held s.cells (Elsewhere Root) ≡ None
 
 -- the run is not over, or nothing is at hand
 abbrev GoesOn : State → Type 0
-GoesOn s = (s.rest.ended ≡ None) ⊎ (s.tasks ≡ [])
+GoesOn s = (s.rest.ended ≡ None) ⊎ Settled s
 
 -- a move ends the run only where it leaves nothing at hand
 abbrev Holds_on : Option Ending → Outcome → Type 0
-Holds_on e (Goes u) = (u.rest.ended ≡ e) ⊎ (u.tasks ≡ [])
+Holds_on e (Goes u) = (u.rest.ended ≡ e) ⊎ Settled u
 Holds_on e (IsStuck kind) = Unit {0}
+
+not_stopped : (b : Bool) → b ≡ false → cond b (Some Stopped) None ≡ Some Stopped → ⊥
+not_stopped true f e = cc
+not_stopped false f e = cc
+
+waiting_stopped : Some Waiting ≡ Some Stopped → ⊥
+waiting_stopped e = cc
 
 guarded_holds : (e : Option Ending) (needs : List Need) (u : State) → Holds_on e (Goes u) → Holds_on e (guarded needs u)
 guarded_holds e [] u h = h
@@ -50,6 +60,14 @@ module _ (p : Image) (c : Choice) (fr : Frame) (ts : List Task) (s : State) wher
   jump_ends : (o : Option Object) (to : ℕ) → (jumped p c fr ts s o to).rest.ended ≡ s.rest.ended
   jump_ends None to = refl
   jump_ends (Some o) to = refl
+
+  branch_ends : (b : Bool) (to : ℕ) → (branched fr ts s b to).rest.ended ≡ s.rest.ended
+  branch_ends true to = refl
+  branch_ends false to = refl
+
+  loop_ends : (left depth to : ℕ) → (looped fr ts s left depth to).rest.ended ≡ s.rest.ended
+  loop_ends zero depth to = refl
+  loop_ends (suc left) depth to = refl
 
   delete_ends : (o : Option Object) (a : ℕ) → (deleted p c fr ts s o a).rest.ended ≡ s.rest.ended
   delete_ends None a = refl
@@ -68,6 +86,10 @@ module _ (p : Image) (c : Choice) (fr : Frame) (ts : List Task) (s : State) wher
 
   -- no instruction ends the run
   instr_ends : (i : Instr) → (does p c fr ts s i).rest.ended ≡ s.rest.ended
+  instr_ends (JumpEqual a b to) = branch_ends (int_eq (read fr ts s a) (read fr ts s b)) to
+  instr_ends (JumpLess a b to) = branch_ends (int_lt (read fr ts s a) (read fr ts s b)) to
+  instr_ends (JumpEmpty f to) = jump_ends (held s.cells (field_place fr.home f)) to
+  instr_ends (Next depth to) = loop_ends (counter fr depth - 1) depth to
   instr_ends (JumpNull a to) = jump_ends (held s.cells (Register (length ts) a)) to
   instr_ends (Delete a) = delete_ends (held s.cells (Register (length ts) a)) a
   instr_ends (Return a) = return_ends (gives_of p fr.method) a ts
@@ -81,16 +103,40 @@ gone_holds : (o : Option Object) (ts : List Task) (s : State) → Holds_on s.res
 gone_holds None ts s = tt
 gone_holds (Some o) ts s = guarded_holds s.rest.ended ((owns_nothing s.cells o.name, Orphan) ∷ []) (record s { cells = without (Going (length ts)) s.cells; tasks = resumed ts }) (inl refl)
 
-task_holds : (p : Image) (c : Choice) (s : State) (ts : List Task) → Holds_on s.rest.ended (step_task p c s ts)
-task_holds p c s [] = inl refl
-task_holds p c s (Run fr ∷ ts) = instr_holds p c fr ts s (instr_at p fr.method fr.place)
-task_holds p c s (Trapped ∷ ts) = inl refl
-task_holds p c s (Destroy ∷ ts) = gone_holds (held s.cells (Going (length ts))) ts s
-task_holds p c s (Dispatched d ∷ ts) = inr refl
+-- at the end of a run the root is gone
+abbrev Uprooted : State → Type 0
+Uprooted s = (ts : List Task) → s.tasks ≡ Dispatched Of_root ∷ ts → held s.cells (Elsewhere Root) ≡ None
+
+main_holds : (p : Image) (s : State) (b : Bool) (root : Option Object) → s.rest.stopped ≡ b → held s.cells (Elsewhere Root) ≡ root → ((main_ends p b root s).rest.ended ≡ s.rest.ended) ⊎ Settled (main_ends p b root s)
+main_holds p s true (Some o) f e = inl refl
+main_holds p s true None f e = inr (record { idle = refl; rootless = λ h. e })
+main_holds p s false root f e = inr (record { idle = refl; rootless = λ h. absurd (not_stopped s.rest.stopped f h) })
+
+dispatch_holds : (p : Image) (s : State) (d : Dispatch) → (d ≡ Of_root → held s.cells (Elsewhere Root) ≡ None) → ((dispatch_ends p d s).rest.ended ≡ s.rest.ended) ⊎ Settled (dispatch_ends p d s)
+dispatch_holds p s Of_main rootless = main_holds p s s.rest.stopped (held s.cells (Elsewhere Root)) refl refl
+dispatch_holds p s Of_root rootless = inr (record { idle = refl; rootless = λ h. rootless refl })
+
+task_holds : (p : Image) (c : Choice) (s : State) (ts : List Task) → s.tasks ≡ ts → Uprooted s → Holds_on s.rest.ended (step_task p c s ts)
+task_holds p c s [] at gone = inl refl
+task_holds p c s (Run fr ∷ ts) at gone = instr_holds p c fr ts s (instr_at p fr.method fr.place)
+task_holds p c s (Trapped ∷ ts) at gone = inl refl
+task_holds p c s (Destroy ∷ ts) at gone = gone_holds (held s.cells (Going (length ts))) ts s
+task_holds p c s (Dispatched d ∷ ts) at gone = dispatch_holds p s d (λ e. gone ts (at ∙ ap (λ x. Dispatched x ∷ ts) e))
 
 busy_open : (s : State) → IsBusy s → GoesOn s → s.rest.ended ≡ None
 busy_open s busy (inl e) = e
-busy_open s busy (inr idle) = let clash : busy.0 ∷ busy.1 ≡ [] = sym busy.2 ∙ idle in cc
+busy_open s busy (inr settled) = let clash : busy.0 ∷ busy.1 ≡ [] = sym busy.2 ∙ settled.idle in cc
+
+-- by the layers
+uprooted_so : (p : Image) (t : Typing) (s : State) → WellTyped p t s → Uprooted s
+uprooted_so p t s w ts e = go w.layers (sym w.tasks ∙ e) w.good
+  where
+    go : (ls : List Layer) → tasks_of ls ≡ Dispatched Of_root ∷ ts → Good p t s.cells ls → held s.cells (Elsewhere Root) ≡ None
+    go [] at good = cc
+    go (Method fr sh ∷ ls) at good = cc
+    go (Mark gv ∷ ls) at good = cc
+    go (Dying o ∷ ls) at good = cc
+    go (Dispatching d ∷ ls) at good = let same : d ≡ Of_root = cc in root_gone p t s ls (subst (λ x. Good p t s.cells (Dispatching x ∷ ls)) same good)
 
 module _ (p : Image) (t : Typing) (refused : List ℕ) (wired : IsWired p) (typed : IsTyped p t) where
   -- what holds of each state of a run
@@ -101,7 +147,7 @@ module _ (p : Image) (t : Typing) (refused : List ℕ) (wired : IsWired p) (type
   moved_on : (s u : State) (c : Choice) → Stays s → IsBusy s → IsOpen p refused c s → step p c s ≡ Goes u → Stays u
   moved_on s u c h busy choice e = record {
     well = subst (λ o. Keeps p t o) e (step_keeps p t wired typed c s h.well choice.name);
-    goes_on = ⊎_elim (λ same. inl (same ∙ busy_open s busy h.goes_on)) (λ idle. inr idle) (subst (λ o. Holds_on s.rest.ended o) e (task_holds p c (counted p s) s.tasks));
+    goes_on = ⊎_elim (λ same. inl (same ∙ busy_open s busy h.goes_on)) (λ idle. inr idle) (subst (λ o. Holds_on s.rest.ended o) e (task_holds p c (counted p s) s.tasks refl (uprooted_so p t s h.well)));
   }
 
   stays : (lines : List Line) (s : State) → Reaches p refused (boot_state p) lines s → Stays s
@@ -109,33 +155,29 @@ module _ (p : Image) (t : Typing) (refused : List ℕ) (wired : IsWired p) (type
   stays _ _ (moves {lines = lines} {s = s} {u = u} c before busy choice e) = moved_on s u c (stays lines s before) busy choice e
   stays _ _ (waits {lines = lines} {s = s} before between) = let h = stays lines s before in record {
     well = record { layers = h.well.layers; tasks = h.well.tasks; items = h.well.items; good = h.well.good };
-    goes_on = inr between.idle;
+    goes_on = inr (record { idle = between.idle; rootless = λ e. absurd (waiting_stopped e) });
   }
 
   goes : (o : Outcome) → Keeps p t o → (u : State) × (o ≡ Goes u)
   goes (Goes u) k = (u, refl)
   goes (IsStuck kind) k = absurd k
 
-  -- with no class for a root the root holds nothing
-  no_root : (s : State) → WellTyped p t s → s.tasks ≡ [] → p.header.root ≡ None → held s.cells (Elsewhere Root) ≡ None
-  no_root s w idle rootless = fits_unowning p (held s.cells) _ Null refl (subst (λ k. Fits p (held s.cells) (held s.cells (Elsewhere Root)) k) (ap (λ l. claim p (declared p s.cells) l (Elsewhere Root)) (layers_none w.layers (sym w.tasks ∙ idle)) ∙ ap (λ r. filled (root_thing r 0) Perhaps) rootless) (w.good.fits (Elsewhere Root)))
-
-  stopped : (s : State) → Stays s → s.rest.ended ≡ Some Stopped → s.tasks ≡ []
+  stopped : (s : State) → Stays s → s.rest.ended ≡ Some Stopped → Settled s
   stopped s h e = go h.goes_on
     where
-      go : GoesOn s → s.tasks ≡ []
+      go : GoesOn s → Settled s
       go (inl on) = let clash : Some Stopped ≡ None = sym e ∙ on in cc
-      go (inr idle) = idle
+      go (inr settled) = settled
 
-  pub sound : p.header.root ≡ None → IsSound p refused
-  sound rootless = record {
+  pub sound : IsSound p refused
+  sound = record {
     goes_on = λ lines s r busy c choice. goes (step p c s) (step_keeps p t wired typed c s (stays lines s r).well choice.name);
     owned = λ lines s d r e. (ends_owned p t wired s (stays lines s r).well).0 d e;
     stopped_empty = λ lines s r e.
         let h = stays lines s r in
-        let idle = stopped s h e in
-        ends_empty p t wired s h.well idle (no_root s h.well idle rootless);
+        let settled = stopped s h e in
+        ends_empty p t wired s h.well settled.idle (settled.rootless e);
   }
 
-pub typed_is_sound : (p : Image) (t : Typing) (refused : List ℕ) → IsWired p → IsTyped p t → p.header.root ≡ None → IsSound p refused
-typed_is_sound p t refused wired typed rootless = sound p t refused wired typed rootless
+pub typed_is_sound : (p : Image) (t : Typing) (refused : List ℕ) → IsWired p → IsTyped p t → IsSound p refused
+typed_is_sound p t refused wired typed = sound p t refused wired typed

@@ -186,6 +186,13 @@ write p t cs fr sh ls a w k g u new word =
     relabel p t cs fr (set_word fr a w) sh (set_register sh a k) ls (top ls a) k g refl refl refl
     (subst (λ o. Fits p (held cs) o k) (sym free) (new (held cs))) (λ r. claim-set_register p (declared p cs) fr sh ls a k r) (words_set fr.words sh a w k g.frames.words word)
 
+-- a field of what the frame works on
+pub claim_field : (p : Image) (d : Place → Kind) (fr : Frame) (sh : Shape) (ls : List Layer) (home : Home) (f : ℕ) → fr.home ≡ home → is_some (field_thing p (home_holder home) f) ≡ true → claim p d (Method fr sh ∷ ls) (field_place home f) ≡ filled (field_thing p (home_holder home) f) (field sh f)
+claim_field p d fr sh ls Static f e some = cc
+claim_field p d fr sh ls AtRoot zero e some = ap (λ h. root_claim p h sh (claim p d ls (Elsewhere Root))) e
+claim_field p d fr sh ls AtRoot (suc f) e some = cc
+claim_field p d fr sh ls (Inside o from) f e some = ap (λ h. home_claim p h sh o.name f (claim p d ls (Field o.name f))) e ∙ ap (λ b. cond b (filled (field_thing p (thing_holder o.thing) f) (field sh f)) (claim p d ls (Field o.name f))) (eq-eqb o.name _ refl)
+
 module _ (p : Image) (t : Typing) (c : Choice) (s : State) (fr : Frame) (sh : Shape) (ls : List Layer) (at_hand : At p t s fr sh ls) where
   pub free_register : (a : ℕ) → is_unowning (register sh a) ≡ true → held s.cells (Register (length (tasks_of ls)) a) ≡ None
   free_register a u = fits_unowning p (held s.cells) _ (register sh a) u (register_fits p s.cells fr sh ls at_hand.good.fits a)
@@ -205,15 +212,8 @@ module _ (p : Image) (t : Typing) (c : Choice) (s : State) (fr : Frame) (sh : Sh
     good = g.1;
   }
 
-  -- a field of what the frame works on
-  pub claim_field : (d : Place → Kind) (home : Home) (f : ℕ) → fr.home ≡ home → is_some (field_thing p (home_holder home) f) ≡ true → claim p d (Method fr sh ∷ ls) (field_place home f) ≡ filled (field_thing p (home_holder home) f) (field sh f)
-  claim_field d Static f e some = cc
-  claim_field d AtRoot zero e some = ap (λ h. root_claim p h sh (claim p d ls (Elsewhere Root))) e
-  claim_field d AtRoot (suc f) e some = cc
-  claim_field d (Inside o from) f e some = ap (λ h. home_claim p h sh o.name f (claim p d ls (Field o.name f))) e ∙ ap (λ b. cond b (filled (field_thing p (thing_holder o.thing) f) (field sh f)) (claim p d ls (Field o.name f))) (eq-eqb o.name _ refl)
-
   pub field_fits : (f : ℕ) → is_some (field_thing p (home_holder fr.home) f) ≡ true → Fits p (held s.cells) (held s.cells (field_place fr.home f)) (filled (field_thing p (home_holder fr.home) f) (field sh f))
-  field_fits f some = subst (λ k. Fits p (held s.cells) (held s.cells (field_place fr.home f)) k) (claim_field (declared p s.cells) fr.home f refl some) (at_hand.good.fits (field_place fr.home f))
+  field_fits f some = subst (λ k. Fits p (held s.cells) (held s.cells (field_place fr.home f)) k) (claim_field p (declared p s.cells) fr sh ls fr.home f refl some) (at_hand.good.fits (field_place fr.home f))
 
   pub field_outside : (home : Home) (f : ℕ) → fr.home ≡ home → is_some (field_thing p (home_holder home) f) ≡ true → Outside (field_place home f) ls
   field_outside Static f e some = cc

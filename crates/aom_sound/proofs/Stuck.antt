@@ -5,4 +5,4 @@ use Rattle.aom_sound.specs.Examples.{StuckExamples}
 
 pub stuck_examples : StuckExamples
 unfolding method_at instr_in gives_in
-stuck_examples = record { unbalanced = refl; orphan = refl; null_or_dead = refl; wrong_kind = refl }
+stuck_examples = record { unbalanced = refl; pop_under = refl; orphan = refl; null_or_dead = refl; wrong_kind = refl }

@@ -1,16 +1,123 @@
--- Returns, and `stop`.
-use Rattle.std.specs.Prelude.{ℕ, suc, pos, Bool, true, false, not, ◌&&◌, ◌==◌, List, [], ◌∷◌, ◌++◌, Option, Some, None, is_some, is_none, length}
+-- Calls, returns, and `stop`.
+use Rattle.std.specs.Prelude.{ℕ, suc, ◌+◌, ℤ, pos, Bool, true, false, not, ◌&&◌, ◌==◌, nat_le, List, [], ◌∷◌, ◌++◌, Option, Some, None, is_some, is_none, length}
 use Rattle.aom_image.specs.Image.{Image}
-use Rattle.aom_image.specs.Views.{instr_at, gives_of}
+use Rattle.aom_image.specs.Views.{instr_at, arguments_of, gives_of, method_class}
 use Rattle.aom_image.specs.declared.instr.Instr.{Instr}
 use Rattle.aom_image.specs.declared.instr.Instr.TheVariants.{Call, Trap}
+use Rattle.aom_image.specs.declared.instr.Target.{Target}
+use Rattle.aom_image.specs.declared.instr.Target.TheVariants.{This, Register as On_register, Field as On_field, Entry as On_entry}
+use Rattle.aom_image.specs.declared.method.Argument.{Argument}
+use Rattle.aom_image.specs.declared.method.Argument.TheVariants.{Word as Takes_word, Own as Takes_own}
 use Rattle.aom_image.specs.declared.method.Gives.{Gives}
 use Rattle.aom_image.specs.declared.method.Gives.TheVariants.{Nothing, Word as A_word, Own as An_own, Maybe as A_maybe, Left}
-use Rattle.aom_sound.specs.Places.{Place, Register, Entry, Field, Going, Elsewhere, Cell, held, moved}
-use Rattle.aom_sound.specs.State.{Home, Static, AtRoot, Inside, Frame, Task, Run, Trapped, Destroy, Dispatched, Item, State, Need, Unbalanced, Orphan, NullOrDead, WrongKind, word, set_word, next}
+use Rattle.aom_image.specs.declared.method.Thing.{Thing}
+use Rattle.aom_image.specs.declared.method.Thing.TheVariants.{Object as An_object_of}
+use Rattle.aom_shape.specs.Calls.{is_among}
+use Rattle.aom_shape.specs.Things.{Holder, Nobody, Program, Member, field_thing, stands_for}
+use Rattle.aom_sound.specs.Places.{Object, Place, Register, Entry, Field, Going, Elsewhere, Cell, held, moved}
+use Rattle.aom_sound.specs.State.{Home, Static, AtRoot, Inside, Frame, Task, Run, Trapped, Destroy, Dispatched, Item, State, Need, Unbalanced, PopUnder, Orphan, NullOrDead, WrongKind, word, set_word, next, field_place, home_holder, frame_of}
 use Rattle.aom_sound.specs.Destruction.{owns_nothing}
-use Rattle.aom_sound.specs.Words.{here, go_on}
+use Rattle.aom_sound.specs.Words.{here, go_on, needs_word}
 use Rattle.aom_sound.specs.Objects.{is_thing}
+
+-- a method of that class may work on what this one works on, and a static one works on nothing
+abbrev pub works_on : Image → Option ℕ → Holder → Bool
+works_on p None h = true
+works_on p (Some c) Nobody = false
+works_on p (Some c) Program = false
+works_on p (Some c) (Member x) = stands_for p (An_object_of x) (An_object_of c)
+
+-- a method of that class may work on this object
+abbrev pub is_worked_on : Image → Option ℕ → Option Object → Bool
+is_worked_on p None o = false
+is_worked_on p (Some c) o = is_thing p (An_object_of c) o
+
+abbrev pub needs_target_object : Image → Option ℕ → Option Object → List Need
+needs_target_object p class o = (is_some o, NullOrDead) ∷ (is_worked_on p class o, WrongKind) ∷ []
+
+-- what a place owns, as what a method works on
+abbrev pub home_at : Option Object → Place → Home
+home_at None from = Static
+home_at (Some o) from = Inside o from
+
+-- a static method works on nothing, another on what this one works on
+abbrev pub own_home : Option ℕ → Home → Home
+own_home None home = Static
+own_home (Some c) home = home
+
+module _ (p : Image) (fr : Frame) (ts : List Task) (s : State) where
+  -- a register owns what may stand for that thing
+  abbrev pub needs_own : Thing → ℕ → List Need
+  needs_own t a =
+      (is_none (word fr a), WrongKind)
+      ∷ (is_some (held s.cells (here fr ts s a)), NullOrDead)
+      ∷ (is_thing p t (held s.cells (here fr ts s a)), WrongKind)
+      ∷ []
+
+  abbrev pub needs_target : Target → Option ℕ → ℕ → ℕ → List Need
+  needs_target This class first count = (works_on p class (home_holder fr.home), WrongKind) ∷ []
+  needs_target (On_register r) class first count =
+      (is_none (word fr r), WrongKind)
+      ∷ (needs_target_object p class (held s.cells (here fr ts s r))
+      ++ ((not (is_among first count r), WrongKind)
+      ∷ []))
+  needs_target (On_field f) class first count =
+      (is_some (field_thing p (home_holder fr.home) f), WrongKind)
+      ∷ needs_target_object p class (held s.cells (field_place fr.home f))
+  -- comes with the cleanup stack
+  needs_target (On_entry k) class first count = (false, PopUnder) ∷ []
+
+  abbrev pub target_home : Target → Option ℕ → Home
+  target_home This class = own_home class fr.home
+  target_home (On_register r) class = home_at (held s.cells (here fr ts s r)) (here fr ts s r)
+  target_home (On_field f) class = home_at (held s.cells (field_place fr.home f)) (field_place fr.home f)
+  target_home (On_entry k) class = Static
+
+  -- a register is passed on
+  abbrev pub needs_argument : Argument → ℕ → List Need
+  needs_argument Takes_word a = needs_word fr ts s a ∷ []
+  needs_argument (Takes_own t) a = needs_own t a
+
+  -- the arguments, from that register on
+  abbrev pub needs_each : List Argument → ℕ → List Need
+  needs_each [] first = []
+  needs_each (x ∷ xs) first = needs_argument x first ++ needs_each xs (suc first)
+
+  -- words are copied
+  abbrev pub passed_words : List Argument → ℕ → List (Option ℤ)
+  passed_words [] first = []
+  passed_words (Takes_word ∷ xs) first = word fr first ∷ passed_words xs (suc first)
+  passed_words (Takes_own t ∷ xs) first = None ∷ passed_words xs (suc first)
+
+  -- objects move to the registers of the method above, from the second number on
+  abbrev pub passed_cells : List Argument → ℕ → ℕ → List Cell → List Cell
+  passed_cells [] first to cs = cs
+  passed_cells (Takes_word ∷ xs) first to cs = passed_cells xs (suc first) (suc to) cs
+  passed_cells (Takes_own t ∷ xs) first to cs = passed_cells xs (suc first) (suc to) (moved (here fr ts s first) (Register (length (Run fr ∷ ts)) to) cs)
+
+  -- what the result comes to owns nothing
+  abbrev pub needs_result : Gives → List Cell → ℕ → List Need
+  needs_result Nothing cs c = []
+  needs_result A_word cs c = (is_none (held cs (here fr ts s c)), Orphan) ∷ []
+  needs_result (An_own t) cs c = (is_none (held cs (here fr ts s c)), Orphan) ∷ []
+  needs_result (A_maybe t) cs c = (is_none (held cs (here fr ts s c)), Orphan) ∷ []
+  -- comes with the cleanup stack
+  needs_result (Left x) cs c = (false, Unbalanced) ∷ []
+
+  -- the target, the arguments, and once they are passed the register of the result
+  abbrev pub needs_call : Target → ℕ → ℕ → ℕ → List Need
+  needs_call target m first c =
+      needs_target target (method_class p m) first (length (arguments_of p m))
+      ++ ((nat_le (first + length (arguments_of p m)) 16, WrongKind)
+      ∷ (needs_each (arguments_of p m) first
+      ++ needs_result (gives_of p m) (passed_cells (arguments_of p m) first 0 s.cells) c))
+
+  -- the method called, with its arguments in its first registers
+  abbrev pub entered : Target → ℕ → ℕ → Frame
+  entered target m first = record (frame_of m (target_home target (method_class p m)) (length s.items)) { words = passed_words (arguments_of p m) first }
+
+  abbrev pub does_call : Target → ℕ → ℕ → State
+  does_call target m first = record s { cells = passed_cells (arguments_of p m) first 0 s.cells; tasks = Run (entered target m first) ∷ Run fr ∷ ts }
 
 -- the register of a call's result, and what the called method gives
 abbrev pub result_register : Option Instr → ℕ
@@ -58,7 +165,7 @@ module _ (p : Image) (fr : Frame) (ts : List Task) (s : State) where
   abbrev pub result_needs : Gives → ℕ → List Need
   result_needs Nothing a = []
   result_needs A_word a = (is_some (word fr a), WrongKind) ∷ []
-  result_needs (An_own t) a = (is_some (held s.cells (here fr ts s a)), NullOrDead) ∷ (is_thing p t (held s.cells (here fr ts s a)), WrongKind) ∷ []
+  result_needs (An_own t) a = needs_own p fr ts s t a
   result_needs (A_maybe t) a = (is_none (word fr a), WrongKind) ∷ (is_thing p t (held s.cells (here fr ts s a)), WrongKind) ∷ []
   -- comes with the cleanup stack
   result_needs (Left c) a = (false, Unbalanced) ∷ []

@@ -11,7 +11,7 @@ use Rattle.aom_shape.specs.declared.kind.Filling.TheVariants.{Perhaps}
 use Rattle.aom_shape.specs.declared.kind.Kind.{Kind}
 use Rattle.aom_shape.specs.declared.kind.Kind.TheVariants.{Null, Own}
 use Rattle.aom_sound.specs.Places.{Place, Register, Entry, Field, Going, Elsewhere, Other, Root, Object, Cell, named}
-use Rattle.aom_sound.specs.State.{Home, Static, AtRoot, Inside, Frame, Dispatch, Task, Run, Trapped, Destroy, Dispatched, Item, An_object, A_mark, thing_holder}
+use Rattle.aom_sound.specs.State.{Home, Static, AtRoot, Inside, Frame, Dispatch, Of_main, Of_root, Task, Run, Trapped, Destroy, Dispatched, Item, An_object, A_mark, thing_holder}
 
 -- what stands behind a task: a method with its abstract state, a trap's mark, a cell that is going, or a dispatch
 pub data Layer : Type 0 where
@@ -88,7 +88,8 @@ abbrev pub other_claim : Image → Layer → Other → Kind → Kind
 other_claim p (Method fr sh) Root below = root_claim p fr.home sh below
 other_claim p (Mark gv) Root below = below
 other_claim p (Dying o) Root below = below
-other_claim p (Dispatching d) Root below = below
+other_claim p (Dispatching Of_main) Root below = below
+other_claim p (Dispatching Of_root) Root below = Null
 
 abbrev pub layer_claim : Image → Layer → ℕ → List Item → Place → Kind → Kind
 layer_claim p l depth items (Register f i) below = register_claim l depth f i below

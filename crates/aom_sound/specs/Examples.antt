@@ -2,13 +2,14 @@
 use Rattle.std.specs.Prelude.{true, false, pos, ◌≡◌, List, [], ◌∷◌, None}
 use Rattle.aom_image.specs.Image.{Image}
 use Rattle.aom_image.specs.declared.instr.Instr.{Instr}
-use Rattle.aom_image.specs.declared.instr.Instr.TheVariants.{Const, Print, Return}
+use Rattle.aom_image.specs.declared.instr.Instr.TheVariants.{Call, Const, Print, Return}
+use Rattle.aom_image.specs.declared.instr.Target.TheVariants.{Entry}
 use Rattle.aom_image.specs.declared.method.Gives.{Gives}
 use Rattle.aom_image.specs.declared.method.Gives.TheVariants.{Nothing, Own}
 use Rattle.aom_image.specs.declared.method.Role.TheVariants.{Main}
 use Rattle.aom_image.specs.declared.method.Thing.TheVariants.{Object}
 use Rattle.aom_sound.specs.Places.{Register, Cell, with_new}
-use Rattle.aom_sound.specs.State.{Static, frame_of, Run, Trapped, Dispatched, Of_main, Item, A_mark, State, Choice, Stuck, Unbalanced, Orphan, NullOrDead, WrongKind, IsStuck}
+use Rattle.aom_sound.specs.State.{Static, frame_of, Run, Trapped, Dispatched, Of_main, Item, A_mark, State, Choice, Stuck, Unbalanced, PopUnder, Orphan, NullOrDead, WrongKind, IsStuck}
 use Rattle.aom_sound.specs.Moves.{step}
 
 -- an image of one method that gives this and begins with that instruction
@@ -49,8 +50,10 @@ IsStuckBy kind gives instr cells items = step (image_of gives instr) any_choice 
 pub record StuckExamples : Type 0 where
   -- a return with a lower cleanup stack than the method found
   pub unbalanced : IsStuckBy Unbalanced Nothing (Return 0) [] []
+  -- a call on a cleanup entry, and there is none
+  pub pop_under : IsStuckBy PopUnder Nothing (Call (Entry 0) 0 0 0) [] (A_mark ∷ [])
   -- a word is written over a cell's only owner
-  pub orphan : IsStuckBy Orphan Nothing (Const 0 (pos 7)) (with_new 0 (Object 0) (Register 2 0) []) (A_mark ∷ [])
+  pub orphan : IsStuckBy Orphan Nothing (Const 0 (pos 7)) (with_new 0 (Object 0) [] (Register 2 0) []) (A_mark ∷ [])
   -- an object is given back, and there is none
   pub null_or_dead : IsStuckBy NullOrDead (Own (Object 0)) (Return 0) [] (A_mark ∷ [])
   -- what is printed is no word

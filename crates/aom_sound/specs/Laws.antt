@@ -1,10 +1,11 @@
 -- The laws of the checked machine.
-use Rattle.std.specs.Prelude.{ℕ, true, false, ◌≡◌, ◌<◌, IsSome, List, [], ◌∷◌, Some, None}
+use Rattle.std.specs.Prelude.{ℕ, false, ◌≡◌, ◌⊎◌, ◌<◌, IsSome, List, [], ◌∷◌, Some, None}
 use Rattle.aom_image.specs.Image.{Image}
 use Rattle.aom_image.specs.Views.{instr_at, method_at, method_class, method_role, leaves, gives_of, arguments_of}
-use Rattle.aom_image.specs.declared.instr.Instr.{Instr}
+use Rattle.aom_image.specs.declared.instr.Instr.TheVariants.{Call}
+use Rattle.aom_image.specs.declared.instr.Target.{Target}
 use Rattle.aom_image.specs.declared.method.Gives.TheVariants.{Nothing}
-use Rattle.aom_image.specs.declared.method.Role.TheVariants.{Main, Destruct}
+use Rattle.aom_image.specs.declared.method.Role.TheVariants.{Do, Main, Construct, Destruct}
 use Rattle.aom_image.specs.declared.method.Thing.TheVariants.{Object as An_object_of}
 use Rattle.aom_classes.specs.Admitted.{IsAdmitted}
 use Rattle.aom_classes.specs.Linked.{IsLinked}
@@ -13,23 +14,28 @@ use Rattle.aom_shape.specs.Things.{Member, field_thing}
 use Rattle.aom_shape.specs.Typing.{Typing, IsTyped}
 use Rattle.aom_sound.specs.Places.{Elsewhere, Root, held, named}
 use Rattle.aom_sound.specs.State.{Dispatch, Frame, Task, Run, Destroy, Dispatched, State, Choice, Goes}
-use Rattle.aom_sound.specs.Moves.{has_move, step, IsOpen}
+use Rattle.aom_sound.specs.Moves.{step, IsOpen}
 use Rattle.aom_sound.specs.WellTyped.{WellTyped, Keeps}
 use Rattle.aom_sound.specs.Owned.{Owned}
 use Rattle.aom_sound.specs.World.{boot_state, IsBusy, Reaches}
 use Rattle.aom_sound.specs.declared.line.Line.{Line}
 use Rattle.aom_sound.specs.declared.line.Ending.TheVariants.{Stopped}
 
+-- a method that is called is there, and it does or constructs
+pub record IsCalled (p : Image) (m : ℕ) : Type 0 where
+  pub there : IsSome (method_at p m)
+  pub role : (method_role p m ≡ Some Do) ⊎ (method_role p m ≡ Some Construct)
+
 -- what linking has found, as far as the laws use it
 pub record IsWired (p : Image) : Type 0 where
   pub has_main : IsSome (main_of p)
   pub main : (m : ℕ) → main_of p ≡ Some m → (IsSome (method_at p m)) × (method_role p m ≡ Some Main) × (gives_of p m ≡ Nothing) × (arguments_of p m ≡ [])
   pub destructor : (c m : ℕ) → role_of p c Destruct ≡ Some m → (IsSome (method_at p m)) × (method_role p m ≡ Some Destruct) × (method_class p m ≡ Some c) × (leaves p m ≡ false) × (gives_of p m ≡ Nothing) × (arguments_of p m ≡ [])
+  pub static_main : (m : ℕ) → method_role p m ≡ Some Main → method_class p m ≡ None
+  pub called : (m place : ℕ) (target : Target) (m' first c : ℕ) → instr_at p m place ≡ Some (Call target m' first c) → IsCalled p m'
   pub no_destructor : (c : ℕ) → role_of p c Destruct ≡ None → (f : ℕ) → field_thing p (Member c) f ≡ None
   -- what a field may own has a lower class
   pub ordered : (c d f : ℕ) → field_thing p (Member c) f ≡ Some (An_object_of d) → d < c
-  -- each instruction has a move
-  pub moves : (m pc : ℕ) (i : Instr) → instr_at p m pc ≡ Some i → has_move i ≡ true
 
 -- the boot state is well typed
 abbrev pub BootKeeps : Type 0
@@ -55,7 +61,7 @@ pub record IsSound (p : Image) (refused : List ℕ) : Type 0 where
 
 -- each linked image that has a typing is sound, whatever is refused
 abbrev pub TypedIsSound : Type 0
-TypedIsSound = (p : Image) (t : Typing) (refused : List ℕ) → IsWired p → IsTyped p t → p.header.root ≡ None → IsSound p refused
+TypedIsSound = (p : Image) (t : Typing) (refused : List ℕ) → IsWired p → IsTyped p t → IsSound p refused
 
 -- what a linked image of the admitted kind gives the laws
 abbrev pub LinkedIsWired : Type 0
@@ -69,4 +75,4 @@ abbrev pub DestructionKeeps : Type 0
 DestructionKeeps = (p : Image) (t : Typing) (c : Choice) (s : State) (tasks : List Task) → WellTyped p t s → s.tasks ≡ Destroy ∷ tasks → Keeps p t (step p c s)
 
 abbrev pub TurnKeeps : Type 0
-TurnKeeps = (p : Image) (t : Typing) (c : Choice) (s : State) (d : Dispatch) (tasks : List Task) → WellTyped p t s → s.tasks ≡ Dispatched d ∷ tasks → Keeps p t (step p c s)
+TurnKeeps = (p : Image) (t : Typing) → IsWired p → IsTyped p t → (c : Choice) (s : State) (d : Dispatch) (tasks : List Task) → WellTyped p t s → s.tasks ≡ Dispatched d ∷ tasks → Keeps p t (step p c s)

@@ -9,5 +9,6 @@ pub mod Claims
 pub mod WellTyped
 pub mod Owned
 pub mod World
+pub mod Loops
 pub mod Laws
 pub mod Examples

@@ -1,9 +1,9 @@
 -- Instructions on objects.
-use Rattle.std.specs.Prelude.{ℕ, Bool, true, false, cond, List, [], ◌∷◌, Option, Some, None, is_some, is_none, length}
+use Rattle.std.specs.Prelude.{ℕ, ℤ, pos, Bool, true, false, cond, List, [], ◌∷◌, Option, Some, None, is_some, is_none, length, replicate}
 use Rattle.aom_image.specs.Image.{Image}
 use Rattle.aom_image.specs.declared.method.Thing.{Thing}
 use Rattle.aom_image.specs.declared.method.Thing.TheVariants.{Object as An_object_of}
-use Rattle.aom_shape.specs.Things.{stands_for, field_thing}
+use Rattle.aom_shape.specs.Things.{stands_for, field_thing, words_of}
 use Rattle.aom_shape.specs.Kinds.{is_object}
 use Rattle.aom_sound.specs.Places.{Going, Object, held, moved, with_new}
 use Rattle.aom_sound.specs.State.{Frame, Task, Run, State, Choice, Need, Orphan, WrongKind, word, set_word, next, to_place, field_place, home_holder}
@@ -41,8 +41,18 @@ module _ (p : Image) (c : Choice) (fr : Frame) (ts : List Task) (s : State) wher
   abbrev pub does_jump_null : ℕ → ℕ → State
   does_jump_null a to = jumped (held s.cells (here fr ts s a)) to
 
+  -- what the frame works on has such a field
+  abbrev pub needs_field : ℕ → Need
+  needs_field f = (is_some (field_thing p (home_holder fr.home) f), WrongKind)
+
+  abbrev pub needs_jump_empty : ℕ → List Need
+  needs_jump_empty f = needs_field f ∷ []
+
+  abbrev pub does_jump_empty : ℕ → ℕ → State
+  does_jump_empty f to = jumped (held s.cells (field_place fr.home f)) to
+
   abbrev pub needs_take : ℕ → ℕ → List Need
-  needs_take a f = (is_some (field_thing p (home_holder fr.home) f), WrongKind) ∷ needs_written fr ts s a
+  needs_take a f = needs_field f ∷ needs_written fr ts s a
 
   abbrev pub does_take : ℕ → ℕ → State
   does_take a f = go_on fr ts s (moved (field_place fr.home f) (here fr ts s a) s.cells) (set_word fr a None)
@@ -57,10 +67,14 @@ module _ (p : Image) (c : Choice) (fr : Frame) (ts : List Task) (s : State) wher
   abbrev pub does_put : ℕ → ℕ → State
   does_put f b = go_on fr ts s (moved (here fr ts s b) (field_place fr.home f) s.cells) fr
 
+  -- the words of a new object
+  abbrev pub no_words : ℕ → List ℤ
+  no_words x = replicate (words_of p x) (pos 0)
+
   -- null where it is refused
   abbrev pub does_new : ℕ → ℕ → State
   does_new a x =
-      go_on fr ts s (cond c.refused s.cells (with_new c.name (An_object_of x) (here fr ts s a) s.cells)) (set_word fr a None)
+      go_on fr ts s (cond c.refused s.cells (with_new c.name (An_object_of x) (no_words x) (here fr ts s a) s.cells)) (set_word fr a None)
 
   abbrev pub needs_delete : ℕ → List Need
   needs_delete a = (is_none (word fr a), WrongKind) ∷ (is_no_message (held s.cells (here fr ts s a)), WrongKind) ∷ []

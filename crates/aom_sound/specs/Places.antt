@@ -1,6 +1,7 @@
 -- Places, the cells with their owners, and what a place holds.
-use Rattle.std.specs.Prelude.{ℕ, ℤ, Bool, cond, ◌&&◌, ◌==◌, ◌≡◌, List, [], ◌∷◌, Option, Some, None}
+use Rattle.std.specs.Prelude.{ℕ, ℤ, pos, Bool, cond, ◌&&◌, ◌==◌, ◌≡◌, List, [], ◌∷◌, Option, Some, None}
 use Rattle.aom_image.specs.declared.method.Thing.{Thing}
+use Rattle.aom_shape.specs.Tables.{at, put_at}
 
 -- places that no method's frame speaks of but main's
 pub data Other : Type 0 where
@@ -72,9 +73,19 @@ abbrev pub without : Place → List Cell → List Cell
 without p [] = []
 without p (c ∷ cs) = cond (same_place c.owner p) (without p cs) (c ∷ without p cs)
 
--- one more cell, whose words are 0
-abbrev pub with_new : ℕ → Thing → Place → List Cell → List Cell
-with_new name thing owner cs = record { object = record { name = name; thing = thing }; words = []; owner = owner } ∷ cs
+-- one more cell, with these words
+abbrev pub with_new : ℕ → Thing → List ℤ → Place → List Cell → List Cell
+with_new name thing words owner cs = record { object = record { name = name; thing = thing }; words = words; owner = owner } ∷ cs
+
+-- a word of the cell of that name
+abbrev pub word_field : List Cell → ℕ → ℕ → ℤ
+word_field [] n w = pos 0
+word_field (c ∷ cs) n w = cond (c.object.name == n) (at (pos 0) c.words w) (word_field cs n w)
+
+-- the cell of that name has another word there
+abbrev pub set_word_field : ℕ → ℕ → ℤ → List Cell → List Cell
+set_word_field n w v [] = []
+set_word_field n w v (c ∷ cs) = record c { words = cond (c.object.name == n) (put_at (pos 0) c.words w v) c.words } ∷ set_word_field n w v cs
 
 -- names and places stand once
 abbrev pub Tidy : List Cell → Type 0

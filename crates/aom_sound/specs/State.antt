@@ -18,13 +18,16 @@ pub record Frame : Type 0 where
   pub place : ℕ
   -- none where a register holds no word
   pub words : List (Option ℤ)
+  -- how many rounds of each loop are left, the outermost first
+  pub counters : List ℕ
   pub home : Home
   -- how many items the cleanup stack had as it began
   pub height : ℕ
 
--- what a dispatch is of
+-- what stands below all else: main's dispatch, or the end of a stopped run, which destroys the root
 pub data Dispatch : Type 0 where
   Of_main : Dispatch
+  Of_root : Dispatch
 
 -- what is at hand, the innermost first
 pub data Task : Type 0 where
@@ -106,6 +109,12 @@ word fr i = at None fr.words i
 abbrev pub set_word : Frame → ℕ → Option ℤ → Frame
 set_word fr i w = record fr { words = put_at None fr.words i w }
 
+abbrev pub counter : Frame → ℕ → ℕ
+counter fr i = at 0 fr.counters i
+
+abbrev pub set_counter : Frame → ℕ → ℕ → Frame
+set_counter fr i n = record fr { counters = put_at 0 fr.counters i n }
+
 abbrev pub next : Frame → Frame
 next fr = record fr { place = suc fr.place }
 
@@ -113,7 +122,7 @@ abbrev pub to_place : Frame → ℕ → Frame
 to_place fr to = record fr { place = to }
 
 abbrev pub frame_of : ℕ → Home → ℕ → Frame
-frame_of m home height = record { method = m; place = 0; words = []; home = home; height = height }
+frame_of m home height = record { method = m; place = 0; words = []; counters = []; home = home; height = height }
 
 -- the place of a field, and whose fields these are
 abbrev pub field_place : Home → ℕ → Place

@@ -15,7 +15,7 @@ use Rattle.aom_shape.specs.declared.kind.Filling.TheVariants.{Perhaps}
 use Rattle.aom_shape.specs.declared.kind.Kind.{Kind}
 use Rattle.aom_shape.specs.declared.kind.Kind.TheVariants.{Unset, Word, Null, Own, Maybe}
 use Rattle.aom_sound.specs.Places.{Place, Register, Entry, Field, Going, Elsewhere, Root, same_place, Object, Cell, held, named, Tidy}
-use Rattle.aom_sound.specs.State.{Home, Static, AtRoot, Inside, Frame, Dispatch, Of_main, word, State, Outcome, Goes, IsStuck, home_holder, thing_holder}
+use Rattle.aom_sound.specs.State.{Home, Static, AtRoot, Inside, Frame, Dispatch, Of_main, Of_root, word, State, Outcome, Goes, IsStuck, home_holder, thing_holder}
 use Rattle.aom_sound.specs.Calls.{result_register, called}
 use Rattle.aom_sound.specs.Claims.{Layer, Method, Mark, Dying, Dispatching, tasks_of, items_of, claim, declared}
 
@@ -59,7 +59,7 @@ pub record Frames (p : Image) (ls : List Layer) (fr : Frame) (sh : Shape) : Type
   pub holder : home_holder fr.home ≡ holder_of p fr.method
   pub height : fr.height ≡ length (items_of ls)
 
--- the abstract state after a trap, from the one that holds while the call lasts: null where it left, and the code in the next register
+-- the abstract state after a trap: null where it left, and the code in the next register
 abbrev pub caught : Gives → ℕ → Shape → Shape
 caught Nothing c sh = set_register sh (suc c) Word
 caught A_word c sh = set_register (set_register sh c Word) (suc c) Word
@@ -140,7 +140,8 @@ RootUnclaimed [] = Unit {0}
 RootUnclaimed (Method fr sh ∷ ls) = NotAtRoot fr.home × RootUnclaimed ls
 RootUnclaimed (Mark gv ∷ ls) = RootUnclaimed ls
 RootUnclaimed (Dying o ∷ ls) = RootUnclaimed ls
-RootUnclaimed (Dispatching d ∷ ls) = RootUnclaimed ls
+RootUnclaimed (Dispatching Of_main ∷ ls) = RootUnclaimed ls
+RootUnclaimed (Dispatching Of_root ∷ ls) = ⊥
 
 abbrev pub NotFrom : Place → Home → Type 0
 NotFrom q Static = Unit {0}
@@ -211,12 +212,16 @@ IsDestructorOf p depth o (Returns m home) = (leaves p m ≡ false) × (home ≡ 
 IsDestructorOf p depth o (Caught g) = ⊥
 IsDestructorOf p depth o Gone = ⊥
 
--- a dispatch is at its end, or its method runs under its trap
+-- a dispatch is at its end, or its method runs under its trap; over the end of a run the root goes
 abbrev pub EndsDispatch : Image → Dispatch → Back → Type 0
 EndsDispatch p Of_main Now = Unit {0}
 EndsDispatch p Of_main (Returns m home) = ⊥
 EndsDispatch p Of_main (Caught g) = g ≡ Nothing
 EndsDispatch p Of_main Gone = ⊥
+EndsDispatch p Of_root Now = Unit {0}
+EndsDispatch p Of_root (Returns m home) = ⊥
+EndsDispatch p Of_root (Caught g) = ⊥
+EndsDispatch p Of_root Gone = Unit {0}
 
 abbrev pub Stack : Image → Typing → List Cell → Back → List Layer → Type 0
 Stack p t cs back [] = back ≡ Now

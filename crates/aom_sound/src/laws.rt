@@ -1,5 +1,6 @@
 //! The laws, each as the contract of a function that does nothing.
 ghost use Rattle.aom_sound.specs.Laws.{BootKeeps, InstructionKeeps, DestructionKeeps, TurnKeeps, StepKeeps, EndsOwned, EndsEmpty, TypedIsSound, LinkedIsWired};
+ghost use Rattle.aom_sound.specs.Loops.{LoopsKeep};
 ghost use Rattle.aom_sound.specs.Examples.{StuckExamples};
 
 /// A run of a typed image begins well typed.
@@ -20,6 +21,11 @@ pub fn destruction_keeps()
 /// A dispatch ends well typed.
 pub fn turn_keeps()
     ensures { TurnKeeps }
+{}
+
+/// A method in a loop's body has rounds of that loop left.
+pub fn loops_keep()
+    ensures { LoopsKeep }
 {}
 
 /// Every move of a well-typed state is one of the three above.

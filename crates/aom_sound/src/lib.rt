@@ -11,6 +11,6 @@ mod line;
 
 pub use laws::{
     boot_keeps, destruction_keeps, ends_empty, ends_owned, instruction_keeps, linked_is_wired,
-    step_keeps, stuck_examples, turn_keeps, typed_is_sound,
+    loops_keep, step_keeps, stuck_examples, turn_keeps, typed_is_sound,
 };
 pub use line::{Ending, Line};

@@ -1,7 +1,9 @@
 //! Why a text is refused.
 ghost use Rattle.std.specs.Prelude.{◌≡◌};
 ghost use Rattle.aom_text.specs.Faults.{number_of};
+ghost use Rattle.aom_text.specs.declared.fault.AsmFaultKind.TheVariants.{OutOfMemory};
 
+use std::alloc::{AllocError, AllocFailed};
 use std::fmt;
 
 /// What is wrong with a statement.
@@ -63,3 +65,19 @@ impl fmt::Display for AsmFault {
 }
 
 impl std::error::Error for AsmFault {}
+
+impl From<AllocError> for AsmFaultKind {
+    ghost from_gives = { λ _ e. e ≡ OutOfMemory };
+
+    fn from(_error: AllocError) -> AsmFaultKind {
+        AsmFaultKind::OutOfMemory
+    }
+}
+
+impl<T: Drop> From<AllocFailed<T>> for AsmFaultKind {
+    ghost from_gives = { λ _ e. e ≡ OutOfMemory };
+
+    fn from(_failed: AllocFailed<T>) -> AsmFaultKind {
+        AsmFaultKind::OutOfMemory
+    }
+}

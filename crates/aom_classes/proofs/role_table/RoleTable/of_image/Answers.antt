@@ -1,5 +1,4 @@
-use Rattle.std.proofs.Common.{◌≡◌, ◌∙◌, ap, sym, arith, length, IfSome, slice_get, ℕ, List, Option}
-use Rattle.aom_image.specs.declared.method.Method.{Method}
+use Rattle.std.proofs.Common.{◌≡◌, ◌∙◌, ap, sym, arith, length, List}
 use Rattle.aom_classes.specs.Roles.{role_of}
 use Rattle.aom_classes.specs.Table.{IsRow}
 use Rattle.aom_classes.proofs.Rows.{each_push, no_player}

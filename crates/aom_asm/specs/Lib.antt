@@ -1,0 +1,3 @@
+pub mod Body
+pub mod TextNames
+pub mod Denoted

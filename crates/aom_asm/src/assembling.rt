@@ -1,0 +1,150 @@
+//! The way from a text to its image.
+ghost use Rattle.std.specs.Prelude.{◌≡◌, ◌≢◌, ◌≤◌, ◌^◌, ◌⊎◌, length, IfOk, IfErr, Ok, Err, [], false};
+ghost use Rattle.aom_text.specs.Text.{statements};
+ghost use Rattle.aom_text.specs.declared.fault.AsmFaultKind.TheVariants.{OutOfMemory};
+ghost use Rattle.aom_syntax.specs.Reading.{ReadsOrNoMemory};
+ghost use Rattle.aom_asm.specs.Denoted.{at_line, Answers, read_rest, read_after, read_program, read_statements, scope_of, last_line_of, denoted, image_of, NoImage};
+
+use crate::names::declared_names;
+use crate::program::Program;
+use aom_image::{Image, Items};
+use aom_syntax::{Keyword, Reader, Scope};
+use aom_text::{AsmFault, AsmFaultKind, Statement, Text, last_line};
+use std::alloc::{AllocError, Global};
+
+/// The most bytes of a text.
+const MOST_BYTES: usize = 1 << 20;
+
+fn at_line<T>(line: u32, said: Result<T, AsmFaultKind>) -> Result<T, AsmFault>
+    ensures { result ≡ at_line line said }
+{
+    match said {
+        Ok(value) => Ok(value),
+        Err(kind) => Err(AsmFault { line, kind }),
+    }
+}
+
+/// Reads all statements of a text.
+fn read_program<'a>(
+    alloc: Global,
+    text: Text<'a>,
+    last: u32,
+    scope: &Scope,
+) -> Result<Program<'a>, AsmFault>
+    ensures { Answers (λ p. p) result (read_program last scope.now text.entry) }
+{
+    let mut text = text;
+    match text.next() {
+        Some(first) => read_after(alloc, first, text, last, scope),
+        None => Err(AsmFault {
+            line: last,
+            kind: AsmFaultKind::BadShape,
+        }),
+    }
+}
+
+/// Reads the first statement, and those after it.
+fn read_after<'a>(
+    alloc: Global,
+    first: Statement<'a>,
+    text: Text<'a>,
+    last: u32,
+    scope: &Scope,
+) -> Result<Program<'a>, AsmFault>
+    ensures { Answers (λ p. p) result (read_after last scope.now first.entry text.entry) }
+{
+    let opened = Program::open(alloc, scope, Reader::of(first.words));
+    let program = at_line(first.line, opened)?;
+    read_rest(alloc, text, last, scope, program)
+}
+
+/// Reads the statements after others.
+fn read_rest<'a>(
+    alloc: Global,
+    text: Text<'a>,
+    last: u32,
+    scope: &Scope,
+    program: Program<'a>,
+) -> Result<Program<'a>, AsmFault>
+    ensures { Answers (λ p. p) result (read_rest last scope.now program.entry text.entry) }
+{
+    let mut text = text;
+    let mut program = program;
+    while let Some(statement) = text.next() {
+        let reader = Reader::of(statement.words);
+        at_line(statement.line, program.take(alloc, scope, reader, &text))?;
+    }
+    at_line(last, program.check_closed())?;
+    Ok(program)
+}
+
+/// The names of a text, which are not told apart yet.
+fn scope_of<'a>(alloc: Global, text: &Text<'a>) -> Result<Scope<'a>, AllocError>
+    ensures { IfOk result (λ s. s ≡ scope_of false text.now []) }
+{
+    Ok(Scope {
+        is_strict: false,
+        classes: declared_names(alloc, text.again(), Keyword::Class)?,
+        methods: declared_names(alloc, text.again(), Keyword::Method)?,
+        kinds: Items::from_vec(Vec::new(alloc)),
+    })
+}
+
+fn named<'a>(alloc: Global, text: &Text<'a>) -> Result<Scope<'a>, AsmFaultKind>
+    ensures { ReadsOrNoMemory (λ s. s) result (Ok (scope_of false text.now [])) }
+{
+    Ok(scope_of(alloc, text)?)
+}
+
+/// Reads the statements first, whatever the names, and then with the names.
+fn read_statements<'a>(alloc: Global, text: Text<'a>, last: u32) -> Result<Program<'a>, AsmFault>
+    ensures { Answers image_of result (read_statements last text.entry) }
+{
+    let mut scope = at_line(last, named(alloc, &text))?;
+    match read_program(alloc, text.again(), last, &scope) {
+        Ok(first) => {
+            scope.is_strict = true;
+            scope.kinds = first.into_classes();
+            read_program(alloc, text, last, &scope)
+        }
+        Err(fault) => Err(fault),
+    }
+}
+
+/// The last line of a text, and 1 where there is none.
+fn last_line_of(text: &[u8]) -> u32
+    requires { length text.now ≤ 2 ^ 20 }
+    ensures { result ≡ last_line_of text.now }
+{
+    last_line(text).max(1)
+}
+
+/// Reads a text that is not too long.
+fn read_text<'a>(alloc: Global, text: &'a [u8]) -> Result<Program<'a>, AsmFault>
+    ensures { Answers image_of result (denoted text.now) }
+{
+    if text.len() > MOST_BYTES {
+        return Err(AsmFault {
+            line: 1,
+            kind: AsmFaultKind::LimitPassed,
+        });
+    }
+    read_statements(alloc, Text::of(text), last_line_of(text))
+}
+
+/// The image that a text denotes. A text that denotes none has a fault, with the line of the first.
+pub fn assemble(alloc: Global, text: &[u8]) -> Result<Image, AsmFault>
+    ensures image { IfOk result (λ i. denoted text.now ≡ Ok i) }
+    ensures fault { IfErr result (λ e. e.kind ≢ OutOfMemory → (denoted text.now ≡ Err e) ⊎ NoImage (denoted text.now) e) }
+{
+    match read_text(alloc, text) {
+        Ok(program) => match program.into_image() {
+            Some(image) => Ok(image),
+            None => Err(AsmFault {
+                line: 1,
+                kind: AsmFaultKind::LimitPassed,
+            }),
+        },
+        Err(fault) => Err(fault),
+    }
+}

@@ -1,0 +1,220 @@
+//! A text while it is read.
+ghost use Rattle.std.specs.Prelude.{◌≡◌, ◌≤◌, ◌+◌, ◌^◌, [], None, count_by, IfOk, IfSome};
+ghost use Rattle.aom_image.specs.WellFormed.{is_server, WellFormed};
+ghost use Rattle.aom_syntax.specs.Reading.{Reads, ReadsOrNoMemory};
+ghost use Rattle.aom_asm.specs.Denoted.{grown, opened, with_class, with_heading, with_method, in_body, step, step_by, closed, image_of};
+
+use crate::body::Body;
+use crate::names::labels_of;
+use aom_image::{ClassDecl, Header, Image, Items, Method, form_ok};
+use aom_syntax::{Keyword, Reader, Scope};
+use aom_text::{AsmFaultKind, Text};
+use std::alloc::Global;
+use std::marker::Model;
+
+/// The most bytes of an image.
+const MOST_BYTES: usize = 1 << 20;
+
+/// What was read, and how many bytes will spell it.
+#[derive(Drop)]
+pub struct Program<'a> {
+    header: Header,
+    classes: Vec<ClassDecl>,
+    methods: Vec<Method>,
+    body: Option<Body<'a>>,
+    size: usize,
+}
+
+impl<'a> Model for Program<'a> {
+    ghost use Rattle.std.specs.Prelude.{◌≤◌, ◌^◌};
+    ghost use Rattle.aom_asm.specs.Body.{Program as ProgramRecord};
+
+    ghost Value = { ProgramRecord };
+
+    ghost view = { λ p. record { header = p.header; classes = p.classes.items; methods = p.methods.items; body = p.body; size = p.size } };
+
+    ghost invariant = { λ p. p.size ≤ 2 ^ 20 };
+}
+
+fn grown(bytes: usize, size: usize) -> Result<usize, AsmFaultKind>
+    requires bytes { bytes ≤ 28 }
+    requires size { size ≤ 2 ^ 20 }
+    ensures read { result ≡ grown bytes size }
+    ensures within { IfOk result (λ n. n ≤ 2 ^ 20) }
+{
+    if size + bytes <= MOST_BYTES {
+        Ok(size + bytes)
+    } else {
+        Err(AsmFaultKind::LimitPassed)
+    }
+}
+
+impl<'a> Program<'a> {
+    /// What the first statement says.
+    pub fn open(
+        alloc: Global,
+        scope: &Scope,
+        reader: Reader<'a>,
+    ) -> Result<Program<'a>, AsmFaultKind>
+        ensures { ReadsOrNoMemory (λ p. p) result (opened scope.now reader.entry) }
+    {
+        let mut reader = reader;
+        let header = reader.image_statement(scope)?;
+        Ok(Program {
+            header,
+            classes: Vec::new(alloc),
+            methods: Vec::new(alloc),
+            body: None,
+            size: 24,
+        })
+    }
+
+    fn servers(&self) -> usize
+        ensures { result ≡ count_by is_server self.now.classes }
+    {
+        self.classes
+            .iter()
+            .filter(|class| class.is_server())
+            .count()
+    }
+
+    fn add_class(
+        &mut self,
+        alloc: Global,
+        scope: &Scope,
+        reader: &mut Reader<'a>,
+    ) -> Result<(), AsmFaultKind>
+        ensures { ReadsOrNoMemory (λ _. self.new) result (with_class scope.now self.old reader.old) }
+    {
+        let place = self.classes.len();
+        if place >= 256 {
+            return Err(AsmFaultKind::LimitPassed);
+        }
+        let servers = self.servers();
+        let natives = self.header.natives;
+        let class = reader.class_statement(alloc, scope, natives, place, servers)?;
+        self.size = grown(28, self.size)?;
+        self.classes.push(class)?;
+        Ok(())
+    }
+
+    fn open_method(
+        &mut self,
+        alloc: Global,
+        scope: &Scope,
+        reader: &mut Reader<'a>,
+        text: &Text<'a>,
+    ) -> Result<(), AsmFaultKind>
+        ensures { ReadsOrNoMemory (λ _. self.new) result (with_heading scope.now text.now self.old reader.old) }
+    {
+        let place = self.methods.len();
+        if place >= 1024 {
+            return Err(AsmFaultKind::LimitPassed);
+        }
+        let heading = reader.heading(alloc, scope, place)?;
+        self.size = grown(24, self.size)?;
+        let labels = labels_of(alloc, text.again())?;
+        self.body = Some(Body::open(alloc, heading, labels));
+        Ok(())
+    }
+
+    fn go_on(
+        &mut self,
+        scope: &Scope,
+        body: Body<'a>,
+        reader: Reader<'a>,
+    ) -> Result<(), AsmFaultKind>
+        requires { self.old.body ≡ None }
+        ensures { ReadsOrNoMemory (λ _. self.new) result (in_body scope.now self.old body.entry reader.entry) }
+    {
+        let mut body = body;
+        let mut reader = reader;
+        if reader.took(Keyword::End) {
+            let method = body.close()?;
+            reader.nothing_more(false)?;
+            self.methods.push(method)?;
+            return Ok(());
+        }
+        body.add(scope, reader)?;
+        self.size = grown(8, self.size)?;
+        self.body = Some(body);
+        Ok(())
+    }
+
+    /// Adds what a statement says, before the statements that are left.
+    pub fn take(
+        &mut self,
+        alloc: Global,
+        scope: &Scope,
+        reader: Reader<'a>,
+        text: &Text<'a>,
+    ) -> Result<(), AsmFaultKind>
+        ensures { ReadsOrNoMemory (λ _. self.new) result (step scope.now text.now self.old reader.entry) }
+    {
+        match self.take_body() {
+            Some(body) => self.go_on(scope, body, reader),
+            None => self.declare(alloc, scope, reader, text),
+        }
+    }
+
+    /// The method that is open, which is open no more.
+    fn take_body(&mut self) -> Option<Body<'a>>
+        ensures body { result ≡ self.old.body }
+        ensures rest { self.new ≡ record self.old { body = None } }
+    {
+        self.body.take()
+    }
+
+    /// Adds a class, or the beginning of a method.
+    fn declare(
+        &mut self,
+        alloc: Global,
+        scope: &Scope,
+        reader: Reader<'a>,
+        text: &Text<'a>,
+    ) -> Result<(), AsmFaultKind>
+        ensures { ReadsOrNoMemory (λ _. self.new) result (step_by None scope.now text.now self.old reader.entry) }
+    {
+        let mut reader = reader;
+        match reader.any_keyword()? {
+            Keyword::Class => self.add_class(alloc, scope, &mut reader),
+            Keyword::Method => self.open_method(alloc, scope, &mut reader, text),
+            _ => Err(AsmFaultKind::BadShape),
+        }
+    }
+
+    /// Whether a text may end here.
+    pub fn check_closed(&self) -> Result<(), AsmFaultKind>
+        ensures { Reads (λ _. self.now) result (closed self.now) }
+    {
+        if self.body.is_some() {
+            Err(AsmFaultKind::BadShape)
+        } else if self.methods.is_empty() {
+            Err(AsmFaultKind::LimitPassed)
+        } else {
+            Ok(())
+        }
+    }
+
+    pub fn into_classes(self) -> Items<ClassDecl>
+        ensures { result ≡ self.entry.classes }
+    {
+        Items::from_vec(self.classes)
+    }
+
+    /// The image of what was read, if it is one.
+    pub fn into_image(self) -> Option<Image>
+        ensures image { IfSome result (λ i. i ≡ image_of self.entry) }
+        ensures none { result ≡ None → WellFormed (image_of self.entry) → ⊥ }
+    {
+        if form_ok(
+            &self.header,
+            self.classes.as_slice(),
+            self.methods.as_slice(),
+        ) {
+            Some(Image::make(self.header, self.classes, self.methods))
+        } else {
+            None
+        }
+    }
+}

@@ -1,0 +1,58 @@
+use crate::{Text, Turn};
+use aom_budget::{Accepted, accept};
+use aom_classes::link;
+use aom_image::{ClassNumber, decode};
+use aom_sound::{Ending, Line};
+use aom_verify::check;
+use std::alloc::Global;
+use std::test::Fail;
+
+/// A main that prints 7 and stops.
+const STOPS: [u8; 80] = [
+    0x41, 0x4f, 0x49, 0x4d, 0, 1, 0, 0, 0, 1, 0, 1, 0, 0, 0, 0, 0xff, 0xff, 0, 0, 0, 0, 0, 4, //
+    0xff, 0xff, 1, 0, 0, 0, 0, 0, 0, 0, 0, 0, 0, 0, 0, 0, 0, 0, 0, 0, 0xff, 0xff, 0, 4, //
+    1, 0, 0, 0, 0, 0, 0, 7, 0x13, 0, 0, 0, 0, 0, 0, 0, 0x30, 0, 0, 0, 0, 0, 0, 0, 0x22, 0, 0, 0, 0,
+    0, 0, 0,
+];
+
+fn accepted(alloc: Global, bytes: &[u8]) -> Option<Accepted> {
+    let image = decode(alloc, bytes).ok()?;
+    let linked = link(alloc, image).ok()?;
+    let checked = check(alloc, linked).ok()?;
+    accept(alloc, checked).ok()
+}
+
+#[test]
+fn a_line_has_a_text(rt: HostRuntime) {
+    let class = ClassNumber::new(255).unwrap();
+    for (line, text) in [
+        (Line::Main(0), "@0 main\n"),
+        (Line::Main(u64::MAX), "@18446744073709551615 main\n"),
+        (Line::Out(7), "out 7\n"),
+        (Line::Out(i32::MIN), "out -2147483648\n"),
+        (Line::Gone(class), "gone 255\n"),
+    ] {
+        assert_eq!(rt; Text::of_line(&line).as_bytes(), text.as_bytes());
+    }
+    let stopped = Text::of_end(Ending::Stopped, 0);
+    assert_eq!(rt; stopped.as_bytes(), b"end stopped cells 0\n".as_slice());
+    let waiting = Text::of_end(Ending::Waiting, 4096);
+    assert_eq!(rt; waiting.as_bytes(), b"end waiting cells 4096\n".as_slice());
+}
+
+#[test]
+fn a_turn_has_its_lines_and_its_refusals(rt: HostRuntime) -> Result<(), Fail> {
+    let Some(accepted) = accepted(rt.alloc(), &STOPS) else {
+        return Err(Fail::from("the image is not accepted"));
+    };
+    let mut turn = Turn::new(rt.alloc(), &accepted, vec![in rt.alloc(); 9, 2, 2]?)?;
+    for (number, refused) in [(1, false), (2, true), (3, false), (9, true), (10, false)] {
+        assert_eq!(rt; turn.is_refused(number), refused, "request {number}");
+    }
+    turn.push(Line::Out(1));
+    assert_eq!(rt; turn.lines().len(), 1);
+    assert!(rt; matches!(turn.lines().first(), Some(Line::Out(1))));
+    turn.clear();
+    assert!(rt; turn.lines().is_empty());
+    Ok(())
+}

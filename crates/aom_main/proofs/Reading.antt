@@ -1,0 +1,73 @@
+-- What `clap` answers of the words of a command line.
+use Rattle.std.proofs.Common.{◌≡◌, ◌∙◌, ℕ, Bool, true, false, ◌≤◌, List, [], Option, Some, None, Result, Ok, Err, option_map, unwrap_or, is_some, IsSome, refl, sym, ap, subst, arith}
+use Rattle.std.specs.Borrow.{Bor}
+use Rattle.std.specs.Fmt.{decimal}
+use Rattle.std.specs.Str.Parse.{ParsesUnsigned}
+use Rattle.std.proofs.lemmas.Fmt.{parse-decimal}
+use Rattle.clap.specs.Words.{ReadsOne, Row, Text, all_of, first_value, is_simple, matched_of, raw_values, rows_of}
+use Rattle.clap.specs.declared.parser.matches.Found.{Found}
+use Rattle.clap.specs.declared.parser.matches.MatchedArg.{MatchedArg}
+use Rattle.clap.proofs.OnLiterals.{clap_on_literals}
+use Rattle.clap.proofs.WalkLemmas.{first_value-rows, raw_values-rows}
+use Rattle.clap.specs.declared.error.kind.ErrorKind.{ErrorKind}
+use Rattle.clap.specs.declared.error.kind.ErrorKind.TheVariants.{OutOfMemory}
+use Rattle.aom_main.specs.declared.words.WordsFault.{WordsFault}
+use Rattle.aom_main.specs.declared.words.WordsFault.TheVariants as faults
+use Rattle.aom_main.specs.CommandLine.{IsCommand, Declines, Says, form, word_of}
+
+same : {E : Type 0} (v n : ℕ) (r : Result ℕ E) → r ≡ Ok v → r ≡ Ok n → Some v ≡ Some n
+same v n r a b = cc
+
+no_error : {E : Type 0} (e : E) (n : ℕ) (r : Result ℕ E) → r ≡ Err e → r ≡ Ok n → ⊥
+no_error e n r a b = cc
+
+-- a number in decimal is read as itself
+pub reads : {E : Type 0} (gives : List ℕ → Result ℕ E → Type 0) → ((bs : List ℕ) (r : Result ℕ E) → gives bs r → ParsesUnsigned 32 10 bs r)
+    → (n : ℕ) → n ≤ 1000000000 → (o : Option ℕ) → ReadsOne gives (decimal n) o → o ≡ Some n
+reads {E} gives parses n most (Some v) read = same {E = E} v n (Ok v) refl (parse-decimal 32 n (decimal n) (Ok v) (omega arith) (omega arith) refl (parses (decimal n) (Ok v) read))
+reads {E} gives parses n most None read = absurd (no_error {E = E} read.0 n (Err read.0) refl (parse-decimal 32 n (decimal n) (Err read.0) (omega arith) (omega arith) refl (parses (decimal n) (Err read.0) read.1)))
+
+-- the first word of a name, or none
+pub chosen : (f : Found) (id : Text) (o : Option (Bor Text)) (d r : Bor Text) → r ≡ unwrap_or o d → d.now ≡ [] → option_map (λ s. s.now) o ≡ first_value f id
+    → r.now ≡ word_of id (rows_of f)
+chosen f id o d r is empty found = ap (λ (s : Bor Text). s.now) is ∙ read o d empty ∙ ap (λ t. unwrap_or t []) (found ∙ first_value-rows f id)
+  where
+    read : (o : Option (Bor Text)) (d : Bor Text) → d.now ≡ [] → (unwrap_or o d).now ≡ unwrap_or (option_map (λ s. s.now) o) []
+    read None d e = e
+    read (Some s) d e = refl
+
+some_raw : (o : Option MatchedArg) → is_some o ≡ true → IsSome (option_map raw_values o)
+some_raw None e = absurd cc
+some_raw (Some a) e = refl
+
+no_raw : (o : Option MatchedArg) → is_some o ≡ false → option_map raw_values o ≡ None
+no_raw None e = refl
+no_raw (Some a) e = absurd cc
+
+-- whether words were found for a name
+pub there : (f : Found) (id : Text) (b : Bool) → b ≡ is_some (matched_of f id) → b ≡ true → IsSome (all_of id (rows_of f))
+there f id b is found = subst IsSome (raw_values-rows f id) (some_raw (matched_of f id) (sym is ∙ found))
+
+pub absent : (f : Found) (id : Text) (b : Bool) → b ≡ is_some (matched_of f id) → b ≡ false → all_of id (rows_of f) ≡ None
+absent f id b is missing = sym (raw_values-rows f id) ∙ no_raw (matched_of f id) (sym is ∙ missing)
+
+-- without a command there is none
+pub nothing_met : (met : Option (Text × List Row)) → None ≡ option_map (λ p. p.1) met → true ≡ true → IsCommand met → ⊥
+nothing_met None e taken is = is
+nothing_met (Some m) e taken is = absurd cc
+
+-- the exact matches of `clap` are there for this form
+pub simple : is_simple form ≡ true
+unfolding clap_on_literals
+simple = refl
+
+-- what `clap` takes, and what it does not
+pub declines : (taken : Bool) (met : Option (Text × List Row)) (fault : WordsFault) → Declines true met fault → Declines taken met fault
+declines taken met (faults.Text text) d = λ is command. d refl command
+declines taken met faults.Native d = d
+declines taken met faults.Memory d = d
+
+pub says : (taken : Bool) (met : Option (Text × List Row)) (kind : ErrorKind) (fault : WordsFault) → Says kind fault → (taken ≡ true → kind ≡ OutOfMemory) → Declines taken met fault
+says taken met kind (faults.Text text) s passes = λ is command. s (passes is)
+says taken met kind faults.Native s passes = absurd s
+says taken met kind faults.Memory s passes = s

@@ -1,0 +1,19 @@
+-- The number that `clap` reads is in its range, and stays as it is.
+use Rattle.std.proofs.Common.{rules, ◌≡◌, ◌∙◌, ap, arith, unwrap_or, codes}
+use Rattle.std.specs.Fmt.{decimal}
+use Rattle.std.specs.Str.Parse.{ParsesUnsigned, ExplainsUnsignedError, HasUnsignedDigitsIfOk}
+use Rattle.clap.specs.Words.{found_of}
+use Rattle.clap.proofs.WalkLemmas.{one_text-rows}
+use Rattle.aom_main.proofs.Reading.{reads}
+use Rattle.aom_main.proofs.words.limit_of.Goals as goal
+
+pub returns : goal.returns
+returns c = record {
+  least = search rules;
+  most = search rules;
+  is = λ n least most text.
+      let read = reads (λ bs r. ParsesUnsigned 32 10 bs r × ExplainsUnsignedError 10 bs r × HasUnsignedDigitsIfOk bs r) (λ bs r g. g.0) n most c.get_one.result (c.get_one.ensures.value (decimal n) (one_text-rows (found_of c.args.own.now) (codes "limit") ∙ text)) in
+      let limit : c.unwrap_or-limit.result ≡ n = c.unwrap_or-limit.ensures ∙ ap (λ o. unwrap_or o 1000000) read in
+      let clamped = c.clamp.ensures in
+      omega (arith, limit, clamped);
+}

@@ -1,0 +1,100 @@
+-- The form of a command line as `clap` reads it, and what is asked by one.
+use Rattle.std.specs.Prelude.{ℕ, ◌≡◌, ◌≢◌, ◌≤◌, ◌⊎◌, String, Bool, true, List, [], ◌∷◌, map, Option, Some, None, codes, unwrap_or, IsSome, pos}
+use Rattle.std.specs.String.{string_bytes}
+use Rattle.std.specs.Fmt.{decimal}
+use Rattle.clap.specs.Lexer.{usize_max}
+use Rattle.clap.specs.Words.{App, Row, Rule, Text, first_of, one_of, all_of, new_app, new_rule, with_rule, with_subcommand}
+use Rattle.clap.specs.declared.builder.action.ArgAction.TheVariants.{Append}
+use Rattle.clap.specs.declared.builder.value_parser.ValueParser.TheVariants.{Signed}
+use Rattle.clap.specs.declared.error.kind.ErrorKind.{ErrorKind}
+use Rattle.clap.specs.declared.error.kind.ErrorKind.TheVariants.{OutOfMemory}
+use Rattle.aom_main.specs.declared.words.Words.{Words}
+use Rattle.aom_main.specs.declared.words.Words.TheVariants.{Check, Run}
+use Rattle.aom_main.specs.declared.words.WordsFault.{WordsFault}
+use Rattle.aom_main.specs.declared.words.WordsFault.TheVariants as faults
+
+-- the name of a file, which must be there
+abbrev pub file_rule : Text → Rule
+file_rule id = record (new_rule id) { required = true }
+
+-- `--limit N`, a number from 1 to 10^9; where it is left out, 1000000
+abbrev pub limit_rule : Rule
+limit_rule =
+    record (new_rule (codes "limit")) {
+      long = Some (codes "limit");
+      value_names = 1;
+      parser = Some (Signed (pos 1) (pos 1000000000));
+      defaults = codes "1000000" ∷ [];
+    }
+
+-- any number of words at the end
+abbrev pub native_rule : Rule
+native_rule =
+    record (new_rule (codes "NATIVE")) {
+      action = Some Append;
+      range = Some (record { start_inclusive = 0; end_inclusive = usize_max });
+    }
+
+-- check IMAGE
+abbrev pub check_form : App
+check_form = with_rule (new_app (codes "check")) (file_rule (codes "IMAGE"))
+
+-- run [--limit N] IMAGE SCRIPT [NATIVE]..
+abbrev pub run_form : App
+run_form = with_rule (with_rule (with_rule (with_rule (new_app (codes "run")) limit_rule) (file_rule (codes "IMAGE"))) (file_rule (codes "SCRIPT"))) native_rule
+
+-- the program's name, and one of these
+abbrev pub bare_form : App
+bare_form = record { top = record (new_app (codes "aom")).top { subcommand_required = true }; subs = [] }
+
+abbrev pub form : App
+form = with_subcommand (with_subcommand bare_form check_form.top) run_form.top
+
+-- the texts of words
+abbrev pub texts_of : {A : Type 0} → List (String A) → List Text
+texts_of words = map (λ w. string_bytes w) words
+
+-- the first word that was found for that name, or none
+abbrev pub word_of : Text → List Row → Text
+word_of id rows = unwrap_or (first_of id rows) []
+
+-- the limit is from 1 to 10^9, and it is the number that its text is
+pub record IsLimit (text : Option Text) (limit : ℕ) : Type 0 where
+  pub least : 1 ≤ limit
+  pub most : limit ≤ 1000000000
+  pub is : (n : ℕ) → 1 ≤ n → n ≤ 1000000000 → text ≡ Some (decimal n) → limit ≡ n
+
+-- a command and the words found for it ask this; no native is known yet
+abbrev pub Asks : Option (Text × List Row) → Words → Type 0
+Asks None words = ⊥
+Asks (Some met) (Check image) = (met.0 ≡ codes "check") × (string_bytes image ≡ word_of (codes "IMAGE") met.1)
+Asks (Some met) (Run image script limit) =
+    (met.0 ≡ codes "run") × (string_bytes image ≡ word_of (codes "IMAGE") met.1) × (string_bytes script ≡ word_of (codes "SCRIPT") met.1)
+    × IsLimit (one_of (codes "limit") met.1) limit × (all_of (codes "NATIVE") met.1 ≡ None)
+
+-- it is one of the program's commands
+abbrev pub IsCommand : Option (Text × List Row) → Type 0
+IsCommand None = ⊥
+IsCommand (Some met) = (met.0 ≡ codes "check") ⊎ (met.0 ≡ codes "run")
+
+-- it is a run with natives
+abbrev pub NamesNatives : Option (Text × List Row) → Type 0
+NamesNatives None = ⊥
+NamesNatives (Some met) = (met.0 ≡ codes "run") × IsSome (all_of (codes "NATIVE") met.1)
+
+-- why words ask nothing: `clap` does not take them, or they name natives, or memory is wanting
+abbrev pub Declines : Bool → Option (Text × List Row) → WordsFault → Type 0
+Declines taken met (faults.Text text) = taken ≡ true → IsCommand met → ⊥
+Declines taken met faults.Native = NamesNatives met
+Declines taken met faults.Memory = Unit {0}
+
+-- what is made of an error of `clap`
+abbrev pub Says : ErrorKind → WordsFault → Type 0
+Says kind (faults.Text text) = kind ≢ OutOfMemory
+Says kind faults.Native = ⊥
+Says kind faults.Memory = Unit {0}
+
+-- what is known of the limit of a run
+abbrev pub KeepsLimit : Words → Type 0
+KeepsLimit (Check image) = Unit {0}
+KeepsLimit (Run image script limit) = (1 ≤ limit) × (limit ≤ 1000000000)

@@ -1,0 +1,138 @@
+-- The cells that go are as many as the destructions at hand.
+use Rattle.std.proofs.Common.{◌≡◌, ◌≤◌, ◌+◌, ◌∙◌, ℕ, suc, Bool, true, false, cond, List, [], ◌∷◌, length, Option, Some, None, refl, sym, ap, arith, subst}
+use Rattle.std.specs.Prelude.{◌==◌, ◌&&◌, ◌||◌}
+use Rattle.std.proofs.lemmas.Bool.{eqb-true, ne_eqb}
+use Rattle.aom_image.specs.Image.{Image}
+use Rattle.aom_shape.specs.Typing.{Typing}
+use Rattle.aom_shape.specs.declared.kind.Age.TheVariants.{Ready}
+use Rattle.aom_shape.specs.declared.kind.Kind.TheVariants.{Null, Own}
+use Rattle.aom_sound.proofs.Maps.{held_without, same_place-true, same_place_refl, tidy_without}
+use Rattle.aom_sound.specs.Claims.{Dispatching, Dying, Layer, Mark, Method, claim, declared, tasks_of}
+use Rattle.aom_sound.specs.Places.{Cell, Elsewhere, Entry, Field, Going, Object, Place, Register, Tidy, held, same_place, without}
+use Rattle.aom_sound.specs.State.{State}
+use Rattle.aom_sound.specs.WellTyped.{Back, Caught, Fits, Gone, Now, Returns, Stack, WellTyped}
+use Rattle.aom_ranks.specs.Ranks.{destructions, is_going, standing}
+
+-- ---- cells
+
+none_there : (c : Cell) (cs : List Cell) (g : Place) → held (c ∷ cs) g ≡ None → (same_place c.owner g ≡ false) × (held cs g ≡ None)
+none_there c cs g e = go (same_place c.owner g) refl e
+  where
+    go : (b : Bool) → same_place c.owner g ≡ b → cond b (Some c.object) (held cs g) ≡ None → (same_place c.owner g ≡ false) × (held cs g ≡ None)
+    go true s e = cc
+    go false s e = (s, e)
+
+all_stand : (cs : List Cell) → ((k : ℕ) → held cs (Going k) ≡ None) → standing cs ≡ length cs
+all_stand [] none = refl
+all_stand (c ∷ cs) none = here c.owner refl (all_stand cs (λ k. (none_there c cs (Going k) (none k)).1))
+  where
+    here : (r : Place) → c.owner ≡ r → standing cs ≡ length cs → cond (is_going r) (standing cs) (suc (standing cs)) ≡ suc (length cs)
+    here (Register f i) e ih = ap suc ih
+    here (Entry k) e ih = ap suc ih
+    here (Field n f) e ih = ap suc ih
+    here (Elsewhere o) e ih = ap suc ih
+    here (Going k) e ih = absurd (clash (sym (ap (λ r. same_place r (Going k)) e ∙ same_place_refl (Going k)) ∙ (none_there c cs (Going k) (none k)).0))
+      where
+        clash : true ≡ false → ⊥
+        clash h = cc
+
+still_stand : (k : ℕ) (cs : List Cell) → standing (without (Going k) cs) ≡ standing cs
+still_stand k [] = refl
+still_stand k (c ∷ cs) = here (same_place c.owner (Going k)) refl (still_stand k cs)
+  where
+    here : (b : Bool) → same_place c.owner (Going k) ≡ b → standing (without (Going k) cs) ≡ standing cs → standing (cond b (without (Going k) cs) (c ∷ without (Going k) cs)) ≡ cond (is_going c.owner) (standing cs) (suc (standing cs))
+    here true e ih = ih ∙ ap (λ b. cond b (standing cs) (suc (standing cs))) (sym (ap is_going (same_place-true c.owner (Going k) e)))
+    here false e ih = ap (λ n. cond (is_going c.owner) n (suc n)) ih
+
+none_without : (g : Place) (cs : List Cell) → held cs g ≡ None → length (without g cs) ≡ length cs
+none_without g [] e = refl
+none_without g (c ∷ cs) e =
+    let parts = none_there c cs g e in
+    ap (λ b. length (cond b (without g cs) (c ∷ without g cs))) parts.0 ∙ ap suc (none_without g cs parts.1)
+
+one_without : (g : Place) (cs : List Cell) (o : Object) → Tidy cs → held cs g ≡ Some o → suc (length (without g cs)) ≡ length cs
+one_without g [] o t e = cc
+one_without g (c ∷ cs) o t e = here (same_place c.owner g) refl (λ h. one_without g cs o t.2 h) e
+  where
+    here : (b : Bool) → same_place c.owner g ≡ b → (held cs g ≡ Some o → suc (length (without g cs)) ≡ length cs) → cond b (Some c.object) (held cs g) ≡ Some o → suc (length (cond b (without g cs) (c ∷ without g cs))) ≡ suc (length cs)
+    here true s ih e = ap suc (none_without g cs (ap (λ r. held cs r) (sym (same_place-true c.owner g s)) ∙ t.0))
+    here false s ih e = ap suc (ih e)
+
+-- ---- layers
+
+-- whether a destruction stands at that depth
+abbrev goes_at : List Layer → ℕ → Bool
+goes_at [] k = false
+goes_at (Method fr sh ∷ ls) k = goes_at ls k
+goes_at (Mark gv ∷ ls) k = goes_at ls k
+goes_at (Dying o ∷ ls) k = (length (tasks_of ls) == k) || goes_at ls k
+goes_at (Dispatching d ∷ ls) k = goes_at ls k
+
+-- each destruction has its cell
+abbrev Dying_held : List Cell → List Layer → Type 0
+Dying_held cs [] = Unit {0}
+Dying_held cs (Method fr sh ∷ ls) = Dying_held cs ls
+Dying_held cs (Mark gv ∷ ls) = Dying_held cs ls
+Dying_held cs (Dying o ∷ ls) = (held cs (Going (length (tasks_of ls))) ≡ Some o) × Dying_held cs ls
+Dying_held cs (Dispatching d ∷ ls) = Dying_held cs ls
+
+other_depth : (cs : List Cell) (n k : ℕ) → (n == k) ≡ false → held (without (Going n) cs) (Going k) ≡ held cs (Going k)
+other_depth cs n k e = held_without cs (Going n) (Going k) ∙ ap (λ b. cond ((3 == 3) && (b && (0 == 0))) None (held cs (Going k))) e
+
+same_depth : (cs : List Cell) (n : ℕ) → held (without (Going n) cs) (Going n) ≡ None
+same_depth cs n = held_without cs (Going n) (Going n) ∙ ap (λ b. cond b None (held cs (Going n))) (same_place_refl (Going n))
+
+held_below : (cs : List Cell) (n : ℕ) (ls : List Layer) → length (tasks_of ls) ≤ n → Dying_held cs ls → Dying_held (without (Going n) cs) ls
+held_below cs n [] le h = tt
+held_below cs n (Method fr sh ∷ ls) le h = held_below cs n ls (omega (arith, le)) h
+held_below cs n (Mark gv ∷ ls) le h = held_below cs n ls (omega (arith, le)) h
+held_below cs n (Dying o ∷ ls) le h = (other_depth cs n (length (tasks_of ls)) (ne_eqb n (length (tasks_of ls)) (λ e. absurd (omega (arith, le, e)))) ∙ h.0, held_below cs n ls (omega (arith, le)) h.1)
+held_below cs n (Dispatching d ∷ ls) le h = held_below cs n ls (omega (arith, le)) h
+
+counted_cells : (ls : List Layer) (cs : List Cell) → Tidy cs → Dying_held cs ls → ((k : ℕ) → goes_at ls k ≡ false → held cs (Going k) ≡ None) → standing cs + destructions (tasks_of ls) ≡ length cs
+counted_cells [] cs t h none = omega (arith, all_stand cs (λ k. none k refl))
+counted_cells (Method fr sh ∷ ls) cs t h none = counted_cells ls cs t h none
+counted_cells (Mark gv ∷ ls) cs t h none = counted_cells ls cs t h none
+counted_cells (Dispatching d ∷ ls) cs t h none = counted_cells ls cs t h none
+counted_cells (Dying o ∷ ls) cs t h none =
+    let n = length (tasks_of ls) in
+    let ih = counted_cells ls (without (Going n) cs) (tidy_without cs (Going n) t) (held_below cs n ls (omega arith) h.1) (λ k e. left_none k (n == k) refl e) in
+    omega (arith, ih, still_stand n cs, one_without (Going n) cs o t h.0)
+  where
+    left_none : (k : ℕ) (b : Bool) → (length (tasks_of ls) == k) ≡ b → goes_at ls k ≡ false → held (without (Going (length (tasks_of ls))) cs) (Going k) ≡ None
+    left_none k true e f = subst (λ j. held (without (Going (length (tasks_of ls))) cs) (Going j) ≡ None) (eqb-true (length (tasks_of ls)) k e) (same_depth cs (length (tasks_of ls)))
+    left_none k false e f = other_depth cs (length (tasks_of ls)) k e ∙ none k (ap (λ b. b || goes_at ls k) e ∙ f)
+
+-- ---- well-typed states
+
+stack_held : (p : Image) (t : Typing) (cs : List Cell) (back : Back) (ls : List Layer) → Stack p t cs back ls → Dying_held cs ls
+stack_held p t cs back [] h = tt
+stack_held p t cs back (Method fr sh ∷ ls) h = stack_held p t cs (Returns fr.method fr.home) ls h.4
+stack_held p t cs back (Mark gv ∷ ls) h = stack_held p t cs (Caught gv) ls h.1
+stack_held p t cs back (Dying o ∷ ls) h = (h.0.1, stack_held p t cs Gone ls h.2)
+stack_held p t cs back (Dispatching d ∷ []) h = tt
+stack_held p t cs back (Dispatching d ∷ l ∷ ls) h = absurd (more h.1)
+  where
+    more : l ∷ ls ≡ [] → ⊥
+    more e = cc
+
+claims_none : (p : Image) (cs : List Cell) (ls : List Layer) (k : ℕ) → goes_at ls k ≡ false → claim p (declared p cs) ls (Going k) ≡ Null
+claims_none p cs [] k e = refl
+claims_none p cs (Method fr sh ∷ ls) k e = claims_none p cs ls k e
+claims_none p cs (Mark gv ∷ ls) k e = claims_none p cs ls k e
+claims_none p cs (Dispatching d ∷ ls) k e = claims_none p cs ls k e
+claims_none p cs (Dying o ∷ ls) k e = here (length (tasks_of ls) == k) refl (λ h. claims_none p cs ls k h) e
+  where
+    here : (b : Bool) → (length (tasks_of ls) == k) ≡ b → (goes_at ls k ≡ false → claim p (declared p cs) ls (Going k) ≡ Null) → (b || goes_at ls k) ≡ false → claim p (declared p cs) (Dying o ∷ ls) (Going k) ≡ Null
+    here true s ih e = cc
+    here false s ih e = ap (λ b. cond b (Own o.thing Ready) (claim p (declared p cs) ls (Going k))) s ∙ ih e
+
+nothing_of_null : (p : Image) (h : Place → Option Object) (o : Option Object) → Fits p h o Null → o ≡ None
+nothing_of_null p h None f = refl
+nothing_of_null p h (Some o) f = absurd f
+
+pub cells_stand_or_go : (p : Image) (t : Typing) (s : State) → WellTyped p t s → standing s.cells + destructions s.tasks ≡ length s.cells
+cells_stand_or_go p t s w =
+    subst (λ ts. standing s.cells + destructions ts ≡ length s.cells) (sym w.tasks)
+    (counted_cells w.layers s.cells w.good.tidy (stack_held p t s.cells Now w.layers w.good.stack)
+    (λ k e. nothing_of_null p (held s.cells) (held s.cells (Going k)) (subst (λ x. Fits p (held s.cells) (held s.cells (Going k)) x) (claims_none p s.cells w.layers k e) (w.good.fits (Going k)))))

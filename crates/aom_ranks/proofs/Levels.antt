@@ -1,0 +1,135 @@
+-- What a run of a method costs those that begin it.
+use Rattle.std.proofs.Common.{◌≡◌, ◌<◌, ◌≤◌, ◌+◌, ◌*◌, ◌^◌, ◌∙◌, ℕ, zero, suc, Bool, true, false, cond, List, [], ◌∷◌, length, Option, Some, None, slice_get, refl, ap, arith, subst}
+use Rattle.std.specs.Prelude.{All, get_or, position}
+use Rattle.std.proofs.lemmas.List.Elements.{All-get_or}
+use Rattle.std.proofs.lemmas.List.Quantifiers.{position-Some}
+use Rattle.std.proofs.lemmas.Option.{slice_get_within, slice_get-get_or, get_or_from_slice_get}
+use Rattle.aom_image.specs.Image.{Image}
+use Rattle.aom_image.specs.Views.{is_quiet, method_at, quiet_in}
+use Rattle.aom_image.specs.declared.instr.Instr.TheVariants.{Call}
+use Rattle.aom_image.specs.declared.instr.Target.{Target}
+use Rattle.aom_image.specs.declared.method.Method.{Method}
+use Rattle.aom_image.specs.declared.method.Role.{Role}
+use Rattle.aom_image.specs.declared.method.Role.TheVariants.{Accept, Cancel, Construct, Destruct, Do, Error, Main, Run as To_run, Service, Undo}
+use Rattle.aom_image.specs.declared.method.Thing.{Thing}
+use Rattle.aom_image.specs.declared.method.Thing.TheVariants.{Object as An_object_of, Message}
+use Rattle.aom_classes.specs.Calls.{CallsOrdered, RunsBelow}
+use Rattle.aom_classes.specs.Linked.{IsLinked}
+use Rattle.aom_classes.specs.Roles.{is_class, plays, role_number, role_of, same_role}
+use Rattle.aom_roles.specs.Shapes.{HasShape, IsShaped, kind_of}
+use Rattle.aom_classes.proofs.Each.{both}
+use Rattle.aom_classes.proofs.Facts.{at_place}
+use Rattle.aom_sound.specs.Destruction.{begun, begun_by, destructor_of}
+use Rattle.aom_sound.specs.Places.{Object}
+use Rattle.aom_sound.specs.State.{Task}
+use Rattle.aom_ranks.specs.Ranks.{all_left, base, cell_rank, left_in, level, price, tasks_rank, waiting_rank}
+use Rattle.aom_ranks.specs.Within.{left}
+use Rattle.aom_ranks.proofs.Sums.{pow_more, pow_some, pow_step, pow_twice, whole_run}
+
+-- what holds of each element holds of one
+pub all_at : {X : Type 0} (P : X → Type 0) (xs : List X) (k : ℕ) (x : X) → All P xs → slice_get xs k ≡ Some x → P x
+all_at P xs k x h e = subst P (get_or_from_slice_get xs k x x e) (All-get_or P xs k x (slice_get_within xs k x e) h)
+
+left_below : (ms : List Method) (k : ℕ) (m : Method) → slice_get ms k ≡ Some m → left m.code [] 0 ≤ all_left ms
+left_below [] k m e = cc
+left_below (x ∷ ms) zero m e = let same : x ≡ m = cc in let is : left x.code [] 0 ≡ left m.code [] 0 = ap (λ (y : Method). left y.code [] 0) same in omega (arith, is)
+left_below (x ∷ ms) (suc k) m e = omega (arith, left_below ms k m e)
+
+left_at_begin : (p : Image) (m : ℕ) → left_in (method_at p m) [] 0 ≤ all_left p.methods
+unfolding method_at
+left_at_begin p m = go (slice_get p.methods m) refl
+  where
+    go : (o : Option Method) → slice_get p.methods m ≡ o → left_in o [] 0 ≤ all_left p.methods
+    go None e = omega arith
+    go (Some d) e = left_below p.methods m d e
+
+pub price_some : (p : Image) (m : ℕ) → 1 ≤ price p m
+price_some p m = pow_some (all_left p.methods) (level p m)
+
+pub cell_some : (p : Image) → 1 ≤ cell_rank p
+cell_some p = pow_some (all_left p.methods) (length p.methods)
+
+-- a whole run of a method and one more is paid by a move of a higher level
+pub run_paid : (p : Image) (m : ℕ) (n : ℕ) → level p m < n → left_in (method_at p m) [] 0 * price p m + 1 ≤ base p ^ n
+run_paid p m n lower =
+    let whole = whole_run (left_in (method_at p m) [] 0) (all_left p.methods) (price p m) (left_at_begin p m) (price_some p m) in
+    let step : base p ^ suc (level p m) ≡ base p * price p m = pow_step (all_left p.methods) (level p m) in
+    let more : base p ^ suc (level p m) ≤ base p ^ n = pow_more (all_left p.methods) (suc (level p m)) n (omega (arith, lower)) in
+    omega (arith, whole, step, more)
+
+-- what is called has a lower level
+pub called_lower : (p : Image) (m m' : ℕ) → m' < m → (is_quiet p m ≡ true → is_quiet p m' ≡ true) → level p m' < level p m
+called_lower p m m' below quiet = go (is_quiet p m) (is_quiet p m') quiet
+  where
+    go : (b c : Bool) → (b ≡ true → c ≡ true) → cond c m' (suc (length p.methods) + m') < cond b m (suc (length p.methods) + m)
+    go true true h = below
+    go true false h = let clash = h refl in cc
+    go false true h = omega (arith, below)
+    go false false h = omega (arith, below)
+
+-- a move of a method that is not quiet pays for a cell
+pub cell_paid : (p : Image) (m : ℕ) → is_quiet p m ≡ false → cell_rank p + cell_rank p ≤ price p m
+cell_paid p m loud =
+    let is : level p m ≡ suc (length p.methods) + m = ap (λ b. cond b m (suc (length p.methods) + m)) loud in
+    let twice : cell_rank p + cell_rank p ≤ base p ^ suc (length p.methods) = pow_twice (all_left p.methods) (length p.methods) in
+    let more : base p ^ suc (length p.methods) ≤ base p ^ level p m = pow_more (all_left p.methods) (suc (length p.methods)) (level p m) (omega (arith, is)) in
+    omega (arith, twice, more)
+
+-- ---- destructors
+
+is_destruct : (r : Role) → same_role r Destruct ≡ true → r ≡ Destruct
+unfolding role_number
+is_destruct Do e = cc
+is_destruct Main e = cc
+is_destruct Construct e = cc
+is_destruct Destruct e = refl
+is_destruct To_run e = cc
+is_destruct Cancel e = cc
+is_destruct Error e = cc
+is_destruct Accept e = cc
+is_destruct Service e = cc
+is_destruct Undo e = cc
+
+record IsQuietThere (p : Image) (m : ℕ) : Type 0 where
+  within : m < length p.methods
+  quiet : is_quiet p m ≡ true
+
+-- a destructor is a quiet method of the image
+quiet_destructor : (p : Image) → IsLinked p → (c m : ℕ) → role_of p c Destruct ≡ Some m → IsQuietThere p m
+unfolding role_of plays method_at quiet_in
+quiet_destructor p linked c m e = go p.methods refl e
+  where
+    go : (ms : List Method) → p.methods ≡ ms → position (plays c Destruct) ms ≡ Some m → IsQuietThere p m
+    go [] same e = cc
+    go (x ∷ ms) same e =
+        let w = position-Some (plays c Destruct) (x ∷ ms) m x e in
+        let d = get_or (x ∷ ms) m x in
+        let there : slice_get p.methods m ≡ Some d = ap (λ l. slice_get l m) same ∙ slice_get-get_or (x ∷ ms) m x w.0 in
+        let role : d.role ≡ Destruct = is_destruct d.role (both (is_class c d.class) (same_role d.role Destruct) w.1).1 in
+        let shaped : IsShaped p d = all_at (IsShaped p) p.methods m d linked.shapes there in
+        let shape : HasShape Destruct (kind_of p d.class) d = subst (λ r. HasShape r (kind_of p d.class) d) role shaped.role in
+        record { within = slice_get_within p.methods m d there; quiet = ap quiet_in there ∙ shape.flags }
+
+-- a destruction that begins is paid by its cell
+pub begun_paid : (p : Image) → IsLinked p → (o : Object) (height : ℕ) (below : List Task) → tasks_rank p (begun p o height below) ≤ cell_rank p + waiting_rank p below
+begun_paid p linked o height below = go (destructor_of p o.thing) (of_thing o.thing)
+  where
+    of_thing : (t : Thing) (m : ℕ) → destructor_of p t ≡ Some m → IsQuietThere p m
+    of_thing (An_object_of c) m e = quiet_destructor p linked c m e
+    of_thing Message m e = cc
+
+    go : (d : Option ℕ) → ((m : ℕ) → d ≡ Some m → IsQuietThere p m) → tasks_rank p (begun_by d o height below) ≤ cell_rank p + waiting_rank p below
+    go None h = omega (arith, cell_some p)
+    go (Some m) h =
+        let w = h m refl in
+        let is : level p m ≡ m = ap (λ b. cond b m (suc (length p.methods) + m)) w.quiet in
+        let paid : left_in (method_at p m) [] 0 * price p m + 1 ≤ cell_rank p = run_paid p m (length p.methods) (omega (arith, is, w.within)) in
+        omega (arith, paid)
+
+-- a called method comes before
+pub called_before : (p : Image) → IsLinked p → (m place : ℕ) (d : Method) (target : Target) (m' first c : ℕ) → method_at p m ≡ Some d → slice_get d.code place ≡ Some (Call target m' first c) → m' < m
+unfolding method_at
+called_before p linked m place d target m' first c is stands =
+    let ordered : CallsOrdered p m d = at_place (CallsOrdered p) p.methods m d linked.calls is in
+    let runs : RunsBelow p m d.class (Call target m' first c) = all_at (RunsBelow p m d.class) d.code place (Call target m' first c) ordered.code stands in
+    runs.below

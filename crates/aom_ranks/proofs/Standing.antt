@@ -1,0 +1,90 @@
+-- How many cells stand, after each change of the cells.
+use Rattle.std.proofs.Common.{◌≡◌, ◌≤◌, ◌∙◌, ℕ, ℤ, suc, Bool, true, false, cond, List, [], ◌∷◌, length, Some, refl, ap, arith}
+use Rattle.aom_image.specs.Image.{Image}
+use Rattle.aom_image.specs.declared.method.Argument.{Argument}
+use Rattle.aom_image.specs.declared.method.Argument.TheVariants.{Word as Takes_word, Own as Takes_own}
+use Rattle.aom_image.specs.declared.method.Gives.{Gives}
+use Rattle.aom_image.specs.declared.method.Gives.TheVariants.{Nothing, Word as A_word, Own as An_own, Maybe as A_maybe, Left}
+use Rattle.aom_image.specs.declared.method.Thing.{Thing}
+use Rattle.aom_sound.specs.Places.{Cell, Going, Object, Place, Register, held, moved, same_place, set_word_field, with_new, without}
+use Rattle.aom_sound.specs.State.{AtRoot, Frame, Home, Inside, Run, State, Static, Task, field_place}
+use Rattle.aom_sound.specs.Calls.{passed_cells, result_cells}
+use Rattle.aom_sound.specs.Words.{stored}
+use Rattle.aom_sound.proofs.Maps.{same_place-true}
+use Rattle.aom_ranks.specs.Ranks.{is_going, standing}
+
+-- what moves from a place of a cell that stood
+pub standing_moved : (from to : Place) (cs : List Cell) → is_going from ≡ false → standing (moved from to cs) ≤ standing cs
+standing_moved from to [] e = omega arith
+standing_moved from to (c ∷ cs) e = here (same_place c.owner from) refl (standing_moved from to cs e)
+  where
+    some : (b : Bool) (x y : ℕ) → x ≤ y → cond b x (suc x) ≤ suc y
+    some true x y le = omega (arith, le)
+    some false x y le = omega (arith, le)
+
+    same : (b : Bool) (x y : ℕ) → x ≤ y → cond b x (suc x) ≤ cond b y (suc y)
+    same true x y le = le
+    same false x y le = omega (arith, le)
+
+    here : (b : Bool) → same_place c.owner from ≡ b → standing (moved from to cs) ≤ standing cs → cond (is_going (cond b to c.owner)) (standing (moved from to cs)) (suc (standing (moved from to cs))) ≤ cond (is_going c.owner) (standing cs) (suc (standing cs))
+    here true s le = rw (ap is_going (same_place-true c.owner from s) ∙ e) (some (is_going to) (standing (moved from to cs)) (standing cs) le)
+    here false s le = same (is_going c.owner) (standing (moved from to cs)) (standing cs) le
+
+-- what is there begins to go
+pub standing_goes : (from : Place) (k : ℕ) (o : Object) (cs : List Cell) → is_going from ≡ false → held cs from ≡ Some o → suc (standing (moved from (Going k) cs)) ≤ standing cs
+standing_goes from k o [] e there = cc
+standing_goes from k o (c ∷ cs) e there = here (same_place c.owner from) refl (standing_moved from (Going k) cs e) (standing_goes from k o cs e) there
+  where
+    same : (b : Bool) (x y : ℕ) → suc x ≤ y → suc (cond b x (suc x)) ≤ cond b y (suc y)
+    same true x y le = le
+    same false x y le = omega (arith, le)
+
+    here : (b : Bool) → same_place c.owner from ≡ b → standing (moved from (Going k) cs) ≤ standing cs → (held cs from ≡ Some o → suc (standing (moved from (Going k) cs)) ≤ standing cs) → cond b (Some c.object) (held cs from) ≡ Some o → suc (cond (is_going (cond b (Going k) c.owner)) (standing (moved from (Going k) cs)) (suc (standing (moved from (Going k) cs)))) ≤ cond (is_going c.owner) (standing cs) (suc (standing cs))
+    here true s le more there = rw (ap is_going (same_place-true c.owner from s) ∙ e) (omega (arith, le))
+    here false s le more there = same (is_going c.owner) (standing (moved from (Going k) cs)) (standing cs) (more there)
+
+pub standing_without : (from : Place) (cs : List Cell) → standing (without from cs) ≤ standing cs
+standing_without from [] = omega arith
+standing_without from (c ∷ cs) = here (same_place c.owner from) (is_going c.owner) refl (standing_without from cs)
+  where
+    here : (b g : Bool) → is_going c.owner ≡ g → standing (without from cs) ≤ standing cs → standing (cond b (without from cs) (c ∷ without from cs)) ≤ cond g (standing cs) (suc (standing cs))
+    here true true e le = le
+    here true false e le = omega (arith, le)
+    here false true e le = rw e le
+    here false false e le = rw e (omega (arith, le))
+
+pub standing_new : (name : ℕ) (t : Thing) (words : List ℤ) (owner : Place) (cs : List Cell) → standing (with_new name t words owner cs) ≤ suc (standing cs)
+standing_new name t words owner cs = here (is_going owner)
+  where
+    here : (b : Bool) → cond b (standing cs) (suc (standing cs)) ≤ suc (standing cs)
+    here true = omega arith
+    here false = omega arith
+
+written_same : (n w : ℕ) (v : ℤ) (cs : List Cell) → standing (set_word_field n w v cs) ≡ standing cs
+written_same n w v [] = refl
+written_same n w v (c ∷ cs) = ap (λ x. cond (is_going c.owner) x (suc x)) (written_same n w v cs)
+
+pub standing_stored : (cs : List Cell) (h : Home) (w : ℕ) (v : ℤ) → standing (stored cs h w v) ≡ standing cs
+standing_stored cs Static w v = refl
+standing_stored cs AtRoot w v = refl
+standing_stored cs (Inside o from) w v = written_same o.name w v cs
+
+pub field_stands : (h : Home) (f : ℕ) → is_going (field_place h f) ≡ false
+field_stands Static f = refl
+field_stands AtRoot f = refl
+field_stands (Inside o from) f = refl
+
+pub standing_passed : (p : Image) (fr : Frame) (ts : List Task) (s : State) (xs : List Argument) (first to : ℕ) (cs : List Cell) → standing (passed_cells p fr ts s xs first to cs) ≤ standing cs
+standing_passed p fr ts s [] first to cs = omega arith
+standing_passed p fr ts s (Takes_word ∷ xs) first to cs = standing_passed p fr ts s xs (suc first) (suc to) cs
+standing_passed p fr ts s (Takes_own t ∷ xs) first to cs =
+    let here = standing_moved (Register (length ts) first) (Register (length (Run fr ∷ ts)) to) cs refl in
+    let more = standing_passed p fr ts s xs (suc first) (suc to) (moved (Register (length ts) first) (Register (length (Run fr ∷ ts)) to) cs) in
+    omega (arith, here, more)
+
+pub standing_result : (p : Image) (fr : Frame) (ts : List Task) (s : State) (g : Gives) (a c : ℕ) (below : List Task) → standing (result_cells p fr ts s g a c below) ≤ standing s.cells
+standing_result p fr ts s Nothing a c below = omega arith
+standing_result p fr ts s A_word a c below = omega arith
+standing_result p fr ts s (An_own t) a c below = standing_moved (Register (length ts) a) (Register (length below) c) s.cells refl
+standing_result p fr ts s (A_maybe t) a c below = standing_moved (Register (length ts) a) (Register (length below) c) s.cells refl
+standing_result p fr ts s (Left x) a c below = omega arith

@@ -1,0 +1,3 @@
+pub mod Within
+pub mod Ranks
+pub mod Laws

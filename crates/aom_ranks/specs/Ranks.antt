@@ -1,0 +1,75 @@
+-- The rank of a state.
+use Rattle.std.specs.Prelude.{ℕ, suc, Bool, true, false, cond, ◌+◌, ◌*◌, ◌^◌, List, [], ◌∷◌, length, Option, Some, None}
+use Rattle.aom_image.specs.Image.{Image}
+use Rattle.aom_image.specs.Views.{is_quiet, method_at}
+use Rattle.aom_image.specs.declared.method.Method.{Method}
+use Rattle.aom_sound.specs.Places.{Place, Register, Entry, Field, Going, Elsewhere, Cell}
+use Rattle.aom_sound.specs.State.{Frame, Dispatch, Of_main, Of_root, Task, Run, Trapped, Destroy, Dispatched, State, next}
+use Rattle.aom_ranks.specs.Within.{left}
+
+-- all that the methods have before them as they begin
+abbrev pub all_left : List Method → ℕ
+all_left [] = 0
+all_left (m ∷ ms) = left m.code [] 0 + all_left ms
+
+abbrev pub base : Image → ℕ
+base p = all_left p.methods + 2
+
+-- a method comes after those that it calls, and those that are not quiet come after all that are
+abbrev pub level : Image → ℕ → ℕ
+level p m = cond (is_quiet p m) m (suc (length p.methods) + m)
+
+-- a move of a method pays for a whole run of any method of a lower level
+abbrev pub price : Image → ℕ → ℕ
+price p m = base p ^ level p m
+
+abbrev pub left_in : Option Method → (counters : List ℕ) → (place : ℕ) → ℕ
+left_in None counters place = 0
+left_in (Some m) counters place = left m.code counters place
+
+abbrev pub frame_rank : Image → Frame → ℕ
+frame_rank p fr = left_in (method_at p fr.method) fr.counters fr.place * price p fr.method
+
+-- the end of main's dispatch may begin the root's destruction, and the end after that does not
+abbrev pub end_rank : Dispatch → ℕ
+end_rank Of_main = 2
+end_rank Of_root = 1
+
+-- the tasks that wait: a method goes on at its next place
+abbrev pub waiting_rank : Image → List Task → ℕ
+waiting_rank p [] = 0
+waiting_rank p (Run fr ∷ ts) = frame_rank p (next fr) + waiting_rank p ts
+waiting_rank p (Trapped ∷ ts) = 1 + waiting_rank p ts
+waiting_rank p (Destroy ∷ ts) = 1 + waiting_rank p ts
+waiting_rank p (Dispatched d ∷ ts) = end_rank d + waiting_rank p ts
+
+abbrev pub tasks_rank : Image → List Task → ℕ
+tasks_rank p (Run fr ∷ ts) = frame_rank p fr + waiting_rank p ts
+tasks_rank p ts = waiting_rank p ts
+
+-- a cell pays for its destructor, which is quiet, and for its going
+abbrev pub cell_rank : Image → ℕ
+cell_rank p = base p ^ length p.methods
+
+abbrev pub is_going : Place → Bool
+is_going (Register f r) = false
+is_going (Entry k) = false
+is_going (Field n f) = false
+is_going (Going k) = true
+is_going (Elsewhere o) = false
+
+-- the cells whose destruction has not begun
+abbrev pub standing : List Cell → ℕ
+standing [] = 0
+standing (c ∷ cs) = cond (is_going c.owner) (standing cs) (suc (standing cs))
+
+abbrev pub rank : Image → State → ℕ
+rank p s = tasks_rank p s.tasks + standing s.cells * cell_rank p
+
+-- how many destructions are at hand
+abbrev pub destructions : List Task → ℕ
+destructions [] = 0
+destructions (Destroy ∷ ts) = suc (destructions ts)
+destructions (Run fr ∷ ts) = destructions ts
+destructions (Trapped ∷ ts) = destructions ts
+destructions (Dispatched d ∷ ts) = destructions ts

@@ -1,0 +1,17 @@
+//! The laws, each as the contract of a function that does nothing.
+ghost use Rattle.aom_ranks.specs.Laws.{MovesLowerRanks, RanksBoundMoves, CellsStandOrGo};
+
+/// A move of a well-typed state lowers its rank, whatever the choice.
+pub fn moves_lower_ranks()
+    ensures { MovesLowerRanks }
+{}
+
+/// Each dispatch ends: a rank falls no further than to nothing.
+pub fn ranks_bound_moves()
+    ensures { RanksBoundMoves }
+{}
+
+/// So the rank can be told by who knows the tasks and how many cells live, and no owners.
+pub fn cells_stand_or_go()
+    ensures { CellsStandOrGo }
+{}

@@ -1,0 +1,4 @@
+pub mod Classes
+pub mod Roles
+pub mod Shapes
+pub mod States

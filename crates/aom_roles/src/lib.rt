@@ -1,0 +1,14 @@
+//! What the kinds of classes and the roles of methods ask of each other.
+//!
+//! `classes_are_ordered` tells whether what classes name comes before them, and `all_are_shaped` whether each
+//! method has the shape of its role. Both look at any image; nothing here knows which method has a role.
+#![tactic(auto)]
+
+mod class_order;
+mod roles;
+mod shapes;
+mod states;
+
+pub use class_order::{classes_are_ordered, sessions_at};
+pub use roles::{role_number, same_role};
+pub use shapes::{all_are_shaped, gives_nothing, gives_of};

@@ -1,0 +1,605 @@
+-- A method is called: on its caller's own object, on what a register or a field owns, or on nothing.
+use Rattle.std.proofs.Common.{Bool, List, None, Option, Some, [], ap, arith, cond, false, inl, inr, length, refl, subst, suc, sym, true, zero, ℕ, ℤ, ◌&&◌, ◌+◌, ◌<◌, ◌==◌, ◌∙◌, ◌∷◌, ◌≡◌, ◌≤◌}
+use Rattle.std.proofs.lemmas.Bool.{and_from, eq-eqb, eqb-true, ne_eqb, true≢false}
+use Rattle.std.proofs.lemmas.Bool.Decides.{leb_tells}
+use Rattle.std.specs.Prelude.{is_none, is_some, map, not, replicate, ◌⊎◌}
+use Rattle.aom_image.specs.Image.{Image}
+use Rattle.aom_image.specs.Views.{arguments_of, gives_of, instr_at, leaves, method_class, method_role}
+use Rattle.aom_image.specs.declared.instr.Instr.TheVariants.{Call}
+use Rattle.aom_image.specs.declared.instr.Target.{Target}
+use Rattle.aom_image.specs.declared.instr.Target.TheVariants.{Entry as On_entry, Field as On_field, Register as On_register, This}
+use Rattle.aom_image.specs.declared.method.Argument.{Argument}
+use Rattle.aom_image.specs.declared.method.Argument.TheVariants.{Own as Takes_own, Word as Takes_word}
+use Rattle.aom_image.specs.declared.method.Gives.{Gives}
+use Rattle.aom_image.specs.declared.method.Gives.TheVariants.{Left, Maybe as A_maybe, Nothing, Own as An_own, Word as A_word}
+use Rattle.aom_image.specs.declared.method.Role.{Role}
+use Rattle.aom_image.specs.declared.method.Role.TheVariants.{Accept, Cancel, Construct, Destruct, Do, Error, Main, Run as Runs, Service, Undo}
+use Rattle.aom_image.specs.declared.method.Thing.{Thing}
+use Rattle.aom_image.specs.declared.method.Thing.TheVariants.{Object as An_object_of}
+use Rattle.aom_shape.specs.Calls.{age_need, arguments_moved, awaits, brought, is_among, is_construct, is_own_for, is_target, each_argument, rule_target, stands_here, while_called}
+use Rattle.aom_shape.specs.Kinds.{field, filled, is_fresh_kind, is_object_or_null, is_ready_kind, is_unowning, none_owns, readied, register, set_register}
+use Rattle.aom_shape.specs.Needs.{AllTrue, only_if}
+use Rattle.aom_shape.specs.Order.{SaysNoMore, Weaker, WeakerFilling, alike, alike_filling, perhaps_empty, perhaps_full}
+use Rattle.aom_shape.specs.Shape.{Shape}
+use Rattle.aom_shape.specs.Tables.{at}
+use Rattle.aom_shape.specs.Things.{Member, Nobody, field_thing, holder_by, holder_of, stands_for}
+use Rattle.aom_shape.specs.Typing.{IsTyped, Leads, Typing, argument_kind, entry_fields, entry_shape}
+use Rattle.aom_shape.specs.declared.kind.Age.{Age}
+use Rattle.aom_shape.specs.declared.kind.Age.TheVariants.{Fresh, Ready}
+use Rattle.aom_shape.specs.declared.kind.Filling.{Filling}
+use Rattle.aom_shape.specs.declared.kind.Filling.TheVariants.{Empty, Full, Perhaps}
+use Rattle.aom_shape.specs.declared.kind.Kind.{Kind}
+use Rattle.aom_shape.specs.declared.kind.Kind.TheVariants.{Maybe, Null, Own, Unset, Word}
+use Rattle.aom_sound.proofs.Claimed.{Outside, claim_from, claim_register_above, claim_unclaimed, claim_weaker, filled_weaker, fits_weaker, layer_rel, length_objects, outside_differs, word_fits_weaker}
+use Rattle.aom_sound.proofs.Destroying.{Untouched, at_alike, eqb_comm, other_name, untouched, untouched_method}
+use Rattle.aom_sound.proofs.Finishing.{all_join, all_parts, none_owns_at}
+use Rattle.aom_sound.proofs.Jumps.{words_kept}
+use Rattle.aom_sound.proofs.Maps.{at-put_at, held_lives, held_moved, same_place-true}
+use Rattle.aom_sound.proofs.Passing.{Passed, all_passed, each_met, lower, none_passed, taken, taker, under, upper}
+use Rattle.aom_sound.proofs.Straight.{At, Law, claim_field, claim_register, field_fits, field_not_from, field_outside, fits_unowning, kind_fits, top, word_of_object}
+use Rattle.aom_sound.proofs.Things.{stands_along, stands_same}
+use Rattle.aom_sound.specs.Calls.{needs_each, needs_result, needs_target, needs_target_object, home_at, own_home, passed_cells, passed_words, result_register, target_home, works_on}
+use Rattle.aom_sound.specs.Claims.{Layer, Method, claim, declared, declared_field, home_claim, items_of, objects, tasks_of}
+use Rattle.aom_sound.specs.Laws.{IsCalled, IsWired}
+use Rattle.aom_sound.specs.Moves.{does}
+use Rattle.aom_sound.specs.Places.{Cell, Elsewhere, Entry, Field, Going, Object, Place, Register, Root, held, moved, named, same_place}
+use Rattle.aom_sound.specs.State.{AtRoot, Choice, Frame, Home, Inside, Run, State, Static, WrongKind, field_place, frame_of, home_holder, thing_holder, word}
+use Rattle.aom_sound.specs.WellTyped.{Awaits, Fits, Good, Holds, IsApart, IsBelow, IsHoused, IsNoFieldOf, NotIn, Returns, Stands, Unclaimed, WellTyped, WordFits, WorksOn, by_field}
+
+-- what a test that is asked for says
+only_then : (a b : Bool) → only_if a b ≡ true → a ≡ true → b ≡ true
+only_then true b e h = e
+only_then false b e h = absurd (true≢false (sym h))
+
+none_owns_each : (ks : List Kind) → ((i : ℕ) → is_unowning (at Unset ks i) ≡ true) → none_owns ks ≡ true
+none_owns_each [] h = refl
+none_owns_each (k ∷ ks) h = and_from _ _ (h 0) (none_owns_each ks (λ i. h (suc i)))
+
+-- a register that is no argument
+apart_from : (first count r : ℕ) → not (is_among first count r) ≡ true → (r < first) ⊎ ((first + count) ≤ r)
+apart_from first count r e = grind (arith, leb_tells first r, leb_tells (suc r) (first + count))
+
+moved_fields : (xs : List Argument) (first : ℕ) (sh : Shape) → (arguments_moved xs first sh).fields ≡ sh.fields
+moved_fields [] first sh = refl
+moved_fields (Takes_word ∷ xs) first sh = moved_fields xs (suc first) sh
+moved_fields (Takes_own t ∷ xs) first sh = moved_fields xs (suc first) (set_register sh first Null)
+
+moved_entries : (xs : List Argument) (first : ℕ) (sh : Shape) → (arguments_moved xs first sh).entries ≡ sh.entries
+moved_entries [] first sh = refl
+moved_entries (Takes_word ∷ xs) first sh = moved_entries xs (suc first) sh
+moved_entries (Takes_own t ∷ xs) first sh = moved_entries xs (suc first) (set_register sh first Null)
+
+moved_register : (xs : List Argument) (first : ℕ) (sh : Shape) (r : ℕ) → (r < first) ⊎ ((first + length xs) ≤ r) → register (arguments_moved xs first sh) r ≡ register sh r
+moved_register [] first sh r h = refl
+moved_register (Takes_word ∷ xs) first sh r (inl lt) = moved_register xs (suc first) sh r (inl (omega arith))
+moved_register (Takes_word ∷ xs) first sh r (inr le) = moved_register xs (suc first) sh r (inr (omega arith))
+moved_register (Takes_own t ∷ xs) first sh r (inl lt) =
+    moved_register xs (suc first) (set_register sh first Null) r (inl (omega arith))
+    ∙ at-put_at Unset sh.registers first r Null ∙ ap (λ b. cond b Null (register sh r)) (ne_eqb first r (λ e. absurd (omega arith)))
+moved_register (Takes_own t ∷ xs) first sh r (inr le) =
+    moved_register xs (suc first) (set_register sh first Null) r (inr (omega arith))
+    ∙ at-put_at Unset sh.registers first r Null ∙ ap (λ b. cond b Null (register sh r)) (ne_eqb first r (λ e. absurd (omega arith)))
+
+below_more : (from : Place) (fr : Frame) (sh : Shape) (ls : List Layer) → IsBelow from ls → IsBelow from (Method fr sh ∷ ls)
+below_more (Register f i) fr sh ls b = omega arith
+below_more (Entry k) fr sh ls b = omega (arith, length_objects sh.entries (items_of ls))
+below_more (Field n f) fr sh ls b = inr b
+below_more (Elsewhere Root) fr sh ls b = tt
+below_more (Going k) fr sh ls b = omega arith
+
+-- whose fields a called method works on, by its class
+holder_static : (r : Option Role) → (r ≡ Some Do) ⊎ (r ≡ Some Construct) → holder_by r None ≡ Nobody
+holder_static r (inl e) = ap (λ x. holder_by x None) e
+holder_static r (inr e) = ap (λ x. holder_by x None) e
+
+holder_called : (r : Option Role) (c : ℕ) → (r ≡ Some Do) ⊎ (r ≡ Some Construct) → holder_by r (Some c) ≡ Member c
+holder_called r c (inl e) = ap (λ x. holder_by x (Some c)) e
+holder_called r c (inr e) = ap (λ x. holder_by x (Some c)) e
+
+holder_member : (r : Option Role) (c : ℕ) → (r ≡ Some Main → ⊥) → holder_by r (Some c) ≡ Member c
+holder_member None c no_main = refl
+holder_member (Some Do) c no_main = refl
+holder_member (Some Main) c no_main = absurd (no_main refl)
+holder_member (Some Construct) c no_main = refl
+holder_member (Some Destruct) c no_main = refl
+holder_member (Some Runs) c no_main = refl
+holder_member (Some Cancel) c no_main = refl
+holder_member (Some Error) c no_main = refl
+holder_member (Some Accept) c no_main = refl
+holder_member (Some Service) c no_main = refl
+holder_member (Some Undo) c no_main = refl
+
+home_member : (h : Home) (c : ℕ) → home_holder h ≡ Member c → (o : Object) × (from : Place) × (h ≡ Inside o from) × (thing_holder o.thing ≡ Member c)
+home_member Static c e = cc
+home_member AtRoot c e = cc
+home_member (Inside o from) c e = (o, from, refl, e)
+
+own_for : (p : Image) (t : Thing) (k : Kind) → is_own_for p t k ≡ true → (x : Thing) × (a : Age) × (k ≡ Own x a) × (stands_for p x t ≡ true)
+own_for p t Unset e = cc
+own_for p t Word e = cc
+own_for p t Null e = cc
+own_for p t (Own x a) e = (x, a, refl, e)
+own_for p t (Maybe x a) e = cc
+
+held_own : (p : Image) (h : Place → Option Object) (o : Option Object) (x : Thing) (a : Age) → Fits p h o (Own x a) → (y : Object) × (o ≡ Some y) × (stands_for p y.thing x ≡ true)
+held_own p h None x a f = absurd f
+held_own p h (Some y) x a f = (y, refl, f.0)
+
+filled_ready : (x : Option Thing) (y : Filling) → is_ready_kind (filled x y) ≡ true
+filled_ready None y = refl
+filled_ready (Some x) Empty = refl
+filled_ready (Some x) Full = refl
+filled_ready (Some x) Perhaps = refl
+
+-- a field of a fresh object
+fits_fresh : (p : Image) (h : Place → Option Object) (x : Option Thing) (n f : ℕ) → Fits p h None (filled x (at Perhaps (replicate n Empty) f))
+fits_fresh p h None n f = tt
+fits_fresh p h (Some x) zero f = tt
+fits_fresh p h (Some x) (suc n) zero = tt
+fits_fresh p h (Some x) (suc n) (suc f) = fits_fresh p h (Some x) n f
+
+-- what is no argument stays where it is
+module _ (p : Image) (s : State) (fr : Frame) (ls : List Layer) where
+  passed_elsewhere : (t : Typing) (xs : List Argument) (first to : ℕ) (cs : List Cell) (q : Place) → ((i : ℕ) → to ≤ i → held cs (upper p t fr ls i) ≡ None) → ((i : ℕ) → first ≤ i → i < (first + length xs) → same_place (lower p t fr ls i) q ≡ false) → ((i : ℕ) → same_place (upper p t fr ls i) q ≡ false) → held (passed_cells p fr (tasks_of ls) s xs first to cs) q ≡ held cs q
+  passed_elsewhere t [] first to cs q free lo up = refl
+  passed_elsewhere t (Takes_word ∷ xs) first to cs q free lo up = passed_elsewhere t xs (suc first) (suc to) cs q (λ i le. free i (omega arith)) (λ i le lt. lo i (omega arith) (omega arith)) up
+  passed_elsewhere t (Takes_own x ∷ xs) first to cs q free lo up =
+      let a = lower p t fr ls first in
+      let b = upper p t fr ls to in
+      passed_elsewhere t xs (suc first) (suc to) (moved a b cs) q
+      (λ i le. held_moved cs a b (upper p t fr ls i) (free to (omega arith))
+      ∙ ap (λ y. cond y (held cs a) (cond (same_place a (upper p t fr ls i)) None (held cs (upper p t fr ls i)))) (same_upper i le)
+      ∙ ap (λ y. cond y None (held cs (upper p t fr ls i))) (lower_upper i)
+      ∙ free i (omega arith))
+      (λ i le lt. lo i (omega arith) (omega arith)) up
+      ∙ held_moved cs a b q (free to (omega arith))
+      ∙ ap (λ y. cond y (held cs a) (cond (same_place a q) None (held cs q))) (up to)
+      ∙ ap (λ y. cond y None (held cs q)) (lo first (omega arith) (omega arith))
+    where
+      same_upper : (i : ℕ) → suc to ≤ i → same_place (upper p t fr ls to) (upper p t fr ls i) ≡ false
+      same_upper i le = ap (λ y. (suc (length (tasks_of ls)) == suc (length (tasks_of ls))) && y) (ne_eqb to i (λ e. absurd (omega arith))) ∙ both (suc (length (tasks_of ls)) == suc (length (tasks_of ls)))
+        where
+          both : (b : Bool) → (b && false) ≡ false
+          both true = refl
+          both false = refl
+
+      lower_upper : (i : ℕ) → same_place (lower p t fr ls first) (upper p t fr ls i) ≡ false
+      lower_upper i = ap (λ y. y && (first == i)) (ne_eqb (length (tasks_of ls)) (suc (length (tasks_of ls))) (λ e. absurd (omega arith)))
+
+module _ (p : Image) (t : Typing) (wired : IsWired p) (typed : IsTyped p t) (c : Choice) (s : State) (fr : Frame) (sh : Shape) (ls : List Layer) (at_hand : At p t s fr sh ls) (m first : ℕ) (is_called : IsCalled p m) where
+  abbrev xs : List Argument
+  xs = arguments_of p m
+
+  abbrev after_arguments : Shape
+  after_arguments = arguments_moved xs first sh
+
+  abbrev cs : List Cell
+  cs = passed_cells p fr (tasks_of ls) s xs first 0 s.cells
+
+  abbrev regs : List Kind
+  regs = map argument_kind xs
+
+  abbrev ws : List (Option ℤ)
+  ws = passed_words p fr (tasks_of ls) s xs first
+
+  abbrev callee : Home → Frame
+  callee home = record (frame_of m home (length s.items)) { words = ws }
+
+  -- the fields of what the called method works on are as its first state says
+  abbrev FieldsBegin : Home → Type 0
+  FieldsBegin Static = Unit {0}
+  FieldsBegin AtRoot = ⊥
+  FieldsBegin (Inside o from) = (f : ℕ) → Fits p (held cs) (held cs (Field o.name f)) (filled (field_thing p (thing_holder o.thing) f) (field (entry_shape p m) f))
+
+  -- the caller while the call lasts, and the home of the method called
+  record Entering (home : Home) (sh' : Shape) : Type 0 where
+    fits : (r : Place) → Fits p (held cs) (held cs r) (claim p (declared p cs) (Method taker (taken regs) ∷ Method fr sh' ∷ ls) r)
+    words : (i : ℕ) → WordFits (word fr i) (register sh' i)
+    housed : IsHoused p cs (Method fr sh' ∷ ls) home
+    apart : IsApart p home (Method fr sh' ∷ ls)
+    holder : home_holder home ≡ holder_of p m
+    owning : (i : ℕ) → is_unowning (register sh' i) ≡ is_unowning (register after_arguments i)
+    entries : sh'.entries ≡ sh.entries
+    fields : FieldsBegin home
+
+  module _ (passed : Passed p t fr ls cs after_arguments regs ws) where
+    -- the first state of the called method over its caller
+    begins : (home : Home) (sh' : Shape) → Entering home sh' → (after : Shape) → SaysNoMore after (entry_shape p m) → (r : Place) → Fits p (held cs) (held cs r) (claim p (declared p cs) (Method (callee home) after ∷ Method fr sh' ∷ ls) r)
+    begins home sh' e after w (Register f i) = go (suc (length (tasks_of ls)) == f) (e.fits (Register f i))
+      where
+        go : (b : Bool) → Fits p (held cs) (held cs (Register f i)) (cond b (at Unset regs i) (claim p (declared p cs) (Method fr sh' ∷ ls) (Register f i))) → Fits p (held cs) (held cs (Register f i)) (cond b (register after i) (claim p (declared p cs) (Method fr sh' ∷ ls) (Register f i)))
+        go true h = fits_weaker p (held cs) (held cs (Register f i)) (w.registers i) h
+        go false h = h
+    begins home sh' e after w (Entry k) = subst (λ es. Fits p (held cs) (held cs (Entry k)) (claim p (declared p cs) (Method (callee Static) (record after { entries = es }) ∷ Method fr sh' ∷ ls) (Entry k))) (sym w.entries) (e.fits (Entry k))
+    begins home sh' e after w (Field n f) = go home e.fields
+      where
+        go : (home : Home) → FieldsBegin home → Fits p (held cs) (held cs (Field n f)) (home_claim p home after n f (claim p (declared p cs) (Method fr sh' ∷ ls) (Field n f)))
+        go Static b = e.fits (Field n f)
+        go AtRoot b = absurd b
+        go (Inside o from) b = inside (o.name == n) refl
+          where
+            inside : (x : Bool) → (o.name == n) ≡ x → Fits p (held cs) (held cs (Field n f)) (cond x (filled (field_thing p (thing_holder o.thing) f) (field after f)) (claim p (declared p cs) (Method fr sh' ∷ ls) (Field n f)))
+            inside true same = subst (λ m. Fits p (held cs) (held cs (Field m f)) (filled (field_thing p (thing_holder o.thing) f) (field after f))) (eqb-true o.name n same)
+                (fits_weaker p (held cs) (held cs (Field o.name f)) (filled_weaker (field_thing p (thing_holder o.thing) f) (w.fields f)) (b f))
+            inside false other = e.fits (Field n f)
+    begins home sh' e after w (Elsewhere Root) = go home e.fields
+      where
+        go : (home : Home) → FieldsBegin home → Fits p (held cs) (held cs (Elsewhere Root)) (claim p (declared p cs) (Method (callee home) after ∷ Method fr sh' ∷ ls) (Elsewhere Root))
+        go Static b = e.fits (Elsewhere Root)
+        go AtRoot b = absurd b
+        go (Inside o from) b = e.fits (Elsewhere Root)
+    begins home sh' e after w (Going k) = e.fits (Going k)
+
+    -- so it is entered
+    enter : (home : Home) (sh' : Shape) → Entering home sh' → Stands p t (Returns m home) fr sh' → (s' : State) → s'.cells ≡ cs → s'.tasks ≡ Run (callee home) ∷ Run fr ∷ tasks_of ls → s'.items ≡ s.items → WellTyped p t s'
+    enter home sh' e stands s' cells tasks items =
+        let leads = typed.entry m is_called.there in
+        let w = leads.2 in
+        let high : s.items ≡ objects sh'.entries (items_of ls) = at_hand.items ∙ ap (λ es. objects es (items_of ls)) (sym e.entries) in
+        let good : Good p t cs (Method (callee home) leads.0 ∷ Method fr sh' ∷ ls) = record {
+          stack = (
+            leads.1,
+            record { words = λ i. word_fits_weaker (at None ws i) (w.registers i) (passed.given i); holder = e.holder; height = ap length high },
+            e.housed,
+            e.apart,
+            (stands, record { words = e.words; holder = at_hand.good.stack.1.holder; height = at_hand.good.stack.1.height }, passed.housed, at_hand.good.stack.3, passed.stack),
+          );
+          fits = begins home sh' e leads.0 w;
+          tidy = passed.tidy;
+        } in
+        record {
+          layers = Method (callee home) leads.0 ∷ Method fr sh' ∷ ls;
+          tasks = tasks;
+          items = items ∙ high ∙ ap (λ es. objects es (objects sh'.entries (items_of ls))) (sym w.entries);
+          good = subst (λ cs. Good p t cs (Method (callee home) leads.0 ∷ Method fr sh' ∷ ls)) (sym cells) good;
+        }
+
+    -- the fields of an object that is not under construction
+    do_fields : (o : Object) (from : Place) (sh' : Shape) → ((r : Place) → Fits p (held cs) (held cs r) (claim p (declared p cs) (Method taker (taken regs) ∷ Method fr sh' ∷ ls) r)) → named cs o.name ≡ Some o → IsApart p (Inside o from) (Method fr sh' ∷ ls) → method_role p m ≡ Some Do → FieldsBegin (Inside o from)
+    do_fields o from sh' fits lives apart role f =
+        let x = field_thing p (thing_holder o.thing) f in
+        let claims = claim_unclaimed p (declared p cs) (Method fr sh' ∷ ls) o.name f (λ f. filled (field_thing p (thing_holder o.thing) f) Perhaps) apart.2 (ap (λ y. declared_field p y f) lives) in
+        subst (λ y. Fits p (held cs) (held cs (Field o.name f)) (filled x y)) (sym (ap (λ r. at Perhaps (entry_fields r) f) role ∙ at_alike 8 Perhaps f))
+        (subst (λ k. Fits p (held cs) (held cs (Field o.name f)) k) claims (fits (Field o.name f)))
+
+    construct_fields : (o : Object) (from : Place) → ((f : ℕ) → held cs (Field o.name f) ≡ None) → method_role p m ≡ Some Construct → FieldsBegin (Inside o from)
+    construct_fields o from null role f =
+        subst (λ y. Fits p (held cs) (held cs (Field o.name f)) (filled (field_thing p (thing_holder o.thing) f) y)) (sym (ap (λ r. at Perhaps (entry_fields r) f) role))
+        (subst (λ y. Fits p (held cs) y (filled (field_thing p (thing_holder o.thing) f) (at Perhaps (replicate 8 Empty) f))) (sym (null f)) (fits_fresh p (held cs) (field_thing p (thing_holder o.thing) f) 8 f))
+
+    -- what a target asks, and how the method begins
+    abbrev Answer : Target → Type 0
+    Answer target = AllTrue (needs_target p fr (tasks_of ls) s target (method_class p m) first (length xs)) × Entering (target_home p fr (tasks_of ls) s target (method_class p m)) (while_called target (method_class p m) after_arguments)
+
+    -- a static method
+    on_nothing : method_class p m ≡ None → Entering Static after_arguments
+    on_nothing e = record {
+      fits = passed.fits;
+      words = passed.words;
+      housed = tt;
+      apart = tt;
+      holder = sym (ap (λ k. holder_by (method_role p m) k) e ∙ holder_static (method_role p m) is_called.role);
+      owning = λ i. refl;
+      entries = moved_entries xs first sh;
+      fields = tt;
+    }
+
+    abbrev worked : Shape
+    worked = record after_arguments { fields = replicate 8 Perhaps }
+
+    opened : SaysNoMore worked after_arguments
+    opened = record { registers = λ i. alike; fields = λ i. subst (λ x. WeakerFilling x (field after_arguments i)) (sym (at_alike 8 Perhaps i)) (any (field after_arguments i)); entries = refl }
+      where
+        any : (x : Filling) → WeakerFilling Perhaps x
+        any Empty = perhaps_empty
+        any Full = perhaps_full
+        any Perhaps = alike_filling
+
+    -- a method of the caller's own object
+    on_own : (k : ℕ) (o : Object) (from : Place) → fr.home ≡ Inside o from → thing_holder o.thing ≡ Member k → method_class p m ≡ Some k → method_role p m ≡ Some Do → Entering (Inside o from) worked
+    on_own k o from eh member class role =
+        let holds : Holds p cs ls o from = subst (λ h. IsHoused p cs ls h) eh passed.housed in
+        let apart : IsApart p (Inside o from) ls = subst (λ h. IsApart p h ls) eh at_hand.good.stack.3 in
+        let apart' : IsApart p (Inside o from) (Method fr worked ∷ ls) = (apart.0, (subst (λ h. NotIn o.name h) (sym eh) apart.0, apart.1), own_fields) in
+        let fits : (r : Place) → Fits p (held cs) (held cs r) (claim p (declared p cs) (Method taker (taken regs) ∷ Method fr worked ∷ ls) r) =
+        λ r. fits_weaker p (held cs) (held cs r) (layer_rel Weaker (λ k. alike) p (Method taker (taken regs)) (suc (length (tasks_of ls))) (items_of (Method fr worked ∷ ls)) r _ _ (claim_weaker p (declared p cs) fr worked after_arguments ls r opened)) (passed.fits r) in
+        record {
+          fits = fits;
+          words = passed.words;
+          housed = record { there = holds.there; lives = holds.lives; below = below_more from fr worked ls holds.below; ready = ap is_ready_kind (claim_from p (λ r. Null) fr o from worked ls eh apart.0 holds.below) ∙ holds.ready };
+          apart = apart';
+          holder = member ∙ sym (ap (λ c. holder_by (method_role p m) c) class ∙ holder_called (method_role p m) k is_called.role);
+          owning = λ i. refl;
+          entries = moved_entries xs first sh;
+          fields = do_fields o from worked fits holds.lives apart' role;
+        }
+      where
+        own_fields : Unclaimed p (λ f. filled (field_thing p (thing_holder o.thing) f) Perhaps) o.name (Method fr worked ∷ ls)
+        own_fields f =
+            ap (λ h. home_claim p h worked o.name f (claim p (by_field (λ f. filled (field_thing p (thing_holder o.thing) f) Perhaps)) ls (Field o.name f))) eh
+            ∙ ap (λ b. cond b (filled (field_thing p (thing_holder o.thing) f) (field worked f)) (claim p (by_field (λ f. filled (field_thing p (thing_holder o.thing) f) Perhaps)) ls (Field o.name f))) (eq-eqb o.name _ refl)
+            ∙ ap (λ x. filled (field_thing p (thing_holder o.thing) f) x) (at_alike 8 Perhaps f)
+
+    -- where an object stood before the arguments were passed, it stands after
+    stays_at : (q : Place) (o : Object) → ((i : ℕ) → first ≤ i → i < (first + length xs) → same_place (lower p t fr ls i) q ≡ false) → ((i : ℕ) → same_place (upper p t fr ls i) q ≡ false) → held s.cells q ≡ Some o → held cs q ≡ Some o
+    stays_at q o lo up there = passed_elsewhere p s fr ls t xs first 0 s.cells q (λ i le. above i) lo up ∙ there
+      where
+        above : (i : ℕ) → held s.cells (upper p t fr ls i) ≡ None
+        above i = fits_unowning p (held s.cells) _ Null refl (subst (λ k. Fits p (held s.cells) (held s.cells (upper p t fr ls i)) k) (claim_register_above p s.cells (Method fr sh ∷ ls) (suc (length (tasks_of ls))) i (omega arith)) (at_hand.good.fits (upper p t fr ls i)))
+
+    -- what is known of an object on which a method of that class may work
+    target_met : (y : ℕ) (o : Option Object) (x : Object) (z : Thing) → o ≡ Some x → stands_for p x.thing z ≡ true → stands_for p z (An_object_of y) ≡ true → AllTrue (needs_target_object p (Some y) o)
+    target_met y o x z e a b = subst (λ o. AllTrue (needs_target_object p (Some y) o)) (sym e) (refl, (stands_along p x.thing z (An_object_of y) a b, tt))
+
+    target_holder : (y : ℕ) (x : Object) (z : Thing) → method_class p m ≡ Some y → stands_for p x.thing z ≡ true → stands_for p z (An_object_of y) ≡ true → thing_holder x.thing ≡ holder_of p m
+    target_holder y x z class a b = ap thing_holder (stands_same p x.thing (An_object_of y) (stands_along p x.thing z (An_object_of y) a b)) ∙ sym (ap (λ c. holder_by (method_role p m) c) class ∙ holder_called (method_role p m) y is_called.role)
+
+    -- a construct method works on a fresh object, another on a ready one
+    age_of : (k : Kind) → AllTrue (age_need (is_construct (method_role p m)) k ∷ []) → (method_role p m ≡ Some Do) ⊎ ((method_role p m ≡ Some Construct) × (is_fresh_kind k ≡ true))
+    age_of k n = go is_called.role
+      where
+        go : (method_role p m ≡ Some Do) ⊎ (method_role p m ≡ Some Construct) → (method_role p m ≡ Some Do) ⊎ ((method_role p m ≡ Some Construct) × (is_fresh_kind k ≡ true))
+        go (inl e) = inl e
+        go (inr e) = inr (e, ap (λ r. (age_need (is_construct r) k).0) (sym e) ∙ n.0)
+
+    -- what a register owns
+    module _ (r y : ℕ) (class : method_class p m ≡ Some y) (z : Thing) (a : Age) (kind : register sh r ≡ Own z a) (for : stands_for p z (An_object_of y) ≡ true) (apart : (r < first) ⊎ ((first + length xs) ≤ r)) where
+      abbrev q : Place
+      q = top ls r
+
+      abbrev readied_shape : Shape
+      readied_shape = set_register after_arguments r (readied (register after_arguments r))
+
+      same_kind : register after_arguments r ≡ Own z a
+      same_kind = moved_register xs first sh r apart ∙ kind
+
+      now_ready : readied (register after_arguments r) ≡ Own z Ready
+      now_ready = ap readied same_kind
+
+      aside : (i : ℕ) → first ≤ i → i < (first + length xs) → same_place (lower p t fr ls i) q ≡ false
+      aside i le lt = ap (λ b. (length (tasks_of ls) == length (tasks_of ls)) && b) (ne_eqb i r (λ e. differs apart (subst (λ j. first ≤ j) e le) (subst (λ j. j < (first + length xs)) e lt))) ∙ none (length (tasks_of ls) == length (tasks_of ls))
+        where
+          differs : (r < first) ⊎ ((first + length xs) ≤ r) → first ≤ r → r < (first + length xs) → ⊥
+          differs (inl x) le lt = omega arith
+          differs (inr x) le lt = omega arith
+
+          none : (b : Bool) → (b && false) ≡ false
+          none true = refl
+          none false = refl
+
+      above : (i : ℕ) → same_place (upper p t fr ls i) q ≡ false
+      above i = ap (λ b. b && (i == r)) (ne_eqb (suc (length (tasks_of ls))) (length (tasks_of ls)) (λ e. absurd (omega arith)))
+
+      owned : (o : Object) × (held s.cells q ≡ Some o) × (stands_for p o.thing z ≡ true)
+      owned = held_own p (held s.cells) (held s.cells q) z a (subst (λ k. Fits p (held s.cells) (held s.cells q) k) kind (kind_fits p t c s fr sh ls at_hand r))
+
+      on_register : method_role p m ≡ Some Do ⊎ ((method_role p m ≡ Some Construct) × (a ≡ Fresh)) → Entering (Inside owned.0 q) readied_shape
+      on_register ages = record {
+        fits = fits;
+        words = words_kept fr.words after_arguments r (readied (register after_arguments r)) passed.words (subst (λ k. WordFits (word fr r) k) (sym now_ready) (subst (λ k. WordFits (word fr r) k) same_kind (passed.words r)));
+        housed = record { there = there; lives = lives; below = omega arith; ready = ap is_ready_kind (claim_register p (λ x. Null) fr readied_shape ls r ∙ at_r ∙ now_ready) };
+        apart = apart_so;
+        holder = target_holder y owned.0 z class owned.2 for;
+        owning = owning;
+        entries = moved_entries xs first sh;
+        fields = begun ages;
+      }
+        where
+          there : held cs q ≡ Some owned.0
+          there = stays_at q owned.0 aside above owned.1
+
+          lives : named cs owned.0.name ≡ Some owned.0
+          lives = held_lives cs q owned.0 passed.tidy there
+
+          at_r : register readied_shape r ≡ readied (register after_arguments r)
+          at_r = at-put_at Unset after_arguments.registers r r (readied (register after_arguments r)) ∙ ap (λ b. cond b (readied (register after_arguments r)) (register after_arguments r)) (eq-eqb r _ refl)
+
+          here_fits : Fits p (held cs) (Some owned.0) (Own z a)
+          here_fits = subst (λ o. Fits p (held cs) o (Own z a)) there (subst (λ k. Fits p (held cs) (held cs q) k) (below_taker ∙ same_kind) (passed.fits q))
+            where
+              below_taker : claim p (declared p cs) (Method taker (taken regs) ∷ Method fr after_arguments ∷ ls) q ≡ register after_arguments r
+              below_taker = ap (λ b. cond b (at Unset regs r) (claim p (declared p cs) (Method fr after_arguments ∷ ls) q)) (ne_eqb (suc (length (tasks_of ls))) (length (tasks_of ls)) (λ e. absurd (omega arith))) ∙ claim_register p (declared p cs) fr after_arguments ls r
+
+          fits : (x : Place) → Fits p (held cs) (held cs x) (claim p (declared p cs) (Method taker (taken regs) ∷ Method fr readied_shape ∷ ls) x)
+          fits x = subst (λ k. Fits p (held cs) (held cs x) k) (sym (under p t fr ls (declared p cs) after_arguments regs r (readied (register after_arguments r)) x)) (go (same_place q x) refl)
+            where
+              go : (b : Bool) → same_place q x ≡ b → Fits p (held cs) (held cs x) (cond b (readied (register after_arguments r)) (claim p (declared p cs) (Method taker (taken regs) ∷ Method fr after_arguments ∷ ls) x))
+              go true e = subst (λ k. Fits p (held cs) (held cs x) k) (sym now_ready) (subst (λ w. Fits p (held cs) w (Own z Ready)) (sym (ap (λ w. held cs w) (sym (same_place-true q x e)) ∙ there)) (owned.2, tt))
+              go false e = passed.fits x
+
+          u : Untouched p (λ f. filled (field_thing p (thing_holder owned.0.thing) f) Perhaps) owned.0.name (Method fr readied_shape ∷ ls)
+          u = untouched_method p t cs q owned.0 passed.tidy there (λ f. filled (field_thing p (thing_holder owned.0.thing) f) Perhaps) fr readied_shape ls (λ x from e. tt) (omega arith) passed.housed
+              (untouched p t cs q owned.0 passed.tidy there (λ f. filled (field_thing p (thing_holder owned.0.thing) f) Perhaps) ls (Returns fr.method fr.home) (omega arith) passed.stack)
+
+          apart_so : IsApart p (Inside owned.0 q) (Method fr readied_shape ∷ ls)
+          apart_so = (tt, u.none_in, u.unclaimed)
+
+          owning : (i : ℕ) → is_unowning (register readied_shape i) ≡ is_unowning (register after_arguments i)
+          owning i = ap is_unowning (at-put_at Unset after_arguments.registers r i (readied (register after_arguments r))) ∙ go (r == i) refl
+            where
+              go : (b : Bool) → (r == i) ≡ b → is_unowning (cond b (readied (register after_arguments r)) (register after_arguments i)) ≡ is_unowning (register after_arguments i)
+              go true e = ap is_unowning now_ready ∙ sym (ap (λ j. is_unowning (register after_arguments j)) (sym (eqb-true r i e)) ∙ ap is_unowning same_kind)
+              go false e = refl
+
+          begun : method_role p m ≡ Some Do ⊎ ((method_role p m ≡ Some Construct) × (a ≡ Fresh)) → FieldsBegin (Inside owned.0 q)
+          begun (inl role) = do_fields owned.0 q readied_shape fits lives apart_so role
+          begun (inr w) = construct_fields owned.0 q (subst (λ a. Fits p (held cs) (Some owned.0) (Own z a)) w.1 here_fits).1 w.0
+
+    -- what a field owns
+    module _ (f y : ℕ) (class : method_class p m ≡ Some y) (z : Thing) (a : Age) (kind : filled (field_thing p (home_holder fr.home) f) (field sh f) ≡ Own z a) (for : stands_for p z (An_object_of y) ≡ true) (some : is_some (field_thing p (home_holder fr.home) f) ≡ true) (role : method_role p m ≡ Some Do) where
+      abbrev spot : Place
+      spot = field_place fr.home f
+
+      aside_field : (home : Home) (i j : ℕ) → same_place (Register i j) (field_place home f) ≡ false
+      aside_field Static i j = refl
+      aside_field AtRoot i j = refl
+      aside_field (Inside o from) i j = refl
+
+      kept_in : (o : Object) × (held s.cells spot ≡ Some o) × (stands_for p o.thing z ≡ true)
+      kept_in = held_own p (held s.cells) (held s.cells spot) z a (subst (λ k. Fits p (held s.cells) (held s.cells spot) k) kind (field_fits p t c s fr sh ls at_hand f some))
+
+      on_field : Entering (Inside kept_in.0 spot) after_arguments
+      on_field = record {
+        fits = passed.fits;
+        words = passed.words;
+        housed = record { there = there; lives = lives; below = below fr.home refl; ready = ap is_ready_kind (claim_field p (λ x. Null) fr after_arguments ls fr.home f refl some) ∙ filled_ready _ _ };
+        apart = apart_so;
+        holder = target_holder y kept_in.0 z class kept_in.2 for;
+        owning = λ i. refl;
+        entries = moved_entries xs first sh;
+        fields = do_fields kept_in.0 spot after_arguments passed.fits lives apart_so role;
+      }
+        where
+          there : held cs spot ≡ Some kept_in.0
+          there = stays_at spot kept_in.0 (λ i le lt. aside_field fr.home _ i) (λ i. aside_field fr.home _ i) kept_in.1
+
+          lives : named cs kept_in.0.name ≡ Some kept_in.0
+          lives = held_lives cs spot kept_in.0 passed.tidy there
+
+          outside : Outside spot ls
+          outside = field_outside p t c s fr sh ls at_hand fr.home f refl some
+
+          below : (home : Home) → fr.home ≡ home → IsBelow (field_place home f) (Method fr after_arguments ∷ ls)
+          below Static e = tt
+          below AtRoot e = tt
+          below (Inside x from) e = inl (subst (λ h. WorksOn x.name h) (sym e) refl)
+
+          u : Untouched p (λ f. filled (field_thing p (thing_holder kept_in.0.thing) f) Perhaps) kept_in.0.name (Method fr after_arguments ∷ ls)
+          u = untouched_method p t cs spot kept_in.0 passed.tidy there (λ f. filled (field_thing p (thing_holder kept_in.0.thing) f) Perhaps) fr after_arguments ls (λ x from e. field_not_from p t c s fr sh ls at_hand fr.home f refl x from e) outside passed.housed
+              (untouched p t cs spot kept_in.0 passed.tidy there (λ f. filled (field_thing p (thing_holder kept_in.0.thing) f) Perhaps) ls (Returns fr.method fr.home) outside passed.stack)
+
+          no_field_of : (home : Home) → fr.home ≡ home → IsNoFieldOf kept_in.0.name (field_place home f)
+          no_field_of Static e = tt
+          no_field_of AtRoot e = tt
+          no_field_of (Inside x from) e =
+              let holds : Holds p cs ls x from = subst (λ h. IsHoused p cs ls h) e passed.housed in
+              eqb_comm kept_in.0.name x.name ∙ other_name p t cs spot kept_in.0 passed.tidy there from x holds.there (outside_differs spot from ls outside (field_not_from p t c s fr sh ls at_hand fr.home f refl x from e) holds.below)
+
+          apart_so : IsApart p (Inside kept_in.0 spot) (Method fr after_arguments ∷ ls)
+          apart_so = (no_field_of fr.home refl, u.none_in, u.unclaimed)
+
+    -- what a place owns is what the method works on
+    at_home : (q : Place) (o : Object) (sh' : Shape) → held s.cells q ≡ Some o → Entering (Inside o q) sh' → Entering (home_at (held s.cells q) q) sh'
+    at_home q o sh' there g = subst (λ x. Entering (home_at x q) sh') (sym there) g
+
+    -- each kind of target
+    on_this : (k : Option ℕ) → method_class p m ≡ k → AllTrue (rule_target p fr.method sh This (method_class p m) (is_construct (method_role p m)) first (length xs)) → Answer This
+    on_this None e n = (
+      (ap (λ k. works_on p k (home_holder fr.home)) e, tt),
+      subst (λ k. Entering (own_home k fr.home) (while_called This k after_arguments)) (sym e) (on_nothing e),
+    )
+    on_this (Some k) e n = go (method_class p fr.method) refl
+      where
+        -- the caller works on an object of that class
+        does_not_construct : method_role p m ≡ Some Do
+        does_not_construct = of is_called.role
+          where
+            of : (method_role p m ≡ Some Do) ⊎ (method_role p m ≡ Some Construct) → method_role p m ≡ Some Do
+            of (inl r) = r
+            of (inr r) = absurd (true≢false (sym n.1.0 ∙ ap (λ x. not (is_construct x)) r))
+
+        go : (own : Option ℕ) → method_class p fr.method ≡ own → Answer This
+        go None f = let clash : false ≡ true = sym (ap (λ x. stands_here p x (method_class p m)) f ∙ ap (λ x. stands_here p None x) e) ∙ n.0 in cc
+        go (Some y) f =
+            let stands : stands_for p (An_object_of y) (An_object_of k) ≡ true = sym (ap (λ x. stands_here p x (method_class p m)) f ∙ ap (λ x. stands_here p (Some y) x) e) ∙ n.0 in
+            let same : An_object_of y ≡ An_object_of k = stands_same p (An_object_of y) (An_object_of k) stands in
+            let holder : home_holder fr.home ≡ Member y = at_hand.good.stack.1.holder ∙ ap (λ x. holder_by (method_role p fr.method) x) f ∙ holder_member (method_role p fr.method) y (λ r. let clash : Some y ≡ None = sym f ∙ wired.static_main fr.method r in cc) in
+            let w = home_member fr.home y holder in (
+              (ap (λ k. works_on p k (home_holder fr.home)) e ∙ ap (λ h. works_on p (Some k) h) holder ∙ stands, tt),
+              subst (λ x. Entering (own_home x fr.home) (while_called This x after_arguments)) (sym e)
+                  (subst (λ h. Entering h worked) (sym w.2) (on_own k w.0 w.1 w.2 (w.3 ∙ ap thing_holder same) e does_not_construct)),
+            )
+
+    on_owned : (r : ℕ) (k : Option ℕ) → method_class p m ≡ k → AllTrue (rule_target p fr.method sh (On_register r) (method_class p m) (is_construct (method_role p m)) first (length xs)) → Answer (On_register r)
+    on_owned r None e n = let clash : false ≡ true = sym (ap (λ x. is_target p x (register sh r)) e) ∙ n.0 in cc
+    on_owned r (Some y) e n =
+        let w = own_for p (An_object_of y) (register sh r) (sym (ap (λ x. is_target p x (register sh r)) e) ∙ n.0) in
+        let aside = apart_from first (length xs) r n.1.0 in
+        let x = owned r y e w.0 w.1 w.2 w.3 aside in (
+          (
+            ap is_none (word_of_object (word fr r) (register sh r) (ap is_object_or_null w.2) (at_hand.good.stack.1.words r)),
+            all_join (needs_target_object p (method_class p m) (held s.cells (top ls r))) ((not (is_among first (length xs) r), WrongKind) ∷ []) (subst (λ k. AllTrue (needs_target_object p k (held s.cells (top ls r)))) (sym e) (target_met y (held s.cells (top ls r)) x.0 w.0 x.1 x.2 w.3)) (n.1.0, tt),
+          ),
+          at_home (top ls r) x.0 (while_called (On_register r) (method_class p m) after_arguments) x.1
+              (on_register r y e w.0 w.1 w.2 w.3 aside (ages w.0 w.1 w.2 (age_of (register sh r) n.1.1))),
+        )
+      where
+        ages : (z : Thing) (a : Age) → register sh r ≡ Own z a → (method_role p m ≡ Some Do) ⊎ ((method_role p m ≡ Some Construct) × (is_fresh_kind (register sh r) ≡ true)) → (method_role p m ≡ Some Do) ⊎ ((method_role p m ≡ Some Construct) × (a ≡ Fresh))
+        ages z a k (inl role) = inl role
+        ages z Fresh k (inr w) = inr (w.0, refl)
+        ages z Ready k (inr w) = let clash : false ≡ true = sym (ap is_fresh_kind k) ∙ w.1 in cc
+
+    on_kept : (f : ℕ) (k : Option ℕ) → method_class p m ≡ k → AllTrue (rule_target p fr.method sh (On_field f) (method_class p m) (is_construct (method_role p m)) first (length xs)) → Answer (On_field f)
+    on_kept f None e n = let clash : false ≡ true = sym (ap (λ x. is_target p x (filled (field_thing p (holder_of p fr.method) f) (field sh f))) e) ∙ n.0 in cc
+    on_kept f (Some y) e n =
+        let kind : Kind = filled (field_thing p (home_holder fr.home) f) (field sh f) in
+        let same : kind ≡ filled (field_thing p (holder_of p fr.method) f) (field sh f) = ap (λ h. filled (field_thing p h f) (field sh f)) at_hand.good.stack.1.holder in
+        let w = own_for p (An_object_of y) kind (ap (λ k. is_own_for p (An_object_of y) k) same ∙ sym (ap (λ x. is_target p x (filled (field_thing p (holder_of p fr.method) f) (field sh f))) e) ∙ n.0) in
+        let there = something (field_thing p (home_holder fr.home) f) (field sh f) w.0 w.1 w.2 in
+        let does_so = ready (field_thing p (holder_of p fr.method) f) (field sh f) (age_of (filled (field_thing p (holder_of p fr.method) f) (field sh f)) n.1) in
+        let x = kept_in f y e w.0 w.1 w.2 w.3 there does_so in (
+          (there, subst (λ k. AllTrue (needs_target_object p k (held s.cells (field_place fr.home f)))) (sym e) (target_met y (held s.cells (field_place fr.home f)) x.0 w.0 x.1 x.2 w.3)),
+          at_home (field_place fr.home f) x.0 after_arguments x.1 (on_field f y e w.0 w.1 w.2 w.3 there does_so),
+        )
+      where
+        something : (x : Option Thing) (y : Filling) (z : Thing) (a : Age) → filled x y ≡ Own z a → is_some x ≡ true
+        something None y z a e = cc
+        something (Some x) y z a e = refl
+
+        -- what a field owns is ready
+        ready : (x : Option Thing) (y : Filling) → (method_role p m ≡ Some Do) ⊎ ((method_role p m ≡ Some Construct) × (is_fresh_kind (filled x y) ≡ true)) → method_role p m ≡ Some Do
+        ready x y (inl role) = role
+        ready None y (inr w) = let clash : false ≡ true = w.1 in cc
+        ready (Some x) Empty (inr w) = let clash : false ≡ true = w.1 in cc
+        ready (Some x) Full (inr w) = let clash : false ≡ true = w.1 in cc
+        ready (Some x) Perhaps (inr w) = let clash : false ≡ true = w.1 in cc
+
+    answer : (target : Target) → AllTrue (rule_target p fr.method sh target (method_class p m) (is_construct (method_role p m)) first (length xs)) → Answer target
+    answer This n = on_this (method_class p m) refl n
+    answer (On_register r) n = on_owned r (method_class p m) refl n
+    answer (On_field f) n = on_kept f (method_class p m) refl n
+    answer (On_entry k) n = cc
+
+    -- what the result comes to owns nothing
+    result_free : (x : ℕ) → is_unowning (register after_arguments x) ≡ true → is_none (held cs (top ls x)) ≡ true
+    result_free x u = ap is_none (fits_unowning p (held cs) _ (register after_arguments x) u (subst (λ k. Fits p (held cs) (held cs (top ls x)) k)
+        (ap (λ b. cond b (at Unset regs x) (claim p (declared p cs) (Method fr after_arguments ∷ ls) (top ls x))) (ne_eqb (suc (length (tasks_of ls))) (length (tasks_of ls)) (λ e. absurd (omega arith))) ∙ claim_register p (declared p cs) fr after_arguments ls x)
+        (passed.fits (top ls x))))
+
+    result_met : (g : Gives) (x : ℕ) → awaits g (register after_arguments x) ≡ true → AllTrue (needs_result p fr (tasks_of ls) s g cs x)
+    result_met Nothing x a = tt
+    result_met A_word x a = (result_free x a, tt)
+    result_met (An_own y) x a = (result_free x a, tt)
+    result_met (A_maybe y) x a = (result_free x a, tt)
+    result_met (Left y) x a = cc
+
+    awaited : (g : Gives) (x : ℕ) (sh' : Shape) → ((i : ℕ) → is_unowning (register sh' i) ≡ is_unowning (register after_arguments i)) → awaits g (register after_arguments x) ≡ true → Awaits g x sh'
+    awaited Nothing x sh' same a = tt
+    awaited A_word x sh' same a = same x ∙ a
+    awaited (An_own y) x sh' same a = same x ∙ a
+    awaited (A_maybe y) x sh' same a = same x ∙ a
+    awaited (Left y) x sh' same a = cc
+
+module _ (p : Image) (t : Typing) (wired : IsWired p) (typed : IsTyped p t) (c : Choice) (s : State) (fr : Frame) (sh : Shape) (ls : List Layer) (at_hand : At p t s fr sh ls) where
+  pub law_call : (target : Target) (m first x : ℕ) → instr_at p fr.method fr.place ≡ Some (Call target m first x) → Law p t c s fr sh ls at_hand (Call target m first x)
+  law_call target m first x here n leads =
+      let called = wired.called fr.method fr.place target m first x here in
+      let parts = all_parts (rule_target p fr.method sh target (method_class p m) (is_construct (method_role p m)) first (length (arguments_of p m))) _ n in
+      let more = all_parts (each_argument p sh (arguments_of p m) first) _ parts.1.1 in
+      let passed = all_passed p t fr ls s (arguments_of p m) first 0 s.cells sh [] [] refl more.0 (none_passed p t fr ls s.cells sh at_hand.good) in
+      let a = answer p t wired typed c s fr sh ls at_hand m first called passed target parts.0 in
+      let sh' = while_called target (method_class p m) (arguments_moved (arguments_of p m) first sh) in
+      let at_x : result_register (instr_at p fr.method fr.place) ≡ x = ap result_register here in
+      let home = target_home p fr (tasks_of ls) s target (method_class p m) in
+      let stands : Stands p t (Returns m home) fr sh' = (
+        λ l. (
+          only_then (leaves p m) (leaves p fr.method) more.1.1.1.0 l,
+          none_owns_each sh'.registers (λ i. a.1.owning i ∙ none_owns_at (arguments_moved (arguments_of p m) first sh).registers i (only_then (leaves p m) _ more.1.1.1.1.0 l)),
+        ),
+        subst (λ y. Awaits (gives_of p m) y sh') (sym at_x) (awaited p t wired typed c s fr sh ls at_hand m first called passed (gives_of p m) x sh' a.1.owning more.1.1.0),
+        subst (λ y. Leads t fr.method (suc fr.place) (brought (gives_of p m) y sh')) (sym at_x) leads.0,
+      ) in (
+        all_join (needs_target p fr (tasks_of ls) s target (method_class p m) first (length (arguments_of p m))) _ a.0
+            (parts.1.0, all_join (needs_each p fr (tasks_of ls) s (arguments_of p m) first) _ (each_met p t c s fr sh ls at_hand (arguments_of p m) first more.0) (result_met p t wired typed c s fr sh ls at_hand m first called passed (gives_of p m) x more.1.1.0)),
+        enter p t wired typed c s fr sh ls at_hand m first called passed home sh' a.1 stands (does p c fr (tasks_of ls) s (Call target m first x)) refl refl refl,
+      )

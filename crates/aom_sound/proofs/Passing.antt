@@ -1,0 +1,198 @@
+-- The arguments of a call go over to the method called, one after the other.
+use Rattle.std.proofs.Common.{Bool, List, None, Option, [], ap, append-nil, append_assoc, arith, cond, false, length, refl, subst, suc, sym, true, ℕ, ℤ, ◌&&◌, ◌<◌, ◌==◌, ◌∙◌, ◌∷◌, ◌≡◌}
+use Rattle.std.proofs.lemmas.Bool.{eqb-true, ne_eqb}
+use Rattle.std.specs.Prelude.{is_none, map, ◌++◌}
+use Rattle.aom_image.specs.Image.{Image}
+use Rattle.aom_image.specs.declared.method.Argument.{Argument}
+use Rattle.aom_image.specs.declared.method.Argument.TheVariants.{Own as Takes_own, Word as Takes_word}
+use Rattle.aom_shape.specs.Calls.{argument_needs, arguments_moved, each_argument}
+use Rattle.aom_shape.specs.Kinds.{is_object_or_null, register, set_register}
+use Rattle.aom_shape.specs.Needs.{AllTrue}
+use Rattle.aom_shape.specs.Shape.{Shape}
+use Rattle.aom_shape.specs.Tables.{at, put_at}
+use Rattle.aom_shape.specs.Typing.{Typing, argument_kind}
+use Rattle.aom_shape.specs.declared.kind.Age.TheVariants.{Ready}
+use Rattle.aom_shape.specs.declared.kind.Kind.{Kind}
+use Rattle.aom_shape.specs.declared.kind.Kind.TheVariants.{Null, Own, Unset, Word}
+use Rattle.aom_sound.proofs.Claimed.{claim-set_register, claim_register_above, declared_moved, keep_fits, stack_moved}
+use Rattle.aom_sound.proofs.Finishing.{all_join, all_parts}
+use Rattle.aom_sound.proofs.Maps.{at-put_at, held_moved, same_place-true, tidy_moved}
+use Rattle.aom_sound.proofs.Returning.{held_thing, may_own, word_is}
+use Rattle.aom_sound.proofs.Straight.{At, claim_register, fits_unowning, housed_relocated, kind_fits, no_word_fits, word_of_object, words_null, words_set}
+use Rattle.aom_sound.specs.Calls.{needs_each, passed_cells, passed_words}
+use Rattle.aom_sound.specs.Claims.{Layer, Method, claim, declared, tasks_of}
+use Rattle.aom_sound.specs.Places.{Cell, Elsewhere, Entry, Field, Going, Place, Register, Root, Tidy, changed, held, moved, same_place}
+use Rattle.aom_sound.specs.State.{Choice, Frame, State, Static, frame_of, word}
+use Rattle.aom_sound.specs.WellTyped.{Fits, Good, IsHoused, Returns, Stack, WordFits}
+
+-- a list written at its end, and read there
+put_at_end : {A : Type 0} (d : A) (xs : List A) (v : A) → put_at d xs (length xs) v ≡ xs ++ v ∷ []
+put_at_end d [] v = refl
+put_at_end d (x ∷ xs) v = ap (λ ys. x ∷ ys) (put_at_end d xs v)
+
+at_end : {A : Type 0} (d : A) (xs : List A) → at d xs (length xs) ≡ d
+at_end d [] = refl
+at_end d (x ∷ xs) = at_end d xs
+
+length_more : {A : Type 0} (xs : List A) (v : A) → length (xs ++ v ∷ []) ≡ suc (length xs)
+length_more [] v = refl
+length_more (x ∷ xs) v = ap suc (length_more xs v)
+
+-- the registers that the method called has so far, and nothing else of it
+abbrev pub taken : List Kind → Shape
+taken regs = record { registers = regs; fields = []; entries = [] }
+
+abbrev pub taker : Frame
+taker = frame_of 0 Static 0
+
+module _ (p : Image) (t : Typing) (fr : Frame) (ls : List Layer) where
+  -- the place of the caller's register, and of the register of the method called
+  abbrev pub lower : ℕ → Place
+  lower i = Register (length (tasks_of ls)) i
+
+  abbrev pub upper : ℕ → Place
+  upper i = Register (suc (length (tasks_of ls))) i
+
+  -- these registers are filled, and the caller is as that state says
+  pub record Passed (cs : List Cell) (sh : Shape) (regs : List Kind) (ws : List (Option ℤ)) : Type 0 where
+    pub fits : (r : Place) → Fits p (held cs) (held cs r) (claim p (declared p cs) (Method taker (taken regs) ∷ Method fr sh ∷ ls) r)
+    pub tidy : Tidy cs
+    pub words : (i : ℕ) → WordFits (word fr i) (register sh i)
+    pub given : (i : ℕ) → WordFits (at None ws i) (at Unset regs i)
+    pub housed : IsHoused p cs ls fr.home
+    pub stack : Stack p t cs (Returns fr.method fr.home) ls
+    pub even : length ws ≡ length regs
+
+  -- at first none is
+  pub none_passed : (cs : List Cell) (sh : Shape) → Good p t cs (Method fr sh ∷ ls) → Passed cs sh [] []
+  none_passed cs sh g = record { fits = fits; tidy = g.tidy; words = g.stack.1.words; given = λ i. tt; housed = g.stack.2; stack = g.stack.4; even = refl }
+    where
+      fits : (r : Place) → Fits p (held cs) (held cs r) (claim p (declared p cs) (Method taker (taken []) ∷ Method fr sh ∷ ls) r)
+      fits (Register f i) = go (suc (length (tasks_of ls)) == f) refl
+        where
+          go : (b : Bool) → (suc (length (tasks_of ls)) == f) ≡ b → Fits p (held cs) (held cs (Register f i)) (cond b Unset (claim p (declared p cs) (Method fr sh ∷ ls) (Register f i)))
+          go true e = subst (λ o. Fits p (held cs) o Unset) (sym (fits_unowning p (held cs) _ Null refl (subst (λ k. Fits p (held cs) (held cs (Register f i)) k) (claim_register_above p cs (Method fr sh ∷ ls) f i (omega (arith, eqb-true _ _ e))) (g.fits (Register f i))))) tt
+          go false e = g.fits (Register f i)
+      fits (Entry k) = g.fits (Entry k)
+      fits (Field n f) = g.fits (Field n f)
+      fits (Elsewhere Root) = g.fits (Elsewhere Root)
+      fits (Going k) = g.fits (Going k)
+
+  -- the next register of the method called owns nothing
+  next_free : (cs : List Cell) (sh : Shape) (regs : List Kind) (ws : List (Option ℤ)) → Passed cs sh regs ws → held cs (upper (length regs)) ≡ None
+  next_free cs sh regs ws g =
+      fits_unowning p (held cs) _ Unset refl (subst (λ k. Fits p (held cs) (held cs (upper (length regs))) k) (claim_register p (declared p cs) taker (taken regs) (Method fr sh ∷ ls) (length regs) ∙ at_end Unset regs) (g.fits (upper (length regs))))
+
+  -- a register of the caller is claimed anew below the method called
+  pub under : (d : Place → Kind) (sh : Shape) (regs : List Kind) (a : ℕ) (v : Kind) (r : Place) → claim p d (Method taker (taken regs) ∷ Method fr (set_register sh a v) ∷ ls) r ≡ changed (claim p d (Method taker (taken regs) ∷ Method fr sh ∷ ls)) (lower a) v r
+  under d sh regs a v (Register f i) = go (suc (length (tasks_of ls)) == f) refl
+    where
+      go : (b : Bool) → (suc (length (tasks_of ls)) == f) ≡ b → cond b (at Unset regs i) (claim p d (Method fr (set_register sh a v) ∷ ls) (Register f i)) ≡ cond (same_place (lower a) (Register f i)) v (cond b (at Unset regs i) (claim p d (Method fr sh ∷ ls) (Register f i)))
+      go true e = ap (λ b. cond (b && (a == i)) v (at Unset regs i)) (sym (ne_eqb (length (tasks_of ls)) f (λ n. absurd (omega (arith, eqb-true _ _ e)))))
+      go false e = claim-set_register p d fr sh ls a v (Register f i)
+  under d sh regs a v (Entry k) = claim-set_register p d fr sh ls a v (Entry k)
+  under d sh regs a v (Field n f) = claim-set_register p d fr sh ls a v (Field n f)
+  under d sh regs a v (Elsewhere Root) = claim-set_register p d fr sh ls a v (Elsewhere Root)
+  under d sh regs a v (Going k) = claim-set_register p d fr sh ls a v (Going k)
+
+  -- one more register is filled
+  over : (d : Place → Kind) (sh : Shape) (regs : List Kind) (v : Kind) (r : Place) → claim p d (Method taker (taken (regs ++ v ∷ [])) ∷ Method fr sh ∷ ls) r ≡ changed (claim p d (Method taker (taken regs) ∷ Method fr sh ∷ ls)) (upper (length regs)) v r
+  over d sh regs v r = ap (λ ks. claim p d (Method taker (taken ks) ∷ Method fr sh ∷ ls) r) (sym (put_at_end Unset regs v)) ∙ claim-set_register p d taker (taken regs) (Method fr sh ∷ ls) (length regs) v r
+
+  given_more : (regs : List Kind) (ws : List (Option ℤ)) (k : Kind) (w : Option ℤ) → length ws ≡ length regs → ((i : ℕ) → WordFits (at None ws i) (at Unset regs i)) → WordFits w k → (i : ℕ) → WordFits (at None (ws ++ w ∷ []) i) (at Unset (regs ++ k ∷ []) i)
+  given_more regs ws k w even given new i =
+      subst (λ ks. WordFits (at None (ws ++ w ∷ []) i) (at Unset ks i)) (put_at_end Unset regs k)
+      (subst (λ vs. WordFits (at None vs i) (at Unset (put_at Unset regs (length regs) k) i)) (ap (λ n. put_at None ws n w) (sym even) ∙ put_at_end None ws w)
+      (words_set ws (taken regs) (length regs) w k given new i))
+
+  even_more : (regs : List Kind) (ws : List (Option ℤ)) (k : Kind) (w : Option ℤ) → length ws ≡ length regs → length (ws ++ w ∷ []) ≡ length (regs ++ k ∷ [])
+  even_more regs ws k w even = length_more ws w ∙ ap suc even ∙ sym (length_more regs k)
+
+  -- a word is copied
+  word_passed : (cs : List Cell) (sh : Shape) (regs : List Kind) (ws : List (Option ℤ)) (w : Option ℤ) → WordFits w Word → Passed cs sh regs ws → Passed cs sh (regs ++ Word ∷ []) (ws ++ w ∷ [])
+  word_passed cs sh regs ws w new g = record {
+    fits = λ r. subst (λ k. Fits p (held cs) (held cs r) k) (sym (over (declared p cs) sh regs Word r)) (go r (same_place (upper (length regs)) r) refl);
+    tidy = g.tidy;
+    words = g.words;
+    given = given_more regs ws Word w g.even g.given new;
+    housed = g.housed;
+    stack = g.stack;
+    even = even_more regs ws Word w g.even;
+  }
+    where
+      go : (r : Place) (b : Bool) → same_place (upper (length regs)) r ≡ b → Fits p (held cs) (held cs r) (cond b Word (claim p (declared p cs) (Method taker (taken regs) ∷ Method fr sh ∷ ls) r))
+      go r true e = subst (λ o. Fits p (held cs) o Word) (sym (ap (λ q. held cs q) (sym (same_place-true (upper (length regs)) r e)) ∙ next_free cs sh regs ws g)) tt
+      go r false e = g.fits r
+
+  -- an object moves
+  object_passed : (cs : List Cell) (sh : Shape) (regs : List Kind) (ws : List (Option ℤ)) (a : ℕ) (k : Kind) → register sh a ≡ k → is_object_or_null k ≡ true → Passed cs sh regs ws → Passed (moved (lower a) (upper (length regs)) cs) (set_register sh a Null) (regs ++ k ∷ []) (ws ++ None ∷ [])
+  object_passed cs sh regs ws a k here object g = record {
+    fits = λ r. subst (λ d. Fits p (held cs') (held cs' r) (claim p d (Method taker (taken (regs ++ k ∷ [])) ∷ Method fr (set_register sh a Null) ∷ ls) r)) (sym (declared_moved p cs q to))
+        (keep_fits p (held cs) (held cs') before (claim p (declared p cs) (Method taker (taken (regs ++ k ∷ [])) ∷ Method fr (set_register sh a Null) ∷ ls)) q to (λ r. held_moved cs q to r free) claims (λ r x e f j. refl) g.fits r);
+    tidy = tidy_moved cs q to free g.tidy;
+    words = words_null fr.words sh a g.words (word_of_object (word fr a) (register sh a) (ap is_object_or_null here ∙ object) (g.words a));
+    given = given_more regs ws k None g.even g.given (no_word_fits k object);
+    housed = housed_relocated p cs q to ls fr.home free (omega arith) (omega arith) (λ o from e. (tt, tt)) g.housed;
+    stack = stack_moved p t cs q to ls (Returns fr.method fr.home) free (omega arith) (omega arith) g.stack;
+    even = even_more regs ws k None g.even;
+  }
+    where
+      q : Place
+      q = lower a
+
+      to : Place
+      to = upper (length regs)
+
+      cs' : List Cell
+      cs' = moved q to cs
+
+      free : held cs to ≡ None
+      free = next_free cs sh regs ws g
+
+      before : Place → Kind
+      before = claim p (declared p cs) (Method taker (taken regs) ∷ Method fr sh ∷ ls)
+
+      at_source : before q ≡ k
+      at_source = ap (λ b. cond b (at Unset regs a) (claim p (declared p cs) (Method fr sh ∷ ls) q)) (ne_eqb (suc (length (tasks_of ls))) (length (tasks_of ls)) (λ e. absurd (omega arith))) ∙ claim_register p (declared p cs) fr sh ls a ∙ here
+
+      claims : (r : Place) → claim p (declared p cs) (Method taker (taken (regs ++ k ∷ [])) ∷ Method fr (set_register sh a Null) ∷ ls) r ≡ changed (changed before q Null) to (before q) r
+      claims r =
+          over (declared p cs) (set_register sh a Null) regs k r
+          ∙ ap (λ x. cond (same_place to r) k x) (under (declared p cs) sh regs a Null r)
+          ∙ ap (λ x. changed (changed before q Null) to x r) (sym at_source)
+
+  -- what the rule says of the later arguments, once one has moved
+  each_kept : (xs : List Argument) (sh : Shape) (a j : ℕ) → a < j → AllTrue (each_argument p sh xs j) → AllTrue (each_argument p (set_register sh a Null) xs j)
+  each_kept [] sh a j lt h = tt
+  each_kept (x ∷ xs) sh a j lt h =
+      let parts = all_parts (argument_needs p x (register sh j)) _ h in
+      let same : register (set_register sh a Null) j ≡ register sh j = at-put_at Unset sh.registers a j Null ∙ ap (λ b. cond b Null (register sh j)) (ne_eqb a j (λ e. absurd (omega arith))) in
+      all_join (argument_needs p x (register (set_register sh a Null) j)) _ (subst (λ k. AllTrue (argument_needs p x k)) (sym same) parts.0) (each_kept xs sh a (suc j) (omega arith) parts.1)
+
+  -- all of them
+  pub all_passed : (ts : State) (xs : List Argument) (first to : ℕ) (cs : List Cell) (sh : Shape) (regs : List Kind) (ws : List (Option ℤ)) → to ≡ length regs → AllTrue (each_argument p sh xs first) → Passed cs sh regs ws
+      → Passed (passed_cells p fr (tasks_of ls) ts xs first to cs) (arguments_moved xs first sh) (regs ++ map argument_kind xs) (ws ++ passed_words p fr (tasks_of ls) ts xs first)
+  all_passed s [] first to cs sh regs ws e n g = subst (λ vs. Passed cs sh (regs ++ []) vs) (sym (append-nil ws)) (subst (λ ks. Passed cs sh ks ws) (sym (append-nil regs)) g)
+  all_passed s (Takes_word ∷ xs) first to cs sh regs ws e n g =
+      let new : WordFits (word fr first) Word = (word_is p s (word fr first) (register sh first) n.0 (g.words first)).1 in
+      let rest = all_passed s xs (suc first) (suc to) cs sh (regs ++ Word ∷ []) (ws ++ word fr first ∷ []) (ap suc e ∙ sym (length_more regs Word)) n.1 (word_passed cs sh regs ws (word fr first) new g) in
+      subst (λ vs. Passed (passed_cells p fr (tasks_of ls) s xs (suc first) (suc to) cs) (arguments_moved xs (suc first) sh) (regs ++ Word ∷ map argument_kind xs) vs) (append_assoc ws (word fr first ∷ []) (passed_words p fr (tasks_of ls) s xs (suc first)))
+      (subst (λ ks. Passed (passed_cells p fr (tasks_of ls) s xs (suc first) (suc to) cs) (arguments_moved xs (suc first) sh) ks ((ws ++ word fr first ∷ []) ++ passed_words p fr (tasks_of ls) s xs (suc first))) (append_assoc regs (Word ∷ []) (map argument_kind xs)) rest)
+  all_passed s (Takes_own x ∷ xs) first to cs sh regs ws e n g =
+      let k = may_own p s x (register sh first) n.0 n.1.0 in
+      let cs' = moved (lower first) (upper to) cs in
+      let sh' = set_register sh first Null in
+      let one : Passed cs' sh' (regs ++ Own x Ready ∷ []) (ws ++ None ∷ []) = subst (λ i. Passed (moved (lower first) (upper i) cs) sh' (regs ++ Own x Ready ∷ []) (ws ++ None ∷ [])) (sym e) (object_passed cs sh regs ws first (Own x Ready) k refl g) in
+      let rest = all_passed s xs (suc first) (suc to) cs' sh' (regs ++ Own x Ready ∷ []) (ws ++ None ∷ []) (ap suc e ∙ sym (length_more regs (Own x Ready))) (each_kept xs sh first (suc first) (omega arith) n.1.1) one in
+      subst (λ vs. Passed (passed_cells p fr (tasks_of ls) s xs (suc first) (suc to) cs') (arguments_moved xs (suc first) sh') (regs ++ Own x Ready ∷ map argument_kind xs) vs) (append_assoc ws (None ∷ []) (passed_words p fr (tasks_of ls) s xs (suc first)))
+      (subst (λ ks. Passed (passed_cells p fr (tasks_of ls) s xs (suc first) (suc to) cs') (arguments_moved xs (suc first) sh') ks ((ws ++ None ∷ []) ++ passed_words p fr (tasks_of ls) s xs (suc first))) (append_assoc regs (Own x Ready ∷ []) (map argument_kind xs)) rest)
+
+module _ (p : Image) (t : Typing) (c : Choice) (s : State) (fr : Frame) (sh : Shape) (ls : List Layer) (at_hand : At p t s fr sh ls) where
+  -- each argument is as the machine needs it
+  pub each_met : (xs : List Argument) (first : ℕ) → AllTrue (each_argument p sh xs first) → AllTrue (needs_each p fr (tasks_of ls) s xs first)
+  each_met [] first n = tt
+  each_met (Takes_word ∷ xs) first n = ((word_is p s (word fr first) (register sh first) n.0 (at_hand.good.stack.1.words first)).0, each_met xs (suc first) n.1)
+  each_met (Takes_own x ∷ xs) first n =
+      let k = may_own p s x (register sh first) n.0 n.1.0 in
+      let h = held_thing p s x (held s.cells (Register (length (tasks_of ls)) first)) (subst (λ k. Fits p (held s.cells) (held s.cells (Register (length (tasks_of ls)) first)) k) k (kind_fits p t c s fr sh ls at_hand first)) in
+      (ap is_none (word_of_object (word fr first) (register sh first) (ap is_object_or_null k) (at_hand.good.stack.1.words first)), (h.0, (h.1, each_met xs (suc first) n.1.1)))

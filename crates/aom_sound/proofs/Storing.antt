@@ -1,0 +1,74 @@
+-- The words of a cell count for no place: where they alone change, all that is claimed holds on.
+use Rattle.std.proofs.Common.{List, Some, [], ap, cond, refl, subst, sym, ℕ, ℤ, ◌==◌, ◌∙◌, ◌∷◌, ◌≡◌}
+use Rattle.aom_image.specs.Image.{Image}
+use Rattle.aom_shape.specs.Shape.{Shape}
+use Rattle.aom_shape.specs.Typing.{Typing}
+use Rattle.aom_sound.proofs.Claimed.{claim_rel, fits_age}
+use Rattle.aom_sound.proofs.Straight.{Fitted}
+use Rattle.aom_sound.specs.Claims.{Dispatching, Dying, Layer, Mark, Method, claim, declared, declared_field}
+use Rattle.aom_sound.specs.Places.{Cell, Elsewhere, Entry, Field, Going, Place, Register, Root, Tidy, held, named, same_place, set_word_field}
+use Rattle.aom_sound.specs.State.{AtRoot, Frame, Home, Inside, Static}
+use Rattle.aom_sound.specs.WellTyped.{Back, Fits, IsHoused, Stack}
+use Rattle.aom_sound.specs.Words.{stored}
+
+-- the same cells in the same places
+record Alike (cs cs' : List Cell) : Type 0 where
+  held_so : (r : Place) → held cs' r ≡ held cs r
+  named_so : (n : ℕ) → named cs' n ≡ named cs n
+  tidy : Tidy cs → Tidy cs'
+
+held_set_word : (cs : List Cell) (n w : ℕ) (v : ℤ) (r : Place) → held (set_word_field n w v cs) r ≡ held cs r
+held_set_word [] n w v r = refl
+held_set_word (c ∷ cs) n w v r = ap (λ x. cond (same_place c.owner r) (Some c.object) x) (held_set_word cs n w v r)
+
+named_set_word : (cs : List Cell) (n w : ℕ) (v : ℤ) (m : ℕ) → named (set_word_field n w v cs) m ≡ named cs m
+named_set_word [] n w v m = refl
+named_set_word (c ∷ cs) n w v m = ap (λ x. cond (c.object.name == m) (Some c.object) x) (named_set_word cs n w v m)
+
+tidy_set_word : (cs : List Cell) (n w : ℕ) (v : ℤ) → Tidy cs → Tidy (set_word_field n w v cs)
+tidy_set_word [] n w v t = tt
+tidy_set_word (c ∷ cs) n w v t = (held_set_word cs n w v c.owner ∙ t.0, named_set_word cs n w v c.object.name ∙ t.1, tidy_set_word cs n w v t.2)
+
+stored_alike : (cs : List Cell) (home : Home) (w : ℕ) (v : ℤ) → Alike cs (stored cs home w v)
+stored_alike cs Static w v = record { held_so = λ r. refl; named_so = λ n. refl; tidy = λ t. t }
+stored_alike cs AtRoot w v = record { held_so = λ r. refl; named_so = λ n. refl; tidy = λ t. t }
+stored_alike cs (Inside o from) w v = record { held_so = held_set_word cs o.name w v; named_so = named_set_word cs o.name w v; tidy = tidy_set_word cs o.name w v }
+
+module _ (p : Image) (t : Typing) (cs cs' : List Cell) (alike : Alike cs cs') where
+  declared_alike : (r : Place) → declared p cs' r ≡ declared p cs r
+  declared_alike (Register f i) = refl
+  declared_alike (Entry k) = refl
+  declared_alike (Field n f) = ap (λ o. declared_field p o f) (alike.named_so n)
+  declared_alike (Elsewhere Root) = refl
+  declared_alike (Going k) = refl
+
+  housed_alike : (ls : List Layer) (home : Home) → IsHoused p cs ls home → IsHoused p cs' ls home
+  housed_alike ls Static h = h
+  housed_alike ls AtRoot h = h
+  housed_alike ls (Inside o from) h = record { there = alike.held_so from ∙ h.there; lives = alike.named_so o.name ∙ h.lives; below = h.below; ready = h.ready }
+
+  stack_alike : (ls : List Layer) (back : Back) → Stack p t cs back ls → Stack p t cs' back ls
+  stack_alike [] back s = s
+  stack_alike (Method fr sh ∷ ls) back s = (s.0, s.1, housed_alike ls fr.home s.2, s.3, stack_alike ls _ s.4)
+  stack_alike (Mark gv ∷ ls) back s = (s.0, stack_alike ls _ s.1)
+  stack_alike (Dying o ∷ ls) back s = ((alike.named_so o.name ∙ s.0.0, alike.held_so _ ∙ s.0.1), s.1, stack_alike ls _ s.2)
+  stack_alike (Dispatching d ∷ ls) back s = s
+
+  fits_alike : (ls : List Layer) (r : Place) → Fits p (held cs) (held cs r) (claim p (declared p cs) ls r) → Fits p (held cs') (held cs' r) (claim p (declared p cs') ls r)
+  fits_alike ls r f =
+      subst (λ k. Fits p (held cs') (held cs' r) k) (sym (claim_rel (λ x y. x ≡ y) (λ k. refl) p (declared p cs') (declared p cs) ls r (declared_alike r)))
+      (subst (λ o. Fits p (held cs') o (claim p (declared p cs) ls r)) (sym (alike.held_so r)) (fits_age p (held cs) (held cs') (held cs r) _ (λ x e fresh f nf. alike.held_so _ ∙ nf) f))
+
+-- a word is stored
+pub stored_fitted : (p : Image) (t : Typing) (cs : List Cell) (home : Home) (w : ℕ) (v : ℤ) (fr : Frame) (sh : Shape) (ls : List Layer) → Fitted p t cs fr sh ls → Fitted p t (stored cs home w v) fr sh ls
+stored_fitted p t cs home w v fr sh ls g =
+    let alike = stored_alike cs home w v in
+    let cs' = stored cs home w v in
+    record {
+      fits = λ r. fits_alike p t cs cs' alike (Method fr sh ∷ ls) r (g.fits r);
+      tidy = alike.tidy g.tidy;
+      frames = g.frames;
+      housed = housed_alike p t cs cs' alike ls fr.home g.housed;
+      apart = g.apart;
+      stack = stack_alike p t cs cs' alike ls _ g.stack;
+    }

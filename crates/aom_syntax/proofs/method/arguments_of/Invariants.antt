@@ -1,0 +1,12 @@
+use Rattle.std.proofs.Common.{◌≡◌, ◌+◌, [], Option, Some, None, List, ℕ, length}
+use Rattle.std.specs.Option.{option_map}
+use Rattle.aom_syntax.specs.Classes.{listed, elements, parts_left}
+use Rattle.aom_syntax.specs.Methods.{argument_of}
+use Rattle.aom_syntax.proofs.Lists.{left_of}
+use Rattle.aom_syntax.proofs.method.arguments_of.Given as goal
+
+abbrev pub invariant-loop-rest : goal.invariant-loop-rest
+invariant-loop-rest l = listed 6 (argument_of l.fn.scope) l.fn.word ≡ elements 6 (argument_of l.fn.scope) l.arguments.items (parts_left (option_map (λ r. r.now) l.rest))
+
+abbrev pub decreases-loop-rest : goal.decreases-loop-rest
+decreases-loop-rest l = left_of (option_map (λ r. r.now) l.rest)

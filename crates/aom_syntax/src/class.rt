@@ -1,0 +1,228 @@
+//! The statement that declares a class.
+ghost use Rattle.std.specs.Prelude.{◌≡◌, ◌≤◌, ◌∷◌, ◌==◌, ◌<◌, length, option_map, IfSome};
+ghost use Rattle.std.specs.List.{slice_split, position};
+ghost use Rattle.aom_syntax.specs.Reading.{Reads, ReadsOrNoMemory};
+ghost use Rattle.aom_syntax.specs.Classes.{declared, parts_left, class_of, thing_of, thing, things, listed, provider, server, purpose, budget, kind, fields, class_statement};
+
+use crate::{Keyword, Names, Reader, Scope};
+use aom_image::{ClassDecl, ClassKind, ClassNumber, Items, NativeNumber, Provider, Thing};
+use aom_text::{AsmFaultKind, is_name};
+use std::alloc::Global;
+
+/// What a class's kind says before its budget is read.
+#[derive(Clone, Copy)]
+pub enum Purpose {
+    Plain,
+    Active(Provider),
+    Server(u8, ClassNumber),
+    Session,
+}
+
+/// The first element of a list, and what comes after its comma.
+pub fn split_element(list: &[u8]) -> (&[u8], Option<&[u8]>)
+    ensures parts { slice_split (λ b. b == 44) list.now ≡ result.0.now ∷ parts_left (option_map (λ r. r.now) result.1) }
+    ensures shorter { IfSome result.1 (λ r. length r.now < length list.now) }
+{
+    match find_comma(list) {
+        Some(end) => (&list[..end], Some(&list[end + 1..])),
+        None => (list, None),
+    }
+}
+
+fn find_comma(list: &[u8]) -> Option<usize>
+    ensures { result ≡ position (λ b. b == 44) list.now }
+{
+    list.iter().position(|b| *b == b',')
+}
+
+fn class_of(word: &[u8], scope: &Scope) -> Result<ClassNumber, AsmFaultKind>
+    ensures { result ≡ class_of scope.now word.now }
+{
+    if !is_name(word) {
+        return Err(AsmFaultKind::BadShape);
+    }
+    match ClassNumber::new(scope.classes.number_of(word, scope.is_strict, 256)?) {
+        Some(class) => Ok(class),
+        None => Err(AsmFaultKind::LimitPassed),
+    }
+}
+
+pub fn thing_of(word: &[u8], scope: &Scope) -> Result<Thing, AsmFaultKind>
+    ensures { result ≡ thing_of scope.now word.now }
+{
+    if word == b"msg".as_slice() {
+        return Ok(Thing::Message);
+    }
+    Ok(Thing::Object(class_of(word, scope)?))
+}
+
+/// What a class owns, from a word that lists it.
+fn things_of(alloc: Global, word: &[u8], scope: &Scope) -> Result<Vec<Thing>, AsmFaultKind>
+    ensures { ReadsOrNoMemory (λ v. v.items) result (listed 8 (thing_of scope.now) word.now) }
+{
+    let mut things = Vec::new(alloc);
+    if word == b"-".as_slice() {
+        return Ok(things);
+    }
+    let mut rest = Some(word);
+    while let Some(list) = rest {
+        let (element, after) = split_element(list);
+        if things.len() >= 8 {
+            return Err(AsmFaultKind::LimitPassed);
+        }
+        let thing = thing_of(element, scope)?;
+        things.push(thing)?;
+        rest = after;
+    }
+    Ok(things)
+}
+
+impl<'a> Reader<'a> {
+    /// A name that is declared here, at its place among all of its kind.
+    pub fn declared(&mut self, place: usize, names: &Names) -> Result<(), AsmFaultKind>
+        ensures { Reads (λ x. (x, self.new)) result (declared place names.now self.old) }
+    {
+        let name = self.name()?;
+        match names.place_of(name) {
+            Some(first) if first == place => Ok(()),
+            _ => Err(AsmFaultKind::DoubleName),
+        }
+    }
+
+    pub fn thing(&mut self, scope: &Scope) -> Result<Thing, AsmFaultKind>
+        ensures { Reads (λ x. (x, self.new)) result (thing scope.now self.old) }
+    {
+        thing_of(self.word()?, scope)
+    }
+
+    fn things(&mut self, alloc: Global, scope: &Scope) -> Result<Vec<Thing>, AsmFaultKind>
+        ensures { ReadsOrNoMemory (λ x. (x.items, self.new)) result (things scope.now self.old) }
+    {
+        things_of(alloc, self.word()?, scope)
+    }
+
+    /// The provider that a keyword says.
+    fn provider(&mut self, key: Keyword, natives: u8) -> Result<Provider, AsmFaultKind>
+        ensures { Reads (λ x. (x, self.new)) result (provider natives key self.old) }
+    {
+        match key {
+            Keyword::This => Ok(Provider::Own),
+            Keyword::Timer => Ok(Provider::Timer),
+            Keyword::Native => match NativeNumber::new(self.number(0, 15)? as u8) {
+                Some(native) if native.number() < natives => Ok(Provider::Native(native)),
+                _ => Err(AsmFaultKind::LimitPassed),
+            },
+            _ => Err(AsmFaultKind::BadShape),
+        }
+    }
+
+    fn server(&mut self, scope: &Scope) -> Result<Purpose, AsmFaultKind>
+        ensures { Reads (λ x. (x, self.new)) result (server scope.now self.old) }
+    {
+        let session = self.class(scope)?;
+        self.keyword(Keyword::Max)?;
+        let sessions = self.number(1, 64)?;
+        Ok(Purpose::Server(sessions as u8, session))
+    }
+
+    /// What a keyword says that a class is for.
+    fn purpose(
+        &mut self,
+        key: Keyword,
+        scope: &Scope,
+        natives: u8,
+        servers: usize,
+    ) -> Result<Purpose, AsmFaultKind>
+        ensures { Reads (λ x. (x, self.new)) result (purpose scope.now natives servers key self.old) }
+    {
+        match key {
+            Keyword::Plain => Ok(Purpose::Plain),
+            Keyword::Session => Ok(Purpose::Session),
+            Keyword::Active => {
+                let provider = self.any_keyword()?;
+                Ok(Purpose::Active(self.provider(provider, natives)?))
+            }
+            Keyword::Server if servers < 8 => self.server(scope),
+            Keyword::Server => Err(AsmFaultKind::LimitPassed),
+            _ => Err(AsmFaultKind::BadShape),
+        }
+    }
+
+    fn budget(&mut self) -> Result<u32, AsmFaultKind>
+        ensures { Reads (λ x. (x, self.new)) result (budget self.old) }
+    {
+        self.keyword(Keyword::Budget)?;
+        let budget = self.number(0, u32::MAX)?;
+        self.nothing_more(false)?;
+        Ok(budget)
+    }
+
+    /// The end of the statement, where owned fields were listed or not.
+    fn kind(&mut self, has_fields: bool, purpose: Purpose) -> Result<ClassKind, AsmFaultKind>
+        ensures { Reads (λ x. (x, self.new)) result (kind has_fields purpose self.old) }
+    {
+        match purpose {
+            Purpose::Plain => {
+                self.nothing_more(!has_fields)?;
+                Ok(ClassKind::Plain)
+            }
+            Purpose::Session => {
+                self.nothing_more(!has_fields)?;
+                Ok(ClassKind::Session)
+            }
+            Purpose::Active(provider) => {
+                let budget = self.budget()?;
+                Ok(ClassKind::Active { provider, budget })
+            }
+            Purpose::Server(sessions, session) => {
+                let budget = self.budget()?;
+                Ok(ClassKind::Server {
+                    sessions,
+                    session,
+                    budget,
+                })
+            }
+        }
+    }
+
+    /// The owned fields, where they are listed.
+    fn fields(
+        &mut self,
+        alloc: Global,
+        has_fields: bool,
+        scope: &Scope,
+    ) -> Result<Vec<Thing>, AsmFaultKind>
+        ensures { ReadsOrNoMemory (λ x. (x.items, self.new)) result (fields scope.now has_fields self.old) }
+    {
+        if has_fields {
+            self.things(alloc, scope)
+        } else {
+            Ok(Vec::new(alloc))
+        }
+    }
+
+    /// The class of a statement, after the word `class`: at its place among the classes, after so many servers.
+    pub fn class_statement(
+        &mut self,
+        alloc: Global,
+        scope: &Scope,
+        natives: u8,
+        place: usize,
+        servers: usize,
+    ) -> Result<ClassDecl, AsmFaultKind>
+        ensures { ReadsOrNoMemory (λ x. (x, self.new)) result (class_statement scope.now natives place servers self.old) }
+    {
+        self.declared(place, &scope.classes)?;
+        let key = self.any_keyword()?;
+        let purpose = self.purpose(key, scope, natives, servers)?;
+        let words = self.optional_number(Keyword::Words, 8)?;
+        let has_fields = self.took(Keyword::Own);
+        let fields = self.fields(alloc, has_fields, scope)?;
+        let kind = self.kind(has_fields, purpose)?;
+        Ok(ClassDecl {
+            kind,
+            words: words as u8,
+            fields: Items::from_vec(fields),
+        })
+    }
+}

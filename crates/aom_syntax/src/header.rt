@@ -1,0 +1,43 @@
+//! The statement that opens a text.
+ghost use Rattle.std.specs.Prelude.{◌≡◌};
+ghost use Rattle.aom_syntax.specs.Reading.{Reads};
+ghost use Rattle.aom_syntax.specs.Headers.{optional_root, image_statement};
+
+use crate::{Keyword, Reader, Scope};
+use aom_image::{ClassNumber, Header};
+use aom_text::AsmFaultKind;
+
+impl<'a> Reader<'a> {
+    /// The end of the statement, with the class of the root or without.
+    fn optional_root(&mut self, scope: &Scope) -> Result<Option<ClassNumber>, AsmFaultKind>
+        ensures { Reads (λ x. (x, self.new)) result (optional_root scope.now self.old) }
+    {
+        if !self.took(Keyword::Root) {
+            self.nothing_more(true)?;
+            return Ok(None);
+        }
+        let root = self.class(scope)?;
+        self.nothing_more(false)?;
+        Ok(Some(root))
+    }
+
+    /// What a text says of the whole program, from the word `image` on.
+    pub fn image_statement(&mut self, scope: &Scope) -> Result<Header, AsmFaultKind>
+        ensures { Reads (λ x. (x, self.new)) result (image_statement scope.now self.old) }
+    {
+        self.keyword(Keyword::Image)?;
+        let cells = self.optional_number(Keyword::Cells, 4096)?;
+        let messages = self.optional_number(Keyword::Messages, 1024)?;
+        let natives = self.optional_number(Keyword::Natives, 16)?;
+        self.keyword(Keyword::Budget)?;
+        let budget = self.number(0, u32::MAX)?;
+        let root = self.optional_root(scope)?;
+        Ok(Header {
+            cells: cells as u16,
+            messages: messages as u16,
+            natives: natives as u8,
+            root,
+            budget,
+        })
+    }
+}

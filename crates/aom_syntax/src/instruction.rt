@@ -1,0 +1,72 @@
+//! The statements of a method's code.
+ghost use Rattle.std.specs.Prelude.{◌≡◌, option_map};
+ghost use Rattle.aom_syntax.specs.Reading.{Reads};
+ghost use Rattle.aom_syntax.specs.Methods.{label_of, named_mnemonic, check_label, after_label, instruction};
+
+use crate::keyword::strange;
+use crate::{Mnemonic, Names, Reader, Scope, words};
+use aom_image::Instr;
+use aom_text::{AsmFaultKind, is_name};
+
+/// The label that a word is, if it ends with a colon.
+pub fn label_of(word: &[u8]) -> Option<&[u8]>
+    ensures { option_map (λ l. l.now) result ≡ label_of word.now }
+{
+    match word {
+        [label @ .., b':'] => Some(label),
+        _ => None,
+    }
+}
+
+fn mnemonic_of(word: &[u8]) -> Result<Mnemonic, AsmFaultKind>
+    ensures { result ≡ named_mnemonic word.now }
+{
+    match Mnemonic::of(word) {
+        Some(mnemonic) => Ok(mnemonic),
+        None => Err(strange(word)),
+    }
+}
+
+/// A label is a name, and is declared first at this place.
+fn check_label(label: &[u8], labels: &Names, place: usize) -> Result<(), AsmFaultKind>
+    ensures { result ≡ check_label place labels.now label.now }
+{
+    if !is_name(label) {
+        return Err(AsmFaultKind::BadShape);
+    }
+    match labels.place_of(label) {
+        Some(first) if first == place => Ok(()),
+        _ => Err(AsmFaultKind::DoubleName),
+    }
+}
+
+impl<'a> Reader<'a> {
+    /// The first word that is no label. A label is declared at its place, and is not left without an instruction.
+    fn after_label(&mut self, labels: &Names, place: usize) -> Result<&'a [u8], AsmFaultKind>
+        ensures { Reads (λ w. (w.now, self.new)) result (after_label place labels.now self.old) }
+    {
+        let first = self.word()?;
+        match label_of(first) {
+            Some(label) => {
+                check_label(label, labels, place)?;
+                self.word()
+            }
+            None => Ok(first),
+        }
+    }
+
+    /// An instruction with its label, at its place in a method.
+    pub fn instruction(
+        &mut self,
+        scope: &Scope,
+        labels: &Names,
+        place: usize,
+    ) -> Result<Instr, AsmFaultKind>
+        ensures { Reads (λ x. (x, self.new)) result (instruction scope.now labels.now place self.old) }
+    {
+        let mnemonic = mnemonic_of(self.after_label(labels, place)?)?;
+        let instr = words::read(mnemonic, self, scope, labels)?;
+        self.nothing_more(false)?;
+        Ok(instr)
+    }
+}

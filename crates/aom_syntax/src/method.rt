@@ -1,0 +1,302 @@
+//! The statement that declares a method.
+ghost use Rattle.std.specs.Prelude.{◌≡◌, ◌≤◌, ◌<◌, ◌∷◌, length, option_map, replicate, IfOk};
+ghost use Rattle.aom_image.specs.declared.method.Argument.TheVariants.{Word};
+ghost use Rattle.aom_syntax.specs.Reading.{Reads, ReadsOrNoMemory};
+ghost use Rattle.aom_syntax.specs.Classes.{listed};
+ghost use Rattle.aom_syntax.specs.Methods.{role, role_of, kind_of, all_states, accepted, usual_before, usual_after, usual_words, usual_gives, is_quiet_role, optional_states, optional_class, argument_of, optional_arguments, gives, optional_gives, flags_of, heading};
+
+use crate::class::{split_element, thing_of};
+use crate::states::{set_of, states_of};
+use crate::{Keyword, Reader, Scope};
+use aom_image::{
+    Argument, ClassDecl, ClassKind, ClassNumber, Gives, Items, MethodFlags, Role, States, Thing,
+};
+use aom_text::AsmFaultKind;
+use std::alloc::{AllocError, Global};
+
+/// A method but its code.
+#[derive(Drop)]
+pub struct Heading {
+    pub class: Option<ClassNumber>,
+    pub role: Role,
+    pub flags: MethodFlags,
+    pub before: States,
+    pub after: States,
+    pub arguments: Items<Argument>,
+    pub gives: Gives,
+}
+
+/// The kind of a class among those that were read before.
+fn kind_of(classes: &Items<ClassDecl>, class: Option<ClassNumber>) -> ClassKind
+    ensures { result ≡ kind_of classes.now class }
+{
+    match class {
+        Some(class) => match classes.as_slice().get(class.number() as usize) {
+            Some(decl) => decl.kind,
+            None => ClassKind::Plain,
+        },
+        None => ClassKind::Plain,
+    }
+}
+
+/// All request states of a class's objects outside a cancel.
+fn all_states(kind: ClassKind) -> u8
+    ensures all { result ≡ all_states kind }
+    ensures few { result < 64 }
+{
+    match kind {
+        ClassKind::Active { .. } => 11,
+        ClassKind::Server { .. } => 3,
+        ClassKind::Plain | ClassKind::Session => 0,
+    }
+}
+
+/// The states in which a method may begin, where none are said.
+fn usual_before(role: Role, all: u8) -> u8
+    requires { all < 64 }
+    ensures usual { result ≡ usual_before role all }
+    ensures few { result < 64 }
+{
+    match role {
+        Role::Do | Role::Destruct => all,
+        Role::Construct if all != 0 => 1,
+        Role::Run | Role::Accept => 2,
+        Role::Cancel => 16,
+        Role::Error => 10,
+        Role::Main | Role::Construct | Role::Service | Role::Undo => 0,
+    }
+}
+
+/// The states in which it may end, where none are said.
+fn usual_after(role: Role, all: u8) -> u8
+    requires { all < 64 }
+    ensures usual { result ≡ usual_after role all }
+    ensures few { result < 64 }
+{
+    match role {
+        Role::Do | Role::Construct => all,
+        Role::Destruct if all != 0 => 3,
+        Role::Run | Role::Error => 11,
+        Role::Cancel => 32,
+        Role::Accept => 3,
+        Role::Main | Role::Destruct | Role::Service | Role::Undo => 0,
+    }
+}
+
+/// How many words it takes, where no arguments are said.
+fn usual_words(role: Role) -> usize
+    ensures { result ≡ usual_words role }
+{
+    match role {
+        Role::Error | Role::Undo => 1,
+        Role::Service => 5,
+        _ => 0,
+    }
+}
+
+/// What it gives, where nothing is said.
+fn usual_gives(role: Role, kind: ClassKind) -> Gives
+    ensures { result ≡ usual_gives role kind }
+{
+    match role {
+        Role::Error => Gives::Word,
+        Role::Accept => accepted(kind),
+        _ => Gives::Nothing,
+    }
+}
+
+/// What an accept of such a class gives.
+fn accepted(kind: ClassKind) -> Gives
+    ensures { result ≡ accepted kind }
+{
+    match kind {
+        ClassKind::Server { session, .. } => Gives::Own(Thing::Object(session)),
+        _ => Gives::Nothing,
+    }
+}
+
+/// Whether it is quiet, said or not.
+fn is_quiet_role(role: Role) -> bool
+    ensures { result ≡ is_quiet_role role }
+{
+    match role {
+        Role::Destruct | Role::Cancel | Role::Undo => true,
+        _ => false,
+    }
+}
+
+fn flags_of(leaves: bool, quiet: bool) -> MethodFlags
+    ensures { result ≡ flags_of leaves quiet }
+{
+    let byte = match (leaves, quiet) {
+        (false, false) => 0,
+        (true, false) => 1,
+        (false, true) => 2,
+        (true, true) => 3,
+    };
+    match MethodFlags::of_byte(byte) {
+        Some(flags) => flags,
+        None => MethodFlags::NONE,
+    }
+}
+
+fn role_of(key: Keyword) -> Result<Role, AsmFaultKind>
+    ensures { result ≡ role_of key }
+{
+    match key {
+        Keyword::Do => Ok(Role::Do),
+        Keyword::Main => Ok(Role::Main),
+        Keyword::Construct => Ok(Role::Construct),
+        Keyword::Destruct => Ok(Role::Destruct),
+        Keyword::Run => Ok(Role::Run),
+        Keyword::Cancel => Ok(Role::Cancel),
+        Keyword::Error => Ok(Role::Error),
+        Keyword::Accept => Ok(Role::Accept),
+        Keyword::Service => Ok(Role::Service),
+        Keyword::Undo => Ok(Role::Undo),
+        _ => Err(AsmFaultKind::BadShape),
+    }
+}
+
+fn argument_of(word: &[u8], scope: &Scope) -> Result<Argument, AsmFaultKind>
+    ensures { result ≡ argument_of scope.now word.now }
+{
+    if word == b"word".as_slice() {
+        return Ok(Argument::Word);
+    }
+    Ok(Argument::Own(thing_of(word, scope)?))
+}
+
+/// What a method takes, from a word that lists it.
+fn arguments_of(alloc: Global, word: &[u8], scope: &Scope) -> Result<Vec<Argument>, AsmFaultKind>
+    ensures { ReadsOrNoMemory (λ v. v.items) result (listed 6 (argument_of scope.now) word.now) }
+{
+    let _told: Option<Thing> = None;
+    let mut arguments = Vec::new(alloc);
+    if word == b"-".as_slice() {
+        return Ok(arguments);
+    }
+    let mut rest = Some(word);
+    while let Some(list) = rest {
+        let (element, after) = split_element(list);
+        if arguments.len() >= 6 {
+            return Err(AsmFaultKind::LimitPassed);
+        }
+        let argument = argument_of(element, scope)?;
+        arguments.push(argument)?;
+        rest = after;
+    }
+    Ok(arguments)
+}
+
+fn words(alloc: Global, count: usize) -> Result<Vec<Argument>, AllocError>
+    ensures { IfOk result (λ v. v.items ≡ replicate count Word) }
+{
+    let _told: Option<Thing> = None;
+    vec![in alloc; Argument::Word; count]
+}
+
+impl<'a> Reader<'a> {
+    fn role(&mut self) -> Result<Role, AsmFaultKind>
+        ensures { Reads (λ x. (x, self.new)) result (role self.old) }
+    {
+        role_of(self.any_keyword()?)
+    }
+
+    /// A set behind its keyword, and else the usual one.
+    fn optional_states(&mut self, key: Keyword, usual: u8) -> Result<States, AsmFaultKind>
+        requires { usual < 64 }
+        ensures { Reads (λ x. (x, self.new)) result (optional_states key usual self.old) }
+    {
+        if self.took(key) {
+            states_of(self.word()?)
+        } else {
+            Ok(set_of(usual))
+        }
+    }
+
+    fn optional_class(&mut self, scope: &Scope) -> Result<Option<ClassNumber>, AsmFaultKind>
+        ensures { Reads (λ x. (x, self.new)) result (optional_class scope.now self.old) }
+    {
+        if self.took(Keyword::Of) {
+            Ok(Some(self.class(scope)?))
+        } else {
+            Ok(None)
+        }
+    }
+
+    /// The arguments that are said, and else so many words.
+    fn optional_arguments(
+        &mut self,
+        alloc: Global,
+        scope: &Scope,
+        usual: usize,
+    ) -> Result<Vec<Argument>, AsmFaultKind>
+        ensures { ReadsOrNoMemory (λ x. (x.items, self.new)) result (optional_arguments scope.now usual self.old) }
+    {
+        if self.took(Keyword::Args) {
+            arguments_of(alloc, self.word()?, scope)
+        } else {
+            Ok(words(alloc, usual)?)
+        }
+    }
+
+    /// What a method gives, by the keyword before it.
+    fn gives(&mut self, key: Keyword, scope: &Scope) -> Result<Gives, AsmFaultKind>
+        ensures { Reads (λ x. (x, self.new)) result (gives scope.now key self.old) }
+    {
+        match key {
+            Keyword::Nothing => Ok(Gives::Nothing),
+            Keyword::Word => Ok(Gives::Word),
+            Keyword::Own => Ok(Gives::Own(self.thing(scope)?)),
+            Keyword::Maybe => Ok(Gives::Maybe(self.thing(scope)?)),
+            Keyword::Left => Ok(Gives::Left(self.class(scope)?)),
+            _ => Err(AsmFaultKind::BadShape),
+        }
+    }
+
+    /// The end of the statement: what is said to be given, and else the usual.
+    fn optional_gives(&mut self, scope: &Scope, usual: Gives) -> Result<Gives, AsmFaultKind>
+        ensures { Reads (λ x. (x, self.new)) result (optional_gives scope.now usual self.old) }
+    {
+        if !self.took(Keyword::Gives) {
+            self.nothing_more(true)?;
+            return Ok(usual);
+        }
+        let key = self.any_keyword()?;
+        let gives = self.gives(key, scope)?;
+        self.nothing_more(false)?;
+        Ok(gives)
+    }
+
+    /// The method of a statement, after the word `method`: at its place among the methods.
+    pub fn heading(
+        &mut self,
+        alloc: Global,
+        scope: &Scope,
+        place: usize,
+    ) -> Result<Heading, AsmFaultKind>
+        ensures { ReadsOrNoMemory (λ x. (x, self.new)) result (heading scope.now place self.old) }
+    {
+        self.declared(place, &scope.methods)?;
+        let role = self.role()?;
+        let class = self.optional_class(scope)?;
+        let leaves = self.took(Keyword::Leaves);
+        let quiet = self.took(Keyword::Quiet);
+        let kind = kind_of(&scope.kinds, class);
+        let all = all_states(kind);
+        let before = self.optional_states(Keyword::In, usual_before(role, all))?;
+        let after = self.optional_states(Keyword::Out, usual_after(role, all))?;
+        let arguments = self.optional_arguments(alloc, scope, usual_words(role))?;
+        let gives = self.optional_gives(scope, usual_gives(role, kind))?;
+        Ok(Heading {
+            class,
+            role,
+            flags: flags_of(leaves, quiet || is_quiet_role(role)),
+            before,
+            after,
+            arguments: Items::from_vec(arguments),
+            gives,
+        })
+    }
+}
