@@ -1,5 +1,5 @@
 -- What an instruction may call by what is known, it may call by what says less.
-use Rattle.std.proofs.Common.{◌≡◌, ℕ, ◌<◌, length, Option, Some, None, inl, inr, arith, sym, ◌∙◌}
+use Rattle.std.proofs.Common.{◌≡◌, ℕ, ◌<◌, length, Some, None, inl, inr, arith}
 use Rattle.std.proofs.lemmas.Bool.Decides.{leb_tells}
 use Rattle.aom_image.specs.Image.{Image}
 use Rattle.aom_image.specs.declared.instr.Instr.{Instr}

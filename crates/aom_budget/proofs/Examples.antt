@@ -1,17 +1,18 @@
 -- What some instructions may call, and a chain of methods that is too deep.
-use Rattle.std.proofs.Common.{◌≡◌, ℕ, zero, suc, ◌<◌, ◌≤◌, List, [], ◌∷◌, Option, Some, None, IsSome, refl, arith}
+use Rattle.std.proofs.Common.{◌≡◌, ℕ, zero, suc, ◌<◌, ◌≤◌, [], ◌∷◌, Some, None, IsSome, refl, arith}
 use Rattle.aom_image.specs.Image.{Image}
 use Rattle.aom_image.specs.Views.{method_at, class_at, class_in}
 use Rattle.aom_image.specs.declared.class.ClassKind.TheVariants.{Session, Server}
-use Rattle.aom_image.specs.declared.instr.Instr.TheVariants.{Push, PushOperation, Delete, Call, Trap, Cancel, PopDelete}
+use Rattle.aom_image.specs.declared.instr.Instr.TheVariants.{Push, PushOperation, Delete, Trap, Cancel, PopDelete}
 use Rattle.aom_image.specs.declared.instr.Target.TheVariants.{This}
 use Rattle.aom_image.specs.declared.method.Gives.TheVariants.{Nothing}
 use Rattle.aom_image.specs.declared.method.Method.{Method}
 use Rattle.aom_image.specs.declared.method.Role.{Role}
 use Rattle.aom_image.specs.declared.method.Role.TheVariants as roles
-use Rattle.aom_image.specs.declared.method.Thing.TheVariants.{Object, Message}
-use Rattle.aom_classes.specs.Classes.{kind_in, sessions_in, sessions_of}
-use Rattle.aom_classes.specs.Roles.{role_number, plays, role_of}
+use Rattle.aom_image.specs.declared.method.Thing.TheVariants.{Object}
+use Rattle.aom_roles.specs.Classes.{kind_in, sessions_in, sessions_of}
+use Rattle.aom_roles.specs.Roles.{role_number}
+use Rattle.aom_classes.specs.Roles.{plays, role_of}
 use Rattle.aom_shape.specs.Shape.{Shape}
 use Rattle.aom_shape.specs.declared.kind.Age.TheVariants.{Ready}
 use Rattle.aom_shape.specs.declared.kind.Kind.{Kind}

@@ -1,5 +1,5 @@
 -- The greatest depth of some methods, put together from the parts.
-use Rattle.std.proofs.Common.{◌≡◌, ℕ, ◌<◌, ◌≤◌, ◌+◌, ◌⊎◌, List, [], ◌∷◌, ◌++◌, length, Option, Some, None, slice_index_or, inl, inr, refl, sym, ◌∙◌, arith}
+use Rattle.std.proofs.Common.{◌≡◌, ℕ, ◌<◌, ◌≤◌, ◌+◌, ◌⊎◌, List, [], ◌∷◌, ◌++◌, length, Some, None, slice_index_or, inl, inr, refl, sym, ◌∙◌, arith}
 use Rattle.std.proofs.lemmas.Bool.Decides.{eqb_tells}
 use Rattle.aom_image.specs.Image.{Image}
 use Rattle.aom_image.specs.Views.{instr_at}
@@ -8,7 +8,7 @@ use Rattle.aom_shape.specs.Shape.{Shape}
 use Rattle.aom_shape.specs.Tables.{at}
 use Rattle.aom_shape.proofs.Lists.{at_within}
 use Rattle.aom_verify.specs.Shapes.{Shapes}
-use Rattle.aom_budget.specs.Calls.{Among, listed, callees, CallsAt, MayCall}
+use Rattle.aom_budget.specs.Calls.{Among, listed, callees, CallsAt}
 use Rattle.aom_budget.specs.Tables.{IsGreatest, CallsBefore}
 
 pub read_at : (ds xs : List ℕ) (i j n : ℕ) → xs ≡ ds → i ≡ j → j < length ds → n ≡ slice_index_or xs i n → n ≡ at 0 ds j

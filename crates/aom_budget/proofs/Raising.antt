@@ -1,17 +1,17 @@
 -- A depth is raised above what the method may call, and stands for frames all the while.
-use Rattle.std.proofs.Common.{◌≡◌, ℕ, zero, suc, ◌<◌, ◌≤◌, ◌+◌, true, false, List, [], ◌∷◌, length, IsSome, Some, slice_index_or, slice_set, replicate, inl, inr, refl, sym, ap, ◌∙◌, subst, arith, below_more}
+use Rattle.std.proofs.Common.{◌≡◌, ℕ, zero, suc, ◌<◌, ◌≤◌, ◌+◌, true, false, List, length, IsSome, slice_set, replicate, inl, inr, refl, sym, ap, ◌∙◌, subst, arith}
 use Rattle.std.proofs.lemmas.Bool.Decides.{eqb_tells}
 use Rattle.std.proofs.lemmas.List.{length-set, length-replicate}
 use Rattle.std.proofs.lemmas.List.Sums.{sum_by-set}
 use Rattle.aom_image.specs.Image.{Image}
 use Rattle.aom_image.specs.Views.{method_at}
 use Rattle.aom_shape.specs.Tables.{at}
-use Rattle.aom_shape.proofs.Lists.{at_within, at_past, at_set_here, at_set_other}
+use Rattle.aom_shape.proofs.Lists.{at_within, at_set_here, at_set_other}
 use Rattle.aom_verify.proofs.Typings.{method_within, within_method}
 use Rattle.aom_budget.specs.Calls.{MayCall}
 use Rattle.aom_budget.specs.Depths.{Frames, IsTooDeep}
 use Rattle.aom_budget.specs.Depths.Frames.{alone, calling}
-use Rattle.aom_budget.specs.Tables.{IsGreatest, Holds, IsSettled, room, rise, Raises, RaisesAt, Rose}
+use Rattle.aom_budget.specs.Tables.{IsGreatest, Holds, IsSettled, room, rise, Raises, RaisesAt}
 
 -- as many frames as the deepest callee has, and one more
 frames_up : (p : Image) (m : ℕ) (ds : List ℕ) (n : ℕ) → Holds p ds → IsSome (method_at p m) → IsGreatest (MayCall p m) ds n → Frames p m (suc n)

@@ -7,7 +7,7 @@ use Rattle.aom_image.specs.declared.instr.Instr.TheVariants.{Call, Trap, Push, P
 use Rattle.aom_image.specs.declared.method.Role.TheVariants as roles
 use Rattle.aom_image.specs.declared.method.Thing.{Thing}
 use Rattle.aom_image.specs.declared.method.Thing.TheVariants.{Object, Message}
-use Rattle.aom_classes.specs.Classes.{sessions_at}
+use Rattle.aom_roles.specs.Classes.{sessions_at}
 use Rattle.aom_classes.specs.Roles.{role_of}
 use Rattle.aom_shape.specs.Kinds.{register}
 use Rattle.aom_shape.specs.Shape.{Shape}

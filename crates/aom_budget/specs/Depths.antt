@@ -1,5 +1,5 @@
 -- How many frames a method may need.
-use Rattle.std.specs.Prelude.{ℕ, suc, ◌≡◌, ◌≤◌, ◌<◌, List, IsSome}
+use Rattle.std.specs.Prelude.{ℕ, suc, ◌≤◌, ◌<◌, List, IsSome}
 use Rattle.aom_image.specs.Image.{Image}
 use Rattle.aom_image.specs.Views.{method_at}
 use Rattle.aom_shape.specs.Tables.{at}

@@ -1,5 +1,5 @@
 -- What a table of depths says while it is made.
-use Rattle.std.specs.Prelude.{ℕ, ◌≡◌, ◌≤◌, ◌<◌, ◌-◌, ◌⊎◌, Bool, true, false, List, length, IsSome}
+use Rattle.std.specs.Prelude.{ℕ, ◌≡◌, ◌≤◌, ◌<◌, ◌-◌, ◌⊎◌, Bool, true, false, List, length}
 use Rattle.std.specs.List.{sum_by}
 use Rattle.aom_image.specs.Image.{Image}
 use Rattle.aom_shape.specs.Tables.{at}

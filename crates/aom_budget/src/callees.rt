@@ -1,11 +1,11 @@
 //! What an instruction may call.
 ghost use Rattle.std.specs.Prelude.{◌≡◌, ◌++◌, [], ◌∷◌, Some};
-ghost use Rattle.aom_classes.specs.Classes.{sessions_of, sessions_at};
 ghost use Rattle.aom_budget.specs.Calls.{listed, destructors, cancel_of, thing_class, object_class, callees};
 ghost use Rattle.aom_image.specs.Views.{method_class};
 
 use aom_classes::Linked;
-use aom_image::{ClassKind, ClassNumber, Instr, MethodNumber, Role, Thing};
+use aom_image::{ClassNumber, Instr, MethodNumber, Role, Thing};
+use aom_roles::sessions_at;
 use aom_shape::{Kind, Shape};
 
 /// At most two methods.
@@ -13,28 +13,6 @@ use aom_shape::{Kind, Shape};
 pub(crate) struct Callees {
     pub(crate) first: Option<MethodNumber>,
     pub(crate) second: Option<MethodNumber>,
-}
-
-/// The class of the sessions of that kind's objects.
-#[tactic(auto, unfolding(aom_classes::specs::Classes::sessions_of))]
-fn sessions_of(kind: ClassKind) -> Option<ClassNumber>
-    ensures { result ≡ sessions_of kind }
-{
-    match kind {
-        ClassKind::Server { session, .. } => Some(session),
-        _ => None,
-    }
-}
-
-#[tactic(auto, unfolding(aom_classes::specs::Classes::sessions_in, aom_classes::specs::Classes::kind_in, aom_image::specs::Views::class_at))]
-fn sessions_at(linked: &Linked, class: ClassNumber) -> Option<ClassNumber>
-    ensures { result ≡ sessions_at linked.now class }
-{
-    let classes = linked.image().classes();
-    match classes.as_slice().get(class.number() as usize) {
-        Some(class) => sessions_of(class.kind),
-        None => None,
-    }
 }
 
 fn cancel_of(linked: &Linked, class: Option<ClassNumber>) -> Option<MethodNumber>
@@ -109,7 +87,7 @@ impl Callees {
         ensures { listed result.first ++ listed result.second ≡ destructors linked.now (Some class) }
     {
         let first = linked.role(class, Role::Destruct);
-        match sessions_at(linked, class) {
+        match sessions_at(linked.image(), class) {
             Some(sessions) => {
                 let second = linked.role(sessions, Role::Destruct);
                 Callees { first, second }

@@ -1,5 +1,5 @@
 -- What is read of the list, or 0 past its end.
-use Rattle.std.proofs.Common.{◌≡◌, ℕ, ◌<◌, ◌≤◌, List, length, rules, sym, ◌∙◌, ap, arith}
+use Rattle.std.proofs.Common.{◌≡◌, ◌<◌, ◌≤◌, length, rules, sym}
 use Rattle.aom_shape.proofs.Lists.{at_past}
 use Rattle.aom_budget.proofs.Greatest.{read_at}
 use Rattle.aom_budget.proofs.depths.Depths.of_method.Goals as goal

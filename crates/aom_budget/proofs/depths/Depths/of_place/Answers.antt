@@ -1,7 +1,6 @@
 -- What a reached place may call, or nothing where it is not reached.
 use Rattle.std.proofs.Common.{◌≡◌, Some, None, refl, sym, ◌∙◌}
 use Rattle.aom_shape.specs.Tables.{at}
-use Rattle.aom_budget.proofs.Greatest.{at_place, at_none}
 use Rattle.aom_budget.proofs.depths.Depths.of_place.Goals as goal
 
 pub instr-instr-requires : goal.instr-instr-requires

@@ -1,5 +1,5 @@
 -- A depth of 256 below is too deep, and a lower depth is raised.
-use Rattle.std.proofs.Common.{rules, ◌≡◌, ◌<◌, ◌≤◌, arith}
+use Rattle.std.proofs.Common.{rules, ◌<◌, ◌≤◌, arith}
 use Rattle.aom_shape.specs.Tables.{at}
 use Rattle.aom_verify.proofs.Typings.{method_within}
 use Rattle.aom_budget.specs.Calls.{MayCall}

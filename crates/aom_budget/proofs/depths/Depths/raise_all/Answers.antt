@@ -3,7 +3,7 @@ use Rattle.std.proofs.Common.{◌≡◌, List, length, ◌∙◌, ap, arith}
 use Rattle.aom_image.specs.Image.{Image}
 use Rattle.aom_image.specs.declared.method.Method.{Method}
 use Rattle.aom_verify.proofs.Typings.{within_method}
-use Rattle.aom_budget.proofs.Raising.{raises_none, raises_more, raises_same}
+use Rattle.aom_budget.proofs.Raising.{raises_none}
 use Rattle.aom_budget.proofs.depths.Depths.raise_all.Goals as goal
 
 pub loop-index-init : goal.loop-index-init
