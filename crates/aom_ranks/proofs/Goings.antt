@@ -69,12 +69,12 @@ goes_at (Dying o ∷ ls) k = (length (tasks_of ls) == k) || goes_at ls k
 goes_at (Dispatching d ∷ ls) k = goes_at ls k
 
 -- each destruction has its cell
-abbrev Dying_held : List Cell → List Layer → Type 0
-Dying_held cs [] = Unit {0}
-Dying_held cs (Method fr sh ∷ ls) = Dying_held cs ls
-Dying_held cs (Mark gv ∷ ls) = Dying_held cs ls
-Dying_held cs (Dying o ∷ ls) = (held cs (Going (length (tasks_of ls))) ≡ Some o) × Dying_held cs ls
-Dying_held cs (Dispatching d ∷ ls) = Dying_held cs ls
+abbrev DyingHeld : List Cell → List Layer → Type 0
+DyingHeld cs [] = Unit {0}
+DyingHeld cs (Method fr sh ∷ ls) = DyingHeld cs ls
+DyingHeld cs (Mark gv ∷ ls) = DyingHeld cs ls
+DyingHeld cs (Dying o ∷ ls) = (held cs (Going (length (tasks_of ls))) ≡ Some o) × DyingHeld cs ls
+DyingHeld cs (Dispatching d ∷ ls) = DyingHeld cs ls
 
 other_depth : (cs : List Cell) (n k : ℕ) → (n == k) ≡ false → held (without (Going n) cs) (Going k) ≡ held cs (Going k)
 other_depth cs n k e = held_without cs (Going n) (Going k) ∙ ap (λ b. cond ((3 == 3) && (b && (0 == 0))) None (held cs (Going k))) e
@@ -82,14 +82,14 @@ other_depth cs n k e = held_without cs (Going n) (Going k) ∙ ap (λ b. cond ((
 same_depth : (cs : List Cell) (n : ℕ) → held (without (Going n) cs) (Going n) ≡ None
 same_depth cs n = held_without cs (Going n) (Going n) ∙ ap (λ b. cond b None (held cs (Going n))) (same_place_refl (Going n))
 
-held_below : (cs : List Cell) (n : ℕ) (ls : List Layer) → length (tasks_of ls) ≤ n → Dying_held cs ls → Dying_held (without (Going n) cs) ls
+held_below : (cs : List Cell) (n : ℕ) (ls : List Layer) → length (tasks_of ls) ≤ n → DyingHeld cs ls → DyingHeld (without (Going n) cs) ls
 held_below cs n [] le h = tt
 held_below cs n (Method fr sh ∷ ls) le h = held_below cs n ls (omega (arith, le)) h
 held_below cs n (Mark gv ∷ ls) le h = held_below cs n ls (omega (arith, le)) h
 held_below cs n (Dying o ∷ ls) le h = (other_depth cs n (length (tasks_of ls)) (ne_eqb n (length (tasks_of ls)) (λ e. absurd (omega (arith, le, e)))) ∙ h.0, held_below cs n ls (omega (arith, le)) h.1)
 held_below cs n (Dispatching d ∷ ls) le h = held_below cs n ls (omega (arith, le)) h
 
-counted_cells : (ls : List Layer) (cs : List Cell) → Tidy cs → Dying_held cs ls → ((k : ℕ) → goes_at ls k ≡ false → held cs (Going k) ≡ None) → standing cs + destructions (tasks_of ls) ≡ length cs
+counted_cells : (ls : List Layer) (cs : List Cell) → Tidy cs → DyingHeld cs ls → ((k : ℕ) → goes_at ls k ≡ false → held cs (Going k) ≡ None) → standing cs + destructions (tasks_of ls) ≡ length cs
 counted_cells [] cs t h none = omega (arith, all_stand cs (λ k. none k refl))
 counted_cells (Method fr sh ∷ ls) cs t h none = counted_cells ls cs t h none
 counted_cells (Mark gv ∷ ls) cs t h none = counted_cells ls cs t h none
@@ -105,7 +105,7 @@ counted_cells (Dying o ∷ ls) cs t h none =
 
 -- ---- well-typed states
 
-stack_held : (p : Image) (t : Typing) (cs : List Cell) (back : Back) (ls : List Layer) → Stack p t cs back ls → Dying_held cs ls
+stack_held : (p : Image) (t : Typing) (cs : List Cell) (back : Back) (ls : List Layer) → Stack p t cs back ls → DyingHeld cs ls
 stack_held p t cs back [] h = tt
 stack_held p t cs back (Method fr sh ∷ ls) h = stack_held p t cs (Returns fr.method fr.home) ls h.4
 stack_held p t cs back (Mark gv ∷ ls) h = stack_held p t cs (Caught gv) ls h.1
