@@ -1,22 +1,35 @@
 -- An acceptable image is refused for want of memory alone.
-use Rattle.std.proofs.Common.{◌≡◌, refl}
+use Rattle.std.proofs.Common.{◌≡◌, ℕ, List, refl, subst}
 use Rattle.aom_image.specs.Image.{Image}
 use Rattle.aom_classes.specs.Faults.{Fails, Refuses as RefusesLink}
 use Rattle.aom_classes.specs.declared.fault.LinkFault.{LinkFault}
 use Rattle.aom_classes.specs.declared.fault.LinkFault.TheVariants.{NotYet, ClassOrder, CallOrder, MissingRole, DoubleRole, RoleShape, BadJump, BadLoop, NoMain, OutOfMemory}
+use Rattle.aom_classes.specs.Admitted.{IsAdmitted}
+use Rattle.aom_classes.specs.Linked.{IsLinked}
+use Rattle.aom_shape.specs.Typing.{Typing, IsTyped}
+use Rattle.aom_verify.specs.Strongest.{IsStrongest}
+use Rattle.aom_budget.specs.Faults.{Refuses as RefusesDepths}
+use Rattle.aom_budget.specs.declared.fault.BudgetFault.{BudgetFault}
+use Rattle.aom_budget.specs.declared.fault.BudgetFault.TheVariants.{TooDeep}
+use Rattle.aom_budget.specs.declared.fault.BudgetFault.TheVariants as budgets
 use Rattle.aom_main.specs.declared.faults.Fault.TheVariants.{Memory}
-use Rattle.aom_main.specs.Status.{of_link}
-use Rattle.aom_main.specs.Acceptable.{IsAcceptable}
+use Rattle.aom_main.specs.Status.{of_link, of_budget}
+use Rattle.aom_main.specs.Acceptable.{IsSpelled, IsAcceptable, Refuses}
 
 pub linked_memory : (p : Image) (fault : LinkFault) → RefusesLink p fault → IsAcceptable p → of_link fault ≡ Memory
 unfolding RefusesLink Fails
 linked_memory p NotYet refused a = absurd (refused a.admitted)
 linked_memory p ClassOrder refused a = absurd (refused.1 a.linked.classes)
-linked_memory p CallOrder refused a = absurd (refused.2 a.linked.calls)
-linked_memory p MissingRole refused a = absurd (refused.3 a.linked.needs)
-linked_memory p DoubleRole refused a = absurd (refused.4 a.linked.single)
-linked_memory p RoleShape refused a = absurd (refused.5 a.linked.shapes)
-linked_memory p BadJump refused a = absurd (refused.6 a.linked.jumps)
-linked_memory p BadLoop refused a = absurd (refused.7 a.linked.loops)
-linked_memory p NoMain refused a = absurd (refused.8 a.linked.main)
+linked_memory p CallOrder refused a = absurd (refused.1.1 a.linked.calls)
+linked_memory p MissingRole refused a = absurd (refused.1.2 a.linked.needs)
+linked_memory p DoubleRole refused a = absurd (refused.1.3 a.linked.single)
+linked_memory p RoleShape refused a = absurd (refused.1.4 a.linked.shapes)
+linked_memory p BadJump refused a = absurd (refused.1.5 a.linked.jumps)
+linked_memory p BadLoop refused a = absurd (refused.1.6 a.linked.loops)
+linked_memory p NoMain refused a = absurd (refused.1.7 a.linked.main)
 linked_memory p OutOfMemory refused a = refl
+
+-- a checked image whose methods may come to too many frames
+pub depths_refused : (bytes : List ℕ) (p q : Image) (fault : BudgetFault) → IsSpelled bytes p → IsAdmitted p → IsLinked p → q ≡ p → (t : Typing) × IsStrongest q t → RefusesDepths q fault → Refuses bytes (of_budget fault)
+depths_refused bytes p q TooDeep spelled admitted linked same typing h = (p, spelled, admitted, linked, subst (λ (r : Image). (t : Typing) × IsTyped r t) same (typing.0, typing.1.typed), subst (λ (r : Image). RefusesDepths r TooDeep) same h)
+depths_refused bytes p q budgets.OutOfMemory spelled admitted linked same typing h = tt

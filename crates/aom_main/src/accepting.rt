@@ -20,6 +20,7 @@ pub fn accept_bytes(alloc: Global, bytes: &[u8]) -> Result<Accepted, Fault>
 {
     let linked = link_bytes(alloc, bytes)?;
     let checked = check(alloc, linked)?;
+    checked.typed();
     let accepted = accept(alloc, checked)?;
     accepted.facts();
     Ok(accepted)
