@@ -1,4 +1,5 @@
 pub mod Values
+pub mod CellWords
 pub mod Standing
 pub mod Cells
 pub mod Admits

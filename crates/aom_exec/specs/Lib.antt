@@ -3,6 +3,7 @@ pub mod Places
 pub mod Room
 pub mod Agrees
 pub mod Acts
+pub mod Fields
 pub mod Ranks
 pub mod Steps
 pub mod Boot
