@@ -2,9 +2,13 @@ pub mod Values
 pub mod CellWords
 pub mod Standing
 pub mod Cells
+pub mod CellFields
+pub mod Moving
 pub mod Admits
 pub mod WordActs
 pub mod ObjectActs
+pub mod MoveActs
+pub mod FieldActs
 pub mod CallActs
 pub mod GoingActs
 pub mod Stepping
