@@ -7,6 +7,8 @@ pub mod ObjectActs
 pub mod CallActs
 pub mod GoingActs
 pub mod Stepping
+pub mod Rooms
+pub mod Alone
 pub mod Finding
 pub mod Ranking
 pub mod Progressing
