@@ -10,14 +10,16 @@ use Rattle.aom_frames.specs.Tasks.{fresh}
 use Rattle.aom_frames.specs.declared.task.Task.TheVariants.{Run as Runs_frame, Trapped as Is_trap, Dispatched as Ends}
 use Rattle.aom_frames.specs.declared.task.Dispatch.TheVariants.{Main}
 use Rattle.aom_sound.specs.State.{AtRoot, frame_of, Run, Trapped, Dispatched, Of_main}
-use Rattle.aom_shape.specs.Typing.{Typing, IsTyped}
+use Rattle.aom_shape.specs.Typing.{Typing}
+use Rattle.aom_verify.specs.Strongest.{IsStrongest}
+use Rattle.aom_budget.specs.Depths.{DepthsWithin}
 use Rattle.aom_sound.specs.Places.{Place, Register, Entry, Field, Going, Elsewhere, Root, held}
 use Rattle.aom_sound.specs.Laws.{IsWired, BootKeeps, StepKeeps, LinkedIsWired}
 use Rattle.aom_sound.specs.World.{main_tasks, boot_state}
 use Rattle.aom_exec.specs.declared.parts.Parts.{Parts}
 use Rattle.aom_exec.specs.Boot.{Booted}
 use Rattle.aom_exec.specs.Places.{register_in, going_in, value}
-use Rattle.aom_exec.specs.Room.{IsMainAlone}
+use Rattle.aom_exec.specs.Room.{AllCalled}
 use Rattle.aom_exec.specs.Agrees.{SameTasks, word_in, word_at, thing_in, Agrees}
 use Rattle.aom_exec.proofs.CallActs.{shows_null}
 use Rattle.aom_exec.proofs.Standing.{begun_frame, begun_registers}
@@ -72,7 +74,7 @@ module _ (p : Image) (m : Parts) (booted : Booted p m) where
     };
     entries = ap length booted.entries;
     rest = booted.rest;
-    room = record { alone = subst IsMainAlone (sym booted.tasks) tt; depth = (let d = booted.depth in omega arith) };
+    room = (let d = booted.depth in omega arith);
   }
     where
       never : (n : ℕ) (c : Held_cell) → cell_at m.cells n ≡ Some c → ⊥
@@ -81,12 +83,13 @@ module _ (p : Image) (m : Parts) (booted : Booted p m) where
           some_none : Some c ≡ None → ⊥
           some_none e = cc
 
-pub boots : (p : Image) (m : Parts) → IsLinked p → IsAdmitted p → (t : Typing) → IsTyped p t → BootKeeps → StepKeeps → LinkedIsWired → Booted p m → StandsFor (record { image = p; parts = m }) (boot_state p)
-boots p m linked admitted t typed boot_keeps step_keeps wired booted =
+pub boots : (p : Image) (m : Parts) → IsLinked p → IsAdmitted p → (t : Typing) → IsStrongest p t → DepthsWithin p → BootKeeps → StepKeeps → LinkedIsWired → Booted p m → StandsFor (record { image = p; parts = m }) (boot_state p)
+boots p m linked admitted t strongest within boot_keeps step_keeps wired booted =
     let w = wired p linked admitted in
     record {
       typing = t;
-      sound = record { formed = booted.formed; linked = linked; admitted = admitted; typed = typed; keeps = λ c s well unused. step_keeps p t w.0 typed c s well unused };
-      typed = boot_keeps p t w.0 typed;
+      sound = record { formed = booted.formed; linked = linked; admitted = admitted; wired = w.0; strongest = strongest; within = within; typed = strongest.typed; keeps = λ c s well unused. step_keeps p t w.0 strongest.typed c s well unused };
+      typed = boot_keeps p t w.0 strongest.typed;
+      called = subst (AllCalled p) (sym (boot_tasks p booted.main booted.is_main)) (tt, tt);
       agrees = boot_agrees p m booted;
     }

@@ -6,7 +6,7 @@ use Rattle.aom_image.specs.Views.{gives_of}
 use Rattle.aom_image.specs.declared.method.Gives.{Gives}
 use Rattle.aom_image.specs.declared.method.Gives.TheVariants.{Nothing}
 use Rattle.std.proofs.lemmas.List.{length-take}
-use Rattle.aom_exec.specs.Room.{IsTrapOfDispatch}
+use Rattle.aom_exec.specs.Room.{IsTrapOfDispatch, IsUnderTrap}
 use Rattle.aom_classes.specs.Admitted.{IsAdmitted}
 use Rattle.aom_classes.specs.Linked.{IsLinked}
 use Rattle.aom_shape.specs.Kinds.{filled}
@@ -115,7 +115,7 @@ ended p m e s x d agrees short same shut = record {
   cells = agrees.cells;
   entries = ap length short ∙ one_fewer m.entries.items s.items agrees.entries;
   rest = agrees.rest;
-  room = record { alone = refl; depth = agrees.room.depth };
+  room = agrees.room;
 }
   where
     values : (r : Place) → Shows (value_in (Ends x ∷ []) m.cells e.entries.items m.root r) (word_at (Dispatched d ∷ []) r) (held s.cells r)
@@ -125,15 +125,16 @@ ended p m e s x d agrees short same shut = record {
     values (Going k) = shows_null _ _ _ (same_cond (0 == k) null) refl (shut.goings k)
     values (Elsewhere o) = agrees.values (Elsewhere o)
 
-pub return_does : (m e : Parts) (refused : List ℕ) (a : ℕ) → e.entries.items ≡ take (length m.entries.items - 1) m.entries.items
+pub return_does : (m e : Parts) (refused : List ℕ) (a : ℕ) → IsUnderTrap m.stack.tasks → e.entries.items ≡ take (length m.entries.items - 1) m.entries.items
     → Does refused (Return a) m (record m { stack = record m.stack { tasks = below_first (below_first m.stack.tasks) }; entries = e.entries })
-return_does m e refused a short p admitted h =
+return_does m e refused a alone short p admitted h =
     let c = an_open p refused m h.state h.agrees in (
       c.0,
       c.1,
       λ needs typed. by_top p m h
-          (λ us. Agrees p (record m { stack = record m.stack { tasks = below_first (below_first us) }; entries = e.entries }) (returned p h.frame h.below (requested (Return a) h.state) (gives_of p h.frame.method) a h.below))
-          (λ f ms top. subst (λ g. Left g ms h.below) (sym (gives_none p admitted h.frame.method)) (left ms h.below (traps ms h.below top.alone top.below)) typed),
+          (λ us. IsUnderTrap us → Agrees p (record m { stack = record m.stack { tasks = below_first (below_first us) }; entries = e.entries }) (returned p h.frame h.below (requested (Return a) h.state) (gives_of p h.frame.method) a h.below))
+          (λ f ms top alone. subst (λ g. Left g ms h.below) (sym (gives_none p admitted h.frame.method)) (left ms h.below (traps ms h.below alone top.below)) typed)
+          alone,
     )
   where
     Left : Gives → List Held_task → List Task → Type 0

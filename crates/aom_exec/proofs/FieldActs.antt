@@ -31,7 +31,7 @@ use Rattle.aom_exec.specs.Fields.{this, IsHoused, field_here, PutsWord, PutsFiel
 use Rattle.aom_exec.proofs.Values.{kept, value_here, value_kept, value_written, word_next, word_written}
 use Rattle.aom_exec.proofs.Standing.{by_top, goes_on, moved_on, word_here, free, no_word, unnamed, not_null}
 use Rattle.aom_exec.proofs.CellFields.{field_written, root_written, word_put_elsewhere, cell_of, cells_put, cells_stored}
-use Rattle.aom_exec.proofs.Moving.{goes_over}
+use Rattle.aom_exec.proofs.Moving.{hands_over}
 use Rattle.aom_exec.proofs.WordActs.{word_read, word_put, plain_does, jumps, passes}
 
 -- ---- the cell that a method works on
@@ -182,7 +182,7 @@ store_does m refused w b heap puts =
     (λ us. Agrees p (record m { stack = record m.stack { tasks = on_top (with_place (suc (place_here us))) us }; cells = heap }) (record s { cells = stored s.cells fr.home w v; tasks = Run (next fr) ∷ ts }))
     (λ f ms top.
     let f' = record f { place = suc f.place } in
-    goes_on p m s heap (stored s.cells fr.home w v) m.rest _ f' ms (next fr) ts h.agrees (cells_after_store p m h heap w v met.0 written) h.agrees.rest top.alone top.below
+    goes_on p m s heap (stored s.cells fr.home w v) m.rest _ f' ms (next fr) ts h.agrees (cells_after_store p m h heap w v met.0 written) h.agrees.rest top.below
     (moved_on f fr f.registers fr.words top.frame top.frame.wide)
     (λ q.
     subst (λ n. Shows n (word_at (Run (next fr) ∷ ts) q) (held (stored s.cells fr.home w v) q)) (sym (word_put_elsewhere (Runs_frame f' ∷ ms) m.cells heap m.entries.items m.root (this m) w v written q ∙ value_kept f ms m.cells m.entries.items m.root (suc f.place) q))
@@ -203,7 +203,7 @@ take_does m mid refused a g n small reads writes =
     (λ f ms top.
     let wide = top.frame.wide in
     let v = value_in (Runs_frame f ∷ ms) m.cells m.entries.items m.root in
-    goes_over p m s mid.cells mid.root q here f _ ms fr _ ts h.agrees top written.cells
+    hands_over p m s mid.cells mid.root q here f _ ms fr _ ts h.agrees top written.cells
     (moved_on f fr (slice_set f.registers a n) (set_word fr a None).words top.frame (length-set f.registers a n ∙ wide))
     (no_word_there p m h fr.home g (Run fr ∷ ts))
     (free _ met.1.0)
@@ -233,7 +233,7 @@ put_does m mid refused g b x small reads writes =
     let wide = top.frame.wide in
     let v = value_in (Runs_frame f ∷ ms) m.cells m.entries.items m.root in
     let f' = record f { registers = slice_set f.registers b null; place = suc f.place } in
-    goes_over p m s mid.cells mid.root here q f f' ms fr (next fr) ts h.agrees top written.cells
+    hands_over p m s mid.cells mid.root here q f f' ms fr (next fr) ts h.agrees top written.cells
     (moved_on f fr (slice_set f.registers b null) fr.words top.frame (length-set f.registers b null ∙ wide))
     (word_here fr ts b ∙ no_word _ met.0)
     (free _ met.1.1.0)

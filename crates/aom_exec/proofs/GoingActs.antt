@@ -7,7 +7,7 @@ use Rattle.aom_image.specs.declared.method.Thing.TheVariants.{Object as An_objec
 use Rattle.aom_cells.specs.Heap.{Heap, null, cell_at, class_at, class_of, field_of, field_at, count, Changes}
 use Rattle.aom_cells.specs.declared.cell.Cell.{Cell as Held_cell}
 use Rattle.aom_sound.specs.Places.{Place, Register, Entry, Field, Going, Elsewhere, same_place, Object, Cell, held, named, without, changed}
-use Rattle.aom_sound.specs.State.{Frame, next, Task, Run, Trapped, Destroy, Dispatched, State}
+use Rattle.aom_sound.specs.State.{Frame, next, Of_main, Of_root, Task, Run, Trapped, Destroy, Dispatched, State}
 use Rattle.aom_sound.specs.Destruction.{is_field_of, owns_nothing}
 use Rattle.aom_sound.specs.Moves.{goes_line}
 use Rattle.aom_sound.specs.declared.line.Line.TheVariants.{Gone}
@@ -17,15 +17,15 @@ use Rattle.aom_frames.specs.Tasks.{on_top, with_place, place_here}
 use Rattle.aom_frames.specs.declared.frame.Frame.{Frame as Held_frame}
 use Rattle.aom_frames.specs.declared.task.Task.{Task as Held_task}
 use Rattle.aom_frames.specs.declared.task.Task.TheVariants.{Run as Runs_frame, Trapped as Is_trap, Destroy as Destroys, Dispatched as Ends}
+use Rattle.aom_frames.specs.declared.task.Dispatch.TheVariants.{Main}
 use Rattle.aom_exec.specs.declared.parts.Parts.{Parts}
 use Rattle.aom_exec.specs.Places.{value_in, going_in, going_here, with_tasks, below_first}
-use Rattle.aom_exec.specs.Room.{IsMainAlone, IsTrapOfDispatch}
 use Rattle.aom_exec.specs.Agrees.{word_at, Shows, SameFrame, SameTasks, thing_in, thing_of, number, Agrees}
 use Rattle.aom_exec.specs.Acts.{In_going, without_going, GoesAway}
 use Rattle.aom_exec.specs.Acts as acts
 use Rattle.aom_exec.proofs.Values.{cases, same_length, kept, writes, value_kept, word_next, going_past, destroys_value, destroys_word}
 use Rattle.aom_exec.proofs.Cells.{cells_without}
-use Rattle.aom_exec.proofs.Standing.{moved_on}
+use Rattle.aom_exec.proofs.Standing.{moved_on, GoesOver, goes_over}
 
 -- what is known of the machine, taken apart
 pub record Ends_cell (m : Parts) (s : State) (x : ℕ) (f : Held_frame) (ms : List Held_task) (fr : Frame) (ts : List Task) : Type 0 where
@@ -33,7 +33,6 @@ pub record Ends_cell (m : Parts) (s : State) (x : ℕ) (f : Held_frame) (ms : Li
   pub below : SameTasks ms ts
   pub deep : length ms ≡ length ts
   pub values : (r : Place) → Shows (value_in (Destroys x ∷ Runs_frame f ∷ ms) m.cells m.entries.items m.root r) (word_at (Destroy ∷ Run fr ∷ ts) r) (held s.cells r)
-  pub alone : IsTrapOfDispatch ms
 
 pub by_going : (p : Image) (m : Parts) (h : In_going p m) (G : List Held_task → List Task → Type 0)
     → ((x : ℕ) (f : Held_frame) (ms : List Held_task) (fr : Frame) (ts : List Task) → Ends_cell m h.state x f ms fr ts → G (Destroys x ∷ Runs_frame f ∷ ms) (Run fr ∷ ts)) → G m.stack.tasks h.below
@@ -41,23 +40,28 @@ by_going p m h G show =
     go m.stack.tasks h.below
     (subst (λ us. SameTasks m.stack.tasks us) h.top h.agrees.tasks)
     (λ r. subst (λ us. Shows (value_in m.stack.tasks m.cells m.entries.items m.root r) (word_at us r) (held h.state.cells r)) h.top (h.agrees.values r))
-    h.agrees.room.alone
+    (goes_over p h.typing h.state h.below h.typed h.top)
   where
-    go : (ms : List Held_task) (ts : List Task) → SameTasks ms (Destroy ∷ ts) → ((r : Place) → Shows (value_in ms m.cells m.entries.items m.root r) (word_at (Destroy ∷ ts) r) (held h.state.cells r)) → IsMainAlone ms → G ms ts
-    go [] ts same values alone = absurd same
-    go (Runs_frame f ∷ ms) ts same values alone = absurd same.0
-    go (Is_trap ∷ ms) ts same values alone = absurd same.0
-    go (Ends d ∷ ms) ts same values alone = absurd same.0
-    go (Destroys x ∷ []) ts same values alone = absurd alone
-    go (Destroys x ∷ Is_trap ∷ ms) ts same values alone = absurd alone
-    go (Destroys x ∷ Destroys y ∷ ms) ts same values alone = absurd alone
-    go (Destroys x ∷ Ends d ∷ ms) ts same values alone = absurd alone
-    go (Destroys x ∷ Runs_frame f ∷ ms) [] same values alone = absurd same.1
-    go (Destroys x ∷ Runs_frame f ∷ ms) (Trapped ∷ ts) same values alone = absurd same.1.0
-    go (Destroys x ∷ Runs_frame f ∷ ms) (Destroy ∷ ts) same values alone = absurd same.1.0
-    go (Destroys x ∷ Runs_frame f ∷ ms) (Dispatched d ∷ ts) same values alone = absurd same.1.0
-    go (Destroys x ∷ Runs_frame f ∷ ms) (Run fr ∷ ts) same values alone =
-        show x f ms fr ts (record { frame = same.1.0; below = same.1.1; deep = same_length ms ts same.1.1; values = values; alone = alone })
+    go : (ms : List Held_task) (ts : List Task) → SameTasks ms (Destroy ∷ ts) → ((r : Place) → Shows (value_in ms m.cells m.entries.items m.root r) (word_at (Destroy ∷ ts) r) (held h.state.cells r)) → GoesOver ts → G ms ts
+    go [] ts same values over = absurd same
+    go (Runs_frame f ∷ ms) ts same values over = absurd same.0
+    go (Is_trap ∷ ms) ts same values over = absurd same.0
+    go (Ends d ∷ ms) ts same values over = absurd same.0
+    go (Destroys x ∷ ms) [] same values over = absurd over
+    go (Destroys x ∷ ms) (Trapped ∷ ts) same values over = absurd over
+    go (Destroys x ∷ ms) (Destroy ∷ ts) same values over = absurd over
+    go (Destroys x ∷ ms) (Dispatched Of_main ∷ ts) same values over = absurd over
+    go (Destroys x ∷ Ends Main ∷ ms) (Dispatched Of_root ∷ ts) same values over = let clash : Of_main ≡ Of_root = same.1.0 in cc
+    go (Destroys x ∷ Runs_frame f ∷ ms) (Dispatched Of_root ∷ ts) same values over = absurd same.1.0
+    go (Destroys x ∷ Is_trap ∷ ms) (Dispatched Of_root ∷ ts) same values over = absurd same.1.0
+    go (Destroys x ∷ Destroys y ∷ ms) (Dispatched Of_root ∷ ts) same values over = absurd same.1.0
+    go (Destroys x ∷ []) (Dispatched Of_root ∷ ts) same values over = absurd same.1
+    go (Destroys x ∷ []) (Run fr ∷ ts) same values over = absurd same.1
+    go (Destroys x ∷ Is_trap ∷ ms) (Run fr ∷ ts) same values over = absurd same.1.0
+    go (Destroys x ∷ Destroys y ∷ ms) (Run fr ∷ ts) same values over = absurd same.1.0
+    go (Destroys x ∷ Ends d ∷ ms) (Run fr ∷ ts) same values over = absurd same.1.0
+    go (Destroys x ∷ Runs_frame f ∷ ms) (Run fr ∷ ts) same values over =
+        show x f ms fr ts (record { frame = same.1.0; below = same.1.1; deep = same_length ms ts same.1.1; values = values })
 
 -- no field of that cell owns
 nothing_owned : (cs : List Cell) (n f : ℕ) → owns_nothing cs n ≡ true → held cs (Field n f) ≡ None
@@ -134,7 +138,7 @@ module _ (p : Image) (m : Parts) (h : In_going p m) (o : Object) where
         cells = cells_without p m.cells heap s.cells (Going d) o h.agrees.cells h.typed.good.tidy holds gone less;
         entries = h.agrees.entries;
         rest = h.agrees.rest;
-        room = record { alone = top.alone; depth = h.agrees.room.depth };
+        room = h.agrees.room;
       }
 
 pub go_does : (m : Parts) (heap : Heap) (n class : ℕ) (told : Turn) → n ≡ going_here m.stack.tasks → class_at m.cells n ≡ Some class → Changes m.cells heap n None → count heap + 1 ≡ count m.cells

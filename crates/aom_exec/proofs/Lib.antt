@@ -12,6 +12,9 @@ pub mod FieldActs
 pub mod CallActs
 pub mod GoingActs
 pub mod Stepping
+pub mod Housing
+pub mod Rooms
+pub mod Alone
 pub mod Finding
 pub mod Ranking
 pub mod Progressing

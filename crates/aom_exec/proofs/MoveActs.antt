@@ -14,7 +14,7 @@ use Rattle.aom_exec.specs.Acts.{set_register, Does}
 use Rattle.aom_exec.specs.Acts as acts
 use Rattle.aom_exec.proofs.Values.{value_here, value_written, word_written}
 use Rattle.aom_exec.proofs.Standing.{by_top, moved_on, word_here, free, no_word}
-use Rattle.aom_exec.proofs.Moving.{goes_over}
+use Rattle.aom_exec.proofs.Moving.{hands_over}
 use Rattle.aom_exec.proofs.WordActs.{plain_does}
 
 module _ (m : Parts) (refused : List ℕ) where
@@ -31,7 +31,7 @@ module _ (m : Parts) (refused : List ℕ) where
       let v = value_in (Runs_frame f ∷ ms) m.cells m.entries.items m.root in
       let left = record f { registers = slice_set f.registers b null } in
       let still : length left.registers ≡ 16 = length-set f.registers b null ∙ wide in
-      goes_over p m s m.cells m.root (Register (length ts) b) (Register (length ts) a) f _ ms fr _ ts h.agrees top h.agrees.cells
+      hands_over p m s m.cells m.root (Register (length ts) b) (Register (length ts) a) f _ ms fr _ ts h.agrees top h.agrees.cells
       (moved_on f fr (slice_set left.registers a x) (set_word fr a None).words top.frame (length-set left.registers a x ∙ still))
       (word_here fr ts b ∙ no_word _ met.0)
       (free _ met.1.0)

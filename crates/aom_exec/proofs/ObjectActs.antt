@@ -77,7 +77,7 @@ module _ (m : Parts) (refused : List ℕ) where
       let fr = h.frame in
       let ts = h.below in
       let wide = top.frame.wide in
-      goes_on p m s m.cells s.cells r r' _ ms (next (set_word fr a None)) ts h.agrees h.agrees.cells rest top.alone top.below
+      goes_on p m s m.cells s.cells r r' _ ms (next (set_word fr a None)) ts h.agrees h.agrees.cells rest top.below
       (moved_on f fr (slice_set f.registers a null) _ top.frame (length-set f.registers a null ∙ wide))
       (writes _ _ _ _ _ _ (Register (length ts) a) null None None top.values refl
       (value_written f ms m.cells m.entries.items m.root (length ts) a null (suc f.place) top.deep (omega arith))
@@ -137,7 +137,7 @@ module _ (m : Parts) (refused : List ℕ) where
             cells = cells_moved p m.cells s.cells here there h.agrees.cells;
             entries = h.agrees.entries;
             rest = h.agrees.rest;
-            room = record { alone = top.alone; depth = h.agrees.room.depth };
+            room = h.agrees.room;
           })
 
 -- the fields of a new cell are null, and so are those of one that is not there
@@ -217,7 +217,7 @@ module _ (m : Parts) (turn : Turn) where
             let wide = top.frame.wide in
             goes_on p m s heap (with_new n (An_object_of class) (zeros p class) (Register (length ts) a) s.cells) _ _ _ ms (next (set_word fr a None)) ts h.agrees
             (cells_made p m.cells heap s.cells n class (zeros p class) (Register (length ts) a) h.agrees.cells (zeros_at (words_of p class)) fits none some ch more)
-            (ap (λ (r : Rest). record r { requests = raised r.requests }) h.agrees.rest) top.alone top.below
+            (ap (λ (r : Rest). record r { requests = raised r.requests }) h.agrees.rest) top.below
             (moved_on f fr (slice_set f.registers a n) (set_word fr a None).words top.frame (length-set f.registers a n ∙ wide))
             (writes _ _ _ _ (held s.cells) _ (Register (length ts) a) n None (Some (record { name = n; thing = An_object_of class })) top.values refl
             (λ r. value_written f ms heap m.entries.items m.root (length ts) a n (suc f.place) top.deep (omega arith) r ∙ ap (λ x. changed (λ q. x) (Register (length ts) a) n r) (values_kept (Runs_frame f ∷ ms) m.cells heap m.entries.items m.root n class none ch r))

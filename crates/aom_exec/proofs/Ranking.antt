@@ -20,18 +20,16 @@ use Rattle.aom_sound.specs.Moves.{needs, does, closed, step}
 use Rattle.aom_sound.specs.WellTyped.{WellTyped, Keeps}
 use Rattle.aom_frames.specs.declared.task.Task.{Task as Held_task}
 use Rattle.aom_frames.specs.declared.task.Task.TheVariants.{Run as Runs_frame, Trapped as Is_trap, Destroy as Destroys, Dispatched as Ends}
+use Rattle.aom_frames.specs.declared.task.Dispatch.TheVariants.{Main}
 use Rattle.aom_exec.specs.declared.parts.Parts.{Parts}
-use Rattle.aom_exec.specs.Room.{IsMainAlone, IsTrapOfDispatch}
+use Rattle.aom_exec.specs.Room.{AllCalled}
 use Rattle.aom_exec.specs.Agrees.{SameTask, SameTasks, Agrees}
 use Rattle.aom_exec.specs.Acts.{requested, without_going}
 use Rattle.aom_exec.specs.Ranks.{length_in, rank_of}
 use Rattle.aom_exec.specs.Steps.{Sound, Moved}
 use Rattle.aom_exec.proofs.Admits.{no_destructor}
-use Rattle.aom_exec.proofs.Standing.{traps}
-use Rattle.aom_exec.proofs.Stepping.{met, frame_of, going_of, ending_of, at_step, step_of_instr, step_of_going, step_of_ending, cell_found}
-use Rattle.aom_exec.proofs.GoingActs.{by_going}
-use Rattle.aom_exec.specs.Places.{IsDestroying, IsEnding}
-use Rattle.aom_frames.specs.Tasks.{Runs}
+use Rattle.aom_exec.proofs.Alone.{Alone, alone, idle, closing, running, going}
+use Rattle.aom_exec.proofs.Stepping.{met, at_step, step_of_instr, step_of_going, step_of_ending, cell_found}
 use Rattle.aom_exec.proofs.Finding.{within_code, runs_there, goes_there}
 
 -- the rank of the checked machine's tasks
@@ -114,7 +112,7 @@ module _ (p : Image) (linked : IsLinked p) (admitted : IsAdmitted p) (c : Choice
 goes_same : (s u : State) → Goes s ≡ Goes u → s ≡ u
 goes_same s u e = cc
 
-module _ (p : Image) (t : Typing) (refused : List ℕ) (m new : Parts) (s : State) (sound : Sound p t) (typed : WellTyped p t s) (agrees : Agrees p m s) (moved : Moved p refused t s new) where
+module _ (p : Image) (t : Typing) (refused : List ℕ) (m new : Parts) (s : State) (sound : Sound p t) (typed : WellTyped p t s) (called : AllCalled p s.tasks) (agrees : Agrees p m s) (moved : Moved p refused t s new) where
   of_instr : (fr : Frame) (d : Dispatch) → s.tasks ≡ Run fr ∷ Trapped ∷ Dispatched d ∷ [] → After p s.tasks moved.state
   of_instr fr d top = go (instr_at p fr.method fr.place) refl (runs_there p t s sound typed fr (Trapped ∷ Dispatched d ∷ []) top)
     where
@@ -142,22 +140,17 @@ module _ (p : Image) (t : Typing) (refused : List ℕ) (m new : Parts) (s : Stat
       subst (After p s.tasks) same (subst (λ us. After p us u) (sym top) (record { falls = omega arith; announced = refl }))
 
   pub moved_after : 0 < length m.stack.tasks → After p s.tasks moved.state
-  moved_after busy = go m.stack.tasks refl busy
+  moved_after busy = go m.stack.tasks s.tasks refl (alone p sound.admitted t m s typed called agrees) agrees.tasks busy
     where
-      go : (ms : List Held_task) → m.stack.tasks ≡ ms → 0 < length ms → After p s.tasks moved.state
-      go [] e busy = absurd (omega arith)
-      go (Runs_frame f ∷ ms) e busy =
-          let x = frame_of m.stack.tasks s.tasks (subst Runs (sym e) tt) agrees.tasks in
-          let both : SameTasks (Runs_frame f ∷ ms) (Run x.0 ∷ x.1) = subst (λ us. SameTasks us (Run x.0 ∷ x.1)) e (subst (λ us. SameTasks m.stack.tasks us) x.2 agrees.tasks) in
-          let trap = traps ms x.1 (subst IsMainAlone e agrees.room.alone) both.1 in
-          of_instr x.0 trap.state (x.2 ∙ ap (λ us. Run x.0 ∷ us) trap.tasks)
-      go (Is_trap ∷ ms) e busy = absurd (subst IsMainAlone e agrees.room.alone)
-      go (Destroys x ∷ ms) e busy =
-          let f = going_of m.stack.tasks s.tasks (subst IsDestroying (sym e) tt) agrees.tasks in
-          by_going p m (record { typing = t; state = s; below = f.0; top = f.1; typed = typed; agrees = agrees }) (λ us ts. s.tasks ≡ Destroy ∷ ts → After p s.tasks moved.state) (λ x g ms fr ts top e. of_going fr ts e) f.1
-      go (Ends x ∷ ms) e busy =
-          let d = ending_of m.stack.tasks s.tasks (subst IsEnding (sym e) tt) agrees.room.alone agrees.tasks in
-          of_ending d.0
+      go : (ms : List Held_task) (ts : List Task) → s.tasks ≡ ts → Alone ts → SameTasks ms ts → 0 < length ms → After p s.tasks moved.state
+      go [] ts e a same busy = absurd (omega arith)
+      go (n ∷ ms) _ e idle same busy = absurd same
+      go (n ∷ ms) _ e (running fr d) same busy = of_instr fr d e
+      go (n ∷ ms) _ e (going fr d) same busy = of_going fr (Trapped ∷ Dispatched d ∷ []) e
+      go (Ends Main ∷ ms) _ e (closing d) same busy = of_ending (e ∙ ap (λ x. Dispatched x ∷ []) (sym same.0))
+      go (Runs_frame f ∷ ms) _ e (closing d) same busy = absurd same.0
+      go (Is_trap ∷ ms) _ e (closing d) same busy = absurd same.0
+      go (Destroys x ∷ ms) _ e (closing d) same busy = absurd same.0
 
   pub moved_falls : 0 < length m.stack.tasks → rank_of p new.stack.tasks < rank_of p m.stack.tasks
   moved_falls busy =

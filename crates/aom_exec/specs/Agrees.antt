@@ -1,5 +1,5 @@
 -- What the machine's numbers stand for.
-use Rattle.std.specs.Prelude.{◌≡◌, ◌<◌, ℕ, ℤ, cond, ◌==◌, List, [], ◌∷◌, length, Option, Some, None, slice_index_or}
+use Rattle.std.specs.Prelude.{◌≡◌, ◌<◌, ◌≤◌, ℕ, ℤ, cond, ◌==◌, List, [], ◌∷◌, length, Option, Some, None, slice_index_or}
 use Rattle.std.specs.Int.{w32, cast_signed}
 use Rattle.aom_image.specs.Image.{Image}
 use Rattle.aom_image.specs.declared.method.Thing.{Thing}
@@ -16,7 +16,6 @@ use Rattle.aom_frames.specs.declared.task.Dispatch.{Dispatch as Held_dispatch}
 use Rattle.aom_frames.specs.declared.task.Dispatch.TheVariants.{Main}
 use Rattle.aom_exec.specs.declared.parts.Parts.{Parts}
 use Rattle.aom_exec.specs.Places.{value}
-use Rattle.aom_exec.specs.Room.{HasRoom}
 
 -- the number of what a place owns, and null where it owns nothing
 abbrev pub number : Option Object → ℕ
@@ -104,4 +103,4 @@ pub record Agrees (p : Image) (m : Parts) (s : State) : Type 0 where
   pub cells : SameCells p m.cells s.cells
   pub entries : length m.entries.items ≡ length s.items
   pub rest : m.rest ≡ s.rest
-  pub room : HasRoom m.stack
+  pub room : 1024 ≤ m.stack.depth

@@ -15,7 +15,7 @@ pub record Booted (p : Image) (m : Parts) : Type 0 where
   pub main : ℕ
   pub is_main : main_of p ≡ Some main
   pub tasks : m.stack.tasks ≡ Run (fresh main null) ∷ Trapped ∷ Dispatched Main ∷ []
-  pub depth : m.stack.depth ≡ 4
+  pub depth : m.stack.depth ≡ 1024
   pub cells : m.cells ≡ record { slots = []; limit = p.header.cells }
   pub entries : m.entries.items ≡ null ∷ []
   pub root : m.root ≡ null

@@ -1,28 +1,31 @@
--- What may be at hand so far, and the room for it.
-use Rattle.std.specs.Prelude.{ℕ, ◌≤◌, ◌≡◌, List, [], ◌∷◌}
-use Rattle.aom_frames.specs.Tasks.{Stack}
-use Rattle.aom_frames.specs.declared.task.Task.{Task}
-use Rattle.aom_frames.specs.declared.task.Task.TheVariants.{Run, Trapped, Destroy, Dispatched}
+-- Which methods are at hand: each is one that the method below it may call.
+use Rattle.std.specs.Prelude.{ℕ, List, [], ◌∷◌}
+use Rattle.aom_image.specs.Image.{Image}
+use Rattle.aom_budget.specs.Calls.{MayCall}
+use Rattle.aom_frames.specs.declared.task.Task.{Task as Held_task}
+use Rattle.aom_frames.specs.declared.task.Task.TheVariants.{Run as Runs_frame, Trapped as Is_trap, Dispatched as Ends}
+use Rattle.aom_sound.specs.State.{Task, Run, Trapped, Destroy, Dispatched}
 
--- the trap of a dispatch
-abbrev pub IsTrapOfDispatch : List Task → Type 0
-IsTrapOfDispatch (Trapped ∷ Dispatched d ∷ []) = Unit {0}
+-- the nearest method below, if there is one, may call that one
+abbrev pub CalledFrom : Image → ℕ → List Task → Type 0
+CalledFrom p k [] = Unit {0}
+CalledFrom p k (Run fr ∷ ts) = MayCall p fr.method k
+CalledFrom p k (Trapped ∷ ts) = CalledFrom p k ts
+CalledFrom p k (Destroy ∷ ts) = CalledFrom p k ts
+CalledFrom p k (Dispatched d ∷ ts) = CalledFrom p k ts
+
+abbrev pub AllCalled : Image → List Task → Type 0
+AllCalled p [] = Unit {0}
+AllCalled p (Run fr ∷ ts) = CalledFrom p fr.method ts × AllCalled p ts
+AllCalled p (Trapped ∷ ts) = AllCalled p ts
+AllCalled p (Destroy ∷ ts) = AllCalled p ts
+AllCalled p (Dispatched d ∷ ts) = AllCalled p ts
+
+-- the trap of a dispatch, and a method right under it
+abbrev pub IsTrapOfDispatch : List Held_task → Type 0
+IsTrapOfDispatch (Is_trap ∷ Ends d ∷ []) = Unit {0}
 IsTrapOfDispatch _ = ⊥
 
--- a method right under that trap
-abbrev pub IsUnderTrap : List Task → Type 0
-IsUnderTrap (Run f ∷ ts) = IsTrapOfDispatch ts
+abbrev pub IsUnderTrap : List Held_task → Type 0
+IsUnderTrap (Runs_frame f ∷ ts) = IsTrapOfDispatch ts
 IsUnderTrap _ = ⊥
-
--- nothing, or the end of a dispatch, or main under its trap, perhaps with a cell that goes
-abbrev pub IsMainAlone : List Task → Type 0
-IsMainAlone [] = Unit {0}
-IsMainAlone (Run f ∷ ts) = IsTrapOfDispatch ts
-IsMainAlone (Trapped ∷ ts) = ⊥
-IsMainAlone (Destroy x ∷ ts) = IsUnderTrap ts
-IsMainAlone (Dispatched d ∷ ts) = ts ≡ []
-
--- at most four tasks are at hand, and there is room for them
-pub record HasRoom (s : Stack) : Type 0 where
-  pub alone : IsMainAlone s.tasks
-  pub depth : 4 ≤ s.depth

@@ -17,6 +17,7 @@ use Rattle.aom_exec.specs.Progress.{progress_of, progress_by, outcome_of}
 use Rattle.aom_exec.proofs.Admits.{no_destructor}
 use Rattle.aom_run.specs.Runs.{after, Ended, Told, CutShort, Ran}
 use Rattle.aom_run.proofs.Completing.{Completed, completes, left}
+use Rattle.aom_exec.proofs.Alone.{alone}
 use Rattle.aom_run.proofs.Standing.{alone_of, same_progress}
 use Rattle.aom_run.proofs.Sending.{cut_short, after_both, after_none, text_of_both, cut_next}
 
@@ -47,7 +48,7 @@ completed : (p : Image) (refused : List ℕ) (lines : List Line) (s : State) (m 
 completed p refused lines s m image r stands =
     let Whole : Image → Type 0 = λ q. Reaches q refused (boot_state q) lines s → Completed q refused lines in
     let sound = stands.sound in
-    subst Whole image (λ r'. completes m.image stands.typing refused sound.linked sound.admitted (no_destructor m.image sound.admitted) sound.keeps (suc (left m.image s.tasks)) lines s (omega arith) r' stands.typed (alone_of m.image m.parts.stack.tasks s.tasks stands.agrees.tasks stands.agrees.room.alone)) r
+    subst Whole image (λ r'. completes m.image stands.typing refused sound.linked sound.admitted (no_destructor m.image sound.admitted) sound.keeps (suc (left m.image s.tasks)) lines s (omega arith) r' stands.typed (alone_of m.image s.tasks (alone m.image sound.admitted stands.typing m.parts s stands.typed stands.called stands.agrees))) r
 
 -- the beginning of the lines of a run is one of its transcript
 cut_of : (p : Image) (refused : List ℕ) (before now : Option (List ℕ)) (lines : List Line) → Completed p refused lines → (n : ℕ) → now ≡ after before (take n (text_of lines)) → CutShort p refused before now
