@@ -1,9 +1,8 @@
 -- What a write of one field or of one word of a cell does to the places and to the cells.
-use Rattle.std.proofs.Common.{suc, ◌≡◌, ℕ, ℤ, ◌<◌, Bool, true, false, cond, ◌==◌, ◌&&◌, length, List, [], ◌∷◌, Option, Some, None, slice_set, refl, sym, ap, ◌∙◌, subst}
+use Rattle.std.proofs.Common.{suc, ◌≡◌, ℕ, ℤ, ◌<◌, true, false, cond, ◌==◌, ◌&&◌, length, List, [], ◌∷◌, Option, Some, None, slice_set, refl, sym, ap, ◌∙◌, subst}
 use Rattle.std.proofs.lemmas.Bool.{eq-eqb, eqb-true, false≢true}
 use Rattle.std.proofs.lemmas.List.{get_or-set_other, length-set}
 use Rattle.aom_image.specs.Image.{Image}
-use Rattle.aom_image.specs.declared.method.Thing.{Thing}
 use Rattle.aom_image.specs.declared.method.Thing.TheVariants.{Object as An_object_of}
 use Rattle.aom_cells.specs.Heap.{Heap, null, cell_at, word_of, field_of, field_at, with_word, with_field, count, Changes}
 use Rattle.aom_cells.specs.Heap.{word_at as cell_word}

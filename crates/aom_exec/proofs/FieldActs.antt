@@ -1,5 +1,5 @@
 -- Instructions on the words and the owning fields of what a method works on: of its cell, or of main's, the root.
-use Rattle.std.proofs.Common.{inl, inr, suc, ◌≡◌, ◌≢◌, ◌⊎◌, ℕ, ℤ, ◌<◌, Bool, true, false, cond, ◌==◌, length, List, [], ◌∷◌, Option, Some, None, IsSome, slice_set, slice_index_or, refl, sym, ap, ◌∙◌, subst, arith}
+use Rattle.std.proofs.Common.{inl, inr, suc, ◌≡◌, ◌≢◌, ℕ, ℤ, ◌<◌, true, cond, length, List, [], ◌∷◌, Option, Some, None, slice_set, refl, sym, ap, ◌∙◌, subst, arith}
 use Rattle.std.specs.Prelude.{is_some, nat_lt}
 use Rattle.std.specs.Int.{w32, cast_signed}
 use Rattle.std.proofs.lemmas.Bool.{eq-eqb, ltb-true, ne_eqb}
@@ -7,23 +7,21 @@ use Rattle.std.proofs.lemmas.List.{length-set}
 use Rattle.aom_image.specs.Image.{Image}
 use Rattle.aom_image.specs.declared.instr.Instr.TheVariants.{Load, Store, Take, Put, JumpEmpty}
 use Rattle.aom_image.specs.declared.method.Thing.{Thing}
-use Rattle.aom_cells.specs.Heap.{Heap, null, cell_at, field_at, Lives}
+use Rattle.aom_cells.specs.Heap.{Heap, null, field_at, Lives}
 use Rattle.aom_cells.specs.Heap.{word_at as cell_word}
-use Rattle.aom_shape.specs.Needs.{AllTrue}
 use Rattle.aom_shape.specs.Things.{field_thing, word_count}
 use Rattle.aom_sound.specs.Claims.{Layer, Method as A_method, Mark, Dying, Dispatching, tasks_of}
 use Rattle.aom_sound.specs.Places.{Place, Register, Field, Elsewhere, Root, Object, held, named, moved, changed}
-use Rattle.aom_sound.specs.State.{Home, Static, AtRoot, Inside, Frame, next, set_word, Task, Run, State, Choice, field_place, home_holder}
+use Rattle.aom_sound.specs.State.{Home, Static, AtRoot, Inside, Frame, next, set_word, Task, Run, Choice, field_place, home_holder}
 use Rattle.aom_sound.specs.Objects.{jumped, is_declared_thing}
 use Rattle.aom_sound.specs.WellTyped.{IsHoused as Is_housed, Now, Stack}
 use Rattle.aom_sound.specs.Words.{loaded, stored, read, does_const}
 use Rattle.aom_sound.proofs.Storing.{held_set_word}
 use Rattle.aom_frames.specs.Tasks.{on_top, with_place, with_register, place_here, register_here, this_here}
-use Rattle.aom_frames.specs.declared.frame.Frame.{Frame as Held_frame}
 use Rattle.aom_frames.specs.declared.task.Task.{Task as Held_task}
 use Rattle.aom_frames.specs.declared.task.Task.TheVariants.{Run as Runs_frame}
 use Rattle.aom_exec.specs.declared.parts.Parts.{Parts}
-use Rattle.aom_exec.specs.Places.{value_in, with_tasks}
+use Rattle.aom_exec.specs.Places.{value_in}
 use Rattle.aom_exec.specs.Agrees.{word_at, home_number, Shows, number, SameCells, Agrees}
 use Rattle.aom_exec.specs.Acts.{At_hand, WritesWord, set_register, Does}
 use Rattle.aom_exec.specs.Acts as acts

@@ -3,7 +3,7 @@ use Rattle.std.proofs.Common.{suc, ◌≡◌, ℕ, ◌<◌, length, List, ◌∷
 use Rattle.std.proofs.lemmas.List.{length-set}
 use Rattle.aom_image.specs.declared.instr.Instr.TheVariants.{Move}
 use Rattle.aom_cells.specs.Heap.{null}
-use Rattle.aom_sound.specs.Places.{Place, Register, moved, changed}
+use Rattle.aom_sound.specs.Places.{Register, moved, changed}
 use Rattle.aom_sound.specs.State.{next, set_word, Run}
 use Rattle.aom_frames.specs.Tasks.{on_top, with_place, with_register, place_here, register_here}
 use Rattle.aom_frames.specs.declared.task.Task.TheVariants.{Run as Runs_frame}

@@ -1,5 +1,5 @@
 -- What a place owns goes to another place, and null takes its place.
-use Rattle.std.proofs.Common.{◌≡◌, ℕ, cond, length, List, ◌∷◌, Option, None, slice_set, refl, sym, ap, ◌∙◌}
+use Rattle.std.proofs.Common.{◌≡◌, ℕ, List, ◌∷◌, None}
 use Rattle.aom_image.specs.Image.{Image}
 use Rattle.aom_cells.specs.Heap.{Heap, null}
 use Rattle.aom_sound.specs.Places.{Place, held, moved, changed}
