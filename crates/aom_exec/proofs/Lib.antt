@@ -8,6 +8,7 @@ pub mod CallActs
 pub mod GoingActs
 pub mod Stepping
 pub mod Finding
+pub mod Announcing
 pub mod Ranking
 pub mod Progressing
 pub mod Booting
