@@ -41,10 +41,6 @@ pub no_role : (p : Image) → IsAdmitted p → (c : ℕ) (r : Role) → role_of 
 unfolding role_of method_at
 no_role p admitted c r = position_none (plays c r) p.methods admitted.alone (λ m e. none_plays c r m (classless p admitted 0 m e))
 
-pub no_destructor : (p : Image) → IsAdmitted p → (t : Thing) → destructor_of p t ≡ None
-no_destructor p admitted (Object c) = no_role p admitted c Destruct
-no_destructor p admitted Message = refl
-
 nothing_given : (g : Gives) → IsTrue (gives_nothing g) → g ≡ Nothing
 unfolding gives_nothing
 nothing_given Nothing e = refl

@@ -72,19 +72,6 @@ closing p t s d typed e = go typed.layers (sym typed.tasks ∙ e) typed.good
       goings = λ k. fits_null p (held s.cells) _ (good.fits (Going k));
     }
 
--- and with no class for a root the root holds nothing
-pub root_null : (p : Image) (t : Typing) (s : State) → IsLinked p → IsAdmitted p → WellTyped p t s → s.tasks ≡ Dispatched Of_main ∷ [] → held s.cells (Elsewhere Root) ≡ None
-root_null p t s linked admitted typed e = go typed.layers (sym typed.tasks ∙ e) typed.good
-  where
-    go : (ls : List Layer) → tasks_of ls ≡ Dispatched Of_main ∷ [] → Good p t s.cells ls → held s.cells (Elsewhere Root) ≡ None
-    go [] e good = cc
-    go (Method fr sh ∷ ls) e good = cc
-    go (Mark gv ∷ ls) e good = cc
-    go (Dying o ∷ ls) e good = cc
-    go (Dispatching Of_root ∷ ls) e good = cc
-    go (Dispatching Of_main ∷ l ∷ ls) e good = cc
-    go (Dispatching Of_main ∷ []) e good = fits_null p (held s.cells) _ (subst (λ r. Fits p (held s.cells) (held s.cells (Elsewhere Root)) (filled (root_thing r 0) Perhaps)) (linked_is_wired p linked admitted).1 (good.fits (Elsewhere Root)))
-
 -- a shorter list, read where the longer one has null
 shorter : (n : ℕ) (xs : List ℕ) (k : ℕ) → slice_index_or xs k null ≡ null → slice_index_or (take n xs) k null ≡ null
 shorter zero xs k e = refl

@@ -1,4 +1,5 @@
 pub mod Values
+pub mod CellWords
 pub mod Standing
 pub mod Cells
 pub mod Admits
@@ -9,7 +10,9 @@ pub mod GoingActs
 pub mod Stepping
 pub mod Rooms
 pub mod Alone
+pub mod Ends
 pub mod Finding
+pub mod Announcing
 pub mod Ranking
 pub mod Progressing
 pub mod Booting

@@ -1,18 +1,19 @@
 -- What the machine's numbers stand for.
-use Rattle.std.specs.Prelude.{◌≡◌, ◌<◌, ◌≤◌, ℕ, ℤ, cond, ◌==◌, List, [], ◌∷◌, length, Option, Some, None}
+use Rattle.std.specs.Prelude.{◌≡◌, ◌<◌, ◌≤◌, ℕ, ℤ, cond, ◌==◌, List, [], ◌∷◌, length, Option, Some, None, slice_index_or}
 use Rattle.std.specs.Int.{w32, cast_signed}
 use Rattle.aom_image.specs.Image.{Image}
 use Rattle.aom_image.specs.declared.method.Thing.{Thing}
 use Rattle.aom_image.specs.declared.method.Thing.TheVariants.{Object as An_object_of}
 use Rattle.aom_cells.specs.Heap.{Heap, null, cell_at, count}
+use Rattle.aom_cells.specs.Heap.{word_at as cell_word}
 use Rattle.aom_cells.specs.declared.cell.Cell.{Cell as Held_cell}
-use Rattle.aom_sound.specs.Places.{Place, Register, Entry, Field, Going, Elsewhere, Object, Cell, held, named}
-use Rattle.aom_sound.specs.State.{Home, Static, AtRoot, Inside, Frame, Dispatch, Of_main, word, Task, Run, Trapped, Destroy, Dispatched, State}
+use Rattle.aom_sound.specs.Places.{Place, Register, Entry, Field, Going, Elsewhere, Object, Cell, held, named, word_field}
+use Rattle.aom_sound.specs.State.{Home, Static, AtRoot, Inside, Frame, Dispatch, Of_main, Of_root, word, counter, Task, Run, Trapped, Destroy, Dispatched, State}
 use Rattle.aom_frames.specs.declared.frame.Frame.{Frame as Held_frame}
 use Rattle.aom_frames.specs.declared.task.Task.{Task as Held_task}
 use Rattle.aom_frames.specs.declared.task.Task.TheVariants.{Run as Runs_frame, Trapped as Is_trap, Destroy as Destroys, Dispatched as Ends}
 use Rattle.aom_frames.specs.declared.task.Dispatch.{Dispatch as Held_dispatch}
-use Rattle.aom_frames.specs.declared.task.Dispatch.TheVariants.{Main}
+use Rattle.aom_frames.specs.declared.task.Dispatch.TheVariants.{Main, Root}
 use Rattle.aom_exec.specs.declared.parts.Parts.{Parts}
 use Rattle.aom_exec.specs.Places.{value}
 
@@ -56,9 +57,13 @@ pub record SameFrame (f : Held_frame) (fr : Frame) : Type 0 where
   pub place : f.place ≡ fr.place
   pub this : f.this ≡ home_number fr.home
   pub wide : length f.registers ≡ 16
+  -- the rounds that are left of each loop
+  pub counters : (i : ℕ) → slice_index_or f.counters i 0 ≡ counter fr i
+  pub loops : length f.counters ≡ 4
 
 abbrev pub dispatch_of : Held_dispatch → Dispatch
 dispatch_of Main = Of_main
+dispatch_of Root = Of_root
 
 -- frames and other tasks, one by one
 abbrev pub SameTask : Held_task → Task → Type 0
@@ -82,9 +87,10 @@ abbrev pub thing_of : Option Object → Option Thing
 thing_of None = None
 thing_of (Some o) = Some o.thing
 
--- the same cells live, by their numbers
+-- the same cells live, by their numbers, with the same words
 pub record SameCells (p : Image) (h : Heap) (cs : List Cell) : Type 0 where
   pub things : (n : ℕ) → thing_in (cell_at h n) ≡ thing_of (named cs n)
+  pub words : (n w : ℕ) → cell_word h n w ≡ word_field cs n w
   pub count : count h ≡ length cs
   pub limit : h.limit ≡ p.header.cells
   pub wide : (n : ℕ) (c : Held_cell) → cell_at h n ≡ Some c → length c.fields ≡ 8

@@ -9,6 +9,7 @@
 
 mod calls;
 mod fault;
+mod going;
 mod machine;
 mod moves;
 mod objects;
