@@ -1,7 +1,7 @@
 -- The end of a dispatch.
-use Rattle.std.proofs.Common.{◌≡◌, ℕ, ◌+◌, ◌<◌, Bool, true, false, cond, length, List, [], ◌∷◌, ◌++◌, Option, Some, None, refl, sym, ap, ◌∙◌, subst, append-nil, arith}
+use Rattle.std.proofs.Common.{◌≡◌, ◌+◌, ◌<◌, Bool, true, false, cond, length, List, [], ◌∷◌, ◌++◌, Option, Some, None, refl, sym, ap, ◌∙◌, subst, append-nil, arith}
 use Rattle.aom_image.specs.Image.{Image}
-use Rattle.aom_cells.specs.Heap.{Lives, null}
+use Rattle.aom_cells.specs.Heap.{null}
 use Rattle.aom_shape.specs.Typing.{Typing}
 use Rattle.aom_sound.specs.Places.{Place, Register, Entry, Field, Going, Elsewhere, Root, Object, held}
 use Rattle.aom_sound.specs.declared.line.Ending.TheVariants.{Stopped}
@@ -14,10 +14,10 @@ use Rattle.aom_frames.specs.declared.task.Task.TheVariants.{Run as Runs_frame, T
 use Rattle.aom_frames.specs.declared.task.Dispatch.{Dispatch as Held_dispatch}
 use Rattle.aom_frames.specs.declared.task.Dispatch.TheVariants.{Main, Root as End_of_run}
 use Rattle.aom_exec.specs.declared.parts.Parts.{Parts}
-use Rattle.aom_exec.specs.Places.{value, value_in, below_first, IsEnding}
+use Rattle.aom_exec.specs.Places.{value_in, below_first, IsEnding}
 use Rattle.aom_exec.specs.Going.{ending_here, uprooted}
 use Rattle.aom_exec.specs.Agrees.{word_at, Shows, SameTasks, dispatch_of, number, Agrees}
-use Rattle.aom_exec.specs.Steps.{Sound, Stands, Moves}
+use Rattle.aom_exec.specs.Steps.{Stands, Moves}
 use Rattle.aom_exec.proofs.Standing.{an_open, ends_last, nothing_held}
 use Rattle.aom_exec.proofs.CallActs.{Closing, closing, shows_null}
 use Rattle.aom_exec.proofs.GoingActs.{uproots}

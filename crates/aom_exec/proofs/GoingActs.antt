@@ -9,8 +9,8 @@ use Rattle.aom_image.specs.declared.method.Thing.TheVariants.{Object as An_objec
 use Rattle.aom_cells.specs.Heap.{Heap, null, cell_at, class_at, class_of, field_of, field_at, count, Changes}
 use Rattle.aom_cells.specs.declared.cell.Cell.{Cell as Held_cell}
 use Rattle.aom_shape.specs.Typing.{Typing}
-use Rattle.aom_sound.specs.Places.{Place, Register, Entry, Field, Going, Elsewhere, Root, same_place, Object, Cell, held, named, moved, without, changed}
-use Rattle.aom_sound.specs.State.{Home, Inside, Frame, frame_of, word, next, set_word, Of_main, Of_root, Task, Run, Trapped, Destroy, Dispatched, resumed, Rest, State, Choice, raised}
+use Rattle.aom_sound.specs.Places.{Place, Register, Entry, Field, Going, Elsewhere, Root, same_place, Object, Cell, held, named, moved, changed}
+use Rattle.aom_sound.specs.State.{Home, Inside, frame_of, word, set_word, Of_main, Of_root, Task, Run, Trapped, Destroy, Dispatched, resumed, Rest, State, Choice, raised}
 use Rattle.aom_sound.specs.Destruction.{destructor_of, begun, begun_by, is_field_of, owns_nothing}
 use Rattle.aom_sound.specs.Objects.{deleted}
 use Rattle.aom_sound.specs.Moves.{goes_line}

@@ -1,37 +1,32 @@
 -- Instructions on objects: a jump where there is none, a new cell, the destruction of nothing.
-use Rattle.std.proofs.Common.{inl, inr, suc, ◌≡◌, ◌≢◌, ℕ, ◌<◌, ◌+◌, Bool, true, false, cond, ◌==◌, ◌||◌, length, List, [], ◌∷◌, Option, Some, None, replicate, slice_set, slice_index_or, refl, sym, ap, ◌∙◌, subst, arith, ℤ, pos}
+use Rattle.std.proofs.Common.{inl, inr, suc, ◌≡◌, ◌≢◌, ℕ, ◌<◌, ◌+◌, Bool, true, false, cond, ◌==◌, ◌||◌, length, List, ◌∷◌, Option, Some, None, replicate, slice_set, slice_index_or, refl, sym, ap, ◌∙◌, subst, arith, ℤ, pos}
 use Rattle.std.specs.Prelude.{nat_le}
 use Rattle.std.specs.List.{list_any}
-use Rattle.std.proofs.lemmas.List.{get_or_past, length-set, length-replicate, get_or-replicate}
-use Rattle.std.proofs.lemmas.Bool.{cases_lt, eq-eqb, eqb-true, false≢true}
+use Rattle.std.proofs.lemmas.List.{length-set, length-replicate}
+use Rattle.std.proofs.lemmas.Bool.{eq-eqb, eqb-true, false≢true}
 use Rattle.aom_image.specs.Image.{Image}
 use Rattle.aom_image.specs.declared.instr.Instr.TheVariants.{JumpNull, New, Delete}
 use Rattle.aom_image.specs.declared.method.Thing.TheVariants.{Object as An_object_of}
-use Rattle.aom_classes.specs.Admitted.{IsAdmitted}
 use Rattle.aom_cells.specs.Heap.{Heap, null, cell_at, word_of, field_of, count, blank, Changes}
 use Rattle.aom_shape.specs.Tables.{at}
 use Rattle.aom_shape.specs.Things.{words_of}
-use Rattle.aom_sound.specs.Places.{Place, Register, Entry, Field, Going, Elsewhere, same_place, Object, Cell, held, named, moved, changed, with_new, word_field}
-use Rattle.aom_sound.specs.State.{Frame, word, next, set_word, Task, Run, Rest, State, Choice, raised}
-use Rattle.aom_sound.specs.Destruction.{begun_by}
+use Rattle.aom_sound.specs.Places.{Place, Register, Entry, Field, Going, Elsewhere, Object, Cell, held, named, changed, with_new, word_field}
+use Rattle.aom_sound.specs.State.{word, next, set_word, Run, Rest, State, Choice, raised}
 use Rattle.aom_sound.specs.Objects.{jumped, deleted}
-use Rattle.aom_sound.specs.Moves.{is_refused, IsOpen}
-use Rattle.aom_sound.specs.WellTyped.{WellTyped}
-use Rattle.aom_sound.proofs.Maps.{held_moved, named_moved, held_lives}
+use Rattle.aom_sound.specs.Moves.{is_refused}
 use Rattle.aom_lines.specs.Turn.{Turn}
 use Rattle.aom_frames.specs.Tasks.{on_top, with_place, with_register, place_here, register_here}
 use Rattle.aom_frames.specs.declared.frame.Frame.{Frame as Held_frame}
 use Rattle.aom_frames.specs.declared.task.Task.{Task as Held_task}
-use Rattle.aom_frames.specs.declared.task.Task.TheVariants.{Run as Runs_frame, Destroy as Destroys}
+use Rattle.aom_frames.specs.declared.task.Task.TheVariants.{Run as Runs_frame}
 use Rattle.aom_exec.specs.declared.parts.Parts.{Parts}
 use Rattle.aom_exec.specs.Places.{value_in, with_tasks}
-use Rattle.aom_exec.specs.Agrees.{word_at, Shows, number, SameTasks, SameCells, thing_in, thing_of, Agrees}
+use Rattle.aom_exec.specs.Agrees.{Shows, number, SameCells, thing_in, thing_of, Agrees}
 use Rattle.aom_exec.specs.Acts.{At_hand, requested, set_register, Does, DoesIn, refuses, Made}
 use Rattle.aom_exec.specs.Acts as acts
-use Rattle.aom_exec.proofs.Values.{cases, moves, writes, kept, value_here, value_written, word_written, destroys_value, destroys_word, going_past}
+use Rattle.aom_exec.proofs.Values.{cases, writes, kept, value_written, word_written}
 use Rattle.aom_exec.proofs.Standing.{Top, by_top, goes_on, stays, moved_on, register_shows, free, no_word, unnamed, an_open, not_null, nothing_held}
 use Rattle.aom_exec.proofs.CellWords.{all_same, zeros_at}
-use Rattle.aom_exec.proofs.Cells.{cells_moved}
 
 -- what a register shows that has no word
 pub shown : (p : Image) (m : Parts) (h : At_hand p m) (f : Held_frame) (ms : List Held_task) → Top m h.state h.frame h.below f ms → (a : ℕ) → word h.frame a ≡ None → slice_index_or f.registers a null ≡ number (held h.state.cells (Register (length h.below) a))

@@ -19,10 +19,10 @@ returns-in-Main c = λ told.
 pub returns-in-Main-2 : goal.returns-in-Main-2
 returns-in-Main-2 c = λ told.
     let rootless : c.args.self.now.rest.stopped ≡ true → c.args.self.now.root ≡ null = λ stopped.
-        elim c.if-is_stopped.branch [
-          | then-is_stopped+else-self w ↦ w.if-self.false
-          | else-is_stopped w ↦ absurd (false≢true (sym w.if-is_stopped.false ∙ c.is_stopped.ensures ∙ stopped))
-        ] in
+    elim c.if-is_stopped.branch [
+      | then-is_stopped+else-self w ↦ w.if-self.false
+      | else-is_stopped w ↦ absurd (false≢true (sym w.if-is_stopped.false ∙ c.is_stopped.ensures ∙ stopped))
+    ] in
     rw (c.close.ensures, c.drop_task.ensures) (close_moves c.args.linked.now c.args.self.now told c.requires.ending c.requires.announced (c.ending.ensures ∙ ap (λ d. Some d) c.in-Main-2.is) rootless)
 
 pub returns-in-Root : goal.returns-in-Root

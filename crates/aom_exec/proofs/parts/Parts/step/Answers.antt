@@ -1,4 +1,4 @@
-use Rattle.std.proofs.Common.{sym, ◌∙◌, ◌≡◌}
+use Rattle.std.proofs.Common.{sym, ◌∙◌}
 use Rattle.std.proofs.lemmas.Bool.{false≢true}
 use Rattle.aom_exec.proofs.Progressing.{rested, stepped_one, stepped_two, falls_one, falls_two, stands_then, told_then}
 use Rattle.aom_exec.proofs.parts.Parts.step.Goals as goal
