@@ -9,6 +9,7 @@
 
 mod calls;
 mod fault;
+mod loops;
 mod machine;
 mod moves;
 mod objects;
