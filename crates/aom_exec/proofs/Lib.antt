@@ -4,6 +4,7 @@ pub mod Standing
 pub mod Cells
 pub mod Admits
 pub mod WordActs
+pub mod LoopActs
 pub mod ObjectActs
 pub mod CallActs
 pub mod GoingActs

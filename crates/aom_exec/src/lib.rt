@@ -10,6 +10,7 @@
 mod calls;
 mod fault;
 mod going;
+mod loops;
 mod machine;
 mod moves;
 mod objects;
