@@ -1,5 +1,5 @@
 -- What an admitted image has not.
-use Rattle.std.proofs.Common.{◌≡◌, ℕ, Bool, true, false, ◌&&◌, length, List, [], ◌∷◌, Option, Some, None, slice_get, refl, sym, ap, ◌∙◌, subst, position}
+use Rattle.std.proofs.Common.{◌≡◌, ℕ, Bool, true, false, ◌&&◌, length, List, [], ◌∷◌, Option, Some, None, slice_get, refl, position}
 use Rattle.std.specs.Prelude.{IsTrue, is_none}
 use Rattle.aom_image.specs.Image.{Image}
 use Rattle.aom_image.specs.Views.{method_at, gives_in, gives_of}
@@ -7,13 +7,9 @@ use Rattle.aom_image.specs.declared.method.Method.{Method}
 use Rattle.aom_image.specs.declared.method.Gives.{Gives}
 use Rattle.aom_image.specs.declared.method.Gives.TheVariants.{Nothing, Word, Own, Maybe, Left}
 use Rattle.aom_image.specs.declared.method.Role.{Role}
-use Rattle.aom_image.specs.declared.method.Role.TheVariants.{Destruct}
-use Rattle.aom_image.specs.declared.method.Thing.{Thing}
-use Rattle.aom_image.specs.declared.method.Thing.TheVariants.{Object, Message}
 use Rattle.aom_classes.specs.Admitted.{IsAdmitted, gives_nothing}
-use Rattle.aom_classes.specs.Roles.{role_of, plays, is_class}
+use Rattle.aom_classes.specs.Roles.{role_of, plays}
 use Rattle.aom_classes.proofs.Facts.{admitted_method, bare_of}
-use Rattle.aom_sound.specs.Destruction.{destructor_of}
 
 -- no method is of a class
 classless : (p : Image) → IsAdmitted p → (m : ℕ) (d : Method) → method_at p m ≡ Some d → d.class ≡ None
@@ -40,10 +36,6 @@ position_none f (m ∷ n ∷ ms) one h = cc
 pub no_role : (p : Image) → IsAdmitted p → (c : ℕ) (r : Role) → role_of p c r ≡ None
 unfolding role_of method_at
 no_role p admitted c r = position_none (plays c r) p.methods admitted.alone (λ m e. none_plays c r m (classless p admitted 0 m e))
-
-pub no_destructor : (p : Image) → IsAdmitted p → (t : Thing) → destructor_of p t ≡ None
-no_destructor p admitted (Object c) = no_role p admitted c Destruct
-no_destructor p admitted Message = refl
 
 nothing_given : (g : Gives) → IsTrue (gives_nothing g) → g ≡ Nothing
 unfolding gives_nothing

@@ -6,6 +6,7 @@ pub mod CellFields
 pub mod Moving
 pub mod Admits
 pub mod WordActs
+pub mod LoopActs
 pub mod ObjectActs
 pub mod MoveActs
 pub mod FieldActs
@@ -15,7 +16,9 @@ pub mod Stepping
 pub mod Housing
 pub mod Rooms
 pub mod Alone
+pub mod Ends
 pub mod Finding
+pub mod Announcing
 pub mod Ranking
 pub mod Progressing
 pub mod Booting

@@ -1,5 +1,5 @@
 -- What a write does to the places, on the machine's side and on the checked machine's.
-use Rattle.std.proofs.Common.{suc, ◌≡◌, ℕ, ℤ, ◌<◌, ◌≤◌, Bool, true, false, cond, ◌==◌, ◌&&◌, length, List, [], ◌∷◌, Option, Some, None, slice_set, slice_index_or, refl, sym, ap, ◌∙◌, subst, arith}
+use Rattle.std.proofs.Common.{suc, ◌≡◌, ℕ, ℤ, ◌<◌, ◌≤◌, Bool, true, false, cond, ◌==◌, ◌&&◌, length, List, [], ◌∷◌, Option, None, slice_set, slice_index_or, refl, sym, ap, ◌∙◌, subst, arith}
 use Rattle.std.proofs.lemmas.Bool.{eqb-true, eq-eqb, ne_eqb, false≢true}
 use Rattle.std.proofs.lemmas.List.{get_or-set_same, get_or-set_other}
 use Rattle.aom_cells.specs.Heap.{Heap, null}
@@ -46,7 +46,7 @@ word_past [] d i e = refl
 word_past (u ∷ us) d i e =
     ap (λ b. cond b (word_of u i) (word_in us d i)) (ne_eqb (length us) d (λ k. let n = k in omega (arith, e, n))) ∙ word_past us d i (omega arith)
 
-at_depth : {A : Type 0} (n d : ℕ) (x y : A) → ((d ≡ n) → y ≡ x) → cond (n == d) x y ≡ y
+pub at_depth : {A : Type 0} (n d : ℕ) (x y : A) → ((d ≡ n) → y ≡ x) → cond (n == d) x y ≡ y
 at_depth n d x y h = cases (n == d)
     (λ e. ap (λ b. cond b x y) e ∙ sym (h (sym (eqb-true n d e))))
     (λ e. ap (λ b. cond b x y) e)

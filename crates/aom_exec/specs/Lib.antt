@@ -7,3 +7,4 @@ pub mod Fields
 pub mod Ranks
 pub mod Steps
 pub mod Boot
+pub mod Going
