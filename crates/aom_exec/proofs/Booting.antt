@@ -1,5 +1,5 @@
 -- A machine that has booted stands for the boot state.
-use Rattle.std.proofs.Common.{zero, suc, ◌≡◌, ◌==◌, ℕ, Bool, true, false, cond, length, List, [], ◌∷◌, Option, Some, None, slice_index_or, refl, sym, ap, ◌∙◌, subst, arith}
+use Rattle.std.proofs.Common.{zero, suc, ◌≡◌, ◌==◌, ℕ, Bool, true, false, cond, length, [], ◌∷◌, Some, None, slice_index_or, refl, sym, ap, ◌∙◌, subst, arith}
 use Rattle.aom_image.specs.Image.{Image}
 use Rattle.aom_classes.specs.Admitted.{IsAdmitted}
 use Rattle.aom_classes.specs.Linked.{IsLinked}
