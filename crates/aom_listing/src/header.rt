@@ -1,7 +1,7 @@
 //! The statement that opens a listing.
 ghost use Rattle.std.specs.Prelude.{◌≡◌, [], ◌∷◌, ◌++◌, OnOk, decimal};
 ghost use Rattle.aom_syntax.specs.Keywords.{keyword_text};
-ghost use Rattle.aom_listing.specs.Headers.{root_words, header_words};
+ghost use Rattle.aom_listing.specs.Headers.{root_words, limit_words, header_words};
 ghost use Rattle.aom_listing.specs.Text.{behind, line_of};
 
 use crate::writer::Writer;
@@ -30,13 +30,19 @@ impl Writer {
         }
     }
 
+    fn limits(&mut self, header: &Header) -> Result<(), AllocError>
+        ensures { OnOk result (self.new ≡ self.old ++ behind 32 (limit_words header.now)) }
+    {
+        self.counted(Keyword::Cells, u32::from(header.cells))?;
+        self.counted(Keyword::Messages, u32::from(header.messages))?;
+        self.counted(Keyword::Natives, u32::from(header.natives))
+    }
+
     pub fn header(&mut self, header: &Header) -> Result<(), AllocError>
         ensures { OnOk result (self.new ≡ self.old ++ line_of (header_words header.now)) }
     {
         self.first(Keyword::Image)?;
-        self.counted(Keyword::Cells, u32::from(header.cells))?;
-        self.counted(Keyword::Messages, u32::from(header.messages))?;
-        self.counted(Keyword::Natives, u32::from(header.natives))?;
+        self.limits(header)?;
         self.counted(Keyword::Budget, header.budget)?;
         self.root(header.root)?;
         self.end_line()
