@@ -1,6 +1,7 @@
 -- The listing of an image: its statements, and the text of their lines.
 use Rattle.std.specs.Prelude.{ℕ, ◌+◌, Bool, true, false, List, [], ◌∷◌, ◌++◌, flat_map}
 use Rattle.aom_image.specs.Image.{Image}
+use Rattle.aom_image.specs.declared.class.ClassDecl.{ClassDecl}
 use Rattle.aom_image.specs.declared.instr.Instr.{Instr}
 use Rattle.aom_image.specs.declared.method.Method.{Method}
 use Rattle.aom_syntax.specs.Keywords.{keyword_text}
@@ -24,7 +25,7 @@ label_words false place = []
 abbrev pub instr_words : List Instr → ℕ → Instr → List (List ℕ)
 instr_words code place i = label_words (is_target code place) place ++ words_statement i
 
--- ---- methods
+-- ---- methods and classes
 
 abbrev pub end_words : List (List ℕ)
 end_words = keyword_text k.End ∷ []
@@ -34,15 +35,27 @@ abbrev pub placed : {X Y : Type 0} → (ℕ → X → Y) → ℕ → List X → 
 placed f place [] = []
 placed f place (x ∷ xs) = f place x ∷ placed f (place + 1) xs
 
+-- instructions of the code, from that place on
+abbrev pub instr_statements : List Instr → ℕ → List Instr → List (List (List ℕ))
+instr_statements code place is = placed (instr_words code) place is
+
 -- the statements of a method, at its place among the methods
 abbrev pub method_statements : ℕ → Method → List (List (List ℕ))
-method_statements place m = heading_words place m ∷ (placed (instr_words m.code) 0 m.code ++ end_words ∷ [])
+method_statements place m = heading_words place m ∷ (instr_statements m.code 0 m.code ++ end_words ∷ [])
+
+-- methods, from that place on
+abbrev pub methods_statements : ℕ → List Method → List (List (List ℕ))
+methods_statements place ms = flat_map (λ statements. statements) (placed method_statements place ms)
+
+-- classes, from that place on
+abbrev pub classes_statements : ℕ → List ClassDecl → List (List (List ℕ))
+classes_statements place cs = placed class_words place cs
 
 -- ---- the whole
 
 -- the statements of an image, in words
 abbrev pub listing : Image → List (List (List ℕ))
-listing i = header_words i.header ∷ (placed class_words 0 i.classes ++ flat_map (λ statements. statements) (placed method_statements 0 i.methods))
+listing i = header_words i.header ∷ (classes_statements 0 i.classes ++ methods_statements 0 i.methods)
 
 -- statements, one a line
 abbrev pub lines_text : List (List (List ℕ)) → List ℕ

@@ -1,7 +1,6 @@
 //! The way from an image to its listing.
-ghost use Rattle.std.specs.Prelude.{◌≡◌, ◌≤◌, [], ◌∷◌, ◌++◌, All, flat_map, length, IfOk, OnOk};
-ghost use Rattle.aom_listing.specs.Classes.{class_words};
-ghost use Rattle.aom_listing.specs.Listing.{label_words, instr_words, placed, method_statements, lines_text, end_words, listing_text};
+ghost use Rattle.std.specs.Prelude.{◌≡◌, ◌≤◌, [], ◌∷◌, ◌++◌, All, length, IfOk, OnOk};
+ghost use Rattle.aom_listing.specs.Listing.{label_words, instr_statements, method_statements, methods_statements, classes_statements, lines_text, end_words, listing_text};
 ghost use Rattle.aom_listing.specs.Operands.{label_name};
 ghost use Rattle.aom_listing.specs.Text.{line_of};
 ghost use Rattle.aom_listing.specs.Words.{words_statement};
@@ -33,7 +32,7 @@ impl Writer {
 
     fn code(&mut self, code: &[Instr]) -> Result<(), AllocError>
         requires { length code.now ≤ 1024 }
-        ensures { OnOk result (self.new ≡ self.old ++ lines_text (placed (instr_words code.now) 0 code.now)) }
+        ensures { OnOk result (self.new ≡ self.old ++ lines_text (instr_statements code.now 0 code.now)) }
     {
         let targets = targets(code);
         for (place, instr) in code.iter().enumerate() {
@@ -61,7 +60,7 @@ impl Writer {
     fn methods(&mut self, methods: &[Method]) -> Result<(), AllocError>
         requires count { length methods.now ≤ 1024 }
         requires code { All (λ m. length m.code ≤ 1024) methods.now }
-        ensures { OnOk result (self.new ≡ self.old ++ lines_text (flat_map (λ statements. statements) (placed method_statements 0 methods.now))) }
+        ensures { OnOk result (self.new ≡ self.old ++ lines_text (methods_statements 0 methods.now)) }
     {
         for (place, method) in methods.iter().enumerate() {
             self.method(place as u32, method)?;
@@ -71,7 +70,7 @@ impl Writer {
 
     fn classes(&mut self, classes: &[ClassDecl]) -> Result<(), AllocError>
         requires { length classes.now ≤ 256 }
-        ensures { OnOk result (self.new ≡ self.old ++ lines_text (placed class_words 0 classes.now)) }
+        ensures { OnOk result (self.new ≡ self.old ++ lines_text (classes_statements 0 classes.now)) }
     {
         for (place, class) in classes.iter().enumerate() {
             self.class(place as u32, class)?;

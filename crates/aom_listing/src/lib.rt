@@ -10,6 +10,7 @@ mod cleanup;
 mod disassembling;
 mod header;
 mod jumps;
+mod laws;
 mod messages;
 mod method;
 mod natives;
@@ -20,6 +21,7 @@ mod words;
 mod writer;
 
 pub use disassembling::disassemble;
+pub use laws::listings_split;
 
 #[cfg(test)]
 mod tests;
