@@ -1,0 +1,4 @@
+pub mod Numbers
+pub mod Names
+pub mod Tables
+pub mod Readings
