@@ -1,0 +1,2 @@
+//! The listing of an image: the text of its statements, from which the assembler makes the same image.
+#![tactic(auto)]
