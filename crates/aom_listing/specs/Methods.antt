@@ -1,5 +1,5 @@
 -- The statement that declares a method.
-use Rattle.std.specs.Prelude.{ℕ, Bool, true, false, List, [], ◌∷◌, ◌++◌, Option, Some, None, map, codes}
+use Rattle.std.specs.Prelude.{ℕ, ◌==◌, Bool, true, false, if◌then◌else◌, List, [], ◌∷◌, ◌++◌, Option, Some, None, map, codes}
 use Rattle.aom_image.specs.Views.{has}
 use Rattle.aom_image.specs.declared.method.Argument.{Argument}
 use Rattle.aom_image.specs.declared.method.Argument.TheVariants as arg
@@ -53,13 +53,9 @@ letter_where false letter = []
 abbrev pub state_letters : ℕ → List ℕ
 state_letters set = letter_where (has set 1) 117 ++ letter_where (has set 2) 105 ++ letter_where (has set 4) 115 ++ letter_where (has set 8) 97 ++ letter_where (has set 16) 111 ++ letter_where (has set 32) 100
 
--- letters, or a minus where there are none
-abbrev pub or_minus : List ℕ → List ℕ
-or_minus [] = codes "-"
-or_minus (b ∷ bs) = b ∷ bs
-
+-- a set in one word, where a minus is the empty one
 abbrev pub states_word : ℕ → List ℕ
-states_word set = or_minus (state_letters set)
+states_word set = if set == 0 then codes "-" else state_letters set
 
 -- ---- arguments and results
 

@@ -2,3 +2,5 @@ pub mod Numbers
 pub mod Names
 pub mod Tables
 pub mod Readings
+pub mod Operands
+pub mod Instructions

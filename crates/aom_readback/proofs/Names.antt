@@ -1,7 +1,8 @@
 -- A letter and a number in decimal digits: a word, a name, and in a list of such names at the number's place.
-use Rattle.std.proofs.Common.{◌≡◌, ℕ, suc, ◌+◌, ◌<◌, ◌≤◌, ◌^◌, ◌==◌, ◌&&◌, ◌||◌, ◌⊎◌, ⊎_elim, Bool, true, false, not, cond, nat_lt, nat_le, List, [], ◌∷◌, length, get_or, Option, Some, None, refl, sym, ap, subst, ◌∙◌, arith, rules, tests}
-use Rattle.std.specs.Prelude.{codes}
-use Rattle.std.specs.Fmt.{decimal}
+use Rattle.std.proofs.Common.{◌≡◌, ℕ, ℤ, pos, negsuc, suc, ◌+◌, ◌<◌, ◌≤◌, ◌^◌, ◌==◌, ◌&&◌, ◌||◌, ◌⊎◌, ⊎_elim, Bool, true, false, not, cond, nat_lt, nat_le, List, [], ◌∷◌, length, get_or, Option, Some, None, refl, sym, ap, subst, ◌∙◌, arith, rules, tests}
+use Rattle.std.specs.Prelude.{FitsSigned, codes}
+use Rattle.std.specs.Fmt.{decimal, signed_decimal}
+use Rattle.std.specs.Int.{w32}
 use Rattle.std.specs.Str.{bytes_eq}
 use Rattle.std.specs.List.{list_all, position}
 use Rattle.std.proofs.lemmas.Bool.{and_parts, le-leb, lt-ltb}
@@ -33,6 +34,10 @@ letter_is_plain b h = grind (arith, common_steps)
 
 pub plain_decimal : (n : ℕ) → n < 2 ^ 64 → list_all is_plain (decimal n) ≡ true
 plain_decimal n small = all_of is_digit is_plain digit_is_plain (decimal n) (all_digits n small)
+
+pub plain_signed : (z : ℤ) → FitsSigned w32 z → list_all is_plain (signed_decimal z) ≡ true
+plain_signed (pos n) fits = plain_decimal n (omega (arith, fits.sfits))
+plain_signed (negsuc n) fits = plain_decimal (suc n) (omega (arith, fits.sfits))
 
 -- a letter and a number
 abbrev pub lettered : ℕ → ℕ → List ℕ

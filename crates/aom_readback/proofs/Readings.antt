@@ -95,5 +95,5 @@ indexed_reads letter highest n below small =
     ∙ ap (index_of highest) (number_of_decimal n small)
     ∙ ap in_range (within 0 highest n (omega arith) below)
 
-takes_indexed : (letter highest n : ℕ) → is_letter letter ≡ true → n ≤ highest → n < 2 ^ 40 → Takes (seen (indexed letter highest) word) (lettered letter n ∷ []) n
+pub takes_indexed : (letter highest n : ℕ) → is_letter letter ≡ true → n ≤ highest → n < 2 ^ 40 → Takes (seen (indexed letter highest) word) (lettered letter n ∷ []) n
 takes_indexed letter highest n is below small = sees (indexed letter highest) (takes_word (lettered letter n) (plain_lettered letter n is (omega arith))) (indexed_reads letter highest n below small)
