@@ -4,3 +4,5 @@ pub mod Tables
 pub mod Readings
 pub mod Operands
 pub mod Instructions
+pub mod Labels
+pub mod Statements

@@ -1,5 +1,5 @@
 -- What a reading takes from the words before it, and how readings follow each other.
-use Rattle.std.proofs.Common.{◌≡◌, ℕ, ◌+◌, ◌<◌, ◌≤◌, ◌^◌, Bool, true, false, List, [], ◌∷◌, ◌++◌, Option, Some, None, Result, Ok, Err, refl, sym, ap, ◌∙◌, append_assoc, arith}
+use Rattle.std.proofs.Common.{◌≡◌, ℕ, ◌+◌, ◌<◌, ◌≤◌, ◌^◌, Bool, true, false, List, [], ◌∷◌, ◌++◌, Option, Some, None, Result, Ok, Err, refl, sym, ap, ◌∙◌, append_assoc, append-nil, arith}
 use Rattle.std.specs.Prelude.{decimal, if◌then◌else◌}
 use Rattle.std.proofs.lemmas.Bool.{lt-ltb, eq-eqb}
 use Rattle.aom_text.specs.Names.{is_letter}
@@ -33,6 +33,14 @@ pub in_turn : {X Y : Type 0} {r : Reading X} (f : X → Reading Y) {us vs : List
 in_turn {r = r} f {us = us} {vs = vs} first second = record {
     reads = λ rest. ap (next r f) (append_assoc us vs rest) ∙ ap (λ e. e >>= λ p. f p.0 p.1) (first.reads (vs ++ rest)) ∙ second.reads rest
   }
+
+-- what comes before is read first
+pub before : {X Y : Type 0} {r : Reading X} (f : X → Reading Y) {us vs : List (List ℕ)} {x : X} {e : Result (Y × List (List ℕ)) AsmFaultKind} → Takes r us x → f x vs ≡ e → next r f (us ++ vs) ≡ e
+before f {vs = vs} first second = ap (λ e. e >>= λ p. f p.0 p.1) (first.reads vs) ∙ second
+
+-- what is read last
+pub ends : {X Y : Type 0} {r : Reading X} (f : X → Reading Y) {us : List (List ℕ)} {x : X} {e : Result (Y × List (List ℕ)) AsmFaultKind} → Takes r us x → f x [] ≡ e → next r f us ≡ e
+ends {r = r} f {us = us} last second = ap (next r f) (sym (append-nil us)) ∙ before f last second
 
 -- what is seen in what was read
 pub sees : {X Y : Type 0} {r : Reading X} (f : X → Result Y AsmFaultKind) {us : List (List ℕ)} {x : X} {y : Y} → Takes r us x → f x ≡ Ok y → Takes (seen f r) us y
@@ -79,7 +87,7 @@ pub takes_used : (is_strict : Bool) (limit letter n : ℕ) (names : List (List �
 takes_used is_strict limit letter n names is below few there = sees (λ w. referred is_strict limit (place_of w names)) (takes_name letter n is (omega arith))
     (ap (referred is_strict limit) there ∙ ap (λ b. if b then Ok n else nowhere is_strict) (lt-ltb n limit below))
 
-declared_there : (letter n : ℕ) (names : List (List ℕ)) → place_of (lettered letter n) names ≡ Some n → declared_at n names (lettered letter n) ≡ Ok tt
+pub declared_there : (letter n : ℕ) (names : List (List ℕ)) → place_of (lettered letter n) names ≡ Some n → declared_at n names (lettered letter n) ≡ Ok tt
 declared_there letter n names there =
     ap (λ o. if is_at n o then Ok tt else Err DoubleName) there ∙ ap (λ b. if b then Ok tt else Err DoubleName) (eq-eqb n n refl)
 

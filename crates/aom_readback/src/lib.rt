@@ -3,4 +3,4 @@
 
 mod laws;
 
-pub use laws::numbers_read_back;
+pub use laws::{instructions_read_back, numbers_read_back, tables_read_back};
