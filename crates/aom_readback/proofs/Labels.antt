@@ -1,5 +1,5 @@
 -- In the labels of a method's code each target of a jump has its place.
-use Rattle.std.proofs.Common.{◌≡◌, ℕ, zero, suc, ◌+◌, ◌<◌, ◌≤◌, ◌^◌, ◌||◌, ◌⊎◌, inl, inr, Bool, true, false, List, [], ◌∷◌, length, get_or, slice_get, Option, Some, None, refl, sym, ap, subst, ◌∙◌, arith}
+use Rattle.std.proofs.Common.{◌≡◌, ℕ, zero, suc, ◌+◌, ◌<◌, ◌≤◌, ◌||◌, ◌⊎◌, inl, inr, Bool, true, false, List, [], ◌∷◌, length, get_or, slice_get, Option, Some, None, refl, sym, ap, subst, ◌∙◌, arith}
 use Rattle.std.specs.Prelude.{IfSome}
 use Rattle.std.specs.List.{list_any}
 use Rattle.std.proofs.lemmas.Bool.{eq-eqb}
@@ -37,8 +37,8 @@ one_or_none false k = inr refl
 pub label_placed : (code : List Instr) (k : ℕ) → length code ≤ 1024 → k < length code → is_target code k ≡ true → place_of (label_name k) (code_labels code) ≡ Some k
 label_placed code k few within jumped =
     placed 76 k (code_labels code) (omega arith) (omega (arith, length_labels code 0 code))
-        (label_at code k within ∙ ap (λ b. label_or_none b k) jumped)
-        (λ j less. subst (λ l. (l ≡ label_name j) ⊎ (l ≡ [])) (sym (label_at code j (omega arith))) (one_or_none (is_target code j) j))
+    (label_at code k within ∙ ap (λ b. label_or_none b k) jumped)
+    (λ j less. subst (λ l. (l ≡ label_name j) ⊎ (l ≡ [])) (sym (label_at code j (omega arith))) (one_or_none (is_target code j) j))
 
 -- ---- jumps
 

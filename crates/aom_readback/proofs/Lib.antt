@@ -6,3 +6,7 @@ pub mod Operands
 pub mod Instructions
 pub mod Labels
 pub mod Statements
+pub mod Headers
+pub mod Lists
+pub mod Classes
+pub mod Methods

@@ -1,6 +1,6 @@
 -- A letter and a number in decimal digits: a word, a name, and in a list of such names at the number's place.
-use Rattle.std.proofs.Common.{◌≡◌, ℕ, ℤ, pos, negsuc, suc, ◌+◌, ◌<◌, ◌≤◌, ◌^◌, ◌==◌, ◌&&◌, ◌||◌, ◌⊎◌, ⊎_elim, Bool, true, false, not, cond, nat_lt, nat_le, List, [], ◌∷◌, length, get_or, Option, Some, None, refl, sym, ap, subst, ◌∙◌, arith, rules, tests}
-use Rattle.std.specs.Prelude.{FitsSigned, codes}
+use Rattle.std.proofs.Common.{◌≡◌, ℕ, ℤ, pos, negsuc, suc, ◌<◌, ◌≤◌, ◌^◌, ◌==◌, ◌&&◌, ◌⊎◌, ⊎_elim, Bool, true, false, cond, nat_lt, nat_le, List, [], ◌∷◌, length, get_or, Some, None, refl, sym, ap, ◌∙◌, arith}
+use Rattle.std.specs.Prelude.{FitsSigned}
 use Rattle.std.specs.Fmt.{decimal, signed_decimal}
 use Rattle.std.specs.Int.{w32}
 use Rattle.std.specs.Str.{bytes_eq}
@@ -10,7 +10,7 @@ use Rattle.std.proofs.lemmas.Fmt.{decimal_injective, decimal_nonempty, length-de
 use Rattle.std.proofs.lemmas.List.Sums.{position_or_len_is}
 use Rattle.std.proofs.lemmas.Slice.Eq.{bytes_eq-Decides}
 use Rattle.std.proofs.lemmas.Grind.{common_steps}
-use Rattle.aom_text.specs.Names.{is_letter, is_name, is_name_byte, has_name_form, is_reserved}
+use Rattle.aom_text.specs.Names.{is_letter, is_name, is_name_byte, is_reserved}
 use Rattle.aom_text.specs.Numbers.{is_digit}
 use Rattle.aom_text.specs.Words.{is_plain}
 use Rattle.aom_readback.proofs.Numbers.{all_digits}
@@ -87,7 +87,7 @@ pub placed : (letter k : ℕ) (names : List (List ℕ)) → k < 2 ^ 32 → k < l
     → position (λ n. bytes_eq n (lettered letter k)) names ≡ Some k
 placed letter k names small within here before =
     let other : (j : ℕ) → j < k → bytes_eq (get_or names j []) (lettered letter k) ≡ false =
-        λ j less. differing _ _ (λ same. ⊎_elim (λ named. omega (arith, same_number letter j k (omega arith) small (sym named ∙ same))) (λ none. empty_differs (sym none ∙ same)) (before j less)) in
+    λ j less. differing _ _ (λ same. ⊎_elim (λ named. omega (arith, same_number letter j k (omega arith) small (sym named ∙ same))) (λ none. empty_differs (sym none ∙ same)) (before j less)) in
     let at = position_or_len_is (λ n. bytes_eq n (lettered letter k)) names k [] (omega arith) other (λ less. (bytes_eq-Decides _ _).1 here) in
     let less : nat_lt k (length names) ≡ true = lt-ltb _ _ within in
     ap (λ n. cond (nat_lt n (length names)) (Some n) None) at ∙ rw less

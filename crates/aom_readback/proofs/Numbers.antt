@@ -1,5 +1,5 @@
 -- Numbers in decimal digits read back.
-use Rattle.std.proofs.Common.{◌≡◌, ℕ, ℤ, pos, negsuc, neg_ℤ, suc, min, ◌+◌, ◌<◌, ◌≤◌, ◌^◌, ◌==◌, ◌&&◌, Bool, true, false, not, cond, nat_lt, nat_le, List, [], ◌∷◌, length, Option, Some, None, refl, sym, ap, subst, ◌∙◌, arith, rules, tests}
+use Rattle.std.proofs.Common.{◌≡◌, ℕ, ℤ, pos, negsuc, suc, min, ◌<◌, ◌≤◌, ◌^◌, ◌==◌, Bool, true, false, nat_lt, nat_le, List, [], ◌∷◌, length, Some, ◌∙◌, arith, rules}
 use Rattle.std.specs.Fmt.{decimal, signed_decimal}
 use Rattle.std.specs.Prelude.{FitsSigned}
 use Rattle.std.specs.Int.{w32}
@@ -7,7 +7,7 @@ use Rattle.std.specs.List.{list_all, fold}
 use Rattle.std.proofs.lemmas.Fmt.{digits_decimal, digits_value-decimal, decimal_nonempty}
 use Rattle.std.proofs.lemmas.Str.Parse.{IsNumeralModel, numerals_by_fold}
 use Rattle.std.proofs.lemmas.Grind.{common_steps}
-use Rattle.aom_text.specs.Numbers.{is_digit, is_digits, add_digit, digits_size, most, number_from, number_of, number_within, number_signed}
+use Rattle.aom_text.specs.Numbers.{is_digit, add_digit, digits_size, number_from, number_of, number_within, number_signed}
 use Rattle.aom_text.specs.declared.number.Number.{Number}
 
 own : IsNumeralModel (λ ds. list_all is_digit ds ≡ true) digits_size

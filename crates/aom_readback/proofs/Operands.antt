@@ -1,5 +1,5 @@
 -- The operands of instructions read back.
-use Rattle.std.proofs.Common.{◌≡◌, ℕ, ℤ, ◌<◌, ◌≤◌, ◌^◌, Bool, true, false, List, [], ◌∷◌, Option, Some, None, Result, Ok, refl, ap, ◌∙◌, arith}
+use Rattle.std.proofs.Common.{◌≡◌, ℕ, ℤ, ◌<◌, ◌≤◌, ◌^◌, true, List, [], ◌∷◌, Some, Ok, refl, ap, ◌∙◌, arith}
 use Rattle.std.specs.Prelude.{FitsSigned, decimal}
 use Rattle.std.specs.Int.{w32}
 use Rattle.std.specs.Fmt.{signed_decimal}
@@ -9,10 +9,10 @@ use Rattle.aom_image.specs.Operands.{IsDepth, IsField, IsRegister, IsWord, Targe
 use Rattle.aom_image.specs.declared.instr.Target.{Target}
 use Rattle.aom_image.specs.declared.instr.Target.TheVariants as targets
 use Rattle.aom_syntax.specs.Names.{place_of}
-use Rattle.aom_syntax.specs.Reading.{◌>>=◌, in_range, word}
-use Rattle.aom_syntax.specs.Operands.{class, depth, field, indexed, label, last_register, method, register, rounds, signed, signed_of, target, target_of, three_registers, two_registers, word_field}
+use Rattle.aom_syntax.specs.Reading.{◌>>=◌, in_range}
+use Rattle.aom_syntax.specs.Operands.{class, depth, field, label, last_register, method, register, rounds, signed, signed_of, target, target_of, three_registers, two_registers, word_field}
 use Rattle.aom_syntax.specs.declared.scope.Scope.{Scope}
-use Rattle.aom_listing.specs.Operands.{class_name, entry_word, field_word, label_name, method_name, register_word, target_word, word_field_word}
+use Rattle.aom_listing.specs.Operands.{class_name, field_word, label_name, method_name, register_word, target_word, word_field_word}
 use Rattle.aom_readback.specs.Naming.{HasNames}
 use Rattle.aom_readback.proofs.Names.{plain_lettered, plain_signed}
 use Rattle.aom_readback.proofs.Numbers.{signed_of_decimal}

@@ -1,20 +1,19 @@
 -- What a reading takes from the words before it, and how readings follow each other.
-use Rattle.std.proofs.Common.{◌≡◌, ℕ, ◌+◌, ◌<◌, ◌≤◌, ◌^◌, Bool, true, false, List, [], ◌∷◌, ◌++◌, Option, Some, None, Result, Ok, Err, refl, sym, ap, ◌∙◌, append_assoc, append-nil, arith}
+use Rattle.std.proofs.Common.{◌≡◌, ℕ, ◌<◌, ◌≤◌, ◌^◌, Bool, true, false, List, [], ◌∷◌, ◌++◌, Some, None, Result, Ok, Err, refl, sym, ap, ◌∙◌, append_assoc, append-nil, arith}
 use Rattle.std.specs.Prelude.{decimal, if◌then◌else◌}
 use Rattle.std.proofs.lemmas.Bool.{lt-ltb, eq-eqb}
 use Rattle.aom_text.specs.Names.{is_letter}
-use Rattle.aom_text.specs.declared.number.Number.{Number}
 use Rattle.aom_text.specs.declared.fault.AsmFaultKind.TheVariants.{NotAscii, BadNumber, BadShape, DoubleName}
 use Rattle.aom_syntax.specs.Names.{place_of, nowhere, referred}
 use Rattle.aom_syntax.specs.Operands.{index_of, indexed, used}
-use Rattle.aom_syntax.specs.Classes.{declared, declared_at, is_at}
+use Rattle.aom_syntax.specs.Classes.{declared, declared_at, flag, is_at}
 use Rattle.std.specs.List.{list_all}
 use Rattle.std.specs.Str.{bytes_eq}
 use Rattle.std.proofs.lemmas.Slice.Eq.{bytes_eq-Decides}
 use Rattle.aom_text.specs.Words.{is_plain}
 use Rattle.aom_text.specs.Numbers.{number_of, number_within}
 use Rattle.aom_text.specs.declared.fault.AsmFaultKind.{AsmFaultKind}
-use Rattle.aom_syntax.specs.Reading.{◌>>=◌, Reading, next, seen, giving, word, took, keyword, any_keyword, known, exactly, nothing_more, number, number_in, in_range, optional_number, name, as_name}
+use Rattle.aom_syntax.specs.Reading.{◌>>=◌, Reading, next, seen, giving, word, took, keyword, any_keyword, known, exactly, number, number_in, in_range, optional_number, name, as_name}
 use Rattle.aom_syntax.specs.Keywords.{keyword_text, keyword_of, strange}
 use Rattle.aom_syntax.specs.declared.keyword.Keyword.{Keyword}
 use Rattle.aom_readback.proofs.Names.{lettered, name_lettered, plain_decimal, plain_lettered}
@@ -31,22 +30,73 @@ gives x = record { reads = λ rest. refl }
 -- one after another
 pub in_turn : {X Y : Type 0} {r : Reading X} (f : X → Reading Y) {us vs : List (List ℕ)} {x : X} {y : Y} → Takes r us x → Takes (f x) vs y → Takes (next r f) (us ++ vs) y
 in_turn {r = r} f {us = us} {vs = vs} first second = record {
-    reads = λ rest. ap (next r f) (append_assoc us vs rest) ∙ ap (λ e. e >>= λ p. f p.0 p.1) (first.reads (vs ++ rest)) ∙ second.reads rest
-  }
+  reads = λ rest. ap (next r f) (append_assoc us vs rest) ∙ ap (λ e. e >>= λ p. f p.0 p.1) (first.reads (vs ++ rest)) ∙ second.reads rest;
+}
+
+-- what was read, and what is made of it
+pub reads_on : {X Y : Type 0} (r : Reading X) (f : X → Reading Y) {ws vs : List (List ℕ)} {x : X} {e : Result (Y × List (List ℕ)) AsmFaultKind} → r ws ≡ Ok (x, vs) → f x vs ≡ e → next r f ws ≡ e
+reads_on r f first second = ap (λ e. e >>= λ p. f p.0 p.1) first ∙ second
 
 -- what comes before is read first
 pub before : {X Y : Type 0} {r : Reading X} (f : X → Reading Y) {us vs : List (List ℕ)} {x : X} {e : Result (Y × List (List ℕ)) AsmFaultKind} → Takes r us x → f x vs ≡ e → next r f (us ++ vs) ≡ e
-before f {vs = vs} first second = ap (λ e. e >>= λ p. f p.0 p.1) (first.reads vs) ∙ second
+before {r = r} f {vs = vs} first second = reads_on r f (first.reads vs) second
 
 -- what is read last
 pub ends : {X Y : Type 0} {r : Reading X} (f : X → Reading Y) {us : List (List ℕ)} {x : X} {e : Result (Y × List (List ℕ)) AsmFaultKind} → Takes r us x → f x [] ≡ e → next r f us ≡ e
 ends {r = r} f {us = us} last second = ap (next r f) (sym (append-nil us)) ∙ before f last second
 
+-- it reads these words as that value, and leaves none
+pub record Whole {X : Type 0} (r : Reading X) (ws : List (List ℕ)) (x : X) : Type 0 where
+  pub reads : r ws ≡ Ok (x, [])
+
+pub done : {X : Type 0} (x : X) → Whole (giving x) [] x
+done x = record { reads = refl }
+
+-- what comes first, and all the rest
+pub first : {X Y : Type 0} {r : Reading X} (f : X → Reading Y) {us vs : List (List ℕ)} {x : X} {y : Y} → Takes r us x → Whole (f x) vs y → Whole (next r f) (us ++ vs) y
+first f takes rest = record { reads = before f takes rest.reads }
+
+-- what comes last, and what is made of it
+pub last : {X Y : Type 0} {r : Reading X} (f : X → Reading Y) {ws : List (List ℕ)} {x : X} {y : Y} → Whole r ws x → Whole (f x) [] y → Whole (next r f) ws y
+last {r = r} f whole made = record { reads = reads_on r f whole.reads made.reads }
+
+-- the same of the same words
+pub regroup : {X : Type 0} {r : Reading X} {ws vs : List (List ℕ)} {x : X} → ws ≡ vs → Whole r vs x → Whole r ws x
+regroup {r = r} same whole = record { reads = ap r same ∙ whole.reads }
+
+-- the same value
+pub settle : {X : Type 0} {r : Reading X} {ws : List (List ℕ)} {x y : X} → x ≡ y → Whole r ws x → Whole r ws y
+settle same whole = record { reads = whole.reads ∙ ap (λ z. Ok (z, [])) same }
+
+-- ---- readings within readings
+
+bind_assoc : {A B C : Type 0} (r : Result A AsmFaultKind) (f : A → Result B AsmFaultKind) (g : B → Result C AsmFaultKind) → (r >>= λ x. f x >>= g) ≡ ((r >>= f) >>= g)
+bind_assoc (Ok x) f g = refl
+bind_assoc (Err e) f g = refl
+
+module _ {X Y Z : Type 0} (a : Reading X) (f : X → Reading Y) (g : Y → Reading Z) where
+  regrouped : (ws : List (List ℕ)) → next a (λ x. next (f x) g) ws ≡ next (next a f) g ws
+  regrouped ws = bind_assoc (a ws) (λ p. f p.0 p.1) (λ p. g p.0 p.1)
+
+  -- two readings that belong together come first
+  pub first_two : {us vs : List (List ℕ)} {y : Y} {z : Z} → Takes (next a f) us y → Whole (g y) vs z → Whole (next a (λ x. next (f x) g)) (us ++ vs) z
+  first_two {us = us} {vs = vs} takes rest = record { reads = regrouped (us ++ vs) ∙ before g takes rest.reads }
+
+  -- or they are all
+  pub only_two : {us : List (List ℕ)} {y : Y} {z : Z} → Takes (next a f) us y → Whole (g y) [] z → Whole (next a (λ x. next (f x) g)) us z
+  only_two {us = us} takes rest = record { reads = regrouped us ∙ ends g takes rest.reads }
+
+-- something is made of what two readings gave
+pub made : {X Y Z : Type 0} (a : Reading X) (f : X → Reading Y) (h : Y → Z) {us : List (List ℕ)} {y : Y} → Takes (next a f) us y → Takes (next a (λ x. next (f x) (λ y. giving (h y)))) us (h y)
+made a f h {us = us} takes = record {
+  reads = λ rest. regrouped a f (λ y. giving (h y)) (us ++ rest) ∙ ap (λ e. e >>= λ p. giving (h p.0) p.1) (takes.reads rest);
+}
+
 -- what is seen in what was read
 pub sees : {X Y : Type 0} {r : Reading X} (f : X → Result Y AsmFaultKind) {us : List (List ℕ)} {x : X} {y : Y} → Takes r us x → f x ≡ Ok y → Takes (seen f r) us y
 sees f first e = record {
-    reads = λ rest. ap (λ e. e >>= λ p. f p.0 >>= λ y. Ok (y, p.1)) (first.reads rest) ∙ ap (λ e. e >>= λ y. Ok (y, rest)) e
-  }
+  reads = λ rest. ap (λ e. e >>= λ p. f p.0 >>= λ y. Ok (y, p.1)) (first.reads rest) ∙ ap (λ e. e >>= λ y. Ok (y, rest)) e;
+}
 
 pub takes_word : (w : List ℕ) → list_all is_plain w ≡ true → Takes word (w ∷ []) w
 takes_word w plain = record { reads = λ rest. ap (λ b. if b then Ok (w, rest) else Err NotAscii) plain }
@@ -65,6 +115,9 @@ takes_any_keyword key = sees (λ w. known w (keyword_of w)) (takes_word (keyword
 pub took_same : (key : Keyword) (ws : List (List ℕ)) → took key (keyword_text key ∷ ws) ≡ (true, ws)
 took_same key ws = ap (λ b. if b then (true, ws) else (false, keyword_text key ∷ ws)) (bytes_eq_same (keyword_text key))
 
+pub takes_flag : (key : Keyword) → Takes (flag key) (keyword_text key ∷ []) true
+takes_flag key = record { reads = λ rest. ap Ok (took_same key rest) }
+
 -- ---- numbers
 
 pub takes_number : (low high n : ℕ) → low ≤ n → n ≤ high → n < 2 ^ 40 → Takes (number low high) (decimal n ∷ []) n
@@ -73,8 +126,8 @@ takes_number low high n above below small = sees (number_in low high) (takes_wor
 
 pub takes_optional : (key : Keyword) (high n : ℕ) → n ≤ high → n < 2 ^ 40 → Takes (optional_number key high) (keyword_text key ∷ decimal n ∷ []) n
 takes_optional key high n below small = record {
-    reads = λ rest. ap (λ p. if p.0 then number 0 high p.1 else Ok (0, p.1)) (took_same key (decimal n ∷ rest)) ∙ (takes_number 0 high n (omega arith) below small).reads rest
-  }
+  reads = λ rest. ap (λ p. if p.0 then number 0 high p.1 else Ok (0, p.1)) (took_same key (decimal n ∷ rest)) ∙ (takes_number 0 high n (omega arith) below small).reads rest;
+}
 
 -- ---- names
 

@@ -1,5 +1,5 @@
 -- An instruction reads back with its label.
-use Rattle.std.proofs.Common.{◌≡◌, ℕ, ◌+◌, ◌-◌, ◌<◌, ◌≤◌, ◌==◌, Bool, true, false, List, [], ◌∷◌, ◌++◌, length, take, get_or, slice_get, Option, Some, None, Result, Ok, Err, refl, sym, ap, subst, ◌∙◌, append_assoc, arith}
+use Rattle.std.proofs.Common.{◌≡◌, ℕ, ◌-◌, ◌<◌, ◌≤◌, ◌==◌, Bool, true, false, List, [], ◌∷◌, ◌++◌, length, take, get_or, slice_get, Some, None, Ok, Err, refl, sym, ap, ◌∙◌, append_assoc, arith}
 use Rattle.std.specs.Prelude.{if◌then◌else◌}
 use Rattle.std.specs.List.{list_all}
 use Rattle.std.proofs.Math.ListN.{length-append}
@@ -13,16 +13,14 @@ use Rattle.aom_syntax.specs.Mnemonics.{mnemonic_text}
 use Rattle.aom_syntax.specs.Methods.{after_label, check_label, instruction, known_mnemonic, label_of, named_mnemonic, skip_label}
 use Rattle.aom_syntax.specs.Classes.{declared_at}
 use Rattle.aom_syntax.specs.Names.{place_of}
-use Rattle.aom_syntax.specs.Reading.{◌>>=◌, as_name, giving, next, nothing_more, seen, word}
-use Rattle.aom_syntax.specs.Words.{words_operands}
+use Rattle.aom_syntax.specs.Reading.{◌>>=◌, seen, word}
 use Rattle.aom_syntax.specs.declared.mnemonic.Mnemonic.{Mnemonic}
 use Rattle.aom_syntax.specs.declared.scope.Scope.{Scope}
 use Rattle.aom_listing.specs.Jumps.{is_target}
 use Rattle.aom_listing.specs.Listing.{instr_words, label_words}
 use Rattle.aom_listing.specs.Operands.{label_name}
-use Rattle.aom_listing.specs.Words.{words_statement}
 use Rattle.aom_readback.specs.Naming.{HasNames, code_labels}
-use Rattle.aom_readback.proofs.Instructions.{Says, says}
+use Rattle.aom_readback.proofs.Instructions.{says}
 use Rattle.aom_readback.proofs.Labels.{has_label, label_placed}
 use Rattle.aom_readback.proofs.Names.{name_lettered, plain_lettered}
 use Rattle.aom_readback.proofs.Readings.{Takes, before, declared_there, ends, in_turn, sees, takes_word}
@@ -47,17 +45,17 @@ module _ (place : ℕ) (labels : List (List ℕ)) (m : Mnemonic) where
   -- a word without a colon is no label
   plainly : Takes (after_label place labels) (mnemonic_text m ∷ []) (mnemonic_text m)
   plainly = in_turn _ (takes_word (mnemonic_text m) (mnemonic_is_plain m)) (record {
-      reads = λ rest. ap (λ o. skip_label place labels (mnemonic_text m) o rest) (mnemonic_is_no_label m)
-    })
+    reads = λ rest. ap (λ o. skip_label place labels (mnemonic_text m) o rest) (mnemonic_is_no_label m);
+  })
 
   -- a label is skipped
   past_label : place < 1024 → place_of (label_name place) labels ≡ Some place → Takes (after_label place labels) ((label_name place ++ 58 ∷ []) ∷ mnemonic_text m ∷ []) (mnemonic_text m)
   past_label few there = in_turn _ (takes_word (label_name place ++ 58 ∷ []) (colon_is_plain place few)) (record {
-      reads = λ rest.
-          ap (λ o. skip_label place labels (label_name place ++ 58 ∷ []) o (mnemonic_text m ∷ rest)) (label_cut (label_name place))
-          ∙ ap (λ e. e >>= λ u. word (mnemonic_text m ∷ rest)) (checked few there)
-          ∙ (takes_word (mnemonic_text m) (mnemonic_is_plain m)).reads rest
-    })
+    reads = λ rest.
+        ap (λ o. skip_label place labels (label_name place ++ 58 ∷ []) o (mnemonic_text m ∷ rest)) (label_cut (label_name place))
+        ∙ ap (λ e. e >>= λ u. word (mnemonic_text m ∷ rest)) (checked few there)
+        ∙ (takes_word (mnemonic_text m) (mnemonic_is_plain m)).reads rest;
+  })
     where
       checked : place < 1024 → place_of (label_name place) labels ≡ Some place → check_label place labels (label_name place) ≡ Ok tt
       checked few there =

@@ -1,6 +1,6 @@
 -- The words of the language and the mnemonics read back, and each is plain text.
-use Rattle.std.proofs.Common.{◌≡◌, ℕ, Bool, true, false, List, [], ◌∷◌, Option, Some, None, refl}
-use Rattle.std.specs.List.{list_all, find}
+use Rattle.std.proofs.Common.{◌≡◌, true, Some, None, refl}
+use Rattle.std.specs.List.{list_all}
 use Rattle.aom_text.specs.Words.{is_plain}
 use Rattle.aom_syntax.specs.Keywords.{keyword_text, keyword_of}
 use Rattle.aom_syntax.specs.Mnemonics.{mnemonic_text, mnemonic_of}

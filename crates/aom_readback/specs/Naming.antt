@@ -1,7 +1,9 @@
 -- Names and labels as a listing has them.
-use Rattle.std.specs.Prelude.{◌≡◌, ◌<◌, ◌≤◌, ◌+◌, ℕ, Bool, true, false, List, [], ◌∷◌, Option, Some, None, IfSome}
+use Rattle.std.specs.Prelude.{◌≡◌, ◌<◌, ◌≤◌, ◌+◌, ℕ, Bool, true, false, List, [], ◌∷◌, Some, IfSome}
 use Rattle.aom_image.specs.declared.instr.Instr.{Instr}
+use Rattle.aom_image.specs.declared.method.Method.{Method}
 use Rattle.aom_syntax.specs.Names.{place_of}
+use Rattle.aom_syntax.specs.declared.method.Heading.{Heading}
 use Rattle.aom_syntax.specs.declared.scope.Scope.{Scope}
 use Rattle.aom_listing.specs.Jumps.{is_target, jump_of}
 use Rattle.aom_listing.specs.Operands.{class_name, label_name, method_name}
@@ -29,3 +31,7 @@ code_labels code = labels_from code 0 code
 -- where an instruction jumps to there is a label
 abbrev pub HasLabel : List (List ℕ) → Instr → Type 0
 HasLabel labels i = IfSome (jump_of i) (λ d. (d < 1024) × (place_of (label_name d) labels ≡ Some d))
+
+-- what the heading of a method says
+abbrev pub heading_of : Method → Heading
+heading_of m = record { class = m.class; role = m.role; flags = m.flags; before = m.before; after = m.after; arguments = m.arguments; gives = m.gives }

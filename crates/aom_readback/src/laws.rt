@@ -1,5 +1,5 @@
 //! The laws, each as the contract of a function that does nothing.
-ghost use Rattle.aom_readback.specs.Laws.{InstructionsReadBack, NumbersReadBack, TablesReadBack};
+ghost use Rattle.aom_readback.specs.Laws.{NumbersReadBack, TablesReadBack, InstructionsReadBack, HeadersReadBack, ClassesReadBack, HeadingsReadBack};
 
 /// A number in decimal digits reads as that number.
 pub fn numbers_read_back()
@@ -14,4 +14,19 @@ pub fn tables_read_back()
 /// Each instruction, with its label, at its place in its method.
 pub fn instructions_read_back()
     ensures { InstructionsReadBack }
+{}
+
+/// The statement that opens a text.
+pub fn headers_read_back()
+    ensures { HeadersReadBack }
+{}
+
+/// The statement of each class.
+pub fn classes_read_back()
+    ensures { ClassesReadBack }
+{}
+
+/// The statement that each method begins with.
+pub fn headings_read_back()
+    ensures { HeadingsReadBack }
 {}
