@@ -10,3 +10,7 @@ pub mod Headers
 pub mod Lists
 pub mod Classes
 pub mod Methods
+pub mod Following
+pub mod Parts
+pub mod TextNames
+pub mod Wholes

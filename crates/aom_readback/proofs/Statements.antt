@@ -28,7 +28,7 @@ use Rattle.aom_readback.proofs.Tables.{mnemonic_is_no_label, mnemonic_is_plain, 
 
 -- ---- labels
 
-label_cut : (l : List ℕ) → label_of (l ++ 58 ∷ []) ≡ Some l
+pub label_cut : (l : List ℕ) → label_of (l ++ 58 ∷ []) ≡ Some l
 label_cut l =
     let end : length (l ++ 58 ∷ []) - 1 ≡ length l = omega (arith, length-append l (58 ∷ [])) in
     ap (λ n. if get_or (l ++ 58 ∷ []) n 0 == 58 then Some (take n (l ++ 58 ∷ [])) else None) end
