@@ -1,5 +1,5 @@
 -- The places to which a method's instructions jump.
-use Rattle.std.specs.Prelude.{ℕ, Bool, List, Option, Some, None}
+use Rattle.std.specs.Prelude.{◌≡◌, ◌<◌, ℕ, Bool, false, List, Option, Some, None, slice_index_or}
 use Rattle.std.specs.List.{list_any}
 use Rattle.aom_image.specs.declared.instr.Instr.{Instr}
 use Rattle.aom_image.specs.declared.instr.Instr.TheVariants as instr
@@ -20,3 +20,7 @@ jump_of i = None
 -- whether an instruction of the code jumps to that place
 abbrev pub is_target : List Instr → ℕ → Bool
 is_target code place = list_any (λ i. is_at place (jump_of i)) code
+
+-- a table that says of each place whether an instruction of the code jumps to it
+abbrev pub Tells : List Bool → List Instr → Type 0
+Tells table code = (place : ℕ) → place < 1024 → slice_index_or table place false ≡ is_target code place

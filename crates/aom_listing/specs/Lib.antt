@@ -3,6 +3,7 @@ pub mod Classes
 pub mod Cleanup
 pub mod Headers
 pub mod Jumps
+pub mod Laws
 pub mod Listing
 pub mod Messages
 pub mod Methods

@@ -25,29 +25,31 @@ label_words false place = []
 abbrev pub instr_words : List Instr → ℕ → Instr → List (List ℕ)
 instr_words code place i = label_words (is_target code place) place ++ words_statement i
 
--- instructions of the code, from that place on
-abbrev pub instr_statements : List Instr → ℕ → List Instr → List (List (List ℕ))
-instr_statements code place [] = []
-instr_statements code place (i ∷ is) = instr_words code place i ∷ instr_statements code (place + 1) is
-
 -- ---- methods and classes
 
 abbrev pub end_words : List (List ℕ)
 end_words = keyword_text k.End ∷ []
 
--- a method, at its place among the methods
+-- what each element at its place gives, from that place on
+abbrev pub placed : {X Y : Type 0} → (ℕ → X → Y) → ℕ → List X → List Y
+placed f place [] = []
+placed f place (x ∷ xs) = f place x ∷ placed f (place + 1) xs
+
+-- instructions of the code, from that place on
+abbrev pub instr_statements : List Instr → ℕ → List Instr → List (List (List ℕ))
+instr_statements code place is = placed (instr_words code) place is
+
+-- the statements of a method, at its place among the methods
 abbrev pub method_statements : ℕ → Method → List (List (List ℕ))
 method_statements place m = heading_words place m ∷ (instr_statements m.code 0 m.code ++ end_words ∷ [])
 
 -- methods, from that place on
 abbrev pub methods_statements : ℕ → List Method → List (List (List ℕ))
-methods_statements place [] = []
-methods_statements place (m ∷ ms) = method_statements place m ++ methods_statements (place + 1) ms
+methods_statements place ms = flat_map (λ statements. statements) (placed method_statements place ms)
 
 -- classes, from that place on
 abbrev pub classes_statements : ℕ → List ClassDecl → List (List (List ℕ))
-classes_statements place [] = []
-classes_statements place (c ∷ cs) = class_words place c ∷ classes_statements (place + 1) cs
+classes_statements place cs = placed class_words place cs
 
 -- ---- the whole
 
