@@ -11,7 +11,7 @@ use Rattle.aom_syntax.specs.Names.{place_of}
 use Rattle.aom_listing.specs.Jumps.{is_target, jump_of}
 use Rattle.aom_listing.specs.Operands.{label_name}
 use Rattle.aom_readback.specs.Naming.{HasLabel, code_labels, label_or_none, labels_from}
-use Rattle.aom_readback.proofs.Names.{placed}
+use Rattle.aom_readback.proofs.Names.{place_found}
 
 -- ---- the list of labels
 
@@ -36,7 +36,7 @@ one_or_none false k = inr refl
 
 pub label_placed : (code : List Instr) (k : ℕ) → length code ≤ 1024 → k < length code → is_target code k ≡ true → place_of (label_name k) (code_labels code) ≡ Some k
 label_placed code k few within jumped =
-    placed 76 k (code_labels code) (omega arith) (omega (arith, length_labels code 0 code))
+    place_found 76 k (code_labels code) (omega arith) (omega (arith, length_labels code 0 code))
     (label_at code k within ∙ ap (λ b. label_or_none b k) jumped)
     (λ j less. subst (λ l. (l ≡ label_name j) ⊎ (l ≡ [])) (sym (label_at code j (omega arith))) (one_or_none (is_target code j) j))
 

@@ -14,3 +14,4 @@ pub mod Following
 pub mod Parts
 pub mod TextNames
 pub mod Wholes
+pub mod Assembling

@@ -82,10 +82,10 @@ same_number : (letter m n : ℕ) → m < 2 ^ 32 → n < 2 ^ 32 → lettered lett
 same_number letter m n p q e = decimal_injective m n (omega arith) (omega arith) cc
 
 -- a name stands where its number says, when no earlier place has another kind of name
-pub placed : (letter k : ℕ) (names : List (List ℕ)) → k < 2 ^ 32 → k < length names → get_or names k [] ≡ lettered letter k
+pub place_found : (letter k : ℕ) (names : List (List ℕ)) → k < 2 ^ 32 → k < length names → get_or names k [] ≡ lettered letter k
     → ((j : ℕ) → j < k → (get_or names j [] ≡ lettered letter j) ⊎ (get_or names j [] ≡ []))
     → position (λ n. bytes_eq n (lettered letter k)) names ≡ Some k
-placed letter k names small within here before =
+place_found letter k names small within here before =
     let other : (j : ℕ) → j < k → bytes_eq (get_or names j []) (lettered letter k) ≡ false =
     λ j less. differing _ _ (λ same. ⊎_elim (λ named. omega (arith, same_number letter j k (omega arith) small (sym named ∙ same))) (λ none. empty_differs (sym none ∙ same)) (before j less)) in
     let at = position_or_len_is (λ n. bytes_eq n (lettered letter k)) names k [] (omega arith) other (λ less. (bytes_eq-Decides _ _).1 here) in

@@ -1,6 +1,6 @@
 -- The parts of a listing are read one after another.
-use Rattle.std.proofs.Common.{◌≡◌, ℕ, zero, suc, ◌+◌, ◌-◌, ◌*◌, ◌<◌, ◌≤◌, ◌^◌, ◌==◌, Bool, true, false, List, [], ◌∷◌, ◌++◌, length, get_or, slice_get, map, Option, Some, None, Result, Ok, Err, refl, sym, ap, subst, ◌∙◌, append_assoc, append-nil, arith}
-use Rattle.std.specs.Prelude.{cond, if◌then◌else◌, nat_lt}
+use Rattle.std.proofs.Common.{◌≡◌, ℕ, suc, ◌+◌, ◌*◌, ◌<◌, ◌≤◌, ◌^◌, Bool, true, false, List, [], ◌∷◌, ◌++◌, length, slice_get, Option, Some, None, Result, Ok, Err, refl, sym, ap, subst, ◌∙◌, append_assoc, append-nil, arith}
+use Rattle.std.specs.Prelude.{cond, if◌then◌else◌}
 use Rattle.std.specs.List.{All, count_by, sum_by}
 use Rattle.std.proofs.Math.ListN.{length-append}
 use Rattle.std.proofs.lemmas.Bool.{lt-ltb, ne_eqb}
@@ -8,9 +8,8 @@ use Rattle.std.proofs.lemmas.List.Elements.{All-head, All-tail}
 use Rattle.std.proofs.lemmas.List.Sums.{sum_by-append, sum_by-cons}
 use Rattle.aom_text.specs.Words.{others_of}
 use Rattle.aom_text.specs.declared.fault.AsmFaultKind.{AsmFaultKind}
-use Rattle.aom_text.specs.declared.fault.AsmFaultKind.TheVariants.{BadShape, LimitPassed}
+use Rattle.aom_text.specs.declared.fault.AsmFaultKind.TheVariants.{LimitPassed}
 use Rattle.aom_text.specs.declared.text.Statement.{Statement}
-use Rattle.aom_image.specs.Views.{has}
 use Rattle.aom_image.specs.WellFormed.{ClassFits, InstrFits, MethodFits, is_server, limits}
 use Rattle.aom_image.specs.declared.class.ClassDecl.{ClassDecl}
 use Rattle.aom_image.specs.declared.image.Header.{Header}
@@ -18,11 +17,9 @@ use Rattle.aom_image.specs.declared.instr.Instr.{Instr}
 use Rattle.aom_image.specs.declared.instr.Instr.TheVariants as instr
 use Rattle.aom_image.specs.declared.method.Method.{Method}
 use Rattle.aom_syntax.specs.Classes.{class_statement}
-use Rattle.aom_syntax.specs.Keywords.{keyword_text}
-use Rattle.aom_syntax.specs.Methods.{heading, instruction, is_quiet_role, label_of}
-use Rattle.aom_syntax.specs.Reading.{◌>>=◌, any_keyword, nothing_more, took}
+use Rattle.aom_syntax.specs.Methods.{heading, instruction}
+use Rattle.aom_syntax.specs.Reading.{◌>>=◌, took}
 use Rattle.aom_syntax.specs.declared.keyword.Keyword.TheVariants as k
-use Rattle.aom_syntax.specs.declared.method.Heading.{Heading}
 use Rattle.aom_syntax.specs.declared.scope.Scope.{Scope}
 use Rattle.aom_listing.specs.Classes.{class_words}
 use Rattle.aom_listing.specs.Jumps.{is_target}
@@ -31,7 +28,7 @@ use Rattle.aom_listing.specs.Methods.{heading_words}
 use Rattle.aom_listing.specs.Operands.{label_name}
 use Rattle.aom_listing.specs.Words.{words_statement}
 use Rattle.aom_asm.specs.Body.{Body, Program}
-use Rattle.aom_asm.specs.Denoted.{declaration, grown, in_body, step, with_class, with_heading, with_instruction, with_method}
+use Rattle.aom_asm.specs.Denoted.{declaration, grown, step, with_instruction, with_method}
 use Rattle.aom_asm.specs.TextNames.{is_end, label_in, labels_of, label_or_none as label_or_empty}
 use Rattle.aom_readback.specs.Naming.{HasNames, code_labels, heading_of, label_or_none, labels_from}
 use Rattle.aom_readback.specs.Texts.{SaysQuiet, all_words}
@@ -134,11 +131,11 @@ module _ (last : ℕ) (h : Header) (classes methods : ℕ) (scope : Scope) (name
       let regrouped : (cs ++ c ∷ []) ++ todo ≡ cs ++ c ∷ todo = append_assoc cs (c ∷ []) todo in
       let summed : (size + 28) + 28 * length todo ≡ size + 28 * suc (length todo) = omega arith in
       goes_on
-          (steps {q = read_so_far h (cs ++ c ∷ []) [] None (size + 28)} {left = classes_statements (length cs + 1) todo ++ left} ss words
-              (λ rest behind. class_steps cs c size rest (omega arith) (All-head (ClassFits classes h.natives) c todo fits) (few_before cs c todo few) (omega arith)))
-          (λ rest behind. arrives (ap (λ l. read_so_far h l [] None ((size + 28) + 28 * length todo)) regrouped ∙ ap (λ n. read_so_far h (cs ++ c ∷ todo) [] None n) summed)
-              (classes_go (cs ++ c ∷ []) todo (size + 28) left rest (omega arith) (All-tail (ClassFits classes h.natives) c todo fits) (subst (λ l. count_by is_server l ≤ 8) (sym regrouped) few) (omega arith)
-                  (behind ∙ ap (λ n. classes_statements n todo ++ left) (sym longer))))
+      (steps {q = read_so_far h (cs ++ c ∷ []) [] None (size + 28)} {left = classes_statements (length cs + 1) todo ++ left} ss words
+      (λ rest behind. class_steps cs c size rest (omega arith) (All-head (ClassFits classes h.natives) c todo fits) (few_before cs c todo few) (omega arith)))
+      (λ rest behind. arrives (ap (λ l. read_so_far h l [] None ((size + 28) + 28 * length todo)) regrouped ∙ ap (λ n. read_so_far h (cs ++ c ∷ todo) [] None n) summed)
+      (classes_go (cs ++ c ∷ []) todo (size + 28) left rest (omega arith) (All-tail (ClassFits classes h.natives) c todo fits) (subst (λ l. count_by is_server l ≤ 8) (sym regrouped) few) (omega arith)
+      (behind ∙ ap (λ n. classes_statements n todo ++ left) (sym longer))))
 
   -- ---- methods
 
@@ -192,11 +189,11 @@ module _ (last : ℕ) (h : Header) (classes methods : ℕ) (scope : Scope) (name
         let regrouped : (done ++ i ∷ []) ++ todo ≡ done ++ i ∷ todo = append_assoc done (i ∷ []) todo in
         let summed : (size + 8) + 8 * length todo ≡ size + 8 * suc (length todo) = omega arith in
         goes_on
-            (steps {q = opened ms m (done ++ i ∷ []) (size + 8)} {left = instr_statements m.code (length done + 1) todo ++ left} ss words
-                (λ rest behind. instruction_steps ms m done i todo size rest fits whole (All-head (InstrFits (limits classes methods (length m.code))) i todo each) (omega arith)))
-            (λ rest behind. arrives (ap (λ l. opened ms m l ((size + 8) + 8 * length todo)) regrouped ∙ ap (λ n. opened ms m (done ++ i ∷ todo) n) summed)
-                (instructions_go ms m (done ++ i ∷ []) todo (size + 8) left rest fits (whole ∙ sym regrouped) (All-tail (InstrFits (limits classes methods (length m.code))) i todo each) (omega arith)
-                    (behind ∙ ap (λ n. instr_statements m.code n todo ++ left) (sym longer))))
+        (steps {q = opened ms m (done ++ i ∷ []) (size + 8)} {left = instr_statements m.code (length done + 1) todo ++ left} ss words
+        (λ rest behind. instruction_steps ms m done i todo size rest fits whole (All-head (InstrFits (limits classes methods (length m.code))) i todo each) (omega arith)))
+        (λ rest behind. arrives (ap (λ l. opened ms m l ((size + 8) + 8 * length todo)) regrouped ∙ ap (λ n. opened ms m (done ++ i ∷ todo) n) summed)
+        (instructions_go ms m (done ++ i ∷ []) todo (size + 8) left rest fits (whole ∙ sym regrouped) (All-tail (InstrFits (limits classes methods (length m.code))) i todo each) (omega arith)
+        (behind ∙ ap (λ n. instr_statements m.code n todo ++ left) (sym longer))))
 
     end_steps : (ms : List Method) (m : Method) (size : ℕ) (rest : List Statement) → 1 ≤ length m.code → step scope rest (opened ms m m.code size) end_words ≡ Ok (read_so_far h cs (ms ++ m ∷ []) None size)
     end_steps ms m size rest some =
@@ -212,11 +209,11 @@ module _ (last : ℕ) (h : Header) (classes methods : ℕ) (scope : Scope) (name
         let summed : (size + 24) + 8 * length m.code ≡ size + spelled m = omega arith in
         arrives (ap (λ n. read_so_far h cs (ms ++ m ∷ []) None n) summed) (
         goes_on
-            (steps {q = opened ms m [] (size + 24)} {left = code ++ end_words ∷ left} ss (words ∙ ap (λ l. heading ∷ l) inner)
-                (λ rest behind. heading_steps ms m size left rest there fits quiet (omega arith) behind))
-            (λ rest behind. goes_on
-                (instructions_go ms m [] m.code (size + 24) (end_words ∷ left) rest fits refl fits.code (omega arith) behind)
-                (λ rest behind. steps rest behind (λ rest behind. end_steps ms m ((size + 24) + 8 * length m.code) rest fits.some_code))))
+        (steps {q = opened ms m [] (size + 24)} {left = code ++ end_words ∷ left} ss (words ∙ ap (λ l. heading ∷ l) inner)
+        (λ rest behind. heading_steps ms m size left rest there fits quiet (omega arith) behind))
+        (λ rest behind. goes_on
+        (instructions_go ms m [] m.code (size + 24) (end_words ∷ left) rest fits refl fits.code (omega arith) behind)
+        (λ rest behind. steps rest behind (λ rest behind. end_steps ms m ((size + 24) + 8 * length m.code) rest fits.some_code))))
 
     pub methods_go : (ms todo : List Method) (size : ℕ) (left : List (List (List ℕ))) (ss : List Statement)
         → length ms + length todo ≤ methods → All (MethodFits classes methods) todo → All SaysQuiet todo → size + sum_by spelled todo ≤ 2 ^ 20
@@ -231,8 +228,8 @@ module _ (last : ℕ) (h : Header) (classes methods : ℕ) (scope : Scope) (name
         let total : sum_by spelled (m ∷ todo) ≡ spelled m + sum_by spelled todo = sum_by-cons spelled m todo in
         let summed : (size + spelled m) + sum_by spelled todo ≡ size + sum_by spelled (m ∷ todo) = omega arith in
         goes_on
-            (method_goes ms m size (methods_statements (length ms + 1) todo ++ left) ss (omega arith) (All-head (MethodFits classes methods) m todo fits) (All-head SaysQuiet m todo quiet) (omega arith)
-                (words ∙ append_assoc (method_statements (length ms) m) (methods_statements (length ms + 1) todo) left))
-            (λ rest behind. arrives (ap (λ l. read_so_far h cs l None ((size + spelled m) + sum_by spelled todo)) regrouped ∙ ap (λ n. read_so_far h cs (ms ++ m ∷ todo) None n) summed)
-                (methods_go (ms ++ m ∷ []) todo (size + spelled m) left rest (omega arith) (All-tail (MethodFits classes methods) m todo fits) (All-tail SaysQuiet m todo quiet) (omega arith)
-                    (behind ∙ ap (λ n. methods_statements n todo ++ left) (sym longer))))
+        (method_goes ms m size (methods_statements (length ms + 1) todo ++ left) ss (omega arith) (All-head (MethodFits classes methods) m todo fits) (All-head SaysQuiet m todo quiet) (omega arith)
+        (words ∙ append_assoc (method_statements (length ms) m) (methods_statements (length ms + 1) todo) left))
+        (λ rest behind. arrives (ap (λ l. read_so_far h cs l None ((size + spelled m) + sum_by spelled todo)) regrouped ∙ ap (λ n. read_so_far h cs (ms ++ m ∷ todo) None n) summed)
+        (methods_go (ms ++ m ∷ []) todo (size + spelled m) left rest (omega arith) (All-tail (MethodFits classes methods) m todo fits) (All-tail SaysQuiet m todo quiet) (omega arith)
+        (behind ∙ ap (λ n. methods_statements n todo ++ left) (sym longer))))

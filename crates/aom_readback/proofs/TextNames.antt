@@ -1,5 +1,5 @@
 -- The names that a listing declares are those of its classes and methods, each at its number.
-use Rattle.std.proofs.Common.{◌≡◌, ℕ, zero, suc, ◌+◌, ◌<◌, ◌≤◌, ◌^◌, ◌⊎◌, inl, Bool, true, false, List, [], ◌∷◌, ◌++◌, length, get_or, Option, Some, None, refl, sym, ap, ◌∙◌, append_assoc, append-nil, arith}
+use Rattle.std.proofs.Common.{◌≡◌, ℕ, zero, suc, ◌+◌, ◌<◌, ◌≤◌, inl, Bool, true, false, List, [], ◌∷◌, ◌++◌, length, get_or, Some, None, refl, sym, ap, ◌∙◌, append_assoc, append-nil, arith}
 use Rattle.aom_text.specs.declared.text.Statement.{Statement}
 use Rattle.aom_image.specs.Image.{Image}
 use Rattle.aom_image.specs.declared.class.ClassDecl.{ClassDecl}
@@ -10,14 +10,14 @@ use Rattle.aom_syntax.specs.Names.{place_of}
 use Rattle.aom_syntax.specs.declared.keyword.Keyword.{Keyword}
 use Rattle.aom_syntax.specs.declared.keyword.Keyword.TheVariants as k
 use Rattle.aom_listing.specs.Jumps.{is_target}
-use Rattle.aom_listing.specs.Listing.{classes_statements, end_words, instr_statements, instr_words, label_words, listing, method_statements, methods_statements}
+use Rattle.aom_listing.specs.Listing.{classes_statements, end_words, instr_statements, label_words, listing, method_statements, methods_statements}
 use Rattle.aom_listing.specs.Operands.{class_name, method_name}
 use Rattle.aom_listing.specs.Words.{words_statement}
 use Rattle.aom_asm.specs.Denoted.{scope_of}
 use Rattle.aom_asm.specs.TextNames.{declared_names, name_after, with_name}
 use Rattle.aom_readback.specs.Naming.{HasNames}
 use Rattle.aom_readback.specs.Texts.{all_words, names_from}
-use Rattle.aom_readback.proofs.Names.{lettered, placed}
+use Rattle.aom_readback.proofs.Names.{lettered, place_found}
 
 -- ---- names by number
 
@@ -36,7 +36,7 @@ numbered : {X : Type 0} (letter : ℕ) (xs : List X) (j : ℕ) → length xs ≤
 numbered letter xs j few within =
     let at : (l : ℕ) → l < length xs → get_or (names_from (lettered letter) 0 xs) l [] ≡ lettered letter l = λ l less. (let same : 0 + l ≡ l = omega arith in name_there (lettered letter) 0 xs l less ∙ ap (lettered letter) same) in
     let long : j < length (names_from (lettered letter) 0 xs) = omega (arith, length_names (lettered letter) 0 xs) in
-    placed letter j (names_from (lettered letter) 0 xs) (omega arith) long (at j within) (λ l less. inl (at l (omega arith)))
+    place_found letter j (names_from (lettered letter) 0 xs) (omega arith) long (at j within) (λ l less. inl (at l (omega arith)))
 
 -- ---- what statements declare, by their words
 
@@ -148,8 +148,8 @@ declared_methods i ss words =
 
 pub has_names : (i : Image) (ss : List Statement) (is_strict : Bool) (kinds : List ClassDecl) → length i.classes ≤ 256 → length i.methods ≤ 1024 → all_words ss ≡ listing i → HasNames (length i.classes) (length i.methods) (scope_of is_strict ss kinds)
 has_names i ss is_strict kinds few_classes few_methods words = record {
-    few_classes = few_classes;
-    few_methods = few_methods;
-    class = λ c there. ap (place_of (class_name c)) (declared_classes i ss words) ∙ numbered 99 i.classes c (omega arith) there;
-    method = λ m there. ap (place_of (method_name m)) (declared_methods i ss words) ∙ numbered 109 i.methods m few_methods there;
-  }
+  few_classes = few_classes;
+  few_methods = few_methods;
+  class = λ c there. ap (place_of (class_name c)) (declared_classes i ss words) ∙ numbered 99 i.classes c (omega arith) there;
+  method = λ m there. ap (place_of (method_name m)) (declared_methods i ss words) ∙ numbered 109 i.methods m few_methods there;
+}

@@ -1,21 +1,19 @@
 -- Statements that are a listing's denote its image.
-use Rattle.std.proofs.Common.{◌≡◌, ℕ, ◌+◌, ◌*◌, ◌<◌, ◌≤◌, ◌^◌, ◌==◌, Bool, true, false, List, [], ◌∷◌, ◌++◌, length, Option, Some, None, Result, Ok, Err, refl, sym, ap, subst, ◌∙◌, append-nil, arith}
+use Rattle.std.proofs.Common.{◌≡◌, ℕ, ◌+◌, ◌*◌, ◌≤◌, ◌^◌, Bool, true, false, List, [], ◌∷◌, ◌++◌, length, None, Ok, Err, refl, sym, ap, ◌∙◌, append-nil, arith}
 use Rattle.std.specs.Prelude.{if◌then◌else◌}
 use Rattle.std.specs.List.{sum_by}
 use Rattle.std.proofs.lemmas.Bool.{ne_eqb}
-use Rattle.aom_text.specs.declared.fault.AsmFault.{AsmFault}
 use Rattle.aom_text.specs.declared.fault.AsmFaultKind.TheVariants.{LimitPassed}
 use Rattle.aom_text.specs.declared.text.Statement.{Statement}
 use Rattle.aom_image.specs.Image.{Image}
 use Rattle.aom_image.specs.WellFormed.{WellFormed}
 use Rattle.aom_image.proofs.Lengths.{length_spell}
-use Rattle.aom_syntax.specs.Headers.{image_statement}
 use Rattle.aom_syntax.specs.Reading.{◌>>=◌}
 use Rattle.aom_syntax.specs.declared.scope.Scope.{Scope}
 use Rattle.aom_listing.specs.Headers.{header_words}
 use Rattle.aom_listing.specs.Listing.{classes_statements, listing, methods_statements}
 use Rattle.aom_asm.specs.Body.{Program}
-use Rattle.aom_asm.specs.Denoted.{and_then, at_line, closed, image_of, opened, read_program, read_rest, read_statements, scope_of}
+use Rattle.aom_asm.specs.Denoted.{and_then, at_line, image_of, opened, read_program, read_rest, read_statements, scope_of}
 use Rattle.aom_readback.specs.Naming.{HasNames}
 use Rattle.aom_readback.specs.Texts.{AllSayQuiet, all_words}
 use Rattle.aom_readback.proofs.Following.{Goes, goes_on}
@@ -45,9 +43,9 @@ module _ (last : ℕ) (i : Image) (formed : WellFormed i) (quiet : AllSayQuiet i
   parts_go ss words =
       let enough = small in
       goes_on
-          (classes_go last i.header (length i.classes) (length i.methods) scope names formed.header.natives [] i.classes 24 (methods_statements 0 i.methods) ss (omega arith) formed.classes.each formed.classes.servers (omega arith) words)
-          (λ rest behind. methods_go last i.header (length i.classes) (length i.methods) scope names formed.header.natives i.classes [] i.methods (24 + 28 * length i.classes) [] rest (omega arith) formed.methods.each quiet enough
-              (behind ∙ sym (append-nil (methods_statements 0 i.methods))))
+      (classes_go last i.header (length i.classes) (length i.methods) scope names formed.header.natives [] i.classes 24 (methods_statements 0 i.methods) ss (omega arith) formed.classes.each formed.classes.servers (omega arith) words)
+      (λ rest behind. methods_go last i.header (length i.classes) (length i.methods) scope names formed.header.natives i.classes [] i.methods (24 + 28 * length i.classes) [] rest (omega arith) formed.methods.each quiet enough
+      (behind ∙ sym (append-nil (methods_statements 0 i.methods))))
 
   closes : (ss : List Statement) → all_words ss ≡ [] → read_rest last scope (all_read i) ss ≡ Ok (all_read i)
   closes ss words =

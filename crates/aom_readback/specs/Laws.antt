@@ -1,7 +1,7 @@
 -- The laws: what a listing writes reads back.
 use Rattle.std.specs.Prelude.{ℕ, ◌≡◌, ◌<◌, ◌≤◌, ◌^◌, true, false, List, [], length, Some, Ok, decimal, slice_get}
 use Rattle.aom_text.specs.Words.{others_of}
-use Rattle.aom_image.specs.Views.{has}
+use Rattle.aom_image.specs.Image.{Image}
 use Rattle.aom_image.specs.declared.class.ClassDecl.{ClassDecl}
 use Rattle.aom_image.specs.declared.image.Header.{Header}
 use Rattle.aom_image.specs.declared.method.Method.{Method}
@@ -10,16 +10,19 @@ use Rattle.aom_syntax.specs.Headers.{image_statement}
 use Rattle.aom_listing.specs.Classes.{class_words}
 use Rattle.aom_listing.specs.Headers.{header_words}
 use Rattle.aom_listing.specs.Methods.{heading_words}
+use Rattle.aom_text.specs.declared.text.Statement.{Statement}
 use Rattle.aom_text.specs.Numbers.{number_of}
-use Rattle.aom_image.specs.WellFormed.{ClassFits, HeaderFits, InstrFits, MethodFits, is_server, limits}
+use Rattle.aom_image.specs.WellFormed.{ClassFits, HeaderFits, InstrFits, MethodFits, WellFormed, is_server, limits}
 use Rattle.aom_image.specs.declared.instr.Instr.{Instr}
 use Rattle.aom_syntax.specs.Keywords.{keyword_text, keyword_of}
 use Rattle.aom_syntax.specs.Mnemonics.{mnemonic_text, mnemonic_of}
-use Rattle.aom_syntax.specs.Methods.{heading, instruction, is_quiet_role}
+use Rattle.aom_syntax.specs.Methods.{heading, instruction}
 use Rattle.aom_syntax.specs.declared.keyword.Keyword.{Keyword}
 use Rattle.aom_syntax.specs.declared.mnemonic.Mnemonic.{Mnemonic}
 use Rattle.aom_syntax.specs.declared.scope.Scope.{Scope}
-use Rattle.aom_listing.specs.Listing.{instr_words}
+use Rattle.aom_listing.specs.Listing.{instr_words, listing, listing_text}
+use Rattle.aom_asm.specs.Denoted.{denoted, read_statements}
+use Rattle.aom_readback.specs.Texts.{AllSayQuiet, SaysQuiet, all_words}
 use Rattle.aom_readback.specs.Naming.{HasNames, code_labels, heading_of}
 
 -- a number in decimal digits reads as that number
@@ -45,4 +48,12 @@ ClassesReadBack = (classes methods : ℕ) (scope : Scope) → HasNames classes m
 
 -- the heading of a method that fits reads as itself at its place, where a method that is quiet by its role says so
 abbrev pub HeadingsReadBack : Type 0
-HeadingsReadBack = (classes methods : ℕ) (scope : Scope) → HasNames classes methods scope → (place : ℕ) (m : Method) → place < methods → MethodFits classes methods m → (is_quiet_role m.role ≡ true → has m.flags.0 2 ≡ true) → heading scope place (others_of (heading_words place m)) ≡ Ok (heading_of m, [])
+HeadingsReadBack = (classes methods : ℕ) (scope : Scope) → HasNames classes methods scope → (place : ℕ) (m : Method) → place < methods → MethodFits classes methods m → SaysQuiet m → heading scope place (others_of (heading_words place m)) ≡ Ok (heading_of m, [])
+
+-- statements that are a listing's denote its image, in whatever lines they stand, where each method that is quiet by its role says so
+abbrev pub StatementsDenote : Type 0
+StatementsDenote = (i : Image) → WellFormed i → AllSayQuiet i → (last : ℕ) (ss : List Statement) → all_words ss ≡ listing i → read_statements last ss ≡ Ok i
+
+-- the text of a listing denotes the image that it is of, where the text is not too long
+abbrev pub ListingsAssemble : Type 0
+ListingsAssemble = (i : Image) → WellFormed i → AllSayQuiet i → length (listing_text i) ≤ 2 ^ 20 → denoted (listing_text i) ≡ Ok i

@@ -1,11 +1,12 @@
 -- Names and labels as a listing has them.
-use Rattle.std.specs.Prelude.{◌≡◌, ◌<◌, ◌≤◌, ◌+◌, ℕ, Bool, true, false, List, [], ◌∷◌, Some, IfSome}
+use Rattle.std.specs.Prelude.{◌≡◌, ◌<◌, ◌≤◌, ℕ, Bool, true, false, List, [], Some, IfSome}
 use Rattle.aom_image.specs.declared.instr.Instr.{Instr}
 use Rattle.aom_image.specs.declared.method.Method.{Method}
 use Rattle.aom_syntax.specs.Names.{place_of}
 use Rattle.aom_syntax.specs.declared.method.Heading.{Heading}
 use Rattle.aom_syntax.specs.declared.scope.Scope.{Scope}
 use Rattle.aom_listing.specs.Jumps.{is_target, jump_of}
+use Rattle.aom_listing.specs.Listing.{placed}
 use Rattle.aom_listing.specs.Operands.{class_name, label_name, method_name}
 
 -- each of so many classes and methods has the name of its number, and no other has it before
@@ -22,8 +23,7 @@ label_or_none false place = []
 
 -- the labels of a method's code, from a place on
 abbrev pub labels_from : List Instr → ℕ → List Instr → List (List ℕ)
-labels_from code place [] = []
-labels_from code place (i ∷ is) = label_or_none (is_target code place) place ∷ labels_from code (place + 1) is
+labels_from code place is = placed (λ p i. label_or_none (is_target code p) p) place is
 
 abbrev pub code_labels : List Instr → List (List ℕ)
 code_labels code = labels_from code 0 code

@@ -1,10 +1,11 @@
 -- Statements that are a listing's, in whatever lines they stand.
-use Rattle.std.specs.Prelude.{◌≡◌, ◌+◌, ℕ, Bool, true, List, [], ◌∷◌, All, map}
+use Rattle.std.specs.Prelude.{◌≡◌, ℕ, true, List, All, map}
 use Rattle.aom_text.specs.declared.text.Statement.{Statement}
 use Rattle.aom_image.specs.Image.{Image}
 use Rattle.aom_image.specs.Views.{has}
 use Rattle.aom_image.specs.declared.method.Method.{Method}
 use Rattle.aom_syntax.specs.Methods.{is_quiet_role}
+use Rattle.aom_listing.specs.Listing.{placed}
 
 -- the words of statements, without their lines
 abbrev pub all_words : List Statement → List (List (List ℕ))
@@ -19,5 +20,4 @@ AllSayQuiet i = All SaysQuiet i.methods
 
 -- names by number, one for each element, from a number on
 abbrev pub names_from : {X : Type 0} → (ℕ → List ℕ) → ℕ → List X → List (List ℕ)
-names_from name n [] = []
-names_from name n (x ∷ xs) = name n ∷ names_from name (n + 1) xs
+names_from name n xs = placed (λ m x. name m) n xs

@@ -1,5 +1,5 @@
 //! The laws, each as the contract of a function that does nothing.
-ghost use Rattle.aom_readback.specs.Laws.{NumbersReadBack, TablesReadBack, InstructionsReadBack, HeadersReadBack, ClassesReadBack, HeadingsReadBack};
+ghost use Rattle.aom_readback.specs.Laws.{NumbersReadBack, TablesReadBack, InstructionsReadBack, HeadersReadBack, ClassesReadBack, HeadingsReadBack, StatementsDenote, ListingsAssemble};
 
 /// A number in decimal digits reads as that number.
 pub fn numbers_read_back()
@@ -29,4 +29,14 @@ pub fn classes_read_back()
 /// The statement that each method begins with.
 pub fn headings_read_back()
     ensures { HeadingsReadBack }
+{}
+
+/// Statements in whatever lines, by both readings of a text.
+pub fn statements_denote()
+    ensures { StatementsDenote }
+{}
+
+/// The round trip: what `aom_listing::disassemble` writes of an image, the assembler reads as that image.
+pub fn listings_assemble()
+    ensures { ListingsAssemble }
 {}
