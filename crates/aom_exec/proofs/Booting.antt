@@ -1,10 +1,8 @@
 -- A machine that has booted stands for the boot state.
-use Rattle.std.proofs.Common.{zero, suc, inl, inr, ◌≡◌, ◌==◌, ℕ, Bool, true, false, cond, length, List, [], ◌∷◌, Option, Some, None, slice_index_or, replicate, refl, sym, ap, ◌∙◌, subst, arith}
-use Rattle.std.proofs.lemmas.List.{get_or-replicate, get_or_past, length-replicate}
+use Rattle.std.proofs.Common.{zero, suc, ◌≡◌, ◌==◌, ℕ, Bool, true, false, cond, length, List, [], ◌∷◌, Option, Some, None, slice_index_or, refl, sym, ap, ◌∙◌, subst, arith}
 use Rattle.aom_image.specs.Image.{Image}
 use Rattle.aom_classes.specs.Admitted.{IsAdmitted}
 use Rattle.aom_classes.specs.Linked.{IsLinked}
-use Rattle.std.proofs.lemmas.Bool.{cases_lt}
 use Rattle.aom_classes.specs.Roles.{main_of}
 use Rattle.aom_cells.specs.Heap.{Heap, null, cell_at, field_at, count}
 use Rattle.aom_cells.specs.declared.cell.Cell.{Cell as Held_cell}
@@ -24,14 +22,12 @@ use Rattle.aom_exec.specs.Places.{register_in, going_in, value}
 use Rattle.aom_exec.specs.Room.{AllCalled}
 use Rattle.aom_exec.specs.Agrees.{SameTasks, word_in, word_at, thing_in, Agrees}
 use Rattle.aom_exec.proofs.CallActs.{shows_null}
+use Rattle.aom_exec.proofs.Standing.{begun_frame, begun_registers}
 use Rattle.aom_exec.specs.Steps.{Sound, StandsFor}
 
 same_cond : {A : Type 0} (b : Bool) (x : A) → cond b x x ≡ x
 same_cond true x = refl
 same_cond false x = refl
-
-no_register : (i : ℕ) → slice_index_or (replicate 16 null) i null ≡ null
-no_register i = elim (cases_lt i 16) [ inl within ↦ get_or-replicate 16 i null null within | inr past ↦ get_or_past (replicate 16 null) i null (let n = length-replicate 16 null in omega (arith, n, past)) ]
 
 -- three tasks, none of which has anything there
 all_none : {A : Type 0} (a b c : Bool) (x y : A) → x ≡ y → cond a x (cond b y (cond c y y)) ≡ y
@@ -45,7 +41,7 @@ boot_tasks p main e = ap main_tasks e
 module _ (p : Image) (m : Parts) (booted : Booted p m) where
   -- no place has anything
   no_value : (r : Place) → value m r ≡ null
-  no_value (Register d i) = ap (λ us. register_in us d i) booted.tasks ∙ all_none (2 == d) (1 == d) (0 == d) _ null (no_register i)
+  no_value (Register d i) = ap (λ us. register_in us d i) booted.tasks ∙ all_none (2 == d) (1 == d) (0 == d) _ null (begun_registers booted.main null i)
   no_value (Entry zero) = ap (λ xs. slice_index_or xs 0 null) booted.entries
   no_value (Entry (suc k)) = ap (λ xs. slice_index_or xs (suc k) null) booted.entries
   no_value (Field n f) = ap (λ h. field_at h n f) booted.cells
@@ -65,7 +61,7 @@ module _ (p : Image) (m : Parts) (booted : Booted p m) where
   boot_agrees : Agrees p m (boot_state p)
   boot_agrees = record {
     tasks = subst (λ us. SameTasks us (main_tasks (main_of p))) (sym booted.tasks) (subst (λ us. SameTasks (Runs_frame (fresh booted.main null) ∷ Is_trap ∷ Ends Main ∷ []) us) (sym (boot_tasks p booted.main booted.is_main))
-        (record { method = refl; place = refl; this = refl; wide = length-replicate 16 null }, (tt, (refl, tt))));
+        (begun_frame booted.main null AtRoot 1 refl, (tt, (refl, tt))));
     values = λ r. shows_null _ _ _ (no_value r) (no_word_yet r) refl;
     cells = record {
       things = λ n. ap thing_in (no_cell n);
@@ -93,6 +89,6 @@ boots p m linked admitted t strongest within boot_keeps step_keeps wired booted 
       typing = t;
       sound = record { formed = booted.formed; linked = linked; admitted = admitted; wired = w.0; strongest = strongest; within = within; typed = strongest.typed; keeps = λ c s well unused. step_keeps p t w.0 strongest.typed c s well unused };
       typed = boot_keeps p t w.0 strongest.typed;
-      called = subst (AllCalled p) (sym (boot_tasks p booted.main booted.is_main)) (tt, tt);
+      called = subst (AllCalled p) (sym (boot_tasks p booted.main booted.is_main)) (tt, (tt, tt));
       agrees = boot_agrees p m booted;
     }

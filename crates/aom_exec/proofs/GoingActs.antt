@@ -26,6 +26,7 @@ use Rattle.aom_exec.specs.Acts as acts
 use Rattle.aom_exec.proofs.Values.{cases, same_length, kept, writes, value_kept, word_next, going_past, destroys_value, destroys_word}
 use Rattle.aom_exec.proofs.Cells.{cells_without}
 use Rattle.aom_exec.proofs.Standing.{GoesOver, goes_over}
+use Rattle.aom_exec.proofs.Standing.{moved_on}
 
 -- what is known of the machine, taken apart
 pub record Ends_cell (m : Parts) (s : State) (x : ℕ) (f : Held_frame) (ms : List Held_task) (fr : Frame) (ts : List Task) : Type 0 where
@@ -128,7 +129,7 @@ module _ (p : Image) (m : Parts) (h : In_going p m) (o : Object) where
       let f' = record f { place = suc f.place } in
       let deep : suc (length ms) ≡ d = ap suc top.deep in
       record {
-        tasks = (record { method = top.frame.method; place = ap suc top.frame.place; this = top.frame.this; wide = top.frame.wide }, top.below);
+        tasks = (moved_on f fr f.registers fr.words top.frame top.frame.wide, top.below);
         values = writes before _ (word_at (Destroy ∷ Run fr ∷ ts)) _ (held s.cells) _ (Going d) null None None top.values refl
             (λ r. fields_gone (Runs_frame f' ∷ ms) m.cells heap m.entries.items m.root o.name (λ g. top.values (Field o.name g) ∙ ap number (nothing_owned s.cells o.name g free)) gone r
             ∙ value_kept f ms m.cells m.entries.items m.root (suc f.place) r

@@ -5,11 +5,12 @@ pub mod Admits
 pub mod WordActs
 pub mod ObjectActs
 pub mod CallActs
+pub mod ReturnActs
 pub mod GoingActs
 pub mod Stepping
 pub mod Rooms
-pub mod Alone
 pub mod Finding
+pub mod Announcing
 pub mod Ranking
 pub mod Progressing
 pub mod Booting

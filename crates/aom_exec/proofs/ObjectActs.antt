@@ -28,7 +28,7 @@ use Rattle.aom_exec.specs.Agrees.{word_at, Shows, number, SameTasks, SameCells, 
 use Rattle.aom_exec.specs.Acts.{At_hand, requested, set_register, Does, refuses, Made}
 use Rattle.aom_exec.specs.Acts as acts
 use Rattle.aom_exec.proofs.Values.{cases, moves, writes, kept, value_here, value_written, word_written, destroys_value, destroys_word, going_past}
-use Rattle.aom_exec.proofs.Standing.{Top, by_top, goes_on, stays, moved_on, word_here, register_shows, free, no_word, unnamed, an_open, not_null, nothing_held}
+use Rattle.aom_exec.proofs.Standing.{Top, by_top, goes_on, stays, reframed, moved_on, word_here, register_shows, free, no_word, unnamed, an_open, not_null, nothing_held}
 use Rattle.aom_exec.proofs.Cells.{cells_moved}
 use Rattle.aom_exec.proofs.Admits.{no_destructor}
 
@@ -125,7 +125,7 @@ module _ (m : Parts) (refused : List ℕ) where
           let empty : held s.cells there ≡ None = nothing_held p m h.typing s h.typed h.agrees there (sym (going_past (Runs_frame f ∷ ms) (suc (length ts)) (let d = top.deep in omega arith)) ∙ top.values there) in
           subst (λ d. Agrees p (with_tasks (Destroys k ∷ Runs_frame f' ∷ ms) m) (record s { cells = moved here there s.cells; tasks = begun_by d o (length s.items) (Run (set_word fr a None) ∷ ts) })) (sym (no_destructor p admitted o.thing))
           (record {
-            tasks = (tt, (record { method = top.frame.method; place = top.frame.place; this = top.frame.this; wide = length-set f.registers a null ∙ wide }, top.below));
+            tasks = (tt, (reframed f fr (slice_set f.registers a null) _ f.place fr.place top.frame (length-set f.registers a null ∙ wide) top.frame.place, top.below));
             values = moves v _ _ _ _ _ here there top.values (word_here fr ts a ∙ none)
                 (λ r. destroys_value (Runs_frame f' ∷ ms) m.cells m.entries.items m.root k (suc (length ts)) deep r
                 ∙ ap (λ x. cond (same_place there r) k x) (value_written f ms m.cells m.entries.items m.root (length ts) a null f.place top.deep (omega arith) r)

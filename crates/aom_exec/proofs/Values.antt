@@ -19,10 +19,10 @@ cases true y n = y refl
 cases false y n = n refl
 
 -- an array written at one number
-slot_set : (xs : List ℕ) (i j x : ℕ) → i < length xs → slice_index_or (slice_set xs i x) j null ≡ cond (i == j) x (slice_index_or xs j null)
-slot_set xs i j x small = cases (i == j)
-    (λ e. ap (λ k. slice_index_or (slice_set xs i x) k null) (sym (eqb-true i j e)) ∙ get_or-set_same xs i x null small ∙ ap (λ b. cond b x (slice_index_or xs j null)) (sym e))
-    (λ e. get_or-set_other xs i j x null (λ d. false≢true (sym e ∙ eq-eqb i j (sym d))) ∙ ap (λ b. cond b x (slice_index_or xs j null)) (sym e))
+pub slot_set : (none : ℕ) (xs : List ℕ) (i j x : ℕ) → i < length xs → slice_index_or (slice_set xs i x) j none ≡ cond (i == j) x (slice_index_or xs j none)
+slot_set none xs i j x small = cases (i == j)
+    (λ e. ap (λ k. slice_index_or (slice_set xs i x) k none) (sym (eqb-true i j e)) ∙ get_or-set_same xs i x none small ∙ ap (λ b. cond b x (slice_index_or xs j none)) (sym e))
+    (λ e. get_or-set_other xs i j x none (λ d. false≢true (sym e ∙ eq-eqb i j (sym d))) ∙ ap (λ b. cond b x (slice_index_or xs j none)) (sym e))
 
 pub same_length : (ms : List Held_task) (ts : List Task) → SameTasks ms ts → length ms ≡ length ts
 same_length [] [] e = refl
@@ -46,7 +46,7 @@ word_past [] d i e = refl
 word_past (u ∷ us) d i e =
     ap (λ b. cond b (word_of u i) (word_in us d i)) (ne_eqb (length us) d (λ k. let n = k in omega (arith, e, n))) ∙ word_past us d i (omega arith)
 
-at_depth : {A : Type 0} (n d : ℕ) (x y : A) → ((d ≡ n) → y ≡ x) → cond (n == d) x y ≡ y
+pub at_depth : {A : Type 0} (n d : ℕ) (x y : A) → ((d ≡ n) → y ≡ x) → cond (n == d) x y ≡ y
 at_depth n d x y h = cases (n == d)
     (λ e. ap (λ b. cond b x y) e ∙ sym (h (sym (eqb-true n d e))))
     (λ e. ap (λ b. cond b x y) e)
@@ -58,7 +58,7 @@ value_here f ms h es root d i e = ap (λ b. cond b (slice_index_or f.registers i
 pub value_written : (f : Held_frame) (ms : List Held_task) (h : Heap) (es : List ℕ) (root d i x place : ℕ) → length ms ≡ d → i < length f.registers → (r : Place)
     → value_in (Runs_frame (record f { registers = slice_set f.registers i x; place = place }) ∷ ms) h es root r ≡ changed (value_in (Runs_frame f ∷ ms) h es root) (Register d i) x r
 value_written f ms h es root d i x place deep small (Register e j) =
-    ap (λ n. cond (length ms == e) n (register_in ms e j)) (slot_set f.registers i j x small) ∙ go (length ms == e) ∙ ap (λ k. cond ((k == e) && (i == j)) x (cond (length ms == e) (slice_index_or f.registers j null) (register_in ms e j))) deep
+    ap (λ n. cond (length ms == e) n (register_in ms e j)) (slot_set null f.registers i j x small) ∙ go (length ms == e) ∙ ap (λ k. cond ((k == e) && (i == j)) x (cond (length ms == e) (slice_index_or f.registers j null) (register_in ms e j))) deep
   where
     go : (b : Bool) → cond b (cond (i == j) x (slice_index_or f.registers j null)) (register_in ms e j) ≡ cond (b && (i == j)) x (cond b (slice_index_or f.registers j null) (register_in ms e j))
     go true = refl
@@ -68,12 +68,16 @@ value_written f ms h es root d i x place deep small (Field n g) = refl
 value_written f ms h es root d i x place deep small (Going k) = refl
 value_written f ms h es root d i x place deep small (Elsewhere o) = refl
 
+-- counters and the method's place are no places of values
+pub value_counted : (f : Held_frame) (ms : List Held_task) (h : Heap) (es : List ℕ) (root : ℕ) (counters : List ℕ) (place : ℕ) (r : Place) → value_in (Runs_frame (record f { counters = counters; place = place }) ∷ ms) h es root r ≡ value_in (Runs_frame f ∷ ms) h es root r
+value_counted f ms h es root counters place (Register e j) = refl
+value_counted f ms h es root counters place (Entry k) = refl
+value_counted f ms h es root counters place (Field n g) = refl
+value_counted f ms h es root counters place (Going k) = refl
+value_counted f ms h es root counters place (Elsewhere o) = refl
+
 pub value_kept : (f : Held_frame) (ms : List Held_task) (h : Heap) (es : List ℕ) (root place : ℕ) (r : Place) → value_in (Runs_frame (record f { place = place }) ∷ ms) h es root r ≡ value_in (Runs_frame f ∷ ms) h es root r
-value_kept f ms h es root place (Register e j) = refl
-value_kept f ms h es root place (Entry k) = refl
-value_kept f ms h es root place (Field n g) = refl
-value_kept f ms h es root place (Going k) = refl
-value_kept f ms h es root place (Elsewhere o) = refl
+value_kept f ms h es root place r = value_counted f ms h es root f.counters place r
 
 -- a word is written in the checked machine
 pub word_written : (fr : Frame) (ts : List Task) (i place : ℕ) (w : Option ℤ) (r : Place)
@@ -89,12 +93,15 @@ word_written fr ts i place w (Field n g) = refl
 word_written fr ts i place w (Going k) = refl
 word_written fr ts i place w (Elsewhere o) = refl
 
+pub word_counted : (fr : Frame) (ts : List Task) (counters : List ℕ) (place : ℕ) (r : Place) → word_at (Run (record fr { counters = counters; place = place }) ∷ ts) r ≡ word_at (Run fr ∷ ts) r
+word_counted fr ts counters place (Register d j) = refl
+word_counted fr ts counters place (Entry k) = refl
+word_counted fr ts counters place (Field n g) = refl
+word_counted fr ts counters place (Going k) = refl
+word_counted fr ts counters place (Elsewhere o) = refl
+
 pub word_next : (fr : Frame) (ts : List Task) (place : ℕ) (r : Place) → word_at (Run (record fr { place = place }) ∷ ts) r ≡ word_at (Run fr ∷ ts) r
-word_next fr ts place (Register d j) = refl
-word_next fr ts place (Entry k) = refl
-word_next fr ts place (Field n g) = refl
-word_next fr ts place (Going k) = refl
-word_next fr ts place (Elsewhere o) = refl
+word_next fr ts place r = word_counted fr ts fr.counters place r
 
 -- a destruction is at hand
 pub destroys_value : (us : List Held_task) (h : Heap) (es : List ℕ) (root n d : ℕ) → length us ≡ d → (r : Place) → value_in (Destroys n ∷ us) h es root r ≡ changed (value_in us h es root) (Going d) n r

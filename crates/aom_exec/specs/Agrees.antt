@@ -1,5 +1,5 @@
 -- What the machine's numbers stand for.
-use Rattle.std.specs.Prelude.{◌≡◌, ◌<◌, ◌≤◌, ℕ, ℤ, cond, ◌==◌, List, [], ◌∷◌, length, Option, Some, None}
+use Rattle.std.specs.Prelude.{◌≡◌, ◌<◌, ◌≤◌, ℕ, ℤ, cond, ◌==◌, List, [], ◌∷◌, length, Option, Some, None, slice_index_or}
 use Rattle.std.specs.Int.{w32, cast_signed}
 use Rattle.aom_image.specs.Image.{Image}
 use Rattle.aom_image.specs.declared.method.Thing.{Thing}
@@ -7,7 +7,7 @@ use Rattle.aom_image.specs.declared.method.Thing.TheVariants.{Object as An_objec
 use Rattle.aom_cells.specs.Heap.{Heap, null, cell_at, count}
 use Rattle.aom_cells.specs.declared.cell.Cell.{Cell as Held_cell}
 use Rattle.aom_sound.specs.Places.{Place, Register, Entry, Field, Going, Elsewhere, Object, Cell, held, named}
-use Rattle.aom_sound.specs.State.{Home, Static, AtRoot, Inside, Frame, Dispatch, Of_main, word, Task, Run, Trapped, Destroy, Dispatched, State}
+use Rattle.aom_sound.specs.State.{Home, Static, AtRoot, Inside, Frame, Dispatch, Of_main, word, counter, Task, Run, Trapped, Destroy, Dispatched, State}
 use Rattle.aom_frames.specs.declared.frame.Frame.{Frame as Held_frame}
 use Rattle.aom_frames.specs.declared.task.Task.{Task as Held_task}
 use Rattle.aom_frames.specs.declared.task.Task.TheVariants.{Run as Runs_frame, Trapped as Is_trap, Destroy as Destroys, Dispatched as Ends}
@@ -56,6 +56,9 @@ pub record SameFrame (f : Held_frame) (fr : Frame) : Type 0 where
   pub place : f.place ≡ fr.place
   pub this : f.this ≡ home_number fr.home
   pub wide : length f.registers ≡ 16
+  -- the rounds that are left of each loop
+  pub counters : (i : ℕ) → slice_index_or f.counters i 0 ≡ counter fr i
+  pub loops : length f.counters ≡ 4
 
 abbrev pub dispatch_of : Held_dispatch → Dispatch
 dispatch_of Main = Of_main

@@ -1,19 +1,19 @@
--- A number that falls with each step, while something is at hand.
-use Rattle.std.specs.Prelude.{ℕ, ◌+◌, ◌-◌, ◌*◌, List, [], ◌∷◌, length, Option, Some, None}
+-- A number that falls with each step, while something is at hand: the rank of the states that a machine stands for.
+use Rattle.std.specs.Prelude.{ℕ, ◌+◌, ◌-◌, ◌*◌, List, [], map}
 use Rattle.aom_image.specs.Image.{Image}
-use Rattle.aom_image.specs.Views.{method_at}
-use Rattle.aom_image.specs.declared.method.Method.{Method}
-use Rattle.aom_frames.specs.declared.task.Task.{Task}
-use Rattle.aom_frames.specs.declared.task.Task.TheVariants.{Run, Trapped, Destroy, Dispatched}
+use Rattle.aom_sound.specs.State.{Static, Task, Run, Trapped, Destroy, Dispatched}
+use Rattle.aom_frames.specs.declared.task.Task.{Task as Held_task}
+use Rattle.aom_frames.specs.declared.task.Task.TheVariants.{Run as Runs_frame, Trapped as Is_trap, Destroy as Destroys, Dispatched as Ends}
+use Rattle.aom_ranks.specs.Ranks.{tasks_rank, destructions, cell_rank}
+use Rattle.aom_exec.specs.Agrees.{dispatch_of}
 
-abbrev pub length_in : Option Method → ℕ
-length_in None = 0
-length_in (Some m) = length m.code
+-- a task, by all that its rank hangs on
+abbrev pub ranked : Held_task → Task
+ranked (Runs_frame f) = Run (record { method = f.method; place = f.place; words = []; counters = f.counters; home = Static; height = 0 })
+ranked Is_trap = Trapped
+ranked (Destroys x) = Destroy
+ranked (Ends d) = Dispatched (dispatch_of d)
 
--- two for each place that a method has before it, as it may stand there once more while a cell goes
-abbrev pub rank_of : Image → List Task → ℕ
-rank_of p [] = 0
-rank_of p (Run f ∷ ts) = 2 * (length_in (method_at p f.method) - f.place) + rank_of p ts
-rank_of p (Trapped ∷ ts) = 1 + rank_of p ts
-rank_of p (Destroy x ∷ ts) = rank_of p ts - 1
-rank_of p (Dispatched d ∷ ts) = 1 + rank_of p ts
+-- so many cells live, and those that go have paid
+abbrev pub rank_of : Image → List Held_task → ℕ → ℕ
+rank_of p tasks cells = tasks_rank p (map ranked tasks) + (cells - destructions (map ranked tasks)) * cell_rank p

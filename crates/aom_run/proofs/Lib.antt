@@ -3,4 +3,3 @@ pub mod Lines
 pub mod Prefix
 pub mod Running
 pub mod Sending
-pub mod Standing

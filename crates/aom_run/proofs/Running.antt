@@ -8,17 +8,16 @@ use Rattle.aom_sound.specs.declared.line.Ending.{Ending}
 use Rattle.aom_sound.specs.declared.line.Ending.TheVariants as endings
 use Rattle.aom_lines.specs.Turn.{Turn}
 use Rattle.aom_lines.specs.Text.{text_of, ended, end_text, transcript}
+use Rattle.aom_ranks.specs.Ranks.{rank}
 use Rattle.aom_exec.specs.declared.progress.Outcome.{Outcome}
 use Rattle.aom_exec.specs.declared.progress.Outcome.TheVariants.{Stopped, Waiting, WriteFault}
 use Rattle.aom_exec.specs.declared.progress.Progress.{Progress}
 use Rattle.aom_exec.specs.declared.progress.Progress.TheVariants as progresses
 use Rattle.aom_exec.specs.Steps.{Machine, StandsFor, Steps, rests, moves, closes, Stepped, Waited, IsClosing, progress as reached}
 use Rattle.aom_exec.specs.Progress.{progress_of, progress_by, outcome_of}
-use Rattle.aom_exec.proofs.Admits.{no_destructor}
+use Rattle.aom_exec.proofs.Progressing.{is_as_far}
 use Rattle.aom_run.specs.Runs.{after, Ended, Told, CutShort, Ran}
-use Rattle.aom_run.proofs.Completing.{Completed, completes, left}
-use Rattle.aom_exec.proofs.Alone.{alone}
-use Rattle.aom_run.proofs.Standing.{alone_of, same_progress}
+use Rattle.aom_run.proofs.Completing.{Completed, completes}
 use Rattle.aom_run.proofs.Sending.{cut_short, after_both, after_none, text_of_both, cut_next}
 
 -- the machine stands for a state that a run comes to, and the run's lines are out
@@ -48,7 +47,7 @@ completed : (p : Image) (refused : List ℕ) (lines : List Line) (s : State) (m 
 completed p refused lines s m image r stands =
     let Whole : Image → Type 0 = λ q. Reaches q refused (boot_state q) lines s → Completed q refused lines in
     let sound = stands.sound in
-    subst Whole image (λ r'. completes m.image stands.typing refused sound.linked sound.admitted (no_destructor m.image sound.admitted) sound.keeps (suc (left m.image s.tasks)) lines s (omega arith) r' stands.typed (alone_of m.image s.tasks (alone m.image sound.admitted stands.typing m.parts s stands.typed stands.called stands.agrees))) r
+    subst Whole image (λ r'. completes m.image stands.typing refused sound.linked sound.typed sound.keeps (suc (rank m.image s)) lines s (omega arith) r' stands.typed) r
 
 -- the beginning of the lines of a run is one of its transcript
 cut_of : (p : Image) (refused : List ℕ) (before now : Option (List ℕ)) (lines : List Line) → Completed p refused lines → (n : ℕ) → now ≡ after before (take n (text_of lines)) → CutShort p refused before now
@@ -129,7 +128,7 @@ module _ (p : Image) (refused : List ℕ) (before mid now : Option (List ℕ)) (
       cut_of p refused before now n.lines all (n.sent + count) (out ∙ n.part count)
 
   pub turned : progress ≡ progresses.Turned → reached new ≡ progresses.Turned
-  turned is = same_progress new n.state n.stands ∙ sym n.is ∙ is
+  turned is = is_as_far new n.state n.stands ∙ sym n.is ∙ is
 
   pub waits : (last : Machine) → Waited new last → now ≡ after mid (text_of told) → Ended p refused endings.Waiting before now last
   waits last wait out =
