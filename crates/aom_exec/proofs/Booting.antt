@@ -4,7 +4,7 @@ use Rattle.aom_image.specs.Image.{Image}
 use Rattle.aom_classes.specs.Admitted.{IsAdmitted}
 use Rattle.aom_classes.specs.Linked.{IsLinked}
 use Rattle.aom_classes.specs.Roles.{main_of}
-use Rattle.aom_cells.specs.Heap.{Heap, null, cell_at, field_at, count}
+use Rattle.aom_cells.specs.Heap.{Heap, null, cell_at, word_of, field_at, count}
 use Rattle.aom_cells.specs.declared.cell.Cell.{Cell as Held_cell}
 use Rattle.aom_frames.specs.Tasks.{fresh}
 use Rattle.aom_frames.specs.declared.task.Task.TheVariants.{Run as Runs_frame, Trapped as Is_trap, Dispatched as Ends}
@@ -65,6 +65,7 @@ module _ (p : Image) (m : Parts) (booted : Booted p m) where
     values = λ r. shows_null _ _ _ (no_value r) (no_word_yet r) refl;
     cells = record {
       things = λ n. ap thing_in (no_cell n);
+      words = λ n w. ap (λ c. word_of c w) (no_cell n);
       count = ap count booted.cells;
       limit = ap (λ (h : Heap). h.limit) booted.cells;
       wide = λ n c e. absurd (never n c e);

@@ -25,8 +25,7 @@ use Rattle.aom_exec.specs.Acts.{In_going, without_going, GoesAway}
 use Rattle.aom_exec.specs.Acts as acts
 use Rattle.aom_exec.proofs.Values.{cases, same_length, kept, writes, value_kept, word_next, going_past, destroys_value, destroys_word}
 use Rattle.aom_exec.proofs.Cells.{cells_without}
-use Rattle.aom_exec.proofs.Standing.{GoesOver, goes_over}
-use Rattle.aom_exec.proofs.Standing.{moved_on}
+use Rattle.aom_exec.proofs.Standing.{moved_on, GoesOver, goes_over}
 
 -- what is known of the machine, taken apart
 pub record Ends_cell (m : Parts) (s : State) (x : ℕ) (f : Held_frame) (ms : List Held_task) (fr : Frame) (ts : List Task) : Type 0 where

@@ -8,9 +8,10 @@ use Rattle.aom_image.specs.Image.{Image}
 use Rattle.aom_image.specs.declared.instr.Instr.TheVariants.{JumpNull, New, Delete}
 use Rattle.aom_image.specs.declared.method.Thing.TheVariants.{Object as An_object_of}
 use Rattle.aom_classes.specs.Admitted.{IsAdmitted}
-use Rattle.aom_cells.specs.Heap.{Heap, null, cell_at, field_of, count, blank, Changes}
+use Rattle.aom_cells.specs.Heap.{Heap, null, cell_at, word_of, field_of, count, blank, Changes}
+use Rattle.aom_shape.specs.Tables.{at}
 use Rattle.aom_shape.specs.Things.{words_of}
-use Rattle.aom_sound.specs.Places.{Place, Register, Entry, Field, Going, Elsewhere, same_place, Object, Cell, held, named, moved, changed, with_new}
+use Rattle.aom_sound.specs.Places.{Place, Register, Entry, Field, Going, Elsewhere, same_place, Object, Cell, held, named, moved, changed, with_new, word_field}
 use Rattle.aom_sound.specs.State.{Frame, word, next, set_word, Task, Run, Rest, State, Choice, raised}
 use Rattle.aom_sound.specs.Destruction.{begun_by}
 use Rattle.aom_sound.specs.Objects.{jumped, deleted}
@@ -29,11 +30,12 @@ use Rattle.aom_exec.specs.Acts.{At_hand, requested, set_register, Does, refuses,
 use Rattle.aom_exec.specs.Acts as acts
 use Rattle.aom_exec.proofs.Values.{cases, moves, writes, kept, value_here, value_written, word_written, destroys_value, destroys_word, going_past}
 use Rattle.aom_exec.proofs.Standing.{Top, by_top, goes_on, stays, reframed, moved_on, word_here, register_shows, free, no_word, unnamed, an_open, not_null, nothing_held}
+use Rattle.aom_exec.proofs.CellWords.{all_same, zeros_at}
 use Rattle.aom_exec.proofs.Cells.{cells_moved}
 use Rattle.aom_exec.proofs.Admits.{no_destructor}
 
 -- what a register shows that has no word
-shown : (p : Image) (m : Parts) (h : At_hand p m) (f : Held_frame) (ms : List Held_task) → Top m h.state h.frame h.below f ms → (a : ℕ) → word h.frame a ≡ None → slice_index_or f.registers a null ≡ number (held h.state.cells (Register (length h.below) a))
+pub shown : (p : Image) (m : Parts) (h : At_hand p m) (f : Held_frame) (ms : List Held_task) → Top m h.state h.frame h.below f ms → (a : ℕ) → word h.frame a ≡ None → slice_index_or f.registers a null ≡ number (held h.state.cells (Register (length h.below) a))
 shown p m h f ms top a none = subst (λ w. Shows (slice_index_or f.registers a null) w (held h.state.cells (Register (length h.below) a))) none (register_shows m h.state h.frame h.below f ms top a)
 
 module _ (m : Parts) (refused : List ℕ) where
@@ -139,14 +141,11 @@ module _ (m : Parts) (refused : List ℕ) where
           })
 
 -- the fields of a new cell are null, and so are those of one that is not there
-nulls : (g : ℕ) → slice_index_or (replicate 8 null) g null ≡ null
-nulls g = elim (cases_lt g 8) [ inl within ↦ get_or-replicate 8 g null null within | inr past ↦ get_or_past (replicate 8 null) g null (let n = length-replicate 8 null in omega (arith, n, past)) ]
-
 values_kept : (ms : List Held_task) (h h' : Heap) (es : List ℕ) (root n class : ℕ) → cell_at h n ≡ None → Changes h h' n (Some (blank class)) → (r : Place) → value_in ms h' es root r ≡ value_in ms h es root r
 values_kept ms h h' es root n class none ch (Field k g) = cases (n == k)
     (λ e.
     let same = eqb-true n k e in
-    ap (λ i. field_of (cell_at h' i) g) (sym same) ∙ ap (λ o. field_of o g) ch.here ∙ nulls g ∙ ap (λ o. field_of o g) (sym none) ∙ ap (λ i. field_of (cell_at h i) g) same)
+    ap (λ i. field_of (cell_at h' i) g) (sym same) ∙ ap (λ o. field_of o g) ch.here ∙ all_same 8 g null ∙ ap (λ o. field_of o g) (sym none) ∙ ap (λ i. field_of (cell_at h i) g) same)
     (λ e. ap (λ o. field_of o g) (ch.others k (λ d. false≢true (sym e ∙ eq-eqb n k (sym d)))))
 values_kept ms h h' es root n class none ch (Register d i) = refl
 values_kept ms h h' es root n class none ch (Entry k) = refl
@@ -158,11 +157,14 @@ abbrev zeros : Image → ℕ → List ℤ
 zeros p class = replicate (words_of p class) (pos 0)
 
 -- the cells with a new one
-cells_made : (p : Image) (h h' : Heap) (cs : List Cell) (n class : ℕ) (ws : List ℤ) (q : Place) → SameCells p h cs → class < 256 → cell_at h n ≡ None → n ≢ null → Changes h h' n (Some (blank class)) → count h' ≡ count h + 1 → SameCells p h' (with_new n (An_object_of class) ws q cs)
-cells_made p h h' cs n class ws q same small none some ch more = record {
+cells_made : (p : Image) (h h' : Heap) (cs : List Cell) (n class : ℕ) (ws : List ℤ) (q : Place) → SameCells p h cs → ((w : ℕ) → at (pos 0) ws w ≡ pos 0) → class < 256 → cell_at h n ≡ None → n ≢ null → Changes h h' n (Some (blank class)) → count h' ≡ count h + 1 → SameCells p h' (with_new n (An_object_of class) ws q cs)
+cells_made p h h' cs n class ws q same zeros small none some ch more = record {
   things = λ k. cases (n == k)
       (λ e. ap (λ i. thing_in (cell_at h' i)) (sym (eqb-true n k e)) ∙ ap thing_in ch.here ∙ ap (λ b. thing_of (cond b (Some (record { name = n; thing = An_object_of class })) (named cs k))) (sym e))
       (λ e. ap thing_in (other k e) ∙ same.things k ∙ ap (λ b. thing_of (cond b (Some (record { name = n; thing = An_object_of class })) (named cs k))) (sym e));
+  words = λ k w. cases (n == k)
+      (λ e. ap (λ i. word_of (cell_at h' i) w) (sym (eqb-true n k e)) ∙ ap (λ c. word_of c w) ch.here ∙ all_same 8 w (pos 0) ∙ sym (zeros w) ∙ ap (λ b. cond b (at (pos 0) ws w) (word_field cs k w)) (sym e))
+      (λ e. ap (λ c. word_of c w) (other k e) ∙ same.words k w ∙ ap (λ b. cond b (at (pos 0) ws w) (word_field cs k w)) (sym e));
   count = (let c = same.count in omega arith);
   limit = ch.limit ∙ same.limit;
   wide = λ k c is. cases (n == k)
@@ -214,7 +216,7 @@ module _ (m : Parts) (turn : Turn) where
             (λ f ms top.
             let wide = top.frame.wide in
             goes_on p m s heap (with_new n (An_object_of class) (zeros p class) (Register (length ts) a) s.cells) _ _ _ ms (next (set_word fr a None)) ts h.agrees
-            (cells_made p m.cells heap s.cells n class (zeros p class) (Register (length ts) a) h.agrees.cells fits none some ch more)
+            (cells_made p m.cells heap s.cells n class (zeros p class) (Register (length ts) a) h.agrees.cells (zeros_at (words_of p class)) fits none some ch more)
             (ap (λ (r : Rest). record r { requests = raised r.requests }) h.agrees.rest) top.below
             (moved_on f fr (slice_set f.registers a n) (set_word fr a None).words top.frame (length-set f.registers a n ∙ wide))
             (writes _ _ _ _ (held s.cells) _ (Register (length ts) a) n None (Some (record { name = n; thing = An_object_of class })) top.values refl

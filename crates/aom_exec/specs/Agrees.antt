@@ -5,8 +5,9 @@ use Rattle.aom_image.specs.Image.{Image}
 use Rattle.aom_image.specs.declared.method.Thing.{Thing}
 use Rattle.aom_image.specs.declared.method.Thing.TheVariants.{Object as An_object_of}
 use Rattle.aom_cells.specs.Heap.{Heap, null, cell_at, count}
+use Rattle.aom_cells.specs.Heap.{word_at as cell_word}
 use Rattle.aom_cells.specs.declared.cell.Cell.{Cell as Held_cell}
-use Rattle.aom_sound.specs.Places.{Place, Register, Entry, Field, Going, Elsewhere, Object, Cell, held, named}
+use Rattle.aom_sound.specs.Places.{Place, Register, Entry, Field, Going, Elsewhere, Object, Cell, held, named, word_field}
 use Rattle.aom_sound.specs.State.{Home, Static, AtRoot, Inside, Frame, Dispatch, Of_main, word, counter, Task, Run, Trapped, Destroy, Dispatched, State}
 use Rattle.aom_frames.specs.declared.frame.Frame.{Frame as Held_frame}
 use Rattle.aom_frames.specs.declared.task.Task.{Task as Held_task}
@@ -85,9 +86,10 @@ abbrev pub thing_of : Option Object → Option Thing
 thing_of None = None
 thing_of (Some o) = Some o.thing
 
--- the same cells live, by their numbers
+-- the same cells live, by their numbers, with the same words
 pub record SameCells (p : Image) (h : Heap) (cs : List Cell) : Type 0 where
   pub things : (n : ℕ) → thing_in (cell_at h n) ≡ thing_of (named cs n)
+  pub words : (n w : ℕ) → cell_word h n w ≡ word_field cs n w
   pub count : count h ≡ length cs
   pub limit : h.limit ≡ p.header.cells
   pub wide : (n : ℕ) (c : Held_cell) → cell_at h n ≡ Some c → length c.fields ≡ 8

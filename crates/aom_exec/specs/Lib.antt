@@ -3,6 +3,8 @@ pub mod Places
 pub mod Room
 pub mod Agrees
 pub mod Acts
+pub mod Fields
+pub mod Calls
 pub mod Ranks
 pub mod Steps
 pub mod Boot

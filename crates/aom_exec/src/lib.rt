@@ -9,6 +9,7 @@
 
 mod calls;
 mod fault;
+mod fields;
 mod machine;
 mod moves;
 mod objects;

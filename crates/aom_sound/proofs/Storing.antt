@@ -17,11 +17,11 @@ record Alike (cs cs' : List Cell) : Type 0 where
   named_so : (n : ℕ) → named cs' n ≡ named cs n
   tidy : Tidy cs → Tidy cs'
 
-held_set_word : (cs : List Cell) (n w : ℕ) (v : ℤ) (r : Place) → held (set_word_field n w v cs) r ≡ held cs r
+pub held_set_word : (cs : List Cell) (n w : ℕ) (v : ℤ) (r : Place) → held (set_word_field n w v cs) r ≡ held cs r
 held_set_word [] n w v r = refl
 held_set_word (c ∷ cs) n w v r = ap (λ x. cond (same_place c.owner r) (Some c.object) x) (held_set_word cs n w v r)
 
-named_set_word : (cs : List Cell) (n w : ℕ) (v : ℤ) (m : ℕ) → named (set_word_field n w v cs) m ≡ named cs m
+pub named_set_word : (cs : List Cell) (n w : ℕ) (v : ℤ) (m : ℕ) → named (set_word_field n w v cs) m ≡ named cs m
 named_set_word [] n w v m = refl
 named_set_word (c ∷ cs) n w v m = ap (λ x. cond (c.object.name == m) (Some c.object) x) (named_set_word cs n w v m)
 

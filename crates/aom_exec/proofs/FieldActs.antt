@@ -1,0 +1,258 @@
+-- Instructions on the words and the owning fields of what a method works on: of its cell, or of main's, the root.
+use Rattle.std.proofs.Common.{inl, inr, suc, ◌≡◌, ◌≢◌, ℕ, ℤ, ◌<◌, true, cond, length, List, [], ◌∷◌, Option, Some, None, slice_set, refl, sym, ap, ◌∙◌, subst, arith}
+use Rattle.std.specs.Prelude.{is_some, nat_lt}
+use Rattle.std.specs.Int.{w32, cast_signed}
+use Rattle.std.proofs.lemmas.Bool.{eq-eqb, ltb-true, ne_eqb}
+use Rattle.std.proofs.lemmas.List.{length-set}
+use Rattle.aom_image.specs.Image.{Image}
+use Rattle.aom_image.specs.declared.instr.Instr.TheVariants.{Load, Store, Take, Put, JumpEmpty}
+use Rattle.aom_image.specs.declared.method.Thing.{Thing}
+use Rattle.aom_cells.specs.Heap.{Heap, null, field_at, Lives}
+use Rattle.aom_cells.specs.Heap.{word_at as cell_word}
+use Rattle.aom_shape.specs.Things.{field_thing, word_count}
+use Rattle.aom_sound.specs.Claims.{Layer, Method as A_method, Mark, Dying, Dispatching, tasks_of}
+use Rattle.aom_sound.specs.Places.{Place, Register, Field, Elsewhere, Root, Object, held, named, moved, changed}
+use Rattle.aom_sound.specs.State.{Home, Static, AtRoot, Inside, Frame, next, set_word, Task, Run, Choice, field_place, home_holder}
+use Rattle.aom_sound.specs.Objects.{jumped, is_declared_thing}
+use Rattle.aom_sound.specs.WellTyped.{IsHoused as Is_housed, Now, Stack}
+use Rattle.aom_sound.specs.Words.{loaded, stored, read, does_const}
+use Rattle.aom_sound.proofs.Storing.{held_set_word}
+use Rattle.aom_frames.specs.Tasks.{on_top, with_place, with_register, place_here, register_here, this_here}
+use Rattle.aom_frames.specs.declared.task.Task.{Task as Held_task}
+use Rattle.aom_frames.specs.declared.task.Task.TheVariants.{Run as Runs_frame}
+use Rattle.aom_exec.specs.declared.parts.Parts.{Parts}
+use Rattle.aom_exec.specs.Places.{value_in}
+use Rattle.aom_exec.specs.Agrees.{word_at, home_number, Shows, number, SameCells, Agrees}
+use Rattle.aom_exec.specs.Acts.{At_hand, WritesWord, set_register, Does}
+use Rattle.aom_exec.specs.Acts as acts
+use Rattle.aom_exec.specs.Fields.{this, IsHoused, field_here, PutsWord, PutsField, WritesField}
+use Rattle.aom_exec.proofs.Values.{kept, value_here, value_kept, value_written, word_next, word_written}
+use Rattle.aom_exec.proofs.Standing.{by_top, goes_on, moved_on, word_here, free, no_word, unnamed, not_null}
+use Rattle.aom_exec.proofs.CellFields.{field_written, root_written, word_put_elsewhere, cell_of, cells_put, cells_stored}
+use Rattle.aom_exec.proofs.Moving.{hands_over}
+use Rattle.aom_exec.proofs.WordActs.{word_read, word_put, plain_does, jumps, passes}
+
+-- ---- the cell that a method works on
+
+some_none : {A : Type 0} {x : A} → Some x ≡ None → ⊥
+some_none e = cc
+
+module _ (p : Image) (m : Parts) (h : At_hand p m) where
+  -- it lives
+  housed : (o : Object) (from : Place) → h.frame.home ≡ Inside o from → named h.state.cells o.name ≡ Some o
+  housed o from e = go h.typed.layers (sym h.typed.tasks ∙ h.top) h.typed.good.stack
+    where
+      go : (ls : List Layer) → tasks_of ls ≡ Run h.frame ∷ h.below → Stack p h.typing h.state.cells Now ls → named h.state.cells o.name ≡ Some o
+      go [] top stack = cc
+      go (Mark g ∷ ls) top stack = cc
+      go (Dying x ∷ ls) top stack = cc
+      go (Dispatching d ∷ ls) top stack = cc
+      go (A_method fr sh ∷ ls) top stack =
+          let same : fr ≡ h.frame = cc in
+          let lives = subst (Is_housed p h.state.cells ls) (ap (λ (x : Frame). x.home) same ∙ e) stack.2 in
+          lives.lives
+
+  -- the machine's number of it
+  this_is : this m ≡ home_number h.frame.home
+  this_is = by_top p m h (λ us. this_here us ≡ home_number h.frame.home) (λ f ms top. top.frame.this)
+
+  inside_number : (o : Object) (from : Place) → h.frame.home ≡ Inside o from → this m ≡ o.name
+  inside_number o from e = this_is ∙ ap home_number e
+
+  inside_there : (o : Object) (from : Place) → h.frame.home ≡ Inside o from → this m ≢ null
+  inside_there o from e n = some_none (sym (housed o from e) ∙ ap (named h.state.cells) (sym (inside_number o from e) ∙ n) ∙ unnamed p m h.state null h.agrees h.agrees.cells.null_is_none)
+
+  pub is_housed : IsHoused m
+  is_housed there = go h.frame.home refl
+    where
+      go : (home : Home) → h.frame.home ≡ home → Lives m.cells (this m)
+      go Static e = absurd (there (this_is ∙ ap home_number e))
+      go AtRoot e = absurd (there (this_is ∙ ap home_number e))
+      go (Inside o from) e =
+          let c = cell_of p m.cells h.state.cells o.name o h.agrees.cells (housed o from e) in
+          subst (Lives m.cells) (sym (inside_number o from e)) (ap is_some c.1)
+
+  -- a method that has words has a cell
+  no_words : {P : Type 0} (w : ℕ) → nat_lt w 0 ≡ true → P
+  no_words w e = let lt = ltb-true w 0 e in absurd (omega (arith, lt))
+
+  pub has_cell : (w : ℕ) → nat_lt w (word_count p (home_holder h.frame.home)) ≡ true → this m ≢ null
+  has_cell w has n = go h.frame.home refl has
+    where
+      go : (home : Home) → h.frame.home ≡ home → nat_lt w (word_count p (home_holder home)) ≡ true → ⊥
+      go Static e has = no_words w has
+      go AtRoot e has = no_words w has
+      go (Inside o from) e has = inside_there o from e n
+
+  -- ---- words
+
+  pub word_loaded : (w : ℕ) → nat_lt w (word_count p (home_holder h.frame.home)) ≡ true → cell_word m.cells (this m) w ≡ loaded h.state.cells h.frame.home w
+  word_loaded w has = go h.frame.home refl has
+    where
+      go : (home : Home) → h.frame.home ≡ home → nat_lt w (word_count p (home_holder home)) ≡ true → cell_word m.cells (this m) w ≡ loaded h.state.cells home w
+      go Static e has = no_words w has
+      go AtRoot e has = no_words w has
+      go (Inside o from) e has = ap (λ n. cell_word m.cells n w) (inside_number o from e) ∙ h.agrees.cells.words o.name w
+
+  held_stored : (home : Home) (w : ℕ) (v : ℤ) (r : Place) → held (stored h.state.cells home w v) r ≡ held h.state.cells r
+  held_stored Static w v r = refl
+  held_stored AtRoot w v r = refl
+  held_stored (Inside o from) w v r = held_set_word h.state.cells o.name w v r
+
+  cells_after_store : (heap : Heap) (w : ℕ) (v : ℤ) → nat_lt w (word_count p (home_holder h.frame.home)) ≡ true → PutsWord (this m) w v m.cells heap → SameCells p heap (stored h.state.cells h.frame.home w v)
+  cells_after_store heap w v has puts = go h.frame.home refl has
+    where
+      go : (home : Home) → h.frame.home ≡ home → nat_lt w (word_count p (home_holder home)) ≡ true → SameCells p heap (stored h.state.cells home w v)
+      go Static e has = no_words w has
+      go AtRoot e has = no_words w has
+      go (Inside o from) e has = cells_stored p m.cells heap h.state.cells o.name w v o h.agrees.cells (housed o from e) (subst (λ n. PutsWord n w v m.cells heap) (inside_number o from e) puts)
+
+  -- ---- owning fields
+
+  pub no_word_there : (home : Home) (f : ℕ) (us : List Task) → word_at us (field_place home f) ≡ None
+  no_word_there Static f us = refl
+  no_word_there AtRoot f us = refl
+  no_word_there (Inside o from) f us = refl
+
+  -- a field's number is read from its place
+  here_at_root : (f : ℕ) → this m ≡ null → m.root ≡ field_here f m
+  here_at_root f n = ap (λ b. cond b m.root (field_at m.cells (this m) f)) (sym (eq-eqb (this m) null n))
+
+  pub field_read_here : (f : ℕ) (us : List Held_task) → is_some (field_thing p (home_holder h.frame.home) f) ≡ true → value_in us m.cells m.entries.items m.root (field_place h.frame.home f) ≡ field_here f m
+  field_read_here f us has = go h.frame.home refl has
+    where
+      go : (home : Home) → h.frame.home ≡ home → is_some (field_thing p (home_holder home) f) ≡ true → value_in us m.cells m.entries.items m.root (field_place home f) ≡ field_here f m
+      go Static e has = cc
+      go AtRoot e has = here_at_root f (this_is ∙ ap home_number e)
+      go (Inside o from) e has =
+          ap (λ n. field_at m.cells n f) (sym (inside_number o from e))
+          ∙ ap (λ b. cond b m.root (field_at m.cells (this m) f)) (sym (ne_eqb (this m) null (inside_there o from e)))
+
+  -- and written in its place
+  pub record Written (mid : Parts) (q : Place) (x : ℕ) : Type 0 where
+    pub values : (us : List Held_task) (r : Place) → value_in us mid.cells m.entries.items mid.root r ≡ changed (value_in us m.cells m.entries.items m.root) q x r
+    pub cells : SameCells p mid.cells h.state.cells
+    pub rest : mid ≡ record m { cells = mid.cells; root = mid.root }
+
+  pub field_written_here : (mid : Parts) (f x : ℕ) → is_some (field_thing p (home_holder h.frame.home) f) ≡ true → WritesField f x m mid → Written mid (field_place h.frame.home f) x
+  field_written_here mid f x has writes = go h.frame.home refl has
+    where
+      at_root : mid ≡ record m { root = x } → Written mid (Elsewhere Root) x
+      at_root e = subst (λ k. Written k (Elsewhere Root) x) (sym e) (record { values = λ us r. root_written us m.cells m.entries.items m.root x r; cells = h.agrees.cells; rest = refl })
+
+      in_cell : (o : Object) (from : Place) → h.frame.home ≡ Inside o from → PutsField (this m) f x m.cells mid.cells → mid ≡ record m { cells = mid.cells } → Written mid (Field o.name f) x
+      in_cell o from e puts same =
+          let at = subst (λ n. PutsField n f x m.cells mid.cells) (inside_number o from e) puts in
+          let root : mid.root ≡ m.root = ap (λ (k : Parts). k.root) same in
+          record {
+            values = λ us r. ap (λ n. value_in us mid.cells m.entries.items n r) root ∙ field_written us m.cells mid.cells m.entries.items m.root o.name f x at r;
+            cells = cells_put p m.cells mid.cells h.state.cells o.name f x o h.agrees.cells (housed o from e) at;
+            rest = same ∙ ap (λ n. record m { cells = mid.cells; root = n }) (sym root);
+          }
+
+      go : (home : Home) → h.frame.home ≡ home → is_some (field_thing p (home_holder home) f) ≡ true → Written mid (field_place home f) x
+      go Static e has = cc
+      go AtRoot e has = elim writes [ inl root ↦ at_root root.1 | inr cell ↦ absurd (cell.0 (this_is ∙ ap home_number e)) ]
+      go (Inside o from) e has = elim writes [ inl root ↦ absurd (inside_there o from e root.0) | inr cell ↦ in_cell o from e cell.1 cell.2 ]
+
+  -- the number in a field is that of what the field owns
+  pub field_shown : (f : ℕ) → is_some (field_thing p (home_holder h.frame.home) f) ≡ true → field_here f m ≡ number (held h.state.cells (field_place h.frame.home f))
+  field_shown f has =
+      let q = field_place h.frame.home f in
+      sym (field_read_here f m.stack.tasks has) ∙ subst (λ w. Shows (value_in m.stack.tasks m.cells m.entries.items m.root q) w (held h.state.cells q)) (no_word_there h.frame.home f h.state.tasks) (h.agrees.values q)
+
+-- ---- the instructions
+
+pub load_does : (m new : Parts) (refused : List ℕ) (a w : ℕ) → WritesWord a (cell_word m.cells (this m) w) m new → Does refused (Load a w) m new
+load_does m new refused a w x =
+    plain_does m new refused (Load a w) refl (λ p h c met.
+    subst (λ v. Agrees p new (does_const h.frame h.below h.state a v)) (word_loaded p m h w met.0) (word_put p m new h a _ (free _ met.1.0) x))
+
+pub store_does : (m : Parts) (refused : List ℕ) (w b : ℕ) (heap : Heap) → PutsWord (this m) w (cast_signed w32 (register_here m.stack.tasks b)) m.cells heap → Does refused (Store w b) m (acts.next (record m { cells = heap }))
+store_does m refused w b heap puts =
+    plain_does m (acts.next (record m { cells = heap })) refused (Store w b) refl (λ p h c met.
+    let s = h.state in
+    let fr = h.frame in
+    let ts = h.below in
+    let v = read fr ts s b in
+    let written = subst (λ v. PutsWord (this m) w v m.cells heap) (word_read p m h b met.1.0) puts in
+    by_top p m h
+    (λ us. Agrees p (record m { stack = record m.stack { tasks = on_top (with_place (suc (place_here us))) us }; cells = heap }) (record s { cells = stored s.cells fr.home w v; tasks = Run (next fr) ∷ ts }))
+    (λ f ms top.
+    let f' = record f { place = suc f.place } in
+    goes_on p m s heap (stored s.cells fr.home w v) m.rest _ f' ms (next fr) ts h.agrees (cells_after_store p m h heap w v met.0 written) h.agrees.rest top.below
+    (moved_on f fr f.registers fr.words top.frame top.frame.wide)
+    (λ q.
+    subst (λ n. Shows n (word_at (Run (next fr) ∷ ts) q) (held (stored s.cells fr.home w v) q)) (sym (word_put_elsewhere (Runs_frame f' ∷ ms) m.cells heap m.entries.items m.root (this m) w v written q ∙ value_kept f ms m.cells m.entries.items m.root (suc f.place) q))
+    (subst (λ x. Shows (value_in (Runs_frame f ∷ ms) m.cells m.entries.items m.root q) x (held (stored s.cells fr.home w v) q)) (sym (word_next fr ts (suc fr.place) q))
+    (subst (λ o. Shows (value_in (Runs_frame f ∷ ms) m.cells m.entries.items m.root q) (word_at (Run fr ∷ ts) q) o) (sym (held_stored p m h fr.home w v q)) (top.values q))))))
+
+pub take_does : (m mid : Parts) (refused : List ℕ) (a g n : ℕ) → a < 16 → n ≡ field_here g m → WritesField g null m mid → Does refused (Take a g) m (acts.next (set_register a n mid))
+take_does m mid refused a g n small reads writes =
+    plain_does m (acts.next (set_register a n mid)) refused (Take a g) refl (λ p h c met.
+    let s = h.state in
+    let fr = h.frame in
+    let ts = h.below in
+    let q = field_place fr.home g in
+    let here = Register (length ts) a in
+    let written = field_written_here p m h mid g null met.0 writes in
+    subst (λ k. Agrees p (acts.next (set_register a n k)) (record s { cells = moved q here s.cells; tasks = Run (next (set_word fr a None)) ∷ ts })) (sym written.rest) (by_top p m h
+    (λ us. Agrees p (record m { stack = record m.stack { tasks = on_top (with_place (suc (place_here (on_top (with_register a n) us)))) (on_top (with_register a n) us) }; cells = mid.cells; root = mid.root }) (record s { cells = moved q here s.cells; tasks = Run (next (set_word fr a None)) ∷ ts }))
+    (λ f ms top.
+    let wide = top.frame.wide in
+    let v = value_in (Runs_frame f ∷ ms) m.cells m.entries.items m.root in
+    hands_over p m s mid.cells mid.root q here f _ ms fr _ ts h.agrees top written.cells
+    (moved_on f fr (slice_set f.registers a n) (set_word fr a None).words top.frame (length-set f.registers a n ∙ wide))
+    (no_word_there p m h fr.home g (Run fr ∷ ts))
+    (free _ met.1.0)
+    (λ r.
+    value_written f ms mid.cells m.entries.items mid.root (length ts) a n (suc f.place) top.deep (omega arith) r
+    ∙ ap (λ y. changed (λ z. y) here n r) (written.values (Runs_frame f ∷ ms) r)
+    ∙ ap (λ y. changed (changed v q null) here y r) (reads ∙ sym (field_read_here p m h g (Runs_frame f ∷ ms) met.0)))
+    (word_written fr ts a (suc fr.place) None))))
+
+-- a field that a thing is declared for is declared
+declared_some : (p : Image) (t : Option Thing) (o : Option Object) → is_declared_thing p t o ≡ true → is_some t ≡ true
+declared_some p None o e = cc
+declared_some p (Some t) o e = refl
+
+pub put_does : (m mid : Parts) (refused : List ℕ) (g b x : ℕ) → b < 16 → x ≡ register_here m.stack.tasks b → WritesField g x m mid → Does refused (Put g b) m (acts.next (set_register b null mid))
+put_does m mid refused g b x small reads writes =
+    plain_does m (acts.next (set_register b null mid)) refused (Put g b) refl (λ p h c met.
+    let s = h.state in
+    let fr = h.frame in
+    let ts = h.below in
+    let q = field_place fr.home g in
+    let here = Register (length ts) b in
+    let written = field_written_here p m h mid g x (declared_some p _ _ met.1.0) writes in
+    subst (λ k. Agrees p (acts.next (set_register b null k)) (record s { cells = moved here q s.cells; tasks = Run (next fr) ∷ ts })) (sym written.rest) (by_top p m h
+    (λ us. x ≡ register_here us b → Agrees p (record m { stack = record m.stack { tasks = on_top (with_place (suc (place_here (on_top (with_register b null) us)))) (on_top (with_register b null) us) }; cells = mid.cells; root = mid.root }) (record s { cells = moved here q s.cells; tasks = Run (next fr) ∷ ts }))
+    (λ f ms top reads.
+    let wide = top.frame.wide in
+    let v = value_in (Runs_frame f ∷ ms) m.cells m.entries.items m.root in
+    let f' = record f { registers = slice_set f.registers b null; place = suc f.place } in
+    hands_over p m s mid.cells mid.root here q f f' ms fr (next fr) ts h.agrees top written.cells
+    (moved_on f fr (slice_set f.registers b null) fr.words top.frame (length-set f.registers b null ∙ wide))
+    (word_here fr ts b ∙ no_word _ met.0)
+    (free _ met.1.1.0)
+    (λ r.
+    written.values (Runs_frame f' ∷ ms) r
+    ∙ ap (λ y. changed (λ z. y) q x r) (value_written f ms m.cells m.entries.items m.root (length ts) b null (suc f.place) top.deep (omega arith) r)
+    ∙ ap (λ y. changed (changed v here null) q y r) (reads ∙ sym (value_here f ms m.cells m.entries.items m.root (length ts) b top.deep)))
+    (λ r. word_next fr ts (suc fr.place) r ∙ kept (word_at (Run fr ∷ ts)) q r ∙ ap (λ y. changed (word_at (Run fr ∷ ts)) q y r) (no_word_there p m h fr.home g (Run fr ∷ ts))))
+    reads))
+
+module _ (m : Parts) (refused : List ℕ) where
+  pub jump_empty_does : (g to : ℕ) → field_here g m ≡ null → Does refused (JumpEmpty g to) m (acts.to_place to m)
+  jump_empty_does g to is = plain_does m (acts.to_place to m) refused (JumpEmpty g to) refl (λ p h c met. go p h c (held h.state.cells (field_place h.frame.home g)) refl (sym (field_shown p m h g met.0) ∙ is))
+    where
+      go : (p : Image) (h : At_hand p m) (c : Choice) (o : Option Object) → held h.state.cells (field_place h.frame.home g) ≡ o → number o ≡ null → Agrees p (acts.to_place to m) (jumped p c h.frame h.below h.state o to)
+      go p h c None e n = jumps m refused p h to
+      go p h c (Some o) e n = absurd (not_null p m h.typing h.state h.typed h.agrees _ o e n)
+
+  pub jump_full_does : (g to : ℕ) → field_here g m ≢ null → Does refused (JumpEmpty g to) m (acts.next m)
+  jump_full_does g to is = plain_does m (acts.next m) refused (JumpEmpty g to) refl (λ p h c met. go p h c (held h.state.cells (field_place h.frame.home g)) (λ n. is (field_shown p m h g met.0 ∙ n)))
+    where
+      go : (p : Image) (h : At_hand p m) (c : Choice) (o : Option Object) → (number o ≡ null → ⊥) → Agrees p (acts.next m) (jumped p c h.frame h.below h.state o to)
+      go p h c None n = absurd (n refl)
+      go p h c (Some o) n = passes m refused p h

@@ -1,0 +1,12 @@
+use Rattle.std.proofs.Common.{rules, FitsSigned, ◌∙◌, subst}
+use Rattle.std.specs.Int.{w32}
+use Rattle.std.proofs.lemmas.Int.{to_z-of_z}
+use Rattle.aom_exec.specs.Acts.{WritesWord}
+use Rattle.aom_exec.proofs.FieldActs.{load_does}
+use Rattle.aom_exec.proofs.parts.Parts.load.Goals as goal
+
+pub returns : goal.returns
+returns c = λ refused.
+    let fits : FitsSigned w32 c.field_word-value.result = search rules in
+    load_does c.args.self.now c.write_word.new.self refused c.args.to c.args.word
+    (subst (λ w. WritesWord c.args.to w c.args.self.now c.write_word.new.self) (to_z-of_z w32 c.field_word-value.result fits ∙ c.field_word-value.ensures) c.write_word.ensures)

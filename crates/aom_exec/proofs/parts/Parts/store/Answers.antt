@@ -1,0 +1,14 @@
+use Rattle.std.proofs.Common.{rules, FitsSigned, ◌∙◌, subst}
+use Rattle.std.specs.Int.{w32}
+use Rattle.std.proofs.lemmas.Int.{to_z-of_z}
+use Rattle.aom_exec.specs.Fields.{this, PutsWord}
+use Rattle.aom_exec.proofs.FieldActs.{store_does}
+use Rattle.aom_exec.proofs.parts.Parts.store.Goals as goal
+
+pub returns : goal.returns
+returns c = λ refused.
+    let fits : FitsSigned w32 c.word-value.result = search rules in
+    let m = c.args.self.now in
+    let heap = c.set_field_word.new.self.cells in
+    rw (c.next.ensures, c.set_field_word.ensures.rest) (store_does m refused c.args.word c.args.from heap
+    (subst (λ v. PutsWord (this m) c.args.word v m.cells heap) (to_z-of_z w32 c.word-value.result fits ∙ c.word-value.ensures) c.set_field_word.ensures.written))
