@@ -11,11 +11,11 @@ pub mod ObjectActs
 pub mod MoveActs
 pub mod FieldActs
 pub mod CallActs
+pub mod ReturnActs
 pub mod GoingActs
 pub mod Stepping
 pub mod Housing
 pub mod Rooms
-pub mod Alone
 pub mod Ends
 pub mod Finding
 pub mod Announcing
