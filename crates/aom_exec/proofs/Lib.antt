@@ -4,7 +4,6 @@ pub mod Standing
 pub mod Cells
 pub mod CellFields
 pub mod Moving
-pub mod Admits
 pub mod WordActs
 pub mod LoopActs
 pub mod ObjectActs
