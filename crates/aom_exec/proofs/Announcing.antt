@@ -1,5 +1,5 @@
 -- From the first move on main's line is written.
-use Rattle.std.proofs.Common.{zero, suc, ◌≡◌, ◌-◌, ℕ, Bool, true, false, cond, length, List, [], ◌∷◌, Option, Some, None, refl, sym, ap, ◌∙◌, subst}
+use Rattle.std.proofs.Common.{zero, suc, ◌≡◌, ◌-◌, ℕ, Bool, true, false, cond, length, List, [], ◌∷◌, Option, Some, None, refl, subst}
 use Rattle.std.specs.Prelude.{int_lt}
 use Rattle.std.specs.Ordering.{int_eq}
 use Rattle.aom_image.specs.Image.{Image}
@@ -8,7 +8,7 @@ use Rattle.aom_image.specs.declared.instr.Instr.{Instr}
 use Rattle.aom_image.specs.declared.instr.Instr.TheVariants.{JumpEqual, JumpLess, JumpNull, JumpEmpty, Next, Delete, Return}
 use Rattle.aom_image.specs.declared.method.Gives.{Gives}
 use Rattle.aom_sound.specs.Places.{Register, Going, Elsewhere, Root, Object, held}
-use Rattle.aom_sound.specs.State.{Frame, Dispatch, Of_main, Of_root, Task, Run, Trapped, Destroy, Dispatched, State, Choice, Need, Orphan, Outcome, Goes, IsStuck, counter, field_place, guarded}
+use Rattle.aom_sound.specs.State.{Frame, Dispatch, Of_main, Of_root, Task, Run, Trapped, Destroy, Dispatched, State, Choice, Need, Orphan, Goes, IsStuck, counter, field_place, guarded}
 use Rattle.aom_sound.specs.Destruction.{gone, owns_nothing}
 use Rattle.aom_sound.specs.Words.{read, branched, looped}
 use Rattle.aom_sound.specs.Objects.{jumped, deleted}

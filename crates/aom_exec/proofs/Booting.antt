@@ -1,5 +1,5 @@
 -- A machine that has booted stands for the boot state.
-use Rattle.std.proofs.Common.{zero, suc, ◌≡◌, ◌==◌, ℕ, Bool, true, false, cond, length, List, [], ◌∷◌, Option, Some, None, slice_index_or, refl, sym, ap, ◌∙◌, subst, arith}
+use Rattle.std.proofs.Common.{zero, suc, ◌≡◌, ◌==◌, ℕ, Bool, true, false, cond, length, [], ◌∷◌, Some, None, slice_index_or, refl, sym, ap, ◌∙◌, subst, arith}
 use Rattle.aom_image.specs.Image.{Image}
 use Rattle.aom_classes.specs.Admitted.{IsAdmitted}
 use Rattle.aom_classes.specs.Linked.{IsLinked}
@@ -13,8 +13,8 @@ use Rattle.aom_sound.specs.State.{AtRoot, frame_of, Run, Trapped, Dispatched, Of
 use Rattle.aom_shape.specs.Typing.{Typing}
 use Rattle.aom_verify.specs.Strongest.{IsStrongest}
 use Rattle.aom_budget.specs.Depths.{DepthsWithin}
-use Rattle.aom_sound.specs.Places.{Place, Register, Entry, Field, Going, Elsewhere, Root, held}
-use Rattle.aom_sound.specs.Laws.{IsWired, BootKeeps, StepKeeps, LinkedIsWired}
+use Rattle.aom_sound.specs.Places.{Place, Register, Entry, Field, Going, Elsewhere, Root}
+use Rattle.aom_sound.specs.Laws.{BootKeeps, StepKeeps, LinkedIsWired}
 use Rattle.aom_sound.specs.World.{main_tasks, boot_state}
 use Rattle.aom_exec.specs.declared.parts.Parts.{Parts}
 use Rattle.aom_exec.specs.Boot.{Booted}
@@ -23,7 +23,7 @@ use Rattle.aom_exec.specs.Room.{AllCalled}
 use Rattle.aom_exec.specs.Agrees.{SameTasks, word_in, word_at, thing_in, Agrees}
 use Rattle.aom_exec.proofs.CallActs.{shows_null}
 use Rattle.aom_exec.proofs.Standing.{begun_frame, begun_registers}
-use Rattle.aom_exec.specs.Steps.{Sound, StandsFor}
+use Rattle.aom_exec.specs.Steps.{StandsFor}
 
 same_cond : {A : Type 0} (b : Bool) (x : A) → cond b x x ≡ x
 same_cond true x = refl

@@ -1,34 +1,23 @@
 -- `stop`, and how a dispatch comes to its end.
-use Rattle.std.proofs.Common.{zero, suc, ◌≡◌, ◌==◌, ℕ, ℤ, ◌<◌, ◌≤◌, ◌-◌, Bool, true, false, cond, length, List, [], ◌∷◌, Option, Some, None, take, slice_index_or, refl, sym, ap, ◌∙◌, subst, arith}
+use Rattle.std.proofs.Common.{zero, suc, ◌≡◌, ◌==◌, ℕ, ℤ, ◌-◌, Bool, true, false, cond, length, List, [], ◌∷◌, Option, Some, None, take, slice_index_or, refl, sym, ap, ◌∙◌, subst, arith}
 use Rattle.aom_image.specs.Image.{Image}
-use Rattle.aom_image.specs.declared.instr.Instr.TheVariants.{Return, Stop}
-use Rattle.aom_image.specs.Views.{gives_of}
-use Rattle.aom_image.specs.declared.method.Gives.{Gives}
-use Rattle.aom_image.specs.declared.method.Gives.TheVariants.{Nothing}
+use Rattle.aom_image.specs.declared.instr.Instr.TheVariants.{Stop}
 use Rattle.std.proofs.lemmas.List.{length-take}
-use Rattle.aom_classes.specs.Admitted.{IsAdmitted}
-use Rattle.aom_classes.specs.Linked.{IsLinked}
-use Rattle.aom_shape.specs.Kinds.{filled}
-use Rattle.aom_shape.specs.Things.{root_thing}
-use Rattle.aom_shape.specs.declared.kind.Filling.TheVariants.{Perhaps}
 use Rattle.aom_shape.specs.declared.kind.Kind.TheVariants.{Null}
 use Rattle.aom_cells.specs.Heap.{null}
 use Rattle.aom_shape.specs.Typing.{Typing}
-use Rattle.aom_sound.proofs.Wiring.{linked_is_wired}
-use Rattle.aom_sound.specs.Places.{Place, Register, Entry, Field, Going, Elsewhere, Root, Object, Cell, held}
-use Rattle.aom_sound.specs.State.{Frame, Dispatch, Of_main, Of_root, next, Task, Run, Trapped, Destroy, Dispatched, Item, Rest, State}
-use Rattle.aom_sound.specs.Calls.{returned, below_top}
-use Rattle.aom_sound.specs.Claims.{Layer, Method, Mark, Dying, Dispatching, tasks_of, claim, declared}
+use Rattle.aom_sound.specs.Places.{Place, Register, Entry, Field, Going, Elsewhere, Object, held}
+use Rattle.aom_sound.specs.State.{Dispatch, next, Task, Run, Dispatched, Item, Rest, State}
+use Rattle.aom_sound.specs.Calls.{below_top}
+use Rattle.aom_sound.specs.Claims.{Layer, Method, Mark, Dying, Dispatching, tasks_of}
 use Rattle.aom_sound.specs.WellTyped.{WellTyped, Good, Fits}
 use Rattle.aom_frames.specs.Tasks.{on_top, with_place, place_here}
-use Rattle.aom_frames.specs.declared.frame.Frame.{Frame as Held_frame}
-use Rattle.aom_frames.specs.declared.task.Task.{Task as Held_task}
-use Rattle.aom_frames.specs.declared.task.Task.TheVariants.{Run as Runs_frame, Trapped as Is_trap, Destroy as Destroys, Dispatched as Ends}
+use Rattle.aom_frames.specs.declared.task.Task.TheVariants.{Dispatched as Ends}
 use Rattle.aom_frames.specs.declared.task.Dispatch.{Dispatch as Held_dispatch}
 use Rattle.aom_exec.specs.declared.parts.Parts.{Parts}
-use Rattle.aom_exec.specs.Places.{value_in, with_tasks, below_first}
-use Rattle.aom_exec.specs.Agrees.{word_at, Shows, SameTasks, dispatch_of, number, Agrees}
-use Rattle.aom_exec.specs.Acts.{At_hand, requested, Does}
+use Rattle.aom_exec.specs.Places.{value_in}
+use Rattle.aom_exec.specs.Agrees.{word_at, Shows, dispatch_of, number, Agrees}
+use Rattle.aom_exec.specs.Acts.{requested, Does}
 use Rattle.aom_exec.specs.Acts as acts
 use Rattle.aom_exec.proofs.Standing.{by_top, stays, an_open}
 
@@ -69,19 +58,6 @@ closing p t s d typed e = go typed.layers (sym typed.tasks ∙ e) typed.good
       entries = λ k. fits_null p (held s.cells) _ (good.fits (Entry k));
       goings = λ k. fits_null p (held s.cells) _ (good.fits (Going k));
     }
-
--- and with no class for a root the root holds nothing
-pub root_null : (p : Image) (t : Typing) (s : State) → IsLinked p → IsAdmitted p → WellTyped p t s → s.tasks ≡ Dispatched Of_main ∷ [] → held s.cells (Elsewhere Root) ≡ None
-root_null p t s linked admitted typed e = go typed.layers (sym typed.tasks ∙ e) typed.good
-  where
-    go : (ls : List Layer) → tasks_of ls ≡ Dispatched Of_main ∷ [] → Good p t s.cells ls → held s.cells (Elsewhere Root) ≡ None
-    go [] e good = cc
-    go (Method fr sh ∷ ls) e good = cc
-    go (Mark gv ∷ ls) e good = cc
-    go (Dying o ∷ ls) e good = cc
-    go (Dispatching Of_root ∷ ls) e good = cc
-    go (Dispatching Of_main ∷ l ∷ ls) e good = cc
-    go (Dispatching Of_main ∷ []) e good = fits_null p (held s.cells) _ (subst (λ r. Fits p (held s.cells) (held s.cells (Elsewhere Root)) (filled (root_thing r 0) Perhaps)) (linked_is_wired p linked admitted).1 (good.fits (Elsewhere Root)))
 
 -- a shorter list, read where the longer one has null
 shorter : (n : ℕ) (xs : List ℕ) (k : ℕ) → slice_index_or xs k null ≡ null → slice_index_or (take n xs) k null ≡ null

@@ -1,11 +1,11 @@
 -- The machine's cells, where owners move and where a cell goes.
-use Rattle.std.proofs.Common.{suc, ◌≡◌, ℕ, pos, ◌+◌, Bool, true, false, cond, ◌==◌, length, List, [], ◌∷◌, Option, Some, None, refl, sym, ap, ◌∙◌, subst, arith}
+use Rattle.std.proofs.Common.{suc, ◌≡◌, ℕ, pos, ◌+◌, Bool, true, false, cond, ◌==◌, length, List, [], ◌∷◌, Some, None, refl, sym, ap, ◌∙◌, arith}
 use Rattle.std.proofs.lemmas.Bool.{eqb-true, eq-eqb, false≢true}
 use Rattle.aom_image.specs.Image.{Image}
 use Rattle.aom_cells.specs.Heap.{Heap, null, cell_at, word_of, count, Changes}
 use Rattle.aom_shape.specs.Tables.{at}
 use Rattle.aom_sound.specs.Places.{Place, Object, Cell, same_place, held, named, moved, without, Tidy, word_field}
-use Rattle.aom_sound.proofs.Maps.{same_place-true, named_moved, named_without, unnamed, held_lives}
+use Rattle.aom_sound.proofs.Maps.{same_place-true, named_moved, named_without, unnamed}
 use Rattle.aom_exec.specs.Agrees.{SameCells, thing_in, thing_of}
 use Rattle.aom_exec.proofs.Values.{cases}
 use Rattle.aom_exec.proofs.CellWords.{words_moved, words_unnamed}

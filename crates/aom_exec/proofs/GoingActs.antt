@@ -1,67 +1,220 @@
--- The going of a cell.
-use Rattle.std.proofs.Common.{suc, ◌≡◌, ℕ, ℤ, ◌+◌, ◌<◌, Bool, true, false, cond, not, ◌==◌, ◌&&◌, length, List, [], ◌∷◌, ◌++◌, Option, Some, None, slice_index_or, refl, sym, ap, ◌∙◌, subst, arith}
+-- How a destruction begins, and the going of a cell.
+use Rattle.std.proofs.Common.{suc, ◌≡◌, ℕ, ℤ, ◌+◌, ◌<◌, Bool, true, false, cond, not, ◌==◌, ◌&&◌, length, List, [], ◌∷◌, ◌++◌, Option, Some, None, slice_set, slice_index_or, refl, sym, ap, ◌∙◌, subst, arith}
 use Rattle.std.proofs.lemmas.Bool.{eqb-true, eq-eqb, false≢true}
+use Rattle.std.proofs.lemmas.List.{length-set}
 use Rattle.aom_image.specs.Image.{Image}
+use Rattle.aom_image.specs.declared.instr.Instr.TheVariants.{Delete}
 use Rattle.aom_image.specs.declared.method.Thing.{Thing}
 use Rattle.aom_image.specs.declared.method.Thing.TheVariants.{Object as An_object_of}
 use Rattle.aom_cells.specs.Heap.{Heap, null, cell_at, class_at, class_of, field_of, field_at, count, Changes}
 use Rattle.aom_cells.specs.declared.cell.Cell.{Cell as Held_cell}
-use Rattle.aom_sound.specs.Places.{Place, Register, Entry, Field, Going, Elsewhere, same_place, Object, Cell, held, named, without, changed}
-use Rattle.aom_sound.specs.State.{Frame, next, Of_main, Of_root, Task, Run, Trapped, Destroy, Dispatched, State}
-use Rattle.aom_sound.specs.Destruction.{is_field_of, owns_nothing}
+use Rattle.aom_shape.specs.Typing.{Typing}
+use Rattle.aom_sound.specs.Places.{Place, Register, Entry, Field, Going, Elsewhere, Root, same_place, Object, Cell, held, named, moved, changed}
+use Rattle.aom_sound.specs.State.{Home, Inside, frame_of, word, set_word, Of_main, Of_root, Task, Run, Trapped, Destroy, Dispatched, resumed, Rest, State, Choice, raised}
+use Rattle.aom_sound.specs.Destruction.{destructor_of, begun, begun_by, is_field_of, owns_nothing}
+use Rattle.aom_sound.specs.Objects.{deleted}
 use Rattle.aom_sound.specs.Moves.{goes_line}
+use Rattle.aom_sound.specs.WellTyped.{WellTyped}
 use Rattle.aom_sound.specs.declared.line.Line.TheVariants.{Gone}
-use Rattle.aom_sound.proofs.Maps.{same_place-true, held_without, held_lives}
+use Rattle.aom_sound.proofs.Maps.{same_place-true, held_moved, held_without, held_lives}
 use Rattle.aom_lines.specs.Turn.{Turn}
-use Rattle.aom_frames.specs.Tasks.{on_top, with_place, place_here}
+use Rattle.aom_frames.specs.Tasks.{fresh, on_top, with_place, with_register, place_here, register_here}
 use Rattle.aom_frames.specs.declared.frame.Frame.{Frame as Held_frame}
 use Rattle.aom_frames.specs.declared.task.Task.{Task as Held_task}
 use Rattle.aom_frames.specs.declared.task.Task.TheVariants.{Run as Runs_frame, Trapped as Is_trap, Destroy as Destroys, Dispatched as Ends}
-use Rattle.aom_frames.specs.declared.task.Dispatch.TheVariants.{Main}
+use Rattle.aom_frames.specs.declared.task.Dispatch.TheVariants.{Main, Root as End_of_run}
 use Rattle.aom_exec.specs.declared.parts.Parts.{Parts}
-use Rattle.aom_exec.specs.Places.{value_in, going_in, going_here, with_tasks, below_first}
-use Rattle.aom_exec.specs.Agrees.{word_at, Shows, SameFrame, SameTasks, thing_in, thing_of, number, Agrees}
-use Rattle.aom_exec.specs.Acts.{In_going, without_going, GoesAway}
+use Rattle.aom_exec.specs.Places.{value_in, register_in, going_in, going_here, with_tasks, below_first}
+use Rattle.aom_exec.specs.Going.{destructor_in, destructor_at, destroying, uprooted}
+use Rattle.aom_exec.specs.Agrees.{word_in, word_at, Shows, SameTask, SameTasks, thing_in, thing_of, number, Agrees}
+use Rattle.aom_exec.specs.Acts.{At_hand, requested, In_going, without_going, DoesIn, GoesAway}
 use Rattle.aom_exec.specs.Acts as acts
-use Rattle.aom_exec.proofs.Values.{cases, same_length, kept, writes, value_kept, word_next, going_past, destroys_value, destroys_word}
-use Rattle.aom_exec.proofs.Cells.{cells_without}
-use Rattle.aom_exec.proofs.Standing.{moved_on, GoesOver, goes_over}
+use Rattle.aom_exec.proofs.Values.{cases, same_length, kept, moves, writes, at_depth, register_past, going_past, word_past, value_here, value_kept, value_written, word_next, word_written, destroys_value, destroys_word}
+use Rattle.aom_exec.proofs.Standing.{Top, by_top, reframed, moved_on, begun_frame, begun_registers, word_here, no_word, an_open, nothing_held}
+use Rattle.aom_exec.proofs.Cells.{cells_moved, cells_without}
+use Rattle.aom_exec.proofs.ObjectActs.{shown}
+
+-- a method at its first place shows nothing, and has no word
+pub fresh_value : (method this : ℕ) (us : List Held_task) (h : Heap) (es : List ℕ) (root : ℕ) (r : Place) → value_in (Runs_frame (fresh method this) ∷ us) h es root r ≡ value_in us h es root r
+fresh_value method this us h es root (Register d i) =
+    at_depth (length us) d (slice_index_or (fresh method this).registers i null) (register_in us d i) (λ k. register_past us d i (omega arith) ∙ sym (begun_registers method this i))
+fresh_value method this us h es root (Going d) = at_depth (length us) d null (going_in us d) (λ k. going_past us d (omega arith))
+fresh_value method this us h es root (Entry k) = refl
+fresh_value method this us h es root (Field n f) = refl
+fresh_value method this us h es root (Elsewhere o) = refl
+
+pub fresh_word : (method : ℕ) (home : Home) (height : ℕ) (ts : List Task) (r : Place) → word_at (Run (frame_of method home height) ∷ ts) r ≡ word_at ts r
+fresh_word method home height ts (Register d i) = at_depth (length ts) d None (word_in ts d i) (λ k. word_past ts d i (omega arith))
+fresh_word method home height ts (Entry k) = refl
+fresh_word method home height ts (Field n f) = refl
+fresh_word method home height ts (Going k) = refl
+fresh_word method home height ts (Elsewhere o) = refl
+
+-- the destructor that the machine finds is the one that the checked machine runs
+destructor_same : (p : Image) (m : Parts) (t : Typing) (s : State) → WellTyped p t s → Agrees p m s → (r : Place) (o : Object) → held s.cells r ≡ Some o → destructor_at p m.cells o.name ≡ destructor_of p o.thing
+destructor_same p m t s typed agrees r o e = go (cell_at m.cells o.name) o.thing (agrees.cells.things o.name ∙ ap thing_of (held_lives s.cells r o typed.good.tidy e))
+  where
+    go : (c : Option Held_cell) (x : Thing) → thing_in c ≡ Some x → destructor_in p (class_of c) ≡ destructor_of p x
+    go None x e = cc
+    go (Some c) x e = let same : An_object_of c.class ≡ x = cc in ap (destructor_of p) same
+
+-- what a place owned is at hand to go, and the place is null
+module _ (p : Image) (m : Parts) (s : State) (us : List Held_task) (ts : List Task) (from : Place) (root n : ℕ) where
+  abbrev gone_from : List Cell
+  gone_from = moved from (Going (length ts)) s.cells
+
+  abbrev DyingShows : Type 0
+  DyingShows = (q : Place) → Shows (value_in (Destroys n ∷ us) m.cells m.entries.items root q) (word_at (Destroy ∷ ts) q) (held gone_from q)
+
+  dying_shows : (v : Place → ℕ) (w : Place → Option ℤ) → ((q : Place) → Shows (v q) (w q) (held s.cells q)) → length us ≡ length ts → w from ≡ None → v from ≡ n → held s.cells (Going (length ts)) ≡ None
+      → ((q : Place) → value_in us m.cells m.entries.items root q ≡ changed v from null q) → ((q : Place) → word_at ts q ≡ w q) → DyingShows
+  dying_shows v w old deep no_word is empty ev ew =
+      let there = Going (length ts) in
+      moves v _ w _ (held s.cells) _ from there old no_word
+      (λ q. destroys_value us m.cells m.entries.items root n (length ts) deep q ∙ ap (λ x. cond (same_place there q) n x) (ev q) ∙ ap (λ x. changed (changed v from null) there x q) (sym is))
+      (λ q. destroys_word ts (length ts) q ∙ ap (λ x. cond (same_place there q) None x) (ew q))
+      (λ q. held_moved s.cells from there q empty)
+
+  begins : (d : Option ℕ) (o : Object) (height : ℕ) (r r' : Rest) → n ≡ o.name → r ≡ r' → SameTasks us ts → Agrees p m s → DyingShows
+      → Agrees p (record m { stack = record m.stack { tasks = destroying d n us }; root = root; rest = r }) (record s { cells = gone_from; tasks = begun_by d o height ts; rest = r' })
+  begins None o height r r' name rest same agrees values = record {
+    tasks = (tt, same);
+    values = values;
+    cells = cells_moved p m.cells s.cells from (Going (length ts)) agrees.cells;
+    entries = agrees.entries;
+    rest = rest;
+    room = agrees.room;
+  }
+  begins (Some k) o height r r' name rest same agrees values =
+      let home = Inside o (Going (length ts)) in
+      record {
+        tasks = (begun_frame k n home height name, (tt, same));
+        values = λ q.
+            subst (λ x. Shows x (word_at (Run (frame_of k home height) ∷ Destroy ∷ ts) q) (held gone_from q)) (sym (fresh_value k n (Destroys n ∷ us) m.cells m.entries.items root q))
+            (subst (λ w. Shows (value_in (Destroys n ∷ us) m.cells m.entries.items root q) w (held gone_from q)) (sym (fresh_word k home height (Destroy ∷ ts) q)) (values q));
+        cells = cells_moved p m.cells s.cells from (Going (length ts)) agrees.cells;
+        entries = agrees.entries;
+        rest = rest;
+        room = agrees.room;
+      }
+
+module _ (p : Image) (m : Parts) (refused : List ℕ) where
+  pub delete_does : (a : ℕ) → a < 16 → (register_here m.stack.tasks a ≡ null → ⊥)
+      → DoesIn p refused (Delete a) m (with_tasks (destroying (destructor_at p m.cells (register_here m.stack.tasks a)) (register_here m.stack.tasks a) (on_top (with_register a null) m.stack.tasks)) m)
+  delete_does a small is h =
+      let c = an_open p refused m h.state h.agrees in (
+        c.0,
+        c.1,
+        λ needs typed. by_top p m h
+            (λ us. (register_here us a ≡ null → ⊥) → Agrees p (with_tasks (destroying (destructor_at p m.cells (register_here us a)) (register_here us a) (on_top (with_register a null) us)) m) (deleted p c.0 h.frame h.below (requested (Delete a) h.state) (held h.state.cells (Register (length h.below) a)) a))
+            (λ f ms top is. object c.0 f ms top (no_word _ needs.0) (held h.state.cells (Register (length h.below) a)) refl (λ n. is (shown p m h f ms top a (no_word _ needs.0) ∙ n)))
+            is,
+      )
+    where
+      object : (c : Choice) (f : Held_frame) (ms : List Held_task) → Top m h.state h.frame h.below f ms → word h.frame a ≡ None → (o : Option Object) → held h.state.cells (Register (length h.below) a) ≡ o → (number o ≡ null → ⊥)
+          → Agrees p (with_tasks (destroying (destructor_at p m.cells (slice_index_or f.registers a null)) (slice_index_or f.registers a null) (Runs_frame (record f { registers = slice_set f.registers a null }) ∷ ms)) m) (deleted p c h.frame h.below (requested (Delete a) h.state) o a)
+      object c f ms top none None e n = absurd (n refl)
+      object c f ms top none (Some o) e n =
+          let s = h.state in
+          let fr = h.frame in
+          let ts = h.below in
+          let here = Register (length ts) a in
+          let k = slice_index_or f.registers a null in
+          let wide = top.frame.wide in
+          let us = Runs_frame (record f { registers = slice_set f.registers a null }) ∷ ms in
+          let vs = Run (set_word fr a None) ∷ ts in
+          let was = word_here fr ts a ∙ none in
+          let name : k ≡ o.name = shown p m h f ms top a none ∙ ap number e in
+          let empty : held s.cells (Going (suc (length ts))) ≡ None = nothing_held p m h.typing s h.typed h.agrees (Going (suc (length ts))) (sym (going_past (Runs_frame f ∷ ms) (suc (length ts)) (let d = top.deep in omega arith)) ∙ top.values (Going (suc (length ts)))) in
+          subst (λ d. Agrees p (with_tasks (destroying d k us) m) (record s { cells = moved here (Going (suc (length ts))) s.cells; tasks = begun p o (length s.items) vs }))
+          (sym (ap (destructor_at p m.cells) name ∙ destructor_same p m h.typing s h.typed h.agrees here o e))
+          (begins p m s us vs here m.root k (destructor_of p o.thing) o (length s.items) m.rest s.rest name h.agrees.rest
+          (reframed f fr (slice_set f.registers a null) _ f.place fr.place top.frame (length-set f.registers a null ∙ wide) top.frame.place, top.below) h.agrees
+          (dying_shows p m s us vs here m.root k (value_in (Runs_frame f ∷ ms) m.cells m.entries.items m.root) (word_at (Run fr ∷ ts)) top.values (ap suc top.deep) was
+          (value_here f ms m.cells m.entries.items m.root (length ts) a top.deep) empty
+          (value_written f ms m.cells m.entries.items m.root (length ts) a null f.place top.deep (omega arith))
+          (λ q. word_written fr ts a fr.place None q ∙ sym (kept (word_at (Run fr ∷ ts)) here q ∙ ap (λ x. changed (word_at (Run fr ∷ ts)) here x q) was))))
+
+-- the root is null, and else all is as it was
+root_taken : (h : Heap) (es : List ℕ) (root : ℕ) (q : Place) → value_in (Ends End_of_run ∷ []) h es null q ≡ changed (value_in (Ends Main ∷ []) h es root) (Elsewhere Root) null q
+root_taken h es root (Register d i) = refl
+root_taken h es root (Entry k) = refl
+root_taken h es root (Field n f) = refl
+root_taken h es root (Going k) = refl
+root_taken h es root (Elsewhere Root) = refl
+
+no_words : (q : Place) → word_at (Dispatched Of_root ∷ []) q ≡ word_at (Dispatched Of_main ∷ []) q
+no_words (Register d i) = refl
+no_words (Entry k) = refl
+no_words (Field n f) = refl
+no_words (Going k) = refl
+no_words (Elsewhere o) = refl
+
+-- where main's dispatch is at its end, the root is at hand to go
+pub uproots : (p : Image) (m : Parts) (t : Typing) (s : State) (o : Object) (r : Rest) → WellTyped p t s → Agrees p m s → m.stack.tasks ≡ Ends Main ∷ [] → s.tasks ≡ Dispatched Of_main ∷ [] → held s.cells (Elsewhere Root) ≡ Some o → record m.rest { clock = raised m.rest.clock } ≡ r
+    → Agrees p (uprooted p m) (record s { cells = moved (Elsewhere Root) (Going 1) s.cells; tasks = begun p o (length s.items) (Dispatched Of_root ∷ []); rest = r })
+uproots p m t s o r typed agrees held_top top e rest =
+    let v = value_in (Ends Main ∷ []) m.cells m.entries.items m.root in
+    let w = word_at (Dispatched Of_main ∷ []) in
+    let u = record s { cells = moved (Elsewhere Root) (Going 1) s.cells; tasks = begun p o (length s.items) (Dispatched Of_root ∷ []); rest = r } in
+    let rest' = record m.rest { clock = raised m.rest.clock } in
+    let values : (q : Place) → Shows (v q) (w q) (held s.cells q) = λ q. subst (λ us. Shows (v q) (word_at us q) (held s.cells q)) top (subst (λ us. Shows (value_in us m.cells m.entries.items m.root q) (word_at s.tasks q) (held s.cells q)) held_top (agrees.values q)) in
+    let name : m.root ≡ o.name = values (Elsewhere Root) ∙ ap number e in
+    subst (λ ms. Agrees p (record m { stack = record m.stack { tasks = destroying (destructor_at p m.cells m.root) m.root (Ends End_of_run ∷ ms) }; root = null; rest = rest' }) u) (sym (ap below_first held_top))
+    (subst (λ d. Agrees p (record m { stack = record m.stack { tasks = destroying d m.root (Ends End_of_run ∷ []) }; root = null; rest = rest' }) u) (sym (ap (destructor_at p m.cells) name ∙ destructor_same p m t s typed agrees (Elsewhere Root) o e))
+    (begins p m s (Ends End_of_run ∷ []) (Dispatched Of_root ∷ []) (Elsewhere Root) null m.root (destructor_of p o.thing) o (length s.items) rest' r name rest (refl, tt) agrees
+    (dying_shows p m s (Ends End_of_run ∷ []) (Dispatched Of_root ∷ []) (Elsewhere Root) null m.root v w values refl refl refl (nothing_held p m t s typed agrees (Going 1) (values (Going 1))) (root_taken m.cells m.entries.items m.root) no_words)))
 
 -- what is known of the machine, taken apart
-pub record Ends_cell (m : Parts) (s : State) (x : ℕ) (f : Held_frame) (ms : List Held_task) (fr : Frame) (ts : List Task) : Type 0 where
-  pub frame : SameFrame f fr
+pub record Ends_cell (m : Parts) (s : State) (x : ℕ) (ms : List Held_task) (ts : List Task) : Type 0 where
   pub below : SameTasks ms ts
   pub deep : length ms ≡ length ts
-  pub values : (r : Place) → Shows (value_in (Destroys x ∷ Runs_frame f ∷ ms) m.cells m.entries.items m.root r) (word_at (Destroy ∷ Run fr ∷ ts) r) (held s.cells r)
+  pub values : (r : Place) → Shows (value_in (Destroys x ∷ ms) m.cells m.entries.items m.root r) (word_at (Destroy ∷ ts) r) (held s.cells r)
 
-pub by_going : (p : Image) (m : Parts) (h : In_going p m) (G : List Held_task → List Task → Type 0)
-    → ((x : ℕ) (f : Held_frame) (ms : List Held_task) (fr : Frame) (ts : List Task) → Ends_cell m h.state x f ms fr ts → G (Destroys x ∷ Runs_frame f ∷ ms) (Run fr ∷ ts)) → G m.stack.tasks h.below
+pub by_going : (p : Image) (m : Parts) (h : In_going p m) (G : List Held_task → Type 0)
+    → ((x : ℕ) (ms : List Held_task) → Ends_cell m h.state x ms h.below → G (Destroys x ∷ ms)) → G m.stack.tasks
 by_going p m h G show =
-    go m.stack.tasks h.below
+    go m.stack.tasks
     (subst (λ us. SameTasks m.stack.tasks us) h.top h.agrees.tasks)
     (λ r. subst (λ us. Shows (value_in m.stack.tasks m.cells m.entries.items m.root r) (word_at us r) (held h.state.cells r)) h.top (h.agrees.values r))
-    (goes_over p h.typing h.state h.below h.typed h.top)
   where
-    go : (ms : List Held_task) (ts : List Task) → SameTasks ms (Destroy ∷ ts) → ((r : Place) → Shows (value_in ms m.cells m.entries.items m.root r) (word_at (Destroy ∷ ts) r) (held h.state.cells r)) → GoesOver ts → G ms ts
-    go [] ts same values over = absurd same
-    go (Runs_frame f ∷ ms) ts same values over = absurd same.0
-    go (Is_trap ∷ ms) ts same values over = absurd same.0
-    go (Ends d ∷ ms) ts same values over = absurd same.0
-    go (Destroys x ∷ ms) [] same values over = absurd over
-    go (Destroys x ∷ ms) (Trapped ∷ ts) same values over = absurd over
-    go (Destroys x ∷ ms) (Destroy ∷ ts) same values over = absurd over
-    go (Destroys x ∷ ms) (Dispatched Of_main ∷ ts) same values over = absurd over
-    go (Destroys x ∷ Ends Main ∷ ms) (Dispatched Of_root ∷ ts) same values over = let clash : Of_main ≡ Of_root = same.1.0 in cc
-    go (Destroys x ∷ Runs_frame f ∷ ms) (Dispatched Of_root ∷ ts) same values over = absurd same.1.0
-    go (Destroys x ∷ Is_trap ∷ ms) (Dispatched Of_root ∷ ts) same values over = absurd same.1.0
-    go (Destroys x ∷ Destroys y ∷ ms) (Dispatched Of_root ∷ ts) same values over = absurd same.1.0
-    go (Destroys x ∷ []) (Dispatched Of_root ∷ ts) same values over = absurd same.1
-    go (Destroys x ∷ []) (Run fr ∷ ts) same values over = absurd same.1
-    go (Destroys x ∷ Is_trap ∷ ms) (Run fr ∷ ts) same values over = absurd same.1.0
-    go (Destroys x ∷ Destroys y ∷ ms) (Run fr ∷ ts) same values over = absurd same.1.0
-    go (Destroys x ∷ Ends d ∷ ms) (Run fr ∷ ts) same values over = absurd same.1.0
-    go (Destroys x ∷ Runs_frame f ∷ ms) (Run fr ∷ ts) same values over =
-        show x f ms fr ts (record { frame = same.1.0; below = same.1.1; deep = same_length ms ts same.1.1; values = values })
+    go : (ms : List Held_task) → SameTasks ms (Destroy ∷ h.below) → ((r : Place) → Shows (value_in ms m.cells m.entries.items m.root r) (word_at (Destroy ∷ h.below) r) (held h.state.cells r)) → G ms
+    go [] same values = absurd same
+    go (Runs_frame f ∷ ms) same values = absurd same.0
+    go (Is_trap ∷ ms) same values = absurd same.0
+    go (Ends d ∷ ms) same values = absurd same.0
+    go (Destroys x ∷ ms) same values = show x ms (record { below = same.1; deep = same_length ms h.below same.1; values = values })
+
+-- the method below goes on, if there is one
+abbrev pub going_on : List Held_task → List Held_task
+going_on ms = on_top (with_place (suc (place_here ms))) ms
+
+same_resumed : (ms : List Held_task) (ts : List Task) → SameTasks ms ts → SameTasks (going_on ms) (resumed ts)
+same_resumed [] [] same = tt
+same_resumed [] (t ∷ ts) same = absurd same
+same_resumed (m ∷ ms) [] same = absurd same
+same_resumed (m ∷ ms) (t ∷ ts) same = heads m t same.0
+  where
+    heads : (m : Held_task) (t : Task) → SameTask m t → SameTasks (going_on (m ∷ ms)) (resumed (t ∷ ts))
+    heads (Runs_frame f) (Run fr) e = (moved_on f fr f.registers fr.words e e.wide, same.1)
+    heads Is_trap Trapped e = (tt, same.1)
+    heads (Destroys x) Destroy e = (tt, same.1)
+    heads (Ends d) (Dispatched x) e = (e, same.1)
+    heads m t e = absurd e
+
+value_resumed : (ms : List Held_task) (h : Heap) (es : List ℕ) (root : ℕ) (r : Place) → value_in (going_on ms) h es root r ≡ value_in ms h es root r
+value_resumed [] h es root r = refl
+value_resumed (Runs_frame f ∷ ms) h es root r = value_kept f ms h es root (suc f.place) r
+value_resumed (Is_trap ∷ ms) h es root r = refl
+value_resumed (Destroys x ∷ ms) h es root r = refl
+value_resumed (Ends d ∷ ms) h es root r = refl
+
+word_resumed : (ts : List Task) (r : Place) → word_at (resumed ts) r ≡ word_at ts r
+word_resumed [] r = refl
+word_resumed (Run fr ∷ ts) r = word_next fr ts (suc fr.place) r
+word_resumed (Trapped ∷ ts) r = refl
+word_resumed (Destroy ∷ ts) r = refl
+word_resumed (Dispatched d ∷ ts) r = refl
 
 -- no field of that cell owns
 nothing_owned : (cs : List Cell) (n f : ℕ) → owns_nothing cs n ≡ true → held cs (Field n f) ≡ None
@@ -108,32 +261,32 @@ thing_is t class (Some c) e f =
 
 module _ (p : Image) (m : Parts) (h : In_going p m) (o : Object) where
   -- the number that goes is the object's
-  pub number_of : (x : ℕ) (f : Held_frame) (ms : List Held_task) (fr : Frame) (ts : List Task) → Ends_cell m h.state x f ms fr ts → held h.state.cells (Going (suc (length ts))) ≡ Some o → x ≡ o.name
-  number_of x f ms fr ts top holds =
-      let d = suc (length ts) in
-      let at : value_in (Destroys x ∷ Runs_frame f ∷ ms) m.cells m.entries.items m.root (Going d) ≡ x = ap (λ b. cond b x (going_in (Runs_frame f ∷ ms) d)) (eq-eqb (suc (length ms)) d (ap suc top.deep)) in
+  pub number_of : (x : ℕ) (ms : List Held_task) → Ends_cell m h.state x ms h.below → held h.state.cells (Going (length h.below)) ≡ Some o → x ≡ o.name
+  number_of x ms top holds =
+      let d = length h.below in
+      let at : value_in (Destroys x ∷ ms) m.cells m.entries.items m.root (Going d) ≡ x = ap (λ b. cond b x (going_in ms d)) (eq-eqb (length ms) d top.deep) in
       sym at ∙ top.values (Going d) ∙ ap number holds
 
   thing_of_it : (n class : ℕ) → class_at m.cells n ≡ Some class → n ≡ o.name → named h.state.cells o.name ≡ Some o → o.thing ≡ An_object_of class
   thing_of_it n class is name lives = thing_is o.thing class (cell_at m.cells n) is (h.agrees.cells.things n ∙ ap (λ k. thing_of (named h.state.cells k)) name ∙ ap thing_of lives)
 
   goes : (heap : Heap) → owns_nothing h.state.cells o.name ≡ true → Changes m.cells heap o.name None → count heap + 1 ≡ count m.cells
-      → (x : ℕ) (f : Held_frame) (ms : List Held_task) (fr : Frame) (ts : List Task) → Ends_cell m h.state x f ms fr ts → held h.state.cells (Going (suc (length ts))) ≡ Some o
-      → Agrees p (acts.next (record (with_tasks (Runs_frame f ∷ ms) m) { cells = heap })) (record h.state { cells = without (Going (suc (length ts))) h.state.cells; tasks = Run (next fr) ∷ ts })
-  goes heap free gone less x f ms fr ts top holds =
+      → (x : ℕ) (ms : List Held_task) → Ends_cell m h.state x ms h.below → held h.state.cells (Going (length h.below)) ≡ Some o
+      → Agrees p (acts.next (record (with_tasks ms m) { cells = heap })) (without_going h.state h.below)
+  goes heap free gone less x ms top holds =
       let s = h.state in
-      let d = suc (length ts) in
-      let before = value_in (Destroys x ∷ Runs_frame f ∷ ms) m.cells m.entries.items m.root in
-      let under = value_in (Runs_frame f ∷ ms) m.cells m.entries.items m.root in
-      let f' = record f { place = suc f.place } in
-      let deep : suc (length ms) ≡ d = ap suc top.deep in
+      let ts = h.below in
+      let d = length ts in
+      let deep = top.deep in
+      let before = value_in (Destroys x ∷ ms) m.cells m.entries.items m.root in
+      let under = value_in ms m.cells m.entries.items m.root in
       record {
-        tasks = (moved_on f fr f.registers fr.words top.frame top.frame.wide, top.below);
-        values = writes before _ (word_at (Destroy ∷ Run fr ∷ ts)) _ (held s.cells) _ (Going d) null None None top.values refl
-            (λ r. fields_gone (Runs_frame f' ∷ ms) m.cells heap m.entries.items m.root o.name (λ g. top.values (Field o.name g) ∙ ap number (nothing_owned s.cells o.name g free)) gone r
-            ∙ value_kept f ms m.cells m.entries.items m.root (suc f.place) r
-            ∙ sym (over before under (Going d) x null (destroys_value (Runs_frame f ∷ ms) m.cells m.entries.items m.root x d deep) (going_past (Runs_frame f ∷ ms) d (omega arith)) r))
-            (λ r. word_next fr ts (suc fr.place) r ∙ sym (over (word_at (Destroy ∷ Run fr ∷ ts)) (word_at (Run fr ∷ ts)) (Going d) None None (destroys_word (Run fr ∷ ts) d) refl r))
+        tasks = same_resumed ms ts top.below;
+        values = writes before _ (word_at (Destroy ∷ ts)) _ (held s.cells) _ (Going d) null None None top.values refl
+            (λ r. fields_gone (going_on ms) m.cells heap m.entries.items m.root o.name (λ g. top.values (Field o.name g) ∙ ap number (nothing_owned s.cells o.name g free)) gone r
+            ∙ value_resumed ms m.cells m.entries.items m.root r
+            ∙ sym (over before under (Going d) x null (destroys_value ms m.cells m.entries.items m.root x d deep) (going_past ms d (omega arith)) r))
+            (λ r. word_resumed ts r ∙ sym (over (word_at (Destroy ∷ ts)) (word_at ts) (Going d) None None (destroys_word ts d) refl r))
             (held_without s.cells (Going d));
         cells = cells_without p m.cells heap s.cells (Going d) o h.agrees.cells h.typed.good.tidy holds gone less;
         entries = h.agrees.entries;
@@ -145,10 +298,10 @@ pub go_does : (m : Parts) (heap : Heap) (n class : ℕ) (told : Turn) → n ≡ 
     → GoesAway m (acts.next (record (with_tasks (below_first m.stack.tasks) m) { cells = heap })) told (record told { lines = told.lines ++ Gone class ∷ [] })
 go_does m heap n class told which is gone less p h o holds free =
     by_going p m h
-    (λ us ts. n ≡ going_here us → held h.state.cells (Going (length ts)) ≡ Some o → Agrees p (acts.next (record (with_tasks (below_first us) m) { cells = heap })) (without_going h.state ts) × (record told { lines = told.lines ++ Gone class ∷ [] } ≡ record told { lines = told.lines ++ goes_line (Some o) }))
-    (λ x f ms fr ts top which holds.
-    let name : n ≡ o.name = which ∙ number_of p m h o x f ms fr ts top holds in (
-      goes p m h o heap free (subst (λ k. Changes m.cells heap k None) name gone) less x f ms fr ts top holds,
+    (λ us. n ≡ going_here us → Agrees p (acts.next (record (with_tasks (below_first us) m) { cells = heap })) (without_going h.state h.below) × (record told { lines = told.lines ++ Gone class ∷ [] } ≡ record told { lines = told.lines ++ goes_line (Some o) }))
+    (λ x ms top which.
+    let name : n ≡ o.name = which ∙ number_of p m h o x ms top holds in (
+      goes p m h o heap free (subst (λ k. Changes m.cells heap k None) name gone) less x ms top holds,
       ap (λ ls. record told { lines = told.lines ++ ls }) (sym (line_of o class (thing_of_it p m h o n class is name (held_lives h.state.cells _ o h.typed.good.tidy holds)))),
     ))
-    which holds
+    which

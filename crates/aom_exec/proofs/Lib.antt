@@ -4,8 +4,8 @@ pub mod Standing
 pub mod Cells
 pub mod CellFields
 pub mod Moving
-pub mod Admits
 pub mod WordActs
+pub mod LoopActs
 pub mod ObjectActs
 pub mod MoveActs
 pub mod FieldActs
@@ -15,6 +15,7 @@ pub mod GoingActs
 pub mod Stepping
 pub mod Housing
 pub mod Rooms
+pub mod Ends
 pub mod Finding
 pub mod Announcing
 pub mod Ranking

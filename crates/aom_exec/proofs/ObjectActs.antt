@@ -1,38 +1,32 @@
--- Instructions on objects: a jump where there is none, a new cell, a destruction that begins.
-use Rattle.std.proofs.Common.{inl, inr, suc, ◌≡◌, ◌≢◌, ℕ, ◌<◌, ◌+◌, Bool, true, false, cond, ◌==◌, ◌||◌, length, List, [], ◌∷◌, Option, Some, None, replicate, slice_set, slice_index_or, refl, sym, ap, ◌∙◌, subst, arith, ℤ, pos}
+-- Instructions on objects: a jump where there is none, a new cell, the destruction of nothing.
+use Rattle.std.proofs.Common.{inl, inr, suc, ◌≡◌, ◌≢◌, ℕ, ◌<◌, ◌+◌, Bool, true, false, cond, ◌==◌, ◌||◌, length, List, ◌∷◌, Option, Some, None, replicate, slice_set, slice_index_or, refl, sym, ap, ◌∙◌, subst, arith, ℤ, pos}
 use Rattle.std.specs.Prelude.{nat_le}
 use Rattle.std.specs.List.{list_any}
-use Rattle.std.proofs.lemmas.List.{get_or_past, length-set, length-replicate, get_or-replicate}
-use Rattle.std.proofs.lemmas.Bool.{cases_lt, eq-eqb, eqb-true, false≢true}
+use Rattle.std.proofs.lemmas.List.{length-set, length-replicate}
+use Rattle.std.proofs.lemmas.Bool.{eq-eqb, eqb-true, false≢true}
 use Rattle.aom_image.specs.Image.{Image}
 use Rattle.aom_image.specs.declared.instr.Instr.TheVariants.{JumpNull, New, Delete}
 use Rattle.aom_image.specs.declared.method.Thing.TheVariants.{Object as An_object_of}
-use Rattle.aom_classes.specs.Admitted.{IsAdmitted}
 use Rattle.aom_cells.specs.Heap.{Heap, null, cell_at, word_of, field_of, count, blank, Changes}
 use Rattle.aom_shape.specs.Tables.{at}
 use Rattle.aom_shape.specs.Things.{words_of}
-use Rattle.aom_sound.specs.Places.{Place, Register, Entry, Field, Going, Elsewhere, same_place, Object, Cell, held, named, moved, changed, with_new, word_field}
-use Rattle.aom_sound.specs.State.{Frame, word, next, set_word, Task, Run, Rest, State, Choice, raised}
-use Rattle.aom_sound.specs.Destruction.{begun_by}
+use Rattle.aom_sound.specs.Places.{Place, Register, Entry, Field, Going, Elsewhere, Object, Cell, held, named, changed, with_new, word_field}
+use Rattle.aom_sound.specs.State.{word, next, set_word, Run, Rest, State, Choice, raised}
 use Rattle.aom_sound.specs.Objects.{jumped, deleted}
-use Rattle.aom_sound.specs.Moves.{is_refused, IsOpen}
-use Rattle.aom_sound.specs.WellTyped.{WellTyped}
-use Rattle.aom_sound.proofs.Maps.{held_moved, named_moved, held_lives}
+use Rattle.aom_sound.specs.Moves.{is_refused}
 use Rattle.aom_lines.specs.Turn.{Turn}
 use Rattle.aom_frames.specs.Tasks.{on_top, with_place, with_register, place_here, register_here}
 use Rattle.aom_frames.specs.declared.frame.Frame.{Frame as Held_frame}
 use Rattle.aom_frames.specs.declared.task.Task.{Task as Held_task}
-use Rattle.aom_frames.specs.declared.task.Task.TheVariants.{Run as Runs_frame, Destroy as Destroys}
+use Rattle.aom_frames.specs.declared.task.Task.TheVariants.{Run as Runs_frame}
 use Rattle.aom_exec.specs.declared.parts.Parts.{Parts}
 use Rattle.aom_exec.specs.Places.{value_in, with_tasks}
-use Rattle.aom_exec.specs.Agrees.{word_at, Shows, number, SameTasks, SameCells, thing_in, thing_of, Agrees}
-use Rattle.aom_exec.specs.Acts.{At_hand, requested, set_register, Does, refuses, Made}
+use Rattle.aom_exec.specs.Agrees.{Shows, number, SameCells, thing_in, thing_of, Agrees}
+use Rattle.aom_exec.specs.Acts.{At_hand, requested, set_register, Does, DoesIn, refuses, Made}
 use Rattle.aom_exec.specs.Acts as acts
-use Rattle.aom_exec.proofs.Values.{cases, moves, writes, kept, value_here, value_written, word_written, destroys_value, destroys_word, going_past}
-use Rattle.aom_exec.proofs.Standing.{Top, by_top, goes_on, stays, reframed, moved_on, word_here, register_shows, free, no_word, unnamed, an_open, not_null, nothing_held}
+use Rattle.aom_exec.proofs.Values.{cases, writes, kept, value_written, word_written}
+use Rattle.aom_exec.proofs.Standing.{Top, by_top, goes_on, stays, moved_on, register_shows, free, no_word, unnamed, an_open, not_null, nothing_held}
 use Rattle.aom_exec.proofs.CellWords.{all_same, zeros_at}
-use Rattle.aom_exec.proofs.Cells.{cells_moved}
-use Rattle.aom_exec.proofs.Admits.{no_destructor}
 
 -- what a register shows that has no word
 pub shown : (p : Image) (m : Parts) (h : At_hand p m) (f : Held_frame) (ms : List Held_task) → Top m h.state h.frame h.below f ms → (a : ℕ) → word h.frame a ≡ None → slice_index_or f.registers a null ≡ number (held h.state.cells (Register (length h.below) a))
@@ -84,8 +78,8 @@ module _ (m : Parts) (refused : List ℕ) where
       (word_written fr ts a (suc fr.place) None)
       (λ q. kept (held s.cells) (Register (length ts) a) q ∙ ap (λ o. changed (held s.cells) (Register (length ts) a) o q) none))
 
-  pub delete_null_does : (a : ℕ) → a < 16 → register_here m.stack.tasks a ≡ null → Does refused (Delete a) m (acts.next (set_register a null m))
-  delete_null_does a small is p admitted h =
+  pub delete_null_does : (p : Image) (a : ℕ) → a < 16 → register_here m.stack.tasks a ≡ null → DoesIn p refused (Delete a) m (acts.next (set_register a null m))
+  delete_null_does p a small is h =
       let c = an_open p refused m h.state h.agrees in (
         c.0,
         c.1,
@@ -97,48 +91,6 @@ module _ (m : Parts) (refused : List ℕ) where
             (nulled p h a m.rest _ f ms small h.agrees.rest top none))
             is,
       )
-
-  pub delete_does : (a : ℕ) → a < 16 → (register_here m.stack.tasks a ≡ null → ⊥)
-      → Does refused (Delete a) m (with_tasks (Destroys (register_here m.stack.tasks a) ∷ on_top (with_register a null) m.stack.tasks) m)
-  delete_does a small is p admitted h =
-      let c = an_open p refused m h.state h.agrees in (
-        c.0,
-        c.1,
-        λ needs typed. by_top p m h
-            (λ us. (register_here us a ≡ null → ⊥) → Agrees p (with_tasks (Destroys (register_here us a) ∷ on_top (with_register a null) us) m) (deleted p c.0 h.frame h.below (requested (Delete a) h.state) (held h.state.cells (Register (length h.below) a)) a))
-            (λ f ms top is. object c.0 f ms top (no_word _ needs.0) (held h.state.cells (Register (length h.below) a)) (λ n. is (shown p m h f ms top a (no_word _ needs.0) ∙ n)))
-            is,
-      )
-    where
-      object : (c : Choice) (f : Held_frame) (ms : List Held_task) → Top m h.state h.frame h.below f ms → word h.frame a ≡ None → (o : Option Object) → (number o ≡ null → ⊥)
-          → Agrees p (with_tasks (Destroys (slice_index_or f.registers a null) ∷ Runs_frame (record f { registers = slice_set f.registers a null }) ∷ ms) m) (deleted p c h.frame h.below (requested (Delete a) h.state) o a)
-      object c f ms top none None n = absurd (n refl)
-      object c f ms top none (Some o) n =
-          let s = h.state in
-          let fr = h.frame in
-          let ts = h.below in
-          let here = Register (length ts) a in
-          let there = Going (suc (length ts)) in
-          let v = value_in (Runs_frame f ∷ ms) m.cells m.entries.items m.root in
-          let k = slice_index_or f.registers a null in
-          let wide = top.frame.wide in
-          let f' = record f { registers = slice_set f.registers a null } in
-          let deep : length (Runs_frame f' ∷ ms) ≡ suc (length ts) = ap suc top.deep in
-          let empty : held s.cells there ≡ None = nothing_held p m h.typing s h.typed h.agrees there (sym (going_past (Runs_frame f ∷ ms) (suc (length ts)) (let d = top.deep in omega arith)) ∙ top.values there) in
-          subst (λ d. Agrees p (with_tasks (Destroys k ∷ Runs_frame f' ∷ ms) m) (record s { cells = moved here there s.cells; tasks = begun_by d o (length s.items) (Run (set_word fr a None) ∷ ts) })) (sym (no_destructor p admitted o.thing))
-          (record {
-            tasks = (tt, (reframed f fr (slice_set f.registers a null) _ f.place fr.place top.frame (length-set f.registers a null ∙ wide) top.frame.place, top.below));
-            values = moves v _ _ _ _ _ here there top.values (word_here fr ts a ∙ none)
-                (λ r. destroys_value (Runs_frame f' ∷ ms) m.cells m.entries.items m.root k (suc (length ts)) deep r
-                ∙ ap (λ x. cond (same_place there r) k x) (value_written f ms m.cells m.entries.items m.root (length ts) a null f.place top.deep (omega arith) r)
-                ∙ ap (λ x. changed (changed v here null) there x r) (sym (value_here f ms m.cells m.entries.items m.root (length ts) a top.deep)))
-                (λ r. destroys_word (Run (set_word fr a None) ∷ ts) (suc (length ts)) r ∙ ap (λ x. cond (same_place there r) None x) (word_written fr ts a fr.place None r ∙ sym (kept (word_at (Run fr ∷ ts)) here r ∙ ap (λ x. changed (word_at (Run fr ∷ ts)) here x r) (word_here fr ts a ∙ none))))
-                (λ r. held_moved s.cells here there r empty);
-            cells = cells_moved p m.cells s.cells here there h.agrees.cells;
-            entries = h.agrees.entries;
-            rest = h.agrees.rest;
-            room = h.agrees.room;
-          })
 
 -- the fields of a new cell are null, and so are those of one that is not there
 values_kept : (ms : List Held_task) (h h' : Heap) (es : List ℕ) (root n class : ℕ) → cell_at h n ≡ None → Changes h h' n (Some (blank class)) → (r : Place) → value_in ms h' es root r ≡ value_in ms h es root r

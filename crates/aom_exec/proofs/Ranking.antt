@@ -1,5 +1,5 @@
 -- The machine's rank is that of the states that it stands for, and each move lowers that.
-use Rattle.std.proofs.Common.{zero, suc, ◌≡◌, ℕ, ◌<◌, ◌+◌, ◌-◌, ◌*◌, cond, length, List, [], ◌∷◌, Option, Some, None, slice_index_or, refl, sym, ap, ◌∙◌, arith}
+use Rattle.std.proofs.Common.{zero, suc, ◌≡◌, ℕ, ◌<◌, ◌+◌, ◌-◌, ◌*◌, cond, length, List, [], ◌∷◌, Option, Some, None, slice_index_or, refl, ap, ◌∙◌, arith}
 use Rattle.std.specs.Prelude.{map}
 use Rattle.aom_image.specs.Image.{Image}
 use Rattle.aom_image.specs.Views.{method_at}
@@ -11,11 +11,10 @@ use Rattle.aom_shape.specs.Tables.{at}
 use Rattle.aom_shape.specs.Typing.{Typing}
 use Rattle.aom_sound.specs.State.{Frame, Task, Run, Trapped, Destroy, Dispatched, State, next}
 use Rattle.aom_sound.specs.WellTyped.{WellTyped}
-use Rattle.aom_sound.specs.World.{IsBusy}
 use Rattle.aom_frames.specs.declared.frame.Frame.{Frame as Held_frame}
 use Rattle.aom_frames.specs.declared.task.Task.{Task as Held_task}
 use Rattle.aom_frames.specs.declared.task.Task.TheVariants.{Run as Runs_frame, Trapped as Is_trap, Destroy as Destroys, Dispatched as Ends}
-use Rattle.aom_ranks.specs.Within.{is_in_body, weight, rounds_left, total, left}
+use Rattle.aom_ranks.specs.Within.{is_in_body, weight, rounds_left, total}
 use Rattle.aom_ranks.specs.Ranks.{price, left_in, frame_rank, end_rank, waiting_rank, tasks_rank, standing, destructions, cell_rank, rank}
 use Rattle.aom_ranks.proofs.Goings.{cells_stand_or_go}
 use Rattle.aom_ranks.proofs.Ranking.{moves_lower_ranks}

@@ -28,7 +28,7 @@ use Rattle.aom_sound.specs.Moves.{counted, dispatch_ends, does, main_ends, needs
 use Rattle.aom_sound.specs.Objects.{deleted, jumped}
 use Rattle.aom_sound.specs.Places.{Cell, Elsewhere, Going, Object, Place, Register, Root, held, without}
 use Rattle.aom_sound.specs.State.{Choice, Destroy, Dispatch, Dispatched, Frame, Goes, Need, IsStuck, Of_main, Of_root, Orphan, Run, State, Task, Trapped, counter, field_place, guarded, next, resumed, set_word}
-use Rattle.aom_sound.specs.WellTyped.{Back, Caught, Fits, Gone, Good, Now, Stack, WellTyped}
+use Rattle.aom_sound.specs.WellTyped.{Back, Fits, Good, Now, Stack, WellTyped}
 use Rattle.aom_sound.specs.Words.{branched, here, looped, read}
 use Rattle.aom_sound.proofs.Straight.{register_fits}
 use Rattle.aom_sound.proofs.Things.{stands_same}

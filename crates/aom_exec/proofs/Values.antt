@@ -1,5 +1,5 @@
 -- What a write does to the places, on the machine's side and on the checked machine's.
-use Rattle.std.proofs.Common.{suc, ◌≡◌, ℕ, ℤ, ◌<◌, ◌≤◌, Bool, true, false, cond, ◌==◌, ◌&&◌, length, List, [], ◌∷◌, Option, Some, None, slice_set, slice_index_or, refl, sym, ap, ◌∙◌, subst, arith}
+use Rattle.std.proofs.Common.{suc, ◌≡◌, ℕ, ℤ, ◌<◌, ◌≤◌, Bool, true, false, cond, ◌==◌, ◌&&◌, length, List, [], ◌∷◌, Option, None, slice_set, slice_index_or, refl, sym, ap, ◌∙◌, subst, arith}
 use Rattle.std.proofs.lemmas.Bool.{eqb-true, eq-eqb, ne_eqb, false≢true}
 use Rattle.std.proofs.lemmas.List.{get_or-set_same, get_or-set_other}
 use Rattle.aom_cells.specs.Heap.{Heap, null}

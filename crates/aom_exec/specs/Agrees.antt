@@ -8,12 +8,12 @@ use Rattle.aom_cells.specs.Heap.{Heap, null, cell_at, count}
 use Rattle.aom_cells.specs.Heap.{word_at as cell_word}
 use Rattle.aom_cells.specs.declared.cell.Cell.{Cell as Held_cell}
 use Rattle.aom_sound.specs.Places.{Place, Register, Entry, Field, Going, Elsewhere, Object, Cell, held, named, word_field}
-use Rattle.aom_sound.specs.State.{Home, Static, AtRoot, Inside, Frame, Dispatch, Of_main, word, counter, Task, Run, Trapped, Destroy, Dispatched, State}
+use Rattle.aom_sound.specs.State.{Home, Static, AtRoot, Inside, Frame, Dispatch, Of_main, Of_root, word, counter, Task, Run, Trapped, Destroy, Dispatched, State}
 use Rattle.aom_frames.specs.declared.frame.Frame.{Frame as Held_frame}
 use Rattle.aom_frames.specs.declared.task.Task.{Task as Held_task}
 use Rattle.aom_frames.specs.declared.task.Task.TheVariants.{Run as Runs_frame, Trapped as Is_trap, Destroy as Destroys, Dispatched as Ends}
 use Rattle.aom_frames.specs.declared.task.Dispatch.{Dispatch as Held_dispatch}
-use Rattle.aom_frames.specs.declared.task.Dispatch.TheVariants.{Main}
+use Rattle.aom_frames.specs.declared.task.Dispatch.TheVariants.{Main, Root}
 use Rattle.aom_exec.specs.declared.parts.Parts.{Parts}
 use Rattle.aom_exec.specs.Places.{value}
 
@@ -63,6 +63,7 @@ pub record SameFrame (f : Held_frame) (fr : Frame) : Type 0 where
 
 abbrev pub dispatch_of : Held_dispatch → Dispatch
 dispatch_of Main = Of_main
+dispatch_of Root = Of_root
 
 -- frames and other tasks, one by one
 abbrev pub SameTask : Held_task → Task → Type 0

@@ -8,3 +8,4 @@ pub mod Calls
 pub mod Ranks
 pub mod Steps
 pub mod Boot
+pub mod Going

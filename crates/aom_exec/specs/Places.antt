@@ -1,5 +1,5 @@
 -- The number in each place of the machine.
-use Rattle.std.specs.Prelude.{ℕ, cond, ◌==◌, List, [], ◌∷◌, length, Option, Some, None, slice_index_or}
+use Rattle.std.specs.Prelude.{ℕ, cond, ◌==◌, List, [], ◌∷◌, length, slice_index_or}
 use Rattle.aom_cells.specs.Heap.{Heap, null, field_at}
 use Rattle.aom_sound.specs.Places.{Place, Register, Entry, Field, Going, Elsewhere, Other, Root}
 use Rattle.aom_frames.specs.Tasks.{register_of}

@@ -10,6 +10,8 @@
 mod calls;
 mod fault;
 mod fields;
+mod going;
+mod loops;
 mod machine;
 mod moves;
 mod objects;

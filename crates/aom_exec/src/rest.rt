@@ -90,11 +90,32 @@ impl Rest {
         self.stopped = true;
     }
 
+    /// Whether `stop` was run.
+    pub fn is_stopped(&self) -> bool
+        ensures { result ≡ self.now.stopped }
+    {
+        self.stopped
+    }
+
+    /// The clock goes on by one.
+    pub fn tick(&mut self)
+        ensures { self.new ≡ record self.old { clock = raised self.old.clock } }
+    {
+        self.clock = self.clock.saturating_add(1);
+    }
+
+    /// The root is gone, and the run is over.
+    pub fn finish(&mut self)
+        ensures { self.new ≡ record self.old { ended = Some Stopped } }
+    {
+        self.ended = Some(Ending::Stopped);
+    }
+
     /// The end of a dispatch.
     pub fn close(&mut self)
         ensures { self.new ≡ record self.old { clock = raised self.old.clock; ended = cond self.old.stopped (Some Stopped) None } }
     {
-        self.clock = self.clock.saturating_add(1);
+        self.tick();
         self.ended = if self.stopped {
             Some(Ending::Stopped)
         } else {

@@ -1,4 +1,4 @@
-use Rattle.std.proofs.Common.{◌≡◌, subst}
+use Rattle.std.proofs.Common.{subst}
 use Rattle.aom_sound.specs.World.{boot_state}
 use Rattle.aom_exec.specs.Boot.{Booted}
 use Rattle.aom_exec.proofs.Booting.{boots}

@@ -1,6 +1,6 @@
-use Rattle.std.proofs.Common.{sym, ◌∙◌, ◌≡◌}
+use Rattle.std.proofs.Common.{sym, ◌∙◌}
 use Rattle.std.proofs.lemmas.Bool.{false≢true}
-use Rattle.aom_exec.proofs.Progressing.{rested, stepped_one, stepped_two, falls_one, falls_two, told_then}
+use Rattle.aom_exec.proofs.Progressing.{rested, stepped_one, stepped_two, falls_one, falls_two, stands_then, told_then}
 use Rattle.aom_exec.proofs.parts.Parts.step.Goals as goal
 
 pub returns-in_default : goal.returns-in_default
@@ -24,9 +24,12 @@ returns-then-not-is_ending-clause-falls c = λ e. falls_one c.args.linked.now c.
 pub returns-clause-steps : goal.returns-clause-steps
 returns-clause-steps c =
     stepped_two c.args.linked.now c.args.self.now c.advance.new.self c.args.turn.now c.advance.new.turn (sym c.progress.ensures ∙ c.in-Running.is) c.advance.ensures
-    c.close.new.self (c.is_ending.ensures.0 c.if-not-is_ending.false) (c.close.ensures c.args.linked.now) c.progress-2.result c.progress-2.ensures
+    c.close.new.self (c.is_ending.ensures.0 c.if-not-is_ending.false) c.close.ensures c.progress-2.result c.progress-2.ensures
 
 pub returns-clause-falls : goal.returns-clause-falls
 returns-clause-falls c = λ e.
     falls_two c.args.linked.now c.args.self.now c.advance.new.self c.args.turn.now c.advance.new.turn (sym c.progress.ensures ∙ c.in-Running.is) c.advance.ensures
-    c.close.new.self c.requires.stands (c.is_ending.ensures.0 c.if-not-is_ending.false) (c.close.ensures c.args.linked.now)
+    c.close.new.self c.requires.stands (c.is_ending.ensures.0 c.if-not-is_ending.false) c.close.ensures
+
+pub close-requires-clause-stands : goal.close-requires-clause-stands
+close-requires-clause-stands c = stands_then c.args.linked.now c.args.self.now c.advance.new.self c.args.turn.now c.advance.new.turn (sym c.progress.ensures ∙ c.in-Running.is) c.advance.ensures c.requires.stands

@@ -1,0 +1,121 @@
+//! Destruction: a cell is at hand, its destructor runs first, and then it goes.
+ghost use Rattle.std.specs.Prelude.{◌≡◌, ◌<◌, ◌+◌, ◌^◌, ◌↔◌, ℕ, List, IfSome, IsTrue, Some, length};
+ghost use Rattle.aom_cells.specs.Heap.{null, Lives, class_at};
+ghost use Rattle.aom_image.specs.declared.instr.Instr.TheVariants.{Delete};
+ghost use Rattle.aom_frames.specs.Tasks.{Runs, place_here, register_here};
+ghost use Rattle.aom_exec.specs.Acts.{DoesIn, GoesAway, next};
+ghost use Rattle.aom_exec.specs.Going.{destroying, destructor_at, ending_here, uprooted};
+ghost use Rattle.aom_exec.specs.Places.{with_tasks, below_first, IsDestroying, IsEnding, going_here};
+
+use crate::parts::Parts;
+use aom_cells::NULL;
+use aom_classes::Linked;
+use aom_frames::{Dispatch, Frame, Task};
+use aom_image::{ClassNumber, Register, Role};
+use aom_lines::Turn;
+use aom_sound::Line;
+
+impl Parts {
+    /// The class of a living cell.
+    pub fn class(&self, number: u32) -> ClassNumber
+        requires lives { Lives self.now.cells number }
+        requires small { IfSome (class_at self.now.cells number) (λ class. class < 256) }
+        ensures { class_at self.now.cells number ≡ Some result }
+    {
+        let class = self.cells.class(self.cells.living(number));
+        match ClassNumber::new(class) {
+            Some(class) => class,
+            None => unreachable!(),
+        }
+    }
+
+    /// The destruction of that cell is at hand, and over it its destructor, if it has one.
+    fn begin(&mut self, number: u32, linked: &Linked)
+        requires lives { Lives self.old.cells number }
+        requires small { IfSome (class_at self.old.cells number) (λ class. class < 256) }
+        requires room { length self.old.stack.tasks + 1 < self.old.stack.depth }
+        ensures { self.new ≡ with_tasks (destroying (destructor_at linked.now self.old.cells number) number self.old.stack.tasks) self.old }
+    {
+        let class = self.class(number);
+        self.stack.push(Task::Destroy(number));
+        if let Some(destructor) = linked.role(class, Role::Destruct) {
+            self.stack.push(Task::Run(Frame::begin(destructor, number)));
+        }
+    }
+
+    pub fn delete(&mut self, from: Register, linked: &Linked)
+        requires runs { Runs self.old.stack.tasks }
+        requires within { place_here self.old.stack.tasks + 1 < 2 ^ 64 }
+        requires lives { (register_here self.old.stack.tasks from ≡ null → ⊥) → Lives self.old.cells (register_here self.old.stack.tasks from) }
+        requires small { IfSome (class_at self.old.cells (register_here self.old.stack.tasks from)) (λ class. class < 256) }
+        requires room { length self.old.stack.tasks + 1 < self.old.stack.depth }
+        ensures { (refused : List ℕ) → DoesIn linked.now refused (Delete from) self.old self.new }
+    {
+        let number = self.register(from);
+        self.set_register(from, NULL);
+        if number == NULL {
+            self.next();
+        } else {
+            self.begin(number, linked);
+        }
+    }
+
+    /// The root is at hand to go, and nothing else is.
+    pub fn uproot(&mut self, linked: &Linked)
+        requires lives { Lives self.old.cells self.old.root }
+        requires small { IfSome (class_at self.old.cells self.old.root) (λ class. class < 256) }
+        requires room { length (below_first self.old.stack.tasks) + 2 < self.old.stack.depth }
+        ensures { self.new ≡ uprooted linked.now self.old }
+    {
+        let root = self.root;
+        self.root = NULL;
+        self.rest.tick();
+        self.drop_task();
+        self.stack.push(Task::Dispatched(Dispatch::Root));
+        self.begin(root, linked);
+    }
+
+    /// What the dispatch is of that is at its end.
+    pub fn ending(&self) -> Dispatch
+        requires { IsEnding self.now.stack.tasks }
+        ensures { ending_here self.now.stack.tasks ≡ Some result }
+    {
+        match self.stack.top() {
+            Some(Task::Dispatched(dispatch)) => *dispatch,
+            _ => unreachable!(),
+        }
+    }
+
+    /// Whether a method is at hand.
+    fn is_running(&self) -> bool
+        ensures { IsTrue result ↔ Runs self.now.stack.tasks }
+    {
+        matches!(self.stack.top(), Some(Task::Run(_)))
+    }
+
+    /// The method that is at hand goes on, if there is one.
+    fn resume(&mut self)
+        requires { place_here self.old.stack.tasks + 1 < 2 ^ 64 }
+        ensures { self.new ≡ next self.old }
+    {
+        if self.is_running() {
+            self.next();
+        }
+    }
+
+    /// The going of a cell. The method below goes on, if there is one.
+    pub fn go(&mut self, turn: &mut Turn)
+        requires destroying { IsDestroying self.old.stack.tasks }
+        requires lives { Lives self.old.cells (going_here self.old.stack.tasks) }
+        requires small { IfSome (class_at self.old.cells (going_here self.old.stack.tasks)) (λ class. class < 256) }
+        requires within { place_here (below_first self.old.stack.tasks) + 1 < 2 ^ 64 }
+        requires room { length turn.old.lines < turn.old.room }
+        ensures { GoesAway self.old self.new turn.old turn.new }
+    {
+        let number = self.going();
+        self.drop_task();
+        let class = self.release(number);
+        turn.push(Line::Gone(class));
+        self.resume();
+    }
+}
