@@ -90,6 +90,6 @@ boots p m linked admitted t strongest within boot_keeps step_keeps wired booted 
       typing = t;
       sound = record { formed = booted.formed; linked = linked; admitted = admitted; wired = w.0; strongest = strongest; within = within; typed = strongest.typed; keeps = λ c s well unused. step_keeps p t w.0 strongest.typed c s well unused };
       typed = boot_keeps p t w.0 strongest.typed;
-      called = subst (AllCalled p) (sym (boot_tasks p booted.main booted.is_main)) (tt, tt);
+      called = subst (AllCalled p) (sym (boot_tasks p booted.main booted.is_main)) (tt, (tt, tt));
       agrees = boot_agrees p m booted;
     }

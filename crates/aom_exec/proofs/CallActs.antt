@@ -1,31 +1,25 @@
--- Main returns, and `stop`.
+-- `stop`, and how a dispatch comes to its end.
 use Rattle.std.proofs.Common.{zero, suc, ◌≡◌, ◌==◌, ℕ, ℤ, ◌-◌, Bool, true, false, cond, length, List, [], ◌∷◌, Option, Some, None, take, slice_index_or, refl, sym, ap, ◌∙◌, subst, arith}
 use Rattle.aom_image.specs.Image.{Image}
-use Rattle.aom_image.specs.declared.instr.Instr.TheVariants.{Return, Stop}
-use Rattle.aom_image.specs.Views.{gives_of}
-use Rattle.aom_image.specs.declared.method.Gives.{Gives}
-use Rattle.aom_image.specs.declared.method.Gives.TheVariants.{Nothing}
+use Rattle.aom_image.specs.declared.instr.Instr.TheVariants.{Stop}
 use Rattle.std.proofs.lemmas.List.{length-take}
-use Rattle.aom_exec.specs.Room.{IsUnderTrap}
 use Rattle.aom_shape.specs.declared.kind.Kind.TheVariants.{Null}
 use Rattle.aom_cells.specs.Heap.{null}
 use Rattle.aom_shape.specs.Typing.{Typing}
 use Rattle.aom_sound.specs.Places.{Place, Register, Entry, Field, Going, Elsewhere, Object, held}
 use Rattle.aom_sound.specs.State.{Dispatch, next, Task, Run, Dispatched, Item, Rest, State}
-use Rattle.aom_sound.specs.Calls.{returned, below_top}
+use Rattle.aom_sound.specs.Calls.{below_top}
 use Rattle.aom_sound.specs.Claims.{Layer, Method, Mark, Dying, Dispatching, tasks_of}
 use Rattle.aom_sound.specs.WellTyped.{WellTyped, Good, Fits}
 use Rattle.aom_frames.specs.Tasks.{on_top, with_place, place_here}
-use Rattle.aom_frames.specs.declared.task.Task.{Task as Held_task}
-use Rattle.aom_frames.specs.declared.task.Task.TheVariants.{Trapped as Is_trap, Dispatched as Ends}
+use Rattle.aom_frames.specs.declared.task.Task.TheVariants.{Dispatched as Ends}
 use Rattle.aom_frames.specs.declared.task.Dispatch.{Dispatch as Held_dispatch}
 use Rattle.aom_exec.specs.declared.parts.Parts.{Parts}
-use Rattle.aom_exec.specs.Places.{value_in, below_first}
+use Rattle.aom_exec.specs.Places.{value_in}
 use Rattle.aom_exec.specs.Agrees.{word_at, Shows, dispatch_of, number, Agrees}
-use Rattle.aom_exec.specs.Acts.{At_hand, requested, Does}
+use Rattle.aom_exec.specs.Acts.{requested, Does}
 use Rattle.aom_exec.specs.Acts as acts
-use Rattle.aom_exec.proofs.Standing.{by_top, stays, an_open, Traps, traps}
-use Rattle.aom_exec.proofs.Admits.{gives_none}
+use Rattle.aom_exec.proofs.Standing.{by_top, stays, an_open}
 
 pub stop_does : (m : Parts) (refused : List ℕ) → Does refused Stop m (acts.next (record m { rest = record m.rest { stopped = true } }))
 stop_does m refused p admitted h =
@@ -43,7 +37,7 @@ pub record Closing (s : State) : Type 0 where
   pub entries : (k : ℕ) → held s.cells (Entry k) ≡ None
   pub goings : (k : ℕ) → held s.cells (Going k) ≡ None
 
-fits_null : (p : Image) (h : Place → Option Object) (o : Option Object) → Fits p h o Null → o ≡ None
+pub fits_null : (p : Image) (h : Place → Option Object) (o : Option Object) → Fits p h o Null → o ≡ None
 fits_null p h None e = refl
 fits_null p h (Some o) e = absurd e
 
@@ -86,7 +80,7 @@ pub shows_null : (n : ℕ) (w : Option ℤ) (o : Option Object) → n ≡ null �
 shows_null n w o e f g = subst (λ w. Shows n w o) (sym f) (subst (λ o. Shows n None o) (sym g) e)
 
 -- as main ends, its dispatch is at its end
-ended : (p : Image) (m e : Parts) (s : State) (x : Held_dispatch) (d : Dispatch) → Agrees p m s → e.entries.items ≡ take (length m.entries.items - 1) m.entries.items → dispatch_of x ≡ d
+pub ended : (p : Image) (m e : Parts) (s : State) (x : Held_dispatch) (d : Dispatch) → Agrees p m s → e.entries.items ≡ take (length m.entries.items - 1) m.entries.items → dispatch_of x ≡ d
     → Closing (record s { tasks = Dispatched d ∷ []; items = below_top s.items })
     → Agrees p (record m { stack = record m.stack { tasks = Ends x ∷ [] }; entries = e.entries }) (record s { tasks = Dispatched d ∷ []; items = below_top s.items })
 ended p m e s x d agrees short same shut = record {
@@ -104,25 +98,3 @@ ended p m e s x d agrees short same shut = record {
     values (Field n f) = agrees.values (Field n f)
     values (Going k) = shows_null _ _ _ (same_cond (0 == k) null) refl (shut.goings k)
     values (Elsewhere o) = agrees.values (Elsewhere o)
-
-pub return_does : (m e : Parts) (refused : List ℕ) (a : ℕ) → IsUnderTrap m.stack.tasks → e.entries.items ≡ take (length m.entries.items - 1) m.entries.items
-    → Does refused (Return a) m (record m { stack = record m.stack { tasks = below_first (below_first m.stack.tasks) }; entries = e.entries })
-return_does m e refused a alone short p admitted h =
-    let c = an_open p refused m h.state h.agrees in (
-      c.0,
-      c.1,
-      λ needs typed. by_top p m h
-          (λ us. IsUnderTrap us → Agrees p (record m { stack = record m.stack { tasks = below_first (below_first us) }; entries = e.entries }) (returned p h.frame h.below (requested (Return a) h.state) (gives_of p h.frame.method) a h.below))
-          (λ f ms top alone. subst (λ g. Left g ms h.below) (sym (gives_none p admitted h.frame.method)) (left ms h.below (traps ms h.below alone top.below)) typed)
-          alone,
-    )
-  where
-    Left : Gives → List Held_task → List Task → Type 0
-    Left g ms ts =
-        WellTyped p h.typing (returned p h.frame h.below (requested (Return a) h.state) g a ts)
-        → Agrees p (record m { stack = record m.stack { tasks = below_first ms }; entries = e.entries }) (returned p h.frame h.below (requested (Return a) h.state) g a ts)
-
-    left : (ms : List Held_task) (ts : List Task) → Traps ms ts → Left Nothing ms ts
-    left ms ts trap =
-        subst (λ us. Left Nothing us ts) (sym trap.held) (subst (λ us. Left Nothing (Is_trap ∷ Ends trap.machine ∷ []) us) (sym trap.tasks)
-        (λ typed. ended p m e (requested (Return a) h.state) trap.machine trap.state (record { tasks = h.agrees.tasks; values = h.agrees.values; cells = h.agrees.cells; entries = h.agrees.entries; rest = h.agrees.rest; room = h.agrees.room }) short trap.same (closing p h.typing _ trap.state typed refl)))

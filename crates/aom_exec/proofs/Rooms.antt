@@ -107,10 +107,10 @@ module _ (p : Image) (t : Typing) (strongest : IsStrongest p t) (c : Choice) (fr
   returns g a [] w = given
   returns g a (Run caller ∷ below) w = goes_back g a (result_register (instr_at p caller.method caller.place)) caller below w
   returns g a (Trapped ∷ []) w = given
-  returns g a (Trapped ∷ Run caller ∷ below) w = goes_back g a (result_register (instr_at p caller.method caller.place)) caller below w
+  returns g a (Trapped ∷ Run caller ∷ below) w = absurd w.0
   returns g a (Trapped ∷ Trapped ∷ below) w = given
   returns g a (Trapped ∷ Destroy ∷ below) w = given
-  returns g a (Trapped ∷ Dispatched d ∷ below) w = w
+  returns g a (Trapped ∷ Dispatched d ∷ below) w = w.1
   returns g a (Destroy ∷ below) w = w
   returns g a (Dispatched d ∷ below) w = given
 
@@ -234,7 +234,7 @@ few p t cs back (Dispatching d ∷ ls) s = subst (λ us. length (tasks_of (Dispa
 shallow : (p : Image) → DepthsWithin p → (ls : List Layer) (m n : ℕ) → Frames p m n → CalledFrom p m (tasks_of ls) → AllCalled p (tasks_of ls) → (n + methods_in ls) ≤ 256
 shallow p within [] m n frames from all = let k = within.within m n frames in omega arith
 shallow p within (Method fr sh ∷ ls) m n frames from all = let k = shallow p within ls fr.method (suc n) (calling from frames) all.0 all.1 in omega arith
-shallow p within (Mark g ∷ ls) m n frames from all = shallow p within ls m n frames from all
+shallow p within (Mark g ∷ ls) m n frames from all = shallow p within ls m n frames from all.1
 shallow p within (Dying o ∷ ls) m n frames from all = shallow p within ls m n frames from all
 shallow p within (Dispatching d ∷ ls) m n frames from all = shallow p within ls m n frames from all
 

@@ -54,6 +54,14 @@ IsDestroying (Trapped ∷ ts) = ⊥
 IsDestroying (Destroy x ∷ ts) = Unit {0}
 IsDestroying (Dispatched d ∷ ts) = ⊥
 
+-- the innermost task is a trap
+abbrev pub IsTrapped : List Task → Type 0
+IsTrapped [] = ⊥
+IsTrapped (Run f ∷ ts) = ⊥
+IsTrapped (Trapped ∷ ts) = Unit {0}
+IsTrapped (Destroy x ∷ ts) = ⊥
+IsTrapped (Dispatched d ∷ ts) = ⊥
+
 abbrev pub going_here : List Task → ℕ
 going_here [] = null
 going_here (t ∷ ts) = going_of t

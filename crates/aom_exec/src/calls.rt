@@ -1,23 +1,106 @@
-//! Returns, and `stop`.
-ghost use Rattle.std.specs.Prelude.{ℕ, List, ◌<◌, ◌+◌, ◌^◌, ◌≡◌, length};
-ghost use Rattle.aom_image.specs.declared.instr.Instr.TheVariants.{Return, Stop};
-ghost use Rattle.aom_frames.specs.Tasks.{Runs, place_here};
-ghost use Rattle.aom_exec.specs.Acts.{Does};
-ghost use Rattle.aom_exec.specs.Room.{IsUnderTrap};
+//! Calls, returns, and `stop`.
+ghost use Rattle.std.specs.Prelude.{ℕ, List, ◌<◌, ◌≤◌, ◌+◌, ◌^◌, ◌≡◌, IsSome, Some, length};
+ghost use Rattle.aom_image.specs.Views.{arguments_of, instr_at, method_at};
+ghost use Rattle.aom_image.specs.declared.instr.Instr.TheVariants.{Call, Return, Stop};
+ghost use Rattle.aom_sound.specs.Calls.{result_register};
+ghost use Rattle.aom_frames.specs.Tasks.{Runs, method_here, place_here};
+ghost use Rattle.aom_exec.specs.Acts.{Does, DoesIn, resulted, next};
+ghost use Rattle.aom_exec.specs.Calls.{target_here};
+ghost use Rattle.aom_exec.specs.Fields.{IsHoused};
+ghost use Rattle.aom_exec.specs.Places.{below_first};
+ghost use Rattle.aom_exec.specs.Room.{ReturnsTo};
 
 use crate::parts::Parts;
-use aom_image::Register;
+use aom_cells::NULL;
+use aom_classes::Linked;
+use aom_frames::{Frame, Task};
+use aom_image::{ClassNumber, Gives, Instr, MethodNumber, Register, Target};
+
+/// The register to which the result of a call comes.
+fn result_of(instr: Instr) -> u8
+    ensures value { result ≡ result_register (Some instr) }
+    ensures in_range { result < 16 }
+{
+    match instr {
+        Instr::Call(_, _, _, to) => to.number(),
+        Instr::Trap(_, _, _, to) => to.number(),
+        _ => 0,
+    }
+}
 
 impl Parts {
-    /// Main returns, through the trap of its dispatch.
-    pub fn give_back(&mut self, from: Register)
-        requires { IsUnderTrap self.old.stack.tasks }
-        ensures { (refused : List ℕ) → Does refused (Return from) self.old self.new }
+    /// What a method that is called works on: the number of a cell, or null.
+    fn target(&self, target: Target, class: Option<ClassNumber>) -> u32
+        requires runs { Runs self.now.stack.tasks }
+        requires housed { IsHoused self.now }
+        ensures { result ≡ target_here target class self.now }
     {
-        let _ = from;
+        match target {
+            Target::This => match class {
+                None => NULL,
+                Some(_) => self.stack.this(),
+            },
+            Target::Register(register) => self.register(register),
+            Target::Field(field) => self.field(field),
+            // Comes with the cleanup stack.
+            Target::Entry(_) => NULL,
+        }
+    }
+
+    /// Calls a method, with its arguments from a register on.
+    pub fn call(&mut self, target: Target, method: MethodNumber, first: Register, linked: &Linked)
+        requires runs { Runs self.old.stack.tasks }
+        requires housed { IsHoused self.old }
+        requires there { IsSome (method_at linked.now method) }
+        requires within { first + length (arguments_of linked.now method) ≤ 16 }
+        requires room { length self.old.stack.tasks < self.old.stack.depth }
+        ensures { (refused : List ℕ) (to : ℕ) → DoesIn linked.now refused (Call target method first to) self.old self.new }
+    {
+        let called = linked.method(method);
+        let this = self.target(target, called.class);
+        let frame = Frame::begin(method, this);
+        self.stack
+            .enter(frame, first.number(), called.arguments.as_slice());
+    }
+
+    /// A result comes to the method that called, which goes on.
+    fn receive(&mut self, gives: Gives, number: u32, linked: &Linked)
+        requires runs { Runs self.old.stack.tasks }
+        requires there { IsSome (instr_at linked.now (method_here self.old.stack.tasks) (place_here self.old.stack.tasks)) }
+        requires within { place_here self.old.stack.tasks + 1 < 2 ^ 64 }
+        ensures in_range { result_register (instr_at linked.now (method_here self.old.stack.tasks) (place_here self.old.stack.tasks)) < 16 }
+        ensures received { self.new ≡ next (resulted gives (result_register (instr_at linked.now (method_here self.old.stack.tasks) (place_here self.old.stack.tasks))) number self.old) }
+    {
+        let to = result_of(linked.instr(self.stack.method(), self.stack.place()));
+        match gives {
+            Gives::Nothing | Gives::Left(_) => {}
+            Gives::Word | Gives::Own(_) | Gives::Maybe(_) => {
+                self.stack.set_register(to, number);
+            }
+        }
+        self.next();
+    }
+
+    /// A method returns: to the one that called it, through the trap of its dispatch, or to the going of its cell.
+    pub fn give_back(&mut self, from: Register, linked: &Linked)
+        requires runs { Runs self.old.stack.tasks }
+        requires there { IsSome (method_at linked.now (method_here self.old.stack.tasks)) }
+        requires below { ReturnsTo linked.now (below_first self.old.stack.tasks) }
+        ensures { (refused : List ℕ) → DoesIn linked.now refused (Return from) self.old self.new }
+    {
+        let gives = linked.method(self.stack.method()).gives;
+        let number = self.register(from);
         self.drop_task();
-        self.drop_task();
-        self.drop_entry();
+        match self.stack.top() {
+            Some(Task::Run(_)) => self.receive(gives, number, linked),
+            Some(Task::Trapped) => {
+                self.drop_task();
+                self.drop_entry();
+            }
+            Some(Task::Destroy(_)) => {}
+            Some(Task::Dispatched(_)) => unreachable!(),
+            None => unreachable!(),
+        }
     }
 
     pub fn stop(&mut self)
