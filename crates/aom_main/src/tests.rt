@@ -1,3 +1,5 @@
+mod programs;
+
 use super::*;
 use aom_run::Sink;
 use std::alloc::Global;
