@@ -12,3 +12,6 @@ mod fault;
 
 pub use accepted::{Accepted, accept};
 pub use fault::BudgetFault;
+
+#[cfg(test)]
+mod tests;

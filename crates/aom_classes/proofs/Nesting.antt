@@ -136,7 +136,7 @@ scanned_enter code i d x s t e is no_next l n a h =
       count = (let b = counted code i x is_loop e l in let f = not_counted code i x is_next e n in let c = h.count in let m = length-append s (i ∷ []) in omega arith);
     })
 
-same_ending : (a b : Ending) → Some a ≡ Some b → a ≡ b
+pub same_ending : (a b : Ending) → Some a ≡ Some b → a ≡ b
 same_ending a b e = cc
 
 -- a next closes the one loop that it goes back to
@@ -247,7 +247,7 @@ scanned_none code = record {
 
 -- ---- from the definition
 
-loop_within : (code : List Instr) (p d : ℕ) → loop_at code p ≡ Some d → p < length code
+pub loop_within : (code : List Instr) (p d : ℕ) → loop_at code p ≡ Some d → p < length code
 unfolding loop_in
 loop_within code p d e =
     elim (slice_get code p) as (λ o. slice_get code p ≡ o → loop_in o ≡ Some d → p < length code) [

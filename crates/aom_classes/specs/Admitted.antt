@@ -1,5 +1,5 @@
 -- What an image may have so far.
-use Rattle.std.specs.Prelude.{◌≡◌, ℕ, Bool, true, false, ◌&&◌, nat_eq, List, length, is_none, IfSome, IsTrue, slice_get}
+use Rattle.std.specs.Prelude.{ℕ, Bool, true, false, not, ◌&&◌, nat_eq, List, IfSome, IsTrue, slice_get}
 use Rattle.std.specs.List.{list_all}
 use Rattle.aom_image.specs.Image.{Image}
 use Rattle.aom_image.specs.declared.class.ClassDecl.{ClassDecl}
@@ -7,30 +7,45 @@ use Rattle.aom_image.specs.declared.class.ClassKind.{ClassKind}
 use Rattle.aom_image.specs.declared.class.ClassKind.TheVariants.{Plain}
 use Rattle.aom_image.specs.declared.image.Header.{Header}
 use Rattle.aom_image.specs.declared.instr.Instr.{Instr}
-use Rattle.aom_image.specs.declared.instr.Instr.TheVariants.{Const, Copy, Add, Sub, Mul, And, Or, Xor, Jump, JumpEqual, JumpLess, JumpNull, Print, New, Delete, Return, Stop}
+use Rattle.aom_image.specs.declared.instr.Instr.TheVariants as instrs
+use Rattle.aom_image.specs.declared.method.Argument.{Argument}
+use Rattle.aom_image.specs.declared.method.Argument.TheVariants as arguments
+use Rattle.aom_image.specs.declared.method.Gives.{Gives}
+use Rattle.aom_image.specs.declared.method.Gives.TheVariants as gives
 use Rattle.aom_image.specs.declared.method.Method.{Method}
-use Rattle.aom_classes.specs.Roles.{is_main}
-unfoldable pub use Rattle.aom_roles.specs.Shapes.{gives_nothing}
+use Rattle.aom_image.specs.declared.method.Role.{Role}
+use Rattle.aom_image.specs.declared.method.Role.TheVariants.{Do, Main, Construct, Destruct}
+use Rattle.aom_image.specs.declared.method.Thing.{Thing}
+use Rattle.aom_image.specs.declared.method.Thing.TheVariants.{Object, Message}
+use Rattle.aom_roles.specs.Shapes.{may_leave}
 
 -- whether an instruction is one of those
 unfoldable pub admits_instr : Instr → Bool
-admits_instr (Const r w) = true
-admits_instr (Copy a b) = true
-admits_instr (Add a b c) = true
-admits_instr (Sub a b c) = true
-admits_instr (Mul a b c) = true
-admits_instr (And a b c) = true
-admits_instr (Or a b c) = true
-admits_instr (Xor a b c) = true
-admits_instr (Jump t) = true
-admits_instr (JumpEqual a b t) = true
-admits_instr (JumpLess a b t) = true
-admits_instr (JumpNull r t) = true
-admits_instr (Print r) = true
-admits_instr (New r c) = true
-admits_instr (Delete r) = true
-admits_instr (Return r) = true
-admits_instr Stop = true
+admits_instr (instrs.Const r w) = true
+admits_instr (instrs.Copy a b) = true
+admits_instr (instrs.Move a b) = true
+admits_instr (instrs.Add a b c) = true
+admits_instr (instrs.Sub a b c) = true
+admits_instr (instrs.Mul a b c) = true
+admits_instr (instrs.And a b c) = true
+admits_instr (instrs.Or a b c) = true
+admits_instr (instrs.Xor a b c) = true
+admits_instr (instrs.Jump t) = true
+admits_instr (instrs.JumpEqual a b t) = true
+admits_instr (instrs.JumpLess a b t) = true
+admits_instr (instrs.JumpNull r t) = true
+admits_instr (instrs.JumpEmpty f t) = true
+admits_instr (instrs.Loop d n) = true
+admits_instr (instrs.Next d t) = true
+admits_instr (instrs.Print r) = true
+admits_instr (instrs.Load r w) = true
+admits_instr (instrs.Store w r) = true
+admits_instr (instrs.Take r f) = true
+admits_instr (instrs.Put f r) = true
+admits_instr (instrs.New r c) = true
+admits_instr (instrs.Delete r) = true
+admits_instr (instrs.Return r) = true
+admits_instr instrs.Stop = true
 admits_instr _ = false
 
 -- whether a class is plain
@@ -38,29 +53,52 @@ unfoldable pub is_plain : ClassKind → Bool
 is_plain Plain = true
 is_plain _ = false
 
--- whether a class is plain, with neither words nor owning fields
+-- whether what may be owned is an object
+unfoldable pub admits_thing : Thing → Bool
+admits_thing (Object c) = true
+admits_thing Message = false
+
+-- whether a class is plain, and owns objects alone
 unfoldable pub admits_class : ClassDecl → Bool
-admits_class c = is_plain c.kind && nat_eq c.words 0 && nat_eq (length c.fields) 0
+admits_class c = is_plain c.kind && list_all admits_thing c.fields
 
--- whether a method is static, without flags and sets
-abbrev pub is_bare : Method → Bool
-is_bare m = is_none m.class && nat_eq m.flags.0 0 && nat_eq m.before.0 0 && nat_eq m.after.0 0
+-- whether a method does, constructs or destructs, or is main
+unfoldable pub admits_role : Role → Bool
+admits_role Do = true
+admits_role Main = true
+admits_role Construct = true
+admits_role Destruct = true
+admits_role _ = false
 
--- whether a method is a bare main without arguments and result, of admitted instructions
+unfoldable pub admits_argument : Argument → Bool
+admits_argument arguments.Word = true
+admits_argument (arguments.Own t) = admits_thing t
+
+unfoldable pub admits_result : Gives → Bool
+admits_result gives.Nothing = true
+admits_result gives.Word = true
+admits_result (gives.Own t) = admits_thing t
+admits_result (gives.Maybe t) = admits_thing t
+admits_result (gives.Left c) = false
+
+-- whether a method may not leave, and is of no states
+abbrev pub stays : Method → Bool
+stays m = not (may_leave m) && nat_eq m.before.0 0 && nat_eq m.after.0 0
+
+-- whether a method has such a role, arguments and result, and is of admitted instructions
 unfoldable pub admits_method : Method → Bool
-admits_method m = is_main m && is_bare m && nat_eq (length m.arguments) 0 && gives_nothing m.gives && list_all admits_instr m.code
+admits_method m = admits_role m.role && stays m && list_all admits_argument m.arguments && admits_result m.gives && list_all admits_instr m.code
 
--- whether there are no natives and no root
+-- whether there are no natives
 abbrev pub admits_header : Header → Bool
-admits_header h = nat_eq h.natives 0 && is_none h.root
+admits_header h = nat_eq h.natives 0
 
 -- each element of a list passes a test
 abbrev pub EachPasses : {X : Type 0} → (X → Bool) → List X → Type 0
 EachPasses test xs = (k : ℕ) → IfSome (slice_get xs k) (λ x. IsTrue (test x))
 
--- an image of plain empty classes and one method
+-- an image of plain classes, without natives, leaves and messages
 pub record IsAdmitted (p : Image) : Type 0 where
   pub header : IsTrue (admits_header p.header)
   pub classes : EachPasses admits_class p.classes
-  pub alone : length p.methods ≡ 1
   pub methods : EachPasses admits_method p.methods

@@ -1,11 +1,11 @@
 //! What an image may have so far.
 ghost use Rattle.std.specs.Prelude.{◌≡◌, ◌↔◌, IsTrue};
 ghost use Rattle.std.specs.List.{list_all};
-ghost use Rattle.aom_classes.specs.Admitted.{admits_instr, is_plain, admits_class, is_bare, admits_method, admits_header, EachPasses, IsAdmitted};
+ghost use Rattle.aom_classes.specs.Admitted.{admits_instr, is_plain, admits_thing, admits_class, admits_role, admits_argument, admits_result, stays, admits_method, admits_header, EachPasses, IsAdmitted};
 
-use crate::roles::is_main;
-use aom_image::{ClassDecl, ClassKind, Header, Image, Instr, Method};
-use aom_roles::gives_nothing;
+use aom_image::{
+    Argument, ClassDecl, ClassKind, Gives, Header, Image, Instr, Method, MethodFlags, Role, Thing,
+};
 use bitflags::Flags;
 
 #[tactic(auto, unfolding(crate::specs::Admitted::admits_instr))]
@@ -16,6 +16,7 @@ fn admits_instr(instr: &Instr) -> bool
         instr,
         Instr::Const(_, _)
             | Instr::Copy(_, _)
+            | Instr::Move(_, _)
             | Instr::Add(_, _, _)
             | Instr::Sub(_, _, _)
             | Instr::Mul(_, _, _)
@@ -26,7 +27,14 @@ fn admits_instr(instr: &Instr) -> bool
             | Instr::JumpEqual(_, _, _)
             | Instr::JumpLess(_, _, _)
             | Instr::JumpNull(_, _)
+            | Instr::JumpEmpty(_, _)
+            | Instr::Loop(_, _)
+            | Instr::Next(_, _)
             | Instr::Print(_)
+            | Instr::Load(_, _)
+            | Instr::Store(_, _)
+            | Instr::Take(_, _)
+            | Instr::Put(_, _)
             | Instr::New(_, _)
             | Instr::Delete(_)
             | Instr::Return(_)
@@ -41,11 +49,61 @@ fn is_plain(kind: ClassKind) -> bool
     matches!(kind, ClassKind::Plain)
 }
 
+#[tactic(auto, unfolding(crate::specs::Admitted::admits_thing))]
+fn admits_thing(thing: Thing) -> bool
+    ensures { result ≡ admits_thing thing }
+{
+    matches!(thing, Thing::Object(_))
+}
+
+fn admits_things(things: &[Thing]) -> bool
+    ensures { result ≡ list_all admits_thing things.now }
+{
+    things.iter().all(|thing| admits_thing(*thing))
+}
+
 #[tactic(auto, unfolding(crate::specs::Admitted::admits_class))]
 fn admits_class(class: &ClassDecl) -> bool
     ensures { result ≡ admits_class class.now }
 {
-    is_plain(class.kind) && class.words == 0 && class.fields.is_empty()
+    is_plain(class.kind) && admits_things(class.fields.as_slice())
+}
+
+#[tactic(auto, unfolding(crate::specs::Admitted::admits_role))]
+fn admits_role(role: Role) -> bool
+    ensures { result ≡ admits_role role }
+{
+    matches!(
+        role,
+        Role::Do | Role::Main | Role::Construct | Role::Destruct
+    )
+}
+
+#[tactic(auto, unfolding(crate::specs::Admitted::admits_argument))]
+fn admits_argument(argument: Argument) -> bool
+    ensures { result ≡ admits_argument argument }
+{
+    match argument {
+        Argument::Word => true,
+        Argument::Own(thing) => admits_thing(thing),
+    }
+}
+
+fn admits_arguments(arguments: &[Argument]) -> bool
+    ensures { result ≡ list_all admits_argument arguments.now }
+{
+    arguments.iter().all(|argument| admits_argument(*argument))
+}
+
+#[tactic(auto, unfolding(crate::specs::Admitted::admits_result))]
+fn admits_result(gives: Gives) -> bool
+    ensures { result ≡ admits_result gives }
+{
+    match gives {
+        Gives::Nothing | Gives::Word => true,
+        Gives::Own(thing) | Gives::Maybe(thing) => admits_thing(thing),
+        Gives::Left(_) => false,
+    }
 }
 
 fn admits_code(code: &[Instr]) -> bool
@@ -54,11 +112,10 @@ fn admits_code(code: &[Instr]) -> bool
     code.iter().all(|instr| admits_instr(instr))
 }
 
-fn is_bare(method: &Method) -> bool
-    ensures { result ≡ is_bare method.now }
+fn stays(method: &Method) -> bool
+    ensures { result ≡ stays method.now }
 {
-    method.class.is_none()
-        && method.flags.bits() == 0
+    !method.flags.contains(MethodFlags::LEAVES)
         && method.before.bits() == 0
         && method.after.bits() == 0
 }
@@ -67,10 +124,10 @@ fn is_bare(method: &Method) -> bool
 fn admits_method(method: &Method) -> bool
     ensures { result ≡ admits_method method.now }
 {
-    is_main(method)
-        && is_bare(method)
-        && method.arguments.is_empty()
-        && gives_nothing(method.gives)
+    admits_role(method.role)
+        && stays(method)
+        && admits_arguments(method.arguments.as_slice())
+        && admits_result(method.gives)
         && admits_code(method.code.as_slice())
 }
 
@@ -91,7 +148,7 @@ fn admits_methods(methods: &[Method]) -> bool
 fn admits_header(header: &Header) -> bool
     ensures { result ≡ admits_header header.now }
 {
-    header.natives == 0 && header.root.is_none()
+    header.natives == 0
 }
 
 /// Whether the image has nothing that is not admitted yet.
@@ -100,6 +157,5 @@ pub fn is_admitted(image: &Image) -> bool
 {
     admits_header(image.header())
         && admits_classes(image.classes().as_slice())
-        && image.methods().len() == 1
         && admits_methods(image.methods().as_slice())
 }

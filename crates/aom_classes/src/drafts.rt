@@ -3,8 +3,9 @@ ghost use Rattle.std.specs.Prelude.{◌<◌};
 
 use crate::linked::check_conditions;
 use aom_image::{
-    Argument, ClassDecl, ClassKind, ClassNumber, Gives, Header, Image, Instr, Items, LoopDepth,
-    Method, MethodFlags, MethodNumber, Place, Provider, Register, Role, States, Thing, form_ok,
+    Argument, ClassDecl, ClassKind, ClassNumber, EntryDepth, Gives, Header, Image, Instr, Items,
+    LoopDepth, Method, MethodFlags, MethodNumber, Place, Provider, Register, Role, States, Thing,
+    form_ok,
 };
 use std::alloc::{AllocError, Global};
 
@@ -58,6 +59,12 @@ pub fn depth(number: u8) -> LoopDepth
     requires { number < 4 }
 {
     LoopDepth::new(number).unwrap()
+}
+
+pub fn entry(number: u8) -> EntryDepth
+    requires { number < 8 }
+{
+    EntryDepth::new(number).unwrap()
 }
 
 pub fn active() -> ClassKind {

@@ -2,7 +2,7 @@
 ghost use Rattle.std.specs.Prelude.{◌<◌};
 
 use crate::drafts::{
-    ImageDraft, MethodDraft, active, class, depth, draft, method, place, register, server,
+    ImageDraft, MethodDraft, active, class, depth, draft, entry, method, place, register, server,
 };
 use crate::link;
 use crate::linked::check_conditions;
@@ -375,25 +375,95 @@ fn an_image_with_each_role(rt: HostRuntime) {
     assert!(rt; found(alloc, &image, class(200), Role::Do).is_none());
 }
 
-fn link_fault(alloc: Global, code: &[Instr]) -> Option<u8> {
-    let image = alone(alloc, code).image()?;
+/// The number of the fault by which an image is refused.
+fn link_fault(alloc: Global, draft: ImageDraft) -> Option<u8> {
+    let image = draft.image()?;
     link(alloc, image).err().map(|fault| fault.number())
+}
+
+/// What link says of a method before main.
+fn fault_beside(alloc: Global, one: MethodDraft) -> Option<u8> {
+    link_fault(alloc, beside(alloc, one, &[ret()]))
 }
 
 #[test]
 fn what_link_refuses(rt: HostRuntime) {
     let alloc = rt.alloc();
-    assert!(rt; link_fault(alloc, &[ret()]).is_none());
-    assert!(rt; link_fault(alloc, &[Instr::Stop]) == Some(6));
-    assert!(rt; link_fault(alloc, &[call(0), ret()]) == Some(0));
+    let code = [ret()];
+    let owner = alone(alloc, &code).owner(alloc, object(0));
+    assert!(rt; link_fault(alloc, owner) == Some(1));
+    let early = alone(alloc, &[new(0), ret()]).class(alloc, ClassKind::Plain);
+    assert!(rt; link_fault(alloc, early.method(alloc, destruct(0), &code)) == Some(2));
+    let plain = alone(alloc, &code).class(alloc, ClassKind::Plain);
+    assert!(rt; link_fault(alloc, plain.owner(alloc, object(0))) == Some(3));
+    let twice = alone(alloc, &code).method(alloc, main(), &code);
+    assert!(rt; link_fault(alloc, twice) == Some(4));
+    assert!(rt; fault_beside(alloc, draft(Role::Construct)) == Some(5));
+    assert!(rt; link_fault(alloc, alone(alloc, &[Instr::Stop])) == Some(6));
+    let unclosed = [Instr::Loop(depth(0), 3), ret()];
+    assert!(rt; link_fault(alloc, alone(alloc, &unclosed)) == Some(7));
+    let mainless = ImageDraft::new(alloc).method(alloc, work(), &code);
+    assert!(rt; link_fault(alloc, mainless) == Some(8));
+}
+
+#[test]
+fn what_is_not_admitted_yet(rt: HostRuntime) {
+    let alloc = rt.alloc();
+    let code = [ret()];
+    let message = Argument::Own(Thing::Message);
+    let entry = Instr::Call(Target::Entry(entry(0)), method(0), register(0), register(0));
+    assert!(rt; fault_beside(alloc, work().flagged(MethodFlags::LEAVES)) == Some(0));
+    assert!(rt; fault_beside(alloc, work().between(States::IDLE, States::NONE)) == Some(0));
+    assert!(rt; fault_beside(alloc, work().between(States::NONE, States::IDLE)) == Some(0));
+    assert!(rt; fault_beside(alloc, work().taking(1, message)) == Some(0));
+    assert!(rt; fault_beside(alloc, work().giving(Gives::Own(Thing::Message))) == Some(0));
+    assert!(rt; fault_beside(alloc, left().flagged(MethodFlags::LEAVES)) == Some(0));
+    assert!(rt; fault_beside(alloc, undo().taking(1, Argument::Word)) == Some(0));
+    assert!(rt; link_fault(alloc, alone(alloc, &[trap(0), ret()])) == Some(0));
+    assert!(rt; link_fault(alloc, beside(alloc, work(), &[entry, ret()])) == Some(0));
+    let holder = alone(alloc, &code).owner(alloc, Thing::Message);
+    assert!(rt; link_fault(alloc, holder) == Some(0));
+    let session = alone(alloc, &code).class(alloc, ClassKind::Session);
+    assert!(rt; link_fault(alloc, session) == Some(0));
+}
+
+/// A class that owns an object of another, with its methods, and a main with a root.
+fn owning(alloc: Global) -> ImageDraft {
+    let rounds = [
+        Instr::Loop(depth(0), 3),
+        Instr::Stop,
+        Instr::Next(depth(0), place(1)),
+        ret(),
+    ];
+    ImageDraft::new(alloc)
+        .class(alloc, ClassKind::Plain)
+        .owner(alloc, object(0))
+        .root(1)
+        .method(alloc, work().flagged(MethodFlags::QUIET), &[ret()])
+        .method(alloc, destruct(1), &rounds)
+        .method(
+            alloc,
+            draft(Role::Construct).of(1).taking(2, Argument::Word),
+            &rounds,
+        )
+        .method(
+            alloc,
+            work()
+                .of(1)
+                .taking(1, Argument::Own(object(0)))
+                .giving(Gives::Maybe(object(0))),
+            &[ret()],
+        )
+        .method(alloc, main(), &rounds)
 }
 
 #[test]
 fn what_link_takes(rt: HostRuntime) {
     let alloc = rt.alloc();
-    let linked = match alone(alloc, &[ret()]).image() {
+    let linked = match owning(alloc).image() {
         Some(image) => link(alloc, image).is_ok(),
         None => false,
     };
     assert!(rt; linked);
+    assert!(rt; link_fault(alloc, alone(alloc, &[ret()])).is_none());
 }

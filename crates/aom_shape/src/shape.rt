@@ -127,7 +127,7 @@ impl Shape {
         ensures no_more { SaysNoMore result (entry_shape linked.now method) }
         ensures no_less { SaysNoMore (entry_shape linked.now method) result }
     {
-        linked.facts();
+        let _formed = linked.image().methods();
         let declared = linked.method(method);
         Shape {
             registers: argument_kinds(declared.arguments.as_slice()),

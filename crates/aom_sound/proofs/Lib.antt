@@ -20,5 +20,6 @@ pub mod Booting
 pub mod Owners
 pub mod Soundness
 pub mod Wiring
+pub mod Bodies
 pub mod Looping
 pub mod Stuck

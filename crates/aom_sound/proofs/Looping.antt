@@ -12,7 +12,7 @@ use Rattle.aom_image.specs.declared.method.Gives.{Gives}
 use Rattle.aom_image.specs.declared.method.Gives.TheVariants.{Left, Maybe as A_maybe, Nothing, Own as An_own, Word as A_word}
 use Rattle.aom_classes.specs.Jumps.{jump_of}
 use Rattle.aom_classes.specs.Roles.{main_of}
-use Rattle.aom_sound.proofs.Wiring.{linked_is_looped}
+use Rattle.aom_sound.proofs.Bodies.{linked_is_looped}
 use Rattle.aom_sound.proofs.Maps.{at-put_at}
 use Rattle.aom_sound.specs.Calls.{entered, received, result_register, returned}
 use Rattle.aom_sound.specs.Destruction.{begun_by, destructor_of, gone, owns_nothing}

@@ -2,12 +2,12 @@
 use Rattle.std.specs.Prelude.{ℕ, false, ◌≡◌, ◌⊎◌, ◌<◌, IsSome, List, [], ◌∷◌, Some, None}
 use Rattle.aom_image.specs.Image.{Image}
 use Rattle.aom_image.specs.Views.{instr_at, method_at, method_class, method_role, leaves, gives_of, arguments_of}
+use Rattle.aom_image.specs.WellFormed.{WellFormed}
 use Rattle.aom_image.specs.declared.instr.Instr.TheVariants.{Call}
 use Rattle.aom_image.specs.declared.instr.Target.{Target}
 use Rattle.aom_image.specs.declared.method.Gives.TheVariants.{Nothing}
 use Rattle.aom_image.specs.declared.method.Role.TheVariants.{Do, Main, Construct, Destruct}
 use Rattle.aom_image.specs.declared.method.Thing.TheVariants.{Object as An_object_of}
-use Rattle.aom_classes.specs.Admitted.{IsAdmitted}
 use Rattle.aom_classes.specs.Linked.{IsLinked}
 use Rattle.aom_classes.specs.Roles.{role_of, main_of}
 use Rattle.aom_shape.specs.Things.{Member, field_thing}
@@ -63,9 +63,9 @@ pub record IsSound (p : Image) (refused : List ℕ) : Type 0 where
 abbrev pub TypedIsSound : Type 0
 TypedIsSound = (p : Image) (t : Typing) (refused : List ℕ) → IsWired p → IsTyped p t → IsSound p refused
 
--- what a linked image of the admitted kind gives the laws
+-- what a linked image gives the laws
 abbrev pub LinkedIsWired : Type 0
-LinkedIsWired = (p : Image) → IsLinked p → IsAdmitted p → IsWired p × (p.header.root ≡ None)
+LinkedIsWired = (p : Image) → WellFormed p → IsLinked p → IsWired p
 
 -- a move of a method, of a destruction, and the end of a dispatch
 abbrev pub InstructionKeeps : Type 0

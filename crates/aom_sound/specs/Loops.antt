@@ -2,9 +2,9 @@
 use Rattle.std.specs.Prelude.{ℕ, suc, ◌≡◌, ◌≢◌, ◌<◌, ◌≤◌, List, [], ◌∷◌, Some}
 use Rattle.aom_image.specs.Image.{Image}
 use Rattle.aom_image.specs.Views.{instr_at}
+use Rattle.aom_image.specs.WellFormed.{WellFormed}
 use Rattle.aom_image.specs.declared.instr.Instr.{Instr}
 use Rattle.aom_image.specs.declared.instr.Instr.TheVariants.{Loop, Next}
-use Rattle.aom_classes.specs.Admitted.{IsAdmitted}
 use Rattle.aom_classes.specs.Jumps.{jump_of}
 use Rattle.aom_classes.specs.Linked.{IsLinked}
 use Rattle.aom_sound.specs.State.{Frame, Task, Run, Trapped, Destroy, Dispatched, State, Choice, Goes, counter}
@@ -54,8 +54,8 @@ RoundsLeft p (Trapped ∷ ts) = AllWait p ts
 RoundsLeft p (Destroy ∷ ts) = AllWait p ts
 RoundsLeft p (Dispatched d ∷ ts) = AllWait p ts
 
--- this holds at the boot, and each move keeps it, where the loops lie so; in a linked image of the admitted kind they do
+-- this holds at the boot, and each move keeps it, where the loops lie so; in a linked image they do
 pub record LoopsKeep : Type 0 where
-  pub linked : (p : Image) → IsLinked p → IsAdmitted p → IsLooped p
+  pub linked : (p : Image) → WellFormed p → IsLinked p → IsLooped p
   pub boot : (p : Image) → RoundsLeft p (boot_state p).tasks
   pub moves : (p : Image) → IsLooped p → (c : Choice) (s u : State) → RoundsLeft p s.tasks → step p c s ≡ Goes u → RoundsLeft p u.tasks

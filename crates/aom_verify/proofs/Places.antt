@@ -1,17 +1,12 @@
 -- A well-formed image has places in each method, and no more methods than a number can name.
-use Rattle.std.proofs.Common.{◌≡◌, ℕ, zero, suc, ◌<◌, List, [], ◌∷◌, length, All, Some, slice_get, ◌∙◌, arith}
-use Rattle.std.proofs.lemmas.List.Elements.{All-head, All-tail}
+use Rattle.std.proofs.Common.{◌≡◌, ℕ, ◌<◌, length, Some, ◌∙◌, arith}
 use Rattle.aom_image.specs.Image.{Image}
 use Rattle.aom_image.specs.Views.{method_at}
 use Rattle.aom_image.specs.WellFormed.{WellFormed, MethodFits}
 use Rattle.aom_image.specs.declared.method.Method.{Method}
+use Rattle.aom_classes.proofs.Facts.{all_there}
 use Rattle.aom_verify.specs.Shapes.{Shapes}
 use Rattle.aom_verify.specs.Sweep.{HasPlaces, Spans}
-
-all_there : {X : Type 0} (P : X → Type 0) (xs : List X) (k : ℕ) (x : X) → All P xs → slice_get xs k ≡ Some x → P x
-all_there P [] k x h e = absurd cc
-all_there P (y ∷ ys) zero x h e = let same : y ≡ x = cc in rw (← same) (All-head P y ys h)
-all_there P (y ∷ ys) (suc k) x h e = all_there P ys k x (All-tail P y ys h) e
 
 pub some_places : (p : Image) (m : ℕ) (d : Method) → WellFormed p → method_at p m ≡ Some d → 0 < length d.code
 unfolding method_at

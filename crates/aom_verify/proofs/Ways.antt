@@ -1,14 +1,15 @@
 -- What the rule answers: its needs hold and its flows stay within the method, or a need fails.
-use Rattle.std.proofs.Common.{◌≡◌, ℕ, suc, ◌<◌, true, false, cond, List, [], ◌∷◌, length, IsSome, IsTrue, IfSome, Some, None, Ok, Err, refl, sym}
-use Rattle.std.proofs.lemmas.Bool.{false≢true}
+use Rattle.std.proofs.Common.{◌≡◌, ℕ, suc, ◌<◌, true, false, cond, List, [], ◌∷◌, length, IsSome, IfSome, Some, None, Ok, Err, refl, sym}
 use Rattle.aom_image.specs.Image.{Image}
-use Rattle.aom_image.specs.Views.{instr_at}
+use Rattle.aom_image.specs.Views.{instr_at, method_at}
 use Rattle.aom_image.specs.declared.instr.Instr.{Instr}
 use Rattle.aom_image.specs.declared.instr.Instr.TheVariants.{Const, Copy, Move, Add, Sub, Mul, And, Or, Xor, Jump, JumpEqual, JumpLess, JumpNull, JumpEmpty, Loop, Next, Print, Load, Store, Take, Put, New, Delete, Call, Return, Stop}
-use Rattle.aom_classes.specs.Admitted.{IsAdmitted, admits_instr}
-use Rattle.aom_classes.specs.Jumps.{KeepsWithin, jump_of, goes_on}
+use Rattle.aom_classes.specs.Jumps.{KeepsWithin, back_of, jump_of, goes_on}
 use Rattle.aom_classes.specs.Linked.{IsLinked}
-use Rattle.aom_classes.proofs.Facts.{admitted_instr, of_method, linked_place}
+use Rattle.aom_classes.specs.Loops.{LoopsNest}
+use Rattle.aom_classes.proofs.Facts.{at_place, of_method, linked_place}
+use Rattle.aom_classes.proofs.Nested.{back_within}
+use Rattle.aom_image.specs.declared.method.Method.{Method}
 use Rattle.aom_shape.specs.Kinds.{register, field}
 use Rattle.aom_shape.specs.Needs.{Need, Flow, AllTrue, judged}
 use Rattle.aom_shape.specs.Objects.{flow_jump_null, flow_jump_empty}
@@ -61,42 +62,47 @@ empty_within p m n pc sh fillings.Empty f to h next = (h, tt)
 empty_within p m n pc sh fillings.Full f to h next = (next, tt)
 empty_within p m n pc sh fillings.Perhaps f to h next = (next, (h, tt))
 
--- the flows of an instruction that keeps within its method; `next` comes with the condition on loops
-flows_within : (p : Image) (m n pc : ℕ) (sh : Shape) (i : Instr) → KeepsWithin n pc i → IsTrue (admits_instr i) → AllWithin n (flows p m pc sh i)
-unfolding jump_of goes_on admits_instr
-flows_within p m n pc sh (Const a w) h admitted = (h.ends refl, tt)
-flows_within p m n pc sh (Copy a b) h admitted = (h.ends refl, tt)
-flows_within p m n pc sh (Add a b c) h admitted = (h.ends refl, tt)
-flows_within p m n pc sh (Sub a b c) h admitted = (h.ends refl, tt)
-flows_within p m n pc sh (Mul a b c) h admitted = (h.ends refl, tt)
-flows_within p m n pc sh (And a b c) h admitted = (h.ends refl, tt)
-flows_within p m n pc sh (Or a b c) h admitted = (h.ends refl, tt)
-flows_within p m n pc sh (Xor a b c) h admitted = (h.ends refl, tt)
-flows_within p m n pc sh (Jump to) h admitted = (h.within, tt)
-flows_within p m n pc sh (JumpEqual a b to) h admitted = (h.ends refl, (h.within, tt))
-flows_within p m n pc sh (JumpLess a b to) h admitted = (h.ends refl, (h.within, tt))
-flows_within p m n pc sh (JumpNull a to) h admitted = null_within p m n pc sh (register sh a) a to h.within (h.ends refl)
-flows_within p m n pc sh (JumpEmpty f to) h admitted = empty_within p m n pc sh (field sh f) f to h.within (h.ends refl)
-flows_within p m n pc sh (Loop depth rounds) h admitted = (h.ends refl, tt)
-flows_within p m n pc sh (Next depth to) h admitted = absurd (false≢true admitted)
-flows_within p m n pc sh (Print a) h admitted = (h.ends refl, tt)
-flows_within p m n pc sh (Load a w) h admitted = (h.ends refl, tt)
-flows_within p m n pc sh (Store w b) h admitted = (h.ends refl, tt)
-flows_within p m n pc sh (Move a b) h admitted = (h.ends refl, tt)
-flows_within p m n pc sh (Take a f) h admitted = (h.ends refl, tt)
-flows_within p m n pc sh (Put f b) h admitted = (h.ends refl, tt)
-flows_within p m n pc sh (New a c) h admitted = (h.ends refl, tt)
-flows_within p m n pc sh (Delete a) h admitted = (h.ends refl, tt)
-flows_within p m n pc sh (Call target m' first c) h admitted = (h.ends refl, tt)
-flows_within p m n pc sh (Return a) h admitted = tt
-flows_within p m n pc sh Stop h admitted = (h.ends refl, tt)
-flows_within p m n pc sh _ h admitted = tt
+-- the flows of an instruction that keeps within its method
+flows_within : (p : Image) (m n pc : ℕ) (sh : Shape) (i : Instr) → KeepsWithin n pc i → IfSome (back_of i) (λ t. t < n) → AllWithin n (flows p m pc sh i)
+unfolding jump_of goes_on back_of
+flows_within p m n pc sh (Const a w) h back = (h.ends refl, tt)
+flows_within p m n pc sh (Copy a b) h back = (h.ends refl, tt)
+flows_within p m n pc sh (Add a b c) h back = (h.ends refl, tt)
+flows_within p m n pc sh (Sub a b c) h back = (h.ends refl, tt)
+flows_within p m n pc sh (Mul a b c) h back = (h.ends refl, tt)
+flows_within p m n pc sh (And a b c) h back = (h.ends refl, tt)
+flows_within p m n pc sh (Or a b c) h back = (h.ends refl, tt)
+flows_within p m n pc sh (Xor a b c) h back = (h.ends refl, tt)
+flows_within p m n pc sh (Jump to) h back = (h.within, tt)
+flows_within p m n pc sh (JumpEqual a b to) h back = (h.ends refl, (h.within, tt))
+flows_within p m n pc sh (JumpLess a b to) h back = (h.ends refl, (h.within, tt))
+flows_within p m n pc sh (JumpNull a to) h back = null_within p m n pc sh (register sh a) a to h.within (h.ends refl)
+flows_within p m n pc sh (JumpEmpty f to) h back = empty_within p m n pc sh (field sh f) f to h.within (h.ends refl)
+flows_within p m n pc sh (Loop depth rounds) h back = (h.ends refl, tt)
+flows_within p m n pc sh (Next depth to) h back = (back, (h.ends refl, tt))
+flows_within p m n pc sh (Print a) h back = (h.ends refl, tt)
+flows_within p m n pc sh (Load a w) h back = (h.ends refl, tt)
+flows_within p m n pc sh (Store w b) h back = (h.ends refl, tt)
+flows_within p m n pc sh (Move a b) h back = (h.ends refl, tt)
+flows_within p m n pc sh (Take a f) h back = (h.ends refl, tt)
+flows_within p m n pc sh (Put f b) h back = (h.ends refl, tt)
+flows_within p m n pc sh (New a c) h back = (h.ends refl, tt)
+flows_within p m n pc sh (Delete a) h back = (h.ends refl, tt)
+flows_within p m n pc sh (Call target m' first c) h back = (h.ends refl, tt)
+flows_within p m n pc sh (Return a) h back = tt
+flows_within p m n pc sh Stop h back = (h.ends refl, tt)
+flows_within p m n pc sh _ h back = tt
 
-pub ways_within : (p : Image) (m pc : ℕ) (sh : Shape) (ways : List Flow) → IsLinked p → IsAdmitted p → Flows p m pc sh ways → WithinMethod p m ways
-ways_within p m pc sh ways linked admitted h = record {
+nest_of : (p : Image) (m : ℕ) (d : Method) → IsLinked p → method_at p m ≡ Some d → LoopsNest d.code
+unfolding method_at
+nest_of p m d linked e = at_place (λ _ x. LoopsNest x.code) p.methods m d linked.loops e
+
+pub ways_within : (p : Image) (m pc : ℕ) (sh : Shape) (ways : List Flow) → IsLinked p → Flows p m pc sh ways → WithinMethod p m ways
+ways_within p m pc sh ways linked h = record {
   each = λ d e.
       let w = of_method p m pc h.instr h.stands in
       let same : w.0 ≡ d = let f = w.1 in cc in
       let keeps = linked_place p m pc d h.instr linked e (rw same at w.2) in
-      rw h.is (flows_within p m (length d.code) pc sh h.instr keeps (admitted_instr p m pc h.instr admitted h.stands));
+      let nest = nest_of p m d linked e in
+      rw h.is (flows_within p m (length d.code) pc sh h.instr keeps (back_within d.code pc h.instr nest (rw same at w.2)));
 }

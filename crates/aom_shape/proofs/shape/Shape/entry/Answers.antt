@@ -1,12 +1,13 @@
 use Rattle.std.proofs.Common.{arith}
-use Rattle.aom_classes.proofs.Facts.{admitted_method, bare_of}
+use Rattle.aom_shape.proofs.Callees.{few_arguments}
 use Rattle.aom_shape.proofs.Starting.{begun}
 use Rattle.aom_shape.proofs.shape.Shape.entry.Goals as goal
 
 pub argument_kinds-requires : goal.argument_kinds-requires
 argument_kinds-requires c =
-    let bare = bare_of _ (admitted_method c.args.linked.now c.args.method c.method-declared.result.now c.facts.ensures.admitted c.method-declared.ensures) in
-    rw c.as_slice.ensures (omega (arith, bare.arguments))
+    let formed = rw c.image.ensures at c.methods-formed.ensures.well_formed in
+    let few = few_arguments c.args.linked.now c.args.method c.method-declared.result.now formed c.method-declared.ensures in
+    rw c.as_slice.ensures (omega (arith, few))
 
 pub returns-clause-no_more : goal.returns-clause-no_more
 returns-clause-no_more c =

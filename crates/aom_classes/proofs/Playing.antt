@@ -1,0 +1,60 @@
+-- What is known of the methods that the searches by role answer.
+use Rattle.std.proofs.Common.{◌≡◌, ◌∙◌, ℕ, List, [], ◌∷◌, Bool, true, Option, Some, None, slice_get, get_or, position, refl, sym, ap}
+use Rattle.std.proofs.lemmas.Bool.{eqb-true}
+use Rattle.std.proofs.lemmas.Option.{slice_get-get_or}
+use Rattle.std.proofs.lemmas.List.Quantifiers.{position-Some}
+use Rattle.aom_image.specs.Image.{Image}
+use Rattle.aom_image.specs.Views.{method_at}
+use Rattle.aom_image.specs.declared.method.Method.{Method}
+use Rattle.aom_image.specs.declared.method.Role.{Role}
+use Rattle.aom_image.specs.declared.method.Role.TheVariants.{Do, Main, Construct, Destruct, Run, Cancel, Error, Accept, Service, Undo}
+use Rattle.aom_classes.specs.Roles.{is_class, is_main, main_of, plays, role_number, role_of, same_role}
+use Rattle.aom_classes.proofs.Each.{both}
+
+-- the roles by their numbers
+roles : List Role
+roles = Do ∷ Main ∷ Construct ∷ Destruct ∷ Run ∷ Cancel ∷ Error ∷ Accept ∷ Service ∷ Undo ∷ []
+
+at_number : (r : Role) → slice_get roles (role_number r) ≡ Some r
+unfolding roles role_number
+at_number Do = refl
+at_number Main = refl
+at_number Construct = refl
+at_number Destruct = refl
+at_number Run = refl
+at_number Cancel = refl
+at_number Error = refl
+at_number Accept = refl
+at_number Service = refl
+at_number Undo = refl
+
+-- roles of one number are one
+pub same_roles : (a b : Role) → same_role a b ≡ true → a ≡ b
+same_roles a b e =
+    let n = eqb-true (role_number a) (role_number b) e in
+    let same : Some a ≡ Some b = sym (at_number a) ∙ (ap (slice_get roles) n ∙ at_number b) in
+    cc
+
+-- a place that a search answers has an element that passes
+pub found : {X : Type 0} (test : X → Bool) (xs : List X) (k : ℕ) → position test xs ≡ Some k → (x : X) × (slice_get xs k ≡ Some x) × (test x ≡ true)
+found test [] k e = cc
+found test (x ∷ xs) k e =
+    let w = position-Some test (x ∷ xs) k x e in
+    (get_or (x ∷ xs) k x, slice_get-get_or (x ∷ xs) k x w.0, w.1)
+
+-- main is a method
+pub main_found : (p : Image) (m : ℕ) → main_of p ≡ Some m → (d : Method) × (method_at p m ≡ Some d) × (d.role ≡ Main)
+unfolding main_of method_at
+main_found p m e = let w = found is_main p.methods m e in (w.0, w.1, same_roles w.0.role Main w.2)
+
+class_is : (c : ℕ) (own : Option ℕ) → is_class c own ≡ true → own ≡ Some c
+class_is c None e = cc
+class_is c (Some k) e = ap (λ n. Some n) (eqb-true k c e)
+
+-- and what plays a role in a class is one of its methods
+pub role_found : (p : Image) (c m : ℕ) (r : Role) → role_of p c r ≡ Some m → (d : Method) × (method_at p m ≡ Some d) × (d.class ≡ Some c) × (d.role ≡ r)
+unfolding role_of method_at plays
+role_found p c m r e =
+    let w = found (plays c r) p.methods m e in
+    let t = both (is_class c w.0.class) (same_role w.0.role r) w.2 in
+    (w.0, w.1, class_is c w.0.class t.0, same_roles w.0.role r t.1)
