@@ -12,34 +12,56 @@ use bitflags::Flags;
 fn admits_instr(instr: &Instr) -> bool
     ensures { result ≡ admits_instr instr.now }
 {
-    matches!(
-        instr,
+    match instr {
         Instr::Const(_, _)
-            | Instr::Copy(_, _)
-            | Instr::Move(_, _)
-            | Instr::Add(_, _, _)
-            | Instr::Sub(_, _, _)
-            | Instr::Mul(_, _, _)
-            | Instr::And(_, _, _)
-            | Instr::Or(_, _, _)
-            | Instr::Xor(_, _, _)
-            | Instr::Jump(_)
-            | Instr::JumpEqual(_, _, _)
-            | Instr::JumpLess(_, _, _)
-            | Instr::JumpNull(_, _)
-            | Instr::JumpEmpty(_, _)
-            | Instr::Loop(_, _)
-            | Instr::Next(_, _)
-            | Instr::Print(_)
-            | Instr::Load(_, _)
-            | Instr::Store(_, _)
-            | Instr::Take(_, _)
-            | Instr::Put(_, _)
-            | Instr::New(_, _)
-            | Instr::Delete(_)
-            | Instr::Return(_)
-            | Instr::Stop
-    )
+        | Instr::Copy(_, _)
+        | Instr::Move(_, _)
+        | Instr::Add(_, _, _)
+        | Instr::Sub(_, _, _)
+        | Instr::Mul(_, _, _)
+        | Instr::And(_, _, _)
+        | Instr::Or(_, _, _)
+        | Instr::Xor(_, _, _)
+        | Instr::Jump(_)
+        | Instr::JumpEqual(_, _, _)
+        | Instr::JumpLess(_, _, _)
+        | Instr::JumpNull(_, _)
+        | Instr::JumpEmpty(_, _)
+        | Instr::Loop(_, _)
+        | Instr::Next(_, _)
+        | Instr::Print(_)
+        | Instr::Load(_, _)
+        | Instr::Store(_, _)
+        | Instr::Take(_, _)
+        | Instr::Put(_, _)
+        | Instr::New(_, _)
+        | Instr::Delete(_)
+        | Instr::Return(_)
+        | Instr::Stop => true,
+        Instr::JumpActive(_)
+        | Instr::JumpAdded(_)
+        | Instr::NewOrLeave(_, _)
+        | Instr::Push(_)
+        | Instr::PushOperation(_, _)
+        | Instr::Pop(_)
+        | Instr::PopOperation
+        | Instr::PopDelete
+        | Instr::Call(_, _, _, _)
+        | Instr::Trap(_, _, _, _)
+        | Instr::Leave(_)
+        | Instr::LeaveIf(_)
+        | Instr::Enlist(_)
+        | Instr::Issue(_, _)
+        | Instr::SetActive
+        | Instr::Cancel
+        | Instr::Abort
+        | Instr::Status(_)
+        | Instr::Connect(_)
+        | Instr::Ask(_, _, _)
+        | Instr::Close
+        | Instr::TakeMessage(_)
+        | Instr::Reply(_, _) => false,
+    }
 }
 
 #[tactic(auto, unfolding(crate::specs::Admitted::is_plain))]

@@ -62,6 +62,17 @@ const FULL_HEAP: [u8; 156] = [
     0, 0x30, 0, 0, 0, 0, 0, 0, 0, 0x22, 0, 0, 0, 0, 0, 0, 0,
 ];
 
+/// A root, whose destructor prints 9, and a loop that prints 4 three times.
+const ROUNDS: [u8; 196] = [
+    0x41, 0x4f, 0x49, 0x4d, 0, 1, 0, 1, 0, 2, 0, 1, 0, 0, 0, 0, 0, 0, 0, 0, 0, 0, 0, 0x64, 0, 0, 0,
+    0, 0, 0, 0xff, 0xff, 0, 0, 0, 0, 0, 0, 0, 0, 0, 0, 0, 0, 0, 0, 0, 0, 0, 0, 0, 0, 0, 0, 3, 2, 0,
+    0, 0, 0, 0, 0, 0, 0, 0, 0, 0, 0, 0, 0, 0, 0, 0xff, 0xff, 0, 3, 1, 0, 0, 0, 0, 0, 0, 9, 0x13, 0,
+    0, 0, 0, 0, 0, 0, 0x22, 0, 0, 0, 0, 0, 0, 0, 0xff, 0xff, 1, 0, 0, 0, 0, 0, 0, 0, 0, 0, 0, 0, 0,
+    0, 0, 0, 0, 0, 0xff, 0xff, 0, 9, 0x18, 0, 0, 0, 0, 0, 0, 0, 0x0d, 0, 0, 0, 0, 0, 0, 3, 0x17, 0,
+    0, 0, 0, 0, 0, 0, 1, 1, 0, 0, 0, 0, 0, 4, 0x11, 0, 0, 0, 0, 0, 0, 3, 0x13, 1, 0, 0, 0, 0, 0, 0,
+    0x12, 0, 0, 0, 0, 0, 0, 5, 0x30, 0, 0, 0, 0, 0, 0, 0, 0x22, 0, 0, 0, 0, 0, 0, 0,
+];
+
 /// What a call answered and wrote.
 #[derive(Debug, PartialEq, Eq, Drop)]
 struct Answer {
@@ -120,6 +131,15 @@ fn the_first_image_is_accepted_and_runs(rt: HostRuntime) -> Result<(), Fail> {
     assert_eq!(rt; checks(alloc, &FIRST, 100), accepted);
     let told = answer_of(alloc, ExitStatus::Done, FIRST_TEXT, "")?;
     assert_eq!(rt; runs(alloc, &FIRST, b"", 100), told);
+    Ok(())
+}
+
+#[test]
+fn a_loop_goes_round_and_a_stopped_runs_root_goes(rt: HostRuntime) -> Result<(), Fail> {
+    let alloc = rt.alloc();
+    let text = "@0 main\nout 4\nout 4\nout 4\nout 9\ngone 0\nend stopped cells 0\n";
+    let told = answer_of(alloc, ExitStatus::Done, text, "")?;
+    assert_eq!(rt; runs(alloc, &ROUNDS, b"", 100), told);
     Ok(())
 }
 
