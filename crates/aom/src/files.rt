@@ -4,7 +4,7 @@ use std::fs::File;
 use std::io::{ErrorKind, Read};
 use std::rt::Files;
 
-/// One byte more than the most that an image or a script may have.
+/// One byte more than the most that an image, a text or a script may have.
 const MOST_BYTES: u64 = (1 << 20) + 1;
 
 /// The bytes of a file, and of a longer one its first. That a file is too long is told by what is made of its bytes.

@@ -11,7 +11,9 @@ mod output;
 
 use crate::files::read_file;
 use crate::output::Output;
-use aom_main::{ExitStatus, Fault, Words, WordsFault, check_bytes, read_words, run_bytes, tell};
+use aom_main::{
+    ExitStatus, Fault, Words, WordsFault, asm_bytes, check_bytes, read_words, run_bytes, tell,
+};
 use aom_run::{Sink, write_text};
 use std::process::ExitCode;
 use std::{env, io};
@@ -90,6 +92,10 @@ fn obey<W: Sink, E: Sink>(
             let image = read_file(rt, image)?;
             let script = read_file(rt, script)?;
             Ok(run_bytes(alloc, &image, &script, *limit, out, errors))
+        }
+        Words::Asm { text } => {
+            let text = read_file(rt, text)?;
+            Ok(asm_bytes(alloc, &text, out, errors))
         }
     }
 }

@@ -101,14 +101,10 @@ fn read_statements<'a>(alloc: Global, text: Text<'a>, last: u32) -> Result<Progr
     ensures { Answers image_of result (read_statements last text.entry) }
 {
     let mut scope = at_line(last, named(alloc, &text))?;
-    match read_program(alloc, text.again(), last, &scope) {
-        Ok(first) => {
-            scope.is_strict = true;
-            scope.kinds = first.into_classes();
-            read_program(alloc, text, last, &scope)
-        }
-        Err(fault) => Err(fault),
-    }
+    let first = read_program(alloc, text.again(), last, &scope)?;
+    scope.is_strict = true;
+    scope.kinds = first.into_classes();
+    read_program(alloc, text, last, &scope)
 }
 
 /// The last line of a text, and 1 where there is none.

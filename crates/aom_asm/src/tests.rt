@@ -176,6 +176,12 @@ fn each_fault_has_its_line(rt: HostRuntime) -> Result<(), Fail> {
         ("image budget 4\nfoo", 2, AsmFaultKind::UnknownWord),
         ("image budget 4\nnatives", 2, AsmFaultKind::BadShape),
         ("image cells x budget 4", 1, AsmFaultKind::BadNumber),
+        ("image version 1 budget 4", 1, AsmFaultKind::LimitPassed),
+        ("image version 2 budget 4", 1, AsmFaultKind::BadShape),
+        ("image\nversion 3", 1, AsmFaultKind::BadShape),
+        ("image version -2", 1, AsmFaultKind::LimitPassed),
+        ("image version x", 1, AsmFaultKind::BadNumber),
+        ("image cells 1 version 3", 1, AsmFaultKind::BadShape),
         ("image budget -1", 1, AsmFaultKind::LimitPassed),
         ("image budget 4294967296", 1, AsmFaultKind::LimitPassed),
         (

@@ -44,6 +44,12 @@ Tells fault sent = Says (ended (fault_line fault)) sent
 abbrev pub Told : Fault → ExitStatus → Sent → Type 0
 Told fault status errors = ((status ≡ status_of fault) × Tells fault errors) ⊎ ((status ≡ Faulty) × Tells faults.Memory errors)
 
+-- a text went out with status 0, or the output has failed and that is told
+abbrev pub Sends : List ℕ → ExitStatus → Sent → Sent → Type 0
+Sends text status out errors =
+    ((status ≡ Done) × (out.now ≡ after out.before text) × IsSilent errors)
+    ⊎ ((status ≡ Faulty) × (out.failed ≡ true) × Says text out × Told faults.Write Faulty errors)
+
 -- the transcript of a run of the checked machine went out
 pub record Transcribed (p : Image) (refused : List ℕ) (ending : Ending) (sent : Sent) : Type 0 where
   pub lines : List Line

@@ -1,4 +1,5 @@
 pub mod Acceptable
+pub mod Assembly
 pub mod CommandLine
 pub mod Headline
 pub mod Status

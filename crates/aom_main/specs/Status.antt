@@ -17,10 +17,14 @@ use Rattle.aom_run.specs.Faults.{fault_text}
 use Rattle.aom_run.specs.declared.fault.ScriptFault.{ScriptFault}
 use Rattle.aom_run.specs.declared.fault.ScriptFaultKind.{ScriptFaultKind}
 use Rattle.aom_run.specs.declared.fault.ScriptFaultKind.TheVariants as kinds
+use Rattle.aom_text.specs.Faults.{fault_text as asm_line}
+use Rattle.aom_text.specs.declared.fault.AsmFault.{AsmFault}
+use Rattle.aom_text.specs.declared.fault.AsmFaultKind.{AsmFaultKind}
+use Rattle.aom_text.specs.declared.fault.AsmFaultKind.TheVariants as texts
 use Rattle.aom_main.specs.declared.status.ExitStatus.{ExitStatus}
 use Rattle.aom_main.specs.declared.status.ExitStatus.TheVariants as statuses
 use Rattle.aom_main.specs.declared.faults.Fault.{Fault}
-use Rattle.aom_main.specs.declared.faults.Fault.TheVariants.{Load, Link, Verify, Budget, Script, Native, File, Write, Memory}
+use Rattle.aom_main.specs.declared.faults.Fault.TheVariants.{Load, Asm, Link, Verify, Budget, Script, Native, File, Write, Memory}
 
 -- the number that the system gets
 abbrev pub status_number : ExitStatus → ℕ
@@ -33,6 +37,7 @@ status_number statuses.Fault = 5
 -- the line by which a fault is told, without its line feed
 abbrev pub fault_line : Fault → List ℕ
 fault_line (Load fault) = codes "load " ++ decimal (fault_number fault)
+fault_line (Asm fault) = asm_line fault
 fault_line (Link fault) = codes "link " ++ decimal (number_of fault)
 fault_line (Verify refusal) = line_of refusal
 fault_line (Budget fault) = codes "budget " ++ decimal (budget_number fault)
@@ -45,6 +50,7 @@ fault_line Memory = codes "memory"
 -- the status that goes with it
 abbrev pub status_of : Fault → ExitStatus
 status_of (Load fault) = statuses.ImageRefused
+status_of (Asm fault) = statuses.ImageRefused
 status_of (Link fault) = statuses.ImageRefused
 status_of (Verify refusal) = statuses.ImageRefused
 status_of (Budget fault) = statuses.ImageRefused
@@ -58,6 +64,13 @@ status_of Memory = statuses.Fault
 abbrev pub of_load : LoadFault → Fault
 of_load loads.OutOfMemory = Memory
 of_load fault = Load fault
+
+abbrev pub of_asm_kind : AsmFault → AsmFaultKind → Fault
+of_asm_kind fault texts.OutOfMemory = Memory
+of_asm_kind fault kind = Asm fault
+
+abbrev pub of_asm : AsmFault → Fault
+of_asm fault = of_asm_kind fault fault.kind
 
 abbrev pub of_link : LinkFault → Fault
 of_link links.OutOfMemory = Memory

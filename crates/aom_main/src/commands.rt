@@ -2,9 +2,11 @@
 ghost use Rattle.std.specs.Prelude.{ℕ, ◌≡◌, ◌≤◌, List, Ok};
 ghost use Rattle.aom_run.specs.Script.{denoted};
 ghost use Rattle.aom_main.specs.Acceptable.{IsSpelled};
-ghost use Rattle.aom_main.specs.Headline.{Accepts, Ends, RunAnswers, CheckAnswers};
+ghost use Rattle.aom_main.specs.Assembly.{AsmAnswers};
+ghost use Rattle.aom_main.specs.Headline.{Ends, RunAnswers, CheckAnswers, Sends};
 
 use crate::accepting::accept_bytes;
+use crate::assembling::assemble_bytes;
 use crate::running::run_accepted;
 use crate::{ExitStatus, Fault, tell};
 use aom_budget::Accepted;
@@ -82,6 +84,7 @@ fn end<E: Sink>(alloc: Global, outcome: Outcome, errors: &mut E) -> ExitStatus
 }
 
 /// Tells whether an image is accepted.
+#[tactic(auto, using(crate::proofs::Sending::checked))]
 pub fn check_bytes<W: Sink, E: Sink>(
     alloc: Global,
     image: &[u8],
@@ -91,16 +94,32 @@ pub fn check_bytes<W: Sink, E: Sink>(
     ensures { CheckAnswers image.now (record { before = W.out out.old; now = W.out out.new; failed = W.failed out.new }) (record { before = E.out errors.old; now = E.out errors.new; failed = E.failed errors.new }) result }
 {
     match accept_bytes(alloc, image) {
-        Ok(_accepted) => say_accepted(alloc, out, errors),
+        Ok(_accepted) => send(alloc, b"accepted\n", out, errors),
         Err(fault) => tell(alloc, &fault, errors),
     }
 }
 
-/// Writes that an image is accepted.
-fn say_accepted<W: Sink, E: Sink>(alloc: Global, out: &mut W, errors: &mut E) -> ExitStatus
-    ensures { (bytes : List ℕ) → Accepts bytes → CheckAnswers bytes (record { before = W.out out.old; now = W.out out.new; failed = W.failed out.new }) (record { before = E.out errors.old; now = E.out errors.new; failed = E.failed errors.new }) result }
+/// Writes the bytes of the image that an assembly text denotes.
+#[tactic(auto, using(crate::proofs::Sending::assembled))]
+pub fn asm_bytes<W: Sink, E: Sink>(
+    alloc: Global,
+    text: &[u8],
+    out: &mut W,
+    errors: &mut E,
+) -> ExitStatus
+    ensures { AsmAnswers text.now (record { before = W.out out.old; now = W.out out.new; failed = W.failed out.new }) (record { before = E.out errors.old; now = E.out errors.new; failed = E.failed errors.new }) result }
 {
-    write_text(out, b"accepted\n");
+    match assemble_bytes(alloc, text) {
+        Ok(bytes) => send(alloc, &bytes, out, errors),
+        Err(fault) => tell(alloc, &fault, errors),
+    }
+}
+
+/// Writes a text to the output, and tells whether that has failed.
+fn send<W: Sink, E: Sink>(alloc: Global, text: &[u8], out: &mut W, errors: &mut E) -> ExitStatus
+    ensures { Sends text.now result (record { before = W.out out.old; now = W.out out.new; failed = W.failed out.new }) (record { before = E.out errors.old; now = E.out errors.new; failed = E.failed errors.new }) }
+{
+    write_text(out, text);
     if out.has_failed() {
         return tell(alloc, &Fault::Write, errors);
     }

@@ -9,6 +9,7 @@ use aom_classes::LinkFault;
 use aom_exec::BootFault;
 use aom_image::LoadFault;
 use aom_run::{ScriptFault, ScriptFaultKind, Sink, write_text};
+use aom_text::{AsmFault, AsmFaultKind};
 use aom_verify::Refusal;
 use std::alloc::{AllocError, Global};
 use std::fmt;
@@ -17,6 +18,7 @@ use std::fmt;
 #[derive(Clone, Copy, PartialEq, Eq, Debug)]
 pub enum Fault {
     Load(LoadFault),
+    Asm(AsmFault),
     Link(LinkFault),
     Verify(Refusal),
     Budget(BudgetFault),
@@ -36,9 +38,8 @@ impl Fault {
         ensures { result ≡ status_of self.now }
     {
         match self {
-            Fault::Load(_) | Fault::Link(_) | Fault::Verify(_) | Fault::Budget(_) => {
-                ExitStatus::ImageRefused
-            }
+            Fault::Load(_) | Fault::Asm(_) | Fault::Link(_) | Fault::Verify(_) | Fault::Budget(_) =>
+                ExitStatus::ImageRefused,
             Fault::Script(_) | Fault::Native => ExitStatus::CallRefused,
             Fault::File | Fault::Write | Fault::Memory => ExitStatus::Fault,
         }
@@ -55,6 +56,7 @@ impl fmt::Display for Fault {
     fn fmt<W: fmt::Write>(&self, f: &mut fmt::Formatter<W>) -> fmt::Result {
         match self {
             Fault::Load(fault) => write!(f, "{fault}"),
+            Fault::Asm(fault) => write!(f, "{fault}"),
             Fault::Link(fault) => {
                 let number = fault.number();
                 write!(f, "link {number}")
@@ -83,6 +85,20 @@ impl From<LoadFault> for Fault {
         match fault {
             LoadFault::OutOfMemory => Fault::Memory,
             _ => Fault::Load(fault),
+        }
+    }
+}
+
+impl From<AsmFault> for Fault {
+    ghost use Rattle.std.specs.Prelude.{◌≡◌};
+    ghost use Rattle.aom_main.specs.Status.{of_asm};
+
+    ghost from_gives = { λ e f. f ≡ of_asm e };
+
+    fn from(fault: AsmFault) -> Fault {
+        match fault.kind {
+            AsmFaultKind::OutOfMemory => Fault::Memory,
+            _ => Fault::Asm(fault),
         }
     }
 }

@@ -3,7 +3,7 @@ ghost use Rattle.std.specs.Prelude.{◌≡◌, ◌≤◌, IfOk, IfErr, Some, fal
 ghost use Rattle.std.specs.String.{string_bytes};
 ghost use Rattle.clap.specs.declared.builder.command.Command.TheViews.{out-Command as fields_of};
 ghost use Rattle.clap.specs.Words.{app_of, found_of, kind_of, one_of, rows_of, rule_of, subcommand_of, subcommand_rows_of, takes};
-ghost use Rattle.aom_main.specs.CommandLine.{check_form, run_form, form, file_rule, limit_rule, native_rule, texts_of, word_of, Asks, Declines, IsLimit, KeepsLimit, Says};
+ghost use Rattle.aom_main.specs.CommandLine.{asm_form, check_form, run_form, form, file_rule, limit_rule, native_rule, texts_of, word_of, Asks, Declines, IsLimit, KeepsLimit, Says};
 
 use clap::error::ErrorKind;
 use clap::{Arg, ArgAction, ArgMatches, Command, Error, value_parser};
@@ -20,6 +20,9 @@ pub enum Words {
         script: String,
         /// The most dispatches after main's.
         limit: u32,
+    },
+    Asm {
+        text: String,
     },
 }
 
@@ -63,11 +66,13 @@ fn aom_command<'a>(alloc: Global) -> Result<Command<'a>, AllocError>
 {
     let check = check_command(alloc)?;
     let run = run_command(alloc)?;
+    let asm = asm_command(alloc)?;
     Command::new(alloc, "aom")
-        .about("Checks and runs images of programs of active objects")
+        .about("Assembles, checks and runs images of programs of active objects")
         .subcommand_required(true)
         .subcommand(check)?
-        .subcommand(run)
+        .subcommand(run)?
+        .subcommand(asm)
 }
 
 fn check_command<'a>(alloc: Global) -> Result<Command<'a>, AllocError>
@@ -77,6 +82,15 @@ fn check_command<'a>(alloc: Global) -> Result<Command<'a>, AllocError>
     Command::new(alloc, "check")
         .about("Tells whether an image is accepted")
         .arg(file_arg(alloc, "IMAGE", "The file of an image"))
+}
+
+fn asm_command<'a>(alloc: Global) -> Result<Command<'a>, AllocError>
+    ensures form { IfOk result (λ c. app_of c ≡ asm_form) }
+    ensures own { IfOk result (λ c. (fields_of c).has_globals ≡ false) }
+{
+    Command::new(alloc, "asm")
+        .about("Writes the image that a text denotes")
+        .arg(file_arg(alloc, "TEXT", "The file of an assembly text"))
 }
 
 fn run_command<'a>(alloc: Global) -> Result<Command<'a>, AllocError>
@@ -155,6 +169,9 @@ fn command_words(alloc: Global, command: &str, own: &ArgMatches) -> Result<Words
             image: word_of(alloc, own, "IMAGE")?,
         }),
         "run" => run_words(alloc, own),
+        "asm" => Ok(Words::Asm {
+            text: word_of(alloc, own, "TEXT")?,
+        }),
         _ => Err(WordsFault::Text(String::new(alloc))),
     }
 }

@@ -1,13 +1,24 @@
 //! The statement that opens a text.
 ghost use Rattle.std.specs.Prelude.{◌≡◌};
 ghost use Rattle.aom_syntax.specs.Reading.{Reads};
-ghost use Rattle.aom_syntax.specs.Headers.{optional_root, image_statement};
+ghost use Rattle.aom_syntax.specs.Headers.{optional_version, optional_root, image_statement};
 
 use crate::{Keyword, Reader, Scope};
 use aom_image::{ClassNumber, Header};
 use aom_text::AsmFaultKind;
 
 impl<'a> Reader<'a> {
+    /// The version, where it is said. It can only be 2, and no text of version 2 is taken yet.
+    fn optional_version(&mut self) -> Result<(), AsmFaultKind>
+        ensures { Reads (λ x. (x, self.new)) result (optional_version self.old) }
+    {
+        if !self.took(Keyword::Version) {
+            return Ok(());
+        }
+        self.number(2, 2)?;
+        Err(AsmFaultKind::BadShape)
+    }
+
     /// The end of the statement, with the class of the root or without.
     fn optional_root(&mut self, scope: &Scope) -> Result<Option<ClassNumber>, AsmFaultKind>
         ensures { Reads (λ x. (x, self.new)) result (optional_root scope.now self.old) }
@@ -26,6 +37,7 @@ impl<'a> Reader<'a> {
         ensures { Reads (λ x. (x, self.new)) result (image_statement scope.now self.old) }
     {
         self.keyword(Keyword::Image)?;
+        self.optional_version()?;
         let cells = self.optional_number(Keyword::Cells, 4096)?;
         let messages = self.optional_number(Keyword::Messages, 1024)?;
         let natives = self.optional_number(Keyword::Natives, 16)?;

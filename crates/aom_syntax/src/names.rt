@@ -1,25 +1,28 @@
 //! The names of a text.
 ghost use Rattle.std.specs.Prelude.{◌≡◌, [], ◌∷◌, ◌++◌, ◌<◌, ◌≤◌, IfOk, length};
-ghost use Rattle.std.specs.List.{position};
-ghost use Rattle.std.specs.Str.{bytes_eq};
 ghost use Rattle.aom_syntax.specs.Names.{place_of, referred};
 
 use aom_text::AsmFaultKind;
 use std::alloc::{AllocError, Global};
+use std::collections::BTreeMap;
 use std::marker::Model;
 
-/// Names in the order in which they are declared.
+/// Names in the order in which they are declared, and the place at which each is declared first.
 #[derive(Drop)]
 pub struct Names<'a> {
     names: Vec<&'a [u8]>,
+    places: BTreeMap<&'a [u8], usize>,
 }
 
 impl<'a> Model for Names<'a> {
     ghost use Rattle.std.specs.Prelude.{ℕ, List, map};
+    ghost use Rattle.aom_syntax.specs.Names.{FindsFirst};
 
     ghost Value = { List (List ℕ) };
 
     ghost view = { λ n. map (λ w. w.now) n.names.items };
+
+    ghost invariant = { λ n. FindsFirst n.places (map (λ w. w.now) n.names.items) };
 }
 
 impl<'a> Names<'a> {
@@ -28,6 +31,7 @@ impl<'a> Names<'a> {
     {
         Names {
             names: Vec::new(alloc),
+            places: BTreeMap::new(alloc),
         }
     }
 
@@ -35,7 +39,11 @@ impl<'a> Names<'a> {
     pub fn add(&mut self, name: &'a [u8]) -> Result<(), AllocError>
         ensures { IfOk result (λ _. self.new ≡ self.old ++ name.now ∷ []) }
     {
-        self.names.push(name)?;
+        self.names.reserve(1)?;
+        if !self.places.contains_key(name) {
+            self.places.insert(name, self.names.len())?;
+        }
+        self.names.push(name).unwrap();
         Ok(())
     }
 
@@ -43,7 +51,7 @@ impl<'a> Names<'a> {
     pub fn place_of(&self, name: &[u8]) -> Option<usize>
         ensures { result ≡ place_of name.now self.now }
     {
-        first_place(self.names.as_slice(), name)
+        self.places.get(name).copied()
     }
 
     /// The number of a name that is used. One that is declared nowhere is a fault, or where names are not told apart
@@ -59,11 +67,4 @@ impl<'a> Names<'a> {
             _ => Ok(0),
         }
     }
-}
-
-/// Where a name stands first.
-fn first_place(names: &[&[u8]], name: &[u8]) -> Option<usize>
-    ensures { result ≡ position (λ n. bytes_eq n.now name.now) names.now }
-{
-    names.iter().position(|other| *other == name)
 }

@@ -1,0 +1,5 @@
+pub mod Lines
+pub mod PlainWords
+pub mod Split
+pub mod Stated
+pub mod Targets

@@ -1,0 +1,253 @@
+-- The statements of a listing are words.
+use Rattle.std.proofs.Common.{◌≡◌, ◌∙◌, refl, ℕ, ◌+◌, ◌<◌, Bool, true, false, List, [], ◌∷◌, ◌++◌, Option, Some, None, flat_map, length, map}
+use Rattle.std.specs.Prelude.{decimal}
+use Rattle.std.specs.List.{All, list_all}
+use Rattle.std.proofs.lemmas.Bool.{agree_below_at, and_from}
+use Rattle.std.proofs.lemmas.List.Folds.{list_all-append}
+use Rattle.std.proofs.lemmas.List.Elements.{All-head, All-tail}
+use Rattle.aom_image.specs.Image.{Image}
+use Rattle.aom_image.specs.Views.{has}
+use Rattle.aom_image.specs.WellFormed.{WellFormed, MethodFits}
+use Rattle.aom_image.specs.declared.class.ClassDecl.{ClassDecl}
+use Rattle.aom_image.specs.declared.class.ClassKind.{ClassKind}
+use Rattle.aom_image.specs.declared.class.ClassKind.TheVariants as kinds
+use Rattle.aom_image.specs.declared.class.Provider.{Provider}
+use Rattle.aom_image.specs.declared.class.Provider.TheVariants as providers
+use Rattle.aom_image.specs.declared.image.Header.{Header}
+use Rattle.aom_image.specs.declared.instr.Instr.{Instr}
+use Rattle.aom_image.specs.declared.instr.Instr.TheVariants as instr
+use Rattle.aom_image.specs.declared.instr.Target.{Target}
+use Rattle.aom_image.specs.declared.instr.Target.TheVariants as targets
+use Rattle.aom_image.specs.declared.method.Argument.{Argument}
+use Rattle.aom_image.specs.declared.method.Argument.TheVariants as arg
+use Rattle.aom_image.specs.declared.method.Gives.{Gives}
+use Rattle.aom_image.specs.declared.method.Gives.TheVariants as result
+use Rattle.aom_image.specs.declared.method.Method.{Method}
+use Rattle.aom_image.specs.declared.method.Thing.{Thing}
+use Rattle.aom_image.specs.declared.method.Thing.TheVariants as owned
+use Rattle.aom_text.specs.Text.{has_words}
+use Rattle.aom_text.specs.Words.{has_bytes}
+use Rattle.aom_syntax.specs.declared.keyword.Keyword.{Keyword}
+use Rattle.aom_syntax.specs.declared.keyword.Keyword.TheVariants as k
+use Rattle.aom_syntax.specs.declared.mnemonic.Mnemonic.TheVariants as m
+use Rattle.aom_listing.specs.Classes.{budget_words, class_words, field_words, kind_words, provider_words, thing_word}
+use Rattle.aom_listing.specs.Headers.{header_words, root_words}
+use Rattle.aom_listing.specs.Jumps.{is_target}
+use Rattle.aom_listing.specs.Listing.{end_words, instr_words, label_words, listing, method_statements, placed}
+use Rattle.aom_listing.specs.Methods.{argument_word, flag_words, gives_words, heading_words, of_words, promise_words, role_keyword, states_word, word_where}
+use Rattle.aom_listing.specs.Operands.{label_name, target_word}
+use Rattle.aom_listing.specs.Text.{list_word}
+use Rattle.aom_listing.specs.Words.{words_statement}
+use Rattle.aom_listing.proofs.PlainWords.{AreWords, IsWord, decimal_is_word, is_word_byte, keyword_is_word, list_is_word, map_words, mnemonic_is_word, name_is_word, signed_is_word, words_append}
+
+-- words, of which there are some
+pub record IsStated (ws : List (List ℕ)) : Type 0 where
+  pub some : has_words ws ≡ true
+  pub words : AreWords ws
+
+abbrev pub AreStated : List (List (List ℕ)) → Type 0
+AreStated [] = Unit {0}
+AreStated (ws ∷ wss) = IsStated ws × AreStated wss
+
+stated_append : (a b : List (List (List ℕ))) → AreStated a → AreStated b → AreStated (a ++ b)
+stated_append [] b first later = later
+stated_append (ws ∷ wss) b first later = (first.0, stated_append wss b first.1 later)
+
+-- ---- instructions
+
+target_is_word : (t : Target) → IsWord (target_word t)
+target_is_word targets.This = keyword_is_word k.This
+target_is_word (targets.Register r) = name_is_word 114 r refl
+target_is_word (targets.Field f) = name_is_word 102 f refl
+target_is_word (targets.Entry e) = name_is_word 99 e refl
+
+instr_is_stated : (i : Instr) → IsStated (words_statement i)
+instr_is_stated (instr.Const a n) = record { some = refl; words = (mnemonic_is_word m.Const, (name_is_word 114 a refl, (signed_is_word n, tt))) }
+instr_is_stated (instr.Copy a b) = record { some = refl; words = (mnemonic_is_word m.Copy, (name_is_word 114 a refl, (name_is_word 114 b refl, tt))) }
+instr_is_stated (instr.Add a b c) = record { some = refl; words = (mnemonic_is_word m.Add, (name_is_word 114 a refl, (name_is_word 114 b refl, (name_is_word 114 c refl, tt)))) }
+instr_is_stated (instr.Sub a b c) = record { some = refl; words = (mnemonic_is_word m.Sub, (name_is_word 114 a refl, (name_is_word 114 b refl, (name_is_word 114 c refl, tt)))) }
+instr_is_stated (instr.Mul a b c) = record { some = refl; words = (mnemonic_is_word m.Mul, (name_is_word 114 a refl, (name_is_word 114 b refl, (name_is_word 114 c refl, tt)))) }
+instr_is_stated (instr.And a b c) = record { some = refl; words = (mnemonic_is_word m.And, (name_is_word 114 a refl, (name_is_word 114 b refl, (name_is_word 114 c refl, tt)))) }
+instr_is_stated (instr.Or a b c) = record { some = refl; words = (mnemonic_is_word m.Or, (name_is_word 114 a refl, (name_is_word 114 b refl, (name_is_word 114 c refl, tt)))) }
+instr_is_stated (instr.Xor a b c) = record { some = refl; words = (mnemonic_is_word m.Xor, (name_is_word 114 a refl, (name_is_word 114 b refl, (name_is_word 114 c refl, tt)))) }
+instr_is_stated (instr.Jump d) = record { some = refl; words = (mnemonic_is_word m.Jump, (name_is_word 76 d refl, tt)) }
+instr_is_stated (instr.JumpEqual a b d) = record { some = refl; words = (mnemonic_is_word m.JumpEqual, (name_is_word 114 a refl, (name_is_word 114 b refl, (name_is_word 76 d refl, tt)))) }
+instr_is_stated (instr.JumpLess a b d) = record { some = refl; words = (mnemonic_is_word m.JumpLess, (name_is_word 114 a refl, (name_is_word 114 b refl, (name_is_word 76 d refl, tt)))) }
+instr_is_stated (instr.Loop a n) = record { some = refl; words = (mnemonic_is_word m.Loop, (decimal_is_word a, (decimal_is_word n, tt))) }
+instr_is_stated (instr.Next a d) = record { some = refl; words = (mnemonic_is_word m.Next, (decimal_is_word a, (name_is_word 76 d refl, tt))) }
+instr_is_stated (instr.Print a) = record { some = refl; words = (mnemonic_is_word m.Print, (name_is_word 114 a refl, tt)) }
+instr_is_stated (instr.Load a b) = record { some = refl; words = (mnemonic_is_word m.Load, (name_is_word 114 a refl, (name_is_word 119 b refl, tt))) }
+instr_is_stated (instr.Store a b) = record { some = refl; words = (mnemonic_is_word m.Store, (name_is_word 119 a refl, (name_is_word 114 b refl, tt))) }
+instr_is_stated (instr.Move a b) = record { some = refl; words = (mnemonic_is_word m.Move, (name_is_word 114 a refl, (name_is_word 114 b refl, tt))) }
+instr_is_stated (instr.JumpNull a d) = record { some = refl; words = (mnemonic_is_word m.JumpNull, (name_is_word 114 a refl, (name_is_word 76 d refl, tt))) }
+instr_is_stated (instr.JumpEmpty a d) = record { some = refl; words = (mnemonic_is_word m.JumpEmpty, (name_is_word 102 a refl, (name_is_word 76 d refl, tt))) }
+instr_is_stated (instr.Take a b) = record { some = refl; words = (mnemonic_is_word m.Take, (name_is_word 114 a refl, (name_is_word 102 b refl, tt))) }
+instr_is_stated (instr.Put a b) = record { some = refl; words = (mnemonic_is_word m.Put, (name_is_word 102 a refl, (name_is_word 114 b refl, tt))) }
+instr_is_stated (instr.New a c) = record { some = refl; words = (mnemonic_is_word m.New, (name_is_word 114 a refl, (name_is_word 99 c refl, tt))) }
+instr_is_stated (instr.NewOrLeave a c) = record { some = refl; words = (mnemonic_is_word m.NewOrLeave, (name_is_word 114 a refl, (name_is_word 99 c refl, tt))) }
+instr_is_stated (instr.Delete a) = record { some = refl; words = (mnemonic_is_word m.Delete, (name_is_word 114 a refl, tt)) }
+instr_is_stated (instr.Call t n b c) = record { some = refl; words = (mnemonic_is_word m.Call, (target_is_word t, (name_is_word 109 n refl, (name_is_word 114 b refl, (name_is_word 114 c refl, tt))))) }
+instr_is_stated (instr.Trap t n b c) = record { some = refl; words = (mnemonic_is_word m.Trap, (target_is_word t, (name_is_word 109 n refl, (name_is_word 114 b refl, (name_is_word 114 c refl, tt))))) }
+instr_is_stated (instr.Return a) = record { some = refl; words = (mnemonic_is_word m.Return, (name_is_word 114 a refl, tt)) }
+instr_is_stated (instr.Push a) = record { some = refl; words = (mnemonic_is_word m.Push, (name_is_word 114 a refl, tt)) }
+instr_is_stated (instr.PushOperation a n) = record { some = refl; words = (mnemonic_is_word m.PushOperation, (name_is_word 114 a refl, (name_is_word 109 n refl, tt))) }
+instr_is_stated (instr.Pop a) = record { some = refl; words = (mnemonic_is_word m.Pop, (name_is_word 114 a refl, tt)) }
+instr_is_stated instr.PopOperation = record { some = refl; words = (mnemonic_is_word m.PopOperation, tt) }
+instr_is_stated instr.PopDelete = record { some = refl; words = (mnemonic_is_word m.PopDelete, tt) }
+instr_is_stated (instr.Leave a) = record { some = refl; words = (mnemonic_is_word m.Leave, (name_is_word 114 a refl, tt)) }
+instr_is_stated (instr.LeaveIf a) = record { some = refl; words = (mnemonic_is_word m.LeaveIf, (name_is_word 114 a refl, tt)) }
+instr_is_stated (instr.JumpActive d) = record { some = refl; words = (mnemonic_is_word m.JumpActive, (name_is_word 76 d refl, tt)) }
+instr_is_stated (instr.JumpAdded d) = record { some = refl; words = (mnemonic_is_word m.JumpAdded, (name_is_word 76 d refl, tt)) }
+instr_is_stated (instr.Enlist n) = record { some = refl; words = (mnemonic_is_word m.Enlist, (signed_is_word n, tt)) }
+instr_is_stated (instr.Issue a b) = record { some = refl; words = (mnemonic_is_word m.Issue, (name_is_word 114 a refl, (name_is_word 114 b refl, tt))) }
+instr_is_stated instr.SetActive = record { some = refl; words = (mnemonic_is_word m.SetActive, tt) }
+instr_is_stated instr.Cancel = record { some = refl; words = (mnemonic_is_word m.Cancel, tt) }
+instr_is_stated instr.Abort = record { some = refl; words = (mnemonic_is_word m.Abort, tt) }
+instr_is_stated (instr.Status a) = record { some = refl; words = (mnemonic_is_word m.Status, (name_is_word 114 a refl, tt)) }
+instr_is_stated (instr.Connect a) = record { some = refl; words = (mnemonic_is_word m.Connect, (name_is_word 114 a refl, tt)) }
+instr_is_stated (instr.Ask a b c) = record { some = refl; words = (mnemonic_is_word m.Ask, (name_is_word 114 a refl, (name_is_word 114 b refl, (name_is_word 114 c refl, tt)))) }
+instr_is_stated instr.Close = record { some = refl; words = (mnemonic_is_word m.Close, tt) }
+instr_is_stated (instr.TakeMessage a) = record { some = refl; words = (mnemonic_is_word m.TakeMessage, (name_is_word 114 a refl, tt)) }
+instr_is_stated (instr.Reply a b) = record { some = refl; words = (mnemonic_is_word m.Reply, (name_is_word 114 a refl, (name_is_word 114 b refl, tt))) }
+instr_is_stated instr.Stop = record { some = refl; words = (mnemonic_is_word m.Stop, tt) }
+
+label_is_word : (place : ℕ) → IsWord (label_name place ++ 58 ∷ [])
+label_is_word place =
+    record { some = refl; bytes = list_all-append is_word_byte (decimal place) (58 ∷ []) ∙ and_from _ _ (decimal_is_word place).bytes refl }
+
+labelled : (b : Bool) (place : ℕ) (ws : List (List ℕ)) → IsStated ws → IsStated (label_words b place ++ ws)
+labelled true place ws is = record { some = refl; words = (label_is_word place, is.words) }
+labelled false place ws is = is
+
+code_is_stated : (code : List Instr) (place : ℕ) (is : List Instr) → AreStated (placed (instr_words code) place is)
+code_is_stated code place [] = tt
+code_is_stated code place (i ∷ is) = (labelled (is_target code place) place (words_statement i) (instr_is_stated i), code_is_stated code (place + 1) is)
+
+-- ---- headers and classes
+
+root_are_words : (root : Option ℕ) → AreWords (root_words root)
+root_are_words None = tt
+root_are_words (Some c) = (keyword_is_word k.Root, (name_is_word 99 c refl, tt))
+
+header_is_stated : (h : Header) → IsStated (header_words h)
+header_is_stated h = record {
+  some = refl;
+  words = (
+    keyword_is_word k.Image,
+    (
+      keyword_is_word k.Cells,
+      (
+        decimal_is_word h.cells,
+        (
+          keyword_is_word k.Messages,
+          (
+            decimal_is_word h.messages,
+            (keyword_is_word k.Natives, (decimal_is_word h.natives, (keyword_is_word k.Budget, (decimal_is_word h.budget, root_are_words h.root)))),
+          ),
+        ),
+      ),
+    ),
+  );
+}
+
+thing_is_word : (t : Thing) → IsWord (thing_word t)
+thing_is_word (owned.Object c) = name_is_word 99 c refl
+thing_is_word owned.Message = keyword_is_word k.Message
+
+provider_are_words : (p : Provider) → AreWords (provider_words p)
+provider_are_words providers.Own = (keyword_is_word k.This, tt)
+provider_are_words providers.Timer = (keyword_is_word k.Timer, tt)
+provider_are_words (providers.Native n) = (keyword_is_word k.Native, (decimal_is_word n, tt))
+
+kind_are_words : (kind : ClassKind) → AreWords (kind_words kind)
+kind_are_words kinds.Plain = (keyword_is_word k.Plain, tt)
+kind_are_words (kinds.Active provider budget) = (keyword_is_word k.Active, provider_are_words provider)
+kind_are_words (kinds.Server sessions session budget) = (keyword_is_word k.Server, (name_is_word 99 session refl, (keyword_is_word k.Max, (decimal_is_word sessions, tt))))
+kind_are_words kinds.Session = (keyword_is_word k.Session, tt)
+
+budget_are_words : (kind : ClassKind) → AreWords (budget_words kind)
+budget_are_words kinds.Plain = tt
+budget_are_words (kinds.Active provider budget) = (keyword_is_word k.Budget, (decimal_is_word budget, tt))
+budget_are_words (kinds.Server sessions session budget) = (keyword_is_word k.Budget, (decimal_is_word budget, tt))
+budget_are_words kinds.Session = tt
+
+fields_are_words : (c : ClassDecl) → AreWords (field_words c)
+fields_are_words c = (keyword_is_word k.Words, (decimal_is_word c.words, (keyword_is_word k.Own, (list_is_word (map thing_word c.fields) (map_words thing_word thing_is_word c.fields), tt))))
+
+class_is_stated : (place : ℕ) (c : ClassDecl) → IsStated (class_words place c)
+class_is_stated place c =
+    let front : AreWords (kind_words c.kind ++ field_words c) = words_append (kind_words c.kind) (field_words c) (kind_are_words c.kind) (fields_are_words c) in
+    let rest : AreWords (kind_words c.kind ++ field_words c ++ budget_words c.kind) = words_append (kind_words c.kind ++ field_words c) (budget_words c.kind) front (budget_are_words c.kind) in
+    record { some = refl; words = (keyword_is_word k.Class, (name_is_word 99 place refl, rest)) }
+
+classes_are_stated : (place : ℕ) (cs : List ClassDecl) → AreStated (placed class_words place cs)
+classes_are_stated place [] = tt
+classes_are_stated place (c ∷ cs) = (class_is_stated place c, classes_are_stated (place + 1) cs)
+
+-- ---- methods
+
+of_are_words : (class : Option ℕ) → AreWords (of_words class)
+of_are_words None = tt
+of_are_words (Some c) = (keyword_is_word k.Of, (name_is_word 99 c refl, tt))
+
+where_are_words : (b : Bool) (key : Keyword) → AreWords (word_where b key)
+where_are_words true key = (keyword_is_word key, tt)
+where_are_words false key = tt
+
+flags_are_words : (flags : ℕ) → AreWords (flag_words flags)
+flags_are_words flags = words_append (word_where (has flags 1) k.Leaves) (word_where (has flags 2) k.Quiet) (where_are_words (has flags 1) k.Leaves) (where_are_words (has flags 2) k.Quiet)
+
+states_is_word : (set : ℕ) → set < 64 → IsWord (states_word set)
+states_is_word set small = record {
+  some = agree_below_at (λ n. has_bytes (states_word n)) (λ n. true) 64 set refl small;
+  bytes = agree_below_at (λ n. list_all is_word_byte (states_word n)) (λ n. true) 64 set refl small;
+}
+
+argument_is_word : (a : Argument) → IsWord (argument_word a)
+argument_is_word arg.Word = keyword_is_word k.Word
+argument_is_word (arg.Own t) = thing_is_word t
+
+gives_are_words : (g : Gives) → AreWords (gives_words g)
+gives_are_words result.Nothing = (keyword_is_word k.Nothing, tt)
+gives_are_words result.Word = (keyword_is_word k.Word, tt)
+gives_are_words (result.Own t) = (keyword_is_word k.Own, (thing_is_word t, tt))
+gives_are_words (result.Maybe t) = (keyword_is_word k.Maybe, (thing_is_word t, tt))
+gives_are_words (result.Left c) = (keyword_is_word k.Left, (name_is_word 99 c refl, tt))
+
+promise_are_words : (method : Method) → method.before.0 < 64 → method.after.0 < 64 → AreWords (promise_words method)
+promise_are_words method before after =
+    let arguments : IsWord (list_word (map argument_word method.arguments)) = list_is_word (map argument_word method.arguments) (map_words argument_word argument_is_word method.arguments) in (
+      keyword_is_word k.In,
+      (
+        states_is_word method.before.0 before,
+        (keyword_is_word k.Out, (states_is_word method.after.0 after, (keyword_is_word k.Args, (arguments, (keyword_is_word k.Gives, gives_are_words method.gives))))),
+      ),
+    )
+
+heading_is_stated : (place : ℕ) (method : Method) → method.before.0 < 64 → method.after.0 < 64 → IsStated (heading_words place method)
+heading_is_stated place method before after =
+    let front : AreWords (of_words method.class ++ flag_words method.flags.0) = words_append (of_words method.class) (flag_words method.flags.0) (of_are_words method.class) (flags_are_words method.flags.0) in
+    let rest : AreWords (of_words method.class ++ flag_words method.flags.0 ++ promise_words method) =
+    words_append (of_words method.class ++ flag_words method.flags.0) (promise_words method) front (promise_are_words method before after)
+    in
+    record { some = refl; words = (keyword_is_word k.Method, (name_is_word 109 place refl, (keyword_is_word (role_keyword method.role), rest))) }
+
+method_is_stated : (place : ℕ) (method : Method) → method.before.0 < 64 → method.after.0 < 64 → AreStated (method_statements place method)
+method_is_stated place method before after =
+    let code : AreStated (placed (instr_words method.code) 0 method.code) = code_is_stated method.code 0 method.code in
+    (heading_is_stated place method before after, stated_append (placed (instr_words method.code) 0 method.code) (end_words ∷ []) code (record { some = refl; words = (keyword_is_word k.End, tt) }, tt))
+
+methods_are_stated : (classes methods place : ℕ) (ms : List Method) → All (MethodFits classes methods) ms → AreStated (flat_map (λ statements. statements) (placed method_statements place ms))
+methods_are_stated classes methods place [] fit = tt
+methods_are_stated classes methods place (method ∷ ms) fit =
+    let first : MethodFits classes methods method = All-head (MethodFits classes methods) method ms fit in
+    stated_append (method_statements place method) (flat_map (λ statements. statements) (placed method_statements (place + 1) ms)) (method_is_stated place method first.before first.after) (methods_are_stated classes methods (place + 1) ms (All-tail (MethodFits classes methods) method ms fit))
+
+-- ---- the whole
+
+pub listing_is_stated : (i : Image) → WellFormed i → AreStated (listing i)
+listing_is_stated i fits = (
+  header_is_stated i.header,
+  stated_append (placed class_words 0 i.classes) (flat_map (λ statements. statements) (placed method_statements 0 i.methods)) (classes_are_stated 0 i.classes)
+      (methods_are_stated (length i.classes) (length i.methods) 0 i.methods fits.methods.each),
+)

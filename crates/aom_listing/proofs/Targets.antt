@@ -1,0 +1,24 @@
+-- The table of jump targets, by the instructions that were gone over.
+use Rattle.std.proofs.Common.{◌≡◌, ◌∙◌, sym, ap, ℕ, ◌+◌, ◌<◌, ◌||◌, Bool, false, List, [], ◌∷◌, ◌++◌, length, take, replicate, slice_index_or}
+use Rattle.std.proofs.Math.Bool.{or-false}
+use Rattle.std.proofs.lemmas.List.{get_or-replicate, take_more}
+use Rattle.std.proofs.lemmas.List.Folds.{list_any-append}
+use Rattle.aom_image.specs.declared.instr.Instr.{Instr}
+use Rattle.aom_syntax.specs.Classes.{is_at}
+use Rattle.aom_listing.specs.Jumps.{jump_of, is_target, Tells}
+
+-- no place is marked at first
+pub none_told : Tells (replicate 1024 false) []
+none_told place within = get_or-replicate 1024 place false false within
+
+-- the targets of code and of one more instruction
+target_more : (code : List Instr) (i : Instr) (place : ℕ) → is_target (code ++ i ∷ []) place ≡ (is_target code place || is_at place (jump_of i))
+target_more code i place =
+    list_any-append (λ j. is_at place (jump_of j)) code (i ∷ []) ∙ ap (λ b. is_target code place || b) (or-false (is_at place (jump_of i)))
+
+pub told_more : (old new : List Bool) (code : List Instr) (index : ℕ) (i : Instr) → index < length code → i ≡ slice_index_or code index i
+    → ((place : ℕ) → place < 1024 → slice_index_or new place false ≡ (slice_index_or old place false || is_at place (jump_of i)))
+    → Tells old (take index code) → Tells new (take (index + 1) code)
+told_more old new code index i within is marks told place small =
+    let more : take (index + 1) code ≡ take index code ++ i ∷ [] = take_more code index i within ∙ ap (λ j. take index code ++ j ∷ []) (sym is) in
+    marks place small ∙ ap (λ b. b || is_at place (jump_of i)) (told place small) ∙ sym (target_more (take index code) i place) ∙ ap (λ t. is_target t place) (sym more)

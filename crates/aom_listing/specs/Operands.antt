@@ -1,0 +1,39 @@
+-- How names and the operands of instructions are written.
+use Rattle.std.specs.Prelude.{ℕ, List, ◌∷◌, decimal}
+use Rattle.aom_image.specs.declared.instr.Target.{Target}
+use Rattle.aom_image.specs.declared.instr.Target.TheVariants as targets
+use Rattle.aom_syntax.specs.Keywords.{keyword_text}
+use Rattle.aom_syntax.specs.declared.keyword.Keyword.TheVariants as k
+
+-- ---- names: a letter and a number
+
+abbrev pub class_name : ℕ → List ℕ
+class_name n = 99 ∷ decimal n
+
+abbrev pub method_name : ℕ → List ℕ
+method_name n = 109 ∷ decimal n
+
+-- the label of a place
+abbrev pub label_name : ℕ → List ℕ
+label_name place = 76 ∷ decimal place
+
+-- ---- registers, fields, words and entries: a letter and a number
+
+abbrev pub register_word : ℕ → List ℕ
+register_word n = 114 ∷ decimal n
+
+abbrev pub field_word : ℕ → List ℕ
+field_word n = 102 ∷ decimal n
+
+abbrev pub word_field_word : ℕ → List ℕ
+word_field_word n = 119 ∷ decimal n
+
+abbrev pub entry_word : ℕ → List ℕ
+entry_word n = 99 ∷ decimal n
+
+-- what a call is made on
+abbrev pub target_word : Target → List ℕ
+target_word targets.This = keyword_text k.This
+target_word (targets.Register r) = register_word r
+target_word (targets.Field f) = field_word f
+target_word (targets.Entry e) = entry_word e

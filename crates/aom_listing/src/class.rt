@@ -1,0 +1,108 @@
+//! The statement that declares a class.
+ghost use Rattle.std.specs.Prelude.{◌≡◌, [], ◌∷◌, ◌++◌, OnOk, map};
+ghost use Rattle.aom_listing.specs.Classes.{thing_word, provider_words, kind_words, budget_words, field_words, class_words};
+ghost use Rattle.aom_listing.specs.Text.{behind, line_of, list_word};
+
+use crate::writer::Writer;
+use aom_image::{ClassDecl, ClassKind, Provider, Thing};
+use aom_syntax::Keyword;
+use std::alloc::AllocError;
+
+impl Writer {
+    /// What may be owned, without a space before it.
+    pub fn thing(&mut self, thing: Thing) -> Result<(), AllocError>
+        ensures { OnOk result (self.new ≡ self.old ++ thing_word thing) }
+    {
+        match thing {
+            Thing::Object(class) => self.numbered(b'c', u32::from(class.number())),
+            Thing::Message => self.push(Keyword::Message.text()),
+        }
+    }
+
+    /// Further elements of a list.
+    fn more_things(&mut self, things: &[Thing]) -> Result<(), AllocError>
+        ensures { OnOk result (self.new ≡ self.old ++ behind 44 (map thing_word things.now)) }
+    {
+        for thing in things {
+            self.push(b",")?;
+            self.thing(*thing)?;
+        }
+        Ok(())
+    }
+
+    /// A list of what may be owned, in one word.
+    fn things(&mut self, things: &[Thing]) -> Result<(), AllocError>
+        ensures { OnOk result (self.new ≡ self.old ++ 32 ∷ list_word (map thing_word things.now)) }
+    {
+        match things {
+            [] => self.word(b"-"),
+            [first, rest @ ..] => {
+                self.push(b" ")?;
+                self.thing(*first)?;
+                self.more_things(rest)
+            }
+        }
+    }
+
+    fn provider(&mut self, provider: Provider) -> Result<(), AllocError>
+        ensures { OnOk result (self.new ≡ self.old ++ behind 32 (provider_words provider)) }
+    {
+        match provider {
+            Provider::Own => self.keyword(Keyword::This),
+            Provider::Timer => self.keyword(Keyword::Timer),
+            Provider::Native(native) => self.counted(Keyword::Native, u32::from(native.number())),
+        }
+    }
+
+    fn kind(&mut self, kind: ClassKind) -> Result<(), AllocError>
+        ensures { OnOk result (self.new ≡ self.old ++ behind 32 (kind_words kind)) }
+    {
+        match kind {
+            ClassKind::Plain => self.keyword(Keyword::Plain),
+            ClassKind::Active { provider, .. } => {
+                self.keyword(Keyword::Active)?;
+                self.provider(provider)
+            }
+            ClassKind::Server {
+                sessions,
+                session,
+                ..
+            } => {
+                self.keyword(Keyword::Server)?;
+                self.class_name(session)?;
+                self.counted(Keyword::Max, u32::from(sessions))
+            }
+            ClassKind::Session => self.keyword(Keyword::Session),
+        }
+    }
+
+    fn budget(&mut self, kind: ClassKind) -> Result<(), AllocError>
+        ensures { OnOk result (self.new ≡ self.old ++ behind 32 (budget_words kind)) }
+    {
+        match kind {
+            ClassKind::Plain | ClassKind::Session => Ok(()),
+            ClassKind::Active { budget, .. } | ClassKind::Server { budget, .. } => {
+                self.counted(Keyword::Budget, budget)
+            }
+        }
+    }
+
+    fn fields(&mut self, class: &ClassDecl) -> Result<(), AllocError>
+        ensures { OnOk result (self.new ≡ self.old ++ behind 32 (field_words class.now)) }
+    {
+        self.counted(Keyword::Words, u32::from(class.words))?;
+        self.keyword(Keyword::Own)?;
+        self.things(class.fields.as_slice())
+    }
+
+    pub fn class(&mut self, place: u32, class: &ClassDecl) -> Result<(), AllocError>
+        ensures { OnOk result (self.new ≡ self.old ++ line_of (class_words place class.now)) }
+    {
+        self.first(Keyword::Class)?;
+        self.name(b'c', place)?;
+        self.kind(class.kind)?;
+        self.fields(class)?;
+        self.budget(class.kind)?;
+        self.end_line()
+    }
+}

@@ -1,0 +1,50 @@
+//! The statement that opens a listing.
+ghost use Rattle.std.specs.Prelude.{◌≡◌, [], ◌∷◌, ◌++◌, OnOk, decimal};
+ghost use Rattle.aom_syntax.specs.Keywords.{keyword_text};
+ghost use Rattle.aom_listing.specs.Headers.{root_words, limit_words, header_words};
+ghost use Rattle.aom_listing.specs.Text.{behind, line_of};
+
+use crate::writer::Writer;
+use aom_image::{ClassNumber, Header};
+use aom_syntax::Keyword;
+use std::alloc::AllocError;
+
+impl Writer {
+    /// A keyword and a number behind it.
+    pub fn counted(&mut self, keyword: Keyword, number: u32) -> Result<(), AllocError>
+        ensures { OnOk result (self.new ≡ self.old ++ behind 32 (keyword_text keyword ∷ decimal number ∷ [])) }
+    {
+        self.keyword(keyword)?;
+        self.number(number)
+    }
+
+    fn root(&mut self, root: Option<ClassNumber>) -> Result<(), AllocError>
+        ensures { OnOk result (self.new ≡ self.old ++ behind 32 (root_words root)) }
+    {
+        match root {
+            None => Ok(()),
+            Some(class) => {
+                self.keyword(Keyword::Root)?;
+                self.class_name(class)
+            }
+        }
+    }
+
+    fn limits(&mut self, header: &Header) -> Result<(), AllocError>
+        ensures { OnOk result (self.new ≡ self.old ++ behind 32 (limit_words header.now)) }
+    {
+        self.counted(Keyword::Cells, u32::from(header.cells))?;
+        self.counted(Keyword::Messages, u32::from(header.messages))?;
+        self.counted(Keyword::Natives, u32::from(header.natives))
+    }
+
+    pub fn header(&mut self, header: &Header) -> Result<(), AllocError>
+        ensures { OnOk result (self.new ≡ self.old ++ line_of (header_words header.now)) }
+    {
+        self.first(Keyword::Image)?;
+        self.limits(header)?;
+        self.counted(Keyword::Budget, header.budget)?;
+        self.root(header.root)?;
+        self.end_line()
+    }
+}

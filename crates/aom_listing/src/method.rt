@@ -1,0 +1,184 @@
+//! The statement that declares a method.
+ghost use Rattle.std.specs.Prelude.{◌≡◌, [], ◌∷◌, ◌++◌, OnOk, map};
+ghost use Rattle.aom_image.specs.Views.{has};
+ghost use Rattle.aom_syntax.specs.Keywords.{keyword_text};
+ghost use Rattle.aom_listing.specs.Classes.{thing_word};
+ghost use Rattle.aom_listing.specs.Methods.{role_keyword, of_words, word_where, flag_words, letter_where, state_letters, states_word, argument_word, gives_words, promise_words, heading_words};
+ghost use Rattle.aom_listing.specs.Text.{behind, line_of, list_word};
+
+use crate::writer::Writer;
+use aom_image::{Argument, ClassNumber, Gives, Method, MethodFlags, Role, States, Thing};
+use aom_syntax::Keyword;
+use bitflags::Flags;
+use std::alloc::AllocError;
+
+fn role_keyword(role: Role) -> Keyword
+    ensures { result ≡ role_keyword role }
+{
+    match role {
+        Role::Do => Keyword::Do,
+        Role::Main => Keyword::Main,
+        Role::Construct => Keyword::Construct,
+        Role::Destruct => Keyword::Destruct,
+        Role::Run => Keyword::Run,
+        Role::Cancel => Keyword::Cancel,
+        Role::Error => Keyword::Error,
+        Role::Accept => Keyword::Accept,
+        Role::Service => Keyword::Service,
+        Role::Undo => Keyword::Undo,
+    }
+}
+
+impl Writer {
+    fn of(&mut self, class: Option<ClassNumber>) -> Result<(), AllocError>
+        ensures { OnOk result (self.new ≡ self.old ++ behind 32 (of_words class)) }
+    {
+        match class {
+            None => Ok(()),
+            Some(class) => {
+                self.keyword(Keyword::Of)?;
+                self.class_name(class)
+            }
+        }
+    }
+
+    /// A word, where a flag is set.
+    fn flag(
+        &mut self,
+        flags: MethodFlags,
+        flag: MethodFlags,
+        keyword: Keyword,
+    ) -> Result<(), AllocError>
+        ensures { OnOk result (self.new ≡ self.old ++ behind 32 (word_where (has flags.0 flag.0) keyword)) }
+    {
+        if flags.contains(flag) {
+            self.keyword(keyword)
+        } else {
+            Ok(())
+        }
+    }
+
+    fn flags(&mut self, flags: MethodFlags) -> Result<(), AllocError>
+        ensures { OnOk result (self.new ≡ self.old ++ behind 32 (flag_words flags.0)) }
+    {
+        self.flag(flags, MethodFlags::LEAVES, Keyword::Leaves)?;
+        self.flag(flags, MethodFlags::QUIET, Keyword::Quiet)
+    }
+
+    /// A letter, where its state is in the set.
+    fn letter(&mut self, set: States, state: States, letter: u8) -> Result<(), AllocError>
+        ensures { OnOk result (self.new ≡ self.old ++ letter_where (has set.0 state.0) letter) }
+    {
+        if set.contains(state) {
+            self.push(&[letter])
+        } else {
+            Ok(())
+        }
+    }
+
+    fn letters(&mut self, set: States) -> Result<(), AllocError>
+        ensures { OnOk result (self.new ≡ self.old ++ state_letters set.0) }
+    {
+        self.letter(set, States::UNLISTED, b'u')?;
+        self.letter(set, States::IDLE, b'i')?;
+        self.letter(set, States::ISSUED, b's')?;
+        self.letter(set, States::ACTIVE, b'a')?;
+        self.letter(set, States::OPEN, b'o')?;
+        self.letter(set, States::DONE, b'd')
+    }
+
+    /// A keyword and a set behind it.
+    fn states(&mut self, keyword: Keyword, set: States) -> Result<(), AllocError>
+        ensures { OnOk result (self.new ≡ self.old ++ behind 32 (keyword_text keyword ∷ states_word set.0 ∷ [])) }
+    {
+        self.keyword(keyword)?;
+        if set.bits() == 0 {
+            self.word(b"-")
+        } else {
+            self.push(b" ")?;
+            self.letters(set)
+        }
+    }
+
+    /// An argument, without a space before it.
+    fn argument(&mut self, argument: Argument) -> Result<(), AllocError>
+        ensures { OnOk result (self.new ≡ self.old ++ argument_word argument) }
+    {
+        match argument {
+            Argument::Word => self.push(Keyword::Word.text()),
+            Argument::Own(thing) => self.thing(thing),
+        }
+    }
+
+    /// Further elements of a list.
+    fn more_arguments(&mut self, arguments: &[Argument]) -> Result<(), AllocError>
+        ensures { OnOk result (self.new ≡ self.old ++ behind 44 (map argument_word arguments.now)) }
+    {
+        for argument in arguments {
+            self.push(b",")?;
+            self.argument(*argument)?;
+        }
+        Ok(())
+    }
+
+    /// A list of arguments, in one word.
+    fn arguments(&mut self, arguments: &[Argument]) -> Result<(), AllocError>
+        ensures { OnOk result (self.new ≡ self.old ++ 32 ∷ list_word (map argument_word arguments.now)) }
+    {
+        match arguments {
+            [] => self.word(b"-"),
+            [first, rest @ ..] => {
+                self.push(b" ")?;
+                self.argument(*first)?;
+                self.more_arguments(rest)
+            }
+        }
+    }
+
+    /// A keyword, and behind it what may be owned.
+    fn owning(&mut self, keyword: Keyword, thing: Thing) -> Result<(), AllocError>
+        ensures { OnOk result (self.new ≡ self.old ++ behind 32 (keyword_text keyword ∷ thing_word thing ∷ [])) }
+    {
+        self.keyword(keyword)?;
+        self.push(b" ")?;
+        self.thing(thing)
+    }
+
+    fn gives(&mut self, gives: Gives) -> Result<(), AllocError>
+        ensures { OnOk result (self.new ≡ self.old ++ behind 32 (gives_words gives)) }
+    {
+        match gives {
+            Gives::Nothing => self.keyword(Keyword::Nothing),
+            Gives::Word => self.keyword(Keyword::Word),
+            Gives::Own(thing) => self.owning(Keyword::Own, thing),
+            Gives::Maybe(thing) => self.owning(Keyword::Maybe, thing),
+            Gives::Left(class) => {
+                self.keyword(Keyword::Left)?;
+                self.class_name(class)
+            }
+        }
+    }
+
+    fn promise(&mut self, method: &Method) -> Result<(), AllocError>
+        ensures { OnOk result (self.new ≡ self.old ++ behind 32 (promise_words method.now)) }
+    {
+        self.states(Keyword::In, method.before)?;
+        self.states(Keyword::Out, method.after)?;
+        self.keyword(Keyword::Args)?;
+        self.arguments(method.arguments.as_slice())?;
+        self.keyword(Keyword::Gives)?;
+        self.gives(method.gives)
+    }
+
+    pub fn heading(&mut self, place: u32, method: &Method) -> Result<(), AllocError>
+        ensures { OnOk result (self.new ≡ self.old ++ line_of (heading_words place method.now)) }
+    {
+        self.first(Keyword::Method)?;
+        self.name(b'm', place)?;
+        self.keyword(role_keyword(method.role))?;
+        self.of(method.class)?;
+        self.flags(method.flags)?;
+        self.promise(method)?;
+        self.end_line()
+    }
+}

@@ -1,0 +1,43 @@
+-- What `asm` promises of its sinks and its status, from a text to an image's bytes.
+use Rattle.std.specs.Prelude.{ℕ, ◌≡◌, ◌⊎◌, true, List, Ok, Err}
+use Rattle.aom_image.specs.Image.{Image}
+use Rattle.aom_image.specs.Spelling.{spell}
+use Rattle.aom_text.specs.declared.fault.AsmFault.{AsmFault}
+use Rattle.aom_asm.specs.Denoted.{denoted, NoImage}
+use Rattle.aom_run.specs.Runs.{after}
+use Rattle.aom_main.specs.declared.status.ExitStatus.{ExitStatus}
+use Rattle.aom_main.specs.declared.status.ExitStatus.TheVariants.{Done, ImageRefused, Fault as Faulty}
+use Rattle.aom_main.specs.declared.faults.Fault.{Fault}
+use Rattle.aom_main.specs.declared.faults.Fault.TheVariants.{Asm, Write, Memory}
+use Rattle.aom_main.specs.Headline.{Sent, IsSilent, Says, Tells, Told}
+
+-- the bytes spell the image that the text denotes
+pub record Makes (text bytes : List ℕ) : Type 0 where
+  pub image : Image
+  pub denotes : denoted text ≡ Ok image
+  pub spelling : bytes ≡ spell image
+
+-- why a text makes no bytes: its first fault, or memory was wanting
+abbrev pub RefusesText : List ℕ → Fault → Type 0
+RefusesText text (Asm fault) = (denoted text ≡ Err fault) ⊎ NoImage (denoted text) fault
+RefusesText text Memory = Unit {0}
+RefusesText text _ = ⊥
+
+-- the text denotes no image, and the errors say why
+pub record IsNoText (text : List ℕ) (out errors : Sent) : Type 0 where
+  pub silent : IsSilent out
+  pub fault : AsmFault
+  pub refuses : RefusesText text (Asm fault)
+  pub tells : Tells (Asm fault) errors
+
+-- memory was wanting before anything went out, or the output failed
+pub data AsmBreaks (text : List ℕ) (out errors : Sent) : Type 0 where
+  wants_memory : IsSilent out → Tells Memory errors → AsmBreaks text out errors
+  output_fails : (bytes : List ℕ) → Makes text bytes → out.failed ≡ true → Says bytes out → Told Write Faulty errors → AsmBreaks text out errors
+
+-- what each status says of a call of `asm`
+abbrev pub AsmAnswers : List ℕ → Sent → Sent → ExitStatus → Type 0
+AsmAnswers text out errors Done = (bytes : List ℕ) × Makes text bytes × (out.now ≡ after out.before bytes) × IsSilent errors
+AsmAnswers text out errors ImageRefused = IsNoText text out errors
+AsmAnswers text out errors Faulty = AsmBreaks text out errors
+AsmAnswers text out errors _ = ⊥

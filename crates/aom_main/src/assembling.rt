@@ -1,0 +1,17 @@
+//! From a text to the bytes of an image.
+ghost use Rattle.std.specs.Prelude.{IfOk, IfErr};
+ghost use Rattle.aom_main.specs.Assembly.{Makes, RefusesText};
+
+use crate::Fault;
+use aom_asm::assemble;
+use aom_image::encode;
+use std::alloc::Global;
+
+/// The bytes of the image that a text denotes, or the first fault of the text.
+pub fn assemble_bytes(alloc: Global, text: &[u8]) -> Result<Vec<u8>, Fault>
+    ensures ok { IfOk result (λ bytes. Makes text.now bytes.items) }
+    ensures err { IfErr result (λ fault. RefusesText text.now fault) }
+{
+    let image = assemble(alloc, text)?;
+    Ok(encode(alloc, &image)?)
+}

@@ -1,0 +1,17 @@
+pub mod Numbers
+pub mod Names
+pub mod Tables
+pub mod Readings
+pub mod Operands
+pub mod Instructions
+pub mod Labels
+pub mod Statements
+pub mod Headers
+pub mod Lists
+pub mod Classes
+pub mod Methods
+pub mod Following
+pub mod Parts
+pub mod TextNames
+pub mod Wholes
+pub mod Assembling
