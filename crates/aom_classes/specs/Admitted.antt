@@ -8,6 +8,8 @@ use Rattle.aom_image.specs.declared.class.ClassKind.TheVariants.{Plain}
 use Rattle.aom_image.specs.declared.image.Header.{Header}
 use Rattle.aom_image.specs.declared.instr.Instr.{Instr}
 use Rattle.aom_image.specs.declared.instr.Instr.TheVariants as instrs
+use Rattle.aom_image.specs.declared.instr.Target.{Target}
+use Rattle.aom_image.specs.declared.instr.Target.TheVariants.{This, Register, Field, Entry}
 use Rattle.aom_image.specs.declared.method.Argument.{Argument}
 use Rattle.aom_image.specs.declared.method.Argument.TheVariants as arguments
 use Rattle.aom_image.specs.declared.method.Gives.{Gives}
@@ -18,6 +20,13 @@ use Rattle.aom_image.specs.declared.method.Role.TheVariants.{Do, Main, Construct
 use Rattle.aom_image.specs.declared.method.Thing.{Thing}
 use Rattle.aom_image.specs.declared.method.Thing.TheVariants.{Object, Message}
 use Rattle.aom_roles.specs.Shapes.{may_leave}
+
+-- whether a call is made on no cleanup entry
+unfoldable pub admits_target : Target → Bool
+admits_target This = true
+admits_target (Register r) = true
+admits_target (Field f) = true
+admits_target (Entry k) = false
 
 -- whether an instruction is one of those
 unfoldable pub admits_instr : Instr → Bool
@@ -44,6 +53,7 @@ admits_instr (instrs.Take r f) = true
 admits_instr (instrs.Put f r) = true
 admits_instr (instrs.New r c) = true
 admits_instr (instrs.Delete r) = true
+admits_instr (instrs.Call t m a r) = admits_target t
 admits_instr (instrs.Return r) = true
 admits_instr instrs.Stop = true
 admits_instr _ = false

@@ -1,12 +1,20 @@
 //! What an image may have so far.
 ghost use Rattle.std.specs.Prelude.{◌≡◌, ◌↔◌, IsTrue};
 ghost use Rattle.std.specs.List.{list_all};
-ghost use Rattle.aom_classes.specs.Admitted.{admits_instr, is_plain, admits_thing, admits_class, admits_role, admits_argument, admits_result, stays, admits_method, admits_header, EachPasses, IsAdmitted};
+ghost use Rattle.aom_classes.specs.Admitted.{admits_target, admits_instr, is_plain, admits_thing, admits_class, admits_role, admits_argument, admits_result, stays, admits_method, admits_header, EachPasses, IsAdmitted};
 
 use aom_image::{
-    Argument, ClassDecl, ClassKind, Gives, Header, Image, Instr, Method, MethodFlags, Role, Thing,
+    Argument, ClassDecl, ClassKind, Gives, Header, Image, Instr, Method, MethodFlags, Role, Target,
+    Thing,
 };
 use bitflags::Flags;
+
+#[tactic(auto, unfolding(crate::specs::Admitted::admits_target))]
+fn admits_target(target: Target) -> bool
+    ensures { result ≡ admits_target target }
+{
+    !matches!(target, Target::Entry(_))
+}
 
 #[tactic(auto, unfolding(crate::specs::Admitted::admits_instr))]
 fn admits_instr(instr: &Instr) -> bool
@@ -38,6 +46,7 @@ fn admits_instr(instr: &Instr) -> bool
         | Instr::Delete(_)
         | Instr::Return(_)
         | Instr::Stop => true,
+        Instr::Call(target, _, _, _) => admits_target(*target),
         Instr::JumpActive(_)
         | Instr::JumpAdded(_)
         | Instr::NewOrLeave(_, _)
@@ -46,7 +55,6 @@ fn admits_instr(instr: &Instr) -> bool
         | Instr::Pop(_)
         | Instr::PopOperation
         | Instr::PopDelete
-        | Instr::Call(_, _, _, _)
         | Instr::Trap(_, _, _, _)
         | Instr::Leave(_)
         | Instr::LeaveIf(_)

@@ -19,7 +19,7 @@ use Rattle.aom_exec.proofs.Stepping.{met, frame_of, at_step, step_of_instr}
 use Rattle.aom_exec.proofs.FieldActs.{is_housed, has_cell}
 
 module _ (p : Image) (m : Parts) (st : Stands (record { image = p; parts = m })) (runs : Runs m.stack.tasks) where
-  at_hand : At_hand p m
+  pub at_hand : At_hand p m
   at_hand =
       let f = frame_of m.stack.tasks st.0.tasks runs st.1.agrees.tasks in
       record { typing = st.1.typing; state = st.0; frame = f.0; below = f.1; top = f.2; wired = st.1.sound.wired; typed = st.1.typed; agrees = st.1.agrees }
@@ -28,7 +28,7 @@ module _ (p : Image) (m : Parts) (st : Stands (record { image = p; parts = m }))
   finds_home = is_housed p m at_hand
 
   -- the needs of the instruction that is next are met
-  needs_met : (i : Instr) → instr_at p (method_here m.stack.tasks) (place_here m.stack.tasks) ≡ Some i
+  pub needs_met : (i : Instr) → instr_at p (method_here m.stack.tasks) (place_here m.stack.tasks) ≡ Some i
       → (c : Choice) × AllTrue (needs p c at_hand.frame at_hand.below (requested i (at_step at_hand.state)) i)
   unfolding at_hand
   needs_met i here =

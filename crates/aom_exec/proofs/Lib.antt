@@ -21,3 +21,4 @@ pub mod Announcing
 pub mod Ranking
 pub mod Progressing
 pub mod Booting
+pub mod EnterActs

@@ -77,7 +77,7 @@ beneath f us fr ts heap es root h deep old (Field n g) = old (Field n g)
 beneath f us fr ts heap es root h deep old (Elsewhere o) = old (Elsewhere o)
 
 -- past the tasks at hand no register owns
-none_above : (p : Image) (t : Typing) (s : State) (d i : ℕ) → WellTyped p t s → length s.tasks ≤ d → held s.cells (Register d i) ≡ None
+pub none_above : (p : Image) (t : Typing) (s : State) (d i : ℕ) → WellTyped p t s → length s.tasks ≤ d → held s.cells (Register d i) ≡ None
 none_above p t s d i typed le =
     let layers = ap length typed.tasks in
     fits_null p (held s.cells) _ (subst (Fits p (held s.cells) (held s.cells (Register d i))) (claim_register_above p s.cells typed.layers d i (omega arith)) (typed.good.fits (Register d i)))

@@ -4,6 +4,7 @@ pub mod Room
 pub mod Agrees
 pub mod Acts
 pub mod Fields
+pub mod Calls
 pub mod Ranks
 pub mod Steps
 pub mod Boot

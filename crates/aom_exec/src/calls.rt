@@ -1,17 +1,20 @@
 //! Calls, returns, and `stop`.
-ghost use Rattle.std.specs.Prelude.{ℕ, List, ◌<◌, ◌+◌, ◌^◌, ◌≡◌, IsSome, Some, length};
-ghost use Rattle.aom_image.specs.Views.{instr_at, method_at};
-ghost use Rattle.aom_image.specs.declared.instr.Instr.TheVariants.{Return, Stop};
+ghost use Rattle.std.specs.Prelude.{ℕ, List, ◌<◌, ◌≤◌, ◌+◌, ◌^◌, ◌≡◌, IsSome, Some, length};
+ghost use Rattle.aom_image.specs.Views.{arguments_of, instr_at, method_at};
+ghost use Rattle.aom_image.specs.declared.instr.Instr.TheVariants.{Call, Return, Stop};
 ghost use Rattle.aom_sound.specs.Calls.{result_register};
 ghost use Rattle.aom_frames.specs.Tasks.{Runs, method_here, place_here};
 ghost use Rattle.aom_exec.specs.Acts.{Does, DoesIn, resulted, next};
+ghost use Rattle.aom_exec.specs.Calls.{target_here};
+ghost use Rattle.aom_exec.specs.Fields.{IsHoused};
 ghost use Rattle.aom_exec.specs.Places.{below_first};
 ghost use Rattle.aom_exec.specs.Room.{ReturnsTo};
 
 use crate::parts::Parts;
+use aom_cells::NULL;
 use aom_classes::Linked;
-use aom_frames::Task;
-use aom_image::{Gives, Instr, Register};
+use aom_frames::{Frame, Task};
+use aom_image::{ClassNumber, Gives, Instr, MethodNumber, Register, Target};
 
 /// The register to which the result of a call comes.
 fn result_of(instr: Instr) -> u8
@@ -26,6 +29,40 @@ fn result_of(instr: Instr) -> u8
 }
 
 impl Parts {
+    /// What a method that is called works on: the number of a cell, or null.
+    fn target(&self, target: Target, class: Option<ClassNumber>) -> u32
+        requires runs { Runs self.now.stack.tasks }
+        requires housed { IsHoused self.now }
+        ensures { result ≡ target_here target class self.now }
+    {
+        match target {
+            Target::This => match class {
+                None => NULL,
+                Some(_) => self.stack.this(),
+            },
+            Target::Register(register) => self.register(register),
+            Target::Field(field) => self.field(field),
+            // Comes with the cleanup stack.
+            Target::Entry(_) => NULL,
+        }
+    }
+
+    /// Calls a method, with its arguments from a register on.
+    pub fn call(&mut self, target: Target, method: MethodNumber, first: Register, linked: &Linked)
+        requires runs { Runs self.old.stack.tasks }
+        requires housed { IsHoused self.old }
+        requires there { IsSome (method_at linked.now method) }
+        requires within { first + length (arguments_of linked.now method) ≤ 16 }
+        requires room { length self.old.stack.tasks < self.old.stack.depth }
+        ensures { (refused : List ℕ) (to : ℕ) → DoesIn linked.now refused (Call target method first to) self.old self.new }
+    {
+        let called = linked.method(method);
+        let this = self.target(target, called.class);
+        let frame = Frame::begin(method, this);
+        self.stack
+            .enter(frame, first.number(), called.arguments.as_slice());
+    }
+
     /// A result comes to the method that called, which goes on.
     fn receive(&mut self, gives: Gives, number: u32, linked: &Linked)
         requires runs { Runs self.old.stack.tasks }
