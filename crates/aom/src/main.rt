@@ -12,7 +12,8 @@ mod output;
 use crate::files::read_file;
 use crate::output::Output;
 use aom_main::{
-    ExitStatus, Fault, Words, WordsFault, asm_bytes, check_bytes, read_words, run_bytes, tell,
+    ExitStatus, Fault, Words, WordsFault, asm_bytes, check_bytes, dis_bytes, read_words, run_bytes,
+    tell,
 };
 use aom_run::{Sink, write_text};
 use std::process::ExitCode;
@@ -96,6 +97,10 @@ fn obey<W: Sink, E: Sink>(
         Words::Asm { text } => {
             let text = read_file(rt, text)?;
             Ok(asm_bytes(alloc, &text, out, errors))
+        }
+        Words::Dis { image } => {
+            let image = read_file(rt, image)?;
+            Ok(dis_bytes(alloc, &image, out, errors))
         }
     }
 }

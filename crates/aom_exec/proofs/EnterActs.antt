@@ -32,6 +32,7 @@ use Rattle.aom_exec.specs.Steps.{Stands}
 use Rattle.aom_exec.specs.Calls.{target_here}
 use Rattle.aom_exec.proofs.Cells.{cells_moved}
 use Rattle.aom_exec.proofs.FieldActs.{field_shown}
+use Rattle.aom_exec.proofs.GoingActs.{fresh_value, fresh_word}
 use Rattle.aom_exec.proofs.Housing.{at_hand, needs_met}
 use Rattle.aom_exec.proofs.ObjectActs.{shown}
 use Rattle.aom_exec.proofs.ReturnActs.{none_above}
@@ -47,23 +48,6 @@ arguments_here p k d e = ap arguments_in e
 pub class_here : (p : Image) (k : ℕ) (d : Method_decl) → method_at p k ≡ Some d → method_class p k ≡ d.class
 unfolding class_in
 class_here p k d e = ap class_in e
-
--- ---- a method that begins has nothing
-
-begun_value : (k this : ℕ) (us : List Held_task) (heap : Heap) (es : List ℕ) (root : ℕ) (r : Place) → value_in (Runs_frame (fresh k this) ∷ us) heap es root r ≡ value_in us heap es root r
-begun_value k this us heap es root (Register e i) =
-    ap (λ n. cond (length us == e) n (register_in us e i)) (begun_registers k this i) ∙ at_depth (length us) e null (register_in us e i) (λ d. register_past us e i (omega arith))
-begun_value k this us heap es root (Going j) = at_depth (length us) j null (going_in us j) (λ d. going_past us j (omega arith))
-begun_value k this us heap es root (Entry j) = refl
-begun_value k this us heap es root (Field n g) = refl
-begun_value k this us heap es root (Elsewhere o) = refl
-
-begun_word : (k : ℕ) (home : Home) (height : ℕ) (us : List Task) (r : Place) → word_at (Run (frame_of k home height) ∷ us) r ≡ word_at us r
-begun_word k home height us (Register e i) = at_depth (length us) e None (word_in us e i) (λ d. word_past us e i (omega arith))
-begun_word k home height us (Going j) = refl
-begun_word k home height us (Entry j) = refl
-begun_word k home height us (Field n g) = refl
-begun_word k home height us (Elsewhere o) = refl
 
 -- a list written at its end
 put_at_end : {A : Type 0} (d : A) (xs : List A) (v : A) → put_at d xs (length xs) v ≡ xs ++ v ∷ []
@@ -253,8 +237,8 @@ call_does p m refused target k first x h =
         let this = target_here target (method_class p k) m in
         let layers = ap length h.top in
         let begun : Passing p m.cells m.entries.items m.root ms ts fr cal s top.deep f (fresh k this) s.cells [] 0 = record {
-          values = λ r. subst (λ n. Shows n (word_at (Run cal ∷ Run fr ∷ ts) r) (held s.cells r)) (sym (begun_value k this (Runs_frame f ∷ ms) m.cells m.entries.items m.root r))
-              (subst (λ w. Shows (value_in (Runs_frame f ∷ ms) m.cells m.entries.items m.root r) w (held s.cells r)) (sym (begun_word k (target_home p fr ts s target (method_class p k)) (length s.items) (Run fr ∷ ts) r)) (top.values r));
+          values = λ r. subst (λ n. Shows n (word_at (Run cal ∷ Run fr ∷ ts) r) (held s.cells r)) (sym (fresh_value k this (Runs_frame f ∷ ms) m.cells m.entries.items m.root r))
+              (subst (λ w. Shows (value_in (Runs_frame f ∷ ms) m.cells m.entries.items m.root r) w (held s.cells r)) (sym (fresh_word k (target_home p fr ts s target (method_class p k)) (length s.items) (Run fr ∷ ts) r)) (top.values r));
           cells = h.agrees.cells;
           free = λ i le. none_above p h.typing s (suc (length ts)) i h.typed (omega arith);
           even = refl;

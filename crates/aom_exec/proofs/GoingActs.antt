@@ -35,7 +35,7 @@ use Rattle.aom_exec.proofs.Cells.{cells_moved, cells_without}
 use Rattle.aom_exec.proofs.ObjectActs.{shown}
 
 -- a method at its first place shows nothing, and has no word
-fresh_value : (method this : ℕ) (us : List Held_task) (h : Heap) (es : List ℕ) (root : ℕ) (r : Place) → value_in (Runs_frame (fresh method this) ∷ us) h es root r ≡ value_in us h es root r
+pub fresh_value : (method this : ℕ) (us : List Held_task) (h : Heap) (es : List ℕ) (root : ℕ) (r : Place) → value_in (Runs_frame (fresh method this) ∷ us) h es root r ≡ value_in us h es root r
 fresh_value method this us h es root (Register d i) =
     at_depth (length us) d (slice_index_or (fresh method this).registers i null) (register_in us d i) (λ k. register_past us d i (omega arith) ∙ sym (begun_registers method this i))
 fresh_value method this us h es root (Going d) = at_depth (length us) d null (going_in us d) (λ k. going_past us d (omega arith))
@@ -43,7 +43,7 @@ fresh_value method this us h es root (Entry k) = refl
 fresh_value method this us h es root (Field n f) = refl
 fresh_value method this us h es root (Elsewhere o) = refl
 
-fresh_word : (method : ℕ) (home : Home) (height : ℕ) (ts : List Task) (r : Place) → word_at (Run (frame_of method home height) ∷ ts) r ≡ word_at ts r
+pub fresh_word : (method : ℕ) (home : Home) (height : ℕ) (ts : List Task) (r : Place) → word_at (Run (frame_of method home height) ∷ ts) r ≡ word_at ts r
 fresh_word method home height ts (Register d i) = at_depth (length ts) d None (word_in ts d i) (λ k. word_past ts d i (omega arith))
 fresh_word method home height ts (Entry k) = refl
 fresh_word method home height ts (Field n f) = refl

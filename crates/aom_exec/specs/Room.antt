@@ -15,11 +15,12 @@ CalledFrom p k (Trapped ∷ ts) = CalledFrom p k ts
 CalledFrom p k (Destroy ∷ ts) = CalledFrom p k ts
 CalledFrom p k (Dispatched d ∷ ts) = CalledFrom p k ts
 
--- the end of a dispatch
+-- the end of a dispatch is on top
 abbrev pub IsEnd : List Task → Type 0
 IsEnd (Dispatched d ∷ ts) = Unit {0}
 IsEnd _ = ⊥
 
+-- each method at hand is called so, and each trap is that of a dispatch
 abbrev pub AllCalled : Image → List Task → Type 0
 AllCalled p [] = Unit {0}
 AllCalled p (Run fr ∷ ts) = CalledFrom p fr.method ts × AllCalled p ts

@@ -5,8 +5,8 @@ use crate::{BootFault, Machine, Outcome, Progress};
 use aom_budget::{Accepted, accept};
 use aom_classes::link;
 use aom_image::{
-    ClassDecl, ClassKind, ClassNumber, Gives, Header, Image, Instr, Items, Method, MethodFlags,
-    Place, Register, Role, States, form_ok,
+    ClassDecl, ClassKind, ClassNumber, Gives, Header, Image, Instr, Items, LoopDepth, Method,
+    MethodFlags, Place, Register, Role, States, form_ok,
 };
 use aom_lines::{Text, Turn};
 use aom_sound::Ending;
@@ -28,6 +28,12 @@ fn register(number: u8) -> Register
     requires { number < 16 }
 {
     Register::new(number).unwrap()
+}
+
+fn depth(number: u8) -> LoopDepth
+    requires { number < 4 }
+{
+    LoopDepth::new(number).unwrap()
 }
 
 fn place(number: u16) -> Place
@@ -195,6 +201,37 @@ fn a_jump_passes_over(rt: HostRuntime) -> Result<(), Fail> {
         Instr::Return(register(0)),
     ];
     let steps = [("@0 main\n", 0), ("", 0), ("out -1\n", 0), ("", 0)];
+    walk(&rt, rt.alloc(), &code, &[], &steps, Progress::Turned)
+}
+
+#[test]
+fn an_inner_loop_goes_its_rounds_again(rt: HostRuntime) -> Result<(), Fail> {
+    let code = [
+        Instr::Const(register(0), 7),
+        Instr::Loop(depth(0), 2),
+        Instr::Loop(depth(1), 2),
+        Instr::Print(register(0)),
+        Instr::Next(depth(1), place(3)),
+        Instr::Next(depth(0), place(2)),
+        Instr::Return(register(0)),
+    ];
+    let steps = [
+        ("@0 main\n", 0),
+        ("", 0),
+        ("", 0),
+        ("out 7\n", 0),
+        ("", 0),
+        ("out 7\n", 0),
+        ("", 0),
+        ("", 0),
+        ("", 0),
+        ("out 7\n", 0),
+        ("", 0),
+        ("out 7\n", 0),
+        ("", 0),
+        ("", 0),
+        ("", 0),
+    ];
     walk(&rt, rt.alloc(), &code, &[], &steps, Progress::Turned)
 }
 

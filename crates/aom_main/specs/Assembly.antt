@@ -1,14 +1,18 @@
--- What `asm` promises of its sinks and its status, from a text to an image's bytes.
-use Rattle.std.specs.Prelude.{ℕ, ◌≡◌, ◌⊎◌, true, List, Ok, Err}
+-- What `asm` and `dis` promise of their sinks and their status, from a text to an image's bytes and back.
+use Rattle.std.specs.Prelude.{ℕ, ◌≡◌, ◌⊎◌, true, List, Some, Ok, Err}
 use Rattle.aom_image.specs.Image.{Image}
 use Rattle.aom_image.specs.Spelling.{spell}
+use Rattle.aom_image.specs.Format.{first_fault}
+use Rattle.aom_image.specs.declared.fault.LoadFault.{LoadFault}
 use Rattle.aom_text.specs.declared.fault.AsmFault.{AsmFault}
 use Rattle.aom_asm.specs.Denoted.{denoted, NoImage}
+use Rattle.aom_listing.specs.Listing.{listing_text}
 use Rattle.aom_run.specs.Runs.{after}
 use Rattle.aom_main.specs.declared.status.ExitStatus.{ExitStatus}
 use Rattle.aom_main.specs.declared.status.ExitStatus.TheVariants.{Done, ImageRefused, Fault as Faulty}
 use Rattle.aom_main.specs.declared.faults.Fault.{Fault}
-use Rattle.aom_main.specs.declared.faults.Fault.TheVariants.{Asm, Write, Memory}
+use Rattle.aom_main.specs.declared.faults.Fault.TheVariants.{Asm, Load, Write, Memory}
+use Rattle.aom_main.specs.Acceptable.{IsSpelled}
 use Rattle.aom_main.specs.Headline.{Sent, IsSilent, Says, Tells, Told}
 
 -- the bytes spell the image that the text denotes
@@ -41,3 +45,34 @@ AsmAnswers text out errors Done = (bytes : List ℕ) × Makes text bytes × (out
 AsmAnswers text out errors ImageRefused = IsNoText text out errors
 AsmAnswers text out errors Faulty = AsmBreaks text out errors
 AsmAnswers text out errors _ = ⊥
+
+-- the text is the listing of the image that the bytes spell
+pub record Lists (bytes text : List ℕ) : Type 0 where
+  pub image : Image
+  pub spelled : IsSpelled bytes image
+  pub listing : text ≡ listing_text image
+
+-- why bytes make no listing: they are no image, or memory was wanting
+abbrev pub RefusesBytes : List ℕ → Fault → Type 0
+RefusesBytes bytes (Load fault) = first_fault bytes ≡ Some fault
+RefusesBytes bytes Memory = Unit {0}
+RefusesBytes bytes _ = ⊥
+
+-- the bytes are no image, and the errors say why
+pub record IsNoImage (bytes : List ℕ) (out errors : Sent) : Type 0 where
+  pub silent : IsSilent out
+  pub fault : LoadFault
+  pub refuses : RefusesBytes bytes (Load fault)
+  pub tells : Tells (Load fault) errors
+
+-- memory was wanting before anything went out, or the output failed
+pub data DisBreaks (bytes : List ℕ) (out errors : Sent) : Type 0 where
+  wants_memory : IsSilent out → Tells Memory errors → DisBreaks bytes out errors
+  output_fails : (text : List ℕ) → Lists bytes text → out.failed ≡ true → Says text out → Told Write Faulty errors → DisBreaks bytes out errors
+
+-- what each status says of a call of `dis`
+abbrev pub DisAnswers : List ℕ → Sent → Sent → ExitStatus → Type 0
+DisAnswers bytes out errors Done = (text : List ℕ) × Lists bytes text × (out.now ≡ after out.before text) × IsSilent errors
+DisAnswers bytes out errors ImageRefused = IsNoImage bytes out errors
+DisAnswers bytes out errors Faulty = DisBreaks bytes out errors
+DisAnswers bytes out errors _ = ⊥

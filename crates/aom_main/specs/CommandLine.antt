@@ -9,7 +9,7 @@ use Rattle.clap.specs.declared.builder.value_parser.ValueParser.TheVariants.{Sig
 use Rattle.clap.specs.declared.error.kind.ErrorKind.{ErrorKind}
 use Rattle.clap.specs.declared.error.kind.ErrorKind.TheVariants.{OutOfMemory}
 use Rattle.aom_main.specs.declared.words.Words.{Words}
-use Rattle.aom_main.specs.declared.words.Words.TheVariants.{Check, Run, Asm}
+use Rattle.aom_main.specs.declared.words.Words.TheVariants.{Check, Run, Asm, Dis}
 use Rattle.aom_main.specs.declared.words.WordsFault.{WordsFault}
 use Rattle.aom_main.specs.declared.words.WordsFault.TheVariants as faults
 
@@ -43,6 +43,10 @@ check_form = with_rule (new_app (codes "check")) (file_rule (codes "IMAGE"))
 abbrev pub asm_form : App
 asm_form = with_rule (new_app (codes "asm")) (file_rule (codes "TEXT"))
 
+-- dis IMAGE
+abbrev pub dis_form : App
+dis_form = with_rule (new_app (codes "dis")) (file_rule (codes "IMAGE"))
+
 -- run [--limit N] IMAGE SCRIPT [NATIVE]..
 abbrev pub run_form : App
 run_form = with_rule (with_rule (with_rule (with_rule (new_app (codes "run")) limit_rule) (file_rule (codes "IMAGE"))) (file_rule (codes "SCRIPT"))) native_rule
@@ -52,7 +56,7 @@ abbrev pub bare_form : App
 bare_form = record { top = record (new_app (codes "aom")).top { subcommand_required = true }; subs = [] }
 
 abbrev pub form : App
-form = with_subcommand (with_subcommand (with_subcommand bare_form check_form.top) run_form.top) asm_form.top
+form = with_subcommand (with_subcommand (with_subcommand (with_subcommand bare_form check_form.top) run_form.top) asm_form.top) dis_form.top
 
 -- the texts of words
 abbrev pub texts_of : {A : Type 0} → List (String A) → List Text
@@ -76,11 +80,12 @@ Asks (Some met) (Run image script limit) =
     (met.0 ≡ codes "run") × (string_bytes image ≡ word_of (codes "IMAGE") met.1) × (string_bytes script ≡ word_of (codes "SCRIPT") met.1)
     × IsLimit (one_of (codes "limit") met.1) limit × (all_of (codes "NATIVE") met.1 ≡ None)
 Asks (Some met) (Asm text) = (met.0 ≡ codes "asm") × (string_bytes text ≡ word_of (codes "TEXT") met.1)
+Asks (Some met) (Dis image) = (met.0 ≡ codes "dis") × (string_bytes image ≡ word_of (codes "IMAGE") met.1)
 
 -- it is one of the program's commands
 abbrev pub IsCommand : Option (Text × List Row) → Type 0
 IsCommand None = ⊥
-IsCommand (Some met) = (met.0 ≡ codes "check") ⊎ (met.0 ≡ codes "run") ⊎ (met.0 ≡ codes "asm")
+IsCommand (Some met) = (met.0 ≡ codes "check") ⊎ (met.0 ≡ codes "run") ⊎ (met.0 ≡ codes "asm") ⊎ (met.0 ≡ codes "dis")
 
 -- it is a run with natives
 abbrev pub NamesNatives : Option (Text × List Row) → Type 0
@@ -104,3 +109,4 @@ abbrev pub KeepsLimit : Words → Type 0
 KeepsLimit (Check image) = Unit {0}
 KeepsLimit (Run image script limit) = (1 ≤ limit) × (limit ≤ 1000000000)
 KeepsLimit (Asm text) = Unit {0}
+KeepsLimit (Dis image) = Unit {0}

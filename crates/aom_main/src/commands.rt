@@ -2,11 +2,11 @@
 ghost use Rattle.std.specs.Prelude.{ℕ, ◌≡◌, ◌≤◌, List, Ok};
 ghost use Rattle.aom_run.specs.Script.{denoted};
 ghost use Rattle.aom_main.specs.Acceptable.{IsSpelled};
-ghost use Rattle.aom_main.specs.Assembly.{AsmAnswers};
+ghost use Rattle.aom_main.specs.Assembly.{AsmAnswers, DisAnswers};
 ghost use Rattle.aom_main.specs.Headline.{Ends, RunAnswers, CheckAnswers, Sends};
 
 use crate::accepting::accept_bytes;
-use crate::assembling::assemble_bytes;
+use crate::assembling::{assemble_bytes, disassemble_bytes};
 use crate::running::run_accepted;
 use crate::{ExitStatus, Fault, tell};
 use aom_budget::Accepted;
@@ -111,6 +111,22 @@ pub fn asm_bytes<W: Sink, E: Sink>(
 {
     match assemble_bytes(alloc, text) {
         Ok(bytes) => send(alloc, &bytes, out, errors),
+        Err(fault) => tell(alloc, &fault, errors),
+    }
+}
+
+/// Writes the listing of an image, which need not be accepted.
+#[tactic(auto, using(crate::proofs::Sending::listed))]
+pub fn dis_bytes<W: Sink, E: Sink>(
+    alloc: Global,
+    image: &[u8],
+    out: &mut W,
+    errors: &mut E,
+) -> ExitStatus
+    ensures { DisAnswers image.now (record { before = W.out out.old; now = W.out out.new; failed = W.failed out.new }) (record { before = E.out errors.old; now = E.out errors.new; failed = E.failed errors.new }) result }
+{
+    match disassemble_bytes(alloc, image) {
+        Ok(text) => send(alloc, &text, out, errors),
         Err(fault) => tell(alloc, &fault, errors),
     }
 }

@@ -1,3 +1,5 @@
+mod programs;
+
 use super::*;
 use aom_run::Sink;
 use std::alloc::Global;
@@ -123,6 +125,30 @@ fn checks(alloc: Global, image: &[u8], room: usize) -> Answer {
     }
 }
 
+/// Assembles a text, with so much room for the output.
+fn assembles(alloc: Global, text: &[u8], room: usize) -> Answer {
+    let mut out = page_of(alloc, room);
+    let mut errors = page_of(alloc, 100);
+    let status = asm_bytes(alloc, text, &mut out, &mut errors);
+    Answer {
+        status,
+        out: out.text,
+        errors: errors.text,
+    }
+}
+
+/// Lists an image, with so much room for the output.
+fn lists(alloc: Global, image: &[u8], room: usize) -> Answer {
+    let mut out = page_of(alloc, room);
+    let mut errors = page_of(alloc, 100);
+    let status = dis_bytes(alloc, image, &mut out, &mut errors);
+    Answer {
+        status,
+        out: out.text,
+        errors: errors.text,
+    }
+}
+
 /// The first image with another byte at a place.
 fn changed(alloc: Global, place: usize, byte: u8) -> Result<Vec<u8>, Fail> {
     let mut bytes = Vec::from_slice(alloc, &FIRST)?;
@@ -194,6 +220,53 @@ fn other_bytes_are_refused(rt: HostRuntime) -> Result<(), Fail> {
         assert_eq!(rt; checks(alloc, bytes, 100), refused);
         assert_eq!(rt; runs(alloc, bytes, b"x", 100), refused);
     }
+    Ok(())
+}
+
+/// The first image as a text, with what may be left out left out.
+const SHORT: &str =
+    "image cells 1 budget 4; method main main; const r0 7; print r0; stop; ret; end";
+
+/// The listing of the first image.
+const LISTING: &str =
+    "image cells 1 messages 0 natives 0 budget 4\nmethod m0 main in - out - args - gives none\nconst r0 7\nprint r0\nstop\nret r0\nend\n";
+
+#[test]
+fn a_text_is_assembled_and_an_image_listed(rt: HostRuntime) -> Result<(), Fail> {
+    let alloc = rt.alloc();
+    let bytes = Answer {
+        status: ExitStatus::Done,
+        out: Vec::from_slice(alloc, &FIRST)?,
+        errors: Vec::new(alloc),
+    };
+    assert_eq!(rt; assembles(alloc, SHORT.as_bytes(), 100), bytes);
+    assert_eq!(rt; assembles(alloc, LISTING.as_bytes(), 100), bytes);
+    let listing = answer_of(alloc, ExitStatus::Done, LISTING, "")?;
+    assert_eq!(rt; lists(alloc, &FIRST, 200), listing);
+    Ok(())
+}
+
+#[test]
+fn a_text_is_refused_with_its_line(rt: HostRuntime) -> Result<(), Fail> {
+    let alloc = rt.alloc();
+    for (text, line) in [
+        ("# \x7f", "asm 1 1\n"),
+        ("image budget 4\nfoo", "asm 2 2\n"),
+        ("image cells x", "asm 1 3\n"),
+        ("image budget 4\n;method m main\njump L\nend", "asm 3 4\n"),
+        ("image budget 4\nclass C plain\nclass C plain", "asm 3 5\n"),
+        ("", "asm 1 6\n"),
+        ("\nimage version 3 budget 4", "asm 2 7\n"),
+    ] {
+        let refused = answer_of(alloc, ExitStatus::ImageRefused, "", line)?;
+        assert_eq!(rt; assembles(alloc, text.as_bytes(), 100), refused);
+    }
+    let cut = answer_of(alloc, ExitStatus::Fault, "AOIM", "write\n")?;
+    assert_eq!(rt; assembles(alloc, SHORT.as_bytes(), 4), cut);
+    let refused = answer_of(alloc, ExitStatus::ImageRefused, "", "load 3\n")?;
+    assert_eq!(rt; lists(alloc, &FIRST[..79], 100), refused);
+    let cut = answer_of(alloc, ExitStatus::Fault, "image", "write\n")?;
+    assert_eq!(rt; lists(alloc, &FIRST, 5), cut);
     Ok(())
 }
 
@@ -278,6 +351,8 @@ fn each_fault_has_its_line_and_status(rt: HostRuntime) -> Result<(), Fail> {
 enum Asked {
     Check,
     Run(u32),
+    Asm,
+    Dis,
     Text,
     Native,
     Memory,
@@ -299,6 +374,8 @@ fn ask(alloc: Global, line: &str) -> Result<Asked, Fail> {
         ) if image.as_str() == "one.image" && script.as_str() == "one.script" => {
             Asked::Run(*limit)
         }
+        Ok(Words::Asm { text }) if text.as_str() == "one.text" => Asked::Asm,
+        Ok(Words::Dis { image }) if image.as_str() == "one.image" => Asked::Dis,
         Ok(_) => return Err(Fail::from("another file")),
         Err(WordsFault::Text(text)) if text.is_empty() => return Err(Fail::from("no text")),
         Err(WordsFault::Text(_)) => Asked::Text,
@@ -312,6 +389,10 @@ fn the_command_line_is_read(rt: HostRuntime) -> Result<(), Fail> {
     for (line, expected) in [
         ("aom check one.image", Asked::Check),
         ("aom run one.image one.script", Asked::Run(1_000_000)),
+        ("aom asm one.text", Asked::Asm),
+        ("aom dis one.image", Asked::Dis),
+        ("aom asm", Asked::Text),
+        ("aom dis one.image one.text", Asked::Text),
         ("aom run --limit 7 one.image one.script", Asked::Run(7)),
         (
             "aom run one.image one.script --limit 1000000000",

@@ -3,7 +3,7 @@ ghost use Rattle.std.specs.Prelude.{◌≡◌, ◌≤◌, IfOk, IfErr, Some, fal
 ghost use Rattle.std.specs.String.{string_bytes};
 ghost use Rattle.clap.specs.declared.builder.command.Command.TheViews.{out-Command as fields_of};
 ghost use Rattle.clap.specs.Words.{app_of, found_of, kind_of, one_of, rows_of, rule_of, subcommand_of, subcommand_rows_of, takes};
-ghost use Rattle.aom_main.specs.CommandLine.{asm_form, check_form, run_form, form, file_rule, limit_rule, native_rule, texts_of, word_of, Asks, Declines, IsLimit, KeepsLimit, Says};
+ghost use Rattle.aom_main.specs.CommandLine.{asm_form, check_form, dis_form, run_form, form, file_rule, limit_rule, native_rule, texts_of, word_of, Asks, Declines, IsLimit, KeepsLimit, Says};
 
 use clap::error::ErrorKind;
 use clap::{Arg, ArgAction, ArgMatches, Command, Error, value_parser};
@@ -23,6 +23,9 @@ pub enum Words {
     },
     Asm {
         text: String,
+    },
+    Dis {
+        image: String,
     },
 }
 
@@ -67,12 +70,14 @@ fn aom_command<'a>(alloc: Global) -> Result<Command<'a>, AllocError>
     let check = check_command(alloc)?;
     let run = run_command(alloc)?;
     let asm = asm_command(alloc)?;
+    let dis = dis_command(alloc)?;
     Command::new(alloc, "aom")
-        .about("Assembles, checks and runs images of programs of active objects")
+        .about("Assembles, lists, checks and runs images of programs of active objects")
         .subcommand_required(true)
         .subcommand(check)?
         .subcommand(run)?
-        .subcommand(asm)
+        .subcommand(asm)?
+        .subcommand(dis)
 }
 
 fn check_command<'a>(alloc: Global) -> Result<Command<'a>, AllocError>
@@ -91,6 +96,15 @@ fn asm_command<'a>(alloc: Global) -> Result<Command<'a>, AllocError>
     Command::new(alloc, "asm")
         .about("Writes the image that a text denotes")
         .arg(file_arg(alloc, "TEXT", "The file of an assembly text"))
+}
+
+fn dis_command<'a>(alloc: Global) -> Result<Command<'a>, AllocError>
+    ensures form { IfOk result (λ c. app_of c ≡ dis_form) }
+    ensures own { IfOk result (λ c. (fields_of c).has_globals ≡ false) }
+{
+    Command::new(alloc, "dis")
+        .about("Writes the listing of an image")
+        .arg(file_arg(alloc, "IMAGE", "The file of an image"))
 }
 
 fn run_command<'a>(alloc: Global) -> Result<Command<'a>, AllocError>
@@ -171,6 +185,9 @@ fn command_words(alloc: Global, command: &str, own: &ArgMatches) -> Result<Words
         "run" => run_words(alloc, own),
         "asm" => Ok(Words::Asm {
             text: word_of(alloc, own, "TEXT")?,
+        }),
+        "dis" => Ok(Words::Dis {
+            image: word_of(alloc, own, "IMAGE")?,
         }),
         _ => Err(WordsFault::Text(String::new(alloc))),
     }

@@ -15,3 +15,4 @@ pub mod Parts
 pub mod TextNames
 pub mod Wholes
 pub mod Assembling
+pub mod Quiet

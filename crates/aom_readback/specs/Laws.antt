@@ -21,6 +21,7 @@ use Rattle.aom_syntax.specs.declared.keyword.Keyword.{Keyword}
 use Rattle.aom_syntax.specs.declared.mnemonic.Mnemonic.{Mnemonic}
 use Rattle.aom_syntax.specs.declared.scope.Scope.{Scope}
 use Rattle.aom_listing.specs.Listing.{instr_words, listing, listing_text}
+use Rattle.aom_roles.specs.Shapes.{AllShaped}
 use Rattle.aom_asm.specs.Denoted.{denoted, read_statements}
 use Rattle.aom_readback.specs.Texts.{AllSayQuiet, SaysQuiet, all_words}
 use Rattle.aom_readback.specs.Naming.{HasNames, code_labels, heading_of}
@@ -49,6 +50,10 @@ ClassesReadBack = (classes methods : ℕ) (scope : Scope) → HasNames classes m
 -- the heading of a method that fits reads as itself at its place, where a method that is quiet by its role says so
 abbrev pub HeadingsReadBack : Type 0
 HeadingsReadBack = (classes methods : ℕ) (scope : Scope) → HasNames classes methods scope → (place : ℕ) (m : Method) → place < methods → MethodFits classes methods m → SaysQuiet m → heading scope place (others_of (heading_words place m)) ≡ Ok (heading_of m, [])
+
+-- where each method has the shape that its role asks, each that is quiet by its role says so
+abbrev pub ShapedSayQuiet : Type 0
+ShapedSayQuiet = (i : Image) → AllShaped i → AllSayQuiet i
 
 -- statements that are a listing's denote its image, in whatever lines they stand, where each method that is quiet by its role says so
 abbrev pub StatementsDenote : Type 0

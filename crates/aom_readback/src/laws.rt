@@ -1,5 +1,5 @@
 //! The laws, each as the contract of a function that does nothing.
-ghost use Rattle.aom_readback.specs.Laws.{NumbersReadBack, TablesReadBack, InstructionsReadBack, HeadersReadBack, ClassesReadBack, HeadingsReadBack, StatementsDenote, ListingsAssemble};
+ghost use Rattle.aom_readback.specs.Laws.{NumbersReadBack, TablesReadBack, InstructionsReadBack, HeadersReadBack, ClassesReadBack, HeadingsReadBack, ShapedSayQuiet, StatementsDenote, ListingsAssemble};
 
 /// A number in decimal digits reads as that number.
 pub fn numbers_read_back()
@@ -29,6 +29,11 @@ pub fn classes_read_back()
 /// The statement that each method begins with.
 pub fn headings_read_back()
     ensures { HeadingsReadBack }
+{}
+
+/// So an image whose methods have the shapes that a link asks is one of the round trip.
+pub fn shaped_say_quiet()
+    ensures { ShapedSayQuiet }
 {}
 
 /// Statements in whatever lines, by both readings of a text.

@@ -10,5 +10,5 @@ mod laws;
 
 pub use laws::{
     classes_read_back, headers_read_back, headings_read_back, instructions_read_back,
-    listings_assemble, numbers_read_back, statements_denote, tables_read_back,
+    listings_assemble, numbers_read_back, shaped_say_quiet, statements_denote, tables_read_back,
 };

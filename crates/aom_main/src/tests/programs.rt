@@ -1,0 +1,145 @@
+//! Worked programs, each from its text to its transcript or its refusal.
+use super::*;
+use std::process::Abort;
+
+/// The bytes of the image that a text denotes.
+fn assembled(alloc: Global, text: &str) -> Result<Vec<u8>, Fail> {
+    let mut image = page_of(alloc, 1 << 20);
+    let mut errors = page_of(alloc, 100);
+    let status = asm_bytes(alloc, text.as_bytes(), &mut image, &mut errors);
+    if status != ExitStatus::Done {
+        return Err(Fail::from("a text that denotes no image"));
+    }
+    Ok(image.text)
+}
+
+/// Runs the image of a text, which ends as stopped with that transcript.
+fn stops(rt: &impl Abort, alloc: Global, text: &str, transcript: &str) -> Result<(), Fail> {
+    let image = assembled(alloc, text)?;
+    let told = answer_of(alloc, ExitStatus::Done, transcript, "")?;
+    assert_eq!(rt; runs(alloc, image.as_slice(), b"", 1 << 16), told);
+    Ok(())
+}
+
+/// The image of a text is refused.
+fn refuses(rt: &impl Abort, alloc: Global, text: &str, line: &str) -> Result<(), Fail> {
+    let image = assembled(alloc, text)?;
+    let refused = answer_of(alloc, ExitStatus::ImageRefused, "", line)?;
+    assert_eq!(rt; checks(alloc, image.as_slice(), 100), refused);
+    Ok(())
+}
+
+/// Construction in two phases: a destructor, a construct method with an argument, and main, which keeps the object at
+/// the root.
+const TWO_PHASES: &str = "class M plain;class P plain words 1 own M
+method pd destruct of P;take r0 f0;delete r0;ret;end
+method pn construct of P args word
+store w0 r0;load r2 w0;print r2;new r1 M;jnull r1 L;put f0 r1
+L: ret
+end
+method main main
+new r0 P;jnull r0 E;const r1 3;call r0 pn r1;put f0 r0
+E: stop;ret
+end
+";
+
+#[test]
+fn an_object_is_constructed_and_destroyed(rt: HostRuntime) -> Result<(), Fail> {
+    for (cells, gone) in [(1, ""), (2, "gone 0\n")] {
+        let text = format!(in rt.alloc(); "image cells {cells} budget 19 root P;{TWO_PHASES}")?;
+        let told = format!(in rt.alloc(); "@0 main\nout 3\n{gone}gone 1\nend stopped cells 0\n")?;
+        stops(&rt, rt.alloc(), text.as_str(), told.as_str())?;
+    }
+    Ok(())
+}
+
+/// 256 methods, each of which calls the one before it, and main, which calls one of them.
+fn stack_of_calls(alloc: Global, called: u32) -> Result<String, Fail> {
+    let mut text = String::from_str(alloc, "image budget 600;method m0 do;ret;end\n")?;
+    for number in 1..256u32 {
+        let below = number - 1;
+        let method = format!(in alloc; "method m{number} do;call self m{below};ret;end\n")?;
+        text.push_str(method.as_str())?;
+    }
+    let main = format!(in alloc; "method main main;call self m{called};stop;ret;end\n")?;
+    text.push_str(main.as_str())?;
+    Ok(text)
+}
+
+#[test]
+fn calls_may_be_256_frames_deep(rt: HostRuntime) -> Result<(), Fail> {
+    let text = stack_of_calls(rt.alloc(), 254)?;
+    stops(&rt, rt.alloc(), text.as_str(), "@0 main\nend stopped cells 0\n")?;
+    let text = stack_of_calls(rt.alloc(), 255)?;
+    refuses(&rt, rt.alloc(), text.as_str(), "budget 2\n")
+}
+
+#[test]
+fn a_loop_has_its_rounds(rt: HostRuntime) -> Result<(), Fail> {
+    let text = "image budget 10;method main main;const r0 5;loop 0 3;L: print r0;next 0 L;stop;ret;end";
+    stops(&rt, rt.alloc(), text, "@0 main\nout 5\nout 5\nout 5\nend stopped cells 0\n")
+}
+
+#[test]
+fn loops_nest(rt: HostRuntime) -> Result<(), Fail> {
+    let text = "image budget 100;method main main;const r0 5;loop 0 2;A: loop 1 2;B: print r0;next 1 B;next 0 A;stop;ret;end";
+    stops(&rt, rt.alloc(), text, "@0 main\nout 5\nout 5\nout 5\nout 5\nend stopped cells 0\n")
+}
+
+/// Main of a program that prints what its methods give, and an object whose words they write.
+const COUNTER: &str = "image cells 2 budget 200
+class C plain words 2
+method add do of C args word gives word
+load r1 w1;add r1 r1 r0;store w1 r1;ret r1
+end
+method make do gives maybe C
+new r0 C;ret r0
+end
+method pass do args word,C,word gives own C
+sub r3 r0 r2;print r3;move r4 r1;ret r4
+end
+method main main
+call self make r0 r1;jnull r1 E;const r2 40;call r1 add r2 r3;print r3;const r2 2;call r1 add r2 r3;print r3
+move r5 r1;const r4 9;const r6 12;call self pass r4 r7;delete r7
+E: stop;ret
+end
+";
+
+#[test]
+fn methods_take_arguments_and_give_results(rt: HostRuntime) -> Result<(), Fail> {
+    stops(
+        &rt,
+        rt.alloc(),
+        COUNTER,
+        "@0 main\nout 40\nout 42\nout -3\ngone 0\nend stopped cells 0\n",
+    )
+}
+
+/// Classes of which one owns another, with the destructor of the owner.
+const OWNER: &str = "image cells 9 budget 99;class M plain;class P plain own M
+method pd destruct of P;take r0 f0;delete r0;ret;end
+";
+
+#[test]
+fn each_rule_refuses_its_smallest_program(rt: HostRuntime) -> Result<(), Fail> {
+    for (methods, line) in [
+        // r0 is a word where an object is wanted.
+        ("method a do args word;move r1 r0;ret;end", "verify 1 0 1\n"),
+        // What the argument owns is lost.
+        ("method a do args M;ret;end", "verify 1 0 3\n"),
+        // The field may own something already.
+        ("method a do of P args M;put f0 r0;ret;end", "verify 1 0 7\n"),
+        // A destructor leaves what its object owns.
+        ("class Q plain own M;method a destruct of Q;ret;end", "verify 1 0 8\n"),
+        // An object is constructed once, before it is used.
+        ("method a construct of M;ret;end;method b do of M;call self a;ret;end", "verify 2 0 9\n"),
+        ("method a construct of M;ret;end;method b do of P;new r0 M;jnull r0 E;jempty f0 F;delete r0;E: ret;F: put f0 r0;ret;end", "verify 2 5 10\n"),
+        // A quiet method makes nothing.
+        ("method a do quiet;new r0 M;delete r0;ret;end", "verify 1 0 21\n"),
+    ] {
+        let main = "method main main;ret;end";
+        let text = format!(in rt.alloc(); "{OWNER}{methods}\n{main}")?;
+        refuses(&rt, rt.alloc(), text.as_str(), line)?;
+    }
+    Ok(())
+}
