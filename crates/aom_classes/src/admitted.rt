@@ -47,7 +47,28 @@ fn admits_instr(instr: &Instr) -> bool
         | Instr::Return(_)
         | Instr::Stop => true,
         Instr::Call(target, _, _, _) => admits_target(*target),
-        _ => false,
+        Instr::JumpActive(_)
+        | Instr::JumpAdded(_)
+        | Instr::NewOrLeave(_, _)
+        | Instr::Push(_)
+        | Instr::PushOperation(_, _)
+        | Instr::Pop(_)
+        | Instr::PopOperation
+        | Instr::PopDelete
+        | Instr::Trap(_, _, _, _)
+        | Instr::Leave(_)
+        | Instr::LeaveIf(_)
+        | Instr::Enlist(_)
+        | Instr::Issue(_, _)
+        | Instr::SetActive
+        | Instr::Cancel
+        | Instr::Abort
+        | Instr::Status(_)
+        | Instr::Connect(_)
+        | Instr::Ask(_, _, _)
+        | Instr::Close
+        | Instr::TakeMessage(_)
+        | Instr::Reply(_, _) => false,
     }
 }
 

@@ -392,7 +392,8 @@ fn what_link_refuses(rt: HostRuntime) {
     let code = [ret()];
     let owner = alone(alloc, &code).owner(alloc, object(0));
     assert!(rt; link_fault(alloc, owner) == Some(1));
-    assert!(rt; link_fault(alloc, alone(alloc, &[call(0), ret()])) == Some(2));
+    let early = alone(alloc, &[new(0), ret()]).class(alloc, ClassKind::Plain);
+    assert!(rt; link_fault(alloc, early.method(alloc, destruct(0), &code)) == Some(2));
     let plain = alone(alloc, &code).class(alloc, ClassKind::Plain);
     assert!(rt; link_fault(alloc, plain.owner(alloc, object(0))) == Some(3));
     let twice = alone(alloc, &code).method(alloc, main(), &code);
@@ -430,7 +431,7 @@ fn what_is_not_admitted_yet(rt: HostRuntime) {
 fn owning(alloc: Global) -> ImageDraft {
     let rounds = [
         Instr::Loop(depth(0), 3),
-        call(0),
+        Instr::Stop,
         Instr::Next(depth(0), place(1)),
         ret(),
     ];

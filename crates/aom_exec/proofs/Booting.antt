@@ -85,11 +85,11 @@ module _ (p : Image) (m : Parts) (booted : Booted p m) where
 
 pub boots : (p : Image) (m : Parts) → IsLinked p → IsAdmitted p → (t : Typing) → IsStrongest p t → DepthsWithin p → BootKeeps → StepKeeps → LinkedIsWired → Booted p m → StandsFor (record { image = p; parts = m }) (boot_state p)
 boots p m linked admitted t strongest within boot_keeps step_keeps wired booted =
-    let w = wired p linked admitted in
+    let w = wired p booted.formed linked in
     record {
       typing = t;
-      sound = record { formed = booted.formed; linked = linked; admitted = admitted; wired = w.0; strongest = strongest; within = within; typed = strongest.typed; keeps = λ c s well unused. step_keeps p t w.0 strongest.typed c s well unused };
-      typed = boot_keeps p t w.0 strongest.typed;
+      sound = record { formed = booted.formed; linked = linked; admitted = admitted; wired = w; strongest = strongest; within = within; typed = strongest.typed; keeps = λ c s well unused. step_keeps p t w strongest.typed c s well unused };
+      typed = boot_keeps p t w strongest.typed;
       called = subst (AllCalled p) (sym (boot_tasks p booted.main booted.is_main)) (tt, (tt, tt));
       agrees = boot_agrees p m booted;
     }

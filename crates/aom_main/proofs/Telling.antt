@@ -19,14 +19,14 @@ use Rattle.aom_main.specs.Headline.RunBreaks.{output_fails}
 abbrev pub runs_of : (bytes text : List ℕ) (p : Image) (script : Script) → IsLinked p → IsAdmitted p → (t : Typing) × IsTyped p t → DepthsWithin p → LinkedIsWired → TypedIsSound
     → IsSpelled bytes p → denoted text ≡ Ok script → Runs bytes text
 runs_of bytes text p script linked admitted typed depths wired sound spelled denotes =
-    let w = wired p linked admitted in
+    let w = wired p spelled.formed linked in
     record {
       image = p;
       spelled = spelled;
       acceptable = record { admitted = admitted; linked = linked; typing = typed.0; typed = typed.1; depths = depths };
       script = script;
       denotes = denotes;
-      sound = sound p typed.0 script.refused w.0 typed.1;
+      sound = sound p typed.0 script.refused w typed.1;
     }
 
 -- the output failed, and that is told
