@@ -5,7 +5,7 @@ use crate::{BootFault, Machine, Outcome, Progress};
 use aom_budget::{Accepted, accept};
 use aom_classes::link;
 use aom_image::{
-    ClassDecl, ClassKind, ClassNumber, Gives, Header, Image, Instr, Items, LoopDepth, Method,
+    ClassDecl, ClassKind, ClassNumber, FieldIndex, Gives, Header, Image, Instr, Items, LoopDepth, Method,
     MethodFlags, Place, Register, Role, States, form_ok,
 };
 use aom_lines::{Text, Turn};
@@ -61,8 +61,13 @@ fn main_of(alloc: Global, code: &[Instr]) -> Result<Method, AllocError> {
     })
 }
 
-/// An image of one plain class and that main.
-fn image_of(alloc: Global, code: &[Instr]) -> Result<Option<Image>, AllocError> {
+/// An image of one plain class, with that root and that main.
+fn image_of(
+    alloc: Global,
+    root: Option<ClassNumber>,
+    code: &[Instr],
+) -> Result<Option<Image>, AllocError> {
+    let header = Header { root, ..HEADER };
     let mut classes = Vec::with_capacity(alloc, 1)?;
     classes.push(ClassDecl {
         kind: ClassKind::Plain,
@@ -71,14 +76,14 @@ fn image_of(alloc: Global, code: &[Instr]) -> Result<Option<Image>, AllocError> 
     })?;
     let mut methods = Vec::with_capacity(alloc, 1)?;
     methods.push(main_of(alloc, code)?)?;
-    if !form_ok(&HEADER, classes.as_slice(), methods.as_slice()) {
+    if !form_ok(&header, classes.as_slice(), methods.as_slice()) {
         return Ok(None);
     }
-    Ok(Some(Image::make(HEADER, classes, methods)))
+    Ok(Some(Image::make(header, classes, methods)))
 }
 
-fn accepted_of(alloc: Global, code: &[Instr]) -> Option<Accepted> {
-    let image = image_of(alloc, code).ok()??;
+fn accepted_of(alloc: Global, root: Option<ClassNumber>, code: &[Instr]) -> Option<Accepted> {
+    let image = image_of(alloc, root, code).ok()??;
     let linked = link(alloc, image).ok()?;
     let checked = check(alloc, linked).ok()?;
     accept(alloc, checked).ok()
@@ -104,12 +109,13 @@ fn step_text(
 fn walk(
     rt: &impl Abort,
     alloc: Global,
+    root: Option<ClassNumber>,
     code: &[Instr],
     refused: &[u32],
     steps: &[(&str, usize)],
     last: Progress,
 ) -> Result<(), Fail> {
-    let Some(accepted) = accepted_of(alloc, code) else {
+    let Some(accepted) = accepted_of(alloc, root, code) else {
         return Err(Fail::from("the image is not accepted"));
     };
     let Ok(mut machine) = Machine::boot(alloc, &accepted) else {
@@ -159,6 +165,7 @@ fn a_full_heap_refuses_the_second_object(rt: HostRuntime) -> Result<(), Fail> {
     walk(
         &rt,
         rt.alloc(),
+        None,
         &two_objects(),
         &[],
         &steps,
@@ -184,6 +191,7 @@ fn the_first_request_is_refused_by_its_number(rt: HostRuntime) -> Result<(), Fai
     walk(
         &rt,
         rt.alloc(),
+        None,
         &two_objects(),
         &[1],
         &steps,
@@ -201,7 +209,54 @@ fn a_jump_passes_over(rt: HostRuntime) -> Result<(), Fail> {
         Instr::Return(register(0)),
     ];
     let steps = [("@0 main\n", 0), ("", 0), ("out -1\n", 0), ("", 0)];
-    walk(&rt, rt.alloc(), &code, &[], &steps, Progress::Turned)
+    walk(
+        &rt,
+        rt.alloc(),
+        None,
+        &code,
+        &[],
+        &steps,
+        Progress::Turned,
+    )
+}
+
+#[test]
+fn the_root_is_put_taken_and_moved(rt: HostRuntime) -> Result<(), Fail> {
+    let root = FieldIndex::new(0).unwrap();
+    let code = [
+        Instr::New(register(0), class()),
+        Instr::JumpNull(register(0), place(8)),
+        Instr::Put(root, register(0)),
+        Instr::JumpEmpty(root, place(8)),
+        Instr::Take(register(1), root),
+        Instr::JumpEmpty(root, place(6)),
+        Instr::Move(register(0), register(1)),
+        Instr::Put(root, register(0)),
+        Instr::Stop,
+        Instr::Return(register(0)),
+    ];
+    let steps = [
+        ("@0 main\n", 1),
+        ("", 1),
+        ("", 1),
+        ("", 1),
+        ("", 1),
+        ("", 1),
+        ("", 1),
+        ("", 1),
+        ("", 1),
+        ("", 1),
+        ("gone 0\n", 0),
+    ];
+    walk(
+        &rt,
+        rt.alloc(),
+        Some(class()),
+        &code,
+        &[],
+        &steps,
+        Progress::Ended(Ending::Stopped),
+    )
 }
 
 #[test]
@@ -237,7 +292,7 @@ fn an_inner_loop_goes_its_rounds_again(rt: HostRuntime) -> Result<(), Fail> {
 
 #[test]
 fn a_run_waits_and_is_over(rt: HostRuntime) -> Result<(), Fail> {
-    let Some(accepted) = accepted_of(rt.alloc(), &[Instr::Return(register(0))]) else {
+    let Some(accepted) = accepted_of(rt.alloc(), None, &[Instr::Return(register(0))]) else {
         return Err(Fail::from("the image is not accepted"));
     };
     let Ok(mut machine) = Machine::boot(rt.alloc(), &accepted) else {
