@@ -6,7 +6,7 @@ use aom_budget::{Accepted, accept};
 use aom_classes::link;
 use aom_image::{
     ClassDecl, ClassKind, ClassNumber, FieldIndex, Gives, Header, Image, Instr, Items, LoopDepth, Method,
-    MethodFlags, Place, Register, Role, States, form_ok,
+    MethodFlags, Place, Register, Role, States, Thing, WordIndex, form_ok,
 };
 use aom_lines::{Text, Turn};
 use aom_sound::Ending;
@@ -82,8 +82,49 @@ fn image_of(
     Ok(Some(Image::make(header, classes, methods)))
 }
 
+/// A destructor of that class.
+fn destructor_of(alloc: Global, class: ClassNumber, code: &[Instr]) -> Result<Method, AllocError> {
+    let mut method = main_of(alloc, code)?;
+    method.class = Some(class);
+    method.role = Role::Destruct;
+    method.flags = MethodFlags::QUIET;
+    Ok(method)
+}
+
+/// A class of two words, and one that may own an object of it. Each has a destructor.
+fn owning_image(
+    alloc: Global,
+    main: &[Instr],
+    inner: &[Instr],
+    outer: &[Instr],
+) -> Result<Option<Image>, AllocError> {
+    let owner = ClassNumber::new(1).unwrap();
+    let mut classes = Vec::with_capacity(alloc, 2)?;
+    classes.push(ClassDecl {
+        kind: ClassKind::Plain,
+        words: 2,
+        fields: Items::from_vec(Vec::new(alloc)),
+    })?;
+    classes.push(ClassDecl {
+        kind: ClassKind::Plain,
+        words: 0,
+        fields: Items::from_vec([Thing::Object(class())].to_vec(alloc)?),
+    })?;
+    let mut methods = Vec::with_capacity(alloc, 3)?;
+    methods.push(destructor_of(alloc, class(), inner)?)?;
+    methods.push(destructor_of(alloc, owner, outer)?)?;
+    methods.push(main_of(alloc, main)?)?;
+    if !form_ok(&HEADER, classes.as_slice(), methods.as_slice()) {
+        return Ok(None);
+    }
+    Ok(Some(Image::make(HEADER, classes, methods)))
+}
+
 fn accepted_of(alloc: Global, root: Option<ClassNumber>, code: &[Instr]) -> Option<Accepted> {
-    let image = image_of(alloc, root, code).ok()??;
+    accepted(alloc, image_of(alloc, root, code).ok()??)
+}
+
+fn accepted(alloc: Global, image: Image) -> Option<Accepted> {
     let linked = link(alloc, image).ok()?;
     let checked = check(alloc, linked).ok()?;
     accept(alloc, checked).ok()
@@ -118,12 +159,23 @@ fn walk(
     let Some(accepted) = accepted_of(alloc, root, code) else {
         return Err(Fail::from("the image is not accepted"));
     };
-    let Ok(mut machine) = Machine::boot(alloc, &accepted) else {
+    walk_accepted(rt, alloc, &accepted, refused, steps, last)
+}
+
+fn walk_accepted(
+    rt: &impl Abort,
+    alloc: Global,
+    accepted: &Accepted,
+    refused: &[u32],
+    steps: &[(&str, usize)],
+    last: Progress,
+) -> Result<(), Fail> {
+    let Ok(mut machine) = Machine::boot(alloc, accepted) else {
         return Err(Fail::from("the machine does not boot"));
     };
     for (at, (wanted, count)) in steps.iter().enumerate() {
         assert_eq!(rt; machine.progress(), Progress::Running, "before step {at}");
-        let (progress, text) = step_text(alloc, &accepted, refused, &mut machine)?;
+        let (progress, text) = step_text(alloc, accepted, refused, &mut machine)?;
         assert_eq!(rt; text.as_slice(), wanted.as_bytes(), "at step {at}");
         assert_eq!(rt; machine.count(), *count, "after step {at}");
         assert_eq!(rt; machine.progress(), progress, "after step {at}");
@@ -209,15 +261,7 @@ fn a_jump_passes_over(rt: HostRuntime) -> Result<(), Fail> {
         Instr::Return(register(0)),
     ];
     let steps = [("@0 main\n", 0), ("", 0), ("out -1\n", 0), ("", 0)];
-    walk(
-        &rt,
-        rt.alloc(),
-        None,
-        &code,
-        &[],
-        &steps,
-        Progress::Turned,
-    )
+    walk(&rt, rt.alloc(), None, &code, &[], &steps, Progress::Turned)
 }
 
 #[test]
@@ -287,7 +331,61 @@ fn an_inner_loop_goes_its_rounds_again(rt: HostRuntime) -> Result<(), Fail> {
         ("", 0),
         ("", 0),
     ];
-    walk(&rt, rt.alloc(), &code, &[], &steps, Progress::Turned)
+    walk(&rt, rt.alloc(), None, &code, &[], &steps, Progress::Turned)
+}
+
+#[test]
+fn destructors_use_words_and_fields(rt: HostRuntime) -> Result<(), Fail> {
+    let owner = ClassNumber::new(1).unwrap();
+    let (first, second) = (WordIndex::new(0).unwrap(), WordIndex::new(1).unwrap());
+    let field = FieldIndex::new(0).unwrap();
+    let main = [
+        Instr::New(register(0), owner),
+        Instr::Delete(register(0)),
+        Instr::New(register(0), class()),
+        Instr::Delete(register(0)),
+        Instr::Return(register(0)),
+    ];
+    let inner = [
+        Instr::Const(register(0), 7),
+        Instr::Store(second, register(0)),
+        Instr::Load(register(1), second),
+        Instr::Load(register(2), first),
+        Instr::Print(register(1)),
+        Instr::Print(register(2)),
+        Instr::Return(register(0)),
+    ];
+    let outer = [
+        Instr::JumpEmpty(field, place(3)),
+        Instr::Take(register(0), field),
+        Instr::Delete(register(0)),
+        Instr::Return(register(0)),
+    ];
+    let steps = [
+        ("@0 main\n", 1),
+        ("", 1),
+        ("", 1),
+        ("", 1),
+        ("gone 1\n", 0),
+        ("", 1),
+        ("", 1),
+        ("", 1),
+        ("", 1),
+        ("", 1),
+        ("", 1),
+        ("out 7\n", 1),
+        ("out 0\n", 1),
+        ("", 1),
+        ("gone 0\n", 0),
+        ("", 0),
+    ];
+    let Some(image) = owning_image(rt.alloc(), &main, &inner, &outer)? else {
+        return Err(Fail::from("the image has not the form"));
+    };
+    let Some(accepted) = accepted(rt.alloc(), image) else {
+        return Err(Fail::from("the image is not accepted"));
+    };
+    walk_accepted(&rt, rt.alloc(), &accepted, &[], &steps, Progress::Turned)
 }
 
 #[test]

@@ -64,27 +64,6 @@ const FULL_HEAP: [u8; 156] = [
     0, 0x30, 0, 0, 0, 0, 0, 0, 0, 0x22, 0, 0, 0, 0, 0, 0, 0,
 ];
 
-/// A root, whose destructor prints 9, and a loop that prints 4 three times.
-const ROUNDS: &str = "image cells 1 budget 100 root C; class C plain
-method d destruct of C; const r0 9; print r0; ret; end
-method main main; new r0 C; jnull r0 L; put f0 r0; L: const r1 4; loop 0 3; B: print r1; next 0 B; stop; ret; end";
-
-/// An object that is made in two phases, and owns another.
-const TWO_PHASES: &str = "image cells 2 budget 19 root P; class M plain; class P plain words 1 own M
-method pd destruct of P; take r0 f0; delete r0; ret; end
-method pn construct of P args word; store w0 r0; load r2 w0; print r2; new r1 M; jnull r1 L; put f0 r1; L: ret; end
-method main main; new r0 P; jnull r0 E; const r1 3; call r0 pn r1; put f0 r0; E: stop; ret; end";
-
-/// A method with arguments that are words and objects, and with a result, on self and on a field.
-const CALLS: &str = "image cells 2 budget 100 root B; class A plain words 1; class B plain own A
-method ad destruct of B; take r0 f0; delete r0; ret; end
-method an construct of A args word; store w0 r0; ret; end
-method get do of A gives word; load r0 w0; ret r0; end
-method sum do args word,word gives word; add r2 r0 r1; ret r2; end
-method hold do of B args own A; jempty f0 F; take r1 f0; delete r1; F: put f0 r0; ret; end
-method show do of B; jempty f0 F; call f0 get r0 r3; const r4 5; call self sum r3 r5; print r5; F: ret; end
-method main main; new r0 B; jnull r0 E; new r1 A; jnull r1 P; const r2 7; call r1 an r2; call r0 hold r1; P: put f0 r0; call f0 show; E: stop; ret; end";
-
 /// What a call answered and wrote.
 #[derive(Debug, PartialEq, Eq, Drop)]
 struct Answer {
@@ -167,37 +146,6 @@ fn the_first_image_is_accepted_and_runs(rt: HostRuntime) -> Result<(), Fail> {
     assert_eq!(rt; checks(alloc, &FIRST, 100), accepted);
     let told = answer_of(alloc, ExitStatus::Done, FIRST_TEXT, "")?;
     assert_eq!(rt; runs(alloc, &FIRST, b"", 100), told);
-    Ok(())
-}
-
-/// Assembles a text and runs the image.
-fn runs_text(alloc: Global, text: &str) -> Answer {
-    let mut image = page_of(alloc, 10_000);
-    let mut errors = page_of(alloc, 100);
-    asm_bytes(alloc, text.as_bytes(), &mut image, &mut errors);
-    runs(alloc, &image.text, b"", 200)
-}
-
-#[test]
-fn programs_of_objects_run_to_their_end(rt: HostRuntime) -> Result<(), Fail> {
-    let alloc = rt.alloc();
-    for (program, text) in [
-        (
-            ROUNDS,
-            "@0 main\nout 4\nout 4\nout 4\nout 9\ngone 0\nend stopped cells 0\n",
-        ),
-        (
-            TWO_PHASES,
-            "@0 main\nout 3\ngone 0\ngone 1\nend stopped cells 0\n",
-        ),
-        (
-            CALLS,
-            "@0 main\nout 12\ngone 0\ngone 1\nend stopped cells 0\n",
-        ),
-    ] {
-        let told = answer_of(alloc, ExitStatus::Done, text, "")?;
-        assert_eq!(rt; runs_text(alloc, program), told);
-    }
     Ok(())
 }
 

@@ -143,3 +143,28 @@ fn each_rule_refuses_its_smallest_program(rt: HostRuntime) -> Result<(), Fail> {
     }
     Ok(())
 }
+
+/// A root, whose destructor prints 9, and a loop that prints 4 three times.
+const ROUNDS: &str = "image cells 1 budget 100 root C; class C plain
+method d destruct of C; const r0 9; print r0; ret; end
+method main main; new r0 C; jnull r0 L; put f0 r0; L: const r1 4; loop 0 3; B: print r1; next 0 B; stop; ret; end";
+
+#[test]
+fn a_root_goes_once_the_run_has_stopped(rt: HostRuntime) -> Result<(), Fail> {
+    stops(&rt, rt.alloc(), ROUNDS, "@0 main\nout 4\nout 4\nout 4\nout 9\ngone 0\nend stopped cells 0\n")
+}
+
+/// A method with arguments that are words and objects, and with a result, on self and on a field.
+const CALLS: &str = "image cells 2 budget 100 root B; class A plain words 1; class B plain own A
+method ad destruct of B; take r0 f0; delete r0; ret; end
+method an construct of A args word; store w0 r0; ret; end
+method get do of A gives word; load r0 w0; ret r0; end
+method sum do args word,word gives word; add r2 r0 r1; ret r2; end
+method hold do of B args A; jempty f0 F; take r1 f0; delete r1; F: put f0 r0; ret; end
+method show do of B; jempty f0 F; call f0 get r0 r3; const r4 5; call self sum r3 r5; print r5; F: ret; end
+method main main; new r0 B; jnull r0 E; new r1 A; jnull r1 P; const r2 7; call r1 an r2; call r0 hold r1; P: put f0 r0; call f0 show; E: stop; ret; end";
+
+#[test]
+fn calls_are_made_on_self_registers_and_fields(rt: HostRuntime) -> Result<(), Fail> {
+    stops(&rt, rt.alloc(), CALLS, "@0 main\nout 12\ngone 0\ngone 1\nend stopped cells 0\n")
+}
