@@ -5,8 +5,8 @@ use crate::{BootFault, Machine, Outcome, Progress};
 use aom_budget::{Accepted, accept};
 use aom_classes::link;
 use aom_image::{
-    ClassDecl, ClassKind, ClassNumber, FieldIndex, Gives, Header, Image, Instr, Items, LoopDepth, Method,
-    MethodFlags, Place, Register, Role, States, Thing, WordIndex, form_ok,
+    ClassDecl, ClassKind, ClassNumber, FieldIndex, Gives, Header, Image, Instr, Items, LoopDepth,
+    Method, MethodFlags, Place, Register, Role, States, Thing, WordIndex, form_ok,
 };
 use aom_lines::{Text, Turn};
 use aom_sound::Ending;

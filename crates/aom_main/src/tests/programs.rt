@@ -69,21 +69,38 @@ fn stack_of_calls(alloc: Global, called: u32) -> Result<String, Fail> {
 #[test]
 fn calls_may_be_256_frames_deep(rt: HostRuntime) -> Result<(), Fail> {
     let text = stack_of_calls(rt.alloc(), 254)?;
-    stops(&rt, rt.alloc(), text.as_str(), "@0 main\nend stopped cells 0\n")?;
+    stops(
+        &rt,
+        rt.alloc(),
+        text.as_str(),
+        "@0 main\nend stopped cells 0\n",
+    )?;
     let text = stack_of_calls(rt.alloc(), 255)?;
     refuses(&rt, rt.alloc(), text.as_str(), "budget 2\n")
 }
 
 #[test]
 fn a_loop_has_its_rounds(rt: HostRuntime) -> Result<(), Fail> {
-    let text = "image budget 10;method main main;const r0 5;loop 0 3;L: print r0;next 0 L;stop;ret;end";
-    stops(&rt, rt.alloc(), text, "@0 main\nout 5\nout 5\nout 5\nend stopped cells 0\n")
+    let text =
+        "image budget 10;method main main;const r0 5;loop 0 3;L: print r0;next 0 L;stop;ret;end";
+    stops(
+        &rt,
+        rt.alloc(),
+        text,
+        "@0 main\nout 5\nout 5\nout 5\nend stopped cells 0\n",
+    )
 }
 
 #[test]
 fn loops_nest(rt: HostRuntime) -> Result<(), Fail> {
-    let text = "image budget 100;method main main;const r0 5;loop 0 2;A: loop 1 2;B: print r0;next 1 B;next 0 A;stop;ret;end";
-    stops(&rt, rt.alloc(), text, "@0 main\nout 5\nout 5\nout 5\nout 5\nend stopped cells 0\n")
+    let text =
+        "image budget 100;method main main;const r0 5;loop 0 2;A: loop 1 2;B: print r0;next 1 B;next 0 A;stop;ret;end";
+    stops(
+        &rt,
+        rt.alloc(),
+        text,
+        "@0 main\nout 5\nout 5\nout 5\nout 5\nend stopped cells 0\n",
+    )
 }
 
 /// Main of a program that prints what its methods give, and an object whose words they write.
@@ -128,14 +145,29 @@ fn each_rule_refuses_its_smallest_program(rt: HostRuntime) -> Result<(), Fail> {
         // What the argument owns is lost.
         ("method a do args M;ret;end", "verify 1 0 3\n"),
         // The field may own something already.
-        ("method a do of P args M;put f0 r0;ret;end", "verify 1 0 7\n"),
+        (
+            "method a do of P args M;put f0 r0;ret;end",
+            "verify 1 0 7\n",
+        ),
         // A destructor leaves what its object owns.
-        ("class Q plain own M;method a destruct of Q;ret;end", "verify 1 0 8\n"),
+        (
+            "class Q plain own M;method a destruct of Q;ret;end",
+            "verify 1 0 8\n",
+        ),
         // An object is constructed once, before it is used.
-        ("method a construct of M;ret;end;method b do of M;call self a;ret;end", "verify 2 0 9\n"),
-        ("method a construct of M;ret;end;method b do of P;new r0 M;jnull r0 E;jempty f0 F;delete r0;E: ret;F: put f0 r0;ret;end", "verify 2 5 10\n"),
+        (
+            "method a construct of M;ret;end;method b do of M;call self a;ret;end",
+            "verify 2 0 9\n",
+        ),
+        (
+            "method a construct of M;ret;end;method b do of P;new r0 M;jnull r0 E;jempty f0 F;delete r0;E: ret;F: put f0 r0;ret;end",
+            "verify 2 5 10\n",
+        ),
         // A quiet method makes nothing.
-        ("method a do quiet;new r0 M;delete r0;ret;end", "verify 1 0 21\n"),
+        (
+            "method a do quiet;new r0 M;delete r0;ret;end",
+            "verify 1 0 21\n",
+        ),
     ] {
         let main = "method main main;ret;end";
         let text = format!(in rt.alloc(); "{OWNER}{methods}\n{main}")?;
@@ -151,7 +183,12 @@ method main main; new r0 C; jnull r0 L; put f0 r0; L: const r1 4; loop 0 3; B: p
 
 #[test]
 fn a_root_goes_once_the_run_has_stopped(rt: HostRuntime) -> Result<(), Fail> {
-    stops(&rt, rt.alloc(), ROUNDS, "@0 main\nout 4\nout 4\nout 4\nout 9\ngone 0\nend stopped cells 0\n")
+    stops(
+        &rt,
+        rt.alloc(),
+        ROUNDS,
+        "@0 main\nout 4\nout 4\nout 4\nout 9\ngone 0\nend stopped cells 0\n",
+    )
 }
 
 /// A method with arguments that are words and objects, and with a result, on self and on a field.
@@ -166,5 +203,10 @@ method main main; new r0 B; jnull r0 E; new r1 A; jnull r1 P; const r2 7; call r
 
 #[test]
 fn calls_are_made_on_self_registers_and_fields(rt: HostRuntime) -> Result<(), Fail> {
-    stops(&rt, rt.alloc(), CALLS, "@0 main\nout 12\ngone 0\ngone 1\nend stopped cells 0\n")
+    stops(
+        &rt,
+        rt.alloc(),
+        CALLS,
+        "@0 main\nout 12\ngone 0\ngone 1\nend stopped cells 0\n",
+    )
 }
