@@ -7,7 +7,6 @@ use Rattle.aom_text.specs.declared.fault.AsmFaultKind.{AsmFaultKind}
 use Rattle.aom_text.specs.declared.fault.AsmFaultKind.TheVariants.{BadShape, LimitPassed, OutOfMemory}
 use Rattle.aom_image.specs.Image.{Image}
 use Rattle.aom_image.specs.WellFormed.{WellFormed, is_server}
-use Rattle.aom_image.specs.declared.image.Header.{Header}
 use Rattle.aom_image.specs.declared.class.ClassDecl.{ClassDecl}
 use Rattle.aom_image.specs.declared.method.Method.{Method}
 use Rattle.aom_syntax.specs.Reading.{◌>>=◌, took, any_keyword, nothing_more}
@@ -17,7 +16,6 @@ use Rattle.aom_syntax.specs.Methods.{heading, instruction}
 use Rattle.aom_syntax.specs.declared.keyword.Keyword.{Keyword}
 use Rattle.aom_syntax.specs.declared.keyword.Keyword.TheVariants as k
 use Rattle.aom_syntax.specs.declared.scope.Scope.{Scope}
-use Rattle.aom_syntax.specs.declared.method.Heading.{Heading}
 use Rattle.aom_asm.specs.Body.{Body, Program}
 use Rattle.aom_asm.specs.TextNames.{declared_names, labels_of}
 

@@ -1,5 +1,5 @@
 -- The names that a text declares.
-use Rattle.std.specs.Prelude.{ℕ, Bool, true, false, if◌then◌else◌, List, [], ◌∷◌, ◌++◌, Option, Some, None}
+use Rattle.std.specs.Prelude.{ℕ, Bool, false, if◌then◌else◌, List, [], ◌∷◌, ◌++◌, Option, Some, None}
 use Rattle.std.specs.Str.{bytes_eq}
 use Rattle.aom_text.specs.declared.text.Statement.{Statement}
 use Rattle.aom_syntax.specs.declared.keyword.Keyword.{Keyword}

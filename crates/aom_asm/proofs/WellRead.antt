@@ -1,0 +1,417 @@
+-- What holds of a program while it is read, and so what reads without a fault is a well-formed image.
+use Rattle.std.proofs.Common.{◌≡◌, ◌∙◌, refl, sym, ap, subst, arith, ℕ, suc, ◌+◌, ◌*◌, ◌<◌, ◌≤◌, ◌^◌, ◌==◌, nat_lt, nat_le, Bool, true, false, List, [], ◌∷◌, ◌++◌, length, length-append, Option, Some, None, Result, Ok, Err, is_some}
+use Rattle.std.specs.Prelude.{cond, if◌then◌else◌}
+use Rattle.std.specs.List.{All, count_by, sum_by}
+use Rattle.std.proofs.lemmas.Bool.{ltb-true, eqb-false}
+use Rattle.std.proofs.lemmas.List.Elements.{All-nil, All-push}
+use Rattle.std.proofs.lemmas.List.Sums.{sum_by-append, sum_by-cons}
+use Rattle.aom_text.specs.Text.{statements}
+use Rattle.aom_text.specs.declared.fault.AsmFaultKind.{AsmFaultKind}
+use Rattle.aom_text.specs.declared.fault.AsmFaultKind.TheVariants.{BadShape, LimitPassed}
+use Rattle.aom_text.specs.declared.text.Statement.{Statement}
+use Rattle.aom_image.specs.Image.{Image}
+use Rattle.aom_image.specs.WellFormed.{ClassFits, ClassesFit, HeaderFits, InstrFits, MethodFits, MethodsFit, WellFormed, is_server, limits}
+use Rattle.aom_image.specs.declared.class.ClassDecl.{ClassDecl}
+use Rattle.aom_image.specs.declared.image.Header.{Header}
+use Rattle.aom_image.specs.declared.instr.Instr.{Instr}
+use Rattle.aom_image.specs.declared.method.Method.{Method}
+use Rattle.aom_image.proofs.Lengths.{length_spell}
+use Rattle.aom_syntax.specs.Classes.{class_statement}
+use Rattle.aom_syntax.specs.Headers.{image_statement}
+use Rattle.aom_syntax.specs.Keywords.{keyword_text}
+use Rattle.aom_syntax.specs.Methods.{heading, instruction}
+use Rattle.aom_syntax.specs.Reading.{◌>>=◌, any_keyword, nothing_more, took}
+use Rattle.aom_syntax.specs.declared.keyword.Keyword.{Keyword}
+use Rattle.aom_syntax.specs.declared.keyword.Keyword.TheVariants as k
+use Rattle.aom_syntax.specs.declared.method.Heading.{Heading}
+use Rattle.aom_syntax.specs.declared.scope.Scope.{Scope}
+use Rattle.aom_ranges.specs.Ranges.{ClassesInRange, HeadersInRange, HeadingFits, HeadingsInRange, InstructionsInRange}
+use Rattle.aom_asm.specs.Body.{Body, Program}
+use Rattle.aom_asm.specs.Denoted.{and_then, at_line, closed, declaration, denoted, grown, image_of, in_body, last_line_of, method_of, opened, read_program, read_rest, read_statements, scope_of, step, step_by, with_class, with_heading, with_instruction, with_method}
+use Rattle.aom_asm.specs.TextNames.{declared_names, is_end, labels_of, name_after}
+use Rattle.aom_asm.proofs.Counting.{Silent, at_end, before_end, begins_with, class_alone, code_silent, count_declared, declares, declares_more, declares_none, end_silent, false_true, header_silent, length_labels, method_alone, names_one, not_at_end, one_of, takes_end, takes_no_end}
+use Rattle.aom_asm.proofs.Steps.{grown_is, if_not_ok, if_ok, no_ok, ok_is, said, steps, steps_then}
+
+-- a program between two statements
+abbrev program : Header → List ClassDecl → List Method → Option Body → ℕ → Program
+program h cs ms b size = record { header = h; classes = cs; methods = ms; body = b; size = size }
+
+-- the bytes that a method spells, and a method that is open
+abbrev spelled : Method → ℕ
+spelled m = 24 + 8 * length m.code
+
+abbrev spelled_open : Option Body → ℕ
+spelled_open None = 0
+spelled_open (Some b) = 24 + 8 * length b.code
+
+abbrev open_count : Option Body → ℕ
+open_count None = 0
+open_count (Some b) = 1
+
+abbrev counted : ClassDecl → ℕ
+counted c = cond (is_server c) 1 0
+
+counted_push : (cs : List ClassDecl) (c : ClassDecl) → count_by is_server (cs ++ c ∷ []) ≡ count_by is_server cs + counted c
+counted_push cs c =
+    let parted : sum_by counted (cs ++ c ∷ []) ≡ sum_by counted cs + sum_by counted (c ∷ []) = sum_by-append counted cs (c ∷ []) in
+    let one : sum_by counted (c ∷ []) ≡ counted c + sum_by counted [] = sum_by-cons counted c [] in
+    let sum : sum_by counted (cs ++ c ∷ []) ≡ sum_by counted cs + counted c = omega arith in
+    sum
+
+few_counted : (n : ℕ) (b : Bool) → (b ≡ true → n < 8) → n ≤ 8 → n + cond {A = ℕ} b 1 0 ≤ 8
+few_counted n true few le = let less : n < 8 = few refl in omega arith
+few_counted n false few le = omega arith
+
+if_true : {X : Type 0} (r s y : X) (b : Bool) → b ≡ true → (if b then r else s) ≡ y → r ≡ y
+if_true r s y true is e = e
+if_true r s y false is e = absurd (false_true is)
+
+-- ---- what holds
+
+-- of what was read so far, with the names of classes and methods that are still to come
+record Holds (scope : Scope) (h : Header) (cs : List ClassDecl) (ms : List Method) (size : ℕ) (o : Option Body) (classes_left methods_left : ℕ) : Type 0 where
+  class_names : length cs + classes_left ≡ length scope.classes
+  method_names : length ms + open_count o + methods_left ≡ length scope.methods
+  few_classes : length cs ≤ 256
+  few_methods : length ms + open_count o ≤ 1024
+  spelling : size ≡ 24 + 28 * length cs + sum_by spelled ms + spelled_open o
+  short : size ≤ 2 ^ 20
+  header : scope.is_strict ≡ true → HeaderFits (length scope.classes) h
+  classes : All (ClassFits (length scope.classes) h.natives) cs
+  servers : count_by is_server cs ≤ 8
+  methods : scope.is_strict ≡ true → All (MethodFits (length scope.classes) (length scope.methods)) ms
+
+-- of a method that is open, with the statements that are left before its end
+record BodyHolds (scope : Scope) (b : Body) (left : ℕ) : Type 0 where
+  labels : length b.code + left ≡ length b.labels
+  few : length b.code ≤ 1024
+  heading : scope.is_strict ≡ true → HeadingFits (length scope.classes) b.heading
+  code : scope.is_strict ≡ true → All (InstrFits (limits (length scope.classes) (length scope.methods) (length b.labels))) b.code
+
+abbrev OpenHolds : Scope → Option Body → List Statement → Type 0
+OpenHolds scope None ss = Unit {0}
+OpenHolds scope (Some b) ss = BodyHolds scope b (before_end ss)
+
+-- of a program before these statements
+record Read (scope : Scope) (p : Program) (ss : List Statement) : Type 0 where
+  parts : Holds scope p.header p.classes p.methods p.size p.body (declares k.Class ss) (declares k.Method ss)
+  body : OpenHolds scope p.body ss
+
+-- ---- one statement
+
+module _ (headers : HeadersInRange) (classes_in : ClassesInRange) (headings : HeadingsInRange) (instructions : InstructionsInRange) (scope : Scope) (natives : ℕ) (settled : scope.is_strict ≡ true → All (ClassFits (length scope.classes) natives) scope.kinds) where
+  -- a class
+  class_step : (ss : List Statement) (h : Header) (cs : List ClassDecl) (ms : List Method) (size cl ml : ℕ) (ws : List (List ℕ)) (q : Program)
+      → cl ≡ suc (declares k.Class ss) → ml ≡ declares k.Method ss → Holds scope h cs ms size None cl ml → with_class scope (program h cs ms None size) ws ≡ Ok q → Read scope q ss
+  class_step ss h cs ms size cl ml ws q some none holds is =
+      let i = if_ok (nat_lt (length cs) 256) (class_statement scope h.natives (length cs) (count_by is_server cs) ws >>= λ c. grown 28 size >>= λ n. Ok (program h (cs ++ c.0 ∷ []) ms None n)) LimitPassed q is in
+      let s = steps (class_statement scope h.natives (length cs) (count_by is_server cs) ws) (λ c. grown 28 size >>= λ n. Ok (program h (cs ++ c.0 ∷ []) ms None n)) q i.1 in
+      let c = s.first.0 in
+      let t = steps (grown 28 size) (λ n. Ok (program h (cs ++ c ∷ []) ms None n)) q s.last in
+      let g = grown_is 28 size t.first t.read in
+      let less : length cs < 256 = ltb-true (length cs) 256 i.0 in
+      let range = classes_in scope h.natives (length cs) (count_by is_server cs) ws c s.first.1 s.read in
+      let longer : length (cs ++ c ∷ []) ≡ length cs + 1 = length-append cs (c ∷ []) in
+      let names = holds.class_names in
+      let methods = holds.method_names in
+      let spelling = holds.spelling in
+      let servers : count_by is_server (cs ++ c ∷ []) ≤ 8 = subst (λ n. n ≤ 8) (sym (counted_push cs c)) (few_counted (count_by is_server cs) (is_server c) range.server holds.servers) in
+      subst (λ q. Read scope q ss) (ok_is (program h (cs ++ c ∷ []) ms None t.first) q t.last) (record {
+        parts = record {
+          class_names = omega arith;
+          method_names = omega arith;
+          few_classes = omega arith;
+          few_methods = holds.few_methods;
+          spelling = omega (arith, g.0);
+          short = g.1;
+          header = holds.header;
+          classes = All-push (ClassFits (length scope.classes) h.natives) cs c holds.classes range.class;
+          servers = servers;
+          methods = holds.methods;
+        };
+        body = tt;
+      })
+
+  -- the beginning of a method
+  heading_step : (ss : List Statement) (h : Header) (cs : List ClassDecl) (ms : List Method) (size cl ml : ℕ) (ws : List (List ℕ)) (q : Program)
+      → cl ≡ declares k.Class ss → ml ≡ suc (declares k.Method ss) → Holds scope h cs ms size None cl ml → with_heading scope ss (program h cs ms None size) ws ≡ Ok q → Read scope q ss
+  heading_step ss h cs ms size cl ml ws q none some holds is =
+      let begun : Heading → Option Body = λ m. Some (record { heading = m; labels = labels_of [] ss; code = [] }) in
+      let i = if_ok (nat_lt (length ms) 1024) (heading scope (length ms) ws >>= λ m. grown 24 size >>= λ n. Ok (program h cs ms (begun m.0) n)) LimitPassed q is in
+      let s = steps (heading scope (length ms) ws) (λ m. grown 24 size >>= λ n. Ok (program h cs ms (begun m.0) n)) q i.1 in
+      let m = s.first.0 in
+      let t = steps (grown 24 size) (λ n. Ok (program h cs ms (begun m) n)) q s.last in
+      let g = grown_is 24 size t.first t.read in
+      let less : length ms < 1024 = ltb-true (length ms) 1024 i.0 in
+      let range = λ (strict : scope.is_strict ≡ true). (headings natives scope (record { is_strict = strict; kinds = settled strict }) (length ms) ws m s.first.1 s.read).heading in
+      let names = holds.class_names in
+      let methods = holds.method_names in
+      let spelling = holds.spelling in
+      subst (λ q. Read scope q ss) (ok_is (program h cs ms (begun m) t.first) q t.last) (record {
+        parts = record {
+          class_names = omega arith;
+          method_names = omega arith;
+          few_classes = holds.few_classes;
+          few_methods = omega arith;
+          spelling = omega (arith, g.0);
+          short = g.1;
+          header = holds.header;
+          classes = holds.classes;
+          servers = holds.servers;
+          methods = holds.methods;
+        };
+        body = record {
+          labels = sym (length_labels [] ss);
+          few = omega arith;
+          heading = range;
+          code = λ strict. All-nil (InstrFits (limits (length scope.classes) (length scope.methods) (length (labels_of [] ss))));
+        };
+      })
+
+  -- an instruction
+  code_step : (ss : List Statement) (h : Header) (cs : List ClassDecl) (ms : List Method) (size left : ℕ) (b : Body) (ws : List (List ℕ)) (q : Program)
+      → left ≡ suc (before_end ss) → Holds scope h cs ms size (Some b) (declares k.Class ss) (declares k.Method ss) → BodyHolds scope b left
+      → (with_instruction scope b ws >>= λ c. grown 8 size >>= λ n. Ok (program h cs ms (Some c) n)) ≡ Ok q → Read scope q ss
+  code_step ss h cs ms size left b ws q one holds body is =
+      let longer_by : Instr → Body = λ i. record b { code = b.code ++ i ∷ [] } in
+      let s = steps (with_instruction scope b ws) (λ c. grown 8 size >>= λ n. Ok (program h cs ms (Some c) n)) q is in
+      let t = steps (grown 8 size) (λ n. Ok (program h cs ms (Some s.first) n)) q s.last in
+      let g = grown_is 8 size t.first t.read in
+      let i = if_ok (nat_lt (length b.code) 1024) (instruction scope b.labels (length b.code) ws >>= λ i. Ok (longer_by i.0)) LimitPassed s.first s.read in
+      let u = steps (instruction scope b.labels (length b.code) ws) (λ i. Ok (longer_by i.0)) s.first i.1 in
+      let less : length b.code < 1024 = ltb-true (length b.code) 1024 i.0 in
+      let added = u.first.0 in
+      let longer : length (b.code ++ added ∷ []) ≡ length b.code + 1 = length-append b.code (added ∷ []) in
+      let fits = InstrFits (limits (length scope.classes) (length scope.methods) (length b.labels)) in
+      let labels = body.labels in
+      let spelling = holds.spelling in
+      let same : program h cs ms (Some (longer_by added)) t.first ≡ q = ap (λ c. program h cs ms (Some c) t.first) (ok_is (longer_by added) s.first u.last) ∙ ok_is (program h cs ms (Some s.first) t.first) q t.last in
+      subst (λ q. Read scope q ss) same (record {
+        parts = record {
+          class_names = holds.class_names;
+          method_names = holds.method_names;
+          few_classes = holds.few_classes;
+          few_methods = holds.few_methods;
+          spelling = omega (arith, g.0);
+          short = g.1;
+          header = holds.header;
+          classes = holds.classes;
+          servers = holds.servers;
+          methods = holds.methods;
+        };
+        body = record {
+          labels = omega arith;
+          few = omega arith;
+          heading = body.heading;
+          code = λ strict. All-push fits b.code added (body.code strict) (instructions scope strict b.labels (length b.code) ws added u.first.1 u.read);
+        };
+      })
+
+  -- a method at its end, where there is a place for each label
+  abbrev whole_of : Body → Method
+  whole_of b = record { class = b.heading.class; role = b.heading.role; flags = b.heading.flags; before = b.heading.before; after = b.heading.after; arguments = b.heading.arguments; gives = b.heading.gives; code = b.code }
+
+  method_fits : (b : Body) (left : ℕ) → BodyHolds scope b left → scope.is_strict ≡ true → length b.labels ≡ length b.code → 1 ≤ length b.code → MethodFits (length scope.classes) (length scope.methods) (whole_of b)
+  method_fits b left body strict places some =
+      let range = body.heading strict in
+      record {
+        class = range.class;
+        flags = range.flags;
+        before = range.before;
+        after = range.after;
+        argument_count = range.argument_count;
+        arguments = range.arguments;
+        gives = range.gives;
+        some_code = some;
+        code_length = body.few;
+        code = subst (λ n. All (InstrFits (limits (length scope.classes) (length scope.methods) n)) b.code) places (body.code strict);
+      }
+
+  -- the end of a method
+  end_step : (ss : List Statement) (h : Header) (cs : List ClassDecl) (ms : List Method) (size left : ℕ) (b : Body) (ws : List (List ℕ)) (q : Program)
+      → left ≡ 0 → Holds scope h cs ms size (Some b) (declares k.Class ss) (declares k.Method ss) → BodyHolds scope b left
+      → with_method (program h cs ms None size) b ws ≡ Ok q → Read scope q ss
+  end_step ss h cs ms size left b ws q none holds body is =
+      let whole = whole_of b in
+      let s = steps (method_of b) (λ m. nothing_more false ws >>= λ u. Ok (program h cs (ms ++ m ∷ []) None size)) q is in
+      let t = steps (nothing_more false ws) (λ u. Ok (program h cs (ms ++ s.first ∷ []) None size)) q s.last in
+      let i = if_not_ok (length b.code == 0) (Ok whole) LimitPassed s.first s.read in
+      let made : whole ≡ s.first = ok_is whole s.first i.1 in
+      let some : length b.code ≡ 0 → ⊥ = eqb-false (length b.code) 0 i.0 in
+      let longer : length (ms ++ whole ∷ []) ≡ length ms + 1 = length-append ms (whole ∷ []) in
+      let places : length b.labels ≡ length b.code = (let labels = body.labels in omega arith) in
+      let summed : sum_by spelled (ms ++ whole ∷ []) ≡ sum_by spelled ms + sum_by spelled (whole ∷ []) = sum_by-append spelled ms (whole ∷ []) in
+      let one : sum_by spelled (whole ∷ []) ≡ spelled whole + sum_by spelled [] = sum_by-cons spelled whole [] in
+      let names = holds.method_names in
+      let few = holds.few_methods in
+      let spelling = holds.spelling in
+      let same : program h cs (ms ++ whole ∷ []) None size ≡ q = ap (λ m. program h cs (ms ++ m ∷ []) None size) made ∙ ok_is (program h cs (ms ++ s.first ∷ []) None size) q t.last in
+      subst (λ q. Read scope q ss) same (record {
+        parts = record {
+          class_names = holds.class_names;
+          method_names = omega arith;
+          few_classes = holds.few_classes;
+          few_methods = omega arith;
+          spelling = omega arith;
+          short = holds.short;
+          header = holds.header;
+          classes = holds.classes;
+          servers = holds.servers;
+          methods = λ strict. All-push (MethodFits (length scope.classes) (length scope.methods)) ms whole (holds.methods strict) (method_fits b left body strict places (omega (arith, some)));
+        };
+        body = tt;
+      })
+
+  -- ---- any statement
+
+  -- a name behind a keyword, where more was read behind it
+  class_named : (h : Header) (cs : List ClassDecl) (ms : List Method) (size : ℕ) (ws rest : List (List ℕ)) (q : Program) → ws ≡ keyword_text k.Class ∷ rest → with_class scope (program h cs ms None size) rest ≡ Ok q → one_of (name_after k.Class ws) ≡ 1
+  class_named h cs ms size ws (n ∷ rest) q begins is = names_one k.Class ws n rest begins
+  class_named h cs ms size ws [] q begins is = absurd (no_ok _ _ (if_ok (nat_lt (length cs) 256) (Err BadShape) LimitPassed q is).1)
+
+  method_named : (ss : List Statement) (h : Header) (cs : List ClassDecl) (ms : List Method) (size : ℕ) (ws rest : List (List ℕ)) (q : Program) → ws ≡ keyword_text k.Method ∷ rest → with_heading scope ss (program h cs ms None size) rest ≡ Ok q → one_of (name_after k.Method ws) ≡ 1
+  method_named ss h cs ms size ws (n ∷ rest) q begins is = names_one k.Method ws n rest begins
+  method_named ss h cs ms size ws [] q begins is = absurd (no_ok _ _ (if_ok (nat_lt (length ms) 1024) (Err BadShape) LimitPassed q is).1)
+
+  module _ (s : Statement) (ss : List Statement) (h : Header) (cs : List ClassDecl) (ms : List Method) (size : ℕ) (q : Program) where
+    -- a class or the beginning of a method
+    declared_step : Holds scope h cs ms size None (declares k.Class (s ∷ ss)) (declares k.Method (s ∷ ss)) → (key : Keyword) (rest : List (List ℕ)) → any_keyword s.words ≡ Ok (key, rest) → declaration scope ss (program h cs ms None size) key rest ≡ Ok q → Read scope q ss
+    declared_step holds k.Class rest read is =
+        let one = class_named h cs ms size s.words rest q (begins_with s.words k.Class rest read) is in
+        class_step ss h cs ms size (declares k.Class (s ∷ ss)) (declares k.Method (s ∷ ss)) rest q (omega (arith, declares_more k.Class s ss 1 one)) (omega (arith, declares_more k.Method s ss 0 (class_alone s.words rest read))) holds is
+    declared_step holds k.Method rest read is =
+        let one = method_named ss h cs ms size s.words rest q (begins_with s.words k.Method rest read) is in
+        heading_step ss h cs ms size (declares k.Class (s ∷ ss)) (declares k.Method (s ∷ ss)) rest q (omega (arith, declares_more k.Class s ss 0 (method_alone s.words rest read))) (omega (arith, declares_more k.Method s ss 1 one)) holds is
+    declared_step holds _ rest read is = absurd (no_ok _ _ is)
+
+    -- the same with no names to come from this statement
+    none_declared : (o : Option Body) → Silent s.words → Holds scope h cs ms size o (declares k.Class (s ∷ ss)) (declares k.Method (s ∷ ss)) → Holds scope h cs ms size o (declares k.Class ss) (declares k.Method ss)
+    none_declared o silent holds =
+        let classes : declares k.Class (s ∷ ss) ≡ declares k.Class ss = omega (arith, declares_more k.Class s ss 0 silent.class) in
+        let methods : declares k.Method (s ∷ ss) ≡ declares k.Method ss = omega (arith, declares_more k.Method s ss 0 silent.method) in
+        subst (λ n. Holds scope h cs ms size o n (declares k.Method ss)) classes (subst (λ n. Holds scope h cs ms size o (declares k.Class (s ∷ ss)) n) methods holds)
+
+    -- an instruction, which declares no name
+    spoken : (b : Body) → Holds scope h cs ms size (Some b) (declares k.Class (s ∷ ss)) (declares k.Method (s ∷ ss)) → BodyHolds scope b (before_end (s ∷ ss)) → is_end s.words ≡ false
+        → (with_instruction scope b s.words >>= λ c. grown 8 size >>= λ n. Ok (program h cs ms (Some c) n)) ≡ Ok q → Read scope q ss
+    spoken b holds body goes_on is =
+        let added : Instr → Body = λ i. record b { code = b.code ++ i ∷ [] } in
+        let first = steps (with_instruction scope b s.words) (λ c. grown 8 size >>= λ n. Ok (program h cs ms (Some c) n)) q is in
+        let i = if_ok (nat_lt (length b.code) 1024) (instruction scope b.labels (length b.code) s.words >>= λ i. Ok (added i.0)) LimitPassed first.first first.read in
+        let said = steps (instruction scope b.labels (length b.code) s.words) (λ i. Ok (added i.0)) first.first i.1 in
+        code_step ss h cs ms size (before_end (s ∷ ss)) b s.words q (not_at_end s ss goes_on) (none_declared (Some b) (code_silent scope b.labels (length b.code) s.words said.first said.read) holds) body is
+
+    body_step : (b : Body) → Holds scope h cs ms size (Some b) (declares k.Class (s ∷ ss)) (declares k.Method (s ∷ ss)) → BodyHolds scope b (before_end (s ∷ ss)) → in_body scope (program h cs ms None size) b s.words ≡ Ok q → Read scope q ss
+    body_step b holds body is = go (is_end s.words) refl
+      where
+        one : Bool × List (List ℕ) → Result Program AsmFaultKind
+        one t = if t.0 then with_method (program h cs ms None size) b t.1 else (with_instruction scope b t.1 >>= λ c. grown 8 size >>= λ n. Ok (program h cs ms (Some c) n))
+
+        go : (e : Bool) → is_end s.words ≡ e → Read scope q ss
+        go true ends = end_step ss h cs ms size (before_end (s ∷ ss)) b (took k.End s.words).1 q (at_end s ss ends) (none_declared (Some b) (end_silent s.words ends) holds) body (if_true _ _ (Ok q) (took k.End s.words).0 (takes_end s.words ends) is)
+        go false goes_on = spoken b holds body goes_on (sym (ap one (takes_no_end s.words goes_on)) ∙ is)
+
+    stepped : (o : Option Body) → Holds scope h cs ms size o (declares k.Class (s ∷ ss)) (declares k.Method (s ∷ ss)) → OpenHolds scope o (s ∷ ss) → step_by o scope ss (program h cs ms None size) s.words ≡ Ok q → Read scope q ss
+    stepped None holds body is =
+        let t = steps (any_keyword s.words) (λ key. declaration scope ss (program h cs ms None size) key.0 key.1) q is in
+        declared_step holds t.first.0 t.first.1 t.read t.last
+    stepped (Some b) holds body is = body_step b holds body is
+
+  -- ---- the statements after others
+
+  record AtEnd (q : Program) : Type 0 where
+    read : Read scope q []
+    closed : q.body ≡ None
+    some : 1 ≤ length q.methods
+
+  no_body : (o : Option Body) → is_some o ≡ false → o ≡ None
+  no_body None is = refl
+  no_body (Some b) is = absurd (true_false is)
+    where
+      true_false : true ≡ false → ⊥
+      true_false e = cc
+
+  closes : (p q : Program) → Read scope p [] → closed p ≡ Ok q → AtEnd q
+  closes p q read is =
+      let i = if_not_ok (is_some p.body) (if length p.methods == 0 then Err LimitPassed else Ok p) BadShape q is in
+      let j = if_not_ok (length p.methods == 0) (Ok p) LimitPassed q i.1 in
+      let some : length p.methods ≡ 0 → ⊥ = eqb-false (length p.methods) 0 j.0 in
+      subst AtEnd (ok_is p q j.1) (record { read = read; closed = no_body p.body i.0; some = omega (arith, some) })
+
+  rest_read : (last : ℕ) (p : Program) (ss : List Statement) (q : Program) → Read scope p ss → read_rest last scope p ss ≡ Ok q → AtEnd q
+  rest_read last p [] q read is = closes p q read (said last (closed p) q is)
+  rest_read last p (s ∷ ss) q read is =
+      let t = steps_then (at_line s.line (step scope ss p s.words)) (λ q. read_rest last scope q ss) q is in
+      rest_read last t.first ss q (stepped s ss p.header p.classes p.methods p.size t.first p.body read.parts read.body (said s.line (step scope ss p s.words) t.first t.read)) t.last
+
+  -- ---- a whole program
+
+  opens : (s : Statement) (ss : List Statement) (p : Program) → length scope.classes ≡ declares k.Class (s ∷ ss) → length scope.methods ≡ declares k.Method (s ∷ ss) → opened scope s.words ≡ Ok p → Read scope p ss
+  opens s ss p class_names method_names is =
+      let t = steps (image_statement scope s.words) (λ h. Ok (program h.0 [] [] None 24)) p is in
+      let silent = header_silent scope s.words t.first t.read in
+      subst (λ p. Read scope p ss) (ok_is (program t.first.0 [] [] None 24) p t.last) (record {
+        parts = record {
+          class_names = omega (arith, class_names, declares_more k.Class s ss 0 silent.class);
+          method_names = omega (arith, method_names, declares_more k.Method s ss 0 silent.method);
+          few_classes = omega arith;
+          few_methods = omega arith;
+          spelling = refl;
+          short = omega arith;
+          header = λ strict. headers scope strict s.words t.first.0 t.first.1 t.read;
+          classes = All-nil (ClassFits (length scope.classes) t.first.0.natives);
+          servers = omega arith;
+          methods = λ strict. All-nil (MethodFits (length scope.classes) (length scope.methods));
+        };
+        body = tt;
+      })
+
+  program_read : (last : ℕ) (ss : List Statement) (q : Program) → length scope.classes ≡ declares k.Class ss → length scope.methods ≡ declares k.Method ss → read_program last scope ss ≡ Ok q → AtEnd q
+  program_read last [] q class_names method_names is = absurd (no_ok _ _ is)
+  program_read last (s ∷ ss) q class_names method_names is =
+      let t = steps_then (at_line s.line (opened scope s.words)) (λ p. read_rest last scope p ss) q is in
+      rest_read last t.first ss q (opens s ss t.first class_names method_names (said s.line (opened scope s.words) t.first t.read)) t.last
+
+  -- with names told apart it is an image
+  well_formed : (q : Program) → scope.is_strict ≡ true → AtEnd q → WellFormed (image_of q)
+  well_formed q strict at =
+      let parts = subst (λ o. Holds scope q.header q.classes q.methods q.size o (declares k.Class []) (declares k.Method [])) at.closed at.read.parts in
+      let class_names = parts.class_names in
+      let method_names = parts.method_names in
+      let few = parts.few_methods in
+      let short = parts.short in
+      let spelling = parts.spelling in
+      let class_count : length scope.classes ≡ length q.classes = omega (arith, declares_none k.Class) in
+      let method_count : length scope.methods ≡ length q.methods = omega (arith, declares_none k.Method) in
+      let classes : ClassesFit q.header.natives q.classes = record { count = parts.few_classes; each = subst (λ n. All (ClassFits n q.header.natives) q.classes) class_count parts.classes; servers = parts.servers } in
+      let each : All (MethodFits (length q.classes) (length q.methods)) q.methods = subst (λ n. All (MethodFits n (length q.methods)) q.methods) class_count (subst (λ n. All (MethodFits (length scope.classes) n) q.methods) method_count (parts.methods strict)) in
+      let methods : MethodsFit (length q.classes) q.methods = record { some = at.some; count = omega arith; each = each } in
+      record {
+        header = subst (λ n. HeaderFits n q.header) class_count (parts.header strict);
+        classes = classes;
+        methods = methods;
+        size = omega (arith, length_spell (image_of q) classes methods);
+      }
+
+-- ---- a whole text
+
+module _ (headers : HeadersInRange) (classes_in : ClassesInRange) (headings : HeadingsInRange) (instructions : InstructionsInRange) where
+  -- the classes of the first reading are in range for the second
+  first_classes : (last : ℕ) (ss : List Statement) (q : Program) → read_program last (scope_of false ss []) ss ≡ Ok q → All (ClassFits (length (declared_names k.Class [] ss)) q.header.natives) q.classes
+  first_classes last ss q is =
+      let at = program_read headers classes_in headings instructions (scope_of false ss []) 0 (λ strict. absurd (false_true strict)) last ss q (count_declared k.Class ss) (count_declared k.Method ss) is in
+      at.read.parts.classes
+
+  pub statements_well : (last : ℕ) (ss : List Statement) (i : Image) → read_statements last ss ≡ Ok i → WellFormed i
+  statements_well last ss i is =
+      let second : Program → Scope = λ p. scope_of true ss p.classes in
+      let s = steps_then (read_program last (scope_of false ss []) ss) (λ first. and_then (read_program last (second first) ss) (λ p. Ok (image_of p))) i is in
+      let first = s.first in
+      let t = steps_then (read_program last (second first) ss) (λ p. Ok (image_of p)) i s.last in
+      let kinds = first_classes last ss first s.read in
+      let at = program_read headers classes_in headings instructions (second first) first.header.natives (λ strict. kinds) last ss t.first (count_declared k.Class ss) (count_declared k.Method ss) t.read in
+      subst WellFormed (ok_is (image_of t.first) i t.last) (well_formed headers classes_in headings instructions (second first) first.header.natives (λ strict. kinds) t.first refl at)
+
+  -- what a text denotes is a well-formed image
+  pub reads_well : (text : List ℕ) (i : Image) → denoted text ≡ Ok i → WellFormed i
+  reads_well text i is = statements_well (last_line_of text) (statements text) i (if_ok (nat_le (length text) (2 ^ 20)) (read_statements (last_line_of text) (statements text)) (record { line = 1; kind = LimitPassed }) i is).1
