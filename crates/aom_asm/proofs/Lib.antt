@@ -1,3 +1,4 @@
 pub mod Steps
 pub mod Counting
 pub mod WellRead
+pub mod Images

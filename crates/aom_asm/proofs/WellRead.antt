@@ -402,7 +402,7 @@ module _ (headers : HeadersInRange) (classes_in : ClassesInRange) (headings : He
       let at = program_read headers classes_in headings instructions (scope_of false ss []) 0 (λ strict. absurd (false_true strict)) last ss q (count_declared k.Class ss) (count_declared k.Method ss) is in
       at.read.parts.classes
 
-  pub statements_well : (last : ℕ) (ss : List Statement) (i : Image) → read_statements last ss ≡ Ok i → WellFormed i
+  statements_well : (last : ℕ) (ss : List Statement) (i : Image) → read_statements last ss ≡ Ok i → WellFormed i
   statements_well last ss i is =
       let second : Program → Scope = λ p. scope_of true ss p.classes in
       let s = steps_then (read_program last (scope_of false ss []) ss) (λ first. and_then (read_program last (second first) ss) (λ p. Ok (image_of p))) i is in
@@ -412,6 +412,5 @@ module _ (headers : HeadersInRange) (classes_in : ClassesInRange) (headings : He
       let at = program_read headers classes_in headings instructions (second first) first.header.natives (λ strict. kinds) last ss t.first (count_declared k.Class ss) (count_declared k.Method ss) t.read in
       subst WellFormed (ok_is (image_of t.first) i t.last) (well_formed headers classes_in headings instructions (second first) first.header.natives (λ strict. kinds) t.first refl at)
 
-  -- what a text denotes is a well-formed image
-  pub reads_well : (text : List ℕ) (i : Image) → denoted text ≡ Ok i → WellFormed i
-  reads_well text i is = statements_well (last_line_of text) (statements text) i (if_ok (nat_le (length text) (2 ^ 20)) (read_statements (last_line_of text) (statements text)) (record { line = 1; kind = LimitPassed }) i is).1
+  pub text_well : (text : List ℕ) (i : Image) → denoted text ≡ Ok i → WellFormed i
+  text_well text i is = statements_well (last_line_of text) (statements text) i (if_ok (nat_le (length text) (2 ^ 20)) (read_statements (last_line_of text) (statements text)) (record { line = 1; kind = LimitPassed }) i is).1

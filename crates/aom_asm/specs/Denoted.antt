@@ -6,7 +6,7 @@ use Rattle.aom_text.specs.declared.fault.AsmFault.{AsmFault}
 use Rattle.aom_text.specs.declared.fault.AsmFaultKind.{AsmFaultKind}
 use Rattle.aom_text.specs.declared.fault.AsmFaultKind.TheVariants.{BadShape, LimitPassed, OutOfMemory}
 use Rattle.aom_image.specs.Image.{Image}
-use Rattle.aom_image.specs.WellFormed.{WellFormed, is_server}
+use Rattle.aom_image.specs.WellFormed.{is_server}
 use Rattle.aom_image.specs.declared.class.ClassDecl.{ClassDecl}
 use Rattle.aom_image.specs.declared.method.Method.{Method}
 use Rattle.aom_syntax.specs.Reading.{◌>>=◌, took, any_keyword, nothing_more}
@@ -141,8 +141,3 @@ last_line_of text = max (line_count text) 1
 -- what a text denotes: an image, or its first fault
 abbrev pub denoted : List ℕ → Result Image AsmFault
 denoted text = if nat_le (length text) (2 ^ 20) then read_statements (last_line_of text) (statements text) else Err (record { line = 1; kind = LimitPassed })
-
--- what was read is no image, and that is a limit fault of line 1
-abbrev pub NoImage : Result Image AsmFault → AsmFault → Type 0
-NoImage (Ok i) e = (WellFormed i → ⊥) × (e ≡ record { line = 1; kind = LimitPassed })
-NoImage (Err fault) e = ⊥

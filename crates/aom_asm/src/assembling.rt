@@ -1,9 +1,9 @@
 //! The way from a text to its image.
-ghost use Rattle.std.specs.Prelude.{◌≡◌, ◌≢◌, ◌≤◌, ◌^◌, ◌⊎◌, length, IfOk, IfErr, Ok, Err, [], false};
+ghost use Rattle.std.specs.Prelude.{◌≡◌, ◌≢◌, ◌≤◌, ◌^◌, length, IfOk, IfErr, Ok, Err, [], false};
 ghost use Rattle.aom_text.specs.Text.{statements};
 ghost use Rattle.aom_text.specs.declared.fault.AsmFaultKind.TheVariants.{OutOfMemory};
 ghost use Rattle.aom_syntax.specs.Reading.{ReadsOrNoMemory};
-ghost use Rattle.aom_asm.specs.Denoted.{at_line, Answers, read_rest, read_after, read_program, read_statements, scope_of, last_line_of, denoted, image_of, NoImage};
+ghost use Rattle.aom_asm.specs.Denoted.{at_line, Answers, read_rest, read_after, read_program, read_statements, scope_of, last_line_of, denoted, image_of};
 
 use crate::names::declared_names;
 use crate::program::Program;
@@ -131,16 +131,7 @@ fn read_text<'a>(alloc: Global, text: &'a [u8]) -> Result<Program<'a>, AsmFault>
 /// The image that a text denotes. A text that denotes none has a fault, with the line of the first.
 pub fn assemble(alloc: Global, text: &[u8]) -> Result<Image, AsmFault>
     ensures image { IfOk result (λ i. denoted text.now ≡ Ok i) }
-    ensures fault { IfErr result (λ e. e.kind ≢ OutOfMemory → (denoted text.now ≡ Err e) ⊎ NoImage (denoted text.now) e) }
+    ensures fault { IfErr result (λ e. e.kind ≢ OutOfMemory → denoted text.now ≡ Err e) }
 {
-    match read_text(alloc, text) {
-        Ok(program) => match program.into_image() {
-            Some(image) => Ok(image),
-            None => Err(AsmFault {
-                line: 1,
-                kind: AsmFaultKind::LimitPassed,
-            }),
-        },
-        Err(fault) => Err(fault),
-    }
+    Ok(read_text(alloc, text)?.into_image())
 }

@@ -1,12 +1,12 @@
 //! A text while it is read.
-ghost use Rattle.std.specs.Prelude.{◌≡◌, ◌≤◌, ◌+◌, ◌^◌, [], None, count_by, IfOk, IfSome};
+ghost use Rattle.std.specs.Prelude.{◌≡◌, ◌≤◌, ◌+◌, ◌^◌, [], None, count_by, IfOk};
 ghost use Rattle.aom_image.specs.WellFormed.{is_server, WellFormed};
 ghost use Rattle.aom_syntax.specs.Reading.{Reads, ReadsOrNoMemory};
 ghost use Rattle.aom_asm.specs.Denoted.{grown, opened, with_class, with_heading, with_method, in_body, step, step_by, closed, image_of};
 
 use crate::body::Body;
 use crate::names::labels_of;
-use aom_image::{ClassDecl, Header, Image, Items, Method, form_ok};
+use aom_image::{ClassDecl, Header, Image, Items, Method};
 use aom_syntax::{Keyword, Reader, Scope};
 use aom_text::{AsmFaultKind, Text};
 use std::alloc::Global;
@@ -202,19 +202,11 @@ impl<'a> Program<'a> {
         Items::from_vec(self.classes)
     }
 
-    /// The image of what was read, if it is one.
-    pub fn into_image(self) -> Option<Image>
-        ensures image { IfSome result (λ i. i ≡ image_of self.entry) }
-        ensures none { result ≡ None → WellFormed (image_of self.entry) → ⊥ }
+    /// The image of what was read.
+    pub fn into_image(self) -> Image
+        requires { WellFormed (image_of self) }
+        ensures { result ≡ image_of self.entry }
     {
-        if form_ok(
-            &self.header,
-            self.classes.as_slice(),
-            self.methods.as_slice(),
-        ) {
-            Some(Image::make(self.header, self.classes, self.methods))
-        } else {
-            None
-        }
+        Image::make(self.header, self.classes, self.methods)
     }
 }

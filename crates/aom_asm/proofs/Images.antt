@@ -1,0 +1,17 @@
+-- What a text denotes is a well-formed image.
+use Rattle.std.proofs.Common.{◌≡◌, ℕ, List, Ok}
+use Rattle.aom_image.specs.Image.{Image}
+use Rattle.aom_image.specs.WellFormed.{WellFormed}
+use Rattle.aom_ranges.proofs.Classes.{class_within}
+use Rattle.aom_ranges.proofs.Headers.{header_within}
+use Rattle.aom_ranges.proofs.Headings.{heading_within}
+use Rattle.aom_ranges.proofs.Instructions.{instruction_within}
+use Rattle.aom_asm.specs.Denoted.{denoted}
+use Rattle.aom_asm.proofs.WellRead.{text_well}
+
+pub reads_well : (text : List ℕ) (i : Image) → denoted text ≡ Ok i → WellFormed i
+reads_well text i is =
+    text_well (λ scope strict. (header_within scope strict).each)
+    (λ scope natives place servers. (class_within scope natives place servers).each)
+    (λ natives scope settled place. (heading_within natives scope settled place).each)
+    (λ scope strict labels place. (instruction_within scope strict labels place).each) text i is

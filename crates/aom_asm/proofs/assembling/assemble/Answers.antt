@@ -1,0 +1,5 @@
+use Rattle.aom_asm.proofs.Images.{reads_well}
+use Rattle.aom_asm.proofs.assembling.assemble.Goals as goal
+
+pub into_image-requires : goal.into_image-requires
+into_image-requires c = let h = c in ?
