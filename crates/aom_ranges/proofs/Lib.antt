@@ -1,0 +1,10 @@
+pub mod Within
+pub mod Numbers
+pub mod Names
+pub mod Operands
+pub mod Instructions
+pub mod Headers
+pub mod Lists
+pub mod Classes
+pub mod States
+pub mod Headings

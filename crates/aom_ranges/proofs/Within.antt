@@ -1,0 +1,78 @@
+-- What holds of whatever a reading gives.
+use Rattle.std.proofs.Common.{◌≡◌, refl, ap, subst, ℕ, Bool, true, false, List, Result, Ok, Err}
+use Rattle.std.specs.Prelude.{if◌then◌else◌}
+use Rattle.aom_text.specs.declared.fault.AsmFaultKind.{AsmFaultKind}
+use Rattle.aom_syntax.specs.Reading.{◌>>=◌, Reading, next, seen, giving, failing}
+
+abbrev given : {X : Type 0} → X → Result X AsmFaultKind
+given x = Ok x
+
+pub ok_is : {X : Type 0} (x y : X) → given x ≡ given y → x ≡ y
+ok_is x y is = cc
+
+-- the two steps of what was read
+pub record Steps {A B : Type 0} (r : Result A AsmFaultKind) (f : A → Result B AsmFaultKind) (y : B) : Type 0 where
+  pub first : A
+  pub read : r ≡ Ok first
+  pub second : f first ≡ Ok y
+
+pub steps : {A B : Type 0} (r : Result A AsmFaultKind) (f : A → Result B AsmFaultKind) (y : B) → (r >>= f) ≡ Ok y → Steps r f y
+steps (Ok x) f y is = record { first = x; read = refl; second = is }
+steps (Err e) f y is = absurd cc
+
+-- what was read passed a test
+pub passed : {X : Type 0} (b : Bool) (r : Result X AsmFaultKind) (e : AsmFaultKind) (x : X) → (if b then r else Err e) ≡ Ok x → (b ≡ true) × (r ≡ Ok x)
+passed true r e x is = (refl, is)
+passed false r e x is = absurd cc
+
+-- whatever is read has that property
+pub record Within {X : Type 0} (P : X → Type 0) (r : Reading X) : Type 0 where
+  pub each : (ws : List (List ℕ)) (x : X) (rest : List (List ℕ)) → r ws ≡ Ok (x, rest) → P x
+
+-- the value of a reading that was left with these words
+pub value_is : {X : Type 0} (P : X → Type 0) (x y : X) (ws rest : List (List ℕ)) → giving x ws ≡ giving y rest → P x → P y
+value_is P x y ws rest is p = subst P (ap (λ q. q.0) (ok_is (x, ws) (y, rest) is)) p
+
+pub anything : {X : Type 0} (r : Reading X) → Within (λ x. Unit {0}) r
+anything r = record { each = λ ws x rest is. tt }
+
+pub giving_within : {X : Type 0} (P : X → Type 0) (x : X) → P x → Within P (giving x)
+giving_within P x p = record { each = λ ws y rest is. value_is P x y ws rest is p }
+
+refused : {X : Type 0} (e : AsmFaultKind) (y : X) (rest : List (List ℕ)) → Err e ≡ giving y rest → ⊥
+refused e y rest is = cc
+
+pub failing_within : {X : Type 0} (P : X → Type 0) (e : AsmFaultKind) → Within P (failing e)
+failing_within P e = record { each = λ ws y rest is. absurd (refused e y rest is) }
+
+pub next_within : {A B : Type 0} (P : A → Type 0) (Q : B → Type 0) (a : Reading A) (b : A → Reading B) → Within P a → ((x : A) → P x → Within Q (b x)) → Within Q (next a b)
+next_within P Q a b wa wb = record {
+  each = λ ws y rest is.
+      let s = steps (a ws) (λ x. b x.0 x.1) (y, rest) is in
+      (wb s.first.0 (wa.each ws s.first.0 s.first.1 s.read)).each s.first.1 y rest s.second;
+}
+
+-- what is read in the words that are left, whatever was read before them
+pub after : {A B : Type 0} (Q : B → Type 0) (a : Reading A) (b : A → Reading B) → ((x : A) → Within Q (b x)) → Within Q (next a b)
+after Q a b wb = next_within (λ x. Unit {0}) Q a b (anything a) (λ x u. wb x)
+
+-- what was read says something
+pub seen_within : {A B : Type 0} (Q : B → Type 0) (f : A → Result B AsmFaultKind) (a : Reading A) → ((x : A) (y : B) → f x ≡ Ok y → Q y) → Within Q (seen f a)
+seen_within Q f a q = record {
+  each = λ ws y rest is.
+      let s = steps (a ws) (λ x. f x.0 >>= λ z. Ok (z, x.1)) (y, rest) is in
+      let t = steps (f s.first.0) (λ z. Ok (z, s.first.1)) (y, rest) s.second in
+      value_is Q t.first y s.first.1 rest t.second (q s.first.0 t.first t.read);
+}
+
+pub weaker : {X : Type 0} (P Q : X → Type 0) (r : Reading X) → ((x : X) → P x → Q x) → Within P r → Within Q r
+weaker P Q r f w = record { each = λ ws x rest is. f x (w.each ws x rest is) }
+
+by_test : {X : Type 0} (P : X → Type 0) (r s : Reading X) → Within P r → Within P s → (b : Bool) (vs : List (List ℕ)) (x : X) (rest : List (List ℕ)) → (if b then r vs else s vs) ≡ Ok (x, rest) → P x
+by_test P r s wr ws true vs x rest is = wr.each vs x rest is
+by_test P r s wr ws false vs x rest is = ws.each vs x rest is
+
+-- one reading or another
+pub either : {X : Type 0} (P : X → Type 0) (test : List (List ℕ) → Bool) (left : List (List ℕ) → List (List ℕ)) (r s : Reading X)
+    → Within P r → Within P s → Within P (λ ws. if test ws then r (left ws) else s (left ws))
+either P test left r s wr ws = record { each = λ us x rest is. by_test P r s wr ws (test us) (left us) x rest is }
