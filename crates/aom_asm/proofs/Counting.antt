@@ -16,8 +16,9 @@ use Rattle.aom_syntax.specs.Reading.{◌>>=◌, any_keyword, known, took, word}
 use Rattle.aom_syntax.specs.declared.keyword.Keyword.{Keyword}
 use Rattle.aom_syntax.specs.declared.keyword.Keyword.TheVariants as k
 use Rattle.aom_syntax.specs.declared.scope.Scope.{Scope}
+use Rattle.aom_ranges.proofs.Within.{steps}
 use Rattle.aom_asm.specs.TextNames.{declared_names, is_end, label_in, labels_of, name_after, with_name}
-use Rattle.aom_asm.proofs.Steps.{no_ok, ok_is, if_ok, steps}
+use Rattle.aom_asm.proofs.Steps.{no_ok, ok_is, if_ok}
 
 -- ---- names
 
@@ -117,8 +118,8 @@ begins_with (w ∷ ws) key rest is =
     let s = steps (word (w ∷ ws)) (λ x. known x.0 (keyword_of x.0) >>= λ y. Ok (y, x.1)) (key, rest) is in
     let i = if_ok (list_all is_plain w) (Ok (w, ws)) NotAscii s.first s.read in
     let first : (w, ws) ≡ s.first = ok_is (w, ws) s.first i.1 in
-    let t = steps (known s.first.0 (keyword_of s.first.0)) (λ y. Ok (y, s.first.1)) (key, rest) s.last in
-    let last : (t.first, s.first.1) ≡ (key, rest) = ok_is (t.first, s.first.1) (key, rest) t.last in
+    let t = steps (known s.first.0 (keyword_of s.first.0)) (λ y. Ok (y, s.first.1)) (key, rest) s.second in
+    let last : (t.first, s.first.1) ≡ (key, rest) = ok_is (t.first, s.first.1) (key, rest) t.second in
     let read : keyword_of s.first.0 ≡ Some key = known_is s.first.0 (keyword_of s.first.0) t.first t.read ∙ ap (λ p. Some p.0) last in
     let same : keyword_text key ≡ s.first.0 = (bytes_eq-Decides _ _).0 (found_passes (λ key. bytes_eq (keyword_text key) s.first.0) keywords key read) in
     ap (λ p. p.0 ∷ p.1) first ∙ ap (λ v. v ∷ s.first.1) (sym same) ∙ ap (λ p. keyword_text key ∷ p.1) last

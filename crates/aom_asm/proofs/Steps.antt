@@ -5,7 +5,6 @@ use Rattle.std.proofs.lemmas.Bool.{leb-true}
 use Rattle.aom_text.specs.declared.fault.AsmFault.{AsmFault}
 use Rattle.aom_text.specs.declared.fault.AsmFaultKind.{AsmFaultKind}
 use Rattle.aom_text.specs.declared.fault.AsmFaultKind.TheVariants.{LimitPassed}
-use Rattle.aom_syntax.specs.Reading.{◌>>=◌}
 use Rattle.aom_asm.specs.Denoted.{and_then, at_line, grown}
 
 pub no_ok : {X E : Type 0} (e : E) (x : X) → Err e ≡ Ok x → ⊥
@@ -14,24 +13,22 @@ no_ok e x is = cc
 pub ok_is : {X E : Type 0} (x y : X) → ◌≡◌ {A = Result X E} (Ok x) (Ok y) → x ≡ y
 ok_is x y is = cc
 
--- the two steps of what was read
-pub record Steps {A B E : Type 0} (r : Result A E) (f : A → Result B E) (y : B) : Type 0 where
+-- the two steps of what was read, with its line
+pub record Steps {A B : Type 0} (r : Result A AsmFault) (f : A → Result B AsmFault) (y : B) : Type 0 where
   pub first : A
   pub read : r ≡ Ok first
-  pub last : f first ≡ Ok y
-
-pub steps : {A B : Type 0} (r : Result A AsmFaultKind) (f : A → Result B AsmFaultKind) (y : B) → (r >>= f) ≡ Ok y → Steps r f y
-steps (Ok x) f y is = record { first = x; read = refl; last = is }
-steps (Err e) f y is = absurd (no_ok e y is)
+  pub second : f first ≡ Ok y
 
 pub steps_then : {A B : Type 0} (r : Result A AsmFault) (f : A → Result B AsmFault) (y : B) → and_then r f ≡ Ok y → Steps r f y
-steps_then (Ok x) f y is = record { first = x; read = refl; last = is }
+steps_then (Ok x) f y is = record { first = x; read = refl; second = is }
 steps_then (Err e) f y is = absurd (no_ok e y is)
 
+-- what was said in a line
 pub said : {X : Type 0} (line : ℕ) (r : Result X AsmFaultKind) (x : X) → at_line line r ≡ Ok x → r ≡ Ok x
 said line (Ok y) x is = ap Ok (ok_is y x is)
 said line (Err e) x is = absurd (no_ok _ x is)
 
+-- what was read passed a test, or failed one
 pub if_ok : {X E : Type 0} (b : Bool) (r : Result X E) (e : E) (x : X) → (if b then r else Err e) ≡ Ok x → (b ≡ true) × (r ≡ Ok x)
 if_ok true r e x is = (refl, is)
 if_ok false r e x is = absurd (no_ok e x is)

@@ -28,9 +28,10 @@ use Rattle.aom_syntax.specs.declared.scope.Scope.{Scope}
 use Rattle.aom_ranges.specs.Ranges.{ClassesInRange, HeadersInRange, HeadingFits, HeadingsInRange, InstructionsInRange}
 use Rattle.aom_asm.specs.Body.{Body, Program}
 use Rattle.aom_asm.specs.Denoted.{and_then, at_line, closed, declaration, denoted, grown, image_of, in_body, last_line_of, method_of, opened, read_program, read_rest, read_statements, scope_of, step, step_by, with_class, with_heading, with_instruction, with_method}
+use Rattle.aom_ranges.proofs.Within.{steps}
 use Rattle.aom_asm.specs.TextNames.{declared_names, is_end, labels_of, name_after}
 use Rattle.aom_asm.proofs.Counting.{Silent, at_end, before_end, begins_with, class_alone, code_silent, count_declared, declares, declares_more, declares_none, end_silent, false_true, header_silent, length_labels, method_alone, names_one, not_at_end, one_of, takes_end, takes_no_end}
-use Rattle.aom_asm.proofs.Steps.{grown_is, if_not_ok, if_ok, no_ok, ok_is, said, steps, steps_then}
+use Rattle.aom_asm.proofs.Steps.{grown_is, if_not_ok, if_ok, no_ok, ok_is, said, steps_then}
 
 -- a program between two statements
 abbrev program : Header → List ClassDecl → List Method → Option Body → ℕ → Program
@@ -107,7 +108,7 @@ module _ (headers : HeadersInRange) (classes_in : ClassesInRange) (headings : He
       let i = if_ok (nat_lt (length cs) 256) (class_statement scope h.natives (length cs) (count_by is_server cs) ws >>= λ c. grown 28 size >>= λ n. Ok (program h (cs ++ c.0 ∷ []) ms None n)) LimitPassed q is in
       let s = steps (class_statement scope h.natives (length cs) (count_by is_server cs) ws) (λ c. grown 28 size >>= λ n. Ok (program h (cs ++ c.0 ∷ []) ms None n)) q i.1 in
       let c = s.first.0 in
-      let t = steps (grown 28 size) (λ n. Ok (program h (cs ++ c ∷ []) ms None n)) q s.last in
+      let t = steps (grown 28 size) (λ n. Ok (program h (cs ++ c ∷ []) ms None n)) q s.second in
       let g = grown_is 28 size t.first t.read in
       let less : length cs < 256 = ltb-true (length cs) 256 i.0 in
       let range = classes_in scope h.natives (length cs) (count_by is_server cs) ws c s.first.1 s.read in
@@ -116,7 +117,7 @@ module _ (headers : HeadersInRange) (classes_in : ClassesInRange) (headings : He
       let methods = holds.method_names in
       let spelling = holds.spelling in
       let servers : count_by is_server (cs ++ c ∷ []) ≤ 8 = subst (λ n. n ≤ 8) (sym (counted_push cs c)) (few_counted (count_by is_server cs) (is_server c) range.server holds.servers) in
-      subst (λ q. Read scope q ss) (ok_is (program h (cs ++ c ∷ []) ms None t.first) q t.last) (record {
+      subst (λ q. Read scope q ss) (ok_is (program h (cs ++ c ∷ []) ms None t.first) q t.second) (record {
         parts = record {
           class_names = omega arith;
           method_names = omega arith;
@@ -140,14 +141,14 @@ module _ (headers : HeadersInRange) (classes_in : ClassesInRange) (headings : He
       let i = if_ok (nat_lt (length ms) 1024) (heading scope (length ms) ws >>= λ m. grown 24 size >>= λ n. Ok (program h cs ms (begun m.0) n)) LimitPassed q is in
       let s = steps (heading scope (length ms) ws) (λ m. grown 24 size >>= λ n. Ok (program h cs ms (begun m.0) n)) q i.1 in
       let m = s.first.0 in
-      let t = steps (grown 24 size) (λ n. Ok (program h cs ms (begun m) n)) q s.last in
+      let t = steps (grown 24 size) (λ n. Ok (program h cs ms (begun m) n)) q s.second in
       let g = grown_is 24 size t.first t.read in
       let less : length ms < 1024 = ltb-true (length ms) 1024 i.0 in
       let range = λ (strict : scope.is_strict ≡ true). (headings natives scope (record { is_strict = strict; kinds = settled strict }) (length ms) ws m s.first.1 s.read).heading in
       let names = holds.class_names in
       let methods = holds.method_names in
       let spelling = holds.spelling in
-      subst (λ q. Read scope q ss) (ok_is (program h cs ms (begun m) t.first) q t.last) (record {
+      subst (λ q. Read scope q ss) (ok_is (program h cs ms (begun m) t.first) q t.second) (record {
         parts = record {
           class_names = omega arith;
           method_names = omega arith;
@@ -175,7 +176,7 @@ module _ (headers : HeadersInRange) (classes_in : ClassesInRange) (headings : He
   code_step ss h cs ms size left b ws q one holds body is =
       let longer_by : Instr → Body = λ i. record b { code = b.code ++ i ∷ [] } in
       let s = steps (with_instruction scope b ws) (λ c. grown 8 size >>= λ n. Ok (program h cs ms (Some c) n)) q is in
-      let t = steps (grown 8 size) (λ n. Ok (program h cs ms (Some s.first) n)) q s.last in
+      let t = steps (grown 8 size) (λ n. Ok (program h cs ms (Some s.first) n)) q s.second in
       let g = grown_is 8 size t.first t.read in
       let i = if_ok (nat_lt (length b.code) 1024) (instruction scope b.labels (length b.code) ws >>= λ i. Ok (longer_by i.0)) LimitPassed s.first s.read in
       let u = steps (instruction scope b.labels (length b.code) ws) (λ i. Ok (longer_by i.0)) s.first i.1 in
@@ -185,7 +186,7 @@ module _ (headers : HeadersInRange) (classes_in : ClassesInRange) (headings : He
       let fits = InstrFits (limits (length scope.classes) (length scope.methods) (length b.labels)) in
       let labels = body.labels in
       let spelling = holds.spelling in
-      let same : program h cs ms (Some (longer_by added)) t.first ≡ q = ap (λ c. program h cs ms (Some c) t.first) (ok_is (longer_by added) s.first u.last) ∙ ok_is (program h cs ms (Some s.first) t.first) q t.last in
+      let same : program h cs ms (Some (longer_by added)) t.first ≡ q = ap (λ c. program h cs ms (Some c) t.first) (ok_is (longer_by added) s.first u.second) ∙ ok_is (program h cs ms (Some s.first) t.first) q t.second in
       subst (λ q. Read scope q ss) same (record {
         parts = record {
           class_names = holds.class_names;
@@ -234,7 +235,7 @@ module _ (headers : HeadersInRange) (classes_in : ClassesInRange) (headings : He
   end_step ss h cs ms size left b ws q none holds body is =
       let whole = whole_of b in
       let s = steps (method_of b) (λ m. nothing_more false ws >>= λ u. Ok (program h cs (ms ++ m ∷ []) None size)) q is in
-      let t = steps (nothing_more false ws) (λ u. Ok (program h cs (ms ++ s.first ∷ []) None size)) q s.last in
+      let t = steps (nothing_more false ws) (λ u. Ok (program h cs (ms ++ s.first ∷ []) None size)) q s.second in
       let i = if_not_ok (length b.code == 0) (Ok whole) LimitPassed s.first s.read in
       let made : whole ≡ s.first = ok_is whole s.first i.1 in
       let some : length b.code ≡ 0 → ⊥ = eqb-false (length b.code) 0 i.0 in
@@ -245,7 +246,7 @@ module _ (headers : HeadersInRange) (classes_in : ClassesInRange) (headings : He
       let names = holds.method_names in
       let few = holds.few_methods in
       let spelling = holds.spelling in
-      let same : program h cs (ms ++ whole ∷ []) None size ≡ q = ap (λ m. program h cs (ms ++ m ∷ []) None size) made ∙ ok_is (program h cs (ms ++ s.first ∷ []) None size) q t.last in
+      let same : program h cs (ms ++ whole ∷ []) None size ≡ q = ap (λ m. program h cs (ms ++ m ∷ []) None size) made ∙ ok_is (program h cs (ms ++ s.first ∷ []) None size) q t.second in
       subst (λ q. Read scope q ss) same (record {
         parts = record {
           class_names = holds.class_names;
@@ -314,7 +315,7 @@ module _ (headers : HeadersInRange) (classes_in : ClassesInRange) (headings : He
     stepped : (o : Option Body) → Holds scope h cs ms size o (declares k.Class (s ∷ ss)) (declares k.Method (s ∷ ss)) → OpenHolds scope o (s ∷ ss) → step_by o scope ss (program h cs ms None size) s.words ≡ Ok q → Read scope q ss
     stepped None holds body is =
         let t = steps (any_keyword s.words) (λ key. declaration scope ss (program h cs ms None size) key.0 key.1) q is in
-        declared_step holds t.first.0 t.first.1 t.read t.last
+        declared_step holds t.first.0 t.first.1 t.read t.second
     stepped (Some b) holds body is = body_step b holds body is
 
   -- ---- the statements after others
@@ -342,7 +343,7 @@ module _ (headers : HeadersInRange) (classes_in : ClassesInRange) (headings : He
   rest_read last p [] q read is = closes p q read (said last (closed p) q is)
   rest_read last p (s ∷ ss) q read is =
       let t = steps_then (at_line s.line (step scope ss p s.words)) (λ q. read_rest last scope q ss) q is in
-      rest_read last t.first ss q (stepped s ss p.header p.classes p.methods p.size t.first p.body read.parts read.body (said s.line (step scope ss p s.words) t.first t.read)) t.last
+      rest_read last t.first ss q (stepped s ss p.header p.classes p.methods p.size t.first p.body read.parts read.body (said s.line (step scope ss p s.words) t.first t.read)) t.second
 
   -- ---- a whole program
 
@@ -350,7 +351,7 @@ module _ (headers : HeadersInRange) (classes_in : ClassesInRange) (headings : He
   opens s ss p class_names method_names is =
       let t = steps (image_statement scope s.words) (λ h. Ok (program h.0 [] [] None 24)) p is in
       let silent = header_silent scope s.words t.first t.read in
-      subst (λ p. Read scope p ss) (ok_is (program t.first.0 [] [] None 24) p t.last) (record {
+      subst (λ p. Read scope p ss) (ok_is (program t.first.0 [] [] None 24) p t.second) (record {
         parts = record {
           class_names = omega (arith, class_names, declares_more k.Class s ss 0 silent.class);
           method_names = omega (arith, method_names, declares_more k.Method s ss 0 silent.method);
@@ -370,7 +371,7 @@ module _ (headers : HeadersInRange) (classes_in : ClassesInRange) (headings : He
   program_read last [] q class_names method_names is = absurd (no_ok _ _ is)
   program_read last (s ∷ ss) q class_names method_names is =
       let t = steps_then (at_line s.line (opened scope s.words)) (λ p. read_rest last scope p ss) q is in
-      rest_read last t.first ss q (opens s ss t.first class_names method_names (said s.line (opened scope s.words) t.first t.read)) t.last
+      rest_read last t.first ss q (opens s ss t.first class_names method_names (said s.line (opened scope s.words) t.first t.read)) t.second
 
   -- with names told apart it is an image
   well_formed : (q : Program) → scope.is_strict ≡ true → AtEnd q → WellFormed (image_of q)
@@ -407,10 +408,10 @@ module _ (headers : HeadersInRange) (classes_in : ClassesInRange) (headings : He
       let second : Program → Scope = λ p. scope_of true ss p.classes in
       let s = steps_then (read_program last (scope_of false ss []) ss) (λ first. and_then (read_program last (second first) ss) (λ p. Ok (image_of p))) i is in
       let first = s.first in
-      let t = steps_then (read_program last (second first) ss) (λ p. Ok (image_of p)) i s.last in
+      let t = steps_then (read_program last (second first) ss) (λ p. Ok (image_of p)) i s.second in
       let kinds = first_classes last ss first s.read in
       let at = program_read headers classes_in headings instructions (second first) first.header.natives (λ strict. kinds) last ss t.first (count_declared k.Class ss) (count_declared k.Method ss) t.read in
-      subst WellFormed (ok_is (image_of t.first) i t.last) (well_formed headers classes_in headings instructions (second first) first.header.natives (λ strict. kinds) t.first refl at)
+      subst WellFormed (ok_is (image_of t.first) i t.second) (well_formed headers classes_in headings instructions (second first) first.header.natives (λ strict. kinds) t.first refl at)
 
   pub text_well : (text : List ℕ) (i : Image) → denoted text ≡ Ok i → WellFormed i
   text_well text i is = statements_well (last_line_of text) (statements text) i (if_ok (nat_le (length text) (2 ^ 20)) (read_statements (last_line_of text) (statements text)) (record { line = 1; kind = LimitPassed }) i is).1

@@ -2,4 +2,4 @@ use Rattle.aom_asm.proofs.Images.{reads_well}
 use Rattle.aom_asm.proofs.assembling.assemble.Goals as goal
 
 pub into_image-requires : goal.into_image-requires
-into_image-requires c = let h = c in ?
+into_image-requires c = reads_well c.args.text.now _ c.in_ok-read_text.ensures
