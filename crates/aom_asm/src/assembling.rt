@@ -133,5 +133,6 @@ pub fn assemble(alloc: Global, text: &[u8]) -> Result<Image, AsmFault>
     ensures image { IfOk result (λ i. denoted text.now ≡ Ok i) }
     ensures fault { IfErr result (λ e. e.kind ≢ OutOfMemory → denoted text.now ≡ Err e) }
 {
-    Ok(read_text(alloc, text)?.into_image())
+    let image = read_text(alloc, text)?.into_image();
+    Ok(image)
 }

@@ -1,5 +1,5 @@
 use Rattle.aom_asm.proofs.Images.{reads_well}
 use Rattle.aom_asm.proofs.assembling.assemble.Goals as goal
 
-pub into_image-requires : goal.into_image-requires
-into_image-requires c = reads_well c.args.text.now _ c.in_ok-read_text.ensures
+pub into_image-image-requires : goal.into_image-image-requires
+into_image-image-requires c = reads_well c.args.text.now _ c.in_ok-read_text.ensures
