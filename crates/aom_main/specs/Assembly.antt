@@ -1,11 +1,11 @@
 -- What `asm` and `dis` promise of their sinks and their status, from a text to an image's bytes and back.
-use Rattle.std.specs.Prelude.{ℕ, ◌≡◌, ◌⊎◌, true, List, Some, Ok, Err}
+use Rattle.std.specs.Prelude.{ℕ, ◌≡◌, true, List, Some, Ok, Err}
 use Rattle.aom_image.specs.Image.{Image}
 use Rattle.aom_image.specs.Spelling.{spell}
 use Rattle.aom_image.specs.Format.{first_fault}
 use Rattle.aom_image.specs.declared.fault.LoadFault.{LoadFault}
 use Rattle.aom_text.specs.declared.fault.AsmFault.{AsmFault}
-use Rattle.aom_asm.specs.Denoted.{denoted, NoImage}
+use Rattle.aom_asm.specs.Denoted.{denoted}
 use Rattle.aom_listing.specs.Listing.{listing_text}
 use Rattle.aom_run.specs.Runs.{after}
 use Rattle.aom_main.specs.declared.status.ExitStatus.{ExitStatus}
@@ -23,7 +23,7 @@ pub record Makes (text bytes : List ℕ) : Type 0 where
 
 -- why a text makes no bytes: its first fault, or memory was wanting
 abbrev pub RefusesText : List ℕ → Fault → Type 0
-RefusesText text (Asm fault) = (denoted text ≡ Err fault) ⊎ NoImage (denoted text) fault
+RefusesText text (Asm fault) = denoted text ≡ Err fault
 RefusesText text Memory = Unit {0}
 RefusesText text _ = ⊥
 
