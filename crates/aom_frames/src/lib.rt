@@ -12,6 +12,7 @@ mod task;
 mod tasks;
 #[cfg(test)]
 mod tests;
+mod words;
 
 pub use frame::Frame;
 pub use task::{Dispatch, Task};
