@@ -22,3 +22,5 @@ pub mod Ranking
 pub mod Progressing
 pub mod Booting
 pub mod EnterActs
+pub mod Working
+pub mod Many

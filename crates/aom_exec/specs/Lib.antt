@@ -1,3 +1,4 @@
+pub mod Counts
 pub mod Progress
 pub mod Places
 pub mod Room
@@ -7,5 +8,6 @@ pub mod Fields
 pub mod Calls
 pub mod Ranks
 pub mod Steps
+pub mod WordMoves
 pub mod Boot
 pub mod Going

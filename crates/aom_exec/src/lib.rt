@@ -11,7 +11,6 @@ mod calls;
 mod fault;
 mod fields;
 mod going;
-mod loops;
 mod machine;
 mod moves;
 mod objects;

@@ -2,7 +2,7 @@
 ghost use Rattle.std.specs.Prelude.{◌≡◌, ◌<◌, ◌+◌, ◌↔◌, IfOk, IsTrue, length};
 ghost use Rattle.aom_cells.specs.Heap.{count};
 ghost use Rattle.aom_sound.specs.World.{boot_state};
-ghost use Rattle.aom_exec.specs.Steps.{StandsFor, Stepped, Waited, progress, rank};
+ghost use Rattle.aom_exec.specs.Steps.{StandsFor, Stepped, SteppedOn, Waited, progress, rank};
 ghost use Rattle.aom_exec.specs.declared.progress.Progress.TheVariants.{Running, Turned};
 
 use crate::fault::BootFault;
@@ -53,7 +53,18 @@ impl<'a> Machine<'a> {
         ensures steps { Stepped self.old result turn.old turn.new self.new }
         ensures falls { result ≡ Running → rank self.new < rank self.old }
     {
-        self.parts.step(self.accepted.linked(), turn)
+        self.parts.step(self.accepted.linked(), turn, 1)
+    }
+
+    /// Steps until something is written or nothing is at hand.
+    pub fn step_on(&mut self, turn: &mut Turn) -> Progress
+        requires room { length turn.old.lines + 1 < turn.old.room }
+        ensures image { self.new.image ≡ self.old.image }
+        ensures steps { SteppedOn self.old result turn.old turn.new self.new }
+        ensures told { result ≡ Running → length turn.old.lines < length turn.new.lines }
+        ensures falls { result ≡ Running → rank self.new < rank self.old }
+    {
+        self.parts.step_on(self.accepted.linked(), turn)
     }
 
     /// The turn in which nothing is due and nothing signals. The run is over.

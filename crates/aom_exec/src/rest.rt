@@ -1,6 +1,7 @@
 //! The clock, the counts, and how far the run has come.
 ghost use Rattle.std.specs.Prelude.{◌≡◌, Some, None, true, false, cond};
 ghost use Rattle.aom_sound.specs.State.{raised};
+ghost use Rattle.aom_exec.specs.Counts.{raised_by};
 ghost use Rattle.aom_sound.specs.declared.line.Ending.TheVariants.{Stopped, Waiting};
 
 use aom_sound::Ending;
@@ -76,6 +77,13 @@ impl Rest {
         ensures { self.new ≡ record self.old { steps = raised self.old.steps } }
     {
         self.steps = self.steps.saturating_add(1);
+    }
+
+    /// So many steps at once.
+    pub fn count_steps(&mut self, count: u32)
+        ensures { self.new ≡ record self.old { steps = raised_by count self.old.steps } }
+    {
+        self.steps = self.steps.saturating_add(u64::from(count));
     }
 
     pub fn count_request(&mut self)

@@ -1,14 +1,14 @@
-use Rattle.std.proofs.Common.{subst}
+use Rattle.std.proofs.Common.{refl, subst}
 use Rattle.aom_exec.specs.Steps.{Machine, Stepped}
 use Rattle.aom_exec.proofs.Progressing.{stands_again}
 use Rattle.aom_exec.proofs.machine.Machine.step.Goals as goal
 
 pub invariant_of-self : goal.invariant_of-self
 invariant_of-self c =
-    let stepped = subst (λ p. Stepped (record { image = p; parts = c.self.inside.parts }) c.step.result c.args.turn.now c.step.new.turn (record { image = p; parts = c.step.new.self })) c.linked.ensures c.step.ensures.steps in
+    let stepped = subst (λ p. Stepped (record { image = p; parts = c.self.inside.parts }) c.step.result c.args.turn.now c.step.new.turn (record { image = p; parts = c.step.new.self })) c.linked.ensures (c.step.ensures.one refl) in
     stands_again (record { image = c.self.inside.accepted.now; parts = c.self.inside.parts }) (record { image = c.self.inside.accepted.now; parts = c.step.new.self }) c.step.result c.args.turn.now c.step.new.turn stepped c.self.invariant
 
 pub returns-clause-steps : goal.returns-clause-steps
 returns-clause-steps c =
-    let stepped = subst (λ p. Stepped (record { image = p; parts = c.self.inside.parts }) c.step.result c.args.turn.now c.step.new.turn (record { image = p; parts = c.step.new.self })) c.linked.ensures c.step.ensures.steps in
+    let stepped = subst (λ p. Stepped (record { image = p; parts = c.self.inside.parts }) c.step.result c.args.turn.now c.step.new.turn (record { image = p; parts = c.step.new.self })) c.linked.ensures (c.step.ensures.one refl) in
     subst (λ (m : Machine). Stepped m c.step.result c.args.turn.now c.step.new.turn (record { image = c.self.inside.accepted.now; parts = c.step.new.self })) c.self.view_is stepped
