@@ -16,17 +16,29 @@ use aom_main::{
     tell,
 };
 use aom_run::{Sink, write_text};
+use std::env;
+use std::io::{self, BufWriter, Write};
 use std::process::ExitCode;
-use std::{env, io};
 
 fn main(rt: HostRuntime) -> ExitCode {
-    let mut out = Output::new(rt.stdout());
     let mut errors = Output::new(rt.stderr());
-    let status = match given_words(&rt) {
-        Ok(words) => answer(&rt, words, &mut out, &mut errors),
-        Err(fault) => refuse(&rt, fault, &mut errors),
+    let status = match BufWriter::new(rt.alloc(), rt.stdout()) {
+        Ok(writer) => serve(&rt, Output::new(writer), &mut errors),
+        Err(_) => tell(rt.alloc(), &Fault::Memory, &mut errors),
     };
     ExitCode::from(status.number())
+}
+
+/// Does what the words of the command line ask, and sends on all that is written. That this fails is a fault too.
+fn serve<W: Write, E: Sink>(rt: &HostRuntime, mut out: Output<W>, errors: &mut E) -> ExitStatus {
+    let status = match given_words(rt) {
+        Ok(words) => answer(rt, words, &mut out, errors),
+        Err(fault) => refuse(rt, fault, errors),
+    };
+    if out.fails_at_end() {
+        return tell(rt.alloc(), &Fault::Write, errors);
+    }
+    status
 }
 
 /// The words that the system has handed over. One that is no text is no word of any command.

@@ -18,6 +18,17 @@ impl<W> Output<W> {
     }
 }
 
+impl<W: Write> Output<W> {
+    /// Sends on what the writer still holds. Whether that fails, where no write had failed before.
+    pub fn fails_at_end(&mut self) -> bool {
+        if self.has_failed {
+            return false;
+        }
+        self.has_failed = self.writer.flush().is_err();
+        self.has_failed
+    }
+}
+
 impl<W: Write> Sink for Output<W> {
     ghost use Rattle.std.specs.Prelude.{None};
 
@@ -47,7 +58,7 @@ impl<W: Write> Sink for Output<W> {
 mod tests {
     use super::*;
     use aom_run::write_text;
-    use std::io;
+    use std::io::{self, BufWriter};
     use std::test::Fail;
 
     /// A writer that takes two bytes at a time, and so many in all.
@@ -85,6 +96,26 @@ mod tests {
         assert!(rt; output.has_failed());
         assert_eq!(rt; output.put(b"x"), 0);
         assert_eq!(rt; output.writer.text.as_slice(), b"out 7".as_slice());
+        assert!(rt; !output.fails_at_end());
+        Ok(())
+    }
+
+    #[test]
+    fn what_is_held_goes_out_at_the_end(rt: HostRuntime) -> Result<(), Fail> {
+        let slow = Slow {
+            text: Vec::new(rt.alloc()),
+            room: 7,
+        };
+        let mut output = Output::new(BufWriter::new(rt.alloc(), slow)?);
+        write_text(&mut output, b"out 7\n");
+        assert_eq!(rt; output.writer.get_ref().text.as_slice(), b"".as_slice());
+        assert!(rt; !output.fails_at_end());
+        assert_eq!(rt; output.writer.get_ref().text.as_slice(), b"out 7\n".as_slice());
+        write_text(&mut output, b"end");
+        assert!(rt; output.fails_at_end());
+        assert_eq!(rt; output.writer.get_ref().text.as_slice(), b"out 7\ne".as_slice());
+        assert!(rt; !output.fails_at_end());
+        assert_eq!(rt; output.put(b"x"), 0);
         Ok(())
     }
 }

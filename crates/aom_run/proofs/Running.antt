@@ -13,7 +13,7 @@ use Rattle.aom_exec.specs.declared.progress.Outcome.{Outcome}
 use Rattle.aom_exec.specs.declared.progress.Outcome.TheVariants.{Stopped, Waiting, WriteFault}
 use Rattle.aom_exec.specs.declared.progress.Progress.{Progress}
 use Rattle.aom_exec.specs.declared.progress.Progress.TheVariants as progresses
-use Rattle.aom_exec.specs.Steps.{Machine, StandsFor, Steps, rests, moves, closes, Stepped, Waited, IsClosing, progress as reached}
+use Rattle.aom_exec.specs.Steps.{Machine, StandsFor, Steps, rests, moves, closes, Quiet, begins as none, goes_on as then_on, SteppedOn, Waited, IsClosing, progress as reached}
 use Rattle.aom_exec.specs.Progress.{progress_of, progress_by, outcome_of}
 use Rattle.aom_exec.proofs.Progressing.{is_as_far}
 use Rattle.aom_run.specs.Runs.{after, Ended, Told, CutShort, Ran}
@@ -41,6 +41,12 @@ reaches_on p refused b lines s more u r (rests done) = subst (λ ls. Reaches p r
 reaches_on p refused b lines s more u r (moves c hand free goes not) = moved c r hand.busy free goes
 reaches_on p refused b lines s more u r (closes c d v hand free goes closing free_end ends) =
     subst (λ ls. Reaches p refused b ls u) (append_assoc lines _ _) (moved d (moved c r hand.busy free goes) (is_busy v closing) free_end ends)
+
+-- quiet steps add no line
+reaches_over : (p : Image) (refused : List ℕ) (b : State) (lines : List Line) (s v : State) → Reaches p refused b lines s → Quiet p refused s v → Reaches p refused b lines v
+reaches_over p refused b lines s _ r none = r
+reaches_over p refused b lines s _ r (then_on {v} {u} before last hand) =
+    subst (λ ls. Reaches p refused b ls u) (append-nil lines) (reaches_on p refused b lines v [] u (reaches_over p refused b lines s v r before) last)
 
 -- a run that has come to a state that the machine stands for can be brought to an end
 completed : (p : Image) (refused : List ℕ) (lines : List Line) (s : State) (m : Machine) → m.image ≡ p → Reaches p refused (boot_state p) lines s → StandsFor m s → Completed p refused lines
@@ -76,18 +82,19 @@ pub record Next (p : Image) (refused : List ℕ) (before mid : Option (List ℕ)
   pub whole : after mid (text_of told) ≡ after before (text_of lines)
 
 pub next : (p : Image) (refused : List ℕ) (before mid : Option (List ℕ)) (m new : Machine) (old now : Turn) (progress : Progress)
-    → SoFar p refused before mid m → m.image ≡ p → old.refused ≡ refused → old.lines ≡ [] → Stepped m progress old now new
+    → SoFar p refused before mid m → m.image ≡ p → old.refused ≡ refused → old.lines ≡ [] → SteppedOn m progress old now new
     → Next p refused before mid now.lines progress new
 next p refused before mid m new old now progress far image same clear stepped =
     let s = stepped far.state far.stands in
-    let told : now.lines ≡ s.0 = ap (λ (t : Turn). t.lines) s.3 ∙ ap (λ ls. ls ++ s.0) clear in
-    let steps = subst (λ q. Steps q refused far.state s.0 s.1) image (subst (λ r. Steps m.image r far.state s.0 s.1) same s.2) in
+    let told : now.lines ≡ s.0 = ap (λ (t : Turn). t.lines) s.5 ∙ ap (λ ls. ls ++ s.0) clear in
+    let quiet = subst (λ q. Quiet q refused far.state s.1) image (subst (λ r. Quiet m.image r far.state s.1) same s.3) in
+    let steps = subst (λ q. Steps q refused s.1 s.0 s.2) image (subst (λ r. Steps m.image r s.1 s.0 s.2) same s.4) in
     record {
       lines = far.lines ++ s.0;
-      state = s.1;
-      reaches = reaches_on p refused (boot_state p) far.lines far.state s.0 s.1 far.reaches steps;
-      stands = s.5;
-      is = s.4;
+      state = s.2;
+      reaches = reaches_on p refused (boot_state p) far.lines s.1 s.0 s.2 (reaches_over p refused (boot_state p) far.lines far.state s.1 far.reaches quiet) steps;
+      stands = s.7;
+      is = s.6;
       sent = length (text_of far.lines);
       part = λ n.
           ap (λ ls. after mid (take n (text_of ls))) told ∙ ap (λ o. after o (take n (text_of s.0))) far.out ∙ cut_next before (text_of far.lines) (text_of s.0) n
@@ -98,11 +105,11 @@ next p refused before mid m new old now progress far image same clear stepped =
     }
 
 -- what a step leaves of its turn
-pub room_kept : (m new : Machine) (old now : Turn) (progress : Progress) (s : State) → StandsFor m s → Stepped m progress old now new → now.room ≡ old.room
-room_kept m new old now progress s stands stepped = ap (λ (t : Turn). t.room) (stepped s stands).3
+pub room_kept : (m new : Machine) (old now : Turn) (progress : Progress) (s : State) → StandsFor m s → SteppedOn m progress old now new → now.room ≡ old.room
+room_kept m new old now progress s stands stepped = ap (λ (t : Turn). t.room) (stepped s stands).5
 
-pub refused_kept : (m new : Machine) (old now : Turn) (progress : Progress) (s : State) → StandsFor m s → Stepped m progress old now new → now.refused ≡ old.refused
-refused_kept m new old now progress s stands stepped = ap (λ (t : Turn). t.refused) (stepped s stands).3
+pub refused_kept : (m new : Machine) (old now : Turn) (progress : Progress) (s : State) → StandsFor m s → SteppedOn m progress old now new → now.refused ≡ old.refused
+refused_kept m new old now progress s stands stepped = ap (λ (t : Turn). t.refused) (stepped s stands).5
 
 same_outcome : (d e : Ending) → outcome_of d ≡ outcome_of e → d ≡ e
 same_outcome endings.Stopped endings.Stopped is = refl

@@ -43,7 +43,7 @@ fn run_lines<W: Sink>(machine: &mut Machine, turn: &mut Turn, out: &mut W) -> Op
 {
     loop {
         turn.clear();
-        let progress = machine.step(turn);
+        let progress = machine.step_on(turn);
         write_lines(out, turn.lines());
         if out.has_failed() {
             return None;
