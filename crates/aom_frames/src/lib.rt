@@ -3,8 +3,9 @@
 //! A `Frame` is where a method stands, its sixteen registers and the counters of its loops: plain numbers, with nothing
 //! that tells a word from the number of a cell. Registers begin with null. `Tasks::with_depth` takes all the memory that
 //! the stack will ever have, so that `push` asks for room and answers nothing. Contracts see a list with the innermost
-//! task first (`Stack` of `specs/Tasks.antt`), and each write as a change of the frame on top. This room knows neither
-//! cells nor instructions: it is told where a method goes on.
+//! task first (`Stack` of `specs/Tasks.antt`), and each write as a change of the frame on top. Instructions on
+//! words need no more than their method's frame, so they are run here, as many as come next (`Works` and `Worked` of
+//! `specs/Words.antt`). This room knows no cells and no other instructions: it is told where a method goes on.
 #![tactic(auto)]
 
 mod frame;
