@@ -30,7 +30,11 @@ fn main(rt: HostRuntime) -> ExitCode {
 }
 
 /// Does what the words of the command line ask, and sends on all that is written. That this fails is a fault too.
-fn serve<W: Write + Drop, E: Sink>(rt: &HostRuntime, mut out: Output<W>, errors: &mut E) -> ExitStatus {
+fn serve<W: Write + Drop, E: Sink>(
+    rt: &HostRuntime,
+    mut out: Output<W>,
+    errors: &mut E,
+) -> ExitStatus {
     let status = match given_words(rt) {
         Ok(words) => answer(rt, words, &mut out, errors),
         Err(fault) => refuse(rt, fault, errors),

@@ -110,10 +110,16 @@ mod tests {
         write_text(&mut output, b"out 7\n");
         assert_eq!(rt; output.writer.get_ref().text.as_slice(), b"".as_slice());
         assert!(rt; !output.fails_at_end());
-        assert_eq!(rt; output.writer.get_ref().text.as_slice(), b"out 7\n".as_slice());
+        assert_eq!(rt;
+            output.writer.get_ref().text.as_slice(),
+            b"out 7\n".as_slice()
+        );
         write_text(&mut output, b"end");
         assert!(rt; output.fails_at_end());
-        assert_eq!(rt; output.writer.get_ref().text.as_slice(), b"out 7\ne".as_slice());
+        assert_eq!(rt;
+            output.writer.get_ref().text.as_slice(),
+            b"out 7\ne".as_slice()
+        );
         assert!(rt; !output.fails_at_end());
         assert_eq!(rt; output.put(b"x"), 0);
         Ok(())
