@@ -18,3 +18,4 @@ mod words;
 pub use frame::Frame;
 pub use task::{Dispatch, Task};
 pub use tasks::Tasks;
+pub use words::is_on_words;
