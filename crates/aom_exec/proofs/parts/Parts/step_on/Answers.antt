@@ -1,4 +1,4 @@
-use Rattle.std.proofs.Common.{◌≡◌, ◌≤◌, length, refl, sym, ap, ◌∙◌, subst, arith}
+use Rattle.std.proofs.Common.{◌≤◌, length, refl, ap, subst, arith}
 use Rattle.aom_exec.specs.Steps.{SteppedOn, begins}
 use Rattle.aom_exec.proofs.Many.{went_on, same_turn, then_steps, stands_on}
 use Rattle.aom_exec.proofs.parts.Parts.step_on.Goals as goal
