@@ -1,3 +1,4 @@
+mod memory;
 mod programs;
 
 use super::*;
