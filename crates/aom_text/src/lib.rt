@@ -14,7 +14,7 @@ mod word;
 pub use fault::{AsmFault, AsmFaultKind};
 pub use name::is_name;
 pub use number::Number;
-pub use text::{Statement, Text, last_line};
+pub use text::{Statement, Text, last_line, split_line};
 pub use word::{Words, is_text_word};
 
 #[cfg(test)]
