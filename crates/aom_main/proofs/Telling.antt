@@ -13,6 +13,7 @@ use Rattle.aom_run.specs.declared.fault.ScriptFault.{ScriptFault}
 use Rattle.aom_run.specs.declared.fault.ScriptFaultKind.{ScriptFaultKind}
 use Rattle.aom_run.specs.declared.fault.ScriptFaultKind.TheVariants as kinds
 use Rattle.aom_main.specs.declared.status.ExitStatus.{ExitStatus}
+use Rattle.aom_main.specs.declared.faults.Fault.{Fault}
 use Rattle.aom_main.specs.declared.faults.Fault.TheVariants.{Write}
 use Rattle.aom_main.specs.declared.faults.Fault.TheVariants as faults
 use Rattle.aom_main.specs.Status.{of_script, of_script_kind}
@@ -89,6 +90,6 @@ of_kind bytes text fault out errors status kinds.LimitPassed is accepts refuses 
     apart e = cc
 
 -- what is told of a text that is no script, or that there was no memory for
-pub unscripted : (bytes text : List ℕ) (fault : ScriptFault) (out errors : Sent) (status : ExitStatus) → Accepts bytes → Refuses text fault → IsSilent out
-    → Told (of_script fault) status errors → RunAnswers bytes text out errors status
-unscripted bytes text fault out errors status accepts refuses silent told = of_kind bytes text fault out errors status fault.kind refl accepts refuses silent told
+pub unscripted : (bytes text : List ℕ) (fault : ScriptFault) (line : Fault) (out errors : Sent) (status : ExitStatus) → Accepts bytes → Refuses text fault → IsSilent out
+    → line ≡ of_script fault → Told line status errors → RunAnswers bytes text out errors status
+unscripted bytes text fault line out errors status accepts refuses silent is told = of_kind bytes text fault out errors status fault.kind refl accepts refuses silent (subst (λ f. Told f status errors) is told)

@@ -1,11 +1,8 @@
 -- What lines denote, by the lines that are read and the next one.
-use Rattle.std.proofs.Common.{◌≡◌, ◌⊎◌, ◌∙◌, ℕ, ◌+◌, ◌≤◌, nat_le, Bool, true, false, List, [], ◌∷◌, ◌++◌, length, length-append, append-nil, append_assoc, Option, Some, None, Result, Ok, Err, inl, inr, refl, sym, ap, subst, arith, rules, tests}
+use Rattle.std.proofs.Common.{◌≡◌, ◌⊎◌, ◌∙◌, ℕ, ◌+◌, ◌≤◌, nat_le, Bool, true, false, List, [], ◌∷◌, ◌++◌, length, length-append, append-nil, append_assoc, None, Result, Ok, Err, inl, inr, refl, sym, ap, arith, rules, tests}
 use Rattle.std.proofs.lemmas.Grind.{flat_map-append}
-use Rattle.aom_run.specs.declared.fault.ScriptFault.{ScriptFault}
 use Rattle.aom_run.specs.declared.fault.ScriptFaultKind.{ScriptFaultKind}
-use Rattle.aom_run.specs.declared.fault.ScriptFaultKind.TheVariants.{OutOfMemory}
 use Rattle.aom_run.specs.declared.line.ScriptLine.{ScriptLine}
-use Rattle.aom_run.specs.declared.line.ScriptLine.TheVariants.{Refuse}
 use Rattle.aom_run.specs.Script.{Script, line_says, fault_after, fault_of, refused_by, refused_in, in_line, faults_from, unless, denoted_by, Adds, WantsMemory}
 
 -- the faults of lines and of those after them
