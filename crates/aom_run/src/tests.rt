@@ -87,7 +87,10 @@ fn requests_are_refused_in_the_order_of_the_text(rt: HostRuntime) -> Result<(), 
         (b"\trefuse\t 7\r\n\nrefuse 2\r\nrefuse 7 ", &[7, 2, 7]),
         (b"\r\n\nrefuse 4294967295\nrefuse 0010", &[4294967295, 10]),
     ] {
-        assert_eq!(rt; refused(alloc, text), Some(Vec::from_slice(alloc, numbers)?));
+        assert_eq!(rt;
+            refused(alloc, text),
+            Some(Vec::from_slice(alloc, numbers)?)
+        );
     }
     Ok(())
 }
@@ -122,7 +125,11 @@ fn a_refused_request_has_a_number(rt: HostRuntime) -> Result<(), Fail> {
         (b"refuse +1", 1, ScriptFaultKind::BadNumber),
         (b"refuse 1x\nword", 1, ScriptFaultKind::BadNumber),
         (b"refuse 0", 1, ScriptFaultKind::LimitPassed),
-        (b"refuse 1\nrefuse 4294967296", 2, ScriptFaultKind::LimitPassed),
+        (
+            b"refuse 1\nrefuse 4294967296",
+            2,
+            ScriptFaultKind::LimitPassed,
+        ),
         (b"refuse -1", 1, ScriptFaultKind::LimitPassed),
         (b"refuse -0", 1, ScriptFaultKind::LimitPassed),
         (
