@@ -1,5 +1,5 @@
--- What is known of an outcome and of the image is what the status answers.
-use Rattle.std.proofs.Common.{◌≡◌, List, ℕ, Ok, refl, sym, subst, inl, inr}
+-- What is known of an outcome, of a script and of the image is what the status answers.
+use Rattle.std.proofs.Common.{◌≡◌, ◌∙◌, List, ℕ, Ok, Err, refl, sym, subst, inl, inr}
 use Rattle.aom_image.specs.Image.{Image}
 use Rattle.aom_classes.specs.Admitted.{IsAdmitted}
 use Rattle.aom_classes.specs.Linked.{IsLinked}
@@ -8,12 +8,18 @@ use Rattle.aom_budget.specs.Depths.{DepthsWithin}
 use Rattle.aom_sound.specs.Laws.{LinkedIsWired, TypedIsSound}
 use Rattle.aom_exec.specs.declared.progress.Outcome.{Outcome}
 use Rattle.aom_exec.specs.declared.progress.Outcome.TheVariants.{Stopped, Waiting, WriteFault}
-use Rattle.aom_run.specs.Script.{Script, denoted}
+use Rattle.aom_run.specs.Script.{Script, denoted, Refuses}
+use Rattle.aom_run.specs.declared.fault.ScriptFault.{ScriptFault}
+use Rattle.aom_run.specs.declared.fault.ScriptFaultKind.{ScriptFaultKind}
+use Rattle.aom_run.specs.declared.fault.ScriptFaultKind.TheVariants as kinds
 use Rattle.aom_main.specs.declared.status.ExitStatus.{ExitStatus}
+use Rattle.aom_main.specs.declared.faults.Fault.{Fault}
 use Rattle.aom_main.specs.declared.faults.Fault.TheVariants.{Write}
+use Rattle.aom_main.specs.declared.faults.Fault.TheVariants as faults
+use Rattle.aom_main.specs.Status.{of_script, of_script_kind}
 use Rattle.aom_main.specs.Acceptable.{IsSpelled}
-use Rattle.aom_main.specs.Headline.{Sent, Told, Shows, Ends, Runs, RunAnswers}
-use Rattle.aom_main.specs.Headline.RunBreaks.{output_fails}
+use Rattle.aom_main.specs.Headline.{Sent, IsSilent, Told, Shows, Accepts, Ends, Runs, RunAnswers}
+use Rattle.aom_main.specs.Headline.RunBreaks.{output_fails, wants_memory}
 
 -- a run of a linked image that has a typing
 abbrev pub runs_of : (bytes text : List ℕ) (p : Image) (script : Script) → IsLinked p → IsAdmitted p → (t : Typing) × IsTyped p t → DepthsWithin p → LinkedIsWired → TypedIsSound
@@ -40,3 +46,50 @@ pub ran : (bytes text : List ℕ) (r : Runs bytes text) (out errors : Sent) (out
 ran bytes text r out errors Stopped status shows ends = subst (RunAnswers bytes text out errors) (sym ends.0) (r, shows, ends.1)
 ran bytes text r out errors Waiting status shows ends = subst (RunAnswers bytes text out errors) (sym ends.0) (r, shows, ends.1)
 ran bytes text r out errors WriteFault status shows ends = breaks bytes text r out errors status shows ends
+
+-- ---- a text that is no script
+
+-- only want of memory is not a fault of the text
+faulty : (text : List ℕ) (fault : ScriptFault) → Refuses text fault → (fault.kind ≡ kinds.OutOfMemory → ⊥) → denoted text ≡ Err fault
+faulty text fault (inl denotes) other = denotes
+faulty text fault (inr wants) other = absurd (other wants.kind)
+
+-- a fault of the text is told, or there is no memory for its line
+refused : (bytes text : List ℕ) (fault : ScriptFault) (out errors : Sent) (status : ExitStatus) → Accepts bytes → denoted text ≡ Err fault → IsSilent out
+    → Told (faults.Script fault) status errors → RunAnswers bytes text out errors status
+refused bytes text fault out errors status accepts denotes silent (inl told) = subst (RunAnswers bytes text out errors) (sym told.0) (record { silent = silent; accepts = accepts; fault = fault; denotes = denotes; tells = told.1 })
+refused bytes text fault out errors status accepts denotes silent (inr told) = subst (RunAnswers bytes text out errors) (sym told.0) (wants_memory silent told.1)
+
+-- want of memory is told
+wanting : (bytes text : List ℕ) (out errors : Sent) (status : ExitStatus) → IsSilent out → Told faults.Memory status errors → RunAnswers bytes text out errors status
+wanting bytes text out errors status silent (inl told) = subst (RunAnswers bytes text out errors) (sym told.0) (wants_memory silent told.1)
+wanting bytes text out errors status silent (inr told) = subst (RunAnswers bytes text out errors) (sym told.0) (wants_memory silent told.1)
+
+of_kind : (bytes text : List ℕ) (fault : ScriptFault) (out errors : Sent) (status : ExitStatus) (kind : ScriptFaultKind) → fault.kind ≡ kind → Accepts bytes → Refuses text fault → IsSilent out
+    → Told (of_script_kind fault kind) status errors → RunAnswers bytes text out errors status
+of_kind bytes text fault out errors status kinds.OutOfMemory is accepts refuses silent told = wanting bytes text out errors status silent told
+of_kind bytes text fault out errors status kinds.NotAscii is accepts refuses silent told = refused bytes text fault out errors status accepts (faulty text fault refuses (λ e. apart (sym is ∙ e))) silent told
+  where
+    apart : kinds.NotAscii ≡ kinds.OutOfMemory → ⊥
+    apart e = cc
+of_kind bytes text fault out errors status kinds.BadLine is accepts refuses silent told = refused bytes text fault out errors status accepts (faulty text fault refuses (λ e. apart (sym is ∙ e))) silent told
+  where
+    apart : kinds.BadLine ≡ kinds.OutOfMemory → ⊥
+    apart e = cc
+of_kind bytes text fault out errors status kinds.BadNumber is accepts refuses silent told = refused bytes text fault out errors status accepts (faulty text fault refuses (λ e. apart (sym is ∙ e))) silent told
+  where
+    apart : kinds.BadNumber ≡ kinds.OutOfMemory → ⊥
+    apart e = cc
+of_kind bytes text fault out errors status kinds.TimeBack is accepts refuses silent told = refused bytes text fault out errors status accepts (faulty text fault refuses (λ e. apart (sym is ∙ e))) silent told
+  where
+    apart : kinds.TimeBack ≡ kinds.OutOfMemory → ⊥
+    apart e = cc
+of_kind bytes text fault out errors status kinds.LimitPassed is accepts refuses silent told = refused bytes text fault out errors status accepts (faulty text fault refuses (λ e. apart (sym is ∙ e))) silent told
+  where
+    apart : kinds.LimitPassed ≡ kinds.OutOfMemory → ⊥
+    apart e = cc
+
+-- what is told of a text that is no script, or that there was no memory for
+pub unscripted : (bytes text : List ℕ) (fault : ScriptFault) (line : Fault) (out errors : Sent) (status : ExitStatus) → Accepts bytes → Refuses text fault → IsSilent out
+    → line ≡ of_script fault → Told line status errors → RunAnswers bytes text out errors status
+unscripted bytes text fault line out errors status accepts refuses silent is told = of_kind bytes text fault out errors status fault.kind refl accepts refuses silent (subst (λ f. Told f status errors) is told)

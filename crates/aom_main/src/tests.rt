@@ -244,6 +244,9 @@ fn a_script_may_be_refused(rt: HostRuntime) -> Result<(), Fail> {
     for (script, line) in [
         ("x".as_bytes(), "script 1 2\n"),
         (b"\n\n \x01\n", "script 3 1\n"),
+        (b"refuse 1\nrefuse", "script 2 2\n"),
+        (b"refuse x", "script 1 3\n"),
+        (b"refuse 1\n\nrefuse 0", "script 3 5\n"),
     ] {
         let refused = answer_of(alloc, ExitStatus::CallRefused, "", line)?;
         assert_eq!(rt; runs(alloc, &FIRST, script, 100), refused);

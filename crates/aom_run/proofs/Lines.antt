@@ -1,76 +1,82 @@
--- The lines of a text and the words of a line, by where the first line feed is and whether all bytes are blanks.
-use Rattle.std.proofs.Common.{◌≡◌, ℕ, ◌+◌, ◌-◌, ◌<◌, ◌==◌, ◌&&◌, Bool, true, false, not, cond, nat_lt, List, [], ◌∷◌, Some, None, length, take, drop, refl, sym, ap, subst, ◌∙◌, arith, rules, tests}
-use Rattle.std.specs.List.{filter, slice_split, onto_first, list_all, position, position_or_len, before_first, after_first}
-use Rattle.std.proofs.lemmas.Grind.{common_steps}
-use Rattle.std.proofs.lemmas.List.{take_rest}
-use Rattle.std.proofs.lemmas.List.Splits.{slice_split_first}
-use Rattle.aom_run.specs.Script.{is_blank, has_bytes, words, true_lines, lines_of}
+-- What lines denote, by the lines that are read and the next one.
+use Rattle.std.proofs.Common.{◌≡◌, ◌⊎◌, ◌∙◌, ℕ, ◌+◌, ◌≤◌, nat_le, Bool, true, false, List, [], ◌∷◌, ◌++◌, length, length-append, append-nil, append_assoc, None, Result, Ok, Err, inl, inr, refl, sym, ap, arith, rules, tests}
+use Rattle.std.proofs.lemmas.Grind.{flat_map-append}
+use Rattle.aom_run.specs.declared.fault.ScriptFaultKind.{ScriptFaultKind}
+use Rattle.aom_run.specs.declared.line.ScriptLine.{ScriptLine}
+use Rattle.aom_run.specs.Script.{Script, line_says, fault_after, fault_of, refused_by, refused_in, in_line, faults_from, unless, denoted_by, Adds, WantsMemory}
 
-abbrev is_feed : ℕ → Bool
-is_feed b = b == 10
+-- the faults of lines and of those after them
+faults_append : (n : ℕ) (xs ys : List (List ℕ)) → faults_from n (xs ++ ys) ≡ faults_from n xs ++ faults_from (n + length xs) ys
+faults_append n [] ys = ap (λ k. faults_from k ys) (omega arith)
+faults_append n (x ∷ xs) ys =
+    let on : (n + 1) + length xs ≡ n + length (x ∷ xs) = omega arith in
+    ap (λ fs. in_line n (fault_of n x) ++ fs) (faults_append (n + 1) xs ys ∙ ap (λ k. faults_from (n + 1) xs ++ faults_from k ys) on)
+    ∙ sym (append_assoc (in_line n (fault_of n x)) (faults_from (n + 1) xs) (faults_from (n + length (x ∷ xs)) ys))
 
--- what a list of parts begins with
-pub record Parts (parts : List (List ℕ)) : Type 0 where
-  pub part : List ℕ
-  pub more : List (List ℕ)
-  pub is : parts ≡ part ∷ more
+-- some lines are read, and none of them is faulty
+pub record SoFar (lines rest : List (List ℕ)) (count : ℕ) (script : Script) : Type 0 where
+  pub before : List (List ℕ)
+  pub parts : lines ≡ before ++ rest
+  pub counted : length before ≡ count
+  pub faultless : faults_from 1 before ≡ []
+  pub refused : script.refused ≡ refused_in before
 
--- a list is cut into one part at least
-has_parts : (p : ℕ → Bool) (bs : List ℕ) → Parts (slice_split p bs)
-has_parts p [] = record { part = []; more = []; is = refl }
-has_parts p (b ∷ bs) =
-    elim (p b) as (λ t. Parts (cond t ([] ∷ slice_split p bs) (onto_first b (slice_split p bs)))) [
-      | true ↦ record { part = []; more = slice_split p bs; is = refl }
-      | false ↦ let rest = has_parts p bs in record { part = b ∷ rest.part; more = rest.more; is = ap (onto_first b) rest.is }
-    ]
+pub starts : (lines : List (List ℕ)) (script : Script) → script.refused ≡ [] → SoFar lines lines 0 script
+starts lines script empty = record { before = []; parts = refl; counted = refl; faultless = refl; refused = empty }
 
--- a part before others is a line
-one_more : (part : List ℕ) (parts : List (List ℕ)) → Parts parts → true_lines (part ∷ parts) ≡ part ∷ true_lines parts
-one_more part parts h = subst (λ ps. true_lines (part ∷ ps) ≡ part ∷ true_lines ps) (sym h.is) refl
+-- the faults from the line at hand on
+at_hand : (lines later : List (List ℕ)) (line : List ℕ) (count : ℕ) (script : Script) → SoFar lines (line ∷ later) count script → faults_from 1 lines ≡ in_line (count + 1) (fault_of (count + 1) line) ++ faults_from ((count + 1) + 1) later
+at_hand lines later line count script s =
+    let next : 1 + length s.before ≡ count + 1 = let counted = s.counted in omega arith in
+    ap (faults_from 1) s.parts ∙ faults_append 1 s.before (line ∷ later) ∙ ap (λ fs. fs ++ faults_from (1 + length s.before) (line ∷ later)) s.faultless ∙ ap (λ k. faults_from k (line ∷ later)) next
 
--- where a place is chosen, it is the one that the test was for
-chosen : (t : Bool) (n i : ℕ) → cond t (Some n) None ≡ Some i → (t ≡ true) × (n ≡ i)
-chosen true n i is = (refl, cc)
-chosen false n i is = absurd cc
+-- there is one line more
+pub goes_on : (lines later : List (List ℕ)) (line : List ℕ) (count : ℕ) (script new : Script) → SoFar lines (line ∷ later) count script → Adds (count + 1) line script new (Ok tt) → SoFar lines later (count + 1) new
+goes_on lines later line count script new s added =
+    let next : 1 + length s.before ≡ count + 1 = let counted = s.counted in omega arith in
+    record {
+      before = s.before ++ line ∷ [];
+      parts = s.parts ∙ sym (append_assoc s.before (line ∷ []) later);
+      counted = length-append s.before (line ∷ []) ∙ ap (λ k. k + 1) s.counted;
+      faultless = faults_append 1 s.before (line ∷ []) ∙ ap (λ fs. fs ++ faults_from (1 + length s.before) (line ∷ [])) s.faultless ∙ ap (λ k. faults_from k (line ∷ [])) next ∙ ap (λ f. in_line (count + 1) f ++ []) added.0;
+      refused = added.1 ∙ ap (λ ns. ns ++ refused_by (line_says line)) s.refused ∙ ap (λ ns. refused_in s.before ++ ns) (sym (append-nil (refused_by (line_says line)))) ∙ sym (flat_map-append (λ l. refused_by (line_says l)) s.before (line ∷ []));
+    }
 
-not_chosen : (t : Bool) (n : ℕ) → cond t (Some n) None ≡ None → t ≡ false
-not_chosen true n is = absurd cc
-not_chosen false n is = refl
+-- all lines are read
+pub ends : (lines : List (List ℕ)) (count : ℕ) (script : Script) → SoFar lines [] count script → denoted_by lines ≡ Ok script
+ends lines count script s =
+    let all : lines ≡ s.before = s.parts ∙ append-nil s.before in
+    ap denoted_by all ∙ ap (λ fs. unless fs (record { refused = refused_in s.before })) s.faultless ∙ ap (λ ns. Ok (record { refused = ns })) (sym s.refused)
 
-pub lines_first : (bs : List ℕ) (i : ℕ) → position (λ b. b == 10) bs ≡ Some i → lines_of bs ≡ take i bs ∷ lines_of (take (length bs - (i + 1)) (drop (i + 1) bs))
-lines_first bs i is =
-    let at = chosen (nat_lt (position_or_len is_feed bs) (length bs)) (position_or_len is_feed bs) i is in
-    let within : position_or_len is_feed bs < length bs = search (rules, tests, at.0) in
-    let cut = slice_split_first is_feed bs 0 within in
-    ap true_lines cut ∙ one_more (before_first is_feed bs) (slice_split is_feed (after_first is_feed bs)) (has_parts is_feed (after_first is_feed bs))
-    ∙ ap (λ n. take n bs ∷ lines_of (drop (n + 1) bs)) at.1
-    ∙ ap (λ (rest : List ℕ). take i bs ∷ lines_of rest) (sym (take_rest bs (i + 1)))
+-- the line at hand is not taken
+pub stops : (lines later : List (List ℕ)) (line : List ℕ) (count : ℕ) (script new : Script) (kind : ScriptFaultKind) → SoFar lines (line ∷ later) count script → Adds (count + 1) line script new (Err kind)
+    → (denoted_by lines ≡ Err (record { line = count + 1; kind = kind })) ⊎ WantsMemory lines (record { line = count + 1; kind = kind })
+stops lines later line count script new kind s (inl faulty) = inl (ap (λ fs. unless fs (record { refused = refused_in lines })) (at_hand lines later line count script s ∙ ap (λ f. in_line (count + 1) f ++ faults_from ((count + 1) + 1) later) faulty))
+stops lines later line count script new kind s (inr wants) =
+    inr (record {
+      kind = wants.0;
+      before = s.before;
+      line = line;
+      later = later;
+      parts = s.parts;
+      at = ap (λ k. k + 1) (sym s.counted);
+      faultless = s.faultless;
+      fault_free = wants.1;
+      request = wants.2.0;
+      refuses = wants.2.1;
+    })
 
--- a text without line feeds is one part
-one_part : (bs : List ℕ) → nat_lt (position_or_len is_feed bs) (length bs) ≡ false → slice_split is_feed bs ≡ bs ∷ []
-one_part [] h = refl
-one_part (b ∷ bs) h =
-    elim (is_feed b) as (λ t. nat_lt (cond (not t) (1 + position_or_len is_feed bs) 0) (length (b ∷ bs)) ≡ false → cond t ([] ∷ slice_split is_feed bs) (onto_first b (slice_split is_feed bs)) ≡ (b ∷ bs) ∷ []) [
-      | true ↦ λ past. absurd (grind (arith, common_steps))
-      | false ↦ λ past. ap (onto_first b) (one_part bs (grind (arith, common_steps)))
-    ] h
+-- no line has a number above the limit
+few_after : (number : ℕ) (said : Result ScriptLine ScriptFaultKind) → fault_after number said ≡ None → number ≤ 65536
+few_after number (Ok said) is = within (nat_le number 65536) refl is
+  where
+    within : (t : Bool) → nat_le number 65536 ≡ t → fault_after number (Ok said) ≡ None → number ≤ 65536
+    within true e is = search (rules, tests, e)
+    within false e is = absurd (apart e is)
+      where
+        apart : nat_le number 65536 ≡ false → fault_after number (Ok said) ≡ None → ⊥
+        apart e is = cc
+few_after number (Err kind) is = absurd cc
 
-pub lines_only : (bs : List ℕ) → position (λ b. b == 10) bs ≡ None → 0 < length bs → lines_of bs ≡ bs ∷ []
-lines_only [] is some = absurd (omega arith)
-lines_only (b ∷ bs) is some = ap true_lines (one_part (b ∷ bs) (not_chosen _ _ is))
-
-pub words_none : (line : List ℕ) → list_all is_blank line ≡ true → words line ≡ []
-words_none [] h = refl
-words_none (b ∷ bs) h =
-    elim (is_blank b) as (λ t. (t && list_all is_blank bs) ≡ true → filter has_bytes (cond t ([] ∷ slice_split is_blank bs) (onto_first b (slice_split is_blank bs))) ≡ []) [
-      | true ↦ λ all. words_none bs all
-      | false ↦ λ all. absurd cc
-    ] h
-
-pub words_some : (line : List ℕ) → list_all is_blank line ≡ false → Parts (words line)
-words_some [] h = absurd cc
-words_some (b ∷ bs) h =
-    elim (is_blank b) as (λ t. (t && list_all is_blank bs) ≡ false → Parts (filter has_bytes (cond t ([] ∷ slice_split is_blank bs) (onto_first b (slice_split is_blank bs))))) [
-      | true ↦ λ all. let rest = words_some bs all in record { part = rest.part; more = rest.more; is = rest.is }
-      | false ↦ λ all. let rest = has_parts is_blank bs in record { part = b ∷ rest.part; more = filter has_bytes rest.more; is = ap (λ ps. filter has_bytes (onto_first b ps)) rest.is }
-    ] h
+pub few : (number : ℕ) (line : List ℕ) (old new : Script) → Adds number line old new (Ok tt) → number ≤ 65536
+few number line old new added = few_after number (line_says line) added.0

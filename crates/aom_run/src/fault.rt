@@ -1,7 +1,9 @@
 //! Why a script is refused.
 ghost use Rattle.std.specs.Prelude.{◌≡◌};
 ghost use Rattle.aom_run.specs.Faults.{number_of};
+ghost use Rattle.aom_run.specs.declared.fault.ScriptFaultKind.TheVariants.{OutOfMemory};
 
+use std::alloc::AllocFailed;
 use std::fmt;
 
 /// What is wrong with a line. Of several the first here is told.
@@ -17,6 +19,7 @@ pub enum ScriptFaultKind {
     TimeBack,
     /// A number out of its range, a line too many, or a text too long.
     LimitPassed,
+    /// No memory for what the line says. The line itself is none of the faulty ones.
     OutOfMemory,
 }
 
@@ -57,3 +60,11 @@ impl fmt::Display for ScriptFault {
 }
 
 impl std::error::Error for ScriptFault {}
+
+impl<T: Drop> From<AllocFailed<T>> for ScriptFaultKind {
+    ghost from_gives = { λ _ e. e ≡ OutOfMemory };
+
+    fn from(_failed: AllocFailed<T>) -> ScriptFaultKind {
+        ScriptFaultKind::OutOfMemory
+    }
+}

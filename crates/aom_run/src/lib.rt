@@ -7,6 +7,7 @@
 #![tactic(auto)]
 
 mod fault;
+mod line;
 mod runs;
 mod script;
 mod sink;

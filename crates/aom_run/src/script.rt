@@ -1,11 +1,12 @@
 //! A script, and how its text is read.
-ghost use Rattle.std.specs.Prelude.{◌≡◌, ◌+◌, ◌<◌, ◌≤◌, ◌∷◌, ◌==◌, length};
-ghost use Rattle.std.specs.List.{list_all, position};
-ghost use Rattle.aom_run.specs.Script.{is_blank, is_text, words, lines_of, with_line, with_lines, with_words, denoted, no_lines};
+ghost use Rattle.std.specs.Prelude.{◌≡◌, ◌⊎◌, [], IfOk, IfErr, Ok, Err};
+ghost use Rattle.aom_text.specs.Text.{lines_of};
+ghost use Rattle.aom_run.specs.Script.{denoted, denoted_by, Adds, Refuses, WantsMemory};
 
+use crate::line::{ScriptLine, read_line};
 use crate::{ScriptFault, ScriptFaultKind};
-use aom_image::Items;
-use std::alloc::Global;
+use aom_text::split_line;
+use std::alloc::{AllocError, Global};
 use std::marker::Model;
 
 /// The most bytes of a script's text.
@@ -17,7 +18,7 @@ const MOST_LINES: u32 = 65536;
 /// What a script says.
 #[derive(Drop)]
 pub struct Script {
-    refused: Items<u32>,
+    refused: Vec<u32>,
 }
 
 impl Model for Script {
@@ -25,7 +26,7 @@ impl Model for Script {
 
     ghost Value = { ScriptRecord };
 
-    ghost view = { λ s. record { refused = s.refused } };
+    ghost view = { λ s. record { refused = s.refused.items } };
 }
 
 impl Script {
@@ -37,17 +38,32 @@ impl Script {
     }
 
     fn empty(alloc: Global) -> Script
-        ensures { result ≡ no_lines }
+        ensures { result.refused ≡ [] }
     {
         Script {
-            refused: Items::from_vec(Vec::new(alloc)),
+            refused: Vec::new(alloc),
         }
+    }
+
+    /// Adds what the line of that number says.
+    fn add(&mut self, number: u32, line: &[u8]) -> Result<(), ScriptFaultKind>
+        ensures { Adds number line.now self.old self.new result }
+    {
+        let said = read_line(line)?;
+        if number > MOST_LINES {
+            return Err(ScriptFaultKind::LimitPassed);
+        }
+        if let ScriptLine::Refuse(request) = said {
+            self.refused.push(request)?;
+        }
+        Ok(())
     }
 }
 
 /// Reads a script.
 pub fn read_script(alloc: Global, text: &[u8]) -> Result<Script, ScriptFault>
-    ensures { result ≡ denoted text.now }
+    ensures ok { IfOk result (λ script. denoted text.now ≡ Ok script) }
+    ensures err { IfErr result (λ fault. Refuses text.now fault) }
 {
     if text.len() > MOST_BYTES {
         return Err(ScriptFault {
@@ -55,91 +71,24 @@ pub fn read_script(alloc: Global, text: &[u8]) -> Result<Script, ScriptFault>
             kind: ScriptFaultKind::LimitPassed,
         });
     }
-    read_lines(Script::empty(alloc), text)
+    read_lines(alloc, text)
 }
 
-/// Reads the lines of a text into a script.
-fn read_lines(mut script: Script, text: &[u8]) -> Result<Script, ScriptFault>
-    ensures { result ≡ with_lines 1 script (lines_of text.now) }
+/// Reads the lines of a text.
+fn read_lines(alloc: Global, text: &[u8]) -> Result<Script, ScriptFault>
+    ensures ok { IfOk result (λ script. denoted_by (lines_of text.now) ≡ Ok script) }
+    ensures err { IfErr result (λ fault. (denoted_by (lines_of text.now) ≡ Err fault) ⊎ WantsMemory (lines_of text.now) fault) }
 {
+    let mut script = Script::empty(alloc);
     let mut rest = text;
     let mut count = 0;
     while !rest.is_empty() {
         let (line, after) = split_line(rest);
         count += 1;
-        match read_line(count, script, line) {
-            Ok(more) => script = more,
+        match script.add(count, line) {
+            Ok(()) => rest = after,
             Err(kind) => return Err(ScriptFault { line: count, kind }),
         }
-        rest = after;
     }
     Ok(script)
-}
-
-/// A text's first line, without its line feed, and what comes after it.
-fn split_line(text: &[u8]) -> (&[u8], &[u8])
-    requires { 0 < length text.now }
-    ensures line { lines_of text.now ≡ result.0.now ∷ lines_of result.1.now }
-    ensures shorter { length result.1.now < length text.now }
-{
-    match find_feed(text) {
-        Some(end) => (&text[..end], &text[end + 1..]),
-        None => (text, &[]),
-    }
-}
-
-/// Adds what a line says to a script.
-fn read_line(number: u32, script: Script, line: &[u8]) -> Result<Script, ScriptFaultKind>
-    ensures { result ≡ with_line number script line.now }
-{
-    if !is_text_line(line) {
-        return Err(ScriptFaultKind::NotAscii);
-    }
-    let script = read_words(script, line)?;
-    if number > MOST_LINES {
-        return Err(ScriptFaultKind::LimitPassed);
-    }
-    Ok(script)
-}
-
-/// Adds what the words of a line say to a script.
-fn read_words(script: Script, line: &[u8]) -> Result<Script, ScriptFaultKind>
-    ensures { result ≡ with_words script (words line.now) }
-{
-    if is_blank_line(line) {
-        Ok(script)
-    } else {
-        Err(ScriptFaultKind::BadLine)
-    }
-}
-
-fn is_text(b: u8) -> bool
-    ensures { result ≡ is_text b }
-{
-    matches!(b, 32..=126) || is_blank(b)
-}
-
-fn is_blank(b: u8) -> bool
-    ensures { result ≡ is_blank b }
-{
-    matches!(b, b' ' | b'\t' | b'\r')
-}
-
-/// Where the first line feed is.
-fn find_feed(text: &[u8]) -> Option<usize>
-    ensures { result ≡ position (λ b. b == 10) text.now }
-{
-    text.iter().position(|b| *b == b'\n')
-}
-
-fn is_text_line(line: &[u8]) -> bool
-    ensures { result ≡ list_all is_text line.now }
-{
-    line.iter().all(|b| is_text(*b))
-}
-
-fn is_blank_line(line: &[u8]) -> bool
-    ensures { result ≡ list_all is_blank line.now }
-{
-    line.iter().all(|b| is_blank(*b))
 }

@@ -1,4 +1,4 @@
-//! The lowest layer of the assembly text: from bytes to statements, their words, numbers and names.
+//! The lowest layer of the texts: from bytes to lines, statements, their words, numbers and names.
 //!
 //! `Text` gives the statements of a text one after another, each with its line, and a statement gives its words.
 //! `specs/Text.antt` says which they are by splitting: into lines, at the comment's mark, at semicolons, at blanks.
@@ -14,7 +14,7 @@ mod word;
 pub use fault::{AsmFault, AsmFaultKind};
 pub use name::is_name;
 pub use number::Number;
-pub use text::{Statement, Text, last_line};
+pub use text::{Statement, Text, last_line, split_line};
 pub use word::{Words, is_text_word};
 
 #[cfg(test)]

@@ -194,7 +194,7 @@ fn open_line(number: u32, bytes: &[u8]) -> Line
 }
 
 /// A text's first line, without its line feed, and what comes after it.
-fn split_line(text: &[u8]) -> (&[u8], &[u8])
+pub fn split_line(text: &[u8]) -> (&[u8], &[u8])
     requires { 0 < length text.now }
     ensures line { lines_of text.now ≡ result.0.now ∷ lines_of result.1.now }
     ensures shorter { length result.1.now < length text.now }

@@ -210,3 +210,30 @@ fn calls_are_made_on_self_registers_and_fields(rt: HostRuntime) -> Result<(), Fa
         "@0 main\nout 12\ngone 0\ngone 1\nend stopped cells 0\n",
     )
 }
+
+/// Three requests, each with its number and the end of its cell where it is given.
+const REQUESTS: &str = "image cells 3 budget 100; class C plain
+method main main; new r0 C; jnull r0 A; const r3 1; print r3; delete r0
+A: new r1 C; jnull r1 B; const r3 2; print r3; delete r1
+B: new r2 C; jnull r2 D; const r3 3; print r3; delete r2
+D: stop; ret; end";
+
+#[test]
+fn a_refused_request_gives_null(rt: HostRuntime) -> Result<(), Fail> {
+    let alloc = rt.alloc();
+    let image = assembled(alloc, REQUESTS)?;
+    let (one, two, three) = ("out 1\ngone 0\n", "out 2\ngone 0\n", "out 3\ngone 0\n");
+    for (script, given) in [
+        ("", [one, two, three]),
+        ("refuse 4294967295", [one, two, three]),
+        ("refuse 2\n", [one, "", three]),
+        ("\nrefuse 3\r\n\trefuse 1 ", ["", two, ""]),
+        ("refuse 1\nrefuse 1\nrefuse 2\nrefuse 3", ["", "", ""]),
+    ] {
+        let [first, second, third] = given;
+        let text = format!(in alloc; "@0 main\n{first}{second}{third}end stopped cells 0\n")?;
+        let told = answer_of(alloc, ExitStatus::Done, text.as_str(), "")?;
+        assert_eq!(rt; runs(alloc, image.as_slice(), script.as_bytes(), 100), told);
+    }
+    Ok(())
+}

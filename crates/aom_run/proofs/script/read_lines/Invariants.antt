@@ -1,10 +1,11 @@
-use Rattle.std.proofs.Common.{◌≡◌, ◌≤◌, ◌+◌, length}
-use Rattle.aom_run.specs.Script.{with_lines, lines_of}
+use Rattle.std.proofs.Common.{◌≤◌, length}
+use Rattle.aom_text.specs.Text.{lines_of}
+use Rattle.aom_run.proofs.Lines.{SoFar}
 use Rattle.aom_run.proofs.script.read_lines.Given as goal
 
 abbrev pub invariant-loop-rest : goal.invariant-loop-rest
 invariant-loop-rest l = record {
-  same : with_lines 1 l.fn.script (lines_of l.fn.text) ≡ with_lines (l.count + 1) l.script (lines_of l.rest);
+  so_far : SoFar (lines_of l.fn.text) (lines_of l.rest) l.count l.script;
   few : l.count ≤ 65536;
 }
 

@@ -1,0 +1,15 @@
+-- The lines that are read are those before what is left.
+use Rattle.std.proofs.Common.{subst}
+use Rattle.aom_text.specs.Text.{lines_of}
+use Rattle.aom_run.proofs.Lines.{SoFar, stops, goes_on, few}
+use Rattle.aom_run.proofs.script.read_lines.Goals as goal
+
+pub returns-in-Err-clause-err : goal.returns-in-Err-clause-err
+returns-in-Err-clause-err c =
+    let at_hand = subst (λ ls. SoFar (lines_of c.args.text.now) ls c.loop-rest.count c.loop-rest.script) c.split_line.ensures.line c.loop-rest.invariant.so_far in
+    stops _ _ _ _ _ c.add.new.self c.in-Err.kind at_hand c.in-Err.ensures
+
+pub loop-rest-preserved : goal.loop-rest-preserved
+loop-rest-preserved c =
+    let at_hand = subst (λ ls. SoFar (lines_of c.args.text.now) ls c.loop-rest.count c.loop-rest.script) c.split_line.ensures.line c.loop-rest.invariant.so_far in
+    record { so_far = goes_on _ _ _ _ _ _ at_hand c.in-Ok.ensures; few = few _ c.split_line.result.0.now c.loop-rest.script c.add.new.self c.in-Ok.ensures }

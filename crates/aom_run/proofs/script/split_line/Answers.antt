@@ -1,9 +1,0 @@
-use Rattle.std.proofs.Common.{sym}
-use Rattle.aom_run.proofs.Lines.{lines_first, lines_only}
-use Rattle.aom_run.proofs.script.split_line.Goals as goal
-
-pub returns-in-Some-clause-line : goal.returns-in-Some-clause-line
-returns-in-Some-clause-line c = lines_first _ _ (sym c.in-Some.ensures)
-
-pub returns-in-None-clause-line : goal.returns-in-None-clause-line
-returns-in-None-clause-line c = lines_only _ (sym c.in-None.ensures) c.requires
