@@ -38,12 +38,18 @@ some_mark (Object n ∷ is) marked = absurd marked
 some_mark (Operation m w ∷ is) marked = absurd marked
 some_mark (Mark ∷ is) marked = omega arith
 
--- an entry is last, or not
+-- an entry is last, or not, and never both
 pub not_above : (is : List Item) → (IsAboveMark is → ⊥) → IsNotAboveMark is
 not_above [] none = tt
 not_above (Object n ∷ is) none = none tt
 not_above (Operation m w ∷ is) none = none tt
 not_above (Mark ∷ is) none = tt
+
+pub not_both : (is : List Item) → IsAboveMark is → IsNotAboveMark is → ⊥
+not_both [] above bare = above
+not_both (Object n ∷ is) above bare = bare
+not_both (Operation m w ∷ is) above bare = bare
+not_both (Mark ∷ is) above bare = above
 
 -- where no entry is last and there is a mark, a mark is last
 pub mark_is_last : (is : List Item) → IsNotAboveMark is → 0 < marks_in is → IsMarked is

@@ -32,7 +32,7 @@ entry_popped i is k = elim (cases_Bool (length is == k)) [
   | inr other ↦ sym (ap (λ b. cond b null (cond b (owned_by i) (entry_in is k))) other)
 ]
 
--- the item so far below the last stands over those that are left
+-- the item that lies so many below the last stands over those that are left
 pub entry_from_top : (is : List Item) (k n : ℕ) (i : Item) → item_at is k ≡ Some i → n + suc k ≡ length is → entry_in is n ≡ owned_by i
 entry_from_top [] k n i found left = absurd (omega (arith, left))
 entry_from_top (j ∷ is) zero n i found left =

@@ -15,7 +15,7 @@ IsEntry (Object n) = Unit {0}
 IsEntry (Operation m w) = Unit {0}
 IsEntry Mark = ⊥
 
--- how many items are no marks
+-- how many items are entries, and how many are marks
 abbrev pub entries_in : List Item → ℕ
 entries_in [] = 0
 entries_in (Object n ∷ is) = suc (entries_in is)
@@ -51,7 +51,7 @@ abbrev pub IsNotAboveMark : List Item → Type 0
 IsNotAboveMark [] = Unit {0}
 IsNotAboveMark (i ∷ is) = IsMarked (i ∷ is)
 
--- the item so far below the last, which is 0
+-- the item that lies so many below the last
 abbrev pub item_at : List Item → ℕ → Option Item
 item_at is k = slice_get is k
 

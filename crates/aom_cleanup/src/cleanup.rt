@@ -11,7 +11,7 @@ use std::marker::Model;
 /// The items, with room for so many entries and for 256 marks.
 #[derive(Drop)]
 pub struct Cleanup {
-    /// The last on top.
+    /// In the order in which they were pushed.
     items: Box<ArrayVec<Item, 1280>>,
     depth: usize,
 }
@@ -28,7 +28,7 @@ impl Model for Cleanup {
 }
 
 impl Cleanup {
-    /// No item, and room for so many entries, at most 1,024.
+    /// No item, and room for so many entries, at most 1,024, and for 256 marks.
     pub fn with_depth(alloc: Global, depth: usize) -> Result<Cleanup, AllocError>
         requires { depth ≤ 1024 }
         ensures { IfOk result (λ c. c ≡ record { items = []; depth = depth }) }
@@ -95,7 +95,7 @@ impl Cleanup {
         !matches!(self.items.last(), None | Some(Item::Mark))
     }
 
-    /// The item so far below the last, which is 0.
+    /// The item that lies so many below the last, be it an entry or a mark.
     pub fn entry(&self, index: usize) -> Option<Item>
         ensures { result ≡ item_at self.now.items index }
     {
