@@ -38,7 +38,7 @@ calls_below p m s u pc k below h =
     let meets = below.each pc h.shape h.there in
     record { shape = meets.next; there = meets.there; instr = h.instr; stands = h.stands; calls = calls_more p m meets.next h.shape h.instr k meets.no_more h.calls }
 
-reached_within : (s : Shapes) (pc : ℕ) (sh : Shape) → at None s pc ≡ Some sh → pc < length s
+pub reached_within : (s : Shapes) (pc : ℕ) (sh : Shape) → at None s pc ≡ Some sh → pc < length s
 reached_within s pc sh e = elim (leb_tells (length s) pc) [
   | inl w ↦ let past = at_past None s pc w.1 in absurd cc
   | inr w ↦ omega (arith, w.1)

@@ -3,3 +3,7 @@ pub mod Greatest
 pub mod Raising
 pub mod Settled
 pub mod Examples
+pub mod Highest
+pub mod Climbing
+pub mod High
+pub mod Quiet

@@ -27,7 +27,7 @@ too_deep p m ds n h some g many = record { method = m; count = suc n; frames = f
 pub unraised : (p : Image) (m : ℕ) (ds : List ℕ) (n : ℕ) → Holds p ds → IsGreatest (MayCall p m) ds n → n < at 0 ds m → RaisesAt p ds ds m false
 unraised p m ds n h g less = record { holds = h; rose = (refl, record { less = λ k call. omega (arith, g.above k call, less) }) }
 
-at_cases : (P : ℕ → ℕ → Type 0) (ds : List ℕ) (m v i : ℕ) → m < length ds → P m v → (P i (at 0 ds i)) → P i (at 0 (slice_set ds m v) i)
+pub at_cases : (P : ℕ → ℕ → Type 0) (ds : List ℕ) (m v i : ℕ) → m < length ds → P m v → (P i (at 0 ds i)) → P i (at 0 (slice_set ds m v) i)
 at_cases P ds m v i within here other = elim (eqb_tells i m) [
   | inl w ↦ rw (w.1, at_set_here 0 ds m v within) here
   | inr w ↦ rw (at_set_other 0 ds m i v w.1) other

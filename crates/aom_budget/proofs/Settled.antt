@@ -9,9 +9,10 @@ use Rattle.aom_budget.specs.Calls.{MayCall}
 use Rattle.aom_budget.specs.Depths.{Frames, AreDepths, HasDepths, DepthsWithin}
 use Rattle.aom_budget.specs.Depths.Frames.{alone, calling}
 use Rattle.aom_budget.specs.Faults.{Refuses}
+use Rattle.aom_budget.specs.Heights.{HeightsWithin}
 use Rattle.aom_budget.specs.Tables.{Holds, IsSettled, Raises}
 use Rattle.aom_budget.specs.declared.fault.BudgetFault.{BudgetFault}
-use Rattle.aom_budget.specs.declared.fault.BudgetFault.TheVariants.{TooDeep, OutOfMemory}
+use Rattle.aom_budget.specs.declared.fault.BudgetFault.TheVariants.{TooDeep, CleanupTooDeep, OutOfMemory}
 
 caller : (p : Image) (m k : ℕ) → MayCall p m k → IsSome (method_at p m)
 caller p m k call = let w = of_method p m call.place call.calls.instr call.calls.stands in rw w.1 refl
@@ -42,7 +43,8 @@ settled p old ds n h e = are p ds h.holds (λ m below. h.rose.1 m (let same : le
 pub all_within : (p : Image) → HasDepths p → DepthsWithin p
 all_within p h = record { within = λ m n frames. omega (arith, (h.are.each m (lowest p m n frames)).most n frames, h.are.within m) }
 
--- an image within its depths is refused for want of memory alone
-pub only_memory : (p : Image) (fault : BudgetFault) → Refuses p fault → DepthsWithin p → fault ≡ OutOfMemory
-only_memory p TooDeep h within = absurd (omega (arith, within.within h.method h.count h.frames, h.many))
-only_memory p OutOfMemory h within = refl
+-- an image within its limits is refused for want of memory alone
+pub only_memory : (p : Image) (fault : BudgetFault) → Refuses p fault → DepthsWithin p → HeightsWithin p → fault ≡ OutOfMemory
+only_memory p TooDeep h within low = absurd (omega (arith, within.within h.method h.count h.frames, h.many))
+only_memory p CleanupTooDeep h within low = absurd (omega (arith, low.within h.1.method h.1.count h.1.heights, h.1.many))
+only_memory p OutOfMemory h within low = refl

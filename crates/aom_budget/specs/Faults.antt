@@ -1,14 +1,17 @@
 -- Why a checked image is not accepted.
 use Rattle.std.specs.Prelude.{ℕ}
 use Rattle.aom_image.specs.Image.{Image}
-use Rattle.aom_budget.specs.Depths.{IsTooDeep}
+use Rattle.aom_budget.specs.Depths.{DepthsWithin, IsTooDeep}
+use Rattle.aom_budget.specs.Heights.{IsTooHigh}
 use Rattle.aom_budget.specs.declared.fault.BudgetFault.{BudgetFault}
-use Rattle.aom_budget.specs.declared.fault.BudgetFault.TheVariants.{TooDeep, OutOfMemory}
+use Rattle.aom_budget.specs.declared.fault.BudgetFault.TheVariants.{TooDeep, CleanupTooDeep, OutOfMemory}
 
 unfoldable pub number_of : BudgetFault → ℕ
 number_of TooDeep = 2
+number_of CleanupTooDeep = 3
 number_of OutOfMemory = 4
 
 abbrev pub Refuses : Image → BudgetFault → Type 0
 Refuses p TooDeep = IsTooDeep p
+Refuses p CleanupTooDeep = DepthsWithin p × IsTooHigh p
 Refuses p OutOfMemory = Unit {0}

@@ -1,4 +1,6 @@
 pub mod Calls
 pub mod Depths
+pub mod Heights
 pub mod Faults
 pub mod Tables
+pub mod Rising

@@ -1,5 +1,5 @@
 //! The depths of the methods.
-ghost use Rattle.std.specs.Prelude.{◌≡◌, ◌≤◌, ◌<◌, ◌++◌, ◌⊎◌, length, replicate, slice_set, IfOk, IfErr, IsSome};
+ghost use Rattle.std.specs.Prelude.{◌≡◌, ◌<◌, ◌++◌, length, replicate, IfOk, IfErr, IsSome};
 ghost use Rattle.aom_image.specs.Views.{method_at};
 ghost use Rattle.aom_shape.specs.Tables.{at};
 ghost use Rattle.aom_verify.specs.Strongest.{IsMethodStrongest};
@@ -10,6 +10,7 @@ ghost use Rattle.aom_budget.specs.Tables.{IsGreatest, Holds, RaisesAt, Raises, I
 
 use crate::BudgetFault;
 use crate::callees::Callees;
+use crate::table::{Table, larger, number_at};
 use aom_classes::Linked;
 use aom_image::MethodNumber;
 use aom_shape::Shape;
@@ -23,7 +24,7 @@ const MOST_FRAMES: u16 = 256;
 /// For each method how many frames it may come to, as far as is known.
 #[derive(Drop)]
 pub(crate) struct Depths {
-    depths: Vec<u16>,
+    table: Table,
 }
 
 impl Model for Depths {
@@ -31,23 +32,7 @@ impl Model for Depths {
 
     ghost Value = { List ℕ };
 
-    ghost view = { λ d. d.depths.items };
-}
-
-/// The number of the method at an index.
-fn number_at(index: usize) -> MethodNumber
-    requires { index < 1024 }
-    ensures { result ≡ index }
-{
-    MethodNumber::new(index as u16).unwrap()
-}
-
-fn larger(one: u16, other: u16) -> u16
-    ensures one { one ≤ result }
-    ensures other { other ≤ result }
-    ensures either { (result ≡ one) ⊎ (result ≡ other) }
-{
-    if one < other { other } else { one }
+    ghost view = { λ d. d.table };
 }
 
 impl Depths {
@@ -55,34 +40,15 @@ impl Depths {
     fn new(alloc: Global, methods: usize) -> Result<Depths, AllocError>
         ensures { IfOk result (λ d. d ≡ replicate methods 1) }
     {
-        let depths = vec![in alloc; 1; methods]?;
-        Ok(Depths { depths })
-    }
-
-    /// What no method is has no frames.
-    fn of_method(&self, method: MethodNumber) -> u16
-        ensures { result ≡ at 0 self.now method }
-    {
-        let index = method.number() as usize;
-        if index < self.depths.len() {
-            self.depths[index]
-        } else {
-            0
-        }
-    }
-
-    fn set(&mut self, method: MethodNumber, depth: u16)
-        requires { method < length self.old }
-        ensures { self.new ≡ slice_set self.old method depth }
-    {
-        self.depths[method.number() as usize] = depth;
+        let table = Table::new(alloc, methods, 1)?;
+        Ok(Depths { table })
     }
 
     fn of_perhaps(&self, method: Option<MethodNumber>) -> u16
         ensures { IsGreatest (λ k. Among k (listed method)) self.now result }
     {
         match method {
-            Some(method) => self.of_method(method),
+            Some(method) => self.table.of_method(method),
             None => 0,
         }
     }
@@ -140,10 +106,10 @@ impl Depths {
         if below >= MOST_FRAMES {
             return Err(BudgetFault::TooDeep);
         }
-        if below < self.of_method(method) {
+        if below < self.table.of_method(method) {
             return Ok(false);
         }
-        self.set(method, below + 1);
+        self.table.set(method, below + 1);
         Ok(true)
     }
 

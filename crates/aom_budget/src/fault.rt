@@ -11,6 +11,9 @@ pub enum BudgetFault {
     /// A method may come to more than 256 frames.
     #[error("budget 2")]
     TooDeep,
+    /// A method may come to more than 1,024 cleanup entries.
+    #[error("budget 3")]
+    CleanupTooDeep,
     #[error("budget 4")]
     OutOfMemory,
 }
@@ -22,6 +25,7 @@ impl BudgetFault {
     {
         match self {
             BudgetFault::TooDeep => 2,
+            BudgetFault::CleanupTooDeep => 3,
             BudgetFault::OutOfMemory => 4,
         }
     }

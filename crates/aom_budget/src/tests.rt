@@ -1,4 +1,4 @@
-//! Images that are accepted, and one that may come too deep.
+//! Images that are accepted, and some that may come too deep.
 ghost use Rattle.std.specs.Prelude.{◌≤◌};
 
 use crate::accept;
@@ -75,6 +75,79 @@ fn chain_answer(alloc: Global, methods: u16) -> Answer
         Ok(bytes) => answer_of(alloc, bytes.as_slice()),
         Err(_) => Answer::NoMemory,
     }
+}
+
+/// The head of a static method that may leave, with so many instructions.
+fn leaving_head(length: u16) -> [u8; 24] {
+    let [high, low] = length.to_be_bytes();
+    [
+        0xff, 0xff, 0, 1, 0, 0, 0, 0, 0, 0, 0, 0, 0, 0, 0, 0, 0, 0, 0, 0, 0xff, 0xff, high, low,
+    ]
+}
+
+/// The head of an undo method of one instruction.
+const UNDO: [u8; 24] = [
+    0xff, 0xff, 9, 2, 0, 0, 1, 0, 0xff, 0xff, 0, 0, 0, 0, 0, 0, 0, 0, 0, 0, 0xff, 0xff, 0, 1,
+];
+
+/// A word comes to the first register.
+const CONST: [u8; 8] = [0x01, 0, 0, 0, 0, 0, 0, 0];
+
+/// The method of number 0 is pushed with the word of the first register.
+const PUSH: [u8; 8] = [0x1c, 0, 0, 0, 0, 0, 0, 0];
+
+const LEAVE: [u8; 8] = [0x23, 0, 0, 0, 0, 0, 0, 0];
+
+/// A trap of the method of number 1.
+const TRAP: [u8; 8] = [0x21, 0, 0, 0, 0, 0, 0, 1];
+
+/// So many operations are pushed.
+fn push_operations(bytes: &mut Vec<u8>, count: u16) -> Result<(), AllocError> {
+    bytes.extend_from_slice(&CONST)?;
+    for _ in 0..count {
+        bytes.extend_from_slice(&PUSH)?;
+    }
+    Ok(())
+}
+
+/// An image of an undo method, a method that pushes 512 operations, one that enters it over so many others, and main.
+fn tower(alloc: Global, entries: u16, entering: [u8; 8]) -> Result<Vec<u8>, AllocError>
+    requires { entries ≤ 1000 }
+{
+    let mut bytes = Vec::new(alloc);
+    bytes.extend_from_slice(&[0x41, 0x4f, 0x49, 0x4d, 0, 1, 0, 0, 0, 4])?;
+    bytes.extend_from_slice(&[0, 0, 0, 0, 0, 0, 0xff, 0xff, 0, 0, 0, 0, 4, 0])?;
+    bytes.extend_from_slice(&UNDO)?;
+    bytes.extend_from_slice(&RETURN)?;
+    bytes.extend_from_slice(&leaving_head(514))?;
+    push_operations(&mut bytes, 512)?;
+    bytes.extend_from_slice(&LEAVE)?;
+    bytes.extend_from_slice(&leaving_head(entries + 3))?;
+    push_operations(&mut bytes, entries)?;
+    bytes.extend_from_slice(&entering)?;
+    bytes.extend_from_slice(&LEAVE)?;
+    bytes.extend_from_slice(&head(1, 1))?;
+    bytes.extend_from_slice(&RETURN)?;
+    Ok(bytes)
+}
+
+/// What becomes of that tower; want of memory on the way is told as such.
+fn tower_answer(alloc: Global, entries: u16, entering: [u8; 8]) -> Answer
+    requires { entries ≤ 1000 }
+{
+    match tower(alloc, entries, entering) {
+        Ok(bytes) => answer_of(alloc, bytes.as_slice()),
+        Err(_) => Answer::NoMemory,
+    }
+}
+
+/// With memory enough: 1,024 entries over a call or a trap, and none more.
+#[test]
+fn as_many_entries_as_have_room(rt: HostRuntime) {
+    assert!(rt; tower_answer(rt.alloc(), 512, call(1)) == Answer::Accepted);
+    assert!(rt; tower_answer(rt.alloc(), 513, call(1)) == Answer::Refused(3));
+    assert!(rt; tower_answer(rt.alloc(), 512, TRAP) == Answer::Accepted);
+    assert!(rt; tower_answer(rt.alloc(), 513, TRAP) == Answer::Refused(3));
 }
 
 /// With memory enough: a frame for each method, and no more than there are.

@@ -1,5 +1,5 @@
 -- What an image may have so far.
-use Rattle.std.specs.Prelude.{ℕ, Bool, true, false, not, ◌&&◌, nat_eq, List, IfSome, IsTrue, slice_get}
+use Rattle.std.specs.Prelude.{ℕ, Bool, true, false, ◌&&◌, nat_eq, List, IfSome, IsTrue, slice_get}
 use Rattle.std.specs.List.{list_all}
 use Rattle.aom_image.specs.Image.{Image}
 use Rattle.aom_image.specs.declared.class.ClassDecl.{ClassDecl}
@@ -8,25 +8,15 @@ use Rattle.aom_image.specs.declared.class.ClassKind.TheVariants.{Plain}
 use Rattle.aom_image.specs.declared.image.Header.{Header}
 use Rattle.aom_image.specs.declared.instr.Instr.{Instr}
 use Rattle.aom_image.specs.declared.instr.Instr.TheVariants as instrs
-use Rattle.aom_image.specs.declared.instr.Target.{Target}
-use Rattle.aom_image.specs.declared.instr.Target.TheVariants.{This, Register, Field, Entry}
 use Rattle.aom_image.specs.declared.method.Argument.{Argument}
 use Rattle.aom_image.specs.declared.method.Argument.TheVariants as arguments
 use Rattle.aom_image.specs.declared.method.Gives.{Gives}
 use Rattle.aom_image.specs.declared.method.Gives.TheVariants as gives
 use Rattle.aom_image.specs.declared.method.Method.{Method}
 use Rattle.aom_image.specs.declared.method.Role.{Role}
-use Rattle.aom_image.specs.declared.method.Role.TheVariants.{Do, Main, Construct, Destruct}
+use Rattle.aom_image.specs.declared.method.Role.TheVariants.{Do, Main, Construct, Destruct, Undo}
 use Rattle.aom_image.specs.declared.method.Thing.{Thing}
 use Rattle.aom_image.specs.declared.method.Thing.TheVariants.{Object, Message}
-use Rattle.aom_roles.specs.Shapes.{may_leave}
-
--- whether a call is made on no cleanup entry
-unfoldable pub admits_target : Target → Bool
-admits_target This = true
-admits_target (Register r) = true
-admits_target (Field f) = true
-admits_target (Entry k) = false
 
 -- whether an instruction is one of those
 unfoldable pub admits_instr : Instr → Bool
@@ -53,7 +43,16 @@ admits_instr (instrs.Take r f) = true
 admits_instr (instrs.Put f r) = true
 admits_instr (instrs.New r c) = true
 admits_instr (instrs.Delete r) = true
-admits_instr (instrs.Call t m a r) = admits_target t
+admits_instr (instrs.Call t m a r) = true
+admits_instr (instrs.Trap t m a r) = true
+admits_instr (instrs.NewOrLeave r c) = true
+admits_instr (instrs.Push r) = true
+admits_instr (instrs.PushOperation r m) = true
+admits_instr (instrs.Pop r) = true
+admits_instr instrs.PopOperation = true
+admits_instr instrs.PopDelete = true
+admits_instr (instrs.Leave r) = true
+admits_instr (instrs.LeaveIf r) = true
 admits_instr (instrs.Return r) = true
 admits_instr instrs.Stop = true
 admits_instr _ = false
@@ -72,12 +71,13 @@ admits_thing Message = false
 unfoldable pub admits_class : ClassDecl → Bool
 admits_class c = is_plain c.kind && list_all admits_thing c.fields
 
--- whether a method does, constructs or destructs, or is main
+-- whether a method does, constructs or destructs, is main, or undoes
 unfoldable pub admits_role : Role → Bool
 admits_role Do = true
 admits_role Main = true
 admits_role Construct = true
 admits_role Destruct = true
+admits_role Undo = true
 admits_role _ = false
 
 unfoldable pub admits_argument : Argument → Bool
@@ -89,11 +89,11 @@ admits_result gives.Nothing = true
 admits_result gives.Word = true
 admits_result (gives.Own t) = admits_thing t
 admits_result (gives.Maybe t) = admits_thing t
-admits_result (gives.Left c) = false
+admits_result (gives.Left c) = true
 
--- whether a method may not leave, and is of no states
+-- whether a method is of no states
 abbrev pub stays : Method → Bool
-stays m = not (may_leave m) && nat_eq m.before.0 0 && nat_eq m.after.0 0
+stays m = nat_eq m.before.0 0 && nat_eq m.after.0 0
 
 -- whether a method has such a role, arguments and result, and is of admitted instructions
 unfoldable pub admits_method : Method → Bool
@@ -107,7 +107,7 @@ admits_header h = nat_eq h.natives 0
 abbrev pub EachPasses : {X : Type 0} → (X → Bool) → List X → Type 0
 EachPasses test xs = (k : ℕ) → IfSome (slice_get xs k) (λ x. IsTrue (test x))
 
--- an image of plain classes, without natives, leaves and messages
+-- an image of plain classes, without natives and messages
 pub record IsAdmitted (p : Image) : Type 0 where
   pub header : IsTrue (admits_header p.header)
   pub classes : EachPasses admits_class p.classes

@@ -1,20 +1,10 @@
 //! What an image may have so far.
 ghost use Rattle.std.specs.Prelude.{◌≡◌, ◌↔◌, IsTrue};
 ghost use Rattle.std.specs.List.{list_all};
-ghost use Rattle.aom_classes.specs.Admitted.{admits_target, admits_instr, is_plain, admits_thing, admits_class, admits_role, admits_argument, admits_result, stays, admits_method, admits_header, EachPasses, IsAdmitted};
+ghost use Rattle.aom_classes.specs.Admitted.{admits_instr, is_plain, admits_thing, admits_class, admits_role, admits_argument, admits_result, stays, admits_method, admits_header, EachPasses, IsAdmitted};
 
-use aom_image::{
-    Argument, ClassDecl, ClassKind, Gives, Header, Image, Instr, Method, MethodFlags, Role, Target,
-    Thing,
-};
+use aom_image::{Argument, ClassDecl, ClassKind, Gives, Header, Image, Instr, Method, Role, Thing};
 use bitflags::Flags;
-
-#[tactic(auto, unfolding(crate::specs::Admitted::admits_target))]
-fn admits_target(target: Target) -> bool
-    ensures { result ≡ admits_target target }
-{
-    !matches!(target, Target::Entry(_))
-}
 
 #[tactic(auto, unfolding(crate::specs::Admitted::admits_instr))]
 fn admits_instr(instr: &Instr) -> bool
@@ -43,21 +33,21 @@ fn admits_instr(instr: &Instr) -> bool
         | Instr::Take(_, _)
         | Instr::Put(_, _)
         | Instr::New(_, _)
-        | Instr::Delete(_)
-        | Instr::Return(_)
-        | Instr::Stop => true,
-        Instr::Call(target, _, _, _) => admits_target(*target),
-        Instr::JumpActive(_)
-        | Instr::JumpAdded(_)
         | Instr::NewOrLeave(_, _)
+        | Instr::Delete(_)
         | Instr::Push(_)
         | Instr::PushOperation(_, _)
         | Instr::Pop(_)
         | Instr::PopOperation
         | Instr::PopDelete
+        | Instr::Call(_, _, _, _)
         | Instr::Trap(_, _, _, _)
+        | Instr::Return(_)
         | Instr::Leave(_)
         | Instr::LeaveIf(_)
+        | Instr::Stop => true,
+        Instr::JumpActive(_)
+        | Instr::JumpAdded(_)
         | Instr::Enlist(_)
         | Instr::Issue(_, _)
         | Instr::SetActive
@@ -105,7 +95,7 @@ fn admits_role(role: Role) -> bool
 {
     matches!(
         role,
-        Role::Do | Role::Main | Role::Construct | Role::Destruct
+        Role::Do | Role::Main | Role::Construct | Role::Destruct | Role::Undo
     )
 }
 
@@ -130,9 +120,8 @@ fn admits_result(gives: Gives) -> bool
     ensures { result ≡ admits_result gives }
 {
     match gives {
-        Gives::Nothing | Gives::Word => true,
+        Gives::Nothing | Gives::Word | Gives::Left(_) => true,
         Gives::Own(thing) | Gives::Maybe(thing) => admits_thing(thing),
-        Gives::Left(_) => false,
     }
 }
 
@@ -145,9 +134,7 @@ fn admits_code(code: &[Instr]) -> bool
 fn stays(method: &Method) -> bool
     ensures { result ≡ stays method.now }
 {
-    !method.flags.contains(MethodFlags::LEAVES)
-        && method.before.bits() == 0
-        && method.after.bits() == 0
+    method.before.bits() == 0 && method.after.bits() == 0
 }
 
 #[tactic(auto, unfolding(crate::specs::Admitted::admits_method))]

@@ -411,20 +411,27 @@ fn what_is_not_admitted_yet(rt: HostRuntime) {
     let alloc = rt.alloc();
     let code = [ret()];
     let message = Argument::Own(Thing::Message);
-    let entry = Instr::Call(Target::Entry(entry(0)), method(0), register(0), register(0));
-    assert!(rt; fault_beside(alloc, work().flagged(MethodFlags::LEAVES)) == Some(0));
     assert!(rt; fault_beside(alloc, work().between(States::IDLE, States::NONE)) == Some(0));
     assert!(rt; fault_beside(alloc, work().between(States::NONE, States::IDLE)) == Some(0));
     assert!(rt; fault_beside(alloc, work().taking(1, message)) == Some(0));
     assert!(rt; fault_beside(alloc, work().giving(Gives::Own(Thing::Message))) == Some(0));
-    assert!(rt; fault_beside(alloc, left().flagged(MethodFlags::LEAVES)) == Some(0));
-    assert!(rt; fault_beside(alloc, undo().taking(1, Argument::Word)) == Some(0));
-    assert!(rt; link_fault(alloc, alone(alloc, &[trap(0), ret()])) == Some(0));
-    assert!(rt; link_fault(alloc, beside(alloc, work(), &[entry, ret()])) == Some(0));
     let holder = alone(alloc, &code).owner(alloc, Thing::Message);
     assert!(rt; link_fault(alloc, holder) == Some(0));
     let session = alone(alloc, &code).class(alloc, ClassKind::Session);
     assert!(rt; link_fault(alloc, session) == Some(0));
+}
+
+#[test]
+fn what_leaves_is_taken(rt: HostRuntime) {
+    let alloc = rt.alloc();
+    let entry = Instr::Call(Target::Entry(entry(0)), method(0), register(0), register(0));
+    let push = Instr::PushOperation(register(0), method(0));
+    let under = beside(alloc, undo().taking(1, Argument::Word), &[push, ret()]);
+    assert!(rt; fault_beside(alloc, work().flagged(MethodFlags::LEAVES)).is_none());
+    assert!(rt; fault_beside(alloc, left().flagged(MethodFlags::LEAVES)).is_none());
+    assert!(rt; link_fault(alloc, under).is_none());
+    assert!(rt; link_fault(alloc, beside(alloc, work(), &[trap(0), ret()])).is_none());
+    assert!(rt; link_fault(alloc, beside(alloc, work(), &[entry, ret()])).is_none());
 }
 
 /// A class that owns an object of another, with its methods, and a main with a root.

@@ -1,29 +1,34 @@
 -- A machine that has booted stands for the boot state.
-use Rattle.std.proofs.Common.{zero, suc, ◌≡◌, ◌==◌, ℕ, Bool, true, false, cond, length, [], ◌∷◌, Some, None, slice_index_or, refl, sym, ap, ◌∙◌, subst, arith}
+use Rattle.std.proofs.Common.{◌≡◌, ◌==◌, ℕ, Bool, true, false, cond, [], ◌∷◌, Some, None, refl, sym, ap, ◌∙◌, subst, arith}
 use Rattle.aom_image.specs.Image.{Image}
 use Rattle.aom_classes.specs.Admitted.{IsAdmitted}
 use Rattle.aom_classes.specs.Linked.{IsLinked}
 use Rattle.aom_classes.specs.Roles.{main_of}
 use Rattle.aom_cells.specs.Heap.{Heap, null, cell_at, word_of, field_at, count}
 use Rattle.aom_cells.specs.declared.cell.Cell.{Cell as Held_cell}
+use Rattle.aom_cleanup.specs.Items.{Stack as Held_items, entry_in}
 use Rattle.aom_frames.specs.Tasks.{fresh}
 use Rattle.aom_frames.specs.declared.task.Task.TheVariants.{Run as Runs_frame, Trapped as Is_trap, Dispatched as Ends}
 use Rattle.aom_frames.specs.declared.task.Dispatch.TheVariants.{Main}
-use Rattle.aom_sound.specs.State.{AtRoot, frame_of, Run, Trapped, Dispatched, Of_main}
+use Rattle.aom_sound.specs.State.{AtRoot, frame_of, Run, Trapped, Dispatched, Of_main, A_mark}
 use Rattle.aom_shape.specs.Typing.{Typing}
 use Rattle.aom_verify.specs.Strongest.{IsStrongest}
-use Rattle.aom_budget.specs.Depths.{DepthsWithin}
+use Rattle.aom_budget.specs.Depths.{HasDepths}
+use Rattle.aom_budget.specs.Heights.{HasHeights}
 use Rattle.aom_sound.specs.Places.{Place, Register, Entry, Field, Going, Elsewhere, Root}
 use Rattle.aom_sound.specs.Laws.{BootKeeps, StepKeeps, LinkedIsWired}
+use Rattle.aom_sound.specs.Quiet.{CalmKeeps}
 use Rattle.aom_sound.specs.World.{main_tasks, boot_state}
 use Rattle.aom_exec.specs.declared.parts.Parts.{Parts}
 use Rattle.aom_exec.specs.Boot.{Booted}
 use Rattle.aom_exec.specs.Places.{register_in, going_in, value}
-use Rattle.aom_exec.specs.Room.{AllCalled}
-use Rattle.aom_exec.specs.Agrees.{SameTasks, word_in, word_at, thing_in, Agrees}
+use Rattle.aom_exec.specs.Traps.{TrapsFit}
+use Rattle.aom_exec.specs.Agrees.{SameTasks, SameItems, word_in, word_at, thing_in, Agrees}
 use Rattle.aom_exec.proofs.CallActs.{shows_null}
+use Rattle.aom_exec.proofs.Entries.{mark_shows_none}
+use Rattle.aom_exec.proofs.Rooms.{boot_room}
 use Rattle.aom_exec.proofs.Standing.{begun_frame, begun_registers}
-use Rattle.aom_exec.specs.Steps.{StandsFor}
+use Rattle.aom_exec.specs.Steps.{Sound, StandsFor}
 
 same_cond : {A : Type 0} (b : Bool) (x : A) → cond b x x ≡ x
 same_cond true x = refl
@@ -42,8 +47,7 @@ module _ (p : Image) (m : Parts) (booted : Booted p m) where
   -- no place has anything
   no_value : (r : Place) → value m r ≡ null
   no_value (Register d i) = ap (λ us. register_in us d i) booted.tasks ∙ all_none (2 == d) (1 == d) (0 == d) _ null (begun_registers booted.main null i)
-  no_value (Entry zero) = ap (λ xs. slice_index_or xs 0 null) booted.entries
-  no_value (Entry (suc k)) = ap (λ xs. slice_index_or xs (suc k) null) booted.entries
+  no_value (Entry k) = ap (λ (e : Held_items). entry_in e.items k) booted.entries ∙ mark_shows_none [] k
   no_value (Field n f) = ap (λ h. field_at h n f) booted.cells
   no_value (Going k) = ap (λ us. going_in us k) booted.tasks ∙ all_none (2 == k) (1 == k) (0 == k) null null refl
   no_value (Elsewhere Root) = booted.root
@@ -72,9 +76,10 @@ module _ (p : Image) (m : Parts) (booted : Booted p m) where
       classes = λ n c e. absurd (never n c e);
       null_is_none = no_cell null;
     };
-    entries = ap length booted.entries;
+    entries = subst (λ (e : Held_items). SameItems e.items (A_mark ∷ [])) (sym booted.entries) (tt, tt);
     rest = booted.rest;
     room = (let d = booted.depth in omega arith);
+    entry_room = (let d = ap (λ (e : Held_items). e.depth) booted.entries in omega arith);
   }
     where
       never : (n : ℕ) (c : Held_cell) → cell_at m.cells n ≡ Some c → ⊥
@@ -83,13 +88,16 @@ module _ (p : Image) (m : Parts) (booted : Booted p m) where
           some_none : Some c ≡ None → ⊥
           some_none e = cc
 
-pub boots : (p : Image) (m : Parts) → IsLinked p → IsAdmitted p → (t : Typing) → IsStrongest p t → DepthsWithin p → BootKeeps → StepKeeps → LinkedIsWired → Booted p m → StandsFor (record { image = p; parts = m }) (boot_state p)
-boots p m linked admitted t strongest within boot_keeps step_keeps wired booted =
+pub boots : (p : Image) (m : Parts) → IsLinked p → IsAdmitted p → (t : Typing) → IsStrongest p t → HasDepths p → HasHeights p → BootKeeps → StepKeeps → CalmKeeps → LinkedIsWired → Booted p m → StandsFor (record { image = p; parts = m }) (boot_state p)
+boots p m linked admitted t strongest depths heights boot_keeps step_keeps calm_keeps wired booted =
     let w = wired p booted.formed linked in
+    let sound : Sound p t = record { formed = booted.formed; linked = linked; admitted = admitted; wired = w; strongest = strongest; depths = depths; heights = heights; typed = strongest.typed; keeps = λ c s well unused. step_keeps p t w strongest.typed c s well unused } in
     record {
       typing = t;
-      sound = record { formed = booted.formed; linked = linked; admitted = admitted; wired = w; strongest = strongest; within = within; typed = strongest.typed; keeps = λ c s well unused. step_keeps p t w strongest.typed c s well unused };
+      sound = sound;
       typed = boot_keeps p t w strongest.typed;
-      called = subst (AllCalled p) (sym (boot_tasks p booted.main booted.is_main)) (tt, (tt, tt));
+      calm = calm_keeps.boot p;
+      traps = subst (TrapsFit p) (sym (boot_tasks p booted.main booted.is_main)) (tt, tt);
+      room = boot_room p t sound;
       agrees = boot_agrees p m booted;
     }

@@ -1,16 +1,17 @@
 -- `stop`, and how a dispatch comes to its end.
-use Rattle.std.proofs.Common.{zero, suc, ◌≡◌, ◌==◌, ℕ, ℤ, ◌-◌, Bool, true, false, cond, length, List, [], ◌∷◌, Option, Some, None, take, slice_index_or, refl, sym, ap, ◌∙◌, subst, arith}
+use Rattle.std.proofs.Common.{suc, ◌≡◌, ◌==◌, ◌≤◌, ℕ, ℤ, Bool, true, false, cond, List, [], ◌∷◌, Option, Some, None, refl, sym, ap, ◌∙◌, subst}
 use Rattle.aom_image.specs.Image.{Image}
 use Rattle.aom_image.specs.declared.instr.Instr.TheVariants.{Stop}
-use Rattle.std.proofs.lemmas.List.{length-take}
 use Rattle.aom_shape.specs.declared.kind.Kind.TheVariants.{Null}
 use Rattle.aom_cells.specs.Heap.{null}
 use Rattle.aom_shape.specs.Typing.{Typing}
 use Rattle.aom_sound.specs.Places.{Place, Register, Entry, Field, Going, Elsewhere, Object, held}
-use Rattle.aom_sound.specs.State.{Dispatch, next, Task, Run, Dispatched, Item, Rest, State}
+use Rattle.aom_sound.specs.State.{Dispatch, next, Run, Dispatched, Rest, State}
 use Rattle.aom_sound.specs.Calls.{below_top}
-use Rattle.aom_sound.specs.Claims.{Layer, Method, Mark, Dying, Dispatching, tasks_of}
+use Rattle.aom_sound.specs.Claims.{Layer, Method, Mark, Dying, Dispatching, tasks_of, Unwinding}
 use Rattle.aom_sound.specs.WellTyped.{WellTyped, Good, Fits}
+use Rattle.aom_cleanup.specs.Items.{Stack as Held_items, entry_in}
+use Rattle.aom_cleanup.specs.declared.item.Item.TheVariants.{Mark as Is_mark}
 use Rattle.aom_frames.specs.Tasks.{on_top, with_place, place_here}
 use Rattle.aom_frames.specs.declared.task.Task.TheVariants.{Dispatched as Ends}
 use Rattle.aom_frames.specs.declared.task.Dispatch.{Dispatch as Held_dispatch}
@@ -20,9 +21,10 @@ use Rattle.aom_exec.specs.Agrees.{word_at, Shows, dispatch_of, number, Agrees}
 use Rattle.aom_exec.specs.Acts.{requested, Does}
 use Rattle.aom_exec.specs.Acts as acts
 use Rattle.aom_exec.proofs.Standing.{by_top, stays, an_open}
+use Rattle.aom_exec.proofs.Entries.{mark_shows_none, unmarked}
 
 pub stop_does : (m : Parts) (refused : List ℕ) → Does refused Stop m (acts.next (record m { rest = record m.rest { stopped = true } }))
-stop_does m refused p admitted h =
+stop_does m refused p h here =
     let c = an_open p refused m h.state h.agrees in (
       c.0,
       c.1,
@@ -52,25 +54,14 @@ closing p t s d typed e = go typed.layers (sym typed.tasks ∙ e) typed.good
     go (Dispatching x ∷ Method fr sh ∷ ls) e good = cc
     go (Dispatching x ∷ Mark gv ∷ ls) e good = cc
     go (Dispatching x ∷ Dying o ∷ ls) e good = cc
+    go (Dispatching x ∷ Unwinding code es ∷ ls) e good = cc
+    go (Unwinding code es ∷ ls) e good = cc
     go (Dispatching x ∷ Dispatching y ∷ ls) e good = cc
     go (Dispatching x ∷ []) e good = record {
       registers = λ d i. fits_null p (held s.cells) _ (good.fits (Register d i));
       entries = λ k. fits_null p (held s.cells) _ (good.fits (Entry k));
       goings = λ k. fits_null p (held s.cells) _ (good.fits (Going k));
     }
-
--- a shorter list, read where the longer one has null
-shorter : (n : ℕ) (xs : List ℕ) (k : ℕ) → slice_index_or xs k null ≡ null → slice_index_or (take n xs) k null ≡ null
-shorter zero xs k e = refl
-shorter (suc n) [] k e = refl
-shorter (suc n) (x ∷ xs) zero e = e
-shorter (suc n) (x ∷ xs) (suc k) e = shorter n xs k e
-
-one_fewer : (xs : List ℕ) (items : List Item) → length xs ≡ length items → length (take (length xs - 1) xs) ≡ length (below_top items)
-one_fewer [] [] e = refl
-one_fewer [] (i ∷ items) e = cc
-one_fewer (x ∷ xs) [] e = cc
-one_fewer (x ∷ xs) (i ∷ items) e = simp length-take (omega arith)
 
 same_cond : {A : Type 0} (b : Bool) (x : A) → cond b x x ≡ x
 same_cond true x = refl
@@ -80,21 +71,22 @@ pub shows_null : (n : ℕ) (w : Option ℤ) (o : Option Object) → n ≡ null �
 shows_null n w o e f g = subst (λ w. Shows n w o) (sym f) (subst (λ o. Shows n None o) (sym g) e)
 
 -- as main ends, its dispatch is at its end
-pub ended : (p : Image) (m e : Parts) (s : State) (x : Held_dispatch) (d : Dispatch) → Agrees p m s → e.entries.items ≡ take (length m.entries.items - 1) m.entries.items → dispatch_of x ≡ d
+pub ended : (p : Image) (m : Parts) (es : Held_items) (s : State) (x : Held_dispatch) (d : Dispatch) → Agrees p m s → m.entries ≡ record es { items = Is_mark ∷ es.items } → dispatch_of x ≡ d
     → Closing (record s { tasks = Dispatched d ∷ []; items = below_top s.items })
-    → Agrees p (record m { stack = record m.stack { tasks = Ends x ∷ [] }; entries = e.entries }) (record s { tasks = Dispatched d ∷ []; items = below_top s.items })
-ended p m e s x d agrees short same shut = record {
+    → Agrees p (record m { stack = record m.stack { tasks = Ends x ∷ [] }; entries = es }) (record s { tasks = Dispatched d ∷ []; items = below_top s.items })
+ended p m es s x d agrees marked same shut = record {
   tasks = (same, tt);
   values = values;
   cells = agrees.cells;
-  entries = ap length short ∙ one_fewer m.entries.items s.items agrees.entries;
+  entries = unmarked m.entries.items es.items s.items (ap (λ (e : Held_items). e.items) marked) agrees.entries;
   rest = agrees.rest;
   room = agrees.room;
+  entry_room = subst (λ n. 1024 ≤ n) (ap (λ (e : Held_items). e.depth) marked) agrees.entry_room;
 }
   where
-    values : (r : Place) → Shows (value_in (Ends x ∷ []) m.cells e.entries.items m.root r) (word_at (Dispatched d ∷ []) r) (held s.cells r)
+    values : (r : Place) → Shows (value_in (Ends x ∷ []) m.cells es.items m.root r) (word_at (Dispatched d ∷ []) r) (held s.cells r)
     values (Register k i) = shows_null _ _ _ (same_cond (0 == k) null) (same_cond (0 == k) None) (shut.registers k i)
-    values (Entry k) = shows_null _ _ _ (ap (λ xs. slice_index_or xs k null) short ∙ shorter _ m.entries.items k (agrees.values (Entry k) ∙ ap number (shut.entries k))) refl (shut.entries k)
+    values (Entry k) = shows_null _ _ _ (sym (mark_shows_none es.items k) ∙ ap (λ (e : Held_items). entry_in e.items k) (sym marked) ∙ agrees.values (Entry k) ∙ ap number (shut.entries k)) refl (shut.entries k)
     values (Field n f) = agrees.values (Field n f)
     values (Going k) = shows_null _ _ _ (same_cond (0 == k) null) refl (shut.goings k)
     values (Elsewhere o) = agrees.values (Elsewhere o)

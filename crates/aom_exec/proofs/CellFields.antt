@@ -15,6 +15,7 @@ use Rattle.aom_exec.specs.Agrees.{SameCells, thing_in, thing_of}
 use Rattle.aom_exec.specs.Fields.{PutsWord, PutsField}
 use Rattle.aom_exec.proofs.Values.{cases}
 use Rattle.aom_exec.proofs.CellWords.{words_stored}
+use Rattle.aom_cleanup.specs.declared.item.Item.{Item}
 
 -- a field of a cell is read as it was written, and the others as before
 field_left : (c : Option Held_cell) (f g x : ℕ) → (f == g) ≡ false → field_of (with_field c f x) g ≡ field_of c g
@@ -35,14 +36,14 @@ field_read h h' n f x puts k g = cases (n == k)
         (λ e. ap (λ c. field_of c g) puts.changed.here ∙ field_left (cell_at h n) f g x e ∙ ap (λ b. cond b x (field_at h n g)) (sym e))
 
 -- all other places stay as they are
-pub field_written : (us : List Held_task) (h h' : Heap) (es : List ℕ) (root n f x : ℕ) → PutsField n f x h h' → (r : Place) → value_in us h' es root r ≡ changed (value_in us h es root) (Field n f) x r
+pub field_written : (us : List Held_task) (h h' : Heap) (es : List Item) (root n f x : ℕ) → PutsField n f x h h' → (r : Place) → value_in us h' es root r ≡ changed (value_in us h es root) (Field n f) x r
 field_written us h h' es root n f x puts (Field k g) = field_read h h' n f x puts k g
 field_written us h h' es root n f x puts (Register d i) = refl
 field_written us h h' es root n f x puts (Entry k) = refl
 field_written us h h' es root n f x puts (Going k) = refl
 field_written us h h' es root n f x puts (Elsewhere o) = refl
 
-pub root_written : (us : List Held_task) (h : Heap) (es : List ℕ) (root x : ℕ) (r : Place) → value_in us h es x r ≡ changed (value_in us h es root) (Elsewhere Root) x r
+pub root_written : (us : List Held_task) (h : Heap) (es : List Item) (root x : ℕ) (r : Place) → value_in us h es x r ≡ changed (value_in us h es root) (Elsewhere Root) x r
 root_written us h es root x (Elsewhere Root) = refl
 root_written us h es root x (Register d i) = refl
 root_written us h es root x (Entry k) = refl
@@ -54,7 +55,7 @@ fields_left : (c : Option Held_cell) (w g : ℕ) (v : ℤ) → field_of (with_wo
 fields_left None w g v = refl
 fields_left (Some c) w g v = refl
 
-pub word_put_elsewhere : (us : List Held_task) (h h' : Heap) (es : List ℕ) (root n w : ℕ) (v : ℤ) → PutsWord n w v h h' → (r : Place) → value_in us h' es root r ≡ value_in us h es root r
+pub word_put_elsewhere : (us : List Held_task) (h h' : Heap) (es : List Item) (root n w : ℕ) (v : ℤ) → PutsWord n w v h h' → (r : Place) → value_in us h' es root r ≡ value_in us h es root r
 word_put_elsewhere us h h' es root n w v puts (Field k g) = cases (n == k)
     (λ e.
     let same = eqb-true n k e in

@@ -1,18 +1,18 @@
 -- The end of a dispatch.
-use Rattle.std.proofs.Common.{◌≡◌, ◌+◌, ◌<◌, Bool, true, false, cond, length, List, [], ◌∷◌, ◌++◌, Option, Some, None, refl, sym, ap, ◌∙◌, subst, append-nil, arith}
+use Rattle.std.proofs.Common.{◌≡◌, ◌+◌, ◌<◌, ℤ, Bool, true, false, cond, length, List, [], ◌∷◌, ◌++◌, Option, Some, None, refl, sym, ap, ◌∙◌, subst, append-nil, arith}
 use Rattle.aom_image.specs.Image.{Image}
 use Rattle.aom_cells.specs.Heap.{null}
 use Rattle.aom_shape.specs.Typing.{Typing}
 use Rattle.aom_sound.specs.Places.{Place, Register, Entry, Field, Going, Elsewhere, Root, Object, held}
-use Rattle.aom_sound.specs.declared.line.Ending.TheVariants.{Stopped}
-use Rattle.aom_sound.specs.State.{Dispatch, Of_main, Task, Run, Trapped, Destroy, Dispatched, Rest, State, Choice, Goes, raised}
+use Rattle.aom_sound.specs.declared.line.Ending.TheVariants.{Stopped, MainLeft as Left_with}
+use Rattle.aom_sound.specs.State.{Dispatch, Of_main, Task, Run, Trapped, Destroy, Dispatched, Rest, State, Choice, Goes, raised, Unwind}
 use Rattle.aom_sound.specs.Moves.{asked, is_counted, closed, main_ends, dispatch_ends, step, step_task, written_task}
 use Rattle.aom_sound.specs.WellTyped.{WellTyped, Keeps}
 use Rattle.aom_lines.specs.Turn.{Turn}
 use Rattle.aom_frames.specs.declared.task.Task.{Task as Held_task}
-use Rattle.aom_frames.specs.declared.task.Task.TheVariants.{Run as Runs_frame, Trapped as Is_trap, Destroy as Destroys, Dispatched as Ends}
+use Rattle.aom_frames.specs.declared.task.Task.TheVariants.{Run as Runs_frame, Trapped as Is_trap, Destroy as Destroys, Dispatched as Ends, Unwind as Unwinds}
 use Rattle.aom_frames.specs.declared.task.Dispatch.{Dispatch as Held_dispatch}
-use Rattle.aom_frames.specs.declared.task.Dispatch.TheVariants.{Main, Root as End_of_run}
+use Rattle.aom_frames.specs.declared.task.Dispatch.TheVariants.{Main, MainLeft, Root as End_of_run}
 use Rattle.aom_exec.specs.declared.parts.Parts.{Parts}
 use Rattle.aom_exec.specs.Places.{value_in, below_first, IsEnding}
 use Rattle.aom_exec.specs.Going.{ending_here, uprooted}
@@ -45,10 +45,12 @@ at_end p t m s typed agrees ending = go m.stack.tasks s.tasks refl refl ending a
     go (Ends x ∷ ms) (Run fr ∷ ts) e f ending same = absurd same.0
     go (Ends x ∷ ms) (Trapped ∷ ts) e f ending same = absurd same.0
     go (Ends x ∷ ms) (Destroy ∷ ts) e f ending same = absurd same.0
+    go (Ends x ∷ ms) (Unwind code ∷ ts) e f ending same = absurd same.0
     go [] us e f ending same = absurd ending
     go (Runs_frame g ∷ ms) us e f ending same = absurd ending
     go (Is_trap ∷ ms) us e f ending same = absurd ending
     go (Destroys x ∷ ms) us e f ending same = absurd ending
+    go (Unwinds code ∷ ms) us e f ending same = absurd ending
 
 -- the root's destruction and its destructor find room there
 pub uproot_room : (p : Image) (m : Parts) → Stands (record { image = p; parts = m }) → IsEnding m.stack.tasks → length (below_first m.stack.tasks) + 2 < m.stack.depth
@@ -71,6 +73,7 @@ emptied p m s r r' agrees shut same = record {
   entries = agrees.entries;
   rest = same;
   room = agrees.room;
+  entry_room = agrees.entry_room;
 }
   where
     values : (q : Place) → Shows (value_in [] m.cells m.entries.items m.root q) (word_at [] q) (held s.cells q)
@@ -99,6 +102,9 @@ closed_counts r = record r { clock = raised r.clock; ended = cond r.stopped (Som
 
 abbrev over_counts : Rest → Rest
 over_counts r = record r { ended = Some Stopped }
+
+abbrev left_counts : ℤ → Rest → Rest
+left_counts code r = record r { clock = raised r.clock; ended = Some (Left_with code) }
 
 abbrev uprooted_counts : Rest → Rest
 uprooted_counts r = record r { clock = raised r.clock }
@@ -147,6 +153,12 @@ module _ (p : Image) (m : Parts) (told : Turn) (ending : IsEnding m.stack.tasks)
       by_end _ (λ t s typed agrees e.
       let new = record m { stack = record m.stack { tasks = below_first m.stack.tasks }; rest = over_counts m.rest } in
       subst (λ d. Agrees p new (dispatch_ends p (dispatch_of d) (at_close s))) (sym (which m s e End_of_run end)) (left_alone over_counts t s typed agrees e))
+
+  pub left_moves : (code : ℤ) → ending_here m.stack.tasks ≡ Some (MainLeft code) → Moves p m told told (record m { stack = record m.stack { tasks = below_first m.stack.tasks }; rest = left_counts code m.rest })
+  left_moves code end =
+      by_end _ (λ t s typed agrees e.
+      let new = record m { stack = record m.stack { tasks = below_first m.stack.tasks }; rest = left_counts code m.rest } in
+      subst (λ d. Agrees p new (dispatch_ends p (dispatch_of d) (at_close s))) (sym (which m s e (MainLeft code) end)) (left_alone (left_counts code) t s typed agrees e))
 
   pub uproot_moves : ending_here m.stack.tasks ≡ Some Main → m.rest.stopped ≡ true → (m.root ≡ null → ⊥) → Moves p m told told (uprooted p m)
   uproot_moves main stopped rooted =

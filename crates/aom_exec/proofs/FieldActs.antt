@@ -10,7 +10,7 @@ use Rattle.aom_image.specs.declared.method.Thing.{Thing}
 use Rattle.aom_cells.specs.Heap.{Heap, null, field_at, Lives}
 use Rattle.aom_cells.specs.Heap.{word_at as cell_word}
 use Rattle.aom_shape.specs.Things.{field_thing, word_count}
-use Rattle.aom_sound.specs.Claims.{Layer, Method as A_method, Mark, Dying, Dispatching, tasks_of}
+use Rattle.aom_sound.specs.Claims.{Layer, Method as A_method, Mark, Dying, Dispatching, tasks_of, Unwinding}
 use Rattle.aom_sound.specs.Places.{Place, Register, Field, Elsewhere, Root, Object, held, named, moved, changed}
 use Rattle.aom_sound.specs.State.{Home, Static, AtRoot, Inside, Frame, next, set_word, Task, Run, Choice, field_place, home_holder}
 use Rattle.aom_sound.specs.Objects.{jumped, is_declared_thing}
@@ -47,6 +47,7 @@ module _ (p : Image) (m : Parts) (h : At_hand p m) where
       go (Mark g ∷ ls) top stack = cc
       go (Dying x ∷ ls) top stack = cc
       go (Dispatching d ∷ ls) top stack = cc
+      go (Unwinding code es ∷ ls) top stack = cc
       go (A_method fr sh ∷ ls) top stack =
           let same : fr ≡ h.frame = cc in
           let lives = subst (Is_housed p h.state.cells ls) (ap (λ (x : Frame). x.home) same ∙ e) stack.2 in

@@ -1,5 +1,5 @@
 -- How a destruction begins, and the going of a cell.
-use Rattle.std.proofs.Common.{suc, ◌≡◌, ℕ, ℤ, ◌+◌, ◌<◌, Bool, true, false, cond, not, ◌==◌, ◌&&◌, length, List, [], ◌∷◌, ◌++◌, Option, Some, None, slice_set, slice_index_or, refl, sym, ap, ◌∙◌, subst, arith}
+use Rattle.std.proofs.Common.{suc, ◌≡◌, ℕ, ℤ, ◌+◌, ◌<◌, ◌≤◌, Bool, true, false, cond, not, ◌==◌, ◌&&◌, length, List, [], ◌∷◌, ◌++◌, Option, Some, None, slice_set, slice_index_or, refl, sym, ap, ◌∙◌, subst, arith}
 use Rattle.std.proofs.lemmas.Bool.{eqb-true, eq-eqb, false≢true}
 use Rattle.std.proofs.lemmas.List.{length-set}
 use Rattle.aom_image.specs.Image.{Image}
@@ -10,7 +10,7 @@ use Rattle.aom_cells.specs.Heap.{Heap, null, cell_at, class_at, class_of, field_
 use Rattle.aom_cells.specs.declared.cell.Cell.{Cell as Held_cell}
 use Rattle.aom_shape.specs.Typing.{Typing}
 use Rattle.aom_sound.specs.Places.{Place, Register, Entry, Field, Going, Elsewhere, Root, same_place, Object, Cell, held, named, moved, changed}
-use Rattle.aom_sound.specs.State.{Home, Inside, frame_of, word, set_word, Of_main, Of_root, Task, Run, Trapped, Destroy, Dispatched, resumed, Rest, State, Choice, raised}
+use Rattle.aom_sound.specs.State.{Home, Inside, frame_of, word, set_word, Of_main, Of_root, Task, Run, Trapped, Destroy, Dispatched, resumed, Rest, State, Choice, raised, Unwind}
 use Rattle.aom_sound.specs.Destruction.{destructor_of, begun, begun_by, is_field_of, owns_nothing}
 use Rattle.aom_sound.specs.Objects.{deleted}
 use Rattle.aom_sound.specs.Moves.{goes_line}
@@ -21,21 +21,22 @@ use Rattle.aom_lines.specs.Turn.{Turn}
 use Rattle.aom_frames.specs.Tasks.{fresh, on_top, with_place, with_register, place_here, register_here}
 use Rattle.aom_frames.specs.declared.frame.Frame.{Frame as Held_frame}
 use Rattle.aom_frames.specs.declared.task.Task.{Task as Held_task}
-use Rattle.aom_frames.specs.declared.task.Task.TheVariants.{Run as Runs_frame, Trapped as Is_trap, Destroy as Destroys, Dispatched as Ends}
+use Rattle.aom_frames.specs.declared.task.Task.TheVariants.{Run as Runs_frame, Trapped as Is_trap, Destroy as Destroys, Dispatched as Ends, Unwind as Unwinds}
 use Rattle.aom_frames.specs.declared.task.Dispatch.TheVariants.{Main, Root as End_of_run}
 use Rattle.aom_exec.specs.declared.parts.Parts.{Parts}
 use Rattle.aom_exec.specs.Places.{value_in, register_in, going_in, going_here, with_tasks, below_first}
 use Rattle.aom_exec.specs.Going.{destructor_in, destructor_at, destroying, uprooted}
-use Rattle.aom_exec.specs.Agrees.{word_in, word_at, Shows, SameTask, SameTasks, thing_in, thing_of, number, Agrees}
+use Rattle.aom_exec.specs.Agrees.{word_in, word_at, Shows, SameCells, SameItems, SameTask, SameTasks, thing_in, thing_of, number, Agrees}
 use Rattle.aom_exec.specs.Acts.{At_hand, requested, In_going, without_going, DoesIn, GoesAway}
 use Rattle.aom_exec.specs.Acts as acts
 use Rattle.aom_exec.proofs.Values.{cases, same_length, kept, moves, writes, at_depth, register_past, going_past, word_past, value_here, value_kept, value_written, word_next, word_written, destroys_value, destroys_word}
 use Rattle.aom_exec.proofs.Standing.{Top, by_top, reframed, moved_on, begun_frame, begun_registers, word_here, no_word, an_open, nothing_held}
 use Rattle.aom_exec.proofs.Cells.{cells_moved, cells_without}
 use Rattle.aom_exec.proofs.ObjectActs.{shown}
+use Rattle.aom_cleanup.specs.declared.item.Item.{Item}
 
 -- a method at its first place shows nothing, and has no word
-pub fresh_value : (method this : ℕ) (us : List Held_task) (h : Heap) (es : List ℕ) (root : ℕ) (r : Place) → value_in (Runs_frame (fresh method this) ∷ us) h es root r ≡ value_in us h es root r
+pub fresh_value : (method this : ℕ) (us : List Held_task) (h : Heap) (es : List Item) (root : ℕ) (r : Place) → value_in (Runs_frame (fresh method this) ∷ us) h es root r ≡ value_in us h es root r
 fresh_value method this us h es root (Register d i) =
     at_depth (length us) d (slice_index_or (fresh method this).registers i null) (register_in us d i) (λ k. register_past us d i (omega arith) ∙ sym (begun_registers method this i))
 fresh_value method this us h es root (Going d) = at_depth (length us) d null (going_in us d) (λ k. going_past us d (omega arith))
@@ -51,7 +52,7 @@ fresh_word method home height ts (Going k) = refl
 fresh_word method home height ts (Elsewhere o) = refl
 
 -- the destructor that the machine finds is the one that the checked machine runs
-destructor_same : (p : Image) (m : Parts) (t : Typing) (s : State) → WellTyped p t s → Agrees p m s → (r : Place) (o : Object) → held s.cells r ≡ Some o → destructor_at p m.cells o.name ≡ destructor_of p o.thing
+pub destructor_same : (p : Image) (m : Parts) (t : Typing) (s : State) → WellTyped p t s → Agrees p m s → (r : Place) (o : Object) → held s.cells r ≡ Some o → destructor_at p m.cells o.name ≡ destructor_of p o.thing
 destructor_same p m t s typed agrees r o e = go (cell_at m.cells o.name) o.thing (agrees.cells.things o.name ∙ ap thing_of (held_lives s.cells r o typed.good.tidy e))
   where
     go : (c : Option Held_cell) (x : Thing) → thing_in c ≡ Some x → destructor_in p (class_of c) ≡ destructor_of p x
@@ -66,7 +67,7 @@ module _ (p : Image) (m : Parts) (s : State) (us : List Held_task) (ts : List Ta
   abbrev DyingShows : Type 0
   DyingShows = (q : Place) → Shows (value_in (Destroys n ∷ us) m.cells m.entries.items root q) (word_at (Destroy ∷ ts) q) (held gone_from q)
 
-  dying_shows : (v : Place → ℕ) (w : Place → Option ℤ) → ((q : Place) → Shows (v q) (w q) (held s.cells q)) → length us ≡ length ts → w from ≡ None → v from ≡ n → held s.cells (Going (length ts)) ≡ None
+  pub dying_shows : (v : Place → ℕ) (w : Place → Option ℤ) → ((q : Place) → Shows (v q) (w q) (held s.cells q)) → length us ≡ length ts → w from ≡ None → v from ≡ n → held s.cells (Going (length ts)) ≡ None
       → ((q : Place) → value_in us m.cells m.entries.items root q ≡ changed v from null q) → ((q : Place) → word_at ts q ≡ w q) → DyingShows
   dying_shows v w old deep no_word is empty ev ew =
       let there = Going (length ts) in
@@ -75,33 +76,35 @@ module _ (p : Image) (m : Parts) (s : State) (us : List Held_task) (ts : List Ta
       (λ q. destroys_word ts (length ts) q ∙ ap (λ x. cond (same_place there q) None x) (ew q))
       (λ q. held_moved s.cells from there q empty)
 
-  begins : (d : Option ℕ) (o : Object) (height : ℕ) (r r' : Rest) → n ≡ o.name → r ≡ r' → SameTasks us ts → Agrees p m s → DyingShows
+  pub begins : (d : Option ℕ) (o : Object) (height : ℕ) (r r' : Rest) → n ≡ o.name → r ≡ r' → SameTasks us ts → SameCells p m.cells s.cells → SameItems m.entries.items s.items → 1024 ≤ m.stack.depth → 1024 ≤ m.entries.depth → DyingShows
       → Agrees p (record m { stack = record m.stack { tasks = destroying d n us }; root = root; rest = r }) (record s { cells = gone_from; tasks = begun_by d o height ts; rest = r' })
-  begins None o height r r' name rest same agrees values = record {
+  begins None o height r r' name rest same cells entries room entry_room values = record {
     tasks = (tt, same);
     values = values;
-    cells = cells_moved p m.cells s.cells from (Going (length ts)) agrees.cells;
-    entries = agrees.entries;
+    cells = cells_moved p m.cells s.cells from (Going (length ts)) cells;
+    entries = entries;
     rest = rest;
-    room = agrees.room;
+    room = room;
+    entry_room = entry_room;
   }
-  begins (Some k) o height r r' name rest same agrees values =
+  begins (Some k) o height r r' name rest same cells entries room entry_room values =
       let home = Inside o (Going (length ts)) in
       record {
         tasks = (begun_frame k n home height name, (tt, same));
         values = λ q.
             subst (λ x. Shows x (word_at (Run (frame_of k home height) ∷ Destroy ∷ ts) q) (held gone_from q)) (sym (fresh_value k n (Destroys n ∷ us) m.cells m.entries.items root q))
             (subst (λ w. Shows (value_in (Destroys n ∷ us) m.cells m.entries.items root q) w (held gone_from q)) (sym (fresh_word k home height (Destroy ∷ ts) q)) (values q));
-        cells = cells_moved p m.cells s.cells from (Going (length ts)) agrees.cells;
-        entries = agrees.entries;
+        cells = cells_moved p m.cells s.cells from (Going (length ts)) cells;
+        entries = entries;
         rest = rest;
-        room = agrees.room;
+        room = room;
+        entry_room = entry_room;
       }
 
 module _ (p : Image) (m : Parts) (refused : List ℕ) where
   pub delete_does : (a : ℕ) → a < 16 → (register_here m.stack.tasks a ≡ null → ⊥)
       → DoesIn p refused (Delete a) m (with_tasks (destroying (destructor_at p m.cells (register_here m.stack.tasks a)) (register_here m.stack.tasks a) (on_top (with_register a null) m.stack.tasks)) m)
-  delete_does a small is h =
+  delete_does a small is h here =
       let c = an_open p refused m h.state h.agrees in (
         c.0,
         c.1,
@@ -129,14 +132,14 @@ module _ (p : Image) (m : Parts) (refused : List ℕ) where
           subst (λ d. Agrees p (with_tasks (destroying d k us) m) (record s { cells = moved here (Going (suc (length ts))) s.cells; tasks = begun p o (length s.items) vs }))
           (sym (ap (destructor_at p m.cells) name ∙ destructor_same p m h.typing s h.typed h.agrees here o e))
           (begins p m s us vs here m.root k (destructor_of p o.thing) o (length s.items) m.rest s.rest name h.agrees.rest
-          (reframed f fr (slice_set f.registers a null) _ f.place fr.place top.frame (length-set f.registers a null ∙ wide) top.frame.place, top.below) h.agrees
+          (reframed f fr (slice_set f.registers a null) _ f.place fr.place top.frame (length-set f.registers a null ∙ wide) top.frame.place, top.below) h.agrees.cells h.agrees.entries h.agrees.room h.agrees.entry_room
           (dying_shows p m s us vs here m.root k (value_in (Runs_frame f ∷ ms) m.cells m.entries.items m.root) (word_at (Run fr ∷ ts)) top.values (ap suc top.deep) was
           (value_here f ms m.cells m.entries.items m.root (length ts) a top.deep) empty
           (value_written f ms m.cells m.entries.items m.root (length ts) a null f.place top.deep (omega arith))
           (λ q. word_written fr ts a fr.place None q ∙ sym (kept (word_at (Run fr ∷ ts)) here q ∙ ap (λ x. changed (word_at (Run fr ∷ ts)) here x q) was))))
 
 -- the root is null, and else all is as it was
-root_taken : (h : Heap) (es : List ℕ) (root : ℕ) (q : Place) → value_in (Ends End_of_run ∷ []) h es null q ≡ changed (value_in (Ends Main ∷ []) h es root) (Elsewhere Root) null q
+root_taken : (h : Heap) (es : List Item) (root : ℕ) (q : Place) → value_in (Ends End_of_run ∷ []) h es null q ≡ changed (value_in (Ends Main ∷ []) h es root) (Elsewhere Root) null q
 root_taken h es root (Register d i) = refl
 root_taken h es root (Entry k) = refl
 root_taken h es root (Field n f) = refl
@@ -162,7 +165,7 @@ uproots p m t s o r typed agrees held_top top e rest =
     let name : m.root ≡ o.name = values (Elsewhere Root) ∙ ap number e in
     subst (λ ms. Agrees p (record m { stack = record m.stack { tasks = destroying (destructor_at p m.cells m.root) m.root (Ends End_of_run ∷ ms) }; root = null; rest = rest' }) u) (sym (ap below_first held_top))
     (subst (λ d. Agrees p (record m { stack = record m.stack { tasks = destroying d m.root (Ends End_of_run ∷ []) }; root = null; rest = rest' }) u) (sym (ap (destructor_at p m.cells) name ∙ destructor_same p m t s typed agrees (Elsewhere Root) o e))
-    (begins p m s (Ends End_of_run ∷ []) (Dispatched Of_root ∷ []) (Elsewhere Root) null m.root (destructor_of p o.thing) o (length s.items) rest' r name rest (refl, tt) agrees
+    (begins p m s (Ends End_of_run ∷ []) (Dispatched Of_root ∷ []) (Elsewhere Root) null m.root (destructor_of p o.thing) o (length s.items) rest' r name rest (refl, tt) agrees.cells agrees.entries agrees.room agrees.entry_room
     (dying_shows p m s (Ends End_of_run ∷ []) (Dispatched Of_root ∷ []) (Elsewhere Root) null m.root v w values refl refl refl (nothing_held p m t s typed agrees (Going 1) (values (Going 1))) (root_taken m.cells m.entries.items m.root) no_words)))
 
 -- what is known of the machine, taken apart
@@ -183,6 +186,7 @@ by_going p m h G show =
     go (Runs_frame f ∷ ms) same values = absurd same.0
     go (Is_trap ∷ ms) same values = absurd same.0
     go (Ends d ∷ ms) same values = absurd same.0
+    go (Unwinds code ∷ ms) same values = absurd same.0
     go (Destroys x ∷ ms) same values = show x ms (record { below = same.1; deep = same_length ms h.below same.1; values = values })
 
 -- the method below goes on, if there is one
@@ -199,15 +203,17 @@ same_resumed (m ∷ ms) (t ∷ ts) same = heads m t same.0
     heads (Runs_frame f) (Run fr) e = (moved_on f fr f.registers fr.words e e.wide, same.1)
     heads Is_trap Trapped e = (tt, same.1)
     heads (Destroys x) Destroy e = (tt, same.1)
+    heads (Unwinds code) (Unwind c) e = (e, same.1)
     heads (Ends d) (Dispatched x) e = (e, same.1)
     heads m t e = absurd e
 
-value_resumed : (ms : List Held_task) (h : Heap) (es : List ℕ) (root : ℕ) (r : Place) → value_in (going_on ms) h es root r ≡ value_in ms h es root r
+value_resumed : (ms : List Held_task) (h : Heap) (es : List Item) (root : ℕ) (r : Place) → value_in (going_on ms) h es root r ≡ value_in ms h es root r
 value_resumed [] h es root r = refl
 value_resumed (Runs_frame f ∷ ms) h es root r = value_kept f ms h es root (suc f.place) r
 value_resumed (Is_trap ∷ ms) h es root r = refl
 value_resumed (Destroys x ∷ ms) h es root r = refl
 value_resumed (Ends d ∷ ms) h es root r = refl
+value_resumed (Unwinds code ∷ ms) h es root r = refl
 
 word_resumed : (ts : List Task) (r : Place) → word_at (resumed ts) r ≡ word_at ts r
 word_resumed [] r = refl
@@ -215,6 +221,7 @@ word_resumed (Run fr ∷ ts) r = word_next fr ts (suc fr.place) r
 word_resumed (Trapped ∷ ts) r = refl
 word_resumed (Destroy ∷ ts) r = refl
 word_resumed (Dispatched d ∷ ts) r = refl
+word_resumed (Unwind code ∷ ts) r = refl
 
 -- no field of that cell owns
 nothing_owned : (cs : List Cell) (n f : ℕ) → owns_nothing cs n ≡ true → held cs (Field n f) ≡ None
@@ -237,7 +244,7 @@ over f g q x y ef e r = cases (same_place q r)
     (λ b. ap (λ c. cond c y (f r)) b ∙ ef r ∙ ap (λ c. cond c x (g r)) b)
 
 -- the fields of a cell that owned nothing were null, and so they are where it is gone
-fields_gone : (us : List Held_task) (h h' : Heap) (es : List ℕ) (root n : ℕ) → ((f : ℕ) → field_at h n f ≡ null) → Changes h h' n None → (r : Place) → value_in us h' es root r ≡ value_in us h es root r
+fields_gone : (us : List Held_task) (h h' : Heap) (es : List Item) (root n : ℕ) → ((f : ℕ) → field_at h n f ≡ null) → Changes h h' n None → (r : Place) → value_in us h' es root r ≡ value_in us h es root r
 fields_gone us h h' es root n nulls ch (Field k g) = cases (n == k)
     (λ e.
     let same = eqb-true n k e in
@@ -292,6 +299,7 @@ module _ (p : Image) (m : Parts) (h : In_going p m) (o : Object) where
         entries = h.agrees.entries;
         rest = h.agrees.rest;
         room = h.agrees.room;
+        entry_room = h.agrees.entry_room;
       }
 
 pub go_does : (m : Parts) (heap : Heap) (n class : ℕ) (told : Turn) → n ≡ going_here m.stack.tasks → class_at m.cells n ≡ Some class → Changes m.cells heap n None → count heap + 1 ≡ count m.cells

@@ -19,7 +19,7 @@ use Rattle.aom_exec.proofs.Stepping.{met, frame_of, at_step, step_of_instr}
 use Rattle.aom_exec.proofs.FieldActs.{is_housed, has_cell}
 
 module _ (p : Image) (m : Parts) (st : Stands (record { image = p; parts = m })) (runs : Runs m.stack.tasks) where
-  pub at_hand : At_hand p m
+  unfoldable pub at_hand : At_hand p m
   at_hand =
       let f = frame_of m.stack.tasks st.0.tasks runs st.1.agrees.tasks in
       record { typing = st.1.typing; state = st.0; frame = f.0; below = f.1; top = f.2; wired = st.1.sound.wired; typed = st.1.typed; agrees = st.1.agrees }

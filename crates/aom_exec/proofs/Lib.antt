@@ -1,4 +1,6 @@
 pub mod Values
+pub mod Entries
+pub mod Overs
 pub mod CellWords
 pub mod Standing
 pub mod Cells
@@ -14,6 +16,11 @@ pub mod ReturnActs
 pub mod GoingActs
 pub mod Stepping
 pub mod Housing
+pub mod Depths
+pub mod Heights
+pub mod RoomActs
+pub mod RoomMoves
+pub mod Counts
 pub mod Rooms
 pub mod Ends
 pub mod Finding
@@ -22,5 +29,13 @@ pub mod Ranking
 pub mod Progressing
 pub mod Booting
 pub mod EnterActs
+pub mod Traps
+pub mod Settling
+pub mod LeavingActs
+pub mod EntryActs
+pub mod DealActs
+pub mod Topping
+pub mod UnwindActs
+pub mod Settled
 pub mod Working
 pub mod Many

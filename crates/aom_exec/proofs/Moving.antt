@@ -27,4 +27,5 @@ hands_over p m s heap root from to f f' ms fr fr' ts agrees top cells frame no_w
   entries = agrees.entries;
   rest = agrees.rest;
   room = agrees.room;
+  entry_room = agrees.entry_room;
 }

@@ -1,19 +1,21 @@
 -- Instructions on objects: a jump where there is none, a new cell, the destruction of nothing.
-use Rattle.std.proofs.Common.{inl, inr, suc, ◌≡◌, ◌≢◌, ℕ, ◌<◌, ◌+◌, Bool, true, false, cond, ◌==◌, ◌||◌, length, List, ◌∷◌, Option, Some, None, replicate, slice_set, slice_index_or, refl, sym, ap, ◌∙◌, subst, arith, ℤ, pos}
-use Rattle.std.specs.Prelude.{nat_le}
+use Rattle.std.proofs.Common.{inl, inr, suc, ◌≡◌, ◌≢◌, ℕ, ◌<◌, ◌+◌, Bool, true, false, cond, ◌==◌, ◌||◌, ◌&&◌, length, List, ◌∷◌, Option, Some, None, replicate, slice_set, slice_index_or, refl, sym, ap, ◌∙◌, subst, arith, ℤ, pos}
+use Rattle.std.specs.Prelude.{is_none, nat_le}
 use Rattle.std.specs.List.{list_any}
 use Rattle.std.proofs.lemmas.List.{length-set, length-replicate}
 use Rattle.std.proofs.lemmas.Bool.{eq-eqb, eqb-true, false≢true}
 use Rattle.aom_image.specs.Image.{Image}
+use Rattle.aom_image.specs.Views.{instr_at}
+use Rattle.aom_image.specs.declared.instr.Instr.{Instr}
 use Rattle.aom_image.specs.declared.instr.Instr.TheVariants.{JumpNull, New, Delete}
 use Rattle.aom_image.specs.declared.method.Thing.TheVariants.{Object as An_object_of}
 use Rattle.aom_cells.specs.Heap.{Heap, null, cell_at, word_of, field_of, count, blank, Changes}
 use Rattle.aom_shape.specs.Tables.{at}
 use Rattle.aom_shape.specs.Things.{words_of}
 use Rattle.aom_sound.specs.Places.{Place, Register, Entry, Field, Going, Elsewhere, Object, Cell, held, named, changed, with_new, word_field}
-use Rattle.aom_sound.specs.State.{word, next, set_word, Run, Rest, State, Choice, raised}
+use Rattle.aom_sound.specs.State.{word, next, set_word, Run, Rest, Choice, raised}
 use Rattle.aom_sound.specs.Objects.{jumped, deleted}
-use Rattle.aom_sound.specs.Moves.{is_refused}
+use Rattle.aom_sound.specs.Moves.{is_refused, makes, makes_cell}
 use Rattle.aom_lines.specs.Turn.{Turn}
 use Rattle.aom_frames.specs.Tasks.{on_top, with_place, with_register, place_here, register_here}
 use Rattle.aom_frames.specs.declared.frame.Frame.{Frame as Held_frame}
@@ -22,11 +24,12 @@ use Rattle.aom_frames.specs.declared.task.Task.TheVariants.{Run as Runs_frame}
 use Rattle.aom_exec.specs.declared.parts.Parts.{Parts}
 use Rattle.aom_exec.specs.Places.{value_in, with_tasks}
 use Rattle.aom_exec.specs.Agrees.{Shows, number, SameCells, thing_in, thing_of, Agrees}
-use Rattle.aom_exec.specs.Acts.{At_hand, requested, set_register, Does, DoesIn, refuses, Made}
+use Rattle.aom_exec.specs.Acts.{At_hand, requested, set_register, Does, DoesIn, refuses, refuses_entry, Made}
 use Rattle.aom_exec.specs.Acts as acts
 use Rattle.aom_exec.proofs.Values.{cases, writes, kept, value_written, word_written}
 use Rattle.aom_exec.proofs.Standing.{Top, by_top, goes_on, stays, moved_on, register_shows, free, no_word, unnamed, an_open, not_null, nothing_held}
 use Rattle.aom_exec.proofs.CellWords.{all_same, zeros_at}
+use Rattle.aom_cleanup.specs.declared.item.Item.{Item}
 
 -- what a register shows that has no word
 pub shown : (p : Image) (m : Parts) (h : At_hand p m) (f : Held_frame) (ms : List Held_task) → Top m h.state h.frame h.below f ms → (a : ℕ) → word h.frame a ≡ None → slice_index_or f.registers a null ≡ number (held h.state.cells (Register (length h.below) a))
@@ -34,7 +37,7 @@ shown p m h f ms top a none = subst (λ w. Shows (slice_index_or f.registers a n
 
 module _ (m : Parts) (refused : List ℕ) where
   pub jump_null_does : (a to : ℕ) → register_here m.stack.tasks a ≡ null → Does refused (JumpNull a to) m (acts.to_place to m)
-  jump_null_does a to is p admitted h =
+  jump_null_does a to is p h here =
       let c = an_open p refused m h.state h.agrees in (
         c.0,
         c.1,
@@ -49,7 +52,7 @@ module _ (m : Parts) (refused : List ℕ) where
       go c f ms top (Some o) e n = absurd (not_null p m h.typing h.state h.typed h.agrees _ o e n)
 
   pub jump_object_does : (a to : ℕ) → (register_here m.stack.tasks a ≡ null → ⊥) → Does refused (JumpNull a to) m (acts.next m)
-  jump_object_does a to is p admitted h =
+  jump_object_does a to is p h here =
       let c = an_open p refused m h.state h.agrees in (
         c.0,
         c.1,
@@ -79,7 +82,7 @@ module _ (m : Parts) (refused : List ℕ) where
       (λ q. kept (held s.cells) (Register (length ts) a) q ∙ ap (λ o. changed (held s.cells) (Register (length ts) a) o q) none))
 
   pub delete_null_does : (p : Image) (a : ℕ) → a < 16 → register_here m.stack.tasks a ≡ null → DoesIn p refused (Delete a) m (acts.next (set_register a null m))
-  delete_null_does p a small is h =
+  delete_null_does p a small is h here =
       let c = an_open p refused m h.state h.agrees in (
         c.0,
         c.1,
@@ -93,7 +96,7 @@ module _ (m : Parts) (refused : List ℕ) where
       )
 
 -- the fields of a new cell are null, and so are those of one that is not there
-values_kept : (ms : List Held_task) (h h' : Heap) (es : List ℕ) (root n class : ℕ) → cell_at h n ≡ None → Changes h h' n (Some (blank class)) → (r : Place) → value_in ms h' es root r ≡ value_in ms h es root r
+values_kept : (ms : List Held_task) (h h' : Heap) (es : List Item) (root n class : ℕ) → cell_at h n ≡ None → Changes h h' n (Some (blank class)) → (r : Place) → value_in ms h' es root r ≡ value_in ms h es root r
 values_kept ms h h' es root n class none ch (Field k g) = cases (n == k)
     (λ e.
     let same = eqb-true n k e in
@@ -134,48 +137,79 @@ cells_made p h h' cs n class ws q same zeros small none some ch more = record {
     new : (k : ℕ) (c : _) → (n == k) ≡ true → cell_at h' k ≡ Some c → blank class ≡ c
     new k c e is = let both : Some (blank class) ≡ Some c = sym ch.here ∙ ap (λ i. cell_at h' i) (eqb-true n k e) ∙ is in cc
 
+-- whether the request at hand is for a cell
+makes_here : (p : Image) (m : Parts) (h : At_hand p m) (i : Instr) → instr_at p h.frame.method h.frame.place ≡ Some i → makes_cell p h.state.tasks ≡ makes (Some i)
+makes_here p m h i here = ap (makes_cell p) h.top ∙ ap makes here
+
 -- what the machine refuses is what the checked machine hears
-same_refusal : (p : Image) (turn : Turn) (m : Parts) (s : State) → Agrees p m s → refuses turn m ≡ is_refused p turn.refused s
-same_refusal p turn m s agrees =
-    ap (λ r. list_any (λ n. n == raised r.requests) turn.refused || nat_le m.cells.limit (count m.cells)) agrees.rest
-    ∙ ap (λ l. list_any (λ n. n == raised s.rest.requests) turn.refused || nat_le l (count m.cells)) agrees.cells.limit
-    ∙ ap (λ k. list_any (λ n. n == raised s.rest.requests) turn.refused || nat_le p.header.cells k) agrees.cells.count
+module _ (p : Image) (turn : Turn) (m : Parts) (h : At_hand p m) (i : Instr) (here : instr_at p h.frame.method h.frame.place ≡ Some i) where
+  abbrev is_named : ℕ → Bool
+  is_named requests = list_any (λ n. n == raised requests) turn.refused
+
+  pub same_refusal : makes (Some i) ≡ true → refuses turn m ≡ is_refused p turn.refused h.state
+  same_refusal cell =
+      let s = h.state in
+      ap (λ r. is_named r.requests || nat_le m.cells.limit (count m.cells)) h.agrees.rest
+      ∙ ap (λ l. is_named s.rest.requests || nat_le l (count m.cells)) h.agrees.cells.limit
+      ∙ ap (λ k. is_named s.rest.requests || nat_le p.header.cells k) h.agrees.cells.count
+      ∙ ap (λ b. is_named s.rest.requests || (b && nat_le p.header.cells (length s.cells))) (sym (makes_here p m h i here ∙ cell))
+
+  pub same_entry_refusal : makes (Some i) ≡ false → refuses_entry turn m ≡ is_refused p turn.refused h.state
+  same_entry_refusal none =
+      let s = h.state in
+      ap (λ r. is_named r.requests) h.agrees.rest
+      ∙ alone (is_named s.rest.requests)
+      ∙ ap (λ b. is_named s.rest.requests || (b && nat_le p.header.cells (length s.cells))) (sym (makes_here p m h i here ∙ none))
+    where
+      alone : (b : Bool) → b ≡ (b || false)
+      alone true = refl
+      alone false = refl
 
 module _ (m : Parts) (turn : Turn) where
   -- the machine whose request is counted, with these cells
-  abbrev asked : Heap → Parts
+  abbrev pub asked : Heap → Parts
   asked heap = record m { cells = heap; rest = record m.rest { requests = raised m.rest.requests } }
 
   refused_does : (a class : ℕ) → a < 16 → true ≡ refuses turn m → Does turn.refused (New a class) m (acts.next (set_register a null (asked m.cells)))
-  refused_does a class small full p admitted h = (
+  refused_does a class small full p h here = (
     record { name = null; refused = true },
-    record { name = unnamed p m h.state null h.agrees h.agrees.cells.null_is_none; refusal = full ∙ same_refusal p turn m h.state h.agrees },
+    record { name = unnamed p m h.state null h.agrees h.agrees.cells.null_is_none; refusal = full ∙ same_refusal p turn m h (New a class) here refl },
     λ needs typed. by_top p m h
         (λ us. Agrees p (record m { stack = record m.stack { tasks = on_top (with_place (suc (place_here (on_top (with_register a null) us)))) (on_top (with_register a null) us) }; rest = record m.rest { requests = raised m.rest.requests } }) (record (requested (New a class) h.state) { tasks = Run (next (set_word h.frame a None)) ∷ h.below }))
         (λ f ms top. nulled m turn.refused p h a _ _ f ms small (ap (λ (r : Rest). record r { requests = raised r.requests }) h.agrees.rest) top (free _ needs.0)),
   )
 
-  made_does : (a class n : ℕ) (heap : Heap) → a < 16 → false ≡ refuses turn m → class < 256 → cell_at m.cells n ≡ None → n ≢ null → Changes m.cells heap n (Some (blank class)) → count heap ≡ count m.cells + 1
-      → Does turn.refused (New a class) m (acts.next (set_register a n (asked heap)))
-  made_does a class n heap small granted fits none some ch more p admitted h =
+  -- a new cell comes to a register
+  pub made_agrees : (p : Image) (h : At_hand p m) (a class n : ℕ) (heap : Heap) (r : Rest) → a < 16 → record m.rest { requests = raised m.rest.requests } ≡ r → is_none (held h.state.cells (Register (length h.below) a)) ≡ true
+      → class < 256 → cell_at m.cells n ≡ None → n ≢ null → Changes m.cells heap n (Some (blank class)) → count heap ≡ count m.cells + 1
+      → Agrees p (acts.next (set_register a n (asked heap))) (record h.state { cells = with_new n (An_object_of class) (zeros p class) (Register (length h.below) a) h.state.cells; tasks = Run (next (set_word h.frame a None)) ∷ h.below; rest = r })
+  made_agrees p h a class n heap r small rest empty fits none some ch more =
       let s = h.state in
       let fr = h.frame in
-      let ts = h.below in (
-        record { name = n; refused = false },
-        record { name = unnamed p m s n h.agrees none; refusal = granted ∙ same_refusal p turn m s h.agrees },
-        λ needs typed. by_top p m h
-            (λ us. Agrees p (record m { stack = record m.stack { tasks = on_top (with_place (suc (place_here (on_top (with_register a n) us)))) (on_top (with_register a n) us) }; cells = heap; rest = record m.rest { requests = raised m.rest.requests } }) (record (requested (New a class) s) { cells = with_new n (An_object_of class) (zeros p class) (Register (length ts) a) s.cells; tasks = Run (next (set_word fr a None)) ∷ ts }))
-            (λ f ms top.
-            let wide = top.frame.wide in
-            goes_on p m s heap (with_new n (An_object_of class) (zeros p class) (Register (length ts) a) s.cells) _ _ _ ms (next (set_word fr a None)) ts h.agrees
-            (cells_made p m.cells heap s.cells n class (zeros p class) (Register (length ts) a) h.agrees.cells (zeros_at (words_of p class)) fits none some ch more)
-            (ap (λ (r : Rest). record r { requests = raised r.requests }) h.agrees.rest) top.below
-            (moved_on f fr (slice_set f.registers a n) (set_word fr a None).words top.frame (length-set f.registers a n ∙ wide))
-            (writes _ _ _ _ (held s.cells) _ (Register (length ts) a) n None (Some (record { name = n; thing = An_object_of class })) top.values refl
-            (λ r. value_written f ms heap m.entries.items m.root (length ts) a n (suc f.place) top.deep (omega arith) r ∙ ap (λ x. changed (λ q. x) (Register (length ts) a) n r) (values_kept (Runs_frame f ∷ ms) m.cells heap m.entries.items m.root n class none ch r))
-            (word_written fr ts a (suc fr.place) None)
-            (λ r. refl))),
-      )
+      let ts = h.below in
+      by_top p m h
+      (λ us. Agrees p (record m { stack = record m.stack { tasks = on_top (with_place (suc (place_here (on_top (with_register a n) us)))) (on_top (with_register a n) us) }; cells = heap; rest = record m.rest { requests = raised m.rest.requests } }) (record s { cells = with_new n (An_object_of class) (zeros p class) (Register (length ts) a) s.cells; tasks = Run (next (set_word fr a None)) ∷ ts; rest = r }))
+      (λ f ms top.
+      let wide = top.frame.wide in
+      goes_on p m s heap (with_new n (An_object_of class) (zeros p class) (Register (length ts) a) s.cells) _ _ _ ms (next (set_word fr a None)) ts h.agrees
+      (cells_made p m.cells heap s.cells n class (zeros p class) (Register (length ts) a) h.agrees.cells (zeros_at (words_of p class)) fits none some ch more)
+      rest top.below
+      (moved_on f fr (slice_set f.registers a n) (set_word fr a None).words top.frame (length-set f.registers a n ∙ wide))
+      (writes _ _ _ _ (held s.cells) _ (Register (length ts) a) n None (Some (record { name = n; thing = An_object_of class })) top.values refl
+      (λ r. value_written f ms heap m.entries.items m.root (length ts) a n (suc f.place) top.deep (omega arith) r ∙ ap (λ x. changed (λ q. x) (Register (length ts) a) n r) (values_kept (Runs_frame f ∷ ms) m.cells heap m.entries.items m.root n class none ch r))
+      (word_written fr ts a (suc fr.place) None)
+      (λ r. refl)))
+
+  pub asks_one : (r : Rest) → m.rest ≡ r → record m.rest { requests = raised m.rest.requests } ≡ record r { requests = raised r.requests }
+  asks_one r e = ap (λ (q : Rest). record q { requests = raised q.requests }) e
+
+  made_does : (a class n : ℕ) (heap : Heap) → a < 16 → false ≡ refuses turn m → class < 256 → cell_at m.cells n ≡ None → n ≢ null → Changes m.cells heap n (Some (blank class)) → count heap ≡ count m.cells + 1
+      → Does turn.refused (New a class) m (acts.next (set_register a n (asked heap)))
+  made_does a class n heap small granted fits none some ch more p h here = (
+    record { name = n; refused = false },
+    record { name = unnamed p m h.state n h.agrees none; refusal = granted ∙ same_refusal p turn m h (New a class) here refl },
+    λ needs typed. made_agrees p h a class n heap _ small (asks_one h.state.rest h.agrees.rest) needs.0 fits none some ch more,
+  )
 
   pub new_does : (a class n : ℕ) (refused : Bool) (heap : Heap) → a < 16 → refused ≡ refuses turn m → Made class refused n m.cells heap → Does turn.refused (New a class) m (acts.next (set_register a n (asked heap)))
   new_does a class n refused heap small same it = elim it [

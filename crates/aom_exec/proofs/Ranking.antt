@@ -9,18 +9,20 @@ use Rattle.aom_classes.specs.Loops.{loop_at}
 use Rattle.aom_cells.specs.Heap.{count}
 use Rattle.aom_shape.specs.Tables.{at}
 use Rattle.aom_shape.specs.Typing.{Typing}
-use Rattle.aom_sound.specs.State.{Frame, Task, Run, Trapped, Destroy, Dispatched, State, next}
+use Rattle.aom_sound.specs.State.{Frame, Task, Run, Trapped, Destroy, Unwind, Dispatched, Item, An_object, An_operation, A_mark, State, next}
 use Rattle.aom_sound.specs.WellTyped.{WellTyped}
 use Rattle.aom_frames.specs.declared.frame.Frame.{Frame as Held_frame}
 use Rattle.aom_frames.specs.declared.task.Task.{Task as Held_task}
-use Rattle.aom_frames.specs.declared.task.Task.TheVariants.{Run as Runs_frame, Trapped as Is_trap, Destroy as Destroys, Dispatched as Ends}
+use Rattle.aom_frames.specs.declared.task.Task.TheVariants.{Run as Runs_frame, Trapped as Is_trap, Destroy as Destroys, Unwind as Unwinds, Dispatched as Ends}
+use Rattle.aom_cleanup.specs.declared.item.Item.{Item as Held_item}
+use Rattle.aom_cleanup.specs.declared.item.Item.TheVariants.{Object as Holds_object, Operation as Holds_operation, Mark as Is_mark}
 use Rattle.aom_ranks.specs.Within.{is_in_body, weight, rounds_left, total}
-use Rattle.aom_ranks.specs.Ranks.{price, left_in, frame_rank, end_rank, waiting_rank, tasks_rank, standing, destructions, cell_rank, rank}
+use Rattle.aom_ranks.specs.Ranks.{price, left_in, frame_rank, end_rank, waiting_rank, tasks_rank, standing, destructions, operations, cell_rank, rank}
 use Rattle.aom_ranks.proofs.Goings.{cells_stand_or_go}
 use Rattle.aom_ranks.proofs.Ranking.{moves_lower_ranks}
 use Rattle.aom_exec.specs.declared.parts.Parts.{Parts}
-use Rattle.aom_exec.specs.Agrees.{SameFrame, SameTask, SameTasks, Agrees}
-use Rattle.aom_exec.specs.Ranks.{ranked, rank_of}
+use Rattle.aom_exec.specs.Agrees.{SameFrame, SameTask, SameTasks, SameItem, SameItems, Agrees}
+use Rattle.aom_exec.specs.Ranks.{ranked, operations_in, rank_of}
 use Rattle.aom_exec.specs.Steps.{Sound, Moved}
 
 -- ---- what is left of a method hangs on the number of rounds in each counter
@@ -61,6 +63,7 @@ waits_alike p (m ∷ ms) (u ∷ us) same = go m u same.0 (waits_alike p ms us sa
     go (Runs_frame f) (Run fr) same e = ap (λ k. k + waiting_rank p (map ranked ms)) (frame_alike p f fr (suc f.place) (suc fr.place) same (ap suc same.place)) ∙ ap (λ k. frame_rank p (next fr) + k) e
     go Is_trap Trapped same e = ap (λ k. 1 + k) e
     go (Destroys x) Destroy same e = ap (λ k. 1 + k) e
+    go (Unwinds code) (Unwind c) same e = ap (λ k. 1 + k) e
     go (Ends x) (Dispatched d) same e = ap (λ k. end_rank k + waiting_rank p (map ranked ms)) same ∙ ap (λ k. end_rank d + k) e
     go m u same e = absurd same
 
@@ -74,6 +77,7 @@ tasks_alike p (m ∷ ms) (u ∷ us) same = go m u same.0
     go (Runs_frame f) (Run fr) same' = ap (λ k. k + waiting_rank p (map ranked ms)) (frame_alike p f fr f.place fr.place same' same'.place) ∙ ap (λ k. frame_rank p fr + k) (waits_alike p ms us same.1)
     go Is_trap Trapped same' = waits_alike p (Is_trap ∷ ms) (Trapped ∷ us) (same', same.1)
     go (Destroys x) Destroy same' = waits_alike p (Destroys x ∷ ms) (Destroy ∷ us) (same', same.1)
+    go (Unwinds code) (Unwind c) same' = waits_alike p (Unwinds code ∷ ms) (Unwind c ∷ us) (same', same.1)
     go (Ends x) (Dispatched d) same' = waits_alike p (Ends x ∷ ms) (Dispatched d ∷ us) (same', same.1)
     go m u same' = absurd same'
 
@@ -87,17 +91,34 @@ destructions_alike (m ∷ ms) (u ∷ us) same = go m u same.0 (destructions_alik
     go (Runs_frame f) (Run fr) same e = e
     go Is_trap Trapped same e = e
     go (Destroys x) Destroy same e = ap suc e
+    go (Unwinds code) (Unwind c) same e = e
     go (Ends x) (Dispatched d) same e = e
     go m u same e = absurd same
 
+-- as many operations are on the cleanup stack
+operations_alike : (is : List Held_item) (js : List Item) → SameItems is js → operations_in is ≡ operations js
+operations_alike [] [] same = refl
+operations_alike [] (j ∷ js) same = absurd same
+operations_alike (i ∷ is) [] same = absurd same
+operations_alike (i ∷ is) (j ∷ js) same = go i j same.0 (operations_alike is js same.1)
+  where
+    go : (i : Held_item) (j : Item) → SameItem i j → operations_in is ≡ operations js → operations_in (i ∷ is) ≡ operations (j ∷ js)
+    go (Holds_object n) An_object same e = e
+    go (Holds_operation m n) (An_operation k w) same e = ap suc e
+    go Is_mark A_mark same e = e
+    go i j same e = absurd same
+
 -- the machine's rank is its state's
-pub same_rank : (p : Image) (t : Typing) (m : Parts) (s : State) → WellTyped p t s → Agrees p m s → rank_of p m.stack.tasks (count m.cells) ≡ rank p s
+pub same_rank : (p : Image) (t : Typing) (m : Parts) (s : State) → WellTyped p t s → Agrees p m s → rank_of p m.stack.tasks m.entries.items (count m.cells) ≡ rank p s
 same_rank p t m s typed agrees =
     let gone = destructions_alike m.stack.tasks s.tasks agrees.tasks in
     let live = agrees.cells.count in
     let all = cells_stand_or_go p t s typed in
     let stand : count m.cells - destructions (map ranked m.stack.tasks) ≡ standing s.cells = omega (arith, gone, live, all) in
-    ap (λ k. k + (count m.cells - destructions (map ranked m.stack.tasks)) * cell_rank p) (tasks_alike p m.stack.tasks s.tasks agrees.tasks) ∙ ap (λ k. tasks_rank p s.tasks + k * cell_rank p) stand
+    let run = operations_alike m.entries.items s.items agrees.entries in
+    ap (λ k. k + ((count m.cells - destructions (map ranked m.stack.tasks)) + operations_in m.entries.items) * cell_rank p) (tasks_alike p m.stack.tasks s.tasks agrees.tasks)
+    ∙ ap (λ k. tasks_rank p s.tasks + (k + operations_in m.entries.items) * cell_rank p) stand
+    ∙ ap (λ k. tasks_rank p s.tasks + (standing s.cells + k) * cell_rank p) run
 
 -- ---- a move
 
@@ -107,7 +128,7 @@ busy_state (m ∷ ms) [] same busy = absurd same
 busy_state (m ∷ ms) (u ∷ us) same busy = (u, us, refl)
 
 pub moved_falls : (p : Image) (t : Typing) (refused : List ℕ) (m new : Parts) (s : State) → Sound p t → WellTyped p t s → Agrees p m s → Moved p refused t s new → 0 < length m.stack.tasks
-    → rank_of p new.stack.tasks (count new.cells) < rank_of p m.stack.tasks (count m.cells)
+    → rank_of p new.stack.tasks new.entries.items (count new.cells) < rank_of p m.stack.tasks m.entries.items (count m.cells)
 moved_falls p t refused m new s sound typed agrees moved busy =
     let before = same_rank p t m s typed agrees in
     let after = same_rank p t new moved.state moved.typed moved.agrees in

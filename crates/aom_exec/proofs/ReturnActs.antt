@@ -1,6 +1,6 @@
 -- A method returns: to the method that called it, to the going of its cell, or through the trap of its dispatch.
-use Rattle.std.proofs.Common.{suc, ◌≡◌, ◌==◌, ◌&&◌, ℕ, ℤ, ◌<◌, ◌≤◌, ◌-◌, Bool, true, false, cond, length, List, [], ◌∷◌, Option, Some, None, take, slice_index_or, slice_set, refl, sym, ap, ◌∙◌, subst, arith}
-use Rattle.std.proofs.lemmas.Bool.{eqb-true, ne_eqb, false≢true}
+use Rattle.std.proofs.Common.{suc, ◌≡◌, ◌==◌, ◌&&◌, ℕ, ℤ, ◌<◌, ◌≤◌, Bool, true, false, cond, length, List, [], ◌∷◌, Option, Some, None, pos, slice_index_or, slice_set, refl, sym, ap, ◌∙◌, subst, arith}
+use Rattle.std.proofs.lemmas.Bool.{eq-eqb, eqb-true, ne_eqb}
 use Rattle.std.proofs.lemmas.List.{length-set}
 use Rattle.aom_image.specs.Image.{Image}
 use Rattle.aom_image.specs.Views.{gives_in, gives_of, instr_at, method_at}
@@ -10,33 +10,39 @@ use Rattle.aom_image.specs.declared.method.Gives.{Gives}
 use Rattle.aom_image.specs.declared.method.Gives.TheVariants.{Left, Maybe as A_maybe, Nothing, Own as An_own, Word as A_word}
 use Rattle.aom_cells.specs.Heap.{Heap, null}
 use Rattle.aom_shape.specs.Kinds.{is_unowning, register}
+use Rattle.aom_shape.specs.declared.kind.Kind.{Kind}
+use Rattle.aom_shape.specs.declared.kind.Kind.TheVariants.{Unset, Word, Null, Own, Maybe}
 use Rattle.aom_shape.specs.Needs.{AllTrue}
 use Rattle.aom_shape.specs.Shape.{Shape}
 use Rattle.aom_shape.specs.Typing.{Typing}
 use Rattle.aom_sound.specs.Calls.{below_top, needs_return, result_needs, result_register, returned}
-use Rattle.aom_sound.specs.Claims.{Layer, Method, Mark, Dying, Dispatching, tasks_of, claim, declared}
+use Rattle.aom_sound.specs.Claims.{Layer, Method, Mark, Dying, Dispatching, tasks_of, claim, declared, Unwinding}
 use Rattle.aom_sound.specs.Places.{Place, Register, Entry, Field, Going, Elsewhere, Object, Cell, changed, held, moved, same_place}
-use Rattle.aom_sound.specs.State.{Frame, Dispatch, next, set_word, word, Task, Run, Trapped, Destroy, Dispatched, State}
-use Rattle.aom_sound.specs.WellTyped.{Awaits, Fits, Good, WellTyped}
+use Rattle.aom_sound.specs.State.{Frame, Dispatch, next, set_word, word, Task, Run, Trapped, Destroy, Dispatched, State, Unwind}
+use Rattle.aom_sound.specs.WellTyped.{Awaits, Fits, Good, WellTyped, WordFits}
 use Rattle.aom_sound.proofs.Claimed.{claim_register_above}
 use Rattle.aom_sound.proofs.Finishing.{all_parts}
-use Rattle.aom_sound.proofs.Maps.{held_moved}
+use Rattle.aom_sound.proofs.Maps.{at-put_at, held_moved}
 use Rattle.aom_sound.proofs.Straight.{claim_register, fits_unowning}
+use Rattle.aom_cleanup.specs.Items.{Stack as Held_items}
+use Rattle.aom_cleanup.specs.declared.item.Item.TheVariants.{Mark as Is_mark}
 use Rattle.aom_frames.specs.Tasks.{Runs, method_here, place_here, register_here}
 use Rattle.aom_frames.specs.declared.frame.Frame.{Frame as Held_frame}
 use Rattle.aom_frames.specs.declared.task.Task.{Task as Held_task}
-use Rattle.aom_frames.specs.declared.task.Task.TheVariants.{Run as Runs_frame, Trapped as Is_trap, Destroy as Destroys, Dispatched as Ends}
+use Rattle.aom_frames.specs.declared.task.Task.TheVariants.{Run as Runs_frame, Trapped as Is_trap, Destroy as Destroys, Dispatched as Ends, Unwind as Unwinds}
 use Rattle.aom_frames.specs.declared.task.Dispatch.{Dispatch as Held_dispatch}
 use Rattle.aom_exec.specs.declared.parts.Parts.{Parts}
-use Rattle.aom_exec.specs.Places.{value_in, register_in, going_in, with_tasks, below_first, IsDestroying, IsTrapped}
-use Rattle.aom_exec.specs.Agrees.{word_at, word_in, Shows, SameCells, SameTasks, dispatch_of, Agrees}
+use Rattle.aom_exec.specs.Places.{value_in, register_in, going_in, with_tasks, below_first, IsDestroying, IsEnding, IsTrapped, IsUnwinding}
+use Rattle.aom_exec.specs.Agrees.{word_at, word_in, Shows, SameCells, SameFrame, SameTasks, dispatch_of, Agrees}
 use Rattle.aom_exec.specs.Acts.{At_hand, requested, resulted, DoesIn}
 use Rattle.aom_exec.specs.Acts as acts
-use Rattle.aom_exec.specs.Room.{ReturnsTo}
+use Rattle.aom_exec.proofs.Entries.{mark_shows_none, unmarked, value_alike}
+use Rattle.aom_exec.proofs.Overs.{held_over, higher, over_value, over_words, tasks_over}
 use Rattle.aom_exec.proofs.CallActs.{closing, ended, fits_null, shows_null}
 use Rattle.aom_exec.proofs.Cells.{cells_moved}
 use Rattle.aom_exec.proofs.Standing.{Top, by_top, goes_on, moved_on, register_shows, no_word, an_open, ends_last}
 use Rattle.aom_exec.proofs.Values.{at_depth, cases, going_past, kept, register_past, value_kept, value_written, word_next, word_past, word_written, writes}
+use Rattle.aom_cleanup.specs.declared.item.Item.{Item}
 
 -- what a method gives back
 pub gives_here : (p : Image) (k : ℕ) (d : Method_decl) → method_at p k ≡ Some d → gives_of p k ≡ d.gives
@@ -46,14 +52,14 @@ gives_here p k d e = ap gives_in e
 -- ---- what lies below the task that is over
 
 -- what places hold, but for the registers of that depth
-abbrev cleared : ℕ → (Place → Option Object) → Place → Option Object
+abbrev pub cleared : ℕ → (Place → Option Object) → Place → Option Object
 cleared d h (Register e i) = cond (d == e) None (h (Register e i))
 cleared d h (Entry k) = h (Entry k)
 cleared d h (Field n g) = h (Field n g)
 cleared d h (Going k) = h (Going k)
 cleared d h (Elsewhere o) = h (Elsewhere o)
 
-cleared_none : (d : ℕ) (h : Place → Option Object) → ((i : ℕ) → h (Register d i) ≡ None) → (r : Place) → cleared d h r ≡ h r
+pub cleared_none : (d : ℕ) (h : Place → Option Object) → ((i : ℕ) → h (Register d i) ≡ None) → (r : Place) → cleared d h r ≡ h r
 cleared_none d h none (Register e i) = cases (d == e)
     (λ b. ap (λ x. cond x None (h (Register e i))) b ∙ sym (none i) ∙ ap (λ k. h (Register k i)) (eqb-true d e b))
     (λ b. ap (λ x. cond x None (h (Register e i))) b)
@@ -63,7 +69,7 @@ cleared_none d h none (Going k) = refl
 cleared_none d h none (Elsewhere o) = refl
 
 -- the other places stand for what they stood for
-beneath : (f : Held_frame) (us : List Held_task) (fr : Frame) (ts : List Task) (heap : Heap) (es : List ℕ) (root : ℕ) (h : Place → Option Object) → length us ≡ length ts
+pub beneath : (f : Held_frame) (us : List Held_task) (fr : Frame) (ts : List Task) (heap : Heap) (es : List Item) (root : ℕ) (h : Place → Option Object) → length us ≡ length ts
     → ((r : Place) → Shows (value_in (Runs_frame f ∷ us) heap es root r) (word_at (Run fr ∷ ts) r) (h r))
     → (r : Place) → Shows (value_in us heap es root r) (word_at ts r) (cleared (length ts) h r)
 beneath f us fr ts heap es root h deep old (Register e i) = go (length ts == e) refl (subst (λ d. Shows (cond (d == e) (slice_index_or f.registers i null) (register_in us e i)) (cond (length ts == e) (word fr i) (word_in ts e i)) (h (Register e i))) deep (old (Register e i)))
@@ -83,14 +89,14 @@ none_above p t s d i typed le =
     fits_null p (held s.cells) _ (subst (Fits p (held s.cells) (held s.cells (Register d i))) (claim_register_above p s.cells typed.layers d i (omega arith)) (typed.good.fits (Register d i)))
 
 -- what the result comes to owns nothing
-abbrev bears : Gives → Bool
+abbrev pub bears : Gives → Bool
 bears Nothing = false
 bears A_word = true
 bears (An_own t) = true
 bears (A_maybe t) = true
 bears (Left c) = false
 
-awaiting : (g : Gives) (x : ℕ) (sh : Shape) → bears g ≡ true → Awaits g x sh → is_unowning (register sh x) ≡ true
+pub awaiting : (g : Gives) (x : ℕ) (sh : Shape) → bears g ≡ true → Awaits g x sh → is_unowning (register sh x) ≡ true
 awaiting Nothing x sh b a = cc
 awaiting A_word x sh b a = a
 awaiting (An_own t) x sh b a = a
@@ -106,10 +112,12 @@ awaited p t s fr caller ts typed top some = go typed.layers (sym typed.tasks ∙
     go (Mark g ∷ ls) e good = cc
     go (Dying o ∷ ls) e good = cc
     go (Dispatching d ∷ ls) e good = cc
+    go (Unwinding code es ∷ ls) e good = cc
     go (Method fr' sh ∷ []) e good = cc
     go (Method fr' sh ∷ Mark g ∷ ls) e good = cc
     go (Method fr' sh ∷ Dying o ∷ ls) e good = cc
     go (Method fr' sh ∷ Dispatching d ∷ ls) e good = cc
+    go (Method fr' sh ∷ Unwinding code es ∷ ls) e good = cc
     go (Method fr' sh ∷ Method caller' sh' ∷ ls) e good =
         let same : fr' ≡ fr = cc in
         let below : caller' ≡ caller = cc in
@@ -122,6 +130,68 @@ awaited p t s fr caller ts typed top some = go typed.layers (sym typed.tasks ∙
         let none = fits_unowning p (held s.cells) (held s.cells q) (register sh' x) quiet (subst (Fits p (held s.cells) (held s.cells q)) claims (good.fits q)) in
         subst (λ (f : Frame). held s.cells (Register (length ts) (result_register (instr_at p f.method f.place))) ≡ None) below (subst (λ us. held s.cells (Register (length us) x) ≡ None) rest none)
 
+-- the same through a trap
+awaited_trapped : (p : Image) (t : Typing) (s : State) (fr caller : Frame) (ts : List Task) → WellTyped p t s → s.tasks ≡ Run fr ∷ Trapped ∷ Run caller ∷ ts → bears (gives_of p fr.method) ≡ true
+    → held s.cells (Register (length ts) (result_register (instr_at p caller.method caller.place))) ≡ None
+awaited_trapped p t s fr caller ts typed top some = go typed.layers (sym typed.tasks ∙ top) typed.good
+  where
+    go : (ls : List Layer) → tasks_of ls ≡ Run fr ∷ Trapped ∷ Run caller ∷ ts → Good p t s.cells ls → held s.cells (Register (length ts) (result_register (instr_at p caller.method caller.place))) ≡ None
+    go [] e good = cc
+    go (Mark g ∷ ls) e good = cc
+    go (Dying o ∷ ls) e good = cc
+    go (Dispatching d ∷ ls) e good = cc
+    go (Unwinding code es ∷ ls) e good = cc
+    go (Method fr' sh ∷ []) e good = cc
+    go (Method fr' sh ∷ Method fr'' sh' ∷ ls) e good = cc
+    go (Method fr' sh ∷ Dying o ∷ ls) e good = cc
+    go (Method fr' sh ∷ Dispatching d ∷ ls) e good = cc
+    go (Method fr' sh ∷ Unwinding code es ∷ ls) e good = cc
+    go (Method fr' sh ∷ Mark gv ∷ []) e good = cc
+    go (Method fr' sh ∷ Mark gv ∷ Mark g ∷ ls) e good = cc
+    go (Method fr' sh ∷ Mark gv ∷ Dying o ∷ ls) e good = cc
+    go (Method fr' sh ∷ Mark gv ∷ Dispatching d ∷ ls) e good = cc
+    go (Method fr' sh ∷ Mark gv ∷ Unwinding code es ∷ ls) e good = cc
+    go (Method fr' sh ∷ Mark gv ∷ Method caller' sh' ∷ ls) e good =
+        let same : fr' ≡ fr = cc in
+        let below : caller' ≡ caller = cc in
+        let rest : tasks_of ls ≡ ts = cc in
+        let x = result_register (instr_at p caller'.method caller'.place) in
+        let d = length (tasks_of ls) in
+        let q = Register d x in
+        let mark = good.stack.4 in
+        let given = ap bears (sym mark.0.0) ∙ subst (λ (f : Frame). bears (gives_of p f.method) ≡ true) (sym same) some in
+        let quiet = awaiting gv x sh' given mark.1.0.2 in
+        let claims : claim p (declared p s.cells) (Method fr' sh ∷ Mark gv ∷ Method caller' sh' ∷ ls) q ≡ register sh' x =
+        ap (λ b. cond b (register sh x) (claim p (declared p s.cells) (Mark gv ∷ Method caller' sh' ∷ ls) q)) (ne_eqb (suc (suc d)) d (λ e. absurd (omega arith))) ∙ claim_register p (declared p s.cells) caller' sh' ls x in
+        let none = fits_unowning p (held s.cells) (held s.cells q) (register sh' x) quiet (subst (Fits p (held s.cells) (held s.cells q)) claims (good.fits q)) in
+        subst (λ (f : Frame). held s.cells (Register (length ts) (result_register (instr_at p f.method f.place))) ≡ None) below (subst (λ us. held s.cells (Register (length us) x) ≡ None) rest none)
+
+-- a register with a word owns nothing
+pub word_alone : (p : Image) (t : Typing) (s : State) (fr : Frame) (ts : List Task) (i : ℕ) (w : ℤ) → WellTyped p t s → s.tasks ≡ Run fr ∷ ts → word fr i ≡ Some w → held s.cells (Register (length ts) i) ≡ None
+word_alone p t s fr ts i w typed top has = go typed.layers (sym typed.tasks ∙ top) typed.good
+  where
+    kind_alone : (k : Kind) (w' : Option ℤ) (o : Option Object) → w' ≡ Some w → WordFits w' k → Fits p (held s.cells) o k → o ≡ None
+    kind_alone k w' None e word fits = refl
+    kind_alone Unset w' (Some o) e word fits = absurd fits
+    kind_alone Word w' (Some o) e word fits = absurd fits
+    kind_alone Null w' (Some o) e word fits = absurd fits
+    kind_alone (Own y age) w' (Some o) e word fits = let none : Some w ≡ None = sym e ∙ word in cc
+    kind_alone (Maybe y age) w' (Some o) e word fits = let none : Some w ≡ None = sym e ∙ word in cc
+
+    go : (ls : List Layer) → tasks_of ls ≡ Run fr ∷ ts → Good p t s.cells ls → held s.cells (Register (length ts) i) ≡ None
+    go [] e good = cc
+    go (Mark g ∷ ls) e good = cc
+    go (Dying o ∷ ls) e good = cc
+    go (Dispatching d ∷ ls) e good = cc
+    go (Unwinding code es ∷ ls) e good = cc
+    go (Method fr' sh ∷ ls) e good =
+        let same : fr' ≡ fr = cc in
+        let rest : tasks_of ls ≡ ts = cc in
+        let q = Register (length (tasks_of ls)) i in
+        let claims = claim_register p (declared p s.cells) fr' sh ls i in
+        let none = kind_alone (register sh i) (word fr' i) (held s.cells q) (ap (λ (f : Frame). word f i) same ∙ has) (good.stack.1.words i) (subst (Fits p (held s.cells) (held s.cells q)) claims (good.fits q)) in
+        subst (λ us. held s.cells (Register (length us) i) ≡ None) rest none
+
 module _ (p : Image) (m : Parts) (h : At_hand p m) (f : Held_frame) (a : ℕ) where
   abbrev s : State
   s = h.state
@@ -129,103 +199,210 @@ module _ (p : Image) (m : Parts) (h : At_hand p m) (f : Held_frame) (a : ℕ) wh
   abbrev fr : Frame
   fr = h.frame
 
-  -- to the going of a cell
-  to_going : (x : ℕ) (ms : List Held_task) (ts : List Task) → Top m s fr (Destroy ∷ ts) f (Destroys x ∷ ms) → WellTyped p h.typing (record s { tasks = Destroy ∷ ts }) → Agrees p (with_tasks (Destroys x ∷ ms) m) (record s { tasks = Destroy ∷ ts })
-  to_going x ms ts top typed = record {
+  -- to the going of a cell, or to an unwinding: nothing goes over
+  to_waiting : (ms : List Held_task) (ts : List Task) → Top m s fr ts f ms → WellTyped p h.typing (record s { tasks = ts }) → Agrees p (with_tasks ms m) (record s { tasks = ts })
+  to_waiting ms ts top typed = record {
     tasks = top.below;
-    values = λ r. subst (Shows (value_in (Destroys x ∷ ms) m.cells m.entries.items m.root r) (word_at (Destroy ∷ ts) r)) (cleared_none _ (held s.cells) (λ i. none_above p h.typing (record s { tasks = Destroy ∷ ts }) _ i typed (omega arith)) r)
-        (beneath f (Destroys x ∷ ms) fr (Destroy ∷ ts) m.cells m.entries.items m.root (held s.cells) top.deep top.values r);
+    values = λ r. subst (Shows (value_in ms m.cells m.entries.items m.root r) (word_at ts r)) (cleared_none _ (held s.cells) (λ i. none_above p h.typing (record s { tasks = ts }) _ i typed (omega arith)) r)
+        (beneath f ms fr ts m.cells m.entries.items m.root (held s.cells) top.deep top.values r);
     cells = h.agrees.cells;
     entries = h.agrees.entries;
     rest = h.agrees.rest;
     room = h.agrees.room;
+    entry_room = h.agrees.entry_room;
   }
 
-  -- to a method
-  module _ (g : Held_frame) (ms : List Held_task) (caller : Frame) (ts : List Task) (top : Top m s fr (Run caller ∷ ts) f (Runs_frame g ∷ ms)) (tasks : s.tasks ≡ Run fr ∷ Run caller ∷ ts) (small : result_register (instr_at p caller.method caller.place) < 16) where
+  -- to a method, or through a trap to one
+  module _ (trapped : Bool) (g : Held_frame) (ms : List Held_task) (caller : Frame) (ts : List Task) (top : Top m s fr (tasks_over trapped (Run caller ∷ ts)) f (held_over trapped (Runs_frame g ∷ ms))) (small : result_register (instr_at p caller.method caller.place) < 16) where
     abbrev x : ℕ
     x = result_register (instr_at p caller.method caller.place)
 
     abbrev n : ℕ
     n = slice_index_or f.registers a null
 
-    abbrev under : Place → Option Object
-    under = cleared (suc (length ts)) (held s.cells)
+    abbrev over : List Task
+    over = tasks_over trapped (Run caller ∷ ts)
 
-    base : (r : Place) → Shows (value_in (Runs_frame g ∷ ms) m.cells m.entries.items m.root r) (word_at (Run caller ∷ ts) r) (under r)
-    base = beneath f (Runs_frame g ∷ ms) fr (Run caller ∷ ts) m.cells m.entries.items m.root (held s.cells) top.deep top.values
+    abbrev under : Place → Option Object
+    under = cleared (length over) (held s.cells)
+
+    abbrev from : Place
+    from = Register (length over) a
+
+    abbrev to : Place
+    to = Register (length ts) x
+
+    high : length ts < length over
+    high = higher trapped (Run caller ∷ ts) (omega arith)
 
     deep : length ms ≡ length ts
-    deep = let d = top.deep in omega arith
+    deep = apart trapped top.deep
+      where
+        apart : (b : Bool) → length (held_over b (Runs_frame g ∷ ms)) ≡ length (tasks_over b (Run caller ∷ ts)) → length ms ≡ length ts
+        apart true e = omega arith
+        apart false e = omega arith
 
-    number_shows : Shows n (word fr a) (held s.cells (Register (suc (length ts)) a))
-    number_shows = register_shows m s fr (Run caller ∷ ts) f (Runs_frame g ∷ ms) top a
+    same_frame : SameFrame g caller
+    same_frame = apart trapped top.below
+      where
+        apart : (b : Bool) → SameTasks (held_over b (Runs_frame g ∷ ms)) (tasks_over b (Run caller ∷ ts)) → SameFrame g caller
+        apart true e = e.1.0
+        apart false e = e.0
 
-    abbrev Goes : Gives → Type 0
-    Goes gv =
-        AllTrue (result_needs p fr (Run caller ∷ ts) s gv a) → bears gv ≡ bears (gives_of p fr.method)
-        → WellTyped p h.typing (returned p fr (Run caller ∷ ts) s gv a (Run caller ∷ ts))
-        → Agrees p (acts.next (resulted gv x n (with_tasks (Runs_frame g ∷ ms) m))) (returned p fr (Run caller ∷ ts) s gv a (Run caller ∷ ts))
+    same_below : SameTasks ms ts
+    same_below = apart trapped top.below
+      where
+        apart : (b : Bool) → SameTasks (held_over b (Runs_frame g ∷ ms)) (tasks_over b (Run caller ∷ ts)) → SameTasks ms ts
+        apart true e = e.1.1
+        apart false e = e.1
+
+    base : (r : Place) → Shows (value_in (Runs_frame g ∷ ms) m.cells m.entries.items m.root r) (word_at (Run caller ∷ ts) r) (under r)
+    base r =
+        subst (λ k. Shows k (word_at (Run caller ∷ ts) r) (under r)) (over_value trapped (Runs_frame g ∷ ms) m.cells m.entries.items m.root r)
+        (subst (λ w. Shows (value_in (held_over trapped (Runs_frame g ∷ ms)) m.cells m.entries.items m.root r) w (under r)) (over_words trapped (Run caller ∷ ts) r)
+        (beneath f (held_over trapped (Runs_frame g ∷ ms)) fr over m.cells m.entries.items m.root (held s.cells) top.deep top.values r))
+
+    number_shows : Shows n (word fr a) (held s.cells from)
+    number_shows = register_shows m s fr over f (held_over trapped (Runs_frame g ∷ ms)) top a
+
+    -- the result has come
+    record Landed (rs : List ℕ) (ws : List (Option ℤ)) (cs : List Cell) : Type 0 where
+      values : (r : Place) → Shows (value_in (Runs_frame (record g { registers = rs }) ∷ ms) m.cells m.entries.items m.root r) (word_at (Run (record caller { words = ws }) ∷ ts) r) (held cs r)
+      cells : SameCells p m.cells cs
+      wide : length rs ≡ 16
+
+    abbrev IsClear : List Cell → Type 0
+    IsClear cs = (i : ℕ) → held cs (Register (length over) i) ≡ None
 
     -- with nothing
-    unchanged : WellTyped p h.typing (record s { tasks = Run (next caller) ∷ ts }) → Agrees p (acts.next (with_tasks (Runs_frame g ∷ ms) m)) (record s { tasks = Run (next caller) ∷ ts })
-    unchanged typed =
-        goes_on p m s m.cells s.cells m.rest s.rest (record g { place = suc g.place }) ms (next caller) ts h.agrees h.agrees.cells h.agrees.rest top.below.1 (moved_on g caller g.registers caller.words top.below.0 top.below.0.wide)
-        (λ r. subst (λ k. Shows k (word_at (Run (next caller) ∷ ts) r) (held s.cells r)) (sym (value_kept g ms m.cells m.entries.items m.root (suc g.place) r))
-        (subst (λ w. Shows (value_in (Runs_frame g ∷ ms) m.cells m.entries.items m.root r) w (held s.cells r)) (sym (word_next caller ts (suc caller.place) r))
-        (subst (Shows (value_in (Runs_frame g ∷ ms) m.cells m.entries.items m.root r) (word_at (Run caller ∷ ts) r)) (cleared_none _ (held s.cells) (λ i. none_above p h.typing (record s { tasks = Run (next caller) ∷ ts }) _ i typed (omega arith)) r) (base r))))
+    lands_bare : IsClear s.cells → Landed g.registers caller.words s.cells
+    lands_bare clear = record {
+      values = λ r. subst (Shows (value_in (Runs_frame g ∷ ms) m.cells m.entries.items m.root r) (word_at (Run caller ∷ ts) r)) (cleared_none _ (held s.cells) clear r) (base r);
+      cells = h.agrees.cells;
+      wide = same_frame.wide;
+    }
 
     -- with a number
-    written : (cs : List Cell) (w : Option ℤ) (o : Option Object) → SameCells p m.cells cs → Shows n w o → ((r : Place) → held cs r ≡ changed under (Register (length ts) x) o r)
-        → Agrees p (acts.next (acts.set_register x n (with_tasks (Runs_frame g ∷ ms) m))) (record s { cells = cs; tasks = Run (next (set_word caller x w)) ∷ ts })
-    written cs w o cells shows holds =
-        let wide = top.below.0.wide in
-        goes_on p m s m.cells cs m.rest s.rest (record g { registers = slice_set g.registers x n; place = suc g.place }) ms (next (set_word caller x w)) ts h.agrees cells h.agrees.rest top.below.1
-        (moved_on g caller (slice_set g.registers x n) _ top.below.0 (length-set g.registers x n ∙ wide))
-        (writes _ _ _ _ _ _ (Register (length ts) x) n w o base shows
-        (value_written g ms m.cells m.entries.items m.root (length ts) x n (suc g.place) deep (omega arith))
-        (word_written caller ts x (suc caller.place) w)
-        holds)
+    lands : (cs : List Cell) (w : Option ℤ) (o : Option Object) → SameCells p m.cells cs → Shows n w o → ((r : Place) → held cs r ≡ changed under to o r) → Landed (slice_set g.registers x n) (set_word caller x w).words cs
+    lands cs w o cells shows holds =
+        let wide = same_frame.wide in
+        record {
+          values = writes _ _ _ _ _ _ to n w o base shows
+              (value_written g ms m.cells m.entries.items m.root (length ts) x n g.place deep (omega arith))
+              (word_written caller ts x caller.place w)
+              holds;
+          cells = cells;
+          wide = length-set g.registers x n ∙ wide;
+        }
 
-    -- an object moves along
-    carried : (typed : WellTyped p h.typing (record s { cells = moved (Register (suc (length ts)) a) (Register (length ts) x) s.cells; tasks = Run (next (set_word caller x None)) ∷ ts })) → word fr a ≡ None → bears (gives_of p fr.method) ≡ true
-        → Agrees p (acts.next (acts.set_register x n (with_tasks (Runs_frame g ∷ ms) m))) (record s { cells = moved (Register (suc (length ts)) a) (Register (length ts) x) s.cells; tasks = Run (next (set_word caller x None)) ∷ ts })
-    carried typed wordless some =
-        written (moved from to s.cells) None (held s.cells from) (cells_moved p m.cells s.cells from to h.agrees.cells) (subst (λ w. Shows n w (held s.cells from)) wordless number_shows) holds
+    -- with a word
+    lands_word : IsClear s.cells → held s.cells to ≡ None → Landed (slice_set g.registers x n) (set_word caller x (word fr a)).words s.cells
+    lands_word clear empty =
+        lands s.cells (word fr a) None h.agrees.cells (subst (Shows n (word fr a)) (clear a) number_shows)
+        (λ r. kept (held s.cells) to r ∙ ap (λ o. changed (held s.cells) to o r) empty ∙ ap (λ o. cond (same_place to r) None o) (sym (cleared_none _ (held s.cells) clear r)))
+
+    -- with an object
+    lands_object : IsClear (moved from to s.cells) → held s.cells to ≡ None → word fr a ≡ None → Landed (slice_set g.registers x n) (set_word caller x None).words (moved from to s.cells)
+    lands_object clear empty wordless =
+        lands (moved from to s.cells) None (held s.cells from) (cells_moved p m.cells s.cells from to h.agrees.cells) (subst (λ w. Shows n w (held s.cells from)) wordless number_shows) holds
       where
-        from : Place
-        from = Register (suc (length ts)) a
-
-        to : Place
-        to = Register (length ts) x
-
-        free_there : held s.cells to ≡ None
-        free_there = awaited p h.typing s fr caller ts h.typed tasks some
-
         elsewhere : (r : Place) → same_place from r ≡ false → under r ≡ held s.cells r → held (moved from to s.cells) r ≡ changed under to (held s.cells from) r
-        elsewhere r e same = held_moved s.cells from to r free_there ∙ ap (λ b. cond (same_place to r) (held s.cells from) (cond b None (held s.cells r))) e ∙ ap (λ o. cond (same_place to r) (held s.cells from) o) (sym same)
+        elsewhere r e same = held_moved s.cells from to r empty ∙ ap (λ b. cond (same_place to r) (held s.cells from) (cond b None (held s.cells r))) e ∙ ap (λ o. cond (same_place to r) (held s.cells from) o) (sym same)
 
         holds : (r : Place) → held (moved from to s.cells) r ≡ changed under to (held s.cells from) r
         holds (Entry k) = elsewhere (Entry k) refl refl
         holds (Field k i) = elsewhere (Field k i) refl refl
         holds (Going k) = elsewhere (Going k) refl refl
         holds (Elsewhere o) = elsewhere (Elsewhere o) refl refl
-        holds (Register e i) = cases (suc (length ts) == e)
+        holds (Register e i) = cases (length over == e)
             (λ b.
-            let at = eqb-true (suc (length ts)) e b in
-            none_above p h.typing _ e i typed (omega arith)
+            let at = eqb-true (length over) e b in
+            let above = high in
+            ap (λ k. held (moved from to s.cells) (Register k i)) (sym at)
+            ∙ clear i
             ∙ sym (ap (λ c. cond (c && (x == i)) (held s.cells from) (under (Register e i))) (ne_eqb (length ts) e (λ d. absurd (omega arith))) ∙ ap (λ c. cond c None (held s.cells (Register e i))) b))
             (λ b. elsewhere (Register e i) (ap (λ c. c && (a == i)) b) (ap (λ c. cond c None (held s.cells (Register e i))) b))
 
+    -- the method goes on
+    lands_next : (rs : List ℕ) (ws : List (Option ℤ)) (cs : List Cell) → Landed rs ws cs → Agrees p (acts.next (with_tasks (Runs_frame (record g { registers = rs }) ∷ ms) m)) (record s { cells = cs; tasks = Run (next (record caller { words = ws })) ∷ ts })
+    lands_next rs ws cs landed =
+        let g' = record g { registers = rs } in
+        let caller' = record caller { words = ws } in
+        goes_on p m s m.cells cs m.rest s.rest (record g' { place = suc g.place }) ms (next caller') ts h.agrees landed.cells h.agrees.rest same_below (moved_on g caller rs ws same_frame landed.wide)
+        (λ r. subst (λ k. Shows k (word_at (Run (next caller') ∷ ts) r) (held cs r)) (sym (value_kept g' ms m.cells m.entries.items m.root (suc g.place) r))
+        (subst (λ w. Shows (value_in (Runs_frame g' ∷ ms) m.cells m.entries.items m.root r) w (held cs r)) (sym (word_next caller' ts (suc caller.place) r)) (landed.values r)))
+
+    -- through its trap, with 0 for the code
+    lands_coded : (es : Held_items) → m.entries ≡ record es { items = Is_mark ∷ es.items } → suc x < 16 → (rs : List ℕ) (ws : List (Option ℤ)) (cs : List Cell) → held cs (Register (length ts) (suc x)) ≡ None → Landed rs ws cs
+        → Agrees p (acts.next (acts.set_register (suc x) 0 (with_tasks (Runs_frame (record g { registers = rs }) ∷ ms) (record m { entries = es })))) (record s { cells = cs; tasks = Run (next (set_word (record caller { words = ws }) (suc x) (Some (pos 0)))) ∷ ts; items = below_top s.items })
+    lands_coded es marked coded rs ws cs empty landed =
+        let g' = record g { registers = rs } in
+        let caller' = record caller { words = ws } in
+        let q = Register (length ts) (suc x) in
+        let wide = landed.wide in
+        let was : m.entries.items ≡ Is_mark ∷ es.items = ap (λ (e : Held_items). e.items) marked in
+        let old : (r : Place) → Shows (value_in (Runs_frame g' ∷ ms) m.cells es.items m.root r) (word_at (Run caller' ∷ ts) r) (held cs r) = λ r. subst (λ k. Shows k (word_at (Run caller' ∷ ts) r) (held cs r)) (ap (λ is. value_in (Runs_frame g' ∷ ms) m.cells is m.root r) was ∙ value_alike (Runs_frame g' ∷ ms) m.cells (Is_mark ∷ es.items) es.items m.root (λ k. mark_shows_none es.items k) r) (landed.values r) in
+        record {
+          tasks = (moved_on g caller (slice_set rs (suc x) 0) (set_word caller' (suc x) (Some (pos 0))).words same_frame (length-set rs (suc x) 0 ∙ wide), same_below);
+          values = writes _ _ _ _ (held cs) _ q 0 (Some (pos 0)) None old refl
+              (value_written g' ms m.cells es.items m.root (length ts) (suc x) 0 (suc g.place) deep (omega arith))
+              (word_written caller' ts (suc x) (suc caller.place) (Some (pos 0)))
+              (λ r. kept (held cs) q r ∙ ap (λ o. changed (held cs) q o r) empty);
+          cells = landed.cells;
+          entries = unmarked m.entries.items es.items s.items was h.agrees.entries;
+          rest = h.agrees.rest;
+          room = h.agrees.room;
+          entry_room = subst (λ k. 1024 ≤ k) (ap (λ (e : Held_items). e.depth) marked) h.agrees.entry_room;
+        }
+
+  -- to a method
+  module _ (g : Held_frame) (ms : List Held_task) (caller : Frame) (ts : List Task) (top : Top m s fr (Run caller ∷ ts) f (Runs_frame g ∷ ms)) (tasks : s.tasks ≡ Run fr ∷ Run caller ∷ ts) (small : result_register (instr_at p caller.method caller.place) < 16) where
+    abbrev y : ℕ
+    y = result_register (instr_at p caller.method caller.place)
+
+    abbrev k : ℕ
+    k = slice_index_or f.registers a null
+
+    abbrev Goes : Gives → Type 0
+    Goes gv =
+        AllTrue (result_needs p fr (Run caller ∷ ts) s gv a) → bears gv ≡ bears (gives_of p fr.method)
+        → WellTyped p h.typing (returned p fr (Run caller ∷ ts) s gv a (Run caller ∷ ts))
+        → Agrees p (acts.next (resulted gv y k (with_tasks (Runs_frame g ∷ ms) m))) (returned p fr (Run caller ∷ ts) s gv a (Run caller ∷ ts))
+
     to_method : (gv : Gives) → Goes gv
-    to_method Nothing met same typed = unchanged typed
-    to_method A_word met same typed =
-        let none : (i : ℕ) → held s.cells (Register (suc (length ts)) i) ≡ None = λ i. none_above p h.typing (record s { tasks = Run (next (set_word caller x (word fr a))) ∷ ts }) _ i typed (omega arith) in
-        written s.cells (word fr a) None h.agrees.cells (subst (Shows n (word fr a)) (none a) number_shows)
-        (λ r. kept (held s.cells) (Register (length ts) x) r ∙ ap (λ o. changed (held s.cells) (Register (length ts) x) o r) (awaited p h.typing s fr caller ts h.typed tasks (sym same)) ∙ ap (λ o. cond (same_place (Register (length ts) x) r) None o) (sym (cleared_none _ (held s.cells) none r)))
-    to_method (An_own y) met same typed = carried typed (no_word _ met.0) (sym same)
-    to_method (A_maybe y) met same typed = carried typed (no_word _ met.0) (sym same)
-    to_method (Left y) met same typed = absurd (false≢true met.0)
+    to_method Nothing met same typed = lands_next false g ms caller ts top small _ _ _ (lands_bare false g ms caller ts top small (λ i. none_above p h.typing _ _ i typed (omega arith)))
+    to_method A_word met same typed = lands_next false g ms caller ts top small _ _ _ (lands_word false g ms caller ts top small (λ i. none_above p h.typing _ _ i typed (omega arith)) (awaited p h.typing s fr caller ts h.typed tasks (sym same)))
+    to_method (An_own z) met same typed = lands_next false g ms caller ts top small _ _ _ (lands_object false g ms caller ts top small (λ i. none_above p h.typing _ _ i typed (omega arith)) (awaited p h.typing s fr caller ts h.typed tasks (sym same)) (no_word _ met.0))
+    to_method (A_maybe z) met same typed = lands_next false g ms caller ts top small _ _ _ (lands_object false g ms caller ts top small (λ i. none_above p h.typing _ _ i typed (omega arith)) (awaited p h.typing s fr caller ts h.typed tasks (sym same)) (no_word _ met.0))
+    to_method (Left z) met same typed = lands_next false g ms caller ts top small _ _ _ (lands_bare false g ms caller ts top small (λ i. none_above p h.typing _ _ i typed (omega arith)))
+
+  -- through a trap
+  module _ (es : Held_items) (marked : m.entries ≡ record es { items = Is_mark ∷ es.items }) (g : Held_frame) (ms : List Held_task) (caller : Frame) (ts : List Task) (top : Top m s fr (Trapped ∷ Run caller ∷ ts) f (Is_trap ∷ Runs_frame g ∷ ms)) (tasks : s.tasks ≡ Run fr ∷ Trapped ∷ Run caller ∷ ts) (coded : suc (result_register (instr_at p caller.method caller.place)) < 16) where
+    abbrev z : ℕ
+    z = result_register (instr_at p caller.method caller.place)
+
+    abbrev j : ℕ
+    j = slice_index_or f.registers a null
+
+    small_too : z < 16
+    small_too = omega (arith, coded)
+
+    abbrev GoesThrough : Gives → Type 0
+    GoesThrough gv =
+        AllTrue (result_needs p fr (Trapped ∷ Run caller ∷ ts) s gv a) → bears gv ≡ bears (gives_of p fr.method)
+        → WellTyped p h.typing (returned p fr (Trapped ∷ Run caller ∷ ts) s gv a (Trapped ∷ Run caller ∷ ts))
+        → Agrees p (acts.next (acts.set_register (suc z) 0 (resulted gv z j (with_tasks (Runs_frame g ∷ ms) (record m { entries = es }))))) (returned p fr (Trapped ∷ Run caller ∷ ts) s gv a (Trapped ∷ Run caller ∷ ts))
+
+    -- the code's register has a word then
+    code_alone : (cs : List Cell) (caller' : Frame) (items : _) → WellTyped p h.typing (record s { cells = cs; tasks = Run (next (set_word caller' (suc z) (Some (pos 0)))) ∷ ts; items = items }) → held cs (Register (length ts) (suc z)) ≡ None
+    code_alone cs caller' items typed = word_alone p h.typing _ (next (set_word caller' (suc z) (Some (pos 0)))) ts (suc z) (pos 0) typed refl (at-put_at None caller'.words (suc z) (suc z) (Some (pos 0)) ∙ ap (λ b. cond b (Some (pos 0)) (word caller' (suc z))) (eq-eqb (suc z) (suc z) refl))
+
+    through : (gv : Gives) → GoesThrough gv
+    through Nothing met same typed = lands_coded true g ms caller ts top small_too es marked coded _ _ _ (code_alone _ caller _ typed) (lands_bare true g ms caller ts top small_too (λ i. none_above p h.typing _ _ i typed (omega arith)))
+    through A_word met same typed = lands_coded true g ms caller ts top small_too es marked coded _ _ _ (code_alone _ (set_word caller z (word fr a)) _ typed) (lands_word true g ms caller ts top small_too (λ i. none_above p h.typing _ _ i typed (omega arith)) (awaited_trapped p h.typing s fr caller ts h.typed tasks (sym same)))
+    through (An_own t) met same typed = lands_coded true g ms caller ts top small_too es marked coded _ _ _ (code_alone _ (set_word caller z None) _ typed) (lands_object true g ms caller ts top small_too (λ i. none_above p h.typing _ _ i typed (omega arith)) (awaited_trapped p h.typing s fr caller ts h.typed tasks (sym same)) (no_word _ met.0))
+    through (A_maybe t) met same typed = lands_coded true g ms caller ts top small_too es marked coded _ _ _ (code_alone _ (set_word caller z None) _ typed) (lands_object true g ms caller ts top small_too (λ i. none_above p h.typing _ _ i typed (omega arith)) (awaited_trapped p h.typing s fr caller ts h.typed tasks (sym same)) (no_word _ met.0))
+    through (Left t) met same typed = lands_coded true g ms caller ts top small_too es marked coded _ _ _ (code_alone _ caller _ typed) (lands_bare true g ms caller ts top small_too (λ i. none_above p h.typing _ _ i typed (omega arith)))
 
 module _ (p : Image) (m : Parts) (refused : List ℕ) (a : ℕ) where
   -- the needs of the result, of those of the return
@@ -234,7 +411,7 @@ module _ (p : Image) (m : Parts) (refused : List ℕ) (a : ℕ) where
 
   pub return_to_method : (x : ℕ) → Runs (below_first m.stack.tasks) → x < 16 → x ≡ result_register (instr_at p (method_here (below_first m.stack.tasks)) (place_here (below_first m.stack.tasks)))
       → DoesIn p refused (Return a) m (acts.next (resulted (gives_of p (method_here m.stack.tasks)) x (register_here m.stack.tasks a) (with_tasks (below_first m.stack.tasks) m)))
-  return_to_method x runs small is h =
+  return_to_method x runs small is h here =
       let c = an_open p refused m h.state h.agrees in (
         c.0,
         c.1,
@@ -251,18 +428,62 @@ module _ (p : Image) (m : Parts) (refused : List ℕ) (a : ℕ) where
       go f (Is_trap ∷ ms) ts e top runs is needs typed = absurd runs
       go f (Destroys y ∷ ms) ts e top runs is needs typed = absurd runs
       go f (Ends d ∷ ms) ts e top runs is needs typed = absurd runs
+      go f (Unwinds code ∷ ms) ts e top runs is needs typed = absurd runs
       go f (Runs_frame g ∷ ms) [] e top runs is needs typed = absurd top.below
       go f (Runs_frame g ∷ ms) (Trapped ∷ ts) e top runs is needs typed = absurd top.below.0
       go f (Runs_frame g ∷ ms) (Destroy ∷ ts) e top runs is needs typed = absurd top.below.0
       go f (Runs_frame g ∷ ms) (Dispatched d ∷ ts) e top runs is needs typed = absurd top.below.0
+      go f (Runs_frame g ∷ ms) (Unwind code ∷ ts) e top runs is needs typed = absurd top.below.0
       go f (Runs_frame g ∷ ms) (Run caller ∷ ts) e top runs is needs typed =
           let at : x ≡ result_register (instr_at p caller.method caller.place) = is ∙ ap (λ k. result_register (instr_at p k g.place)) top.below.0.method ∙ ap (λ k. result_register (instr_at p caller.method k)) top.below.0.place in
           subst (λ k. Agrees p (acts.next (resulted (gives_of p k) x (slice_index_or f.registers a null) (with_tasks (Runs_frame g ∷ ms) m))) (returned p h.frame (Run caller ∷ ts) h.state (gives_of p h.frame.method) a (Run caller ∷ ts))) (sym top.frame.method)
           (subst (λ k. Agrees p (acts.next (resulted (gives_of p h.frame.method) k (slice_index_or f.registers a null) (with_tasks (Runs_frame g ∷ ms) m))) (returned p h.frame (Run caller ∷ ts) h.state (gives_of p h.frame.method) a (Run caller ∷ ts))) (sym at)
           (to_method p m h f a g ms caller ts top e (subst (λ k. k < 16) at small) (gives_of p h.frame.method) needs refl typed))
 
+  pub return_through : (es : Held_items) (x : ℕ) → IsTrapped (below_first m.stack.tasks) → Runs (below_first (below_first m.stack.tasks)) → m.entries ≡ record es { items = Is_mark ∷ es.items } → suc x < 16
+      → x ≡ result_register (instr_at p (method_here (below_first (below_first m.stack.tasks))) (place_here (below_first (below_first m.stack.tasks))))
+      → DoesIn p refused (Return a) m (acts.next (acts.set_register (suc x) 0 (resulted (gives_of p (method_here m.stack.tasks)) x (register_here m.stack.tasks a) (record (with_tasks (below_first (below_first m.stack.tasks)) m) { entries = es }))))
+  return_through es x trapped runs marked small is h here =
+      let c = an_open p refused m h.state h.agrees in (
+        c.0,
+        c.1,
+        λ needs typed. by_top p m h
+            (λ us. IsTrapped (below_first us) → Runs (below_first (below_first us)) → x ≡ result_register (instr_at p (method_here (below_first (below_first us))) (place_here (below_first (below_first us)))) → Agrees p (acts.next (acts.set_register (suc x) 0 (resulted (gives_of p (method_here us)) x (register_here us a) (record (with_tasks (below_first (below_first us)) m) { entries = es })))) (returned p h.frame h.below (requested (Return a) h.state) (gives_of p h.frame.method) a h.below))
+            (λ f ms top trapped runs is. go f ms h.below h.top top trapped runs is (of_result h needs) typed)
+            trapped runs is,
+      )
+    where
+      go : (f : Held_frame) (ms : List Held_task) (ts : List Task) → h.state.tasks ≡ Run h.frame ∷ ts → Top m h.state h.frame ts f ms → IsTrapped ms → Runs (below_first ms) → x ≡ result_register (instr_at p (method_here (below_first ms)) (place_here (below_first ms)))
+          → AllTrue (result_needs p h.frame ts h.state (gives_of p h.frame.method) a) → WellTyped p h.typing (returned p h.frame ts h.state (gives_of p h.frame.method) a ts)
+          → Agrees p (acts.next (acts.set_register (suc x) 0 (resulted (gives_of p f.method) x (slice_index_or f.registers a null) (record (with_tasks (below_first ms) m) { entries = es })))) (returned p h.frame ts h.state (gives_of p h.frame.method) a ts)
+      go f (Is_trap ∷ Runs_frame g ∷ ms) (Trapped ∷ Run caller ∷ ts) e top trapped runs is needs typed =
+          let at : x ≡ result_register (instr_at p caller.method caller.place) = is ∙ ap (λ k. result_register (instr_at p k g.place)) top.below.1.0.method ∙ ap (λ k. result_register (instr_at p caller.method k)) top.below.1.0.place in
+          subst (λ k. Agrees p (acts.next (acts.set_register (suc x) 0 (resulted (gives_of p k) x (slice_index_or f.registers a null) (record (with_tasks (Runs_frame g ∷ ms) m) { entries = es })))) (returned p h.frame (Trapped ∷ Run caller ∷ ts) h.state (gives_of p h.frame.method) a (Trapped ∷ Run caller ∷ ts))) (sym top.frame.method)
+          (subst (λ k. Agrees p (acts.next (acts.set_register (suc k) 0 (resulted (gives_of p h.frame.method) k (slice_index_or f.registers a null) (record (with_tasks (Runs_frame g ∷ ms) m) { entries = es })))) (returned p h.frame (Trapped ∷ Run caller ∷ ts) h.state (gives_of p h.frame.method) a (Trapped ∷ Run caller ∷ ts))) (sym at)
+          (through p m h f a es marked g ms caller ts top e (subst (λ k. suc k < 16) at small) (gives_of p h.frame.method) needs refl typed))
+      go f (Is_trap ∷ Runs_frame g ∷ ms) (Trapped ∷ []) e top trapped runs is needs typed = absurd top.below.1
+      go f (Is_trap ∷ Runs_frame g ∷ ms) (Trapped ∷ Trapped ∷ ts) e top trapped runs is needs typed = absurd top.below.1.0
+      go f (Is_trap ∷ Runs_frame g ∷ ms) (Trapped ∷ Destroy ∷ ts) e top trapped runs is needs typed = absurd top.below.1.0
+      go f (Is_trap ∷ Runs_frame g ∷ ms) (Trapped ∷ Unwind code ∷ ts) e top trapped runs is needs typed = absurd top.below.1.0
+      go f (Is_trap ∷ Runs_frame g ∷ ms) (Trapped ∷ Dispatched d ∷ ts) e top trapped runs is needs typed = absurd top.below.1.0
+      go f (Is_trap ∷ ms) [] e top trapped runs is needs typed = absurd top.below
+      go f (Is_trap ∷ ms) (Run g ∷ ts) e top trapped runs is needs typed = absurd top.below.0
+      go f (Is_trap ∷ ms) (Destroy ∷ ts) e top trapped runs is needs typed = absurd top.below.0
+      go f (Is_trap ∷ ms) (Unwind code ∷ ts) e top trapped runs is needs typed = absurd top.below.0
+      go f (Is_trap ∷ ms) (Dispatched d ∷ ts) e top trapped runs is needs typed = absurd top.below.0
+      go f (Is_trap ∷ []) ts e top trapped runs is needs typed = absurd runs
+      go f (Is_trap ∷ Is_trap ∷ ms) ts e top trapped runs is needs typed = absurd runs
+      go f (Is_trap ∷ Destroys y ∷ ms) ts e top trapped runs is needs typed = absurd runs
+      go f (Is_trap ∷ Unwinds code ∷ ms) ts e top trapped runs is needs typed = absurd runs
+      go f (Is_trap ∷ Ends d ∷ ms) ts e top trapped runs is needs typed = absurd runs
+      go f [] ts e top trapped runs is needs typed = absurd trapped
+      go f (Runs_frame g ∷ ms) ts e top trapped runs is needs typed = absurd trapped
+      go f (Destroys y ∷ ms) ts e top trapped runs is needs typed = absurd trapped
+      go f (Unwinds code ∷ ms) ts e top trapped runs is needs typed = absurd trapped
+      go f (Ends d ∷ ms) ts e top trapped runs is needs typed = absurd trapped
+
   pub return_to_going : IsDestroying (below_first m.stack.tasks) → DoesIn p refused (Return a) m (with_tasks (below_first m.stack.tasks) m)
-  return_to_going destroying h =
+  return_to_going destroying h here =
       let c = an_open p refused m h.state h.agrees in (
         c.0,
         c.1,
@@ -273,50 +494,80 @@ module _ (p : Image) (m : Parts) (refused : List ℕ) (a : ℕ) where
       )
     where
       go : (f : Held_frame) (ms : List Held_task) (ts : List Task) → Top m h.state h.frame ts f ms → IsDestroying ms → WellTyped p h.typing (returned p h.frame ts h.state (gives_of p h.frame.method) a ts) → Agrees p (with_tasks ms m) (returned p h.frame ts h.state (gives_of p h.frame.method) a ts)
-      go f (Destroys x ∷ ms) (Destroy ∷ ts) top destroying typed = to_going p m h f a x ms ts top typed
+      go f (Destroys x ∷ ms) (Destroy ∷ ts) top destroying typed = to_waiting p m h f a (Destroys x ∷ ms) (Destroy ∷ ts) top typed
       go f (Destroys x ∷ ms) [] top destroying typed = absurd top.below
       go f (Destroys x ∷ ms) (Run g ∷ ts) top destroying typed = absurd top.below.0
       go f (Destroys x ∷ ms) (Trapped ∷ ts) top destroying typed = absurd top.below.0
       go f (Destroys x ∷ ms) (Dispatched d ∷ ts) top destroying typed = absurd top.below.0
+      go f (Destroys x ∷ ms) (Unwind code ∷ ts) top destroying typed = absurd top.below.0
       go f [] ts top destroying typed = absurd destroying
       go f (Runs_frame g ∷ ms) ts top destroying typed = absurd destroying
       go f (Is_trap ∷ ms) ts top destroying typed = absurd destroying
       go f (Ends d ∷ ms) ts top destroying typed = absurd destroying
+      go f (Unwinds code ∷ ms) ts top destroying typed = absurd destroying
 
-  pub return_to_end : (e : Parts) → ReturnsTo p (below_first m.stack.tasks) → IsTrapped (below_first m.stack.tasks) → e.entries.items ≡ take (length m.entries.items - 1) m.entries.items
-      → DoesIn p refused (Return a) m (record m { stack = record m.stack { tasks = below_first (below_first m.stack.tasks) }; entries = e.entries })
-  return_to_end e to trapped short h =
+  pub return_to_end : (es : Held_items) → IsEnding (below_first (below_first m.stack.tasks)) → IsTrapped (below_first m.stack.tasks) → m.entries ≡ record es { items = Is_mark ∷ es.items }
+      → DoesIn p refused (Return a) m (record m { stack = record m.stack { tasks = below_first (below_first m.stack.tasks) }; entries = es })
+  return_to_end es ending trapped marked h here =
       let c = an_open p refused m h.state h.agrees in (
         c.0,
         c.1,
         λ needs typed. by_top p m h
-            (λ us. ReturnsTo p (below_first us) → IsTrapped (below_first us) → Agrees p (record m { stack = record m.stack { tasks = below_first (below_first us) }; entries = e.entries }) (returned p h.frame h.below (requested (Return a) h.state) (gives_of p h.frame.method) a h.below))
-            (λ f ms top to trapped. go ms h.below top.below to trapped typed)
-            to trapped,
+            (λ us. IsEnding (below_first (below_first us)) → IsTrapped (below_first us) → Agrees p (record m { stack = record m.stack { tasks = below_first (below_first us) }; entries = es }) (returned p h.frame h.below (requested (Return a) h.state) (gives_of p h.frame.method) a h.below))
+            (λ f ms top ending trapped. go ms h.below top.below ending trapped typed)
+            ending trapped,
       )
     where
-      at_end : (x : Held_dispatch) (ms : List Held_task) (d : Dispatch) (ts : List Task) → dispatch_of x ≡ d → SameTasks ms ts → ts ≡ [] → WellTyped p h.typing (record h.state { tasks = Dispatched d ∷ ts; items = below_top h.state.items })
-          → Agrees p (record m { stack = record m.stack { tasks = Ends x ∷ ms }; entries = e.entries }) (record h.state { tasks = Dispatched d ∷ ts; items = below_top h.state.items })
-      at_end x [] d [] same below last typed = ended p m e h.state x d h.agrees short same (closing p h.typing _ d typed refl)
-      at_end x (n ∷ ms) d [] same below last typed = absurd below
-      at_end x ms d (t ∷ ts) same below last typed = cc
+      at_end : (y : Held_dispatch) (ms : List Held_task) (d : Dispatch) (ts : List Task) → dispatch_of y ≡ d → SameTasks ms ts → ts ≡ [] → WellTyped p h.typing (record h.state { tasks = Dispatched d ∷ ts; items = below_top h.state.items })
+          → Agrees p (record m { stack = record m.stack { tasks = Ends y ∷ ms }; entries = es }) (record h.state { tasks = Dispatched d ∷ ts; items = below_top h.state.items })
+      at_end y [] d [] same below last typed = ended p m es h.state y d h.agrees marked same (closing p h.typing _ d typed refl)
+      at_end y (k ∷ ms) d [] same below last typed = absurd below
+      at_end y ms d (t ∷ ts) same below last typed = cc
 
-      go : (ms : List Held_task) (ts : List Task) → SameTasks ms ts → ReturnsTo p ms → IsTrapped ms → WellTyped p h.typing (returned p h.frame ts h.state (gives_of p h.frame.method) a ts)
-          → Agrees p (record m { stack = record m.stack { tasks = below_first ms }; entries = e.entries }) (returned p h.frame ts h.state (gives_of p h.frame.method) a ts)
-      go (Is_trap ∷ Ends x ∷ ms) (Trapped ∷ Dispatched d ∷ ts) same to trapped typed = at_end x ms d ts same.1.0 same.1.1 (ends_last p h.typing _ d ts typed refl) typed
-      go (Is_trap ∷ Ends x ∷ ms) (Trapped ∷ []) same to trapped typed = absurd same.1
-      go (Is_trap ∷ Ends x ∷ ms) (Trapped ∷ Run g ∷ ts) same to trapped typed = absurd same.1.0
-      go (Is_trap ∷ Ends x ∷ ms) (Trapped ∷ Trapped ∷ ts) same to trapped typed = absurd same.1.0
-      go (Is_trap ∷ Ends x ∷ ms) (Trapped ∷ Destroy ∷ ts) same to trapped typed = absurd same.1.0
-      go (Is_trap ∷ Ends x ∷ ms) [] same to trapped typed = absurd same
-      go (Is_trap ∷ Ends x ∷ ms) (Run g ∷ ts) same to trapped typed = absurd same.0
-      go (Is_trap ∷ Ends x ∷ ms) (Destroy ∷ ts) same to trapped typed = absurd same.0
-      go (Is_trap ∷ Ends x ∷ ms) (Dispatched d ∷ ts) same to trapped typed = absurd same.0
-      go (Is_trap ∷ []) ts same to trapped typed = absurd to
-      go (Is_trap ∷ Runs_frame g ∷ ms) ts same to trapped typed = absurd to
-      go (Is_trap ∷ Is_trap ∷ ms) ts same to trapped typed = absurd to
-      go (Is_trap ∷ Destroys x ∷ ms) ts same to trapped typed = absurd to
-      go [] ts same to trapped typed = absurd trapped
-      go (Runs_frame g ∷ ms) ts same to trapped typed = absurd trapped
-      go (Destroys x ∷ ms) ts same to trapped typed = absurd trapped
-      go (Ends x ∷ ms) ts same to trapped typed = absurd trapped
+      go : (ms : List Held_task) (ts : List Task) → SameTasks ms ts → IsEnding (below_first ms) → IsTrapped ms → WellTyped p h.typing (returned p h.frame ts h.state (gives_of p h.frame.method) a ts)
+          → Agrees p (record m { stack = record m.stack { tasks = below_first ms }; entries = es }) (returned p h.frame ts h.state (gives_of p h.frame.method) a ts)
+      go (Is_trap ∷ Ends x ∷ ms) (Trapped ∷ Dispatched d ∷ ts) same ending trapped typed = at_end x ms d ts same.1.0 same.1.1 (ends_last p h.typing _ d ts typed refl) typed
+      go (Is_trap ∷ Ends x ∷ ms) (Trapped ∷ []) same ending trapped typed = absurd same.1
+      go (Is_trap ∷ Ends x ∷ ms) (Trapped ∷ Run g ∷ ts) same ending trapped typed = absurd same.1.0
+      go (Is_trap ∷ Ends x ∷ ms) (Trapped ∷ Trapped ∷ ts) same ending trapped typed = absurd same.1.0
+      go (Is_trap ∷ Ends x ∷ ms) (Trapped ∷ Destroy ∷ ts) same ending trapped typed = absurd same.1.0
+      go (Is_trap ∷ Ends x ∷ ms) (Trapped ∷ Unwind code ∷ ts) same ending trapped typed = absurd same.1.0
+      go (Is_trap ∷ Ends x ∷ ms) [] same ending trapped typed = absurd same
+      go (Is_trap ∷ Ends x ∷ ms) (Run g ∷ ts) same ending trapped typed = absurd same.0
+      go (Is_trap ∷ Ends x ∷ ms) (Destroy ∷ ts) same ending trapped typed = absurd same.0
+      go (Is_trap ∷ Ends x ∷ ms) (Unwind code ∷ ts) same ending trapped typed = absurd same.0
+      go (Is_trap ∷ Ends x ∷ ms) (Dispatched d ∷ ts) same ending trapped typed = absurd same.0
+      go (Is_trap ∷ []) ts same ending trapped typed = absurd ending
+      go (Is_trap ∷ Runs_frame g ∷ ms) ts same ending trapped typed = absurd ending
+      go (Is_trap ∷ Is_trap ∷ ms) ts same ending trapped typed = absurd ending
+      go (Is_trap ∷ Destroys x ∷ ms) ts same ending trapped typed = absurd ending
+      go (Is_trap ∷ Unwinds code ∷ ms) ts same ending trapped typed = absurd ending
+      go [] ts same ending trapped typed = absurd trapped
+      go (Runs_frame g ∷ ms) ts same ending trapped typed = absurd trapped
+      go (Destroys x ∷ ms) ts same ending trapped typed = absurd trapped
+      go (Unwinds code ∷ ms) ts same ending trapped typed = absurd trapped
+      go (Ends x ∷ ms) ts same ending trapped typed = absurd trapped
+
+  pub return_to_unwinding : IsUnwinding (below_first m.stack.tasks) → DoesIn p refused (Return a) m (with_tasks (below_first m.stack.tasks) m)
+  return_to_unwinding unwinding h here =
+      let c = an_open p refused m h.state h.agrees in (
+        c.0,
+        c.1,
+        λ needs typed. by_top p m h
+            (λ us. IsUnwinding (below_first us) → Agrees p (with_tasks (below_first us) m) (returned p h.frame h.below (requested (Return a) h.state) (gives_of p h.frame.method) a h.below))
+            (λ f ms top unwinding. go f ms h.below top unwinding typed)
+            unwinding,
+      )
+    where
+      go : (f : Held_frame) (ms : List Held_task) (ts : List Task) → Top m h.state h.frame ts f ms → IsUnwinding ms → WellTyped p h.typing (returned p h.frame ts h.state (gives_of p h.frame.method) a ts) → Agrees p (with_tasks ms m) (returned p h.frame ts h.state (gives_of p h.frame.method) a ts)
+      go f (Unwinds code ∷ ms) (Unwind c ∷ ts) top unwinding typed = to_waiting p m h f a (Unwinds code ∷ ms) (Unwind c ∷ ts) top typed
+      go f (Unwinds code ∷ ms) [] top unwinding typed = absurd top.below
+      go f (Unwinds code ∷ ms) (Run g ∷ ts) top unwinding typed = absurd top.below.0
+      go f (Unwinds code ∷ ms) (Trapped ∷ ts) top unwinding typed = absurd top.below.0
+      go f (Unwinds code ∷ ms) (Destroy ∷ ts) top unwinding typed = absurd top.below.0
+      go f (Unwinds code ∷ ms) (Dispatched d ∷ ts) top unwinding typed = absurd top.below.0
+      go f [] ts top unwinding typed = absurd unwinding
+      go f (Runs_frame g ∷ ms) ts top unwinding typed = absurd unwinding
+      go f (Is_trap ∷ ms) ts top unwinding typed = absurd unwinding
+      go f (Destroys x ∷ ms) ts top unwinding typed = absurd unwinding
+      go f (Ends d ∷ ms) ts top unwinding typed = absurd unwinding

@@ -13,6 +13,7 @@ use Rattle.aom_frames.specs.declared.task.Task.{Task as Held_task}
 use Rattle.aom_frames.specs.declared.task.Task.TheVariants.{Run as Runs_frame, Destroy as Destroys}
 use Rattle.aom_exec.specs.Places.{register_in, going_of, going_in, value_in}
 use Rattle.aom_exec.specs.Agrees.{word_of, word_in, word_at, Shows, SameTasks}
+use Rattle.aom_cleanup.specs.declared.item.Item.{Item}
 
 pub cases : (b : Bool) {P : Type 0} → (b ≡ true → P) → (b ≡ false → P) → P
 cases true y n = y refl
@@ -52,10 +53,10 @@ at_depth n d x y h = cases (n == d)
     (λ e. ap (λ b. cond b x y) e)
 
 -- a register of the frame that runs is read, and written
-pub value_here : (f : Held_frame) (ms : List Held_task) (h : Heap) (es : List ℕ) (root d i : ℕ) → length ms ≡ d → value_in (Runs_frame f ∷ ms) h es root (Register d i) ≡ slice_index_or f.registers i null
+pub value_here : (f : Held_frame) (ms : List Held_task) (h : Heap) (es : List Item) (root d i : ℕ) → length ms ≡ d → value_in (Runs_frame f ∷ ms) h es root (Register d i) ≡ slice_index_or f.registers i null
 value_here f ms h es root d i e = ap (λ b. cond b (slice_index_or f.registers i null) (register_in ms d i)) (eq-eqb (length ms) d e)
 
-pub value_written : (f : Held_frame) (ms : List Held_task) (h : Heap) (es : List ℕ) (root d i x place : ℕ) → length ms ≡ d → i < length f.registers → (r : Place)
+pub value_written : (f : Held_frame) (ms : List Held_task) (h : Heap) (es : List Item) (root d i x place : ℕ) → length ms ≡ d → i < length f.registers → (r : Place)
     → value_in (Runs_frame (record f { registers = slice_set f.registers i x; place = place }) ∷ ms) h es root r ≡ changed (value_in (Runs_frame f ∷ ms) h es root) (Register d i) x r
 value_written f ms h es root d i x place deep small (Register e j) =
     ap (λ n. cond (length ms == e) n (register_in ms e j)) (slot_set null f.registers i j x small) ∙ go (length ms == e) ∙ ap (λ k. cond ((k == e) && (i == j)) x (cond (length ms == e) (slice_index_or f.registers j null) (register_in ms e j))) deep
@@ -69,14 +70,14 @@ value_written f ms h es root d i x place deep small (Going k) = refl
 value_written f ms h es root d i x place deep small (Elsewhere o) = refl
 
 -- counters and the method's place are no places of values
-pub value_counted : (f : Held_frame) (ms : List Held_task) (h : Heap) (es : List ℕ) (root : ℕ) (counters : List ℕ) (place : ℕ) (r : Place) → value_in (Runs_frame (record f { counters = counters; place = place }) ∷ ms) h es root r ≡ value_in (Runs_frame f ∷ ms) h es root r
+pub value_counted : (f : Held_frame) (ms : List Held_task) (h : Heap) (es : List Item) (root : ℕ) (counters : List ℕ) (place : ℕ) (r : Place) → value_in (Runs_frame (record f { counters = counters; place = place }) ∷ ms) h es root r ≡ value_in (Runs_frame f ∷ ms) h es root r
 value_counted f ms h es root counters place (Register e j) = refl
 value_counted f ms h es root counters place (Entry k) = refl
 value_counted f ms h es root counters place (Field n g) = refl
 value_counted f ms h es root counters place (Going k) = refl
 value_counted f ms h es root counters place (Elsewhere o) = refl
 
-pub value_kept : (f : Held_frame) (ms : List Held_task) (h : Heap) (es : List ℕ) (root place : ℕ) (r : Place) → value_in (Runs_frame (record f { place = place }) ∷ ms) h es root r ≡ value_in (Runs_frame f ∷ ms) h es root r
+pub value_kept : (f : Held_frame) (ms : List Held_task) (h : Heap) (es : List Item) (root place : ℕ) (r : Place) → value_in (Runs_frame (record f { place = place }) ∷ ms) h es root r ≡ value_in (Runs_frame f ∷ ms) h es root r
 value_kept f ms h es root place r = value_counted f ms h es root f.counters place r
 
 -- a word is written in the checked machine
@@ -104,7 +105,7 @@ pub word_next : (fr : Frame) (ts : List Task) (place : ℕ) (r : Place) → word
 word_next fr ts place r = word_counted fr ts fr.counters place r
 
 -- a destruction is at hand
-pub destroys_value : (us : List Held_task) (h : Heap) (es : List ℕ) (root n d : ℕ) → length us ≡ d → (r : Place) → value_in (Destroys n ∷ us) h es root r ≡ changed (value_in us h es root) (Going d) n r
+pub destroys_value : (us : List Held_task) (h : Heap) (es : List Item) (root n d : ℕ) → length us ≡ d → (r : Place) → value_in (Destroys n ∷ us) h es root r ≡ changed (value_in us h es root) (Going d) n r
 destroys_value us h es root n d deep (Register e i) = at_depth (length us) e null (register_in us e i) (λ k. register_past us e i (omega arith))
 destroys_value us h es root n d deep (Going k) = ap (λ z. cond (z == k) n (going_in us k)) deep ∙ same (d == k)
   where

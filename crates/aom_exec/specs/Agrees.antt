@@ -8,12 +8,14 @@ use Rattle.aom_cells.specs.Heap.{Heap, null, cell_at, count}
 use Rattle.aom_cells.specs.Heap.{word_at as cell_word}
 use Rattle.aom_cells.specs.declared.cell.Cell.{Cell as Held_cell}
 use Rattle.aom_sound.specs.Places.{Place, Register, Entry, Field, Going, Elsewhere, Object, Cell, held, named, word_field}
-use Rattle.aom_sound.specs.State.{Home, Static, AtRoot, Inside, Frame, Dispatch, Of_main, Of_root, word, counter, Task, Run, Trapped, Destroy, Dispatched, State}
+use Rattle.aom_sound.specs.State.{Home, Static, AtRoot, Inside, Frame, Dispatch, Of_main, Main_left, Of_root, word, counter, Task, Run, Trapped, Destroy, Unwind, Dispatched, Item, An_object, An_operation, A_mark, State}
 use Rattle.aom_frames.specs.declared.frame.Frame.{Frame as Held_frame}
 use Rattle.aom_frames.specs.declared.task.Task.{Task as Held_task}
-use Rattle.aom_frames.specs.declared.task.Task.TheVariants.{Run as Runs_frame, Trapped as Is_trap, Destroy as Destroys, Dispatched as Ends}
+use Rattle.aom_frames.specs.declared.task.Task.TheVariants.{Run as Runs_frame, Trapped as Is_trap, Destroy as Destroys, Unwind as Unwinds, Dispatched as Ends}
 use Rattle.aom_frames.specs.declared.task.Dispatch.{Dispatch as Held_dispatch}
-use Rattle.aom_frames.specs.declared.task.Dispatch.TheVariants.{Main, Root}
+use Rattle.aom_frames.specs.declared.task.Dispatch.TheVariants.{Main, MainLeft, Root}
+use Rattle.aom_cleanup.specs.declared.item.Item.{Item as Held_item}
+use Rattle.aom_cleanup.specs.declared.item.Item.TheVariants.{Object as Holds_object, Operation as Holds_operation, Mark as Is_mark}
 use Rattle.aom_exec.specs.declared.parts.Parts.{Parts}
 use Rattle.aom_exec.specs.Places.{value}
 
@@ -33,6 +35,7 @@ abbrev pub word_of : Task → ℕ → Option ℤ
 word_of (Run fr) i = word fr i
 word_of Trapped i = None
 word_of Destroy i = None
+word_of (Unwind code) i = None
 word_of (Dispatched d) i = None
 
 abbrev pub word_in : List Task → ℕ → ℕ → Option ℤ
@@ -63,6 +66,7 @@ pub record SameFrame (f : Held_frame) (fr : Frame) : Type 0 where
 
 abbrev pub dispatch_of : Held_dispatch → Dispatch
 dispatch_of Main = Of_main
+dispatch_of (MainLeft code) = Main_left code
 dispatch_of Root = Of_root
 
 -- frames and other tasks, one by one
@@ -70,6 +74,7 @@ abbrev pub SameTask : Held_task → Task → Type 0
 SameTask (Runs_frame f) (Run fr) = SameFrame f fr
 SameTask Is_trap Trapped = Unit {0}
 SameTask (Destroys x) Destroy = Unit {0}
+SameTask (Unwinds code) (Unwind c) = code ≡ c
 SameTask (Ends d) (Dispatched e) = dispatch_of d ≡ e
 SameTask _ _ = ⊥
 
@@ -77,6 +82,18 @@ abbrev pub SameTasks : List Held_task → List Task → Type 0
 SameTasks [] [] = Unit {0}
 SameTasks (t ∷ ts) (u ∷ us) = SameTask t u × SameTasks ts us
 SameTasks _ _ = ⊥
+
+-- items of the cleanup stack, one by one; what an entry owns is told by its place
+abbrev pub SameItem : Held_item → Item → Type 0
+SameItem (Holds_object n) An_object = Unit {0}
+SameItem (Holds_operation m n) (An_operation k w) = (m ≡ k) × (cast_signed w32 n ≡ w)
+SameItem Is_mark A_mark = Unit {0}
+SameItem _ _ = ⊥
+
+abbrev pub SameItems : List Held_item → List Item → Type 0
+SameItems [] [] = Unit {0}
+SameItems (i ∷ is) (j ∷ js) = SameItem i j × SameItems is js
+SameItems _ _ = ⊥
 
 -- what lives under a number
 abbrev pub thing_in : Option Held_cell → Option Thing
@@ -102,6 +119,7 @@ pub record Agrees (p : Image) (m : Parts) (s : State) : Type 0 where
   pub tasks : SameTasks m.stack.tasks s.tasks
   pub values : (r : Place) → Shows (value m r) (word_at s.tasks r) (held s.cells r)
   pub cells : SameCells p m.cells s.cells
-  pub entries : length m.entries.items ≡ length s.items
+  pub entries : SameItems m.entries.items s.items
   pub rest : m.rest ≡ s.rest
   pub room : 1024 ≤ m.stack.depth
+  pub entry_room : 1024 ≤ m.entries.depth

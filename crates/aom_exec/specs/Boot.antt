@@ -7,6 +7,7 @@ use Rattle.aom_cells.specs.Heap.{null}
 use Rattle.aom_frames.specs.Tasks.{fresh}
 use Rattle.aom_frames.specs.declared.task.Task.TheVariants.{Run, Trapped, Dispatched}
 use Rattle.aom_frames.specs.declared.task.Dispatch.TheVariants.{Main}
+use Rattle.aom_cleanup.specs.declared.item.Item.TheVariants.{Mark}
 use Rattle.aom_exec.specs.declared.parts.Parts.{Parts}
 
 -- time 0, main at hand under its trap, no cell, and the mark of the trap
@@ -17,6 +18,6 @@ pub record Booted (p : Image) (m : Parts) : Type 0 where
   pub tasks : m.stack.tasks ≡ Run (fresh main null) ∷ Trapped ∷ Dispatched Main ∷ []
   pub depth : m.stack.depth ≡ 1024
   pub cells : m.cells ≡ record { slots = []; limit = p.header.cells }
-  pub entries : m.entries.items ≡ null ∷ []
+  pub entries : m.entries ≡ record { items = Mark ∷ []; depth = 1024 }
   pub root : m.root ≡ null
   pub rest : m.rest ≡ record { clock = 0; requests = 0; steps = 0; announced = false; stopped = false; ended = None }

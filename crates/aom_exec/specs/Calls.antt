@@ -6,6 +6,7 @@ use Rattle.aom_cells.specs.Heap.{null}
 use Rattle.aom_frames.specs.Tasks.{register_here}
 use Rattle.aom_exec.specs.declared.parts.Parts.{Parts}
 use Rattle.aom_exec.specs.Fields.{this, field_here}
+use Rattle.aom_exec.specs.Places.{entry_here}
 
 -- the number of what a method of that class works on; a static method works on nothing
 abbrev pub target_here : Target → Option ℕ → Parts → ℕ
@@ -13,5 +14,4 @@ target_here This None m = null
 target_here This (Some c) m = this m
 target_here (Register r) class m = register_here m.stack.tasks r
 target_here (Field f) class m = field_here f m
--- comes with the cleanup stack
-target_here (Entry k) class m = null
+target_here (Entry k) class m = entry_here k m

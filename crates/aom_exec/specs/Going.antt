@@ -7,7 +7,7 @@ use Rattle.aom_cells.specs.Heap.{Heap, null, class_at}
 use Rattle.aom_sound.specs.State.{raised}
 use Rattle.aom_frames.specs.Tasks.{fresh}
 use Rattle.aom_frames.specs.declared.task.Task.{Task}
-use Rattle.aom_frames.specs.declared.task.Task.TheVariants.{Run, Trapped, Destroy, Dispatched}
+use Rattle.aom_frames.specs.declared.task.Task.TheVariants.{Run, Trapped, Destroy, Unwind, Dispatched}
 use Rattle.aom_frames.specs.declared.task.Dispatch.{Dispatch}
 use Rattle.aom_frames.specs.declared.task.Dispatch.TheVariants.{Root}
 use Rattle.aom_exec.specs.declared.parts.Parts.{Parts}
@@ -33,6 +33,7 @@ ending_here [] = None
 ending_here (Run f ∷ ts) = None
 ending_here (Trapped ∷ ts) = None
 ending_here (Destroy x ∷ ts) = None
+ending_here (Unwind code ∷ ts) = None
 ending_here (Dispatched d ∷ ts) = Some d
 
 -- the root is at hand to go, over the end of the run

@@ -1,10 +1,12 @@
 -- The number in each place of the machine.
-use Rattle.std.specs.Prelude.{ℕ, cond, ◌==◌, List, [], ◌∷◌, length, slice_index_or}
+use Rattle.std.specs.Prelude.{ℕ, ℤ, pos, cond, ◌==◌, List, [], ◌∷◌, length, Option, Some, None}
 use Rattle.aom_cells.specs.Heap.{Heap, null, field_at}
 use Rattle.aom_sound.specs.Places.{Place, Register, Entry, Field, Going, Elsewhere, Other, Root}
 use Rattle.aom_frames.specs.Tasks.{register_of}
 use Rattle.aom_frames.specs.declared.task.Task.{Task}
-use Rattle.aom_frames.specs.declared.task.Task.TheVariants.{Run, Trapped, Destroy, Dispatched}
+use Rattle.aom_frames.specs.declared.task.Task.TheVariants.{Run, Trapped, Destroy, Unwind, Dispatched}
+use Rattle.aom_cleanup.specs.Items.{entry_in, item_at, owned_by}
+use Rattle.aom_cleanup.specs.declared.item.Item.{Item}
 use Rattle.aom_exec.specs.declared.parts.Parts.{Parts}
 
 -- tasks are counted from the bottom
@@ -17,6 +19,7 @@ abbrev pub going_of : Task → ℕ
 going_of (Run f) = null
 going_of Trapped = null
 going_of (Destroy x) = x
+going_of (Unwind code) = null
 going_of (Dispatched d) = null
 
 abbrev pub going_in : List Task → ℕ → ℕ
@@ -27,9 +30,9 @@ abbrev pub other_in : ℕ → Other → ℕ
 other_in root Root = root
 
 -- the number in a place
-abbrev pub value_in : List Task → Heap → List ℕ → ℕ → Place → ℕ
+abbrev pub value_in : List Task → Heap → List Item → ℕ → Place → ℕ
 value_in tasks heap entries root (Register d i) = register_in tasks d i
-value_in tasks heap entries root (Entry k) = slice_index_or entries k null
+value_in tasks heap entries root (Entry k) = entry_in entries k
 value_in tasks heap entries root (Field n f) = field_at heap n f
 value_in tasks heap entries root (Going k) = going_in tasks k
 value_in tasks heap entries root (Elsewhere o) = other_in root o
@@ -52,6 +55,7 @@ IsDestroying [] = ⊥
 IsDestroying (Run f ∷ ts) = ⊥
 IsDestroying (Trapped ∷ ts) = ⊥
 IsDestroying (Destroy x ∷ ts) = Unit {0}
+IsDestroying (Unwind code ∷ ts) = ⊥
 IsDestroying (Dispatched d ∷ ts) = ⊥
 
 -- the innermost task is a trap
@@ -60,6 +64,7 @@ IsTrapped [] = ⊥
 IsTrapped (Run f ∷ ts) = ⊥
 IsTrapped (Trapped ∷ ts) = Unit {0}
 IsTrapped (Destroy x ∷ ts) = ⊥
+IsTrapped (Unwind code ∷ ts) = ⊥
 IsTrapped (Dispatched d ∷ ts) = ⊥
 
 abbrev pub going_here : List Task → ℕ
@@ -72,4 +77,34 @@ IsEnding [] = ⊥
 IsEnding (Run f ∷ ts) = ⊥
 IsEnding (Trapped ∷ ts) = ⊥
 IsEnding (Destroy x ∷ ts) = ⊥
+IsEnding (Unwind code ∷ ts) = ⊥
 IsEnding (Dispatched d ∷ ts) = Unit {0}
+
+-- the innermost task is a leave that unwinds, and its code
+abbrev pub IsUnwinding : List Task → Type 0
+IsUnwinding [] = ⊥
+IsUnwinding (Run f ∷ ts) = ⊥
+IsUnwinding (Trapped ∷ ts) = ⊥
+IsUnwinding (Destroy x ∷ ts) = ⊥
+IsUnwinding (Unwind code ∷ ts) = Unit {0}
+IsUnwinding (Dispatched d ∷ ts) = ⊥
+
+abbrev pub code_here : List Task → ℤ
+code_here [] = pos 0
+code_here (Run f ∷ ts) = pos 0
+code_here (Trapped ∷ ts) = pos 0
+code_here (Destroy x ∷ ts) = pos 0
+code_here (Unwind code ∷ ts) = code
+code_here (Dispatched d ∷ ts) = pos 0
+
+-- the machine with other items on its cleanup stack
+abbrev pub with_items : List Item → Parts → Parts
+with_items items m = record m { entries = record m.entries { items = items } }
+
+-- what an entry owns, counted from the last
+abbrev pub number_in : Option Item → ℕ
+number_in None = null
+number_in (Some i) = owned_by i
+
+abbrev pub entry_here : ℕ → Parts → ℕ
+entry_here k m = number_in (item_at m.entries.items k)

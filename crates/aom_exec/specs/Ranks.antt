@@ -1,9 +1,11 @@
 -- A number that falls with each step, while something is at hand: the rank of the states that a machine stands for.
-use Rattle.std.specs.Prelude.{ℕ, ◌+◌, ◌-◌, ◌*◌, List, [], map}
+use Rattle.std.specs.Prelude.{ℕ, ◌+◌, ◌-◌, ◌*◌, suc, List, [], ◌∷◌, map}
 use Rattle.aom_image.specs.Image.{Image}
-use Rattle.aom_sound.specs.State.{Static, Task, Run, Trapped, Destroy, Dispatched}
+use Rattle.aom_sound.specs.State.{Static, Task, Run, Trapped, Destroy, Unwind, Dispatched}
 use Rattle.aom_frames.specs.declared.task.Task.{Task as Held_task}
-use Rattle.aom_frames.specs.declared.task.Task.TheVariants.{Run as Runs_frame, Trapped as Is_trap, Destroy as Destroys, Dispatched as Ends}
+use Rattle.aom_frames.specs.declared.task.Task.TheVariants.{Run as Runs_frame, Trapped as Is_trap, Destroy as Destroys, Unwind as Unwinds, Dispatched as Ends}
+use Rattle.aom_cleanup.specs.declared.item.Item.{Item as Held_item}
+use Rattle.aom_cleanup.specs.declared.item.Item.TheVariants.{Object as Holds_object, Operation as Holds_operation, Mark as Is_mark}
 use Rattle.aom_ranks.specs.Ranks.{tasks_rank, destructions, cell_rank}
 use Rattle.aom_exec.specs.Agrees.{dispatch_of}
 
@@ -12,8 +14,16 @@ abbrev pub ranked : Held_task → Task
 ranked (Runs_frame f) = Run (record { method = f.method; place = f.place; words = []; counters = f.counters; home = Static; height = 0 })
 ranked Is_trap = Trapped
 ranked (Destroys x) = Destroy
+ranked (Unwinds code) = Unwind code
 ranked (Ends d) = Dispatched (dispatch_of d)
 
--- so many cells live, and those that go have paid
-abbrev pub rank_of : Image → List Held_task → ℕ → ℕ
-rank_of p tasks cells = tasks_rank p (map ranked tasks) + (cells - destructions (map ranked tasks)) * cell_rank p
+-- how many operations are on the cleanup stack
+abbrev pub operations_in : List Held_item → ℕ
+operations_in [] = 0
+operations_in (Holds_object n ∷ is) = operations_in is
+operations_in (Holds_operation m n ∷ is) = suc (operations_in is)
+operations_in (Is_mark ∷ is) = operations_in is
+
+-- so many cells live, and those that go have paid; an operation pays for its run
+abbrev pub rank_of : Image → List Held_task → List Held_item → ℕ → ℕ
+rank_of p tasks items cells = tasks_rank p (map ranked tasks) + ((cells - destructions (map ranked tasks)) + operations_in items) * cell_rank p

@@ -1,23 +1,25 @@
 //! Calls, returns, and `stop`.
-ghost use Rattle.std.specs.Prelude.{ℕ, List, ◌<◌, ◌≤◌, ◌+◌, ◌^◌, ◌≡◌, IsSome, Some, length};
+ghost use Rattle.std.specs.Prelude.{ℕ, suc, List, ◌<◌, ◌≤◌, ◌+◌, ◌^◌, ◌≡◌, IsSome, Some, length};
 ghost use Rattle.aom_image.specs.Views.{arguments_of, instr_at, method_at};
-ghost use Rattle.aom_image.specs.declared.instr.Instr.TheVariants.{Call, Return, Stop};
+ghost use Rattle.aom_image.specs.declared.instr.Instr.TheVariants.{Call, Return, Stop, Trap};
 ghost use Rattle.aom_sound.specs.Calls.{result_register};
+ghost use Rattle.aom_cleanup.specs.Items.{IsMarked, marks_in};
 ghost use Rattle.aom_frames.specs.Tasks.{Runs, method_here, place_here};
-ghost use Rattle.aom_exec.specs.Acts.{Does, DoesIn, resulted, next};
+ghost use Rattle.aom_exec.specs.Acts.{Does, DoesIn, resulted, next, set_register};
 ghost use Rattle.aom_exec.specs.Calls.{target_here};
 ghost use Rattle.aom_exec.specs.Fields.{IsHoused};
-ghost use Rattle.aom_exec.specs.Places.{below_first};
+ghost use Rattle.aom_exec.specs.Places.{below_first, IsTrapped};
 ghost use Rattle.aom_exec.specs.Room.{ReturnsTo};
 
 use crate::parts::Parts;
 use aom_cells::NULL;
 use aom_classes::Linked;
+use aom_cleanup::Item;
 use aom_frames::{Frame, Task};
 use aom_image::{ClassNumber, Gives, Instr, MethodNumber, Register, Target};
 
 /// The register to which the result of a call comes.
-fn result_of(instr: Instr) -> u8
+pub fn result_of(instr: Instr) -> u8
     ensures value { result ≡ result_register (Some instr) }
     ensures in_range { result < 16 }
 {
@@ -42,8 +44,10 @@ impl Parts {
             },
             Target::Register(register) => self.register(register),
             Target::Field(field) => self.field(field),
-            // Comes with the cleanup stack.
-            Target::Entry(_) => NULL,
+            Target::Entry(depth) => match self.entries.entry(depth.number() as usize) {
+                Some(Item::Object(number)) => number,
+                _ => NULL,
+            },
         }
     }
 
@@ -63,6 +67,38 @@ impl Parts {
             .enter(frame, first.number(), called.arguments.as_slice());
     }
 
+    /// The same under a trap, whose mark lies on the cleanup stack.
+    pub fn trap(&mut self, target: Target, method: MethodNumber, first: Register, linked: &Linked)
+        requires runs { Runs self.old.stack.tasks }
+        requires housed { IsHoused self.old }
+        requires there { IsSome (method_at linked.now method) }
+        requires within { first + length (arguments_of linked.now method) ≤ 16 }
+        requires room { length self.old.stack.tasks + 1 < self.old.stack.depth }
+        requires marks { marks_in self.old.entries.items < 256 }
+        ensures { (refused : List ℕ) (to : ℕ) → DoesIn linked.now refused (Trap target method first to) self.old self.new }
+    {
+        let called = linked.method(method);
+        let this = self.target(target, called.class);
+        let frame = Frame::begin(method, this);
+        self.stack
+            .enter_trap(frame, first.number(), called.arguments.as_slice());
+        self.entries.mark();
+    }
+
+    /// A result comes to a register, if the method gives one.
+    fn take_result(&mut self, to: u8, gives: Gives, number: u32)
+        requires runs { Runs self.old.stack.tasks }
+        requires within { to < 16 }
+        ensures { self.new ≡ resulted gives to number self.old }
+    {
+        match gives {
+            Gives::Nothing | Gives::Left(_) => {}
+            Gives::Word | Gives::Own(_) | Gives::Maybe(_) => {
+                self.stack.set_register(to, number);
+            }
+        }
+    }
+
     /// A result comes to the method that called, which goes on.
     fn receive(&mut self, gives: Gives, number: u32, linked: &Linked)
         requires runs { Runs self.old.stack.tasks }
@@ -72,20 +108,30 @@ impl Parts {
         ensures received { self.new ≡ next (resulted gives (result_register (instr_at linked.now (method_here self.old.stack.tasks) (place_here self.old.stack.tasks))) number self.old) }
     {
         let to = result_of(linked.instr(self.stack.method(), self.stack.place()));
-        match gives {
-            Gives::Nothing | Gives::Left(_) => {}
-            Gives::Word | Gives::Own(_) | Gives::Maybe(_) => {
-                self.stack.set_register(to, number);
-            }
-        }
+        self.take_result(to, gives, number);
         self.next();
     }
 
-    /// A method returns: to the one that called it, through the trap of its dispatch, or to the going of its cell.
+    /// The same through its trap, with 0 for the code in the next register.
+    fn receive_trapped(&mut self, gives: Gives, number: u32, linked: &Linked)
+        requires runs { Runs self.old.stack.tasks }
+        requires there { IsSome (instr_at linked.now (method_here self.old.stack.tasks) (place_here self.old.stack.tasks)) }
+        requires within { place_here self.old.stack.tasks + 1 < 2 ^ 64 }
+        requires coded { suc (result_register (instr_at linked.now (method_here self.old.stack.tasks) (place_here self.old.stack.tasks))) < 16 }
+        ensures { self.new ≡ next (set_register (suc (result_register (instr_at linked.now (method_here self.old.stack.tasks) (place_here self.old.stack.tasks)))) 0 (resulted gives (result_register (instr_at linked.now (method_here self.old.stack.tasks) (place_here self.old.stack.tasks))) number self.old)) }
+    {
+        let to = result_of(linked.instr(self.stack.method(), self.stack.place()));
+        self.take_result(to, gives, number);
+        self.stack.set_register(to + 1, 0);
+        self.next();
+    }
+
+    /// A method returns: to the one that called it, through a trap, to the going of its cell, or to an unwinding.
     pub fn give_back(&mut self, from: Register, linked: &Linked)
         requires runs { Runs self.old.stack.tasks }
         requires there { IsSome (method_at linked.now (method_here self.old.stack.tasks)) }
         requires below { ReturnsTo linked.now (below_first self.old.stack.tasks) }
+        requires marked { IsTrapped (below_first self.old.stack.tasks) → IsMarked self.old.entries.items }
         ensures { (refused : List ℕ) → DoesIn linked.now refused (Return from) self.old self.new }
     {
         let gives = linked.method(self.stack.method()).gives;
@@ -95,9 +141,13 @@ impl Parts {
             Some(Task::Run(_)) => self.receive(gives, number, linked),
             Some(Task::Trapped) => {
                 self.drop_task();
-                self.drop_entry();
+                self.entries.unmark();
+                if self.is_running() {
+                    self.receive_trapped(gives, number, linked);
+                }
             }
             Some(Task::Destroy(_)) => {}
+            Some(Task::Unwind(_)) => {}
             Some(Task::Dispatched(_)) => unreachable!(),
             None => unreachable!(),
         }

@@ -30,7 +30,7 @@ impl Parts {
     }
 
     /// The destruction of that cell is at hand, and over it its destructor, if it has one.
-    fn begin(&mut self, number: u32, linked: &Linked)
+    pub fn begin(&mut self, number: u32, linked: &Linked)
         requires lives { Lives self.old.cells number }
         requires small { IfSome (class_at self.old.cells number) (λ class. class < 256) }
         requires room { length self.old.stack.tasks + 1 < self.old.stack.depth }
@@ -87,7 +87,7 @@ impl Parts {
     }
 
     /// Whether a method is at hand.
-    fn is_running(&self) -> bool
+    pub fn is_running(&self) -> bool
         ensures { IsTrue result ↔ Runs self.now.stack.tasks }
     {
         matches!(self.stack.top(), Some(Task::Run(_)))

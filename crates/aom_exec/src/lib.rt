@@ -8,9 +8,11 @@
 #![tactic(auto)]
 
 mod calls;
+mod cleanup;
 mod fault;
 mod fields;
 mod going;
+mod leaving;
 mod machine;
 mod moves;
 mod objects;

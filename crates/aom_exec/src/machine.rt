@@ -40,15 +40,17 @@ impl<'a> Machine<'a> {
         let parts = Parts::boot(alloc, linked)?;
         aom_sound::boot_keeps();
         aom_sound::step_keeps();
+        aom_sound::calm_keeps();
         aom_sound::linked_is_wired();
         accepted.facts();
         Ok(Machine { accepted, parts })
     }
 
-    /// One instruction, or the going of one cell, with the end of the dispatch where it comes to that. The first step
+    /// One instruction, or the going of one cell, with what counts as no step after it: a leave's next move, and the end of
+    /// the dispatch. The first step
     /// writes main's line before all else. Where nothing is at hand, nothing changes.
     pub fn step(&mut self, turn: &mut Turn) -> Progress
-        requires room { length turn.old.lines + 1 < turn.old.room }
+        requires room { length turn.old.lines + 2 < turn.old.room }
         ensures image { self.new.image ≡ self.old.image }
         ensures steps { Stepped self.old result turn.old turn.new self.new }
         ensures falls { result ≡ Running → rank self.new < rank self.old }
@@ -58,7 +60,7 @@ impl<'a> Machine<'a> {
 
     /// Steps until something is written or nothing is at hand.
     pub fn step_on(&mut self, turn: &mut Turn) -> Progress
-        requires room { length turn.old.lines + 1 < turn.old.room }
+        requires room { length turn.old.lines + 2 < turn.old.room }
         ensures image { self.new.image ≡ self.old.image }
         ensures steps { SteppedOn self.old result turn.old turn.new self.new }
         ensures told { result ≡ Running → length turn.old.lines < length turn.new.lines }

@@ -9,6 +9,8 @@ use aom_sound::Ending;
 pub enum Outcome {
     Stopped,
     Waiting,
+    /// Main left with that code.
+    MainLeft(i32),
     /// The transcript could not be written.
     WriteFault,
 }
@@ -30,6 +32,7 @@ impl Outcome {
         match ending {
             Ending::Stopped => Outcome::Stopped,
             Ending::Waiting => Outcome::Waiting,
+            Ending::MainLeft(code) => Outcome::MainLeft(code),
         }
     }
 }

@@ -2,7 +2,7 @@
 ghost use Rattle.std.specs.Prelude.{◌≡◌, Some, None, true, false, cond};
 ghost use Rattle.aom_sound.specs.State.{raised};
 ghost use Rattle.aom_exec.specs.Counts.{raised_by};
-ghost use Rattle.aom_sound.specs.declared.line.Ending.TheVariants.{Stopped, Waiting};
+ghost use Rattle.aom_sound.specs.declared.line.Ending.TheVariants.{Stopped, Waiting, MainLeft};
 
 use aom_sound::Ending;
 use std::marker::Model;
@@ -129,6 +129,14 @@ impl Rest {
         } else {
             None
         };
+    }
+
+    /// The end of main's dispatch, which left with that code.
+    pub fn end_left(&mut self, code: i32)
+        ensures { self.new ≡ record self.old { clock = raised self.old.clock; ended = Some (MainLeft code) } }
+    {
+        self.tick();
+        self.ended = Some(Ending::MainLeft(code));
     }
 
     /// A turn in which nothing is due.

@@ -5,8 +5,9 @@ use crate::{BootFault, Machine, Outcome, Progress};
 use aom_budget::{Accepted, accept};
 use aom_classes::link;
 use aom_image::{
-    ClassDecl, ClassKind, ClassNumber, FieldIndex, Gives, Header, Image, Instr, Items, LoopDepth,
-    Method, MethodFlags, Place, Register, Role, States, Thing, WordIndex, form_ok,
+    Argument, ClassDecl, ClassKind, ClassNumber, FieldIndex, Gives, Header, Image, Instr, Items,
+    LoopDepth, Method, MethodFlags, MethodNumber, Place, Register, Role, States, Target, Thing,
+    WordIndex, form_ok,
 };
 use aom_lines::{Text, Turn};
 use aom_sound::Ending;
@@ -114,6 +115,25 @@ fn owning_image(
     methods.push(destructor_of(alloc, class(), inner)?)?;
     methods.push(destructor_of(alloc, owner, outer)?)?;
     methods.push(main_of(alloc, main)?)?;
+    if !form_ok(&HEADER, classes.as_slice(), methods.as_slice()) {
+        return Ok(None);
+    }
+    Ok(Some(Image::make(HEADER, classes, methods)))
+}
+
+/// A main that may leave, after another static method, of one plain class.
+fn image_with(alloc: Global, other: Method, main: &[Instr]) -> Result<Option<Image>, AllocError> {
+    let mut classes = Vec::with_capacity(alloc, 1)?;
+    classes.push(ClassDecl {
+        kind: ClassKind::Plain,
+        words: 0,
+        fields: Items::from_vec(Vec::new(alloc)),
+    })?;
+    let mut last = main_of(alloc, main)?;
+    last.flags = MethodFlags::LEAVES;
+    let mut methods = Vec::with_capacity(alloc, 2)?;
+    methods.push(other)?;
+    methods.push(last)?;
     if !form_ok(&HEADER, classes.as_slice(), methods.as_slice()) {
         return Ok(None);
     }
@@ -389,6 +409,114 @@ fn destructors_use_words_and_fields(rt: HostRuntime) -> Result<(), Fail> {
 }
 
 #[test]
+fn a_trap_has_the_code_once_all_is_unwound(rt: HostRuntime) -> Result<(), Fail> {
+    let leaver = [
+        Instr::NewOrLeave(register(0), class()),
+        Instr::Push(register(0)),
+        Instr::Const(register(1), -7),
+        Instr::Leave(register(1)),
+    ];
+    let main = [
+        Instr::Trap(
+            Target::This,
+            MethodNumber::new(0).unwrap(),
+            register(0),
+            register(2),
+        ),
+        Instr::Print(register(3)),
+        Instr::Return(register(0)),
+    ];
+    let mut method = main_of(rt.alloc(), &leaver)?;
+    method.role = Role::Do;
+    method.flags = MethodFlags::LEAVES;
+    let steps = [
+        ("@0 main\n", 0),
+        ("", 1),
+        ("", 1),
+        ("", 1),
+        ("", 1),
+        ("gone 0\nleave -7\n", 0),
+        ("out -7\n", 0),
+        ("", 0),
+    ];
+    let Some(image) = image_with(rt.alloc(), method, &main)? else {
+        return Err(Fail::from("the image has not the form"));
+    };
+    let Some(accepted) = accepted(rt.alloc(), image) else {
+        return Err(Fail::from("the image is not accepted"));
+    };
+    walk_accepted(&rt, rt.alloc(), &accepted, &[], &steps, Progress::Turned)
+}
+
+#[test]
+fn a_pushed_operation_is_run_and_a_refused_push_leaves(rt: HostRuntime) -> Result<(), Fail> {
+    let undo = [Instr::Print(register(0)), Instr::Return(register(0))];
+    let main = [
+        Instr::Const(register(0), 3),
+        Instr::PushOperation(register(0), MethodNumber::new(0).unwrap()),
+        Instr::PopDelete,
+        Instr::PushOperation(register(0), MethodNumber::new(0).unwrap()),
+        Instr::PopOperation,
+        Instr::Return(register(0)),
+    ];
+    let mut method = main_of(rt.alloc(), &undo)?;
+    method.role = Role::Undo;
+    method.flags = MethodFlags::QUIET;
+    method.arguments = Items::from_vec([Argument::Word].to_vec(rt.alloc())?);
+    let Some(image) = image_with(rt.alloc(), method, &main)? else {
+        return Err(Fail::from("the image has not the form"));
+    };
+    let Some(accepted) = accepted(rt.alloc(), image) else {
+        return Err(Fail::from("the image is not accepted"));
+    };
+    let steps = [
+        ("@0 main\n", 0),
+        ("", 0),
+        ("", 0),
+        ("out 3\n", 0),
+        ("", 0),
+        ("", 0),
+        ("out 3\n", 0),
+        ("leave -4\n", 0),
+    ];
+    let last = Progress::Ended(Ending::MainLeft(-4));
+    walk_accepted(&rt, rt.alloc(), &accepted, &[2], &steps, last)
+}
+
+#[test]
+fn an_object_is_pushed_and_popped(rt: HostRuntime) -> Result<(), Fail> {
+    let unused = [Instr::Return(register(0))];
+    let main = [
+        Instr::NewOrLeave(register(0), class()),
+        Instr::Push(register(0)),
+        Instr::Pop(register(1)),
+        Instr::Delete(register(1)),
+        Instr::Const(register(0), 5),
+        Instr::LeaveIf(register(0)),
+        Instr::Return(register(0)),
+    ];
+    let mut method = main_of(rt.alloc(), &unused)?;
+    method.role = Role::Do;
+    let Some(image) = image_with(rt.alloc(), method, &main)? else {
+        return Err(Fail::from("the image has not the form"));
+    };
+    let Some(accepted) = accepted(rt.alloc(), image) else {
+        return Err(Fail::from("the image is not accepted"));
+    };
+    let steps = [
+        ("@0 main\n", 1),
+        ("", 1),
+        ("", 1),
+        ("", 1),
+        ("gone 0\n", 0),
+        ("", 0),
+        ("", 0),
+        ("", 0),
+    ];
+    walk_accepted(&rt, rt.alloc(), &accepted, &[], &steps, Progress::Turned)
+}
+
+#[test]
 fn a_run_waits_and_is_over(rt: HostRuntime) -> Result<(), Fail> {
     let Some(accepted) = accepted_of(rt.alloc(), None, &[Instr::Return(register(0))]) else {
         return Err(Fail::from("the image is not accepted"));
@@ -419,6 +547,7 @@ fn a_run_waits_and_is_over(rt: HostRuntime) -> Result<(), Fail> {
 fn an_ending_is_told_as_an_outcome(rt: HostRuntime) {
     assert_eq!(rt; Outcome::of(Ending::Stopped), Outcome::Stopped);
     assert_eq!(rt; Outcome::of(Ending::Waiting), Outcome::Waiting);
+    assert_eq!(rt; Outcome::of(Ending::MainLeft(5)), Outcome::MainLeft(5));
 }
 
 #[test]

@@ -30,6 +30,7 @@ impl Text {
         match line {
             Line::Main(time) => Text::of_main(*time),
             Line::Out(word) => Text::of_out(*word),
+            Line::Leave(code) => Text::of_leave(*code),
             Line::Gone(class) => Text::of_gone(class.number()),
         }
     }
@@ -70,6 +71,16 @@ impl Text {
         let mut text = Text::new();
         text.add(b"out ");
         text.add_word(word);
+        text.end();
+        text
+    }
+
+    fn of_leave(code: i32) -> Text
+        ensures { result ≡ ended (line_text (Line.Leave code)) }
+    {
+        let mut text = Text::new();
+        text.add(b"leave ");
+        text.add_word(code);
         text.end();
         text
     }
@@ -119,13 +130,17 @@ impl Text {
     }
 
     fn add_ending(&mut self, ending: Ending)
-        requires { length self.old + 7 ≤ 64 }
+        requires { length self.old + 16 ≤ 64 }
         ensures text { self.new ≡ self.old ++ ending_text ending }
-        ensures short { length self.new ≤ length self.old + 7 }
+        ensures short { length self.new ≤ length self.old + 16 }
     {
         match ending {
             Ending::Stopped => self.add(b"stopped"),
             Ending::Waiting => self.add(b"waiting"),
+            Ending::MainLeft(code) => {
+                self.add(b"left ");
+                self.add_word(code);
+            }
         }
     }
 

@@ -10,7 +10,7 @@ use Rattle.aom_shape.specs.Typing.{Typing, IsTyped}
 use Rattle.aom_verify.specs.Strongest.{IsStrongest}
 use Rattle.aom_budget.specs.Faults.{Refuses as RefusesDepths}
 use Rattle.aom_budget.specs.declared.fault.BudgetFault.{BudgetFault}
-use Rattle.aom_budget.specs.declared.fault.BudgetFault.TheVariants.{TooDeep}
+use Rattle.aom_budget.specs.declared.fault.BudgetFault.TheVariants.{TooDeep, CleanupTooDeep}
 use Rattle.aom_budget.specs.declared.fault.BudgetFault.TheVariants as budgets
 use Rattle.aom_main.specs.declared.faults.Fault.TheVariants.{Memory}
 use Rattle.aom_main.specs.Status.{of_link, of_budget}
@@ -29,7 +29,8 @@ linked_memory p BadLoop refused a = absurd (refused.1.6 a.linked.loops)
 linked_memory p NoMain refused a = absurd (refused.1.7 a.linked.main)
 linked_memory p OutOfMemory refused a = refl
 
--- a checked image whose methods may come to too many frames
+-- a checked image whose methods may come to too many frames, or to too many cleanup entries
 pub depths_refused : (bytes : List ℕ) (p q : Image) (fault : BudgetFault) → IsSpelled bytes p → IsAdmitted p → IsLinked p → q ≡ p → (t : Typing) × IsStrongest q t → RefusesDepths q fault → Refuses bytes (of_budget fault)
 depths_refused bytes p q TooDeep spelled admitted linked same typing h = (p, spelled, admitted, linked, subst (λ (r : Image). (t : Typing) × IsTyped r t) same (typing.0, typing.1.typed), subst (λ (r : Image). RefusesDepths r TooDeep) same h)
+depths_refused bytes p q CleanupTooDeep spelled admitted linked same typing h = (p, spelled, admitted, linked, subst (λ (r : Image). (t : Typing) × IsTyped r t) same (typing.0, typing.1.typed), subst (λ (r : Image). RefusesDepths r CleanupTooDeep) same h)
 depths_refused bytes p q budgets.OutOfMemory spelled admitted linked same typing h = tt

@@ -5,9 +5,10 @@ use Rattle.aom_classes.specs.Admitted.{IsAdmitted}
 use Rattle.aom_classes.specs.Linked.{IsLinked}
 use Rattle.aom_shape.specs.Typing.{Typing, IsTyped}
 use Rattle.aom_budget.specs.Depths.{DepthsWithin}
+use Rattle.aom_budget.specs.Heights.{HeightsWithin}
 use Rattle.aom_sound.specs.Laws.{LinkedIsWired, TypedIsSound}
 use Rattle.aom_exec.specs.declared.progress.Outcome.{Outcome}
-use Rattle.aom_exec.specs.declared.progress.Outcome.TheVariants.{Stopped, Waiting, WriteFault}
+use Rattle.aom_exec.specs.declared.progress.Outcome.TheVariants.{Stopped, Waiting, MainLeft, WriteFault}
 use Rattle.aom_run.specs.Script.{Script, denoted, Refuses}
 use Rattle.aom_run.specs.declared.fault.ScriptFault.{ScriptFault}
 use Rattle.aom_run.specs.declared.fault.ScriptFaultKind.{ScriptFaultKind}
@@ -22,14 +23,14 @@ use Rattle.aom_main.specs.Headline.{Sent, IsSilent, Told, Shows, Accepts, Ends, 
 use Rattle.aom_main.specs.Headline.RunBreaks.{output_fails, wants_memory}
 
 -- a run of a linked image that has a typing
-abbrev pub runs_of : (bytes text : List ℕ) (p : Image) (script : Script) → IsLinked p → IsAdmitted p → (t : Typing) × IsTyped p t → DepthsWithin p → LinkedIsWired → TypedIsSound
+abbrev pub runs_of : (bytes text : List ℕ) (p : Image) (script : Script) → IsLinked p → IsAdmitted p → (t : Typing) × IsTyped p t → DepthsWithin p → HeightsWithin p → LinkedIsWired → TypedIsSound
     → IsSpelled bytes p → denoted text ≡ Ok script → Runs bytes text
-runs_of bytes text p script linked admitted typed depths wired sound spelled denotes =
+runs_of bytes text p script linked admitted typed depths heights wired sound spelled denotes =
     let w = wired p spelled.formed linked in
     record {
       image = p;
       spelled = spelled;
-      acceptable = record { admitted = admitted; linked = linked; typing = typed.0; typed = typed.1; depths = depths };
+      acceptable = record { admitted = admitted; linked = linked; typing = typed.0; typed = typed.1; depths = depths; heights = heights };
       script = script;
       denotes = denotes;
       sound = sound p typed.0 script.refused w typed.1;
@@ -45,6 +46,7 @@ pub ran : (bytes text : List ℕ) (r : Runs bytes text) (out errors : Sent) (out
     → Ends outcome status errors → RunAnswers bytes text out errors status
 ran bytes text r out errors Stopped status shows ends = subst (RunAnswers bytes text out errors) (sym ends.0) (r, shows, ends.1)
 ran bytes text r out errors Waiting status shows ends = subst (RunAnswers bytes text out errors) (sym ends.0) (r, shows, ends.1)
+ran bytes text r out errors (MainLeft code) status shows ends = subst (RunAnswers bytes text out errors) (sym ends.0) (r, code, shows, ends.1)
 ran bytes text r out errors WriteFault status shows ends = breaks bytes text r out errors status shows ends
 
 -- ---- a text that is no script

@@ -10,6 +10,7 @@ use Rattle.aom_classes.specs.Faults.{Refuses as RefusesLink}
 use Rattle.aom_shape.specs.Typing.{Typing, IsTyped}
 use Rattle.aom_verify.specs.Refusals.{Refuses as RefusesTyping}
 use Rattle.aom_budget.specs.Depths.{DepthsWithin}
+use Rattle.aom_budget.specs.Heights.{HeightsWithin}
 use Rattle.aom_budget.specs.Faults.{Refuses as RefusesDepths}
 use Rattle.aom_main.specs.declared.faults.Fault.{Fault}
 use Rattle.aom_main.specs.declared.faults.Fault.TheVariants.{Load, Link, Verify, Budget, Memory}
@@ -19,13 +20,14 @@ pub record IsSpelled (bytes : List ℕ) (p : Image) : Type 0 where
   pub formed : WellFormed p
   pub spelling : bytes ≡ spell p
 
--- the image is admitted, keeps the link conditions, has a typing, and comes to no more than 256 frames by it
+-- the image is admitted, keeps the link conditions, has a typing, and comes to no more than 256 frames and 1,024 cleanup entries by it
 pub record IsAcceptable (p : Image) : Type 0 where
   pub admitted : IsAdmitted p
   pub linked : IsLinked p
   pub typing : Typing
   pub typed : IsTyped p typing
   pub depths : DepthsWithin p
+  pub heights : HeightsWithin p
 
 -- why the bytes are no accepted image: the first fault of the way from them to one
 abbrev pub Refuses : List ℕ → Fault → Type 0

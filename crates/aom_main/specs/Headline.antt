@@ -1,5 +1,5 @@
 -- What a call promises of its sinks and its status, from bytes to bytes.
-use Rattle.std.specs.Prelude.{ℕ, ◌≡◌, ◌⊎◌, Bool, true, false, List, Option, length, take, codes, Ok, Err}
+use Rattle.std.specs.Prelude.{ℕ, ℤ, ◌≡◌, ◌⊎◌, Bool, true, false, List, Option, length, take, codes, Ok, Err}
 use Rattle.aom_image.specs.Image.{Image}
 use Rattle.aom_sound.specs.State.{State}
 use Rattle.aom_sound.specs.World.{Run_of}
@@ -14,7 +14,7 @@ use Rattle.aom_run.specs.Runs.{after, CutShort}
 use Rattle.aom_run.specs.Script.{Script, denoted}
 use Rattle.aom_run.specs.declared.fault.ScriptFault.{ScriptFault}
 use Rattle.aom_main.specs.declared.status.ExitStatus.{ExitStatus}
-use Rattle.aom_main.specs.declared.status.ExitStatus.TheVariants.{Done, ImageRefused, CallRefused, Unfinished, Fault as Faulty}
+use Rattle.aom_main.specs.declared.status.ExitStatus.TheVariants.{Done, ImageRefused, CallRefused, Unfinished, Broken, Fault as Faulty}
 use Rattle.aom_main.specs.declared.faults.Fault.{Fault}
 use Rattle.aom_main.specs.declared.faults.Fault.TheVariants as faults
 use Rattle.aom_main.specs.Status.{fault_line, status_of}
@@ -66,12 +66,14 @@ pub record Cut (p : Image) (refused : List ℕ) (sent : Sent) : Type 0 where
 abbrev pub Shows : Image → List ℕ → Outcome → Sent → Type 0
 Shows p refused outcomes.Stopped out = Transcribed p refused endings.Stopped out
 Shows p refused outcomes.Waiting out = Transcribed p refused endings.Waiting out
+Shows p refused (outcomes.MainLeft code) out = Transcribed p refused (endings.MainLeft code) out
 Shows p refused outcomes.WriteFault out = Cut p refused out
 
 -- the status of a run, and what the errors say of it
 abbrev pub Ends : Outcome → ExitStatus → Sent → Type 0
 Ends outcomes.Stopped status errors = (status ≡ Done) × IsSilent errors
 Ends outcomes.Waiting status errors = (status ≡ Unfinished) × IsSilent errors
+Ends (outcomes.MainLeft code) status errors = (status ≡ Broken) × IsSilent errors
 Ends outcomes.WriteFault status errors = Told faults.Write status errors
 
 -- the bytes are an accepted image
@@ -115,6 +117,7 @@ pub data RunBreaks (bytes text : List ℕ) (out errors : Sent) : Type 0 where
 abbrev pub RunAnswers : List ℕ → List ℕ → Sent → Sent → ExitStatus → Type 0
 RunAnswers bytes text out errors Done = (r : Runs bytes text) × Transcribed r.image r.script.refused endings.Stopped out × IsSilent errors
 RunAnswers bytes text out errors Unfinished = (r : Runs bytes text) × Transcribed r.image r.script.refused endings.Waiting out × IsSilent errors
+RunAnswers bytes text out errors Broken = (r : Runs bytes text) × (code : ℤ) × Transcribed r.image r.script.refused (endings.MainLeft code) out × IsSilent errors
 RunAnswers bytes text out errors ImageRefused = IsRefused bytes out errors
 RunAnswers bytes text out errors CallRefused = IsNoScript bytes text out errors
 RunAnswers bytes text out errors Faulty = RunBreaks bytes text out errors

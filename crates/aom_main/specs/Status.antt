@@ -32,6 +32,7 @@ status_number statuses.Done = 0
 status_number statuses.ImageRefused = 1
 status_number statuses.CallRefused = 2
 status_number statuses.Unfinished = 3
+status_number statuses.Broken = 4
 status_number statuses.Fault = 5
 
 -- the line by which a fault is told, without its line feed

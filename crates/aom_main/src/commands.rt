@@ -79,6 +79,7 @@ fn end<E: Sink>(alloc: Global, outcome: Outcome, errors: &mut E) -> ExitStatus
     match outcome {
         Outcome::Stopped => ExitStatus::Done,
         Outcome::Waiting => ExitStatus::Unfinished,
+        Outcome::MainLeft(_) => ExitStatus::Broken,
         Outcome::WriteFault => tell(alloc, &Fault::Write, errors),
     }
 }

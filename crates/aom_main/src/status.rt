@@ -12,6 +12,8 @@ pub enum ExitStatus {
     CallRefused,
     /// A run has ended before it stopped.
     Unfinished,
+    /// Main has left.
+    Broken,
     /// A file, the output or the memory has failed.
     Fault,
 }
@@ -25,6 +27,7 @@ impl ExitStatus {
             ExitStatus::ImageRefused => 1,
             ExitStatus::CallRefused => 2,
             ExitStatus::Unfinished => 3,
+            ExitStatus::Broken => 4,
             ExitStatus::Fault => 5,
         }
     }

@@ -1,3 +1,4 @@
+mod leaves;
 mod memory;
 mod programs;
 

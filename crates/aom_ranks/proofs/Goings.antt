@@ -7,10 +7,10 @@ use Rattle.aom_shape.specs.Typing.{Typing}
 use Rattle.aom_shape.specs.declared.kind.Age.TheVariants.{Ready}
 use Rattle.aom_shape.specs.declared.kind.Kind.TheVariants.{Null, Own}
 use Rattle.aom_sound.proofs.Maps.{held_without, same_place-true, same_place_refl, tidy_without}
-use Rattle.aom_sound.specs.Claims.{Dispatching, Dying, Layer, Mark, Method, claim, declared, tasks_of}
+use Rattle.aom_sound.specs.Claims.{Dispatching, Dying, Layer, Mark, Unwinding, Method, claim, declared, tasks_of}
 use Rattle.aom_sound.specs.Places.{Cell, Elsewhere, Entry, Field, Going, Object, Place, Register, Tidy, held, same_place, without}
 use Rattle.aom_sound.specs.State.{State}
-use Rattle.aom_sound.specs.WellTyped.{Back, Caught, Fits, Gone, Now, Returns, Stack, WellTyped}
+use Rattle.aom_sound.specs.WellTyped.{Back, Caught, Fits, Gone, Now, Returns, Stack, WellTyped, Leaves}
 use Rattle.aom_ranks.specs.Ranks.{destructions, is_going, standing}
 
 -- ---- cells
@@ -65,6 +65,7 @@ abbrev goes_at : List Layer → ℕ → Bool
 goes_at [] k = false
 goes_at (Method fr sh ∷ ls) k = goes_at ls k
 goes_at (Mark gv ∷ ls) k = goes_at ls k
+goes_at (Unwinding code es ∷ ls) k = goes_at ls k
 goes_at (Dying o ∷ ls) k = (length (tasks_of ls) == k) || goes_at ls k
 goes_at (Dispatching d ∷ ls) k = goes_at ls k
 
@@ -73,6 +74,7 @@ abbrev DyingHeld : List Cell → List Layer → Type 0
 DyingHeld cs [] = Unit {0}
 DyingHeld cs (Method fr sh ∷ ls) = DyingHeld cs ls
 DyingHeld cs (Mark gv ∷ ls) = DyingHeld cs ls
+DyingHeld cs (Unwinding code es ∷ ls) = DyingHeld cs ls
 DyingHeld cs (Dying o ∷ ls) = (held cs (Going (length (tasks_of ls))) ≡ Some o) × DyingHeld cs ls
 DyingHeld cs (Dispatching d ∷ ls) = DyingHeld cs ls
 
@@ -86,6 +88,7 @@ held_below : (cs : List Cell) (n : ℕ) (ls : List Layer) → length (tasks_of l
 held_below cs n [] le h = tt
 held_below cs n (Method fr sh ∷ ls) le h = held_below cs n ls (omega (arith, le)) h
 held_below cs n (Mark gv ∷ ls) le h = held_below cs n ls (omega (arith, le)) h
+held_below cs n (Unwinding code es ∷ ls) le h = held_below cs n ls (omega (arith, le)) h
 held_below cs n (Dying o ∷ ls) le h = (other_depth cs n (length (tasks_of ls)) (ne_eqb n (length (tasks_of ls)) (λ e. absurd (omega (arith, le, e)))) ∙ h.0, held_below cs n ls (omega (arith, le)) h.1)
 held_below cs n (Dispatching d ∷ ls) le h = held_below cs n ls (omega (arith, le)) h
 
@@ -93,6 +96,7 @@ counted_cells : (ls : List Layer) (cs : List Cell) → Tidy cs → DyingHeld cs 
 counted_cells [] cs t h none = omega (arith, all_stand cs (λ k. none k refl))
 counted_cells (Method fr sh ∷ ls) cs t h none = counted_cells ls cs t h none
 counted_cells (Mark gv ∷ ls) cs t h none = counted_cells ls cs t h none
+counted_cells (Unwinding code es ∷ ls) cs t h none = counted_cells ls cs t h none
 counted_cells (Dispatching d ∷ ls) cs t h none = counted_cells ls cs t h none
 counted_cells (Dying o ∷ ls) cs t h none =
     let n = length (tasks_of ls) in
@@ -109,6 +113,7 @@ stack_held : (p : Image) (t : Typing) (cs : List Cell) (back : Back) (ls : List 
 stack_held p t cs back [] h = tt
 stack_held p t cs back (Method fr sh ∷ ls) h = stack_held p t cs (Returns fr.method fr.home) ls h.4
 stack_held p t cs back (Mark gv ∷ ls) h = stack_held p t cs (Caught gv) ls h.1
+stack_held p t cs back (Unwinding code es ∷ ls) h = stack_held p t cs Leaves ls h.1
 stack_held p t cs back (Dying o ∷ ls) h = (h.0.1, stack_held p t cs Gone ls h.2)
 stack_held p t cs back (Dispatching d ∷ []) h = tt
 stack_held p t cs back (Dispatching d ∷ l ∷ ls) h = absurd (more h.1)
@@ -120,6 +125,7 @@ claims_none : (p : Image) (cs : List Cell) (ls : List Layer) (k : ℕ) → goes_
 claims_none p cs [] k e = refl
 claims_none p cs (Method fr sh ∷ ls) k e = claims_none p cs ls k e
 claims_none p cs (Mark gv ∷ ls) k e = claims_none p cs ls k e
+claims_none p cs (Unwinding code es ∷ ls) k e = claims_none p cs ls k e
 claims_none p cs (Dispatching d ∷ ls) k e = claims_none p cs ls k e
 claims_none p cs (Dying o ∷ ls) k e = here (length (tasks_of ls) == k) refl (λ h. claims_none p cs ls k h) e
   where

@@ -1,12 +1,12 @@
 -- What a run of a method costs those that begin it.
 use Rattle.std.proofs.Common.{◌≡◌, ◌<◌, ◌≤◌, ◌+◌, ◌*◌, ◌^◌, ◌∙◌, ℕ, zero, suc, Bool, true, false, cond, List, [], ◌∷◌, length, Option, Some, None, slice_get, refl, ap, arith, subst}
-use Rattle.std.specs.Prelude.{All, get_or, position}
+use Rattle.std.specs.Prelude.{All, IsSome, get_or, position}
 use Rattle.std.proofs.lemmas.List.Elements.{All-get_or}
 use Rattle.std.proofs.lemmas.List.Quantifiers.{position-Some}
 use Rattle.std.proofs.lemmas.Option.{slice_get_within, slice_get-get_or, get_or_from_slice_get}
 use Rattle.aom_image.specs.Image.{Image}
-use Rattle.aom_image.specs.Views.{is_quiet, method_at, quiet_in}
-use Rattle.aom_image.specs.declared.instr.Instr.TheVariants.{Call}
+use Rattle.aom_image.specs.Views.{is_quiet, leaves, leaves_in, method_at, quiet_in}
+use Rattle.aom_image.specs.declared.instr.Instr.TheVariants.{Call, Trap}
 use Rattle.aom_image.specs.declared.instr.Target.{Target}
 use Rattle.aom_image.specs.declared.method.Method.{Method}
 use Rattle.aom_image.specs.declared.method.Role.{Role}
@@ -15,16 +15,17 @@ use Rattle.aom_image.specs.declared.method.Thing.{Thing}
 use Rattle.aom_image.specs.declared.method.Thing.TheVariants.{Object as An_object_of, Message}
 use Rattle.aom_classes.specs.Calls.{CallsOrdered, RunsBelow}
 use Rattle.aom_classes.specs.Linked.{IsLinked}
-use Rattle.aom_classes.specs.Roles.{is_class, plays, role_number, role_of, same_role}
-use Rattle.aom_roles.specs.Shapes.{HasShape, IsShaped, kind_of}
+use Rattle.aom_classes.specs.Roles.{is_class, is_main, main_of, plays, role_number, role_of, same_role}
+use Rattle.aom_roles.specs.Shapes.{FlagsFit, HasShape, IsShaped, kind_of, may_leave, is_quiet as quiet_bit}
 use Rattle.aom_classes.proofs.Each.{both}
 use Rattle.aom_classes.proofs.Facts.{at_place}
 use Rattle.aom_sound.specs.Destruction.{begun, begun_by, destructor_of}
 use Rattle.aom_sound.specs.Places.{Object}
 use Rattle.aom_sound.specs.State.{Task}
+use Rattle.aom_sound.specs.WellTyped.{IsUndo}
 use Rattle.aom_ranks.specs.Ranks.{all_left, base, cell_rank, left_in, level, price, tasks_rank, waiting_rank}
 use Rattle.aom_ranks.specs.Within.{left}
-use Rattle.aom_ranks.proofs.Sums.{pow_more, pow_some, pow_step, pow_twice, whole_run}
+use Rattle.aom_ranks.proofs.Sums.{pow_less, pow_more, pow_some, pow_step, pow_twice, whole_run}
 
 -- what holds of each element holds of one
 pub all_at : {X : Type 0} (P : X → Type 0) (xs : List X) (k : ℕ) (x : X) → All P xs → slice_get xs k ≡ Some x → P x
@@ -49,8 +50,8 @@ price_some p m = pow_some (all_left p.methods) (level p m)
 pub cell_some : (p : Image) → 1 ≤ cell_rank p
 cell_some p = pow_some (all_left p.methods) (length p.methods)
 
--- a whole run of a method and one more is paid by a move of a higher level
-pub run_paid : (p : Image) (m : ℕ) (n : ℕ) → level p m < n → left_in (method_at p m) [] 0 * price p m + 1 ≤ base p ^ n
+-- a whole run of a method and two more are paid by a move of a higher level
+pub run_paid : (p : Image) (m : ℕ) (n : ℕ) → level p m < n → left_in (method_at p m) [] 0 * price p m + 2 ≤ base p ^ n
 run_paid p m n lower =
     let whole = whole_run (left_in (method_at p m) [] 0) (all_left p.methods) (price p m) (left_at_begin p m) (price_some p m) in
     let step : base p ^ suc (level p m) ≡ base p * price p m = pow_step (all_left p.methods) (level p m) in
@@ -66,6 +67,30 @@ called_lower p m m' below quiet = go (is_quiet p m) (is_quiet p m') quiet
     go true false h = let clash = h refl in cc
     go false true h = omega (arith, below)
     go false false h = omega (arith, below)
+
+-- there is a method, so a cell has two at least
+pub cell_two : (p : Image) → IsLinked p → 2 ≤ cell_rank p
+unfolding main_of
+cell_two p linked =
+    let some : 1 ≤ length p.methods = go p.methods linked.main in
+    omega (arith, pow_less (all_left p.methods) 0 (length p.methods) (omega (arith, some)), pow_some (all_left p.methods) 0)
+  where
+    go : (ms : List Method) → IsSome (position is_main ms) → 1 ≤ length ms
+    go [] e = cc
+    go (m ∷ ms) e = omega arith
+
+-- a method that may leave is not quiet
+pub loud_leaver : (p : Image) → IsLinked p → (m : ℕ) → leaves p m ≡ true → is_quiet p m ≡ false
+unfolding leaves_in quiet_in method_at
+loud_leaver p linked m = go (slice_get p.methods m) refl
+  where
+    flag : (d : Method) → FlagsFit d → (b : Bool) → quiet_bit d ≡ b → may_leave d ≡ true → b ≡ false
+    flag d fits true q e = let never = fits.quiet q in cc
+    flag d fits false q e = refl
+
+    go : (o : Option Method) → slice_get p.methods m ≡ o → leaves_in o ≡ true → quiet_in o ≡ false
+    go None there e = cc
+    go (Some d) there e = let shaped : IsShaped p d = all_at (IsShaped p) p.methods m d linked.shapes there in flag d shaped.flags (quiet_bit d) refl e
 
 -- a move of a method that is not quiet pays for a cell
 pub cell_paid : (p : Image) (m : ℕ) → is_quiet p m ≡ false → cell_rank p + cell_rank p ≤ price p m
@@ -110,20 +135,20 @@ quiet_destructor p linked c m e = go p.methods refl e
         let shape : HasShape Destruct (kind_of p d.class) d = subst (λ r. HasShape r (kind_of p d.class) d) role shaped.role in
         record { within = slice_get_within p.methods m d there; quiet = ap quiet_in there ∙ shape.flags }
 
--- a destruction that begins is paid by its cell
-pub begun_paid : (p : Image) → IsLinked p → (o : Object) (height : ℕ) (below : List Task) → tasks_rank p (begun p o height below) ≤ cell_rank p + waiting_rank p below
+-- a destruction that begins is paid by its cell, with one left
+pub begun_paid : (p : Image) → IsLinked p → (o : Object) (height : ℕ) (below : List Task) → tasks_rank p (begun p o height below) + 1 ≤ cell_rank p + waiting_rank p below
 begun_paid p linked o height below = go (destructor_of p o.thing) (of_thing o.thing)
   where
     of_thing : (t : Thing) (m : ℕ) → destructor_of p t ≡ Some m → IsQuietThere p m
     of_thing (An_object_of c) m e = quiet_destructor p linked c m e
     of_thing Message m e = cc
 
-    go : (d : Option ℕ) → ((m : ℕ) → d ≡ Some m → IsQuietThere p m) → tasks_rank p (begun_by d o height below) ≤ cell_rank p + waiting_rank p below
-    go None h = omega (arith, cell_some p)
+    go : (d : Option ℕ) → ((m : ℕ) → d ≡ Some m → IsQuietThere p m) → tasks_rank p (begun_by d o height below) + 1 ≤ cell_rank p + waiting_rank p below
+    go None h = omega (arith, cell_two p linked)
     go (Some m) h =
         let w = h m refl in
         let is : level p m ≡ m = ap (λ b. cond b m (suc (length p.methods) + m)) w.quiet in
-        let paid : left_in (method_at p m) [] 0 * price p m + 1 ≤ cell_rank p = run_paid p m (length p.methods) (omega (arith, is, w.within)) in
+        let paid : left_in (method_at p m) [] 0 * price p m + 2 ≤ cell_rank p = run_paid p m (length p.methods) (omega (arith, is, w.within)) in
         omega (arith, paid)
 
 -- a called method comes before
@@ -133,3 +158,23 @@ called_before p linked m place d target m' first c is stands =
     let ordered : CallsOrdered p m d = at_place (CallsOrdered p) p.methods m d linked.calls is in
     let runs : RunsBelow p m d.class (Call target m' first c) = all_at (RunsBelow p m d.class) d.code place (Call target m' first c) ordered.code stands in
     runs.below
+
+pub trapped_before : (p : Image) → IsLinked p → (m place : ℕ) (d : Method) (target : Target) (m' first c : ℕ) → method_at p m ≡ Some d → slice_get d.code place ≡ Some (Trap target m' first c) → m' < m
+unfolding method_at
+trapped_before p linked m place d target m' first c is stands =
+    let ordered : CallsOrdered p m d = at_place (CallsOrdered p) p.methods m d linked.calls is in
+    let runs : RunsBelow p m d.class (Trap target m' first c) = all_at (RunsBelow p m d.class) d.code place (Trap target m' first c) ordered.code stands in
+    runs.below
+
+-- an operation is paid by its item, with two left
+pub undo_paid : (p : Image) (m : ℕ) → IsUndo p m → left_in (method_at p m) [] 0 * price p m + 2 ≤ cell_rank p
+unfolding method_at
+undo_paid p m undo =
+    let is : level p m ≡ m = ap (λ b. cond b m (suc (length p.methods) + m)) undo.quiet in
+    let within : m < length p.methods = within_methods p.methods m undo.there in
+    run_paid p m (length p.methods) (omega (arith, is, within))
+  where
+    within_methods : (ms : List Method) (k : ℕ) → IsSome (slice_get ms k) → k < length ms
+    within_methods [] k e = cc
+    within_methods (x ∷ ms) zero e = omega arith
+    within_methods (x ∷ ms) (suc k) e = omega (arith, within_methods ms k e)

@@ -7,11 +7,11 @@ use Rattle.aom_image.specs.declared.method.Gives.{Gives}
 use Rattle.aom_image.specs.declared.method.Gives.TheVariants.{Nothing, Word as A_word, Own as An_own, Maybe as A_maybe, Left}
 use Rattle.aom_image.specs.declared.method.Thing.{Thing}
 use Rattle.aom_sound.specs.Places.{Cell, Going, Object, Place, Register, held, moved, same_place, set_word_field, with_new, without}
-use Rattle.aom_sound.specs.State.{AtRoot, Frame, Home, Inside, Run, State, Static, Task, field_place}
-use Rattle.aom_sound.specs.Calls.{passed_cells, result_cells}
+use Rattle.aom_sound.specs.State.{AtRoot, Frame, Home, Inside, Item, An_object, An_operation, A_mark, State, Static, Task, field_place}
+use Rattle.aom_sound.specs.Calls.{below_top, passed_cells, result_cells}
 use Rattle.aom_sound.specs.Words.{stored}
 use Rattle.aom_sound.proofs.Maps.{same_place-true}
-use Rattle.aom_ranks.specs.Ranks.{is_going, standing}
+use Rattle.aom_ranks.specs.Ranks.{is_going, standing, operations}
 
 -- what moves from a place of a cell that stood
 pub standing_moved : (from to : Place) (cs : List Cell) → is_going from ≡ false → standing (moved from to cs) ≤ standing cs
@@ -74,12 +74,12 @@ field_stands Static f = refl
 field_stands AtRoot f = refl
 field_stands (Inside o from) f = refl
 
-pub standing_passed : (p : Image) (fr : Frame) (ts : List Task) (s : State) (xs : List Argument) (first to : ℕ) (cs : List Cell) → standing (passed_cells p fr ts s xs first to cs) ≤ standing cs
-standing_passed p fr ts s [] first to cs = omega arith
-standing_passed p fr ts s (Takes_word ∷ xs) first to cs = standing_passed p fr ts s xs (suc first) (suc to) cs
-standing_passed p fr ts s (Takes_own t ∷ xs) first to cs =
-    let here = standing_moved (Register (length ts) first) (Register (length (Run fr ∷ ts)) to) cs refl in
-    let more = standing_passed p fr ts s xs (suc first) (suc to) (moved (Register (length ts) first) (Register (length (Run fr ∷ ts)) to) cs) in
+pub standing_passed : (p : Image) (fr : Frame) (ts : List Task) (s : State) (depth : ℕ) (xs : List Argument) (first to : ℕ) (cs : List Cell) → standing (passed_cells p fr ts s depth xs first to cs) ≤ standing cs
+standing_passed p fr ts s depth [] first to cs = omega arith
+standing_passed p fr ts s depth (Takes_word ∷ xs) first to cs = standing_passed p fr ts s depth xs (suc first) (suc to) cs
+standing_passed p fr ts s depth (Takes_own t ∷ xs) first to cs =
+    let here = standing_moved (Register (length ts) first) (Register depth to) cs refl in
+    let more = standing_passed p fr ts s depth xs (suc first) (suc to) (moved (Register (length ts) first) (Register depth to) cs) in
     omega (arith, here, more)
 
 pub standing_result : (p : Image) (fr : Frame) (ts : List Task) (s : State) (g : Gives) (a c : ℕ) (below : List Task) → standing (result_cells p fr ts s g a c below) ≤ standing s.cells
@@ -88,3 +88,11 @@ standing_result p fr ts s A_word a c below = omega arith
 standing_result p fr ts s (An_own t) a c below = standing_moved (Register (length ts) a) (Register (length below) c) s.cells refl
 standing_result p fr ts s (A_maybe t) a c below = standing_moved (Register (length ts) a) (Register (length below) c) s.cells refl
 standing_result p fr ts s (Left x) a c below = omega arith
+
+-- ---- operations
+
+pub operations_below : (items : List Item) → operations (below_top items) ≤ operations items
+operations_below [] = omega arith
+operations_below (An_object ∷ items) = omega arith
+operations_below (An_operation m w ∷ items) = omega arith
+operations_below (A_mark ∷ items) = omega arith

@@ -66,6 +66,6 @@ one_more m x c le = let more : m * c ≤ (x + 1) * c = scaled_le m (x + 1) c (om
 pub one_less : (m x c : ℕ) → suc m ≤ x → m * c + c ≤ x * c
 one_less m x c le = scaled m x c (omega (arith, le))
 
--- a whole run of a method, and one
-pub whole_run : (x a c : ℕ) → x ≤ a → 1 ≤ c → x * c + 1 ≤ (a + 2) * c
+-- a whole run of a method, and two
+pub whole_run : (x a c : ℕ) → x ≤ a → 1 ≤ c → x * c + 2 ≤ (a + 2) * c
 whole_run x a c le some = let more = scaled_le x a c le in grind (arith, more, some)

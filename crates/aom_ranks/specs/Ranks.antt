@@ -4,7 +4,7 @@ use Rattle.aom_image.specs.Image.{Image}
 use Rattle.aom_image.specs.Views.{is_quiet, method_at}
 use Rattle.aom_image.specs.declared.method.Method.{Method}
 use Rattle.aom_sound.specs.Places.{Place, Register, Entry, Field, Going, Elsewhere, Cell}
-use Rattle.aom_sound.specs.State.{Frame, Dispatch, Of_main, Of_root, Task, Run, Trapped, Destroy, Dispatched, State, next}
+use Rattle.aom_sound.specs.State.{Frame, Dispatch, Of_main, Main_left, Of_root, Task, Run, Trapped, Destroy, Unwind, Dispatched, Item, An_object, An_operation, A_mark, State, next}
 use Rattle.aom_ranks.specs.Within.{left}
 
 -- all that the methods have before them as they begin
@@ -33,6 +33,7 @@ frame_rank p fr = left_in (method_at p fr.method) fr.counters fr.place * price p
 -- the end of main's dispatch may begin the root's destruction, and the end after that does not
 abbrev pub end_rank : Dispatch → ℕ
 end_rank Of_main = 2
+end_rank (Main_left code) = 1
 end_rank Of_root = 1
 
 -- the tasks that wait: a method goes on at its next place
@@ -41,6 +42,7 @@ waiting_rank p [] = 0
 waiting_rank p (Run fr ∷ ts) = frame_rank p (next fr) + waiting_rank p ts
 waiting_rank p (Trapped ∷ ts) = 1 + waiting_rank p ts
 waiting_rank p (Destroy ∷ ts) = 1 + waiting_rank p ts
+waiting_rank p (Unwind code ∷ ts) = 1 + waiting_rank p ts
 waiting_rank p (Dispatched d ∷ ts) = end_rank d + waiting_rank p ts
 
 abbrev pub tasks_rank : Image → List Task → ℕ
@@ -63,8 +65,15 @@ abbrev pub standing : List Cell → ℕ
 standing [] = 0
 standing (c ∷ cs) = cond (is_going c.owner) (standing cs) (suc (standing cs))
 
+-- the operations on the cleanup stack; each pays for its run, which is that of a quiet method
+abbrev pub operations : List Item → ℕ
+operations [] = 0
+operations (An_object ∷ items) = operations items
+operations (An_operation m w ∷ items) = suc (operations items)
+operations (A_mark ∷ items) = operations items
+
 abbrev pub rank : Image → State → ℕ
-rank p s = tasks_rank p s.tasks + standing s.cells * cell_rank p
+rank p s = tasks_rank p s.tasks + (standing s.cells + operations s.items) * cell_rank p
 
 -- how many destructions are at hand
 abbrev pub destructions : List Task → ℕ
@@ -72,4 +81,5 @@ destructions [] = 0
 destructions (Destroy ∷ ts) = suc (destructions ts)
 destructions (Run fr ∷ ts) = destructions ts
 destructions (Trapped ∷ ts) = destructions ts
+destructions (Unwind code ∷ ts) = destructions ts
 destructions (Dispatched d ∷ ts) = destructions ts

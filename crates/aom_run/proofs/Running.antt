@@ -1,7 +1,8 @@
 -- A run, one step of the machine after another.
 use Rattle.std.proofs.Common.{◌≡◌, ℕ, suc, min, ◌+◌, Bool, true, List, [], ◌∷◌, ◌++◌, Option, Some, None, length, take, refl, sym, ap, subst, ◌∙◌, append-nil, append_assoc, arith}
 use Rattle.aom_image.specs.Image.{Image}
-use Rattle.aom_sound.specs.State.{State, Task, Dispatched}
+use Rattle.aom_sound.specs.Moves.{written}
+use Rattle.aom_sound.specs.State.{State, Task}
 use Rattle.aom_sound.specs.World.{boot_state, Reaches, begins, moves as moved, waits as waited, IsBusy, waiting}
 use Rattle.aom_sound.specs.declared.line.Line.{Line}
 use Rattle.aom_sound.specs.declared.line.Ending.{Ending}
@@ -10,10 +11,10 @@ use Rattle.aom_lines.specs.Turn.{Turn}
 use Rattle.aom_lines.specs.Text.{text_of, ended, end_text, transcript}
 use Rattle.aom_ranks.specs.Ranks.{rank}
 use Rattle.aom_exec.specs.declared.progress.Outcome.{Outcome}
-use Rattle.aom_exec.specs.declared.progress.Outcome.TheVariants.{Stopped, Waiting, WriteFault}
+use Rattle.aom_exec.specs.declared.progress.Outcome.TheVariants.{Stopped, Waiting, MainLeft, WriteFault}
 use Rattle.aom_exec.specs.declared.progress.Progress.{Progress}
 use Rattle.aom_exec.specs.declared.progress.Progress.TheVariants as progresses
-use Rattle.aom_exec.specs.Steps.{Machine, StandsFor, Steps, rests, moves, closes, Quiet, begins as none, goes_on as then_on, SteppedOn, Waited, IsClosing, progress as reached}
+use Rattle.aom_exec.specs.Steps.{Machine, StandsFor, Steps, rests, moves, Settles, settled, settles, IsUncounted, Quiet, begins as none, goes_on as then_on, SteppedOn, Waited, progress as reached}
 use Rattle.aom_exec.specs.Progress.{progress_of, progress_by, outcome_of}
 use Rattle.aom_exec.proofs.Progressing.{is_as_far}
 use Rattle.aom_run.specs.Runs.{after, Ended, Told, CutShort, Ran}
@@ -31,16 +32,26 @@ pub record SoFar (p : Image) (refused : List ℕ) (before now : Option (List ℕ
 pub starts : (refused : List ℕ) (out : Option (List ℕ)) (m : Machine) → StandsFor m (boot_state m.image) → SoFar m.image refused out out m
 starts refused out m fresh = record { lines = []; state = boot_state m.image; reaches = begins; stands = fresh; out = after_none out }
 
-is_busy : (s : State) → IsClosing s → IsBusy s
-is_busy s closing = (Dispatched closing.0, [], closing.1)
+is_busy : (s : State) → IsUncounted s.tasks → IsBusy s
+is_busy s uncounted = go s.tasks refl uncounted
+  where
+    go : (ts : List Task) → s.tasks ≡ ts → IsUncounted ts → IsBusy s
+    go [] e u = absurd u
+    go (t ∷ ts) e u = (t, ts, e)
 
--- a step of the machine is none, one or two moves of a run
+-- the moves that count as no step are moves of a run
+settled_on : (p : Image) (refused : List ℕ) (b : State) (lines : List Line) (s : State) (more : List Line) (u : State)
+    → Reaches p refused b lines s → Settles p refused s more u → Reaches p refused b (lines ++ more) u
+settled_on p refused b lines s _ _ r (settled not) = subst (λ ls. Reaches p refused b ls s) (sym (append-nil lines)) r
+settled_on p refused b lines s _ v r (settles {u = u} {lines = more} c uncounted free goes rest) =
+    subst (λ ls. Reaches p refused b ls v) (append_assoc lines _ more) (settled_on p refused b (lines ++ written p s) u more v (moved c r (is_busy s uncounted) free goes) rest)
+
+-- a step of the machine is none, or one or more moves of a run
 reaches_on : (p : Image) (refused : List ℕ) (b : State) (lines : List Line) (s : State) (more : List Line) (u : State)
     → Reaches p refused b lines s → Steps p refused s more u → Reaches p refused b (lines ++ more) u
 reaches_on p refused b lines s more u r (rests done) = subst (λ ls. Reaches p refused b ls s) (sym (append-nil lines)) r
-reaches_on p refused b lines s more u r (moves c hand free goes not) = moved c r hand.busy free goes
-reaches_on p refused b lines s more u r (closes c d v hand free goes closing free_end ends) =
-    subst (λ ls. Reaches p refused b ls u) (append_assoc lines _ _) (moved d (moved c r hand.busy free goes) (is_busy v closing) free_end ends)
+reaches_on p refused b lines s _ v r (moves {u = u} {lines = more} c hand free goes rest) =
+    subst (λ ls. Reaches p refused b ls v) (append_assoc lines _ more) (settled_on p refused b (lines ++ written p s) u more v (moved c r hand.busy free goes) rest)
 
 -- quiet steps add no line
 reaches_over : (p : Image) (refused : List ℕ) (b : State) (lines : List Line) (s v : State) → Reaches p refused b lines s → Quiet p refused s v → Reaches p refused b lines v
@@ -116,6 +127,11 @@ same_outcome endings.Stopped endings.Stopped is = refl
 same_outcome endings.Stopped endings.Waiting is = absurd cc
 same_outcome endings.Waiting endings.Stopped is = absurd cc
 same_outcome endings.Waiting endings.Waiting is = refl
+same_outcome endings.Stopped (endings.MainLeft n) is = absurd cc
+same_outcome endings.Waiting (endings.MainLeft n) is = absurd cc
+same_outcome (endings.MainLeft n) endings.Stopped is = absurd cc
+same_outcome (endings.MainLeft n) endings.Waiting is = absurd cc
+same_outcome (endings.MainLeft n) (endings.MainLeft k) is = cc
 
 ended_same : (a b : Ending) → progresses.Ended a ≡ progresses.Ended b → a ≡ b
 ended_same a b is = cc
@@ -186,6 +202,7 @@ module _ (m new : Machine) (refused : List ℕ) (ending : Ending) (before mid no
   unfolding last
   ran Stopped fault is part whole = subst (λ e. Told m.image refused e before now new) (sym (same_outcome endings.Stopped ending (is (λ f. cc)))) (told (whole (λ f. cc) run.state run.stands))
   ran Waiting fault is part whole = subst (λ e. Told m.image refused e before now new) (sym (same_outcome endings.Waiting ending (is (λ f. cc)))) (told (whole (λ f. cc) run.state run.stands))
+  ran (MainLeft n) fault is part whole = subst (λ e. Told m.image refused e before now new) (sym (same_outcome (endings.MainLeft n) ending (is (λ f. cc)))) (told (whole (λ f. cc) run.state run.stands))
   ran WriteFault fault is part whole =
       let sent = part run.state run.stands in
       (fault refl, cut_last sent.0 sent.1)

@@ -8,7 +8,7 @@ use Rattle.aom_sound.specs.declared.line.Ending.{Ending}
 use Rattle.aom_sound.specs.declared.line.Ending.TheVariants as endings
 use Rattle.aom_lines.specs.Text.{text_of, transcript}
 use Rattle.aom_exec.specs.declared.progress.Outcome.{Outcome}
-use Rattle.aom_exec.specs.declared.progress.Outcome.TheVariants.{Stopped, Waiting, WriteFault}
+use Rattle.aom_exec.specs.declared.progress.Outcome.TheVariants.{Stopped, Waiting, MainLeft, WriteFault}
 use Rattle.aom_exec.specs.Steps.{Machine, StandsFor}
 
 -- what is out once a text is out too, where the sink tells it
@@ -48,4 +48,5 @@ pub record CutShort (p : Image) (refused : List ℕ) (before now : Option (List 
 abbrev pub Ran : Machine → List ℕ → Outcome → Bool → Option (List ℕ) → Option (List ℕ) → Machine → Type 0
 Ran old refused Stopped failed before now new = Told old.image refused endings.Stopped before now new
 Ran old refused Waiting failed before now new = Told old.image refused endings.Waiting before now new
+Ran old refused (MainLeft code) failed before now new = Told old.image refused (endings.MainLeft code) before now new
 Ran old refused WriteFault failed before now new = (failed ≡ true) × CutShort old.image refused before now

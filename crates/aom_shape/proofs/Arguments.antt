@@ -1,6 +1,6 @@
 -- The arguments of a call, one after the other.
-use Rattle.std.proofs.Common.{◌≡◌, ℕ, suc, cond, ◌+◌, ◌<◌, ◌≤◌, List, ◌∷◌, ◌++◌, length, drop, inl, inr, sym, ap, ◌∙◌, Ok, Err, arith}
-use Rattle.std.proofs.lemmas.Bool.{le-leb, lt-leb}
+use Rattle.std.proofs.Common.{◌≡◌, ℕ, suc, true, nat_lt, cond, ◌+◌, ◌<◌, ◌≤◌, List, ◌∷◌, ◌++◌, length, drop, inl, inr, sym, ap, ◌∙◌, Ok, Err, arith}
+use Rattle.std.proofs.lemmas.Bool.{le-leb, lt-leb, lt-ltb}
 use Rattle.std.proofs.lemmas.Bool.Decides.{leb_tells}
 use Rattle.std.proofs.Math.Seq.{drop-cons}
 use Rattle.std.proofs.Math.ListN.{drop_of_length-le}
@@ -13,7 +13,11 @@ use Rattle.aom_shape.specs.Needs.{tested}
 use Rattle.aom_shape.specs.Shape.{Shape}
 use Rattle.aom_shape.specs.declared.why.Why.{Why}
 use Rattle.aom_shape.specs.declared.why.Why.TheVariants.{RegisterKind}
+use Rattle.aom_shape.specs.declared.kind.Entry.{Entry}
+use Rattle.aom_shape.specs.declared.kind.Entry.TheVariants.{Operation}
+use Rattle.aom_shape.specs.Tables.{at}
 use Rattle.aom_shape.proofs.Judging.{failed_first, passed_first}
+use Rattle.aom_shape.proofs.Lists.{at_within}
 
 -- the arguments from one on: that one, and those after it
 split : (xs : List Argument) (i : ℕ) (x : Argument) → i < length xs → x ≡ slice_index_or xs i x → drop i xs ≡ x ∷ drop (suc i) xs
@@ -63,3 +67,7 @@ arguments_fit p sh xs first u e = elim (leb_tells (first + length xs) 16) [
   | inl w ↦ w.1
   | inr w ↦ let clash : Err RegisterKind ≡ Ok u = sym (rule_past p sh xs first w.1) ∙ e in absurd cc
 ]
+
+-- the entry of a number, where there is one
+pub entry_there : (es : List Entry) (k : ℕ) (x : Entry) → k < length es → x ≡ slice_index_or es k x → (nat_lt k (length es) ≡ true) × (at Operation es k ≡ x)
+entry_there es k x h e = (lt-ltb k (length es) h, sym (at_within Operation x es k h) ∙ sym e)

@@ -31,13 +31,13 @@ pub thing_self : (t : Thing) → same_thing t t ≡ true
 thing_self (Object c) = eq-eqb c c refl
 thing_self Message = refl
 
-age_is : (a b : Age) → same_age a b ≡ true → a ≡ b
+pub age_is : (a b : Age) → same_age a b ≡ true → a ≡ b
 age_is Fresh Fresh h = refl
 age_is Fresh Ready h = cc
 age_is Ready Fresh h = cc
 age_is Ready Ready h = refl
 
-age_self : (a : Age) → same_age a a ≡ true
+pub age_self : (a : Age) → same_age a a ≡ true
 age_self Fresh = refl
 age_self Ready = refl
 

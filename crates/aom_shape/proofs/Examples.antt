@@ -4,12 +4,12 @@ use Rattle.aom_image.specs.Image.{Image}
 use Rattle.aom_image.specs.Views.{method_at, class_at, arguments_in, gives_in, leaves_in, quiet_in, role_in, class_in, fields_in}
 use Rattle.aom_image.specs.declared.class.ClassDecl.{ClassDecl}
 use Rattle.aom_image.specs.declared.class.ClassKind.TheVariants.{Plain}
-use Rattle.aom_image.specs.declared.instr.Instr.TheVariants.{Const, Add, JumpEmpty, Load, Store, Put, New, Call, Return}
-use Rattle.aom_image.specs.declared.instr.Target.TheVariants.{This, Register, Field, Entry}
+use Rattle.aom_image.specs.declared.instr.Instr.TheVariants.{Const, Add, JumpEmpty, Load, Store, Put, New, NewOrLeave, Push, PushOperation, Pop, PopOperation, PopDelete, Call, Trap, Return, Leave, LeaveIf}
+use Rattle.aom_image.specs.declared.instr.Target.TheVariants.{This, Register, Field, Entry as On_entry}
 use Rattle.aom_image.specs.declared.method.Argument.{Argument}
 use Rattle.aom_image.specs.declared.method.Argument.TheVariants.{Own as An_own_argument}
 use Rattle.aom_image.specs.declared.method.Gives.{Gives}
-use Rattle.aom_image.specs.declared.method.Gives.TheVariants.{Nothing, Word as A_word, Left}
+use Rattle.aom_image.specs.declared.method.Gives.TheVariants.{Nothing, Word as A_word, Own as An_own, Left}
 use Rattle.aom_image.specs.declared.method.Role.{Role}
 use Rattle.aom_image.specs.declared.method.Role.TheVariants.{Main, Do, Construct, Destruct}
 use Rattle.aom_image.specs.declared.method.Thing.TheVariants.{Object}
@@ -17,10 +17,12 @@ use Rattle.aom_shape.specs.Rules.{rule}
 use Rattle.aom_shape.specs.Shape.{Shape}
 use Rattle.aom_shape.specs.Things.{words_in}
 use Rattle.aom_shape.specs.declared.kind.Age.TheVariants.{Fresh, Ready}
+use Rattle.aom_shape.specs.declared.kind.Entry.{Entry}
+use Rattle.aom_shape.specs.declared.kind.Entry.TheVariants.{Object as An_object, Operation}
 use Rattle.aom_shape.specs.declared.kind.Filling.{Filling}
 use Rattle.aom_shape.specs.declared.kind.Filling.TheVariants.{Empty, Full, Perhaps}
 use Rattle.aom_shape.specs.declared.kind.Kind.{Kind}
-use Rattle.aom_shape.specs.declared.kind.Kind.TheVariants.{Unset, Word, Null, Own}
+use Rattle.aom_shape.specs.declared.kind.Kind.TheVariants.{Unset, Word, Null, Own, Maybe}
 use Rattle.aom_shape.specs.declared.why.Why.TheVariants.{RegisterKind, OwnedAtLeave, OwnedAtReturn, CleanupAtReturn, PopEmpty, LeaveNotAllowed, FieldNotNull, FieldsLeft, NotFresh, StillFresh, QuietBroken}
 
 -- class 1 has a field of class 0
@@ -117,7 +119,7 @@ call_on_a_field_that_may_be_null : rule (called_by (Some 0) Do 0 [] Nothing (Som
 unfolding called_by state classes method_at class_at arguments_in role_in class_in fields_in
 call_on_a_field_that_may_be_null = refl
 
-call_on_a_missing_entry : rule (called_by (Some 0) Do 0 [] Nothing None 0) 1 0 (state Unset Unset Empty) (Call (Entry 0) 0 0 0) ≡ Err PopEmpty
+call_on_a_missing_entry : rule (called_by (Some 0) Do 0 [] Nothing None 0) 1 0 (state Unset Unset Empty) (Call (On_entry 0) 0 0 0) ≡ Err PopEmpty
 unfolding called_by state method_at arguments_in role_in class_in
 call_on_a_missing_entry = refl
 
@@ -161,3 +163,106 @@ leave_with_an_owner = refl
 construct_with_an_argument : rule (called_by (Some 1) Construct 0 (An_own_argument (Object 0) ∷ []) Nothing None 0) 1 0 (state (Own (Object 1) Fresh) (Own (Object 0) Ready) Empty) (Call (Register 0) 0 1 0) ≡ Ok ((1, state (Own (Object 1) Ready) Null Empty) ∷ [])
 unfolding called_by state method_at arguments_in role_in class_in quiet_in gives_in leaves_in
 construct_with_an_argument = refl
+
+-- ---- the cleanup stack, and leaves
+
+-- a state of two registers and cleanup entries
+stacked : Kind → Kind → List Entry → Shape
+stacked first second entries = record { registers = first ∷ second ∷ []; fields = Empty ∷ []; entries = entries }
+
+push_with_another_owner : rule (with_method None Do 1 Nothing) 0 0 (stacked (Own (Object 0) Ready) (Own (Object 0) Ready) []) (Push 0) ≡ Err OwnedAtLeave
+unfolding with_method stacked method_at leaves_in
+push_with_another_owner = refl
+
+push_of_what_may_be_null : rule (with_method None Do 1 Nothing) 0 0 (stacked (Maybe (Object 0) Ready) Unset []) (Push 0) ≡ Err RegisterKind
+unfolding with_method stacked
+push_of_what_may_be_null = refl
+
+push_in_a_method_that_may_not_leave : rule (with_method None Do 0 Nothing) 0 0 (stacked (Own (Object 0) Ready) Unset []) (Push 0) ≡ Err LeaveNotAllowed
+unfolding with_method stacked method_at leaves_in
+push_in_a_method_that_may_not_leave = refl
+
+push_operation_of_no_word : rule (with_method None Do 1 Nothing) 0 0 (stacked Unset Unset []) (PushOperation 0 0) ≡ Err RegisterKind
+unfolding with_method stacked
+push_operation_of_no_word = refl
+
+new_or_leave_with_an_owner : rule (with_method None Do 1 Nothing) 0 0 (stacked (Own (Object 0) Ready) Unset []) (NewOrLeave 1 0) ≡ Err OwnedAtLeave
+unfolding with_method stacked method_at leaves_in quiet_in
+new_or_leave_with_an_owner = refl
+
+leave_in_a_method_that_may_not : rule (with_method None Do 0 Nothing) 0 0 (stacked Word Unset []) (Leave 0) ≡ Err LeaveNotAllowed
+unfolding with_method stacked method_at leaves_in
+leave_in_a_method_that_may_not = refl
+
+leave_with_no_word : rule (with_method None Do 1 Nothing) 0 0 (stacked Null Unset []) (LeaveIf 0) ≡ Err RegisterKind
+unfolding with_method stacked
+leave_with_no_word = refl
+
+pop_of_nothing : rule (with_method None Do 1 Nothing) 0 0 (stacked Unset Unset []) (Pop 0) ≡ Err PopEmpty
+unfolding with_method stacked
+pop_of_nothing = refl
+
+pop_of_an_operation : rule (with_method None Do 1 Nothing) 0 0 (stacked Unset Unset (Operation ∷ [])) (Pop 0) ≡ Err RegisterKind
+unfolding with_method stacked
+pop_of_an_operation = refl
+
+pop_operation_of_an_object : rule (with_method None Do 1 Nothing) 0 0 (stacked Unset Unset (An_object 0 Ready ∷ [])) PopOperation ≡ Err RegisterKind
+unfolding with_method stacked
+pop_operation_of_an_object = refl
+
+pop_delete_of_nothing : rule (with_method None Do 1 Nothing) 0 0 (stacked Unset Unset []) PopDelete ≡ Err PopEmpty
+unfolding with_method stacked
+pop_delete_of_nothing = refl
+
+return_with_an_entry : rule (with_method None Do 1 Nothing) 0 0 (stacked Unset Unset (An_object 0 Ready ∷ [])) (Return 0) ≡ Err CleanupAtReturn
+unfolding with_method stacked method_at gives_in
+return_with_an_entry = refl
+
+left_of_another_class : rule (with_method None Do 1 (Left 0)) 0 0 (stacked Unset Unset (An_object 1 Ready ∷ [])) (Return 0) ≡ Err CleanupAtReturn
+unfolding with_method stacked method_at gives_in
+left_of_another_class = refl
+
+left_over_another_entry : rule (with_method None Do 1 (Left 0)) 0 0 (stacked Unset Unset (An_object 0 Ready ∷ Operation ∷ [])) (Return 0) ≡ Err CleanupAtReturn
+unfolding with_method stacked method_at gives_in
+left_over_another_entry = refl
+
+call_on_a_fresh_entry : rule (called_by (Some 0) Do 0 [] Nothing None 0) 1 0 (stacked Unset Unset (Operation ∷ An_object 0 Fresh ∷ [])) (Call (On_entry 1) 0 0 0) ≡ Err StillFresh
+unfolding called_by stacked method_at arguments_in role_in class_in
+call_on_a_fresh_entry = refl
+
+call_on_an_operation : rule (called_by (Some 0) Do 0 [] Nothing None 0) 1 0 (stacked Unset Unset (Operation ∷ [])) (Call (On_entry 0) 0 0 0) ≡ Err RegisterKind
+unfolding called_by stacked method_at arguments_in role_in class_in
+call_on_an_operation = refl
+
+trap_in_a_quiet_method : rule (called_by None Do 1 [] Nothing None 2) 1 0 (stacked Unset Unset []) (Trap This 0 0 0) ≡ Err QuietBroken
+unfolding called_by stacked method_at quiet_in
+trap_in_a_quiet_method = refl
+
+code_over_an_owner : rule (called_by None Do 1 [] Nothing None 0) 1 0 (stacked Unset (Own (Object 0) Ready) []) (Trap This 0 0 0) ≡ Err RegisterKind
+unfolding called_by stacked method_at arguments_in role_in class_in quiet_in gives_in
+code_over_an_owner = refl
+
+-- and some that pass: an object goes to the stack and comes back, and another is left to the caller
+pushed : rule (with_method None Do 1 Nothing) 0 0 (stacked (Own (Object 1) Fresh) Word []) (Push 0) ≡ Ok ((1, stacked Null Word (An_object 1 Fresh ∷ [])) ∷ [])
+unfolding with_method stacked method_at leaves_in
+pushed = refl
+
+popped : rule (with_method None Do 1 Nothing) 0 0 (stacked Null Word (An_object 1 Ready ∷ Operation ∷ [])) (Pop 0) ≡ Ok ((1, stacked (Own (Object 1) Ready) Word (Operation ∷ [])) ∷ [])
+unfolding with_method stacked
+popped = refl
+
+left_to_the_caller : rule (called_by None Do 1 [] (Left 1) None 1) 1 0 (stacked Word Word (Operation ∷ [])) (Call This 0 0 0) ≡ Ok ((1, stacked Word Word (An_object 1 Ready ∷ Operation ∷ [])) ∷ [])
+unfolding called_by stacked method_at arguments_in role_in class_in quiet_in gives_in leaves_in
+left_to_the_caller = refl
+
+left_at_return : rule (with_method None Do 1 (Left 0)) 0 0 (stacked Word Unset (An_object 0 Ready ∷ [])) (Return 0) ≡ Ok []
+unfolding with_method stacked method_at gives_in quiet_in role_in class_in
+left_at_return = refl
+
+constructed_on_the_stack : rule (called_by (Some 0) Construct 1 [] Nothing None 1) 1 0 (stacked Unset Unset (An_object 0 Fresh ∷ [])) (Call (On_entry 0) 0 0 0) ≡ Ok ((1, stacked Unset Unset (An_object 0 Ready ∷ [])) ∷ [])
+unfolding called_by stacked method_at arguments_in role_in class_in quiet_in gives_in leaves_in
+constructed_on_the_stack = refl
+
+trapped : rule (called_by None Do 1 [] (An_own (Object 0)) None 0) 1 0 (stacked Unset Null []) (Trap This 0 0 0) ≡ Ok ((1, stacked (Maybe (Object 0) Ready) Word []) ∷ [])
+unfolding called_by stacked method_at arguments_in role_in class_in quiet_in gives_in
+trapped = refl

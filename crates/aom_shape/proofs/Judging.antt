@@ -2,8 +2,8 @@
 use Rattle.std.proofs.Common.{◌≡◌, ℕ, true, false, cond, List, [], ◌∷◌, ◌++◌, Result, Ok, Err, refl, sym, ◌∙◌}
 use Rattle.aom_image.specs.Image.{Image}
 use Rattle.aom_image.specs.Views.{gives_of}
-use Rattle.aom_shape.specs.Calls.{rule_result, result_moved, rule_return, fields_done, is_destructor}
-use Rattle.aom_shape.specs.Kinds.{no_entry, none_owns}
+use Rattle.aom_shape.specs.Calls.{rule_result, result_moved, rule_return, entries_done, fields_done, is_destructor}
+use Rattle.aom_shape.specs.Kinds.{none_owns}
 use Rattle.aom_shape.specs.Shape.{Shape}
 use Rattle.aom_shape.specs.Things.{holder_of}
 use Rattle.aom_shape.specs.declared.why.Why.TheVariants.{OwnedAtReturn, CleanupAtReturn, FieldsLeft}
@@ -48,7 +48,7 @@ all_passed {B = B} (x ∷ xs) b u e =
 -- what a return asks once its result is in order
 abbrev pub left_needs : Image → ℕ → ℕ → Shape → ℕ → List Need
 left_needs p m pc sh a =
-    (no_entry sh.entries, CleanupAtReturn)
+    (entries_done p (gives_of p m) sh.entries, CleanupAtReturn)
     ∷ (none_owns (result_moved p m pc sh (gives_of p m) a).registers, OwnedAtReturn)
     ∷ (fields_done p (is_destructor p m) (holder_of p m) sh.fields, FieldsLeft)
     ∷ []

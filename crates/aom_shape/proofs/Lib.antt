@@ -1,4 +1,5 @@
 pub mod Lists
+pub mod Packing
 pub mod Views
 pub mod Deciding
 pub mod Judging
@@ -10,5 +11,6 @@ pub mod Starting
 pub mod Emptying
 pub mod Telling
 pub mod Monotone
+pub mod Growing
 pub mod Examples
 pub mod Ordering

@@ -1,11 +1,12 @@
 -- The meet of two states, kind by kind and filling by filling.
-use Rattle.std.proofs.Common.{◌≡◌, ℕ, ◌+◌, ◌<◌, Bool, true, false, cond, List, length, slice_index_or, slice_set, Some, None, inl, inr, refl, sym, ◌∙◌, arith}
+use Rattle.std.proofs.Common.{◌≡◌, ◌≢◌, ℕ, ◌+◌, ◌<◌, Bool, true, false, cond, List, length, slice_index_or, slice_set, Some, None, inl, inr, refl, sym, ◌∙◌, arith}
 use Rattle.std.proofs.lemmas.List.{length-set}
 use Rattle.std.proofs.lemmas.Bool.Decides.{eqb_tells, leb_tells}
 use Rattle.aom_image.specs.declared.method.Thing.{Thing}
 use Rattle.aom_shape.specs.declared.kind.Age.{Age}
 use Rattle.aom_shape.specs.Kinds.{register, field}
-use Rattle.aom_shape.specs.Meet.{Met, Unmet, MetFillings, IsMeet, NoMeet}
+use Rattle.aom_shape.specs.Meet.{Met, Unmet, MetFillings, IsMeet, NoMeet, WhyNoMeet}
+use Rattle.aom_shape.specs.Meet.WhyNoMeet.{by_registers, by_entries}
 use Rattle.aom_shape.specs.Order.{Weaker, WeakerFilling}
 use Rattle.aom_shape.specs.Order.Weaker.{alike, unset_word, unset_null, maybe_null, maybe_own}
 use Rattle.aom_shape.specs.Order.WeakerFilling.{alike_filling, perhaps_empty, perhaps_full}
@@ -16,6 +17,7 @@ use Rattle.aom_shape.specs.declared.kind.Kind.{Kind}
 use Rattle.aom_shape.specs.declared.kind.Kind.TheVariants.{Unset, Word, Null, Own, Maybe}
 use Rattle.aom_shape.specs.declared.kind.Filling.{Filling}
 use Rattle.aom_shape.specs.declared.kind.Filling.TheVariants.{Empty, Full, Perhaps}
+use Rattle.aom_shape.specs.declared.why.Why.TheVariants.{RegisterKind, CleanupAtReturn}
 use Rattle.aom_shape.proofs.Deciding.{weaker_tests, weaker_tested, same_own, object_self, fillings_test}
 use Rattle.aom_shape.proofs.Lists.{at_within, at_set_here, at_set_other, at_past}
 
@@ -226,5 +228,22 @@ met a b m la lb fa fb registers fields first second =
     }
 
 -- where two kinds have no meet, nothing says no more than both
-pub unmet : (a b : Shape) → Unmet a.registers b.registers → NoMeet a b
-unmet a b h = record { none = λ n k l. meet_missing (register a h.place) (register b h.place) (register n h.place) h.none (k.registers h.place) (l.registers h.place) }
+pub unmet : (a b : Shape) → Unmet a.registers b.registers → NoMeet a b × WhyNoMeet a b RegisterKind
+unmet a b h = (
+  record { none = λ n k l. meet_missing (register a h.place) (register b h.place) (register n h.place) h.none (k.registers h.place) (l.registers h.place) },
+  by_registers h,
+)
+
+kinds_meet : (a b m : List Kind) → length a ≡ 16 → length b ≡ 16 → Met a b m 16 → ¬ Unmet a b
+kinds_meet a b m la lb h missing =
+    elim (leb_tells 16 missing.place) [
+      | inr w ↦ let found = h.each missing.place w.1 in let none = missing.none in cc
+      | inl w ↦ let none = rw (at_past Unset a missing.place (omega (arith, w.1)), at_past Unset b missing.place (omega (arith, w.1))) at missing.none in cc
+    ]
+
+-- and where their entries differ nothing does either
+pub parted : (a b : Shape) (m : List Kind) → length a.registers ≡ 16 → length b.registers ≡ 16 → Met a.registers b.registers m 16 → a.entries ≢ b.entries → NoMeet a b × WhyNoMeet a b CleanupAtReturn
+parted a b m la lb h differ = (
+  record { none = λ n k l. differ (sym k.entries ∙ l.entries) },
+  by_entries (kinds_meet a.registers b.registers m la lb h) differ,
+)

@@ -1,18 +1,19 @@
 -- The rules are monotone: each instruction's needs and flows, from a state to one that says more.
-use Rattle.std.proofs.Common.{◌≡◌, ℕ, suc, Bool, true, false, cond, ◌==◌, List, [], ◌∷◌, ◌++◌, length, Option, Some, None, inl, inr, refl}
+use Rattle.std.proofs.Common.{◌≡◌, ℕ, suc, Bool, true, false, cond, ◌==◌, List, [], ◌∷◌, ◌++◌, length, Option, Some, None, inl, inr, refl, ap, ◌∙◌}
 use Rattle.std.proofs.lemmas.Bool.{false≢true, eqb-true}
 use Rattle.aom_image.specs.Image.{Image}
 use Rattle.aom_image.specs.Views.{arguments_of, gives_of, fields_of, leaves, method_class, method_role}
 use Rattle.aom_image.specs.declared.instr.Instr.{Instr}
-use Rattle.aom_image.specs.declared.instr.Instr.TheVariants.{Const, Copy, Move, Add, Sub, Mul, And, Or, Xor, Jump, JumpEqual, JumpLess, JumpNull, JumpEmpty, Loop, Next, Print, Load, Store, Take, Put, New, Delete, Call, Return, Stop}
+use Rattle.aom_image.specs.declared.instr.Instr.TheVariants.{Const, Copy, Move, Add, Sub, Mul, And, Or, Xor, Jump, JumpEqual, JumpLess, JumpNull, JumpEmpty, Loop, Next, Print, Load, Store, Take, Put, New, NewOrLeave, Delete, Push, PushOperation, Pop, PopOperation, PopDelete, Call, Trap, Return, Leave, LeaveIf, Stop}
 use Rattle.aom_image.specs.declared.instr.Target.{Target}
-use Rattle.aom_image.specs.declared.instr.Target.TheVariants.{This, Register, Field, Entry}
+use Rattle.aom_image.specs.declared.instr.Target.TheVariants.{This, Register, Field, Entry as On_entry}
 use Rattle.aom_image.specs.declared.method.Argument.{Argument}
 use Rattle.aom_image.specs.declared.method.Argument.TheVariants.{Word as A_word_argument, Own as An_own_argument}
 use Rattle.aom_image.specs.declared.method.Gives.{Gives}
 use Rattle.aom_image.specs.declared.method.Gives.TheVariants.{Nothing, Word as A_word, Own as An_own, Maybe as A_maybe, Left}
 use Rattle.aom_image.specs.declared.method.Thing.TheVariants.{Object}
-use Rattle.aom_shape.specs.Calls.{is_construct, is_destructor, is_target, age_need, awaits, brought, fields_worked, while_called, argument_needs, each_argument, argument_moved, arguments_moved, rule_target, rule_arguments, rule_moved, fields_done, rule_result, result_moved}
+use Rattle.aom_shape.specs.Calls.{is_construct, is_destructor, is_target, age_need, awaits, brought, caught, readied_at, fields_worked, while_called, argument_needs, each_argument, argument_moved, arguments_moved, rule_target, rule_arguments, rule_moved, rule_trapped, fields_done, rule_result, result_moved}
+use Rattle.aom_shape.specs.Cleanup.{owns_object, entry_of, leave_point, top_kind, without_top, with_entry, without_entry}
 use Rattle.aom_shape.specs.Kinds.{register, field, set_register, set_field, filled, filling_of, is_object_or_null, none_owns, readied}
 use Rattle.aom_shape.specs.Laws.{AllFollow}
 use Rattle.aom_shape.specs.Needs.{Need, AllTrue, only_if}
@@ -25,6 +26,8 @@ use Rattle.aom_shape.specs.Rules.{rule_needs, flows}
 use Rattle.aom_shape.specs.Shape.{Shape}
 use Rattle.aom_shape.specs.Things.{Holder, Nobody, Program, Member, field_thing, holder_of}
 use Rattle.aom_shape.specs.declared.kind.Age.TheVariants.{Ready}
+use Rattle.aom_shape.specs.declared.kind.Entry.{Entry}
+use Rattle.aom_shape.specs.declared.kind.Entry.TheVariants.{Object as An_object, Operation}
 use Rattle.aom_shape.specs.declared.kind.Kind.{Kind}
 use Rattle.aom_shape.specs.declared.kind.Kind.TheVariants.{Unset, Word, Null, Own, Maybe}
 use Rattle.aom_shape.specs.declared.kind.Filling.{Filling}
@@ -143,7 +146,7 @@ called_on_more p m a b (Field f) class constructs first count h n =
     let o = field_thing p (holder_of p m) f in
     let w = filled_more o (field a f) (field b f) (h.fields f) in
     (target_more p class (filled o (field a f)) (filled o (field b f)) w n.0, (age_more constructs (filled o (field a f)) (filled o (field b f)) w n.1.0, tt))
-called_on_more p m a b (Entry k) class constructs first count h n = n
+called_on_more p m a b (On_entry k) class constructs first count h n = rw (← h.entries) n
 
 -- its arguments
 argument_more : (p : Image) (x : Argument) (k l : Kind) → Weaker k l → AllTrue (argument_needs p x k) → AllTrue (argument_needs p x l)
@@ -200,13 +203,20 @@ call_more p m pc a b target m' first c h n =
     (all_true_both (rule_arguments p b xs first) (rule_moved p m (arguments_moved xs first b) m' c) (args.0, arguments_more p a b xs first h args.1)
     (after_more p m (arguments_moved xs first a) (arguments_moved xs first b) m' c (arguments_moved_more xs first a b h) (all_true_rest two three rest)))
 
+-- one entry more, or one less
+entry_more : (d e : Entry) (a b : Shape) → SaysNoMore a b → d ≡ e → SaysNoMore (with_entry d a) (with_entry e b)
+entry_more d e a b h same = record { registers = h.registers; fields = h.fields; entries = ap (λ (x : Entry). x ∷ a.entries) same ∙ ap (λ (xs : List Entry). e ∷ xs) h.entries }
+
+entry_less : (a b : Shape) → SaysNoMore a b → SaysNoMore (without_entry a) (without_entry b)
+entry_less a b h = record { registers = h.registers; fields = h.fields; entries = ap without_top h.entries }
+
 -- what a call leaves
 brought_more : (g : Gives) (c : ℕ) (a b : Shape) → SaysNoMore a b → SaysNoMore (brought g c a) (brought g c b)
 brought_more Nothing c a b h = h
 brought_more A_word c a b h = register_more a b c Word Word h alike
 brought_more (An_own t) c a b h = register_more a b c (Own t Ready) (Own t Ready) h alike
 brought_more (A_maybe t) c a b h = register_more a b c (Maybe t Ready) (Maybe t Ready) h alike
-brought_more (Left x) c a b h = h
+brought_more (Left x) c a b h = entry_more (An_object x Ready) (An_object x Ready) a b h refl
 
 worked_more : (class : Option ℕ) (a b : Shape) → SaysNoMore a b → SaysNoMore (fields_worked class a) (fields_worked class b)
 worked_more None a b h = h
@@ -216,7 +226,56 @@ called_more : (target : Target) (class : Option ℕ) (a b : Shape) → SaysNoMor
 called_more This class a b h = worked_more class a b h
 called_more (Register r) class a b h = register_more a b r (readied (register a r)) (readied (register b r)) h (readied_more (register a r) (register b r) (h.registers r))
 called_more (Field f) class a b h = h
-called_more (Entry k) class a b h = h
+called_more (On_entry k) class a b h = record { registers = h.registers; fields = h.fields; entries = ap (λ es. readied_at es k) h.entries }
+
+-- what a trap asks and leaves
+trapped_more : (p : Image) (m pc : ℕ) (x y a b : Shape) (m' c : ℕ) → SaysNoMore a b → AllTrue (rule_trapped p m pc x a m' c) → AllTrue (rule_trapped p m pc y b m' c)
+trapped_more p m pc x y a b m' c h n = (
+  awaits_more (gives_of p m') (register a c) (register b c) (h.registers c) n.0,
+  (unowning_more (register a (suc c)) (register b (suc c)) (h.registers (suc c)) n.1.0, tt),
+)
+
+trap_more : (p : Image) (m pc : ℕ) (a b : Shape) (target : Target) (m' first c : ℕ) → SaysNoMore a b → AllTrue (rule_needs p m pc a (Trap target m' first c)) → AllTrue (rule_needs p m pc b (Trap target m' first c))
+trap_more p m pc a b target m' first c h n =
+    let xs = arguments_of p m' in
+    let class = method_class p m' in
+    let constructs = is_construct (method_role p m') in
+    let one = rule_target p m a target class constructs first (length xs) in
+    let two = rule_arguments p a xs first in
+    let three = rule_trapped p m pc a (arguments_moved xs first a) m' c in
+    let rest = all_true_rest one (two ++ three) n.1 in
+    let args = all_true_first two three rest in (
+      n.0,
+      all_true_both (rule_target p m b target class constructs first (length xs)) (rule_arguments p b xs first ++ rule_trapped p m pc b (arguments_moved xs first b) m' c) (called_on_more p m a b target class constructs first (length xs) h (all_true_first one (two ++ three) n.1))
+          (all_true_both (rule_arguments p b xs first) (rule_trapped p m pc b (arguments_moved xs first b) m' c) (args.0, arguments_more p a b xs first h args.1)
+          (trapped_more p m pc a b (arguments_moved xs first a) (arguments_moved xs first b) m' c (arguments_moved_more xs first a b h) (all_true_rest two three rest))),
+    )
+
+caught_more : (g : Gives) (c : ℕ) (a b : Shape) → SaysNoMore a b → SaysNoMore (caught g c a) (caught g c b)
+caught_more Nothing c a b h = register_more a b (suc c) Word Word h alike
+caught_more A_word c a b h = register_more (set_register a c Word) (set_register b c Word) (suc c) Word Word (register_more a b c Word Word h alike) alike
+caught_more (An_own t) c a b h = register_more (set_register a c (Maybe t Ready)) (set_register b c (Maybe t Ready)) (suc c) Word Word (register_more a b c (Maybe t Ready) (Maybe t Ready) h alike) alike
+caught_more (A_maybe t) c a b h = register_more (set_register a c (Maybe t Ready)) (set_register b c (Maybe t Ready)) (suc c) Word Word (register_more a b c (Maybe t Ready) (Maybe t Ready) h alike) alike
+caught_more (Left x) c a b h = register_more a b (suc c) Word Word h alike
+
+-- where a method may leave
+leave_more : (p : Image) (m pc : ℕ) (x y a b : Shape) → SaysNoMore a b → AllTrue (leave_point p m pc x a) → AllTrue (leave_point p m pc y b)
+leave_more p m pc x y a b h n = (n.0, (none_owns_more a.registers b.registers h.registers n.1.0, tt))
+
+-- what is pushed is the same
+owns_more : (k l : Kind) → Weaker k l → owns_object k ≡ true → owns_object l ≡ true
+owns_more k l (alike {k = same}) h = h
+owns_more k l unset_word h = absurd (false≢true h)
+owns_more k l unset_null h = absurd (false≢true h)
+owns_more k l (maybe_null {t = t} {a = age}) h = absurd (false≢true h)
+owns_more k l (maybe_own {t = t} {a = age}) h = absurd (false≢true h)
+
+pushed_more : (k l : Kind) → Weaker k l → owns_object k ≡ true → entry_of k ≡ entry_of l
+pushed_more k l (alike {k = same}) h = refl
+pushed_more k l unset_word h = refl
+pushed_more k l unset_null h = refl
+pushed_more k l (maybe_null {t = t} {a = age}) h = refl
+pushed_more k l (maybe_own {t = t} {a = age}) h = absurd (false≢true h)
 
 pub needs_more : (p : Image) (m pc : ℕ) (a b : Shape) (i : Instr) → SaysNoMore a b → AllTrue (rule_needs p m pc a i) → AllTrue (rule_needs p m pc b i)
 needs_more p m pc a b (Const r w) h n = (unowning_more (register a r) (register b r) (h.registers r) n.0, tt)
@@ -246,6 +305,18 @@ needs_more p m pc a b (Put f s) h n = (
 needs_more p m pc a b (New r c) h n = (unowning_more (register a r) (register b r) (h.registers r) n.0, n.1)
 needs_more p m pc a b (Delete r) h n = (destroyed_more (register a r) (register b r) (h.registers r) n.0, tt)
 needs_more p m pc a b (Call target m' first c) h n = call_more p m pc a b target m' first c h n
+needs_more p m pc a b (Trap target m' first c) h n = trap_more p m pc a b target m' first c h n
+needs_more p m pc a b (NewOrLeave r c) h n = (unowning_more (register a r) (register b r) (h.registers r) n.0, (n.1.0, leave_more p m pc a b a b h n.1.1))
+needs_more p m pc a b (Push r) h n = (
+  owns_more (register a r) (register b r) (h.registers r) n.0,
+  leave_more p m pc a b (set_register a r Null) (set_register b r Null) (register_more a b r Null Null h alike) n.1,
+)
+needs_more p m pc a b (PushOperation r m') h n = (word_more (register a r) (register b r) (h.registers r) n.0, leave_more p m pc a b a b h n.1)
+needs_more p m pc a b (Pop r) h n = (unowning_more (register a r) (register b r) (h.registers r) n.0, rw (← h.entries) n.1)
+needs_more p m pc a b PopOperation h n = rw (← h.entries) n
+needs_more p m pc a b PopDelete h n = rw (← h.entries) n
+needs_more p m pc a b (Leave r) h n = (word_more (register a r) (register b r) (h.registers r) n.0, leave_more p m pc a b a b h n.1)
+needs_more p m pc a b (LeaveIf r) h n = (word_more (register a r) (register b r) (h.registers r) n.0, leave_more p m pc a b a b h n.1)
 needs_more p m pc a b (Return r) h n =
     let g = gives_of p m in
     let first = all_true_first (rule_result p m pc a g r) (left_needs p m pc a r) n in
@@ -322,6 +393,24 @@ flows_more p m pc a b (Call target m' first c) h n =
     let class = method_class p m' in
     let moved = arguments_moved_more xs first a b h in
     (inl (refl, brought_more (gives_of p m') c (while_called target class (arguments_moved xs first a)) (while_called target class (arguments_moved xs first b)) (called_more target class (arguments_moved xs first a) (arguments_moved xs first b) moved)), tt)
+flows_more p m pc a b (Trap target m' first c) h n =
+    let xs = arguments_of p m' in
+    let class = method_class p m' in
+    let moved = arguments_moved_more xs first a b h in
+    (inl (refl, caught_more (gives_of p m') c (while_called target class (arguments_moved xs first a)) (while_called target class (arguments_moved xs first b)) (called_more target class (arguments_moved xs first a) (arguments_moved xs first b) moved)), tt)
+flows_more p m pc a b (NewOrLeave r c) h n = (inl (refl, register_more a b r (Own (Object c) (new_age p c)) (Own (Object c) (new_age p c)) h alike), tt)
+flows_more p m pc a b (Push r) h n =
+    let moved = register_more a b r Null Null h alike in
+    let same = pushed_more (register a r) (register b r) (h.registers r) n.0 in
+    (inl (refl, entry_more (entry_of (register a r)) (entry_of (register b r)) (set_register a r Null) (set_register b r Null) moved same), tt)
+flows_more p m pc a b (PushOperation r m') h n = (inl (refl, entry_more Operation Operation a b h refl), tt)
+flows_more p m pc a b (Pop r) h n =
+    let same : Weaker (top_kind a.entries) (top_kind b.entries) = rw (← h.entries) alike in
+    (inl (refl, register_more (without_entry a) (without_entry b) r (top_kind a.entries) (top_kind b.entries) (entry_less a b h) same), tt)
+flows_more p m pc a b PopOperation h n = (inl (refl, entry_less a b h), tt)
+flows_more p m pc a b PopDelete h n = (inl (refl, entry_less a b h), tt)
+flows_more p m pc a b (Leave r) h n = tt
+flows_more p m pc a b (LeaveIf r) h n = (inl (refl, h), tt)
 flows_more p m pc a b (Return r) h n = tt
 flows_more p m pc a b Stop h n = (inl (refl, h), tt)
 flows_more p m pc a b _ h n = tt

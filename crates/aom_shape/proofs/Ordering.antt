@@ -1,17 +1,20 @@
 -- The tests on lists decide the order between states.
-use Rattle.std.proofs.Common.{◌≡◌, ℕ, zero, suc, Bool, true, ◌&&◌, List, [], ◌∷◌, length, ◌↔◌, ◌⊎◌, IsTrue, refl, ◌∙◌, arith}
+use Rattle.std.proofs.Common.{◌≡◌, ◌≢◌, ℕ, zero, suc, Bool, true, false, ◌&&◌, ◌==◌, List, [], ◌∷◌, length, ◌↔◌, ◌⊎◌, IsTrue, refl, sym, ap, ◌∙◌, arith}
+use Rattle.std.proofs.lemmas.Bool.{eqb-true, eq-eqb, false≢true}
 use Rattle.aom_shape.specs.Kinds.{register, field}
 use Rattle.aom_shape.specs.Order.{Weaker, WeakerFilling, SaysNoMore}
 use Rattle.aom_shape.specs.Order.Weaker.{alike}
 use Rattle.aom_shape.specs.Order.WeakerFilling.{alike_filling}
 use Rattle.aom_shape.specs.Shape.{Shape}
 use Rattle.aom_shape.specs.Tables.{at}
-use Rattle.aom_shape.specs.Tests.{no_more, all_no_more, no_more_filling, all_no_more_fillings}
+use Rattle.aom_shape.specs.Tests.{no_more, all_no_more, no_more_filling, all_no_more_fillings, same_age, same_entry, same_entries}
+use Rattle.aom_shape.specs.declared.kind.Entry.{Entry}
+use Rattle.aom_shape.specs.declared.kind.Entry.TheVariants.{Object as An_object, Operation}
 use Rattle.aom_shape.specs.declared.kind.Kind.{Kind}
 use Rattle.aom_shape.specs.declared.kind.Kind.TheVariants.{Unset}
 use Rattle.aom_shape.specs.declared.kind.Filling.{Filling}
 use Rattle.aom_shape.specs.declared.kind.Filling.TheVariants.{Perhaps}
-use Rattle.aom_shape.proofs.Deciding.{both, weaker_tests, weaker_tested, weaker_along, fillings_test, fillings_tested, fillings_along}
+use Rattle.aom_shape.proofs.Deciding.{both, age_is, age_self, weaker_tests, weaker_tested, weaker_along, fillings_test, fillings_tested, fillings_along}
 
 pub reflexive : (a : Shape) → SaysNoMore a a
 reflexive a = record { registers = λ i. alike; fields = λ i. alike_filling; entries = refl }
@@ -62,6 +65,14 @@ decided a b r f e = (
 pub decided_by : (a b : Shape) (r : Bool) → length a.registers ≡ length b.registers → length a.fields ≡ length b.fields → a.entries ≡ b.entries → r ≡ (all_no_more a.registers b.registers && all_no_more_fillings a.fields b.fields) → IsTrue r ↔ SaysNoMore a b
 decided_by a b r k f e h = rw h (decided a b k f e)
 
+-- neither of two states says no more where their entries differ
+pub undecided : (a b : Shape) (r : Bool) → r ≡ false → a.entries ≢ b.entries → IsTrue r ↔ SaysNoMore a b
+undecided a b r f differ = (λ t. absurd (false≢true (sym f ∙ t)), λ h. absurd (differ h.entries))
+
+-- a test that is refused is not passed
+pub passes_not : {A : Type 0} (r : Bool) → IsTrue r ↔ A → r ≡ false → ¬ A
+passes_not r h f a = false≢true (sym f ∙ h.1 a)
+
 -- one of the lists has ended
 pub kinds_ended : (xs ys : List Kind) → (length xs ≡ 0) ⊎ (length ys ≡ 0) → all_no_more xs ys ≡ true
 kinds_ended [] ys h = refl
@@ -72,3 +83,44 @@ pub fillings_ended : (xs ys : List Filling) → (length xs ≡ 0) ⊎ (length ys
 fillings_ended [] ys h = refl
 fillings_ended (x ∷ xs) [] h = refl
 fillings_ended (x ∷ xs) (y ∷ ys) h = absurd (omega arith)
+
+-- the test on entries passes exactly where they are the same
+entry_is : (x y : Entry) → same_entry x y ≡ true → x ≡ y
+entry_is (An_object c a) (An_object d b) h = let same = both (c == d) (same_age a b) h in rw (eqb-true c d same.0, age_is a b same.1) refl
+entry_is (An_object c a) Operation h = cc
+entry_is Operation (An_object d b) h = cc
+entry_is Operation Operation h = refl
+
+entry_self : (x : Entry) → same_entry x x ≡ true
+entry_self (An_object c a) = rw (eq-eqb c c refl, age_self a)
+entry_self Operation = refl
+
+pub entries_are : (xs ys : List Entry) → same_entries xs ys ≡ true → xs ≡ ys
+entries_are [] [] h = refl
+entries_are [] (y ∷ ys) h = cc
+entries_are (x ∷ xs) [] h = cc
+entries_are (x ∷ xs) (y ∷ ys) h = let same = both (same_entry x y) (same_entries xs ys) h in rw (entry_is x y same.0, entries_are xs ys same.1) refl
+
+pub entries_self : (xs : List Entry) → same_entries xs xs ≡ true
+entries_self [] = refl
+entries_self (x ∷ xs) = rw (entry_self x, entries_self xs)
+
+pub entries_differ : (xs ys : List Entry) → length xs ≢ length ys → same_entries xs ys ≡ false
+entries_differ [] [] h = absurd (h refl)
+entries_differ [] (y ∷ ys) h = refl
+entries_differ (x ∷ xs) [] h = refl
+entries_differ (x ∷ xs) (y ∷ ys) h = rw (entries_differ xs ys (λ e. h (ap suc e))) (and_false (same_entry x y))
+  where
+    and_false : (b : Bool) → (b && false) ≡ false
+    and_false true = refl
+    and_false false = refl
+
+-- both have ended
+pub entries_ended : (xs ys : List Entry) → length xs ≡ length ys → (length xs ≡ 0) ⊎ (length ys ≡ 0) → same_entries xs ys ≡ true
+entries_ended [] [] e h = refl
+entries_ended [] (y ∷ ys) e h = absurd (omega arith)
+entries_ended (x ∷ xs) [] e h = absurd (omega arith)
+entries_ended (x ∷ xs) (y ∷ ys) e h = absurd (omega arith)
+
+pub entries_tested : (xs ys : List Entry) (r : Bool) → r ≡ same_entries xs ys → IsTrue r ↔ (xs ≡ ys)
+entries_tested xs ys r h = (λ e. entries_are xs ys (rw (← h) e), λ e. rw (h, ← e) (entries_self xs))

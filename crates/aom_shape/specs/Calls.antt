@@ -1,11 +1,11 @@
 -- The rules of calls, of returns and of stop.
-use Rattle.std.specs.Prelude.{ℕ, suc, ◌+◌, Bool, true, false, not, ◌&&◌, ◌==◌, nat_le, nat_lt, List, [], ◌∷◌, ◌++◌, length, replicate, IsSome, Option, Some, None}
+use Rattle.std.specs.Prelude.{ℕ, zero, suc, ◌+◌, ◌≤◌, Bool, true, false, not, ◌&&◌, ◌==◌, nat_le, nat_lt, List, [], ◌∷◌, ◌++◌, length, replicate, IsSome, Option, Some, None}
 use Rattle.aom_image.specs.Image.{Image}
 use Rattle.aom_image.specs.Views.{arguments_of, fields_of, gives_of, is_quiet, leaves, method_at, method_class, method_role}
 use Rattle.aom_image.specs.declared.instr.Instr.{Instr}
-use Rattle.aom_image.specs.declared.instr.Instr.TheVariants.{Call}
+use Rattle.aom_image.specs.declared.instr.Instr.TheVariants.{Call, Trap, PushOperation}
 use Rattle.aom_image.specs.declared.instr.Target.{Target}
-use Rattle.aom_image.specs.declared.instr.Target.TheVariants.{This, Register, Field, Entry}
+use Rattle.aom_image.specs.declared.instr.Target.TheVariants.{This, Register, Field, Entry as On_entry}
 use Rattle.aom_image.specs.declared.method.Argument.{Argument}
 use Rattle.aom_image.specs.declared.method.Argument.TheVariants.{Word as A_word_argument, Own as An_own_argument}
 use Rattle.aom_image.specs.declared.method.Gives.{Gives}
@@ -16,9 +16,13 @@ use Rattle.aom_image.specs.declared.method.Thing.{Thing}
 use Rattle.aom_image.specs.declared.method.Thing.TheVariants.{Object}
 use Rattle.aom_shape.specs.Things.{Holder, Nobody, Program, Member, field_thing, stands_for, holder_of}
 use Rattle.aom_shape.specs.Shape.{Shape}
-use Rattle.aom_shape.specs.Kinds.{register, field, set_register, filled, is_word, is_empty, is_unowning, is_fresh_kind, is_ready_kind, readied, may_be, none_owns, no_entry}
+use Rattle.aom_shape.specs.Kinds.{entry_kind, register, field, set_register, filled, is_word, is_empty, is_unowning, is_fresh_kind, is_ready_kind, readied, may_be, none_owns, no_entry}
+use Rattle.aom_shape.specs.Cleanup.{with_entry}
+use Rattle.aom_shape.specs.Tables.{at}
 use Rattle.aom_shape.specs.Needs.{Need, Flow, only_if, to_next}
 use Rattle.aom_shape.specs.declared.kind.Age.TheVariants.{Ready}
+use Rattle.aom_shape.specs.declared.kind.Entry.{Entry}
+use Rattle.aom_shape.specs.declared.kind.Entry.TheVariants.{Object as An_object, Operation}
 use Rattle.aom_shape.specs.declared.kind.Filling.{Filling}
 use Rattle.aom_shape.specs.declared.kind.Filling.TheVariants.{Perhaps}
 use Rattle.aom_shape.specs.declared.kind.Kind.{Kind}
@@ -65,8 +69,7 @@ awaits Nothing k = true
 awaits A_word k = is_unowning k
 awaits (An_own t) k = is_unowning k
 awaits (A_maybe t) k = is_unowning k
--- comes with the cleanup stack
-awaits (Left c) k = false
+awaits (Left c) k = true
 
 -- the state with the result, from the one that holds while the call lasts
 abbrev pub brought : Gives → ℕ → Shape → Shape
@@ -74,7 +77,28 @@ brought Nothing c sh = sh
 brought A_word c sh = set_register sh c Word
 brought (An_own t) c sh = set_register sh c (Own t Ready)
 brought (A_maybe t) c sh = set_register sh c (Maybe t Ready)
-brought (Left x) c sh = sh
+-- the object that is left is the last entry
+brought (Left x) c sh = with_entry (An_object x Ready) sh
+
+-- the state after a trap, which may have left: null or 0 then, and the code in the next register
+abbrev pub caught : Gives → ℕ → Shape → Shape
+caught Nothing c sh = set_register sh (suc c) Word
+caught A_word c sh = set_register (set_register sh c Word) (suc c) Word
+caught (An_own t) c sh = set_register (set_register sh c (Maybe t Ready)) (suc c) Word
+caught (A_maybe t) c sh = set_register (set_register sh c (Maybe t Ready)) (suc c) Word
+-- no method that leaves an object is called under a trap
+caught (Left x) c sh = set_register sh (suc c) Word
+
+-- an entry whose object is ready
+abbrev pub readied_entry : Entry → Entry
+readied_entry (An_object c a) = An_object c Ready
+readied_entry Operation = Operation
+
+-- the entry of that number is, counted from the last
+abbrev pub readied_at : List Entry → ℕ → List Entry
+readied_at [] k = []
+readied_at (e ∷ es) zero = readied_entry e ∷ es
+readied_at (e ∷ es) (suc k) = e ∷ readied_at es k
 
 -- what is known of one's own fields once a method of that class has worked on them; a static method works on none
 abbrev pub fields_worked : Option ℕ → Shape → Shape
@@ -86,7 +110,7 @@ abbrev pub while_called : Target → Option ℕ → Shape → Shape
 while_called This class sh = fields_worked class sh
 while_called (Register r) class sh = set_register sh r (readied (register sh r))
 while_called (Field f) class sh = sh
-while_called (Entry k) class sh = sh
+while_called (On_entry k) class sh = record sh { entries = readied_at sh.entries k }
 
 -- an argument has left its register: a word is copied, and what is owned moves
 abbrev pub argument_moved : Argument → ℕ → Shape → Shape
@@ -125,8 +149,11 @@ module _ (p : Image) (m : ℕ) (sh : Shape) where
       (is_target p class (filled (field_thing p (holder_of p m) f) (field sh f)), RegisterKind)
       ∷ age_need constructs (filled (field_thing p (holder_of p m) f) (field sh f))
       ∷ []
-  -- comes with the cleanup stack
-  rule_target (Entry k) class constructs first count = (false, PopEmpty) ∷ []
+  rule_target (On_entry k) class constructs first count =
+      (nat_lt k (length sh.entries), PopEmpty)
+      ∷ (is_target p class (entry_kind (at Operation sh.entries k)), RegisterKind)
+      ∷ age_need constructs (entry_kind (at Operation sh.entries k))
+      ∷ []
 
   -- what is asked once the arguments have moved: a quiet method calls quiet ones, the result has a register, and where the called method may leave, this one may, and owns nothing
   abbrev pub rule_moved : ℕ → ℕ → List Need
@@ -140,7 +167,14 @@ module _ (p : Image) (m : ℕ) (sh : Shape) where
 -- the method that an instruction calls is one of the image
 abbrev pub HasCallee : Image → Instr → Type 0
 HasCallee p (Call target m' first c) = IsSome (method_at p m')
+HasCallee p (Trap target m' first c) = IsSome (method_at p m')
+HasCallee p (PushOperation a m') = IsSome (method_at p m')
 HasCallee p _ = Unit {0}
+
+-- a trap's code has a register after that of the result
+abbrev pub HasCodeRegister : Instr → Type 0
+HasCodeRegister (Trap target m' first c) = c ≤ 14
+HasCodeRegister _ = Unit {0}
 
 module _ (p : Image) (m : ℕ) (pc : ℕ) (sh : Shape) where
   abbrev pub rule_call : Target → ℕ → ℕ → ℕ → List Need
@@ -152,7 +186,34 @@ module _ (p : Image) (m : ℕ) (pc : ℕ) (sh : Shape) where
   abbrev pub flow_call : Target → ℕ → ℕ → ℕ → List Flow
   flow_call target m' first c = to_next pc (brought (gives_of p m') c (while_called target (method_class p m') (arguments_moved (arguments_of p m') first sh)))
 
+  -- under a trap nothing leaves on, and the code has a register too
+  abbrev pub rule_trapped : Shape → ℕ → ℕ → List Need
+  rule_trapped moved m' c = (awaits (gives_of p m') (register moved c), RegisterKind) ∷ (is_unowning (register moved (suc c)), RegisterKind) ∷ []
+
+  abbrev pub rule_trap : Target → ℕ → ℕ → ℕ → List Need
+  rule_trap target m' first c =
+      (not (is_quiet p m), QuietBroken)
+      ∷ (rule_target p m sh target (method_class p m') (is_construct (method_role p m')) first (length (arguments_of p m'))
+      ++ (rule_arguments p sh (arguments_of p m') first
+      ++ rule_trapped (arguments_moved (arguments_of p m') first sh) m' c))
+
+  abbrev pub flow_trap : Target → ℕ → ℕ → ℕ → List Flow
+  flow_trap target m' first c = to_next pc (caught (gives_of p m') c (while_called target (method_class p m') (arguments_moved (arguments_of p m') first sh)))
+
 -- ---- returns
+
+-- where an object is left, the last entry is one of its class, ready, and there is no other
+abbrev pub leaves_one : Image → ℕ → List Entry → Bool
+leaves_one p c [] = false
+leaves_one p c (e ∷ es) = is_own_for p (Object c) (entry_kind e) && (is_ready_kind (entry_kind e) && no_entry es)
+
+-- no cleanup entry is left but the one that the method leaves
+abbrev pub entries_done : Image → Gives → List Entry → Bool
+entries_done p Nothing es = no_entry es
+entries_done p A_word es = no_entry es
+entries_done p (An_own t) es = no_entry es
+entries_done p (A_maybe t) es = no_entry es
+entries_done p (Left c) es = leaves_one p c es
 
 abbrev pub is_destruct : Option Role → Bool
 is_destruct (Some Destruct) = true
@@ -180,8 +241,7 @@ module _ (p : Image) (m : ℕ) (pc : ℕ) (sh : Shape) where
   rule_result A_word a = (is_word (register sh a), RegisterKind) ∷ []
   rule_result (An_own t) a = (is_own_for p t (register sh a), RegisterKind) ∷ (is_ready_kind (register sh a), StillFresh) ∷ []
   rule_result (A_maybe t) a = (may_be p t (register sh a), RegisterKind) ∷ (is_ready_kind (register sh a), StillFresh) ∷ []
-  -- comes with the cleanup stack
-  rule_result (Left c) a = (false, CleanupAtReturn) ∷ []
+  rule_result (Left c) a = (a == 0, RegisterKind) ∷ []
 
   -- the registers once the result has moved out
   abbrev pub result_moved : Gives → ℕ → Shape
@@ -194,7 +254,7 @@ module _ (p : Image) (m : ℕ) (pc : ℕ) (sh : Shape) where
   abbrev pub rule_return : ℕ → List Need
   rule_return a =
       rule_result (gives_of p m) a
-      ++ ((no_entry sh.entries, CleanupAtReturn)
+      ++ ((entries_done p (gives_of p m) sh.entries, CleanupAtReturn)
       ∷ (none_owns (result_moved (gives_of p m) a).registers, OwnedAtReturn)
       ∷ (fields_done p (is_destructor p m) (holder_of p m) sh.fields, FieldsLeft)
       ∷ [])

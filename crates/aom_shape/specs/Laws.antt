@@ -1,5 +1,5 @@
 -- The laws of the order and of the rules.
-use Rattle.std.specs.Prelude.{ℕ, ◌≡◌, ◌⊎◌, List, [], ◌∷◌}
+use Rattle.std.specs.Prelude.{ℕ, ◌≡◌, ◌≤◌, ◌⊎◌, List, [], ◌∷◌, length}
 use Rattle.aom_image.specs.Image.{Image}
 use Rattle.aom_image.specs.declared.instr.Instr.{Instr}
 use Rattle.aom_shape.specs.Needs.{Flow, AllTrue}
@@ -11,6 +11,11 @@ use Rattle.aom_shape.specs.Shape.{Shape}
 pub record IsOrder : Type 0 where
   pub reflexive : (a : Shape) → SaysNoMore a a
   pub transitive : (a b c : Shape) → SaysNoMore a b → SaysNoMore b c → SaysNoMore a c
+
+-- each flow has so many entries at most
+abbrev pub HaveAtMost : ℕ → List Flow → Type 0
+HaveAtMost n [] = Unit {0}
+HaveAtMost n (flow ∷ flows) = (length flow.1.entries ≤ n) × HaveAtMost n flows
 
 -- one of the flows leads there, and says no more
 abbrev pub Follows : List Flow → Flow → Type 0

@@ -1,6 +1,7 @@
 pub mod Tables
 pub mod Things
 pub mod Shape
+pub mod Entries
 pub mod Kinds
 pub mod Order
 pub mod Tests
@@ -8,6 +9,7 @@ pub mod Meet
 pub mod Needs
 pub mod Words
 pub mod Objects
+pub mod Cleanup
 pub mod Calls
 pub mod Rules
 pub mod Typing

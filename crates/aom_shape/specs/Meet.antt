@@ -1,5 +1,5 @@
 -- The strongest state that says no more than either of two.
-use Rattle.std.specs.Prelude.{ℕ, ◌<◌, ◌≡◌, List, length, Some, None}
+use Rattle.std.specs.Prelude.{ℕ, ◌<◌, ◌≡◌, ◌≢◌, List, length, Some, None}
 use Rattle.aom_shape.specs.Tables.{at}
 use Rattle.aom_shape.specs.Shape.{Shape}
 use Rattle.aom_shape.specs.Order.{SaysNoMore}
@@ -8,6 +8,8 @@ use Rattle.aom_shape.specs.declared.kind.Filling.{Filling}
 use Rattle.aom_shape.specs.declared.kind.Filling.TheVariants.{Perhaps}
 use Rattle.aom_shape.specs.declared.kind.Kind.{Kind}
 use Rattle.aom_shape.specs.declared.kind.Kind.TheVariants.{Unset}
+use Rattle.aom_shape.specs.declared.why.Why.{Why}
+use Rattle.aom_shape.specs.declared.why.Why.TheVariants.{RegisterKind, CleanupAtReturn}
 
 pub record IsMeet (m a b : Shape) : Type 0 where
   pub first : SaysNoMore m a
@@ -27,6 +29,11 @@ pub record Met (a b m : List Kind) (n : ℕ) : Type 0 where
 pub record Unmet (a b : List Kind) : Type 0 where
   pub place : ℕ
   pub none : meet_kind (at Unset a place) (at Unset b place) ≡ None
+
+-- why two states have no meet: two registers have none, and if each two have one the entries differ
+pub data WhyNoMeet (a b : Shape) : Why → Type 0 where
+  by_registers : Unmet a.registers b.registers → WhyNoMeet a b RegisterKind
+  by_entries : ¬ Unmet a.registers b.registers → a.entries ≢ b.entries → WhyNoMeet a b CleanupAtReturn
 
 -- the same as `Met`, of fillings
 pub record MetFillings (a b m : List Filling) (n : ℕ) : Type 0 where

@@ -1,5 +1,5 @@
--- Tests for the order between kinds and between fillings, and what two of them have in common.
-use Rattle.std.specs.Prelude.{Bool, true, false, cond, ◌&&◌, ◌||◌, List, [], ◌∷◌, Option, Some, None}
+-- Tests for the order between kinds and between fillings, what two of them have in common, and whether entries are the same.
+use Rattle.std.specs.Prelude.{Bool, true, false, cond, ◌&&◌, ◌||◌, ◌==◌, List, [], ◌∷◌, Option, Some, None}
 use Rattle.aom_image.specs.declared.method.Thing.{Thing}
 use Rattle.aom_shape.specs.Things.{same_thing}
 use Rattle.aom_shape.specs.Kinds.{is_empty, is_word}
@@ -7,6 +7,8 @@ use Rattle.aom_shape.specs.declared.kind.Age.{Age}
 use Rattle.aom_shape.specs.declared.kind.Age.TheVariants.{Fresh, Ready}
 use Rattle.aom_shape.specs.declared.kind.Kind.{Kind}
 use Rattle.aom_shape.specs.declared.kind.Kind.TheVariants.{Unset, Word, Null, Own, Maybe}
+use Rattle.aom_shape.specs.declared.kind.Entry.{Entry}
+use Rattle.aom_shape.specs.declared.kind.Entry.TheVariants.{Object as An_object, Operation}
 use Rattle.aom_shape.specs.declared.kind.Filling.{Filling}
 use Rattle.aom_shape.specs.declared.kind.Filling.TheVariants.{Empty, Full, Perhaps}
 
@@ -93,3 +95,15 @@ all_no_more_fillings (x ∷ xs) (y ∷ ys) = no_more_filling x y && all_no_more_
 -- the strongest filling that says no more than either
 abbrev pub meet_filling : Filling → Filling → Filling
 meet_filling a b = cond (no_more_filling a b) a Perhaps
+
+abbrev pub same_entry : Entry → Entry → Bool
+same_entry (An_object c a) (An_object d b) = c == d && same_age a b
+same_entry (An_object c a) Operation = false
+same_entry Operation (An_object d b) = false
+same_entry Operation Operation = true
+
+abbrev pub same_entries : List Entry → List Entry → Bool
+same_entries [] [] = true
+same_entries [] (y ∷ ys) = false
+same_entries (x ∷ xs) [] = false
+same_entries (x ∷ xs) (y ∷ ys) = same_entry x y && same_entries xs ys

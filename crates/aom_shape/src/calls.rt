@@ -1,17 +1,23 @@
 //! The rules of calls, of returns and of stop.
-ghost use Rattle.std.specs.Prelude.{◌≡◌, ◌≤◌, ◌+◌, [], suc, ◌<◌, ◌^◌, IsSome, Some, length};
+ghost use Rattle.std.specs.Prelude.{◌≡◌, ◌≤◌, ◌+◌, [], ◌∷◌, suc, ◌<◌, ◌^◌, nat_lt, ◌&&◌, IsSome, Some, length};
 ghost use Rattle.aom_image.specs.Views.{gives_of, leaves, method_at, method_class};
-ghost use Rattle.aom_shape.specs.Calls.{is_construct, stands_here, is_target, age_need, is_among, awaits, brought, fields_worked, while_called, arguments_moved, argument_needs, rule_arguments, rule_target, rule_moved, rule_call, flow_call, is_destruct, is_destructor, fields_done, rule_result, result_moved, rule_return, flow_stop};
+ghost use Rattle.aom_image.specs.declared.method.Thing.TheVariants.{Object};
+ghost use Rattle.aom_shape.specs.Calls.{is_construct, is_own_for, stands_here, is_target, age_need, is_among, awaits, brought, fields_worked, while_called, arguments_moved, argument_needs, rule_arguments, rule_target, rule_moved, rule_call, flow_call, caught, rule_trap, flow_trap, leaves_one, entries_done, is_destruct, is_destructor, fields_done, rule_result, result_moved, rule_return, flow_stop};
+ghost use Rattle.aom_shape.specs.Kinds.{entry_kind, is_ready_kind, is_unowning, register};
 ghost use Rattle.aom_shape.specs.Needs.{judged, tested};
+ghost use Rattle.aom_shape.specs.Tables.{at};
 ghost use Rattle.aom_shape.specs.Things.{holder_by, holder_of};
+ghost use Rattle.aom_shape.specs.declared.kind.Entry.TheVariants.{Operation};
+ghost use Rattle.aom_shape.specs.declared.why.Why.TheVariants.{RegisterKind, PopEmpty};
 
 use crate::flow::{judge, judge_all, only_if};
 use crate::objects::is_quiet;
 use crate::things::{class_fields, field_thing, is_own_for, may_be, stands_for};
-use crate::{Age, Filling, Flow, Kind, Shape, Why};
+use crate::{Age, Entry, Flow, Kind, Shape, Why};
 use aom_classes::Linked;
 use aom_image::{
-    Argument, ClassNumber, Gives, Method, MethodFlags, MethodNumber, Register, Role, Target, Thing,
+    Argument, ClassNumber, EntryDepth, Gives, Method, MethodFlags, MethodNumber, Register, Role,
+    Target, Thing,
 };
 use bitflags::Flags;
 
@@ -73,6 +79,30 @@ fn is_among(first: Register, count: usize, register: Register) -> bool
     first <= number && number - first < count
 }
 
+/// What is asked of the cleanup entry that the method is called on.
+fn judge_entry(
+    linked: &Linked,
+    entries: &[Entry],
+    number: EntryDepth,
+    callee: &Method,
+    constructs: bool,
+) -> Result<(), Why>
+    ensures { result ≡ tested ((nat_lt number (length entries.now), PopEmpty) ∷ (is_target linked.now callee.now.class (entry_kind (at Operation entries.now number)), RegisterKind) ∷ age_need constructs (entry_kind (at Operation entries.now number)) ∷ []) }
+{
+    match entries.get(number.number() as usize) {
+        None => Err(Why::PopEmpty),
+        Some(entry) => {
+            let kind = entry.kind();
+            let age = age_need(constructs, &kind);
+            let needs = [
+                (is_target(linked, callee.class, &kind), Why::RegisterKind),
+                age,
+            ];
+            judge_all(&needs)
+        }
+    }
+}
+
 /// What is asked of what the method is called on.
 #[tactic(auto, using(crate::proofs::Views::class_there))]
 fn judge_target(
@@ -115,7 +145,7 @@ fn judge_target(
             ];
             judge_all(&needs)
         }
-        Target::Entry(_) => Err(Why::PopEmpty),
+        Target::Entry(number) => judge_entry(linked, shape.entries(), number, callee, constructs),
     }
 }
 
@@ -161,14 +191,13 @@ fn awaits(gives: Gives, kind: Kind) -> bool
     ensures { result ≡ awaits gives kind }
 {
     match gives {
-        Gives::Nothing => true,
+        Gives::Nothing | Gives::Left(_) => true,
         Gives::Word | Gives::Own(_) | Gives::Maybe(_) => kind.is_unowning(),
-        Gives::Left(_) => false,
     }
 }
 
 #[tactic(auto, using(crate::proofs::Views::leaves_there))]
-fn leaves(linked: &Linked, method: MethodNumber) -> bool
+pub(crate) fn leaves(linked: &Linked, method: MethodNumber) -> bool
     requires { IsSome (method_at linked.now method) }
     ensures { result ≡ leaves linked.now method }
 {
@@ -215,19 +244,22 @@ fn while_called(target: Target, class: Option<ClassNumber>, shape: &Shape) -> Sh
         Target::Register(register) => {
             shape.with_register(register, shape.register(register).readied())
         }
-        Target::Field(_) | Target::Entry(_) => *shape,
+        Target::Field(_) => *shape,
+        Target::Entry(number) => shape.with_readied_entry(number),
     }
 }
 
 /// The state with the result.
 fn brought(gives: Gives, c: Register, shape: &Shape) -> Shape
+    requires { length shape.now.entries < 1024 }
     ensures { result ≡ brought gives c shape.now }
 {
     match gives {
-        Gives::Nothing | Gives::Left(_) => *shape,
+        Gives::Nothing => *shape,
         Gives::Word => shape.with_register(c, Kind::Word),
         Gives::Own(thing) => shape.with_register(c, Kind::Own(thing, Age::Ready)),
         Gives::Maybe(thing) => shape.with_register(c, Kind::Maybe(thing, Age::Ready)),
+        Gives::Left(class) => shape.with_entry(Entry::Object(class, Age::Ready)),
     }
 }
 
@@ -241,6 +273,7 @@ pub(crate) fn rule_call(
     requires method { IsSome (method_at linked.now method) }
     requires callee { IsSome (method_at linked.now call.now.method) }
     requires place { suc place < 2 ^ 64 }
+    requires room { length shape.now.entries < 1024 }
     ensures { result ≡ judged (rule_call linked.now method place shape.now call.now.target call.now.method call.now.first call.now.result) (flow_call linked.now method place shape.now call.now.target call.now.method call.now.first call.now.result) }
 {
     let callee = linked.method(call.method);
@@ -252,6 +285,96 @@ pub(crate) fn rule_call(
     let lasting = while_called(call.target, callee.class, &moved);
     let after = brought(callee.gives, call.result, &lasting);
     Ok(Flow::to_next(place, after))
+}
+
+/// What is asked under a trap once the arguments have moved: nothing leaves on, and the code has a register too.
+#[tactic(auto, using(crate::proofs::Views::gives_there))]
+fn judge_trapped(linked: &Linked, moved: &Shape, call: &Call) -> Result<(), Why>
+    requires callee { IsSome (method_at linked.now call.now.method) }
+    requires code { call.now.result ≤ 14 }
+    ensures { result ≡ tested ((awaits (gives_of linked.now call.now.method) (register moved.now call.now.result), RegisterKind) ∷ (is_unowning (register moved.now (suc call.now.result)), RegisterKind) ∷ []) }
+{
+    let gives = linked.method(call.method).gives;
+    let code = moved.kind_at(call.result.number() as usize + 1);
+    let needs = [
+        (
+            awaits(gives, moved.register(call.result)),
+            Why::RegisterKind,
+        ),
+        (code.is_unowning(), Why::RegisterKind),
+    ];
+    judge_all(&needs)
+}
+
+/// The state after a trap, which may have left: with the code, and with the result, if there is one.
+fn caught(gives: Gives, c: Register, shape: &Shape) -> Shape
+    requires { c ≤ 14 }
+    ensures { result ≡ caught gives c shape.now }
+{
+    let given = match gives {
+        Gives::Nothing | Gives::Left(_) => *shape,
+        Gives::Word => shape.with_register(c, Kind::Word),
+        Gives::Own(thing) | Gives::Maybe(thing) => {
+            shape.with_register(c, Kind::Maybe(thing, Age::Ready))
+        }
+    };
+    given.with_kind(c.number() as usize + 1, Kind::Word)
+}
+
+pub(crate) fn rule_trap(
+    linked: &Linked,
+    method: MethodNumber,
+    place: usize,
+    shape: &Shape,
+    call: &Call,
+) -> Result<Flow, Why>
+    requires method { IsSome (method_at linked.now method) }
+    requires callee { IsSome (method_at linked.now call.now.method) }
+    requires code { call.now.result ≤ 14 }
+    requires place { suc place < 2 ^ 64 }
+    ensures { result ≡ judged (rule_trap linked.now method place shape.now call.now.target call.now.method call.now.first call.now.result) (flow_trap linked.now method place shape.now call.now.target call.now.method call.now.first call.now.result) }
+{
+    if is_quiet(linked, method) {
+        return Err(Why::QuietBroken);
+    }
+    let callee = linked.method(call.method);
+    let arguments = callee.arguments.as_slice();
+    judge_target(linked, method, shape, call, callee)?;
+    judge_arguments(linked, shape, arguments, call.first)?;
+    let moved = shape.without_arguments(arguments, call.first);
+    judge_trapped(linked, &moved, call)?;
+    let lasting = while_called(call.target, callee.class, &moved);
+    let after = caught(callee.gives, call.result, &lasting);
+    Ok(Flow::to_next(place, after))
+}
+
+/// It is an entry of an object of that class, ready.
+fn is_left(linked: &Linked, class: ClassNumber, entry: &Entry) -> bool
+    ensures { result ≡ (is_own_for linked.now (Object class) (entry_kind entry.now) && is_ready_kind (entry_kind entry.now)) }
+{
+    is_own_for(linked, Thing::Object(class), entry.kind()) && entry.kind().is_ready()
+}
+
+/// One entry alone is left: of an object of that class, ready.
+fn leaves_one(linked: &Linked, class: ClassNumber, entries: &[Entry]) -> bool
+    ensures { result ≡ leaves_one linked.now class entries.now }
+{
+    match entries {
+        [] => false,
+        [last, others @ ..] => is_left(linked, class, last) && others.is_empty(),
+    }
+}
+
+/// No cleanup entry is left but the one that the method leaves.
+#[tactic(auto, using(crate::proofs::Views::gives_there))]
+fn entries_done(linked: &Linked, method: MethodNumber, shape: &Shape) -> bool
+    requires { IsSome (method_at linked.now method) }
+    ensures { result ≡ entries_done linked.now (gives_of linked.now method) shape.now.entries }
+{
+    match linked.method(method).gives {
+        Gives::Nothing | Gives::Word | Gives::Own(_) | Gives::Maybe(_) => shape.has_no_entry(),
+        Gives::Left(class) => leaves_one(linked, class, shape.entries()),
+    }
 }
 
 /// Whether the fields may be left as they are, by the role and the class of the method: a destructor leaves them null.
@@ -291,7 +414,9 @@ fn judge_result(
 {
     let nowhere = Flow::none(*shape);
     match linked.method(method).gives {
-        Gives::Nothing => judge(&[(a.number() == 0, Why::RegisterKind)], nowhere),
+        Gives::Nothing | Gives::Left(_) => {
+            judge(&[(a.number() == 0, Why::RegisterKind)], nowhere)
+        }
         Gives::Word => judge(&[(shape.register(a).is_word(), Why::RegisterKind)], nowhere),
         Gives::Own(thing) => {
             let needs = [
@@ -310,7 +435,6 @@ fn judge_result(
             ];
             judge(&needs, nowhere)
         }
-        Gives::Left(_) => Err(Why::CleanupAtReturn),
     }
 }
 
@@ -344,7 +468,7 @@ pub(crate) fn rule_return(
 {
     let left = result_moved(linked, method, place, shape, a);
     let needs = [
-        (shape.has_no_entry(), Why::CleanupAtReturn),
+        (entries_done(linked, method, shape), Why::CleanupAtReturn),
         (left.none_owns(), Why::OwnedAtReturn),
         (fields_done(linked, method, shape), Why::FieldsLeft),
     ];

@@ -1,7 +1,9 @@
 //! What is known of one place.
 ghost use Rattle.std.specs.Prelude.{◌≡◌};
-ghost use Rattle.aom_shape.specs.Kinds.{is_empty, is_ready, is_word, is_unowning, is_object_or_null, may_be_destroyed, is_ready_kind, is_fresh_kind, readied, filled, filling_of};
-ghost use Rattle.aom_shape.specs.Tests.{same_age, is_unset, may_be_null, may_own, may_be_same, no_more, no_more_filling, meet_kind, apart, meet_filling};
+ghost use Rattle.aom_shape.specs.Kinds.{is_empty, is_ready, is_word, is_unowning, is_object_or_null, may_be_destroyed, is_ready_kind, is_fresh_kind, readied, filled, filling_of, entry_kind};
+ghost use Rattle.aom_shape.specs.Calls.{readied_entry};
+ghost use Rattle.aom_shape.specs.Cleanup.{is_object_entry};
+ghost use Rattle.aom_shape.specs.Tests.{same_age, is_unset, may_be_null, may_own, may_be_same, no_more, no_more_filling, meet_kind, apart, meet_filling, same_entry};
 
 use crate::things::{is_object, same_thing};
 use aom_image::{ClassNumber, Thing};
@@ -264,4 +266,48 @@ impl Filling {
 pub enum Entry {
     Object(ClassNumber, Age),
     Operation,
+}
+
+impl Entry {
+    pub(crate) fn is_object(self) -> bool
+        ensures { result ≡ is_object_entry self }
+    {
+        match self {
+            Entry::Object(_, _) => true,
+            Entry::Operation => false,
+        }
+    }
+
+    /// The kind of what it owns.
+    pub(crate) fn kind(self) -> Kind
+        ensures { result ≡ entry_kind self }
+    {
+        match self {
+            Entry::Object(class, age) => Kind::Own(Thing::Object(class), age),
+            Entry::Operation => Kind::Null,
+        }
+    }
+
+    /// The same, and its object is ready.
+    pub(crate) fn readied(self) -> Entry
+        ensures { result ≡ readied_entry self }
+    {
+        match self {
+            Entry::Object(class, _) => Entry::Object(class, Age::Ready),
+            Entry::Operation => Entry::Operation,
+        }
+    }
+
+    pub(crate) fn is_same(self, other: Entry) -> bool
+        ensures { result ≡ same_entry self other }
+    {
+        match self {
+            Entry::Object(class, age) => match other {
+                Entry::Object(number, stage) => class.number() == number.number()
+                    && age.is_same(stage),
+                Entry::Operation => false,
+            },
+            Entry::Operation => !other.is_object(),
+        }
+    }
 }

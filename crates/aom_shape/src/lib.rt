@@ -7,6 +7,8 @@
 #![tactic(auto)]
 
 mod calls;
+mod cleanup;
+mod entries;
 mod flow;
 mod kind;
 mod laws;

@@ -164,7 +164,7 @@ pub(crate) fn rule_put(
 }
 
 /// The age of a new object.
-fn new_age(linked: &Linked, class: ClassNumber) -> Age
+pub(crate) fn new_age(linked: &Linked, class: ClassNumber) -> Age
     ensures { result ≡ new_age linked.now class }
 {
     if linked.role(class, Role::Construct).is_some() {

@@ -1,9 +1,8 @@
 //! The order between abstract states.
 ghost use Rattle.std.specs.Prelude.{◌≡◌, ◌↔◌, IsTrue, IfOk, IfErr, IfSome, None};
-ghost use Rattle.aom_shape.specs.Meet.{Met, Unmet, MetFillings, IsMeet, NoMeet};
+ghost use Rattle.aom_shape.specs.Meet.{Met, Unmet, MetFillings, IsMeet, NoMeet, WhyNoMeet};
 ghost use Rattle.aom_shape.specs.Order.{SaysNoMore};
 ghost use Rattle.aom_shape.specs.Tests.{all_no_more, all_no_more_fillings};
-ghost use Rattle.aom_shape.specs.declared.why.Why.TheVariants.{RegisterKind};
 
 use crate::{Filling, Kind, Shape, Why};
 
@@ -33,6 +32,9 @@ fn fillings_say_no_more(a: &[Filling], b: &[Filling]) -> bool
 pub fn weaker(a: &Shape, b: &Shape) -> bool
     ensures { IsTrue result ↔ SaysNoMore a.now b.now }
 {
+    if !a.entries.are_same(&b.entries) {
+        return false;
+    }
     kinds_say_no_more(&a.registers, &b.registers) && fillings_say_no_more(&a.fields, &b.fields)
 }
 
@@ -57,16 +59,21 @@ fn meet_fillings(a: &[Filling; 8], b: &[Filling; 8]) -> [Filling; 8]
     fillings
 }
 
-/// The strongest state that says no more than either. A Why where nothing says no more than both.
+/// The strongest state that says no more than either. A Why where nothing says no more than both: `RegisterKind` where
+/// two registers have nothing in common, and else `CleanupAtReturn`, where the cleanup entries differ.
 pub fn meet(a: &Shape, b: &Shape) -> Result<Shape, Why>
     ensures ok { IfOk result (λ m. IsMeet m a.now b.now) }
-    ensures err { IfErr result (λ why. NoMeet a.now b.now × (why ≡ RegisterKind)) }
+    ensures err { IfErr result (λ why. NoMeet a.now b.now × WhyNoMeet a.now b.now why) }
 {
-    match meet_kinds(&a.registers, &b.registers) {
-        Some(registers) => Ok(Shape {
-            registers,
-            fields: meet_fillings(&a.fields, &b.fields),
-        }),
-        None => Err(Why::RegisterKind),
+    let Some(registers) = meet_kinds(&a.registers, &b.registers) else {
+        return Err(Why::RegisterKind);
+    };
+    if !a.entries.are_same(&b.entries) {
+        return Err(Why::CleanupAtReturn);
     }
+    Ok(Shape {
+        registers,
+        fields: meet_fillings(&a.fields, &b.fields),
+        entries: a.entries,
+    })
 }

@@ -1,11 +1,11 @@
 //! The rule of each instruction.
-ghost use Rattle.std.specs.Prelude.{◌≡◌, suc, ◌<◌, ◌^◌, IsSome, IfSome, Some};
+ghost use Rattle.std.specs.Prelude.{◌≡◌, suc, ◌<◌, ◌^◌, IsSome, IfSome, Some, length};
 ghost use Rattle.aom_image.specs.Views.{instr_at, method_at};
-ghost use Rattle.aom_shape.specs.Calls.{HasCallee};
+ghost use Rattle.aom_shape.specs.Calls.{HasCallee, HasCodeRegister};
 ghost use Rattle.aom_shape.specs.Rules.{rule};
 
 use crate::calls::Call;
-use crate::{Flow, Shape, Why, calls, objects, words};
+use crate::{Flow, Shape, Why, calls, cleanup, objects, words};
 use aom_classes::Linked;
 use aom_image::{Instr, MethodNumber};
 
@@ -16,15 +16,17 @@ fn instr_at(linked: &Linked, method: MethodNumber, place: usize) -> Instr
     ensures method { IsSome (method_at linked.now method) }
     ensures place { suc place < 2 ^ 64 }
     ensures callee { HasCallee linked.now result }
+    ensures code { HasCodeRegister result }
 {
     let _formed = linked.image().methods();
     linked.method(method).code.as_slice()[place]
 }
 
 /// What the instruction at that place asks of the abstract state, and where a run may go on from there: the first need
-/// that is not met, or each place with what is known there.
+/// that is not met, or each place with what is known there. There is room for one more cleanup entry.
 pub fn rule(linked: &Linked, method: MethodNumber, place: usize, shape: &Shape) -> Result<Flow, Why>
-    requires { IsSome (instr_at linked.now method place) }
+    requires instr { IsSome (instr_at linked.now method place) }
+    requires room { length shape.now.entries < 1024 }
     ensures { IfSome (instr_at linked.now method place) (λ i. result ≡ rule linked.now method place shape.now i) }
 {
     match instr_at(linked, method, place) {
@@ -61,19 +63,29 @@ pub fn rule(linked: &Linked, method: MethodNumber, place: usize, shape: &Shape) 
             };
             calls::rule_call(linked, method, place, shape, &call)
         }
+        Instr::Trap(target, callee, first, result) => {
+            let call = Call {
+                target,
+                method: callee,
+                first,
+                result,
+            };
+            calls::rule_trap(linked, method, place, shape, &call)
+        }
+        Instr::NewOrLeave(a, class) => cleanup::rule_new_or_leave(
+            linked, method, place, shape, a, class,
+        ),
+        Instr::Push(a) => cleanup::rule_push(linked, method, place, shape, a),
+        Instr::PushOperation(a, _) => cleanup::rule_push_operation(linked, method, place, shape, a),
+        Instr::Pop(a) => cleanup::rule_pop(linked, method, place, shape, a),
+        Instr::PopOperation => cleanup::rule_pop_operation(linked, method, place, shape),
+        Instr::PopDelete => cleanup::rule_pop_delete(linked, method, place, shape),
+        Instr::Leave(a) => cleanup::rule_leave(linked, method, place, shape, a),
+        Instr::LeaveIf(a) => cleanup::rule_leave_if(linked, method, place, shape, a),
         Instr::Return(a) => calls::rule_return(linked, method, place, shape, a),
         Instr::Stop => calls::rule_stop(linked, method, place, shape),
         Instr::JumpActive(_)
         | Instr::JumpAdded(_)
-        | Instr::NewOrLeave(_, _)
-        | Instr::Push(_)
-        | Instr::PushOperation(_, _)
-        | Instr::Pop(_)
-        | Instr::PopOperation
-        | Instr::PopDelete
-        | Instr::Trap(_, _, _, _)
-        | Instr::Leave(_)
-        | Instr::LeaveIf(_)
         | Instr::Enlist(_)
         | Instr::Issue(_, _)
         | Instr::SetActive

@@ -1,7 +1,8 @@
 //! Abstract states.
 ghost use Rattle.std.specs.Prelude.{◌≡◌, ◌≤◌, ◌<◌, ◌+◌, ℕ, IsSome, Some, [], length, map, replicate};
 ghost use Rattle.aom_image.specs.Views.{method_at};
-ghost use Rattle.aom_shape.specs.Calls.{all_empty, argument_moved, arguments_moved};
+ghost use Rattle.aom_shape.specs.Calls.{all_empty, argument_moved, arguments_moved, readied_at};
+ghost use Rattle.aom_shape.specs.Cleanup.{with_entry, without_entry};
 ghost use Rattle.aom_shape.specs.Kinds.{register, field, set_register, set_field, none_owns, no_entry};
 ghost use Rattle.aom_shape.specs.Order.{SaysNoMore};
 ghost use Rattle.aom_shape.specs.Tables.{at};
@@ -9,29 +10,32 @@ ghost use Rattle.aom_shape.specs.Typing.{argument_kind, entry_fields, entry_shap
 ghost use Rattle.aom_shape.specs.declared.kind.Filling.TheVariants.{Perhaps};
 ghost use Rattle.aom_shape.specs.declared.kind.Kind.TheVariants.{Unset};
 
-use crate::{Age, Filling, Kind};
+use crate::entries::Entries;
+use crate::{Age, Entry, Filling, Kind};
 use aom_classes::Linked;
-use aom_image::{Argument, FieldIndex, MethodNumber, Register, Role, Thing};
+use aom_image::{Argument, EntryDepth, FieldIndex, MethodNumber, Register, Role, Thing};
 use std::marker::Model;
 
-/// What is known where a method stands: its registers and the fields of its object.
+/// What is known where a method stands: its registers, the fields of its object, and the cleanup entries that it has
+/// pushed.
 #[derive(Clone, Copy)]
 pub struct Shape {
     pub(crate) registers: [Kind; 16],
     pub(crate) fields: [Filling; 8],
+    pub(crate) entries: Entries,
 }
 
 impl Model for Shape {
-    ghost use Rattle.std.specs.Prelude.{◌≡◌, [], length};
+    ghost use Rattle.std.specs.Prelude.{◌≡◌, length};
     ghost use Rattle.aom_shape.specs.Shape.{Shape as ShapeRecord};
 
     ghost Value = { ShapeRecord };
 
-    ghost view = { λ s. record { registers = s.registers; fields = s.fields; entries = [] } };
+    ghost view = { λ s. record { registers = s.registers; fields = s.fields; entries = s.entries } };
 
     ghost invariant = { λ s. (length s.registers ≡ 16) × (length s.fields ≡ 8) };
 
-    ghost inverse = { λ v. record { registers = v.registers; fields = v.fields } };
+    ghost inverse = { λ v. record { registers = v.registers; fields = v.fields; entries = v.entries } };
 }
 
 impl Shape {
@@ -42,6 +46,7 @@ impl Shape {
         Shape {
             registers: [Kind::Unset; 16],
             fields: [Filling::Perhaps; 8],
+            entries: Entries::none(),
         }
     }
 
@@ -65,7 +70,8 @@ impl Shape {
         self.registers[index]
     }
 
-    fn with_kind(mut self, index: usize, kind: Kind) -> Shape
+    /// The same with another kind in the register of that number.
+    pub(crate) fn with_kind(mut self, index: usize, kind: Kind) -> Shape
         requires { index < 16 }
         ensures { result ≡ set_register self index kind }
     {
@@ -132,6 +138,7 @@ impl Shape {
         Shape {
             registers: argument_kinds(declared.arguments.as_slice()),
             fields: entry_fields(declared.role),
+            entries: Entries::none(),
         }
     }
 
@@ -149,12 +156,43 @@ impl Shape {
         all_empty(declared, &self.fields)
     }
 
+    /// The cleanup entries, the last one first.
+    pub fn entries(&self) -> &[Entry]
+        ensures { result.now ≡ self.now.entries }
+    {
+        self.entries.as_slice()
+    }
+
     /// It has no cleanup entry.
     pub(crate) fn has_no_entry(&self) -> bool
         ensures { result ≡ no_entry self.now.entries }
     {
-        let _ = &self.fields;
-        true
+        self.entries().is_empty()
+    }
+
+    /// The same with one more cleanup entry.
+    pub fn with_entry(mut self, entry: Entry) -> Shape
+        requires { length self.entries < 1024 }
+        ensures { result ≡ with_entry entry self }
+    {
+        self.entries = self.entries.with(entry);
+        self
+    }
+
+    /// The same without the last cleanup entry, if there is one.
+    pub(crate) fn without_entry(mut self) -> Shape
+        ensures { result ≡ without_entry self }
+    {
+        self.entries = self.entries.without_last();
+        self
+    }
+
+    /// The same, with the object of the cleanup entry of that number ready, counted from the last.
+    pub(crate) fn with_readied_entry(mut self, number: EntryDepth) -> Shape
+        ensures { result ≡ record self { entries = readied_at self.entries number } }
+    {
+        self.entries = self.entries.readied_at(number.number() as usize);
+        self
     }
 }
 

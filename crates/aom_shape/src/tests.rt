@@ -1,5 +1,5 @@
 //! Examples of the order, of meets and of rules.
-use crate::{Age, Filling, Kind, Shape, Why, meet, weaker, words};
+use crate::{Age, Entry, Filling, Kind, Shape, Why, meet, weaker, words};
 use aom_image::{ClassNumber, FieldIndex, Place, Register, Thing};
 use std::test::Fail;
 
@@ -38,6 +38,60 @@ fn owns_of_two_classes_do_not_meet(rt: HostRuntime) -> Result<(), Fail> {
         return Err(Fail::from("a meet"));
     };
     assert!(rt; why == Why::RegisterKind);
+    Ok(())
+}
+
+/// A state with one cleanup entry, of a ready object of that class.
+fn stacked(class: u16) -> Shape {
+    match ClassNumber::new(class) {
+        Some(class) => Shape::unset().with_entry(Entry::Object(class, Age::Ready)),
+        None => Shape::unset(),
+    }
+}
+
+#[test]
+fn entries_of_two_classes_do_not_meet(rt: HostRuntime) -> Result<(), Fail> {
+    let Err(why) = meet(&stacked(7), &stacked(8)) else {
+        return Err(Fail::from("a meet"));
+    };
+    assert!(rt; why == Why::CleanupAtReturn);
+    assert!(rt; !weaker(&stacked(7), &stacked(8)));
+    assert!(rt; !weaker(&stacked(7), &Shape::unset()));
+    assert!(rt; weaker(&stacked(7), &stacked(7)));
+    Ok(())
+}
+
+#[test]
+fn registers_come_before_entries_in_a_meet(rt: HostRuntime) -> Result<(), Fail> {
+    let Some(third) = Register::new(3) else {
+        return Err(Fail::from("no register"));
+    };
+    let first = stacked(7).with_register(third, own(7));
+    let second = stacked(8).with_register(third, own(8));
+    let Err(why) = meet(&first, &second) else {
+        return Err(Fail::from("a meet"));
+    };
+    assert!(rt; why == Why::RegisterKind);
+    Ok(())
+}
+
+#[test]
+fn the_last_entry_comes_first(rt: HostRuntime) -> Result<(), Fail> {
+    let Some(class) = ClassNumber::new(7) else {
+        return Err(Fail::from("no class"));
+    };
+    let shape = Shape::unset()
+        .with_entry(Entry::Object(class, Age::Ready))
+        .with_entry(Entry::Operation);
+    let [last, first] = shape.entries() else {
+        return Err(Fail::from("not two entries"));
+    };
+    assert!(rt; matches!(last, Entry::Operation));
+    assert!(rt; matches!(first, Entry::Object(_, Age::Ready)));
+    let Ok(met) = meet(&shape, &shape) else {
+        return Err(Fail::from("no meet"));
+    };
+    assert_eq!(rt; met.entries().len(), 2);
     Ok(())
 }
 

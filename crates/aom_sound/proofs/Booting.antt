@@ -17,11 +17,11 @@ use Rattle.aom_shape.specs.declared.kind.Filling.{Filling}
 use Rattle.aom_shape.specs.declared.kind.Filling.TheVariants.{Empty, Full, Perhaps}
 use Rattle.aom_shape.specs.declared.kind.Kind.TheVariants.{Null, Unset}
 use Rattle.aom_sound.proofs.Destroying.{entry_registers, unset_only}
-use Rattle.aom_sound.specs.Claims.{Dispatching, Layer, Mark, Method, claim, declared, entry_claim, objects, tasks_of}
+use Rattle.aom_sound.specs.Claims.{Dispatching, Layer, Mark, Mark_form, Method, claim, declared, entry_claim, forms, objects, tasks_of}
 use Rattle.aom_sound.specs.Laws.{IsWired}
 use Rattle.aom_sound.specs.Places.{Elsewhere, Entry, Field, Going, Object, Place, Register, Root, held}
 use Rattle.aom_sound.specs.State.{A_mark, AtRoot, Frame, Of_main, State, frame_of}
-use Rattle.aom_sound.specs.WellTyped.{Fits, Good, WellTyped, WordFits}
+use Rattle.aom_sound.specs.WellTyped.{AllUndo, Fits, Good, WellTyped, WordFits}
 use Rattle.aom_sound.specs.World.{boot_state, main_tasks}
 
 abbrev begins : ℕ → Frame
@@ -47,7 +47,7 @@ module _ (p : Image) (m : ℕ) (after : Shape) (w : SaysNoMore after (entry_shap
       go : (b : Bool) → Fits p (held []) None (cond b (register after i) Null)
       go true = subst (λ k. Fits p (held []) None k) (sym (unset i)) tt
       go false = tt
-  fits (Entry k) = subst (λ es. Fits p (held []) None (entry_claim es (A_mark ∷ []) k Null)) (sym w.entries) tt
+  fits (Entry k) = subst (λ es. Fits p (held []) None (entry_claim es (Mark_form ∷ []) k Null)) (sym w.entries) tt
   fits (Field n f) = tt
   fits (Elsewhere Root) = root_null p (held []) (field_thing p Program 0) (field after 0) (field (entry_shape p m) 0) (w.fields 0) (ap (λ r. is_empty (at Perhaps (entry_fields r) 0)) role)
   fits (Going k) = tt
@@ -59,7 +59,7 @@ module _ (p : Image) (m : ℕ) (after : Shape) (w : SaysNoMore after (entry_shap
       record { words = λ i. subst (λ k. WordFits None k) (sym (unset i)) tt; holder = sym (ap (λ r. holder_by r (method_class p m)) role); height = refl },
       tt,
       (tt, tt),
-      (gives, (refl, refl)),
+      ((gives, tt), (refl, refl)),
     );
     fits = fits;
     tidy = tt;
@@ -74,7 +74,8 @@ booted p t wired typed m e s cells tasks items =
     record {
       layers = Method (begins m) leads.0 ∷ below;
       tasks = tasks;
-      items = items ∙ sym (ap (λ es. objects es (A_mark ∷ [])) leads.2.entries);
+      items = ap forms items ∙ sym (ap (λ es. objects es (Mark_form ∷ [])) leads.2.entries);
+      undos = subst (λ is. AllUndo p is) (sym items) tt;
       good = subst (λ cs. Good p t cs (Method (begins m) leads.0 ∷ below)) (sym cells) (good p m leads.0 leads.2 w.1 w.3 t leads.1 w.2);
     }
 

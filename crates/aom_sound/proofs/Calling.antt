@@ -1,172 +1,52 @@
--- A method is called: on its caller's own object, on what a register or a field owns, or on nothing.
-use Rattle.std.proofs.Common.{Bool, List, None, Option, Some, [], ap, arith, cond, false, inl, inr, length, refl, subst, suc, sym, true, zero, ℕ, ℤ, ◌&&◌, ◌+◌, ◌<◌, ◌==◌, ◌∙◌, ◌∷◌, ◌≡◌, ◌≤◌}
-use Rattle.std.proofs.lemmas.Bool.{and_from, eq-eqb, eqb-true, ne_eqb, true≢false}
-use Rattle.std.proofs.lemmas.Bool.Decides.{leb_tells}
+-- A method is called, plainly or under a trap: on its caller's own object, on what a register, a field or a cleanup entry owns, or on nothing.
+use Rattle.std.proofs.Common.{Bool, List, None, Option, Some, [], ap, arith, cond, false, inl, inr, length, refl, subst, suc, sym, true, ℕ, ℤ, ◌&&◌, ◌+◌, ◌-◌, ◌<◌, ◌==◌, ◌∙◌, ◌∷◌, ◌≡◌, ◌≤◌}
+use Rattle.std.proofs.lemmas.Bool.{eq-eqb, eqb-true, ltb-true, ne_eqb, true≢false}
 use Rattle.std.specs.Prelude.{is_none, is_some, map, not, replicate, ◌⊎◌}
 use Rattle.aom_image.specs.Image.{Image}
 use Rattle.aom_image.specs.Views.{arguments_of, gives_of, instr_at, leaves, method_class, method_role}
-use Rattle.aom_image.specs.declared.instr.Instr.TheVariants.{Call}
+use Rattle.aom_image.specs.declared.instr.Instr.TheVariants.{Call, Trap}
 use Rattle.aom_image.specs.declared.instr.Target.{Target}
 use Rattle.aom_image.specs.declared.instr.Target.TheVariants.{Entry as On_entry, Field as On_field, Register as On_register, This}
 use Rattle.aom_image.specs.declared.method.Argument.{Argument}
-use Rattle.aom_image.specs.declared.method.Argument.TheVariants.{Own as Takes_own, Word as Takes_word}
 use Rattle.aom_image.specs.declared.method.Gives.{Gives}
 use Rattle.aom_image.specs.declared.method.Gives.TheVariants.{Left, Maybe as A_maybe, Nothing, Own as An_own, Word as A_word}
-use Rattle.aom_image.specs.declared.method.Role.{Role}
-use Rattle.aom_image.specs.declared.method.Role.TheVariants.{Accept, Cancel, Construct, Destruct, Do, Error, Main, Run as Runs, Service, Undo}
+use Rattle.aom_image.specs.declared.method.Role.TheVariants.{Construct, Do}
 use Rattle.aom_image.specs.declared.method.Thing.{Thing}
 use Rattle.aom_image.specs.declared.method.Thing.TheVariants.{Object as An_object_of}
-use Rattle.aom_shape.specs.Calls.{age_need, arguments_moved, awaits, brought, is_among, is_construct, is_own_for, is_target, each_argument, rule_target, stands_here, while_called}
-use Rattle.aom_shape.specs.Kinds.{field, filled, is_fresh_kind, is_object_or_null, is_ready_kind, is_unowning, none_owns, readied, register, set_register}
-use Rattle.aom_shape.specs.Needs.{AllTrue, only_if}
+use Rattle.aom_shape.specs.Calls.{age_need, arguments_moved, awaits, brought, caught, each_argument, is_among, is_construct, is_own_for, is_target, readied_at, rule_target, stands_here, while_called}
+use Rattle.aom_shape.specs.Kinds.{entry_kind, field, filled, is_fresh_kind, is_object_or_null, is_ready_kind, is_unowning, readied, register, set_register}
+use Rattle.aom_shape.specs.Needs.{AllTrue}
 use Rattle.aom_shape.specs.Order.{SaysNoMore, Weaker, WeakerFilling, alike, alike_filling, perhaps_empty, perhaps_full}
 use Rattle.aom_shape.specs.Shape.{Shape}
 use Rattle.aom_shape.specs.Tables.{at}
-use Rattle.aom_shape.specs.Things.{Member, Nobody, field_thing, holder_by, holder_of, stands_for}
+use Rattle.aom_shape.specs.Things.{Member, field_thing, holder_by, holder_of, stands_for}
 use Rattle.aom_shape.specs.Typing.{IsTyped, Leads, Typing, argument_kind, entry_fields, entry_shape}
 use Rattle.aom_shape.specs.declared.kind.Age.{Age}
 use Rattle.aom_shape.specs.declared.kind.Age.TheVariants.{Fresh, Ready}
+use Rattle.aom_shape.specs.declared.kind.Entry.TheVariants.{Operation as Pushed_operation}
 use Rattle.aom_shape.specs.declared.kind.Filling.{Filling}
 use Rattle.aom_shape.specs.declared.kind.Filling.TheVariants.{Empty, Full, Perhaps}
 use Rattle.aom_shape.specs.declared.kind.Kind.{Kind}
-use Rattle.aom_shape.specs.declared.kind.Kind.TheVariants.{Maybe, Null, Own, Unset, Word}
-use Rattle.aom_sound.proofs.Claimed.{Outside, claim_from, claim_register_above, claim_unclaimed, claim_weaker, filled_weaker, fits_weaker, layer_rel, length_objects, outside_differs, word_fits_weaker}
+use Rattle.aom_shape.specs.declared.kind.Kind.TheVariants.{Null, Own, Unset}
+use Rattle.aom_sound.proofs.Claimed.{Outside, claim_from, claim_register_above, claim_unclaimed, claim_weaker, filled_weaker, fits_weaker, layer_rel, mark_claims, outside_differs, word_fits_weaker}
 use Rattle.aom_sound.proofs.Destroying.{Untouched, at_alike, eqb_comm, other_name, untouched, untouched_method}
 use Rattle.aom_sound.proofs.Finishing.{all_join, all_parts, none_owns_at}
+use Rattle.aom_sound.proofs.Items.{entry_claimed, entry_there, length_each, length_forms, readied_claim, readied_items}
 use Rattle.aom_sound.proofs.Jumps.{words_kept}
-use Rattle.aom_sound.proofs.Maps.{at-put_at, held_lives, held_moved, same_place-true}
-use Rattle.aom_sound.proofs.Passing.{Passed, all_passed, each_met, lower, none_passed, taken, taker, under, upper}
+use Rattle.aom_sound.proofs.Maps.{at-put_at, held_lives, same_place-true}
+use Rattle.aom_sound.proofs.Passing.{Passed, all_passed, each_met, filling, lower, none_passed, taken, taker, under, upper}
 use Rattle.aom_sound.proofs.Straight.{At, Law, claim_field, claim_register, field_fits, field_not_from, field_outside, fits_unowning, kind_fits, top, word_of_object}
 use Rattle.aom_sound.proofs.Things.{stands_along, stands_same}
-use Rattle.aom_sound.specs.Calls.{needs_each, needs_result, needs_target, needs_target_object, home_at, own_home, passed_cells, passed_words, result_register, target_home, works_on}
-use Rattle.aom_sound.specs.Claims.{Layer, Method, claim, declared, declared_field, home_claim, items_of, objects, tasks_of}
+use Rattle.aom_sound.specs.Calls.{called, entry_place, given_cells, home_at, needs_each, needs_result, needs_target, needs_target_object, over_trap, own_home, passed_cells, passed_words, result_register, target_home, works_on}
+use Rattle.aom_sound.specs.Claims.{Layer, Mark, Mark_form, Method, claim, declared, declared_field, entry_claim, forms, home_claim, items_of, layer_claim, objects, root_claim, tasks_of}
 use Rattle.aom_sound.specs.Laws.{IsCalled, IsWired}
 use Rattle.aom_sound.specs.Moves.{does}
-use Rattle.aom_sound.specs.Places.{Cell, Elsewhere, Entry, Field, Going, Object, Place, Register, Root, held, moved, named, same_place}
+use Rattle.aom_sound.specs.Places.{Cell, Elsewhere, Entry, Field, Going, Object, Place, Register, Root, held, named, same_place}
 use Rattle.aom_sound.specs.State.{AtRoot, Choice, Frame, Home, Inside, Run, State, Static, WrongKind, field_place, frame_of, home_holder, thing_holder, word}
-use Rattle.aom_sound.specs.WellTyped.{Awaits, Fits, Good, Holds, IsApart, IsBelow, IsHoused, IsNoFieldOf, NotIn, Returns, Stands, Unclaimed, WellTyped, WordFits, WorksOn, by_field}
+use Rattle.aom_sound.specs.WellTyped.{AllUndo, Awaits, Back, Caught, Fits, Good, Holds, IsApart, IsBelow, IsHoused, IsNoFieldOf, NotIn, Returns, Stack, Stands, Unclaimed, WellTyped, WordFits, WorksOn, by_field}
+use Rattle.aom_sound.proofs.Callees.{apart_from, below_more, filled_ready, fits_fresh, held_own, holder_called, holder_member, holder_static, home_member, moved_entries, moved_register, none_owns_each, only_then, own_for, passed_elsewhere}
 
--- what a test that is asked for says
-only_then : (a b : Bool) → only_if a b ≡ true → a ≡ true → b ≡ true
-only_then true b e h = e
-only_then false b e h = absurd (true≢false (sym h))
-
-none_owns_each : (ks : List Kind) → ((i : ℕ) → is_unowning (at Unset ks i) ≡ true) → none_owns ks ≡ true
-none_owns_each [] h = refl
-none_owns_each (k ∷ ks) h = and_from _ _ (h 0) (none_owns_each ks (λ i. h (suc i)))
-
--- a register that is no argument
-apart_from : (first count r : ℕ) → not (is_among first count r) ≡ true → (r < first) ⊎ ((first + count) ≤ r)
-apart_from first count r e = grind (arith, leb_tells first r, leb_tells (suc r) (first + count))
-
-moved_fields : (xs : List Argument) (first : ℕ) (sh : Shape) → (arguments_moved xs first sh).fields ≡ sh.fields
-moved_fields [] first sh = refl
-moved_fields (Takes_word ∷ xs) first sh = moved_fields xs (suc first) sh
-moved_fields (Takes_own t ∷ xs) first sh = moved_fields xs (suc first) (set_register sh first Null)
-
-moved_entries : (xs : List Argument) (first : ℕ) (sh : Shape) → (arguments_moved xs first sh).entries ≡ sh.entries
-moved_entries [] first sh = refl
-moved_entries (Takes_word ∷ xs) first sh = moved_entries xs (suc first) sh
-moved_entries (Takes_own t ∷ xs) first sh = moved_entries xs (suc first) (set_register sh first Null)
-
-moved_register : (xs : List Argument) (first : ℕ) (sh : Shape) (r : ℕ) → (r < first) ⊎ ((first + length xs) ≤ r) → register (arguments_moved xs first sh) r ≡ register sh r
-moved_register [] first sh r h = refl
-moved_register (Takes_word ∷ xs) first sh r (inl lt) = moved_register xs (suc first) sh r (inl (omega arith))
-moved_register (Takes_word ∷ xs) first sh r (inr le) = moved_register xs (suc first) sh r (inr (omega arith))
-moved_register (Takes_own t ∷ xs) first sh r (inl lt) =
-    moved_register xs (suc first) (set_register sh first Null) r (inl (omega arith))
-    ∙ at-put_at Unset sh.registers first r Null ∙ ap (λ b. cond b Null (register sh r)) (ne_eqb first r (λ e. absurd (omega arith)))
-moved_register (Takes_own t ∷ xs) first sh r (inr le) =
-    moved_register xs (suc first) (set_register sh first Null) r (inr (omega arith))
-    ∙ at-put_at Unset sh.registers first r Null ∙ ap (λ b. cond b Null (register sh r)) (ne_eqb first r (λ e. absurd (omega arith)))
-
-below_more : (from : Place) (fr : Frame) (sh : Shape) (ls : List Layer) → IsBelow from ls → IsBelow from (Method fr sh ∷ ls)
-below_more (Register f i) fr sh ls b = omega arith
-below_more (Entry k) fr sh ls b = omega (arith, length_objects sh.entries (items_of ls))
-below_more (Field n f) fr sh ls b = inr b
-below_more (Elsewhere Root) fr sh ls b = tt
-below_more (Going k) fr sh ls b = omega arith
-
--- whose fields a called method works on, by its class
-holder_static : (r : Option Role) → (r ≡ Some Do) ⊎ (r ≡ Some Construct) → holder_by r None ≡ Nobody
-holder_static r (inl e) = ap (λ x. holder_by x None) e
-holder_static r (inr e) = ap (λ x. holder_by x None) e
-
-holder_called : (r : Option Role) (c : ℕ) → (r ≡ Some Do) ⊎ (r ≡ Some Construct) → holder_by r (Some c) ≡ Member c
-holder_called r c (inl e) = ap (λ x. holder_by x (Some c)) e
-holder_called r c (inr e) = ap (λ x. holder_by x (Some c)) e
-
-holder_member : (r : Option Role) (c : ℕ) → (r ≡ Some Main → ⊥) → holder_by r (Some c) ≡ Member c
-holder_member None c no_main = refl
-holder_member (Some Do) c no_main = refl
-holder_member (Some Main) c no_main = absurd (no_main refl)
-holder_member (Some Construct) c no_main = refl
-holder_member (Some Destruct) c no_main = refl
-holder_member (Some Runs) c no_main = refl
-holder_member (Some Cancel) c no_main = refl
-holder_member (Some Error) c no_main = refl
-holder_member (Some Accept) c no_main = refl
-holder_member (Some Service) c no_main = refl
-holder_member (Some Undo) c no_main = refl
-
-home_member : (h : Home) (c : ℕ) → home_holder h ≡ Member c → (o : Object) × (from : Place) × (h ≡ Inside o from) × (thing_holder o.thing ≡ Member c)
-home_member Static c e = cc
-home_member AtRoot c e = cc
-home_member (Inside o from) c e = (o, from, refl, e)
-
-own_for : (p : Image) (t : Thing) (k : Kind) → is_own_for p t k ≡ true → (x : Thing) × (a : Age) × (k ≡ Own x a) × (stands_for p x t ≡ true)
-own_for p t Unset e = cc
-own_for p t Word e = cc
-own_for p t Null e = cc
-own_for p t (Own x a) e = (x, a, refl, e)
-own_for p t (Maybe x a) e = cc
-
-held_own : (p : Image) (h : Place → Option Object) (o : Option Object) (x : Thing) (a : Age) → Fits p h o (Own x a) → (y : Object) × (o ≡ Some y) × (stands_for p y.thing x ≡ true)
-held_own p h None x a f = absurd f
-held_own p h (Some y) x a f = (y, refl, f.0)
-
-filled_ready : (x : Option Thing) (y : Filling) → is_ready_kind (filled x y) ≡ true
-filled_ready None y = refl
-filled_ready (Some x) Empty = refl
-filled_ready (Some x) Full = refl
-filled_ready (Some x) Perhaps = refl
-
--- a field of a fresh object
-fits_fresh : (p : Image) (h : Place → Option Object) (x : Option Thing) (n f : ℕ) → Fits p h None (filled x (at Perhaps (replicate n Empty) f))
-fits_fresh p h None n f = tt
-fits_fresh p h (Some x) zero f = tt
-fits_fresh p h (Some x) (suc n) zero = tt
-fits_fresh p h (Some x) (suc n) (suc f) = fits_fresh p h (Some x) n f
-
--- what is no argument stays where it is
-module _ (p : Image) (s : State) (fr : Frame) (ls : List Layer) where
-  passed_elsewhere : (t : Typing) (xs : List Argument) (first to : ℕ) (cs : List Cell) (q : Place) → ((i : ℕ) → to ≤ i → held cs (upper p t fr ls i) ≡ None) → ((i : ℕ) → first ≤ i → i < (first + length xs) → same_place (lower p t fr ls i) q ≡ false) → ((i : ℕ) → same_place (upper p t fr ls i) q ≡ false) → held (passed_cells p fr (tasks_of ls) s xs first to cs) q ≡ held cs q
-  passed_elsewhere t [] first to cs q free lo up = refl
-  passed_elsewhere t (Takes_word ∷ xs) first to cs q free lo up = passed_elsewhere t xs (suc first) (suc to) cs q (λ i le. free i (omega arith)) (λ i le lt. lo i (omega arith) (omega arith)) up
-  passed_elsewhere t (Takes_own x ∷ xs) first to cs q free lo up =
-      let a = lower p t fr ls first in
-      let b = upper p t fr ls to in
-      passed_elsewhere t xs (suc first) (suc to) (moved a b cs) q
-      (λ i le. held_moved cs a b (upper p t fr ls i) (free to (omega arith))
-      ∙ ap (λ y. cond y (held cs a) (cond (same_place a (upper p t fr ls i)) None (held cs (upper p t fr ls i)))) (same_upper i le)
-      ∙ ap (λ y. cond y None (held cs (upper p t fr ls i))) (lower_upper i)
-      ∙ free i (omega arith))
-      (λ i le lt. lo i (omega arith) (omega arith)) up
-      ∙ held_moved cs a b q (free to (omega arith))
-      ∙ ap (λ y. cond y (held cs a) (cond (same_place a q) None (held cs q))) (up to)
-      ∙ ap (λ y. cond y None (held cs q)) (lo first (omega arith) (omega arith))
-    where
-      same_upper : (i : ℕ) → suc to ≤ i → same_place (upper p t fr ls to) (upper p t fr ls i) ≡ false
-      same_upper i le = ap (λ y. (suc (length (tasks_of ls)) == suc (length (tasks_of ls))) && y) (ne_eqb to i (λ e. absurd (omega arith))) ∙ both (suc (length (tasks_of ls)) == suc (length (tasks_of ls)))
-        where
-          both : (b : Bool) → (b && false) ≡ false
-          both true = refl
-          both false = refl
-
-      lower_upper : (i : ℕ) → same_place (lower p t fr ls first) (upper p t fr ls i) ≡ false
-      lower_upper i = ap (λ y. y && (first == i)) (ne_eqb (length (tasks_of ls)) (suc (length (tasks_of ls))) (λ e. absurd (omega arith)))
-
-module _ (p : Image) (t : Typing) (wired : IsWired p) (typed : IsTyped p t) (c : Choice) (s : State) (fr : Frame) (sh : Shape) (ls : List Layer) (at_hand : At p t s fr sh ls) (m first : ℕ) (is_called : IsCalled p m) where
+module _ (p : Image) (t : Typing) (wired : IsWired p) (typed : IsTyped p t) (c : Choice) (s : State) (fr : Frame) (sh : Shape) (ls : List Layer) (at_hand : At p t s fr sh ls) (m first depth height : ℕ) (deep : length (tasks_of ls) < depth) (is_called : IsCalled p m) where
   abbrev xs : List Argument
   xs = arguments_of p m
 
@@ -174,7 +54,7 @@ module _ (p : Image) (t : Typing) (wired : IsWired p) (typed : IsTyped p t) (c :
   after_arguments = arguments_moved xs first sh
 
   abbrev cs : List Cell
-  cs = passed_cells p fr (tasks_of ls) s xs first 0 s.cells
+  cs = passed_cells p fr (tasks_of ls) s depth xs first 0 s.cells
 
   abbrev regs : List Kind
   regs = map argument_kind xs
@@ -183,7 +63,7 @@ module _ (p : Image) (t : Typing) (wired : IsWired p) (typed : IsTyped p t) (c :
   ws = passed_words p fr (tasks_of ls) s xs first
 
   abbrev callee : Home → Frame
-  callee home = record (frame_of m home (length s.items)) { words = ws }
+  callee home = record (frame_of m home height) { words = ws }
 
   -- the fields of what the called method works on are as its first state says
   abbrev FieldsBegin : Home → Type 0
@@ -193,24 +73,28 @@ module _ (p : Image) (t : Typing) (wired : IsWired p) (typed : IsTyped p t) (c :
 
   -- the caller while the call lasts, and the home of the method called
   record Entering (home : Home) (sh' : Shape) : Type 0 where
-    fits : (r : Place) → Fits p (held cs) (held cs r) (claim p (declared p cs) (Method taker (taken regs) ∷ Method fr sh' ∷ ls) r)
+    fits : (r : Place) → Fits p (held cs) (held cs r) (filling p t fr ls depth deep (declared p cs) regs sh' r)
     words : (i : ℕ) → WordFits (word fr i) (register sh' i)
     housed : IsHoused p cs (Method fr sh' ∷ ls) home
     apart : IsApart p home (Method fr sh' ∷ ls)
     holder : home_holder home ≡ holder_of p m
     owning : (i : ℕ) → is_unowning (register sh' i) ≡ is_unowning (register after_arguments i)
-    entries : sh'.entries ≡ sh.entries
+    items : objects sh'.entries (items_of ls) ≡ objects sh.entries (items_of ls)
     fields : FieldsBegin home
 
-  module _ (passed : Passed p t fr ls cs after_arguments regs ws) where
+  module _ (passed : Passed p t fr ls depth deep cs after_arguments regs ws) where
+    -- what is claimed with the called method over its caller
+    abbrev claims_over : Home → Shape → Shape → Place → Kind
+    claims_over home after sh' r = layer_claim p (Method (callee home) after) depth [] r (claim p (declared p cs) (Method fr sh' ∷ ls) r)
+
     -- the first state of the called method over its caller
-    begins : (home : Home) (sh' : Shape) → Entering home sh' → (after : Shape) → SaysNoMore after (entry_shape p m) → (r : Place) → Fits p (held cs) (held cs r) (claim p (declared p cs) (Method (callee home) after ∷ Method fr sh' ∷ ls) r)
-    begins home sh' e after w (Register f i) = go (suc (length (tasks_of ls)) == f) (e.fits (Register f i))
+    begins : (home : Home) (sh' : Shape) → Entering home sh' → (after : Shape) → SaysNoMore after (entry_shape p m) → (r : Place) → Fits p (held cs) (held cs r) (claims_over home after sh' r)
+    begins home sh' e after w (Register f i) = go (depth == f) (e.fits (Register f i))
       where
         go : (b : Bool) → Fits p (held cs) (held cs (Register f i)) (cond b (at Unset regs i) (claim p (declared p cs) (Method fr sh' ∷ ls) (Register f i))) → Fits p (held cs) (held cs (Register f i)) (cond b (register after i) (claim p (declared p cs) (Method fr sh' ∷ ls) (Register f i)))
         go true h = fits_weaker p (held cs) (held cs (Register f i)) (w.registers i) h
         go false h = h
-    begins home sh' e after w (Entry k) = subst (λ es. Fits p (held cs) (held cs (Entry k)) (claim p (declared p cs) (Method (callee Static) (record after { entries = es }) ∷ Method fr sh' ∷ ls) (Entry k))) (sym w.entries) (e.fits (Entry k))
+    begins home sh' e after w (Entry k) = subst (λ es. Fits p (held cs) (held cs (Entry k)) (claims_over Static (record after { entries = es }) sh' (Entry k))) (sym w.entries) (e.fits (Entry k))
     begins home sh' e after w (Field n f) = go home e.fields
       where
         go : (home : Home) → FieldsBegin home → Fits p (held cs) (held cs (Field n f)) (home_claim p home after n f (claim p (declared p cs) (Method fr sh' ∷ ls) (Field n f)))
@@ -224,38 +108,47 @@ module _ (p : Image) (t : Typing) (wired : IsWired p) (typed : IsTyped p t) (c :
             inside false other = e.fits (Field n f)
     begins home sh' e after w (Elsewhere Root) = go home e.fields
       where
-        go : (home : Home) → FieldsBegin home → Fits p (held cs) (held cs (Elsewhere Root)) (claim p (declared p cs) (Method (callee home) after ∷ Method fr sh' ∷ ls) (Elsewhere Root))
+        go : (home : Home) → FieldsBegin home → Fits p (held cs) (held cs (Elsewhere Root)) (claims_over home after sh' (Elsewhere Root))
         go Static b = e.fits (Elsewhere Root)
         go AtRoot b = absurd b
         go (Inside o from) b = e.fits (Elsewhere Root)
     begins home sh' e after w (Going k) = e.fits (Going k)
 
-    -- so it is entered
-    enter : (home : Home) (sh' : Shape) → Entering home sh' → Stands p t (Returns m home) fr sh' → (s' : State) → s'.cells ≡ cs → s'.tasks ≡ Run (callee home) ∷ Run fr ∷ tasks_of ls → s'.items ≡ s.items → WellTyped p t s'
-    enter home sh' e stands s' cells tasks items =
+    -- so it is entered, over these layers, which claim what the caller claims
+    enter : (home : Home) (sh' : Shape) (over : List Layer) → Entering home sh' → length (tasks_of over) ≡ depth → length (items_of over) ≡ height → ((d : Place → Kind) (r : Place) → claim p d over r ≡ claim p d (Method fr sh' ∷ ls) r) → IsHoused p cs over home → IsApart p home over → Stack p t cs (Returns m home) over → (s' : State) → s'.cells ≡ cs → s'.tasks ≡ Run (callee home) ∷ tasks_of over → forms s'.items ≡ items_of over → AllUndo p s'.items → WellTyped p t s'
+    enter home sh' over e at_depth high same housed apart stack s' cells tasks items undos =
         let leads = typed.entry m is_called.there in
         let w = leads.2 in
-        let high : s.items ≡ objects sh'.entries (items_of ls) = at_hand.items ∙ ap (λ es. objects es (items_of ls)) (sym e.entries) in
-        let good : Good p t cs (Method (callee home) leads.0 ∷ Method fr sh' ∷ ls) = record {
-          stack = (
-            leads.1,
-            record { words = λ i. word_fits_weaker (at None ws i) (w.registers i) (passed.given i); holder = e.holder; height = ap length high },
-            e.housed,
-            e.apart,
-            (stands, record { words = e.words; holder = at_hand.good.stack.1.holder; height = at_hand.good.stack.1.height }, passed.housed, at_hand.good.stack.3, passed.stack),
-          );
-          fits = begins home sh' e leads.0 w;
+        let good : Good p t cs (Method (callee home) leads.0 ∷ over) = record {
+          stack = (leads.1, record { words = λ i. word_fits_weaker (at None ws i) (w.registers i) (passed.given i); holder = e.holder; height = sym high }, housed, apart, stack);
+          fits = λ r. subst (λ k. Fits p (held cs) (held cs r) k) (sym (as_begun leads.0 w r)) (begins home sh' e leads.0 w r);
           tidy = passed.tidy;
         } in
         record {
-          layers = Method (callee home) leads.0 ∷ Method fr sh' ∷ ls;
+          layers = Method (callee home) leads.0 ∷ over;
           tasks = tasks;
-          items = items ∙ high ∙ ap (λ es. objects es (objects sh'.entries (items_of ls))) (sym w.entries);
-          good = subst (λ cs. Good p t cs (Method (callee home) leads.0 ∷ Method fr sh' ∷ ls)) (sym cells) good;
+          items = items ∙ ap (λ es. objects es (items_of over)) (sym w.entries);
+          undos = undos;
+          good = subst (λ cs. Good p t cs (Method (callee home) leads.0 ∷ over)) (sym cells) good;
         }
+      where
+        as_begun : (after : Shape) → SaysNoMore after (entry_shape p m) → (r : Place) → claim p (declared p cs) (Method (callee home) after ∷ over) r ≡ claims_over home after sh' r
+        as_begun after w (Register f i) = ap (λ n. cond (n == f) (register after i) (claim p (declared p cs) over (Register f i))) at_depth ∙ ap (λ k. cond (depth == f) (register after i) k) (same (declared p cs) (Register f i))
+        as_begun after w (Entry k) = ap (λ es. entry_claim es (items_of over) k (claim p (declared p cs) over (Entry k))) w.entries ∙ same (declared p cs) (Entry k) ∙ sym (ap (λ es. entry_claim es [] k (claim p (declared p cs) (Method fr sh' ∷ ls) (Entry k))) w.entries)
+        as_begun after w (Field n f) = ap (λ k. home_claim p home after n f k) (same (declared p cs) (Field n f))
+        as_begun after w (Elsewhere Root) = ap (λ k. root_claim p home after k) (same (declared p cs) (Elsewhere Root))
+        as_begun after w (Going k) = same (declared p cs) (Going k)
+
+    -- the caller below, while the call lasts
+    caller : (home : Home) (sh' : Shape) (back : Back) → Entering home sh' → Stands p t back fr sh' → Stack p t cs back (Method fr sh' ∷ ls)
+    caller home sh' back e stands = (stands, record { words = e.words; holder = at_hand.good.stack.1.holder; height = at_hand.good.stack.1.height }, passed.housed, at_hand.good.stack.3, passed.stack)
+
+    -- the cleanup stack is as it was
+    same_high : (home : Home) (sh' : Shape) → Entering home sh' → forms s.items ≡ items_of (Method fr sh' ∷ ls)
+    same_high home sh' e = at_hand.items ∙ sym e.items
 
     -- the fields of an object that is not under construction
-    do_fields : (o : Object) (from : Place) (sh' : Shape) → ((r : Place) → Fits p (held cs) (held cs r) (claim p (declared p cs) (Method taker (taken regs) ∷ Method fr sh' ∷ ls) r)) → named cs o.name ≡ Some o → IsApart p (Inside o from) (Method fr sh' ∷ ls) → method_role p m ≡ Some Do → FieldsBegin (Inside o from)
+    do_fields : (o : Object) (from : Place) (sh' : Shape) → ((r : Place) → Fits p (held cs) (held cs r) (filling p t fr ls depth deep (declared p cs) regs sh' r)) → named cs o.name ≡ Some o → IsApart p (Inside o from) (Method fr sh' ∷ ls) → method_role p m ≡ Some Do → FieldsBegin (Inside o from)
     do_fields o from sh' fits lives apart role f =
         let x = field_thing p (thing_holder o.thing) f in
         let claims = claim_unclaimed p (declared p cs) (Method fr sh' ∷ ls) o.name f (λ f. filled (field_thing p (thing_holder o.thing) f) Perhaps) apart.2 (ap (λ y. declared_field p y f) lives) in
@@ -280,7 +173,7 @@ module _ (p : Image) (t : Typing) (wired : IsWired p) (typed : IsTyped p t) (c :
       apart = tt;
       holder = sym (ap (λ k. holder_by (method_role p m) k) e ∙ holder_static (method_role p m) is_called.role);
       owning = λ i. refl;
-      entries = moved_entries xs first sh;
+      items = ap (λ es. objects es (items_of ls)) (moved_entries xs first sh);
       fields = tt;
     }
 
@@ -301,8 +194,8 @@ module _ (p : Image) (t : Typing) (wired : IsWired p) (typed : IsTyped p t) (c :
         let holds : Holds p cs ls o from = subst (λ h. IsHoused p cs ls h) eh passed.housed in
         let apart : IsApart p (Inside o from) ls = subst (λ h. IsApart p h ls) eh at_hand.good.stack.3 in
         let apart' : IsApart p (Inside o from) (Method fr worked ∷ ls) = (apart.0, (subst (λ h. NotIn o.name h) (sym eh) apart.0, apart.1), own_fields) in
-        let fits : (r : Place) → Fits p (held cs) (held cs r) (claim p (declared p cs) (Method taker (taken regs) ∷ Method fr worked ∷ ls) r) =
-        λ r. fits_weaker p (held cs) (held cs r) (layer_rel Weaker (λ k. alike) p (Method taker (taken regs)) (suc (length (tasks_of ls))) (items_of (Method fr worked ∷ ls)) r _ _ (claim_weaker p (declared p cs) fr worked after_arguments ls r opened)) (passed.fits r) in
+        let fits : (r : Place) → Fits p (held cs) (held cs r) (filling p t fr ls depth deep (declared p cs) regs worked r) =
+        λ r. fits_weaker p (held cs) (held cs r) (layer_rel Weaker (λ k. alike) p (Method taker (taken regs)) depth [] r _ _ (claim_weaker p (declared p cs) fr worked after_arguments ls r opened)) (passed.fits r) in
         record {
           fits = fits;
           words = passed.words;
@@ -310,7 +203,7 @@ module _ (p : Image) (t : Typing) (wired : IsWired p) (typed : IsTyped p t) (c :
           apart = apart';
           holder = member ∙ sym (ap (λ c. holder_by (method_role p m) c) class ∙ holder_called (method_role p m) k is_called.role);
           owning = λ i. refl;
-          entries = moved_entries xs first sh;
+          items = ap (λ es. objects es (items_of ls)) (moved_entries xs first sh);
           fields = do_fields o from worked fits holds.lives apart' role;
         }
       where
@@ -321,11 +214,11 @@ module _ (p : Image) (t : Typing) (wired : IsWired p) (typed : IsTyped p t) (c :
             ∙ ap (λ x. filled (field_thing p (thing_holder o.thing) f) x) (at_alike 8 Perhaps f)
 
     -- where an object stood before the arguments were passed, it stands after
-    stays_at : (q : Place) (o : Object) → ((i : ℕ) → first ≤ i → i < (first + length xs) → same_place (lower p t fr ls i) q ≡ false) → ((i : ℕ) → same_place (upper p t fr ls i) q ≡ false) → held s.cells q ≡ Some o → held cs q ≡ Some o
-    stays_at q o lo up there = passed_elsewhere p s fr ls t xs first 0 s.cells q (λ i le. above i) lo up ∙ there
+    stays_at : (q : Place) (o : Object) → ((i : ℕ) → first ≤ i → i < (first + length xs) → same_place (lower p t fr ls depth deep i) q ≡ false) → ((i : ℕ) → same_place (upper p t fr ls depth deep i) q ≡ false) → held s.cells q ≡ Some o → held cs q ≡ Some o
+    stays_at q o lo up there = passed_elsewhere p s fr ls depth deep t xs first 0 s.cells q (λ i le. above i) lo up ∙ there
       where
-        above : (i : ℕ) → held s.cells (upper p t fr ls i) ≡ None
-        above i = fits_unowning p (held s.cells) _ Null refl (subst (λ k. Fits p (held s.cells) (held s.cells (upper p t fr ls i)) k) (claim_register_above p s.cells (Method fr sh ∷ ls) (suc (length (tasks_of ls))) i (omega arith)) (at_hand.good.fits (upper p t fr ls i)))
+        above : (i : ℕ) → held s.cells (upper p t fr ls depth deep i) ≡ None
+        above i = fits_unowning p (held s.cells) _ Null refl (subst (λ k. Fits p (held s.cells) (held s.cells (upper p t fr ls depth deep i)) k) (claim_register_above p s.cells (Method fr sh ∷ ls) depth i (omega arith)) (at_hand.good.fits (upper p t fr ls depth deep i)))
 
     -- what is known of an object on which a method of that class may work
     target_met : (y : ℕ) (o : Option Object) (x : Object) (z : Thing) → o ≡ Some x → stands_for p x.thing z ≡ true → stands_for p z (An_object_of y) ≡ true → AllTrue (needs_target_object p (Some y) o)
@@ -356,7 +249,7 @@ module _ (p : Image) (t : Typing) (wired : IsWired p) (typed : IsTyped p t) (c :
       now_ready : readied (register after_arguments r) ≡ Own z Ready
       now_ready = ap readied same_kind
 
-      aside : (i : ℕ) → first ≤ i → i < (first + length xs) → same_place (lower p t fr ls i) q ≡ false
+      aside : (i : ℕ) → first ≤ i → i < (first + length xs) → same_place (lower p t fr ls depth deep i) q ≡ false
       aside i le lt = ap (λ b. (length (tasks_of ls) == length (tasks_of ls)) && b) (ne_eqb i r (λ e. differs apart (subst (λ j. first ≤ j) e le) (subst (λ j. j < (first + length xs)) e lt))) ∙ none (length (tasks_of ls) == length (tasks_of ls))
         where
           differs : (r < first) ⊎ ((first + length xs) ≤ r) → first ≤ r → r < (first + length xs) → ⊥
@@ -367,8 +260,8 @@ module _ (p : Image) (t : Typing) (wired : IsWired p) (typed : IsTyped p t) (c :
           none true = refl
           none false = refl
 
-      above : (i : ℕ) → same_place (upper p t fr ls i) q ≡ false
-      above i = ap (λ b. b && (i == r)) (ne_eqb (suc (length (tasks_of ls))) (length (tasks_of ls)) (λ e. absurd (omega arith)))
+      above : (i : ℕ) → same_place (upper p t fr ls depth deep i) q ≡ false
+      above i = ap (λ b. b && (i == r)) (ne_eqb depth (length (tasks_of ls)) (λ e. absurd (omega arith)))
 
       owned : (o : Object) × (held s.cells q ≡ Some o) × (stands_for p o.thing z ≡ true)
       owned = held_own p (held s.cells) (held s.cells q) z a (subst (λ k. Fits p (held s.cells) (held s.cells q) k) kind (kind_fits p t c s fr sh ls at_hand r))
@@ -381,7 +274,7 @@ module _ (p : Image) (t : Typing) (wired : IsWired p) (typed : IsTyped p t) (c :
         apart = apart_so;
         holder = target_holder y owned.0 z class owned.2 for;
         owning = owning;
-        entries = moved_entries xs first sh;
+        items = ap (λ es. objects es (items_of ls)) (moved_entries xs first sh);
         fields = begun ages;
       }
         where
@@ -397,13 +290,13 @@ module _ (p : Image) (t : Typing) (wired : IsWired p) (typed : IsTyped p t) (c :
           here_fits : Fits p (held cs) (Some owned.0) (Own z a)
           here_fits = subst (λ o. Fits p (held cs) o (Own z a)) there (subst (λ k. Fits p (held cs) (held cs q) k) (below_taker ∙ same_kind) (passed.fits q))
             where
-              below_taker : claim p (declared p cs) (Method taker (taken regs) ∷ Method fr after_arguments ∷ ls) q ≡ register after_arguments r
-              below_taker = ap (λ b. cond b (at Unset regs r) (claim p (declared p cs) (Method fr after_arguments ∷ ls) q)) (ne_eqb (suc (length (tasks_of ls))) (length (tasks_of ls)) (λ e. absurd (omega arith))) ∙ claim_register p (declared p cs) fr after_arguments ls r
+              below_taker : filling p t fr ls depth deep (declared p cs) regs after_arguments q ≡ register after_arguments r
+              below_taker = ap (λ b. cond b (at Unset regs r) (claim p (declared p cs) (Method fr after_arguments ∷ ls) q)) (ne_eqb depth (length (tasks_of ls)) (λ e. absurd (omega arith))) ∙ claim_register p (declared p cs) fr after_arguments ls r
 
-          fits : (x : Place) → Fits p (held cs) (held cs x) (claim p (declared p cs) (Method taker (taken regs) ∷ Method fr readied_shape ∷ ls) x)
-          fits x = subst (λ k. Fits p (held cs) (held cs x) k) (sym (under p t fr ls (declared p cs) after_arguments regs r (readied (register after_arguments r)) x)) (go (same_place q x) refl)
+          fits : (x : Place) → Fits p (held cs) (held cs x) (filling p t fr ls depth deep (declared p cs) regs readied_shape x)
+          fits x = subst (λ k. Fits p (held cs) (held cs x) k) (sym (under p t fr ls depth deep (declared p cs) after_arguments regs r (readied (register after_arguments r)) x)) (go (same_place q x) refl)
             where
-              go : (b : Bool) → same_place q x ≡ b → Fits p (held cs) (held cs x) (cond b (readied (register after_arguments r)) (claim p (declared p cs) (Method taker (taken regs) ∷ Method fr after_arguments ∷ ls) x))
+              go : (b : Bool) → same_place q x ≡ b → Fits p (held cs) (held cs x) (cond b (readied (register after_arguments r)) (filling p t fr ls depth deep (declared p cs) regs after_arguments x))
               go true e = subst (λ k. Fits p (held cs) (held cs x) k) (sym now_ready) (subst (λ w. Fits p (held cs) w (Own z Ready)) (sym (ap (λ w. held cs w) (sym (same_place-true q x e)) ∙ there)) (owned.2, tt))
               go false e = passed.fits x
 
@@ -446,7 +339,7 @@ module _ (p : Image) (t : Typing) (wired : IsWired p) (typed : IsTyped p t) (c :
         apart = apart_so;
         holder = target_holder y kept_in.0 z class kept_in.2 for;
         owning = λ i. refl;
-        entries = moved_entries xs first sh;
+        items = ap (λ es. objects es (items_of ls)) (moved_entries xs first sh);
         fields = do_fields kept_in.0 spot after_arguments passed.fits lives apart_so role;
       }
         where
@@ -477,6 +370,104 @@ module _ (p : Image) (t : Typing) (wired : IsWired p) (typed : IsTyped p t) (c :
 
           apart_so : IsApart p (Inside kept_in.0 spot) (Method fr after_arguments ∷ ls)
           apart_so = (no_field_of fr.home refl, u.none_in, u.unclaimed)
+
+    -- a construct method works on a fresh one
+    ages : (k : Kind) (z : Thing) (a : Age) → k ≡ Own z a → (method_role p m ≡ Some Do) ⊎ ((method_role p m ≡ Some Construct) × (is_fresh_kind k ≡ true)) → (method_role p m ≡ Some Do) ⊎ ((method_role p m ≡ Some Construct) × (a ≡ Fresh))
+    ages k z a e (inl role) = inl role
+    ages k z Fresh e (inr w) = inr (w.0, refl)
+    ages k z Ready e (inr w) = let clash : false ≡ true = sym (ap is_fresh_kind e) ∙ w.1 in cc
+
+    -- what a cleanup entry owns
+    module _ (k y : ℕ) (class : method_class p m ≡ Some y) (z : Thing) (a : Age) (within : k < length sh.entries) (kind : entry_kind (at Pushed_operation sh.entries k) ≡ Own z a) (for : stands_for p z (An_object_of y) ≡ true) where
+      abbrev pile : Place
+      pile = entry_place s.items k
+
+      abbrev index : ℕ
+      index = length s.items - suc k
+
+      abbrev readied_pile : Shape
+      readied_pile = record after_arguments { entries = readied_at after_arguments.entries k }
+
+      high : length s.items ≡ length (objects sh.entries (items_of ls))
+      high = sym (length_forms s.items) ∙ ap length at_hand.items
+
+      same_entries : after_arguments.entries ≡ sh.entries
+      same_entries = moved_entries xs first sh
+
+      deeper : length (items_of ls) ≤ index
+      deeper = omega (arith, high, within, length_each sh.entries (items_of ls))
+
+      -- what is claimed of the entry, by the caller as it is and while the call lasts
+      claimed : (d : Place → Kind) → claim p d (Method fr sh ∷ ls) pile ≡ entry_kind (at Pushed_operation sh.entries k)
+      claimed d = ap (λ n. entry_claim sh.entries (items_of ls) (n - suc k) (claim p d ls (Entry (n - suc k)))) high ∙ entry_claimed sh.entries (items_of ls) k _ within
+
+      anew : (d : Place → Kind) (j : ℕ) → claim p d (Method fr readied_pile ∷ ls) (Entry j) ≡ cond (index == j) (Own z Ready) (claim p d (Method fr after_arguments ∷ ls) (Entry j))
+      anew d j =
+          ap (λ es. entry_claim (readied_at es k) (items_of ls) j (claim p d ls (Entry j))) same_entries
+          ∙ readied_claim sh.entries (items_of ls) k j (claim p d ls (Entry j)) within
+          ∙ ap (λ n. cond ((n - suc k) == j) (readied (entry_kind (at Pushed_operation sh.entries k))) (entry_claim sh.entries (items_of ls) j (claim p d ls (Entry j)))) (sym high)
+          ∙ ap (λ v. cond (index == j) (readied v) (entry_claim sh.entries (items_of ls) j (claim p d ls (Entry j)))) kind
+          ∙ ap (λ es. cond (index == j) (Own z Ready) (entry_claim es (items_of ls) j (claim p d ls (Entry j)))) (sym same_entries)
+
+      piled : (o : Object) × (held s.cells pile ≡ Some o) × (stands_for p o.thing z ≡ true)
+      piled = held_own p (held s.cells) (held s.cells pile) z a (subst (λ k. Fits p (held s.cells) (held s.cells pile) k) (claimed (declared p s.cells) ∙ kind) (at_hand.good.fits pile))
+
+      on_entry : method_role p m ≡ Some Do ⊎ ((method_role p m ≡ Some Construct) × (a ≡ Fresh)) → Entering (Inside piled.0 pile) readied_pile
+      on_entry ages = record {
+        fits = fits;
+        words = passed.words;
+        housed = record { there = there; lives = lives; below = omega (arith, high, within, length_each sh.entries (items_of ls), ap length same_items); ready = ap is_ready_kind (anew (λ x. Null) index ∙ ap (λ b. cond b (Own z Ready) (claim p (λ x. Null) (Method fr after_arguments ∷ ls) pile)) (eq-eqb index _ refl)) };
+        apart = apart_so;
+        holder = target_holder y piled.0 z class piled.2 for;
+        owning = λ i. refl;
+        items = same_items;
+        fields = begun ages;
+      }
+        where
+          same_items : objects readied_pile.entries (items_of ls) ≡ objects sh.entries (items_of ls)
+          same_items = readied_items after_arguments.entries k (items_of ls) ∙ ap (λ es. objects es (items_of ls)) same_entries
+
+          there : held cs pile ≡ Some piled.0
+          there = stays_at pile piled.0 (λ i le lt. refl) (λ i. refl) piled.1
+
+          lives : named cs piled.0.name ≡ Some piled.0
+          lives = held_lives cs pile piled.0 passed.tidy there
+
+          here_fits : Fits p (held cs) (Some piled.0) (Own z a)
+          here_fits = subst (λ o. Fits p (held cs) o (Own z a)) there
+              (subst (λ k. Fits p (held cs) (held cs pile) k) (ap (λ es. entry_claim es (items_of ls) index (claim p (declared p cs) ls pile)) same_entries ∙ claimed (declared p cs) ∙ kind) (passed.fits pile))
+
+          fits : (x : Place) → Fits p (held cs) (held cs x) (filling p t fr ls depth deep (declared p cs) regs readied_pile x)
+          fits (Register f i) = passed.fits (Register f i)
+          fits (Entry j) = subst (λ k. Fits p (held cs) (held cs (Entry j)) k) (sym (anew (declared p cs) j)) (go (index == j) refl)
+            where
+              go : (b : Bool) → (index == j) ≡ b → Fits p (held cs) (held cs (Entry j)) (cond b (Own z Ready) (claim p (declared p cs) (Method fr after_arguments ∷ ls) (Entry j)))
+              go true e = subst (λ w. Fits p (held cs) w (Own z Ready)) (sym (ap (λ n. held cs (Entry n)) (sym (eqb-true index j e)) ∙ there)) (piled.2, tt)
+              go false e = passed.fits (Entry j)
+          fits (Field n f) = subst (λ k. Fits p (held cs) (held cs (Field n f)) k) (go fr.home) (passed.fits (Field n f))
+            where
+              go : (h : Home) → home_claim p h after_arguments n f (claim p (declared p cs) ls (Field n f)) ≡ home_claim p h readied_pile n f (claim p (declared p cs) ls (Field n f))
+              go Static = refl
+              go AtRoot = refl
+              go (Inside o from) = refl
+          fits (Elsewhere Root) = subst (λ k. Fits p (held cs) (held cs (Elsewhere Root)) k) (go fr.home) (passed.fits (Elsewhere Root))
+            where
+              go : (h : Home) → root_claim p h after_arguments (claim p (declared p cs) ls (Elsewhere Root)) ≡ root_claim p h readied_pile (claim p (declared p cs) ls (Elsewhere Root))
+              go Static = refl
+              go AtRoot = refl
+              go (Inside o from) = refl
+          fits (Going j) = passed.fits (Going j)
+
+          u : Untouched p (λ f. filled (field_thing p (thing_holder piled.0.thing) f) Perhaps) piled.0.name (Method fr readied_pile ∷ ls)
+          u = untouched_method p t cs pile piled.0 passed.tidy there (λ f. filled (field_thing p (thing_holder piled.0.thing) f) Perhaps) fr readied_pile ls (λ x from e. tt) deeper passed.housed
+              (untouched p t cs pile piled.0 passed.tidy there (λ f. filled (field_thing p (thing_holder piled.0.thing) f) Perhaps) ls (Returns fr.method fr.home) deeper passed.stack)
+
+          apart_so : IsApart p (Inside piled.0 pile) (Method fr readied_pile ∷ ls)
+          apart_so = (tt, u.none_in, u.unclaimed)
+
+          begun : method_role p m ≡ Some Do ⊎ ((method_role p m ≡ Some Construct) × (a ≡ Fresh)) → FieldsBegin (Inside piled.0 pile)
+          begun (inl role) = do_fields piled.0 pile readied_pile fits lives apart_so role
+          begun (inr w) = construct_fields piled.0 pile (subst (λ a. Fits p (held cs) (Some piled.0) (Own z a)) w.1 here_fits).1 w.0
 
     -- what a place owns is what the method works on
     at_home : (q : Place) (o : Object) (sh' : Shape) → held s.cells q ≡ Some o → Entering (Inside o q) sh' → Entering (home_at (held s.cells q) q) sh'
@@ -521,13 +512,8 @@ module _ (p : Image) (t : Typing) (wired : IsWired p) (typed : IsTyped p t) (c :
             all_join (needs_target_object p (method_class p m) (held s.cells (top ls r))) ((not (is_among first (length xs) r), WrongKind) ∷ []) (subst (λ k. AllTrue (needs_target_object p k (held s.cells (top ls r)))) (sym e) (target_met y (held s.cells (top ls r)) x.0 w.0 x.1 x.2 w.3)) (n.1.0, tt),
           ),
           at_home (top ls r) x.0 (while_called (On_register r) (method_class p m) after_arguments) x.1
-              (on_register r y e w.0 w.1 w.2 w.3 aside (ages w.0 w.1 w.2 (age_of (register sh r) n.1.1))),
+              (on_register r y e w.0 w.1 w.2 w.3 aside (ages (register sh r) w.0 w.1 w.2 (age_of (register sh r) n.1.1))),
         )
-      where
-        ages : (z : Thing) (a : Age) → register sh r ≡ Own z a → (method_role p m ≡ Some Do) ⊎ ((method_role p m ≡ Some Construct) × (is_fresh_kind (register sh r) ≡ true)) → (method_role p m ≡ Some Do) ⊎ ((method_role p m ≡ Some Construct) × (a ≡ Fresh))
-        ages z a k (inl role) = inl role
-        ages z Fresh k (inr w) = inr (w.0, refl)
-        ages z Ready k (inr w) = let clash : false ≡ true = sym (ap is_fresh_kind k) ∙ w.1 in cc
 
     on_kept : (f : ℕ) (k : Option ℕ) → method_class p m ≡ k → AllTrue (rule_target p fr.method sh (On_field f) (method_class p m) (is_construct (method_role p m)) first (length xs)) → Answer (On_field f)
     on_kept f None e n = let clash : false ≡ true = sym (ap (λ x. is_target p x (filled (field_thing p (holder_of p fr.method) f) (field sh f))) e) ∙ n.0 in cc
@@ -554,16 +540,27 @@ module _ (p : Image) (t : Typing) (wired : IsWired p) (typed : IsTyped p t) (c :
         ready (Some x) Full (inr w) = let clash : false ≡ true = w.1 in cc
         ready (Some x) Perhaps (inr w) = let clash : false ≡ true = w.1 in cc
 
+    on_pushed : (k : ℕ) (c : Option ℕ) → method_class p m ≡ c → AllTrue (rule_target p fr.method sh (On_entry k) (method_class p m) (is_construct (method_role p m)) first (length xs)) → Answer (On_entry k)
+    on_pushed k None e n = let clash : false ≡ true = sym (ap (λ x. is_target p x (entry_kind (at Pushed_operation sh.entries k))) e) ∙ n.1.0 in cc
+    on_pushed k (Some y) e n =
+        let kind : Kind = entry_kind (at Pushed_operation sh.entries k) in
+        let within : k < length sh.entries = ltb-true k (length sh.entries) n.0 in
+        let w = own_for p (An_object_of y) kind (sym (ap (λ x. is_target p x kind) e) ∙ n.1.0) in
+        let x = piled k y e w.0 w.1 within w.2 w.3 in (
+          (entry_there sh.entries (items_of ls) s.items k at_hand.items within, subst (λ k'. AllTrue (needs_target_object p k' (held s.cells (entry_place s.items k)))) (sym e) (target_met y (held s.cells (entry_place s.items k)) x.0 w.0 x.1 x.2 w.3)),
+          at_home (entry_place s.items k) x.0 (while_called (On_entry k) (method_class p m) after_arguments) x.1 (on_entry k y e w.0 w.1 within w.2 w.3 (ages kind w.0 w.1 w.2 (age_of kind n.1.1))),
+        )
+
     answer : (target : Target) → AllTrue (rule_target p fr.method sh target (method_class p m) (is_construct (method_role p m)) first (length xs)) → Answer target
     answer This n = on_this (method_class p m) refl n
     answer (On_register r) n = on_owned r (method_class p m) refl n
     answer (On_field f) n = on_kept f (method_class p m) refl n
-    answer (On_entry k) n = cc
+    answer (On_entry k) n = on_pushed k (method_class p m) refl n
 
     -- what the result comes to owns nothing
     result_free : (x : ℕ) → is_unowning (register after_arguments x) ≡ true → is_none (held cs (top ls x)) ≡ true
     result_free x u = ap is_none (fits_unowning p (held cs) _ (register after_arguments x) u (subst (λ k. Fits p (held cs) (held cs (top ls x)) k)
-        (ap (λ b. cond b (at Unset regs x) (claim p (declared p cs) (Method fr after_arguments ∷ ls) (top ls x))) (ne_eqb (suc (length (tasks_of ls))) (length (tasks_of ls)) (λ e. absurd (omega arith))) ∙ claim_register p (declared p cs) fr after_arguments ls x)
+        (ap (λ b. cond b (at Unset regs x) (claim p (declared p cs) (Method fr after_arguments ∷ ls) (top ls x))) (ne_eqb depth (length (tasks_of ls)) (λ e. absurd (omega arith))) ∙ claim_register p (declared p cs) fr after_arguments ls x)
         (passed.fits (top ls x))))
 
     result_met : (g : Gives) (x : ℕ) → awaits g (register after_arguments x) ≡ true → AllTrue (needs_result p fr (tasks_of ls) s g cs x)
@@ -571,23 +568,24 @@ module _ (p : Image) (t : Typing) (wired : IsWired p) (typed : IsTyped p t) (c :
     result_met A_word x a = (result_free x a, tt)
     result_met (An_own y) x a = (result_free x a, tt)
     result_met (A_maybe y) x a = (result_free x a, tt)
-    result_met (Left y) x a = cc
+    result_met (Left y) x a = tt
 
     awaited : (g : Gives) (x : ℕ) (sh' : Shape) → ((i : ℕ) → is_unowning (register sh' i) ≡ is_unowning (register after_arguments i)) → awaits g (register after_arguments x) ≡ true → Awaits g x sh'
     awaited Nothing x sh' same a = tt
     awaited A_word x sh' same a = same x ∙ a
     awaited (An_own y) x sh' same a = same x ∙ a
     awaited (A_maybe y) x sh' same a = same x ∙ a
-    awaited (Left y) x sh' same a = cc
+    awaited (Left y) x sh' same a = tt
 
 module _ (p : Image) (t : Typing) (wired : IsWired p) (typed : IsTyped p t) (c : Choice) (s : State) (fr : Frame) (sh : Shape) (ls : List Layer) (at_hand : At p t s fr sh ls) where
   pub law_call : (target : Target) (m first x : ℕ) → instr_at p fr.method fr.place ≡ Some (Call target m first x) → Law p t c s fr sh ls at_hand (Call target m first x)
   law_call target m first x here n leads =
-      let called = wired.called fr.method fr.place target m first x here in
+      let called_so = wired.called fr.method fr.place target m first x here in
       let parts = all_parts (rule_target p fr.method sh target (method_class p m) (is_construct (method_role p m)) first (length (arguments_of p m))) _ n in
       let more = all_parts (each_argument p sh (arguments_of p m) first) _ parts.1.1 in
-      let passed = all_passed p t fr ls s (arguments_of p m) first 0 s.cells sh [] [] refl more.0 (none_passed p t fr ls s.cells sh at_hand.good) in
-      let a = answer p t wired typed c s fr sh ls at_hand m first called passed target parts.0 in
+      let deep : length (tasks_of ls) < suc (length (tasks_of ls)) = omega arith in
+      let passed = all_passed p t fr ls depth deep s (arguments_of p m) first 0 s.cells sh [] [] refl more.0 (none_passed p t fr ls depth deep s.cells sh at_hand.good) in
+      let a = answer p t wired typed c s fr sh ls at_hand m first depth height deep called_so passed target parts.0 in
       let sh' = while_called target (method_class p m) (arguments_moved (arguments_of p m) first sh) in
       let at_x : result_register (instr_at p fr.method fr.place) ≡ x = ap result_register here in
       let home = target_home p fr (tasks_of ls) s target (method_class p m) in
@@ -596,10 +594,75 @@ module _ (p : Image) (t : Typing) (wired : IsWired p) (typed : IsTyped p t) (c :
           only_then (leaves p m) (leaves p fr.method) more.1.1.1.0 l,
           none_owns_each sh'.registers (λ i. a.1.owning i ∙ none_owns_at (arguments_moved (arguments_of p m) first sh).registers i (only_then (leaves p m) _ more.1.1.1.1.0 l)),
         ),
-        subst (λ y. Awaits (gives_of p m) y sh') (sym at_x) (awaited p t wired typed c s fr sh ls at_hand m first called passed (gives_of p m) x sh' a.1.owning more.1.1.0),
+        subst (λ y. Awaits (gives_of p m) y sh') (sym at_x) (awaited p t wired typed c s fr sh ls at_hand m first depth height deep called_so passed (gives_of p m) x sh' a.1.owning more.1.1.0),
         subst (λ y. Leads t fr.method (suc fr.place) (brought (gives_of p m) y sh')) (sym at_x) leads.0,
-      ) in (
+      ) in
+      let high = same_high p t wired typed c s fr sh ls at_hand m first depth height deep called_so passed home sh' a.1 in (
         all_join (needs_target p fr (tasks_of ls) s target (method_class p m) first (length (arguments_of p m))) _ a.0
-            (parts.1.0, all_join (needs_each p fr (tasks_of ls) s (arguments_of p m) first) _ (each_met p t c s fr sh ls at_hand (arguments_of p m) first more.0) (result_met p t wired typed c s fr sh ls at_hand m first called passed (gives_of p m) x more.1.1.0)),
-        enter p t wired typed c s fr sh ls at_hand m first called passed home sh' a.1 stands (does p c fr (tasks_of ls) s (Call target m first x)) refl refl refl,
+            (parts.1.0, all_join (needs_each p fr (tasks_of ls) s (arguments_of p m) first) _ (each_met p t c s fr sh ls at_hand (arguments_of p m) first more.0) (result_met p t wired typed c s fr sh ls at_hand m first depth height deep called_so passed (gives_of p m) x more.1.1.0)),
+        enter p t wired typed c s fr sh ls at_hand m first depth height deep called_so passed home sh' (Method fr sh' ∷ ls) a.1 refl (ap length (sym high) ∙ length_forms s.items) (λ d r. refl) a.1.housed a.1.apart (caller p t wired typed c s fr sh ls at_hand m first depth height deep called_so passed home sh' (Returns m home) a.1 stands) (does p c fr (tasks_of ls) s (Call target m first x)) refl refl high at_hand.undos,
       )
+    where
+      depth : ℕ
+      depth = suc (length (tasks_of ls))
+
+      height : ℕ
+      height = length s.items
+
+-- over a trap's mark
+below_mark : (from : Place) (gv : Gives) (ls : List Layer) → IsBelow from ls → IsBelow from (Mark gv ∷ ls)
+below_mark (Register f i) gv ls b = omega arith
+below_mark (Entry k) gv ls b = omega arith
+below_mark (Field n f) gv ls b = b
+below_mark (Elsewhere w) gv ls b = tt
+below_mark (Going k) gv ls b = omega arith
+
+housed_mark : (p : Image) (cs : List Cell) (home : Home) (gv : Gives) (ls : List Layer) → IsHoused p cs ls home → IsHoused p cs (Mark gv ∷ ls) home
+housed_mark p cs Static gv ls h = h
+housed_mark p cs AtRoot gv ls h = h
+housed_mark p cs (Inside o from) gv ls h = record { there = h.there; lives = h.lives; below = below_mark from gv ls h.below; ready = ap is_ready_kind (mark_claims p (λ r. Null) gv ls from) ∙ h.ready }
+
+apart_mark : (p : Image) (home : Home) (gv : Gives) (fr : Frame) (sh : Shape) (ls : List Layer) → IsApart p home (Method fr sh ∷ ls) → IsApart p home (Mark gv ∷ Method fr sh ∷ ls)
+apart_mark p Static gv fr sh ls a = a
+apart_mark p AtRoot gv fr sh ls a = a
+apart_mark p (Inside o from) gv fr sh ls a = a
+
+module _ (p : Image) (t : Typing) (wired : IsWired p) (typed : IsTyped p t) (c : Choice) (s : State) (fr : Frame) (sh : Shape) (ls : List Layer) (at_hand : At p t s fr sh ls) where
+  pub law_trap : (target : Target) (m first x : ℕ) → instr_at p fr.method fr.place ≡ Some (Trap target m first x) → Law p t c s fr sh ls at_hand (Trap target m first x)
+  law_trap target m first x here n leads =
+      let trapped = wired.trapped fr.method fr.place target m first x here in
+      let called_so : IsCalled p m = record { there = trapped.there; role = inl trapped.role } in
+      let parts = all_parts (rule_target p fr.method sh target (method_class p m) (is_construct (method_role p m)) first (length (arguments_of p m))) _ n.1 in
+      let more = all_parts (each_argument p sh (arguments_of p m) first) _ parts.1.1 in
+      let deep : length (tasks_of ls) < suc (suc (length (tasks_of ls))) = omega arith in
+      let passed = all_passed p t fr ls depth deep s (arguments_of p m) first 0 s.cells sh [] [] refl more.0 (none_passed p t fr ls depth deep s.cells sh at_hand.good) in
+      let a = answer p t wired typed c s fr sh ls at_hand m first depth height deep called_so passed target parts.0 in
+      let sh' = while_called target (method_class p m) (arguments_moved (arguments_of p m) first sh) in
+      let gv = gives_of p m in
+      let at_x : result_register (instr_at p fr.method fr.place) ≡ x = ap result_register here in
+      let home = target_home p fr (tasks_of ls) s target (method_class p m) in
+      let over = Mark gv ∷ Method fr sh' ∷ ls in
+      let stands : Stands p t (Caught gv) fr sh' = (
+        ap (λ i. called p i) here,
+        subst (λ y. is_unowning (register sh' (suc y)) ≡ true) (sym at_x) (a.1.owning (suc x) ∙ more.1.1.0),
+        subst (λ y. Awaits gv y sh') (sym at_x) (awaited p t wired typed c s fr sh ls at_hand m first depth height deep called_so passed gv x sh' a.1.owning more.1.0),
+        subst (λ y. Leads t fr.method (suc fr.place) (caught gv y sh')) (sym at_x) leads.0,
+      ) in
+      let high = same_high p t wired typed c s fr sh ls at_hand m first depth height deep called_so passed home sh' a.1 in
+      let below = caller p t wired typed c s fr sh ls at_hand m first depth height deep called_so passed home sh' (Caught gv) a.1 stands in
+      let free = result_free p t wired typed c s fr sh ls at_hand m first depth height deep called_so passed (suc x) more.1.1.0 in (
+        all_join (needs_target p fr (tasks_of ls) s target (method_class p m) first (length (arguments_of p m))) _ a.0 (
+          parts.1.0,
+          all_join (needs_each p fr (tasks_of ls) s (arguments_of p m) first) _ (each_met p t c s fr sh ls at_hand (arguments_of p m) first more.0)
+              (all_join (needs_result p fr (tasks_of ls) s gv (given_cells p fr (tasks_of ls) s (over_trap p fr (tasks_of ls) s) m first) x) _ (result_met p t wired typed c s fr sh ls at_hand m first depth height deep called_so passed gv x more.1.0) (free, tt)),
+        ),
+        enter p t wired typed c s fr sh ls at_hand m first depth height deep called_so passed home sh' over a.1 refl (ap suc (ap length (sym high) ∙ length_forms s.items)) (λ d r. mark_claims p d gv (Method fr sh' ∷ ls) r)
+            (housed_mark p (given_cells p fr (tasks_of ls) s (over_trap p fr (tasks_of ls) s) m first) home gv (Method fr sh' ∷ ls) a.1.housed) (apart_mark p home gv fr sh' ls a.1.apart)
+            ((refl, trapped.gives), below) (does p c fr (tasks_of ls) s (Trap target m first x)) refl refl (ap (λ fs. Mark_form ∷ fs) high) at_hand.undos,
+      )
+    where
+      depth : ℕ
+      depth = suc (suc (length (tasks_of ls)))
+
+      height : ℕ
+      height = suc (length s.items)

@@ -3,6 +3,7 @@ use Rattle.std.proofs.Common.{Bool, List, None, Option, Some, [], ap, arith, con
 use Rattle.std.proofs.lemmas.Bool.{cases_Bool, eq-eqb, eqb-true, ne_eqb, true≢false}
 use Rattle.std.specs.Prelude.{is_some}
 use Rattle.aom_image.specs.Image.{Image}
+use Rattle.aom_image.specs.declared.method.Gives.{Gives}
 use Rattle.aom_image.specs.declared.method.Thing.{Thing}
 use Rattle.aom_shape.specs.Kinds.{entry_kind, field, filled, is_ready_kind, register, set_field, set_register}
 use Rattle.aom_shape.specs.Order.{SaysNoMore, Weaker, WeakerFilling, alike, alike_filling, maybe_null, maybe_own, perhaps_empty, perhaps_full, unset_null, unset_word}
@@ -17,10 +18,10 @@ use Rattle.aom_shape.specs.declared.kind.Filling.TheVariants.{Perhaps}
 use Rattle.aom_shape.specs.declared.kind.Kind.{Kind}
 use Rattle.aom_shape.specs.declared.kind.Kind.TheVariants.{Maybe, Null, Own, Unset, Word}
 use Rattle.aom_sound.proofs.Maps.{at-put_at, held_moved, named_moved, same_place-true, same_place_refl, transfer}
-use Rattle.aom_sound.specs.Claims.{Dispatching, Dying, Layer, Mark, Method, claim, declared, declared_field, entries_of, entry_claim, home_claim, items_of, layer_claim, objects, root_claim, tasks_of}
+use Rattle.aom_sound.specs.Claims.{Dispatching, Dying, Form, Layer, Mark, Method, Unwinding, claim, declared, declared_field, entries_of, entry_claim, home_claim, items_of, layer_claim, objects, root_claim, tasks_of}
 use Rattle.aom_sound.specs.Places.{Cell, Elsewhere, Entry, Field, Going, Object, Place, Register, Root, changed, held, moved, named, same_place}
-use Rattle.aom_sound.specs.State.{AtRoot, Frame, Home, Inside, Item, Of_main, Of_root, Static, field_place, home_holder, thing_holder}
-use Rattle.aom_sound.specs.WellTyped.{Back, Caught, Fits, Gone, Holds, IsBelow, IsHoused, IsNoFieldOf, NoneFrom, NoneIn, NotFrom, NotIn, Returns, Stack, Unclaimed, WordFits, by_field}
+use Rattle.aom_sound.specs.State.{AtRoot, Frame, Home, Inside, Main_left, Of_main, Of_root, Static, field_place, home_holder, thing_holder}
+use Rattle.aom_sound.specs.WellTyped.{Back, Caught, Fits, Gone, Holds, IsBelow, IsHoused, IsNoFieldOf, Leaves, NoneFrom, NoneIn, NotFrom, NotIn, Returns, Stack, Unclaimed, WordFits, by_field}
 use mathlib.Core.Path.{fun_ext}
 
 -- a frame counts for the claims by its home alone
@@ -197,13 +198,13 @@ keep_fits image h h' k k' p q eh ek apart fits r =
     go false false = fits_age image h h' (h r) (k r) (stays r) (fits r)
 
 -- above the layers nothing is claimed
-entries_above : (es : List Pushed) (items : List Item) (k : ℕ) (below : Kind) → length (objects es items) ≤ k → entry_claim es items k below ≡ below
+entries_above : (es : List Pushed) (items : List Form) (k : ℕ) (below : Kind) → length (objects es items) ≤ k → entry_claim es items k below ≡ below
 entries_above [] items k below le = refl
 entries_above (x ∷ es) items k below le =
     ap (λ b. cond b (entry_kind x) (entry_claim es items k below)) (ne_eqb (length (objects es items)) k (λ e. absurd (omega arith)))
     ∙ entries_above es items k below (omega arith)
 
-pub length_objects : (es : List Pushed) (items : List Item) → length items ≤ length (objects es items)
+pub length_objects : (es : List Pushed) (items : List Form) → length items ≤ length (objects es items)
 length_objects [] items = omega arith
 length_objects (x ∷ es) items = omega (arith, length_objects es items)
 
@@ -213,6 +214,7 @@ claim_entry_above p cs (Method fr sh ∷ ls) k le = entries_above sh.entries (it
 claim_entry_above p cs (Mark gv ∷ ls) k le = claim_entry_above p cs ls k (omega arith)
 claim_entry_above p cs (Dispatching w ∷ ls) k le = claim_entry_above p cs ls k (omega arith)
 claim_entry_above p cs (Dying o ∷ ls) k le = claim_entry_above p cs ls k le
+claim_entry_above p cs (Unwinding code es ∷ ls) k le = entries_above es (items_of ls) k _ le ∙ claim_entry_above p cs ls k (omega (arith, length_objects es (items_of ls)))
 
 pub declared_moved : (p : Image) (cs : List Cell) (a b : Place) → declared p (moved a b cs) ≡ declared p cs
 declared_moved p cs a b = fun_ext go
@@ -237,17 +239,20 @@ length_items (Method fr sh) ls = length_objects sh.entries (items_of ls)
 length_items (Mark gv) ls = omega arith
 length_items (Dispatching w) ls = omega arith
 length_items (Dying o) ls = omega arith
+length_items (Unwinding code es) ls = length_objects es (items_of ls)
 
 none_in_less : (n : ℕ) (l : Layer) (ls : List Layer) → NoneIn n (l ∷ ls) → NoneIn n ls
 none_in_less n (Method fr sh) ls h = h.1
 none_in_less n (Mark gv) ls h = h
 none_in_less n (Dispatching w) ls h = h
 none_in_less n (Dying o) ls h = h
+none_in_less n (Unwinding code es) ls h = h
 
 none_from_less : (q : Place) (l : Layer) (ls : List Layer) → NoneFrom q (l ∷ ls) → NoneFrom q ls
 none_from_less q (Method fr sh) ls h = h.1
 none_from_less q (Mark gv) ls h = h
 none_from_less q (Dying o) ls h = h
+none_from_less q (Unwinding code es) ls h = h
 none_from_less q (Dispatching w) ls h = h
 
 pub outside_less : (q : Place) (l : Layer) (ls : List Layer) → Outside q (l ∷ ls) → Outside q ls
@@ -321,10 +326,11 @@ stack_moved p t cs a b (Method fr sh ∷ ls) back free oa ob s =
     (s.0, s.1, housed_moved p cs a b fr sh ls fr.home refl free oa ob s.2, s.3, stack_moved p t cs a b ls _ free (outside_less a _ ls oa) (outside_less b _ ls ob) s.4)
 stack_moved p t cs a b (Mark gv ∷ ls) back free oa ob s = (s.0, stack_moved p t cs a b ls _ free (outside_less a (Mark gv) ls oa) (outside_less b (Mark gv) ls ob) s.1)
 stack_moved p t cs a b (Dispatching w ∷ ls) back free oa ob s = s
+stack_moved p t cs a b (Unwinding code es ∷ ls) back free oa ob s = (s.0, stack_moved p t cs a b ls _ free (outside_less a (Unwinding code es) ls oa) (outside_less b (Unwinding code es) ls ob) s.1)
 stack_moved p t cs a b (Dying o ∷ ls) back free oa ob s = ((named_moved cs a b o.name ∙ s.0.0, going_moved cs a b o ls free oa ob s.0.1), s.1, stack_moved p t cs a b ls _ free (outside_less a (Dying o) ls oa) (outside_less b (Dying o) ls ob) s.2)
 
 -- what holds a method's cell is claimed as it was before the method was called
-entries_below : (es : List Pushed) (items : List Item) (k : ℕ) (below : Kind) → k < length items → entry_claim es items k below ≡ below
+entries_below : (es : List Pushed) (items : List Form) (k : ℕ) (below : Kind) → k < length items → entry_claim es items k below ≡ below
 entries_below [] items k below lt = refl
 entries_below (x ∷ es) items k below lt =
     ap (λ b. cond b (entry_kind x) (entry_claim es items k below)) (ne_eqb (length (objects es items)) k (λ e. absurd (omega (arith, length_objects es items))))
@@ -342,7 +348,7 @@ cond_rel : (R : Kind → Kind → Type 0) → ((k : Kind) → R k k) → (b : Bo
 cond_rel R same true z x y h = same z
 cond_rel R same false z x y h = h
 
-entry_rel : (R : Kind → Kind → Type 0) → ((k : Kind) → R k k) → (es : List Pushed) (items : List Item) (k : ℕ) (x y : Kind) → R x y → R (entry_claim es items k x) (entry_claim es items k y)
+entry_rel : (R : Kind → Kind → Type 0) → ((k : Kind) → R k k) → (es : List Pushed) (items : List Form) (k : ℕ) (x y : Kind) → R x y → R (entry_claim es items k x) (entry_claim es items k y)
 entry_rel R same [] items k x y h = h
 entry_rel R same (z ∷ es) items k x y h = cond_rel R same (length (objects es items) == k) (entry_kind z) _ _ (entry_rel R same es items k x y h)
 
@@ -356,25 +362,30 @@ root_rel R same p Static sh x y h = h
 root_rel R same p AtRoot sh x y h = same _
 root_rel R same p (Inside o from) sh x y h = h
 
-pub layer_rel : (R : Kind → Kind → Type 0) → ((k : Kind) → R k k) → (p : Image) (l : Layer) (depth : ℕ) (items : List Item) (r : Place) (x y : Kind) → R x y → R (layer_claim p l depth items r x) (layer_claim p l depth items r y)
+pub layer_rel : (R : Kind → Kind → Type 0) → ((k : Kind) → R k k) → (p : Image) (l : Layer) (depth : ℕ) (items : List Form) (r : Place) (x y : Kind) → R x y → R (layer_claim p l depth items r x) (layer_claim p l depth items r y)
 layer_rel R same p (Method fr sh) depth items (Register f i) x y h = cond_rel R same (depth == f) (register sh i) x y h
 layer_rel R same p (Mark gv) depth items (Register f i) x y h = h
 layer_rel R same p (Dispatching w) depth items (Register f i) x y h = h
 layer_rel R same p (Dying o) depth items (Register f i) x y h = h
+layer_rel R same p (Unwinding code es) depth items (Register f i) x y h = h
 layer_rel R same p l depth items (Entry k) x y h = entry_rel R same (entries_of l) items k x y h
 layer_rel R same p (Method fr sh) depth items (Field n f) x y h = home_rel R same p fr.home sh n f x y h
 layer_rel R same p (Mark gv) depth items (Field n f) x y h = h
 layer_rel R same p (Dispatching w) depth items (Field n f) x y h = h
 layer_rel R same p (Dying o) depth items (Field n f) x y h = cond_rel R same (o.name == n) Null x y h
+layer_rel R same p (Unwinding code es) depth items (Field n f) x y h = h
 layer_rel R same p (Method fr sh) depth items (Elsewhere Root) x y h = root_rel R same p fr.home sh x y h
 layer_rel R same p (Mark gv) depth items (Elsewhere Root) x y h = h
 layer_rel R same p (Dying o) depth items (Elsewhere Root) x y h = h
+layer_rel R same p (Unwinding code es) depth items (Elsewhere Root) x y h = h
 layer_rel R same p (Dispatching Of_main) depth items (Elsewhere Root) x y h = h
+layer_rel R same p (Dispatching (Main_left code)) depth items (Elsewhere Root) x y h = h
 layer_rel R same p (Dispatching Of_root) depth items (Elsewhere Root) x y h = same Null
 layer_rel R same p (Method fr sh) depth items (Going k) x y h = h
 layer_rel R same p (Mark gv) depth items (Going k) x y h = h
 layer_rel R same p (Dispatching w) depth items (Going k) x y h = h
 layer_rel R same p (Dying o) depth items (Going k) x y h = cond_rel R same (depth == k) (Own o.thing Ready) x y h
+layer_rel R same p (Unwinding code es) depth items (Going k) x y h = h
 
 pub claim_rel : (R : Kind → Kind → Type 0) → ((k : Kind) → R k k) → (p : Image) (d d' : Place → Kind) (ls : List Layer) (r : Place) → R (d r) (d' r) → R (claim p d ls r) (claim p d' ls r)
 claim_rel R same p d d' [] r h = h
@@ -410,6 +421,7 @@ claim_unnamed p t cs d (Method fr sh ∷ ls) back n f s e = go fr.home s.2 ∙ c
     go (Inside o from) h = ap (λ b. cond b (filled (field_thing p (thing_holder o.thing) f) (field sh f)) (claim p d ls (Field n f))) (ne_eqb o.name n (λ same. let l = h.lives in let e' : Some o ≡ None = sym l ∙ ap (λ x. named cs x) same ∙ e in cc))
 claim_unnamed p t cs d (Mark gv ∷ ls) back n f s e = claim_unnamed p t cs d ls (Caught gv) n f s.1 e
 claim_unnamed p t cs d (Dispatching w ∷ ls) back n f s e = ap (λ l. claim p d l (Field n f)) s.1
+claim_unnamed p t cs d (Unwinding code es ∷ ls) back n f s e = claim_unnamed p t cs d ls Leaves n f s.1 e
 claim_unnamed p t cs d (Dying o ∷ ls) back n f s e =
     ap (λ b. cond b Null (claim p d ls (Field n f))) (ne_eqb o.name n (λ same. let l = s.0.0 in let e' : Some o ≡ None = sym l ∙ ap (λ x. named cs x) same ∙ e in cc))
     ∙ claim_unnamed p t cs d ls Gone n f s.2 e
@@ -421,6 +433,7 @@ claim_register_above p cs (Method fr sh ∷ ls) f i le = ap (λ b. cond b (regis
 claim_register_above p cs (Mark gv ∷ ls) f i le = claim_register_above p cs ls f i (omega arith)
 claim_register_above p cs (Dispatching w ∷ ls) f i le = claim_register_above p cs ls f i (omega arith)
 claim_register_above p cs (Dying o ∷ ls) f i le = claim_register_above p cs ls f i (omega arith)
+claim_register_above p cs (Unwinding code es ∷ ls) f i le = claim_register_above p cs ls f i (omega arith)
 
 -- of a cell of which the layers claim nothing more
 pub claim_unclaimed : (p : Image) (d : Place → Kind) (ls : List Layer) (n f : ℕ) (k : ℕ → Kind) → Unclaimed p k n ls → d (Field n f) ≡ k f → claim p d ls (Field n f) ≡ k f
@@ -431,4 +444,13 @@ claim_going_above p cs [] k le = refl
 claim_going_above p cs (Method fr sh ∷ ls) k le = claim_going_above p cs ls k (omega arith)
 claim_going_above p cs (Mark gv ∷ ls) k le = claim_going_above p cs ls k (omega arith)
 claim_going_above p cs (Dispatching w ∷ ls) k le = claim_going_above p cs ls k (omega arith)
+claim_going_above p cs (Unwinding code es ∷ ls) k le = claim_going_above p cs ls k (omega arith)
 claim_going_above p cs (Dying o ∷ ls) k le = ap (λ b. cond b (Own o.thing Ready) (claim p (declared p cs) ls (Going k))) (ne_eqb (length (tasks_of ls)) k (λ e. absurd (omega arith))) ∙ claim_going_above p cs ls k (omega arith)
+
+-- a mark claims nothing
+pub mark_claims : (p : Image) (d : Place → Kind) (gv : Gives) (ls : List Layer) (r : Place) → claim p d (Mark gv ∷ ls) r ≡ claim p d ls r
+mark_claims p d gv ls (Register f i) = refl
+mark_claims p d gv ls (Entry k) = refl
+mark_claims p d gv ls (Field n f) = refl
+mark_claims p d gv ls (Elsewhere Root) = refl
+mark_claims p d gv ls (Going k) = refl

@@ -20,7 +20,7 @@ use Rattle.aom_shape.specs.declared.kind.Kind.TheVariants.{Maybe, Null}
 use Rattle.aom_sound.proofs.Claimed.{NoFieldHere, Outside, claim-set_register, claim_frame, claim_rel, claim_unnamed, fits_age, fits_weaker, outside_differs}
 use Rattle.aom_sound.proofs.Straight.{At, Fitted, Law, fits_unowning, fitted, free_register, relabel, settle, top, well, words_set}
 use Rattle.aom_sound.proofs.Things.{stands_itself}
-use Rattle.aom_sound.specs.Claims.{Dispatching, Dying, Layer, Mark, Method, claim, declared, declared_field, home_claim, tasks_of}
+use Rattle.aom_sound.specs.Claims.{Dispatching, Dying, Layer, Mark, Method, Unwinding, claim, declared, declared_field, home_claim, tasks_of}
 use Rattle.aom_sound.specs.Objects.{no_words}
 use Rattle.aom_sound.specs.Places.{Cell, Elsewhere, Entry, Field, Going, Object, Place, Register, Root, held, named, same_place, with_new}
 use Rattle.aom_sound.specs.State.{AtRoot, Choice, Frame, Home, Inside, Run, State, Static, next, set_word, thing_holder, word}
@@ -60,6 +60,7 @@ stack_new p t cs n x ws f i [] back e out s = s
 stack_new p t cs n x ws f i (Method fr sh ∷ ls) back e out s = (s.0, s.1, holds_new p cs n x ws (Register f i) ls fr.home e (omega arith) (λ o from e. tt) s.2, s.3, stack_new p t cs n x ws f i ls _ e (omega arith) s.4)
 stack_new p t cs n x ws f i (Mark gv ∷ ls) back e out s = (s.0, stack_new p t cs n x ws f i ls _ e (omega arith) s.1)
 stack_new p t cs n x ws f i (Dispatching w ∷ ls) back e out s = s
+stack_new p t cs n x ws f i (Unwinding code es ∷ ls) back e out s = (s.0, stack_new p t cs n x ws f i ls _ e (omega arith) s.1)
 stack_new p t cs n x ws f i (Dying o ∷ ls) back e out s = ((lives_new cs n x ws (Register f i) o e s.0.0, s.0.1), s.1, stack_new p t cs n x ws f i ls _ e (omega arith) s.2)
 
 -- a new cell in a register of the top method
@@ -114,7 +115,7 @@ module _ (p : Image) (t : Typing) (c : Choice) (s : State) (fr : Frame) (sh : Sh
   abbrev pub IsUnused : Type 0
   IsUnused = named s.cells c.name ≡ None
 
-  age_fits : (h : Place → Option Object) (a : Age) (o : Object) → ((f : ℕ) → h (Field o.name f) ≡ None) → HasAge h o a
+  pub age_fits : (h : Place → Option Object) (a : Age) (o : Object) → ((f : ℕ) → h (Field o.name f) ≡ None) → HasAge h o a
   age_fits h Fresh o n = n
   age_fits h Ready o n = tt
 
@@ -138,5 +139,5 @@ module _ (p : Image) (t : Typing) (c : Choice) (s : State) (fr : Frame) (sh : Sh
       makes = create p t s.cells fr sh ls c.name (An_object_of x) (no_words p c fr (tasks_of ls) s x) a k (fitted p t s.cells fr sh ls at_hand.good) unused free (λ h nf. (stands_itself p (An_object_of x), age_fits h (new_age p x) (record { name = c.name; thing = An_object_of x }) nf)) refl
 
       go : (b : Bool) → WellTyped p t (record s { cells = cond b s.cells (with_new c.name (An_object_of x) (no_words p c fr (tasks_of ls) s x) (top ls a) s.cells); tasks = Run fr' ∷ tasks_of ls })
-      go true = well p t c s fr sh ls at_hand _ fr' (set_register sh a k) refl at_hand.items (settle p t _ fr' (set_register sh a k) ls refuses leads.0)
-      go false = well p t c s fr sh ls at_hand _ fr' (set_register sh a k) refl at_hand.items (settle p t _ fr' (set_register sh a k) ls makes leads.0)
+      go true = well p t c s fr sh ls at_hand _ fr' (set_register sh a k) refl at_hand.items at_hand.undos (settle p t _ fr' (set_register sh a k) ls refuses leads.0)
+      go false = well p t c s fr sh ls at_hand _ fr' (set_register sh a k) refl at_hand.items at_hand.undos (settle p t _ fr' (set_register sh a k) ls makes leads.0)

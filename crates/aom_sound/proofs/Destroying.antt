@@ -3,7 +3,7 @@ use Rattle.std.proofs.Common.{Bool, List, None, Option, Some, [], ap, arith, con
 use Rattle.std.proofs.lemmas.Bool.{cases_Bool, eq-eqb, eqb-true, ne_eqb, true≢false}
 use Rattle.std.specs.Prelude.{IsSome, is_none, map, replicate}
 use Rattle.aom_image.specs.Image.{Image}
-use Rattle.aom_image.specs.Views.{arguments_of, gives_of, leaves, method_at, method_class, method_role}
+use Rattle.aom_image.specs.Views.{arguments_of, gives_of, is_quiet, leaves, method_at, method_class, method_role}
 use Rattle.aom_image.specs.declared.instr.Instr.TheVariants.{Delete}
 use Rattle.aom_image.specs.declared.method.Gives.TheVariants.{Nothing}
 use Rattle.aom_image.specs.declared.method.Role.TheVariants.{Destruct}
@@ -22,16 +22,17 @@ use Rattle.aom_shape.specs.declared.kind.Filling.TheVariants.{Perhaps}
 use Rattle.aom_shape.specs.declared.kind.Kind.{Kind}
 use Rattle.aom_shape.specs.declared.kind.Kind.TheVariants.{Maybe, Null, Own, Unset, Word}
 use Rattle.aom_sound.proofs.Claimed.{NoFieldHere, Outside, claim-set_register, claim_frame, claim_going_above, claim_register_above, claim_unclaimed, declared_moved, going_differs, keep_fits, no_field_here, outside_differs, outside_less, stack_moved}
+use Rattle.aom_sound.proofs.Items.{length_forms}
 use Rattle.aom_sound.proofs.Maps.{held_lives, held_moved, named_moved, one_place, same_place-true, same_place_refl, tidy_moved}
 use Rattle.aom_sound.proofs.Straight.{At, Law, fits_unowning, fitted, housed_relocated, kind_fits, no_word, relabel, settle, top, well, words_set}
 use Rattle.aom_sound.proofs.Things.{stands_itself, stands_same}
-use Rattle.aom_sound.specs.Claims.{Dispatching, Dying, Layer, Mark, Method, claim, declared, declared_field, entry_claim, home_claim, items_of, objects, tasks_of}
+use Rattle.aom_sound.specs.Claims.{Dispatching, Dying, Layer, Mark, Method, Unwinding, claim, declared, declared_field, entry_claim, forms, home_claim, items_of, objects, tasks_of}
 use Rattle.aom_sound.specs.Destruction.{begun, begun_by, destructor_of}
 use Rattle.aom_sound.specs.Laws.{IsWired}
 use Rattle.aom_sound.specs.Objects.{deleted, is_no_message}
 use Rattle.aom_sound.specs.Places.{Cell, Elsewhere, Entry, Field, Going, Object, Place, Register, Root, Tidy, changed, held, moved, named, same_place}
 use Rattle.aom_sound.specs.State.{AtRoot, Choice, Frame, Home, Inside, Run, State, Static, frame_of, next, set_word, thing_holder, word}
-use Rattle.aom_sound.specs.WellTyped.{Back, Caught, Fits, Gone, Good, IsBelow, IsHoused, IsNoFieldOf, NoneIn, NotIn, Returns, SomeIn, Stack, Unclaimed, WellTyped, WordFits, WorksOn}
+use Rattle.aom_sound.specs.WellTyped.{AllUndo, Back, Caught, Fits, Gone, Good, IsBelow, IsHoused, IsNoFieldOf, Leaves, NoneIn, NotIn, Returns, SomeIn, Stack, Unclaimed, WellTyped, WordFits, WorksOn}
 
 -- no layer works on that cell, or claims anything of its fields but what is declared
 pub record Untouched (p : Image) (k : ℕ → Kind) (n : ℕ) (ls : List Layer) : Type 0 where
@@ -86,6 +87,9 @@ module _ (p : Image) (t : Typing) (cs : List Cell) (q : Place) (o : Object) (tid
       let u = untouched k ls Gone (outside_less q (Dying x) ls out) s.2 in
       record { some = u.some; unclaimed = λ f. ap (λ y. cond (x.name == o.name) Null y) (u.unclaimed f) ∙ ap (λ b. cond b Null (k f)) (other_name (Going (length (tasks_of ls))) x s.0.1 (going_differs q x ls out)); none_in = u.none_in }
   untouched k (Dispatching w ∷ ls) back out s = subst (λ l. Untouched p k o.name (Dispatching w ∷ l)) (sym s.1) (record { some = λ x. x; unclaimed = λ f. refl; none_in = tt })
+  untouched k (Unwinding code es ∷ ls) back out s =
+      let u = untouched k ls Leaves (outside_less q (Unwinding code es) ls out) s.1 in
+      record { some = u.some; unclaimed = u.unclaimed; none_in = u.none_in }
 
 -- what the link has found of a thing's destructor
 pub record Destroys (p : Image) (x : Thing) (m : ℕ) : Type 0 where
@@ -93,6 +97,7 @@ pub record Destroys (p : Image) (x : Thing) (m : ℕ) : Type 0 where
   pub role : method_role p m ≡ Some Destruct
   pub holder : holder_of p m ≡ thing_holder x
   pub stays : leaves p m ≡ false
+  pub quiet : is_quiet p m ≡ true
   pub gives : gives_of p m ≡ Nothing
   pub arguments : arguments_of p m ≡ []
 
@@ -104,8 +109,9 @@ destroys p wired (An_object_of c) m e =
       role = w.1;
       holder = ap (λ r. holder_by r (method_class p m)) w.1 ∙ ap (λ k. holder_by (Some Destruct) k) w.2;
       stays = w.3;
-      gives = w.4;
-      arguments = w.5;
+      quiet = w.4;
+      gives = w.5;
+      arguments = w.6;
     }
 destroys p wired Message m e = cc
 
@@ -189,14 +195,15 @@ module _ (p : Image) (t : Typing) (linked : IsWired p) (typed : IsTyped p t) (cs
       tail false = refl
 
   -- so a destruction begins
-  pub begin : (s : State) (height : ℕ) → height ≡ length (items_of ls) → s.cells ≡ cs → s.tasks ≡ begun p o height (tasks_of ls) → s.items ≡ items_of ls → WellTyped p t s
-  begin s height high cells tasks items = go (destructor_of p o.thing) refl tasks
+  pub begin : (s : State) (height : ℕ) → height ≡ length (items_of ls) → s.cells ≡ cs → s.tasks ≡ begun p o height (tasks_of ls) → forms s.items ≡ items_of ls → AllUndo p s.items → WellTyped p t s
+  begin s height high cells tasks items undos = go (destructor_of p o.thing) refl tasks
     where
       go : (d : Option ℕ) → destructor_of p o.thing ≡ d → s.tasks ≡ begun_by d o height (tasks_of ls) → WellTyped p t s
       go None e tasks = record {
         layers = Dying o ∷ ls;
         tasks = tasks;
         items = items;
+        undos = undos;
         good = subst (λ cs. Good p t cs (Dying o ∷ ls)) (sym cells) (record { stack = ((lives, there), tt, stack); fits = bare e; tidy = tidy });
       }
       go (Some m) e tasks =
@@ -219,6 +226,7 @@ module _ (p : Image) (t : Typing) (linked : IsWired p) (typed : IsTyped p t) (cs
             layers = Method fr leads.0 ∷ Dying o ∷ ls;
             tasks = tasks;
             items = items ∙ ap (λ es. objects es (items_of ls)) (sym w.entries);
+            undos = undos;
             good = subst (λ cs. Good p t cs (Method fr leads.0 ∷ Dying o ∷ ls)) (sym cells) good;
           }
 
@@ -288,7 +296,7 @@ module _ (p : Image) (t : Typing) (c : Choice) (s : State) (fr : Frame) (sh : Sh
       claims r = claim_frame p (declared p cs) fr fr' sh' ls r refl ∙ claim-set_register p (declared p cs) fr sh ls a Null r
 
       go : (x : Option Object) → held s.cells (top ls a) ≡ x → WellTyped p t (deleted p c fr (tasks_of ls) s x a)
-      go None e = well p t c s fr sh ls at_hand (deleted p c fr (tasks_of ls) s None a) (next fr') sh' refl at_hand.items
+      go None e = well p t c s fr sh ls at_hand (deleted p c fr (tasks_of ls) s None a) (next fr') sh' refl at_hand.items at_hand.undos
           (settle p t cs (next fr') sh' ls (relabel p t cs fr (next fr') sh sh' ls (top ls a) Null (fitted p t cs fr sh ls at_hand.good) refl refl refl (subst (λ o. Fits p (held cs) o Null) (sym e) tt) (λ r. claim-set_register p (declared p cs) fr sh ls a Null r) words) leads.0)
       go (Some o) e =
           let q = top ls a in
@@ -305,4 +313,4 @@ module _ (p : Image) (t : Typing) (c : Choice) (s : State) (fr : Frame) (sh : Sh
           (goes_there p t cs o q before below at_hand.good.fits e (omega arith) claims)
           (named_moved cs q g o.name ∙ held_lives cs q o at_hand.good.tidy e)
           (untouched_method p t cs q o at_hand.good.tidy e k fr' sh' ls (λ x from e. tt) (omega arith) at_hand.good.stack.2 (untouched p t cs q o at_hand.good.tidy e k ls _ (omega arith) at_hand.good.stack.4))
-          (deleted p c fr (tasks_of ls) s (Some o) a) (length s.items) (ap length at_hand.items) refl refl at_hand.items
+          (deleted p c fr (tasks_of ls) s (Some o) a) (length s.items) (sym (length_forms s.items) ∙ ap length at_hand.items) refl refl at_hand.items at_hand.undos

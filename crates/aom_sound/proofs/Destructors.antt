@@ -18,7 +18,7 @@ use Rattle.aom_shape.specs.declared.kind.Filling.{Filling}
 use Rattle.aom_shape.specs.declared.kind.Filling.TheVariants.{Empty, Full, Perhaps}
 use Rattle.aom_shape.specs.declared.kind.Kind.TheVariants.{Null}
 use Rattle.aom_sound.proofs.Claimed.{claim_register_above}
-use Rattle.aom_sound.proofs.Finishing.{no_entries, none_owns_at, return_needs, returnable, same_items}
+use Rattle.aom_sound.proofs.Finishing.{no_entries, none_left, none_owns_at, return_needs, returnable, same_items}
 use Rattle.aom_sound.proofs.Going.{no_fields, nothing_in}
 use Rattle.aom_sound.proofs.Straight.{At, Law, fits_unowning}
 use Rattle.aom_sound.specs.Calls.{home_name, result_needs}
@@ -78,13 +78,14 @@ module _ (p : Image) (t : Typing) (c : Choice) (s : State) (fr : Frame) (sh : Sh
       let holder : holder_of p fr.method ≡ thing_holder o.thing = sym at_hand.good.stack.1.holder ∙ ap home_holder above.1 in
       let done : fields_done p true (thing_holder o.thing) sh.fields ≡ true = ap (λ k. fields_done p true k sh.fields) (sym holder) ∙ ap (λ b. fields_done p b (holder_of p fr.method) sh.fields) (sym above.2) ∙ r.fields in
       let free : none_owns sh.registers ≡ true = ap (λ g. none_owns (result_moved p fr.method fr.place sh g a).registers) (sym above.3) ∙ r.free in
+      let entries : no_entry sh.entries ≡ true = none_left p fr sh a above.3 r in
       let good : Good p t s.cells (Dying o ∷ ls) = record {
         stack = (at_hand.good.stack.4.0, tt, at_hand.good.stack.4.2);
-        fits = fits_dying above.1 r.entries free done;
+        fits = fits_dying above.1 entries free done;
         tidy = at_hand.good.tidy;
       } in (
         return_needs p t c s fr sh (Dying o ∷ ls) at_hand a r
             (subst (λ g. AllTrue (result_needs p fr (tasks_of (Dying o ∷ ls)) s g a)) (sym above.3) tt)
             (ap (λ h. owns_nothing s.cells (home_name h)) above.1 ∙ nothing_in s.cells o.name (no_fields p t s.cells o ls good), tt),
-        record { layers = Dying o ∷ ls; tasks = refl; items = same_items p t c s fr sh (Dying o ∷ ls) at_hand a r; good = good },
+        record { layers = Dying o ∷ ls; tasks = refl; items = same_items p t c s fr sh (Dying o ∷ ls) at_hand entries; undos = at_hand.undos; good = good },
       )

@@ -1,36 +1,42 @@
 -- A method is about to return: nothing but its result is owned, its entries are gone, and the layers below claim the rest.
 use Rattle.std.proofs.Common.{Bool, List, None, Option, Some, [], ap, arith, cond, false, inl, inr, length, refl, subst, suc, sym, true, zero, ℕ, ◌&&◌, ◌==◌, ◌∙◌, ◌∷◌, ◌≡◌}
 use Rattle.std.proofs.lemmas.Bool.{and_from, and_parts, cases_Bool, eq-eqb, eqb-true, true≢false}
-use Rattle.std.specs.Prelude.{not, ◌++◌}
+use Rattle.std.specs.Prelude.{is_some, not, ◌++◌}
 use Rattle.aom_image.specs.Image.{Image}
 use Rattle.aom_image.specs.Views.{gives_of}
 use Rattle.aom_image.specs.declared.instr.Instr.TheVariants.{Return}
 use Rattle.aom_image.specs.declared.method.Gives.{Gives}
 use Rattle.aom_image.specs.declared.method.Gives.TheVariants.{Left, Maybe as A_maybe, Nothing, Own as An_own, Word as A_word}
 use Rattle.aom_image.specs.declared.method.Thing.{Thing}
-use Rattle.aom_shape.specs.Calls.{fields_done, is_destructor, result_moved, rule_result}
-use Rattle.aom_shape.specs.Kinds.{field, filled, is_unowning, no_entry, none_owns, register, set_register}
+use Rattle.aom_image.specs.declared.method.Thing.TheVariants.{Object as An_object_of}
+use Rattle.aom_shape.specs.Calls.{entries_done, fields_done, is_destructor, is_own_for, leaves_one, result_moved, rule_result}
+use Rattle.aom_shape.specs.Kinds.{field, filled, is_ready_kind, is_unowning, no_entry, none_owns, register, set_register}
 use Rattle.aom_shape.specs.Needs.{AllTrue}
 use Rattle.aom_shape.specs.Rules.{rule_needs}
 use Rattle.aom_shape.specs.Shape.{Shape}
 use Rattle.aom_shape.specs.Tables.{at}
 use Rattle.aom_shape.specs.Things.{Program, field_thing, holder_of}
 use Rattle.aom_shape.specs.Typing.{Typing}
-use Rattle.aom_shape.specs.declared.kind.Age.TheVariants.{Ready}
+use Rattle.aom_shape.specs.declared.kind.Age.{Age}
+use Rattle.aom_shape.specs.declared.kind.Age.TheVariants.{Fresh, Ready}
 use Rattle.aom_shape.specs.declared.kind.Entry.{Entry as Pushed}
+use Rattle.aom_shape.specs.declared.kind.Entry.TheVariants.{Object as Pushed_object, Operation as Pushed_operation}
 use Rattle.aom_shape.specs.declared.kind.Filling.{Filling}
 use Rattle.aom_shape.specs.declared.kind.Filling.TheVariants.{Empty, Full, Perhaps}
 use Rattle.aom_shape.specs.declared.kind.Kind.{Kind}
 use Rattle.aom_shape.specs.declared.kind.Kind.TheVariants.{Maybe, Null, Own, Unset}
 use Rattle.aom_sound.proofs.Claimed.{claim_register_above, claim_unclaimed}
 use Rattle.aom_sound.proofs.Destroying.{eqb_comm}
+use Rattle.aom_sound.proofs.Items.{length_forms}
 use Rattle.aom_sound.proofs.Maps.{at-put_at, front_free}
+use Rattle.aom_sound.proofs.Things.{stands_same}
 use Rattle.aom_sound.proofs.Straight.{At, fits_unowning, free_register, top}
-use Rattle.aom_sound.specs.Calls.{end_needs, is_register_but, none_owns_but, result_needs, result_source}
-use Rattle.aom_sound.specs.Claims.{Dispatching, Dying, Layer, Mark, Method, claim, declared, declared_field, entry_claim, home_claim, items_of, objects, root_claim, tasks_of}
+use Rattle.aom_sound.specs.Calls.{end_needs, is_level, is_register_but, leaves_object, none_owns_but, result_needs, result_source}
+use Rattle.aom_sound.specs.Claims.{Dispatching, Dying, Layer, Mark, Method, Object_form, Unwinding, claim, declared, declared_field, entry_claim, forms, home_claim, items_of, objects, root_claim, tasks_of}
 use Rattle.aom_sound.specs.Moves.{needs}
+use Rattle.aom_sound.specs.Objects.{is_thing}
 use Rattle.aom_sound.specs.Places.{Cell, Elsewhere, Entry, Field, Going, Object, Place, Register, Root, held, same_place}
-use Rattle.aom_sound.specs.State.{AtRoot, Choice, Frame, Home, Inside, Of_main, Of_root, State, Static, thing_holder}
+use Rattle.aom_sound.specs.State.{A_mark, An_object, An_operation, AtRoot, Choice, Frame, Home, Inside, Item, Main_left, Of_main, Of_root, State, Static, thing_holder}
 use Rattle.aom_sound.specs.WellTyped.{Fits, IsApart, IsHoused, NotAtRoot, RootUnclaimed, Unclaimed, past_going}
 
 pub none_owns_at : (ks : List Kind) (i : ℕ) → none_owns ks ≡ true → is_unowning (at Unset ks i) ≡ true
@@ -56,7 +62,7 @@ abbrev pub spares : Option ℕ → ℕ → Bool
 spares None i = false
 spares (Some a) i = i == a
 
-none_owns_from : (cs : List Cell) (d : ℕ) (spared : Option ℕ) → ((i : ℕ) → spares spared i ≡ false → held cs (Register d i) ≡ None) → none_owns_but cs d spared ≡ true
+pub none_owns_from : (cs : List Cell) (d : ℕ) (spared : Option ℕ) → ((i : ℕ) → spares spared i ≡ false → held cs (Register d i) ≡ None) → none_owns_but cs d spared ≡ true
 none_owns_from [] d spared h = refl
 none_owns_from (c ∷ cs) d spared h = and_from _ _ (go spared c.owner h) (none_owns_from cs d spared (λ i n. (front_free _ _ _ (h i n)).1))
   where
@@ -105,7 +111,9 @@ claim_root p d (Method fr sh ∷ ls) u = go fr.home u.0 ∙ claim_root p d ls u.
     go (Inside o from) n = refl
 claim_root p d (Mark gv ∷ ls) u = claim_root p d ls u
 claim_root p d (Dying o ∷ ls) u = claim_root p d ls u
+claim_root p d (Unwinding code es ∷ ls) u = claim_root p d ls u
 claim_root p d (Dispatching Of_main ∷ ls) u = claim_root p d ls u
+claim_root p d (Dispatching (Main_left code) ∷ ls) u = claim_root p d ls u
 claim_root p d (Dispatching Of_root ∷ ls) u = absurd u
 
 -- a method ends
@@ -141,7 +149,7 @@ ended p cs fr sh ls housed apart at_top e n (Going k) h o fits = fits
 -- what the rule says of a return
 pub record Returnable (p : Image) (fr : Frame) (sh : Shape) (a : ℕ) : Type 0 where
   pub result : AllTrue (rule_result p fr.method fr.place sh (gives_of p fr.method) a)
-  pub entries : no_entry sh.entries ≡ true
+  pub entries : entries_done p (gives_of p fr.method) sh.entries ≡ true
   pub free : none_owns (result_moved p fr.method fr.place sh (gives_of p fr.method) a).registers ≡ true
   pub fields : fields_done p (is_destructor p fr.method) (holder_of p fr.method) sh.fields ≡ true
 
@@ -150,11 +158,70 @@ returnable p fr sh a n =
     let parts = all_parts (rule_result p fr.method fr.place sh (gives_of p fr.method) a) _ n in
     record { result = parts.0; entries = parts.1.0; free = parts.1.1.0; fields = parts.1.1.1.0 }
 
-module _ (p : Image) (t : Typing) (c : Choice) (s : State) (fr : Frame) (sh : Shape) (ls : List Layer) (at_hand : At p t s fr sh ls) (a : ℕ) (r : Returnable p fr sh a) where
-  -- the cleanup stack is as it was
-  pub same_items : s.items ≡ items_of ls
-  same_items = at_hand.items ∙ ap (λ es. objects es (items_of ls)) (no_entries sh.entries r.entries)
+-- a method that gives nothing leaves no entry
+pub none_left : (p : Image) (fr : Frame) (sh : Shape) (a : ℕ) → gives_of p fr.method ≡ Nothing → Returnable p fr sh a → no_entry sh.entries ≡ true
+none_left p fr sh a nothing r = ap (λ g. entries_done p g sh.entries) (sym nothing) ∙ r.entries
 
+-- one that leaves an object leaves it alone
+pub left_alone : (p : Image) (x : ℕ) (es : List Pushed) → leaves_one p x es ≡ true → es ≡ Pushed_object x Ready ∷ []
+left_alone p x [] e = cc
+left_alone p x (Pushed_operation ∷ es) e = cc
+left_alone p x (Pushed_object y a ∷ es) e =
+    let owned = and_parts (is_own_for p (An_object_of x) (Own (An_object_of y) a)) (is_ready_kind (Own (An_object_of y) a) && no_entry es) e in
+    let ready = and_parts (is_ready_kind (Own (An_object_of y) a)) (no_entry es) owned.1 in
+    ap (λ z. z ∷ es) (one_class a (stands_same p (An_object_of y) (An_object_of x) owned.0) ready.0) ∙ ap (λ zs. Pushed_object x Ready ∷ zs) (no_entries es ready.1)
+  where
+    one_class : (a : Age) → An_object_of y ≡ An_object_of x → is_ready_kind (Own (An_object_of y) a) ≡ true → Pushed_object y a ≡ Pushed_object x Ready
+    one_class Fresh f e = cc
+    one_class Ready f e = cc
+
+module _ (p : Image) (t : Typing) (c : Choice) (s : State) (fr : Frame) (sh : Shape) (ls : List Layer) (at_hand : At p t s fr sh ls) where
+  -- the cleanup stack is as it was
+  pub same_items : no_entry sh.entries ≡ true → forms s.items ≡ items_of ls
+  same_items e = at_hand.items ∙ ap (λ es. objects es (items_of ls)) (no_entries sh.entries e)
+
+  same_height : no_entry sh.entries ≡ true → (length s.items == fr.height) ≡ true
+  same_height e = eq-eqb _ _ (sym (length_forms s.items) ∙ ap length (same_items e) ∙ sym at_hand.good.stack.1.height)
+
+  -- the object that is left is owned by the last entry
+  pub left_held : (x : ℕ) → leaves_one p x sh.entries ≡ true → Fits p (held s.cells) (held s.cells (Entry (length (items_of ls)))) (Own (An_object_of x) Ready)
+  left_held x e = subst (λ k. Fits p (held s.cells) (held s.cells (Entry (length (items_of ls)))) k) claims (at_hand.good.fits (Entry (length (items_of ls))))
+    where
+      below : Kind
+      below = claim p (declared p s.cells) ls (Entry (length (items_of ls)))
+
+      claims : claim p (declared p s.cells) (Method fr sh ∷ ls) (Entry (length (items_of ls))) ≡ Own (An_object_of x) Ready
+      claims = ap (λ es. entry_claim es (items_of ls) (length (items_of ls)) below) (left_alone p x sh.entries e) ∙ ap (λ b. cond b (Own (An_object_of x) Ready) below) (eq-eqb (length (items_of ls)) _ refl)
+
+  -- or one object lies there too
+  one_left : (x : ℕ) → leaves_one p x sh.entries ≡ true → leaves_object p fr (tasks_of ls) s x s.items ≡ true
+  one_left x e = go s.items (at_hand.items ∙ ap (λ es. objects es (items_of ls)) (left_alone p x sh.entries e))
+    where
+      there : (o : Option Object) → Fits p (held s.cells) o (Own (An_object_of x) Ready) → (is_some o && is_thing p (An_object_of x) o) ≡ true
+      there None f = absurd f
+      there (Some o) f = f.0
+
+      go : (items : List Item) → forms items ≡ Object_form ∷ items_of ls → leaves_object p fr (tasks_of ls) s x items ≡ true
+      go [] f = cc
+      go (A_mark ∷ items) f = cc
+      go (An_operation m w ∷ items) f = cc
+      go (An_object ∷ items) f =
+          let same : forms items ≡ items_of ls = cc in
+          let high : length items ≡ length (items_of ls) = sym (length_forms items) ∙ ap length same in
+          let place : Place = Entry (length items) in
+          and_from (length items == fr.height) (is_some (held s.cells place) && is_thing p (An_object_of x) (held s.cells place))
+          (eq-eqb _ _ (high ∙ sym at_hand.good.stack.1.height))
+          (there (held s.cells place) (subst (λ n. Fits p (held s.cells) (held s.cells (Entry n)) (Own (An_object_of x) Ready)) (sym high) (left_held x e)))
+
+  -- the cleanup stack is level
+  level : (g : Gives) → entries_done p g sh.entries ≡ true → is_level p fr (tasks_of ls) s g ≡ true
+  level Nothing e = same_height e
+  level A_word e = same_height e
+  level (An_own x) e = same_height e
+  level (A_maybe x) e = same_height e
+  level (Left x) e = one_left x e
+
+module _ (p : Image) (t : Typing) (c : Choice) (s : State) (fr : Frame) (sh : Shape) (ls : List Layer) (at_hand : At p t s fr sh ls) (a : ℕ) (r : Returnable p fr sh a) where
   spared : (g : Gives) → none_owns (result_moved p fr.method fr.place sh g a).registers ≡ true → (i : ℕ) → spares (result_source g a) i ≡ false → held s.cells (top ls i) ≡ None
   spared Nothing n i other = free_register p t c s fr sh ls at_hand i (none_owns_at sh.registers i n)
   spared A_word n i other = free_register p t c s fr sh ls at_hand i (none_owns_at sh.registers i n)
@@ -172,6 +239,6 @@ module _ (p : Image) (t : Typing) (c : Choice) (s : State) (fr : Frame) (sh : Sh
   pub return_needs : AllTrue (result_needs p fr (tasks_of ls) s (gives_of p fr.method) a) → AllTrue (end_needs p fr (tasks_of ls) s (tasks_of ls)) → AllTrue (needs p c fr (tasks_of ls) s (Return a))
   return_needs result end =
       all_join (result_needs p fr (tasks_of ls) s (gives_of p fr.method) a) _ result (
-        eq-eqb _ _ (ap length same_items ∙ sym at_hand.good.stack.1.height),
+        level p t c s fr sh ls at_hand (gives_of p fr.method) r.entries,
         (none_owns_from s.cells (length (tasks_of ls)) (result_source (gives_of p fr.method) a) (spared (gives_of p fr.method) r.free), end),
       )

@@ -10,11 +10,11 @@ use Rattle.aom_sound.proofs.Claimed.{NoFieldHere, Outside, claim_frame, claim_go
 use Rattle.aom_sound.proofs.Destroying.{Untouched, other_name, untouched}
 use Rattle.aom_sound.proofs.Maps.{front_free, held_without, named_without, same_place-true, tidy_without, unnamed}
 use Rattle.aom_sound.proofs.Straight.{Fitted, fits_unowning, settle}
-use Rattle.aom_sound.specs.Claims.{Dispatching, Dying, Layer, Mark, Method, claim, declared, declared_field, items_of, objects, tasks_of}
+use Rattle.aom_sound.specs.Claims.{Dispatching, Dying, Layer, Mark, Method, Unwinding, claim, declared, declared_field, forms, items_of, objects, tasks_of}
 use Rattle.aom_sound.specs.Destruction.{gone, is_field_of, owns_nothing}
 use Rattle.aom_sound.specs.Places.{Cell, Elsewhere, Entry, Field, Going, Object, Place, Register, Root, Tidy, held, same_place, without}
-use Rattle.aom_sound.specs.State.{AtRoot, Home, Inside, IsStuck, Of_main, Of_root, Orphan, State, Static, guarded, next, resumed}
-use Rattle.aom_sound.specs.WellTyped.{Back, Caught, Fits, Gone, Good, Holds, IsHoused, Keeps, Now, Returns, Stack, WellTyped}
+use Rattle.aom_sound.specs.State.{AtRoot, Home, Inside, IsStuck, Main_left, Of_main, Of_root, Orphan, State, Static, guarded, next, resumed}
+use Rattle.aom_sound.specs.WellTyped.{AllUndo, Back, Caught, Fits, Gone, Good, Holds, IsHoused, Keeps, Leaves, Now, Returns, Stack, WellTyped}
 
 -- the fields of a cell that goes are null, so nothing is owned by it
 pub nothing_in : (cs : List Cell) (n : ℕ) → ((f : ℕ) → held cs (Field n f) ≡ None) → owns_nothing cs n ≡ true
@@ -52,6 +52,7 @@ module _ (p : Image) (t : Typing) (cs : List Cell) (g : Place) (o : Object) (tid
       (s.0, s.1, housed_without ls fr.home out' plain s.2, s.3, stack_without ls (Returns fr.method fr.home) out' plain s.4)
   stack_without (Mark gv ∷ ls) back out plain s = (s.0, stack_without ls (Caught gv) (outside_less g (Mark gv) ls out) plain s.1)
   stack_without (Dispatching w ∷ ls) back out plain s = s
+  stack_without (Unwinding code es ∷ ls) back out plain s = (s.0, stack_without ls Leaves (outside_less g (Unwinding code es) ls out) plain s.1)
   stack_without (Dying x ∷ ls) back out plain s =
       let q = Going (length (tasks_of ls)) in
       let e = going_differs g x ls out in (
@@ -136,12 +137,12 @@ module _ (p : Image) (t : Typing) (cs : List Cell) (o : Object) (ls : List Layer
       go false e = others r e
 
 -- the method below goes on, or the run is at its end
-goes_on : (p : Image) (t : Typing) (s : State) (ls : List Layer) → Stack p t s.cells Gone ls → ((r : Place) → Fits p (held s.cells) (held s.cells r) (claim p (declared p s.cells) ls r)) → Tidy s.cells → s.tasks ≡ resumed (tasks_of ls) → s.items ≡ items_of ls → WellTyped p t s
-goes_on p t s [] stack fits tidy tasks items = absurd (gone_now stack)
+goes_on : (p : Image) (t : Typing) (s : State) (ls : List Layer) → Stack p t s.cells Gone ls → ((r : Place) → Fits p (held s.cells) (held s.cells r) (claim p (declared p s.cells) ls r)) → Tidy s.cells → s.tasks ≡ resumed (tasks_of ls) → forms s.items ≡ items_of ls → AllUndo p s.items → WellTyped p t s
+goes_on p t s [] stack fits tidy tasks items undos = absurd (gone_now stack)
   where
     gone_now : Gone ≡ Now → ⊥
     gone_now e = cc
-goes_on p t s (Method fr sh ∷ ls) stack fits tidy tasks items =
+goes_on p t s (Method fr sh ∷ ls) stack fits tidy tasks items undos =
     let f : Fitted p t s.cells (next fr) sh ls = record {
       fits = λ r. subst (λ k. Fits p (held s.cells) (held s.cells r) k) (sym (claim_frame p (declared p s.cells) fr (next fr) sh ls r refl)) (fits r);
       tidy = tidy;
@@ -151,14 +152,16 @@ goes_on p t s (Method fr sh ∷ ls) stack fits tidy tasks items =
       stack = stack.4;
     } in
     let g = settle p t s.cells (next fr) sh ls f stack.0 in
-    record { layers = Method (next fr) g.0 ∷ ls; tasks = tasks; items = items ∙ ap (λ es. objects es (items_of ls)) (sym g.2); good = g.1 }
-goes_on p t s (Mark gv ∷ ls) stack fits tidy tasks items = absurd stack.0
-goes_on p t s (Dispatching Of_main ∷ ls) stack fits tidy tasks items = absurd stack.0
-goes_on p t s (Dispatching Of_root ∷ ls) stack fits tidy tasks items = record { layers = Dispatching Of_root ∷ ls; tasks = tasks; items = items; good = record { stack = (tt, stack.1); fits = fits; tidy = tidy } }
-goes_on p t s (Dying o ∷ ls) stack fits tidy tasks items = record { layers = Dying o ∷ ls; tasks = tasks; items = items; good = record { stack = (stack.0, tt, stack.2); fits = fits; tidy = tidy } }
+    record { layers = Method (next fr) g.0 ∷ ls; tasks = tasks; items = items ∙ ap (λ es. objects es (items_of ls)) (sym g.2); undos = undos; good = g.1 }
+goes_on p t s (Mark gv ∷ ls) stack fits tidy tasks items undos = absurd stack.0
+goes_on p t s (Dispatching Of_main ∷ ls) stack fits tidy tasks items undos = absurd stack.0
+goes_on p t s (Dispatching (Main_left code) ∷ ls) stack fits tidy tasks items undos = absurd stack.0
+goes_on p t s (Unwinding code es ∷ ls) stack fits tidy tasks items undos = record { layers = Unwinding code es ∷ ls; tasks = tasks; items = items; undos = undos; good = record { stack = (tt, stack.1); fits = fits; tidy = tidy } }
+goes_on p t s (Dispatching Of_root ∷ ls) stack fits tidy tasks items undos = record { layers = Dispatching Of_root ∷ ls; tasks = tasks; items = items; undos = undos; good = record { stack = (tt, stack.1); fits = fits; tidy = tidy } }
+goes_on p t s (Dying o ∷ ls) stack fits tidy tasks items undos = record { layers = Dying o ∷ ls; tasks = tasks; items = items; undos = undos; good = record { stack = (stack.0, tt, stack.2); fits = fits; tidy = tidy } }
 
-pub going_keeps : (p : Image) (t : Typing) (s : State) (o : Object) (ls : List Layer) → Good p t s.cells (Dying o ∷ ls) → s.items ≡ items_of ls → Keeps p t (gone (held s.cells (Going (length (tasks_of ls)))) (tasks_of ls) s)
-going_keeps p t s o ls good items =
+pub going_keeps : (p : Image) (t : Typing) (s : State) (o : Object) (ls : List Layer) → Good p t s.cells (Dying o ∷ ls) → forms s.items ≡ items_of ls → AllUndo p s.items → Keeps p t (gone (held s.cells (Going (length (tasks_of ls)))) (tasks_of ls) s)
+going_keeps p t s o ls good items undos =
     let g = Going (length (tasks_of ls)) in
     subst (λ x. Keeps p t (gone x (tasks_of ls) s)) (sym good.stack.0.1)
     (subst (λ b. Keeps p t (cond b (guarded [] (record s { cells = without g s.cells; tasks = resumed (tasks_of ls) })) (IsStuck Orphan))) (sym (nothing_in s.cells o.name (no_fields p t s.cells o ls good)))
@@ -166,4 +169,4 @@ going_keeps p t s o ls good items =
     (stack_without p t s.cells g o good.tidy good.stack.0.1 ls Gone (omega arith) (λ from. tt) good.stack.2)
     (fits_after p t s.cells o ls good)
     (tidy_without s.cells g good.tidy)
-    refl items))
+    refl items undos))

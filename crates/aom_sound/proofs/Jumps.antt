@@ -19,7 +19,7 @@ use Rattle.aom_shape.specs.declared.kind.Kind.TheVariants.{Maybe, Null, Own, Uns
 use Rattle.aom_sound.proofs.Claimed.{claim-set_field, claim-set_register, claim_frame}
 use Rattle.aom_sound.proofs.Maps.{at-put_at}
 use Rattle.aom_sound.proofs.Straight.{At, Fitted, Law, field_fits, fitted, kind_fits, no_word, relabel, settle, stepped, top, well}
-use Rattle.aom_sound.specs.Claims.{Layer, declared, items_of, objects, tasks_of}
+use Rattle.aom_sound.specs.Claims.{Layer, declared, forms, items_of, objects, tasks_of}
 use Rattle.aom_sound.specs.Moves.{does}
 use Rattle.aom_sound.specs.Objects.{jumped}
 use Rattle.aom_sound.specs.Places.{Object, Place, held}
@@ -63,20 +63,20 @@ module _ (p : Image) (t : Typing) (c : Choice) (s : State) (fr : Frame) (sh : Sh
       go : (k : Kind) (o : Option Object) → register sh a ≡ k → held s.cells (top ls a) ≡ o → AllLead t fr.method (flow_jump_null p fr.method fr.place sh k a to) → Fits p (held s.cells) (held s.cells (top ls a)) (register sh a) → WellTyped p t (jumped p c fr (tasks_of ls) s o to)
       go Unset o ek eo leads f = let e : is_object_or_null Unset ≡ true = ap is_object_or_null (sym ek) ∙ n.0 in cc
       go Word o ek eo leads f = let e : is_object_or_null Word ≡ true = ap is_object_or_null (sym ek) ∙ n.0 in cc
-      go Null None ek eo leads f = well p t c s fr sh ls at_hand _ (to_place fr to) sh refl at_hand.items (settle p t s.cells (to_place fr to) sh ls (placed (to_place fr to) refl refl refl refl) leads.0)
+      go Null None ek eo leads f = well p t c s fr sh ls at_hand _ (to_place fr to) sh refl at_hand.items at_hand.undos (settle p t s.cells (to_place fr to) sh ls (placed (to_place fr to) refl refl refl refl) leads.0)
       go Null (Some o) ek eo leads f = absurd (subst (λ x. Fits p (held s.cells) x Null) eo (subst (λ k. Fits p (held s.cells) (held s.cells (top ls a)) k) ek f))
       go (Own x y) None ek eo leads f = absurd (subst (λ o. Fits p (held s.cells) o (Own x y)) eo (subst (λ k. Fits p (held s.cells) (held s.cells (top ls a)) k) ek f))
-      go (Own x y) (Some o) ek eo leads f = well p t c s fr sh ls at_hand _ (next fr) sh refl at_hand.items (settle p t s.cells (next fr) sh ls (placed (next fr) refl refl refl refl) leads.0)
-      go (Maybe x y) None ek eo leads f = well p t c s fr sh ls at_hand _ (to_place fr to) (set_register sh a Null) refl at_hand.items (settle p t s.cells (to_place fr to) (set_register sh a Null) ls (learned (to_place fr to) Null refl refl refl refl (subst (λ o. Fits p (held s.cells) o Null) (sym eo) tt) refl) leads.1.0)
-      go (Maybe x y) (Some o) ek eo leads f = well p t c s fr sh ls at_hand _ (next fr) (set_register sh a (Own x y)) refl at_hand.items (settle p t s.cells (next fr) (set_register sh a (Own x y)) ls (learned (next fr) (Own x y) refl refl refl refl (subst (λ z. Fits p (held s.cells) z (Own x y)) (sym eo) (subst (λ z. Fits p (held s.cells) z (Maybe x y)) eo (subst (λ k. Fits p (held s.cells) (held s.cells (top ls a)) k) ek f))) refl) leads.0)
+      go (Own x y) (Some o) ek eo leads f = well p t c s fr sh ls at_hand _ (next fr) sh refl at_hand.items at_hand.undos (settle p t s.cells (next fr) sh ls (placed (next fr) refl refl refl refl) leads.0)
+      go (Maybe x y) None ek eo leads f = well p t c s fr sh ls at_hand _ (to_place fr to) (set_register sh a Null) refl at_hand.items at_hand.undos (settle p t s.cells (to_place fr to) (set_register sh a Null) ls (learned (to_place fr to) Null refl refl refl refl (subst (λ o. Fits p (held s.cells) o Null) (sym eo) tt) refl) leads.1.0)
+      go (Maybe x y) (Some o) ek eo leads f = well p t c s fr sh ls at_hand _ (next fr) (set_register sh a (Own x y)) refl at_hand.items at_hand.undos (settle p t s.cells (next fr) (set_register sh a (Own x y)) ls (learned (next fr) (Own x y) refl refl refl refl (subst (λ z. Fits p (held s.cells) z (Own x y)) (sym eo) (subst (λ z. Fits p (held s.cells) z (Maybe x y)) eo (subst (λ k. Fits p (held s.cells) (held s.cells (top ls a)) k) ek f))) refl) leads.0)
 
   pub law_jump : (to : ℕ) → Law p t c s fr sh ls at_hand (Jump to)
-  law_jump to n leads = (tt, well p t c s fr sh ls at_hand (does p c fr (tasks_of ls) s (Jump to)) (to_place fr to) sh refl at_hand.items (settle p t s.cells (to_place fr to) sh ls (placed (to_place fr to) refl refl refl refl) leads.0))
+  law_jump to n leads = (tt, well p t c s fr sh ls at_hand (does p c fr (tasks_of ls) s (Jump to)) (to_place fr to) sh refl at_hand.items at_hand.undos (settle p t s.cells (to_place fr to) sh ls (placed (to_place fr to) refl refl refl refl) leads.0))
 
   -- both flows know what is known here
   pub goes_either : (to : ℕ) → AllLead t fr.method (flow_compare fr.place sh to) → (b : Bool) → WellTyped p t (branched fr (tasks_of ls) s b to)
-  goes_either to leads true = well p t c s fr sh ls at_hand _ (to_place fr to) sh refl at_hand.items (settle p t s.cells (to_place fr to) sh ls (placed (to_place fr to) refl refl refl refl) leads.1.0)
-  goes_either to leads false = well p t c s fr sh ls at_hand _ (next fr) sh refl at_hand.items (settle p t s.cells (next fr) sh ls (stepped p t s.cells fr sh ls g) leads.0)
+  goes_either to leads true = well p t c s fr sh ls at_hand _ (to_place fr to) sh refl at_hand.items at_hand.undos (settle p t s.cells (to_place fr to) sh ls (placed (to_place fr to) refl refl refl refl) leads.1.0)
+  goes_either to leads false = well p t c s fr sh ls at_hand _ (next fr) sh refl at_hand.items at_hand.undos (settle p t s.cells (next fr) sh ls (stepped p t s.cells fr sh ls g) leads.0)
 
   -- what the jump learns of a field
   holds_nothing : (x : Option Thing) → Fits p (held s.cells) None (filled x Empty)
@@ -108,11 +108,11 @@ module _ (p : Image) (t : Typing) (c : Choice) (s : State) (fr : Frame) (sh : Sh
       some : is_some x ≡ true
       some = ap (λ h. is_some (field_thing p h f)) at_hand.good.stack.1.holder ∙ n.0
 
-      stays : (fr' : Frame) → fr'.home ≡ fr.home → fr'.method ≡ fr.method → fr'.height ≡ fr.height → fr'.words ≡ fr.words → s.items ≡ objects sh.entries (items_of ls) → Leads t fr'.method fr'.place sh → WellTyped p t (record s { tasks = Run fr' ∷ tasks_of ls })
-      stays fr' eh em eg ew items leads = well p t c s fr sh ls at_hand _ fr' sh refl items (settle p t s.cells fr' sh ls (placed fr' eh em eg ew) leads)
+      stays : (fr' : Frame) → fr'.home ≡ fr.home → fr'.method ≡ fr.method → fr'.height ≡ fr.height → fr'.words ≡ fr.words → forms s.items ≡ objects sh.entries (items_of ls) → Leads t fr'.method fr'.place sh → WellTyped p t (record s { tasks = Run fr' ∷ tasks_of ls })
+      stays fr' eh em eg ew items leads = well p t c s fr sh ls at_hand _ fr' sh refl items at_hand.undos (settle p t s.cells fr' sh ls (placed fr' eh em eg ew) leads)
 
       learns : (fr' : Frame) (y : Filling) (o : Option Object) → held s.cells q ≡ o → fr'.home ≡ fr.home → fr'.method ≡ fr.method → fr'.height ≡ fr.height → fr'.words ≡ fr.words → Fits p (held s.cells) o (filled x y) → Leads t fr'.method fr'.place (set_field sh f y) → WellTyped p t (record s { tasks = Run fr' ∷ tasks_of ls })
-      learns fr' y o e eh em eg ew new leads = well p t c s fr sh ls at_hand _ fr' (set_field sh f y) refl at_hand.items (settle p t s.cells fr' (set_field sh f y) ls
+      learns fr' y o e eh em eg ew new leads = well p t c s fr sh ls at_hand _ fr' (set_field sh f y) refl at_hand.items at_hand.undos (settle p t s.cells fr' (set_field sh f y) ls
           (relabel p t s.cells fr fr' sh (set_field sh f y) ls q (filled x y) g eh em eg (subst (λ o. Fits p (held s.cells) o (filled x y)) (sym e) new)
           (λ r. claim-set_field p (declared p s.cells) fr fr.home sh ls f y (filled x y) r refl some refl)
           (λ i. subst (λ ws. WordFits (at None ws i) (register sh i)) (sym ew) (at_hand.good.stack.1.words i))) leads)
@@ -129,11 +129,11 @@ module _ (p : Image) (t : Typing) (c : Choice) (s : State) (fr : Frame) (sh : Sh
   pub law_loop : (depth rounds : ℕ) → Law p t c s fr sh ls at_hand (Loop depth rounds)
   law_loop depth rounds n leads =
       let fr' = next (set_counter fr depth rounds) in
-      (tt, well p t c s fr sh ls at_hand (does p c fr (tasks_of ls) s (Loop depth rounds)) fr' sh refl at_hand.items (settle p t s.cells fr' sh ls (placed fr' refl refl refl refl) leads.0))
+      (tt, well p t c s fr sh ls at_hand (does p c fr (tasks_of ls) s (Loop depth rounds)) fr' sh refl at_hand.items at_hand.undos (settle p t s.cells fr' sh ls (placed fr' refl refl refl refl) leads.0))
 
   pub law_next : (depth to : ℕ) → Law p t c s fr sh ls at_hand (Next depth to)
   law_next depth to n leads = (tt, go (counter fr depth - 1))
     where
       go : (left : ℕ) → WellTyped p t (looped fr (tasks_of ls) s left depth to)
-      go zero = let fr' = next (set_counter fr depth 0) in well p t c s fr sh ls at_hand _ fr' sh refl at_hand.items (settle p t s.cells fr' sh ls (placed fr' refl refl refl refl) leads.1.0)
-      go (suc left) = let fr' = to_place (set_counter fr depth (suc left)) to in well p t c s fr sh ls at_hand _ fr' sh refl at_hand.items (settle p t s.cells fr' sh ls (placed fr' refl refl refl refl) leads.0)
+      go zero = let fr' = next (set_counter fr depth 0) in well p t c s fr sh ls at_hand _ fr' sh refl at_hand.items at_hand.undos (settle p t s.cells fr' sh ls (placed fr' refl refl refl refl) leads.1.0)
+      go (suc left) = let fr' = to_place (set_counter fr depth (suc left)) to in well p t c s fr sh ls at_hand _ fr' sh refl at_hand.items at_hand.undos (settle p t s.cells fr' sh ls (placed fr' refl refl refl refl) leads.0)

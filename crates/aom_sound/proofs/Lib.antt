@@ -1,5 +1,6 @@
 pub mod Maps
 pub mod Things
+pub mod Items
 pub mod Claimed
 pub mod Straight
 pub mod Jumps
@@ -14,7 +15,13 @@ pub mod Destructors
 pub mod Returning
 pub mod Closing
 pub mod Passing
+pub mod Callees
 pub mod Calling
+pub mod Leaving
+pub mod Dealing
+pub mod Entries
+pub mod Arrival
+pub mod Unwinding
 pub mod Steps
 pub mod Booting
 pub mod Owners
@@ -22,4 +29,5 @@ pub mod Soundness
 pub mod Wiring
 pub mod Bodies
 pub mod Looping
+pub mod Quiet
 pub mod Stuck

@@ -41,7 +41,7 @@ module _ (p : Image) (t : Typing) (c : Choice) (s : State) (fr : Frame) (sh : Sh
       (words_set fr.words (set_register sh b Null) a None (register sh b) (words_null fr.words sh b at_hand.good.stack.1.words no) (no_word_fits (register sh b) n.0)) in
       let g = settle p t (moved (top ls b) (top ls a) s.cells) (next (set_word fr a None)) (set_register (set_register sh b Null) a (register sh b)) ls h leads.0 in (
         (ap is_none no, (ap is_none free, tt)),
-        well p t c s fr sh ls at_hand (does p c fr (tasks_of ls) s (Move a b)) (next (set_word fr a None)) (set_register (set_register sh b Null) a (register sh b)) refl at_hand.items g,
+        well p t c s fr sh ls at_hand (does p c fr (tasks_of ls) s (Move a b)) (next (set_word fr a None)) (set_register (set_register sh b Null) a (register sh b)) refl at_hand.items at_hand.undos g,
       )
 
   pub law_put : (f b : ℕ) → Law p t c s fr sh ls at_hand (Put f b)
@@ -53,7 +53,7 @@ module _ (p : Image) (t : Typing) (c : Choice) (s : State) (fr : Frame) (sh : Sh
         (ap is_none free, tt),
       ),
     ),
-    well p t c s fr sh ls at_hand (does p c fr (tasks_of ls) s (Put f b)) (next fr) (set_field (set_register sh b Null) f (filling_of k)) refl at_hand.items (settle p t (moved (top ls b) (field_place fr.home f) s.cells) (next fr) (set_field (set_register sh b Null) f (filling_of k)) ls goes leads.0),
+    well p t c s fr sh ls at_hand (does p c fr (tasks_of ls) s (Put f b)) (next fr) (set_field (set_register sh b Null) f (filling_of k)) refl at_hand.items at_hand.undos (settle p t (moved (top ls b) (field_place fr.home f) s.cells) (next fr) (set_field (set_register sh b Null) f (filling_of k)) ls goes leads.0),
   )
     where
       d : Place → Kind
@@ -96,7 +96,7 @@ module _ (p : Image) (t : Typing) (c : Choice) (s : State) (fr : Frame) (sh : Sh
   pub law_take : (a f : ℕ) → Law p t c s fr sh ls at_hand (Take a f)
   law_take a f n leads = (
     (some, (ap is_none free, tt)),
-    well p t c s fr sh ls at_hand (does p c fr (tasks_of ls) s (Take a f)) (next (set_word fr a None)) (set_register (set_field sh f Empty) a k) refl at_hand.items (settle p t (moved (field_place fr.home f) (top ls a) s.cells) (next (set_word fr a None)) (set_register (set_field sh f Empty) a k) ls goes leads.0),
+    well p t c s fr sh ls at_hand (does p c fr (tasks_of ls) s (Take a f)) (next (set_word fr a None)) (set_register (set_field sh f Empty) a k) refl at_hand.items at_hand.undos (settle p t (moved (field_place fr.home f) (top ls a) s.cells) (next (set_word fr a None)) (set_register (set_field sh f Empty) a k) ls goes leads.0),
   )
     where
       d : Place → Kind

@@ -17,14 +17,15 @@ use Rattle.aom_shape.specs.declared.kind.Filling.TheVariants.{Empty, Full, Perha
 use Rattle.aom_shape.specs.declared.kind.Kind.{Kind}
 use Rattle.aom_shape.specs.declared.kind.Kind.TheVariants.{Maybe, Null, Own, Unset, Word}
 use Rattle.aom_sound.proofs.Claimed.{claim_entry_above, claim_going_above, claim_register_above}
+use Rattle.aom_sound.proofs.Items.{length_forms}
 use Rattle.aom_sound.proofs.Maps.{same_place-true, same_place_refl}
 use Rattle.aom_sound.proofs.Things.{stands_same}
-use Rattle.aom_sound.specs.Claims.{Dispatching, Dying, Layer, Mark, Method, claim, declared, declared_field, home_claim, items_of, task_of, tasks_of}
+use Rattle.aom_sound.specs.Claims.{Dispatching, Dying, Layer, Mark, Method, Unwinding, claim, declared, declared_field, home_claim, items_of, task_of, tasks_of}
 use Rattle.aom_sound.specs.Laws.{IsWired}
 use Rattle.aom_sound.specs.Owned.{AllOwned, Ends, Lives, Owned, at_entry, at_register, at_root, by_cell}
 use Rattle.aom_sound.specs.Places.{Cell, Elsewhere, Entry, Field, Going, Object, Place, Register, Root, Tidy, held, named, same_place}
 use Rattle.aom_sound.specs.State.{AtRoot, Dispatch, Dispatched, Home, Inside, State, Static, thing_holder}
-use Rattle.aom_sound.specs.WellTyped.{Back, Caught, Fits, Gone, IsHoused, Now, Returns, Stack, WellTyped}
+use Rattle.aom_sound.specs.WellTyped.{Back, Caught, Fits, Gone, IsHoused, Leaves, Now, Returns, Stack, WellTyped}
 
 -- what a kind of an owning place says of the thing
 abbrev HasThing : Kind → Thing → Type 0
@@ -92,6 +93,7 @@ field_thing_of p t cs (Method fr sh ∷ ls) back n f c s h = go fr.home s.2 (fie
         inside true e h = (o, ap (λ m. named cs m) (sym (eqb-true o.name n e)) ∙ hs.lives, filled_thing p o.thing f c (field sh f) h)
         inside false e h = ih h
 field_thing_of p t cs (Mark gv ∷ ls) back n f c s h = field_thing_of p t cs ls (Caught gv) n f c s.1 h
+field_thing_of p t cs (Unwinding code es ∷ ls) back n f c s h = field_thing_of p t cs ls Leaves n f c s.1 h
 field_thing_of p t cs (Dispatching w ∷ ls) back n f c s h = declared_thing_of p cs n f c (subst (λ l. HasThing (claim p (declared p cs) l (Field n f)) c) s.1 h)
 field_thing_of p t cs (Dying o ∷ ls) back n f c s h = go (o.name == n) (field_thing_of p t cs ls Gone n f c s.2) h
   where
@@ -131,7 +133,7 @@ module _ (p : Image) (t : Typing) (wired : IsWired p) (s : State) (w : WellTyped
 
   lives : (q : Place) (o : Object) → held s.cells q ≡ Some o → Lives s q
   lives (Register f i) o e = ⊎_elim (λ lt. subst (λ ts. f < length ts) (sym w.tasks) lt) (λ le. absurd (no_thing _ _ (claim_register_above p s.cells w.layers f i le) (kind_at (Register f i) o e))) (cases_lt f (length (tasks_of w.layers)))
-  lives (Entry k) o e = ⊎_elim (λ lt. subst (λ ts. k < length ts) (sym w.items) lt) (λ le. absurd (no_thing _ _ (claim_entry_above p s.cells w.layers k le) (kind_at (Entry k) o e))) (cases_lt k (length (items_of w.layers)))
+  lives (Entry k) o e = ⊎_elim (λ lt. subst (λ n. k < n) (sym (ap length w.items) ∙ length_forms s.items) lt) (λ le. absurd (no_thing _ _ (claim_entry_above p s.cells w.layers k le) (kind_at (Entry k) o e))) (cases_lt k (length (items_of w.layers)))
   lives (Field n f) o e = let x = field_thing_of p t s.cells w.layers Now n f o.thing w.good.stack (kind_at (Field n f) o e) in (x.0, x.1)
   lives (Elsewhere Root) o e = tt
   lives (Going k) o e = ⊎_elim (λ lt. subst (λ ts. k < length ts) (sym w.tasks) lt) (λ le. absurd (no_thing _ _ (claim_going_above p s.cells w.layers k le) (kind_at (Going k) o e))) (cases_lt k (length (tasks_of w.layers)))
@@ -159,7 +161,7 @@ module _ (p : Image) (t : Typing) (wired : IsWired p) (s : State) (w : WellTyped
       let e : held s.cells c.owner ≡ Some c.object = up c.owner c.object (ap (λ b. cond b (Some c.object) (held cs c.owner)) (same_place_refl c.owner)) in
       ((lives c.owner c.object e, ends (length p.classes) c.owner c.object e (omega arith)), all_owned cs (λ q o h. up q o (later cs c q o t' h)) t'.2)
 
-  owned : AllOwned s s.cells
+  pub owned : AllOwned s s.cells
   owned = all_owned s.cells (λ q o h. h) w.good.tidy
 
 -- the layers of what is at hand
@@ -171,6 +173,7 @@ one_dispatch : (l : Layer) (d : Dispatch) → task_of l ≡ Dispatched d → l �
 one_dispatch (Method fr sh) d e = cc
 one_dispatch (Mark gv) d e = cc
 one_dispatch (Dying o) d e = cc
+one_dispatch (Unwinding code es) d e = cc
 one_dispatch (Dispatching w) d e = cc
 
 going_idle : (p : Image) (d : Place → Kind) (ls : List Layer) (k : ℕ) → tasks_of ls ≡ [] → claim p d ls (Going k) ≡ d (Going k)

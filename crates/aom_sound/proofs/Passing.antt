@@ -1,6 +1,6 @@
 -- The arguments of a call go over to the method called, one after the other.
 use Rattle.std.proofs.Common.{Bool, List, None, Option, [], ap, append-nil, append_assoc, arith, cond, false, length, refl, subst, suc, sym, true, ℕ, ℤ, ◌&&◌, ◌<◌, ◌==◌, ◌∙◌, ◌∷◌, ◌≡◌}
-use Rattle.std.proofs.lemmas.Bool.{eqb-true, ne_eqb}
+use Rattle.std.proofs.lemmas.Bool.{eq-eqb, eqb-true, ne_eqb}
 use Rattle.std.specs.Prelude.{is_none, map, ◌++◌}
 use Rattle.aom_image.specs.Image.{Image}
 use Rattle.aom_image.specs.declared.method.Argument.{Argument}
@@ -20,7 +20,7 @@ use Rattle.aom_sound.proofs.Maps.{at-put_at, held_moved, same_place-true, tidy_m
 use Rattle.aom_sound.proofs.Returning.{held_thing, may_own, word_is}
 use Rattle.aom_sound.proofs.Straight.{At, claim_register, fits_unowning, housed_relocated, kind_fits, no_word_fits, word_of_object, words_null, words_set}
 use Rattle.aom_sound.specs.Calls.{needs_each, passed_cells, passed_words}
-use Rattle.aom_sound.specs.Claims.{Layer, Method, claim, declared, tasks_of}
+use Rattle.aom_sound.specs.Claims.{Layer, Method, claim, declared, layer_claim, tasks_of}
 use Rattle.aom_sound.specs.Places.{Cell, Elsewhere, Entry, Field, Going, Place, Register, Root, Tidy, changed, held, moved, same_place}
 use Rattle.aom_sound.specs.State.{Choice, Frame, State, Static, frame_of, word}
 use Rattle.aom_sound.specs.WellTyped.{Fits, Good, IsHoused, Returns, Stack, WordFits}
@@ -45,17 +45,21 @@ taken regs = record { registers = regs; fields = []; entries = [] }
 abbrev pub taker : Frame
 taker = frame_of 0 Static 0
 
-module _ (p : Image) (t : Typing) (fr : Frame) (ls : List Layer) where
+module _ (p : Image) (t : Typing) (fr : Frame) (ls : List Layer) (depth : ℕ) (deep : length (tasks_of ls) < depth) where
   -- the place of the caller's register, and of the register of the method called
   abbrev pub lower : ℕ → Place
   lower i = Register (length (tasks_of ls)) i
 
   abbrev pub upper : ℕ → Place
-  upper i = Register (suc (length (tasks_of ls))) i
+  upper i = Register depth i
+
+  -- what is claimed with these registers filled at that depth over the caller
+  abbrev pub filling : (Place → Kind) → List Kind → Shape → Place → Kind
+  filling d regs sh r = layer_claim p (Method taker (taken regs)) depth [] r (claim p d (Method fr sh ∷ ls) r)
 
   -- these registers are filled, and the caller is as that state says
   pub record Passed (cs : List Cell) (sh : Shape) (regs : List Kind) (ws : List (Option ℤ)) : Type 0 where
-    pub fits : (r : Place) → Fits p (held cs) (held cs r) (claim p (declared p cs) (Method taker (taken regs) ∷ Method fr sh ∷ ls) r)
+    pub fits : (r : Place) → Fits p (held cs) (held cs r) (filling (declared p cs) regs sh r)
     pub tidy : Tidy cs
     pub words : (i : ℕ) → WordFits (word fr i) (register sh i)
     pub given : (i : ℕ) → WordFits (at None ws i) (at Unset regs i)
@@ -67,10 +71,10 @@ module _ (p : Image) (t : Typing) (fr : Frame) (ls : List Layer) where
   pub none_passed : (cs : List Cell) (sh : Shape) → Good p t cs (Method fr sh ∷ ls) → Passed cs sh [] []
   none_passed cs sh g = record { fits = fits; tidy = g.tidy; words = g.stack.1.words; given = λ i. tt; housed = g.stack.2; stack = g.stack.4; even = refl }
     where
-      fits : (r : Place) → Fits p (held cs) (held cs r) (claim p (declared p cs) (Method taker (taken []) ∷ Method fr sh ∷ ls) r)
-      fits (Register f i) = go (suc (length (tasks_of ls)) == f) refl
+      fits : (r : Place) → Fits p (held cs) (held cs r) (filling (declared p cs) [] sh r)
+      fits (Register f i) = go (depth == f) refl
         where
-          go : (b : Bool) → (suc (length (tasks_of ls)) == f) ≡ b → Fits p (held cs) (held cs (Register f i)) (cond b Unset (claim p (declared p cs) (Method fr sh ∷ ls) (Register f i)))
+          go : (b : Bool) → (depth == f) ≡ b → Fits p (held cs) (held cs (Register f i)) (cond b Unset (claim p (declared p cs) (Method fr sh ∷ ls) (Register f i)))
           go true e = subst (λ o. Fits p (held cs) o Unset) (sym (fits_unowning p (held cs) _ Null refl (subst (λ k. Fits p (held cs) (held cs (Register f i)) k) (claim_register_above p cs (Method fr sh ∷ ls) f i (omega (arith, eqb-true _ _ e))) (g.fits (Register f i))))) tt
           go false e = g.fits (Register f i)
       fits (Entry k) = g.fits (Entry k)
@@ -81,13 +85,13 @@ module _ (p : Image) (t : Typing) (fr : Frame) (ls : List Layer) where
   -- the next register of the method called owns nothing
   next_free : (cs : List Cell) (sh : Shape) (regs : List Kind) (ws : List (Option ℤ)) → Passed cs sh regs ws → held cs (upper (length regs)) ≡ None
   next_free cs sh regs ws g =
-      fits_unowning p (held cs) _ Unset refl (subst (λ k. Fits p (held cs) (held cs (upper (length regs))) k) (claim_register p (declared p cs) taker (taken regs) (Method fr sh ∷ ls) (length regs) ∙ at_end Unset regs) (g.fits (upper (length regs))))
+      fits_unowning p (held cs) _ Unset refl (subst (λ k. Fits p (held cs) (held cs (upper (length regs))) k) (ap (λ b. cond b (at Unset regs (length regs)) (claim p (declared p cs) (Method fr sh ∷ ls) (upper (length regs)))) (eq-eqb depth _ refl) ∙ at_end Unset regs) (g.fits (upper (length regs))))
 
   -- a register of the caller is claimed anew below the method called
-  pub under : (d : Place → Kind) (sh : Shape) (regs : List Kind) (a : ℕ) (v : Kind) (r : Place) → claim p d (Method taker (taken regs) ∷ Method fr (set_register sh a v) ∷ ls) r ≡ changed (claim p d (Method taker (taken regs) ∷ Method fr sh ∷ ls)) (lower a) v r
-  under d sh regs a v (Register f i) = go (suc (length (tasks_of ls)) == f) refl
+  pub under : (d : Place → Kind) (sh : Shape) (regs : List Kind) (a : ℕ) (v : Kind) (r : Place) → filling d regs (set_register sh a v) r ≡ changed (filling d regs sh) (lower a) v r
+  under d sh regs a v (Register f i) = go (depth == f) refl
     where
-      go : (b : Bool) → (suc (length (tasks_of ls)) == f) ≡ b → cond b (at Unset regs i) (claim p d (Method fr (set_register sh a v) ∷ ls) (Register f i)) ≡ cond (same_place (lower a) (Register f i)) v (cond b (at Unset regs i) (claim p d (Method fr sh ∷ ls) (Register f i)))
+      go : (b : Bool) → (depth == f) ≡ b → cond b (at Unset regs i) (claim p d (Method fr (set_register sh a v) ∷ ls) (Register f i)) ≡ cond (same_place (lower a) (Register f i)) v (cond b (at Unset regs i) (claim p d (Method fr sh ∷ ls) (Register f i)))
       go true e = ap (λ b. cond (b && (a == i)) v (at Unset regs i)) (sym (ne_eqb (length (tasks_of ls)) f (λ n. absurd (omega (arith, eqb-true _ _ e)))))
       go false e = claim-set_register p d fr sh ls a v (Register f i)
   under d sh regs a v (Entry k) = claim-set_register p d fr sh ls a v (Entry k)
@@ -96,8 +100,19 @@ module _ (p : Image) (t : Typing) (fr : Frame) (ls : List Layer) where
   under d sh regs a v (Going k) = claim-set_register p d fr sh ls a v (Going k)
 
   -- one more register is filled
-  over : (d : Place → Kind) (sh : Shape) (regs : List Kind) (v : Kind) (r : Place) → claim p d (Method taker (taken (regs ++ v ∷ [])) ∷ Method fr sh ∷ ls) r ≡ changed (claim p d (Method taker (taken regs) ∷ Method fr sh ∷ ls)) (upper (length regs)) v r
-  over d sh regs v r = ap (λ ks. claim p d (Method taker (taken ks) ∷ Method fr sh ∷ ls) r) (sym (put_at_end Unset regs v)) ∙ claim-set_register p d taker (taken regs) (Method fr sh ∷ ls) (length regs) v r
+  over : (d : Place → Kind) (sh : Shape) (regs : List Kind) (v : Kind) (r : Place) → filling d (regs ++ v ∷ []) sh r ≡ changed (filling d regs sh) (upper (length regs)) v r
+  over d sh regs v r = ap (λ ks. filling d ks sh r) (sym (put_at_end Unset regs v)) ∙ go r
+    where
+      go : (r : Place) → filling d (put_at Unset regs (length regs) v) sh r ≡ changed (filling d regs sh) (upper (length regs)) v r
+      go (Register f i) = at_depth (depth == f)
+        where
+          at_depth : (b : Bool) → cond b (at Unset (put_at Unset regs (length regs) v) i) (claim p d (Method fr sh ∷ ls) (Register f i)) ≡ cond (b && (length regs == i)) v (cond b (at Unset regs i) (claim p d (Method fr sh ∷ ls) (Register f i)))
+          at_depth true = at-put_at Unset regs (length regs) i v
+          at_depth false = refl
+      go (Entry k) = refl
+      go (Field n f) = refl
+      go (Elsewhere Root) = refl
+      go (Going k) = refl
 
   given_more : (regs : List Kind) (ws : List (Option ℤ)) (k : Kind) (w : Option ℤ) → length ws ≡ length regs → ((i : ℕ) → WordFits (at None ws i) (at Unset regs i)) → WordFits w k → (i : ℕ) → WordFits (at None (ws ++ w ∷ []) i) (at Unset (regs ++ k ∷ []) i)
   given_more regs ws k w even given new i =
@@ -120,15 +135,15 @@ module _ (p : Image) (t : Typing) (fr : Frame) (ls : List Layer) where
     even = even_more regs ws Word w g.even;
   }
     where
-      go : (r : Place) (b : Bool) → same_place (upper (length regs)) r ≡ b → Fits p (held cs) (held cs r) (cond b Word (claim p (declared p cs) (Method taker (taken regs) ∷ Method fr sh ∷ ls) r))
+      go : (r : Place) (b : Bool) → same_place (upper (length regs)) r ≡ b → Fits p (held cs) (held cs r) (cond b Word (filling (declared p cs) regs sh r))
       go r true e = subst (λ o. Fits p (held cs) o Word) (sym (ap (λ q. held cs q) (sym (same_place-true (upper (length regs)) r e)) ∙ next_free cs sh regs ws g)) tt
       go r false e = g.fits r
 
   -- an object moves
   object_passed : (cs : List Cell) (sh : Shape) (regs : List Kind) (ws : List (Option ℤ)) (a : ℕ) (k : Kind) → register sh a ≡ k → is_object_or_null k ≡ true → Passed cs sh regs ws → Passed (moved (lower a) (upper (length regs)) cs) (set_register sh a Null) (regs ++ k ∷ []) (ws ++ None ∷ [])
   object_passed cs sh regs ws a k here object g = record {
-    fits = λ r. subst (λ d. Fits p (held cs') (held cs' r) (claim p d (Method taker (taken (regs ++ k ∷ [])) ∷ Method fr (set_register sh a Null) ∷ ls) r)) (sym (declared_moved p cs q to))
-        (keep_fits p (held cs) (held cs') before (claim p (declared p cs) (Method taker (taken (regs ++ k ∷ [])) ∷ Method fr (set_register sh a Null) ∷ ls)) q to (λ r. held_moved cs q to r free) claims (λ r x e f j. refl) g.fits r);
+    fits = λ r. subst (λ d. Fits p (held cs') (held cs' r) (filling d (regs ++ k ∷ []) (set_register sh a Null) r)) (sym (declared_moved p cs q to))
+        (keep_fits p (held cs) (held cs') before (filling (declared p cs) (regs ++ k ∷ []) (set_register sh a Null)) q to (λ r. held_moved cs q to r free) claims (λ r x e f j. refl) g.fits r);
     tidy = tidy_moved cs q to free g.tidy;
     words = words_null fr.words sh a g.words (word_of_object (word fr a) (register sh a) (ap is_object_or_null here ∙ object) (g.words a));
     given = given_more regs ws k None g.even g.given (no_word_fits k object);
@@ -150,12 +165,12 @@ module _ (p : Image) (t : Typing) (fr : Frame) (ls : List Layer) where
       free = next_free cs sh regs ws g
 
       before : Place → Kind
-      before = claim p (declared p cs) (Method taker (taken regs) ∷ Method fr sh ∷ ls)
+      before = filling (declared p cs) regs sh
 
       at_source : before q ≡ k
-      at_source = ap (λ b. cond b (at Unset regs a) (claim p (declared p cs) (Method fr sh ∷ ls) q)) (ne_eqb (suc (length (tasks_of ls))) (length (tasks_of ls)) (λ e. absurd (omega arith))) ∙ claim_register p (declared p cs) fr sh ls a ∙ here
+      at_source = ap (λ b. cond b (at Unset regs a) (claim p (declared p cs) (Method fr sh ∷ ls) q)) (ne_eqb depth (length (tasks_of ls)) (λ e. absurd (omega arith))) ∙ claim_register p (declared p cs) fr sh ls a ∙ here
 
-      claims : (r : Place) → claim p (declared p cs) (Method taker (taken (regs ++ k ∷ [])) ∷ Method fr (set_register sh a Null) ∷ ls) r ≡ changed (changed before q Null) to (before q) r
+      claims : (r : Place) → filling (declared p cs) (regs ++ k ∷ []) (set_register sh a Null) r ≡ changed (changed before q Null) to (before q) r
       claims r =
           over (declared p cs) (set_register sh a Null) regs k r
           ∙ ap (λ x. cond (same_place to r) k x) (under (declared p cs) sh regs a Null r)
@@ -171,21 +186,21 @@ module _ (p : Image) (t : Typing) (fr : Frame) (ls : List Layer) where
 
   -- all of them
   pub all_passed : (ts : State) (xs : List Argument) (first to : ℕ) (cs : List Cell) (sh : Shape) (regs : List Kind) (ws : List (Option ℤ)) → to ≡ length regs → AllTrue (each_argument p sh xs first) → Passed cs sh regs ws
-      → Passed (passed_cells p fr (tasks_of ls) ts xs first to cs) (arguments_moved xs first sh) (regs ++ map argument_kind xs) (ws ++ passed_words p fr (tasks_of ls) ts xs first)
+      → Passed (passed_cells p fr (tasks_of ls) ts depth xs first to cs) (arguments_moved xs first sh) (regs ++ map argument_kind xs) (ws ++ passed_words p fr (tasks_of ls) ts xs first)
   all_passed s [] first to cs sh regs ws e n g = subst (λ vs. Passed cs sh (regs ++ []) vs) (sym (append-nil ws)) (subst (λ ks. Passed cs sh ks ws) (sym (append-nil regs)) g)
   all_passed s (Takes_word ∷ xs) first to cs sh regs ws e n g =
       let new : WordFits (word fr first) Word = (word_is p s (word fr first) (register sh first) n.0 (g.words first)).1 in
       let rest = all_passed s xs (suc first) (suc to) cs sh (regs ++ Word ∷ []) (ws ++ word fr first ∷ []) (ap suc e ∙ sym (length_more regs Word)) n.1 (word_passed cs sh regs ws (word fr first) new g) in
-      subst (λ vs. Passed (passed_cells p fr (tasks_of ls) s xs (suc first) (suc to) cs) (arguments_moved xs (suc first) sh) (regs ++ Word ∷ map argument_kind xs) vs) (append_assoc ws (word fr first ∷ []) (passed_words p fr (tasks_of ls) s xs (suc first)))
-      (subst (λ ks. Passed (passed_cells p fr (tasks_of ls) s xs (suc first) (suc to) cs) (arguments_moved xs (suc first) sh) ks ((ws ++ word fr first ∷ []) ++ passed_words p fr (tasks_of ls) s xs (suc first))) (append_assoc regs (Word ∷ []) (map argument_kind xs)) rest)
+      subst (λ vs. Passed (passed_cells p fr (tasks_of ls) s depth xs (suc first) (suc to) cs) (arguments_moved xs (suc first) sh) (regs ++ Word ∷ map argument_kind xs) vs) (append_assoc ws (word fr first ∷ []) (passed_words p fr (tasks_of ls) s xs (suc first)))
+      (subst (λ ks. Passed (passed_cells p fr (tasks_of ls) s depth xs (suc first) (suc to) cs) (arguments_moved xs (suc first) sh) ks ((ws ++ word fr first ∷ []) ++ passed_words p fr (tasks_of ls) s xs (suc first))) (append_assoc regs (Word ∷ []) (map argument_kind xs)) rest)
   all_passed s (Takes_own x ∷ xs) first to cs sh regs ws e n g =
       let k = may_own p s x (register sh first) n.0 n.1.0 in
       let cs' = moved (lower first) (upper to) cs in
       let sh' = set_register sh first Null in
       let one : Passed cs' sh' (regs ++ Own x Ready ∷ []) (ws ++ None ∷ []) = subst (λ i. Passed (moved (lower first) (upper i) cs) sh' (regs ++ Own x Ready ∷ []) (ws ++ None ∷ [])) (sym e) (object_passed cs sh regs ws first (Own x Ready) k refl g) in
       let rest = all_passed s xs (suc first) (suc to) cs' sh' (regs ++ Own x Ready ∷ []) (ws ++ None ∷ []) (ap suc e ∙ sym (length_more regs (Own x Ready))) (each_kept xs sh first (suc first) (omega arith) n.1.1) one in
-      subst (λ vs. Passed (passed_cells p fr (tasks_of ls) s xs (suc first) (suc to) cs') (arguments_moved xs (suc first) sh') (regs ++ Own x Ready ∷ map argument_kind xs) vs) (append_assoc ws (None ∷ []) (passed_words p fr (tasks_of ls) s xs (suc first)))
-      (subst (λ ks. Passed (passed_cells p fr (tasks_of ls) s xs (suc first) (suc to) cs') (arguments_moved xs (suc first) sh') ks ((ws ++ None ∷ []) ++ passed_words p fr (tasks_of ls) s xs (suc first))) (append_assoc regs (Own x Ready ∷ []) (map argument_kind xs)) rest)
+      subst (λ vs. Passed (passed_cells p fr (tasks_of ls) s depth xs (suc first) (suc to) cs') (arguments_moved xs (suc first) sh') (regs ++ Own x Ready ∷ map argument_kind xs) vs) (append_assoc ws (None ∷ []) (passed_words p fr (tasks_of ls) s xs (suc first)))
+      (subst (λ ks. Passed (passed_cells p fr (tasks_of ls) s depth xs (suc first) (suc to) cs') (arguments_moved xs (suc first) sh') ks ((ws ++ None ∷ []) ++ passed_words p fr (tasks_of ls) s xs (suc first))) (append_assoc regs (Own x Ready ∷ []) (map argument_kind xs)) rest)
 
 module _ (p : Image) (t : Typing) (c : Choice) (s : State) (fr : Frame) (sh : Shape) (ls : List Layer) (at_hand : At p t s fr sh ls) where
   -- each argument is as the machine needs it

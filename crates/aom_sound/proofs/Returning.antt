@@ -1,5 +1,5 @@
 -- A method returns to the one that called it.
-use Rattle.std.proofs.Common.{Bool, List, None, Option, Some, ap, arith, cond, false, length, pos, refl, subst, suc, sym, true, ℕ, ℤ, ◌<◌, ◌==◌, ◌∙◌, ◌∷◌, ◌≡◌}
+use Rattle.std.proofs.Common.{Bool, List, None, Option, Some, [], ap, arith, cond, false, length, pos, refl, subst, suc, sym, true, ℕ, ℤ, ◌<◌, ◌==◌, ◌∙◌, ◌∷◌, ◌≡◌}
 use Rattle.std.proofs.lemmas.Bool.{ne_eqb}
 use Rattle.std.specs.Prelude.{is_none, is_some}
 use Rattle.aom_image.specs.Image.{Image}
@@ -8,27 +8,30 @@ use Rattle.aom_image.specs.declared.instr.Instr.TheVariants.{Return}
 use Rattle.aom_image.specs.declared.method.Gives.{Gives}
 use Rattle.aom_image.specs.declared.method.Gives.TheVariants.{Left, Maybe as A_maybe, Nothing, Own as An_own, Word as A_word}
 use Rattle.aom_image.specs.declared.method.Thing.{Thing}
-use Rattle.aom_shape.specs.Calls.{brought, is_own_for, result_moved, rule_result}
-use Rattle.aom_shape.specs.Kinds.{is_object_or_null, is_ready_kind, is_unowning, is_word, may_be, no_entry, none_owns, register, set_register}
+use Rattle.aom_shape.specs.Calls.{brought, caught, entries_done, is_own_for, leaves_one, result_moved, rule_result}
+use Rattle.aom_shape.specs.Cleanup.{with_entry}
+use Rattle.aom_shape.specs.Kinds.{entry_kind, is_object_or_null, is_ready_kind, is_unowning, is_word, may_be, no_entry, none_owns, register, set_register}
 use Rattle.aom_shape.specs.Needs.{AllTrue}
 use Rattle.aom_shape.specs.Order.{SaysNoMore, Weaker, alike, alike_filling, maybe_null, maybe_own}
 use Rattle.aom_shape.specs.Shape.{Shape}
-use Rattle.aom_shape.specs.Tables.{at, put_at}
 use Rattle.aom_shape.specs.Typing.{Leads, Typing}
 use Rattle.aom_shape.specs.declared.kind.Age.TheVariants.{Fresh, Ready}
+use Rattle.aom_shape.specs.declared.kind.Entry.{Entry as Pushed}
+use Rattle.aom_shape.specs.declared.kind.Entry.TheVariants.{Object as Pushed_object}
 use Rattle.aom_shape.specs.declared.kind.Kind.{Kind}
 use Rattle.aom_shape.specs.declared.kind.Kind.TheVariants.{Maybe, Null, Own, Unset, Word}
-use Rattle.aom_sound.proofs.Claimed.{claim-set_register, claim_frame, claim_register_above, claim_weaker, declared_moved, fits_weaker, keep_fits, stack_moved, word_fits_weaker}
-use Rattle.aom_sound.proofs.Finishing.{ended, return_needs, returnable, same_items}
+use Rattle.aom_sound.proofs.Claimed.{claim-set_register, claim_frame, claim_push, claim_register_above, claim_weaker, declared_moved, fits_weaker, keep_fits, mark_claims, stack_moved, word_fits_weaker}
+use Rattle.aom_sound.proofs.Finishing.{ended, left_alone, left_held, none_left, return_needs, returnable, same_items}
+use Rattle.aom_sound.proofs.Items.{forms_below, undos_below}
 use Rattle.aom_sound.proofs.Maps.{at-put_at, held_moved, same_place-true, same_place_refl, tidy_moved}
-use Rattle.aom_sound.proofs.Straight.{At, Fitted, Law, claim_register, fits_unowning, housed_relocated, no_word_fits, register_fits, settle, stepped, top, word_of_object, words_set, write}
+use Rattle.aom_sound.proofs.Straight.{At, Fitted, Law, claim_register, fits_unowning, housed_relocated, next_unowning, no_word_fits, register_fits, settle, stepped, top, word_of_object, words_set, write}
 use Rattle.aom_sound.proofs.Things.{stands_same}
 use Rattle.aom_sound.specs.Calls.{below_top, received, result_cells, result_needs, result_register}
-use Rattle.aom_sound.specs.Claims.{Dispatching, Layer, Mark, Method, claim, declared, items_of, objects, tasks_of}
+use Rattle.aom_sound.specs.Claims.{Dispatching, Layer, Mark, Mark_form, Method, Unwinding, claim, declared, forms, items_of, objects, tasks_of}
 use Rattle.aom_sound.specs.Objects.{is_thing}
-use Rattle.aom_sound.specs.Places.{Cell, Elsewhere, Entry, Field, Going, Object, Place, Register, Root, changed, held, moved, same_place}
-use Rattle.aom_sound.specs.State.{A_mark, Choice, Dispatch, Frame, Of_main, Of_root, Run, State, next, set_word, word}
-use Rattle.aom_sound.specs.WellTyped.{Awaits, Back, Caught, EndsDispatch, Fits, Now, Returns, Stack, WellTyped, WordFits, caught, past_going}
+use Rattle.aom_sound.specs.Places.{Cell, Entry, Object, Place, changed, held, moved, same_place}
+use Rattle.aom_sound.specs.State.{Choice, Dispatch, Frame, Main_left, Of_main, Of_root, Run, State, next, set_word, word}
+use Rattle.aom_sound.specs.WellTyped.{Awaits, Back, Caught, EndsDispatch, Fits, LeavesNone, Now, Returns, Stack, WellTyped, WordFits, past_going}
 
 loosen : (p : Image) (t : Typing) (cs : List Cell) (fr : Frame) (sh : Shape) (ls : List Layer) (c : ℕ) (k v : Kind) → Weaker v k → Fitted p t cs fr (set_register sh c k) ls → Fitted p t cs fr (set_register sh c v) ls
 loosen p t cs fr sh ls c k v w g = record {
@@ -67,6 +70,38 @@ module _ (p : Image) (t : Typing) (c : Choice) (s : State) (fr fr2 : Frame) (sh 
     apart = caller.3;
     stack = caller.4;
   }
+
+  -- the object that is left is the caller's last entry
+  pub pushed : (x : ℕ) → below ≡ Method fr2 sh2 ∷ ls → leaves_one p x sh.entries ≡ true → none_owns sh.registers ≡ true → Fitted p t s.cells fr2 (with_entry (Pushed_object x Ready) sh2) ls
+  pushed x over e n = record {
+    fits = λ r. subst (λ k. Fits p (held s.cells) (held s.cells r) k) (sym (claim_push p (declared p s.cells) fr2 sh2 ls entry r)) (go r (same_place spot r) refl);
+    tidy = at_hand.good.tidy;
+    frames = record { words = caller.1.words; holder = caller.1.holder; height = caller.1.height };
+    housed = caller.2;
+    apart = caller.3;
+    stack = caller.4;
+  }
+    where
+      entry : Pushed
+      entry = Pushed_object x Ready
+
+      spot : Place
+      spot = Entry (length (items_of (Method fr2 sh2 ∷ ls)))
+
+      bare : Shape
+      bare = record sh { entries = [] }
+
+      without : (r : Place) → same_place spot r ≡ false → claim p (declared p s.cells) (Method fr sh ∷ below) r ≡ claim p (declared p s.cells) (Method fr bare ∷ below) r
+      without r f =
+          ap (λ es. claim p (declared p s.cells) (Method fr (record sh { entries = es }) ∷ below) r) (left_alone p x sh.entries e)
+          ∙ claim_push p (declared p s.cells) fr bare below entry r
+          ∙ ap (λ b. cond b (entry_kind entry) (claim p (declared p s.cells) (Method fr bare ∷ below) r)) (ap (λ l. same_place (Entry (length (items_of l))) r) over ∙ f)
+
+      go : (r : Place) (b : Bool) → same_place spot r ≡ b → Fits p (held s.cells) (held s.cells r) (cond b (entry_kind entry) (claim p (declared p s.cells) (Method fr2 sh2 ∷ ls) r))
+      go r true f = subst (λ y. Fits p (held s.cells) (held s.cells y) (entry_kind entry)) (ap (λ l. Entry (length (items_of l))) over ∙ same_place-true spot r f) (left_held p t c s fr sh below at_hand x e)
+      go r false f = subst (λ k. Fits p (held s.cells) (held s.cells r) k) (same_claims (declared p s.cells) r)
+          (ended p s.cells fr bare below at_hand.good.stack.2 at_hand.good.stack.3 at_top refl n r (held s.cells) (held s.cells r)
+          (subst (λ k. Fits p (held s.cells) (held s.cells r) k) (without r f) (at_hand.good.fits r)))
 
   -- the result goes to its register
   pub carried : (a x : ℕ) → no_entry sh.entries ≡ true → none_owns (set_register sh a Null).registers ≡ true → is_unowning (register sh2 x) ≡ true → is_object_or_null (register sh a) ≡ true → Fitted p t (moved (top below a) (top ls x) s.cells) (set_word fr2 x None) (set_register sh2 x (register sh a)) ls
@@ -183,52 +218,46 @@ module _ (p : Image) (t : Typing) (c : Choice) (s : State) (fr fr2 : Frame) (sh 
       x : ℕ
       x = result_register (instr_at p fr2.method fr2.place)
 
-      items : s.items ≡ objects sh2.entries (items_of ls)
-      items = same_items p t c s fr sh below at_hand a (returnable p fr sh a n)
+      items : no_entry sh.entries ≡ true → forms s.items ≡ objects sh2.entries (items_of ls)
+      items e = same_items p t c s fr sh below at_hand e
 
-      finish : (cs : List Cell) (fr' : Frame) (sh' : Shape) → fr'.method ≡ fr2.method → fr'.place ≡ fr2.place → sh'.entries ≡ sh2.entries → Fitted p t cs fr' sh' ls → Leads t fr2.method (suc fr2.place) sh' → WellTyped p t (record s { cells = cs; tasks = Run (next fr') ∷ tasks_of ls })
-      finish cs fr' sh' em ep ee f leads =
+      finish : (cs : List Cell) (fr' : Frame) (sh' : Shape) → fr'.method ≡ fr2.method → fr'.place ≡ fr2.place → forms s.items ≡ objects sh'.entries (items_of ls) → Fitted p t cs fr' sh' ls → Leads t fr2.method (suc fr2.place) sh' → WellTyped p t (record s { cells = cs; tasks = Run (next fr') ∷ tasks_of ls })
+      finish cs fr' sh' em ep items f leads =
           let g = settle p t cs (next fr') sh' ls (stepped p t cs fr' sh' ls f) (subst (λ m. Leads t m (suc fr'.place) sh') (sym em) (subst (λ l. Leads t fr2.method (suc l) sh') (sym ep) leads)) in
-          record { layers = Method (next fr') g.0 ∷ ls; tasks = refl; items = items ∙ ap (λ es. objects es (items_of ls)) (sym (g.2 ∙ ee)); good = g.1 }
+          record { layers = Method (next fr') g.0 ∷ ls; tasks = refl; items = items ∙ ap (λ es. objects es (items_of ls)) (sym g.2); undos = at_hand.undos; good = g.1 }
 
       Goal : Gives → Type 0
       Goal g = AllTrue (result_needs p fr (tasks_of below) s g a) × WellTyped p t (record s { cells = result_cells p fr (tasks_of below) s g a x (tasks_of ls); tasks = Run (next (received p fr (tasks_of below) s g a x fr2)) ∷ tasks_of ls })
 
-      go : (g : Gives) → AllTrue (rule_result p fr.method fr.place sh g a) → no_entry sh.entries ≡ true → none_owns (result_moved p fr.method fr.place sh g a).registers ≡ true → Awaits g x sh2 → Leads t fr2.method (suc fr2.place) (brought g x sh2) → Goal g
-      go Nothing r e n w leads = (tt, finish s.cells fr2 sh2 refl refl refl (plain p t c s fr fr2 sh sh2 ls below at_hand (Returns fr.method fr.home) at_hand.good.stack.4 (λ d r. refl) (omega arith) refl e n) leads)
+      go : (g : Gives) → AllTrue (rule_result p fr.method fr.place sh g a) → entries_done p g sh.entries ≡ true → none_owns (result_moved p fr.method fr.place sh g a).registers ≡ true → Awaits g x sh2 → Leads t fr2.method (suc fr2.place) (brought g x sh2) → Goal g
+      go Nothing r e n w leads = (tt, finish s.cells fr2 sh2 refl refl (items e) (plain p t c s fr fr2 sh sh2 ls below at_hand (Returns fr.method fr.home) at_hand.good.stack.4 (λ d r. refl) (omega arith) refl e n) leads)
       go A_word r e n w leads =
           let i = word_is p s (word fr a) (register sh a) r.0 (at_hand.good.stack.1.words a) in
-          ((i.0, tt), finish s.cells (set_word fr2 x (word fr a)) (set_register sh2 x Word) refl refl refl (write p t s.cells fr2 sh2 ls x (word fr a) Word (plain p t c s fr fr2 sh sh2 ls below at_hand (Returns fr.method fr.home) at_hand.good.stack.4 (λ d r. refl) (omega arith) refl e n) w (λ h. tt) i.1) leads)
+          ((i.0, tt), finish s.cells (set_word fr2 x (word fr a)) (set_register sh2 x Word) refl refl (items e) (write p t s.cells fr2 sh2 ls x (word fr a) Word (plain p t c s fr fr2 sh sh2 ls below at_hand (Returns fr.method fr.home) at_hand.good.stack.4 (λ d r. refl) (omega arith) refl e n) w (λ h. tt) i.1) leads)
       go (An_own y) r e n w leads =
           let k = may_own p s y (register sh a) r.0 r.1.0 in
           let f = carried p t c s fr fr2 sh sh2 ls below at_hand (Returns fr.method fr.home) at_hand.good.stack.4 (λ d r. refl) (omega arith) refl a x e n w (ap is_object_or_null k) in
           let h = held_thing p s y (held s.cells (top below a)) (subst (λ k. Fits p (held s.cells) (held s.cells (top below a)) k) k (register_fits p s.cells fr sh below at_hand.good.fits a)) in
-          ((ap is_none (word_of_object (word fr a) (register sh a) (ap is_object_or_null k) (at_hand.good.stack.1.words a)), (h.0, (h.1, tt))), finish (moved (top below a) (top ls x) s.cells) (set_word fr2 x None) (set_register sh2 x (Own y Ready)) refl refl refl (subst (λ k. Fitted p t (moved (top below a) (top ls x) s.cells) (set_word fr2 x None) (set_register sh2 x k) ls) k f) leads)
+          ((ap is_none (word_of_object (word fr a) (register sh a) (ap is_object_or_null k) (at_hand.good.stack.1.words a)), (h.0, (h.1, tt))), finish (moved (top below a) (top ls x) s.cells) (set_word fr2 x None) (set_register sh2 x (Own y Ready)) refl refl (items e) (subst (λ k. Fitted p t (moved (top below a) (top ls x) s.cells) (set_word fr2 x None) (set_register sh2 x k) ls) k f) leads)
       go (A_maybe y) r e n w leads =
           let obj : is_object_or_null (register sh a) ≡ true = object_of p s y (register sh a) r.0 in
           let f = carried p t c s fr fr2 sh sh2 ls below at_hand (Returns fr.method fr.home) at_hand.good.stack.4 (λ d r. refl) (omega arith) refl a x e n w obj in
           let weak = may_hold p s y (register sh a) r.0 r.1.0 in
           let h = held_maybe p s y (held s.cells (top below a)) (fits_weaker p (held s.cells) (held s.cells (top below a)) weak (register_fits p s.cells fr sh below at_hand.good.fits a)) in
-          ((ap is_none (word_of_object (word fr a) (register sh a) obj (at_hand.good.stack.1.words a)), (h, tt)), finish (moved (top below a) (top ls x) s.cells) (set_word fr2 x None) (set_register sh2 x (Maybe y Ready)) refl refl refl (loosen p t (moved (top below a) (top ls x) s.cells) (set_word fr2 x None) sh2 ls x (register sh a) (Maybe y Ready) weak f) leads)
-      go (Left y) r e n w leads = absurd w
+          ((ap is_none (word_of_object (word fr a) (register sh a) obj (at_hand.good.stack.1.words a)), (h, tt)), finish (moved (top below a) (top ls x) s.cells) (set_word fr2 x None) (set_register sh2 x (Maybe y Ready)) refl refl (items e) (loosen p t (moved (top below a) (top ls x) s.cells) (set_word fr2 x None) sh2 ls x (register sh a) (Maybe y Ready) weak f) leads)
+      go (Left y) r e n w leads = (tt, finish s.cells fr2 (with_entry (Pushed_object y Ready) sh2) refl refl (at_hand.items ∙ ap (λ es. objects es (items_of below)) (left_alone p y sh.entries e)) (pushed p t c s fr fr2 sh sh2 ls below at_hand (Returns fr.method fr.home) at_hand.good.stack.4 (λ d r. refl) (omega arith) refl y refl e n) leads)
 
 -- the same through a trap: an object is maybe there, and the code is 0
 module _ (p : Image) (t : Typing) (c : Choice) (s : State) (fr fr2 : Frame) (sh sh2 : Shape) (gv : Gives) (ls : List Layer) (at_hand : At p t s fr sh (Mark gv ∷ Method fr2 sh2 ∷ ls)) where
   abbrev pub marked : List Layer
   marked = Mark gv ∷ Method fr2 sh2 ∷ ls
 
-  mark_claims : (d : Place → Kind) (r : Place) → claim p d (Mark gv ∷ Method fr2 sh2 ∷ ls) r ≡ claim p d (Method fr2 sh2 ∷ ls) r
-  mark_claims d (Register f i) = refl
-  mark_claims d (Entry k) = refl
-  mark_claims d (Field n f) = refl
-  mark_claims d (Elsewhere Root) = refl
-  mark_claims d (Going k) = refl
-
   pub law_return_caught : (a : ℕ) → Law p t c s fr sh (Mark gv ∷ Method fr2 sh2 ∷ ls) at_hand (Return a)
   law_return_caught a n leads =
-      let e = at_hand.good.stack.4.0 in
+      let catches = at_hand.good.stack.4.0 in
+      let e = catches.0 in
       let r = returnable p fr sh a n in
-      let w = go (gives_of p fr.method) r.result r.entries r.free caller.0.1 (subst (λ g. Awaits g x sh2) (sym e) caller.0.2) (subst (λ g. Leads t fr2.method (suc fr2.place) (caught g x sh2)) (sym e) caller.0.3) in
+      let w = go (gives_of p fr.method) (subst (λ g. LeavesNone g) (sym e) catches.1) r.result r.entries r.free caller.0.1 (subst (λ g. Awaits g x sh2) (sym e) caller.0.2) (subst (λ g. Leads t fr2.method (suc fr2.place) (caught g x sh2)) (sym e) caller.0.3) in
       (return_needs p t c s fr sh marked at_hand a r w.0 tt, w.1)
     where
       x : ℕ
@@ -237,15 +266,12 @@ module _ (p : Image) (t : Typing) (c : Choice) (s : State) (fr fr2 : Frame) (sh 
       caller : Stack p t s.cells (Caught gv) (Method fr2 sh2 ∷ ls)
       caller = at_hand.good.stack.4.1
 
-      items : s.items ≡ A_mark ∷ objects sh2.entries (items_of ls)
-      items = same_items p t c s fr sh marked at_hand a (returnable p fr sh a n)
-
-      still : (ks : List Kind) (c : ℕ) (k : Kind) → is_unowning (at Unset ks (suc c)) ≡ true → is_unowning (at Unset (put_at Unset ks c k) (suc c)) ≡ true
-      still ks c k u = ap is_unowning (at-put_at Unset ks c (suc c) k ∙ ap (λ b. cond b k (at Unset ks (suc c))) (ne_eqb c (suc c) (λ e. absurd (omega arith)))) ∙ u
+      items : no_entry sh.entries ≡ true → forms (below_top s.items) ≡ objects sh2.entries (items_of ls)
+      items e = forms_below s.items Mark_form _ (same_items p t c s fr sh marked at_hand e)
 
       -- the code, and on
-      finish : (cs : List Cell) (fr' : Frame) (sh' : Shape) → fr'.method ≡ fr2.method → fr'.place ≡ fr2.place → sh'.entries ≡ sh2.entries → is_unowning (register sh' (suc x)) ≡ true → Fitted p t cs fr' sh' ls → Leads t fr2.method (suc fr2.place) (set_register sh' (suc x) Word) → WellTyped p t (record s { cells = cs; tasks = Run (next (set_word fr' (suc x) (Some (pos 0)))) ∷ tasks_of ls; items = below_top s.items })
-      finish cs fr' sh' em ep ee u f leads =
+      finish : (cs : List Cell) (fr' : Frame) (sh' : Shape) → fr'.method ≡ fr2.method → fr'.place ≡ fr2.place → forms (below_top s.items) ≡ objects sh'.entries (items_of ls) → is_unowning (register sh' (suc x)) ≡ true → Fitted p t cs fr' sh' ls → Leads t fr2.method (suc fr2.place) (set_register sh' (suc x) Word) → WellTyped p t (record s { cells = cs; tasks = Run (next (set_word fr' (suc x) (Some (pos 0)))) ∷ tasks_of ls; items = below_top s.items })
+      finish cs fr' sh' em ep items u f leads =
           let fr'' = set_word fr' (suc x) (Some (pos 0)) in
           let sh'' = set_register sh' (suc x) Word in
           let w = write p t cs fr' sh' ls (suc x) (Some (pos 0)) Word f u (λ h. tt) tt in
@@ -253,66 +279,87 @@ module _ (p : Image) (t : Typing) (c : Choice) (s : State) (fr fr2 : Frame) (sh 
           record {
             layers = Method (next fr'') g.0 ∷ ls;
             tasks = refl;
-            items = ap below_top items ∙ ap (λ es. objects es (items_of ls)) (sym (g.2 ∙ ee));
+            items = items ∙ ap (λ es. objects es (items_of ls)) (sym g.2);
+            undos = undos_below p s.items at_hand.undos;
             good = g.1;
           }
 
       Goal : Gives → Type 0
       Goal g = AllTrue (result_needs p fr (tasks_of marked) s g a) × WellTyped p t (record s { cells = result_cells p fr (tasks_of marked) s g a x (tasks_of ls); tasks = Run (next (set_word (received p fr (tasks_of marked) s g a x fr2) (suc x) (Some (pos 0)))) ∷ tasks_of ls; items = below_top s.items })
 
-      go : (g : Gives) → AllTrue (rule_result p fr.method fr.place sh g a) → no_entry sh.entries ≡ true → none_owns (result_moved p fr.method fr.place sh g a).registers ≡ true → is_unowning (register sh2 (suc x)) ≡ true → Awaits g x sh2 → Leads t fr2.method (suc fr2.place) (caught g x sh2) → Goal g
-      go Nothing r e n u w leads = (tt, finish s.cells fr2 sh2 refl refl refl u (plain p t c s fr fr2 sh sh2 ls marked at_hand (Caught gv) caller mark_claims (omega arith) refl e n) leads)
-      go A_word r e n u w leads =
+      go : (g : Gives) → LeavesNone g → AllTrue (rule_result p fr.method fr.place sh g a) → entries_done p g sh.entries ≡ true → none_owns (result_moved p fr.method fr.place sh g a).registers ≡ true → is_unowning (register sh2 (suc x)) ≡ true → Awaits g x sh2 → Leads t fr2.method (suc fr2.place) (caught g x sh2) → Goal g
+      go Nothing none r e n u w leads = (tt, finish s.cells fr2 sh2 refl refl (items e) u (plain p t c s fr fr2 sh sh2 ls marked at_hand (Caught gv) caller (λ d r. mark_claims p d gv (Method fr2 sh2 ∷ ls) r) (omega arith) refl e n) leads)
+      go A_word none r e n u w leads =
           let i = word_is p s (word fr a) (register sh a) r.0 (at_hand.good.stack.1.words a) in
-          ((i.0, tt), finish s.cells (set_word fr2 x (word fr a)) (set_register sh2 x Word) refl refl refl (still sh2.registers x Word u) (write p t s.cells fr2 sh2 ls x (word fr a) Word (plain p t c s fr fr2 sh sh2 ls marked at_hand (Caught gv) caller mark_claims (omega arith) refl e n) w (λ h. tt) i.1) leads)
-      go (An_own y) r e n u w leads =
+          ((i.0, tt), finish s.cells (set_word fr2 x (word fr a)) (set_register sh2 x Word) refl refl (items e) (next_unowning sh2.registers x Word u) (write p t s.cells fr2 sh2 ls x (word fr a) Word (plain p t c s fr fr2 sh sh2 ls marked at_hand (Caught gv) caller (λ d r. mark_claims p d gv (Method fr2 sh2 ∷ ls) r) (omega arith) refl e n) w (λ h. tt) i.1) leads)
+      go (An_own y) none r e n u w leads =
           let k = may_own p s y (register sh a) r.0 r.1.0 in
-          let f = carried p t c s fr fr2 sh sh2 ls marked at_hand (Caught gv) caller mark_claims (omega arith) refl a x e n w (ap is_object_or_null k) in
+          let f = carried p t c s fr fr2 sh sh2 ls marked at_hand (Caught gv) caller (λ d r. mark_claims p d gv (Method fr2 sh2 ∷ ls) r) (omega arith) refl a x e n w (ap is_object_or_null k) in
           let h = held_thing p s y (held s.cells (top marked a)) (subst (λ k. Fits p (held s.cells) (held s.cells (top marked a)) k) k (register_fits p s.cells fr sh marked at_hand.good.fits a)) in
           let weak : Weaker (Maybe y Ready) (register sh a) = subst (λ k. Weaker (Maybe y Ready) k) (sym k) maybe_own in
-          ((ap is_none (word_of_object (word fr a) (register sh a) (ap is_object_or_null k) (at_hand.good.stack.1.words a)), (h.0, (h.1, tt))), finish (moved (top marked a) (top ls x) s.cells) (set_word fr2 x None) (set_register sh2 x (Maybe y Ready)) refl refl refl (still sh2.registers x (Maybe y Ready) u) (loosen p t (moved (top marked a) (top ls x) s.cells) (set_word fr2 x None) sh2 ls x (register sh a) (Maybe y Ready) weak f) leads)
-      go (A_maybe y) r e n u w leads =
+          ((ap is_none (word_of_object (word fr a) (register sh a) (ap is_object_or_null k) (at_hand.good.stack.1.words a)), (h.0, (h.1, tt))), finish (moved (top marked a) (top ls x) s.cells) (set_word fr2 x None) (set_register sh2 x (Maybe y Ready)) refl refl (items e) (next_unowning sh2.registers x (Maybe y Ready) u) (loosen p t (moved (top marked a) (top ls x) s.cells) (set_word fr2 x None) sh2 ls x (register sh a) (Maybe y Ready) weak f) leads)
+      go (A_maybe y) none r e n u w leads =
           let obj : is_object_or_null (register sh a) ≡ true = object_of p s y (register sh a) r.0 in
-          let f = carried p t c s fr fr2 sh sh2 ls marked at_hand (Caught gv) caller mark_claims (omega arith) refl a x e n w obj in
+          let f = carried p t c s fr fr2 sh sh2 ls marked at_hand (Caught gv) caller (λ d r. mark_claims p d gv (Method fr2 sh2 ∷ ls) r) (omega arith) refl a x e n w obj in
           let weak = may_hold p s y (register sh a) r.0 r.1.0 in
           let h = held_maybe p s y (held s.cells (top marked a)) (fits_weaker p (held s.cells) (held s.cells (top marked a)) weak (register_fits p s.cells fr sh marked at_hand.good.fits a)) in
-          ((ap is_none (word_of_object (word fr a) (register sh a) obj (at_hand.good.stack.1.words a)), (h, tt)), finish (moved (top marked a) (top ls x) s.cells) (set_word fr2 x None) (set_register sh2 x (Maybe y Ready)) refl refl refl (still sh2.registers x (Maybe y Ready) u) (loosen p t (moved (top marked a) (top ls x) s.cells) (set_word fr2 x None) sh2 ls x (register sh a) (Maybe y Ready) weak f) leads)
-      go (Left y) r e n u w leads = absurd w
+          ((ap is_none (word_of_object (word fr a) (register sh a) obj (at_hand.good.stack.1.words a)), (h, tt)), finish (moved (top marked a) (top ls x) s.cells) (set_word fr2 x None) (set_register sh2 x (Maybe y Ready)) refl refl (items e) (next_unowning sh2.registers x (Maybe y Ready) u) (loosen p t (moved (top marked a) (top ls x) s.cells) (set_word fr2 x None) sh2 ls x (register sh a) (Maybe y Ready) weak f) leads)
+      go (Left y) none r e n u w leads = absurd none
 
 -- main returns to its dispatch
 module _ (p : Image) (t : Typing) (c : Choice) (s : State) (fr : Frame) (sh : Shape) (gv : Gives) (w : Dispatch) (ls : List Layer) (at_hand : At p t s fr sh (Mark gv ∷ Dispatching w ∷ ls)) where
   abbrev pub dispatched : List Layer
   dispatched = Mark gv ∷ Dispatching w ∷ ls
 
-  dispatch_claims : (d : Place → Kind) (r : Place) → claim p d (Mark gv ∷ Dispatching w ∷ ls) r ≡ claim p d (Dispatching w ∷ ls) r
-  dispatch_claims d (Register f i) = refl
-  dispatch_claims d (Entry k) = refl
-  dispatch_claims d (Field n f) = refl
-  dispatch_claims d (Elsewhere Root) = refl
-  dispatch_claims d (Going k) = refl
-
   gives_nothing : (w : Dispatch) → EndsDispatch p w (Caught gv) → gv ≡ Nothing
   gives_nothing Of_main e = e
+  gives_nothing (Main_left code) e = absurd e
   gives_nothing Of_root e = absurd e
 
   ends : (w : Dispatch) → EndsDispatch p w Now
   ends Of_main = tt
+  ends (Main_left code) = tt
   ends Of_root = tt
 
   pub law_return_dispatch : (a : ℕ) → Law p t c s fr sh (Mark gv ∷ Dispatching w ∷ ls) at_hand (Return a)
   law_return_dispatch a n leads =
       let r = returnable p fr sh a n in
       let below = at_hand.good.stack.4.1 in
-      let nothing : gives_of p fr.method ≡ Nothing = at_hand.good.stack.4.0 ∙ gives_nothing w below.0 in
+      let nothing : gives_of p fr.method ≡ Nothing = at_hand.good.stack.4.0.0 ∙ gives_nothing w below.0 in
+      let entries : no_entry sh.entries ≡ true = none_left p fr sh a nothing r in
       let free : none_owns sh.registers ≡ true = ap (λ g. none_owns (result_moved p fr.method fr.place sh g a).registers) (sym nothing) ∙ r.free in (
         return_needs p t c s fr sh dispatched at_hand a r (subst (λ g. AllTrue (result_needs p fr (tasks_of dispatched) s g a)) (sym nothing) tt) tt,
         record {
           layers = Dispatching w ∷ ls;
           tasks = refl;
-          items = ap below_top (same_items p t c s fr sh dispatched at_hand a r);
+          items = forms_below s.items Mark_form _ (same_items p t c s fr sh dispatched at_hand entries);
+          undos = undos_below p s.items at_hand.undos;
           good = record {
             stack = (ends w, below.1);
-            fits = λ q. subst (λ k. Fits p (held s.cells) (held s.cells q) k) (dispatch_claims (declared p s.cells) q) (ended p s.cells fr sh dispatched at_hand.good.stack.2 at_hand.good.stack.3 refl r.entries free q (held s.cells) (held s.cells q) (at_hand.good.fits q));
+            fits = λ q. subst (λ k. Fits p (held s.cells) (held s.cells q) k) (mark_claims p (declared p s.cells) gv (Dispatching w ∷ ls) q) (ended p s.cells fr sh dispatched at_hand.good.stack.2 at_hand.good.stack.3 refl entries free q (held s.cells) (held s.cells q) (at_hand.good.fits q));
+            tidy = at_hand.good.tidy;
+          };
+        },
+      )
+
+-- over an unwinding an operation is over
+module _ (p : Image) (t : Typing) (c : Choice) (s : State) (fr : Frame) (sh : Shape) (code : ℤ) (es : List Pushed) (ls : List Layer) (at_hand : At p t s fr sh (Unwinding code es ∷ ls)) where
+  pub law_return_unwound : (a : ℕ) → Law p t c s fr sh (Unwinding code es ∷ ls) at_hand (Return a)
+  law_return_unwound a n leads =
+      let below = Unwinding code es ∷ ls in
+      let r = returnable p fr sh a n in
+      let nothing : gives_of p fr.method ≡ Nothing = at_hand.good.stack.4.0.1 in
+      let entries : no_entry sh.entries ≡ true = none_left p fr sh a nothing r in
+      let free : none_owns sh.registers ≡ true = ap (λ g. none_owns (result_moved p fr.method fr.place sh g a).registers) (sym nothing) ∙ r.free in (
+        return_needs p t c s fr sh below at_hand a r (subst (λ g. AllTrue (result_needs p fr (tasks_of below) s g a)) (sym nothing) tt) tt,
+        record {
+          layers = Unwinding code es ∷ ls;
+          tasks = refl;
+          items = same_items p t c s fr sh below at_hand entries;
+          undos = at_hand.undos;
+          good = record {
+            stack = (tt, at_hand.good.stack.4.1);
+            fits = λ q. ended p s.cells fr sh below at_hand.good.stack.2 at_hand.good.stack.3 refl entries free q (held s.cells) (held s.cells q) (at_hand.good.fits q);
             tidy = at_hand.good.tidy;
           };
         },

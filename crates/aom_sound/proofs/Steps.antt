@@ -1,33 +1,36 @@
 -- Every move from a well-typed state.
-use Rattle.std.proofs.Common.{List, None, Some, [], cond, refl, subst, sym, ℕ, ◌∙◌, ◌∷◌, ◌≡◌}
-use Rattle.std.specs.Int.{w32, int_bit_and, int_bit_or, int_bit_xor, int_wrapping_add, int_wrapping_mul, int_wrapping_sub}
+use Rattle.std.proofs.Common.{List, None, Some, [], cond, refl, subst, sym, ℕ, ℤ, ◌∙◌, ◌∷◌, ◌≡◌}
+use Rattle.std.specs.Int.{int_bit_and, int_bit_or, int_bit_xor, int_wrapping_add, int_wrapping_mul, int_wrapping_sub, w32}
 use Rattle.std.specs.Ordering.{int_eq}
 use Rattle.std.specs.Prelude.{int_lt}
 use Rattle.aom_image.specs.Image.{Image}
 use Rattle.aom_image.specs.Views.{instr_at}
 use Rattle.aom_image.specs.declared.instr.Instr.{Instr}
-use Rattle.aom_image.specs.declared.instr.Instr.TheVariants.{Add, And, Call, Const, Copy, Delete, Jump, JumpEmpty, JumpEqual, JumpLess, Load, Loop, Next, Store, JumpNull, Move, Mul, New, Or, Print, Put, Return, Stop, Sub, Take, Xor}
+use Rattle.aom_image.specs.declared.instr.Instr.TheVariants.{Add, And, Call, Const, Copy, Delete, Jump, JumpEmpty, JumpEqual, JumpLess, JumpNull, Leave, LeaveIf, Load, Loop, Move, Mul, New, NewOrLeave, Next, Or, Pop, PopDelete, PopOperation, Print, Push, PushOperation, Put, Return, Stop, Store, Sub, Take, Trap, Xor}
 use Rattle.aom_shape.specs.Needs.{AllTrue}
 use Rattle.aom_shape.specs.Shape.{Shape}
 use Rattle.aom_shape.specs.Tables.{at}
 use Rattle.aom_shape.specs.Typing.{IsTyped, Typing}
-use Rattle.aom_sound.proofs.Calling.{law_call}
+use Rattle.aom_sound.proofs.Calling.{law_call, law_trap}
 use Rattle.aom_sound.proofs.Creation.{law_new}
 use Rattle.aom_sound.proofs.Destroying.{law_delete}
 use Rattle.aom_sound.proofs.Destructors.{law_destructor}
 use Rattle.aom_sound.proofs.Closing.{dispatch_keeps}
+use Rattle.aom_sound.proofs.Entries.{law_new_or_leave, law_pop, law_pop_delete, law_pop_operation, law_push, law_push_operation}
 use Rattle.aom_sound.proofs.Going.{going_keeps}
 use Rattle.aom_sound.proofs.Jumps.{law_jump, law_jump_empty, law_jump_null, law_loop, law_next}
 use Rattle.aom_sound.proofs.Words.{law_binary, law_compare, law_const, law_copy, law_load, law_print, law_store}
+use Rattle.aom_sound.proofs.Leaving.{law_leave, law_leave_if}
 use Rattle.aom_sound.proofs.Moves.{law_move, law_put, law_take}
-use Rattle.aom_sound.proofs.Returning.{law_return, law_return_caught, law_return_dispatch}
+use Rattle.aom_sound.proofs.Returning.{law_return, law_return_caught, law_return_dispatch, law_return_unwound}
 use Rattle.aom_sound.proofs.Straight.{At, Law, fitted, settle, stepped, well}
-use Rattle.aom_sound.specs.Claims.{Dispatching, Dying, Layer, Mark, Method, items_of, tasks_of}
+use Rattle.aom_sound.proofs.Unwinding.{unwinds}
+use Rattle.aom_sound.specs.Claims.{Dispatching, Dying, Layer, Mark, Method, Unwinding, forms, items_of, tasks_of}
 use Rattle.aom_sound.specs.Laws.{IsWired}
 use Rattle.aom_sound.specs.Moves.{counted, dispatch_ends, does, needs, step, step_instr, step_task}
 use Rattle.aom_sound.specs.Places.{named}
-use Rattle.aom_sound.specs.State.{Choice, Destroy, Dispatch, Dispatched, Frame, IsStuck, Need, Of_main, Of_root, Run, State, Task, Trapped, guarded, next}
-use Rattle.aom_sound.specs.WellTyped.{Caught, Good, Keeps, Now, Returns, WellTyped}
+use Rattle.aom_sound.specs.State.{Choice, Destroy, Dispatch, Dispatched, Frame, IsStuck, Main_left, Need, Of_main, Of_root, Run, State, Task, Trapped, Unwind, guarded, next}
+use Rattle.aom_sound.specs.WellTyped.{AllUndo, Caught, Good, Keeps, Now, Returns, WellTyped}
 
 -- a state goes on where all needs are met
 kept : (p : Image) (t : Typing) (needs : List Need) (s : State) → AllTrue needs → WellTyped p t s → Keeps p t (guarded needs s)
@@ -36,7 +39,7 @@ kept p t (need ∷ needs) s n w = subst (λ b. Keeps p t (cond b (guarded needs 
 
 module _ (p : Image) (t : Typing) (wired : IsWired p) (typed : IsTyped p t) (c : Choice) (s : State) (fr : Frame) (sh : Shape) (ls : List Layer) (at_hand : At p t s fr sh ls) (unused : named s.cells c.name ≡ None) where
   law_stop : Law p t c s fr sh ls at_hand Stop
-  law_stop n leads = (tt, well p t c s fr sh ls at_hand (does p c fr (tasks_of ls) s Stop) (next fr) sh refl at_hand.items (settle p t s.cells (next fr) sh ls (stepped p t s.cells fr sh ls (fitted p t s.cells fr sh ls at_hand.good)) leads.0))
+  law_stop n leads = (tt, well p t c s fr sh ls at_hand (does p c fr (tasks_of ls) s Stop) (next fr) sh refl at_hand.items at_hand.undos (settle p t s.cells (next fr) sh ls (stepped p t s.cells fr sh ls (fitted p t s.cells fr sh ls at_hand.good)) leads.0))
 
   -- each instruction by its law
   law : (i : Instr) → instr_at p fr.method fr.place ≡ Some i → ((a : ℕ) → Law p t c s fr sh ls at_hand (Return a)) → Law p t c s fr sh ls at_hand i
@@ -65,6 +68,15 @@ module _ (p : Image) (t : Typing) (wired : IsWired p) (typed : IsTyped p t) (c :
   law (Delete a) here back = law_delete p t c s fr sh ls at_hand wired typed a
   law (Call target m first x) here back = law_call p t wired typed c s fr sh ls at_hand target m first x here
   law (Return a) here back = back a
+  law (Trap target m first x) here back = law_trap p t wired typed c s fr sh ls at_hand target m first x here
+  law (NewOrLeave a x) here back = law_new_or_leave p t c s fr sh ls at_hand a x unused
+  law (Push a) here back = law_push p t c s fr sh ls at_hand a
+  law (PushOperation a m) here back = law_push_operation p t c s fr sh ls at_hand wired a m here
+  law (Pop a) here back = law_pop p t c s fr sh ls at_hand a
+  law PopOperation here back = law_pop_operation p t c s fr sh ls at_hand
+  law PopDelete here back = law_pop_delete p t c s fr sh ls at_hand wired typed
+  law (Leave a) here back = law_leave p t c s fr sh ls at_hand a
+  law (LeaveIf a) here back = law_leave_if p t c s fr sh ls at_hand a
   law Stop here back = law_stop
   law _ here back = λ n l. cc
 
@@ -77,7 +89,9 @@ returns p t c s fr sh [] h a = absurd (nothing_below h.good.stack.4)
 returns p t c s fr sh (Method fr2 sh2 ∷ ls) h a = law_return p t c s fr fr2 sh sh2 ls h a
 returns p t c s fr sh (Dying o ∷ ls) h a = law_destructor p t c s fr sh o ls h a
 returns p t c s fr sh (Dispatching Of_main ∷ ls) h a = absurd h.good.stack.4.0
+returns p t c s fr sh (Dispatching (Main_left code) ∷ ls) h a = absurd h.good.stack.4.0
 returns p t c s fr sh (Dispatching Of_root ∷ ls) h a = absurd h.good.stack.4.0
+returns p t c s fr sh (Unwinding code es ∷ ls) h a = law_return_unwound p t c s fr sh code es ls h a
 returns p t c s fr sh (Mark gv ∷ []) h a = absurd (nothing_below h.good.stack.4.1)
   where
     nothing_below : Caught gv ≡ Now → ⊥
@@ -85,6 +99,7 @@ returns p t c s fr sh (Mark gv ∷ []) h a = absurd (nothing_below h.good.stack.
 returns p t c s fr sh (Mark gv ∷ Method fr2 sh2 ∷ ls) h a = law_return_caught p t c s fr fr2 sh sh2 gv ls h a
 returns p t c s fr sh (Mark gv ∷ Mark gv' ∷ ls) h a = absurd h.good.stack.4.1.0
 returns p t c s fr sh (Mark gv ∷ Dying o ∷ ls) h a = absurd h.good.stack.4.1.1
+returns p t c s fr sh (Mark gv ∷ Unwinding code es ∷ ls) h a = absurd h.good.stack.4.1.0
 returns p t c s fr sh (Mark gv ∷ Dispatching w ∷ ls) h a = law_return_dispatch p t c s fr sh gv w ls h a
 
 -- an instruction of a well-typed state
@@ -96,48 +111,63 @@ instruction_keeps p t wired typed c s fr sh ls at_hand unused =
 
 -- the counts of a move are no concern of the typing
 pub counted_well : (p : Image) (t : Typing) (s : State) → WellTyped p t s → WellTyped p t (counted p s)
-counted_well p t s w = record { layers = w.layers; tasks = w.tasks; items = w.items; good = w.good }
+counted_well p t s w = record { layers = w.layers; tasks = w.tasks; items = w.items; undos = w.undos; good = w.good }
 
 -- each kind of task at hand
 module _ (p : Image) (t : Typing) (c : Choice) (s : State) where
-  by_layers : (ts : List Task) → s.tasks ≡ ts → ((ls : List Layer) → ts ≡ tasks_of ls → s.items ≡ items_of ls → Good p t s.cells ls → Keeps p t (step_task p c s ts)) → WellTyped p t s → Keeps p t (step_task p c s s.tasks)
-  by_layers ts e go w = subst (λ l. Keeps p t (step_task p c s l)) (sym e) (go w.layers (sym e ∙ w.tasks) w.items w.good)
+  by_layers : (ts : List Task) → s.tasks ≡ ts → ((ls : List Layer) → ts ≡ tasks_of ls → forms s.items ≡ items_of ls → AllUndo p s.items → Good p t s.cells ls → Keeps p t (step_task p c s ts)) → WellTyped p t s → Keeps p t (step_task p c s s.tasks)
+  by_layers ts e go w = subst (λ l. Keeps p t (step_task p c s l)) (sym e) (go w.layers (sym e ∙ w.tasks) w.items w.undos w.good)
 
   of_method : IsWired p → IsTyped p t → named s.cells c.name ≡ None → (fr : Frame) (ts : List Task) → s.tasks ≡ Run fr ∷ ts → WellTyped p t s → Keeps p t (step_task p c s s.tasks)
   of_method wired typed unused fr ts e w = by_layers (Run fr ∷ ts) e go w
     where
-      go : (ls : List Layer) → Run fr ∷ ts ≡ tasks_of ls → s.items ≡ items_of ls → Good p t s.cells ls → Keeps p t (step_task p c s (Run fr ∷ ts))
-      go [] at items good = cc
-      go (Method fr' sh ∷ ls) at items good = subst (λ l. Keeps p t (step_task p c s l)) (sym at) (instruction_keeps p t wired typed c s fr' sh ls (record { tasks = e ∙ at; items = items; good = good }) unused)
-      go (Mark gv ∷ ls) at items good = cc
-      go (Dying o ∷ ls) at items good = cc
-      go (Dispatching d ∷ ls) at items good = cc
+      go : (ls : List Layer) → Run fr ∷ ts ≡ tasks_of ls → forms s.items ≡ items_of ls → AllUndo p s.items → Good p t s.cells ls → Keeps p t (step_task p c s (Run fr ∷ ts))
+      go [] at items undos good = cc
+      go (Method fr' sh ∷ ls) at items undos good = subst (λ l. Keeps p t (step_task p c s l)) (sym at) (instruction_keeps p t wired typed c s fr' sh ls (record { tasks = e ∙ at; items = items; undos = undos; good = good }) unused)
+      go (Mark gv ∷ ls) at items undos good = cc
+      go (Unwinding code es ∷ ls) at items undos good = cc
+      go (Dying o ∷ ls) at items undos good = cc
+      go (Dispatching d ∷ ls) at items undos good = cc
 
   of_going : (ts : List Task) → s.tasks ≡ Destroy ∷ ts → WellTyped p t s → Keeps p t (step_task p c s s.tasks)
   of_going ts e w = by_layers (Destroy ∷ ts) e go w
     where
-      go : (ls : List Layer) → Destroy ∷ ts ≡ tasks_of ls → s.items ≡ items_of ls → Good p t s.cells ls → Keeps p t (step_task p c s (Destroy ∷ ts))
-      go [] at items good = cc
-      go (Method fr' sh ∷ ls) at items good = cc
-      go (Mark gv ∷ ls) at items good = cc
-      go (Dying o ∷ ls) at items good = subst (λ l. Keeps p t (step_task p c s l)) (sym at) (going_keeps p t s o ls good items)
-      go (Dispatching d ∷ ls) at items good = cc
+      go : (ls : List Layer) → Destroy ∷ ts ≡ tasks_of ls → forms s.items ≡ items_of ls → AllUndo p s.items → Good p t s.cells ls → Keeps p t (step_task p c s (Destroy ∷ ts))
+      go [] at items undos good = cc
+      go (Method fr' sh ∷ ls) at items undos good = cc
+      go (Mark gv ∷ ls) at items undos good = cc
+      go (Unwinding code es ∷ ls) at items undos good = cc
+      go (Dying o ∷ ls) at items undos good = subst (λ l. Keeps p t (step_task p c s l)) (sym at) (going_keeps p t s o ls good items undos)
+      go (Dispatching d ∷ ls) at items undos good = cc
 
   of_dispatch : IsWired p → IsTyped p t → (d : Dispatch) (ts : List Task) → s.tasks ≡ Dispatched d ∷ ts → WellTyped p t s → Keeps p t (step_task p c s s.tasks)
   of_dispatch wired typed d ts e w = by_layers (Dispatched d ∷ ts) e go w
     where
-      go : (ls : List Layer) → Dispatched d ∷ ts ≡ tasks_of ls → s.items ≡ items_of ls → Good p t s.cells ls → Keeps p t (step_task p c s (Dispatched d ∷ ts))
-      go [] at items good = cc
-      go (Method fr' sh ∷ ls) at items good = cc
-      go (Mark gv ∷ ls) at items good = cc
-      go (Dying o ∷ ls) at items good = cc
-      go (Dispatching w ∷ ls) at items good = let same : d ≡ w = cc in subst (λ x. WellTyped p t (dispatch_ends p x s)) (sym same) (dispatch_keeps p t wired typed s w ls good items)
+      go : (ls : List Layer) → Dispatched d ∷ ts ≡ tasks_of ls → forms s.items ≡ items_of ls → AllUndo p s.items → Good p t s.cells ls → Keeps p t (step_task p c s (Dispatched d ∷ ts))
+      go [] at items undos good = cc
+      go (Method fr' sh ∷ ls) at items undos good = cc
+      go (Mark gv ∷ ls) at items undos good = cc
+      go (Unwinding code es ∷ ls) at items undos good = cc
+      go (Dying o ∷ ls) at items undos good = cc
+      go (Dispatching w ∷ ls) at items undos good = let same : d ≡ w = cc in subst (λ x. WellTyped p t (dispatch_ends p x s)) (sym same) (dispatch_keeps p t wired typed s w ls good items)
+
+  of_unwinding : IsWired p → IsTyped p t → (code : ℤ) (ts : List Task) → s.tasks ≡ Unwind code ∷ ts → WellTyped p t s → Keeps p t (step_task p c s s.tasks)
+  of_unwinding wired typed code ts e w = by_layers (Unwind code ∷ ts) e go w
+    where
+      go : (ls : List Layer) → Unwind code ∷ ts ≡ tasks_of ls → forms s.items ≡ items_of ls → AllUndo p s.items → Good p t s.cells ls → Keeps p t (step_task p c s (Unwind code ∷ ts))
+      go [] at items undos good = cc
+      go (Method fr' sh ∷ ls) at items undos good = cc
+      go (Mark gv ∷ ls) at items undos good = cc
+      go (Dying o ∷ ls) at items undos good = cc
+      go (Unwinding x es ∷ ls) at items undos good = subst (λ l. Keeps p t (step_task p c s l)) (sym at) (unwinds p t wired typed s x es ls items undos good)
+      go (Dispatching d ∷ ls) at items undos good = cc
 
   -- a trap is never on top
   of_any : IsWired p → IsTyped p t → named s.cells c.name ≡ None → (ts : List Task) → s.tasks ≡ ts → WellTyped p t s → Keeps p t (step_task p c s s.tasks)
   of_any wired typed unused [] e w = subst (λ l. Keeps p t (step_task p c s l)) (sym e) w
   of_any wired typed unused (Run fr ∷ ts) e w = of_method wired typed unused fr ts e w
   of_any wired typed unused (Destroy ∷ ts) e w = of_going ts e w
+  of_any wired typed unused (Unwind code ∷ ts) e w = of_unwinding wired typed code ts e w
   of_any wired typed unused (Dispatched d ∷ ts) e w = of_dispatch wired typed d ts e w
   of_any wired typed unused (Trapped ∷ ts) e w = subst (λ l. Keeps p t (step_task p c s l)) (sym e) w
 
@@ -146,6 +176,9 @@ move_keeps p t wired typed c s fr ts w e unused = of_method p t c (counted p s) 
 
 pub destruction_keeps : (p : Image) (t : Typing) (c : Choice) (s : State) (ts : List Task) → WellTyped p t s → s.tasks ≡ Destroy ∷ ts → Keeps p t (step p c s)
 destruction_keeps p t c s ts w e = of_going p t c (counted p s) ts e (counted_well p t s w)
+
+pub unwinding_keeps : (p : Image) (t : Typing) → IsWired p → IsTyped p t → (c : Choice) (s : State) (code : ℤ) (ts : List Task) → WellTyped p t s → s.tasks ≡ Unwind code ∷ ts → Keeps p t (step p c s)
+unwinding_keeps p t wired typed c s code ts w e = of_unwinding p t c (counted p s) wired typed code ts e (counted_well p t s w)
 
 pub turn_keeps : (p : Image) (t : Typing) → IsWired p → IsTyped p t → (c : Choice) (s : State) (d : Dispatch) (ts : List Task) → WellTyped p t s → s.tasks ≡ Dispatched d ∷ ts → Keeps p t (step p c s)
 turn_keeps p t wired typed c s d ts w e = of_dispatch p t c (counted p s) wired typed d ts e (counted_well p t s w)

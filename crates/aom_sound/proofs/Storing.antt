@@ -5,7 +5,7 @@ use Rattle.aom_shape.specs.Shape.{Shape}
 use Rattle.aom_shape.specs.Typing.{Typing}
 use Rattle.aom_sound.proofs.Claimed.{claim_rel, fits_age}
 use Rattle.aom_sound.proofs.Straight.{Fitted}
-use Rattle.aom_sound.specs.Claims.{Dispatching, Dying, Layer, Mark, Method, claim, declared, declared_field}
+use Rattle.aom_sound.specs.Claims.{Dispatching, Dying, Layer, Mark, Method, Unwinding, claim, declared, declared_field}
 use Rattle.aom_sound.specs.Places.{Cell, Elsewhere, Entry, Field, Going, Place, Register, Root, Tidy, held, named, same_place, set_word_field}
 use Rattle.aom_sound.specs.State.{AtRoot, Frame, Home, Inside, Static}
 use Rattle.aom_sound.specs.WellTyped.{Back, Fits, IsHoused, Stack}
@@ -53,6 +53,7 @@ module _ (p : Image) (t : Typing) (cs cs' : List Cell) (alike : Alike cs cs') wh
   stack_alike (Mark gv ∷ ls) back s = (s.0, stack_alike ls _ s.1)
   stack_alike (Dying o ∷ ls) back s = ((alike.named_so o.name ∙ s.0.0, alike.held_so _ ∙ s.0.1), s.1, stack_alike ls _ s.2)
   stack_alike (Dispatching d ∷ ls) back s = s
+  stack_alike (Unwinding code es ∷ ls) back s = (s.0, stack_alike ls _ s.1)
 
   fits_alike : (ls : List Layer) (r : Place) → Fits p (held cs) (held cs r) (claim p (declared p cs) ls r) → Fits p (held cs') (held cs' r) (claim p (declared p cs') ls r)
   fits_alike ls r f =

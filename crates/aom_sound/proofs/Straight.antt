@@ -1,5 +1,5 @@
 -- The laws of the instructions that stay in their method.
-use Rattle.std.proofs.Common.{Bool, List, None, Option, Some, ap, cond, false, length, refl, subst, suc, sym, true, zero, ℕ, ℤ, ◌&&◌, ◌==◌, ◌∙◌, ◌∷◌, ◌≡◌}
+use Rattle.std.proofs.Common.{Bool, List, None, Option, Some, ap, arith, cond, false, length, refl, subst, suc, sym, true, zero, ℕ, ℤ, ◌&&◌, ◌==◌, ◌∙◌, ◌∷◌, ◌≡◌}
 use Rattle.std.proofs.lemmas.Bool.{eq-eqb, eqb-true, ne_eqb, true≢false}
 use Rattle.std.specs.Prelude.{is_some}
 use Rattle.aom_image.specs.Image.{Image}
@@ -20,17 +20,18 @@ use Rattle.aom_shape.specs.declared.kind.Kind.TheVariants.{Maybe, Null, Own, Uns
 use Rattle.aom_sound.proofs.Claimed.{NoFieldHere, Outside, claim-set_register, claim_frame, claim_from, claim_ready, claim_weaker, declared_moved, fits_weaker, holds_moved, keep_fits, outside_differs, stack_moved, word_fits_weaker}
 use Rattle.aom_sound.proofs.Maps.{at-put_at, held_moved, one_place, same_place-true, tidy_moved}
 use Rattle.aom_sound.proofs.Things.{stands_along, stands_same}
-use Rattle.aom_sound.specs.Claims.{Layer, Method, claim, declared, home_claim, items_of, objects, root_claim, tasks_of}
+use Rattle.aom_sound.specs.Claims.{Layer, Method, claim, declared, forms, home_claim, items_of, objects, root_claim, tasks_of}
 use Rattle.aom_sound.specs.Moves.{does, needs}
 use Rattle.aom_sound.specs.Objects.{is_declared_thing, is_thing}
 use Rattle.aom_sound.specs.Places.{Cell, Elsewhere, Field, Object, Place, Register, Root, Tidy, changed, held, moved, same_place}
 use Rattle.aom_sound.specs.State.{AtRoot, Choice, Frame, Home, Inside, Run, State, Static, field_place, home_holder, next, set_word, thing_holder, word}
-use Rattle.aom_sound.specs.WellTyped.{Fits, Frames, Good, Holds, IsApart, IsHoused, IsNoFieldOf, Returns, Stack, WellTyped, WordFits}
+use Rattle.aom_sound.specs.WellTyped.{AllUndo, Fits, Frames, Good, Holds, IsApart, IsHoused, IsNoFieldOf, Returns, Stack, WellTyped, WordFits}
 
 -- a state whose top task is a method
 pub record At (p : Image) (t : Typing) (s : State) (fr : Frame) (sh : Shape) (ls : List Layer) : Type 0 where
   pub tasks : s.tasks ≡ Run fr ∷ tasks_of ls
-  pub items : s.items ≡ items_of (Method fr sh ∷ ls)
+  pub items : forms s.items ≡ items_of (Method fr sh ∷ ls)
+  pub undos : AllUndo p s.items
   pub good : Good p t s.cells (Method fr sh ∷ ls)
 
 -- what a register is, on either side
@@ -146,6 +147,10 @@ words_set words sh a w k h g i =
     go true = g
     go false = h i
 
+-- a register that owns nothing is as it was where the one before it is written
+pub next_unowning : (ks : List Kind) (c : ℕ) (k : Kind) → is_unowning (at Unset ks (suc c)) ≡ true → is_unowning (at Unset (put_at Unset ks c k) (suc c)) ≡ true
+next_unowning ks c k u = ap is_unowning (at-put_at Unset ks c (suc c) k ∙ ap (λ b. cond b k (at Unset ks (suc c))) (ne_eqb c (suc c) (λ e. absurd (omega arith)))) ∙ u
+
 -- a register without a word becomes null
 pub words_null : (words : List (Option ℤ)) (sh : Shape) (a : ℕ) → ((i : ℕ) → WordFits (at None words i) (register sh i)) → at None words a ≡ None → (i : ℕ) → WordFits (at None words i) (register (set_register sh a Null) i)
 words_null words sh a h e i = subst (λ x. WordFits (at None words i) x) (sym (at-put_at Unset sh.registers a i Null)) (go (a == i) refl)
@@ -204,11 +209,12 @@ module _ (p : Image) (t : Typing) (c : Choice) (s : State) (fr : Frame) (sh : Sh
   Law i = AllTrue (rule_needs p fr.method fr.place sh i) → AllLead t fr.method (flows p fr.method fr.place sh i) → AllTrue (needs p c fr (tasks_of ls) s i) × WellTyped p t (does p c fr (tasks_of ls) s i)
 
   -- a well-typed state from its parts
-  pub well : (s' : State) (fr' : Frame) (sh' : Shape) → s'.tasks ≡ Run fr' ∷ tasks_of ls → s'.items ≡ objects sh'.entries (items_of ls) → (after : Shape) × Good p t s'.cells (Method fr' after ∷ ls) × (after.entries ≡ sh'.entries) → WellTyped p t s'
-  well s' fr' sh' tasks items g = record {
+  pub well : (s' : State) (fr' : Frame) (sh' : Shape) → s'.tasks ≡ Run fr' ∷ tasks_of ls → forms s'.items ≡ objects sh'.entries (items_of ls) → AllUndo p s'.items → (after : Shape) × Good p t s'.cells (Method fr' after ∷ ls) × (after.entries ≡ sh'.entries) → WellTyped p t s'
+  well s' fr' sh' tasks items undos g = record {
     layers = Method fr' g.0 ∷ ls;
     tasks = tasks;
     items = items ∙ ap (λ es. objects es (items_of ls)) (sym g.2);
+    undos = undos;
     good = g.1;
   }
 

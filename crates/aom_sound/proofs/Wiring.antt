@@ -1,28 +1,32 @@
 -- What a linked image gives the laws: main and the destructors are as they must be, what is called does or constructs, and what is owned is of a class before its owner's.
-use Rattle.std.proofs.Common.{List, suc, zero, None, Option, Some, [], ap, false, length, refl, subst, true, ℕ, ◌<◌, ◌∙◌, ◌∷◌, ◌≡◌, IfSome, IsSome, IsTrue, Bool, slice_get, inl, inr, arith}
-use Rattle.std.specs.Prelude.{◌⊎◌, ◌||◌, is_none}
+use Rattle.std.proofs.Common.{Bool, IfSome, IsSome, IsTrue, List, None, Option, Some, [], ap, arith, false, inl, inr, length, refl, slice_get, subst, suc, true, zero, ℕ, ◌<◌, ◌∙◌, ◌∷◌, ◌≡◌}
+use Rattle.std.specs.Prelude.{is_none, ◌||◌, ◌⊎◌}
 use Rattle.std.proofs.lemmas.Option.{slice_get_within}
 use Rattle.aom_image.specs.Image.{Image}
-use Rattle.aom_image.specs.Views.{arguments_in, arguments_of, class_at, class_in, fields_in, gives_in, gives_of, instr_at, leaves, leaves_in, method_at, method_class, method_role, role_in}
+use Rattle.aom_image.specs.Views.{arguments_in, arguments_of, class_at, class_in, fields_in, gives_in, gives_of, instr_at, is_quiet, leaves, leaves_in, method_at, method_class, method_role, quiet_in, role_in}
 use Rattle.aom_image.specs.WellFormed.{MethodFits, WellFormed}
 use Rattle.aom_image.specs.declared.class.ClassDecl.{ClassDecl}
-use Rattle.aom_image.specs.declared.instr.Instr.TheVariants.{Call}
+use Rattle.aom_image.specs.declared.instr.Instr.TheVariants.{Call, PushOperation, Trap}
 use Rattle.aom_image.specs.declared.instr.Target.{Target}
 use Rattle.aom_image.specs.declared.method.Gives.{Gives}
 use Rattle.aom_image.specs.declared.method.Gives.TheVariants.{Left, Maybe as A_maybe, Nothing, Own as An_own, Word as A_word}
 use Rattle.aom_image.specs.declared.method.Method.{Method as Method_declared}
 use Rattle.aom_image.specs.declared.method.Role.{Role}
-use Rattle.aom_image.specs.declared.method.Role.TheVariants.{Construct, Destruct, Do, Main}
+use Rattle.aom_image.specs.declared.method.Role.TheVariants.{Construct, Destruct, Do, Main, Undo}
 use Rattle.aom_image.specs.declared.method.Thing.TheVariants.{Object as An_object_of}
 use Rattle.aom_roles.specs.Classes.{ClassOrdered, OwnsBefore, kind_in}
-use Rattle.aom_roles.specs.Shapes.{HasShape, IsDestruct, IsMain, IsShaped, NamesRoles, gives_nothing, is_role, kind_of}
+use Rattle.aom_roles.specs.Shapes.{HasShape, IsDestruct, IsMain, IsShaped, IsTrapped as ShapedTrapped, IsUndo as ShapedUndo, NamesRoles, gives_left, gives_nothing, is_role, is_word, kind_of}
 use Rattle.aom_classes.specs.Linked.{IsLinked}
 use Rattle.aom_classes.specs.Needs.{NeedsMet}
 use Rattle.aom_classes.specs.Roles.{main_of, role_of, same_role}
 use Rattle.aom_classes.proofs.Facts.{all_there, at_place, of_method}
 use Rattle.aom_classes.proofs.Playing.{main_found, role_found, same_roles}
 use Rattle.aom_shape.specs.Things.{Member, field_thing}
-use Rattle.aom_sound.specs.Laws.{IsCalled, IsWired}
+use Rattle.aom_sound.specs.Laws.{IsCalled, IsTrapped, IsWired}
+use Rattle.aom_sound.specs.WellTyped.{IsUndo, LeavesNone}
+use Rattle.aom_image.specs.declared.method.Argument.{Argument}
+use Rattle.aom_image.specs.declared.method.Argument.TheVariants.{Own as Takes_own, Word as Takes_word}
+use Rattle.std.specs.List.{list_all}
 
 nothing_given : (g : Gives) → gives_nothing g ≡ true → g ≡ Nothing
 unfolding gives_nothing
@@ -35,6 +39,20 @@ nothing_given (Left c) e = cc
 empty_list : {A : Type 0} (xs : List A) → length xs ≡ 0 → xs ≡ []
 empty_list [] e = refl
 empty_list (x ∷ xs) e = cc
+
+one_word : (xs : List Argument) → length xs ≡ 1 → IsTrue (list_all is_word xs) → xs ≡ Takes_word ∷ []
+unfolding is_word
+one_word [] e w = cc
+one_word (Takes_word ∷ xs) e w = ap (λ ys. Takes_word ∷ ys) (empty_list xs cc)
+one_word (Takes_own t ∷ xs) e w = cc
+
+leaves_none : (g : Gives) → gives_left g ≡ false → LeavesNone g
+unfolding gives_left
+leaves_none Nothing e = tt
+leaves_none A_word e = tt
+leaves_none (An_own t) e = tt
+leaves_none (A_maybe t) e = tt
+leaves_none (Left c) e = cc
 
 one_of : (a b : Bool) → IsTrue (a || b) → IsTrue a ⊎ IsTrue b
 one_of true b h = inl refl
@@ -87,8 +105,8 @@ module _ (p : Image) (formed : WellFormed p) (linked : IsLinked p) where
           let s : IsMain (kind_of p d.class) d = of_role m d Main f role in
           of_none p d.class fits.class s.of
 
-  destructor_is : (c m : ℕ) → role_of p c Destruct ≡ Some m → (IsSome (method_at p m)) × (method_role p m ≡ Some Destruct) × (method_class p m ≡ Some c) × (leaves p m ≡ false) × (gives_of p m ≡ Nothing) × (arguments_of p m ≡ [])
-  unfolding role_in class_in leaves_in gives_in arguments_in
+  destructor_is : (c m : ℕ) → role_of p c Destruct ≡ Some m → (IsSome (method_at p m)) × (method_role p m ≡ Some Destruct) × (method_class p m ≡ Some c) × (leaves p m ≡ false) × (is_quiet p m ≡ true) × (gives_of p m ≡ Nothing) × (arguments_of p m ≡ [])
+  unfolding role_in class_in leaves_in quiet_in gives_in arguments_in
   destructor_is c m e =
       let d = role_found p c m Destruct e in
       let s : IsDestruct (kind_of p d.0.class) d.0 = of_role m d.0 Destruct d.1 d.3 in (
@@ -96,6 +114,7 @@ module _ (p : Image) (formed : WellFormed p) (linked : IsLinked p) where
         ap role_in d.1 ∙ ap (λ r. Some r) d.3,
         ap class_in d.1 ∙ d.2,
         ap leaves_in d.1 ∙ (shaped m d.0 d.1).flags.quiet s.flags,
+        ap quiet_in d.1 ∙ s.flags,
         ap gives_in d.1 ∙ nothing_given d.0.gives s.gives,
         ap arguments_in d.1 ∙ empty_list d.0.arguments s.takes.count,
       )
@@ -116,6 +135,39 @@ module _ (p : Image) (formed : WellFormed p) (linked : IsLinked p) where
           | inr h ↦ inr (ap role_in f ∙ ap (λ r. Some r) (same_roles d.role Construct h))
         ];
       }
+
+  trapped_is : (m place : ℕ) (target : Target) (m' first c : ℕ) → instr_at p m place ≡ Some (Trap target m' first c) → IsTrapped p m'
+  unfolding role_in is_role
+  trapped_is m place target m' first c e =
+      let w = of_method p m place (Trap target m' first c) e in
+      let names : ShapedTrapped p m' = all_there (NamesRoles p) w.0.code place (Trap target m' first c) (shaped m w.0 w.1).code w.2 in
+      go (method_at p m') refl names.role (leaves_none (gives_of p m') names.gives)
+    where
+      go : (o : Option Method_declared) → method_at p m' ≡ o → IsTrue (is_role Do (role_in o)) → LeavesNone (gives_of p m') → IsTrapped p m'
+      go None f names gives = cc
+      go (Some d) f names gives = record { there = rw f refl; role = ap role_in f ∙ ap (λ r. Some r) (same_roles d.role Do names); gives = gives }
+
+  pushed_is : (m place a m' : ℕ) → instr_at p m place ≡ Some (PushOperation a m') → IsUndo p m'
+  unfolding role_in is_role class_in leaves_in quiet_in gives_in arguments_in method_at
+  pushed_is m place a m' e =
+      let w = of_method p m place (PushOperation a m') e in
+      let names = all_there (NamesRoles p) w.0.code place (PushOperation a m') (shaped m w.0 w.1).code w.2 in
+      go (method_at p m') refl names
+    where
+      go : (o : Option Method_declared) → method_at p m' ≡ o → IsTrue (is_role Undo (role_in o)) → IsUndo p m'
+      go None f names = cc
+      go (Some d) f names =
+          let role : d.role ≡ Undo = same_roles d.role Undo names in
+          let fits = all_there (MethodFits (length p.classes) (length p.methods)) p.methods m' d formed.methods.each f in
+          let u : ShapedUndo (kind_of p d.class) d = of_role m' d Undo f role in record {
+            there = rw f refl;
+            role = ap role_in f ∙ ap (λ r. Some r) role;
+            class = ap class_in f ∙ of_none p d.class fits.class u.of;
+            leaves = ap leaves_in f ∙ (shaped m' d f).flags.quiet u.flags;
+            quiet = ap quiet_in f ∙ u.flags;
+            gives = ap gives_in f ∙ nothing_given d.gives u.gives;
+            arguments = ap arguments_in f ∙ one_word d.arguments u.takes.count u.takes.words;
+          }
 
   -- a class without a destructor owns nothing
   owns_none : (c : ℕ) → role_of p c Destruct ≡ None → (f : ℕ) → field_thing p (Member c) f ≡ None
@@ -147,6 +199,8 @@ linked_is_wired p formed linked = record {
   destructor = destructor_is p formed linked;
   static_main = static_main p formed linked;
   called = called_is p formed linked;
+  trapped = trapped_is p formed linked;
+  pushed = pushed_is p formed linked;
   no_destructor = owns_none p formed linked;
   ordered = owned_before p formed linked;
 }

@@ -19,7 +19,7 @@ use Rattle.aom_sound.specs.Moves.{does}
 use Rattle.aom_sound.specs.Places.{Register, held}
 use Rattle.aom_sound.specs.State.{Choice, Frame, State, home_holder, next, set_word, word}
 use Rattle.aom_sound.specs.WellTyped.{WellTyped, WordFits}
-use Rattle.aom_sound.specs.Words.{does_binary, does_compare, does_const, needs_binary, needs_compare, loaded, read, stored}
+use Rattle.aom_sound.specs.Words.{does_binary, does_compare, does_const, loaded, needs_binary, needs_compare, read, stored}
 
 is_read : (w : Option ℤ) (k : Kind) → is_word k ≡ true → WordFits w k → is_some w ≡ true
 is_read w Unset e f = cc
@@ -43,7 +43,7 @@ module _ (p : Image) (t : Typing) (c : Choice) (s : State) (fr : Frame) (sh : Sh
       let fr' = set_word fr a (Some w) in
       let sh' = set_register sh a Word in
       let h = write p t s.cells fr sh ls a (Some w) Word (fitted p t s.cells fr sh ls at_hand.good) u (λ h. tt) tt in
-      well p t c s fr sh ls at_hand (does_const fr (tasks_of ls) s a w) (next fr') sh' refl at_hand.items (settle p t s.cells (next fr') sh' ls (stepped p t s.cells fr' sh' ls h) leads.0)
+      well p t c s fr sh ls at_hand (does_const fr (tasks_of ls) s a w) (next fr') sh' refl at_hand.items at_hand.undos (settle p t s.cells (next fr') sh' ls (stepped p t s.cells fr' sh' ls h) leads.0)
 
   pub law_const : (a : ℕ) (w : ℤ) → Law p t c s fr sh ls at_hand (Const a w)
   law_const a w n leads = ((unowned a n.0, tt), writes_word a w n.0 leads)
@@ -58,7 +58,7 @@ module _ (p : Image) (t : Typing) (c : Choice) (s : State) (fr : Frame) (sh : Sh
   law_compare test a b to n leads = ((has_word a n.0, (has_word b n.1.0, tt)), goes_either p t c s fr sh ls at_hand to leads (test (read fr (tasks_of ls) s a) (read fr (tasks_of ls) s b)))
 
   pub law_print : (a : ℕ) → Law p t c s fr sh ls at_hand (Print a)
-  law_print a n leads = ((has_word a n.0, tt), well p t c s fr sh ls at_hand (does p c fr (tasks_of ls) s (Print a)) (next fr) sh refl at_hand.items (settle p t s.cells (next fr) sh ls (stepped p t s.cells fr sh ls (fitted p t s.cells fr sh ls at_hand.good)) leads.0))
+  law_print a n leads = ((has_word a n.0, tt), well p t c s fr sh ls at_hand (does p c fr (tasks_of ls) s (Print a)) (next fr) sh refl at_hand.items at_hand.undos (settle p t s.cells (next fr) sh ls (stepped p t s.cells fr sh ls (fitted p t s.cells fr sh ls at_hand.good)) leads.0))
 
   -- what the frame works on has the word that the rule speaks of
   has_word_field : (w : ℕ) → nat_lt w (word_count p (holder_of p fr.method)) ≡ true → nat_lt w (word_count p (home_holder fr.home)) ≡ true
@@ -72,4 +72,4 @@ module _ (p : Image) (t : Typing) (c : Choice) (s : State) (fr : Frame) (sh : Sh
       let v = read fr (tasks_of ls) s b in
       let cs = stored s.cells fr.home w v in
       let h = stepped p t cs fr sh ls (stored_fitted p t s.cells fr.home w v fr sh ls (fitted p t s.cells fr sh ls at_hand.good)) in
-      ((has_word_field w n.0, (has_word b n.1.0, tt)), well p t c s fr sh ls at_hand (does p c fr (tasks_of ls) s (Store w b)) (next fr) sh refl at_hand.items (settle p t cs (next fr) sh ls h leads.0))
+      ((has_word_field w n.0, (has_word b n.1.0, tt)), well p t c s fr sh ls at_hand (does p c fr (tasks_of ls) s (Store w b)) (next fr) sh refl at_hand.items at_hand.undos (settle p t cs (next fr) sh ls h leads.0))

@@ -1,5 +1,5 @@
 -- Calls, returns, and `stop`.
-use Rattle.std.specs.Prelude.{ℕ, suc, ◌+◌, ℤ, pos, Bool, true, false, not, ◌&&◌, ◌==◌, nat_le, List, [], ◌∷◌, ◌++◌, Option, Some, None, is_some, is_none, length}
+use Rattle.std.specs.Prelude.{ℕ, zero, suc, ◌+◌, ◌-◌, ℤ, pos, Bool, true, false, not, ◌&&◌, ◌==◌, nat_le, List, [], ◌∷◌, ◌++◌, Option, Some, None, is_some, is_none, length}
 use Rattle.aom_image.specs.Image.{Image}
 use Rattle.aom_image.specs.Views.{instr_at, arguments_of, gives_of, method_class}
 use Rattle.aom_image.specs.declared.instr.Instr.{Instr}
@@ -15,7 +15,7 @@ use Rattle.aom_image.specs.declared.method.Thing.TheVariants.{Object as An_objec
 use Rattle.aom_shape.specs.Calls.{is_among}
 use Rattle.aom_shape.specs.Things.{Holder, Nobody, Program, Member, field_thing, stands_for}
 use Rattle.aom_sound.specs.Places.{Object, Place, Register, Entry, Field, Going, Elsewhere, Cell, held, moved}
-use Rattle.aom_sound.specs.State.{Home, Static, AtRoot, Inside, Frame, Task, Run, Trapped, Destroy, Dispatched, Item, State, Need, Unbalanced, PopUnder, Orphan, NullOrDead, WrongKind, word, set_word, next, field_place, home_holder, frame_of}
+use Rattle.aom_sound.specs.State.{Home, Static, AtRoot, Inside, Frame, Task, Run, Trapped, Destroy, Unwind, Dispatched, Item, An_object, An_operation, A_mark, State, Need, Unbalanced, PopUnder, Orphan, NullOrDead, WrongKind, word, set_word, next, field_place, home_holder, frame_of}
 use Rattle.aom_sound.specs.Destruction.{owns_nothing}
 use Rattle.aom_sound.specs.Words.{here, go_on, needs_word}
 use Rattle.aom_sound.specs.Objects.{is_thing}
@@ -45,6 +45,19 @@ abbrev pub own_home : Option ℕ → Home → Home
 own_home None home = Static
 own_home (Some c) home = home
 
+-- an entry counted from the last, with no mark over it
+abbrev pub entry_at : List Item → ℕ → Option Item
+entry_at [] k = None
+entry_at (An_object ∷ items) zero = Some An_object
+entry_at (An_object ∷ items) (suc k) = entry_at items k
+entry_at (An_operation m w ∷ items) zero = Some (An_operation m w)
+entry_at (An_operation m w ∷ items) (suc k) = entry_at items k
+entry_at (A_mark ∷ items) k = None
+
+-- its place
+abbrev pub entry_place : List Item → ℕ → Place
+entry_place items k = Entry (length items - suc k)
+
 module _ (p : Image) (fr : Frame) (ts : List Task) (s : State) where
   -- a register owns what may stand for that thing
   abbrev pub needs_own : Thing → ℕ → List Need
@@ -64,14 +77,15 @@ module _ (p : Image) (fr : Frame) (ts : List Task) (s : State) where
   needs_target (On_field f) class first count =
       (is_some (field_thing p (home_holder fr.home) f), WrongKind)
       ∷ needs_target_object p class (held s.cells (field_place fr.home f))
-  -- comes with the cleanup stack
-  needs_target (On_entry k) class first count = (false, PopUnder) ∷ []
+  needs_target (On_entry k) class first count =
+      (is_some (entry_at s.items k), PopUnder)
+      ∷ needs_target_object p class (held s.cells (entry_place s.items k))
 
   abbrev pub target_home : Target → Option ℕ → Home
   target_home This class = own_home class fr.home
   target_home (On_register r) class = home_at (held s.cells (here fr ts s r)) (here fr ts s r)
   target_home (On_field f) class = home_at (held s.cells (field_place fr.home f)) (field_place fr.home f)
-  target_home (On_entry k) class = Static
+  target_home (On_entry k) class = home_at (held s.cells (entry_place s.items k)) (entry_place s.items k)
 
   -- a register is passed on
   abbrev pub needs_argument : Argument → ℕ → List Need
@@ -89,11 +103,11 @@ module _ (p : Image) (fr : Frame) (ts : List Task) (s : State) where
   passed_words (Takes_word ∷ xs) first = word fr first ∷ passed_words xs (suc first)
   passed_words (Takes_own t ∷ xs) first = None ∷ passed_words xs (suc first)
 
-  -- objects move to the registers of the method above, from the second number on
-  abbrev pub passed_cells : List Argument → ℕ → ℕ → List Cell → List Cell
-  passed_cells [] first to cs = cs
-  passed_cells (Takes_word ∷ xs) first to cs = passed_cells xs (suc first) (suc to) cs
-  passed_cells (Takes_own t ∷ xs) first to cs = passed_cells xs (suc first) (suc to) (moved (here fr ts s first) (Register (length (Run fr ∷ ts)) to) cs)
+  -- objects move to the registers of a method at that depth, from the second number on
+  abbrev pub passed_cells : ℕ → List Argument → ℕ → ℕ → List Cell → List Cell
+  passed_cells depth [] first to cs = cs
+  passed_cells depth (Takes_word ∷ xs) first to cs = passed_cells depth xs (suc first) (suc to) cs
+  passed_cells depth (Takes_own t ∷ xs) first to cs = passed_cells depth xs (suc first) (suc to) (moved (here fr ts s first) (Register depth to) cs)
 
   -- what the result comes to owns nothing
   abbrev pub needs_result : Gives → List Cell → ℕ → List Need
@@ -101,23 +115,52 @@ module _ (p : Image) (fr : Frame) (ts : List Task) (s : State) where
   needs_result A_word cs c = (is_none (held cs (here fr ts s c)), Orphan) ∷ []
   needs_result (An_own t) cs c = (is_none (held cs (here fr ts s c)), Orphan) ∷ []
   needs_result (A_maybe t) cs c = (is_none (held cs (here fr ts s c)), Orphan) ∷ []
-  -- comes with the cleanup stack
-  needs_result (Left x) cs c = (false, Unbalanced) ∷ []
+  needs_result (Left x) cs c = []
 
-  -- the target, the arguments, and once they are passed the register of the result
-  abbrev pub needs_call : Target → ℕ → ℕ → ℕ → List Need
-  needs_call target m first c =
+  -- the tasks over which a called method stands, and those over which it stands under a trap
+  abbrev pub over_caller : List Task
+  over_caller = Run fr ∷ ts
+
+  abbrev pub over_trap : List Task
+  over_trap = Trapped ∷ Run fr ∷ ts
+
+  -- the cells once the arguments of a method over these tasks are passed
+  abbrev pub given_cells : List Task → ℕ → ℕ → List Cell
+  given_cells over m first = passed_cells (length over) (arguments_of p m) first 0 s.cells
+
+  -- the target, and the arguments
+  abbrev pub needs_entering : Target → ℕ → ℕ → List Need → List Need
+  needs_entering target m first more =
       needs_target target (method_class p m) first (length (arguments_of p m))
       ++ ((nat_le (first + length (arguments_of p m)) 16, WrongKind)
       ∷ (needs_each (arguments_of p m) first
-      ++ needs_result (gives_of p m) (passed_cells (arguments_of p m) first 0 s.cells) c))
+      ++ more))
 
-  -- the method called, with its arguments in its first registers
-  abbrev pub entered : Target → ℕ → ℕ → Frame
-  entered target m first = record (frame_of m (target_home target (method_class p m)) (length s.items)) { words = passed_words (arguments_of p m) first }
+  -- and once they are passed the register of the result
+  abbrev pub needs_call : Target → ℕ → ℕ → ℕ → List Need
+  needs_call target m first c = needs_entering target m first (needs_result (gives_of p m) (given_cells over_caller m first) c)
+
+  -- under a trap the code has a register too
+  abbrev pub needs_trap : Target → ℕ → ℕ → ℕ → List Need
+  needs_trap target m first c =
+      needs_entering target m first
+      (needs_result (gives_of p m) (given_cells over_trap m first) c ++ ((is_none (held (given_cells over_trap m first) (here fr ts s (suc c))), Orphan) ∷ []))
+
+  -- the method called, with its arguments in its first registers, at that height of the cleanup stack
+  abbrev pub entered : Target → ℕ → ℕ → ℕ → Frame
+  entered target m first height = record (frame_of m (target_home target (method_class p m)) height) { words = passed_words (arguments_of p m) first }
 
   abbrev pub does_call : Target → ℕ → ℕ → State
-  does_call target m first = record s { cells = passed_cells (arguments_of p m) first 0 s.cells; tasks = Run (entered target m first) ∷ Run fr ∷ ts }
+  does_call target m first = record s { cells = given_cells over_caller m first; tasks = Run (entered target m first (length s.items)) ∷ over_caller }
+
+  -- the trap's mark lies on the cleanup stack
+  abbrev pub does_trap : Target → ℕ → ℕ → State
+  does_trap target m first =
+      record s {
+        cells = given_cells over_trap m first;
+        tasks = Run (entered target m first (length (A_mark ∷ s.items))) ∷ over_trap;
+        items = A_mark ∷ s.items;
+      }
 
 -- the register of a call's result, and what the called method gives
 abbrev pub result_register : Option Instr → ℕ
@@ -167,8 +210,7 @@ module _ (p : Image) (fr : Frame) (ts : List Task) (s : State) where
   result_needs A_word a = (is_some (word fr a), WrongKind) ∷ []
   result_needs (An_own t) a = needs_own p fr ts s t a
   result_needs (A_maybe t) a = (is_none (word fr a), WrongKind) ∷ (is_thing p t (held s.cells (here fr ts s a)), WrongKind) ∷ []
-  -- comes with the cleanup stack
-  result_needs (Left c) a = (false, Unbalanced) ∷ []
+  result_needs (Left x) a = []
 
   -- the cells once the result has moved to that register of the frame below
   abbrev pub result_cells : Gives → ℕ → ℕ → List Task → List Cell
@@ -190,15 +232,30 @@ module _ (p : Image) (fr : Frame) (ts : List Task) (s : State) where
   end_needs (Destroy ∷ below) = (owns_nothing s.cells (home_name fr.home), Orphan) ∷ []
   end_needs _ = []
 
-  -- the cleanup stack has the height that it had, and nothing but the result is owned
+  -- one more item lies there than at first, an object of that class
+  abbrev pub leaves_object : ℕ → List Item → Bool
+  leaves_object x [] = false
+  leaves_object x (An_object ∷ items) = (length items == fr.height) && (is_some (held s.cells (Entry (length items))) && is_thing p (An_object_of x) (held s.cells (Entry (length items))))
+  leaves_object x (An_operation m w ∷ items) = false
+  leaves_object x (A_mark ∷ items) = false
+
+  -- the cleanup stack has the height that it had, but for what the method leaves there
+  abbrev pub is_level : Gives → Bool
+  is_level Nothing = length s.items == fr.height
+  is_level A_word = length s.items == fr.height
+  is_level (An_own t) = length s.items == fr.height
+  is_level (A_maybe t) = length s.items == fr.height
+  is_level (Left x) = leaves_object x s.items
+
+  -- the cleanup stack is level, and nothing but the result is owned
   abbrev pub needs_return : ℕ → List Need
   needs_return a =
       result_needs (gives_of p fr.method) a
-      ++ ((length s.items == fr.height, Unbalanced)
+      ++ ((is_level (gives_of p fr.method), Unbalanced)
       ∷ (none_owns_but s.cells (length ts) (result_source (gives_of p fr.method) a), Orphan)
       ∷ end_needs ts)
 
-  -- to the method that called, through its trap, to a destruction, or to the dispatch
+  -- to the method that called, through its trap, to a destruction, to an unwinding, or to the dispatch
   abbrev pub returned : Gives → ℕ → List Task → State
   returned g a (Run caller ∷ below) =
       let c = result_register (instr_at p caller.method caller.place) in
@@ -212,6 +269,7 @@ module _ (p : Image) (fr : Frame) (ts : List Task) (s : State) where
       }
   returned g a (Trapped ∷ Dispatched d ∷ below) = record s { tasks = Dispatched d ∷ below; items = below_top s.items }
   returned g a (Destroy ∷ below) = record s { tasks = Destroy ∷ below }
+  returned g a (Unwind code ∷ below) = record s { tasks = Unwind code ∷ below }
   returned g a _ = s
 
   abbrev pub does_return : ℕ → State

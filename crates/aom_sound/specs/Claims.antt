@@ -1,5 +1,5 @@
 -- What is claimed of each place, from the methods at hand and their abstract states.
-use Rattle.std.specs.Prelude.{ℕ, cond, ◌==◌, List, [], ◌∷◌, Option, Some, None, length}
+use Rattle.std.specs.Prelude.{ℕ, ℤ, cond, ◌==◌, map, List, [], ◌∷◌, Option, Some, None, length}
 use Rattle.aom_image.specs.Image.{Image}
 use Rattle.aom_image.specs.declared.method.Gives.{Gives}
 use Rattle.aom_shape.specs.Things.{Program, field_thing}
@@ -7,23 +7,26 @@ use Rattle.aom_shape.specs.Shape.{Shape}
 use Rattle.aom_shape.specs.Kinds.{entry_kind, filled, register, field}
 use Rattle.aom_shape.specs.declared.kind.Age.TheVariants.{Ready}
 use Rattle.aom_shape.specs.declared.kind.Entry.{Entry as Pushed}
+use Rattle.aom_shape.specs.declared.kind.Entry.TheVariants.{Object as Pushed_object, Operation as Pushed_operation}
 use Rattle.aom_shape.specs.declared.kind.Filling.TheVariants.{Perhaps}
 use Rattle.aom_shape.specs.declared.kind.Kind.{Kind}
 use Rattle.aom_shape.specs.declared.kind.Kind.TheVariants.{Null, Own}
 use Rattle.aom_sound.specs.Places.{Place, Register, Entry, Field, Going, Elsewhere, Other, Root, Object, Cell, named}
-use Rattle.aom_sound.specs.State.{Home, Static, AtRoot, Inside, Frame, Dispatch, Of_main, Of_root, Task, Run, Trapped, Destroy, Dispatched, Item, An_object, A_mark, thing_holder}
+use Rattle.aom_sound.specs.State.{Home, Static, AtRoot, Inside, Frame, Dispatch, Of_main, Main_left, Of_root, Task, Run, Trapped, Destroy, Unwind, Dispatched, Item, An_object, An_operation, A_mark, thing_holder}
 
--- what stands behind a task: a method with its abstract state, a trap's mark, a cell that is going, or a dispatch
+-- what stands behind a task: a method with its abstract state, a trap's mark, a cell that is going, a leave with the entries that are still to unwind, or a dispatch
 pub data Layer : Type 0 where
   Method : Frame → Shape → Layer
   Mark : (gives : Gives) → Layer
   Dying : Object → Layer
+  Unwinding : (code : ℤ) (entries : List Pushed) → Layer
   Dispatching : Dispatch → Layer
 
 abbrev pub task_of : Layer → Task
 task_of (Method fr sh) = Run fr
 task_of (Mark gv) = Trapped
 task_of (Dying o) = Destroy
+task_of (Unwinding code es) = Unwind code
 task_of (Dispatching d) = Dispatched d
 
 abbrev pub tasks_of : List Layer → List Task
@@ -34,25 +37,45 @@ abbrev pub entries_of : Layer → List Pushed
 entries_of (Method fr sh) = sh.entries
 entries_of (Mark gv) = []
 entries_of (Dying o) = []
+entries_of (Unwinding code es) = es
 entries_of (Dispatching d) = []
 
--- an item for each entry, over others
-abbrev pub objects : List Pushed → List Item → List Item
-objects [] below = below
-objects (e ∷ es) below = An_object ∷ objects es below
+-- what is known of an item of the cleanup stack
+pub data Form : Type 0 where
+  Object_form : Form
+  Operation_form : Form
+  Mark_form : Form
 
-abbrev pub layer_items : Layer → List Item → List Item
+abbrev pub form : Item → Form
+form An_object = Object_form
+form (An_operation m w) = Operation_form
+form A_mark = Mark_form
+
+abbrev pub forms : List Item → List Form
+forms items = map form items
+
+abbrev pub entry_form : Pushed → Form
+entry_form (Pushed_object c a) = Object_form
+entry_form Pushed_operation = Operation_form
+
+-- an item for each entry, over others
+abbrev pub objects : List Pushed → List Form → List Form
+objects [] below = below
+objects (e ∷ es) below = entry_form e ∷ objects es below
+
+abbrev pub layer_items : Layer → List Form → List Form
 layer_items (Method fr sh) below = objects sh.entries below
-layer_items (Mark gv) below = A_mark ∷ below
+layer_items (Mark gv) below = Mark_form ∷ below
 layer_items (Dying o) below = below
+layer_items (Unwinding code es) below = objects es below
 layer_items (Dispatching d) below = below
 
-abbrev pub items_of : List Layer → List Item
+abbrev pub items_of : List Layer → List Form
 items_of [] = []
 items_of (l ∷ ls) = layer_items l (items_of ls)
 
 -- a claim of each layer goes before those of the layers below it
-abbrev pub entry_claim : List Pushed → List Item → ℕ → Kind → Kind
+abbrev pub entry_claim : List Pushed → List Form → ℕ → Kind → Kind
 entry_claim [] items k below = below
 entry_claim (x ∷ xs) items k below = cond (length (objects xs items) == k) (entry_kind x) (entry_claim xs items k below)
 
@@ -60,6 +83,7 @@ abbrev pub register_claim : Layer → ℕ → ℕ → ℕ → Kind → Kind
 register_claim (Method fr sh) depth f i below = cond (depth == f) (register sh i) below
 register_claim (Mark gv) depth f i below = below
 register_claim (Dying o) depth f i below = below
+register_claim (Unwinding code es) depth f i below = below
 register_claim (Dispatching d) depth f i below = below
 
 abbrev pub home_claim : Image → Home → Shape → ℕ → ℕ → Kind → Kind
@@ -71,12 +95,14 @@ abbrev pub field_claim : Image → Layer → ℕ → ℕ → Kind → Kind
 field_claim p (Method fr sh) n f below = home_claim p fr.home sh n f below
 field_claim p (Mark gv) n f below = below
 field_claim p (Dying o) n f below = cond (o.name == n) Null below
+field_claim p (Unwinding code es) n f below = below
 field_claim p (Dispatching d) n f below = below
 
 abbrev pub going_claim : Layer → ℕ → ℕ → Kind → Kind
 going_claim (Method fr sh) depth k below = below
 going_claim (Mark gv) depth k below = below
 going_claim (Dying o) depth k below = cond (depth == k) (Own o.thing Ready) below
+going_claim (Unwinding code es) depth k below = below
 going_claim (Dispatching d) depth k below = below
 
 abbrev pub root_claim : Image → Home → Shape → Kind → Kind
@@ -88,10 +114,12 @@ abbrev pub other_claim : Image → Layer → Other → Kind → Kind
 other_claim p (Method fr sh) Root below = root_claim p fr.home sh below
 other_claim p (Mark gv) Root below = below
 other_claim p (Dying o) Root below = below
+other_claim p (Unwinding code es) Root below = below
 other_claim p (Dispatching Of_main) Root below = below
+other_claim p (Dispatching (Main_left code)) Root below = below
 other_claim p (Dispatching Of_root) Root below = Null
 
-abbrev pub layer_claim : Image → Layer → ℕ → List Item → Place → Kind → Kind
+abbrev pub layer_claim : Image → Layer → ℕ → List Form → Place → Kind → Kind
 layer_claim p l depth items (Register f i) below = register_claim l depth f i below
 layer_claim p l depth items (Entry k) below = entry_claim (entries_of l) items k below
 layer_claim p l depth items (Field n f) below = field_claim p l n f below

@@ -1,9 +1,9 @@
 -- The laws of the checked machine.
-use Rattle.std.specs.Prelude.{ℕ, false, ◌≡◌, ◌⊎◌, ◌<◌, IsSome, List, [], ◌∷◌, Some, None}
+use Rattle.std.specs.Prelude.{ℕ, ℤ, true, false, ◌≡◌, ◌⊎◌, ◌<◌, IsSome, List, [], ◌∷◌, Some, None}
 use Rattle.aom_image.specs.Image.{Image}
-use Rattle.aom_image.specs.Views.{instr_at, method_at, method_class, method_role, leaves, gives_of, arguments_of}
+use Rattle.aom_image.specs.Views.{instr_at, method_at, method_class, method_role, is_quiet, leaves, gives_of, arguments_of}
 use Rattle.aom_image.specs.WellFormed.{WellFormed}
-use Rattle.aom_image.specs.declared.instr.Instr.TheVariants.{Call}
+use Rattle.aom_image.specs.declared.instr.Instr.TheVariants.{Call, Trap, PushOperation}
 use Rattle.aom_image.specs.declared.instr.Target.{Target}
 use Rattle.aom_image.specs.declared.method.Gives.TheVariants.{Nothing}
 use Rattle.aom_image.specs.declared.method.Role.TheVariants.{Do, Main, Construct, Destruct}
@@ -13,9 +13,9 @@ use Rattle.aom_classes.specs.Roles.{role_of, main_of}
 use Rattle.aom_shape.specs.Things.{Member, field_thing}
 use Rattle.aom_shape.specs.Typing.{Typing, IsTyped}
 use Rattle.aom_sound.specs.Places.{Elsewhere, Root, held, named}
-use Rattle.aom_sound.specs.State.{Dispatch, Frame, Task, Run, Destroy, Dispatched, State, Choice, Goes}
+use Rattle.aom_sound.specs.State.{Dispatch, Frame, Task, Run, Destroy, Unwind, Dispatched, Item, A_mark, State, Choice, Goes}
 use Rattle.aom_sound.specs.Moves.{step, IsOpen}
-use Rattle.aom_sound.specs.WellTyped.{WellTyped, Keeps}
+use Rattle.aom_sound.specs.WellTyped.{LeavesNone, IsUndo, WellTyped, Keeps}
 use Rattle.aom_sound.specs.Owned.{Owned}
 use Rattle.aom_sound.specs.World.{boot_state, IsBusy, Reaches}
 use Rattle.aom_sound.specs.declared.line.Line.{Line}
@@ -26,13 +26,21 @@ pub record IsCalled (p : Image) (m : ℕ) : Type 0 where
   pub there : IsSome (method_at p m)
   pub role : (method_role p m ≡ Some Do) ⊎ (method_role p m ≡ Some Construct)
 
+-- a method that is called under a trap does, and leaves no object on the cleanup stack
+pub record IsTrapped (p : Image) (m : ℕ) : Type 0 where
+  pub there : IsSome (method_at p m)
+  pub role : method_role p m ≡ Some Do
+  pub gives : LeavesNone (gives_of p m)
+
 -- what linking has found, as far as the laws use it
 pub record IsWired (p : Image) : Type 0 where
   pub has_main : IsSome (main_of p)
   pub main : (m : ℕ) → main_of p ≡ Some m → (IsSome (method_at p m)) × (method_role p m ≡ Some Main) × (gives_of p m ≡ Nothing) × (arguments_of p m ≡ [])
-  pub destructor : (c m : ℕ) → role_of p c Destruct ≡ Some m → (IsSome (method_at p m)) × (method_role p m ≡ Some Destruct) × (method_class p m ≡ Some c) × (leaves p m ≡ false) × (gives_of p m ≡ Nothing) × (arguments_of p m ≡ [])
+  pub destructor : (c m : ℕ) → role_of p c Destruct ≡ Some m → (IsSome (method_at p m)) × (method_role p m ≡ Some Destruct) × (method_class p m ≡ Some c) × (leaves p m ≡ false) × (is_quiet p m ≡ true) × (gives_of p m ≡ Nothing) × (arguments_of p m ≡ [])
   pub static_main : (m : ℕ) → method_role p m ≡ Some Main → method_class p m ≡ None
   pub called : (m place : ℕ) (target : Target) (m' first c : ℕ) → instr_at p m place ≡ Some (Call target m' first c) → IsCalled p m'
+  pub trapped : (m place : ℕ) (target : Target) (m' first c : ℕ) → instr_at p m place ≡ Some (Trap target m' first c) → IsTrapped p m'
+  pub pushed : (m place a m' : ℕ) → instr_at p m place ≡ Some (PushOperation a m') → IsUndo p m'
   pub no_destructor : (c : ℕ) → role_of p c Destruct ≡ None → (f : ℕ) → field_thing p (Member c) f ≡ None
   -- what a field may own has a lower class
   pub ordered : (c d f : ℕ) → field_thing p (Member c) f ≡ Some (An_object_of d) → d < c
@@ -53,9 +61,11 @@ EndsOwned = (p : Image) (t : Typing) → IsWired p → (s : State) → WellTyped
 abbrev pub EndsEmpty : Type 0
 EndsEmpty = (p : Image) (t : Typing) → IsWired p → (s : State) → WellTyped p t s → s.tasks ≡ [] → held s.cells (Elsewhere Root) ≡ None → s.cells ≡ []
 
--- of each run of an image: it is never stuck, at each dispatch's end each cell has one living owner, and where it stopped no cell is left
+-- of each run of an image: it is never stuck, at each caught leave and each dispatch's end each cell has one living owner, and where it stopped no cell is left
 pub record IsSound (p : Image) (refused : List ℕ) : Type 0 where
   pub goes_on : (lines : List Line) (s : State) → Reaches p refused (boot_state p) lines s → IsBusy s → (c : Choice) → IsOpen p refused c s → (u : State) × (step p c s ≡ Goes u)
+  -- a leave is caught once all that was pushed since its trap is dealt with
+  pub caught : (lines : List Line) (s : State) (code : ℤ) (tasks : List Task) (items : List Item) → Reaches p refused (boot_state p) lines s → s.tasks ≡ Unwind code ∷ tasks → s.items ≡ A_mark ∷ items → Owned s
   pub owned : (lines : List Line) (s : State) (d : Dispatch) → Reaches p refused (boot_state p) lines s → s.tasks ≡ Dispatched d ∷ [] → Owned s
   pub stopped_empty : (lines : List Line) (s : State) → Reaches p refused (boot_state p) lines s → s.rest.ended ≡ Some Stopped → s.cells ≡ []
 
@@ -67,12 +77,15 @@ TypedIsSound = (p : Image) (t : Typing) (refused : List ℕ) → IsWired p → I
 abbrev pub LinkedIsWired : Type 0
 LinkedIsWired = (p : Image) → WellFormed p → IsLinked p → IsWired p
 
--- a move of a method, of a destruction, and the end of a dispatch
+-- a move of a method, of a destruction, of an unwinding, and the end of a dispatch
 abbrev pub InstructionKeeps : Type 0
 InstructionKeeps = (p : Image) (t : Typing) → IsWired p → IsTyped p t → (c : Choice) (s : State) (fr : Frame) (tasks : List Task) → WellTyped p t s → s.tasks ≡ Run fr ∷ tasks → named s.cells c.name ≡ None → Keeps p t (step p c s)
 
 abbrev pub DestructionKeeps : Type 0
 DestructionKeeps = (p : Image) (t : Typing) (c : Choice) (s : State) (tasks : List Task) → WellTyped p t s → s.tasks ≡ Destroy ∷ tasks → Keeps p t (step p c s)
+
+abbrev pub UnwindingKeeps : Type 0
+UnwindingKeeps = (p : Image) (t : Typing) → IsWired p → IsTyped p t → (c : Choice) (s : State) (code : ℤ) (tasks : List Task) → WellTyped p t s → s.tasks ≡ Unwind code ∷ tasks → Keeps p t (step p c s)
 
 abbrev pub TurnKeeps : Type 0
 TurnKeeps = (p : Image) (t : Typing) → IsWired p → IsTyped p t → (c : Choice) (s : State) (d : Dispatch) (tasks : List Task) → WellTyped p t s → s.tasks ≡ Dispatched d ∷ tasks → Keeps p t (step p c s)

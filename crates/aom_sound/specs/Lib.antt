@@ -4,6 +4,7 @@ pub mod Destruction
 pub mod Words
 pub mod Objects
 pub mod Calls
+pub mod Cleanup
 pub mod Moves
 pub mod Claims
 pub mod WellTyped
@@ -11,4 +12,5 @@ pub mod Owned
 pub mod World
 pub mod Loops
 pub mod Laws
+pub mod Quiet
 pub mod Examples

@@ -7,7 +7,7 @@ use Rattle.aom_image.specs.declared.instr.Instr.{Instr}
 use Rattle.aom_image.specs.declared.instr.Instr.TheVariants.{Loop, Next}
 use Rattle.aom_classes.specs.Jumps.{jump_of}
 use Rattle.aom_classes.specs.Linked.{IsLinked}
-use Rattle.aom_sound.specs.State.{Frame, Task, Run, Trapped, Destroy, Dispatched, State, Choice, Goes, counter}
+use Rattle.aom_sound.specs.State.{Frame, Task, Run, Trapped, Destroy, Unwind, Dispatched, State, Choice, Goes, counter}
 use Rattle.aom_sound.specs.Moves.{step}
 use Rattle.aom_sound.specs.World.{boot_state}
 
@@ -44,6 +44,7 @@ AllWait p [] = Unit {0}
 AllWait p (Run fr ∷ ts) = RoundsAt p fr (suc fr.place) × AllWait p ts
 AllWait p (Trapped ∷ ts) = AllWait p ts
 AllWait p (Destroy ∷ ts) = AllWait p ts
+AllWait p (Unwind code ∷ ts) = AllWait p ts
 AllWait p (Dispatched d ∷ ts) = AllWait p ts
 
 -- each method at hand has rounds left where it stands, or where it will go on
@@ -52,6 +53,7 @@ RoundsLeft p [] = Unit {0}
 RoundsLeft p (Run fr ∷ ts) = RoundsAt p fr fr.place × AllWait p ts
 RoundsLeft p (Trapped ∷ ts) = AllWait p ts
 RoundsLeft p (Destroy ∷ ts) = AllWait p ts
+RoundsLeft p (Unwind code ∷ ts) = AllWait p ts
 RoundsLeft p (Dispatched d ∷ ts) = AllWait p ts
 
 -- this holds at the boot, and each move keeps it, where the loops lie so; in a linked image they do

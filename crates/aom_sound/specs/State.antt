@@ -24,9 +24,10 @@ pub record Frame : Type 0 where
   -- how many items the cleanup stack had as it began
   pub height : ℕ
 
--- what stands below all else: main's dispatch, or the end of a stopped run, which destroys the root
+-- what stands below all else: main's dispatch, its end where main left with a code, or the end of a stopped run, which destroys the root
 pub data Dispatch : Type 0 where
   Of_main : Dispatch
+  Main_left : (code : ℤ) → Dispatch
   Of_root : Dispatch
 
 -- what is at hand, the innermost first
@@ -34,11 +35,14 @@ pub data Task : Type 0 where
   Run : Frame → Task
   Trapped : Task
   Destroy : Task
+  -- a leave with that code, until it arrives at its trap
+  Unwind : (code : ℤ) → Task
   Dispatched : Dispatch → Task
 
--- an item of the cleanup stack
+-- an item of the cleanup stack: an object, which the item's place owns, a method to be called on a word, or the mark of a trap
 pub data Item : Type 0 where
   An_object : Item
+  An_operation : (method : ℕ) (word : ℤ) → Item
   A_mark : Item
 
 -- what no place tells: the clock, counts, and how far the run has come
@@ -145,4 +149,5 @@ resumed [] = []
 resumed (Run fr ∷ ts) = Run (next fr) ∷ ts
 resumed (Trapped ∷ ts) = Trapped ∷ ts
 resumed (Destroy ∷ ts) = Destroy ∷ ts
+resumed (Unwind code ∷ ts) = Unwind code ∷ ts
 resumed (Dispatched d ∷ ts) = Dispatched d ∷ ts

@@ -1,23 +1,25 @@
 -- The well-typed states: what the typing says of the methods at hand holds of the cells and their owners.
-use Rattle.std.specs.Prelude.{ℕ, suc, true, false, ◌==◌, ◌≡◌, ◌⊎◌, ◌<◌, ℤ, length, List, [], ◌∷◌, Option, Some, None}
+use Rattle.std.specs.Prelude.{ℕ, suc, true, false, ◌==◌, ◌≡◌, ◌⊎◌, ◌<◌, ℤ, length, IsSome, List, [], ◌∷◌, Option, Some, None}
 use Rattle.aom_image.specs.Image.{Image}
-use Rattle.aom_image.specs.Views.{instr_at, leaves, gives_of}
+use Rattle.aom_image.specs.Views.{instr_at, method_at, method_role, method_class, arguments_of, is_quiet, leaves, gives_of}
+use Rattle.aom_image.specs.declared.method.Argument.TheVariants.{Word as Takes_word}
+use Rattle.aom_image.specs.declared.method.Role.TheVariants.{Undo}
 use Rattle.aom_image.specs.declared.method.Gives.{Gives}
 use Rattle.aom_image.specs.declared.method.Gives.TheVariants.{Nothing, Word as A_word, Own as An_own, Maybe as A_maybe, Left}
 use Rattle.aom_shape.specs.Things.{stands_for, field_thing, holder_of}
 use Rattle.aom_shape.specs.Shape.{Shape}
-use Rattle.aom_shape.specs.Kinds.{register, set_register, filled, is_unowning, is_ready_kind, none_owns}
+use Rattle.aom_shape.specs.Kinds.{register, filled, is_unowning, is_ready_kind, none_owns}
 use Rattle.aom_shape.specs.Typing.{Typing, shape_at, Leads}
-use Rattle.aom_shape.specs.Calls.{brought, is_destructor}
+use Rattle.aom_shape.specs.Calls.{brought, caught, is_destructor}
 use Rattle.aom_shape.specs.declared.kind.Age.{Age}
 use Rattle.aom_shape.specs.declared.kind.Age.TheVariants.{Fresh, Ready}
 use Rattle.aom_shape.specs.declared.kind.Filling.TheVariants.{Perhaps}
 use Rattle.aom_shape.specs.declared.kind.Kind.{Kind}
 use Rattle.aom_shape.specs.declared.kind.Kind.TheVariants.{Unset, Word, Null, Own, Maybe}
 use Rattle.aom_sound.specs.Places.{Place, Register, Entry, Field, Going, Elsewhere, Root, same_place, Object, Cell, held, named, Tidy}
-use Rattle.aom_sound.specs.State.{Home, Static, AtRoot, Inside, Frame, Dispatch, Of_main, Of_root, word, State, Outcome, Goes, IsStuck, home_holder, thing_holder}
+use Rattle.aom_sound.specs.State.{Home, Static, AtRoot, Inside, Frame, Dispatch, Of_main, Main_left, Of_root, Item, An_object, An_operation, A_mark, word, State, Outcome, Goes, IsStuck, home_holder, thing_holder}
 use Rattle.aom_sound.specs.Calls.{result_register, called}
-use Rattle.aom_sound.specs.Claims.{Layer, Method, Mark, Dying, Dispatching, tasks_of, items_of, claim, declared}
+use Rattle.aom_sound.specs.Claims.{Layer, Method, Mark, Dying, Unwinding, Dispatching, tasks_of, forms, items_of, claim, declared}
 
 -- fresh: all fields are null
 abbrev pub HasAge : (Place → Option Object) → Object → Age → Type 0
@@ -52,6 +54,7 @@ pub data Back : Type 0 where
   Returns : (method : ℕ) (home : Home) → Back
   Caught : (gives : Gives) → Back
   Gone : Back
+  Leaves : Back
 
 -- the frame's registers are as the state says, and its home and its height are its own
 pub record Frames (p : Image) (ls : List Layer) (fr : Frame) (sh : Shape) : Type 0 where
@@ -59,21 +62,13 @@ pub record Frames (p : Image) (ls : List Layer) (fr : Frame) (sh : Shape) : Type
   pub holder : home_holder fr.home ≡ holder_of p fr.method
   pub height : fr.height ≡ length (items_of ls)
 
--- the abstract state after a trap: null where it left, and the code in the next register
-abbrev pub caught : Gives → ℕ → Shape → Shape
-caught Nothing c sh = set_register sh (suc c) Word
-caught A_word c sh = set_register (set_register sh c Word) (suc c) Word
-caught (An_own t) c sh = set_register (set_register sh c (Maybe t Ready)) (suc c) Word
-caught (A_maybe t) c sh = set_register (set_register sh c (Maybe t Ready)) (suc c) Word
-caught (Left x) c sh = sh
-
 -- what the result goes to owns nothing while the call lasts
 abbrev pub Awaits : Gives → ℕ → Shape → Type 0
 Awaits Nothing c sh = Unit {0}
 Awaits A_word c sh = is_unowning (register sh c) ≡ true
 Awaits (An_own t) c sh = is_unowning (register sh c) ≡ true
 Awaits (A_maybe t) c sh = is_unowning (register sh c) ≡ true
-Awaits (Left x) c sh = ⊥
+Awaits (Left x) c sh = Unit {0}
 
 -- the typing has that state where the frame stands, or where it goes on once the task above is over
 abbrev pub Stands : Image → Typing → Back → Frame → Shape → Type 0
@@ -88,6 +83,7 @@ Stands p t (Caught g) fr sh =
     × Awaits g (result_register (instr_at p fr.method fr.place)) sh
     × Leads t fr.method (suc fr.place) (caught g (result_register (instr_at p fr.method fr.place)) sh)
 Stands p t Gone fr sh = Leads t fr.method (suc fr.place) sh
+Stands p t Leaves fr sh = ⊥
 
 -- that place is no field of that cell
 abbrev pub IsNoFieldOf : ℕ → Place → Type 0
@@ -108,6 +104,7 @@ NoneIn n [] = Unit {0}
 NoneIn n (Method fr sh ∷ ls) = NotIn n fr.home × NoneIn n ls
 NoneIn n (Mark gv ∷ ls) = NoneIn n ls
 NoneIn n (Dying o ∷ ls) = NoneIn n ls
+NoneIn n (Unwinding code es ∷ ls) = NoneIn n ls
 NoneIn n (Dispatching d ∷ ls) = NoneIn n ls
 
 -- the layers claim nothing of that cell's fields beyond what its class declares
@@ -127,6 +124,7 @@ past_going [] = []
 past_going (Dying o ∷ ls) = ls
 past_going (Method fr sh ∷ ls) = Method fr sh ∷ ls
 past_going (Mark gv ∷ ls) = Mark gv ∷ ls
+past_going (Unwinding code es ∷ ls) = Unwinding code es ∷ ls
 past_going (Dispatching d ∷ ls) = Dispatching d ∷ ls
 
 abbrev pub NotAtRoot : Home → Type 0
@@ -140,7 +138,9 @@ RootUnclaimed [] = Unit {0}
 RootUnclaimed (Method fr sh ∷ ls) = NotAtRoot fr.home × RootUnclaimed ls
 RootUnclaimed (Mark gv ∷ ls) = RootUnclaimed ls
 RootUnclaimed (Dying o ∷ ls) = RootUnclaimed ls
+RootUnclaimed (Unwinding code es ∷ ls) = RootUnclaimed ls
 RootUnclaimed (Dispatching Of_main ∷ ls) = RootUnclaimed ls
+RootUnclaimed (Dispatching (Main_left code) ∷ ls) = RootUnclaimed ls
 RootUnclaimed (Dispatching Of_root ∷ ls) = ⊥
 
 abbrev pub NotFrom : Place → Home → Type 0
@@ -154,6 +154,7 @@ NoneFrom q [] = Unit {0}
 NoneFrom q (Method fr sh ∷ ls) = NotFrom q fr.home × NoneFrom q ls
 NoneFrom q (Mark gv ∷ ls) = NoneFrom q ls
 NoneFrom q (Dying o ∷ ls) = NoneFrom q ls
+NoneFrom q (Unwinding code es ∷ ls) = NoneFrom q ls
 NoneFrom q (Dispatching d ∷ ls) = NoneFrom q ls
 
 -- the layers below claim of the fields that a method works on no more than what is declared
@@ -176,6 +177,7 @@ SomeIn n [] = ⊥
 SomeIn n (Method fr sh ∷ ls) = WorksOn n fr.home ⊎ SomeIn n ls
 SomeIn n (Mark gv ∷ ls) = SomeIn n ls
 SomeIn n (Dying o ∷ ls) = SomeIn n ls
+SomeIn n (Unwinding code es ∷ ls) = SomeIn n ls
 SomeIn n (Dispatching d ∷ ls) = SomeIn n ls
 
 -- the place belongs to the layers
@@ -198,12 +200,20 @@ IsHoused p cs ls Static = Unit {0}
 IsHoused p cs ls AtRoot = Unit {0}
 IsHoused p cs ls (Inside o from) = Holds p cs ls o from
 
--- a trap knows what the method that it was set for gives
+-- a trap knows what the method that it was set for gives, and no object is left under it; or a leave has come to it
+abbrev pub LeavesNone : Gives → Type 0
+LeavesNone Nothing = Unit {0}
+LeavesNone A_word = Unit {0}
+LeavesNone (An_own t) = Unit {0}
+LeavesNone (A_maybe t) = Unit {0}
+LeavesNone (Left x) = ⊥
+
 abbrev pub Catches : Image → Back → Gives → Type 0
 Catches p Now g = ⊥
-Catches p (Returns m home) g = gives_of p m ≡ g
+Catches p (Returns m home) g = (gives_of p m ≡ g) × LeavesNone g
 Catches p (Caught g') g = ⊥
 Catches p Gone g = ⊥
+Catches p Leaves g = Unit {0}
 
 -- right above a cell that goes stands its destructor
 abbrev pub IsDestructorOf : Image → ℕ → Object → Back → Type 0
@@ -211,6 +221,15 @@ IsDestructorOf p depth o Now = Unit {0}
 IsDestructorOf p depth o (Returns m home) = (leaves p m ≡ false) × (home ≡ Inside o (Going depth)) × (is_destructor p m ≡ true) × (gives_of p m ≡ Nothing)
 IsDestructorOf p depth o (Caught g) = ⊥
 IsDestructorOf p depth o Gone = ⊥
+IsDestructorOf p depth o Leaves = ⊥
+
+-- over an unwinding a cell goes, or an operation runs
+abbrev pub IsUnwound : Image → Back → Type 0
+IsUnwound p Now = Unit {0}
+IsUnwound p (Returns m home) = (leaves p m ≡ false) × (gives_of p m ≡ Nothing)
+IsUnwound p (Caught g) = ⊥
+IsUnwound p Gone = Unit {0}
+IsUnwound p Leaves = ⊥
 
 -- a dispatch is at its end, or its method runs under its trap; over the end of a run the root goes
 abbrev pub EndsDispatch : Image → Dispatch → Back → Type 0
@@ -218,10 +237,17 @@ EndsDispatch p Of_main Now = Unit {0}
 EndsDispatch p Of_main (Returns m home) = ⊥
 EndsDispatch p Of_main (Caught g) = g ≡ Nothing
 EndsDispatch p Of_main Gone = ⊥
+EndsDispatch p Of_main Leaves = ⊥
+EndsDispatch p (Main_left code) Now = Unit {0}
+EndsDispatch p (Main_left code) (Returns m home) = ⊥
+EndsDispatch p (Main_left code) (Caught g) = ⊥
+EndsDispatch p (Main_left code) Gone = ⊥
+EndsDispatch p (Main_left code) Leaves = ⊥
 EndsDispatch p Of_root Now = Unit {0}
 EndsDispatch p Of_root (Returns m home) = ⊥
 EndsDispatch p Of_root (Caught g) = ⊥
 EndsDispatch p Of_root Gone = Unit {0}
+EndsDispatch p Of_root Leaves = ⊥
 
 abbrev pub Stack : Image → Typing → List Cell → Back → List Layer → Type 0
 Stack p t cs back [] = back ≡ Now
@@ -236,6 +262,7 @@ Stack p t cs back (Dying o ∷ ls) =
     ((named cs o.name ≡ Some o) × (held cs (Going (length (tasks_of ls))) ≡ Some o))
     × IsDestructorOf p (length (tasks_of ls)) o back
     × Stack p t cs Gone ls
+Stack p t cs back (Unwinding code es ∷ ls) = IsUnwound p back × Stack p t cs Leaves ls
 Stack p t cs back (Dispatching d ∷ ls) = EndsDispatch p d back × (ls ≡ [])
 
 -- a well-typed state, by its layers
@@ -244,10 +271,28 @@ pub record Good (p : Image) (t : Typing) (cs : List Cell) (ls : List Layer) : Ty
   pub fits : (r : Place) → Fits p (held cs) (held cs r) (claim p (declared p cs) ls r)
   pub tidy : Tidy cs
 
+-- what an operation runs: a static method of that role, which takes a word
+pub record IsUndo (p : Image) (m : ℕ) : Type 0 where
+  pub there : IsSome (method_at p m)
+  pub role : method_role p m ≡ Some Undo
+  pub class : method_class p m ≡ None
+  pub leaves : leaves p m ≡ false
+  pub quiet : is_quiet p m ≡ true
+  pub gives : gives_of p m ≡ Nothing
+  pub arguments : arguments_of p m ≡ Takes_word ∷ []
+
+-- each operation on the cleanup stack is one
+abbrev pub AllUndo : Image → List Item → Type 0
+AllUndo p [] = Unit {0}
+AllUndo p (An_object ∷ items) = AllUndo p items
+AllUndo p (An_operation m w ∷ items) = IsUndo p m × AllUndo p items
+AllUndo p (A_mark ∷ items) = AllUndo p items
+
 pub record WellTyped (p : Image) (t : Typing) (s : State) : Type 0 where
   pub layers : List Layer
   pub tasks : s.tasks ≡ tasks_of layers
-  pub items : s.items ≡ items_of layers
+  pub items : forms s.items ≡ items_of layers
+  pub undos : AllUndo p s.items
   pub good : Good p t s.cells layers
 
 -- not stuck, and on to a well-typed state

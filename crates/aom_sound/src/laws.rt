@@ -1,6 +1,7 @@
 //! The laws, each as the contract of a function that does nothing.
-ghost use Rattle.aom_sound.specs.Laws.{BootKeeps, InstructionKeeps, DestructionKeeps, TurnKeeps, StepKeeps, EndsOwned, EndsEmpty, TypedIsSound, LinkedIsWired};
+ghost use Rattle.aom_sound.specs.Laws.{BootKeeps, InstructionKeeps, DestructionKeeps, UnwindingKeeps, TurnKeeps, StepKeeps, EndsOwned, EndsEmpty, TypedIsSound, LinkedIsWired};
 ghost use Rattle.aom_sound.specs.Loops.{LoopsKeep};
+ghost use Rattle.aom_sound.specs.Quiet.{CalmKeeps, CaughtOwned};
 ghost use Rattle.aom_sound.specs.Examples.{StuckExamples};
 
 /// A run of a typed image begins well typed.
@@ -18,6 +19,11 @@ pub fn destruction_keeps()
     ensures { DestructionKeeps }
 {}
 
+/// What a leave unwinds goes, or runs, and its code arrives.
+pub fn unwinding_keeps()
+    ensures { UnwindingKeeps }
+{}
+
 /// A dispatch ends well typed.
 pub fn turn_keeps()
     ensures { TurnKeeps }
@@ -28,9 +34,19 @@ pub fn loops_keep()
     ensures { LoopsKeep }
 {}
 
-/// Every move of a well-typed state is one of the three above.
+/// Every move of a well-typed state is one of the four above.
 pub fn step_keeps()
     ensures { StepKeeps }
+{}
+
+/// While a cell goes or a leave unwinds, quiet methods alone run.
+pub fn calm_keeps()
+    ensures { CalmKeeps }
+{}
+
+/// Ownership is a forest where a leave is caught.
+pub fn caught_owned()
+    ensures { CaughtOwned }
 {}
 
 /// Ownership is a forest at the end of each dispatch.

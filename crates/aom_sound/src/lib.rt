@@ -10,7 +10,8 @@ mod laws;
 mod line;
 
 pub use laws::{
-    boot_keeps, destruction_keeps, ends_empty, ends_owned, instruction_keeps, linked_is_wired,
-    loops_keep, step_keeps, stuck_examples, turn_keeps, typed_is_sound,
+    boot_keeps, calm_keeps, caught_owned, destruction_keeps, ends_empty, ends_owned,
+    instruction_keeps, linked_is_wired, loops_keep, step_keeps, stuck_examples, turn_keeps,
+    typed_is_sound, unwinding_keeps,
 };
 pub use line::{Ending, Line};

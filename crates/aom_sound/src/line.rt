@@ -8,6 +8,8 @@ pub enum Line {
     Main(u64),
     /// A printed word.
     Out(i32),
+    /// A leave arrives at its trap with that code, after its unwinding.
+    Leave(i32),
     /// A cell of that class went.
     Gone(ClassNumber),
 }
@@ -17,4 +19,6 @@ pub enum Line {
 pub enum Ending {
     Stopped,
     Waiting,
+    /// Main left with that code.
+    MainLeft(i32),
 }

@@ -1,6 +1,7 @@
 pub mod Ordering
 pub mod Falling
 pub mod Joining
+pub mod Few
 pub mod Following
 pub mod Ways
 pub mod Visiting

@@ -3,7 +3,7 @@ use Rattle.std.proofs.Common.{◌≡◌, ℕ, suc, ◌<◌, true, false, cond, L
 use Rattle.aom_image.specs.Image.{Image}
 use Rattle.aom_image.specs.Views.{instr_at, method_at}
 use Rattle.aom_image.specs.declared.instr.Instr.{Instr}
-use Rattle.aom_image.specs.declared.instr.Instr.TheVariants.{Const, Copy, Move, Add, Sub, Mul, And, Or, Xor, Jump, JumpEqual, JumpLess, JumpNull, JumpEmpty, Loop, Next, Print, Load, Store, Take, Put, New, Delete, Call, Return, Stop}
+use Rattle.aom_image.specs.declared.instr.Instr.TheVariants.{Const, Copy, Move, Add, Sub, Mul, And, Or, Xor, Jump, JumpEqual, JumpLess, JumpNull, JumpEmpty, Loop, Next, Print, Load, Store, Take, Put, New, NewOrLeave, Delete, Push, PushOperation, Pop, PopOperation, PopDelete, Call, Trap, Return, Leave, LeaveIf, Stop}
 use Rattle.aom_classes.specs.Jumps.{KeepsWithin, back_of, jump_of, goes_on}
 use Rattle.aom_classes.specs.Linked.{IsLinked}
 use Rattle.aom_classes.specs.Loops.{LoopsNest}
@@ -89,6 +89,15 @@ flows_within p m n pc sh (Put f b) h back = (h.ends refl, tt)
 flows_within p m n pc sh (New a c) h back = (h.ends refl, tt)
 flows_within p m n pc sh (Delete a) h back = (h.ends refl, tt)
 flows_within p m n pc sh (Call target m' first c) h back = (h.ends refl, tt)
+flows_within p m n pc sh (Trap target m' first c) h back = (h.ends refl, tt)
+flows_within p m n pc sh (NewOrLeave a c) h back = (h.ends refl, tt)
+flows_within p m n pc sh (Push a) h back = (h.ends refl, tt)
+flows_within p m n pc sh (PushOperation a m') h back = (h.ends refl, tt)
+flows_within p m n pc sh (Pop a) h back = (h.ends refl, tt)
+flows_within p m n pc sh PopOperation h back = (h.ends refl, tt)
+flows_within p m n pc sh PopDelete h back = (h.ends refl, tt)
+flows_within p m n pc sh (Leave a) h back = tt
+flows_within p m n pc sh (LeaveIf a) h back = (h.ends refl, tt)
 flows_within p m n pc sh (Return a) h back = tt
 flows_within p m n pc sh Stop h back = (h.ends refl, tt)
 flows_within p m n pc sh _ h back = tt

@@ -1,5 +1,6 @@
 pub mod Shapes
 pub mod Change
+pub mod Entries
 pub mod Sweep
 pub mod Strongest
 pub mod Refusals

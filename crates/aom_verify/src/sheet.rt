@@ -1,9 +1,11 @@
 //! The abstract states of one method, by place, and the sweeps that find them.
-ghost use Rattle.std.specs.Prelude.{◌≡◌, ◌<◌, [], ◌∷◌, length, replicate, slice_set, IfOk, IfErr, IfSome, IsSome, Some, None};
+ghost use Rattle.std.specs.Prelude.{◌≡◌, ◌<◌, suc, [], ◌∷◌, length, replicate, slice_set, IfOk, IfErr, IfSome, IsSome, Some, None};
 ghost use Rattle.aom_image.specs.Views.{instr_at};
+ghost use Rattle.aom_shape.specs.Laws.{HaveAtMost};
 ghost use Rattle.aom_shape.specs.Rules.{rule};
 ghost use Rattle.aom_shape.specs.Tables.{at};
 ghost use Rattle.aom_verify.specs.Change.{unreached_count};
+ghost use Rattle.aom_verify.specs.Entries.{IsFew, AllFew, HasRoom};
 ghost use Rattle.aom_verify.specs.Sweep.{Spans, AllWithin, Joins, CannotJoin, Flows, Fails, WithinMethod, Visits, Sweeps, SweepsOn, Settles, NoTypingBelow};
 
 use crate::change::Change;
@@ -27,17 +29,21 @@ pub struct Sheet {
 }
 
 impl Model for Sheet {
+    ghost use Rattle.aom_verify.specs.Entries.{HasFewEntries};
     ghost use Rattle.aom_verify.specs.Shapes.{Shapes};
 
     ghost Value = { Shapes };
 
     ghost view = { λ s. s.shapes.items };
+
+    ghost invariant = { λ s. HasFewEntries s.shapes.items };
 }
 
 impl Sheet {
     /// So many places, of which the first alone is reached.
     pub(crate) fn new(alloc: Global, places: usize, entry: Shape) -> Result<Sheet, AllocError>
-        requires { 0 < places }
+        requires some { 0 < places }
+        requires none { entry.entries ≡ [] }
         ensures { IfOk result (λ s. s ≡ slice_set (replicate places None) 0 (Some entry)) }
     {
         let mut shapes = vec![in alloc; None; places]?;
@@ -62,7 +68,8 @@ impl Sheet {
 
     /// What is known at a place from one flow to it.
     fn join(&mut self, to: usize, shape: &Shape) -> Result<Change, Fault>
-        requires { to < length self.old }
+        requires within { to < length self.old }
+        requires few { IsFew self.old shape.now }
         ensures ok { IfOk result (λ change. Joins self.old self.new ((to, shape.now) ∷ []) change) }
         ensures err { IfErr result (λ fault. CannotJoin self.old ((to, shape.now) ∷ []) × (fault.place ≡ to)) }
     {
@@ -83,7 +90,8 @@ impl Sheet {
     }
 
     fn join_all(&mut self, ways: &[(usize, Shape)]) -> Result<Change, Fault>
-        requires { AllWithin (length self.old) ways.now }
+        requires within { AllWithin (length self.old) ways.now }
+        requires few { AllFew self.old ways.now }
         ensures ok { IfOk result (λ change. Joins self.old self.new ways.now change) }
         ensures err { IfErr result (λ fault. CannotJoin self.old ways.now × (fault.place < length self.old)) }
     {
@@ -161,12 +169,15 @@ fn flow_of(
     place: usize,
     shape: &Shape,
 ) -> Result<Flow, Fault>
-    requires { IsSome (instr_at linked.now method place) }
+    requires instr { IsSome (instr_at linked.now method place) }
+    requires room { HasRoom linked.now method shape.now }
     ensures ok { IfOk result (λ ways. Flows linked.now method place shape.now ways) }
     ensures within { IfOk result (λ ways. WithinMethod linked.now method ways) }
+    ensures few { IfOk result (λ ways. HaveAtMost (suc (length shape.now.entries)) ways) }
     ensures err { IfErr result (λ fault. Fails linked.now method place shape.now × (fault.place ≡ place)) }
 {
     linked.facts();
+    let _formed = linked.image().methods();
     match rule(linked, method, place, shape) {
         Ok(flow) => Ok(flow),
         Err(why) => Err(Fault { place, why }),

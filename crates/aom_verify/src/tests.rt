@@ -4,8 +4,8 @@ ghost use Rattle.std.specs.Prelude.{◌<◌};
 use crate::{Refusal, check};
 use aom_classes::link;
 use aom_image::{
-    ClassDecl, ClassKind, ClassNumber, Gives, Header, Image, Instr, Items, Method, MethodFlags,
-    Place, Register, Role, States, form_ok,
+    Argument, ClassDecl, ClassKind, ClassNumber, Gives, Header, Image, Instr, Items, Method,
+    MethodFlags, Place, Register, Role, States, Thing, form_ok,
 };
 use aom_shape::Why;
 use std::alloc::{AllocError, Global};
@@ -60,16 +60,51 @@ fn main_of(alloc: Global, code: &[Instr]) -> Result<Method, AllocError> {
     })
 }
 
+/// What a method takes and gives, and whether it may leave.
+#[derive(Clone, Copy)]
+struct Form<'a> {
+    flags: MethodFlags,
+    arguments: &'a [Argument],
+    gives: Gives,
+}
+
+/// A method of that form and code, before main.
+fn do_of(alloc: Global, form: &Form<'_>, code: &[Instr]) -> Result<Method, AllocError> {
+    Ok(Method {
+        class: None,
+        role: Role::Do,
+        flags: form.flags,
+        before: States::NONE,
+        after: States::NONE,
+        arguments: Items::from_vec(form.arguments.to_vec(alloc)?),
+        gives: form.gives,
+        code: Items::from_vec(code.to_vec(alloc)?),
+    })
+}
+
+/// An image of one plain class, that method, and a main that returns.
+fn image_with(alloc: Global, form: &Form<'_>, code: &[Instr]) -> Result<Option<Image>, AllocError> {
+    let mut methods = Vec::with_capacity(alloc, 2)?;
+    methods.push(do_of(alloc, form, code)?)?;
+    methods.push(main_of(alloc, &[Instr::Return(register(0))])?)?;
+    image_of_methods(alloc, methods)
+}
+
 /// An image of one plain class and that main.
 fn image_of(alloc: Global, code: &[Instr]) -> Result<Option<Image>, AllocError> {
+    let mut methods = Vec::with_capacity(alloc, 1)?;
+    methods.push(main_of(alloc, code)?)?;
+    image_of_methods(alloc, methods)
+}
+
+/// An image of one plain class and those methods.
+fn image_of_methods(alloc: Global, methods: Vec<Method>) -> Result<Option<Image>, AllocError> {
     let mut classes = Vec::with_capacity(alloc, 1)?;
     classes.push(ClassDecl {
         kind: ClassKind::Plain,
         words: 0,
         fields: Items::from_vec(Vec::new(alloc)),
     })?;
-    let mut methods = Vec::with_capacity(alloc, 1)?;
-    methods.push(main_of(alloc, code)?)?;
     if !form_ok(&HEADER, classes.as_slice(), methods.as_slice()) {
         return Ok(None);
     }
@@ -84,7 +119,11 @@ fn refused(refusal: &Refusal) -> Answer {
 }
 
 fn answer_of(alloc: Global, code: &[Instr]) -> Answer {
-    let image = match image_of(alloc, code) {
+    answer_to(alloc, image_of(alloc, code))
+}
+
+fn answer_to(alloc: Global, image: Result<Option<Image>, AllocError>) -> Answer {
+    let image = match image {
         Ok(Some(image)) => image,
         Ok(None) => return Answer::NotLinked,
         Err(_) => return Answer::NoMemory,
@@ -101,6 +140,12 @@ fn answer_of(alloc: Global, code: &[Instr]) -> Answer {
 /// Whether the program comes to that answer, or memory was wanted.
 fn comes_to(alloc: Global, code: &[Instr], wanted: Answer) -> bool {
     let answer = answer_of(alloc, code);
+    answer == wanted || answer == Answer::NoMemory
+}
+
+/// Whether the program with that method comes to that answer, or memory was wanted.
+fn method_comes_to(alloc: Global, form: &Form<'_>, code: &[Instr], wanted: Answer) -> bool {
+    let answer = answer_to(alloc, image_with(alloc, form, code));
     answer == wanted || answer == Answer::NoMemory
 }
 
@@ -239,4 +284,88 @@ fn the_line_of_a_refusal(rt: HostRuntime) -> Result<(), Fail> {
     };
     assert_eq!(rt; line.as_str(), "verify 2 17 3");
     Ok(())
+}
+
+/// A method that may leave, with those arguments, and gives nothing.
+fn leaving(arguments: &[Argument]) -> Form<'_> {
+    Form {
+        flags: MethodFlags::LEAVES,
+        arguments,
+        gives: Gives::Nothing,
+    }
+}
+
+#[test]
+fn push_with_another_object(rt: HostRuntime) {
+    let arguments = [
+        Argument::Own(Thing::Object(class())),
+        Argument::Own(Thing::Object(class())),
+    ];
+    let code = [
+        Instr::Push(register(0)),
+        Instr::PopDelete,
+        Instr::Delete(register(1)),
+        Instr::Return(register(0)),
+    ];
+    let wanted = Answer::Refused(0, 0, Why::OwnedAtLeave);
+    assert!(rt; method_comes_to(rt.alloc(), &leaving(&arguments), &code, wanted));
+}
+
+#[test]
+fn return_with_an_entry(rt: HostRuntime) {
+    let arguments = [Argument::Own(Thing::Object(class()))];
+    let code = [Instr::Push(register(0)), Instr::Return(register(0))];
+    let wanted = Answer::Refused(0, 1, Why::CleanupAtReturn);
+    assert!(rt; method_comes_to(rt.alloc(), &leaving(&arguments), &code, wanted));
+}
+
+#[test]
+fn an_entry_on_one_way_alone(rt: HostRuntime) {
+    let code = [
+        Instr::NewOrLeave(register(1), class()),
+        Instr::JumpEqual(register(0), register(0), place(3)),
+        Instr::Push(register(1)),
+        Instr::Return(register(0)),
+    ];
+    let wanted = Answer::Refused(0, 3, Why::CleanupAtReturn);
+    assert!(rt; method_comes_to(rt.alloc(), &leaving(&[Argument::Word]), &code, wanted));
+}
+
+#[test]
+fn pop_of_nothing(rt: HostRuntime) {
+    let code = [Instr::Pop(register(0)), Instr::Return(register(0))];
+    let wanted = Answer::Refused(0, 0, Why::PopEmpty);
+    assert!(rt; method_comes_to(rt.alloc(), &leaving(&[]), &code, wanted));
+}
+
+#[test]
+fn push_in_a_method_that_may_not_leave(rt: HostRuntime) {
+    let arguments = [Argument::Own(Thing::Object(class()))];
+    let form = Form {
+        flags: MethodFlags::NONE,
+        arguments: &arguments,
+        gives: Gives::Nothing,
+    };
+    let code = [
+        Instr::Push(register(0)),
+        Instr::PopDelete,
+        Instr::Return(register(0)),
+    ];
+    let wanted = Answer::Refused(0, 0, Why::LeaveNotAllowed);
+    assert!(rt; method_comes_to(rt.alloc(), &form, &code, wanted));
+}
+
+#[test]
+fn an_object_that_is_left_to_the_caller(rt: HostRuntime) {
+    let form = Form {
+        flags: MethodFlags::LEAVES,
+        arguments: &[],
+        gives: Gives::Left(class()),
+    };
+    let code = [
+        Instr::NewOrLeave(register(0), class()),
+        Instr::Push(register(0)),
+        Instr::Return(register(0)),
+    ];
+    assert!(rt; method_comes_to(rt.alloc(), &form, &code, Answer::Checked));
 }

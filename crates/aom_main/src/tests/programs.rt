@@ -3,7 +3,7 @@ use super::*;
 use std::process::Abort;
 
 /// The bytes of the image that a text denotes.
-fn assembled(alloc: Global, text: &str) -> Result<Vec<u8>, Fail> {
+pub fn assembled(alloc: Global, text: &str) -> Result<Vec<u8>, Fail> {
     let mut image = page_of(alloc, 1 << 20);
     let mut errors = page_of(alloc, 100);
     let status = asm_bytes(alloc, text.as_bytes(), &mut image, &mut errors);
@@ -14,7 +14,7 @@ fn assembled(alloc: Global, text: &str) -> Result<Vec<u8>, Fail> {
 }
 
 /// Runs the image of a text, which ends as stopped with that transcript.
-fn stops(rt: &impl Abort, alloc: Global, text: &str, transcript: &str) -> Result<(), Fail> {
+pub fn stops(rt: &impl Abort, alloc: Global, text: &str, transcript: &str) -> Result<(), Fail> {
     let image = assembled(alloc, text)?;
     let told = answer_of(alloc, ExitStatus::Done, transcript, "")?;
     assert_eq!(rt; runs(alloc, image.as_slice(), b"", 1 << 16), told);
@@ -22,7 +22,7 @@ fn stops(rt: &impl Abort, alloc: Global, text: &str, transcript: &str) -> Result
 }
 
 /// The image of a text is refused.
-fn refuses(rt: &impl Abort, alloc: Global, text: &str, line: &str) -> Result<(), Fail> {
+pub fn refuses(rt: &impl Abort, alloc: Global, text: &str, line: &str) -> Result<(), Fail> {
     let image = assembled(alloc, text)?;
     let refused = answer_of(alloc, ExitStatus::ImageRefused, "", line)?;
     assert_eq!(rt; checks(alloc, image.as_slice(), 100), refused);

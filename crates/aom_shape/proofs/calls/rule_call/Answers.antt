@@ -1,7 +1,8 @@
-use Rattle.std.proofs.Common.{sym, ◌∙◌}
+use Rattle.std.proofs.Common.{sym, ◌∙◌, arith}
 use Rattle.std.proofs.lemmas.Result.{err_from_is_err_and}
 use Rattle.aom_shape.proofs.Arguments.{arguments_fit}
 use Rattle.aom_shape.proofs.Calling.{target_failed, arguments_failed, moved_failed, all_met}
+use Rattle.aom_shape.proofs.Growing.{lasting_has}
 use Rattle.aom_shape.proofs.calls.rule_call.Goals as goal
 
 pub without_arguments-moved-requires : goal.without_arguments-moved-requires
@@ -30,6 +31,12 @@ returns-in_err-judge_moved c =
     (sym (moved_failed c.args.linked.now c.args.method c.args.place c.args.shape.now call.target call.method call.first call.result c.method-callee.result.now c.method-callee.ensures _ _ _ (sym c.judge_target.ensures ∙ c.in_ok-judge_target.was)
     (rw (← c.as_slice-arguments.ensures) (sym c.judge_arguments.ensures ∙ c.in_ok-judge_arguments.was))
     (rw (← c.as_slice-arguments.ensures, ← c.without_arguments-moved.ensures) (sym c.judge_moved.ensures ∙ c.in_err-judge_moved.was))))
+
+pub brought-after-requires : goal.brought-after-requires
+brought-after-requires c =
+    let call = c.args.call.now in
+    let same = lasting_has call.target c.method-callee.result.now.class c.as_slice-arguments.result.now call.first c.args.shape.now in
+    rw (c.while_called-lasting.ensures, c.without_arguments-moved.ensures) (omega (arith, same, c.requires.room))
 
 pub returns : goal.returns
 returns c =

@@ -1,6 +1,6 @@
 use Rattle.std.proofs.Common.{slice_get, IsSome, refl, arith, ◌∙◌}
 use Rattle.aom_classes.proofs.Views.{has_method, in_method, within, read}
-use Rattle.aom_shape.proofs.Callees.{callee_there}
+use Rattle.aom_shape.proofs.Callees.{callee_there, code_register_there}
 use Rattle.aom_shape.proofs.rules.instr_at.Goals as goal
 
 pub method-requires : goal.method-requires
@@ -34,3 +34,9 @@ returns-clause-callee c =
     let in_code = in_method c.args.linked.now c.args.method c.args.place c.method.result.now c.method.ensures in
     let here : IsSome (slice_get c.method.result.now.code c.args.place) = rw (← in_code) c.requires in
     callee_there c.args.linked.now c.args.method c.args.place _ (rw c.image.ensures at c.methods-formed.ensures.well_formed) (in_code ∙ read _ _ c.args.place c.args.place _ c.as_slice.ensures refl here c.index-as_slice-place.is)
+
+pub returns-clause-code : goal.returns-clause-code
+returns-clause-code c =
+    let in_code = in_method c.args.linked.now c.args.method c.args.place c.method.result.now c.method.ensures in
+    let here : IsSome (slice_get c.method.result.now.code c.args.place) = rw (← in_code) c.requires in
+    code_register_there c.args.linked.now c.args.method c.args.place _ (rw c.image.ensures at c.methods-formed.ensures.well_formed) (in_code ∙ read _ _ c.args.place c.args.place _ c.as_slice.ensures refl here c.index-as_slice-place.is)

@@ -16,3 +16,6 @@ returns-in-Err-clause-err c =
       untyped _ _ _ _ c.place_count.ensures.some c.entry-entry.ensures.no_less failed.0,
       has_instr _ _ _ _ spans failed.1,
     )
+
+pub new-requires-clause-none : goal.new-requires-clause-none
+new-requires-clause-none c = c.entry-entry.ensures.no_more.entries

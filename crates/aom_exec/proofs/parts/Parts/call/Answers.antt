@@ -1,5 +1,5 @@
 use Rattle.std.proofs.Common.{subst, length, ◌+◌, ◌≤◌, ◌∷◌}
-use Rattle.aom_image.specs.Views.{arguments_of, method_class}
+use Rattle.aom_image.specs.Views.{method_class}
 use Rattle.aom_image.specs.declared.instr.Instr.TheVariants.{Call}
 use Rattle.aom_frames.specs.Tasks.{fresh, given_here, on_top, passed_on}
 use Rattle.aom_frames.specs.declared.task.Task.TheVariants.{Run as Runs_frame}

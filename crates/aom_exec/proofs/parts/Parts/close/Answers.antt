@@ -1,7 +1,9 @@
-use Rattle.std.proofs.Common.{◌≡◌, Some, true, sym, ap, ◌∙◌}
+use Rattle.std.proofs.lemmas.Int.{to_z-of_z}
+use Rattle.aom_frames.specs.declared.task.Dispatch.TheVariants.{MainLeft}
+use Rattle.std.proofs.Common.{rules, w32, FitsSigned, ◌≡◌, Some, true, sym, ap, ◌∙◌}
 use Rattle.std.proofs.lemmas.Bool.{false≢true}
 use Rattle.aom_cells.specs.Heap.{null}
-use Rattle.aom_exec.proofs.Ends.{close_moves, over_moves, uproot_moves, uproot_room}
+use Rattle.aom_exec.proofs.Ends.{close_moves, left_moves, over_moves, uproot_moves, uproot_room}
 use Rattle.aom_exec.proofs.Finding.{root_lives}
 use Rattle.aom_exec.proofs.parts.Parts.close.Goals as goal
 use Rattle.aom_exec.proofs.parts.Parts.close.Goals.{then-is_stopped+else-self, else-is_stopped}
@@ -28,3 +30,8 @@ returns-in-Main-2 c = λ told.
 pub returns-in-Root : goal.returns-in-Root
 returns-in-Root c = λ told.
     rw (c.finish.ensures, c.drop_task-in-Root.ensures) (over_moves c.args.linked.now c.args.self.now told c.requires.ending c.requires.announced (c.ending.ensures ∙ ap (λ d. Some d) c.in-Root.is))
+
+pub returns-in-MainLeft : goal.returns-in-MainLeft
+returns-in-MainLeft c = λ told.
+    let fits : FitsSigned w32 c.in-MainLeft.code = search rules in
+    rw (c.end_left.ensures, c.drop_task-in-MainLeft.ensures) (left_moves c.args.linked.now c.args.self.now told c.requires.ending c.requires.announced _ (c.ending.ensures ∙ ap (λ d. Some d) c.in-MainLeft.is ∙ ap (λ w. Some (MainLeft w)) (sym (to_z-of_z w32 c.in-MainLeft.code fits))))

@@ -1,4 +1,6 @@
-use Rattle.std.proofs.Common.{subst, sym, ap, refl, ◌∙◌, ◌∷◌, ◌≡◌}
+use Rattle.std.proofs.lemmas.Bool.{false≢true}
+use Rattle.aom_exec.proofs.Topping.{coded_through, ends_under}
+use Rattle.std.proofs.Common.{suc, subst, sym, ap, refl, ◌∙◌, ◌∷◌}
 use Rattle.aom_image.specs.Views.{instr_at}
 use Rattle.aom_image.specs.declared.instr.Instr.TheVariants.{Return}
 use Rattle.aom_sound.specs.Calls.{result_register}
@@ -6,8 +8,8 @@ use Rattle.aom_frames.specs.Tasks.{Runs, method_here, place_here, register_here}
 use Rattle.aom_exec.specs.declared.parts.Parts.{Parts}
 use Rattle.aom_exec.specs.Acts.{DoesIn, resulted}
 use Rattle.aom_exec.specs.Acts as acts
-use Rattle.aom_exec.specs.Places.{IsDestroying, IsTrapped, below_first, with_tasks}
-use Rattle.aom_exec.proofs.ReturnActs.{gives_here, return_to_end, return_to_going, return_to_method}
+use Rattle.aom_exec.specs.Places.{IsDestroying, IsTrapped, IsUnwinding, below_first, with_tasks}
+use Rattle.aom_exec.proofs.ReturnActs.{gives_here, return_to_end, return_to_going, return_through, return_to_method, return_to_unwinding}
 use Rattle.aom_exec.proofs.parts.Parts.give_back.Goals as goal
 
 pub returns-in-Some-Run : goal.returns-in-Some-Run
@@ -24,14 +26,42 @@ returns-in-Some-Run c = λ refused.
     rw (c.receive.ensures.received, c.register-number.ensures.value, c.drop_task.ensures)
     (subst (λ g. DoesIn p refused (Return c.args.from) m (acts.next (resulted g x (register_here m.stack.tasks c.args.from) (with_tasks (below_first m.stack.tasks) m)))) gives does)
 
-pub returns-in-Some-Trapped : goal.returns-in-Some-Trapped
-returns-in-Some-Trapped c = λ refused.
+pub returns-then-is_running : goal.returns-then-is_running
+returns-then-is_running c = λ refused.
+    let p = c.args.linked.now in
     let m = c.args.self.now in
     let top = c.in-Some-Trapped.ensures.some in
     let tasks = ap (λ (m : Parts). m.stack.tasks) (sym c.drop_task.ensures) ∙ top.1 ∙ ap (λ t. t ∷ top.0) c.in-Some-Trapped.field-0-is in
     let trapped : IsTrapped (below_first m.stack.tasks) = subst IsTrapped (sym tasks) tt in
-    rw (c.drop_entry.ensures.rest, c.drop_task-in-Some-Trapped.ensures, c.drop_task.ensures)
-    (return_to_end c.args.linked.now m refused c.args.from c.drop_entry.new.self c.requires.below trapped (rw (c.drop_task-in-Some-Trapped.ensures, c.drop_task.ensures) at c.drop_entry.ensures.entries))
+    let runs : Runs (below_first (below_first m.stack.tasks)) = rw (c.drop_task-in-Some-Trapped.ensures, c.drop_task.ensures) at (c.is_running.ensures.0 c.if-is_running.true) in
+    let marked = rw (c.drop_task-in-Some-Trapped.ensures, c.drop_task.ensures) at c.unmark.ensures in
+    let gives = gives_here p (method_here m.stack.tasks) c.method-2.result.now (rw c.method.ensures at c.method-2.ensures) in
+    let coded = coded_through p (below_first m.stack.tasks) c.requires.below trapped runs in
+    let under = below_first (below_first m.stack.tasks) in
+    let x = result_register (instr_at p (method_here under) (place_here under)) in
+    let es = c.unmark.new.self in
+    let does = return_through p m refused c.args.from es x trapped runs marked coded refl in
+    rw (c.receive_trapped.ensures, c.register-number.ensures.value, c.drop_task-in-Some-Trapped.ensures, c.drop_task.ensures)
+    (subst (λ g. DoesIn p refused (Return c.args.from) m (acts.next (acts.set_register (suc x) 0 (resulted g x (register_here m.stack.tasks c.args.from) (record (with_tasks under m) { entries = es }))))) gives does)
+
+pub returns-else-is_running : goal.returns-else-is_running
+returns-else-is_running c = λ refused.
+    let p = c.args.linked.now in
+    let m = c.args.self.now in
+    let top = c.in-Some-Trapped.ensures.some in
+    let tasks = ap (λ (m : Parts). m.stack.tasks) (sym c.drop_task.ensures) ∙ top.1 ∙ ap (λ t. t ∷ top.0) c.in-Some-Trapped.field-0-is in
+    let trapped : IsTrapped (below_first m.stack.tasks) = subst IsTrapped (sym tasks) tt in
+    let stops : Runs (below_first (below_first m.stack.tasks)) → ⊥ = λ runs. false≢true (sym c.if-is_running.false ∙ c.is_running.ensures.1 (rw (c.drop_task-in-Some-Trapped.ensures, c.drop_task.ensures) runs)) in
+    let marked = rw (c.drop_task-in-Some-Trapped.ensures, c.drop_task.ensures) at c.unmark.ensures in
+    rw (c.drop_task-in-Some-Trapped.ensures, c.drop_task.ensures) (return_to_end p m refused c.args.from c.unmark.new.self (ends_under p (below_first m.stack.tasks) c.requires.below trapped stops) trapped marked)
+
+pub returns-in-Some-Unwind : goal.returns-in-Some-Unwind
+returns-in-Some-Unwind c = λ refused.
+    let m = c.args.self.now in
+    let top = c.in-Some-Unwind.ensures.some in
+    let tasks = ap (λ (m : Parts). m.stack.tasks) (sym c.drop_task.ensures) ∙ top.1 ∙ ap (λ t. t ∷ top.0) c.in-Some-Unwind.field-0-is in
+    let unwinding : IsUnwinding (below_first m.stack.tasks) = subst IsUnwinding (sym tasks) tt in
+    rw c.drop_task.ensures (return_to_unwinding c.args.linked.now m refused c.args.from unwinding)
 
 pub returns-in-Some-Destroy : goal.returns-in-Some-Destroy
 returns-in-Some-Destroy c = λ refused.

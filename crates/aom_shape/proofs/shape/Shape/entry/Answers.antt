@@ -11,8 +11,8 @@ argument_kinds-requires c =
 
 pub returns-clause-no_more : goal.returns-clause-no_more
 returns-clause-no_more c =
-    (begun c.args.linked.now c.args.method c.method-declared.result.now c.argument_kinds.result c.entry_fields.result c.method-declared.ensures (rw c.as_slice.ensures at c.argument_kinds.ensures) c.entry_fields.ensures).0
+    rw c.none.ensures ((begun c.args.linked.now c.args.method c.method-declared.result.now c.argument_kinds.result c.entry_fields.result c.method-declared.ensures (rw c.as_slice.ensures at c.argument_kinds.ensures) c.entry_fields.ensures).0)
 
 pub returns-clause-no_less : goal.returns-clause-no_less
 returns-clause-no_less c =
-    (begun c.args.linked.now c.args.method c.method-declared.result.now c.argument_kinds.result c.entry_fields.result c.method-declared.ensures (rw c.as_slice.ensures at c.argument_kinds.ensures) c.entry_fields.ensures).1
+    rw c.none.ensures ((begun c.args.linked.now c.args.method c.method-declared.result.now c.argument_kinds.result c.entry_fields.result c.method-declared.ensures (rw c.as_slice.ensures at c.argument_kinds.ensures) c.entry_fields.ensures).1)

@@ -2,11 +2,11 @@
 use Rattle.std.proofs.Common.{◌≡◌, ◌<◌, ◌≤◌, length, rules, sym}
 use Rattle.aom_shape.proofs.Lists.{at_past}
 use Rattle.aom_budget.proofs.Greatest.{read_at}
-use Rattle.aom_budget.proofs.depths.Depths.of_method.Goals as goal
+use Rattle.aom_budget.proofs.table.Table.of_method.Goals as goal
 
 pub returns-then-index-len : goal.returns-then-index-len
 returns-then-index-len c =
-    let shown : c.self.inside.depths.items ≡ c.args.self.now = c.self.view_is in
+    let shown : c.self.inside.numbers.items ≡ c.args.self.now = c.self.view_is in
     let within : c.args.method < length c.args.self.now = search rules in
     read_at _ _ _ _ _ shown c.number-index.ensures.value within c.index.ensures
 

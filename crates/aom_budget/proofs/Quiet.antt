@@ -1,0 +1,238 @@
+-- A quiet method has no cleanup entries, and calls none that has.
+use Rattle.std.proofs.Common.{◌≡◌, ℕ, zero, suc, ◌≤◌, true, false, List, [], ◌∷◌, ◌++◌, length, map, IsTrue, Option, Some, None, refl, sym, ap, ◌∙◌, arith}
+use Rattle.std.specs.Prelude.{not}
+use Rattle.std.proofs.lemmas.Bool.{true≢false}
+use Rattle.aom_image.specs.Image.{Image}
+use Rattle.aom_image.specs.Views.{arguments_of, gives_of, gives_in, is_quiet, quiet_in, leaves, leaves_in, method_at, method_class, method_role}
+use Rattle.aom_image.specs.declared.instr.Instr.{Instr}
+use Rattle.aom_image.specs.declared.instr.Instr.TheVariants.{Const, Copy, Move, Add, Sub, Mul, And, Or, Xor, Jump, JumpEqual, JumpLess, JumpNull, JumpEmpty, Loop, Next, Print, Load, Store, Take, Put, New, NewOrLeave, Delete, Push, PushOperation, Pop, PopOperation, PopDelete, Call, Trap, Return, Leave, LeaveIf, Stop}
+use Rattle.aom_image.specs.declared.instr.Target.{Target}
+use Rattle.aom_image.specs.declared.method.Gives.{Gives}
+use Rattle.aom_image.specs.declared.method.Gives.TheVariants.{Nothing, Word as A_word, Own as An_own, Maybe as A_maybe, Left}
+use Rattle.aom_image.specs.declared.method.Method.{Method}
+use Rattle.aom_roles.specs.Shapes.{IsShaped, gives_left}
+use Rattle.aom_classes.specs.Linked.{IsLinked}
+use Rattle.aom_classes.proofs.Facts.{all_there}
+use Rattle.aom_shape.specs.Calls.{brought, while_called, arguments_moved, rule_target, rule_arguments, is_construct}
+use Rattle.aom_shape.specs.Cleanup.{without_top}
+use Rattle.aom_shape.specs.Kinds.{register, field}
+use Rattle.aom_shape.specs.Laws.{HaveAtMost}
+use Rattle.aom_shape.specs.Needs.{AllTrue, Need, Flow}
+use Rattle.aom_shape.specs.Objects.{flow_jump_null, flow_jump_empty}
+use Rattle.aom_shape.specs.Rules.{rule_needs, flows}
+use Rattle.aom_shape.specs.Shape.{Shape}
+use Rattle.aom_shape.specs.Tables.{at}
+use Rattle.aom_shape.specs.Typing.{entry_shape}
+use Rattle.aom_shape.specs.declared.kind.Entry.{Entry}
+use Rattle.aom_shape.specs.declared.kind.Filling.{Filling}
+use Rattle.aom_shape.specs.declared.kind.Filling.TheVariants.{Empty, Full, Perhaps}
+use Rattle.aom_shape.specs.declared.kind.Kind.{Kind}
+use Rattle.aom_shape.specs.declared.kind.Kind.TheVariants.{Unset, Word, Null, Own, Maybe}
+use Rattle.aom_shape.proofs.Growing.{lasting_has}
+use Rattle.aom_verify.specs.Shapes.{Shapes, Meets, AllMet, IsMethodTyped}
+use Rattle.aom_budget.specs.Heights.{StandsAt, Enters, CallsOver, Heights}
+use Rattle.aom_budget.specs.Heights.Heights.{own, under}
+
+-- ---- flags
+
+quiet_stays : (p : Image) (m : ℕ) → IsLinked p → is_quiet p m ≡ true → leaves p m ≡ false
+unfolding method_at quiet_in leaves_in
+quiet_stays p m linked quiet = go (method_at p m) refl quiet
+  where
+    go : (o : Option Method) → method_at p m ≡ o → quiet_in o ≡ true → leaves_in o ≡ false
+    go None e q = refl
+    go (Some d) e q = (all_there (IsShaped p) p.methods m d linked.shapes e).flags.quiet q
+
+quiet_keeps : (p : Image) (m : ℕ) → IsLinked p → is_quiet p m ≡ true → gives_left (gives_of p m) ≡ false
+unfolding method_at quiet_in gives_in gives_left
+quiet_keeps p m linked quiet = go (method_at p m) refl quiet
+  where
+    by : (d : Method) (g : Gives) → IsShaped p d → d.gives ≡ g → quiet_in (Some d) ≡ true → gives_left g ≡ false
+    by d Nothing shaped e q = refl
+    by d A_word shaped e q = refl
+    by d (An_own t) shaped e q = refl
+    by d (A_maybe t) shaped e q = refl
+    by d (Left c) shaped e q =
+        let left : IsTrue (gives_left d.gives) = rw e refl in
+        absurd (true≢false (sym (shaped.flags.left left) ∙ shaped.flags.quiet q))
+
+    go : (o : Option Method) → method_at p m ≡ o → quiet_in o ≡ true → gives_left (gives_in o) ≡ false
+    go None e q = refl
+    go (Some d) e q = by d d.gives (all_there (IsShaped p) p.methods m d linked.shapes e) refl q
+
+-- ---- flows
+
+low : {es : List Entry} → es ≡ [] → length es ≤ 0
+low none = rw none (omega arith)
+
+top_low : (es : List Entry) → es ≡ [] → length (without_top es) ≤ 0
+top_low es none = rw none (omega arith)
+
+brings_none : (g : Gives) (c : ℕ) (sh : Shape) → gives_left g ≡ false → length (brought g c sh).entries ≡ length sh.entries
+unfolding gives_left
+brings_none Nothing c sh e = refl
+brings_none A_word c sh e = refl
+brings_none (An_own t) c sh e = refl
+brings_none (A_maybe t) c sh e = refl
+brings_none (Left x) c sh e = absurd (true≢false e)
+
+rest_true : (xs ys : List Need) → AllTrue (xs ++ ys) → AllTrue ys
+rest_true [] ys h = h
+rest_true (x ∷ xs) ys h = rest_true xs ys h.1
+
+module _ (p : Image) (m : ℕ) (linked : IsLinked p) (quiet : is_quiet p m ≡ true) where
+  unleft : leaves p m ≡ true → ⊥
+  unleft e = true≢false (sym e ∙ quiet_stays p m linked quiet)
+
+  callee_quiet : (pc : ℕ) (sh : Shape) (target : Target) (k first c : ℕ) → AllTrue (rule_needs p m pc sh (Call target k first c)) → is_quiet p k ≡ true
+  callee_quiet pc sh target k first c needs =
+      let targets = rule_target p m sh target (method_class p k) (is_construct (method_role p k)) first (length (arguments_of p k)) in
+      let moved = rest_true (rule_arguments p sh (arguments_of p k) first) _ (rest_true targets _ needs) in
+      rw quiet at moved.0
+
+  untrapped : (pc : ℕ) (sh : Shape) (target : Target) (k first c : ℕ) → AllTrue (rule_needs p m pc sh (Trap target k first c)) → ⊥
+  untrapped pc sh target k first c needs = true≢false (sym needs.0 ∙ ap not quiet)
+
+  null_low : (pc : ℕ) (sh : Shape) (kind : Kind) (r to : ℕ) → sh.entries ≡ [] → HaveAtMost 0 (flow_jump_null p m pc sh kind r to)
+  null_low pc sh Unset r to none = tt
+  null_low pc sh Word r to none = tt
+  null_low pc sh Null r to none = (low none, tt)
+  null_low pc sh (Own t age) r to none = (low none, tt)
+  null_low pc sh (Maybe t age) r to none = (low none, (low none, tt))
+
+  empty_low : (pc : ℕ) (sh : Shape) (x : Filling) (f to : ℕ) → sh.entries ≡ [] → HaveAtMost 0 (flow_jump_empty p m pc sh x f to)
+  empty_low pc sh Empty f to none = (low none, tt)
+  empty_low pc sh Full f to none = (low none, tt)
+  empty_low pc sh Perhaps f to none = (low none, (low none, tt))
+
+  stays_low : (pc : ℕ) (sh : Shape) (i : Instr) → AllTrue (rule_needs p m pc sh i) → sh.entries ≡ [] → HaveAtMost 0 (flows p m pc sh i)
+  stays_low pc sh (Const r w) needs none = (low none, tt)
+  stays_low pc sh (Copy r s) needs none = (low none, tt)
+  stays_low pc sh (Add r s t) needs none = (low none, tt)
+  stays_low pc sh (Sub r s t) needs none = (low none, tt)
+  stays_low pc sh (Mul r s t) needs none = (low none, tt)
+  stays_low pc sh (And r s t) needs none = (low none, tt)
+  stays_low pc sh (Or r s t) needs none = (low none, tt)
+  stays_low pc sh (Xor r s t) needs none = (low none, tt)
+  stays_low pc sh (Jump to) needs none = (low none, tt)
+  stays_low pc sh (JumpEqual r s to) needs none = (low none, (low none, tt))
+  stays_low pc sh (JumpLess r s to) needs none = (low none, (low none, tt))
+  stays_low pc sh (Loop depth rounds) needs none = (low none, tt)
+  stays_low pc sh (Next depth to) needs none = (low none, (low none, tt))
+  stays_low pc sh (Print r) needs none = (low none, tt)
+  stays_low pc sh (Load r w) needs none = (low none, tt)
+  stays_low pc sh (Store w s) needs none = (low none, tt)
+  stays_low pc sh (Move r s) needs none = (low none, tt)
+  stays_low pc sh (Take r f) needs none = (low none, tt)
+  stays_low pc sh (Put f s) needs none = (low none, tt)
+  stays_low pc sh (New r c) needs none = (low none, tt)
+  stays_low pc sh (NewOrLeave r c) needs none = (low none, tt)
+  stays_low pc sh (Delete r) needs none = (low none, tt)
+  stays_low pc sh (LeaveIf r) needs none = (low none, tt)
+  stays_low pc sh Stop needs none = (low none, tt)
+  stays_low pc sh (JumpNull r to) needs none = null_low pc sh (register sh r) r to none
+  stays_low pc sh (JumpEmpty f to) needs none = empty_low pc sh (field sh f) f to none
+  stays_low pc sh (Push r) needs none = absurd (unleft needs.1.0)
+  stays_low pc sh (PushOperation r k) needs none = absurd (unleft needs.1.0)
+  stays_low pc sh (Pop r) needs none = (top_low sh.entries none, tt)
+  stays_low pc sh PopOperation needs none = (top_low sh.entries none, tt)
+  stays_low pc sh PopDelete needs none = (top_low sh.entries none, tt)
+  stays_low pc sh (Call target k first c) needs none =
+      let keeps = quiet_keeps p k linked (callee_quiet pc sh target k first c needs) in
+      let lasting = while_called target (method_class p k) (arguments_moved (arguments_of p k) first sh) in
+      (omega (arith, brings_none (gives_of p k) c lasting keeps, lasting_has target (method_class p k) (arguments_of p k) first sh, low none), tt)
+  stays_low pc sh (Trap target k first c) needs none = absurd (untrapped pc sh target k first c needs)
+  stays_low pc sh (Leave r) needs none = tt
+  stays_low pc sh (Return r) needs none = tt
+  stays_low pc sh _ needs none = tt
+
+-- ---- the states without entries
+
+with_none : Shape → List Entry → Option Shape
+with_none sh [] = Some sh
+with_none sh (e ∷ es) = None
+
+lowest_at : Option Shape → Option Shape
+lowest_at None = None
+lowest_at (Some sh) = with_none sh sh.entries
+
+lowest : Shapes → Shapes
+lowest s = map lowest_at s
+
+at_lowest : (s : Shapes) (pc : ℕ) → at None (lowest s) pc ≡ lowest_at (at None s pc)
+unfolding lowest lowest_at
+at_lowest [] pc = refl
+at_lowest (x ∷ xs) zero = refl
+at_lowest (x ∷ xs) (suc pc) = at_lowest xs pc
+
+-- what stands there stood there, with no entries
+stood : (o : Option Shape) (sh : Shape) → lowest_at o ≡ Some sh → (o ≡ Some sh) × (sh.entries ≡ [])
+unfolding lowest_at with_none
+stood None sh e = absurd cc
+stood (Some x) sh e = go x.entries refl e
+  where
+    go : (es : List Entry) → x.entries ≡ es → with_none x es ≡ Some sh → (Some x ≡ Some sh) × (sh.entries ≡ [])
+    go [] f g = let same : x ≡ sh = cc in (g, rw same at f)
+    go (y ∷ ys) f g = absurd cc
+
+stays_there : (sh : Shape) → sh.entries ≡ [] → lowest_at (Some sh) ≡ Some sh
+unfolding lowest_at with_none
+stays_there sh none = ap (with_none sh) none
+
+no_length : (es : List Entry) → length es ≤ 0 → es ≡ []
+no_length [] h = refl
+no_length (e ∷ es) h = absurd (omega (arith, h))
+
+meets_lowest : (s : Shapes) (to : ℕ) (sh : Shape) → length sh.entries ≤ 0 → Meets s to sh → Meets (lowest s) to sh
+meets_lowest s to sh few h = record {
+  next = h.next;
+  there = at_lowest s to ∙ (ap lowest_at h.there ∙ stays_there h.next (h.no_more.entries ∙ no_length sh.entries few));
+  no_more = h.no_more;
+}
+
+all_lowest : (s : Shapes) (ways : List Flow) → HaveAtMost 0 ways → AllMet s ways → AllMet (lowest s) ways
+all_lowest s [] few h = tt
+all_lowest s (way ∷ ways) few h = (meets_lowest s way.0 way.1 few.0 h.0, all_lowest s ways few.1 h.1)
+
+-- they are a typing of a quiet method
+lowest_typed : (p : Image) (m : ℕ) (s : Shapes) → IsLinked p → is_quiet p m ≡ true → IsMethodTyped p m s → IsMethodTyped p m (lowest s)
+lowest_typed p m s linked quiet h = record {
+  each = λ pc sh e.
+      let there = stood (at None s pc) sh (sym (at_lowest s pc) ∙ e) in
+      let applies = h.each pc sh there.0 in
+      record {
+        instr = applies.instr;
+        stands = applies.stands;
+        needs = applies.needs;
+        flows = all_lowest s _ (stays_low p m linked quiet pc sh applies.instr applies.needs there.1) applies.flows;
+      };
+  entry = meets_lowest s 0 (entry_shape p m) (omega arith) h.entry;
+}
+
+stands_lowest : (p : Image) (m place : ℕ) (sh : Shape) → IsLinked p → is_quiet p m ≡ true → StandsAt p m place sh → sh.entries ≡ []
+stands_lowest p m place sh linked quiet h =
+    let meets = (h.strongest.least (lowest h.states) (lowest_typed p m h.states linked quiet h.strongest.typed)).each place sh h.there in
+    let there = stood (at None h.states place) meets.next (sym (at_lowest h.states place) ∙ meets.there) in
+    sym meets.no_more.entries ∙ there.1
+
+-- ---- heights
+
+entered_quiet : (p : Image) (m pc : ℕ) (sh : Shape) (i : Instr) (k : ℕ) → IsLinked p → is_quiet p m ≡ true → Enters i k → AllTrue (rule_needs p m pc sh i) → is_quiet p k ≡ true
+entered_quiet p m pc sh (Call target k' first c) k linked quiet enters needs = rw enters at (callee_quiet p m linked quiet pc sh target k' first c needs)
+entered_quiet p m pc sh (Trap target k' first c) k linked quiet enters needs = absurd (untrapped p m linked quiet pc sh target k' first c needs)
+entered_quiet p m pc sh _ k linked quiet enters needs = absurd enters
+
+called_quiet : (p : Image) (m k h : ℕ) → IsLinked p → is_quiet p m ≡ true → CallsOver p m k h → is_quiet p k ≡ true
+called_quiet p m k h linked quiet call =
+    let applies = call.stands.strongest.typed.each call.place call.shape call.stands.there in
+    let same : applies.instr ≡ call.instr = let f = applies.stands in let g = call.here in cc in
+    let needs : AllTrue (rule_needs p m call.place call.shape call.instr) = rw same at applies.needs in
+    entered_quiet p m call.place call.shape call.instr k linked quiet call.enters needs
+
+pub quiet_is_low : (p : Image) (m n : ℕ) → IsLinked p → is_quiet p m ≡ true → Heights p m n → n ≡ 0
+quiet_is_low p m n linked quiet (own h) =
+    let none = low (stands_lowest p m h.place h.shape linked quiet h.stands) in
+    omega (arith, none, h.count)
+quiet_is_low p m n linked quiet (under {k = k} {h = count} {n = above} call heights) =
+    let none = low (stands_lowest p m call.place call.shape linked quiet call.stands) in
+    omega (arith, none, call.count, quiet_is_low p k above linked (called_quiet p m k count linked quiet call) heights)

@@ -1,0 +1,217 @@
+-- What the code needs to know of the cleanup stack, and of the methods that a trap calls.
+use Rattle.std.proofs.Common.{suc, ◌≡◌, ◌≤◌, ◌<◌, ◌+◌, ℕ, true, length, List, [], ◌∷◌, Option, Some, None, IsSome, refl, sym, ap, ◌∙◌, subst, arith}
+use Rattle.std.specs.Prelude.{is_some}
+use Rattle.std.proofs.lemmas.Bool.{eqb-true}
+use Rattle.std.proofs.lemmas.Bool.Decides.{leb_tells}
+use Rattle.aom_image.specs.Image.{Image}
+use Rattle.aom_image.specs.Views.{arguments_of, gives_of, instr_at, method_at, method_class}
+use Rattle.aom_image.specs.declared.instr.Instr.TheVariants.{Pop, PopDelete, PopOperation, Return, Trap}
+use Rattle.aom_image.specs.declared.instr.Target.{Target}
+use Rattle.aom_image.specs.declared.method.Gives.{Gives}
+use Rattle.aom_image.specs.declared.method.Gives.TheVariants.{Left, Maybe as A_maybe, Nothing, Own as An_own, Word as A_word}
+use Rattle.aom_cleanup.specs.Items.{IsAboveMark, IsMarked, IsNotAboveMark}
+use Rattle.aom_cleanup.specs.declared.item.Item.{Item as Held_item}
+use Rattle.aom_cleanup.specs.declared.item.Item.TheVariants.{Object as Holds_object, Operation as Holds_operation, Mark as Is_mark}
+use Rattle.aom_shape.specs.Typing.{Typing}
+use Rattle.aom_shape.specs.declared.kind.Entry.{Entry as Pushed}
+use Rattle.aom_sound.specs.Calls.{is_level, needs_target, result_needs, result_register}
+use Rattle.aom_sound.specs.Claims.{Layer, Method, Mark, Dying, Unwinding, Dispatching, Form, Mark_form, forms, items_of, objects, tasks_of}
+use Rattle.aom_sound.specs.Cleanup.{tops_entry, tops_object, top_is_whole}
+use Rattle.aom_sound.specs.Places.{Entry, Object, held}
+use Rattle.aom_sound.specs.State.{Frame, Task, Run, Trapped, Destroy, Unwind, Dispatched, Item, An_object, An_operation, A_mark, State}
+use Rattle.aom_sound.specs.WellTyped.{Good, LeavesNone, WellTyped}
+use Rattle.aom_sound.proofs.Finishing.{all_parts}
+use Rattle.aom_frames.specs.Tasks.{Runs, method_here, place_here}
+use Rattle.aom_frames.specs.declared.task.Task.{Task as Held_task}
+use Rattle.aom_frames.specs.declared.task.Task.TheVariants.{Run as Runs_frame, Trapped as Is_trap, Destroy as Destroys, Unwind as Unwinds, Dispatched as Ends}
+use Rattle.aom_exec.specs.declared.parts.Parts.{Parts}
+use Rattle.aom_exec.specs.Acts.{requested}
+use Rattle.aom_exec.specs.Agrees.{SameItems, SameTasks, number, Agrees}
+use Rattle.aom_exec.specs.Cleanup.{ItemLives, TopLives, TopsObject}
+use Rattle.aom_exec.specs.Places.{below_first, value_in, IsEnding, IsTrapped}
+use Rattle.aom_exec.specs.Room.{ReturnsTo}
+use Rattle.aom_exec.specs.Steps.{Stands}
+use Rattle.aom_exec.proofs.Entries.{same_items_length, top_value}
+use Rattle.aom_exec.proofs.Finding.{class_fits, object_lives}
+use Rattle.aom_exec.proofs.Housing.{at_hand, needs_met}
+use Rattle.aom_exec.proofs.Stepping.{at_step}
+
+-- ---- what is last
+
+pub entry_tops : (is : List Held_item) (js : List Item) → SameItems is js → tops_entry js ≡ true → IsAboveMark is
+entry_tops is [] same e = cc
+entry_tops is (A_mark ∷ js) same e = cc
+entry_tops [] (j ∷ js) same e = absurd same
+entry_tops (Holds_object n ∷ is) (j ∷ js) same e = tt
+entry_tops (Holds_operation k n ∷ is) (j ∷ js) same e = tt
+entry_tops (Is_mark ∷ is) (An_object ∷ js) same e = absurd same.0
+entry_tops (Is_mark ∷ is) (An_operation k w ∷ js) same e = absurd same.0
+
+pub object_tops : (is : List Held_item) (js : List Item) → SameItems is js → tops_object js ≡ true → TopsObject is
+object_tops is [] same e = cc
+object_tops is (A_mark ∷ js) same e = cc
+object_tops is (An_operation k w ∷ js) same e = cc
+object_tops [] (An_object ∷ js) same e = absurd same
+object_tops (Holds_object n ∷ is) (An_object ∷ js) same e = tt
+object_tops (Holds_operation k n ∷ is) (An_object ∷ js) same e = absurd same.0
+object_tops (Is_mark ∷ is) (An_object ∷ js) same e = absurd same.0
+
+-- an object that is last lives
+pub top_lives : (p : Image) (m : Parts) (t : Typing) (s : State) → WellTyped p t s → Agrees p m s → top_is_whole s.cells s.items ≡ true → TopLives m
+top_lives p m t s typed agrees whole = go m.entries.items s.items refl agrees.entries whole
+  where
+    of_object : (n : ℕ) (is : List Held_item) (js : List Item) → m.entries.items ≡ Holds_object n ∷ is → SameItems is js → (o : Option Object) → held s.cells (Entry (length js)) ≡ o → is_some o ≡ true → ItemLives m.cells (Holds_object n ∷ is)
+    of_object n is js was same None e some = cc
+    of_object n is js was same (Some o) e some =
+        let name : n ≡ o.name = sym (top_value m.stack.tasks m.cells is m.root n (length js) (same_items_length is js same)) ∙ sym (value_here_is n is js was) ∙ agrees.values (Entry (length js)) ∙ ap number e in
+        (object_lives p m t s typed agrees (Entry (length js)) o n e name, class_fits p m s agrees n)
+      where
+        value_here_is : (n : ℕ) (is : List Held_item) (js : List Item) → m.entries.items ≡ Holds_object n ∷ is → value_in m.stack.tasks m.cells m.entries.items m.root (Entry (length js)) ≡ value_in m.stack.tasks m.cells (Holds_object n ∷ is) m.root (Entry (length js))
+        value_here_is n is js was = ap (λ es. value_in m.stack.tasks m.cells es m.root (Entry (length js))) was
+
+    go : (is : List Held_item) (js : List Item) → m.entries.items ≡ is → SameItems is js → top_is_whole s.cells js ≡ true → ItemLives m.cells is
+    go [] js was same whole = tt
+    go (Holds_operation k n ∷ is) js was same whole = tt
+    go (Is_mark ∷ is) js was same whole = tt
+    go (Holds_object n ∷ is) [] was same whole = absurd same
+    go (Holds_object n ∷ is) (An_object ∷ js) was same whole = of_object n is js was same.1 (held s.cells (Entry (length js))) refl whole
+    go (Holds_object n ∷ is) (An_operation k w ∷ js) was same whole = absurd same.0
+    go (Holds_object n ∷ is) (A_mark ∷ js) was same whole = absurd same.0
+
+module _ (p : Image) (m : Parts) (st : Stands (record { image = p; parts = m })) (runs : Runs m.stack.tasks) where
+  pub pops_object : (a : ℕ) → instr_at p (method_here m.stack.tasks) (place_here m.stack.tasks) ≡ Some (Pop a) → TopsObject m.entries.items
+  unfolding at_hand
+  pops_object a here = let n = needs_met p m st runs (Pop a) here in object_tops m.entries.items st.0.items st.1.agrees.entries n.1.1.1.0
+
+  pub pops_entry : instr_at p (method_here m.stack.tasks) (place_here m.stack.tasks) ≡ Some PopOperation → IsAboveMark m.entries.items
+  unfolding at_hand
+  pops_entry here = let n = needs_met p m st runs PopOperation here in entry_tops m.entries.items st.0.items st.1.agrees.entries n.1.0
+
+  pub deletes_entry : instr_at p (method_here m.stack.tasks) (place_here m.stack.tasks) ≡ Some PopDelete → IsAboveMark m.entries.items
+  unfolding at_hand
+  deletes_entry here = let n = needs_met p m st runs PopDelete here in entry_tops m.entries.items st.0.items st.1.agrees.entries n.1.0
+
+  pub deletes_whole : instr_at p (method_here m.stack.tasks) (place_here m.stack.tasks) ≡ Some PopDelete → TopLives m
+  unfolding at_hand
+  deletes_whole here = let n = needs_met p m st runs PopDelete here in top_lives p m st.1.typing st.0 st.1.typed st.1.agrees n.1.1.0
+
+  -- ---- a trap
+
+  pub trapped_there : (target : Target) (k first x : ℕ) → instr_at p (method_here m.stack.tasks) (place_here m.stack.tasks) ≡ Some (Trap target k first x) → IsSome (method_at p k)
+  trapped_there target k first x here = (st.1.sound.wired.trapped (method_here m.stack.tasks) (place_here m.stack.tasks) target k first x here).there
+
+  pub trapped_fits : (target : Target) (k first x : ℕ) → instr_at p (method_here m.stack.tasks) (place_here m.stack.tasks) ≡ Some (Trap target k first x) → (first + length (arguments_of p k)) ≤ 16
+  trapped_fits target k first x here =
+      let n = needs_met p m st runs (Trap target k first x) here in
+      let parts = all_parts (needs_target p (at_hand p m st runs).frame (at_hand p m st runs).below (requested (Trap target k first x) (at_step (at_hand p m st runs).state)) target (method_class p k) first (length (arguments_of p k))) _ n.1 in
+      grind (arith, leb_tells (first + length (arguments_of p k)) 16, parts.1.0)
+
+-- ---- a return through a trap finds its mark
+
+-- as many items as below the entries are those below
+no_more : (es : List Pushed) (fs : List Form) → length (objects es fs) ≡ length fs → objects es fs ≡ fs
+no_more [] fs e = refl
+no_more (x ∷ es) fs e = let more = longer es fs in absurd (omega arith)
+  where
+    longer : (es : List Pushed) (fs : List Form) → length fs ≤ length (objects es fs)
+    longer [] fs = omega arith
+    longer (x ∷ es) fs = let more = longer es fs in omega arith
+
+length_forms : (js : List Item) → length (forms js) ≡ length js
+length_forms [] = refl
+length_forms (j ∷ js) = ap suc (length_forms js)
+
+mark_tops : (is : List Held_item) (js : List Item) (fs : List Form) → SameItems is js → forms js ≡ Mark_form ∷ fs → IsMarked is
+mark_tops is [] fs same e = cc
+mark_tops is (An_object ∷ js) fs same e = cc
+mark_tops is (An_operation k w ∷ js) fs same e = cc
+mark_tops [] (A_mark ∷ js) fs same e = absurd same
+mark_tops (Holds_object n ∷ is) (A_mark ∷ js) fs same e = absurd same.0
+mark_tops (Holds_operation k n ∷ is) (A_mark ∷ js) fs same e = absurd same.0
+mark_tops (Is_mark ∷ is) (A_mark ∷ js) fs same e = tt
+
+level : (p : Image) (fr : Frame) (ts : List Task) (s : State) (g : Gives) → LeavesNone g → is_level p fr ts s g ≡ true → length s.items ≡ fr.height
+level p fr ts s Nothing none e = eqb-true (length s.items) fr.height e
+level p fr ts s A_word none e = eqb-true (length s.items) fr.height e
+level p fr ts s (An_own t) none e = eqb-true (length s.items) fr.height e
+level p fr ts s (A_maybe t) none e = eqb-true (length s.items) fr.height e
+level p fr ts s (Left c) none e = absurd none
+
+marked_under : (p : Image) (t : Typing) (s : State) (fr : Frame) (ts : List Task) (is : List Held_item) → WellTyped p t s → s.tasks ≡ Run fr ∷ Trapped ∷ ts → SameItems is s.items → is_level p fr (Trapped ∷ ts) s (gives_of p fr.method) ≡ true → IsMarked is
+marked_under p t s fr ts is typed top same flat = go typed.layers (sym typed.tasks ∙ top) typed.items typed.good
+  where
+    go : (ls : List Layer) → tasks_of ls ≡ Run fr ∷ Trapped ∷ ts → forms s.items ≡ items_of ls → Good p t s.cells ls → IsMarked is
+    go [] e items good = cc
+    go (Mark g ∷ ls) e items good = cc
+    go (Dying o ∷ ls) e items good = cc
+    go (Unwinding code es ∷ ls) e items good = cc
+    go (Dispatching d ∷ ls) e items good = cc
+    go (Method fr' sh ∷ []) e items good = cc
+    go (Method fr' sh ∷ Method fr'' sh' ∷ ls) e items good = cc
+    go (Method fr' sh ∷ Dying o ∷ ls) e items good = cc
+    go (Method fr' sh ∷ Unwinding code es ∷ ls) e items good = cc
+    go (Method fr' sh ∷ Dispatching d ∷ ls) e items good = cc
+    go (Method fr' sh ∷ Mark gv ∷ ls) e items good =
+        let alike : fr' ≡ fr = cc in
+        let mark = good.stack.4.0 in
+        let none : LeavesNone (gives_of p fr.method) = subst (λ (f : Frame). LeavesNone (gives_of p f.method)) alike (subst LeavesNone (sym mark.0) mark.1) in
+        let height : fr.height ≡ suc (length (items_of ls)) = sym (ap (λ (f : Frame). f.height) alike) ∙ good.stack.1.height in
+        let even = sym (ap length items) ∙ length_forms s.items ∙ level p fr (Trapped ∷ ts) s (gives_of p fr.method) none flat ∙ height in
+        mark_tops is s.items (items_of ls) same (items ∙ no_more sh.entries (Mark_form ∷ items_of ls) even)
+
+pub finds_mark : (p : Image) (m : Parts) (a : ℕ) → Stands (record { image = p; parts = m }) → Runs m.stack.tasks → instr_at p (method_here m.stack.tasks) (place_here m.stack.tasks) ≡ Some (Return a) → IsTrapped (below_first m.stack.tasks) → IsMarked m.entries.items
+unfolding at_hand
+finds_mark p m a st runs here trapped =
+    let n = needs_met p m st runs (Return a) here in
+    let h = at_hand p m st runs in
+    let s = requested (Return a) (at_step h.state) in
+    let flat = (all_parts (result_needs p h.frame h.below s (gives_of p h.frame.method) a) _ n.1).1.0 in
+    go h.frame h.below h.top flat m.stack.tasks trapped (subst (SameTasks m.stack.tasks) h.top st.1.agrees.tasks)
+  where
+    go : (fr : Frame) (ts : List Task) → st.0.tasks ≡ Run fr ∷ ts → is_level p fr ts (requested (Return a) (at_step st.0)) (gives_of p fr.method) ≡ true → (ms : List Held_task) → IsTrapped (below_first ms) → SameTasks ms (Run fr ∷ ts) → IsMarked m.entries.items
+    go fr (Trapped ∷ ts) top flat (k ∷ Is_trap ∷ ms) trapped same = marked_under p st.1.typing st.0 fr ts m.entries.items st.1.typed top st.1.agrees.entries flat
+    go fr [] top flat (k ∷ Is_trap ∷ ms) trapped same = absurd same.1
+    go fr (Run g ∷ ts) top flat (k ∷ Is_trap ∷ ms) trapped same = absurd same.1.0
+    go fr (Destroy ∷ ts) top flat (k ∷ Is_trap ∷ ms) trapped same = absurd same.1.0
+    go fr (Unwind code ∷ ts) top flat (k ∷ Is_trap ∷ ms) trapped same = absurd same.1.0
+    go fr (Dispatched d ∷ ts) top flat (k ∷ Is_trap ∷ ms) trapped same = absurd same.1.0
+    go fr ts top flat [] trapped same = absurd trapped
+    go fr ts top flat (k ∷ []) trapped same = absurd trapped
+    go fr ts top flat (k ∷ Runs_frame f ∷ ms) trapped same = absurd trapped
+    go fr ts top flat (k ∷ Destroys x ∷ ms) trapped same = absurd trapped
+    go fr ts top flat (k ∷ Unwinds code ∷ ms) trapped same = absurd trapped
+    go fr ts top flat (k ∷ Ends d ∷ ms) trapped same = absurd trapped
+
+-- an entry is last or not
+pub not_both : (is : List Held_item) → IsAboveMark is → IsNotAboveMark is → ⊥
+not_both [] above not = above
+not_both (Holds_object n ∷ is) above not = not
+not_both (Holds_operation k n ∷ is) above not = not
+not_both (Is_mark ∷ is) above not = above
+
+-- what a method returns to through a trap
+pub coded_through : (p : Image) (ms : List Held_task) → ReturnsTo p ms → IsTrapped ms → Runs (below_first ms) → suc (result_register (instr_at p (method_here (below_first ms)) (place_here (below_first ms)))) < 16
+coded_through p (Is_trap ∷ Runs_frame f ∷ ms) to trapped runs = to.2
+coded_through p (Is_trap ∷ []) to trapped runs = absurd runs
+coded_through p (Is_trap ∷ Is_trap ∷ ms) to trapped runs = absurd runs
+coded_through p (Is_trap ∷ Destroys x ∷ ms) to trapped runs = absurd runs
+coded_through p (Is_trap ∷ Unwinds code ∷ ms) to trapped runs = absurd runs
+coded_through p (Is_trap ∷ Ends d ∷ ms) to trapped runs = absurd runs
+coded_through p [] to trapped runs = absurd trapped
+coded_through p (Runs_frame f ∷ ms) to trapped runs = absurd trapped
+coded_through p (Destroys x ∷ ms) to trapped runs = absurd trapped
+coded_through p (Unwinds code ∷ ms) to trapped runs = absurd trapped
+coded_through p (Ends d ∷ ms) to trapped runs = absurd trapped
+
+pub ends_under : (p : Image) (ms : List Held_task) → ReturnsTo p ms → IsTrapped ms → (Runs (below_first ms) → ⊥) → IsEnding (below_first ms)
+ends_under p (Is_trap ∷ Runs_frame f ∷ ms) to trapped stops = absurd (stops tt)
+ends_under p (Is_trap ∷ Ends d ∷ ms) to trapped stops = tt
+ends_under p (Is_trap ∷ []) to trapped stops = absurd to
+ends_under p (Is_trap ∷ Is_trap ∷ ms) to trapped stops = absurd to
+ends_under p (Is_trap ∷ Destroys x ∷ ms) to trapped stops = absurd to
+ends_under p (Is_trap ∷ Unwinds code ∷ ms) to trapped stops = absurd to
+ends_under p [] to trapped stops = absurd trapped
+ends_under p (Runs_frame f ∷ ms) to trapped stops = absurd trapped
+ends_under p (Destroys x ∷ ms) to trapped stops = absurd trapped
+ends_under p (Unwinds code ∷ ms) to trapped stops = absurd trapped
+ends_under p (Ends d ∷ ms) to trapped stops = absurd trapped

@@ -1,0 +1,115 @@
+-- The rules of the cleanup stack, and of leaves.
+use Rattle.std.specs.Prelude.{ℕ, Bool, true, false, not, List, [], ◌∷◌}
+use Rattle.aom_image.specs.Image.{Image}
+use Rattle.aom_image.specs.Views.{is_quiet, leaves}
+use Rattle.aom_image.specs.declared.method.Thing.{Thing}
+use Rattle.aom_image.specs.declared.method.Thing.TheVariants.{Object, Message}
+use Rattle.aom_shape.specs.Shape.{Shape}
+use Rattle.aom_shape.specs.Kinds.{register, set_register, entry_kind, is_object, is_unowning, is_word, none_owns, no_entry}
+use Rattle.aom_shape.specs.Needs.{Need, Flow, to_next}
+use Rattle.aom_shape.specs.Objects.{new_age}
+use Rattle.aom_shape.specs.declared.kind.Age.{Age}
+use Rattle.aom_shape.specs.declared.kind.Kind.{Kind}
+use Rattle.aom_shape.specs.declared.kind.Kind.TheVariants.{Unset, Word, Null, Own, Maybe}
+use Rattle.aom_shape.specs.declared.kind.Entry.{Entry}
+use Rattle.aom_shape.specs.declared.kind.Entry.TheVariants.{Object as An_object, Operation}
+use Rattle.aom_shape.specs.declared.why.Why.TheVariants.{RegisterKind, OwnedAtLeave, PopEmpty, LeaveNotAllowed, QuietBroken}
+
+-- it owns an object, which is no message
+abbrev pub owns_object : Kind → Bool
+owns_object Unset = false
+owns_object Word = false
+owns_object Null = false
+owns_object (Own t a) = is_object t
+owns_object (Maybe t a) = false
+
+-- the entry of an object that is pushed
+abbrev pub thing_entry : Thing → Age → Entry
+thing_entry (Object c) a = An_object c a
+thing_entry Message a = Operation
+
+abbrev pub entry_of : Kind → Entry
+entry_of Unset = Operation
+entry_of Word = Operation
+entry_of Null = Operation
+entry_of (Own t a) = thing_entry t a
+entry_of (Maybe t a) = Operation
+
+-- the last entry is that of an object, or of an operation
+abbrev pub is_object_entry : Entry → Bool
+is_object_entry (An_object c a) = true
+is_object_entry Operation = false
+
+abbrev pub tops_object : List Entry → Bool
+tops_object [] = false
+tops_object (e ∷ es) = is_object_entry e
+
+abbrev pub tops_operation : List Entry → Bool
+tops_operation [] = false
+tops_operation (e ∷ es) = not (is_object_entry e)
+
+-- what the last entry owns
+abbrev pub top_kind : List Entry → Kind
+top_kind [] = Null
+top_kind (e ∷ es) = entry_kind e
+
+abbrev pub without_top : List Entry → List Entry
+without_top [] = []
+without_top (e ∷ es) = es
+
+abbrev pub with_entry : Entry → Shape → Shape
+with_entry e sh = record sh { entries = e ∷ sh.entries }
+
+abbrev pub without_entry : Shape → Shape
+without_entry sh = record sh { entries = without_top sh.entries }
+
+module _ (p : Image) (m : ℕ) (pc : ℕ) (sh : Shape) where
+  -- where a method may leave in that state: it is one that may, and no register owns
+  abbrev pub leave_point : Shape → List Need
+  leave_point left = (leaves p m, LeaveNotAllowed) ∷ (none_owns left.registers, OwnedAtLeave) ∷ []
+
+  abbrev pub rule_new_or_leave : ℕ → List Need
+  rule_new_or_leave a = (is_unowning (register sh a), RegisterKind) ∷ (not (is_quiet p m), QuietBroken) ∷ leave_point sh
+
+  abbrev pub flow_new_or_leave : ℕ → ℕ → List Flow
+  flow_new_or_leave a c = to_next pc (set_register sh a (Own (Object c) (new_age p c)))
+
+  -- the object is on the cleanup stack before the push may leave
+  abbrev pub rule_push : ℕ → List Need
+  rule_push a = (owns_object (register sh a), RegisterKind) ∷ leave_point (set_register sh a Null)
+
+  abbrev pub flow_push : ℕ → List Flow
+  flow_push a = to_next pc (with_entry (entry_of (register sh a)) (set_register sh a Null))
+
+  abbrev pub rule_push_operation : ℕ → List Need
+  rule_push_operation a = (is_word (register sh a), RegisterKind) ∷ leave_point sh
+
+  abbrev pub flow_push_operation : List Flow
+  flow_push_operation = to_next pc (with_entry Operation sh)
+
+  abbrev pub rule_pop : ℕ → List Need
+  rule_pop a =
+      (is_unowning (register sh a), RegisterKind)
+      ∷ (not (no_entry sh.entries), PopEmpty)
+      ∷ (tops_object sh.entries, RegisterKind)
+      ∷ []
+
+  abbrev pub flow_pop : ℕ → List Flow
+  flow_pop a = to_next pc (set_register (without_entry sh) a (top_kind sh.entries))
+
+  abbrev pub rule_pop_operation : List Need
+  rule_pop_operation = (not (no_entry sh.entries), PopEmpty) ∷ (tops_operation sh.entries, RegisterKind) ∷ []
+
+  -- an object is destroyed, and an operation is run
+  abbrev pub rule_pop_delete : List Need
+  rule_pop_delete = (not (no_entry sh.entries), PopEmpty) ∷ []
+
+  abbrev pub flow_without_entry : List Flow
+  flow_without_entry = to_next pc (without_entry sh)
+
+  -- of the two instructions that leave with a word, one of them where it is negative
+  abbrev pub rule_leave : ℕ → List Need
+  rule_leave a = (is_word (register sh a), RegisterKind) ∷ leave_point sh
+
+  abbrev pub flow_leave_if : List Flow
+  flow_leave_if = to_next pc sh

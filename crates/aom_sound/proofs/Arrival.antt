@@ -1,0 +1,106 @@
+-- The code of a leave arrives: at the method that set the trap, or at main's dispatch.
+use Rattle.std.proofs.Common.{List, None, Some, [], ap, pos, refl, subst, suc, sym, true, ℕ, ℤ, ◌∙◌, ◌∷◌, ◌≡◌}
+use Rattle.aom_image.specs.Image.{Image}
+use Rattle.aom_image.specs.Views.{instr_at}
+use Rattle.aom_image.specs.declared.method.Gives.{Gives}
+use Rattle.aom_image.specs.declared.method.Gives.TheVariants.{Left, Maybe as A_maybe, Nothing, Own as An_own, Word as A_word}
+use Rattle.aom_shape.specs.Calls.{caught}
+use Rattle.aom_shape.specs.Kinds.{is_unowning, register, set_register}
+use Rattle.aom_shape.specs.Shape.{Shape}
+use Rattle.aom_shape.specs.Typing.{Leads, Typing}
+use Rattle.aom_shape.specs.declared.kind.Age.TheVariants.{Ready}
+use Rattle.aom_shape.specs.declared.kind.Kind.TheVariants.{Maybe, Word}
+use Rattle.aom_sound.proofs.Straight.{Fitted, next_unowning, settle, stepped, write}
+use Rattle.aom_sound.specs.Calls.{called, result_register}
+use Rattle.aom_sound.specs.Claims.{Dispatching, Dying, Layer, Mark, Method, Unwinding, claim, declared, forms, items_of, objects, tasks_of}
+use Rattle.aom_sound.specs.Cleanup.{arrived, code_told}
+use Rattle.aom_sound.specs.Places.{Cell, Elsewhere, Entry, Field, Going, Place, Register, Root, held}
+use Rattle.aom_sound.specs.State.{Dispatch, Frame, Item, Main_left, Of_main, Of_root, State, Static, next, set_word}
+use Rattle.aom_sound.specs.WellTyped.{AllUndo, Awaits, Caught, Fits, Good, Keeps, Stack}
+
+same_entries : (g : Gives) (c : ℕ) (sh : Shape) → (caught g c sh).entries ≡ sh.entries
+same_entries Nothing c sh = refl
+same_entries A_word c sh = refl
+same_entries (An_own x) c sh = refl
+same_entries (A_maybe x) c sh = refl
+same_entries (Left x) c sh = refl
+
+-- null or 0 where the result would be, and the code
+told_fitted :
+    (p : Image) (t : Typing) (cs : List Cell) (fr : Frame) (sh : Shape) (ls : List Layer) (code : ℤ) (g : Gives) (c : ℕ) →
+    Fitted p t cs fr sh ls → is_unowning (register sh (suc c)) ≡ true → Awaits g c sh → Fitted p t cs (code_told g c code fr) (caught g c sh) ls
+told_fitted p t cs fr sh ls code Nothing c f u a = write p t cs fr sh ls (suc c) (Some code) Word f u (λ h. tt) tt
+told_fitted p t cs fr sh ls code A_word c f u a =
+    write p t cs (set_word fr c (Some (pos 0))) (set_register sh c Word) ls (suc c) (Some code) Word
+    (write p t cs fr sh ls c (Some (pos 0)) Word f a (λ h. tt) tt) (next_unowning sh.registers c Word u) (λ h. tt) tt
+told_fitted p t cs fr sh ls code (An_own x) c f u a =
+    write p t cs (set_word fr c None) (set_register sh c (Maybe x Ready)) ls (suc c) (Some code) Word
+    (write p t cs fr sh ls c None (Maybe x Ready) f a (λ h. tt) refl) (next_unowning sh.registers c (Maybe x Ready) u) (λ h. tt) tt
+told_fitted p t cs fr sh ls code (A_maybe x) c f u a =
+    write p t cs (set_word fr c None) (set_register sh c (Maybe x Ready)) ls (suc c) (Some code) Word
+    (write p t cs fr sh ls c None (Maybe x Ready) f a (λ h. tt) refl) (next_unowning sh.registers c (Maybe x Ready) u) (λ h. tt) tt
+told_fitted p t cs fr sh ls code (Left x) c f u a = write p t cs fr sh ls (suc c) (Some code) Word f u (λ h. tt) tt
+
+-- method and place stay
+abbrev pub bare : Frame → Frame
+bare fr = record fr { words = []; home = Static }
+
+pub told_same : (g : Gives) (c : ℕ) (code : ℤ) (fr : Frame) → bare (code_told g c code fr) ≡ bare fr
+told_same Nothing c code fr = refl
+told_same A_word c code fr = refl
+told_same (An_own x) c code fr = refl
+told_same (A_maybe x) c code fr = refl
+told_same (Left x) c code fr = refl
+
+module _ (p : Image) (t : Typing) (s : State) (code : ℤ) (items : List Item) where
+  -- at the method that set the trap
+  at_method : (gv : Gives) (fr : Frame) (sh : Shape) (ls : List Layer) → forms items ≡ objects sh.entries (items_of ls) → AllUndo p items → Good p t s.cells (Unwinding code [] ∷ Mark gv ∷ Method fr sh ∷ ls) → Keeps p t (arrived p code (tasks_of (Mark gv ∷ Method fr sh ∷ ls)) items s)
+  at_method gv fr sh ls same undos good =
+      let below = good.stack.1.1 in
+      let i = instr_at p fr.method fr.place in
+      let c = result_register i in
+      let fr' = code_told (called p i) c code fr in
+      let f : Fitted p t s.cells fr sh ls = record { fits = fits; tidy = good.tidy; frames = below.1; housed = below.2; apart = below.3; stack = below.4 } in
+      let g : Fitted p t s.cells fr' (caught gv c sh) ls =
+      subst (λ g. Fitted p t s.cells (code_told g c code fr) (caught gv c sh) ls) (sym below.0.0) (told_fitted p t s.cells fr sh ls code gv c f below.0.1 below.0.2) in
+      let leads : Leads t fr'.method (suc fr'.place) (caught gv c sh) = subst (λ m. Leads t m.method (suc m.place) (caught gv c sh)) (sym (told_same (called p i) c code fr)) below.0.3 in
+      let e = settle p t s.cells (next fr') (caught gv c sh) ls (stepped p t s.cells fr' (caught gv c sh) ls g) leads in
+      record { layers = Method (next fr') e.0 ∷ ls; tasks = refl; items = same ∙ ap (λ es. objects es (items_of ls)) (sym (e.2 ∙ same_entries gv c sh)); undos = undos; good = e.1 }
+    where
+      fits : (r : Place) → Fits p (held s.cells) (held s.cells r) (claim p (declared p s.cells) (Method fr sh ∷ ls) r)
+      fits (Register f i) = good.fits (Register f i)
+      fits (Entry k) = good.fits (Entry k)
+      fits (Field n f) = good.fits (Field n f)
+      fits (Elsewhere Root) = good.fits (Elsewhere Root)
+      fits (Going k) = good.fits (Going k)
+
+  -- at main's dispatch, which ends with it
+  at_dispatch : (gv : Gives) (d : Dispatch) (ls : List Layer) → forms items ≡ items_of ls → AllUndo p items → Good p t s.cells (Unwinding code [] ∷ Mark gv ∷ Dispatching d ∷ ls) → Keeps p t (arrived p code (tasks_of (Mark gv ∷ Dispatching d ∷ ls)) items s)
+  at_dispatch gv Of_main ls same undos good = record {
+    layers = Dispatching (Main_left code) ∷ ls;
+    tasks = refl;
+    items = same;
+    undos = undos;
+    good = record { stack = (tt, good.stack.1.1.1); fits = fits; tidy = good.tidy };
+  }
+    where
+      fits : (r : Place) → Fits p (held s.cells) (held s.cells r) (claim p (declared p s.cells) (Dispatching (Main_left code) ∷ ls) r)
+      fits (Register f i) = good.fits (Register f i)
+      fits (Entry k) = good.fits (Entry k)
+      fits (Field n f) = good.fits (Field n f)
+      fits (Elsewhere Root) = good.fits (Elsewhere Root)
+      fits (Going k) = good.fits (Going k)
+  at_dispatch gv (Main_left x) ls same undos good = absurd good.stack.1.1.0
+  at_dispatch gv Of_root ls same undos good = absurd good.stack.1.1.0
+
+  -- a trap stands over one of the two
+  pub arrives : (gv : Gives) (ls : List Layer) → forms items ≡ items_of ls → AllUndo p items → Good p t s.cells (Unwinding code [] ∷ Mark gv ∷ ls) → Keeps p t (arrived p code (tasks_of (Mark gv ∷ ls)) items s)
+  arrives gv [] same undos good = absurd (nothing_below good.stack.1.1)
+    where
+      nothing_below : Stack p t s.cells (Caught gv) [] → ⊥
+      nothing_below e = cc
+  arrives gv (Method fr sh ∷ ls) same undos good = at_method gv fr sh ls same undos good
+  arrives gv (Mark gv' ∷ ls) same undos good = absurd good.stack.1.1.0
+  arrives gv (Dying o ∷ ls) same undos good = absurd good.stack.1.1.1
+  arrives gv (Unwinding x es ∷ ls) same undos good = absurd good.stack.1.1.0
+  arrives gv (Dispatching d ∷ ls) same undos good = at_dispatch gv d ls same undos good

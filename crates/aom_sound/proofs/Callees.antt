@@ -1,0 +1,151 @@
+-- What a call says of its arguments, its target and the class of the method called.
+use Rattle.std.proofs.Common.{Bool, List, None, Option, Some, [], ap, arith, cond, false, inl, inr, length, refl, suc, sym, true, zero, ℕ, ◌&&◌, ◌+◌, ◌<◌, ◌==◌, ◌∙◌, ◌∷◌, ◌≡◌, ◌≤◌}
+use Rattle.std.proofs.lemmas.Bool.{and_from, ne_eqb, true≢false}
+use Rattle.std.proofs.lemmas.Bool.Decides.{leb_tells}
+use Rattle.std.specs.Prelude.{not, replicate, ◌⊎◌}
+use Rattle.aom_image.specs.Image.{Image}
+use Rattle.aom_image.specs.declared.method.Argument.{Argument}
+use Rattle.aom_image.specs.declared.method.Argument.TheVariants.{Own as Takes_own, Word as Takes_word}
+use Rattle.aom_image.specs.declared.method.Role.{Role}
+use Rattle.aom_image.specs.declared.method.Role.TheVariants.{Accept, Cancel, Construct, Destruct, Do, Error, Main, Run as Runs, Service, Undo}
+use Rattle.aom_image.specs.declared.method.Thing.{Thing}
+use Rattle.aom_shape.specs.Calls.{arguments_moved, is_among, is_own_for}
+use Rattle.aom_shape.specs.Kinds.{filled, is_ready_kind, is_unowning, none_owns, register, set_register}
+use Rattle.aom_shape.specs.Needs.{only_if}
+use Rattle.aom_shape.specs.Shape.{Shape}
+use Rattle.aom_shape.specs.Tables.{at}
+use Rattle.aom_shape.specs.Things.{Member, Nobody, holder_by, stands_for}
+use Rattle.aom_shape.specs.Typing.{Typing}
+use Rattle.aom_shape.specs.declared.kind.Age.{Age}
+use Rattle.aom_shape.specs.declared.kind.Filling.{Filling}
+use Rattle.aom_shape.specs.declared.kind.Filling.TheVariants.{Empty, Full, Perhaps}
+use Rattle.aom_shape.specs.declared.kind.Kind.{Kind}
+use Rattle.aom_shape.specs.declared.kind.Kind.TheVariants.{Maybe, Null, Own, Unset, Word}
+use Rattle.aom_sound.proofs.Claimed.{length_objects}
+use Rattle.aom_sound.proofs.Maps.{at-put_at, held_moved}
+use Rattle.aom_sound.proofs.Passing.{lower, upper}
+use Rattle.aom_sound.specs.Calls.{passed_cells}
+use Rattle.aom_sound.specs.Claims.{Layer, Method, items_of, tasks_of}
+use Rattle.aom_sound.specs.Places.{Cell, Elsewhere, Entry, Field, Going, Object, Place, Register, Root, held, moved, same_place}
+use Rattle.aom_sound.specs.State.{AtRoot, Frame, Home, Inside, State, Static, home_holder, thing_holder}
+use Rattle.aom_sound.specs.WellTyped.{Fits, IsBelow}
+
+-- what a test that is asked for says
+pub only_then : (a b : Bool) → only_if a b ≡ true → a ≡ true → b ≡ true
+only_then true b e h = e
+only_then false b e h = absurd (true≢false (sym h))
+
+pub none_owns_each : (ks : List Kind) → ((i : ℕ) → is_unowning (at Unset ks i) ≡ true) → none_owns ks ≡ true
+none_owns_each [] h = refl
+none_owns_each (k ∷ ks) h = and_from _ _ (h 0) (none_owns_each ks (λ i. h (suc i)))
+
+-- a register that is no argument
+pub apart_from : (first count r : ℕ) → not (is_among first count r) ≡ true → (r < first) ⊎ ((first + count) ≤ r)
+apart_from first count r e = grind (arith, leb_tells first r, leb_tells (suc r) (first + count))
+
+pub moved_fields : (xs : List Argument) (first : ℕ) (sh : Shape) → (arguments_moved xs first sh).fields ≡ sh.fields
+moved_fields [] first sh = refl
+moved_fields (Takes_word ∷ xs) first sh = moved_fields xs (suc first) sh
+moved_fields (Takes_own t ∷ xs) first sh = moved_fields xs (suc first) (set_register sh first Null)
+
+pub moved_entries : (xs : List Argument) (first : ℕ) (sh : Shape) → (arguments_moved xs first sh).entries ≡ sh.entries
+moved_entries [] first sh = refl
+moved_entries (Takes_word ∷ xs) first sh = moved_entries xs (suc first) sh
+moved_entries (Takes_own t ∷ xs) first sh = moved_entries xs (suc first) (set_register sh first Null)
+
+pub moved_register : (xs : List Argument) (first : ℕ) (sh : Shape) (r : ℕ) → (r < first) ⊎ ((first + length xs) ≤ r) → register (arguments_moved xs first sh) r ≡ register sh r
+moved_register [] first sh r h = refl
+moved_register (Takes_word ∷ xs) first sh r (inl lt) = moved_register xs (suc first) sh r (inl (omega arith))
+moved_register (Takes_word ∷ xs) first sh r (inr le) = moved_register xs (suc first) sh r (inr (omega arith))
+moved_register (Takes_own t ∷ xs) first sh r (inl lt) =
+    moved_register xs (suc first) (set_register sh first Null) r (inl (omega arith))
+    ∙ at-put_at Unset sh.registers first r Null ∙ ap (λ b. cond b Null (register sh r)) (ne_eqb first r (λ e. absurd (omega arith)))
+moved_register (Takes_own t ∷ xs) first sh r (inr le) =
+    moved_register xs (suc first) (set_register sh first Null) r (inr (omega arith))
+    ∙ at-put_at Unset sh.registers first r Null ∙ ap (λ b. cond b Null (register sh r)) (ne_eqb first r (λ e. absurd (omega arith)))
+
+pub below_more : (from : Place) (fr : Frame) (sh : Shape) (ls : List Layer) → IsBelow from ls → IsBelow from (Method fr sh ∷ ls)
+below_more (Register f i) fr sh ls b = omega arith
+below_more (Entry k) fr sh ls b = omega (arith, length_objects sh.entries (items_of ls))
+below_more (Field n f) fr sh ls b = inr b
+below_more (Elsewhere Root) fr sh ls b = tt
+below_more (Going k) fr sh ls b = omega arith
+
+-- whose fields a called method works on, by its class
+pub holder_static : (r : Option Role) → (r ≡ Some Do) ⊎ (r ≡ Some Construct) → holder_by r None ≡ Nobody
+holder_static r (inl e) = ap (λ x. holder_by x None) e
+holder_static r (inr e) = ap (λ x. holder_by x None) e
+
+pub holder_called : (r : Option Role) (c : ℕ) → (r ≡ Some Do) ⊎ (r ≡ Some Construct) → holder_by r (Some c) ≡ Member c
+holder_called r c (inl e) = ap (λ x. holder_by x (Some c)) e
+holder_called r c (inr e) = ap (λ x. holder_by x (Some c)) e
+
+pub holder_member : (r : Option Role) (c : ℕ) → (r ≡ Some Main → ⊥) → holder_by r (Some c) ≡ Member c
+holder_member None c no_main = refl
+holder_member (Some Do) c no_main = refl
+holder_member (Some Main) c no_main = absurd (no_main refl)
+holder_member (Some Construct) c no_main = refl
+holder_member (Some Destruct) c no_main = refl
+holder_member (Some Runs) c no_main = refl
+holder_member (Some Cancel) c no_main = refl
+holder_member (Some Error) c no_main = refl
+holder_member (Some Accept) c no_main = refl
+holder_member (Some Service) c no_main = refl
+holder_member (Some Undo) c no_main = refl
+
+pub home_member : (h : Home) (c : ℕ) → home_holder h ≡ Member c → (o : Object) × (from : Place) × (h ≡ Inside o from) × (thing_holder o.thing ≡ Member c)
+home_member Static c e = cc
+home_member AtRoot c e = cc
+home_member (Inside o from) c e = (o, from, refl, e)
+
+pub own_for : (p : Image) (t : Thing) (k : Kind) → is_own_for p t k ≡ true → (x : Thing) × (a : Age) × (k ≡ Own x a) × (stands_for p x t ≡ true)
+own_for p t Unset e = cc
+own_for p t Word e = cc
+own_for p t Null e = cc
+own_for p t (Own x a) e = (x, a, refl, e)
+own_for p t (Maybe x a) e = cc
+
+pub held_own : (p : Image) (h : Place → Option Object) (o : Option Object) (x : Thing) (a : Age) → Fits p h o (Own x a) → (y : Object) × (o ≡ Some y) × (stands_for p y.thing x ≡ true)
+held_own p h None x a f = absurd f
+held_own p h (Some y) x a f = (y, refl, f.0)
+
+pub filled_ready : (x : Option Thing) (y : Filling) → is_ready_kind (filled x y) ≡ true
+filled_ready None y = refl
+filled_ready (Some x) Empty = refl
+filled_ready (Some x) Full = refl
+filled_ready (Some x) Perhaps = refl
+
+-- a field of a fresh object
+pub fits_fresh : (p : Image) (h : Place → Option Object) (x : Option Thing) (n f : ℕ) → Fits p h None (filled x (at Perhaps (replicate n Empty) f))
+fits_fresh p h None n f = tt
+fits_fresh p h (Some x) zero f = tt
+fits_fresh p h (Some x) (suc n) zero = tt
+fits_fresh p h (Some x) (suc n) (suc f) = fits_fresh p h (Some x) n f
+
+-- what is no argument stays where it is
+module _ (p : Image) (s : State) (fr : Frame) (ls : List Layer) (depth : ℕ) (deep : length (tasks_of ls) < depth) where
+  pub passed_elsewhere : (t : Typing) (xs : List Argument) (first to : ℕ) (cs : List Cell) (q : Place) → ((i : ℕ) → to ≤ i → held cs (upper p t fr ls depth deep i) ≡ None) → ((i : ℕ) → first ≤ i → i < (first + length xs) → same_place (lower p t fr ls depth deep i) q ≡ false) → ((i : ℕ) → same_place (upper p t fr ls depth deep i) q ≡ false) → held (passed_cells p fr (tasks_of ls) s depth xs first to cs) q ≡ held cs q
+  passed_elsewhere t [] first to cs q free lo up = refl
+  passed_elsewhere t (Takes_word ∷ xs) first to cs q free lo up = passed_elsewhere t xs (suc first) (suc to) cs q (λ i le. free i (omega arith)) (λ i le lt. lo i (omega arith) (omega arith)) up
+  passed_elsewhere t (Takes_own x ∷ xs) first to cs q free lo up =
+      let a = lower p t fr ls depth deep first in
+      let b = upper p t fr ls depth deep to in
+      passed_elsewhere t xs (suc first) (suc to) (moved a b cs) q
+      (λ i le. held_moved cs a b (upper p t fr ls depth deep i) (free to (omega arith))
+      ∙ ap (λ y. cond y (held cs a) (cond (same_place a (upper p t fr ls depth deep i)) None (held cs (upper p t fr ls depth deep i)))) (same_upper i le)
+      ∙ ap (λ y. cond y None (held cs (upper p t fr ls depth deep i))) (lower_upper i)
+      ∙ free i (omega arith))
+      (λ i le lt. lo i (omega arith) (omega arith)) up
+      ∙ held_moved cs a b q (free to (omega arith))
+      ∙ ap (λ y. cond y (held cs a) (cond (same_place a q) None (held cs q))) (up to)
+      ∙ ap (λ y. cond y None (held cs q)) (lo first (omega arith) (omega arith))
+    where
+      same_upper : (i : ℕ) → suc to ≤ i → same_place (upper p t fr ls depth deep to) (upper p t fr ls depth deep i) ≡ false
+      same_upper i le = ap (λ y. (depth == depth) && y) (ne_eqb to i (λ e. absurd (omega arith))) ∙ both (depth == depth)
+        where
+          both : (b : Bool) → (b && false) ≡ false
+          both true = refl
+          both false = refl
+
+      lower_upper : (i : ℕ) → same_place (lower p t fr ls depth deep first) (upper p t fr ls depth deep i) ≡ false
+      lower_upper i = ap (λ y. y && (first == i)) (ne_eqb (length (tasks_of ls)) depth (λ e. absurd (omega arith)))

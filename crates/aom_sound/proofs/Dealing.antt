@@ -1,0 +1,167 @@
+-- The last item of the cleanup stack is dealt with: its object is destroyed, or its operation runs, over the layers below it.
+use Rattle.std.proofs.Common.{Bool, List, None, Option, Some, [], ap, arith, cond, false, length, map, refl, subst, suc, sym, true, zero, ℕ, ℤ, ◌==◌, ◌∙◌, ◌∷◌, ◌≡◌, ◌≤◌}
+use Rattle.std.proofs.lemmas.Bool.{eqb-true}
+use Rattle.std.specs.Prelude.{is_some}
+use Rattle.aom_image.specs.Image.{Image}
+use Rattle.aom_image.specs.Views.{method_class}
+use Rattle.aom_image.specs.declared.method.Role.TheVariants.{Undo}
+use Rattle.aom_image.specs.declared.method.Thing.TheVariants.{Object as An_object_of}
+use Rattle.aom_shape.specs.Kinds.{entry_kind, filled, register}
+use Rattle.aom_shape.specs.Order.{SaysNoMore}
+use Rattle.aom_shape.specs.Shape.{Shape}
+use Rattle.aom_shape.specs.Tables.{at}
+use Rattle.aom_shape.specs.Things.{Nobody, field_thing, holder_by, holder_of}
+use Rattle.aom_shape.specs.Typing.{IsTyped, Typing, argument_kind, entry_shape}
+use Rattle.aom_shape.specs.declared.kind.Age.{Age}
+use Rattle.aom_shape.specs.declared.kind.Entry.{Entry as Pushed}
+use Rattle.aom_shape.specs.declared.kind.Entry.TheVariants.{Object as Pushed_object, Operation as Pushed_operation}
+use Rattle.aom_shape.specs.declared.kind.Filling.TheVariants.{Perhaps}
+use Rattle.aom_shape.specs.declared.kind.Kind.{Kind}
+use Rattle.aom_shape.specs.declared.kind.Kind.TheVariants.{Null, Own, Unset, Word}
+use Rattle.aom_sound.proofs.Claimed.{claim_entry_above, claim_register_above, fits_weaker, stack_moved, word_fits_weaker}
+use Rattle.aom_sound.proofs.Destroying.{begin, goes_fitting, goes_there, no_going, untouched}
+use Rattle.aom_sound.proofs.Items.{length_forms}
+use Rattle.aom_sound.proofs.Maps.{held_lives, named_moved, same_place-true, same_place_refl, tidy_moved}
+use Rattle.aom_sound.proofs.Straight.{fits_unowning}
+use Rattle.aom_sound.specs.Claims.{Layer, Method, claim, declared, entry_claim, entry_form, forms, items_of, objects, tasks_of}
+use Rattle.aom_sound.specs.Cleanup.{dealt_with, destroyed, operation_frame, top_is_whole}
+use Rattle.aom_sound.specs.Laws.{IsWired}
+use Rattle.aom_sound.specs.Places.{Elsewhere, Entry, Field, Going, Object, Place, Register, Root, Tidy, changed, held, moved, same_place}
+use Rattle.aom_sound.specs.State.{A_mark, An_object, An_operation, Item, Run, State, Static, thing_holder, word}
+use Rattle.aom_sound.specs.WellTyped.{AllUndo, Fits, Gone, IsUndo, Returns, Stack, WellTyped, WordFits}
+
+-- without the last entry the layers claim nothing of its place, and else the same
+pub less_claims : (f g : Place → Kind) (q : Place) (k : Kind) → ((r : Place) → f r ≡ changed g q k r) → g q ≡ Null → (r : Place) → g r ≡ changed f q Null r
+less_claims f g q k more free r = go (same_place q r) refl
+  where
+    go : (b : Bool) → same_place q r ≡ b → g r ≡ cond b Null (f r)
+    go true e = ap g (sym (same_place-true q r e)) ∙ free
+    go false e = sym (more r ∙ ap (λ b. cond b k (g r)) e)
+
+-- the layers with the last entry, and those below it, over which it is dealt with
+pub record Dealing (p : Image) (t : Typing) (s : State) (e : Pushed) (before below : List Layer) : Type 0 where
+  pub fits : (r : Place) → Fits p (held s.cells) (held s.cells r) (claim p (declared p s.cells) before r)
+  pub claims : (r : Place) → claim p (declared p s.cells) before r ≡ changed (claim p (declared p s.cells) below) (Entry (length (items_of below))) (entry_kind e) r
+  pub deep : length (tasks_of before) ≡ length (tasks_of below)
+  pub tidy : Tidy s.cells
+  pub items : forms s.items ≡ entry_form e ∷ items_of below
+  pub undos : AllUndo p s.items
+  -- below a destruction, and below an operation
+  pub under_object : Stack p t s.cells Gone below
+  pub under_operation : (m : ℕ) → IsUndo p m → Stack p t s.cells (Returns m Static) below
+
+module _ (p : Image) (t : Typing) (wired : IsWired p) (typed : IsTyped p t) (s : State) (e : Pushed) (before below : List Layer) (d : Dealing p t s e before below) where
+  abbrev q : Place
+  q = Entry (length (items_of below))
+
+  less : (r : Place) → claim p (declared p s.cells) below r ≡ changed (claim p (declared p s.cells) before) (Entry (length (items_of below))) Null r
+  less = less_claims (claim p (declared p s.cells) before) (claim p (declared p s.cells) below) q (entry_kind e) d.claims (claim_entry_above p s.cells below (length (items_of below)) (omega arith))
+
+  -- what the entry's place holds is as the entry says
+  entry_fits : Fits p (held s.cells) (held s.cells (Entry (length (items_of below)))) (entry_kind e)
+  entry_fits = subst (λ k. Fits p (held s.cells) (held s.cells q) k) (d.claims q ∙ ap (λ b. cond b (entry_kind e) (claim p (declared p s.cells) below q)) (same_place_refl q)) (d.fits q)
+
+  -- the object of an entry goes
+  object_goes : (o : Object) (items : List Item) → forms items ≡ items_of below → AllUndo p items → held s.cells (Entry (length (items_of below))) ≡ Some o → WellTyped p t (destroyed p (Some o) items (tasks_of below) s)
+  object_goes o items same undos there =
+      let g = Going (length (tasks_of below)) in
+      let high : length items ≡ length (items_of below) = sym (length_forms items) ∙ ap length same in
+      let deep : length (tasks_of before) ≤ length (tasks_of below) = omega (arith, d.deep) in
+      let free = no_going p t s.cells o q before below d.fits there deep less in
+      let k : ℕ → Kind = λ f. filled (field_thing p (thing_holder o.thing) f) Perhaps in
+      begin p t wired typed (moved q g s.cells) o below
+      (goes_fitting p t s.cells o q before below d.fits there deep less)
+      (tidy_moved s.cells q g free d.tidy)
+      (stack_moved p t s.cells q g below Gone free (omega arith) (omega arith) d.under_object)
+      (goes_there p t s.cells o q before below d.fits there deep less)
+      (named_moved s.cells q g o.name ∙ held_lives s.cells q o d.tidy there)
+      (untouched p t s.cells q o d.tidy there k below Gone (omega arith) d.under_object)
+      (destroyed p (Some o) items (tasks_of below) s) (length items) high (ap (λ n. moved (Entry n) g s.cells) high) refl same undos
+
+  module _ (m : ℕ) (w : ℤ) (undo : IsUndo p m) (operation : entry_kind e ≡ Null) where
+    -- what is known as an operation begins: its word
+    begins_with : (i : ℕ) → register (entry_shape p m) i ≡ at Unset (Word ∷ []) i
+    begins_with i = ap (λ xs. register (record (entry_shape p m) { registers = map argument_kind xs }) i) undo.arguments
+
+    none_yet : (i : ℕ) → Fits p (held s.cells) None (at Unset (Word ∷ []) i)
+    none_yet zero = tt
+    none_yet (suc i) = tt
+
+    its_word : (i : ℕ) → WordFits (at None (Some w ∷ []) i) (at Unset (Word ∷ []) i)
+    its_word zero = tt
+    its_word (suc i) = tt
+
+    -- the entry's claim was none
+    fits_below : (r : Place) → Fits p (held s.cells) (held s.cells r) (claim p (declared p s.cells) below r)
+    fits_below r = subst (λ k. Fits p (held s.cells) (held s.cells r) k) (sym (less r ∙ go (same_place q r) refl)) (d.fits r)
+      where
+        go : (b : Bool) → same_place q r ≡ b → cond b Null (claim p (declared p s.cells) before r) ≡ claim p (declared p s.cells) before r
+        go true h = sym (d.claims r ∙ ap (λ b. cond b (entry_kind e) (claim p (declared p s.cells) below r)) h ∙ operation)
+        go false h = refl
+
+    runs_fitting : (height : ℕ) (after : Shape) → SaysNoMore after (entry_shape p m) → (r : Place) → Fits p (held s.cells) (held s.cells r) (claim p (declared p s.cells) (Method (operation_frame m w height) after ∷ below) r)
+    runs_fitting height after says (Register f i) = go (length (tasks_of below) == f) refl
+      where
+        go : (b : Bool) → (length (tasks_of below) == f) ≡ b → Fits p (held s.cells) (held s.cells (Register f i)) (cond b (register after i) (claim p (declared p s.cells) below (Register f i)))
+        go true h =
+            let above = subst (λ k. Fits p (held s.cells) (held s.cells (Register f i)) k) (claim_register_above p s.cells below f i (omega (arith, eqb-true _ _ h))) (fits_below (Register f i)) in
+            subst (λ x. Fits p (held s.cells) x (register after i)) (sym (fits_unowning p (held s.cells) _ Null refl above))
+            (fits_weaker p (held s.cells) None (says.registers i) (subst (λ k. Fits p (held s.cells) None k) (sym (begins_with i)) (none_yet i)))
+        go false h = fits_below (Register f i)
+    runs_fitting height after says (Entry k) = subst (λ es. Fits p (held s.cells) (held s.cells (Entry k)) (entry_claim es (items_of below) k (claim p (declared p s.cells) below (Entry k)))) (sym says.entries) (fits_below (Entry k))
+    runs_fitting height after says (Field n f) = fits_below (Field n f)
+    runs_fitting height after says (Elsewhere Root) = fits_below (Elsewhere Root)
+    runs_fitting height after says (Going k) = fits_below (Going k)
+
+    -- an operation works on nothing
+    holder : holder_of p m ≡ Nobody
+    holder = ap (λ r. holder_by r (method_class p m)) undo.role ∙ ap (λ c. holder_by (Some Undo) c) undo.class
+
+    operation_runs : (items : List Item) → forms items ≡ items_of below → AllUndo p items → WellTyped p t (record s { tasks = Run (operation_frame m w (length items)) ∷ tasks_of below; items = items })
+    operation_runs items same undos =
+        let leads = typed.entry m undo.there in
+        let says = leads.2 in
+        let fr = operation_frame m w (length items) in
+        record {
+          layers = Method fr leads.0 ∷ below;
+          tasks = refl;
+          items = same ∙ ap (λ es. objects es (items_of below)) (sym says.entries);
+          undos = undos;
+          good = record {
+            stack = (
+              leads.1,
+              record { words = λ i. word_fits_weaker (word fr i) (says.registers i) (subst (λ k. WordFits (word fr i) k) (sym (begins_with i)) (its_word i)); holder = sym holder; height = sym (length_forms items) ∙ ap length same },
+              tt,
+              tt,
+              d.under_operation m undo,
+            );
+            fits = runs_fitting (length items) leads.0 says;
+            tidy = d.tidy;
+          };
+        }
+
+-- so it is there, and what follows is well typed
+pub deals : (p : Image) (t : Typing) → IsWired p → IsTyped p t → (s : State) (e : Pushed) (before below : List Layer) → Dealing p t s e before below → (top_is_whole s.cells s.items ≡ true) × WellTyped p t (dealt_with p s.items (tasks_of below) s)
+deals p t wired typed s e before below d = go e s.items d d.items d.undos
+  where
+    Goal : List Item → Type 0
+    Goal items = (top_is_whole s.cells items ≡ true) × WellTyped p t (dealt_with p items (tasks_of below) s)
+
+    whole : (o : Option Object) (c : ℕ) (a : Age) → Fits p (held s.cells) o (Own (An_object_of c) a) → (x : Object) × (o ≡ Some x)
+    whole None c a f = absurd f
+    whole (Some x) c a f = (x, refl)
+
+    go : (e : Pushed) (items : List Item) → Dealing p t s e before below → forms items ≡ entry_form e ∷ items_of below → AllUndo p items → Goal items
+    go e [] d h u = cc
+    go (Pushed_object c a) (An_object ∷ items) d h u =
+        let same : forms items ≡ items_of below = cc in
+        let x = whole _ c a (entry_fits p t wired typed s (Pushed_object c a) before below d) in
+        let there : held s.cells (Entry (length items)) ≡ Some x.0 = ap (λ n. held s.cells (Entry n)) (sym (length_forms items) ∙ ap length same) ∙ x.1 in
+        (ap is_some there, subst (λ o. WellTyped p t (destroyed p o items (tasks_of below) s)) (sym there) (object_goes p t wired typed s (Pushed_object c a) before below d x.0 items same u x.1))
+    go (Pushed_object c a) (An_operation m w ∷ items) d h u = cc
+    go (Pushed_object c a) (A_mark ∷ items) d h u = cc
+    go Pushed_operation (An_object ∷ items) d h u = cc
+    go Pushed_operation (An_operation m w ∷ items) d h u =
+        let same : forms items ≡ items_of below = cc in
+        (refl, operation_runs p t wired typed s Pushed_operation before below d m w u.0 refl items same u.1)
+    go Pushed_operation (A_mark ∷ items) d h u = cc

@@ -1,0 +1,98 @@
+-- What the layers know of the cleanup stack's items.
+use Rattle.std.proofs.Common.{Bool, List, [], ap, arith, cond, false, length, refl, suc, sym, true, zero, ℕ, ◌+◌, ◌-◌, ◌<◌, ◌==◌, ◌∙◌, ◌∷◌, ◌≡◌}
+use Rattle.std.proofs.lemmas.Bool.{eq-eqb, eqb-true, ne_eqb}
+use Rattle.std.specs.Prelude.{is_some}
+use Rattle.aom_image.specs.Image.{Image}
+use Rattle.aom_shape.specs.Calls.{readied_at, readied_entry}
+use Rattle.aom_shape.specs.Kinds.{entry_kind, readied}
+use Rattle.aom_shape.specs.Tables.{at}
+use Rattle.aom_shape.specs.declared.kind.Entry.{Entry as Pushed}
+use Rattle.aom_shape.specs.declared.kind.Entry.TheVariants.{Object as Pushed_object, Operation as Pushed_operation}
+use Rattle.aom_shape.specs.declared.kind.Kind.{Kind}
+use Rattle.aom_sound.specs.Calls.{below_top, entry_at}
+use Rattle.aom_sound.specs.Claims.{Form, Mark_form, entry_claim, entry_form, forms, objects}
+use Rattle.aom_sound.specs.State.{A_mark, An_object, An_operation, Item}
+use Rattle.aom_sound.specs.WellTyped.{AllUndo}
+
+pub length_forms : (items : List Item) → length (forms items) ≡ length items
+length_forms [] = refl
+length_forms (i ∷ items) = ap suc (length_forms items)
+
+-- below the last item
+pub forms_below : (items : List Item) (x : Form) (rest : List Form) → forms items ≡ x ∷ rest → forms (below_top items) ≡ rest
+forms_below [] x rest e = cc
+forms_below (i ∷ items) x rest e = cc
+
+pub undos_below : (p : Image) (items : List Item) → AllUndo p items → AllUndo p (below_top items)
+undos_below p [] u = u
+undos_below p (An_object ∷ items) u = u
+undos_below p (An_operation m w ∷ items) u = u.1
+undos_below p (A_mark ∷ items) u = u
+
+-- an item for each entry
+pub length_each : (es : List Pushed) (below : List Form) → length (objects es below) ≡ length es + length below
+length_each [] below = omega arith
+length_each (e ∷ es) below = omega (arith, length_each es below)
+
+-- an entry is among the items
+pub entry_there : (es : List Pushed) (below : List Form) (items : List Item) (k : ℕ) → forms items ≡ objects es below → k < length es → is_some (entry_at items k) ≡ true
+entry_there [] below items k e lt = absurd (omega arith)
+entry_there (x ∷ es) below [] k e lt = cc
+entry_there (x ∷ es) below (An_object ∷ items) zero e lt = refl
+entry_there (x ∷ es) below (An_object ∷ items) (suc k) e lt = let same : forms items ≡ objects es below = cc in entry_there es below items k same (omega arith)
+entry_there (x ∷ es) below (An_operation m w ∷ items) zero e lt = refl
+entry_there (x ∷ es) below (An_operation m w ∷ items) (suc k) e lt = let same : forms items ≡ objects es below = cc in entry_there es below items k same (omega arith)
+entry_there (x ∷ es) below (A_mark ∷ items) k e lt = absurd (no_mark x e)
+  where
+    no_mark : (x : Pushed) → Mark_form ∷ forms items ≡ entry_form x ∷ objects es below → ⊥
+    no_mark (Pushed_object c a) e = cc
+    no_mark Pushed_operation e = cc
+
+-- an entry that becomes ready is an item as before
+pub readied_items : (es : List Pushed) (k : ℕ) (below : List Form) → objects (readied_at es k) below ≡ objects es below
+readied_items [] k below = refl
+readied_items (Pushed_object c a ∷ es) zero below = refl
+readied_items (Pushed_operation ∷ es) zero below = refl
+readied_items (e ∷ es) (suc k) below = ap (λ fs. entry_form e ∷ fs) (readied_items es k below)
+
+-- what is claimed of an entry, counted from the last
+pub entry_claimed : (es : List Pushed) (below : List Form) (k : ℕ) (rest : Kind) → k < length es → entry_claim es below (length (objects es below) - suc k) rest ≡ entry_kind (at Pushed_operation es k)
+entry_claimed [] below k rest lt = absurd (omega arith)
+entry_claimed (x ∷ es) below zero rest lt =
+    let same : suc (length (objects es below)) - 1 ≡ length (objects es below) = omega arith in
+    ap (λ b. cond b (entry_kind x) (entry_claim es below (suc (length (objects es below)) - 1) rest)) (eq-eqb _ _ (sym same))
+entry_claimed (x ∷ es) below (suc k) rest lt =
+    let same : suc (length (objects es below)) - suc (suc k) ≡ length (objects es below) - suc k = omega arith in
+    let deep = length_each es below in
+    ap (λ n. cond (length (objects es below) == n) (entry_kind x) (entry_claim es below n rest)) same
+    ∙ ap (λ b. cond b (entry_kind x) (entry_claim es below (length (objects es below) - suc k) rest)) (ne_eqb _ _ (λ e. absurd (omega arith)))
+    ∙ entry_claimed es below k rest (omega arith)
+
+readied_kind : (e : Pushed) → entry_kind (readied_entry e) ≡ readied (entry_kind e)
+readied_kind (Pushed_object c a) = refl
+readied_kind Pushed_operation = refl
+
+-- that entry alone is claimed anew
+pub readied_claim : (es : List Pushed) (below : List Form) (k j : ℕ) (rest : Kind) → k < length es → entry_claim (readied_at es k) below j rest ≡ cond ((length (objects es below) - suc k) == j) (readied (entry_kind (at Pushed_operation es k))) (entry_claim es below j rest)
+readied_claim [] below k j rest lt = absurd (omega arith)
+readied_claim (x ∷ es) below zero j rest lt =
+    let same : suc (length (objects es below)) - 1 ≡ length (objects es below) = omega arith in
+    ap (λ v. cond (length (objects es below) == j) v (entry_claim es below j rest)) (readied_kind x)
+    ∙ twice (length (objects es below) == j)
+    ∙ ap (λ n. cond (n == j) (readied (entry_kind x)) (cond (length (objects es below) == j) (entry_kind x) (entry_claim es below j rest))) (sym same)
+  where
+    twice : (b : Bool) → cond b (readied (entry_kind x)) (entry_claim es below j rest) ≡ cond b (readied (entry_kind x)) (cond b (entry_kind x) (entry_claim es below j rest))
+    twice true = refl
+    twice false = refl
+readied_claim (x ∷ es) below (suc k) j rest lt =
+    let same : suc (length (objects es below)) - suc (suc k) ≡ length (objects es below) - suc k = omega arith in
+    ap (λ fs. cond (length fs == j) (entry_kind x) (entry_claim (readied_at es k) below j rest)) (readied_items es k below)
+    ∙ ap (λ v. cond (length (objects es below) == j) (entry_kind x) v) (readied_claim es below k j rest (omega arith))
+    ∙ past (length (objects es below) == j) ((length (objects es below) - suc k) == j) refl refl
+    ∙ ap (λ n. cond (n == j) (readied (entry_kind (at Pushed_operation es k))) (cond (length (objects es below) == j) (entry_kind x) (entry_claim es below j rest))) (sym same)
+  where
+    past : (a b : Bool) → (length (objects es below) == j) ≡ a → ((length (objects es below) - suc k) == j) ≡ b → cond a (entry_kind x) (cond b (readied (entry_kind (at Pushed_operation es k))) (entry_claim es below j rest)) ≡ cond b (readied (entry_kind (at Pushed_operation es k))) (cond a (entry_kind x) (entry_claim es below j rest))
+    past true true f g = absurd (omega (arith, lt, length_each es below, eqb-true _ _ f, eqb-true _ _ g))
+    past true false f g = refl
+    past false true f g = refl
+    past false false f g = refl

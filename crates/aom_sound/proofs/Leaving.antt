@@ -1,0 +1,211 @@
+-- A leave from a well-typed state: there is a trap, no register over it owns, and what is left to unwind is well typed.
+use Rattle.std.proofs.Common.{Bool, List, None, Option, [], ap, append-nil, append_assoc, arith, cond, false, length, refl, subst, sym, true, ℕ, ℤ, ◌<◌, ◌==◌, ◌∙◌, ◌∷◌, ◌≡◌}
+use Rattle.std.proofs.lemmas.Bool.{and_from, ne_eqb, true≢false}
+use Rattle.std.specs.Prelude.{◌++◌}
+use Rattle.aom_image.specs.Image.{Image}
+use Rattle.aom_image.specs.Views.{leaves}
+use Rattle.aom_image.specs.declared.instr.Instr.TheVariants.{Leave, LeaveIf}
+use Rattle.aom_shape.specs.Kinds.{entry_kind, none_owns, register}
+use Rattle.aom_shape.specs.Needs.{AllTrue}
+use Rattle.aom_shape.specs.Shape.{Shape}
+use Rattle.aom_shape.specs.Typing.{Typing}
+use Rattle.aom_shape.specs.declared.kind.Entry.{Entry as Pushed}
+use Rattle.aom_shape.specs.declared.kind.Kind.{Kind}
+use Rattle.aom_sound.proofs.Claimed.{layer_rel}
+use Rattle.aom_sound.proofs.Finishing.{ended, none_owns_at, none_owns_from}
+use Rattle.aom_sound.proofs.Straight.{At, Fitted, Law, claim_register, fits_unowning, fitted, settle, stepped, well}
+use Rattle.aom_sound.proofs.Words.{has_word}
+use Rattle.aom_sound.specs.Calls.{none_owns_but}
+use Rattle.aom_sound.specs.Claims.{Dispatching, Dying, Form, Layer, Mark, Method, Unwinding, claim, declared, entry_claim, entry_form, forms, home_claim, items_of, objects, root_claim, tasks_of}
+use Rattle.aom_sound.specs.Cleanup.{above_trap_is_free, has_trap, is_negative, leave_needs, left, to_trap}
+use Rattle.aom_sound.specs.Places.{Cell, Elsewhere, Entry, Field, Going, Object, Place, Register, Root, held}
+use Rattle.aom_sound.specs.State.{AtRoot, Choice, Dispatch, Frame, Home, Inside, Main_left, Of_main, Of_root, Run, State, Static, Unwind, next}
+use Rattle.aom_sound.specs.WellTyped.{AllUndo, EndsDispatch, Fits, IsApart, IsHoused, Leaves, Returns, Stack, WellTyped, past_going}
+use Rattle.aom_sound.specs.Words.{go_on, read}
+
+-- the entries of the methods over the innermost trap, the last first
+abbrev pub entries_over : List Layer → List Pushed
+entries_over [] = []
+entries_over (Method fr sh ∷ ls) = sh.entries ++ entries_over ls
+entries_over (Mark gv ∷ ls) = []
+entries_over (Dying o ∷ ls) = []
+entries_over (Unwinding code es ∷ ls) = []
+entries_over (Dispatching d ∷ ls) = []
+
+-- the layers from that trap on
+abbrev pub from_trap : List Layer → List Layer
+from_trap [] = []
+from_trap (Method fr sh ∷ ls) = from_trap ls
+from_trap (Mark gv ∷ ls) = Mark gv ∷ ls
+from_trap (Dying o ∷ ls) = Dying o ∷ ls
+from_trap (Unwinding code es ∷ ls) = Unwinding code es ∷ ls
+from_trap (Dispatching d ∷ ls) = Dispatching d ∷ ls
+
+tasks_from_trap : (ls : List Layer) → to_trap (tasks_of ls) ≡ tasks_of (from_trap ls)
+tasks_from_trap [] = refl
+tasks_from_trap (Method fr sh ∷ ls) = tasks_from_trap ls
+tasks_from_trap (Mark gv ∷ ls) = refl
+tasks_from_trap (Dying o ∷ ls) = refl
+tasks_from_trap (Unwinding code es ∷ ls) = refl
+tasks_from_trap (Dispatching d ∷ ls) = refl
+
+objects_append : (es fs : List Pushed) (items : List Form) → objects (es ++ fs) items ≡ objects es (objects fs items)
+objects_append [] fs items = refl
+objects_append (e ∷ es) fs items = ap (λ l. entry_form e ∷ l) (objects_append es fs items)
+
+items_from_trap : (ls : List Layer) → items_of ls ≡ objects (entries_over ls) (items_of (from_trap ls))
+items_from_trap [] = refl
+items_from_trap (Method fr sh ∷ ls) = ap (λ i. objects sh.entries i) (items_from_trap ls) ∙ sym (objects_append sh.entries (entries_over ls) (items_of (from_trap ls)))
+items_from_trap (Mark gv ∷ ls) = refl
+items_from_trap (Dying o ∷ ls) = refl
+items_from_trap (Unwinding code es ∷ ls) = refl
+items_from_trap (Dispatching d ∷ ls) = refl
+
+-- the entries of two layers as those of one
+entries_join : (es fs : List Pushed) (items : List Form) (k : ℕ) (below : Kind) → entry_claim (es ++ fs) items k below ≡ entry_claim es (objects fs items) k (entry_claim fs items k below)
+entries_join [] fs items k below = refl
+entries_join (e ∷ es) fs items k below =
+    ap (λ n. cond (n == k) (entry_kind e) (entry_claim (es ++ fs) items k below)) (ap length (objects_append es fs items))
+    ∙ ap (λ z. cond (length (objects es (objects fs items)) == k) (entry_kind e) z) (entries_join es fs items k below)
+
+join_claims : (p : Image) (d : Place → Kind) (code : ℤ) (es fs : List Pushed) (ls : List Layer) (r : Place) → claim p d (Unwinding code es ∷ Unwinding code fs ∷ ls) r ≡ claim p d (Unwinding code (es ++ fs) ∷ ls) r
+join_claims p d code es fs ls (Register f i) = refl
+join_claims p d code es fs ls (Entry k) = sym (entries_join es fs (items_of ls) k (claim p d ls (Entry k)))
+join_claims p d code es fs ls (Field n f) = refl
+join_claims p d code es fs ls (Elsewhere Root) = refl
+join_claims p d code es fs ls (Going k) = refl
+
+-- what lies under a method that may leave: neither the end of the run nor a dispatch's
+no_end : {A : Type 0} (p : Image) (d : Dispatch) (m : ℕ) (home : Home) → EndsDispatch p d (Returns m home) → A
+no_end p Of_main m home e = absurd e
+no_end p (Main_left code) m home e = absurd e
+no_end p Of_root m home e = absurd e
+
+not_going : (p : Image) (t : Typing) (cs : List Cell) (ls : List Layer) (m : ℕ) (home : Home) → leaves p m ≡ true → Stack p t cs (Returns m home) ls → past_going ls ≡ ls
+not_going p t cs [] m home e s = refl
+not_going p t cs (Method fr sh ∷ ls) m home e s = refl
+not_going p t cs (Mark gv ∷ ls) m home e s = refl
+not_going p t cs (Dying o ∷ ls) m home e s = absurd (true≢false (sym e ∙ s.1.0))
+not_going p t cs (Unwinding code es ∷ ls) m home e s = refl
+not_going p t cs (Dispatching d ∷ ls) m home e s = refl
+
+-- a method ends by a leave, and its entries are still there
+ended_by_leave : (p : Image) (cs : List Cell) (fr : Frame) (sh : Shape) (ls : List Layer) (code : ℤ) → IsHoused p cs ls fr.home → IsApart p fr.home ls → past_going ls ≡ ls → none_owns sh.registers ≡ true → (r : Place) (h : Place → Option Object) (o : Option Object) → Fits p h o (claim p (declared p cs) (Method fr sh ∷ ls) r) → Fits p h o (claim p (declared p cs) (Unwinding code sh.entries ∷ ls) r)
+ended_by_leave p cs fr sh ls code housed apart at_top n r h o fits = go r fits
+  where
+    bare : Shape
+    bare = record sh { entries = [] }
+
+    same_fields : (home : Home) (m f : ℕ) (k : Kind) → home_claim p home sh m f k ≡ home_claim p home (record sh { entries = [] }) m f k
+    same_fields Static m f k = refl
+    same_fields AtRoot m f k = refl
+    same_fields (Inside x from) m f k = refl
+
+    same_root : (home : Home) (k : Kind) → root_claim p home sh k ≡ root_claim p home (record sh { entries = [] }) k
+    same_root Static k = refl
+    same_root AtRoot k = refl
+    same_root (Inside x from) k = refl
+
+    go : (r : Place) → Fits p h o (claim p (declared p cs) (Method fr sh ∷ ls) r) → Fits p h o (claim p (declared p cs) (Unwinding code sh.entries ∷ ls) r)
+    go (Register f i) fits = ended p cs fr bare ls housed apart at_top refl n (Register f i) h o fits
+    go (Entry k) fits = fits
+    go (Field m f) fits = ended p cs fr bare ls housed apart at_top refl n (Field m f) h o (subst (λ k. Fits p h o k) (same_fields fr.home m f (claim p (declared p cs) ls (Field m f))) fits)
+    go (Elsewhere Root) fits = ended p cs fr bare ls housed apart at_top refl n (Elsewhere Root) h o (subst (λ k. Fits p h o k) (same_root fr.home (claim p (declared p cs) ls (Elsewhere Root))) fits)
+    go (Going k) fits = fits
+
+-- all methods over the trap end so
+all_ended : (p : Image) (t : Typing) (cs : List Cell) (code : ℤ) (ls : List Layer) (es : List Pushed) (m : ℕ) (home : Home) → leaves p m ≡ true → Stack p t cs (Returns m home) ls → (r : Place) (h : Place → Option Object) (o : Option Object) → Fits p h o (claim p (declared p cs) (Unwinding code es ∷ ls) r) → Fits p h o (claim p (declared p cs) (Unwinding code (es ++ entries_over ls) ∷ from_trap ls) r)
+all_ended p t cs code [] es m home e s r h o fits = cc
+all_ended p t cs code (Method fr sh ∷ ls) es m home e s r h o fits =
+    let may = s.0.0 e in
+    let d = declared p cs in
+    let one = layer_rel (λ x y. Fits p h o x → Fits p h o y) (λ k f. f) p (Unwinding code es) (length (tasks_of (Method fr sh ∷ ls))) (items_of (Method fr sh ∷ ls)) r _ _ (ended_by_leave p cs fr sh ls code s.2 s.3 (not_going p t cs ls _ _ may.0 s.4) may.1 r h o) fits in
+    let two = subst (λ k. Fits p h o k) (join_claims p d code es sh.entries ls r) one in
+    subst (λ es. Fits p h o (claim p d (Unwinding code es ∷ from_trap ls) r)) (append_assoc es sh.entries (entries_over ls))
+    (all_ended p t cs code ls (es ++ sh.entries) fr.method fr.home may.0 s.4 r h o two)
+all_ended p t cs code (Mark gv ∷ ls) es m home e s r h o fits = subst (λ es. Fits p h o (claim p (declared p cs) (Unwinding code es ∷ Mark gv ∷ ls) r)) (sym (append-nil es)) fits
+all_ended p t cs code (Dying x ∷ ls) es m home e s r h o fits = absurd (true≢false (sym e ∙ s.1.0))
+all_ended p t cs code (Unwinding c fs ∷ ls) es m home e s r h o fits = absurd (true≢false (sym e ∙ s.0.0))
+all_ended p t cs code (Dispatching d ∷ ls) es m home e s r h o fits = no_end p d m home s.0
+
+stack_from_trap : (p : Image) (t : Typing) (cs : List Cell) (ls : List Layer) (m : ℕ) (home : Home) → leaves p m ≡ true → Stack p t cs (Returns m home) ls → Stack p t cs Leaves (from_trap ls)
+stack_from_trap p t cs [] m home e s = cc
+stack_from_trap p t cs (Method fr sh ∷ ls) m home e s = stack_from_trap p t cs ls fr.method fr.home (s.0.0 e).0 s.4
+stack_from_trap p t cs (Mark gv ∷ ls) m home e s = (tt, s.1)
+stack_from_trap p t cs (Dying o ∷ ls) m home e s = absurd (true≢false (sym e ∙ s.1.0))
+stack_from_trap p t cs (Unwinding code es ∷ ls) m home e s = absurd (true≢false (sym e ∙ s.0.0))
+stack_from_trap p t cs (Dispatching d ∷ ls) m home e s = no_end p d m home s.0
+
+-- what the registers of the layers hold is as claimed
+abbrev RegistersFit : Image → List Cell → List Layer → Type 0
+RegistersFit p cs ls = (f i : ℕ) → f < length (tasks_of ls) → Fits p (held cs) (held cs (Register f i)) (claim p (declared p cs) ls (Register f i))
+
+registers_below : (p : Image) (cs : List Cell) (fr : Frame) (sh : Shape) (ls : List Layer) → RegistersFit p cs (Method fr sh ∷ ls) → RegistersFit p cs ls
+registers_below p cs fr sh ls h f i lt = subst (λ k. Fits p (held cs) (held cs (Register f i)) k) (ap (λ b. cond b (register sh i) (claim p (declared p cs) ls (Register f i))) (ne_eqb (length (tasks_of ls)) f (λ e. absurd (omega arith)))) (h f i (omega arith))
+
+frame_is_free : (p : Image) (cs : List Cell) (fr : Frame) (sh : Shape) (ls : List Layer) → RegistersFit p cs (Method fr sh ∷ ls) → none_owns sh.registers ≡ true → none_owns_but cs (length (tasks_of ls)) None ≡ true
+frame_is_free p cs fr sh ls h n = none_owns_from cs (length (tasks_of ls)) None (λ i e. fits_unowning p (held cs) _ (register sh i) (none_owns_at sh.registers i n) (subst (λ k. Fits p (held cs) (held cs (Register (length (tasks_of ls)) i)) k) (claim_register p (declared p cs) fr sh ls i) (h (length (tasks_of ls)) i (omega arith))))
+
+-- under a method that may leave there is a trap, and the registers up to it own nothing
+below_leaving : (p : Image) (t : Typing) (cs : List Cell) (ls : List Layer) (m : ℕ) (home : Home) → leaves p m ≡ true → Stack p t cs (Returns m home) ls → RegistersFit p cs ls → (has_trap (tasks_of ls) ≡ true) × (above_trap_is_free cs (tasks_of ls) ≡ true)
+below_leaving p t cs [] m home e s h = cc
+below_leaving p t cs (Method fr sh ∷ ls) m home e s h =
+    let may = s.0.0 e in
+    let rest = below_leaving p t cs ls fr.method fr.home may.0 s.4 (registers_below p cs fr sh ls h) in
+    (rest.0, and_from _ _ (frame_is_free p cs fr sh ls h may.1) rest.1)
+below_leaving p t cs (Mark gv ∷ ls) m home e s h = (refl, refl)
+below_leaving p t cs (Dying o ∷ ls) m home e s h = absurd (true≢false (sym e ∙ s.1.0))
+below_leaving p t cs (Unwinding code es ∷ ls) m home e s h = absurd (true≢false (sym e ∙ s.0.0))
+below_leaving p t cs (Dispatching d ∷ ls) m home e s h = no_end p d m home s.0
+
+-- where a method may leave and its registers own nothing, the needs of a leave are met; any frame may stand for its own
+pub leave_is_met : (p : Image) (t : Typing) (cs : List Cell) (fr top_frame : Frame) (sh : Shape) (ls : List Layer) → Fitted p t cs fr sh ls → leaves p fr.method ≡ true → none_owns sh.registers ≡ true → AllTrue (leave_needs cs (Run top_frame ∷ tasks_of ls))
+leave_is_met p t cs fr top_frame sh ls g may n =
+    let h : RegistersFit p cs (Method fr sh ∷ ls) = λ f i lt. g.fits (Register f i) in
+    let rest = below_leaving p t cs ls fr.method fr.home may g.stack (registers_below p cs fr sh ls h) in
+    (rest.0, (and_from _ _ (frame_is_free p cs fr sh ls h n) rest.1, tt))
+
+-- there is a trap under such a method
+pub trap_is_there : (p : Image) (t : Typing) (cs : List Cell) (fr : Frame) (sh : Shape) (ls : List Layer) → Fitted p t cs fr sh ls → leaves p fr.method ≡ true → none_owns sh.registers ≡ true → has_trap (tasks_of ls) ≡ true
+trap_is_there p t cs fr sh ls g may n = (leave_is_met p t cs fr fr sh ls g may n).0
+
+-- a leave from such a state is well typed
+pub leave_keeps : (p : Image) (t : Typing) (s : State) (code : ℤ) (fr top_frame : Frame) (sh : Shape) (ls : List Layer) → s.tasks ≡ Run top_frame ∷ tasks_of ls → forms s.items ≡ objects sh.entries (items_of ls) → AllUndo p s.items → Fitted p t s.cells fr sh ls → leaves p fr.method ≡ true → none_owns sh.registers ≡ true → WellTyped p t (left code s)
+leave_keeps p t s code fr top_frame sh ls tasks items undos g may n = record {
+  layers = Unwinding code (sh.entries ++ entries_over ls) ∷ from_trap ls;
+  tasks = ap (λ ts. Unwind code ∷ to_trap ts) tasks ∙ ap (λ ts. Unwind code ∷ ts) (tasks_from_trap ls);
+  items = items ∙ ap (λ i. objects sh.entries i) (items_from_trap ls) ∙ sym (objects_append sh.entries (entries_over ls) (items_of (from_trap ls)));
+  undos = undos;
+  good = record {
+    stack = (tt, stack_from_trap p t s.cells ls fr.method fr.home may g.stack);
+    fits = λ r. all_ended p t s.cells code ls sh.entries fr.method fr.home may g.stack r (held s.cells) (held s.cells r)
+        (ended_by_leave p s.cells fr sh ls code g.housed g.apart (not_going p t s.cells ls _ _ may g.stack) n r (held s.cells) (held s.cells r) (g.fits r));
+    tidy = g.tidy;
+  };
+}
+
+module _ (p : Image) (t : Typing) (c : Choice) (s : State) (fr : Frame) (sh : Shape) (ls : List Layer) (at_hand : At p t s fr sh ls) where
+  -- from where the method stands
+  met : leaves p fr.method ≡ true → none_owns sh.registers ≡ true → AllTrue (leave_needs s.cells (Run fr ∷ tasks_of ls))
+  met may n = leave_is_met p t s.cells fr fr sh ls (fitted p t s.cells fr sh ls at_hand.good) may n
+
+  leaves_here : (code : ℤ) → leaves p fr.method ≡ true → none_owns sh.registers ≡ true → WellTyped p t (left code s)
+  leaves_here code may n = leave_keeps p t s code fr fr sh ls at_hand.tasks at_hand.items at_hand.undos (fitted p t s.cells fr sh ls at_hand.good) may n
+
+  pub law_leave : (a : ℕ) → Law p t c s fr sh ls at_hand (Leave a)
+  law_leave a n leads = ((has_word p t c s fr sh ls at_hand a n.0, met n.1.0 n.1.1.0), leaves_here (read fr (tasks_of ls) s a) n.1.0 n.1.1.0)
+
+  -- with a negative word only
+  pub law_leave_if : (a : ℕ) → Law p t c s fr sh ls at_hand (LeaveIf a)
+  law_leave_if a n leads = ((has_word p t c s fr sh ls at_hand a n.0, needed (is_negative p c fr (tasks_of ls) s w)), goes (is_negative p c fr (tasks_of ls) s w))
+    where
+      w : ℤ
+      w = read fr (tasks_of ls) s a
+
+      needed : (b : Bool) → AllTrue (cond b (leave_needs s.cells (Run fr ∷ tasks_of ls)) [])
+      needed true = met n.1.0 n.1.1.0
+      needed false = tt
+
+      goes : (b : Bool) → WellTyped p t (cond b (left w s) (go_on fr (tasks_of ls) s s.cells fr))
+      goes true = leaves_here w n.1.0 n.1.1.0
+      goes false = well p t c s fr sh ls at_hand (go_on fr (tasks_of ls) s s.cells fr) (next fr) sh refl at_hand.items at_hand.undos (settle p t s.cells (next fr) sh ls (stepped p t s.cells fr sh ls (fitted p t s.cells fr sh ls at_hand.good)) leads.0)

@@ -1,0 +1,82 @@
+-- Each move of an unwinding keeps the typing: an object is destroyed, an operation runs, or the code arrives.
+use Rattle.std.proofs.Common.{Bool, List, [], cond, false, length, refl, subst, sym, true, ℤ, ◌&&◌, ◌==◌, ◌∷◌, ◌≡◌}
+use Rattle.aom_image.specs.Image.{Image}
+use Rattle.aom_shape.specs.Kinds.{entry_kind}
+use Rattle.aom_shape.specs.Typing.{IsTyped, Typing}
+use Rattle.aom_shape.specs.declared.kind.Entry.{Entry as Pushed}
+use Rattle.aom_shape.specs.declared.kind.Entry.TheVariants.{Object as Pushed_object, Operation as Pushed_operation}
+use Rattle.aom_shape.specs.declared.kind.Kind.{Kind}
+use Rattle.aom_sound.proofs.Arrival.{arrives}
+use Rattle.aom_sound.proofs.Dealing.{Dealing, deals}
+use Rattle.aom_sound.specs.Claims.{Dispatching, Dying, Layer, Mark, Mark_form, Method, Unwinding, claim, declared, entry_claim, entry_form, forms, items_of, objects, tasks_of}
+use Rattle.aom_sound.specs.Cleanup.{dealt_with, top_is_whole, unwound}
+use Rattle.aom_sound.specs.Laws.{IsWired}
+use Rattle.aom_sound.specs.Places.{Elsewhere, Entry, Field, Going, Place, Register, Root, changed}
+use Rattle.aom_sound.specs.State.{A_mark, An_object, An_operation, Dispatch, Goes, IsStuck, Item, Main_left, NullOrDead, Of_main, Of_root, State, Unwind}
+use Rattle.aom_sound.specs.WellTyped.{AllUndo, EndsDispatch, Good, Keeps, Leaves, Stack, WellTyped}
+
+-- one more entry to unwind
+claim_unwinding : (p : Image) (d : Place → Kind) (code : ℤ) (e : Pushed) (es : List Pushed) (ls : List Layer) (r : Place) → claim p d (Unwinding code (e ∷ es) ∷ ls) r ≡ changed (claim p d (Unwinding code es ∷ ls)) (Entry (length (items_of (Unwinding code es ∷ ls)))) (entry_kind e) r
+claim_unwinding p d code e es ls (Register f i) = refl
+claim_unwinding p d code e es ls (Entry k) = go (length (objects es (items_of ls)) == k)
+  where
+    go : (b : Bool) → cond b (entry_kind e) (entry_claim es (items_of ls) k (claim p d ls (Entry k))) ≡ cond (b && true) (entry_kind e) (entry_claim es (items_of ls) k (claim p d ls (Entry k)))
+    go true = refl
+    go false = refl
+claim_unwinding p d code e es ls (Field n f) = refl
+claim_unwinding p d code e es ls (Elsewhere Root) = refl
+claim_unwinding p d code e es ls (Going k) = refl
+
+module _ (p : Image) (t : Typing) (wired : IsWired p) (typed : IsTyped p t) (s : State) (code : ℤ) where
+  -- an entry is left: it is dealt with over the unwinding
+  of_entry : (e : Pushed) (es : List Pushed) (ls : List Layer) → forms s.items ≡ entry_form e ∷ objects es (items_of ls) → AllUndo p s.items → Good p t s.cells (Unwinding code (e ∷ es) ∷ ls) → Keeps p t (unwound p code (tasks_of ls) s s.items)
+  of_entry e es ls same undos good =
+      let d : Dealing p t s e (Unwinding code (e ∷ es) ∷ ls) (Unwinding code es ∷ ls) = record {
+        fits = good.fits;
+        claims = λ r. claim_unwinding p (declared p s.cells) code e es ls r;
+        deep = refl;
+        tidy = good.tidy;
+        items = same;
+        undos = undos;
+        under_object = (tt, good.stack.1);
+        under_operation = λ m undo. ((undo.leaves, undo.gives), good.stack.1);
+      } in
+      let w = deals p t wired typed s e (Unwinding code (e ∷ es) ∷ ls) (Unwinding code es ∷ ls) d in
+      go e s.items same w.0 w.1
+    where
+      go : (e : Pushed) (items : List Item) → forms items ≡ entry_form e ∷ objects es (items_of ls) → top_is_whole s.cells items ≡ true → WellTyped p t (dealt_with p items (Unwind code ∷ tasks_of ls) s) → Keeps p t (unwound p code (tasks_of ls) s items)
+      go e [] same whole w = cc
+      go e (An_object ∷ items) same whole w = subst (λ b. Keeps p t (cond b (Goes (dealt_with p (An_object ∷ items) (Unwind code ∷ tasks_of ls) s)) (IsStuck NullOrDead))) (sym whole) w
+      go e (An_operation m x ∷ items) same whole w = w
+      go e (A_mark ∷ items) same whole w = absurd (no_mark e cc)
+        where
+          no_mark : (e : Pushed) → Mark_form ≡ entry_form e → ⊥
+          no_mark (Pushed_object c a) h = cc
+          no_mark Pushed_operation h = cc
+
+  -- none is left: under an unwinding stands its trap
+  of_none : (ls : List Layer) → forms s.items ≡ items_of ls → AllUndo p s.items → Good p t s.cells (Unwinding code [] ∷ ls) → Keeps p t (unwound p code (tasks_of ls) s s.items)
+  of_none [] same undos good = absurd (nothing_below good.stack.1)
+    where
+      nothing_below : Stack p t s.cells Leaves [] → ⊥
+      nothing_below e = cc
+  of_none (Method fr sh ∷ ls) same undos good = absurd good.stack.1.0
+  of_none (Mark gv ∷ ls) same undos good = go s.items same undos
+    where
+      go : (items : List Item) → forms items ≡ Mark_form ∷ items_of ls → AllUndo p items → Keeps p t (unwound p code (tasks_of (Mark gv ∷ ls)) s items)
+      go [] same undos = cc
+      go (An_object ∷ items) same undos = cc
+      go (An_operation m w ∷ items) same undos = cc
+      go (A_mark ∷ items) same undos = let rest : forms items ≡ items_of ls = cc in arrives p t s code items gv ls rest undos good
+  of_none (Dying o ∷ ls) same undos good = absurd good.stack.1.1
+  of_none (Unwinding x es ∷ ls) same undos good = absurd good.stack.1.0
+  of_none (Dispatching d ∷ ls) same undos good = absurd (no_dispatch d good.stack.1.0)
+    where
+      no_dispatch : (d : Dispatch) → EndsDispatch p d Leaves → ⊥
+      no_dispatch Of_main e = e
+      no_dispatch (Main_left x) e = e
+      no_dispatch Of_root e = e
+
+  pub unwinds : (es : List Pushed) (ls : List Layer) → forms s.items ≡ objects es (items_of ls) → AllUndo p s.items → Good p t s.cells (Unwinding code es ∷ ls) → Keeps p t (unwound p code (tasks_of ls) s s.items)
+  unwinds [] ls same undos good = of_none ls same undos good
+  unwinds (e ∷ es) ls same undos good = of_entry e es ls same undos good

@@ -1,0 +1,37 @@
+-- While a cell goes or a leave unwinds, quiet methods alone run, and no trap is set.
+use Rattle.std.specs.Prelude.{ℤ, Bool, true, false, ◌≡◌, List, [], ◌∷◌}
+use Rattle.aom_image.specs.Image.{Image}
+use Rattle.aom_image.specs.Views.{is_quiet}
+use Rattle.aom_shape.specs.Typing.{Typing, IsTyped}
+use Rattle.aom_sound.specs.State.{Task, Run, Trapped, Destroy, Unwind, Dispatched, Item, A_mark, State, Choice, Goes}
+use Rattle.aom_sound.specs.Moves.{step}
+use Rattle.aom_sound.specs.WellTyped.{WellTyped}
+use Rattle.aom_sound.specs.Owned.{Owned}
+use Rattle.aom_sound.specs.World.{boot_state}
+use Rattle.aom_sound.specs.Laws.{IsWired}
+
+-- a cell goes, or a leave unwinds
+abbrev pub is_clearing : List Task → Bool
+is_clearing [] = false
+is_clearing (Run fr ∷ ts) = is_clearing ts
+is_clearing (Trapped ∷ ts) = is_clearing ts
+is_clearing (Destroy ∷ ts) = true
+is_clearing (Unwind code ∷ ts) = true
+is_clearing (Dispatched d ∷ ts) = is_clearing ts
+
+abbrev pub IsCalm : Image → List Task → Type 0
+IsCalm p [] = Unit {0}
+IsCalm p (Run fr ∷ ts) = (is_clearing ts ≡ true → is_quiet p fr.method ≡ true) × IsCalm p ts
+IsCalm p (Trapped ∷ ts) = (is_clearing ts ≡ false) × IsCalm p ts
+IsCalm p (Destroy ∷ ts) = IsCalm p ts
+IsCalm p (Unwind code ∷ ts) = (is_clearing ts ≡ false) × IsCalm p ts
+IsCalm p (Dispatched d ∷ ts) = IsCalm p ts
+
+-- this holds at the boot, and each move of a well-typed state keeps it
+pub record CalmKeeps : Type 0 where
+  pub boot : (p : Image) → IsCalm p (boot_state p).tasks
+  pub moves : (p : Image) (t : Typing) → IsWired p → IsTyped p t → (c : Choice) (s u : State) → WellTyped p t s → IsCalm p s.tasks → step p c s ≡ Goes u → IsCalm p u.tasks
+
+-- where a leave has nothing more to unwind, each cell has exactly one living owner
+abbrev pub CaughtOwned : Type 0
+CaughtOwned = (p : Image) (t : Typing) → IsWired p → (s : State) → WellTyped p t s → IsCalm p s.tasks → (code : ℤ) (tasks : List Task) (items : List Item) → s.tasks ≡ Unwind code ∷ tasks → s.items ≡ A_mark ∷ items → Owned s
