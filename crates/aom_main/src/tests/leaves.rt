@@ -126,7 +126,7 @@ fn operations_run_as_they_are_unwound(rt: HostRuntime) -> Result<(), Fail> {
         rt.alloc(),
         "image budget 90;method u undo args word;print r0;ret;end
 method f do leaves;const r0 1;pushop r0 u;const r0 2;pushop r0 u;popop;const r0 3;pushop r0 u
-popdel;const r0 4;pushop r0 u;const r0 -7;leaveif r0;ret;end
+popdel;const r0 4;pushop r0 u;const r0 -7;leave r0;end
 method main main;trap self f r0 r0;print r1;stop;ret;end",
     )?;
     let told = "out 3\nout 4\nout 1\nleave -7\nout -7\n";
