@@ -13,7 +13,7 @@ use aom_sound::{Ending, Line};
 
 /// Runs a fresh machine to its end and writes the transcript, one step after another. It stops where the sink fails.
 ///
-/// The limit is of dispatches after main's, from 1 to 10^9; so far there is none, and no line of a script either.
+/// The limit is of dispatches after main's, from 1 to 10^9; so far there is none, and no timed line of a script.
 pub fn run<W: Sink>(
     machine: &mut Machine,
     _script: &Script,
