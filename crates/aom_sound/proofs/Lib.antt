@@ -30,4 +30,7 @@ pub mod Wiring
 pub mod Bodies
 pub mod Looping
 pub mod Quiet
+pub mod Clearing
+pub mod Caught
+pub mod Course
 pub mod Stuck

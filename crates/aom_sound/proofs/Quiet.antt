@@ -39,7 +39,7 @@ use Rattle.aom_sound.specs.Words.{branched, go_on, here, looped, read}
 use Rattle.aom_sound.specs.World.{boot_state, main_tasks}
 
 -- what a move that goes on has met
-guarded_met : (list : List Need) (s u : State) → guarded list s ≡ Goes u → AllTrue list
+pub guarded_met : (list : List Need) (s u : State) → guarded list s ≡ Goes u → AllTrue list
 guarded_met [] s u e = tt
 guarded_met (need ∷ list) s u e = go need.0 refl (guarded_met list s u) e
   where

@@ -13,4 +13,5 @@ pub mod World
 pub mod Loops
 pub mod Laws
 pub mod Quiet
+pub mod Leaves
 pub mod Examples

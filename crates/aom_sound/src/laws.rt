@@ -2,6 +2,7 @@
 ghost use Rattle.aom_sound.specs.Laws.{BootKeeps, InstructionKeeps, DestructionKeeps, UnwindingKeeps, TurnKeeps, StepKeeps, EndsOwned, EndsEmpty, TypedIsSound, LinkedIsWired};
 ghost use Rattle.aom_sound.specs.Loops.{LoopsKeep};
 ghost use Rattle.aom_sound.specs.Quiet.{CalmKeeps, CaughtOwned};
+ghost use Rattle.aom_sound.specs.Leaves.{LeavesMove, LeavesArrive};
 ghost use Rattle.aom_sound.specs.Examples.{StuckExamples};
 
 /// A run of a typed image begins well typed.
@@ -42,6 +43,16 @@ pub fn step_keeps()
 /// While a cell goes or a leave unwinds, quiet methods alone run.
 pub fn calm_keeps()
     ensures { CalmKeeps }
+{}
+
+/// A leave deals with the last entry over its mark, and its own code arrives.
+pub fn leaves_move()
+    ensures { LeavesMove }
+{}
+
+/// On each run from a leave all its entries are dealt with in their order, and then its code arrives.
+pub fn leaves_arrive()
+    ensures { LeavesArrive }
 {}
 
 /// Ownership is a forest where a leave is caught.

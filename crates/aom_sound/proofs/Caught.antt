@@ -1,0 +1,342 @@
+-- The beginning of a leave, the entry that it deals with, and its arrival, by the layers of a well-typed state.
+use Rattle.std.proofs.Common.{Bool, List, None, Option, Some, [], ap, arith, cond, false, length, negsuc, pos, refl, subst, suc, sym, true, ℕ, ℤ, ◌∙◌, ◌∷◌, ◌≡◌, ◌≢◌}
+use Rattle.std.proofs.lemmas.Bool.{eq-eqb, ne_eqb}
+use Rattle.std.specs.Prelude.{int_lt, is_some, ◌++◌}
+use Rattle.aom_image.specs.Image.{Image}
+use Rattle.aom_image.specs.Views.{gives_of, instr_at}
+use Rattle.aom_image.specs.declared.instr.Instr.{Instr}
+use Rattle.aom_image.specs.declared.instr.Instr.TheVariants.{Leave, LeaveIf, NewOrLeave, Push, PushOperation, Trap}
+use Rattle.aom_image.specs.declared.instr.Target.{Target}
+use Rattle.aom_image.specs.declared.method.Gives.{Gives}
+use Rattle.aom_image.specs.declared.method.Gives.TheVariants.{Left, Maybe as A_maybe, Nothing, Own as An_own, Word as A_word}
+use Rattle.aom_shape.specs.Kinds.{is_unowning, register}
+use Rattle.aom_shape.specs.Shape.{Shape}
+use Rattle.aom_shape.specs.Typing.{IsTyped, Typing}
+use Rattle.aom_shape.specs.declared.kind.Entry.{Entry as Pushed}
+use Rattle.aom_shape.specs.declared.kind.Entry.TheVariants.{Object as Pushed_object, Operation as Pushed_operation}
+use Rattle.aom_shape.specs.declared.kind.Kind.TheVariants.{Null}
+use Rattle.aom_sound.proofs.Claimed.{claim_going_above}
+use Rattle.aom_sound.proofs.Clearing.{begins_over}
+use Rattle.aom_sound.proofs.Looping.{goes_same, guarded_goes}
+use Rattle.aom_sound.proofs.Maps.{at-put_at, held_moved, same_place_refl}
+use Rattle.aom_sound.proofs.Quiet.{guarded_met}
+use Rattle.aom_sound.proofs.Straight.{claim_register, fits_unowning}
+use Rattle.aom_sound.specs.Calls.{called, result_register}
+use Rattle.aom_sound.specs.Claims.{Dispatching, Dying, Form, Layer, Mark, Mark_form, Method, Unwinding, declared, entry_form, forms, items_of, objects, tasks_of}
+use Rattle.aom_sound.specs.Cleanup.{arrival, arrived, code_told, destroyed, has_trap, is_negative, leave_needs, left, no_memory, operation_frame, operation_pushed, pushed, to_trap, unwound}
+use Rattle.aom_sound.specs.Destruction.{begun_by, destructor_of}
+use Rattle.aom_sound.specs.Laws.{IsWired}
+use Rattle.aom_sound.specs.Leaves.{AreEntries, AreMethods, Arrives, ArrivesAt, Begins, HasNoResult, Hears, IsBegun, IsDestroyed, IsLeaving, IsLeftOn, IsOver, LeavesWith}
+use Rattle.aom_sound.specs.Moves.{announcement, counted, does, main_left, needs, step, step_instr, step_task, written_task}
+use Rattle.aom_sound.specs.Places.{Cell, Entry, Going, Object, Register, held, moved, named, same_place}
+use Rattle.aom_sound.specs.State.{A_mark, An_object, An_operation, Choice, Destroy, Dispatch, Dispatched, Frame, Goes, Inside, IsStuck, Item, Main_left, NullOrDead, Of_main, Of_root, Run, State, Task, Trapped, Unwind, frame_of, next, set_word, word}
+use Rattle.aom_sound.specs.WellTyped.{AllUndo, Awaits, EndsDispatch, Fits, Good, Keeps, Leaves, Now, Stack, WellTyped}
+use Rattle.aom_sound.specs.Words.{go_on, word_or_zero}
+use Rattle.aom_shape.specs.Needs.{AllTrue}
+use Rattle.aom_sound.specs.declared.line.Ending.TheVariants.{MainLeft}
+use Rattle.aom_sound.proofs.Steps.{step_keeps}
+
+-- ---- the entries of a leave, and its mark
+
+no_mark : {A : Type 0} (x : Pushed) → Mark_form ≡ entry_form x → A
+no_mark (Pushed_object c a) e = cc
+no_mark Pushed_operation e = cc
+
+-- the items of some entries over a mark
+split : (es : List Pushed) (fs : List Form) (all : List Item) → forms all ≡ objects es (Mark_form ∷ fs) → (entries : List Item) × (items : List Item) × (all ≡ entries ++ (A_mark ∷ items)) × AreEntries entries
+split [] fs [] e = cc
+split [] fs (An_object ∷ all) e = cc
+split [] fs (An_operation m w ∷ all) e = cc
+split [] fs (A_mark ∷ all) e = ([], all, refl, tt)
+split (x ∷ es) fs [] e = cc
+split (x ∷ es) fs (An_object ∷ all) e =
+    let same : forms all ≡ objects es (Mark_form ∷ fs) = cc in
+    let r = split es fs all same in
+    (An_object ∷ r.0, r.1, ap (λ l. An_object ∷ l) r.2, r.3)
+split (x ∷ es) fs (An_operation m w ∷ all) e =
+    let same : forms all ≡ objects es (Mark_form ∷ fs) = cc in
+    let r = split es fs all same in
+    (An_operation m w ∷ r.0, r.1, ap (λ l. An_operation m w ∷ l) r.2, r.3)
+split (x ∷ es) fs (A_mark ∷ all) e = no_mark x cc
+
+no_dispatch : {A : Type 0} (p : Image) (d : Dispatch) → EndsDispatch p d Leaves → A
+no_dispatch p Of_main e = absurd e
+no_dispatch p (Main_left x) e = absurd e
+no_dispatch p Of_root e = absurd e
+
+-- a leave on top has entries over the mark of its trap
+pub splits : (p : Image) (t : Typing) (s : State) → WellTyped p t s → (code : ℤ) (below : List Task) → s.tasks ≡ Unwind code ∷ below → (entries : List Item) × (items : List Item) × IsLeaving p code below entries items s
+splits p t s w code below at =
+    let r = go w.layers (sym at ∙ w.tasks) w.items w.good.stack in
+    (r.0, r.1, record { over = subst (λ ts. IsOver p (length s.items) code below ts) (sym at) (refl, refl); stack = r.2; plain = r.3 })
+  where
+    under : (es : List Pushed) (ls : List Layer) → forms s.items ≡ objects es (items_of ls) → Stack p t s.cells Leaves ls → (entries : List Item) × (items : List Item) × (s.items ≡ entries ++ (A_mark ∷ items)) × AreEntries entries
+    under es [] f stack = cc
+    under es (Method fr sh ∷ ls) f stack = absurd stack.0
+    under es (Mark gv ∷ ls) f stack = split es (items_of ls) s.items f
+    under es (Dying o ∷ ls) f stack = absurd stack.1
+    under es (Unwinding x fs ∷ ls) f stack = absurd stack.0
+    under es (Dispatching d ∷ ls) f stack = no_dispatch p d stack.0
+
+    go : (ls : List Layer) → Unwind code ∷ below ≡ tasks_of ls → forms s.items ≡ items_of ls → Stack p t s.cells Now ls → (entries : List Item) × (items : List Item) × (s.items ≡ entries ++ (A_mark ∷ items)) × AreEntries entries
+    go [] e f stack = cc
+    go (Method fr sh ∷ ls) e f stack = cc
+    go (Mark gv ∷ ls) e f stack = cc
+    go (Dying o ∷ ls) e f stack = cc
+    go (Unwinding x es ∷ ls) e f stack = under es ls f stack.1
+    go (Dispatching d ∷ ls) e f stack = cc
+
+-- ---- the beginning
+
+-- the innermost trap, and the methods over it
+pub record Trapping (ts : List Task) : Type 0 where
+  pub methods : List Task
+  pub below : List Task
+  pub all : ts ≡ methods ++ (Trapped ∷ below)
+  pub over : AreMethods methods
+  pub lands : to_trap ts ≡ Trapped ∷ below
+
+trapping : (ts : List Task) → has_trap ts ≡ true → Trapping ts
+trapping [] e = cc
+trapping (Run fr ∷ ts) e = let r = trapping ts e in record { methods = Run fr ∷ r.methods; below = r.below; all = ap (λ l. Run fr ∷ l) r.all; over = r.over; lands = r.lands }
+trapping (Trapped ∷ ts) e = record { methods = []; below = ts; all = refl; over = tt; lands = refl }
+trapping (Destroy ∷ ts) e = cc
+trapping (Unwind code ∷ ts) e = cc
+trapping (Dispatched d ∷ ts) e = cc
+
+is_there : {A : Type 0} (x : Option A) → is_some x ≡ true → (y : A) × (x ≡ Some y)
+is_there None e = cc
+is_there (Some y) e = (y, refl)
+
+module _ (p : Image) (t : Typing) (c : Choice) (fr : Frame) (ts : List Task) (s u : State) (at_hand : s.tasks ≡ Run fr ∷ ts) (keeps : WellTyped p t u) where
+  -- the state that left had these items, and the tasks of the method over those of the state
+  begins_at : (i : Instr) (code : ℤ) (v : State) → to_trap v.tasks ≡ to_trap ts → has_trap ts ≡ true → left code v ≡ u → IsLeftOn fr i s.items v.items → Begins p code fr i s u
+  begins_at i code v same trap e on =
+      let r = trapping ts trap in
+      let top : u.tasks ≡ Unwind code ∷ Trapped ∷ r.below = sym (ap (λ x. x.tasks) e) ∙ ap (λ l. Unwind code ∷ l) (same ∙ r.lands) in
+      let found = splits p t u keeps code (Trapped ∷ r.below) top in
+      record {
+        methods = Run fr ∷ r.methods;
+        below = r.below;
+        tasks = at_hand ∙ ap (λ l. Run fr ∷ l) r.all;
+        over = r.over;
+        entries = found.0;
+        items = found.1;
+        leaving = found.2;
+        top = top;
+        left_on = subst (λ is. IsLeftOn fr i s.items is) (ap (λ x. x.items) e) on;
+      }
+
+  taken : (b : Bool) (v x : State) → b ≡ true → cond b v x ≡ u → v ≡ u
+  taken true v x b e = e
+  taken false v x b e = cc
+
+  trap_so : (b : Bool) (cs : List Cell) → b ≡ true → AllTrue (cond b (leave_needs cs (Run fr ∷ ts)) []) → has_trap ts ≡ true
+  trap_so true cs b n = n.0
+  trap_so false cs b n = cc
+
+  over_trap : to_trap s.tasks ≡ to_trap ts
+  over_trap = ap to_trap at_hand
+
+  refused : (i : Instr) (code : ℤ) (v x : State) → to_trap v.tasks ≡ to_trap ts → has_trap ts ≡ true → (c.refused ≡ true) × (code ≡ negsuc 3) → cond c.refused (left no_memory v) x ≡ u → IsLeftOn fr i s.items v.items → Begins p code fr i s u
+  refused i code v x same trap h e on = subst (λ k. Begins p k fr i s u) (sym h.1) (begins_at i (negsuc 3) v same trap (taken c.refused (left no_memory v) x h.0 e) on)
+
+  pub begins_by : (i : Instr) (code : ℤ) → LeavesWith c fr i code → AllTrue (needs p c fr ts (counted p s) i) → does p c fr ts (counted p s) i ≡ u → Begins p code fr i s u
+  begins_by (Leave a) code h n e = begins_at (Leave a) code (counted p s) over_trap n.1.0 (subst (λ x. left (word_or_zero x) (counted p s) ≡ u) h e) refl
+  begins_by (LeaveIf a) code h n e =
+      let e' = subst (λ x. cond (is_negative p c fr ts (counted p s) (word_or_zero x)) (left (word_or_zero x) (counted p s)) (go_on fr ts (counted p s) s.cells fr) ≡ u) h.0 e in
+      let n' = subst (λ x. AllTrue (cond (is_negative p c fr ts (counted p s) (word_or_zero x)) (leave_needs s.cells (Run fr ∷ ts)) [])) h.0 n.1 in
+      begins_at (LeaveIf a) code (counted p s) over_trap (trap_so (int_lt code (pos 0)) s.cells h.1 n') (taken (int_lt code (pos 0)) (left code (counted p s)) _ h.1 e') refl
+  begins_by (NewOrLeave a x) code h n e = refused (NewOrLeave a x) code (counted p s) _ over_trap (trap_so c.refused s.cells h.0 n.1) h e refl
+  begins_by (Push a) code h n e = refused (Push a) code (pushed p c fr ts (counted p s) a) _ refl n.1.1.1.0 h e refl
+  begins_by (PushOperation a m) code h n e =
+      let w = is_there (word fr a) n.0 in
+      refused (PushOperation a m) code (operation_pushed p c fr ts (counted p s) a m) _ refl n.1.0 h e (w.0, w.1, ap (λ x. An_operation m (word_or_zero x) ∷ s.items) w.1)
+  begins_by _ code h n e = absurd h
+
+pub begins :
+    (p : Image) (t : Typing) → IsWired p → IsTyped p t → (c : Choice) (s u : State) → WellTyped p t s → named s.cells c.name ≡ None →
+    (fr : Frame) (ts : List Task) (i : Instr) (code : ℤ) → s.tasks ≡ Run fr ∷ ts → instr_at p fr.method fr.place ≡ Some i → LeavesWith c fr i code → step p c s ≡ Goes u → Begins p code fr i s u
+begins p t wired typed c s u w unused fr ts i code at there h e =
+    let v = counted p s in
+    let e' : step_instr p c fr ts v (Some i) ≡ Goes u = subst (λ x. step_instr p c fr ts v x ≡ Goes u) there (subst (λ l. step_task p c v l ≡ Goes u) at e) in
+    begins_by p t c fr ts s u at (subst (λ o. Keeps p t o) e (step_keeps p t wired typed c s w unused)) i code h
+    (guarded_met (needs p c fr ts v i) (does p c fr ts v i) u e')
+    (guarded_goes (needs p c fr ts v i) (does p c fr ts v i) u e')
+
+-- ---- the entry that is dealt with
+
+-- no cell is on its way to a place over all tasks
+none_on_its_way : (p : Image) (t : Typing) (s : State) → WellTyped p t s → (ts : List Task) → s.tasks ≡ ts → held s.cells (Going (length ts)) ≡ None
+none_on_its_way p t s w ts at =
+    let deep : length (tasks_of w.layers) ≡ length ts = ap length (sym w.tasks ∙ at) in
+    fits_unowning p (held s.cells) _ Null refl
+    (subst (λ k. Fits p (held s.cells) (held s.cells (Going (length ts))) k) (claim_going_above p s.cells w.layers (length ts) (omega (arith, deep))) (w.good.fits (Going (length ts))))
+
+destroyed_over : (d : Option ℕ) (o : Object) (height : ℕ) (under : List Task) → IsDestroyed d o under (begun_by d o height under)
+destroyed_over None o height under = refl
+destroyed_over (Some m) o height under = (frame_of m (Inside o (Going (length under))) height, refl, refl, refl, refl)
+
+module _ (p : Image) (t : Typing) (wired : IsWired p) (s u : State) (w : WellTyped p t s) (code : ℤ) (below : List Task) (at_hand : s.tasks ≡ Unwind code ∷ below) where
+  -- what is made of the item on top, with these below it
+  abbrev Dealt : Item → List Item → State → Type 0
+  Dealt i rest v = IsOver p (length v.items) code below v.tasks × (v.items ≡ rest) × IsBegun p (Unwind code ∷ below) i (length rest) s v
+
+  of_object : (rest : List Item) (o : Option Object) → held s.cells (Entry (length rest)) ≡ o → is_some o ≡ true → Dealt An_object rest (destroyed p o rest (Unwind code ∷ below) (counted p s))
+  of_object rest None there some = cc
+  of_object rest (Some o) there some =
+      let g = Going (length (Unwind code ∷ below)) in
+      let free = none_on_its_way p t s w (Unwind code ∷ below) at_hand in
+      let goes : held (moved (Entry (length rest)) g s.cells) g ≡ Some o =
+      held_moved s.cells (Entry (length rest)) g g free ∙ ap (λ b. cond b (held s.cells (Entry (length rest))) (cond (same_place (Entry (length rest)) g) None (held s.cells g))) (same_place_refl g) ∙ there in
+      (begins_over p wired o (length rest) code below (Unwind code ∷ below) (refl, refl), refl, (o, there, goes, destroyed_over (destructor_of p o.thing) o (length rest) (Unwind code ∷ below)))
+
+  of_whole : (rest : List Item) (b : Bool) → is_some (held s.cells (Entry (length rest))) ≡ b → cond b (Goes (destroyed p (held s.cells (Entry (length rest))) rest (Unwind code ∷ below) (counted p s))) (IsStuck NullOrDead) ≡ Goes u → Dealt An_object rest u
+  of_whole rest true some e = subst (λ v. Dealt An_object rest v) (goes_same _ u e) (of_object rest (held s.cells (Entry (length rest))) refl some)
+  of_whole rest false some e = cc
+
+  of_item : AllUndo p s.items → (i : Item) (rest es : List Item) → s.items ≡ i ∷ rest → AreEntries (i ∷ es) → unwound p code below (counted p s) (i ∷ rest) ≡ Goes u → Dealt i rest u
+  of_item undos An_object rest es same plain e = of_whole rest (is_some (held s.cells (Entry (length rest)))) refl e
+  of_item undos (An_operation m x) rest es same plain e =
+      let fr = operation_frame m x (length rest) in
+      let undo = subst (λ l. AllUndo p l) same undos in
+      subst (λ v. Dealt (An_operation m x) rest v) (goes_same (record (counted p s) { tasks = Run fr ∷ Unwind code ∷ below; items = rest }) u e)
+      ((undo.0.quiet, refl, (refl, refl)), refl, (fr, refl, refl, refl, refl))
+  of_item undos A_mark rest es same plain e = absurd plain
+
+others : (i : Item) (rest : List Item) → AreEntries (i ∷ rest) → AreEntries rest
+others An_object rest h = h
+others (An_operation m w) rest h = h
+others A_mark rest h = absurd h
+
+pub deals :
+    (p : Image) (t : Typing) → IsWired p → (c : Choice) (s u : State) → WellTyped p t s →
+    (code : ℤ) (below : List Task) (i : Item) (rest items : List Item) → IsLeaving p code below (i ∷ rest) items s → s.tasks ≡ Unwind code ∷ below → step p c s ≡ Goes u →
+    IsLeaving p code below rest items u × IsBegun p (Unwind code ∷ below) i (length (rest ++ (A_mark ∷ items))) s u
+deals p t wired c s u w code below i rest items l at e =
+    let all = rest ++ (A_mark ∷ items) in
+    let e' : unwound p code below (counted p s) (i ∷ all) ≡ Goes u = subst (λ x. unwound p code below (counted p s) x ≡ Goes u) l.stack (subst (λ ts. step_task p c (counted p s) ts ≡ Goes u) at e) in
+    let d = of_item p t wired s u w code below at w.undos i all rest l.stack l.plain e' in
+    (record { over = d.0; stack = d.1; plain = others i rest l.plain }, d.2)
+
+-- ---- the arrival
+
+own_word : (fr : Frame) (a : ℕ) (w : Option ℤ) → word (set_word fr a w) a ≡ w
+own_word fr a w = at-put_at None fr.words a a w ∙ ap (λ b. cond b w (word fr a)) (eq-eqb a a refl)
+
+other_word : (fr : Frame) (a r : ℕ) (w : Option ℤ) → a ≢ r → word (set_word fr a w) r ≡ word fr r
+other_word fr a r w differs = at-put_at None fr.words a r w ∙ ap (λ b. cond b w (word fr r)) (ne_eqb a r differs)
+
+-- the frame that hears of a leave: its words
+module _ (c : ℕ) (code : ℤ) (fr : Frame) where
+  next_register : suc c ≢ c
+  next_register e = absurd (omega (arith, e))
+
+  told_code : (g : Gives) → word (code_told g c code fr) (suc c) ≡ Some code
+  told_code Nothing = own_word fr (suc c) (Some code)
+  told_code A_word = own_word (set_word fr c (Some (pos 0))) (suc c) (Some code)
+  told_code (An_own t) = own_word (set_word fr c None) (suc c) (Some code)
+  told_code (A_maybe t) = own_word (set_word fr c None) (suc c) (Some code)
+  told_code (Left x) = own_word fr (suc c) (Some code)
+
+  told_both : (w : Option ℤ) (r : ℕ) → c ≢ r → suc c ≢ r → word (set_word (set_word fr c w) (suc c) (Some code)) r ≡ word fr r
+  told_both w r n m = other_word (set_word fr c w) (suc c) r (Some code) m ∙ other_word fr c r w n
+
+  told_others : (g : Gives) (r : ℕ) → c ≢ r → suc c ≢ r → word (code_told g c code fr) r ≡ word fr r
+  told_others Nothing r n m = other_word fr (suc c) r (Some code) m
+  told_others A_word r n m = told_both (Some (pos 0)) r n m
+  told_others (An_own t) r n m = told_both None r n m
+  told_others (A_maybe t) r n m = told_both None r n m
+  told_others (Left x) r n m = other_word fr (suc c) r (Some code) m
+
+  told_first : (w : Option ℤ) → word (set_word (set_word fr c w) (suc c) (Some code)) c ≡ w
+  told_first w = other_word (set_word fr c w) (suc c) c (Some code) next_register ∙ own_word fr c w
+
+  told_result : (g : Gives) (cs : List Cell) (depth : ℕ) (sh : Shape) → Awaits g c sh → (is_unowning (register sh c) ≡ true → held cs (Register depth c) ≡ None) → HasNoResult g cs depth c fr (next (code_told g c code fr))
+  told_result Nothing cs depth sh a free = other_word fr (suc c) c (Some code) next_register
+  told_result A_word cs depth sh a free = (told_first (Some (pos 0)), free a)
+  told_result (An_own t) cs depth sh a free = (told_first None, free a)
+  told_result (A_maybe t) cs depth sh a free = (told_first None, free a)
+  told_result (Left x) cs depth sh a free = other_word fr (suc c) c (Some code) next_register
+
+  told_frame : (g : Gives) → record (next (code_told g c code fr)) { words = fr.words } ≡ next fr
+  told_frame Nothing = refl
+  told_frame A_word = refl
+  told_frame (An_own t) = refl
+  told_frame (A_maybe t) = refl
+  told_frame (Left x) = refl
+
+  hears : (g : Gives) (cs : List Cell) (depth : ℕ) (sh : Shape) → Awaits g c sh → is_unowning (register sh (suc c)) ≡ true → ((r : ℕ) → is_unowning (register sh r) ≡ true → held cs (Register depth r) ≡ None) → Hears code g c cs depth fr (next (code_told g c code fr))
+  hears g cs depth sh a unowning free = record {
+    told = (told_code g, free (suc c) unowning);
+    result = told_result g cs depth sh a (free c);
+    others = λ r n m. told_others g r (λ e. n (sym e)) (λ e. m (sym e));
+    goes_on = told_frame g;
+  }
+
+module _ (p : Image) (t : Typing) (s u : State) (code : ℤ) (items : List Item) where
+  -- where it arrives, and what stays
+  abbrev Arrived : List Task → State → Type 0
+  Arrived below v = ArrivesAt p code below v × (v.items ≡ items) × (v.cells ≡ s.cells)
+
+  -- at the method that set the trap, where its registers wait
+  at_method : (fr : Frame) (sh : Shape) (ls : List Layer) (gv : Gives) (es : List Pushed) → Good p t s.cells (Unwinding code es ∷ Mark gv ∷ Method fr sh ∷ ls) → Arrived (Trapped ∷ Run fr ∷ tasks_of ls) (record (counted p s) { tasks = Run (next (code_told (called p (instr_at p fr.method fr.place)) (result_register (instr_at p fr.method fr.place)) code fr)) ∷ tasks_of ls; items = items })
+  at_method fr sh ls gv es good = let i = instr_at p fr.method fr.place in ((next (code_told (called p i) (result_register i) code fr), refl, λ target m first c there. by_trap target m first c there), refl, refl)
+    where
+      free : (r : ℕ) → is_unowning (register sh r) ≡ true → held s.cells (Register (length (tasks_of ls)) r) ≡ None
+      free r unowning = fits_unowning p (held s.cells) _ (register sh r) unowning (subst (λ k. Fits p (held s.cells) (held s.cells (Register (length (tasks_of ls)) r)) k) (claim_register p (declared p s.cells) fr sh ls r) (good.fits (Register (length (tasks_of ls)) r)))
+
+      waits : (called p (instr_at p fr.method fr.place) ≡ gv) × (is_unowning (register sh (suc (result_register (instr_at p fr.method fr.place)))) ≡ true) × Awaits gv (result_register (instr_at p fr.method fr.place)) sh
+      waits = (good.stack.1.1.0.0, good.stack.1.1.0.1, good.stack.1.1.0.2)
+
+      by_trap : (target : Target) (m first c : ℕ) → instr_at p fr.method fr.place ≡ Some (Trap target m first c) → Hears code (gives_of p m) c s.cells (length (tasks_of ls)) fr (next (code_told (called p (instr_at p fr.method fr.place)) (result_register (instr_at p fr.method fr.place)) code fr))
+      by_trap target m first c there =
+          let w = subst (λ i. (called p i ≡ gv) × (is_unowning (register sh (suc (result_register i))) ≡ true) × Awaits gv (result_register i) sh) there waits in
+          subst (λ i. Hears code (gives_of p m) c s.cells (length (tasks_of ls)) fr (next (code_told (called p i) (result_register i) code fr))) (sym there)
+          (hears c code fr (gives_of p m) s.cells (length (tasks_of ls)) sh (subst (λ g. Awaits g c sh) (sym w.0) w.2) w.1 free)
+
+  below_trap : (ls : List Layer) (gv : Gives) (es : List Pushed) → Good p t s.cells (Unwinding code es ∷ Mark gv ∷ ls) → arrived p code (Trapped ∷ tasks_of ls) items (counted p s) ≡ Goes u → Arrived (Trapped ∷ tasks_of ls) u
+  below_trap [] gv es good e = cc
+  below_trap (Method fr sh ∷ ls) gv es good e = subst (λ v. Arrived (Trapped ∷ Run fr ∷ tasks_of ls) v) (goes_same _ u e) (at_method fr sh ls gv es good)
+  below_trap (Mark gv' ∷ ls) gv es good e = absurd good.stack.1.1.0
+  below_trap (Dying o ∷ ls) gv es good e = absurd good.stack.1.1.1
+  below_trap (Unwinding x fs ∷ ls) gv es good e = absurd good.stack.1.1.0
+  below_trap (Dispatching Of_main ∷ ls) gv es good e = subst (λ v. Arrived (Trapped ∷ Dispatched Of_main ∷ tasks_of ls) v) (goes_same _ u e) (refl, refl, refl)
+  below_trap (Dispatching (Main_left x) ∷ ls) gv es good e = absurd good.stack.1.1.0
+  below_trap (Dispatching Of_root ∷ ls) gv es good e = absurd good.stack.1.1.0
+
+  below_leave : (ls : List Layer) (es : List Pushed) → Good p t s.cells (Unwinding code es ∷ ls) → arrived p code (tasks_of ls) items (counted p s) ≡ Goes u → Arrived (tasks_of ls) u
+  below_leave [] es good e = cc
+  below_leave (Method fr sh ∷ ls) es good e = absurd good.stack.1.0
+  below_leave (Mark gv ∷ ls) es good e = below_trap ls gv es good e
+  below_leave (Dying o ∷ ls) es good e = absurd good.stack.1.1
+  below_leave (Unwinding x fs ∷ ls) es good e = absurd good.stack.1.0
+  below_leave (Dispatching d ∷ ls) es good e = no_dispatch p d good.stack.1.0
+
+  by_layers : (below : List Task) (ls : List Layer) → tasks_of ls ≡ Unwind code ∷ below → Good p t s.cells ls → arrived p code below items (counted p s) ≡ Goes u → Arrived below u
+  by_layers below [] at good e = cc
+  by_layers below (Method fr sh ∷ ls) at good e = cc
+  by_layers below (Mark gv ∷ ls) at good e = cc
+  by_layers below (Dying o ∷ ls) at good e = cc
+  by_layers below (Unwinding x es ∷ ls) at good e =
+      let same : tasks_of ls ≡ below = cc in
+      let equal : x ≡ code = cc in
+      subst (λ b. Arrived b u) same (below_leave ls es (subst (λ y. Good p t s.cells (Unwinding y es ∷ ls)) equal good) (subst (λ b. arrived p code b items (counted p s) ≡ Goes u) (sym same) e))
+  by_layers below (Dispatching d ∷ ls) at good e = cc
+
+pub arrives :
+    (p : Image) (t : Typing) (c : Choice) (s u : State) → WellTyped p t s →
+    (code : ℤ) (below : List Task) (items : List Item) → IsLeaving p code below [] items s → s.tasks ≡ Unwind code ∷ below → step p c s ≡ Goes u → Arrives p code below items s u
+arrives p t c s u w code below items l at e =
+    let e' : arrived p code below items (counted p s) ≡ Goes u = subst (λ x. unwound p code below (counted p s) x ≡ Goes u) l.stack (subst (λ ts. step_task p c (counted p s) ts ≡ Goes u) at e) in
+    let r = by_layers p t s u code items below w.layers (sym w.tasks ∙ at) w.good e' in
+    record {
+      place = r.0;
+      under = r.1;
+      cells = r.2;
+      line = ap (λ ts. announcement s.rest ++ written_task p s ts) at ∙ ap (λ is. announcement s.rest ++ arrival code is) l.stack;
+    }
+
+-- main's dispatch ends with the code
+pub ends : (p : Image) (c : Choice) (s u : State) (code : ℤ) (ts : List Task) → s.tasks ≡ Dispatched (Main_left code) ∷ ts → step p c s ≡ Goes u → (u.tasks ≡ []) × (u.rest.ended ≡ Some (MainLeft code))
+ends p c s u code ts at e = subst (λ v. (v.tasks ≡ []) × (v.rest.ended ≡ Some (MainLeft code))) (goes_same (main_left code (counted p s)) u (subst (λ l. step_task p c (counted p s) l ≡ Goes u) at e)) (refl, refl)

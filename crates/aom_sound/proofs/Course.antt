@@ -1,0 +1,95 @@
+-- The course of a leave on a run: which entries it has dealt with, and that its code arrives.
+use Rattle.std.proofs.Common.{List, [], ap, append-nil, append_assoc, inl, inr, length, refl, subst, sym, ℕ, ℤ, ◌∙◌, ◌∷◌, ◌≡◌, ◌≢◌}
+use Rattle.std.specs.Prelude.{◌++◌, ◌⊎◌}
+use Rattle.aom_image.specs.Image.{Image}
+use Rattle.aom_shape.specs.Typing.{IsTyped, Typing}
+use Rattle.aom_sound.proofs.Booting.{boot_keeps}
+use Rattle.aom_sound.proofs.Caught.{arrives as arrives_so, begins as begins_so, deals as deals_so, ends as ends_so, splits}
+use Rattle.aom_sound.proofs.Clearing.{works_kept}
+use Rattle.aom_sound.proofs.Steps.{step_keeps}
+use Rattle.aom_sound.specs.Laws.{IsWired}
+use Rattle.aom_sound.specs.Leaves.{HasArrived, IsLeaving, IsOver, LeavesArrive, LeavesMove, StillLeaves, Unwinds, deals, leaves, works}
+use Rattle.aom_sound.specs.Moves.{IsOpen, step}
+use Rattle.aom_sound.specs.State.{A_mark, Choice, Destroy, Dispatched, Goes, Item, Run, State, Task, Trapped, Unwind}
+use Rattle.aom_sound.specs.WellTyped.{Keeps, WellTyped}
+use Rattle.aom_sound.specs.World.{IsBetween, IsBusy, Reaches, begins, boot_state, moves, waiting, waits}
+use Rattle.aom_sound.specs.declared.line.Line.{Line}
+
+pub leaves_move : LeavesMove
+leaves_move = record {
+  begins = begins_so;
+  works = λ p t wired typed c s u w code below entries items l other e. (works_kept p t wired typed c s u w code below entries items l other e).0;
+  deals = deals_so;
+  arrives = arrives_so;
+  ends = ends_so;
+}
+
+module _ (p : Image) (t : Typing) (refused : List ℕ) (wired : IsWired p) (typed : IsTyped p t) where
+  well_on : (from : State) → WellTyped p t from → (lines : List Line) (s : State) → Reaches p refused from lines s → WellTyped p t s
+  well_on from w _ _ begins = w
+  well_on from w _ _ (moves {lines = lines} {s = s} {u = u} c before busy choice e) = subst (λ o. Keeps p t o) e (step_keeps p t wired typed c s (well_on from w lines s before) choice.name)
+  well_on from w _ _ (waits {lines = lines} {s = s} before between) =
+      let h = well_on from w lines s before in
+      record { layers = h.layers; tasks = h.tasks; items = h.items; undos = h.undos; good = h.good }
+
+  module _ (from : State) (well : WellTyped p t from) (code : ℤ) (below : List Task) (entries items : List Item) where
+    abbrev Course : State → Type 0
+    Course s = StillLeaves p code below entries items from s ⊎ HasArrived p refused code below entries items from s
+
+    -- something is over the leave
+    goes_on : (s u : State) (c : Choice) → WellTyped p t s → StillLeaves p code below entries items from s → s.tasks ≢ Unwind code ∷ below → step p c s ≡ Goes u → Course u
+    goes_on s u c w h other e =
+        let r = works_kept p t wired typed c s u w code below h.rest items h.leaving other e in
+        inl (record { dealt = h.dealt; rest = h.rest; all = h.all; course = works c h.course other e r.1; leaving = r.0 })
+
+    -- the leave itself moves
+    turns : (s u : State) (c : Choice) → WellTyped p t s → (dealt rest : List Item) → entries ≡ dealt ++ rest → Unwinds p code below from dealt s → IsLeaving p code below rest items s → s.tasks ≡ Unwind code ∷ below → step p c s ≡ Goes u → Course u
+    turns s u c w dealt [] all course l at e = inr (record {
+      last = s;
+      course = subst (λ is. Unwinds p code below from is s) (sym (all ∙ append-nil dealt)) course;
+      choice = c;
+      after = u;
+      move = e;
+      arrives = arrives_so p t c s u w code below items l at e;
+      lines = [];
+      reaches = begins;
+    })
+    turns s u c w dealt (i ∷ rest) all course l at e =
+        let r = deals_so p t wired c s u w code below i rest items l at e in
+        inl (record {
+          dealt = dealt ++ (i ∷ []);
+          rest = rest;
+          all = all ∙ sym (append_assoc dealt (i ∷ []) rest);
+          course = deals c i (rest ++ (A_mark ∷ items)) course at l.stack e r.0.stack r.1;
+          leaving = r.0;
+        })
+
+    still : (s u : State) (c : Choice) → WellTyped p t s → StillLeaves p code below entries items from s → step p c s ≡ Goes u → Course u
+    still s u c w h e = go s.tasks refl h.leaving.over
+      where
+        go : (ts : List Task) → s.tasks ≡ ts → IsOver p (length s.items) code below ts → Course u
+        go [] at o = absurd o
+        go (Run fr ∷ ts) at o = goes_on s u c w h (λ top. let clash : Run fr ∷ ts ≡ Unwind code ∷ below = sym at ∙ top in cc) e
+        go (Trapped ∷ ts) at o = absurd o
+        go (Destroy ∷ ts) at o = goes_on s u c w h (λ top. let clash : Destroy ∷ ts ≡ Unwind code ∷ below = sym at ∙ top in cc) e
+        go (Unwind x ∷ ts) at o = turns s u c w h.dealt h.rest h.all h.course h.leaving (at ∙ ap (λ y. Unwind y ∷ ts) o.0 ∙ ap (λ l. Unwind code ∷ l) o.1) e
+        go (Dispatched d ∷ ts) at o = absurd o
+
+    moved_on : (lines : List Line) (s u : State) (c : Choice) → WellTyped p t s → IsBusy s → IsOpen p refused c s → step p c s ≡ Goes u → Course s → Course u
+    moved_on lines s u c w busy choice e (inl h) = still s u c w h e
+    moved_on lines s u c w busy choice e (inr h) = inr (record { last = h.last; course = h.course; choice = h.choice; after = h.after; move = h.move; arrives = h.arrives; lines = _; reaches = moves c h.reaches busy choice e })
+
+    waited : (s : State) → IsBetween s → Course s → Course (waiting s)
+    waited s between (inl h) = absurd (subst (λ ts. IsOver p (length s.items) code below ts) between.idle h.leaving.over)
+    waited s between (inr h) = inr (record { last = h.last; course = h.course; choice = h.choice; after = h.after; move = h.move; arrives = h.arrives; lines = h.lines; reaches = waits h.reaches between })
+
+    course_of : IsLeaving p code below entries items from → (lines : List Line) (s : State) → Reaches p refused from lines s → Course s
+    course_of l _ _ begins = inl (record { dealt = []; rest = entries; all = refl; course = leaves; leaving = l })
+    course_of l _ _ (moves {lines = lines} {s = s} {u = u} c before busy choice e) = moved_on lines s u c (well_on from well lines s before) busy choice e (course_of l lines s before)
+    course_of l _ _ (waits {lines = lines} {s = s} before between) = waited s between (course_of l lines s before)
+
+pub leaves_arrive : LeavesArrive
+leaves_arrive p t refused wired typed before s reached code below at =
+    let w = well_on p t refused wired typed (boot_state p) (boot_keeps p t wired typed) before s reached in
+    let found = splits p t s w code below at in
+    (found.0, found.1, found.2.stack, λ lines u r. course_of p t refused wired typed s w code below found.0 found.1 found.2 lines u r)
