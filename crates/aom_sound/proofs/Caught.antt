@@ -259,7 +259,7 @@ module _ (c : ℕ) (code : ℤ) (fr : Frame) where
   told_result (A_maybe t) cs depth sh a free = (told_first None, free a)
   told_result (Left x) cs depth sh a free = other_word fr (suc c) c (Some code) next_register
 
-  told_frame : (g : Gives) → record (next (code_told g c code fr)) { words = fr.words } ≡ next fr
+  pub told_frame : (g : Gives) → record (next (code_told g c code fr)) { words = fr.words } ≡ next fr
   told_frame Nothing = refl
   told_frame A_word = refl
   told_frame (An_own t) = refl

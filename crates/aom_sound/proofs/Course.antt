@@ -25,7 +25,7 @@ leaves_move = record {
 }
 
 module _ (p : Image) (t : Typing) (refused : List ℕ) (wired : IsWired p) (typed : IsTyped p t) where
-  well_on : (from : State) → WellTyped p t from → (lines : List Line) (s : State) → Reaches p refused from lines s → WellTyped p t s
+  pub well_on : (from : State) → WellTyped p t from → (lines : List Line) (s : State) → Reaches p refused from lines s → WellTyped p t s
   well_on from w _ _ begins = w
   well_on from w _ _ (moves {lines = lines} {s = s} {u = u} c before busy choice e) = subst (λ o. Keeps p t o) e (step_keeps p t wired typed c s (well_on from w lines s before) choice.name)
   well_on from w _ _ (waits {lines = lines} {s = s} before between) =

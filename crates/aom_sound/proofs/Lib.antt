@@ -33,4 +33,5 @@ pub mod Quiet
 pub mod Clearing
 pub mod Caught
 pub mod Course
+pub mod Trapping
 pub mod Stuck

@@ -14,4 +14,5 @@ pub mod Loops
 pub mod Laws
 pub mod Quiet
 pub mod Leaves
+pub mod Traps
 pub mod Examples

@@ -3,6 +3,7 @@ ghost use Rattle.aom_sound.specs.Laws.{BootKeeps, InstructionKeeps, DestructionK
 ghost use Rattle.aom_sound.specs.Loops.{LoopsKeep};
 ghost use Rattle.aom_sound.specs.Quiet.{CalmKeeps, CaughtOwned};
 ghost use Rattle.aom_sound.specs.Leaves.{LeavesMove, LeavesArrive};
+ghost use Rattle.aom_sound.specs.Traps.{TrapsKeep};
 ghost use Rattle.aom_sound.specs.Examples.{StuckExamples};
 
 /// A run of a typed image begins well typed.
@@ -53,6 +54,11 @@ pub fn leaves_move()
 /// On each run from a leave all its entries are dealt with in their order, and then its code arrives.
 pub fn leaves_arrive()
     ensures { LeavesArrive }
+{}
+
+/// Until a trap is over its method waits as it was, and what lies below its mark stays as it is.
+pub fn traps_keep()
+    ensures { TrapsKeep }
 {}
 
 /// Ownership is a forest where a leave is caught.

@@ -1,0 +1,71 @@
+-- Traps: until a trap is over, the method that set it waits as it was, and what lies below its mark stays as it is.
+use Rattle.std.specs.Prelude.{ℕ, suc, ◌≡◌, ◌⊎◌, List, [], ◌∷◌, ◌++◌, Some, None}
+use Rattle.aom_image.specs.Image.{Image}
+use Rattle.aom_image.specs.Views.{instr_at}
+use Rattle.aom_image.specs.declared.instr.Instr.TheVariants.{Trap}
+use Rattle.aom_image.specs.declared.instr.Target.{Target}
+use Rattle.aom_shape.specs.Typing.{Typing, IsTyped}
+use Rattle.aom_sound.specs.Places.{named}
+use Rattle.aom_sound.specs.State.{Frame, Dispatch, Task, Run, Trapped, Destroy, Unwind, Dispatched, Item, An_object, An_operation, A_mark, State, Choice, Goes, next}
+use Rattle.aom_sound.specs.Moves.{step}
+use Rattle.aom_sound.specs.WellTyped.{WellTyped}
+use Rattle.aom_sound.specs.World.{boot_state, Reaches}
+use Rattle.aom_sound.specs.Laws.{IsWired}
+use Rattle.aom_sound.specs.declared.line.Line.{Line}
+
+abbrev pub traps : List Task → ℕ
+traps [] = 0
+traps (Run fr ∷ ts) = traps ts
+traps (Trapped ∷ ts) = suc (traps ts)
+traps (Destroy ∷ ts) = traps ts
+traps (Unwind code ∷ ts) = traps ts
+traps (Dispatched d ∷ ts) = traps ts
+
+abbrev pub marks : List Item → ℕ
+marks [] = 0
+marks (An_object ∷ items) = marks items
+marks (An_operation m w ∷ items) = marks items
+marks (A_mark ∷ items) = suc (marks items)
+
+-- a trap is at hand over these tasks, and below its mark lie these items: over both are as many traps as marks
+pub record IsTrapping (below : List Task) (items : List Item) (s : State) : Type 0 where
+  pub over : List Task
+  pub tasks : s.tasks ≡ over ++ (Trapped ∷ below)
+  pub entries : List Item
+  pub stack : s.items ≡ entries ++ (A_mark ∷ items)
+  pub matched : marks entries ≡ traps over
+
+-- the method that waited goes on after its trap, with other words at most, or the dispatch does
+abbrev pub GoesOnAfter : List Task → List Task → Type 0
+GoesOnAfter [] tasks = ⊥
+GoesOnAfter (Run before ∷ ts) tasks = (after : Frame) × (tasks ≡ Run after ∷ ts) × (record after { words = before.words } ≡ next before)
+GoesOnAfter (Trapped ∷ ts) tasks = ⊥
+GoesOnAfter (Destroy ∷ ts) tasks = ⊥
+GoesOnAfter (Unwind code ∷ ts) tasks = ⊥
+GoesOnAfter (Dispatched d ∷ ts) tasks = (e : Dispatch) × (tasks ≡ Dispatched e ∷ ts)
+
+-- the trap is over, by a return or by the arrival of a leave, and the items are those that lay below its mark
+pub record IsPast (below : List Task) (items : List Item) (s : State) : Type 0 where
+  pub tasks : GoesOnAfter below s.tasks
+  pub stack : s.items ≡ items
+
+-- it came to that on the way
+pub record WasPast (p : Image) (refused : List ℕ) (below : List Task) (items : List Item) (s : State) : Type 0 where
+  pub after : State
+  pub past : IsPast below items after
+  pub lines : List Line
+  pub reaches : Reaches p refused after lines s
+
+pub record TrapsKeep : Type 0 where
+  -- a method sets a trap: it waits under it, and the items are those below its mark
+  pub sets :
+      (p : Image) (t : Typing) (c : Choice) (s u : State) (fr : Frame) (ts : List Task) (target : Target) (m first x : ℕ) →
+      s.tasks ≡ Run fr ∷ ts → instr_at p fr.method fr.place ≡ Some (Trap target m first x) → step p c s ≡ Goes u → IsTrapping (Run fr ∷ ts) s.items u
+  -- of each move
+  pub moves :
+      (p : Image) (t : Typing) → IsWired p → IsTyped p t → (c : Choice) (s u : State) → WellTyped p t s → named s.cells c.name ≡ None →
+      (below : List Task) (items : List Item) → IsTrapping below items s → step p c s ≡ Goes u → IsTrapping below items u ⊎ IsPast below items u
+  -- and of each run from there
+  pub runs :
+      (p : Image) (t : Typing) (refused : List ℕ) → IsWired p → IsTyped p t → (before : List Line) (s : State) → Reaches p refused (boot_state p) before s →
+      (below : List Task) (items : List Item) → IsTrapping below items s → (lines : List Line) (u : State) → Reaches p refused s lines u → IsTrapping below items u ⊎ WasPast p refused below items u
