@@ -221,7 +221,7 @@ deals p t wired c s u w code below i rest items l at e =
 
 -- ---- the arrival
 
-own_word : (fr : Frame) (a : ℕ) (w : Option ℤ) → word (set_word fr a w) a ≡ w
+pub own_word : (fr : Frame) (a : ℕ) (w : Option ℤ) → word (set_word fr a w) a ≡ w
 own_word fr a w = at-put_at None fr.words a a w ∙ ap (λ b. cond b w (word fr a)) (eq-eqb a a refl)
 
 other_word : (fr : Frame) (a r : ℕ) (w : Option ℤ) → a ≢ r → word (set_word fr a w) r ≡ word fr r

@@ -92,4 +92,4 @@ pub leaves_arrive : LeavesArrive
 leaves_arrive p t refused wired typed before s reached code below at =
     let w = well_on p t refused wired typed (boot_state p) (boot_keeps p t wired typed) before s reached in
     let found = splits p t s w code below at in
-    (found.0, found.1, found.2.stack, λ lines u r. course_of p t refused wired typed s w code below found.0 found.1 found.2 lines u r)
+    (found.0, found.1, found.2.stack, found.2.plain, λ lines u r. course_of p t refused wired typed s w code below found.0 found.1 found.2 lines u r)

@@ -33,5 +33,6 @@ pub mod Quiet
 pub mod Clearing
 pub mod Caught
 pub mod Course
+pub mod Standing
 pub mod Trapping
 pub mod Stuck

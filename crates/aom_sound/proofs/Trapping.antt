@@ -12,10 +12,11 @@ use Rattle.aom_image.specs.declared.method.Gives.TheVariants.{Left, Maybe as A_m
 use Rattle.aom_shape.specs.Typing.{IsTyped, Typing}
 use Rattle.aom_shape.specs.declared.kind.Entry.{Entry as Pushed}
 use Rattle.aom_shape.specs.declared.kind.Entry.TheVariants.{Object as Pushed_object, Operation as Pushed_operation}
-use Rattle.aom_sound.proofs.Caught.{told_frame}
+use Rattle.aom_sound.proofs.Caught.{own_word, told_frame}
 use Rattle.aom_sound.proofs.Course.{well_on}
 use Rattle.aom_sound.proofs.Booting.{boot_keeps}
 use Rattle.aom_sound.proofs.Looping.{goes_same, guarded_goes}
+use Rattle.aom_sound.proofs.Standing.{stand}
 use Rattle.aom_sound.proofs.Steps.{step_keeps}
 use Rattle.aom_sound.specs.Calls.{below_top, called, received, result_register, returned}
 use Rattle.aom_sound.specs.Claims.{Dispatching, Dying, Form, Layer, Mark, Mark_form, Method, Object_form, Operation_form, Unwinding, forms, items_of, objects, tasks_of}
@@ -25,8 +26,8 @@ use Rattle.aom_sound.specs.Laws.{IsWired}
 use Rattle.aom_sound.specs.Moves.{IsOpen, counted, does, needs, step, step_instr, step_task}
 use Rattle.aom_sound.specs.Objects.{deleted, jumped}
 use Rattle.aom_sound.specs.Places.{Entry, Going, Object, held, named, without}
-use Rattle.aom_sound.specs.State.{A_mark, An_object, An_operation, Choice, Destroy, Dispatch, Dispatched, Frame, Goes, IsStuck, Item, NullOrDead, Orphan, Run, State, Task, Trapped, Unwind, counter, field_place, next, resumed, set_word}
-use Rattle.aom_sound.specs.Traps.{GoesOnAfter, IsPast, IsTrapping, TrapsKeep, WasPast, marks, traps}
+use Rattle.aom_sound.specs.State.{A_mark, An_object, An_operation, Choice, Destroy, Dispatch, Dispatched, Frame, Goes, IsStuck, Item, NullOrDead, Orphan, Run, State, Task, Trapped, Unwind, counter, field_place, next, resumed, set_word, word}
+use Rattle.aom_sound.specs.Traps.{ComesOff, GoesOnAfter, IsPast, IsTrapping, TellsZero, TrapsKeep, WasPast, marks, traps}
 use Rattle.aom_sound.specs.WellTyped.{Good, Keeps, WellTyped}
 use Rattle.aom_sound.specs.Words.{branched, go_on, here, looped, read}
 use Rattle.aom_sound.specs.World.{IsBetween, IsBusy, Reaches, begins, boot_state, moves, waiting, waits}
@@ -87,8 +88,8 @@ abbrev Near : List Item → List Item → Type 0
 Near old new = (new ≡ old) ⊎ ((i : Item) × (new ≡ i ∷ old)) ⊎ ((i : Item) × (old ≡ i ∷ new))
 
 -- the trap stays, or it is over and the last item with it
-abbrev Moved : List Task → List Item → State → Type 0
-Moved below old u = (Ends below u.tasks × Near old u.items) ⊎ (GoesOnAfter below u.tasks × (u.items ≡ below_top old))
+abbrev Moved : Image → List Task → State → State → Type 0
+Moved p below s u = (Ends below u.tasks × Near s.items u.items) ⊎ (GoesOnAfter below u.tasks × (u.items ≡ below_top s.items) × ComesOff p below s u)
 
 near_top : (items : List Item) → Near items (below_top items)
 near_top [] = inl refl
@@ -165,36 +166,36 @@ begins_there p o height below ts e = go (destructor_of p o.thing)
     go (Some m) = with_task below (Destroy ∷ ts) _ (with_task below ts Destroy e)
 
 -- an item is dealt with over these tasks
-deals_there : (p : Image) (items : List Item) (below ts : List Task) (s : State) → s.items ≡ items → Ends below ts → Moved below s.items (dealt_with p items ts s)
+deals_there : (p : Image) (items : List Item) (below ts : List Task) (s : State) → s.items ≡ items → Ends below ts → Moved p below s (dealt_with p items ts s)
 deals_there p [] below ts s at e = inl (e, inl refl)
 deals_there p (An_object ∷ items) below ts s at e = go (held s.cells (Entry (length items)))
   where
-    go : (o : Option Object) → Moved below s.items (destroyed p o items ts s)
+    go : (o : Option Object) → Moved p below s (destroyed p o items ts s)
     go None = inl (e, inr (inr (An_object, at)))
     go (Some o) = inl (begins_there p o (length items) below ts e, inr (inr (An_object, at)))
 deals_there p (An_operation m w ∷ items) below ts s at e = inl (with_task below ts _ e, inr (inr (An_operation m w, at)))
 deals_there p (A_mark ∷ items) below ts s at e = inl (e, inl refl)
 
 module _ (p : Image) (c : Choice) (fr : Frame) (ts : List Task) (s : State) (at_hand : s.tasks ≡ Run fr ∷ ts) (below : List Task) (e : Ends below ts) where
-  given : Moved below s.items s
+  given : Moved p below s s
   given = inl (subst (λ l. Ends below l) (sym at_hand) (with_task below ts (Run fr) e), inl refl)
 
   over : (x : Task) → Ends below (x ∷ ts)
   over x = with_task below ts x e
 
-  jump_there : (o : Option Object) (to : ℕ) → Moved below s.items (jumped p c fr ts s o to)
+  jump_there : (o : Option Object) (to : ℕ) → Moved p below s (jumped p c fr ts s o to)
   jump_there None to = inl (over _, inl refl)
   jump_there (Some o) to = inl (over _, inl refl)
 
-  branch_there : (b : Bool) (to : ℕ) → Moved below s.items (branched fr ts s b to)
+  branch_there : (b : Bool) (to : ℕ) → Moved p below s (branched fr ts s b to)
   branch_there true to = inl (over _, inl refl)
   branch_there false to = inl (over _, inl refl)
 
-  loop_there : (rounds depth to : ℕ) → Moved below s.items (looped fr ts s rounds depth to)
+  loop_there : (rounds depth to : ℕ) → Moved p below s (looped fr ts s rounds depth to)
   loop_there zero depth to = inl (over _, inl refl)
   loop_there (suc rounds) depth to = inl (over _, inl refl)
 
-  delete_there : (o : Option Object) (a : ℕ) → Moved below s.items (deleted p c fr ts s o a)
+  delete_there : (o : Option Object) (a : ℕ) → Moved p below s (deleted p c fr ts s o a)
   delete_there None a = inl (over _, inl refl)
   delete_there (Some o) a = inl (begins_there p o (length s.items) below (Run (set_word fr a None) ∷ ts) (over _), inl refl)
 
@@ -206,38 +207,55 @@ module _ (p : Image) (c : Choice) (fr : Frame) (ts : List Task) (s : State) (at_
   received_frame (A_maybe t) a x caller w = refl
   received_frame (Left t) a x caller w = refl
 
-  through_trap : (g : Gives) (a : ℕ) (under : List Task) → (under ≡ below) ⊎ Ends below under → Moved below s.items (returned p fr ts s g a (Trapped ∷ under))
-  through_trap g a [] o = given
-  through_trap g a (Run caller ∷ under) (inl same) =
-      let x = result_register (instr_at p caller.method caller.place) in
-      inr (subst (λ b. GoesOnAfter b (Run (next (set_word (received p fr ts s g a x caller) (suc x) (Some (pos 0)))) ∷ under)) same (_, refl, received_frame g a x caller (Some (pos 0))), refl)
-  through_trap g a (Run caller ∷ under) (inr o) = inl (with_task below under _ (under_frame below under caller o), near_top s.items)
-  through_trap g a (Trapped ∷ under) o = given
-  through_trap g a (Destroy ∷ under) o = given
-  through_trap g a (Unwind code ∷ under) o = given
-  through_trap g a (Dispatched d ∷ under) (inl same) = inr (subst (λ b. GoesOnAfter b (Dispatched d ∷ under)) same (d, refl), refl)
-  through_trap g a (Dispatched d ∷ under) (inr o) = inl (o, near_top s.items)
+  -- the word 0 is told
+  zero_told : (g : Gives) (a : ℕ) (caller : Frame) (under : List Task) → let x = result_register (instr_at p caller.method caller.place) in
+      TellsZero p (Run caller ∷ under) (Run (next (set_word (received p fr ts s g a x caller) (suc x) (Some (pos 0)))) ∷ under)
+  zero_told g a caller under target m first x there =
+      let y = result_register (instr_at p caller.method caller.place) in
+      let same : y ≡ x = ap result_register there in
+      subst (λ k. word (set_word (received p fr ts s g a y caller) (suc y) (Some (pos 0))) (suc k) ≡ Some (pos 0)) same (own_word (received p fr ts s g a y caller) (suc y) (Some (pos 0)))
 
-  return_there : (g : Gives) (a : ℕ) (under : List Task) → Ends below under → Moved below s.items (returned p fr ts s g a under)
-  return_there g a [] o = given
-  return_there g a (Run caller ∷ under) o = inl (with_task below under _ (under_frame below under caller o), inl refl)
-  return_there g a (Trapped ∷ under) o = through_trap g a under (under_trap below under o)
-  return_there g a (Destroy ∷ under) o = inl (o, inl refl)
-  return_there g a (Unwind code ∷ under) o = inl (o, inl refl)
-  return_there g a (Dispatched d ∷ under) o = given
+  through_trap : (g : Gives) (a : ℕ) (under : List Task) → ts ≡ Trapped ∷ under → (under ≡ below) ⊎ Ends below under → Moved p below s (returned p fr ts s g a (Trapped ∷ under))
+  through_trap g a [] at o = given
+  through_trap g a (Run caller ∷ under) at (inl same) =
+      let x = result_register (instr_at p caller.method caller.place) in
+      let after = next (set_word (received p fr ts s g a x caller) (suc x) (Some (pos 0))) in
+      inr (
+        subst (λ b. GoesOnAfter b (Run after ∷ under)) same (after, refl, received_frame g a x caller (Some (pos 0))),
+        refl,
+        inl (fr, at_hand ∙ ap (λ l. Run fr ∷ l) at ∙ ap (λ l. Run fr ∷ Trapped ∷ l) same, subst (λ b. TellsZero p b (Run after ∷ under)) same (zero_told g a caller under)),
+      )
+  through_trap g a (Run caller ∷ under) at (inr o) = inl (with_task below under _ (under_frame below under caller o), near_top s.items)
+  through_trap g a (Trapped ∷ under) at o = given
+  through_trap g a (Destroy ∷ under) at o = given
+  through_trap g a (Unwind code ∷ under) at o = given
+  through_trap g a (Dispatched d ∷ under) at (inl same) = inr (
+    subst (λ b. GoesOnAfter b (Dispatched d ∷ under)) same (d, refl),
+    refl,
+    inl (fr, at_hand ∙ ap (λ l. Run fr ∷ l) at ∙ ap (λ l. Run fr ∷ Trapped ∷ l) same, subst (λ b. TellsZero p b (Dispatched d ∷ under)) same tt),
+  )
+  through_trap g a (Dispatched d ∷ under) at (inr o) = inl (o, near_top s.items)
+
+  return_there : (g : Gives) (a : ℕ) (under : List Task) → ts ≡ under → Ends below under → Moved p below s (returned p fr ts s g a under)
+  return_there g a [] at o = given
+  return_there g a (Run caller ∷ under) at o = inl (with_task below under _ (under_frame below under caller o), inl refl)
+  return_there g a (Trapped ∷ under) at o = through_trap g a under at (under_trap below under o)
+  return_there g a (Destroy ∷ under) at o = inl (o, inl refl)
+  return_there g a (Unwind code ∷ under) at o = inl (o, inl refl)
+  return_there g a (Dispatched d ∷ under) at o = given
 
   -- a leave lands on the trap, or on another over it
   left_there : (v : State) (code : ℤ) → to_trap v.tasks ≡ to_trap ts → Ends below (left code v).tasks
   left_there v code same = with_task below (to_trap v.tasks) (Unwind code) (subst (λ l. Ends below l) (sym same) (lands below ts e))
 
-  refused_there : (b : Bool) (code : ℤ) (v u : State) → to_trap v.tasks ≡ to_trap ts → Near s.items v.items → Moved below s.items u → Moved below s.items (cond b (left code v) u)
+  refused_there : (b : Bool) (code : ℤ) (v u : State) → to_trap v.tasks ≡ to_trap ts → Near s.items v.items → Moved p below s u → Moved p below s (cond b (left code v) u)
   refused_there true code v u same near m = inl (left_there v code same, near)
   refused_there false code v u same near m = m
 
   over_trap : to_trap s.tasks ≡ to_trap ts
   over_trap = ap to_trap at_hand
 
-  acts_there : (i : Instr) → Moved below s.items (does p c fr ts s i)
+  acts_there : (i : Instr) → Moved p below s (does p c fr ts s i)
   acts_there (Const a w) = inl (over _, inl refl)
   acts_there (Copy a b) = inl (over _, inl refl)
   acts_there (Add a b x) = inl (over _, inl refl)
@@ -271,58 +289,55 @@ module _ (p : Image) (c : Choice) (fr : Frame) (ts : List Task) (s : State) (at_
   acts_there PopDelete = deals_there p s.items below (Run fr ∷ ts) s refl (over (Run fr))
   acts_there (Leave a) = inl (left_there s (read fr ts s a) over_trap, inl refl)
   acts_there (LeaveIf a) = refused_there (is_negative p c fr ts s (read fr ts s a)) (read fr ts s a) s (go_on fr ts s s.cells fr) over_trap (inl refl) (inl (over _, inl refl))
-  acts_there (Return a) = return_there (gives_of p fr.method) a ts e
+  acts_there (Return a) = return_there (gives_of p fr.method) a ts refl e
   acts_there Stop = inl (over _, inl refl)
   acts_there _ = given
 
 -- the code arrives at the trap, or at another over it
-arrives_there : (p : Image) (code : ℤ) (ts : List Task) (items : List Item) (s u : State) (below : List Task) → s.items ≡ A_mark ∷ items → Ends below ts → arrived p code ts items s ≡ Goes u → Moved below s.items u
-arrives_there p code [] items s u below at o e = cc
-arrives_there p code (Run fr ∷ ts) items s u below at o e = cc
-arrives_there p code (Trapped ∷ ts) items s u below at o e = go ts (under_trap below ts o) e
+arrives_there : (p : Image) (code : ℤ) (ts : List Task) (items : List Item) (s u : State) (below : List Task) → s.tasks ≡ Unwind code ∷ ts → s.items ≡ A_mark ∷ items → Ends below ts → arrived p code ts items s ≡ Goes u → Moved p below s u
+arrives_there p code [] items s u below top at o e = cc
+arrives_there p code (Run fr ∷ ts) items s u below top at o e = cc
+arrives_there p code (Trapped ∷ ts) items s u below top at o e = go ts top (under_trap below ts o) e
   where
-    Goal : State → Type 0
-    Goal v = Moved below s.items v
-
-    go : (ts : List Task) → (ts ≡ below) ⊎ Ends below ts → arrived p code (Trapped ∷ ts) items s ≡ Goes u → Moved below s.items u
-    go [] o e = cc
-    go (Run fr ∷ ts) (inl same) e =
+    go : (ts : List Task) → s.tasks ≡ Unwind code ∷ Trapped ∷ ts → (ts ≡ below) ⊎ Ends below ts → arrived p code (Trapped ∷ ts) items s ≡ Goes u → Moved p below s u
+    go [] top o e = cc
+    go (Run fr ∷ ts) top (inl same) e =
         let i = instr_at p fr.method fr.place in
         let after = next (code_told (called p i) (result_register i) code fr) in
-        subst (λ v. Moved below s.items v) (goes_same (record s { tasks = Run after ∷ ts; items = items }) u e)
-        (inr (subst (λ b. GoesOnAfter b (Run after ∷ ts)) same (after, refl, told_frame (result_register i) code fr (called p i)), sym (ap below_top at)))
-    go (Run fr ∷ ts) (inr o) e =
+        subst (λ v. Moved p below s v) (goes_same (record s { tasks = Run after ∷ ts; items = items }) u e)
+        (inr (subst (λ b. GoesOnAfter b (Run after ∷ ts)) same (after, refl, told_frame (result_register i) code fr (called p i)), sym (ap below_top at), inr (code, top ∙ ap (λ l. Unwind code ∷ Trapped ∷ l) same)))
+    go (Run fr ∷ ts) top (inr o) e =
         let i = instr_at p fr.method fr.place in
         let after = next (code_told (called p i) (result_register i) code fr) in
-        subst (λ v. Moved below s.items v) (goes_same (record s { tasks = Run after ∷ ts; items = items }) u e)
+        subst (λ v. Moved p below s v) (goes_same (record s { tasks = Run after ∷ ts; items = items }) u e)
         (inl (with_task below ts (Run after) (under_frame below ts fr o), inr (inr (A_mark, at))))
-    go (Trapped ∷ ts) o e = cc
-    go (Destroy ∷ ts) o e = cc
-    go (Unwind x ∷ ts) o e = cc
-    go (Dispatched d ∷ ts) (inl same) e =
-        subst (λ v. Moved below s.items v) (goes_same (record s { tasks = Dispatched (ended_by code d) ∷ ts; items = items }) u e)
-        (inr (subst (λ b. GoesOnAfter b (Dispatched (ended_by code d) ∷ ts)) same (ended_by code d, refl), sym (ap below_top at)))
-    go (Dispatched d ∷ ts) (inr o) e =
-        subst (λ v. Moved below s.items v) (goes_same (record s { tasks = Dispatched (ended_by code d) ∷ ts; items = items }) u e)
+    go (Trapped ∷ ts) top o e = cc
+    go (Destroy ∷ ts) top o e = cc
+    go (Unwind x ∷ ts) top o e = cc
+    go (Dispatched d ∷ ts) top (inl same) e =
+        subst (λ v. Moved p below s v) (goes_same (record s { tasks = Dispatched (ended_by code d) ∷ ts; items = items }) u e)
+        (inr (subst (λ b. GoesOnAfter b (Dispatched (ended_by code d) ∷ ts)) same (ended_by code d, refl), sym (ap below_top at), inr (code, top ∙ ap (λ l. Unwind code ∷ Trapped ∷ l) same)))
+    go (Dispatched d ∷ ts) top (inr o) e =
+        subst (λ v. Moved p below s v) (goes_same (record s { tasks = Dispatched (ended_by code d) ∷ ts; items = items }) u e)
         (inl (with_task below ts (Dispatched (ended_by code d)) (under_dispatch below ts d o), inr (inr (A_mark, at))))
-arrives_there p code (Destroy ∷ ts) items s u below at o e = cc
-arrives_there p code (Unwind x ∷ ts) items s u below at o e = cc
-arrives_there p code (Dispatched d ∷ ts) items s u below at o e = cc
+arrives_there p code (Destroy ∷ ts) items s u below top at o e = cc
+arrives_there p code (Unwind x ∷ ts) items s u below top at o e = cc
+arrives_there p code (Dispatched d ∷ ts) items s u below top at o e = cc
 
-unwinds_there : (p : Image) (code : ℤ) (ts : List Task) (items : List Item) (s u : State) (below : List Task) → s.items ≡ items → Ends below ts → unwound p code ts s items ≡ Goes u → Moved below s.items u
-unwinds_there p code ts [] s u below at o e = cc
-unwinds_there p code ts (An_object ∷ items) s u below at o e = go (top_is_whole s.cells (An_object ∷ items)) e
+unwinds_there : (p : Image) (code : ℤ) (ts : List Task) (items : List Item) (s u : State) (below : List Task) → s.tasks ≡ Unwind code ∷ ts → s.items ≡ items → Ends below ts → unwound p code ts s items ≡ Goes u → Moved p below s u
+unwinds_there p code ts [] s u below top at o e = cc
+unwinds_there p code ts (An_object ∷ items) s u below top at o e = go (top_is_whole s.cells (An_object ∷ items)) e
   where
-    go : (b : Bool) → cond b (Goes (dealt_with p (An_object ∷ items) (Unwind code ∷ ts) s)) (IsStuck NullOrDead) ≡ Goes u → Moved below s.items u
-    go true e = subst (λ v. Moved below s.items v) (goes_same (dealt_with p (An_object ∷ items) (Unwind code ∷ ts) s) u e) (deals_there p (An_object ∷ items) below (Unwind code ∷ ts) s at (with_task below ts (Unwind code) o))
+    go : (b : Bool) → cond b (Goes (dealt_with p (An_object ∷ items) (Unwind code ∷ ts) s)) (IsStuck NullOrDead) ≡ Goes u → Moved p below s u
+    go true e = subst (λ v. Moved p below s v) (goes_same (dealt_with p (An_object ∷ items) (Unwind code ∷ ts) s) u e) (deals_there p (An_object ∷ items) below (Unwind code ∷ ts) s at (with_task below ts (Unwind code) o))
     go false e = cc
-unwinds_there p code ts (An_operation m w ∷ items) s u below at o e = subst (λ v. Moved below s.items v) (goes_same (dealt_with p (An_operation m w ∷ items) (Unwind code ∷ ts) s) u e) (deals_there p (An_operation m w ∷ items) below (Unwind code ∷ ts) s at (with_task below ts (Unwind code) o))
-unwinds_there p code ts (A_mark ∷ items) s u below at o e = arrives_there p code ts items s u below at o e
+unwinds_there p code ts (An_operation m w ∷ items) s u below top at o e = subst (λ v. Moved p below s v) (goes_same (dealt_with p (An_operation m w ∷ items) (Unwind code ∷ ts) s) u e) (deals_there p (An_operation m w ∷ items) below (Unwind code ∷ ts) s at (with_task below ts (Unwind code) o))
+unwinds_there p code ts (A_mark ∷ items) s u below top at o e = arrives_there p code ts items s u below top at o e
 
-goes_there : (o : Option Object) (ts : List Task) (s u : State) (below : List Task) → Ends below ts → gone o ts s ≡ Goes u → Moved below s.items u
-goes_there None ts s u below h e = cc
-goes_there (Some o) ts s u below h e =
-    subst (λ v. Moved below s.items v) (guarded_goes ((owns_nothing s.cells o.name, Orphan) ∷ []) (record s { cells = without (Going (length ts)) s.cells; tasks = resumed ts }) u e)
+goes_there : (p : Image) (o : Option Object) (ts : List Task) (s u : State) (below : List Task) → Ends below ts → gone o ts s ≡ Goes u → Moved p below s u
+goes_there p None ts s u below h e = cc
+goes_there p (Some o) ts s u below h e =
+    subst (λ v. Moved p below s v) (guarded_goes ((owns_nothing s.cells o.name, Orphan) ∷ []) (record s { cells = without (Going (length ts)) s.cells; tasks = resumed ts }) u e)
     (inl (resumes below ts h, inl refl))
 
 -- nothing stands under a dispatch
@@ -338,19 +353,19 @@ alone p t s w d ts at = go w.layers (sym w.tasks ∙ at) w.good
     go (Dispatching x ∷ ls) e good = let same : tasks_of ls ≡ ts = cc in sym same ∙ ap tasks_of good.stack.1
 
 module _ (p : Image) (t : Typing) (c : Choice) (s u : State) (w : WellTyped p t s) (below : List Task) where
-  stays_there : (ts : List Task) → s.tasks ≡ ts → Ends below ts → Goes (counted p s) ≡ Goes u → Moved below s.items u
-  stays_there ts at o e = subst (λ v. Moved below s.items v) (goes_same (counted p s) u e) (inl (subst (λ l. Ends below l) (sym at) o, inl refl))
+  stays_there : (ts : List Task) → s.tasks ≡ ts → Ends below ts → Goes (counted p s) ≡ Goes u → Moved p below s u
+  stays_there ts at o e = subst (λ v. Moved p below s v) (goes_same (counted p s) u e) (inl (subst (λ l. Ends below l) (sym at) o, inl refl))
 
-  by_instr : (fr : Frame) (ts : List Task) → s.tasks ≡ Run fr ∷ ts → Ends below ts → (i : Option Instr) → step_instr p c fr ts (counted p s) i ≡ Goes u → Moved below s.items u
+  by_instr : (fr : Frame) (ts : List Task) → s.tasks ≡ Run fr ∷ ts → Ends below ts → (i : Option Instr) → step_instr p c fr ts (counted p s) i ≡ Goes u → Moved p below s u
   by_instr fr ts at o None e = cc
-  by_instr fr ts at o (Some i) e = subst (λ v. Moved below s.items v) (guarded_goes (needs p c fr ts (counted p s) i) (does p c fr ts (counted p s) i) u e) (acts_there p c fr ts (counted p s) at below o i)
+  by_instr fr ts at o (Some i) e = subst (λ v. Moved p below s v) (guarded_goes (needs p c fr ts (counted p s) i) (does p c fr ts (counted p s) i) u e) (acts_there p c fr ts (counted p s) at below o i)
 
-  by_task : (ts : List Task) → s.tasks ≡ ts → Ends below ts → step_task p c (counted p s) ts ≡ Goes u → Moved below s.items u
+  by_task : (ts : List Task) → s.tasks ≡ ts → Ends below ts → step_task p c (counted p s) ts ≡ Goes u → Moved p below s u
   by_task [] at o e = stays_there [] at o e
   by_task (Run fr ∷ ts) at o e = by_instr fr ts at (under_frame below ts fr o) (instr_at p fr.method fr.place) e
   by_task (Trapped ∷ ts) at o e = stays_there (Trapped ∷ ts) at o e
-  by_task (Destroy ∷ ts) at o e = goes_there (held s.cells (Going (length ts))) ts (counted p s) u below (under_going below ts o) e
-  by_task (Unwind code ∷ ts) at o e = unwinds_there p code ts s.items (counted p s) u below refl (under_leave below ts code o) e
+  by_task (Destroy ∷ ts) at o e = goes_there p (held s.cells (Going (length ts))) ts (counted p s) u below (under_going below ts o) e
+  by_task (Unwind code ∷ ts) at o e = unwinds_there p code ts s.items (counted p s) u below at refl (under_leave below ts code o) e
   by_task (Dispatched d ∷ ts) at o e = absurd (none_below below (subst (λ l. Ends below l) (alone p t s w d ts at) (under_dispatch below ts d o)))
 
 -- ---- so the mark of the trap and what lies below it stay
@@ -399,8 +414,8 @@ module _ (p : Image) (t : Typing) (s u : State) (before : WellTyped p t s) (afte
   traps_after (Unwind code ∷ ts) tasks g = absurd g
   traps_after (Dispatched d ∷ ts) tasks g = ap traps g.1
 
-  by_end : GoesOnAfter below u.tasks → u.items ≡ below_top s.items → IsPast below items u
-  by_end g e = record { tasks = g; stack = go h.entries (e ∙ ap below_top h.stack) }
+  by_end : GoesOnAfter below u.tasks → u.items ≡ below_top s.items → ComesOff p below s u → IsPast p below items s u
+  by_end g e off = record { tasks = g; stack = go h.entries (e ∙ ap below_top h.stack); off = off }
     where
       go : (entries : List Item) → u.items ≡ below_top (entries ++ (A_mark ∷ items)) → u.items ≡ items
       go [] stack = stack
@@ -409,9 +424,9 @@ module _ (p : Image) (t : Typing) (s u : State) (before : WellTyped p t s) (afte
           let b = ap marks stack ∙ marks_join entries (A_mark ∷ items) in
           absurd (omega (arith, a, b, traps_after below u.tasks g, lower))
 
-  by_moved : Moved below s.items u → IsTrapping below items u ⊎ IsPast below items u
+  by_moved : Moved p below s u → IsTrapping below items u ⊎ IsPast p below items s u
   by_moved (inl stays) = inl (by_near stays.0.0 stays.0.1 stays.1)
-  by_moved (inr ends) = inr (by_end ends.0 ends.1)
+  by_moved (inr ends) = inr (by_end ends.0 ends.1 ends.2)
 
 sets : (p : Image) (t : Typing) (c : Choice) (s u : State) (fr : Frame) (ts : List Task) (target : Target) (m first x : ℕ) → s.tasks ≡ Run fr ∷ ts → instr_at p fr.method fr.place ≡ Some (Trap target m first x) → step p c s ≡ Goes u → IsTrapping (Run fr ∷ ts) s.items u
 sets p t c s u fr ts target m first x at there e =
@@ -423,33 +438,56 @@ sets p t c s u fr ts target m first x at there e =
 
 keeps_trap :
     (p : Image) (t : Typing) → IsWired p → IsTyped p t → (c : Choice) (s u : State) → WellTyped p t s → named s.cells c.name ≡ None →
-    (below : List Task) (items : List Item) → IsTrapping below items s → step p c s ≡ Goes u → IsTrapping below items u ⊎ IsPast below items u
+    (below : List Task) (items : List Item) → IsTrapping below items s → step p c s ≡ Goes u → IsTrapping below items u ⊎ IsPast p below items s u
 keeps_trap p t wired typed c s u w unused below items h e =
     by_moved p t s u w (subst (λ o. Keeps p t o) e (step_keeps p t wired typed c s w unused)) below items h (by_task p t c s u w below s.tasks refl (h.over, h.tasks) e)
 
 module _ (p : Image) (t : Typing) (refused : List ℕ) (wired : IsWired p) (typed : IsTyped p t) (from : State) (well : WellTyped p t from) (below : List Task) (items : List Item) where
   abbrev Lasts : State → Type 0
-  Lasts s = IsTrapping below items s ⊎ WasPast p refused below items s
+  Lasts s = IsTrapping below items s ⊎ WasPast p refused below items from s
 
-  moved_on : (s u : State) (c : Choice) → WellTyped p t s → IsBusy s → IsOpen p refused c s → step p c s ≡ Goes u → Lasts s → Lasts u
-  moved_on s u c w busy choice e (inl h) = go (keeps_trap p t wired typed c s u w choice.name below items h e)
+  moved_on : (lines : List Line) (s u : State) (c : Choice) → WellTyped p t s → Reaches p refused from lines s → IsBusy s → IsOpen p refused c s → step p c s ≡ Goes u → Lasts s → Lasts u
+  moved_on lines s u c w before busy choice e (inl h) = go (keeps_trap p t wired typed c s u w choice.name below items h e)
     where
-      go : IsTrapping below items u ⊎ IsPast below items u → Lasts u
+      go : IsTrapping below items u ⊎ IsPast p below items s u → Lasts u
       go (inl on) = inl on
-      go (inr off) = inr (record { after = u; past = off; lines = []; reaches = begins })
-  moved_on s u c w busy choice e (inr h) = inr (record { after = h.after; past = h.past; lines = _; reaches = moves c h.reaches busy choice e })
+      go (inr off) = inr (record { earlier = lines; last = s; until = before; trapping = h; choice = c; after = u; move = e; past = off; lines = []; reaches = begins })
+  moved_on lines s u c w before busy choice e (inr h) = inr (record {
+    earlier = h.earlier;
+    last = h.last;
+    until = h.until;
+    trapping = h.trapping;
+    choice = h.choice;
+    after = h.after;
+    move = h.move;
+    past = h.past;
+    lines = _;
+    reaches = moves c h.reaches busy choice e;
+  })
 
   waited : (s : State) → IsBetween s → Lasts s → Lasts (waiting s)
   waited s between (inl h) = absurd (none_below below (h.over, sym between.idle ∙ h.tasks))
-  waited s between (inr h) = inr (record { after = h.after; past = h.past; lines = h.lines; reaches = waits h.reaches between })
+  waited s between (inr h) = inr (record {
+    earlier = h.earlier;
+    last = h.last;
+    until = h.until;
+    trapping = h.trapping;
+    choice = h.choice;
+    after = h.after;
+    move = h.move;
+    past = h.past;
+    lines = h.lines;
+    reaches = waits h.reaches between;
+  })
 
   lasts : IsTrapping below items from → (lines : List Line) (s : State) → Reaches p refused from lines s → Lasts s
   lasts h _ _ begins = inl h
-  lasts h _ _ (moves {lines = lines} {s = s} {u = u} c before busy choice e) = moved_on s u c (well_on p t refused wired typed from well lines s before) busy choice e (lasts h lines s before)
+  lasts h _ _ (moves {lines = lines} {s = s} {u = u} c before busy choice e) = moved_on lines s u c (well_on p t refused wired typed from well lines s before) before busy choice e (lasts h lines s before)
   lasts h _ _ (waits {lines = lines} {s = s} before between) = waited s between (lasts h lines s before)
 
 pub traps_keep : TrapsKeep
 traps_keep = record {
+  stand = stand;
   sets = sets;
   moves = keeps_trap;
   runs = λ p t refused wired typed before s reached below items h lines u r. lasts p t refused wired typed s (well_on p t refused wired typed (boot_state p) (boot_keeps p t wired typed) before s reached) below items h lines u r;

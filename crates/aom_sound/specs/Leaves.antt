@@ -191,4 +191,5 @@ LeavesArrive =
     (entries : List Item)
     × (items : List Item)
     × (s.items ≡ entries ++ (A_mark ∷ items))
+    × AreEntries entries
     × ((lines : List Line) (u : State) → Reaches p refused s lines u → StillLeaves p code below entries items s u ⊎ HasArrived p refused code below entries items s u)

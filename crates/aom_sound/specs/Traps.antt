@@ -1,12 +1,12 @@
 -- Traps: until a trap is over, the method that set it waits as it was, and what lies below its mark stays as it is.
-use Rattle.std.specs.Prelude.{ℕ, suc, ◌≡◌, ◌⊎◌, List, [], ◌∷◌, ◌++◌, Some, None}
+use Rattle.std.specs.Prelude.{ℕ, suc, ℤ, pos, ◌≡◌, ◌⊎◌, List, [], ◌∷◌, ◌++◌, Some, None}
 use Rattle.aom_image.specs.Image.{Image}
 use Rattle.aom_image.specs.Views.{instr_at}
 use Rattle.aom_image.specs.declared.instr.Instr.TheVariants.{Trap}
 use Rattle.aom_image.specs.declared.instr.Target.{Target}
 use Rattle.aom_shape.specs.Typing.{Typing, IsTyped}
 use Rattle.aom_sound.specs.Places.{named}
-use Rattle.aom_sound.specs.State.{Frame, Dispatch, Task, Run, Trapped, Destroy, Unwind, Dispatched, Item, An_object, An_operation, A_mark, State, Choice, Goes, next}
+use Rattle.aom_sound.specs.State.{Frame, Dispatch, Task, Run, Trapped, Destroy, Unwind, Dispatched, Item, An_object, An_operation, A_mark, State, Choice, Goes, word, next}
 use Rattle.aom_sound.specs.Moves.{step}
 use Rattle.aom_sound.specs.WellTyped.{WellTyped}
 use Rattle.aom_sound.specs.World.{boot_state, Reaches}
@@ -44,19 +44,54 @@ GoesOnAfter (Destroy ∷ ts) tasks = ⊥
 GoesOnAfter (Unwind code ∷ ts) tasks = ⊥
 GoesOnAfter (Dispatched d ∷ ts) tasks = (e : Dispatch) × (tasks ≡ Dispatched e ∷ ts)
 
--- the trap is over, by a return or by the arrival of a leave, and the items are those that lay below its mark
-pub record IsPast (below : List Task) (items : List Item) (s : State) : Type 0 where
-  pub tasks : GoesOnAfter below s.tasks
-  pub stack : s.items ≡ items
+-- the register of the code has the word 0
+abbrev pub TellsZero : Image → List Task → List Task → Type 0
+TellsZero p (Run before ∷ ts) (Run after ∷ us) = (target : Target) (m first x : ℕ) → instr_at p before.method before.place ≡ Some (Trap target m first x) → word after (suc x) ≡ Some (pos 0)
+TellsZero p _ _ = Unit {0}
+
+-- the method right over the trap has returned, or a leave right over it has arrived
+abbrev pub ComesOff : Image → List Task → State → State → Type 0
+ComesOff p below s u = ((fr : Frame) × (s.tasks ≡ Run fr ∷ Trapped ∷ below) × TellsZero p below u.tasks) ⊎ ((code : ℤ) × (s.tasks ≡ Unwind code ∷ Trapped ∷ below))
+
+-- with that move the trap is over, and the items are those that lay below its mark
+pub record IsPast (p : Image) (below : List Task) (items : List Item) (s u : State) : Type 0 where
+  pub tasks : GoesOnAfter below u.tasks
+  pub stack : u.items ≡ items
+  pub off : ComesOff p below s u
 
 -- it came to that on the way
-pub record WasPast (p : Image) (refused : List ℕ) (below : List Task) (items : List Item) (s : State) : Type 0 where
+pub record WasPast (p : Image) (refused : List ℕ) (below : List Task) (items : List Item) (from s : State) : Type 0 where
+  pub earlier : List Line
+  pub last : State
+  pub until : Reaches p refused from earlier last
+  pub trapping : IsTrapping below items last
+  pub choice : Choice
   pub after : State
-  pub past : IsPast below items after
+  pub move : step p choice last ≡ Goes after
+  pub past : IsPast p below items last after
   pub lines : List Line
   pub reaches : Reaches p refused after lines s
 
+-- a method that waits under a trap stands at the instruction that set it
+abbrev pub IsAtTrap : Image → List Task → Type 0
+IsAtTrap p [] = ⊥
+IsAtTrap p (Run fr ∷ ts) = (target : Target) × (m : ℕ) × (first : ℕ) × (x : ℕ) × (instr_at p fr.method fr.place ≡ Some (Trap target m first x))
+IsAtTrap p (Trapped ∷ ts) = ⊥
+IsAtTrap p (Destroy ∷ ts) = ⊥
+IsAtTrap p (Unwind code ∷ ts) = ⊥
+IsAtTrap p (Dispatched d ∷ ts) = Unit {0}
+
+abbrev pub AllAtTraps : Image → List Task → Type 0
+AllAtTraps p [] = Unit {0}
+AllAtTraps p (Run fr ∷ ts) = AllAtTraps p ts
+AllAtTraps p (Trapped ∷ ts) = IsAtTrap p ts × AllAtTraps p ts
+AllAtTraps p (Destroy ∷ ts) = AllAtTraps p ts
+AllAtTraps p (Unwind code ∷ ts) = AllAtTraps p ts
+AllAtTraps p (Dispatched d ∷ ts) = AllAtTraps p ts
+
 pub record TrapsKeep : Type 0 where
+  -- in each state of a run
+  pub stand : (p : Image) (refused : List ℕ) (lines : List Line) (s : State) → Reaches p refused (boot_state p) lines s → AllAtTraps p s.tasks
   -- a method sets a trap: it waits under it, and the items are those below its mark
   pub sets :
       (p : Image) (t : Typing) (c : Choice) (s u : State) (fr : Frame) (ts : List Task) (target : Target) (m first x : ℕ) →
@@ -64,8 +99,8 @@ pub record TrapsKeep : Type 0 where
   -- of each move
   pub moves :
       (p : Image) (t : Typing) → IsWired p → IsTyped p t → (c : Choice) (s u : State) → WellTyped p t s → named s.cells c.name ≡ None →
-      (below : List Task) (items : List Item) → IsTrapping below items s → step p c s ≡ Goes u → IsTrapping below items u ⊎ IsPast below items u
+      (below : List Task) (items : List Item) → IsTrapping below items s → step p c s ≡ Goes u → IsTrapping below items u ⊎ IsPast p below items s u
   -- and of each run from there
   pub runs :
       (p : Image) (t : Typing) (refused : List ℕ) → IsWired p → IsTyped p t → (before : List Line) (s : State) → Reaches p refused (boot_state p) before s →
-      (below : List Task) (items : List Item) → IsTrapping below items s → (lines : List Line) (u : State) → Reaches p refused s lines u → IsTrapping below items u ⊎ WasPast p refused below items u
+      (below : List Task) (items : List Item) → IsTrapping below items s → (lines : List Line) (u : State) → Reaches p refused s lines u → IsTrapping below items u ⊎ WasPast p refused below items s u
