@@ -18,7 +18,7 @@ use Rattle.aom_shape.specs.declared.kind.Kind.TheVariants.{Null}
 use Rattle.aom_sound.proofs.Claimed.{claim_going_above}
 use Rattle.aom_sound.proofs.Clearing.{begins_over}
 use Rattle.aom_sound.proofs.Looping.{goes_same, guarded_goes}
-use Rattle.aom_sound.proofs.Maps.{at-put_at, held_moved, same_place_refl}
+use Rattle.aom_sound.proofs.Maps.{at-put_at, held_moved, same_place-true, same_place_refl}
 use Rattle.aom_sound.proofs.Quiet.{guarded_met}
 use Rattle.aom_sound.proofs.Straight.{claim_register, fits_unowning}
 use Rattle.aom_sound.specs.Calls.{called, result_register}
@@ -26,9 +26,9 @@ use Rattle.aom_sound.specs.Claims.{Dispatching, Dying, Form, Layer, Mark, Mark_f
 use Rattle.aom_sound.specs.Cleanup.{arrival, arrived, code_told, destroyed, has_trap, is_negative, leave_needs, left, no_memory, operation_frame, operation_pushed, pushed, to_trap, unwound}
 use Rattle.aom_sound.specs.Destruction.{begun_by, destructor_of}
 use Rattle.aom_sound.specs.Laws.{IsWired}
-use Rattle.aom_sound.specs.Leaves.{AreEntries, AreMethods, Arrives, ArrivesAt, Begins, HasNoResult, Hears, IsBegun, IsDestroyed, IsLeaving, IsLeftOn, IsOver, LeavesWith}
+use Rattle.aom_sound.specs.Leaves.{AreEntries, AreMethods, Arrives, ArrivesAt, Begins, HasNoResult, Hears, IsBegun, IsDestroyed, IsLeaving, IsLeftOn, IsOver, LeavesWith, HasMoved}
 use Rattle.aom_sound.specs.Moves.{announcement, counted, does, main_left, needs, step, step_instr, step_task, written_task}
-use Rattle.aom_sound.specs.Places.{Cell, Entry, Going, Object, Register, held, moved, named, same_place}
+use Rattle.aom_sound.specs.Places.{Cell, Entry, Going, Object, Register, held, moved, named, same_place, Place}
 use Rattle.aom_sound.specs.State.{A_mark, An_object, An_operation, Choice, Destroy, Dispatch, Dispatched, Frame, Goes, Inside, IsStuck, Item, Main_left, NullOrDead, Of_main, Of_root, Run, State, Task, Trapped, Unwind, frame_of, next, set_word, word}
 use Rattle.aom_sound.specs.WellTyped.{AllUndo, Awaits, EndsDispatch, Fits, Good, Keeps, Leaves, Now, Stack, WellTyped}
 use Rattle.aom_sound.specs.Words.{go_on, word_or_zero}
@@ -177,6 +177,22 @@ destroyed_over : (d : Option ℕ) (o : Object) (height : ℕ) (under : List Task
 destroyed_over None o height under = refl
 destroyed_over (Some m) o height under = (frame_of m (Inside o (Going (length under))) height, refl, refl, refl, refl)
 
+-- a cell that moves to a place that owned nothing
+has_moved : (cs : List Cell) (q g : Place) (o : Object) → held cs q ≡ Some o → held cs g ≡ None → same_place g q ≡ false → HasMoved o q g cs (moved q g cs)
+has_moved cs q g o there free apart = record {
+  there = there;
+  here = held_moved cs q g g free ∙ ap (λ b. cond b (held cs q) (cond (same_place q g) None (held cs g))) (same_place_refl g) ∙ there;
+  gone = held_moved cs q g q free ∙ ap (λ b. cond b (held cs q) (cond (same_place q q) None (held cs q))) apart ∙ ap (λ b. cond b None (held cs q)) (same_place_refl q);
+  others = λ r n m. held_moved cs q g r free ∙ ap (λ b. cond b (held cs q) (cond (same_place q r) None (held cs r))) (differs g r m) ∙ ap (λ b. cond b None (held cs r)) (differs q r n);
+}
+  where
+    differs : (x r : Place) → r ≢ x → same_place x r ≡ false
+    differs x r n = go (same_place x r) refl
+      where
+        go : (b : Bool) → same_place x r ≡ b → b ≡ false
+        go true e = absurd (n (sym (same_place-true x r e)))
+        go false e = refl
+
 module _ (p : Image) (t : Typing) (wired : IsWired p) (s u : State) (w : WellTyped p t s) (code : ℤ) (below : List Task) (at_hand : s.tasks ≡ Unwind code ∷ below) where
   -- what is made of the item on top, with these below it
   abbrev Dealt : Item → List Item → State → Type 0
@@ -187,9 +203,7 @@ module _ (p : Image) (t : Typing) (wired : IsWired p) (s u : State) (w : WellTyp
   of_object rest (Some o) there some =
       let g = Going (length (Unwind code ∷ below)) in
       let free = none_on_its_way p t s w (Unwind code ∷ below) at_hand in
-      let goes : held (moved (Entry (length rest)) g s.cells) g ≡ Some o =
-      held_moved s.cells (Entry (length rest)) g g free ∙ ap (λ b. cond b (held s.cells (Entry (length rest))) (cond (same_place (Entry (length rest)) g) None (held s.cells g))) (same_place_refl g) ∙ there in
-      (begins_over p wired o (length rest) code below (Unwind code ∷ below) (refl, refl), refl, (o, there, goes, destroyed_over (destructor_of p o.thing) o (length rest) (Unwind code ∷ below)))
+      (begins_over p wired o (length rest) code below (Unwind code ∷ below) (refl, refl), refl, (o, has_moved s.cells (Entry (length rest)) g o there free refl, destroyed_over (destructor_of p o.thing) o (length rest) (Unwind code ∷ below)))
 
   of_whole : (rest : List Item) (b : Bool) → is_some (held s.cells (Entry (length rest))) ≡ b → cond b (Goes (destroyed p (held s.cells (Entry (length rest))) rest (Unwind code ∷ below) (counted p s))) (IsStuck NullOrDead) ≡ Goes u → Dealt An_object rest u
   of_whole rest true some e = subst (λ v. Dealt An_object rest v) (goes_same _ u e) (of_object rest (held s.cells (Entry (length rest))) refl some)
@@ -201,7 +215,7 @@ module _ (p : Image) (t : Typing) (wired : IsWired p) (s u : State) (w : WellTyp
       let fr = operation_frame m x (length rest) in
       let undo = subst (λ l. AllUndo p l) same undos in
       subst (λ v. Dealt (An_operation m x) rest v) (goes_same (record (counted p s) { tasks = Run fr ∷ Unwind code ∷ below; items = rest }) u e)
-      ((undo.0.quiet, refl, (refl, refl)), refl, (fr, refl, refl, refl, refl))
+      ((undo.0.quiet, refl, (refl, refl)), refl, (fr, refl, refl, refl, refl, refl))
   of_item undos A_mark rest es same plain e = absurd plain
 
 others : (i : Item) (rest : List Item) → AreEntries (i ∷ rest) → AreEntries rest

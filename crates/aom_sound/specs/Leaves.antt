@@ -8,7 +8,7 @@ use Rattle.aom_image.specs.declared.instr.Target.{Target}
 use Rattle.aom_image.specs.declared.method.Gives.{Gives}
 use Rattle.aom_image.specs.declared.method.Gives.TheVariants.{Nothing, Word as A_word, Own as An_own, Maybe as A_maybe, Left}
 use Rattle.aom_shape.specs.Typing.{Typing, IsTyped}
-use Rattle.aom_sound.specs.Places.{Register, Entry, Going, Object, Cell, held, named}
+use Rattle.aom_sound.specs.Places.{Place, Register, Entry, Going, Object, Cell, held, named}
 use Rattle.aom_sound.specs.State.{Inside, Frame, Of_main, Main_left, Task, Run, Trapped, Destroy, Unwind, Dispatched, Item, An_object, An_operation, A_mark, State, Choice, Goes, word, next}
 use Rattle.aom_sound.specs.Destruction.{destructor_of}
 use Rattle.aom_sound.specs.Moves.{step, written, announcement}
@@ -87,11 +87,18 @@ abbrev pub IsDestroyed : Option ℕ → Object → List Task → List Task → T
 IsDestroyed None o under ts = ts ≡ Destroy ∷ under
 IsDestroyed (Some m) o under ts = (fr : Frame) × (ts ≡ Run fr ∷ Destroy ∷ under) × (fr.method ≡ m) × (fr.place ≡ 0) × (fr.home ≡ Inside o (Going (length under)))
 
+-- a cell has moved from one place to the other, and all other places own what they did
+pub record HasMoved (o : Object) (from to : Place) (before after : List Cell) : Type 0 where
+  pub there : held before from ≡ Some o
+  pub here : held after to ≡ Some o
+  pub gone : held after from ≡ None
+  pub others : (r : Place) → r ≢ from → r ≢ to → held after r ≡ held before r
+
 -- what is to be done for the item over so many others is at hand over these tasks: its object's cell is to go, or its method runs on its word
 abbrev pub IsBegun : Image → List Task → Item → ℕ → State → State → Type 0
 IsBegun p under An_object k s u =
-    (o : Object) × (held s.cells (Entry k) ≡ Some o) × (held u.cells (Going (length under)) ≡ Some o) × IsDestroyed (destructor_of p o.thing) o under u.tasks
-IsBegun p under (An_operation m w) k s u = (fr : Frame) × (u.tasks ≡ Run fr ∷ under) × (fr.method ≡ m) × (fr.place ≡ 0) × (word fr 0 ≡ Some w)
+    (o : Object) × HasMoved o (Entry k) (Going (length under)) s.cells u.cells × IsDestroyed (destructor_of p o.thing) o under u.tasks
+IsBegun p under (An_operation m w) k s u = (fr : Frame) × (u.tasks ≡ Run fr ∷ under) × (fr.method ≡ m) × (fr.place ≡ 0) × (word fr 0 ≡ Some w) × (u.cells ≡ s.cells)
 IsBegun p under A_mark k s u = ⊥
 
 -- ---- how it arrives
