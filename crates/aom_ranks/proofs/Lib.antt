@@ -6,3 +6,4 @@ pub mod Levels
 pub mod Falling
 pub mod Ranking
 pub mod Goings
+pub mod Arriving

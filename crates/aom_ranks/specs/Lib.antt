@@ -1,3 +1,4 @@
 pub mod Within
 pub mod Ranks
 pub mod Laws
+pub mod Leaves

@@ -1,5 +1,6 @@
 //! The laws, each as the contract of a function that does nothing.
 ghost use Rattle.aom_ranks.specs.Laws.{MovesLowerRanks, RanksBoundMoves, CellsStandOrGo};
+ghost use Rattle.aom_ranks.specs.Leaves.{LeavesCome};
 
 /// A move of a well-typed state lowers its rank, whatever the choice.
 pub fn moves_lower_ranks()
@@ -9,6 +10,11 @@ pub fn moves_lower_ranks()
 /// Each dispatch ends: a rank falls no further than to nothing.
 pub fn ranks_bound_moves()
     ensures { RanksBoundMoves }
+{}
+
+/// The code of a leave arrives, whatever is left free.
+pub fn leaves_come()
+    ensures { LeavesCome }
 {}
 
 /// So the rank can be told by who knows the tasks and how many cells live, and no owners.

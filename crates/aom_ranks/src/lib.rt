@@ -7,4 +7,4 @@
 
 mod laws;
 
-pub use laws::{cells_stand_or_go, moves_lower_ranks, ranks_bound_moves};
+pub use laws::{cells_stand_or_go, leaves_come, moves_lower_ranks, ranks_bound_moves};
