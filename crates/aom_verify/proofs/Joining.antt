@@ -3,13 +3,18 @@ use Rattle.std.proofs.Common.{◌≡◌, ℕ, zero, suc, ◌<◌, ◌+◌, Bool,
 use Rattle.std.proofs.lemmas.Bool.Decides.{eqb_tells}
 use Rattle.std.proofs.lemmas.List.{length-set, take_more, take-append-drop}
 use Rattle.std.proofs.lemmas.List.Sums.{sum_by-set}
-use Rattle.aom_shape.specs.Meet.{IsMeet, NoMeet}
+use Rattle.aom_image.specs.Image.{Image}
+use Rattle.aom_shape.specs.Meet.{IsMeet, NoMeet, WhyNoMeet}
 use Rattle.aom_shape.specs.Needs.{Flow}
 use Rattle.aom_shape.specs.Order.{SaysNoMore}
 use Rattle.aom_shape.specs.Shape.{Shape}
 use Rattle.aom_shape.specs.Tables.{at}
+use Rattle.aom_shape.specs.declared.why.Why.{Why}
 use Rattle.aom_shape.proofs.Ordering.{reflexive, transitive}
 use Rattle.aom_shape.proofs.Lists.{at_within, at_set_here, at_set_other}
+use Rattle.aom_verify.specs.Arrivals.{Arrives, AllArrive, EachArrives, JoinFails}
+use Rattle.aom_verify.specs.Arrivals.Arrives.{met as met_there}
+use Rattle.aom_verify.specs.Arrivals.FailsFor.{by_meet}
 use Rattle.aom_verify.specs.Change.{place_rank, unreached, IsChange, then}
 use Rattle.aom_verify.specs.Shapes.{Shapes, Meets, AllMet}
 use Rattle.aom_verify.specs.Sweep.{IsBelow, AllWithin, Joins, CannotJoin}
@@ -18,11 +23,12 @@ use Rattle.aom_verify.specs.declared.change.Change.TheVariants.{Nothing, Fell, R
 use Rattle.aom_verify.proofs.Ordering.{meets_below, below_self, below_along}
 use Rattle.aom_verify.proofs.Falling.{shape_falls, changes_add}
 
--- what a new state at a place owes: it says no more than the flow and than the old state, and is the strongest such
+-- what a new state at a place owes: it says no more than the flow and than the old state, is the strongest such, and arrives there as they do
 pub record IsPut (s : Shapes) (to : ℕ) (sh m : Shape) : Type 0 where
   pub within : to < length s
   pub no_more : SaysNoMore m sh
   pub old : (there : Shape) → at None s to ≡ Some there → SaysNoMore m there
+  pub arrives : (p : Image) (k : ℕ) → AllArrive p k s → Arrives p k to sh → Arrives p k to m
   pub strongest : (n : Shape) → SaysNoMore n sh → ((there : Shape) → at None s to ≡ Some there → SaysNoMore n there) → SaysNoMore n m
 
 pub put_here : (s : Shapes) (to : ℕ) (m : Shape) → to < length s → at None (slice_set s to (Some m)) to ≡ Some m
@@ -55,12 +61,22 @@ put_strongest t s to sh m h below meets = record {
   ];
 }
 
+put_arrives : (s : Shapes) (to : ℕ) (sh m : Shape) → IsPut s to sh m → (p : Image) (k : ℕ) → AllArrive p k s → Arrives p k to sh → AllArrive p k (slice_set s to (Some m))
+put_arrives s to sh m h p k all here = λ pc x e. elim (eqb_tells pc to) [
+  | inl w ↦
+      let there = put_here s to m h.within in
+      let same : m ≡ x = let f = rw w.1 at e in cc in
+      rw (w.1, ← same) (h.arrives p k all here)
+  | inr w ↦ all pc x (sym (at_set_other None s to pc (Some m) w.1) ∙ e)
+]
+
 joins_put : (s : Shapes) (to : ℕ) (sh m : Shape) (change : Change) → IsPut s to sh m → IsChange s (slice_set s to (Some m)) change → Joins s (slice_set s to (Some m)) ((to, sh) ∷ []) change
 joins_put s to sh m change h changed = record {
   size = length-set s to (Some m);
   below_old = put_below s to sh m h;
   met = (record { next = m; there = put_here s to m h.within; no_more = h.no_more }, tt);
   strongest = λ t below meets. put_strongest t s to sh m h below meets.0;
+  arrives = λ p k all each. put_arrives s to sh m h p k all each.0;
   changed = changed;
 }
 
@@ -69,7 +85,7 @@ pub joins_first : (s : Shapes) (to : ℕ) (sh : Shape) → to < length s → at 
 joins_first s to sh within e =
     let read : slice_index_or s to None ≡ None = at_within None None s to within ∙ e in
     joins_put s to sh sh Reached
-    (record { within = within; no_more = reflexive sh; old = λ there f. absurd cc; strongest = λ n h k. h })
+    (record { within = within; no_more = reflexive sh; old = λ there f. absurd cc; arrives = λ p k all here. here; strongest = λ n h k. h })
     (omega (arith, sum_by-set unreached s to (Some sh) None within, ap unreached read))
 
 -- the state there says no more already
@@ -80,6 +96,7 @@ joins_none s to sh there here h =
       below_old = below_self s;
       met = (record { next = there; there = here; no_more = h }, tt);
       strongest = λ t below meets. below;
+      arrives = λ p k all each. all;
       changed = refl;
     }
 
@@ -93,6 +110,7 @@ joins_lower s to sh there less within here differs meet =
       within = within;
       no_more = meet.second;
       old = λ other f. let same : there ≡ other = cc in rw same at meet.first;
+      arrives = λ p k all new. met_there (all to there here) new meet;
       strongest = λ n h k. meet.strongest n (k there here) h;
     }) (
       omega (arith, sum_by-set unreached s to (Some less) (Some there) within, ap unreached read),
@@ -103,6 +121,10 @@ joins_lower s to sh there less within here differs meet =
 pub cannot_join : (s : Shapes) (to : ℕ) (sh there : Shape) → at None s to ≡ Some there → NoMeet there sh → CannotJoin s ((to, sh) ∷ [])
 cannot_join s to sh there here no_meet =
     record { none = λ t below meets. no_meet.none meets.0.next (below_at t s to sh meets.0 below there here) meets.0.no_more }
+
+-- and that place fails where both arrive
+pub join_fails : (s : Shapes) (to : ℕ) (sh there : Shape) (why : Why) → at None s to ≡ Some there → NoMeet there sh → WhyNoMeet there sh why → JoinFails s ((to, sh) ∷ []) to why
+join_fails s to sh there why here no_meet reason = λ p k all each. by_meet (all to there here) each.0 no_meet reason
 
 -- what is read at a place of the list
 pub read : (s xs : Shapes) (to : ℕ) (o : Option Shape) → xs ≡ s → to < length s → o ≡ slice_index_or xs to o → at None s to ≡ o
@@ -125,7 +147,15 @@ all_met_below t s [] h k = tt
 all_met_below t s (x ∷ xs) h k = (meets_below t s x.0 x.1 h k.0, all_met_below t s xs h k.1)
 
 pub joins_self : (s : Shapes) → Joins s s [] Nothing
-joins_self s = record { size = refl; below_old = below_self s; met = tt; strongest = λ t below met. below; changed = refl }
+joins_self s = record { size = refl; below_old = below_self s; met = tt; strongest = λ t below met. below; arrives = λ p k all each. all; changed = refl }
+
+each_first : (p : Image) (k : ℕ) (xs ys : List Flow) → EachArrives p k (xs ++ ys) → EachArrives p k xs
+each_first p k [] ys h = tt
+each_first p k (x ∷ xs) ys h = (h.0, each_first p k xs ys h.1)
+
+each_last : (p : Image) (k : ℕ) (xs ys : List Flow) → EachArrives p k (xs ++ ys) → EachArrives p k ys
+each_last p k [] ys h = h
+each_last p k (x ∷ xs) ys h = each_last p k xs ys h.1
 
 joins_add : (a b c : Shapes) (xs ys : List Flow) (x y : Change) → Joins a b xs x → Joins b c ys y → Joins a c (xs ++ ys) (then x y)
 joins_add a b c xs ys x y h k = record {
@@ -133,6 +163,7 @@ joins_add a b c xs ys x y h k = record {
   below_old = below_along c b a k.below_old h.below_old;
   met = all_met_add c xs ys (all_met_below c b xs k.below_old h.met) k.met;
   strongest = λ t below met. k.strongest t (h.strongest t below (all_met_first t xs ys met)) (all_met_last t xs ys met);
+  arrives = λ p m all each. k.arrives p m (h.arrives p m all (each_first p m xs ys each)) (each_last p m xs ys each);
   changed = changes_add a b c x y h.changed k.changed;
 }
 
@@ -151,6 +182,13 @@ cannot_more a b ways i way x w h k = record {
       let some : AllMet t (take i ways ++ way ∷ []) = rw (take_more ways i way w.within, ← w.is) at (all_met_first t (take (i + 1) ways) (drop (i + 1) ways) whole) in
       k.none t (h.strongest t below (all_met_first t (take i ways) (way ∷ []) some)) (all_met_last t (take i ways) (way ∷ []) some);
 }
+
+-- the place where one way fails fails for all of them
+pub fails_more : (a b : Shapes) (ways : List Flow) (i : ℕ) (way : Flow) (x : Change) (place : ℕ) (why : Why) → IsWay ways i way → Joins a b (take i ways) x → JoinFails b (way ∷ []) place why → JoinFails a ways place why
+fails_more a b ways i way x place why w h fails = λ p k all each.
+    let whole : EachArrives p k (take (i + 1) ways ++ drop (i + 1) ways) = rw (take-append-drop (i + 1) ways) each in
+    let some : EachArrives p k (take i ways ++ way ∷ []) = rw (take_more ways i way w.within, ← w.is) at (each_first p k (take (i + 1) ways) (drop (i + 1) ways) whole) in
+    fails p k (h.arrives p k all (each_first p k (take i ways) (way ∷ []) some)) (each_last p k (take i ways) (way ∷ []) some)
 
 pub way_within : (n : ℕ) (ways : List Flow) (i : ℕ) (way : Flow) → AllWithin n ways → IsWay ways i way → way.0 < n
 way_within n [] i way h w = absurd (omega (arith, w.within))

@@ -12,7 +12,7 @@ use Rattle.aom_verify.proofs.Typings.{method_typed}
 -- the methods below are typed, and this one is refused
 pub refuses : (p : Image) (m : ℕ) (r : Refusal) → IsSome (method_at p m) → ((k : ℕ) → k < m → HasTyping p k) → RefusesMethod p m r → Refuses p r
 refuses p m OutOfMemory some lower h = tt
-refuses p m (Refused method place why) some lower h = rw h.0 (record { method = some; lower = lower; none = h.1 }, h.2)
+refuses p m (Refused method place why) some lower h = rw h.0 (record { method = some; lower = lower; none = h.1 }, h.2, h.3)
 
 -- a typed image is refused for want of memory alone
 pub only_memory : (p : Image) (r : Refusal) (t : Typing) → Refuses p r → IsTyped p t → r ≡ OutOfMemory

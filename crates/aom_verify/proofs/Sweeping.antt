@@ -7,7 +7,10 @@ use Rattle.aom_shape.specs.Order.{SaysNoMore}
 use Rattle.aom_shape.specs.Shape.{Shape}
 use Rattle.aom_shape.specs.Tables.{at}
 use Rattle.aom_shape.specs.Typing.{entry_shape}
+use Rattle.aom_shape.specs.declared.why.Why.{Why}
 use Rattle.aom_shape.proofs.Lists.{at_set_other, at_past}
+use Rattle.aom_verify.specs.Arrivals.{AllArrive, StatesFail}
+use Rattle.aom_verify.specs.Arrivals.Arrives.{begins}
 use Rattle.aom_verify.specs.Change.{then}
 use Rattle.aom_verify.specs.Shapes.{Shapes, IsMethodTyped, HasTyping}
 use Rattle.aom_verify.specs.Strongest.{IsMethodStrongest}
@@ -21,17 +24,21 @@ pub spans_kept : (p : Image) (m : ℕ) (s new : Shapes) → Spans p m s → leng
 spans_kept p m s new h e = record { method = h.method; is = h.is; size = e ∙ h.size }
 
 pub keeps_self : (p : Image) (m : ℕ) (s : Shapes) → Keeps p m s s
-keeps_self p m s = record { size = refl; below_old = below_self s; typings = λ t typed below. below }
+keeps_self p m s = record { size = refl; below_old = below_self s; arrives = λ all. all; typings = λ t typed below. below }
 
 pub keeps_along : (p : Image) (m : ℕ) (a b c : Shapes) → Keeps p m a b → Keeps p m b c → Keeps p m a c
 keeps_along p m a b c h k = record {
   size = k.size ∙ h.size;
   below_old = below_along c b a k.below_old h.below_old;
+  arrives = λ all. k.arrives (h.arrives all);
   typings = λ t typed below. k.typings t typed (h.typings t typed below);
 }
 
 pub none_before : (p : Image) (m : ℕ) (a b : Shapes) → Keeps p m a b → NoTypingBelow p m b → NoTypingBelow p m a
 none_before p m a b h k = record { none = λ t typed below. k.none t typed (h.typings t typed below) }
+
+pub fails_before : (p : Image) (m : ℕ) (a b : Shapes) (place : ℕ) (why : Why) → Keeps p m a b → StatesFail p m b place why → StatesFail p m a place why
+fails_before p m a b place why h k = λ all. k (h.arrives all)
 
 pub sweeps_self : (p : Image) (m : ℕ) (s : Shapes) → Sweeps p m s s 0 Nothing
 sweeps_self p m s = record { keeps = keeps_self p m s; changed = refl; applies = λ nothing pc below. absurd (omega arith) }
@@ -98,6 +105,18 @@ typing_below_first p m t places entry some no_less typed = record {
         absurd cc
   ];
 }
+
+-- the state before the first sweep is what is known as the method begins
+pub first_arrives : (p : Image) (m : ℕ) (places : ℕ) (entry : Shape) → 0 < places → SaysNoMore entry (entry_shape p m) → SaysNoMore (entry_shape p m) entry → AllArrive p m (first_shapes places entry)
+first_arrives p m places entry some no_more no_less = λ pc sh e. elim (eqb_tells pc 0) [
+  | inl w ↦
+      let same : entry ≡ sh = let f = rw w.1 at e in let g = entry_stands places entry some in cc in
+      rw (w.1, ← same) (begins no_more no_less)
+  | inr w ↦
+      let other = at_set_other None (replicate places None) 0 pc (Some entry) w.1 in
+      let missing = none_elsewhere places pc in
+      absurd cc
+]
 
 -- settled states are the strongest typing
 pub settled : (p : Image) (m : ℕ) (places : ℕ) (entry : Shape) (s : Shapes) → 0 < places → SaysNoMore entry (entry_shape p m) → SaysNoMore (entry_shape p m) entry → Settles p m (first_shapes places entry) s → IsMethodStrongest p m s

@@ -1,5 +1,5 @@
 -- A visit of one place: what it changes, and that no typing is lost.
-use Rattle.std.proofs.Common.{◌≡◌, ℕ, zero, suc, ◌<◌, List, [], ◌∷◌, length, Some, None, IsSome, slice_get, refl, arith}
+use Rattle.std.proofs.Common.{◌≡◌, ℕ, zero, suc, ◌<◌, List, [], ◌∷◌, length, Some, None, IsSome, slice_get, inl, inr, refl, arith}
 use Rattle.aom_image.specs.Image.{Image}
 use Rattle.aom_image.specs.Views.{instr_at, instr_in}
 use Rattle.aom_image.specs.declared.instr.Instr.{Instr}
@@ -8,7 +8,11 @@ use Rattle.aom_shape.specs.Order.{SaysNoMore}
 use Rattle.aom_shape.specs.Rules.{flows}
 use Rattle.aom_shape.specs.Shape.{Shape}
 use Rattle.aom_shape.specs.Tables.{at}
+use Rattle.aom_shape.specs.declared.why.Why.{Why}
 use Rattle.aom_shape.proofs.Monotone.{needs_more, flows_more}
+use Rattle.aom_verify.specs.Arrivals.{Arrives, IsOneOf, AllArrive, EachArrives, JoinFails, StatesFail}
+use Rattle.aom_verify.specs.Arrivals.Arrives.{led}
+use Rattle.aom_verify.specs.Arrivals.FailsFor.{by_rule}
 use Rattle.aom_verify.specs.Shapes.{Shapes, AllMet, Applies, IsMethodTyped}
 use Rattle.aom_verify.specs.Sweep.{Spans, IsBelow, Joins, CannotJoin, Flows, Fails, AppliesAt, Visits, NoTypingBelow, AllWithin, WithinMethod}
 use Rattle.aom_verify.specs.declared.change.Change.{Change}
@@ -51,8 +55,8 @@ typing_meets p m t s pc sh ways e h typed below =
     rw h.is (follow_met t (flows p m pc found.next h.instr) (flows p m pc sh h.instr) follow (rw same at found.applies.flows))
 
 -- where the rule fails there is none
-pub failed_visit : (p : Image) (m : ℕ) (s : Shapes) (pc : ℕ) (sh : Shape) → at None s pc ≡ Some sh → Fails p m pc sh → NoTypingBelow p m s
-failed_visit p m s pc sh e h = record {
+pub failed_visit : (p : Image) (m : ℕ) (s : Shapes) (pc : ℕ) (sh : Shape) (why : Why) → at None s pc ≡ Some sh → Fails p m pc sh why → NoTypingBelow p m s
+failed_visit p m s pc sh why e h = record {
   none = λ t typed below.
       let found = typed_below p m t s pc sh typed below e in
       let same : found.applies.instr ≡ h.instr = let f = found.applies.stands in let g = h.stands in cc in
@@ -62,6 +66,21 @@ failed_visit p m s pc sh e h = record {
 -- where the flows cannot be joined there is none
 pub failed_join : (p : Image) (m : ℕ) (s : Shapes) (pc : ℕ) (sh : Shape) (ways : List Flow) → at None s pc ≡ Some sh → Flows p m pc sh ways → CannotJoin s ways → NoTypingBelow p m s
 failed_join p m s pc sh ways e h k = record { none = λ t typed below. k.none t below (typing_meets p m t s pc sh ways e h typed below) }
+
+-- the flows of a state that arrives do
+each_arrives : (p : Image) (m : ℕ) (ways : List Flow) → ((to : ℕ) (next : Shape) → IsOneOf ways (to, next) → Arrives p m to next) → EachArrives p m ways
+each_arrives p m [] h = tt
+each_arrives p m (way ∷ ways) h = (h way.0 way.1 (inl refl), each_arrives p m ways (λ to next one. h to next (inr one)))
+
+ways_arrive : (p : Image) (m : ℕ) (s : Shapes) (pc : ℕ) (sh : Shape) (ways : List Flow) → at None s pc ≡ Some sh → Flows p m pc sh ways → AllArrive p m s → EachArrives p m ways
+ways_arrive p m s pc sh ways e h all = rw h.is (each_arrives p m (flows p m pc sh h.instr) (λ to next one. led (all pc sh e) h.stands h.needs one))
+
+-- a need that fails there, and flows that cannot be joined, are told of states that arrive
+pub told_rule : (p : Image) (m : ℕ) (s : Shapes) (pc place : ℕ) (sh : Shape) (why : Why) → at None s pc ≡ Some sh → Fails p m pc sh why → place ≡ pc → StatesFail p m s place why
+told_rule p m s pc place sh why e h same = λ all. rw same (by_rule (all pc sh e) h.stands h.is)
+
+pub told_join : (p : Image) (m : ℕ) (s : Shapes) (pc place : ℕ) (sh : Shape) (ways : List Flow) (why : Why) → at None s pc ≡ Some sh → Flows p m pc sh ways → JoinFails s ways place why → StatesFail p m s place why
+told_join p m s pc place sh ways why e h fails = λ all. fails p m all (ways_arrive p m s pc sh ways e h all)
 
 applies_after : (p : Image) (m : ℕ) (s new : Shapes) (pc : ℕ) (sh : Shape) (ways : List Flow) → at None s pc ≡ Some sh → Flows p m pc sh ways → AllMet new ways → new ≡ s → AppliesAt p m new pc
 applies_after p m s new pc sh ways e h met same = λ x f.
@@ -74,6 +93,7 @@ visited p m s new pc sh ways change e h k = record {
   keeps = record {
     size = k.size;
     below_old = k.below_old;
+    arrives = λ all. k.arrives p m all (ways_arrive p m s pc sh ways e h all);
     typings = λ t typed below. k.strongest t below (typing_meets p m t s pc sh ways e h typed below);
   };
   changed = k.changed;
@@ -83,7 +103,7 @@ visited p m s new pc sh ways change e h k = record {
 -- a place that is not reached
 pub visited_none : (p : Image) (m : ℕ) (s : Shapes) (pc : ℕ) → at None s pc ≡ None → Visits p m s s pc Nothing
 visited_none p m s pc e = record {
-  keeps = record { size = refl; below_old = below_self s; typings = λ t typed below. below };
+  keeps = record { size = refl; below_old = below_self s; arrives = λ all. all; typings = λ t typed below. below };
   changed = refl;
   applies = λ nothing sh f. absurd cc;
 }

@@ -43,11 +43,11 @@ has_flows p m pc sh ways some h =
           record { instr = i; stands = e; needs = r.0; is = r.1 }
     ] refl some h
 
-pub has_failed : (p : Image) (m pc : ℕ) (sh : Shape) (why : Why) → IsSome (instr_at p m pc) → IfSome (instr_at p m pc) (λ i. Err why ≡ rule p m pc sh i) → Fails p m pc sh
+pub has_failed : (p : Image) (m pc : ℕ) (sh : Shape) (why : Why) → IsSome (instr_at p m pc) → IfSome (instr_at p m pc) (λ i. Err why ≡ rule p m pc sh i) → Fails p m pc sh why
 has_failed p m pc sh why some h =
-    elim (instr_at p m pc) as (λ o. instr_at p m pc ≡ o → IsSome o → IfSome o (λ i. Err why ≡ rule p m pc sh i) → Fails p m pc sh) [
+    elim (instr_at p m pc) as (λ o. instr_at p m pc ≡ o → IsSome o → IfSome o (λ i. Err why ≡ rule p m pc sh i) → Fails p m pc sh why) [
       | None ↦ λ e some h. absurd cc
-      | Some i ↦ λ e some h. record { instr = i; stands = e; unmet = judged_err (rule_needs p m pc sh i) (flows p m pc sh i) why (sym h) }
+      | Some i ↦ λ e some h. record { instr = i; stands = e; unmet = judged_err (rule_needs p m pc sh i) (flows p m pc sh i) why (sym h); is = sym h }
     ] refl some h
 
 null_within : (p : Image) (m n pc : ℕ) (sh : Shape) (k : Kind) (a to : ℕ) → to < n → suc pc < n → AllWithin n (flow_jump_null p m pc sh k a to)

@@ -1,4 +1,5 @@
 pub mod Shapes
+pub mod Arrivals
 pub mod Change
 pub mod Entries
 pub mod Sweep

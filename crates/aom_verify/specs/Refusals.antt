@@ -4,6 +4,7 @@ use Rattle.std.specs.Fmt.{decimal}
 use Rattle.aom_image.specs.Image.{Image}
 use Rattle.aom_image.specs.Views.{method_at, instr_at}
 use Rattle.aom_shape.specs.Whys.{why_number}
+use Rattle.aom_verify.specs.Arrivals.{FailsFor}
 use Rattle.aom_verify.specs.Shapes.{HasTyping}
 use Rattle.aom_verify.specs.declared.refusal.Refusal.{Refusal}
 use Rattle.aom_verify.specs.declared.refusal.Refusal.TheVariants.{OutOfMemory, Refused}
@@ -14,14 +15,15 @@ pub record IsFirstUntyped (p : Image) (m : ℕ) : Type 0 where
   pub lower : (k : ℕ) → k < m → HasTyping p k
   pub none : ¬ HasTyping p m
 
+-- the method, one of its places, and why a state that arrives there is refused; want of memory says nothing
 abbrev pub Refuses : Image → Refusal → Type 0
 Refuses p OutOfMemory = Unit {0}
-Refuses p (Refused m place why) = IsFirstUntyped p m × IsSome (instr_at p m place)
+Refuses p (Refused m place why) = IsFirstUntyped p m × IsSome (instr_at p m place) × FailsFor p m place why
 
 -- the same of one method
 abbrev pub RefusesMethod : Image → ℕ → Refusal → Type 0
 RefusesMethod p m OutOfMemory = Unit {0}
-RefusesMethod p m (Refused method place why) = (method ≡ m) × (¬ HasTyping p m) × IsSome (instr_at p m place)
+RefusesMethod p m (Refused method place why) = (method ≡ m) × (¬ HasTyping p m) × IsSome (instr_at p m place) × FailsFor p m place why
 
 -- the line by which a refusal is told
 abbrev pub line_of : Refusal → List ℕ

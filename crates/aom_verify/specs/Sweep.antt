@@ -1,5 +1,5 @@
 -- What a step of a sweep keeps.
-use Rattle.std.specs.Prelude.{ℕ, ◌≡◌, ◌<◌, Bool, true, false, length, List, [], ◌∷◌, Some, None}
+use Rattle.std.specs.Prelude.{ℕ, ◌≡◌, ◌<◌, Bool, true, false, length, List, [], ◌∷◌, Some, None, Err}
 use Rattle.aom_image.specs.Image.{Image}
 use Rattle.aom_image.specs.Views.{method_at, instr_at}
 use Rattle.aom_image.specs.declared.instr.Instr.{Instr}
@@ -7,7 +7,9 @@ use Rattle.aom_image.specs.declared.method.Method.{Method}
 use Rattle.aom_shape.specs.Tables.{at}
 use Rattle.aom_shape.specs.Shape.{Shape}
 use Rattle.aom_shape.specs.Needs.{Flow, AllTrue}
-use Rattle.aom_shape.specs.Rules.{rule_needs, flows}
+use Rattle.aom_shape.specs.Rules.{rule_needs, flows, rule}
+use Rattle.aom_shape.specs.declared.why.Why.{Why}
+use Rattle.aom_verify.specs.Arrivals.{AllArrive, EachArrives}
 use Rattle.aom_verify.specs.Change.{IsChange, unreached_count}
 use Rattle.aom_verify.specs.Shapes.{Shapes, Meets, AllMet, Applies, IsMethodTyped}
 use Rattle.aom_verify.specs.declared.change.Change.{Change}
@@ -38,12 +40,13 @@ AllWithin n (way ∷ ways) = (way.0 < n) × AllWithin n ways
 pub record WithinMethod (p : Image) (m : ℕ) (ways : List Flow) : Type 0 where
   pub each : (d : Method) → method_at p m ≡ Some d → AllWithin (length d.code) ways
 
--- the new states are the strongest that say no more than the old ones and than those ways
+-- the new states are the strongest that say no more than the old ones and than those ways, and arrive where those do
 pub record Joins (old new : Shapes) (ways : List Flow) (change : Change) : Type 0 where
   pub size : length new ≡ length old
   pub below_old : IsBelow new old
   pub met : AllMet new ways
   pub strongest : (t : Shapes) → IsBelow t old → AllMet t ways → IsBelow t new
+  pub arrives : (p : Image) (m : ℕ) → AllArrive p m old → EachArrives p m ways → AllArrive p m new
   pub changed : IsChange old new change
 
 -- nothing says no more than the states and than those ways
@@ -57,16 +60,18 @@ pub record Flows (p : Image) (m pc : ℕ) (sh : Shape) (ways : List Flow) : Type
   pub needs : AllTrue (rule_needs p m pc sh instr)
   pub is : ways ≡ flows p m pc sh instr
 
--- the rule does not apply there
-pub record Fails (p : Image) (m pc : ℕ) (sh : Shape) : Type 0 where
+-- the rule does not apply there, and that is its first need that is not met
+pub record Fails (p : Image) (m pc : ℕ) (sh : Shape) (why : Why) : Type 0 where
   pub instr : Instr
   pub stands : instr_at p m pc ≡ Some instr
   pub unmet : ¬ AllTrue (rule_needs p m pc sh instr)
+  pub is : rule p m pc sh instr ≡ Err why
 
--- the new states say no more than the old ones, and a typing that says no more than the old ones says no more than the new ones
+-- the new states say no more than the old ones and arrive if those do, and a typing that says no more than the old ones says no more than the new ones
 pub record Keeps (p : Image) (m : ℕ) (old new : Shapes) : Type 0 where
   pub size : length new ≡ length old
   pub below_old : IsBelow new old
+  pub arrives : AllArrive p m old → AllArrive p m new
   pub typings : (t : Shapes) → IsMethodTyped p m t → IsBelow t old → IsBelow t new
 
 -- the rule applies to the state at that place, if it is reached

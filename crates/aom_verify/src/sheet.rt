@@ -4,6 +4,7 @@ ghost use Rattle.aom_image.specs.Views.{instr_at};
 ghost use Rattle.aom_shape.specs.Laws.{HaveAtMost};
 ghost use Rattle.aom_shape.specs.Rules.{rule};
 ghost use Rattle.aom_shape.specs.Tables.{at};
+ghost use Rattle.aom_verify.specs.Arrivals.{JoinFails, StatesFail};
 ghost use Rattle.aom_verify.specs.Change.{unreached_count};
 ghost use Rattle.aom_verify.specs.Entries.{IsFew, AllFew, HasRoom};
 ghost use Rattle.aom_verify.specs.Sweep.{Spans, AllWithin, Joins, CannotJoin, Flows, Fails, WithinMethod, Visits, Sweeps, SweepsOn, Settles, NoTypingBelow};
@@ -71,7 +72,7 @@ impl Sheet {
         requires within { to < length self.old }
         requires few { IsFew self.old shape.now }
         ensures ok { IfOk result (λ change. Joins self.old self.new ((to, shape.now) ∷ []) change) }
-        ensures err { IfErr result (λ fault. CannotJoin self.old ((to, shape.now) ∷ []) × (fault.place ≡ to)) }
+        ensures err { IfErr result (λ fault. CannotJoin self.old ((to, shape.now) ∷ []) × (fault.place ≡ to) × JoinFails self.old ((to, shape.now) ∷ []) fault.place fault.why) }
     {
         let Some(there) = self.shapes[to] else {
             self.shapes[to] = Some(*shape);
@@ -93,7 +94,7 @@ impl Sheet {
         requires within { AllWithin (length self.old) ways.now }
         requires few { AllFew self.old ways.now }
         ensures ok { IfOk result (λ change. Joins self.old self.new ways.now change) }
-        ensures err { IfErr result (λ fault. CannotJoin self.old ways.now × (fault.place < length self.old)) }
+        ensures err { IfErr result (λ fault. CannotJoin self.old ways.now × (fault.place < length self.old) × JoinFails self.old ways.now fault.place fault.why) }
     {
         let mut change = Change::Nothing;
         for (to, shape) in ways {
@@ -112,7 +113,7 @@ impl Sheet {
         requires spans { Spans linked.now method self.old }
         requires place { place < length self.old }
         ensures ok { IfOk result (λ change. Visits linked.now method self.old self.new place change) }
-        ensures err { IfErr result (λ fault. NoTypingBelow linked.now method self.old × (fault.place < length self.old)) }
+        ensures err { IfErr result (λ fault. NoTypingBelow linked.now method self.old × (fault.place < length self.old) × StatesFail linked.now method self.old fault.place fault.why) }
     {
         match self.shapes[place] {
             None => Ok(Change::Nothing),
@@ -127,7 +128,7 @@ impl Sheet {
     fn sweep(&mut self, linked: &Linked, method: MethodNumber) -> Result<Change, Fault>
         requires { Spans linked.now method self.old }
         ensures ok { IfOk result (λ change. Sweeps linked.now method self.old self.new (length self.old) change) }
-        ensures err { IfErr result (λ fault. NoTypingBelow linked.now method self.old × (fault.place < length self.old)) }
+        ensures err { IfErr result (λ fault. NoTypingBelow linked.now method self.old × (fault.place < length self.old) × StatesFail linked.now method self.old fault.place fault.why) }
     {
         let mut change = Change::Nothing;
         for place in 0..self.shapes.len() {
@@ -140,7 +141,7 @@ impl Sheet {
     fn sweep_on(&mut self, linked: &Linked, method: MethodNumber) -> Result<bool, Fault>
         requires { Spans linked.now method self.old }
         ensures ok { IfOk result (λ reached. SweepsOn linked.now method self.old self.new reached) }
-        ensures err { IfErr result (λ fault. NoTypingBelow linked.now method self.old × (fault.place < length self.old)) }
+        ensures err { IfErr result (λ fault. NoTypingBelow linked.now method self.old × (fault.place < length self.old) × StatesFail linked.now method self.old fault.place fault.why) }
     {
         loop {
             match self.sweep(linked, method)? {
@@ -155,7 +156,7 @@ impl Sheet {
     pub(crate) fn settle(&mut self, linked: &Linked, method: MethodNumber) -> Result<(), Fault>
         requires { Spans linked.now method self.old }
         ensures ok { IfOk result (λ _. Settles linked.now method self.old self.new) }
-        ensures err { IfErr result (λ fault. NoTypingBelow linked.now method self.old × (fault.place < length self.old)) }
+        ensures err { IfErr result (λ fault. NoTypingBelow linked.now method self.old × (fault.place < length self.old) × StatesFail linked.now method self.old fault.place fault.why) }
     {
         while self.sweep_on(linked, method)? {}
         Ok(())
@@ -174,7 +175,7 @@ fn flow_of(
     ensures ok { IfOk result (λ ways. Flows linked.now method place shape.now ways) }
     ensures within { IfOk result (λ ways. WithinMethod linked.now method ways) }
     ensures few { IfOk result (λ ways. HaveAtMost (suc (length shape.now.entries)) ways) }
-    ensures err { IfErr result (λ fault. Fails linked.now method place shape.now × (fault.place ≡ place)) }
+    ensures err { IfErr result (λ fault. Fails linked.now method place shape.now fault.why × (fault.place ≡ place)) }
 {
     linked.facts();
     let _formed = linked.image().methods();

@@ -1,7 +1,7 @@
 -- Settled states are the strongest typing of the method, and where the sweeps fail there is none.
 use Rattle.std.proofs.Common.{refl}
 use Rattle.aom_verify.proofs.Places.{spanned}
-use Rattle.aom_verify.proofs.Sweeping.{first_shapes, first_count, settled, untyped}
+use Rattle.aom_verify.proofs.Sweeping.{first_shapes, first_count, first_arrives, settled, untyped}
 use Rattle.aom_verify.proofs.Visiting.{has_instr}
 use Rattle.aom_verify.proofs.checked.sheet_of.Goals as goal
 
@@ -15,6 +15,7 @@ returns-in-Err-clause-err c =
       refl,
       untyped _ _ _ _ c.place_count.ensures.some c.entry-entry.ensures.no_less failed.0,
       has_instr _ _ _ _ spans failed.1,
+      failed.2 (first_arrives _ _ _ _ c.place_count.ensures.some c.entry-entry.ensures.no_more c.entry-entry.ensures.no_less),
     )
 
 pub new-requires-clause-none : goal.new-requires-clause-none

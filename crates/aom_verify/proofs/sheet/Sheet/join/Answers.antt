@@ -3,7 +3,7 @@ use Rattle.std.proofs.Common.{rules, ◌≡◌, ◌<◌, length, ◌∙◌, refl
 use Rattle.aom_shape.specs.Order.{SaysNoMore}
 use Rattle.aom_verify.specs.Entries.{IsFew}
 use Rattle.aom_verify.proofs.Few.{few_first, few_lower}
-use Rattle.aom_verify.proofs.Joining.{read, refused_test, joins_first, joins_none, joins_lower, cannot_join}
+use Rattle.aom_verify.proofs.Joining.{read, refused_test, joins_first, joins_none, joins_lower, cannot_join, join_fails}
 use Rattle.aom_verify.proofs.sheet.Sheet.join.Goals as goal
 
 pub returns-in_default-clause-ok : goal.returns-in_default-clause-ok
@@ -22,7 +22,7 @@ pub returns-in-Err-clause-err : goal.returns-in-Err-clause-err
 returns-in-Err-clause-err c =
     let shown : c.self.inside.shapes.items ≡ c.args.self.now = c.self.view_is in
     let here = read _ _ _ _ shown c.requires.within c.index.ensures ∙ c.in-Some.is in
-    (cannot_join _ _ _ _ here c.in-Err.ensures.err.0, refl)
+    (cannot_join _ _ _ _ here c.in-Err.ensures.err.0, refl, join_fails _ _ _ _ _ here c.in-Err.ensures.err.0 c.in-Err.ensures.err.1)
 
 pub returns-in-Ok-clause-ok : goal.returns-in-Ok-clause-ok
 returns-in-Ok-clause-ok c =

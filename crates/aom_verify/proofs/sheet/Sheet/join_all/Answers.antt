@@ -2,7 +2,7 @@
 use Rattle.std.proofs.Common.{arith}
 use Rattle.std.proofs.lemmas.Result.{err_from_is_err_and}
 use Rattle.aom_verify.proofs.Few.{way_still_few}
-use Rattle.aom_verify.proofs.Joining.{IsWay, joins_self, joins_more, cannot_more, way_within}
+use Rattle.aom_verify.proofs.Joining.{IsWay, joins_self, joins_more, cannot_more, fails_more, way_within}
 use Rattle.aom_verify.proofs.sheet.Sheet.join_all.Goals as goal
 
 pub loop-to-init : goal.loop-to-init
@@ -23,7 +23,8 @@ returns-in_err-join-clause-err c =
     let p = err_from_is_err_and c.from_residual.result c.from_residual.ensures.1 in
     let way : IsWay c.args.ways.now c.loop-to.to-index c.loop-to-item.result = record { within = c.loop-to-test.true; is = c.loop-to-item.is } in
     let failed = c.in_err-join.ensures.err in
-    rw (p.1, p.2) (cannot_more _ _ _ _ _ _ way c.loop-to.invariant failed.0, omega (arith, failed.1, way_within _ _ _ _ c.requires.within way))
+    let told = fails_more _ _ _ _ _ _ _ _ way c.loop-to.invariant failed.2 in
+    rw (p.1, p.2) (cannot_more _ _ _ _ _ _ way c.loop-to.invariant failed.0, omega (arith, failed.1, way_within _ _ _ _ c.requires.within way), told)
 
 pub loop-to-preserved : goal.loop-to-preserved
 loop-to-preserved c =

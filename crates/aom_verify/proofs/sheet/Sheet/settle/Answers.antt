@@ -1,5 +1,7 @@
 -- Sweeps are made until the rule applies at each place that is reached.
-use Rattle.aom_verify.proofs.Sweeping.{keeps_self, keeps_along}
+use Rattle.std.proofs.Common.{arith}
+use Rattle.std.proofs.lemmas.Result.{err_from_is_err_and}
+use Rattle.aom_verify.proofs.Sweeping.{fails_before, keeps_self, keeps_along, none_before}
 use Rattle.aom_verify.proofs.sheet.Sheet.settle.Goals as goal
 
 pub loop-init : goal.loop-init
@@ -12,3 +14,10 @@ pub returns-clause-ok : goal.returns-clause-ok
 returns-clause-ok c =
     let swept = rw c.if-branch.false at c.in_ok-sweep_on.ensures.ok in
     record { keeps = keeps_along _ _ _ _ _ c.loop.invariant swept.keeps; applies = swept.swept }
+
+pub returns-in_err-sweep_on-clause-err : goal.returns-in_err-sweep_on-clause-err
+returns-in_err-sweep_on-clause-err c =
+    let p = err_from_is_err_and c.from_residual.result c.from_residual.ensures.1 in
+    let failed = c.in_err-sweep_on.ensures.err in
+    let keeps = c.loop.invariant in
+    rw (p.1, p.2) (none_before _ _ _ _ keeps failed.0, omega (arith, failed.1, keeps.size), fails_before _ _ _ _ _ _ keeps failed.2)

@@ -1,6 +1,7 @@
 -- A sweep that lowers states alone is followed by another.
 use Rattle.std.proofs.Common.{refl, ◌∙◌, arith}
-use Rattle.aom_verify.proofs.Sweeping.{keeps_self, keeps_along}
+use Rattle.std.proofs.lemmas.Result.{err_from_is_err_and}
+use Rattle.aom_verify.proofs.Sweeping.{fails_before, keeps_self, keeps_along, none_before}
 use Rattle.aom_verify.proofs.sheet.Sheet.sweep_on.Goals as goal
 
 pub loop-init : goal.loop-init
@@ -15,3 +16,10 @@ pub returns-in-Reached-clause-ok : goal.returns-in-Reached-clause-ok
 returns-in-Reached-clause-ok c =
     let swept = rw c.in-Reached.is at c.in_ok-sweep.ensures.ok in
     record { keeps = keeps_along _ _ _ _ _ c.loop.invariant.keeps swept.keeps; swept = omega (arith, swept.changed, c.loop.invariant.same) }
+
+pub returns-in_err-sweep-clause-err : goal.returns-in_err-sweep-clause-err
+returns-in_err-sweep-clause-err c =
+    let p = err_from_is_err_and c.from_residual.result c.from_residual.ensures.1 in
+    let failed = c.in_err-sweep.ensures.err in
+    let keeps = c.loop.invariant.keeps in
+    rw (p.1, p.2) (none_before _ _ _ _ keeps failed.0, omega (arith, failed.1, keeps.size), fails_before _ _ _ _ _ _ keeps failed.2)

@@ -1,0 +1,47 @@
+-- Which states arrive at the places of a method, and why one that arrives is refused there.
+use Rattle.std.specs.Prelude.{ℕ, ◌≡◌, ◌⊎◌, List, [], ◌∷◌, Some, None, Err}
+use Rattle.aom_image.specs.Image.{Image}
+use Rattle.aom_image.specs.Views.{instr_at}
+use Rattle.aom_image.specs.declared.instr.Instr.{Instr}
+use Rattle.aom_shape.specs.Meet.{IsMeet, NoMeet, WhyNoMeet}
+use Rattle.aom_shape.specs.Needs.{Flow, AllTrue}
+use Rattle.aom_shape.specs.Order.{SaysNoMore}
+use Rattle.aom_shape.specs.Rules.{rule_needs, flows, rule}
+use Rattle.aom_shape.specs.Shape.{Shape}
+use Rattle.aom_shape.specs.Tables.{at}
+use Rattle.aom_shape.specs.Typing.{entry_shape}
+use Rattle.aom_shape.specs.declared.why.Why.{Why}
+use Rattle.aom_verify.specs.Shapes.{Shapes}
+
+-- it is one of those flows
+abbrev pub IsOneOf : List Flow → Flow → Type 0
+IsOneOf [] way = ⊥
+IsOneOf (x ∷ xs) way = (way ≡ x) ⊎ IsOneOf xs way
+
+-- what is known as the method begins, what a state that arrives leads to, and the meet of two that arrive at one place
+pub data Arrives (p : Image) (m : ℕ) : ℕ → Shape → Type 0 where
+  begins : {sh : Shape} → SaysNoMore sh (entry_shape p m) → SaysNoMore (entry_shape p m) sh → Arrives p m 0 sh
+  led : {pc to : ℕ} {sh next : Shape} {i : Instr} → Arrives p m pc sh → instr_at p m pc ≡ Some i → AllTrue (rule_needs p m pc sh i) → IsOneOf (flows p m pc sh i) (to, next) → Arrives p m to next
+  met : {pc : ℕ} {a b c : Shape} → Arrives p m pc a → Arrives p m pc b → IsMeet c a b → Arrives p m pc c
+
+-- a state arrives of which the rule's first need that is not met is that one, or two arrive that have no meet for that reason
+pub data FailsFor (p : Image) (m pc : ℕ) : Why → Type 0 where
+  by_rule : {sh : Shape} {i : Instr} {why : Why} → Arrives p m pc sh → instr_at p m pc ≡ Some i → rule p m pc sh i ≡ Err why → FailsFor p m pc why
+  by_meet : {a b : Shape} {why : Why} → Arrives p m pc a → Arrives p m pc b → NoMeet a b → WhyNoMeet a b why → FailsFor p m pc why
+
+-- each state arrives where it stands
+abbrev pub AllArrive : Image → ℕ → Shapes → Type 0
+AllArrive p m s = (pc : ℕ) (sh : Shape) → at None s pc ≡ Some sh → Arrives p m pc sh
+
+-- each flow arrives where it leads
+abbrev pub EachArrives : Image → ℕ → List Flow → Type 0
+EachArrives p m [] = Unit {0}
+EachArrives p m (way ∷ ways) = Arrives p m way.0 way.1 × EachArrives p m ways
+
+-- wherever those states and flows arrive, that place fails for that reason
+abbrev pub JoinFails : Shapes → List Flow → ℕ → Why → Type 0
+JoinFails s ways place why = (p : Image) (m : ℕ) → AllArrive p m s → EachArrives p m ways → FailsFor p m place why
+
+-- the same of the states of one method
+abbrev pub StatesFail : Image → ℕ → Shapes → ℕ → Why → Type 0
+StatesFail p m s place why = AllArrive p m s → FailsFor p m place why
