@@ -8,7 +8,7 @@ ghost use Rattle.aom_exec.specs.Steps.{StandsFor};
 
 use crate::{Script, Sink, write_text};
 use aom_exec::{Machine, Outcome, Progress};
-use aom_lines::{Text, Turn};
+use aom_lines::{Page, Turn};
 use aom_sound::{Ending, Line};
 
 /// Runs a fresh machine to its end and writes the transcript, one step after another. It stops where the sink fails.
@@ -41,10 +41,11 @@ fn run_lines<W: Sink>(machine: &mut Machine, turn: &mut Turn, out: &mut W) -> Op
     ensures none { IfNone result ((W.failed out.new ≡ true) × CutShort machine.old.image turn.old.refused (W.out out.old) (W.out out.new)) }
     ensures some { IfSome result (λ ending. Ended machine.old.image turn.old.refused ending (W.out out.old) (W.out out.new) machine.new) }
 {
+    let mut page = Page::new();
     loop {
         turn.clear();
         let progress = machine.step_on(turn);
-        write_lines(out, turn.lines());
+        write_lines(out, &mut page, turn.lines());
         if out.has_failed() {
             return None;
         }
@@ -66,22 +67,30 @@ fn finish<W: Sink>(machine: &Machine, ending: Ending, out: &mut W) -> Outcome
     ensures prefix { (s : State) → StandsFor machine.now s → (n : ℕ) × (W.out out.new ≡ after (W.out out.old) (take n (ended (end_text ending (length s.cells))))) }
     ensures whole { (result ≡ Outcome.WriteFault → ⊥) → (s : State) → StandsFor machine.now s → W.out out.new ≡ after (W.out out.old) (ended (end_text ending (length s.cells))) }
 {
-    write_text(out, Text::of_end(ending, machine.count()).as_bytes());
+    let mut page = Page::new();
+    page.add_end(ending, machine.count());
+    write_text(out, page.as_bytes());
     if out.has_failed() {
         return Outcome::WriteFault;
     }
     Outcome::of(ending)
 }
 
-/// Writes lines out, and stops where the sink fails.
-fn write_lines<W: Sink>(out: &mut W, lines: &[Line])
+/// Writes lines out, as many at once as the page has room for, and stops where the sink fails.
+fn write_lines<W: Sink>(out: &mut W, page: &mut Page, lines: &[Line])
     ensures prefix { (n : ℕ) × (W.out out.new ≡ after (W.out out.old) (take n (text_of lines.now))) }
     ensures whole { W.failed out.new ≡ false → W.out out.new ≡ after (W.out out.old) (text_of lines.now) }
 {
+    page.clear();
     for line in lines {
-        write_text(out, Text::of_line(line).as_bytes());
-        if out.has_failed() {
-            return;
+        if !page.has_room() {
+            write_text(out, page.as_bytes());
+            if out.has_failed() {
+                return;
+            }
+            page.clear();
         }
+        page.add_line(line);
     }
+    write_text(out, page.as_bytes());
 }
