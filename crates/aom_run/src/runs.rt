@@ -1,15 +1,18 @@
 //! A run, from a fresh machine to its end, with its transcript.
-ghost use Rattle.std.specs.Prelude.{ℕ, true, false, ◌≡◌, ◌+◌, ◌≤◌, length, take, IfNone, IfSome};
+ghost use Rattle.std.specs.Prelude.{ℕ, true, false, ◌≡◌, ◌+◌, ◌<◌, ◌≤◌, [], length, take, IfNone, IfSome};
 ghost use Rattle.aom_sound.specs.State.{State};
 ghost use Rattle.aom_lines.specs.Text.{text_of, ended, end_text};
-ghost use Rattle.aom_run.specs.Runs.{IsFresh, Ran, Ended, CutShort, after};
+ghost use Rattle.aom_run.specs.Runs.{IsFresh, Ran, Filled, Ended, CutShort, after};
 ghost use Rattle.aom_exec.specs.Progress.{outcome_of};
-ghost use Rattle.aom_exec.specs.Steps.{StandsFor};
+ghost use Rattle.aom_exec.specs.Steps.{StandsFor, Stands, rank};
 
 use crate::{Script, Sink, write_text};
 use aom_exec::{Machine, Outcome, Progress};
 use aom_lines::{Page, Turn};
 use aom_sound::{Ending, Line};
+
+/// How many lines the machine writes, at least, before they are sent out. A turn has room for them and for one call more.
+const MANY_LINES: usize = 64;
 
 /// Runs a fresh machine to its end and writes the transcript, one step after another. It stops where the sink fails.
 ///
@@ -44,7 +47,7 @@ fn run_lines<W: Sink>(machine: &mut Machine, turn: &mut Turn, out: &mut W) -> Op
     let mut page = Page::new();
     loop {
         turn.clear();
-        let progress = machine.step_on(turn);
+        let progress = fill(machine, turn);
         write_lines(out, &mut page, turn.lines());
         if out.has_failed() {
             return None;
@@ -56,6 +59,27 @@ fn run_lines<W: Sink>(machine: &mut Machine, turn: &mut Turn, out: &mut W) -> Op
                 return Some(Ending::Waiting);
             }
             Progress::Ended(ending) => return Some(ending),
+        }
+    }
+}
+
+/// Steps on until the turn has many lines or nothing is at hand.
+fn fill(machine: &mut Machine, turn: &mut Turn) -> Progress
+    requires stands { Stands machine.old }
+    requires empty { turn.old.lines ≡ [] }
+    requires room { 80 ≤ turn.old.room }
+    ensures image { machine.new.image ≡ machine.old.image }
+    ensures steps { Filled machine.old result turn.old turn.new machine.new }
+    ensures falls { result ≡ Progress.Running → rank machine.new < rank machine.old }
+{
+    loop {
+        let progress = machine.step_on(turn);
+        if turn.lines().len() >= MANY_LINES {
+            return progress;
+        }
+        match progress {
+            Progress::Running => {}
+            other => return other,
         }
     }
 }

@@ -13,26 +13,37 @@ returns-then-has_failed-clause-none g c =
     let i = c.loop-page.invariant in
     let refused = ap (λ (t : Turn). t.refused) c.clear.ensures ∙ i.refused in
     let clear = ap (λ (t : Turn). t.lines) c.clear.ensures in
-    let n = next _ _ _ _ _ _ _ _ _ i.so_far i.image refused clear c.step_on-progress.ensures.steps in
+    let n = next _ _ _ _ _ _ _ _ _ i.so_far i.image refused clear c.fill-progress.ensures.steps in
     let sent = c.write_lines.ensures.prefix in
-    (sym c.has_failed.ensures ∙ c.if-has_failed.true, cut _ _ _ _ _ _ _ _ n (c.step_on-progress.ensures.image ∙ i.image) sent.0 (sent.1 ∙ ap (λ ls. after (g.W.Sink.out c.loop-page.out) (take sent.0 (text_of ls))) c.lines.ensures))
+    (sym c.has_failed.ensures ∙ c.if-has_failed.true, cut _ _ _ _ _ _ _ _ n (c.fill-progress.ensures.image ∙ i.image) sent.0 (sent.1 ∙ ap (λ ls. after (g.W.Sink.out c.loop-page.out) (take sent.0 (text_of ls))) c.lines.ensures))
 
 pub loop-page-preserved : goal.loop-page-preserved
 loop-page-preserved g c =
     let i = c.loop-page.invariant in
     let refused = ap (λ (t : Turn). t.refused) c.clear.ensures ∙ i.refused in
     let clear = ap (λ (t : Turn). t.lines) c.clear.ensures in
-    let n = next _ _ _ _ _ _ _ _ _ i.so_far i.image refused clear c.step_on-progress.ensures.steps in
+    let n = next _ _ _ _ _ _ _ _ _ i.so_far i.image refused clear c.fill-progress.ensures.steps in
     let out = c.write_lines.ensures.whole (sym c.has_failed.ensures ∙ c.if-has_failed.false) ∙ ap (λ ls. after (g.W.Sink.out c.loop-page.out) (text_of ls)) c.lines.ensures in
     record {
       so_far = goes_on _ _ _ _ _ _ _ _ n out;
-      image = c.step_on-progress.ensures.image ∙ i.image;
-      refused = refused_kept c.loop-page.machine _ _ _ _ i.so_far.state i.so_far.stands c.step_on-progress.ensures.steps ∙ refused;
+      image = c.fill-progress.ensures.image ∙ i.image;
+      refused = refused_kept c.loop-page.machine _ _ _ _ i.so_far.state i.so_far.stands c.fill-progress.ensures.steps ∙ refused;
       room =
-          let kept = room_kept c.loop-page.machine _ _ _ _ i.so_far.state i.so_far.stands c.step_on-progress.ensures.steps in
+          let kept = room_kept c.loop-page.machine _ _ _ _ i.so_far.state i.so_far.stands c.fill-progress.ensures.steps in
           let cleared = ap (λ (t : Turn). t.room) c.clear.ensures in
           let room = i.room in
           omega arith;
+    }
+
+pub fill-progress-requires : goal.fill-progress-requires
+fill-progress-requires g c =
+    let i = c.loop-page.invariant in
+    let room = i.room in
+    let kept = ap (λ (t : Turn). t.room) c.clear.ensures in
+    record {
+      stands = (i.so_far.state, i.so_far.stands);
+      empty = ap (λ (t : Turn). t.lines) c.clear.ensures;
+      room = omega (arith, room, kept);
     }
 
 pub wait-requires : goal.wait-requires
@@ -40,7 +51,7 @@ wait-requires g c =
     let i = c.loop-page.invariant in
     let refused = ap (λ (t : Turn). t.refused) c.clear.ensures ∙ i.refused in
     let clear = ap (λ (t : Turn). t.lines) c.clear.ensures in
-    let n = next _ _ _ _ _ _ _ _ _ i.so_far i.image refused clear c.step_on-progress.ensures.steps in
+    let n = next _ _ _ _ _ _ _ _ _ i.so_far i.image refused clear c.fill-progress.ensures.steps in
     turned _ _ _ _ (g.W.Sink.out c.write_lines.new.out) _ _ _ n c.in-Turned.is
 
 pub returns-in-Turned-clause-some : goal.returns-in-Turned-clause-some
@@ -48,7 +59,7 @@ returns-in-Turned-clause-some g c =
     let i = c.loop-page.invariant in
     let refused = ap (λ (t : Turn). t.refused) c.clear.ensures ∙ i.refused in
     let clear = ap (λ (t : Turn). t.lines) c.clear.ensures in
-    let n = next _ _ _ _ _ _ _ _ _ i.so_far i.image refused clear c.step_on-progress.ensures.steps in
+    let n = next _ _ _ _ _ _ _ _ _ i.so_far i.image refused clear c.fill-progress.ensures.steps in
     let out = c.write_lines.ensures.whole (sym c.has_failed.ensures ∙ c.if-has_failed.false) ∙ ap (λ ls. after (g.W.Sink.out c.loop-page.out) (text_of ls)) c.lines.ensures in
     waits _ _ _ _ _ _ _ _ n _ c.wait.ensures.waited out
 
@@ -57,6 +68,6 @@ returns-in-Ended-clause-some g c =
     let i = c.loop-page.invariant in
     let refused = ap (λ (t : Turn). t.refused) c.clear.ensures ∙ i.refused in
     let clear = ap (λ (t : Turn). t.lines) c.clear.ensures in
-    let n = next _ _ _ _ _ _ _ _ _ i.so_far i.image refused clear c.step_on-progress.ensures.steps in
+    let n = next _ _ _ _ _ _ _ _ _ i.so_far i.image refused clear c.fill-progress.ensures.steps in
     let out = c.write_lines.ensures.whole (sym c.has_failed.ensures ∙ c.if-has_failed.false) ∙ ap (λ ls. after (g.W.Sink.out c.loop-page.out) (text_of ls)) c.lines.ensures in
     ends _ _ _ _ _ _ _ _ n _ c.in-Ended.is out
