@@ -9,7 +9,7 @@ use aom_image::{
     LoopDepth, Method, MethodFlags, MethodNumber, Place, Register, Role, States, Target, Thing,
     WordIndex, form_ok,
 };
-use aom_lines::{Text, Turn};
+use aom_lines::{Page, Turn};
 use aom_sound::Ending;
 use aom_verify::check;
 use std::alloc::{AllocError, Global};
@@ -160,8 +160,11 @@ fn step_text(
     let mut turn = Turn::new(alloc, accepted, refused.to_vec(alloc)?)?;
     let progress = machine.step(&mut turn);
     let mut text = Vec::new(alloc);
+    let mut page = Page::new();
     for line in turn.lines() {
-        text.extend_from_slice(Text::of_line(line).as_bytes())?;
+        page.clear();
+        page.add_line(line);
+        text.extend_from_slice(page.as_bytes())?;
     }
     Ok((progress, text))
 }

@@ -1,4 +1,4 @@
-use crate::{Text, Turn};
+use crate::{Page, Turn};
 use aom_budget::{Accepted, accept};
 use aom_classes::link;
 use aom_image::{ClassNumber, decode};
@@ -32,12 +32,30 @@ fn a_line_has_a_text(rt: HostRuntime) {
         (Line::Out(i32::MIN), "out -2147483648\n"),
         (Line::Gone(class), "gone 255\n"),
     ] {
-        assert_eq!(rt; Text::of_line(&line).as_bytes(), text.as_bytes());
+        let mut page = Page::new();
+        page.add_line(&line);
+        assert_eq!(rt; page.as_bytes(), text.as_bytes());
     }
-    let stopped = Text::of_end(Ending::Stopped, 0);
-    assert_eq!(rt; stopped.as_bytes(), b"end stopped cells 0\n".as_slice());
-    let waiting = Text::of_end(Ending::Waiting, 4096);
-    assert_eq!(rt; waiting.as_bytes(), b"end waiting cells 4096\n".as_slice());
+    let mut page = Page::new();
+    page.add_end(Ending::Stopped, 0);
+    assert_eq!(rt; page.as_bytes(), b"end stopped cells 0\n".as_slice());
+    page.clear();
+    page.add_end(Ending::Waiting, 4096);
+    assert_eq!(rt; page.as_bytes(), b"end waiting cells 4096\n".as_slice());
+}
+
+#[test]
+fn a_page_has_room_for_many_lines(rt: HostRuntime) {
+    let mut page = Page::new();
+    for _ in 0..505 {
+        assert!(rt; page.has_room());
+        page.add_line(&Line::Out(-10));
+    }
+    assert!(rt; !page.has_room());
+    assert!(rt; page.as_bytes().starts_with(b"out -10\nout -10\n"));
+    page.clear();
+    assert!(rt; page.has_room());
+    assert!(rt; page.as_bytes().is_empty());
 }
 
 #[test]

@@ -1,9 +1,8 @@
--- A run, one step of the machine after another.
-use Rattle.std.proofs.Common.{◌≡◌, ℕ, suc, min, ◌+◌, Bool, true, List, [], ◌∷◌, ◌++◌, Option, Some, None, length, take, refl, sym, ap, subst, ◌∙◌, append-nil, append_assoc, arith}
+-- A run, some steps of the machine after others.
+use Rattle.std.proofs.Common.{◌≡◌, ℕ, suc, min, ◌+◌, Bool, true, List, [], ◌∷◌, ◌++◌, Option, Some, None, length, take, refl, sym, ap, subst, ◌∙◌, append_assoc, arith}
 use Rattle.aom_image.specs.Image.{Image}
-use Rattle.aom_sound.specs.Moves.{written}
 use Rattle.aom_sound.specs.State.{State, Task}
-use Rattle.aom_sound.specs.World.{boot_state, Reaches, begins, moves as moved, waits as waited, IsBusy, waiting}
+use Rattle.aom_sound.specs.World.{boot_state, Reaches, begins, waits as waited, waiting}
 use Rattle.aom_sound.specs.declared.line.Line.{Line}
 use Rattle.aom_sound.specs.declared.line.Ending.{Ending}
 use Rattle.aom_sound.specs.declared.line.Ending.TheVariants as endings
@@ -14,11 +13,12 @@ use Rattle.aom_exec.specs.declared.progress.Outcome.{Outcome}
 use Rattle.aom_exec.specs.declared.progress.Outcome.TheVariants.{Stopped, Waiting, MainLeft, WriteFault}
 use Rattle.aom_exec.specs.declared.progress.Progress.{Progress}
 use Rattle.aom_exec.specs.declared.progress.Progress.TheVariants as progresses
-use Rattle.aom_exec.specs.Steps.{Machine, StandsFor, Steps, rests, moves, Settles, settled, settles, IsUncounted, Quiet, begins as none, goes_on as then_on, SteppedOn, Waited, progress as reached}
+use Rattle.aom_exec.specs.Steps.{Machine, StandsFor, Waited, progress as reached}
 use Rattle.aom_exec.specs.Progress.{progress_of, progress_by, outcome_of}
 use Rattle.aom_exec.proofs.Progressing.{is_as_far}
-use Rattle.aom_run.specs.Runs.{after, Ended, Told, CutShort, Ran}
+use Rattle.aom_run.specs.Runs.{after, Filled, Ended, Told, CutShort, Ran}
 use Rattle.aom_run.proofs.Completing.{Completed, completes}
+use Rattle.aom_run.proofs.Reaching.{reaches_both}
 use Rattle.aom_run.proofs.Sending.{cut_short, after_both, after_none, text_of_both, cut_next}
 
 -- the machine stands for a state that a run comes to, and the run's lines are out
@@ -31,33 +31,6 @@ pub record SoFar (p : Image) (refused : List ℕ) (before now : Option (List ℕ
 
 pub starts : (refused : List ℕ) (out : Option (List ℕ)) (m : Machine) → StandsFor m (boot_state m.image) → SoFar m.image refused out out m
 starts refused out m fresh = record { lines = []; state = boot_state m.image; reaches = begins; stands = fresh; out = after_none out }
-
-is_busy : (s : State) → IsUncounted s.tasks → IsBusy s
-is_busy s uncounted = go s.tasks refl uncounted
-  where
-    go : (ts : List Task) → s.tasks ≡ ts → IsUncounted ts → IsBusy s
-    go [] e u = absurd u
-    go (t ∷ ts) e u = (t, ts, e)
-
--- the moves that count as no step are moves of a run
-settled_on : (p : Image) (refused : List ℕ) (b : State) (lines : List Line) (s : State) (more : List Line) (u : State)
-    → Reaches p refused b lines s → Settles p refused s more u → Reaches p refused b (lines ++ more) u
-settled_on p refused b lines s _ _ r (settled not) = subst (λ ls. Reaches p refused b ls s) (sym (append-nil lines)) r
-settled_on p refused b lines s _ v r (settles {u = u} {lines = more} c uncounted free goes rest) =
-    subst (λ ls. Reaches p refused b ls v) (append_assoc lines _ more) (settled_on p refused b (lines ++ written p s) u more v (moved c r (is_busy s uncounted) free goes) rest)
-
--- a step of the machine is none, or one or more moves of a run
-reaches_on : (p : Image) (refused : List ℕ) (b : State) (lines : List Line) (s : State) (more : List Line) (u : State)
-    → Reaches p refused b lines s → Steps p refused s more u → Reaches p refused b (lines ++ more) u
-reaches_on p refused b lines s more u r (rests done) = subst (λ ls. Reaches p refused b ls s) (sym (append-nil lines)) r
-reaches_on p refused b lines s _ v r (moves {u = u} {lines = more} c hand free goes rest) =
-    subst (λ ls. Reaches p refused b ls v) (append_assoc lines _ more) (settled_on p refused b (lines ++ written p s) u more v (moved c r hand.busy free goes) rest)
-
--- quiet steps add no line
-reaches_over : (p : Image) (refused : List ℕ) (b : State) (lines : List Line) (s v : State) → Reaches p refused b lines s → Quiet p refused s v → Reaches p refused b lines v
-reaches_over p refused b lines s _ r none = r
-reaches_over p refused b lines s _ r (then_on {v} {u} before last hand) =
-    subst (λ ls. Reaches p refused b ls u) (append-nil lines) (reaches_on p refused b lines v [] u (reaches_over p refused b lines s v r before) last)
 
 -- a run that has come to a state that the machine stands for can be brought to an end
 completed : (p : Image) (refused : List ℕ) (lines : List Line) (s : State) (m : Machine) → m.image ≡ p → Reaches p refused (boot_state p) lines s → StandsFor m s → Completed p refused lines
@@ -81,7 +54,7 @@ cut_of p refused before now lines all n out =
       out = out ∙ ap (after before) (short ∙ ap (take (min n (length (text_of lines)))) (sym whole));
     }
 
--- what is known after a step, before its lines are out
+-- what is known after some steps, before their lines are out
 pub record Next (p : Image) (refused : List ℕ) (before mid : Option (List ℕ)) (told : List Line) (progress : Progress) (new : Machine) : Type 0 where
   pub lines : List Line
   pub state : State
@@ -93,19 +66,18 @@ pub record Next (p : Image) (refused : List ℕ) (before mid : Option (List ℕ)
   pub whole : after mid (text_of told) ≡ after before (text_of lines)
 
 pub next : (p : Image) (refused : List ℕ) (before mid : Option (List ℕ)) (m new : Machine) (old now : Turn) (progress : Progress)
-    → SoFar p refused before mid m → m.image ≡ p → old.refused ≡ refused → old.lines ≡ [] → SteppedOn m progress old now new
+    → SoFar p refused before mid m → m.image ≡ p → old.refused ≡ refused → old.lines ≡ [] → Filled m progress old now new
     → Next p refused before mid now.lines progress new
-next p refused before mid m new old now progress far image same clear stepped =
-    let s = stepped far.state far.stands in
-    let told : now.lines ≡ s.0 = ap (λ (t : Turn). t.lines) s.5 ∙ ap (λ ls. ls ++ s.0) clear in
-    let quiet = subst (λ q. Quiet q refused far.state s.1) image (subst (λ r. Quiet m.image r far.state s.1) same s.3) in
-    let steps = subst (λ q. Steps q refused s.1 s.0 s.2) image (subst (λ r. Steps m.image r s.1 s.0 s.2) same s.4) in
+next p refused before mid m new old now progress far image same clear filled =
+    let s = filled far.state far.stands in
+    let told : now.lines ≡ s.0 = ap (λ (t : Turn). t.lines) s.3 ∙ ap (λ ls. ls ++ s.0) clear in
+    let more = subst (λ q. Reaches q refused far.state s.0 s.1) image (subst (λ r. Reaches m.image r far.state s.0 s.1) same s.2) in
     record {
       lines = far.lines ++ s.0;
-      state = s.2;
-      reaches = reaches_on p refused (boot_state p) far.lines s.1 s.0 s.2 (reaches_over p refused (boot_state p) far.lines far.state s.1 far.reaches quiet) steps;
-      stands = s.7;
-      is = s.6;
+      state = s.1;
+      reaches = reaches_both p refused (boot_state p) far.lines far.state s.0 s.1 far.reaches more;
+      stands = s.5;
+      is = s.4;
       sent = length (text_of far.lines);
       part = λ n.
           ap (λ ls. after mid (take n (text_of ls))) told ∙ ap (λ o. after o (take n (text_of s.0))) far.out ∙ cut_next before (text_of far.lines) (text_of s.0) n
@@ -115,12 +87,12 @@ next p refused before mid m new old now progress far image same clear stepped =
           ∙ ap (after before) (sym (text_of_both far.lines s.0));
     }
 
--- what a step leaves of its turn
-pub room_kept : (m new : Machine) (old now : Turn) (progress : Progress) (s : State) → StandsFor m s → SteppedOn m progress old now new → now.room ≡ old.room
-room_kept m new old now progress s stands stepped = ap (λ (t : Turn). t.room) (stepped s stands).5
+-- what steps leave of their turn
+pub room_kept : (m new : Machine) (old now : Turn) (progress : Progress) (s : State) → StandsFor m s → Filled m progress old now new → now.room ≡ old.room
+room_kept m new old now progress s stands filled = ap (λ (t : Turn). t.room) (filled s stands).3
 
-pub refused_kept : (m new : Machine) (old now : Turn) (progress : Progress) (s : State) → StandsFor m s → SteppedOn m progress old now new → now.refused ≡ old.refused
-refused_kept m new old now progress s stands stepped = ap (λ (t : Turn). t.refused) (stepped s stands).5
+pub refused_kept : (m new : Machine) (old now : Turn) (progress : Progress) (s : State) → StandsFor m s → Filled m progress old now new → now.refused ≡ old.refused
+refused_kept m new old now progress s stands filled = ap (λ (t : Turn). t.refused) (filled s stands).3
 
 same_outcome : (d e : Ending) → outcome_of d ≡ outcome_of e → d ≡ e
 same_outcome endings.Stopped endings.Stopped is = refl

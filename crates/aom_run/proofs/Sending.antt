@@ -1,6 +1,6 @@
 -- What is out after several texts, the last of which may be cut.
-use Rattle.std.proofs.Common.{◌≡◌, ℕ, suc, min, arith, ◌+◌, ◌<◌, ◌≤◌, List, [], ◌∷◌, ◌++◌, Option, Some, None, length, take, drop, get_or, refl, sym, ap, ◌∙◌, append-nil, append_assoc, drop-cons}
-use Rattle.std.proofs.Math.Seq.{take-append-add, take-length}
+use Rattle.std.proofs.Common.{◌≡◌, ℕ, suc, min, arith, ◌+◌, ◌<◌, ◌≤◌, List, [], ◌∷◌, ◌++◌, Option, Some, None, length, take, drop, get_or, refl, sym, ap, ◌∙◌, append-nil, append_assoc}
+use Rattle.std.proofs.Math.Seq.{take-append-add, take-suc}
 use Rattle.std.proofs.lemmas.List.{take-append-le, take-append-drop, take_all, take_min}
 use Rattle.std.proofs.lemmas.Grind.{flat_map-append}
 use Rattle.aom_sound.specs.declared.line.Line.{Line}
@@ -22,25 +22,54 @@ text_of_both ls ks = flat_map-append (λ line. ended (line_text line)) ls ks
 pub cut_next : (before : Option (List ℕ)) (a b : List ℕ) (n : ℕ) → after (after before a) (take n b) ≡ after before (take (length a + n) (a ++ b))
 cut_next before a b n = after_both before a (take n b) ∙ ap (after before) (sym (take-append-add a b n))
 
--- the text of some lines, of the next one and of those after it
-parts : (lines : List Line) (i : ℕ) (line : Line) → i < length lines → line ≡ get_or lines i line → text_of lines ≡ text_of (take i lines) ++ (ended (line_text line) ++ text_of (drop (suc i) lines))
-parts lines i line within is =
-    ap text_of (sym (take-append-drop i lines)) ∙ text_of_both (take i lines) (drop i lines)
-    ∙ ap (λ ls. text_of (take i lines) ++ text_of ls) (drop-cons lines i line within ∙ ap (λ l. l ∷ drop (suc i) lines) (sym is))
-
-pub cut_line : (before mid now : Option (List ℕ)) (lines : List Line) (i : ℕ) (line : Line) (text : List ℕ) (n : ℕ)
-    → i < length lines → line ≡ get_or lines i line → mid ≡ after before (text_of (take i lines)) → text ≡ ended (line_text line) → n ≤ length text → now ≡ after mid (take n text)
-    → now ≡ after before (take (length (text_of (take i lines)) + n) (text_of lines))
-cut_line before mid now lines i line text n within is so_far spells short sent =
-    let a = text_of (take i lines) in
-    let rest = text_of (drop (suc i) lines) in
-    let next : take n text ≡ take n (ended (line_text line) ++ rest) = sym (take-append-le n text rest short) ∙ ap (λ t. take n (t ++ rest)) spells in
-    sent ∙ ap (λ o. after o (take n text)) so_far ∙ ap (after (after before a)) next ∙ cut_next before a (ended (line_text line) ++ rest) n
-    ∙ ap (λ t. after before (take (length a + n) t)) (sym (parts lines i line within is))
-
-pub whole_lines : (before now : Option (List ℕ)) (lines : List Line) (i : ℕ) → length lines ≤ i → now ≡ after before (text_of (take i lines)) → now ≡ after before (take (length (text_of lines)) (text_of lines))
-whole_lines before now lines i all out = out ∙ ap (λ ls. after before (text_of ls)) (take_all i lines all) ∙ ap (after before) (sym (take-length (text_of lines)))
-
 -- the beginning of a text is one of a longer text
 pub cut_short : (n : ℕ) (a b : List ℕ) → take n a ≡ take (min n (length a)) (a ++ b)
 cut_short n a b = sym (take-append-le (min n (length a)) a b (omega arith) ∙ take_min n a)
+
+-- what is out and what the page holds are the text of the lines, one after the other
+pub record Paged (before now : Option (List ℕ)) (page : List ℕ) (lines : List Line) : Type 0 where
+  pub sent : List ℕ
+  pub out : now ≡ after before sent
+  pub whole : sent ++ page ≡ text_of lines
+
+pub empty_page : (before : Option (List ℕ)) (page : List ℕ) → page ≡ [] → Paged before before page []
+empty_page before page is = record { sent = []; out = after_none before; whole = is }
+
+-- one line more
+pub line_added : (before now : Option (List ℕ)) (old page : List ℕ) (lines : List Line) (i : ℕ) (line : Line)
+    → i < length lines → line ≡ get_or lines i line → Paged before now old (take i lines) → page ≡ old ++ ended (line_text line) → Paged before now page (take (i + 1) lines)
+line_added before now old page lines i line within is p added =
+    let more : i + 1 ≡ suc i = omega arith in
+    let next : text_of (take (i + 1) lines) ≡ text_of (take i lines) ++ ended (line_text line) =
+    ap text_of (ap (λ n. take n lines) more ∙ take-suc lines i line within ∙ ap (λ l. take i lines ++ l ∷ []) (sym is)) ∙ text_of_both (take i lines) (line ∷ []) ∙ ap (λ t. text_of (take i lines) ++ t) (append-nil (ended (line_text line)))
+    in
+    record {
+      sent = p.sent;
+      out = p.out;
+      whole = ap (λ t. p.sent ++ t) added ∙ sym (append_assoc p.sent old (ended (line_text line))) ∙ ap (λ t. t ++ ended (line_text line)) p.whole ∙ sym next;
+    }
+
+pub still_paged : (before mid now : Option (List ℕ)) (old page : List ℕ) (lines : List Line) → Paged before mid old lines → now ≡ mid → page ≡ old → Paged before now page lines
+still_paged before mid now old page lines p out is = record { sent = p.sent; out = out ∙ p.out; whole = ap (λ t. p.sent ++ t) is ∙ p.whole }
+
+-- the page is out
+pub page_sent : (before mid now : Option (List ℕ)) (old page : List ℕ) (lines : List Line) → Paged before mid old lines → now ≡ after mid old → page ≡ [] → Paged before now page lines
+page_sent before mid now old page lines p out is =
+    record {
+      sent = p.sent ++ old;
+      out = out ∙ ap (λ o. after o old) p.out ∙ after_both before p.sent old;
+      whole = ap (λ t. (p.sent ++ old) ++ t) is ∙ append-nil (p.sent ++ old) ∙ p.whole;
+    }
+
+pub all_sent : (before mid now : Option (List ℕ)) (page : List ℕ) (lines : List Line) (i : ℕ) → length lines ≤ i → Paged before mid page (take i lines) → now ≡ after mid page → now ≡ after before (text_of lines)
+all_sent before mid now page lines i all p out =
+    out ∙ ap (λ o. after o page) p.out ∙ after_both before p.sent page ∙ ap (after before) (p.whole ∙ ap text_of (take_all i lines all))
+
+-- the beginning of the page is out
+pub page_cut : (before mid now : Option (List ℕ)) (page : List ℕ) (lines : List Line) (i n : ℕ) → Paged before mid page (take i lines) → now ≡ after mid (take n page)
+    → (k : ℕ) × (now ≡ after before (take k (text_of lines)))
+page_cut before mid now page lines i n p out =
+    let told = text_of (take i lines) in
+    let all : told ++ text_of (drop i lines) ≡ text_of lines = sym (text_of_both (take i lines) (drop i lines)) ∙ ap text_of (take-append-drop i lines) in
+    let sent = length p.sent + n in
+    (min sent (length told), out ∙ ap (λ o. after o (take n page)) p.out ∙ cut_next before p.sent page n ∙ ap (λ t. after before (take sent t)) p.whole ∙ ap (after before) (cut_short sent told (text_of (drop i lines)) ∙ ap (take (min sent (length told))) all))

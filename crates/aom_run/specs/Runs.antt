@@ -2,13 +2,16 @@
 use Rattle.std.specs.Prelude.{◌≡◌, ℕ, Bool, true, List, ◌++◌, Option, length, take, option_map}
 use Rattle.aom_image.specs.Image.{Image}
 use Rattle.aom_sound.specs.State.{State}
-use Rattle.aom_sound.specs.World.{boot_state, Run_of}
+use Rattle.aom_sound.specs.World.{boot_state, Reaches, Run_of}
 use Rattle.aom_sound.specs.declared.line.Line.{Line}
 use Rattle.aom_sound.specs.declared.line.Ending.{Ending}
 use Rattle.aom_sound.specs.declared.line.Ending.TheVariants as endings
+use Rattle.aom_lines.specs.Turn.{Turn}
 use Rattle.aom_lines.specs.Text.{text_of, transcript}
 use Rattle.aom_exec.specs.declared.progress.Outcome.{Outcome}
 use Rattle.aom_exec.specs.declared.progress.Outcome.TheVariants.{Stopped, Waiting, MainLeft, WriteFault}
+use Rattle.aom_exec.specs.declared.progress.Progress.{Progress}
+use Rattle.aom_exec.specs.Progress.{progress_of}
 use Rattle.aom_exec.specs.Steps.{Machine, StandsFor}
 
 -- what is out once a text is out too, where the sink tells it
@@ -18,6 +21,15 @@ after out text = option_map (λ t. t ++ text) out
 -- a machine that has not run: it stands for the boot state
 abbrev pub IsFresh : Machine → Type 0
 IsFresh m = StandsFor m (boot_state m.image)
+
+-- from each state that the machine stands for a run comes to one that it then stands for, and its lines are added to the turn
+abbrev pub Filled : Machine → Progress → Turn → Turn → Machine → Type 0
+Filled old progress told now new =
+    (s : State) → StandsFor old s
+    → (lines : List Line) × (u : State) × Reaches old.image told.refused s lines u
+    × (now ≡ record told { lines = told.lines ++ lines })
+    × (progress ≡ progress_of u)
+    × StandsFor new u
 
 -- a run to its end: the machine stands for its last state, and its lines are out
 pub record Ended (p : Image) (refused : List ℕ) (ending : Ending) (before now : Option (List ℕ)) (new : Machine) : Type 0 where

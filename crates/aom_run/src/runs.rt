@@ -1,15 +1,18 @@
 //! A run, from a fresh machine to its end, with its transcript.
-ghost use Rattle.std.specs.Prelude.{ℕ, true, false, ◌≡◌, ◌+◌, ◌≤◌, length, take, IfNone, IfSome};
+ghost use Rattle.std.specs.Prelude.{ℕ, true, false, ◌≡◌, ◌+◌, ◌<◌, ◌≤◌, [], length, take, IfNone, IfSome};
 ghost use Rattle.aom_sound.specs.State.{State};
 ghost use Rattle.aom_lines.specs.Text.{text_of, ended, end_text};
-ghost use Rattle.aom_run.specs.Runs.{IsFresh, Ran, Ended, CutShort, after};
+ghost use Rattle.aom_run.specs.Runs.{IsFresh, Ran, Filled, Ended, CutShort, after};
 ghost use Rattle.aom_exec.specs.Progress.{outcome_of};
-ghost use Rattle.aom_exec.specs.Steps.{StandsFor};
+ghost use Rattle.aom_exec.specs.Steps.{StandsFor, Stands, rank};
 
 use crate::{Script, Sink, write_text};
 use aom_exec::{Machine, Outcome, Progress};
-use aom_lines::{Text, Turn};
+use aom_lines::{Page, Turn};
 use aom_sound::{Ending, Line};
+
+/// How many lines the machine writes, at least, before they are sent out. A turn has room for them and for one call more.
+const MANY_LINES: usize = 64;
 
 /// Runs a fresh machine to its end and writes the transcript, one step after another. It stops where the sink fails.
 ///
@@ -41,10 +44,11 @@ fn run_lines<W: Sink>(machine: &mut Machine, turn: &mut Turn, out: &mut W) -> Op
     ensures none { IfNone result ((W.failed out.new ≡ true) × CutShort machine.old.image turn.old.refused (W.out out.old) (W.out out.new)) }
     ensures some { IfSome result (λ ending. Ended machine.old.image turn.old.refused ending (W.out out.old) (W.out out.new) machine.new) }
 {
+    let mut page = Page::new();
     loop {
         turn.clear();
-        let progress = machine.step_on(turn);
-        write_lines(out, turn.lines());
+        let progress = fill(machine, turn);
+        write_lines(out, &mut page, turn.lines());
         if out.has_failed() {
             return None;
         }
@@ -59,6 +63,27 @@ fn run_lines<W: Sink>(machine: &mut Machine, turn: &mut Turn, out: &mut W) -> Op
     }
 }
 
+/// Steps on until the turn has many lines or nothing is at hand.
+fn fill(machine: &mut Machine, turn: &mut Turn) -> Progress
+    requires stands { Stands machine.old }
+    requires empty { turn.old.lines ≡ [] }
+    requires room { 80 ≤ turn.old.room }
+    ensures image { machine.new.image ≡ machine.old.image }
+    ensures steps { Filled machine.old result turn.old turn.new machine.new }
+    ensures falls { result ≡ Progress.Running → rank machine.new < rank machine.old }
+{
+    loop {
+        let progress = machine.step_on(turn);
+        if turn.lines().len() >= MANY_LINES {
+            return progress;
+        }
+        match progress {
+            Progress::Running => {}
+            other => return other,
+        }
+    }
+}
+
 /// Writes the last line.
 fn finish<W: Sink>(machine: &Machine, ending: Ending, out: &mut W) -> Outcome
     ensures fault { result ≡ Outcome.WriteFault → W.failed out.new ≡ true }
@@ -66,22 +91,30 @@ fn finish<W: Sink>(machine: &Machine, ending: Ending, out: &mut W) -> Outcome
     ensures prefix { (s : State) → StandsFor machine.now s → (n : ℕ) × (W.out out.new ≡ after (W.out out.old) (take n (ended (end_text ending (length s.cells))))) }
     ensures whole { (result ≡ Outcome.WriteFault → ⊥) → (s : State) → StandsFor machine.now s → W.out out.new ≡ after (W.out out.old) (ended (end_text ending (length s.cells))) }
 {
-    write_text(out, Text::of_end(ending, machine.count()).as_bytes());
+    let mut page = Page::new();
+    page.add_end(ending, machine.count());
+    write_text(out, page.as_bytes());
     if out.has_failed() {
         return Outcome::WriteFault;
     }
     Outcome::of(ending)
 }
 
-/// Writes lines out, and stops where the sink fails.
-fn write_lines<W: Sink>(out: &mut W, lines: &[Line])
+/// Writes lines out, as many at once as the page has room for, and stops where the sink fails.
+fn write_lines<W: Sink>(out: &mut W, page: &mut Page, lines: &[Line])
     ensures prefix { (n : ℕ) × (W.out out.new ≡ after (W.out out.old) (take n (text_of lines.now))) }
     ensures whole { W.failed out.new ≡ false → W.out out.new ≡ after (W.out out.old) (text_of lines.now) }
 {
+    page.clear();
     for line in lines {
-        write_text(out, Text::of_line(line).as_bytes());
-        if out.has_failed() {
-            return;
+        if !page.has_room() {
+            write_text(out, page.as_bytes());
+            if out.has_failed() {
+                return;
+            }
+            page.clear();
         }
+        page.add_line(line);
     }
+    write_text(out, page.as_bytes());
 }
