@@ -4,17 +4,15 @@
 //! Here is what a contract can say nothing of: the command line as the system gives it, files, and the two outputs.
 #![tactic(auto)]
 
-ghost use Rattle.aom_main.specs.CommandLine.{KeepsLimit};
+ghost use Rattle.aom_command_line.specs.CommandLine.{KeepsLimit};
 
 mod files;
 mod output;
 
 use crate::files::read_file;
 use crate::output::Output;
-use aom_main::{
-    ExitStatus, Fault, Words, WordsFault, asm_bytes, check_bytes, dis_bytes, read_words, run_bytes,
-    tell,
-};
+use aom_command_line::{Words, WordsFault, read_words};
+use aom_main::{ExitStatus, Fault, asm_bytes, check_bytes, dis_bytes, run_bytes, tell};
 use aom_run::{Sink, write_text};
 use std::env;
 use std::io::{self, BufWriter, Write};

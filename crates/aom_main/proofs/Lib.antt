@@ -1,4 +1,3 @@
-pub mod Reading
 pub mod Refusing
 pub mod Sending
 pub mod Telling

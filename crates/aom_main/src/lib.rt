@@ -1,10 +1,10 @@
-//! The program's library: the command line, and one call for each command over bytes and sinks.
+//! The program's library: one call for each command over bytes and sinks.
 //!
 //! `run_bytes`, `check_bytes`, `asm_bytes` and `dis_bytes` take the bytes of files and write to two sinks, one for what is
 //! asked and one for a fault's line. Their contracts, `RunAnswers` and `CheckAnswers` of `specs/Headline.antt`, `AsmAnswers`
 //! and `DisAnswers` of `specs/Assembly.antt`, go from bytes to bytes: what the image is, what the script says, and that the text is the
-//! transcript of a run of the checked machine that never goes wrong. `read_words` reads the command line. Nothing here
-//! reads a file or knows where a sink leads.
+//! transcript of a run of the checked machine that never goes wrong. Nothing here reads a file, knows the command line or
+//! where a sink leads.
 #![tactic(auto)]
 
 mod accepting;
@@ -15,9 +15,7 @@ mod running;
 mod status;
 #[cfg(test)]
 mod tests;
-mod words;
 
 pub use commands::{asm_bytes, check_bytes, dis_bytes, run_bytes};
 pub use faults::{Fault, tell};
 pub use status::ExitStatus;
-pub use words::{Words, WordsFault, read_words};

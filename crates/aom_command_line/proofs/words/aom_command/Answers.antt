@@ -2,8 +2,8 @@
 use Rattle.std.proofs.Common.{rules, ◌≡◌, ◌∙◌, ap, ap₂}
 use Rattle.std.proofs.lemmas.Result.{IfOk-weaker}
 use Rattle.clap.specs.Words.{App, app_of, with_subcommand}
-use Rattle.aom_main.specs.CommandLine.{bare_form, check_form, run_form, asm_form}
-use Rattle.aom_main.proofs.words.aom_command.Goals as goal
+use Rattle.aom_command_line.specs.CommandLine.{bare_form, check_form, run_form, asm_form}
+use Rattle.aom_command_line.proofs.words.aom_command.Goals as goal
 
 abbrev to_run : App
 to_run = with_subcommand (with_subcommand bare_form check_form.top) run_form.top

@@ -2,9 +2,9 @@
 use Rattle.std.proofs.Common.{◌≡◌, ◌∙◌, ap, ap₂, subst, true, IfOk, IfErr}
 use Rattle.std.proofs.lemmas.Result.{IfErr-weaker}
 use Rattle.clap.specs.Words.{is_simple, kind_of, subcommand_of, subcommand_rows_of, takes}
-use Rattle.aom_main.specs.CommandLine.{form, texts_of, Asks, Declines}
-use Rattle.aom_main.proofs.Reading.{simple, declines, says}
-use Rattle.aom_main.proofs.words.read_words.Goals as goal
+use Rattle.aom_command_line.specs.CommandLine.{form, texts_of, Asks, Declines}
+use Rattle.aom_command_line.proofs.Reading.{simple, declines, says}
+use Rattle.aom_command_line.proofs.words.read_words.Goals as goal
 
 pub returns-in-Ok-clause-asks : goal.returns-in-Ok-clause-asks
 returns-in-Ok-clause-asks c =

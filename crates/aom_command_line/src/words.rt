@@ -3,7 +3,7 @@ ghost use Rattle.std.specs.Prelude.{◌≡◌, ◌≤◌, IfOk, IfErr, Some, fal
 ghost use Rattle.std.specs.String.{string_bytes};
 ghost use Rattle.clap.specs.declared.builder.command.Command.TheViews.{out-Command as fields_of};
 ghost use Rattle.clap.specs.Words.{app_of, found_of, kind_of, one_of, rows_of, rule_of, subcommand_of, subcommand_rows_of, takes};
-ghost use Rattle.aom_main.specs.CommandLine.{asm_form, check_form, dis_form, run_form, form, file_rule, limit_rule, native_rule, texts_of, word_of, Asks, Declines, IsLimit, KeepsLimit, Says};
+ghost use Rattle.aom_command_line.specs.CommandLine.{asm_form, check_form, dis_form, run_form, form, file_rule, limit_rule, native_rule, texts_of, word_of, Asks, Declines, IsLimit, KeepsLimit, Says};
 
 use clap::error::ErrorKind;
 use clap::{Arg, ArgAction, ArgMatches, Command, Error, value_parser};
@@ -41,7 +41,7 @@ pub enum WordsFault {
 
 impl From<AllocError> for WordsFault {
     ghost use Rattle.std.specs.Prelude.{◌≡◌};
-    ghost use Rattle.aom_main.specs.declared.words.WordsFault.TheVariants.{Memory};
+    ghost use Rattle.aom_command_line.specs.declared.words.WordsFault.TheVariants.{Memory};
 
     ghost from_gives = { λ _ f. f ≡ Memory };
 

@@ -4,8 +4,8 @@ use Rattle.std.specs.Fmt.{decimal}
 use Rattle.std.specs.Str.Parse.{ParsesUnsigned, ExplainsUnsignedError, HasUnsignedDigitsIfOk}
 use Rattle.clap.specs.Words.{found_of}
 use Rattle.clap.proofs.WalkLemmas.{one_text-rows}
-use Rattle.aom_main.proofs.Reading.{reads}
-use Rattle.aom_main.proofs.words.limit_of.Goals as goal
+use Rattle.aom_command_line.proofs.Reading.{reads}
+use Rattle.aom_command_line.proofs.words.limit_of.Goals as goal
 
 pub returns : goal.returns
 returns c = record {

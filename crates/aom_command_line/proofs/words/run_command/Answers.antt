@@ -2,8 +2,8 @@
 use Rattle.std.proofs.Common.{rules, ◌≡◌, ◌∙◌, ap₂, codes}
 use Rattle.std.proofs.lemmas.Result.{IfOk-weaker}
 use Rattle.clap.specs.Words.{App, app_of, new_app, with_rule}
-use Rattle.aom_main.specs.CommandLine.{file_rule, limit_rule}
-use Rattle.aom_main.proofs.words.run_command.Goals as goal
+use Rattle.aom_command_line.specs.CommandLine.{file_rule, limit_rule}
+use Rattle.aom_command_line.proofs.words.run_command.Goals as goal
 
 abbrev to_script : App
 to_script = with_rule (with_rule (with_rule (new_app (codes "run")) limit_rule) (file_rule (codes "IMAGE"))) (file_rule (codes "SCRIPT"))

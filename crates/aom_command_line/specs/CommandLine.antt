@@ -8,10 +8,10 @@ use Rattle.clap.specs.declared.builder.action.ArgAction.TheVariants.{Append}
 use Rattle.clap.specs.declared.builder.value_parser.ValueParser.TheVariants.{Signed}
 use Rattle.clap.specs.declared.error.kind.ErrorKind.{ErrorKind}
 use Rattle.clap.specs.declared.error.kind.ErrorKind.TheVariants.{OutOfMemory}
-use Rattle.aom_main.specs.declared.words.Words.{Words}
-use Rattle.aom_main.specs.declared.words.Words.TheVariants.{Check, Run, Asm, Dis}
-use Rattle.aom_main.specs.declared.words.WordsFault.{WordsFault}
-use Rattle.aom_main.specs.declared.words.WordsFault.TheVariants as faults
+use Rattle.aom_command_line.specs.declared.words.Words.{Words}
+use Rattle.aom_command_line.specs.declared.words.Words.TheVariants.{Check, Run, Asm, Dis}
+use Rattle.aom_command_line.specs.declared.words.WordsFault.{WordsFault}
+use Rattle.aom_command_line.specs.declared.words.WordsFault.TheVariants as faults
 
 -- the name of a file, which must be there
 abbrev pub file_rule : Text → Rule

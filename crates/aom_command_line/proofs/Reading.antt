@@ -11,9 +11,9 @@ use Rattle.clap.proofs.OnLiterals.{clap_on_literals}
 use Rattle.clap.proofs.WalkLemmas.{first_value-rows, raw_values-rows}
 use Rattle.clap.specs.declared.error.kind.ErrorKind.{ErrorKind}
 use Rattle.clap.specs.declared.error.kind.ErrorKind.TheVariants.{OutOfMemory}
-use Rattle.aom_main.specs.declared.words.WordsFault.{WordsFault}
-use Rattle.aom_main.specs.declared.words.WordsFault.TheVariants as faults
-use Rattle.aom_main.specs.CommandLine.{IsCommand, Declines, Says, form, word_of}
+use Rattle.aom_command_line.specs.declared.words.WordsFault.{WordsFault}
+use Rattle.aom_command_line.specs.declared.words.WordsFault.TheVariants as faults
+use Rattle.aom_command_line.specs.CommandLine.{IsCommand, Declines, Says, form, word_of}
 
 same : {E : Type 0} (v n : ℕ) (r : Result ℕ E) → r ≡ Ok v → r ≡ Ok n → Some v ≡ Some n
 same v n r a b = cc
