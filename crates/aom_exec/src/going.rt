@@ -2,15 +2,15 @@
 ghost use Rattle.std.specs.Prelude.{◌≡◌, ◌<◌, ◌+◌, ◌^◌, ◌↔◌, ℕ, List, IfSome, IsTrue, Some, length};
 ghost use Rattle.aom_cells.specs.Heap.{null, Lives, class_at};
 ghost use Rattle.aom_image.specs.declared.instr.Instr.TheVariants.{Delete};
-ghost use Rattle.aom_frames.specs.Tasks.{Runs, place_here, register_here};
+ghost use Rattle.aom_frames.specs.Tasks.{Runs, place_here, register_here, below_first};
 ghost use Rattle.aom_exec.specs.Acts.{DoesIn, GoesAway, next};
 ghost use Rattle.aom_exec.specs.Going.{destroying, destructor_at, ending_here, uprooted};
-ghost use Rattle.aom_exec.specs.Places.{with_tasks, below_first, IsDestroying, IsEnding, going_here};
+ghost use Rattle.aom_exec.specs.Places.{with_tasks, IsDestroying, IsEnding, going_here};
 
 use crate::parts::Parts;
 use aom_cells::NULL;
 use aom_classes::Linked;
-use aom_frames::{Dispatch, Frame, Task};
+use aom_frames::{Dispatch, Frame, Task, TaskKind};
 use aom_image::{ClassNumber, Register, Role};
 use aom_lines::Turn;
 use aom_sound::Line;
@@ -81,7 +81,7 @@ impl Parts {
         ensures { ending_here self.now.stack.tasks ≡ Some result }
     {
         match self.stack.top() {
-            Some(Task::Dispatched(dispatch)) => *dispatch,
+            Some(TaskKind::Dispatched(dispatch)) => dispatch,
             _ => unreachable!(),
         }
     }
@@ -90,7 +90,7 @@ impl Parts {
     pub fn is_running(&self) -> bool
         ensures { IsTrue result ↔ Runs self.now.stack.tasks }
     {
-        matches!(self.stack.top(), Some(Task::Run(_)))
+        matches!(self.stack.top(), Some(TaskKind::Run))
     }
 
     /// The method that is at hand goes on, if there is one.

@@ -3,11 +3,11 @@ use Rattle.std.proofs.lemmas.Bool.{false≢true}
 use Rattle.std.proofs.lemmas.Int.{to_z-of_z}
 use Rattle.aom_image.specs.Views.{instr_at}
 use Rattle.aom_sound.specs.declared.line.Line.TheVariants.{Leave}
-use Rattle.aom_frames.specs.Tasks.{Runs, method_here, place_here}
+use Rattle.aom_frames.specs.Tasks.{Runs, method_here, place_here, below_first}
 use Rattle.aom_frames.specs.declared.task.Task.TheVariants.{Dispatched}
 use Rattle.aom_frames.specs.declared.task.Dispatch.TheVariants.{MainLeft}
 use Rattle.aom_exec.specs.Cleanup.{Unwinds, told}
-use Rattle.aom_exec.specs.Places.{below_first, code_here, with_tasks}
+use Rattle.aom_exec.specs.Places.{code_here, with_tasks}
 use Rattle.aom_exec.proofs.Topping.{coded_through, ends_under}
 use Rattle.aom_exec.proofs.UnwindActs.{arrives_end, arrives_method}
 use Rattle.aom_exec.proofs.parts.Parts.arrive.Goals as goal
