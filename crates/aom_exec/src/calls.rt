@@ -107,7 +107,7 @@ impl Parts {
         ensures in_range { result_register (instr_at linked.now (method_here self.old.stack.tasks) (place_here self.old.stack.tasks)) < 16 }
         ensures received { self.new ≡ next (resulted gives (result_register (instr_at linked.now (method_here self.old.stack.tasks) (place_here self.old.stack.tasks))) number self.old) }
     {
-        let to = result_of(linked.instr(self.stack.method(), self.stack.place()));
+        let to = result_of(*self.fetch(linked));
         self.take_result(to, gives, number);
         self.next();
     }
@@ -120,7 +120,7 @@ impl Parts {
         requires coded { suc (result_register (instr_at linked.now (method_here self.old.stack.tasks) (place_here self.old.stack.tasks))) < 16 }
         ensures { self.new ≡ next (set_register (suc (result_register (instr_at linked.now (method_here self.old.stack.tasks) (place_here self.old.stack.tasks)))) 0 (resulted gives (result_register (instr_at linked.now (method_here self.old.stack.tasks) (place_here self.old.stack.tasks))) number self.old)) }
     {
-        let to = result_of(linked.instr(self.stack.method(), self.stack.place()));
+        let to = result_of(*self.fetch(linked));
         self.take_result(to, gives, number);
         self.stack.set_register(to + 1, 0);
         self.next();
