@@ -9,12 +9,13 @@ use Rattle.aom_sound.specs.State.{Dispatch, Of_main, Task, Run, Trapped, Destroy
 use Rattle.aom_sound.specs.Moves.{asked, is_counted, closed, main_ends, dispatch_ends, step, step_task, written_task}
 use Rattle.aom_sound.specs.WellTyped.{WellTyped, Keeps}
 use Rattle.aom_lines.specs.Turn.{Turn}
+use Rattle.aom_frames.specs.Tasks.{below_first}
 use Rattle.aom_frames.specs.declared.task.Task.{Task as Held_task}
 use Rattle.aom_frames.specs.declared.task.Task.TheVariants.{Run as Runs_frame, Trapped as Is_trap, Destroy as Destroys, Dispatched as Ends, Unwind as Unwinds}
 use Rattle.aom_frames.specs.declared.task.Dispatch.{Dispatch as Held_dispatch}
 use Rattle.aom_frames.specs.declared.task.Dispatch.TheVariants.{Main, MainLeft, Root as End_of_run}
 use Rattle.aom_exec.specs.declared.parts.Parts.{Parts}
-use Rattle.aom_exec.specs.Places.{value_in, below_first, IsEnding}
+use Rattle.aom_exec.specs.Places.{value_in, IsEnding}
 use Rattle.aom_exec.specs.Going.{ending_here, uprooted}
 use Rattle.aom_exec.specs.Agrees.{word_at, Shows, SameTasks, dispatch_of, number, Agrees}
 use Rattle.aom_exec.specs.Steps.{Stands, Moves}

@@ -18,13 +18,13 @@ use Rattle.aom_sound.specs.WellTyped.{WellTyped}
 use Rattle.aom_sound.specs.declared.line.Line.TheVariants.{Gone}
 use Rattle.aom_sound.proofs.Maps.{same_place-true, held_moved, held_without, held_lives}
 use Rattle.aom_lines.specs.Turn.{Turn}
-use Rattle.aom_frames.specs.Tasks.{fresh, on_top, with_place, with_register, place_here, register_here}
+use Rattle.aom_frames.specs.Tasks.{fresh, on_top, with_place, with_register, place_here, register_here, below_first}
 use Rattle.aom_frames.specs.declared.frame.Frame.{Frame as Held_frame}
 use Rattle.aom_frames.specs.declared.task.Task.{Task as Held_task}
 use Rattle.aom_frames.specs.declared.task.Task.TheVariants.{Run as Runs_frame, Trapped as Is_trap, Destroy as Destroys, Dispatched as Ends, Unwind as Unwinds}
 use Rattle.aom_frames.specs.declared.task.Dispatch.TheVariants.{Main, Root as End_of_run}
 use Rattle.aom_exec.specs.declared.parts.Parts.{Parts}
-use Rattle.aom_exec.specs.Places.{value_in, register_in, going_in, going_here, with_tasks, below_first}
+use Rattle.aom_exec.specs.Places.{value_in, register_in, going_in, going_here, with_tasks}
 use Rattle.aom_exec.specs.Going.{destructor_in, destructor_at, destroying, uprooted}
 use Rattle.aom_exec.specs.Agrees.{word_in, word_at, Shows, SameCells, SameItems, SameTask, SameTasks, thing_in, thing_of, number, Agrees}
 use Rattle.aom_exec.specs.Acts.{At_hand, requested, In_going, without_going, DoesIn, GoesAway}

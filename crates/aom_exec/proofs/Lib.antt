@@ -1,4 +1,5 @@
 pub mod Values
+pub mod OnTop
 pub mod Entries
 pub mod Overs
 pub mod CellWords

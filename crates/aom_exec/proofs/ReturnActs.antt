@@ -26,13 +26,13 @@ use Rattle.aom_sound.proofs.Maps.{at-put_at, held_moved}
 use Rattle.aom_sound.proofs.Straight.{claim_register, fits_unowning}
 use Rattle.aom_cleanup.specs.Items.{Stack as Held_items}
 use Rattle.aom_cleanup.specs.declared.item.Item.TheVariants.{Mark as Is_mark}
-use Rattle.aom_frames.specs.Tasks.{Runs, method_here, place_here, register_here}
+use Rattle.aom_frames.specs.Tasks.{Runs, method_here, place_here, register_here, below_first}
 use Rattle.aom_frames.specs.declared.frame.Frame.{Frame as Held_frame}
 use Rattle.aom_frames.specs.declared.task.Task.{Task as Held_task}
 use Rattle.aom_frames.specs.declared.task.Task.TheVariants.{Run as Runs_frame, Trapped as Is_trap, Destroy as Destroys, Dispatched as Ends, Unwind as Unwinds}
 use Rattle.aom_frames.specs.declared.task.Dispatch.{Dispatch as Held_dispatch}
 use Rattle.aom_exec.specs.declared.parts.Parts.{Parts}
-use Rattle.aom_exec.specs.Places.{value_in, register_in, going_in, with_tasks, below_first, IsDestroying, IsEnding, IsTrapped, IsUnwinding}
+use Rattle.aom_exec.specs.Places.{value_in, register_in, going_in, with_tasks, IsDestroying, IsEnding, IsTrapped, IsUnwinding}
 use Rattle.aom_exec.specs.Agrees.{word_at, word_in, Shows, SameCells, SameFrame, SameTasks, dispatch_of, Agrees}
 use Rattle.aom_exec.specs.Acts.{At_hand, requested, resulted, DoesIn}
 use Rattle.aom_exec.specs.Acts as acts

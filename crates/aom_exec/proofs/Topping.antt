@@ -21,14 +21,14 @@ use Rattle.aom_sound.specs.Places.{Entry, Object, held}
 use Rattle.aom_sound.specs.State.{Frame, Task, Run, Trapped, Destroy, Unwind, Dispatched, Item, An_object, An_operation, A_mark, State}
 use Rattle.aom_sound.specs.WellTyped.{Good, LeavesNone, WellTyped}
 use Rattle.aom_sound.proofs.Finishing.{all_parts}
-use Rattle.aom_frames.specs.Tasks.{Runs, method_here, place_here}
+use Rattle.aom_frames.specs.Tasks.{Runs, method_here, place_here, below_first}
 use Rattle.aom_frames.specs.declared.task.Task.{Task as Held_task}
 use Rattle.aom_frames.specs.declared.task.Task.TheVariants.{Run as Runs_frame, Trapped as Is_trap, Destroy as Destroys, Unwind as Unwinds, Dispatched as Ends}
 use Rattle.aom_exec.specs.declared.parts.Parts.{Parts}
 use Rattle.aom_exec.specs.Acts.{requested}
 use Rattle.aom_exec.specs.Agrees.{SameItems, SameTasks, number, Agrees}
 use Rattle.aom_exec.specs.Cleanup.{ItemLives, TopLives, TopsObject}
-use Rattle.aom_exec.specs.Places.{below_first, value_in, IsEnding, IsTrapped}
+use Rattle.aom_exec.specs.Places.{value_in, IsEnding, IsTrapped}
 use Rattle.aom_exec.specs.Room.{ReturnsTo}
 use Rattle.aom_exec.specs.Steps.{Stands}
 use Rattle.aom_exec.proofs.Entries.{same_items_length, top_value}

@@ -30,7 +30,7 @@ use Rattle.aom_sound.proofs.Looping.{goes_same}
 use Rattle.aom_sound.proofs.Straight.{claim_register, fits_unowning}
 use Rattle.aom_sound.proofs.Maps.{at-put_at}
 use Rattle.aom_lines.specs.Turn.{Turn}
-use Rattle.aom_frames.specs.Tasks.{Runs, method_here, place_here}
+use Rattle.aom_frames.specs.Tasks.{Runs, method_here, place_here, below_first}
 use Rattle.aom_frames.specs.declared.frame.Frame.{Frame as Held_frame}
 use Rattle.aom_frames.specs.declared.task.Task.{Task as Held_task}
 use Rattle.aom_frames.specs.declared.task.Task.TheVariants.{Run as Runs_frame, Trapped as Is_trap, Destroy as Destroys, Unwind as Unwinds, Dispatched as Ends}
@@ -39,7 +39,7 @@ use Rattle.aom_exec.specs.declared.parts.Parts.{Parts}
 use Rattle.aom_exec.specs.Acts as acts
 use Rattle.aom_exec.specs.Agrees.{Shows, SameFrame, SameItems, SameTasks, word_at, Agrees}
 use Rattle.aom_exec.specs.Cleanup.{TopLives, Unwinds as Unwinds_by, dealt_with, lost, told}
-use Rattle.aom_exec.specs.Places.{below_first, code_here, value_in, with_tasks, IsEnding, IsTrapped, IsUnwinding}
+use Rattle.aom_exec.specs.Places.{code_here, value_in, with_tasks, IsEnding, IsTrapped, IsUnwinding}
 use Rattle.aom_exec.specs.Room.{CalleeThere, CallsThere, ReturnsTo}
 use Rattle.aom_exec.specs.Steps.{Stands}
 use Rattle.aom_exec.specs.Traps.{TrapsFit}

@@ -5,13 +5,12 @@ use Rattle.aom_image.specs.declared.method.Role.TheVariants.{Destruct}
 use Rattle.aom_classes.specs.Roles.{role_of}
 use Rattle.aom_cells.specs.Heap.{Heap, null, class_at}
 use Rattle.aom_sound.specs.State.{raised}
-use Rattle.aom_frames.specs.Tasks.{fresh}
+use Rattle.aom_frames.specs.Tasks.{fresh, below_first}
 use Rattle.aom_frames.specs.declared.task.Task.{Task}
 use Rattle.aom_frames.specs.declared.task.Task.TheVariants.{Run, Trapped, Destroy, Unwind, Dispatched}
 use Rattle.aom_frames.specs.declared.task.Dispatch.{Dispatch}
 use Rattle.aom_frames.specs.declared.task.Dispatch.TheVariants.{Root}
 use Rattle.aom_exec.specs.declared.parts.Parts.{Parts}
-use Rattle.aom_exec.specs.Places.{below_first}
 
 -- the destructor of a class
 abbrev pub destructor_in : Image → Option ℕ → Option ℕ

@@ -44,11 +44,6 @@ value m = value_in m.stack.tasks m.cells m.entries.items m.root
 abbrev pub with_tasks : List Task → Parts → Parts
 with_tasks ts m = record m { stack = record m.stack { tasks = ts } }
 
--- the tasks below the innermost
-abbrev pub below_first : List Task → List Task
-below_first [] = []
-below_first (t ∷ ts) = ts
-
 -- the innermost task is a destruction, of that cell
 abbrev pub IsDestroying : List Task → Type 0
 IsDestroying [] = ⊥

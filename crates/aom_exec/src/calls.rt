@@ -4,18 +4,18 @@ ghost use Rattle.aom_image.specs.Views.{arguments_of, instr_at, method_at};
 ghost use Rattle.aom_image.specs.declared.instr.Instr.TheVariants.{Call, Return, Stop, Trap};
 ghost use Rattle.aom_sound.specs.Calls.{result_register};
 ghost use Rattle.aom_cleanup.specs.Items.{IsMarked, marks_in};
-ghost use Rattle.aom_frames.specs.Tasks.{Runs, method_here, place_here};
+ghost use Rattle.aom_frames.specs.Tasks.{Runs, method_here, place_here, below_first};
 ghost use Rattle.aom_exec.specs.Acts.{Does, DoesIn, resulted, next, set_register};
 ghost use Rattle.aom_exec.specs.Calls.{target_here};
 ghost use Rattle.aom_exec.specs.Fields.{IsHoused};
-ghost use Rattle.aom_exec.specs.Places.{below_first, IsTrapped};
+ghost use Rattle.aom_exec.specs.Places.{IsTrapped};
 ghost use Rattle.aom_exec.specs.Room.{ReturnsTo};
 
 use crate::parts::Parts;
 use aom_cells::NULL;
 use aom_classes::Linked;
 use aom_cleanup::Item;
-use aom_frames::{Frame, Task};
+use aom_frames::{Frame, TaskKind};
 use aom_image::{ClassNumber, Gives, Instr, MethodNumber, Register, Target};
 
 /// The register to which the result of a call comes.
@@ -107,7 +107,7 @@ impl Parts {
         ensures in_range { result_register (instr_at linked.now (method_here self.old.stack.tasks) (place_here self.old.stack.tasks)) < 16 }
         ensures received { self.new ≡ next (resulted gives (result_register (instr_at linked.now (method_here self.old.stack.tasks) (place_here self.old.stack.tasks))) number self.old) }
     {
-        let to = result_of(linked.instr(self.stack.method(), self.stack.place()));
+        let to = result_of(*self.fetch(linked));
         self.take_result(to, gives, number);
         self.next();
     }
@@ -120,7 +120,7 @@ impl Parts {
         requires coded { suc (result_register (instr_at linked.now (method_here self.old.stack.tasks) (place_here self.old.stack.tasks))) < 16 }
         ensures { self.new ≡ next (set_register (suc (result_register (instr_at linked.now (method_here self.old.stack.tasks) (place_here self.old.stack.tasks)))) 0 (resulted gives (result_register (instr_at linked.now (method_here self.old.stack.tasks) (place_here self.old.stack.tasks))) number self.old)) }
     {
-        let to = result_of(linked.instr(self.stack.method(), self.stack.place()));
+        let to = result_of(*self.fetch(linked));
         self.take_result(to, gives, number);
         self.stack.set_register(to + 1, 0);
         self.next();
@@ -138,17 +138,17 @@ impl Parts {
         let number = self.register(from);
         self.drop_task();
         match self.stack.top() {
-            Some(Task::Run(_)) => self.receive(gives, number, linked),
-            Some(Task::Trapped) => {
+            Some(TaskKind::Run) => self.receive(gives, number, linked),
+            Some(TaskKind::Trapped) => {
                 self.drop_task();
                 self.entries.unmark();
                 if self.is_running() {
                     self.receive_trapped(gives, number, linked);
                 }
             }
-            Some(Task::Destroy(_)) => {}
-            Some(Task::Unwind(_)) => {}
-            Some(Task::Dispatched(_)) => unreachable!(),
+            Some(TaskKind::Destroy(_)) => {}
+            Some(TaskKind::Unwind(_)) => {}
+            Some(TaskKind::Dispatched(_)) => unreachable!(),
             None => unreachable!(),
         }
     }

@@ -2,15 +2,15 @@
 ghost use Rattle.std.specs.Prelude.{◌≡◌, ◌<◌, ◌+◌, ◌^◌, ◌↔◌, ℕ, List, IfSome, IsTrue, Some, length};
 ghost use Rattle.aom_cells.specs.Heap.{null, Lives, class_at};
 ghost use Rattle.aom_image.specs.declared.instr.Instr.TheVariants.{Delete};
-ghost use Rattle.aom_frames.specs.Tasks.{Runs, place_here, register_here};
+ghost use Rattle.aom_frames.specs.Tasks.{Runs, place_here, register_here, below_first};
 ghost use Rattle.aom_exec.specs.Acts.{DoesIn, GoesAway, next};
-ghost use Rattle.aom_exec.specs.Going.{destroying, destructor_at, ending_here, uprooted};
-ghost use Rattle.aom_exec.specs.Places.{with_tasks, below_first, IsDestroying, IsEnding, going_here};
+ghost use Rattle.aom_exec.specs.Going.{destroying, destructor_at, uprooted};
+ghost use Rattle.aom_exec.specs.Places.{with_tasks, IsDestroying, going_here};
 
 use crate::parts::Parts;
 use aom_cells::NULL;
 use aom_classes::Linked;
-use aom_frames::{Dispatch, Frame, Task};
+use aom_frames::{Dispatch, Frame, Task, TaskKind};
 use aom_image::{ClassNumber, Register, Role};
 use aom_lines::Turn;
 use aom_sound::Line;
@@ -75,22 +75,11 @@ impl Parts {
         self.begin(root, linked);
     }
 
-    /// What the dispatch is of that is at its end.
-    pub fn ending(&self) -> Dispatch
-        requires { IsEnding self.now.stack.tasks }
-        ensures { ending_here self.now.stack.tasks ≡ Some result }
-    {
-        match self.stack.top() {
-            Some(Task::Dispatched(dispatch)) => *dispatch,
-            _ => unreachable!(),
-        }
-    }
-
     /// Whether a method is at hand.
     pub fn is_running(&self) -> bool
         ensures { IsTrue result ↔ Runs self.now.stack.tasks }
     {
-        matches!(self.stack.top(), Some(Task::Run(_)))
+        matches!(self.stack.top(), Some(TaskKind::Run))
     }
 
     /// The method that is at hand goes on, if there is one.
@@ -103,16 +92,16 @@ impl Parts {
         }
     }
 
-    /// The going of a cell. The method below goes on, if there is one.
-    pub fn go(&mut self, turn: &mut Turn)
+    /// The cell of that number goes, whose destruction is at hand. The method below goes on, if there is one.
+    pub fn go(&mut self, number: u32, turn: &mut Turn)
         requires destroying { IsDestroying self.old.stack.tasks }
+        requires going { number ≡ going_here self.old.stack.tasks }
         requires lives { Lives self.old.cells (going_here self.old.stack.tasks) }
         requires small { IfSome (class_at self.old.cells (going_here self.old.stack.tasks)) (λ class. class < 256) }
         requires within { place_here (below_first self.old.stack.tasks) + 1 < 2 ^ 64 }
         requires room { length turn.old.lines < turn.old.room }
         ensures { GoesAway self.old self.new turn.old turn.new }
     {
-        let number = self.going();
         self.drop_task();
         let class = self.release(number);
         turn.push(Line::Gone(class));

@@ -16,6 +16,6 @@ mod tests;
 mod words;
 
 pub use frame::Frame;
-pub use task::{Dispatch, Task};
+pub use task::{Dispatch, Task, TaskKind};
 pub use tasks::Tasks;
 pub use words::is_on_words;

@@ -1,4 +1,4 @@
-use crate::{Dispatch, Frame, Task, Tasks};
+use crate::{Dispatch, Frame, Task, TaskKind, Tasks};
 use aom_cells::NULL;
 use aom_image::MethodNumber;
 use std::test::Fail;
@@ -14,13 +14,13 @@ fn what_is_pushed_last_is_on_top(rt: HostRuntime) -> Result<(), Fail> {
     tasks.push(Task::Run(Frame::begin(main, NULL)));
     tasks.set_register(3, 41);
     tasks.set_place(7);
-    tasks.set_counter(2, 65535);
     assert_eq!(rt; tasks.len(), 2);
     assert_eq!(rt; tasks.register(3), 41);
     assert_eq!(rt; tasks.place(), 7);
-    assert_eq!(rt; tasks.counter(2), 65535);
-    assert_eq!(rt; tasks.counter(1), 0);
     assert_eq!(rt; tasks.method(), main);
     assert_eq!(rt; tasks.this(), NULL);
+    assert_eq!(rt; tasks.top(), Some(TaskKind::Run));
+    tasks.drop_top();
+    assert_eq!(rt; tasks.top(), Some(TaskKind::Dispatched(Dispatch::Main)));
     Ok(())
 }

@@ -3,11 +3,11 @@ use Rattle.std.proofs.lemmas.Bool.{false≢true}
 use Rattle.std.proofs.lemmas.Int.{to_z-of_z}
 use Rattle.aom_image.specs.Views.{instr_at}
 use Rattle.aom_sound.specs.declared.line.Line.TheVariants.{Leave}
-use Rattle.aom_frames.specs.Tasks.{Runs, method_here, place_here}
+use Rattle.aom_frames.specs.Tasks.{Runs, method_here, place_here, below_first}
 use Rattle.aom_frames.specs.declared.task.Task.TheVariants.{Dispatched}
 use Rattle.aom_frames.specs.declared.task.Dispatch.TheVariants.{MainLeft}
 use Rattle.aom_exec.specs.Cleanup.{Unwinds, told}
-use Rattle.aom_exec.specs.Places.{below_first, code_here, with_tasks}
+use Rattle.aom_exec.specs.Places.{code_here, with_tasks}
 use Rattle.aom_exec.proofs.Topping.{coded_through, ends_under}
 use Rattle.aom_exec.proofs.UnwindActs.{arrives_end, arrives_method}
 use Rattle.aom_exec.proofs.parts.Parts.arrive.Goals as goal
@@ -20,9 +20,9 @@ returns-then-is_running c =
     let es = c.unmark.new.self in
     let under = below_first (below_first m.stack.tasks) in
     let i = instr_at p (method_here under) (place_here under) in
-    let fit : FitsSigned w32 c.code-code.result = search rules in
-    let fits = subst (FitsSigned w32) c.code-code.ensures fit in
-    let code : to_z w32 (of_z w32 c.code-code.result) ≡ code_here m.stack.tasks = to_z-of_z w32 c.code-code.result fit ∙ c.code-code.ensures in
+    let fit : FitsSigned w32 c.args.code = search rules in
+    let fits = subst (FitsSigned w32) c.requires.coded fit in
+    let code : to_z w32 (of_z w32 c.args.code) ≡ code_here m.stack.tasks = to_z-of_z w32 c.args.code fit ∙ c.requires.coded in
     let marked = rw (c.drop_task-2.ensures, c.drop_task.ensures) at c.unmark.ensures in
     let runs : Runs under = rw (c.drop_task-2.ensures, c.drop_task.ensures) at (c.is_running.ensures.0 c.if-is_running.true) in
     let coded = coded_through p (below_first m.stack.tasks) c.requires.below c.requires.trapped runs in
@@ -36,9 +36,9 @@ returns-else-is_running c =
     let t = c.args.turn.now in
     let es = c.unmark.new.self in
     let under = below_first (below_first m.stack.tasks) in
-    let fit : FitsSigned w32 c.code-code.result = search rules in
-    let fits = subst (FitsSigned w32) c.code-code.ensures fit in
-    let code : to_z w32 (of_z w32 c.code-code.result) ≡ code_here m.stack.tasks = to_z-of_z w32 c.code-code.result fit ∙ c.code-code.ensures in
+    let fit : FitsSigned w32 c.args.code = search rules in
+    let fits = subst (FitsSigned w32) c.requires.coded fit in
+    let code : to_z w32 (of_z w32 c.args.code) ≡ code_here m.stack.tasks = to_z-of_z w32 c.args.code fit ∙ c.requires.coded in
     let marked = rw (c.drop_task-2.ensures, c.drop_task.ensures) at c.unmark.ensures in
     let stops : Runs under → ⊥ = λ runs. false≢true (sym c.if-is_running.false ∙ c.is_running.ensures.1 (rw (c.drop_task-2.ensures, c.drop_task.ensures) runs)) in
     let ending = ends_under p (below_first m.stack.tasks) c.requires.below c.requires.trapped stops in

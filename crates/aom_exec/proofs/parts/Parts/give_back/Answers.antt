@@ -1,14 +1,14 @@
 use Rattle.std.proofs.lemmas.Bool.{false≢true}
+use Rattle.aom_exec.proofs.OnTop.{goes_on_top, leaves_on_top, runs_on, trap_on}
 use Rattle.aom_exec.proofs.Topping.{coded_through, ends_under}
-use Rattle.std.proofs.Common.{suc, subst, sym, ap, refl, ◌∙◌, ◌∷◌}
+use Rattle.std.proofs.Common.{suc, subst, sym, refl, ◌∙◌}
 use Rattle.aom_image.specs.Views.{instr_at}
 use Rattle.aom_image.specs.declared.instr.Instr.TheVariants.{Return}
 use Rattle.aom_sound.specs.Calls.{result_register}
-use Rattle.aom_frames.specs.Tasks.{Runs, method_here, place_here, register_here}
-use Rattle.aom_exec.specs.declared.parts.Parts.{Parts}
+use Rattle.aom_frames.specs.Tasks.{Runs, method_here, place_here, register_here, below_first}
 use Rattle.aom_exec.specs.Acts.{DoesIn, resulted}
 use Rattle.aom_exec.specs.Acts as acts
-use Rattle.aom_exec.specs.Places.{IsDestroying, IsTrapped, IsUnwinding, below_first, with_tasks}
+use Rattle.aom_exec.specs.Places.{IsDestroying, IsTrapped, IsUnwinding, with_tasks}
 use Rattle.aom_exec.proofs.ReturnActs.{gives_here, return_to_end, return_to_going, return_through, return_to_method, return_to_unwinding}
 use Rattle.aom_exec.proofs.parts.Parts.give_back.Goals as goal
 
@@ -16,9 +16,7 @@ pub returns-in-Some-Run : goal.returns-in-Some-Run
 returns-in-Some-Run c = λ refused.
     let p = c.args.linked.now in
     let m = c.args.self.now in
-    let top = c.in-Some-Run.ensures.some in
-    let tasks = ap (λ (m : Parts). m.stack.tasks) (sym c.drop_task.ensures) ∙ top.1 ∙ ap (λ t. t ∷ top.0) c.in-Some-Run.field-0-is in
-    let runs : Runs (below_first m.stack.tasks) = subst Runs (sym tasks) tt in
+    let runs : Runs (below_first m.stack.tasks) = runs_on _ _ (rw c.drop_task.ensures at c.in-Some-Run.ensures.some) c.in-Some-Run.field-0-is in
     let gives = gives_here p (method_here m.stack.tasks) c.method-2.result.now (rw c.method.ensures at c.method-2.ensures) in
     let small = rw c.drop_task.ensures at c.receive.ensures.in_range in
     let x = result_register (instr_at p (method_here (below_first m.stack.tasks)) (place_here (below_first m.stack.tasks))) in
@@ -30,9 +28,7 @@ pub returns-then-is_running : goal.returns-then-is_running
 returns-then-is_running c = λ refused.
     let p = c.args.linked.now in
     let m = c.args.self.now in
-    let top = c.in-Some-Trapped.ensures.some in
-    let tasks = ap (λ (m : Parts). m.stack.tasks) (sym c.drop_task.ensures) ∙ top.1 ∙ ap (λ t. t ∷ top.0) c.in-Some-Trapped.field-0-is in
-    let trapped : IsTrapped (below_first m.stack.tasks) = subst IsTrapped (sym tasks) tt in
+    let trapped : IsTrapped (below_first m.stack.tasks) = subst IsTrapped (sym (trap_on _ _ (rw c.drop_task.ensures at c.in-Some-Trapped.ensures.some) c.in-Some-Trapped.field-0-is)) tt in
     let runs : Runs (below_first (below_first m.stack.tasks)) = rw (c.drop_task-in-Some-Trapped.ensures, c.drop_task.ensures) at (c.is_running.ensures.0 c.if-is_running.true) in
     let marked = rw (c.drop_task-in-Some-Trapped.ensures, c.drop_task.ensures) at c.unmark.ensures in
     let gives = gives_here p (method_here m.stack.tasks) c.method-2.result.now (rw c.method.ensures at c.method-2.ensures) in
@@ -48,9 +44,7 @@ pub returns-else-is_running : goal.returns-else-is_running
 returns-else-is_running c = λ refused.
     let p = c.args.linked.now in
     let m = c.args.self.now in
-    let top = c.in-Some-Trapped.ensures.some in
-    let tasks = ap (λ (m : Parts). m.stack.tasks) (sym c.drop_task.ensures) ∙ top.1 ∙ ap (λ t. t ∷ top.0) c.in-Some-Trapped.field-0-is in
-    let trapped : IsTrapped (below_first m.stack.tasks) = subst IsTrapped (sym tasks) tt in
+    let trapped : IsTrapped (below_first m.stack.tasks) = subst IsTrapped (sym (trap_on _ _ (rw c.drop_task.ensures at c.in-Some-Trapped.ensures.some) c.in-Some-Trapped.field-0-is)) tt in
     let stops : Runs (below_first (below_first m.stack.tasks)) → ⊥ = λ runs. false≢true (sym c.if-is_running.false ∙ c.is_running.ensures.1 (rw (c.drop_task-in-Some-Trapped.ensures, c.drop_task.ensures) runs)) in
     let marked = rw (c.drop_task-in-Some-Trapped.ensures, c.drop_task.ensures) at c.unmark.ensures in
     rw (c.drop_task-in-Some-Trapped.ensures, c.drop_task.ensures) (return_to_end p m refused c.args.from c.unmark.new.self (ends_under p (below_first m.stack.tasks) c.requires.below trapped stops) trapped marked)
@@ -58,15 +52,11 @@ returns-else-is_running c = λ refused.
 pub returns-in-Some-Unwind : goal.returns-in-Some-Unwind
 returns-in-Some-Unwind c = λ refused.
     let m = c.args.self.now in
-    let top = c.in-Some-Unwind.ensures.some in
-    let tasks = ap (λ (m : Parts). m.stack.tasks) (sym c.drop_task.ensures) ∙ top.1 ∙ ap (λ t. t ∷ top.0) c.in-Some-Unwind.field-0-is in
-    let unwinding : IsUnwinding (below_first m.stack.tasks) = subst IsUnwinding (sym tasks) tt in
+    let unwinding : IsUnwinding (below_first m.stack.tasks) = leaves_on_top _ _ (rw c.drop_task.ensures at c.in-Some-Unwind.ensures.some) c.in-Some-Unwind.field-0-is in
     rw c.drop_task.ensures (return_to_unwinding c.args.linked.now m refused c.args.from unwinding)
 
 pub returns-in-Some-Destroy : goal.returns-in-Some-Destroy
 returns-in-Some-Destroy c = λ refused.
     let m = c.args.self.now in
-    let top = c.in-Some-Destroy.ensures.some in
-    let tasks = ap (λ (m : Parts). m.stack.tasks) (sym c.drop_task.ensures) ∙ top.1 ∙ ap (λ t. t ∷ top.0) c.in-Some-Destroy.field-0-is in
-    let destroying : IsDestroying (below_first m.stack.tasks) = subst IsDestroying (sym tasks) tt in
+    let destroying : IsDestroying (below_first m.stack.tasks) = goes_on_top _ _ (rw c.drop_task.ensures at c.in-Some-Destroy.ensures.some) c.in-Some-Destroy.field-0-is in
     rw c.drop_task.ensures (return_to_going c.args.linked.now m refused c.args.from destroying)
