@@ -15,8 +15,9 @@ use Rattle.aom_shape.specs.Typing.{IsTyped, Typing}
 use Rattle.aom_shape.specs.declared.kind.Entry.{Entry as Pushed}
 use Rattle.aom_shape.specs.declared.kind.Entry.TheVariants.{Object as Pushed_object, Operation as Pushed_operation}
 use Rattle.aom_shape.specs.declared.kind.Kind.TheVariants.{Null}
-use Rattle.aom_sound.proofs.Claimed.{claim_going_above}
+use Rattle.aom_sound.proofs.Claimed.{claim_entry_above, claim_going_above}
 use Rattle.aom_sound.proofs.Clearing.{begins_over}
+use Rattle.aom_sound.proofs.Items.{length_forms}
 use Rattle.aom_sound.proofs.Looping.{goes_same, guarded_goes}
 use Rattle.aom_sound.proofs.Maps.{at-put_at, held_moved, same_place-true, same_place_refl}
 use Rattle.aom_sound.proofs.Quiet.{guarded_met}
@@ -26,7 +27,7 @@ use Rattle.aom_sound.specs.Claims.{Dispatching, Dying, Form, Layer, Mark, Mark_f
 use Rattle.aom_sound.specs.Cleanup.{arrival, arrived, code_told, destroyed, has_trap, is_negative, leave_needs, left, no_memory, operation_frame, operation_pushed, pushed, to_trap, unwound}
 use Rattle.aom_sound.specs.Destruction.{begun_by, destructor_of}
 use Rattle.aom_sound.specs.Laws.{IsWired}
-use Rattle.aom_sound.specs.Leaves.{AreEntries, AreMethods, Arrives, ArrivesAt, Begins, HasNoResult, Hears, IsBegun, IsDestroyed, IsLeaving, IsLeftOn, IsOver, LeavesWith, HasMoved}
+use Rattle.aom_sound.specs.Leaves.{AreEntries, AreMethods, Arrives, ArrivesAt, Begins, HasMoved, HasNoResult, HasPushed, Hears, IsBegun, IsDestroyed, IsLeaving, IsOver, LeavesWith}
 use Rattle.aom_sound.specs.Moves.{announcement, counted, does, main_left, needs, step, step_instr, step_task, written_task}
 use Rattle.aom_sound.specs.Places.{Cell, Entry, Going, Object, Register, held, moved, named, same_place, Place}
 use Rattle.aom_sound.specs.State.{A_mark, An_object, An_operation, Choice, Destroy, Dispatch, Dispatched, Frame, Goes, Inside, IsStuck, Item, Main_left, NullOrDead, Of_main, Of_root, Run, State, Task, Trapped, Unwind, frame_of, next, set_word, word}
@@ -88,6 +89,29 @@ splits p t s w code below at =
 
 -- ---- the beginning
 
+-- a cell that moves to a place that owned nothing
+has_moved : (cs : List Cell) (q g : Place) (o : Object) → held cs q ≡ Some o → held cs g ≡ None → same_place g q ≡ false → HasMoved o q g cs (moved q g cs)
+has_moved cs q g o there free apart = record {
+  there = there;
+  here = held_moved cs q g g free ∙ ap (λ b. cond b (held cs q) (cond (same_place q g) None (held cs g))) (same_place_refl g) ∙ there;
+  gone = held_moved cs q g q free ∙ ap (λ b. cond b (held cs q) (cond (same_place q q) None (held cs q))) apart ∙ ap (λ b. cond b None (held cs q)) (same_place_refl q);
+  others = λ r n m. held_moved cs q g r free ∙ ap (λ b. cond b (held cs q) (cond (same_place q r) None (held cs r))) (differs g r m) ∙ ap (λ b. cond b None (held cs r)) (differs q r n);
+}
+  where
+    differs : (x r : Place) → r ≢ x → same_place x r ≡ false
+    differs x r n = go (same_place x r) refl
+      where
+        go : (b : Bool) → same_place x r ≡ b → b ≡ false
+        go true e = absurd (n (sym (same_place-true x r e)))
+        go false e = refl
+
+-- no entry is claimed over all items
+none_pushed_yet : (p : Image) (t : Typing) (s : State) → WellTyped p t s → held s.cells (Entry (length s.items)) ≡ None
+none_pushed_yet p t s w =
+    let high : length (items_of w.layers) ≡ length s.items = ap length (sym w.items) ∙ length_forms s.items in
+    fits_unowning p (held s.cells) _ Null refl
+    (subst (λ k. Fits p (held s.cells) (held s.cells (Entry (length s.items))) k) (claim_entry_above p s.cells w.layers (length s.items) (omega (arith, high))) (w.good.fits (Entry (length s.items))))
+
 -- the innermost trap, and the methods over it
 pub record Trapping (ts : List Task) : Type 0 where
   pub methods : List Task
@@ -108,9 +132,9 @@ is_there : {A : Type 0} (x : Option A) → is_some x ≡ true → (y : A) × (x 
 is_there None e = cc
 is_there (Some y) e = (y, refl)
 
-module _ (p : Image) (t : Typing) (c : Choice) (fr : Frame) (ts : List Task) (s u : State) (at_hand : s.tasks ≡ Run fr ∷ ts) (keeps : WellTyped p t u) where
+module _ (p : Image) (t : Typing) (c : Choice) (fr : Frame) (ts : List Task) (s u : State) (at_hand : s.tasks ≡ Run fr ∷ ts) (w : WellTyped p t s) (keeps : WellTyped p t u) where
   -- the state that left had these items, and the tasks of the method over those of the state
-  begins_at : (i : Instr) (code : ℤ) (v : State) → to_trap v.tasks ≡ to_trap ts → has_trap ts ≡ true → left code v ≡ u → IsLeftOn fr i s.items v.items → Begins p code fr i s u
+  begins_at : (i : Instr) (code : ℤ) (v : State) → to_trap v.tasks ≡ to_trap ts → has_trap ts ≡ true → left code v ≡ u → HasPushed fr (length ts) i s (left code v) → Begins p code fr (length ts) i s u
   begins_at i code v same trap e on =
       let r = trapping ts trap in
       let top : u.tasks ≡ Unwind code ∷ Trapped ∷ r.below = sym (ap (λ x. x.tasks) e) ∙ ap (λ l. Unwind code ∷ l) (same ∙ r.lands) in
@@ -124,7 +148,7 @@ module _ (p : Image) (t : Typing) (c : Choice) (fr : Frame) (ts : List Task) (s 
         items = found.1;
         leaving = found.2;
         top = top;
-        left_on = subst (λ is. IsLeftOn fr i s.items is) (ap (λ x. x.items) e) on;
+        pushed = subst (λ x. HasPushed fr (length ts) i s x) e on;
       }
 
   taken : (b : Bool) (v x : State) → b ≡ true → cond b v x ≡ u → v ≡ u
@@ -138,29 +162,32 @@ module _ (p : Image) (t : Typing) (c : Choice) (fr : Frame) (ts : List Task) (s 
   over_trap : to_trap s.tasks ≡ to_trap ts
   over_trap = ap to_trap at_hand
 
-  refused : (i : Instr) (code : ℤ) (v x : State) → to_trap v.tasks ≡ to_trap ts → has_trap ts ≡ true → (c.refused ≡ true) × (code ≡ negsuc 3) → cond c.refused (left no_memory v) x ≡ u → IsLeftOn fr i s.items v.items → Begins p code fr i s u
-  refused i code v x same trap h e on = subst (λ k. Begins p k fr i s u) (sym h.1) (begins_at i (negsuc 3) v same trap (taken c.refused (left no_memory v) x h.0 e) on)
+  refused : (i : Instr) (code : ℤ) (v x : State) → to_trap v.tasks ≡ to_trap ts → has_trap ts ≡ true → (c.refused ≡ true) × (code ≡ negsuc 3) → cond c.refused (left no_memory v) x ≡ u → HasPushed fr (length ts) i s (left no_memory v) → Begins p code fr (length ts) i s u
+  refused i code v x same trap h e on = subst (λ k. Begins p k fr (length ts) i s u) (sym h.1) (begins_at i (negsuc 3) v same trap (taken c.refused (left no_memory v) x h.0 e) on)
 
-  pub begins_by : (i : Instr) (code : ℤ) → LeavesWith c fr i code → AllTrue (needs p c fr ts (counted p s) i) → does p c fr ts (counted p s) i ≡ u → Begins p code fr i s u
-  begins_by (Leave a) code h n e = begins_at (Leave a) code (counted p s) over_trap n.1.0 (subst (λ x. left (word_or_zero x) (counted p s) ≡ u) h e) refl
+  pub begins_by : (i : Instr) (code : ℤ) → LeavesWith c fr i code → AllTrue (needs p c fr ts (counted p s) i) → does p c fr ts (counted p s) i ≡ u → Begins p code fr (length ts) i s u
+  begins_by (Leave a) code h n e = begins_at (Leave a) code (counted p s) over_trap n.1.0 (subst (λ x. left (word_or_zero x) (counted p s) ≡ u) h e) (refl, refl)
   begins_by (LeaveIf a) code h n e =
       let e' = subst (λ x. cond (is_negative p c fr ts (counted p s) (word_or_zero x)) (left (word_or_zero x) (counted p s)) (go_on fr ts (counted p s) s.cells fr) ≡ u) h.0 e in
       let n' = subst (λ x. AllTrue (cond (is_negative p c fr ts (counted p s) (word_or_zero x)) (leave_needs s.cells (Run fr ∷ ts)) [])) h.0 n.1 in
-      begins_at (LeaveIf a) code (counted p s) over_trap (trap_so (int_lt code (pos 0)) s.cells h.1 n') (taken (int_lt code (pos 0)) (left code (counted p s)) _ h.1 e') refl
-  begins_by (NewOrLeave a x) code h n e = refused (NewOrLeave a x) code (counted p s) _ over_trap (trap_so c.refused s.cells h.0 n.1) h e refl
-  begins_by (Push a) code h n e = refused (Push a) code (pushed p c fr ts (counted p s) a) _ refl n.1.1.1.0 h e refl
+      begins_at (LeaveIf a) code (counted p s) over_trap (trap_so (int_lt code (pos 0)) s.cells h.1 n') (taken (int_lt code (pos 0)) (left code (counted p s)) _ h.1 e') (refl, refl)
+  begins_by (NewOrLeave a x) code h n e = refused (NewOrLeave a x) code (counted p s) _ over_trap (trap_so c.refused s.cells h.0 n.1) h e (refl, refl)
+  begins_by (Push a) code h n e =
+      let o = is_there (held s.cells (Register (length ts) a)) n.1.0 in
+      let goes = has_moved s.cells (Register (length ts) a) (Entry (length s.items)) o.0 o.1 (none_pushed_yet p t s w) refl in
+      refused (Push a) code (pushed p c fr ts (counted p s) a) _ refl n.1.1.1.0 h e (o.0, goes, refl)
   begins_by (PushOperation a m) code h n e =
-      let w = is_there (word fr a) n.0 in
-      refused (PushOperation a m) code (operation_pushed p c fr ts (counted p s) a m) _ refl n.1.0 h e (w.0, w.1, ap (λ x. An_operation m (word_or_zero x) ∷ s.items) w.1)
+      let x = is_there (word fr a) n.0 in
+      refused (PushOperation a m) code (operation_pushed p c fr ts (counted p s) a m) _ refl n.1.0 h e (x.0, x.1, ap (λ y. An_operation m (word_or_zero y) ∷ s.items) x.1, refl)
   begins_by _ code h n e = absurd h
 
 pub begins :
     (p : Image) (t : Typing) → IsWired p → IsTyped p t → (c : Choice) (s u : State) → WellTyped p t s → named s.cells c.name ≡ None →
-    (fr : Frame) (ts : List Task) (i : Instr) (code : ℤ) → s.tasks ≡ Run fr ∷ ts → instr_at p fr.method fr.place ≡ Some i → LeavesWith c fr i code → step p c s ≡ Goes u → Begins p code fr i s u
+    (fr : Frame) (ts : List Task) (i : Instr) (code : ℤ) → s.tasks ≡ Run fr ∷ ts → instr_at p fr.method fr.place ≡ Some i → LeavesWith c fr i code → step p c s ≡ Goes u → Begins p code fr (length ts) i s u
 begins p t wired typed c s u w unused fr ts i code at there h e =
     let v = counted p s in
     let e' : step_instr p c fr ts v (Some i) ≡ Goes u = subst (λ x. step_instr p c fr ts v x ≡ Goes u) there (subst (λ l. step_task p c v l ≡ Goes u) at e) in
-    begins_by p t c fr ts s u at (subst (λ o. Keeps p t o) e (step_keeps p t wired typed c s w unused)) i code h
+    begins_by p t c fr ts s u at w (subst (λ o. Keeps p t o) e (step_keeps p t wired typed c s w unused)) i code h
     (guarded_met (needs p c fr ts v i) (does p c fr ts v i) u e')
     (guarded_goes (needs p c fr ts v i) (does p c fr ts v i) u e')
 
@@ -176,22 +203,6 @@ none_on_its_way p t s w ts at =
 destroyed_over : (d : Option ℕ) (o : Object) (height : ℕ) (under : List Task) → IsDestroyed d o under (begun_by d o height under)
 destroyed_over None o height under = refl
 destroyed_over (Some m) o height under = (frame_of m (Inside o (Going (length under))) height, refl, refl, refl, refl)
-
--- a cell that moves to a place that owned nothing
-has_moved : (cs : List Cell) (q g : Place) (o : Object) → held cs q ≡ Some o → held cs g ≡ None → same_place g q ≡ false → HasMoved o q g cs (moved q g cs)
-has_moved cs q g o there free apart = record {
-  there = there;
-  here = held_moved cs q g g free ∙ ap (λ b. cond b (held cs q) (cond (same_place q g) None (held cs g))) (same_place_refl g) ∙ there;
-  gone = held_moved cs q g q free ∙ ap (λ b. cond b (held cs q) (cond (same_place q q) None (held cs q))) apart ∙ ap (λ b. cond b None (held cs q)) (same_place_refl q);
-  others = λ r n m. held_moved cs q g r free ∙ ap (λ b. cond b (held cs q) (cond (same_place q r) None (held cs r))) (differs g r m) ∙ ap (λ b. cond b None (held cs r)) (differs q r n);
-}
-  where
-    differs : (x r : Place) → r ≢ x → same_place x r ≡ false
-    differs x r n = go (same_place x r) refl
-      where
-        go : (b : Bool) → same_place x r ≡ b → b ≡ false
-        go true e = absurd (n (sym (same_place-true x r e)))
-        go false e = refl
 
 module _ (p : Image) (t : Typing) (wired : IsWired p) (s u : State) (w : WellTyped p t s) (code : ℤ) (below : List Task) (at_hand : s.tasks ≡ Unwind code ∷ below) where
   -- what is made of the item on top, with these below it

@@ -54,11 +54,18 @@ LeavesWith c fr (Push a) code = (c.refused ≡ true) × (code ≡ negsuc 3)
 LeavesWith c fr (PushOperation a m) code = (c.refused ≡ true) × (code ≡ negsuc 3)
 LeavesWith c fr _ code = ⊥
 
--- what was to be pushed is pushed all the same
-abbrev pub IsLeftOn : Frame → Instr → List Item → List Item → Type 0
-IsLeftOn fr (Push a) before after = after ≡ An_object ∷ before
-IsLeftOn fr (PushOperation a m) before after = (w : ℤ) × (word fr a ≡ Some w) × (after ≡ An_operation m w ∷ before)
-IsLeftOn fr _ before after = after ≡ before
+-- a cell has moved from one place to the other, and all other places own what they did
+pub record HasMoved (o : Object) (from to : Place) (before after : List Cell) : Type 0 where
+  pub there : held before from ≡ Some o
+  pub here : held after to ≡ Some o
+  pub gone : held after from ≡ None
+  pub others : (r : Place) → r ≢ from → r ≢ to → held after r ≡ held before r
+
+-- what was to be pushed is pushed all the same, from the method over so many tasks
+abbrev pub HasPushed : Frame → ℕ → Instr → State → State → Type 0
+HasPushed fr depth (Push a) s u = (o : Object) × HasMoved o (Register depth a) (Entry (length s.items)) s.cells u.cells × (u.items ≡ An_object ∷ s.items)
+HasPushed fr depth (PushOperation a m) s u = (w : ℤ) × (word fr a ≡ Some w) × (u.items ≡ An_operation m w ∷ s.items) × (u.cells ≡ s.cells)
+HasPushed fr depth _ s u = (u.items ≡ s.items) × (u.cells ≡ s.cells)
 
 abbrev pub AreMethods : List Task → Type 0
 AreMethods [] = Unit {0}
@@ -69,7 +76,7 @@ AreMethods (Unwind code ∷ ts) = ⊥
 AreMethods (Dispatched d ∷ ts) = ⊥
 
 -- all methods over the innermost trap are over, and the leave with that code is at hand over it
-pub record Begins (p : Image) (code : ℤ) (fr : Frame) (i : Instr) (s u : State) : Type 0 where
+pub record Begins (p : Image) (code : ℤ) (fr : Frame) (depth : ℕ) (i : Instr) (s u : State) : Type 0 where
   pub methods : List Task
   pub below : List Task
   pub tasks : s.tasks ≡ methods ++ (Trapped ∷ below)
@@ -78,7 +85,7 @@ pub record Begins (p : Image) (code : ℤ) (fr : Frame) (i : Instr) (s u : State
   pub items : List Item
   pub leaving : IsLeaving p code (Trapped ∷ below) entries items u
   pub top : u.tasks ≡ Unwind code ∷ Trapped ∷ below
-  pub left_on : IsLeftOn fr i s.items u.items
+  pub pushed : HasPushed fr depth i s u
 
 -- ---- what it deals with
 
@@ -86,13 +93,6 @@ pub record Begins (p : Image) (code : ℤ) (fr : Frame) (i : Instr) (s u : State
 abbrev pub IsDestroyed : Option ℕ → Object → List Task → List Task → Type 0
 IsDestroyed None o under ts = ts ≡ Destroy ∷ under
 IsDestroyed (Some m) o under ts = (fr : Frame) × (ts ≡ Run fr ∷ Destroy ∷ under) × (fr.method ≡ m) × (fr.place ≡ 0) × (fr.home ≡ Inside o (Going (length under)))
-
--- a cell has moved from one place to the other, and all other places own what they did
-pub record HasMoved (o : Object) (from to : Place) (before after : List Cell) : Type 0 where
-  pub there : held before from ≡ Some o
-  pub here : held after to ≡ Some o
-  pub gone : held after from ≡ None
-  pub others : (r : Place) → r ≢ from → r ≢ to → held after r ≡ held before r
 
 -- what is to be done for the item over so many others is at hand over these tasks: its object's cell is to go, or its method runs on its word
 abbrev pub IsBegun : Image → List Task → Item → ℕ → State → State → Type 0
@@ -146,7 +146,7 @@ pub record Arrives (p : Image) (code : ℤ) (below : List Task) (items : List It
 pub record LeavesMove : Type 0 where
   pub begins :
       (p : Image) (t : Typing) → IsWired p → IsTyped p t → (c : Choice) (s u : State) → WellTyped p t s → named s.cells c.name ≡ None →
-      (fr : Frame) (ts : List Task) (i : Instr) (code : ℤ) → s.tasks ≡ Run fr ∷ ts → instr_at p fr.method fr.place ≡ Some i → LeavesWith c fr i code → step p c s ≡ Goes u → Begins p code fr i s u
+      (fr : Frame) (ts : List Task) (i : Instr) (code : ℤ) → s.tasks ≡ Run fr ∷ ts → instr_at p fr.method fr.place ≡ Some i → LeavesWith c fr i code → step p c s ≡ Goes u → Begins p code fr (length ts) i s u
   -- what is over the leave is done first, and changes nothing of the cleanup stack
   pub works :
       (p : Image) (t : Typing) → IsWired p → IsTyped p t → (c : Choice) (s u : State) → WellTyped p t s →
