@@ -1,7 +1,6 @@
 -- What is known of the bytes that were sent is what the status answers.
-use Rattle.std.proofs.Common.{◌≡◌, ◌⊎◌, List, ℕ, true, false, refl, sym, subst, inl, inr}
+use Rattle.std.proofs.Common.{◌≡◌, List, ℕ, true, refl, sym, subst, inl, inr}
 use Rattle.aom_main.specs.declared.status.ExitStatus.{ExitStatus}
-use Rattle.aom_main.specs.declared.status.ExitStatus.TheVariants.{Fault as Faulty}
 use Rattle.aom_main.specs.declared.faults.Fault.{Fault}
 use Rattle.aom_main.specs.declared.faults.Fault.TheVariants as faults
 use Rattle.aom_main.specs.Headline.{Sent, Sends, Says, IsSilent, Told, Accepts, CheckAnswers, accepted_text}

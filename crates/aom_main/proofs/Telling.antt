@@ -23,7 +23,7 @@ use Rattle.aom_main.specs.Headline.{Sent, IsSilent, Told, Shows, Accepts, Ends, 
 use Rattle.aom_main.specs.Headline.RunBreaks.{output_fails, wants_memory}
 
 -- a run of a linked image that has a typing
-abbrev pub runs_of : (bytes text : List ℕ) (p : Image) (script : Script) → IsLinked p → IsAdmitted p → (t : Typing) × IsTyped p t → DepthsWithin p → HeightsWithin p → LinkedIsWired → TypedIsSound
+abbrev runs_of : (bytes text : List ℕ) (p : Image) (script : Script) → IsLinked p → IsAdmitted p → (t : Typing) × IsTyped p t → DepthsWithin p → HeightsWithin p → LinkedIsWired → TypedIsSound
     → IsSpelled bytes p → denoted text ≡ Ok script → Runs bytes text
 runs_of bytes text p script linked admitted typed depths heights wired sound spelled denotes =
     let w = wired p spelled.formed linked in
@@ -42,12 +42,19 @@ breaks : (bytes text : List ℕ) (r : Runs bytes text) (out errors : Sent) (stat
 breaks bytes text r out errors status shows (inl told) = subst (RunAnswers bytes text out errors) (sym told.0) (output_fails r shows (inl (refl, told.1)))
 breaks bytes text r out errors status shows (inr told) = subst (RunAnswers bytes text out errors) (sym told.0) (output_fails r shows (inr (refl, told.1)))
 
-pub ran : (bytes text : List ℕ) (r : Runs bytes text) (out errors : Sent) (outcome : Outcome) (status : ExitStatus) → Shows r.image r.script.refused outcome out
+ran : (bytes text : List ℕ) (r : Runs bytes text) (out errors : Sent) (outcome : Outcome) (status : ExitStatus) → Shows r.image r.script.refused outcome out
     → Ends outcome status errors → RunAnswers bytes text out errors status
 ran bytes text r out errors Stopped status shows ends = subst (RunAnswers bytes text out errors) (sym ends.0) (r, shows, ends.1)
 ran bytes text r out errors Waiting status shows ends = subst (RunAnswers bytes text out errors) (sym ends.0) (r, shows, ends.1)
 ran bytes text r out errors (MainLeft code) status shows ends = subst (RunAnswers bytes text out errors) (sym ends.0) (r, code, shows, ends.1)
 ran bytes text r out errors WriteFault status shows ends = breaks bytes text r out errors status shows ends
+
+-- a run of an accepted image under a script ended so
+pub ran_of : (bytes text : List ℕ) (p : Image) (script : Script) → IsLinked p → IsAdmitted p → (t : Typing) × IsTyped p t → DepthsWithin p → HeightsWithin p → LinkedIsWired → TypedIsSound
+    → IsSpelled bytes p → denoted text ≡ Ok script → (out errors : Sent) (outcome : Outcome) (status : ExitStatus) → Shows p script.refused outcome out → Ends outcome status errors
+    → RunAnswers bytes text out errors status
+ran_of bytes text p script linked admitted typed depths heights wired sound spelled denotes out errors outcome status shows ends =
+    ran bytes text (runs_of bytes text p script linked admitted typed depths heights wired sound spelled denotes) out errors outcome status shows ends
 
 -- ---- a text that is no script
 
@@ -66,6 +73,10 @@ refused bytes text fault out errors status accepts denotes silent (inr told) = s
 wanting : (bytes text : List ℕ) (out errors : Sent) (status : ExitStatus) → IsSilent out → Told faults.Memory status errors → RunAnswers bytes text out errors status
 wanting bytes text out errors status silent (inl told) = subst (RunAnswers bytes text out errors) (sym told.0) (wants_memory silent told.1)
 wanting bytes text out errors status silent (inr told) = subst (RunAnswers bytes text out errors) (sym told.0) (wants_memory silent told.1)
+
+-- no memory was found for a run, and that is told
+pub unbooted : (bytes text : List ℕ) (fault : Fault) (out errors : Sent) (status : ExitStatus) → fault ≡ faults.Memory → IsSilent out → Told fault status errors → RunAnswers bytes text out errors status
+unbooted bytes text fault out errors status is silent told = wanting bytes text out errors status silent (subst (λ f. Told f status errors) is told)
 
 of_kind : (bytes text : List ℕ) (fault : ScriptFault) (out errors : Sent) (status : ExitStatus) (kind : ScriptFaultKind) → fault.kind ≡ kind → Accepts bytes → Refuses text fault → IsSilent out
     → Told (of_script_kind fault kind) status errors → RunAnswers bytes text out errors status

@@ -85,7 +85,6 @@ fn end<E: Sink>(alloc: Global, outcome: Outcome, errors: &mut E) -> ExitStatus
 }
 
 /// Tells whether an image is accepted.
-#[tactic(auto, using(crate::proofs::Sending::checked))]
 pub fn check_bytes<W: Sink, E: Sink>(
     alloc: Global,
     image: &[u8],

@@ -1,9 +1,12 @@
--- A text that is no script is told, and so is want of memory.
+-- A script is run as what its text denotes. A text that is no script is told, and so is want of memory.
 use Rattle.std.proofs.Common.{refl}
 use Rattle.aom_main.specs.Acceptable.{IsAcceptable}
 use Rattle.aom_main.specs.Headline.{Accepts}
 use Rattle.aom_main.proofs.Telling.{unscripted}
 use Rattle.aom_main.proofs.commands.run_text.Goals as goal
+
+pub returns-in-Ok : goal.returns-in-Ok
+returns-in-Ok g c = λ bytes spelled. c.run_script.ensures bytes c.args.text.now spelled c.in-Ok.ensures.ok
 
 pub returns-in-Err : goal.returns-in-Err
 returns-in-Err g c =

@@ -1,0 +1,9 @@
+-- The image that is accepted is the one that the bytes spell.
+use Rattle.aom_main.specs.Headline.{Accepts}
+use Rattle.aom_main.proofs.Sending.{checked}
+use Rattle.aom_main.proofs.commands.check_bytes.Goals as goal
+
+pub returns-in-Ok : goal.returns-in-Ok
+returns-in-Ok g c =
+    let accepts : Accepts c.args.image.now = record { image = _; spelled = c.in-Ok.ensures.ok.0; acceptable = c.in-Ok.ensures.ok.1 } in
+    checked c.args.image.now _ _ c.send.result accepts c.send.ensures
