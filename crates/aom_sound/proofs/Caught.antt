@@ -133,7 +133,7 @@ is_there None e = cc
 is_there (Some y) e = (y, refl)
 
 module _ (p : Image) (t : Typing) (c : Choice) (fr : Frame) (ts : List Task) (s u : State) (at_hand : s.tasks ≡ Run fr ∷ ts) (w : WellTyped p t s) (keeps : WellTyped p t u) where
-  -- the state that left had these items, and the tasks of the method over those of the state
+  -- from a state with the same trap innermost
   begins_at : (i : Instr) (code : ℤ) (v : State) → to_trap v.tasks ≡ to_trap ts → has_trap ts ≡ true → left code v ≡ u → HasPushed fr (length ts) i s (left code v) → Begins p code fr (length ts) i s u
   begins_at i code v same trap e on =
       let r = trapping ts trap in
