@@ -1,16 +1,42 @@
-use Rattle.std.proofs.Common.{sym, ◌∙◌}
-use Rattle.aom_exec.proofs.Progressing.{rested}
-use Rattle.aom_exec.proofs.Many.{stepped_on}
+use Rattle.std.proofs.Common.{◌≤◌, length, refl, ap, subst, arith}
+use Rattle.aom_exec.specs.Steps.{SteppedOn, begins}
+use Rattle.aom_exec.proofs.Many.{went_on, same_turn, then_steps, stands_on}
 use Rattle.aom_exec.proofs.parts.Parts.step_on.Goals as goal
 
-pub run_on-requires-clause-running : goal.run_on-requires-clause-running
-run_on-requires-clause-running c = sym c.progress.ensures ∙ c.in-Running.is
+pub loop-progress-init : goal.loop-progress-init
+loop-progress-init c = record { went = λ s st. (s, begins, st); stands = c.requires.stands; same = refl; lower = omega arith }
+
+pub loop-progress-preserved : goal.loop-progress-preserved
+loop-progress-preserved c =
+    let i = c.loop-progress.invariant in
+    let p = c.args.linked.now in
+    let stepped = subst (λ t. SteppedOn (record { image = p; parts = c.loop-progress.self }) c.step-progress.result t c.step-progress.new.turn (record { image = p; parts = c.step-progress.new.self })) i.same c.step-progress.ensures.steps in
+    let before = ap length c.lines-before.ensures in
+    let after = ap length c.lines.ensures in
+    let less : length c.step-progress.new.turn.lines ≤ length c.args.turn.now.lines = omega (arith, before, after, c.if-lines-before.false) in
+    let falls = c.step-progress.ensures.falls c.in-Running.is in
+    let lower = i.lower in
+    record {
+      went = went_on p c.args.self.now c.loop-progress.self c.step-progress.new.self c.args.turn.now c.step-progress.new.turn c.step-progress.result i.went stepped c.in-Running.is less;
+      stands = stands_on p c.loop-progress.self c.step-progress.new.self c.args.turn.now c.step-progress.new.turn c.step-progress.result i.stands stepped;
+      same = same_turn p c.loop-progress.self c.step-progress.new.self c.args.turn.now c.step-progress.new.turn c.step-progress.result i.stands stepped less;
+      lower = omega (arith, falls, lower);
+    }
+
+pub returns-then-lines-before-clause-steps : goal.returns-then-lines-before-clause-steps
+returns-then-lines-before-clause-steps c =
+    let i = c.loop-progress.invariant in
+    let p = c.args.linked.now in
+    let stepped = subst (λ t. SteppedOn (record { image = p; parts = c.loop-progress.self }) c.step-progress.result t c.step-progress.new.turn (record { image = p; parts = c.step-progress.new.self })) i.same c.step-progress.ensures.steps in
+    then_steps p c.args.self.now c.loop-progress.self c.step-progress.new.self c.args.turn.now c.step-progress.new.turn c.step-progress.result i.went stepped
 
 pub returns-in_default : goal.returns-in_default
 returns-in_default c =
-    let rests = rested (record { image = c.args.linked.now; parts = c.args.self.now }) c.args.turn.now c.progress.result c.progress.ensures c.in_default.not-Running in
+    let i = c.loop-progress.invariant in
+    let p = c.args.linked.now in
+    let stepped = subst (λ t. SteppedOn (record { image = p; parts = c.loop-progress.self }) c.step-progress.result t c.step-progress.new.turn (record { image = p; parts = c.step-progress.new.self })) i.same c.step-progress.ensures.steps in
     record {
-      steps = stepped_on c.args.linked.now c.args.self.now c.args.self.now c.args.turn.now c.args.turn.now c.progress.result rests;
-      told = λ e. absurd (c.in_default.not-Running e);
-      falls = λ e. absurd (c.in_default.not-Running e);
+      steps = then_steps p c.args.self.now c.loop-progress.self c.step-progress.new.self c.args.turn.now c.step-progress.new.turn c.step-progress.result i.went stepped;
+      told = λ is. absurd (c.in_default.not-Running is);
+      falls = λ is. absurd (c.in_default.not-Running is);
     }
