@@ -1,0 +1,113 @@
+"""Which edits of a crate go into one check, and what that check shows of each."""
+
+import re
+from dataclasses import dataclass
+
+import source
+from edit_files import apply_changes, read_text
+
+CALLS = re.compile(r";? ?it calls .*, which (is|are) not proved")
+FUNCTION = re.compile(r"fn (\S+): (.*)")
+OTHER = re.compile(r"(?:impl|struct|enum|trait|law) (\S+): not proved(.*)")
+ERROR = re.compile(r"(?:\./)?(proofs/\S+)/[^/ ]+:\d+:\d+: error")
+
+
+@dataclass(frozen=True)
+class Turned:
+    """A function that an edit turns: the module that it stands in, its owner's words, and its name."""
+
+    module: str
+    owner: str
+    name: str
+
+    def is_told_by(self, path):
+        """Whether a name in a check's answer is that of this function, or of a closure in it."""
+        head, _, rest = path.partition(f"{self.module}::")
+        if head or not rest:
+            return False
+        words = rest.split("::")
+        if not self.owner:
+            return words[0] == self.name and len(words) == 1 or words[:2] == ["fn", self.name]
+        return words[0] == self.owner and (words[1:] == [self.name] or words[1:3] == ["fn", self.name])
+
+
+def module_of(crate, path):
+    words = re.sub(r"\.rt$", "", path).split("/")[1:]
+    return "::".join([crate, *[it for it in words if it not in ("lib", "main", "mod")]])
+
+
+def turned_by(crate, folder, edit):
+    """The functions in whose bodies an edit's changes lie; none where one lies elsewhere, or two functions share their words."""
+    found = set()
+    for change in edit.changes or []:
+        if not change.path.startswith("src/"):
+            return frozenset()
+        functions = source.functions_of(read_text(f"{folder}/{change.path}"))
+        around = [it for it in functions if it.holds(change.start, change.end)]
+        if len(around) != 1 or sum((it.owner, it.name) == (around[0].owner, around[0].name) for it in functions) > 1:
+            return frozenset()
+        found.add(Turned(module_of(crate, change.path), around[0].owner, around[0].name))
+    return frozenset(found)
+
+
+def plan(crate, folder, edits):
+    """The edits in batches that turn each function once at most, and those that want a check of their own."""
+    batches, alone = [], []
+    for edit in edits:
+        turned = turned_by(crate, folder, edit)
+        if not turned:
+            alone.append(edit)
+            continue
+        free = next((it for it in batches if not any(turned & other for other in it.values())), None)
+        if free is None:
+            batches.append(free := {})
+        free[edit.name] = turned
+    by_name = {it.name: it for it in edits}
+    return [[(by_name[name], turned) for name, turned in it.items()] for it in batches], alone
+
+
+def texts_of(folder, edits):
+    """The texts of the files that several edits change, by their places in the files as they stand."""
+    changes = {}
+    for edit in edits:
+        for it in edit.changes:
+            changes.setdefault(it.path, []).append(it)
+    return {path: apply_changes(read_text(f"{folder}/{path}"), its) for path, its in changes.items()}
+
+
+def own_failures(crate, lines):
+    """The functions that a check did not prove for a goal of their own, apart from those that wait for another."""
+    answers = {it[1] for it in map(ERROR.match, lines) if it}
+    found = []
+    for line in lines:
+        told, other = FUNCTION.match(line), OTHER.match(line)
+        if told and told[2] != "proved":
+            rest = CALLS.sub("", told[2])
+            folder = "/".join(["proofs", *told[1].split("::")[1:]])
+            if "did not prove" in rest or folder in answers:
+                found.append(told[1])
+        elif other and "waits for" not in other[2] and not CALLS.search(other[2]):
+            found.append(other[1])
+    return found
+
+
+def shown(crate, batch, status, lines):
+    """The edits of a batch that its check shows refused: a function that each turns has a failure of its own, and no function that is not turned has one."""
+    if status != 1 or not any(it.startswith("logic=not-proved") for it in lines):
+        return set()
+    failed = own_failures(crate, lines)
+    everything = [it for _, turned in batch for it in turned]
+    if any(not any(it.is_told_by(path) for it in everything) for path in failed):
+        return set()
+    return {edit.name for edit, turned in batch if any(it.is_told_by(path) for it in turned for path in failed)}
+
+
+def unread(lines, changed):
+    """The line that says that an edited text could not be read, so that no contract was tried."""
+    for line in lines:
+        at = re.match(r"(?:\./)?(\S+?):\d+:\d+: error: (?:(`[^`]*`): )?(.*)", line)
+        if at and (at[1] in changed or at[1].startswith(("src/", "specs/"))):
+            said = re.sub(r"`[^`]*`", "", at[3])
+            if not at[2] or re.search(r"is not in scope|has no field|is no name|operand is missing|expected the end|cannot continue", said):
+                return line
+    return ""

@@ -1,0 +1,98 @@
+"""A crate's must-fail edits as files say them: which text stands where, and what is put in its place."""
+
+import os
+import re
+from dataclasses import dataclass, field
+
+GOOD_NAME = re.compile(r"[A-Za-z0-9_-][A-Za-z0-9_.-]*\.edit")
+
+
+@dataclass(frozen=True)
+class Change:
+    """A span of a file's text as it stands, and the text in its place."""
+
+    path: str
+    start: int
+    end: int
+    new: str
+
+
+@dataclass
+class Edit:
+    name: str
+    # each file that it changes, with its text after all changes
+    texts: dict = field(default_factory=dict)
+    # the changes by their places in the text as it stands; None where a later pair changes what an earlier one made
+    changes: list = None
+    # why it cannot be applied
+    fault: str = ""
+
+
+def edit_files(crate):
+    """The edits of a crate by name, and what lies in must-fail/ and is none."""
+    folder = f"{crate}/must-fail"
+    names = sorted(os.listdir(folder)) if os.path.isdir(folder) else []
+    good = [it for it in names if os.path.isfile(f"{folder}/{it}") and GOOD_NAME.fullmatch(it)]
+    return good, [it for it in names if it not in good and not it.endswith(".md")]
+
+
+def pairs_of(lines):
+    """The pairs of an edit: file, old text, new text."""
+    path, old = "", None
+    for line in lines:
+        if line.startswith("file: "):
+            path = line[len("file: ") :].strip()
+        elif line.startswith("old: "):
+            old = line[len("old: ") :]
+        elif line.startswith("new:") and old is not None:
+            yield path, old, line[len("new:") :].removeprefix(" ")
+            old = None
+
+
+def read_text(file):
+    with open(file, encoding="utf-8") as it:
+        return it.read()
+
+
+def read_edit(crate, name):
+    edit = Edit(name)
+    try:
+        lines = read_text(f"{crate}/must-fail/{name}").split("\n")
+    except (OSError, UnicodeDecodeError):
+        edit.fault = "it cannot be read"
+        return edit
+    firsts, changes = {}, []
+    for path, old, new in pairs_of(lines):
+        if os.path.normpath(path) != path or not path.startswith(("src/", "specs/", "proofs/")):
+            edit.fault = "a 'file:' line names no file below src/, specs/ or proofs/"
+            return edit
+        try:
+            text = edit.texts.get(path) or firsts.setdefault(path, read_text(f"{crate}/{path}"))
+        except (OSError, UnicodeDecodeError):
+            edit.fault = f"there is no file {path}"
+            return edit
+        if text.count(old) != 1:
+            edit.fault = f"an 'old:' text is in {path} {text.count(old)} times, and not once"
+            return edit
+        edit.texts[path] = text.replace(old, new)
+        if firsts[path].count(old) == 1:
+            at = firsts[path].index(old)
+            changes.append(Change(path, at, at + len(old), new))
+        else:
+            changes.append(None)
+    if not changes:
+        edit.fault = "it has no 'old:' and 'new:' pair"
+    edit.changes = None if None in changes or overlap(changes) else changes
+    return edit
+
+
+def overlap(changes):
+    spans = sorted((it.path, it.start, it.end) for it in changes)
+    return any(one[0] == other[0] and one[2] > other[1] for one, other in zip(spans, spans[1:]))
+
+
+def apply_changes(text, changes):
+    """The text with changes at places that do not overlap."""
+    for it in sorted(changes, key=lambda it: -it.start):
+        text = text[: it.start] + it.new + text[it.end :]
+    return text

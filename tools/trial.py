@@ -1,0 +1,160 @@
+"""Tries every must-fail edit: each has to be refused by the prover."""
+
+import os
+import shutil
+import tempfile
+import threading
+import time
+
+from batches import plan, shown, texts_of, unread
+from edit_files import edit_files, read_edit
+from house import make_room, run_rt, tells_errors
+from lanes import Lanes
+
+# a crate that others wait for comes before any edit
+FIRST = 10**9
+
+
+class Trial:
+    """A run over the edits of some crates of a clean copy. Rooms are made and dropped in the given folder."""
+
+    def __init__(self, house, names, lanes, place, say):
+        self.house, self.place, self.say = house, place, say
+        self.lanes = Lanes(lanes)
+        self.passed, self.failed = [], []
+        self.seconds = {"kept": 0.0, "batches": 0.0, "alone": 0.0}
+        self.checks = {"kept": 0, "batches": 0, "alone": 0}
+        self.lock = threading.Lock()
+        self.names = [it for it in names if any(edit_files(house.folder(it)))]
+        self.wanted = {one for it in self.names for one in [*house.stack_of(it), it]}
+        self.left = {it: {one for one in house.direct[it]} for it in self.wanted}
+        self.weight = {it: house.lines(it) for it in self.wanted}
+        self.behind = {}
+        for it in self.wanted:
+            self.chain(it)
+
+    def chain(self, name):
+        """The work of the longest chain of crates that begins with this one."""
+        if name not in self.behind:
+            above = [it for it in self.wanted if name in self.house.direct[it]]
+            self.behind[name] = self.weight[name] + max(map(self.chain, above), default=0)
+        return self.behind[name]
+
+    def run(self):
+        for name in sorted(self.wanted):
+            if not self.left[name]:
+                self.add_kept(name)
+        self.lanes.run()
+        return not self.failed
+
+    def tell(self, name, edit, well, text):
+        with self.lock:
+            (self.passed if well else self.failed).append(f"{name}/{edit}")
+            self.say(f"must-fail {name}/{edit}: {text}")
+
+    def checked(self, kind, folder, *words):
+        """A check in a room, with its time."""
+        start = time.monotonic()
+        answer = run_rt(folder, *words)
+        with self.lock:
+            self.seconds[kind] += time.monotonic() - start
+            self.checks[kind] += 1
+        return answer
+
+    # the crates as they stand
+
+    def add_kept(self, name):
+        self.lanes.add(FIRST + self.behind[name], lambda: self.keep(name))
+
+    def keep(self, name):
+        """Proves a crate, so that its edits and the crates above have what it keeps. In a clean copy that is from nothing."""
+        verb = "check" if os.path.isfile(f"{self.house.folder(name)}/src/main.rt") else "lib"
+        with tempfile.TemporaryDirectory(dir=self.place) as room:
+            make_room(self.house, name, f"{room}/r", kept=True)
+            status, lines = self.checked("kept", f"{room}/r/crates/{name}", verb, "--jobs", "1")
+            if status == 0:
+                shutil.rmtree(f"{self.house.folder(name)}/out", ignore_errors=True)
+                shutil.move(f"{room}/r/crates/{name}/out", f"{self.house.folder(name)}/out")
+        if status:
+            self.give_up(name, next((it for it in lines if tells_errors(it)), lines[-1]))
+            return
+        self.say(f"{name}: kept for its edits")
+        if name in self.names:
+            self.add_edits(name)
+        with self.lock:
+            ready = [it for it in self.wanted if self.left[it] == {name}]
+            for it in self.wanted:
+                self.left[it].discard(name)
+        for it in ready:
+            self.add_kept(it)
+
+    def give_up(self, name, why):
+        """No edit of a crate that is not proved can be tried, nor of one above it."""
+        for it in self.wanted:
+            if it == name or name in self.house.stack_of(it):
+                for edit in edit_files(self.house.folder(it))[0]:
+                    self.tell(it, edit, False, f"NOT TRIED: {name} is not proved: {why[:200]}")
+
+    # the edits
+
+    def add_edits(self, name):
+        folder = self.house.folder(name)
+        good, bad = edit_files(folder)
+        edits = [read_edit(folder, it) for it in good]
+        for it in bad:
+            self.tell(name, it, False, "BAD EDIT: a name is of letters, digits, _, - and . and ends in .edit (or .md, if it is only to be read)")
+        for it in edits:
+            if it.fault:
+                self.tell(name, it.name, False, f"BAD EDIT: {it.fault}")
+        together, alone = plan(name, folder, [it for it in edits if not it.fault])
+        for batch in together:
+            self.add_batch(name, batch)
+        for edit in alone:
+            self.add_alone(name, edit)
+
+    def add_batch(self, name, batch):
+        if len(batch) == 1:
+            self.add_alone(name, batch[0][0])
+        else:
+            self.lanes.add(self.weight[name] + len(batch), lambda: self.try_batch(name, batch))
+
+    def add_alone(self, name, edit):
+        self.lanes.add(self.weight[name], lambda: self.try_alone(name, edit))
+
+    def check_with(self, kind, name, texts):
+        """Checks a copy of a crate with these texts in place of its own, over what the crate as it stands has kept."""
+        with tempfile.TemporaryDirectory(dir=self.place) as room:
+            make_room(self.house, name, f"{room}/r", kept=True)
+            for path, text in texts.items():
+                with open(f"{room}/r/crates/{name}/{path}", "w", encoding="utf-8") as it:
+                    it.write(text)
+            return self.checked(kind, f"{room}/r/crates/{name}", "check", "--jobs", "1")
+
+    def try_batch(self, name, batch):
+        texts = texts_of(self.house.folder(name), [it for it, _ in batch])
+        status, lines = self.check_with("batches", name, texts)
+        refused = shown(name, batch, status, lines)
+        for edit in sorted(refused):
+            self.tell(name, edit, True, "refused, as it must be (shown in a batch, by a goal of its own)")
+        left = [it for it in batch if it[0].name not in refused]
+        if refused or len(left) < 4:
+            for edit, _ in left:
+                self.add_alone(name, edit)
+            return
+        # one edit can keep a check from judging the others
+        half = len(left) // 2
+        self.add_batch(name, left[:half])
+        self.add_batch(name, left[half:])
+
+    def try_alone(self, name, edit):
+        status, lines = self.check_with("alone", name, edit.texts)
+        told = next((it for it in lines if tells_errors(it)), "")
+        bad = unread(lines, edit.texts)
+        if bad:
+            self.tell(name, edit.name, False, f"BAD EDIT: the prover cannot read the edited text, so no contract was tried: {bad[:200]}")
+        elif status == 1 and any(it.startswith("logic=not-proved") for it in lines):
+            self.tell(name, edit.name, True, f"refused, as it must be: {told[:160]}")
+        elif status == 0:
+            self.tell(name, edit.name, False, "NOT REFUSED: the crate is still proved with this edit")
+        else:
+            self.tell(name, edit.name, False, f"BAD EDIT: it did not reach the prover: {' / '.join(lines[-4:])[:400]}")
