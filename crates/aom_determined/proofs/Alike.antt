@@ -1,11 +1,12 @@
 -- A move of each of two states that are the same but for names: the new cells' names are changed with one another.
-use Rattle.std.proofs.Common.{None, ap, refl, subst, sym, ℕ, ◌∙◌, ◌≡◌, List}
+use Rattle.std.proofs.Common.{List, None, ap, length, refl, subst, sym, ℕ, ◌∙◌, ◌≡◌}
 use Rattle.aom_image.specs.Image.{Image}
 use Rattle.aom_shape.specs.Typing.{Typing}
 use Rattle.aom_sound.specs.Moves.{IsOpen, is_refused, step, written}
 use Rattle.aom_sound.specs.Places.{named}
 use Rattle.aom_sound.specs.State.{Choice, Goes, IsStuck, Outcome, State}
 use Rattle.aom_sound.specs.WellTyped.{WellTyped}
+use Rattle.aom_determined.proofs.Cells.{cells_counted}
 use Rattle.aom_determined.proofs.Fresh.{renamed_twice, swap_first, swap_one_to_one, swapped, swapped_free}
 use Rattle.aom_determined.proofs.Steps.{free_so, moves_so, refused_so, writes_so}
 use Rattle.aom_determined.specs.Laws.{MovesStayAlike}
@@ -56,3 +57,7 @@ writes_alike p s u alike = sym (writes_so alike.names alike.one_to_one p s) ∙ 
 
 pub moves_stay_alike : MovesStayAlike
 moves_stay_alike p t refused c d s u well_u alike open_c open_d = (move_alike p t refused c d s u well_u alike open_c open_d, writes_alike p s u alike)
+
+-- they have as many cells
+pub alike_counted : (s u : State) → AreAlike s u → length s.cells ≡ length u.cells
+alike_counted s u alike = sym (cells_counted alike.names s.cells) ∙ ap (λ x. length x.cells) (sym alike.same)
