@@ -7,6 +7,7 @@ use Rattle.aom_sound.specs.Laws.{IsSound}
 use Rattle.aom_sound.specs.declared.line.Line.{Line}
 use Rattle.aom_sound.specs.declared.line.Ending.{Ending}
 use Rattle.aom_sound.specs.declared.line.Ending.TheVariants as endings
+use Rattle.aom_determined.specs.Laws.{IsDetermined}
 use Rattle.aom_lines.specs.Text.{ended, transcript}
 use Rattle.aom_exec.specs.declared.progress.Outcome.{Outcome}
 use Rattle.aom_exec.specs.declared.progress.Outcome.TheVariants as outcomes
@@ -57,6 +58,10 @@ pub record Transcribed (p : Image) (refused : List ℕ) (ending : Ending) (sent 
   pub run : Run_of p refused lines last ending
   pub out : sent.now ≡ after sent.before (transcript lines ending (length last.cells))
 
+-- and each run of the image that ends ends so, with the transcript that went out
+abbrev pub IsOnly : Image → List ℕ → Ending → Sent → Type 0
+IsOnly p refused ending sent = (lines : List Line) (last : State) (other : Ending) → Run_of p refused lines last other → (other ≡ ending) × (sent.now ≡ after sent.before (transcript lines other (length last.cells)))
+
 -- the sink has failed, and a beginning of such a transcript went out
 pub record Cut (p : Image) (refused : List ℕ) (sent : Sent) : Type 0 where
   pub failed : sent.failed ≡ true
@@ -82,7 +87,7 @@ pub record Accepts (bytes : List ℕ) : Type 0 where
   pub spelled : IsSpelled bytes image
   pub acceptable : IsAcceptable image
 
--- they are, and the text is a script; no run of that image under that script goes wrong
+-- they are, and the text is a script; no run of that image under that script goes wrong, and none writes anything else than another
 pub record Runs (bytes text : List ℕ) : Type 0 where
   pub image : Image
   pub spelled : IsSpelled bytes image
@@ -90,6 +95,7 @@ pub record Runs (bytes text : List ℕ) : Type 0 where
   pub script : Script
   pub denotes : denoted text ≡ Ok script
   pub sound : IsSound image script.refused
+  pub determined : IsDetermined image script.refused
 
 -- the bytes are no accepted image, and the errors say why
 pub record IsRefused (bytes : List ℕ) (out errors : Sent) : Type 0 where
@@ -115,9 +121,9 @@ pub data RunBreaks (bytes text : List ℕ) (out errors : Sent) : Type 0 where
 
 -- what each status says of a call of `run`
 abbrev pub RunAnswers : List ℕ → List ℕ → Sent → Sent → ExitStatus → Type 0
-RunAnswers bytes text out errors Done = (r : Runs bytes text) × Transcribed r.image r.script.refused endings.Stopped out × IsSilent errors
-RunAnswers bytes text out errors Unfinished = (r : Runs bytes text) × Transcribed r.image r.script.refused endings.Waiting out × IsSilent errors
-RunAnswers bytes text out errors Broken = (r : Runs bytes text) × (code : ℤ) × Transcribed r.image r.script.refused (endings.MainLeft code) out × IsSilent errors
+RunAnswers bytes text out errors Done = (r : Runs bytes text) × Transcribed r.image r.script.refused endings.Stopped out × IsOnly r.image r.script.refused endings.Stopped out × IsSilent errors
+RunAnswers bytes text out errors Unfinished = (r : Runs bytes text) × Transcribed r.image r.script.refused endings.Waiting out × IsOnly r.image r.script.refused endings.Waiting out × IsSilent errors
+RunAnswers bytes text out errors Broken = (r : Runs bytes text) × (code : ℤ) × Transcribed r.image r.script.refused (endings.MainLeft code) out × IsOnly r.image r.script.refused (endings.MainLeft code) out × IsSilent errors
 RunAnswers bytes text out errors ImageRefused = IsRefused bytes out errors
 RunAnswers bytes text out errors CallRefused = IsNoScript bytes text out errors
 RunAnswers bytes text out errors Faulty = RunBreaks bytes text out errors

@@ -66,6 +66,7 @@ fn run_script<W: Sink, E: Sink>(
     accepted.facts();
     aom_sound::linked_is_wired();
     aom_sound::typed_is_sound();
+    aom_determined::text_is_determined();
     match run_accepted(alloc, accepted, script, limit, out) {
         Ok(outcome) => end(alloc, outcome, errors),
         Err(fault) => tell(alloc, &fault, errors),

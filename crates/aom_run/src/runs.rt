@@ -1,6 +1,7 @@
 //! A run, from a fresh machine to its end, with its transcript.
 ghost use Rattle.std.specs.Prelude.{ℕ, true, false, ◌≡◌, ◌+◌, ◌<◌, ◌≤◌, [], length, take, IfNone, IfSome};
 ghost use Rattle.aom_sound.specs.State.{State};
+ghost use Rattle.aom_determined.specs.Laws.{IsDetermined};
 ghost use Rattle.aom_lines.specs.Text.{text_of, ended, end_text};
 ghost use Rattle.aom_run.specs.Runs.{IsFresh, Ran, Filled, Ended, CutShort, after};
 ghost use Rattle.aom_exec.specs.Progress.{outcome_of};
@@ -15,6 +16,7 @@ use aom_sound::{Ending, Line};
 const MANY_LINES: usize = 64;
 
 /// Runs a fresh machine to its end and writes the transcript, one step after another. It stops where the sink fails.
+/// No other run of its image has another transcript.
 ///
 /// The limit is of dispatches after main's, from 1 to 10^9; so far there is none, and no timed line of a script.
 pub fn run<W: Sink>(
@@ -29,7 +31,9 @@ pub fn run<W: Sink>(
     requires limit { (1 ≤ _limit) × (_limit ≤ 1000000000) }
     ensures image { machine.new.image ≡ machine.old.image }
     ensures ran { Ran machine.old turn.old.refused result (W.failed out.new) (W.out out.old) (W.out out.new) machine.new }
+    ensures determined { IsDetermined machine.old.image turn.old.refused }
 {
+    aom_determined::text_is_determined();
     match run_lines(machine, turn, out) {
         None => Outcome::WriteFault,
         Some(ending) => finish(machine, ending, out),

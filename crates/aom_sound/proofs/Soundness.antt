@@ -219,12 +219,16 @@ module _ (p : Image) (t : Typing) (refused : List ℕ) (wired : IsWired p) (type
   goes (Goes u) k = (u, refl)
   goes (IsStuck kind) k = absurd k
 
-  stopped : (s : State) → Stays s → s.rest.ended ≡ Some Stopped → Settled s
-  stopped s h e = go h.goes_on
+  over : (s : State) (ending : Ending) → Stays s → s.rest.ended ≡ Some ending → Settled s
+  over s ending h e = go h.goes_on
     where
       go : GoesOn s → Settled s
-      go (inl on) = let clash : Some Stopped ≡ None = sym e ∙ on in cc
+      go (inl on) = let clash : Some ending ≡ None = sym e ∙ on in cc
       go (inr settled) = settled
+
+  -- where a run is over nothing is at hand
+  pub over_idle : (lines : List Line) (s : State) (ending : Ending) → Reaches p refused (boot_state p) lines s → s.rest.ended ≡ Some ending → s.tasks ≡ []
+  over_idle lines s ending r e = (over s ending (stays lines s r) e).idle
 
   pub sound : IsSound p refused
   sound = record {
@@ -233,7 +237,7 @@ module _ (p : Image) (t : Typing) (refused : List ℕ) (wired : IsWired p) (type
     owned = λ lines s d r e. (ends_owned p t wired s (stays lines s r).well).0 d e;
     stopped_empty = λ lines s r e.
         let h = stays lines s r in
-        let settled = stopped s h e in
+        let settled = over s Stopped h e in
         ends_empty p t wired s h.well settled.idle (settled.rootless e);
   }
 

@@ -1,0 +1,63 @@
+-- A move of each of two states that are the same but for names: the new cells' names are changed with one another.
+use Rattle.std.proofs.Common.{List, None, ap, length, refl, subst, sym, ℕ, ◌∙◌, ◌≡◌}
+use Rattle.aom_image.specs.Image.{Image}
+use Rattle.aom_shape.specs.Typing.{Typing}
+use Rattle.aom_sound.specs.Moves.{IsOpen, is_refused, step, written}
+use Rattle.aom_sound.specs.Places.{named}
+use Rattle.aom_sound.specs.State.{Choice, Goes, IsStuck, Outcome, State}
+use Rattle.aom_sound.specs.WellTyped.{WellTyped}
+use Rattle.aom_determined.proofs.Cells.{cells_counted}
+use Rattle.aom_determined.proofs.Fresh.{renamed_twice, swap_first, swap_one_to_one, swapped, swapped_free}
+use Rattle.aom_determined.proofs.Steps.{free_so, moves_so, refused_so, writes_so}
+use Rattle.aom_determined.specs.Laws.{MovesStayAlike}
+use Rattle.aom_determined.specs.Names.{AlikeOutcomes, AreAlike, IsOneToOne, renamed, renamed_choice, renamed_outcome}
+
+alike_renamed : (names : ℕ → ℕ) → IsOneToOne names → (o : Outcome) → AlikeOutcomes o (renamed_outcome names o)
+alike_renamed names one_to_one (Goes s) = record { names = names; one_to_one = one_to_one; same = refl }
+alike_renamed names one_to_one (IsStuck kind) = refl
+
+module _ (p : Image) (t : Typing) (refused : List ℕ) (c d : Choice) (s u : State) (well : WellTyped p t u) (alike : AreAlike s u) (open_c : IsOpen p refused c s) (open_d : IsOpen p refused d u) where
+  -- the new cell of the first state gets the name that the second state's gets
+  names : ℕ → ℕ
+  names n = swapped (alike.names c.name) d.name (alike.names n)
+
+  one_to_one : IsOneToOne names
+  unfolding names
+  one_to_one n m e = alike.one_to_one n m (swap_one_to_one (alike.names c.name) d.name (alike.names n) (alike.names m) e)
+
+  free : named u.cells (alike.names c.name) ≡ None
+  free = subst (λ x. named x.cells (alike.names c.name) ≡ None) (sym alike.same) (free_so alike.names alike.one_to_one s c.name open_c.name)
+
+  same_state : renamed names s ≡ u
+  unfolding names
+  same_state =
+      renamed_twice (swapped (alike.names c.name) d.name) alike.names s
+      ∙ ap (renamed (swapped (alike.names c.name) d.name)) (sym alike.same)
+      ∙ swapped_free p t u (alike.names c.name) d.name well free open_d.name
+
+  same_refusal : c.refused ≡ d.refused
+  same_refusal =
+      open_c.refusal
+      ∙ sym (refused_so alike.names alike.one_to_one p refused s)
+      ∙ ap (is_refused p refused) (sym alike.same)
+      ∙ sym open_d.refusal
+
+  same_choice : renamed_choice names c ≡ d
+  unfolding names
+  same_choice = rw (swap_first (alike.names c.name) d.name, same_refusal)
+
+  same_step : renamed_outcome names (step p c s) ≡ step p d u
+  same_step = sym (moves_so names one_to_one p c s) ∙ ap (λ x. step p x (renamed names s)) same_choice ∙ ap (step p d) same_state
+
+  pub move_alike : AlikeOutcomes (step p c s) (step p d u)
+  move_alike = subst (AlikeOutcomes (step p c s)) same_step (alike_renamed names one_to_one (step p c s))
+
+pub writes_alike : (p : Image) (s u : State) → AreAlike s u → written p s ≡ written p u
+writes_alike p s u alike = sym (writes_so alike.names alike.one_to_one p s) ∙ ap (written p) (sym alike.same)
+
+pub moves_stay_alike : MovesStayAlike
+moves_stay_alike p t refused c d s u well_u alike open_c open_d = (move_alike p t refused c d s u well_u alike open_c open_d, writes_alike p s u alike)
+
+-- they have as many cells
+pub alike_counted : (s u : State) → AreAlike s u → length s.cells ≡ length u.cells
+alike_counted s u alike = sym (cells_counted alike.names s.cells) ∙ ap (λ x. length x.cells) (sym alike.same)

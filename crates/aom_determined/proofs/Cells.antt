@@ -1,0 +1,95 @@
+-- What is read of cells and done to them, under other names: the same, renamed.
+use Rattle.std.proofs.Common.{Bool, List, None, Option, Some, [], ap, cond, false, length, refl, true, ℕ, ℤ, ◌&&◌, ◌==◌, ◌∙◌, ◌∷◌, ◌≡◌}
+use Rattle.std.proofs.lemmas.Bool.{eq-eqb, eqb-false, eqb-true, ne_eqb}
+use Rattle.std.proofs.lemmas.List.{length-map}
+use Rattle.std.specs.Prelude.{option_map}
+use Rattle.aom_sound.specs.Calls.{is_register_but, none_owns_but}
+use Rattle.aom_sound.specs.Destruction.{is_field_of, owns_nothing}
+use Rattle.aom_sound.specs.Places.{Cell, Elsewhere, Entry, Field, Going, Place, Register, held, moved, named, same_place, set_word_field, without, word_field}
+use Rattle.aom_sound.specs.State.{Task}
+use Rattle.aom_determined.specs.Names.{IsOneToOne, renamed_cell, renamed_cells, renamed_object, renamed_place, renamed_tasks}
+
+-- a renamed answer
+cond_mapped : {A B : Type 0} (f : A → B) (b : Bool) (x : A) (o : Option A) → cond b (Some (f x)) (option_map f o) ≡ option_map f (cond b (Some x) o)
+cond_mapped f true x o = refl
+cond_mapped f false x o = refl
+
+pub cond_applied : {A B : Type 0} (f : A → B) (b : Bool) (x y : A) → cond b (f x) (f y) ≡ f (cond b x y)
+cond_applied f true x y = refl
+cond_applied f false x y = refl
+
+module _ (names : ℕ → ℕ) (one_to_one : IsOneToOne names) where
+  pub same_name : (n m : ℕ) → (names n == names m) ≡ (n == m)
+  same_name n m = go (n == m) refl
+    where
+      go : (b : Bool) → (n == m) ≡ b → (names n == names m) ≡ b
+      go true e = eq-eqb (names n) (names m) (ap names (eqb-true n m e))
+      go false e = ne_eqb (names n) (names m) (λ same. eqb-false n m e (one_to_one n m same))
+
+  pub same_place_kept : (p q : Place) → same_place (renamed_place names p) (renamed_place names q) ≡ same_place p q
+  same_place_kept (Field n f) (Field m g) = ap (λ b. b && (f == g)) (same_name n m)
+  same_place_kept (Register f r) (Field m g) = refl
+  same_place_kept (Entry k) (Field m g) = refl
+  same_place_kept (Going k) (Field m g) = refl
+  same_place_kept (Elsewhere o) (Field m g) = refl
+  same_place_kept _ _ = refl
+
+  pub held_renamed : (cs : List Cell) (q : Place) → held (renamed_cells names cs) (renamed_place names q) ≡ option_map (renamed_object names) (held cs q)
+  held_renamed [] q = refl
+  held_renamed (c ∷ cs) q =
+      ap (λ b. cond b (Some (renamed_object names c.object)) (held (renamed_cells names cs) (renamed_place names q))) (same_place_kept c.owner q)
+      ∙ ap (λ o. cond (same_place c.owner q) (Some (renamed_object names c.object)) o) (held_renamed cs q)
+      ∙ cond_mapped (renamed_object names) (same_place c.owner q) c.object (held cs q)
+
+  pub named_renamed : (cs : List Cell) (n : ℕ) → named (renamed_cells names cs) (names n) ≡ option_map (renamed_object names) (named cs n)
+  named_renamed [] n = refl
+  named_renamed (c ∷ cs) n =
+      ap (λ b. cond b (Some (renamed_object names c.object)) (named (renamed_cells names cs) (names n))) (same_name c.object.name n)
+      ∙ ap (λ o. cond (c.object.name == n) (Some (renamed_object names c.object)) o) (named_renamed cs n)
+      ∙ cond_mapped (renamed_object names) (c.object.name == n) c.object (named cs n)
+
+  pub moved_renamed : (p q : Place) (cs : List Cell) → moved (renamed_place names p) (renamed_place names q) (renamed_cells names cs) ≡ renamed_cells names (moved p q cs)
+  moved_renamed p q [] = refl
+  moved_renamed p q (c ∷ cs) =
+      ap (λ b. record (renamed_cell names c) { owner = cond b (renamed_place names q) (renamed_place names c.owner) } ∷ moved (renamed_place names p) (renamed_place names q) (renamed_cells names cs)) (same_place_kept c.owner p)
+      ∙ ap (λ x. record (renamed_cell names c) { owner = x } ∷ moved (renamed_place names p) (renamed_place names q) (renamed_cells names cs)) (cond_applied (renamed_place names) (same_place c.owner p) q c.owner)
+      ∙ ap (λ r. renamed_cell names (record c { owner = cond (same_place c.owner p) q c.owner }) ∷ r) (moved_renamed p q cs)
+
+  pub without_renamed : (q : Place) (cs : List Cell) → without (renamed_place names q) (renamed_cells names cs) ≡ renamed_cells names (without q cs)
+  without_renamed q [] = refl
+  without_renamed q (c ∷ cs) =
+      ap (λ b. cond b (without (renamed_place names q) (renamed_cells names cs)) (renamed_cell names c ∷ without (renamed_place names q) (renamed_cells names cs))) (same_place_kept c.owner q)
+      ∙ ap (λ r. cond (same_place c.owner q) r (renamed_cell names c ∷ r)) (without_renamed q cs)
+      ∙ cond_applied (renamed_cells names) (same_place c.owner q) (without q cs) (c ∷ without q cs)
+
+  pub word_field_kept : (cs : List Cell) (n w : ℕ) → word_field (renamed_cells names cs) (names n) w ≡ word_field cs n w
+  word_field_kept [] n w = refl
+  word_field_kept (c ∷ cs) n w = rw (same_name c.object.name n, word_field_kept cs n w)
+
+  pub set_word_field_renamed : (n w : ℕ) (v : ℤ) (cs : List Cell) → set_word_field (names n) w v (renamed_cells names cs) ≡ renamed_cells names (set_word_field n w v cs)
+  set_word_field_renamed n w v [] = refl
+  set_word_field_renamed n w v (c ∷ cs) = rw (same_name c.object.name n, set_word_field_renamed n w v cs)
+
+  is_field_kept : (n : ℕ) (q : Place) → is_field_of (names n) (renamed_place names q) ≡ is_field_of n q
+  is_field_kept n (Field m f) = same_name n m
+  is_field_kept n _ = refl
+
+  pub owns_nothing_kept : (cs : List Cell) (n : ℕ) → owns_nothing (renamed_cells names cs) (names n) ≡ owns_nothing cs n
+  owns_nothing_kept [] n = refl
+  owns_nothing_kept (c ∷ cs) n = rw (is_field_kept n c.owner, owns_nothing_kept cs n)
+
+is_register_kept : (names : ℕ → ℕ) (d : ℕ) (spared : Option ℕ) (q : Place) → is_register_but d spared (renamed_place names q) ≡ is_register_but d spared q
+is_register_kept names d None (Field n f) = refl
+is_register_kept names d (Some a) (Field n f) = refl
+is_register_kept names d None _ = refl
+is_register_kept names d _ _ = refl
+
+pub none_owns_kept : (names : ℕ → ℕ) (cs : List Cell) (d : ℕ) (spared : Option ℕ) → none_owns_but (renamed_cells names cs) d spared ≡ none_owns_but cs d spared
+none_owns_kept names [] d spared = refl
+none_owns_kept names (c ∷ cs) d spared = rw (is_register_kept names d spared c.owner, none_owns_kept names cs d spared)
+
+pub tasks_counted : (names : ℕ → ℕ) (ts : List Task) → length (renamed_tasks names ts) ≡ length ts
+tasks_counted names ts = length-map ts _
+
+pub cells_counted : (names : ℕ → ℕ) (cs : List Cell) → length (renamed_cells names cs) ≡ length cs
+cells_counted names cs = length-map cs _

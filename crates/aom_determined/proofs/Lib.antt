@@ -1,0 +1,7 @@
+pub mod Cells
+pub mod Needs
+pub mod Doing
+pub mod Steps
+pub mod Fresh
+pub mod Alike
+pub mod Runs

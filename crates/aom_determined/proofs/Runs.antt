@@ -1,0 +1,172 @@
+-- Two runs, turn by turn: after as many turns they have written the same, and are the same but for names.
+use Rattle.std.proofs.Common.{List, None, Option, Some, [], ap, append-nil, append_assoc, arith, inl, inr, refl, subst, suc, sym, zero, ℕ, ⊎_elim, ◌∙◌, ◌∷◌, ◌≡◌, ◌<◌, ◌≤◌}
+use Rattle.std.proofs.lemmas.Bool.{cases_eq, cases_lt}
+use Rattle.std.specs.Prelude.{◌++◌, ◌⊎◌}
+use Rattle.aom_image.specs.Image.{Image}
+use Rattle.aom_classes.specs.Roles.{main_of}
+use Rattle.aom_shape.specs.Typing.{IsTyped, Typing}
+use Rattle.aom_sound.proofs.Booting.{boot_keeps}
+use Rattle.aom_sound.proofs.Course.{well_on}
+use Rattle.aom_sound.proofs.Soundness.{over_idle}
+use Rattle.aom_sound.specs.Laws.{IsWired}
+use Rattle.aom_sound.specs.Moves.{IsOpen, step, written}
+use Rattle.aom_sound.specs.State.{Choice, Goes, Outcome, State}
+use Rattle.aom_sound.specs.WellTyped.{WellTyped}
+use Rattle.aom_sound.specs.World.{IsBetween, IsBusy, Reaches, Run_of, begins, boot_state, main_tasks, moves, waiting, waits}
+use Rattle.aom_sound.specs.declared.line.Ending.{Ending}
+use Rattle.aom_sound.specs.declared.line.Line.{Line}
+use Rattle.aom_determined.proofs.Alike.{move_alike, writes_alike}
+use Rattle.aom_determined.specs.Laws.{Begins, TextIsDetermined}
+use Rattle.aom_determined.specs.Names.{AlikeOutcomes, AreAlike, renamed_tasks}
+
+module _ (p : Image) (t : Typing) (refused : List ℕ) (wired : IsWired p) (typed : IsTyped p t) where
+  -- one turn of a run: a move, or the end of one that waits
+  record Moved (v s : State) (new : List Line) : Type 0 where
+    choice : Choice
+    busy : IsBusy v
+    open_so : IsOpen p refused choice v
+    goes : step p choice v ≡ Goes s
+    lines : new ≡ written p v
+
+  record Waited (v s : State) (new : List Line) : Type 0 where
+    between : IsBetween v
+    goes : s ≡ waiting v
+    lines : new ≡ []
+
+  abbrev Turned : State → State → List Line → Type 0
+  Turned v s new = Moved v s new ⊎ Waited v s new
+
+  -- so many turns of a run
+  abbrev After : ℕ → List Line → State → Type 0
+  After zero lines s = (lines ≡ []) × (s ≡ boot_state p)
+  After (suc n) lines s = (before : List Line) × (v : State) × (new : List Line) × After n before v × Reaches p refused (boot_state p) before v × Turned v s new × (lines ≡ before ++ new)
+
+  turns : (lines : List Line) (s : State) → Reaches p refused (boot_state p) lines s → (n : ℕ) × After n lines s
+  turns _ _ begins = (zero, (refl, refl))
+  turns _ _ (moves {lines = lines} {s = s} {u = u} c before busy choice e) =
+      let h = turns lines s before in
+      (suc h.0, (lines, s, written p s, h.1, before, inl (record { choice = c; busy = busy; open_so = choice; goes = e; lines = refl }), refl))
+  turns _ _ (waits {lines = lines} {s = s} before between) =
+      let h = turns lines s before in
+      (suc h.0, (lines, s, [], h.1, before, inr (record { between = between; goes = refl; lines = refl }), sym (append-nil lines)))
+
+  well : (lines : List Line) (s : State) → Reaches p refused (boot_state p) lines s → WellTyped p t s
+  well lines s r = well_on p t refused wired typed (boot_state p) (boot_keeps p t wired typed) lines s r
+
+  -- ---- as many turns
+
+  -- what is at hand in one is at hand in the other
+  busy_idle : (v w : State) → AreAlike v w → IsBusy v → w.tasks ≡ [] → ⊥
+  busy_idle v w alike busy idle = go (ap (renamed_tasks alike.names) (sym busy.2) ∙ sym (ap (λ x. x.tasks) alike.same) ∙ idle)
+    where
+      go : renamed_tasks alike.names (busy.0 ∷ busy.1) ≡ [] → ⊥
+      go e = cc
+
+  idle_busy : (v w : State) → AreAlike v w → v.tasks ≡ [] → IsBusy w → ⊥
+  idle_busy v w alike idle busy = go (sym busy.2 ∙ ap (λ x. x.tasks) alike.same ∙ ap (renamed_tasks alike.names) idle)
+    where
+      go : busy.0 ∷ busy.1 ≡ [] → ⊥
+      go e = cc
+
+  goes_alike : (o o' : Outcome) (s u : State) → o ≡ Goes s → o' ≡ Goes u → AlikeOutcomes o o' → AreAlike s u
+  goes_alike o o' s u e e' h = subst (λ x. AlikeOutcomes (Goes s) x) e' (subst (λ x. AlikeOutcomes x o') e h)
+
+  waiting_alike : (v w : State) → AreAlike v w → AreAlike (waiting v) (waiting w)
+  waiting_alike v w alike = record { names = alike.names; one_to_one = alike.one_to_one; same = ap waiting alike.same }
+
+  turn_alike : (v w s u : State) (new new' : List Line) → WellTyped p t w → AreAlike v w → Turned v s new → Turned w u new' → (new ≡ new') × AreAlike s u
+  turn_alike v w s u new new' wt alike (inl m) (inl n) = (
+    m.lines ∙ writes_alike p v w alike ∙ sym n.lines,
+    goes_alike _ _ s u m.goes n.goes (move_alike p t refused m.choice n.choice v w wt alike m.open_so n.open_so),
+  )
+  turn_alike v w s u new new' wt alike (inl m) (inr n) = absurd (busy_idle v w alike m.busy n.between.idle)
+  turn_alike v w s u new new' wt alike (inr m) (inl n) = absurd (idle_busy v w alike m.between.idle n.busy)
+  turn_alike v w s u new new' wt alike (inr m) (inr n) = (
+    m.lines ∙ sym n.lines,
+    subst (λ x. AreAlike x u) (sym m.goes) (subst (λ x. AreAlike (waiting v) x) (sym n.goes) (waiting_alike v w alike)),
+  )
+
+  -- nothing in the boot state has a name
+  booted : AreAlike (boot_state p) (boot_state p)
+  booted = record { names = λ n. n; one_to_one = λ n m e. e; same = ap (λ ts. record (boot_state p) { tasks = ts }) (go (main_of p)) }
+    where
+      go : (m : Option ℕ) → main_tasks m ≡ renamed_tasks (λ n. n) (main_tasks m)
+      go None = refl
+      go (Some m) = refl
+
+  together : (n : ℕ) (lines others : List Line) (s u : State) → After n lines s → After n others u → (lines ≡ others) × AreAlike s u
+  together zero lines others s u a b = (a.0 ∙ sym b.0, subst (λ x. AreAlike x u) (sym a.1) (subst (λ x. AreAlike (boot_state p) x) (sym b.1) booted))
+  together (suc n) lines others s u a b =
+      let before = together n a.0 b.0 a.1 b.1 a.3 b.3 in
+      let now = turn_alike a.1 b.1 s u a.2 b.2 (well b.0 b.1 b.4) before.1 a.5 b.5 in
+      (a.6 ∙ ap (λ x. x ++ a.2) before.0 ∙ ap (λ x. b.0 ++ x) now.0 ∙ sym b.6, now.1)
+
+  -- ---- fewer turns
+
+  record Earlier (n : ℕ) (lines : List Line) : Type 0 where
+    first : List Line
+    at : State
+    after : After n first at
+    begins_it : Begins first lines
+
+  earlier : (n m : ℕ) (lines : List Line) (s : State) → n ≤ m → After m lines s → Earlier n lines
+  earlier n zero lines s le a =
+      let none : zero ≡ n = omega arith in
+      record { first = lines; at = s; after = subst (λ k. After k lines s) none a; begins_it = ([], sym (append-nil lines)) }
+  earlier n (suc m) lines s le a = ⊎_elim
+      (λ e. record { first = lines; at = s; after = subst (λ k. After k lines s) (sym e) a; begins_it = ([], sym (append-nil lines)) })
+      (λ ne.
+      let h = earlier n m a.0 a.1 (omega arith) a.3 in
+      record { first = h.first; at = h.at; after = h.after; begins_it = (h.begins_it.0 ++ a.2, a.6 ∙ ap (λ x. x ++ a.2) h.begins_it.1 ∙ append_assoc h.first h.begins_it.0 a.2) })
+      (cases_eq n (suc m))
+
+  -- a run that has come as far or further begins as this one
+  begins_so : (n m : ℕ) (lines others : List Line) (s u : State) → n ≤ m → After n lines s → After m others u → Begins lines others
+  begins_so n m lines others s u le a b =
+      let h = earlier n m others u le b in
+      let same = together n lines h.first s h.at a h.after in
+      (h.begins_it.0, h.begins_it.1 ∙ ap (λ x. x ++ h.begins_it.0) (sym same.0))
+
+  -- ---- ends
+
+  same_ended : (s u : State) → AreAlike s u → u.rest.ended ≡ s.rest.ended
+  same_ended s u alike = ap (λ x. x.rest.ended) alike.same
+
+  -- no run goes on from where another has ended
+  never_past : (n m : ℕ) (lines others : List Line) (s u : State) (ending : Ending) → Run_of p refused lines s ending → n < m → After n lines s → After m others u → ⊥
+  never_past n m lines others s u ending run lt a b =
+      let h = earlier (suc n) m others u (omega arith) b in
+      let before = together n lines h.after.0 s h.after.1 a h.after.3 in
+      go h.after.1 (same_ended s h.after.1 before.1 ∙ run.ended) h.after.4 h.after.5
+    where
+      go : {first new : List Line} {x : State} (v : State) → v.rest.ended ≡ Some ending → Reaches p refused (boot_state p) first v → Turned v x new → ⊥
+      go {first = first} v over r (inl m) = let clash : m.busy.0 ∷ m.busy.1 ≡ [] = sym m.busy.2 ∙ over_idle p t refused wired typed first v ending r over in cc
+      go v over r (inr m) = let clash : Some ending ≡ None = sym over ∙ m.between.going in cc
+
+  agree : (lines others : List Line) (s u : State) → Reaches p refused (boot_state p) lines s → Reaches p refused (boot_state p) others u → Begins lines others ⊎ Begins others lines
+  agree lines others s u r q =
+      let a = turns lines s r in
+      let b = turns others u q in
+      ⊎_elim (λ lt. inl (begins_so a.0 b.0 lines others s u (omega arith) a.1 b.1)) (λ le. inr (begins_so b.0 a.0 others lines u s le b.1 a.1)) (cases_lt a.0 b.0)
+
+  whole : (lines others : List Line) (s u : State) (ending : Ending) → Run_of p refused lines s ending → Reaches p refused (boot_state p) others u → Begins others lines
+  whole lines others s u ending run q =
+      let a = turns lines s run.reaches in
+      let b = turns others u q in
+      ⊎_elim (λ lt. absurd (never_past a.0 b.0 lines others s u ending run lt a.1 b.1)) (λ le. begins_so b.0 a.0 others lines u s le b.1 a.1) (cases_lt a.0 b.0)
+
+  ended : (lines others : List Line) (s u : State) (ending other : Ending) → Run_of p refused lines s ending → Run_of p refused others u other → (lines ≡ others) × (ending ≡ other) × AreAlike s u
+  ended lines others s u ending other run run' =
+      let a = turns lines s run.reaches in
+      let b = turns others u run'.reaches in
+      ⊎_elim
+      (λ lt. absurd (never_past a.0 b.0 lines others s u ending run lt a.1 b.1))
+      (λ le. ⊎_elim
+      (λ e. let same = together a.0 lines others s u a.1 (subst (λ n. After n others u) (sym e) b.1) in
+      (same.0, let x : Some ending ≡ Some other = sym run.ended ∙ sym (same_ended s u same.1) ∙ run'.ended in cc, same.1))
+      (λ ne. absurd (never_past b.0 a.0 others lines u s other run' (omega arith) b.1 a.1))
+      (cases_eq a.0 b.0))
+      (cases_lt a.0 b.0)
+
+pub text_is_determined : TextIsDetermined
+text_is_determined p t refused wired typed = record { agree = agree p t refused wired typed; whole = whole p t refused wired typed; ended = ended p t refused wired typed }

@@ -1,0 +1,151 @@
+-- A move under other names, by the task at hand: the same move, and the same lines.
+use Rattle.std.proofs.Common.{Bool, List, None, Option, Some, [], ap, cond, false, length, refl, sym, true, ℕ, ℤ, ◌∙◌, ◌∷◌, ◌≡◌}
+use Rattle.std.specs.Prelude.{option_map}
+use Rattle.aom_image.specs.Image.{Image}
+use Rattle.aom_image.specs.Views.{instr_at}
+use Rattle.aom_image.specs.declared.instr.Instr.{Instr}
+use Rattle.aom_image.specs.declared.instr.Instr.TheVariants.{Print}
+use Rattle.aom_sound.specs.Calls.{called, result_register}
+use Rattle.aom_sound.specs.Cleanup.{arrived, dealt_with, top_is_whole, unwound}
+use Rattle.aom_sound.specs.Destruction.{gone, owns_nothing}
+use Rattle.aom_sound.specs.Moves.{IsOpen, asked, counted, dispatch_ends, does, goes_line, is_counted, is_refused, main_ends, makes_cell, needs, step, step_instr, step_task, written, written_instr, written_task}
+use Rattle.aom_sound.specs.Places.{Elsewhere, Going, Object, Root, held, named, without}
+use Rattle.aom_sound.specs.State.{A_mark, An_object, An_operation, Choice, Destroy, Dispatch, Dispatched, Frame, Goes, IsStuck, Item, Main_left, Need, NullOrDead, Of_main, Of_root, Orphan, Run, State, Task, Trapped, Unwind, guarded, resumed}
+use Rattle.aom_determined.proofs.Cells.{cells_counted, held_renamed, moved_renamed, named_renamed, owns_nothing_kept, tasks_counted, without_renamed}
+use Rattle.aom_determined.proofs.Doing.{begun_renamed, dealt_renamed, does_renamed, told_renamed}
+use Rattle.aom_determined.proofs.Needs.{needs_kept, whole_kept}
+use Rattle.aom_determined.specs.Laws.{NamesMeanNothing}
+use Rattle.aom_determined.specs.Names.{IsOneToOne, renamed, renamed_cells, renamed_choice, renamed_frame, renamed_object, renamed_outcome, renamed_tasks}
+
+guarded_renamed : (names : ℕ → ℕ) (ns : List Need) (s : State) → guarded ns (renamed names s) ≡ renamed_outcome names (guarded ns s)
+guarded_renamed names [] s = refl
+guarded_renamed names (n ∷ ns) s = go n.0 (guarded_renamed names ns s)
+  where
+    go : (b : Bool) → guarded ns (renamed names s) ≡ renamed_outcome names (guarded ns s) → cond b (guarded ns (renamed names s)) (IsStuck n.1) ≡ renamed_outcome names (cond b (guarded ns s) (IsStuck n.1))
+    go true e = e
+    go false e = refl
+
+module _ (names : ℕ → ℕ) (one_to_one : IsOneToOne names) where
+  resumed_renamed : (ts : List Task) → resumed (renamed_tasks names ts) ≡ renamed_tasks names (resumed ts)
+  resumed_renamed [] = refl
+  resumed_renamed (Run fr ∷ ts) = refl
+  resumed_renamed (Trapped ∷ ts) = refl
+  resumed_renamed (Destroy ∷ ts) = refl
+  resumed_renamed (Unwind code ∷ ts) = refl
+  resumed_renamed (Dispatched d ∷ ts) = refl
+
+  instr_renamed : (p : Image) (c : Choice) (fr : Frame) (ts : List Task) (s : State) (i : Option Instr) → step_instr p (renamed_choice names c) (renamed_frame names fr) (renamed_tasks names ts) (renamed names s) i ≡ renamed_outcome names (step_instr p c fr ts s i)
+  instr_renamed p c fr ts s None = refl
+  instr_renamed p c fr ts s (Some i) =
+      ap (λ n. guarded n (does p (renamed_choice names c) (renamed_frame names fr) (renamed_tasks names ts) (renamed names s) i)) (needs_kept names one_to_one p c fr ts s i)
+      ∙ ap (guarded (needs p c fr ts s i)) (does_renamed names one_to_one p c fr ts s i)
+      ∙ guarded_renamed names (needs p c fr ts s i) (does p c fr ts s i)
+
+  gone_renamed : (o : Option Object) (ts : List Task) (s : State) → gone (option_map (renamed_object names) o) (renamed_tasks names ts) (renamed names s) ≡ renamed_outcome names (gone o ts s)
+  gone_renamed None ts s = refl
+  gone_renamed (Some o) ts s =
+      rw (owns_nothing_kept names one_to_one s.cells o.name, tasks_counted names ts, without_renamed names one_to_one (Going (length ts)) s.cells, resumed_renamed ts)
+      (guarded_renamed names ((owns_nothing s.cells o.name, Orphan) ∷ []) (record s { cells = without (Going (length ts)) s.cells; tasks = resumed ts }))
+
+  arrived_renamed : (p : Image) (code : ℤ) (ts : List Task) (items : List Item) (s : State) → arrived p code (renamed_tasks names ts) items (renamed names s) ≡ renamed_outcome names (arrived p code ts items s)
+  arrived_renamed p code (Trapped ∷ Run fr ∷ ts) items s = let i = instr_at p fr.method fr.place in rw (told_renamed names (called p i) (result_register i) code fr)
+  arrived_renamed p code _ items s = refl
+
+  unwound_renamed : (p : Image) (code : ℤ) (ts : List Task) (s : State) (items : List Item) → unwound p code (renamed_tasks names ts) (renamed names s) items ≡ renamed_outcome names (unwound p code ts s items)
+  unwound_renamed p code ts s [] = refl
+  unwound_renamed p code ts s (An_object ∷ items) =
+      rw (whole_kept names one_to_one s.cells (An_object ∷ items), dealt_renamed names one_to_one p (An_object ∷ items) (Unwind code ∷ ts) s)
+      (go (top_is_whole s.cells (An_object ∷ items)))
+    where
+      go : (b : Bool) → cond b (Goes (renamed names (dealt_with p (An_object ∷ items) (Unwind code ∷ ts) s))) (IsStuck NullOrDead) ≡ renamed_outcome names (cond b (Goes (dealt_with p (An_object ∷ items) (Unwind code ∷ ts) s)) (IsStuck NullOrDead))
+      go true = refl
+      go false = refl
+  unwound_renamed p code ts s (An_operation m w ∷ items) = refl
+  unwound_renamed p code ts s (A_mark ∷ items) = arrived_renamed p code ts items s
+
+  main_ends_renamed : (p : Image) (b : Bool) (o : Option Object) (s : State) → main_ends p b (option_map (renamed_object names) o) (renamed names s) ≡ renamed names (main_ends p b o s)
+  main_ends_renamed p true (Some o) s = rw (moved_renamed names one_to_one (Elsewhere Root) (Going 1) s.cells, begun_renamed names p o (length s.items) (Dispatched Of_root ∷ []))
+  main_ends_renamed p true None s = refl
+  main_ends_renamed p false o s = refl
+
+  ends_renamed : (p : Image) (d : Dispatch) (s : State) → dispatch_ends p d (renamed names s) ≡ renamed names (dispatch_ends p d s)
+  ends_renamed p Of_main s =
+      ap (λ o. main_ends p s.rest.stopped o (renamed names s)) (held_renamed names one_to_one s.cells (Elsewhere Root))
+      ∙ main_ends_renamed p s.rest.stopped (held s.cells (Elsewhere Root)) s
+  ends_renamed p (Main_left code) s = refl
+  ends_renamed p Of_root s = refl
+
+  task_renamed : (p : Image) (c : Choice) (s : State) (ts : List Task) → step_task p (renamed_choice names c) (renamed names s) (renamed_tasks names ts) ≡ renamed_outcome names (step_task p c s ts)
+  task_renamed p c s [] = refl
+  task_renamed p c s (Run fr ∷ ts) = instr_renamed p c fr ts s (instr_at p fr.method fr.place)
+  task_renamed p c s (Trapped ∷ ts) = refl
+  task_renamed p c s (Destroy ∷ ts) =
+      ap (λ n. gone (held (renamed_cells names s.cells) (Going n)) (renamed_tasks names ts) (renamed names s)) (tasks_counted names ts)
+      ∙ ap (λ o. gone o (renamed_tasks names ts) (renamed names s)) (held_renamed names one_to_one s.cells (Going (length ts)))
+      ∙ gone_renamed (held s.cells (Going (length ts))) ts s
+  task_renamed p c s (Unwind code ∷ ts) = unwound_renamed p code ts s s.items
+  task_renamed p c s (Dispatched d ∷ ts) = ap Goes (ends_renamed p d s)
+
+  -- ---- what is counted and written
+
+  asked_kept : (p : Image) (ts : List Task) → asked p (renamed_tasks names ts) ≡ asked p ts
+  asked_kept p (Run fr ∷ ts) = refl
+  asked_kept p [] = refl
+  asked_kept p (Trapped ∷ ts) = refl
+  asked_kept p _ = refl
+
+  is_counted_kept : (ts : List Task) → is_counted (renamed_tasks names ts) ≡ is_counted ts
+  is_counted_kept (Run fr ∷ ts) = refl
+  is_counted_kept _ = refl
+
+  makes_kept : (p : Image) (ts : List Task) → makes_cell p (renamed_tasks names ts) ≡ makes_cell p ts
+  makes_kept p (Run fr ∷ ts) = refl
+  makes_kept p _ = refl
+
+  counted_renamed : (p : Image) (s : State) → counted p (renamed names s) ≡ renamed names (counted p s)
+  counted_renamed p s = rw (asked_kept p s.tasks, is_counted_kept s.tasks)
+
+  pub moves_so : (p : Image) (c : Choice) (s : State) → step p (renamed_choice names c) (renamed names s) ≡ renamed_outcome names (step p c s)
+  moves_so p c s =
+      ap (λ x. step_task p (renamed_choice names c) x (renamed_tasks names s.tasks)) (counted_renamed p s)
+      ∙ task_renamed p c (counted p s) s.tasks
+
+  gone_line_kept : (o : Option Object) → goes_line (option_map (renamed_object names) o) ≡ goes_line o
+  gone_line_kept None = refl
+  gone_line_kept (Some o) = refl
+
+  instr_writes : (fr : Frame) (ts : List Task) (s : State) (i : Option Instr) → written_instr (renamed_frame names fr) (renamed_tasks names ts) (renamed names s) i ≡ written_instr fr ts s i
+  instr_writes fr ts s None = refl
+  instr_writes fr ts s (Some (Print a)) = refl
+  instr_writes fr ts s (Some _) = refl
+
+  task_writes : (p : Image) (s : State) (ts : List Task) → written_task p (renamed names s) (renamed_tasks names ts) ≡ written_task p s ts
+  task_writes p s (Run fr ∷ ts) = instr_writes fr ts s (instr_at p fr.method fr.place)
+  task_writes p s (Destroy ∷ ts) =
+      ap (λ n. goes_line (held (renamed_cells names s.cells) (Going n))) (tasks_counted names ts)
+      ∙ ap goes_line (held_renamed names one_to_one s.cells (Going (length ts)))
+      ∙ gone_line_kept (held s.cells (Going (length ts)))
+  task_writes p s (Unwind code ∷ ts) = refl
+  task_writes p s _ = refl
+
+  pub writes_so : (p : Image) (s : State) → written p (renamed names s) ≡ written p s
+  writes_so p s = rw (task_writes p s s.tasks)
+
+  pub refused_so : (p : Image) (refused : List ℕ) (s : State) → is_refused p refused (renamed names s) ≡ is_refused p refused s
+  refused_so p refused s = rw (makes_kept p s.tasks, cells_counted names s.cells)
+
+  none_named : (o : Option Object) → o ≡ None → option_map (renamed_object names) o ≡ None
+  none_named o e = ap (option_map (renamed_object names)) e
+
+  pub free_so : (s : State) (n : ℕ) → named s.cells n ≡ None → named (renamed_cells names s.cells) (names n) ≡ None
+  free_so s n e = named_renamed names one_to_one s.cells n ∙ none_named (named s.cells n) e
+
+  pub opens_so : (p : Image) (refused : List ℕ) (c : Choice) (s : State) → IsOpen p refused c s → IsOpen p refused (renamed_choice names c) (renamed names s)
+  opens_so p refused c s h = record { name = free_so s c.name h.name; refusal = h.refusal ∙ sym (refused_so p refused s) }
+
+pub names_mean_nothing : NamesMeanNothing
+names_mean_nothing = record {
+  opens = λ p refused names one_to_one c s h. opens_so names one_to_one p refused c s h;
+  moves = λ p names one_to_one c s. moves_so names one_to_one p c s;
+  writes = λ p names one_to_one s. writes_so names one_to_one p s;
+}

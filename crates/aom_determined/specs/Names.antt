@@ -1,0 +1,68 @@
+-- A state under other names: each cell has another name, and whatever names a cell says the new one.
+use Rattle.std.specs.Prelude.{ℕ, ◌≡◌, List, map}
+use Rattle.aom_sound.specs.Places.{Place, Register, Entry, Field, Going, Elsewhere, Object, Cell}
+use Rattle.aom_sound.specs.State.{Home, Static, AtRoot, Inside, Frame, Task, Run, Trapped, Destroy, Unwind, Dispatched, State, Choice, Outcome, Goes, IsStuck}
+
+-- two names stay two
+abbrev pub IsOneToOne : (ℕ → ℕ) → Type 0
+IsOneToOne names = (n m : ℕ) → names n ≡ names m → n ≡ m
+
+module _ (names : ℕ → ℕ) where
+  abbrev pub renamed_object : Object → Object
+  renamed_object o = record o { name = names o.name }
+
+  -- a field is one of the same cell
+  abbrev pub renamed_place : Place → Place
+  renamed_place (Register f r) = Register f r
+  renamed_place (Entry k) = Entry k
+  renamed_place (Field n f) = Field (names n) f
+  renamed_place (Going k) = Going k
+  renamed_place (Elsewhere o) = Elsewhere o
+
+  abbrev pub renamed_cell : Cell → Cell
+  renamed_cell c = record c { object = renamed_object c.object; owner = renamed_place c.owner }
+
+  abbrev pub renamed_cells : List Cell → List Cell
+  renamed_cells cs = map renamed_cell cs
+
+  abbrev pub renamed_home : Home → Home
+  renamed_home Static = Static
+  renamed_home AtRoot = AtRoot
+  renamed_home (Inside o from) = Inside (renamed_object o) (renamed_place from)
+
+  abbrev pub renamed_frame : Frame → Frame
+  renamed_frame fr = record fr { home = renamed_home fr.home }
+
+  abbrev pub renamed_task : Task → Task
+  renamed_task (Run fr) = Run (renamed_frame fr)
+  renamed_task Trapped = Trapped
+  renamed_task Destroy = Destroy
+  renamed_task (Unwind code) = Unwind code
+  renamed_task (Dispatched d) = Dispatched d
+
+  abbrev pub renamed_tasks : List Task → List Task
+  renamed_tasks ts = map renamed_task ts
+
+  -- items and counts name no cell
+  abbrev pub renamed : State → State
+  renamed s = record s { cells = renamed_cells s.cells; tasks = renamed_tasks s.tasks }
+
+  abbrev pub renamed_choice : Choice → Choice
+  renamed_choice c = record c { name = names c.name }
+
+  abbrev pub renamed_outcome : Outcome → Outcome
+  renamed_outcome (Goes s) = Goes (renamed s)
+  renamed_outcome (IsStuck kind) = IsStuck kind
+
+-- the second state is the first under other names
+pub record AreAlike (s u : State) : Type 0 where
+  pub names : ℕ → ℕ
+  pub one_to_one : IsOneToOne names
+  pub same : u ≡ renamed names s
+
+-- two moves lead to two such states, or to one stuck kind
+abbrev pub AlikeOutcomes : Outcome → Outcome → Type 0
+AlikeOutcomes (Goes s) (Goes u) = AreAlike s u
+AlikeOutcomes (Goes s) (IsStuck kind) = ⊥
+AlikeOutcomes (IsStuck kind) (Goes u) = ⊥
+AlikeOutcomes (IsStuck kind) (IsStuck other) = kind ≡ other
