@@ -30,6 +30,7 @@ pub mod Wiring
 pub mod Bodies
 pub mod Looping
 pub mod Quiet
+pub mod InRange
 pub mod Clearing
 pub mod Caught
 pub mod Course

@@ -227,10 +227,14 @@ module _ (p : Image) (fr : Frame) (ts : List Task) (s : State) where
   received (A_maybe t) a c caller = set_word caller c None
   received (Left x) a c caller = caller
 
-  -- a destructor leaves nothing in its cell
+  -- something waits for the method's end, and a destructor leaves nothing in its cell
   abbrev pub end_needs : List Task → List Need
+  end_needs (Run caller ∷ below) = []
+  end_needs (Trapped ∷ Run caller ∷ below) = []
+  end_needs (Trapped ∷ Dispatched d ∷ below) = []
   end_needs (Destroy ∷ below) = (owns_nothing s.cells (home_name fr.home), Orphan) ∷ []
-  end_needs _ = []
+  end_needs (Unwind code ∷ below) = []
+  end_needs _ = (false, Unbalanced) ∷ []
 
   -- one more item lies there than at first, an object of that class
   abbrev pub leaves_object : ℕ → List Item → Bool

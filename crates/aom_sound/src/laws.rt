@@ -1,5 +1,5 @@
 //! The laws, each as the contract of a function that does nothing.
-ghost use Rattle.aom_sound.specs.Laws.{BootKeeps, InstructionKeeps, DestructionKeeps, UnwindingKeeps, TurnKeeps, StepKeeps, EndsOwned, EndsEmpty, TypedIsSound, LinkedIsWired};
+ghost use Rattle.aom_sound.specs.Laws.{BootKeeps, InstructionKeeps, DestructionKeeps, UnwindingKeeps, TurnKeeps, StepKeeps, EndsOwned, EndsEmpty, RegistersKeep, TypedIsSound, LinkedIsWired};
 ghost use Rattle.aom_sound.specs.Loops.{LoopsKeep};
 ghost use Rattle.aom_sound.specs.Quiet.{CalmKeeps, CaughtOwned};
 ghost use Rattle.aom_sound.specs.Leaves.{LeavesMove, LeavesArrive};
@@ -44,6 +44,11 @@ pub fn step_keeps()
 /// While a cell goes or a leave unwinds, quiet methods alone run.
 pub fn calm_keeps()
     ensures { CalmKeeps }
+{}
+
+/// Only registers that a method has own.
+pub fn registers_keep()
+    ensures { RegistersKeep }
 {}
 
 /// A leave deals with the last entry over its mark, and its own code arrives.
