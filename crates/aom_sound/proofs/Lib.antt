@@ -37,3 +37,4 @@ pub mod Course
 pub mod Standing
 pub mod Trapping
 pub mod Stuck
+pub mod Owning

@@ -2,3 +2,4 @@
 pub mod Building
 pub mod Words
 pub mod Objects
+pub mod Owners

@@ -5,6 +5,7 @@ ghost use Rattle.aom_sound.specs.Quiet.{CalmKeeps, CaughtOwned};
 ghost use Rattle.aom_sound.specs.Leaves.{LeavesMove, LeavesArrive};
 ghost use Rattle.aom_sound.specs.Traps.{TrapsKeep};
 ghost use Rattle.aom_sound.specs.Examples.{StuckExamples};
+ghost use Rattle.aom_sound.specs.Cases.Owners.{OwnersBite};
 
 /// A run of a typed image begins well typed.
 pub fn boot_keeps()
@@ -94,4 +95,9 @@ pub fn linked_is_wired()
 /// The checked machine has stuck states, so that the laws say something.
 pub fn stuck_examples()
     ensures { StuckExamples }
+{}
+
+/// Places that do not own are no owners.
+pub fn owners_bite()
+    ensures { OwnersBite }
 {}

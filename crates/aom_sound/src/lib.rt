@@ -11,7 +11,8 @@ mod line;
 
 pub use laws::{
     boot_keeps, calm_keeps, caught_owned, destruction_keeps, ends_empty, ends_owned,
-    instruction_keeps, leaves_arrive, leaves_move, linked_is_wired, loops_keep, registers_keep,
-    step_keeps, stuck_examples, traps_keep, turn_keeps, typed_is_sound, unwinding_keeps,
+    instruction_keeps, leaves_arrive, leaves_move, linked_is_wired, loops_keep, owners_bite,
+    registers_keep, step_keeps, stuck_examples, traps_keep, turn_keeps, typed_is_sound,
+    unwinding_keeps,
 };
 pub use line::{Ending, Line};
