@@ -38,3 +38,4 @@ pub mod Standing
 pub mod Trapping
 pub mod Stuck
 pub mod Owning
+pub mod Biting

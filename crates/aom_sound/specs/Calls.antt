@@ -54,6 +54,13 @@ entry_at (An_operation m w ∷ items) zero = Some (An_operation m w)
 entry_at (An_operation m w ∷ items) (suc k) = entry_at items k
 entry_at (A_mark ∷ items) k = None
 
+-- an operation owns nothing on which a method could be called
+abbrev pub is_no_operation : Option Item → Bool
+is_no_operation None = true
+is_no_operation (Some An_object) = true
+is_no_operation (Some (An_operation m w)) = false
+is_no_operation (Some A_mark) = true
+
 -- its place
 abbrev pub entry_place : List Item → ℕ → Place
 entry_place items k = Entry (length items - suc k)
@@ -79,6 +86,7 @@ module _ (p : Image) (fr : Frame) (ts : List Task) (s : State) where
       ∷ needs_target_object p class (held s.cells (field_place fr.home f))
   needs_target (On_entry k) class first count =
       (is_some (entry_at s.items k), PopUnder)
+      ∷ (is_no_operation (entry_at s.items k), WrongKind)
       ∷ needs_target_object p class (held s.cells (entry_place s.items k))
 
   abbrev pub target_home : Target → Option ℕ → Home

@@ -2,4 +2,8 @@
 pub mod Building
 pub mod Words
 pub mod Objects
+pub mod Calls
+pub mod Returns
+pub mod Cleanup
+pub mod Moves
 pub mod Owners

@@ -5,6 +5,12 @@ ghost use Rattle.aom_sound.specs.Quiet.{CalmKeeps, CaughtOwned};
 ghost use Rattle.aom_sound.specs.Leaves.{LeavesMove, LeavesArrive};
 ghost use Rattle.aom_sound.specs.Traps.{TrapsKeep};
 ghost use Rattle.aom_sound.specs.Examples.{StuckExamples};
+ghost use Rattle.aom_sound.specs.Cases.Words.{WordsBite};
+ghost use Rattle.aom_sound.specs.Cases.Objects.{ObjectsBite};
+ghost use Rattle.aom_sound.specs.Cases.Calls.{CallsBite};
+ghost use Rattle.aom_sound.specs.Cases.Returns.{ReturnsBite};
+ghost use Rattle.aom_sound.specs.Cases.Cleanup.{CleanupBites};
+ghost use Rattle.aom_sound.specs.Cases.Moves.{MovesBite};
 ghost use Rattle.aom_sound.specs.Cases.Owners.{OwnersBite};
 
 /// A run of a typed image begins well typed.
@@ -95,6 +101,36 @@ pub fn linked_is_wired()
 /// The checked machine has stuck states, so that the laws say something.
 pub fn stuck_examples()
     ensures { StuckExamples }
+{}
+
+/// Each need of an instruction on words bites.
+pub fn words_bite()
+    ensures { WordsBite }
+{}
+
+/// Each need of an instruction on objects bites.
+pub fn objects_bite()
+    ensures { ObjectsBite }
+{}
+
+/// Each need of a call or a trap bites.
+pub fn calls_bite()
+    ensures { CallsBite }
+{}
+
+/// Each need of a return bites.
+pub fn returns_bite()
+    ensures { ReturnsBite }
+{}
+
+/// Each need of an instruction on the cleanup stack, or of a leave, bites.
+pub fn cleanup_bites()
+    ensures { CleanupBites }
+{}
+
+/// Each need of the moves that are no instruction bites.
+pub fn moves_bite()
+    ensures { MovesBite }
 {}
 
 /// Places that do not own are no owners.
