@@ -9,7 +9,7 @@ use Rattle.aom_shape.specs.Tables.{at}
 use Rattle.aom_shape.specs.declared.kind.Entry.{Entry as Pushed}
 use Rattle.aom_shape.specs.declared.kind.Entry.TheVariants.{Object as Pushed_object, Operation as Pushed_operation}
 use Rattle.aom_shape.specs.declared.kind.Kind.{Kind}
-use Rattle.aom_sound.specs.Calls.{below_top, entry_at, is_no_operation}
+use Rattle.aom_sound.specs.Calls.{below_top, entry_at, is_no_operation, tops_mark}
 use Rattle.aom_sound.specs.Claims.{Form, Mark_form, entry_claim, entry_form, forms, objects}
 use Rattle.aom_sound.specs.State.{A_mark, An_object, An_operation, Item}
 use Rattle.aom_sound.specs.WellTyped.{AllUndo}
@@ -22,6 +22,13 @@ length_forms (i ∷ items) = ap suc (length_forms items)
 pub forms_below : (items : List Item) (x : Form) (rest : List Form) → forms items ≡ x ∷ rest → forms (below_top items) ≡ rest
 forms_below [] x rest e = cc
 forms_below (i ∷ items) x rest e = cc
+
+-- a mark is the last item
+pub mark_on_top : (items : List Item) (rest : List Form) → forms items ≡ Mark_form ∷ rest → tops_mark items ≡ true
+mark_on_top [] rest e = cc
+mark_on_top (An_object ∷ items) rest e = cc
+mark_on_top (An_operation m w ∷ items) rest e = cc
+mark_on_top (A_mark ∷ items) rest e = refl
 
 pub undos_below : (p : Image) (items : List Item) → AllUndo p items → AllUndo p (below_top items)
 undos_below p [] u = u

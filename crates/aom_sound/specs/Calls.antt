@@ -207,6 +207,13 @@ abbrev pub below_top : List Item → List Item
 below_top [] = []
 below_top (i ∷ items) = items
 
+-- the last item is the mark of a trap
+abbrev pub tops_mark : List Item → Bool
+tops_mark [] = false
+tops_mark (An_object ∷ items) = false
+tops_mark (An_operation m w ∷ items) = false
+tops_mark (A_mark ∷ items) = true
+
 abbrev pub home_name : Home → ℕ
 home_name Static = 0
 home_name AtRoot = 0
@@ -235,11 +242,11 @@ module _ (p : Image) (fr : Frame) (ts : List Task) (s : State) where
   received (A_maybe t) a c caller = set_word caller c None
   received (Left x) a c caller = caller
 
-  -- something waits for the method's end, and a destructor leaves nothing in its cell
+  -- something waits for the method's end: where it is a trap, its mark is the last item, and a destructor leaves nothing in its cell
   abbrev pub end_needs : List Task → List Need
   end_needs (Run caller ∷ below) = []
-  end_needs (Trapped ∷ Run caller ∷ below) = []
-  end_needs (Trapped ∷ Dispatched d ∷ below) = []
+  end_needs (Trapped ∷ Run caller ∷ below) = (tops_mark s.items, Unbalanced) ∷ []
+  end_needs (Trapped ∷ Dispatched d ∷ below) = (tops_mark s.items, Unbalanced) ∷ []
   end_needs (Destroy ∷ below) = (owns_nothing s.cells (home_name fr.home), Orphan) ∷ []
   end_needs (Unwind code ∷ below) = []
   end_needs _ = (false, Unbalanced) ∷ []
