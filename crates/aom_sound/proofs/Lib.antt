@@ -36,6 +36,5 @@ pub mod Caught
 pub mod Course
 pub mod Standing
 pub mod Trapping
-pub mod Stuck
 pub mod Owning
 pub mod Biting

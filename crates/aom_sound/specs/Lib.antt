@@ -16,5 +16,4 @@ pub mod Laws
 pub mod Quiet
 pub mod Leaves
 pub mod Traps
-pub mod Examples
 pub mod Cases

@@ -4,7 +4,6 @@ ghost use Rattle.aom_sound.specs.Loops.{LoopsKeep};
 ghost use Rattle.aom_sound.specs.Quiet.{CalmKeeps, CaughtOwned};
 ghost use Rattle.aom_sound.specs.Leaves.{LeavesMove, LeavesArrive};
 ghost use Rattle.aom_sound.specs.Traps.{TrapsKeep};
-ghost use Rattle.aom_sound.specs.Examples.{StuckExamples};
 ghost use Rattle.aom_sound.specs.Cases.Words.{WordsBite};
 ghost use Rattle.aom_sound.specs.Cases.Objects.{ObjectsBite};
 ghost use Rattle.aom_sound.specs.Cases.Calls.{CallsBite};
@@ -96,11 +95,6 @@ pub fn typed_is_sound()
 /// What the laws ask of an image is what linking has checked.
 pub fn linked_is_wired()
     ensures { LinkedIsWired }
-{}
-
-/// The checked machine has stuck states, so that the laws say something.
-pub fn stuck_examples()
-    ensures { StuckExamples }
 {}
 
 /// Each need of an instruction on words bites.
