@@ -106,7 +106,7 @@ module _ (p : Image) (t : Typing) (depth heights : ℕ → ℕ) (tables : Tables
           -- what a move counts is no part of it
           again : (fr : Frame) (ts : List Task) → Stands_here p t s fr ts → Stands_here p t (counted p s) fr ts
           again fr ts h = record { shape = h.shape; below = h.below; there = h.there; items = h.items; height = h.height; low = h.low; low_under = h.low_under; fits = h.fits; free = h.free }
-      go (Trapped ∷ ts) same v e = stays (Trapped ∷ ts) same e
+      go (Trapped ∷ ts) same v e = cc
       go (Destroy ∷ ts) same v e = goes (held s.cells (Going (length ts))) ts (counted p s) u v e
       go (Unwind code ∷ ts) same v e = unwinds code ts s.items (counted p s) u refl w.undos (λ i rest top. low_unwinding p t s code ts i rest w same top) v e
       go (Dispatched d ∷ ts) same v e = subst RoomyState (goes_same (dispatch_ends p d (counted p s)) u e) (ends (counted p s) d ts v)

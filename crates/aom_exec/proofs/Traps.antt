@@ -200,7 +200,7 @@ traps_kept p formed c s u h e = go s.tasks refl h e
     go : (ts : List Task) → s.tasks ≡ ts → TrapsFit p ts → step_task p c (counted p s) ts ≡ Goes u → TrapsFit p u.tasks
     go [] at h e = stays [] at h e
     go (Run fr ∷ ts) at h e = of_instr fr ts (instr_at p fr.method fr.place) refl at h e
-    go (Trapped ∷ ts) at h e = stays (Trapped ∷ ts) at h e
+    go (Trapped ∷ ts) at h e = cc
     go (Destroy ∷ ts) at h e = goes_fit p (held s.cells (Going (length ts))) ts s' u h e
     go (Unwind code ∷ ts) at h e = unwinds_fit p code ts s.items s' u h e
     go (Dispatched d ∷ ts) at h e = subst (λ v. TrapsFit p v.tasks) (goes_same (dispatch_ends p d s') u e) (ends_fit p s' d)

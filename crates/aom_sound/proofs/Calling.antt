@@ -31,7 +31,7 @@ use Rattle.aom_shape.specs.declared.kind.Kind.TheVariants.{Null, Own, Unset}
 use Rattle.aom_sound.proofs.Claimed.{Outside, claim_from, claim_register_above, claim_unclaimed, claim_weaker, filled_weaker, fits_weaker, layer_rel, mark_claims, outside_differs, word_fits_weaker}
 use Rattle.aom_sound.proofs.Destroying.{Untouched, at_alike, eqb_comm, other_name, untouched, untouched_method}
 use Rattle.aom_sound.proofs.Finishing.{all_join, all_parts, none_owns_at}
-use Rattle.aom_sound.proofs.Items.{entry_claimed, entry_there, length_each, length_forms, readied_claim, readied_items}
+use Rattle.aom_sound.proofs.Items.{entry_claimed, entry_owns, entry_there, length_each, length_forms, readied_claim, readied_items}
 use Rattle.aom_sound.proofs.Jumps.{words_kept}
 use Rattle.aom_sound.proofs.Maps.{at-put_at, held_lives, same_place-true}
 use Rattle.aom_sound.proofs.Passing.{Passed, all_passed, each_met, filling, lower, none_passed, taken, taker, under, upper}
@@ -547,7 +547,13 @@ module _ (p : Image) (t : Typing) (wired : IsWired p) (typed : IsTyped p t) (c :
         let within : k < length sh.entries = ltb-true k (length sh.entries) n.0 in
         let w = own_for p (An_object_of y) kind (sym (ap (λ x. is_target p x kind) e) ∙ n.1.0) in
         let x = piled k y e w.0 w.1 within w.2 w.3 in (
-          (entry_there sh.entries (items_of ls) s.items k at_hand.items within, subst (λ k'. AllTrue (needs_target_object p k' (held s.cells (entry_place s.items k)))) (sym e) (target_met y (held s.cells (entry_place s.items k)) x.0 w.0 x.1 x.2 w.3)),
+          (
+            entry_there sh.entries (items_of ls) s.items k at_hand.items within,
+            (
+              entry_owns sh.entries (items_of ls) s.items k at_hand.items within (ap is_unowning w.2),
+              subst (λ k'. AllTrue (needs_target_object p k' (held s.cells (entry_place s.items k)))) (sym e) (target_met y (held s.cells (entry_place s.items k)) x.0 w.0 x.1 x.2 w.3),
+            ),
+          ),
           at_home (entry_place s.items k) x.0 (while_called (On_entry k) (method_class p m) after_arguments) x.1 (on_entry k y e w.0 w.1 within w.2 w.3 (ages kind w.0 w.1 w.2 (age_of kind n.1.1))),
         )
 

@@ -4,12 +4,12 @@ use Rattle.std.proofs.lemmas.Bool.{eq-eqb, eqb-true, ne_eqb}
 use Rattle.std.specs.Prelude.{is_some}
 use Rattle.aom_image.specs.Image.{Image}
 use Rattle.aom_shape.specs.Calls.{readied_at, readied_entry}
-use Rattle.aom_shape.specs.Kinds.{entry_kind, readied}
+use Rattle.aom_shape.specs.Kinds.{entry_kind, is_unowning, readied}
 use Rattle.aom_shape.specs.Tables.{at}
 use Rattle.aom_shape.specs.declared.kind.Entry.{Entry as Pushed}
 use Rattle.aom_shape.specs.declared.kind.Entry.TheVariants.{Object as Pushed_object, Operation as Pushed_operation}
 use Rattle.aom_shape.specs.declared.kind.Kind.{Kind}
-use Rattle.aom_sound.specs.Calls.{below_top, entry_at}
+use Rattle.aom_sound.specs.Calls.{below_top, entry_at, is_no_operation, tops_mark}
 use Rattle.aom_sound.specs.Claims.{Form, Mark_form, entry_claim, entry_form, forms, objects}
 use Rattle.aom_sound.specs.State.{A_mark, An_object, An_operation, Item}
 use Rattle.aom_sound.specs.WellTyped.{AllUndo}
@@ -22,6 +22,13 @@ length_forms (i ∷ items) = ap suc (length_forms items)
 pub forms_below : (items : List Item) (x : Form) (rest : List Form) → forms items ≡ x ∷ rest → forms (below_top items) ≡ rest
 forms_below [] x rest e = cc
 forms_below (i ∷ items) x rest e = cc
+
+-- a mark is the last item
+pub mark_on_top : (items : List Item) (rest : List Form) → forms items ≡ Mark_form ∷ rest → tops_mark items ≡ true
+mark_on_top [] rest e = cc
+mark_on_top (An_object ∷ items) rest e = cc
+mark_on_top (An_operation m w ∷ items) rest e = cc
+mark_on_top (A_mark ∷ items) rest e = refl
 
 pub undos_below : (p : Image) (items : List Item) → AllUndo p items → AllUndo p (below_top items)
 undos_below p [] u = u
@@ -47,6 +54,17 @@ entry_there (x ∷ es) below (A_mark ∷ items) k e lt = absurd (no_mark x e)
     no_mark : (x : Pushed) → Mark_form ∷ forms items ≡ entry_form x ∷ objects es below → ⊥
     no_mark (Pushed_object c a) e = cc
     no_mark Pushed_operation e = cc
+
+-- an entry that owns is no operation
+pub entry_owns : (es : List Pushed) (below : List Form) (items : List Item) (k : ℕ) → forms items ≡ objects es below → k < length es → is_unowning (entry_kind (at Pushed_operation es k)) ≡ false → is_no_operation (entry_at items k) ≡ true
+entry_owns [] below items k e lt own = absurd (omega arith)
+entry_owns (x ∷ es) below [] k e lt own = cc
+entry_owns (x ∷ es) below (An_object ∷ items) zero e lt own = refl
+entry_owns (x ∷ es) below (An_object ∷ items) (suc k) e lt own = let same : forms items ≡ objects es below = cc in entry_owns es below items k same (omega arith) own
+entry_owns (Pushed_object c a ∷ es) below (An_operation m w ∷ items) zero e lt own = cc
+entry_owns (Pushed_operation ∷ es) below (An_operation m w ∷ items) zero e lt own = cc
+entry_owns (x ∷ es) below (An_operation m w ∷ items) (suc k) e lt own = let same : forms items ≡ objects es below = cc in entry_owns es below items k same (omega arith) own
+entry_owns (x ∷ es) below (A_mark ∷ items) k e lt own = refl
 
 -- an entry that becomes ready is an item as before
 pub readied_items : (es : List Pushed) (k : ℕ) (below : List Form) → objects (readied_at es k) below ≡ objects es below

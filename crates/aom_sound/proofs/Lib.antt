@@ -30,9 +30,11 @@ pub mod Wiring
 pub mod Bodies
 pub mod Looping
 pub mod Quiet
+pub mod InRange
 pub mod Clearing
 pub mod Caught
 pub mod Course
 pub mod Standing
 pub mod Trapping
-pub mod Stuck
+pub mod Owning
+pub mod Biting

@@ -339,7 +339,7 @@ moves p looped_so c s u h e = go s.tasks refl h e
         runs : (i : Option Instr) → instr_at p fr.method fr.place ≡ i → step_instr p c fr ts (counted p s) i ≡ Goes u → RoundsLeft p u.tasks
         runs None there e = cc
         runs (Some i) there e = subst (λ v. RoundsLeft p v.tasks) (guarded_goes (needs p c fr ts (counted p s) i) (does p c fr ts (counted p s) i) u e) (acts p looped_so c fr ts (counted p s) (subst (λ ts. RoundsLeft p ts) (sym at) h) h.0 h.1 i there)
-    go (Trapped ∷ ts) at h e = subst (λ v. RoundsLeft p v.tasks) (goes_same (counted p s) u e) (subst (λ ts. RoundsLeft p ts) (sym at) h)
+    go (Trapped ∷ ts) at h e = cc
     go (Destroy ∷ ts) at h e = goes_away p (held s.cells (Going (length ts))) ts (counted p s) u h e
     go (Unwind code ∷ ts) at h e = unwinds p code ts (counted p s) u (counted p s).items h e
     go (Dispatched d ∷ ts) at h e = subst (λ v. RoundsLeft p v.tasks) (goes_same (dispatch_ends p d (counted p s)) u e) (ends p (counted p s) d)

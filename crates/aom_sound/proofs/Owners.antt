@@ -1,30 +1,32 @@
--- In a well-typed state each cell has one living owner, and following owners ends.
+-- In a well-typed state each cell has one living owner, and following owners ends: by what the layers claim of the owner.
 use Rattle.std.proofs.Common.{Bool, List, None, Option, Some, [], ap, arith, cond, false, length, refl, subst, suc, sym, true, zero, ℕ, ⊎_elim, ◌+◌, ◌<◌, ◌==◌, ◌∙◌, ◌∷◌, ◌≡◌, ◌≤◌}
-use Rattle.std.proofs.lemmas.Bool.{cases_lt, eqb-true}
+use Rattle.std.proofs.lemmas.Bool.{cases_lt, eqb-true, ne_eqb}
 use Rattle.std.proofs.lemmas.Option.{slice_get_within}
-use Rattle.std.specs.Prelude.{slice_get}
+use Rattle.std.specs.Prelude.{IsSome, is_some, slice_get}
 use Rattle.aom_image.specs.Image.{Image}
 use Rattle.aom_image.specs.Views.{class_at, fields_in}
 use Rattle.aom_image.specs.declared.class.ClassDecl.{ClassDecl}
 use Rattle.aom_image.specs.declared.method.Thing.{Thing}
 use Rattle.aom_image.specs.declared.method.Thing.TheVariants.{Message, Object as An_object_of}
-use Rattle.aom_shape.specs.Kinds.{field, filled}
-use Rattle.aom_shape.specs.Tables.{at}
-use Rattle.aom_shape.specs.Things.{field_thing}
+use Rattle.aom_shape.specs.Kinds.{entry_kind, field, filled, register}
+use Rattle.aom_shape.specs.Things.{Program, field_thing}
 use Rattle.aom_shape.specs.Typing.{Typing}
+use Rattle.aom_shape.specs.declared.kind.Entry.{Entry as Pushed}
+use Rattle.aom_shape.specs.declared.kind.Entry.TheVariants.{Object as Pushed_object, Operation as Pushed_operation}
 use Rattle.aom_shape.specs.declared.kind.Filling.{Filling}
 use Rattle.aom_shape.specs.declared.kind.Filling.TheVariants.{Empty, Full, Perhaps}
 use Rattle.aom_shape.specs.declared.kind.Kind.{Kind}
 use Rattle.aom_shape.specs.declared.kind.Kind.TheVariants.{Maybe, Null, Own, Unset, Word}
-use Rattle.aom_sound.proofs.Claimed.{claim_entry_above, claim_going_above, claim_register_above}
+use Rattle.aom_sound.proofs.Claimed.{claim_entry_above, claim_register_above}
 use Rattle.aom_sound.proofs.Items.{length_forms}
 use Rattle.aom_sound.proofs.Maps.{same_place-true, same_place_refl}
 use Rattle.aom_sound.proofs.Things.{stands_same}
-use Rattle.aom_sound.specs.Claims.{Dispatching, Dying, Layer, Mark, Method, Unwinding, claim, declared, declared_field, home_claim, items_of, task_of, tasks_of}
-use Rattle.aom_sound.specs.Laws.{IsWired}
-use Rattle.aom_sound.specs.Owned.{AllOwned, Ends, Lives, Owned, at_entry, at_register, at_root, by_cell}
+use Rattle.aom_sound.specs.Claims.{Dispatching, Dying, Layer, Mark, Mark_form, Method, Object_form, Unwinding, claim, declared, declared_field, entry_claim, entry_form, form, forms, home_claim, items_of, objects, root_claim, task_of, tasks_of}
+use Rattle.aom_sound.specs.Laws.{EndsEmpty, EndsOwned, IsWired}
+use Rattle.aom_sound.specs.Owned.{AllOwned, Ends, HasRegisters, IsObjects, Lives, NoneGoes, Owned, at_entry, at_register, at_root, by_cell, over}
 use Rattle.aom_sound.specs.Places.{Cell, Elsewhere, Entry, Field, Going, Object, Place, Register, Root, Tidy, held, named, same_place}
-use Rattle.aom_sound.specs.State.{AtRoot, Dispatch, Dispatched, Home, Inside, State, Static, thing_holder}
+use Rattle.aom_sound.specs.Registers.{AllInRange, IsInRange}
+use Rattle.aom_sound.specs.State.{A_mark, An_object, An_operation, AtRoot, Dispatch, Dispatched, Home, Inside, Item, Main_left, Of_main, Of_root, Run, State, Static, thing_holder}
 use Rattle.aom_sound.specs.WellTyped.{Back, Caught, Fits, Gone, IsHoused, Leaves, Now, Returns, Stack, WellTyped}
 
 -- what a kind of an owning place says of the thing
@@ -42,6 +44,10 @@ fits_thing p h o Null f = f
 fits_thing p h o (Own c a) f = stands_same p o.thing c f.0
 fits_thing p h o (Maybe c a) f = stands_same p o.thing c f.0
 
+-- the first cell is held by its owner
+held_first : (c : Cell) (cs : List Cell) → held (c ∷ cs) c.owner ≡ Some c.object
+held_first c cs = ap (λ b. cond b (Some c.object) (held cs c.owner)) (same_place_refl c.owner)
+
 -- what the other cells hold is held in all
 later : (cs : List Cell) (c : Cell) (q : Place) (o : Object) → Tidy (c ∷ cs) → held cs q ≡ Some o → held (c ∷ cs) q ≡ Some o
 later cs c q o t h = go (same_place c.owner q) refl
@@ -56,18 +62,15 @@ named_held [] n o t e = cc
 named_held (c ∷ cs) n o t e = go (c.object.name == n) (λ e. named_held cs n o t.2 e) e
   where
     go : (b : Bool) → (named cs n ≡ Some o → (q : Place) × (held cs q ≡ Some o)) → cond b (Some c.object) (named cs n) ≡ Some o → (q : Place) × (held (c ∷ cs) q ≡ Some o)
-    go true ih e = (c.owner, ap (λ b. cond b (Some c.object) (held cs c.owner)) (same_place_refl c.owner) ∙ e)
+    go true ih e = (c.owner, held_first c cs ∙ e)
     go false ih e = let w = ih e in (w.0, later cs c w.0 o t w.1)
 
--- the claim of a field has the class that the cell's class declares
-filled_thing : (p : Image) (x : Thing) (f : ℕ) (c : Thing) (y : Filling) → HasThing (filled (field_thing p (thing_holder x) f) y) c → field_thing p (thing_holder x) f ≡ Some c
-filled_thing p x f c y h = go (field_thing p (thing_holder x) f) y h
-  where
-    go : (k : Option Thing) (y : Filling) → HasThing (filled k y) c → k ≡ Some c
-    go None y h = absurd h
-    go (Some d) Empty h = absurd h
-    go (Some d) Full h = ap (λ z. Some z) (sym h)
-    go (Some d) Perhaps h = ap (λ z. Some z) (sym h)
+-- what is claimed to be filled is declared for a thing
+filled_thing : (k : Option Thing) (y : Filling) (x : Thing) → HasThing (filled k y) x → k ≡ Some x
+filled_thing None y x h = absurd h
+filled_thing (Some d) Empty x h = absurd h
+filled_thing (Some d) Full x h = ap (λ z. Some z) (sym h)
+filled_thing (Some d) Perhaps x h = ap (λ z. Some z) (sym h)
 
 -- what is declared of a field, by the cell that has it
 declared_thing_of : (p : Image) (cs : List Cell) (n f : ℕ) (c : Thing) → HasThing (declared p cs (Field n f)) c → (o : Object) × (named cs n ≡ Some o) × (field_thing p (thing_holder o.thing) f ≡ Some c)
@@ -75,22 +78,19 @@ declared_thing_of p cs n f c h = go (named cs n) refl h
   where
     go : (o : Option Object) → named cs n ≡ o → HasThing (declared_field p o f) c → (o : Object) × (named cs n ≡ Some o) × (field_thing p (thing_holder o.thing) f ≡ Some c)
     go None e h = absurd h
-    go (Some o) e h = (o, e, filled_thing p o.thing f c Perhaps h)
+    go (Some o) e h = (o, e, filled_thing (field_thing p (thing_holder o.thing) f) Perhaps c h)
 
 field_thing_of : (p : Image) (t : Typing) (cs : List Cell) (ls : List Layer) (back : Back) (n f : ℕ) (c : Thing) → Stack p t cs back ls → HasThing (claim p (declared p cs) ls (Field n f)) c → (o : Object) × (named cs n ≡ Some o) × (field_thing p (thing_holder o.thing) f ≡ Some c)
 field_thing_of p t cs [] back n f c s h = declared_thing_of p cs n f c h
 field_thing_of p t cs (Method fr sh ∷ ls) back n f c s h = go fr.home s.2 (field_thing_of p t cs ls (Returns fr.method fr.home) n f c s.4) h
   where
-    Result : Type 0
-    Result = (o : Object) × (named cs n ≡ Some o) × (field_thing p (thing_holder o.thing) f ≡ Some c)
-
     go : (home : Home) → IsHoused p cs ls home → (HasThing (claim p (declared p cs) ls (Field n f)) c → (o : Object) × (named cs n ≡ Some o) × (field_thing p (thing_holder o.thing) f ≡ Some c)) → HasThing (home_claim p home sh n f (claim p (declared p cs) ls (Field n f))) c → (o : Object) × (named cs n ≡ Some o) × (field_thing p (thing_holder o.thing) f ≡ Some c)
     go Static hs ih h = ih h
     go AtRoot hs ih h = ih h
     go (Inside o from) hs ih h = inside (o.name == n) refl h
       where
         inside : (b : Bool) → (o.name == n) ≡ b → HasThing (cond b (filled (field_thing p (thing_holder o.thing) f) (field sh f)) (claim p (declared p cs) ls (Field n f))) c → (o : Object) × (named cs n ≡ Some o) × (field_thing p (thing_holder o.thing) f ≡ Some c)
-        inside true e h = (o, ap (λ m. named cs m) (sym (eqb-true o.name n e)) ∙ hs.lives, filled_thing p o.thing f c (field sh f) h)
+        inside true e h = (o, ap (λ m. named cs m) (sym (eqb-true o.name n e)) ∙ hs.lives, filled_thing (field_thing p (thing_holder o.thing) f) (field sh f) c h)
         inside false e h = ih h
 field_thing_of p t cs (Mark gv ∷ ls) back n f c s h = field_thing_of p t cs ls (Caught gv) n f c s.1 h
 field_thing_of p t cs (Unwinding code es ∷ ls) back n f c s h = field_thing_of p t cs ls Leaves n f c s.1 h
@@ -100,6 +100,103 @@ field_thing_of p t cs (Dying o ∷ ls) back n f c s h = go (o.name == n) (field_
     go : (b : Bool) → (HasThing (claim p (declared p cs) ls (Field n f)) c → (o : Object) × (named cs n ≡ Some o) × (field_thing p (thing_holder o.thing) f ≡ Some c)) → HasThing (cond b Null (claim p (declared p cs) ls (Field n f))) c → (o : Object) × (named cs n ≡ Some o) × (field_thing p (thing_holder o.thing) f ≡ Some c)
     go true ih h = absurd h
     go false ih h = ih h
+
+-- ---- the places that are claimed to own live
+
+over_below : {A : Type 0} (x : A) (xs : List A) (k : ℕ) → k < length xs → over (x ∷ xs) k ≡ over xs k
+over_below x xs k lt = ap (λ b. cond b (Some x) (over xs k)) (ne_eqb (length xs) k (λ e. absurd (omega arith)))
+
+module _ (p : Image) (cs : List Cell) (x : Thing) where
+  abbrev Claims : List Layer → Place → Type 0
+  Claims ls q = HasThing (claim p (declared p cs) ls q) x
+
+  -- a null claim owns nothing
+  unclaimed : (ls : List Layer) (q : Place) → claim p (declared p cs) ls q ≡ Null → Claims ls q → ⊥
+  unclaimed ls q e h = subst (λ k. HasThing k x) e h
+
+  register_below : (ls : List Layer) (f i : ℕ) → Claims ls (Register f i) → f < length (tasks_of ls)
+  register_below ls f i h = ⊎_elim (λ lt. lt) (λ le. absurd (unclaimed ls (Register f i) (claim_register_above p cs ls f i le) h)) (cases_lt f (length (tasks_of ls)))
+
+  entry_below : (ls : List Layer) (k : ℕ) → Claims ls (Entry k) → k < length (items_of ls)
+  entry_below ls k h = ⊎_elim (λ lt. lt) (λ le. absurd (unclaimed ls (Entry k) (claim_entry_above p cs ls k le) h)) (cases_lt k (length (items_of ls)))
+
+  -- another layer has no registers
+  not_here : (l : Layer) (ls : List Layer) (f i : ℕ) → Claims ls (Register f i) → HasRegisters (over (tasks_of ls) f) → HasRegisters (over (tasks_of (l ∷ ls)) f)
+  not_here l ls f i h r = subst (λ o. HasRegisters o) (sym (over_below (task_of l) (tasks_of ls) f (register_below ls f i h))) r
+
+  registers_live : (ls : List Layer) (f i : ℕ) → Claims ls (Register f i) → HasRegisters (over (tasks_of ls) f)
+  registers_live [] f i h = absurd h
+  registers_live (Method fr sh ∷ ls) f i h = go (length (tasks_of ls) == f) (registers_live ls f i) h
+    where
+      go : (b : Bool) → (Claims ls (Register f i) → HasRegisters (over (tasks_of ls) f)) → HasThing (cond b (register sh i) (claim p (declared p cs) ls (Register f i))) x → HasRegisters (cond b (Some (Run fr)) (over (tasks_of ls) f))
+      go true below h = tt
+      go false below h = below h
+  registers_live (Mark gv ∷ ls) f i h = not_here (Mark gv) ls f i h (registers_live ls f i h)
+  registers_live (Dying o ∷ ls) f i h = not_here (Dying o) ls f i h (registers_live ls f i h)
+  registers_live (Unwinding code es ∷ ls) f i h = not_here (Unwinding code es) ls f i h (registers_live ls f i h)
+  registers_live (Dispatching w ∷ ls) f i h = not_here (Dispatching w) ls f i h (registers_live ls f i h)
+
+  -- of a layer's own entries, over the items below them
+  entries_live : (es : List Pushed) (ls : List Layer) (k : ℕ) → (Claims ls (Entry k) → over (items_of ls) k ≡ Some Object_form) → HasThing (entry_claim es (items_of ls) k (claim p (declared p cs) ls (Entry k))) x → over (objects es (items_of ls)) k ≡ Some Object_form
+  entries_live [] ls k below h = below h
+  entries_live (e ∷ es) ls k below h = go (length (objects es (items_of ls)) == k) (entries_live es ls k below) h
+    where
+      object : (e : Pushed) → HasThing (entry_kind e) x → Some (entry_form e) ≡ Some Object_form
+      object (Pushed_object c a) h = refl
+      object Pushed_operation h = absurd h
+
+      go : (b : Bool) → (HasThing (entry_claim es (items_of ls) k (claim p (declared p cs) ls (Entry k))) x → over (objects es (items_of ls)) k ≡ Some Object_form) → HasThing (cond b (entry_kind e) (entry_claim es (items_of ls) k (claim p (declared p cs) ls (Entry k)))) x → cond b (Some (entry_form e)) (over (objects es (items_of ls)) k) ≡ Some Object_form
+      go true rest h = object e h
+      go false rest h = rest h
+
+  items_live : (ls : List Layer) (k : ℕ) → Claims ls (Entry k) → over (items_of ls) k ≡ Some Object_form
+  items_live [] k h = absurd h
+  items_live (Method fr sh ∷ ls) k h = entries_live sh.entries ls k (items_live ls k) h
+  items_live (Mark gv ∷ ls) k h = over_below Mark_form (items_of ls) k (entry_below ls k h) ∙ items_live ls k h
+  items_live (Dying o ∷ ls) k h = items_live ls k h
+  items_live (Unwinding code es ∷ ls) k h = entries_live es ls k (items_live ls k) h
+  items_live (Dispatching w ∷ ls) k h = items_live ls k h
+
+  -- the root is claimed where the image has one
+  root_lives : (ls : List Layer) → Claims ls (Elsewhere Root) → IsSome (field_thing p Program 0)
+  root_lives [] h = ap is_some (filled_thing (field_thing p Program 0) Perhaps x h)
+  root_lives (Method fr sh ∷ ls) h = go fr.home (root_lives ls) h
+    where
+      go : (home : Home) → (Claims ls (Elsewhere Root) → IsSome (field_thing p Program 0)) → HasThing (root_claim p home sh (claim p (declared p cs) ls (Elsewhere Root))) x → IsSome (field_thing p Program 0)
+      go Static below h = below h
+      go AtRoot below h = ap is_some (filled_thing (field_thing p Program 0) (field sh 0) x h)
+      go (Inside o from) below h = below h
+  root_lives (Mark gv ∷ ls) h = root_lives ls h
+  root_lives (Dying o ∷ ls) h = root_lives ls h
+  root_lives (Unwinding code es ∷ ls) h = root_lives ls h
+  root_lives (Dispatching Of_main ∷ ls) h = root_lives ls h
+  root_lives (Dispatching (Main_left code) ∷ ls) h = root_lives ls h
+  root_lives (Dispatching Of_root ∷ ls) h = absurd h
+
+-- an item of that form is an object's
+objects_item : (items : List Item) (k : ℕ) → over (forms items) k ≡ Some Object_form → IsObjects (over items k)
+objects_item [] k e = cc
+objects_item (i ∷ items) k e = go (length items == k) (objects_item items k) (ap (λ n. cond (n == k) (Some (form i)) (over (forms items) k)) (sym (length_forms items)) ∙ e)
+  where
+    here : (i : Item) → Some (form i) ≡ Some Object_form → IsObjects (Some i)
+    here An_object e = tt
+    here (An_operation m w) e = cc
+    here A_mark e = cc
+
+    go : (b : Bool) → (over (forms items) k ≡ Some Object_form → IsObjects (over items k)) → cond b (Some (form i)) (over (forms items) k) ≡ Some Object_form → IsObjects (cond b (Some i) (over items k))
+    go true rest e = here i e
+    go false rest e = rest e
+
+-- with no destruction at hand nothing is on its way
+none_going : (p : Image) (d : Place → Kind) (ls : List Layer) (k : ℕ) → NoneGoes (tasks_of ls) → claim p d ls (Going k) ≡ d (Going k)
+none_going p d [] k clear = refl
+none_going p d (Method fr sh ∷ ls) k clear = none_going p d ls k clear
+none_going p d (Mark gv ∷ ls) k clear = none_going p d ls k clear
+none_going p d (Dying o ∷ ls) k clear = absurd clear
+none_going p d (Unwinding code es ∷ ls) k clear = none_going p d ls k clear
+none_going p d (Dispatching w ∷ ls) k clear = none_going p d ls k clear
+
+-- ---- following owners ends
 
 -- how far down a thing stands: messages own nothing, and what a class's fields may own has a lower class
 abbrev rank : Thing → ℕ
@@ -124,74 +221,61 @@ declaring p (An_object_of c) y f e = go (slice_get p.classes c) refl e
     go (Some k) at h = let lt = slice_get_within p.classes c k at in omega arith
 declaring p Message y f e = cc
 
-module _ (p : Image) (t : Typing) (wired : IsWired p) (s : State) (w : WellTyped p t s) (settled : (k : ℕ) → claim p (declared p s.cells) w.layers (Going k) ≡ Null) where
+module _ (p : Image) (t : Typing) (wired : IsWired p) (s : State) (w : WellTyped p t s) (clear : NoneGoes s.tasks) where
   kind_at : (q : Place) (o : Object) → held s.cells q ≡ Some o → HasThing (claim p (declared p s.cells) w.layers q) o.thing
   kind_at q o e = fits_thing p (held s.cells) o _ (subst (λ x. Fits p (held s.cells) x (claim p (declared p s.cells) w.layers q)) e (w.good.fits q))
 
-  no_thing : (k : Kind) (x : Thing) → k ≡ Null → HasThing k x → ⊥
-  no_thing k x e h = subst (λ k. HasThing k x) e h
+  -- nothing is owned by a destruction
+  unowned_going : (k : ℕ) (o : Object) → held s.cells (Going k) ≡ Some o → ⊥
+  unowned_going k o e = unclaimed p s.cells o.thing w.layers (Going k) (none_going p (declared p s.cells) w.layers k (subst (λ ts. NoneGoes ts) w.tasks clear)) (kind_at (Going k) o e)
 
-  lives : (q : Place) (o : Object) → held s.cells q ≡ Some o → Lives s q
-  lives (Register f i) o e = ⊎_elim (λ lt. subst (λ ts. f < length ts) (sym w.tasks) lt) (λ le. absurd (no_thing _ _ (claim_register_above p s.cells w.layers f i le) (kind_at (Register f i) o e))) (cases_lt f (length (tasks_of w.layers)))
-  lives (Entry k) o e = ⊎_elim (λ lt. subst (λ n. k < n) (sym (ap length w.items) ∙ length_forms s.items) lt) (λ le. absurd (no_thing _ _ (claim_entry_above p s.cells w.layers k le) (kind_at (Entry k) o e))) (cases_lt k (length (items_of w.layers)))
-  lives (Field n f) o e = let x = field_thing_of p t s.cells w.layers Now n f o.thing w.good.stack (kind_at (Field n f) o e) in (x.0, x.1)
-  lives (Elsewhere Root) o e = tt
-  lives (Going k) o e = ⊎_elim (λ lt. subst (λ ts. k < length ts) (sym w.tasks) lt) (λ le. absurd (no_thing _ _ (claim_going_above p s.cells w.layers k le) (kind_at (Going k) o e))) (cases_lt k (length (tasks_of w.layers)))
+  lives : (q : Place) (o : Object) → IsInRange q → held s.cells q ≡ Some o → Lives p s q
+  lives (Register f i) o fits e = (subst (λ ts. HasRegisters (over ts f)) (sym w.tasks) (registers_live p s.cells o.thing w.layers f i (kind_at (Register f i) o e)), fits)
+  lives (Entry k) o fits e = objects_item s.items k (ap (λ is. over is k) w.items ∙ items_live p s.cells o.thing w.layers k (kind_at (Entry k) o e))
+  lives (Field n f) o fits e = let x = field_thing_of p t s.cells w.layers Now n f o.thing w.good.stack (kind_at (Field n f) o e) in (x.0, x.1, ap is_some x.2)
+  lives (Elsewhere Root) o fits e = root_lives p s.cells o.thing w.layers (kind_at (Elsewhere Root) o e)
+  lives (Going k) o fits e = absurd (unowned_going k o e)
 
   -- the owner stands higher, so that following owners ends
-  ends : (fuel : ℕ) (q : Place) (o : Object) → held s.cells q ≡ Some o → length p.classes ≤ rank o.thing + fuel → Ends s q
-  ends fuel (Register f i) o e le = at_register
-  ends fuel (Entry k) o e le = at_entry
-  ends fuel (Elsewhere Root) o e le = at_root
-  ends fuel (Going k) o e le = absurd (no_thing _ _ (settled k) (kind_at (Going k) o e))
-  ends zero (Field n f) o e le =
+  ends_by : (fuel : ℕ) (q : Place) (o : Object) → held s.cells q ≡ Some o → length p.classes ≤ rank o.thing + fuel → Ends s q
+  ends_by fuel (Register f i) o e le = at_register
+  ends_by fuel (Entry k) o e le = at_entry
+  ends_by fuel (Elsewhere Root) o e le = at_root
+  ends_by fuel (Going k) o e le = absurd (unowned_going k o e)
+  ends_by zero (Field n f) o e le =
       let x = field_thing_of p t s.cells w.layers Now n f o.thing w.good.stack (kind_at (Field n f) o e) in
       let lower = lower_rank p wired x.0.thing o.thing f x.2 in
       let there = declaring p x.0.thing o.thing f x.2 in
       absurd (omega arith)
-  ends (suc fuel) (Field n f) o e le =
+  ends_by (suc fuel) (Field n f) o e le =
       let x = field_thing_of p t s.cells w.layers Now n f o.thing w.good.stack (kind_at (Field n f) o e) in
       let lower = lower_rank p wired x.0.thing o.thing f x.2 in
       let y = named_held s.cells n x.0 w.good.tidy x.1 in
-      by_cell x.0 y.0 x.1 y.1 (ends fuel y.0 x.0 y.1 (omega arith))
+      by_cell x.0 y.0 x.1 y.1 (ends_by fuel y.0 x.0 y.1 (omega arith))
 
-  all_owned : (cs : List Cell) → ((q : Place) (o : Object) → held cs q ≡ Some o → held s.cells q ≡ Some o) → Tidy cs → AllOwned s cs
-  all_owned [] up t' = tt
-  all_owned (c ∷ cs) up t' =
-      let e : held s.cells c.owner ≡ Some c.object = up c.owner c.object (ap (λ b. cond b (Some c.object) (held cs c.owner)) (same_place_refl c.owner)) in
-      ((lives c.owner c.object e, ends (length p.classes) c.owner c.object e (omega arith)), all_owned cs (λ q o h. up q o (later cs c q o t' h)) t'.2)
+  ends : (q : Place) (o : Object) → held s.cells q ≡ Some o → Ends s q
+  ends q o e = ends_by (length p.classes) q o e (omega arith)
 
-  pub owned : AllOwned s s.cells
-  owned = all_owned s.cells (λ q o h. h) w.good.tidy
+  all_owned : (cs : List Cell) → ((q : Place) (o : Object) → held cs q ≡ Some o → held s.cells q ≡ Some o) → Tidy cs → AllInRange cs → AllOwned p s cs
+  all_owned [] up t' fits = tt
+  all_owned (c ∷ cs) up t' fits =
+      let e : held s.cells c.owner ≡ Some c.object = up c.owner c.object (held_first c cs) in
+      ((lives c.owner c.object fits.0 e, ends c.owner c.object e), all_owned cs (λ q o h. up q o (later cs c q o t' h)) t'.2 fits.1)
 
--- the layers of what is at hand
-pub layers_none : (ls : List Layer) → tasks_of ls ≡ [] → ls ≡ []
-layers_none [] e = refl
-layers_none (l ∷ ls) e = cc
-
-one_dispatch : (l : Layer) (d : Dispatch) → task_of l ≡ Dispatched d → l ≡ Dispatching d
-one_dispatch (Method fr sh) d e = cc
-one_dispatch (Mark gv) d e = cc
-one_dispatch (Dying o) d e = cc
-one_dispatch (Unwinding code es) d e = cc
-one_dispatch (Dispatching w) d e = cc
-
-going_idle : (p : Image) (d : Place → Kind) (ls : List Layer) (k : ℕ) → tasks_of ls ≡ [] → claim p d ls (Going k) ≡ d (Going k)
-going_idle p d ls k e = ap (λ l. claim p d l (Going k)) (layers_none ls e)
-
-going_last : (p : Image) (d : Place → Kind) (w : Dispatch) (ls : List Layer) (k : ℕ) → tasks_of ls ≡ Dispatched w ∷ [] → claim p d ls (Going k) ≡ d (Going k)
-going_last p d w [] k e = cc
-going_last p d w (l ∷ ls) k e =
-    let same : task_of l ≡ Dispatched w = cc in
-    let rest : tasks_of ls ≡ [] = cc in
-    ap (λ l. claim p d (l ∷ ls) (Going k)) (one_dispatch l w same) ∙ going_idle p d ls k rest
+  pub owned : AllInRange s.cells → Owned p s
+  owned fits = record { each = all_owned s.cells (λ q o h. h) w.good.tidy fits; settled = clear }
 
 -- at a dispatch's end, and between dispatches
-pub ends_owned : (p : Image) (t : Typing) → IsWired p → (s : State) → WellTyped p t s → ((d : Dispatch) → s.tasks ≡ Dispatched d ∷ [] → Owned s) × (s.tasks ≡ [] → Owned s)
-ends_owned p t wired s w = (
-  λ d e. owned p t wired s w (λ k. going_last p (declared p s.cells) d w.layers k (sym w.tasks ∙ e)),
-  λ e. owned p t wired s w (λ k. going_idle p (declared p s.cells) w.layers k (sym w.tasks ∙ e)),
+pub ends_owned : EndsOwned
+ends_owned p t wired s w fits = (
+  λ d e. owned p t wired s w (subst (λ ts. NoneGoes ts) (sym e) tt) fits,
+  λ e. owned p t wired s w (subst (λ ts. NoneGoes ts) (sym e) tt) fits,
 )
+
+-- the layers of what is at hand
+layers_none : (ls : List Layer) → tasks_of ls ≡ [] → ls ≡ []
+layers_none [] e = refl
+layers_none (l ∷ ls) e = cc
 
 -- with nothing at hand a place but a field or the root holds nothing, so that without a root nothing is held
 module _ (p : Image) (t : Typing) (s : State) (w : WellTyped p t s) (idle : s.tasks ≡ []) (rootless : held s.cells (Elsewhere Root) ≡ None) where
@@ -206,9 +290,11 @@ module _ (p : Image) (t : Typing) (s : State) (w : WellTyped p t s) (idle : s.ta
   nowhere q o at_root e = let clash : Some o ≡ None = sym e ∙ rootless in cc
   nowhere q o (by_cell x r named there ends) e = nowhere r x ends there
 
-  none_left : (cs : List Cell) → s.cells ≡ cs → AllOwned s cs → cs ≡ []
-  none_left [] e all = refl
-  none_left (c ∷ cs) e all = absurd (nowhere c.owner c.object all.0.1 (ap (λ l. held l c.owner) e ∙ ap (λ b. cond b (Some c.object) (held cs c.owner)) (same_place_refl c.owner)))
+  none_left : IsWired p → (cs : List Cell) → s.cells ≡ cs → cs ≡ []
+  none_left wired [] e = refl
+  none_left wired (c ∷ cs) e =
+      let there : held s.cells c.owner ≡ Some c.object = ap (λ l. held l c.owner) e ∙ held_first c cs in
+      absurd (nowhere c.owner c.object (ends p t wired s w (subst (λ ts. NoneGoes ts) (sym idle) tt) c.owner c.object there) there)
 
-pub ends_empty : (p : Image) (t : Typing) → IsWired p → (s : State) → WellTyped p t s → s.tasks ≡ [] → held s.cells (Elsewhere Root) ≡ None → s.cells ≡ []
-ends_empty p t wired s w idle rootless = none_left p t s w idle rootless s.cells refl ((ends_owned p t wired s w).1 idle)
+pub ends_empty : EndsEmpty
+ends_empty p t wired s w idle rootless = none_left p t s w idle rootless wired s.cells refl

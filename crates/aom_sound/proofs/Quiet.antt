@@ -31,6 +31,7 @@ use Rattle.aom_sound.specs.Destruction.{begun, begun_by, destructor_of, gone, ow
 use Rattle.aom_sound.specs.Laws.{IsWired}
 use Rattle.aom_sound.specs.Moves.{counted, dispatch_ends, does, main_ends, needs, step, step_instr, step_task}
 use Rattle.aom_sound.specs.Objects.{deleted, jumped}
+use Rattle.aom_sound.specs.Owned.{NoneGoes}
 use Rattle.aom_sound.specs.Places.{Cell, Elsewhere, Entry, Going, Object, Place, Root, held, without}
 use Rattle.aom_sound.specs.Quiet.{CalmKeeps, CaughtOwned, IsCalm, is_clearing}
 use Rattle.aom_sound.specs.State.{A_mark, An_object, An_operation, Choice, Destroy, Dispatch, Dispatched, Frame, Goes, IsStuck, Item, Main_left, Need, NullOrDead, Of_main, Of_root, Orphan, Run, State, Task, Trapped, Unwind, counter, field_place, guarded, next, resumed, set_word}
@@ -269,7 +270,7 @@ moves p t wired typed c s u w h e = go s.tasks refl h e
         let e' = subst (λ i. step_instr p c fr ts s' i ≡ Goes u) x.stands e in
         subst (λ v. IsCalm p v.tasks) (guarded_goes (needs p c fr ts s' x.instr) (does p c fr ts s' x.instr) u e')
         (acts_calm p wired c fr stands.0 ts s' w.undos at h x.instr x.needs (guarded_met (needs p c fr ts s' x.instr) (does p c fr ts s' x.instr) u e'))
-    go (Trapped ∷ ts) at h e = stays (Trapped ∷ ts) at h e
+    go (Trapped ∷ ts) at h e = cc
     go (Destroy ∷ ts) at h e = goes_calm p wired (held s.cells (Going (length ts))) ts s' u h e
     go (Unwind code ∷ ts) at h e = unwinds_calm p wired code ts s.items s' u w.undos h e
     go (Dispatched d ∷ ts) at h e = subst (λ v. IsCalm p v.tasks) (goes_same (dispatch_ends p d s') u e) (ends_calm p wired s' d)
@@ -284,22 +285,13 @@ boot p = begins (main_of p)
 pub calm_keeps : CalmKeeps
 calm_keeps = record { boot = boot; moves = moves }
 
--- with no destruction at hand nothing is on its way
-none_going : (p : Image) (d : Place → Kind) (ls : List Layer) (k : ℕ) → is_clearing (tasks_of ls) ≡ false → claim p d ls (Going k) ≡ d (Going k)
-none_going p d [] k e = refl
-none_going p d (Method fr sh ∷ ls) k e = none_going p d ls k e
-none_going p d (Mark gv ∷ ls) k e = none_going p d ls k e
-none_going p d (Dying o ∷ ls) k e = absurd (true≢false e)
-none_going p d (Unwinding code es ∷ ls) k e = absurd (true≢false e)
-none_going p d (Dispatching w ∷ ls) k e = none_going p d ls k e
+none_goes : (ts : List Task) → is_clearing ts ≡ false → NoneGoes ts
+none_goes [] e = tt
+none_goes (Run fr ∷ ts) e = none_goes ts e
+none_goes (Trapped ∷ ts) e = none_goes ts e
+none_goes (Destroy ∷ ts) e = absurd (true≢false e)
+none_goes (Unwind code ∷ ts) e = absurd (true≢false e)
+none_goes (Dispatched d ∷ ts) e = none_goes ts e
 
 pub caught_owned : CaughtOwned
-caught_owned p t wired s w calm code tasks items at top = owned p t wired s w (λ k. go w.layers (sym w.tasks ∙ at) (subst (λ l. IsCalm p l) at calm).0 k)
-  where
-    go : (ls : List Layer) → tasks_of ls ≡ Unwind code ∷ tasks → is_clearing tasks ≡ false → (k : ℕ) → claim p (declared p s.cells) ls (Going k) ≡ Null
-    go [] e clear k = cc
-    go (Method fr sh ∷ ls) e clear k = cc
-    go (Mark gv ∷ ls) e clear k = cc
-    go (Dying o ∷ ls) e clear k = cc
-    go (Unwinding x es ∷ ls) e clear k = let same : tasks_of ls ≡ tasks = cc in none_going p (declared p s.cells) ls k (ap is_clearing same ∙ clear)
-    go (Dispatching d ∷ ls) e clear k = cc
+caught_owned p t wired s w calm fits code tasks items at top = owned p t wired s w (subst (λ l. NoneGoes l) (sym at) (none_goes tasks (subst (λ l. IsCalm p l) at calm).0)) fits

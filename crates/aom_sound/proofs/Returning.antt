@@ -22,7 +22,7 @@ use Rattle.aom_shape.specs.declared.kind.Kind.{Kind}
 use Rattle.aom_shape.specs.declared.kind.Kind.TheVariants.{Maybe, Null, Own, Unset, Word}
 use Rattle.aom_sound.proofs.Claimed.{claim-set_register, claim_frame, claim_push, claim_register_above, claim_weaker, declared_moved, fits_weaker, keep_fits, mark_claims, stack_moved, word_fits_weaker}
 use Rattle.aom_sound.proofs.Finishing.{ended, left_alone, left_held, none_left, return_needs, returnable, same_items}
-use Rattle.aom_sound.proofs.Items.{forms_below, undos_below}
+use Rattle.aom_sound.proofs.Items.{forms_below, mark_on_top, undos_below}
 use Rattle.aom_sound.proofs.Maps.{at-put_at, held_moved, same_place-true, same_place_refl, tidy_moved}
 use Rattle.aom_sound.proofs.Straight.{At, Fitted, Law, claim_register, fits_unowning, housed_relocated, next_unowning, no_word_fits, register_fits, settle, stepped, top, word_of_object, words_set, write}
 use Rattle.aom_sound.proofs.Things.{stands_same}
@@ -258,8 +258,17 @@ module _ (p : Image) (t : Typing) (c : Choice) (s : State) (fr fr2 : Frame) (sh 
       let e = catches.0 in
       let r = returnable p fr sh a n in
       let w = go (gives_of p fr.method) (subst (λ g. LeavesNone g) (sym e) catches.1) r.result r.entries r.free caller.0.1 (subst (λ g. Awaits g x sh2) (sym e) caller.0.2) (subst (λ g. Leads t fr2.method (suc fr2.place) (caught g x sh2)) (sym e) caller.0.3) in
-      (return_needs p t c s fr sh marked at_hand a r w.0 tt, w.1)
+      let mark = mark_on_top s.items _ (same_items p t c s fr sh marked at_hand (entries_none (gives_of p fr.method) (subst (λ g. LeavesNone g) (sym e) catches.1) r.entries)) in
+      (return_needs p t c s fr sh marked at_hand a r w.0 (mark, tt), w.1)
     where
+      -- what leaves no object has dealt with all its entries
+      entries_none : (g : Gives) → LeavesNone g → entries_done p g sh.entries ≡ true → no_entry sh.entries ≡ true
+      entries_none Nothing none e = e
+      entries_none A_word none e = e
+      entries_none (An_own y) none e = e
+      entries_none (A_maybe y) none e = e
+      entries_none (Left y) none e = absurd none
+
       x : ℕ
       x = result_register (instr_at p fr2.method fr2.place)
 
@@ -328,7 +337,7 @@ module _ (p : Image) (t : Typing) (c : Choice) (s : State) (fr : Frame) (sh : Sh
       let nothing : gives_of p fr.method ≡ Nothing = at_hand.good.stack.4.0.0 ∙ gives_nothing w below.0 in
       let entries : no_entry sh.entries ≡ true = none_left p fr sh a nothing r in
       let free : none_owns sh.registers ≡ true = ap (λ g. none_owns (result_moved p fr.method fr.place sh g a).registers) (sym nothing) ∙ r.free in (
-        return_needs p t c s fr sh dispatched at_hand a r (subst (λ g. AllTrue (result_needs p fr (tasks_of dispatched) s g a)) (sym nothing) tt) tt,
+        return_needs p t c s fr sh dispatched at_hand a r (subst (λ g. AllTrue (result_needs p fr (tasks_of dispatched) s g a)) (sym nothing) tt) (mark_on_top s.items _ (same_items p t c s fr sh dispatched at_hand entries), tt),
         record {
           layers = Dispatching w ∷ ls;
           tasks = refl;

@@ -11,6 +11,7 @@ use Rattle.aom_image.specs.declared.method.Thing.TheVariants.{Object as An_objec
 use Rattle.aom_shape.specs.Typing.{IsTyped, Typing}
 use Rattle.aom_sound.proofs.Booting.{boot_keeps}
 use Rattle.aom_sound.proofs.Closing.{root_gone}
+use Rattle.aom_sound.proofs.InRange.{registers_keep}
 use Rattle.aom_sound.proofs.Owners.{ends_empty, ends_owned}
 use Rattle.aom_sound.proofs.Quiet.{calm_keeps, caught_owned}
 use Rattle.aom_sound.proofs.Steps.{step_keeps}
@@ -23,6 +24,7 @@ use Rattle.aom_sound.specs.Moves.{IsOpen, counted, dispatch_ends, does, main_end
 use Rattle.aom_sound.specs.Objects.{deleted, jumped, no_words}
 use Rattle.aom_sound.specs.Places.{Elsewhere, Entry, Going, Object, Register, Root, held, with_new, without}
 use Rattle.aom_sound.specs.Quiet.{IsCalm}
+use Rattle.aom_sound.specs.Registers.{AllInRange}
 use Rattle.aom_sound.specs.State.{A_mark, An_object, An_operation, Choice, Destroy, Dispatch, Dispatched, Frame, Goes, IsStuck, Item, Main_left, Need, NullOrDead, Of_main, Of_root, Orphan, Outcome, Run, State, Task, Trapped, Unwind, counter, field_place, guarded, resumed, set_word}
 use Rattle.aom_sound.specs.WellTyped.{Good, Keeps, WellTyped}
 use Rattle.aom_sound.specs.Words.{branched, go_on, here, looped, read}
@@ -171,7 +173,7 @@ unwinding_holds p code ts s (A_mark ∷ items) = arrival_holds p code ts items s
 task_holds : (p : Image) (c : Choice) (s : State) (ts : List Task) → s.tasks ≡ ts → Uprooted s → Holds_on s.rest.ended (step_task p c s ts)
 task_holds p c s [] at gone = inl refl
 task_holds p c s (Run fr ∷ ts) at gone = instr_holds p c fr ts s (instr_at p fr.method fr.place)
-task_holds p c s (Trapped ∷ ts) at gone = inl refl
+task_holds p c s (Trapped ∷ ts) at gone = tt
 task_holds p c s (Destroy ∷ ts) at gone = gone_holds (held s.cells (Going (length ts))) ts s
 task_holds p c s (Unwind code ∷ ts) at gone = unwinding_holds p code ts s s.items
 task_holds p c s (Dispatched d ∷ ts) at gone = dispatch_holds p s d (λ e. gone ts (at ∙ ap (λ x. Dispatched x ∷ ts) e))
@@ -197,21 +199,24 @@ module _ (p : Image) (t : Typing) (refused : List ℕ) (wired : IsWired p) (type
   record Stays (s : State) : Type 0 where
     well : WellTyped p t s
     calm : IsCalm p s.tasks
+    in_range : AllInRange s.cells
     goes_on : GoesOn s
 
   moved_on : (s u : State) (c : Choice) → Stays s → IsBusy s → IsOpen p refused c s → step p c s ≡ Goes u → Stays u
   moved_on s u c h busy choice e = record {
     well = subst (λ o. Keeps p t o) e (step_keeps p t wired typed c s h.well choice.name);
     calm = calm_keeps.moves p t wired typed c s u h.well h.calm e;
+    in_range = registers_keep.moves p wired c s u h.in_range e;
     goes_on = ⊎_elim (λ same. inl (same ∙ busy_open s busy h.goes_on)) (λ idle. inr idle) (subst (λ o. Holds_on s.rest.ended o) e (task_holds p c (counted p s) s.tasks refl (uprooted_so p t s h.well)));
   }
 
   stays : (lines : List Line) (s : State) → Reaches p refused (boot_state p) lines s → Stays s
-  stays _ _ begins = record { well = boot_keeps p t wired typed; calm = calm_keeps.boot p; goes_on = inl refl }
+  stays _ _ begins = record { well = boot_keeps p t wired typed; calm = calm_keeps.boot p; in_range = registers_keep.boot p; goes_on = inl refl }
   stays _ _ (moves {lines = lines} {s = s} {u = u} c before busy choice e) = moved_on s u c (stays lines s before) busy choice e
   stays _ _ (waits {lines = lines} {s = s} before between) = let h = stays lines s before in record {
     well = record { layers = h.well.layers; tasks = h.well.tasks; items = h.well.items; undos = h.well.undos; good = h.well.good };
     calm = h.calm;
+    in_range = h.in_range;
     goes_on = inr (record { idle = between.idle; rootless = λ e. absurd (waiting_stopped e) });
   }
 
@@ -233,8 +238,8 @@ module _ (p : Image) (t : Typing) (refused : List ℕ) (wired : IsWired p) (type
   pub sound : IsSound p refused
   sound = record {
     goes_on = λ lines s r busy c choice. goes (step p c s) (step_keeps p t wired typed c s (stays lines s r).well choice.name);
-    caught = λ lines s code tasks items r at top. let h = stays lines s r in caught_owned p t wired s h.well h.calm code tasks items at top;
-    owned = λ lines s d r e. (ends_owned p t wired s (stays lines s r).well).0 d e;
+    caught = λ lines s code tasks items r at top. let h = stays lines s r in caught_owned p t wired s h.well h.calm h.in_range code tasks items at top;
+    owned = λ lines s d r e. let h = stays lines s r in (ends_owned p t wired s h.well h.in_range).0 d e;
     stopped_empty = λ lines s r e.
         let h = stays lines s r in
         let settled = over s Stopped h e in

@@ -185,7 +185,7 @@ stays p c s u h e = go s.tasks refl h e
         by_instr : (i : Option Instr) → instr_at p fr.method fr.place ≡ i → step_instr p c fr ts (counted p s) i ≡ Goes u → AllAtTraps p u.tasks
         by_instr None there e = cc
         by_instr (Some i) there e = subst (λ v. AllAtTraps p v.tasks) (guarded_goes (needs p c fr ts (counted p s) i) (does p c fr ts (counted p s) i) u e) (acts_there p c fr ts (counted p s) at h i there)
-    go (Trapped ∷ ts) at h e = same e (subst (λ l. AllAtTraps p l) (sym at) h)
+    go (Trapped ∷ ts) at h e = cc
     go (Destroy ∷ ts) at h e = goes_there p (held s.cells (Going (length ts))) ts (counted p s) u h e
     go (Unwind code ∷ ts) at h e = unwinds_there p code ts s.items (counted p s) u h e
     go (Dispatched d ∷ ts) at h e = subst (λ v. AllAtTraps p v.tasks) (goes_same (dispatch_ends p d (counted p s)) u e) (ends_there p (counted p s) d)

@@ -163,13 +163,22 @@ module _ (p : Image) (t : Typing) (c : Choice) (s : State) where
       go (Dispatching d ∷ ls) at items undos good = cc
 
   -- a trap is never on top
+  none_on_top : (ls : List Layer) (ts : List Task) → tasks_of ls ≡ Trapped ∷ ts → Good p t s.cells ls → ⊥
+  none_on_top [] ts e good = cc
+  none_on_top (Method fr sh ∷ ls) ts e good = cc
+  none_on_top (Mark gv ∷ ls) ts e good = good.stack.0
+  none_on_top (Unwinding code es ∷ ls) ts e good = cc
+  none_on_top (Dying o ∷ ls) ts e good = cc
+  none_on_top (Dispatching d ∷ ls) ts e good = cc
+
+  -- any task
   of_any : IsWired p → IsTyped p t → named s.cells c.name ≡ None → (ts : List Task) → s.tasks ≡ ts → WellTyped p t s → Keeps p t (step_task p c s s.tasks)
   of_any wired typed unused [] e w = subst (λ l. Keeps p t (step_task p c s l)) (sym e) w
   of_any wired typed unused (Run fr ∷ ts) e w = of_method wired typed unused fr ts e w
   of_any wired typed unused (Destroy ∷ ts) e w = of_going ts e w
   of_any wired typed unused (Unwind code ∷ ts) e w = of_unwinding wired typed code ts e w
   of_any wired typed unused (Dispatched d ∷ ts) e w = of_dispatch wired typed d ts e w
-  of_any wired typed unused (Trapped ∷ ts) e w = subst (λ l. Keeps p t (step_task p c s l)) (sym e) w
+  of_any wired typed unused (Trapped ∷ ts) e w = absurd (none_on_top w.layers ts (sym w.tasks ∙ e) w.good)
 
 pub move_keeps : (p : Image) (t : Typing) → IsWired p → IsTyped p t → (c : Choice) (s : State) (fr : Frame) (ts : List Task) → WellTyped p t s → s.tasks ≡ Run fr ∷ ts → named s.cells c.name ≡ None → Keeps p t (step p c s)
 move_keeps p t wired typed c s fr ts w e unused = of_method p t c (counted p s) wired typed unused fr ts e (counted_well p t s w)

@@ -363,7 +363,7 @@ module _ (p : Image) (t : Typing) (c : Choice) (s u : State) (w : WellTyped p t 
   by_task : (ts : List Task) → s.tasks ≡ ts → Ends below ts → step_task p c (counted p s) ts ≡ Goes u → Moved p below s u
   by_task [] at o e = stays_there [] at o e
   by_task (Run fr ∷ ts) at o e = by_instr fr ts at (under_frame below ts fr o) (instr_at p fr.method fr.place) e
-  by_task (Trapped ∷ ts) at o e = stays_there (Trapped ∷ ts) at o e
+  by_task (Trapped ∷ ts) at o e = cc
   by_task (Destroy ∷ ts) at o e = goes_there p (held s.cells (Going (length ts))) ts (counted p s) u below (under_going below ts o) e
   by_task (Unwind code ∷ ts) at o e = unwinds_there p code ts s.items (counted p s) u below at refl (under_leave below ts code o) e
   by_task (Dispatched d ∷ ts) at o e = absurd (none_below below (subst (λ l. Ends below l) (alone p t s w d ts at) (under_dispatch below ts d o)))

@@ -4,10 +4,12 @@ use Rattle.std.specs.Prelude.{is_none, ◌||◌, ◌⊎◌}
 use Rattle.std.proofs.lemmas.Option.{slice_get_within}
 use Rattle.aom_image.specs.Image.{Image}
 use Rattle.aom_image.specs.Views.{arguments_in, arguments_of, class_at, class_in, fields_in, gives_in, gives_of, instr_at, is_quiet, leaves, leaves_in, method_at, method_class, method_role, quiet_in, role_in}
-use Rattle.aom_image.specs.WellFormed.{MethodFits, WellFormed}
+use Rattle.aom_image.specs.WellFormed.{InstrFits, MethodFits, WellFormed, limits}
 use Rattle.aom_image.specs.declared.class.ClassDecl.{ClassDecl}
+use Rattle.aom_image.specs.declared.instr.Instr.{Instr}
 use Rattle.aom_image.specs.declared.instr.Instr.TheVariants.{Call, PushOperation, Trap}
 use Rattle.aom_image.specs.declared.instr.Target.{Target}
+use Rattle.aom_image.specs.declared.limits.Limits.{Limits}
 use Rattle.aom_image.specs.declared.method.Gives.{Gives}
 use Rattle.aom_image.specs.declared.method.Gives.TheVariants.{Left, Maybe as A_maybe, Nothing, Own as An_own, Word as A_word}
 use Rattle.aom_image.specs.declared.method.Method.{Method as Method_declared}
@@ -119,6 +121,14 @@ module _ (p : Image) (formed : WellFormed p) (linked : IsLinked p) where
         ap arguments_in d.1 ∙ empty_list d.0.arguments s.takes.count,
       )
 
+  operands_fit : (m place : ℕ) (i : Instr) → instr_at p m place ≡ Some i → (l : Limits) × InstrFits l i
+  unfolding method_at
+  operands_fit m place i e =
+      let w = of_method p m place i e in
+      let fits = all_there (MethodFits (length p.classes) (length p.methods)) p.methods m w.0 formed.methods.each w.1 in
+      let l = limits (length p.classes) (length p.methods) (length w.0.code) in
+      (l, all_there (InstrFits l) w.0.code place i fits.code w.2)
+
   called_is : (m place : ℕ) (target : Target) (m' first c : ℕ) → instr_at p m place ≡ Some (Call target m' first c) → IsCalled p m'
   unfolding role_in is_role
   called_is m place target m' first c e =
@@ -198,6 +208,7 @@ linked_is_wired p formed linked = record {
   main = main_is p formed linked;
   destructor = destructor_is p formed linked;
   static_main = static_main p formed linked;
+  operands = operands_fit p formed linked;
   called = called_is p formed linked;
   trapped = trapped_is p formed linked;
   pushed = pushed_is p formed linked;

@@ -54,6 +54,13 @@ entry_at (An_operation m w ∷ items) zero = Some (An_operation m w)
 entry_at (An_operation m w ∷ items) (suc k) = entry_at items k
 entry_at (A_mark ∷ items) k = None
 
+-- an operation owns nothing on which a method could be called
+abbrev pub is_no_operation : Option Item → Bool
+is_no_operation None = true
+is_no_operation (Some An_object) = true
+is_no_operation (Some (An_operation m w)) = false
+is_no_operation (Some A_mark) = true
+
 -- its place
 abbrev pub entry_place : List Item → ℕ → Place
 entry_place items k = Entry (length items - suc k)
@@ -79,6 +86,7 @@ module _ (p : Image) (fr : Frame) (ts : List Task) (s : State) where
       ∷ needs_target_object p class (held s.cells (field_place fr.home f))
   needs_target (On_entry k) class first count =
       (is_some (entry_at s.items k), PopUnder)
+      ∷ (is_no_operation (entry_at s.items k), WrongKind)
       ∷ needs_target_object p class (held s.cells (entry_place s.items k))
 
   abbrev pub target_home : Target → Option ℕ → Home
@@ -199,6 +207,13 @@ abbrev pub below_top : List Item → List Item
 below_top [] = []
 below_top (i ∷ items) = items
 
+-- the last item is the mark of a trap
+abbrev pub tops_mark : List Item → Bool
+tops_mark [] = false
+tops_mark (An_object ∷ items) = false
+tops_mark (An_operation m w ∷ items) = false
+tops_mark (A_mark ∷ items) = true
+
 -- what a method works on is a cell, no field of which owns
 abbrev pub is_emptied : List Cell → Home → Bool
 is_emptied cs Static = false
@@ -228,10 +243,14 @@ module _ (p : Image) (fr : Frame) (ts : List Task) (s : State) where
   received (A_maybe t) a c caller = set_word caller c None
   received (Left x) a c caller = caller
 
-  -- a destructor leaves nothing in its cell
+  -- something waits for the method's end: where it is a trap, its mark is the last item, and a destructor leaves nothing in its cell
   abbrev pub end_needs : List Task → List Need
+  end_needs (Run caller ∷ below) = []
+  end_needs (Trapped ∷ Run caller ∷ below) = (tops_mark s.items, Unbalanced) ∷ []
+  end_needs (Trapped ∷ Dispatched d ∷ below) = (tops_mark s.items, Unbalanced) ∷ []
   end_needs (Destroy ∷ below) = (is_emptied s.cells fr.home, Orphan) ∷ []
-  end_needs _ = []
+  end_needs (Unwind code ∷ below) = []
+  end_needs _ = (false, Unbalanced) ∷ []
 
   -- one more item lies there than at first, an object of that class
   abbrev pub leaves_object : ℕ → List Item → Bool

@@ -84,10 +84,6 @@ abbrev pub tops_operation : List Item → Bool
 tops_operation [] = false
 tops_operation (i ∷ items) = is_operation_item i
 
-abbrev pub tops_mark : List Item → Bool
-tops_mark [] = false
-tops_mark (i ∷ items) = is_mark i
-
 -- the place of the last item
 abbrev pub top_place : List Item → Place
 top_place items = Entry (length (below_top items))

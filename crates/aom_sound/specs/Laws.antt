@@ -2,9 +2,11 @@
 use Rattle.std.specs.Prelude.{ℕ, ℤ, true, false, ◌≡◌, ◌⊎◌, ◌<◌, IsSome, List, [], ◌∷◌, Some, None}
 use Rattle.aom_image.specs.Image.{Image}
 use Rattle.aom_image.specs.Views.{instr_at, method_at, method_class, method_role, is_quiet, leaves, gives_of, arguments_of}
-use Rattle.aom_image.specs.WellFormed.{WellFormed}
+use Rattle.aom_image.specs.WellFormed.{InstrFits, WellFormed}
+use Rattle.aom_image.specs.declared.instr.Instr.{Instr}
 use Rattle.aom_image.specs.declared.instr.Instr.TheVariants.{Call, Trap, PushOperation}
 use Rattle.aom_image.specs.declared.instr.Target.{Target}
+use Rattle.aom_image.specs.declared.limits.Limits.{Limits}
 use Rattle.aom_image.specs.declared.method.Gives.TheVariants.{Nothing}
 use Rattle.aom_image.specs.declared.method.Role.TheVariants.{Do, Main, Construct, Destruct}
 use Rattle.aom_image.specs.declared.method.Thing.TheVariants.{Object as An_object_of}
@@ -17,6 +19,7 @@ use Rattle.aom_sound.specs.State.{Dispatch, Frame, Task, Run, Destroy, Unwind, D
 use Rattle.aom_sound.specs.Moves.{step, IsOpen}
 use Rattle.aom_sound.specs.WellTyped.{LeavesNone, IsUndo, WellTyped, Keeps}
 use Rattle.aom_sound.specs.Owned.{Owned}
+use Rattle.aom_sound.specs.Registers.{AllInRange}
 use Rattle.aom_sound.specs.World.{boot_state, IsBusy, Reaches}
 use Rattle.aom_sound.specs.declared.line.Line.{Line}
 use Rattle.aom_sound.specs.declared.line.Ending.TheVariants.{Stopped}
@@ -38,6 +41,8 @@ pub record IsWired (p : Image) : Type 0 where
   pub main : (m : ℕ) → main_of p ≡ Some m → (IsSome (method_at p m)) × (method_role p m ≡ Some Main) × (gives_of p m ≡ Nothing) × (arguments_of p m ≡ [])
   pub destructor : (c m : ℕ) → role_of p c Destruct ≡ Some m → (IsSome (method_at p m)) × (method_role p m ≡ Some Destruct) × (method_class p m ≡ Some c) × (leaves p m ≡ false) × (is_quiet p m ≡ true) × (gives_of p m ≡ Nothing) × (arguments_of p m ≡ [])
   pub static_main : (m : ℕ) → method_role p m ≡ Some Main → method_class p m ≡ None
+  -- the operands of each instruction are in their ranges
+  pub operands : (m place : ℕ) (i : Instr) → instr_at p m place ≡ Some i → (l : Limits) × InstrFits l i
   pub called : (m place : ℕ) (target : Target) (m' first c : ℕ) → instr_at p m place ≡ Some (Call target m' first c) → IsCalled p m'
   pub trapped : (m place : ℕ) (target : Target) (m' first c : ℕ) → instr_at p m place ≡ Some (Trap target m' first c) → IsTrapped p m'
   pub pushed : (m place a m' : ℕ) → instr_at p m place ≡ Some (PushOperation a m') → IsUndo p m'
@@ -53,9 +58,16 @@ BootKeeps = (p : Image) (t : Typing) → IsWired p → IsTyped p t → WellTyped
 abbrev pub StepKeeps : Type 0
 StepKeeps = (p : Image) (t : Typing) → IsWired p → IsTyped p t → (c : Choice) (s : State) → WellTyped p t s → named s.cells c.name ≡ None → Keeps p t (step p c s)
 
+-- only registers that a method has own, in each state of a run
+pub record RegistersKeep : Type 0 where
+  pub boot : (p : Image) → AllInRange (boot_state p).cells
+  pub moves : (p : Image) → IsWired p → (c : Choice) (s u : State) → AllInRange s.cells → step p c s ≡ Goes u → AllInRange u.cells
+
 -- at a dispatch's end, and between dispatches, each cell has exactly one living owner
 abbrev pub EndsOwned : Type 0
-EndsOwned = (p : Image) (t : Typing) → IsWired p → (s : State) → WellTyped p t s → ((d : Dispatch) → s.tasks ≡ Dispatched d ∷ [] → Owned s) × (s.tasks ≡ [] → Owned s)
+EndsOwned =
+    (p : Image) (t : Typing) → IsWired p → (s : State) → WellTyped p t s → AllInRange s.cells →
+    ((d : Dispatch) → s.tasks ≡ Dispatched d ∷ [] → Owned p s) × (s.tasks ≡ [] → Owned p s)
 
 -- and where the root holds nothing then, no cell is left
 abbrev pub EndsEmpty : Type 0
@@ -65,8 +77,8 @@ EndsEmpty = (p : Image) (t : Typing) → IsWired p → (s : State) → WellTyped
 pub record IsSound (p : Image) (refused : List ℕ) : Type 0 where
   pub goes_on : (lines : List Line) (s : State) → Reaches p refused (boot_state p) lines s → IsBusy s → (c : Choice) → IsOpen p refused c s → (u : State) × (step p c s ≡ Goes u)
   -- a leave is caught once all that was pushed since its trap is dealt with
-  pub caught : (lines : List Line) (s : State) (code : ℤ) (tasks : List Task) (items : List Item) → Reaches p refused (boot_state p) lines s → s.tasks ≡ Unwind code ∷ tasks → s.items ≡ A_mark ∷ items → Owned s
-  pub owned : (lines : List Line) (s : State) (d : Dispatch) → Reaches p refused (boot_state p) lines s → s.tasks ≡ Dispatched d ∷ [] → Owned s
+  pub caught : (lines : List Line) (s : State) (code : ℤ) (tasks : List Task) (items : List Item) → Reaches p refused (boot_state p) lines s → s.tasks ≡ Unwind code ∷ tasks → s.items ≡ A_mark ∷ items → Owned p s
+  pub owned : (lines : List Line) (s : State) (d : Dispatch) → Reaches p refused (boot_state p) lines s → s.tasks ≡ Dispatched d ∷ [] → Owned p s
   pub stopped_empty : (lines : List Line) (s : State) → Reaches p refused (boot_state p) lines s → s.rest.ended ≡ Some Stopped → s.cells ≡ []
 
 -- each linked image that has a typing is sound, whatever is refused

@@ -9,10 +9,11 @@ pub mod Moves
 pub mod Claims
 pub mod WellTyped
 pub mod Owned
+pub mod Registers
 pub mod World
 pub mod Loops
 pub mod Laws
 pub mod Quiet
 pub mod Leaves
 pub mod Traps
-pub mod Examples
+pub mod Cases

@@ -1,15 +1,39 @@
--- Each cell has exactly one living owner.
-use Rattle.std.specs.Prelude.{ℕ, ◌<◌, ◌≡◌, List, [], ◌∷◌, Some, length}
+-- Each cell has exactly one living owner, and no destruction is at hand.
+use Rattle.std.specs.Prelude.{ℕ, ◌==◌, ◌≡◌, cond, List, [], ◌∷◌, Option, Some, None, IsSome, length}
+use Rattle.aom_image.specs.Image.{Image}
+use Rattle.aom_image.specs.Operands.{IsRegister}
+use Rattle.aom_shape.specs.Things.{Program, field_thing}
 use Rattle.aom_sound.specs.Places.{Place, Register, Entry, Field, Going, Elsewhere, Root, Object, Cell, held, named}
-use Rattle.aom_sound.specs.State.{State}
+use Rattle.aom_sound.specs.State.{Task, Run, Trapped, Destroy, Unwind, Dispatched, Item, An_object, An_operation, A_mark, State, thing_holder}
 
--- a place lives while its frame, its entry, its cell or its destruction lasts; the root always lives
-abbrev pub Lives : State → Place → Type 0
-Lives s (Register f i) = f < length s.tasks
-Lives s (Entry k) = k < length s.items
-Lives s (Field n f) = (o : Object) × (named s.cells n ≡ Some o)
-Lives s (Going k) = k < length s.tasks
-Lives s (Elsewhere Root) = Unit {0}
+-- what stands over so many others
+abbrev pub over : {A : Type 0} → List A → ℕ → Option A
+over [] k = None
+over (x ∷ xs) k = cond (length xs == k) (Some x) (over xs k)
+
+-- of the tasks a method alone has registers
+abbrev pub HasRegisters : Option Task → Type 0
+HasRegisters None = ⊥
+HasRegisters (Some (Run fr)) = Unit {0}
+HasRegisters (Some Trapped) = ⊥
+HasRegisters (Some Destroy) = ⊥
+HasRegisters (Some (Unwind code)) = ⊥
+HasRegisters (Some (Dispatched d)) = ⊥
+
+-- of the cleanup items an object's alone owns
+abbrev pub IsObjects : Option Item → Type 0
+IsObjects None = ⊥
+IsObjects (Some An_object) = Unit {0}
+IsObjects (Some (An_operation m w)) = ⊥
+IsObjects (Some A_mark) = ⊥
+
+-- a place lives while its method is at hand, its item lies there or its cell, whose class has that field, stands; the root lives where the image has one
+abbrev pub Lives : Image → State → Place → Type 0
+Lives p s (Register f i) = HasRegisters (over s.tasks f) × IsRegister i
+Lives p s (Entry k) = IsObjects (over s.items k)
+Lives p s (Field n f) = (o : Object) × (named s.cells n ≡ Some o) × IsSome (field_thing p (thing_holder o.thing) f)
+Lives p s (Going k) = over s.tasks k ≡ Some Destroy
+Lives p s (Elsewhere Root) = IsSome (field_thing p Program 0)
 
 -- following owners ends at a register, a cleanup entry or the root
 pub data Ends (s : State) : Place → Type 0 where
@@ -19,9 +43,19 @@ pub data Ends (s : State) : Place → Type 0 where
   by_cell : {n f : ℕ} (o : Object) (q : Place) → named s.cells n ≡ Some o → held s.cells q ≡ Some o → Ends s q → Ends s (Field n f)
 
 -- each cell has an owner, which lives and chains to such an end. The owner stands in the cell's record, so it is one
-abbrev pub AllOwned : State → List Cell → Type 0
-AllOwned s [] = Unit {0}
-AllOwned s (c ∷ cs) = (Lives s c.owner × Ends s c.owner) × AllOwned s cs
+abbrev pub AllOwned : Image → State → List Cell → Type 0
+AllOwned p s [] = Unit {0}
+AllOwned p s (c ∷ cs) = (Lives p s c.owner × Ends s c.owner) × AllOwned p s cs
 
-abbrev pub Owned : State → Type 0
-Owned s = AllOwned s s.cells
+-- no cell goes
+abbrev pub NoneGoes : List Task → Type 0
+NoneGoes [] = Unit {0}
+NoneGoes (Run fr ∷ ts) = NoneGoes ts
+NoneGoes (Trapped ∷ ts) = NoneGoes ts
+NoneGoes (Destroy ∷ ts) = ⊥
+NoneGoes (Unwind code ∷ ts) = NoneGoes ts
+NoneGoes (Dispatched d ∷ ts) = NoneGoes ts
+
+pub record Owned (p : Image) (s : State) : Type 0 where
+  pub each : AllOwned p s s.cells
+  pub settled : NoneGoes s.tasks

@@ -7,6 +7,7 @@ use Rattle.aom_sound.specs.State.{Task, Run, Trapped, Destroy, Unwind, Dispatche
 use Rattle.aom_sound.specs.Moves.{step}
 use Rattle.aom_sound.specs.WellTyped.{WellTyped}
 use Rattle.aom_sound.specs.Owned.{Owned}
+use Rattle.aom_sound.specs.Registers.{AllInRange}
 use Rattle.aom_sound.specs.World.{boot_state}
 use Rattle.aom_sound.specs.Laws.{IsWired}
 
@@ -34,4 +35,6 @@ pub record CalmKeeps : Type 0 where
 
 -- where a leave has nothing more to unwind, each cell has exactly one living owner
 abbrev pub CaughtOwned : Type 0
-CaughtOwned = (p : Image) (t : Typing) → IsWired p → (s : State) → WellTyped p t s → IsCalm p s.tasks → (code : ℤ) (tasks : List Task) (items : List Item) → s.tasks ≡ Unwind code ∷ tasks → s.items ≡ A_mark ∷ items → Owned s
+CaughtOwned =
+    (p : Image) (t : Typing) → IsWired p → (s : State) → WellTyped p t s → IsCalm p s.tasks → AllInRange s.cells →
+    (code : ℤ) (tasks : List Task) (items : List Item) → s.tasks ≡ Unwind code ∷ tasks → s.items ≡ A_mark ∷ items → Owned p s

@@ -1,10 +1,16 @@
 //! The laws, each as the contract of a function that does nothing.
-ghost use Rattle.aom_sound.specs.Laws.{BootKeeps, InstructionKeeps, DestructionKeeps, UnwindingKeeps, TurnKeeps, StepKeeps, EndsOwned, EndsEmpty, TypedIsSound, LinkedIsWired};
+ghost use Rattle.aom_sound.specs.Laws.{BootKeeps, InstructionKeeps, DestructionKeeps, UnwindingKeeps, TurnKeeps, StepKeeps, EndsOwned, EndsEmpty, RegistersKeep, TypedIsSound, LinkedIsWired};
 ghost use Rattle.aom_sound.specs.Loops.{LoopsKeep};
 ghost use Rattle.aom_sound.specs.Quiet.{CalmKeeps, CaughtOwned};
 ghost use Rattle.aom_sound.specs.Leaves.{LeavesMove, LeavesArrive};
 ghost use Rattle.aom_sound.specs.Traps.{TrapsKeep};
-ghost use Rattle.aom_sound.specs.Examples.{StuckExamples};
+ghost use Rattle.aom_sound.specs.Cases.Words.{WordsBite};
+ghost use Rattle.aom_sound.specs.Cases.Objects.{ObjectsBite};
+ghost use Rattle.aom_sound.specs.Cases.Calls.{CallsBite};
+ghost use Rattle.aom_sound.specs.Cases.Returns.{ReturnsBite};
+ghost use Rattle.aom_sound.specs.Cases.Cleanup.{CleanupBites};
+ghost use Rattle.aom_sound.specs.Cases.Moves.{MovesBite};
+ghost use Rattle.aom_sound.specs.Cases.Owners.{OwnersBite};
 
 /// A run of a typed image begins well typed.
 pub fn boot_keeps()
@@ -44,6 +50,11 @@ pub fn step_keeps()
 /// While a cell goes or a leave unwinds, quiet methods alone run.
 pub fn calm_keeps()
     ensures { CalmKeeps }
+{}
+
+/// Only registers that a method has own.
+pub fn registers_keep()
+    ensures { RegistersKeep }
 {}
 
 /// A leave deals with the last entry over its mark, and its own code arrives.
@@ -86,7 +97,37 @@ pub fn linked_is_wired()
     ensures { LinkedIsWired }
 {}
 
-/// The checked machine has stuck states, so that the laws say something.
-pub fn stuck_examples()
-    ensures { StuckExamples }
+/// Each need of an instruction on words bites.
+pub fn words_bite()
+    ensures { WordsBite }
+{}
+
+/// Each need of an instruction on objects bites.
+pub fn objects_bite()
+    ensures { ObjectsBite }
+{}
+
+/// Each need of a call or a trap bites.
+pub fn calls_bite()
+    ensures { CallsBite }
+{}
+
+/// Each need of a return bites.
+pub fn returns_bite()
+    ensures { ReturnsBite }
+{}
+
+/// Each need of an instruction on the cleanup stack, or of a leave, bites.
+pub fn cleanup_bites()
+    ensures { CleanupBites }
+{}
+
+/// Each need of the moves that are no instruction bites.
+pub fn moves_bite()
+    ensures { MovesBite }
+{}
+
+/// Places that do not own are no owners.
+pub fn owners_bite()
+    ensures { OwnersBite }
 {}

@@ -1,0 +1,43 @@
+-- Each case comes out as its table says: by computation.
+use Rattle.std.proofs.Common.{refl}
+use Rattle.aom_image.specs.Views.{arguments_in, class_at, class_in, fields_in, gives_in, instr_in, method_at, role_in}
+use Rattle.aom_image.specs.declared.instr.Instr.TheVariants.{Call, Trap}
+use Rattle.aom_shape.specs.Things.{words_in}
+use Rattle.aom_sound.specs.Cases.Calls.{CallBites, CallsBite}
+use Rattle.aom_sound.specs.Cases.Cleanup.{CleanupBites}
+use Rattle.aom_sound.specs.Cases.Moves.{MovesBite}
+use Rattle.aom_sound.specs.Cases.Objects.{ObjectsBite}
+use Rattle.aom_sound.specs.Cases.Returns.{ReturnsBite}
+use Rattle.aom_sound.specs.Cases.Words.{WordsBite}
+
+pub words_bite : WordsBite
+unfolding class_at gives_in instr_in method_at words_in
+words_bite = record { words = refl; of_cells = refl; binary = refl; compared = refl }
+
+pub objects_bite : ObjectsBite
+unfolding class_at fields_in gives_in instr_in method_at words_in role_in class_in
+objects_bite = record { moves = refl; fields = refl; cells = refl }
+
+call_bites : CallBites Call
+unfolding arguments_in class_at class_in fields_in gives_in instr_in method_at
+call_bites = record { this = refl; registers = refl; fields = refl; entries = refl; arguments = refl; results = refl }
+
+trap_bites : CallBites Trap
+unfolding arguments_in class_at class_in fields_in gives_in instr_in method_at
+trap_bites = record { this = refl; registers = refl; fields = refl; entries = refl; arguments = refl; results = refl }
+
+pub calls_bite : CallsBite
+unfolding arguments_in class_at class_in fields_in gives_in instr_in method_at
+calls_bite = record { calls = call_bites; traps = trap_bites; codes = refl }
+
+pub returns_bite : ReturnsBite
+unfolding class_at fields_in gives_in instr_in method_at
+returns_bite = record { given = refl; level = refl; left = refl; owners = refl; waiting = refl }
+
+pub cleanup_bites : CleanupBites
+unfolding class_at class_in fields_in gives_in instr_in method_at role_in words_in
+cleanup_bites = record { leaves = refl; leave = refl; leave_if = refl; news = refl; refused_new = refl; pushes = refl; operations = refl; pops = refl }
+
+pub moves_bite : MovesBite
+unfolding class_at class_in fields_in gives_in instr_in method_at role_in
+moves_bite = record { going = refl; unwinding = refl; arrival = refl; traps = refl; standing = refl; later = refl }

@@ -1,0 +1,218 @@
+-- Only registers that a method has come to own: an instruction names no other, and arguments come to the first ones.
+use Rattle.std.proofs.Common.{Bool, List, None, Option, Some, [], arith, cond, false, length, refl, subst, suc, true, zero, ℕ, ℤ, ◌+◌, ◌-◌, ◌∷◌, ◌≡◌, ◌≤◌}
+use Rattle.std.proofs.lemmas.Bool.{leb-true}
+use Rattle.std.specs.Ordering.{int_eq}
+use Rattle.std.specs.Prelude.{int_lt}
+use Rattle.aom_image.specs.Image.{Image}
+use Rattle.aom_image.specs.Operands.{IsRegister}
+use Rattle.aom_image.specs.Views.{arguments_of, gives_of, instr_at, method_class}
+use Rattle.aom_image.specs.WellFormed.{InstrFits}
+use Rattle.aom_image.specs.declared.instr.Instr.{Instr}
+use Rattle.aom_image.specs.declared.instr.Instr.TheVariants.{Call, Delete, JumpEmpty, JumpEqual, JumpLess, JumpNull, Leave, LeaveIf, Move, New, NewOrLeave, Next, Pop, PopDelete, Push, PushOperation, Put, Return, Store, Take, Trap}
+use Rattle.aom_image.specs.declared.instr.Target.{Target}
+use Rattle.aom_image.specs.declared.limits.Limits.{Limits}
+use Rattle.aom_image.specs.declared.method.Argument.{Argument}
+use Rattle.aom_image.specs.declared.method.Argument.TheVariants.{Own as Takes_own, Word as Takes_word}
+use Rattle.aom_image.specs.declared.method.Gives.{Gives}
+use Rattle.aom_image.specs.declared.method.Gives.TheVariants.{Left, Maybe as A_maybe, Nothing, Own as An_own, Word as A_word}
+use Rattle.aom_image.specs.declared.method.Thing.TheVariants.{Object as An_object_of}
+use Rattle.aom_shape.specs.Needs.{AllTrue}
+use Rattle.aom_sound.proofs.Finishing.{all_parts}
+use Rattle.aom_sound.proofs.Looping.{goes_same, guarded_goes}
+use Rattle.aom_sound.proofs.Quiet.{guarded_met}
+use Rattle.aom_sound.specs.Calls.{needs_entering, needs_target, passed_cells, result_cells, result_register, returned}
+use Rattle.aom_sound.specs.Cleanup.{arrived, dealt_with, destroyed, is_negative, left, no_memory, operation_pushed, pushed, top_is_whole, top_place, unwound}
+use Rattle.aom_sound.specs.Destruction.{gone, owns_nothing}
+use Rattle.aom_sound.specs.Laws.{IsWired, RegistersKeep}
+use Rattle.aom_sound.specs.Moves.{counted, dispatch_ends, does, main_ends, needs, step, step_instr, step_task}
+use Rattle.aom_sound.specs.Objects.{deleted, jumped, no_words}
+use Rattle.aom_sound.specs.Places.{Cell, Elsewhere, Entry, Going, Object, Place, Register, Root, held, moved, same_place, set_word_field, with_new, without}
+use Rattle.aom_sound.specs.Registers.{AllInRange, IsInRange}
+use Rattle.aom_sound.specs.State.{A_mark, An_object, An_operation, AtRoot, Choice, Destroy, Dispatch, Dispatched, Frame, Goes, Home, Inside, IsStuck, Item, Main_left, Need, NullOrDead, Of_main, Of_root, Orphan, Run, State, Static, Task, Trapped, Unwind, counter, field_place, guarded, resumed, set_word}
+use Rattle.aom_sound.specs.Words.{branched, go_on, here, looped, read, stored}
+
+move_in_range : (p q : Place) (cs : List Cell) → IsInRange q → AllInRange cs → AllInRange (moved p q cs)
+move_in_range p q [] fits all = tt
+move_in_range p q (c ∷ cs) fits all = (go (same_place c.owner p), move_in_range p q cs fits all.1)
+  where
+    go : (b : Bool) → IsInRange (cond b q c.owner)
+    go true = fits
+    go false = all.0
+
+end_in_range : (p : Place) (cs : List Cell) → AllInRange cs → AllInRange (without p cs)
+end_in_range p [] all = tt
+end_in_range p (c ∷ cs) all = go (same_place c.owner p) (end_in_range p cs all.1)
+  where
+    go : (b : Bool) → AllInRange (without p cs) → AllInRange (cond b (without p cs) (c ∷ without p cs))
+    go true rest = rest
+    go false rest = (all.0, rest)
+
+write_in_range : (n w : ℕ) (v : ℤ) (cs : List Cell) → AllInRange cs → AllInRange (set_word_field n w v cs)
+write_in_range n w v [] all = tt
+write_in_range n w v (c ∷ cs) all = (all.0, write_in_range n w v cs all.1)
+
+field_in_range : (home : Home) (f : ℕ) → IsInRange (field_place home f)
+field_in_range Static f = tt
+field_in_range AtRoot f = tt
+field_in_range (Inside o from) f = tt
+
+destroy_in_range : (p : Image) (o : Option Object) (items : List Item) (ts : List Task) (s : State) → AllInRange s.cells → AllInRange (destroyed p o items ts s).cells
+destroy_in_range p None items ts s all = all
+destroy_in_range p (Some o) items ts s all = move_in_range (Entry (length items)) (Going (length ts)) s.cells tt all
+
+deal_in_range : (p : Image) (items : List Item) (ts : List Task) (s : State) → AllInRange s.cells → AllInRange (dealt_with p items ts s).cells
+deal_in_range p [] ts s all = all
+deal_in_range p (An_object ∷ items) ts s all = destroy_in_range p (held s.cells (Entry (length items))) items ts s all
+deal_in_range p (An_operation m w ∷ items) ts s all = all
+deal_in_range p (A_mark ∷ items) ts s all = all
+
+-- the result of a call comes to a register that the call names
+result_in_range : (p : Image) → IsWired p → (m place : ℕ) → IsRegister (result_register (instr_at p m place))
+result_in_range p wired m place = go (instr_at p m place) refl
+  where
+    go : (i : Option Instr) → instr_at p m place ≡ i → IsRegister (result_register i)
+    go None e = omega arith
+    go (Some (Call target m' first c)) e = (wired.operands m place (Call target m' first c) e).1.3
+    go (Some (Trap target m' first c)) e = let fits = (wired.operands m place (Trap target m' first c) e).1.3 in omega arith
+    go (Some _) e = omega arith
+
+module _ (p : Image) (wired : IsWired p) (c : Choice) (fr : Frame) (ts : List Task) (s : State) (all : AllInRange s.cells) where
+  jump_in_range : (o : Option Object) (to : ℕ) → AllInRange (jumped p c fr ts s o to).cells
+  jump_in_range None to = all
+  jump_in_range (Some o) to = all
+
+  branch_in_range : (b : Bool) (to : ℕ) → AllInRange (branched fr ts s b to).cells
+  branch_in_range true to = all
+  branch_in_range false to = all
+
+  loop_in_range : (rounds depth to : ℕ) → AllInRange (looped fr ts s rounds depth to).cells
+  loop_in_range zero depth to = all
+  loop_in_range (suc rounds) depth to = all
+
+  store_in_range : (home : Home) (w : ℕ) (v : ℤ) → AllInRange (stored s.cells home w v)
+  store_in_range Static w v = all
+  store_in_range AtRoot w v = all
+  store_in_range (Inside o from) w v = write_in_range o.name w v s.cells all
+
+  delete_in_range : (o : Option Object) (a : ℕ) → AllInRange (deleted p c fr ts s o a).cells
+  delete_in_range None a = all
+  delete_in_range (Some o) a = move_in_range (here fr ts s a) (Going (suc (length ts))) s.cells tt all
+
+  -- a new cell, or none
+  make_in_range : (b : Bool) (x : ℕ) (q : Place) → IsInRange q → AllInRange (cond b s.cells (with_new c.name (An_object_of x) (no_words p c fr ts s x) q s.cells))
+  make_in_range true x q fits = all
+  make_in_range false x q fits = (fits, all)
+
+  -- where a request is refused the method leaves
+  refused_in_range : (b : Bool) (code : ℤ) (u v : State) → AllInRange u.cells → AllInRange v.cells → AllInRange (cond b (left code u) v).cells
+  refused_in_range true code u v all all' = all
+  refused_in_range false code u v all all' = all'
+
+  pass_in_range : (depth : ℕ) (xs : List Argument) (first to : ℕ) (cs : List Cell) → to + length xs ≤ 16 → AllInRange cs → AllInRange (passed_cells p fr ts s depth xs first to cs)
+  pass_in_range depth [] first to cs few all = all
+  pass_in_range depth (Takes_word ∷ xs) first to cs few all = pass_in_range depth xs (suc first) (suc to) cs (omega arith) all
+  pass_in_range depth (Takes_own t ∷ xs) first to cs few all =
+      pass_in_range depth xs (suc first) (suc to) (moved (here fr ts s first) (Register depth to) cs) (omega arith)
+      (move_in_range (here fr ts s first) (Register depth to) cs (omega arith) all)
+
+  -- the arguments lie within the registers of the caller, and so of the method called
+  call_in_range : (depth : ℕ) (target : Target) (m first : ℕ) (more : List Need) → AllTrue (needs_entering p fr ts s target m first more) → AllInRange (passed_cells p fr ts s depth (arguments_of p m) first 0 s.cells)
+  call_in_range depth target m first more n =
+      let met = (all_parts (needs_target p fr ts s target (method_class p m) first (length (arguments_of p m))) _ n).1 in
+      let within = leb-true (first + length (arguments_of p m)) 16 met.0 in
+      pass_in_range depth (arguments_of p m) first 0 s.cells (omega arith) all
+
+  bring_in_range : (g : Gives) (a x : ℕ) (below : List Task) → IsRegister x → AllInRange (result_cells p fr ts s g a x below)
+  bring_in_range Nothing a x below fits = all
+  bring_in_range A_word a x below fits = all
+  bring_in_range (An_own t) a x below fits = move_in_range (here fr ts s a) (Register (length below) x) s.cells fits all
+  bring_in_range (A_maybe t) a x below fits = move_in_range (here fr ts s a) (Register (length below) x) s.cells fits all
+  bring_in_range (Left t) a x below fits = all
+
+  return_in_range : (g : Gives) (a : ℕ) (below : List Task) → AllInRange (returned p fr ts s g a below).cells
+  return_in_range g a [] = all
+  return_in_range g a (Run caller ∷ below) = bring_in_range g a _ below (result_in_range p wired caller.method caller.place)
+  return_in_range g a (Trapped ∷ Run caller ∷ below) = bring_in_range g a _ below (result_in_range p wired caller.method caller.place)
+  return_in_range g a (Trapped ∷ _) = all
+  return_in_range g a (Destroy ∷ below) = all
+  return_in_range g a (Unwind code ∷ below) = all
+  return_in_range g a (Dispatched d ∷ below) = all
+
+  act_in_range : (i : Instr) (l : Limits) → InstrFits l i → AllTrue (needs p c fr ts s i) → AllInRange (does p c fr ts s i).cells
+  act_in_range (JumpEqual a b to) l fits n = branch_in_range (int_eq (read fr ts s a) (read fr ts s b)) to
+  act_in_range (JumpLess a b to) l fits n = branch_in_range (int_lt (read fr ts s a) (read fr ts s b)) to
+  act_in_range (JumpNull a to) l fits n = jump_in_range (held s.cells (here fr ts s a)) to
+  act_in_range (JumpEmpty f to) l fits n = jump_in_range (held s.cells (field_place fr.home f)) to
+  act_in_range (Next depth to) l fits n = loop_in_range (counter fr depth - 1) depth to
+  act_in_range (Store w b) l fits n = store_in_range fr.home w (read fr ts s b)
+  act_in_range (Move a b) l fits n = move_in_range (here fr ts s b) (here fr ts s a) s.cells fits.0 all
+  act_in_range (Take a f) l fits n = move_in_range (field_place fr.home f) (here fr ts s a) s.cells fits.0 all
+  act_in_range (Put f b) l fits n = move_in_range (here fr ts s b) (field_place fr.home f) s.cells (field_in_range fr.home f) all
+  act_in_range (New a x) l fits n = make_in_range c.refused x (here fr ts s a) fits.0
+  act_in_range (NewOrLeave a x) l fits n =
+      let made = with_new c.name (An_object_of x) (no_words p c fr ts s x) (here fr ts s a) s.cells in
+      refused_in_range c.refused no_memory s (go_on fr ts s made (set_word fr a None)) all (fits.0, all)
+  act_in_range (Delete a) l fits n = delete_in_range (held s.cells (here fr ts s a)) a
+  act_in_range (Push a) l fits n =
+      let all' = move_in_range (here fr ts s a) (Entry (length s.items)) s.cells tt all in
+      refused_in_range c.refused no_memory (pushed p c fr ts s a) (pushed p c fr ts s a) all' all'
+  act_in_range (PushOperation a m) l fits n = refused_in_range c.refused no_memory (operation_pushed p c fr ts s a m) (operation_pushed p c fr ts s a m) all all
+  act_in_range (Pop a) l fits n = move_in_range (top_place s.items) (here fr ts s a) s.cells fits all
+  act_in_range PopDelete l fits n = deal_in_range p s.items (Run fr ∷ ts) s all
+  act_in_range (LeaveIf a) l fits n = refused_in_range (is_negative p c fr ts s (read fr ts s a)) (read fr ts s a) s (go_on fr ts s s.cells fr) all all
+  act_in_range (Call target m first x) l fits n = call_in_range (suc (length ts)) target m first _ n
+  act_in_range (Trap target m first x) l fits n = call_in_range (suc (suc (length ts))) target m first _ n
+  act_in_range (Return a) l fits n = return_in_range (gives_of p fr.method) a ts
+  act_in_range _ l fits n = all
+
+arrive_in_range : (p : Image) (code : ℤ) (ts : List Task) (items : List Item) (s u : State) → AllInRange s.cells → arrived p code ts items s ≡ Goes u → AllInRange u.cells
+arrive_in_range p code (Trapped ∷ Run fr ∷ ts) items s u all e = subst (λ v. AllInRange v.cells) (goes_same _ u e) all
+arrive_in_range p code (Trapped ∷ Dispatched d ∷ ts) items s u all e = subst (λ v. AllInRange v.cells) (goes_same _ u e) all
+arrive_in_range p code _ items s u all e = cc
+
+unwind_in_range : (p : Image) (code : ℤ) (ts : List Task) (items : List Item) (s u : State) → AllInRange s.cells → unwound p code ts s items ≡ Goes u → AllInRange u.cells
+unwind_in_range p code ts [] s u all e = cc
+unwind_in_range p code ts (An_object ∷ items) s u all e = go (top_is_whole s.cells (An_object ∷ items)) e
+  where
+    go : (b : Bool) → cond b (Goes (dealt_with p (An_object ∷ items) (Unwind code ∷ ts) s)) (IsStuck NullOrDead) ≡ Goes u → AllInRange u.cells
+    go true e = subst (λ v. AllInRange v.cells) (goes_same _ u e) (deal_in_range p (An_object ∷ items) (Unwind code ∷ ts) s all)
+    go false e = cc
+unwind_in_range p code ts (An_operation m w ∷ items) s u all e = subst (λ v. AllInRange v.cells) (goes_same _ u e) all
+unwind_in_range p code ts (A_mark ∷ items) s u all e = arrive_in_range p code ts items s u all e
+
+go_in_range : (o : Option Object) (ts : List Task) (s u : State) → AllInRange s.cells → gone o ts s ≡ Goes u → AllInRange u.cells
+go_in_range None ts s u all e = cc
+go_in_range (Some o) ts s u all e =
+    subst (λ v. AllInRange v.cells) (guarded_goes ((owns_nothing s.cells o.name, Orphan) ∷ []) (record s { cells = without (Going (length ts)) s.cells; tasks = resumed ts }) u e)
+    (end_in_range (Going (length ts)) s.cells all)
+
+dispatch_in_range : (p : Image) (d : Dispatch) (s : State) → AllInRange s.cells → AllInRange (dispatch_ends p d s).cells
+dispatch_in_range p Of_root s all = all
+dispatch_in_range p (Main_left code) s all = all
+dispatch_in_range p Of_main s all = go s.rest.stopped (held s.cells (Elsewhere Root))
+  where
+    go : (b : Bool) (root : Option Object) → AllInRange (main_ends p b root s).cells
+    go true (Some o) = move_in_range (Elsewhere Root) (Going 1) s.cells tt all
+    go true None = all
+    go false root = all
+
+moves : (p : Image) → IsWired p → (c : Choice) (s u : State) → AllInRange s.cells → step p c s ≡ Goes u → AllInRange u.cells
+moves p wired c s u all e = go s.tasks e
+  where
+    go : (ts : List Task) → step_task p c (counted p s) ts ≡ Goes u → AllInRange u.cells
+    go [] e = subst (λ v. AllInRange v.cells) (goes_same _ u e) all
+    go (Run fr ∷ ts) e = runs (instr_at p fr.method fr.place) refl e
+      where
+        runs : (i : Option Instr) → instr_at p fr.method fr.place ≡ i → step_instr p c fr ts (counted p s) i ≡ Goes u → AllInRange u.cells
+        runs None at e = cc
+        runs (Some i) at e =
+            let fits = wired.operands fr.method fr.place i at in
+            subst (λ v. AllInRange v.cells) (guarded_goes (needs p c fr ts (counted p s) i) (does p c fr ts (counted p s) i) u e)
+            (act_in_range p wired c fr ts (counted p s) all i fits.0 fits.1 (guarded_met (needs p c fr ts (counted p s) i) (does p c fr ts (counted p s) i) u e))
+    go (Trapped ∷ ts) e = cc
+    go (Destroy ∷ ts) e = go_in_range (held s.cells (Going (length ts))) ts (counted p s) u all e
+    go (Unwind code ∷ ts) e = unwind_in_range p code ts s.items (counted p s) u all e
+    go (Dispatched d ∷ ts) e = subst (λ v. AllInRange v.cells) (goes_same _ u e) (dispatch_in_range p d (counted p s) all)
+
+pub registers_keep : RegistersKeep
+registers_keep = record { boot = λ p. tt; moves = moves }

@@ -1,0 +1,68 @@
+-- Who is a living owner in closed states: by computation, and two cells that own each other by following owners.
+use Rattle.std.proofs.Common.{Bool, List, None, Option, Some, [], arith, cond, false, inl, inr, pos, refl, subst, sym, true, ◌∷◌, ◌≡◌}
+use Rattle.std.specs.Prelude.{IsSome, ◌⊎◌}
+use Rattle.aom_image.specs.Views.{class_at, fields_in}
+use Rattle.aom_shape.specs.Things.{field_thing}
+use Rattle.aom_sound.proofs.Maps.{same_place-true}
+use Rattle.aom_sound.specs.Cases.Building.{a_cell, pair, state_of}
+use Rattle.aom_sound.specs.Cases.Owners.{OwnersBite, an_image, caught_tasks}
+use Rattle.aom_sound.specs.Owned.{Ends, at_entry, at_register, at_root, by_cell}
+use Rattle.aom_sound.specs.Places.{Cell, Elsewhere, Entry, Field, Object, Place, Register, Root, held, named, same_place}
+use Rattle.aom_sound.specs.State.{A_mark, State, thing_holder}
+
+abbrev first : Object
+first = record { name = 1; thing = pair }
+
+abbrev second : Object
+second = record { name = 2; thing = pair }
+
+abbrev two_cells : List Cell
+two_cells = a_cell 1 pair (Field 2 0) ∷ a_cell 2 pair (Field 1 0) ∷ []
+
+abbrev two_round : State
+two_round = state_of caught_tasks two_cells (A_mark ∷ [])
+
+-- the two places that hold them
+abbrev IsOfThem : Place → Type 0
+IsOfThem q = (q ≡ Field 1 0) ⊎ (q ≡ Field 2 0)
+
+held_by_them : (q : Place) (o : Object) → held two_cells q ≡ Some o → IsOfThem q
+held_by_them q o e = go (same_place (Field 2 0) q) (same_place (Field 1 0) q) refl refl e
+  where
+    go : (b c : Bool) → same_place (Field 2 0) q ≡ b → same_place (Field 1 0) q ≡ c → cond b (Some first) (cond c (Some second) None) ≡ Some o → IsOfThem q
+    go true c e f h = inr (sym (same_place-true (Field 2 0) q e))
+    go false true e f h = inl (sym (same_place-true (Field 1 0) q f))
+    go false false e f h = cc
+
+no_end : (q : Place) → Ends two_round q → IsOfThem q → ⊥
+no_end _ (at_register {f = f} {i = i}) h = elim h [ inl e ↦ cc | inr e ↦ cc ]
+no_end _ (at_entry {k = k}) h = elim h [ inl e ↦ cc | inr e ↦ cc ]
+no_end _ at_root h = elim h [ inl e ↦ cc | inr e ↦ cc ]
+no_end _ (by_cell o q named there ends) h = no_end q ends (held_by_them q o there)
+
+pub owners_bite : OwnersBite
+unfolding class_at fields_in
+owners_bite = record {
+  register = record { each = (((tt, omega arith), at_register), ((refl, at_root), tt)); settled = tt };
+  item = record { each = ((tt, at_entry), ((refl, at_root), tt)); settled = tt };
+  field = record { each = (((record { name = 5; thing = pair }, refl, refl), by_cell (record { name = 5; thing = pair }) (Elsewhere Root) refl refl at_root), ((refl, at_root), tt)); settled = tt };
+  root = record { each = ((refl, at_root), tt); settled = tt };
+  dead_frame = λ h. h.each.0.0.0;
+  trap = λ h. h.each.0.0.0;
+  dispatch = λ h. h.each.0.0.0;
+  no_frame = λ h. h.each.0.0.0;
+  ended = λ h. h.each.0.0.0;
+  past_registers = λ h. let fits = h.each.0.0.1 in omega arith;
+  mark = λ h. h.each.0.0;
+  operation = λ h. h.each.0.0;
+  no_item = λ h. h.each.0.0;
+  past_fields = λ h.
+      let same : record { name = 5; thing = pair } ≡ h.each.0.0.0 = cc in
+      let has : false ≡ true = subst (λ o. IsSome (field_thing an_image (thing_holder o.thing) 2)) (sym same) h.each.0.0.2 in
+      cc;
+  gone = λ h. let there = h.each.0.0.1 in cc;
+  no_root = λ h. let has = h.each.0.0 in cc;
+  going = λ h. h.settled;
+  destruction = λ h. h.settled;
+  round = λ h. no_end (Field 2 0) h.each.0.1 (inr refl);
+}

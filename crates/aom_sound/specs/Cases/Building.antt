@@ -1,0 +1,179 @@
+-- What the cases are made of: a small image, states of it, and what comes of a case.
+use Rattle.std.specs.Prelude.{ℕ, ◌+◌, ℤ, pos, Bool, true, false, cond, ◌&&◌, ◌==◌, ◌≡◌, map, List, [], ◌∷◌, Option, Some, None, length}
+use Rattle.aom_image.specs.Image.{Image}
+use Rattle.aom_image.specs.declared.class.ClassDecl.{ClassDecl}
+use Rattle.aom_image.specs.declared.class.ClassKind.TheVariants.{Plain}
+use Rattle.aom_image.specs.declared.instr.Instr.{Instr}
+use Rattle.aom_image.specs.declared.method.Argument.{Argument}
+use Rattle.aom_image.specs.declared.method.Gives.{Gives}
+use Rattle.aom_image.specs.declared.method.Gives.TheVariants.{Nothing}
+use Rattle.aom_image.specs.declared.method.Method.{Method}
+use Rattle.aom_image.specs.declared.method.Role.TheVariants.{Do}
+use Rattle.aom_image.specs.declared.method.Thing.{Thing}
+use Rattle.aom_image.specs.declared.method.Thing.TheVariants.{Object as An_object_of, Message}
+use Rattle.aom_sound.specs.Places.{Place, Register, Elsewhere, Root, Cell}
+use Rattle.aom_sound.specs.State.{Home, Static, Inside, Frame, frame_of, Task, Run, Trapped, Dispatched, Of_main, Item, A_mark, State, Choice, Need, Outcome, Goes, IsStuck, Stuck, Unbalanced, PopUnder, PushNoTrap, LeaveNoTrap, AlreadyActive, ActiveDestroyed, Stray, AddedWrong, RequestOverlap, CancelHang, CompletedTwice, MessageLost, Orphan, NullOrDead, WrongKind, ClosedWhileOutstanding}
+use Rattle.aom_sound.specs.Moves.{needs, step}
+
+-- ---- the image
+
+-- a class that owns nothing, and one with a word whose fields may own an object of the first class and a message
+abbrev pub leaf : Thing
+leaf = An_object_of 0
+
+abbrev pub pair : Thing
+pair = An_object_of 1
+
+abbrev pub small_classes : List ClassDecl
+small_classes = record { kind = Plain; words = 0; fields = [] } ∷ record { kind = Plain; words = 1; fields = leaf ∷ Message ∷ [] } ∷ []
+
+abbrev pub a_method : Option ℕ → List Argument → Gives → List Instr → Method
+a_method class arguments gives code =
+    record {
+      class = class;
+      role = Do;
+      flags = record { 0 = 0 };
+      before = record { 0 = 0 };
+      after = record { 0 = 0 };
+      arguments = arguments;
+      gives = gives;
+      code = code;
+    }
+
+-- of two methods: the one at hand, and the one that it calls
+abbrev pub small_image : Method → Method → Image
+small_image here called =
+    record {
+      header = record { cells = 8; messages = 0; natives = 0; root = Some 1; budget = 1 };
+      classes = small_classes;
+      methods = here ∷ called ∷ [];
+    }
+
+-- ---- the states
+
+abbrev pub seven : Option ℤ
+seven = Some (pos 7)
+
+abbrev pub a_cell : ℕ → Thing → Place → Cell
+a_cell name thing owner = record { object = record { name = name; thing = thing }; words = []; owner = owner }
+
+-- main's dispatch under its trap
+abbrev pub at_bottom : List Task
+at_bottom = Trapped ∷ Dispatched Of_main ∷ []
+
+-- a register of the method that stands right over them
+abbrev pub mine : ℕ → Place
+mine r = Register 2 r
+
+-- inside an object of that thing, which the root holds
+abbrev pub inside : Thing → Home
+inside thing = Inside (record { name = 9; thing = thing }) (Elsewhere Root)
+
+-- over these tasks, cells and items, with that at hand
+abbrev pub state_of : List Task → List Cell → List Item → State
+state_of tasks cells items =
+    record {
+      cells = cells;
+      tasks = tasks;
+      items = items;
+      rest = record { clock = 0; requests = 0; steps = 0; announced = true; stopped = false; ended = None };
+    }
+
+-- ---- the cases
+
+-- an instruction at which a method stands, the state round it, and the kinds of its needs that are not met, in their order
+pub record Case : Type 0 where
+  pub instr : Instr
+  -- what the method's registers have
+  pub words : List (Option ℤ)
+  pub home : Home
+  -- the tasks under the method
+  pub below : List Task
+  pub cells : List Cell
+  pub items : List Item
+  -- whether its request is refused
+  pub refused : Bool
+  -- what the method gives
+  pub gives : Gives
+  -- the method that it calls
+  pub called : Method
+  pub unmet : List Stuck
+
+-- a static method that gives nothing, with nulls in its registers, under the trap of main's dispatch
+abbrev pub fails : Instr → List Stuck → Case
+fails instr kinds =
+    record {
+      instr = instr;
+      words = [];
+      home = Static;
+      below = at_bottom;
+      cells = [];
+      items = A_mark ∷ [];
+      refused = false;
+      gives = Nothing;
+      called = a_method None [] Nothing [];
+      unmet = kinds;
+    }
+
+abbrev pub image_of : Case → Image
+image_of c = small_image (a_method None [] c.gives (c.instr ∷ [])) c.called
+
+abbrev pub frame_at : Case → Frame
+frame_at c = record (frame_of 0 c.home 1) { words = c.words }
+
+abbrev pub begins : Case → State
+begins c = state_of (Run (frame_at c) ∷ c.below) c.cells c.items
+
+abbrev pub choice_of : Case → Choice
+choice_of c = record { name = 99; refused = c.refused }
+
+-- the kinds of the needs that are not met
+abbrev pub unmet : List Need → List Stuck
+unmet [] = []
+unmet (need ∷ needs) = cond need.0 (unmet needs) (need.1 ∷ unmet needs)
+
+abbrev pub kind_number : Stuck → ℕ
+kind_number Unbalanced = 1
+kind_number PopUnder = 2
+kind_number PushNoTrap = 3
+kind_number LeaveNoTrap = 4
+kind_number AlreadyActive = 5
+kind_number ActiveDestroyed = 6
+kind_number Stray = 7
+kind_number AddedWrong = 8
+kind_number RequestOverlap = 9
+kind_number CancelHang = 10
+kind_number CompletedTwice = 11
+kind_number MessageLost = 12
+kind_number Orphan = 13
+kind_number NullOrDead = 14
+kind_number WrongKind = 15
+kind_number ClosedWhileOutstanding = 16
+
+abbrev pub same_kinds : List Stuck → List Stuck → Bool
+same_kinds [] [] = true
+same_kinds [] (k ∷ ks) = false
+same_kinds (k ∷ ks) [] = false
+same_kinds (k ∷ ks) (x ∷ xs) = (kind_number k == kind_number x) && same_kinds ks xs
+
+-- stuck by the first of these kinds, or not stuck where there is none
+abbrev pub is_stuck_by : List Stuck → Outcome → Bool
+is_stuck_by [] (Goes s) = true
+is_stuck_by [] (IsStuck kind) = false
+is_stuck_by (k ∷ ks) (Goes s) = false
+is_stuck_by (k ∷ ks) (IsStuck kind) = kind_number kind == kind_number k
+
+-- just those needs are not met, and the machine is stuck by the first of them
+abbrev pub bites : Case → Bool
+bites c =
+    same_kinds (unmet (needs (image_of c) (choice_of c) (frame_at c) c.below (begins c) c.instr)) c.unmet
+    && is_stuck_by c.unmet (step (image_of c) (choice_of c) (begins c))
+
+-- the numbers of those in a table that come out otherwise, counted from there
+abbrev pub missed : ℕ → List Bool → List ℕ
+missed n [] = []
+missed n (b ∷ bs) = cond b (missed (n + 1) bs) (n ∷ missed (n + 1) bs)
+
+-- each case of a table comes out so
+abbrev pub AllBite : List Case → Type 0
+AllBite cases = missed 0 (map bites cases) ≡ []

@@ -1,0 +1,116 @@
+-- The needs of the moves that are no instruction, and of the place where a method stands.
+use Rattle.std.specs.Prelude.{ℕ, pos, Bool, true, false, List, [], ◌∷◌, ◌≡◌, map, None}
+use Rattle.aom_image.specs.Image.{Image}
+use Rattle.aom_image.specs.declared.instr.Instr.{Instr}
+use Rattle.aom_image.specs.declared.instr.Instr.TheVariants.{Stop, JumpActive, JumpAdded, Enlist, Issue, SetActive, Cancel, Abort, Status, Connect, Ask, Close, TakeMessage, Reply}
+use Rattle.aom_image.specs.declared.method.Gives.TheVariants.{Nothing}
+use Rattle.aom_image.specs.declared.method.Thing.TheVariants.{Message}
+use Rattle.aom_sound.specs.Places.{Entry, Field, Going}
+use Rattle.aom_sound.specs.State.{Static, frame_of, Task, Run, Trapped, Destroy, Unwind, Dispatched, Of_main, An_object, An_operation, A_mark, State, Stuck, Unbalanced, Orphan, NullOrDead, WrongKind}
+use Rattle.aom_sound.specs.Moves.{step}
+use Rattle.aom_sound.specs.Cases.Building.{leaf, pair, a_method, a_cell, at_bottom, small_image, state_of, Case, fails, is_stuck_by, missed, AllBite}
+
+-- a state, and the kind in which the machine is stuck there, if it is
+pub record Turning : Type 0 where
+  pub kinds : List Stuck
+  pub state : State
+
+abbrev pub at : List Stuck → State → Turning
+at kinds state = record { kinds = kinds; state = state }
+
+-- two methods of one instruction each
+abbrev pub an_image : Image
+an_image = small_image (a_method None [] Nothing (Stop ∷ [])) (a_method None [] Nothing (Stop ∷ []))
+
+abbrev pub turns : Turning → Bool
+turns c = is_stuck_by c.kinds (step an_image (record { name = 99; refused = false }) c.state)
+
+abbrev pub AllTurn : List Turning → Type 0
+AllTurn cases = missed 0 (map turns cases) ≡ []
+
+abbrev pub runs : Task
+runs = Run (frame_of 0 Static 1)
+
+-- a cell goes: it is there, and no field of it owns
+abbrev pub going_cases : List Turning
+going_cases =
+    at [] (state_of (Destroy ∷ at_bottom) (a_cell 1 pair (Going 2) ∷ []) (A_mark ∷ []))
+    ∷ at [] (state_of (Destroy ∷ at_bottom) (a_cell 1 pair (Going 2) ∷ a_cell 2 leaf (Field 3 0) ∷ []) (A_mark ∷ []))
+    ∷ at (NullOrDead ∷ []) (state_of (Destroy ∷ at_bottom) [] (A_mark ∷ []))
+    ∷ at (NullOrDead ∷ []) (state_of (Destroy ∷ at_bottom) (a_cell 1 pair (Going 3) ∷ []) (A_mark ∷ []))
+    ∷ at (Orphan ∷ []) (state_of (Destroy ∷ at_bottom) (a_cell 1 pair (Going 2) ∷ a_cell 2 leaf (Field 1 0) ∷ []) (A_mark ∷ []))
+    ∷ at (Orphan ∷ []) (state_of (Destroy ∷ at_bottom) (a_cell 2 Message (Field 1 1) ∷ a_cell 1 pair (Going 2) ∷ []) (A_mark ∷ []))
+    ∷ []
+
+-- a leave unwinds: an object's item owns one, and under the entries lies a mark
+abbrev pub unwinding_cases : List Turning
+unwinding_cases =
+    at [] (state_of (Unwind (pos 7) ∷ at_bottom) (a_cell 1 leaf (Entry 1) ∷ []) (An_object ∷ A_mark ∷ []))
+    ∷ at [] (state_of (Unwind (pos 7) ∷ at_bottom) [] (An_operation 1 (pos 7) ∷ A_mark ∷ []))
+    ∷ at (NullOrDead ∷ []) (state_of (Unwind (pos 7) ∷ at_bottom) [] (An_object ∷ A_mark ∷ []))
+    ∷ at (NullOrDead ∷ []) (state_of (Unwind (pos 7) ∷ at_bottom) (a_cell 1 leaf (Entry 0) ∷ []) (An_object ∷ A_mark ∷ []))
+    ∷ at (Unbalanced ∷ []) (state_of (Unwind (pos 7) ∷ at_bottom) [] [])
+    ∷ []
+
+abbrev pub arriving : List Task → State
+arriving below = state_of (Unwind (pos 7) ∷ below) [] (A_mark ∷ [])
+
+-- its code arrives at a method's trap or a dispatch's, and nowhere else
+abbrev pub arrival_cases : List Turning
+arrival_cases =
+    at [] (arriving at_bottom)
+    ∷ at [] (arriving (Trapped ∷ runs ∷ at_bottom))
+    ∷ at (Unbalanced ∷ []) (arriving [])
+    ∷ at (Unbalanced ∷ []) (arriving (runs ∷ at_bottom))
+    ∷ at (Unbalanced ∷ []) (arriving (Destroy ∷ at_bottom))
+    ∷ at (Unbalanced ∷ []) (arriving (Unwind (pos 7) ∷ at_bottom))
+    ∷ at (Unbalanced ∷ []) (arriving (Dispatched Of_main ∷ []))
+    ∷ at (Unbalanced ∷ []) (arriving (Trapped ∷ []))
+    ∷ at (Unbalanced ∷ []) (arriving (Trapped ∷ at_bottom))
+    ∷ at (Unbalanced ∷ []) (arriving (Trapped ∷ Destroy ∷ at_bottom))
+    ∷ at (Unbalanced ∷ []) (arriving (Trapped ∷ Unwind (pos 7) ∷ at_bottom))
+    ∷ []
+
+-- a trap alone waits for nothing
+abbrev pub trap_cases : List Turning
+trap_cases =
+    at (Unbalanced ∷ []) (state_of at_bottom [] (A_mark ∷ []))
+    ∷ at (Unbalanced ∷ []) (state_of (Trapped ∷ runs ∷ at_bottom) [] (A_mark ∷ A_mark ∷ []))
+    ∷ []
+
+-- a method stands at an instruction
+abbrev pub standing_cases : List Turning
+standing_cases =
+    at [] (state_of (runs ∷ at_bottom) [] (A_mark ∷ []))
+    ∷ at (WrongKind ∷ []) (state_of (Run (record (frame_of 0 Static 1) { place = 1 }) ∷ at_bottom) [] (A_mark ∷ []))
+    ∷ at (WrongKind ∷ []) (state_of (Run (frame_of 2 Static 1) ∷ at_bottom) [] (A_mark ∷ []))
+    ∷ []
+
+-- which is one of those that are done so far
+abbrev pub later_cases : List Case
+later_cases =
+    map (λ i. fails i (WrongKind ∷ [])) (
+    JumpActive 0
+    ∷ JumpAdded 0
+    ∷ Enlist (pos 0)
+    ∷ Issue 0 1
+    ∷ SetActive
+    ∷ Cancel
+    ∷ Abort
+    ∷ Status 0
+    ∷ Connect 0
+    ∷ Ask 0 1 2
+    ∷ Close
+    ∷ TakeMessage 0
+    ∷ Reply 0 1
+    ∷ []
+    )
+
+-- each need of a move bites
+pub record MovesBite : Type 0 where
+  pub going : AllTurn going_cases
+  pub unwinding : AllTurn unwinding_cases
+  pub arrival : AllTurn arrival_cases
+  pub traps : AllTurn trap_cases
+  pub standing : AllTurn standing_cases
+  pub later : AllBite later_cases

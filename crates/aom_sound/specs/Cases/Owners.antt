@@ -1,0 +1,58 @@
+-- Who is a living owner, by closed states: at a caught leave, and at a dispatch's end.
+use Rattle.std.specs.Prelude.{ℕ, pos, List, [], ◌∷◌, None}
+use Rattle.aom_image.specs.Image.{Image}
+use Rattle.aom_image.specs.declared.method.Gives.TheVariants.{Nothing}
+use Rattle.aom_sound.specs.Places.{Place, Register, Entry, Field, Going, Elsewhere, Root, Cell}
+use Rattle.aom_sound.specs.State.{Static, frame_of, Task, Run, Trapped, Destroy, Unwind, Dispatched, Of_main, Item, An_object, An_operation, A_mark, State}
+use Rattle.aom_sound.specs.Owned.{Owned}
+use Rattle.aom_sound.specs.Cases.Building.{leaf, pair, a_method, a_cell, at_bottom, small_image, state_of}
+
+abbrev pub an_image : Image
+an_image = small_image (a_method None [] Nothing []) (a_method None [] Nothing [])
+
+-- the same without a root
+abbrev pub rootless_image : Image
+rootless_image = record an_image { header = record an_image.header { root = None } }
+
+-- a leave is caught over a method that set its trap, over an operation and an object on the cleanup stack
+abbrev pub caught_tasks : List Task
+caught_tasks = Unwind (pos 7) ∷ Trapped ∷ Run (frame_of 0 Static 1) ∷ at_bottom
+
+abbrev pub caught_items : List Item
+caught_items = A_mark ∷ An_operation 1 (pos 7) ∷ An_object ∷ A_mark ∷ []
+
+-- a cell is owned so, beside a pair that the root owns
+abbrev pub OwnedAt : Place → Type 0
+OwnedAt place = Owned an_image (state_of caught_tasks (a_cell 1 leaf place ∷ a_cell 5 pair (Elsewhere Root) ∷ []) caught_items)
+
+abbrev pub OwnedBy : Image → List Task → List Cell → Type 0
+OwnedBy p tasks cells = Owned p (state_of tasks cells (A_mark ∷ []))
+
+pub record OwnersBite : Type 0 where
+  -- these own: a register of the method that waits, the object's item, a field of the pair, and the root
+  pub register : OwnedAt (Register 2 15)
+  pub item : OwnedAt (Entry 1)
+  pub field : OwnedAt (Field 5 1)
+  pub root : OwnedBy an_image caught_tasks (a_cell 5 pair (Elsewhere Root) ∷ [])
+  -- no register of a frame that ended by the leave, and none where no frame stood
+  pub dead_frame : OwnedAt (Register 4 0) → ⊥
+  pub trap : OwnedAt (Register 3 0) → ⊥
+  pub dispatch : OwnedAt (Register 0 5) → ⊥
+  pub no_frame : OwnedAt (Register 9 0) → ⊥
+  pub ended : OwnedBy an_image (Dispatched Of_main ∷ []) (a_cell 1 leaf (Register 0 5) ∷ []) → ⊥
+  -- no register past those that a method has
+  pub past_registers : OwnedAt (Register 2 16) → ⊥
+  -- no mark, no operation, and nothing where no item lies
+  pub mark : OwnedAt (Entry 3) → ⊥
+  pub operation : OwnedAt (Entry 2) → ⊥
+  pub no_item : OwnedAt (Entry 4) → ⊥
+  -- no field past those of the class, and none of a cell that is gone
+  pub past_fields : OwnedAt (Field 5 2) → ⊥
+  pub gone : OwnedAt (Field 6 0) → ⊥
+  -- no root where the image has none
+  pub no_root : OwnedBy rootless_image caught_tasks (a_cell 5 pair (Elsewhere Root) ∷ []) → ⊥
+  -- no destruction, and while one is at hand nothing is as it must be
+  pub going : OwnedBy an_image (Destroy ∷ at_bottom) (a_cell 1 leaf (Going 2) ∷ []) → ⊥
+  pub destruction : OwnedBy an_image (Destroy ∷ at_bottom) [] → ⊥
+  -- two cells that own each other have no end
+  pub round : OwnedBy an_image caught_tasks (a_cell 1 pair (Field 2 0) ∷ a_cell 2 pair (Field 1 0) ∷ []) → ⊥
