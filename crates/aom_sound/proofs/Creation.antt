@@ -28,8 +28,6 @@ use Rattle.aom_sound.specs.WellTyped.{Back, Fits, HasAge, IsHoused, Returns, Sta
 
 -- nothing but a new cell's fields is declared anew
 declared_new : (p : Image) (cs : List Cell) (n : ℕ) (x : Thing) (ws : List ℤ) (owner : Place) → named cs n ≡ None → (r : Place) → Weaker (declared p (with_new n x ws owner cs) r) (declared p cs r)
-declared_new p cs n x ws owner e (Register f i) = alike
-declared_new p cs n x ws owner e (Entry k) = alike
 declared_new p cs n x ws owner e (Field m f) = go (n == m) refl
   where
     null : (c : Option Thing) → Weaker (filled c Perhaps) Null
@@ -39,8 +37,7 @@ declared_new p cs n x ws owner e (Field m f) = go (n == m) refl
     go : (b : Bool) → (n == m) ≡ b → Weaker (declared_field p (cond b (Some (record { name = n; thing = x })) (named cs m)) f) (declared_field p (named cs m) f)
     go true h = subst (λ o. Weaker (filled (field_thing p (thing_holder x) f) Perhaps) (declared_field p o f)) (sym e ∙ ap (λ k. named cs k) (eqb-true n m h)) (null (field_thing p (thing_holder x) f))
     go false h = alike
-declared_new p cs n x ws owner e (Elsewhere Root) = alike
-declared_new p cs n x ws owner e (Going k) = alike
+declared_new p cs n x ws owner e _ = alike
 
 lives_new : (cs : List Cell) (n : ℕ) (x : Thing) (ws : List ℤ) (owner : Place) (o : Object) → named cs n ≡ None → named cs o.name ≡ Some o → named (with_new n x ws owner cs) o.name ≡ Some o
 lives_new cs n x ws owner o e h = ap (λ b. cond b (Some (record { name = n; thing = x })) (named cs o.name)) (ne_eqb n o.name (λ same. let e' : Some o ≡ None = sym h ∙ ap (λ k. named cs k) (sym same) ∙ e in cc)) ∙ h

@@ -154,20 +154,12 @@ destroys p (Some o) items ts s now w = begins_over p (destructor_of p o.thing) o
 
 -- the methods over a trap end
 under_trap : (p : Image) (ts : List Task) → AllWait p ts → AllWait p (to_trap ts)
-under_trap p [] w = w
 under_trap p (Run fr ∷ ts) w = under_trap p ts w.1
-under_trap p (Trapped ∷ ts) w = w
-under_trap p (Destroy ∷ ts) w = w
-under_trap p (Unwind code ∷ ts) w = w
-under_trap p (Dispatched d ∷ ts) w = w
+under_trap p _ w = w
 
 leaves_off : (p : Image) (ts : List Task) → RoundsLeft p ts → AllWait p (to_trap ts)
-leaves_off p [] w = w
 leaves_off p (Run fr ∷ ts) w = under_trap p ts w.1
-leaves_off p (Trapped ∷ ts) w = w
-leaves_off p (Destroy ∷ ts) w = w
-leaves_off p (Unwind code ∷ ts) w = w
-leaves_off p (Dispatched d ∷ ts) w = w
+leaves_off p _ w = w
 
 module _ (p : Image) (looped_so : IsLooped p) (c : Choice) (fr : Frame) (ts : List Task) (s : State) (given : RoundsLeft p s.tasks) (rounds : RoundsAt p fr fr.place) (wait : AllWait p ts) where
   -- the method goes on at its next place
@@ -186,17 +178,12 @@ module _ (p : Image) (looped_so : IsLooped p) (c : Choice) (fr : Frame) (ts : Li
   goes_back (Left t) a x caller below w = w
 
   returns : (g : Gives) (a : ℕ) (ts' : List Task) → AllWait p ts' → RoundsLeft p (returned p fr ts s g a ts').tasks
-  returns g a [] w = given
   returns g a (Run caller ∷ below) w = goes_back g a (result_register (instr_at p caller.method caller.place)) caller below w
-  returns g a (Trapped ∷ []) w = given
   returns g a (Trapped ∷ Run caller ∷ below) w = goes_back g a (result_register (instr_at p caller.method caller.place)) caller below w
-  returns g a (Trapped ∷ Trapped ∷ below) w = given
-  returns g a (Trapped ∷ Destroy ∷ below) w = given
   returns g a (Trapped ∷ Dispatched d ∷ below) w = w
   returns g a (Destroy ∷ below) w = w
-  returns g a (Trapped ∷ Unwind code ∷ below) w = given
   returns g a (Unwind code ∷ below) w = w
-  returns g a (Dispatched d ∷ below) w = given
+  returns g a _ w = given
 
   branches : (i : Instr) (t : ℕ) (b : Bool) → instr_at p fr.method fr.place ≡ Some i → jump_of i ≡ Some t → ((d n : ℕ) → i ≡ Loop d n → ⊥) → RoundsLeft p (branched fr ts s b t).tasks
   branches i t true at jump unlooped = leaps i t at jump
@@ -304,20 +291,12 @@ told p (A_maybe t) x code fr ts w = w
 told p (Left t) x code fr ts w = w
 
 arrives : (p : Image) (code : ℤ) (ts : List Task) (items : List Item) (s u : State) → AllWait p ts → arrived p code ts items s ≡ Goes u → RoundsLeft p u.tasks
-arrives p code [] items s u w e = cc
-arrives p code (Run fr ∷ ts) items s u w e = cc
-arrives p code (Trapped ∷ []) items s u w e = cc
 arrives p code (Trapped ∷ Run fr ∷ ts) items s u w e =
     let i = instr_at p fr.method fr.place in
     let caller = next (code_told (called p i) (result_register i) code fr) in
     subst (λ v. RoundsLeft p v.tasks) (goes_same (record s { tasks = Run caller ∷ ts; items = items }) u e) (told p (called p i) (result_register i) code fr ts w)
-arrives p code (Trapped ∷ Trapped ∷ ts) items s u w e = cc
-arrives p code (Trapped ∷ Destroy ∷ ts) items s u w e = cc
-arrives p code (Trapped ∷ Unwind c ∷ ts) items s u w e = cc
 arrives p code (Trapped ∷ Dispatched d ∷ ts) items s u w e = subst (λ v. RoundsLeft p v.tasks) (goes_same (record s { tasks = Dispatched (ended_by code d) ∷ ts; items = items }) u e) w
-arrives p code (Destroy ∷ ts) items s u w e = cc
-arrives p code (Unwind c ∷ ts) items s u w e = cc
-arrives p code (Dispatched d ∷ ts) items s u w e = cc
+arrives p code _ items s u w e = cc
 
 unwinds : (p : Image) (code : ℤ) (ts : List Task) (s u : State) (items : List Item) → AllWait p ts → unwound p code ts s items ≡ Goes u → RoundsLeft p u.tasks
 unwinds p code ts s u [] w e = cc

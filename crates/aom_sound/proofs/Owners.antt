@@ -36,11 +36,9 @@ HasThing (Own c a) x = x ≡ c
 HasThing (Maybe c a) x = x ≡ c
 
 fits_thing : (p : Image) (h : Place → Option Object) (o : Object) (k : Kind) → Fits p h (Some o) k → HasThing k o.thing
-fits_thing p h o Unset f = f
-fits_thing p h o Word f = f
-fits_thing p h o Null f = f
 fits_thing p h o (Own c a) f = stands_same p o.thing c f.0
 fits_thing p h o (Maybe c a) f = stands_same p o.thing c f.0
+fits_thing p h o _ f = f
 
 -- what the other cells hold is held in all
 later : (cs : List Cell) (c : Cell) (q : Place) (o : Object) → Tidy (c ∷ cs) → held cs q ≡ Some o → held (c ∷ cs) q ≡ Some o

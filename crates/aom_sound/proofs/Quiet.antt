@@ -58,12 +58,9 @@ resumes_calm p (Dispatched d ∷ ts) h = h
 
 -- a leave comes to a trap, under which nothing is cleared
 leaves_calm : (p : Image) (code : ℤ) (ts : List Task) → has_trap ts ≡ true → IsCalm p ts → IsCalm p (Unwind code ∷ to_trap ts)
-leaves_calm p code [] e h = cc
 leaves_calm p code (Run fr ∷ ts) e h = leaves_calm p code ts e h.1
 leaves_calm p code (Trapped ∷ ts) e h = (h.0, h)
-leaves_calm p code (Destroy ∷ ts) e h = cc
-leaves_calm p code (Unwind x ∷ ts) e h = cc
-leaves_calm p code (Dispatched d ∷ ts) e h = cc
+leaves_calm p code _ e h = cc
 
 -- another frame of the same method
 same_calm : (p : Image) (fr fr' : Frame) (ts : List Task) → fr'.method ≡ fr.method → IsCalm p (Run fr ∷ ts) → IsCalm p (Run fr' ∷ ts)
@@ -90,20 +87,12 @@ module _ (p : Image) (wired : IsWired p) where
 
   -- the code arrives
   arrives_calm : (code : ℤ) (ts : List Task) (items : List Item) (s u : State) → IsCalm p ts → arrived p code ts items s ≡ Goes u → IsCalm p u.tasks
-  arrives_calm code [] items s u h e = cc
-  arrives_calm code (Run fr ∷ ts) items s u h e = cc
-  arrives_calm code (Trapped ∷ []) items s u h e = cc
   arrives_calm code (Trapped ∷ Run fr ∷ ts) items s u h e =
       let i = instr_at p fr.method fr.place in
       let fr' = next (code_told (called p i) (result_register i) code fr) in
       subst (λ v. IsCalm p v.tasks) (goes_same (record s { tasks = Run fr' ∷ ts; items = items }) u e) (same_calm p fr fr' ts (ap (λ x. x.method) (told_same (called p i) (result_register i) code fr)) h.1)
-  arrives_calm code (Trapped ∷ Trapped ∷ ts) items s u h e = cc
-  arrives_calm code (Trapped ∷ Destroy ∷ ts) items s u h e = cc
-  arrives_calm code (Trapped ∷ Unwind x ∷ ts) items s u h e = cc
   arrives_calm code (Trapped ∷ Dispatched d ∷ ts) items s u h e = subst (λ v. IsCalm p v.tasks) (goes_same (record s { tasks = Dispatched (ended_by code d) ∷ ts; items = items }) u e) h.1
-  arrives_calm code (Destroy ∷ ts) items s u h e = cc
-  arrives_calm code (Unwind x ∷ ts) items s u h e = cc
-  arrives_calm code (Dispatched d ∷ ts) items s u h e = cc
+  arrives_calm code _ items s u h e = cc
 
   unwinds_calm : (code : ℤ) (ts : List Task) (items : List Item) (s u : State) → AllUndo p items → IsCalm p (Unwind code ∷ ts) → unwound p code ts s items ≡ Goes u → IsCalm p u.tasks
   unwinds_calm code ts [] s u undos h e = cc
@@ -161,21 +150,16 @@ module _ (p : Image) (wired : IsWired p) (c : Choice) (fr : Frame) (sh : Shape) 
   received_method (Left t) a x caller = refl
 
   return_calm : (g : Gives) (a : ℕ) (below : List Task) → IsCalm p below → IsCalm p (returned p fr ts s g a below).tasks
-  return_calm g a [] w = given
   return_calm g a (Run caller ∷ below) w =
       let x = result_register (instr_at p caller.method caller.place) in
       same_calm p caller (next (received p fr ts s g a x caller)) below (received_method g a x caller) w
-  return_calm g a (Trapped ∷ []) w = given
   return_calm g a (Trapped ∷ Run caller ∷ below) w =
       let x = result_register (instr_at p caller.method caller.place) in
       same_calm p caller (next (set_word (received p fr ts s g a x caller) (suc x) (Some (pos 0)))) below (received_method g a x caller) w.1
-  return_calm g a (Trapped ∷ Trapped ∷ below) w = given
-  return_calm g a (Trapped ∷ Destroy ∷ below) w = given
-  return_calm g a (Trapped ∷ Unwind code ∷ below) w = given
   return_calm g a (Trapped ∷ Dispatched d ∷ below) w = w.1
   return_calm g a (Destroy ∷ below) w = w
   return_calm g a (Unwind code ∷ below) w = w
-  return_calm g a (Dispatched d ∷ below) w = given
+  return_calm g a _ w = given
 
   -- a quiet method calls quiet ones
   call_calm : (target : Target) (m first x : ℕ) → AllTrue (rule_needs p fr.method fr.place sh (Call target m first x)) → IsCalm p (does p c fr ts s (Call target m first x)).tasks
@@ -245,12 +229,8 @@ module _ (p : Image) (wired : IsWired p) (c : Choice) (fr : Frame) (sh : Shape) 
 
 -- the abstract state of the method at hand
 its_shape : (p : Image) (t : Typing) (cs : List Cell) (fr : Frame) (ts : List Task) (ls : List Layer) → Run fr ∷ ts ≡ tasks_of ls → Good p t cs ls → (sh : Shape) × (shape_at t fr.method fr.place ≡ Some sh)
-its_shape p t cs fr ts [] at good = cc
 its_shape p t cs fr ts (Method fr' sh ∷ ls) at good = let same : fr' ≡ fr = cc in (sh, subst (λ x. shape_at t x.method x.place ≡ Some sh) same good.stack.0)
-its_shape p t cs fr ts (Mark gv ∷ ls) at good = cc
-its_shape p t cs fr ts (Dying o ∷ ls) at good = cc
-its_shape p t cs fr ts (Unwinding code es ∷ ls) at good = cc
-its_shape p t cs fr ts (Dispatching d ∷ ls) at good = cc
+its_shape p t cs fr ts _ at good = cc
 
 moves : (p : Image) (t : Typing) → IsWired p → IsTyped p t → (c : Choice) (s u : State) → WellTyped p t s → IsCalm p s.tasks → step p c s ≡ Goes u → IsCalm p u.tasks
 moves p t wired typed c s u w h e = go s.tasks refl h e
@@ -297,9 +277,5 @@ pub caught_owned : CaughtOwned
 caught_owned p t wired s w calm code tasks items at top = owned p t wired s w (λ k. go w.layers (sym w.tasks ∙ at) (subst (λ l. IsCalm p l) at calm).0 k)
   where
     go : (ls : List Layer) → tasks_of ls ≡ Unwind code ∷ tasks → is_clearing tasks ≡ false → (k : ℕ) → claim p (declared p s.cells) ls (Going k) ≡ Null
-    go [] e clear k = cc
-    go (Method fr sh ∷ ls) e clear k = cc
-    go (Mark gv ∷ ls) e clear k = cc
-    go (Dying o ∷ ls) e clear k = cc
     go (Unwinding x es ∷ ls) e clear k = let same : tasks_of ls ≡ tasks = cc in none_going p (declared p s.cells) ls k (ap is_clearing same ∙ clear)
-    go (Dispatching d ∷ ls) e clear k = cc
+    go _ e clear k = cc

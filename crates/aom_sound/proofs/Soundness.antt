@@ -68,10 +68,8 @@ destroy_ends p None items ts s = refl
 destroy_ends p (Some o) items ts s = refl
 
 deal_ends : (p : Image) (items : List Item) (ts : List Task) (s : State) → (dealt_with p items ts s).rest.ended ≡ s.rest.ended
-deal_ends p [] ts s = refl
 deal_ends p (An_object ∷ items) ts s = destroy_ends p (held s.cells (Entry (length items))) items ts s
-deal_ends p (An_operation m w ∷ items) ts s = refl
-deal_ends p (A_mark ∷ items) ts s = refl
+deal_ends p _ ts s = refl
 
 module _ (p : Image) (c : Choice) (fr : Frame) (ts : List Task) (s : State) where
   jump_ends : (o : Option Object) (to : ℕ) → (jumped p c fr ts s o to).rest.ended ≡ s.rest.ended
@@ -146,17 +144,9 @@ dispatch_holds p s (Main_left code) rootless = inr (record { idle = refl; rootle
 dispatch_holds p s Of_root rootless = inr (record { idle = refl; rootless = λ h. rootless refl })
 
 arrival_holds : (p : Image) (code : ℤ) (ts : List Task) (items : List Item) (s : State) → Holds_on s.rest.ended (arrived p code ts items s)
-arrival_holds p code [] items s = tt
-arrival_holds p code (Run fr ∷ ts) items s = tt
-arrival_holds p code (Trapped ∷ []) items s = tt
 arrival_holds p code (Trapped ∷ Run fr ∷ ts) items s = inl refl
-arrival_holds p code (Trapped ∷ Trapped ∷ ts) items s = tt
-arrival_holds p code (Trapped ∷ Destroy ∷ ts) items s = tt
-arrival_holds p code (Trapped ∷ Unwind c ∷ ts) items s = tt
 arrival_holds p code (Trapped ∷ Dispatched d ∷ ts) items s = inl refl
-arrival_holds p code (Destroy ∷ ts) items s = tt
-arrival_holds p code (Unwind c ∷ ts) items s = tt
-arrival_holds p code (Dispatched d ∷ ts) items s = tt
+arrival_holds p code _ items s = tt
 
 unwinding_holds : (p : Image) (code : ℤ) (ts : List Task) (s : State) (items : List Item) → Holds_on s.rest.ended (unwound p code ts s items)
 unwinding_holds p code ts s [] = tt

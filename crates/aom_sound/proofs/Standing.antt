@@ -31,12 +31,8 @@ resumes p (Unwind code ∷ ts) h = h
 resumes p (Dispatched d ∷ ts) h = h
 
 lands : (p : Image) (ts : List Task) → AllAtTraps p ts → AllAtTraps p (to_trap ts)
-lands p [] h = h
 lands p (Run fr ∷ ts) h = lands p ts h
-lands p (Trapped ∷ ts) h = h
-lands p (Destroy ∷ ts) h = h
-lands p (Unwind code ∷ ts) h = h
-lands p (Dispatched d ∷ ts) h = h
+lands p _ h = h
 
 begins_there : (p : Image) (o : Object) (height : ℕ) (ts : List Task) → AllAtTraps p ts → AllAtTraps p (begun p o height ts)
 begins_there p o height ts h = go (destructor_of p o.thing)
@@ -46,14 +42,12 @@ begins_there p o height ts h = go (destructor_of p o.thing)
     go (Some m) = h
 
 deals_there : (p : Image) (items : List Item) (ts : List Task) (s : State) → AllAtTraps p ts → AllAtTraps p (dealt_with p items ts s).tasks
-deals_there p [] ts s h = h
 deals_there p (An_object ∷ items) ts s h = go (held s.cells (Entry (length items)))
   where
     go : (o : Option Object) → AllAtTraps p (destroyed p o items ts s).tasks
     go None = h
     go (Some o) = begins_there p o (length items) ts h
-deals_there p (An_operation m w ∷ items) ts s h = h
-deals_there p (A_mark ∷ items) ts s h = h
+deals_there p _ ts s h = h
 
 module _ (p : Image) (c : Choice) (fr : Frame) (ts : List Task) (s : State) (at_hand : s.tasks ≡ Run fr ∷ ts) (h : AllAtTraps p ts) where
   given : AllAtTraps p s.tasks
@@ -76,17 +70,12 @@ module _ (p : Image) (c : Choice) (fr : Frame) (ts : List Task) (s : State) (at_
   delete_there (Some o) a = begins_there p o (length s.items) (Run (set_word fr a None) ∷ ts) h
 
   return_there : (g : Gives) (a : ℕ) (under : List Task) → AllAtTraps p under → AllAtTraps p (returned p fr ts s g a under).tasks
-  return_there g a [] w = given
   return_there g a (Run caller ∷ under) w = w
-  return_there g a (Trapped ∷ []) w = given
   return_there g a (Trapped ∷ Run caller ∷ under) w = w.1
-  return_there g a (Trapped ∷ Trapped ∷ under) w = given
-  return_there g a (Trapped ∷ Destroy ∷ under) w = given
-  return_there g a (Trapped ∷ Unwind code ∷ under) w = given
   return_there g a (Trapped ∷ Dispatched d ∷ under) w = w.1
   return_there g a (Destroy ∷ under) w = w
   return_there g a (Unwind code ∷ under) w = w
-  return_there g a (Dispatched d ∷ under) w = given
+  return_there g a _ w = given
 
   left_there : (v : State) (code : ℤ) → v.tasks ≡ s.tasks → AllAtTraps p (left code v).tasks
   left_there v code same = subst (λ l. AllAtTraps p (to_trap l)) (sym (same ∙ at_hand)) (lands p ts h)
@@ -134,19 +123,11 @@ module _ (p : Image) (c : Choice) (fr : Frame) (ts : List Task) (s : State) (at_
   acts_there _ at = given
 
 arrives_there : (p : Image) (code : ℤ) (ts : List Task) (items : List Item) (s u : State) → AllAtTraps p ts → arrived p code ts items s ≡ Goes u → AllAtTraps p u.tasks
-arrives_there p code [] items s u h e = cc
-arrives_there p code (Run fr ∷ ts) items s u h e = cc
-arrives_there p code (Trapped ∷ []) items s u h e = cc
 arrives_there p code (Trapped ∷ Run fr ∷ ts) items s u h e =
     let i = instr_at p fr.method fr.place in
     subst (λ v. AllAtTraps p v.tasks) (goes_same (record s { tasks = Run (next (code_told (called p i) (result_register i) code fr)) ∷ ts; items = items }) u e) h.1
-arrives_there p code (Trapped ∷ Trapped ∷ ts) items s u h e = cc
-arrives_there p code (Trapped ∷ Destroy ∷ ts) items s u h e = cc
-arrives_there p code (Trapped ∷ Unwind x ∷ ts) items s u h e = cc
 arrives_there p code (Trapped ∷ Dispatched d ∷ ts) items s u h e = subst (λ v. AllAtTraps p v.tasks) (goes_same (record s { tasks = Dispatched (ended_by code d) ∷ ts; items = items }) u e) h.1
-arrives_there p code (Destroy ∷ ts) items s u h e = cc
-arrives_there p code (Unwind x ∷ ts) items s u h e = cc
-arrives_there p code (Dispatched d ∷ ts) items s u h e = cc
+arrives_there p code _ items s u h e = cc
 
 unwinds_there : (p : Image) (code : ℤ) (ts : List Task) (items : List Item) (s u : State) → AllAtTraps p ts → unwound p code ts s items ≡ Goes u → AllAtTraps p u.tasks
 unwinds_there p code ts [] s u h e = cc

@@ -143,20 +143,12 @@ under_trap below ts e = go e.0 e.1
     go (x ∷ over) e = inr (over, cc)
 
 lands : (below ts : List Task) → Ends below ts → Ends below (to_trap ts)
-lands below [] e = e
 lands below (Run fr ∷ ts) e = lands below ts (under_frame below ts fr e)
-lands below (Trapped ∷ ts) e = e
-lands below (Destroy ∷ ts) e = e
-lands below (Unwind code ∷ ts) e = e
-lands below (Dispatched d ∷ ts) e = e
+lands below _ e = e
 
 resumes : (below ts : List Task) → Ends below ts → Ends below (resumed ts)
-resumes below [] e = e
 resumes below (Run fr ∷ ts) e = with_task below ts (Run (next fr)) (under_frame below ts fr e)
-resumes below (Trapped ∷ ts) e = e
-resumes below (Destroy ∷ ts) e = e
-resumes below (Unwind code ∷ ts) e = e
-resumes below (Dispatched d ∷ ts) e = e
+resumes below _ e = e
 
 begins_there : (p : Image) (o : Object) (height : ℕ) (below ts : List Task) → Ends below ts → Ends below (begun p o height ts)
 begins_there p o height below ts e = go (destructor_of p o.thing)
@@ -295,8 +287,6 @@ module _ (p : Image) (c : Choice) (fr : Frame) (ts : List Task) (s : State) (at_
 
 -- the code arrives at the trap, or at another over it
 arrives_there : (p : Image) (code : ℤ) (ts : List Task) (items : List Item) (s u : State) (below : List Task) → s.tasks ≡ Unwind code ∷ ts → s.items ≡ A_mark ∷ items → Ends below ts → arrived p code ts items s ≡ Goes u → Moved p below s u
-arrives_there p code [] items s u below top at o e = cc
-arrives_there p code (Run fr ∷ ts) items s u below top at o e = cc
 arrives_there p code (Trapped ∷ ts) items s u below top at o e = go ts top (under_trap below ts o) e
   where
     go : (ts : List Task) → s.tasks ≡ Unwind code ∷ Trapped ∷ ts → (ts ≡ below) ⊎ Ends below ts → arrived p code (Trapped ∷ ts) items s ≡ Goes u → Moved p below s u
@@ -320,9 +310,7 @@ arrives_there p code (Trapped ∷ ts) items s u below top at o e = go ts top (un
     go (Dispatched d ∷ ts) top (inr o) e =
         subst (λ v. Moved p below s v) (goes_same (record s { tasks = Dispatched (ended_by code d) ∷ ts; items = items }) u e)
         (inl (with_task below ts (Dispatched (ended_by code d)) (under_dispatch below ts d o), inr (inr (A_mark, at))))
-arrives_there p code (Destroy ∷ ts) items s u below top at o e = cc
-arrives_there p code (Unwind x ∷ ts) items s u below top at o e = cc
-arrives_there p code (Dispatched d ∷ ts) items s u below top at o e = cc
+arrives_there p code _ items s u below top at o e = cc
 
 unwinds_there : (p : Image) (code : ℤ) (ts : List Task) (items : List Item) (s u : State) (below : List Task) → s.tasks ≡ Unwind code ∷ ts → s.items ≡ items → Ends below ts → unwound p code ts s items ≡ Goes u → Moved p below s u
 unwinds_there p code ts [] s u below top at o e = cc
@@ -407,12 +395,9 @@ module _ (p : Image) (t : Typing) (s u : State) (before : WellTyped p t s) (afte
       go (x ∷ entries) stack = let same : less.0 ∷ u.items ≡ x ∷ (entries ++ (A_mark ∷ items)) = sym less.1 ∙ stack in kept_by over at entries (ap below_top same)
 
   traps_after : (b tasks : List Task) → GoesOnAfter b tasks → traps tasks ≡ traps b
-  traps_after [] tasks g = absurd g
   traps_after (Run fr ∷ ts) tasks g = ap traps g.1
-  traps_after (Trapped ∷ ts) tasks g = absurd g
-  traps_after (Destroy ∷ ts) tasks g = absurd g
-  traps_after (Unwind code ∷ ts) tasks g = absurd g
   traps_after (Dispatched d ∷ ts) tasks g = ap traps g.1
+  traps_after _ tasks g = absurd (assumption tt)
 
   by_end : GoesOnAfter below u.tasks → u.items ≡ below_top s.items → ComesOff p below s u → IsPast p below items s u
   by_end g e off = record { tasks = g; stack = go h.entries (e ∙ ap below_top h.stack); off = off }
