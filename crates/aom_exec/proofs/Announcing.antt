@@ -30,10 +30,8 @@ module _ (p : Image) (s : State) (told : IsTold s) where
   destroyed_told (Some o) items us = told
 
   dealt_told : (items : List Item) (us : List Task) → IsTold (dealt_with p items us s)
-  dealt_told [] us = told
   dealt_told (An_object ∷ items) us = destroyed_told (held s.cells (Entry (length items))) items us
-  dealt_told (An_operation m w ∷ items) us = told
-  dealt_told (A_mark ∷ items) us = told
+  dealt_told _ us = told
 
 module _ (p : Image) (c : Choice) (fr : Frame) (ts : List Task) (s : State) (told : IsTold s) where
   branch_told : (b : Bool) (to : ℕ) → IsTold (branched fr ts s b to)
@@ -109,17 +107,9 @@ module _ (p : Image) (c : Choice) (s : State) (told : IsTold s) where
   end_told Of_root = told
 
   of_arrival : (code : ℤ) (ts : List Task) (items : List Item) (u : State) → arrived p code ts items s ≡ Goes u → IsTold u
-  of_arrival code [] items u e = cc
-  of_arrival code (Run g ∷ ts) items u e = cc
-  of_arrival code (Destroy ∷ ts) items u e = cc
-  of_arrival code (Unwind other ∷ ts) items u e = cc
-  of_arrival code (Dispatched d ∷ ts) items u e = cc
-  of_arrival code (Trapped ∷ []) items u e = cc
-  of_arrival code (Trapped ∷ Trapped ∷ ts) items u e = cc
-  of_arrival code (Trapped ∷ Destroy ∷ ts) items u e = cc
-  of_arrival code (Trapped ∷ Unwind other ∷ ts) items u e = cc
   of_arrival code (Trapped ∷ Run g ∷ ts) items u e = subst IsTold (guarded_goes [] _ u e) told
   of_arrival code (Trapped ∷ Dispatched d ∷ ts) items u e = subst IsTold (guarded_goes [] _ u e) told
+  of_arrival code _ items u e = cc
 
   of_object : (b : Bool) (v u : State) → IsTold v → cond b (Goes v) (IsStuck NullOrDead) ≡ Goes u → IsTold u
   of_object true v u told e = subst IsTold (guarded_goes [] v u e) told

@@ -54,10 +54,7 @@ module _ (p : Image) (m : Parts) (booted : Booted p m) where
 
   no_word_yet : (r : Place) → word_at (main_tasks (main_of p)) r ≡ None
   no_word_yet (Register d i) = ap (λ us. word_in us d i) (boot_tasks p booted.main booted.is_main) ∙ all_none (2 == d) (1 == d) (0 == d) None None refl
-  no_word_yet (Entry k) = refl
-  no_word_yet (Field n f) = refl
-  no_word_yet (Going k) = refl
-  no_word_yet (Elsewhere o) = refl
+  no_word_yet _ = refl
 
   no_cell : (n : ℕ) → cell_at m.cells n ≡ None
   no_cell n = ap (λ h. cell_at h n) booted.cells

@@ -55,9 +55,6 @@ use Rattle.aom_exec.proofs.Heights.{LowUnder, Stands_here, own_entries}
 
 -- the destructor of an object is that of the class which its register's kind tells
 destructor_among : (p : Image) (h : Place → Option Object) (o : Object) (k : Kind) (m : ℕ) → Fits p h (Some o) k → destructor_of p o.thing ≡ Some m → Among m (destructors p (object_class k))
-destructor_among p h o Unset m fits e = absurd fits
-destructor_among p h o Word m fits e = absurd fits
-destructor_among p h o Null m fits e = absurd fits
 destructor_among p h o (Own t a) m fits e = of_thing t (ap (destructor_of p) (sym (stands_same p o.thing t fits.0)) ∙ e)
   where
     of_thing : (t : Thing) → destructor_of p t ≡ Some m → Among m (destructors p (object_class (Own t a)))
@@ -68,6 +65,7 @@ destructor_among p h o (Maybe t a) m fits e = of_thing t (ap (destructor_of p) (
     of_thing : (t : Thing) → destructor_of p t ≡ Some m → Among m (destructors p (object_class (Maybe t a)))
     of_thing (An_object_of c) e = subst (λ d. Among m (listed d ++ listed (budget.destructor_of p (sessions_with p (Some c))))) (sym e) (inl refl)
     of_thing Message e = cc
+destructor_among p h o _ m fits e = absurd (assumption tt)
 
 -- what comes to no entries calls nothing that may
 pushes_from : (quiet quiet' leave leave' : Bool) → only_if quiet quiet' ≡ true → only_if leave' leave ≡ true → (not quiet' || leave') ≡ true → (not quiet || leave) ≡ true
@@ -114,11 +112,9 @@ passed_same p fr ts s d (Takes_own t ∷ xs) first to cs k =
     ∙ held_apart cs (here fr ts s first) (Register d to) (Entry k) refl refl
 
 result_same : (p : Image) (fr : Frame) (ts : List Task) (s : State) (g : Gives) (a x : ℕ) (below : List Task) (n : ℕ) → SameEntries s.cells (result_cells p fr ts s g a x below) n
-result_same p fr ts s Nothing a x below n k lt = refl
-result_same p fr ts s A_word a x below n k lt = refl
 result_same p fr ts s (An_own t) a x below n k lt = held_apart s.cells (here fr ts s a) (Register (length below) x) (Entry k) refl refl
 result_same p fr ts s (A_maybe t) a x below n k lt = held_apart s.cells (here fr ts s a) (Register (length below) x) (Entry k) refl refl
-result_same p fr ts s (Left t) a x below n k lt = refl
+result_same p fr ts s _ a x below n k lt = refl
 
 -- the tables of depths and of heights
 pub record Tables (p : Image) (t : Typing) (depth heights : ℕ → ℕ) : Type 0 where
@@ -270,24 +266,19 @@ module _ (p : Image) (t : Typing) (depth heights : ℕ → ℕ) (tables : Tables
         go (i ∷ items) le = lower (fr.height - 1) (length items) below (omega (arith, le)) low
 
     return_room : (g : Gives) (a : ℕ) (below : List Task) → LowUnder fr.height below → Roomy p depth heights s.cells s.items below → R (returned p fr ts s g a below)
-    return_room g a [] low v = given
     return_room g a (Run caller ∷ below) low v =
         let x = result_register (instr_at p caller.method caller.place) in
         let cells' = result_cells p fr ts s g a x below in
         goes_back cells' s.items g a x caller below (recelled p depth heights s.cells cells' s.items (Run caller ∷ below) (result_same p fr ts s g a x below (length s.items)) v)
-    return_room g a (Trapped ∷ []) low v = given
     return_room g a (Trapped ∷ Run caller ∷ below) low v =
         let x = result_register (instr_at p caller.method caller.place) in
         let cells' = result_cells p fr ts s g a x below in
         goes_back_trapped cells' (below_top s.items) g a x caller below (Some (pos 0))
         (popped_top p depth heights cells' s.items (Run caller ∷ below) (low_top (Run caller ∷ below) low) (recelled p depth heights s.cells cells' s.items (Run caller ∷ below) (result_same p fr ts s g a x below (length s.items)) v))
-    return_room g a (Trapped ∷ Trapped ∷ below) low v = given
-    return_room g a (Trapped ∷ Destroy ∷ below) low v = given
-    return_room g a (Trapped ∷ Unwind code ∷ below) low v = given
     return_room g a (Trapped ∷ Dispatched d ∷ below) low v = popped_top p depth heights s.cells s.items (Dispatched d ∷ below) (low_top (Dispatched d ∷ below) low) v
     return_room g a (Destroy ∷ below) low v = v
     return_room g a (Unwind code ∷ below) low v = v
-    return_room g a (Dispatched d ∷ below) low v = given
+    return_room g a _ low v = given
 
     -- ---- the cleanup stack
 

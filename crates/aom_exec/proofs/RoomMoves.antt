@@ -40,20 +40,12 @@ module _ (p : Image) (t : Typing) (depth heights : ℕ → ℕ) (tables : Tables
 
   -- the code arrives
   arrives : (code : ℤ) (ts : List Task) (items : List Item) (s u : State) → Roomy p depth heights s.cells items ts → arrived p code ts items s ≡ Goes u → RoomyState u
-  arrives code [] items s u w e = cc
-  arrives code (Run fr ∷ ts) items s u w e = cc
-  arrives code (Trapped ∷ []) items s u w e = cc
   arrives code (Trapped ∷ Run fr ∷ ts) items s u w e =
       let i = instr_at p fr.method fr.place in
       let fr' = next (code_told (called p i) (result_register i) code fr) in
       subst RoomyState (goes_same (record s { tasks = Run fr' ∷ ts; items = items }) u e) (told s (called p i) (result_register i) code fr items ts w)
-  arrives code (Trapped ∷ Trapped ∷ ts) items s u w e = cc
-  arrives code (Trapped ∷ Destroy ∷ ts) items s u w e = cc
-  arrives code (Trapped ∷ Unwind x ∷ ts) items s u w e = cc
   arrives code (Trapped ∷ Dispatched d ∷ ts) items s u w e = subst RoomyState (goes_same (record s { tasks = Dispatched (ended_by code d) ∷ ts; items = items }) u e) w
-  arrives code (Destroy ∷ ts) items s u w e = cc
-  arrives code (Unwind x ∷ ts) items s u w e = cc
-  arrives code (Dispatched d ∷ ts) items s u w e = cc
+  arrives code _ items s u w e = cc
 
   unwinds : (code : ℤ) (ts : List Task) (items : List Item) (s u : State) → s.items ≡ items → AllUndo p items → ((i : Item) (rest : List Item) → s.items ≡ i ∷ rest → AllLow (length rest) ts) → Roomy p depth heights s.cells items ts → unwound p code ts s items ≡ Goes u → RoomyState u
   unwinds code ts [] s u same undos low w e = cc

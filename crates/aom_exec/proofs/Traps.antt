@@ -41,10 +41,7 @@ resumes_fit p (Dispatched d ∷ ts) h = h
 leaves_fit : (p : Image) (ts : List Task) → TrapsFit p ts → TrapsFit p (to_trap ts)
 leaves_fit p [] h = tt
 leaves_fit p (Run fr ∷ ts) h = leaves_fit p ts h
-leaves_fit p (Trapped ∷ ts) h = h
-leaves_fit p (Destroy ∷ ts) h = h
-leaves_fit p (Unwind code ∷ ts) h = h
-leaves_fit p (Dispatched d ∷ ts) h = h
+leaves_fit p _ h = h
 
 begins_fit : (p : Image) (o : Object) (height : ℕ) (below : List Task) → TrapsFit p below → TrapsFit p (begun p o height below)
 begins_fit p o height below h = go (destructor_of p o.thing)
@@ -54,27 +51,17 @@ begins_fit p o height below h = go (destructor_of p o.thing)
     go (Some m) = h
 
 deals_fit : (p : Image) (items : List Item) (ts : List Task) (s : State) → TrapsFit p ts → TrapsFit p (dealt_with p items ts s).tasks
-deals_fit p [] ts s h = h
 deals_fit p (An_object ∷ items) ts s h = go (held s.cells (Entry (length items)))
   where
     go : (o : Option Object) → TrapsFit p (destroyed p o items ts s).tasks
     go None = h
     go (Some o) = begins_fit p o (length items) ts h
-deals_fit p (An_operation m w ∷ items) ts s h = h
-deals_fit p (A_mark ∷ items) ts s h = h
+deals_fit p _ ts s h = h
 
 arrives_fit : (p : Image) (code : ℤ) (ts : List Task) (items : List Item) (s u : State) → TrapsFit p ts → arrived p code ts items s ≡ Goes u → TrapsFit p u.tasks
-arrives_fit p code [] items s u h e = cc
-arrives_fit p code (Run fr ∷ ts) items s u h e = cc
-arrives_fit p code (Trapped ∷ []) items s u h e = cc
 arrives_fit p code (Trapped ∷ Run fr ∷ ts) items s u h e = subst (λ v. TrapsFit p v.tasks) (goes_same _ u e) h.1
-arrives_fit p code (Trapped ∷ Trapped ∷ ts) items s u h e = cc
-arrives_fit p code (Trapped ∷ Destroy ∷ ts) items s u h e = cc
-arrives_fit p code (Trapped ∷ Unwind x ∷ ts) items s u h e = cc
 arrives_fit p code (Trapped ∷ Dispatched d ∷ ts) items s u h e = subst (λ v. TrapsFit p v.tasks) (goes_same _ u e) h.1
-arrives_fit p code (Destroy ∷ ts) items s u h e = cc
-arrives_fit p code (Unwind x ∷ ts) items s u h e = cc
-arrives_fit p code (Dispatched d ∷ ts) items s u h e = cc
+arrives_fit p code _ items s u h e = cc
 
 unwinds_fit : (p : Image) (code : ℤ) (ts : List Task) (items : List Item) (s u : State) → TrapsFit p ts → unwound p code ts s items ≡ Goes u → TrapsFit p u.tasks
 unwinds_fit p code ts [] s u h e = cc
@@ -121,17 +108,12 @@ module _ (p : Image) (formed : WellFormed p) (c : Choice) (fr : Frame) (ts : Lis
   delete_fits (Some o) a = begins_fit p o (length s.items) (Run (set_word fr a None) ∷ ts) h
 
   return_fits : (g : Gives) (a : ℕ) (below : List Task) → TrapsFit p below → TrapsFit p (returned p fr ts s g a below).tasks
-  return_fits g a [] w = given
   return_fits g a (Run caller ∷ below) w = w
-  return_fits g a (Trapped ∷ []) w = given
   return_fits g a (Trapped ∷ Run caller ∷ below) w = w.1
-  return_fits g a (Trapped ∷ Trapped ∷ below) w = given
-  return_fits g a (Trapped ∷ Destroy ∷ below) w = given
-  return_fits g a (Trapped ∷ Unwind code ∷ below) w = given
   return_fits g a (Trapped ∷ Dispatched d ∷ below) w = w.1
   return_fits g a (Destroy ∷ below) w = w
   return_fits g a (Unwind code ∷ below) w = w
-  return_fits g a (Dispatched d ∷ below) w = given
+  return_fits g a _ w = given
 
   -- where the request is refused, or the word is negative, the method leaves
   either_fits : (b : Bool) (code : ℤ) (u v : State) → TrapsFit p u.tasks → TrapsFit p v.tasks → TrapsFit p (cond b (left code u) v).tasks

@@ -170,11 +170,7 @@ callee_there p wired k place = go (instr_at p k place) refl
 
 pub calls_there : (p : Image) → IsWired p → (ms : List Held_task) → CallsThere p ms
 calls_there p wired (Runs_frame f ∷ ms) = callee_there p wired f.method f.place
-calls_there p wired [] = tt
-calls_there p wired (Is_trap ∷ ms) = tt
-calls_there p wired (Destroys x ∷ ms) = tt
-calls_there p wired (Unwinds code ∷ ms) = tt
-calls_there p wired (Ends d ∷ ms) = tt
+calls_there p wired _ = tt
 
 -- ---- the code arrives
 
@@ -364,31 +360,7 @@ module _ (p : Image) (m : Parts) (es : Held_items) (marked : m.entries ≡ recor
                 (subst (Agrees p (told p i code (record (with_tasks (Runs_frame g ∷ ms) m) { entries = es }))) (ap (λ js. record s { tasks = Run (next (code_told gv x code caller)) ∷ ts; items = below_top js }) items ∙ is) told_all)),
             ap (λ w. record t { lines = t.lines ++ Leave w ∷ [] }) same.0 ∙ ap (λ js. record t { lines = t.lines ++ arrival code js }) (sym items),
           )
-      go (Unwinds c ∷ Is_trap ∷ Runs_frame g ∷ ms) code [] held_tasks top unwinding trapped runs coded fits same values ks items e = absurd same.1
-      go (Unwinds c ∷ Is_trap ∷ Runs_frame g ∷ ms) code (Run f ∷ ts) held_tasks top unwinding trapped runs coded fits same values ks items e = absurd same.1.0
-      go (Unwinds c ∷ Is_trap ∷ Runs_frame g ∷ ms) code (Destroy ∷ ts) held_tasks top unwinding trapped runs coded fits same values ks items e = absurd same.1.0
-      go (Unwinds c ∷ Is_trap ∷ Runs_frame g ∷ ms) code (Unwind c' ∷ ts) held_tasks top unwinding trapped runs coded fits same values ks items e = absurd same.1.0
-      go (Unwinds c ∷ Is_trap ∷ Runs_frame g ∷ ms) code (Dispatched d ∷ ts) held_tasks top unwinding trapped runs coded fits same values ks items e = absurd same.1.0
-      go (Unwinds c ∷ Is_trap ∷ Runs_frame g ∷ ms) code (Trapped ∷ []) held_tasks top unwinding trapped runs coded fits same values ks items e = absurd same.1.1
-      go (Unwinds c ∷ Is_trap ∷ Runs_frame g ∷ ms) code (Trapped ∷ Trapped ∷ ts) held_tasks top unwinding trapped runs coded fits same values ks items e = absurd same.1.1.0
-      go (Unwinds c ∷ Is_trap ∷ Runs_frame g ∷ ms) code (Trapped ∷ Destroy ∷ ts) held_tasks top unwinding trapped runs coded fits same values ks items e = absurd same.1.1.0
-      go (Unwinds c ∷ Is_trap ∷ Runs_frame g ∷ ms) code (Trapped ∷ Unwind c' ∷ ts) held_tasks top unwinding trapped runs coded fits same values ks items e = absurd same.1.1.0
-      go (Unwinds c ∷ Is_trap ∷ Runs_frame g ∷ ms) code (Trapped ∷ Dispatched d ∷ ts) held_tasks top unwinding trapped runs coded fits same values ks items e = absurd same.1.1.0
-      go [] code below held_tasks top unwinding trapped runs coded fits same values ks items e = absurd unwinding
-      go (Runs_frame f ∷ us) code below held_tasks top unwinding trapped runs coded fits same values ks items e = absurd unwinding
-      go (Is_trap ∷ us) code below held_tasks top unwinding trapped runs coded fits same values ks items e = absurd unwinding
-      go (Destroys y ∷ us) code below held_tasks top unwinding trapped runs coded fits same values ks items e = absurd unwinding
-      go (Ends d ∷ us) code below held_tasks top unwinding trapped runs coded fits same values ks items e = absurd unwinding
-      go (Unwinds c ∷ []) code below held_tasks top unwinding trapped runs coded fits same values ks items e = absurd trapped
-      go (Unwinds c ∷ Runs_frame f ∷ us) code below held_tasks top unwinding trapped runs coded fits same values ks items e = absurd trapped
-      go (Unwinds c ∷ Destroys y ∷ us) code below held_tasks top unwinding trapped runs coded fits same values ks items e = absurd trapped
-      go (Unwinds c ∷ Unwinds d ∷ us) code below held_tasks top unwinding trapped runs coded fits same values ks items e = absurd trapped
-      go (Unwinds c ∷ Ends d ∷ us) code below held_tasks top unwinding trapped runs coded fits same values ks items e = absurd trapped
-      go (Unwinds c ∷ Is_trap ∷ []) code below held_tasks top unwinding trapped runs coded fits same values ks items e = absurd runs
-      go (Unwinds c ∷ Is_trap ∷ Is_trap ∷ us) code below held_tasks top unwinding trapped runs coded fits same values ks items e = absurd runs
-      go (Unwinds c ∷ Is_trap ∷ Destroys y ∷ us) code below held_tasks top unwinding trapped runs coded fits same values ks items e = absurd runs
-      go (Unwinds c ∷ Is_trap ∷ Unwinds d ∷ us) code below held_tasks top unwinding trapped runs coded fits same values ks items e = absurd runs
-      go (Unwinds c ∷ Is_trap ∷ Ends d ∷ us) code below held_tasks top unwinding trapped runs coded fits same values ks items e = absurd runs
+      go _ code _ held_tasks top unwinding trapped runs coded fits same values ks items e = absurd (assumption tt)
 
   pub arrives_end : IsUnwinding m.stack.tasks → IsTrapped (below_first m.stack.tasks) → IsEnding under
       → Unwinds_by p m (record (with_tasks (Ends (MainLeft (code_here m.stack.tasks)) ∷ below_first under) m) { entries = es }) t said
@@ -423,28 +395,4 @@ module _ (p : Image) (m : Parts) (es : Held_items) (marked : m.entries ≡ recor
             subst (λ us. Agrees p (record (with_tasks (Ends (MainLeft c) ∷ us) m) { entries = es }) u) (sym bare) (subst (Agrees p (record (with_tasks (Ends (MainLeft c) ∷ []) m) { entries = es })) (sym items_too ∙ is) end),
             ap (λ w. record t { lines = t.lines ++ Leave w ∷ [] }) same.0 ∙ ap (λ js. record t { lines = t.lines ++ arrival code js }) (sym items),
           )
-      go (Unwinds c ∷ Is_trap ∷ Ends y ∷ ms) code [] top unwinding trapped ending same ks items e = absurd same.1
-      go (Unwinds c ∷ Is_trap ∷ Ends y ∷ ms) code (Run f ∷ ts) top unwinding trapped ending same ks items e = absurd same.1.0
-      go (Unwinds c ∷ Is_trap ∷ Ends y ∷ ms) code (Destroy ∷ ts) top unwinding trapped ending same ks items e = absurd same.1.0
-      go (Unwinds c ∷ Is_trap ∷ Ends y ∷ ms) code (Unwind c' ∷ ts) top unwinding trapped ending same ks items e = absurd same.1.0
-      go (Unwinds c ∷ Is_trap ∷ Ends y ∷ ms) code (Dispatched d ∷ ts) top unwinding trapped ending same ks items e = absurd same.1.0
-      go (Unwinds c ∷ Is_trap ∷ Ends y ∷ ms) code (Trapped ∷ []) top unwinding trapped ending same ks items e = absurd same.1.1
-      go (Unwinds c ∷ Is_trap ∷ Ends y ∷ ms) code (Trapped ∷ Run f ∷ ts) top unwinding trapped ending same ks items e = absurd same.1.1.0
-      go (Unwinds c ∷ Is_trap ∷ Ends y ∷ ms) code (Trapped ∷ Trapped ∷ ts) top unwinding trapped ending same ks items e = absurd same.1.1.0
-      go (Unwinds c ∷ Is_trap ∷ Ends y ∷ ms) code (Trapped ∷ Destroy ∷ ts) top unwinding trapped ending same ks items e = absurd same.1.1.0
-      go (Unwinds c ∷ Is_trap ∷ Ends y ∷ ms) code (Trapped ∷ Unwind c' ∷ ts) top unwinding trapped ending same ks items e = absurd same.1.1.0
-      go [] code below top unwinding trapped ending same ks items e = absurd unwinding
-      go (Runs_frame f ∷ us) code below top unwinding trapped ending same ks items e = absurd unwinding
-      go (Is_trap ∷ us) code below top unwinding trapped ending same ks items e = absurd unwinding
-      go (Destroys y ∷ us) code below top unwinding trapped ending same ks items e = absurd unwinding
-      go (Ends d ∷ us) code below top unwinding trapped ending same ks items e = absurd unwinding
-      go (Unwinds c ∷ []) code below top unwinding trapped ending same ks items e = absurd trapped
-      go (Unwinds c ∷ Runs_frame f ∷ us) code below top unwinding trapped ending same ks items e = absurd trapped
-      go (Unwinds c ∷ Destroys y ∷ us) code below top unwinding trapped ending same ks items e = absurd trapped
-      go (Unwinds c ∷ Unwinds d ∷ us) code below top unwinding trapped ending same ks items e = absurd trapped
-      go (Unwinds c ∷ Ends d ∷ us) code below top unwinding trapped ending same ks items e = absurd trapped
-      go (Unwinds c ∷ Is_trap ∷ []) code below top unwinding trapped ending same ks items e = absurd ending
-      go (Unwinds c ∷ Is_trap ∷ Is_trap ∷ us) code below top unwinding trapped ending same ks items e = absurd ending
-      go (Unwinds c ∷ Is_trap ∷ Runs_frame f ∷ us) code below top unwinding trapped ending same ks items e = absurd ending
-      go (Unwinds c ∷ Is_trap ∷ Destroys y ∷ us) code below top unwinding trapped ending same ks items e = absurd ending
-      go (Unwinds c ∷ Is_trap ∷ Unwinds d ∷ us) code below top unwinding trapped ending same ks items e = absurd ending
+      go _ code _ top unwinding trapped ending same ks items e = absurd (assumption tt)
