@@ -18,9 +18,8 @@ use Rattle.aom_shape.specs.declared.kind.Kind.TheVariants.{Null}
 use Rattle.aom_sound.proofs.Claimed.{claim_entry_above, claim_going_above}
 use Rattle.aom_sound.proofs.Clearing.{begins_over}
 use Rattle.aom_sound.proofs.Items.{length_forms}
-use Rattle.aom_sound.proofs.Looping.{goes_same, guarded_goes}
+use Rattle.aom_sound.proofs.Guarded.{goes_same, guarded_goes, guarded_met}
 use Rattle.aom_sound.proofs.Maps.{at-put_at, held_moved, same_place-true, same_place_refl}
-use Rattle.aom_sound.proofs.Quiet.{guarded_met}
 use Rattle.aom_sound.proofs.Straight.{claim_register, fits_unowning}
 use Rattle.aom_sound.specs.Calls.{called, result_register}
 use Rattle.aom_sound.specs.Claims.{Dispatching, Dying, Form, Layer, Mark, Mark_form, Method, Unwinding, declared, entry_form, forms, items_of, objects, tasks_of}

@@ -132,9 +132,9 @@ module _ (p : Image) (t : Typing) (c : Choice) (s : State) (fr : Frame) (sh : Sh
       refuses = relabel p t s.cells fr fr' sh (set_register sh a k) ls (top ls a) k (fitted p t s.cells fr sh ls at_hand.good) refl refl refl
           (subst (λ o. Fits p (held s.cells) o k) (sym free) tt) (λ r. claim-set_register p (declared p s.cells) fr sh ls a k r) (words_set fr.words sh a None k at_hand.good.stack.1.words refl)
 
-      makes : Fitted p t (with_new c.name (An_object_of x) (no_words p c fr (tasks_of ls) s x) (top ls a) s.cells) fr' (set_register sh a k) ls
-      makes = create p t s.cells fr sh ls c.name (An_object_of x) (no_words p c fr (tasks_of ls) s x) a k (fitted p t s.cells fr sh ls at_hand.good) unused free (λ h nf. (stands_itself p (An_object_of x), age_fits h (new_age p x) (record { name = c.name; thing = An_object_of x }) nf)) refl
+      makes : Fitted p t (with_new c.name (An_object_of x) (no_words p x) (top ls a) s.cells) fr' (set_register sh a k) ls
+      makes = create p t s.cells fr sh ls c.name (An_object_of x) (no_words p x) a k (fitted p t s.cells fr sh ls at_hand.good) unused free (λ h nf. (stands_itself p (An_object_of x), age_fits h (new_age p x) (record { name = c.name; thing = An_object_of x }) nf)) refl
 
-      go : (b : Bool) → WellTyped p t (record s { cells = cond b s.cells (with_new c.name (An_object_of x) (no_words p c fr (tasks_of ls) s x) (top ls a) s.cells); tasks = Run fr' ∷ tasks_of ls })
+      go : (b : Bool) → WellTyped p t (record s { cells = cond b s.cells (with_new c.name (An_object_of x) (no_words p x) (top ls a) s.cells); tasks = Run fr' ∷ tasks_of ls })
       go true = well p t c s fr sh ls at_hand _ fr' (set_register sh a k) refl at_hand.items at_hand.undos (settle p t _ fr' (set_register sh a k) ls refuses leads.0)
       go false = well p t c s fr sh ls at_hand _ fr' (set_register sh a k) refl at_hand.items at_hand.undos (settle p t _ fr' (set_register sh a k) ls makes leads.0)

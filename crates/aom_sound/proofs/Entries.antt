@@ -332,10 +332,10 @@ module _ (p : Image) (t : Typing) (c : Choice) (s : State) (fr : Frame) (sh : Sh
       free = free_register p t c s fr sh ls at_hand a n.0
 
       cells : List Cell
-      cells = with_new c.name (An_object_of x) (no_words p c fr (tasks_of ls) s x) (top ls a) s.cells
+      cells = with_new c.name (An_object_of x) (no_words p x) (top ls a) s.cells
 
       makes : Fitted p t cells fr' (set_register sh a k) ls
-      makes = create p t s.cells fr sh ls c.name (An_object_of x) (no_words p c fr (tasks_of ls) s x) a k g unused free
+      makes = create p t s.cells fr sh ls c.name (An_object_of x) (no_words p x) a k g unused free
           (λ h nf. (stands_itself p (An_object_of x), age_fits p t c s fr sh ls at_hand h (new_age p x) (record { name = c.name; thing = An_object_of x }) nf)) refl
 
       needed : (b : Bool) → AllTrue (cond b (leave_needs s.cells (Run fr ∷ tasks_of ls)) [])

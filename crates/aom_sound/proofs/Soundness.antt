@@ -114,7 +114,7 @@ module _ (p : Image) (c : Choice) (fr : Frame) (ts : List Task) (s : State) wher
   instr_ends (JumpNull a to) = jump_ends (held s.cells (Register (length ts) a)) to
   instr_ends (Delete a) = delete_ends (held s.cells (Register (length ts) a)) a
   instr_ends (Return a) = return_ends (gives_of p fr.method) a ts
-  instr_ends (NewOrLeave a x) = refused_ends c.refused no_memory s (go_on fr ts s (with_new c.name (An_object_of x) (no_words p c fr ts s x) (here fr ts s a) s.cells) (set_word fr a None)) refl refl
+  instr_ends (NewOrLeave a x) = refused_ends c.refused no_memory s (go_on fr ts s (with_new c.name (An_object_of x) (no_words p x) (here fr ts s a) s.cells) (set_word fr a None)) refl refl
   instr_ends (Push a) = refused_ends c.refused no_memory (pushed p c fr ts s a) (pushed p c fr ts s a) refl refl
   instr_ends (PushOperation a m) = refused_ends c.refused no_memory (operation_pushed p c fr ts s a m) (operation_pushed p c fr ts s a m) refl refl
   instr_ends PopDelete = deal_ends p s.items (Run fr ∷ ts) s

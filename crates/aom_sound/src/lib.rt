@@ -12,6 +12,6 @@ mod line;
 pub use laws::{
     boot_keeps, calm_keeps, caught_owned, destruction_keeps, ends_empty, ends_owned,
     instruction_keeps, leaves_arrive, leaves_move, linked_is_wired, loops_keep, step_keeps,
-    stuck_examples, traps_keep, turn_keeps, typed_is_sound, unwinding_keeps,
+    steps_are_moves, stuck_examples, traps_keep, turn_keeps, typed_is_sound, unwinding_keeps,
 };
 pub use line::{Ending, Line};
