@@ -1,5 +1,5 @@
 -- What an instruction does, where its needs are met, is its effect.
-use Rattle.std.proofs.Common.{Bool, List, None, Option, Some, [], ap, cond, false, length, refl, suc, sym, true, zero, ℕ, ℤ, ◌-◌, ◌∙◌, ◌∷◌, ◌≡◌}
+use Rattle.std.proofs.Common.{Bool, List, None, Option, Some, ap, cond, false, length, refl, suc, sym, true, zero, ℕ, ℤ, ◌-◌, ◌∙◌, ◌∷◌, ◌≡◌}
 use Rattle.std.proofs.lemmas.Bool.{true≢false}
 use Rattle.std.specs.Ordering.{int_eq}
 use Rattle.std.specs.Prelude.{int_lt, is_some}
@@ -8,15 +8,14 @@ use Rattle.aom_image.specs.declared.instr.Instr.{Instr}
 use Rattle.aom_image.specs.declared.instr.Instr.TheVariants.{Add, And, Call, Const, Copy, Delete, Jump, JumpEmpty, JumpEqual, JumpLess, JumpNull, Leave, LeaveIf, Load, Loop, Move, Mul, New, NewOrLeave, Next, Or, Pop, PopDelete, PopOperation, Print, Push, PushOperation, Put, Return, Stop, Store, Sub, Take, Trap, Xor}
 use Rattle.aom_image.specs.declared.method.Thing.TheVariants.{Object as An_object_of}
 use Rattle.aom_shape.specs.Needs.{AllTrue}
-use Rattle.aom_shape.specs.Tables.{put_at}
 use Rattle.aom_sound.specs.Calls.{below_top}
 use Rattle.aom_sound.specs.Cleanup.{dealt_with, destroyed, is_negative, left, no_memory, operation_frame, operation_pushed, pushed, to_trap, top_is_whole, top_place, tops_entry}
 use Rattle.aom_sound.specs.Destruction.{begun}
-use Rattle.aom_sound.specs.Effects.{Effect, Leaves, Made, Same, Update, applied, deals, deletes, effect, jumps_if, jumps_unless, round, sets, updates}
+use Rattle.aom_sound.specs.Effects.{Effect, Leaves, Made, Same, Update, applied, deals, deletes, effect, jumps_if, jumps_unless, round, sets}
 use Rattle.aom_sound.specs.Moves.{does, needs}
 use Rattle.aom_sound.specs.Objects.{deleted, jumped, no_words}
 use Rattle.aom_sound.specs.Places.{Entry, Going, Object, held, moved, with_new}
-use Rattle.aom_sound.specs.State.{A_mark, An_object, An_operation, Choice, Frame, Item, Run, State, Task, Unwind, counter, field_place, set_word}
+use Rattle.aom_sound.specs.State.{An_object, An_operation, Choice, Frame, Item, Run, State, Task, Unwind, counter, field_place, set_word}
 use Rattle.aom_sound.specs.Words.{branched, go_on, here, looped, read}
 
 module _ (p : Image) (c : Choice) (fr : Frame) (ts : List Task) (s : State) (at_hand : s.tasks ≡ Run fr ∷ ts) where

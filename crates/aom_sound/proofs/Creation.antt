@@ -22,7 +22,7 @@ use Rattle.aom_sound.proofs.Straight.{At, Fitted, Law, fits_unowning, fitted, fr
 use Rattle.aom_sound.proofs.Things.{stands_itself}
 use Rattle.aom_sound.specs.Claims.{Dispatching, Dying, Layer, Mark, Method, Unwinding, claim, declared, declared_field, home_claim, tasks_of}
 use Rattle.aom_sound.specs.Objects.{no_words}
-use Rattle.aom_sound.specs.Places.{Cell, Elsewhere, Entry, Field, Going, Object, Place, Register, Root, held, named, same_place, with_new}
+use Rattle.aom_sound.specs.Places.{Cell, Field, Object, Place, Register, held, named, same_place, with_new}
 use Rattle.aom_sound.specs.State.{AtRoot, Choice, Frame, Home, Inside, Run, State, Static, next, set_word, thing_holder, word}
 use Rattle.aom_sound.specs.WellTyped.{Back, Fits, HasAge, IsHoused, Returns, Stack, WellTyped, WordFits}
 

@@ -5,7 +5,7 @@ use Rattle.std.specs.Prelude.{is_none, is_some, not}
 use Rattle.aom_image.specs.Image.{Image}
 use Rattle.aom_image.specs.Views.{instr_at}
 use Rattle.aom_image.specs.declared.instr.Instr.TheVariants.{NewOrLeave, Pop, PopDelete, PopOperation, Push, PushOperation}
-use Rattle.aom_image.specs.declared.method.Thing.TheVariants.{Message, Object as An_object_of}
+use Rattle.aom_image.specs.declared.method.Thing.TheVariants.{Object as An_object_of}
 use Rattle.aom_shape.specs.Calls.{brought}
 use Rattle.aom_shape.specs.Cleanup.{entry_of, owns_object, top_kind, tops_object as tops_object_entry, tops_operation as tops_operation_entry, with_entry, without_top}
 use Rattle.aom_shape.specs.Kinds.{entry_kind, is_object, is_object_or_null, no_entry, register, set_register}
@@ -16,7 +16,7 @@ use Rattle.aom_shape.specs.Typing.{IsTyped, Leads, Typing}
 use Rattle.aom_shape.specs.declared.kind.Entry.{Entry as Pushed}
 use Rattle.aom_shape.specs.declared.kind.Entry.TheVariants.{Object as Pushed_object, Operation as Pushed_operation}
 use Rattle.aom_shape.specs.declared.kind.Kind.{Kind}
-use Rattle.aom_shape.specs.declared.kind.Kind.TheVariants.{Maybe, Null, Own, Unset, Word}
+use Rattle.aom_shape.specs.declared.kind.Kind.TheVariants.{Null, Own}
 use Rattle.aom_sound.proofs.Claimed.{claim-set_register, claim_entry_above, claim_push, length_objects}
 use Rattle.aom_sound.proofs.Creation.{IsUnused, age_fits, create}
 use Rattle.aom_sound.proofs.Dealing.{Dealing, deals, less_claims}

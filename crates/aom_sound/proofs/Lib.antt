@@ -6,6 +6,7 @@ pub mod Guarded
 pub mod Agreement
 pub mod Moving
 pub mod Preserving
+pub mod Resting
 pub mod Straight
 pub mod Jumps
 pub mod Storing

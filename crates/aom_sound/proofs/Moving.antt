@@ -1,5 +1,5 @@
 -- Each step is a move: an instruction has its effect, and may have it.
-use Rattle.std.proofs.Common.{Bool, List, None, Option, Some, [], ap, cond, false, inl, inr, length, negsuc, refl, suc, sym, true, zero, ℕ, ℤ, ◌-◌, ◌∙◌, ◌∷◌, ◌≡◌}
+use Rattle.std.proofs.Common.{Bool, List, None, Option, Some, [], ap, cond, false, inl, inr, length, refl, suc, sym, true, zero, ℕ, ℤ, ◌-◌, ◌∙◌, ◌∷◌, ◌≡◌}
 use Rattle.std.proofs.lemmas.Bool.{true≢false}
 use Rattle.std.specs.Ordering.{int_eq}
 use Rattle.std.specs.Prelude.{int_lt, is_some}
@@ -15,12 +15,11 @@ use Rattle.aom_sound.proofs.Guarded.{goes_same, guarded_goes, guarded_met}
 use Rattle.aom_sound.specs.Calls.{below_top}
 use Rattle.aom_sound.specs.Cleanup.{arrived, destroyed, has_trap, is_negative, leave_needs, no_memory, top_is_whole, top_place, tops_entry, tops_object, tops_operation, unwound}
 use Rattle.aom_sound.specs.Destruction.{gone, owns_nothing}
-use Rattle.aom_sound.specs.Effects.{Effect, Leaves, Made, Pushed, Pushed_operation, Same, Update, deals, deletes, effect, jumps_if, jumps_unless, round, sets, updates}
-use Rattle.aom_sound.specs.Leaves.{LeavesWith}
+use Rattle.aom_sound.specs.Effects.{Effect, Leaves, Made, Pushed, Pushed_operation, Same, Update, deals, deletes, effect, jumps_if, jumps_unless, round, sets}
 use Rattle.aom_sound.specs.Moves.{counted, does, needs, step_instr, step_task}
 use Rattle.aom_sound.specs.Places.{Cell, Entry, Going, Object, held, without}
 use Rattle.aom_sound.specs.State.{A_mark, An_object, An_operation, Choice, Destroy, Dispatched, Frame, Goes, IsStuck, Item, NullOrDead, Orphan, Run, State, Task, Trapped, Unwind, counter, field_place, resumed, word}
-use Rattle.aom_sound.specs.Steps.{Acts, Arrives, Clears, Comes_out, Ends, Fits, FitsUpdate, IsStraight, Move, Rests, StepsAreMoves, Undoes, Vanishes}
+use Rattle.aom_sound.specs.Steps.{Acts, Arrives, Clears, Comes_out, Ends, Fits, IsStraight, Move, Rests, StepsAreMoves, Undoes, Vanishes}
 use Rattle.aom_sound.specs.Words.{here, read, word_or_zero}
 
 -- the word that a register has

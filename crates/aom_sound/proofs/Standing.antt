@@ -1,5 +1,5 @@
 -- A method that waits under a trap stands at the instruction that set it: no move but that one sets a trap, and none changes a task under one.
-use Rattle.std.proofs.Common.{List, None, Option, Some, [], ◌∷◌, ◌≡◌, ℕ}
+use Rattle.std.proofs.Common.{List, None, Option, Some, ◌≡◌, ℕ}
 use Rattle.aom_classes.specs.Roles.{main_of}
 use Rattle.aom_image.specs.Image.{Image}
 use Rattle.aom_sound.proofs.Preserving.{Kept, keeps}
