@@ -378,10 +378,10 @@ module _ (p : Image) (t : Typing) (depth heights : ℕ → ℕ) (tables : Tables
     acts_room (Put f b) stands r n = moves (moved (here fr ts s b) (field_place fr.home f) s.cells) (λ k lt. held_apart s.cells (here fr ts s b) (field_place fr.home f) (Entry k) refl (field_apart fr.home f k))
     acts_room (New a x) stands r n = new_room c.refused
       where
-        new_room : (b : Bool) → Roomy p depth heights (cond b s.cells (with_new c.name (An_object_of x) (no_words p c fr ts s x) (here fr ts s a) s.cells)) s.items (Run fr ∷ ts)
+        new_room : (b : Bool) → Roomy p depth heights (cond b s.cells (with_new c.name (An_object_of x) (no_words p x) (here fr ts s a) s.cells)) s.items (Run fr ∷ ts)
         new_room true = w
-        new_room false = moves (with_new c.name (An_object_of x) (no_words p c fr ts s x) (here fr ts s a) s.cells) (λ k lt. refl)
-    acts_room (NewOrLeave a x) stands r n = or_leaves c.refused no_memory s (go_on fr ts s (with_new c.name (An_object_of x) (no_words p c fr ts s x) (here fr ts s a) s.cells) (set_word fr a None)) off (moves (with_new c.name (An_object_of x) (no_words p c fr ts s x) (here fr ts s a) s.cells) (λ k lt. refl))
+        new_room false = moves (with_new c.name (An_object_of x) (no_words p x) (here fr ts s a) s.cells) (λ k lt. refl)
+    acts_room (NewOrLeave a x) stands r n = or_leaves c.refused no_memory s (go_on fr ts s (with_new c.name (An_object_of x) (no_words p x) (here fr ts s a) s.cells) (set_word fr a None)) off (moves (with_new c.name (An_object_of x) (no_words p x) (here fr ts s a) s.cells) (λ k lt. refl))
     acts_room (Delete a) stands r n = delete_room (held s.cells (here fr ts s a)) a stands (h.fits a)
     acts_room (Call target m first x) stands r n = call_room target m first x stands r
     acts_room (Trap target m first x) stands r n = trap_room target m first x stands r.0

@@ -10,7 +10,7 @@ use Rattle.aom_shape.specs.Typing.{IsTyped, Typing}
 use Rattle.aom_verify.specs.Strongest.{IsStrongest}
 use Rattle.aom_budget.specs.Depths.{HasDepths}
 use Rattle.aom_budget.specs.Heights.{HasHeights}
-use Rattle.aom_sound.proofs.Looping.{goes_same, guarded_goes}
+use Rattle.aom_sound.proofs.Guarded.{goes_same, guarded_goes}
 use Rattle.aom_sound.proofs.Maps.{held_without}
 use Rattle.aom_sound.specs.Calls.{called, result_register}
 use Rattle.aom_sound.specs.Cleanup.{arrived, code_told, dealt_with, ended_by, top_is_whole, unwound}

@@ -26,7 +26,9 @@ use Rattle.aom_sound.specs.Places.{Place, Register, changed, held}
 use Rattle.aom_sound.specs.State.{Frame, Dispatch, Of_main, Main_left, Of_root, Task, Run, Trapped, Destroy, Unwind, Dispatched, Item, An_object, An_operation, A_mark, State, Goes, IsStuck, NullOrDead, next, set_word, word}
 use Rattle.aom_sound.specs.WellTyped.{Caught, EndsDispatch, Fits, Good, Keeps, WellTyped}
 use Rattle.aom_sound.specs.declared.line.Line.TheVariants.{Leave}
-use Rattle.aom_sound.proofs.Looping.{goes_same}
+use Rattle.aom_sound.proofs.Guarded.{goes_same}
+use Rattle.aom_sound.specs.Tasks.{Below}
+use Rattle.aom_sound.specs.Traps.{AllAtTraps, at_traps}
 use Rattle.aom_sound.proofs.Straight.{claim_register, fits_unowning}
 use Rattle.aom_sound.proofs.Maps.{at-put_at}
 use Rattle.aom_lines.specs.Turn.{Turn}
@@ -42,7 +44,6 @@ use Rattle.aom_exec.specs.Cleanup.{TopLives, Unwinds as Unwinds_by, dealt_with, 
 use Rattle.aom_exec.specs.Places.{code_here, value_in, with_tasks, IsEnding, IsTrapped, IsUnwinding}
 use Rattle.aom_exec.specs.Room.{CalleeThere, CallsThere, ReturnsTo}
 use Rattle.aom_exec.specs.Steps.{Stands}
-use Rattle.aom_exec.specs.Traps.{TrapsFit}
 use Rattle.aom_exec.proofs.CallActs.{closing, ended}
 use Rattle.aom_exec.proofs.DealActs.{deals}
 use Rattle.aom_exec.proofs.Entries.{mark_shows_none, unmarked, value_alike}
@@ -122,9 +123,9 @@ module _ (p : Image) (m : Parts) (st : Stands (record { image = p; parts = m }))
       let g = goes_on in
       let over = unwinds_over p st.1.typing st.0 st.1.sound g.0 g.1 st.1.typed g.3 in
       let same = subst (SameTasks m.stack.tasks) g.3 st.1.agrees.tasks in
-      (g.1, g.0, go m.stack.tasks g.0 g.1 unwinding same (subst (λ us. TrapsFit p us) g.3 st.1.traps) over.0, trap m.stack.tasks g.0 g.1 unwinding same over.1)
+      (g.1, g.0, go m.stack.tasks g.0 g.1 unwinding same (subst (λ us. AllAtTraps p us) g.3 st.1.traps).1 over.0, trap m.stack.tasks g.0 g.1 unwinding same over.1)
     where
-      go : (ms : List Held_task) (code : ℤ) (ts : List Task) → IsUnwinding ms → SameTasks ms (Unwind code ∷ ts) → TrapsFit p ts → Beneath p ts → ReturnsTo p (below_first ms)
+      go : (ms : List Held_task) (code : ℤ) (ts : List Task) → IsUnwinding ms → SameTasks ms (Unwind code ∷ ts) → Below (at_traps p) ts → Beneath p ts → ReturnsTo p (below_first ms)
       go (Unwinds c ∷ ms) code ts unwinding same fits under = held_beneath p st.1.sound.formed ms ts same.1 fits under
       go [] code ts unwinding same fits under = absurd unwinding
       go (Runs_frame f ∷ ms) code ts unwinding same fits under = absurd unwinding

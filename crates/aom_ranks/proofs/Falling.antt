@@ -122,15 +122,15 @@ module _ (p : Image) (linked : IsLinked p) (c : Choice) (s : State) (fr : Frame)
   loops_back depth to stands (suc n) e = goes (put_at 0 fr.counters depth (suc n)) to (standing s.cells + operations s.items) (back d.code fr.counters fr.place depth to n nests stands e) (omega arith)
 
   -- a cell is made
-  made : (i : Instr) → slice_get d.code fr.place ≡ Some i → loop_in (Some i) ≡ None → (a x : ℕ) → is_quiet p fr.method ≡ false → rest_at fr.counters (suc fr.place) + waiting_rank p ts + (standing (with_new c.name (An_object_of x) (no_words p c fr ts s x) (here fr ts s a) s.cells) + operations s.items) * cell_rank p < before
+  made : (i : Instr) → slice_get d.code fr.place ≡ Some i → loop_in (Some i) ≡ None → (a x : ℕ) → is_quiet p fr.method ≡ false → rest_at fr.counters (suc fr.place) + waiting_rank p ts + (standing (with_new c.name (An_object_of x) (no_words p x) (here fr ts s a) s.cells) + operations s.items) * cell_rank p < before
   made i stands plain a x loud =
       let less = paid fr.counters (suc fr.place) (straight i stands plain) in
-      let cells = with_new c.name (An_object_of x) (no_words p c fr ts s x) (here fr ts s a) s.cells in
-      let one = standing_new c.name (An_object_of x) (no_words p c fr ts s x) (here fr ts s a) s.cells in
+      let cells = with_new c.name (An_object_of x) (no_words p x) (here fr ts s a) s.cells in
+      let one = standing_new c.name (An_object_of x) (no_words p x) (here fr ts s a) s.cells in
       let new = one_more (standing cells + operations s.items) (standing s.cells + operations s.items) (cell_rank p) (omega (arith, one)) in
       omega (arith, less, new, cell_paid p fr.method loud, cell_some p)
 
-  makes : (a x : ℕ) → slice_get d.code fr.place ≡ Some (New a x) → is_quiet p fr.method ≡ false → (b : Bool) → rest_at fr.counters (suc fr.place) + waiting_rank p ts + (standing (cond b s.cells (with_new c.name (An_object_of x) (no_words p c fr ts s x) (here fr ts s a) s.cells)) + operations s.items) * cell_rank p < before
+  makes : (a x : ℕ) → slice_get d.code fr.place ≡ Some (New a x) → is_quiet p fr.method ≡ false → (b : Bool) → rest_at fr.counters (suc fr.place) + waiting_rank p ts + (standing (cond b s.cells (with_new c.name (An_object_of x) (no_words p x) (here fr ts s a) s.cells)) + operations s.items) * cell_rank p < before
   unfolding loop_in
   makes a x stands loud true = simply (New a x) stands refl
   makes a x stands loud false = made (New a x) stands refl a x loud
@@ -185,7 +185,7 @@ module _ (p : Image) (linked : IsLinked p) (c : Choice) (s : State) (fr : Frame)
       let one = one_more m (standing s.cells + operations s.items) (cell_rank p) more in
       omega (arith, less, one, cell_paid p fr.method loud, cell_some p)
 
-  makes_or_leaves : (a x : ℕ) → slice_get d.code fr.place ≡ Some (NewOrLeave a x) → is_quiet p fr.method ≡ false → s.tasks ≡ Run fr ∷ ts → (b : Bool) → rank p (cond b (leaving no_memory s) (go_on fr ts s (with_new c.name (An_object_of x) (no_words p c fr ts s x) (here fr ts s a) s.cells) (set_word fr a None))) < before
+  makes_or_leaves : (a x : ℕ) → slice_get d.code fr.place ≡ Some (NewOrLeave a x) → is_quiet p fr.method ≡ false → s.tasks ≡ Run fr ∷ ts → (b : Bool) → rank p (cond b (leaving no_memory s) (go_on fr ts s (with_new c.name (An_object_of x) (no_words p x) (here fr ts s a) s.cells) (set_word fr a None))) < before
   unfolding loop_in
   makes_or_leaves a x stands loud top true = subst (λ tasks. 1 + waiting_rank p (to_trap tasks) + (standing s.cells + operations s.items) * cell_rank p < before) (sym top) (leaves_on (NewOrLeave a x) stands refl loud (standing s.cells + operations s.items) (omega arith))
   makes_or_leaves a x stands loud top false = made (NewOrLeave a x) stands refl a x loud

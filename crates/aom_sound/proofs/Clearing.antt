@@ -113,9 +113,9 @@ module _ (p : Image) (wired : IsWired p) (c : Choice) (fr : Frame) (sh : Shape) 
   acts_kept i (Jumps to) r f = (h, refl)
   acts_kept i (Counts d n) r f = (h, refl)
   acts_kept i (Repeats d n to) r f = (h, refl)
-  acts_kept i (Calls m) r f = ((call_quiet f.0 m.method f.1 f.2 (subst Ruled f.3 r), refl, h), refl)
+  acts_kept i (Calls target m first) r f = ((call_quiet target m first f.0 (subst Ruled f.1 r), refl, h), refl)
   -- no quiet method sets a trap
-  acts_kept i (Sets_trap m) r f = absurd (true≢false (sym (subst Ruled f.3 r).0 ∙ ap not h.0))
+  acts_kept i (Sets_trap target m first) r f = absurd (true≢false (sym (subst Ruled f.1 r).0 ∙ ap not h.0))
   acts_kept i (Returns g a) r f = return_kept g a ts h.2
   acts_kept i (Leaves x u) r f = absurd (no_trap p (length s.items) code below ts h.2 f.0)
   acts_kept i (Destroys o a words) r f = (begins_over p wired o (length s.items) code below (Run (with_words fr words) ∷ ts) h, refl)

@@ -11,10 +11,10 @@ use Rattle.aom_classes.specs.Roles.{main_of}
 use Rattle.aom_sound.proofs.Bodies.{linked_is_looped}
 use Rattle.aom_sound.proofs.Maps.{at-put_at}
 use Rattle.aom_sound.proofs.Preserving.{Acting, Kept, keeps}
+use Rattle.aom_sound.specs.Calls.{entered}
 use Rattle.aom_sound.specs.Cleanup.{operation_frame}
-use Rattle.aom_sound.specs.Effects.{on_height}
 use Rattle.aom_sound.specs.Loops.{Body, IsIn, IsLooped, LoopsKeep, RoundsAt, RoundsLeft, rounds_left}
-use Rattle.aom_sound.specs.Moves.{step}
+use Rattle.aom_sound.specs.Moves.{counted, step}
 use Rattle.aom_sound.specs.Places.{Going}
 use Rattle.aom_sound.specs.State.{A_mark, AtRoot, Choice, Frame, Goes, Inside, State, Task, counter, frame_of, set_counter}
 use Rattle.aom_sound.specs.Steps.{IsStraight, Sets}
@@ -143,8 +143,8 @@ module _ (p : Image) (looped_so : IsLooped p) (c : Choice) (s : State) where
     repeats = λ fr ts d to k a f. next_round p looped_so fr a.runs d to a.there k f;
     waits = λ fr ts i a f words. goes_on p looped_so fr i a.there a.runs f;
     resumes = λ fr ts w words. w;
-    calls = λ fr ts target first x m a. fresh p (on_height m (length s.items));
-    traps = λ fr ts target first x m a. (fresh p (on_height m (length (A_mark ∷ s.items))), tt);
+    calls = λ fr ts target m first x a. fresh p (entered p fr ts (counted p s) target m first (length s.items));
+    traps = λ fr ts target m first x a. (fresh p (entered p fr ts (counted p s) target m first (length (A_mark ∷ s.items))), tt);
     destructs = λ o m height ts e. fresh p (frame_of m (Inside o (Going (length ts))) height);
     undoes = λ m w items ts e. fresh p (operation_frame m w (length items));
     unwinds = λ code ts w. tt;

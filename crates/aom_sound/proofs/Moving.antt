@@ -88,8 +88,8 @@ module _ (p : Image) (c : Choice) (fr : Frame) (ts : List Task) (s : State) wher
   fits (Next depth to) n = loops (counter fr depth - 1) depth to refl
   fits (New a x) n = making c.refused a x
   fits (Delete a) n = deleting (held s.cells (here fr ts s a)) a refl
-  fits (Call target m first x) n = (target, first, x, refl)
-  fits (Trap target m first x) n = (target, first, x, refl)
+  fits (Call target m first x) n = (x, refl)
+  fits (Trap target m first x) n = (x, refl)
   fits (NewOrLeave a x) n = either (NewOrLeave a x) c.refused no_memory Same _ (λ e. (may_leave c.refused s.cells n.1 e, (e, refl), tt)) (refl, refl)
   fits (Push a) n = either (Push a) c.refused no_memory (Pushed a) _ (λ e. (n.1.1.1.0, (e, refl), (refl, n.1.1.1.0))) (refl, (refl, n.1.1.1.0))
   fits (PushOperation a m) n = either (PushOperation a m) c.refused no_memory (Pushed_operation m (read fr ts s a)) _ (λ e. (n.1.0, (e, refl), (a, refl, n.1.0))) (refl, (a, refl, n.1.0))

@@ -11,10 +11,10 @@ use Rattle.aom_classes.specs.Jumps.{jump_of}
 use Rattle.aom_classes.specs.Loops.{loop_in}
 use Rattle.aom_shape.specs.Needs.{AllTrue}
 use Rattle.aom_sound.proofs.Moving.{steps_are_moves}
-use Rattle.aom_sound.specs.Calls.{below_top, called, received, result_register, returned}
+use Rattle.aom_sound.specs.Calls.{below_top, called, entered, received, result_register, returned}
 use Rattle.aom_sound.specs.Cleanup.{code_told, has_trap, operation_frame, to_trap}
 use Rattle.aom_sound.specs.Destruction.{begun, begun_by, destructor_of}
-use Rattle.aom_sound.specs.Effects.{Callee, Calls, Counts, Destroys, Destroys_last, Effect, Goes_on, Jumps, Leaves, Operates, Repeats, Returns, Sets_trap, applied, on_height, with_words}
+use Rattle.aom_sound.specs.Effects.{Calls, Counts, Destroys, Destroys_last, Effect, Goes_on, Jumps, Leaves, Operates, Repeats, Returns, Sets_trap, applied, with_words}
 use Rattle.aom_sound.specs.Moves.{counted, dispatch_ends, main_ends, needs, step}
 use Rattle.aom_sound.specs.Places.{Elsewhere, Going, Object, Root, held}
 use Rattle.aom_sound.specs.State.{A_mark, An_operation, Choice, Destroy, Dispatch, Dispatched, Frame, Goes, Inside, Item, Main_left, Of_main, Of_root, Run, State, Task, Trapped, Unwind, counter, frame_of, next, resumed, set_counter, set_word, to_place}
@@ -37,10 +37,10 @@ pub record Kept (p : Image) (c : Choice) (l : TaskLaw) (s : State) : Type 0 wher
   -- it waits below what it begins, and goes on once that is over
   pub waits : (fr : Frame) (ts : List Task) (i : Instr) → Acting p c l s fr ts i → IsStraight i → (words : List (Option ℤ)) → l.Waits (with_words fr words) ts
   pub resumes : (fr : Frame) (ts : List Task) → l.Waits fr ts → (words : List (Option ℤ)) → l.Runs (next (with_words fr words)) ts
-  pub calls : (fr : Frame) (ts : List Task) (target : Target) (first x : ℕ) (m : Callee) → Acting p c l s fr ts (Call target m.method first x) → l.Runs (on_height m (length s.items)) (Run fr ∷ ts)
+  pub calls : (fr : Frame) (ts : List Task) (target : Target) (m first x : ℕ) → Acting p c l s fr ts (Call target m first x) → l.Runs (entered p fr ts (counted p s) target m first (length s.items)) (Run fr ∷ ts)
   pub traps :
-      (fr : Frame) (ts : List Task) (target : Target) (first x : ℕ) (m : Callee) → Acting p c l s fr ts (Trap target m.method first x) →
-      l.Runs (on_height m (length (A_mark ∷ s.items))) (Trapped ∷ Run fr ∷ ts) × l.Stands (Run fr ∷ ts)
+      (fr : Frame) (ts : List Task) (target : Target) (m first x : ℕ) → Acting p c l s fr ts (Trap target m first x) →
+      l.Runs (entered p fr ts (counted p s) target m first (length (A_mark ∷ s.items))) (Trapped ∷ Run fr ∷ ts) × l.Stands (Run fr ∷ ts)
   pub destructs : (o : Object) (m height : ℕ) (ts : List Task) → destructor_of p o.thing ≡ Some m → l.Runs (frame_of m (Inside o (Going (length ts))) height) (Destroy ∷ ts)
   pub undoes : (m : ℕ) (w : ℤ) (items : List Item) (ts : List Task) → s.items ≡ An_operation m w ∷ items → l.Runs (operation_frame m w (length items)) ts
   pub unwinds : (code : ℤ) (ts : List Task) → l.Stands ts → l.Unwinds code (Trapped ∷ ts)
@@ -118,12 +118,12 @@ module _ (p : Image) (c : Choice) (l : TaskLaw) (s : State) (k : Kept p c l s) w
     acts i (Jumps to) a f = (k.jumps fr ts i a to f, h.1)
     acts i (Counts d n) a f = (k.counts fr ts i a d n f, h.1)
     acts i (Repeats d n to) a f = (subst (λ m. l.Runs (to_place (set_counter fr d m) to) ts) (sym f.2) (k.repeats fr ts d to f.1 (another i _ f.0 a) (f.3 ∙ f.2)), h.1)
-    acts i (Calls m) a f =
-        let a' = another i _ f.3 a in
-        (k.calls fr ts f.0 f.1 f.2 m a', (k.waits fr ts _ a' refl fr.words, h.1))
-    acts i (Sets_trap m) a f =
-        let a' = another i _ f.3 a in
-        let w = k.traps fr ts f.0 f.1 f.2 m a' in
+    acts i (Calls target m first) a f =
+        let a' = another i _ f.1 a in
+        (k.calls fr ts target m first f.0 a', (k.waits fr ts _ a' refl fr.words, h.1))
+    acts i (Sets_trap target m first) a f =
+        let a' = another i _ f.1 a in
+        let w = k.traps fr ts target m first f.0 a' in
         (w.0, (w.1, (k.waits fr ts _ a' refl fr.words, h.1)))
     acts i (Returns g x) a f = returns fr ts (counted p s) g x ts (subst (λ ts. Holds l ts) (sym at_hand) h) h.1
     acts i (Leaves code u) a f = lands code ts f.0 h.1

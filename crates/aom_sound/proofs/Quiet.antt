@@ -73,8 +73,8 @@ module _ (p : Image) (t : Typing) (wired : IsWired p) (typed : IsTyped p t) (c :
     repeats = λ fr ts d to k a f. a.runs;
     waits = λ fr ts i a f words. a.runs;
     resumes = λ fr ts h words. h;
-    calls = λ fr ts target first x m a. calls_quiet fr ts target m.method first x a;
-    traps = λ fr ts target first x m a. let clear = not_clearing fr ts target m.method first x a in (λ clearing. absurd (true≢false (sym clearing ∙ clear)), clear);
+    calls = λ fr ts target m first x a. calls_quiet fr ts target m first x a;
+    traps = λ fr ts target m first x a. let clear = not_clearing fr ts target m first x a in (λ clearing. absurd (true≢false (sym clearing ∙ clear)), clear);
     destructs = λ o m height ts e clearing. (destroys p wired o.thing m e).quiet;
     undoes = λ m x items ts e clearing. undo_quiet m x items e;
     unwinds = λ code ts h. h;

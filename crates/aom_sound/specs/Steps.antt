@@ -4,7 +4,6 @@ use Rattle.aom_image.specs.Image.{Image}
 use Rattle.aom_image.specs.Views.{gives_of, instr_at}
 use Rattle.aom_image.specs.declared.instr.Instr.{Instr}
 use Rattle.aom_image.specs.declared.instr.Instr.TheVariants.{Call, Delete, Loop, Next, Pop, PopDelete, PopOperation, Push, PushOperation, Return, Trap}
-use Rattle.aom_image.specs.declared.instr.Target.{Target}
 use Rattle.aom_classes.specs.Jumps.{jump_of}
 use Rattle.aom_classes.specs.Loops.{loop_in}
 use Rattle.aom_shape.specs.Needs.{AllTrue}
@@ -44,8 +43,8 @@ Fits p c fr ts s i (Goes_on ch) = IsStraight i × FitsUpdate ts s.items i ch.upd
 Fits p c fr ts s i (Jumps to) = jump_of i ≡ Some to
 Fits p c fr ts s i (Counts d n) = Sets i d n
 Fits p c fr ts s i (Repeats d n to) = (i ≡ Next d to) × (k : ℕ) × (n ≡ suc k) × (counter fr d - 1 ≡ n)
-Fits p c fr ts s i (Calls m) = (target : Target) × (first : ℕ) × (x : ℕ) × (i ≡ Call target m.method first x)
-Fits p c fr ts s i (Sets_trap m) = (target : Target) × (first : ℕ) × (x : ℕ) × (i ≡ Trap target m.method first x)
+Fits p c fr ts s i (Calls target m first) = (x : ℕ) × (i ≡ Call target m first x)
+Fits p c fr ts s i (Sets_trap target m first) = (x : ℕ) × (i ≡ Trap target m first x)
 Fits p c fr ts s i (Returns g a) = (i ≡ Return a) × (g ≡ gives_of p fr.method)
 Fits p c fr ts s i (Leaves code u) = (has_trap ts ≡ true) × LeavesWith c fr i code × FitsUpdate ts s.items i u
 Fits p c fr ts s i (Destroys o a words) = (i ≡ Delete a) × (held s.cells (here fr ts s a) ≡ Some o)
