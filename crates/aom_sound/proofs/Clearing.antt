@@ -133,7 +133,7 @@ module _ (p : Image) (t : Typing) (wired : IsWired p) (typed : IsTyped p t) (c :
   at_leave x ts at = let o = subst O at over in other (at ∙ ap (λ y. Unwind y ∷ ts) o.0 ∙ ap (λ l. Unwind code ∷ l) o.1)
 
   kept : Move p c s u → Stays u
-  kept (Rests e) = subst Stays (sym e) (over, refl)
+  kept (Rests still e) = subst Stays (sym e) (over, refl)
   kept (Acts fr ts i e at there met fits same) =
       let h = subst O at over in
       let stands = bare_shape p t s.cells fr ts s.items w.layers (sym at ∙ w.tasks) w.items h.1 w.good in

@@ -1,5 +1,5 @@
 -- Each step is a move: an instruction has its effect, and may have it.
-use Rattle.std.proofs.Common.{Bool, List, None, Option, Some, [], ap, cond, false, inl, inr, length, refl, suc, sym, true, zero, ℕ, ℤ, ◌-◌, ◌∙◌, ◌∷◌, ◌≡◌}
+use Rattle.std.proofs.Common.{Bool, List, None, Option, Some, [], ap, cond, false, inl, inr, length, refl, subst, suc, sym, true, zero, ℕ, ℤ, ◌-◌, ◌∙◌, ◌∷◌, ◌≡◌}
 use Rattle.std.proofs.lemmas.Bool.{true≢false}
 use Rattle.std.specs.Ordering.{int_eq}
 use Rattle.std.specs.Prelude.{int_lt, is_some}
@@ -19,7 +19,7 @@ use Rattle.aom_sound.specs.Effects.{Effect, Leaves, Made, Pushed, Pushed_operati
 use Rattle.aom_sound.specs.Moves.{counted, does, needs, step_instr, step_task}
 use Rattle.aom_sound.specs.Places.{Cell, Entry, Going, Object, held, without}
 use Rattle.aom_sound.specs.State.{A_mark, An_object, An_operation, Choice, Destroy, Dispatched, Frame, Goes, IsStuck, Item, NullOrDead, Orphan, Run, State, Task, Trapped, Unwind, counter, field_place, resumed, word}
-use Rattle.aom_sound.specs.Steps.{Acts, Arrives, Clears, Comes_out, Ends, Fits, IsStraight, Move, Rests, StepsAreMoves, Undoes, Vanishes}
+use Rattle.aom_sound.specs.Steps.{Acts, Arrives, Clears, Comes_out, Ends, Fits, IsStill, IsStraight, Move, Rests, StepsAreMoves, Undoes, Vanishes}
 use Rattle.aom_sound.specs.Words.{here, read, word_or_zero}
 
 -- the word that a register has
@@ -146,9 +146,9 @@ steps_are_moves p c s u e = go s.tasks refl e
         Acts fr ts i (effect p c fr ts s' i) at there met (fits p c fr ts s' i met) (sym (guarded_goes (needs p c fr ts s' i) (does p c fr ts s' i) u e) ∙ agrees p c fr ts s' at i met)
 
     go : (ts : List Task) → s.tasks ≡ ts → step_task p c (counted p s) ts ≡ Goes u → Move p c s u
-    go [] at e = Rests (sym (goes_same _ u e))
+    go [] at e = Rests (subst IsStill (sym at) tt) (sym (goes_same _ u e))
     go (Run fr ∷ ts) at e = runs fr ts (instr_at p fr.method fr.place) at refl e
-    go (Trapped ∷ ts) at e = Rests (sym (goes_same _ u e))
+    go (Trapped ∷ ts) at e = Rests (subst IsStill (sym at) tt) (sym (goes_same _ u e))
     go (Destroy ∷ ts) at e = vanishes p c ts s u at e
     go (Unwind code ∷ ts) at e = unwinds p c code ts s.items s u at refl e
     go (Dispatched d ∷ ts) at e = Ends d ts at (sym (goes_same _ u e))

@@ -132,7 +132,7 @@ module _ (p : Image) (c : Choice) (l : TaskLaw) (s : State) (k : Kept p c l s) w
     acts i (Operates m w) a f = (k.undoes m w (below_top s.items) (Run fr ∷ ts) f.1, (k.waits fr ts _ (another i _ f.0 a) refl fr.words, h.1))
 
   kept : (u : State) → Holds l s.tasks → Move p c s u → Holds l u.tasks
-  kept u h (Rests e) = subst (λ v. Holds l v.tasks) (sym e) h
+  kept u h (Rests still e) = subst (λ v. Holds l v.tasks) (sym e) h
   kept u h (Acts fr ts i e at there met fits same) =
       let h' = subst (λ ts. Holds l ts) at h in
       subst (λ v. Holds l v.tasks) (sym same) (acts fr ts at h' i e (acting fr ts at h' i there met) fits)

@@ -249,7 +249,7 @@ module _ (p : Image) (c : Choice) (s : State) (below : List Task) where
   comes_out code d ts items at top (inr o) = inl (with_task below ts _ (under_dispatch below ts d o), inr (inr (A_mark, top)))
 
   moved : (t : Typing) (u : State) → WellTyped p t s → Ends below s.tasks → Move p c s u → Moved p below s u
-  moved t u w o (Rests e) = subst (λ v. Moved p below s v) (sym e) (inl (o, inl refl))
+  moved t u w o (Rests still e) = subst (λ v. Moved p below s v) (sym e) (inl (o, inl refl))
   moved t u w o (Acts fr ts i e at there met fits same) = subst (λ v. Moved p below s v) (sym same) (acts fr ts i e at (under_frame below ts fr (subst (λ l. Ends below l) at o)))
   moved t u w o (Vanishes ts x at there owns same) = subst (λ v. Moved p below s v) (sym same) (inl (resumes below ts (under_going below ts (subst (λ l. Ends below l) at o)), inl refl))
   moved t u w o (Clears code ts items x at top there same) = subst (λ v. Moved p below s v) (sym same) (inl (begins_there p x (length items) below (Unwind code ∷ ts) (subst (λ l. Ends below l) at o), inr (inr (An_object, top))))

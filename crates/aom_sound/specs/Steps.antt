@@ -1,5 +1,5 @@
 -- Each step is a move, with what stood there before it.
-use Rattle.std.specs.Prelude.{ℕ, suc, ◌-◌, ◌≡◌, ◌⊎◌, ℤ, true, List, ◌∷◌, Some, None, length}
+use Rattle.std.specs.Prelude.{ℕ, suc, ◌-◌, ◌≡◌, ◌⊎◌, ℤ, true, List, [], ◌∷◌, Some, None, length}
 use Rattle.aom_image.specs.Image.{Image}
 use Rattle.aom_image.specs.Views.{gives_of, instr_at}
 use Rattle.aom_image.specs.declared.instr.Instr.{Instr}
@@ -53,9 +53,14 @@ Fits p c fr ts s i (Operates m w) = (i ≡ PopDelete) × (s.items ≡ An_operati
 
 -- ---- the moves
 
+-- nothing is at hand, or a trap alone, which does not move
+abbrev pub IsStill : List Task → Type 0
+IsStill [] = Unit {0}
+IsStill (Trapped ∷ ts) = Unit {0}
+IsStill _ = ⊥
+
 pub data Move (p : Image) (c : Choice) (s u : State) : Type 0 where
-  -- nothing that moves is at hand
-  Rests : u ≡ counted p s → Move p c s u
+  Rests : IsStill s.tasks → u ≡ counted p s → Move p c s u
   -- an instruction, with its needs met, has its effect
   Acts :
       (fr : Frame) (ts : List Task) (i : Instr) (e : Effect) → s.tasks ≡ Run fr ∷ ts → instr_at p fr.method fr.place ≡ Some i → AllTrue (needs p c fr ts (counted p s) i) →
