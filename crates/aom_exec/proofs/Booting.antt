@@ -19,10 +19,10 @@ use Rattle.aom_sound.specs.Places.{Place, Register, Entry, Field, Going, Elsewhe
 use Rattle.aom_sound.specs.Laws.{BootKeeps, StepKeeps, LinkedIsWired}
 use Rattle.aom_sound.specs.Quiet.{CalmKeeps}
 use Rattle.aom_sound.specs.World.{main_tasks, boot_state}
+use Rattle.aom_sound.proofs.Standing.{boot as boots_at_traps}
 use Rattle.aom_exec.specs.declared.parts.Parts.{Parts}
 use Rattle.aom_exec.specs.Boot.{Booted}
 use Rattle.aom_exec.specs.Places.{register_in, going_in, value}
-use Rattle.aom_exec.specs.Traps.{TrapsFit}
 use Rattle.aom_exec.specs.Agrees.{SameTasks, SameItems, word_in, word_at, thing_in, Agrees}
 use Rattle.aom_exec.proofs.CallActs.{shows_null}
 use Rattle.aom_exec.proofs.Entries.{mark_shows_none}
@@ -54,10 +54,7 @@ module _ (p : Image) (m : Parts) (booted : Booted p m) where
 
   no_word_yet : (r : Place) → word_at (main_tasks (main_of p)) r ≡ None
   no_word_yet (Register d i) = ap (λ us. word_in us d i) (boot_tasks p booted.main booted.is_main) ∙ all_none (2 == d) (1 == d) (0 == d) None None refl
-  no_word_yet (Entry k) = refl
-  no_word_yet (Field n f) = refl
-  no_word_yet (Going k) = refl
-  no_word_yet (Elsewhere o) = refl
+  no_word_yet _ = refl
 
   no_cell : (n : ℕ) → cell_at m.cells n ≡ None
   no_cell n = ap (λ h. cell_at h n) booted.cells
@@ -97,7 +94,7 @@ boots p m linked admitted t strongest depths heights boot_keeps step_keeps calm_
       sound = sound;
       typed = boot_keeps p t w strongest.typed;
       calm = calm_keeps.boot p;
-      traps = subst (TrapsFit p) (sym (boot_tasks p booted.main booted.is_main)) (tt, tt);
+      traps = boots_at_traps p (main_of p);
       room = boot_room p t sound;
       agrees = boot_agrees p m booted;
     }

@@ -38,10 +38,7 @@ field_read h h' n f x puts k g = cases (n == k)
 -- all other places stay as they are
 pub field_written : (us : List Held_task) (h h' : Heap) (es : List Item) (root n f x : ℕ) → PutsField n f x h h' → (r : Place) → value_in us h' es root r ≡ changed (value_in us h es root) (Field n f) x r
 field_written us h h' es root n f x puts (Field k g) = field_read h h' n f x puts k g
-field_written us h h' es root n f x puts (Register d i) = refl
-field_written us h h' es root n f x puts (Entry k) = refl
-field_written us h h' es root n f x puts (Going k) = refl
-field_written us h h' es root n f x puts (Elsewhere o) = refl
+field_written us h h' es root n f x puts _ = refl
 
 pub root_written : (us : List Held_task) (h : Heap) (es : List Item) (root x : ℕ) (r : Place) → value_in us h es x r ≡ changed (value_in us h es root) (Elsewhere Root) x r
 root_written us h es root x (Elsewhere Root) = refl
@@ -61,10 +58,7 @@ word_put_elsewhere us h h' es root n w v puts (Field k g) = cases (n == k)
     let same = eqb-true n k e in
     ap (λ i. field_at h' i g) (sym same) ∙ ap (λ c. field_of c g) puts.changed.here ∙ fields_left (cell_at h n) w g v ∙ ap (λ i. field_at h i g) same)
     (λ e. ap (λ c. field_of c g) (puts.changed.others k (λ d. false≢true (sym e ∙ eq-eqb n k (sym d)))))
-word_put_elsewhere us h h' es root n w v puts (Register d i) = refl
-word_put_elsewhere us h h' es root n w v puts (Entry k) = refl
-word_put_elsewhere us h h' es root n w v puts (Going k) = refl
-word_put_elsewhere us h h' es root n w v puts (Elsewhere o) = refl
+word_put_elsewhere us h h' es root n w v puts _ = refl
 
 -- the machine has a cell of that name
 pub cell_of : (p : Image) (h : Heap) (cs : List Cell) (n : ℕ) (o : Object) → SameCells p h cs → named cs n ≡ Some o → (c : Held_cell) × (cell_at h n ≡ Some c)

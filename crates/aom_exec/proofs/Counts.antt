@@ -20,7 +20,8 @@ use Rattle.aom_budget.specs.Heights.{HasHeights}
 use Rattle.aom_sound.specs.Claims.{Dispatching, Dying, Form, Layer, Mark, Mark_form, Method, Object_form, Operation_form, Unwinding, forms, items_of, objects, tasks_of}
 use Rattle.aom_sound.specs.Laws.{IsWired}
 use Rattle.aom_sound.specs.Places.{Cell}
-use Rattle.aom_sound.specs.Quiet.{IsCalm, is_clearing}
+use Rattle.aom_sound.specs.Tasks.{Below}
+use Rattle.aom_sound.specs.Quiet.{IsCalm, calm, is_clearing}
 use Rattle.aom_sound.specs.State.{A_mark, An_object, An_operation, Destroy, Dispatched, Frame, Item, Run, State, Task, Trapped, Unwind}
 use Rattle.aom_sound.specs.WellTyped.{Back, Gone, Leaves, Now, Returns, Stack, WellTyped}
 use Rattle.aom_exec.specs.Room.{AllUnder, HasRoom, IsUnder, entries_in}
@@ -74,13 +75,18 @@ none_unwinds (Destroy ∷ ts) e = absurd (true≢false e)
 none_unwinds (Unwind code ∷ ts) e = absurd (true≢false e)
 none_unwinds (Dispatched d ∷ ts) e = none_unwinds ts e
 
-one_unwinds : (p : Image) (ts : List Task) → IsCalm p ts → unwindings_in ts ≤ 1
-one_unwinds p [] calm = omega arith
-one_unwinds p (Run fr ∷ ts) calm = one_unwinds p ts calm.1
-one_unwinds p (Trapped ∷ ts) calm = one_unwinds p ts calm.1
-one_unwinds p (Destroy ∷ ts) calm = one_unwinds p ts calm
-one_unwinds p (Unwind code ∷ ts) calm = let none = none_unwinds ts calm.0 in omega (arith, none)
-one_unwinds p (Dispatched d ∷ ts) calm = one_unwinds p ts calm
+calm_below : (p : Image) (ts : List Task) → IsCalm p ts → Below (calm p) ts
+calm_below p [] h = h
+calm_below p (Run fr ∷ ts) h = h
+calm_below p _ h = h
+
+one_unwinds : (p : Image) (ts : List Task) → Below (calm p) ts → unwindings_in ts ≤ 1
+one_unwinds p [] h = omega arith
+one_unwinds p (Run fr ∷ ts) h = one_unwinds p ts h.1
+one_unwinds p (Trapped ∷ ts) h = one_unwinds p ts h.1
+one_unwinds p (Destroy ∷ ts) h = one_unwinds p ts h
+one_unwinds p (Unwind code ∷ ts) h = let none = none_unwinds ts h.0 in omega (arith, none)
+one_unwinds p (Dispatched d ∷ ts) h = one_unwinds p ts h
 
 -- over each method stands at most one task that is none, but for an unwinding and what it stands on
 few_tasks : (p : Image) (t : Typing) (cs : List Cell) (back : Back) (ls : List Layer) → Stack p t cs back ls → length (tasks_of ls) ≤ (2 * methods_in (tasks_of ls) + 2 * unwindings_in (tasks_of ls) + 2)
@@ -88,24 +94,20 @@ few_tasks p t cs back [] s = omega arith
 few_tasks p t cs back (Method fr sh ∷ ls) s = let few = few_tasks p t cs (Returns fr.method fr.home) ls s.4 in omega (arith, few)
 few_tasks p t cs back (Mark g ∷ []) s = omega arith
 few_tasks p t cs back (Mark g ∷ Method fr sh ∷ ls) s = let few = few_tasks p t cs (Returns fr.method fr.home) ls s.1.4 in omega (arith, few)
-few_tasks p t cs back (Mark g ∷ Mark g' ∷ ls) s = absurd s.1.0
-few_tasks p t cs back (Mark g ∷ Dying o ∷ ls) s = absurd s.1.1
-few_tasks p t cs back (Mark g ∷ Unwinding code es ∷ ls) s = absurd s.1.0
 few_tasks p t cs back (Mark g ∷ Dispatching d ∷ ls) s = subst (λ us. length (tasks_of (Mark g ∷ Dispatching d ∷ us)) ≤ (2 * methods_in (tasks_of (Mark g ∷ Dispatching d ∷ us)) + 2 * unwindings_in (tasks_of (Mark g ∷ Dispatching d ∷ us)) + 2)) (sym s.1.1) (omega arith)
 few_tasks p t cs back (Dying o ∷ []) s = omega arith
 few_tasks p t cs back (Dying o ∷ Method fr sh ∷ ls) s = let few = few_tasks p t cs (Returns fr.method fr.home) ls s.2.4 in omega (arith, few)
-few_tasks p t cs back (Dying o ∷ Mark g ∷ ls) s = absurd s.2.0
-few_tasks p t cs back (Dying o ∷ Dying x ∷ ls) s = absurd s.2.1
 few_tasks p t cs back (Dying o ∷ Unwinding code es ∷ ls) s = let few = few_tasks p t cs Leaves ls s.2.1 in omega (arith, few)
 few_tasks p t cs back (Dying o ∷ Dispatching d ∷ ls) s = subst (λ us. length (tasks_of (Dying o ∷ Dispatching d ∷ us)) ≤ (2 * methods_in (tasks_of (Dying o ∷ Dispatching d ∷ us)) + 2 * unwindings_in (tasks_of (Dying o ∷ Dispatching d ∷ us)) + 2)) (sym s.2.1) (omega arith)
 few_tasks p t cs back (Unwinding code es ∷ ls) s = let few = few_tasks p t cs Leaves ls s.1 in omega (arith, few)
 few_tasks p t cs back (Dispatching d ∷ ls) s = subst (λ us. length (tasks_of (Dispatching d ∷ us)) ≤ (2 * methods_in (tasks_of (Dispatching d ∷ us)) + 2 * unwindings_in (tasks_of (Dispatching d ∷ us)) + 2)) (sym s.1) (omega arith)
+few_tasks p t cs back _ s = absurd (assumption tt)
 
 pub tasks_at_hand : (p : Image) (t : Typing) (depths : HasDepths p) (heights : ℕ → ℕ) (s : State) → WellTyped p t s → IsCalm p s.tasks → HasRoom p (at 0 depths.depths) heights s → length s.tasks ≤ 518
-tasks_at_hand p t depths heights s w calm room =
+tasks_at_hand p t depths heights s w is_calm room =
     let few = few_tasks p t s.cells Now w.layers w.good.stack in
     let methods = few_methods (at 0 depths.depths) depths.are.within (tasks_of w.layers) (subst (AllUnder (at 0 depths.depths)) w.tasks room.under) in
-    let one = one_unwinds p (tasks_of w.layers) (subst (IsCalm p) w.tasks calm) in
+    let one = one_unwinds p (tasks_of w.layers) (calm_below p (tasks_of w.layers) (subst (IsCalm p) w.tasks is_calm)) in
     let same = ap length w.tasks in
     omega (arith, few, methods, one, same)
 
@@ -140,13 +142,11 @@ few_marks p t cs back [] s = omega arith
 few_marks p t cs back (Method fr sh ∷ ls) s = let few = few_marks p t cs (Returns fr.method fr.home) ls s.4 in omega (arith, few, no_marks sh.entries (items_of ls))
 few_marks p t cs back (Mark g ∷ []) s = omega arith
 few_marks p t cs back (Mark g ∷ Method fr sh ∷ ls) s = let few = few_marks p t cs (Returns fr.method fr.home) ls s.1.4 in omega (arith, few, no_marks sh.entries (items_of ls))
-few_marks p t cs back (Mark g ∷ Mark g' ∷ ls) s = absurd s.1.0
-few_marks p t cs back (Mark g ∷ Dying o ∷ ls) s = absurd s.1.1
-few_marks p t cs back (Mark g ∷ Unwinding code es ∷ ls) s = absurd s.1.0
 few_marks p t cs back (Mark g ∷ Dispatching d ∷ ls) s = subst (λ us. form_marks (items_of (Mark g ∷ Dispatching d ∷ us)) ≤ suc (methods_in (tasks_of (Mark g ∷ Dispatching d ∷ us)))) (sym s.1.1) (omega arith)
 few_marks p t cs back (Dying o ∷ ls) s = few_marks p t cs Gone ls s.2
 few_marks p t cs back (Unwinding code es ∷ ls) s = let few = few_marks p t cs Leaves ls s.1 in omega (arith, few, no_marks es (items_of ls))
 few_marks p t cs back (Dispatching d ∷ ls) s = subst (λ us. form_marks (items_of (Dispatching d ∷ us)) ≤ suc (methods_in (tasks_of (Dispatching d ∷ us)))) (sym s.1) (omega arith)
+few_marks p t cs back _ s = absurd (assumption tt)
 
 -- the marks under the method that runs
 marks_under : (p : Image) (t : Typing) (s : State) (fr : Frame) (ts : List Task) → WellTyped p t s → s.tasks ≡ Run fr ∷ ts → marks_in s.items ≤ suc (methods_in ts)

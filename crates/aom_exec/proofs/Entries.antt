@@ -33,11 +33,8 @@ pub mark_shows_none : (is : List Held_item) (k : ℕ) → entry_in (Is_mark ∷ 
 mark_shows_none is k = owns_none Is_mark is k refl
 
 pub value_alike : (us : List Held_task) (h : Heap) (es es' : List Held_item) (root : ℕ) → ((k : ℕ) → entry_in es k ≡ entry_in es' k) → (r : Place) → value_in us h es root r ≡ value_in us h es' root r
-value_alike us h es es' root same (Register d i) = refl
 value_alike us h es es' root same (Entry k) = same k
-value_alike us h es es' root same (Field n f) = refl
-value_alike us h es es' root same (Going k) = refl
-value_alike us h es es' root same (Elsewhere o) = refl
+value_alike us h es es' root same _ = refl
 
 -- where a mark goes the items below it stay
 pub unmarked : (is below : List Held_item) (js : List Item) → is ≡ Is_mark ∷ below → SameItems is js → SameItems below (below_top js)
@@ -53,23 +50,17 @@ and_true false x y = refl
 
 -- an object is pushed, and popped
 pub value_pushed : (us : List Held_task) (h : Heap) (es : List Held_item) (root n d : ℕ) → length es ≡ d → (r : Place) → value_in us h (Holds_object n ∷ es) root r ≡ changed (value_in us h es root) (Entry d) n r
-value_pushed us h es root n d deep (Register e i) = refl
 value_pushed us h es root n d deep (Entry k) = ap (λ z. cond (z == k) n (entry_in es k)) deep ∙ and_true (d == k) n (entry_in es k)
-value_pushed us h es root n d deep (Field m f) = refl
-value_pushed us h es root n d deep (Going k) = refl
-value_pushed us h es root n d deep (Elsewhere o) = refl
+value_pushed us h es root n d deep _ = refl
 
 pub value_popped : (us : List Held_task) (h : Heap) (es : List Held_item) (root n d : ℕ) → length es ≡ d → (r : Place) → value_in us h es root r ≡ changed (value_in us h (Holds_object n ∷ es) root) (Entry d) null r
-value_popped us h es root n d deep (Register e i) = refl
 value_popped us h es root n d deep (Entry k) = cases (d == k)
     (λ b. entry_past es k (let same = eqb_same b in omega arith) ∙ ap (λ c. cond (c && true) null (entry_in (Holds_object n ∷ es) k)) (sym b))
     (λ b. sym (ap (λ c. cond c n (entry_in es k)) (ap (λ z. z == k) deep ∙ b)) ∙ ap (λ c. cond (c && true) null (entry_in (Holds_object n ∷ es) k)) (sym b))
   where
     eqb_same : (d == k) ≡ true → d ≡ k
     eqb_same b = eqb-true d k b
-value_popped us h es root n d deep (Field m f) = refl
-value_popped us h es root n d deep (Going k) = refl
-value_popped us h es root n d deep (Elsewhere o) = refl
+value_popped us h es root n d deep _ = refl
 
 -- what it owns is found there
 pub top_value : (us : List Held_task) (h : Heap) (es : List Held_item) (root n d : ℕ) → length es ≡ d → value_in us h (Holds_object n ∷ es) root (Entry d) ≡ n

@@ -41,11 +41,8 @@ same_cond false x = refl
 
 -- entries have no words
 entry_words : (us : List Task) (k : ℕ) (r : Place) → word_at us r ≡ changed (word_at us) (Entry k) None r
-entry_words us k (Register d i) = refl
 entry_words us k (Entry j) = same_cond {A = Option ℤ} (k == j) None ∙ and_true {A = Option ℤ} (k == j) None None
-entry_words us k (Field n f) = refl
-entry_words us k (Going d) = refl
-entry_words us k (Elsewhere o) = refl
+entry_words us k _ = refl
 
 -- the machine whose request is counted
 abbrev asked : Parts → Parts

@@ -40,16 +40,11 @@ pub fresh_value : (method this : ℕ) (us : List Held_task) (h : Heap) (es : Lis
 fresh_value method this us h es root (Register d i) =
     at_depth (length us) d (slice_index_or (fresh method this).registers i null) (register_in us d i) (λ k. register_past us d i (omega arith) ∙ sym (begun_registers method this i))
 fresh_value method this us h es root (Going d) = at_depth (length us) d null (going_in us d) (λ k. going_past us d (omega arith))
-fresh_value method this us h es root (Entry k) = refl
-fresh_value method this us h es root (Field n f) = refl
-fresh_value method this us h es root (Elsewhere o) = refl
+fresh_value method this us h es root _ = refl
 
 pub fresh_word : (method : ℕ) (home : Home) (height : ℕ) (ts : List Task) (r : Place) → word_at (Run (frame_of method home height) ∷ ts) r ≡ word_at ts r
 fresh_word method home height ts (Register d i) = at_depth (length ts) d None (word_in ts d i) (λ k. word_past ts d i (omega arith))
-fresh_word method home height ts (Entry k) = refl
-fresh_word method home height ts (Field n f) = refl
-fresh_word method home height ts (Going k) = refl
-fresh_word method home height ts (Elsewhere o) = refl
+fresh_word method home height ts _ = refl
 
 -- the destructor that the machine finds is the one that the checked machine runs
 pub destructor_same : (p : Image) (m : Parts) (t : Typing) (s : State) → WellTyped p t s → Agrees p m s → (r : Place) (o : Object) → held s.cells r ≡ Some o → destructor_at p m.cells o.name ≡ destructor_of p o.thing
@@ -147,11 +142,7 @@ root_taken h es root (Going k) = refl
 root_taken h es root (Elsewhere Root) = refl
 
 no_words : (q : Place) → word_at (Dispatched Of_root ∷ []) q ≡ word_at (Dispatched Of_main ∷ []) q
-no_words (Register d i) = refl
-no_words (Entry k) = refl
-no_words (Field n f) = refl
-no_words (Going k) = refl
-no_words (Elsewhere o) = refl
+no_words _ = refl
 
 -- where main's dispatch is at its end, the root is at hand to go
 pub uproots : (p : Image) (m : Parts) (t : Typing) (s : State) (o : Object) (r : Rest) → WellTyped p t s → Agrees p m s → m.stack.tasks ≡ Ends Main ∷ [] → s.tasks ≡ Dispatched Of_main ∷ [] → held s.cells (Elsewhere Root) ≡ Some o → record m.rest { clock = raised m.rest.clock } ≡ r
@@ -182,12 +173,8 @@ by_going p m h G show =
     (λ r. subst (λ us. Shows (value_in m.stack.tasks m.cells m.entries.items m.root r) (word_at us r) (held h.state.cells r)) h.top (h.agrees.values r))
   where
     go : (ms : List Held_task) → SameTasks ms (Destroy ∷ h.below) → ((r : Place) → Shows (value_in ms m.cells m.entries.items m.root r) (word_at (Destroy ∷ h.below) r) (held h.state.cells r)) → G ms
-    go [] same values = absurd same
-    go (Runs_frame f ∷ ms) same values = absurd same.0
-    go (Is_trap ∷ ms) same values = absurd same.0
-    go (Ends d ∷ ms) same values = absurd same.0
-    go (Unwinds code ∷ ms) same values = absurd same.0
     go (Destroys x ∷ ms) same values = show x ms (record { below = same.1; deep = same_length ms h.below same.1; values = values })
+    go _ same values = absurd (assumption tt)
 
 -- the method below goes on, if there is one
 abbrev pub going_on : List Held_task → List Held_task
@@ -195,8 +182,6 @@ going_on ms = on_top (with_place (suc (place_here ms))) ms
 
 same_resumed : (ms : List Held_task) (ts : List Task) → SameTasks ms ts → SameTasks (going_on ms) (resumed ts)
 same_resumed [] [] same = tt
-same_resumed [] (t ∷ ts) same = absurd same
-same_resumed (m ∷ ms) [] same = absurd same
 same_resumed (m ∷ ms) (t ∷ ts) same = heads m t same.0
   where
     heads : (m : Held_task) (t : Task) → SameTask m t → SameTasks (going_on (m ∷ ms)) (resumed (t ∷ ts))
@@ -206,22 +191,15 @@ same_resumed (m ∷ ms) (t ∷ ts) same = heads m t same.0
     heads (Unwinds code) (Unwind c) e = (e, same.1)
     heads (Ends d) (Dispatched x) e = (e, same.1)
     heads m t e = absurd e
+same_resumed _ _ same = absurd (assumption tt)
 
 value_resumed : (ms : List Held_task) (h : Heap) (es : List Item) (root : ℕ) (r : Place) → value_in (going_on ms) h es root r ≡ value_in ms h es root r
-value_resumed [] h es root r = refl
 value_resumed (Runs_frame f ∷ ms) h es root r = value_kept f ms h es root (suc f.place) r
-value_resumed (Is_trap ∷ ms) h es root r = refl
-value_resumed (Destroys x ∷ ms) h es root r = refl
-value_resumed (Ends d ∷ ms) h es root r = refl
-value_resumed (Unwinds code ∷ ms) h es root r = refl
+value_resumed _ h es root r = refl
 
 word_resumed : (ts : List Task) (r : Place) → word_at (resumed ts) r ≡ word_at ts r
-word_resumed [] r = refl
 word_resumed (Run fr ∷ ts) r = word_next fr ts (suc fr.place) r
-word_resumed (Trapped ∷ ts) r = refl
-word_resumed (Destroy ∷ ts) r = refl
-word_resumed (Dispatched d ∷ ts) r = refl
-word_resumed (Unwind code ∷ ts) r = refl
+word_resumed _ r = refl
 
 -- no field of that cell owns
 nothing_owned : (cs : List Cell) (n f : ℕ) → owns_nothing cs n ≡ true → held cs (Field n f) ≡ None
@@ -250,10 +228,7 @@ fields_gone us h h' es root n nulls ch (Field k g) = cases (n == k)
     let same = eqb-true n k e in
     ap (λ i. field_of (cell_at h' i) g) (sym same) ∙ ap (λ o. field_of o g) ch.here ∙ sym (nulls g) ∙ ap (λ i. field_of (cell_at h i) g) same)
     (λ e. ap (λ o. field_of o g) (ch.others k (λ d. false≢true (sym e ∙ eq-eqb n k (sym d)))))
-fields_gone us h h' es root n nulls ch (Register d i) = refl
-fields_gone us h h' es root n nulls ch (Entry k) = refl
-fields_gone us h h' es root n nulls ch (Going k) = refl
-fields_gone us h h' es root n nulls ch (Elsewhere o) = refl
+fields_gone us h h' es root n nulls ch _ = refl
 
 -- its class, as its line shows it
 line_of : (o : Object) (class : ℕ) → o.thing ≡ An_object_of class → goes_line (Some o) ≡ Gone class ∷ []

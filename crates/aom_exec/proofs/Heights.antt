@@ -39,12 +39,8 @@ LowUnder n (Unwind code ∷ ts) = Unit {0}
 LowUnder n (Dispatched d ∷ ts) = Unit {0}
 
 low_under : (p : Image) (t : Typing) (cs : List Cell) (back : Back) (ls : List Layer) → Stack p t cs back ls → LowUnder (length (items_of ls)) (tasks_of ls)
-low_under p t cs back [] s = tt
-low_under p t cs back (Method fr sh ∷ ls) s = tt
 low_under p t cs back (Mark gv ∷ ls) s = low_stack p t cs (Caught gv) ls (suc (length (items_of ls)) - 1) s.1 (omega arith)
-low_under p t cs back (Dying o ∷ ls) s = tt
-low_under p t cs back (Unwinding code es ∷ ls) s = tt
-low_under p t cs back (Dispatching d ∷ ls) s = tt
+low_under p t cs back _ s = tt
 
 -- what is known where a method runs
 pub record Stands_here (p : Image) (t : Typing) (s : State) (fr : Frame) (ts : List Task) : Type 0 where
@@ -62,11 +58,6 @@ pub stands_here : (p : Image) (t : Typing) (s : State) (fr : Frame) (ts : List T
 stands_here p t s fr ts w at = go w.layers (sym w.tasks ∙ at) w.items w.good
   where
     go : (ls : List Layer) → tasks_of ls ≡ Run fr ∷ ts → forms s.items ≡ items_of ls → Good p t s.cells ls → Stands_here p t s fr ts
-    go [] e items good = cc
-    go (Mark gv ∷ ls) e items good = cc
-    go (Dying o ∷ ls) e items good = cc
-    go (Unwinding code es ∷ ls) e items good = cc
-    go (Dispatching d ∷ ls) e items good = cc
     go (Method fr' sh ∷ ls) e items good =
         let same : fr' ≡ fr = cc in
         let under : tasks_of ls ≡ ts = cc in
@@ -84,6 +75,7 @@ stands_here p t s fr ts w at = go w.layers (sym w.tasks ∙ at) w.items w.good
           fits = λ a. subst (λ us. Fits p (held s.cells) (held s.cells (Register (length us) a)) (register sh a)) under (register_fits p s.cells fr' sh ls good.fits a);
           free = fits_unowning p (held s.cells) _ Null refl (subst (λ k. Fits p (held s.cells) (held s.cells (Entry (length s.items))) k) none (good.fits (Entry (length s.items))));
         }
+    go _ e items good = cc
 
 -- the items over a height are a method's own entries
 one_more : (es : List Pushed) (below : List Form) (i : Item) (items : List Item) → entries_in (i ∷ items) ≡ suc (entries_in items) → forms items ≡ objects es below → entries_in items ≡ length es + entries_in (below_height (length below) items) → entries_in (i ∷ items) ≡ suc (length es) + entries_in (below_height (length below) (i ∷ items))
@@ -95,17 +87,13 @@ pub own_entries : (es : List Pushed) (below : List Form) (items : List Item) →
 own_entries [] below items e =
     let all = ap entries_in (below_all (length below) items (omega (arith, length_forms items, ap length e))) in
     omega (arith, all)
-own_entries (x ∷ es) below [] e = cc
 own_entries (Pushed_object c a ∷ es) below (An_object ∷ items) e =
     let same : forms items ≡ objects es below = cc in
     one_more es below An_object items (omega arith) same (own_entries es below items same)
-own_entries (Pushed_object c a ∷ es) below (An_operation m w ∷ items) e = cc
-own_entries (Pushed_object c a ∷ es) below (A_mark ∷ items) e = cc
-own_entries (Pushed_operation ∷ es) below (An_object ∷ items) e = cc
 own_entries (Pushed_operation ∷ es) below (An_operation m w ∷ items) e =
     let same : forms items ≡ objects es below = cc in
     one_more es below (An_operation m w) items (omega arith) same (own_entries es below items same)
-own_entries (Pushed_operation ∷ es) below (A_mark ∷ items) e = cc
+own_entries _ below _ e = cc
 
 -- what a leave has still to unwind lies over its trap's mark
 left_over : (p : Image) (t : Typing) (cs : List Cell) (es : List Pushed) (ls : List Layer) (i : Item) (items : List Item) → Stack p t cs Leaves ls → forms (i ∷ items) ≡ objects es (items_of ls) → AllLow (length items) (tasks_of ls)
@@ -127,9 +115,5 @@ pub low_unwinding : (p : Image) (t : Typing) (s : State) (code : ℤ) (ts : List
 low_unwinding p t s code ts i items w at top = go w.layers (sym w.tasks ∙ at) (ap forms (sym top) ∙ w.items) w.good.stack
   where
     go : (ls : List Layer) → tasks_of ls ≡ Unwind code ∷ ts → forms (i ∷ items) ≡ items_of ls → Stack p t s.cells Now ls → AllLow (length items) ts
-    go [] e same stack = cc
-    go (Method fr sh ∷ ls) e same stack = cc
-    go (Mark gv ∷ ls) e same stack = cc
-    go (Dying o ∷ ls) e same stack = cc
-    go (Dispatching d ∷ ls) e same stack = cc
     go (Unwinding x es ∷ ls) e same stack = let under : tasks_of ls ≡ ts = cc in subst (λ us. AllLow (length items) us) under (left_over p t s.cells es ls i items stack.1 same)
+    go _ e same stack = cc

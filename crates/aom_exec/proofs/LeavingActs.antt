@@ -30,17 +30,12 @@ use Rattle.aom_exec.proofs.Values.{at_depth, going_past, register_past, same_len
 -- a leave is no place
 pub unwinds_value : (us : List Held_task) (h : Heap) (es : List Item) (root : ℕ) (code : ℤ) (r : Place) → value_in (Unwinds code ∷ us) h es root r ≡ value_in us h es root r
 unwinds_value us h es root code (Register d i) = at_depth (length us) d null (register_in us d i) (λ k. register_past us d i (omega arith))
-unwinds_value us h es root code (Entry k) = refl
-unwinds_value us h es root code (Field n f) = refl
 unwinds_value us h es root code (Going k) = at_depth (length us) k null (going_in us k) (λ e. going_past us k (omega arith))
-unwinds_value us h es root code (Elsewhere o) = refl
+unwinds_value us h es root code _ = refl
 
 pub unwinds_word : (us : List Task) (code : ℤ) (r : Place) → word_at (Unwind code ∷ us) r ≡ word_at us r
 unwinds_word us code (Register d i) = at_depth (length us) d None (word_in us d i) (λ k. word_past us d i (omega arith))
-unwinds_word us code (Entry k) = refl
-unwinds_word us code (Field n f) = refl
-unwinds_word us code (Going k) = refl
-unwinds_word us code (Elsewhere o) = refl
+unwinds_word us code _ = refl
 
 -- a frame whose registers own nothing
 pub none_owned : (cs : List Cell) (d i : ℕ) → none_owns_but cs d None ≡ true → held cs (Register d i) ≡ None
@@ -51,10 +46,9 @@ none_owned (c ∷ cs) d i e = go (same_place c.owner (Register d i)) refl (is_re
     mine same = ap (is_register_but d None) (same_place-true c.owner (Register d i) same) ∙ eq-eqb d d refl
 
     go : (b : Bool) → same_place c.owner (Register d i) ≡ b → (o : Bool) → is_register_but d None c.owner ≡ o → (none_owns_but cs d None ≡ true → held cs (Register d i) ≡ None) → (not o && none_owns_but cs d None) ≡ true → cond b (Some c.object) (held cs (Register d i)) ≡ None
-    go true same true is rest e = cc
     go true same false is rest e = absurd (false≢true (sym is ∙ mine same))
-    go false same true is rest e = cc
     go false same false is rest e = rest e
+    go _ same true is rest e = cc
 
 -- a leave is one task in the place of some
 pub to_trap_shorter : (us : List Held_task) → Runs us → length (held_to_trap us) < length us
@@ -67,11 +61,7 @@ to_trap_shorter (Runs_frame f ∷ us) runs = let few = no_longer us in omega ari
     no_longer (Destroys x ∷ us) = omega arith
     no_longer (Unwinds code ∷ us) = omega arith
     no_longer (Ends d ∷ us) = omega arith
-to_trap_shorter [] runs = absurd runs
-to_trap_shorter (Is_trap ∷ us) runs = absurd runs
-to_trap_shorter (Destroys x ∷ us) runs = absurd runs
-to_trap_shorter (Unwinds code ∷ us) runs = absurd runs
-to_trap_shorter (Ends d ∷ us) runs = absurd runs
+to_trap_shorter _ runs = absurd runs
 
 -- the tasks that stay, and what they hold
 pub record Stays (cs : List Cell) (heap : Heap) (es : List Item) (root : ℕ) (ms : List Held_task) (ts : List Task) : Type 0 where

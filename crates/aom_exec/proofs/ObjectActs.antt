@@ -102,10 +102,7 @@ values_kept ms h h' es root n class none ch (Field k g) = cases (n == k)
     let same = eqb-true n k e in
     ap (λ i. field_of (cell_at h' i) g) (sym same) ∙ ap (λ o. field_of o g) ch.here ∙ all_same 8 g null ∙ ap (λ o. field_of o g) (sym none) ∙ ap (λ i. field_of (cell_at h i) g) same)
     (λ e. ap (λ o. field_of o g) (ch.others k (λ d. false≢true (sym e ∙ eq-eqb n k (sym d)))))
-values_kept ms h h' es root n class none ch (Register d i) = refl
-values_kept ms h h' es root n class none ch (Entry k) = refl
-values_kept ms h h' es root n class none ch (Going k) = refl
-values_kept ms h h' es root n class none ch (Elsewhere o) = refl
+values_kept ms h h' es root n class none ch _ = refl
 
 -- the words of a new object
 abbrev zeros : Image → ℕ → List ℤ

@@ -40,14 +40,9 @@ over_word false us d i = refl
 
 pub over_value : (b : Bool) (us : List Held_task) (h : Heap) (es : List Item) (root : ℕ) (r : Place) → value_in (held_over b us) h es root r ≡ value_in us h es root r
 over_value b us h es root (Register d i) = over_register b us d i
-over_value b us h es root (Entry k) = refl
-over_value b us h es root (Field n f) = refl
 over_value b us h es root (Going k) = over_going b us k
-over_value b us h es root (Elsewhere o) = refl
+over_value b us h es root _ = refl
 
 pub over_words : (b : Bool) (us : List Task) (r : Place) → word_at (tasks_over b us) r ≡ word_at us r
 over_words b us (Register d i) = over_word b us d i
-over_words b us (Entry k) = refl
-over_words b us (Field n f) = refl
-over_words b us (Going k) = refl
-over_words b us (Elsewhere o) = refl
+over_words b us _ = refl

@@ -55,8 +55,6 @@ frame_alike p f fr to to' same there =
 
 waits_alike : (p : Image) (ms : List Held_task) (us : List Task) → SameTasks ms us → waiting_rank p (map ranked ms) ≡ waiting_rank p us
 waits_alike p [] [] same = refl
-waits_alike p [] (u ∷ us) same = absurd same
-waits_alike p (m ∷ ms) [] same = absurd same
 waits_alike p (m ∷ ms) (u ∷ us) same = go m u same.0 (waits_alike p ms us same.1)
   where
     go : (m : Held_task) (u : Task) → SameTask m u → waiting_rank p (map ranked ms) ≡ waiting_rank p us → waiting_rank p (map ranked (m ∷ ms)) ≡ waiting_rank p (u ∷ us)
@@ -66,11 +64,10 @@ waits_alike p (m ∷ ms) (u ∷ us) same = go m u same.0 (waits_alike p ms us sa
     go (Unwinds code) (Unwind c) same e = ap (λ k. 1 + k) e
     go (Ends x) (Dispatched d) same e = ap (λ k. end_rank k + waiting_rank p (map ranked ms)) same ∙ ap (λ k. end_rank d + k) e
     go m u same e = absurd same
+waits_alike p _ _ same = absurd (assumption tt)
 
 tasks_alike : (p : Image) (ms : List Held_task) (us : List Task) → SameTasks ms us → tasks_rank p (map ranked ms) ≡ tasks_rank p us
 tasks_alike p [] [] same = refl
-tasks_alike p [] (u ∷ us) same = absurd same
-tasks_alike p (m ∷ ms) [] same = absurd same
 tasks_alike p (m ∷ ms) (u ∷ us) same = go m u same.0
   where
     go : (m : Held_task) (u : Task) → SameTask m u → tasks_rank p (map ranked (m ∷ ms)) ≡ tasks_rank p (u ∷ us)
@@ -80,11 +77,10 @@ tasks_alike p (m ∷ ms) (u ∷ us) same = go m u same.0
     go (Unwinds code) (Unwind c) same' = waits_alike p (Unwinds code ∷ ms) (Unwind c ∷ us) (same', same.1)
     go (Ends x) (Dispatched d) same' = waits_alike p (Ends x ∷ ms) (Dispatched d ∷ us) (same', same.1)
     go m u same' = absurd same'
+tasks_alike p _ _ same = absurd (assumption tt)
 
 destructions_alike : (ms : List Held_task) (us : List Task) → SameTasks ms us → destructions (map ranked ms) ≡ destructions us
 destructions_alike [] [] same = refl
-destructions_alike [] (u ∷ us) same = absurd same
-destructions_alike (m ∷ ms) [] same = absurd same
 destructions_alike (m ∷ ms) (u ∷ us) same = go m u same.0 (destructions_alike ms us same.1)
   where
     go : (m : Held_task) (u : Task) → SameTask m u → destructions (map ranked ms) ≡ destructions us → destructions (map ranked (m ∷ ms)) ≡ destructions (u ∷ us)
@@ -94,12 +90,11 @@ destructions_alike (m ∷ ms) (u ∷ us) same = go m u same.0 (destructions_alik
     go (Unwinds code) (Unwind c) same e = e
     go (Ends x) (Dispatched d) same e = e
     go m u same e = absurd same
+destructions_alike _ _ same = absurd (assumption tt)
 
 -- as many operations are on the cleanup stack
 operations_alike : (is : List Held_item) (js : List Item) → SameItems is js → operations_in is ≡ operations js
 operations_alike [] [] same = refl
-operations_alike [] (j ∷ js) same = absurd same
-operations_alike (i ∷ is) [] same = absurd same
 operations_alike (i ∷ is) (j ∷ js) same = go i j same.0 (operations_alike is js same.1)
   where
     go : (i : Held_item) (j : Item) → SameItem i j → operations_in is ≡ operations js → operations_in (i ∷ is) ≡ operations (j ∷ js)
@@ -107,6 +102,7 @@ operations_alike (i ∷ is) (j ∷ js) same = go i j same.0 (operations_alike is
     go (Holds_operation m n) (An_operation k w) same e = ap suc e
     go Is_mark A_mark same e = e
     go i j same e = absurd same
+operations_alike _ _ same = absurd (assumption tt)
 
 -- the machine's rank is its state's
 pub same_rank : (p : Image) (t : Typing) (m : Parts) (s : State) → WellTyped p t s → Agrees p m s → rank_of p m.stack.tasks m.entries.items (count m.cells) ≡ rank p s

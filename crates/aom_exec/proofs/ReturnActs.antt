@@ -63,10 +63,7 @@ pub cleared_none : (d : ℕ) (h : Place → Option Object) → ((i : ℕ) → h 
 cleared_none d h none (Register e i) = cases (d == e)
     (λ b. ap (λ x. cond x None (h (Register e i))) b ∙ sym (none i) ∙ ap (λ k. h (Register k i)) (eqb-true d e b))
     (λ b. ap (λ x. cond x None (h (Register e i))) b)
-cleared_none d h none (Entry k) = refl
-cleared_none d h none (Field n g) = refl
-cleared_none d h none (Going k) = refl
-cleared_none d h none (Elsewhere o) = refl
+cleared_none d h none _ = refl
 
 -- the other places stand for what they stood for
 pub beneath : (f : Held_frame) (us : List Held_task) (fr : Frame) (ts : List Task) (heap : Heap) (es : List Item) (root : ℕ) (h : Place → Option Object) → length us ≡ length ts
@@ -98,10 +95,8 @@ bears (Left c) = false
 
 pub awaiting : (g : Gives) (x : ℕ) (sh : Shape) → bears g ≡ true → Awaits g x sh → is_unowning (register sh x) ≡ true
 awaiting Nothing x sh b a = cc
-awaiting A_word x sh b a = a
-awaiting (An_own t) x sh b a = a
-awaiting (A_maybe t) x sh b a = a
 awaiting (Left c) x sh b a = cc
+awaiting _ x sh b a = a
 
 awaited : (p : Image) (t : Typing) (s : State) (fr caller : Frame) (ts : List Task) → WellTyped p t s → s.tasks ≡ Run fr ∷ Run caller ∷ ts → bears (gives_of p fr.method) ≡ true
     → held s.cells (Register (length ts) (result_register (instr_at p caller.method caller.place))) ≡ None
@@ -172,18 +167,11 @@ word_alone p t s fr ts i w typed top has = go typed.layers (sym typed.tasks ∙ 
   where
     kind_alone : (k : Kind) (w' : Option ℤ) (o : Option Object) → w' ≡ Some w → WordFits w' k → Fits p (held s.cells) o k → o ≡ None
     kind_alone k w' None e word fits = refl
-    kind_alone Unset w' (Some o) e word fits = absurd fits
-    kind_alone Word w' (Some o) e word fits = absurd fits
-    kind_alone Null w' (Some o) e word fits = absurd fits
     kind_alone (Own y age) w' (Some o) e word fits = let none : Some w ≡ None = sym e ∙ word in cc
     kind_alone (Maybe y age) w' (Some o) e word fits = let none : Some w ≡ None = sym e ∙ word in cc
+    kind_alone _ w' _ e word fits = absurd (assumption tt)
 
     go : (ls : List Layer) → tasks_of ls ≡ Run fr ∷ ts → Good p t s.cells ls → held s.cells (Register (length ts) i) ≡ None
-    go [] e good = cc
-    go (Mark g ∷ ls) e good = cc
-    go (Dying o ∷ ls) e good = cc
-    go (Dispatching d ∷ ls) e good = cc
-    go (Unwinding code es ∷ ls) e good = cc
     go (Method fr' sh ∷ ls) e good =
         let same : fr' ≡ fr = cc in
         let rest : tasks_of ls ≡ ts = cc in
@@ -191,6 +179,7 @@ word_alone p t s fr ts i w typed top has = go typed.layers (sym typed.tasks ∙ 
         let claims = claim_register p (declared p s.cells) fr' sh ls i in
         let none = kind_alone (register sh i) (word fr' i) (held s.cells q) (ap (λ (f : Frame). word f i) same ∙ has) (good.stack.1.words i) (subst (Fits p (held s.cells) (held s.cells q)) claims (good.fits q)) in
         subst (λ us. held s.cells (Register (length us) i) ≡ None) rest none
+    go _ e good = cc
 
 module _ (p : Image) (m : Parts) (h : At_hand p m) (f : Held_frame) (a : ℕ) where
   abbrev s : State
@@ -424,21 +413,12 @@ module _ (p : Image) (m : Parts) (refused : List ℕ) (a : ℕ) where
       go : (f : Held_frame) (ms : List Held_task) (ts : List Task) → h.state.tasks ≡ Run h.frame ∷ ts → Top m h.state h.frame ts f ms → Runs ms → x ≡ result_register (instr_at p (method_here ms) (place_here ms))
           → AllTrue (result_needs p h.frame ts h.state (gives_of p h.frame.method) a) → WellTyped p h.typing (returned p h.frame ts h.state (gives_of p h.frame.method) a ts)
           → Agrees p (acts.next (resulted (gives_of p f.method) x (slice_index_or f.registers a null) (with_tasks ms m))) (returned p h.frame ts h.state (gives_of p h.frame.method) a ts)
-      go f [] ts e top runs is needs typed = absurd runs
-      go f (Is_trap ∷ ms) ts e top runs is needs typed = absurd runs
-      go f (Destroys y ∷ ms) ts e top runs is needs typed = absurd runs
-      go f (Ends d ∷ ms) ts e top runs is needs typed = absurd runs
-      go f (Unwinds code ∷ ms) ts e top runs is needs typed = absurd runs
-      go f (Runs_frame g ∷ ms) [] e top runs is needs typed = absurd top.below
-      go f (Runs_frame g ∷ ms) (Trapped ∷ ts) e top runs is needs typed = absurd top.below.0
-      go f (Runs_frame g ∷ ms) (Destroy ∷ ts) e top runs is needs typed = absurd top.below.0
-      go f (Runs_frame g ∷ ms) (Dispatched d ∷ ts) e top runs is needs typed = absurd top.below.0
-      go f (Runs_frame g ∷ ms) (Unwind code ∷ ts) e top runs is needs typed = absurd top.below.0
       go f (Runs_frame g ∷ ms) (Run caller ∷ ts) e top runs is needs typed =
           let at : x ≡ result_register (instr_at p caller.method caller.place) = is ∙ ap (λ k. result_register (instr_at p k g.place)) top.below.0.method ∙ ap (λ k. result_register (instr_at p caller.method k)) top.below.0.place in
           subst (λ k. Agrees p (acts.next (resulted (gives_of p k) x (slice_index_or f.registers a null) (with_tasks (Runs_frame g ∷ ms) m))) (returned p h.frame (Run caller ∷ ts) h.state (gives_of p h.frame.method) a (Run caller ∷ ts))) (sym top.frame.method)
           (subst (λ k. Agrees p (acts.next (resulted (gives_of p h.frame.method) k (slice_index_or f.registers a null) (with_tasks (Runs_frame g ∷ ms) m))) (returned p h.frame (Run caller ∷ ts) h.state (gives_of p h.frame.method) a (Run caller ∷ ts))) (sym at)
           (to_method p m h f a g ms caller ts top e (subst (λ k. k < 16) at small) (gives_of p h.frame.method) needs refl typed))
+      go f _ _ e top runs is needs typed = absurd (assumption tt)
 
   pub return_through : (es : Held_items) (x : ℕ) → IsTrapped (below_first m.stack.tasks) → Runs (below_first (below_first m.stack.tasks)) → m.entries ≡ record es { items = Is_mark ∷ es.items } → suc x < 16
       → x ≡ result_register (instr_at p (method_here (below_first (below_first m.stack.tasks))) (place_here (below_first (below_first m.stack.tasks))))
@@ -461,26 +441,7 @@ module _ (p : Image) (m : Parts) (refused : List ℕ) (a : ℕ) where
           subst (λ k. Agrees p (acts.next (acts.set_register (suc x) 0 (resulted (gives_of p k) x (slice_index_or f.registers a null) (record (with_tasks (Runs_frame g ∷ ms) m) { entries = es })))) (returned p h.frame (Trapped ∷ Run caller ∷ ts) h.state (gives_of p h.frame.method) a (Trapped ∷ Run caller ∷ ts))) (sym top.frame.method)
           (subst (λ k. Agrees p (acts.next (acts.set_register (suc k) 0 (resulted (gives_of p h.frame.method) k (slice_index_or f.registers a null) (record (with_tasks (Runs_frame g ∷ ms) m) { entries = es })))) (returned p h.frame (Trapped ∷ Run caller ∷ ts) h.state (gives_of p h.frame.method) a (Trapped ∷ Run caller ∷ ts))) (sym at)
           (through p m h f a es marked g ms caller ts top e (subst (λ k. suc k < 16) at small) (gives_of p h.frame.method) needs refl typed))
-      go f (Is_trap ∷ Runs_frame g ∷ ms) (Trapped ∷ []) e top trapped runs is needs typed = absurd top.below.1
-      go f (Is_trap ∷ Runs_frame g ∷ ms) (Trapped ∷ Trapped ∷ ts) e top trapped runs is needs typed = absurd top.below.1.0
-      go f (Is_trap ∷ Runs_frame g ∷ ms) (Trapped ∷ Destroy ∷ ts) e top trapped runs is needs typed = absurd top.below.1.0
-      go f (Is_trap ∷ Runs_frame g ∷ ms) (Trapped ∷ Unwind code ∷ ts) e top trapped runs is needs typed = absurd top.below.1.0
-      go f (Is_trap ∷ Runs_frame g ∷ ms) (Trapped ∷ Dispatched d ∷ ts) e top trapped runs is needs typed = absurd top.below.1.0
-      go f (Is_trap ∷ ms) [] e top trapped runs is needs typed = absurd top.below
-      go f (Is_trap ∷ ms) (Run g ∷ ts) e top trapped runs is needs typed = absurd top.below.0
-      go f (Is_trap ∷ ms) (Destroy ∷ ts) e top trapped runs is needs typed = absurd top.below.0
-      go f (Is_trap ∷ ms) (Unwind code ∷ ts) e top trapped runs is needs typed = absurd top.below.0
-      go f (Is_trap ∷ ms) (Dispatched d ∷ ts) e top trapped runs is needs typed = absurd top.below.0
-      go f (Is_trap ∷ []) ts e top trapped runs is needs typed = absurd runs
-      go f (Is_trap ∷ Is_trap ∷ ms) ts e top trapped runs is needs typed = absurd runs
-      go f (Is_trap ∷ Destroys y ∷ ms) ts e top trapped runs is needs typed = absurd runs
-      go f (Is_trap ∷ Unwinds code ∷ ms) ts e top trapped runs is needs typed = absurd runs
-      go f (Is_trap ∷ Ends d ∷ ms) ts e top trapped runs is needs typed = absurd runs
-      go f [] ts e top trapped runs is needs typed = absurd trapped
-      go f (Runs_frame g ∷ ms) ts e top trapped runs is needs typed = absurd trapped
-      go f (Destroys y ∷ ms) ts e top trapped runs is needs typed = absurd trapped
-      go f (Unwinds code ∷ ms) ts e top trapped runs is needs typed = absurd trapped
-      go f (Ends d ∷ ms) ts e top trapped runs is needs typed = absurd trapped
+      go f _ _ e top trapped runs is needs typed = absurd (assumption tt)
 
   pub return_to_going : IsDestroying (below_first m.stack.tasks) → DoesIn p refused (Return a) m (with_tasks (below_first m.stack.tasks) m)
   return_to_going destroying h here =
@@ -495,16 +456,7 @@ module _ (p : Image) (m : Parts) (refused : List ℕ) (a : ℕ) where
     where
       go : (f : Held_frame) (ms : List Held_task) (ts : List Task) → Top m h.state h.frame ts f ms → IsDestroying ms → WellTyped p h.typing (returned p h.frame ts h.state (gives_of p h.frame.method) a ts) → Agrees p (with_tasks ms m) (returned p h.frame ts h.state (gives_of p h.frame.method) a ts)
       go f (Destroys x ∷ ms) (Destroy ∷ ts) top destroying typed = to_waiting p m h f a (Destroys x ∷ ms) (Destroy ∷ ts) top typed
-      go f (Destroys x ∷ ms) [] top destroying typed = absurd top.below
-      go f (Destroys x ∷ ms) (Run g ∷ ts) top destroying typed = absurd top.below.0
-      go f (Destroys x ∷ ms) (Trapped ∷ ts) top destroying typed = absurd top.below.0
-      go f (Destroys x ∷ ms) (Dispatched d ∷ ts) top destroying typed = absurd top.below.0
-      go f (Destroys x ∷ ms) (Unwind code ∷ ts) top destroying typed = absurd top.below.0
-      go f [] ts top destroying typed = absurd destroying
-      go f (Runs_frame g ∷ ms) ts top destroying typed = absurd destroying
-      go f (Is_trap ∷ ms) ts top destroying typed = absurd destroying
-      go f (Ends d ∷ ms) ts top destroying typed = absurd destroying
-      go f (Unwinds code ∷ ms) ts top destroying typed = absurd destroying
+      go f _ _ top destroying typed = absurd (assumption tt)
 
   pub return_to_end : (es : Held_items) → IsEnding (below_first (below_first m.stack.tasks)) → IsTrapped (below_first m.stack.tasks) → m.entries ≡ record es { items = Is_mark ∷ es.items }
       → DoesIn p refused (Return a) m (record m { stack = record m.stack { tasks = below_first (below_first m.stack.tasks) }; entries = es })
@@ -527,26 +479,7 @@ module _ (p : Image) (m : Parts) (refused : List ℕ) (a : ℕ) where
       go : (ms : List Held_task) (ts : List Task) → SameTasks ms ts → IsEnding (below_first ms) → IsTrapped ms → WellTyped p h.typing (returned p h.frame ts h.state (gives_of p h.frame.method) a ts)
           → Agrees p (record m { stack = record m.stack { tasks = below_first ms }; entries = es }) (returned p h.frame ts h.state (gives_of p h.frame.method) a ts)
       go (Is_trap ∷ Ends x ∷ ms) (Trapped ∷ Dispatched d ∷ ts) same ending trapped typed = at_end x ms d ts same.1.0 same.1.1 (ends_last p h.typing _ d ts typed refl) typed
-      go (Is_trap ∷ Ends x ∷ ms) (Trapped ∷ []) same ending trapped typed = absurd same.1
-      go (Is_trap ∷ Ends x ∷ ms) (Trapped ∷ Run g ∷ ts) same ending trapped typed = absurd same.1.0
-      go (Is_trap ∷ Ends x ∷ ms) (Trapped ∷ Trapped ∷ ts) same ending trapped typed = absurd same.1.0
-      go (Is_trap ∷ Ends x ∷ ms) (Trapped ∷ Destroy ∷ ts) same ending trapped typed = absurd same.1.0
-      go (Is_trap ∷ Ends x ∷ ms) (Trapped ∷ Unwind code ∷ ts) same ending trapped typed = absurd same.1.0
-      go (Is_trap ∷ Ends x ∷ ms) [] same ending trapped typed = absurd same
-      go (Is_trap ∷ Ends x ∷ ms) (Run g ∷ ts) same ending trapped typed = absurd same.0
-      go (Is_trap ∷ Ends x ∷ ms) (Destroy ∷ ts) same ending trapped typed = absurd same.0
-      go (Is_trap ∷ Ends x ∷ ms) (Unwind code ∷ ts) same ending trapped typed = absurd same.0
-      go (Is_trap ∷ Ends x ∷ ms) (Dispatched d ∷ ts) same ending trapped typed = absurd same.0
-      go (Is_trap ∷ []) ts same ending trapped typed = absurd ending
-      go (Is_trap ∷ Runs_frame g ∷ ms) ts same ending trapped typed = absurd ending
-      go (Is_trap ∷ Is_trap ∷ ms) ts same ending trapped typed = absurd ending
-      go (Is_trap ∷ Destroys x ∷ ms) ts same ending trapped typed = absurd ending
-      go (Is_trap ∷ Unwinds code ∷ ms) ts same ending trapped typed = absurd ending
-      go [] ts same ending trapped typed = absurd trapped
-      go (Runs_frame g ∷ ms) ts same ending trapped typed = absurd trapped
-      go (Destroys x ∷ ms) ts same ending trapped typed = absurd trapped
-      go (Unwinds code ∷ ms) ts same ending trapped typed = absurd trapped
-      go (Ends x ∷ ms) ts same ending trapped typed = absurd trapped
+      go _ _ same ending trapped typed = absurd (assumption tt)
 
   pub return_to_unwinding : IsUnwinding (below_first m.stack.tasks) → DoesIn p refused (Return a) m (with_tasks (below_first m.stack.tasks) m)
   return_to_unwinding unwinding h here =
@@ -561,13 +494,4 @@ module _ (p : Image) (m : Parts) (refused : List ℕ) (a : ℕ) where
     where
       go : (f : Held_frame) (ms : List Held_task) (ts : List Task) → Top m h.state h.frame ts f ms → IsUnwinding ms → WellTyped p h.typing (returned p h.frame ts h.state (gives_of p h.frame.method) a ts) → Agrees p (with_tasks ms m) (returned p h.frame ts h.state (gives_of p h.frame.method) a ts)
       go f (Unwinds code ∷ ms) (Unwind c ∷ ts) top unwinding typed = to_waiting p m h f a (Unwinds code ∷ ms) (Unwind c ∷ ts) top typed
-      go f (Unwinds code ∷ ms) [] top unwinding typed = absurd top.below
-      go f (Unwinds code ∷ ms) (Run g ∷ ts) top unwinding typed = absurd top.below.0
-      go f (Unwinds code ∷ ms) (Trapped ∷ ts) top unwinding typed = absurd top.below.0
-      go f (Unwinds code ∷ ms) (Destroy ∷ ts) top unwinding typed = absurd top.below.0
-      go f (Unwinds code ∷ ms) (Dispatched d ∷ ts) top unwinding typed = absurd top.below.0
-      go f [] ts top unwinding typed = absurd unwinding
-      go f (Runs_frame g ∷ ms) ts top unwinding typed = absurd unwinding
-      go f (Is_trap ∷ ms) ts top unwinding typed = absurd unwinding
-      go f (Destroys x ∷ ms) ts top unwinding typed = absurd unwinding
-      go f (Ends d ∷ ms) ts top unwinding typed = absurd unwinding
+      go f _ _ top unwinding typed = absurd (assumption tt)

@@ -1,12 +1,11 @@
 -- Each instruction keeps the room that a run needs.
-use Rattle.std.proofs.Common.{Bool, List, None, Option, Some, [], ap, arith, cond, false, inl, length, refl, subst, suc, sym, true, zero, ℕ, ℤ, pos, ◌&&◌, ◌==◌, ◌+◌, ◌++◌, ◌-◌, ◌<◌, ◌∙◌, ◌∷◌, ◌≡◌, ◌≤◌}
+use Rattle.std.proofs.Common.{Bool, List, None, Option, Some, [], ap, arith, cond, false, inl, length, refl, subst, suc, sym, true, ℕ, ℤ, pos, ◌&&◌, ◌==◌, ◌+◌, ◌++◌, ◌-◌, ◌<◌, ◌∙◌, ◌∷◌, ◌≡◌, ◌≤◌}
 use Rattle.std.proofs.lemmas.Bool.{ne_eqb, true≢false}
-use Rattle.std.specs.Ordering.{int_eq}
-use Rattle.std.specs.Prelude.{int_lt, is_some, not, ◌||◌}
+use Rattle.std.specs.Prelude.{is_some, not, ◌||◌}
 use Rattle.aom_image.specs.Image.{Image}
-use Rattle.aom_image.specs.Views.{arguments_of, gives_of, instr_at, is_quiet, leaves, method_class, method_role}
+use Rattle.aom_image.specs.Views.{arguments_of, instr_at, is_quiet, leaves, method_class, method_role}
 use Rattle.aom_image.specs.declared.instr.Instr.{Instr}
-use Rattle.aom_image.specs.declared.instr.Instr.TheVariants.{Add, And, Call, Const, Copy, Delete, Jump, JumpEmpty, JumpEqual, JumpLess, JumpNull, Leave, LeaveIf, Load, Loop, Move, Mul, New, NewOrLeave, Next, Or, Pop, PopDelete, PopOperation, Print, Push, PushOperation, Put, Return, Stop, Store, Sub, Take, Trap, Xor}
+use Rattle.aom_image.specs.declared.instr.Instr.TheVariants.{Call, Delete, Push, PushOperation, Trap}
 use Rattle.aom_image.specs.declared.instr.Target.{Target}
 use Rattle.aom_image.specs.declared.method.Argument.{Argument}
 use Rattle.aom_image.specs.declared.method.Argument.TheVariants.{Own as Takes_own, Word as Takes_word}
@@ -23,10 +22,10 @@ use Rattle.aom_shape.specs.Rules.{flows, rule_needs}
 use Rattle.aom_shape.specs.Shape.{Shape}
 use Rattle.aom_shape.specs.Tables.{at}
 use Rattle.aom_shape.specs.Typing.{AllLead, Leads, Typing, shape_at}
-use Rattle.aom_shape.specs.declared.kind.Entry.{Entry as Pushed}
+use Rattle.aom_shape.specs.declared.kind.Entry.{Entry as Pushed_entry}
 use Rattle.aom_shape.specs.declared.kind.Entry.TheVariants.{Operation}
 use Rattle.aom_shape.specs.declared.kind.Kind.{Kind}
-use Rattle.aom_shape.specs.declared.kind.Kind.TheVariants.{Maybe, Null, Own, Unset, Word}
+use Rattle.aom_shape.specs.declared.kind.Kind.TheVariants.{Maybe, Null, Own}
 use Rattle.aom_verify.specs.Strongest.{IsStrongest}
 use Rattle.aom_budget.specs.Calls.{Among, MayCall, callees, destructors, listed, object_class, sessions_with}
 use Rattle.aom_budget.specs.Calls as budget
@@ -40,24 +39,21 @@ use Rattle.aom_sound.proofs.Storing.{held_set_word}
 use Rattle.aom_sound.proofs.Things.{stands_same}
 use Rattle.aom_sound.specs.Calls.{below_top, entered, given_cells, over_caller, over_trap, passed_cells, received, result_cells, result_register, returned}
 use Rattle.aom_sound.specs.Claims.{objects}
-use Rattle.aom_sound.specs.Cleanup.{dealt_with, destroyed, is_negative, left, no_memory, operation_frame, operation_pushed, pushed, to_trap, top_place}
+use Rattle.aom_sound.specs.Cleanup.{operation_frame, top_place}
 use Rattle.aom_sound.specs.Destruction.{begun, begun_by, destructor_of}
+use Rattle.aom_sound.specs.Effects.{Calls, Carried, Counts, Destroys, Destroys_last, Effect, Goes_on, In_field, In_register, Jumps, Leaves, Made, Operates, Popped, Popped_operation, Pushed, Pushed_operation, Repeats, Returns, Same, Sets_trap, Spot, Update, Written, applied, cells_after, items_after, spot_place, with_words}
 use Rattle.aom_sound.specs.Laws.{IsWired}
-use Rattle.aom_sound.specs.Moves.{does}
-use Rattle.aom_sound.specs.Objects.{deleted, jumped, no_words}
-use Rattle.aom_sound.specs.Places.{Cell, Entry, Going, Object, Place, Register, held, moved, same_place, with_new}
-use Rattle.aom_sound.specs.State.{A_mark, An_object, An_operation, AtRoot, Choice, Destroy, Dispatched, Frame, Home, Inside, Item, Run, State, Static, Task, Trapped, Unwind, counter, field_place, frame_of, next, set_word}
-use Rattle.aom_sound.specs.WellTyped.{AllUndo, Fits}
-use Rattle.aom_sound.specs.Words.{branched, go_on, here, looped, read, stored}
+use Rattle.aom_sound.specs.Steps.{Fits as May, FitsUpdate}
+use Rattle.aom_sound.specs.Places.{Cell, Entry, Going, Object, Place, Register, held, moved, same_place}
+use Rattle.aom_sound.specs.State.{A_mark, An_object, An_operation, AtRoot, Choice, Destroy, Dispatched, Frame, Home, Inside, Item, Run, State, Static, Task, Trapped, Unwind, field_place, frame_of, next, set_word}
+use Rattle.aom_sound.specs.WellTyped.{AllUndo, Fits, IsUndo}
+use Rattle.aom_sound.specs.Words.{here, stored}
 use Rattle.aom_exec.specs.Room.{IsUnder, below_height, destructor_in, entries_in, may_push}
 use Rattle.aom_exec.proofs.Depths.{AllLow, Roomy, SameEntries, begins, dropped, held_apart, item_pushed, lower, off_to_trap, popped, popped_top, recelled, top_under}
 use Rattle.aom_exec.proofs.Heights.{LowUnder, Stands_here, own_entries}
 
 -- the destructor of an object is that of the class which its register's kind tells
 destructor_among : (p : Image) (h : Place → Option Object) (o : Object) (k : Kind) (m : ℕ) → Fits p h (Some o) k → destructor_of p o.thing ≡ Some m → Among m (destructors p (object_class k))
-destructor_among p h o Unset m fits e = absurd fits
-destructor_among p h o Word m fits e = absurd fits
-destructor_among p h o Null m fits e = absurd fits
 destructor_among p h o (Own t a) m fits e = of_thing t (ap (destructor_of p) (sym (stands_same p o.thing t fits.0)) ∙ e)
   where
     of_thing : (t : Thing) → destructor_of p t ≡ Some m → Among m (destructors p (object_class (Own t a)))
@@ -68,6 +64,7 @@ destructor_among p h o (Maybe t a) m fits e = of_thing t (ap (destructor_of p) (
     of_thing : (t : Thing) → destructor_of p t ≡ Some m → Among m (destructors p (object_class (Maybe t a)))
     of_thing (An_object_of c) e = subst (λ d. Among m (listed d ++ listed (budget.destructor_of p (sessions_with p (Some c))))) (sym e) (inl refl)
     of_thing Message e = cc
+destructor_among p h o _ m fits e = absurd (assumption tt)
 
 -- what comes to no entries calls nothing that may
 pushes_from : (quiet quiet' leave leave' : Bool) → only_if quiet quiet' ≡ true → only_if leave' leave ≡ true → (not quiet' || leave') ≡ true → (not quiet || leave) ≡ true
@@ -114,11 +111,9 @@ passed_same p fr ts s d (Takes_own t ∷ xs) first to cs k =
     ∙ held_apart cs (here fr ts s first) (Register d to) (Entry k) refl refl
 
 result_same : (p : Image) (fr : Frame) (ts : List Task) (s : State) (g : Gives) (a x : ℕ) (below : List Task) (n : ℕ) → SameEntries s.cells (result_cells p fr ts s g a x below) n
-result_same p fr ts s Nothing a x below n k lt = refl
-result_same p fr ts s A_word a x below n k lt = refl
 result_same p fr ts s (An_own t) a x below n k lt = held_apart s.cells (here fr ts s a) (Register (length below) x) (Entry k) refl refl
 result_same p fr ts s (A_maybe t) a x below n k lt = held_apart s.cells (here fr ts s a) (Register (length below) x) (Entry k) refl refl
-result_same p fr ts s (Left t) a x below n k lt = refl
+result_same p fr ts s _ a x below n k lt = refl
 
 -- the tables of depths and of heights
 pub record Tables (p : Image) (t : Typing) (depth heights : ℕ → ℕ) : Type 0 where
@@ -140,22 +135,21 @@ module _ (p : Image) (t : Typing) (depth heights : ℕ → ℕ) (tables : Tables
           let x = destroys p tables.wired o.thing m e in
           begins p depth heights cs items (frame_of m (Inside o (Going (length ts))) (length items)) (Destroy ∷ ts) refl (under m e) (λ may. absurd (pushes_none (is_quiet p m) (leaves p m) x.quiet x.stays may)) w
 
-  pub deals : (items : List Item) (ts : List Task) (s : State) → AllUndo p items → AllLow (length (below_top items)) ts → Roomy p depth heights s.cells s.items ts → Roomy p depth heights s.cells items ts → Roomy p depth heights (dealt_with p items ts s).cells (dealt_with p items ts s).items (dealt_with p items ts s).tasks
-  deals [] ts s undos low given w = given
-  deals (An_object ∷ items) ts s undos low given w = go (held s.cells (Entry (length items))) refl
-    where
-      go : (o : Option Object) → held s.cells (Entry (length items)) ≡ o → Roomy p depth heights (destroyed p o items ts s).cells (destroyed p o items ts s).items (destroyed p o items ts s).tasks
-      go None e = popped p depth heights s.cells An_object items ts low w
-      go (Some o) e =
-          begins_over (moved (Entry (length items)) (Going (length ts)) s.cells) items o ts
-          (λ m d. top_under p depth heights s.cells An_object items ts m low (ap (destructor_in p) e ∙ d) w.1)
-          (recelled p depth heights s.cells (moved (Entry (length items)) (Going (length ts)) s.cells) items ts (λ k lt. held_apart s.cells (Entry (length items)) (Going (length ts)) (Entry k) (entry_apart (length items) k lt) refl) (popped p depth heights s.cells An_object items ts low w))
-  deals (An_operation m w ∷ items) ts s undos low given room =
-      begins p depth heights s.cells items (operation_frame m w (length items)) ts refl
-      (top_under p depth heights s.cells (An_operation m w) items ts m low refl room.1)
-      (λ may. absurd (pushes_none (is_quiet p m) (leaves p m) undos.0.quiet undos.0.leaves may))
-      (popped p depth heights s.cells (An_operation m w) items ts low room)
-  deals (A_mark ∷ items) ts s undos low given w = given
+  pub clears : (cs : List Cell) (items : List Item) (o : Object) (ts : List Task) → held cs (Entry (length items)) ≡ Some o → AllLow (length items) ts → Roomy p depth heights cs (An_object ∷ items) ts
+      → Roomy p depth heights (moved (Entry (length items)) (Going (length ts)) cs) items (begun p o (length items) ts)
+  clears cs items o ts there low w =
+      let cells' = moved (Entry (length items)) (Going (length ts)) cs in
+      begins_over cells' items o ts
+      (λ m d. top_under p depth heights cs An_object items ts m low (ap (destructor_in p) there ∙ d) w.1)
+      (recelled p depth heights cs cells' items ts (λ k lt. held_apart cs (Entry (length items)) (Going (length ts)) (Entry k) (entry_apart (length items) k lt) refl) (popped p depth heights cs An_object items ts low w))
+
+  pub undoes : (cs : List Cell) (items : List Item) (m : ℕ) (w : ℤ) (ts : List Task) → IsUndo p m → AllLow (length items) ts → Roomy p depth heights cs (An_operation m w ∷ items) ts
+      → Roomy p depth heights cs items (Run (operation_frame m w (length items)) ∷ ts)
+  undoes cs items m w ts undo low room =
+      begins p depth heights cs items (operation_frame m w (length items)) ts refl
+      (top_under p depth heights cs (An_operation m w) items ts m low refl room.1)
+      (λ may. absurd (pushes_none (is_quiet p m) (leaves p m) undo.quiet undo.leaves may))
+      (popped p depth heights cs (An_operation m w) items ts low room)
 
   -- what an instruction calls is less deep than its method
   pub may_call : (fr : Frame) (sh : Shape) → shape_at t fr.method fr.place ≡ Some sh → (i : Instr) (k : ℕ) → instr_at p fr.method fr.place ≡ Some i → Among k (callees p fr.method sh i) → depth k < depth fr.method
@@ -171,6 +165,10 @@ module _ (p : Image) (t : Typing) (depth heights : ℕ → ℕ) (tables : Tables
   module _ (c : Choice) (fr : Frame) (ts : List Task) (s : State) (undos : AllUndo p s.items) (at_hand : s.tasks ≡ Run fr ∷ ts) (h : Stands_here p t s fr ts) (w : Roomy p depth heights s.cells s.items (Run fr ∷ ts)) where
     abbrev R : State → Type 0
     R u = Roomy p depth heights u.cells u.items u.tasks
+
+    -- once the method has changed that
+    abbrev After : Update → Type 0
+    After u = Roomy p depth heights (cells_after p fr ts s u) (items_after u s.items) (Run fr ∷ ts)
 
     given : R s
     given = subst (λ l. Roomy p depth heights s.cells s.items l) (sym at_hand) w
@@ -191,25 +189,6 @@ module _ (p : Image) (t : Typing) (depth heights : ℕ → ℕ) (tables : Tables
     moves : (cs' : List Cell) → SameEntries s.cells cs' (length s.items) → Roomy p depth heights cs' s.items (Run fr ∷ ts)
     moves cs' same = recelled p depth heights s.cells cs' s.items (Run fr ∷ ts) same w
 
-    jump_room : (o : Option Object) (to : ℕ) → R (jumped p c fr ts s o to)
-    jump_room None to = w
-    jump_room (Some o) to = w
-
-    branch_room : (b : Bool) (to : ℕ) → R (branched fr ts s b to)
-    branch_room true to = w
-    branch_room false to = w
-
-    loop_room : (rounds d to : ℕ) → R (looped fr ts s rounds d to)
-    loop_room zero d to = w
-    loop_room (suc rounds) d to = w
-
-    delete_room : (o : Option Object) (a : ℕ) → instr_at p fr.method fr.place ≡ Some (Delete a) → Fits p (held s.cells) o (register h.shape a) → R (deleted p c fr ts s o a)
-    delete_room None a stands fits = w
-    delete_room (Some o) a stands fits =
-        begins_over (moved (here fr ts s a) (Going (length (Run fr ∷ ts))) s.cells) s.items o (Run (set_word fr a None) ∷ ts)
-        (λ m e. may_call fr h.shape h.there (Delete a) m stands (destructor_among p (held s.cells) o (register h.shape a) m fits e))
-        (moves (moved (here fr ts s a) (Going (length (Run fr ∷ ts))) s.cells) (λ k lt. held_apart s.cells (here fr ts s a) (Going (length (Run fr ∷ ts))) (Entry k) refl refl))
-
     -- ---- calls
 
     -- a method that is called finds room for its entries
@@ -227,7 +206,7 @@ module _ (p : Image) (t : Typing) (depth heights : ℕ → ℕ) (tables : Tables
         let fit = w.2.0 may in
         omega (arith, more, fit, counted_own)
 
-    call_room : (target : Target) (m first x : ℕ) → instr_at p fr.method fr.place ≡ Some (Call target m first x) → AllTrue (rule_needs p fr.method fr.place h.shape (Call target m first x)) → R (does p c fr ts s (Call target m first x))
+    call_room : (target : Target) (m first x : ℕ) → instr_at p fr.method fr.place ≡ Some (Call target m first x) → AllTrue (rule_needs p fr.method fr.place h.shape (Call target m first x)) → R (applied p fr ts s (Calls target m first))
     call_room target m first x stands n =
         let parts = all_parts (rule_target p fr.method h.shape target (method_class p m) (is_construct (method_role p m)) first (length (arguments_of p m))) _ n in
         let more = all_parts (each_argument p h.shape (arguments_of p m) first) _ parts.1.1 in
@@ -236,7 +215,7 @@ module _ (p : Image) (t : Typing) (depth heights : ℕ → ℕ) (tables : Tables
         (λ may. finds (Call target m first x) m stands refl (pushes_from (is_quiet p fr.method) (is_quiet p m) (leaves p fr.method) (leaves p m) more.1.0 more.1.1.1.0 may))
         (moves (given_cells p fr ts s (over_caller p fr ts s) m first) (λ k lt. passed_same p fr ts s _ (arguments_of p m) first 0 s.cells k))
 
-    trap_room : (target : Target) (m first x : ℕ) → instr_at p fr.method fr.place ≡ Some (Trap target m first x) → not (is_quiet p fr.method) ≡ true → R (does p c fr ts s (Trap target m first x))
+    trap_room : (target : Target) (m first x : ℕ) → instr_at p fr.method fr.place ≡ Some (Trap target m first x) → not (is_quiet p fr.method) ≡ true → R (applied p fr ts s (Sets_trap target m first))
     trap_room target m first x stands loud =
         let cells' = given_cells p fr ts s (over_trap p fr ts s) m first in
         let may = pushes_loud (is_quiet p fr.method) (leaves p fr.method) loud in
@@ -270,24 +249,19 @@ module _ (p : Image) (t : Typing) (depth heights : ℕ → ℕ) (tables : Tables
         go (i ∷ items) le = lower (fr.height - 1) (length items) below (omega (arith, le)) low
 
     return_room : (g : Gives) (a : ℕ) (below : List Task) → LowUnder fr.height below → Roomy p depth heights s.cells s.items below → R (returned p fr ts s g a below)
-    return_room g a [] low v = given
     return_room g a (Run caller ∷ below) low v =
         let x = result_register (instr_at p caller.method caller.place) in
         let cells' = result_cells p fr ts s g a x below in
         goes_back cells' s.items g a x caller below (recelled p depth heights s.cells cells' s.items (Run caller ∷ below) (result_same p fr ts s g a x below (length s.items)) v)
-    return_room g a (Trapped ∷ []) low v = given
     return_room g a (Trapped ∷ Run caller ∷ below) low v =
         let x = result_register (instr_at p caller.method caller.place) in
         let cells' = result_cells p fr ts s g a x below in
         goes_back_trapped cells' (below_top s.items) g a x caller below (Some (pos 0))
         (popped_top p depth heights cells' s.items (Run caller ∷ below) (low_top (Run caller ∷ below) low) (recelled p depth heights s.cells cells' s.items (Run caller ∷ below) (result_same p fr ts s g a x below (length s.items)) v))
-    return_room g a (Trapped ∷ Trapped ∷ below) low v = given
-    return_room g a (Trapped ∷ Destroy ∷ below) low v = given
-    return_room g a (Trapped ∷ Unwind code ∷ below) low v = given
     return_room g a (Trapped ∷ Dispatched d ∷ below) low v = popped_top p depth heights s.cells s.items (Dispatched d ∷ below) (low_top (Dispatched d ∷ below) low) v
     return_room g a (Destroy ∷ below) low v = v
     return_room g a (Unwind code ∷ below) low v = v
-    return_room g a (Dispatched d ∷ below) low v = given
+    return_room g a _ low v = given
 
     -- ---- the cleanup stack
 
@@ -303,20 +277,13 @@ module _ (p : Image) (t : Typing) (depth heights : ℕ → ℕ) (tables : Tables
         let fit = w.2.0 (pushes_where (is_quiet p fr.method) (leaves p fr.method) leave) in
         omega (arith, more, fit, counted_own)
 
-    -- where the request is refused the method leaves, with what it has pushed
-    or_leaves : (b : Bool) (code : ℤ) (u v : State) → Roomy p depth heights u.cells u.items (to_trap u.tasks) → R v → R (cond b (left code u) v)
-    or_leaves true code u v off on = off
-    or_leaves false code u v off on = on
-
-    off : Roomy p depth heights s.cells s.items (to_trap s.tasks)
-    off = subst (λ l. Roomy p depth heights s.cells s.items (to_trap l)) (sym at_hand) (off_to_trap p depth heights s.cells s.items ts (dropped p depth heights s.cells s.items fr ts w))
-
-    push_room : (a : ℕ) → instr_at p fr.method fr.place ≡ Some (Push a) → leaves p fr.method ≡ true → Leads t fr.method (suc fr.place) (with_entry (entry_of (register h.shape a)) (set_register h.shape a Null)) → R (does p c fr ts s (Push a))
-    push_room a stands leave leads = or_leaves c.refused no_memory (pushed p c fr ts s a) (pushed p c fr ts s a) (off_to_trap p depth heights cells' (An_object ∷ s.items) ts (dropped p depth heights cells' (An_object ∷ s.items) fr ts room)) room
+    push_room : (a : ℕ) → instr_at p fr.method fr.place ≡ Some (Push a) → leaves p fr.method ≡ true → Leads t fr.method (suc fr.place) (with_entry (entry_of (register h.shape a)) (set_register h.shape a Null)) → After (Pushed a)
+    push_room a stands leave leads =
+        item_pushed p depth heights (moved (here fr ts s a) (Entry (length s.items)) s.cells) An_object s.items (Run fr ∷ ts) all_low
+        (λ m e. runs (held s.cells (here fr ts s a)) m (h.fits a) (sym (ap (destructor_in p) there_now) ∙ e))
+        (let few = pushes (Push a) (with_entry (entry_of (register h.shape a)) (set_register h.shape a Null)) stands leave leads refl in omega (arith, few))
+        (moves (moved (here fr ts s a) (Entry (length s.items)) s.cells) (λ k lt. held_apart s.cells (here fr ts s a) (Entry (length s.items)) (Entry k) refl (entry_apart (length s.items) k lt)))
       where
-        cells' : List Cell
-        cells' = moved (here fr ts s a) (Entry (length s.items)) s.cells
-
         -- what the register owned is in the entry's place
         there_now : held (moved (here fr ts s a) (Entry (length s.items)) s.cells) (Entry (length s.items)) ≡ held s.cells (here fr ts s a)
         there_now = held_moved s.cells (here fr ts s a) (Entry (length s.items)) (Entry (length s.items)) h.free ∙ ap (λ b. cond b (held s.cells (here fr ts s a)) (held s.cells (Entry (length s.items)))) (same_place_refl (Entry (length s.items)))
@@ -325,35 +292,25 @@ module _ (p : Image) (t : Typing) (depth heights : ℕ → ℕ) (tables : Tables
         runs None m fits e = cc
         runs (Some o) m fits e = may_call fr h.shape h.there (Push a) m stands (destructor_among p (held s.cells) o (register h.shape a) m fits e)
 
-        room : Roomy p depth heights (moved (here fr ts s a) (Entry (length s.items)) s.cells) (An_object ∷ s.items) (Run fr ∷ ts)
-        room =
-            item_pushed p depth heights (moved (here fr ts s a) (Entry (length s.items)) s.cells) An_object s.items (Run fr ∷ ts) all_low
-            (λ m e. runs (held s.cells (here fr ts s a)) m (h.fits a) (sym (ap (destructor_in p) there_now) ∙ e))
-            (let few = pushes (Push a) (with_entry (entry_of (register h.shape a)) (set_register h.shape a Null)) stands leave leads refl in omega (arith, few))
-            (moves (moved (here fr ts s a) (Entry (length s.items)) s.cells) (λ k lt. held_apart s.cells (here fr ts s a) (Entry (length s.items)) (Entry k) refl (entry_apart (length s.items) k lt)))
-
-    push_operation_room : (a m : ℕ) → instr_at p fr.method fr.place ≡ Some (PushOperation a m) → leaves p fr.method ≡ true → Leads t fr.method (suc fr.place) (with_entry Operation h.shape) → R (does p c fr ts s (PushOperation a m))
-    push_operation_room a m stands leave leads = or_leaves c.refused no_memory (operation_pushed p c fr ts s a m) (operation_pushed p c fr ts s a m) (off_to_trap p depth heights s.cells (An_operation m (read fr ts s a) ∷ s.items) ts (dropped p depth heights s.cells (An_operation m (read fr ts s a) ∷ s.items) fr ts room)) room
-      where
-        room : Roomy p depth heights s.cells (An_operation m (read fr ts s a) ∷ s.items) (Run fr ∷ ts)
-        room =
-            item_pushed p depth heights s.cells (An_operation m (read fr ts s a)) s.items (Run fr ∷ ts) all_low
-            (λ k e. let same : m ≡ k = cc in subst (λ x. depth x < depth fr.method) same (may_call fr h.shape h.there (PushOperation a m) m stands (inl refl)))
-            (let few = pushes (PushOperation a m) (with_entry Operation h.shape) stands leave leads refl in omega (arith, few))
-            w
+    push_operation_room : (a m : ℕ) (v : ℤ) → instr_at p fr.method fr.place ≡ Some (PushOperation a m) → leaves p fr.method ≡ true → Leads t fr.method (suc fr.place) (with_entry Operation h.shape) → After (Pushed_operation m v)
+    push_operation_room a m v stands leave leads =
+        item_pushed p depth heights s.cells (An_operation m v) s.items (Run fr ∷ ts) all_low
+        (λ k e. let same : m ≡ k = cc in subst (λ x. depth x < depth fr.method) same (may_call fr h.shape h.there (PushOperation a m) m stands (inl refl)))
+        (let few = pushes (PushOperation a m) (with_entry Operation h.shape) stands leave leads refl in omega (arith, few))
+        w
 
     -- the last item is the method's own
     low_below : not (no_entry h.shape.entries) ≡ true → AllLow (length (below_top s.items)) (Run fr ∷ ts)
     low_below some = go h.shape.entries s.items high some
       where
-        go : (es : List Pushed) (items : List Item) → length items ≡ length (objects es h.below) → not (no_entry es) ≡ true → AllLow (length (below_top items)) (Run fr ∷ ts)
+        go : (es : List Pushed_entry) (items : List Item) → length items ≡ length (objects es h.below) → not (no_entry es) ≡ true → AllLow (length (below_top items)) (Run fr ∷ ts)
         go [] items same some = absurd (true≢false (sym some))
         go (e ∷ es) [] same some = absurd (omega (arith, same))
         go (e ∷ es) (i ∷ items) same some =
             let le : fr.height ≤ length items = omega (arith, same, h.height, length_objects es h.below) in
             (le, lower fr.height (length items) ts le h.low)
 
-    pop_room : (a : ℕ) → not (no_entry h.shape.entries) ≡ true → R (does p c fr ts s (Pop a))
+    pop_room : (a : ℕ) → not (no_entry h.shape.entries) ≡ true → After (Popped a)
     pop_room a some = go s.items (low_below some) w
       where
         go : (items : List Item) → AllLow (length (below_top items)) (Run fr ∷ ts) → Roomy p depth heights s.cells items (Run fr ∷ ts) → Roomy p depth heights (moved (top_place items) (here fr ts s a) s.cells) (below_top items) (Run fr ∷ ts)
@@ -363,44 +320,51 @@ module _ (p : Image) (t : Typing) (depth heights : ℕ → ℕ) (tables : Tables
             (λ k lt. held_apart s.cells (top_place items) (here fr ts s a) (Entry k) (entry_apart (length (below_top items)) k lt) refl)
             (popped_top p depth heights s.cells items (Run fr ∷ ts) low room)
 
-    pub acts_room : (i : Instr) → instr_at p fr.method fr.place ≡ Some i → AllTrue (rule_needs p fr.method fr.place h.shape i) → AllLead t fr.method (flows p fr.method fr.place h.shape i) → R (does p c fr ts s i)
-    acts_room (Const a v) stands r n = w
-    acts_room (Copy a b) stands r n = w
-    acts_room (Add a b x) stands r n = w
-    acts_room (Sub a b x) stands r n = w
-    acts_room (Mul a b x) stands r n = w
-    acts_room (And a b x) stands r n = w
-    acts_room (Or a b x) stands r n = w
-    acts_room (Xor a b x) stands r n = w
-    acts_room (Jump to) stands r n = w
-    acts_room (JumpEqual a b to) stands r n = branch_room (int_eq (read fr ts s a) (read fr ts s b)) to
-    acts_room (JumpLess a b to) stands r n = branch_room (int_lt (read fr ts s a) (read fr ts s b)) to
-    acts_room (JumpNull a to) stands r n = jump_room (held s.cells (here fr ts s a)) to
-    acts_room (JumpEmpty f to) stands r n = jump_room (held s.cells (field_place fr.home f)) to
-    acts_room (Loop d rounds) stands r n = w
-    acts_room (Next d to) stands r n = loop_room (counter fr d - 1) d to
-    acts_room (Load a x) stands r n = w
-    acts_room (Store x b) stands r n = moves (stored s.cells fr.home x (read fr ts s b)) (stored_same s.cells fr.home x (length s.items) (read fr ts s b))
-    acts_room (Print a) stands r n = w
-    acts_room (Move a b) stands r n = moves (moved (here fr ts s b) (here fr ts s a) s.cells) (λ k lt. held_apart s.cells (here fr ts s b) (here fr ts s a) (Entry k) refl refl)
-    acts_room (Take a f) stands r n = moves (moved (field_place fr.home f) (here fr ts s a) s.cells) (λ k lt. held_apart s.cells (field_place fr.home f) (here fr ts s a) (Entry k) (field_apart fr.home f k) refl)
-    acts_room (Put f b) stands r n = moves (moved (here fr ts s b) (field_place fr.home f) s.cells) (λ k lt. held_apart s.cells (here fr ts s b) (field_place fr.home f) (Entry k) refl (field_apart fr.home f k))
-    acts_room (New a x) stands r n = new_room c.refused
-      where
-        new_room : (b : Bool) → Roomy p depth heights (cond b s.cells (with_new c.name (An_object_of x) (no_words p c fr ts s x) (here fr ts s a) s.cells)) s.items (Run fr ∷ ts)
-        new_room true = w
-        new_room false = moves (with_new c.name (An_object_of x) (no_words p c fr ts s x) (here fr ts s a) s.cells) (λ k lt. refl)
-    acts_room (NewOrLeave a x) stands r n = or_leaves c.refused no_memory s (go_on fr ts s (with_new c.name (An_object_of x) (no_words p c fr ts s x) (here fr ts s a) s.cells) (set_word fr a None)) off (moves (with_new c.name (An_object_of x) (no_words p c fr ts s x) (here fr ts s a) s.cells) (λ k lt. refl))
-    acts_room (Delete a) stands r n = delete_room (held s.cells (here fr ts s a)) a stands (h.fits a)
-    acts_room (Call target m first x) stands r n = call_room target m first x stands r
-    acts_room (Trap target m first x) stands r n = trap_room target m first x stands r.0
-    acts_room (Push a) stands r n = push_room a stands r.1.0 n.0
-    acts_room (PushOperation a m) stands r n = push_operation_room a m stands r.1.0 n.0
-    acts_room (Pop a) stands r n = pop_room a r.1.0
-    acts_room PopOperation stands r n = popped_top p depth heights s.cells s.items (Run fr ∷ ts) (low_below r.0) w
-    acts_room PopDelete stands r n = deals s.items (Run fr ∷ ts) s undos (low_below r.0) w w
-    acts_room (Leave a) stands r n = off
-    acts_room (LeaveIf a) stands r n = or_leaves (is_negative p c fr ts s (read fr ts s a)) (read fr ts s a) s (go_on fr ts s s.cells fr) off w
-    acts_room (Return a) stands r n = return_room (gives_of p fr.method) a ts h.low_under (dropped p depth heights s.cells s.items fr ts w)
-    acts_room Stop stands r n = w
-    acts_room _ stands r n = given
+    -- ---- the effects
+
+    abbrev Ruled : Instr → Type 0
+    Ruled i = AllTrue (rule_needs p fr.method fr.place h.shape i)
+
+    abbrev Leading : Instr → Type 0
+    Leading i = AllLead t fr.method (flows p fr.method fr.place h.shape i)
+
+    stands_as : (i j : Instr) → instr_at p fr.method fr.place ≡ Some i → i ≡ j → instr_at p fr.method fr.place ≡ Some j
+    stands_as i j stands e = stands ∙ ap (λ x. Some x) e
+
+    spot_apart : (x : Spot) (k : ℕ) → same_place (spot_place p fr ts s x) (Entry k) ≡ false
+    spot_apart (In_register a) k = refl
+    spot_apart (In_field f) k = field_apart fr.home f k
+
+    -- after an update, with the method on top
+    updated_room : (i : Instr) → instr_at p fr.method fr.place ≡ Some i → Ruled i → Leading i → (u : Update) → FitsUpdate ts s.items i u → After u
+    updated_room i stands r n Same f = w
+    updated_room i stands r n (Carried from to) f = moves (cells_after p fr ts s (Carried from to)) (λ k lt. held_apart s.cells (spot_place p fr ts s from) (spot_place p fr ts s to) (Entry k) (spot_apart from k) (spot_apart to k))
+    updated_room i stands r n (Made name x a) f = moves (cells_after p fr ts s (Made name x a)) (λ k lt. refl)
+    updated_room i stands r n (Written x v) f = moves (cells_after p fr ts s (Written x v)) (stored_same s.cells fr.home x (length s.items) v)
+    updated_room i stands r n (Pushed a) f = push_room a (stands_as i _ stands f.0) (subst Ruled f.0 r).1.0 (subst Leading f.0 n).0
+    updated_room i stands r n (Pushed_operation m v) f = push_operation_room f.0 m v (stands_as i _ stands f.1) (subst Ruled f.1 r).1.0 (subst Leading f.1 n).0
+    updated_room i stands r n (Popped a) f = pop_room a (subst Ruled f.0 r).1.0
+    updated_room i stands r n Popped_operation f = popped_top p depth heights s.cells s.items (Run fr ∷ ts) (low_below (subst Ruled f.0 r).0) w
+
+    -- an object of a register goes
+    delete_room : (o : Object) (a : ℕ) (words : List (Option ℤ)) → instr_at p fr.method fr.place ≡ Some (Delete a) → Fits p (held s.cells) (Some o) (register h.shape a) → R (applied p fr ts s (Destroys o a words))
+    delete_room o a words stands fits =
+        begins_over (moved (here fr ts s a) (Going (length (Run fr ∷ ts))) s.cells) s.items o (Run (with_words fr words) ∷ ts)
+        (λ m e. may_call fr h.shape h.there (Delete a) m stands (destructor_among p (held s.cells) o (register h.shape a) m fits e))
+        (moves (moved (here fr ts s a) (Going (length (Run fr ∷ ts))) s.cells) (λ k lt. held_apart s.cells (here fr ts s a) (Going (length (Run fr ∷ ts))) (Entry k) refl refl))
+
+    pub acts_room : (i : Instr) → instr_at p fr.method fr.place ≡ Some i → Ruled i → Leading i → (e : Effect) → May p c fr ts s i e → R (applied p fr ts s e)
+    acts_room i stands r n (Goes_on ch) f = updated_room i stands r n ch.update f.1
+    acts_room i stands r n (Jumps to) f = w
+    acts_room i stands r n (Counts d rounds) f = w
+    acts_room i stands r n (Repeats d rounds to) f = w
+    acts_room i stands r n (Calls target m first) f = call_room target m first f.0 (stands_as i _ stands f.1) (subst Ruled f.1 r)
+    acts_room i stands r n (Sets_trap target m first) f = trap_room target m first f.0 (stands_as i _ stands f.1) (subst Ruled f.1 r).0
+    acts_room i stands r n (Returns g a) f = return_room g a ts h.low_under (dropped p depth heights s.cells s.items fr ts w)
+    acts_room i stands r n (Leaves code u) f =
+        let cs = cells_after p fr ts s u in
+        let items = items_after u s.items in
+        off_to_trap p depth heights cs items ts (dropped p depth heights cs items fr ts (updated_room i stands r n u f.2))
+    acts_room i stands r n (Destroys o a words) f = delete_room o a words (stands_as i _ stands f.0) (subst (λ x. Fits p (held s.cells) x (register h.shape a)) f.1 (h.fits a))
+    acts_room i stands r n (Destroys_last o) f = clears s.cells (below_top s.items) o (Run fr ∷ ts) f.2 (low_below (subst Ruled f.0 r).0) (subst (λ is. Roomy p depth heights s.cells is (Run fr ∷ ts)) f.1 w)
+    acts_room i stands r n (Operates m v) f = undoes s.cells (below_top s.items) m v (Run fr ∷ ts) (subst (λ is. AllUndo p is) f.1 undos).0 (low_below (subst Ruled f.0 r).0) (subst (λ is. Roomy p depth heights s.cells is (Run fr ∷ ts)) f.1 w)

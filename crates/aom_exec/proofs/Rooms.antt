@@ -41,28 +41,14 @@ same_entries [] [] same = omega arith
 same_entries (Holds_object n ∷ is) (An_object ∷ js) same = let rest = same_entries is js same.1 in omega (arith, rest)
 same_entries (Holds_operation m n ∷ is) (An_operation k w ∷ js) same = let rest = same_entries is js same.1 in omega (arith, rest)
 same_entries (Is_mark ∷ is) (A_mark ∷ js) same = same_entries is js same.1
-same_entries [] (j ∷ js) same = absurd same
-same_entries (i ∷ is) [] same = absurd same
-same_entries (Holds_object n ∷ is) (An_operation k w ∷ js) same = absurd same.0
-same_entries (Holds_object n ∷ is) (A_mark ∷ js) same = absurd same.0
-same_entries (Holds_operation m n ∷ is) (An_object ∷ js) same = absurd same.0
-same_entries (Holds_operation m n ∷ is) (A_mark ∷ js) same = absurd same.0
-same_entries (Is_mark ∷ is) (An_object ∷ js) same = absurd same.0
-same_entries (Is_mark ∷ is) (An_operation k w ∷ js) same = absurd same.0
+same_entries _ _ same = absurd (assumption tt)
 
 same_marks : (is : List Held_item) (js : List Item) → SameItems is js → marks_in is ≡ counts.marks_in js
 same_marks [] [] same = omega arith
 same_marks (Holds_object n ∷ is) (An_object ∷ js) same = same_marks is js same.1
 same_marks (Holds_operation m n ∷ is) (An_operation k w ∷ js) same = same_marks is js same.1
 same_marks (Is_mark ∷ is) (A_mark ∷ js) same = ap suc (same_marks is js same.1)
-same_marks [] (j ∷ js) same = absurd same
-same_marks (i ∷ is) [] same = absurd same
-same_marks (Holds_object n ∷ is) (An_operation k w ∷ js) same = absurd same.0
-same_marks (Holds_object n ∷ is) (A_mark ∷ js) same = absurd same.0
-same_marks (Holds_operation m n ∷ is) (An_object ∷ js) same = absurd same.0
-same_marks (Holds_operation m n ∷ is) (A_mark ∷ js) same = absurd same.0
-same_marks (Is_mark ∷ is) (An_object ∷ js) same = absurd same.0
-same_marks (Is_mark ∷ is) (An_operation k w ∷ js) same = absurd same.0
+same_marks _ _ same = absurd (assumption tt)
 
 module _ (p : Image) (m : Parts) (st : Stands (record { image = p; parts = m })) where
   -- there is room for two tasks more

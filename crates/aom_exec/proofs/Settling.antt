@@ -22,14 +22,12 @@ of_thing o Message e = with_line o Message e (omega arith)
 
 -- a move writes at most one line, and main's before that
 writes_one : (p : Image) (s : State) (us : List Task) → length (written_task p s us) ≤ 1
-writes_one p s [] = omega arith
 writes_one p s (Run fr ∷ ts) = of_instr (instr_at p fr.method fr.place)
   where
     of_instr : (o : Option Instr) → length (written_instr fr ts s o) ≤ 1
     of_instr None = omega arith
     of_instr (Some (Print a)) = omega arith
     of_instr (Some i) = omega arith
-writes_one p s (Trapped ∷ ts) = omega arith
 writes_one p s (Destroy ∷ ts) = of_object (held s.cells (Going (length ts)))
   where
     of_object : (o : Option Object) → length (goes_line o) ≤ 1
@@ -42,7 +40,7 @@ writes_one p s (Unwind code ∷ ts) = of_items s.items
     of_items (An_object ∷ items) = omega arith
     of_items (An_operation m w ∷ items) = omega arith
     of_items (A_mark ∷ items) = omega arith
-writes_one p s (Dispatched d ∷ ts) = omega arith
+writes_one p s _ = omega arith
 
 announces_one : (r : Rest) → length (announcement r) ≤ 1
 announces_one r = go r.announced

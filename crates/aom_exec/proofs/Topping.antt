@@ -48,13 +48,11 @@ entry_tops (Is_mark ∷ is) (An_object ∷ js) same e = absurd same.0
 entry_tops (Is_mark ∷ is) (An_operation k w ∷ js) same e = absurd same.0
 
 pub object_tops : (is : List Held_item) (js : List Item) → SameItems is js → tops_object js ≡ true → TopsObject is
-object_tops is [] same e = cc
-object_tops is (A_mark ∷ js) same e = cc
-object_tops is (An_operation k w ∷ js) same e = cc
 object_tops [] (An_object ∷ js) same e = absurd same
 object_tops (Holds_object n ∷ is) (An_object ∷ js) same e = tt
 object_tops (Holds_operation k n ∷ is) (An_object ∷ js) same e = absurd same.0
 object_tops (Is_mark ∷ is) (An_object ∷ js) same e = absurd same.0
+object_tops is _ same e = cc
 
 -- an object that is last lives
 pub top_lives : (p : Image) (m : Parts) (t : Typing) (s : State) → WellTyped p t s → Agrees p m s → top_is_whole s.cells s.items ≡ true → TopLives m
@@ -122,20 +120,15 @@ length_forms [] = refl
 length_forms (j ∷ js) = ap suc (length_forms js)
 
 mark_tops : (is : List Held_item) (js : List Item) (fs : List Form) → SameItems is js → forms js ≡ Mark_form ∷ fs → IsMarked is
-mark_tops is [] fs same e = cc
-mark_tops is (An_object ∷ js) fs same e = cc
-mark_tops is (An_operation k w ∷ js) fs same e = cc
 mark_tops [] (A_mark ∷ js) fs same e = absurd same
 mark_tops (Holds_object n ∷ is) (A_mark ∷ js) fs same e = absurd same.0
 mark_tops (Holds_operation k n ∷ is) (A_mark ∷ js) fs same e = absurd same.0
 mark_tops (Is_mark ∷ is) (A_mark ∷ js) fs same e = tt
+mark_tops is _ fs same e = cc
 
 level : (p : Image) (fr : Frame) (ts : List Task) (s : State) (g : Gives) → LeavesNone g → is_level p fr ts s g ≡ true → length s.items ≡ fr.height
-level p fr ts s Nothing none e = eqb-true (length s.items) fr.height e
-level p fr ts s A_word none e = eqb-true (length s.items) fr.height e
-level p fr ts s (An_own t) none e = eqb-true (length s.items) fr.height e
-level p fr ts s (A_maybe t) none e = eqb-true (length s.items) fr.height e
 level p fr ts s (Left c) none e = absurd none
+level p fr ts s _ none e = eqb-true (length s.items) fr.height e
 
 marked_under : (p : Image) (t : Typing) (s : State) (fr : Frame) (ts : List Task) (is : List Held_item) → WellTyped p t s → s.tasks ≡ Run fr ∷ Trapped ∷ ts → SameItems is s.items → is_level p fr (Trapped ∷ ts) s (gives_of p fr.method) ≡ true → IsMarked is
 marked_under p t s fr ts is typed top same flat = go typed.layers (sym typed.tasks ∙ top) typed.items typed.good
@@ -192,16 +185,12 @@ not_both (Is_mark ∷ is) above not = above
 -- what a method returns to through a trap
 pub coded_through : (p : Image) (ms : List Held_task) → ReturnsTo p ms → IsTrapped ms → Runs (below_first ms) → suc (result_register (instr_at p (method_here (below_first ms)) (place_here (below_first ms)))) < 16
 coded_through p (Is_trap ∷ Runs_frame f ∷ ms) to trapped runs = to.2
-coded_through p (Is_trap ∷ []) to trapped runs = absurd runs
-coded_through p (Is_trap ∷ Is_trap ∷ ms) to trapped runs = absurd runs
-coded_through p (Is_trap ∷ Destroys x ∷ ms) to trapped runs = absurd runs
-coded_through p (Is_trap ∷ Unwinds code ∷ ms) to trapped runs = absurd runs
-coded_through p (Is_trap ∷ Ends d ∷ ms) to trapped runs = absurd runs
 coded_through p [] to trapped runs = absurd trapped
 coded_through p (Runs_frame f ∷ ms) to trapped runs = absurd trapped
 coded_through p (Destroys x ∷ ms) to trapped runs = absurd trapped
 coded_through p (Unwinds code ∷ ms) to trapped runs = absurd trapped
 coded_through p (Ends d ∷ ms) to trapped runs = absurd trapped
+coded_through p _ to trapped runs = absurd runs
 
 pub ends_under : (p : Image) (ms : List Held_task) → ReturnsTo p ms → IsTrapped ms → (Runs (below_first ms) → ⊥) → IsEnding (below_first ms)
 ends_under p (Is_trap ∷ Runs_frame f ∷ ms) to trapped stops = absurd (stops tt)
@@ -210,8 +199,4 @@ ends_under p (Is_trap ∷ []) to trapped stops = absurd to
 ends_under p (Is_trap ∷ Is_trap ∷ ms) to trapped stops = absurd to
 ends_under p (Is_trap ∷ Destroys x ∷ ms) to trapped stops = absurd to
 ends_under p (Is_trap ∷ Unwinds code ∷ ms) to trapped stops = absurd to
-ends_under p [] to trapped stops = absurd trapped
-ends_under p (Runs_frame f ∷ ms) to trapped stops = absurd trapped
-ends_under p (Destroys x ∷ ms) to trapped stops = absurd trapped
-ends_under p (Unwinds code ∷ ms) to trapped stops = absurd trapped
-ends_under p (Ends d ∷ ms) to trapped stops = absurd trapped
+ends_under p _ to trapped stops = absurd trapped

@@ -26,7 +26,9 @@ use Rattle.aom_sound.specs.Places.{Place, Register, changed, held}
 use Rattle.aom_sound.specs.State.{Frame, Dispatch, Of_main, Main_left, Of_root, Task, Run, Trapped, Destroy, Unwind, Dispatched, Item, An_object, An_operation, A_mark, State, Goes, IsStuck, NullOrDead, next, set_word, word}
 use Rattle.aom_sound.specs.WellTyped.{Caught, EndsDispatch, Fits, Good, Keeps, WellTyped}
 use Rattle.aom_sound.specs.declared.line.Line.TheVariants.{Leave}
-use Rattle.aom_sound.proofs.Looping.{goes_same}
+use Rattle.aom_sound.proofs.Guarded.{goes_same}
+use Rattle.aom_sound.specs.Tasks.{Below}
+use Rattle.aom_sound.specs.Traps.{AllAtTraps, at_traps}
 use Rattle.aom_sound.proofs.Straight.{claim_register, fits_unowning}
 use Rattle.aom_sound.proofs.Maps.{at-put_at}
 use Rattle.aom_lines.specs.Turn.{Turn}
@@ -42,7 +44,6 @@ use Rattle.aom_exec.specs.Cleanup.{TopLives, Unwinds as Unwinds_by, dealt_with, 
 use Rattle.aom_exec.specs.Places.{code_here, value_in, with_tasks, IsEnding, IsTrapped, IsUnwinding}
 use Rattle.aom_exec.specs.Room.{CalleeThere, CallsThere, ReturnsTo}
 use Rattle.aom_exec.specs.Steps.{Stands}
-use Rattle.aom_exec.specs.Traps.{TrapsFit}
 use Rattle.aom_exec.proofs.CallActs.{closing, ended}
 use Rattle.aom_exec.proofs.DealActs.{deals}
 use Rattle.aom_exec.proofs.Entries.{mark_shows_none, unmarked, value_alike}
@@ -122,9 +123,9 @@ module _ (p : Image) (m : Parts) (st : Stands (record { image = p; parts = m }))
       let g = goes_on in
       let over = unwinds_over p st.1.typing st.0 st.1.sound g.0 g.1 st.1.typed g.3 in
       let same = subst (SameTasks m.stack.tasks) g.3 st.1.agrees.tasks in
-      (g.1, g.0, go m.stack.tasks g.0 g.1 unwinding same (subst (λ us. TrapsFit p us) g.3 st.1.traps) over.0, trap m.stack.tasks g.0 g.1 unwinding same over.1)
+      (g.1, g.0, go m.stack.tasks g.0 g.1 unwinding same (subst (λ us. AllAtTraps p us) g.3 st.1.traps).1 over.0, trap m.stack.tasks g.0 g.1 unwinding same over.1)
     where
-      go : (ms : List Held_task) (code : ℤ) (ts : List Task) → IsUnwinding ms → SameTasks ms (Unwind code ∷ ts) → TrapsFit p ts → Beneath p ts → ReturnsTo p (below_first ms)
+      go : (ms : List Held_task) (code : ℤ) (ts : List Task) → IsUnwinding ms → SameTasks ms (Unwind code ∷ ts) → Below (at_traps p) ts → Beneath p ts → ReturnsTo p (below_first ms)
       go (Unwinds c ∷ ms) code ts unwinding same fits under = held_beneath p st.1.sound.formed ms ts same.1 fits under
       go [] code ts unwinding same fits under = absurd unwinding
       go (Runs_frame f ∷ ms) code ts unwinding same fits under = absurd unwinding
@@ -170,11 +171,7 @@ callee_there p wired k place = go (instr_at p k place) refl
 
 pub calls_there : (p : Image) → IsWired p → (ms : List Held_task) → CallsThere p ms
 calls_there p wired (Runs_frame f ∷ ms) = callee_there p wired f.method f.place
-calls_there p wired [] = tt
-calls_there p wired (Is_trap ∷ ms) = tt
-calls_there p wired (Destroys x ∷ ms) = tt
-calls_there p wired (Unwinds code ∷ ms) = tt
-calls_there p wired (Ends d ∷ ms) = tt
+calls_there p wired _ = tt
 
 -- ---- the code arrives
 
@@ -364,31 +361,7 @@ module _ (p : Image) (m : Parts) (es : Held_items) (marked : m.entries ≡ recor
                 (subst (Agrees p (told p i code (record (with_tasks (Runs_frame g ∷ ms) m) { entries = es }))) (ap (λ js. record s { tasks = Run (next (code_told gv x code caller)) ∷ ts; items = below_top js }) items ∙ is) told_all)),
             ap (λ w. record t { lines = t.lines ++ Leave w ∷ [] }) same.0 ∙ ap (λ js. record t { lines = t.lines ++ arrival code js }) (sym items),
           )
-      go (Unwinds c ∷ Is_trap ∷ Runs_frame g ∷ ms) code [] held_tasks top unwinding trapped runs coded fits same values ks items e = absurd same.1
-      go (Unwinds c ∷ Is_trap ∷ Runs_frame g ∷ ms) code (Run f ∷ ts) held_tasks top unwinding trapped runs coded fits same values ks items e = absurd same.1.0
-      go (Unwinds c ∷ Is_trap ∷ Runs_frame g ∷ ms) code (Destroy ∷ ts) held_tasks top unwinding trapped runs coded fits same values ks items e = absurd same.1.0
-      go (Unwinds c ∷ Is_trap ∷ Runs_frame g ∷ ms) code (Unwind c' ∷ ts) held_tasks top unwinding trapped runs coded fits same values ks items e = absurd same.1.0
-      go (Unwinds c ∷ Is_trap ∷ Runs_frame g ∷ ms) code (Dispatched d ∷ ts) held_tasks top unwinding trapped runs coded fits same values ks items e = absurd same.1.0
-      go (Unwinds c ∷ Is_trap ∷ Runs_frame g ∷ ms) code (Trapped ∷ []) held_tasks top unwinding trapped runs coded fits same values ks items e = absurd same.1.1
-      go (Unwinds c ∷ Is_trap ∷ Runs_frame g ∷ ms) code (Trapped ∷ Trapped ∷ ts) held_tasks top unwinding trapped runs coded fits same values ks items e = absurd same.1.1.0
-      go (Unwinds c ∷ Is_trap ∷ Runs_frame g ∷ ms) code (Trapped ∷ Destroy ∷ ts) held_tasks top unwinding trapped runs coded fits same values ks items e = absurd same.1.1.0
-      go (Unwinds c ∷ Is_trap ∷ Runs_frame g ∷ ms) code (Trapped ∷ Unwind c' ∷ ts) held_tasks top unwinding trapped runs coded fits same values ks items e = absurd same.1.1.0
-      go (Unwinds c ∷ Is_trap ∷ Runs_frame g ∷ ms) code (Trapped ∷ Dispatched d ∷ ts) held_tasks top unwinding trapped runs coded fits same values ks items e = absurd same.1.1.0
-      go [] code below held_tasks top unwinding trapped runs coded fits same values ks items e = absurd unwinding
-      go (Runs_frame f ∷ us) code below held_tasks top unwinding trapped runs coded fits same values ks items e = absurd unwinding
-      go (Is_trap ∷ us) code below held_tasks top unwinding trapped runs coded fits same values ks items e = absurd unwinding
-      go (Destroys y ∷ us) code below held_tasks top unwinding trapped runs coded fits same values ks items e = absurd unwinding
-      go (Ends d ∷ us) code below held_tasks top unwinding trapped runs coded fits same values ks items e = absurd unwinding
-      go (Unwinds c ∷ []) code below held_tasks top unwinding trapped runs coded fits same values ks items e = absurd trapped
-      go (Unwinds c ∷ Runs_frame f ∷ us) code below held_tasks top unwinding trapped runs coded fits same values ks items e = absurd trapped
-      go (Unwinds c ∷ Destroys y ∷ us) code below held_tasks top unwinding trapped runs coded fits same values ks items e = absurd trapped
-      go (Unwinds c ∷ Unwinds d ∷ us) code below held_tasks top unwinding trapped runs coded fits same values ks items e = absurd trapped
-      go (Unwinds c ∷ Ends d ∷ us) code below held_tasks top unwinding trapped runs coded fits same values ks items e = absurd trapped
-      go (Unwinds c ∷ Is_trap ∷ []) code below held_tasks top unwinding trapped runs coded fits same values ks items e = absurd runs
-      go (Unwinds c ∷ Is_trap ∷ Is_trap ∷ us) code below held_tasks top unwinding trapped runs coded fits same values ks items e = absurd runs
-      go (Unwinds c ∷ Is_trap ∷ Destroys y ∷ us) code below held_tasks top unwinding trapped runs coded fits same values ks items e = absurd runs
-      go (Unwinds c ∷ Is_trap ∷ Unwinds d ∷ us) code below held_tasks top unwinding trapped runs coded fits same values ks items e = absurd runs
-      go (Unwinds c ∷ Is_trap ∷ Ends d ∷ us) code below held_tasks top unwinding trapped runs coded fits same values ks items e = absurd runs
+      go _ code _ held_tasks top unwinding trapped runs coded fits same values ks items e = absurd (assumption tt)
 
   pub arrives_end : IsUnwinding m.stack.tasks → IsTrapped (below_first m.stack.tasks) → IsEnding under
       → Unwinds_by p m (record (with_tasks (Ends (MainLeft (code_here m.stack.tasks)) ∷ below_first under) m) { entries = es }) t said
@@ -423,28 +396,4 @@ module _ (p : Image) (m : Parts) (es : Held_items) (marked : m.entries ≡ recor
             subst (λ us. Agrees p (record (with_tasks (Ends (MainLeft c) ∷ us) m) { entries = es }) u) (sym bare) (subst (Agrees p (record (with_tasks (Ends (MainLeft c) ∷ []) m) { entries = es })) (sym items_too ∙ is) end),
             ap (λ w. record t { lines = t.lines ++ Leave w ∷ [] }) same.0 ∙ ap (λ js. record t { lines = t.lines ++ arrival code js }) (sym items),
           )
-      go (Unwinds c ∷ Is_trap ∷ Ends y ∷ ms) code [] top unwinding trapped ending same ks items e = absurd same.1
-      go (Unwinds c ∷ Is_trap ∷ Ends y ∷ ms) code (Run f ∷ ts) top unwinding trapped ending same ks items e = absurd same.1.0
-      go (Unwinds c ∷ Is_trap ∷ Ends y ∷ ms) code (Destroy ∷ ts) top unwinding trapped ending same ks items e = absurd same.1.0
-      go (Unwinds c ∷ Is_trap ∷ Ends y ∷ ms) code (Unwind c' ∷ ts) top unwinding trapped ending same ks items e = absurd same.1.0
-      go (Unwinds c ∷ Is_trap ∷ Ends y ∷ ms) code (Dispatched d ∷ ts) top unwinding trapped ending same ks items e = absurd same.1.0
-      go (Unwinds c ∷ Is_trap ∷ Ends y ∷ ms) code (Trapped ∷ []) top unwinding trapped ending same ks items e = absurd same.1.1
-      go (Unwinds c ∷ Is_trap ∷ Ends y ∷ ms) code (Trapped ∷ Run f ∷ ts) top unwinding trapped ending same ks items e = absurd same.1.1.0
-      go (Unwinds c ∷ Is_trap ∷ Ends y ∷ ms) code (Trapped ∷ Trapped ∷ ts) top unwinding trapped ending same ks items e = absurd same.1.1.0
-      go (Unwinds c ∷ Is_trap ∷ Ends y ∷ ms) code (Trapped ∷ Destroy ∷ ts) top unwinding trapped ending same ks items e = absurd same.1.1.0
-      go (Unwinds c ∷ Is_trap ∷ Ends y ∷ ms) code (Trapped ∷ Unwind c' ∷ ts) top unwinding trapped ending same ks items e = absurd same.1.1.0
-      go [] code below top unwinding trapped ending same ks items e = absurd unwinding
-      go (Runs_frame f ∷ us) code below top unwinding trapped ending same ks items e = absurd unwinding
-      go (Is_trap ∷ us) code below top unwinding trapped ending same ks items e = absurd unwinding
-      go (Destroys y ∷ us) code below top unwinding trapped ending same ks items e = absurd unwinding
-      go (Ends d ∷ us) code below top unwinding trapped ending same ks items e = absurd unwinding
-      go (Unwinds c ∷ []) code below top unwinding trapped ending same ks items e = absurd trapped
-      go (Unwinds c ∷ Runs_frame f ∷ us) code below top unwinding trapped ending same ks items e = absurd trapped
-      go (Unwinds c ∷ Destroys y ∷ us) code below top unwinding trapped ending same ks items e = absurd trapped
-      go (Unwinds c ∷ Unwinds d ∷ us) code below top unwinding trapped ending same ks items e = absurd trapped
-      go (Unwinds c ∷ Ends d ∷ us) code below top unwinding trapped ending same ks items e = absurd trapped
-      go (Unwinds c ∷ Is_trap ∷ []) code below top unwinding trapped ending same ks items e = absurd ending
-      go (Unwinds c ∷ Is_trap ∷ Is_trap ∷ us) code below top unwinding trapped ending same ks items e = absurd ending
-      go (Unwinds c ∷ Is_trap ∷ Runs_frame f ∷ us) code below top unwinding trapped ending same ks items e = absurd ending
-      go (Unwinds c ∷ Is_trap ∷ Destroys y ∷ us) code below top unwinding trapped ending same ks items e = absurd ending
-      go (Unwinds c ∷ Is_trap ∷ Unwinds d ∷ us) code below top unwinding trapped ending same ks items e = absurd ending
+      go _ code _ top unwinding trapped ending same ks items e = absurd (assumption tt)

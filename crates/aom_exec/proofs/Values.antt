@@ -64,18 +64,11 @@ value_written f ms h es root d i x place deep small (Register e j) =
     go : (b : Bool) → cond b (cond (i == j) x (slice_index_or f.registers j null)) (register_in ms e j) ≡ cond (b && (i == j)) x (cond b (slice_index_or f.registers j null) (register_in ms e j))
     go true = refl
     go false = refl
-value_written f ms h es root d i x place deep small (Entry k) = refl
-value_written f ms h es root d i x place deep small (Field n g) = refl
-value_written f ms h es root d i x place deep small (Going k) = refl
-value_written f ms h es root d i x place deep small (Elsewhere o) = refl
+value_written f ms h es root d i x place deep small _ = refl
 
 -- counters and the method's place are no places of values
 pub value_counted : (f : Held_frame) (ms : List Held_task) (h : Heap) (es : List Item) (root : ℕ) (counters : List ℕ) (place : ℕ) (r : Place) → value_in (Runs_frame (record f { counters = counters; place = place }) ∷ ms) h es root r ≡ value_in (Runs_frame f ∷ ms) h es root r
-value_counted f ms h es root counters place (Register e j) = refl
-value_counted f ms h es root counters place (Entry k) = refl
-value_counted f ms h es root counters place (Field n g) = refl
-value_counted f ms h es root counters place (Going k) = refl
-value_counted f ms h es root counters place (Elsewhere o) = refl
+value_counted f ms h es root counters place _ = refl
 
 pub value_kept : (f : Held_frame) (ms : List Held_task) (h : Heap) (es : List Item) (root place : ℕ) (r : Place) → value_in (Runs_frame (record f { place = place }) ∷ ms) h es root r ≡ value_in (Runs_frame f ∷ ms) h es root r
 value_kept f ms h es root place r = value_counted f ms h es root f.counters place r
@@ -89,17 +82,10 @@ word_written fr ts i place w (Register d j) =
     go : (b : Bool) → cond b (cond (i == j) w (at None fr.words j)) (word_in ts d j) ≡ cond (b && (i == j)) w (cond b (at None fr.words j) (word_in ts d j))
     go true = refl
     go false = refl
-word_written fr ts i place w (Entry k) = refl
-word_written fr ts i place w (Field n g) = refl
-word_written fr ts i place w (Going k) = refl
-word_written fr ts i place w (Elsewhere o) = refl
+word_written fr ts i place w _ = refl
 
 pub word_counted : (fr : Frame) (ts : List Task) (counters : List ℕ) (place : ℕ) (r : Place) → word_at (Run (record fr { counters = counters; place = place }) ∷ ts) r ≡ word_at (Run fr ∷ ts) r
-word_counted fr ts counters place (Register d j) = refl
-word_counted fr ts counters place (Entry k) = refl
-word_counted fr ts counters place (Field n g) = refl
-word_counted fr ts counters place (Going k) = refl
-word_counted fr ts counters place (Elsewhere o) = refl
+word_counted fr ts counters place _ = refl
 
 pub word_next : (fr : Frame) (ts : List Task) (place : ℕ) (r : Place) → word_at (Run (record fr { place = place }) ∷ ts) r ≡ word_at (Run fr ∷ ts) r
 word_next fr ts place r = word_counted fr ts fr.counters place r
@@ -112,9 +98,7 @@ destroys_value us h es root n d deep (Going k) = ap (λ z. cond (z == k) n (goin
     same : (b : Bool) → cond b n (going_in us k) ≡ cond (b && true) n (going_in us k)
     same true = refl
     same false = refl
-destroys_value us h es root n d deep (Entry k) = refl
-destroys_value us h es root n d deep (Field k g) = refl
-destroys_value us h es root n d deep (Elsewhere o) = refl
+destroys_value us h es root n d deep _ = refl
 
 pub destroys_word : (us : List Task) (d : ℕ) (r : Place) → word_at (Destroy ∷ us) r ≡ changed (word_at us) (Going d) None r
 destroys_word us d (Register e i) = at_depth (length us) e None (word_in us e i) (λ k. word_past us e i (omega arith))
@@ -123,9 +107,7 @@ destroys_word us d (Going k) = same ((d == k) && true)
     same : (b : Bool) → ◌≡◌ {A = Option ℤ} None (cond b None None)
     same true = refl
     same false = refl
-destroys_word us d (Entry k) = refl
-destroys_word us d (Field k g) = refl
-destroys_word us d (Elsewhere o) = refl
+destroys_word us d _ = refl
 
 -- whatever a place has goes to another place, and null takes its place
 pub moves : (v v' : Place → ℕ) (w w' : Place → Option ℤ) (h h' : Place → Option Object) (p q : Place)

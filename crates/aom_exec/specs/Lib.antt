@@ -7,7 +7,6 @@ pub mod Acts
 pub mod Fields
 pub mod Calls
 pub mod Ranks
-pub mod Traps
 pub mod Steps
 pub mod WordMoves
 pub mod Boot

@@ -1,8 +1,8 @@
 -- Every move leads to a lower rank.
-use Rattle.std.proofs.Common.{◌≡◌, ◌<◌, ◌≤◌, ◌+◌, ◌*◌, ◌∙◌, ℕ, ℤ, suc, cond, Bool, true, false, List, [], ◌∷◌, length, Option, Some, None, slice_get, refl, sym, ap, arith, subst}
-use Rattle.std.specs.Prelude.{is_some}
+use Rattle.std.proofs.Common.{◌≡◌, ◌<◌, ◌≤◌, ◌+◌, ◌*◌, ◌∙◌, ℕ, ℤ, suc, Bool, true, false, List, [], ◌∷◌, length, Option, Some, None, slice_get, refl, sym, ap, arith, subst}
 use Rattle.aom_image.specs.Image.{Image}
-use Rattle.aom_image.specs.Views.{gives_of, instr_at, method_at}
+use Rattle.aom_image.specs.Views.{instr_at, method_at}
+use Rattle.aom_image.specs.declared.instr.Instr.{Instr}
 use Rattle.aom_image.specs.declared.instr.Instr.TheVariants.{Return}
 use Rattle.aom_image.specs.declared.method.Gives.{Gives}
 use Rattle.aom_image.specs.declared.method.Gives.TheVariants.{Nothing, Word as A_word, Own as An_own, Maybe as A_maybe, Left}
@@ -10,23 +10,28 @@ use Rattle.aom_image.specs.declared.method.Method.{Method as Method_declared}
 use Rattle.aom_classes.specs.Linked.{IsLinked}
 use Rattle.aom_classes.specs.Loops.{loop_in}
 use Rattle.aom_classes.proofs.Facts.{of_method}
+use Rattle.aom_shape.specs.Needs.{AllTrue}
+use Rattle.aom_shape.specs.Rules.{rule_needs}
 use Rattle.aom_shape.specs.Shape.{Shape}
 use Rattle.aom_shape.specs.Typing.{IsTyped, Typing}
 use Rattle.aom_sound.specs.Calls.{below_top, called, result_cells, result_register, returned}
-use Rattle.aom_sound.specs.Cleanup.{arrived, code_told, destroyed, ended_by, unwound}
+use Rattle.aom_sound.specs.Cleanup.{code_told, ended_by, operation_frame}
+use Rattle.aom_sound.specs.Effects.{Effect, applied}
+use Rattle.aom_sound.specs.Steps.{Acts, Arrives, Clears, Comes_out, Ends, Fits, IsStill, Move, Rests, Undoes, Vanishes}
+use Rattle.aom_sound.proofs.Moving.{steps_are_moves}
 use Rattle.aom_sound.specs.Claims.{Dispatching, Dying, Layer, Mark, Method, Unwinding, tasks_of}
-use Rattle.aom_sound.specs.Destruction.{gone, owns_nothing}
+use Rattle.aom_sound.specs.Destruction.{begun}
 use Rattle.aom_sound.proofs.Steps.{step_keeps}
 use Rattle.aom_sound.specs.Laws.{IsWired}
 use Rattle.aom_ranks.specs.Laws.{Moves, no_move, one_move}
 use Rattle.aom_sound.specs.WellTyped.{Keeps}
-use Rattle.aom_sound.specs.Moves.{counted, dispatch_ends, main_ends, step, step_instr, step_task}
+use Rattle.aom_sound.specs.Moves.{counted, dispatch_ends, main_ends, step}
 use Rattle.aom_sound.specs.Places.{Elsewhere, Entry, Going, Object, Root, held, moved, without}
-use Rattle.aom_sound.specs.State.{An_object, An_operation, A_mark, Choice, Destroy, Dispatch, Dispatched, Frame, Goes, IsStuck, Item, Main_left, NullOrDead, Of_main, Of_root, Orphan, Outcome, Run, State, Task, Trapped, Unwind, next, resumed}
+use Rattle.aom_sound.specs.State.{An_object, An_operation, A_mark, Choice, Destroy, Dispatch, Dispatched, Frame, Goes, Item, Main_left, Of_main, Of_root, Outcome, Run, State, Task, Trapped, Unwind, next, resumed}
 use Rattle.aom_sound.specs.WellTyped.{AllUndo, Caught, Good, Now, Returns, Stack, WellTyped}
 use Rattle.aom_sound.specs.World.{IsBusy}
 use Rattle.aom_ranks.specs.Ranks.{cell_rank, end_rank, frame_rank, operations, rank, standing, tasks_rank, waiting_rank}
-use Rattle.aom_ranks.proofs.Falling.{Falls, falls, guarded_falls, paid, received_alike, straight}
+use Rattle.aom_ranks.proofs.Falling.{falls, paid, received_alike, straight}
 use Rattle.aom_ranks.proofs.Levels.{begun_paid, price_some, undo_paid}
 use Rattle.aom_ranks.proofs.Standing.{operations_below, standing_goes, standing_result, standing_without}
 use Rattle.aom_ranks.proofs.Sums.{one_less, scaled_le}
@@ -74,15 +79,33 @@ returns p t s fr sh (Mark gv ∷ Dispatching w ∷ ls) h some g a =
     let cells = scaled_le (standing s.cells + operations (below_top s.items)) (standing s.cells + operations s.items) (cell_rank p) (omega (arith, operations_below s.items)) in
     omega (arith, some, cells)
 
--- ---- every task
+-- ---- every move
 
-module _ (p : Image) (t : Typing) (linked : IsLinked p) (typed : IsTyped p t) (c : Choice) (s : State) (undos : AllUndo p s.items) where
-  of_method_at : (fr : Frame) (sh : Shape) (ls : List Layer) → s.tasks ≡ Run fr ∷ tasks_of ls → Good p t s.cells (Method fr sh ∷ ls) → Falls p (tasks_rank p (Run fr ∷ tasks_of ls) + (standing s.cells + operations s.items) * cell_rank p) (step_instr p c fr (tasks_of ls) s (instr_at p fr.method fr.place))
-  of_method_at fr sh ls top good =
+module _ (p : Image) (t : Typing) (linked : IsLinked p) (typed : IsTyped p t) (c : Choice) (s : State) (w : WellTyped p t s) where
+  -- with these tasks
+  abbrev total : List Task → ℕ
+  total ts = tasks_rank p ts + (standing s.cells + operations s.items) * cell_rank p
+
+  abbrev ActsLower : Frame → List Task → Type 0
+  ActsLower fr ts = (i : Instr) (e : Effect) → instr_at p fr.method fr.place ≡ Some i → Fits p c fr ts (counted p s) i e → rank p (applied p fr ts (counted p s) e) < total (Run fr ∷ ts)
+
+  acts_there : (fr : Frame) (sh : Shape) (ls : List Layer) → Good p t s.cells (Method fr sh ∷ ls) → ActsLower fr (tasks_of ls)
+  acts_there fr sh ls good i e there fits =
       let x = typed.each fr.method fr.place sh good.stack.0 in
-      let w = of_method p fr.method fr.place x.instr x.stands in
-      let go = falls p linked c s fr (tasks_of ls) w.0 w.1 top undos x.instr sh w.2 x.needs (λ a stands. returns p t s fr sh ls good.stack (ends p linked c s fr (tasks_of ls) w.0 w.1 a stands) (gives_of p fr.method) a) in
-      subst (λ i. Falls p (tasks_rank p (Run fr ∷ tasks_of ls) + (standing s.cells + operations s.items) * cell_rank p) (step_instr p c fr (tasks_of ls) s i)) (sym x.stands) go
+      let m = of_method p fr.method fr.place i there in
+      let is : x.instr ≡ i = some_same x.instr i (sym x.stands ∙ there) in
+      falls p linked c (counted p s) fr (tasks_of ls) m.0 m.1 sh w.undos i m.2 (subst (λ j. AllTrue (rule_needs p fr.method fr.place sh j)) is x.needs) e fits
+      (λ g a stands. returns p t (counted p s) fr sh ls good.stack (ends p linked c (counted p s) fr (tasks_of ls) m.0 m.1 a stands) g a)
+    where
+      some_same : (x y : Instr) → Some x ≡ Some y → x ≡ y
+      some_same x y e = cc
+
+  acts : (ls : List Layer) → Good p t s.cells ls → (fr : Frame) (ts : List Task) → tasks_of ls ≡ Run fr ∷ ts → ActsLower fr ts
+  acts (Method fr' sh ∷ ls) good fr ts at =
+      let same : fr' ≡ fr = cc in
+      let below : tasks_of ls ≡ ts = cc in
+      subst (λ f. ActsLower f ts) same (subst (λ l. ActsLower fr' l) below (acts_there fr' sh ls good))
+  acts _ good fr ts at = cc
 
   resumed_alike : (ts : List Task) → tasks_rank p (resumed ts) ≡ waiting_rank p ts
   resumed_alike [] = refl
@@ -92,14 +115,14 @@ module _ (p : Image) (t : Typing) (linked : IsLinked p) (typed : IsTyped p t) (c
   resumed_alike (Unwind code ∷ ts) = refl
   resumed_alike (Dispatched d ∷ ts) = refl
 
-  of_going : (ts : List Task) (o : Option Object) → Falls p (tasks_rank p (Destroy ∷ ts) + (standing s.cells + operations s.items) * cell_rank p) (gone o ts s)
-  of_going ts None = tt
-  of_going ts (Some o) =
+  -- a cell goes
+  vanishes : (ts : List Task) → rank p (record (counted p s) { cells = without (Going (length ts)) s.cells; tasks = resumed ts }) < total (Destroy ∷ ts)
+  vanishes ts =
       let fewer = standing_without (Going (length ts)) s.cells in
       let cells = scaled_le (standing (without (Going (length ts)) s.cells) + operations s.items) (standing s.cells + operations s.items) (cell_rank p) (omega (arith, fewer)) in
-      guarded_falls p _ ((owns_nothing s.cells o.name, Orphan) ∷ []) (record s { cells = without (Going (length ts)) s.cells; tasks = resumed ts }) (omega (arith, resumed_alike ts, cells))
+      omega (arith, resumed_alike ts, cells)
 
-  of_main : (ts : List Task) (b : Bool) (o : Option Object) → held s.cells (Elsewhere Root) ≡ o → rank p (main_ends p b o s) < tasks_rank p (Dispatched Of_main ∷ ts) + (standing s.cells + operations s.items) * cell_rank p
+  of_main : (ts : List Task) (b : Bool) (o : Option Object) → held s.cells (Elsewhere Root) ≡ o → rank p (main_ends p b o (counted p s)) < total (Dispatched Of_main ∷ ts)
   of_main ts true (Some o) there =
       let destruction = begun_paid p linked o (length s.items) (Dispatched Of_root ∷ []) in
       let goes = standing_goes (Elsewhere Root) (length (Dispatched Of_root ∷ [])) o s.cells refl there in
@@ -108,7 +131,7 @@ module _ (p : Image) (t : Typing) (linked : IsLinked p) (typed : IsTyped p t) (c
   of_main ts true None there = omega arith
   of_main ts false o there = omega arith
 
-  of_dispatch : (ts : List Task) (d : Dispatch) → rank p (dispatch_ends p d s) < tasks_rank p (Dispatched d ∷ ts) + (standing s.cells + operations s.items) * cell_rank p
+  of_dispatch : (ts : List Task) (d : Dispatch) → rank p (dispatch_ends p d (counted p s)) < total (Dispatched d ∷ ts)
   of_dispatch ts Of_main = of_main ts s.rest.stopped (held s.cells (Elsewhere Root)) refl
   of_dispatch ts (Main_left code) = omega arith
   of_dispatch ts Of_root = omega arith
@@ -126,56 +149,51 @@ module _ (p : Image) (t : Typing) (linked : IsLinked p) (typed : IsTyped p t) (c
   ended_alike code (Main_left n) = omega arith
   ended_alike code Of_root = omega arith
 
-  arrives : (code : ℤ) (ts : List Task) (items : List Item) → s.items ≡ A_mark ∷ items → Falls p (tasks_rank p (Unwind code ∷ ts) + (standing s.cells + operations s.items) * cell_rank p) (arrived p code ts items s)
-  arrives code [] items e = tt
-  arrives code (Run fr ∷ ts) items e = tt
-  arrives code (Trapped ∷ []) items e = tt
-  arrives code (Trapped ∷ Run fr ∷ ts) items e =
-      let i = instr_at p fr.method fr.place in
-      let same : operations s.items ≡ operations items = ap operations e in
-      omega (arith, told_alike (called p i) (result_register i) code fr, scaled_le (standing s.cells + operations items) (standing s.cells + operations s.items) (cell_rank p) (omega (arith, same)))
-  arrives code (Trapped ∷ Trapped ∷ ts) items e = tt
-  arrives code (Trapped ∷ Destroy ∷ ts) items e = tt
-  arrives code (Trapped ∷ Unwind n ∷ ts) items e = tt
-  arrives code (Trapped ∷ Dispatched d ∷ ts) items e =
-      let same : operations s.items ≡ operations items = ap operations e in
-      omega (arith, ended_alike code d, scaled_le (standing s.cells + operations items) (standing s.cells + operations s.items) (cell_rank p) (omega (arith, same)))
-  arrives code (Destroy ∷ ts) items e = tt
-  arrives code (Unwind n ∷ ts) items e = tt
-  arrives code (Dispatched d ∷ ts) items e = tt
+  -- the mark is no operation
+  unmarked : (items : List Item) → s.items ≡ A_mark ∷ items → (standing s.cells + operations items) * cell_rank p ≤ (standing s.cells + operations s.items) * cell_rank p
+  unmarked items e = let same : operations s.items ≡ operations items = ap operations e in scaled_le (standing s.cells + operations items) (standing s.cells + operations s.items) (cell_rank p) (omega (arith, same))
 
-  of_unwinding : (code : ℤ) (ts : List Task) (items : List Item) → s.items ≡ items → AllUndo p items → Falls p (tasks_rank p (Unwind code ∷ ts) + (standing s.cells + operations s.items) * cell_rank p) (unwound p code ts s items)
-  of_unwinding code ts [] e u = tt
-  of_unwinding code ts (An_object ∷ items) e u = of_object (held s.cells (Entry (length items))) refl
-    where
-      of_object : (o : Option Object) → held s.cells (Entry (length items)) ≡ o → Falls p (tasks_rank p (Unwind code ∷ ts) + (standing s.cells + operations s.items) * cell_rank p) (cond (is_some o) (Goes (destroyed p o items (Unwind code ∷ ts) s)) (IsStuck NullOrDead))
-      of_object None there = tt
-      of_object (Some o) there =
-          let destruction = begun_paid p linked o (length items) (Unwind code ∷ ts) in
-          let goes = standing_goes (Entry (length items)) (length (Unwind code ∷ ts)) o s.cells refl there in
-          let same : operations s.items ≡ operations items = ap operations e in
-          let cells = one_less (standing (moved (Entry (length items)) (Going (length (Unwind code ∷ ts))) s.cells) + operations items) (standing s.cells + operations s.items) (cell_rank p) (omega (arith, goes, same)) in
-          omega (arith, destruction, cells)
-  of_unwinding code ts (An_operation m w ∷ items) e u =
-      let run = undo_paid p m u.0 in
+  -- a leave deals with an item
+  clears : (code : ℤ) (ts : List Task) (items : List Item) (o : Object) → s.items ≡ An_object ∷ items → held s.cells (Entry (length items)) ≡ Some o →
+      rank p (record (counted p s) { cells = moved (Entry (length items)) (Going (length (Unwind code ∷ ts))) s.cells; tasks = begun p o (length items) (Unwind code ∷ ts); items = items }) < total (Unwind code ∷ ts)
+  clears code ts items o e there =
+      let destruction = begun_paid p linked o (length items) (Unwind code ∷ ts) in
+      let goes = standing_goes (Entry (length items)) (length (Unwind code ∷ ts)) o s.cells refl there in
+      let same : operations s.items ≡ operations items = ap operations e in
+      let cells = one_less (standing (moved (Entry (length items)) (Going (length (Unwind code ∷ ts))) s.cells) + operations items) (standing s.cells + operations s.items) (cell_rank p) (omega (arith, goes, same)) in
+      omega (arith, destruction, cells)
+
+  undoes : (code : ℤ) (ts : List Task) (items : List Item) (m : ℕ) (x : ℤ) → s.items ≡ An_operation m x ∷ items → rank p (record (counted p s) { tasks = Run (operation_frame m x (length items)) ∷ Unwind code ∷ ts; items = items }) < total (Unwind code ∷ ts)
+  undoes code ts items m x e =
+      let run = undo_paid p m (subst (λ is. AllUndo p is) e w.undos).0 in
       let same : operations s.items ≡ suc (operations items) = ap operations e in
       let cells = one_less (standing s.cells + operations items) (standing s.cells + operations s.items) (cell_rank p) (omega (arith, same)) in
       omega (arith, run, cells)
-  of_unwinding code ts (A_mark ∷ items) e u = arrives code ts items e
 
-  by_layers : (ls : List Layer) → s.tasks ≡ tasks_of ls → Good p t s.cells ls → (task : Task) (tasks : List Task) → tasks_of ls ≡ task ∷ tasks → Falls p (tasks_rank p (tasks_of ls) + (standing s.cells + operations s.items) * cell_rank p) (step_task p c s (tasks_of ls))
-  by_layers [] top good task tasks e = cc
-  by_layers (Method fr sh ∷ ls) top good task tasks e = of_method_at fr sh ls top good
-  by_layers (Mark gv ∷ ls) top good task tasks e = absurd good.stack.0
-  by_layers (Unwinding code es ∷ ls) top good task tasks e = of_unwinding code (tasks_of ls) s.items refl undos
-  by_layers (Dying o ∷ ls) top good task tasks e = of_going (tasks_of ls) (held s.cells (Going (length (tasks_of ls))))
-  by_layers (Dispatching d ∷ ls) top good task tasks e = of_dispatch (tasks_of ls) d
+  -- what a move leads to, by what was at hand
+  by : (ts : List Task) (u v : State) → s.tasks ≡ ts → u ≡ v → rank p v < total ts → rank p u < rank p s
+  by ts u v at same lower = subst (λ x. rank p x < rank p s) (sym same) (subst (λ l. rank p v < total l) (sym at) lower)
+
+  -- something that moves is at hand
+  not_still : (ls : List Layer) → Good p t s.cells ls → (task : Task) (tasks : List Task) → tasks_of ls ≡ task ∷ tasks → IsStill (tasks_of ls) → ⊥
+  not_still [] good task tasks e still = cc
+  not_still (Mark gv ∷ ls) good task tasks e still = good.stack.0
+  not_still _ good task tasks e still = still
+
+  lowers : IsBusy s → (u : State) → Move p c s u → rank p u < rank p s
+  lowers busy u (Rests still same) = absurd (not_still w.layers w.good busy.0 busy.1 (sym w.tasks ∙ busy.2) (subst IsStill w.tasks still))
+  lowers busy u (Acts fr ts i e at there met fits same) = by (Run fr ∷ ts) u _ at same (acts w.layers w.good fr ts (sym w.tasks ∙ at) i e there fits)
+  lowers busy u (Vanishes ts o at there owns same) = by (Destroy ∷ ts) u _ at same (vanishes ts)
+  lowers busy u (Clears code ts items o at top there same) = by (Unwind code ∷ ts) u _ at same (clears code ts items o top there)
+  lowers busy u (Undoes code ts items m x at top same) = by (Unwind code ∷ ts) u _ at same (undoes code ts items m x top)
+  lowers busy u (Arrives code fr ts items at top same) =
+      let i = instr_at p fr.method fr.place in
+      by (Unwind code ∷ Trapped ∷ Run fr ∷ ts) u _ at same (omega (arith, told_alike (called p i) (result_register i) code fr, unmarked items top))
+  lowers busy u (Comes_out code d ts items at top same) = by (Unwind code ∷ Trapped ∷ Dispatched d ∷ ts) u _ at same (omega (arith, ended_alike code d, unmarked items top))
+  lowers busy u (Ends d ts at same) = by (Dispatched d ∷ ts) u _ at same (of_dispatch ts d)
 
 pub moves_lower_ranks : (p : Image) (t : Typing) → IsLinked p → IsTyped p t → (c : Choice) (s u : State) → WellTyped p t s → IsBusy s → step p c s ≡ Goes u → rank p u < rank p s
-moves_lower_ranks p t linked typed c s u w busy moves =
-    let go = by_layers p t linked typed c (counted p s) w.undos w.layers w.tasks w.good busy.0 busy.1 (sym w.tasks ∙ busy.2) in
-    let there : Falls p (rank p s) (step p c s) = subst (λ ts. Falls p (tasks_rank p ts + (standing s.cells + operations s.items) * cell_rank p) (step_task p c (counted p s) ts)) (sym w.tasks) go in
-    subst (λ o. Falls p (rank p s) o) moves there
+moves_lower_ranks p t linked typed c s u w busy e = lowers p t linked typed c s w busy u (steps_are_moves p c s u e)
 
 -- a move that goes on keeps the typing
 keeps_on : (p : Image) (t : Typing) (u : State) (o : Outcome) → o ≡ Goes u → Keeps p t o → WellTyped p t u

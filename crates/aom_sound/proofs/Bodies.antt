@@ -19,19 +19,17 @@ use Rattle.aom_sound.specs.Loops.{Body, IsIn, IsLooped}
 -- a loop of that number begins there
 loop_there : (o : Option Instr) (d : ℕ) → loop_in o ≡ Some d → (n : ℕ) × (o ≡ Some (Loop d n))
 unfolding loop_in
-loop_there None d e = cc
 loop_there (Some (Loop k n)) d e = let same : k ≡ d = cc in (n, ap (λ x. Some (Loop x n)) same)
-loop_there (Some _) d e = cc
+loop_there _ d e = cc
 
 next_there : (o : Option Instr) (d t : ℕ) → next_in o ≡ Some (record { number = d; back = t }) → o ≡ Some (Next d t)
 unfolding next_in
-next_there None d t e = cc
 next_there (Some (Next k u)) d t e =
     let one = same_ending (record { number = k; back = u }) (record { number = d; back = t }) e in
     let number : k ≡ d = ap (λ (x : Ending). x.number) one in
     let back : u ≡ t = ap (λ (x : Ending). x.back) one in
     cc
-next_there (Some _) d t e = cc
+next_there _ d t e = cc
 
 -- the bodies of a method that is there
 module _ (p : Image) (formed : WellFormed p) (linked : IsLinked p) (m : ℕ) (k : Method) (here : method_at p m ≡ Some k) where

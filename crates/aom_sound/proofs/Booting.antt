@@ -29,10 +29,8 @@ begins m = frame_of m AtRoot 1
 
 -- main's root is null as it begins
 root_null : (p : Image) (h : Place → Option Object) (x : Option Thing) (y z : Filling) → WeakerFilling y z → is_empty z ≡ true → Fits p h None (filled x y)
-root_null p h None y z w e = tt
-root_null p h (Some x) Empty z w e = tt
-root_null p h (Some x) Perhaps z w e = tt
 root_null p h (Some x) Full z alike_filling e = cc
+root_null p h _ _ z w e = tt
 
 module _ (p : Image) (m : ℕ) (after : Shape) (w : SaysNoMore after (entry_shape p m)) (role : method_role p m ≡ Some Main) (arguments : arguments_of p m ≡ []) where
   unset : (i : ℕ) → register after i ≡ Unset

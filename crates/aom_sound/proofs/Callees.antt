@@ -81,17 +81,8 @@ holder_called r c (inl e) = ap (λ x. holder_by x (Some c)) e
 holder_called r c (inr e) = ap (λ x. holder_by x (Some c)) e
 
 pub holder_member : (r : Option Role) (c : ℕ) → (r ≡ Some Main → ⊥) → holder_by r (Some c) ≡ Member c
-holder_member None c no_main = refl
-holder_member (Some Do) c no_main = refl
 holder_member (Some Main) c no_main = absurd (no_main refl)
-holder_member (Some Construct) c no_main = refl
-holder_member (Some Destruct) c no_main = refl
-holder_member (Some Runs) c no_main = refl
-holder_member (Some Cancel) c no_main = refl
-holder_member (Some Error) c no_main = refl
-holder_member (Some Accept) c no_main = refl
-holder_member (Some Service) c no_main = refl
-holder_member (Some Undo) c no_main = refl
+holder_member _ c no_main = refl
 
 pub home_member : (h : Home) (c : ℕ) → home_holder h ≡ Member c → (o : Object) × (from : Place) × (h ≡ Inside o from) × (thing_holder o.thing ≡ Member c)
 home_member Static c e = cc
@@ -99,11 +90,8 @@ home_member AtRoot c e = cc
 home_member (Inside o from) c e = (o, from, refl, e)
 
 pub own_for : (p : Image) (t : Thing) (k : Kind) → is_own_for p t k ≡ true → (x : Thing) × (a : Age) × (k ≡ Own x a) × (stands_for p x t ≡ true)
-own_for p t Unset e = cc
-own_for p t Word e = cc
-own_for p t Null e = cc
 own_for p t (Own x a) e = (x, a, refl, e)
-own_for p t (Maybe x a) e = cc
+own_for p t _ e = cc
 
 pub held_own : (p : Image) (h : Place → Option Object) (o : Option Object) (x : Thing) (a : Age) → Fits p h o (Own x a) → (y : Object) × (o ≡ Some y) × (stands_for p y.thing x ≡ true)
 held_own p h None x a f = absurd f
@@ -117,10 +105,8 @@ filled_ready (Some x) Perhaps = refl
 
 -- a field of a fresh object
 pub fits_fresh : (p : Image) (h : Place → Option Object) (x : Option Thing) (n f : ℕ) → Fits p h None (filled x (at Perhaps (replicate n Empty) f))
-fits_fresh p h None n f = tt
-fits_fresh p h (Some x) zero f = tt
-fits_fresh p h (Some x) (suc n) zero = tt
 fits_fresh p h (Some x) (suc n) (suc f) = fits_fresh p h (Some x) n f
+fits_fresh p h _ _ _ = tt
 
 -- what is no argument stays where it is
 module _ (p : Image) (s : State) (fr : Frame) (ls : List Layer) (depth : ℕ) (deep : length (tasks_of ls) < depth) where

@@ -571,17 +571,13 @@ module _ (p : Image) (t : Typing) (wired : IsWired p) (typed : IsTyped p t) (c :
 
     result_met : (g : Gives) (x : ℕ) → awaits g (register after_arguments x) ≡ true → AllTrue (needs_result p fr (tasks_of ls) s g cs x)
     result_met Nothing x a = tt
-    result_met A_word x a = (result_free x a, tt)
-    result_met (An_own y) x a = (result_free x a, tt)
-    result_met (A_maybe y) x a = (result_free x a, tt)
     result_met (Left y) x a = tt
+    result_met _ x a = (result_free x a, tt)
 
     awaited : (g : Gives) (x : ℕ) (sh' : Shape) → ((i : ℕ) → is_unowning (register sh' i) ≡ is_unowning (register after_arguments i)) → awaits g (register after_arguments x) ≡ true → Awaits g x sh'
     awaited Nothing x sh' same a = tt
-    awaited A_word x sh' same a = same x ∙ a
-    awaited (An_own y) x sh' same a = same x ∙ a
-    awaited (A_maybe y) x sh' same a = same x ∙ a
     awaited (Left y) x sh' same a = tt
+    awaited _ x sh' same a = same x ∙ a
 
 module _ (p : Image) (t : Typing) (wired : IsWired p) (typed : IsTyped p t) (c : Choice) (s : State) (fr : Frame) (sh : Shape) (ls : List Layer) (at_hand : At p t s fr sh ls) where
   pub law_call : (target : Target) (m first x : ℕ) → instr_at p fr.method fr.place ≡ Some (Call target m first x) → Law p t c s fr sh ls at_hand (Call target m first x)
@@ -617,11 +613,9 @@ module _ (p : Image) (t : Typing) (wired : IsWired p) (typed : IsTyped p t) (c :
 
 -- over a trap's mark
 below_mark : (from : Place) (gv : Gives) (ls : List Layer) → IsBelow from ls → IsBelow from (Mark gv ∷ ls)
-below_mark (Register f i) gv ls b = omega arith
-below_mark (Entry k) gv ls b = omega arith
 below_mark (Field n f) gv ls b = b
 below_mark (Elsewhere w) gv ls b = tt
-below_mark (Going k) gv ls b = omega arith
+below_mark _ gv ls b = omega arith
 
 housed_mark : (p : Image) (cs : List Cell) (home : Home) (gv : Gives) (ls : List Layer) → IsHoused p cs ls home → IsHoused p cs (Mark gv ∷ ls) home
 housed_mark p cs Static gv ls h = h

@@ -18,9 +18,8 @@ use Rattle.aom_shape.specs.declared.kind.Kind.TheVariants.{Null}
 use Rattle.aom_sound.proofs.Claimed.{claim_entry_above, claim_going_above}
 use Rattle.aom_sound.proofs.Clearing.{begins_over}
 use Rattle.aom_sound.proofs.Items.{length_forms}
-use Rattle.aom_sound.proofs.Looping.{goes_same, guarded_goes}
+use Rattle.aom_sound.proofs.Guarded.{goes_same, guarded_goes, guarded_met}
 use Rattle.aom_sound.proofs.Maps.{at-put_at, held_moved, same_place-true, same_place_refl}
-use Rattle.aom_sound.proofs.Quiet.{guarded_met}
 use Rattle.aom_sound.proofs.Straight.{claim_register, fits_unowning}
 use Rattle.aom_sound.specs.Calls.{called, result_register}
 use Rattle.aom_sound.specs.Claims.{Dispatching, Dying, Form, Layer, Mark, Mark_form, Method, Unwinding, declared, entry_form, forms, items_of, objects, tasks_of}
@@ -30,7 +29,7 @@ use Rattle.aom_sound.specs.Laws.{IsWired}
 use Rattle.aom_sound.specs.Leaves.{AreEntries, AreMethods, Arrives, ArrivesAt, Begins, HasMoved, HasNoResult, HasPushed, Hears, IsBegun, IsDestroyed, IsLeaving, IsOver, LeavesWith}
 use Rattle.aom_sound.specs.Moves.{announcement, counted, does, main_left, needs, step, step_instr, step_task, written_task}
 use Rattle.aom_sound.specs.Places.{Cell, Entry, Going, Object, Register, held, moved, named, same_place, Place}
-use Rattle.aom_sound.specs.State.{A_mark, An_object, An_operation, Choice, Destroy, Dispatch, Dispatched, Frame, Goes, Inside, IsStuck, Item, Main_left, NullOrDead, Of_main, Of_root, Run, State, Task, Trapped, Unwind, frame_of, next, set_word, word}
+use Rattle.aom_sound.specs.State.{A_mark, An_object, An_operation, Choice, Dispatch, Dispatched, Frame, Goes, Inside, IsStuck, Item, Main_left, NullOrDead, Of_main, Of_root, Run, State, Task, Trapped, Unwind, frame_of, next, set_word, word}
 use Rattle.aom_sound.specs.WellTyped.{AllUndo, Awaits, EndsDispatch, Fits, Good, Keeps, Leaves, Now, Stack, WellTyped}
 use Rattle.aom_sound.specs.Words.{go_on, word_or_zero}
 use Rattle.aom_shape.specs.Needs.{AllTrue}
@@ -45,11 +44,7 @@ no_mark Pushed_operation e = cc
 
 -- the items of some entries over a mark
 split : (es : List Pushed) (fs : List Form) (all : List Item) → forms all ≡ objects es (Mark_form ∷ fs) → (entries : List Item) × (items : List Item) × (all ≡ entries ++ (A_mark ∷ items)) × AreEntries entries
-split [] fs [] e = cc
-split [] fs (An_object ∷ all) e = cc
-split [] fs (An_operation m w ∷ all) e = cc
 split [] fs (A_mark ∷ all) e = ([], all, refl, tt)
-split (x ∷ es) fs [] e = cc
 split (x ∷ es) fs (An_object ∷ all) e =
     let same : forms all ≡ objects es (Mark_form ∷ fs) = cc in
     let r = split es fs all same in
@@ -59,6 +54,7 @@ split (x ∷ es) fs (An_operation m w ∷ all) e =
     let r = split es fs all same in
     (An_operation m w ∷ r.0, r.1, ap (λ l. An_operation m w ∷ l) r.2, r.3)
 split (x ∷ es) fs (A_mark ∷ all) e = no_mark x cc
+split _ fs _ e = cc
 
 no_dispatch : {A : Type 0} (p : Image) (d : Dispatch) → EndsDispatch p d Leaves → A
 no_dispatch p Of_main e = absurd e
@@ -80,12 +76,8 @@ splits p t s w code below at =
     under es (Dispatching d ∷ ls) f stack = no_dispatch p d stack.0
 
     go : (ls : List Layer) → Unwind code ∷ below ≡ tasks_of ls → forms s.items ≡ items_of ls → Stack p t s.cells Now ls → (entries : List Item) × (items : List Item) × (s.items ≡ entries ++ (A_mark ∷ items)) × AreEntries entries
-    go [] e f stack = cc
-    go (Method fr sh ∷ ls) e f stack = cc
-    go (Mark gv ∷ ls) e f stack = cc
-    go (Dying o ∷ ls) e f stack = cc
     go (Unwinding x es ∷ ls) e f stack = under es ls f stack.1
-    go (Dispatching d ∷ ls) e f stack = cc
+    go _ e f stack = cc
 
 -- ---- the beginning
 
@@ -121,12 +113,9 @@ pub record Trapping (ts : List Task) : Type 0 where
   pub lands : to_trap ts ≡ Trapped ∷ below
 
 trapping : (ts : List Task) → has_trap ts ≡ true → Trapping ts
-trapping [] e = cc
 trapping (Run fr ∷ ts) e = let r = trapping ts e in record { methods = Run fr ∷ r.methods; below = r.below; all = ap (λ l. Run fr ∷ l) r.all; over = r.over; lands = r.lands }
 trapping (Trapped ∷ ts) e = record { methods = []; below = ts; all = refl; over = tt; lands = refl }
-trapping (Destroy ∷ ts) e = cc
-trapping (Unwind code ∷ ts) e = cc
-trapping (Dispatched d ∷ ts) e = cc
+trapping _ e = cc
 
 is_there : {A : Type 0} (x : Option A) → is_some x ≡ true → (y : A) × (x ≡ Some y)
 is_there None e = cc
@@ -323,12 +312,9 @@ module _ (p : Image) (t : Typing) (s u : State) (code : ℤ) (items : List Item)
   below_trap : (ls : List Layer) (gv : Gives) (es : List Pushed) → Good p t s.cells (Unwinding code es ∷ Mark gv ∷ ls) → arrived p code (Trapped ∷ tasks_of ls) items (counted p s) ≡ Goes u → Arrived (Trapped ∷ tasks_of ls) u
   below_trap [] gv es good e = cc
   below_trap (Method fr sh ∷ ls) gv es good e = subst (λ v. Arrived (Trapped ∷ Run fr ∷ tasks_of ls) v) (goes_same _ u e) (at_method fr sh ls gv es good)
-  below_trap (Mark gv' ∷ ls) gv es good e = absurd good.stack.1.1.0
   below_trap (Dying o ∷ ls) gv es good e = absurd good.stack.1.1.1
-  below_trap (Unwinding x fs ∷ ls) gv es good e = absurd good.stack.1.1.0
   below_trap (Dispatching Of_main ∷ ls) gv es good e = subst (λ v. Arrived (Trapped ∷ Dispatched Of_main ∷ tasks_of ls) v) (goes_same _ u e) (refl, refl, refl)
-  below_trap (Dispatching (Main_left x) ∷ ls) gv es good e = absurd good.stack.1.1.0
-  below_trap (Dispatching Of_root ∷ ls) gv es good e = absurd good.stack.1.1.0
+  below_trap _ gv es good e = absurd good.stack.1.1.0
 
   below_leave : (ls : List Layer) (es : List Pushed) → Good p t s.cells (Unwinding code es ∷ ls) → arrived p code (tasks_of ls) items (counted p s) ≡ Goes u → Arrived (tasks_of ls) u
   below_leave [] es good e = cc
@@ -339,15 +325,11 @@ module _ (p : Image) (t : Typing) (s u : State) (code : ℤ) (items : List Item)
   below_leave (Dispatching d ∷ ls) es good e = no_dispatch p d good.stack.1.0
 
   by_layers : (below : List Task) (ls : List Layer) → tasks_of ls ≡ Unwind code ∷ below → Good p t s.cells ls → arrived p code below items (counted p s) ≡ Goes u → Arrived below u
-  by_layers below [] at good e = cc
-  by_layers below (Method fr sh ∷ ls) at good e = cc
-  by_layers below (Mark gv ∷ ls) at good e = cc
-  by_layers below (Dying o ∷ ls) at good e = cc
   by_layers below (Unwinding x es ∷ ls) at good e =
       let same : tasks_of ls ≡ below = cc in
       let equal : x ≡ code = cc in
       subst (λ b. Arrived b u) same (below_leave ls es (subst (λ y. Good p t s.cells (Unwinding y es ∷ ls)) equal good) (subst (λ b. arrived p code b items (counted p s) ≡ Goes u) (sym same) e))
-  by_layers below (Dispatching d ∷ ls) at good e = cc
+  by_layers below _ at good e = cc
 
 pub arrives :
     (p : Image) (t : Typing) (c : Choice) (s u : State) → WellTyped p t s →

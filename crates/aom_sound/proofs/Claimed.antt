@@ -26,11 +26,9 @@ use mathlib.Core.Path.{fun_ext}
 
 -- a frame counts for the claims by its home alone
 pub claim_frame : (p : Image) (d : Place → Kind) (fr fr' : Frame) (sh : Shape) (ls : List Layer) (r : Place) → fr'.home ≡ fr.home → claim p d (Method fr' sh ∷ ls) r ≡ claim p d (Method fr sh ∷ ls) r
-claim_frame p d fr fr' sh ls (Register f i) e = refl
-claim_frame p d fr fr' sh ls (Entry k) e = refl
 claim_frame p d fr fr' sh ls (Field n f) e = ap (λ h. home_claim p h sh n f (claim p d ls (Field n f))) e
 claim_frame p d fr fr' sh ls (Elsewhere Root) e = ap (λ h. root_claim p h sh (claim p d ls (Elsewhere Root))) e
-claim_frame p d fr fr' sh ls (Going k) e = refl
+claim_frame p d fr fr' sh ls _ e = refl
 
 pub claim-set_register : (p : Image) (d : Place → Kind) (fr : Frame) (sh : Shape) (ls : List Layer) (a : ℕ) (v : Kind) (r : Place) → claim p d (Method fr (set_register sh a v) ∷ ls) r ≡ changed (claim p d (Method fr sh ∷ ls)) (Register (length (tasks_of ls)) a) v r
 claim-set_register p d fr sh ls a v (Register f i) = go (length (tasks_of ls) == f)
@@ -62,22 +60,18 @@ filled_at thing xs a x v f same = ap (λ y. filled (thing f) y) (at-put_at Perha
     push false e = refl
 
 claim-set_member : (p : Image) (d : Place → Kind) (fr : Frame) (o : Object) (from : Place) (sh : Shape) (ls : List Layer) (a : ℕ) (x : Filling) (v : Kind) (r : Place) → fr.home ≡ Inside o from → filled (field_thing p (thing_holder o.thing) a) x ≡ v → claim p d (Method fr (set_field sh a x) ∷ ls) r ≡ changed (claim p d (Method fr sh ∷ ls)) (Field o.name a) v r
-claim-set_member p d fr o from sh ls a x v (Register f i) e same = refl
-claim-set_member p d fr o from sh ls a x v (Entry k) e same = refl
 claim-set_member p d fr o from sh ls a x v (Field n f) e same = ap (λ h. home_claim p h (set_field sh a x) n f (claim p d ls (Field n f))) e ∙ go (o.name == n) ∙ ap (λ h. cond ((o.name == n) && (a == f)) v (home_claim p h sh n f (claim p d ls (Field n f)))) (sym e)
   where
     go : (b : Bool) → cond b (filled (field_thing p (thing_holder o.thing) f) (at Perhaps (put_at Perhaps sh.fields a x) f)) (claim p d ls (Field n f)) ≡ cond (b && (a == f)) v (cond b (filled (field_thing p (thing_holder o.thing) f) (field sh f)) (claim p d ls (Field n f)))
     go true = filled_at (λ f. field_thing p (thing_holder o.thing) f) sh.fields a x v f same
     go false = refl
 claim-set_member p d fr o from sh ls a x v (Elsewhere Root) e same = ap (λ h. root_claim p h (set_field sh a x) (claim p d ls (Elsewhere Root))) e ∙ ap (λ h. root_claim p h sh (claim p d ls (Elsewhere Root))) (sym e)
-claim-set_member p d fr o from sh ls a x v (Going k) e same = refl
+claim-set_member p d fr o from sh ls a x v _ e same = refl
 
 claim-set_root : (p : Image) (d : Place → Kind) (fr : Frame) (sh : Shape) (ls : List Layer) (x : Filling) (v : Kind) (r : Place) → fr.home ≡ AtRoot → filled (field_thing p Program 0) x ≡ v → claim p d (Method fr (set_field sh 0 x) ∷ ls) r ≡ changed (claim p d (Method fr sh ∷ ls)) (Elsewhere Root) v r
-claim-set_root p d fr sh ls x v (Register f i) e same = refl
-claim-set_root p d fr sh ls x v (Entry k) e same = refl
 claim-set_root p d fr sh ls x v (Field n f) e same = ap (λ h. home_claim p h (set_field sh 0 x) n f (claim p d ls (Field n f))) e ∙ ap (λ h. home_claim p h sh n f (claim p d ls (Field n f))) (sym e)
 claim-set_root p d fr sh ls x v (Elsewhere Root) e same = ap (λ h. root_claim p h (set_field sh 0 x) (claim p d ls (Elsewhere Root))) e ∙ filled_at (λ f. field_thing p Program f) sh.fields 0 x v 0 same
-claim-set_root p d fr sh ls x v (Going k) e same = refl
+claim-set_root p d fr sh ls x v _ e same = refl
 
 -- a field of the top method is claimed anew
 pub claim-set_field : (p : Image) (d : Place → Kind) (fr : Frame) (home : Home) (sh : Shape) (ls : List Layer) (a : ℕ) (x : Filling) (v : Kind) (r : Place) → fr.home ≡ home → is_some (field_thing p (home_holder home) a) ≡ true → filled (field_thing p (home_holder home) a) x ≡ v → claim p d (Method fr (set_field sh a x) ∷ ls) r ≡ changed (claim p d (Method fr sh ∷ ls)) (field_place home a) v r
@@ -109,11 +103,9 @@ claim_push p d fr sh ls v (Elsewhere Root) = go fr.home
 claim_push p d fr sh ls v (Going k) = refl
 
 pub filled_weaker : (c : Option Thing) {x y : Filling} → WeakerFilling x y → Weaker (filled c x) (filled c y)
-filled_weaker c alike_filling = alike
-filled_weaker None perhaps_empty = alike
 filled_weaker (Some c) perhaps_empty = maybe_null
-filled_weaker None perhaps_full = alike
 filled_weaker (Some c) perhaps_full = maybe_own
+filled_weaker _ _ = alike
 
 -- what says no more claims no more
 pub claim_weaker : (p : Image) (d : Place → Kind) (fr : Frame) (a b : Shape) (ls : List Layer) (r : Place) → SaysNoMore a b → Weaker (claim p d (Method fr a ∷ ls) r) (claim p d (Method fr b ∷ ls) r)
@@ -143,36 +135,22 @@ claim_weaker p d fr a b ls (Going k) w = alike
 
 pub fits_weaker : (p : Image) (h : Place → Option Object) (o : Option Object) {a b : Kind} → Weaker a b → Fits p h o b → Fits p h o a
 fits_weaker p h o alike f = f
-fits_weaker p h None unset_word f = tt
 fits_weaker p h (Some o) unset_word f = absurd f
-fits_weaker p h None unset_null f = tt
 fits_weaker p h (Some o) unset_null f = absurd f
-fits_weaker p h None maybe_null f = tt
 fits_weaker p h (Some o) maybe_null f = absurd f
-fits_weaker p h None maybe_own f = tt
 fits_weaker p h (Some o) maybe_own f = f
+fits_weaker p h _ _ f = tt
 
 pub word_fits_weaker : (w : Option ℤ) {a b : Kind} → Weaker a b → WordFits w b → WordFits w a
-word_fits_weaker w alike f = f
 word_fits_weaker w unset_word f = tt
 word_fits_weaker w unset_null f = tt
-word_fits_weaker w maybe_null f = f
-word_fits_weaker w maybe_own f = f
+word_fits_weaker w _ f = f
 
 -- fresh cells stay fresh where no field of theirs is filled
 pub fits_age : (p : Image) (h h' : Place → Option Object) (o : Option Object) (k : Kind) → ((x : Object) → o ≡ Some x → is_ready_kind k ≡ false → (f : ℕ) → h (Field x.name f) ≡ None → h' (Field x.name f) ≡ None) → Fits p h o k → Fits p h' o k
-fits_age p h h' None Unset g f = f
-fits_age p h h' None Word g f = f
-fits_age p h h' None Null g f = f
-fits_age p h h' None (Own c a) g f = f
-fits_age p h h' None (Maybe c a) g f = f
-fits_age p h h' (Some o) Unset g f = f
-fits_age p h h' (Some o) Word g f = f
-fits_age p h h' (Some o) Null g f = f
 fits_age p h h' (Some o) (Own c Fresh) g f = (f.0, λ i. g o refl refl i (f.1 i))
-fits_age p h h' (Some o) (Own c Ready) g f = f
 fits_age p h h' (Some o) (Maybe c Fresh) g f = (f.0, λ i. g o refl refl i (f.1 i))
-fits_age p h h' (Some o) (Maybe c Ready) g f = f
+fits_age p h h' _ _ g f = f
 
 -- a thing and its claim move together
 pub keep_fits :
@@ -236,24 +214,16 @@ Outside (Going k) ls = length (tasks_of ls) ≤ k
 
 length_items : (l : Layer) (ls : List Layer) → length (items_of ls) ≤ length (items_of (l ∷ ls))
 length_items (Method fr sh) ls = length_objects sh.entries (items_of ls)
-length_items (Mark gv) ls = omega arith
-length_items (Dispatching w) ls = omega arith
-length_items (Dying o) ls = omega arith
 length_items (Unwinding code es) ls = length_objects es (items_of ls)
+length_items _ ls = omega arith
 
 none_in_less : (n : ℕ) (l : Layer) (ls : List Layer) → NoneIn n (l ∷ ls) → NoneIn n ls
 none_in_less n (Method fr sh) ls h = h.1
-none_in_less n (Mark gv) ls h = h
-none_in_less n (Dispatching w) ls h = h
-none_in_less n (Dying o) ls h = h
-none_in_less n (Unwinding code es) ls h = h
+none_in_less n _ ls h = h
 
 none_from_less : (q : Place) (l : Layer) (ls : List Layer) → NoneFrom q (l ∷ ls) → NoneFrom q ls
 none_from_less q (Method fr sh) ls h = h.1
-none_from_less q (Mark gv) ls h = h
-none_from_less q (Dying o) ls h = h
-none_from_less q (Unwinding code es) ls h = h
-none_from_less q (Dispatching w) ls h = h
+none_from_less q _ ls h = h
 
 pub outside_less : (q : Place) (l : Layer) (ls : List Layer) → Outside q (l ∷ ls) → Outside q ls
 outside_less (Register f i) l ls h = omega arith
@@ -272,11 +242,9 @@ NoFieldHere (Going k) from = Unit {0}
 
 -- no place is both
 outside_below : (q : Place) (ls : List Layer) → Outside q ls → NoFieldHere q q → IsBelow q ls → ⊥
-outside_below (Register f i) ls h n b = omega arith
-outside_below (Entry k) ls h n b = omega arith
 outside_below (Field m f) ls h n b = true≢false (sym (eq-eqb m m refl) ∙ n)
 outside_below (Elsewhere w) ls h n b = true≢false (sym (same_place_refl (Elsewhere w)) ∙ n)
-outside_below (Going k) ls h n b = omega arith
+outside_below _ ls h n b = omega arith
 
 pub outside_differs : (q from : Place) (ls : List Layer) → Outside q ls → NoFieldHere q from → IsBelow from ls → same_place q from ≡ false
 outside_differs q from ls h n b = elim (cases_Bool (same_place q from)) as (λ x. same_place q from ≡ false) [
@@ -285,11 +253,9 @@ outside_differs q from ls h n b = elim (cases_Bool (same_place q from)) as (λ x
 ]
 
 pub no_field_here : (q : Place) (fr : Frame) (o : Object) (from : Place) (sh : Shape) (ls : List Layer) → fr.home ≡ Inside o from → Outside q (Method fr sh ∷ ls) → NoFieldHere q from
-no_field_here (Register f i) fr o from sh ls e h = tt
-no_field_here (Entry k) fr o from sh ls e h = tt
 no_field_here (Field n f) fr o from sh ls e h = subst (NotIn n) e h.0
 no_field_here (Elsewhere w) fr o from sh ls e h = subst (λ home. NotFrom (Elsewhere w) home) e h.0
-no_field_here (Going k) fr o from sh ls e h = tt
+no_field_here _ fr o from sh ls e h = tt
 
 pub holds_moved : (p : Image) (cs : List Cell) (a b : Place) (ls : List Layer) (o : Object) (from : Place) → held cs b ≡ None → same_place a from ≡ false → same_place b from ≡ false → Holds p cs ls o from → Holds p (moved a b cs) ls o from
 holds_moved p cs a b ls o from free na nb h = record {
@@ -306,11 +272,8 @@ housed_moved p cs a b fr sh ls (Inside o from) e free oa ob h =
     holds_moved p cs a b ls o from free (outside_differs a from ls (outside_less a _ ls oa) (no_field_here a fr o from sh ls e oa) h.below) (outside_differs b from ls (outside_less b _ ls ob) (no_field_here b fr o from sh ls e ob) h.below) h
 
 pub going_differs : (r : Place) (o : Object) (ls : List Layer) → Outside r (Dying o ∷ ls) → same_place r (Going (length (tasks_of ls))) ≡ false
-going_differs (Register f i) o ls h = refl
-going_differs (Entry k) o ls h = refl
-going_differs (Field n f) o ls h = refl
-going_differs (Elsewhere w) o ls h = refl
 going_differs (Going k) o ls h = ap (λ x. x && true) (ne_eqb k (length (tasks_of ls)) (λ e. absurd (omega arith)))
+going_differs _ o ls h = refl
 
 going_moved : (cs : List Cell) (a b : Place) (o : Object) (ls : List Layer) → held cs b ≡ None → Outside a (Dying o ∷ ls) → Outside b (Dying o ∷ ls) → held cs (Going (length (tasks_of ls))) ≡ Some o → held (moved a b cs) (Going (length (tasks_of ls))) ≡ Some o
 going_moved cs a b o ls free oa ob e =
@@ -396,15 +359,13 @@ perhaps_ready None = refl
 perhaps_ready (Some t) = refl
 
 declared_ready : (p : Image) (cs : List Cell) (r : Place) → is_ready_kind (declared p cs r) ≡ true
-declared_ready p cs (Register f i) = refl
-declared_ready p cs (Entry k) = refl
 declared_ready p cs (Field n f) = go (named cs n)
   where
     go : (o : Option Object) → is_ready_kind (declared_field p o f) ≡ true
     go None = refl
     go (Some o) = perhaps_ready (field_thing p (thing_holder o.thing) f)
 declared_ready p cs (Elsewhere Root) = perhaps_ready (field_thing p Program 0)
-declared_ready p cs (Going k) = refl
+declared_ready p cs _ = refl
 
 -- declared fields are ready, so that a claim which is ready with nothing declared is ready
 pub claim_ready : (p : Image) (cs : List Cell) (ls : List Layer) (r : Place) → is_ready_kind (claim p (λ x. Null) ls r) ≡ true → is_ready_kind (claim p (declared p cs) ls r) ≡ true

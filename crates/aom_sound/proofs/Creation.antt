@@ -22,14 +22,12 @@ use Rattle.aom_sound.proofs.Straight.{At, Fitted, Law, fits_unowning, fitted, fr
 use Rattle.aom_sound.proofs.Things.{stands_itself}
 use Rattle.aom_sound.specs.Claims.{Dispatching, Dying, Layer, Mark, Method, Unwinding, claim, declared, declared_field, home_claim, tasks_of}
 use Rattle.aom_sound.specs.Objects.{no_words}
-use Rattle.aom_sound.specs.Places.{Cell, Elsewhere, Entry, Field, Going, Object, Place, Register, Root, held, named, same_place, with_new}
+use Rattle.aom_sound.specs.Places.{Cell, Field, Object, Place, Register, held, named, same_place, with_new}
 use Rattle.aom_sound.specs.State.{AtRoot, Choice, Frame, Home, Inside, Run, State, Static, next, set_word, thing_holder, word}
 use Rattle.aom_sound.specs.WellTyped.{Back, Fits, HasAge, IsHoused, Returns, Stack, WellTyped, WordFits}
 
 -- nothing but a new cell's fields is declared anew
 declared_new : (p : Image) (cs : List Cell) (n : ℕ) (x : Thing) (ws : List ℤ) (owner : Place) → named cs n ≡ None → (r : Place) → Weaker (declared p (with_new n x ws owner cs) r) (declared p cs r)
-declared_new p cs n x ws owner e (Register f i) = alike
-declared_new p cs n x ws owner e (Entry k) = alike
 declared_new p cs n x ws owner e (Field m f) = go (n == m) refl
   where
     null : (c : Option Thing) → Weaker (filled c Perhaps) Null
@@ -39,8 +37,7 @@ declared_new p cs n x ws owner e (Field m f) = go (n == m) refl
     go : (b : Bool) → (n == m) ≡ b → Weaker (declared_field p (cond b (Some (record { name = n; thing = x })) (named cs m)) f) (declared_field p (named cs m) f)
     go true h = subst (λ o. Weaker (filled (field_thing p (thing_holder x) f) Perhaps) (declared_field p o f)) (sym e ∙ ap (λ k. named cs k) (eqb-true n m h)) (null (field_thing p (thing_holder x) f))
     go false h = alike
-declared_new p cs n x ws owner e (Elsewhere Root) = alike
-declared_new p cs n x ws owner e (Going k) = alike
+declared_new p cs n x ws owner e _ = alike
 
 lives_new : (cs : List Cell) (n : ℕ) (x : Thing) (ws : List ℤ) (owner : Place) (o : Object) → named cs n ≡ None → named cs o.name ≡ Some o → named (with_new n x ws owner cs) o.name ≡ Some o
 lives_new cs n x ws owner o e h = ap (λ b. cond b (Some (record { name = n; thing = x })) (named cs o.name)) (ne_eqb n o.name (λ same. let e' : Some o ≡ None = sym h ∙ ap (λ k. named cs k) (sym same) ∙ e in cc)) ∙ h
@@ -135,9 +132,9 @@ module _ (p : Image) (t : Typing) (c : Choice) (s : State) (fr : Frame) (sh : Sh
       refuses = relabel p t s.cells fr fr' sh (set_register sh a k) ls (top ls a) k (fitted p t s.cells fr sh ls at_hand.good) refl refl refl
           (subst (λ o. Fits p (held s.cells) o k) (sym free) tt) (λ r. claim-set_register p (declared p s.cells) fr sh ls a k r) (words_set fr.words sh a None k at_hand.good.stack.1.words refl)
 
-      makes : Fitted p t (with_new c.name (An_object_of x) (no_words p c fr (tasks_of ls) s x) (top ls a) s.cells) fr' (set_register sh a k) ls
-      makes = create p t s.cells fr sh ls c.name (An_object_of x) (no_words p c fr (tasks_of ls) s x) a k (fitted p t s.cells fr sh ls at_hand.good) unused free (λ h nf. (stands_itself p (An_object_of x), age_fits h (new_age p x) (record { name = c.name; thing = An_object_of x }) nf)) refl
+      makes : Fitted p t (with_new c.name (An_object_of x) (no_words p x) (top ls a) s.cells) fr' (set_register sh a k) ls
+      makes = create p t s.cells fr sh ls c.name (An_object_of x) (no_words p x) a k (fitted p t s.cells fr sh ls at_hand.good) unused free (λ h nf. (stands_itself p (An_object_of x), age_fits h (new_age p x) (record { name = c.name; thing = An_object_of x }) nf)) refl
 
-      go : (b : Bool) → WellTyped p t (record s { cells = cond b s.cells (with_new c.name (An_object_of x) (no_words p c fr (tasks_of ls) s x) (top ls a) s.cells); tasks = Run fr' ∷ tasks_of ls })
+      go : (b : Bool) → WellTyped p t (record s { cells = cond b s.cells (with_new c.name (An_object_of x) (no_words p x) (top ls a) s.cells); tasks = Run fr' ∷ tasks_of ls })
       go true = well p t c s fr sh ls at_hand _ fr' (set_register sh a k) refl at_hand.items at_hand.undos (settle p t _ fr' (set_register sh a k) ls refuses leads.0)
       go false = well p t c s fr sh ls at_hand _ fr' (set_register sh a k) refl at_hand.items at_hand.undos (settle p t _ fr' (set_register sh a k) ls makes leads.0)

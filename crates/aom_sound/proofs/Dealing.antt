@@ -152,16 +152,12 @@ deals p t wired typed s e before below d = go e s.items d d.items d.undos
     whole (Some x) c a f = (x, refl)
 
     go : (e : Pushed) (items : List Item) → Dealing p t s e before below → forms items ≡ entry_form e ∷ items_of below → AllUndo p items → Goal items
-    go e [] d h u = cc
     go (Pushed_object c a) (An_object ∷ items) d h u =
         let same : forms items ≡ items_of below = cc in
         let x = whole _ c a (entry_fits p t wired typed s (Pushed_object c a) before below d) in
         let there : held s.cells (Entry (length items)) ≡ Some x.0 = ap (λ n. held s.cells (Entry n)) (sym (length_forms items) ∙ ap length same) ∙ x.1 in
         (ap is_some there, subst (λ o. WellTyped p t (destroyed p o items (tasks_of below) s)) (sym there) (object_goes p t wired typed s (Pushed_object c a) before below d x.0 items same u x.1))
-    go (Pushed_object c a) (An_operation m w ∷ items) d h u = cc
-    go (Pushed_object c a) (A_mark ∷ items) d h u = cc
-    go Pushed_operation (An_object ∷ items) d h u = cc
     go Pushed_operation (An_operation m w ∷ items) d h u =
         let same : forms items ≡ items_of below = cc in
         (refl, operation_runs p t wired typed s Pushed_operation before below d m w u.0 refl items same u.1)
-    go Pushed_operation (A_mark ∷ items) d h u = cc
+    go _ _ d h u = cc

@@ -263,19 +263,16 @@ module _ (p : Image) (t : Typing) (c : Choice) (s : State) (fr : Frame) (sh : Sh
   law_delete linked typed a n leads = ((ap is_none none, (no_message (held s.cells (top ls a)) (register sh a) n.0 (kind_fits p t c s fr sh ls at_hand a), tt)), go (held s.cells (top ls a)) refl)
     where
       destroyed_object : (k : Kind) → may_be_destroyed k ≡ true → is_object_or_null k ≡ true
-      destroyed_object Unset e = cc
-      destroyed_object Word e = cc
       destroyed_object Null e = refl
       destroyed_object (Own x a) e = refl
       destroyed_object (Maybe x a) e = refl
+      destroyed_object _ e = cc
 
       no_message : (o : Option Object) (k : Kind) → may_be_destroyed k ≡ true → Fits p (held s.cells) o k → is_no_message o ≡ true
       no_message None k e f = refl
-      no_message (Some o) Unset e f = absurd f
-      no_message (Some o) Word e f = absurd f
-      no_message (Some o) Null e f = absurd f
       no_message (Some o) (Own x a) e f = ap is_object (stands_same p o.thing x f.0) ∙ e
       no_message (Some o) (Maybe x a) e f = ap is_object (stands_same p o.thing x f.0) ∙ e
+      no_message _ _ e f = absurd (assumption tt)
 
       cs : List Cell
       cs = s.cells

@@ -5,7 +5,7 @@ use Rattle.std.specs.Prelude.{is_none, is_some, not}
 use Rattle.aom_image.specs.Image.{Image}
 use Rattle.aom_image.specs.Views.{instr_at}
 use Rattle.aom_image.specs.declared.instr.Instr.TheVariants.{NewOrLeave, Pop, PopDelete, PopOperation, Push, PushOperation}
-use Rattle.aom_image.specs.declared.method.Thing.TheVariants.{Message, Object as An_object_of}
+use Rattle.aom_image.specs.declared.method.Thing.TheVariants.{Object as An_object_of}
 use Rattle.aom_shape.specs.Calls.{brought}
 use Rattle.aom_shape.specs.Cleanup.{entry_of, owns_object, top_kind, tops_object as tops_object_entry, tops_operation as tops_operation_entry, with_entry, without_top}
 use Rattle.aom_shape.specs.Kinds.{entry_kind, is_object, is_object_or_null, no_entry, register, set_register}
@@ -16,7 +16,7 @@ use Rattle.aom_shape.specs.Typing.{IsTyped, Leads, Typing}
 use Rattle.aom_shape.specs.declared.kind.Entry.{Entry as Pushed}
 use Rattle.aom_shape.specs.declared.kind.Entry.TheVariants.{Object as Pushed_object, Operation as Pushed_operation}
 use Rattle.aom_shape.specs.declared.kind.Kind.{Kind}
-use Rattle.aom_shape.specs.declared.kind.Kind.TheVariants.{Maybe, Null, Own, Unset, Word}
+use Rattle.aom_shape.specs.declared.kind.Kind.TheVariants.{Null, Own}
 use Rattle.aom_sound.proofs.Claimed.{claim-set_register, claim_entry_above, claim_push, length_objects}
 use Rattle.aom_sound.proofs.Creation.{IsUnused, age_fits, create}
 use Rattle.aom_sound.proofs.Dealing.{Dealing, deals, less_claims}
@@ -40,36 +40,22 @@ use Rattle.aom_sound.specs.Words.{go_on, read}
 -- ---- kinds of objects that may be pushed
 
 entry_again : (k : Kind) → owns_object k ≡ true → entry_kind (entry_of k) ≡ k
-entry_again Unset e = cc
-entry_again Word e = cc
-entry_again Null e = cc
 entry_again (Own (An_object_of c) a) e = refl
-entry_again (Own Message a) e = cc
-entry_again (Maybe t a) e = cc
+entry_again _ e = cc
 
 object_again : (k : Kind) → owns_object k ≡ true → entry_form (entry_of k) ≡ Object_form
-object_again Unset e = cc
-object_again Word e = cc
-object_again Null e = cc
 object_again (Own (An_object_of c) a) e = refl
-object_again (Own Message a) e = cc
-object_again (Maybe t a) e = cc
+object_again _ e = cc
 
 owned_or_null : (k : Kind) → owns_object k ≡ true → is_object_or_null k ≡ true
-owned_or_null Unset e = cc
-owned_or_null Word e = cc
-owned_or_null Null e = cc
 owned_or_null (Own t a) e = refl
-owned_or_null (Maybe t a) e = cc
+owned_or_null _ e = cc
 
 -- such a place holds an object, and no message
 owned_met : (p : Image) (h : Place → Option Object) (o : Option Object) (k : Kind) → owns_object k ≡ true → Fits p h o k → (is_some o ≡ true) × (is_no_message o ≡ true)
-owned_met p h o Unset e f = cc
-owned_met p h o Word e f = cc
-owned_met p h o Null e f = cc
 owned_met p h None (Own t a) e f = absurd f
 owned_met p h (Some o) (Own t a) e f = (refl, ap is_object (stands_same p o.thing t f.0) ∙ e)
-owned_met p h o (Maybe t a) e f = cc
+owned_met p h o _ e f = cc
 
 -- an entry's register holds no word
 entry_object : (x : Pushed) → is_object_or_null (entry_kind x) ≡ true
@@ -79,10 +65,8 @@ entry_object Pushed_operation = refl
 -- ---- the last item
 
 top_object : (items : List Item) (below : List Form) → forms items ≡ Object_form ∷ below → (rest : List Item) × (items ≡ An_object ∷ rest) × (forms rest ≡ below)
-top_object [] below e = cc
 top_object (An_object ∷ rest) below e = (rest, refl, cc)
-top_object (An_operation m w ∷ rest) below e = cc
-top_object (A_mark ∷ rest) below e = cc
+top_object _ below e = cc
 
 -- an operation, which is one
 record Operation_at (p : Image) (items : List Item) (below : List Form) : Type 0 where
@@ -95,10 +79,8 @@ record Operation_at (p : Image) (items : List Item) (below : List Form) : Type 0
   undos : AllUndo p rest
 
 top_operation : (p : Image) (items : List Item) (below : List Form) → forms items ≡ Operation_form ∷ below → AllUndo p items → Operation_at p items below
-top_operation p [] below e u = cc
-top_operation p (An_object ∷ rest) below e u = cc
 top_operation p (An_operation m w ∷ rest) below e u = record { rest = rest; method = m; word = w; is = refl; known = cc; undo = u.0; undos = u.1 }
-top_operation p (A_mark ∷ rest) below e u = cc
+top_operation p _ below e u = cc
 
 -- a method's claims with its last entry, and without
 module _ (p : Image) (cs : List Cell) (fr : Frame) (sh : Shape) (ls : List Layer) (v : Pushed) (es : List Pushed) (e : sh.entries ≡ v ∷ es) (items : List Item) (known : forms items ≡ objects es (items_of ls)) where
@@ -256,11 +238,10 @@ module _ (p : Image) (t : Typing) (c : Choice) (s : State) (fr : Frame) (sh : Sh
           )
 
       go : (es : List Pushed) → sh.entries ≡ es → tops_object_entry es ≡ true → AllTrue (needs p c fr (tasks_of ls) s (Pop a)) × WellTyped p t (does p c fr (tasks_of ls) s (Pop a))
-      go [] e h = cc
       go (Pushed_object x age ∷ es) e h =
           let at_top = top_object s.items (objects es (items_of ls)) (at_hand.items ∙ ap (λ es. objects es (items_of ls)) e) in
           popped_at (Pushed_object x age) es e at_top.0 at_top.1 at_top.2
-      go (Pushed_operation ∷ es) e h = cc
+      go _ e h = cc
 
   -- ---- the last entry goes
 
@@ -268,8 +249,6 @@ module _ (p : Image) (t : Typing) (c : Choice) (s : State) (fr : Frame) (sh : Sh
   law_pop_operation n leads = go sh.entries refl n.1.0
     where
       go : (es : List Pushed) → sh.entries ≡ es → tops_operation_entry es ≡ true → AllTrue (needs p c fr (tasks_of ls) s PopOperation) × WellTyped p t (does p c fr (tasks_of ls) s PopOperation)
-      go [] e h = cc
-      go (Pushed_object x age ∷ es) e h = cc
       go (Pushed_operation ∷ es) e h =
           let op = top_operation p s.items (objects es (items_of ls)) (at_hand.items ∙ ap (λ es. objects es (items_of ls)) e) at_hand.undos in
           let q = Entry (length op.rest) in
@@ -281,6 +260,7 @@ module _ (p : Image) (t : Typing) (c : Choice) (s : State) (fr : Frame) (sh : Sh
             subst (λ i. WellTyped p t (record s { tasks = Run (next fr) ∷ tasks_of ls; items = below_top i })) (sym op.is)
                 (well p t c s fr sh ls at_hand (record s { tasks = Run (next fr) ∷ tasks_of ls; items = op.rest }) (next fr) sh' refl op.known op.undos (settle p t s.cells (next fr) sh' ls there lead)),
           )
+      go _ e h = cc
 
   -- over the method an object is destroyed, or an operation runs; the method goes on once that is over
   pub law_pop_delete : IsWired p → IsTyped p t → Law p t c s fr sh ls at_hand PopDelete
@@ -352,10 +332,10 @@ module _ (p : Image) (t : Typing) (c : Choice) (s : State) (fr : Frame) (sh : Sh
       free = free_register p t c s fr sh ls at_hand a n.0
 
       cells : List Cell
-      cells = with_new c.name (An_object_of x) (no_words p c fr (tasks_of ls) s x) (top ls a) s.cells
+      cells = with_new c.name (An_object_of x) (no_words p x) (top ls a) s.cells
 
       makes : Fitted p t cells fr' (set_register sh a k) ls
-      makes = create p t s.cells fr sh ls c.name (An_object_of x) (no_words p c fr (tasks_of ls) s x) a k g unused free
+      makes = create p t s.cells fr sh ls c.name (An_object_of x) (no_words p x) a k g unused free
           (λ h nf. (stands_itself p (An_object_of x), age_fits p t c s fr sh ls at_hand h (new_age p x) (record { name = c.name; thing = An_object_of x }) nf)) refl
 
       needed : (b : Bool) → AllTrue (cond b (leave_needs s.cells (Run fr ∷ tasks_of ls)) [])

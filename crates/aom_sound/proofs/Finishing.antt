@@ -215,16 +215,11 @@ module _ (p : Image) (t : Typing) (c : Choice) (s : State) (fr : Frame) (sh : Sh
 
   -- the cleanup stack is level
   level : (g : Gives) → entries_done p g sh.entries ≡ true → is_level p fr (tasks_of ls) s g ≡ true
-  level Nothing e = same_height e
-  level A_word e = same_height e
-  level (An_own x) e = same_height e
-  level (A_maybe x) e = same_height e
   level (Left x) e = one_left x e
+  level _ e = same_height e
 
 module _ (p : Image) (t : Typing) (c : Choice) (s : State) (fr : Frame) (sh : Shape) (ls : List Layer) (at_hand : At p t s fr sh ls) (a : ℕ) (r : Returnable p fr sh a) where
   spared : (g : Gives) → none_owns (result_moved p fr.method fr.place sh g a).registers ≡ true → (i : ℕ) → spares (result_source g a) i ≡ false → held s.cells (top ls i) ≡ None
-  spared Nothing n i other = free_register p t c s fr sh ls at_hand i (none_owns_at sh.registers i n)
-  spared A_word n i other = free_register p t c s fr sh ls at_hand i (none_owns_at sh.registers i n)
   spared (An_own x) n i other = free_register p t c s fr sh ls at_hand i (unmoved i n other)
     where
       unmoved : (i : ℕ) → none_owns (set_register sh a Null).registers ≡ true → (i == a) ≡ false → is_unowning (register sh i) ≡ true
@@ -233,7 +228,7 @@ module _ (p : Image) (t : Typing) (c : Choice) (s : State) (fr : Frame) (sh : Sh
     where
       unmoved : (i : ℕ) → none_owns (set_register sh a Null).registers ≡ true → (i == a) ≡ false → is_unowning (register sh i) ≡ true
       unmoved i n other = sym (ap is_unowning (at-put_at Unset sh.registers a i Null ∙ ap (λ b. cond b Null (register sh i)) (eqb_comm a i ∙ other))) ∙ none_owns_at (set_register sh a Null).registers i n
-  spared (Left x) n i other = free_register p t c s fr sh ls at_hand i (none_owns_at sh.registers i n)
+  spared _ n i other = free_register p t c s fr sh ls at_hand i (none_owns_at sh.registers i n)
 
   -- the needs of a return, from those of its result and of what it returns to
   pub return_needs : AllTrue (result_needs p fr (tasks_of ls) s (gives_of p fr.method) a) → AllTrue (end_needs p fr (tasks_of ls) s (tasks_of ls)) → AllTrue (needs p c fr (tasks_of ls) s (Return a))

@@ -153,12 +153,10 @@ goes_on p t s (Method fr sh ∷ ls) stack fits tidy tasks items undos =
     } in
     let g = settle p t s.cells (next fr) sh ls f stack.0 in
     record { layers = Method (next fr) g.0 ∷ ls; tasks = tasks; items = items ∙ ap (λ es. objects es (items_of ls)) (sym g.2); undos = undos; good = g.1 }
-goes_on p t s (Mark gv ∷ ls) stack fits tidy tasks items undos = absurd stack.0
-goes_on p t s (Dispatching Of_main ∷ ls) stack fits tidy tasks items undos = absurd stack.0
-goes_on p t s (Dispatching (Main_left code) ∷ ls) stack fits tidy tasks items undos = absurd stack.0
 goes_on p t s (Unwinding code es ∷ ls) stack fits tidy tasks items undos = record { layers = Unwinding code es ∷ ls; tasks = tasks; items = items; undos = undos; good = record { stack = (tt, stack.1); fits = fits; tidy = tidy } }
 goes_on p t s (Dispatching Of_root ∷ ls) stack fits tidy tasks items undos = record { layers = Dispatching Of_root ∷ ls; tasks = tasks; items = items; undos = undos; good = record { stack = (tt, stack.1); fits = fits; tidy = tidy } }
 goes_on p t s (Dying o ∷ ls) stack fits tidy tasks items undos = record { layers = Dying o ∷ ls; tasks = tasks; items = items; undos = undos; good = record { stack = (stack.0, tt, stack.2); fits = fits; tidy = tidy } }
+goes_on p t s _ stack fits tidy tasks items undos = absurd (assumption tt)
 
 pub going_keeps : (p : Image) (t : Typing) (s : State) (o : Object) (ls : List Layer) → Good p t s.cells (Dying o ∷ ls) → forms s.items ≡ items_of ls → AllUndo p s.items → Keeps p t (gone (held s.cells (Going (length (tasks_of ls)))) (tasks_of ls) s)
 going_keeps p t s o ls good items undos =

@@ -18,8 +18,7 @@ use Rattle.aom_image.specs.declared.method.Gives.TheVariants.{Left, Maybe as A_m
 use Rattle.aom_image.specs.declared.method.Thing.TheVariants.{Object as An_object_of}
 use Rattle.aom_shape.specs.Needs.{AllTrue}
 use Rattle.aom_sound.proofs.Finishing.{all_parts}
-use Rattle.aom_sound.proofs.Looping.{goes_same, guarded_goes}
-use Rattle.aom_sound.proofs.Quiet.{guarded_met}
+use Rattle.aom_sound.proofs.Guarded.{goes_same, guarded_goes, guarded_met}
 use Rattle.aom_sound.specs.Calls.{needs_entering, needs_target, passed_cells, result_cells, result_register, returned}
 use Rattle.aom_sound.specs.Cleanup.{arrived, dealt_with, destroyed, is_negative, left, no_memory, operation_pushed, pushed, top_is_whole, top_place, unwound}
 use Rattle.aom_sound.specs.Destruction.{gone, owns_nothing}
@@ -99,7 +98,7 @@ module _ (p : Image) (wired : IsWired p) (c : Choice) (fr : Frame) (ts : List Ta
   delete_in_range (Some o) a = move_in_range (here fr ts s a) (Going (suc (length ts))) s.cells tt all
 
   -- a new cell, or none
-  make_in_range : (b : Bool) (x : ℕ) (q : Place) → IsInRange q → AllInRange (cond b s.cells (with_new c.name (An_object_of x) (no_words p c fr ts s x) q s.cells))
+  make_in_range : (b : Bool) (x : ℕ) (q : Place) → IsInRange q → AllInRange (cond b s.cells (with_new c.name (An_object_of x) (no_words p x) q s.cells))
   make_in_range true x q fits = all
   make_in_range false x q fits = (fits, all)
 
@@ -150,7 +149,7 @@ module _ (p : Image) (wired : IsWired p) (c : Choice) (fr : Frame) (ts : List Ta
   act_in_range (Put f b) l fits n = move_in_range (here fr ts s b) (field_place fr.home f) s.cells (field_in_range fr.home f) all
   act_in_range (New a x) l fits n = make_in_range c.refused x (here fr ts s a) fits.0
   act_in_range (NewOrLeave a x) l fits n =
-      let made = with_new c.name (An_object_of x) (no_words p c fr ts s x) (here fr ts s a) s.cells in
+      let made = with_new c.name (An_object_of x) (no_words p x) (here fr ts s a) s.cells in
       refused_in_range c.refused no_memory s (go_on fr ts s made (set_word fr a None)) all (fits.0, all)
   act_in_range (Delete a) l fits n = delete_in_range (held s.cells (here fr ts s a)) a
   act_in_range (Push a) l fits n =

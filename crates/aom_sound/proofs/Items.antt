@@ -31,10 +31,8 @@ mark_on_top (An_operation m w ∷ items) rest e = cc
 mark_on_top (A_mark ∷ items) rest e = refl
 
 pub undos_below : (p : Image) (items : List Item) → AllUndo p items → AllUndo p (below_top items)
-undos_below p [] u = u
-undos_below p (An_object ∷ items) u = u
 undos_below p (An_operation m w ∷ items) u = u.1
-undos_below p (A_mark ∷ items) u = u
+undos_below p _ u = u
 
 -- an item for each entry
 pub length_each : (es : List Pushed) (below : List Form) → length (objects es below) ≡ length es + length below

@@ -42,24 +42,16 @@ from_trap (Unwinding code es ∷ ls) = Unwinding code es ∷ ls
 from_trap (Dispatching d ∷ ls) = Dispatching d ∷ ls
 
 tasks_from_trap : (ls : List Layer) → to_trap (tasks_of ls) ≡ tasks_of (from_trap ls)
-tasks_from_trap [] = refl
 tasks_from_trap (Method fr sh ∷ ls) = tasks_from_trap ls
-tasks_from_trap (Mark gv ∷ ls) = refl
-tasks_from_trap (Dying o ∷ ls) = refl
-tasks_from_trap (Unwinding code es ∷ ls) = refl
-tasks_from_trap (Dispatching d ∷ ls) = refl
+tasks_from_trap _ = refl
 
 objects_append : (es fs : List Pushed) (items : List Form) → objects (es ++ fs) items ≡ objects es (objects fs items)
 objects_append [] fs items = refl
 objects_append (e ∷ es) fs items = ap (λ l. entry_form e ∷ l) (objects_append es fs items)
 
 items_from_trap : (ls : List Layer) → items_of ls ≡ objects (entries_over ls) (items_of (from_trap ls))
-items_from_trap [] = refl
 items_from_trap (Method fr sh ∷ ls) = ap (λ i. objects sh.entries i) (items_from_trap ls) ∙ sym (objects_append sh.entries (entries_over ls) (items_of (from_trap ls)))
-items_from_trap (Mark gv ∷ ls) = refl
-items_from_trap (Dying o ∷ ls) = refl
-items_from_trap (Unwinding code es ∷ ls) = refl
-items_from_trap (Dispatching d ∷ ls) = refl
+items_from_trap _ = refl
 
 -- the entries of two layers as those of one
 entries_join : (es fs : List Pushed) (items : List Form) (k : ℕ) (below : Kind) → entry_claim (es ++ fs) items k below ≡ entry_claim es (objects fs items) k (entry_claim fs items k below)
@@ -82,12 +74,8 @@ no_end p (Main_left code) m home e = absurd e
 no_end p Of_root m home e = absurd e
 
 not_going : (p : Image) (t : Typing) (cs : List Cell) (ls : List Layer) (m : ℕ) (home : Home) → leaves p m ≡ true → Stack p t cs (Returns m home) ls → past_going ls ≡ ls
-not_going p t cs [] m home e s = refl
-not_going p t cs (Method fr sh ∷ ls) m home e s = refl
-not_going p t cs (Mark gv ∷ ls) m home e s = refl
 not_going p t cs (Dying o ∷ ls) m home e s = absurd (true≢false (sym e ∙ s.1.0))
-not_going p t cs (Unwinding code es ∷ ls) m home e s = refl
-not_going p t cs (Dispatching d ∷ ls) m home e s = refl
+not_going p t cs _ m home e s = refl
 
 -- a method ends by a leave, and its entries are still there
 ended_by_leave : (p : Image) (cs : List Cell) (fr : Frame) (sh : Shape) (ls : List Layer) (code : ℤ) → IsHoused p cs ls fr.home → IsApart p fr.home ls → past_going ls ≡ ls → none_owns sh.registers ≡ true → (r : Place) (h : Place → Option Object) (o : Option Object) → Fits p h o (claim p (declared p cs) (Method fr sh ∷ ls) r) → Fits p h o (claim p (declared p cs) (Unwinding code sh.entries ∷ ls) r)

@@ -2,6 +2,11 @@ pub mod Maps
 pub mod Things
 pub mod Items
 pub mod Claimed
+pub mod Guarded
+pub mod Agreement
+pub mod Moving
+pub mod Preserving
+pub mod Resting
 pub mod Straight
 pub mod Jumps
 pub mod Storing

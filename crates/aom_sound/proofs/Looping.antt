@@ -1,50 +1,37 @@
 -- A method that stands in a loop's body has rounds left: each instruction and each return keeps that.
-use Rattle.std.proofs.Common.{Bool, List, None, Option, Some, [], ap, arith, cond, false, inl, inr, refl, subst, suc, sym, true, zero, ℕ, ℤ, ⊎_elim, ◌-◌, ◌<◌, ◌==◌, ◌∙◌, ◌∷◌, ◌≡◌, ◌≢◌, ◌≤◌}
+use Rattle.std.proofs.Common.{List, None, Option, Some, ap, arith, cond, false, inl, inr, length, subst, suc, sym, true, ℕ, ⊎_elim, ◌-◌, ◌<◌, ◌==◌, ◌∙◌, ◌∷◌, ◌≡◌, ◌≢◌, ◌≤◌}
 use Rattle.std.proofs.lemmas.Bool.{cases_Bool, cases_lt, eq-eqb, eqb-true, ne_eqb}
-use Rattle.std.specs.Prelude.{length}
-use Rattle.std.specs.Prelude.{int_lt}
-use Rattle.std.specs.Ordering.{int_eq}
 use Rattle.aom_image.specs.Image.{Image}
-use Rattle.aom_image.specs.Views.{gives_of, instr_at}
+use Rattle.aom_image.specs.Views.{instr_at}
 use Rattle.aom_image.specs.declared.instr.Instr.{Instr}
-use Rattle.aom_image.specs.declared.instr.Instr.TheVariants.{Add, And, Call, Const, Copy, Delete, Jump, JumpEmpty, JumpEqual, JumpLess, JumpNull, Leave, LeaveIf, Load, Loop, Move, Mul, New, NewOrLeave, Next, Or, Pop, PopDelete, PopOperation, Print, Push, PushOperation, Put, Return, Stop, Store, Sub, Take, Trap, Xor}
-use Rattle.aom_image.specs.declared.method.Gives.{Gives}
-use Rattle.aom_image.specs.declared.method.Gives.TheVariants.{Left, Maybe as A_maybe, Nothing, Own as An_own, Word as A_word}
-use Rattle.aom_image.specs.declared.method.Thing.TheVariants.{Object as An_object_of}
+use Rattle.aom_image.specs.declared.instr.Instr.TheVariants.{Loop, Next}
 use Rattle.aom_classes.specs.Jumps.{jump_of}
+use Rattle.aom_classes.specs.Loops.{loop_in}
 use Rattle.aom_classes.specs.Roles.{main_of}
 use Rattle.aom_sound.proofs.Bodies.{linked_is_looped}
 use Rattle.aom_sound.proofs.Maps.{at-put_at}
-use Rattle.aom_sound.specs.Calls.{called, entered, received, result_register, returned}
-use Rattle.aom_sound.specs.Cleanup.{arrived, code_told, dealt_with, destroyed, ended_by, is_negative, left, no_memory, operation_frame, operation_pushed, pushed, to_trap, top_is_whole, unwound}
-use Rattle.aom_sound.specs.Destruction.{begun_by, destructor_of, gone, owns_nothing}
-use Rattle.aom_sound.specs.Loops.{AllWait, Body, IsIn, IsLooped, LoopsKeep, RoundsAt, RoundsLeft}
-use Rattle.aom_sound.specs.Moves.{counted, dispatch_ends, does, main_ends, needs, step, step_instr, step_task}
-use Rattle.aom_sound.specs.Objects.{deleted, jumped, no_words}
-use Rattle.aom_sound.specs.Places.{Elsewhere, Entry, Going, Object, Root, held, with_new, without}
-use Rattle.aom_sound.specs.State.{A_mark, An_object, An_operation, AtRoot, Choice, Destroy, Dispatch, Dispatched, Frame, Goes, Inside, IsStuck, Item, Main_left, Need, NullOrDead, Of_main, Of_root, Orphan, Run, State, Task, Trapped, Unwind, counter, field_place, frame_of, guarded, next, resumed, set_counter, set_word}
-use Rattle.aom_sound.specs.Words.{branched, go_on, here, looped, read}
+use Rattle.aom_sound.proofs.Preserving.{Acting, Kept, keeps}
+use Rattle.aom_sound.specs.Calls.{entered}
+use Rattle.aom_sound.specs.Cleanup.{operation_frame}
+use Rattle.aom_sound.specs.Loops.{Body, IsIn, IsLooped, LoopsKeep, RoundsAt, RoundsLeft, rounds_left}
+use Rattle.aom_sound.specs.Moves.{counted, step}
+use Rattle.aom_sound.specs.Places.{Going}
+use Rattle.aom_sound.specs.State.{A_mark, AtRoot, Choice, Frame, Goes, Inside, State, Task, counter, frame_of, set_counter}
+use Rattle.aom_sound.specs.Steps.{IsStraight, Sets}
 use Rattle.aom_sound.specs.World.{boot_state, main_tasks}
 
-pub guarded_goes : (needs : List Need) (s u : State) → guarded needs s ≡ Goes u → s ≡ u
-guarded_goes [] s u e = cc
-guarded_goes (need ∷ needs) s u e = go need.0 (guarded_goes needs s u) e
-  where
-    go : (b : Bool) → (guarded needs s ≡ Goes u → s ≡ u) → cond b (guarded needs s) (IsStuck need.1) ≡ Goes u → s ≡ u
-    go true rest e = rest e
-    go false rest e = cc
-
--- a method at its first place stands in unlooped body
+-- a method at its first place stands in no body
 fresh : (p : Image) (fr : Frame) → RoundsAt p fr 0
 fresh p fr from to d n body inside = absurd (omega (arith, inside.0))
 
 module _ (p : Image) (looped_so : IsLooped p) (fr : Frame) (i : Instr) (at : instr_at p fr.method fr.place ≡ Some i) (rounds : RoundsAt p fr fr.place) where
-  -- after an instruction that begins unlooped loop
-  goes_on : ((d n : ℕ) → i ≡ Loop d n → ⊥) → RoundsAt p fr (suc fr.place)
-  goes_on unlooped from to d n body inside = ⊎_elim (λ lt. rounds from to d n body (lt, omega (arith, inside.1))) (λ le. absurd (begins (omega (arith, inside.0)))) (cases_lt from fr.place)
+  -- after an instruction that begins no loop
+  goes_on : IsStraight i → RoundsAt p fr (suc fr.place)
+  unfolding loop_in
+  goes_on straight from to d n body inside = ⊎_elim (λ lt. rounds from to d n body (lt, omega (arith, inside.1))) (λ le. absurd (begins (omega (arith, inside.0)))) (cases_lt from fr.place)
     where
       begins : from ≡ fr.place → ⊥
-      begins e = let same : Some i ≡ Some (Loop d n) = sym at ∙ ap (λ x. instr_at p fr.method x) (sym e) ∙ body.begins in unlooped d n cc
+      begins e = let clash : None ≡ Some d = sym straight ∙ ap loop_in (sym at ∙ ap (λ x. instr_at p fr.method x) (sym e) ∙ body.begins) in cc
 
   -- where it jumps
   goes_to : (t : ℕ) → jump_of i ≡ Some t → RoundsAt p fr t
@@ -143,206 +130,28 @@ module _ (p : Image) (looped_so : IsLooped p) (fr : Frame) (rounds : RoundsAt p 
             let before : counter fr e ≤ n = subst (λ x. counter fr x ≤ n) one.0 old.1 in
             (subst (λ x. 0 < x) (sym is) (omega arith), subst (λ x. x ≤ n) (sym is) (omega arith))
 
--- a destruction begins over these tasks
-begins_over : (p : Image) (d : Option ℕ) (o : Object) (height : ℕ) (below : List Task) → AllWait p below → RoundsLeft p (begun_by d o height below)
-begins_over p None o height below w = w
-begins_over p (Some m) o height below w = (fresh p (frame_of m (Inside o (Going (length below))) height), w)
+module _ (p : Image) (looped_so : IsLooped p) (c : Choice) (s : State) where
+  sets : (fr : Frame) (ts : List Task) (i : Instr) → Acting p c (rounds_left p) s fr ts i → (d n : ℕ) → Sets i d n → RoundsAt p (set_counter fr d n) (suc fr.place)
+  sets fr ts i a d n (inl e) = begins_rounds p looped_so fr a.runs d n (a.there ∙ ap Some e)
+  sets fr ts i a d n (inr e) = subst (λ k. RoundsAt p (set_counter fr d k) (suc fr.place)) (sym e.2) (ends_rounds p looped_so fr a.runs d e.0 (a.there ∙ ap Some e.1))
 
-destroys : (p : Image) (o : Option Object) (items : List Item) (ts : List Task) (s : State) → RoundsLeft p ts → AllWait p ts → RoundsLeft p (destroyed p o items ts s).tasks
-destroys p None items ts s now w = now
-destroys p (Some o) items ts s now w = begins_over p (destructor_of p o.thing) o (length items) ts w
-
--- the methods over a trap end
-under_trap : (p : Image) (ts : List Task) → AllWait p ts → AllWait p (to_trap ts)
-under_trap p [] w = w
-under_trap p (Run fr ∷ ts) w = under_trap p ts w.1
-under_trap p (Trapped ∷ ts) w = w
-under_trap p (Destroy ∷ ts) w = w
-under_trap p (Unwind code ∷ ts) w = w
-under_trap p (Dispatched d ∷ ts) w = w
-
-leaves_off : (p : Image) (ts : List Task) → RoundsLeft p ts → AllWait p (to_trap ts)
-leaves_off p [] w = w
-leaves_off p (Run fr ∷ ts) w = under_trap p ts w.1
-leaves_off p (Trapped ∷ ts) w = w
-leaves_off p (Destroy ∷ ts) w = w
-leaves_off p (Unwind code ∷ ts) w = w
-leaves_off p (Dispatched d ∷ ts) w = w
-
-module _ (p : Image) (looped_so : IsLooped p) (c : Choice) (fr : Frame) (ts : List Task) (s : State) (given : RoundsLeft p s.tasks) (rounds : RoundsAt p fr fr.place) (wait : AllWait p ts) where
-  -- the method goes on at its next place
-  steps : (i : Instr) → instr_at p fr.method fr.place ≡ Some i → ((d n : ℕ) → i ≡ Loop d n → ⊥) → RoundsAt p fr (suc fr.place) × AllWait p ts
-  steps i at unlooped = (goes_on p looped_so fr i at rounds unlooped, wait)
-
-  leaps : (i : Instr) (t : ℕ) → instr_at p fr.method fr.place ≡ Some i → jump_of i ≡ Some t → RoundsAt p fr t × AllWait p ts
-  leaps i t at jump = (goes_to p looped_so fr i at rounds t jump, wait)
-
-  -- a result changes words alone
-  goes_back : (g : Gives) (a x : ℕ) (caller : Frame) (below : List Task) → RoundsAt p caller (suc caller.place) × AllWait p below → RoundsLeft p (Run (next (received p fr ts s g a x caller)) ∷ below)
-  goes_back Nothing a x caller below w = w
-  goes_back A_word a x caller below w = w
-  goes_back (An_own t) a x caller below w = w
-  goes_back (A_maybe t) a x caller below w = w
-  goes_back (Left t) a x caller below w = w
-
-  returns : (g : Gives) (a : ℕ) (ts' : List Task) → AllWait p ts' → RoundsLeft p (returned p fr ts s g a ts').tasks
-  returns g a [] w = given
-  returns g a (Run caller ∷ below) w = goes_back g a (result_register (instr_at p caller.method caller.place)) caller below w
-  returns g a (Trapped ∷ []) w = given
-  returns g a (Trapped ∷ Run caller ∷ below) w = goes_back g a (result_register (instr_at p caller.method caller.place)) caller below w
-  returns g a (Trapped ∷ Trapped ∷ below) w = given
-  returns g a (Trapped ∷ Destroy ∷ below) w = given
-  returns g a (Trapped ∷ Dispatched d ∷ below) w = w
-  returns g a (Destroy ∷ below) w = w
-  returns g a (Trapped ∷ Unwind code ∷ below) w = given
-  returns g a (Unwind code ∷ below) w = w
-  returns g a (Dispatched d ∷ below) w = given
-
-  branches : (i : Instr) (t : ℕ) (b : Bool) → instr_at p fr.method fr.place ≡ Some i → jump_of i ≡ Some t → ((d n : ℕ) → i ≡ Loop d n → ⊥) → RoundsLeft p (branched fr ts s b t).tasks
-  branches i t true at jump unlooped = leaps i t at jump
-  branches i t false at jump unlooped = steps i at unlooped
-
-  jumps : (i : Instr) (t : ℕ) (o : Option Object) → instr_at p fr.method fr.place ≡ Some i → jump_of i ≡ Some t → ((d n : ℕ) → i ≡ Loop d n → ⊥) → RoundsLeft p (jumped p c fr ts s o t).tasks
-  jumps i t None at jump unlooped = leaps i t at jump
-  jumps i t (Some o) at jump unlooped = steps i at unlooped
-
-  deletes : (i : Instr) (a : ℕ) (o : Option Object) → instr_at p fr.method fr.place ≡ Some i → ((d n : ℕ) → i ≡ Loop d n → ⊥) → RoundsLeft p (deleted p c fr ts s o a).tasks
-  deletes i a None at unlooped = steps i at unlooped
-  deletes i a (Some o) at unlooped = begins_over p (destructor_of p o.thing) o (length s.items) (Run (set_word fr a None) ∷ ts) (goes_on p looped_so fr i at rounds unlooped, wait)
-
-  loops : (e t left : ℕ) → instr_at p fr.method fr.place ≡ Some (Next e t) → (counter fr e - 1) ≡ left → RoundsLeft p (looped fr ts s left e t).tasks
-  loops e t zero at same = (ends_rounds p looped_so fr rounds e t at, wait)
-  loops e t (suc k) at same = (next_round p looped_so fr rounds e t at k same, wait)
-
-  -- where a request is refused the method leaves
-  refused_or : (b : Bool) (code : ℤ) (s' u : State) → AllWait p (to_trap s'.tasks) → RoundsLeft p u.tasks → RoundsLeft p (cond b (left code s') u).tasks
-  refused_or true code s' u off on = off
-  refused_or false code s' u off on = on
-
-  -- what is popped goes, or runs, over the method
-  deals : (items : List Item) → instr_at p fr.method fr.place ≡ Some PopDelete → RoundsLeft p (dealt_with p items (Run fr ∷ ts) s).tasks
-  deals [] at = (rounds, wait)
-  deals (An_object ∷ items) at = destroys p (held s.cells (Entry (length items))) items (Run fr ∷ ts) s (rounds, wait) (goes_on p looped_so fr _ at rounds (λ d n e. cc), wait)
-  deals (An_operation m w ∷ items) at = (fresh p (operation_frame m w (length items)), (goes_on p looped_so fr _ at rounds (λ d n e. cc), wait))
-  deals (A_mark ∷ items) at = (rounds, wait)
-
-  acts : (i : Instr) → instr_at p fr.method fr.place ≡ Some i → RoundsLeft p (does p c fr ts s i).tasks
-  unfolding jump_of
-  acts (Const a w) at = steps _ at (λ d n e. cc)
-  acts (Copy a b) at = steps _ at (λ d n e. cc)
-  acts (Add a b x) at = steps _ at (λ d n e. cc)
-  acts (Sub a b x) at = steps _ at (λ d n e. cc)
-  acts (Mul a b x) at = steps _ at (λ d n e. cc)
-  acts (And a b x) at = steps _ at (λ d n e. cc)
-  acts (Or a b x) at = steps _ at (λ d n e. cc)
-  acts (Xor a b x) at = steps _ at (λ d n e. cc)
-  acts (Jump t) at = leaps _ t at refl
-  acts (JumpEqual a b t) at = branches _ t (int_eq (read fr ts s a) (read fr ts s b)) at refl (λ d n e. cc)
-  acts (JumpLess a b t) at = branches _ t (int_lt (read fr ts s a) (read fr ts s b)) at refl (λ d n e. cc)
-  acts (JumpNull a t) at = jumps _ t (held s.cells (here fr ts s a)) at refl (λ d n e. cc)
-  acts (JumpEmpty f t) at = jumps _ t (held s.cells (field_place fr.home f)) at refl (λ d n e. cc)
-  acts (Loop d n) at = (begins_rounds p looped_so fr rounds d n at, wait)
-  acts (Next d t) at = loops d t (counter fr d - 1) at refl
-  acts (Print a) at = steps _ at (λ d n e. cc)
-  acts (Load a w) at = steps _ at (λ d n e. cc)
-  acts (Store w b) at = steps _ at (λ d n e. cc)
-  acts (Move a b) at = steps _ at (λ d n e. cc)
-  acts (Take a f) at = steps _ at (λ d n e. cc)
-  acts (Put f b) at = steps _ at (λ d n e. cc)
-  acts (New a x) at = steps _ at (λ d n e. cc)
-  acts (Delete a) at = deletes _ a (held s.cells (here fr ts s a)) at (λ d n e. cc)
-  acts (Call target m first x) at = (fresh p (entered p fr ts s target m first (length s.items)), (goes_on p looped_so fr _ at rounds (λ d n e. cc), wait))
-  acts (Return a) at = returns (gives_of p fr.method) a ts wait
-  acts Stop at = steps _ at (λ d n e. cc)
-  acts (Trap target m first x) at = (fresh p (entered p fr ts s target m first (suc (length s.items))), (goes_on p looped_so fr _ at rounds (λ d n e. cc), wait))
-  acts (NewOrLeave a x) at = refused_or c.refused no_memory s (go_on fr ts s (with_new c.name (An_object_of x) (no_words p c fr ts s x) (here fr ts s a) s.cells) (set_word fr a None)) (leaves_off p s.tasks given) (steps _ at (λ d n e. cc))
-  acts (Push a) at = refused_or c.refused no_memory (pushed p c fr ts s a) (pushed p c fr ts s a) (under_trap p ts wait) (steps _ at (λ d n e. cc))
-  acts (PushOperation a m) at = refused_or c.refused no_memory (operation_pushed p c fr ts s a m) (operation_pushed p c fr ts s a m) (under_trap p ts wait) (steps _ at (λ d n e. cc))
-  acts (Pop a) at = steps _ at (λ d n e. cc)
-  acts PopOperation at = steps _ at (λ d n e. cc)
-  acts PopDelete at = deals s.items at
-  acts (Leave a) at = leaves_off p s.tasks given
-  acts (LeaveIf a) at = refused_or (is_negative p c fr ts s (read fr ts s a)) (read fr ts s a) s (go_on fr ts s s.cells fr) (leaves_off p s.tasks given) (steps _ at (λ d n e. cc))
-  acts _ at = given
-
--- what waited goes on
-resumes : (p : Image) (ts : List Task) → AllWait p ts → RoundsLeft p (resumed ts)
-resumes p [] w = tt
-resumes p (Run fr ∷ ts) w = w
-resumes p (Trapped ∷ ts) w = w
-resumes p (Destroy ∷ ts) w = w
-resumes p (Dispatched d ∷ ts) w = w
-resumes p (Unwind code ∷ ts) w = w
-
-goes_away : (p : Image) (o : Option Object) (ts : List Task) (s u : State) → AllWait p ts → gone o ts s ≡ Goes u → RoundsLeft p u.tasks
-goes_away p None ts s u w e = cc
-goes_away p (Some o) ts s u w e = subst (λ v. RoundsLeft p v.tasks) (guarded_goes ((owns_nothing s.cells o.name, Orphan) ∷ []) (record s { cells = without (Going (length ts)) s.cells; tasks = resumed ts }) u e) (resumes p ts w)
-
-uproots : (p : Image) (d : Option ℕ) (o : Object) (height : ℕ) → RoundsLeft p (begun_by d o height (Dispatched Of_root ∷ []))
-uproots p None o height = tt
-uproots p (Some m) o height = (fresh p (frame_of m (Inside o (Going 1)) height), tt)
-
-ends : (p : Image) (s : State) (d : Dispatch) → RoundsLeft p (dispatch_ends p d s).tasks
-ends p s Of_root = tt
-ends p s (Main_left code) = tt
-ends p s Of_main = go s.rest.stopped (held s.cells (Elsewhere Root))
-  where
-    go : (b : Bool) (root : Option Object) → RoundsLeft p (main_ends p b root s).tasks
-    go true (Some o) = uproots p (destructor_of p o.thing) o (length s.items)
-    go true None = tt
-    go false root = tt
-
-pub goes_same : (s u : State) → Goes s ≡ Goes u → s ≡ u
-goes_same s u e = cc
-
--- a code changes words alone
-told : (p : Image) (g : Gives) (x : ℕ) (code : ℤ) (fr : Frame) (ts : List Task) → RoundsAt p fr (suc fr.place) × AllWait p ts → RoundsLeft p (Run (next (code_told g x code fr)) ∷ ts)
-told p Nothing x code fr ts w = w
-told p A_word x code fr ts w = w
-told p (An_own t) x code fr ts w = w
-told p (A_maybe t) x code fr ts w = w
-told p (Left t) x code fr ts w = w
-
-arrives : (p : Image) (code : ℤ) (ts : List Task) (items : List Item) (s u : State) → AllWait p ts → arrived p code ts items s ≡ Goes u → RoundsLeft p u.tasks
-arrives p code [] items s u w e = cc
-arrives p code (Run fr ∷ ts) items s u w e = cc
-arrives p code (Trapped ∷ []) items s u w e = cc
-arrives p code (Trapped ∷ Run fr ∷ ts) items s u w e =
-    let i = instr_at p fr.method fr.place in
-    let caller = next (code_told (called p i) (result_register i) code fr) in
-    subst (λ v. RoundsLeft p v.tasks) (goes_same (record s { tasks = Run caller ∷ ts; items = items }) u e) (told p (called p i) (result_register i) code fr ts w)
-arrives p code (Trapped ∷ Trapped ∷ ts) items s u w e = cc
-arrives p code (Trapped ∷ Destroy ∷ ts) items s u w e = cc
-arrives p code (Trapped ∷ Unwind c ∷ ts) items s u w e = cc
-arrives p code (Trapped ∷ Dispatched d ∷ ts) items s u w e = subst (λ v. RoundsLeft p v.tasks) (goes_same (record s { tasks = Dispatched (ended_by code d) ∷ ts; items = items }) u e) w
-arrives p code (Destroy ∷ ts) items s u w e = cc
-arrives p code (Unwind c ∷ ts) items s u w e = cc
-arrives p code (Dispatched d ∷ ts) items s u w e = cc
-
-unwinds : (p : Image) (code : ℤ) (ts : List Task) (s u : State) (items : List Item) → AllWait p ts → unwound p code ts s items ≡ Goes u → RoundsLeft p u.tasks
-unwinds p code ts s u [] w e = cc
-unwinds p code ts s u (An_object ∷ items) w e = whole (top_is_whole s.cells (An_object ∷ items)) e
-  where
-    whole : (b : Bool) → cond b (Goes (dealt_with p (An_object ∷ items) (Unwind code ∷ ts) s)) (IsStuck NullOrDead) ≡ Goes u → RoundsLeft p u.tasks
-    whole true e = subst (λ v. RoundsLeft p v.tasks) (goes_same (dealt_with p (An_object ∷ items) (Unwind code ∷ ts) s) u e) (destroys p (held s.cells (Entry (length items))) items (Unwind code ∷ ts) s w w)
-    whole false e = cc
-unwinds p code ts s u (An_operation m word ∷ items) w e = subst (λ v. RoundsLeft p v.tasks) (goes_same (dealt_with p (An_operation m word ∷ items) (Unwind code ∷ ts) s) u e) (fresh p (operation_frame m word (length items)), w)
-unwinds p code ts s u (A_mark ∷ items) w e = arrives p code ts items s u w e
+  kept : Kept p c (rounds_left p) s
+  kept = record {
+    goes_on = λ fr ts i a f words. goes_on p looped_so fr i a.there a.runs f;
+    jumps = λ fr ts i a to f. goes_to p looped_so fr i a.there a.runs to f;
+    counts = λ fr ts i a d n f. sets fr ts i a d n f;
+    repeats = λ fr ts d to k a f. next_round p looped_so fr a.runs d to a.there k f;
+    waits = λ fr ts i a f words. goes_on p looped_so fr i a.there a.runs f;
+    resumes = λ fr ts w words. w;
+    calls = λ fr ts target m first x a. fresh p (entered p fr ts (counted p s) target m first (length s.items));
+    traps = λ fr ts target m first x a. (fresh p (entered p fr ts (counted p s) target m first (length (A_mark ∷ s.items))), tt);
+    destructs = λ o m height ts e. fresh p (frame_of m (Inside o (Going (length ts))) height);
+    undoes = λ m w items ts e. fresh p (operation_frame m w (length items));
+    unwinds = λ code ts w. tt;
+  }
 
 moves : (p : Image) → IsLooped p → (c : Choice) (s u : State) → RoundsLeft p s.tasks → step p c s ≡ Goes u → RoundsLeft p u.tasks
-moves p looped_so c s u h e = go s.tasks refl h e
-  where
-    go : (ts : List Task) → s.tasks ≡ ts → RoundsLeft p ts → step_task p c (counted p s) ts ≡ Goes u → RoundsLeft p u.tasks
-    go [] at h e = subst (λ v. RoundsLeft p v.tasks) (goes_same (counted p s) u e) (subst (λ ts. RoundsLeft p ts) (sym at) tt)
-    go (Run fr ∷ ts) at h e = runs (instr_at p fr.method fr.place) refl e
-      where
-        runs : (i : Option Instr) → instr_at p fr.method fr.place ≡ i → step_instr p c fr ts (counted p s) i ≡ Goes u → RoundsLeft p u.tasks
-        runs None there e = cc
-        runs (Some i) there e = subst (λ v. RoundsLeft p v.tasks) (guarded_goes (needs p c fr ts (counted p s) i) (does p c fr ts (counted p s) i) u e) (acts p looped_so c fr ts (counted p s) (subst (λ ts. RoundsLeft p ts) (sym at) h) h.0 h.1 i there)
-    go (Trapped ∷ ts) at h e = cc
-    go (Destroy ∷ ts) at h e = goes_away p (held s.cells (Going (length ts))) ts (counted p s) u h e
-    go (Unwind code ∷ ts) at h e = unwinds p code ts (counted p s) u (counted p s).items h e
-    go (Dispatched d ∷ ts) at h e = subst (λ v. RoundsLeft p v.tasks) (goes_same (dispatch_ends p d (counted p s)) u e) (ends p (counted p s) d)
+moves p looped_so c s u h e = keeps p c (rounds_left p) s u (kept p looped_so c s) h e
 
 pub loops_keep : LoopsKeep
 loops_keep = record { linked = linked_is_looped; boot = boot; moves = moves }
@@ -352,4 +161,4 @@ loops_keep = record { linked = linked_is_looped; boot = boot; moves = moves }
       where
         begins : (m : Option ℕ) → RoundsLeft p (main_tasks m)
         begins None = tt
-        begins (Some m) = (fresh p (frame_of m AtRoot 1), tt)
+        begins (Some m) = (fresh p (frame_of m AtRoot 1), (tt, tt))

@@ -38,11 +38,9 @@ HasThing (Own c a) x = x ≡ c
 HasThing (Maybe c a) x = x ≡ c
 
 fits_thing : (p : Image) (h : Place → Option Object) (o : Object) (k : Kind) → Fits p h (Some o) k → HasThing k o.thing
-fits_thing p h o Unset f = f
-fits_thing p h o Word f = f
-fits_thing p h o Null f = f
 fits_thing p h o (Own c a) f = stands_same p o.thing c f.0
 fits_thing p h o (Maybe c a) f = stands_same p o.thing c f.0
+fits_thing p h o _ f = f
 
 -- the first cell is held by its owner
 held_first : (c : Cell) (cs : List Cell) → held (c ∷ cs) c.owner ≡ Some c.object

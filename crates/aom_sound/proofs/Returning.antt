@@ -166,29 +166,19 @@ module _ (p : Image) (t : Typing) (c : Choice) (s : State) (fr fr2 : Frame) (sh 
 -- what the rule says of the result, by its kind
 module _ (p : Image) (s : State) where
   pub may_own : (x : Thing) (k : Kind) → is_own_for p x k ≡ true → is_ready_kind k ≡ true → k ≡ Own x Ready
-  may_own x Unset e r = cc
-  may_own x Word e r = cc
-  may_own x Null e r = cc
-  may_own x (Own y Fresh) e r = cc
   may_own x (Own y Ready) e r = ap (λ z. Own z Ready) (stands_same p y x e)
-  may_own x (Maybe y a) e r = cc
+  may_own x _ e r = cc
 
   pub may_hold : (x : Thing) (k : Kind) → may_be p x k ≡ true → is_ready_kind k ≡ true → Weaker (Maybe x Ready) k
-  may_hold x Unset e r = cc
-  may_hold x Word e r = cc
   may_hold x Null e r = maybe_null
-  may_hold x (Own y Fresh) e r = cc
   may_hold x (Own y Ready) e r = subst (λ z. Weaker (Maybe x Ready) (Own z Ready)) (sym (stands_same p y x e)) maybe_own
-  may_hold x (Maybe y Fresh) e r = cc
   may_hold x (Maybe y Ready) e r = subst (λ z. Weaker (Maybe x Ready) (Maybe z Ready)) (sym (stands_same p y x e)) alike
+  may_hold x _ e r = cc
 
   pub word_is : (w : Option ℤ) (k : Kind) → is_word k ≡ true → WordFits w k → (is_some w ≡ true) × WordFits w Word
-  word_is w Unset e f = cc
   word_is None Word e f = absurd f
   word_is (Some w) Word e f = (refl, tt)
-  word_is w Null e f = cc
-  word_is w (Own x a) e f = cc
-  word_is w (Maybe x a) e f = cc
+  word_is w _ e f = cc
 
   pub held_thing : (x : Thing) (o : Option Object) → Fits p (held s.cells) o (Own x Ready) → (is_some o ≡ true) × (is_thing p x o ≡ true)
   held_thing x None f = absurd f
@@ -201,9 +191,7 @@ module _ (p : Image) (s : State) where
   pub object_of : (x : Thing) (k : Kind) → may_be p x k ≡ true → is_object_or_null k ≡ true
   object_of x Unset e = cc
   object_of x Word e = cc
-  object_of x Null e = refl
-  object_of x (Own y a) e = refl
-  object_of x (Maybe y a) e = refl
+  object_of x _ e = refl
 
 module _ (p : Image) (t : Typing) (c : Choice) (s : State) (fr fr2 : Frame) (sh sh2 : Shape) (ls : List Layer) (at_hand : At p t s fr sh (Method fr2 sh2 ∷ ls)) where
   abbrev pub below : List Layer
@@ -322,8 +310,7 @@ module _ (p : Image) (t : Typing) (c : Choice) (s : State) (fr : Frame) (sh : Sh
 
   gives_nothing : (w : Dispatch) → EndsDispatch p w (Caught gv) → gv ≡ Nothing
   gives_nothing Of_main e = e
-  gives_nothing (Main_left code) e = absurd e
-  gives_nothing Of_root e = absurd e
+  gives_nothing _ e = absurd (assumption tt)
 
   ends : (w : Dispatch) → EndsDispatch p w Now
   ends Of_main = tt

@@ -36,11 +36,8 @@ stored_alike cs (Inside o from) w v = record { held_so = held_set_word cs o.name
 
 module _ (p : Image) (t : Typing) (cs cs' : List Cell) (alike : Alike cs cs') where
   declared_alike : (r : Place) → declared p cs' r ≡ declared p cs r
-  declared_alike (Register f i) = refl
-  declared_alike (Entry k) = refl
   declared_alike (Field n f) = ap (λ o. declared_field p o f) (alike.named_so n)
-  declared_alike (Elsewhere Root) = refl
-  declared_alike (Going k) = refl
+  declared_alike _ = refl
 
   housed_alike : (ls : List Layer) (home : Home) → IsHoused p cs ls home → IsHoused p cs' ls home
   housed_alike ls Static h = h

@@ -41,18 +41,14 @@ register_fits p cs fr sh ls fits i =
 
 pub fits_unowning : (p : Image) (h : Place → Option Object) (o : Option Object) (k : Kind) → is_unowning k ≡ true → Fits p h o k → o ≡ None
 fits_unowning p h None k u f = refl
-fits_unowning p h (Some o) Unset u f = absurd f
-fits_unowning p h (Some o) Word u f = absurd f
-fits_unowning p h (Some o) Null u f = absurd f
 fits_unowning p h (Some o) (Own c a) u f = cc
 fits_unowning p h (Some o) (Maybe c a) u f = cc
+fits_unowning p h _ _ u f = absurd f
 
 pub word_of_object : (w : Option ℤ) (k : Kind) → is_object_or_null k ≡ true → WordFits w k → w ≡ None
 word_of_object w Unset e f = cc
 word_of_object w Word e f = cc
-word_of_object w Null e f = f
-word_of_object w (Own c a) e f = f
-word_of_object w (Maybe c a) e f = f
+word_of_object w _ e f = f
 
 -- the cells are as the layers claim, where the top method may be in the middle of its instruction
 pub record Fitted (p : Image) (t : Typing) (cs : List Cell) (fr : Frame) (sh : Shape) (ls : List Layer) : Type 0 where
@@ -162,9 +158,7 @@ words_null words sh a h e i = subst (λ x. WordFits (at None words i) x) (sym (a
 pub no_word_fits : (k : Kind) → is_object_or_null k ≡ true → WordFits None k
 no_word_fits Unset e = tt
 no_word_fits Word e = cc
-no_word_fits Null e = refl
-no_word_fits (Own c a) e = refl
-no_word_fits (Maybe c a) e = refl
+no_word_fits _ e = refl
 
 -- a register of the top method
 abbrev pub top : List Layer → ℕ → Place
@@ -239,11 +233,9 @@ module _ (p : Image) (t : Typing) (c : Choice) (s : State) (fr : Frame) (sh : Sh
 
   pub thing_ok : (x : Thing) (o : Option Object) (k : Kind) → may_be p x k ≡ true → Fits p (held s.cells) o k → is_thing p x o ≡ true
   thing_ok x None k e f = refl
-  thing_ok x (Some o) Unset e f = absurd f
-  thing_ok x (Some o) Word e f = absurd f
-  thing_ok x (Some o) Null e f = absurd f
   thing_ok x (Some o) (Own y a) e f = stands_along p o.thing y x f.0 e
   thing_ok x (Some o) (Maybe y a) e f = stands_along p o.thing y x f.0 e
+  thing_ok x _ _ e f = absurd f
 
   pub declared_ok : (x : Option Thing) (o : Option Object) (k : Kind) → may_be_declared p x k ≡ true → Fits p (held s.cells) o k → is_declared_thing p x o ≡ true
   declared_ok None o k e f = cc
@@ -252,23 +244,17 @@ module _ (p : Image) (t : Typing) (c : Choice) (s : State) (fr : Frame) (sh : Sh
   pub may_be_object : (x : Thing) (k : Kind) → may_be p x k ≡ true → is_object_or_null k ≡ true
   may_be_object x Unset e = cc
   may_be_object x Word e = cc
-  may_be_object x Null e = refl
-  may_be_object x (Own y a) e = refl
-  may_be_object x (Maybe y a) e = refl
+  may_be_object x _ e = refl
 
   pub declared_object : (x : Option Thing) (k : Kind) → may_be_declared p x k ≡ true → is_object_or_null k ≡ true
   declared_object None k e = cc
   declared_object (Some x) k e = may_be_object x k e
 
   pub refills : (x : Option Thing) (k : Kind) → may_be_declared p x k ≡ true → is_ready_kind k ≡ true → filled x (filling_of k) ≡ k
-  refills None k e r = cc
-  refills (Some x) Unset e r = cc
-  refills (Some x) Word e r = cc
   refills (Some x) Null e r = refl
-  refills (Some x) (Own y Fresh) e r = cc
   refills (Some x) (Own y Ready) e r = ap (λ z. Own z Ready) (sym (stands_same p y x e))
-  refills (Some x) (Maybe y Fresh) e r = cc
   refills (Some x) (Maybe y Ready) e r = ap (λ z. Maybe z Ready) (sym (stands_same p y x e))
+  refills _ _ e r = cc
 
   pub empties : (x : Option Thing) (y : Filling) → is_empty y ≡ true → is_unowning (filled x y) ≡ true
   empties None y e = refl

@@ -1,35 +1,35 @@
 -- What lies below the mark of a trap stays: as many marks lie on the cleanup stack as traps are at hand, and a move changes its last item at most.
-use Rattle.std.proofs.Common.{Bool, List, None, Option, Some, [], ap, arith, cond, false, inl, inr, length, pos, refl, subst, suc, sym, true, zero, ℕ, ℤ, ◌+◌, ◌-◌, ◌∙◌, ◌∷◌, ◌≡◌}
-use Rattle.std.specs.Ordering.{int_eq}
-use Rattle.std.specs.Prelude.{int_lt, ◌++◌, ◌⊎◌}
+use Rattle.std.proofs.Common.{List, None, Option, Some, [], ap, arith, inl, inr, length, pos, refl, subst, suc, sym, ℕ, ℤ, ◌+◌, ◌∙◌, ◌∷◌, ◌≡◌}
+use Rattle.std.specs.Prelude.{◌++◌, ◌⊎◌}
 use Rattle.aom_image.specs.Image.{Image}
-use Rattle.aom_image.specs.Views.{gives_of, instr_at}
+use Rattle.aom_image.specs.Views.{instr_at}
 use Rattle.aom_image.specs.declared.instr.Instr.{Instr}
-use Rattle.aom_image.specs.declared.instr.Instr.TheVariants.{Add, And, Call, Const, Copy, Delete, Jump, JumpEmpty, JumpEqual, JumpLess, JumpNull, Leave, LeaveIf, Load, Loop, Move, Mul, New, NewOrLeave, Next, Or, Pop, PopDelete, PopOperation, Print, Push, PushOperation, Put, Return, Stop, Store, Sub, Take, Trap, Xor}
+use Rattle.aom_image.specs.declared.instr.Instr.TheVariants.{Trap}
 use Rattle.aom_image.specs.declared.instr.Target.{Target}
 use Rattle.aom_image.specs.declared.method.Gives.{Gives}
 use Rattle.aom_image.specs.declared.method.Gives.TheVariants.{Left, Maybe as A_maybe, Nothing, Own as An_own, Word as A_word}
 use Rattle.aom_shape.specs.Typing.{IsTyped, Typing}
-use Rattle.aom_shape.specs.declared.kind.Entry.{Entry as Pushed}
-use Rattle.aom_shape.specs.declared.kind.Entry.TheVariants.{Object as Pushed_object, Operation as Pushed_operation}
+use Rattle.aom_shape.specs.declared.kind.Entry.{Entry as Pushed_entry}
+use Rattle.aom_shape.specs.declared.kind.Entry.TheVariants.{Object as Pushed_object, Operation as Operation_entry}
+use Rattle.aom_sound.proofs.Booting.{boot_keeps}
 use Rattle.aom_sound.proofs.Caught.{own_word, told_frame}
 use Rattle.aom_sound.proofs.Course.{well_on}
-use Rattle.aom_sound.proofs.Booting.{boot_keeps}
-use Rattle.aom_sound.proofs.Looping.{goes_same, guarded_goes}
+use Rattle.aom_sound.proofs.Guarded.{guarded_goes}
+use Rattle.aom_sound.proofs.Moving.{steps_are_moves}
 use Rattle.aom_sound.proofs.Standing.{stand}
 use Rattle.aom_sound.proofs.Steps.{step_keeps}
 use Rattle.aom_sound.specs.Calls.{below_top, called, received, result_register, returned}
 use Rattle.aom_sound.specs.Claims.{Dispatching, Dying, Form, Layer, Mark, Mark_form, Method, Object_form, Operation_form, Unwinding, forms, items_of, objects, tasks_of}
-use Rattle.aom_sound.specs.Cleanup.{arrived, code_told, dealt_with, destroyed, ended_by, is_negative, left, no_memory, operation_pushed, pushed, to_trap, top_is_whole, unwound}
-use Rattle.aom_sound.specs.Destruction.{begun, begun_by, destructor_of, gone, owns_nothing}
+use Rattle.aom_sound.specs.Cleanup.{code_told, ended_by, to_trap}
+use Rattle.aom_sound.specs.Destruction.{begun, begun_by, destructor_of}
+use Rattle.aom_sound.specs.Effects.{Calls, Counts, Destroys, Destroys_last, Effect, Goes_on, Jumps, Leaves, Operates, Popped, Popped_operation, Pushed, Pushed_operation, Repeats, Returns, Sets_trap, Update, applied, items_after, with_words}
 use Rattle.aom_sound.specs.Laws.{IsWired}
 use Rattle.aom_sound.specs.Moves.{IsOpen, counted, does, needs, step, step_instr, step_task}
-use Rattle.aom_sound.specs.Objects.{deleted, jumped}
-use Rattle.aom_sound.specs.Places.{Entry, Going, Object, held, named, without}
-use Rattle.aom_sound.specs.State.{A_mark, An_object, An_operation, Choice, Destroy, Dispatch, Dispatched, Frame, Goes, IsStuck, Item, NullOrDead, Orphan, Run, State, Task, Trapped, Unwind, counter, field_place, next, resumed, set_word, word}
+use Rattle.aom_sound.specs.Places.{Object, named}
+use Rattle.aom_sound.specs.State.{A_mark, An_object, An_operation, Choice, Destroy, Dispatch, Dispatched, Frame, Goes, Item, Run, State, Task, Trapped, Unwind, next, resumed, set_word, word}
+use Rattle.aom_sound.specs.Steps.{Acts, Arrives, Clears, Comes_out, Ends as A_dispatch_ends, Move, Rests, Undoes, Vanishes}
 use Rattle.aom_sound.specs.Traps.{ComesOff, GoesOnAfter, IsPast, IsTrapping, TellsZero, TrapsKeep, WasPast, marks, traps}
 use Rattle.aom_sound.specs.WellTyped.{Good, Keeps, WellTyped}
-use Rattle.aom_sound.specs.Words.{branched, go_on, here, looped, read}
 use Rattle.aom_sound.specs.World.{IsBetween, IsBusy, Reaches, begins, boot_state, moves, waiting, waits}
 use Rattle.aom_sound.specs.declared.line.Line.{Line}
 
@@ -47,10 +47,10 @@ marks_of_forms (An_object ∷ items) = marks_of_forms items
 marks_of_forms (An_operation m w ∷ items) = marks_of_forms items
 marks_of_forms (A_mark ∷ items) = ap suc (marks_of_forms items)
 
-marks_under : (es : List Pushed) (fs : List Form) → mark_forms (objects es fs) ≡ mark_forms fs
+marks_under : (es : List Pushed_entry) (fs : List Form) → mark_forms (objects es fs) ≡ mark_forms fs
 marks_under [] fs = refl
 marks_under (Pushed_object c a ∷ es) fs = marks_under es fs
-marks_under (Pushed_operation ∷ es) fs = marks_under es fs
+marks_under (Operation_entry ∷ es) fs = marks_under es fs
 
 marks_of_layers : (ls : List Layer) → mark_forms (items_of ls) ≡ traps (tasks_of ls)
 marks_of_layers [] = refl
@@ -143,20 +143,12 @@ under_trap below ts e = go e.0 e.1
     go (x ∷ over) e = inr (over, cc)
 
 lands : (below ts : List Task) → Ends below ts → Ends below (to_trap ts)
-lands below [] e = e
 lands below (Run fr ∷ ts) e = lands below ts (under_frame below ts fr e)
-lands below (Trapped ∷ ts) e = e
-lands below (Destroy ∷ ts) e = e
-lands below (Unwind code ∷ ts) e = e
-lands below (Dispatched d ∷ ts) e = e
+lands below _ e = e
 
 resumes : (below ts : List Task) → Ends below ts → Ends below (resumed ts)
-resumes below [] e = e
 resumes below (Run fr ∷ ts) e = with_task below ts (Run (next fr)) (under_frame below ts fr e)
-resumes below (Trapped ∷ ts) e = e
-resumes below (Destroy ∷ ts) e = e
-resumes below (Unwind code ∷ ts) e = e
-resumes below (Dispatched d ∷ ts) e = e
+resumes below _ e = e
 
 begins_there : (p : Image) (o : Object) (height : ℕ) (below ts : List Task) → Ends below ts → Ends below (begun p o height ts)
 begins_there p o height below ts e = go (destructor_of p o.thing)
@@ -165,39 +157,10 @@ begins_there p o height below ts e = go (destructor_of p o.thing)
     go None = with_task below ts Destroy e
     go (Some m) = with_task below (Destroy ∷ ts) _ (with_task below ts Destroy e)
 
--- an item is dealt with over these tasks
-deals_there : (p : Image) (items : List Item) (below ts : List Task) (s : State) → s.items ≡ items → Ends below ts → Moved p below s (dealt_with p items ts s)
-deals_there p [] below ts s at e = inl (e, inl refl)
-deals_there p (An_object ∷ items) below ts s at e = go (held s.cells (Entry (length items)))
-  where
-    go : (o : Option Object) → Moved p below s (destroyed p o items ts s)
-    go None = inl (e, inr (inr (An_object, at)))
-    go (Some o) = inl (begins_there p o (length items) below ts e, inr (inr (An_object, at)))
-deals_there p (An_operation m w ∷ items) below ts s at e = inl (with_task below ts _ e, inr (inr (An_operation m w, at)))
-deals_there p (A_mark ∷ items) below ts s at e = inl (e, inl refl)
-
+-- a method returns
 module _ (p : Image) (c : Choice) (fr : Frame) (ts : List Task) (s : State) (at_hand : s.tasks ≡ Run fr ∷ ts) (below : List Task) (e : Ends below ts) where
   given : Moved p below s s
   given = inl (subst (λ l. Ends below l) (sym at_hand) (with_task below ts (Run fr) e), inl refl)
-
-  over : (x : Task) → Ends below (x ∷ ts)
-  over x = with_task below ts x e
-
-  jump_there : (o : Option Object) (to : ℕ) → Moved p below s (jumped p c fr ts s o to)
-  jump_there None to = inl (over _, inl refl)
-  jump_there (Some o) to = inl (over _, inl refl)
-
-  branch_there : (b : Bool) (to : ℕ) → Moved p below s (branched fr ts s b to)
-  branch_there true to = inl (over _, inl refl)
-  branch_there false to = inl (over _, inl refl)
-
-  loop_there : (rounds depth to : ℕ) → Moved p below s (looped fr ts s rounds depth to)
-  loop_there zero depth to = inl (over _, inl refl)
-  loop_there (suc rounds) depth to = inl (over _, inl refl)
-
-  delete_there : (o : Option Object) (a : ℕ) → Moved p below s (deleted p c fr ts s o a)
-  delete_there None a = inl (over _, inl refl)
-  delete_there (Some o) a = inl (begins_there p o (length s.items) below (Run (set_word fr a None) ∷ ts) (over _), inl refl)
 
   -- a result changes words alone
   received_frame : (g : Gives) (a x : ℕ) (caller : Frame) (w : Option ℤ) → record (next (set_word (received p fr ts s g a x caller) (suc x) w)) { words = caller.words } ≡ next caller
@@ -216,7 +179,6 @@ module _ (p : Image) (c : Choice) (fr : Frame) (ts : List Task) (s : State) (at_
       subst (λ k. word (set_word (received p fr ts s g a y caller) (suc y) (Some (pos 0))) (suc k) ≡ Some (pos 0)) same (own_word (received p fr ts s g a y caller) (suc y) (Some (pos 0)))
 
   through_trap : (g : Gives) (a : ℕ) (under : List Task) → ts ≡ Trapped ∷ under → (under ≡ below) ⊎ Ends below under → Moved p below s (returned p fr ts s g a (Trapped ∷ under))
-  through_trap g a [] at o = given
   through_trap g a (Run caller ∷ under) at (inl same) =
       let x = result_register (instr_at p caller.method caller.place) in
       let after = next (set_word (received p fr ts s g a x caller) (suc x) (Some (pos 0))) in
@@ -226,147 +188,75 @@ module _ (p : Image) (c : Choice) (fr : Frame) (ts : List Task) (s : State) (at_
         inl (fr, at_hand ∙ ap (λ l. Run fr ∷ l) at ∙ ap (λ l. Run fr ∷ Trapped ∷ l) same, subst (λ b. TellsZero p b (Run after ∷ under)) same (zero_told g a caller under)),
       )
   through_trap g a (Run caller ∷ under) at (inr o) = inl (with_task below under _ (under_frame below under caller o), near_top s.items)
-  through_trap g a (Trapped ∷ under) at o = given
-  through_trap g a (Destroy ∷ under) at o = given
-  through_trap g a (Unwind code ∷ under) at o = given
   through_trap g a (Dispatched d ∷ under) at (inl same) = inr (
     subst (λ b. GoesOnAfter b (Dispatched d ∷ under)) same (d, refl),
     refl,
     inl (fr, at_hand ∙ ap (λ l. Run fr ∷ l) at ∙ ap (λ l. Run fr ∷ Trapped ∷ l) same, subst (λ b. TellsZero p b (Dispatched d ∷ under)) same tt),
   )
   through_trap g a (Dispatched d ∷ under) at (inr o) = inl (o, near_top s.items)
+  through_trap g a _ at o = given
 
   return_there : (g : Gives) (a : ℕ) (under : List Task) → ts ≡ under → Ends below under → Moved p below s (returned p fr ts s g a under)
-  return_there g a [] at o = given
   return_there g a (Run caller ∷ under) at o = inl (with_task below under _ (under_frame below under caller o), inl refl)
   return_there g a (Trapped ∷ under) at o = through_trap g a under at (under_trap below under o)
   return_there g a (Destroy ∷ under) at o = inl (o, inl refl)
   return_there g a (Unwind code ∷ under) at o = inl (o, inl refl)
-  return_there g a (Dispatched d ∷ under) at o = given
-
-  -- a leave lands on the trap, or on another over it
-  left_there : (v : State) (code : ℤ) → to_trap v.tasks ≡ to_trap ts → Ends below (left code v).tasks
-  left_there v code same = with_task below (to_trap v.tasks) (Unwind code) (subst (λ l. Ends below l) (sym same) (lands below ts e))
-
-  refused_there : (b : Bool) (code : ℤ) (v u : State) → to_trap v.tasks ≡ to_trap ts → Near s.items v.items → Moved p below s u → Moved p below s (cond b (left code v) u)
-  refused_there true code v u same near m = inl (left_there v code same, near)
-  refused_there false code v u same near m = m
-
-  over_trap : to_trap s.tasks ≡ to_trap ts
-  over_trap = ap to_trap at_hand
-
-  acts_there : (i : Instr) → Moved p below s (does p c fr ts s i)
-  acts_there (Const a w) = inl (over _, inl refl)
-  acts_there (Copy a b) = inl (over _, inl refl)
-  acts_there (Add a b x) = inl (over _, inl refl)
-  acts_there (Sub a b x) = inl (over _, inl refl)
-  acts_there (Mul a b x) = inl (over _, inl refl)
-  acts_there (And a b x) = inl (over _, inl refl)
-  acts_there (Or a b x) = inl (over _, inl refl)
-  acts_there (Xor a b x) = inl (over _, inl refl)
-  acts_there (Jump to) = inl (over _, inl refl)
-  acts_there (JumpEqual a b to) = branch_there (int_eq (read fr ts s a) (read fr ts s b)) to
-  acts_there (JumpLess a b to) = branch_there (int_lt (read fr ts s a) (read fr ts s b)) to
-  acts_there (JumpNull a to) = jump_there (held s.cells (here fr ts s a)) to
-  acts_there (JumpEmpty f to) = jump_there (held s.cells (field_place fr.home f)) to
-  acts_there (Loop depth rounds) = inl (over _, inl refl)
-  acts_there (Next depth to) = loop_there (counter fr depth - 1) depth to
-  acts_there (Load a w) = inl (over _, inl refl)
-  acts_there (Store w b) = inl (over _, inl refl)
-  acts_there (Print a) = inl (over _, inl refl)
-  acts_there (Move a b) = inl (over _, inl refl)
-  acts_there (Take a f) = inl (over _, inl refl)
-  acts_there (Put f b) = inl (over _, inl refl)
-  acts_there (New a x) = inl (over _, inl refl)
-  acts_there (Delete a) = delete_there (held s.cells (here fr ts s a)) a
-  acts_there (Call target m first x) = inl (with_task below (Run fr ∷ ts) _ (over (Run fr)), inl refl)
-  acts_there (Trap target m first x) = inl (with_task below (Trapped ∷ Run fr ∷ ts) _ (with_task below (Run fr ∷ ts) Trapped (over (Run fr))), inr (inl (A_mark, refl)))
-  acts_there (NewOrLeave a x) = refused_there c.refused no_memory s _ over_trap (inl refl) (inl (over _, inl refl))
-  acts_there (Push a) = refused_there c.refused no_memory (pushed p c fr ts s a) (pushed p c fr ts s a) refl (inr (inl (An_object, refl))) (inl (over _, inr (inl (An_object, refl))))
-  acts_there (PushOperation a m) = refused_there c.refused no_memory (operation_pushed p c fr ts s a m) (operation_pushed p c fr ts s a m) refl (inr (inl (_, refl))) (inl (over _, inr (inl (_, refl))))
-  acts_there (Pop a) = inl (over _, near_top s.items)
-  acts_there PopOperation = inl (over _, near_top s.items)
-  acts_there PopDelete = deals_there p s.items below (Run fr ∷ ts) s refl (over (Run fr))
-  acts_there (Leave a) = inl (left_there s (read fr ts s a) over_trap, inl refl)
-  acts_there (LeaveIf a) = refused_there (is_negative p c fr ts s (read fr ts s a)) (read fr ts s a) s (go_on fr ts s s.cells fr) over_trap (inl refl) (inl (over _, inl refl))
-  acts_there (Return a) = return_there (gives_of p fr.method) a ts refl e
-  acts_there Stop = inl (over _, inl refl)
-  acts_there _ = given
-
--- the code arrives at the trap, or at another over it
-arrives_there : (p : Image) (code : ℤ) (ts : List Task) (items : List Item) (s u : State) (below : List Task) → s.tasks ≡ Unwind code ∷ ts → s.items ≡ A_mark ∷ items → Ends below ts → arrived p code ts items s ≡ Goes u → Moved p below s u
-arrives_there p code [] items s u below top at o e = cc
-arrives_there p code (Run fr ∷ ts) items s u below top at o e = cc
-arrives_there p code (Trapped ∷ ts) items s u below top at o e = go ts top (under_trap below ts o) e
-  where
-    go : (ts : List Task) → s.tasks ≡ Unwind code ∷ Trapped ∷ ts → (ts ≡ below) ⊎ Ends below ts → arrived p code (Trapped ∷ ts) items s ≡ Goes u → Moved p below s u
-    go [] top o e = cc
-    go (Run fr ∷ ts) top (inl same) e =
-        let i = instr_at p fr.method fr.place in
-        let after = next (code_told (called p i) (result_register i) code fr) in
-        subst (λ v. Moved p below s v) (goes_same (record s { tasks = Run after ∷ ts; items = items }) u e)
-        (inr (subst (λ b. GoesOnAfter b (Run after ∷ ts)) same (after, refl, told_frame (result_register i) code fr (called p i)), sym (ap below_top at), inr (code, top ∙ ap (λ l. Unwind code ∷ Trapped ∷ l) same)))
-    go (Run fr ∷ ts) top (inr o) e =
-        let i = instr_at p fr.method fr.place in
-        let after = next (code_told (called p i) (result_register i) code fr) in
-        subst (λ v. Moved p below s v) (goes_same (record s { tasks = Run after ∷ ts; items = items }) u e)
-        (inl (with_task below ts (Run after) (under_frame below ts fr o), inr (inr (A_mark, at))))
-    go (Trapped ∷ ts) top o e = cc
-    go (Destroy ∷ ts) top o e = cc
-    go (Unwind x ∷ ts) top o e = cc
-    go (Dispatched d ∷ ts) top (inl same) e =
-        subst (λ v. Moved p below s v) (goes_same (record s { tasks = Dispatched (ended_by code d) ∷ ts; items = items }) u e)
-        (inr (subst (λ b. GoesOnAfter b (Dispatched (ended_by code d) ∷ ts)) same (ended_by code d, refl), sym (ap below_top at), inr (code, top ∙ ap (λ l. Unwind code ∷ Trapped ∷ l) same)))
-    go (Dispatched d ∷ ts) top (inr o) e =
-        subst (λ v. Moved p below s v) (goes_same (record s { tasks = Dispatched (ended_by code d) ∷ ts; items = items }) u e)
-        (inl (with_task below ts (Dispatched (ended_by code d)) (under_dispatch below ts d o), inr (inr (A_mark, at))))
-arrives_there p code (Destroy ∷ ts) items s u below top at o e = cc
-arrives_there p code (Unwind x ∷ ts) items s u below top at o e = cc
-arrives_there p code (Dispatched d ∷ ts) items s u below top at o e = cc
-
-unwinds_there : (p : Image) (code : ℤ) (ts : List Task) (items : List Item) (s u : State) (below : List Task) → s.tasks ≡ Unwind code ∷ ts → s.items ≡ items → Ends below ts → unwound p code ts s items ≡ Goes u → Moved p below s u
-unwinds_there p code ts [] s u below top at o e = cc
-unwinds_there p code ts (An_object ∷ items) s u below top at o e = go (top_is_whole s.cells (An_object ∷ items)) e
-  where
-    go : (b : Bool) → cond b (Goes (dealt_with p (An_object ∷ items) (Unwind code ∷ ts) s)) (IsStuck NullOrDead) ≡ Goes u → Moved p below s u
-    go true e = subst (λ v. Moved p below s v) (goes_same (dealt_with p (An_object ∷ items) (Unwind code ∷ ts) s) u e) (deals_there p (An_object ∷ items) below (Unwind code ∷ ts) s at (with_task below ts (Unwind code) o))
-    go false e = cc
-unwinds_there p code ts (An_operation m w ∷ items) s u below top at o e = subst (λ v. Moved p below s v) (goes_same (dealt_with p (An_operation m w ∷ items) (Unwind code ∷ ts) s) u e) (deals_there p (An_operation m w ∷ items) below (Unwind code ∷ ts) s at (with_task below ts (Unwind code) o))
-unwinds_there p code ts (A_mark ∷ items) s u below top at o e = arrives_there p code ts items s u below top at o e
-
-goes_there : (p : Image) (o : Option Object) (ts : List Task) (s u : State) (below : List Task) → Ends below ts → gone o ts s ≡ Goes u → Moved p below s u
-goes_there p None ts s u below h e = cc
-goes_there p (Some o) ts s u below h e =
-    subst (λ v. Moved p below s v) (guarded_goes ((owns_nothing s.cells o.name, Orphan) ∷ []) (record s { cells = without (Going (length ts)) s.cells; tasks = resumed ts }) u e)
-    (inl (resumes below ts h, inl refl))
+  return_there g a _ at o = given
 
 -- nothing stands under a dispatch
 alone : (p : Image) (t : Typing) (s : State) → WellTyped p t s → (d : Dispatch) (ts : List Task) → s.tasks ≡ Dispatched d ∷ ts → ts ≡ []
 alone p t s w d ts at = go w.layers (sym w.tasks ∙ at) w.good
   where
     go : (ls : List Layer) → tasks_of ls ≡ Dispatched d ∷ ts → Good p t s.cells ls → ts ≡ []
-    go [] e good = cc
-    go (Method fr sh ∷ ls) e good = cc
-    go (Mark gv ∷ ls) e good = cc
-    go (Dying o ∷ ls) e good = cc
-    go (Unwinding code es ∷ ls) e good = cc
     go (Dispatching x ∷ ls) e good = let same : tasks_of ls ≡ ts = cc in sym same ∙ ap tasks_of good.stack.1
+    go _ e good = cc
 
-module _ (p : Image) (t : Typing) (c : Choice) (s u : State) (w : WellTyped p t s) (below : List Task) where
-  stays_there : (ts : List Task) → s.tasks ≡ ts → Ends below ts → Goes (counted p s) ≡ Goes u → Moved p below s u
-  stays_there ts at o e = subst (λ v. Moved p below s v) (goes_same (counted p s) u e) (inl (subst (λ l. Ends below l) (sym at) o, inl refl))
+-- the last item is another at most
+near : (u : Update) (items : List Item) → Near items (items_after u items)
+near (Pushed a) items = inr (inl (An_object, refl))
+near (Pushed_operation m w) items = inr (inl (An_operation m w, refl))
+near (Popped a) items = near_top items
+near Popped_operation items = near_top items
+near _ items = inl refl
 
-  by_instr : (fr : Frame) (ts : List Task) → s.tasks ≡ Run fr ∷ ts → Ends below ts → (i : Option Instr) → step_instr p c fr ts (counted p s) i ≡ Goes u → Moved p below s u
-  by_instr fr ts at o None e = cc
-  by_instr fr ts at o (Some i) e = subst (λ v. Moved p below s v) (guarded_goes (needs p c fr ts (counted p s) i) (does p c fr ts (counted p s) i) u e) (acts_there p c fr ts (counted p s) at below o i)
+module _ (p : Image) (c : Choice) (s : State) (below : List Task) where
+  acts : (fr : Frame) (ts : List Task) (i : Instr) (e : Effect) → s.tasks ≡ Run fr ∷ ts → Ends below ts → Moved p below s (applied p fr ts (counted p s) e)
+  acts fr ts i (Goes_on ch) at o = inl (with_task below ts _ o, near ch.update s.items)
+  acts fr ts i (Jumps to) at o = inl (with_task below ts _ o, inl refl)
+  acts fr ts i (Counts d n) at o = inl (with_task below ts _ o, inl refl)
+  acts fr ts i (Repeats d n to) at o = inl (with_task below ts _ o, inl refl)
+  acts fr ts i (Calls target m first) at o = inl (with_task below (Run fr ∷ ts) _ (with_task below ts (Run fr) o), inl refl)
+  acts fr ts i (Sets_trap target m first) at o = inl (with_task below (Trapped ∷ Run fr ∷ ts) _ (with_task below (Run fr ∷ ts) Trapped (with_task below ts (Run fr) o)), inr (inl (A_mark, refl)))
+  acts fr ts i (Returns g a) at o = return_there p c fr ts (counted p s) at below o g a ts refl o
+  acts fr ts i (Leaves code u) at o = inl (with_task below (to_trap ts) (Unwind code) (lands below ts o), near u s.items)
+  acts fr ts i (Destroys x a words) at o = inl (begins_there p x (length s.items) below (Run (with_words fr words) ∷ ts) (with_task below ts _ o), inl refl)
+  acts fr ts i (Destroys_last x) at o = inl (begins_there p x (length (below_top s.items)) below (Run fr ∷ ts) (with_task below ts _ o), near_top s.items)
+  acts fr ts i (Operates m w) at o = inl (with_task below (Run fr ∷ ts) _ (with_task below ts (Run fr) o), near_top s.items)
 
-  by_task : (ts : List Task) → s.tasks ≡ ts → Ends below ts → step_task p c (counted p s) ts ≡ Goes u → Moved p below s u
-  by_task [] at o e = stays_there [] at o e
-  by_task (Run fr ∷ ts) at o e = by_instr fr ts at (under_frame below ts fr o) (instr_at p fr.method fr.place) e
-  by_task (Trapped ∷ ts) at o e = cc
-  by_task (Destroy ∷ ts) at o e = goes_there p (held s.cells (Going (length ts))) ts (counted p s) u below (under_going below ts o) e
-  by_task (Unwind code ∷ ts) at o e = unwinds_there p code ts s.items (counted p s) u below at refl (under_leave below ts code o) e
-  by_task (Dispatched d ∷ ts) at o e = absurd (none_below below (subst (λ l. Ends below l) (alone p t s w d ts at) (under_dispatch below ts d o)))
+  -- the code arrives at the trap, or at another over it
+  arrives : (code : ℤ) (fr : Frame) (ts : List Task) (items : List Item) → s.tasks ≡ Unwind code ∷ Trapped ∷ Run fr ∷ ts → s.items ≡ A_mark ∷ items → (Run fr ∷ ts ≡ below) ⊎ Ends below (Run fr ∷ ts) →
+      let i = instr_at p fr.method fr.place in Moved p below s (record (counted p s) { tasks = Run (next (code_told (called p i) (result_register i) code fr)) ∷ ts; items = items })
+  arrives code fr ts items at top (inl same) =
+      let i = instr_at p fr.method fr.place in
+      let after = next (code_told (called p i) (result_register i) code fr) in
+      inr (subst (λ b. GoesOnAfter b (Run after ∷ ts)) same (after, refl, told_frame (result_register i) code fr (called p i)), sym (ap below_top top), inr (code, at ∙ ap (λ l. Unwind code ∷ Trapped ∷ l) same))
+  arrives code fr ts items at top (inr o) = inl (with_task below ts _ (under_frame below ts fr o), inr (inr (A_mark, top)))
+
+  comes_out : (code : ℤ) (d : Dispatch) (ts : List Task) (items : List Item) → s.tasks ≡ Unwind code ∷ Trapped ∷ Dispatched d ∷ ts → s.items ≡ A_mark ∷ items → (Dispatched d ∷ ts ≡ below) ⊎ Ends below (Dispatched d ∷ ts) →
+      Moved p below s (record (counted p s) { tasks = Dispatched (ended_by code d) ∷ ts; items = items })
+  comes_out code d ts items at top (inl same) =
+      inr (subst (λ b. GoesOnAfter b (Dispatched (ended_by code d) ∷ ts)) same (ended_by code d, refl), sym (ap below_top top), inr (code, at ∙ ap (λ l. Unwind code ∷ Trapped ∷ l) same))
+  comes_out code d ts items at top (inr o) = inl (with_task below ts _ (under_dispatch below ts d o), inr (inr (A_mark, top)))
+
+  moved : (t : Typing) (u : State) → WellTyped p t s → Ends below s.tasks → Move p c s u → Moved p below s u
+  moved t u w o (Rests still e) = subst (λ v. Moved p below s v) (sym e) (inl (o, inl refl))
+  moved t u w o (Acts fr ts i e at there met fits same) = subst (λ v. Moved p below s v) (sym same) (acts fr ts i e at (under_frame below ts fr (subst (λ l. Ends below l) at o)))
+  moved t u w o (Vanishes ts x at there owns same) = subst (λ v. Moved p below s v) (sym same) (inl (resumes below ts (under_going below ts (subst (λ l. Ends below l) at o)), inl refl))
+  moved t u w o (Clears code ts items x at top there same) = subst (λ v. Moved p below s v) (sym same) (inl (begins_there p x (length items) below (Unwind code ∷ ts) (subst (λ l. Ends below l) at o), inr (inr (An_object, top))))
+  moved t u w o (Undoes code ts items m x at top same) = subst (λ v. Moved p below s v) (sym same) (inl (with_task below (Unwind code ∷ ts) _ (subst (λ l. Ends below l) at o), inr (inr (An_operation m x, top))))
+  moved t u w o (Arrives code fr ts items at top same) = subst (λ v. Moved p below s v) (sym same) (arrives code fr ts items at top (under_trap below _ (under_leave below _ code (subst (λ l. Ends below l) at o))))
+  moved t u w o (Comes_out code d ts items at top same) = subst (λ v. Moved p below s v) (sym same) (comes_out code d ts items at top (under_trap below _ (under_leave below _ code (subst (λ l. Ends below l) at o))))
+  moved t u w o (A_dispatch_ends d ts at same) = absurd (none_below below (subst (λ l. Ends below l) (alone p t s w d ts at) (under_dispatch below ts d (subst (λ l. Ends below l) at o))))
 
 -- ---- so the mark of the trap and what lies below it stay
 
@@ -407,12 +297,9 @@ module _ (p : Image) (t : Typing) (s u : State) (before : WellTyped p t s) (afte
       go (x ∷ entries) stack = let same : less.0 ∷ u.items ≡ x ∷ (entries ++ (A_mark ∷ items)) = sym less.1 ∙ stack in kept_by over at entries (ap below_top same)
 
   traps_after : (b tasks : List Task) → GoesOnAfter b tasks → traps tasks ≡ traps b
-  traps_after [] tasks g = absurd g
   traps_after (Run fr ∷ ts) tasks g = ap traps g.1
-  traps_after (Trapped ∷ ts) tasks g = absurd g
-  traps_after (Destroy ∷ ts) tasks g = absurd g
-  traps_after (Unwind code ∷ ts) tasks g = absurd g
   traps_after (Dispatched d ∷ ts) tasks g = ap traps g.1
+  traps_after _ tasks g = absurd (assumption tt)
 
   by_end : GoesOnAfter below u.tasks → u.items ≡ below_top s.items → ComesOff p below s u → IsPast p below items s u
   by_end g e off = record { tasks = g; stack = go h.entries (e ∙ ap below_top h.stack); off = off }
@@ -440,7 +327,7 @@ keeps_trap :
     (p : Image) (t : Typing) → IsWired p → IsTyped p t → (c : Choice) (s u : State) → WellTyped p t s → named s.cells c.name ≡ None →
     (below : List Task) (items : List Item) → IsTrapping below items s → step p c s ≡ Goes u → IsTrapping below items u ⊎ IsPast p below items s u
 keeps_trap p t wired typed c s u w unused below items h e =
-    by_moved p t s u w (subst (λ o. Keeps p t o) e (step_keeps p t wired typed c s w unused)) below items h (by_task p t c s u w below s.tasks refl (h.over, h.tasks) e)
+    by_moved p t s u w (subst (λ o. Keeps p t o) e (step_keeps p t wired typed c s w unused)) below items h (moved p c s below t u w (h.over, h.tasks) (steps_are_moves p c s u e))
 
 module _ (p : Image) (t : Typing) (refused : List ℕ) (wired : IsWired p) (typed : IsTyped p t) (from : State) (well : WellTyped p t from) (below : List Task) (items : List Item) where
   abbrev Lasts : State → Type 0

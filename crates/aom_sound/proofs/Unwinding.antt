@@ -17,15 +17,12 @@ use Rattle.aom_sound.specs.WellTyped.{AllUndo, EndsDispatch, Good, Keeps, Leaves
 
 -- one more entry to unwind
 claim_unwinding : (p : Image) (d : Place → Kind) (code : ℤ) (e : Pushed) (es : List Pushed) (ls : List Layer) (r : Place) → claim p d (Unwinding code (e ∷ es) ∷ ls) r ≡ changed (claim p d (Unwinding code es ∷ ls)) (Entry (length (items_of (Unwinding code es ∷ ls)))) (entry_kind e) r
-claim_unwinding p d code e es ls (Register f i) = refl
 claim_unwinding p d code e es ls (Entry k) = go (length (objects es (items_of ls)) == k)
   where
     go : (b : Bool) → cond b (entry_kind e) (entry_claim es (items_of ls) k (claim p d ls (Entry k))) ≡ cond (b && true) (entry_kind e) (entry_claim es (items_of ls) k (claim p d ls (Entry k)))
     go true = refl
     go false = refl
-claim_unwinding p d code e es ls (Field n f) = refl
-claim_unwinding p d code e es ls (Elsewhere Root) = refl
-claim_unwinding p d code e es ls (Going k) = refl
+claim_unwinding p d code e es ls _ = refl
 
 module _ (p : Image) (t : Typing) (wired : IsWired p) (typed : IsTyped p t) (s : State) (code : ℤ) where
   -- an entry is left: it is dealt with over the unwinding
@@ -60,7 +57,6 @@ module _ (p : Image) (t : Typing) (wired : IsWired p) (typed : IsTyped p t) (s :
     where
       nothing_below : Stack p t s.cells Leaves [] → ⊥
       nothing_below e = cc
-  of_none (Method fr sh ∷ ls) same undos good = absurd good.stack.1.0
   of_none (Mark gv ∷ ls) same undos good = go s.items same undos
     where
       go : (items : List Item) → forms items ≡ Mark_form ∷ items_of ls → AllUndo p items → Keeps p t (unwound p code (tasks_of (Mark gv ∷ ls)) s items)
@@ -68,14 +64,13 @@ module _ (p : Image) (t : Typing) (wired : IsWired p) (typed : IsTyped p t) (s :
       go (An_object ∷ items) same undos = cc
       go (An_operation m w ∷ items) same undos = cc
       go (A_mark ∷ items) same undos = let rest : forms items ≡ items_of ls = cc in arrives p t s code items gv ls rest undos good
-  of_none (Dying o ∷ ls) same undos good = absurd good.stack.1.1
-  of_none (Unwinding x es ∷ ls) same undos good = absurd good.stack.1.0
   of_none (Dispatching d ∷ ls) same undos good = absurd (no_dispatch d good.stack.1.0)
     where
       no_dispatch : (d : Dispatch) → EndsDispatch p d Leaves → ⊥
       no_dispatch Of_main e = e
       no_dispatch (Main_left x) e = e
       no_dispatch Of_root e = e
+  of_none _ same undos good = absurd (assumption tt)
 
   pub unwinds : (es : List Pushed) (ls : List Layer) → forms s.items ≡ objects es (items_of ls) → AllUndo p s.items → Good p t s.cells (Unwinding code es ∷ ls) → Keeps p t (unwound p code (tasks_of ls) s s.items)
   unwinds [] ls same undos good = of_none ls same undos good

@@ -33,10 +33,7 @@ use Rattle.std.specs.List.{list_all}
 nothing_given : (g : Gives) → gives_nothing g ≡ true → g ≡ Nothing
 unfolding gives_nothing
 nothing_given Nothing e = refl
-nothing_given A_word e = cc
-nothing_given (An_own t) e = cc
-nothing_given (A_maybe t) e = cc
-nothing_given (Left c) e = cc
+nothing_given _ e = cc
 
 empty_list : {A : Type 0} (xs : List A) → length xs ≡ 0 → xs ≡ []
 empty_list [] e = refl
@@ -44,17 +41,13 @@ empty_list (x ∷ xs) e = cc
 
 one_word : (xs : List Argument) → length xs ≡ 1 → IsTrue (list_all is_word xs) → xs ≡ Takes_word ∷ []
 unfolding is_word
-one_word [] e w = cc
 one_word (Takes_word ∷ xs) e w = ap (λ ys. Takes_word ∷ ys) (empty_list xs cc)
-one_word (Takes_own t ∷ xs) e w = cc
+one_word _ e w = cc
 
 leaves_none : (g : Gives) → gives_left g ≡ false → LeavesNone g
 unfolding gives_left
-leaves_none Nothing e = tt
-leaves_none A_word e = tt
-leaves_none (An_own t) e = tt
-leaves_none (A_maybe t) e = tt
 leaves_none (Left c) e = cc
+leaves_none _ e = tt
 
 one_of : (a b : Bool) → IsTrue (a || b) → IsTrue a ⊎ IsTrue b
 one_of true b h = inl refl

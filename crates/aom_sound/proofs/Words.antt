@@ -22,12 +22,9 @@ use Rattle.aom_sound.specs.WellTyped.{WellTyped, WordFits}
 use Rattle.aom_sound.specs.Words.{does_binary, does_compare, does_const, loaded, needs_binary, needs_compare, read, stored}
 
 is_read : (w : Option ℤ) (k : Kind) → is_word k ≡ true → WordFits w k → is_some w ≡ true
-is_read w Unset e f = cc
 is_read None Word e f = absurd f
 is_read (Some w) Word e f = refl
-is_read w Null e f = cc
-is_read w (Own x a) e f = cc
-is_read w (Maybe x a) e f = cc
+is_read w _ e f = cc
 
 module _ (p : Image) (t : Typing) (c : Choice) (s : State) (fr : Frame) (sh : Shape) (ls : List Layer) (at_hand : At p t s fr sh ls) where
   -- a register that is claimed to be a word has one

@@ -168,7 +168,7 @@ module _ (p : Image) (c : Choice) (fr : Frame) (ts : List Task) (s : State) wher
 
   abbrev pub does_new_or_leave : ℕ → ℕ → State
   does_new_or_leave a x =
-      cond c.refused (left no_memory s) (go_on fr ts s (with_new c.name (An_object_of x) (no_words p c fr ts s x) (here fr ts s a) s.cells) (set_word fr a None))
+      cond c.refused (left no_memory s) (go_on fr ts s (with_new c.name (An_object_of x) (no_words p x) (here fr ts s a) s.cells) (set_word fr a None))
 
   -- the object is on the cleanup stack
   abbrev pub pushed : ℕ → State

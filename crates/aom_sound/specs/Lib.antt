@@ -6,6 +6,8 @@ pub mod Objects
 pub mod Calls
 pub mod Cleanup
 pub mod Moves
+pub mod Effects
+pub mod Tasks
 pub mod Claims
 pub mod WellTyped
 pub mod Owned
@@ -15,5 +17,6 @@ pub mod Loops
 pub mod Laws
 pub mod Quiet
 pub mod Leaves
+pub mod Steps
 pub mod Traps
 pub mod Cases

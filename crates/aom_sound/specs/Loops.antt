@@ -1,5 +1,5 @@
 -- Loops: the rounds that are left while a method stands in a loop's body.
-use Rattle.std.specs.Prelude.{ℕ, suc, ◌≡◌, ◌≢◌, ◌<◌, ◌≤◌, List, [], ◌∷◌, Some}
+use Rattle.std.specs.Prelude.{ℕ, suc, ◌≡◌, ◌≢◌, ◌<◌, ◌≤◌, List, Some}
 use Rattle.aom_image.specs.Image.{Image}
 use Rattle.aom_image.specs.Views.{instr_at}
 use Rattle.aom_image.specs.WellFormed.{WellFormed}
@@ -7,8 +7,9 @@ use Rattle.aom_image.specs.declared.instr.Instr.{Instr}
 use Rattle.aom_image.specs.declared.instr.Instr.TheVariants.{Loop, Next}
 use Rattle.aom_classes.specs.Jumps.{jump_of}
 use Rattle.aom_classes.specs.Linked.{IsLinked}
-use Rattle.aom_sound.specs.State.{Frame, Task, Run, Trapped, Destroy, Unwind, Dispatched, State, Choice, Goes, counter}
+use Rattle.aom_sound.specs.State.{Frame, Task, State, Choice, Goes, counter}
 use Rattle.aom_sound.specs.Moves.{step}
+use Rattle.aom_sound.specs.Tasks.{TaskLaw, Holds}
 use Rattle.aom_sound.specs.World.{boot_state}
 
 -- a loop that begins at a place, and the next that goes back to the place after it
@@ -38,23 +39,12 @@ pub record IsLooped (p : Image) : Type 0 where
 abbrev pub RoundsAt : Image → Frame → ℕ → Type 0
 RoundsAt p fr place = (from to d n : ℕ) → Body p fr.method from to d n → IsIn from to place → (0 < counter fr d) × (counter fr d ≤ n)
 
--- methods that wait go on at their next places
-abbrev pub AllWait : Image → List Task → Type 0
-AllWait p [] = Unit {0}
-AllWait p (Run fr ∷ ts) = RoundsAt p fr (suc fr.place) × AllWait p ts
-AllWait p (Trapped ∷ ts) = AllWait p ts
-AllWait p (Destroy ∷ ts) = AllWait p ts
-AllWait p (Unwind code ∷ ts) = AllWait p ts
-AllWait p (Dispatched d ∷ ts) = AllWait p ts
+-- a method has rounds left where it stands, or, while it waits, where it will go on
+abbrev pub rounds_left : Image → TaskLaw
+rounds_left p = record { Runs = λ fr ts. RoundsAt p fr fr.place; Waits = λ fr ts. RoundsAt p fr (suc fr.place); Stands = λ ts. Unit {0}; Unwinds = λ code ts. Unit {0} }
 
--- each method at hand has rounds left where it stands, or where it will go on
 abbrev pub RoundsLeft : Image → List Task → Type 0
-RoundsLeft p [] = Unit {0}
-RoundsLeft p (Run fr ∷ ts) = RoundsAt p fr fr.place × AllWait p ts
-RoundsLeft p (Trapped ∷ ts) = AllWait p ts
-RoundsLeft p (Destroy ∷ ts) = AllWait p ts
-RoundsLeft p (Unwind code ∷ ts) = AllWait p ts
-RoundsLeft p (Dispatched d ∷ ts) = AllWait p ts
+RoundsLeft p ts = Holds (rounds_left p) ts
 
 -- this holds at the boot, and each move keeps it, where the loops lie so; in a linked image they do
 pub record LoopsKeep : Type 0 where

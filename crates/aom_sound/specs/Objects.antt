@@ -24,6 +24,10 @@ abbrev pub is_no_message : Option Object → Bool
 is_no_message None = true
 is_no_message (Some o) = is_object o.thing
 
+-- the words of a new object
+abbrev pub no_words : Image → ℕ → List ℤ
+no_words p x = replicate (words_of p x) (pos 0)
+
 module _ (p : Image) (c : Choice) (fr : Frame) (ts : List Task) (s : State) where
   abbrev pub needs_move : ℕ → ℕ → List Need
   needs_move a b = (is_none (word fr b), WrongKind) ∷ needs_written fr ts s a
@@ -67,14 +71,10 @@ module _ (p : Image) (c : Choice) (fr : Frame) (ts : List Task) (s : State) wher
   abbrev pub does_put : ℕ → ℕ → State
   does_put f b = go_on fr ts s (moved (here fr ts s b) (field_place fr.home f) s.cells) fr
 
-  -- the words of a new object
-  abbrev pub no_words : ℕ → List ℤ
-  no_words x = replicate (words_of p x) (pos 0)
-
   -- null where it is refused
   abbrev pub does_new : ℕ → ℕ → State
   does_new a x =
-      go_on fr ts s (cond c.refused s.cells (with_new c.name (An_object_of x) (no_words x) (here fr ts s a) s.cells)) (set_word fr a None)
+      go_on fr ts s (cond c.refused s.cells (with_new c.name (An_object_of x) (no_words p x) (here fr ts s a) s.cells)) (set_word fr a None)
 
   abbrev pub needs_delete : ℕ → List Need
   needs_delete a = (is_none (word fr a), WrongKind) ∷ (is_no_message (held s.cells (here fr ts s a)), WrongKind) ∷ []

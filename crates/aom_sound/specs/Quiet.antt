@@ -3,8 +3,9 @@ use Rattle.std.specs.Prelude.{ℤ, Bool, true, false, ◌≡◌, List, [], ◌�
 use Rattle.aom_image.specs.Image.{Image}
 use Rattle.aom_image.specs.Views.{is_quiet}
 use Rattle.aom_shape.specs.Typing.{Typing, IsTyped}
-use Rattle.aom_sound.specs.State.{Task, Run, Trapped, Destroy, Unwind, Dispatched, Item, A_mark, State, Choice, Goes}
+use Rattle.aom_sound.specs.State.{Frame, Task, Run, Trapped, Destroy, Unwind, Dispatched, Item, A_mark, State, Choice, Goes}
 use Rattle.aom_sound.specs.Moves.{step}
+use Rattle.aom_sound.specs.Tasks.{TaskLaw, Holds}
 use Rattle.aom_sound.specs.WellTyped.{WellTyped}
 use Rattle.aom_sound.specs.Owned.{Owned}
 use Rattle.aom_sound.specs.Registers.{AllInRange}
@@ -20,13 +21,16 @@ is_clearing (Destroy ∷ ts) = true
 is_clearing (Unwind code ∷ ts) = true
 is_clearing (Dispatched d ∷ ts) = is_clearing ts
 
+-- over that a method is quiet
+abbrev pub IsQuietOver : Image → Frame → List Task → Type 0
+IsQuietOver p fr ts = is_clearing ts ≡ true → is_quiet p fr.method ≡ true
+
+-- and no trap stands over it, nor another leave
+abbrev pub calm : Image → TaskLaw
+calm p = record { Runs = IsQuietOver p; Waits = IsQuietOver p; Stands = λ ts. is_clearing ts ≡ false; Unwinds = λ code ts. is_clearing ts ≡ false }
+
 abbrev pub IsCalm : Image → List Task → Type 0
-IsCalm p [] = Unit {0}
-IsCalm p (Run fr ∷ ts) = (is_clearing ts ≡ true → is_quiet p fr.method ≡ true) × IsCalm p ts
-IsCalm p (Trapped ∷ ts) = (is_clearing ts ≡ false) × IsCalm p ts
-IsCalm p (Destroy ∷ ts) = IsCalm p ts
-IsCalm p (Unwind code ∷ ts) = (is_clearing ts ≡ false) × IsCalm p ts
-IsCalm p (Dispatched d ∷ ts) = IsCalm p ts
+IsCalm p ts = Holds (calm p) ts
 
 -- this holds at the boot, and each move of a well-typed state keeps it
 pub record CalmKeeps : Type 0 where

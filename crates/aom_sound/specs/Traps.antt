@@ -8,6 +8,7 @@ use Rattle.aom_shape.specs.Typing.{Typing, IsTyped}
 use Rattle.aom_sound.specs.Places.{named}
 use Rattle.aom_sound.specs.State.{Frame, Dispatch, Task, Run, Trapped, Destroy, Unwind, Dispatched, Item, An_object, An_operation, A_mark, State, Choice, Goes, word, next}
 use Rattle.aom_sound.specs.Moves.{step}
+use Rattle.aom_sound.specs.Tasks.{TaskLaw, Holds}
 use Rattle.aom_sound.specs.WellTyped.{WellTyped}
 use Rattle.aom_sound.specs.World.{boot_state, Reaches}
 use Rattle.aom_sound.specs.Laws.{IsWired}
@@ -81,13 +82,12 @@ IsAtTrap p (Destroy ∷ ts) = ⊥
 IsAtTrap p (Unwind code ∷ ts) = ⊥
 IsAtTrap p (Dispatched d ∷ ts) = Unit {0}
 
+-- so it is for each trap at hand
+abbrev pub at_traps : Image → TaskLaw
+at_traps p = record { Runs = λ fr ts. Unit {0}; Waits = λ fr ts. Unit {0}; Stands = λ ts. IsAtTrap p ts; Unwinds = λ code ts. Unit {0} }
+
 abbrev pub AllAtTraps : Image → List Task → Type 0
-AllAtTraps p [] = Unit {0}
-AllAtTraps p (Run fr ∷ ts) = AllAtTraps p ts
-AllAtTraps p (Trapped ∷ ts) = IsAtTrap p ts × AllAtTraps p ts
-AllAtTraps p (Destroy ∷ ts) = AllAtTraps p ts
-AllAtTraps p (Unwind code ∷ ts) = AllAtTraps p ts
-AllAtTraps p (Dispatched d ∷ ts) = AllAtTraps p ts
+AllAtTraps p ts = Holds (at_traps p) ts
 
 pub record TrapsKeep : Type 0 where
   -- in each state of a run

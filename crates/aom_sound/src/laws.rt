@@ -3,6 +3,7 @@ ghost use Rattle.aom_sound.specs.Laws.{BootKeeps, InstructionKeeps, DestructionK
 ghost use Rattle.aom_sound.specs.Loops.{LoopsKeep};
 ghost use Rattle.aom_sound.specs.Quiet.{CalmKeeps, CaughtOwned};
 ghost use Rattle.aom_sound.specs.Leaves.{LeavesMove, LeavesArrive};
+ghost use Rattle.aom_sound.specs.Steps.{StepsAreMoves};
 ghost use Rattle.aom_sound.specs.Traps.{TrapsKeep};
 ghost use Rattle.aom_sound.specs.Cases.Words.{WordsBite};
 ghost use Rattle.aom_sound.specs.Cases.Objects.{ObjectsBite};
@@ -45,6 +46,11 @@ pub fn loops_keep()
 /// Every move of a well-typed state is one of the four above.
 pub fn step_keeps()
     ensures { StepKeeps }
+{}
+
+/// Each step is a move of one of eight kinds, and what an instruction does is its effect.
+pub fn steps_are_moves()
+    ensures { StepsAreMoves }
 {}
 
 /// While a cell goes or a leave unwinds, quiet methods alone run.

@@ -85,7 +85,7 @@ waiting_cases =
     ends_over (waits ∷ at_bottom) []
     ∷ ends_over (Trapped ∷ waits ∷ at_bottom) []
     ∷ ends_over at_bottom []
-    ∷ ends_over (Destroy ∷ at_bottom) []
+    ∷ record (ends_over (Destroy ∷ at_bottom) []) { home = inside pair }
     ∷ ends_over (Unwind (pos 7) ∷ at_bottom) []
     -- nothing waits for it, or what stands below waits for no method
     ∷ ends_over [] (Unbalanced ∷ [])
@@ -98,7 +98,8 @@ waiting_cases =
     ∷ record (ends_over (Trapped ∷ waits ∷ at_bottom) (Unbalanced ∷ [])) { items = An_object ∷ []; cells = a_cell 1 leaf (Entry 0) ∷ [] }
     ∷ record (ends_over at_bottom (Unbalanced ∷ [])) { items = An_operation 1 (pos 7) ∷ [] }
     ∷ record (ends_over at_bottom (Unbalanced ∷ Unbalanced ∷ [])) { items = [] }
-    -- a destructor leaves no field that owns
+    -- a destructor works on a cell, and leaves no field that owns
+    ∷ ends_over (Destroy ∷ at_bottom) (Orphan ∷ [])
     ∷ record (ends_over (Destroy ∷ at_bottom) (Orphan ∷ [])) { home = inside pair; cells = a_cell 1 leaf (Field 9 0) ∷ [] }
     ∷ record (ends_over (Destroy ∷ at_bottom) (Orphan ∷ [])) { home = inside pair; cells = a_cell 1 Message (Field 9 1) ∷ [] }
     ∷ record (ends_over (Destroy ∷ at_bottom) []) { home = inside pair; cells = a_cell 1 leaf (Field 5 0) ∷ [] }

@@ -1,0 +1,151 @@
+-- What it takes that each step keeps a law of tasks, and that it then does: once for all such laws, by the moves.
+use Rattle.std.proofs.Common.{Bool, List, None, Option, Some, [], ap, false, length, pos, refl, subst, suc, sym, true, ℕ, ℤ, ◌-◌, ◌∙◌, ◌∷◌, ◌≡◌}
+use Rattle.aom_image.specs.Image.{Image}
+use Rattle.aom_image.specs.Views.{instr_at}
+use Rattle.aom_image.specs.declared.instr.Instr.{Instr}
+use Rattle.aom_image.specs.declared.instr.Instr.TheVariants.{Call, Next, Trap}
+use Rattle.aom_image.specs.declared.instr.Target.{Target}
+use Rattle.aom_image.specs.declared.method.Gives.{Gives}
+use Rattle.aom_image.specs.declared.method.Gives.TheVariants.{Left, Maybe as A_maybe, Nothing, Own as An_own, Word as A_word}
+use Rattle.aom_classes.specs.Jumps.{jump_of}
+use Rattle.aom_classes.specs.Loops.{loop_in}
+use Rattle.aom_shape.specs.Needs.{AllTrue}
+use Rattle.aom_sound.proofs.Moving.{steps_are_moves}
+use Rattle.aom_sound.specs.Calls.{below_top, called, entered, received, result_register, returned}
+use Rattle.aom_sound.specs.Cleanup.{code_told, has_trap, operation_frame, to_trap}
+use Rattle.aom_sound.specs.Destruction.{begun, begun_by, destructor_of}
+use Rattle.aom_sound.specs.Effects.{Calls, Counts, Destroys, Destroys_last, Effect, Goes_on, Jumps, Leaves, Operates, Repeats, Returns, Sets_trap, applied, with_words}
+use Rattle.aom_sound.specs.Moves.{counted, dispatch_ends, main_ends, needs, step}
+use Rattle.aom_sound.specs.Places.{Elsewhere, Going, Object, Root, held}
+use Rattle.aom_sound.specs.State.{A_mark, An_operation, Choice, Destroy, Dispatch, Dispatched, Frame, Goes, Inside, Item, Main_left, Of_main, Of_root, Run, State, Task, Trapped, Unwind, counter, frame_of, next, resumed, set_counter, set_word, to_place}
+use Rattle.aom_sound.specs.Steps.{Acts, Arrives, Clears, Comes_out, Ends, Fits, IsStraight, Move, Rests, Sets, Undoes, Vanishes}
+use Rattle.aom_sound.specs.Tasks.{Below, Holds, TaskLaw}
+
+-- an instruction is at hand, with its needs met
+pub record Acting (p : Image) (c : Choice) (l : TaskLaw) (s : State) (fr : Frame) (ts : List Task) (i : Instr) : Type 0 where
+  pub tasks : s.tasks ≡ Run fr ∷ ts
+  pub there : instr_at p fr.method fr.place ≡ Some i
+  pub met : AllTrue (needs p c fr ts (counted p s) i)
+  pub runs : l.Runs fr ts
+
+-- each kind of move keeps the law
+pub record Kept (p : Image) (c : Choice) (l : TaskLaw) (s : State) : Type 0 where
+  pub goes_on : (fr : Frame) (ts : List Task) (i : Instr) → Acting p c l s fr ts i → IsStraight i → (words : List (Option ℤ)) → l.Runs (next (with_words fr words)) ts
+  pub jumps : (fr : Frame) (ts : List Task) (i : Instr) → Acting p c l s fr ts i → (to : ℕ) → jump_of i ≡ Some to → l.Runs (to_place fr to) ts
+  pub counts : (fr : Frame) (ts : List Task) (i : Instr) → Acting p c l s fr ts i → (d n : ℕ) → Sets i d n → l.Runs (next (set_counter fr d n)) ts
+  pub repeats : (fr : Frame) (ts : List Task) (d to k : ℕ) → Acting p c l s fr ts (Next d to) → counter fr d - 1 ≡ suc k → l.Runs (to_place (set_counter fr d (suc k)) to) ts
+  -- it waits below what it begins, and goes on once that is over
+  pub waits : (fr : Frame) (ts : List Task) (i : Instr) → Acting p c l s fr ts i → IsStraight i → (words : List (Option ℤ)) → l.Waits (with_words fr words) ts
+  pub resumes : (fr : Frame) (ts : List Task) → l.Waits fr ts → (words : List (Option ℤ)) → l.Runs (next (with_words fr words)) ts
+  pub calls : (fr : Frame) (ts : List Task) (target : Target) (m first x : ℕ) → Acting p c l s fr ts (Call target m first x) → l.Runs (entered p fr ts (counted p s) target m first (length s.items)) (Run fr ∷ ts)
+  pub traps :
+      (fr : Frame) (ts : List Task) (target : Target) (m first x : ℕ) → Acting p c l s fr ts (Trap target m first x) →
+      l.Runs (entered p fr ts (counted p s) target m first (length (A_mark ∷ s.items))) (Trapped ∷ Run fr ∷ ts) × l.Stands (Run fr ∷ ts)
+  pub destructs : (o : Object) (m height : ℕ) (ts : List Task) → destructor_of p o.thing ≡ Some m → l.Runs (frame_of m (Inside o (Going (length ts))) height) (Destroy ∷ ts)
+  pub undoes : (m : ℕ) (w : ℤ) (items : List Item) (ts : List Task) → s.items ≡ An_operation m w ∷ items → l.Runs (operation_frame m w (length items)) ts
+  pub unwinds : (code : ℤ) (ts : List Task) → l.Stands ts → l.Unwinds code (Trapped ∷ ts)
+
+-- a result, and a code, change words alone
+pub receives : (p : Image) (fr : Frame) (ts : List Task) (v : State) (g : Gives) (a x : ℕ) (caller : Frame) → received p fr ts v g a x caller ≡ with_words caller (received p fr ts v g a x caller).words
+receives p fr ts v Nothing a x caller = refl
+receives p fr ts v A_word a x caller = refl
+receives p fr ts v (An_own t) a x caller = refl
+receives p fr ts v (A_maybe t) a x caller = refl
+receives p fr ts v (Left t) a x caller = refl
+
+pub told : (g : Gives) (x : ℕ) (code : ℤ) (fr : Frame) → code_told g x code fr ≡ with_words fr (code_told g x code fr).words
+told Nothing x code fr = refl
+told A_word x code fr = refl
+told (An_own t) x code fr = refl
+told (A_maybe t) x code fr = refl
+told (Left t) x code fr = refl
+
+module _ (p : Image) (c : Choice) (l : TaskLaw) (s : State) (k : Kept p c l s) where
+  begins_over : (o : Object) (height : ℕ) (ts : List Task) → Below l ts → Holds l (begun p o height ts)
+  begins_over o height ts b = go (destructor_of p o.thing) refl
+    where
+      go : (d : Option ℕ) → destructor_of p o.thing ≡ d → Holds l (begun_by d o height ts)
+      go None e = b
+      go (Some m) e = (k.destructs o m height ts e, b)
+
+  -- what waited goes on
+  resumes_all : (ts : List Task) → Below l ts → Holds l (resumed ts)
+  resumes_all (Run fr ∷ ts) b = (k.resumes fr ts b.0 fr.words, b.1)
+  resumes_all [] b = b
+  resumes_all (t ∷ ts) b = b
+
+  -- a leave comes to its trap
+  lands : (code : ℤ) (ts : List Task) → has_trap ts ≡ true → Below l ts → Holds l (Unwind code ∷ to_trap ts)
+  lands code (Run fr ∷ ts) e b = lands code ts e b.1
+  lands code (Trapped ∷ ts) e b = (k.unwinds code ts b.0, b)
+  lands code _ e b = cc
+
+  resumes_with : (fr fr' : Frame) (ts : List Task) → fr' ≡ with_words fr fr'.words → Below l (Run fr ∷ ts) → Holds l (Run (next fr') ∷ ts)
+  resumes_with fr fr' ts e b = (subst (λ x. l.Runs (next x) ts) (sym e) (k.resumes fr ts b.0 fr'.words), b.1)
+
+  returns : (fr : Frame) (ts : List Task) (v : State) (g : Gives) (a : ℕ) (below : List Task) → Holds l v.tasks → Below l below → Holds l (returned p fr ts v g a below).tasks
+  returns fr ts v g a (Run caller ∷ below) h b =
+      let x = result_register (instr_at p caller.method caller.place) in
+      resumes_with caller (received p fr ts v g a x caller) below (receives p fr ts v g a x caller) b
+  returns fr ts v g a (Trapped ∷ Run caller ∷ below) h b =
+      let x = result_register (instr_at p caller.method caller.place) in
+      resumes_with caller (set_word (received p fr ts v g a x caller) (suc x) (Some (pos 0))) below (ap (λ f. set_word f (suc x) (Some (pos 0))) (receives p fr ts v g a x caller)) b.1
+  returns fr ts v g a (Trapped ∷ Dispatched d ∷ below) h b = b.1
+  returns fr ts v g a (Destroy ∷ below) h b = b
+  returns fr ts v g a (Unwind code ∷ below) h b = b
+  returns fr ts v g a _ h b = h
+
+  ends : (d : Dispatch) → Holds l (dispatch_ends p d (counted p s)).tasks
+  ends Of_root = tt
+  ends (Main_left code) = tt
+  ends Of_main = go s.rest.stopped (held s.cells (Elsewhere Root))
+    where
+      go : (b : Bool) (root : Option Object) → Holds l (main_ends p b root (counted p s)).tasks
+      go true (Some o) = begins_over o (length s.items) (Dispatched Of_root ∷ []) tt
+      go true None = tt
+      go false root = tt
+
+  module _ (fr : Frame) (ts : List Task) (at_hand : s.tasks ≡ Run fr ∷ ts) (h : Holds l (Run fr ∷ ts)) where
+    acting : (i : Instr) → instr_at p fr.method fr.place ≡ Some i → AllTrue (needs p c fr ts (counted p s) i) → Acting p c l s fr ts i
+    acting i there met = record { tasks = at_hand; there = there; met = met; runs = h.0 }
+
+    another : (i j : Instr) → i ≡ j → Acting p c l s fr ts i → Acting p c l s fr ts j
+    another i j e a = subst (λ x. Acting p c l s fr ts x) e a
+
+    acts : (i : Instr) (e : Effect) → Acting p c l s fr ts i → Fits p c fr ts (counted p s) i e → Holds l (applied p fr ts (counted p s) e).tasks
+    unfolding loop_in
+    acts i (Goes_on ch) a f = (k.goes_on fr ts i a f.0 ch.words, h.1)
+    acts i (Jumps to) a f = (k.jumps fr ts i a to f, h.1)
+    acts i (Counts d n) a f = (k.counts fr ts i a d n f, h.1)
+    acts i (Repeats d n to) a f = (subst (λ m. l.Runs (to_place (set_counter fr d m) to) ts) (sym f.2) (k.repeats fr ts d to f.1 (another i _ f.0 a) (f.3 ∙ f.2)), h.1)
+    acts i (Calls target m first) a f =
+        let a' = another i _ f.1 a in
+        (k.calls fr ts target m first f.0 a', (k.waits fr ts _ a' refl fr.words, h.1))
+    acts i (Sets_trap target m first) a f =
+        let a' = another i _ f.1 a in
+        let w = k.traps fr ts target m first f.0 a' in
+        (w.0, (w.1, (k.waits fr ts _ a' refl fr.words, h.1)))
+    acts i (Returns g x) a f = returns fr ts (counted p s) g x ts (subst (λ ts. Holds l ts) (sym at_hand) h) h.1
+    acts i (Leaves code u) a f = lands code ts f.0 h.1
+    acts i (Destroys o x words) a f = begins_over o (length s.items) (Run (with_words fr words) ∷ ts) (k.waits fr ts _ (another i _ f.0 a) refl words, h.1)
+    acts i (Destroys_last o) a f = begins_over o (length (below_top s.items)) (Run fr ∷ ts) (k.waits fr ts _ (another i _ f.0 a) refl fr.words, h.1)
+    acts i (Operates m w) a f = (k.undoes m w (below_top s.items) (Run fr ∷ ts) f.1, (k.waits fr ts _ (another i _ f.0 a) refl fr.words, h.1))
+
+  kept : (u : State) → Holds l s.tasks → Move p c s u → Holds l u.tasks
+  kept u h (Rests still e) = subst (λ v. Holds l v.tasks) (sym e) h
+  kept u h (Acts fr ts i e at there met fits same) =
+      let h' = subst (λ ts. Holds l ts) at h in
+      subst (λ v. Holds l v.tasks) (sym same) (acts fr ts at h' i e (acting fr ts at h' i there met) fits)
+  kept u h (Vanishes ts o at there owns same) = subst (λ v. Holds l v.tasks) (sym same) (resumes_all ts (subst (λ ts. Holds l ts) at h))
+  kept u h (Clears code ts items o at top there same) = subst (λ v. Holds l v.tasks) (sym same) (begins_over o (length items) (Unwind code ∷ ts) (subst (λ ts. Holds l ts) at h))
+  kept u h (Undoes code ts items m w at top same) = subst (λ v. Holds l v.tasks) (sym same) (k.undoes m w items (Unwind code ∷ ts) top, subst (λ ts. Holds l ts) at h)
+  kept u h (Arrives code fr ts items at top same) =
+      let i = instr_at p fr.method fr.place in
+      let b = subst (λ ts. Holds l ts) at h in
+      subst (λ v. Holds l v.tasks) (sym same) (resumes_with fr (code_told (called p i) (result_register i) code fr) ts (told (called p i) (result_register i) code fr) b.1.1)
+  kept u h (Comes_out code d ts items at top same) = subst (λ v. Holds l v.tasks) (sym same) (subst (λ ts. Holds l ts) at h).1.1
+  kept u h (Ends d ts at same) = subst (λ v. Holds l v.tasks) (sym same) (ends d)
+
+-- what is kept holds after each step
+pub keeps : (p : Image) (c : Choice) (l : TaskLaw) (s u : State) → Kept p c l s → Holds l s.tasks → step p c s ≡ Goes u → Holds l u.tasks
+keeps p c l s u k h e = kept p c l s k u h (steps_are_moves p c s u e)
