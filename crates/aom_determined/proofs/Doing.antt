@@ -187,7 +187,7 @@ module _ (names : ℕ → ℕ) (one_to_one : IsOneToOne names) (p : Image) (c : 
   pushed_renamed : (a : ℕ) → pushed p c2 fr2 ts2 s2 a ≡ renamed names (pushed p c fr ts s a)
   pushed_renamed a = rw (from_register names one_to_one p fr ts s a (Entry (length s.items)))
 
-  made_renamed : (a x : ℕ) → with_new (names c.name) (An_object_of x) (no_words p c fr ts s x) (Register (length ts2) a) (renamed_cells names s.cells) ≡ renamed_cells names (with_new c.name (An_object_of x) (no_words p c fr ts s x) (Register (length ts) a) s.cells)
+  made_renamed : (a x : ℕ) → with_new (names c.name) (An_object_of x) (no_words p x) (Register (length ts2) a) (renamed_cells names s.cells) ≡ renamed_cells names (with_new c.name (An_object_of x) (no_words p x) (Register (length ts) a) s.cells)
   made_renamed a x = rw (tasks_counted names ts)
 
   left_so : (code : ℤ) (x y : State) → x ≡ renamed names y → left code x ≡ renamed names (left code y)
@@ -216,7 +216,7 @@ module _ (names : ℕ → ℕ) (one_to_one : IsOneToOne names) (p : Image) (c : 
   does_renamed (Move a b) = rw (tasks_counted names ts, moved_renamed names one_to_one (Register (length ts) b) (Register (length ts) a) s.cells)
   does_renamed (Take a f) = rw (tasks_counted names ts, field_renamed names fr.home f, moved_renamed names one_to_one (field_place fr.home f) (Register (length ts) a) s.cells)
   does_renamed (Put f b) = rw (tasks_counted names ts, field_renamed names fr.home f, moved_renamed names one_to_one (Register (length ts) b) (field_place fr.home f) s.cells)
-  does_renamed (New a x) = rw (made_renamed a x, cond_applied (renamed_cells names) c.refused s.cells (with_new c.name (An_object_of x) (no_words p c fr ts s x) (Register (length ts) a) s.cells))
+  does_renamed (New a x) = rw (made_renamed a x, cond_applied (renamed_cells names) c.refused s.cells (with_new c.name (An_object_of x) (no_words p x) (Register (length ts) a) s.cells))
   does_renamed (Delete a) = ap (λ o. deleted p c2 fr2 ts2 s2 o a) (register_renamed names one_to_one s.cells ts a) ∙ deleted_renamed (held s.cells (Register (length ts) a)) a
   does_renamed (Call target m first a) = called_renamed target m first
   does_renamed (Trap target m first a) = trapped_renamed target m first

@@ -200,7 +200,12 @@ module _ (names : ℕ → ℕ) (one_to_one : IsOneToOne names) (p : Image) (fr :
   end_kept [] = refl
   end_kept (Destroy ∷ below) = rw (emptied_kept names one_to_one s.cells fr.home)
   end_kept (Run caller ∷ below) = refl
-  end_kept (Trapped ∷ below) = refl
+  end_kept (Trapped ∷ []) = refl
+  end_kept (Trapped ∷ Run caller ∷ below) = refl
+  end_kept (Trapped ∷ Dispatched d ∷ below) = refl
+  end_kept (Trapped ∷ Trapped ∷ below) = refl
+  end_kept (Trapped ∷ Destroy ∷ below) = refl
+  end_kept (Trapped ∷ Unwind code ∷ below) = refl
   end_kept (Unwind code ∷ below) = refl
   end_kept (Dispatched d ∷ below) = refl
 
