@@ -21,9 +21,8 @@ use Rattle.aom_sound.proofs.Claimed.{claim_register_above}
 use Rattle.aom_sound.proofs.Finishing.{no_entries, none_left, none_owns_at, return_needs, returnable, same_items}
 use Rattle.aom_sound.proofs.Going.{no_fields, nothing_in}
 use Rattle.aom_sound.proofs.Straight.{At, Law, fits_unowning}
-use Rattle.aom_sound.specs.Calls.{is_emptied, result_needs}
+use Rattle.aom_sound.specs.Calls.{leaves_nothing, result_needs}
 use Rattle.aom_sound.specs.Claims.{Dying, Layer, claim, declared, entry_claim, home_claim, items_of, root_claim, tasks_of}
-use Rattle.aom_sound.specs.Destruction.{owns_nothing}
 use Rattle.aom_sound.specs.Places.{Elsewhere, Entry, Field, Going, Object, Place, Register, Root, held}
 use Rattle.aom_sound.specs.State.{Choice, Frame, Inside, State, home_holder, thing_holder}
 use Rattle.aom_sound.specs.WellTyped.{Fits, Good}
@@ -86,6 +85,6 @@ module _ (p : Image) (t : Typing) (c : Choice) (s : State) (fr : Frame) (sh : Sh
       } in (
         return_needs p t c s fr sh (Dying o ∷ ls) at_hand a r
             (subst (λ g. AllTrue (result_needs p fr (tasks_of (Dying o ∷ ls)) s g a)) (sym above.3) tt)
-            (ap (λ h. is_emptied s.cells h) above.1 ∙ nothing_in s.cells o.name (no_fields p t s.cells o ls good), tt),
+            (ap (λ h. leaves_nothing s.cells h) above.1 ∙ nothing_in s.cells o.name (no_fields p t s.cells o ls good), tt),
         record { layers = Dying o ∷ ls; tasks = refl; items = same_items p t c s fr sh (Dying o ∷ ls) at_hand entries; undos = at_hand.undos; good = good },
       )

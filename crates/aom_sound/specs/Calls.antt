@@ -199,11 +199,11 @@ abbrev pub below_top : List Item → List Item
 below_top [] = []
 below_top (i ∷ items) = items
 
--- what a method works on is a cell, no field of which owns
-abbrev pub is_emptied : List Cell → Home → Bool
-is_emptied cs Static = false
-is_emptied cs AtRoot = false
-is_emptied cs (Inside o from) = owns_nothing cs o.name
+-- no field of the cell that a method works in owns
+abbrev pub leaves_nothing : List Cell → Home → Bool
+leaves_nothing cs Static = true
+leaves_nothing cs AtRoot = true
+leaves_nothing cs (Inside o from) = owns_nothing cs o.name
 
 module _ (p : Image) (fr : Frame) (ts : List Task) (s : State) where
   abbrev pub result_needs : Gives → ℕ → List Need
@@ -230,7 +230,7 @@ module _ (p : Image) (fr : Frame) (ts : List Task) (s : State) where
 
   -- a destructor leaves nothing in its cell
   abbrev pub end_needs : List Task → List Need
-  end_needs (Destroy ∷ below) = (is_emptied s.cells fr.home, Orphan) ∷ []
+  end_needs (Destroy ∷ below) = (leaves_nothing s.cells fr.home, Orphan) ∷ []
   end_needs _ = []
 
   -- one more item lies there than at first, an object of that class
