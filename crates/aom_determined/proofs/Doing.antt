@@ -95,7 +95,7 @@ module _ (names : ℕ → ℕ) where
   told_renamed (A_maybe t) a code fr = refl
   told_renamed (Left x) a code fr = refl
 
-module _ (names : ℕ → ℕ) (one_to_one : IsOneToOne names) (p : Image) (fr : Frame) (ts : List Task) (s : State) where
+module _ (names : ℕ → ℕ) (one_to_one : IsOneToOne names) (p : Image) (c : Choice) (fr : Frame) (ts : List Task) (s : State) where
   abbrev fr' : Frame
   fr' = renamed_frame names fr
 
@@ -104,6 +104,9 @@ module _ (names : ℕ → ℕ) (one_to_one : IsOneToOne names) (p : Image) (fr :
 
   abbrev s' : State
   s' = renamed names s
+
+  abbrev c' : Choice
+  c' = renamed_choice names c
 
   -- whatever a register has moves to a place
   from_register : (a : ℕ) (q : Place) → moved (Register (length ts') a) (renamed_place names q) s'.cells ≡ renamed_cells names (moved (Register (length ts) a) q s.cells)
@@ -153,24 +156,11 @@ module _ (names : ℕ → ℕ) (one_to_one : IsOneToOne names) (p : Image) (fr :
       rw (result_cells_renamed g a b below, received_renamed names p fr ts s g a b caller)
   returned_renamed g a _ = refl
 
-module _ (names : ℕ → ℕ) (one_to_one : IsOneToOne names) (p : Image) (c : Choice) (fr : Frame) (ts : List Task) (s : State) where
-  abbrev fr2 : Frame
-  fr2 = renamed_frame names fr
-
-  abbrev ts2 : List Task
-  ts2 = renamed_tasks names ts
-
-  abbrev s2 : State
-  s2 = renamed names s
-
-  abbrev c2 : Choice
-  c2 = renamed_choice names c
-
-  jumped_renamed : (o : Option Object) (to : ℕ) → jumped p c2 fr2 ts2 s2 (option_map (renamed_object names) o) to ≡ renamed names (jumped p c fr ts s o to)
+  jumped_renamed : (o : Option Object) (to : ℕ) → jumped p c' fr' ts' s' (option_map (renamed_object names) o) to ≡ renamed names (jumped p c fr ts s o to)
   jumped_renamed None to = refl
   jumped_renamed (Some o) to = refl
 
-  deleted_renamed : (o : Option Object) (a : ℕ) → deleted p c2 fr2 ts2 s2 (option_map (renamed_object names) o) a ≡ renamed names (deleted p c fr ts s o a)
+  deleted_renamed : (o : Option Object) (a : ℕ) → deleted p c' fr' ts' s' (option_map (renamed_object names) o) a ≡ renamed names (deleted p c fr ts s o a)
   deleted_renamed None a = refl
   deleted_renamed (Some o) a =
       rw (
@@ -184,48 +174,48 @@ module _ (names : ℕ → ℕ) (one_to_one : IsOneToOne names) (p : Image) (c : 
   either_renamed true x y x' y' e f = e
   either_renamed false x y x' y' e f = f
 
-  pushed_renamed : (a : ℕ) → pushed p c2 fr2 ts2 s2 a ≡ renamed names (pushed p c fr ts s a)
-  pushed_renamed a = rw (from_register names one_to_one p fr ts s a (Entry (length s.items)))
+  pushed_renamed : (a : ℕ) → pushed p c' fr' ts' s' a ≡ renamed names (pushed p c fr ts s a)
+  pushed_renamed a = rw (from_register a (Entry (length s.items)))
 
-  made_renamed : (a x : ℕ) → with_new (names c.name) (An_object_of x) (no_words p x) (Register (length ts2) a) (renamed_cells names s.cells) ≡ renamed_cells names (with_new c.name (An_object_of x) (no_words p x) (Register (length ts) a) s.cells)
+  made_renamed : (a x : ℕ) → with_new (names c.name) (An_object_of x) (no_words p x) (Register (length ts') a) (renamed_cells names s.cells) ≡ renamed_cells names (with_new c.name (An_object_of x) (no_words p x) (Register (length ts) a) s.cells)
   made_renamed a x = rw (tasks_counted names ts)
 
   left_so : (code : ℤ) (x y : State) → x ≡ renamed names y → left code x ≡ renamed names (left code y)
   left_so code x y e = ap (left code) e ∙ left_renamed names code y
 
-  called_renamed : (target : Target) (m first : ℕ) → does p c2 fr2 ts2 s2 (Call target m first 0) ≡ renamed names (does p c fr ts s (Call target m first 0))
+  called_renamed : (target : Target) (m first : ℕ) → does p c' fr' ts' s' (Call target m first 0) ≡ renamed names (does p c fr ts s (Call target m first 0))
   called_renamed target m first = rw (
-    given_renamed names one_to_one p fr ts s (Run fr ∷ ts) m first,
-    target_renamed names one_to_one p fr ts s target (method_class p m),
+    given_renamed names one_to_one p c fr ts s (Run fr ∷ ts) m first,
+    target_renamed target (method_class p m),
   )
 
-  trapped_renamed : (target : Target) (m first : ℕ) → does p c2 fr2 ts2 s2 (Trap target m first 0) ≡ renamed names (does p c fr ts s (Trap target m first 0))
+  trapped_renamed : (target : Target) (m first : ℕ) → does p c' fr' ts' s' (Trap target m first 0) ≡ renamed names (does p c fr ts s (Trap target m first 0))
   trapped_renamed target m first = rw (
-    given_renamed names one_to_one p fr ts s (Trapped ∷ Run fr ∷ ts) m first,
-    target_renamed names one_to_one p fr ts s target (method_class p m),
+    given_renamed names one_to_one p c fr ts s (Trapped ∷ Run fr ∷ ts) m first,
+    target_renamed target (method_class p m),
   )
 
-  pub does_renamed : (i : Instr) → does p c2 fr2 ts2 s2 i ≡ renamed names (does p c fr ts s i)
-  does_renamed (JumpEqual a b to) = branched_renamed names one_to_one p fr ts s (int_eq (read fr ts s a) (read fr ts s b)) to
-  does_renamed (JumpLess a b to) = branched_renamed names one_to_one p fr ts s (int_lt (read fr ts s a) (read fr ts s b)) to
-  does_renamed (JumpNull a to) = ap (λ o. jumped p c2 fr2 ts2 s2 o to) (register_renamed names one_to_one s.cells ts a) ∙ jumped_renamed (held s.cells (Register (length ts) a)) to
-  does_renamed (JumpEmpty f to) = ap (λ o. jumped p c2 fr2 ts2 s2 o to) (held_field names one_to_one s.cells fr.home f) ∙ jumped_renamed (held s.cells (field_place fr.home f)) to
-  does_renamed (Next depth to) = looped_renamed names one_to_one p fr ts s (counter fr depth - 1) depth to
+  pub does_renamed : (i : Instr) → does p c' fr' ts' s' i ≡ renamed names (does p c fr ts s i)
+  does_renamed (JumpEqual a b to) = branched_renamed (int_eq (read fr ts s a) (read fr ts s b)) to
+  does_renamed (JumpLess a b to) = branched_renamed (int_lt (read fr ts s a) (read fr ts s b)) to
+  does_renamed (JumpNull a to) = ap (λ o. jumped p c' fr' ts' s' o to) (register_renamed names one_to_one s.cells ts a) ∙ jumped_renamed (held s.cells (Register (length ts) a)) to
+  does_renamed (JumpEmpty f to) = ap (λ o. jumped p c' fr' ts' s' o to) (held_field names one_to_one s.cells fr.home f) ∙ jumped_renamed (held s.cells (field_place fr.home f)) to
+  does_renamed (Next depth to) = looped_renamed (counter fr depth - 1) depth to
   does_renamed (Load a w) = rw (loaded_kept names one_to_one s.cells fr.home w)
   does_renamed (Store w b) = rw (stored_renamed names one_to_one s.cells fr.home w (read fr ts s b))
   does_renamed (Move a b) = rw (tasks_counted names ts, moved_renamed names one_to_one (Register (length ts) b) (Register (length ts) a) s.cells)
   does_renamed (Take a f) = rw (tasks_counted names ts, field_renamed names fr.home f, moved_renamed names one_to_one (field_place fr.home f) (Register (length ts) a) s.cells)
   does_renamed (Put f b) = rw (tasks_counted names ts, field_renamed names fr.home f, moved_renamed names one_to_one (Register (length ts) b) (field_place fr.home f) s.cells)
   does_renamed (New a x) = rw (made_renamed a x, cond_applied (renamed_cells names) c.refused s.cells (with_new c.name (An_object_of x) (no_words p x) (Register (length ts) a) s.cells))
-  does_renamed (Delete a) = ap (λ o. deleted p c2 fr2 ts2 s2 o a) (register_renamed names one_to_one s.cells ts a) ∙ deleted_renamed (held s.cells (Register (length ts) a)) a
+  does_renamed (Delete a) = ap (λ o. deleted p c' fr' ts' s' o a) (register_renamed names one_to_one s.cells ts a) ∙ deleted_renamed (held s.cells (Register (length ts) a)) a
   does_renamed (Call target m first a) = called_renamed target m first
   does_renamed (Trap target m first a) = trapped_renamed target m first
   does_renamed (NewOrLeave a x) = either_renamed c.refused _ _ _ _ (left_renamed names no_memory s) (rw (made_renamed a x))
-  does_renamed (Push a) = either_renamed c.refused _ _ _ _ (left_so no_memory (pushed p c2 fr2 ts2 s2 a) (pushed p c fr ts s a) (pushed_renamed a)) (pushed_renamed a)
+  does_renamed (Push a) = either_renamed c.refused _ _ _ _ (left_so no_memory (pushed p c' fr' ts' s' a) (pushed p c fr ts s a) (pushed_renamed a)) (pushed_renamed a)
   does_renamed (PushOperation a m) = either_renamed c.refused _ _ _ _ (left_renamed names no_memory (operation_pushed p c fr ts s a m)) refl
   does_renamed (Pop a) = rw (tasks_counted names ts, moved_renamed names one_to_one (top_place s.items) (Register (length ts) a) s.cells)
   does_renamed PopDelete = dealt_renamed names one_to_one p s.items (Run fr ∷ ts) s
   does_renamed (Leave a) = left_renamed names (read fr ts s a) s
   does_renamed (LeaveIf a) = either_renamed (is_negative p c fr ts s (read fr ts s a)) _ _ _ _ (left_renamed names (read fr ts s a) s) refl
-  does_renamed (Return a) = returned_renamed names one_to_one p fr ts s (gives_of p fr.method) a ts
+  does_renamed (Return a) = returned_renamed (gives_of p fr.method) a ts
   does_renamed _ = refl

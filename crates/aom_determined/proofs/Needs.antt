@@ -14,7 +14,7 @@ use Rattle.aom_image.specs.declared.method.Gives.TheVariants.{Left, Maybe as A_m
 use Rattle.aom_image.specs.declared.method.Thing.{Thing}
 use Rattle.aom_image.specs.declared.method.Thing.TheVariants.{Object as An_object_of}
 use Rattle.aom_shape.specs.Things.{field_thing}
-use Rattle.aom_sound.specs.Calls.{end_needs, entry_place, given_cells, is_emptied, is_level, is_worked_on, leaves_object, needs_argument, needs_call, needs_each, needs_entering, needs_result, needs_return, needs_target, needs_target_object, needs_trap, passed_cells, result_needs, result_source}
+use Rattle.aom_sound.specs.Calls.{end_needs, entry_place, given_cells, is_level, is_worked_on, is_emptied, leaves_object, needs_argument, needs_call, needs_each, needs_entering, needs_result, needs_return, needs_target, needs_target_object, needs_trap, passed_cells, result_needs, result_source}
 use Rattle.aom_sound.specs.Cleanup.{above_trap_is_free, has_trap, if_refused, leave_needs, needs_push, pushed, top_is_whole}
 use Rattle.aom_sound.specs.Moves.{needs}
 use Rattle.aom_sound.specs.Objects.{is_declared_thing, is_no_message, is_thing, needs_put}
@@ -125,7 +125,7 @@ module _ (names : ℕ → ℕ) (one_to_one : IsOneToOne names) where
   whole_kept cs (An_operation m w ∷ items) = refl
   whole_kept cs (A_mark ∷ items) = refl
 
-module _ (names : ℕ → ℕ) (one_to_one : IsOneToOne names) (p : Image) (fr : Frame) (ts : List Task) (s : State) where
+module _ (names : ℕ → ℕ) (one_to_one : IsOneToOne names) (p : Image) (c : Choice) (fr : Frame) (ts : List Task) (s : State) where
   abbrev fr' : Frame
   fr' = renamed_frame names fr
 
@@ -134,6 +134,9 @@ module _ (names : ℕ → ℕ) (one_to_one : IsOneToOne names) (p : Image) (fr :
 
   abbrev s' : State
   s' = renamed names s
+
+  abbrev c' : Choice
+  c' = renamed_choice names c
 
   -- ---- calls
 
@@ -197,17 +200,10 @@ module _ (names : ℕ → ℕ) (one_to_one : IsOneToOne names) (p : Image) (fr :
   result_needs_kept (Left x) a = refl
 
   end_kept : (below : List Task) → end_needs p fr' ts' s' (renamed_tasks names below) ≡ end_needs p fr ts s below
-  end_kept [] = refl
   end_kept (Destroy ∷ below) = rw (emptied_kept names one_to_one s.cells fr.home)
-  end_kept (Run caller ∷ below) = refl
-  end_kept (Trapped ∷ []) = refl
   end_kept (Trapped ∷ Run caller ∷ below) = refl
-  end_kept (Trapped ∷ Dispatched d ∷ below) = refl
-  end_kept (Trapped ∷ Trapped ∷ below) = refl
-  end_kept (Trapped ∷ Destroy ∷ below) = refl
-  end_kept (Trapped ∷ Unwind code ∷ below) = refl
-  end_kept (Unwind code ∷ below) = refl
-  end_kept (Dispatched d ∷ below) = refl
+  end_kept (Trapped ∷ _) = refl
+  end_kept _ = refl
 
   leaves_object_kept : (x : ℕ) (items : List Item) → leaves_object p fr' ts' s' x items ≡ leaves_object p fr ts s x items
   leaves_object_kept x [] = refl
@@ -231,25 +227,24 @@ module _ (names : ℕ → ℕ) (one_to_one : IsOneToOne names) (p : Image) (fr :
     end_kept ts,
   )
 
-module _ (names : ℕ → ℕ) (one_to_one : IsOneToOne names) (p : Image) (c : Choice) (fr : Frame) (ts : List Task) (s : State) where
   -- ---- requests and leaves
 
-  refusal_kept : (cells : List Cell) → if_refused p (renamed_choice names c) (renamed_frame names fr) (renamed_tasks names ts) (renamed names s) (renamed_cells names cells) ≡ if_refused p c fr ts s cells
+  refusal_kept : (cells : List Cell) → if_refused p c' fr' ts' s' (renamed_cells names cells) ≡ if_refused p c fr ts s cells
   refusal_kept cells = ap (λ n. cond c.refused n []) (leave_kept names cells (Run fr ∷ ts))
 
   -- the cells once the object of a register is on the cleanup stack
-  pushed_renamed : (a : ℕ) → (pushed p (renamed_choice names c) (renamed_frame names fr) (renamed_tasks names ts) (renamed names s) a).cells ≡ renamed_cells names (pushed p c fr ts s a).cells
+  pushed_renamed : (a : ℕ) → (pushed p c' fr' ts' s' a).cells ≡ renamed_cells names (pushed p c fr ts s a).cells
   pushed_renamed a =
       ap (λ n. moved (Register n a) (Entry (length s.items)) (renamed_cells names s.cells)) (tasks_counted names ts)
       ∙ moved_renamed names one_to_one (Register (length ts) a) (Entry (length s.items)) s.cells
 
-  push_kept : (a : ℕ) → needs_push p (renamed_choice names c) (renamed_frame names fr) (renamed_tasks names ts) (renamed names s) a ≡ needs_push p c fr ts s a
+  push_kept : (a : ℕ) → needs_push p c' fr' ts' s' a ≡ needs_push p c fr ts s a
   push_kept a =
-      let refusal : if_refused p (renamed_choice names c) (renamed_frame names fr) (renamed_tasks names ts) (renamed names s) (pushed p (renamed_choice names c) (renamed_frame names fr) (renamed_tasks names ts) (renamed names s) a).cells ≡ if_refused p c fr ts s (pushed p c fr ts s a).cells =
-      ap (if_refused p (renamed_choice names c) (renamed_frame names fr) (renamed_tasks names ts) (renamed names s)) (pushed_renamed a) ∙ refusal_kept (pushed p c fr ts s a).cells in
+      let refusal : if_refused p c' fr' ts' s' (pushed p c' fr' ts' s' a).cells ≡ if_refused p c fr ts s (pushed p c fr ts s a).cells =
+      ap (if_refused p c' fr' ts' s') (pushed_renamed a) ∙ refusal_kept (pushed p c fr ts s a).cells in
       rw (owns_at names one_to_one s.cells ts a, message_at names one_to_one s.cells ts a, refusal, trap_kept names ts)
 
-  put_kept : (f b : ℕ) → needs_put p (renamed_choice names c) (renamed_frame names fr) (renamed_tasks names ts) (renamed names s) f b ≡ needs_put p c fr ts s f b
+  put_kept : (f b : ℕ) → needs_put p c' fr' ts' s' f b ≡ needs_put p c fr ts s f b
   put_kept f b = rw (
     holder_kept names fr.home,
     register_renamed names one_to_one s.cells ts b,
@@ -257,7 +252,7 @@ module _ (names : ℕ → ℕ) (one_to_one : IsOneToOne names) (p : Image) (c : 
     field_at names one_to_one s.cells fr.home f,
   )
 
-  pub needs_kept : (i : Instr) → needs p (renamed_choice names c) (renamed_frame names fr) (renamed_tasks names ts) (renamed names s) i ≡ needs p c fr ts s i
+  pub needs_kept : (i : Instr) → needs p c' fr' ts' s' i ≡ needs p c fr ts s i
   needs_kept (Const a w) = rw (free_at names one_to_one s.cells ts a)
   needs_kept (Copy a b) = rw (free_at names one_to_one s.cells ts a)
   needs_kept (Add a b x) = rw (free_at names one_to_one s.cells ts a)
@@ -274,8 +269,8 @@ module _ (names : ℕ → ℕ) (one_to_one : IsOneToOne names) (p : Image) (c : 
   needs_kept (Put f b) = put_kept f b
   needs_kept (New a x) = rw (free_at names one_to_one s.cells ts a)
   needs_kept (Delete a) = rw (message_at names one_to_one s.cells ts a)
-  needs_kept (Call target m first a) = call_kept names one_to_one p fr ts s target m first a
-  needs_kept (Trap target m first a) = under_trap_kept names one_to_one p fr ts s target m first a
+  needs_kept (Call target m first a) = call_kept target m first a
+  needs_kept (Trap target m first a) = under_trap_kept target m first a
   needs_kept (NewOrLeave a x) = rw (free_at names one_to_one s.cells ts a, refusal_kept s.cells)
   needs_kept (Push a) = push_kept a
   needs_kept (PushOperation a m) = rw (refusal_kept s.cells, trap_kept names ts)
@@ -283,5 +278,5 @@ module _ (names : ℕ → ℕ) (one_to_one : IsOneToOne names) (p : Image) (c : 
   needs_kept PopDelete = rw (whole_kept names one_to_one s.cells s.items)
   needs_kept (Leave a) = rw (leave_kept names s.cells (Run fr ∷ ts))
   needs_kept (LeaveIf a) = rw (leave_kept names s.cells (Run fr ∷ ts))
-  needs_kept (Return a) = return_kept names one_to_one p fr ts s a
+  needs_kept (Return a) = return_kept a
   needs_kept _ = refl
