@@ -134,7 +134,7 @@ module _ (p : Image) (c : Choice) (s : State) (told : IsTold s) where
   of_task : (us : List Task) (u : State) → step_task p c s us ≡ Goes u → IsTold u
   of_task [] u e = subst IsTold (guarded_goes [] s u e) told
   of_task (Run fr ∷ ts) u e = of_instr fr ts (instr_at p fr.method fr.place) u e
-  of_task (Trapped ∷ ts) u e = subst IsTold (guarded_goes [] s u e) told
+  of_task (Trapped ∷ ts) u e = cc
   of_task (Destroy ∷ ts) u e = of_going (held s.cells (Going (length ts))) ts u e
   of_task (Unwind code ∷ ts) u e = of_unwinding code ts s.items u e
   of_task (Dispatched d ∷ ts) u e = subst IsTold (guarded_goes [] (dispatch_ends p d s) u e) (end_told d)
