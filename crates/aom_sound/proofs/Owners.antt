@@ -126,7 +126,9 @@ module _ (p : Image) (cs : List Cell) (x : Thing) where
   registers_live [] f i h = absurd h
   registers_live (Method fr sh ∷ ls) f i h = go (length (tasks_of ls) == f) (registers_live ls f i) h
     where
-      go : (b : Bool) → (Claims ls (Register f i) → HasRegisters (over (tasks_of ls) f)) → HasThing (cond b (register sh i) (claim p (declared p cs) ls (Register f i))) x → HasRegisters (cond b (Some (Run fr)) (over (tasks_of ls) f))
+      go :
+          (b : Bool) → (Claims ls (Register f i) → HasRegisters (over (tasks_of ls) f)) →
+          HasThing (cond b (register sh i) (claim p (declared p cs) ls (Register f i))) x → HasRegisters (cond b (Some (Run fr)) (over (tasks_of ls) f))
       go true below h = tt
       go false below h = below h
   registers_live (Mark gv ∷ ls) f i h = not_here (Mark gv) ls f i h (registers_live ls f i h)
@@ -135,7 +137,10 @@ module _ (p : Image) (cs : List Cell) (x : Thing) where
   registers_live (Dispatching w ∷ ls) f i h = not_here (Dispatching w) ls f i h (registers_live ls f i h)
 
   -- of a layer's own entries, over the items below them
-  entries_live : (es : List Pushed) (ls : List Layer) (k : ℕ) → (Claims ls (Entry k) → over (items_of ls) k ≡ Some Object_form) → HasThing (entry_claim es (items_of ls) k (claim p (declared p cs) ls (Entry k))) x → over (objects es (items_of ls)) k ≡ Some Object_form
+  abbrev ClaimsOver : List Pushed → List Layer → ℕ → Type 0
+  ClaimsOver es ls k = HasThing (entry_claim es (items_of ls) k (claim p (declared p cs) ls (Entry k))) x
+
+  entries_live : (es : List Pushed) (ls : List Layer) (k : ℕ) → (Claims ls (Entry k) → over (items_of ls) k ≡ Some Object_form) → ClaimsOver es ls k → over (objects es (items_of ls)) k ≡ Some Object_form
   entries_live [] ls k below h = below h
   entries_live (e ∷ es) ls k below h = go (length (objects es (items_of ls)) == k) (entries_live es ls k below) h
     where
@@ -143,7 +148,10 @@ module _ (p : Image) (cs : List Cell) (x : Thing) where
       object (Pushed_object c a) h = refl
       object Pushed_operation h = absurd h
 
-      go : (b : Bool) → (HasThing (entry_claim es (items_of ls) k (claim p (declared p cs) ls (Entry k))) x → over (objects es (items_of ls)) k ≡ Some Object_form) → HasThing (cond b (entry_kind e) (entry_claim es (items_of ls) k (claim p (declared p cs) ls (Entry k)))) x → cond b (Some (entry_form e)) (over (objects es (items_of ls)) k) ≡ Some Object_form
+      rest_claim : Kind
+      rest_claim = entry_claim es (items_of ls) k (claim p (declared p cs) ls (Entry k))
+
+      go : (b : Bool) → (ClaimsOver es ls k → over (objects es (items_of ls)) k ≡ Some Object_form) → HasThing (cond b (entry_kind e) rest_claim) x → cond b (Some (entry_form e)) (over (objects es (items_of ls)) k) ≡ Some Object_form
       go true rest h = object e h
       go false rest h = rest h
 
@@ -160,7 +168,9 @@ module _ (p : Image) (cs : List Cell) (x : Thing) where
   root_lives [] h = ap is_some (filled_thing (field_thing p Program 0) Perhaps x h)
   root_lives (Method fr sh ∷ ls) h = go fr.home (root_lives ls) h
     where
-      go : (home : Home) → (Claims ls (Elsewhere Root) → IsSome (field_thing p Program 0)) → HasThing (root_claim p home sh (claim p (declared p cs) ls (Elsewhere Root))) x → IsSome (field_thing p Program 0)
+      go :
+          (home : Home) → (Claims ls (Elsewhere Root) → IsSome (field_thing p Program 0)) →
+          HasThing (root_claim p home sh (claim p (declared p cs) ls (Elsewhere Root))) x → IsSome (field_thing p Program 0)
       go Static below h = below h
       go AtRoot below h = ap is_some (filled_thing (field_thing p Program 0) (field sh 0) x h)
       go (Inside o from) below h = below h
