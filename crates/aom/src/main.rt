@@ -22,7 +22,7 @@ fn main(rt: HostRuntime) -> ExitCode {
     let mut errors = Output::new(rt.stderr());
     let status = match BufWriter::new(rt.alloc(), rt.stdout()) {
         Ok(writer) => serve(&rt, Output::new(writer), &mut errors),
-        Err(_) => tell(rt.alloc(), &Fault::Memory, &mut errors),
+        Err(_) => tell(&Fault::Memory, &mut errors),
     };
     ExitCode::from(status.number())
 }
@@ -38,7 +38,7 @@ fn serve<W: Write + Drop, E: Sink>(
         Err(fault) => refuse(rt, fault, errors),
     };
     if out.fails_at_end() {
-        return tell(rt.alloc(), &Fault::Write, errors);
+        return tell(&Fault::Write, errors);
     }
     status
 }
@@ -66,7 +66,7 @@ fn answer<W: Sink, E: Sink>(
     match read_words(rt.alloc(), words) {
         Ok(words) => match obey(rt, &words, out, errors) {
             Ok(status) => status,
-            Err(fault) => tell(rt.alloc(), &fault, errors),
+            Err(fault) => tell(&fault, errors),
         },
         Err(fault) => refuse(rt, fault, errors),
     }
@@ -79,8 +79,8 @@ fn refuse<E: Sink>(rt: &HostRuntime, fault: WordsFault, errors: &mut E) -> ExitS
             write_text(errors, text.as_bytes());
             ExitStatus::CallRefused
         }
-        WordsFault::Native => tell(rt.alloc(), &Fault::Native, errors),
-        WordsFault::Memory => tell(rt.alloc(), &Fault::Memory, errors),
+        WordsFault::Native => tell(&Fault::Native, errors),
+        WordsFault::Memory => tell(&Fault::Memory, errors),
     }
 }
 

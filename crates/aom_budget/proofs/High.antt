@@ -11,7 +11,7 @@ use Rattle.aom_shape.specs.Typing.{Typing}
 use Rattle.aom_verify.specs.Strongest.{IsStrongest}
 use Rattle.aom_verify.proofs.Typings.{method_within}
 use Rattle.aom_budget.specs.Depths.{DepthsWithin}
-use Rattle.aom_budget.specs.Faults.{Refuses}
+use Rattle.aom_budget.specs.Faults.{RefusesOrWants}
 use Rattle.aom_budget.specs.Heights.{StandsAt, StandsWith, Heights, AreHeights, HasHeights, HeightsWithin, IsTooHigh}
 use Rattle.aom_budget.specs.Heights.Heights.{own, under}
 use Rattle.aom_budget.specs.Rising.{HoldsHeights, IsHighEnough, Climbs}
@@ -71,5 +71,5 @@ pub all_high : (p : Image) → HasHeights p → HeightsWithin p
 all_high p h = record { within = λ m n heights. omega (arith, heights_most p h.heights h.are m n heights, h.are.within m) }
 
 -- what is too high is refused so where the depths are within their limit
-pub refused_high : (p : Image) (fault : BudgetFault) → fault ≡ CleanupTooDeep → IsTooHigh p → DepthsWithin p → Refuses p fault
+pub refused_high : (p : Image) (fault : BudgetFault) → fault ≡ CleanupTooDeep → IsTooHigh p → DepthsWithin p → RefusesOrWants p fault
 refused_high p fault is high within = rw is (within, high)

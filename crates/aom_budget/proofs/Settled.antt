@@ -8,7 +8,7 @@ use Rattle.aom_verify.proofs.Typings.{method_within}
 use Rattle.aom_budget.specs.Calls.{MayCall}
 use Rattle.aom_budget.specs.Depths.{Frames, AreDepths, HasDepths, DepthsWithin}
 use Rattle.aom_budget.specs.Depths.Frames.{alone, calling}
-use Rattle.aom_budget.specs.Faults.{Refuses}
+use Rattle.aom_budget.specs.Faults.{RefusesOrWants}
 use Rattle.aom_budget.specs.Heights.{HeightsWithin}
 use Rattle.aom_budget.specs.Tables.{Holds, IsSettled, Raises}
 use Rattle.aom_budget.specs.declared.fault.BudgetFault.{BudgetFault}
@@ -44,7 +44,7 @@ pub all_within : (p : Image) → HasDepths p → DepthsWithin p
 all_within p h = record { within = λ m n frames. omega (arith, (h.are.each m (lowest p m n frames)).most n frames, h.are.within m) }
 
 -- an image within its limits is refused for want of memory alone
-pub only_memory : (p : Image) (fault : BudgetFault) → Refuses p fault → DepthsWithin p → HeightsWithin p → fault ≡ OutOfMemory
+pub only_memory : (p : Image) (fault : BudgetFault) → RefusesOrWants p fault → DepthsWithin p → HeightsWithin p → fault ≡ OutOfMemory
 only_memory p TooDeep h within low = absurd (omega (arith, within.within h.method h.count h.frames, h.many))
 only_memory p CleanupTooDeep h within low = absurd (omega (arith, low.within h.1.method h.1.count h.1.heights, h.1.many))
 only_memory p OutOfMemory h within low = refl

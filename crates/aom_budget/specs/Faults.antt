@@ -11,7 +11,14 @@ number_of TooDeep = 2
 number_of CleanupTooDeep = 3
 number_of OutOfMemory = 4
 
+-- why an image is refused. Want of memory is no reason
 abbrev pub Refuses : Image → BudgetFault → Type 0
 Refuses p TooDeep = IsTooDeep p
 Refuses p CleanupTooDeep = DepthsWithin p × IsTooHigh p
-Refuses p OutOfMemory = Unit {0}
+Refuses p OutOfMemory = ⊥
+
+-- what a fault says of the image: why it is refused, or nothing, where memory was wanting
+abbrev pub RefusesOrWants : Image → BudgetFault → Type 0
+RefusesOrWants p OutOfMemory = Unit {0}
+RefusesOrWants p TooDeep = Refuses p TooDeep
+RefusesOrWants p CleanupTooDeep = Refuses p CleanupTooDeep

@@ -6,7 +6,7 @@ ghost use Rattle.aom_shape.specs.Typing.{Typing, IsTyped};
 ghost use Rattle.aom_verify.specs.Strongest.{IsStrongest};
 ghost use Rattle.aom_budget.specs.Depths.{HasDepths, DepthsWithin};
 ghost use Rattle.aom_budget.specs.Heights.{HasHeights, HeightsWithin};
-ghost use Rattle.aom_budget.specs.Faults.{Refuses};
+ghost use Rattle.aom_budget.specs.Faults.{RefusesOrWants};
 
 use crate::BudgetFault;
 use crate::depths::Depths;
@@ -69,7 +69,7 @@ impl Accepted {
 /// entries. A refused image is dropped.
 pub fn accept(alloc: Global, checked: Checked) -> Result<Accepted, BudgetFault>
     ensures ok { IfOk result (λ accepted. accepted ≡ checked) }
-    ensures refused { IfErr result (λ fault. Refuses checked fault) }
+    ensures refused { IfErr result (λ fault. RefusesOrWants checked fault) }
     ensures complete { DepthsWithin checked → HeightsWithin checked → IfErr result (λ fault. fault ≡ BudgetFault.OutOfMemory) }
 {
     Depths::of_image(alloc, &checked)?;

@@ -5,7 +5,7 @@ ghost use Rattle.aom_shape.specs.Tables.{at};
 ghost use Rattle.aom_verify.specs.Strongest.{IsMethodStrongest};
 ghost use Rattle.aom_budget.specs.Calls.{Among, listed, callees, CallsAt, MayCall};
 ghost use Rattle.aom_budget.specs.Depths.{AreDepths};
-ghost use Rattle.aom_budget.specs.Faults.{Refuses};
+ghost use Rattle.aom_budget.specs.Faults.{RefusesOrWants};
 ghost use Rattle.aom_budget.specs.Tables.{IsGreatest, Holds, RaisesAt, Raises, IsSettled};
 
 use crate::BudgetFault;
@@ -99,7 +99,7 @@ impl Depths {
         requires holds { Holds checked.now self.old }
         requires method { IsSome (method_at checked.now method) }
         ensures ok { IfOk result (λ rose. RaisesAt checked.now self.old self.new method rose) }
-        ensures err { IfErr result (λ fault. Refuses checked.now fault) }
+        ensures err { IfErr result (λ fault. RefusesOrWants checked.now fault) }
     {
         let sheet = checked.sheet(alloc, method)?;
         let below = self.below(checked.linked(), method, &sheet);
@@ -117,7 +117,7 @@ impl Depths {
     fn raise_all(&mut self, alloc: Global, checked: &Checked) -> Result<bool, BudgetFault>
         requires { Holds checked.now self.old }
         ensures ok { IfOk result (λ rose. Raises checked.now self.old self.new (length self.old) rose) }
-        ensures err { IfErr result (λ fault. Refuses checked.now fault) }
+        ensures err { IfErr result (λ fault. RefusesOrWants checked.now fault) }
     {
         let methods = checked.linked().image().methods();
         let mut rose = false;
@@ -132,7 +132,7 @@ impl Depths {
     fn settle(&mut self, alloc: Global, checked: &Checked) -> Result<(), BudgetFault>
         requires { Holds checked.now self.old }
         ensures ok { IfOk result (λ _. AreDepths checked.now self.new) }
-        ensures err { IfErr result (λ fault. Refuses checked.now fault) }
+        ensures err { IfErr result (λ fault. RefusesOrWants checked.now fault) }
     {
         while self.raise_all(alloc, checked)? {}
         Ok(())
@@ -141,7 +141,7 @@ impl Depths {
     /// The depths of a checked image.
     pub(crate) fn of_image(alloc: Global, checked: &Checked) -> Result<Depths, BudgetFault>
         ensures ok { IfOk result (λ d. AreDepths checked.now d) }
-        ensures err { IfErr result (λ fault. Refuses checked.now fault) }
+        ensures err { IfErr result (λ fault. RefusesOrWants checked.now fault) }
     {
         let methods = checked.linked().image().methods();
         let mut depths = Depths::new(alloc, methods.len())?;

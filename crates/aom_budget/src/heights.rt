@@ -4,7 +4,7 @@ ghost use Rattle.aom_image.specs.Views.{method_at};
 ghost use Rattle.aom_verify.specs.Strongest.{IsMethodStrongest};
 ghost use Rattle.aom_budget.specs.Depths.{DepthsWithin};
 ghost use Rattle.aom_budget.specs.Heights.{IsTooHigh, AreHeights};
-ghost use Rattle.aom_budget.specs.Faults.{Refuses};
+ghost use Rattle.aom_budget.specs.Faults.{RefusesOrWants};
 ghost use Rattle.aom_budget.specs.Rising.{entered_height, ComesTo, ComesBefore, IsMost, HoldsHeights, Climbs, ClimbsAt};
 
 use crate::BudgetFault;
@@ -121,7 +121,7 @@ impl Heights {
         requires holds { HoldsHeights checked.now self.old }
         requires method { IsSome (method_at checked.now method) }
         ensures ok { IfOk result (λ rose. ClimbsAt checked.now self.old self.new method rose) }
-        ensures err { IfErr result (λ fault. DepthsWithin checked.now → Refuses checked.now fault) }
+        ensures err { IfErr result (λ fault. DepthsWithin checked.now → RefusesOrWants checked.now fault) }
     {
         let sheet = checked.sheet(alloc, method)?;
         let most = self.of_places(checked.linked(), method, &sheet)?;
@@ -136,7 +136,7 @@ impl Heights {
     fn raise_all(&mut self, alloc: Global, checked: &Checked) -> Result<bool, BudgetFault>
         requires { HoldsHeights checked.now self.old }
         ensures ok { IfOk result (λ rose. Climbs checked.now self.old self.new (length self.old) rose) }
-        ensures err { IfErr result (λ fault. DepthsWithin checked.now → Refuses checked.now fault) }
+        ensures err { IfErr result (λ fault. DepthsWithin checked.now → RefusesOrWants checked.now fault) }
     {
         let methods = checked.linked().image().methods();
         let mut rose = false;
@@ -151,7 +151,7 @@ impl Heights {
     fn settle(&mut self, alloc: Global, checked: &Checked) -> Result<(), BudgetFault>
         requires { HoldsHeights checked.now self.old }
         ensures ok { IfOk result (λ _. AreHeights checked.now self.new) }
-        ensures err { IfErr result (λ fault. DepthsWithin checked.now → Refuses checked.now fault) }
+        ensures err { IfErr result (λ fault. DepthsWithin checked.now → RefusesOrWants checked.now fault) }
     {
         while self.raise_all(alloc, checked)? {}
         checked.typed();
@@ -161,7 +161,7 @@ impl Heights {
     /// The heights of a checked image whose depths are within their limit.
     pub(crate) fn of_image(alloc: Global, checked: &Checked) -> Result<Heights, BudgetFault>
         ensures ok { IfOk result (λ h. AreHeights checked.now h) }
-        ensures err { IfErr result (λ fault. DepthsWithin checked.now → Refuses checked.now fault) }
+        ensures err { IfErr result (λ fault. DepthsWithin checked.now → RefusesOrWants checked.now fault) }
     {
         let methods = checked.linked().image().methods();
         let mut heights = Heights::new(alloc, methods.len())?;

@@ -4,7 +4,7 @@ use Rattle.aom_image.specs.Image.{Image}
 use Rattle.aom_classes.specs.Admitted.{IsAdmitted}
 use Rattle.aom_classes.specs.Calls.{AllCallsOrdered}
 use Rattle.aom_roles.specs.Classes.{ClassesOrdered}
-use Rattle.aom_classes.specs.Linked.{AllJumpWell, AllLoopsNest, HasMain}
+use Rattle.aom_classes.specs.Linked.{AllJumpWell, AllLoopsNest, HasMain, IsLinked}
 use Rattle.aom_classes.specs.Needs.{AllNeedsMet, RolesSingle}
 use Rattle.aom_roles.specs.Shapes.{AllShaped}
 use Rattle.aom_classes.specs.declared.fault.LinkFault.{LinkFault}
@@ -35,8 +35,13 @@ Fails p BadLoop = ClassesOrdered p × AllCallsOrdered p × AllNeedsMet p × Role
 Fails p NoMain = ClassesOrdered p × AllCallsOrdered p × AllNeedsMet p × RolesSingle p × AllShaped p × AllJumpWell p × AllLoopsNest p × ¬ HasMain p
 Fails p _ = ⊥
 
--- an image is not admitted, or fails a condition; want of memory says nothing
+-- why an image is refused: it is not admitted, or fails a condition. Want of memory is no reason
 unfoldable pub Refuses : Image → LinkFault → Type 0
 Refuses p NotYet = ¬ IsAdmitted p
-Refuses p OutOfMemory = Unit {0}
+Refuses p OutOfMemory = ⊥
 Refuses p fault = IsAdmitted p × Fails p fault
+
+-- what a fault says of the image: why it is refused, or that memory was wanting once it was found admitted and linked
+unfoldable pub RefusesOrWants : Image → LinkFault → Type 0
+RefusesOrWants p OutOfMemory = IsAdmitted p × IsLinked p
+RefusesOrWants p fault = Refuses p fault

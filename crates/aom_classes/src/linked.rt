@@ -4,7 +4,7 @@ ghost use Rattle.aom_image.specs.Views.{class_at, method_at, instr_at, fields_of
 ghost use Rattle.aom_classes.specs.Admitted.{IsAdmitted};
 ghost use Rattle.aom_classes.specs.Linked.{IsLinked};
 ghost use Rattle.aom_classes.specs.Roles.{main_of, role_of};
-ghost use Rattle.aom_classes.specs.Faults.{Fails, Refuses};
+ghost use Rattle.aom_classes.specs.Faults.{Fails, RefusesOrWants};
 
 use crate::LinkFault;
 use crate::admitted::is_admitted;
@@ -44,11 +44,12 @@ impl Model for Linked {
     ghost invariant = { λ l. IsAdmitted l.image × IsLinked l.image × (main_of l.image ≡ Some l.main) × IsTable l.image l.roles.rows.items };
 }
 
-/// Links an image: the image as it was, or the first condition that it fails. A refused image is dropped.
-#[tactic(auto, unfolding(crate::specs::Faults::Refuses))]
+/// Links an image: the image as it was, or the first condition that it fails. A refused image is dropped. Memory is
+/// wanted for the table of roles alone, and only of an image that keeps them all.
+#[tactic(auto, unfolding(crate::specs::Faults::Refuses, crate::specs::Faults::RefusesOrWants))]
 pub fn link(alloc: Global, image: Image) -> Result<Linked, LinkFault>
     ensures ok { IfOk result (λ l. (l ≡ image) × IsAdmitted image × IsLinked image) }
-    ensures err { IfErr result (λ fault. Refuses image fault) }
+    ensures err { IfErr result (λ fault. RefusesOrWants image fault) }
 {
     if !is_admitted(&image) {
         return Err(LinkFault::NotYet);

@@ -2,7 +2,7 @@
 use Rattle.std.proofs.Common.{◌≡◌, ◌∙◌, ℕ, Bool, true, false, ◌≤◌, List, [], Option, Some, None, Result, Ok, Err, option_map, unwrap_or, is_some, IsSome, refl, sym, ap, subst, arith}
 use Rattle.std.specs.Borrow.{Bor}
 use Rattle.std.specs.Fmt.{decimal}
-use Rattle.std.specs.Str.Parse.{ParsesUnsigned}
+use Rattle.std.specs.Str.Parse.{IsNumeral, ParsesUnsigned, digits_value, without_leading_plus}
 use Rattle.std.proofs.lemmas.Fmt.{parse-decimal}
 use Rattle.clap.specs.Words.{ReadsOne, Row, Text, all_of, first_value, is_simple, matched_of, raw_values, rows_of}
 use Rattle.clap.specs.declared.parser.matches.Found.{Found}
@@ -20,6 +20,13 @@ same v n r a b = cc
 
 no_error : {E : Type 0} (e : E) (n : ℕ) (r : Result ℕ E) → r ≡ Err e → r ≡ Ok n → ⊥
 no_error e n r a b = cc
+
+-- digits are read as the number that they write, whatever zeros or plus lead them
+pub reads_digits : {E : Type 0} (gives : List ℕ → Result ℕ E → Type 0) → ((bs : List ℕ) (r : Result ℕ E) → gives bs r → ParsesUnsigned 32 10 bs r)
+    → (word : List ℕ) → IsNumeral 10 (without_leading_plus word) → digits_value 10 (without_leading_plus word) ≤ 1000000000 → (o : Option ℕ) → ReadsOne gives word o
+    → o ≡ Some (digits_value 10 (without_leading_plus word))
+reads_digits gives parses word numeral most (Some v) read = ap (λ x. Some x) (parses word (Ok v) read).1
+reads_digits gives parses word numeral most None read = absurd (parses word (Err read.0) read.1 (numeral, omega (arith, most)))
 
 -- a number in decimal is read as itself
 pub reads : {E : Type 0} (gives : List ℕ → Result ℕ E → Type 0) → ((bs : List ℕ) (r : Result ℕ E) → gives bs r → ParsesUnsigned 32 10 bs r)

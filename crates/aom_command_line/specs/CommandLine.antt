@@ -2,6 +2,7 @@
 use Rattle.std.specs.Prelude.{ℕ, ◌≡◌, ◌≢◌, ◌≤◌, ◌⊎◌, String, Bool, true, List, [], ◌∷◌, map, Option, Some, None, codes, unwrap_or, IsSome, pos}
 use Rattle.std.specs.String.{string_bytes}
 use Rattle.std.specs.Fmt.{decimal}
+use Rattle.std.specs.Str.Parse.{IsNumeral, digits_value, without_leading_plus}
 use Rattle.clap.specs.Lexer.{usize_max}
 use Rattle.clap.specs.Words.{App, Row, Rule, Text, first_of, one_of, all_of, new_app, new_rule, with_rule, with_subcommand}
 use Rattle.clap.specs.declared.builder.action.ArgAction.TheVariants.{Append}
@@ -66,11 +67,12 @@ texts_of words = map (λ w. string_bytes w) words
 abbrev pub word_of : Text → List Row → Text
 word_of id rows = unwrap_or (first_of id rows) []
 
--- the limit is from 1 to 10^9, and it is the number that its text is
+-- the limit is from 1 to 10^9, and it is the number that its text is, also where zeros or a plus lead the text
 pub record IsLimit (text : Option Text) (limit : ℕ) : Type 0 where
   pub least : 1 ≤ limit
   pub most : limit ≤ 1000000000
   pub is : (n : ℕ) → 1 ≤ n → n ≤ 1000000000 → text ≡ Some (decimal n) → limit ≡ n
+  pub digits : (n : ℕ) (word : Text) → 1 ≤ n → n ≤ 1000000000 → text ≡ Some word → IsNumeral 10 (without_leading_plus word) → n ≡ digits_value 10 (without_leading_plus word) → limit ≡ n
 
 -- a command and the words found for it ask this; no native is known yet
 abbrev pub Asks : Option (Text × List Row) → Words → Type 0

@@ -1,23 +1,23 @@
--- An acceptable image is refused for want of memory alone.
+-- Faults on the way to an accepted image. An acceptable one is refused for want of memory alone.
 use Rattle.std.proofs.Common.{◌≡◌, ℕ, List, refl, subst}
 use Rattle.aom_image.specs.Image.{Image}
-use Rattle.aom_classes.specs.Faults.{Fails, Refuses as RefusesLink}
+use Rattle.aom_classes.specs.Faults.{Fails, Refuses as RefusesLink, RefusesOrWants as RefusesOrWantsLink}
 use Rattle.aom_classes.specs.declared.fault.LinkFault.{LinkFault}
 use Rattle.aom_classes.specs.declared.fault.LinkFault.TheVariants.{NotYet, ClassOrder, CallOrder, MissingRole, DoubleRole, RoleShape, BadJump, BadLoop, NoMain, OutOfMemory}
 use Rattle.aom_classes.specs.Admitted.{IsAdmitted}
 use Rattle.aom_classes.specs.Linked.{IsLinked}
 use Rattle.aom_shape.specs.Typing.{Typing, IsTyped}
 use Rattle.aom_verify.specs.Strongest.{IsStrongest}
-use Rattle.aom_budget.specs.Faults.{Refuses as RefusesDepths}
+use Rattle.aom_budget.specs.Faults.{RefusesOrWants as RefusesDepths}
 use Rattle.aom_budget.specs.declared.fault.BudgetFault.{BudgetFault}
 use Rattle.aom_budget.specs.declared.fault.BudgetFault.TheVariants.{TooDeep, CleanupTooDeep}
 use Rattle.aom_budget.specs.declared.fault.BudgetFault.TheVariants as budgets
 use Rattle.aom_main.specs.declared.faults.Fault.TheVariants.{Memory}
 use Rattle.aom_main.specs.Status.{of_link, of_budget}
-use Rattle.aom_main.specs.Acceptable.{IsSpelled, IsAcceptable, Refuses}
+use Rattle.aom_main.specs.Acceptable.{IsSpelled, IsAcceptable, RefusesOrWants}
 
-pub linked_memory : (p : Image) (fault : LinkFault) → RefusesLink p fault → IsAcceptable p → of_link fault ≡ Memory
-unfolding RefusesLink Fails
+pub linked_memory : (p : Image) (fault : LinkFault) → RefusesOrWantsLink p fault → IsAcceptable p → of_link fault ≡ Memory
+unfolding RefusesOrWantsLink RefusesLink Fails
 linked_memory p NotYet refused a = absurd (refused a.admitted)
 linked_memory p ClassOrder refused a = absurd (refused.1 a.linked.classes)
 linked_memory p CallOrder refused a = absurd (refused.1.1 a.linked.calls)
@@ -29,8 +29,22 @@ linked_memory p BadLoop refused a = absurd (refused.1.6 a.linked.loops)
 linked_memory p NoMain refused a = absurd (refused.1.7 a.linked.main)
 linked_memory p OutOfMemory refused a = refl
 
+-- a fault of linking is one on the way
+pub link_refused : (bytes : List ℕ) (p : Image) (fault : LinkFault) → IsSpelled bytes p → RefusesOrWantsLink p fault → RefusesOrWants bytes (of_link fault)
+unfolding RefusesOrWantsLink
+link_refused bytes p NotYet spelled refused = (p, spelled, refused)
+link_refused bytes p ClassOrder spelled refused = (p, spelled, refused)
+link_refused bytes p CallOrder spelled refused = (p, spelled, refused)
+link_refused bytes p MissingRole spelled refused = (p, spelled, refused)
+link_refused bytes p DoubleRole spelled refused = (p, spelled, refused)
+link_refused bytes p RoleShape spelled refused = (p, spelled, refused)
+link_refused bytes p BadJump spelled refused = (p, spelled, refused)
+link_refused bytes p BadLoop spelled refused = (p, spelled, refused)
+link_refused bytes p NoMain spelled refused = (p, spelled, refused)
+link_refused bytes p OutOfMemory spelled refused = tt
+
 -- a checked image whose methods may come to too many frames, or to too many cleanup entries
-pub depths_refused : (bytes : List ℕ) (p q : Image) (fault : BudgetFault) → IsSpelled bytes p → IsAdmitted p → IsLinked p → q ≡ p → (t : Typing) × IsStrongest q t → RefusesDepths q fault → Refuses bytes (of_budget fault)
+pub depths_refused : (bytes : List ℕ) (p q : Image) (fault : BudgetFault) → IsSpelled bytes p → IsAdmitted p → IsLinked p → q ≡ p → (t : Typing) × IsStrongest q t → RefusesDepths q fault → RefusesOrWants bytes (of_budget fault)
 depths_refused bytes p q TooDeep spelled admitted linked same typing h = (p, spelled, admitted, linked, subst (λ (r : Image). (t : Typing) × IsTyped r t) same (typing.0, typing.1.typed), subst (λ (r : Image). RefusesDepths r TooDeep) same h)
 depths_refused bytes p q CleanupTooDeep spelled admitted linked same typing h = (p, spelled, admitted, linked, subst (λ (r : Image). (t : Typing) × IsTyped r t) same (typing.0, typing.1.typed), subst (λ (r : Image). RefusesDepths r CleanupTooDeep) same h)
 depths_refused bytes p q budgets.OutOfMemory spelled admitted linked same typing h = tt

@@ -1,22 +1,20 @@
 -- What is known of the bytes that were sent is what the status answers.
-use Rattle.std.proofs.Common.{◌≡◌, List, ℕ, true, refl, sym, subst, inl, inr}
+use Rattle.std.proofs.Common.{◌≡◌, List, ℕ, true, sym, subst, inl, inr}
 use Rattle.aom_main.specs.declared.status.ExitStatus.{ExitStatus}
 use Rattle.aom_main.specs.declared.faults.Fault.{Fault}
 use Rattle.aom_main.specs.declared.faults.Fault.TheVariants as faults
 use Rattle.aom_main.specs.Headline.{Sent, Sends, Says, IsSilent, Told, Accepts, CheckAnswers, accepted_text}
-use Rattle.aom_main.specs.Headline.CheckBreaks.{output_fails}
 use Rattle.aom_main.specs.Assembly.{Lists, Makes, RefusesBytes, AsmAnswers, DisAnswers}
 use Rattle.aom_main.specs.Assembly.AsmBreaks.{output_fails as bytes_fail}
 use Rattle.aom_main.specs.Assembly.DisBreaks.{output_fails as text_fails, wants_memory}
 
 -- the output failed, and that is told
 pub cut : (text : List ℕ) (out errors : Sent) (status : ExitStatus) → out.failed ≡ true → Says text out → Told faults.Write status errors → Sends text status out errors
-cut text out errors status failed says (inl told) = inr (told.0, failed, says, inl (refl, told.1))
-cut text out errors status failed says (inr told) = inr (told.0, failed, says, inr (refl, told.1))
+cut text out errors status failed says told = inr (told.0, failed, says, told.1)
 
 pub checked : (bytes : List ℕ) (out errors : Sent) (status : ExitStatus) → Accepts bytes → Sends accepted_text status out errors → CheckAnswers bytes out errors status
 checked bytes out errors status accepts (inl sent) = subst (CheckAnswers bytes out errors) (sym sent.0) (accepts, sent.1, sent.2)
-checked bytes out errors status accepts (inr fails) = subst (CheckAnswers bytes out errors) (sym fails.0) (output_fails accepts fails.1 fails.2 fails.3)
+checked bytes out errors status accepts (inr fails) = subst (CheckAnswers bytes out errors) (sym fails.0) (inr (record { accepts = accepts; failed = fails.1; says = fails.2; tells = fails.3 }))
 
 pub assembled : (text bytes : List ℕ) (out errors : Sent) (status : ExitStatus) → Makes text bytes → Sends bytes status out errors → AsmAnswers text out errors status
 assembled text bytes out errors status makes (inl sent) = subst (AsmAnswers text out errors) (sym sent.0) (bytes, makes, sent.1, sent.2)
@@ -28,10 +26,8 @@ listed bytes text out errors status lists (inr fails) = subst (DisAnswers bytes 
 
 -- bytes that are no image, or want of memory, and that is told
 pub unlisted : (bytes : List ℕ) (fault : Fault) (out errors : Sent) (status : ExitStatus) → RefusesBytes bytes fault → IsSilent out → Told fault status errors → DisAnswers bytes out errors status
-unlisted bytes (faults.Load fault) out errors status refuses silent (inl told) = subst (DisAnswers bytes out errors) (sym told.0) (record { silent = silent; fault = fault; refuses = refuses; tells = told.1 })
-unlisted bytes (faults.Load fault) out errors status refuses silent (inr told) = subst (DisAnswers bytes out errors) (sym told.0) (wants_memory silent told.1)
-unlisted bytes faults.Memory out errors status refuses silent (inl told) = subst (DisAnswers bytes out errors) (sym told.0) (wants_memory silent told.1)
-unlisted bytes faults.Memory out errors status refuses silent (inr told) = subst (DisAnswers bytes out errors) (sym told.0) (wants_memory silent told.1)
+unlisted bytes (faults.Load fault) out errors status refuses silent told = subst (DisAnswers bytes out errors) (sym told.0) (record { silent = silent; fault = fault; refuses = refuses; tells = told.1 })
+unlisted bytes faults.Memory out errors status refuses silent told = subst (DisAnswers bytes out errors) (sym told.0) (wants_memory silent told.1)
 unlisted bytes (faults.Asm fault) out errors status refuses silent told = absurd refuses
 unlisted bytes (faults.Link fault) out errors status refuses silent told = absurd refuses
 unlisted bytes (faults.Verify refusal) out errors status refuses silent told = absurd refuses

@@ -1,52 +1,57 @@
 -- What is known of an outcome, of a script and of the image is what the status answers.
 use Rattle.std.proofs.Common.{◌≡◌, ◌∙◌, List, ℕ, Ok, Err, ap, length, refl, sym, subst, inl, inr}
+use Rattle.std.specs.Prelude.{◌⊎◌}
 use Rattle.aom_image.specs.Image.{Image}
 use Rattle.aom_classes.specs.Admitted.{IsAdmitted}
 use Rattle.aom_classes.specs.Linked.{IsLinked}
 use Rattle.aom_shape.specs.Typing.{Typing, IsTyped}
 use Rattle.aom_budget.specs.Depths.{DepthsWithin}
 use Rattle.aom_budget.specs.Heights.{HeightsWithin}
-use Rattle.aom_sound.specs.Laws.{LinkedIsWired, TypedIsSound}
+use Rattle.aom_sound.specs.Laws.{LinkedIsWired}
 use Rattle.aom_sound.specs.declared.line.Ending.{Ending}
-use Rattle.aom_determined.specs.Laws.{TextIsDetermined}
+use Rattle.aom_determined.specs.Laws.{IsDetermined, TextIsDetermined}
 use Rattle.aom_determined.proofs.Alike.{alike_counted}
 use Rattle.aom_lines.specs.Text.{transcript}
+use Rattle.aom_ranks.specs.Runs.{RunsWell, TypedRunsWell}
 use Rattle.aom_exec.specs.declared.progress.Outcome.{Outcome}
 use Rattle.aom_exec.specs.declared.progress.Outcome.TheVariants.{Stopped, Waiting, MainLeft, WriteFault}
+use Rattle.aom_run.proofs.Faulting.{IsOfText, is_of_text}
 use Rattle.aom_run.specs.Runs.{after}
-use Rattle.aom_run.specs.Script.{Script, denoted, Refuses}
+use Rattle.aom_run.specs.Script.{Script, denoted, RefusesOrWants}
 use Rattle.aom_run.specs.declared.fault.ScriptFault.{ScriptFault}
 use Rattle.aom_run.specs.declared.fault.ScriptFaultKind.{ScriptFaultKind}
 use Rattle.aom_run.specs.declared.fault.ScriptFaultKind.TheVariants as kinds
 use Rattle.aom_main.specs.declared.status.ExitStatus.{ExitStatus}
+use Rattle.aom_main.specs.declared.status.ExitStatus.TheVariants as statuses
 use Rattle.aom_main.specs.declared.faults.Fault.{Fault}
-use Rattle.aom_main.specs.declared.faults.Fault.TheVariants.{Write}
 use Rattle.aom_main.specs.declared.faults.Fault.TheVariants as faults
-use Rattle.aom_main.specs.Status.{of_script, of_script_kind}
-use Rattle.aom_main.specs.Acceptable.{IsSpelled}
-use Rattle.aom_main.specs.Headline.{Sent, IsOnly, IsSilent, Told, Transcribed, Shows, Accepts, Ends, Runs, RunAnswers}
-use Rattle.aom_main.specs.Headline.RunBreaks.{output_fails, wants_memory}
+use Rattle.aom_main.specs.Status.{of_script, of_script_kind, status_of}
+use Rattle.aom_main.specs.Acceptable.{IsSpelled, IsAcceptable, Refuses, RefusesOrWants as RefusesImage}
+use Rattle.aom_main.specs.Headline.{Sent, IsSilent, Told, Shows, Accepts, AcceptedAnswers, AllRunWell, CheckAnswers, Ends, ImageWantsMemory, IsOnly, IsRefused, RunAnswers, Runs, Transcribed}
+use Rattle.aom_main.specs.Headline.RunBreaks.{machine_wants_memory, output_fails, script_wants_memory}
+
+-- ---- a run
+
+-- what the laws of runs say of an accepted image
+pub all_run_well : (p : Image) → IsLinked p → (t : Typing) × IsTyped p t → TypedRunsWell → LinkedIsWired → TextIsDetermined → AllRunWell p
+all_run_well p linked typed law wired determined =
+    record {
+      each = λ bytes spelled refused. law.each p typed.0 refused spelled.formed linked typed.1;
+      one = λ bytes spelled refused. determined p typed.0 refused (wired p spelled.formed linked) typed.1;
+    }
 
 -- a run of a linked image that has a typing
-abbrev runs_of : (bytes text : List ℕ) (p : Image) (script : Script) → IsLinked p → IsAdmitted p → (t : Typing) × IsTyped p t → DepthsWithin p → HeightsWithin p → LinkedIsWired → TypedIsSound → TextIsDetermined
-    → IsSpelled bytes p → denoted text ≡ Ok script → Runs bytes text
-runs_of bytes text p script linked admitted typed depths heights wired sound determined spelled denotes =
-    let w = wired p spelled.formed linked in
+abbrev runs_of : (bytes text : List ℕ) (p : Image) (script : Script) → IsAcceptable p → AllRunWell p → IsSpelled bytes p → denoted text ≡ Ok script → Runs bytes text
+runs_of bytes text p script acceptable well spelled denotes =
     record {
       image = p;
       spelled = spelled;
-      acceptable = record { admitted = admitted; linked = linked; typing = typed.0; typed = typed.1; depths = depths; heights = heights };
+      acceptable = acceptable;
       script = script;
       denotes = denotes;
-      sound = sound p typed.0 script.refused w typed.1;
-      determined = determined p typed.0 script.refused w typed.1;
+      well = well.each bytes spelled script.refused;
+      determined = well.one bytes spelled script.refused;
     }
-
--- the output failed, and that is told
-breaks : (bytes text : List ℕ) (r : Runs bytes text) (out errors : Sent) (status : ExitStatus) → Shows r.image r.script.refused WriteFault out
-    → Told Write status errors → RunAnswers bytes text out errors status
-breaks bytes text r out errors status shows (inl told) = subst (RunAnswers bytes text out errors) (sym told.0) (output_fails r shows (inl (refl, told.1)))
-breaks bytes text r out errors status shows (inr told) = subst (RunAnswers bytes text out errors) (sym told.0) (output_fails r shows (inr (refl, told.1)))
 
 -- what went out is what each run that ends has written
 only : (bytes text : List ℕ) (r : Runs bytes text) (ending : Ending) (out : Sent) → Transcribed r.image r.script.refused ending out → IsOnly r.image r.script.refused ending out
@@ -60,66 +65,105 @@ only bytes text r ending out shows lines last other run =
     )
 
 ran : (bytes text : List ℕ) (r : Runs bytes text) (out errors : Sent) (outcome : Outcome) (status : ExitStatus) → Shows r.image r.script.refused outcome out
-    → Ends outcome status errors → RunAnswers bytes text out errors status
-ran bytes text r out errors Stopped status shows ends = subst (RunAnswers bytes text out errors) (sym ends.0) (r, shows, only bytes text r _ out shows, ends.1)
-ran bytes text r out errors Waiting status shows ends = subst (RunAnswers bytes text out errors) (sym ends.0) (r, shows, only bytes text r _ out shows, ends.1)
-ran bytes text r out errors (MainLeft code) status shows ends = subst (RunAnswers bytes text out errors) (sym ends.0) (r, code, shows, only bytes text r _ out shows, ends.1)
-ran bytes text r out errors WriteFault status shows ends = breaks bytes text r out errors status shows ends
+    → Ends outcome status errors → AcceptedAnswers bytes text out errors status
+ran bytes text r out errors Stopped status shows ends = subst (AcceptedAnswers bytes text out errors) (sym ends.0) (r, shows, only bytes text r _ out shows, ends.1)
+ran bytes text r out errors Waiting status shows ends = subst (AcceptedAnswers bytes text out errors) (sym ends.0) (r, shows, only bytes text r _ out shows, ends.1)
+ran bytes text r out errors (MainLeft code) status shows ends = subst (AcceptedAnswers bytes text out errors) (sym ends.0) (r, code, shows, only bytes text r _ out shows, ends.1)
+ran bytes text r out errors WriteFault status shows ends = subst (AcceptedAnswers bytes text out errors) (sym ends.0) (output_fails r shows ends.1)
 
 -- a run of an accepted image under a script ended so
-pub ran_of : (bytes text : List ℕ) (p : Image) (script : Script) → IsLinked p → IsAdmitted p → (t : Typing) × IsTyped p t → DepthsWithin p → HeightsWithin p → LinkedIsWired → TypedIsSound → TextIsDetermined
-    → IsSpelled bytes p → denoted text ≡ Ok script → (out errors : Sent) (outcome : Outcome) (status : ExitStatus) → Shows p script.refused outcome out → Ends outcome status errors
-    → RunAnswers bytes text out errors status
-ran_of bytes text p script linked admitted typed depths heights wired sound determined spelled denotes out errors outcome status shows ends =
-    ran bytes text (runs_of bytes text p script linked admitted typed depths heights wired sound determined spelled denotes) out errors outcome status shows ends
+pub ran_of : (bytes text : List ℕ) (p : Image) (script : Script) → IsAcceptable p → AllRunWell p → IsSpelled bytes p → denoted text ≡ Ok script
+    → (out errors : Sent) (outcome : Outcome) (status : ExitStatus) → Shows p script.refused outcome out → Ends outcome status errors → AcceptedAnswers bytes text out errors status
+ran_of bytes text p script acceptable well spelled denotes out errors outcome status shows ends =
+    ran bytes text (runs_of bytes text p script acceptable well spelled denotes) out errors outcome status shows ends
+
+-- no memory was found for its machine, and that is told
+pub unbooted : (bytes text : List ℕ) (p : Image) (script : Script) → IsAcceptable p → AllRunWell p → IsSpelled bytes p → denoted text ≡ Ok script
+    → (fault : Fault) (out errors : Sent) (status : ExitStatus) → fault ≡ faults.Memory → IsSilent out → Told fault status errors → AcceptedAnswers bytes text out errors status
+unbooted bytes text p script acceptable well spelled denotes fault out errors status is silent told =
+    let memory : Told faults.Memory status errors = subst (λ f. Told f status errors) is told in
+    subst (AcceptedAnswers bytes text out errors) (sym memory.0) (machine_wants_memory silent (runs_of bytes text p script acceptable well spelled denotes) memory.1)
 
 -- ---- a text that is no script
 
--- only want of memory is not a fault of the text
-faulty : (text : List ℕ) (fault : ScriptFault) → Refuses text fault → (fault.kind ≡ kinds.OutOfMemory → ⊥) → denoted text ≡ Err fault
-faulty text fault (inl denotes) other = denotes
-faulty text fault (inr wants) other = absurd (other wants.kind)
-
--- a fault of the text is told, or there is no memory for its line
-refused : (bytes text : List ℕ) (fault : ScriptFault) (out errors : Sent) (status : ExitStatus) → Accepts bytes → denoted text ≡ Err fault → IsSilent out
-    → Told (faults.Script fault) status errors → RunAnswers bytes text out errors status
-refused bytes text fault out errors status accepts denotes silent (inl told) = subst (RunAnswers bytes text out errors) (sym told.0) (record { silent = silent; accepts = accepts; fault = fault; denotes = denotes; tells = told.1 })
-refused bytes text fault out errors status accepts denotes silent (inr told) = subst (RunAnswers bytes text out errors) (sym told.0) (wants_memory silent told.1)
-
--- want of memory is told
-wanting : (bytes text : List ℕ) (out errors : Sent) (status : ExitStatus) → IsSilent out → Told faults.Memory status errors → RunAnswers bytes text out errors status
-wanting bytes text out errors status silent (inl told) = subst (RunAnswers bytes text out errors) (sym told.0) (wants_memory silent told.1)
-wanting bytes text out errors status silent (inr told) = subst (RunAnswers bytes text out errors) (sym told.0) (wants_memory silent told.1)
-
--- no memory was found for a run, and that is told
-pub unbooted : (bytes text : List ℕ) (fault : Fault) (out errors : Sent) (status : ExitStatus) → fault ≡ faults.Memory → IsSilent out → Told fault status errors → RunAnswers bytes text out errors status
-unbooted bytes text fault out errors status is silent told = wanting bytes text out errors status silent (subst (λ f. Told f status errors) is told)
-
-of_kind : (bytes text : List ℕ) (fault : ScriptFault) (out errors : Sent) (status : ExitStatus) (kind : ScriptFaultKind) → fault.kind ≡ kind → Accepts bytes → Refuses text fault → IsSilent out
-    → Told (of_script_kind fault kind) status errors → RunAnswers bytes text out errors status
-of_kind bytes text fault out errors status kinds.OutOfMemory is accepts refuses silent told = wanting bytes text out errors status silent told
-of_kind bytes text fault out errors status kinds.NotAscii is accepts refuses silent told = refused bytes text fault out errors status accepts (faulty text fault refuses (λ e. apart (sym is ∙ e))) silent told
-  where
-    apart : kinds.NotAscii ≡ kinds.OutOfMemory → ⊥
-    apart e = cc
-of_kind bytes text fault out errors status kinds.BadLine is accepts refuses silent told = refused bytes text fault out errors status accepts (faulty text fault refuses (λ e. apart (sym is ∙ e))) silent told
-  where
-    apart : kinds.BadLine ≡ kinds.OutOfMemory → ⊥
-    apart e = cc
-of_kind bytes text fault out errors status kinds.BadNumber is accepts refuses silent told = refused bytes text fault out errors status accepts (faulty text fault refuses (λ e. apart (sym is ∙ e))) silent told
-  where
-    apart : kinds.BadNumber ≡ kinds.OutOfMemory → ⊥
-    apart e = cc
-of_kind bytes text fault out errors status kinds.TimeBack is accepts refuses silent told = refused bytes text fault out errors status accepts (faulty text fault refuses (λ e. apart (sym is ∙ e))) silent told
-  where
-    apart : kinds.TimeBack ≡ kinds.OutOfMemory → ⊥
-    apart e = cc
-of_kind bytes text fault out errors status kinds.LimitPassed is accepts refuses silent told = refused bytes text fault out errors status accepts (faulty text fault refuses (λ e. apart (sym is ∙ e))) silent told
-  where
-    apart : kinds.LimitPassed ≡ kinds.OutOfMemory → ⊥
-    apart e = cc
+-- a fault of the text is told as one
+told_so : (fault : ScriptFault) (kind : ScriptFaultKind) → IsOfText kind → of_script_kind fault kind ≡ faults.Script fault
+told_so fault kinds.NotAscii h = refl
+told_so fault kinds.BadLine h = refl
+told_so fault kinds.BadNumber h = refl
+told_so fault kinds.TimeBack h = refl
+told_so fault kinds.LimitPassed h = refl
+told_so fault kinds.OutOfMemory h = absurd h
 
 -- what is told of a text that is no script, or that there was no memory for
-pub unscripted : (bytes text : List ℕ) (fault : ScriptFault) (line : Fault) (out errors : Sent) (status : ExitStatus) → Accepts bytes → Refuses text fault → IsSilent out
-    → line ≡ of_script fault → Told line status errors → RunAnswers bytes text out errors status
-unscripted bytes text fault line out errors status accepts refuses silent is told = of_kind bytes text fault out errors status fault.kind refl accepts refuses silent (subst (λ f. Told f status errors) is told)
+pub unscripted : (bytes text : List ℕ) (fault : ScriptFault) (line : Fault) (out errors : Sent) (status : ExitStatus) → Accepts bytes → RefusesOrWants text fault → IsSilent out
+    → line ≡ of_script fault → Told line status errors → AcceptedAnswers bytes text out errors status
+unscripted bytes text fault line out errors status accepts (inl denotes) silent is told =
+    let script : Told (faults.Script fault) status errors = subst (λ f. Told f status errors) (is ∙ told_so fault fault.kind (is_of_text text fault denotes)) told in
+    subst (AcceptedAnswers bytes text out errors) (sym script.0) (record { silent = silent; accepts = accepts; fault = fault; denotes = denotes; tells = script.1 })
+unscripted bytes text fault line out errors status accepts (inr wants) silent is told =
+    let memory : Told faults.Memory status errors = subst (λ f. Told f status errors) (is ∙ ap (of_script_kind fault) wants.lines.kind) told in
+    subst (AcceptedAnswers bytes text out errors) (sym memory.0) (script_wants_memory silent accepts fault wants memory.1)
+
+-- ---- bytes that are no accepted image
+
+-- what the status is then, and what is told
+abbrev Turned : List ℕ → Sent → Sent → ExitStatus → Type 0
+Turned bytes out errors status = ((status ≡ statuses.ImageRefused) × IsRefused bytes out errors) ⊎ ((status ≡ statuses.Fault) × ImageWantsMemory out errors)
+
+turned_for : (bytes : List ℕ) (fault : Fault) (out errors : Sent) (status : ExitStatus) → Refuses bytes fault → status_of fault ≡ statuses.ImageRefused → (fault ≡ faults.Memory → ⊥)
+    → ((p : Image) → IsSpelled bytes p → IsAcceptable p → fault ≡ faults.Memory) → IsSilent out → Told fault status errors → Turned bytes out errors status
+turned_for bytes fault out errors status refuses is other complete silent told =
+    inl (told.0 ∙ is, record { silent = silent; fault = fault; refuses = refuses; none = λ p spelled acceptable. other (complete p spelled acceptable); status = is; tells = told.1 })
+
+turned : (bytes : List ℕ) (fault : Fault) (out errors : Sent) (status : ExitStatus) → RefusesImage bytes fault
+    → ((p : Image) → IsSpelled bytes p → IsAcceptable p → fault ≡ faults.Memory) → IsSilent out → Told fault status errors → Turned bytes out errors status
+turned bytes (faults.Load fault) out errors status refuses complete silent told = turned_for bytes (faults.Load fault) out errors status refuses refl other complete silent told
+  where
+    other : faults.Load fault ≡ faults.Memory → ⊥
+    other e = cc
+turned bytes (faults.Link fault) out errors status refuses complete silent told = turned_for bytes (faults.Link fault) out errors status refuses refl other complete silent told
+  where
+    other : faults.Link fault ≡ faults.Memory → ⊥
+    other e = cc
+turned bytes (faults.Verify refusal) out errors status refuses complete silent told = turned_for bytes (faults.Verify refusal) out errors status refuses refl other complete silent told
+  where
+    other : faults.Verify refusal ≡ faults.Memory → ⊥
+    other e = cc
+turned bytes (faults.Budget fault) out errors status refuses complete silent told = turned_for bytes (faults.Budget fault) out errors status refuses refl other complete silent told
+  where
+    other : faults.Budget fault ≡ faults.Memory → ⊥
+    other e = cc
+turned bytes faults.Memory out errors status refuses complete silent told = inr (told.0, record { silent = silent; tells = told.1 })
+turned bytes (faults.Asm fault) out errors status refuses complete silent told = absurd refuses
+turned bytes (faults.Script fault) out errors status refuses complete silent told = absurd refuses
+turned bytes faults.Native out errors status refuses complete silent told = absurd refuses
+turned bytes faults.File out errors status refuses complete silent told = absurd refuses
+turned bytes faults.Write out errors status refuses complete silent told = absurd refuses
+
+to_run : (bytes text : List ℕ) (out errors : Sent) (status : ExitStatus) → Turned bytes out errors status → RunAnswers bytes text out errors status
+to_run bytes text out errors status (inl refused) = subst (RunAnswers bytes text out errors) (sym refused.0) refused.1
+to_run bytes text out errors status (inr wants) = subst (RunAnswers bytes text out errors) (sym wants.0) (inl wants.1)
+
+to_check : (bytes : List ℕ) (out errors : Sent) (status : ExitStatus) → Turned bytes out errors status → CheckAnswers bytes out errors status
+to_check bytes out errors status (inl refused) = subst (CheckAnswers bytes out errors) (sym refused.0) refused.1
+to_check bytes out errors status (inr wants) = subst (CheckAnswers bytes out errors) (sym wants.0) (inl wants.1)
+
+pub unaccepted : (bytes text : List ℕ) (fault : Fault) (out errors : Sent) (status : ExitStatus) → RefusesImage bytes fault
+    → ((p : Image) → IsSpelled bytes p → IsAcceptable p → fault ≡ faults.Memory) → IsSilent out → Told fault status errors → RunAnswers bytes text out errors status
+unaccepted bytes text fault out errors status refuses complete silent told = to_run bytes text out errors status (turned bytes fault out errors status refuses complete silent told)
+
+pub unchecked : (bytes : List ℕ) (fault : Fault) (out errors : Sent) (status : ExitStatus) → RefusesImage bytes fault
+    → ((p : Image) → IsSpelled bytes p → IsAcceptable p → fault ≡ faults.Memory) → IsSilent out → Told fault status errors → CheckAnswers bytes out errors status
+unchecked bytes fault out errors status refuses complete silent told = to_check bytes out errors status (turned bytes fault out errors status refuses complete silent told)
+
+-- ---- an accepted image
+
+-- what is answered of an accepted image is an answer
+pub accepted : (bytes text : List ℕ) (out errors : Sent) (status : ExitStatus) → AcceptedAnswers bytes text out errors status → RunAnswers bytes text out errors status
+accepted bytes text out errors statuses.Done answers = answers
+accepted bytes text out errors statuses.ImageRefused answers = absurd answers
+accepted bytes text out errors statuses.CallRefused answers = answers
+accepted bytes text out errors statuses.Unfinished answers = answers
+accepted bytes text out errors statuses.Broken answers = answers
+accepted bytes text out errors statuses.Fault answers = inr answers

@@ -29,11 +29,15 @@ pub record IsAcceptable (p : Image) : Type 0 where
   pub depths : DepthsWithin p
   pub heights : HeightsWithin p
 
--- why the bytes are no accepted image: the first fault of the way from them to one
+-- why the bytes are no accepted image: the first fault of the way from them to one. Want of memory is no reason
 abbrev pub Refuses : List ℕ → Fault → Type 0
 Refuses bytes (Load fault) = first_fault bytes ≡ Some fault
 Refuses bytes (Link fault) = (p : Image) × IsSpelled bytes p × RefusesLink p fault
 Refuses bytes (Verify refusal) = (p : Image) × IsSpelled bytes p × IsAdmitted p × IsLinked p × RefusesTyping p refusal
 Refuses bytes (Budget fault) = (p : Image) × IsSpelled bytes p × IsAdmitted p × IsLinked p × ((t : Typing) × IsTyped p t) × RefusesDepths p fault
-Refuses bytes Memory = Unit {0}
 Refuses bytes _ = ⊥
+
+-- what a fault on that way says of the bytes: why they are none, or nothing, where memory was wanting
+abbrev pub RefusesOrWants : List ℕ → Fault → Type 0
+RefusesOrWants bytes Memory = Unit {0}
+RefusesOrWants bytes fault = Refuses bytes fault

@@ -13,7 +13,7 @@ use Rattle.aom_main.specs.declared.status.ExitStatus.TheVariants.{Done, ImageRef
 use Rattle.aom_main.specs.declared.faults.Fault.{Fault}
 use Rattle.aom_main.specs.declared.faults.Fault.TheVariants.{Asm, Load, Write, Memory}
 use Rattle.aom_main.specs.Acceptable.{IsSpelled}
-use Rattle.aom_main.specs.Headline.{Sent, IsSilent, Says, Tells, Told}
+use Rattle.aom_main.specs.Headline.{Sent, IsSilent, Says, Tells}
 
 -- the bytes spell the image that the text denotes
 pub record Makes (text bytes : List ℕ) : Type 0 where
@@ -37,7 +37,7 @@ pub record IsNoText (text : List ℕ) (out errors : Sent) : Type 0 where
 -- memory was wanting before anything went out, or the output failed
 pub data AsmBreaks (text : List ℕ) (out errors : Sent) : Type 0 where
   wants_memory : IsSilent out → Tells Memory errors → AsmBreaks text out errors
-  output_fails : (bytes : List ℕ) → Makes text bytes → out.failed ≡ true → Says bytes out → Told Write Faulty errors → AsmBreaks text out errors
+  output_fails : (bytes : List ℕ) → Makes text bytes → out.failed ≡ true → Says bytes out → Tells Write errors → AsmBreaks text out errors
 
 -- what each status says of a call of `asm`
 abbrev pub AsmAnswers : List ℕ → Sent → Sent → ExitStatus → Type 0
@@ -68,7 +68,7 @@ pub record IsNoImage (bytes : List ℕ) (out errors : Sent) : Type 0 where
 -- memory was wanting before anything went out, or the output failed
 pub data DisBreaks (bytes : List ℕ) (out errors : Sent) : Type 0 where
   wants_memory : IsSilent out → Tells Memory errors → DisBreaks bytes out errors
-  output_fails : (text : List ℕ) → Lists bytes text → out.failed ≡ true → Says text out → Told Write Faulty errors → DisBreaks bytes out errors
+  output_fails : (text : List ℕ) → Lists bytes text → out.failed ≡ true → Says text out → Tells Write errors → DisBreaks bytes out errors
 
 -- what each status says of a call of `dis`
 abbrev pub DisAnswers : List ℕ → Sent → Sent → ExitStatus → Type 0

@@ -3,16 +3,16 @@ use Rattle.std.specs.Prelude.{ℕ, ℤ, ◌≡◌, ◌⊎◌, Bool, true, false,
 use Rattle.aom_image.specs.Image.{Image}
 use Rattle.aom_sound.specs.State.{State}
 use Rattle.aom_sound.specs.World.{Run_of}
-use Rattle.aom_sound.specs.Laws.{IsSound}
 use Rattle.aom_sound.specs.declared.line.Line.{Line}
 use Rattle.aom_sound.specs.declared.line.Ending.{Ending}
 use Rattle.aom_sound.specs.declared.line.Ending.TheVariants as endings
 use Rattle.aom_determined.specs.Laws.{IsDetermined}
 use Rattle.aom_lines.specs.Text.{ended, transcript}
+use Rattle.aom_ranks.specs.Runs.{RunsWell}
 use Rattle.aom_exec.specs.declared.progress.Outcome.{Outcome}
 use Rattle.aom_exec.specs.declared.progress.Outcome.TheVariants as outcomes
 use Rattle.aom_run.specs.Runs.{after, CutShort}
-use Rattle.aom_run.specs.Script.{Script, denoted}
+use Rattle.aom_run.specs.Script.{Script, WantsMemory, denoted}
 use Rattle.aom_run.specs.declared.fault.ScriptFault.{ScriptFault}
 use Rattle.aom_main.specs.declared.status.ExitStatus.{ExitStatus}
 use Rattle.aom_main.specs.declared.status.ExitStatus.TheVariants.{Done, ImageRefused, CallRefused, Unfinished, Broken, Fault as Faulty}
@@ -41,15 +41,15 @@ pub record Says (text : List ℕ) (sent : Sent) : Type 0 where
 abbrev pub Tells : Fault → Sent → Type 0
 Tells fault sent = Says (ended (fault_line fault)) sent
 
--- a fault is told with its status, or there is no memory for its line, which is then told
+-- a fault is told with its status
 abbrev pub Told : Fault → ExitStatus → Sent → Type 0
-Told fault status errors = ((status ≡ status_of fault) × Tells fault errors) ⊎ ((status ≡ Faulty) × Tells faults.Memory errors)
+Told fault status errors = (status ≡ status_of fault) × Tells fault errors
 
 -- a text went out with status 0, or the output has failed and that is told
 abbrev pub Sends : List ℕ → ExitStatus → Sent → Sent → Type 0
 Sends text status out errors =
     ((status ≡ Done) × (out.now ≡ after out.before text) × IsSilent errors)
-    ⊎ ((status ≡ Faulty) × (out.failed ≡ true) × Says text out × Told faults.Write Faulty errors)
+    ⊎ ((status ≡ Faulty) × (out.failed ≡ true) × Says text out × Tells faults.Write errors)
 
 -- the transcript of a run of the checked machine went out
 pub record Transcribed (p : Image) (refused : List ℕ) (ending : Ending) (sent : Sent) : Type 0 where
@@ -87,14 +87,19 @@ pub record Accepts (bytes : List ℕ) : Type 0 where
   pub spelled : IsSpelled bytes image
   pub acceptable : IsAcceptable image
 
--- they are, and the text is a script; no run of that image under that script goes wrong, and none writes anything else than another
+-- every run of an image goes well, whatever is refused, and has one text
+pub record AllRunWell (p : Image) : Type 0 where
+  pub each : (bytes : List ℕ) → IsSpelled bytes p → (refused : List ℕ) → RunsWell p refused
+  pub one : (bytes : List ℕ) → IsSpelled bytes p → (refused : List ℕ) → IsDetermined p refused
+
+-- they are, and the text is a script; each run of that image under that script's refusals goes well, and none writes anything else than another
 pub record Runs (bytes text : List ℕ) : Type 0 where
   pub image : Image
   pub spelled : IsSpelled bytes image
   pub acceptable : IsAcceptable image
   pub script : Script
   pub denotes : denoted text ≡ Ok script
-  pub sound : IsSound image script.refused
+  pub well : RunsWell image script.refused
   pub determined : IsDetermined image script.refused
 
 -- the bytes are no accepted image, and the errors say why
@@ -114,32 +119,46 @@ pub record IsNoScript (bytes text : List ℕ) (out errors : Sent) : Type 0 where
   pub denotes : denoted text ≡ Err fault
   pub tells : Tells (faults.Script fault) errors
 
--- memory was wanting before anything went out, or the output failed
+-- of an accepted image: memory was wanting before anything went out, for a request that the script refuses or for the machine, or the output failed
 pub data RunBreaks (bytes text : List ℕ) (out errors : Sent) : Type 0 where
-  wants_memory : IsSilent out → Tells faults.Memory errors → RunBreaks bytes text out errors
-  output_fails : (r : Runs bytes text) → Cut r.image r.script.refused out → Told faults.Write Faulty errors → RunBreaks bytes text out errors
+  script_wants_memory : IsSilent out → Accepts bytes → (fault : ScriptFault) → WantsMemory text fault → Tells faults.Memory errors → RunBreaks bytes text out errors
+  machine_wants_memory : IsSilent out → Runs bytes text → Tells faults.Memory errors → RunBreaks bytes text out errors
+  output_fails : (r : Runs bytes text) → Cut r.image r.script.refused out → Tells faults.Write errors → RunBreaks bytes text out errors
+
+-- what each status says of a call of `run` whose image is accepted
+abbrev pub AcceptedAnswers : List ℕ → List ℕ → Sent → Sent → ExitStatus → Type 0
+AcceptedAnswers bytes text out errors Done = (r : Runs bytes text) × Transcribed r.image r.script.refused endings.Stopped out × IsOnly r.image r.script.refused endings.Stopped out × IsSilent errors
+AcceptedAnswers bytes text out errors Unfinished = (r : Runs bytes text) × Transcribed r.image r.script.refused endings.Waiting out × IsOnly r.image r.script.refused endings.Waiting out × IsSilent errors
+AcceptedAnswers bytes text out errors Broken = (r : Runs bytes text) × (code : ℤ) × Transcribed r.image r.script.refused (endings.MainLeft code) out × IsOnly r.image r.script.refused (endings.MainLeft code) out × IsSilent errors
+AcceptedAnswers bytes text out errors ImageRefused = ⊥
+AcceptedAnswers bytes text out errors CallRefused = IsNoScript bytes text out errors
+AcceptedAnswers bytes text out errors Faulty = RunBreaks bytes text out errors
+
+-- memory was wanting on the way to an accepted image, before anything went out. It says nothing of the image
+pub record ImageWantsMemory (out errors : Sent) : Type 0 where
+  pub silent : IsSilent out
+  pub tells : Tells faults.Memory errors
 
 -- what each status says of a call of `run`
 abbrev pub RunAnswers : List ℕ → List ℕ → Sent → Sent → ExitStatus → Type 0
-RunAnswers bytes text out errors Done = (r : Runs bytes text) × Transcribed r.image r.script.refused endings.Stopped out × IsOnly r.image r.script.refused endings.Stopped out × IsSilent errors
-RunAnswers bytes text out errors Unfinished = (r : Runs bytes text) × Transcribed r.image r.script.refused endings.Waiting out × IsOnly r.image r.script.refused endings.Waiting out × IsSilent errors
-RunAnswers bytes text out errors Broken = (r : Runs bytes text) × (code : ℤ) × Transcribed r.image r.script.refused (endings.MainLeft code) out × IsOnly r.image r.script.refused (endings.MainLeft code) out × IsSilent errors
 RunAnswers bytes text out errors ImageRefused = IsRefused bytes out errors
-RunAnswers bytes text out errors CallRefused = IsNoScript bytes text out errors
-RunAnswers bytes text out errors Faulty = RunBreaks bytes text out errors
+RunAnswers bytes text out errors Faulty = ImageWantsMemory out errors ⊎ RunBreaks bytes text out errors
+RunAnswers bytes text out errors status = AcceptedAnswers bytes text out errors status
 
 -- what `check` writes of an accepted image
 abbrev pub accepted_text : List ℕ
 accepted_text = ended (codes "accepted")
 
--- memory was wanting before anything went out, or the output failed
-pub data CheckBreaks (bytes : List ℕ) (out errors : Sent) : Type 0 where
-  wants_memory : IsSilent out → Tells faults.Memory errors → CheckBreaks bytes out errors
-  output_fails : Accepts bytes → out.failed ≡ true → Says accepted_text out → Told faults.Write Faulty errors → CheckBreaks bytes out errors
+-- the bytes are an accepted image, and the output failed
+pub record CheckBreaks (bytes : List ℕ) (out errors : Sent) : Type 0 where
+  pub accepts : Accepts bytes
+  pub failed : out.failed ≡ true
+  pub says : Says accepted_text out
+  pub tells : Tells faults.Write errors
 
 -- what each status says of a call of `check`
 abbrev pub CheckAnswers : List ℕ → Sent → Sent → ExitStatus → Type 0
 CheckAnswers bytes out errors Done = Accepts bytes × (out.now ≡ after out.before accepted_text) × IsSilent errors
 CheckAnswers bytes out errors ImageRefused = IsRefused bytes out errors
-CheckAnswers bytes out errors Faulty = CheckBreaks bytes out errors
+CheckAnswers bytes out errors Faulty = ImageWantsMemory out errors ⊎ CheckBreaks bytes out errors
 CheckAnswers bytes out errors _ = ⊥

@@ -3,7 +3,7 @@ ghost use Rattle.std.specs.Prelude.{◌≡◌, IfOk, IfErr};
 ghost use Rattle.aom_image.specs.Image.{Image};
 ghost use Rattle.aom_classes.specs.Admitted.{IsAdmitted};
 ghost use Rattle.aom_classes.specs.Linked.{IsLinked};
-ghost use Rattle.aom_main.specs.Acceptable.{IsSpelled, IsAcceptable, Refuses};
+ghost use Rattle.aom_main.specs.Acceptable.{IsSpelled, IsAcceptable, RefusesOrWants};
 
 use crate::Fault;
 use aom_budget::{Accepted, accept};
@@ -15,7 +15,7 @@ use std::alloc::Global;
 /// The accepted image that the bytes are, or the first fault on the way.
 pub fn accept_bytes(alloc: Global, bytes: &[u8]) -> Result<Accepted, Fault>
     ensures ok { IfOk result (λ accepted. IsSpelled bytes.now accepted × IsAcceptable accepted) }
-    ensures err { IfErr result (λ fault. Refuses bytes.now fault) }
+    ensures err { IfErr result (λ fault. RefusesOrWants bytes.now fault) }
     ensures complete { (p : Image) → IsSpelled bytes.now p → IsAcceptable p → IfErr result (λ fault. fault ≡ Fault.Memory) }
 {
     let linked = link_bytes(alloc, bytes)?;
@@ -29,7 +29,7 @@ pub fn accept_bytes(alloc: Global, bytes: &[u8]) -> Result<Accepted, Fault>
 /// The linked image that the bytes are, or the first fault on the way.
 fn link_bytes(alloc: Global, bytes: &[u8]) -> Result<Linked, Fault>
     ensures ok { IfOk result (λ linked. IsSpelled bytes.now linked × IsAdmitted linked × IsLinked linked) }
-    ensures err { IfErr result (λ fault. Refuses bytes.now fault) }
+    ensures err { IfErr result (λ fault. RefusesOrWants bytes.now fault) }
     ensures only { (p : Image) → IsSpelled bytes.now p → IfOk result (λ linked. linked ≡ p) }
     ensures complete { (p : Image) → IsSpelled bytes.now p → IsAcceptable p → IfErr result (λ fault. fault ≡ Fault.Memory) }
 {

@@ -3,11 +3,11 @@ ghost use Rattle.std.specs.Prelude.{ℕ, ◌≡◌, ◌≤◌, List, Ok};
 ghost use Rattle.aom_run.specs.Script.{denoted};
 ghost use Rattle.aom_main.specs.Acceptable.{IsSpelled};
 ghost use Rattle.aom_main.specs.Assembly.{AsmAnswers, DisAnswers};
-ghost use Rattle.aom_main.specs.Headline.{Ends, RunAnswers, CheckAnswers, Sends};
+ghost use Rattle.aom_main.specs.Headline.{AcceptedAnswers, Ends, RunAnswers, CheckAnswers, Sends};
 
 use crate::accepting::accept_bytes;
 use crate::assembling::{assemble_bytes, disassemble_bytes};
-use crate::running::run_accepted;
+use crate::running::{run_accepted, runs_well};
 use crate::{ExitStatus, Fault, tell};
 use aom_budget::Accepted;
 use aom_exec::Outcome;
@@ -28,7 +28,7 @@ pub fn run_bytes<W: Sink, E: Sink>(
 {
     match accept_bytes(alloc, image) {
         Ok(accepted) => run_text(alloc, &accepted, script, limit, out, errors),
-        Err(fault) => tell(alloc, &fault, errors),
+        Err(refusal) => tell(&refusal, errors),
     }
 }
 
@@ -42,12 +42,12 @@ fn run_text<W: Sink, E: Sink>(
     errors: &mut E,
 ) -> ExitStatus
     requires limit { (1 ≤ limit) × (limit ≤ 1000000000) }
-    ensures { (bytes : List ℕ) → IsSpelled bytes accepted.now → RunAnswers bytes text.now (record { before = W.out out.old; now = W.out out.new; failed = W.failed out.new }) (record { before = E.out errors.old; now = E.out errors.new; failed = E.failed errors.new }) result }
+    ensures { (bytes : List ℕ) → IsSpelled bytes accepted.now → AcceptedAnswers bytes text.now (record { before = W.out out.old; now = W.out out.new; failed = W.failed out.new }) (record { before = E.out errors.old; now = E.out errors.new; failed = E.failed errors.new }) result }
 {
     accepted.facts();
     match read_script(alloc, text) {
         Ok(script) => run_script(alloc, accepted, &script, limit, out, errors),
-        Err(fault) => tell(alloc, &Fault::from(fault), errors),
+        Err(fault) => tell(&Fault::from(fault), errors),
     }
 }
 
@@ -61,27 +61,25 @@ fn run_script<W: Sink, E: Sink>(
     errors: &mut E,
 ) -> ExitStatus
     requires limit { (1 ≤ limit) × (limit ≤ 1000000000) }
-    ensures { (bytes text : List ℕ) → IsSpelled bytes accepted.now → denoted text ≡ Ok script.now → RunAnswers bytes text (record { before = W.out out.old; now = W.out out.new; failed = W.failed out.new }) (record { before = E.out errors.old; now = E.out errors.new; failed = E.failed errors.new }) result }
+    ensures { (bytes text : List ℕ) → IsSpelled bytes accepted.now → denoted text ≡ Ok script.now → AcceptedAnswers bytes text (record { before = W.out out.old; now = W.out out.new; failed = W.failed out.new }) (record { before = E.out errors.old; now = E.out errors.new; failed = E.failed errors.new }) result }
 {
     accepted.facts();
-    aom_sound::linked_is_wired();
-    aom_sound::typed_is_sound();
-    aom_determined::text_is_determined();
+    runs_well(accepted);
     match run_accepted(alloc, accepted, script, limit, out) {
-        Ok(outcome) => end(alloc, outcome, errors),
-        Err(fault) => tell(alloc, &fault, errors),
+        Ok(outcome) => end(outcome, errors),
+        Err(fault) => tell(&fault, errors),
     }
 }
 
 /// The status of a run that ended so.
-fn end<E: Sink>(alloc: Global, outcome: Outcome, errors: &mut E) -> ExitStatus
+fn end<E: Sink>(outcome: Outcome, errors: &mut E) -> ExitStatus
     ensures { Ends outcome result (record { before = E.out errors.old; now = E.out errors.new; failed = E.failed errors.new }) }
 {
     match outcome {
         Outcome::Stopped => ExitStatus::Done,
         Outcome::Waiting => ExitStatus::Unfinished,
         Outcome::MainLeft(_) => ExitStatus::Broken,
-        Outcome::WriteFault => tell(alloc, &Fault::Write, errors),
+        Outcome::WriteFault => tell(&Fault::Write, errors),
     }
 }
 
@@ -95,8 +93,8 @@ pub fn check_bytes<W: Sink, E: Sink>(
     ensures { CheckAnswers image.now (record { before = W.out out.old; now = W.out out.new; failed = W.failed out.new }) (record { before = E.out errors.old; now = E.out errors.new; failed = E.failed errors.new }) result }
 {
     match accept_bytes(alloc, image) {
-        Ok(_accepted) => send(alloc, b"accepted\n", out, errors),
-        Err(fault) => tell(alloc, &fault, errors),
+        Ok(_accepted) => send(b"accepted\n", out, errors),
+        Err(fault) => tell(&fault, errors),
     }
 }
 
@@ -111,8 +109,8 @@ pub fn asm_bytes<W: Sink, E: Sink>(
     ensures { AsmAnswers text.now (record { before = W.out out.old; now = W.out out.new; failed = W.failed out.new }) (record { before = E.out errors.old; now = E.out errors.new; failed = E.failed errors.new }) result }
 {
     match assemble_bytes(alloc, text) {
-        Ok(bytes) => send(alloc, &bytes, out, errors),
-        Err(fault) => tell(alloc, &fault, errors),
+        Ok(bytes) => send(&bytes, out, errors),
+        Err(fault) => tell(&fault, errors),
     }
 }
 
@@ -127,18 +125,18 @@ pub fn dis_bytes<W: Sink, E: Sink>(
     ensures { DisAnswers image.now (record { before = W.out out.old; now = W.out out.new; failed = W.failed out.new }) (record { before = E.out errors.old; now = E.out errors.new; failed = E.failed errors.new }) result }
 {
     match disassemble_bytes(alloc, image) {
-        Ok(text) => send(alloc, &text, out, errors),
-        Err(fault) => tell(alloc, &fault, errors),
+        Ok(text) => send(&text, out, errors),
+        Err(fault) => tell(&fault, errors),
     }
 }
 
 /// Writes a text to the output, and tells whether that has failed.
-fn send<W: Sink, E: Sink>(alloc: Global, text: &[u8], out: &mut W, errors: &mut E) -> ExitStatus
+fn send<W: Sink, E: Sink>(text: &[u8], out: &mut W, errors: &mut E) -> ExitStatus
     ensures { Sends text.now result (record { before = W.out out.old; now = W.out out.new; failed = W.failed out.new }) (record { before = E.out errors.old; now = E.out errors.new; failed = E.failed errors.new }) }
 {
     write_text(out, text);
     if out.has_failed() {
-        return tell(alloc, &Fault::Write, errors);
+        return tell(&Fault::Write, errors);
     }
     ExitStatus::Done
 }

@@ -4,6 +4,7 @@ ghost use Rattle.aom_main.specs.Status.{status_of};
 ghost use Rattle.aom_main.specs.Headline.{Told};
 
 use crate::ExitStatus;
+use crate::fault_line::FaultLine;
 use aom_budget::BudgetFault;
 use aom_classes::LinkFault;
 use aom_exec::BootFault;
@@ -11,8 +12,7 @@ use aom_image::LoadFault;
 use aom_run::{ScriptFault, ScriptFaultKind, Sink, write_text};
 use aom_text::{AsmFault, AsmFaultKind};
 use aom_verify::Refusal;
-use std::alloc::{AllocError, Global};
-use std::fmt;
+use std::alloc::AllocError;
 
 /// Why a call does not do what is asked. Each is told in one line.
 #[derive(Clone, Copy, PartialEq, Eq, Debug)]
@@ -42,35 +42,6 @@ impl Fault {
                 ExitStatus::ImageRefused,
             Fault::Script(_) | Fault::Native => ExitStatus::CallRefused,
             Fault::File | Fault::Write | Fault::Memory => ExitStatus::Fault,
-        }
-    }
-}
-
-/// The line, without its line feed.
-impl fmt::Display for Fault {
-    ghost use Rattle.std.specs.Prelude.{Some};
-    ghost use Rattle.aom_main.specs.Status.{fault_line};
-
-    ghost output = { λ f. Some (fault_line f) };
-
-    fn fmt<W: fmt::Write>(&self, f: &mut fmt::Formatter<W>) -> fmt::Result {
-        match self {
-            Fault::Load(fault) => write!(f, "{fault}"),
-            Fault::Asm(fault) => write!(f, "{fault}"),
-            Fault::Link(fault) => {
-                let number = fault.number();
-                write!(f, "link {number}")
-            }
-            Fault::Verify(refusal) => write!(f, "{refusal}"),
-            Fault::Budget(fault) => {
-                let number = fault.number();
-                write!(f, "budget {number}")
-            }
-            Fault::Script(fault) => write!(f, "{fault}"),
-            Fault::Native => write!(f, "native"),
-            Fault::File => write!(f, "file"),
-            Fault::Write => write!(f, "write"),
-            Fault::Memory => write!(f, "memory"),
         }
     }
 }
@@ -183,18 +154,11 @@ impl From<AllocError> for Fault {
     }
 }
 
-/// Writes a fault's line, and answers its status. Where there is no memory for the line, it is that which is told.
-pub fn tell<E: Sink>(alloc: Global, fault: &Fault, errors: &mut E) -> ExitStatus
+/// Writes a fault's line, and answers its status.
+pub fn tell<E: Sink>(fault: &Fault, errors: &mut E) -> ExitStatus
     ensures { Told fault.now result (record { before = E.out errors.old; now = E.out errors.new; failed = E.failed errors.new }) }
 {
-    match format!(in alloc; "{fault}\n") {
-        Ok(line) => {
-            write_text(errors, line.as_bytes());
-            fault.status()
-        }
-        Err(_) => {
-            write_text(errors, b"memory\n");
-            ExitStatus::Fault
-        }
-    }
+    let line = FaultLine::of(fault);
+    write_text(errors, line.as_bytes());
+    fault.status()
 }

@@ -10,6 +10,7 @@
 mod accepting;
 mod assembling;
 mod commands;
+mod fault_line;
 mod faults;
 mod running;
 mod status;

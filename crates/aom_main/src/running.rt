@@ -1,6 +1,6 @@
 //! The run of an accepted image.
 ghost use Rattle.std.specs.Prelude.{◌≡◌, ◌≤◌, IfOk, IfErr};
-ghost use Rattle.aom_main.specs.Headline.{Shows};
+ghost use Rattle.aom_main.specs.Headline.{AllRunWell, Shows};
 
 use crate::Fault;
 use aom_budget::Accepted;
@@ -25,4 +25,15 @@ pub fn run_accepted<W: Sink>(
     let mut turn = Turn::new(alloc, accepted, refused)?;
     let mut machine = Machine::boot(alloc, accepted)?;
     Ok(run(&mut machine, script, &mut turn, limit, out))
+}
+
+/// Every run of an accepted image goes well, whatever is refused, and has one text.
+#[tactic(auto, using(crate::proofs::Telling::all_run_well))]
+pub fn runs_well(accepted: &Accepted)
+    ensures { AllRunWell accepted.now }
+{
+    accepted.facts();
+    aom_sound::linked_is_wired();
+    aom_ranks::typed_runs_well();
+    aom_determined::text_is_determined();
 }

@@ -289,7 +289,7 @@ fn each_fault_has_its_line_and_status(rt: HostRuntime) -> Result<(), Fail> {
         (Fault::Memory, "memory\n", 5),
     ] {
         let mut errors = page_of(alloc, 100);
-        let status = tell(alloc, &fault, &mut errors);
+        let status = tell(&fault, &mut errors);
         assert_eq!(rt; status.number(), number);
         assert_eq!(rt; errors.text.as_slice(), line.as_bytes());
     }

@@ -18,7 +18,7 @@ use Rattle.aom_sound.specs.State.{A_mark, Choice, Destroy, Dispatched, Goes, IsS
 use Rattle.aom_sound.specs.WellTyped.{Keeps, WellTyped}
 
 -- a state that is not stuck leads on
-leads_on : (p : Image) (t : Typing) (o : Outcome) → Keeps p t o → (u : State) × (o ≡ Goes u) × WellTyped p t u
+pub leads_on : (p : Image) (t : Typing) (o : Outcome) → Keeps p t o → (u : State) × (o ≡ Goes u) × WellTyped p t u
 leads_on p t (Goes u) k = (u, refl, k)
 leads_on p t (IsStuck kind) k = absurd k
 

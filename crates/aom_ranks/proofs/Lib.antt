@@ -7,3 +7,4 @@ pub mod Falling
 pub mod Ranking
 pub mod Goings
 pub mod Arriving
+pub mod Runs

@@ -2,3 +2,4 @@ pub mod Within
 pub mod Ranks
 pub mod Laws
 pub mod Leaves
+pub mod Runs

@@ -3,7 +3,7 @@ use Rattle.std.proofs.Common.{◌≡◌, ◌⊎◌, ◌∙◌, ℕ, ◌+◌, ◌
 use Rattle.std.proofs.lemmas.Grind.{flat_map-append}
 use Rattle.aom_run.specs.declared.fault.ScriptFaultKind.{ScriptFaultKind}
 use Rattle.aom_run.specs.declared.line.ScriptLine.{ScriptLine}
-use Rattle.aom_run.specs.Script.{Script, line_says, fault_after, fault_of, refused_by, refused_in, in_line, faults_from, unless, denoted_by, Adds, WantsMemory}
+use Rattle.aom_run.specs.Script.{Script, line_says, fault_after, fault_of, refused_by, refused_in, in_line, faults_from, unless, denoted_by, Adds, LinesWantMemory}
 
 -- the faults of lines and of those after them
 faults_append : (n : ℕ) (xs ys : List (List ℕ)) → faults_from n (xs ++ ys) ≡ faults_from n xs ++ faults_from (n + length xs) ys
@@ -50,7 +50,7 @@ ends lines count script s =
 
 -- the line at hand is not taken
 pub stops : (lines later : List (List ℕ)) (line : List ℕ) (count : ℕ) (script new : Script) (kind : ScriptFaultKind) → SoFar lines (line ∷ later) count script → Adds (count + 1) line script new (Err kind)
-    → (denoted_by lines ≡ Err (record { line = count + 1; kind = kind })) ⊎ WantsMemory lines (record { line = count + 1; kind = kind })
+    → (denoted_by lines ≡ Err (record { line = count + 1; kind = kind })) ⊎ LinesWantMemory lines (record { line = count + 1; kind = kind })
 stops lines later line count script new kind s (inl faulty) = inl (ap (λ fs. unless fs (record { refused = refused_in lines })) (at_hand lines later line count script s ∙ ap (λ f. in_line (count + 1) f ++ faults_from ((count + 1) + 1) later) faulty))
 stops lines later line count script new kind s (inr wants) =
     inr (record {

@@ -1,5 +1,5 @@
 -- What the text of a script denotes.
-use Rattle.std.specs.Prelude.{◌≡◌, ℕ, ◌+◌, ◌-◌, ◌^◌, ◌⊎◌, nat_le, if◌then◌else◌, List, [], ◌∷◌, ◌++◌, length, codes, Option, Some, None, Result, Ok, Err}
+use Rattle.std.specs.Prelude.{◌≡◌, ℕ, ◌≤◌, ◌+◌, ◌-◌, ◌^◌, ◌⊎◌, nat_le, if◌then◌else◌, List, [], ◌∷◌, ◌++◌, length, codes, Option, Some, None, Result, Ok, Err}
 use Rattle.std.specs.List.{list_all, flat_map}
 use Rattle.std.specs.Str.{bytes_eq}
 use Rattle.aom_text.specs.Words.{is_plain, words}
@@ -93,7 +93,7 @@ denoted text = if nat_le (length text) (2 ^ 20) then denoted_by (lines_of text) 
 -- ---- what is answered
 
 -- memory was wanting for the request that a line refuses, and neither that line nor one before it is faulty
-pub record WantsMemory (lines : List (List ℕ)) (fault : ScriptFault) : Type 0 where
+pub record LinesWantMemory (lines : List (List ℕ)) (fault : ScriptFault) : Type 0 where
   pub kind : fault.kind ≡ OutOfMemory
   pub before : List (List ℕ)
   pub line : List ℕ
@@ -112,6 +112,11 @@ Adds number line old new (Err kind) =
     (fault_of number line ≡ Some kind)
     ⊎ ((kind ≡ OutOfMemory) × (fault_of number line ≡ None) × ((request : ℕ) × (line_says line ≡ Ok (Refuse request))))
 
--- why a text is refused: by its first fault, or for want of memory before there is one
-abbrev pub Refuses : List ℕ → ScriptFault → Type 0
-Refuses text fault = (denoted text ≡ Err fault) ⊎ WantsMemory (lines_of text) fault
+-- and the text is not too long, since else nothing has to grow
+pub record WantsMemory (text : List ℕ) (fault : ScriptFault) : Type 0 where
+  pub size : length text ≤ 2 ^ 20
+  pub lines : LinesWantMemory (lines_of text) fault
+
+-- what a fault says of a text: it is its first fault, or memory was wanting before there is one
+abbrev pub RefusesOrWants : List ℕ → ScriptFault → Type 0
+RefusesOrWants text fault = (denoted text ≡ Err fault) ⊎ WantsMemory text fault

@@ -1,7 +1,7 @@
 //! A script, and how its text is read.
 ghost use Rattle.std.specs.Prelude.{◌≡◌, ◌⊎◌, [], IfOk, IfErr, Ok, Err};
 ghost use Rattle.aom_text.specs.Text.{lines_of};
-ghost use Rattle.aom_run.specs.Script.{denoted, denoted_by, Adds, Refuses, WantsMemory};
+ghost use Rattle.aom_run.specs.Script.{denoted, denoted_by, Adds, LinesWantMemory, RefusesOrWants};
 
 use crate::line::{ScriptLine, read_line};
 use crate::{ScriptFault, ScriptFaultKind};
@@ -63,7 +63,7 @@ impl Script {
 /// Reads a script.
 pub fn read_script(alloc: Global, text: &[u8]) -> Result<Script, ScriptFault>
     ensures ok { IfOk result (λ script. denoted text.now ≡ Ok script) }
-    ensures err { IfErr result (λ fault. Refuses text.now fault) }
+    ensures err { IfErr result (λ fault. RefusesOrWants text.now fault) }
 {
     if text.len() > MOST_BYTES {
         return Err(ScriptFault {
@@ -77,7 +77,7 @@ pub fn read_script(alloc: Global, text: &[u8]) -> Result<Script, ScriptFault>
 /// Reads the lines of a text.
 fn read_lines(alloc: Global, text: &[u8]) -> Result<Script, ScriptFault>
     ensures ok { IfOk result (λ script. denoted_by (lines_of text.now) ≡ Ok script) }
-    ensures err { IfErr result (λ fault. (denoted_by (lines_of text.now) ≡ Err fault) ⊎ WantsMemory (lines_of text.now) fault) }
+    ensures err { IfErr result (λ fault. (denoted_by (lines_of text.now) ≡ Err fault) ⊎ LinesWantMemory (lines_of text.now) fault) }
 {
     let mut script = Script::empty(alloc);
     let mut rest = text;

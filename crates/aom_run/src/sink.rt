@@ -8,12 +8,13 @@ pub trait Sink {
 
     ghost failed: { Self → Bool };
 
-    /// Sends the first bytes out, and answers how many. It fails where it is given some and takes none.
+    /// Sends the first bytes out, and answers how many. It fails where it is given some and takes none, and nowhere else.
     fn put(&mut self, bytes: &[u8]) -> usize
         ensures within { result ≤ length bytes.now }
         ensures sent { out self.new ≡ option_map (λ t. t ++ take result bytes.now) (out self.old) }
         ensures fails { 0 < length bytes.now → result ≡ 0 → failed self.new ≡ true }
         ensures lives { failed self.old ≡ false → 0 < result → failed self.new ≡ false }
+        ensures empty { failed self.old ≡ false → length bytes.now ≡ 0 → failed self.new ≡ false }
         ensures stays { failed self.old ≡ true → (failed self.new ≡ true) × (result ≡ 0) };
 
     fn has_failed(&self) -> bool

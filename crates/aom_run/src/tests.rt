@@ -24,7 +24,7 @@ impl Sink for Narrow {
     ghost failed = { λ s. s.is_full };
 
     fn put(&mut self, bytes: &[u8]) -> usize {
-        if self.is_full {
+        if self.is_full || bytes.is_empty() {
             return 0;
         }
         let count = bytes.len().min(self.room).min(3);
@@ -33,7 +33,7 @@ impl Sink for Narrow {
             return 0;
         }
         self.room -= count;
-        if count == 0 && !bytes.is_empty() {
+        if count == 0 {
             self.is_full = true;
         }
         count

@@ -191,12 +191,14 @@ pub record HasArrived (p : Image) (refused : List ℕ) (code : ℤ) (below : Lis
   pub reaches : Reaches p refused after lines s
 
 -- where a leave is on top in a run, there are entries over a mark, and each run from there is one of the two
-abbrev pub LeavesArrive : Type 0
-LeavesArrive =
-    (p : Image) (t : Typing) (refused : List ℕ) → IsWired p → IsTyped p t →
+abbrev pub EachLeaveArrives : Image → List ℕ → Type 0
+EachLeaveArrives p refused =
     (before : List Line) (s : State) → Reaches p refused (boot_state p) before s → (code : ℤ) (below : List Task) → s.tasks ≡ Unwind code ∷ below →
     (entries : List Item)
     × (items : List Item)
     × (s.items ≡ entries ++ (A_mark ∷ items))
     × AreEntries entries
     × ((lines : List Line) (u : State) → Reaches p refused s lines u → StillLeaves p code below entries items s u ⊎ HasArrived p refused code below entries items s u)
+
+abbrev pub LeavesArrive : Type 0
+LeavesArrive = (p : Image) (t : Typing) (refused : List ℕ) → IsWired p → IsTyped p t → EachLeaveArrives p refused

@@ -89,9 +89,18 @@ at_traps p = record { Runs = λ fr ts. Unit {0}; Waits = λ fr ts. Unit {0}; Sta
 abbrev pub AllAtTraps : Image → List Task → Type 0
 AllAtTraps p ts = Holds (at_traps p) ts
 
+-- in each state of a run
+abbrev pub EachStandsAtTraps : Image → List ℕ → Type 0
+EachStandsAtTraps p refused = (lines : List Line) (s : State) → Reaches p refused (boot_state p) lines s → AllAtTraps p s.tasks
+
+-- from a state of a run on a trap is at hand, or it was over at some move
+abbrev pub EachTrapHolds : Image → List ℕ → Type 0
+EachTrapHolds p refused =
+    (before : List Line) (s : State) → Reaches p refused (boot_state p) before s →
+    (below : List Task) (items : List Item) → IsTrapping below items s → (lines : List Line) (u : State) → Reaches p refused s lines u → IsTrapping below items u ⊎ WasPast p refused below items s u
+
 pub record TrapsKeep : Type 0 where
-  -- in each state of a run
-  pub stand : (p : Image) (refused : List ℕ) (lines : List Line) (s : State) → Reaches p refused (boot_state p) lines s → AllAtTraps p s.tasks
+  pub stand : (p : Image) (refused : List ℕ) → EachStandsAtTraps p refused
   -- a method sets a trap: it waits under it, and the items are those below its mark
   pub sets :
       (p : Image) (t : Typing) (c : Choice) (s u : State) (fr : Frame) (ts : List Task) (target : Target) (m first x : ℕ) →
@@ -101,6 +110,4 @@ pub record TrapsKeep : Type 0 where
       (p : Image) (t : Typing) → IsWired p → IsTyped p t → (c : Choice) (s u : State) → WellTyped p t s → named s.cells c.name ≡ None →
       (below : List Task) (items : List Item) → IsTrapping below items s → step p c s ≡ Goes u → IsTrapping below items u ⊎ IsPast p below items s u
   -- and of each run from there
-  pub runs :
-      (p : Image) (t : Typing) (refused : List ℕ) → IsWired p → IsTyped p t → (before : List Line) (s : State) → Reaches p refused (boot_state p) before s →
-      (below : List Task) (items : List Item) → IsTrapping below items s → (lines : List Line) (u : State) → Reaches p refused s lines u → IsTrapping below items u ⊎ WasPast p refused below items s u
+  pub runs : (p : Image) (t : Typing) (refused : List ℕ) → IsWired p → IsTyped p t → EachTrapHolds p refused

@@ -15,10 +15,15 @@ pub record IsFirstUntyped (p : Image) (m : ℕ) : Type 0 where
   pub lower : (k : ℕ) → k < m → HasTyping p k
   pub none : ¬ HasTyping p m
 
--- the method, one of its places, and why a state that arrives there is refused; want of memory says nothing
+-- why an image is refused: the method, one of its places, and why a state that arrives there is refused. Want of memory is no reason
 abbrev pub Refuses : Image → Refusal → Type 0
-Refuses p OutOfMemory = Unit {0}
+Refuses p OutOfMemory = ⊥
 Refuses p (Refused m place why) = IsFirstUntyped p m × IsSome (instr_at p m place) × FailsFor p m place why
+
+-- what a refusal says of the image: why it is refused, or nothing, where memory was wanting
+abbrev pub RefusesOrWants : Image → Refusal → Type 0
+RefusesOrWants p OutOfMemory = Unit {0}
+RefusesOrWants p (Refused m place why) = Refuses p (Refused m place why)
 
 -- the same of one method
 abbrev pub RefusesMethod : Image → ℕ → Refusal → Type 0

@@ -2,7 +2,7 @@
 ghost use Rattle.std.specs.Prelude.{◌≡◌, ◌<◌, IfOk, IfErr, IsSome};
 ghost use Rattle.aom_image.specs.Views.{method_at};
 ghost use Rattle.aom_shape.specs.Typing.{Typing, IsTyped};
-ghost use Rattle.aom_verify.specs.Refusals.{Refuses, RefusesMethod};
+ghost use Rattle.aom_verify.specs.Refusals.{RefusesMethod, RefusesOrWants};
 ghost use Rattle.aom_verify.specs.Strongest.{IsMethodStrongest, EachHasStrongest, IsStrongest};
 ghost use Rattle.aom_verify.specs.Sweep.{HasPlaces};
 
@@ -62,7 +62,7 @@ impl Checked {
 /// Checks each method in the order of their numbers. A refused image is dropped; want of memory may come at any method.
 pub fn check(alloc: Global, linked: Linked) -> Result<Checked, Refusal>
     ensures ok { IfOk result (λ checked. checked ≡ linked) }
-    ensures refused { IfErr result (λ refusal. Refuses linked refusal) }
+    ensures refused { IfErr result (λ refusal. RefusesOrWants linked refusal) }
     ensures complete { (t : Typing) → IsTyped linked t → IfErr result (λ refusal. refusal ≡ Refusal.OutOfMemory) }
 {
     check_methods(alloc, &linked)?;
@@ -71,7 +71,7 @@ pub fn check(alloc: Global, linked: Linked) -> Result<Checked, Refusal>
 
 fn check_methods(alloc: Global, linked: &Linked) -> Result<(), Refusal>
     ensures ok { IfOk result (λ _. EachHasStrongest linked.now) }
-    ensures err { IfErr result (λ refusal. Refuses linked.now refusal) }
+    ensures err { IfErr result (λ refusal. RefusesOrWants linked.now refusal) }
 {
     let methods = linked.image().methods();
     for index in 0..methods.len() {

@@ -1,10 +1,10 @@
 -- The number that `clap` reads is in its range, and stays as it is.
-use Rattle.std.proofs.Common.{rules, ◌≡◌, ◌∙◌, ap, arith, unwrap_or, codes}
+use Rattle.std.proofs.Common.{rules, ◌≡◌, ◌∙◌, ap, arith, sym, unwrap_or, codes}
 use Rattle.std.specs.Fmt.{decimal}
 use Rattle.std.specs.Str.Parse.{ParsesUnsigned, ExplainsUnsignedError, HasUnsignedDigitsIfOk}
 use Rattle.clap.specs.Words.{found_of}
 use Rattle.clap.proofs.WalkLemmas.{one_text-rows}
-use Rattle.aom_command_line.proofs.Reading.{reads}
+use Rattle.aom_command_line.proofs.Reading.{reads, reads_digits}
 use Rattle.aom_command_line.proofs.words.limit_of.Goals as goal
 
 pub returns : goal.returns
@@ -14,6 +14,11 @@ returns c = record {
   is = λ n least most text.
       let read = reads (λ bs r. ParsesUnsigned 32 10 bs r × ExplainsUnsignedError 10 bs r × HasUnsignedDigitsIfOk bs r) (λ bs r g. g.0) n most c.get_one.result (c.get_one.ensures.value (decimal n) (one_text-rows (found_of c.args.own.now) (codes "limit") ∙ text)) in
       let limit : c.unwrap_or-limit.result ≡ n = c.unwrap_or-limit.ensures ∙ ap (λ o. unwrap_or o 1000000) read in
+      let clamped = c.clamp.ensures in
+      omega (arith, limit, clamped);
+  digits = λ n word least most text numeral value.
+      let read = reads_digits (λ bs r. ParsesUnsigned 32 10 bs r × ExplainsUnsignedError 10 bs r × HasUnsignedDigitsIfOk bs r) (λ bs r g. g.0) word numeral (omega (arith, most, value)) c.get_one.result (c.get_one.ensures.value word (one_text-rows (found_of c.args.own.now) (codes "limit") ∙ text)) in
+      let limit : c.unwrap_or-limit.result ≡ n = c.unwrap_or-limit.ensures ∙ ap (λ o. unwrap_or o 1000000) read ∙ sym value in
       let clamped = c.clamp.ensures in
       omega (arith, limit, clamped);
 }

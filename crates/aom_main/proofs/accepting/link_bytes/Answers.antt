@@ -1,11 +1,17 @@
--- An acceptable image is linked, unless memory runs out.
+-- A fault of linking is told as one of the bytes. An acceptable image is linked, unless memory runs out.
 use Rattle.std.proofs.Common.{sym, subst}
 use Rattle.std.proofs.lemmas.Result.{err_from_is_err_and}
 use Rattle.aom_main.specs.Acceptable.{IsAcceptable}
-use Rattle.aom_main.proofs.Refusing.{linked_memory}
+use Rattle.aom_main.proofs.Refusing.{link_refused, linked_memory}
 use Rattle.aom_main.proofs.accepting.link_bytes.Goals as goal
 
 pub returns-in_err-link-clause-complete : goal.returns-in_err-link-clause-complete
 returns-in_err-link-clause-complete c =
     let e = err_from_is_err_and c.from_residual-in_err-link.result c.from_residual-in_err-link.ensures.1 in
     λ p spelled acceptable. rw (e.1, e.2) (linked_memory _ _ c.in_err-link.ensures.err (subst IsAcceptable (sym (c.in_ok-image.ensures.only p spelled.formed spelled.spelling)) acceptable))
+
+pub returns-in_err-link-clause-err : goal.returns-in_err-link-clause-err
+returns-in_err-link-clause-err c =
+    let e = err_from_is_err_and c.from_residual-in_err-link.result c.from_residual-in_err-link.ensures.1 in
+    let found = c.in_ok-image.ensures.found in
+    rw (e.1, e.2) (link_refused c.args.bytes.now _ _ (record { formed = found.0; spelling = found.1 }) c.in_err-link.ensures.err)
