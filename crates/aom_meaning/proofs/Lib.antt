@@ -1,0 +1,6 @@
+pub mod Pieces
+pub mod Words
+pub mod Sound
+pub mod Headers
+pub mod Declared
+pub mod Classes
