@@ -209,3 +209,62 @@ module _ (names : Names) (kinds_before : List ClassDecl) (natives servers : ℕ)
         means = record { name = d.is_name; kind = b.means; words = n.says; own = o.says };
         placed = d.placed;
       }))))))))
+
+-- ---- what is read
+
+module _ {names : Names} {scope : Scope} (looks : LooksUp names scope) where
+  own_reads : {Y : Type 0} (g : Bool → List Thing → Reading Y) (said : Option (List ℕ)) (list : List Thing) (rest : List (List ℕ)) (y : Y) → SaidOr (IsList 8 (IsThing names)) [] said list → NotNext k.Own rest
+      → ((owns : Bool) → Whole (g owns list) rest y) → Whole (next (flag k.Own) (λ owns. next (fields scope owns) (g owns))) (part k.Own said ++ rest) y
+  own_reads g None list rest y says other later =
+      let empty : Whole (g false []) rest y = subst (λ l. Whole (g false l) rest y) says (later false) in
+      then_reads (λ owns. next (fields scope owns) (g owns)) (reads_mark k.Own false rest other) (then_reads {r = fields scope false} (g false) (record { reads = refl }) empty)
+  own_reads g (Some w) list rest y says other later =
+      first (λ owns. next (fields scope owns) (g owns)) (takes_flag k.Own) (first (g true) (takes_seen (list_reads 8 (thing_of scope) (IsThing names) (thing_reads looks) w list says)) (later true))
+
+  module _ (natives servers : ℕ) where
+    takes_provider : (said : ProviderText) (p : Provider) → ProviderMeans natives said p → Takes (next any_keyword (provider natives)) (provider_words said) p
+    takes_provider source.by_itself providers.Own means = in_turn _ (takes_any_keyword k.This) (gives _)
+    takes_provider source.by_timer providers.Timer means = in_turn _ (takes_any_keyword k.Timer) (gives _)
+    takes_provider (source.by_native w) (providers.Native n) means = in_turn _ (takes_any_keyword k.Native) (in_turn _ (takes_seen (number_reads 0 15 w n means.0)) (record {
+      reads = λ rest. ap (λ b. (if b then giving (providers.Native n) else failing LimitPassed) rest) (lt-ltb n natives means.1);
+    }))
+    takes_provider said p means = absurd means
+
+    takes_purpose : (said : KindText) (b : Option (List ℕ)) (K : ClassKind) → KindMeans names natives said b K → (is_server_kind K ≡ true → servers < 8) → Takes (next any_keyword (purpose scope natives servers)) (kind_words said) (purpose_of K)
+    takes_purpose source.plain None kinds.Plain means few = in_turn _ (takes_any_keyword k.Plain) (gives _)
+    takes_purpose source.session None kinds.Session means few = in_turn _ (takes_any_keyword k.Session) (gives _)
+    takes_purpose (source.active said) (Some w) (kinds.Active p b) means few = in_turn _ (takes_any_keyword k.Active) (made any_keyword (provider natives) purposes.Active (takes_provider said p means.0))
+    takes_purpose (source.server class most) (Some w) (kinds.Server sessions of_class b) means few = in_turn _ (takes_any_keyword k.Server) (record {
+      reads = λ rest. ap (λ b. (if b then server scope else failing LimitPassed) (class ∷ keyword_text k.Max ∷ most ∷ rest)) (lt-ltb servers 8 (few refl))
+          ∙ (in_turn _ (takes_class looks class of_class means.0) (in_turn _ (takes_keyword k.Max) (in_turn _ (takes_seen (number_reads 1 64 most sessions means.1)) (gives (purposes.Server sessions of_class))))).reads rest;
+    })
+    takes_purpose said b K means few = absurd means
+
+    budget_reads : (w : List ℕ) (n : ℕ) → IsBudget w n → Whole budget (keyword_text k.Budget ∷ w ∷ []) n
+    budget_reads w n says = first _ (takes_keyword k.Budget) (first _ (takes_seen (number_reads 0 4294967295 w n says)) (record { reads = refl }))
+
+    kind_reads : (said : KindText) (b : Option (List ℕ)) (K : ClassKind) → KindMeans names natives said b K → (owns : Bool) → Whole (kind owns (purpose_of K)) (part k.Budget b) K
+    kind_reads source.plain None kinds.Plain means owns = record { reads = refl }
+    kind_reads source.session None kinds.Session means owns = record { reads = refl }
+    kind_reads (source.active said) (Some w) (kinds.Active p b) means owns = last _ (budget_reads w b means.1) (done _)
+    kind_reads (source.server class most) (Some w) (kinds.Server sessions of_class b) means owns = last _ (budget_reads w b means.2) (done _)
+    kind_reads said b K means owns = absurd means
+
+    -- what stands behind the kind
+    abbrev rest_of_fields : Purpose → ℕ → Bool → List Thing → Reading ClassDecl
+    rest_of_fields p words owns list = next (kind owns p) (λ kind. giving (record { kind = kind; words = words; fields = list }))
+
+    abbrev rest_of_class : Purpose → Reading ClassDecl
+    rest_of_class p = next (optional_number k.Words 8) (λ words. next (flag k.Own) (λ owns. next (fields scope owns) (rest_of_fields p words owns)))
+
+    -- what stands behind the keyword
+    pub class_reads : (place : ℕ) (t : ClassText) (c : ClassDecl) → ClassMeans names natives t c → place_of t.name scope.classes ≡ Some place → (is_server c ≡ true → servers < 8)
+        → Whole (class_statement scope natives place servers) (t.name ∷ (kind_words t.kind ++ (part k.Words t.words ++ (part k.Own t.own ++ part k.Budget t.budget)))) c
+    class_reads place t c means placed few =
+        let budget_words = part k.Budget t.budget in
+        first _ (takes_declared scope.classes place t.name means.name placed) (
+        first_two any_keyword (purpose scope natives servers) rest_of_class (takes_purpose t.kind t.budget c.kind means.kind few) (
+        then_reads _ (reads_part k.Words (number_in 0 8) (IsNumber 0 8) 0 (number_reads 0 8) t.words c.words (part k.Own t.own ++ budget_words) means.words
+        (not_part k.Words k.Own t.own budget_words refl (not_last k.Words k.Budget t.budget refl))) (
+        own_reads (rest_of_fields (purpose_of c.kind) c.words) t.own c.fields budget_words c means.own (not_last k.Own k.Budget t.budget refl) (λ owns.
+        last _ (kind_reads t.kind t.budget c.kind means.kind owns) (done _)))))

@@ -4,3 +4,4 @@ pub mod Sound
 pub mod Headers
 pub mod Declared
 pub mod Classes
+pub mod Headings
