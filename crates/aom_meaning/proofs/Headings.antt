@@ -2,6 +2,7 @@
 use Rattle.std.proofs.Common.{◌≡◌, ℕ, ◌||◌, Bool, true, false, List, [], ◌∷◌, ◌++◌, replicate, Option, Some, None, Ok, Err, refl, sym, ap, subst, ◌∙◌}
 use Rattle.std.specs.Prelude.{if◌then◌else◌}
 use Rattle.std.specs.List.{list_all}
+use Rattle.std.specs.Str.{bytes_eq}
 use Rattle.aom_text.specs.Names.{is_name}
 use Rattle.aom_text.specs.Words.{is_plain}
 use Rattle.aom_text.specs.declared.fault.AsmFaultKind.TheVariants.{BadShape}
@@ -12,6 +13,7 @@ use Rattle.aom_image.specs.declared.method.Gives.{Gives}
 use Rattle.aom_image.specs.declared.method.Gives.TheVariants as result
 use Rattle.aom_image.specs.declared.method.Role.{Role}
 use Rattle.aom_image.specs.declared.method.States.{States}
+use Rattle.aom_image.specs.declared.method.Thing.{Thing}
 use Rattle.aom_syntax.specs.Classes.{declared, flag, listed, thing, thing_of}
 use Rattle.aom_syntax.specs.Keywords.{keyword_text}
 use Rattle.aom_syntax.specs.Methods.{all_states, argument_of, flags_of, gives, heading, is_quiet_role, kind_of, optional_arguments, optional_class, optional_gives, optional_states, role, role_of, states_of, usual_after, usual_before, usual_gives, usual_words}
@@ -24,7 +26,7 @@ use Rattle.aom_syntax.specs.declared.method.Heading.{Heading}
 use Rattle.aom_syntax.specs.declared.scope.Scope.{Scope}
 use Rattle.aom_asm.proofs.Counting.{begins_with}
 use Rattle.aom_ranges.proofs.Within.{ok_is, steps}
-use Rattle.aom_readback.proofs.Readings.{Takes, Whole, done, first, last, sees, took_same, takes_any_keyword}
+use Rattle.aom_readback.proofs.Readings.{Takes, Whole, done, first, gives as gives_it, in_turn, last, only_two, sees, settle, takes_any_keyword}
 use Rattle.aom_meaning.specs.Meaning.{AreStates, GivesMeans, HeadingMeans, IsArgument, IsList, IsNumbered, IsThing, Names, SaidOr, SaidOrNone, states}
 use Rattle.aom_meaning.specs.Source as source
 use Rattle.aom_meaning.specs.Source.{GivesText, HeadingText, gives_words, heading_words, mark, part, promise_words}
@@ -190,3 +192,126 @@ module _ (names : Names) (kinds : List ClassDecl) where
         means = record { name = d.is_name; role = r.says; class = c.says; flags = refl; before = i.says; after = o.says; arguments = a.says; gives = g.means };
         placed = d.placed;
       }))))))))))
+
+-- ---- what is read
+
+not_gives : (key : Keyword) (said : GivesText) → bytes_eq (keyword_text k.Gives) (keyword_text key) ≡ false → NotNext key (gives_words said)
+not_gives key source.unsaid apart = record { left = refl }
+not_gives key source.nothing apart = not_word key (keyword_text k.Gives) _ apart
+not_gives key source.word apart = not_word key (keyword_text k.Gives) _ apart
+not_gives key (source.own w) apart = not_word key (keyword_text k.Gives) _ apart
+not_gives key (source.maybe w) apart = not_word key (keyword_text k.Gives) _ apart
+not_gives key (source.left w) apart = not_word key (keyword_text k.Gives) _ apart
+
+takes_role : (key : Keyword) (r : Role) → role_of key ≡ Ok r → Takes role (keyword_text key ∷ []) r
+takes_role key r says = sees role_of (takes_any_keyword key) says
+
+module _ {names : Names} {scope : Scope} (looks : LooksUp names scope) where
+  class_reads : (said : Option (List ℕ)) (c : Option ℕ) (rest : List (List ℕ)) → SaidOrNone (IsNumbered names.classes) said c → NotNext k.Of rest → Leaves (optional_class scope) (part k.Of said ++ rest) c rest
+  class_reads None None rest says other = record { reads = ap (λ p. if p.0 then (class scope p.1 >>= λ x. Ok (Some x.0, x.1)) else Ok (None, p.1)) other.left }
+  class_reads None (Some c) rest says other = absurd says
+  class_reads (Some w) None rest says other = absurd says
+  class_reads (Some w) (Some c) rest says other = record { reads = ap (λ e. e >>= λ x. Ok (Some x.0, x.1)) ((takes_class looks w c says).reads rest) }
+
+  takes_thing : (w : List ℕ) (t : Thing) → IsThing names w t → Takes (thing scope) (w ∷ []) t
+  takes_thing w t is = takes_seen (thing_reads looks w t is)
+
+  whole_gives : (usual g : Gives) {ws : List (List ℕ)} → Takes (next any_keyword (gives scope)) ws g → Whole (optional_gives scope usual) (keyword_text k.Gives ∷ ws) g
+  whole_gives usual g takes = record { reads = (only_two any_keyword (gives scope) (λ g. next (nothing_more false) (λ u. giving g)) takes (record { reads = refl })).reads }
+
+  gives_read : (usual : Gives) (said : GivesText) (g : Gives) → GivesMeans names usual said g → Whole (optional_gives scope usual) (gives_words said) g
+  gives_read usual source.unsaid g means = record { reads = ap (λ y. Ok (y, [])) (sym means) }
+  gives_read usual source.nothing result.Nothing means = whole_gives usual result.Nothing (in_turn _ (takes_any_keyword k.Nothing) (gives_it _))
+  gives_read usual source.word result.Word means = whole_gives usual result.Word (in_turn _ (takes_any_keyword k.Word) (gives_it _))
+  gives_read usual (source.own w) (result.Own t) means = whole_gives usual (result.Own t) (in_turn _ (takes_any_keyword k.Own) (in_turn _ (takes_thing w t means) (gives_it _)))
+  gives_read usual (source.maybe w) (result.Maybe t) means = whole_gives usual (result.Maybe t) (in_turn _ (takes_any_keyword k.Maybe) (in_turn _ (takes_thing w t means) (gives_it _)))
+  gives_read usual (source.left w) (result.Left c) means = whole_gives usual (result.Left c) (in_turn _ (takes_any_keyword k.Left) (in_turn _ (takes_class looks w c means) (gives_it _)))
+  gives_read usual said g means = absurd means
+
+  -- what is read behind the class and the flags
+  abbrev promised : Role → Option ℕ → Bool → Bool → Reading Heading
+  promised role class leaves quiet =
+      next (optional_states k.In (usual_before role (all_states (kind_of scope.kinds class)))) (λ before.
+      next (optional_states k.Out (usual_after role (all_states (kind_of scope.kinds class)))) (λ after.
+      next (optional_arguments scope (usual_words role)) (λ arguments.
+      next (optional_gives scope (usual_gives role (kind_of scope.kinds class))) (λ gives.
+      giving (record { class = class; role = role; flags = flags_of leaves (quiet || is_quiet_role role); before = before; after = after; arguments = arguments; gives = gives })))))
+
+  -- what stands behind the keyword
+  pub heading_reads : (place : ℕ) (t : HeadingText) (h : Heading) → HeadingMeans names scope.kinds t h → place_of t.name scope.methods ≡ Some place → Whole (heading scope place) (t.name ∷ keyword_text t.role ∷ promise_words t) h
+  heading_reads place t h means placed =
+      let kind = kind_of scope.kinds h.class in
+      let v9 = gives_words t.gives in
+      let v8 = part k.Args t.arguments ++ v9 in
+      let v7 = part k.Out t.after ++ v8 in
+      let v6 = part k.In t.before ++ v7 in
+      let v5 = mark k.Quiet t.quiet ++ v6 in
+      let v4 = mark k.Leaves t.leaves ++ v5 in
+      first _ (takes_declared scope.methods place t.name means.name placed) (
+      first _ (takes_role t.role h.role means.role) (
+      then_reads _ (class_reads t.class h.class v4 means.class
+      (not_mark k.Of k.Leaves t.leaves v5 refl (not_mark k.Of k.Quiet t.quiet v6 refl (not_part k.Of k.In t.before v7 refl (not_part k.Of k.Out t.after v8 refl (not_part k.Of k.Args t.arguments v9 refl (not_gives k.Of t.gives refl))))))) (
+      then_reads (λ leaves. next (flag k.Quiet) (promised h.role h.class leaves)) (reads_mark k.Leaves t.leaves v5
+      (not_mark k.Leaves k.Quiet t.quiet v6 refl (not_part k.Leaves k.In t.before v7 refl (not_part k.Leaves k.Out t.after v8 refl (not_part k.Leaves k.Args t.arguments v9 refl (not_gives k.Leaves t.gives refl)))))) (
+      then_reads (promised h.role h.class t.leaves) (reads_mark k.Quiet t.quiet v6
+      (not_part k.Quiet k.In t.before v7 refl (not_part k.Quiet k.Out t.after v8 refl (not_part k.Quiet k.Args t.arguments v9 refl (not_gives k.Quiet t.gives refl))))) (
+      then_reads _ (reads_part k.In states_of AreStates (states (usual_before h.role (all_states kind))) states_read t.before h.before v7 means.before
+      (not_part k.In k.Out t.after v8 refl (not_part k.In k.Args t.arguments v9 refl (not_gives k.In t.gives refl)))) (
+      then_reads _ (reads_part k.Out states_of AreStates (states (usual_after h.role (all_states kind))) states_read t.after h.after v8 means.after
+      (not_part k.Out k.Args t.arguments v9 refl (not_gives k.Out t.gives refl))) (
+      then_reads _ (reads_part k.Args (listed 6 (argument_of scope)) (IsList 6 (IsArgument names)) (replicate (usual_words h.role) arg.Word) (list_reads 6 (argument_of scope) (IsArgument names) (argument_reads looks)) t.arguments h.arguments v9 means.arguments
+      (not_gives k.Args t.gives refl)) (
+      last _ (gives_read (usual_gives h.role kind) t.gives h.gives means.gives) (
+      settle (ap (λ f. record h { flags = f }) (sym means.flags)) (done _))))))))))
+
+-- ---- beside other classes
+
+-- what stands for what is missing
+said_or : {X : Type 0} → X → Option (List ℕ) → X → X
+said_or usual None x = usual
+said_or usual (Some w) x = x
+
+still : {X : Type 0} (Says : List ℕ → X → Type 0) (usual other : X) (said : Option (List ℕ)) (x : X) → SaidOr Says usual said x → SaidOr Says other said (said_or other said x)
+unfolding said_or
+still Says usual other None x says = refl
+still Says usual other (Some w) x says = says
+
+gives_or : Gives → GivesText → Gives → Gives
+gives_or usual source.unsaid g = usual
+gives_or usual said g = g
+
+still_gives : (names : Names) (usual other : Gives) (said : GivesText) (g : Gives) → GivesMeans names usual said g → GivesMeans names other said (gives_or other said g)
+unfolding gives_or
+still_gives names usual other source.unsaid g means = refl
+still_gives names usual other source.nothing result.Nothing means = means
+still_gives names usual other source.word result.Word means = means
+still_gives names usual other (source.own w) (result.Own t) means = means
+still_gives names usual other (source.maybe w) (result.Maybe t) means = means
+still_gives names usual other (source.left w) (result.Left c) means = means
+still_gives names usual other said g means = absurd means
+
+-- a heading with other classes beside it means a heading too
+pub record Beside (names : Names) (kinds : List ClassDecl) (t : HeadingText) : Type 0 where
+  pub heading : Heading
+  pub means : HeadingMeans names kinds t heading
+
+pub beside_others : (names : Names) (kinds others : List ClassDecl) (t : HeadingText) (h : Heading) → HeadingMeans names kinds t h → Beside names others t
+beside_others names kinds others t h means =
+    let kind = kind_of kinds h.class in
+    let other = kind_of others h.class in
+    let before = states (usual_before h.role (all_states other)) in
+    let after = states (usual_after h.role (all_states other)) in
+    let gives = usual_gives h.role other in
+    record {
+      heading = record h { before = said_or before t.before h.before; after = said_or after t.after h.after; gives = gives_or gives t.gives h.gives };
+      means = record {
+        name = means.name;
+        role = means.role;
+        class = means.class;
+        flags = means.flags;
+        before = still AreStates (states (usual_before h.role (all_states kind))) before t.before h.before means.before;
+        after = still AreStates (states (usual_after h.role (all_states kind))) after t.after h.after means.after;
+        arguments = means.arguments;
+        gives = still_gives names (usual_gives h.role kind) gives t.gives h.gives means.gives;
+      };
+    }

@@ -5,3 +5,4 @@ pub mod Headers
 pub mod Declared
 pub mod Classes
 pub mod Headings
+pub mod Operands
