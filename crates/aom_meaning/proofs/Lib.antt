@@ -6,3 +6,9 @@ pub mod Declared
 pub mod Classes
 pub mod Headings
 pub mod Operands
+pub mod Places
+pub mod Instructions
+pub mod Texts
+pub mod Wholes
+pub mod Parsed
+pub mod Denoting

@@ -87,7 +87,7 @@ not_both false true is = absurd cc
 not_reserved : (w : List ℕ) → is_name w ≡ true → is_reserved w ≡ false
 not_reserved w is = not_both (has_name_form w && nat_le (length w) 32) (is_reserved w) is
 
-not_so : (b : Bool) → (b ≡ true → ⊥) → b ≡ false
+pub not_so : (b : Bool) → (b ≡ true → ⊥) → b ≡ false
 not_so true never = absurd (never refl)
 not_so false never = refl
 

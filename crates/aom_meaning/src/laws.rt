@@ -1,5 +1,12 @@
 //! The laws, each as the contract of a function that does nothing.
+ghost use Rattle.aom_meaning.specs.Laws.{TextsDenote, ListingsDenote};
 
-/// Nothing.
-pub fn nothing()
+/// What the assembler reads of a text is what the text denotes.
+pub fn texts_denote()
+    ensures { TextsDenote }
+{}
+
+/// The text of a listing denotes the image that it is of.
+pub fn listings_denote()
+    ensures { ListingsDenote }
 {}

@@ -8,4 +8,4 @@
 
 mod laws;
 
-pub use laws::nothing;
+pub use laws::{listings_denote, texts_denote};
