@@ -99,7 +99,7 @@ no_some x is = cc
 some_is : {X : Type 0} (x y : X) → Some x ≡ Some y → x ≡ y
 some_is x y is = cc
 
-found_passes : {X : Type 0} (test : X → Bool) (xs : List X) (x : X) → find test xs ≡ Some x → test x ≡ true
+pub found_passes : {X : Type 0} (test : X → Bool) (xs : List X) (x : X) → find test xs ≡ Some x → test x ≡ true
 found_passes test [] x is = absurd (no_some x is)
 found_passes test (y ∷ ys) x is = go (test y) refl (found_passes test ys x) is
   where

@@ -42,7 +42,7 @@ module _ (is_strict : Bool) (limit : ℕ) (names : List (List ℕ)) (known : IsK
 
 -- ---- names that are declared
 
-at_place : (place : ℕ) (o : Option ℕ) → is_at place o ≡ true → o ≡ Some place
+pub at_place : (place : ℕ) (o : Option ℕ) → is_at place o ≡ true → o ≡ Some place
 at_place place None is = absurd cc
 at_place place (Some k) is = ap Some (eqb-true k place is)
 

@@ -30,7 +30,7 @@ use Rattle.aom_readback.proofs.Operands.{takes_class}
 use Rattle.aom_readback.proofs.Readings.{Takes, Whole, done, first, first_two, gives, in_turn, last, made, regroup, sees, takes_any_keyword, takes_declared, takes_flag, takes_keyword, takes_number, takes_optional, takes_word}
 
 -- what a class is for, by its kind
-abbrev purpose_of : ClassKind → Purpose
+abbrev pub purpose_of : ClassKind → Purpose
 purpose_of kinds.Plain = purposes.Plain
 purpose_of (kinds.Active p b) = purposes.Active p
 purpose_of (kinds.Server sessions session b) = purposes.Server sessions session

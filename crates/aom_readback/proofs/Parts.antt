@@ -92,7 +92,7 @@ abbrev counted : ClassDecl → ℕ
 counted c = cond (is_server c) 1 0
 
 -- a class is a server while few have been, where few are in all
-few_before : (cs : List ClassDecl) (c : ClassDecl) (todo : List ClassDecl) → count_by is_server (cs ++ c ∷ todo) ≤ 8 → is_server c ≡ true → count_by is_server cs < 8
+pub few_before : (cs : List ClassDecl) (c : ClassDecl) (todo : List ClassDecl) → count_by is_server (cs ++ c ∷ todo) ≤ 8 → is_server c ≡ true → count_by is_server cs < 8
 few_before cs c todo few serves =
     let one : counted c ≡ 1 = ap (λ (b : Bool). cond {A = ℕ} b 1 0) serves in
     let parted : sum_by counted (cs ++ c ∷ todo) ≡ sum_by counted cs + sum_by counted (c ∷ todo) = sum_by-append counted cs (c ∷ todo) in

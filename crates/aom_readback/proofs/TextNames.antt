@@ -40,17 +40,15 @@ numbered letter xs j few within =
 
 -- ---- what statements declare, by their words
 
-by_words : Keyword → List (List ℕ) → List (List (List ℕ)) → List (List ℕ)
+abbrev pub by_words : Keyword → List (List ℕ) → List (List (List ℕ)) → List (List ℕ)
 by_words key names [] = names
 by_words key names (ws ∷ wss) = by_words key (with_name names (name_after key ws)) wss
 
-declared_by_words : (key : Keyword) (names : List (List ℕ)) (ss : List Statement) → declared_names key names ss ≡ by_words key names (all_words ss)
-unfolding by_words
+pub declared_by_words : (key : Keyword) (names : List (List ℕ)) (ss : List Statement) → declared_names key names ss ≡ by_words key names (all_words ss)
 declared_by_words key names [] = refl
 declared_by_words key names (s ∷ ss) = declared_by_words key (with_name names (name_after key s.words)) ss
 
-by_words_more : (key : Keyword) (names : List (List ℕ)) (front behind : List (List (List ℕ))) → by_words key names (front ++ behind) ≡ by_words key (by_words key names front) behind
-unfolding by_words
+pub by_words_more : (key : Keyword) (names : List (List ℕ)) (front behind : List (List (List ℕ))) → by_words key names (front ++ behind) ≡ by_words key (by_words key names front) behind
 by_words_more key names [] behind = refl
 by_words_more key names (ws ∷ wss) behind = by_words_more key (with_name names (name_after key ws)) wss behind
 
@@ -89,30 +87,25 @@ module _ (key : Keyword) (silent : Silent key) where
   instruction_silent false place i = silent.plain i
 
   code_silent : (code : List Instr) (place : ℕ) (is : List Instr) (names : List (List ℕ)) → by_words key names (instr_statements code place is) ≡ names
-  unfolding by_words
   code_silent code place [] names = refl
   code_silent code place (i ∷ is) names =
       ap (λ o. by_words key (with_name names o) (instr_statements code (place + 1) is)) (instruction_silent (is_target code place) place i)
       ∙ code_silent code (place + 1) is names
 
   body_silent : (code : List Instr) (names : List (List ℕ)) → by_words key names (instr_statements code 0 code ++ end_words ∷ []) ≡ names
-  unfolding by_words
   body_silent code names = by_words_more key names (instr_statements code 0 code) (end_words ∷ []) ∙ code_silent code 0 code names
 
 -- ---- classes and methods
 
 class_names_of_classes : (n : ℕ) (cs : List ClassDecl) (names : List (List ℕ)) → by_words k.Class names (classes_statements n cs) ≡ names ++ names_from class_name n cs
-unfolding by_words
 class_names_of_classes n [] names = sym (append-nil names)
 class_names_of_classes n (c ∷ cs) names = class_names_of_classes (n + 1) cs (names ++ class_name n ∷ []) ∙ append_assoc names (class_name n ∷ []) (names_from class_name (n + 1) cs)
 
 method_names_of_classes : (n : ℕ) (cs : List ClassDecl) (names : List (List ℕ)) → by_words k.Method names (classes_statements n cs) ≡ names
-unfolding by_words
 method_names_of_classes n [] names = refl
 method_names_of_classes n (c ∷ cs) names = method_names_of_classes (n + 1) cs names
 
 class_names_of_methods : (n : ℕ) (ms : List Method) (names : List (List ℕ)) → by_words k.Class names (methods_statements n ms) ≡ names
-unfolding by_words
 class_names_of_methods n [] names = refl
 class_names_of_methods n (m ∷ ms) names =
     by_words_more k.Class names (method_statements n m) (methods_statements (n + 1) ms)
@@ -120,7 +113,6 @@ class_names_of_methods n (m ∷ ms) names =
     ∙ class_names_of_methods (n + 1) ms names
 
 method_names_of_methods : (n : ℕ) (ms : List Method) (names : List (List ℕ)) → by_words k.Method names (methods_statements n ms) ≡ names ++ names_from method_name n ms
-unfolding by_words
 method_names_of_methods n [] names = sym (append-nil names)
 method_names_of_methods n (m ∷ ms) names =
     by_words_more k.Method names (method_statements n m) (methods_statements (n + 1) ms)
@@ -131,7 +123,6 @@ method_names_of_methods n (m ∷ ms) names =
 -- ---- the whole
 
 declared_classes : (i : Image) (ss : List Statement) → all_words ss ≡ listing i → declared_names k.Class [] ss ≡ names_from class_name 0 i.classes
-unfolding by_words
 declared_classes i ss words =
     declared_by_words k.Class [] ss ∙ ap (by_words k.Class []) words
     ∙ by_words_more k.Class [] (classes_statements 0 i.classes) (methods_statements 0 i.methods)
@@ -139,7 +130,6 @@ declared_classes i ss words =
     ∙ class_names_of_classes 0 i.classes []
 
 declared_methods : (i : Image) (ss : List Statement) → all_words ss ≡ listing i → declared_names k.Method [] ss ≡ names_from method_name 0 i.methods
-unfolding by_words
 declared_methods i ss words =
     declared_by_words k.Method [] ss ∙ ap (by_words k.Method []) words
     ∙ by_words_more k.Method [] (classes_statements 0 i.classes) (methods_statements 0 i.methods)

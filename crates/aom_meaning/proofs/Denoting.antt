@@ -1,0 +1,241 @@
+-- Reading gives an image where the text denotes it, and only there: what was read is parsed, and what is meant is read, by both readings.
+use Rattle.std.proofs.Common.{◌≡◌, ℕ, ◌+◌, ◌*◌, ◌<◌, ◌≤◌, ◌^◌, Bool, true, false, List, [], ◌∷◌, map, length, None, Ok, Err, refl, sym, ap, subst, ◌∙◌, arith, nat_le}
+use Rattle.std.specs.Prelude.{if◌then◌else◌}
+use Rattle.std.specs.List.{count_by, sum_by}
+use Rattle.std.proofs.lemmas.Bool.{le-leb, leb-true, ne_eqb}
+use Rattle.std.proofs.lemmas.List.Sums.{sum_by-cons}
+use Rattle.aom_text.specs.Text.{statements}
+use Rattle.aom_text.specs.declared.fault.AsmFaultKind.TheVariants.{LimitPassed}
+use Rattle.aom_text.specs.declared.text.Statement.{Statement}
+use Rattle.aom_image.specs.Image.{Image}
+use Rattle.aom_image.specs.WellFormed.{WellFormed, is_server}
+use Rattle.aom_image.specs.declared.class.ClassDecl.{ClassDecl}
+use Rattle.aom_image.specs.declared.image.Header.{Header}
+use Rattle.aom_image.specs.declared.method.Method.{Method}
+use Rattle.aom_image.proofs.Lengths.{length_spell}
+use Rattle.aom_syntax.specs.Reading.{◌>>=◌}
+use Rattle.aom_asm.specs.Body.{Program}
+use Rattle.aom_asm.specs.Denoted.{and_then, at_line, denoted, image_of, last_line_of, opened, read_program, read_rest, read_statements, scope_of}
+use Rattle.aom_asm.proofs.Images.{reads_well}
+use Rattle.aom_asm.proofs.Steps.{if_ok, ok_is, steps_then}
+use Rattle.aom_readback.specs.Naming.{heading_of}
+use Rattle.aom_readback.specs.Texts.{all_words}
+use Rattle.aom_readback.proofs.Following.{Goes}
+use Rattle.aom_readback.proofs.Parts.{read_so_far, spelled}
+use Rattle.aom_meaning.specs.Denotes.{Denotes, names_of}
+use Rattle.aom_meaning.specs.Meaning.{ClassMeans, DeclaredOnce, HeaderMeans, MethodMeans, Names, Pairwise}
+use Rattle.aom_meaning.specs.Source.{ClassText, MethodText, Source, classes_of, declared_statements, header_words, methods_of, source_statements}
+use Rattle.aom_meaning.proofs.Headers.{header_reads}
+use Rattle.aom_meaning.proofs.Headings.{beside_others}
+use Rattle.aom_meaning.proofs.Parsed.{parsed, whole_of}
+use Rattle.aom_meaning.proofs.Places.{looks_up, scoped}
+use Rattle.aom_meaning.proofs.Texts.{Placed, names_are, placed_once, text_names}
+use Rattle.aom_meaning.proofs.Wholes.{classes_placed, declarations_go, methods_placed}
+use Rattle.aom_meaning.proofs.Words.{LooksUp}
+
+-- ---- what a program says
+
+-- with names of its own, beside those classes
+record Says (names : Names) (kinds : List ClassDecl) (text : Source) (h : Header) (cs : List ClassDecl) (ms : List Method) : Type 0 where
+  class_names : DeclaredOnce names.classes
+  method_names : DeclaredOnce names.methods
+  header : HeaderMeans names text.header h
+  classes : Pairwise (ClassMeans names h.natives) (classes_of text.declarations) cs
+  methods : Pairwise (MethodMeans names kinds) (methods_of text.declarations) ms
+  few_classes : length cs ≤ 256
+  few_servers : count_by is_server cs ≤ 8
+  some_method : 1 ≤ length ms
+  few_methods : length ms ≤ 1024
+  small : 24 + 28 * length cs + sum_by spelled ms ≤ 2 ^ 20
+
+-- ---- beside other classes
+
+record Others (names : Names) (kinds : List ClassDecl) (ts : List MethodText) (ms : List Method) : Type 0 where
+  others : List Method
+  means : Pairwise (MethodMeans names kinds) ts others
+  count : length others ≡ length ms
+  bytes : sum_by spelled others ≡ sum_by spelled ms
+
+other_methods : (names : Names) (kinds others : List ClassDecl) (ts : List MethodText) (ms : List Method) → Pairwise (MethodMeans names kinds) ts ms → Others names others ts ms
+other_methods names kinds others [] [] means = record { others = []; means = tt; count = refl; bytes = refl }
+other_methods names kinds others [] (m ∷ ms) means = absurd means
+other_methods names kinds others (t ∷ ts) [] means = absurd means
+other_methods names kinds others (t ∷ ts) (m ∷ ms) means =
+    let one = means.0 in
+    let b = beside_others names kinds others t.heading (heading_of m) one.heading in
+    let first : Method = whole_of (record { heading = b.heading; labels = []; code = m.code }) in
+    let later = other_methods names kinds others ts ms means.1 in
+    let count = later.count in
+    let bytes = later.bytes in
+    let before : sum_by spelled (m ∷ ms) ≡ spelled m + sum_by spelled ms = sum_by-cons spelled m ms in
+    let after : sum_by spelled (first ∷ later.others) ≡ spelled first + sum_by spelled later.others = sum_by-cons spelled first later.others in
+    record {
+      others = first ∷ later.others;
+      means = (record { heading = b.means; labels = one.labels; code = one.code; some = one.some; few = one.few }, later.means);
+      count = omega arith;
+      bytes = omega arith;
+    }
+
+-- a program says much the same beside other classes
+record SaysBeside (names : Names) (kinds : List ClassDecl) (text : Source) (h : Header) (cs : List ClassDecl) : Type 0 where
+  methods : List Method
+  says : Says names kinds text h cs methods
+
+says_beside : (names : Names) (kinds others : List ClassDecl) (text : Source) (h : Header) (cs : List ClassDecl) (ms : List Method) → Says names kinds text h cs ms → SaysBeside names others text h cs
+says_beside names kinds others text h cs ms says =
+    let o = other_methods names kinds others (methods_of text.declarations) ms says.methods in
+    let count = o.count in
+    let bytes = o.bytes in
+    let some = says.some_method in
+    let few = says.few_methods in
+    let small = says.small in
+    record {
+      methods = o.others;
+      says = record {
+        class_names = says.class_names;
+        method_names = says.method_names;
+        header = says.header;
+        classes = says.classes;
+        methods = o.means;
+        few_classes = says.few_classes;
+        few_servers = says.few_servers;
+        some_method = omega arith;
+        few_methods = omega arith;
+        small = omega arith;
+      };
+    }
+
+-- ---- what is meant is read
+
+class_count : (names : Names) (natives : ℕ) (ts : List ClassText) (cs : List ClassDecl) → Pairwise (ClassMeans names natives) ts cs → length (map (λ t. t.name) ts) ≡ length cs
+class_count names natives [] [] means = refl
+class_count names natives [] (c ∷ cs) means = absurd means
+class_count names natives (t ∷ ts) [] means = absurd means
+class_count names natives (t ∷ ts) (c ∷ cs) means = let rest = class_count names natives ts cs means.1 in omega arith
+
+none_after : (ss : List Statement) → all_words ss ≡ [] → ss ≡ []
+none_after [] words = refl
+none_after (s ∷ ss) words = absurd cc
+
+module _ (last : ℕ) (text : Source) (b : Bool) (kinds : List ClassDecl) (h : Header) (cs : List ClassDecl) (ms : List Method) (says : Says (names_of text) kinds text h cs ms) where
+  abbrev whole : Program
+  whole = read_so_far h cs ms None (24 + 28 * length cs + sum_by spelled ms)
+
+  looks : LooksUp (names_of text) (scoped b (names_of text) kinds)
+  looks =
+      let count = class_count (names_of text) h.natives (classes_of text.declarations) cs says.classes in
+      let few = says.few_classes in
+      looks_up b (names_of text) kinds says.class_names (omega arith)
+
+  goes : (ss : List Statement) → all_words ss ≡ declared_statements text.declarations → Goes last (scoped b (names_of text) kinds) (read_so_far h [] [] None 24) ss whole []
+  goes ss words =
+      let few_classes = says.few_classes in
+      let few_methods = says.few_methods in
+      let small = says.small in
+      declarations_go last (names_of text) h b kinds looks text.declarations [] cs [] ms 24 ss says.classes says.methods
+      (classes_placed (names_of text) h.natives (names_of text).classes says.class_names [] (classes_of text.declarations) cs says.classes refl)
+      (methods_placed (names_of text) kinds (names_of text).methods says.method_names [] (methods_of text.declarations) ms says.methods refl)
+      (omega arith) says.few_servers (omega arith) (omega arith) words
+
+  closes : (ss : List Statement) → all_words ss ≡ [] → read_rest last (scoped b (names_of text) kinds) whole ss ≡ Ok whole
+  closes ss words =
+      let some = says.some_method in
+      ap (λ l. read_rest last (scoped b (names_of text) kinds) whole l) (none_after ss words)
+      ∙ ap (λ b. at_line last (if b then Err LimitPassed else Ok whole)) (ne_eqb (length ms) 0 (λ none. omega arith))
+
+  rest_reads : (ss : List Statement) → all_words ss ≡ declared_statements text.declarations → read_rest last (scoped b (names_of text) kinds) (read_so_far h [] [] None 24) ss ≡ Ok whole
+  rest_reads ss words = let g = goes ss words in g.reads ∙ closes g.rest g.words
+
+  program_reads : (ss : List Statement) → all_words ss ≡ source_statements text → read_program last (scoped b (names_of text) kinds) ss ≡ Ok whole
+  program_reads [] words = absurd cc
+  program_reads (s ∷ ss) words =
+      let scope = scoped b (names_of text) kinds in
+      let here : s.words ≡ header_words text.header = cc in
+      let behind : all_words ss ≡ declared_statements text.declarations = cc in
+      ap (λ ws. and_then (at_line s.line (opened scope ws)) (λ p. read_rest last scope p ss)) here
+      ∙ ap (λ e. and_then (at_line s.line (e >>= λ x. Ok (read_so_far x.0 [] [] None 24))) (λ p. read_rest last scope p ss)) (header_reads looks text.header h says.header).reads
+      ∙ rest_reads ss behind
+
+-- by the names that the statements declare
+by_names : (last : ℕ) (text : Source) (ss : List Statement) → all_words ss ≡ source_statements text → (b : Bool) (kinds : List ClassDecl) (h : Header) (cs : List ClassDecl) (ms : List Method) → Says (names_of text) kinds text h cs ms
+    → read_program last (scope_of b ss kinds) ss ≡ Ok (read_so_far h cs ms None (24 + 28 * length cs + sum_by spelled ms))
+by_names last text ss words b kinds h cs ms says = ap (λ n. read_program last (scoped b n kinds) ss) (names_are text ss words) ∙ program_reads last text b kinds h cs ms says ss words
+
+module _ (text : List ℕ) (i : Image) where
+  abbrev last : ℕ
+  last = last_line_of text
+
+  abbrev ss : List Statement
+  ss = statements text
+
+  meant_says : (d : Denotes text i) → Says (names_of d.source) i.classes d.source i.header i.classes i.methods
+  meant_says d = record {
+    class_names = d.class_names;
+    method_names = d.method_names;
+    header = d.header;
+    classes = d.classes;
+    methods = d.methods;
+    few_classes = d.few_classes;
+    few_servers = d.few_servers;
+    some_method = d.some_method;
+    few_methods = d.few_methods;
+    small = d.small;
+  }
+
+  pub denotes_read : Denotes text i → denoted text ≡ Ok i
+  denotes_read d =
+      let says = meant_says d in
+      let loose = says_beside (names_of d.source) i.classes [] d.source i.header i.classes i.methods says in
+      ap (λ b. if b then read_statements last ss else Err (record { line = 1; kind = LimitPassed })) (le-leb (length text) (2 ^ 20) d.short)
+      ∙ ap (λ r. and_then r (λ first. and_then (read_program last (scope_of true ss first.classes) ss) (λ p. Ok (image_of p)))) (by_names last d.source ss d.written false [] i.header i.classes loose.methods loose.says)
+      ∙ ap (λ r. and_then r (λ p. Ok (image_of p))) (by_names last d.source ss d.written true i.classes i.header i.classes i.methods says)
+
+  -- ---- what was read is meant
+
+  read_small : (q : Program) → WellFormed (image_of q) → 24 + 28 * length q.classes + sum_by spelled q.methods ≤ 2 ^ 20
+  read_small q formed = omega (arith, length_spell (image_of q) formed.classes formed.methods, formed.size)
+
+  pub read_denotes : denoted text ≡ Ok i → Denotes text i
+  read_denotes is =
+      let few = if_ok (nat_le (length text) (2 ^ 20)) (read_statements last ss) (record { line = 1; kind = LimitPassed }) i is in
+      let s = steps_then (read_program last (scope_of false ss []) ss) (λ first. and_then (read_program last (scope_of true ss first.classes) ss) (λ p. Ok (image_of p))) i few.1 in
+      let t = steps_then (read_program last (scope_of true ss s.first.classes) ss) (λ p. Ok (image_of p)) i s.second in
+      let q = t.first in
+      let kinds = s.first.classes in
+      let made : image_of q ≡ i = ok_is (image_of q) i t.second in
+      let formed : WellFormed (image_of q) = subst WellFormed (sym made) (reads_well text i is) in
+      let p = parsed last (text_names ss) kinds ss q t.read in
+      let source = p.text in
+      let same : text_names ss ≡ names_of source = names_are source ss p.words in
+      let read : Says (text_names ss) kinds source q.header q.classes q.methods = record {
+        class_names = placed_once (text_names ss).classes (subst (Placed (text_names ss).classes 0) (sym (ap (λ (n : Names). n.classes) same)) p.class_places);
+        method_names = placed_once (text_names ss).methods (subst (Placed (text_names ss).methods 0) (sym (ap (λ (n : Names). n.methods) same)) p.method_places);
+        header = p.header;
+        classes = p.classes;
+        methods = p.methods;
+        few_classes = formed.classes.count;
+        few_servers = formed.classes.servers;
+        some_method = formed.methods.some;
+        few_methods = formed.methods.count;
+        small = read_small q formed;
+      } in
+      let says : Says (names_of source) kinds source q.header q.classes q.methods = subst (λ n. Says n kinds source q.header q.classes q.methods) same read in
+      let loose = says_beside (names_of source) kinds [] source q.header q.classes q.methods says in
+      let first = by_names last source ss p.words false [] q.header q.classes loose.methods loose.says in
+      let again : s.first ≡ read_so_far q.header q.classes loose.methods None (24 + 28 * length q.classes + sum_by spelled loose.methods) = ok_is s.first (read_so_far q.header q.classes loose.methods None (24 + 28 * length q.classes + sum_by spelled loose.methods)) (sym s.read ∙ first) in
+      let alike : kinds ≡ q.classes = ap (λ (p : Program). p.classes) again in
+      subst (Denotes text) made (record {
+        source = source;
+        written = p.words;
+        short = leb-true (length text) (2 ^ 20) few.0;
+        class_names = says.class_names;
+        method_names = says.method_names;
+        header = says.header;
+        classes = says.classes;
+        methods = subst (λ c. Pairwise (MethodMeans (names_of source) c) (methods_of source.declarations) q.methods) alike says.methods;
+        few_classes = says.few_classes;
+        few_servers = says.few_servers;
+        some_method = says.some_method;
+        few_methods = says.few_methods;
+        small = says.small;
+      })

@@ -1,0 +1,141 @@
+-- The image statement is read where its words mean a header, and as that header.
+use Rattle.std.proofs.Common.{◌≡◌, ℕ, Bool, true, false, List, [], ◌∷◌, ◌++◌, Option, Some, None, Ok, refl, sym, ap, ◌∙◌}
+use Rattle.std.specs.Prelude.{if◌then◌else◌}
+use Rattle.std.specs.List.{list_all}
+use Rattle.aom_text.specs.Words.{is_plain}
+use Rattle.aom_text.specs.declared.fault.AsmFaultKind.TheVariants.{BadShape}
+use Rattle.aom_image.specs.declared.class.ClassDecl.{ClassDecl}
+use Rattle.aom_image.specs.declared.image.Header.{Header}
+use Rattle.aom_syntax.specs.Headers.{image_statement, optional_root, optional_version}
+use Rattle.aom_syntax.specs.Keywords.{keyword_text}
+use Rattle.aom_syntax.specs.Operands.{class}
+use Rattle.aom_syntax.specs.Reading.{Reading, failing, giving, keyword, next, nothing_more, number, number_in, optional_number, took}
+use Rattle.aom_syntax.specs.declared.keyword.Keyword.TheVariants as k
+use Rattle.aom_syntax.specs.declared.scope.Scope.{Scope}
+use Rattle.aom_ranges.proofs.Within.{ok_is, steps}
+use Rattle.aom_readback.proofs.Readings.{Whole, done, ends, first, last, takes_keyword}
+use Rattle.aom_meaning.specs.Meaning.{HeaderMeans, IsNumber, IsNumbered, Names, SaidOrNone}
+use Rattle.aom_meaning.specs.Source.{HeaderText, header_words, part}
+use Rattle.aom_meaning.proofs.Pieces.{Leaves, NotNext, Reads, Took, is_not, is_there, leaves, none_left, not_part, not_word, pair, reads_part, saw, saw_keyword, saw_part, saw_used, take_it, takes_seen, then_reads}
+use Rattle.aom_meaning.proofs.Sound.{Sound, giving_sound, next_sound}
+use Rattle.aom_meaning.proofs.Words.{LooksUp, takes_class, told}
+
+-- ---- numbers
+
+pub number_means : (low high : ℕ) (w : List ℕ) (n : ℕ) → list_all is_plain w ≡ true → number_in low high w ≡ Ok n → IsNumber low high w n
+number_means low high w n plain says = record { ascii = plain; spelled = says }
+
+pub number_reads : (low high : ℕ) (w : List ℕ) (n : ℕ) → IsNumber low high w n → Reads (number_in low high) w n
+number_reads low high w n is = record { plain = is.ascii; says = is.spelled }
+
+-- ---- what was read
+
+module _ (names : Names) (kinds : List ClassDecl) where
+  record RootSays (ws : List (List ℕ)) (root : Option ℕ) : Type 0 where
+    said : Option (List ℕ)
+    words : ws ≡ part k.Root said
+    says : SaidOrNone (IsNumbered names.classes) said root
+
+  abbrev said_root : Reading (Option ℕ)
+  said_root = next (class (told names kinds)) (λ c. next (nothing_more false) (λ u. giving (Some c)))
+
+  abbrev no_root : Reading (Option ℕ)
+  no_root = next (nothing_more true) (λ u. giving None)
+
+  root_sound : (ws : List (List ℕ)) → Sound (optional_root (told names kinds)) ws (λ root rest. RootSays ws root)
+  root_sound ws = go (take_it k.Root ws)
+    where
+      behind : (vs : List (List ℕ)) → ws ≡ keyword_text k.Root ∷ vs → Sound said_root vs (λ root rest. RootSays ws root)
+      behind vs words =
+          next_sound (λ root rest. RootSays ws root) (class (told names kinds)) _ vs (λ c us read.
+          next_sound (λ root rest. RootSays ws root) (nothing_more false) _ us (λ u rest none.
+          let s = saw_used names.classes 256 vs c us read in
+          let e = (none_left false us u rest none).0 in
+          giving_sound (λ root rest. RootSays ws root) (Some c) rest (record {
+            said = Some s.w;
+            words = words ∙ ap (λ v. keyword_text k.Root ∷ v) s.words ∙ ap (λ v. keyword_text k.Root ∷ s.w ∷ v) e;
+            says = s.numbered;
+          })))
+
+      without : Sound no_root ws (λ root rest. RootSays ws root)
+      without =
+          next_sound (λ root rest. RootSays ws root) (nothing_more true) _ ws (λ u rest none.
+          giving_sound (λ root rest. RootSays ws root) None rest (record { said = None; words = (none_left true ws u rest none).0; says = tt }))
+
+      go : Took k.Root ws → Sound (optional_root (told names kinds)) ws (λ root rest. RootSays ws root)
+      go (is_there vs words there) = record { each = λ root rest is. (behind vs words).each root rest (sym (ap (λ p. if p.0 then said_root p.1 else no_root p.1) there) ∙ is) }
+      go (is_not there) = record { each = λ root rest is. without.each root rest (sym (ap (λ p. if p.0 then said_root p.1 else no_root p.1) there) ∙ is) }
+
+  no_version : (ws : List (List ℕ)) (u : Unit {0}) (rest : List (List ℕ)) → optional_version ws ≡ Ok (u, rest) → ws ≡ rest
+  no_version ws u rest is = go (take_it k.Version ws)
+    where
+      go : Took k.Version ws → ws ≡ rest
+      go (is_there vs words there) =
+          let s = steps (number 2 2 vs) (λ n. failing BadShape n.1) (u, rest) (sym (ap (λ p. if p.0 then next (number 2 2) (λ n. failing BadShape) p.1 else Ok (tt, p.1)) there) ∙ is) in
+          absurd cc
+      go (is_not there) = ap (λ p. p.1) (ok_is (pair tt ws) (u, rest) (sym (ap (λ p. if p.0 then next (number 2 2) (λ n. failing BadShape) p.1 else Ok (tt, p.1)) there) ∙ is))
+
+  -- the words of a header, and what they mean
+  pub record HeaderSays (ws : List (List ℕ)) (h : Header) : Type 0 where
+    pub said : HeaderText
+    pub words : ws ≡ header_words said
+    pub means : HeaderMeans names said h
+
+  pub header_sound : (ws : List (List ℕ)) → Sound (image_statement (told names kinds)) ws (λ h rest. HeaderSays ws h)
+  header_sound ws =
+      let Q = λ (h : Header) (rest : List (List ℕ)). HeaderSays ws h in
+      next_sound Q (keyword k.Image) _ ws (λ u1 v1 r1.
+      next_sound Q optional_version _ v1 (λ u2 v2 r2.
+      next_sound Q (optional_number k.Cells 4096) _ v2 (λ cells v3 r3.
+      next_sound Q (optional_number k.Messages 1024) _ v3 (λ messages v4 r4.
+      next_sound Q (optional_number k.Natives 16) _ v4 (λ natives v5 r5.
+      next_sound Q (keyword k.Budget) _ v5 (λ u6 v6 r6.
+      next_sound Q (number 0 4294967295) _ v6 (λ budget v7 r7.
+      next_sound Q (optional_root (told names kinds)) _ v7 (λ root v8 r8.
+      let e1 = saw_keyword k.Image ws u1 v1 r1 in
+      let e2 = no_version v1 u2 v2 r2 in
+      let cs = saw_part k.Cells (number_in 0 4096) (IsNumber 0 4096) 0 (number_means 0 4096) v2 cells v3 r3 in
+      let ms = saw_part k.Messages (number_in 0 1024) (IsNumber 0 1024) 0 (number_means 0 1024) v3 messages v4 r4 in
+      let ns = saw_part k.Natives (number_in 0 16) (IsNumber 0 16) 0 (number_means 0 16) v4 natives v5 r5 in
+      let e6 = saw_keyword k.Budget v5 u6 v6 r6 in
+      let b = saw (number_in 0 4294967295) v6 budget v7 r7 in
+      let r = (root_sound v7).each root v8 r8 in
+      giving_sound Q _ v8 (record {
+        said = record { cells = cs.said; messages = ms.said; natives = ns.said; budget = b.w; root = r.said };
+        words = e1 ∙ ap (λ v. keyword_text k.Image ∷ v) (e2 ∙ cs.words ∙ ap (λ v. part k.Cells cs.said ++ v) (ms.words ∙ ap (λ v. part k.Messages ms.said ++ v) (ns.words ∙ ap (λ v. part k.Natives ns.said ++ v) (e6 ∙ ap (λ v. keyword_text k.Budget ∷ v) (b.words ∙ ap (λ v. b.w ∷ v) r.words)))));
+        means = record { cells = cs.says; messages = ms.says; natives = ns.says; budget = number_means 0 4294967295 b.w budget b.plain b.says; root = r.says };
+      })))))))))
+
+-- ---- what is read
+
+version_reads : (ws : List (List ℕ)) → NotNext k.Version ws → Leaves optional_version ws tt ws
+version_reads ws other = record { reads = ap (λ p. if p.0 then next (number 2 2) (λ n. failing BadShape) p.1 else Ok (tt, p.1)) other.left }
+
+module _ {names : Names} {scope : Scope} (looks : LooksUp names scope) where
+  root_reads : (said : Option (List ℕ)) (root : Option ℕ) → SaidOrNone (IsNumbered names.classes) said root → Whole (optional_root scope) (part k.Root said) root
+  root_reads None None is = record { reads = refl }
+  root_reads None (Some c) is = absurd is
+  root_reads (Some w) None is = absurd is
+  root_reads (Some w) (Some c) is = record { reads = ends _ (takes_class looks w c is) refl }
+
+  pub header_reads : (t : HeaderText) (h : Header) → HeaderMeans names t h → Whole (image_statement scope) (header_words t) h
+  header_reads t h means =
+      let behind = keyword_text k.Budget ∷ t.budget ∷ part k.Root t.root in
+      let natives = part k.Natives t.natives ++ behind in
+      let messages = part k.Messages t.messages ++ natives in
+      let cells = part k.Cells t.cells ++ messages in
+      first _ (takes_keyword k.Image) (
+      then_reads _ (version_reads cells no_version_next) (
+      then_reads _ (reads_part k.Cells (number_in 0 4096) (IsNumber 0 4096) 0 (number_reads 0 4096) t.cells h.cells messages means.cells
+      (not_part k.Cells k.Messages t.messages natives refl (not_part k.Cells k.Natives t.natives behind refl (not_word k.Cells (keyword_text k.Budget) (t.budget ∷ part k.Root t.root) refl)))) (
+      then_reads _ (reads_part k.Messages (number_in 0 1024) (IsNumber 0 1024) 0 (number_reads 0 1024) t.messages h.messages natives means.messages
+      (not_part k.Messages k.Natives t.natives behind refl (not_word k.Messages (keyword_text k.Budget) (t.budget ∷ part k.Root t.root) refl))) (
+      then_reads _ (reads_part k.Natives (number_in 0 16) (IsNumber 0 16) 0 (number_reads 0 16) t.natives h.natives behind means.natives
+      (not_word k.Natives (keyword_text k.Budget) (t.budget ∷ part k.Root t.root) refl)) (
+      first _ (takes_keyword k.Budget) (
+      first _ (takes_seen (number_reads 0 4294967295 t.budget h.budget means.budget)) (
+      last _ (root_reads t.root h.root means.root) (done _))))))))
+    where
+      no_version_next : NotNext k.Version (part k.Cells t.cells ++ (part k.Messages t.messages ++ (part k.Natives t.natives ++ (keyword_text k.Budget ∷ t.budget ∷ part k.Root t.root))))
+      no_version_next =
+          not_part k.Version k.Cells t.cells _ refl (not_part k.Version k.Messages t.messages _ refl (not_part k.Version k.Natives t.natives _ refl (not_word k.Version (keyword_text k.Budget) (t.budget ∷ part k.Root t.root) refl)))

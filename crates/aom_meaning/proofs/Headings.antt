@@ -1,0 +1,317 @@
+-- The statement that begins a method is read where its words mean a heading, and as that heading.
+use Rattle.std.proofs.Common.{◌≡◌, ℕ, ◌||◌, Bool, true, false, List, [], ◌∷◌, ◌++◌, replicate, Option, Some, None, Ok, Err, refl, sym, ap, subst, ◌∙◌}
+use Rattle.std.specs.Prelude.{if◌then◌else◌}
+use Rattle.std.specs.List.{list_all}
+use Rattle.std.specs.Str.{bytes_eq}
+use Rattle.aom_text.specs.Names.{is_name}
+use Rattle.aom_text.specs.Words.{is_plain}
+use Rattle.aom_text.specs.declared.fault.AsmFaultKind.TheVariants.{BadShape}
+use Rattle.aom_image.specs.declared.class.ClassDecl.{ClassDecl}
+use Rattle.aom_image.specs.declared.method.Argument.{Argument}
+use Rattle.aom_image.specs.declared.method.Argument.TheVariants as arg
+use Rattle.aom_image.specs.declared.method.Gives.{Gives}
+use Rattle.aom_image.specs.declared.method.Gives.TheVariants as result
+use Rattle.aom_image.specs.declared.method.Role.{Role}
+use Rattle.aom_image.specs.declared.method.States.{States}
+use Rattle.aom_image.specs.declared.method.Thing.{Thing}
+use Rattle.aom_syntax.specs.Classes.{declared, flag, listed, thing, thing_of}
+use Rattle.aom_syntax.specs.Keywords.{keyword_text}
+use Rattle.aom_syntax.specs.Methods.{all_states, argument_of, flags_of, gives, heading, is_quiet_role, kind_of, optional_arguments, optional_class, optional_gives, optional_states, role, role_of, states_of, usual_after, usual_before, usual_gives, usual_words}
+use Rattle.aom_syntax.specs.Names.{place_of}
+use Rattle.aom_syntax.specs.Operands.{class}
+use Rattle.aom_syntax.specs.Reading.{◌>>=◌, Reading, any_keyword, giving, next, nothing_more, took}
+use Rattle.aom_syntax.specs.declared.keyword.Keyword.{Keyword}
+use Rattle.aom_syntax.specs.declared.keyword.Keyword.TheVariants as k
+use Rattle.aom_syntax.specs.declared.method.Heading.{Heading}
+use Rattle.aom_syntax.specs.declared.scope.Scope.{Scope}
+use Rattle.aom_asm.proofs.Counting.{begins_with}
+use Rattle.aom_ranges.proofs.Within.{ok_is, steps}
+use Rattle.aom_readback.proofs.Readings.{Takes, Whole, done, first, gives as gives_it, in_turn, last, only_two, sees, settle, takes_any_keyword}
+use Rattle.aom_meaning.specs.Meaning.{AreStates, GivesMeans, HeadingMeans, IsArgument, IsList, IsNumbered, IsThing, Names, SaidOr, SaidOrNone, states}
+use Rattle.aom_meaning.specs.Source as source
+use Rattle.aom_meaning.specs.Source.{GivesText, HeadingText, gives_words, heading_words, mark, part, promise_words}
+use Rattle.aom_meaning.proofs.Pieces.{Leaves, NotNext, Reads, Took, is_not, is_there, none_left, not_mark, not_part, not_word, pair, reads_part, saw, saw_part, saw_used, take_it, takes_seen, then_reads}
+use Rattle.aom_meaning.proofs.Declared.{reads_mark, saw_declared, saw_mark, takes_declared}
+use Rattle.aom_meaning.proofs.Sound.{Sound, giving_sound, next_sound}
+use Rattle.aom_meaning.proofs.Words.{LooksUp, argument_means, argument_reads, list_means, list_reads, takes_class, thing_means, thing_reads, told}
+
+-- ---- words
+
+states_mean : (w : List ℕ) (s : States) → list_all is_plain w ≡ true → states_of w ≡ Ok s → AreStates w s
+states_mean w s plain says = record { ascii = plain; spelled = says }
+
+states_read : (w : List ℕ) (s : States) → AreStates w s → Reads states_of w s
+states_read w s is = record { plain = is.ascii; says = is.spelled }
+
+record RoleSays (ws : List (List ℕ)) (r : Role) (rest : List (List ℕ)) : Type 0 where
+  key : Keyword
+  words : ws ≡ keyword_text key ∷ rest
+  says : role_of key ≡ Ok r
+
+role_says : (ws : List (List ℕ)) (r : Role) (rest : List (List ℕ)) → role ws ≡ Ok (r, rest) → RoleSays ws r rest
+role_says ws r rest is =
+    let s = steps (any_keyword ws) (λ x. role_of x.0 >>= λ y. Ok (y, x.1)) (r, rest) is in
+    let t = steps (role_of s.first.0) (λ y. Ok (y, s.first.1)) (r, rest) s.second in
+    let last : pair t.first s.first.1 ≡ (r, rest) = ok_is (pair t.first s.first.1) (r, rest) t.second in
+    record { key = s.first.0; words = begins_with ws s.first.0 s.first.1 s.read ∙ ap (λ p. keyword_text s.first.0 ∷ p.1) last; says = t.read ∙ ap (λ p. Ok p.0) last }
+
+-- ---- what was read
+
+module _ (names : Names) (kinds : List ClassDecl) where
+  abbrev scope : Scope
+  scope = told names kinds
+
+  record ClassSays (ws : List (List ℕ)) (class : Option ℕ) (rest : List (List ℕ)) : Type 0 where
+    said : Option (List ℕ)
+    words : ws ≡ part k.Of said ++ rest
+    says : SaidOrNone (IsNumbered names.classes) said class
+
+  class_says : (ws : List (List ℕ)) (c : Option ℕ) (rest : List (List ℕ)) → optional_class scope ws ≡ Ok (c, rest) → ClassSays ws c rest
+  class_says ws c rest is = go (take_it k.Of ws)
+    where
+      go : Took k.Of ws → ClassSays ws c rest
+      go (is_there vs words there) =
+          let read = sym (ap (λ p. if p.0 then (class scope p.1 >>= λ x. Ok (Some x.0, x.1)) else Ok (None, p.1)) there) ∙ is in
+          let s = steps (class scope vs) (λ x. Ok (Some x.0, x.1)) (c, rest) read in
+          let u = saw_used names.classes 256 vs s.first.0 s.first.1 s.read in
+          let same : pair (Some s.first.0) s.first.1 ≡ (c, rest) = ok_is (pair (Some s.first.0) s.first.1) (c, rest) s.second in
+          record {
+            said = Some u.w;
+            words = words ∙ ap (λ v. keyword_text k.Of ∷ v) u.words ∙ ap (λ p. keyword_text k.Of ∷ u.w ∷ p.1) same;
+            says = subst (SaidOrNone (IsNumbered names.classes) (Some u.w)) (ap (λ p. p.0) same) u.numbered;
+          }
+      go (is_not there) =
+          let read = sym (ap (λ p. if p.0 then (class scope p.1 >>= λ x. Ok (Some x.0, x.1)) else Ok (None, p.1)) there) ∙ is in
+          let same : pair None ws ≡ (c, rest) = ok_is (pair None ws) (c, rest) read in
+          record { said = None; words = ap (λ p. p.1) same; says = subst (SaidOrNone (IsNumbered names.classes) None) (ap (λ p. p.0) same) tt }
+
+  record GivesSays (usual : Gives) (ws : List (List ℕ)) (g : Gives) : Type 0 where
+    said : GivesText
+    words : ws ≡ gives_words said
+    means : GivesMeans names usual said g
+
+  -- a result behind its keyword, with what is left
+  record ResultSays (usual : Gives) (ws : List (List ℕ)) (g : Gives) (rest : List (List ℕ)) : Type 0 where
+    said : GivesText
+    words : keyword_text k.Gives ∷ ws ≡ gives_words said ++ rest
+    means : GivesMeans names usual said g
+
+  result_sound : (usual : Gives) (key : Keyword) (vs : List (List ℕ)) → Sound (gives scope key) vs (λ g rest. ResultSays usual (keyword_text key ∷ vs) g rest)
+  result_sound usual k.Nothing vs = giving_sound _ result.Nothing vs (record { said = source.nothing; words = refl; means = tt })
+  result_sound usual k.Word vs = giving_sound _ result.Word vs (record { said = source.word; words = refl; means = tt })
+  result_sound usual k.Own vs =
+      next_sound _ (thing scope) _ vs (λ t rest read.
+      let s = saw (thing_of scope) vs t rest read in
+      giving_sound _ (result.Own t) rest (record { said = source.own s.w; words = ap (λ v. keyword_text k.Gives ∷ keyword_text k.Own ∷ v) s.words; means = thing_means names kinds s.w t s.says }))
+  result_sound usual k.Maybe vs =
+      next_sound _ (thing scope) _ vs (λ t rest read.
+      let s = saw (thing_of scope) vs t rest read in
+      giving_sound _ (result.Maybe t) rest (record { said = source.maybe s.w; words = ap (λ v. keyword_text k.Gives ∷ keyword_text k.Maybe ∷ v) s.words; means = thing_means names kinds s.w t s.says }))
+  result_sound usual k.Left vs =
+      next_sound _ (class scope) _ vs (λ c rest read.
+      let s = saw_used names.classes 256 vs c rest read in
+      giving_sound _ (result.Left c) rest (record { said = source.left s.w; words = ap (λ v. keyword_text k.Gives ∷ keyword_text k.Left ∷ v) s.words; means = s.numbered }))
+  result_sound usual key vs = record { each = λ g rest is. absurd (refused g rest is) }
+    where
+      refused : (g : Gives) (rest : List (List ℕ)) → Err BadShape ≡ giving g rest → ⊥
+      refused g rest is = cc
+
+  abbrev said_gives : Reading Gives
+  said_gives = next any_keyword (λ key. next (gives scope key) (λ g. next (nothing_more false) (λ u. giving g)))
+
+  abbrev unsaid_gives : Gives → Reading Gives
+  unsaid_gives usual = next (nothing_more true) (λ u. giving usual)
+
+  ended : (said : GivesText) (ws us : List (List ℕ)) → ws ≡ gives_words said ++ us → us ≡ [] → ws ≡ gives_words said
+  ended source.unsaid ws us e none = e ∙ none
+  ended source.nothing ws us e none = e ∙ ap (λ v. gives_words source.nothing ++ v) none
+  ended source.word ws us e none = e ∙ ap (λ v. gives_words source.word ++ v) none
+  ended (source.own w) ws us e none = e ∙ ap (λ v. gives_words (source.own w) ++ v) none
+  ended (source.maybe w) ws us e none = e ∙ ap (λ v. gives_words (source.maybe w) ++ v) none
+  ended (source.left w) ws us e none = e ∙ ap (λ v. gives_words (source.left w) ++ v) none
+
+  gives_sound : (usual : Gives) (ws : List (List ℕ)) → Sound (optional_gives scope usual) ws (λ g rest. GivesSays usual ws g)
+  gives_sound usual ws = go (take_it k.Gives ws)
+    where
+      behind : (vs : List (List ℕ)) → ws ≡ keyword_text k.Gives ∷ vs → Sound said_gives vs (λ g rest. GivesSays usual ws g)
+      behind vs words =
+          let Q = λ (g : Gives) (rest : List (List ℕ)). GivesSays usual ws g in
+          next_sound Q any_keyword _ vs (λ key us r1.
+          next_sound Q (gives scope key) _ us (λ g ts r2.
+          next_sound Q (nothing_more false) _ ts (λ u rest r3.
+          let e = begins_with vs key us r1 in
+          let s = (result_sound usual key us).each g ts r2 in
+          giving_sound Q g rest (record {
+            said = s.said;
+            words = ended s.said ws ts (words ∙ ap (λ v. keyword_text k.Gives ∷ v) e ∙ s.words) (none_left false ts u rest r3).0;
+            means = s.means;
+          }))))
+
+      without : Sound (unsaid_gives usual) ws (λ g rest. GivesSays usual ws g)
+      without =
+          let Q = λ (g : Gives) (rest : List (List ℕ)). GivesSays usual ws g in
+          next_sound Q (nothing_more true) _ ws (λ u rest r. giving_sound Q usual rest (record { said = source.unsaid; words = (none_left true ws u rest r).0; means = refl }))
+
+      go : Took k.Gives ws → Sound (optional_gives scope usual) ws (λ g rest. GivesSays usual ws g)
+      go (is_there vs words there) = record { each = λ g rest is. (behind vs words).each g rest (sym (ap (λ p. if p.0 then said_gives p.1 else unsaid_gives usual p.1) there) ∙ is) }
+      go (is_not there) = record { each = λ g rest is. without.each g rest (sym (ap (λ p. if p.0 then said_gives p.1 else unsaid_gives usual p.1) there) ∙ is) }
+
+  -- the words of a heading behind its keyword, and what they mean at its place
+  pub record HeadingSays (place : ℕ) (ws : List (List ℕ)) (h : Heading) : Type 0 where
+    pub said : HeadingText
+    pub words : keyword_text k.Method ∷ ws ≡ heading_words said
+    pub means : HeadingMeans names kinds said h
+    pub placed : place_of said.name names.methods ≡ Some place
+
+  pub heading_sound : (place : ℕ) (ws : List (List ℕ)) → Sound (heading scope place) ws (λ h rest. HeadingSays place ws h)
+  heading_sound place ws =
+      let Q = λ (h : Heading) (rest : List (List ℕ)). HeadingSays place ws h in
+      next_sound Q (declared place names.methods) _ ws (λ u v1 r1.
+      next_sound Q role _ v1 (λ role v2 r2.
+      next_sound Q (optional_class scope) _ v2 (λ class v3 r3.
+      next_sound Q (flag k.Leaves) _ v3 (λ leaves v4 r4.
+      next_sound Q (flag k.Quiet) _ v4 (λ quiet v5 r5.
+      let all = all_states (kind_of kinds class) in
+      next_sound Q (optional_states k.In (usual_before role all)) _ v5 (λ before v6 r6.
+      next_sound Q (optional_states k.Out (usual_after role all)) _ v6 (λ after v7 r7.
+      next_sound Q (optional_arguments scope (usual_words role)) _ v7 (λ arguments v8 r8.
+      next_sound Q (optional_gives scope (usual_gives role (kind_of kinds class))) _ v8 (λ gives v9 r9.
+      let d = saw_declared names.methods place ws u v1 r1 in
+      let r = role_says v1 role v2 r2 in
+      let c = class_says v2 class v3 r3 in
+      let i = saw_part k.In states_of AreStates (states (usual_before role all)) states_mean v5 before v6 r6 in
+      let o = saw_part k.Out states_of AreStates (states (usual_after role all)) states_mean v6 after v7 r7 in
+      let a = saw_part k.Args (listed 6 (argument_of scope)) (IsList 6 (IsArgument names)) (replicate (usual_words role) arg.Word) (list_means 6 (argument_of scope) (IsArgument names) (argument_means names kinds)) v7 arguments v8 r8 in
+      let g = (gives_sound (usual_gives role (kind_of kinds class)) v8).each gives v9 r9 in
+      let said : HeadingText = record { name = d.w; role = r.key; class = c.said; leaves = leaves; quiet = quiet; before = i.said; after = o.said; arguments = a.said; gives = g.said } in
+      giving_sound Q _ v9 (record {
+        said = said;
+        words = ap (λ v. keyword_text k.Method ∷ v) (d.words ∙ ap (λ v. d.w ∷ v) (r.words ∙ ap (λ v. keyword_text r.key ∷ v) (c.words ∙ ap (λ v. part k.Of c.said ++ v) (
+        saw_mark k.Leaves v3 leaves v4 r4 ∙ ap (λ v. mark k.Leaves leaves ++ v) (saw_mark k.Quiet v4 quiet v5 r5 ∙ ap (λ v. mark k.Quiet quiet ++ v) (
+        i.words ∙ ap (λ v. part k.In i.said ++ v) (o.words ∙ ap (λ v. part k.Out o.said ++ v) (a.words ∙ ap (λ v. part k.Args a.said ++ v) g.words))))))));
+        means = record { name = d.is_name; role = r.says; class = c.says; flags = refl; before = i.says; after = o.says; arguments = a.says; gives = g.means };
+        placed = d.placed;
+      }))))))))))
+
+-- ---- what is read
+
+not_gives : (key : Keyword) (said : GivesText) → bytes_eq (keyword_text k.Gives) (keyword_text key) ≡ false → NotNext key (gives_words said)
+not_gives key source.unsaid apart = record { left = refl }
+not_gives key source.nothing apart = not_word key (keyword_text k.Gives) _ apart
+not_gives key source.word apart = not_word key (keyword_text k.Gives) _ apart
+not_gives key (source.own w) apart = not_word key (keyword_text k.Gives) _ apart
+not_gives key (source.maybe w) apart = not_word key (keyword_text k.Gives) _ apart
+not_gives key (source.left w) apart = not_word key (keyword_text k.Gives) _ apart
+
+takes_role : (key : Keyword) (r : Role) → role_of key ≡ Ok r → Takes role (keyword_text key ∷ []) r
+takes_role key r says = sees role_of (takes_any_keyword key) says
+
+module _ {names : Names} {scope : Scope} (looks : LooksUp names scope) where
+  class_reads : (said : Option (List ℕ)) (c : Option ℕ) (rest : List (List ℕ)) → SaidOrNone (IsNumbered names.classes) said c → NotNext k.Of rest → Leaves (optional_class scope) (part k.Of said ++ rest) c rest
+  class_reads None None rest says other = record { reads = ap (λ p. if p.0 then (class scope p.1 >>= λ x. Ok (Some x.0, x.1)) else Ok (None, p.1)) other.left }
+  class_reads None (Some c) rest says other = absurd says
+  class_reads (Some w) None rest says other = absurd says
+  class_reads (Some w) (Some c) rest says other = record { reads = ap (λ e. e >>= λ x. Ok (Some x.0, x.1)) ((takes_class looks w c says).reads rest) }
+
+  takes_thing : (w : List ℕ) (t : Thing) → IsThing names w t → Takes (thing scope) (w ∷ []) t
+  takes_thing w t is = takes_seen (thing_reads looks w t is)
+
+  whole_gives : (usual g : Gives) {ws : List (List ℕ)} → Takes (next any_keyword (gives scope)) ws g → Whole (optional_gives scope usual) (keyword_text k.Gives ∷ ws) g
+  whole_gives usual g takes = record { reads = (only_two any_keyword (gives scope) (λ g. next (nothing_more false) (λ u. giving g)) takes (record { reads = refl })).reads }
+
+  gives_read : (usual : Gives) (said : GivesText) (g : Gives) → GivesMeans names usual said g → Whole (optional_gives scope usual) (gives_words said) g
+  gives_read usual source.unsaid g means = record { reads = ap (λ y. Ok (y, [])) (sym means) }
+  gives_read usual source.nothing result.Nothing means = whole_gives usual result.Nothing (in_turn _ (takes_any_keyword k.Nothing) (gives_it _))
+  gives_read usual source.word result.Word means = whole_gives usual result.Word (in_turn _ (takes_any_keyword k.Word) (gives_it _))
+  gives_read usual (source.own w) (result.Own t) means = whole_gives usual (result.Own t) (in_turn _ (takes_any_keyword k.Own) (in_turn _ (takes_thing w t means) (gives_it _)))
+  gives_read usual (source.maybe w) (result.Maybe t) means = whole_gives usual (result.Maybe t) (in_turn _ (takes_any_keyword k.Maybe) (in_turn _ (takes_thing w t means) (gives_it _)))
+  gives_read usual (source.left w) (result.Left c) means = whole_gives usual (result.Left c) (in_turn _ (takes_any_keyword k.Left) (in_turn _ (takes_class looks w c means) (gives_it _)))
+  gives_read usual said g means = absurd means
+
+  -- what is read behind the class and the flags
+  abbrev promised : Role → Option ℕ → Bool → Bool → Reading Heading
+  promised role class leaves quiet =
+      next (optional_states k.In (usual_before role (all_states (kind_of scope.kinds class)))) (λ before.
+      next (optional_states k.Out (usual_after role (all_states (kind_of scope.kinds class)))) (λ after.
+      next (optional_arguments scope (usual_words role)) (λ arguments.
+      next (optional_gives scope (usual_gives role (kind_of scope.kinds class))) (λ gives.
+      giving (record { class = class; role = role; flags = flags_of leaves (quiet || is_quiet_role role); before = before; after = after; arguments = arguments; gives = gives })))))
+
+  -- what stands behind the keyword
+  pub heading_reads : (place : ℕ) (t : HeadingText) (h : Heading) → HeadingMeans names scope.kinds t h → place_of t.name scope.methods ≡ Some place → Whole (heading scope place) (t.name ∷ keyword_text t.role ∷ promise_words t) h
+  heading_reads place t h means placed =
+      let kind = kind_of scope.kinds h.class in
+      let v9 = gives_words t.gives in
+      let v8 = part k.Args t.arguments ++ v9 in
+      let v7 = part k.Out t.after ++ v8 in
+      let v6 = part k.In t.before ++ v7 in
+      let v5 = mark k.Quiet t.quiet ++ v6 in
+      let v4 = mark k.Leaves t.leaves ++ v5 in
+      first _ (takes_declared scope.methods place t.name means.name placed) (
+      first _ (takes_role t.role h.role means.role) (
+      then_reads _ (class_reads t.class h.class v4 means.class
+      (not_mark k.Of k.Leaves t.leaves v5 refl (not_mark k.Of k.Quiet t.quiet v6 refl (not_part k.Of k.In t.before v7 refl (not_part k.Of k.Out t.after v8 refl (not_part k.Of k.Args t.arguments v9 refl (not_gives k.Of t.gives refl))))))) (
+      then_reads (λ leaves. next (flag k.Quiet) (promised h.role h.class leaves)) (reads_mark k.Leaves t.leaves v5
+      (not_mark k.Leaves k.Quiet t.quiet v6 refl (not_part k.Leaves k.In t.before v7 refl (not_part k.Leaves k.Out t.after v8 refl (not_part k.Leaves k.Args t.arguments v9 refl (not_gives k.Leaves t.gives refl)))))) (
+      then_reads (promised h.role h.class t.leaves) (reads_mark k.Quiet t.quiet v6
+      (not_part k.Quiet k.In t.before v7 refl (not_part k.Quiet k.Out t.after v8 refl (not_part k.Quiet k.Args t.arguments v9 refl (not_gives k.Quiet t.gives refl))))) (
+      then_reads _ (reads_part k.In states_of AreStates (states (usual_before h.role (all_states kind))) states_read t.before h.before v7 means.before
+      (not_part k.In k.Out t.after v8 refl (not_part k.In k.Args t.arguments v9 refl (not_gives k.In t.gives refl)))) (
+      then_reads _ (reads_part k.Out states_of AreStates (states (usual_after h.role (all_states kind))) states_read t.after h.after v8 means.after
+      (not_part k.Out k.Args t.arguments v9 refl (not_gives k.Out t.gives refl))) (
+      then_reads _ (reads_part k.Args (listed 6 (argument_of scope)) (IsList 6 (IsArgument names)) (replicate (usual_words h.role) arg.Word) (list_reads 6 (argument_of scope) (IsArgument names) (argument_reads looks)) t.arguments h.arguments v9 means.arguments
+      (not_gives k.Args t.gives refl)) (
+      last _ (gives_read (usual_gives h.role kind) t.gives h.gives means.gives) (
+      settle (ap (λ f. record h { flags = f }) (sym means.flags)) (done _))))))))))
+
+-- ---- beside other classes
+
+-- what stands for what is missing
+said_or : {X : Type 0} → X → Option (List ℕ) → X → X
+said_or usual None x = usual
+said_or usual (Some w) x = x
+
+still : {X : Type 0} (Says : List ℕ → X → Type 0) (usual other : X) (said : Option (List ℕ)) (x : X) → SaidOr Says usual said x → SaidOr Says other said (said_or other said x)
+unfolding said_or
+still Says usual other None x says = refl
+still Says usual other (Some w) x says = says
+
+gives_or : Gives → GivesText → Gives → Gives
+gives_or usual source.unsaid g = usual
+gives_or usual said g = g
+
+still_gives : (names : Names) (usual other : Gives) (said : GivesText) (g : Gives) → GivesMeans names usual said g → GivesMeans names other said (gives_or other said g)
+unfolding gives_or
+still_gives names usual other source.unsaid g means = refl
+still_gives names usual other source.nothing result.Nothing means = means
+still_gives names usual other source.word result.Word means = means
+still_gives names usual other (source.own w) (result.Own t) means = means
+still_gives names usual other (source.maybe w) (result.Maybe t) means = means
+still_gives names usual other (source.left w) (result.Left c) means = means
+still_gives names usual other said g means = absurd means
+
+-- a heading with other classes beside it means a heading too
+pub record Beside (names : Names) (kinds : List ClassDecl) (t : HeadingText) : Type 0 where
+  pub heading : Heading
+  pub means : HeadingMeans names kinds t heading
+
+pub beside_others : (names : Names) (kinds others : List ClassDecl) (t : HeadingText) (h : Heading) → HeadingMeans names kinds t h → Beside names others t
+beside_others names kinds others t h means =
+    let kind = kind_of kinds h.class in
+    let other = kind_of others h.class in
+    let before = states (usual_before h.role (all_states other)) in
+    let after = states (usual_after h.role (all_states other)) in
+    let gives = usual_gives h.role other in
+    record {
+      heading = record h { before = said_or before t.before h.before; after = said_or after t.after h.after; gives = gives_or gives t.gives h.gives };
+      means = record {
+        name = means.name;
+        role = means.role;
+        class = means.class;
+        flags = means.flags;
+        before = still AreStates (states (usual_before h.role (all_states kind))) before t.before h.before means.before;
+        after = still AreStates (states (usual_after h.role (all_states kind))) after t.after h.after means.after;
+        arguments = means.arguments;
+        gives = still_gives names (usual_gives h.role kind) gives t.gives h.gives means.gives;
+      };
+    }

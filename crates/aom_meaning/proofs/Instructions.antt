@@ -1,0 +1,186 @@
+-- A statement of a method's code is read where its words mean an instruction, and as that instruction.
+use Rattle.std.proofs.Common.{◌≡◌, ℕ, suc, ◌+◌, ◌-◌, ◌==◌, ◌<◌, ◌≤◌, Bool, true, false, List, [], ◌∷◌, ◌++◌, length, take, drop, get_or, Option, Some, None, Ok, Err, refl, sym, ap, subst, ◌∙◌, append_assoc, arith}
+use Rattle.std.specs.Prelude.{IfSome, if◌then◌else◌}
+use Rattle.std.specs.List.{list_all}
+use Rattle.std.specs.Str.{bytes_eq}
+use Rattle.std.proofs.Math.Seq.{drop-cons}
+use Rattle.std.proofs.lemmas.Bool.{eq-eqb, eqb-true}
+use Rattle.std.proofs.lemmas.List.{drop_all, take-append-drop}
+use Rattle.std.proofs.lemmas.List.Folds.{list_all-append}
+use Rattle.std.proofs.lemmas.Slice.Eq.{bytes_eq-Decides}
+use Rattle.aom_text.specs.Names.{is_name}
+use Rattle.aom_text.specs.Words.{is_plain}
+use Rattle.aom_text.specs.declared.fault.AsmFaultKind.TheVariants.{BadShape, DoubleName, NotAscii}
+use Rattle.aom_image.specs.declared.class.ClassDecl.{ClassDecl}
+use Rattle.aom_image.specs.declared.instr.Instr.{Instr}
+use Rattle.aom_syntax.specs.Classes.{declared_at, is_at}
+use Rattle.aom_syntax.specs.Keywords.{strange}
+use Rattle.aom_syntax.specs.Methods.{after_label, check_label, instruction, known_mnemonic, label_of, named_mnemonic, skip_label}
+use Rattle.aom_syntax.specs.Mnemonics.{mnemonic_of, mnemonic_text, mnemonics}
+use Rattle.aom_syntax.specs.Names.{place_of}
+use Rattle.aom_syntax.specs.Reading.{◌>>=◌, Reading, as_name, giving, next, nothing_more, seen, word}
+use Rattle.aom_syntax.specs.Words.{words_operands}
+use Rattle.aom_syntax.specs.declared.mnemonic.Mnemonic.{Mnemonic}
+use Rattle.aom_syntax.specs.declared.scope.Scope.{Scope}
+use Rattle.aom_asm.proofs.Counting.{found_passes}
+use Rattle.aom_ranges.proofs.Names.{at_place}
+use Rattle.aom_ranges.proofs.Within.{ok_is, passed, steps}
+use Rattle.aom_readback.proofs.Readings.{Takes, Whole, first, in_turn, last, regroup, sees, takes_word}
+use Rattle.aom_readback.proofs.Statements.{label_cut}
+use Rattle.aom_readback.proofs.Tables.{mnemonic_is_no_label, mnemonic_is_plain, mnemonic_reads}
+use Rattle.aom_meaning.specs.Meaning.{InstructionMeans, Names, lookup}
+use Rattle.aom_meaning.specs.Source.{InstructionText, instruction_words, label_words}
+use Rattle.aom_meaning.proofs.Operands.{FindsMore, operands_follow}
+use Rattle.aom_meaning.proofs.Pieces.{named, none_left, pair}
+use Rattle.aom_meaning.proofs.Places.{finds_more, scoped}
+use Rattle.aom_meaning.proofs.Sound.{Sound, giving_sound, next_sound}
+use Rattle.aom_meaning.proofs.Words.{name_reads, plain_name}
+
+-- ---- labels
+
+some_is : {X : Type 0} (x y : X) → Some x ≡ Some y → x ≡ y
+some_is x y is = cc
+
+-- a word without its last byte, and that byte
+colon_last : (w : List ℕ) (n : ℕ) → suc n ≡ length w → get_or w n 0 ≡ 58 → w ≡ take n w ++ 58 ∷ []
+colon_last w n long is =
+    let within : n < length w = omega arith in
+    let past : length w ≤ suc n = omega arith in
+    sym (take-append-drop n w)
+    ∙ ap (λ v. take n w ++ v) (drop-cons w n 0 within ∙ ap (λ b. b ∷ drop (suc n) w) is ∙ ap (λ v. 58 ∷ v) (drop_all (suc n) w past))
+
+pub label_is : (w l : List ℕ) → label_of w ≡ Some l → w ≡ l ++ 58 ∷ []
+label_is [] l is = absurd cc
+label_is (b ∷ bs) l is = go (get_or (b ∷ bs) (length (b ∷ bs) - 1) 0 == 58) refl is
+  where
+    go : (c : Bool) → (get_or (b ∷ bs) (length (b ∷ bs) - 1) 0 == 58) ≡ c → (if c then Some (take (length (b ∷ bs) - 1) (b ∷ bs)) else None) ≡ Some l → b ∷ bs ≡ l ++ 58 ∷ []
+    go true same e =
+        let long : suc (length (b ∷ bs) - 1) ≡ length (b ∷ bs) = omega arith in
+        colon_last (b ∷ bs) (length (b ∷ bs) - 1) long (eqb-true (get_or (b ∷ bs) (length (b ∷ bs) - 1) 0) 58 same)
+        ∙ ap (λ v. v ++ 58 ∷ []) (some_is (take (length (b ∷ bs) - 1) (b ∷ bs)) l e)
+    go false other e = absurd cc
+
+-- ---- what was read
+
+known_is : (w : List ℕ) (o : Option Mnemonic) (m : Mnemonic) → known_mnemonic w o ≡ Ok m → o ≡ Some m
+known_is w None m is = absurd cc
+known_is w (Some n) m is = ap Some (ok_is n m is)
+
+module _ (place : ℕ) (labels : List (List ℕ)) where
+  abbrev IsPlaced : Option (List ℕ) → Type 0
+  IsPlaced label = IfSome label (λ l. place_of l labels ≡ Some place)
+
+  abbrev IsNamed : Option (List ℕ) → Type 0
+  IsNamed label = IfSome label (λ l. is_name l ≡ true)
+
+  record Labelled (ws : List (List ℕ)) (w : List ℕ) (rest : List (List ℕ)) : Type 0 where
+    label : Option (List ℕ)
+    words : ws ≡ label_words label ++ (w ∷ rest)
+    is_named : IsNamed label
+    is_placed : IsPlaced label
+
+  saw_word : (ws : List (List ℕ)) (w : List ℕ) (rest : List (List ℕ)) → word ws ≡ Ok (w, rest) → ws ≡ w ∷ rest
+  saw_word [] w rest is = absurd cc
+  saw_word (v ∷ vs) w rest is =
+      let i = passed (list_all is_plain v) (Ok (v, vs)) NotAscii (w, rest) is in
+      ap (λ p. p.0 ∷ p.1) (ok_is (v, vs) (w, rest) i.1)
+
+  past : (ws : List (List ℕ)) (v : List ℕ) (vs : List (List ℕ)) (o : Option (List ℕ)) (w : List ℕ) (rest : List (List ℕ)) → ws ≡ v ∷ vs → label_of v ≡ o → skip_label place labels v o vs ≡ Ok (w, rest) → Labelled ws w rest
+  past ws v vs None w rest words none is = record { label = None; words = words ∙ ap (λ p. p.0 ∷ p.1) (ok_is (v, vs) (w, rest) is); is_named = tt; is_placed = tt }
+  past ws v vs (Some l) w rest words some is =
+      let s = steps (check_label place labels l) (λ u. word vs) (w, rest) is in
+      let t = steps (as_name l) (λ n. declared_at place labels n) s.first s.read in
+      let i = named labels l t.first t.read in
+      let at = passed (is_at place (place_of t.first labels)) (Ok tt) DoubleName s.first t.second in
+      record {
+        label = Some l;
+        words = words ∙ ap (λ u. u ∷ vs) (label_is v l some) ∙ ap (λ us. (l ++ 58 ∷ []) ∷ us) (saw_word vs w rest s.second);
+        is_named = i.0;
+        is_placed = ap (λ n. place_of n labels) i.1 ∙ at_place place (place_of t.first labels) at.0;
+      }
+
+  labelled : (ws : List (List ℕ)) (w : List ℕ) (rest : List (List ℕ)) → after_label place labels ws ≡ Ok (w, rest) → Labelled ws w rest
+  labelled ws w rest is =
+      let s = steps (word ws) (λ x. skip_label place labels x.0 (label_of x.0) x.1) (w, rest) is in
+      past ws s.first.0 s.first.1 (label_of s.first.0) w rest (saw_word ws s.first.0 s.first.1 s.read) refl s.second
+
+  record Begins (ws : List (List ℕ)) (m : Mnemonic) (rest : List (List ℕ)) : Type 0 where
+    label : Option (List ℕ)
+    words : ws ≡ label_words label ++ (mnemonic_text m ∷ rest)
+    is_named : IsNamed label
+    is_placed : IsPlaced label
+
+  begins : (ws : List (List ℕ)) (m : Mnemonic) (rest : List (List ℕ)) → seen named_mnemonic (after_label place labels) ws ≡ Ok (m, rest) → Begins ws m rest
+  begins ws m rest is =
+      let s = steps (after_label place labels ws) (λ x. named_mnemonic x.0 >>= λ y. Ok (y, x.1)) (m, rest) is in
+      let t = steps (named_mnemonic s.first.0) (λ y. Ok (y, s.first.1)) (m, rest) s.second in
+      let l = labelled ws s.first.0 s.first.1 s.read in
+      let both : pair t.first s.first.1 ≡ (m, rest) = ok_is (pair t.first s.first.1) (m, rest) t.second in
+      let found : mnemonic_of s.first.0 ≡ Some m = known_is s.first.0 (mnemonic_of s.first.0) t.first t.read ∙ ap (λ p. Some p.0) both in
+      let text : mnemonic_text m ≡ s.first.0 = (bytes_eq-Decides (mnemonic_text m) s.first.0).0 (found_passes (λ n. bytes_eq (mnemonic_text n) s.first.0) mnemonics m found) in
+      record {
+        label = l.label;
+        words = l.words ∙ ap (λ v. label_words l.label ++ (v ∷ s.first.1)) (sym text) ∙ ap (λ p. label_words l.label ++ (mnemonic_text m ∷ p.1)) both;
+        is_named = l.is_named;
+        is_placed = l.is_placed;
+      }
+
+  module _ (names : Names) (kinds : List ClassDecl) where
+    -- the words of an instruction, and what they mean at its place
+    pub record InstructionSays (ws : List (List ℕ)) (i : Instr) : Type 0 where
+      pub said : InstructionText
+      pub words : ws ≡ instruction_words said
+      pub means : InstructionMeans names labels said i
+      pub placed : IsPlaced said.label
+
+    pub instruction_sound : (ws : List (List ℕ)) → Sound (instruction (scoped true names kinds) labels place) ws (λ i rest. InstructionSays ws i)
+    instruction_sound ws =
+        let Q = λ (i : Instr) (rest : List (List ℕ)). InstructionSays ws i in
+        let scope = scoped true names kinds in
+        next_sound Q (seen named_mnemonic (after_label place labels)) _ ws (λ m v1 r1.
+        next_sound Q (words_operands scope labels m) _ v1 (λ i v2 r2.
+        next_sound Q (nothing_more false) _ v2 (λ u v3 r3.
+        let b = begins ws m v1 r1 in
+        let none = (none_left false v2 u v3 r3).0 in
+        let found = (operands_follow scope (lookup names) labels (finds_more true 256 names [] kinds names.classes) (finds_more true 1024 names [] kinds names.methods) (finds_more true 1024 names [] kinds labels) m).each v1 i v2 r2 in
+        giving_sound Q i v3 (record {
+          said = record { label = b.label; mnemonic = m; operands = v1 };
+          words = b.words;
+          means = record { label = b.is_named; operands = found ∙ ap (λ v. Ok (i, v)) none };
+          placed = b.is_placed;
+        }))))
+
+-- ---- what is read
+
+module _ (place : ℕ) (labels : List (List ℕ)) where
+  colon_is_plain : (l : List ℕ) → is_name l ≡ true → list_all is_plain (l ++ 58 ∷ []) ≡ true
+  colon_is_plain l is = list_all-append is_plain l (58 ∷ []) ∙ rw (plain_name l is)
+
+  checked : (l : List ℕ) → is_name l ≡ true → place_of l labels ≡ Some place → check_label place labels l ≡ Ok tt
+  checked l is there =
+      ap (λ e. e >>= λ n. declared_at place labels n) (name_reads l is)
+      ∙ ap (λ o. if is_at place o then Ok tt else Err DoubleName) there
+      ∙ ap (λ b. if b then Ok tt else Err DoubleName) (eq-eqb place place refl)
+
+  takes_label : (label : Option (List ℕ)) (m : Mnemonic) → IsNamed place labels label → IsPlaced place labels label → Takes (after_label place labels) (label_words label ++ mnemonic_text m ∷ []) (mnemonic_text m)
+  takes_label None m is there = in_turn _ (takes_word (mnemonic_text m) (mnemonic_is_plain m)) (record {
+    reads = λ rest. ap (λ o. skip_label place labels (mnemonic_text m) o rest) (mnemonic_is_no_label m);
+  })
+  takes_label (Some l) m is there = in_turn _ (takes_word (l ++ 58 ∷ []) (colon_is_plain l is)) (record {
+    reads = λ rest.
+        ap (λ o. skip_label place labels (l ++ 58 ∷ []) o (mnemonic_text m ∷ rest)) (label_cut l)
+        ∙ ap (λ e. e >>= λ u. word (mnemonic_text m ∷ rest)) (checked l is there)
+        ∙ (takes_word (mnemonic_text m) (mnemonic_is_plain m)).reads rest;
+  })
+
+  spread : (label : Option (List ℕ)) (w : List ℕ) (ws : List (List ℕ)) → label_words label ++ (w ∷ ws) ≡ (label_words label ++ w ∷ []) ++ ws
+  spread None w ws = refl
+  spread (Some l) w ws = refl
+
+  pub instruction_reads : (b : Bool) (names : Names) (kinds : List ClassDecl) (t : InstructionText) (i : Instr) → InstructionMeans names labels t i → IsPlaced place labels t.label → Whole (instruction (scoped b names kinds) labels place) (instruction_words t) i
+  instruction_reads b names kinds t i means placed =
+      let found = (operands_follow (lookup names) (scoped b names kinds) labels (finds_more b 256 names kinds [] names.classes) (finds_more b 1024 names kinds [] names.methods) (finds_more b 1024 names kinds [] labels) t.mnemonic).each t.operands i [] means.operands in
+      let operands : Whole (words_operands (scoped b names kinds) labels t.mnemonic) t.operands i = record { reads = found } in
+      regroup (spread t.label (mnemonic_text t.mnemonic) t.operands) (
+      first _ (sees named_mnemonic (takes_label t.label t.mnemonic means.label placed) (ap (known_mnemonic (mnemonic_text t.mnemonic)) (mnemonic_reads t.mnemonic))) (
+      last (λ x. next (nothing_more false) (λ u. giving x)) operands (record { reads = refl })))

@@ -1,0 +1,14 @@
+pub mod Pieces
+pub mod Words
+pub mod Sound
+pub mod Headers
+pub mod Declared
+pub mod Classes
+pub mod Headings
+pub mod Operands
+pub mod Places
+pub mod Instructions
+pub mod Texts
+pub mod Wholes
+pub mod Parsed
+pub mod Denoting

@@ -1,0 +1,67 @@
+-- Where a name is declared once, it is found at its place, and the other way round.
+use Rattle.std.proofs.Common.{◌≡◌, ℕ, ◌+◌, ◌<◌, Bool, true, false, List, [], ◌∷◌, length, Option, Some, None, Ok, refl, sym, ap, ◌∙◌, arith, cond, get_or, slice_get, nat_lt}
+use Rattle.std.specs.Prelude.{if◌then◌else◌}
+use Rattle.std.specs.Str.{bytes_eq}
+use Rattle.std.proofs.lemmas.Bool.{lt-ltb}
+use Rattle.std.proofs.lemmas.List.Sums.{position_or_len_is}
+use Rattle.std.proofs.lemmas.Option.{get_or_from_slice_get, slice_get-get_or, slice_get_within}
+use Rattle.std.proofs.lemmas.Slice.Eq.{bytes_eq-Decides}
+use Rattle.aom_text.specs.Names.{is_name}
+use Rattle.aom_image.specs.declared.class.ClassDecl.{ClassDecl}
+use Rattle.aom_syntax.specs.Names.{place_of, nowhere, referred}
+use Rattle.aom_syntax.specs.declared.scope.Scope.{Scope}
+use Rattle.aom_meaning.specs.Meaning.{DeclaredOnce, IsNumbered, Names, lookup}
+use Rattle.aom_meaning.proofs.Operands.{FindsMore}
+use Rattle.aom_meaning.proofs.Words.{LooksUp, not_so}
+
+-- ---- one place for each name
+
+pub found_once : (space : List (List ℕ)) (w : List ℕ) (n : ℕ) → DeclaredOnce space → IsNumbered space w n → place_of w space ≡ Some n
+found_once space w n once is =
+    let within = slice_get_within space n w is.declared in
+    let here : get_or space n [] ≡ w = get_or_from_slice_get space n w [] is.declared in
+    let other : (j : ℕ) → j < n → bytes_eq (get_or space j []) w ≡ false = λ j less. not_so (bytes_eq (get_or space j []) w) (λ yes.
+    let there : IsNumbered space w j = record { is_name = is.is_name; declared = slice_get-get_or space j [] (omega arith) ∙ ap Some ((bytes_eq-Decides (get_or space j []) w).0 yes) } in
+    let same = once.same w j n there is in
+    omega arith) in
+    let at = position_or_len_is (λ v. bytes_eq v w) space n [] (omega arith) other (λ less. (bytes_eq-Decides (get_or space n []) w).1 here) in
+    let less : nat_lt n (length space) ≡ true = lt-ltb n (length space) within in
+    ap (λ m. cond (nat_lt m (length space)) (Some m) None) at ∙ rw less
+
+some_is : (m n : ℕ) → Some m ≡ Some n → m ≡ n
+some_is m n is = cc
+
+-- each name of a space is found at its place
+pub record FoundInPlace (space : List (List ℕ)) : Type 0 where
+  pub found : (w : List ℕ) (n : ℕ) → IsNumbered space w n → place_of w space ≡ Some n
+
+pub once_found : (space : List (List ℕ)) → FoundInPlace space → DeclaredOnce space
+once_found space all = record { same = λ w m n one other. some_is m n (sym (all.found w m one) ∙ all.found w n other) }
+
+-- ---- scopes
+
+refers : (b : Bool) (limit n : ℕ) → n < limit → referred b limit (Some n) ≡ Ok n
+refers b limit n below = ap (λ c. if c then Ok n else nowhere b) (lt-ltb n limit below)
+
+-- a scope of these names, told apart or not
+abbrev pub scoped : Bool → Names → List ClassDecl → Scope
+scoped b names kinds = record { is_strict = b; classes = names.classes; methods = names.methods; kinds = kinds }
+
+pub looks_up : (b : Bool) (names : Names) (kinds : List ClassDecl) → DeclaredOnce names.classes → length names.classes < 257 → LooksUp names (scoped b names kinds)
+looks_up b names kinds once few = record {
+  class = λ w n is.
+      let within = slice_get_within names.classes n w is.declared in
+      ap (referred b 256) (found_once names.classes w n once is) ∙ refers b 256 n (omega arith);
+}
+
+-- what is found where names are told apart is found where they are not
+loosens : (b : Bool) (limit : ℕ) (o : Option ℕ) (n : ℕ) → referred true limit o ≡ Ok n → referred b limit o ≡ Ok n
+loosens b limit None n is = absurd cc
+loosens b limit (Some m) n is = go (nat_lt m limit) is
+  where
+    go : (c : Bool) → (if c then Ok m else nowhere true) ≡ Ok n → (if c then Ok m else nowhere b) ≡ Ok n
+    go true e = e
+    go false e = absurd cc
+
+pub finds_more : (b : Bool) (limit : ℕ) (names : Names) (kinds before : List ClassDecl) (space : List (List ℕ)) → FindsMore limit (scoped true names before) (scoped b names kinds) space space
+finds_more b limit names kinds before space = record { finds = λ w n is. loosens b limit (place_of w space) n is }

@@ -1,0 +1,194 @@
+-- The statements of a program declare its names, and those of a method's code its labels.
+use Rattle.std.proofs.Common.{◌≡◌, ℕ, zero, suc, ◌+◌, ◌<◌, Bool, true, false, List, [], ◌∷◌, ◌++◌, map, length, Option, Some, None, refl, sym, ap, subst, ◌∙◌, append_assoc, append-nil, arith, length-append, slice_get}
+use Rattle.std.specs.Prelude.{IfSome, if◌then◌else◌}
+use Rattle.std.specs.Str.{bytes_eq}
+use Rattle.std.proofs.lemmas.Slice.Eq.{bytes_eq-Decides}
+use Rattle.aom_text.specs.Names.{is_name}
+use Rattle.aom_text.specs.Words.{others_of}
+use Rattle.aom_text.specs.declared.text.Statement.{Statement}
+use Rattle.aom_syntax.specs.Keywords.{keyword_text}
+use Rattle.aom_syntax.specs.Methods.{label_of}
+use Rattle.aom_syntax.specs.Mnemonics.{mnemonic_text}
+use Rattle.aom_syntax.specs.Names.{place_of}
+use Rattle.aom_syntax.specs.Reading.{took}
+use Rattle.aom_syntax.specs.declared.keyword.Keyword.{Keyword}
+use Rattle.aom_syntax.specs.declared.keyword.Keyword.TheVariants as k
+use Rattle.aom_syntax.specs.declared.mnemonic.Mnemonic.{Mnemonic}
+use Rattle.aom_syntax.specs.declared.mnemonic.Mnemonic.TheVariants as m
+use Rattle.aom_asm.specs.TextNames.{declared_names, is_end, label_in, label_or_none, labels_of as labels_until, name_after, with_name}
+use Rattle.aom_readback.specs.Texts.{all_words}
+use Rattle.aom_readback.proofs.Statements.{label_cut}
+use Rattle.aom_readback.proofs.Tables.{mnemonic_is_no_label}
+use Rattle.aom_readback.proofs.TextNames.{by_words, by_words_more, declared_by_words}
+use Rattle.aom_meaning.specs.Denotes.{names_of}
+use Rattle.aom_meaning.specs.Meaning.{DeclaredOnce, IsNumbered, Names, labels_of}
+use Rattle.aom_meaning.specs.Source as source
+use Rattle.aom_meaning.specs.Source.{Declaration, InstructionText, Source, classes_of, declaration_statements, declared_statements, end_words, header_words, instruction_words, label_words, methods_of, source_statements}
+use Rattle.aom_meaning.proofs.Pieces.{NotNext, not_word}
+use Rattle.aom_meaning.proofs.Places.{FoundInPlace, once_found}
+use Rattle.aom_meaning.proofs.Words.{not_so}
+
+-- ---- what an instruction does not begin with
+
+-- a keyword that is neither a mnemonic nor a label
+record Foreign (key : Keyword) : Type 0 where
+  mnemonic : (n : Mnemonic) → bytes_eq (mnemonic_text n) (keyword_text key) ≡ false
+  label : label_of (keyword_text key) ≡ None
+
+class_foreign : (n : Mnemonic) → bytes_eq (mnemonic_text n) (keyword_text k.Class) ≡ false
+class_foreign m.Const = refl
+class_foreign _ = refl
+
+method_foreign : (n : Mnemonic) → bytes_eq (mnemonic_text n) (keyword_text k.Method) ≡ false
+method_foreign m.Const = refl
+method_foreign _ = refl
+
+end_foreign : (n : Mnemonic) → bytes_eq (mnemonic_text n) (keyword_text k.End) ≡ false
+end_foreign m.Const = refl
+end_foreign _ = refl
+
+some_none : {X : Type 0} (x : X) → Some x ≡ None → ⊥
+some_none x is = cc
+
+module _ (key : Keyword) (foreign : Foreign key) where
+  no_label : (l : List ℕ) → bytes_eq (l ++ 58 ∷ []) (keyword_text key) ≡ false
+  no_label l = not_so (bytes_eq (l ++ 58 ∷ []) (keyword_text key)) (λ yes. some_none l (sym (label_cut l) ∙ ap label_of ((bytes_eq-Decides (l ++ 58 ∷ []) (keyword_text key)).0 yes) ∙ foreign.label))
+
+  nameless : (label : Option (List ℕ)) (n : Mnemonic) (ws : List (List ℕ)) → name_after key (label_words label ++ (mnemonic_text n ∷ ws)) ≡ None
+  nameless None n [] = refl
+  nameless None n (w ∷ ws) = ap (λ (b : Bool). if b then Some w else None) (foreign.mnemonic n)
+  nameless (Some l) n ws = ap (λ (b : Bool). if b then Some (mnemonic_text n) else None) (no_label l)
+
+  code_nameless : (code : List InstructionText) (names : List (List ℕ)) → by_words key names (map instruction_words code) ≡ names
+  code_nameless [] names = refl
+  code_nameless (t ∷ ts) names = ap (λ o. by_words key (with_name names o) (map instruction_words ts)) (nameless t.label t.mnemonic t.operands) ∙ code_nameless ts names
+
+  body_nameless : (code : List InstructionText) (names : List (List ℕ)) → by_words key names (map instruction_words code ++ end_words ∷ []) ≡ names
+  body_nameless code names = by_words_more key names (map instruction_words code) (end_words ∷ []) ∙ code_nameless code names
+
+-- nor is it the end of a method
+ends_not : (label : Option (List ℕ)) (n : Mnemonic) (ws : List (List ℕ)) → is_end (label_words label ++ (mnemonic_text n ∷ ws)) ≡ false
+ends_not None n ws = end_foreign n
+ends_not (Some l) n ws = no_label k.End (record { mnemonic = end_foreign; label = refl }) l
+
+pub no_end : (t : InstructionText) → is_end (instruction_words t) ≡ false
+no_end t = ends_not t.label t.mnemonic t.operands
+
+first_is_not : (label : Option (List ℕ)) (n : Mnemonic) (ws : List (List ℕ)) → NotNext k.End (label_words label ++ (mnemonic_text n ∷ ws))
+first_is_not None n ws = not_word k.End (mnemonic_text n) ws (end_foreign n)
+first_is_not (Some l) n ws = not_word k.End (l ++ 58 ∷ []) (mnemonic_text n ∷ ws) (no_label k.End (record { mnemonic = end_foreign; label = refl }) l)
+
+pub takes_no_end : (t : InstructionText) → NotNext k.End (instruction_words t)
+takes_no_end t = first_is_not t.label t.mnemonic t.operands
+
+-- ---- names
+
+class_names : (ds : List Declaration) (names : List (List ℕ)) → by_words k.Class names (declared_statements ds) ≡ names ++ map (λ t. t.name) (classes_of ds)
+class_names [] names = sym (append-nil names)
+class_names (source.class t ∷ ds) names = class_names ds (names ++ t.name ∷ []) ∙ append_assoc names (t.name ∷ []) (map (λ t. t.name) (classes_of ds))
+class_names (source.method t ∷ ds) names =
+    by_words_more k.Class names (declaration_statements (source.method t)) (declared_statements ds)
+    ∙ ap (λ l. by_words k.Class l (declared_statements ds)) (body_nameless k.Class (record { mnemonic = class_foreign; label = refl }) t.code names)
+    ∙ class_names ds names
+
+method_names : (ds : List Declaration) (names : List (List ℕ)) → by_words k.Method names (declared_statements ds) ≡ names ++ map (λ t. t.heading.name) (methods_of ds)
+method_names [] names = sym (append-nil names)
+method_names (source.class t ∷ ds) names = method_names ds names
+method_names (source.method t ∷ ds) names =
+    by_words_more k.Method names (declaration_statements (source.method t)) (declared_statements ds)
+    ∙ ap (λ l. by_words k.Method l (declared_statements ds)) (body_nameless k.Method (record { mnemonic = method_foreign; label = refl }) t.code (names ++ t.heading.name ∷ []))
+    ∙ method_names ds (names ++ t.heading.name ∷ [])
+    ∙ append_assoc names (t.heading.name ∷ []) (map (λ t. t.heading.name) (methods_of ds))
+
+-- the image statement declares none
+image_no_class : (ws : List (List ℕ)) → name_after k.Class (keyword_text k.Image ∷ ws) ≡ None
+image_no_class [] = refl
+image_no_class (w ∷ ws) = refl
+
+image_no_method : (ws : List (List ℕ)) → name_after k.Method (keyword_text k.Image ∷ ws) ≡ None
+image_no_method [] = refl
+image_no_method (w ∷ ws) = refl
+
+-- the names that statements declare
+abbrev pub text_names : List Statement → Names
+text_names ss = record { classes = declared_names k.Class [] ss; methods = declared_names k.Method [] ss }
+
+pub names_are : (s : Source) (ss : List Statement) → all_words ss ≡ source_statements s → text_names ss ≡ names_of s
+names_are s ss words =
+    let classes = declared_by_words k.Class [] ss ∙ ap (by_words k.Class []) words ∙ ap (λ o. by_words k.Class (with_name [] o) (declared_statements s.declarations)) (image_no_class (others_of (header_words s.header))) ∙ class_names s.declarations [] in
+    let methods = declared_by_words k.Method [] ss ∙ ap (by_words k.Method []) words ∙ ap (λ o. by_words k.Method (with_name [] o) (declared_statements s.declarations)) (image_no_method (others_of (header_words s.header))) ∙ method_names s.declarations [] in
+    ap (λ (l : List (List ℕ)). record { classes = l; methods = declared_names k.Method [] ss }) classes
+    ∙ ap (λ (l : List (List ℕ)). record { classes = map (λ t. t.name) (classes_of s.declarations); methods = l }) methods
+
+-- ---- labels
+
+has_label : (label : Option (List ℕ)) (n : Mnemonic) (ws : List (List ℕ)) → label_in (label_words label ++ (mnemonic_text n ∷ ws)) ≡ label_or_none label
+has_label None n ws = ap label_or_none (mnemonic_is_no_label n)
+has_label (Some l) n ws = ap label_or_none (label_cut l)
+
+pub labels_there : (code : List InstructionText) (left : List (List (List ℕ))) (labels : List (List ℕ)) (ss : List Statement) → all_words ss ≡ map instruction_words code ++ (end_words ∷ left) → labels_until labels ss ≡ labels ++ labels_of code
+labels_there [] left labels [] words = absurd cc
+labels_there (t ∷ ts) left labels [] words = absurd cc
+labels_there [] left labels (s ∷ ss) words =
+    let here : s.words ≡ end_words = cc in
+    ap (λ ws. if is_end ws then labels else labels_until (labels ++ label_in ws ∷ []) ss) here ∙ sym (append-nil labels)
+labels_there (t ∷ ts) left labels (s ∷ ss) words =
+    let here : s.words ≡ instruction_words t = cc in
+    let behind : all_words ss ≡ map instruction_words ts ++ (end_words ∷ left) = cc in
+    ap (λ ws. if is_end ws then labels else labels_until (labels ++ label_in ws ∷ []) ss) here
+    ∙ ap (λ b. if b then labels else labels_until (labels ++ label_in (instruction_words t) ∷ []) ss) (no_end t)
+    ∙ ap (λ l. labels_until (labels ++ l ∷ []) ss) (has_label t.label t.mnemonic t.operands)
+    ∙ labels_there ts left (labels ++ label_or_none t.label ∷ []) ss behind
+    ∙ append_assoc labels (label_or_none t.label ∷ []) (labels_of ts)
+
+-- each label is found at the place of its instruction
+abbrev pub LabelsPlaced : List (List ℕ) → ℕ → List InstructionText → Type 0
+LabelsPlaced labels n [] = Unit {0}
+LabelsPlaced labels n (t ∷ ts) = IfSome t.label (λ l. place_of l labels ≡ Some n) × LabelsPlaced labels (n + 1) ts
+
+-- each name is found at its place
+abbrev pub Placed : List (List ℕ) → ℕ → List (List ℕ) → Type 0
+Placed space n [] = Unit {0}
+Placed space n (w ∷ ws) = (place_of w space ≡ Some n) × Placed space (n + 1) ws
+
+some_is : (x y : List ℕ) → Some x ≡ Some y → x ≡ y
+some_is x y is = cc
+
+nth_placed : (space : List (List ℕ)) (n : ℕ) (ws : List (List ℕ)) (i : ℕ) (w : List ℕ) → Placed space n ws → slice_get ws i ≡ Some w → place_of w space ≡ Some (n + i)
+nth_placed space n [] i w placed there = absurd cc
+nth_placed space n (v ∷ vs) zero w placed there =
+    let same : n ≡ n + 0 = omega arith in
+    ap (λ u. place_of u space) (sym (some_is v w there)) ∙ placed.0 ∙ ap Some same
+nth_placed space n (v ∷ vs) (suc i) w placed there =
+    let same : (n + 1) + i ≡ n + suc i = omega arith in
+    nth_placed space (n + 1) vs i w placed.1 there ∙ ap Some same
+
+pub placed_once : (space : List (List ℕ)) → Placed space 0 space → DeclaredOnce space
+placed_once space placed = once_found space (record {
+  found = λ w n is. (let same : 0 + n ≡ n = omega arith in nth_placed space 0 space n w placed is.declared ∙ ap Some same);
+})
+
+name_of_label : (label : Option (List ℕ)) (w : List ℕ) → label_or_none label ≡ w → is_name w ≡ true → label ≡ Some w
+name_of_label None w same is = absurd (false_true (ap is_name same ∙ is))
+  where
+    false_true : false ≡ true → ⊥
+    false_true e = cc
+name_of_label (Some l) w same is = ap Some same
+
+is_there : (labels : List (List ℕ)) (n : ℕ) (label : Option (List ℕ)) (w : List ℕ) → label ≡ Some w → IfSome label (λ l. place_of l labels ≡ Some n) → place_of w labels ≡ Some n
+is_there labels n None w same placed = absurd cc
+is_there labels n (Some l) w same placed = ap (λ u. place_of u labels) (sym (some_is l w same)) ∙ placed
+
+nth_label : (labels : List (List ℕ)) (n : ℕ) (code : List InstructionText) (i : ℕ) (w : List ℕ) → LabelsPlaced labels n code → slice_get (labels_of code) i ≡ Some w → is_name w ≡ true → place_of w labels ≡ Some (n + i)
+nth_label labels n [] i w placed there is = absurd cc
+nth_label labels n (t ∷ ts) zero w placed there is =
+    let same : n ≡ n + 0 = omega arith in
+    is_there labels n t.label w (name_of_label t.label w (some_is (label_or_none t.label) w there) is) placed.0 ∙ ap Some same
+nth_label labels n (t ∷ ts) (suc i) w placed there is =
+    let same : (n + 1) + i ≡ n + suc i = omega arith in
+    nth_label labels (n + 1) ts i w placed.1 there is ∙ ap Some same
+
+pub labels_once : (code : List InstructionText) → LabelsPlaced (labels_of code) 0 code → DeclaredOnce (labels_of code)
+labels_once code placed = once_found (labels_of code) (record {
+  found = λ w n is. (let same : 0 + n ≡ n = omega arith in nth_label (labels_of code) 0 code n w placed is.declared is.is_name ∙ ap Some same);
+})

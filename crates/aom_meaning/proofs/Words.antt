@@ -1,0 +1,168 @@
+-- What one word says is what is read of it: names, numbers, sets, things, arguments and lists, both ways.
+use Rattle.std.proofs.Common.{◌≡◌, ℕ, ◌+◌, ◌≤◌, ◌==◌, Bool, true, false, List, [], ◌∷◌, ◌++◌, length, Option, Some, None, Result, Ok, Err, refl, sym, ap, subst, ◌∙◌, append_assoc, append-nil, codes, arith, length-append}
+use Rattle.std.specs.Prelude.{◌&&◌, if◌then◌else◌, nat_le, nat_lt, not}
+use Rattle.std.specs.List.{list_all, slice_split}
+use Rattle.std.specs.Str.{bytes_eq}
+use Rattle.std.proofs.lemmas.Bool.{and_parts, lt-ltb}
+use Rattle.std.proofs.lemmas.Slice.Eq.{bytes_eq-Decides}
+use Rattle.aom_text.specs.Names.{has_name_form, is_name, is_reserved}
+use Rattle.aom_text.specs.Words.{is_plain}
+use Rattle.aom_text.specs.declared.fault.AsmFaultKind.{AsmFaultKind}
+use Rattle.aom_text.specs.declared.fault.AsmFaultKind.TheVariants.{BadShape, LimitPassed}
+use Rattle.aom_image.specs.declared.class.ClassDecl.{ClassDecl}
+use Rattle.aom_image.specs.declared.method.Argument.{Argument}
+use Rattle.aom_image.specs.declared.method.Argument.TheVariants as arg
+use Rattle.aom_image.specs.declared.method.Thing.{Thing}
+use Rattle.aom_image.specs.declared.method.Thing.TheVariants as owned
+use Rattle.aom_syntax.specs.Classes.{class_of, elements, listed, thing, thing_of}
+use Rattle.aom_syntax.specs.Methods.{argument_of}
+use Rattle.aom_syntax.specs.Names.{place_of, referred}
+use Rattle.aom_syntax.specs.Operands.{class}
+use Rattle.aom_syntax.specs.Reading.{◌>>=◌, as_name, name, word}
+use Rattle.aom_syntax.specs.declared.scope.Scope.{Scope}
+use Rattle.aom_ranges.proofs.Lists.{listed_fits}
+use Rattle.aom_ranges.proofs.Within.{ok_is, passed, steps}
+use Rattle.aom_readback.proofs.Lists.{plain_form}
+use Rattle.aom_readback.proofs.Readings.{Takes, sees}
+use Rattle.aom_meaning.specs.Meaning.{Elements, IsArgument, IsList, IsNumbered, IsThing, Names, Pairwise}
+use Rattle.aom_meaning.proofs.Pieces.{Reads, numbered, takes_seen}
+
+-- names that are told apart
+abbrev pub told : Names → List ClassDecl → Scope
+told names kinds = record { is_strict = true; classes = names.classes; methods = names.methods; kinds = kinds }
+
+-- each name is found where it is declared
+pub record LooksUp (names : Names) (scope : Scope) : Type 0 where
+  pub class : (w : List ℕ) (n : ℕ) → IsNumbered names.classes w n → referred scope.is_strict 256 (place_of w scope.classes) ≡ Ok n
+
+-- ---- names
+
+pub plain_name : (w : List ℕ) → is_name w ≡ true → list_all is_plain w ≡ true
+plain_name w is =
+    let whole = and_parts (has_name_form w && nat_le (length w) 32) (not (is_reserved w)) is in
+    plain_form w (and_parts (has_name_form w) (nat_le (length w) 32) whole.0).0
+
+pub name_reads : (w : List ℕ) → is_name w ≡ true → as_name w ≡ Ok w
+name_reads w is = ap (λ b. if b then Ok w else Err BadShape) is
+
+pub takes_name : (w : List ℕ) → is_name w ≡ true → Takes name (w ∷ []) w
+takes_name w is = takes_seen (record { plain = plain_name w is; says = name_reads w is })
+
+module _ {names : Names} {scope : Scope} (looks : LooksUp names scope) where
+  pub takes_class : (w : List ℕ) (n : ℕ) → IsNumbered names.classes w n → Takes (class scope) (w ∷ []) n
+  takes_class w n is = sees (λ v. referred scope.is_strict 256 (place_of v scope.classes)) (takes_name w is.is_name) (looks.class w n is)
+
+-- ---- what may be owned
+
+if_so : {X : Type 0} (b : Bool) (r s : X) → b ≡ true → (if b then r else s) ≡ r
+if_so b r s is = ap (λ b. if b then r else s) is
+
+message_or_class : (names : Names) (kinds : List ClassDecl) (w : List ℕ) (t : Thing) → thing_of (told names kinds) w ≡ Ok t → IsThing names w t
+message_or_class names kinds w t is = go (bytes_eq w (codes "msg")) refl is
+  where
+    go : (b : Bool) → bytes_eq w (codes "msg") ≡ b → (if b then Ok owned.Message else (class_of (told names kinds) w >>= λ c. Ok (owned.Object c))) ≡ Ok t → IsThing names w t
+    go true same e = subst (IsThing names w) (ok_is owned.Message t e) ((bytes_eq-Decides w (codes "msg")).0 same)
+    go false other e =
+        let s = steps (class_of (told names kinds) w) (λ c. Ok (owned.Object c)) t e in
+        subst (IsThing names w) (ok_is (owned.Object s.first) t s.second) (numbered names.classes 256 w s.first s.read)
+
+pub thing_means : (names : Names) (kinds : List ClassDecl) (w : List ℕ) (t : Thing) → thing_of (told names kinds) w ≡ Ok t → IsThing names w t
+thing_means = message_or_class
+
+pub argument_means : (names : Names) (kinds : List ClassDecl) (w : List ℕ) (a : Argument) → argument_of (told names kinds) w ≡ Ok a → IsArgument names w a
+argument_means names kinds w a is = go (bytes_eq w (codes "word")) refl is
+  where
+    go : (b : Bool) → bytes_eq w (codes "word") ≡ b → (if b then Ok arg.Word else (thing_of (told names kinds) w >>= λ t. Ok (arg.Own t))) ≡ Ok a → IsArgument names w a
+    go true same e = subst (IsArgument names w) (ok_is arg.Word a e) ((bytes_eq-Decides w (codes "word")).0 same)
+    go false other e =
+        let s = steps (thing_of (told names kinds) w) (λ t. Ok (arg.Own t)) a e in
+        subst (IsArgument names w) (ok_is (arg.Own s.first) a s.second) (thing_means names kinds w s.first s.read)
+
+-- a name is no reserved word
+not_both : (b c : Bool) → (b && not c) ≡ true → c ≡ false
+not_both b false is = refl
+not_both true true is = absurd cc
+not_both false true is = absurd cc
+
+not_reserved : (w : List ℕ) → is_name w ≡ true → is_reserved w ≡ false
+not_reserved w is = not_both (has_name_form w && nat_le (length w) 32) (is_reserved w) is
+
+pub not_so : (b : Bool) → (b ≡ true → ⊥) → b ≡ false
+not_so true never = absurd (never refl)
+not_so false never = refl
+
+true_is_false : true ≡ false → ⊥
+true_is_false e = cc
+
+no_message : (w : List ℕ) → is_name w ≡ true → bytes_eq w (codes "msg") ≡ false
+no_message w is = not_so (bytes_eq w (codes "msg")) (λ same. true_is_false (sym (ap is_reserved ((bytes_eq-Decides w (codes "msg")).0 same)) ∙ not_reserved w is))
+
+no_word : (w : List ℕ) → is_name w ≡ true → bytes_eq w (codes "word") ≡ false
+no_word w is = not_so (bytes_eq w (codes "word")) (λ same. true_is_false (sym (ap is_reserved ((bytes_eq-Decides w (codes "word")).0 same)) ∙ not_reserved w is))
+
+module _ {names : Names} {scope : Scope} (looks : LooksUp names scope) where
+  pub thing_reads : (w : List ℕ) (t : Thing) → IsThing names w t → Reads (thing_of scope) w t
+  thing_reads w owned.Message is = record { plain = ap (list_all is_plain) is; says = ap (thing_of scope) is }
+  thing_reads w (owned.Object c) is = record {
+    plain = plain_name w is.is_name;
+    says = ap (λ b. if b then Ok owned.Message else (class_of scope w >>= λ c. Ok (owned.Object c))) (no_message w is.is_name)
+        ∙ ap (λ e. (e >>= λ n. referred scope.is_strict 256 (place_of n scope.classes)) >>= λ c. Ok (owned.Object c)) (name_reads w is.is_name)
+        ∙ ap (λ e. e >>= λ c. Ok (owned.Object c)) (looks.class w c is);
+  }
+
+  pub argument_reads : (w : List ℕ) (a : Argument) → IsArgument names w a → Reads (argument_of scope) w a
+  argument_reads w arg.Word is = record { plain = ap (list_all is_plain) is; says = ap (argument_of scope) is }
+  argument_reads w (arg.Own owned.Message) is = record { plain = ap (list_all is_plain) is; says = ap (argument_of scope) is }
+  argument_reads w (arg.Own (owned.Object c)) is =
+      let t = thing_reads w (owned.Object c) is in
+      record {
+        plain = t.plain;
+        says = ap (λ b. if b then Ok arg.Word else (thing_of scope w >>= λ t. Ok (arg.Own t))) (no_word w is.is_name) ∙ ap (λ e. e >>= λ t. Ok (arg.Own t)) t.says;
+      }
+
+-- ---- lists
+
+-- the elements behind others
+record Behind {X : Type 0} (Says : List ℕ → X → Type 0) (ps : List (List ℕ)) (front xs : List X) : Type 0 where
+  elements : List X
+  all : xs ≡ front ++ elements
+  each : Pairwise Says ps elements
+
+module _ {X : Type 0} (most : ℕ) (one : List ℕ → Result X AsmFaultKind) (Says : List ℕ → X → Type 0) where
+  module _ (means : (w : List ℕ) (x : X) → one w ≡ Ok x → Says w x) where
+    parted : (ps : List (List ℕ)) (front xs : List X) → elements most one front ps ≡ Ok xs → Behind Says ps front xs
+    parted [] front xs is = record { elements = []; all = sym (ok_is front xs is) ∙ sym (append-nil front); each = tt }
+    parted (p ∷ ps) front xs is =
+        let t = passed (nat_lt (length front) most) (one p >>= λ x. elements most one (front ++ x ∷ []) ps) LimitPassed xs is in
+        let s = steps (one p) (λ x. elements most one (front ++ x ∷ []) ps) xs t.1 in
+        let b = parted ps (front ++ s.first ∷ []) xs s.second in
+        record { elements = s.first ∷ b.elements; all = b.all ∙ append_assoc front (s.first ∷ []) b.elements; each = (means p s.first s.read, b.each) }
+
+    parts_mean : (w : List ℕ) (xs : List X) (b : Bool) → (if b then Ok [] else elements most one [] (slice_split (λ b. b == 44) w)) ≡ Ok xs → Elements Says b w xs
+    parts_mean w xs true is = sym (ok_is [] xs is)
+    parts_mean w xs false is = let b = parted (slice_split (λ b. b == 44) w) [] xs is in subst (Pairwise Says (slice_split (λ b. b == 44) w)) (sym b.all) b.each
+
+    pub list_means : (w : List ℕ) (xs : List X) → list_all is_plain w ≡ true → listed most one w ≡ Ok xs → IsList most Says w xs
+    list_means w xs plain is = record {
+      ascii = plain;
+      elements = parts_mean w xs (bytes_eq w (codes "-")) is;
+      few = (listed_fits (λ x. Unit {0}) most one (λ v x e. tt) w xs is).few;
+    }
+
+  module _ (reads : (w : List ℕ) (x : X) → Says w x → Reads one w x) where
+    parts_read : (ps : List (List ℕ)) (front xs : List X) → length front + length xs ≤ most → Pairwise Says ps xs → elements most one front ps ≡ Ok (front ++ xs)
+    parts_read [] front [] few each = ap Ok (sym (append-nil front))
+    parts_read [] front (x ∷ xs) few each = absurd each
+    parts_read (p ∷ ps) front [] few each = absurd each
+    parts_read (p ∷ ps) front (x ∷ xs) few each =
+        ap (λ b. if b then (one p >>= λ y. elements most one (front ++ y ∷ []) ps) else Err LimitPassed) (lt-ltb (length front) most (omega arith))
+        ∙ ap (λ e. e >>= λ y. elements most one (front ++ y ∷ []) ps) (reads p x each.0).says
+        ∙ parts_read ps (front ++ x ∷ []) xs (omega (arith, length-append front (x ∷ []))) each.1
+        ∙ ap Ok (append_assoc front (x ∷ []) xs)
+
+    whole_read : (w : List ℕ) (xs : List X) (b : Bool) → length xs ≤ most → Elements Says b w xs → (if b then Ok [] else elements most one [] (slice_split (λ b. b == 44) w)) ≡ Ok xs
+    whole_read w xs true few none = ap Ok (sym none)
+    whole_read w xs false few each = parts_read (slice_split (λ b. b == 44) w) [] xs (omega arith) each
+
+    pub list_reads : (w : List ℕ) (xs : List X) → IsList most Says w xs → Reads (listed most one) w xs
+    list_reads w xs is = record { plain = is.ascii; says = whole_read w xs (bytes_eq w (codes "-")) is.few is.elements }

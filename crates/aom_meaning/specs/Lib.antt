@@ -1,0 +1,4 @@
+pub mod Source
+pub mod Meaning
+pub mod Denotes
+pub mod Laws
