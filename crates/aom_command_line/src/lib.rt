@@ -5,8 +5,6 @@
 //! and no edit of a command waits for it.
 #![tactic(auto)]
 
-#[cfg(test)]
-mod tests;
 mod words;
 
 pub use words::{Words, WordsFault, read_words};

@@ -67,17 +67,13 @@ pub fn read_words(alloc: Global, words: Vec<String>) -> Result<Words, WordsFault
 fn aom_command<'a>(alloc: Global) -> Result<Command<'a>, AllocError>
     ensures { IfOk result (λ c. app_of c ≡ form) }
 {
-    let check = check_command(alloc)?;
-    let run = run_command(alloc)?;
-    let asm = asm_command(alloc)?;
-    let dis = dis_command(alloc)?;
     Command::new(alloc, "aom")
         .about("Assembles, lists, checks and runs images of programs of active objects")
         .subcommand_required(true)
-        .subcommand(check)?
-        .subcommand(run)?
-        .subcommand(asm)?
-        .subcommand(dis)
+        .subcommand(check_command(alloc)?)?
+        .subcommand(run_command(alloc)?)?
+        .subcommand(asm_command(alloc)?)?
+        .subcommand(dis_command(alloc)?)
 }
 
 fn check_command<'a>(alloc: Global) -> Result<Command<'a>, AllocError>

@@ -14,8 +14,6 @@ mod fault_line;
 mod faults;
 mod running;
 mod status;
-#[cfg(test)]
-mod tests;
 
 pub use commands::{asm_bytes, check_bytes, dis_bytes, run_bytes};
 pub use faults::{Fault, tell};

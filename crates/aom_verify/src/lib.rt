@@ -9,8 +9,6 @@ mod change;
 mod checked;
 mod refusal;
 mod sheet;
-#[cfg(test)]
-mod tests;
 
 pub use checked::{Checked, check};
 pub use refusal::Refusal;

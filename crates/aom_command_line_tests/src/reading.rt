@@ -1,4 +1,4 @@
-use super::*;
+use aom_command_line::{Words, WordsFault, read_words};
 use std::alloc::Global;
 use std::test::Fail;
 
