@@ -2,7 +2,7 @@ use super::*;
 use aom_budget::{Accepted, accept};
 use aom_classes::link;
 use aom_exec::{Machine, Outcome};
-use aom_image::decode;
+use aom_codec::decode;
 use aom_lines::Turn;
 use aom_verify::check;
 use std::alloc::Global;
