@@ -15,7 +15,6 @@ use Rattle.aom_image.specs.declared.class.ClassDecl.{ClassDecl}
 use Rattle.aom_image.specs.declared.image.Header.{Header}
 use Rattle.aom_image.specs.declared.instr.Instr.{Instr}
 use Rattle.aom_image.specs.declared.method.Method.{Method}
-use Rattle.aom_image.proofs.Lengths.{length_spell}
 use Rattle.aom_syntax.specs.Classes.{class_statement}
 use Rattle.aom_syntax.specs.Headers.{image_statement}
 use Rattle.aom_syntax.specs.Keywords.{keyword_text}
@@ -391,7 +390,7 @@ module _ (headers : HeadersInRange) (classes_in : ClassesInRange) (headings : He
         header = subst (λ n. HeaderFits n q.header) class_count (parts.header strict);
         classes = classes;
         methods = methods;
-        size = omega (arith, length_spell (image_of q) classes methods);
+        size = omega arith;
       }
 
 -- ---- a whole text

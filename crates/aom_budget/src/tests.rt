@@ -3,7 +3,7 @@ ghost use Rattle.std.specs.Prelude.{◌≤◌};
 
 use crate::accept;
 use aom_classes::link;
-use aom_image::decode;
+use aom_codec::decode;
 use aom_verify::check;
 use std::alloc::{AllocError, Global};
 

@@ -1,7 +1,6 @@
 pub mod Image
 pub mod Views
 pub mod Operands
-pub mod Rows
 pub mod Requests
 pub mod Messages
 pub mod Natives
@@ -9,11 +8,4 @@ pub mod Cleanup
 pub mod Calls
 pub mod Objects
 pub mod Words
-pub mod Spelling
 pub mod WellFormed
-pub mod Faults
-pub mod Codec
-pub mod Instructions
-pub mod Format
-pub mod Reads
-pub mod RoundTrip

@@ -1,7 +1,6 @@
--- Which images are well formed: every field in its range, and the spelling at most 1 MiB.
-use Rattle.std.specs.Prelude.{ℕ, ◌<◌, ◌≤◌, ◌^◌, Bool, true, false, List, length, All, count_by, IfSome}
+-- Which images are well formed: every field in its range, and at most 1 MiB of bytes.
+use Rattle.std.specs.Prelude.{ℕ, ◌+◌, ◌*◌, ◌<◌, ◌≤◌, ◌^◌, Bool, true, false, List, length, All, count_by, sum_by, IfSome}
 use Rattle.aom_image.specs.Image.{Image}
-use Rattle.aom_image.specs.Spelling.{spell}
 use Rattle.aom_image.specs.declared.limits.Limits.{Limits}
 use Rattle.aom_image.specs.Words.{WordsFit}
 use Rattle.aom_image.specs.declared.instr.Instr.{Instr}
@@ -115,9 +114,13 @@ pub record MethodsFit (classes : ℕ) (methods : List Method) : Type 0 where
   pub count : length methods ≤ 1024
   pub each : All (MethodFits classes (length methods)) methods
 
+-- how many bytes so many classes and these methods take: 24 for the header, 28 a class, 24 a method and 8 an instruction
+abbrev pub spelled_size : ℕ → List Method → ℕ
+spelled_size classes methods = 24 + 28 * classes + sum_by (λ m. 24 + 8 * length m.code) methods
+
 -- an image with every field in its range
 pub record WellFormed (i : Image) : Type 0 where
   pub header : HeaderFits (length i.classes) i.header
   pub classes : ClassesFit i.header.natives i.classes
   pub methods : MethodsFit (length i.classes) i.methods
-  pub size : length (spell i) ≤ 2 ^ 20
+  pub size : spelled_size (length i.classes) i.methods ≤ 2 ^ 20

@@ -1,6 +1,6 @@
 //! Whether parts make a well-formed image.
 ghost use Rattle.std.specs.Prelude.{◌≡◌, ◌<◌, ◌≤◌, ◌↔◌, IsTrue, IfSome, All, length, count_by, ◌+◌, ◌*◌, ◌^◌, sum_by, codes};
-ghost use Rattle.aom_image.specs.WellFormed.{ThingFits, ProviderFits, KindFits, ClassFits, ClassesFit, MethodsFit, ArgumentFits, GivesFits, InstrFits, MethodFits, HeaderFits, WellFormed, is_server};
+ghost use Rattle.aom_image.specs.WellFormed.{ThingFits, ProviderFits, KindFits, ClassFits, ClassesFit, MethodsFit, ArgumentFits, GivesFits, InstrFits, MethodFits, HeaderFits, WellFormed, is_server, spelled_size};
 
 use crate::limits::Limits;
 use crate::{
@@ -126,7 +126,7 @@ pub fn spelled_len(classes: usize, methods: &[Method]) -> usize
     requires few { classes ≤ 256 }
     requires fits { All (λ m. length m.code ≤ 1024) methods.now }
     requires some { length methods.now ≤ 1024 }
-    ensures { result ≡ 24 + 28 * classes + sum_by (λ m. 24 + 8 * length m.code) methods.now }
+    ensures { result ≡ spelled_size classes methods.now }
 {
     let mut len = 24 + 28 * classes;
     for method in methods {

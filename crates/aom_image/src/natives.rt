@@ -1,26 +1,9 @@
 //! Instructions on natives.
-ghost use Rattle.std.specs.Prelude.{◌≡◌, ◌↔◌, IsTrue};
-ghost use Rattle.aom_image.specs.Natives.{natives_raw, NativesFit, natives_table};
-ghost use Rattle.aom_image.specs.Rows.{Bounded, lookup};
-ghost use Rattle.aom_image.specs.Instructions.{read_row};
-ghost use Rattle.aom_image.specs.Reads.{Reads};
+ghost use Rattle.std.specs.Prelude.{◌↔◌, IsTrue};
+ghost use Rattle.aom_image.specs.Natives.{NativesFit};
 
 use crate::limits::{Limits, is_register};
-use crate::raw::Raw;
-use crate::reader::Reader;
-use crate::{Instr, LoadFault, messages};
-
-/// How an instruction of this group, or of one after it, stands in the file.
-pub fn raw(instr: Instr) -> Raw
-    ensures { result ≡ natives_raw instr }
-{
-    match instr {
-        Instr::Connect(a) => Raw::new(0x2b, a.number(), 0, 0, 0),
-        Instr::Ask(a, b, c) => Raw::new(0x2c, a.number(), b.number(), c.number(), 0),
-        Instr::Close => Raw::new(0x2d, 0, 0, 0, 0),
-        _ => messages::raw(instr),
-    }
-}
+use crate::{Instr, messages};
 
 /// Whether the operands fit, of these instructions and of those of the groups after them.
 pub fn fits(instr: Instr, limits: Limits) -> bool
@@ -30,25 +13,5 @@ pub fn fits(instr: Instr, limits: Limits) -> bool
         Instr::Connect(a) => is_register(a),
         Instr::Ask(a, b, c) => is_register(a) && is_register(b) && is_register(c),
         _ => messages::fits(instr, limits),
-    }
-}
-
-/// The instruction of an opcode, from what stands after it.
-#[tactic(auto, unfolding(crate::specs::Natives::natives_table))]
-pub fn read(opcode: u8, reader: &mut Reader, limits: Limits) -> Result<Instr, LoadFault>
-    requires { Bounded limits }
-    ensures { Reads (λ x. (x, reader.new)) result (read_row limits (lookup opcode natives_table) reader.old) }
-{
-    match opcode {
-        0x2b => Ok(Instr::Connect(reader.one_register()?)),
-        0x2c => {
-            let (a, b, c) = reader.three_registers()?;
-            Ok(Instr::Ask(a, b, c))
-        }
-        0x2d => {
-            reader.no_operands()?;
-            Ok(Instr::Close)
-        }
-        _ => messages::read(opcode, reader, limits),
     }
 }

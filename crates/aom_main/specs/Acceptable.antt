@@ -1,9 +1,9 @@
 -- Which bytes are an accepted image, and why others are not.
 use Rattle.std.specs.Prelude.{ℕ, ◌≡◌, List, Some}
 use Rattle.aom_image.specs.Image.{Image}
-use Rattle.aom_image.specs.Spelling.{spell}
+use Rattle.aom_codec.specs.Spelling.{spell}
 use Rattle.aom_image.specs.WellFormed.{WellFormed}
-use Rattle.aom_image.specs.Format.{first_fault}
+use Rattle.aom_codec.specs.Format.{first_fault}
 use Rattle.aom_classes.specs.Admitted.{IsAdmitted}
 use Rattle.aom_classes.specs.Linked.{IsLinked}
 use Rattle.aom_classes.specs.Faults.{Refuses as RefusesLink}

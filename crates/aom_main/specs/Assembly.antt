@@ -1,9 +1,9 @@
 -- What `asm` and `dis` promise of their sinks and their status, from a text to an image's bytes and back.
 use Rattle.std.specs.Prelude.{ℕ, ◌≡◌, true, List, Some, Ok, Err}
 use Rattle.aom_image.specs.Image.{Image}
-use Rattle.aom_image.specs.Spelling.{spell}
-use Rattle.aom_image.specs.Format.{first_fault}
-use Rattle.aom_image.specs.declared.fault.LoadFault.{LoadFault}
+use Rattle.aom_codec.specs.Spelling.{spell}
+use Rattle.aom_codec.specs.Format.{first_fault}
+use Rattle.aom_codec.specs.declared.fault.LoadFault.{LoadFault}
 use Rattle.aom_text.specs.declared.fault.AsmFault.{AsmFault}
 use Rattle.aom_asm.specs.Denoted.{denoted}
 use Rattle.aom_listing.specs.Listing.{listing_text}

@@ -1,9 +1,9 @@
 -- The exit statuses, and the line and the status of each fault.
 use Rattle.std.specs.Prelude.{ℕ, List, ◌++◌, codes}
 use Rattle.std.specs.Fmt.{decimal}
-use Rattle.aom_image.specs.Faults.{fault_number}
-use Rattle.aom_image.specs.declared.fault.LoadFault.{LoadFault}
-use Rattle.aom_image.specs.declared.fault.LoadFault.TheVariants as loads
+use Rattle.aom_codec.specs.Faults.{fault_number}
+use Rattle.aom_codec.specs.declared.fault.LoadFault.{LoadFault}
+use Rattle.aom_codec.specs.declared.fault.LoadFault.TheVariants as loads
 use Rattle.aom_classes.specs.Faults.{number_of}
 use Rattle.aom_classes.specs.declared.fault.LinkFault.{LinkFault}
 use Rattle.aom_classes.specs.declared.fault.LinkFault.TheVariants as links

@@ -8,7 +8,7 @@ ghost use Rattle.aom_main.specs.Acceptable.{IsSpelled, IsAcceptable, RefusesOrWa
 use crate::Fault;
 use aom_budget::{Accepted, accept};
 use aom_classes::{Linked, link};
-use aom_image::decode;
+use aom_codec::decode;
 use aom_verify::check;
 use std::alloc::Global;
 

@@ -4,7 +4,7 @@ ghost use Rattle.aom_main.specs.Assembly.{Lists, Makes, RefusesBytes, RefusesTex
 
 use crate::Fault;
 use aom_asm::assemble;
-use aom_image::{decode, encode};
+use aom_codec::{decode, encode};
 use aom_listing::disassemble;
 use std::alloc::Global;
 

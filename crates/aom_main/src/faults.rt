@@ -8,7 +8,7 @@ use crate::fault_line::FaultLine;
 use aom_budget::BudgetFault;
 use aom_classes::LinkFault;
 use aom_exec::BootFault;
-use aom_image::LoadFault;
+use aom_codec::LoadFault;
 use aom_run::{ScriptFault, ScriptFaultKind, Sink, write_text};
 use aom_text::{AsmFault, AsmFaultKind};
 use aom_verify::Refusal;

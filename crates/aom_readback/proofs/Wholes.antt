@@ -7,7 +7,6 @@ use Rattle.aom_text.specs.declared.fault.AsmFaultKind.TheVariants.{LimitPassed}
 use Rattle.aom_text.specs.declared.text.Statement.{Statement}
 use Rattle.aom_image.specs.Image.{Image}
 use Rattle.aom_image.specs.WellFormed.{WellFormed}
-use Rattle.aom_image.proofs.Lengths.{length_spell}
 use Rattle.aom_syntax.specs.Reading.{◌>>=◌}
 use Rattle.aom_syntax.specs.declared.scope.Scope.{Scope}
 use Rattle.aom_listing.specs.Headers.{header_words}
@@ -37,7 +36,7 @@ none_left (s ∷ ss) words = absurd cc
 
 module _ (last : ℕ) (i : Image) (formed : WellFormed i) (quiet : AllSayQuiet i) (scope : Scope) (names : HasNames (length i.classes) (length i.methods) scope) where
   small : whole_size i ≤ 2 ^ 20
-  small = omega (arith, length_spell i formed.classes formed.methods, formed.size)
+  small = formed.size
 
   parts_go : (ss : List Statement) → all_words ss ≡ classes_statements 0 i.classes ++ methods_statements 0 i.methods → Goes last scope (read_so_far i.header [] [] None 24) ss (all_read i) []
   parts_go ss words =

@@ -1,0 +1,453 @@
+-- An image fits its format exactly where it is well formed, its length aside.
+use Rattle.std.proofs.Common.{◌≡◌, ℕ, zero, suc, ◌+◌, ◌<◌, ◌≤◌, Bool, true, false, cond, eqb, ltb, leb, List, [], ◌∷◌, length, All, count_by, Option, Some, None, IfSome, Result, Ok, Err, refl, ap, subst, arith, inl, inr, lit<, lit≤, slice_index_or}
+use Rattle.std.proofs.lemmas.Bool.{ltb-true, lt-ltb}
+use Rattle.std.proofs.lemmas.Bool.Decides.{nat_tests}
+use Rattle.std.proofs.lemmas.List.Elements.{All-nil, All-cons}
+use Rattle.std.proofs.lemmas.List.Sums.{sum_by-cons}
+use Rattle.aom_image.specs.Image.{Image}
+use Rattle.aom_codec.specs.Spelling.{class_number, thing_number, argument_number, gives_byte, result_number, kind_byte}
+use Rattle.aom_image.specs.WellFormed.{ThingFits, ProviderFits, KindFits, ClassFits, is_server_kind, is_server, ArgumentFits, GivesFits, InstrFits, MethodFits, HeaderFits, ClassesFit, MethodsFit}
+use Rattle.aom_codec.specs.Rows.{Bounded}
+use Rattle.aom_codec.specs.Codec.{Codec, ◌>>=◌, byte, pair, always, keep, FitMany, limited}
+use Rattle.aom_codec.specs.Instructions.{instruction}
+use Rattle.aom_image.specs.WellFormed.{limits}
+use Rattle.aom_codec.specs.Format.{index_from, class_from, class_or_none, thing_from, thing, argument_from, argument, provider, purpose, closing, purpose_of, kind_sort, class, count_server, role, flags, states, result, gives_from, method, image}
+use Rattle.aom_codec.specs.declared.fault.LoadFault.{LoadFault}
+use Rattle.aom_codec.specs.declared.fault.LoadFault.TheVariants.{BadIndex, BadOperand}
+use Rattle.aom_image.specs.declared.class.ClassDecl.{ClassDecl}
+use Rattle.aom_image.specs.declared.class.ClassKind.{ClassKind}
+use Rattle.aom_image.specs.declared.class.ClassKind.TheVariants as kinds
+use Rattle.aom_image.specs.declared.class.Provider.{Provider}
+use Rattle.aom_image.specs.declared.class.Provider.TheVariants as providers
+use Rattle.aom_image.specs.declared.method.Thing.{Thing}
+use Rattle.aom_image.specs.declared.method.Thing.TheVariants.{Object, Message}
+use Rattle.aom_image.specs.declared.method.Argument.{Argument}
+use Rattle.aom_image.specs.declared.method.Argument.TheVariants as arguments
+use Rattle.aom_image.specs.declared.method.Gives.{Gives}
+use Rattle.aom_image.specs.declared.method.Gives.TheVariants as gives
+use Rattle.aom_image.specs.declared.method.Role.{Role}
+use Rattle.aom_image.specs.declared.method.Role.TheVariants as roles
+use Rattle.aom_image.specs.declared.method.MethodFlags.{MethodFlags}
+use Rattle.aom_image.specs.declared.method.States.{States}
+use Rattle.aom_image.specs.declared.method.Method.{Method}
+use Rattle.aom_codec.proofs.Lengths.{head_of, rest_of}
+use Rattle.aom_codec.proofs.Laws.{bind_ok, guard_ok, ok_is}
+use Rattle.aom_codec.proofs.Returning.{took, index_returns}
+use Rattle.aom_codec.proofs.Formats.{between_true, between_is}
+use Rattle.aom_codec.proofs.InstructionFits.{in_range, fits}
+
+-- ---- lists
+
+all_fit : {X : Type 0} (c : Codec X) (n : ℕ) (xs : List X) → FitMany (always c) keep tt n xs → All c.Fits xs
+all_fit c zero [] f = All-nil c.Fits
+all_fit c (suc n) [] f = absurd f
+all_fit c zero (x ∷ xs) f = absurd f
+all_fit c (suc n) (x ∷ xs) f = All-cons c.Fits x xs f.0 (all_fit c n xs f.1)
+
+fit_all : {X : Type 0} (c : Codec X) (xs : List X) → All c.Fits xs → FitMany (always c) keep tt (length xs) xs
+fit_all c [] h = tt
+fit_all c (x ∷ xs) h = (head_of c.Fits x xs h, fit_all c xs (rest_of c.Fits x xs h))
+
+each : {X : Type 0} (P Q : X → Type 0) (xs : List X) → ((x : X) → P x → Q x) → All P xs → All Q xs
+each P Q xs f h = λ k d lt. f (slice_index_or xs k d) (h k d lt)
+
+limited_byte_fits : (low high n : ℕ) → high < 256 → low ≤ n → n ≤ high → (limited byte low high).Fits n
+limited_byte_fits low high n small p q = (omega arith, between_is low high n p q)
+
+limited_pair_fits : (low high n : ℕ) → high < 65536 → low ≤ n → n ≤ high → (limited pair low high).Fits n
+limited_pair_fits low high n small p q = (omega arith, between_is low high n p q)
+
+-- ---- numbers that name things
+
+index_is : (classes n : ℕ) → n < classes → index_from classes n ≡ Ok n
+index_is classes n lt = ap (λ b. cond b (okay n) (Err BadIndex)) (lt-ltb n classes lt)
+  where
+    okay : ℕ → Result ℕ LoadFault
+    okay k = Ok k
+
+eqb_below : (n m : ℕ) → n < m → eqb n m ≡ false
+eqb_below n m lt = grind (arith, nat_tests, lt)
+
+leb_below : (n m : ℕ) → n < m → leb m n ≡ false
+leb_below n m lt = grind (arith, nat_tests, lt)
+
+class_in : (classes n : ℕ) (y : Option ℕ) → class_from classes n ≡ Ok y → IfSome y (λ c. c < classes)
+class_in classes n y e =
+    elim (took (eqb n 0xffff) (Ok None) (index_from classes n >>= λ c. Ok (Some c)) y e) [
+      | inl h ↦ subst (λ (o : Option ℕ). IfSome o (λ c. c < classes)) (ok_is None y h.1) tt
+      | inr h ↦
+          let b = bind_ok (index_from classes n) (λ c. Ok (Some c)) y h.1 in
+          let i = index_returns classes n b.0 b.1 in
+          let lt : b.0 < classes = omega (arith, i.0, i.1) in
+          subst (λ (o : Option ℕ). IfSome o (λ c. c < classes)) (ok_is (Some b.0) y b.2) lt
+    ]
+
+class_number_fits : (classes : ℕ) (y : Option ℕ) → classes ≤ 256 → IfSome y (λ c. c < classes) → (class_or_none classes).Fits y
+class_number_fits classes None few h = (lit< tt, refl)
+class_number_fits classes (Some c) few h =
+    let lt : c < 0xffff = omega arith in
+    (omega arith, rw (eqb_below c 0xffff lt, index_is classes c h) refl)
+
+thing_in : (classes n : ℕ) (y : Thing) → thing_from classes n ≡ Ok y → ThingFits classes y
+thing_in classes n y e =
+    elim (took (eqb n 0xfffe) (Ok Message) (index_from classes n >>= λ c. Ok (Object c)) y e) [
+      | inl h ↦ subst (ThingFits classes) (ok_is Message y h.1) tt
+      | inr h ↦
+          let b = bind_ok (index_from classes n) (λ c. Ok (Object c)) y h.1 in
+          let i = index_returns classes n b.0 b.1 in
+          let lt : b.0 < classes = omega (arith, i.0, i.1) in
+          subst (ThingFits classes) (ok_is (Object b.0) y b.2) lt
+    ]
+
+thing_is : (classes : ℕ) (t : Thing) → classes ≤ 256 → ThingFits classes t → thing_from classes (thing_number t) ≡ Ok t
+thing_is classes (Object c) few h = let lt : c < 0xfffe = omega arith in rw (eqb_below c 0xfffe lt, index_is classes c h) refl
+thing_is classes Message few h = refl
+
+thing_small : (classes : ℕ) (t : Thing) → classes ≤ 256 → ThingFits classes t → thing_number t ≤ 0xfffe
+thing_small classes (Object c) few h = omega arith
+thing_small classes Message few h = lit≤ tt
+
+thing_number_fits : (classes : ℕ) (t : Thing) → classes ≤ 256 → ThingFits classes t → (thing classes).Fits t
+thing_number_fits classes t few h = (omega (arith, thing_small classes t few h), thing_is classes t few h)
+
+argument_in : (classes n : ℕ) (y : Argument) → argument_from classes n ≡ Ok y → ArgumentFits classes y
+argument_in classes n y e =
+    elim (took (eqb n 0xffff) (Ok arguments.Word) (thing_from classes n >>= λ t. Ok (arguments.Own t)) y e) [
+      | inl h ↦ subst (ArgumentFits classes) (ok_is arguments.Word y h.1) tt
+      | inr h ↦
+          let b = bind_ok (thing_from classes n) (λ t. Ok (arguments.Own t)) y h.1 in
+          subst (ArgumentFits classes) (ok_is (arguments.Own b.0) y b.2) (thing_in classes n b.0 b.1)
+    ]
+
+argument_number_fits : (classes : ℕ) (a : Argument) → classes ≤ 256 → ArgumentFits classes a → (argument classes).Fits a
+argument_number_fits classes arguments.Word few h = (lit< tt, refl)
+argument_number_fits classes (arguments.Own t) few h =
+    let small = thing_small classes t few h in
+    let lt : thing_number t < 0xffff = omega arith in
+    (omega arith, rw (eqb_below (thing_number t) 0xffff lt, thing_is classes t few h) refl)
+
+abbrev refused : Result Gives LoadFault
+refused = Err BadOperand
+
+refused_not : (y : Gives) → refused ≡ Ok y → ⊥
+refused_not y h = cc
+
+own_in : (classes n : ℕ) (make : Thing → Gives) (y : Gives) → ((t : Thing) → ThingFits classes t → GivesFits classes (make t))
+    → cond (eqb n 0xffff) (Err BadOperand) (thing_from classes n >>= λ t. Ok (make t)) ≡ Ok y → GivesFits classes y
+own_in classes n make y kept e =
+    elim (took (eqb n 0xffff) (Err BadOperand) (thing_from classes n >>= λ t. Ok (make t)) y e) [
+      | inl h ↦ absurd (refused_not y h.1)
+      | inr h ↦
+          let b = bind_ok (thing_from classes n) (λ t. Ok (make t)) y h.1 in
+          subst (GivesFits classes) (ok_is (make b.0) y b.2) (kept b.0 (thing_in classes n b.0 b.1))
+    ]
+
+gives_in : (classes sort n : ℕ) (y : Gives) → sort ≤ 4 → gives_from classes sort n ≡ Ok y → GivesFits classes y
+gives_in classes zero n y low e = subst (GivesFits classes) (guard_ok (eqb n 0xffff) BadOperand gives.Nothing y e).1 tt
+gives_in classes (suc zero) n y low e = subst (GivesFits classes) (guard_ok (eqb n 0xffff) BadOperand gives.Word y e).1 tt
+gives_in classes (suc (suc zero)) n y low e = own_in classes n (λ t. gives.Own t) y (λ t h. h) e
+gives_in classes (suc (suc (suc zero))) n y low e = own_in classes n (λ t. gives.Maybe t) y (λ t h. h) e
+gives_in classes (suc (suc (suc (suc zero)))) n y low e =
+    elim (took (leb 0xfffe n) (Err BadOperand) (index_from classes n >>= λ c. Ok (gives.Left c)) y e) [
+      | inl h ↦ absurd (refused_not y h.1)
+      | inr h ↦
+          let b = bind_ok (index_from classes n) (λ c. Ok (gives.Left c)) y h.1 in
+          let i = index_returns classes n b.0 b.1 in
+          let lt : b.0 < classes = omega (arith, i.0, i.1) in
+          subst (GivesFits classes) (ok_is (gives.Left b.0) y b.2) lt
+    ]
+gives_in classes (suc (suc (suc (suc (suc k))))) n y low e = absurd (omega arith)
+
+gives_number_fits : (classes : ℕ) (y : Gives) → classes ≤ 256 → GivesFits classes y → (result classes (gives_byte y)).Fits y
+gives_number_fits classes gives.Nothing few h = (lit< tt, refl)
+gives_number_fits classes gives.Word few h = (lit< tt, refl)
+gives_number_fits classes (gives.Own t) few h =
+    let small = thing_small classes t few h in
+    let lt : thing_number t < 0xffff = omega arith in
+    (omega arith, rw (eqb_below (thing_number t) 0xffff lt, thing_is classes t few h) refl)
+gives_number_fits classes (gives.Maybe t) few h =
+    let small = thing_small classes t few h in
+    let lt : thing_number t < 0xffff = omega arith in
+    (omega arith, rw (eqb_below (thing_number t) 0xffff lt, thing_is classes t few h) refl)
+gives_number_fits classes (gives.Left c) few h =
+    let lt : c < 0xfffe = omega arith in
+    (omega arith, rw (leb_below c 0xfffe lt, index_is classes c h) refl)
+
+-- ---- classes
+
+provider_in : (natives : ℕ) (p : Provider) → (provider natives).Fits p → ProviderFits natives p
+provider_in natives providers.Own f = tt
+provider_in natives providers.Timer f = tt
+provider_in natives (providers.Native n) f = ltb-true n natives f.0.1.1
+
+provider_fits : (natives : ℕ) (p : Provider) → natives ≤ 16 → ProviderFits natives p → (provider natives).Fits p
+provider_fits natives providers.Own few h = (((lit< tt, refl), (lit< tt, refl)), refl)
+provider_fits natives providers.Timer few h = (((lit< tt, refl), (lit< tt, refl)), refl)
+provider_fits natives (providers.Native n) few h = (((lit< tt, refl), (omega arith, lt-ltb n natives h)), refl)
+
+kind_in : (classes natives : ℕ) (k : ClassKind) → (purpose classes natives (kind_byte k)).Fits (purpose_of k) → (closing (purpose_of k)).Fits k → KindFits classes natives k
+kind_in classes natives kinds.Plain f g = tt
+kind_in classes natives (kinds.Active p budget) f g = (provider_in natives p f.0.0, g.0)
+kind_in classes natives (kinds.Server sessions session budget) f g =
+    let low = between_true 1 64 sessions f.0.0.1 in
+    (low.0, low.1, (index_returns classes session session f.0.1.1).1, g.0)
+kind_in classes natives kinds.Session f g = tt
+
+purpose_fits : (classes natives : ℕ) (k : ClassKind) → classes ≤ 256 → natives ≤ 16 → KindFits classes natives k → (purpose classes natives (kind_byte k)).Fits (purpose_of k)
+purpose_fits classes natives kinds.Plain few some_natives h = (tt, refl)
+purpose_fits classes natives (kinds.Active p budget) few some_natives h = ((provider_fits natives p some_natives h.0, tt), refl)
+purpose_fits classes natives (kinds.Server sessions session budget) few some_natives h =
+    let lt : session < classes = h.2 in
+    ((limited_byte_fits 1 64 sessions (lit< tt) h.0 h.1, (omega arith, index_is classes session lt)), refl)
+purpose_fits classes natives kinds.Session few some_natives h = (tt, refl)
+
+closing_fits : (classes natives : ℕ) (k : ClassKind) → KindFits classes natives k → (closing (purpose_of k)).Fits k
+closing_fits classes natives kinds.Plain h = (tt, refl)
+closing_fits classes natives (kinds.Active p budget) h = (h.1, refl)
+closing_fits classes natives (kinds.Server sessions session budget) h = (h.3, refl)
+closing_fits classes natives kinds.Session h = (tt, refl)
+
+class_in_range : (classes natives servers : ℕ) (c : ClassDecl) → (class classes natives servers).Fits c → ClassFits classes natives c
+class_in_range classes natives servers c f = record {
+  kind = kind_in classes natives c.kind f.0.1.1.1.0 f.0.1.1.1.1.1;
+  words = (between_true 0 8 c.words f.0.1.0.1).1;
+  field_count = (between_true 0 8 (length c.fields) f.0.1.1.0.1).1;
+  fields = each (thing classes).Fits (ThingFits classes) c.fields (λ t h. thing_in classes (thing_number t) t h.1) (all_fit (thing classes) (length c.fields) c.fields f.0.1.1.1.1.0);
+}
+
+-- a server stands after seven at most
+abbrev first_ok : ℕ → ClassKind → Bool
+first_ok servers k = cond (eqb (kind_byte k) 2) (ltb servers 8) true
+
+first_fits : (servers : ℕ) (k : ClassKind) → (is_server_kind k ≡ true → servers < 8) → first_ok servers k ≡ true
+first_fits servers kinds.Plain h = refl
+first_fits servers (kinds.Active p budget) h = refl
+first_fits servers (kinds.Server sessions session budget) h = lt-ltb servers 8 (h refl)
+first_fits servers kinds.Session h = refl
+
+first_in : (servers : ℕ) (k : ClassKind) → first_ok servers k ≡ true → is_server_kind k ≡ true → servers < 8
+first_in servers kinds.Plain h is = absurd cc
+first_in servers (kinds.Active p budget) h is = absurd cc
+first_in servers (kinds.Server sessions session budget) h is = ltb-true servers 8 h
+first_in servers kinds.Session h is = absurd cc
+
+kind_sort_fits : (servers : ℕ) (k : ClassKind) → first_ok servers k ≡ true → (kind_sort servers).Fits (kind_byte k)
+kind_sort_fits servers kinds.Plain h = ((lit< tt, refl), h)
+kind_sort_fits servers (kinds.Active p budget) h = ((lit< tt, refl), h)
+kind_sort_fits servers (kinds.Server sessions session budget) h = ((lit< tt, refl), h)
+kind_sort_fits servers kinds.Session h = ((lit< tt, refl), h)
+
+class_fits : (classes natives servers : ℕ) (c : ClassDecl) → classes ≤ 256 → natives ≤ 16 → first_ok servers c.kind ≡ true → ClassFits classes natives c → (class classes natives servers).Fits c
+class_fits classes natives servers c few some_natives first h = (
+  (
+    kind_sort_fits servers c.kind first,
+    (
+      limited_byte_fits 0 8 c.words (lit< tt) (omega arith) h.words,
+      (
+        limited_byte_fits 0 8 (length c.fields) (lit< tt) (omega arith) h.field_count,
+        (
+          purpose_fits classes natives c.kind few some_natives h.kind,
+          (
+            fit_all (thing classes) c.fields (each (ThingFits classes) (thing classes).Fits c.fields (λ t k. thing_number_fits classes t few k) h.fields),
+            closing_fits classes natives c.kind h.kind,
+          ),
+        ),
+      ),
+    ),
+  ),
+  refl,
+)
+
+-- one more server, or none
+next_low : (b : Bool) (servers : ℕ) → servers ≤ 8 → (b ≡ true → servers < 8) → cond b (servers + 1) servers ≤ 8
+next_low true servers low h = let lt : servers < 8 = h refl in omega arith
+next_low false servers low h = low
+
+next_is : (b : Bool) (servers : ℕ) → cond b (servers + 1) servers ≡ servers + cond b 1 0
+next_is true servers = refl
+next_is false servers = omega arith
+
+count-cons : (c : ClassDecl) (cs : List ClassDecl) → count_by is_server (c ∷ cs) ≡ cond (is_server c) 1 0 + count_by is_server cs
+count-cons c cs = sum_by-cons (λ x. cond (is_server x) 1 0) c cs
+
+classes_in : (classes natives n servers : ℕ) (cs : List ClassDecl) → servers ≤ 8 → FitMany (class classes natives) count_server servers n cs
+    → All (ClassFits classes natives) cs × (servers + count_by is_server cs ≤ 8)
+classes_in classes natives zero servers [] low f = (All-nil (ClassFits classes natives), omega arith)
+classes_in classes natives (suc n) servers [] low f = absurd f
+classes_in classes natives zero servers (c ∷ cs) low f = absurd f
+classes_in classes natives (suc n) servers (c ∷ cs) low f =
+    let first = first_in servers c.kind f.0.0.0.1 in
+    let rest = classes_in classes natives n (count_server servers c) cs (next_low (is_server c) servers low first) f.1 in (
+      All-cons (ClassFits classes natives) c cs (class_in_range classes natives servers c f.0) rest.0,
+      omega (arith, rest.1, next_is (is_server c) servers, count-cons c cs),
+    )
+
+some_server : (b : Bool) (servers n : ℕ) → servers + (cond b 1 0 + n) ≤ 8 → b ≡ true → servers < 8
+some_server true servers n h is = omega arith
+some_server false servers n h is = absurd cc
+
+classes_fit : (classes natives servers : ℕ) (cs : List ClassDecl) → classes ≤ 256 → natives ≤ 16 → All (ClassFits classes natives) cs → servers + count_by is_server cs ≤ 8
+    → FitMany (class classes natives) count_server servers (length cs) cs
+classes_fit classes natives servers [] few some_natives h low = tt
+classes_fit classes natives servers (c ∷ cs) few some_natives h low =
+    let count = count-cons c cs in
+    let next = next_is (is_server c) servers in (
+      class_fits classes natives servers c few some_natives (first_fits servers c.kind (some_server (is_server c) servers (count_by is_server cs) (omega arith))) (head_of (ClassFits classes natives) c cs h),
+      classes_fit classes natives (count_server servers c) cs few some_natives (rest_of (ClassFits classes natives) c cs h) (omega arith),
+    )
+
+-- ---- methods
+
+role_fits : (r : Role) → role.Fits r
+role_fits roles.Do = (lit< tt, refl)
+role_fits roles.Main = (lit< tt, refl)
+role_fits roles.Construct = (lit< tt, refl)
+role_fits roles.Destruct = (lit< tt, refl)
+role_fits roles.Run = (lit< tt, refl)
+role_fits roles.Cancel = (lit< tt, refl)
+role_fits roles.Error = (lit< tt, refl)
+role_fits roles.Accept = (lit< tt, refl)
+role_fits roles.Service = (lit< tt, refl)
+role_fits roles.Undo = (lit< tt, refl)
+
+flags_fits : (f : MethodFlags) → f.0 < 4 → flags.Fits f
+flags_fits f h = (omega arith, ap (λ b. cond b (okay f) (Err BadOperand)) (lt-ltb f.0 4 h))
+  where
+    okay : MethodFlags → Result MethodFlags LoadFault
+    okay k = Ok k
+
+states_fits : (s : States) → s.0 < 64 → states.Fits s
+states_fits s h = (omega arith, ap (λ b. cond b (okay s) (Err BadOperand)) (lt-ltb s.0 64 h))
+  where
+    okay : States → Result States LoadFault
+    okay k = Ok k
+
+flags_in : (f : MethodFlags) → flags.Fits f → f.0 < 4
+flags_in f h = ltb-true f.0 4 (guard_ok (ltb f.0 4) BadOperand (record { 0 = f.0 }) f h.1).0
+
+states_in : (s : States) → states.Fits s → s.0 < 64
+states_in s h = ltb-true s.0 64 (guard_ok (ltb s.0 64) BadOperand (record { 0 = s.0 }) s h.1).0
+
+gives_small : (g : Gives) → gives_byte g ≤ 4
+gives_small gives.Nothing = lit≤ tt
+gives_small gives.Word = lit≤ tt
+gives_small (gives.Own t) = lit≤ tt
+gives_small (gives.Maybe t) = lit≤ tt
+gives_small (gives.Left c) = lit≤ tt
+
+method_in_range : (classes methods : ℕ) (m : Method) → (method classes methods).Fits m → MethodFits classes methods m
+method_in_range classes methods m f =
+    let l = limits classes methods (length m.code) in
+    let places = between_true 1 1024 (length m.code) f.0.1.1.1.1.1.1.1.1.1.0.1 in
+    record {
+      class = class_in classes (class_number m.class) m.class f.0.0.1;
+      flags = flags_in m.flags f.0.1.1.0;
+      before = states_in m.before f.0.1.1.1.0;
+      after = states_in m.after f.0.1.1.1.1.0;
+      argument_count = (between_true 0 6 (length m.arguments) f.0.1.1.1.1.1.0.1).1;
+      arguments = each (argument classes).Fits (ArgumentFits classes) m.arguments (λ a h. argument_in classes (argument_number a) a h.1)
+          (all_fit (argument classes) (length m.arguments) m.arguments f.0.1.1.1.1.1.1.1.0);
+      gives = gives_in classes (gives_byte m.gives) (result_number m.gives) m.gives (gives_small m.gives) f.0.1.1.1.1.1.1.1.1.0.1;
+      some_code = places.0;
+      code_length = places.1;
+      code = each (instruction l).Fits (InstrFits l) m.code (λ i h. in_range l i h) (all_fit (instruction l) (length m.code) m.code f.0.1.1.1.1.1.1.1.1.1.1);
+    }
+
+method_fits : (classes methods : ℕ) (m : Method) → classes ≤ 256 → methods ≤ 1024 → MethodFits classes methods m → (method classes methods).Fits m
+method_fits classes methods m few some_methods h =
+    let l = limits classes methods (length m.code) in
+    let bounded : Bounded l = record { classes = few; methods = some_methods; places = h.code_length } in
+    let small = gives_small m.gives in (
+      (
+        class_number_fits classes m.class few h.class,
+        (
+          role_fits m.role,
+          (
+            flags_fits m.flags h.flags,
+            (
+              states_fits m.before h.before,
+              (
+                states_fits m.after h.after,
+                (
+                  limited_byte_fits 0 6 (length m.arguments) (lit< tt) (omega arith) h.argument_count,
+                  (
+                    (omega arith, between_is 0 4 (gives_byte m.gives) (omega arith) small),
+                    (
+                      fit_all (argument classes) m.arguments (each (ArgumentFits classes) (argument classes).Fits m.arguments (λ a k. argument_number_fits classes a few k) h.arguments),
+                      (
+                        gives_number_fits classes m.gives few h.gives,
+                        (
+                          limited_pair_fits 1 1024 (length m.code) (lit< tt) h.some_code h.code_length,
+                          fit_all (instruction l) m.code (each (InstrFits l) (instruction l).Fits m.code (λ i k. fits l i bounded k) h.code),
+                        ),
+                      ),
+                    ),
+                  ),
+                ),
+              ),
+            ),
+          ),
+        ),
+      ),
+      refl,
+    )
+
+-- ---- the whole
+
+pub image_in_range : (i : Image) → image.Fits i → HeaderFits (length i.classes) i.header × (ClassesFit i.header.natives i.classes × MethodsFit (length i.classes) i.methods)
+image_in_range i f =
+    let o = f.0.0.0 in
+    let classes = length i.classes in
+    let methods = length i.methods in
+    let cs = classes_in classes i.header.natives classes 0 i.classes (omega arith) f.0.1.0 in (
+      record {
+        cells = (between_true 0 4096 i.header.cells o.1.1.0.1).1;
+        messages = (between_true 0 1024 i.header.messages o.1.1.1.0.1).1;
+        natives = (between_true 0 16 i.header.natives o.1.1.1.1.0.1).1;
+        root = class_in classes (class_number i.header.root) i.header.root o.1.1.1.1.1.0.1;
+        budget = o.1.1.1.1.1.1;
+      },
+      (
+        record { count = (between_true 0 256 classes o.0.1).1; each = cs.0; servers = omega (arith, cs.1) },
+        record {
+          some = (between_true 1 1024 methods o.1.0.1).0;
+          count = (between_true 1 1024 methods o.1.0.1).1;
+          each = each (method classes methods).Fits (MethodFits classes methods) i.methods (λ m h. method_in_range classes methods m h) (all_fit (method classes methods) methods i.methods f.0.1.1);
+        },
+      ),
+    )
+
+pub image_fits : (i : Image) → HeaderFits (length i.classes) i.header → ClassesFit i.header.natives i.classes → MethodsFit (length i.classes) i.methods → image.Fits i
+image_fits i header cs ms =
+    let classes = length i.classes in
+    let methods = length i.methods in (
+      (
+        (
+          (
+            limited_pair_fits 0 256 classes (lit< tt) (omega arith) cs.count,
+            (
+              limited_pair_fits 1 1024 methods (lit< tt) ms.some ms.count,
+              (
+                limited_pair_fits 0 4096 i.header.cells (lit< tt) (omega arith) header.cells,
+                (
+                  limited_pair_fits 0 1024 i.header.messages (lit< tt) (omega arith) header.messages,
+                  (
+                    limited_byte_fits 0 16 i.header.natives (lit< tt) (omega arith) header.natives,
+                    (
+                      class_number_fits classes i.header.root cs.count header.root,
+                      header.budget,
+                    ),
+                  ),
+                ),
+              ),
+            ),
+          ),
+          refl,
+        ),
+        (
+          classes_fit classes i.header.natives 0 i.classes cs.count header.natives cs.each (omega (arith, cs.servers)),
+          fit_all (method classes methods) i.methods (each (MethodFits classes methods) (method classes methods).Fits i.methods (λ m k. method_fits classes methods m cs.count ms.count k) ms.each),
+        ),
+      ),
+      refl,
+    )

@@ -1,0 +1,298 @@
+-- The two laws of each format of an image, from those of its parts.
+use Rattle.std.proofs.Common.{◌≡◌, ℕ, zero, suc, ◌-◌, ◌<◌, ◌≤◌, Bool, true, false, cond, eqb, ltb, leb, List, [], ◌∷◌, length, Option, Some, None, Ok, is_some, refl, sym, ap, ◌∙◌, arith, eqb-true, lit<, ◌&&◌}
+use Rattle.std.proofs.lemmas.Bool.{leb-true, le-leb}
+use Rattle.aom_image.specs.Image.{Image}
+use Rattle.aom_codec.specs.Raw.{raw}
+use Rattle.aom_codec.specs.declared.raw.Raw.{Raw}
+use Rattle.aom_codec.specs.Rows.{Row, Small, Large, lookup}
+use Rattle.aom_codec.specs.Words.{words_raw, words_table}
+use Rattle.aom_codec.specs.Spelling.{gives_byte, result_number, kind_byte, budget_of}
+use Rattle.aom_codec.specs.Codec.{Codec, byte, pair, quad, fixed, always, keep, FitMany, unused, is_between, limited}
+use Rattle.aom_codec.specs.Instructions.{small, large, row_operands, row_or, row_of, raw_parts, instruction}
+use Rattle.aom_codec.specs.Spelling.{provider_sort, native_number}
+use Rattle.aom_image.specs.WellFormed.{limits}
+use Rattle.aom_codec.specs.Format.{class_or_none, thing, argument, opening_fields, opening, provider_from, provider, no_session, bare, session_class, active_part, active_provider, server_part, server_numbers, purpose, closing, purpose_of, kind_sort, class_parts, class, count_server, role, flags, states, result_sort, gives_from, result, method_parts, method, image_parts, opening_of, image}
+use Rattle.aom_codec.specs.declared.fault.LoadFault.{LoadFault}
+use Rattle.aom_codec.specs.declared.fault.LoadFault.TheVariants.{BadMagic, BadVersion, LimitPassed, NotZero}
+use Rattle.aom_image.specs.declared.limits.Limits.{Limits}
+use Rattle.aom_codec.specs.declared.header.Opening.{Opening}
+use Rattle.aom_image.specs.declared.class.ClassDecl.{ClassDecl}
+use Rattle.aom_image.specs.declared.class.ClassKind.{ClassKind}
+use Rattle.aom_image.specs.declared.class.ClassKind.TheVariants as kinds
+use Rattle.aom_image.specs.declared.class.Provider.{Provider}
+use Rattle.aom_codec.specs.declared.class_reader.Purpose.{Purpose}
+use Rattle.aom_codec.specs.declared.class_reader.Purpose.TheVariants as purposes
+use Rattle.aom_image.specs.declared.method.Method.{Method}
+use Rattle.aom_image.specs.declared.method.Gives.{Gives}
+use Rattle.aom_image.specs.declared.instr.Instr.{Instr}
+use Rattle.aom_codec.proofs.Laws.{IsCodec, ok_is, of_byte, of_pair, of_quad, of_fixed, of_checked, of_next, of_after, of_seen, of_choose, of_many_from, of_many, of_unused, unused_fits}
+use Rattle.aom_codec.proofs.Returning.{index_returns, class_returns, thing_returns, argument_returns, role_returns, flags_returns, states_returns, gives_returns, result_number_returns}
+use Rattle.aom_codec.proofs.Opcodes.{lookup_ok, words_rows}
+
+-- ---- numbers that name things
+
+class_or_none_laws : (classes : ℕ) → IsCodec (class_or_none classes)
+class_or_none_laws classes = of_seen _ _ pair (record { at = λ x y fits e. class_returns classes x y e }) of_pair
+
+thing_laws : (classes : ℕ) → IsCodec (thing classes)
+thing_laws classes = of_seen _ _ pair (record { at = λ x y fits e. thing_returns classes x y e }) of_pair
+
+argument_laws : (classes : ℕ) → IsCodec (argument classes)
+argument_laws classes = of_seen _ _ pair (record { at = λ x y fits e. argument_returns classes x y e }) of_pair
+
+limited_laws : (c : Codec ℕ) (low high : ℕ) → IsCodec c → IsCodec (limited c low high)
+limited_laws c low high laws = of_checked c (is_between low high) LimitPassed laws
+
+fixed_byte_laws : (n : ℕ) (fault : LoadFault) → n < 256 → IsCodec (fixed byte n fault)
+fixed_byte_laws n fault lt = of_fixed byte n fault of_byte lt
+
+fixed_pair_laws : (n : ℕ) (fault : LoadFault) → n < 65536 → IsCodec (fixed pair n fault)
+fixed_pair_laws n fault lt = of_fixed pair n fault of_pair lt
+
+fixed_quad_laws : (n : ℕ) (fault : LoadFault) → n < 4294967296 → IsCodec (fixed quad n fault)
+fixed_quad_laws n fault lt = of_fixed quad n fault of_quad lt
+
+-- ---- header
+
+opening_laws : IsCodec opening
+opening_laws = of_seen _ _ opening_fields
+    (record { at = λ x y fits e. ap (λ (o : Opening). (o.classes, (o.methods, (o.header.cells, (o.header.messages, (o.header.natives, (o.header.root, o.header.budget))))))) (sym (ok_is _ y e)) })
+    (of_after (fixed quad 0x414f494d BadMagic) _ tt (fixed_quad_laws _ _ (lit< tt))
+    (of_after (fixed pair 1 BadVersion) _ tt (fixed_pair_laws _ _ (lit< tt))
+    (of_next _ _ (limited_laws pair 0 256 of_pair) (λ classes.
+    of_next _ _ (limited_laws pair 1 1024 of_pair) (λ _.
+    of_next _ _ (limited_laws pair 0 4096 of_pair) (λ _.
+    of_next _ _ (limited_laws pair 0 1024 of_pair) (λ _.
+    of_next _ _ (limited_laws byte 0 16 of_byte) (λ _.
+    of_after (fixed byte 0 NotZero) _ tt (fixed_byte_laws _ _ (lit< tt))
+    (of_next _ _ (class_or_none_laws classes) (λ _.
+    of_after (fixed pair 0 NotZero) _ tt (fixed_pair_laws _ _ (lit< tt)) of_quad))))))))))
+
+-- ---- classes
+
+pair_is : {A B : Type 0} {a a1 : A} {b b1 : B} → a ≡ a1 → b ≡ b1 → ◌≡◌ {A = A × B} (a, b) (a1, b1)
+pair_is p q = cc
+
+provider_back : (natives sort n : ℕ) → sort ≤ 2 → cond (eqb sort 2) (ltb n natives) (eqb n 0) ≡ true
+    → ◌≡◌ {A = ℕ × ℕ} (provider_sort (provider_from sort n), native_number (provider_from sort n)) (sort, n)
+provider_back natives zero n low h = pair_is refl (sym (eqb-true n 0 h))
+provider_back natives (suc zero) n low h = pair_is refl (sym (eqb-true n 0 h))
+provider_back natives (suc (suc zero)) n low h = refl
+provider_back natives (suc (suc (suc k))) n low h = absurd (omega arith)
+
+pub and_true : (a b : Bool) → (a && b) ≡ true → (a ≡ true) × (b ≡ true)
+and_true true b h = (refl, h)
+and_true false b h = absurd cc
+
+pub between_true : (low high n : ℕ) → is_between low high n ≡ true → (low ≤ n) × (n ≤ high)
+between_true low high n h = let p = and_true (leb low n) (leb n high) h in (leb-true _ _ p.0, leb-true _ _ p.1)
+
+pub between_is : (low high n : ℕ) → low ≤ n → n ≤ high → is_between low high n ≡ true
+between_is low high n p q = ap (λ b. b && leb n high) (le-leb low n p) ∙ le-leb n high q
+
+provider_laws : (natives : ℕ) → IsCodec (provider natives)
+provider_laws natives = of_seen _ _ _
+    (record {
+      at = λ x y fits e.
+          ap (λ (p : Provider). (provider_sort p, native_number p)) (sym (ok_is _ y e))
+          ∙ provider_back natives x.0 x.1 (between_true 0 2 x.0 fits.0.1).1 fits.1.1;
+    })
+    (of_next _ _ (of_checked _ _ _ of_byte) (λ sort. of_checked _ _ _ of_byte))
+
+no_session_laws : IsCodec no_session
+no_session_laws = fixed_pair_laws _ _ (lit< tt)
+
+bare_laws : IsCodec bare
+bare_laws = of_after (unused 3 byte NotZero) _ (unused_fits 3 byte NotZero) (of_unused 3 byte NotZero of_byte (lit< tt)) no_session_laws
+
+session_class_laws : (classes : ℕ) → IsCodec (session_class classes)
+session_class_laws classes = of_seen _ _ pair (record { at = λ x y fits e. (index_returns classes x y e).0 }) of_pair
+
+active_part_laws : (natives : ℕ) → IsCodec (active_part natives)
+active_part_laws natives = of_next _ _ (provider_laws natives) (λ _. of_after (fixed byte 0 NotZero) _ tt (fixed_byte_laws _ _ (lit< tt)) no_session_laws)
+
+server_part_laws : (classes : ℕ) → IsCodec (server_part classes)
+server_part_laws classes =
+    of_after (fixed byte 0 NotZero) _ tt (fixed_byte_laws _ _ (lit< tt))
+    (of_next _ _ (limited_laws byte 1 64 of_byte) (λ _. of_after (fixed byte 0 NotZero) _ tt (fixed_byte_laws _ _ (lit< tt)) (session_class_laws classes)))
+
+abbrev active_only : Purpose → Provider × Unit {0}
+active_only q = (active_provider q, tt)
+
+purpose_laws : (classes natives sort : ℕ) → IsCodec (purpose classes natives sort)
+purpose_laws classes natives sort =
+    of_choose (eqb sort 0) _ _ (of_seen (λ _. Ok purposes.Plain) (λ _. tt) bare (record { at = λ x y fits e. refl }) bare_laws)
+    (of_choose (eqb sort 1) _ _ (of_seen (λ p. Ok (purposes.Active p.0)) (λ q. (active_provider q, tt)) (active_part natives)
+    (record { at = λ x y fits e. ap active_only (sym (ok_is (purposes.Active x.0) y e)) }) (active_part_laws natives))
+    (of_choose (eqb sort 2) _ _ (of_seen (λ p. Ok (purposes.Server p.0 p.1)) server_numbers (server_part classes)
+    (record { at = λ x y fits e. ap server_numbers (sym (ok_is (purposes.Server x.0 x.1) y e)) }) (server_part_laws classes))
+    (of_seen (λ _. Ok purposes.Session) (λ _. tt) bare (record { at = λ x y fits e. refl }) bare_laws)))
+
+closing_laws : (p : Purpose) → IsCodec (closing p)
+closing_laws purposes.Plain = of_seen (λ _. Ok kinds.Plain) (λ _. tt) (fixed quad 0 NotZero) (record { at = λ x y fits e. refl }) (fixed_quad_laws _ _ (lit< tt))
+closing_laws (purposes.Active p) = of_seen _ _ quad (record { at = λ x y fits e. ap budget_of (sym (ok_is _ y e)) }) of_quad
+closing_laws (purposes.Server sessions session) = of_seen _ _ quad (record { at = λ x y fits e. ap budget_of (sym (ok_is _ y e)) }) of_quad
+closing_laws purposes.Session = of_seen (λ _. Ok kinds.Session) (λ _. tt) (fixed quad 0 NotZero) (record { at = λ x y fits e. refl }) (fixed_quad_laws _ _ (lit< tt))
+
+kind_sort_laws : (servers : ℕ) → IsCodec (kind_sort servers)
+kind_sort_laws servers = of_checked _ _ _ (of_checked _ _ _ of_byte)
+
+class_parts_laws : (classes natives servers : ℕ) → IsCodec (class_parts classes natives servers)
+class_parts_laws classes natives servers =
+    of_next _ _ (kind_sort_laws servers) (λ sort.
+    of_next _ _ (limited_laws byte 0 8 of_byte) (λ _.
+    of_next _ _ (limited_laws byte 0 8 of_byte) (λ count.
+    of_next _ _ (purpose_laws classes natives sort) (λ p.
+    of_next _ _ (of_many count (thing classes) (thing_laws classes)) (λ _.
+    of_after (unused (8 - count) pair NotZero) _ (unused_fits (8 - count) pair NotZero) (of_unused (8 - count) pair NotZero of_pair (lit< tt))
+    (closing_laws p))))))
+
+-- what was read before the budget is what the kind says
+closing_fits : (p : Purpose) (k : ClassKind) → (closing p).Fits k → purpose_of k ≡ p
+closing_fits purposes.Plain k fits = ap purpose_of (sym (ok_is _ k fits.1))
+closing_fits (purposes.Active p) k fits = ap purpose_of (sym (ok_is _ k fits.1))
+closing_fits (purposes.Server sessions session) k fits = ap purpose_of (sym (ok_is _ k fits.1))
+closing_fits purposes.Session k fits = ap purpose_of (sym (ok_is _ k fits.1))
+
+purpose_byte : Purpose → ℕ
+purpose_byte purposes.Plain = 0
+purpose_byte (purposes.Active p) = 1
+purpose_byte (purposes.Server sessions session) = 2
+purpose_byte purposes.Session = 3
+
+purpose_byte-of : (k : ClassKind) → purpose_byte (purpose_of k) ≡ kind_byte k
+unfolding purpose_byte
+purpose_byte-of kinds.Plain = refl
+purpose_byte-of (kinds.Active p budget) = refl
+purpose_byte-of (kinds.Server sessions session budget) = refl
+purpose_byte-of kinds.Session = refl
+
+purpose_fits : (classes natives sort : ℕ) (p : Purpose) → sort ≤ 3 → (purpose classes natives sort).Fits p → purpose_byte p ≡ sort
+unfolding purpose_byte
+purpose_fits classes natives zero p small fits = ap purpose_byte (sym (ok_is _ p fits.1))
+purpose_fits classes natives (suc zero) p small fits = ap purpose_byte (sym (ok_is _ p fits.1))
+purpose_fits classes natives (suc (suc zero)) p small fits = ap purpose_byte (sym (ok_is _ p fits.1))
+purpose_fits classes natives (suc (suc (suc zero))) p small fits = ap purpose_byte (sym (ok_is _ p fits.1))
+purpose_fits classes natives (suc (suc (suc (suc n)))) p small fits = absurd (omega arith)
+
+pub many_length : {S X : Type 0} (c : S → Codec X) (add : S → X → S) (s : S) (n : ℕ) (xs : List X) → FitMany c add s n xs → length xs ≡ n
+many_length c add s zero [] fits = refl
+many_length c add s (suc n) [] fits = absurd fits
+many_length c add s zero (x ∷ xs) fits = absurd fits
+many_length c add s (suc n) (x ∷ xs) fits = omega (arith, many_length c add (add s x) n xs fits.1)
+
+class_laws : (classes natives servers : ℕ) → IsCodec (class classes natives servers)
+class_laws classes natives servers = of_seen _ _ (class_parts classes natives servers)
+    (record {
+      at = λ x y fits e.
+          let small : x.0 ≤ 3 = (between_true 0 3 x.0 fits.0.0.1).1 in
+          let purpose_is = closing_fits x.1.1.1.0 x.1.1.1.1.1 fits.1.1.1.1.1 in
+          let sort_is : kind_byte x.1.1.1.1.1 ≡ x.0 = sym (purpose_byte-of x.1.1.1.1.1) ∙ ap purpose_byte purpose_is ∙ purpose_fits classes natives x.0 x.1.1.1.0 small fits.1.1.1.0 in
+          let count_is = many_length (always (thing classes)) keep tt x.1.1.0 x.1.1.1.1.0 fits.1.1.1.1.0 in
+          ap (λ (c : ClassDecl). (kind_byte c.kind, (c.words, (length c.fields, (purpose_of c.kind, (c.fields, c.kind)))))) (sym (ok_is _ y e))
+          ∙ pair_is sort_is (pair_is refl (pair_is count_is (pair_is purpose_is refl)));
+    })
+    (class_parts_laws classes natives servers)
+
+-- ---- instructions
+
+small_laws : (k : Small) → IsCodec (small k)
+small_laws k = of_checked _ _ _ of_byte
+
+large_laws : (l : Limits) (k : Large) → IsCodec (large l k)
+large_laws l k = of_checked _ _ _ of_quad
+
+row_laws : (l : Limits) (r : Row) → IsCodec (row_operands l r)
+row_laws l r = of_next _ _ (small_laws r.a) (λ _. of_next _ _ (small_laws r.b) (λ _. of_next _ _ (small_laws r.c) (λ _. large_laws l r.d)))
+
+there_is : (n : ℕ) (o : Option Row) → is_some o ≡ true → o ≡ Some (row_or o)
+there_is n None h = absurd cc
+there_is n (Some r) h = refl
+
+parts_again : (r : Raw) (n a b c d : ℕ) → r ≡ raw n a b c d → raw_parts r ≡ (n, (a, (b, (c, d))))
+parts_again r n a b c d e = ap raw_parts e
+
+instruction_laws : (l : Limits) → IsCodec (instruction l)
+instruction_laws l = of_seen _ _ _
+    (record {
+      at = λ x y fits e.
+          let ok = lookup_ok x.0 words_table words_rows (row_of x.0) (there_is x.0 (lookup x.0 words_table) fits.0.1) in
+          let made_is = ok.at l x.1.0 x.1.1.0 x.1.1.1.0 x.1.1.1.1 fits.1.0.1 fits.1.1.0.1 fits.1.1.1.0.1 fits.1.1.1.1.0 fits.1.1.1.1.1 in
+          ap (λ (i : Instr). raw_parts (words_raw i)) (sym (ok_is _ y e)) ∙ parts_again _ x.0 x.1.0 x.1.1.0 x.1.1.1.0 x.1.1.1.1 made_is;
+    })
+    (of_next _ _ (of_checked _ _ _ of_byte) (λ n. row_laws l (row_of n)))
+
+-- ---- methods
+
+role_laws : IsCodec role
+role_laws = of_seen _ _ byte (record { at = λ x y fits e. role_returns x y e }) of_byte
+
+flags_laws : IsCodec flags
+flags_laws = of_seen _ _ byte (record { at = λ x y fits e. flags_returns x y e }) of_byte
+
+states_laws : IsCodec states
+states_laws = of_seen _ _ byte (record { at = λ x y fits e. states_returns x y e }) of_byte
+
+result_sort_laws : IsCodec result_sort
+result_sort_laws = of_checked _ _ _ of_byte
+
+-- for a kind from 0 to 4
+result_returns : (classes sort n : ℕ) (y : Gives) → gives_from classes sort n ≡ Ok y → result_number y ≡ n
+result_returns classes sort n y e = result_number_returns classes sort n y e
+
+result_laws : (classes sort : ℕ) → IsCodec (result classes sort)
+result_laws classes sort = of_seen _ _ pair (record { at = λ x y fits e. result_returns classes sort x y e }) of_pair
+
+method_parts_laws : (classes methods : ℕ) → IsCodec (method_parts classes methods)
+method_parts_laws classes methods =
+    of_next _ _ (class_or_none_laws classes) (λ _.
+    of_next _ _ role_laws (λ _.
+    of_next _ _ flags_laws (λ _.
+    of_next _ _ states_laws (λ _.
+    of_next _ _ states_laws (λ _.
+    of_next _ _ (limited_laws byte 0 6 of_byte) (λ count.
+    of_next _ _ result_sort_laws (λ sort.
+    of_next _ _ (of_many count (argument classes) (argument_laws classes)) (λ _.
+    of_after (unused (6 - count) pair NotZero) _ (unused_fits (6 - count) pair NotZero) (of_unused (6 - count) pair NotZero of_pair (lit< tt))
+    (of_next _ _ (result_laws classes sort) (λ _.
+    of_next _ _ (limited_laws pair 1 1024 of_pair) (λ places.
+    of_many places (instruction (limits classes methods places)) (instruction_laws (limits classes methods places)))))))))))))
+
+method_laws : (classes methods : ℕ) → IsCodec (method classes methods)
+method_laws classes methods = of_seen _ _ (method_parts classes methods)
+    (record {
+      at = λ x y fits e.
+          let sort = x.1.1.1.1.1.1.0 in
+          let gives = x.1.1.1.1.1.1.1.1.0 in
+          let small : sort ≤ 4 = (between_true 0 4 sort fits.1.1.1.1.1.1.0.1).1 in
+          let sort_is = (gives_returns classes sort (result_number gives) gives small fits.1.1.1.1.1.1.1.1.0.1).1 in
+          let count_is = many_length (always (argument classes)) keep tt x.1.1.1.1.1.0 x.1.1.1.1.1.1.1.0 fits.1.1.1.1.1.1.1.0 in
+          let places = x.1.1.1.1.1.1.1.1.1.0 in
+          let places_is = many_length (always (instruction (limits classes methods places))) keep tt places x.1.1.1.1.1.1.1.1.1.1 fits.1.1.1.1.1.1.1.1.1.1 in
+          ap (λ (m : Method). (m.class, (m.role, (m.flags, (m.before, (m.after, (length m.arguments, (gives_byte m.gives, (m.arguments, (m.gives, (length m.code, m.code))))))))))) (sym (ok_is _ y e))
+          ∙ pair_is refl (pair_is refl (pair_is refl (pair_is refl (pair_is refl (pair_is count_is (pair_is sort_is (pair_is refl (pair_is refl (pair_is places_is refl)))))))));
+    })
+    (method_parts_laws classes methods)
+
+-- ---- the whole
+
+image_parts_laws : IsCodec image_parts
+image_parts_laws =
+    of_next _ _ opening_laws (λ o.
+    of_next _ _ (of_many_from (class o.classes o.header.natives) count_server (class_laws o.classes o.header.natives) o.classes 0) (λ _.
+    of_many o.methods (method o.classes o.methods) (method_laws o.classes o.methods)))
+
+opening_again : (o : Opening) (classes methods : ℕ) → classes ≡ o.classes → methods ≡ o.methods → record { classes = classes; methods = methods; header = o.header } ≡ o
+opening_again o classes methods p q =
+    ap (λ n. let o1 : Opening = record { classes = n; methods = methods; header = o.header } in o1) p
+    ∙ ap (λ n. let o1 : Opening = record { classes = o.classes; methods = n; header = o.header } in o1) q
+
+pub image_laws : IsCodec image
+image_laws = of_seen _ _ image_parts
+    (record {
+      at = λ x y fits e.
+          let classes_is = many_length (class x.0.classes x.0.header.natives) count_server 0 x.0.classes x.1.0 fits.1.0 in
+          let methods_is = many_length (always (method x.0.classes x.0.methods)) keep tt x.0.methods x.1.1 fits.1.1 in
+          ap (λ (i : Image). (opening_of i, (i.classes, i.methods))) (sym (ok_is _ y e)) ∙ pair_is (opening_again x.0 (length x.1.0) (length x.1.1) classes_is methods_is) refl;
+    })
+    image_parts_laws

@@ -1,0 +1,74 @@
+-- How long a spelling is, from the counts of its parts.
+use Rattle.std.proofs.Common.{◌≡◌, ℕ, zero, suc, ◌+◌, ◌-◌, ◌*◌, ◌≤◌, List, [], ◌∷◌, ◌++◌, length, All, sum_by, slice_index_or, refl, arith, flat_map, length-append}
+use Rattle.std.proofs.lemmas.List.Concat.{length-flat_map}
+use Rattle.std.proofs.lemmas.List.Sums.{sum_by-cons}
+use Rattle.aom_image.specs.Image.{Image}
+use Rattle.aom_image.specs.declared.class.ClassDecl.{ClassDecl}
+use Rattle.aom_image.specs.declared.method.Method.{Method}
+use Rattle.aom_codec.specs.Spelling.{pair, quad, unused_pairs, thing_number, argument_number, result_number, budget_of, class, method, instruction, spell}
+use Rattle.aom_image.specs.WellFormed.{ClassesFit, MethodsFit, spelled_size}
+
+pub head_of : {X : Type 0} (P : X → Type 0) (x : X) (xs : List X) → All P (x ∷ xs) → P x
+head_of P x xs h = h 0 x (omega arith)
+
+pub rest_of : {X : Type 0} (P : X → Type 0) (x : X) (xs : List X) → All P (x ∷ xs) → All P xs
+rest_of P x xs h k d lt = h (suc k) d (omega arith)
+
+-- a sum of what is the same for each
+sum_by-same : {X : Type 0} (f g : X → ℕ) (xs : List X) → All (λ x. f x ≡ g x) xs → sum_by f xs ≡ sum_by g xs
+sum_by-same f g [] h = refl
+sum_by-same f g (x ∷ xs) h = omega (arith, sum_by-cons f x xs, sum_by-cons g x xs, head_of (λ x. f x ≡ g x) x xs h, sum_by-same f g xs (rest_of (λ x. f x ≡ g x) x xs h))
+
+sum_by-constant : {X : Type 0} (n : ℕ) (xs : List X) → sum_by (λ x. n) xs ≡ length xs * n
+sum_by-constant n [] = omega arith
+sum_by-constant {X} n (x ∷ xs) = omega (arith, sum_by-cons (λ (x : X). n) x xs, sum_by-constant n xs)
+
+length-unused_pairs : (n : ℕ) → length (unused_pairs n) ≡ 2 * n
+length-unused_pairs zero = refl
+length-unused_pairs (suc n) = omega (arith, length-append (pair 0) (unused_pairs n), length-unused_pairs n)
+
+length-pairs : {X : Type 0} (f : X → ℕ) (xs : List X) → length (flat_map (λ x. pair (f x)) xs) ≡ 2 * length xs
+length-pairs f xs = omega (arith, length-flat_map (λ x. pair (f x)) xs, sum_by-constant 2 xs)
+
+length_class : (c : ClassDecl) → length c.fields ≤ 8 → length (class c) ≡ 28
+length_class c le =
+    let fields = flat_map (λ t. pair (thing_number t)) c.fields in
+    let unused = unused_pairs (8 - length c.fields) in
+    omega (
+      arith,
+      length-append fields (unused ++ quad (budget_of c.kind)),
+      length-append unused (quad (budget_of c.kind)),
+      length-pairs thing_number c.fields,
+      length-unused_pairs (8 - length c.fields),
+    )
+
+length_method : (m : Method) → length m.arguments ≤ 6 → length (method m) ≡ 24 + 8 * length m.code
+length_method m le =
+    let arguments = flat_map (λ a. pair (argument_number a)) m.arguments in
+    let unused = unused_pairs (6 - length m.arguments) in
+    let code = flat_map instruction m.code in
+    let last = pair (result_number m.gives) ++ (pair (length m.code) ++ code) in
+    omega (
+      arith,
+      length-append arguments (unused ++ last),
+      length-append unused last,
+      length-pairs argument_number m.arguments,
+      length-unused_pairs (6 - length m.arguments),
+      length-flat_map instruction m.code,
+      sum_by-constant 8 m.code,
+    )
+
+pub length_spell : (i : Image) → ClassesFit i.header.natives i.classes → MethodsFit (length i.classes) i.methods
+    → length (spell i) ≡ spelled_size (length i.classes) i.methods
+length_spell i classes methods =
+    let each_class : All (λ c. length (class c) ≡ 28) i.classes = λ k d lt. length_class (slice_index_or i.classes k d) (classes.each k d lt).field_count in
+    let each_method : All (λ m. length (method m) ≡ 24 + 8 * length m.code) i.methods = λ k d lt. length_method (slice_index_or i.methods k d) (methods.each k d lt).argument_count in
+    omega (
+      arith,
+      length-append (flat_map class i.classes) (flat_map method i.methods),
+      length-flat_map class i.classes,
+      length-flat_map method i.methods,
+      sum_by-same (λ c. length (class c)) (λ c. 28) i.classes each_class,
+      sum_by-constant 28 i.classes,
+      sum_by-same (λ m. length (method m)) (λ m. 24 + 8 * length m.code) i.methods each_method,
+    )

@@ -1,0 +1,68 @@
+-- What a number stands for is spelled as that number.
+use Rattle.std.proofs.Common.{◌≡◌, ℕ, ◌<◌, ◌≤◌, Bool, true, false, cond, eqb, ltb, Option, Some, None, Result, Ok, refl, sym, ap, ◌∙◌, arith, eqb-true, ◌⊎◌, inl, inr}
+use Rattle.std.proofs.lemmas.Bool.{ltb-true}
+use Rattle.std.proofs.lemmas.Bool.Decides.{nat_tests}
+use Rattle.aom_codec.specs.declared.fault.LoadFault.{LoadFault}
+use Rattle.aom_codec.specs.declared.fault.LoadFault.TheVariants.{BadIndex, BadOperand}
+use Rattle.aom_image.specs.declared.method.Thing.{Thing}
+use Rattle.aom_image.specs.declared.method.Thing.TheVariants.{Object, Message}
+use Rattle.aom_image.specs.declared.method.Argument.{Argument}
+use Rattle.aom_image.specs.declared.method.Argument.TheVariants as arguments
+use Rattle.aom_image.specs.declared.method.Gives.{Gives}
+use Rattle.aom_image.specs.declared.method.Role.{Role}
+use Rattle.aom_image.specs.declared.method.MethodFlags.{MethodFlags}
+use Rattle.aom_image.specs.declared.method.States.{States}
+use Rattle.aom_codec.specs.Spelling.{class_number, thing_number, argument_number, role_byte, gives_byte, result_number}
+use Rattle.aom_codec.specs.Codec.{◌>>=◌}
+use Rattle.aom_codec.specs.Format.{index_from, class_from, thing_from, argument_from, role_from, flags_from, states_from, gives_from}
+use Rattle.aom_codec.proofs.Laws.{bind_ok, guard_ok, ok_is}
+
+-- a test that answers one of two things
+pub took : {A : Type 0} (b : Bool) (x y : Result A LoadFault) (z : A) → cond b x y ≡ Ok z → ((b ≡ true) × (x ≡ Ok z)) ⊎ ((b ≡ false) × (y ≡ Ok z))
+took true x y z e = inl (refl, e)
+took false x y z e = inr (refl, e)
+
+pub index_returns : (classes n y : ℕ) → index_from classes n ≡ Ok y → (y ≡ n) × (n < classes)
+index_returns classes n y e = let g = guard_ok (ltb n classes) BadIndex n y e in (sym g.1, ltb-true _ _ g.0)
+
+pub class_returns : (classes n : ℕ) (y : Option ℕ) → class_from classes n ≡ Ok y → class_number y ≡ n
+class_returns classes n y e =
+    elim (took (eqb n 0xffff) (Ok None) (index_from classes n >>= λ c. Ok (Some c)) y e) [
+      | inl h ↦ ap class_number (sym (ok_is None y h.1)) ∙ sym (eqb-true _ _ h.0)
+      | inr h ↦
+          let b = bind_ok (index_from classes n) (λ c. Ok (Some c)) y h.1 in
+          ap class_number (sym (ok_is (Some b.0) y b.2)) ∙ (index_returns classes n b.0 b.1).0
+    ]
+
+pub thing_returns : (classes n : ℕ) (y : Thing) → thing_from classes n ≡ Ok y → thing_number y ≡ n
+thing_returns classes n y e =
+    elim (took (eqb n 0xfffe) (Ok Message) (index_from classes n >>= λ c. Ok (Object c)) y e) [
+      | inl h ↦ ap thing_number (sym (ok_is Message y h.1)) ∙ sym (eqb-true _ _ h.0)
+      | inr h ↦
+          let b = bind_ok (index_from classes n) (λ c. Ok (Object c)) y h.1 in
+          ap thing_number (sym (ok_is (Object b.0) y b.2)) ∙ (index_returns classes n b.0 b.1).0
+    ]
+
+pub argument_returns : (classes n : ℕ) (y : Argument) → argument_from classes n ≡ Ok y → argument_number y ≡ n
+argument_returns classes n y e =
+    elim (took (eqb n 0xffff) (Ok arguments.Word) (thing_from classes n >>= λ t. Ok (arguments.Own t)) y e) [
+      | inl h ↦ ap argument_number (sym (ok_is arguments.Word y h.1)) ∙ sym (eqb-true _ _ h.0)
+      | inr h ↦
+          let b = bind_ok (thing_from classes n) (λ t. Ok (arguments.Own t)) y h.1 in
+          ap argument_number (sym (ok_is (arguments.Own b.0) y b.2)) ∙ thing_returns classes n b.0 b.1
+    ]
+
+pub role_returns : (n : ℕ) (y : Role) → role_from n ≡ Ok y → role_byte y ≡ n
+role_returns n y e = grind (arith, nat_tests, e)
+
+pub flags_returns : (n : ℕ) (y : MethodFlags) → flags_from n ≡ Ok y → y.0 ≡ n
+flags_returns n y e = let g = guard_ok (ltb n 4) BadOperand (record { 0 = n }) y e in ap (λ (f : MethodFlags). f.0) (sym g.1)
+
+pub states_returns : (n : ℕ) (y : States) → states_from n ≡ Ok y → y.0 ≡ n
+states_returns n y e = let g = guard_ok (ltb n 64) BadOperand (record { 0 = n }) y e in ap (λ (f : States). f.0) (sym g.1)
+
+pub gives_returns : (classes sort n : ℕ) (y : Gives) → sort ≤ 4 → gives_from classes sort n ≡ Ok y → (result_number y ≡ n) × (gives_byte y ≡ sort)
+gives_returns classes sort n y small e = grind (arith, nat_tests, e)
+
+pub result_number_returns : (classes sort n : ℕ) (y : Gives) → gives_from classes sort n ≡ Ok y → result_number y ≡ n
+result_number_returns classes sort n y e = grind (arith, nat_tests, e)

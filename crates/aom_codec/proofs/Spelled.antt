@@ -1,0 +1,83 @@
+-- The formats spell what the spelling says.
+use Rattle.std.proofs.Common.{◌≡◌, ℕ, zero, suc, ◌+◌, ◌-◌, List, [], ◌∷◌, ◌++◌, length, refl, ap, ◌∙◌, flat_map, add-one}
+use Rattle.aom_image.specs.Image.{Image}
+use Rattle.aom_codec.specs.Spelling as text
+use Rattle.aom_codec.specs.Codec.{Codec, pair, always, keep, spell_many, unused}
+use Rattle.aom_codec.specs.Instructions.{instruction}
+use Rattle.aom_image.specs.WellFormed.{limits}
+use Rattle.aom_codec.specs.Format.{thing, argument, class, count_server, method, image}
+use Rattle.aom_codec.specs.declared.fault.LoadFault.TheVariants.{NotZero}
+use Rattle.aom_image.specs.declared.limits.Limits.{Limits}
+use Rattle.aom_image.specs.declared.class.ClassKind.{ClassKind}
+use Rattle.aom_image.specs.declared.class.ClassKind.TheVariants as kinds
+use Rattle.aom_image.specs.declared.class.Provider.TheVariants as providers
+use Rattle.aom_image.specs.declared.method.Thing.{Thing}
+use Rattle.aom_image.specs.declared.method.Argument.{Argument}
+use Rattle.aom_image.specs.declared.method.Method.{Method}
+use Rattle.aom_image.specs.declared.instr.Instr.{Instr}
+
+many_spelled : {S X : Type 0} (c : S → Codec X) (add : S → X → S) (f : X → List ℕ) → ((s : S) (x : X) → (c s).spell x ≡ f x) → (s : S) (xs : List X) → spell_many c add s xs ≡ flat_map f xs
+many_spelled c add f each s [] = refl
+many_spelled c add f each s (x ∷ xs) = ap (λ t. t ++ spell_many c add (add s x) xs) (each s x) ∙ ap (λ t. f x ++ t) (many_spelled c add f each (add s x) xs)
+
+unused_spelled : (n : ℕ) → (unused n pair NotZero).spell tt ≡ text.unused_pairs n
+unused_spelled zero = refl
+unused_spelled (suc n) = ap (λ t. text.pair 0 ++ t) (unused_spelled n)
+
+-- the fields of a class, and the unused ones after them
+fields_spelled : (classes : ℕ) (fields : List Thing) (n : ℕ) (last : List ℕ)
+    → spell_many (always (thing classes)) keep tt fields ++ ((unused n pair NotZero).spell tt ++ last)
+    ≡ flat_map (λ t. text.pair (text.thing_number t)) fields ++ (text.unused_pairs n ++ last)
+fields_spelled classes fields n last =
+    ap (λ t. t ++ ((unused n pair NotZero).spell tt ++ last)) (many_spelled (always (thing classes)) keep (λ t. text.pair (text.thing_number t)) (λ s x. refl) tt fields)
+    ∙ ap (λ t. flat_map (λ t. text.pair (text.thing_number t)) fields ++ (t ++ last)) (unused_spelled n)
+
+class_spelled : (classes natives servers : ℕ) (kind : ClassKind) (words : ℕ) (fields : List Thing)
+    → (class classes natives servers).spell (record { kind = kind; words = words; fields = fields }) ≡ text.class (record { kind = kind; words = words; fields = fields })
+class_spelled classes natives servers kinds.Plain words fields =
+    ap (λ t. 0 ∷ words ∷ length fields ∷ 0 ∷ 0 ∷ 0 ∷ (text.pair 0xffff ++ t)) (fields_spelled classes fields (8 - length fields) (text.quad 0))
+class_spelled classes natives servers (kinds.Active providers.Own budget) words fields =
+    ap (λ t. 1 ∷ words ∷ length fields ∷ 0 ∷ 0 ∷ 0 ∷ (text.pair 0xffff ++ t)) (fields_spelled classes fields (8 - length fields) (text.quad budget))
+class_spelled classes natives servers (kinds.Active providers.Timer budget) words fields =
+    ap (λ t. 1 ∷ words ∷ length fields ∷ 1 ∷ 0 ∷ 0 ∷ (text.pair 0xffff ++ t)) (fields_spelled classes fields (8 - length fields) (text.quad budget))
+class_spelled classes natives servers (kinds.Active (providers.Native n) budget) words fields =
+    ap (λ t. 1 ∷ words ∷ length fields ∷ 2 ∷ n ∷ 0 ∷ (text.pair 0xffff ++ t)) (fields_spelled classes fields (8 - length fields) (text.quad budget))
+class_spelled classes natives servers (kinds.Server sessions session budget) words fields =
+    ap (λ t. 2 ∷ words ∷ length fields ∷ 0 ∷ sessions ∷ 0 ∷ (text.pair session ++ t)) (fields_spelled classes fields (8 - length fields) (text.quad budget))
+class_spelled classes natives servers kinds.Session words fields =
+    ap (λ t. 3 ∷ words ∷ length fields ∷ 0 ∷ 0 ∷ 0 ∷ (text.pair 0xffff ++ t)) (fields_spelled classes fields (8 - length fields) (text.quad 0))
+
+code_spelled : (l : Limits) (code : List Instr) → spell_many (always (instruction l)) keep tt code ≡ flat_map text.instruction code
+code_spelled l code = many_spelled (always (instruction l)) keep text.instruction (λ s x. refl) tt code
+
+arguments_spelled : (classes : ℕ) (arguments : List Argument) → spell_many (always (argument classes)) keep tt arguments ≡ flat_map (λ a. text.pair (text.argument_number a)) arguments
+arguments_spelled classes arguments = many_spelled (always (argument classes)) keep (λ a. text.pair (text.argument_number a)) (λ s x. refl) tt arguments
+
+method_spelled : (classes methods : ℕ) (m : Method) → (method classes methods).spell m ≡ text.method m
+method_spelled classes methods m =
+    let front = λ (t : List ℕ). text.pair (text.class_number m.class) ++ (text.role_byte m.role ∷ m.flags.0 ∷ m.before.0 ∷ m.after.0 ∷ length m.arguments ∷ text.gives_byte m.gives ∷ t) in
+    let last = λ (t : List ℕ). text.pair (text.result_number m.gives) ++ (text.pair (length m.code) ++ t) in
+    let code = spell_many (always (instruction (limits classes methods (length m.code)))) keep tt m.code in
+    let arguments = flat_map (λ a. text.pair (text.argument_number a)) m.arguments in
+    let n = 6 - length m.arguments in
+    ap (λ t. front (t ++ ((unused n pair NotZero).spell tt ++ last code))) (arguments_spelled classes m.arguments)
+    ∙ ap (λ t. front (arguments ++ (t ++ last code))) (unused_spelled n)
+    ∙ ap (λ t. front (arguments ++ (text.unused_pairs n ++ last t))) (code_spelled (limits classes methods (length m.code)) m.code)
+
+pub image_spelled : (i : Image) → image.spell i ≡ text.spell i
+image_spelled i =
+    let classes = length i.classes in
+    let methods = length i.methods in
+    let first = text.header classes methods i.header in
+    ap (λ t. first ++ (t ++ spell_many (always (method classes methods)) keep tt i.methods))
+    (many_spelled (class classes i.header.natives) count_server text.class (λ s c. class_spelled classes i.header.natives s c.kind c.words c.fields) 0 i.classes)
+    ∙ ap (λ t. first ++ (flat_map text.class i.classes ++ t))
+    (many_spelled (always (method classes methods)) keep text.method (λ s m. method_spelled classes methods m) tt i.methods)
+
+-- one more unused pair at the end
+unused_pairs-suc : (n : ℕ) → text.unused_pairs (suc n) ≡ text.unused_pairs n ++ text.pair 0
+unused_pairs-suc zero = refl
+unused_pairs-suc (suc n) = ap (λ t. text.pair 0 ++ t) (unused_pairs-suc n)
+
+pub unused_pairs-more : (n : ℕ) → text.unused_pairs (n + 1) ≡ text.unused_pairs n ++ text.pair 0
+unused_pairs-more n = ap text.unused_pairs (add-one n) ∙ unused_pairs-suc n

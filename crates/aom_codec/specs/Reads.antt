@@ -1,0 +1,19 @@
+-- What a reader returned, seen by view, is what reading gives.
+use Rattle.std.specs.Prelude.{◌≡◌, ◌≢◌, Result, Ok, Err}
+use Rattle.aom_image.specs.Image.{Image}
+use Rattle.aom_codec.specs.declared.fault.LoadFault.{LoadFault}
+use Rattle.aom_codec.specs.declared.fault.LoadFault.TheVariants.{OutOfMemory}
+
+abbrev pub Reads : {X Y : Type 0} → (X → Y) → Result X LoadFault → Result Y LoadFault → Type 0
+Reads view (Ok x) read = read ≡ Ok (view x)
+Reads view (Err e) read = read ≡ Err e
+
+-- the same, unless memory ran out
+abbrev pub ReadsOrNoMemory : {X Y : Type 0} → (X → Y) → Result X LoadFault → Result Y LoadFault → Type 0
+ReadsOrNoMemory view (Ok x) read = read ≡ Ok (view x)
+ReadsOrNoMemory view (Err e) read = e ≢ OutOfMemory → read ≡ Err e
+
+-- decoding answered this image, or memory ran out
+abbrev pub DecodesTo : Image → Result Image LoadFault → Type 0
+DecodesTo i (Ok r) = r ≡ i
+DecodesTo i (Err e) = e ≡ OutOfMemory

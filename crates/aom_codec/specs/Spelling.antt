@@ -1,0 +1,182 @@
+-- The spelling of an image, byte for byte. Numbers stand high byte first.
+use Rattle.std.specs.Prelude.{ℕ, zero, suc, ◌-◌, List, [], ◌∷◌, ◌++◌, length, flat_map, Option, Some, None}
+use Rattle.std.specs.Int.{w16, w32, to_be_bytes}
+use Rattle.aom_image.specs.Image.{Image}
+use Rattle.aom_image.specs.declared.image.Header.{Header}
+use Rattle.aom_image.specs.declared.class.ClassDecl.{ClassDecl}
+use Rattle.aom_image.specs.declared.class.ClassKind.{ClassKind}
+use Rattle.aom_image.specs.declared.class.ClassKind.TheVariants as kinds
+use Rattle.aom_image.specs.declared.class.Provider.{Provider}
+use Rattle.aom_image.specs.declared.class.Provider.TheVariants as providers
+use Rattle.aom_image.specs.declared.method.Thing.{Thing}
+use Rattle.aom_image.specs.declared.method.Thing.TheVariants.{Object, Message}
+use Rattle.aom_image.specs.declared.method.Role.{Role}
+use Rattle.aom_image.specs.declared.method.Role.TheVariants as roles
+use Rattle.aom_image.specs.declared.method.Argument.{Argument}
+use Rattle.aom_image.specs.declared.method.Argument.TheVariants as arguments
+use Rattle.aom_image.specs.declared.method.Gives.{Gives}
+use Rattle.aom_image.specs.declared.method.Gives.TheVariants as gives
+use Rattle.aom_image.specs.declared.method.Method.{Method}
+use Rattle.aom_image.specs.declared.instr.Instr.{Instr}
+use Rattle.aom_codec.specs.declared.raw.Raw.{Raw}
+use Rattle.aom_codec.specs.Words.{words_raw}
+
+-- a number in two bytes
+abbrev pub pair : ℕ → List ℕ
+pair n = to_be_bytes w16 n
+
+-- a number in four bytes
+abbrev pub quad : ℕ → List ℕ
+quad n = to_be_bytes w32 n
+
+-- so many unused pairs of bytes
+abbrev pub unused_pairs : ℕ → List ℕ
+unused_pairs zero = []
+unused_pairs (suc n) = pair 0 ++ unused_pairs n
+
+-- ---- numbers that name things
+
+-- stands for no class, a static method or a word
+abbrev pub no_class : ℕ
+no_class = 0xffff
+
+-- stands for a message
+abbrev pub message_number : ℕ
+message_number = 0xfffe
+
+-- a class or none
+abbrev pub class_number : Option ℕ → ℕ
+class_number None = no_class
+class_number (Some c) = c
+
+-- what may be owned
+abbrev pub thing_number : Thing → ℕ
+thing_number (Object c) = c
+thing_number Message = message_number
+
+-- an argument is a word, or owned
+abbrev pub argument_number : Argument → ℕ
+argument_number arguments.Word = no_class
+argument_number (arguments.Own t) = thing_number t
+
+-- ---- header
+
+-- the header of an image with so many classes and methods
+abbrev pub header : ℕ → ℕ → Header → List ℕ
+header classes methods h =
+    quad 0x414f494d ++ (pair 1 ++ (pair classes ++ (pair methods ++ (pair h.cells ++ (pair h.messages
+    ++ (h.natives ∷ 0 ∷ (pair (class_number h.root) ++ (pair 0 ++ quad h.budget))))))))
+
+-- ---- classes
+
+-- the kind of a class
+abbrev pub kind_byte : ClassKind → ℕ
+kind_byte kinds.Plain = 0
+kind_byte (kinds.Active provider budget) = 1
+kind_byte (kinds.Server sessions session budget) = 2
+kind_byte kinds.Session = 3
+
+-- the provider of a native class has its number beside it
+abbrev pub provider_sort : Provider → ℕ
+provider_sort providers.Own = 0
+provider_sort providers.Timer = 1
+provider_sort (providers.Native n) = 2
+
+-- the provider, of active classes alone
+abbrev pub provider_byte : ClassKind → ℕ
+provider_byte kinds.Plain = 0
+provider_byte (kinds.Active provider budget) = provider_sort provider
+provider_byte (kinds.Server sessions session budget) = 0
+provider_byte kinds.Session = 0
+
+-- the number of a native, and 0 for other providers
+abbrev pub native_number : Provider → ℕ
+native_number providers.Own = 0
+native_number providers.Timer = 0
+native_number (providers.Native n) = n
+
+-- a native's number, or a server's most sessions
+abbrev pub number_byte : ClassKind → ℕ
+number_byte kinds.Plain = 0
+number_byte (kinds.Active provider budget) = native_number provider
+number_byte (kinds.Server sessions session budget) = sessions
+number_byte kinds.Session = 0
+
+-- the class of a server's sessions
+abbrev pub session_number : ClassKind → ℕ
+session_number kinds.Plain = no_class
+session_number (kinds.Active provider budget) = no_class
+session_number (kinds.Server sessions session budget) = session
+session_number kinds.Session = no_class
+
+-- the budget of active and server classes
+abbrev pub budget_of : ClassKind → ℕ
+budget_of kinds.Plain = 0
+budget_of (kinds.Active provider budget) = budget
+budget_of (kinds.Server sessions session budget) = budget
+budget_of kinds.Session = 0
+
+-- a class, in 28 bytes
+abbrev pub class : ClassDecl → List ℕ
+class c =
+    kind_byte c.kind ∷ c.words ∷ length c.fields ∷ provider_byte c.kind ∷ number_byte c.kind ∷ 0 ∷ (pair (session_number c.kind)
+    ++ (flat_map (λ t. pair (thing_number t)) c.fields ++ (unused_pairs (8 - length c.fields) ++ quad (budget_of c.kind))))
+
+-- ---- instructions
+
+-- opcode, three small operands, one large one
+abbrev pub raw_bytes : Raw → List ℕ
+raw_bytes r = r.opcode ∷ r.a ∷ r.b ∷ r.c ∷ quad r.d
+
+-- each group passes on what is not its own
+abbrev pub raw_of : Instr → Raw
+raw_of i = words_raw i
+
+-- an instruction, in 8 bytes
+abbrev pub instruction : Instr → List ℕ
+instruction i = raw_bytes (raw_of i)
+
+-- ---- methods
+
+-- roles by their numbers
+abbrev pub role_byte : Role → ℕ
+role_byte roles.Do = 0
+role_byte roles.Main = 1
+role_byte roles.Construct = 2
+role_byte roles.Destruct = 3
+role_byte roles.Run = 4
+role_byte roles.Cancel = 5
+role_byte roles.Error = 6
+role_byte roles.Accept = 7
+role_byte roles.Service = 8
+role_byte roles.Undo = 9
+
+-- the kind of a result
+abbrev pub gives_byte : Gives → ℕ
+gives_byte gives.Nothing = 0
+gives_byte gives.Word = 1
+gives_byte (gives.Own t) = 2
+gives_byte (gives.Maybe t) = 3
+gives_byte (gives.Left c) = 4
+
+-- the class of the result
+abbrev pub result_number : Gives → ℕ
+result_number gives.Nothing = no_class
+result_number gives.Word = no_class
+result_number (gives.Own t) = thing_number t
+result_number (gives.Maybe t) = thing_number t
+result_number (gives.Left c) = c
+
+-- a method in 24 bytes, and its code
+abbrev pub method : Method → List ℕ
+method m =
+    pair (class_number m.class) ++ (role_byte m.role ∷ m.flags.0 ∷ m.before.0 ∷ m.after.0 ∷ length m.arguments ∷ gives_byte m.gives
+    ∷ (flat_map (λ a. pair (argument_number a)) m.arguments ++ (unused_pairs (6 - length m.arguments)
+    ++ (pair (result_number m.gives) ++ (pair (length m.code) ++ flat_map instruction m.code)))))
+
+-- ---- the whole
+
+-- the header, the classes and the methods
+abbrev pub spell : Image → List ℕ
+spell i =
+    header (length i.classes) (length i.methods) i.header ++ (flat_map class i.classes ++ flat_map method i.methods)

@@ -1,0 +1,228 @@
+//! Classes, as they are read.
+ghost use Rattle.std.specs.Prelude.{◌≡◌, ◌≤◌, ◌<◌, ◌+◌};
+ghost use Rattle.aom_codec.specs.Format.{thing_from, thing, provider, bare, purpose, closing, kind_sort, class, no_session, active_part, server_part, count_server};
+ghost use Rattle.aom_codec.specs.Reads.{Reads, ReadsOrNoMemory};
+ghost use Rattle.aom_codec.specs.Codec.{many, many_from};
+
+use crate::LoadFault;
+use crate::header::class_below;
+use crate::reader::Reader;
+use aom_image::{ClassDecl, ClassKind, ClassNumber, Items, NativeNumber, Provider, Thing};
+use std::alloc::Global;
+
+/// What a class's kind says before its budget is read.
+#[derive(Clone, Copy)]
+pub enum Purpose {
+    Plain,
+    Active(Provider),
+    Server(u8, ClassNumber),
+    Session,
+}
+
+/// The servers up to a class, after so many.
+fn count_server(servers: u16, class: &ClassDecl) -> u16
+    requires { servers < 65535 }
+    ensures count { result ≡ count_server servers class.now }
+    ensures one_more { result ≤ servers + 1 }
+{
+    if class.is_server() {
+        servers + 1
+    } else {
+        servers
+    }
+}
+
+pub fn thing_of(number: u16, classes: u16) -> Result<Thing, LoadFault>
+    requires { classes ≤ 256 }
+    ensures { result ≡ thing_from classes number }
+{
+    match number {
+        0xfffe => Ok(Thing::Message),
+        _ => Ok(Thing::Object(class_below(number, classes)?)),
+    }
+}
+
+impl<'a> Reader<'a> {
+    fn thing(&mut self, classes: u16) -> Result<Thing, LoadFault>
+        requires { classes ≤ 256 }
+        ensures { Reads (λ x. (x, self.new)) result ((thing classes).read self.old) }
+    {
+        thing_of(self.pair()?, classes)
+    }
+
+    fn provider(&mut self, natives: u8) -> Result<Provider, LoadFault>
+        requires { natives ≤ 16 }
+        ensures { Reads (λ x. (x, self.new)) result ((provider natives).read self.old) }
+    {
+        match self.byte()? {
+            0 => {
+                self.unused_byte()?;
+                Ok(Provider::Own)
+            }
+            1 => {
+                self.unused_byte()?;
+                Ok(Provider::Timer)
+            }
+            2 => match NativeNumber::new(self.byte()?) {
+                Some(native) if native.number() < natives => Ok(Provider::Native(native)),
+                _ => Err(LoadFault::BadIndex),
+            },
+            _ => Err(LoadFault::BadOperand),
+        }
+    }
+
+    fn no_session(&mut self) -> Result<(), LoadFault>
+        ensures { Reads (λ x. (x, self.new)) result (no_session.read self.old) }
+    {
+        self.fixed_pair(0xffff, LoadFault::BadOperand)
+    }
+
+    fn bare(&mut self) -> Result<(), LoadFault>
+        ensures { Reads (λ x. (x, self.new)) result (bare.read self.old) }
+    {
+        self.fixed_byte(0, LoadFault::NotZero)?;
+        self.fixed_byte(0, LoadFault::NotZero)?;
+        self.fixed_byte(0, LoadFault::NotZero)?;
+        self.no_session()
+    }
+
+    fn active(&mut self, natives: u8) -> Result<Provider, LoadFault>
+        requires { natives ≤ 16 }
+        ensures { Reads (λ x. ((x, tt), self.new)) result ((active_part natives).read self.old) }
+    {
+        let provider = self.provider(natives)?;
+        self.fixed_byte(0, LoadFault::NotZero)?;
+        self.no_session()?;
+        Ok(provider)
+    }
+
+    fn server(&mut self, classes: u16) -> Result<(u8, ClassNumber), LoadFault>
+        requires { classes ≤ 256 }
+        ensures { Reads (λ x. (x, self.new)) result ((server_part classes).read self.old) }
+    {
+        self.fixed_byte(0, LoadFault::NotZero)?;
+        let sessions = self.limited_byte(1, 64)?;
+        self.fixed_byte(0, LoadFault::NotZero)?;
+        let session = class_below(self.pair()?, classes)?;
+        Ok((sessions, session))
+    }
+
+    /// What stands between the counts and the fields.
+    fn purpose(&mut self, sort: u8, classes: u16, natives: u8) -> Result<Purpose, LoadFault>
+        requires classes { classes ≤ 256 }
+        requires natives { natives ≤ 16 }
+        ensures { Reads (λ x. (x, self.new)) result ((purpose classes natives sort).read self.old) }
+    {
+        match sort {
+            0 => {
+                self.bare()?;
+                Ok(Purpose::Plain)
+            }
+            1 => Ok(Purpose::Active(self.active(natives)?)),
+            2 => {
+                let (sessions, session) = self.server(classes)?;
+                Ok(Purpose::Server(sessions, session))
+            }
+            _ => {
+                self.bare()?;
+                Ok(Purpose::Session)
+            }
+        }
+    }
+
+    /// What stands after the fields.
+    fn closing(&mut self, purpose: Purpose) -> Result<ClassKind, LoadFault>
+        ensures { Reads (λ x. (x, self.new)) result ((closing purpose).read self.old) }
+    {
+        match purpose {
+            Purpose::Plain => {
+                self.fixed_quad(0, LoadFault::NotZero)?;
+                Ok(ClassKind::Plain)
+            }
+            Purpose::Active(provider) => {
+                let budget = self.quad()?;
+                Ok(ClassKind::Active { provider, budget })
+            }
+            Purpose::Server(sessions, session) => {
+                let budget = self.quad()?;
+                Ok(ClassKind::Server {
+                    sessions,
+                    session,
+                    budget,
+                })
+            }
+            Purpose::Session => {
+                self.fixed_quad(0, LoadFault::NotZero)?;
+                Ok(ClassKind::Session)
+            }
+        }
+    }
+
+    /// The byte of a class's kind, after so many servers.
+    fn kind_sort(&mut self, servers: u16) -> Result<u8, LoadFault>
+        ensures { Reads (λ x. (x, self.new)) result ((kind_sort servers).read self.old) }
+    {
+        match self.byte()? {
+            2 if servers >= 8 => Err(LoadFault::LimitPassed),
+            sort if sort <= 3 => Ok(sort),
+            _ => Err(LoadFault::BadOperand),
+        }
+    }
+
+    fn things(&mut self, alloc: Global, count: u8, classes: u16) -> Result<Vec<Thing>, LoadFault>
+        requires { classes ≤ 256 }
+        ensures { ReadsOrNoMemory (λ x. (x.items, self.new)) result ((many count (thing classes)).read self.old) }
+    {
+        let mut things = Vec::with_capacity(alloc, count as usize)?;
+        for _ in 0..count {
+            let thing = self.thing(classes)?;
+            things.push(thing)?;
+        }
+        Ok(things)
+    }
+
+    fn class(
+        &mut self,
+        alloc: Global,
+        classes: u16,
+        natives: u8,
+        servers: u16,
+    ) -> Result<ClassDecl, LoadFault>
+        requires classes { classes ≤ 256 }
+        requires natives { natives ≤ 16 }
+        ensures { ReadsOrNoMemory (λ x. (x, self.new)) result ((class classes natives servers).read self.old) }
+    {
+        let sort = self.kind_sort(servers)?;
+        let words = self.limited_byte(0, 8)?;
+        let count = self.limited_byte(0, 8)?;
+        let purpose = self.purpose(sort, classes, natives)?;
+        let fields = self.things(alloc, count, classes)?;
+        self.unused_pairs(8 - count)?;
+        let kind = self.closing(purpose)?;
+        Ok(ClassDecl {
+            kind,
+            words,
+            fields: Items::from_vec(fields),
+        })
+    }
+
+    pub fn classes(
+        &mut self,
+        alloc: Global,
+        count: u16,
+        natives: u8,
+    ) -> Result<Vec<ClassDecl>, LoadFault>
+        requires classes { count ≤ 256 }
+        requires natives { natives ≤ 16 }
+        ensures { ReadsOrNoMemory (λ x. (x.items, self.new)) result ((many_from (class count natives) count_server 0 count).read self.old) }
+    {
+        let mut classes = Vec::with_capacity(alloc, count as usize)?;
+        let mut servers = 0;
+        for _ in 0..count {
+            let class = self.class(alloc, count, natives, servers)?;
+            servers = count_server(servers, &class);
+            classes.push(class)?;
+        }
+        Ok(classes)
+    }
+}

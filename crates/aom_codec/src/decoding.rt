@@ -1,0 +1,53 @@
+//! The way in: bytes that spell an image.
+ghost use Rattle.std.specs.Prelude.{◌≡◌, ◌≢◌, Some, IfOk, IfErr};
+ghost use Rattle.aom_image.specs.Image.{Image as ImageRecord};
+ghost use Rattle.aom_codec.specs.Spelling.{spell};
+ghost use Rattle.aom_image.specs.WellFormed.{WellFormed};
+ghost use Rattle.aom_codec.specs.Format.{read_image, first_fault};
+ghost use Rattle.aom_codec.specs.Reads.{ReadsOrNoMemory, DecodesTo};
+ghost use Rattle.aom_codec.specs.declared.fault.LoadFault.TheVariants.{OutOfMemory as NoMemory};
+
+use crate::LoadFault;
+use crate::reader::Reader;
+use aom_image::{ClassDecl, Header, Image, Method};
+use std::alloc::Global;
+
+/// The parts of an image.
+#[derive(Drop)]
+struct Parts {
+    header: Header,
+    classes: Vec<ClassDecl>,
+    methods: Vec<Method>,
+}
+
+/// The image that the bytes spell, all of the bytes.
+pub fn decode(alloc: Global, bytes: &[u8]) -> Result<Image, LoadFault>
+    // What is read is spelled so.
+    ensures found { IfOk result (λ i. WellFormed i × (bytes.now ≡ spell i)) }
+    // What is spelled so is read, unless memory runs out.
+    ensures only { (i : ImageRecord) → WellFormed i → bytes.now ≡ spell i → DecodesTo i result }
+    ensures fault { IfErr result (λ e. e ≢ NoMemory → first_fault bytes.now ≡ Some e) }
+{
+    let parts = parts_of(alloc, bytes)?;
+    Ok(Image::make(parts.header, parts.classes, parts.methods))
+}
+
+fn parts_of(alloc: Global, bytes: &[u8]) -> Result<Parts, LoadFault>
+    ensures { ReadsOrNoMemory (λ p. record { header = p.header; classes = p.classes.items; methods = p.methods.items }) result (read_image bytes.now) }
+{
+    if bytes.len() > 1 << 20 {
+        return Err(LoadFault::LimitPassed);
+    }
+    let mut reader = Reader::new(bytes);
+    let opening = reader.opening()?;
+    let classes = reader.classes(alloc, opening.classes, opening.header.natives)?;
+    let methods = reader.methods(alloc, opening.methods, opening.classes)?;
+    if !reader.is_empty() {
+        return Err(LoadFault::Trailing);
+    }
+    Ok(Parts {
+        header: opening.header,
+        classes,
+        methods,
+    })
+}

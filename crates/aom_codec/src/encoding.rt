@@ -1,0 +1,260 @@
+//! The way out: the bytes that spell an image.
+ghost use Rattle.std.specs.Prelude.{◌≡◌, ◌≤◌, ◌-◌, ◌++◌, ◌∷◌, length, flat_map, OnOk, IfOk};
+ghost use Rattle.aom_codec.specs.Spelling.{pair, quad, unused_pairs, class_number, thing_number, argument_number, role_byte, gives_byte, result_number, kind_byte, provider_byte, number_byte, session_number, budget_of, class as class_bytes, instruction as instruction_bytes, method as method_bytes, spell};
+
+use crate::words;
+use aom_image::{
+    Argument, ClassDecl, ClassKind, ClassNumber, Gives, Header, Image, Instr, Method, Provider,
+    Role, Thing, spelled_len,
+};
+use bitflags::Flags;
+use std::alloc::{AllocError, Global};
+
+fn class_number(class: Option<ClassNumber>) -> u16
+    ensures { result ≡ class_number class }
+{
+    match class {
+        None => 0xffff,
+        Some(class) => class.number(),
+    }
+}
+
+fn thing_number(thing: Thing) -> u16
+    ensures { result ≡ thing_number thing }
+{
+    match thing {
+        Thing::Object(class) => class.number(),
+        Thing::Message => 0xfffe,
+    }
+}
+
+fn argument_number(argument: Argument) -> u16
+    ensures { result ≡ argument_number argument }
+{
+    match argument {
+        Argument::Word => 0xffff,
+        Argument::Own(thing) => thing_number(thing),
+    }
+}
+
+fn result_number(gives: Gives) -> u16
+    ensures { result ≡ result_number gives }
+{
+    match gives {
+        Gives::Nothing | Gives::Word => 0xffff,
+        Gives::Own(thing) | Gives::Maybe(thing) => thing_number(thing),
+        Gives::Left(class) => class.number(),
+    }
+}
+
+fn gives_byte(gives: Gives) -> u8
+    ensures { result ≡ gives_byte gives }
+{
+    match gives {
+        Gives::Nothing => 0,
+        Gives::Word => 1,
+        Gives::Own(_) => 2,
+        Gives::Maybe(_) => 3,
+        Gives::Left(_) => 4,
+    }
+}
+
+fn role_byte(role: Role) -> u8
+    ensures { result ≡ role_byte role }
+{
+    match role {
+        Role::Do => 0,
+        Role::Main => 1,
+        Role::Construct => 2,
+        Role::Destruct => 3,
+        Role::Run => 4,
+        Role::Cancel => 5,
+        Role::Error => 6,
+        Role::Accept => 7,
+        Role::Service => 8,
+        Role::Undo => 9,
+    }
+}
+
+fn kind_byte(kind: ClassKind) -> u8
+    ensures { result ≡ kind_byte kind }
+{
+    match kind {
+        ClassKind::Plain => 0,
+        ClassKind::Active { .. } => 1,
+        ClassKind::Server { .. } => 2,
+        ClassKind::Session => 3,
+    }
+}
+
+/// The byte of an active class's provider, and the number of a native or a server's most sessions.
+fn provider_and_number(kind: ClassKind) -> (u8, u8)
+    ensures { result ≡ (provider_byte kind, number_byte kind) }
+{
+    match kind {
+        ClassKind::Plain | ClassKind::Session => (0, 0),
+        ClassKind::Active { provider, .. } => match provider {
+            Provider::Own => (0, 0),
+            Provider::Timer => (1, 0),
+            Provider::Native(native) => (2, native.number()),
+        },
+        ClassKind::Server { sessions, .. } => (0, sessions),
+    }
+}
+
+fn session_number(kind: ClassKind) -> u16
+    ensures { result ≡ session_number kind }
+{
+    match kind {
+        ClassKind::Server { session, .. } => session.number(),
+        _ => 0xffff,
+    }
+}
+
+fn budget_of(kind: ClassKind) -> u32
+    ensures { result ≡ budget_of kind }
+{
+    match kind {
+        ClassKind::Plain | ClassKind::Session => 0,
+        ClassKind::Active { budget, .. } | ClassKind::Server { budget, .. } => budget,
+    }
+}
+
+fn put_pair(out: &mut Vec<u8>, number: u16) -> Result<(), AllocError>
+    ensures { OnOk result (out.new.items ≡ out.old.items ++ pair number) }
+{
+    out.extend_from_slice(&number.to_be_bytes())
+}
+
+fn put_quad(out: &mut Vec<u8>, number: u32) -> Result<(), AllocError>
+    ensures { OnOk result (out.new.items ≡ out.old.items ++ quad number) }
+{
+    out.extend_from_slice(&number.to_be_bytes())
+}
+
+fn put_unused_pairs(out: &mut Vec<u8>, count: usize) -> Result<(), AllocError>
+    ensures { OnOk result (out.new.items ≡ out.old.items ++ unused_pairs count) }
+{
+    for _ in 0..count {
+        put_pair(out, 0)?;
+    }
+    Ok(())
+}
+
+fn put_counts(out: &mut Vec<u8>, classes: u16, methods: u16) -> Result<(), AllocError>
+    ensures { OnOk result (out.new.items ≡ out.old.items ++ (quad 0x414f494d ++ (pair 1 ++ (pair classes ++ pair methods)))) }
+{
+    put_quad(out, 0x414f494d)?;
+    put_pair(out, 1)?;
+    put_pair(out, classes)?;
+    put_pair(out, methods)
+}
+
+fn put_limits(out: &mut Vec<u8>, header: &Header) -> Result<(), AllocError>
+    ensures { OnOk result (out.new.items ≡ out.old.items ++ (pair header.now.cells ++ (pair header.now.messages ++ (header.now.natives ∷ 0 ∷ (pair (class_number header.now.root) ++ (pair 0 ++ quad header.now.budget)))))) }
+{
+    put_pair(out, header.cells)?;
+    put_pair(out, header.messages)?;
+    out.push(header.natives)?;
+    out.push(0)?;
+    put_pair(out, class_number(header.root))?;
+    put_pair(out, 0)?;
+    put_quad(out, header.budget)
+}
+
+fn put_things(out: &mut Vec<u8>, things: &[Thing]) -> Result<(), AllocError>
+    ensures { OnOk result (out.new.items ≡ out.old.items ++ flat_map (λ t. pair (thing_number t)) things.now) }
+{
+    for thing in things {
+        put_pair(out, thing_number(*thing))?;
+    }
+    Ok(())
+}
+
+fn put_class(out: &mut Vec<u8>, class: &ClassDecl) -> Result<(), AllocError>
+    requires { length class.now.fields ≤ 8 }
+    ensures { OnOk result (out.new.items ≡ out.old.items ++ class_bytes class.now) }
+{
+    let count = class.fields.len();
+    let (provider, number) = provider_and_number(class.kind);
+    let front = [
+        kind_byte(class.kind),
+        class.words,
+        count as u8,
+        provider,
+        number,
+        0,
+    ];
+    out.extend_from_slice(&front)?;
+    put_pair(out, session_number(class.kind))?;
+    put_things(out, class.fields.as_slice())?;
+    put_unused_pairs(out, 8 - count)?;
+    put_quad(out, budget_of(class.kind))
+}
+
+fn put_arguments(out: &mut Vec<u8>, arguments: &[Argument]) -> Result<(), AllocError>
+    ensures { OnOk result (out.new.items ≡ out.old.items ++ flat_map (λ a. pair (argument_number a)) arguments.now) }
+{
+    for argument in arguments {
+        put_pair(out, argument_number(*argument))?;
+    }
+    Ok(())
+}
+
+fn put_instruction(out: &mut Vec<u8>, instr: Instr) -> Result<(), AllocError>
+    ensures { OnOk result (out.new.items ≡ out.old.items ++ instruction_bytes instr) }
+{
+    let raw = words::raw(instr);
+    out.extend_from_slice(&[raw.opcode, raw.a, raw.b, raw.c])?;
+    put_quad(out, raw.d)
+}
+
+fn put_code(out: &mut Vec<u8>, code: &[Instr]) -> Result<(), AllocError>
+    ensures { OnOk result (out.new.items ≡ out.old.items ++ flat_map instruction_bytes code.now) }
+{
+    for instr in code {
+        put_instruction(out, *instr)?;
+    }
+    Ok(())
+}
+
+fn put_method(out: &mut Vec<u8>, method: &Method) -> Result<(), AllocError>
+    requires arguments { length method.now.arguments ≤ 6 }
+    requires code { length method.now.code ≤ 1024 }
+    ensures { OnOk result (out.new.items ≡ out.old.items ++ method_bytes method.now) }
+{
+    let count = method.arguments.len();
+    put_pair(out, class_number(method.class))?;
+    let front = [
+        role_byte(method.role),
+        method.flags.bits(),
+        method.before.bits(),
+        method.after.bits(),
+        count as u8,
+        gives_byte(method.gives),
+    ];
+    out.extend_from_slice(&front)?;
+    put_arguments(out, method.arguments.as_slice())?;
+    put_unused_pairs(out, 6 - count)?;
+    put_pair(out, result_number(method.gives))?;
+    put_pair(out, method.code.len() as u16)?;
+    put_code(out, method.code.as_slice())
+}
+
+/// The one spelling of an image.
+pub fn encode(alloc: Global, image: &Image) -> Result<Vec<u8>, AllocError>
+    ensures { IfOk result (λ v. v.items ≡ spell image.now) }
+{
+    let classes = image.classes().as_slice();
+    let methods = image.methods().as_slice();
+    let mut out = Vec::with_capacity(alloc, spelled_len(classes.len(), methods))?;
+    put_counts(&mut out, classes.len() as u16, methods.len() as u16)?;
+    put_limits(&mut out, image.header())?;
+    for class in classes {
+        put_class(&mut out, class)?;
+    }
+    for method in methods {
+        put_method(&mut out, method)?;
+    }
+    Ok(out)
+}

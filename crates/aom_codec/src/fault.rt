@@ -1,0 +1,73 @@
+//! Why bytes are refused.
+ghost use Rattle.std.specs.Prelude.{◌≡◌, ◌++◌, codes, Some};
+ghost use Rattle.std.specs.Fmt.{decimal};
+ghost use Rattle.aom_codec.specs.Faults.{fault_number};
+ghost use Rattle.aom_codec.specs.declared.fault.LoadFault.TheVariants.{OutOfMemory};
+
+use std::alloc::{AllocError, AllocFailed};
+use std::fmt;
+use thiserror::Error;
+
+/// The first fault of the bytes from left to right, or want of memory.
+#[derive(Clone, Copy, PartialEq, Eq, Debug, Error)]
+pub enum LoadFault {
+    BadMagic,
+    BadVersion,
+    /// A field whose bytes are not all there.
+    Truncated,
+    /// Bytes after the last method.
+    Trailing,
+    LimitPassed,
+    BadOpcode,
+    BadOperand,
+    /// A number of a class, method, place or native that is not there.
+    BadIndex,
+    /// An unused byte that is not zero.
+    NotZero,
+    OutOfMemory,
+}
+
+impl LoadFault {
+    /// From 1 to 10, in the order above.
+    pub fn number(self) -> u8
+        ensures { result ≡ fault_number self }
+    {
+        match self {
+            LoadFault::BadMagic => 1,
+            LoadFault::BadVersion => 2,
+            LoadFault::Truncated => 3,
+            LoadFault::Trailing => 4,
+            LoadFault::LimitPassed => 5,
+            LoadFault::BadOpcode => 6,
+            LoadFault::BadOperand => 7,
+            LoadFault::BadIndex => 8,
+            LoadFault::NotZero => 9,
+            LoadFault::OutOfMemory => 10,
+        }
+    }
+}
+
+impl fmt::Display for LoadFault {
+    ghost output = { λ f. Some (codes "load " ++ decimal (fault_number f)) };
+
+    fn fmt<W: fmt::Write>(&self, f: &mut fmt::Formatter<W>) -> fmt::Result {
+        let number = self.number();
+        write!(f, "load {number}")
+    }
+}
+
+impl From<AllocError> for LoadFault {
+    ghost from_gives = { λ _ e. e ≡ OutOfMemory };
+
+    fn from(_error: AllocError) -> LoadFault {
+        LoadFault::OutOfMemory
+    }
+}
+
+impl<T: Drop> From<AllocFailed<T>> for LoadFault {
+    ghost from_gives = { λ _ e. e ≡ OutOfMemory };
+
+    fn from(_failed: AllocFailed<T>) -> LoadFault {
+        LoadFault::OutOfMemory
+    }
+}

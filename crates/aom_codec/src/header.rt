@@ -1,0 +1,72 @@
+//! The header, and the numbers of classes.
+ghost use Rattle.std.specs.Prelude.{◌≡◌, ◌≤◌, IfOk};
+ghost use Rattle.aom_codec.specs.Format.{opening, class_or_none, class_from, index_from};
+ghost use Rattle.aom_codec.specs.Reads.{Reads};
+
+use crate::LoadFault;
+use crate::reader::Reader;
+use aom_image::{ClassNumber, Header};
+
+/// The header with the counts that an image shows by its lists.
+#[derive(Clone, Copy)]
+pub struct Opening {
+    pub classes: u16,
+    pub methods: u16,
+    pub header: Header,
+}
+
+/// The class of that number, which has to be there.
+pub fn class_below(number: u16, classes: u16) -> Result<ClassNumber, LoadFault>
+    requires { classes ≤ 256 }
+    ensures { result ≡ index_from classes number }
+{
+    if number >= classes {
+        return Err(LoadFault::BadIndex);
+    }
+    match ClassNumber::new(number) {
+        Some(class) => Ok(class),
+        None => Err(LoadFault::BadIndex),
+    }
+}
+
+impl<'a> Reader<'a> {
+    pub fn class_or_none(&mut self, classes: u16) -> Result<Option<ClassNumber>, LoadFault>
+        requires { classes ≤ 256 }
+        ensures { Reads (λ x. (x, self.new)) result ((class_or_none classes).read self.old) }
+    {
+        match self.pair()? {
+            0xffff => Ok(None),
+            number => Ok(Some(class_below(number, classes)?)),
+        }
+    }
+
+    pub fn opening(&mut self) -> Result<Opening, LoadFault>
+        ensures read { Reads (λ x. (x, self.new)) result (opening.read self.old) }
+        ensures classes { IfOk result (λ o. o.classes ≤ 256) }
+        ensures methods { IfOk result (λ o. o.methods ≤ 1024) }
+        ensures natives { IfOk result (λ o. o.header.natives ≤ 16) }
+    {
+        self.fixed_quad(0x414f494d, LoadFault::BadMagic)?;
+        self.fixed_pair(1, LoadFault::BadVersion)?;
+        let classes = self.limited_pair(0, 256)?;
+        let methods = self.limited_pair(1, 1024)?;
+        let cells = self.limited_pair(0, 4096)?;
+        let messages = self.limited_pair(0, 1024)?;
+        let natives = self.limited_byte(0, 16)?;
+        self.fixed_byte(0, LoadFault::NotZero)?;
+        let root = self.class_or_none(classes)?;
+        self.fixed_pair(0, LoadFault::NotZero)?;
+        let budget = self.quad()?;
+        Ok(Opening {
+            classes,
+            methods,
+            header: Header {
+                cells,
+                messages,
+                natives,
+                root,
+                budget,
+            },
+        })
+    }
+}
