@@ -13,5 +13,3 @@ mod program;
 
 pub use assembling::assemble;
 
-#[cfg(test)]
-mod tests;

@@ -15,5 +15,3 @@ mod table;
 pub use accepted::{Accepted, accept};
 pub use fault::BudgetFault;
 
-#[cfg(test)]
-mod tests;

@@ -7,8 +7,6 @@
 
 mod page;
 mod refusals;
-#[cfg(test)]
-mod tests;
 mod turn;
 
 pub use page::Page;

@@ -23,5 +23,3 @@ mod writer;
 pub use disassembling::disassemble;
 pub use laws::listings_split;
 
-#[cfg(test)]
-mod tests;

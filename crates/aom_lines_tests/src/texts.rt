@@ -1,8 +1,8 @@
-use crate::{Page, Turn};
 use aom_budget::{Accepted, accept};
 use aom_classes::link;
 use aom_codec::decode;
 use aom_image::ClassNumber;
+use aom_lines::{Page, Turn};
 use aom_sound::{Ending, Line};
 use aom_verify::check;
 use std::alloc::Global;

@@ -1,5 +1,5 @@
 //! Worked programs, each fault with its line, and what stands for what is missing. Want of memory is taken as an answer.
-use super::*;
+use aom_asm::assemble;
 use aom_codec::encode;
 use aom_text::{AsmFault, AsmFaultKind};
 use std::alloc::Global;

@@ -1,7 +1,7 @@
 //! Images that are accepted, and some that may come too deep.
 ghost use Rattle.std.specs.Prelude.{◌≤◌};
 
-use crate::accept;
+use aom_budget::accept;
 use aom_classes::link;
 use aom_codec::decode;
 use aom_verify::check;

@@ -1,6 +1,6 @@
 //! Outside vectors, each with its listing. Want of memory is taken as an answer.
-use super::*;
 use aom_codec::{LoadFault, decode};
+use aom_listing::disassemble;
 use std::alloc::{AllocError, Global};
 use std::process::Abort;
 use std::test::*;
