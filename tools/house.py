@@ -83,8 +83,8 @@ def copy_parts(crate, to, parts, copy=shutil.copy2):
             shutil.copytree(f"{crate}/{part}", f"{to}/{part}", copy_function=copy)
 
 
-def make_room(house, name, room, kept):
-    """A repository of one crate and those below it, whose built libraries are linked and not copied."""
+def make_room(house, name, room, kept=()):
+    """A repository of one crate, with these parts of what it keeps, and those below it, whose built libraries are linked and not copied."""
     os.makedirs(room)
     if os.path.isfile(f"{house.top}/HANDLES"):
         shutil.copy2(f"{house.top}/HANDLES", f"{room}/HANDLES")
@@ -92,7 +92,7 @@ def make_room(house, name, room, kept):
         it.writelines(house.said[one] for one in [*house.stack_of(name), name])
     for it in house.stack_of(name):
         copy_parts(house.folder(it), f"{room}/crates/{it}", (*PARTS, "out/rlib"), os.link)
-    copy_parts(house.folder(name), f"{room}/crates/{name}", (*PARTS, *["out/incremental"] * kept))
+    copy_parts(house.folder(name), f"{room}/crates/{name}", (*PARTS, *kept))
 
 
 def link_kept(house, top, names):

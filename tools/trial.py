@@ -1,18 +1,14 @@
 """Tries every must-fail edit: each has to be refused by the prover."""
 
-import os
-import shutil
 import tempfile
 import threading
 import time
 
 from batches import plan, shown, texts_of, unread
 from edit_files import edit_files, read_edit
-from house import make_room, run_rt, tells_errors
+from house import KEPT, make_room, run_rt, tells_errors
+from keeping import Keeping
 from lanes import Lanes
-
-# a crate that others wait for comes before any edit
-FIRST = 10**9
 
 
 class Trial:
@@ -22,30 +18,19 @@ class Trial:
         self.house, self.place, self.say = house, place, say
         self.lanes = Lanes(lanes)
         self.passed, self.failed = [], []
-        self.seconds = {"kept": 0.0, "batches": 0.0, "alone": 0.0}
-        self.checks = {"kept": 0, "batches": 0, "alone": 0}
+        self.seconds, self.checks = {"batches": 0.0, "alone": 0.0}, {"batches": 0, "alone": 0}
         self.lock = threading.Lock()
         self.names = [it for it in names if any(edit_files(house.folder(it)))]
-        self.wanted = {one for it in self.names for one in [*house.stack_of(it), it]}
-        self.left = {it: {one for one in house.direct[it]} for it in self.wanted}
-        self.weight = {it: house.lines(it) for it in self.wanted}
-        self.behind = {}
-        for it in self.wanted:
-            self.chain(it)
-
-    def chain(self, name):
-        """The work of the longest chain of crates that begins with this one."""
-        if name not in self.behind:
-            above = [it for it in self.wanted if name in self.house.direct[it]]
-            self.behind[name] = self.weight[name] + max(map(self.chain, above), default=0)
-        return self.behind[name]
+        self.kept = Keeping(house, self.names, self.lanes, place, self.add_edits, self.give_up)
 
     def run(self):
-        for name in sorted(self.wanted):
-            if not self.left[name]:
-                self.add_kept(name)
+        self.kept.start()
         self.lanes.run()
         return not self.failed
+
+    def times(self):
+        """What was done, how often, and the seconds that it took in one lane."""
+        return [("proofs below them", len(self.kept.wanted), self.kept.seconds), *((it, self.checks[it], self.seconds[it]) for it in self.seconds)]
 
     def tell(self, name, edit, well, text):
         with self.lock:
@@ -61,43 +46,18 @@ class Trial:
             self.checks[kind] += 1
         return answer
 
-    # the crates as they stand
-
-    def add_kept(self, name):
-        self.lanes.add(FIRST + self.behind[name], lambda: self.keep(name))
-
-    def keep(self, name):
-        """Proves a crate, so that its edits and the crates above have what it keeps. In a clean copy that is from nothing."""
-        verb = "check" if os.path.isfile(f"{self.house.folder(name)}/src/main.rt") else "lib"
-        with tempfile.TemporaryDirectory(dir=self.place) as room:
-            make_room(self.house, name, f"{room}/r", kept=True)
-            status, lines = self.checked("kept", f"{room}/r/crates/{name}", verb, "--jobs", "1")
-            if status == 0:
-                shutil.rmtree(f"{self.house.folder(name)}/out", ignore_errors=True)
-                shutil.move(f"{room}/r/crates/{name}/out", f"{self.house.folder(name)}/out")
-        if status:
-            self.give_up(name, next((it for it in lines if tells_errors(it)), lines[-1]))
-            return
-        self.say(f"{name}: kept for its edits")
-        if name in self.names:
-            self.add_edits(name)
-        with self.lock:
-            ready = [it for it in self.wanted if self.left[it] == {name}]
-            for it in self.wanted:
-                self.left[it].discard(name)
-        for it in ready:
-            self.add_kept(it)
-
-    def give_up(self, name, why):
+    def give_up(self, name, lines):
         """No edit of a crate that is not proved can be tried, nor of one above it."""
-        for it in self.wanted:
+        for it in self.names:
             if it == name or name in self.house.stack_of(it):
                 for edit in edit_files(self.house.folder(it))[0]:
-                    self.tell(it, edit, False, f"NOT TRIED: {name} is not proved: {why[:200]}")
+                    self.tell(it, edit, False, f"NOT TRIED: {name} is not proved: {lines[0][:200]}")
 
     # the edits
 
     def add_edits(self, name):
+        if name not in self.names:
+            return
         folder = self.house.folder(name)
         good, bad = edit_files(folder)
         edits = [read_edit(folder, it) for it in good]
@@ -116,15 +76,15 @@ class Trial:
         if len(batch) == 1:
             self.add_alone(name, batch[0][0])
         else:
-            self.lanes.add(self.weight[name] + len(batch), lambda: self.try_batch(name, batch))
+            self.lanes.add(self.kept.weight[name] + len(batch), lambda: self.try_batch(name, batch))
 
     def add_alone(self, name, edit):
-        self.lanes.add(self.weight[name], lambda: self.try_alone(name, edit))
+        self.lanes.add(self.kept.weight[name], lambda: self.try_alone(name, edit))
 
     def check_with(self, kind, name, texts):
         """Checks a copy of a crate with these texts in place of its own, over what the crate as it stands has kept."""
         with tempfile.TemporaryDirectory(dir=self.place) as room:
-            make_room(self.house, name, f"{room}/r", kept=True)
+            make_room(self.house, name, f"{room}/r", KEPT[:1])
             for path, text in texts.items():
                 with open(f"{room}/r/crates/{name}/{path}", "w", encoding="utf-8") as it:
                     it.write(text)
