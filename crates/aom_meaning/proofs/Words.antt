@@ -25,6 +25,7 @@ use Rattle.aom_ranges.proofs.Within.{ok_is, passed, steps}
 use Rattle.aom_readback.proofs.Lists.{plain_form}
 use Rattle.aom_readback.proofs.Readings.{Takes, sees}
 use Rattle.aom_meaning.specs.Meaning.{Elements, IsArgument, IsList, IsNumbered, IsThing, Names, Pairwise}
+use Rattle.aom_meaning.proofs.Ascii.{plain_list}
 use Rattle.aom_meaning.proofs.Pieces.{Reads, numbered, takes_seen}
 
 -- names that are told apart
@@ -142,9 +143,8 @@ module _ {X : Type 0} (most : ℕ) (one : List ℕ → Result X AsmFaultKind) (S
     parts_mean w xs true is = sym (ok_is [] xs is)
     parts_mean w xs false is = let b = parted (slice_split (λ b. b == 44) w) [] xs is in subst (Pairwise Says (slice_split (λ b. b == 44) w)) (sym b.all) b.each
 
-    pub list_means : (w : List ℕ) (xs : List X) → list_all is_plain w ≡ true → listed most one w ≡ Ok xs → IsList most Says w xs
-    list_means w xs plain is = record {
-      ascii = plain;
+    pub list_means : (w : List ℕ) (xs : List X) → listed most one w ≡ Ok xs → IsList most Says w xs
+    list_means w xs is = record {
       elements = parts_mean w xs (bytes_eq w (codes "-")) is;
       few = (listed_fits (λ x. Unit {0}) most one (λ v x e. tt) w xs is).few;
     }
@@ -165,4 +165,4 @@ module _ {X : Type 0} (most : ℕ) (one : List ℕ → Result X AsmFaultKind) (S
     whole_read w xs false few each = parts_read (slice_split (λ b. b == 44) w) [] xs (omega arith) each
 
     pub list_reads : (w : List ℕ) (xs : List X) → IsList most Says w xs → Reads (listed most one) w xs
-    list_reads w xs is = record { plain = is.ascii; says = whole_read w xs (bytes_eq w (codes "-")) is.few is.elements }
+    list_reads w xs is = record { plain = plain_list Says (λ v x said. (reads v x said).plain) w xs is.elements; says = whole_read w xs (bytes_eq w (codes "-")) is.few is.elements }
