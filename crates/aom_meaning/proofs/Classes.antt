@@ -1,8 +1,7 @@
 -- The statement of a class is read where its words mean a class, and as that class.
-use Rattle.std.proofs.Common.{◌≡◌, ℕ, ◌<◌, Bool, true, false, not, List, [], ◌∷◌, ◌++◌, Option, Some, None, Ok, Err, refl, sym, ap, subst, ◌∙◌, nat_lt, append_assoc}
+use Rattle.std.proofs.Common.{◌≡◌, ℕ, ◌<◌, Bool, true, false, not, List, [], ◌∷◌, ◌++◌, Option, Some, None, Ok, Err, refl, sym, ap, subst, ◌∙◌, nat_lt}
 use Rattle.std.specs.Prelude.{if◌then◌else◌}
 use Rattle.std.proofs.lemmas.Bool.{lt-ltb, ltb-true}
-use Rattle.aom_text.specs.Names.{is_name}
 use Rattle.aom_text.specs.declared.fault.AsmFaultKind.TheVariants.{BadShape, LimitPassed}
 use Rattle.aom_image.specs.WellFormed.{is_server, is_server_kind}
 use Rattle.aom_image.specs.declared.class.ClassDecl.{ClassDecl}
@@ -13,7 +12,7 @@ use Rattle.aom_syntax.specs.Classes.{budget, class_statement, declared, fields, 
 use Rattle.aom_syntax.specs.Keywords.{keyword_text}
 use Rattle.aom_syntax.specs.Names.{place_of}
 use Rattle.aom_syntax.specs.Operands.{class}
-use Rattle.aom_syntax.specs.Reading.{Reading, any_keyword, failing, giving, keyword, next, nothing_more, number, number_in, optional_number, ◌>>=◌}
+use Rattle.aom_syntax.specs.Reading.{Reading, any_keyword, failing, giving, keyword, next, nothing_more, number, number_in, optional_number}
 use Rattle.aom_syntax.specs.declared.class.Purpose.{Purpose}
 use Rattle.aom_syntax.specs.declared.keyword.Keyword.{Keyword}
 use Rattle.aom_syntax.specs.declared.scope.Scope.{Scope}
@@ -21,13 +20,13 @@ use Rattle.aom_asm.proofs.Counting.{begins_with}
 use Rattle.aom_readback.proofs.Readings.{Takes, Whole, done, first, first_two, gives, in_turn, last, made, takes_any_keyword, takes_keyword, takes_flag}
 use Rattle.aom_meaning.specs.Meaning.{ClassMeans, IsBudget, IsList, IsNumber, IsNumbered, IsThing, KindMeans, Names, ProviderMeans, SaidOr}
 use Rattle.aom_meaning.specs.Source.{ClassText, KindText, ProviderText, class_words, kind_words, part, provider_words}
-use Rattle.aom_meaning.proofs.Pieces.{Leaves, NotNext, leaves, none_left, not_part, not_word, reads_part, saw, saw_keyword, saw_part, saw_used, takes_seen, then_reads, Part, not_last}
+use Rattle.aom_meaning.proofs.Pieces.{NotNext, none_left, not_part, reads_part, saw, saw_keyword, saw_part, saw_used, takes_seen, then_reads, Part, not_last}
 use Rattle.aom_meaning.proofs.Declared.{reads_mark, saw_declared, saw_mark, takes_declared}
 use Rattle.aom_meaning.proofs.Headers.{number_reads}
 use Rattle.aom_meaning.proofs.Sound.{Sound, giving_sound, next_sound}
 use Rattle.aom_meaning.proofs.Words.{LooksUp, list_means, list_reads, takes_class, thing_means, thing_reads, told}
 use Rattle.aom_readback.proofs.Classes.{purpose_of}
-use Rattle.aom_ranges.proofs.Within.{ok_is, passed, steps}
+use Rattle.aom_ranges.proofs.Within.{ok_is}
 use Rattle.aom_image.specs.declared.class.ClassKind.TheVariants as kinds
 use Rattle.aom_image.specs.declared.class.Provider.TheVariants as providers
 use Rattle.aom_syntax.specs.declared.class.Purpose.TheVariants as purposes

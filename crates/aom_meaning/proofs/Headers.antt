@@ -1,15 +1,13 @@
 -- The image statement is read where its words mean a header, and as that header.
-use Rattle.std.proofs.Common.{◌≡◌, ℕ, Bool, true, false, List, [], ◌∷◌, ◌++◌, Option, Some, None, Ok, refl, sym, ap, ◌∙◌}
+use Rattle.std.proofs.Common.{◌≡◌, ℕ, true, false, List, ◌∷◌, ◌++◌, Option, Some, None, Ok, refl, sym, ap, ◌∙◌}
 use Rattle.std.specs.Prelude.{if◌then◌else◌}
-use Rattle.std.specs.List.{list_all}
-use Rattle.aom_text.specs.Words.{is_plain}
 use Rattle.aom_text.specs.declared.fault.AsmFaultKind.TheVariants.{BadShape}
 use Rattle.aom_image.specs.declared.class.ClassDecl.{ClassDecl}
 use Rattle.aom_image.specs.declared.image.Header.{Header}
 use Rattle.aom_syntax.specs.Headers.{image_statement, optional_root, optional_version}
 use Rattle.aom_syntax.specs.Keywords.{keyword_text}
 use Rattle.aom_syntax.specs.Operands.{class}
-use Rattle.aom_syntax.specs.Reading.{Reading, failing, giving, keyword, next, nothing_more, number, number_in, optional_number, took}
+use Rattle.aom_syntax.specs.Reading.{Reading, failing, giving, keyword, next, nothing_more, number, number_in, optional_number}
 use Rattle.aom_syntax.specs.declared.keyword.Keyword.TheVariants as k
 use Rattle.aom_syntax.specs.declared.scope.Scope.{Scope}
 use Rattle.aom_ranges.proofs.Within.{ok_is, steps}
@@ -17,7 +15,7 @@ use Rattle.aom_readback.proofs.Readings.{Whole, done, ends, first, last, takes_k
 use Rattle.aom_meaning.specs.Meaning.{HeaderMeans, IsNumber, IsNumbered, Names, SaidOrNone}
 use Rattle.aom_meaning.specs.Source.{HeaderText, header_words, part}
 use Rattle.aom_meaning.proofs.Ascii.{plain_number}
-use Rattle.aom_meaning.proofs.Pieces.{Leaves, NotNext, Reads, Took, is_not, is_there, leaves, none_left, not_part, not_word, pair, reads_part, saw, saw_keyword, saw_part, saw_used, take_it, takes_seen, then_reads}
+use Rattle.aom_meaning.proofs.Pieces.{Leaves, NotNext, Reads, Took, is_not, is_there, none_left, not_part, not_word, pair, reads_part, saw, saw_keyword, saw_part, saw_used, take_it, takes_seen, then_reads}
 use Rattle.aom_meaning.proofs.Sound.{Sound, giving_sound, next_sound}
 use Rattle.aom_meaning.proofs.Words.{LooksUp, takes_class, told}
 

@@ -1,5 +1,5 @@
 -- What one word says is what is read of it: names, numbers, sets, things, arguments and lists, both ways.
-use Rattle.std.proofs.Common.{◌≡◌, ℕ, ◌+◌, ◌≤◌, ◌==◌, Bool, true, false, List, [], ◌∷◌, ◌++◌, length, Option, Some, None, Result, Ok, Err, refl, sym, ap, subst, ◌∙◌, append_assoc, append-nil, codes, arith, length-append}
+use Rattle.std.proofs.Common.{◌≡◌, ℕ, ◌+◌, ◌≤◌, ◌==◌, Bool, true, false, List, [], ◌∷◌, ◌++◌, length, Result, Ok, Err, refl, sym, ap, subst, ◌∙◌, append_assoc, append-nil, codes, arith, length-append}
 use Rattle.std.specs.Prelude.{◌&&◌, if◌then◌else◌, nat_le, nat_lt, not}
 use Rattle.std.specs.List.{list_all, slice_split}
 use Rattle.std.specs.Str.{bytes_eq}
@@ -14,11 +14,11 @@ use Rattle.aom_image.specs.declared.method.Argument.{Argument}
 use Rattle.aom_image.specs.declared.method.Argument.TheVariants as arg
 use Rattle.aom_image.specs.declared.method.Thing.{Thing}
 use Rattle.aom_image.specs.declared.method.Thing.TheVariants as owned
-use Rattle.aom_syntax.specs.Classes.{class_of, elements, listed, thing, thing_of}
+use Rattle.aom_syntax.specs.Classes.{class_of, elements, listed, thing_of}
 use Rattle.aom_syntax.specs.Methods.{argument_of}
 use Rattle.aom_syntax.specs.Names.{place_of, referred}
 use Rattle.aom_syntax.specs.Operands.{class}
-use Rattle.aom_syntax.specs.Reading.{◌>>=◌, as_name, name, word}
+use Rattle.aom_syntax.specs.Reading.{◌>>=◌, as_name, name}
 use Rattle.aom_syntax.specs.declared.scope.Scope.{Scope}
 use Rattle.aom_ranges.proofs.Lists.{listed_fits}
 use Rattle.aom_ranges.proofs.Within.{ok_is, passed, steps}

@@ -1,5 +1,5 @@
 -- What the parts of an assembly text say.
-use Rattle.std.specs.Prelude.{ℕ, ◌≡◌, ◌<◌, ◌≤◌, ◌==◌, ◌||◌, Bool, true, false, List, [], ◌∷◌, map, length, replicate, Option, Some, None, IfSome, Result, Ok, Err, codes, slice_get}
+use Rattle.std.specs.Prelude.{ℕ, ◌≡◌, ◌<◌, ◌≤◌, ◌==◌, ◌||◌, Bool, true, false, List, [], ◌∷◌, map, length, replicate, Option, Some, None, IfSome, Ok, codes, slice_get}
 use Rattle.std.specs.List.{slice_split}
 use Rattle.std.specs.Str.{bytes_eq}
 use Rattle.aom_text.specs.Names.{is_name}
@@ -25,7 +25,7 @@ use Rattle.aom_syntax.specs.declared.scope.Scope.{Scope}
 use Rattle.aom_syntax.specs.declared.method.Heading.{Heading}
 use Rattle.aom_asm.specs.TextNames.{label_or_none}
 use Rattle.aom_readback.specs.Naming.{heading_of}
-use Rattle.aom_meaning.specs.Source.{Word, Words, HeaderText, ProviderText, by_itself, by_timer, by_native, KindText, plain, session, active, server, ClassText, GivesText, unsaid, nothing, word, own, maybe, left, HeadingText, InstructionText, MethodText}
+use Rattle.aom_meaning.specs.Source.{Word, HeaderText, ProviderText, by_itself, by_timer, by_native, KindText, plain, session, active, server, ClassText, GivesText, unsaid, nothing, word, own, maybe, left, HeadingText, InstructionText, MethodText}
 
 -- ---- names
 
