@@ -1,3 +1,4 @@
 pub mod Refusing
 pub mod Sending
 pub mod Telling
+pub mod Meaning

@@ -1,5 +1,5 @@
 -- What `asm` and `dis` promise of their sinks and their status, from a text to an image's bytes and back.
-use Rattle.std.specs.Prelude.{ℕ, ◌≡◌, true, List, Some, Ok, Err}
+use Rattle.std.specs.Prelude.{ℕ, ◌≡◌, ◌≤◌, ◌^◌, true, List, length, Some, Err}
 use Rattle.aom_image.specs.Image.{Image}
 use Rattle.aom_codec.specs.Spelling.{spell}
 use Rattle.aom_codec.specs.Format.{first_fault}
@@ -7,6 +7,8 @@ use Rattle.aom_codec.specs.declared.fault.LoadFault.{LoadFault}
 use Rattle.aom_text.specs.declared.fault.AsmFault.{AsmFault}
 use Rattle.aom_asm.specs.Denoted.{denoted}
 use Rattle.aom_listing.specs.Listing.{listing_text}
+use Rattle.aom_readback.specs.Texts.{AllSayQuiet}
+use Rattle.aom_meaning.specs.Denotes.{Denotes}
 use Rattle.aom_run.specs.Runs.{after}
 use Rattle.aom_main.specs.declared.status.ExitStatus.{ExitStatus}
 use Rattle.aom_main.specs.declared.status.ExitStatus.TheVariants.{Done, ImageRefused, Fault as Faulty}
@@ -18,12 +20,17 @@ use Rattle.aom_main.specs.Headline.{Sent, IsSilent, Says, Tells}
 -- the bytes spell the image that the text denotes
 pub record Makes (text bytes : List ℕ) : Type 0 where
   pub image : Image
-  pub denotes : denoted text ≡ Ok image
+  pub denotes : Denotes text image
   pub spelling : bytes ≡ spell image
+
+-- the text denotes no image, and that is its first fault
+pub record IsFaulty (text : List ℕ) (fault : AsmFault) : Type 0 where
+  pub meaningless : (i : Image) → Denotes text i → ⊥
+  pub first : denoted text ≡ Err fault
 
 -- why a text makes no bytes: its first fault, or memory was wanting
 abbrev pub RefusesText : List ℕ → Fault → Type 0
-RefusesText text (Asm fault) = denoted text ≡ Err fault
+RefusesText text (Asm fault) = IsFaulty text fault
 RefusesText text Memory = Unit {0}
 RefusesText text _ = ⊥
 
@@ -46,11 +53,12 @@ AsmAnswers text out errors ImageRefused = IsNoText text out errors
 AsmAnswers text out errors Faulty = AsmBreaks text out errors
 AsmAnswers text out errors _ = ⊥
 
--- the text is the listing of the image that the bytes spell
+-- the text is the listing of the image that the bytes spell; and it denotes that image, where each method that is quiet by its role says so and the text is not too long
 pub record Lists (bytes text : List ℕ) : Type 0 where
   pub image : Image
   pub spelled : IsSpelled bytes image
   pub listing : text ≡ listing_text image
+  pub denotes : AllSayQuiet image → length text ≤ 2 ^ 20 → Denotes text image
 
 -- why bytes make no listing: they are no image, or memory was wanting
 abbrev pub RefusesBytes : List ℕ → Fault → Type 0

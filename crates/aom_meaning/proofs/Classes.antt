@@ -1,8 +1,7 @@
 -- The statement of a class is read where its words mean a class, and as that class.
-use Rattle.std.proofs.Common.{◌≡◌, ℕ, ◌<◌, Bool, true, false, not, List, [], ◌∷◌, ◌++◌, Option, Some, None, Ok, Err, refl, sym, ap, subst, ◌∙◌, nat_lt, append_assoc}
+use Rattle.std.proofs.Common.{◌≡◌, ℕ, ◌<◌, Bool, true, false, not, List, [], ◌∷◌, ◌++◌, Option, Some, None, Ok, Err, refl, sym, ap, subst, ◌∙◌, nat_lt}
 use Rattle.std.specs.Prelude.{if◌then◌else◌}
 use Rattle.std.proofs.lemmas.Bool.{lt-ltb, ltb-true}
-use Rattle.aom_text.specs.Names.{is_name}
 use Rattle.aom_text.specs.declared.fault.AsmFaultKind.TheVariants.{BadShape, LimitPassed}
 use Rattle.aom_image.specs.WellFormed.{is_server, is_server_kind}
 use Rattle.aom_image.specs.declared.class.ClassDecl.{ClassDecl}
@@ -13,7 +12,7 @@ use Rattle.aom_syntax.specs.Classes.{budget, class_statement, declared, fields, 
 use Rattle.aom_syntax.specs.Keywords.{keyword_text}
 use Rattle.aom_syntax.specs.Names.{place_of}
 use Rattle.aom_syntax.specs.Operands.{class}
-use Rattle.aom_syntax.specs.Reading.{Reading, any_keyword, failing, giving, keyword, next, nothing_more, number, number_in, optional_number, ◌>>=◌}
+use Rattle.aom_syntax.specs.Reading.{Reading, any_keyword, failing, giving, keyword, next, nothing_more, number, number_in, optional_number}
 use Rattle.aom_syntax.specs.declared.class.Purpose.{Purpose}
 use Rattle.aom_syntax.specs.declared.keyword.Keyword.{Keyword}
 use Rattle.aom_syntax.specs.declared.scope.Scope.{Scope}
@@ -21,13 +20,13 @@ use Rattle.aom_asm.proofs.Counting.{begins_with}
 use Rattle.aom_readback.proofs.Readings.{Takes, Whole, done, first, first_two, gives, in_turn, last, made, takes_any_keyword, takes_keyword, takes_flag}
 use Rattle.aom_meaning.specs.Meaning.{ClassMeans, IsBudget, IsList, IsNumber, IsNumbered, IsThing, KindMeans, Names, ProviderMeans, SaidOr}
 use Rattle.aom_meaning.specs.Source.{ClassText, KindText, ProviderText, class_words, kind_words, part, provider_words}
-use Rattle.aom_meaning.proofs.Pieces.{Leaves, NotNext, leaves, none_left, not_part, not_word, reads_part, saw, saw_keyword, saw_part, saw_used, takes_seen, then_reads, Part, not_last}
+use Rattle.aom_meaning.proofs.Pieces.{NotNext, none_left, not_part, reads_part, saw, saw_keyword, saw_part, saw_used, takes_seen, then_reads, Part, not_last}
 use Rattle.aom_meaning.proofs.Declared.{reads_mark, saw_declared, saw_mark, takes_declared}
-use Rattle.aom_meaning.proofs.Headers.{number_means, number_reads}
+use Rattle.aom_meaning.proofs.Headers.{number_reads}
 use Rattle.aom_meaning.proofs.Sound.{Sound, giving_sound, next_sound}
 use Rattle.aom_meaning.proofs.Words.{LooksUp, list_means, list_reads, takes_class, thing_means, thing_reads, told}
 use Rattle.aom_readback.proofs.Classes.{purpose_of}
-use Rattle.aom_ranges.proofs.Within.{ok_is, passed, steps}
+use Rattle.aom_ranges.proofs.Within.{ok_is}
 use Rattle.aom_image.specs.declared.class.ClassKind.TheVariants as kinds
 use Rattle.aom_image.specs.declared.class.Provider.TheVariants as providers
 use Rattle.aom_syntax.specs.declared.class.Purpose.TheVariants as purposes
@@ -68,7 +67,7 @@ provider_sound natives k.Native vs =
           record {
             said = source.by_native s.w;
             words = ap (λ v. keyword_text k.Native ∷ v) (s.words ∙ ap (λ v. s.w ∷ v) below.1);
-            means = subst (ProviderMeans natives (source.by_native s.w)) below.2 (number_means 0 15 s.w n s.plain s.says, below.0);
+            means = subst (ProviderMeans natives (source.by_native s.w)) below.2 (s.says, below.0);
           };
     })
   where
@@ -98,7 +97,7 @@ module _ (names : Names) (kinds_before : List ClassDecl) (natives servers : ℕ)
       giving_sound Q (purposes.Server n c) rest (record {
         said = source.server s.w n_said.w;
         words = ap (λ v. keyword_text k.Server ∷ v) (s.words ∙ ap (λ v. s.w ∷ v) (e ∙ ap (λ v. keyword_text k.Max ∷ v) n_said.words));
-        means = (s.numbered, number_means 1 64 n_said.w n n_said.plain n_said.says);
+        means = (s.numbered, n_said.says);
       }))))
 
   if_few : (b : Bool) (vs : List (List ℕ)) → Sound (if b then server (told names kinds_before) else failing LimitPassed) vs (λ p rest. PurposeSays (keyword_text k.Server ∷ vs) p rest)
@@ -145,7 +144,7 @@ module _ (names : Names) (kinds_before : List ClassDecl) (natives servers : ℕ)
       giving_sound Q n rest (record {
         w = s.w;
         words = e ∙ ap (λ v. keyword_text k.Budget ∷ v) (s.words ∙ ap (λ v. s.w ∷ v) (none_left false us v rest r3).0);
-        says = number_means 0 4294967295 s.w n s.plain s.says;
+        says = s.says;
       }))))
 
   kind_sound : (said : KindText) (p : Purpose) → PurposeMeans names natives said p → (owns : Bool) (ws : List (List ℕ)) → Sound (kind owns p) ws (λ K rest. KindSays said ws K)
@@ -176,7 +175,7 @@ module _ (names : Names) (kinds_before : List ClassDecl) (natives servers : ℕ)
       record {
         said = Some s.w;
         words = saw_mark k.Own ws true vs marked ∙ ap (λ v. keyword_text k.Own ∷ v) s.words;
-        says = list_means 8 (thing_of (told names kinds_before)) (IsThing names) (thing_means names kinds_before) s.w list s.plain s.says;
+        says = list_means 8 (thing_of (told names kinds_before)) (IsThing names) (thing_means names kinds_before) s.w list s.says;
       }
 
   -- the words of a class behind its keyword, and what they mean at its place
@@ -200,7 +199,7 @@ module _ (names : Names) (kinds_before : List ClassDecl) (natives servers : ℕ)
       let d = saw_declared names.classes place ws u v1 r1 in
       let e = begins_with v1 key v2 r2 in
       let s = (purpose_sound key v2).each p v3 r3 in
-      let n = saw_part k.Words (number_in 0 8) (IsNumber 0 8) 0 (number_means 0 8) v3 words v4 r4 in
+      let n = saw_part k.Words (number_in 0 8) (IsNumber 0 8) 0 (λ w n is. is) v3 words v4 r4 in
       let o = owns_says owns v4 v5 list v6 r5 r6 in
       let b = (kind_sound s.said p s.means owns v6).each K v7 r7 in
       giving_sound Q _ v7 (record {

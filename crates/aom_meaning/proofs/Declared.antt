@@ -1,13 +1,12 @@
 -- A name that is declared is read at its place, and the words of the language behind it.
-use Rattle.std.proofs.Common.{◌≡◌, ℕ, Bool, true, false, List, [], ◌∷◌, ◌++◌, Option, Some, None, Ok, Err, refl, sym, ap, ◌∙◌}
+use Rattle.std.proofs.Common.{◌≡◌, ℕ, Bool, true, false, List, [], ◌∷◌, ◌++◌, Some, Ok, Err, refl, sym, ap, ◌∙◌}
 use Rattle.std.specs.Prelude.{if◌then◌else◌}
 use Rattle.std.proofs.lemmas.Bool.{eq-eqb}
 use Rattle.aom_text.specs.Names.{is_name}
 use Rattle.aom_text.specs.declared.fault.AsmFaultKind.TheVariants.{DoubleName}
 use Rattle.aom_syntax.specs.Classes.{declared, declared_at, flag, is_at}
-use Rattle.aom_syntax.specs.Keywords.{keyword_text}
 use Rattle.aom_syntax.specs.Names.{place_of}
-use Rattle.aom_syntax.specs.Reading.{◌>>=◌, as_name, name, next, nothing_more, took}
+use Rattle.aom_syntax.specs.Reading.{◌>>=◌, as_name, name, took}
 use Rattle.aom_syntax.specs.declared.keyword.Keyword.{Keyword}
 use Rattle.aom_ranges.proofs.Names.{at_place}
 use Rattle.aom_ranges.proofs.Within.{ok_is, passed, steps}

@@ -1,32 +1,28 @@
 -- The image statement is read where its words mean a header, and as that header.
-use Rattle.std.proofs.Common.{◌≡◌, ℕ, Bool, true, false, List, [], ◌∷◌, ◌++◌, Option, Some, None, Ok, refl, sym, ap, ◌∙◌}
+use Rattle.std.proofs.Common.{◌≡◌, ℕ, true, false, List, ◌∷◌, ◌++◌, Option, Some, None, Ok, refl, sym, ap, ◌∙◌}
 use Rattle.std.specs.Prelude.{if◌then◌else◌}
-use Rattle.std.specs.List.{list_all}
-use Rattle.aom_text.specs.Words.{is_plain}
 use Rattle.aom_text.specs.declared.fault.AsmFaultKind.TheVariants.{BadShape}
 use Rattle.aom_image.specs.declared.class.ClassDecl.{ClassDecl}
 use Rattle.aom_image.specs.declared.image.Header.{Header}
 use Rattle.aom_syntax.specs.Headers.{image_statement, optional_root, optional_version}
 use Rattle.aom_syntax.specs.Keywords.{keyword_text}
 use Rattle.aom_syntax.specs.Operands.{class}
-use Rattle.aom_syntax.specs.Reading.{Reading, failing, giving, keyword, next, nothing_more, number, number_in, optional_number, took}
+use Rattle.aom_syntax.specs.Reading.{Reading, failing, giving, keyword, next, nothing_more, number, number_in, optional_number}
 use Rattle.aom_syntax.specs.declared.keyword.Keyword.TheVariants as k
 use Rattle.aom_syntax.specs.declared.scope.Scope.{Scope}
 use Rattle.aom_ranges.proofs.Within.{ok_is, steps}
 use Rattle.aom_readback.proofs.Readings.{Whole, done, ends, first, last, takes_keyword}
 use Rattle.aom_meaning.specs.Meaning.{HeaderMeans, IsNumber, IsNumbered, Names, SaidOrNone}
 use Rattle.aom_meaning.specs.Source.{HeaderText, header_words, part}
-use Rattle.aom_meaning.proofs.Pieces.{Leaves, NotNext, Reads, Took, is_not, is_there, leaves, none_left, not_part, not_word, pair, reads_part, saw, saw_keyword, saw_part, saw_used, take_it, takes_seen, then_reads}
+use Rattle.aom_meaning.proofs.Ascii.{plain_number}
+use Rattle.aom_meaning.proofs.Pieces.{Leaves, NotNext, Reads, Took, is_not, is_there, none_left, not_part, not_word, pair, reads_part, saw, saw_keyword, saw_part, saw_used, take_it, takes_seen, then_reads}
 use Rattle.aom_meaning.proofs.Sound.{Sound, giving_sound, next_sound}
 use Rattle.aom_meaning.proofs.Words.{LooksUp, takes_class, told}
 
 -- ---- numbers
 
-pub number_means : (low high : ℕ) (w : List ℕ) (n : ℕ) → list_all is_plain w ≡ true → number_in low high w ≡ Ok n → IsNumber low high w n
-number_means low high w n plain says = record { ascii = plain; spelled = says }
-
 pub number_reads : (low high : ℕ) (w : List ℕ) (n : ℕ) → IsNumber low high w n → Reads (number_in low high) w n
-number_reads low high w n is = record { plain = is.ascii; says = is.spelled }
+number_reads low high w n is = record { plain = plain_number low high w n is; says = is }
 
 -- ---- what was read
 
@@ -94,16 +90,16 @@ module _ (names : Names) (kinds : List ClassDecl) where
       next_sound Q (optional_root (told names kinds)) _ v7 (λ root v8 r8.
       let e1 = saw_keyword k.Image ws u1 v1 r1 in
       let e2 = no_version v1 u2 v2 r2 in
-      let cs = saw_part k.Cells (number_in 0 4096) (IsNumber 0 4096) 0 (number_means 0 4096) v2 cells v3 r3 in
-      let ms = saw_part k.Messages (number_in 0 1024) (IsNumber 0 1024) 0 (number_means 0 1024) v3 messages v4 r4 in
-      let ns = saw_part k.Natives (number_in 0 16) (IsNumber 0 16) 0 (number_means 0 16) v4 natives v5 r5 in
+      let cs = saw_part k.Cells (number_in 0 4096) (IsNumber 0 4096) 0 (λ w n is. is) v2 cells v3 r3 in
+      let ms = saw_part k.Messages (number_in 0 1024) (IsNumber 0 1024) 0 (λ w n is. is) v3 messages v4 r4 in
+      let ns = saw_part k.Natives (number_in 0 16) (IsNumber 0 16) 0 (λ w n is. is) v4 natives v5 r5 in
       let e6 = saw_keyword k.Budget v5 u6 v6 r6 in
       let b = saw (number_in 0 4294967295) v6 budget v7 r7 in
       let r = (root_sound v7).each root v8 r8 in
       giving_sound Q _ v8 (record {
         said = record { cells = cs.said; messages = ms.said; natives = ns.said; budget = b.w; root = r.said };
         words = e1 ∙ ap (λ v. keyword_text k.Image ∷ v) (e2 ∙ cs.words ∙ ap (λ v. part k.Cells cs.said ++ v) (ms.words ∙ ap (λ v. part k.Messages ms.said ++ v) (ns.words ∙ ap (λ v. part k.Natives ns.said ++ v) (e6 ∙ ap (λ v. keyword_text k.Budget ∷ v) (b.words ∙ ap (λ v. b.w ∷ v) r.words)))));
-        means = record { cells = cs.says; messages = ms.says; natives = ns.says; budget = number_means 0 4294967295 b.w budget b.plain b.says; root = r.says };
+        means = record { cells = cs.says; messages = ms.says; natives = ns.says; budget = b.says; root = r.says };
       })))))))))
 
 -- ---- what is read

@@ -1,13 +1,9 @@
 -- The statement that begins a method is read where its words mean a heading, and as that heading.
 use Rattle.std.proofs.Common.{◌≡◌, ℕ, ◌||◌, Bool, true, false, List, [], ◌∷◌, ◌++◌, replicate, Option, Some, None, Ok, Err, refl, sym, ap, subst, ◌∙◌}
 use Rattle.std.specs.Prelude.{if◌then◌else◌}
-use Rattle.std.specs.List.{list_all}
 use Rattle.std.specs.Str.{bytes_eq}
-use Rattle.aom_text.specs.Names.{is_name}
-use Rattle.aom_text.specs.Words.{is_plain}
 use Rattle.aom_text.specs.declared.fault.AsmFaultKind.TheVariants.{BadShape}
 use Rattle.aom_image.specs.declared.class.ClassDecl.{ClassDecl}
-use Rattle.aom_image.specs.declared.method.Argument.{Argument}
 use Rattle.aom_image.specs.declared.method.Argument.TheVariants as arg
 use Rattle.aom_image.specs.declared.method.Gives.{Gives}
 use Rattle.aom_image.specs.declared.method.Gives.TheVariants as result
@@ -19,7 +15,7 @@ use Rattle.aom_syntax.specs.Keywords.{keyword_text}
 use Rattle.aom_syntax.specs.Methods.{all_states, argument_of, flags_of, gives, heading, is_quiet_role, kind_of, optional_arguments, optional_class, optional_gives, optional_states, role, role_of, states_of, usual_after, usual_before, usual_gives, usual_words}
 use Rattle.aom_syntax.specs.Names.{place_of}
 use Rattle.aom_syntax.specs.Operands.{class}
-use Rattle.aom_syntax.specs.Reading.{◌>>=◌, Reading, any_keyword, giving, next, nothing_more, took}
+use Rattle.aom_syntax.specs.Reading.{◌>>=◌, Reading, any_keyword, giving, next, nothing_more}
 use Rattle.aom_syntax.specs.declared.keyword.Keyword.{Keyword}
 use Rattle.aom_syntax.specs.declared.keyword.Keyword.TheVariants as k
 use Rattle.aom_syntax.specs.declared.method.Heading.{Heading}
@@ -31,17 +27,15 @@ use Rattle.aom_meaning.specs.Meaning.{AreStates, GivesMeans, HeadingMeans, IsArg
 use Rattle.aom_meaning.specs.Source as source
 use Rattle.aom_meaning.specs.Source.{GivesText, HeadingText, gives_words, heading_words, mark, part, promise_words}
 use Rattle.aom_meaning.proofs.Pieces.{Leaves, NotNext, Reads, Took, is_not, is_there, none_left, not_mark, not_part, not_word, pair, reads_part, saw, saw_part, saw_used, take_it, takes_seen, then_reads}
+use Rattle.aom_meaning.proofs.Ascii.{plain_states}
 use Rattle.aom_meaning.proofs.Declared.{reads_mark, saw_declared, saw_mark, takes_declared}
 use Rattle.aom_meaning.proofs.Sound.{Sound, giving_sound, next_sound}
 use Rattle.aom_meaning.proofs.Words.{LooksUp, argument_means, argument_reads, list_means, list_reads, takes_class, thing_means, thing_reads, told}
 
 -- ---- words
 
-states_mean : (w : List ℕ) (s : States) → list_all is_plain w ≡ true → states_of w ≡ Ok s → AreStates w s
-states_mean w s plain says = record { ascii = plain; spelled = says }
-
 states_read : (w : List ℕ) (s : States) → AreStates w s → Reads states_of w s
-states_read w s is = record { plain = is.ascii; says = is.spelled }
+states_read w s is = record { plain = plain_states w s is; says = is }
 
 record RoleSays (ws : List (List ℕ)) (r : Role) (rest : List (List ℕ)) : Type 0 where
   key : Keyword
@@ -179,16 +173,16 @@ module _ (names : Names) (kinds : List ClassDecl) where
       let d = saw_declared names.methods place ws u v1 r1 in
       let r = role_says v1 role v2 r2 in
       let c = class_says v2 class v3 r3 in
-      let i = saw_part k.In states_of AreStates (states (usual_before role all)) states_mean v5 before v6 r6 in
-      let o = saw_part k.Out states_of AreStates (states (usual_after role all)) states_mean v6 after v7 r7 in
+      let i = saw_part k.In states_of AreStates (states (usual_before role all)) (λ w s is. is) v5 before v6 r6 in
+      let o = saw_part k.Out states_of AreStates (states (usual_after role all)) (λ w s is. is) v6 after v7 r7 in
       let a = saw_part k.Args (listed 6 (argument_of scope)) (IsList 6 (IsArgument names)) (replicate (usual_words role) arg.Word) (list_means 6 (argument_of scope) (IsArgument names) (argument_means names kinds)) v7 arguments v8 r8 in
       let g = (gives_sound (usual_gives role (kind_of kinds class)) v8).each gives v9 r9 in
       let said : HeadingText = record { name = d.w; role = r.key; class = c.said; leaves = leaves; quiet = quiet; before = i.said; after = o.said; arguments = a.said; gives = g.said } in
       giving_sound Q _ v9 (record {
         said = said;
         words = ap (λ v. keyword_text k.Method ∷ v) (d.words ∙ ap (λ v. d.w ∷ v) (r.words ∙ ap (λ v. keyword_text r.key ∷ v) (c.words ∙ ap (λ v. part k.Of c.said ++ v) (
-        saw_mark k.Leaves v3 leaves v4 r4 ∙ ap (λ v. mark k.Leaves leaves ++ v) (saw_mark k.Quiet v4 quiet v5 r5 ∙ ap (λ v. mark k.Quiet quiet ++ v) (
-        i.words ∙ ap (λ v. part k.In i.said ++ v) (o.words ∙ ap (λ v. part k.Out o.said ++ v) (a.words ∙ ap (λ v. part k.Args a.said ++ v) g.words))))))));
+            saw_mark k.Leaves v3 leaves v4 r4 ∙ ap (λ v. mark k.Leaves leaves ++ v) (saw_mark k.Quiet v4 quiet v5 r5 ∙ ap (λ v. mark k.Quiet quiet ++ v) (
+            i.words ∙ ap (λ v. part k.In i.said ++ v) (o.words ∙ ap (λ v. part k.Out o.said ++ v) (a.words ∙ ap (λ v. part k.Args a.said ++ v) g.words))))))));
         means = record { name = d.is_name; role = r.says; class = c.says; flags = refl; before = i.says; after = o.says; arguments = a.says; gives = g.means };
         placed = d.placed;
       }))))))))))

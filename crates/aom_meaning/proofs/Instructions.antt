@@ -1,5 +1,5 @@
 -- A statement of a method's code is read where its words mean an instruction, and as that instruction.
-use Rattle.std.proofs.Common.{◌≡◌, ℕ, suc, ◌+◌, ◌-◌, ◌==◌, ◌<◌, ◌≤◌, Bool, true, false, List, [], ◌∷◌, ◌++◌, length, take, drop, get_or, Option, Some, None, Ok, Err, refl, sym, ap, subst, ◌∙◌, append_assoc, arith}
+use Rattle.std.proofs.Common.{◌≡◌, ℕ, suc, ◌-◌, ◌==◌, ◌<◌, ◌≤◌, Bool, true, false, List, [], ◌∷◌, ◌++◌, length, take, drop, get_or, Option, Some, None, Ok, Err, refl, sym, ap, ◌∙◌, arith}
 use Rattle.std.specs.Prelude.{IfSome, if◌then◌else◌}
 use Rattle.std.specs.List.{list_all}
 use Rattle.std.specs.Str.{bytes_eq}
@@ -10,18 +10,16 @@ use Rattle.std.proofs.lemmas.List.Folds.{list_all-append}
 use Rattle.std.proofs.lemmas.Slice.Eq.{bytes_eq-Decides}
 use Rattle.aom_text.specs.Names.{is_name}
 use Rattle.aom_text.specs.Words.{is_plain}
-use Rattle.aom_text.specs.declared.fault.AsmFaultKind.TheVariants.{BadShape, DoubleName, NotAscii}
+use Rattle.aom_text.specs.declared.fault.AsmFaultKind.TheVariants.{DoubleName, NotAscii}
 use Rattle.aom_image.specs.declared.class.ClassDecl.{ClassDecl}
 use Rattle.aom_image.specs.declared.instr.Instr.{Instr}
 use Rattle.aom_syntax.specs.Classes.{declared_at, is_at}
-use Rattle.aom_syntax.specs.Keywords.{strange}
 use Rattle.aom_syntax.specs.Methods.{after_label, check_label, instruction, known_mnemonic, label_of, named_mnemonic, skip_label}
 use Rattle.aom_syntax.specs.Mnemonics.{mnemonic_of, mnemonic_text, mnemonics}
 use Rattle.aom_syntax.specs.Names.{place_of}
-use Rattle.aom_syntax.specs.Reading.{◌>>=◌, Reading, as_name, giving, next, nothing_more, seen, word}
+use Rattle.aom_syntax.specs.Reading.{◌>>=◌, as_name, giving, next, nothing_more, seen, word}
 use Rattle.aom_syntax.specs.Words.{words_operands}
 use Rattle.aom_syntax.specs.declared.mnemonic.Mnemonic.{Mnemonic}
-use Rattle.aom_syntax.specs.declared.scope.Scope.{Scope}
 use Rattle.aom_asm.proofs.Counting.{found_passes}
 use Rattle.aom_ranges.proofs.Names.{at_place}
 use Rattle.aom_ranges.proofs.Within.{ok_is, passed, steps}
@@ -30,7 +28,7 @@ use Rattle.aom_readback.proofs.Statements.{label_cut}
 use Rattle.aom_readback.proofs.Tables.{mnemonic_is_no_label, mnemonic_is_plain, mnemonic_reads}
 use Rattle.aom_meaning.specs.Meaning.{InstructionMeans, Names, lookup}
 use Rattle.aom_meaning.specs.Source.{InstructionText, instruction_words, label_words}
-use Rattle.aom_meaning.proofs.Operands.{FindsMore, operands_follow}
+use Rattle.aom_meaning.proofs.Operands.{operands_follow}
 use Rattle.aom_meaning.proofs.Pieces.{named, none_left, pair}
 use Rattle.aom_meaning.proofs.Places.{finds_more, scoped}
 use Rattle.aom_meaning.proofs.Sound.{Sound, giving_sound, next_sound}

@@ -1,3 +1,4 @@
+pub mod Ascii
 pub mod Pieces
 pub mod Words
 pub mod Sound

@@ -1,16 +1,14 @@
 -- What is read with some names is read with others that find as much: the operands of instructions.
-use Rattle.std.proofs.Common.{◌≡◌, ℕ, List, Ok, refl, sym, ap, ◌∙◌}
-use Rattle.aom_text.specs.declared.fault.AsmFaultKind.{AsmFaultKind}
+use Rattle.std.proofs.Common.{◌≡◌, ℕ, List, Ok, ap, ◌∙◌}
 use Rattle.aom_image.specs.declared.instr.Instr.{Instr}
 use Rattle.aom_syntax.specs.Names.{place_of, referred}
-use Rattle.aom_syntax.specs.Operands.{class, depth, field, label, last_register, method, register, target, used}
-use Rattle.aom_syntax.specs.Reading.{◌>>=◌, Reading, giving, name, next}
+use Rattle.aom_syntax.specs.Operands.{class, depth, field, label, method, register, target, used}
+use Rattle.aom_syntax.specs.Reading.{◌>>=◌, Reading, name, next}
 use Rattle.aom_syntax.specs.Words.{words_operands}
 use Rattle.aom_syntax.specs.declared.mnemonic.Mnemonic.{Mnemonic}
 use Rattle.aom_syntax.specs.declared.mnemonic.Mnemonic.TheVariants as m
 use Rattle.aom_syntax.specs.declared.scope.Scope.{Scope}
-use Rattle.aom_ranges.proofs.Within.{ok_is, steps}
-use Rattle.aom_meaning.proofs.Pieces.{pair}
+use Rattle.aom_ranges.proofs.Within.{steps}
 
 -- whatever one reading gives, another gives too
 pub record Follows {X : Type 0} (r t : Reading X) : Type 0 where

@@ -1,5 +1,5 @@
 -- What was read of statements is what they mean: the parts of a program, one after another.
-use Rattle.std.proofs.Common.{◌≡◌, ℕ, suc, ◌+◌, ◌<◌, ◌≤◌, ◌==◌, Bool, true, false, List, [], ◌∷◌, ◌++◌, map, length, Option, Some, None, Result, Ok, Err, refl, sym, ap, subst, ◌∙◌, append_assoc, append-nil, arith, length-append, nat_lt, is_some}
+use Rattle.std.proofs.Common.{◌≡◌, ℕ, ◌+◌, ◌<◌, ◌≤◌, ◌==◌, Bool, true, false, List, [], ◌∷◌, ◌++◌, map, length, Option, Some, None, Result, Ok, Err, refl, sym, ap, subst, ◌∙◌, append_assoc, append-nil, arith, length-append, nat_lt}
 use Rattle.std.specs.Prelude.{if◌then◌else◌}
 use Rattle.std.specs.List.{count_by}
 use Rattle.std.proofs.lemmas.Bool.{eqb-false, ltb-true}
@@ -21,7 +21,7 @@ use Rattle.aom_syntax.specs.declared.keyword.Keyword.TheVariants as k
 use Rattle.aom_syntax.specs.declared.method.Heading.{Heading}
 use Rattle.aom_syntax.specs.declared.scope.Scope.{Scope}
 use Rattle.aom_asm.specs.Body.{Body, Program}
-use Rattle.aom_asm.specs.Denoted.{and_then, at_line, closed, declaration, grown, in_body, method_of, opened, read_program, read_rest, step, with_class, with_heading, with_instruction, with_method}
+use Rattle.aom_asm.specs.Denoted.{at_line, closed, declaration, grown, method_of, opened, read_program, read_rest, step, with_class, with_heading, with_instruction, with_method}
 use Rattle.aom_asm.specs.TextNames.{labels_of as labels_until}
 use Rattle.aom_asm.proofs.Counting.{begins_with}
 use Rattle.aom_asm.proofs.Steps.{if_not_ok, if_ok, no_ok, ok_is, said, steps_then}
@@ -32,7 +32,7 @@ use Rattle.aom_meaning.specs.Meaning.{ClassMeans, HeaderMeans, InstructionMeans,
 use Rattle.aom_meaning.specs.Source as source
 use Rattle.aom_meaning.specs.Source.{Declaration, InstructionText, MethodText, Source, class_words, classes_of, declared_statements, end_words, heading_words, header_words, instruction_words, methods_of, source_statements}
 use Rattle.aom_meaning.proofs.Classes.{ClassSays, class_sound}
-use Rattle.aom_meaning.proofs.Headers.{HeaderSays, header_sound}
+use Rattle.aom_meaning.proofs.Headers.{header_sound}
 use Rattle.aom_meaning.proofs.Headings.{HeadingSays, heading_sound}
 use Rattle.aom_meaning.proofs.Instructions.{InstructionSays, instruction_sound}
 use Rattle.aom_meaning.proofs.Pieces.{Took, is_not, is_there, none_left, take_it}
@@ -225,13 +225,16 @@ module _ (last : ℕ) (names : Names) (kinds : List ClassDecl) where
           class_places = later.class_places;
           more_methods = m ∷ later.more_methods;
           methods = later.methods ∙ append_assoc ms (m ∷ []) later.more_methods;
-          method_means = (record {
-            heading = says.means;
-            labels = labels_once inside.code (subst (λ l. LabelsPlaced l 0 inside.code) labels inside.places);
-            code = subst (λ l. Pairwise (InstructionMeans names l) inside.code inside.more) labels inside.means;
-            some = inside.some;
-            few = inside.few;
-          }, later.method_means);
+          method_means = (
+            record {
+              heading = says.means;
+              labels = labels_once inside.code (subst (λ l. LabelsPlaced l 0 inside.code) labels inside.places);
+              code = subst (λ l. Pairwise (InstructionMeans names l) inside.code inside.more) labels inside.means;
+              some = inside.some;
+              few = inside.few;
+            },
+            later.method_means,
+          );
           method_places = (says.placed, subst (λ n. Placed names.methods n (map (λ t. t.heading.name) (methods_of later.declarations))) (longer ms m) later.method_places);
         }
 

@@ -1,18 +1,17 @@
 -- What a reading took of the words before it, and what it takes: word by word, and part by part, both ways.
-use Rattle.std.proofs.Common.{◌≡◌, ℕ, zero, suc, ◌<◌, Bool, true, false, List, [], ◌∷◌, ◌++◌, length, Option, Some, None, Result, Ok, Err, refl, sym, ap, subst, ◌∙◌, arith, cond, get_or, slice_get, nat_lt}
+use Rattle.std.proofs.Common.{◌≡◌, ℕ, Bool, true, false, List, [], ◌∷◌, ◌++◌, Option, Some, None, Result, Ok, Err, refl, sym, ap, ◌∙◌, get_or, slice_get, nat_lt}
 use Rattle.std.specs.Prelude.{if◌then◌else◌}
-use Rattle.std.specs.List.{list_all, position}
+use Rattle.std.specs.List.{list_all}
 use Rattle.std.specs.Str.{bytes_eq}
-use Rattle.std.proofs.lemmas.Bool.{lt-ltb}
 use Rattle.std.proofs.lemmas.List.Quantifiers.{position-Some}
 use Rattle.std.proofs.lemmas.Option.{slice_get-get_or}
 use Rattle.std.proofs.lemmas.Slice.Eq.{bytes_eq-Decides}
-use Rattle.aom_text.specs.Names.{has_name_form, is_name, is_reserved}
+use Rattle.aom_text.specs.Names.{is_name}
 use Rattle.aom_text.specs.Words.{is_plain}
 use Rattle.aom_text.specs.declared.fault.AsmFaultKind.{AsmFaultKind}
 use Rattle.aom_text.specs.declared.fault.AsmFaultKind.TheVariants.{BadShape, NotAscii, UnknownName}
 use Rattle.aom_syntax.specs.Keywords.{keyword_text, strange}
-use Rattle.aom_syntax.specs.Names.{place_of, nowhere, referred}
+use Rattle.aom_syntax.specs.Names.{place_of, referred}
 use Rattle.aom_syntax.specs.Operands.{used}
 use Rattle.aom_syntax.specs.Reading.{◌>>=◌, Reading, as_name, exactly, keyword, name, next, nothing_more, seen, took, word}
 use Rattle.aom_syntax.specs.declared.keyword.Keyword.{Keyword}
@@ -27,7 +26,6 @@ use Rattle.aom_meaning.specs.Source.{part, mark}
 pub record Saw {X : Type 0} (f : List ℕ → Result X AsmFaultKind) (ws : List (List ℕ)) (x : X) (rest : List (List ℕ)) : Type 0 where
   pub w : List ℕ
   pub words : ws ≡ w ∷ rest
-  pub plain : list_all is_plain w ≡ true
   pub says : f w ≡ Ok x
 
 pub saw : {X : Type 0} (f : List ℕ → Result X AsmFaultKind) (ws : List (List ℕ)) (x : X) (rest : List (List ℕ)) → seen f word ws ≡ Ok (x, rest) → Saw f ws x rest
@@ -41,7 +39,6 @@ saw f (w ∷ ws) x rest is =
     record {
       w = w;
       words = ap (λ p. w ∷ p.1) first ∙ ap (λ p. w ∷ p.1) last;
-      plain = i.0;
       says = ap (λ p. f p.0) first ∙ t.read ∙ ap (λ p. Ok p.0) last;
     }
 
@@ -107,13 +104,13 @@ module _ {X : Type 0} (key : Keyword) (f : List ℕ → Result X AsmFaultKind) (
   abbrev pub optional : Reading X
   optional ws = if (took key ws).0 then seen f word (took key ws).1 else Ok (usual, (took key ws).1)
 
-  pub saw_part : ((w : List ℕ) (x : X) → list_all is_plain w ≡ true → f w ≡ Ok x → Says w x) → (ws : List (List ℕ)) (x : X) (rest : List (List ℕ)) → optional ws ≡ Ok (x, rest) → Part key Says usual ws x rest
+  pub saw_part : ((w : List ℕ) (x : X) → f w ≡ Ok x → Says w x) → (ws : List (List ℕ)) (x : X) (rest : List (List ℕ)) → optional ws ≡ Ok (x, rest) → Part key Says usual ws x rest
   saw_part means ws x rest is = go (take_it key ws)
     where
       go : Took key ws → Part key Says usual ws x rest
       go (is_there behind words there) =
           let s = saw f behind x rest (sym (ap (λ p. if p.0 then seen f word p.1 else Ok (usual, p.1)) there) ∙ is) in
-          record { said = Some s.w; words = words ∙ ap (λ v. keyword_text key ∷ v) s.words; says = means s.w x s.plain s.says }
+          record { said = Some s.w; words = words ∙ ap (λ v. keyword_text key ∷ v) s.words; says = means s.w x s.says }
       go (is_not there) =
           let same : (usual, ws) ≡ (x, rest) = ok_is (usual, ws) (x, rest) (sym (ap (λ p. if p.0 then seen f word p.1 else Ok (usual, p.1)) there) ∙ is) in
           record { said = None; words = ap (λ p. p.1) same; says = sym (ap (λ p. p.0) same) }

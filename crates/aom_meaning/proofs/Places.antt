@@ -1,16 +1,15 @@
 -- Where a name is declared once, it is found at its place, and the other way round.
-use Rattle.std.proofs.Common.{◌≡◌, ℕ, ◌+◌, ◌<◌, Bool, true, false, List, [], ◌∷◌, length, Option, Some, None, Ok, refl, sym, ap, ◌∙◌, arith, cond, get_or, slice_get, nat_lt}
+use Rattle.std.proofs.Common.{◌≡◌, ℕ, ◌<◌, Bool, true, false, List, [], length, Option, Some, None, Ok, sym, ap, ◌∙◌, arith, cond, get_or, nat_lt}
 use Rattle.std.specs.Prelude.{if◌then◌else◌}
 use Rattle.std.specs.Str.{bytes_eq}
 use Rattle.std.proofs.lemmas.Bool.{lt-ltb}
 use Rattle.std.proofs.lemmas.List.Sums.{position_or_len_is}
 use Rattle.std.proofs.lemmas.Option.{get_or_from_slice_get, slice_get-get_or, slice_get_within}
 use Rattle.std.proofs.lemmas.Slice.Eq.{bytes_eq-Decides}
-use Rattle.aom_text.specs.Names.{is_name}
 use Rattle.aom_image.specs.declared.class.ClassDecl.{ClassDecl}
 use Rattle.aom_syntax.specs.Names.{place_of, nowhere, referred}
 use Rattle.aom_syntax.specs.declared.scope.Scope.{Scope}
-use Rattle.aom_meaning.specs.Meaning.{DeclaredOnce, IsNumbered, Names, lookup}
+use Rattle.aom_meaning.specs.Meaning.{DeclaredOnce, IsNumbered, Names}
 use Rattle.aom_meaning.proofs.Operands.{FindsMore}
 use Rattle.aom_meaning.proofs.Words.{LooksUp, not_so}
 

@@ -1,5 +1,5 @@
 -- The statements of a program declare its names, and those of a method's code its labels.
-use Rattle.std.proofs.Common.{◌≡◌, ℕ, zero, suc, ◌+◌, ◌<◌, Bool, true, false, List, [], ◌∷◌, ◌++◌, map, length, Option, Some, None, refl, sym, ap, subst, ◌∙◌, append_assoc, append-nil, arith, length-append, slice_get}
+use Rattle.std.proofs.Common.{◌≡◌, ℕ, zero, suc, ◌+◌, Bool, true, false, List, [], ◌∷◌, ◌++◌, map, Option, Some, None, refl, sym, ap, ◌∙◌, append_assoc, append-nil, arith, slice_get}
 use Rattle.std.specs.Prelude.{IfSome, if◌then◌else◌}
 use Rattle.std.specs.Str.{bytes_eq}
 use Rattle.std.proofs.lemmas.Slice.Eq.{bytes_eq-Decides}
@@ -10,7 +10,6 @@ use Rattle.aom_syntax.specs.Keywords.{keyword_text}
 use Rattle.aom_syntax.specs.Methods.{label_of}
 use Rattle.aom_syntax.specs.Mnemonics.{mnemonic_text}
 use Rattle.aom_syntax.specs.Names.{place_of}
-use Rattle.aom_syntax.specs.Reading.{took}
 use Rattle.aom_syntax.specs.declared.keyword.Keyword.{Keyword}
 use Rattle.aom_syntax.specs.declared.keyword.Keyword.TheVariants as k
 use Rattle.aom_syntax.specs.declared.mnemonic.Mnemonic.{Mnemonic}
@@ -21,11 +20,11 @@ use Rattle.aom_readback.proofs.Statements.{label_cut}
 use Rattle.aom_readback.proofs.Tables.{mnemonic_is_no_label}
 use Rattle.aom_readback.proofs.TextNames.{by_words, by_words_more, declared_by_words}
 use Rattle.aom_meaning.specs.Denotes.{names_of}
-use Rattle.aom_meaning.specs.Meaning.{DeclaredOnce, IsNumbered, Names, labels_of}
+use Rattle.aom_meaning.specs.Meaning.{DeclaredOnce, Names, labels_of}
 use Rattle.aom_meaning.specs.Source as source
 use Rattle.aom_meaning.specs.Source.{Declaration, InstructionText, Source, classes_of, declaration_statements, declared_statements, end_words, header_words, instruction_words, label_words, methods_of, source_statements}
 use Rattle.aom_meaning.proofs.Pieces.{NotNext, not_word}
-use Rattle.aom_meaning.proofs.Places.{FoundInPlace, once_found}
+use Rattle.aom_meaning.proofs.Places.{once_found}
 use Rattle.aom_meaning.proofs.Words.{not_so}
 
 -- ---- what an instruction does not begin with

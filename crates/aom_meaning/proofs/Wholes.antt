@@ -1,9 +1,9 @@
 -- Statements that mean a program are read as that program, whether names are told apart or not.
 use Rattle.std.proofs.Common.{◌≡◌, ℕ, suc, ◌+◌, ◌*◌, ◌<◌, ◌≤◌, ◌^◌, Bool, true, false, List, [], ◌∷◌, ◌++◌, map, length, slice_get, Option, Some, None, Result, Ok, Err, refl, sym, ap, subst, ◌∙◌, append_assoc, append-nil, arith, length-append}
-use Rattle.std.specs.Prelude.{IfSome, cond, if◌then◌else◌}
+use Rattle.std.specs.Prelude.{IfSome, if◌then◌else◌}
 use Rattle.std.specs.List.{count_by, sum_by}
 use Rattle.std.proofs.lemmas.Bool.{lt-ltb, ne_eqb}
-use Rattle.std.proofs.lemmas.List.Sums.{sum_by-append, sum_by-cons}
+use Rattle.std.proofs.lemmas.List.Sums.{sum_by-cons}
 use Rattle.aom_text.specs.Names.{is_name}
 use Rattle.aom_text.specs.declared.fault.AsmFaultKind.{AsmFaultKind}
 use Rattle.aom_text.specs.declared.fault.AsmFaultKind.TheVariants.{LimitPassed}
@@ -17,23 +17,21 @@ use Rattle.aom_syntax.specs.Classes.{class_statement}
 use Rattle.aom_syntax.specs.Keywords.{keyword_text}
 use Rattle.aom_syntax.specs.Methods.{heading, instruction}
 use Rattle.aom_syntax.specs.Names.{place_of}
-use Rattle.aom_syntax.specs.Reading.{◌>>=◌, nothing_more, took}
+use Rattle.aom_syntax.specs.Reading.{◌>>=◌, nothing_more}
 use Rattle.aom_syntax.specs.declared.keyword.Keyword.TheVariants as k
-use Rattle.aom_syntax.specs.declared.method.Heading.{Heading}
 use Rattle.aom_syntax.specs.declared.scope.Scope.{Scope}
 use Rattle.aom_asm.specs.Body.{Body, Program}
-use Rattle.aom_asm.specs.Denoted.{and_then, at_line, declaration, grown, opened, read_program, read_rest, step, with_instruction, with_method}
+use Rattle.aom_asm.specs.Denoted.{declaration, grown, step, with_instruction, with_method}
 use Rattle.aom_asm.specs.TextNames.{labels_of as labels_until, label_or_none}
 use Rattle.aom_readback.specs.Naming.{heading_of}
 use Rattle.aom_readback.specs.Texts.{all_words}
 use Rattle.aom_readback.proofs.Following.{Goes, arrives, at_seam, goes_on, room, stays, steps}
 use Rattle.aom_readback.proofs.Parts.{few_before, read_so_far, spelled}
 use Rattle.aom_readback.proofs.Readings.{takes_any_keyword}
-use Rattle.aom_meaning.specs.Meaning.{ClassMeans, DeclaredOnce, HeaderMeans, HeadingMeans, InstructionMeans, IsNumbered, MethodMeans, Names, Pairwise, labels_of}
+use Rattle.aom_meaning.specs.Meaning.{ClassMeans, DeclaredOnce, HeadingMeans, InstructionMeans, MethodMeans, Names, Pairwise, labels_of}
 use Rattle.aom_meaning.specs.Source as source
 use Rattle.aom_meaning.specs.Source.{ClassText, Declaration, HeadingText, InstructionText, MethodText, Source, class_words, classes_of, declared_statements, end_words, header_words, heading_words, instruction_words, kind_words, methods_of, part, promise_words, source_statements}
 use Rattle.aom_meaning.proofs.Classes.{class_reads}
-use Rattle.aom_meaning.proofs.Headers.{header_reads}
 use Rattle.aom_meaning.proofs.Headings.{heading_reads}
 use Rattle.aom_meaning.proofs.Instructions.{instruction_reads}
 use Rattle.aom_meaning.proofs.Places.{found_once, scoped}
@@ -54,16 +52,18 @@ longer front x = length-append front (x ∷ [])
 pub classes_placed : (names : Names) (natives : ℕ) (space : List (List ℕ)) → DeclaredOnce space → (front : List (List ℕ)) (ts : List ClassText) (cs : List ClassDecl) → Pairwise (ClassMeans names natives) ts cs → space ≡ front ++ map (λ t. t.name) ts → Placed space (length front) (map (λ t. t.name) ts)
 classes_placed names natives space once front [] cs means whole = tt
 classes_placed names natives space once front (t ∷ ts) [] means whole = absurd means
-classes_placed names natives space once front (t ∷ ts) (c ∷ cs) means whole =
-    (at_place space front t.name (map (λ t. t.name) ts) once whole means.0.name,
-    subst (λ n. Placed space n (map (λ t. t.name) ts)) (longer front t.name) (classes_placed names natives space once (front ++ t.name ∷ []) ts cs means.1 (whole ∙ regrouped front t.name (map (λ t. t.name) ts))))
+classes_placed names natives space once front (t ∷ ts) (c ∷ cs) means whole = (
+  at_place space front t.name (map (λ t. t.name) ts) once whole means.0.name,
+  subst (λ n. Placed space n (map (λ t. t.name) ts)) (longer front t.name) (classes_placed names natives space once (front ++ t.name ∷ []) ts cs means.1 (whole ∙ regrouped front t.name (map (λ t. t.name) ts))),
+)
 
 pub methods_placed : (names : Names) (kinds : List ClassDecl) (space : List (List ℕ)) → DeclaredOnce space → (front : List (List ℕ)) (ts : List MethodText) (ms : List Method) → Pairwise (MethodMeans names kinds) ts ms → space ≡ front ++ map (λ t. t.heading.name) ts → Placed space (length front) (map (λ t. t.heading.name) ts)
 methods_placed names kinds space once front [] ms means whole = tt
 methods_placed names kinds space once front (t ∷ ts) [] means whole = absurd means
-methods_placed names kinds space once front (t ∷ ts) (m ∷ ms) means whole =
-    (at_place space front t.heading.name (map (λ t. t.heading.name) ts) once whole means.0.heading.name,
-    subst (λ n. Placed space n (map (λ t. t.heading.name) ts)) (longer front t.heading.name) (methods_placed names kinds space once (front ++ t.heading.name ∷ []) ts ms means.1 (whole ∙ regrouped front t.heading.name (map (λ t. t.heading.name) ts))))
+methods_placed names kinds space once front (t ∷ ts) (m ∷ ms) means whole = (
+  at_place space front t.heading.name (map (λ t. t.heading.name) ts) once whole means.0.heading.name,
+  subst (λ n. Placed space n (map (λ t. t.heading.name) ts)) (longer front t.heading.name) (methods_placed names kinds space once (front ++ t.heading.name ∷ []) ts ms means.1 (whole ∙ regrouped front t.heading.name (map (λ t. t.heading.name) ts))),
+)
 
 one_label : (labels front : List (List ℕ)) (label : Option (List ℕ)) (rest : List (List ℕ)) → DeclaredOnce labels → labels ≡ front ++ label_or_none label ∷ rest → IfSome label (λ l. is_name l ≡ true) → IfSome label (λ l. place_of l labels ≡ Some (length front))
 one_label labels front None rest once whole is = tt
@@ -72,9 +72,10 @@ one_label labels front (Some l) rest once whole is = at_place labels front l res
 labels_placed : (names : Names) (all labels : List (List ℕ)) → DeclaredOnce labels → (front : List (List ℕ)) (ts : List InstructionText) (is : List Instr) → Pairwise (InstructionMeans names all) ts is → labels ≡ front ++ labels_of ts → LabelsPlaced labels (length front) ts
 labels_placed names all labels once front [] is means whole = tt
 labels_placed names all labels once front (t ∷ ts) [] means whole = absurd means
-labels_placed names all labels once front (t ∷ ts) (i ∷ is) means whole =
-    (one_label labels front t.label (labels_of ts) once whole means.0.label,
-    subst (λ n. LabelsPlaced labels n ts) (longer front (label_or_none t.label)) (labels_placed names all labels once (front ++ label_or_none t.label ∷ []) ts is means.1 (whole ∙ regrouped front (label_or_none t.label) (labels_of ts))))
+labels_placed names all labels once front (t ∷ ts) (i ∷ is) means whole = (
+  one_label labels front t.label (labels_of ts) once whole means.0.label,
+  subst (λ n. LabelsPlaced labels n ts) (longer front (label_or_none t.label)) (labels_placed names all labels once (front ++ label_or_none t.label ∷ []) ts is means.1 (whole ∙ regrouped front (label_or_none t.label) (labels_of ts))),
+)
 
 -- ---- statement by statement
 

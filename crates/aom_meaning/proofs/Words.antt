@@ -1,5 +1,5 @@
 -- What one word says is what is read of it: names, numbers, sets, things, arguments and lists, both ways.
-use Rattle.std.proofs.Common.{◌≡◌, ℕ, ◌+◌, ◌≤◌, ◌==◌, Bool, true, false, List, [], ◌∷◌, ◌++◌, length, Option, Some, None, Result, Ok, Err, refl, sym, ap, subst, ◌∙◌, append_assoc, append-nil, codes, arith, length-append}
+use Rattle.std.proofs.Common.{◌≡◌, ℕ, ◌+◌, ◌≤◌, ◌==◌, Bool, true, false, List, [], ◌∷◌, ◌++◌, length, Result, Ok, Err, refl, sym, ap, subst, ◌∙◌, append_assoc, append-nil, codes, arith, length-append}
 use Rattle.std.specs.Prelude.{◌&&◌, if◌then◌else◌, nat_le, nat_lt, not}
 use Rattle.std.specs.List.{list_all, slice_split}
 use Rattle.std.specs.Str.{bytes_eq}
@@ -14,17 +14,18 @@ use Rattle.aom_image.specs.declared.method.Argument.{Argument}
 use Rattle.aom_image.specs.declared.method.Argument.TheVariants as arg
 use Rattle.aom_image.specs.declared.method.Thing.{Thing}
 use Rattle.aom_image.specs.declared.method.Thing.TheVariants as owned
-use Rattle.aom_syntax.specs.Classes.{class_of, elements, listed, thing, thing_of}
+use Rattle.aom_syntax.specs.Classes.{class_of, elements, listed, thing_of}
 use Rattle.aom_syntax.specs.Methods.{argument_of}
 use Rattle.aom_syntax.specs.Names.{place_of, referred}
 use Rattle.aom_syntax.specs.Operands.{class}
-use Rattle.aom_syntax.specs.Reading.{◌>>=◌, as_name, name, word}
+use Rattle.aom_syntax.specs.Reading.{◌>>=◌, as_name, name}
 use Rattle.aom_syntax.specs.declared.scope.Scope.{Scope}
 use Rattle.aom_ranges.proofs.Lists.{listed_fits}
 use Rattle.aom_ranges.proofs.Within.{ok_is, passed, steps}
 use Rattle.aom_readback.proofs.Lists.{plain_form}
 use Rattle.aom_readback.proofs.Readings.{Takes, sees}
 use Rattle.aom_meaning.specs.Meaning.{Elements, IsArgument, IsList, IsNumbered, IsThing, Names, Pairwise}
+use Rattle.aom_meaning.proofs.Ascii.{plain_list}
 use Rattle.aom_meaning.proofs.Pieces.{Reads, numbered, takes_seen}
 
 -- names that are told apart
@@ -142,9 +143,8 @@ module _ {X : Type 0} (most : ℕ) (one : List ℕ → Result X AsmFaultKind) (S
     parts_mean w xs true is = sym (ok_is [] xs is)
     parts_mean w xs false is = let b = parted (slice_split (λ b. b == 44) w) [] xs is in subst (Pairwise Says (slice_split (λ b. b == 44) w)) (sym b.all) b.each
 
-    pub list_means : (w : List ℕ) (xs : List X) → list_all is_plain w ≡ true → listed most one w ≡ Ok xs → IsList most Says w xs
-    list_means w xs plain is = record {
-      ascii = plain;
+    pub list_means : (w : List ℕ) (xs : List X) → listed most one w ≡ Ok xs → IsList most Says w xs
+    list_means w xs is = record {
       elements = parts_mean w xs (bytes_eq w (codes "-")) is;
       few = (listed_fits (λ x. Unit {0}) most one (λ v x e. tt) w xs is).few;
     }
@@ -165,4 +165,4 @@ module _ {X : Type 0} (most : ℕ) (one : List ℕ → Result X AsmFaultKind) (S
     whole_read w xs false few each = parts_read (slice_split (λ b. b == 44) w) [] xs (omega arith) each
 
     pub list_reads : (w : List ℕ) (xs : List X) → IsList most Says w xs → Reads (listed most one) w xs
-    list_reads w xs is = record { plain = is.ascii; says = whole_read w xs (bytes_eq w (codes "-")) is.few is.elements }
+    list_reads w xs is = record { plain = plain_list Says (λ v x said. (reads v x said).plain) w xs is.elements; says = whole_read w xs (bytes_eq w (codes "-")) is.few is.elements }

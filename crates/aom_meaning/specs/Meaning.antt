@@ -1,9 +1,8 @@
 -- What the parts of an assembly text say.
-use Rattle.std.specs.Prelude.{ℕ, ◌≡◌, ◌<◌, ◌≤◌, ◌==◌, ◌||◌, Bool, true, false, List, [], ◌∷◌, map, length, replicate, Option, Some, None, IfSome, Result, Ok, Err, codes, slice_get}
-use Rattle.std.specs.List.{list_all, slice_split}
+use Rattle.std.specs.Prelude.{ℕ, ◌≡◌, ◌<◌, ◌≤◌, ◌==◌, ◌||◌, Bool, true, false, List, [], ◌∷◌, map, length, replicate, Option, Some, None, IfSome, Ok, codes, slice_get}
+use Rattle.std.specs.List.{slice_split}
 use Rattle.std.specs.Str.{bytes_eq}
 use Rattle.aom_text.specs.Names.{is_name}
-use Rattle.aom_text.specs.Words.{is_plain}
 use Rattle.aom_image.specs.declared.class.ClassDecl.{ClassDecl}
 use Rattle.aom_image.specs.declared.class.ClassKind.{ClassKind}
 use Rattle.aom_image.specs.declared.class.ClassKind.TheVariants as kinds
@@ -26,7 +25,7 @@ use Rattle.aom_syntax.specs.declared.scope.Scope.{Scope}
 use Rattle.aom_syntax.specs.declared.method.Heading.{Heading}
 use Rattle.aom_asm.specs.TextNames.{label_or_none}
 use Rattle.aom_readback.specs.Naming.{heading_of}
-use Rattle.aom_meaning.specs.Source.{Word, Words, HeaderText, ProviderText, by_itself, by_timer, by_native, KindText, plain, session, active, server, ClassText, GivesText, unsaid, nothing, word, own, maybe, left, HeadingText, InstructionText, MethodText}
+use Rattle.aom_meaning.specs.Source.{Word, HeaderText, ProviderText, by_itself, by_timer, by_native, KindText, plain, session, active, server, ClassText, GivesText, unsaid, nothing, word, own, maybe, left, HeadingText, InstructionText, MethodText}
 
 -- ---- names
 
@@ -59,19 +58,13 @@ SaidOrNone Says said x = ⊥
 
 -- ---- words
 
--- a word of ASCII
-abbrev pub IsAscii : Word → Type 0
-IsAscii w = list_all is_plain w ≡ true
-
 -- a decimal number from low to high
-pub record IsNumber (low high : ℕ) (w : Word) (n : ℕ) : Type 0 where
-  pub ascii : IsAscii w
-  pub spelled : number_in low high w ≡ Ok n
+abbrev pub IsNumber : ℕ → ℕ → Word → ℕ → Type 0
+IsNumber low high w n = number_in low high w ≡ Ok n
 
 -- a set of request states, by its letters
-pub record AreStates (w : Word) (s : States) : Type 0 where
-  pub ascii : IsAscii w
-  pub spelled : states_of w ≡ Ok s
+abbrev pub AreStates : Word → States → Type 0
+AreStates w s = states_of w ≡ Ok s
 
 -- one after another, as many of both
 abbrev pub Pairwise : {A B : Type 0} → (A → B → Type 0) → List A → List B → Type 0
@@ -86,7 +79,6 @@ Elements Says false w xs = Pairwise Says (slice_split (λ b. b == 44) w) xs
 
 -- a list in one word, of at most so many
 pub record IsList {X : Type 0} (most : ℕ) (Says : Word → X → Type 0) (w : Word) (xs : List X) : Type 0 where
-  pub ascii : IsAscii w
   pub elements : Elements Says (bytes_eq w (codes "-")) w xs
   pub few : length xs ≤ most
 

@@ -1,5 +1,5 @@
 -- The parts of an assembly text, and the words with which each is written.
-use Rattle.std.specs.Prelude.{ℕ, Bool, true, false, List, [], ◌∷◌, ◌++◌, map, flat_map, Option, Some, None, codes}
+use Rattle.std.specs.Prelude.{ℕ, Bool, true, false, List, [], ◌∷◌, ◌++◌, map, Option, Some, None, codes}
 use Rattle.aom_syntax.specs.Keywords.{keyword_text}
 use Rattle.aom_syntax.specs.Mnemonics.{mnemonic_text}
 use Rattle.aom_syntax.specs.declared.keyword.Keyword.{Keyword}

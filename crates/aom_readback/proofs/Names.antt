@@ -23,7 +23,7 @@ all_of p q so (b ∷ bs) all =
     let parts = and_parts (p b) (list_all p bs) all in
     rw (so b parts.0, all_of p q so bs parts.1)
 
-digit_is_plain : (b : ℕ) → is_digit b ≡ true → is_plain b ≡ true
+pub digit_is_plain : (b : ℕ) → is_digit b ≡ true → is_plain b ≡ true
 digit_is_plain b h = grind (arith, common_steps)
 
 digit_is_name_byte : (b : ℕ) → is_digit b ≡ true → is_name_byte b ≡ true
