@@ -26,7 +26,9 @@ use Rattle.aom_determined.specs.Names.{IsOneToOne, renamed, renamed_cells, renam
 -- ---- what is at hand
 
 module _ (names : ℕ → ℕ) where
-  begun_by_renamed : (m : Option ℕ) (o : Object) (height : ℕ) (below : List Task) → begun_by m (renamed_object names o) height (renamed_tasks names below) ≡ renamed_tasks names (begun_by m o height below)
+  begun_by_renamed :
+      (m : Option ℕ) (o : Object) (height : ℕ) (below : List Task) →
+      begun_by m (renamed_object names o) height (renamed_tasks names below) ≡ renamed_tasks names (begun_by m o height below)
   begun_by_renamed None o height below = refl
   begun_by_renamed (Some m) o height below = rw (tasks_counted names below)
 
@@ -81,7 +83,9 @@ module _ (names : ℕ → ℕ) (one_to_one : IsOneToOne names) where
 -- ---- what a method goes on with
 
 module _ (names : ℕ → ℕ) where
-  received_renamed : (p : Image) (fr : Frame) (ts : List Task) (s : State) (g : Gives) (a b : ℕ) (caller : Frame) → received p (renamed_frame names fr) (renamed_tasks names ts) (renamed names s) g a b (renamed_frame names caller) ≡ renamed_frame names (received p fr ts s g a b caller)
+  received_renamed :
+      (p : Image) (fr : Frame) (ts : List Task) (s : State) (g : Gives) (a b : ℕ) (caller : Frame) →
+      received p (renamed_frame names fr) (renamed_tasks names ts) (renamed names s) g a b (renamed_frame names caller) ≡ renamed_frame names (received p fr ts s g a b caller)
   received_renamed p fr ts s Nothing a b caller = refl
   received_renamed p fr ts s A_word a b caller = refl
   received_renamed p fr ts s (An_own t) a b caller = refl
@@ -177,7 +181,10 @@ module _ (names : ℕ → ℕ) (one_to_one : IsOneToOne names) (p : Image) (c : 
   pushed_renamed : (a : ℕ) → pushed p c' fr' ts' s' a ≡ renamed names (pushed p c fr ts s a)
   pushed_renamed a = rw (from_register a (Entry (length s.items)))
 
-  made_renamed : (a x : ℕ) → with_new (names c.name) (An_object_of x) (no_words p c fr ts s x) (Register (length ts') a) (renamed_cells names s.cells) ≡ renamed_cells names (with_new c.name (An_object_of x) (no_words p c fr ts s x) (Register (length ts) a) s.cells)
+  made_renamed :
+      (a x : ℕ) →
+      with_new (names c.name) (An_object_of x) (no_words p c fr ts s x) (Register (length ts') a) (renamed_cells names s.cells)
+      ≡ renamed_cells names (with_new c.name (An_object_of x) (no_words p c fr ts s x) (Register (length ts) a) s.cells)
   made_renamed a x = rw (tasks_counted names ts)
 
   left_so : (code : ℤ) (x y : State) → x ≡ renamed names y → left code x ≡ renamed names (left code y)

@@ -28,8 +28,8 @@ use Rattle.aom_main.specs.Headline.{Sent, IsOnly, IsSilent, Told, Transcribed, S
 use Rattle.aom_main.specs.Headline.RunBreaks.{output_fails, wants_memory}
 
 -- a run of a linked image that has a typing
-abbrev runs_of : (bytes text : List ℕ) (p : Image) (script : Script) → IsLinked p → IsAdmitted p → (t : Typing) × IsTyped p t → DepthsWithin p → HeightsWithin p → LinkedIsWired → TypedIsSound → TextIsDetermined
-    → IsSpelled bytes p → denoted text ≡ Ok script → Runs bytes text
+abbrev runs_of : (bytes text : List ℕ) (p : Image) (script : Script) → IsLinked p → IsAdmitted p → (t : Typing) × IsTyped p t → DepthsWithin p → HeightsWithin p
+    → LinkedIsWired → TypedIsSound → TextIsDetermined → IsSpelled bytes p → denoted text ≡ Ok script → Runs bytes text
 runs_of bytes text p script linked admitted typed depths heights wired sound determined spelled denotes =
     let w = wired p spelled.formed linked in
     record {
@@ -67,8 +67,8 @@ ran bytes text r out errors (MainLeft code) status shows ends = subst (RunAnswer
 ran bytes text r out errors WriteFault status shows ends = breaks bytes text r out errors status shows ends
 
 -- a run of an accepted image under a script ended so
-pub ran_of : (bytes text : List ℕ) (p : Image) (script : Script) → IsLinked p → IsAdmitted p → (t : Typing) × IsTyped p t → DepthsWithin p → HeightsWithin p → LinkedIsWired → TypedIsSound → TextIsDetermined
-    → IsSpelled bytes p → denoted text ≡ Ok script → (out errors : Sent) (outcome : Outcome) (status : ExitStatus) → Shows p script.refused outcome out → Ends outcome status errors
+pub ran_of : (bytes text : List ℕ) (p : Image) (script : Script) → IsLinked p → IsAdmitted p → (t : Typing) × IsTyped p t → DepthsWithin p → HeightsWithin p
+    → LinkedIsWired → TypedIsSound → TextIsDetermined → IsSpelled bytes p → denoted text ≡ Ok script → (out errors : Sent) (outcome : Outcome) (status : ExitStatus) → Shows p script.refused outcome out → Ends outcome status errors
     → RunAnswers bytes text out errors status
 ran_of bytes text p script linked admitted typed depths heights wired sound determined spelled denotes out errors outcome status shows ends =
     ran bytes text (runs_of bytes text p script linked admitted typed depths heights wired sound determined spelled denotes) out errors outcome status shows ends

@@ -60,7 +60,9 @@ pub record Transcribed (p : Image) (refused : List ℕ) (ending : Ending) (sent 
 
 -- and each run of the image that ends ends so, with the transcript that went out
 abbrev pub IsOnly : Image → List ℕ → Ending → Sent → Type 0
-IsOnly p refused ending sent = (lines : List Line) (last : State) (other : Ending) → Run_of p refused lines last other → (other ≡ ending) × (sent.now ≡ after sent.before (transcript lines other (length last.cells)))
+IsOnly p refused ending sent =
+    (lines : List Line) (last : State) (other : Ending) → Run_of p refused lines last other →
+    (other ≡ ending) × (sent.now ≡ after sent.before (transcript lines other (length last.cells)))
 
 -- the sink has failed, and a beginning of such a transcript went out
 pub record Cut (p : Image) (refused : List ℕ) (sent : Sent) : Type 0 where
@@ -123,7 +125,8 @@ pub data RunBreaks (bytes text : List ℕ) (out errors : Sent) : Type 0 where
 abbrev pub RunAnswers : List ℕ → List ℕ → Sent → Sent → ExitStatus → Type 0
 RunAnswers bytes text out errors Done = (r : Runs bytes text) × Transcribed r.image r.script.refused endings.Stopped out × IsOnly r.image r.script.refused endings.Stopped out × IsSilent errors
 RunAnswers bytes text out errors Unfinished = (r : Runs bytes text) × Transcribed r.image r.script.refused endings.Waiting out × IsOnly r.image r.script.refused endings.Waiting out × IsSilent errors
-RunAnswers bytes text out errors Broken = (r : Runs bytes text) × (code : ℤ) × Transcribed r.image r.script.refused (endings.MainLeft code) out × IsOnly r.image r.script.refused (endings.MainLeft code) out × IsSilent errors
+RunAnswers bytes text out errors Broken =
+    (r : Runs bytes text) × (code : ℤ) × Transcribed r.image r.script.refused (endings.MainLeft code) out × IsOnly r.image r.script.refused (endings.MainLeft code) out × IsSilent errors
 RunAnswers bytes text out errors ImageRefused = IsRefused bytes out errors
 RunAnswers bytes text out errors CallRefused = IsNoScript bytes text out errors
 RunAnswers bytes text out errors Faulty = RunBreaks bytes text out errors
