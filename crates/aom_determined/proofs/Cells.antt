@@ -51,8 +51,9 @@ module _ (names : ℕ → ℕ) (one_to_one : IsOneToOne names) where
   pub moved_renamed : (p q : Place) (cs : List Cell) → moved (renamed_place names p) (renamed_place names q) (renamed_cells names cs) ≡ renamed_cells names (moved p q cs)
   moved_renamed p q [] = refl
   moved_renamed p q (c ∷ cs) =
-      ap (λ b. record (renamed_cell names c) { owner = cond b (renamed_place names q) (renamed_place names c.owner) } ∷ moved (renamed_place names p) (renamed_place names q) (renamed_cells names cs)) (same_place_kept c.owner p)
-      ∙ ap (λ x. record (renamed_cell names c) { owner = x } ∷ moved (renamed_place names p) (renamed_place names q) (renamed_cells names cs)) (cond_applied (renamed_place names) (same_place c.owner p) q c.owner)
+      let owned : cond (same_place (renamed_place names c.owner) (renamed_place names p)) (renamed_place names q) (renamed_place names c.owner) ≡ renamed_place names (cond (same_place c.owner p) q c.owner) =
+      ap (λ b. cond b (renamed_place names q) (renamed_place names c.owner)) (same_place_kept c.owner p) ∙ cond_applied (renamed_place names) (same_place c.owner p) q c.owner in
+      ap (λ x. record (renamed_cell names c) { owner = x } ∷ moved (renamed_place names p) (renamed_place names q) (renamed_cells names cs)) owned
       ∙ ap (λ r. renamed_cell names (record c { owner = cond (same_place c.owner p) q c.owner }) ∷ r) (moved_renamed p q cs)
 
   pub without_renamed : (q : Place) (cs : List Cell) → without (renamed_place names q) (renamed_cells names cs) ≡ renamed_cells names (without q cs)

@@ -89,7 +89,9 @@ module _ (names : ℕ → ℕ) where
 
 module _ (names : ℕ → ℕ) (one_to_one : IsOneToOne names) where
   -- what a register has under other names
-  pub register_renamed : (cs : List Cell) (ts : List Task) (a : ℕ) → held (renamed_cells names cs) (Register (length (renamed_tasks names ts)) a) ≡ option_map (renamed_object names) (held cs (Register (length ts) a))
+  pub register_renamed :
+      (cs : List Cell) (ts : List Task) (a : ℕ) →
+      held (renamed_cells names cs) (Register (length (renamed_tasks names ts)) a) ≡ option_map (renamed_object names) (held cs (Register (length ts) a))
   register_renamed cs ts a = ap (λ n. held (renamed_cells names cs) (Register n a)) (tasks_counted names ts) ∙ held_renamed names one_to_one cs (Register (length ts) a)
 
   free_at : (cs : List Cell) (ts : List Task) (a : ℕ) → is_none (held (renamed_cells names cs) (Register (length (renamed_tasks names ts)) a)) ≡ is_none (held cs (Register (length ts) a))
@@ -98,10 +100,14 @@ module _ (names : ℕ → ℕ) (one_to_one : IsOneToOne names) where
   owns_at : (cs : List Cell) (ts : List Task) (a : ℕ) → is_some (held (renamed_cells names cs) (Register (length (renamed_tasks names ts)) a)) ≡ is_some (held cs (Register (length ts) a))
   owns_at cs ts a = ap is_some (register_renamed cs ts a) ∙ some_kept names (held cs (Register (length ts) a))
 
-  thing_at : (p : Image) (t : Thing) (cs : List Cell) (ts : List Task) (a : ℕ) → is_thing p t (held (renamed_cells names cs) (Register (length (renamed_tasks names ts)) a)) ≡ is_thing p t (held cs (Register (length ts) a))
+  thing_at :
+      (p : Image) (t : Thing) (cs : List Cell) (ts : List Task) (a : ℕ) →
+      is_thing p t (held (renamed_cells names cs) (Register (length (renamed_tasks names ts)) a)) ≡ is_thing p t (held cs (Register (length ts) a))
   thing_at p t cs ts a = ap (is_thing p t) (register_renamed cs ts a) ∙ thing_kept names p t (held cs (Register (length ts) a))
 
-  message_at : (cs : List Cell) (ts : List Task) (a : ℕ) → is_no_message (held (renamed_cells names cs) (Register (length (renamed_tasks names ts)) a)) ≡ is_no_message (held cs (Register (length ts) a))
+  message_at :
+      (cs : List Cell) (ts : List Task) (a : ℕ) →
+      is_no_message (held (renamed_cells names cs) (Register (length (renamed_tasks names ts)) a)) ≡ is_no_message (held cs (Register (length ts) a))
   message_at cs ts a = ap is_no_message (register_renamed cs ts a) ∙ message_kept names (held cs (Register (length ts) a))
 
   -- what a field has
@@ -142,7 +148,9 @@ module _ (names : ℕ → ℕ) (one_to_one : IsOneToOne names) (p : Image) (c : 
 
   pub target_kept : (target : Target) (class : Option ℕ) (first count : ℕ) → needs_target p fr' ts' s' target class first count ≡ needs_target p fr ts s target class first count
   target_kept This class first count = rw (holder_kept names fr.home)
-  target_kept (On_register r) class first count = rw (register_renamed names one_to_one s.cells ts r, some_kept names (held s.cells (Register (length ts) r)), worked_kept names p class (held s.cells (Register (length ts) r)))
+  target_kept (On_register r) class first count =
+      let o = held s.cells (Register (length ts) r) in
+      rw (register_renamed names one_to_one s.cells ts r, some_kept names o, worked_kept names p class o)
   target_kept (On_field f) class first count = rw (holder_kept names fr.home, held_field names one_to_one s.cells fr.home f, target_object_kept names p class (held s.cells (field_place fr.home f)))
   target_kept (On_entry k) class first count = rw (held_renamed names one_to_one s.cells (entry_place s.items k), target_object_kept names p class (held s.cells (entry_place s.items k)))
 
@@ -154,7 +162,9 @@ module _ (names : ℕ → ℕ) (one_to_one : IsOneToOne names) (p : Image) (c : 
   each_kept [] first = refl
   each_kept (x ∷ xs) first = rw (argument_kept x first, each_kept xs (suc first))
 
-  pub passed_renamed : (depth : ℕ) (xs : List Argument) (first to : ℕ) (cs : List Cell) → passed_cells p fr' ts' s' depth xs first to (renamed_cells names cs) ≡ renamed_cells names (passed_cells p fr ts s depth xs first to cs)
+  pub passed_renamed :
+      (depth : ℕ) (xs : List Argument) (first to : ℕ) (cs : List Cell) →
+      passed_cells p fr' ts' s' depth xs first to (renamed_cells names cs) ≡ renamed_cells names (passed_cells p fr ts s depth xs first to cs)
   passed_renamed depth [] first to cs = refl
   passed_renamed depth (Takes_word ∷ xs) first to cs = passed_renamed depth xs (suc first) (suc to) cs
   passed_renamed depth (Takes_own t ∷ xs) first to cs =
@@ -187,7 +197,9 @@ module _ (names : ℕ → ℕ) (one_to_one : IsOneToOne names) (p : Image) (c : 
   under_trap_kept : (target : Target) (m first a : ℕ) → needs_trap p fr' ts' s' target m first a ≡ needs_trap p fr ts s target m first a
   under_trap_kept target m first a =
       entering_kept target m first _
-      ∙ ap (λ cs. needs_entering p fr ts s target m first (needs_result p fr' ts' s' (gives_of p m) cs a ++ ((is_none (held cs (Register (length ts') (suc a))), Orphan) ∷ []))) (given_renamed (Trapped ∷ Run fr ∷ ts) m first)
+      ∙ ap
+      (λ cs. needs_entering p fr ts s target m first (needs_result p fr' ts' s' (gives_of p m) cs a ++ ((is_none (held cs (Register (length ts') (suc a))), Orphan) ∷ [])))
+      (given_renamed (Trapped ∷ Run fr ∷ ts) m first)
       ∙ rw (result_kept (gives_of p m) (given_cells p fr ts s (Trapped ∷ Run fr ∷ ts) m first) a, free_at names one_to_one (given_cells p fr ts s (Trapped ∷ Run fr ∷ ts) m first) ts (suc a))
 
   -- ---- returns
@@ -207,7 +219,10 @@ module _ (names : ℕ → ℕ) (one_to_one : IsOneToOne names) (p : Image) (c : 
 
   leaves_object_kept : (x : ℕ) (items : List Item) → leaves_object p fr' ts' s' x items ≡ leaves_object p fr ts s x items
   leaves_object_kept x [] = refl
-  leaves_object_kept x (An_object ∷ items) = ap (λ b. (length items == fr.height) && b) (ap (λ o. is_some o && is_thing p (An_object_of x) o) (held_renamed names one_to_one s.cells (Entry (length items))) ∙ rw (some_kept names (held s.cells (Entry (length items))), thing_kept names p (An_object_of x) (held s.cells (Entry (length items)))))
+  leaves_object_kept x (An_object ∷ items) =
+      let o = held s.cells (Entry (length items)) in
+      ap (λ b. (length items == fr.height) && (is_some b && is_thing p (An_object_of x) b)) (held_renamed names one_to_one s.cells (Entry (length items)))
+      ∙ rw (some_kept names o, thing_kept names p (An_object_of x) o)
   leaves_object_kept x (An_operation m w ∷ items) = refl
   leaves_object_kept x (A_mark ∷ items) = refl
 

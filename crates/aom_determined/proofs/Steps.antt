@@ -21,7 +21,9 @@ guarded_renamed : (names : ℕ → ℕ) (ns : List Need) (s : State) → guarded
 guarded_renamed names [] s = refl
 guarded_renamed names (n ∷ ns) s = go n.0 (guarded_renamed names ns s)
   where
-    go : (b : Bool) → guarded ns (renamed names s) ≡ renamed_outcome names (guarded ns s) → cond b (guarded ns (renamed names s)) (IsStuck n.1) ≡ renamed_outcome names (cond b (guarded ns s) (IsStuck n.1))
+    go :
+        (b : Bool) → guarded ns (renamed names s) ≡ renamed_outcome names (guarded ns s) →
+        cond b (guarded ns (renamed names s)) (IsStuck n.1) ≡ renamed_outcome names (cond b (guarded ns s) (IsStuck n.1))
     go true e = e
     go false e = refl
 
@@ -34,7 +36,9 @@ module _ (names : ℕ → ℕ) (one_to_one : IsOneToOne names) where
   resumed_renamed (Unwind code ∷ ts) = refl
   resumed_renamed (Dispatched d ∷ ts) = refl
 
-  instr_renamed : (p : Image) (c : Choice) (fr : Frame) (ts : List Task) (s : State) (i : Option Instr) → step_instr p (renamed_choice names c) (renamed_frame names fr) (renamed_tasks names ts) (renamed names s) i ≡ renamed_outcome names (step_instr p c fr ts s i)
+  instr_renamed :
+      (p : Image) (c : Choice) (fr : Frame) (ts : List Task) (s : State) (i : Option Instr) →
+      step_instr p (renamed_choice names c) (renamed_frame names fr) (renamed_tasks names ts) (renamed names s) i ≡ renamed_outcome names (step_instr p c fr ts s i)
   instr_renamed p c fr ts s None = refl
   instr_renamed p c fr ts s (Some i) =
       ap (λ n. guarded n (does p (renamed_choice names c) (renamed_frame names fr) (renamed_tasks names ts) (renamed names s) i)) (needs_kept names one_to_one p c fr ts s i)
@@ -47,19 +51,23 @@ module _ (names : ℕ → ℕ) (one_to_one : IsOneToOne names) where
       rw (owns_nothing_kept names one_to_one s.cells o.name, tasks_counted names ts, without_renamed names one_to_one (Going (length ts)) s.cells, resumed_renamed ts)
       (guarded_renamed names ((owns_nothing s.cells o.name, Orphan) ∷ []) (record s { cells = without (Going (length ts)) s.cells; tasks = resumed ts }))
 
-  arrived_renamed : (p : Image) (code : ℤ) (ts : List Task) (items : List Item) (s : State) → arrived p code (renamed_tasks names ts) items (renamed names s) ≡ renamed_outcome names (arrived p code ts items s)
+  arrived_renamed :
+      (p : Image) (code : ℤ) (ts : List Task) (items : List Item) (s : State) →
+      arrived p code (renamed_tasks names ts) items (renamed names s) ≡ renamed_outcome names (arrived p code ts items s)
   arrived_renamed p code (Trapped ∷ Run fr ∷ ts) items s = let i = instr_at p fr.method fr.place in rw (told_renamed names (called p i) (result_register i) code fr)
   arrived_renamed p code _ items s = refl
 
-  unwound_renamed : (p : Image) (code : ℤ) (ts : List Task) (s : State) (items : List Item) → unwound p code (renamed_tasks names ts) (renamed names s) items ≡ renamed_outcome names (unwound p code ts s items)
+  unwound_renamed :
+      (p : Image) (code : ℤ) (ts : List Task) (s : State) (items : List Item) →
+      unwound p code (renamed_tasks names ts) (renamed names s) items ≡ renamed_outcome names (unwound p code ts s items)
   unwound_renamed p code ts s [] = refl
   unwound_renamed p code ts s (An_object ∷ items) =
       rw (whole_kept names one_to_one s.cells (An_object ∷ items), dealt_renamed names one_to_one p (An_object ∷ items) (Unwind code ∷ ts) s)
-      (go (top_is_whole s.cells (An_object ∷ items)))
+      (go (top_is_whole s.cells (An_object ∷ items)) (dealt_with p (An_object ∷ items) (Unwind code ∷ ts) s))
     where
-      go : (b : Bool) → cond b (Goes (renamed names (dealt_with p (An_object ∷ items) (Unwind code ∷ ts) s))) (IsStuck NullOrDead) ≡ renamed_outcome names (cond b (Goes (dealt_with p (An_object ∷ items) (Unwind code ∷ ts) s)) (IsStuck NullOrDead))
-      go true = refl
-      go false = refl
+      go : (b : Bool) (u : State) → cond b (Goes (renamed names u)) (IsStuck NullOrDead) ≡ renamed_outcome names (cond b (Goes u) (IsStuck NullOrDead))
+      go true u = refl
+      go false u = refl
   unwound_renamed p code ts s (An_operation m w ∷ items) = refl
   unwound_renamed p code ts s (A_mark ∷ items) = arrived_renamed p code ts items s
 
