@@ -9,9 +9,10 @@ use Rattle.aom_cells.specs.Heap.{null}
 use Rattle.aom_cleanup.specs.declared.item.Item.{Item as Held_item}
 use Rattle.aom_cleanup.specs.declared.item.Item.TheVariants.{Object as Holds_object, Operation as Holds_operation, Mark as Is_mark}
 use Rattle.aom_shape.specs.Typing.{Typing}
-use Rattle.aom_sound.specs.Cleanup.{dealt_with as deals_with, destroyed, operation_frame, tops_entry, top_is_whole}
+use Rattle.aom_sound.specs.Cleanup.{dealt_with as deals_with, destroyed, operation_frame, tops_entry, top_is_whole, top_place}
 use Rattle.aom_sound.specs.Destruction.{destructor_of}
 use Rattle.aom_sound.specs.Places.{Place, Register, Entry, Going, Object, changed, held}
+use Rattle.aom_sound.proofs.Dealing.{dealing as dealing_effect}
 use Rattle.aom_sound.specs.State.{Static, frame_of, Run, Item, An_object, An_operation, A_mark, State}
 use Rattle.aom_sound.specs.WellTyped.{WellTyped}
 use Rattle.aom_frames.specs.Tasks.{fresh}
@@ -100,5 +101,8 @@ pop_delete_does p m refused h here =
     let c = an_open p refused m h.state h.agrees in (
       c.0,
       c.1,
-      λ needs typed. subst (λ us. Agrees p (dealt_with p m) (deals_with p h.state.items us h.state)) h.top (deals p m h.typing h.state h.typed h.agrees needs.0 needs.1.0),
+      λ needs typed.
+          let s = h.state in
+          subst (Agrees p (dealt_with p m)) (dealing_effect p h.frame h.below s s.items (held s.cells (top_place s.items)) refl refl needs.0 needs.1.0)
+          (subst (λ us. Agrees p (dealt_with p m) (deals_with p s.items us s)) h.top (deals p m h.typing s h.typed h.agrees needs.0 needs.1.0)),
     )

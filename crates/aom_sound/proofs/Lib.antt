@@ -3,7 +3,6 @@ pub mod Things
 pub mod Items
 pub mod Claimed
 pub mod Guarded
-pub mod Agreement
 pub mod Moving
 pub mod Preserving
 pub mod Resting
