@@ -7,7 +7,7 @@ use Rattle.aom_image.specs.Image.{Image}
 use Rattle.aom_image.specs.declared.instr.Instr.TheVariants.{PopDelete}
 use Rattle.aom_cells.specs.Heap.{null}
 use Rattle.aom_cleanup.specs.declared.item.Item.{Item as Held_item}
-use Rattle.aom_cleanup.specs.declared.item.Item.TheVariants.{Object as Holds_object, Operation as Holds_operation, Mark as Is_mark}
+use Rattle.aom_cleanup.specs.declared.item.Item.TheVariants.{Object as Holds_object, Operation as Holds_operation}
 use Rattle.aom_shape.specs.Typing.{Typing}
 use Rattle.aom_sound.specs.Cleanup.{dealt_with as deals_with, destroyed, operation_frame, tops_entry, top_is_whole, top_place}
 use Rattle.aom_sound.specs.Destruction.{destructor_of}
@@ -86,15 +86,11 @@ module _ (p : Image) (m : Parts) (t : Typing) (s : State) (typed : WellTyped p t
   deals some whole = go m.entries.items s.items refl agrees.entries some whole
     where
       go : (is : List Held_item) (js : List Item) → m.entries.items ≡ is → SameItems is js → tops_entry js ≡ true → top_is_whole s.cells js ≡ true → Agrees p (dealing p is m) (deals_with p js s.tasks s)
-      go is [] was same some whole = cc
-      go is (A_mark ∷ js) was same some whole = cc
-      go [] (j ∷ js) was same some whole = absurd same
       go (Holds_object n ∷ is) (An_object ∷ js) was same some whole = object_goes n is js was same.1 (held s.cells (Entry (length js))) refl whole
       go (Holds_operation k n ∷ is) (An_operation k' w ∷ js) was same some whole = operation_runs k n k' w is js was same.0.0 same.0.1 same.1
-      go (Holds_object n ∷ is) (An_operation k' w ∷ js) was same some whole = absurd same.0
-      go (Holds_operation k n ∷ is) (An_object ∷ js) was same some whole = absurd same.0
-      go (Is_mark ∷ is) (An_object ∷ js) was same some whole = absurd same.0
-      go (Is_mark ∷ is) (An_operation k' w ∷ js) was same some whole = absurd same.0
+      go is [] was same some whole = cc
+      go is (A_mark ∷ js) was same some whole = cc
+      go _ _ was same some whole = absurd (assumption tt)
 
 pub pop_delete_does : (p : Image) (m : Parts) (refused : List ℕ) → DoesIn p refused PopDelete m (dealt_with p m)
 pop_delete_does p m refused h here =

@@ -316,12 +316,10 @@ module _ (p : Image) (t : Typing) (s u : State) (code : ℤ) (items : List Item)
   below_trap _ gv es good e = absurd good.stack.1.1.0
 
   below_leave : (ls : List Layer) (es : List Pushed) → Good p t s.cells (Unwinding code es ∷ ls) → arrived p code (tasks_of ls) items (counted p s) ≡ Goes u → Arrived (tasks_of ls) u
-  below_leave [] es good e = cc
-  below_leave (Method fr sh ∷ ls) es good e = absurd good.stack.1.0
   below_leave (Mark gv ∷ ls) es good e = below_trap ls gv es good e
-  below_leave (Dying o ∷ ls) es good e = absurd good.stack.1.1
-  below_leave (Unwinding x fs ∷ ls) es good e = absurd good.stack.1.0
   below_leave (Dispatching d ∷ ls) es good e = no_dispatch p d good.stack.1.0
+  below_leave [] es good e = cc
+  below_leave _ es good e = absurd (assumption tt)
 
   by_layers : (below : List Task) (ls : List Layer) → tasks_of ls ≡ Unwind code ∷ below → Good p t s.cells ls → arrived p code below items (counted p s) ≡ Goes u → Arrived below u
   by_layers below (Unwinding x es ∷ ls) at good e =

@@ -37,6 +37,7 @@ pub mod Quiet
 pub mod Clearing
 pub mod Caught
 pub mod Course
+pub mod View
 pub mod Standing
 pub mod Trapping
 pub mod Stuck
