@@ -248,7 +248,9 @@ module _ (m : Parts) (refused : List ℕ) where
   pub jump_empty_does : (g to : ℕ) → field_here g m ≡ null → Does refused (JumpEmpty g to) m (acts.to_place to m)
   jump_empty_does g to is = plain_does m (acts.to_place to m) refused (JumpEmpty g to) refl (λ p h c met. go p h c (held h.state.cells (field_place h.frame.home g)) refl (sym (field_shown p m h g met.0) ∙ is))
     where
-      go : (p : Image) (h : At_hand p m) (c : Choice) (o : Option Object) → held h.state.cells (field_place h.frame.home g) ≡ o → number o ≡ null → Agrees p (acts.to_place to m) (applied p h.frame h.below h.state (jumps_unless h.frame o to))
+      go :
+          (p : Image) (h : At_hand p m) (c : Choice) (o : Option Object) → held h.state.cells (field_place h.frame.home g) ≡ o → number o ≡ null →
+          Agrees p (acts.to_place to m) (applied p h.frame h.below h.state (jumps_unless h.frame o to))
       go p h c None e n = jumps m refused p h to
       go p h c (Some o) e n = absurd (not_null p m h.typing h.state h.typed h.agrees _ o e n)
 

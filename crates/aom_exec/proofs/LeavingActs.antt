@@ -111,7 +111,9 @@ leaves_at p m s fr ts code top agrees free =
 
 module _ (m : Parts) (refused : List ℕ) where
   -- with a register's word
-  left_with : (p : Image) (h : At_hand p m) (a : ℕ) → is_some (word h.frame a) ≡ true → above_trap_is_free h.state.cells (Run h.frame ∷ h.below) ≡ true → Agrees p (leaving (cast_signed w32 (register_here m.stack.tasks a)) m) (applied p h.frame h.below h.state (Leaves (read h.frame h.below h.state a) Same))
+  left_with :
+      (p : Image) (h : At_hand p m) (a : ℕ) → is_some (word h.frame a) ≡ true → above_trap_is_free h.state.cells (Run h.frame ∷ h.below) ≡ true →
+      Agrees p (leaving (cast_signed w32 (register_here m.stack.tasks a)) m) (applied p h.frame h.below h.state (Leaves (read h.frame h.below h.state a) Same))
   left_with p h a some free =
       subst (λ w. Agrees p (leaving (cast_signed w32 (register_here m.stack.tasks a)) m) (applied p h.frame h.below h.state (Leaves w Same))) (word_read p m h a some)
       (leaves_at p m h.state h.frame h.below (cast_signed w32 (register_here m.stack.tasks a)) h.top h.agrees free)

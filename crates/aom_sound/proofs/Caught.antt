@@ -124,7 +124,9 @@ is_there (Some y) e = (y, refl)
 
 module _ (p : Image) (t : Typing) (c : Choice) (fr : Frame) (ts : List Task) (s u : State) (at_hand : s.tasks ≡ Run fr ∷ ts) (w : WellTyped p t s) (keeps : WellTyped p t u) where
   -- the leave is at hand over the innermost trap
-  begins_at : (i : Instr) (code : ℤ) (off : Update) → has_trap ts ≡ true → applied p fr ts (counted p s) (Leaves code off) ≡ u → HasPushed fr (length ts) i s (applied p fr ts (counted p s) (Leaves code off)) → Begins p code fr (length ts) i s u
+  begins_at :
+      (i : Instr) (code : ℤ) (off : Update) → has_trap ts ≡ true → applied p fr ts (counted p s) (Leaves code off) ≡ u →
+      HasPushed fr (length ts) i s (applied p fr ts (counted p s) (Leaves code off)) → Begins p code fr (length ts) i s u
   begins_at i code off trap e on =
       let r = trapping ts trap in
       let top : u.tasks ≡ Unwind code ∷ Trapped ∷ r.below = sym (ap (λ x. x.tasks) e) ∙ ap (λ l. Unwind code ∷ l) r.lands in

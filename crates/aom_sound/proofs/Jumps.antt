@@ -59,7 +59,9 @@ module _ (p : Image) (t : Typing) (c : Choice) (s : State) (fr : Frame) (sh : Sh
       learned fr' k eh em eg ew new w = relabel p t s.cells fr fr' sh (set_register sh a k) ls (top ls a) k g eh em eg new (λ r. claim-set_register p (declared p s.cells) fr sh ls a k r)
           (λ i. subst (λ ws. WordFits (at None ws i) (register (set_register sh a k) i)) (sym ew) (words_kept fr.words sh a k at_hand.good.stack.1.words (subst (λ x. WordFits x k) (sym none) w) i))
 
-      go : (k : Kind) (o : Option Object) → register sh a ≡ k → held s.cells (top ls a) ≡ o → AllLead t fr.method (flow_jump_null p fr.method fr.place sh k a to) → Fits p (held s.cells) (held s.cells (top ls a)) (register sh a) → WellTyped p t (applied p fr (tasks_of ls) s (jumps_unless fr o to))
+      go :
+          (k : Kind) (o : Option Object) → register sh a ≡ k → held s.cells (top ls a) ≡ o → AllLead t fr.method (flow_jump_null p fr.method fr.place sh k a to) →
+          Fits p (held s.cells) (held s.cells (top ls a)) (register sh a) → WellTyped p t (applied p fr (tasks_of ls) s (jumps_unless fr o to))
       go Unset o ek eo leads f = let e : is_object_or_null Unset ≡ true = ap is_object_or_null (sym ek) ∙ n.0 in cc
       go Word o ek eo leads f = let e : is_object_or_null Word ≡ true = ap is_object_or_null (sym ek) ∙ n.0 in cc
       go Null None ek eo leads f = well p t c s fr sh ls at_hand _ (to_place fr to) sh refl at_hand.items at_hand.undos (settle p t s.cells (to_place fr to) sh ls (placed (to_place fr to) refl refl refl refl) leads.0)
@@ -116,7 +118,9 @@ module _ (p : Image) (t : Typing) (c : Choice) (s : State) (fr : Frame) (sh : Sh
           (λ r. claim-set_field p (declared p s.cells) fr fr.home sh ls f y (filled x y) r refl some refl)
           (λ i. subst (λ ws. WordFits (at None ws i) (register sh i)) (sym ew) (at_hand.good.stack.1.words i))) leads)
 
-      go : (y : Filling) (o : Option Object) → held s.cells q ≡ o → AllLead t fr.method (flow_jump_empty p fr.method fr.place sh y f to) → Fits p (held s.cells) (held s.cells q) (filled x y) → WellTyped p t (applied p fr (tasks_of ls) s (jumps_unless fr o to))
+      go :
+          (y : Filling) (o : Option Object) → held s.cells q ≡ o → AllLead t fr.method (flow_jump_empty p fr.method fr.place sh y f to) → Fits p (held s.cells) (held s.cells q) (filled x y) →
+          WellTyped p t (applied p fr (tasks_of ls) s (jumps_unless fr o to))
       go Empty None e leads fit = stays (to_place fr to) refl refl refl refl at_hand.items leads.0
       go Empty (Some o) e leads fit = absurd (not_empty x o (subst (λ z. Fits p (held s.cells) z (filled x Empty)) e fit))
       go Full None e leads fit = absurd (not_full x some (subst (λ z. Fits p (held s.cells) z (filled x Full)) e fit))

@@ -116,12 +116,16 @@ vanishes p c ts s u at e = go (held s.cells (Going (length ts))) refl e
         Vanishes ts o at there (guarded_met needed after u e).0 (sym (guarded_goes needed after u e))
 
 -- a code arrives
-arrives : (p : Image) (c : Choice) (code : ℤ) (ts : List Task) (items : List Item) (s u : State) → s.tasks ≡ Unwind code ∷ ts → s.items ≡ A_mark ∷ items → arrived p code ts items (counted p s) ≡ Goes u → Move p c s u
+arrives :
+    (p : Image) (c : Choice) (code : ℤ) (ts : List Task) (items : List Item) (s u : State) → s.tasks ≡ Unwind code ∷ ts → s.items ≡ A_mark ∷ items → arrived p code ts items (counted p s) ≡ Goes u →
+    Move p c s u
 arrives p c code (Trapped ∷ Run fr ∷ ts) items s u at top e = Arrives code fr ts items at top (sym (goes_same _ u e))
 arrives p c code (Trapped ∷ Dispatched d ∷ ts) items s u at top e = Comes_out code d ts items at top (sym (goes_same _ u e))
 arrives p c code _ items s u at top e = cc
 
-unwinds : (p : Image) (c : Choice) (code : ℤ) (ts : List Task) (items : List Item) (s u : State) → s.tasks ≡ Unwind code ∷ ts → s.items ≡ items → unwound p code ts (counted p s) items ≡ Goes u → Move p c s u
+unwinds :
+    (p : Image) (c : Choice) (code : ℤ) (ts : List Task) (items : List Item) (s u : State) → s.tasks ≡ Unwind code ∷ ts → s.items ≡ items → unwound p code ts (counted p s) items ≡ Goes u →
+    Move p c s u
 unwinds p c code ts [] s u at top e = cc
 unwinds p c code ts (An_object ∷ items) s u at top e = go (held s.cells (Entry (length items))) refl e
   where
@@ -134,9 +138,6 @@ unwinds p c code ts (A_mark ∷ items) s u at top e = arrives p c code ts items 
 pub steps_are_moves : StepsAreMoves
 steps_are_moves p c s u e = go s.tasks refl e
   where
-    s' : State
-    s' = counted p s
-
     runs : (fr : Frame) (ts : List Task) (o : Option Instr) → s.tasks ≡ Run fr ∷ ts → instr_at p fr.method fr.place ≡ o → step_instr p c fr ts (counted p s) o ≡ Goes u → Move p c s u
     runs fr ts None at there e = cc
     runs fr ts (Some i) at there e =

@@ -235,7 +235,9 @@ module _ (p : Image) (c : Choice) (s : State) (below : List Task) where
       inr (subst (λ b. GoesOnAfter b (Run after ∷ ts)) same (after, refl, told_frame (result_register i) code fr (called p i)), sym (ap below_top top), inr (code, at ∙ ap (λ l. Unwind code ∷ Trapped ∷ l) same))
   arrives code fr ts items at top (inr o) = inl (with_task below ts _ (under_frame below ts fr o), inr (inr (A_mark, top)))
 
-  comes_out : (code : ℤ) (d : Dispatch) (ts : List Task) (items : List Item) → s.tasks ≡ Unwind code ∷ Trapped ∷ Dispatched d ∷ ts → s.items ≡ A_mark ∷ items → (Dispatched d ∷ ts ≡ below) ⊎ Ends below (Dispatched d ∷ ts) →
+  comes_out :
+      (code : ℤ) (d : Dispatch) (ts : List Task) (items : List Item) → s.tasks ≡ Unwind code ∷ Trapped ∷ Dispatched d ∷ ts → s.items ≡ A_mark ∷ items →
+      (Dispatched d ∷ ts ≡ below) ⊎ Ends below (Dispatched d ∷ ts) →
       Moved p below s (record (counted p s) { tasks = Dispatched (ended_by code d) ∷ ts; items = items })
   comes_out code d ts items at top (inl same) =
       inr (subst (λ b. GoesOnAfter b (Dispatched (ended_by code d) ∷ ts)) same (ended_by code d, refl), sym (ap below_top top), inr (code, at ∙ ap (λ l. Unwind code ∷ Trapped ∷ l) same))

@@ -49,10 +49,14 @@ module _ (p : Image) (t : Typing) (c : Choice) (s : State) (fr : Frame) (sh : Sh
   pub law_copy : (a b : ℕ) → Law p t c s fr sh ls at_hand (Copy a b)
   law_copy a b n leads = ((has_word b n.0, (unowned a n.1.0, tt)), writes_word a (read fr (tasks_of ls) s b) n.1.0 leads)
 
-  pub law_binary : (op : ℤ → ℤ → ℤ) (a b x : ℕ) → AllTrue (rule_combine fr.place sh a b x) → AllLead t fr.method (flow_word fr.place sh a) → AllTrue (needs_binary fr (tasks_of ls) s a b x) × WellTyped p t (applied p fr (tasks_of ls) s (computes p c fr (tasks_of ls) s op a b x))
+  pub law_binary :
+      (op : ℤ → ℤ → ℤ) (a b x : ℕ) → AllTrue (rule_combine fr.place sh a b x) → AllLead t fr.method (flow_word fr.place sh a) →
+      AllTrue (needs_binary fr (tasks_of ls) s a b x) × WellTyped p t (applied p fr (tasks_of ls) s (computes p c fr (tasks_of ls) s op a b x))
   law_binary op a b x n leads = ((has_word b n.0, (has_word x n.1.0, (unowned a n.1.1.0, tt))), writes_word a (op (read fr (tasks_of ls) s b) (read fr (tasks_of ls) s x)) n.1.1.0 leads)
 
-  pub law_compare : (test : ℤ → ℤ → Bool) (a b to : ℕ) → AllTrue (rule_compare fr.place sh a b) → AllLead t fr.method (flow_compare fr.place sh to) → AllTrue (needs_compare fr (tasks_of ls) s a b) × WellTyped p t (applied p fr (tasks_of ls) s (jumps_if fr (test (read fr (tasks_of ls) s a) (read fr (tasks_of ls) s b)) to))
+  pub law_compare :
+      (test : ℤ → ℤ → Bool) (a b to : ℕ) → AllTrue (rule_compare fr.place sh a b) → AllLead t fr.method (flow_compare fr.place sh to) →
+      AllTrue (needs_compare fr (tasks_of ls) s a b) × WellTyped p t (applied p fr (tasks_of ls) s (jumps_if fr (test (read fr (tasks_of ls) s a) (read fr (tasks_of ls) s b)) to))
   law_compare test a b to n leads = ((has_word a n.0, (has_word b n.1.0, tt)), goes_either p t c s fr sh ls at_hand to leads (test (read fr (tasks_of ls) s a) (read fr (tasks_of ls) s b)))
 
   pub law_print : (a : ℕ) → Law p t c s fr sh ls at_hand (Print a)
