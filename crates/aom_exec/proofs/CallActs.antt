@@ -8,7 +8,7 @@ use Rattle.aom_shape.specs.Typing.{Typing}
 use Rattle.aom_sound.specs.Places.{Place, Register, Entry, Field, Going, Elsewhere, Object, held}
 use Rattle.aom_sound.specs.State.{Dispatch, next, Run, Dispatched, Rest, State}
 use Rattle.aom_sound.specs.Calls.{below_top}
-use Rattle.aom_sound.specs.Claims.{Layer, Method, Mark, Dying, Dispatching, tasks_of, Unwinding}
+use Rattle.aom_sound.specs.Claims.{Layer, Dispatching, tasks_of}
 use Rattle.aom_sound.specs.WellTyped.{WellTyped, Good, Fits}
 use Rattle.aom_cleanup.specs.Items.{Stack as Held_items, entry_in}
 use Rattle.aom_cleanup.specs.declared.item.Item.TheVariants.{Mark as Is_mark}
@@ -47,21 +47,12 @@ pub closing : (p : Image) (t : Typing) (s : State) (d : Dispatch) → WellTyped 
 closing p t s d typed e = go typed.layers (sym typed.tasks ∙ e) typed.good
   where
     go : (ls : List Layer) → tasks_of ls ≡ Dispatched d ∷ [] → Good p t s.cells ls → Closing s
-    go [] e good = cc
-    go (Method fr sh ∷ ls) e good = cc
-    go (Mark gv ∷ ls) e good = cc
-    go (Dying o ∷ ls) e good = cc
-    go (Dispatching x ∷ Method fr sh ∷ ls) e good = cc
-    go (Dispatching x ∷ Mark gv ∷ ls) e good = cc
-    go (Dispatching x ∷ Dying o ∷ ls) e good = cc
-    go (Dispatching x ∷ Unwinding code es ∷ ls) e good = cc
-    go (Unwinding code es ∷ ls) e good = cc
-    go (Dispatching x ∷ Dispatching y ∷ ls) e good = cc
     go (Dispatching x ∷ []) e good = record {
       registers = λ d i. fits_null p (held s.cells) _ (good.fits (Register d i));
       entries = λ k. fits_null p (held s.cells) _ (good.fits (Entry k));
       goings = λ k. fits_null p (held s.cells) _ (good.fits (Going k));
     }
+    go _ e good = cc
 
 same_cond : {A : Type 0} (b : Bool) (x : A) → cond b x x ≡ x
 same_cond true x = refl

@@ -7,11 +7,12 @@ use Rattle.aom_image.specs.Image.{Image}
 use Rattle.aom_image.specs.declared.instr.Instr.TheVariants.{PopDelete}
 use Rattle.aom_cells.specs.Heap.{null}
 use Rattle.aom_cleanup.specs.declared.item.Item.{Item as Held_item}
-use Rattle.aom_cleanup.specs.declared.item.Item.TheVariants.{Object as Holds_object, Operation as Holds_operation, Mark as Is_mark}
+use Rattle.aom_cleanup.specs.declared.item.Item.TheVariants.{Object as Holds_object, Operation as Holds_operation}
 use Rattle.aom_shape.specs.Typing.{Typing}
-use Rattle.aom_sound.specs.Cleanup.{dealt_with as deals_with, destroyed, operation_frame, tops_entry, top_is_whole}
+use Rattle.aom_sound.specs.Cleanup.{dealt_with as deals_with, destroyed, operation_frame, tops_entry, top_is_whole, top_place}
 use Rattle.aom_sound.specs.Destruction.{destructor_of}
 use Rattle.aom_sound.specs.Places.{Place, Register, Entry, Going, Object, changed, held}
+use Rattle.aom_sound.proofs.Dealing.{dealing as dealing_effect}
 use Rattle.aom_sound.specs.State.{Static, frame_of, Run, Item, An_object, An_operation, A_mark, State}
 use Rattle.aom_sound.specs.WellTyped.{WellTyped}
 use Rattle.aom_frames.specs.Tasks.{fresh}
@@ -85,20 +86,19 @@ module _ (p : Image) (m : Parts) (t : Typing) (s : State) (typed : WellTyped p t
   deals some whole = go m.entries.items s.items refl agrees.entries some whole
     where
       go : (is : List Held_item) (js : List Item) → m.entries.items ≡ is → SameItems is js → tops_entry js ≡ true → top_is_whole s.cells js ≡ true → Agrees p (dealing p is m) (deals_with p js s.tasks s)
-      go is [] was same some whole = cc
-      go is (A_mark ∷ js) was same some whole = cc
-      go [] (j ∷ js) was same some whole = absurd same
       go (Holds_object n ∷ is) (An_object ∷ js) was same some whole = object_goes n is js was same.1 (held s.cells (Entry (length js))) refl whole
       go (Holds_operation k n ∷ is) (An_operation k' w ∷ js) was same some whole = operation_runs k n k' w is js was same.0.0 same.0.1 same.1
-      go (Holds_object n ∷ is) (An_operation k' w ∷ js) was same some whole = absurd same.0
-      go (Holds_operation k n ∷ is) (An_object ∷ js) was same some whole = absurd same.0
-      go (Is_mark ∷ is) (An_object ∷ js) was same some whole = absurd same.0
-      go (Is_mark ∷ is) (An_operation k' w ∷ js) was same some whole = absurd same.0
+      go is [] was same some whole = cc
+      go is (A_mark ∷ js) was same some whole = cc
+      go _ _ was same some whole = absurd (assumption tt)
 
 pub pop_delete_does : (p : Image) (m : Parts) (refused : List ℕ) → DoesIn p refused PopDelete m (dealt_with p m)
 pop_delete_does p m refused h here =
     let c = an_open p refused m h.state h.agrees in (
       c.0,
       c.1,
-      λ needs typed. subst (λ us. Agrees p (dealt_with p m) (deals_with p h.state.items us h.state)) h.top (deals p m h.typing h.state h.typed h.agrees needs.0 needs.1.0),
+      λ needs typed.
+          let s = h.state in
+          subst (Agrees p (dealt_with p m)) (dealing_effect p h.frame h.below s s.items (held s.cells (top_place s.items)) refl refl needs.0 needs.1.0)
+          (subst (λ us. Agrees p (dealt_with p m) (deals_with p s.items us s)) h.top (deals p m h.typing s h.typed h.agrees needs.0 needs.1.0)),
     )

@@ -3,15 +3,16 @@ use Rattle.std.proofs.Common.{◌≡◌, ◌+◌, ◌<◌, ℤ, Bool, true, fals
 use Rattle.aom_image.specs.Image.{Image}
 use Rattle.aom_cells.specs.Heap.{null}
 use Rattle.aom_shape.specs.Typing.{Typing}
+use Rattle.aom_sound.proofs.View.{under_dispatch}
 use Rattle.aom_sound.specs.Places.{Place, Register, Entry, Field, Going, Elsewhere, Root, Object, held}
 use Rattle.aom_sound.specs.declared.line.Ending.TheVariants.{Stopped, MainLeft as Left_with}
-use Rattle.aom_sound.specs.State.{Dispatch, Of_main, Task, Run, Trapped, Destroy, Dispatched, Rest, State, Choice, Goes, raised, Unwind}
+use Rattle.aom_sound.specs.State.{Dispatch, Of_main, Task, Dispatched, Rest, State, Choice, Goes, raised}
 use Rattle.aom_sound.specs.Moves.{asked, is_counted, closed, main_ends, dispatch_ends, step, step_task, written_task}
 use Rattle.aom_sound.specs.WellTyped.{WellTyped, Keeps}
 use Rattle.aom_lines.specs.Turn.{Turn}
 use Rattle.aom_frames.specs.Tasks.{below_first}
 use Rattle.aom_frames.specs.declared.task.Task.{Task as Held_task}
-use Rattle.aom_frames.specs.declared.task.Task.TheVariants.{Run as Runs_frame, Trapped as Is_trap, Destroy as Destroys, Dispatched as Ends, Unwind as Unwinds}
+use Rattle.aom_frames.specs.declared.task.Task.TheVariants.{Dispatched as Ends}
 use Rattle.aom_frames.specs.declared.task.Dispatch.{Dispatch as Held_dispatch}
 use Rattle.aom_frames.specs.declared.task.Dispatch.TheVariants.{Main, MainLeft, Root as End_of_run}
 use Rattle.aom_exec.specs.declared.parts.Parts.{Parts}
@@ -19,7 +20,7 @@ use Rattle.aom_exec.specs.Places.{value_in, IsEnding}
 use Rattle.aom_exec.specs.Going.{ending_here, uprooted}
 use Rattle.aom_exec.specs.Agrees.{word_at, Shows, SameTasks, dispatch_of, number, Agrees}
 use Rattle.aom_exec.specs.Steps.{Stands, Moves}
-use Rattle.aom_exec.proofs.Standing.{an_open, ends_last, nothing_held}
+use Rattle.aom_exec.proofs.Standing.{an_open, nothing_held}
 use Rattle.aom_exec.proofs.CallActs.{Closing, closing, shows_null}
 use Rattle.aom_exec.proofs.GoingActs.{uproots}
 use Rattle.aom_exec.proofs.Stepping.{counted_by}
@@ -40,7 +41,7 @@ at_end p t m s typed agrees ending = go m.stack.tasks s.tasks refl refl ending a
 
     go : (ms : List Held_task) (us : List Task) → m.stack.tasks ≡ ms → s.tasks ≡ us → IsEnding ms → SameTasks ms us → AtEnd m s
     go (Ends x ∷ ms) (Dispatched d ∷ ts) e f ending same =
-        let below = ends_last p t s d ts typed f in
+        let below = under_dispatch p t s d ts typed f in
         record { dispatch = x; held = e ∙ ap (λ us. Ends x ∷ us) (none ms ts same.1 below); state = f ∙ ap (λ us. Dispatched d ∷ us) below ∙ ap (λ y. Dispatched y ∷ []) (sym same.0) }
     go _ _ e f ending same = absurd (assumption tt)
 

@@ -7,7 +7,7 @@ use Rattle.aom_cleanup.specs.Items.{entry_in, item_at, owned_by}
 use Rattle.aom_cleanup.specs.declared.item.Item.{Item as Held_item}
 use Rattle.aom_cleanup.specs.declared.item.Item.TheVariants.{Object as Holds_object, Mark as Is_mark}
 use Rattle.aom_sound.specs.Calls.{below_top, entry_at}
-use Rattle.aom_sound.specs.Places.{Place, Register, Entry, Field, Going, Elsewhere, changed}
+use Rattle.aom_sound.specs.Places.{Place, Entry, changed}
 use Rattle.aom_sound.specs.State.{Item, An_object, An_operation, A_mark}
 use Rattle.aom_frames.specs.declared.task.Task.{Task as Held_task}
 use Rattle.aom_exec.specs.Places.{number_in, value_in}
@@ -78,10 +78,6 @@ less n = omega arith
 
 -- an entry that is counted from the last
 pub entry_number : (is : List Held_item) (js : List Item) (k n : ℕ) → SameItems is js → is_some (entry_at js k) ≡ true → n ≡ length js - suc k → number_in (item_at is k) ≡ entry_in is n
-entry_number [] [] k n same some at = cc
-entry_number [] (j ∷ js) k n same some at = absurd same
-entry_number (i ∷ is) [] k n same some at = absurd same
-entry_number (i ∷ is) (A_mark ∷ js) k n same some at = cc
 entry_number (i ∷ is) (An_object ∷ js) zero n same some at = last_number i is n (same_items_length is js same.1 ∙ sym (at ∙ less (length js)))
 entry_number (i ∷ is) (An_operation m w ∷ js) zero n same some at = last_number i is n (same_items_length is js same.1 ∙ sym (at ∙ less (length js)))
 entry_number (i ∷ is) (An_object ∷ js) (suc k) n same some at =
@@ -92,3 +88,6 @@ entry_number (i ∷ is) (An_operation m w ∷ js) (suc k) n same some at =
     let deep = same_items_length is js same.1 in
     let there = some_entry js k some in
     entry_number is js k n same.1 some (omega arith) ∙ sym (ap (λ b. cond b (owned_by i) (entry_in is n)) (ne_eqb (length is) n (λ e. absurd (omega arith))))
+entry_number [] [] k n same some at = cc
+entry_number (i ∷ is) (A_mark ∷ js) k n same some at = cc
+entry_number _ _ k n same some at = absurd (assumption tt)

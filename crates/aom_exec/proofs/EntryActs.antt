@@ -11,9 +11,10 @@ use Rattle.aom_cleanup.specs.declared.item.Item.{Item as Held_item}
 use Rattle.aom_cleanup.specs.declared.item.Item.TheVariants.{Object as Holds_object, Operation as Holds_operation, Mark as Is_mark}
 use Rattle.aom_shape.specs.Needs.{AllTrue}
 use Rattle.aom_sound.specs.Calls.{below_top}
-use Rattle.aom_sound.specs.Cleanup.{above_trap_is_free, leave_needs, left, no_memory, pushed, operation_pushed, tops_operation}
-use Rattle.aom_sound.specs.Places.{Place, Register, Entry, Field, Going, Elsewhere, changed, held, moved}
-use Rattle.aom_sound.specs.State.{Task, Run, Item, An_object, An_operation, A_mark, Rest, State, Choice, next, raised, set_word, word}
+use Rattle.aom_sound.specs.Cleanup.{leave_needs, no_memory, tops_operation, to_trap}
+use Rattle.aom_sound.specs.Places.{Place, Register, Entry, changed, held, moved}
+use Rattle.aom_sound.specs.Effects.{Effect, Leaves, Pushed, Pushed_operation, Update, applied, sets, unless_refused, updates}
+use Rattle.aom_sound.specs.State.{Task, Run, Item, An_object, A_mark, Rest, State, Choice, next, raised, set_word, word, Frame, Unwind}
 use Rattle.aom_sound.specs.Words.{read, word_or_zero}
 use Rattle.aom_sound.proofs.Maps.{held_moved}
 use Rattle.aom_lines.specs.Turn.{Turn}
@@ -28,7 +29,7 @@ use Rattle.aom_exec.specs.Agrees.{Shows, SameItems, word_at, Agrees}
 use Rattle.aom_exec.specs.Places.{value_in, with_items}
 use Rattle.aom_exec.proofs.Cells.{cells_moved}
 use Rattle.aom_exec.proofs.Entries.{and_true, entry_past, owns_none, same_items_length, top_value, value_alike, value_popped, value_pushed}
-use Rattle.aom_exec.proofs.LeavingActs.{leaves}
+use Rattle.aom_exec.proofs.LeavingActs.{leaves, leaves_at}
 use Rattle.aom_exec.proofs.ObjectActs.{asks_one, made_agrees, same_entry_refusal, same_refusal}
 use Rattle.aom_exec.proofs.Standing.{Top, by_top, moved_on, word_here, no_word, free, nothing_held, unnamed}
 use Rattle.aom_exec.proofs.Stepping.{agrees_rest}
@@ -57,7 +58,7 @@ module _ (p : Image) (m : Parts) (h : At_hand p m) where
 
   -- an object is pushed
   object_pushed : (c : Choice) (a : ℕ) (r : Rest) (f : Held_frame) (ms : List Held_task) → a < 16 → record m.rest { requests = raised m.rest.requests } ≡ r → Top m h.state h.frame h.below f ms → word h.frame a ≡ None
-      → Agrees p (with_items (Holds_object (slice_index_or f.registers a null) ∷ m.entries.items) (record (asked m) { stack = record m.stack { tasks = Runs_frame (record f { registers = slice_set f.registers a null; place = suc f.place }) ∷ ms } })) (pushed p c h.frame h.below (record h.state { rest = r }) a)
+      → Agrees p (with_items (Holds_object (slice_index_or f.registers a null) ∷ m.entries.items) (record (asked m) { stack = record m.stack { tasks = Runs_frame (record f { registers = slice_set f.registers a null; place = suc f.place }) ∷ ms } })) (applied p h.frame h.below (record h.state { rest = r }) (sets h.frame a None (Pushed a)))
   object_pushed c a r f ms small rest top wordless =
       let s = h.state in
       let fr = h.frame in
@@ -87,7 +88,7 @@ module _ (p : Image) (m : Parts) (h : At_hand p m) where
 
   -- an operation is pushed
   operation_comes : (c : Choice) (a k : ℕ) (r : Rest) (f : Held_frame) (ms : List Held_task) → record m.rest { requests = raised m.rest.requests } ≡ r → Top m h.state h.frame h.below f ms → cast_signed w32 (slice_index_or f.registers a null) ≡ read h.frame h.below h.state a
-      → Agrees p (with_items (Holds_operation k (slice_index_or f.registers a null) ∷ m.entries.items) (record (asked m) { stack = record m.stack { tasks = Runs_frame (record f { place = suc f.place }) ∷ ms } })) (operation_pushed p c h.frame h.below (record h.state { rest = r }) a k)
+      → Agrees p (with_items (Holds_operation k (slice_index_or f.registers a null) ∷ m.entries.items) (record (asked m) { stack = record m.stack { tasks = Runs_frame (record f { place = suc f.place }) ∷ ms } })) (applied p h.frame h.below (record h.state { rest = r }) (updates h.frame (Pushed_operation k (read h.frame h.below h.state a))))
   operation_comes c a k r f ms rest top is =
       let s = h.state in
       let fr = h.frame in
@@ -114,9 +115,11 @@ abbrev pub held_operation : ℕ → ℕ → Parts → Parts
 held_operation a k m = acts.next (with_items (Holds_operation k (register_here m.stack.tasks a) ∷ m.entries.items) (asked m))
 
 -- where the request is refused the machine leaves
-leaves_if : (p : Image) (m : Parts) (s : State) (b : Bool) → Agrees p m s → AllTrue (cond b (leave_needs s.cells s.tasks) []) → Agrees p (cond b (leaving (negsuc 3) m) m) (cond b (left no_memory s) s)
-leaves_if p m s true agrees needs = leaves p m s no_memory agrees needs.1.0
-leaves_if p m s false agrees needs = agrees
+leaves_if : (p : Image) (m : Parts) (fr : Frame) (ts : List Task) (s : State) (b : Bool) (off : Update) (on : Effect) → Agrees p m (applied p fr ts s on)
+    → record (applied p fr ts s on) { tasks = Unwind no_memory ∷ to_trap (applied p fr ts s on).tasks } ≡ applied p fr ts s (Leaves no_memory off)
+    → AllTrue (cond b (leave_needs (applied p fr ts s on).cells (applied p fr ts s on).tasks) []) → Agrees p (cond b (leaving (negsuc 3) m) m) (applied p fr ts s (unless_refused b off on))
+leaves_if p m fr ts s true off on agrees same needs = subst (Agrees p (leaving (negsuc 3) m)) same (leaves p m (applied p fr ts s on) no_memory agrees needs.1.0)
+leaves_if p m fr ts s false off on agrees same needs = agrees
 
 module _ (m : Parts) (turn : Turn) where
   pub push_does : (a : ℕ) (refused : Bool) → a < 16 → refused ≡ refuses_entry turn m → Does turn.refused (Push a) m (cond refused (leaving (negsuc 3) (held_pushed a m)) (held_pushed a m))
@@ -128,9 +131,9 @@ module _ (m : Parts) (turn : Turn) where
         λ needs typed.
             let was = no_word _ needs.0 in
             let object = by_top p m h
-            (λ us. Agrees p (with_items (Holds_object (register_here us a) ∷ m.entries.items) (record (asked m) { stack = record m.stack { tasks = on_top (with_place (suc (place_here (on_top (with_register a null) us)))) (on_top (with_register a null) us) } })) (pushed p c h.frame h.below (requested (Push a) s) a))
+            (λ us. Agrees p (with_items (Holds_object (register_here us a) ∷ m.entries.items) (record (asked m) { stack = record m.stack { tasks = on_top (with_place (suc (place_here (on_top (with_register a null) us)))) (on_top (with_register a null) us) } })) (applied p h.frame h.below (requested (Push a) s) (sets h.frame a None (Pushed a))))
             (λ f ms top. object_pushed p m h c a _ f ms small (asks_one m turn s.rest h.agrees.rest) top was) in
-            leaves_if p (held_pushed a m) (pushed p c h.frame h.below (requested (Push a) s) a) refused object needs.1.1.1.1,
+            leaves_if p (held_pushed a m) h.frame h.below (requested (Push a) s) refused (Pushed a) (sets h.frame a None (Pushed a)) object refl needs.1.1.1.1,
       )
 
   pub push_operation_does : (a k : ℕ) (refused : Bool) → refused ≡ refuses_entry turn m → Does turn.refused (PushOperation a k) m (cond refused (leaving (negsuc 3) (held_operation a k m)) (held_operation a k m))
@@ -142,10 +145,10 @@ module _ (m : Parts) (turn : Turn) where
         λ needs typed.
             let is = word_read p m h a needs.0 in
             let operation = by_top p m h
-            (λ us. cast_signed w32 (register_here us a) ≡ word_or_zero (word h.frame a) → Agrees p (with_items (Holds_operation k (register_here us a) ∷ m.entries.items) (record (asked m) { stack = record m.stack { tasks = on_top (with_place (suc (place_here us))) us } })) (operation_pushed p c h.frame h.below (requested (PushOperation a k) s) a k))
+            (λ us. cast_signed w32 (register_here us a) ≡ word_or_zero (word h.frame a) → Agrees p (with_items (Holds_operation k (register_here us a) ∷ m.entries.items) (record (asked m) { stack = record m.stack { tasks = on_top (with_place (suc (place_here us))) us } })) (applied p h.frame h.below (requested (PushOperation a k) s) (updates h.frame (Pushed_operation k (read h.frame h.below s a)))))
             (λ f ms top is. operation_comes p m h c a k _ f ms (asks_one m turn s.rest h.agrees.rest) top is)
             is in
-            leaves_if p (held_operation a k m) (operation_pushed p c h.frame h.below (requested (PushOperation a k) s) a k) refused operation needs.1.1,
+            leaves_if p (held_operation a k m) h.frame h.below (requested (PushOperation a k) s) refused (Pushed_operation k (read h.frame h.below s a)) (updates h.frame (Pushed_operation k (read h.frame h.below s a))) operation refl needs.1.1,
       )
 
   -- `newl` leaves where it is refused
@@ -153,7 +156,7 @@ module _ (m : Parts) (turn : Turn) where
   newl_refused a class full p h here = (
     record { name = null; refused = true },
     record { name = unnamed p m h.state null h.agrees h.agrees.cells.null_is_none; refusal = full ∙ same_refusal p turn m h (NewOrLeave a class) here refl },
-    λ needs typed. leaves p (asked m) (requested (NewOrLeave a class) h.state) no_memory (agrees_rest p m h.state _ _ (asks_one m turn h.state.rest h.agrees.rest) h.agrees) (subst (λ us. above_trap_is_free h.state.cells us ≡ true) (sym h.top) needs.1.1.0),
+    λ needs typed. leaves_at p (asked m) (requested (NewOrLeave a class) h.state) h.frame h.below no_memory h.top (agrees_rest p m h.state _ _ (asks_one m turn h.state.rest h.agrees.rest) h.agrees) needs.1.1.0,
   )
 
   pub newl_made : (a class n : ℕ) (heap : Heap) → a < 16 → false ≡ refuses turn m → Made class false n m.cells heap → Does turn.refused (NewOrLeave a class) m (acts.next (set_register a n (record (asked m) { cells = heap })))
@@ -230,7 +233,6 @@ module _ (m : Parts) (refused : List ℕ) (es : Held_items) where
       operation_owns : (i : Held_item) (is : List Held_item) (js : List Item) → SameItems (i ∷ is) js → tops_operation js ≡ true → owned_by i ≡ null
       operation_owns (Holds_operation k n) is js same e = refl
       operation_owns Is_mark is js same e = refl
-      operation_owns (Holds_object n) is [] same e = absurd same
       operation_owns (Holds_object n) is (An_object ∷ js) same e = cc
-      operation_owns (Holds_object n) is (An_operation k w ∷ js) same e = absurd same.0
       operation_owns (Holds_object n) is (A_mark ∷ js) same e = cc
+      operation_owns _ is _ same e = absurd (assumption tt)

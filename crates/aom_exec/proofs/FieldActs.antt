@@ -12,10 +12,11 @@ use Rattle.aom_cells.specs.Heap.{word_at as cell_word}
 use Rattle.aom_shape.specs.Things.{field_thing, word_count}
 use Rattle.aom_sound.specs.Claims.{Layer, Method as A_method, Mark, Dying, Dispatching, tasks_of, Unwinding}
 use Rattle.aom_sound.specs.Places.{Place, Register, Field, Elsewhere, Root, Object, held, named, moved, changed}
+use Rattle.aom_sound.specs.Effects.{applied, jumps_unless, writes as writes_word}
 use Rattle.aom_sound.specs.State.{Home, Static, AtRoot, Inside, Frame, next, set_word, Task, Run, Choice, field_place, home_holder}
-use Rattle.aom_sound.specs.Objects.{jumped, is_declared_thing}
+use Rattle.aom_sound.specs.Objects.{is_declared_thing}
 use Rattle.aom_sound.specs.WellTyped.{IsHoused as Is_housed, Now, Stack}
-use Rattle.aom_sound.specs.Words.{loaded, stored, read, does_const}
+use Rattle.aom_sound.specs.Words.{loaded, stored, read}
 use Rattle.aom_sound.proofs.Storing.{held_set_word}
 use Rattle.aom_frames.specs.Tasks.{on_top, with_place, with_register, place_here, register_here, this_here}
 use Rattle.aom_frames.specs.declared.task.Task.{Task as Held_task}
@@ -167,7 +168,7 @@ module _ (p : Image) (m : Parts) (h : At_hand p m) where
 pub load_does : (m new : Parts) (refused : List ℕ) (a w : ℕ) → WritesWord a (cell_word m.cells (this m) w) m new → Does refused (Load a w) m new
 load_does m new refused a w x =
     plain_does m new refused (Load a w) refl (λ p h c met.
-    subst (λ v. Agrees p new (does_const h.frame h.below h.state a v)) (word_loaded p m h w met.0) (word_put p m new h a _ (free _ met.1.0) x))
+    subst (λ v. Agrees p new (applied p h.frame h.below h.state (writes_word h.frame a v))) (word_loaded p m h w met.0) (word_put p m new h a _ (free _ met.1.0) x))
 
 pub store_does : (m : Parts) (refused : List ℕ) (w b : ℕ) (heap : Heap) → PutsWord (this m) w (cast_signed w32 (register_here m.stack.tasks b)) m.cells heap → Does refused (Store w b) m (acts.next (record m { cells = heap }))
 store_does m refused w b heap puts =
@@ -247,13 +248,15 @@ module _ (m : Parts) (refused : List ℕ) where
   pub jump_empty_does : (g to : ℕ) → field_here g m ≡ null → Does refused (JumpEmpty g to) m (acts.to_place to m)
   jump_empty_does g to is = plain_does m (acts.to_place to m) refused (JumpEmpty g to) refl (λ p h c met. go p h c (held h.state.cells (field_place h.frame.home g)) refl (sym (field_shown p m h g met.0) ∙ is))
     where
-      go : (p : Image) (h : At_hand p m) (c : Choice) (o : Option Object) → held h.state.cells (field_place h.frame.home g) ≡ o → number o ≡ null → Agrees p (acts.to_place to m) (jumped p c h.frame h.below h.state o to)
+      go :
+          (p : Image) (h : At_hand p m) (c : Choice) (o : Option Object) → held h.state.cells (field_place h.frame.home g) ≡ o → number o ≡ null →
+          Agrees p (acts.to_place to m) (applied p h.frame h.below h.state (jumps_unless h.frame o to))
       go p h c None e n = jumps m refused p h to
       go p h c (Some o) e n = absurd (not_null p m h.typing h.state h.typed h.agrees _ o e n)
 
   pub jump_full_does : (g to : ℕ) → field_here g m ≢ null → Does refused (JumpEmpty g to) m (acts.next m)
   jump_full_does g to is = plain_does m (acts.next m) refused (JumpEmpty g to) refl (λ p h c met. go p h c (held h.state.cells (field_place h.frame.home g)) (λ n. is (field_shown p m h g met.0 ∙ n)))
     where
-      go : (p : Image) (h : At_hand p m) (c : Choice) (o : Option Object) → (number o ≡ null → ⊥) → Agrees p (acts.next m) (jumped p c h.frame h.below h.state o to)
+      go : (p : Image) (h : At_hand p m) (c : Choice) (o : Option Object) → (number o ≡ null → ⊥) → Agrees p (acts.next m) (applied p h.frame h.below h.state (jumps_unless h.frame o to))
       go p h c None n = absurd (n refl)
       go p h c (Some o) n = passes m refused p h

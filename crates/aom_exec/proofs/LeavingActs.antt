@@ -9,10 +9,11 @@ use Rattle.aom_shape.specs.Needs.{AllTrue}
 use Rattle.aom_cells.specs.Heap.{Heap, null}
 use Rattle.aom_cleanup.specs.declared.item.Item.{Item}
 use Rattle.aom_sound.specs.Calls.{is_register_but, none_owns_but}
-use Rattle.aom_sound.specs.Cleanup.{above_trap_is_free, leave_needs, left, to_trap}
-use Rattle.aom_sound.specs.Places.{Place, Register, Entry, Field, Going, Elsewhere, same_place, Cell, held}
-use Rattle.aom_sound.specs.State.{Task, Run, Trapped, Destroy, Unwind, Dispatched, State, word}
-use Rattle.aom_sound.specs.Words.{go_on, read}
+use Rattle.aom_sound.specs.Cleanup.{above_trap_is_free, leave_needs, to_trap}
+use Rattle.aom_sound.specs.Places.{Place, Register, Going, same_place, Cell, held}
+use Rattle.aom_sound.specs.Effects.{Leaves, Same, applied, updates}
+use Rattle.aom_sound.specs.State.{Task, Run, Trapped, Destroy, Unwind, Dispatched, State, word, Frame}
+use Rattle.aom_sound.specs.Words.{read}
 use Rattle.aom_sound.proofs.Maps.{same_place-true}
 use Rattle.aom_frames.specs.Tasks.{Runs, on_top, place_here, register_here, with_place, to_trap as held_to_trap}
 use Rattle.aom_frames.specs.declared.task.Task.{Task as Held_task}
@@ -89,7 +90,7 @@ stays_to_trap cs heap es root (Ends d ∷ ms) (Dispatched x ∷ ts) free stays =
 stays_to_trap cs heap es root (m ∷ ms) (t ∷ ts) free stays = absurd stays.tasks.0
 
 -- the machine leaves
-pub leaves : (p : Image) (m : Parts) (s : State) (code : ℤ) → Agrees p m s → above_trap_is_free s.cells s.tasks ≡ true → Agrees p (leaving code m) (left code s)
+pub leaves : (p : Image) (m : Parts) (s : State) (code : ℤ) → Agrees p m s → above_trap_is_free s.cells s.tasks ≡ true → Agrees p (leaving code m) (record s { tasks = Unwind code ∷ to_trap s.tasks })
 leaves p m s code agrees free =
     let stays = stays_to_trap s.cells m.cells m.entries.items m.root m.stack.tasks s.tasks free (record { tasks = agrees.tasks; values = agrees.values }) in
     record {
@@ -103,12 +104,19 @@ leaves p m s code agrees free =
       entry_room = agrees.entry_room;
     }
 
+pub leaves_at : (p : Image) (m : Parts) (s : State) (fr : Frame) (ts : List Task) (code : ℤ) → s.tasks ≡ Run fr ∷ ts → Agrees p m s → above_trap_is_free s.cells (Run fr ∷ ts) ≡ true → Agrees p (leaving code m) (record s { tasks = Unwind code ∷ to_trap ts })
+leaves_at p m s fr ts code top agrees free =
+    subst (λ us. Agrees p (leaving code m) (record s { tasks = Unwind code ∷ to_trap us })) top
+    (leaves p m s code agrees (subst (λ us. above_trap_is_free s.cells us ≡ true) (sym top) free))
+
 module _ (m : Parts) (refused : List ℕ) where
   -- with a register's word
-  left_with : (p : Image) (h : At_hand p m) (a : ℕ) → is_some (word h.frame a) ≡ true → above_trap_is_free h.state.cells (Run h.frame ∷ h.below) ≡ true → Agrees p (leaving (cast_signed w32 (register_here m.stack.tasks a)) m) (left (read h.frame h.below h.state a) h.state)
+  left_with :
+      (p : Image) (h : At_hand p m) (a : ℕ) → is_some (word h.frame a) ≡ true → above_trap_is_free h.state.cells (Run h.frame ∷ h.below) ≡ true →
+      Agrees p (leaving (cast_signed w32 (register_here m.stack.tasks a)) m) (applied p h.frame h.below h.state (Leaves (read h.frame h.below h.state a) Same))
   left_with p h a some free =
-      subst (λ w. Agrees p (leaving (cast_signed w32 (register_here m.stack.tasks a)) m) (left w h.state)) (word_read p m h a some)
-      (leaves p m h.state (cast_signed w32 (register_here m.stack.tasks a)) h.agrees (subst (λ us. above_trap_is_free h.state.cells us ≡ true) (sym h.top) free))
+      subst (λ w. Agrees p (leaving (cast_signed w32 (register_here m.stack.tasks a)) m) (applied p h.frame h.below h.state (Leaves w Same))) (word_read p m h a some)
+      (leaves_at p m h.state h.frame h.below (cast_signed w32 (register_here m.stack.tasks a)) h.top h.agrees free)
 
   pub leave_does : (a : ℕ) → Does refused (Leave a) m (leaving (cast_signed w32 (register_here m.stack.tasks a)) m)
   leave_does a = plain_does m (leaving (cast_signed w32 (register_here m.stack.tasks a)) m) refused (Leave a) refl (λ p h c met. left_with p h a met.0 met.1.1.0)
@@ -117,12 +125,12 @@ module _ (m : Parts) (refused : List ℕ) where
   leave_if_leaves a less = plain_does m (leaving (cast_signed w32 (register_here m.stack.tasks a)) m) refused (LeaveIf a) refl (λ p h c met.
       let below : int_lt (read h.frame h.below h.state a) (pos 0) ≡ true = ap (λ w. int_lt w (pos 0)) (sym (word_read p m h a met.0)) ∙ less in
       let free = subst (λ b. AllTrue (cond b (leave_needs h.state.cells (Run h.frame ∷ h.below)) [])) below met.1 in
-      subst (λ b. Agrees p (leaving (cast_signed w32 (register_here m.stack.tasks a)) m) (cond b (left (read h.frame h.below h.state a) h.state) (go_on h.frame h.below h.state h.state.cells h.frame))) (sym below) (left_with p h a met.0 free.1.0))
+      subst (λ b. Agrees p (leaving (cast_signed w32 (register_here m.stack.tasks a)) m) (applied p h.frame h.below h.state (cond b (Leaves (read h.frame h.below h.state a) Same) (updates h.frame Same)))) (sym below) (left_with p h a met.0 free.1.0))
 
   pub leave_if_stays : (a : ℕ) → int_lt (cast_signed w32 (register_here m.stack.tasks a)) (pos 0) ≡ false → Does refused (LeaveIf a) m (acts.next m)
   leave_if_stays a more = plain_does m (acts.next m) refused (LeaveIf a) refl (λ p h c met.
       let above : int_lt (read h.frame h.below h.state a) (pos 0) ≡ false = ap (λ w. int_lt w (pos 0)) (sym (word_read p m h a met.0)) ∙ more in
-      subst (λ b. Agrees p (acts.next m) (cond b (left (read h.frame h.below h.state a) h.state) (go_on h.frame h.below h.state h.state.cells h.frame))) (sym above)
+      subst (λ b. Agrees p (acts.next m) (applied p h.frame h.below h.state (cond b (Leaves (read h.frame h.below h.state a) Same) (updates h.frame Same)))) (sym above)
       (by_top p m h
-      (λ us. Agrees p (record m { stack = record m.stack { tasks = on_top (with_place (suc (place_here us))) us } }) (go_on h.frame h.below h.state h.state.cells h.frame))
+      (λ us. Agrees p (record m { stack = record m.stack { tasks = on_top (with_place (suc (place_here us))) us } }) (applied p h.frame h.below h.state (updates h.frame Same)))
       (λ f ms top. stays p m h.state m.rest _ (suc f.place) (suc h.frame.place) f ms h.frame h.below h.agrees top h.agrees.rest (ap suc top.frame.place))))

@@ -12,9 +12,9 @@ use Rattle.aom_image.specs.declared.method.Thing.TheVariants.{Object as An_objec
 use Rattle.aom_cells.specs.Heap.{Heap, null, cell_at, word_of, field_of, count, blank, Changes}
 use Rattle.aom_shape.specs.Tables.{at}
 use Rattle.aom_shape.specs.Things.{words_of}
-use Rattle.aom_sound.specs.Places.{Place, Register, Entry, Field, Going, Elsewhere, Object, Cell, held, named, changed, with_new, word_field}
+use Rattle.aom_sound.specs.Places.{Place, Register, Field, Object, Cell, held, named, changed, with_new, word_field}
+use Rattle.aom_sound.specs.Effects.{applied, deletes, jumps_unless}
 use Rattle.aom_sound.specs.State.{word, next, set_word, Run, Rest, Choice, raised}
-use Rattle.aom_sound.specs.Objects.{jumped, deleted}
 use Rattle.aom_sound.specs.Moves.{is_refused, makes, makes_cell}
 use Rattle.aom_lines.specs.Turn.{Turn}
 use Rattle.aom_frames.specs.Tasks.{on_top, with_place, with_register, place_here, register_here}
@@ -42,12 +42,12 @@ module _ (m : Parts) (refused : List ℕ) where
         c.0,
         c.1,
         λ needs typed. by_top p m h
-            (λ us. register_here us a ≡ null → Agrees p (with_tasks (on_top (with_place to) us) m) (jumped p c.0 h.frame h.below (requested (JumpNull a to) h.state) (held h.state.cells (Register (length h.below) a)) to))
+            (λ us. register_here us a ≡ null → Agrees p (with_tasks (on_top (with_place to) us) m) (applied p h.frame h.below (requested (JumpNull a to) h.state) (jumps_unless h.frame (held h.state.cells (Register (length h.below) a)) to)))
             (λ f ms top is. go c.0 f ms top (held h.state.cells (Register (length h.below) a)) refl (sym (shown p m h f ms top a (no_word _ needs.0)) ∙ is))
             is,
       )
     where
-      go : (c : Choice) (f : Held_frame) (ms : List Held_task) → Top m h.state h.frame h.below f ms → (o : Option Object) → held h.state.cells (Register (length h.below) a) ≡ o → number o ≡ null → Agrees p (with_tasks (Runs_frame (record f { place = to }) ∷ ms) m) (jumped p c h.frame h.below (requested (JumpNull a to) h.state) o to)
+      go : (c : Choice) (f : Held_frame) (ms : List Held_task) → Top m h.state h.frame h.below f ms → (o : Option Object) → held h.state.cells (Register (length h.below) a) ≡ o → number o ≡ null → Agrees p (with_tasks (Runs_frame (record f { place = to }) ∷ ms) m) (applied p h.frame h.below (requested (JumpNull a to) h.state) (jumps_unless h.frame o to))
       go c f ms top None e n = stays p m h.state m.rest _ to to f ms h.frame h.below h.agrees top h.agrees.rest refl
       go c f ms top (Some o) e n = absurd (not_null p m h.typing h.state h.typed h.agrees _ o e n)
 
@@ -57,12 +57,12 @@ module _ (m : Parts) (refused : List ℕ) where
         c.0,
         c.1,
         λ needs typed. by_top p m h
-            (λ us. (register_here us a ≡ null → ⊥) → Agrees p (with_tasks (on_top (with_place (suc (place_here us))) us) m) (jumped p c.0 h.frame h.below (requested (JumpNull a to) h.state) (held h.state.cells (Register (length h.below) a)) to))
+            (λ us. (register_here us a ≡ null → ⊥) → Agrees p (with_tasks (on_top (with_place (suc (place_here us))) us) m) (applied p h.frame h.below (requested (JumpNull a to) h.state) (jumps_unless h.frame (held h.state.cells (Register (length h.below) a)) to)))
             (λ f ms top is. go c.0 f ms top (held h.state.cells (Register (length h.below) a)) (λ n. is (shown p m h f ms top a (no_word _ needs.0) ∙ n)))
             is,
       )
     where
-      go : (c : Choice) (f : Held_frame) (ms : List Held_task) → Top m h.state h.frame h.below f ms → (o : Option Object) → (number o ≡ null → ⊥) → Agrees p (with_tasks (Runs_frame (record f { place = suc f.place }) ∷ ms) m) (jumped p c h.frame h.below (requested (JumpNull a to) h.state) o to)
+      go : (c : Choice) (f : Held_frame) (ms : List Held_task) → Top m h.state h.frame h.below f ms → (o : Option Object) → (number o ≡ null → ⊥) → Agrees p (with_tasks (Runs_frame (record f { place = suc f.place }) ∷ ms) m) (applied p h.frame h.below (requested (JumpNull a to) h.state) (jumps_unless h.frame o to))
       go c f ms top None n = absurd (n refl)
       go c f ms top (Some o) n = stays p m h.state m.rest _ (suc f.place) (suc h.frame.place) f ms h.frame h.below h.agrees top h.agrees.rest (ap suc top.frame.place)
 
@@ -87,10 +87,10 @@ module _ (m : Parts) (refused : List ℕ) where
         c.0,
         c.1,
         λ needs typed. by_top p m h
-            (λ us. register_here us a ≡ null → Agrees p (with_tasks (on_top (with_place (suc (place_here (on_top (with_register a null) us)))) (on_top (with_register a null) us)) m) (deleted p c.0 h.frame h.below (requested (Delete a) h.state) (held h.state.cells (Register (length h.below) a)) a))
+            (λ us. register_here us a ≡ null → Agrees p (with_tasks (on_top (with_place (suc (place_here (on_top (with_register a null) us)))) (on_top (with_register a null) us)) m) (applied p h.frame h.below (requested (Delete a) h.state) (deletes h.frame (held h.state.cells (Register (length h.below) a)) a)))
             (λ f ms top is.
             let none = nothing_held p m h.typing h.state h.typed h.agrees (Register (length h.below) a) (sym is ∙ shown p m h f ms top a (no_word _ needs.0)) in
-            subst (λ o. Agrees p (with_tasks (Runs_frame (record f { registers = slice_set f.registers a null; place = suc f.place }) ∷ ms) m) (deleted p c.0 h.frame h.below (requested (Delete a) h.state) o a)) (sym none)
+            subst (λ o. Agrees p (with_tasks (Runs_frame (record f { registers = slice_set f.registers a null; place = suc f.place }) ∷ ms) m) (applied p h.frame h.below (requested (Delete a) h.state) (deletes h.frame o a))) (sym none)
             (nulled p h a m.rest _ f ms small h.agrees.rest top none))
             is,
       )

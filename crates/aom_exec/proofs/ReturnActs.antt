@@ -11,12 +11,13 @@ use Rattle.aom_image.specs.declared.method.Gives.TheVariants.{Left, Maybe as A_m
 use Rattle.aom_cells.specs.Heap.{Heap, null}
 use Rattle.aom_shape.specs.Kinds.{is_unowning, register}
 use Rattle.aom_shape.specs.declared.kind.Kind.{Kind}
-use Rattle.aom_shape.specs.declared.kind.Kind.TheVariants.{Unset, Word, Null, Own, Maybe}
+use Rattle.aom_shape.specs.declared.kind.Kind.TheVariants.{Own, Maybe}
 use Rattle.aom_shape.specs.Needs.{AllTrue}
 use Rattle.aom_shape.specs.Shape.{Shape}
 use Rattle.aom_shape.specs.Typing.{Typing}
+use Rattle.aom_sound.proofs.View.{under_dispatch}
 use Rattle.aom_sound.specs.Calls.{below_top, needs_return, result_needs, result_register, returned}
-use Rattle.aom_sound.specs.Claims.{Layer, Method, Mark, Dying, Dispatching, tasks_of, claim, declared, Unwinding}
+use Rattle.aom_sound.specs.Claims.{Layer, Method, Mark, tasks_of, claim, declared}
 use Rattle.aom_sound.specs.Places.{Place, Register, Entry, Field, Going, Elsewhere, Object, Cell, changed, held, moved, same_place}
 use Rattle.aom_sound.specs.State.{Frame, Dispatch, next, set_word, word, Task, Run, Trapped, Destroy, Dispatched, State, Unwind}
 use Rattle.aom_sound.specs.WellTyped.{Awaits, Fits, Good, WellTyped, WordFits}
@@ -40,7 +41,7 @@ use Rattle.aom_exec.proofs.Entries.{mark_shows_none, unmarked, value_alike}
 use Rattle.aom_exec.proofs.Overs.{held_over, higher, over_value, over_words, tasks_over}
 use Rattle.aom_exec.proofs.CallActs.{closing, ended, fits_null, shows_null}
 use Rattle.aom_exec.proofs.Cells.{cells_moved}
-use Rattle.aom_exec.proofs.Standing.{Top, by_top, goes_on, moved_on, register_shows, no_word, an_open, ends_last}
+use Rattle.aom_exec.proofs.Standing.{Top, by_top, goes_on, moved_on, register_shows, no_word, an_open}
 use Rattle.aom_exec.proofs.Values.{at_depth, cases, going_past, kept, register_past, value_kept, value_written, word_next, word_past, word_written, writes}
 use Rattle.aom_cleanup.specs.declared.item.Item.{Item}
 
@@ -103,16 +104,6 @@ awaited : (p : Image) (t : Typing) (s : State) (fr caller : Frame) (ts : List Ta
 awaited p t s fr caller ts typed top some = go typed.layers (sym typed.tasks ∙ top) typed.good
   where
     go : (ls : List Layer) → tasks_of ls ≡ Run fr ∷ Run caller ∷ ts → Good p t s.cells ls → held s.cells (Register (length ts) (result_register (instr_at p caller.method caller.place))) ≡ None
-    go [] e good = cc
-    go (Mark g ∷ ls) e good = cc
-    go (Dying o ∷ ls) e good = cc
-    go (Dispatching d ∷ ls) e good = cc
-    go (Unwinding code es ∷ ls) e good = cc
-    go (Method fr' sh ∷ []) e good = cc
-    go (Method fr' sh ∷ Mark g ∷ ls) e good = cc
-    go (Method fr' sh ∷ Dying o ∷ ls) e good = cc
-    go (Method fr' sh ∷ Dispatching d ∷ ls) e good = cc
-    go (Method fr' sh ∷ Unwinding code es ∷ ls) e good = cc
     go (Method fr' sh ∷ Method caller' sh' ∷ ls) e good =
         let same : fr' ≡ fr = cc in
         let below : caller' ≡ caller = cc in
@@ -124,6 +115,7 @@ awaited p t s fr caller ts typed top some = go typed.layers (sym typed.tasks ∙
         ap (λ b. cond b (register sh x) (claim p (declared p s.cells) (Method caller' sh' ∷ ls) q)) (ne_eqb (suc (length (tasks_of ls))) (length (tasks_of ls)) (λ e. absurd (omega arith))) ∙ claim_register p (declared p s.cells) caller' sh' ls x in
         let none = fits_unowning p (held s.cells) (held s.cells q) (register sh' x) quiet (subst (Fits p (held s.cells) (held s.cells q)) claims (good.fits q)) in
         subst (λ (f : Frame). held s.cells (Register (length ts) (result_register (instr_at p f.method f.place))) ≡ None) below (subst (λ us. held s.cells (Register (length us) x) ≡ None) rest none)
+    go _ e good = cc
 
 -- the same through a trap
 awaited_trapped : (p : Image) (t : Typing) (s : State) (fr caller : Frame) (ts : List Task) → WellTyped p t s → s.tasks ≡ Run fr ∷ Trapped ∷ Run caller ∷ ts → bears (gives_of p fr.method) ≡ true
@@ -131,21 +123,6 @@ awaited_trapped : (p : Image) (t : Typing) (s : State) (fr caller : Frame) (ts :
 awaited_trapped p t s fr caller ts typed top some = go typed.layers (sym typed.tasks ∙ top) typed.good
   where
     go : (ls : List Layer) → tasks_of ls ≡ Run fr ∷ Trapped ∷ Run caller ∷ ts → Good p t s.cells ls → held s.cells (Register (length ts) (result_register (instr_at p caller.method caller.place))) ≡ None
-    go [] e good = cc
-    go (Mark g ∷ ls) e good = cc
-    go (Dying o ∷ ls) e good = cc
-    go (Dispatching d ∷ ls) e good = cc
-    go (Unwinding code es ∷ ls) e good = cc
-    go (Method fr' sh ∷ []) e good = cc
-    go (Method fr' sh ∷ Method fr'' sh' ∷ ls) e good = cc
-    go (Method fr' sh ∷ Dying o ∷ ls) e good = cc
-    go (Method fr' sh ∷ Dispatching d ∷ ls) e good = cc
-    go (Method fr' sh ∷ Unwinding code es ∷ ls) e good = cc
-    go (Method fr' sh ∷ Mark gv ∷ []) e good = cc
-    go (Method fr' sh ∷ Mark gv ∷ Mark g ∷ ls) e good = cc
-    go (Method fr' sh ∷ Mark gv ∷ Dying o ∷ ls) e good = cc
-    go (Method fr' sh ∷ Mark gv ∷ Dispatching d ∷ ls) e good = cc
-    go (Method fr' sh ∷ Mark gv ∷ Unwinding code es ∷ ls) e good = cc
     go (Method fr' sh ∷ Mark gv ∷ Method caller' sh' ∷ ls) e good =
         let same : fr' ≡ fr = cc in
         let below : caller' ≡ caller = cc in
@@ -160,6 +137,7 @@ awaited_trapped p t s fr caller ts typed top some = go typed.layers (sym typed.t
         ap (λ b. cond b (register sh x) (claim p (declared p s.cells) (Mark gv ∷ Method caller' sh' ∷ ls) q)) (ne_eqb (suc (suc d)) d (λ e. absurd (omega arith))) ∙ claim_register p (declared p s.cells) caller' sh' ls x in
         let none = fits_unowning p (held s.cells) (held s.cells q) (register sh' x) quiet (subst (Fits p (held s.cells) (held s.cells q)) claims (good.fits q)) in
         subst (λ (f : Frame). held s.cells (Register (length ts) (result_register (instr_at p f.method f.place))) ≡ None) below (subst (λ us. held s.cells (Register (length us) x) ≡ None) rest none)
+    go _ e good = cc
 
 -- a register with a word owns nothing
 pub word_alone : (p : Image) (t : Typing) (s : State) (fr : Frame) (ts : List Task) (i : ℕ) (w : ℤ) → WellTyped p t s → s.tasks ≡ Run fr ∷ ts → word fr i ≡ Some w → held s.cells (Register (length ts) i) ≡ None
@@ -478,7 +456,7 @@ module _ (p : Image) (m : Parts) (refused : List ℕ) (a : ℕ) where
 
       go : (ms : List Held_task) (ts : List Task) → SameTasks ms ts → IsEnding (below_first ms) → IsTrapped ms → WellTyped p h.typing (returned p h.frame ts h.state (gives_of p h.frame.method) a ts)
           → Agrees p (record m { stack = record m.stack { tasks = below_first ms }; entries = es }) (returned p h.frame ts h.state (gives_of p h.frame.method) a ts)
-      go (Is_trap ∷ Ends x ∷ ms) (Trapped ∷ Dispatched d ∷ ts) same ending trapped typed = at_end x ms d ts same.1.0 same.1.1 (ends_last p h.typing _ d ts typed refl) typed
+      go (Is_trap ∷ Ends x ∷ ms) (Trapped ∷ Dispatched d ∷ ts) same ending trapped typed = at_end x ms d ts same.1.0 same.1.1 (under_dispatch p h.typing _ d ts typed refl) typed
       go _ _ same ending trapped typed = absurd (assumption tt)
 
   pub return_to_unwinding : IsUnwinding (below_first m.stack.tasks) → DoesIn p refused (Return a) m (with_tasks (below_first m.stack.tasks) m)

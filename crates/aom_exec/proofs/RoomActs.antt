@@ -206,7 +206,9 @@ module _ (p : Image) (t : Typing) (depth heights : ℕ → ℕ) (tables : Tables
         let fit = w.2.0 may in
         omega (arith, more, fit, counted_own)
 
-    call_room : (target : Target) (m first x : ℕ) → instr_at p fr.method fr.place ≡ Some (Call target m first x) → AllTrue (rule_needs p fr.method fr.place h.shape (Call target m first x)) → R (applied p fr ts s (Calls target m first))
+    call_room :
+        (target : Target) (m first x : ℕ) → instr_at p fr.method fr.place ≡ Some (Call target m first x) → AllTrue (rule_needs p fr.method fr.place h.shape (Call target m first x)) →
+        R (applied p fr ts s (Calls target m first))
     call_room target m first x stands n =
         let parts = all_parts (rule_target p fr.method h.shape target (method_class p m) (is_construct (method_role p m)) first (length (arguments_of p m))) _ n in
         let more = all_parts (each_argument p h.shape (arguments_of p m) first) _ parts.1.1 in
@@ -277,7 +279,9 @@ module _ (p : Image) (t : Typing) (depth heights : ℕ → ℕ) (tables : Tables
         let fit = w.2.0 (pushes_where (is_quiet p fr.method) (leaves p fr.method) leave) in
         omega (arith, more, fit, counted_own)
 
-    push_room : (a : ℕ) → instr_at p fr.method fr.place ≡ Some (Push a) → leaves p fr.method ≡ true → Leads t fr.method (suc fr.place) (with_entry (entry_of (register h.shape a)) (set_register h.shape a Null)) → After (Pushed a)
+    push_room :
+        (a : ℕ) → instr_at p fr.method fr.place ≡ Some (Push a) → leaves p fr.method ≡ true →
+        Leads t fr.method (suc fr.place) (with_entry (entry_of (register h.shape a)) (set_register h.shape a Null)) → After (Pushed a)
     push_room a stands leave leads =
         item_pushed p depth heights (moved (here fr ts s a) (Entry (length s.items)) s.cells) An_object s.items (Run fr ∷ ts) all_low
         (λ m e. runs (held s.cells (here fr ts s a)) m (h.fits a) (sym (ap (destructor_in p) there_now) ∙ e))
@@ -292,7 +296,9 @@ module _ (p : Image) (t : Typing) (depth heights : ℕ → ℕ) (tables : Tables
         runs None m fits e = cc
         runs (Some o) m fits e = may_call fr h.shape h.there (Push a) m stands (destructor_among p (held s.cells) o (register h.shape a) m fits e)
 
-    push_operation_room : (a m : ℕ) (v : ℤ) → instr_at p fr.method fr.place ≡ Some (PushOperation a m) → leaves p fr.method ≡ true → Leads t fr.method (suc fr.place) (with_entry Operation h.shape) → After (Pushed_operation m v)
+    push_operation_room :
+        (a m : ℕ) (v : ℤ) → instr_at p fr.method fr.place ≡ Some (PushOperation a m) → leaves p fr.method ≡ true → Leads t fr.method (suc fr.place) (with_entry Operation h.shape) →
+        After (Pushed_operation m v)
     push_operation_room a m v stands leave leads =
         item_pushed p depth heights s.cells (An_operation m v) s.items (Run fr ∷ ts) all_low
         (λ k e. let same : m ≡ k = cc in subst (λ x. depth x < depth fr.method) same (may_call fr h.shape h.there (PushOperation a m) m stands (inl refl)))
@@ -347,7 +353,9 @@ module _ (p : Image) (t : Typing) (depth heights : ℕ → ℕ) (tables : Tables
     updated_room i stands r n Popped_operation f = popped_top p depth heights s.cells s.items (Run fr ∷ ts) (low_below (subst Ruled f.0 r).0) w
 
     -- an object of a register goes
-    delete_room : (o : Object) (a : ℕ) (words : List (Option ℤ)) → instr_at p fr.method fr.place ≡ Some (Delete a) → Fits p (held s.cells) (Some o) (register h.shape a) → R (applied p fr ts s (Destroys o a words))
+    delete_room :
+        (o : Object) (a : ℕ) (words : List (Option ℤ)) → instr_at p fr.method fr.place ≡ Some (Delete a) → Fits p (held s.cells) (Some o) (register h.shape a) →
+        R (applied p fr ts s (Destroys o a words))
     delete_room o a words stands fits =
         begins_over (moved (here fr ts s a) (Going (length (Run fr ∷ ts))) s.cells) s.items o (Run (with_words fr words) ∷ ts)
         (λ m e. may_call fr h.shape h.there (Delete a) m stands (destructor_among p (held s.cells) o (register h.shape a) m fits e))

@@ -54,7 +54,9 @@ module _ (p : Image) (t : Typing) (depth heights : ℕ → ℕ) (tables : Tables
       go false root = (tt, tt, tt, w.3)
 
   -- a method's move
-  acts : IsTyped p t → (c : Choice) (s : State) → WellTyped p t s → RoomyState s → (fr : Frame) (ts : List Task) (i : Instr) (e : Effect) → s.tasks ≡ Run fr ∷ ts → instr_at p fr.method fr.place ≡ Some i → Fits p c fr ts (counted p s) i e → RoomyState (applied p fr ts (counted p s) e)
+  acts :
+      IsTyped p t → (c : Choice) (s : State) → WellTyped p t s → RoomyState s → (fr : Frame) (ts : List Task) (i : Instr) (e : Effect) → s.tasks ≡ Run fr ∷ ts →
+      instr_at p fr.method fr.place ≡ Some i → Fits p c fr ts (counted p s) i e → RoomyState (applied p fr ts (counted p s) e)
   acts typed c s w room fr ts i e at there fits =
       let h = stands_here p t s fr ts w at in
       let x = typed.each fr.method fr.place h.shape h.there in
@@ -70,7 +72,9 @@ module _ (p : Image) (t : Typing) (depth heights : ℕ → ℕ) (tables : Tables
       again h = record { shape = h.shape; below = h.below; there = h.there; items = h.items; height = h.height; low = h.low; low_under = h.low_under; fits = h.fits; free = h.free }
 
   -- under a leave, with its last item
-  with_top : (code : ℤ) (ts : List Task) (i : Item) (items : List Item) (s : State) → RoomyState s → s.tasks ≡ Unwind code ∷ ts → s.items ≡ i ∷ items → Roomy p depth heights s.cells (i ∷ items) (Unwind code ∷ ts)
+  with_top :
+      (code : ℤ) (ts : List Task) (i : Item) (items : List Item) (s : State) → RoomyState s → s.tasks ≡ Unwind code ∷ ts → s.items ≡ i ∷ items →
+      Roomy p depth heights s.cells (i ∷ items) (Unwind code ∷ ts)
   with_top code ts i items s room at top = subst (λ is. Roomy p depth heights s.cells is (Unwind code ∷ ts)) top (subst (λ us. Roomy p depth heights s.cells s.items us) at room)
 
   roomy_moves : IsTyped p t → (c : Choice) (s u : State) → WellTyped p t s → RoomyState s → Move p c s u → RoomyState u

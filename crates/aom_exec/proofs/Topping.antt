@@ -8,14 +8,14 @@ use Rattle.aom_image.specs.Views.{arguments_of, gives_of, instr_at, method_at, m
 use Rattle.aom_image.specs.declared.instr.Instr.TheVariants.{Pop, PopDelete, PopOperation, Return, Trap}
 use Rattle.aom_image.specs.declared.instr.Target.{Target}
 use Rattle.aom_image.specs.declared.method.Gives.{Gives}
-use Rattle.aom_image.specs.declared.method.Gives.TheVariants.{Left, Maybe as A_maybe, Nothing, Own as An_own, Word as A_word}
+use Rattle.aom_image.specs.declared.method.Gives.TheVariants.{Left}
 use Rattle.aom_cleanup.specs.Items.{IsAboveMark, IsMarked, IsNotAboveMark}
 use Rattle.aom_cleanup.specs.declared.item.Item.{Item as Held_item}
 use Rattle.aom_cleanup.specs.declared.item.Item.TheVariants.{Object as Holds_object, Operation as Holds_operation, Mark as Is_mark}
 use Rattle.aom_shape.specs.Typing.{Typing}
 use Rattle.aom_shape.specs.declared.kind.Entry.{Entry as Pushed}
 use Rattle.aom_sound.specs.Calls.{is_level, needs_target, result_needs, result_register}
-use Rattle.aom_sound.specs.Claims.{Layer, Method, Mark, Dying, Unwinding, Dispatching, Form, Mark_form, forms, items_of, objects, tasks_of}
+use Rattle.aom_sound.specs.Claims.{Layer, Method, Mark, Form, Mark_form, forms, items_of, objects, tasks_of}
 use Rattle.aom_sound.specs.Cleanup.{tops_entry, tops_object, top_is_whole}
 use Rattle.aom_sound.specs.Places.{Entry, Object, held}
 use Rattle.aom_sound.specs.State.{Frame, Task, Run, Trapped, Destroy, Unwind, Dispatched, Item, An_object, An_operation, A_mark, State}
@@ -39,13 +39,11 @@ use Rattle.aom_exec.proofs.Stepping.{at_step}
 -- ---- what is last
 
 pub entry_tops : (is : List Held_item) (js : List Item) → SameItems is js → tops_entry js ≡ true → IsAboveMark is
-entry_tops is [] same e = cc
-entry_tops is (A_mark ∷ js) same e = cc
-entry_tops [] (j ∷ js) same e = absurd same
 entry_tops (Holds_object n ∷ is) (j ∷ js) same e = tt
 entry_tops (Holds_operation k n ∷ is) (j ∷ js) same e = tt
-entry_tops (Is_mark ∷ is) (An_object ∷ js) same e = absurd same.0
-entry_tops (Is_mark ∷ is) (An_operation k w ∷ js) same e = absurd same.0
+entry_tops is [] same e = cc
+entry_tops is (A_mark ∷ js) same e = cc
+entry_tops _ _ same e = absurd (assumption tt)
 
 pub object_tops : (is : List Held_item) (js : List Item) → SameItems is js → tops_object js ≡ true → TopsObject is
 object_tops [] (An_object ∷ js) same e = absurd same
@@ -134,16 +132,6 @@ marked_under : (p : Image) (t : Typing) (s : State) (fr : Frame) (ts : List Task
 marked_under p t s fr ts is typed top same flat = go typed.layers (sym typed.tasks ∙ top) typed.items typed.good
   where
     go : (ls : List Layer) → tasks_of ls ≡ Run fr ∷ Trapped ∷ ts → forms s.items ≡ items_of ls → Good p t s.cells ls → IsMarked is
-    go [] e items good = cc
-    go (Mark g ∷ ls) e items good = cc
-    go (Dying o ∷ ls) e items good = cc
-    go (Unwinding code es ∷ ls) e items good = cc
-    go (Dispatching d ∷ ls) e items good = cc
-    go (Method fr' sh ∷ []) e items good = cc
-    go (Method fr' sh ∷ Method fr'' sh' ∷ ls) e items good = cc
-    go (Method fr' sh ∷ Dying o ∷ ls) e items good = cc
-    go (Method fr' sh ∷ Unwinding code es ∷ ls) e items good = cc
-    go (Method fr' sh ∷ Dispatching d ∷ ls) e items good = cc
     go (Method fr' sh ∷ Mark gv ∷ ls) e items good =
         let alike : fr' ≡ fr = cc in
         let mark = good.stack.4.0 in
@@ -151,6 +139,7 @@ marked_under p t s fr ts is typed top same flat = go typed.layers (sym typed.tas
         let height : fr.height ≡ suc (length (items_of ls)) = sym (ap (λ (f : Frame). f.height) alike) ∙ good.stack.1.height in
         let even = sym (ap length items) ∙ length_forms s.items ∙ level p fr (Trapped ∷ ts) s (gives_of p fr.method) none flat ∙ height in
         mark_tops is s.items (items_of ls) same (items ∙ no_more sh.entries (Mark_form ∷ items_of ls) even)
+    go _ e items good = cc
 
 pub finds_mark : (p : Image) (m : Parts) (a : ℕ) → Stands (record { image = p; parts = m }) → Runs m.stack.tasks → instr_at p (method_here m.stack.tasks) (place_here m.stack.tasks) ≡ Some (Return a) → IsTrapped (below_first m.stack.tasks) → IsMarked m.entries.items
 unfolding at_hand
@@ -185,18 +174,9 @@ not_both (Is_mark ∷ is) above not = above
 -- what a method returns to through a trap
 pub coded_through : (p : Image) (ms : List Held_task) → ReturnsTo p ms → IsTrapped ms → Runs (below_first ms) → suc (result_register (instr_at p (method_here (below_first ms)) (place_here (below_first ms)))) < 16
 coded_through p (Is_trap ∷ Runs_frame f ∷ ms) to trapped runs = to.2
-coded_through p [] to trapped runs = absurd trapped
-coded_through p (Runs_frame f ∷ ms) to trapped runs = absurd trapped
-coded_through p (Destroys x ∷ ms) to trapped runs = absurd trapped
-coded_through p (Unwinds code ∷ ms) to trapped runs = absurd trapped
-coded_through p (Ends d ∷ ms) to trapped runs = absurd trapped
-coded_through p _ to trapped runs = absurd runs
+coded_through p _ to trapped runs = absurd (assumption tt)
 
 pub ends_under : (p : Image) (ms : List Held_task) → ReturnsTo p ms → IsTrapped ms → (Runs (below_first ms) → ⊥) → IsEnding (below_first ms)
 ends_under p (Is_trap ∷ Runs_frame f ∷ ms) to trapped stops = absurd (stops tt)
 ends_under p (Is_trap ∷ Ends d ∷ ms) to trapped stops = tt
-ends_under p (Is_trap ∷ []) to trapped stops = absurd to
-ends_under p (Is_trap ∷ Is_trap ∷ ms) to trapped stops = absurd to
-ends_under p (Is_trap ∷ Destroys x ∷ ms) to trapped stops = absurd to
-ends_under p (Is_trap ∷ Unwinds code ∷ ms) to trapped stops = absurd to
-ends_under p _ to trapped stops = absurd trapped
+ends_under p _ to trapped stops = absurd (assumption tt)

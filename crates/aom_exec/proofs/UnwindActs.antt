@@ -18,8 +18,9 @@ use Rattle.aom_cleanup.specs.declared.item.Item.TheVariants.{Object as Holds_obj
 use Rattle.aom_shape.specs.Kinds.{register}
 use Rattle.aom_shape.specs.Tables.{at, put_at}
 use Rattle.aom_shape.specs.Typing.{Typing}
+use Rattle.aom_sound.proofs.View.{under_dispatch}
 use Rattle.aom_sound.specs.Calls.{below_top, called, result_register}
-use Rattle.aom_sound.specs.Claims.{Layer, Method, Mark, Dying, Unwinding, Dispatching, tasks_of, claim, declared}
+use Rattle.aom_sound.specs.Claims.{Layer, Method, Mark, Unwinding, Dispatching, tasks_of, claim, declared}
 use Rattle.aom_sound.specs.Cleanup.{arrival, code_told, dealt_with as deals_with, ended_by, top_is_whole, tops_entry, unwound}
 use Rattle.aom_sound.specs.Laws.{IsWired}
 use Rattle.aom_sound.specs.Places.{Place, Register, changed, held}
@@ -51,7 +52,7 @@ use Rattle.aom_exec.proofs.Finding.{Beneath, held_beneath, unwinds_over, IsTrapO
 use Rattle.aom_exec.proofs.LeavingActs.{unwinds_value, unwinds_word}
 use Rattle.aom_exec.proofs.Overs.{over_value, over_words}
 use Rattle.aom_exec.proofs.ReturnActs.{awaiting, bears, word_alone}
-use Rattle.aom_exec.proofs.Standing.{an_open, ends_last, moved_on}
+use Rattle.aom_exec.proofs.Standing.{an_open, moved_on}
 use Rattle.aom_exec.proofs.Stepping.{at_rest, goes_somewhere, step_of_unwinding, unwinding_of}
 use Rattle.aom_exec.proofs.Topping.{top_lives}
 use Rattle.aom_exec.proofs.Values.{kept, same_length, value_written, word_written, writes}
@@ -127,11 +128,7 @@ module _ (p : Image) (m : Parts) (st : Stands (record { image = p; parts = m }))
     where
       go : (ms : List Held_task) (code : ℤ) (ts : List Task) → IsUnwinding ms → SameTasks ms (Unwind code ∷ ts) → Below (at_traps p) ts → Beneath p ts → ReturnsTo p (below_first ms)
       go (Unwinds c ∷ ms) code ts unwinding same fits under = held_beneath p st.1.sound.formed ms ts same.1 fits under
-      go [] code ts unwinding same fits under = absurd unwinding
-      go (Runs_frame f ∷ ms) code ts unwinding same fits under = absurd unwinding
-      go (Is_trap ∷ ms) code ts unwinding same fits under = absurd unwinding
-      go (Destroys x ∷ ms) code ts unwinding same fits under = absurd unwinding
-      go (Ends d ∷ ms) code ts unwinding same fits under = absurd unwinding
+      go _ code ts unwinding same fits under = absurd (assumption tt)
 
       on_top : (ms : List Held_task) (ts : List Task) → SameTasks ms ts → IsTrapOnTop ts → IsTrapped ms
       on_top (Is_trap ∷ ms) (Trapped ∷ ts) same top = tt
@@ -148,11 +145,7 @@ module _ (p : Image) (m : Parts) (st : Stands (record { image = p; parts = m }))
 
       trap : (ms : List Held_task) (code : ℤ) (ts : List Task) → IsUnwinding ms → SameTasks ms (Unwind code ∷ ts) → IsTrapOnTop ts → IsTrapped (below_first ms)
       trap (Unwinds c ∷ ms) code ts unwinding same top = on_top ms ts same.1 top
-      trap [] code ts unwinding same top = absurd unwinding
-      trap (Runs_frame f ∷ ms) code ts unwinding same top = absurd unwinding
-      trap (Is_trap ∷ ms) code ts unwinding same top = absurd unwinding
-      trap (Destroys x ∷ ms) code ts unwinding same top = absurd unwinding
-      trap (Ends d ∷ ms) code ts unwinding same top = absurd unwinding
+      trap _ code ts unwinding same top = absurd (assumption tt)
 
   pub unwinds_to : ReturnsTo p (below_first m.stack.tasks)
   unwinds_to = beneath_it.2
@@ -181,21 +174,6 @@ awaited_caught : (p : Image) (t : Typing) (s : State) (code : ℤ) (caller : Fra
 awaited_caught p t s code caller ts typed top some = go typed.layers (sym typed.tasks ∙ top) typed.good
   where
     go : (ls : List Layer) → tasks_of ls ≡ Unwind code ∷ Trapped ∷ Run caller ∷ ts → Good p t s.cells ls → held s.cells (Register (length ts) (result_register (instr_at p caller.method caller.place))) ≡ None
-    go [] e good = cc
-    go (Mark g ∷ ls) e good = cc
-    go (Dying o ∷ ls) e good = cc
-    go (Dispatching d ∷ ls) e good = cc
-    go (Method fr sh ∷ ls) e good = cc
-    go (Unwinding c es ∷ []) e good = cc
-    go (Unwinding c es ∷ Method fr sh ∷ ls) e good = cc
-    go (Unwinding c es ∷ Dying o ∷ ls) e good = cc
-    go (Unwinding c es ∷ Dispatching d ∷ ls) e good = cc
-    go (Unwinding c es ∷ Unwinding c' es' ∷ ls) e good = cc
-    go (Unwinding c es ∷ Mark gv ∷ []) e good = cc
-    go (Unwinding c es ∷ Mark gv ∷ Mark g ∷ ls) e good = cc
-    go (Unwinding c es ∷ Mark gv ∷ Dying o ∷ ls) e good = cc
-    go (Unwinding c es ∷ Mark gv ∷ Dispatching d ∷ ls) e good = cc
-    go (Unwinding c es ∷ Mark gv ∷ Unwinding c' es' ∷ ls) e good = cc
     go (Unwinding c es ∷ Mark gv ∷ Method caller' sh' ∷ ls) e good =
         let below : caller' ≡ caller = cc in
         let rest : tasks_of ls ≡ ts = cc in
@@ -208,6 +186,7 @@ awaited_caught p t s code caller ts typed top some = go typed.layers (sym typed.
         let claims : claim p (declared p s.cells) (Unwinding c es ∷ Mark gv ∷ Method caller' sh' ∷ ls) q ≡ register sh' x = claim_register p (declared p s.cells) caller' sh' ls x in
         let none = fits_unowning p (held s.cells) (held s.cells q) (register sh' x) quiet (subst (Fits p (held s.cells) (held s.cells q)) claims (good.fits q)) in
         subst (λ (f : Frame). held s.cells (Register (length ts) (result_register (instr_at p f.method f.place))) ≡ None) below (subst (λ us. held s.cells (Register (length us) x) ≡ None) rest none)
+    go _ e good = cc
 
 -- main's dispatch alone is left
 left_main : (p : Image) (t : Typing) (s : State) (code : ℤ) (d : Dispatch) (ts : List Task) → WellTyped p t s → s.tasks ≡ Unwind code ∷ Trapped ∷ Dispatched d ∷ ts → d ≡ Of_main
@@ -219,22 +198,8 @@ left_main p t s code d ts typed top = go typed.layers (sym typed.tasks ∙ top) 
     which Of_root g e = absurd e
 
     go : (ls : List Layer) → tasks_of ls ≡ Unwind code ∷ Trapped ∷ Dispatched d ∷ ts → Good p t s.cells ls → d ≡ Of_main
-    go [] e good = cc
-    go (Mark g ∷ ls) e good = cc
-    go (Dying o ∷ ls) e good = cc
-    go (Dispatching x ∷ ls) e good = cc
-    go (Method fr sh ∷ ls) e good = cc
-    go (Unwinding c es ∷ []) e good = cc
-    go (Unwinding c es ∷ Method fr sh ∷ ls) e good = cc
-    go (Unwinding c es ∷ Dying o ∷ ls) e good = cc
-    go (Unwinding c es ∷ Dispatching x ∷ ls) e good = cc
-    go (Unwinding c es ∷ Unwinding c' es' ∷ ls) e good = cc
-    go (Unwinding c es ∷ Mark gv ∷ []) e good = cc
-    go (Unwinding c es ∷ Mark gv ∷ Mark g ∷ ls) e good = cc
-    go (Unwinding c es ∷ Mark gv ∷ Dying o ∷ ls) e good = cc
-    go (Unwinding c es ∷ Mark gv ∷ Method fr sh ∷ ls) e good = cc
-    go (Unwinding c es ∷ Mark gv ∷ Unwinding c' es' ∷ ls) e good = cc
     go (Unwinding c es ∷ Mark gv ∷ Dispatching x ∷ ls) e good = let same : x ≡ d = cc in sym same ∙ which x gv good.stack.1.1.0
+    go _ e good = cc
 
 module _ (p : Image) (m : Parts) (s : State) (agrees : Agrees p m s) (es : Held_items) (marked : m.entries ≡ record es { items = Is_mark ∷ es.items }) (g : Held_frame) (ms : List Held_task) (caller : Frame) (ts : List Task) (same_frame : SameFrame g caller) (same_below : SameTasks ms ts) (x : ℕ) (coded : suc x < 16)
     (base : (r : Place) → Shows (value_in (Runs_frame g ∷ ms) m.cells es.items m.root r) (word_at (Run caller ∷ ts) r) (held s.cells r)) where
@@ -388,7 +353,7 @@ module _ (p : Image) (m : Parts) (es : Held_items) (marked : m.entries ≡ recor
           let v : State = record s { tasks = Dispatched (Main_left code) ∷ ts; items = ks } in
           let is : v ≡ u = ap (λ x. record s { tasks = Dispatched (ended_by code x) ∷ ts; items = ks }) (sym main) ∙ goes_same (record s { tasks = Dispatched (ended_by code d) ∷ ts; items = ks }) u e in
           let fresh = subst (WellTyped p h.typing) (sym is) typed in
-          let none = ends_last p h.typing v (Main_left code) ts fresh refl in
+          let none = under_dispatch p h.typing v (Main_left code) ts fresh refl in
           let bare = alone ms ts same.1.1.1 none in
           let items_too : v ≡ record s { tasks = Dispatched (Main_left code) ∷ []; items = below_top s.items } = ap (λ us. record s { tasks = Dispatched (Main_left code) ∷ us; items = ks }) none ∙ ap (λ js. record s { tasks = Dispatched (Main_left code) ∷ []; items = below_top js }) (sym items) in
           let shut = closing p h.typing (record s { tasks = Dispatched (Main_left code) ∷ []; items = below_top s.items }) (Main_left code) (subst (WellTyped p h.typing) items_too fresh) refl in

@@ -87,7 +87,9 @@ module _ (p : Image) (linked : IsLinked p) (c : Choice) (s : State) (fr : Frame)
   unfolding method_at
   nests = at_place (λ _ x. LoopsNest x.code) p.methods fr.method d linked.loops declared_there
 
-  calls : (target : Target) (m first x : ℕ) → slice_get d.code fr.place ≡ Some (Call target m first x) → only_if (is_quiet p fr.method) (is_quiet p m) ≡ true → rank p (applied p fr ts s (Calls target m first)) < before
+  calls :
+      (target : Target) (m first x : ℕ) → slice_get d.code fr.place ≡ Some (Call target m first x) → only_if (is_quiet p fr.method) (is_quiet p m) ≡ true →
+      rank p (applied p fr ts s (Calls target m first)) < before
   unfolding loop_in
   calls target m first x stands quiet =
       let less = paid fr.counters (suc fr.place) (straight (Call target m first x) stands refl) in
@@ -181,7 +183,9 @@ module _ (p : Image) (linked : IsLinked p) (c : Choice) (s : State) (fr : Frame)
     plain_leaving _ code e = absurd (assumption tt)
 
     -- the method goes on after an update
-    goes_after : (i : Instr) → slice_get d.code fr.place ≡ Some i → loop_in (Some i) ≡ None → Ruled i → (u : Update) → FitsUpdate ts s.items i u → rest_at fr.counters (suc fr.place) + waiting_rank p ts + count_after u * cell_rank p < before
+    goes_after :
+        (i : Instr) → slice_get d.code fr.place ≡ Some i → loop_in (Some i) ≡ None → Ruled i → (u : Update) → FitsUpdate ts s.items i u →
+        rest_at fr.counters (suc fr.place) + waiting_rank p ts + count_after u * cell_rank p < before
     goes_after i stands plain r (Made name x a) f = pushes_on i stands plain (loud_maker i f r) (count_after (Made name x a)) (more (Made name x a))
     goes_after i stands plain r (Pushed a) f = pushes_on i stands plain (loud_leaver p linked fr.method (subst Ruled f.0 r).1.0) (count_after (Pushed a)) (more (Pushed a))
     goes_after i stands plain r (Pushed_operation m w) f = pushes_on i stands plain (loud_leaver p linked fr.method (subst Ruled f.1 r).1.0) (count_after (Pushed_operation m w)) (more (Pushed_operation m w))
@@ -202,7 +206,9 @@ module _ (p : Image) (linked : IsLinked p) (c : Choice) (s : State) (fr : Frame)
     repeats depth to n stands e = goes (put_at 0 fr.counters depth (suc n)) to (standing s.cells + operations s.items) (back d.code fr.counters fr.place depth to n nests stands e) (omega arith)
 
     -- an object goes over the method
-    deletes : (o : Object) (a : ℕ) (words : List (Option ℤ)) → slice_get d.code fr.place ≡ Some (Delete a) → held s.cells (here fr ts s a) ≡ Some o → rank p (applied p fr ts s (Destroys o a words)) < before
+    deletes :
+        (o : Object) (a : ℕ) (words : List (Option ℤ)) → slice_get d.code fr.place ≡ Some (Delete a) → held s.cells (here fr ts s a) ≡ Some o →
+        rank p (applied p fr ts s (Destroys o a words)) < before
     unfolding loop_in
     deletes o a words stands there =
         let less = paid fr.counters (suc fr.place) (straight (Delete a) stands refl) in
@@ -211,7 +217,9 @@ module _ (p : Image) (linked : IsLinked p) (c : Choice) (s : State) (fr : Frame)
         let cells = one_less (standing (moved (here fr ts s a) (Going (length (Run fr ∷ ts))) s.cells) + operations s.items) (standing s.cells + operations s.items) (cell_rank p) (omega (arith, goes)) in
         omega (arith, less, destruction, cells, price_some p fr.method)
 
-    deletes_last : (o : Object) → slice_get d.code fr.place ≡ Some PopDelete → s.items ≡ An_object ∷ below_top s.items → held s.cells (top_place s.items) ≡ Some o → rank p (applied p fr ts s (Destroys_last o)) < before
+    deletes_last :
+        (o : Object) → slice_get d.code fr.place ≡ Some PopDelete → s.items ≡ An_object ∷ below_top s.items → held s.cells (top_place s.items) ≡ Some o →
+        rank p (applied p fr ts s (Destroys_last o)) < before
     unfolding loop_in
     deletes_last o stands top there =
         let less = paid fr.counters (suc fr.place) (straight PopDelete stands refl) in
@@ -238,7 +246,9 @@ module _ (p : Image) (linked : IsLinked p) (c : Choice) (s : State) (fr : Frame)
         let others = all_parts (rule_arguments p sh (arguments_of p m) first) _ parts.1 in
         others.1.0
 
-    pub falls : AllUndo p s.items → (i : Instr) → slice_get d.code fr.place ≡ Some i → Ruled i → (e : Effect) → Fits p c fr ts s i e → ((g : Gives) (a : ℕ) → slice_get d.code fr.place ≡ Some (Return a) → rank p (returned p fr ts s g a ts) < before) → rank p (applied p fr ts s e) < before
+    pub falls :
+        AllUndo p s.items → (i : Instr) → slice_get d.code fr.place ≡ Some i → Ruled i → (e : Effect) → Fits p c fr ts s i e →
+        ((g : Gives) (a : ℕ) → slice_get d.code fr.place ≡ Some (Return a) → rank p (returned p fr ts s g a ts) < before) → rank p (applied p fr ts s e) < before
     falls undos i stands r (Goes_on ch) f returns = goes_after i stands f.0 r ch.update f.1
     falls undos i stands r (Jumps to) f returns = to_jump i stands to f
     falls undos i stands r (Counts depth n) f returns = counts i stands depth n f

@@ -10,7 +10,7 @@ use Rattle.aom_image.specs.declared.instr.Instr.TheVariants.{Call, Trap}
 use Rattle.aom_image.specs.declared.instr.Target.{Target}
 use Rattle.aom_image.specs.declared.method.Method.{Method}
 use Rattle.aom_image.specs.declared.method.Role.{Role}
-use Rattle.aom_image.specs.declared.method.Role.TheVariants.{Accept, Cancel, Construct, Destruct, Do, Error, Main, Run as To_run, Service, Undo}
+use Rattle.aom_image.specs.declared.method.Role.TheVariants.{Destruct}
 use Rattle.aom_image.specs.declared.method.Thing.{Thing}
 use Rattle.aom_image.specs.declared.method.Thing.TheVariants.{Object as An_object_of, Message}
 use Rattle.aom_classes.specs.Calls.{CallsOrdered, RunsBelow}
@@ -104,16 +104,8 @@ cell_paid p m loud =
 
 is_destruct : (r : Role) → same_role r Destruct ≡ true → r ≡ Destruct
 unfolding role_number
-is_destruct Do e = cc
-is_destruct Main e = cc
-is_destruct Construct e = cc
 is_destruct Destruct e = refl
-is_destruct To_run e = cc
-is_destruct Cancel e = cc
-is_destruct Error e = cc
-is_destruct Accept e = cc
-is_destruct Service e = cc
-is_destruct Undo e = cc
+is_destruct _ e = cc
 
 record IsQuietThere (p : Image) (m : ℕ) : Type 0 where
   within : m < length p.methods

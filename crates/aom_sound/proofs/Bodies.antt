@@ -1,5 +1,5 @@
 -- What a linked image gives the law of loops: their bodies lie as the moves need it.
-use Rattle.std.proofs.Common.{◌≡◌, ◌≢◌, ◌<◌, ◌≤◌, ◌∙◌, ℕ, suc, length, Option, Some, None, IfSome, IsTrue, slice_get, ⊎_elim, ap, sym, refl, subst, arith}
+use Rattle.std.proofs.Common.{◌≡◌, ◌≢◌, ◌<◌, ◌≤◌, ◌∙◌, ℕ, suc, length, Option, Some, IfSome, IsTrue, slice_get, ⊎_elim, ap, sym, refl, subst, arith}
 use Rattle.std.proofs.lemmas.Bool.{cases_lt}
 use Rattle.std.proofs.lemmas.Option.{slice_get_within}
 use Rattle.aom_image.specs.Image.{Image}

@@ -23,7 +23,7 @@ use Rattle.aom_sound.proofs.Maps.{at-put_at, held_moved, same_place-true, same_p
 use Rattle.aom_sound.proofs.Straight.{claim_register, fits_unowning}
 use Rattle.aom_sound.specs.Calls.{called, result_register}
 use Rattle.aom_sound.specs.Claims.{Dispatching, Dying, Form, Layer, Mark, Mark_form, Method, Unwinding, declared, entry_form, forms, items_of, objects, tasks_of}
-use Rattle.aom_sound.specs.Cleanup.{arrival, arrived, code_told, destroyed, has_trap, is_negative, leave_needs, left, no_memory, operation_frame, operation_pushed, pushed, to_trap, unwound}
+use Rattle.aom_sound.specs.Cleanup.{arrival, arrived, code_told, destroyed, has_trap, is_negative, leave_needs, no_memory, operation_frame, to_trap, unwound}
 use Rattle.aom_sound.specs.Destruction.{begun_by, destructor_of}
 use Rattle.aom_sound.specs.Laws.{IsWired}
 use Rattle.aom_sound.specs.Leaves.{AreEntries, AreMethods, Arrives, ArrivesAt, Begins, HasMoved, HasNoResult, HasPushed, Hears, IsBegun, IsDestroyed, IsLeaving, IsOver, LeavesWith}
@@ -31,7 +31,8 @@ use Rattle.aom_sound.specs.Moves.{announcement, counted, does, main_left, needs,
 use Rattle.aom_sound.specs.Places.{Cell, Entry, Going, Object, Register, held, moved, named, same_place, Place}
 use Rattle.aom_sound.specs.State.{A_mark, An_object, An_operation, Choice, Dispatch, Dispatched, Frame, Goes, Inside, IsStuck, Item, Main_left, NullOrDead, Of_main, Of_root, Run, State, Task, Trapped, Unwind, frame_of, next, set_word, word}
 use Rattle.aom_sound.specs.WellTyped.{AllUndo, Awaits, EndsDispatch, Fits, Good, Keeps, Leaves, Now, Stack, WellTyped}
-use Rattle.aom_sound.specs.Words.{go_on, word_or_zero}
+use Rattle.aom_sound.specs.Effects.{Effect, Leaves, Pushed as Object_pushed, Pushed_operation as Operation_pushed, Same, Update, applied, unless_refused, updates}
+use Rattle.aom_sound.specs.Words.{word_or_zero}
 use Rattle.aom_shape.specs.Needs.{AllTrue}
 use Rattle.aom_sound.specs.declared.line.Ending.TheVariants.{MainLeft}
 use Rattle.aom_sound.proofs.Steps.{step_keeps}
@@ -122,11 +123,13 @@ is_there None e = cc
 is_there (Some y) e = (y, refl)
 
 module _ (p : Image) (t : Typing) (c : Choice) (fr : Frame) (ts : List Task) (s u : State) (at_hand : s.tasks ≡ Run fr ∷ ts) (w : WellTyped p t s) (keeps : WellTyped p t u) where
-  -- from a state with the same trap innermost
-  begins_at : (i : Instr) (code : ℤ) (v : State) → to_trap v.tasks ≡ to_trap ts → has_trap ts ≡ true → left code v ≡ u → HasPushed fr (length ts) i s (left code v) → Begins p code fr (length ts) i s u
-  begins_at i code v same trap e on =
+  -- the leave is at hand over the innermost trap
+  begins_at :
+      (i : Instr) (code : ℤ) (off : Update) → has_trap ts ≡ true → applied p fr ts (counted p s) (Leaves code off) ≡ u →
+      HasPushed fr (length ts) i s (applied p fr ts (counted p s) (Leaves code off)) → Begins p code fr (length ts) i s u
+  begins_at i code off trap e on =
       let r = trapping ts trap in
-      let top : u.tasks ≡ Unwind code ∷ Trapped ∷ r.below = sym (ap (λ x. x.tasks) e) ∙ ap (λ l. Unwind code ∷ l) (same ∙ r.lands) in
+      let top : u.tasks ≡ Unwind code ∷ Trapped ∷ r.below = sym (ap (λ x. x.tasks) e) ∙ ap (λ l. Unwind code ∷ l) r.lands in
       let found = splits p t u keeps code (Trapped ∷ r.below) top in
       record {
         methods = Run fr ∷ r.methods;
@@ -140,34 +143,32 @@ module _ (p : Image) (t : Typing) (c : Choice) (fr : Frame) (ts : List Task) (s 
         pushed = subst (λ x. HasPushed fr (length ts) i s x) e on;
       }
 
-  taken : (b : Bool) (v x : State) → b ≡ true → cond b v x ≡ u → v ≡ u
-  taken true v x b e = e
-  taken false v x b e = cc
+  taken : (b : Bool) (off on : Effect) → b ≡ true → applied p fr ts (counted p s) (cond b off on) ≡ u → applied p fr ts (counted p s) off ≡ u
+  taken true off on b e = e
+  taken false off on b e = cc
 
   trap_so : (b : Bool) (cs : List Cell) → b ≡ true → AllTrue (cond b (leave_needs cs (Run fr ∷ ts)) []) → has_trap ts ≡ true
   trap_so true cs b n = n.0
   trap_so false cs b n = cc
 
-  over_trap : to_trap s.tasks ≡ to_trap ts
-  over_trap = ap to_trap at_hand
-
-  refused : (i : Instr) (code : ℤ) (v x : State) → to_trap v.tasks ≡ to_trap ts → has_trap ts ≡ true → (c.refused ≡ true) × (code ≡ negsuc 3) → cond c.refused (left no_memory v) x ≡ u → HasPushed fr (length ts) i s (left no_memory v) → Begins p code fr (length ts) i s u
-  refused i code v x same trap h e on = subst (λ k. Begins p k fr (length ts) i s u) (sym h.1) (begins_at i (negsuc 3) v same trap (taken c.refused (left no_memory v) x h.0 e) on)
+  refused : (i : Instr) (code : ℤ) (off : Update) (on : Effect) → has_trap ts ≡ true → (c.refused ≡ true) × (code ≡ negsuc 3) → applied p fr ts (counted p s) (unless_refused c.refused off on) ≡ u →
+      HasPushed fr (length ts) i s (applied p fr ts (counted p s) (Leaves no_memory off)) → Begins p code fr (length ts) i s u
+  refused i code off on trap h e so = subst (λ k. Begins p k fr (length ts) i s u) (sym h.1) (begins_at i (negsuc 3) off trap (taken c.refused (Leaves no_memory off) on h.0 e) so)
 
   pub begins_by : (i : Instr) (code : ℤ) → LeavesWith c fr i code → AllTrue (needs p c fr ts (counted p s) i) → does p c fr ts (counted p s) i ≡ u → Begins p code fr (length ts) i s u
-  begins_by (Leave a) code h n e = begins_at (Leave a) code (counted p s) over_trap n.1.0 (subst (λ x. left (word_or_zero x) (counted p s) ≡ u) h e) (refl, refl)
+  begins_by (Leave a) code h n e = begins_at (Leave a) code Same n.1.0 (subst (λ x. applied p fr ts (counted p s) (Leaves (word_or_zero x) Same) ≡ u) h e) (refl, refl)
   begins_by (LeaveIf a) code h n e =
-      let e' = subst (λ x. cond (is_negative p c fr ts (counted p s) (word_or_zero x)) (left (word_or_zero x) (counted p s)) (go_on fr ts (counted p s) s.cells fr) ≡ u) h.0 e in
+      let e' = subst (λ x. applied p fr ts (counted p s) (cond (is_negative p c fr ts (counted p s) (word_or_zero x)) (Leaves (word_or_zero x) Same) (updates fr Same)) ≡ u) h.0 e in
       let n' = subst (λ x. AllTrue (cond (is_negative p c fr ts (counted p s) (word_or_zero x)) (leave_needs s.cells (Run fr ∷ ts)) [])) h.0 n.1 in
-      begins_at (LeaveIf a) code (counted p s) over_trap (trap_so (int_lt code (pos 0)) s.cells h.1 n') (taken (int_lt code (pos 0)) (left code (counted p s)) _ h.1 e') (refl, refl)
-  begins_by (NewOrLeave a x) code h n e = refused (NewOrLeave a x) code (counted p s) _ over_trap (trap_so c.refused s.cells h.0 n.1) h e (refl, refl)
+      begins_at (LeaveIf a) code Same (trap_so (int_lt code (pos 0)) s.cells h.1 n') (taken (int_lt code (pos 0)) (Leaves code Same) _ h.1 e') (refl, refl)
+  begins_by (NewOrLeave a x) code h n e = refused (NewOrLeave a x) code Same _ (trap_so c.refused s.cells h.0 n.1) h e (refl, refl)
   begins_by (Push a) code h n e =
       let o = is_there (held s.cells (Register (length ts) a)) n.1.0 in
       let goes = has_moved s.cells (Register (length ts) a) (Entry (length s.items)) o.0 o.1 (none_pushed_yet p t s w) refl in
-      refused (Push a) code (pushed p c fr ts (counted p s) a) _ refl n.1.1.1.0 h e (o.0, goes, refl)
+      refused (Push a) code (Object_pushed a) _ n.1.1.1.0 h e (o.0, goes, refl)
   begins_by (PushOperation a m) code h n e =
       let x = is_there (word fr a) n.0 in
-      refused (PushOperation a m) code (operation_pushed p c fr ts (counted p s) a m) _ refl n.1.0 h e (x.0, x.1, ap (λ y. An_operation m (word_or_zero y) ∷ s.items) x.1, refl)
+      refused (PushOperation a m) code (Operation_pushed m (word_or_zero (word fr a))) _ n.1.0 h e (x.0, x.1, ap (λ y. An_operation m (word_or_zero y) ∷ s.items) x.1, refl)
   begins_by _ code h n e = absurd h
 
 pub begins :
@@ -317,12 +318,10 @@ module _ (p : Image) (t : Typing) (s u : State) (code : ℤ) (items : List Item)
   below_trap _ gv es good e = absurd good.stack.1.1.0
 
   below_leave : (ls : List Layer) (es : List Pushed) → Good p t s.cells (Unwinding code es ∷ ls) → arrived p code (tasks_of ls) items (counted p s) ≡ Goes u → Arrived (tasks_of ls) u
-  below_leave [] es good e = cc
-  below_leave (Method fr sh ∷ ls) es good e = absurd good.stack.1.0
   below_leave (Mark gv ∷ ls) es good e = below_trap ls gv es good e
-  below_leave (Dying o ∷ ls) es good e = absurd good.stack.1.1
-  below_leave (Unwinding x fs ∷ ls) es good e = absurd good.stack.1.0
   below_leave (Dispatching d ∷ ls) es good e = no_dispatch p d good.stack.1.0
+  below_leave [] es good e = cc
+  below_leave _ es good e = absurd (assumption tt)
 
   by_layers : (below : List Task) (ls : List Layer) → tasks_of ls ≡ Unwind code ∷ below → Good p t s.cells ls → arrived p code below items (counted p s) ≡ Goes u → Arrived below u
   by_layers below (Unwinding x es ∷ ls) at good e =

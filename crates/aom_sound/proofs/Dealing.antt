@@ -1,6 +1,6 @@
 -- The last item of the cleanup stack is dealt with: its object is destroyed, or its operation runs, over the layers below it.
 use Rattle.std.proofs.Common.{Bool, List, None, Option, Some, [], ap, arith, cond, false, length, map, refl, subst, suc, sym, true, zero, ℕ, ℤ, ◌==◌, ◌∙◌, ◌∷◌, ◌≡◌, ◌≤◌}
-use Rattle.std.proofs.lemmas.Bool.{eqb-true}
+use Rattle.std.proofs.lemmas.Bool.{eqb-true, true≢false}
 use Rattle.std.specs.Prelude.{is_some}
 use Rattle.aom_image.specs.Image.{Image}
 use Rattle.aom_image.specs.Views.{method_class}
@@ -24,10 +24,13 @@ use Rattle.aom_sound.proofs.Items.{length_forms}
 use Rattle.aom_sound.proofs.Maps.{held_lives, named_moved, same_place-true, same_place_refl, tidy_moved}
 use Rattle.aom_sound.proofs.Straight.{fits_unowning}
 use Rattle.aom_sound.specs.Claims.{Layer, Method, claim, declared, entry_claim, entry_form, forms, items_of, objects, tasks_of}
-use Rattle.aom_sound.specs.Cleanup.{dealt_with, destroyed, operation_frame, top_is_whole}
+use Rattle.aom_sound.specs.Calls.{below_top}
+use Rattle.aom_sound.specs.Cleanup.{dealt_with, destroyed, operation_frame, top_is_whole, top_place, tops_entry}
+use Rattle.aom_sound.specs.Destruction.{begun}
+use Rattle.aom_sound.specs.Effects.{applied, deals as deals_effect}
 use Rattle.aom_sound.specs.Laws.{IsWired}
 use Rattle.aom_sound.specs.Places.{Elsewhere, Entry, Field, Going, Object, Place, Register, Root, Tidy, changed, held, moved, same_place}
-use Rattle.aom_sound.specs.State.{A_mark, An_object, An_operation, Item, Run, State, Static, thing_holder, word}
+use Rattle.aom_sound.specs.State.{An_object, An_operation, Frame, Item, Run, State, Static, Task, thing_holder, word}
 use Rattle.aom_sound.specs.WellTyped.{AllUndo, Fits, Gone, IsUndo, Returns, Stack, WellTyped, WordFits}
 
 -- without the last entry the layers claim nothing of its place, and else the same
@@ -139,6 +142,18 @@ module _ (p : Image) (t : Typing) (wired : IsWired p) (typed : IsTyped p t) (s :
             tidy = d.tidy;
           };
         }
+
+-- the effect of `popdelete` is that
+pub dealing :
+    (p : Image) (fr : Frame) (ts : List Task) (s : State) (items : List Item) (o : Option Object) → s.items ≡ items → held s.cells (top_place items) ≡ o → tops_entry items ≡ true →
+    top_is_whole s.cells items ≡ true
+    → dealt_with p items (Run fr ∷ ts) s ≡ applied p fr ts s (deals_effect fr items o)
+dealing p fr ts s (An_object ∷ items) None at e there whole = absurd (true≢false (sym whole ∙ ap is_some e))
+dealing p fr ts s (An_object ∷ items) (Some o) at e there whole =
+    ap (λ x. destroyed p x items (Run fr ∷ ts) s) e
+    ∙ ap (λ l. record s { cells = moved (Entry (length l)) (Going (length (Run fr ∷ ts))) s.cells; tasks = begun p o (length l) (Run fr ∷ ts); items = l }) (sym (ap below_top at))
+dealing p fr ts s (An_operation m w ∷ items) o at e there whole = ap (λ l. record s { tasks = Run (operation_frame m w (length l)) ∷ Run fr ∷ ts; items = l }) (sym (ap below_top at))
+dealing p fr ts s _ o at e there whole = cc
 
 -- so it is there, and what follows is well typed
 pub deals : (p : Image) (t : Typing) → IsWired p → IsTyped p t → (s : State) (e : Pushed) (before below : List Layer) → Dealing p t s e before below → (top_is_whole s.cells s.items ≡ true) × WellTyped p t (dealt_with p s.items (tasks_of below) s)

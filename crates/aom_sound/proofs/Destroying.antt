@@ -20,7 +20,7 @@ use Rattle.aom_shape.specs.declared.kind.Age.TheVariants.{Ready}
 use Rattle.aom_shape.specs.declared.kind.Filling.{Filling}
 use Rattle.aom_shape.specs.declared.kind.Filling.TheVariants.{Perhaps}
 use Rattle.aom_shape.specs.declared.kind.Kind.{Kind}
-use Rattle.aom_shape.specs.declared.kind.Kind.TheVariants.{Maybe, Null, Own, Unset, Word}
+use Rattle.aom_shape.specs.declared.kind.Kind.TheVariants.{Maybe, Null, Own, Unset}
 use Rattle.aom_sound.proofs.Claimed.{NoFieldHere, Outside, claim-set_register, claim_frame, claim_going_above, claim_register_above, claim_unclaimed, declared_moved, going_differs, keep_fits, no_field_here, outside_differs, outside_less, stack_moved}
 use Rattle.aom_sound.proofs.Items.{length_forms}
 use Rattle.aom_sound.proofs.Maps.{held_lives, held_moved, named_moved, one_place, same_place-true, same_place_refl, tidy_moved}
@@ -29,7 +29,8 @@ use Rattle.aom_sound.proofs.Things.{stands_itself, stands_same}
 use Rattle.aom_sound.specs.Claims.{Dispatching, Dying, Layer, Mark, Method, Unwinding, claim, declared, declared_field, entry_claim, forms, home_claim, items_of, objects, tasks_of}
 use Rattle.aom_sound.specs.Destruction.{begun, begun_by, destructor_of}
 use Rattle.aom_sound.specs.Laws.{IsWired}
-use Rattle.aom_sound.specs.Objects.{deleted, is_no_message}
+use Rattle.aom_sound.specs.Effects.{applied, deletes}
+use Rattle.aom_sound.specs.Objects.{is_no_message}
 use Rattle.aom_sound.specs.Places.{Cell, Elsewhere, Entry, Field, Going, Object, Place, Register, Root, Tidy, changed, held, moved, named, same_place}
 use Rattle.aom_sound.specs.State.{AtRoot, Choice, Frame, Home, Inside, Run, State, Static, frame_of, next, set_word, thing_holder, word}
 use Rattle.aom_sound.specs.WellTyped.{AllUndo, Back, Caught, Fits, Gone, Good, IsBelow, IsHoused, IsNoFieldOf, Leaves, NoneIn, NotIn, Returns, SomeIn, Stack, Unclaimed, WellTyped, WordFits, WorksOn}
@@ -292,8 +293,8 @@ module _ (p : Image) (t : Typing) (c : Choice) (s : State) (fr : Frame) (sh : Sh
       claims : (r : Place) → claim p (declared p cs) (Method fr' sh' ∷ ls) r ≡ changed (claim p (declared p cs) (Method fr sh ∷ ls)) (top ls a) Null r
       claims r = claim_frame p (declared p cs) fr fr' sh' ls r refl ∙ claim-set_register p (declared p cs) fr sh ls a Null r
 
-      go : (x : Option Object) → held s.cells (top ls a) ≡ x → WellTyped p t (deleted p c fr (tasks_of ls) s x a)
-      go None e = well p t c s fr sh ls at_hand (deleted p c fr (tasks_of ls) s None a) (next fr') sh' refl at_hand.items at_hand.undos
+      go : (x : Option Object) → held s.cells (top ls a) ≡ x → WellTyped p t (applied p fr (tasks_of ls) s (deletes fr x a))
+      go None e = well p t c s fr sh ls at_hand (applied p fr (tasks_of ls) s (deletes fr None a)) (next fr') sh' refl at_hand.items at_hand.undos
           (settle p t cs (next fr') sh' ls (relabel p t cs fr (next fr') sh sh' ls (top ls a) Null (fitted p t cs fr sh ls at_hand.good) refl refl refl (subst (λ o. Fits p (held cs) o Null) (sym e) tt) (λ r. claim-set_register p (declared p cs) fr sh ls a Null r) words) leads.0)
       go (Some o) e =
           let q = top ls a in
@@ -310,4 +311,4 @@ module _ (p : Image) (t : Typing) (c : Choice) (s : State) (fr : Frame) (sh : Sh
           (goes_there p t cs o q before below at_hand.good.fits e (omega arith) claims)
           (named_moved cs q g o.name ∙ held_lives cs q o at_hand.good.tidy e)
           (untouched_method p t cs q o at_hand.good.tidy e k fr' sh' ls (λ x from e. tt) (omega arith) at_hand.good.stack.2 (untouched p t cs q o at_hand.good.tidy e k ls _ (omega arith) at_hand.good.stack.4))
-          (deleted p c fr (tasks_of ls) s (Some o) a) (length s.items) (sym (length_forms s.items) ∙ ap length at_hand.items) refl refl at_hand.items at_hand.undos
+          (applied p fr (tasks_of ls) s (deletes fr (Some o) a)) (length s.items) (sym (length_forms s.items) ∙ ap length at_hand.items) refl refl at_hand.items at_hand.undos

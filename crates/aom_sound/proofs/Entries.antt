@@ -19,7 +19,7 @@ use Rattle.aom_shape.specs.declared.kind.Kind.{Kind}
 use Rattle.aom_shape.specs.declared.kind.Kind.TheVariants.{Null, Own}
 use Rattle.aom_sound.proofs.Claimed.{claim-set_register, claim_entry_above, claim_push, length_objects}
 use Rattle.aom_sound.proofs.Creation.{IsUnused, age_fits, create}
-use Rattle.aom_sound.proofs.Dealing.{Dealing, deals, less_claims}
+use Rattle.aom_sound.proofs.Dealing.{dealing, Dealing, deals, less_claims}
 use Rattle.aom_sound.proofs.Items.{length_forms}
 use Rattle.aom_sound.proofs.Leaving.{leave_is_met, leave_keeps, trap_is_there}
 use Rattle.aom_sound.proofs.Maps.{same_place_refl}
@@ -28,14 +28,15 @@ use Rattle.aom_sound.proofs.Things.{stands_itself, stands_same}
 use Rattle.aom_sound.proofs.Words.{has_word}
 use Rattle.aom_sound.specs.Calls.{below_top, result_register}
 use Rattle.aom_sound.specs.Claims.{Form, Layer, Method, Object_form, Operation_form, claim, declared, entry_form, forms, items_of, objects, tasks_of}
-use Rattle.aom_sound.specs.Cleanup.{leave_needs, left, no_memory, operation_pushed, pushed, tops_entry, tops_object, tops_operation}
+use Rattle.aom_sound.specs.Cleanup.{leave_needs, no_memory, pushed_cells, top_place, tops_entry, tops_object, tops_operation}
 use Rattle.aom_sound.specs.Laws.{IsWired}
 use Rattle.aom_sound.specs.Moves.{does, needs}
 use Rattle.aom_sound.specs.Objects.{is_no_message, no_words}
 use Rattle.aom_sound.specs.Places.{Cell, Entry, Object, Place, changed, held, moved, same_place, with_new}
 use Rattle.aom_sound.specs.State.{A_mark, An_object, An_operation, Choice, Frame, Item, Run, State, Static, next, set_word}
 use Rattle.aom_sound.specs.WellTyped.{AllUndo, Awaits, Fits, Gone, IsUndo, Returns, Stack, WellTyped}
-use Rattle.aom_sound.specs.Words.{go_on, read}
+use Rattle.aom_sound.specs.Effects.{Made, Pushed as Object_pushed, Pushed_operation as Operation_pushed, Same, applied, sets, unless_refused, updates}
+use Rattle.aom_sound.specs.Words.{read}
 
 -- ---- kinds of objects that may be pushed
 
@@ -122,7 +123,7 @@ module _ (p : Image) (t : Typing) (c : Choice) (s : State) (fr : Frame) (sh : Sh
   pushed_shape a = with_entry (entry_of (register sh a)) (set_register sh a Null)
 
   -- the object is on the cleanup stack, and the push may still leave
-  push_fitted : (a : ℕ) → owns_object (register sh a) ≡ true → Fitted p t (pushed p c fr (tasks_of ls) s a).cells (next (set_word fr a None)) (pushed_shape a) ls
+  push_fitted : (a : ℕ) → owns_object (register sh a) ≡ true → Fitted p t (pushed_cells fr (tasks_of ls) s a) (next (set_word fr a None)) (pushed_shape a) ls
   push_fitted a owns =
       let d = declared p s.cells in
       let k = register sh a in
@@ -142,7 +143,7 @@ module _ (p : Image) (t : Typing) (c : Choice) (s : State) (fr : Frame) (sh : Sh
   law_push a n leads = (
     (
       ap is_none (no_word p t c s fr sh ls at_hand a (owned_or_null (register sh a) n.0)),
-      (met.0, (met.1, (trap_is_there p t s'.cells fr' (pushed_shape a) ls there n.1.0 n.1.1.0, needed c.refused))),
+      (met.0, (met.1, (trap_is_there p t cells fr' (pushed_shape a) ls there n.1.0 n.1.1.0, needed c.refused))),
     ),
     goes c.refused,
   )
@@ -150,25 +151,25 @@ module _ (p : Image) (t : Typing) (c : Choice) (s : State) (fr : Frame) (sh : Sh
       fr' : Frame
       fr' = next (set_word fr a None)
 
-      s' : State
-      s' = pushed p c fr (tasks_of ls) s a
+      cells : List Cell
+      cells = pushed_cells fr (tasks_of ls) s a
 
       met : (is_some (held s.cells (top ls a)) ≡ true) × (is_no_message (held s.cells (top ls a)) ≡ true)
       met = owned_met p (held s.cells) (held s.cells (top ls a)) (register sh a) n.0 (kind_fits p t c s fr sh ls at_hand a)
 
-      there : Fitted p t (pushed p c fr (tasks_of ls) s a).cells (next (set_word fr a None)) (pushed_shape a) ls
+      there : Fitted p t (pushed_cells fr (tasks_of ls) s a) (next (set_word fr a None)) (pushed_shape a) ls
       there = push_fitted a n.0
 
       items : forms (An_object ∷ s.items) ≡ objects (entry_of (register sh a) ∷ sh.entries) (items_of ls)
       items = ap (λ x. x ∷ forms s.items) (sym (object_again (register sh a) n.0)) ∙ ap (λ fs. entry_form (entry_of (register sh a)) ∷ fs) at_hand.items
 
-      needed : (b : Bool) → AllTrue (cond b (leave_needs (pushed p c fr (tasks_of ls) s a).cells (Run fr ∷ tasks_of ls)) [])
-      needed true = leave_is_met p t s'.cells fr' fr (pushed_shape a) ls there n.1.0 n.1.1.0
+      needed : (b : Bool) → AllTrue (cond b (leave_needs (pushed_cells fr (tasks_of ls) s a) (Run fr ∷ tasks_of ls)) [])
+      needed true = leave_is_met p t cells fr' fr (pushed_shape a) ls there n.1.0 n.1.1.0
       needed false = tt
 
-      goes : (b : Bool) → WellTyped p t (cond b (left no_memory (pushed p c fr (tasks_of ls) s a)) (pushed p c fr (tasks_of ls) s a))
-      goes true = leave_keeps p t s' no_memory fr' fr' (pushed_shape a) ls refl items at_hand.undos there n.1.0 n.1.1.0
-      goes false = well p t c s fr sh ls at_hand s' fr' (pushed_shape a) refl items at_hand.undos (settle p t s'.cells fr' (pushed_shape a) ls there leads.0)
+      goes : (b : Bool) → WellTyped p t (applied p fr (tasks_of ls) s (unless_refused b (Object_pushed a) (sets fr a None (Object_pushed a))))
+      goes true = leave_keeps p t (record s { cells = cells; items = An_object ∷ s.items }) no_memory fr' (pushed_shape a) ls items at_hand.undos there n.1.0 n.1.1.0
+      goes false = well p t c s fr sh ls at_hand _ fr' (pushed_shape a) refl items at_hand.undos (settle p t cells fr' (pushed_shape a) ls there leads.0)
 
   -- ---- the push of an operation
 
@@ -187,9 +188,6 @@ module _ (p : Image) (t : Typing) (c : Choice) (s : State) (fr : Frame) (sh : Sh
       with_operation : Shape
       with_operation = with_entry Pushed_operation sh
 
-      s' : State
-      s' = operation_pushed p c fr (tasks_of ls) s a m
-
       items : forms (An_operation m (read fr (tasks_of ls) s a) ∷ s.items) ≡ objects (Pushed_operation ∷ sh.entries) (items_of ls)
       items = ap (λ fs. Operation_form ∷ fs) at_hand.items
 
@@ -200,9 +198,9 @@ module _ (p : Image) (t : Typing) (c : Choice) (s : State) (fr : Frame) (sh : Sh
       needed true = leave_is_met p t s.cells (next fr) fr with_operation ls operation_fitted n.1.0 n.1.1.0
       needed false = tt
 
-      goes : (b : Bool) → WellTyped p t (cond b (left no_memory (operation_pushed p c fr (tasks_of ls) s a m)) (operation_pushed p c fr (tasks_of ls) s a m))
-      goes true = leave_keeps p t s' no_memory (next fr) (next fr) with_operation ls refl items undos operation_fitted n.1.0 n.1.1.0
-      goes false = well p t c s fr sh ls at_hand s' (next fr) with_operation refl items undos (settle p t s.cells (next fr) with_operation ls operation_fitted leads.0)
+      goes : (b : Bool) → WellTyped p t (applied p fr (tasks_of ls) s (unless_refused b (Operation_pushed m (read fr (tasks_of ls) s a)) (updates fr (Operation_pushed m (read fr (tasks_of ls) s a)))))
+      goes true = leave_keeps p t (record s { items = An_operation m (read fr (tasks_of ls) s a) ∷ s.items }) no_memory (next fr) with_operation ls items undos operation_fitted n.1.0 n.1.1.0
+      goes false = well p t c s fr sh ls at_hand _ (next fr) with_operation refl items undos (settle p t s.cells (next fr) with_operation ls operation_fitted leads.0)
 
   -- ---- a pop
 
@@ -315,7 +313,8 @@ module _ (p : Image) (t : Typing) (c : Choice) (s : State) (fr : Frame) (sh : Sh
             under_operation = awaits x es e;
           } in
           let w = deals p t wired typed s x (Method fr sh ∷ ls) (Method fr less ∷ ls) d in
-          ((tops x (objects es (items_of ls)) s.items (known x es e), (w.0, tt)), w.1)
+          let topped = tops x (objects es (items_of ls)) s.items (known x es e) in
+          ((topped, (w.0, tt)), subst (λ v. WellTyped p t v) (dealing p fr (tasks_of ls) s s.items (held s.cells (top_place s.items)) refl refl topped w.0) w.1)
 
   -- ---- a new cell, or a leave
 
@@ -342,6 +341,6 @@ module _ (p : Image) (t : Typing) (c : Choice) (s : State) (fr : Frame) (sh : Sh
       needed true = leave_is_met p t s.cells fr fr sh ls g n.1.1.0 n.1.1.1.0
       needed false = tt
 
-      goes : (b : Bool) → WellTyped p t (cond b (left no_memory s) (go_on fr (tasks_of ls) s cells (set_word fr a None)))
-      goes true = leave_keeps p t s no_memory fr fr sh ls at_hand.tasks at_hand.items at_hand.undos g n.1.1.0 n.1.1.1.0
+      goes : (b : Bool) → WellTyped p t (applied p fr (tasks_of ls) s (unless_refused b Same (sets fr a None (Made c.name x a))))
+      goes true = leave_keeps p t s no_memory fr sh ls at_hand.items at_hand.undos g n.1.1.0 n.1.1.1.0
       goes false = well p t c s fr sh ls at_hand _ fr' (set_register sh a k) refl at_hand.items at_hand.undos (settle p t cells fr' (set_register sh a k) ls makes leads.0)

@@ -13,7 +13,7 @@ use Rattle.aom_sound.proofs.Straight.{Fitted, fits_unowning, settle}
 use Rattle.aom_sound.specs.Claims.{Dispatching, Dying, Layer, Mark, Method, Unwinding, claim, declared, declared_field, forms, items_of, objects, tasks_of}
 use Rattle.aom_sound.specs.Destruction.{gone, is_field_of, owns_nothing}
 use Rattle.aom_sound.specs.Places.{Cell, Elsewhere, Entry, Field, Going, Object, Place, Register, Root, Tidy, held, same_place, without}
-use Rattle.aom_sound.specs.State.{AtRoot, Home, Inside, IsStuck, Main_left, Of_main, Of_root, Orphan, State, Static, guarded, next, resumed}
+use Rattle.aom_sound.specs.State.{AtRoot, Home, Inside, IsStuck, Of_root, Orphan, State, Static, guarded, next, resumed}
 use Rattle.aom_sound.specs.WellTyped.{AllUndo, Back, Caught, Fits, Gone, Good, Holds, IsHoused, Keeps, Leaves, Now, Returns, Stack, WellTyped}
 
 -- the fields of a cell that goes are null, so nothing is owned by it

@@ -20,12 +20,11 @@ use Rattle.aom_sound.proofs.Claimed.{claim-set_field, claim-set_register, claim_
 use Rattle.aom_sound.proofs.Maps.{at-put_at}
 use Rattle.aom_sound.proofs.Straight.{At, Fitted, Law, field_fits, fitted, kind_fits, no_word, relabel, settle, stepped, top, well}
 use Rattle.aom_sound.specs.Claims.{Layer, declared, forms, items_of, objects, tasks_of}
+use Rattle.aom_sound.specs.Effects.{applied, jumps_if, jumps_unless, round}
 use Rattle.aom_sound.specs.Moves.{does}
-use Rattle.aom_sound.specs.Objects.{jumped}
 use Rattle.aom_sound.specs.Places.{Object, Place, held}
 use Rattle.aom_sound.specs.State.{Choice, Frame, Run, State, counter, field_place, home_holder, next, set_counter, to_place, word}
 use Rattle.aom_sound.specs.WellTyped.{Fits, IsApart, IsHoused, Returns, Stack, WellTyped, WordFits}
-use Rattle.aom_sound.specs.Words.{branched, looped}
 
 pub words_kept : (words : List (Option ℤ)) (sh : Shape) (a : ℕ) (k : Kind) → ((i : ℕ) → WordFits (at None words i) (register sh i)) → WordFits (at None words a) k → (i : ℕ) → WordFits (at None words i) (register (set_register sh a k) i)
 words_kept words sh a k h w i = subst (λ x. WordFits (at None words i) x) (sym (at-put_at Unset sh.registers a i k)) (go (a == i) refl)
@@ -60,7 +59,9 @@ module _ (p : Image) (t : Typing) (c : Choice) (s : State) (fr : Frame) (sh : Sh
       learned fr' k eh em eg ew new w = relabel p t s.cells fr fr' sh (set_register sh a k) ls (top ls a) k g eh em eg new (λ r. claim-set_register p (declared p s.cells) fr sh ls a k r)
           (λ i. subst (λ ws. WordFits (at None ws i) (register (set_register sh a k) i)) (sym ew) (words_kept fr.words sh a k at_hand.good.stack.1.words (subst (λ x. WordFits x k) (sym none) w) i))
 
-      go : (k : Kind) (o : Option Object) → register sh a ≡ k → held s.cells (top ls a) ≡ o → AllLead t fr.method (flow_jump_null p fr.method fr.place sh k a to) → Fits p (held s.cells) (held s.cells (top ls a)) (register sh a) → WellTyped p t (jumped p c fr (tasks_of ls) s o to)
+      go :
+          (k : Kind) (o : Option Object) → register sh a ≡ k → held s.cells (top ls a) ≡ o → AllLead t fr.method (flow_jump_null p fr.method fr.place sh k a to) →
+          Fits p (held s.cells) (held s.cells (top ls a)) (register sh a) → WellTyped p t (applied p fr (tasks_of ls) s (jumps_unless fr o to))
       go Unset o ek eo leads f = let e : is_object_or_null Unset ≡ true = ap is_object_or_null (sym ek) ∙ n.0 in cc
       go Word o ek eo leads f = let e : is_object_or_null Word ≡ true = ap is_object_or_null (sym ek) ∙ n.0 in cc
       go Null None ek eo leads f = well p t c s fr sh ls at_hand _ (to_place fr to) sh refl at_hand.items at_hand.undos (settle p t s.cells (to_place fr to) sh ls (placed (to_place fr to) refl refl refl refl) leads.0)
@@ -74,7 +75,7 @@ module _ (p : Image) (t : Typing) (c : Choice) (s : State) (fr : Frame) (sh : Sh
   law_jump to n leads = (tt, well p t c s fr sh ls at_hand (does p c fr (tasks_of ls) s (Jump to)) (to_place fr to) sh refl at_hand.items at_hand.undos (settle p t s.cells (to_place fr to) sh ls (placed (to_place fr to) refl refl refl refl) leads.0))
 
   -- both flows know what is known here
-  pub goes_either : (to : ℕ) → AllLead t fr.method (flow_compare fr.place sh to) → (b : Bool) → WellTyped p t (branched fr (tasks_of ls) s b to)
+  pub goes_either : (to : ℕ) → AllLead t fr.method (flow_compare fr.place sh to) → (b : Bool) → WellTyped p t (applied p fr (tasks_of ls) s (jumps_if fr b to))
   goes_either to leads true = well p t c s fr sh ls at_hand _ (to_place fr to) sh refl at_hand.items at_hand.undos (settle p t s.cells (to_place fr to) sh ls (placed (to_place fr to) refl refl refl refl) leads.1.0)
   goes_either to leads false = well p t c s fr sh ls at_hand _ (next fr) sh refl at_hand.items at_hand.undos (settle p t s.cells (next fr) sh ls (stepped p t s.cells fr sh ls g) leads.0)
 
@@ -117,7 +118,9 @@ module _ (p : Image) (t : Typing) (c : Choice) (s : State) (fr : Frame) (sh : Sh
           (λ r. claim-set_field p (declared p s.cells) fr fr.home sh ls f y (filled x y) r refl some refl)
           (λ i. subst (λ ws. WordFits (at None ws i) (register sh i)) (sym ew) (at_hand.good.stack.1.words i))) leads)
 
-      go : (y : Filling) (o : Option Object) → held s.cells q ≡ o → AllLead t fr.method (flow_jump_empty p fr.method fr.place sh y f to) → Fits p (held s.cells) (held s.cells q) (filled x y) → WellTyped p t (jumped p c fr (tasks_of ls) s o to)
+      go :
+          (y : Filling) (o : Option Object) → held s.cells q ≡ o → AllLead t fr.method (flow_jump_empty p fr.method fr.place sh y f to) → Fits p (held s.cells) (held s.cells q) (filled x y) →
+          WellTyped p t (applied p fr (tasks_of ls) s (jumps_unless fr o to))
       go Empty None e leads fit = stays (to_place fr to) refl refl refl refl at_hand.items leads.0
       go Empty (Some o) e leads fit = absurd (not_empty x o (subst (λ z. Fits p (held s.cells) z (filled x Empty)) e fit))
       go Full None e leads fit = absurd (not_full x some (subst (λ z. Fits p (held s.cells) z (filled x Full)) e fit))
@@ -134,6 +137,6 @@ module _ (p : Image) (t : Typing) (c : Choice) (s : State) (fr : Frame) (sh : Sh
   pub law_next : (depth to : ℕ) → Law p t c s fr sh ls at_hand (Next depth to)
   law_next depth to n leads = (tt, go (counter fr depth - 1))
     where
-      go : (left : ℕ) → WellTyped p t (looped fr (tasks_of ls) s left depth to)
+      go : (left : ℕ) → WellTyped p t (applied p fr (tasks_of ls) s (round left depth to))
       go zero = let fr' = next (set_counter fr depth 0) in well p t c s fr sh ls at_hand _ fr' sh refl at_hand.items at_hand.undos (settle p t s.cells fr' sh ls (placed fr' refl refl refl refl) leads.1.0)
       go (suc left) = let fr' = to_place (set_counter fr depth (suc left)) to in well p t c s fr sh ls at_hand _ fr' sh refl at_hand.items at_hand.undos (settle p t s.cells fr' sh ls (placed fr' refl refl refl refl) leads.0)

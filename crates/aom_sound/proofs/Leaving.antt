@@ -17,11 +17,12 @@ use Rattle.aom_sound.proofs.Straight.{At, Fitted, Law, claim_register, fits_unow
 use Rattle.aom_sound.proofs.Words.{has_word}
 use Rattle.aom_sound.specs.Calls.{none_owns_but}
 use Rattle.aom_sound.specs.Claims.{Dispatching, Dying, Form, Layer, Mark, Method, Unwinding, claim, declared, entry_claim, entry_form, forms, home_claim, items_of, objects, root_claim, tasks_of}
-use Rattle.aom_sound.specs.Cleanup.{above_trap_is_free, has_trap, is_negative, leave_needs, left, to_trap}
+use Rattle.aom_sound.specs.Cleanup.{above_trap_is_free, has_trap, is_negative, leave_needs, to_trap}
 use Rattle.aom_sound.specs.Places.{Cell, Elsewhere, Entry, Field, Going, Object, Place, Register, Root, held}
 use Rattle.aom_sound.specs.State.{AtRoot, Choice, Dispatch, Frame, Home, Inside, Main_left, Of_main, Of_root, Run, State, Static, Unwind, next}
 use Rattle.aom_sound.specs.WellTyped.{AllUndo, EndsDispatch, Fits, IsApart, IsHoused, Leaves, Returns, Stack, WellTyped, past_going}
-use Rattle.aom_sound.specs.Words.{go_on, read}
+use Rattle.aom_sound.specs.Effects.{Leaves, Same, applied, updates}
+use Rattle.aom_sound.specs.Words.{read}
 
 -- the entries of the methods over the innermost trap, the last first
 abbrev pub entries_over : List Layer → List Pushed
@@ -158,10 +159,10 @@ pub trap_is_there : (p : Image) (t : Typing) (cs : List Cell) (fr : Frame) (sh :
 trap_is_there p t cs fr sh ls g may n = (leave_is_met p t cs fr fr sh ls g may n).0
 
 -- a leave from such a state is well typed
-pub leave_keeps : (p : Image) (t : Typing) (s : State) (code : ℤ) (fr top_frame : Frame) (sh : Shape) (ls : List Layer) → s.tasks ≡ Run top_frame ∷ tasks_of ls → forms s.items ≡ objects sh.entries (items_of ls) → AllUndo p s.items → Fitted p t s.cells fr sh ls → leaves p fr.method ≡ true → none_owns sh.registers ≡ true → WellTyped p t (left code s)
-leave_keeps p t s code fr top_frame sh ls tasks items undos g may n = record {
+pub leave_keeps : (p : Image) (t : Typing) (s : State) (code : ℤ) (fr : Frame) (sh : Shape) (ls : List Layer) → forms s.items ≡ objects sh.entries (items_of ls) → AllUndo p s.items → Fitted p t s.cells fr sh ls → leaves p fr.method ≡ true → none_owns sh.registers ≡ true → WellTyped p t (record s { tasks = Unwind code ∷ to_trap (tasks_of ls) })
+leave_keeps p t s code fr sh ls items undos g may n = record {
   layers = Unwinding code (sh.entries ++ entries_over ls) ∷ from_trap ls;
-  tasks = ap (λ ts. Unwind code ∷ to_trap ts) tasks ∙ ap (λ ts. Unwind code ∷ ts) (tasks_from_trap ls);
+  tasks = ap (λ ts. Unwind code ∷ ts) (tasks_from_trap ls);
   items = items ∙ ap (λ i. objects sh.entries i) (items_from_trap ls) ∙ sym (objects_append sh.entries (entries_over ls) (items_of (from_trap ls)));
   undos = undos;
   good = record {
@@ -177,8 +178,8 @@ module _ (p : Image) (t : Typing) (c : Choice) (s : State) (fr : Frame) (sh : Sh
   met : leaves p fr.method ≡ true → none_owns sh.registers ≡ true → AllTrue (leave_needs s.cells (Run fr ∷ tasks_of ls))
   met may n = leave_is_met p t s.cells fr fr sh ls (fitted p t s.cells fr sh ls at_hand.good) may n
 
-  leaves_here : (code : ℤ) → leaves p fr.method ≡ true → none_owns sh.registers ≡ true → WellTyped p t (left code s)
-  leaves_here code may n = leave_keeps p t s code fr fr sh ls at_hand.tasks at_hand.items at_hand.undos (fitted p t s.cells fr sh ls at_hand.good) may n
+  leaves_here : (code : ℤ) → leaves p fr.method ≡ true → none_owns sh.registers ≡ true → WellTyped p t (applied p fr (tasks_of ls) s (Leaves code Same))
+  leaves_here code may n = leave_keeps p t s code fr sh ls at_hand.items at_hand.undos (fitted p t s.cells fr sh ls at_hand.good) may n
 
   pub law_leave : (a : ℕ) → Law p t c s fr sh ls at_hand (Leave a)
   law_leave a n leads = ((has_word p t c s fr sh ls at_hand a n.0, met n.1.0 n.1.1.0), leaves_here (read fr (tasks_of ls) s a) n.1.0 n.1.1.0)
@@ -194,6 +195,6 @@ module _ (p : Image) (t : Typing) (c : Choice) (s : State) (fr : Frame) (sh : Sh
       needed true = met n.1.0 n.1.1.0
       needed false = tt
 
-      goes : (b : Bool) → WellTyped p t (cond b (left w s) (go_on fr (tasks_of ls) s s.cells fr))
+      goes : (b : Bool) → WellTyped p t (applied p fr (tasks_of ls) s (cond b (Leaves w Same) (updates fr Same)))
       goes true = leaves_here w n.1.0 n.1.1.0
-      goes false = well p t c s fr sh ls at_hand (go_on fr (tasks_of ls) s s.cells fr) (next fr) sh refl at_hand.items at_hand.undos (settle p t s.cells (next fr) sh ls (stepped p t s.cells fr sh ls (fitted p t s.cells fr sh ls at_hand.good)) leads.0)
+      goes false = well p t c s fr sh ls at_hand (applied p fr (tasks_of ls) s (updates fr Same)) (next fr) sh refl at_hand.items at_hand.undos (settle p t s.cells (next fr) sh ls (stepped p t s.cells fr sh ls (fitted p t s.cells fr sh ls at_hand.good)) leads.0)

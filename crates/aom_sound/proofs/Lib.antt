@@ -3,7 +3,6 @@ pub mod Things
 pub mod Items
 pub mod Claimed
 pub mod Guarded
-pub mod Agreement
 pub mod Moving
 pub mod Preserving
 pub mod Resting
@@ -39,6 +38,7 @@ pub mod InRange
 pub mod Clearing
 pub mod Caught
 pub mod Course
+pub mod View
 pub mod Standing
 pub mod Trapping
 pub mod Owning

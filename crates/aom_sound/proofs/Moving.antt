@@ -10,12 +10,11 @@ use Rattle.aom_image.specs.declared.instr.Instr.TheVariants.{Call, Delete, Jump,
 use Rattle.aom_classes.specs.Jumps.{jump_of}
 use Rattle.aom_classes.specs.Loops.{loop_in}
 use Rattle.aom_shape.specs.Needs.{AllTrue}
-use Rattle.aom_sound.proofs.Agreement.{agrees}
 use Rattle.aom_sound.proofs.Guarded.{goes_same, guarded_goes, guarded_met}
 use Rattle.aom_sound.specs.Calls.{below_top}
 use Rattle.aom_sound.specs.Cleanup.{arrived, destroyed, has_trap, is_negative, leave_needs, no_memory, top_is_whole, top_place, tops_entry, tops_object, tops_operation, unwound}
 use Rattle.aom_sound.specs.Destruction.{gone, owns_nothing}
-use Rattle.aom_sound.specs.Effects.{Effect, Leaves, Made, Pushed, Pushed_operation, Same, Update, deals, deletes, effect, jumps_if, jumps_unless, round, sets}
+use Rattle.aom_sound.specs.Effects.{Effect, Leaves, Pushed, Pushed_operation, Same, Update, deals, deletes, effect, jumps_if, jumps_unless, makes_unless, round, sets}
 use Rattle.aom_sound.specs.Moves.{counted, does, needs, step_instr, step_task}
 use Rattle.aom_sound.specs.Places.{Cell, Entry, Going, Object, held, without}
 use Rattle.aom_sound.specs.State.{A_mark, An_object, An_operation, Choice, Destroy, Dispatched, Frame, Goes, IsStuck, Item, NullOrDead, Orphan, Run, State, Task, Trapped, Unwind, counter, field_place, resumed, word}
@@ -40,24 +39,24 @@ module _ (p : Image) (c : Choice) (fr : Frame) (ts : List Task) (s : State) wher
   abbrev May : Instr → Effect → Type 0
   May i e = Fits p c fr ts s i e
 
-  branches : (i : Instr) (b : Bool) (to : ℕ) → jump_of i ≡ Some to → IsStraight i → May i (jumps_if p c fr ts s b to)
+  branches : (i : Instr) (b : Bool) (to : ℕ) → jump_of i ≡ Some to → IsStraight i → May i (jumps_if fr b to)
   branches i true to jump straight = jump
   branches i false to jump straight = (straight, tt)
 
-  jumps : (i : Instr) (o : Option Object) (to : ℕ) → jump_of i ≡ Some to → IsStraight i → May i (jumps_unless p c fr ts s o to)
+  jumps : (i : Instr) (o : Option Object) (to : ℕ) → jump_of i ≡ Some to → IsStraight i → May i (jumps_unless fr o to)
   jumps i None to jump straight = jump
   jumps i (Some o) to jump straight = (straight, tt)
 
-  loops : (n depth to : ℕ) → counter fr depth - 1 ≡ n → May (Next depth to) (round p c fr ts s n depth to)
+  loops : (n depth to : ℕ) → counter fr depth - 1 ≡ n → May (Next depth to) (round n depth to)
   loops zero depth to e = inr (to, refl, refl)
   loops (suc n) depth to e = (refl, n, refl, e)
 
-  making : (refused : Bool) (a x : ℕ) → May (New a x) (sets p c fr ts s a None (cond refused Same (Made c.name x a)))
+  making : (refused : Bool) (a x : ℕ) → May (New a x) (sets fr a None (makes_unless refused c.name x a))
   unfolding loop_in
   making true a x = (refl, tt)
   making false a x = (refl, refl)
 
-  deleting : (o : Option Object) (a : ℕ) → held s.cells (here fr ts s a) ≡ o → May (Delete a) (deletes p c fr ts s o a)
+  deleting : (o : Option Object) (a : ℕ) → held s.cells (here fr ts s a) ≡ o → May (Delete a) (deletes fr o a)
   unfolding loop_in
   deleting None a e = (refl, tt)
   deleting (Some o) a e = (refl, e)
@@ -71,7 +70,7 @@ module _ (p : Image) (c : Choice) (fr : Frame) (ts : List Task) (s : State) wher
   may_leave true cs n e = n.0
   may_leave false cs n e = cc
 
-  dealing : (items : List Item) (o : Option Object) → s.items ≡ items → held s.cells (top_place items) ≡ o → tops_entry items ≡ true → top_is_whole s.cells items ≡ true → May PopDelete (deals p c fr ts s items o)
+  dealing : (items : List Item) (o : Option Object) → s.items ≡ items → held s.cells (top_place items) ≡ o → tops_entry items ≡ true → top_is_whole s.cells items ≡ true → May PopDelete (deals fr items o)
   dealing (An_object ∷ items) None at e there whole = absurd (true≢false (sym whole ∙ ap is_some e))
   dealing (An_object ∷ items) (Some o) at e there whole = (refl, at ∙ ap (λ l. An_object ∷ l) (sym (ap below_top at)), ap (λ l. held s.cells (top_place l)) at ∙ e)
   dealing (An_operation m w ∷ items) o at e there whole = (refl, at ∙ ap (λ l. An_operation m w ∷ l) (sym (ap below_top at)))
@@ -117,12 +116,16 @@ vanishes p c ts s u at e = go (held s.cells (Going (length ts))) refl e
         Vanishes ts o at there (guarded_met needed after u e).0 (sym (guarded_goes needed after u e))
 
 -- a code arrives
-arrives : (p : Image) (c : Choice) (code : ℤ) (ts : List Task) (items : List Item) (s u : State) → s.tasks ≡ Unwind code ∷ ts → s.items ≡ A_mark ∷ items → arrived p code ts items (counted p s) ≡ Goes u → Move p c s u
+arrives :
+    (p : Image) (c : Choice) (code : ℤ) (ts : List Task) (items : List Item) (s u : State) → s.tasks ≡ Unwind code ∷ ts → s.items ≡ A_mark ∷ items → arrived p code ts items (counted p s) ≡ Goes u →
+    Move p c s u
 arrives p c code (Trapped ∷ Run fr ∷ ts) items s u at top e = Arrives code fr ts items at top (sym (goes_same _ u e))
 arrives p c code (Trapped ∷ Dispatched d ∷ ts) items s u at top e = Comes_out code d ts items at top (sym (goes_same _ u e))
 arrives p c code _ items s u at top e = cc
 
-unwinds : (p : Image) (c : Choice) (code : ℤ) (ts : List Task) (items : List Item) (s u : State) → s.tasks ≡ Unwind code ∷ ts → s.items ≡ items → unwound p code ts (counted p s) items ≡ Goes u → Move p c s u
+unwinds :
+    (p : Image) (c : Choice) (code : ℤ) (ts : List Task) (items : List Item) (s u : State) → s.tasks ≡ Unwind code ∷ ts → s.items ≡ items → unwound p code ts (counted p s) items ≡ Goes u →
+    Move p c s u
 unwinds p c code ts [] s u at top e = cc
 unwinds p c code ts (An_object ∷ items) s u at top e = go (held s.cells (Entry (length items))) refl e
   where
@@ -135,15 +138,12 @@ unwinds p c code ts (A_mark ∷ items) s u at top e = arrives p c code ts items 
 pub steps_are_moves : StepsAreMoves
 steps_are_moves p c s u e = go s.tasks refl e
   where
-    s' : State
-    s' = counted p s
-
     runs : (fr : Frame) (ts : List Task) (o : Option Instr) → s.tasks ≡ Run fr ∷ ts → instr_at p fr.method fr.place ≡ o → step_instr p c fr ts (counted p s) o ≡ Goes u → Move p c s u
     runs fr ts None at there e = cc
     runs fr ts (Some i) at there e =
         let s' = counted p s in
         let met = guarded_met (needs p c fr ts s' i) (does p c fr ts s' i) u e in
-        Acts fr ts i (effect p c fr ts s' i) at there met (fits p c fr ts s' i met) (sym (guarded_goes (needs p c fr ts s' i) (does p c fr ts s' i) u e) ∙ agrees p c fr ts s' at i met)
+        Acts fr ts i (effect p c fr ts s' i) at there met (fits p c fr ts s' i met) (sym (guarded_goes (needs p c fr ts s' i) (does p c fr ts s' i) u e))
 
     go : (ts : List Task) → s.tasks ≡ ts → step_task p c (counted p s) ts ≡ Goes u → Move p c s u
     go [] at e = Rests (subst IsStill (sym at) tt) (sym (goes_same _ u e))

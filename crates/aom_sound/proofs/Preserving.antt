@@ -37,7 +37,9 @@ pub record Kept (p : Image) (c : Choice) (l : TaskLaw) (s : State) : Type 0 wher
   -- it waits below what it begins, and goes on once that is over
   pub waits : (fr : Frame) (ts : List Task) (i : Instr) → Acting p c l s fr ts i → IsStraight i → (words : List (Option ℤ)) → l.Waits (with_words fr words) ts
   pub resumes : (fr : Frame) (ts : List Task) → l.Waits fr ts → (words : List (Option ℤ)) → l.Runs (next (with_words fr words)) ts
-  pub calls : (fr : Frame) (ts : List Task) (target : Target) (m first x : ℕ) → Acting p c l s fr ts (Call target m first x) → l.Runs (entered p fr ts (counted p s) target m first (length s.items)) (Run fr ∷ ts)
+  pub calls :
+      (fr : Frame) (ts : List Task) (target : Target) (m first x : ℕ) → Acting p c l s fr ts (Call target m first x) →
+      l.Runs (entered p fr ts (counted p s) target m first (length s.items)) (Run fr ∷ ts)
   pub traps :
       (fr : Frame) (ts : List Task) (target : Target) (m first x : ℕ) → Acting p c l s fr ts (Trap target m first x) →
       l.Runs (entered p fr ts (counted p s) target m first (length (A_mark ∷ s.items))) (Trapped ∷ Run fr ∷ ts) × l.Stands (Run fr ∷ ts)

@@ -6,7 +6,7 @@ use Rattle.aom_shape.specs.Typing.{Typing}
 use Rattle.aom_sound.proofs.Claimed.{claim_rel, fits_age}
 use Rattle.aom_sound.proofs.Straight.{Fitted}
 use Rattle.aom_sound.specs.Claims.{Dispatching, Dying, Layer, Mark, Method, Unwinding, claim, declared, declared_field}
-use Rattle.aom_sound.specs.Places.{Cell, Elsewhere, Entry, Field, Going, Place, Register, Root, Tidy, held, named, same_place, set_word_field}
+use Rattle.aom_sound.specs.Places.{Cell, Field, Place, Tidy, held, named, same_place, set_word_field}
 use Rattle.aom_sound.specs.State.{AtRoot, Frame, Home, Inside, Static}
 use Rattle.aom_sound.specs.WellTyped.{Back, Fits, IsHoused, Stack}
 use Rattle.aom_sound.specs.Words.{stored}

@@ -18,6 +18,7 @@ use Rattle.aom_sound.proofs.Guarded.{guarded_goes}
 use Rattle.aom_sound.proofs.Moving.{steps_are_moves}
 use Rattle.aom_sound.proofs.Standing.{stand}
 use Rattle.aom_sound.proofs.Steps.{step_keeps}
+use Rattle.aom_sound.proofs.View.{under_dispatch as nothing_under}
 use Rattle.aom_sound.specs.Calls.{below_top, called, received, result_register, returned}
 use Rattle.aom_sound.specs.Claims.{Dispatching, Dying, Form, Layer, Mark, Mark_form, Method, Object_form, Operation_form, Unwinding, forms, items_of, objects, tasks_of}
 use Rattle.aom_sound.specs.Cleanup.{code_told, ended_by, to_trap}
@@ -29,7 +30,7 @@ use Rattle.aom_sound.specs.Places.{Object, named}
 use Rattle.aom_sound.specs.State.{A_mark, An_object, An_operation, Choice, Destroy, Dispatch, Dispatched, Frame, Goes, Item, Run, State, Task, Trapped, Unwind, next, resumed, set_word, word}
 use Rattle.aom_sound.specs.Steps.{Acts, Arrives, Clears, Comes_out, Ends as A_dispatch_ends, Move, Rests, Undoes, Vanishes}
 use Rattle.aom_sound.specs.Traps.{ComesOff, GoesOnAfter, IsPast, IsTrapping, TellsZero, TrapsKeep, WasPast, marks, traps}
-use Rattle.aom_sound.specs.WellTyped.{Good, Keeps, WellTyped}
+use Rattle.aom_sound.specs.WellTyped.{Keeps, WellTyped}
 use Rattle.aom_sound.specs.World.{IsBetween, IsBusy, Reaches, begins, boot_state, moves, waiting, waits}
 use Rattle.aom_sound.specs.declared.line.Line.{Line}
 
@@ -203,14 +204,6 @@ module _ (p : Image) (c : Choice) (fr : Frame) (ts : List Task) (s : State) (at_
   return_there g a (Unwind code ∷ under) at o = inl (o, inl refl)
   return_there g a _ at o = given
 
--- nothing stands under a dispatch
-alone : (p : Image) (t : Typing) (s : State) → WellTyped p t s → (d : Dispatch) (ts : List Task) → s.tasks ≡ Dispatched d ∷ ts → ts ≡ []
-alone p t s w d ts at = go w.layers (sym w.tasks ∙ at) w.good
-  where
-    go : (ls : List Layer) → tasks_of ls ≡ Dispatched d ∷ ts → Good p t s.cells ls → ts ≡ []
-    go (Dispatching x ∷ ls) e good = let same : tasks_of ls ≡ ts = cc in sym same ∙ ap tasks_of good.stack.1
-    go _ e good = cc
-
 -- the last item is another at most
 near : (u : Update) (items : List Item) → Near items (items_after u items)
 near (Pushed a) items = inr (inl (An_object, refl))
@@ -242,7 +235,9 @@ module _ (p : Image) (c : Choice) (s : State) (below : List Task) where
       inr (subst (λ b. GoesOnAfter b (Run after ∷ ts)) same (after, refl, told_frame (result_register i) code fr (called p i)), sym (ap below_top top), inr (code, at ∙ ap (λ l. Unwind code ∷ Trapped ∷ l) same))
   arrives code fr ts items at top (inr o) = inl (with_task below ts _ (under_frame below ts fr o), inr (inr (A_mark, top)))
 
-  comes_out : (code : ℤ) (d : Dispatch) (ts : List Task) (items : List Item) → s.tasks ≡ Unwind code ∷ Trapped ∷ Dispatched d ∷ ts → s.items ≡ A_mark ∷ items → (Dispatched d ∷ ts ≡ below) ⊎ Ends below (Dispatched d ∷ ts) →
+  comes_out :
+      (code : ℤ) (d : Dispatch) (ts : List Task) (items : List Item) → s.tasks ≡ Unwind code ∷ Trapped ∷ Dispatched d ∷ ts → s.items ≡ A_mark ∷ items →
+      (Dispatched d ∷ ts ≡ below) ⊎ Ends below (Dispatched d ∷ ts) →
       Moved p below s (record (counted p s) { tasks = Dispatched (ended_by code d) ∷ ts; items = items })
   comes_out code d ts items at top (inl same) =
       inr (subst (λ b. GoesOnAfter b (Dispatched (ended_by code d) ∷ ts)) same (ended_by code d, refl), sym (ap below_top top), inr (code, at ∙ ap (λ l. Unwind code ∷ Trapped ∷ l) same))
@@ -256,7 +251,7 @@ module _ (p : Image) (c : Choice) (s : State) (below : List Task) where
   moved t u w o (Undoes code ts items m x at top same) = subst (λ v. Moved p below s v) (sym same) (inl (with_task below (Unwind code ∷ ts) _ (subst (λ l. Ends below l) at o), inr (inr (An_operation m x, top))))
   moved t u w o (Arrives code fr ts items at top same) = subst (λ v. Moved p below s v) (sym same) (arrives code fr ts items at top (under_trap below _ (under_leave below _ code (subst (λ l. Ends below l) at o))))
   moved t u w o (Comes_out code d ts items at top same) = subst (λ v. Moved p below s v) (sym same) (comes_out code d ts items at top (under_trap below _ (under_leave below _ code (subst (λ l. Ends below l) at o))))
-  moved t u w o (A_dispatch_ends d ts at same) = absurd (none_below below (subst (λ l. Ends below l) (alone p t s w d ts at) (under_dispatch below ts d (subst (λ l. Ends below l) at o))))
+  moved t u w o (A_dispatch_ends d ts at same) = absurd (none_below below (subst (λ l. Ends below l) (nothing_under p t s d ts w at) (under_dispatch below ts d (subst (λ l. Ends below l) at o))))
 
 -- ---- so the mark of the trap and what lies below it stay
 

@@ -8,10 +8,10 @@ use Rattle.aom_shape.specs.declared.kind.Entry.TheVariants.{Object as Pushed_obj
 use Rattle.aom_shape.specs.declared.kind.Kind.{Kind}
 use Rattle.aom_sound.proofs.Arrival.{arrives}
 use Rattle.aom_sound.proofs.Dealing.{Dealing, deals}
-use Rattle.aom_sound.specs.Claims.{Dispatching, Dying, Layer, Mark, Mark_form, Method, Unwinding, claim, declared, entry_claim, entry_form, forms, items_of, objects, tasks_of}
+use Rattle.aom_sound.specs.Claims.{Dispatching, Layer, Mark, Mark_form, Unwinding, claim, declared, entry_claim, entry_form, forms, items_of, objects, tasks_of}
 use Rattle.aom_sound.specs.Cleanup.{dealt_with, top_is_whole, unwound}
 use Rattle.aom_sound.specs.Laws.{IsWired}
-use Rattle.aom_sound.specs.Places.{Elsewhere, Entry, Field, Going, Place, Register, Root, changed}
+use Rattle.aom_sound.specs.Places.{Entry, Place, changed}
 use Rattle.aom_sound.specs.State.{A_mark, An_object, An_operation, Dispatch, Goes, IsStuck, Item, Main_left, NullOrDead, Of_main, Of_root, State, Unwind}
 use Rattle.aom_sound.specs.WellTyped.{AllUndo, EndsDispatch, Good, Keeps, Leaves, Stack, WellTyped}
 

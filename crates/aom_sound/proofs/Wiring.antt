@@ -11,7 +11,7 @@ use Rattle.aom_image.specs.declared.instr.Instr.TheVariants.{Call, PushOperation
 use Rattle.aom_image.specs.declared.instr.Target.{Target}
 use Rattle.aom_image.specs.declared.limits.Limits.{Limits}
 use Rattle.aom_image.specs.declared.method.Gives.{Gives}
-use Rattle.aom_image.specs.declared.method.Gives.TheVariants.{Left, Maybe as A_maybe, Nothing, Own as An_own, Word as A_word}
+use Rattle.aom_image.specs.declared.method.Gives.TheVariants.{Left, Nothing}
 use Rattle.aom_image.specs.declared.method.Method.{Method as Method_declared}
 use Rattle.aom_image.specs.declared.method.Role.{Role}
 use Rattle.aom_image.specs.declared.method.Role.TheVariants.{Construct, Destruct, Do, Main, Undo}
@@ -27,7 +27,7 @@ use Rattle.aom_shape.specs.Things.{Member, field_thing}
 use Rattle.aom_sound.specs.Laws.{IsCalled, IsTrapped, IsWired}
 use Rattle.aom_sound.specs.WellTyped.{IsUndo, LeavesNone}
 use Rattle.aom_image.specs.declared.method.Argument.{Argument}
-use Rattle.aom_image.specs.declared.method.Argument.TheVariants.{Own as Takes_own, Word as Takes_word}
+use Rattle.aom_image.specs.declared.method.Argument.TheVariants.{Word as Takes_word}
 use Rattle.std.specs.List.{list_all}
 
 nothing_given : (g : Gives) → gives_nothing g ≡ true → g ≡ Nothing

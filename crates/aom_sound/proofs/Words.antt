@@ -10,7 +10,7 @@ use Rattle.aom_shape.specs.Things.{holder_of, word_count}
 use Rattle.aom_shape.specs.Typing.{AllLead, Typing}
 use Rattle.aom_shape.specs.Words.{flow_compare, flow_word, rule_combine, rule_compare}
 use Rattle.aom_shape.specs.declared.kind.Kind.{Kind}
-use Rattle.aom_shape.specs.declared.kind.Kind.TheVariants.{Maybe, Null, Own, Unset, Word}
+use Rattle.aom_shape.specs.declared.kind.Kind.TheVariants.{Word}
 use Rattle.aom_sound.proofs.Jumps.{goes_either}
 use Rattle.aom_sound.proofs.Storing.{stored_fitted}
 use Rattle.aom_sound.proofs.Straight.{At, Law, fitted, free_register, settle, stepped, well, write}
@@ -19,7 +19,8 @@ use Rattle.aom_sound.specs.Moves.{does}
 use Rattle.aom_sound.specs.Places.{Register, held}
 use Rattle.aom_sound.specs.State.{Choice, Frame, State, home_holder, next, set_word, word}
 use Rattle.aom_sound.specs.WellTyped.{WellTyped, WordFits}
-use Rattle.aom_sound.specs.Words.{does_binary, does_compare, does_const, loaded, needs_binary, needs_compare, read, stored}
+use Rattle.aom_sound.specs.Effects.{applied, computes, jumps_if, writes}
+use Rattle.aom_sound.specs.Words.{loaded, needs_binary, needs_compare, read, stored}
 
 is_read : (w : Option ℤ) (k : Kind) → is_word k ≡ true → WordFits w k → is_some w ≡ true
 is_read None Word e f = absurd f
@@ -35,12 +36,12 @@ module _ (p : Image) (t : Typing) (c : Choice) (s : State) (fr : Frame) (sh : Sh
   unowned a e = ap is_none (free_register p t c s fr sh ls at_hand a e)
 
   -- a word is written
-  pub writes_word : (a : ℕ) (w : ℤ) → is_unowning (register sh a) ≡ true → AllLead t fr.method (flow_word fr.place sh a) → WellTyped p t (does_const fr (tasks_of ls) s a w)
+  pub writes_word : (a : ℕ) (w : ℤ) → is_unowning (register sh a) ≡ true → AllLead t fr.method (flow_word fr.place sh a) → WellTyped p t (applied p fr (tasks_of ls) s (writes fr a w))
   writes_word a w u leads =
       let fr' = set_word fr a (Some w) in
       let sh' = set_register sh a Word in
       let h = write p t s.cells fr sh ls a (Some w) Word (fitted p t s.cells fr sh ls at_hand.good) u (λ h. tt) tt in
-      well p t c s fr sh ls at_hand (does_const fr (tasks_of ls) s a w) (next fr') sh' refl at_hand.items at_hand.undos (settle p t s.cells (next fr') sh' ls (stepped p t s.cells fr' sh' ls h) leads.0)
+      well p t c s fr sh ls at_hand (applied p fr (tasks_of ls) s (writes fr a w)) (next fr') sh' refl at_hand.items at_hand.undos (settle p t s.cells (next fr') sh' ls (stepped p t s.cells fr' sh' ls h) leads.0)
 
   pub law_const : (a : ℕ) (w : ℤ) → Law p t c s fr sh ls at_hand (Const a w)
   law_const a w n leads = ((unowned a n.0, tt), writes_word a w n.0 leads)
@@ -48,10 +49,14 @@ module _ (p : Image) (t : Typing) (c : Choice) (s : State) (fr : Frame) (sh : Sh
   pub law_copy : (a b : ℕ) → Law p t c s fr sh ls at_hand (Copy a b)
   law_copy a b n leads = ((has_word b n.0, (unowned a n.1.0, tt)), writes_word a (read fr (tasks_of ls) s b) n.1.0 leads)
 
-  pub law_binary : (op : ℤ → ℤ → ℤ) (a b x : ℕ) → AllTrue (rule_combine fr.place sh a b x) → AllLead t fr.method (flow_word fr.place sh a) → AllTrue (needs_binary fr (tasks_of ls) s a b x) × WellTyped p t (does_binary fr (tasks_of ls) s op a b x)
+  pub law_binary :
+      (op : ℤ → ℤ → ℤ) (a b x : ℕ) → AllTrue (rule_combine fr.place sh a b x) → AllLead t fr.method (flow_word fr.place sh a) →
+      AllTrue (needs_binary fr (tasks_of ls) s a b x) × WellTyped p t (applied p fr (tasks_of ls) s (computes p c fr (tasks_of ls) s op a b x))
   law_binary op a b x n leads = ((has_word b n.0, (has_word x n.1.0, (unowned a n.1.1.0, tt))), writes_word a (op (read fr (tasks_of ls) s b) (read fr (tasks_of ls) s x)) n.1.1.0 leads)
 
-  pub law_compare : (test : ℤ → ℤ → Bool) (a b to : ℕ) → AllTrue (rule_compare fr.place sh a b) → AllLead t fr.method (flow_compare fr.place sh to) → AllTrue (needs_compare fr (tasks_of ls) s a b) × WellTyped p t (does_compare fr (tasks_of ls) s test a b to)
+  pub law_compare :
+      (test : ℤ → ℤ → Bool) (a b to : ℕ) → AllTrue (rule_compare fr.place sh a b) → AllLead t fr.method (flow_compare fr.place sh to) →
+      AllTrue (needs_compare fr (tasks_of ls) s a b) × WellTyped p t (applied p fr (tasks_of ls) s (jumps_if fr (test (read fr (tasks_of ls) s a) (read fr (tasks_of ls) s b)) to))
   law_compare test a b to n leads = ((has_word a n.0, (has_word b n.1.0, tt)), goes_either p t c s fr sh ls at_hand to leads (test (read fr (tasks_of ls) s a) (read fr (tasks_of ls) s b)))
 
   pub law_print : (a : ℕ) → Law p t c s fr sh ls at_hand (Print a)

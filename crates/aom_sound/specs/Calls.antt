@@ -17,7 +17,7 @@ use Rattle.aom_shape.specs.Things.{Holder, Nobody, Program, Member, field_thing,
 use Rattle.aom_sound.specs.Places.{Object, Place, Register, Entry, Field, Going, Elsewhere, Cell, held, moved}
 use Rattle.aom_sound.specs.State.{Home, Static, AtRoot, Inside, Frame, Task, Run, Trapped, Destroy, Unwind, Dispatched, Item, An_object, An_operation, A_mark, State, Need, Unbalanced, PopUnder, Orphan, NullOrDead, WrongKind, word, set_word, next, field_place, home_holder, frame_of}
 use Rattle.aom_sound.specs.Destruction.{owns_nothing}
-use Rattle.aom_sound.specs.Words.{here, go_on, needs_word}
+use Rattle.aom_sound.specs.Words.{here, needs_word}
 use Rattle.aom_sound.specs.Objects.{is_thing}
 
 -- a method of that class may work on what this one works on, and a static one works on nothing
@@ -158,18 +158,6 @@ module _ (p : Image) (fr : Frame) (ts : List Task) (s : State) where
   abbrev pub entered : Target → ℕ → ℕ → ℕ → Frame
   entered target m first height = record (frame_of m (target_home target (method_class p m)) height) { words = passed_words (arguments_of p m) first }
 
-  abbrev pub does_call : Target → ℕ → ℕ → State
-  does_call target m first = record s { cells = given_cells over_caller m first; tasks = Run (entered target m first (length s.items)) ∷ over_caller }
-
-  -- the trap's mark lies on the cleanup stack
-  abbrev pub does_trap : Target → ℕ → ℕ → State
-  does_trap target m first =
-      record s {
-        cells = given_cells over_trap m first;
-        tasks = Run (entered target m first (length (A_mark ∷ s.items))) ∷ over_trap;
-        items = A_mark ∷ s.items;
-      }
-
 -- the register of a call's result, and what the called method gives
 abbrev pub result_register : Option Instr → ℕ
 result_register (Some (Call target m first c)) = c
@@ -291,9 +279,3 @@ module _ (p : Image) (fr : Frame) (ts : List Task) (s : State) where
   returned g a (Destroy ∷ below) = record s { tasks = Destroy ∷ below }
   returned g a (Unwind code ∷ below) = record s { tasks = Unwind code ∷ below }
   returned g a _ = s
-
-  abbrev pub does_return : ℕ → State
-  does_return a = returned (gives_of p fr.method) a ts
-
-  abbrev pub does_stop : State
-  does_stop = record (go_on fr ts s s.cells fr) { rest = record s.rest { stopped = true } }

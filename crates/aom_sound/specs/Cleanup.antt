@@ -4,12 +4,11 @@ use Rattle.aom_image.specs.Image.{Image}
 use Rattle.aom_image.specs.Views.{instr_at}
 use Rattle.aom_image.specs.declared.method.Gives.{Gives}
 use Rattle.aom_image.specs.declared.method.Gives.TheVariants.{Nothing, Word as A_word, Own as An_own, Maybe as A_maybe, Left}
-use Rattle.aom_image.specs.declared.method.Thing.TheVariants.{Object as An_object_of}
-use Rattle.aom_sound.specs.Places.{Place, Entry, Going, Object, Cell, held, moved, with_new}
+use Rattle.aom_sound.specs.Places.{Place, Entry, Going, Object, Cell, held, moved}
 use Rattle.aom_sound.specs.State.{Static, Frame, Dispatch, Of_main, Main_left, Of_root, Task, Run, Trapped, Destroy, Unwind, Dispatched, Item, An_object, An_operation, A_mark, State, Choice, Need, PopUnder, PushNoTrap, LeaveNoTrap, Unbalanced, Orphan, NullOrDead, WrongKind, Outcome, Goes, IsStuck, word, set_word, next, frame_of}
 use Rattle.aom_sound.specs.Destruction.{begun}
-use Rattle.aom_sound.specs.Words.{here, go_on, needs_word, read}
-use Rattle.aom_sound.specs.Objects.{no_words, is_no_message}
+use Rattle.aom_sound.specs.Words.{here, needs_word, read}
+use Rattle.aom_sound.specs.Objects.{is_no_message}
 use Rattle.aom_sound.specs.Calls.{result_register, called, none_owns_but, below_top}
 use Rattle.aom_sound.specs.declared.line.Line.{Line}
 use Rattle.aom_sound.specs.declared.line.Line.TheVariants.{Leave}
@@ -42,10 +41,6 @@ to_trap (Trapped ∷ ts) = Trapped ∷ ts
 to_trap (Destroy ∷ ts) = Destroy ∷ ts
 to_trap (Unwind code ∷ ts) = Unwind code ∷ ts
 to_trap (Dispatched d ∷ ts) = Dispatched d ∷ ts
-
--- a leave: what was pushed since the trap is unwound before the code arrives
-abbrev pub left : ℤ → State → State
-left code s = record s { tasks = Unwind code ∷ to_trap s.tasks }
 
 abbrev pub leave_needs : List Cell → List Task → List Need
 leave_needs cs ts = (has_trap ts, LeaveNoTrap) ∷ (above_trap_is_free cs ts, Orphan) ∷ []
@@ -158,6 +153,10 @@ arrival code (A_mark ∷ items) = Leave code ∷ []
 
 -- ---- instructions
 
+-- once the object of a register is on the cleanup stack
+abbrev pub pushed_cells : Frame → List Task → State → ℕ → List Cell
+pushed_cells fr ts s a = moved (here fr ts s a) (Entry (length s.items)) s.cells
+
 module _ (p : Image) (c : Choice) (fr : Frame) (ts : List Task) (s : State) where
   -- what a refused request asks: that it may leave
   abbrev pub if_refused : List Cell → List Need
@@ -166,39 +165,16 @@ module _ (p : Image) (c : Choice) (fr : Frame) (ts : List Task) (s : State) wher
   abbrev pub needs_new_or_leave : ℕ → List Need
   needs_new_or_leave a = (is_none (held s.cells (here fr ts s a)), Orphan) ∷ if_refused s.cells
 
-  abbrev pub does_new_or_leave : ℕ → ℕ → State
-  does_new_or_leave a x =
-      cond c.refused (left no_memory s) (go_on fr ts s (with_new c.name (An_object_of x) (no_words p x) (here fr ts s a) s.cells) (set_word fr a None))
-
-  -- the object is on the cleanup stack
-  abbrev pub pushed : ℕ → State
-  pushed a =
-      record s {
-        cells = moved (here fr ts s a) (Entry (length s.items)) s.cells;
-        tasks = Run (next (set_word fr a None)) ∷ ts;
-        items = An_object ∷ s.items;
-      }
-
   abbrev pub needs_push : ℕ → List Need
   needs_push a =
       (is_none (word fr a), WrongKind)
       ∷ (is_some (held s.cells (here fr ts s a)), NullOrDead)
       ∷ (is_no_message (held s.cells (here fr ts s a)), WrongKind)
       ∷ (has_trap ts, PushNoTrap)
-      ∷ if_refused (pushed a).cells
-
-  -- the push of a refused request leaves, with the object on the cleanup stack
-  abbrev pub does_push : ℕ → State
-  does_push a = cond c.refused (left no_memory (pushed a)) (pushed a)
-
-  abbrev pub operation_pushed : ℕ → ℕ → State
-  operation_pushed a m = record (go_on fr ts s s.cells fr) { items = An_operation m (read fr ts s a) ∷ s.items }
+      ∷ if_refused (pushed_cells fr ts s a)
 
   abbrev pub needs_push_operation : ℕ → List Need
   needs_push_operation a = needs_word fr ts s a ∷ (has_trap ts, PushNoTrap) ∷ if_refused s.cells
-
-  abbrev pub does_push_operation : ℕ → ℕ → State
-  does_push_operation a m = cond c.refused (left no_memory (operation_pushed a m)) (operation_pushed a m)
 
   abbrev pub needs_pop : ℕ → List Need
   needs_pop a =
@@ -207,33 +183,17 @@ module _ (p : Image) (c : Choice) (fr : Frame) (ts : List Task) (s : State) wher
       ∷ (tops_object s.items, WrongKind)
       ∷ []
 
-  abbrev pub does_pop : ℕ → State
-  does_pop a = record (go_on fr ts s (moved (top_place s.items) (here fr ts s a) s.cells) (set_word fr a None)) { items = below_top s.items }
-
   abbrev pub needs_pop_operation : List Need
   needs_pop_operation = (tops_entry s.items, PopUnder) ∷ (tops_operation s.items, WrongKind) ∷ []
-
-  abbrev pub does_pop_operation : State
-  does_pop_operation = record (go_on fr ts s s.cells fr) { items = below_top s.items }
 
   abbrev pub needs_pop_delete : List Need
   needs_pop_delete = (tops_entry s.items, PopUnder) ∷ (top_is_whole s.cells s.items, NullOrDead) ∷ []
 
-  -- over the method, which goes on once the destruction or the operation is over
-  abbrev pub does_pop_delete : State
-  does_pop_delete = dealt_with p s.items (Run fr ∷ ts) s
-
   abbrev pub needs_leave : ℕ → List Need
   needs_leave a = needs_word fr ts s a ∷ leave_needs s.cells (Run fr ∷ ts)
-
-  abbrev pub does_leave : ℕ → State
-  does_leave a = left (read fr ts s a) s
 
   abbrev pub is_negative : ℤ → Bool
   is_negative w = int_lt w (pos 0)
 
   abbrev pub needs_leave_if : ℕ → List Need
   needs_leave_if a = needs_word fr ts s a ∷ cond (is_negative (read fr ts s a)) (leave_needs s.cells (Run fr ∷ ts)) []
-
-  abbrev pub does_leave_if : ℕ → State
-  does_leave_if a = cond (is_negative (read fr ts s a)) (left (read fr ts s a) s) (go_on fr ts s s.cells fr)

@@ -5,8 +5,8 @@ pub mod Words
 pub mod Objects
 pub mod Calls
 pub mod Cleanup
-pub mod Moves
 pub mod Effects
+pub mod Moves
 pub mod Tasks
 pub mod Claims
 pub mod WellTyped
