@@ -1,32 +1,47 @@
--- What an instruction does it does under other names too, instruction by instruction.
+-- What an instruction does it does under other names too: its effect is the same under these names, and so is what each effect does.
 use Rattle.std.proofs.Common.{Bool, List, None, Option, Some, [], ap, cond, false, length, refl, suc, true, zero, ℕ, ℤ, ◌-◌, ◌∙◌, ◌∷◌, ◌≡◌}
 use Rattle.std.specs.Ordering.{int_eq}
 use Rattle.std.specs.Prelude.{int_lt, option_map}
 use Rattle.aom_image.specs.Image.{Image}
-use Rattle.aom_image.specs.Views.{gives_of, instr_at, method_class}
+use Rattle.aom_image.specs.Views.{instr_at, method_class}
 use Rattle.aom_image.specs.declared.instr.Instr.{Instr}
-use Rattle.aom_image.specs.declared.instr.Instr.TheVariants.{Call, Delete, JumpEmpty, JumpEqual, JumpLess, JumpNull, Leave, LeaveIf, Load, Move, New, NewOrLeave, Next, Pop, PopDelete, Push, PushOperation, Put, Return, Store, Take, Trap}
+use Rattle.aom_image.specs.declared.instr.Instr.TheVariants.{Delete, JumpEmpty, JumpEqual, JumpLess, JumpNull, LeaveIf, Load, New, NewOrLeave, Next, PopDelete, Push, PushOperation}
 use Rattle.aom_image.specs.declared.instr.Target.{Target}
 use Rattle.aom_image.specs.declared.instr.Target.TheVariants.{Entry as On_entry, Field as On_field, Register as On_register, This}
 use Rattle.aom_image.specs.declared.method.Gives.{Gives}
 use Rattle.aom_image.specs.declared.method.Gives.TheVariants.{Left, Maybe as A_maybe, Nothing, Own as An_own, Word as A_word}
-use Rattle.aom_image.specs.declared.method.Thing.TheVariants.{Object as An_object_of}
-use Rattle.aom_sound.specs.Calls.{entry_place, home_at, own_home, received, result_cells, result_register, returned, target_home}
-use Rattle.aom_sound.specs.Cleanup.{code_told, dealt_with, destroyed, is_negative, left, no_memory, operation_pushed, pushed, to_trap, top_place}
+use Rattle.aom_sound.specs.Calls.{below_top, entry_place, home_at, own_home, received, result_cells, result_register, returned, target_home}
+use Rattle.aom_sound.specs.Cleanup.{code_told, dealt_with, destroyed, is_negative, no_memory, to_trap, top_place}
 use Rattle.aom_sound.specs.Destruction.{begun, begun_by, destructor_of}
+use Rattle.aom_sound.specs.Effects.{Calls, Carried, Destroys, Destroys_last, Effect, Goes_on, In_field, In_register, Jumps, Leaves, Made, Popped, Popped_operation, Pushed, Pushed_operation, Returns, Same, Sets_trap, Spot, Update, Written, applied, cells_after, deals, deletes, effect, items_after, jumps_unless, makes_unless, round, sets, spot_place, updates, with_words, writes}
 use Rattle.aom_sound.specs.Moves.{does}
-use Rattle.aom_sound.specs.Objects.{deleted, jumped, no_words}
-use Rattle.aom_sound.specs.Places.{Cell, Entry, Going, Object, Place, Register, held, moved, with_new}
-use Rattle.aom_sound.specs.State.{A_mark, An_object, An_operation, AtRoot, Choice, Destroy, Dispatched, Frame, Home, Inside, Item, Run, State, Static, Task, Trapped, Unwind, counter, field_place, set_word}
-use Rattle.aom_sound.specs.Words.{branched, loaded, looped, read, stored}
-use Rattle.aom_determined.proofs.Cells.{cond_applied, held_renamed, moved_renamed, set_word_field_renamed, tasks_counted, word_field_kept}
-use Rattle.aom_determined.proofs.Needs.{field_renamed, given_renamed, held_field, register_renamed}
+use Rattle.aom_sound.specs.Places.{Cell, Entry, Going, Object, Place, Register, held, moved}
+use Rattle.aom_sound.specs.State.{A_mark, An_object, An_operation, AtRoot, Choice, Destroy, Dispatched, Frame, Home, Inside, Item, Run, State, Static, Task, Trapped, Unwind, counter, field_place}
+use Rattle.aom_sound.specs.Words.{loaded, read, stored}
+use Rattle.aom_determined.proofs.Cells.{held_renamed, moved_renamed, set_word_field_renamed, tasks_counted, word_field_kept}
+use Rattle.aom_determined.proofs.Needs.{field_renamed, given_renamed, held_field, pushed_renamed, register_renamed}
 use Rattle.aom_determined.specs.Names.{IsOneToOne, renamed, renamed_cells, renamed_choice, renamed_frame, renamed_home, renamed_object, renamed_place, renamed_tasks}
+
+-- ---- an effect under other names: a new cell and one that goes have names
+
+module _ (names : ℕ → ℕ) where
+  abbrev renamed_update : Update → Update
+  renamed_update (Made name class a) = Made (names name) class a
+  renamed_update u = u
+
+  abbrev renamed_effect : Effect → Effect
+  renamed_effect (Goes_on ch) = Goes_on (record ch { update = renamed_update ch.update })
+  renamed_effect (Leaves code u) = Leaves code (renamed_update u)
+  renamed_effect (Destroys o a words) = Destroys (renamed_object names o) a words
+  renamed_effect (Destroys_last o) = Destroys_last (renamed_object names o)
+  renamed_effect e = e
 
 -- ---- what is at hand
 
 module _ (names : ℕ → ℕ) where
-  begun_by_renamed : (m : Option ℕ) (o : Object) (height : ℕ) (below : List Task) → begun_by m (renamed_object names o) height (renamed_tasks names below) ≡ renamed_tasks names (begun_by m o height below)
+  begun_by_renamed :
+      (m : Option ℕ) (o : Object) (height : ℕ) (below : List Task) →
+      begun_by m (renamed_object names o) height (renamed_tasks names below) ≡ renamed_tasks names (begun_by m o height below)
   begun_by_renamed None o height below = refl
   begun_by_renamed (Some m) o height below = rw (tasks_counted names below)
 
@@ -40,9 +55,6 @@ module _ (names : ℕ → ℕ) where
   to_trap_renamed (Destroy ∷ ts) = refl
   to_trap_renamed (Unwind code ∷ ts) = refl
   to_trap_renamed (Dispatched d ∷ ts) = refl
-
-  left_renamed : (code : ℤ) (s : State) → left code (renamed names s) ≡ renamed names (left code s)
-  left_renamed code s = rw (to_trap_renamed s.tasks)
 
   home_at_renamed : (o : Option Object) (q : Place) → home_at (option_map (renamed_object names) o) (renamed_place names q) ≡ renamed_home names (home_at o q)
   home_at_renamed None q = refl
@@ -81,7 +93,9 @@ module _ (names : ℕ → ℕ) (one_to_one : IsOneToOne names) where
 -- ---- what a method goes on with
 
 module _ (names : ℕ → ℕ) where
-  received_renamed : (p : Image) (fr : Frame) (ts : List Task) (s : State) (g : Gives) (a b : ℕ) (caller : Frame) → received p (renamed_frame names fr) (renamed_tasks names ts) (renamed names s) g a b (renamed_frame names caller) ≡ renamed_frame names (received p fr ts s g a b caller)
+  received_renamed :
+      (p : Image) (fr : Frame) (ts : List Task) (s : State) (g : Gives) (a b : ℕ) (caller : Frame) →
+      received p (renamed_frame names fr) (renamed_tasks names ts) (renamed names s) g a b (renamed_frame names caller) ≡ renamed_frame names (received p fr ts s g a b caller)
   received_renamed p fr ts s Nothing a b caller = refl
   received_renamed p fr ts s A_word a b caller = refl
   received_renamed p fr ts s (An_own t) a b caller = refl
@@ -113,16 +127,6 @@ module _ (names : ℕ → ℕ) (one_to_one : IsOneToOne names) (p : Image) (c : 
   from_register a q =
       ap (λ n. moved (Register n a) (renamed_place names q) s'.cells) (tasks_counted names ts)
       ∙ moved_renamed names one_to_one (Register (length ts) a) q s.cells
-
-  -- ---- words and jumps
-
-  branched_renamed : (b : Bool) (to : ℕ) → branched fr' ts' s' b to ≡ renamed names (branched fr ts s b to)
-  branched_renamed true to = refl
-  branched_renamed false to = refl
-
-  looped_renamed : (n depth to : ℕ) → looped fr' ts' s' n depth to ≡ renamed names (looped fr ts s n depth to)
-  looped_renamed zero depth to = refl
-  looped_renamed (suc n) depth to = refl
 
   -- ---- calls and returns
 
@@ -156,66 +160,91 @@ module _ (names : ℕ → ℕ) (one_to_one : IsOneToOne names) (p : Image) (c : 
       rw (result_cells_renamed g a b below, received_renamed names p fr ts s g a b caller)
   returned_renamed g a _ = refl
 
-  jumped_renamed : (o : Option Object) (to : ℕ) → jumped p c' fr' ts' s' (option_map (renamed_object names) o) to ≡ renamed names (jumped p c fr ts s o to)
-  jumped_renamed None to = refl
-  jumped_renamed (Some o) to = refl
+  -- ---- what an effect does
 
-  deleted_renamed : (o : Option Object) (a : ℕ) → deleted p c' fr' ts' s' (option_map (renamed_object names) o) a ≡ renamed names (deleted p c fr ts s o a)
-  deleted_renamed None a = refl
-  deleted_renamed (Some o) a =
+  place_renamed : (spot : Spot) → spot_place p fr' ts' s' spot ≡ renamed_place names (spot_place p fr ts s spot)
+  place_renamed (In_register a) = rw (tasks_counted names ts)
+  place_renamed (In_field f) = field_renamed names fr.home f
+
+  cells_renamed : (u : Update) → cells_after p fr' ts' s' (renamed_update names u) ≡ renamed_cells names (cells_after p fr ts s u)
+  cells_renamed Same = refl
+  cells_renamed (Carried from to) = rw (place_renamed from, place_renamed to, moved_renamed names one_to_one (spot_place p fr ts s from) (spot_place p fr ts s to) s.cells)
+  cells_renamed (Made name class a) = rw (tasks_counted names ts)
+  cells_renamed (Written w v) = stored_renamed names one_to_one s.cells fr.home w v
+  cells_renamed (Pushed a) = pushed_renamed names one_to_one p c fr ts s a
+  cells_renamed (Pushed_operation m w) = refl
+  cells_renamed (Popped a) = rw (tasks_counted names ts, moved_renamed names one_to_one (top_place s.items) (Register (length ts) a) s.cells)
+  cells_renamed Popped_operation = refl
+
+  items_kept : (u : Update) (items : List Item) → items_after (renamed_update names u) items ≡ items_after u items
+  items_kept (Made name class a) items = refl
+  items_kept _ items = refl
+
+  applied_renamed : (e : Effect) → applied p fr' ts' s' (renamed_effect names e) ≡ renamed names (applied p fr ts s e)
+  applied_renamed (Goes_on ch) = rw (cells_renamed ch.update, items_kept ch.update s.items)
+  applied_renamed (Calls target m first) = rw (given_renamed names one_to_one p c fr ts s (Run fr ∷ ts) m first, target_renamed target (method_class p m))
+  applied_renamed (Sets_trap target m first) = rw (given_renamed names one_to_one p c fr ts s (Trapped ∷ Run fr ∷ ts) m first, target_renamed target (method_class p m))
+  applied_renamed (Returns g a) = returned_renamed g a ts
+  applied_renamed (Leaves code u) = rw (cells_renamed u, items_kept u s.items, to_trap_renamed names ts)
+  applied_renamed (Destroys o a words) =
       rw (
         tasks_counted names ts,
         moved_renamed names one_to_one (Register (length ts) a) (Going (length (Run fr ∷ ts))) s.cells,
-        begun_renamed names p o (length s.items) (Run (set_word fr a None) ∷ ts),
+        begun_renamed names p o (length s.items) (Run (with_words fr words) ∷ ts),
       )
+  applied_renamed (Destroys_last o) =
+      rw (
+        tasks_counted names ts,
+        moved_renamed names one_to_one (top_place s.items) (Going (length (Run fr ∷ ts))) s.cells,
+        begun_renamed names p o (length (below_top s.items)) (Run fr ∷ ts),
+      )
+  applied_renamed _ = refl
 
-  -- an answer and its refusal
-  either_renamed : (b : Bool) (x y : State) (x' y' : State) → x' ≡ renamed names x → y' ≡ renamed names y → cond b x' y' ≡ renamed names (cond b x y)
+  -- ---- what the effect of an instruction is
+
+  jumps_renamed : (o : Option Object) (to : ℕ) → jumps_unless fr' (option_map (renamed_object names) o) to ≡ renamed_effect names (jumps_unless fr o to)
+  jumps_renamed None to = refl
+  jumps_renamed (Some o) to = refl
+
+  deletes_renamed : (o : Option Object) (a : ℕ) → deletes fr' (option_map (renamed_object names) o) a ≡ renamed_effect names (deletes fr o a)
+  deletes_renamed None a = refl
+  deletes_renamed (Some o) a = refl
+
+  deals_renamed : (items : List Item) (o : Option Object) → deals fr' items (option_map (renamed_object names) o) ≡ renamed_effect names (deals fr items o)
+  deals_renamed (An_object ∷ items) None = refl
+  deals_renamed (An_object ∷ items) (Some o) = refl
+  deals_renamed _ o = refl
+
+  round_renamed : (n depth to : ℕ) → round n depth to ≡ renamed_effect names (round n depth to)
+  round_renamed zero depth to = refl
+  round_renamed (suc n) depth to = refl
+
+  made_renamed : (b : Bool) (a x : ℕ) → makes_unless b (names c.name) x a ≡ renamed_update names (makes_unless b c.name x a)
+  made_renamed true a x = refl
+  made_renamed false a x = refl
+
+  -- one effect or the other
+  either_renamed : (b : Bool) (x y x' y' : Effect) → x' ≡ renamed_effect names x → y' ≡ renamed_effect names y → cond b x' y' ≡ renamed_effect names (cond b x y)
   either_renamed true x y x' y' e f = e
   either_renamed false x y x' y' e f = f
 
-  pushed_renamed : (a : ℕ) → pushed p c' fr' ts' s' a ≡ renamed names (pushed p c fr ts s a)
-  pushed_renamed a = rw (from_register a (Entry (length s.items)))
-
-  made_renamed : (a x : ℕ) → with_new (names c.name) (An_object_of x) (no_words p x) (Register (length ts') a) (renamed_cells names s.cells) ≡ renamed_cells names (with_new c.name (An_object_of x) (no_words p x) (Register (length ts) a) s.cells)
-  made_renamed a x = rw (tasks_counted names ts)
-
-  left_so : (code : ℤ) (x y : State) → x ≡ renamed names y → left code x ≡ renamed names (left code y)
-  left_so code x y e = ap (left code) e ∙ left_renamed names code y
-
-  called_renamed : (target : Target) (m first : ℕ) → does p c' fr' ts' s' (Call target m first 0) ≡ renamed names (does p c fr ts s (Call target m first 0))
-  called_renamed target m first = rw (
-    given_renamed names one_to_one p c fr ts s (Run fr ∷ ts) m first,
-    target_renamed target (method_class p m),
-  )
-
-  trapped_renamed : (target : Target) (m first : ℕ) → does p c' fr' ts' s' (Trap target m first 0) ≡ renamed names (does p c fr ts s (Trap target m first 0))
-  trapped_renamed target m first = rw (
-    given_renamed names one_to_one p c fr ts s (Trapped ∷ Run fr ∷ ts) m first,
-    target_renamed target (method_class p m),
-  )
+  effect_renamed : (i : Instr) → effect p c' fr' ts' s' i ≡ renamed_effect names (effect p c fr ts s i)
+  effect_renamed (JumpEqual a b to) = either_renamed (int_eq (read fr ts s a) (read fr ts s b)) (Jumps to) (updates fr Same) (Jumps to) (updates fr' Same) refl refl
+  effect_renamed (JumpLess a b to) = either_renamed (int_lt (read fr ts s a) (read fr ts s b)) (Jumps to) (updates fr Same) (Jumps to) (updates fr' Same) refl refl
+  effect_renamed (JumpNull a to) = ap (λ o. jumps_unless fr' o to) (register_renamed names one_to_one s.cells ts a) ∙ jumps_renamed (held s.cells (Register (length ts) a)) to
+  effect_renamed (JumpEmpty f to) = ap (λ o. jumps_unless fr' o to) (held_field names one_to_one s.cells fr.home f) ∙ jumps_renamed (held s.cells (field_place fr.home f)) to
+  effect_renamed (Next depth to) = round_renamed (counter fr depth - 1) depth to
+  effect_renamed (Load a w) = ap (writes fr a) (loaded_kept names one_to_one s.cells fr.home w)
+  effect_renamed (New a x) = ap (sets fr a None) (made_renamed c.refused a x)
+  effect_renamed (Delete a) = ap (λ o. deletes fr' o a) (register_renamed names one_to_one s.cells ts a) ∙ deletes_renamed (held s.cells (Register (length ts) a)) a
+  effect_renamed (NewOrLeave a x) = either_renamed c.refused (Leaves no_memory Same) (sets fr a None (Made c.name x a)) _ _ refl refl
+  effect_renamed (Push a) = either_renamed c.refused (Leaves no_memory (Pushed a)) (sets fr a None (Pushed a)) _ _ refl refl
+  effect_renamed (PushOperation a m) =
+      let off = Pushed_operation m (read fr ts s a) in
+      either_renamed c.refused (Leaves no_memory off) (updates fr off) _ _ refl refl
+  effect_renamed PopDelete = ap (deals fr' s.items) (held_renamed names one_to_one s.cells (top_place s.items)) ∙ deals_renamed s.items (held s.cells (top_place s.items))
+  effect_renamed (LeaveIf a) = either_renamed (is_negative p c fr ts s (read fr ts s a)) (Leaves (read fr ts s a) Same) (updates fr Same) _ _ refl refl
+  effect_renamed _ = refl
 
   pub does_renamed : (i : Instr) → does p c' fr' ts' s' i ≡ renamed names (does p c fr ts s i)
-  does_renamed (JumpEqual a b to) = branched_renamed (int_eq (read fr ts s a) (read fr ts s b)) to
-  does_renamed (JumpLess a b to) = branched_renamed (int_lt (read fr ts s a) (read fr ts s b)) to
-  does_renamed (JumpNull a to) = ap (λ o. jumped p c' fr' ts' s' o to) (register_renamed names one_to_one s.cells ts a) ∙ jumped_renamed (held s.cells (Register (length ts) a)) to
-  does_renamed (JumpEmpty f to) = ap (λ o. jumped p c' fr' ts' s' o to) (held_field names one_to_one s.cells fr.home f) ∙ jumped_renamed (held s.cells (field_place fr.home f)) to
-  does_renamed (Next depth to) = looped_renamed (counter fr depth - 1) depth to
-  does_renamed (Load a w) = rw (loaded_kept names one_to_one s.cells fr.home w)
-  does_renamed (Store w b) = rw (stored_renamed names one_to_one s.cells fr.home w (read fr ts s b))
-  does_renamed (Move a b) = rw (tasks_counted names ts, moved_renamed names one_to_one (Register (length ts) b) (Register (length ts) a) s.cells)
-  does_renamed (Take a f) = rw (tasks_counted names ts, field_renamed names fr.home f, moved_renamed names one_to_one (field_place fr.home f) (Register (length ts) a) s.cells)
-  does_renamed (Put f b) = rw (tasks_counted names ts, field_renamed names fr.home f, moved_renamed names one_to_one (Register (length ts) b) (field_place fr.home f) s.cells)
-  does_renamed (New a x) = rw (made_renamed a x, cond_applied (renamed_cells names) c.refused s.cells (with_new c.name (An_object_of x) (no_words p x) (Register (length ts) a) s.cells))
-  does_renamed (Delete a) = ap (λ o. deleted p c' fr' ts' s' o a) (register_renamed names one_to_one s.cells ts a) ∙ deleted_renamed (held s.cells (Register (length ts) a)) a
-  does_renamed (Call target m first a) = called_renamed target m first
-  does_renamed (Trap target m first a) = trapped_renamed target m first
-  does_renamed (NewOrLeave a x) = either_renamed c.refused _ _ _ _ (left_renamed names no_memory s) (rw (made_renamed a x))
-  does_renamed (Push a) = either_renamed c.refused _ _ _ _ (left_so no_memory (pushed p c' fr' ts' s' a) (pushed p c fr ts s a) (pushed_renamed a)) (pushed_renamed a)
-  does_renamed (PushOperation a m) = either_renamed c.refused _ _ _ _ (left_renamed names no_memory (operation_pushed p c fr ts s a m)) refl
-  does_renamed (Pop a) = rw (tasks_counted names ts, moved_renamed names one_to_one (top_place s.items) (Register (length ts) a) s.cells)
-  does_renamed PopDelete = dealt_renamed names one_to_one p s.items (Run fr ∷ ts) s
-  does_renamed (Leave a) = left_renamed names (read fr ts s a) s
-  does_renamed (LeaveIf a) = either_renamed (is_negative p c fr ts s (read fr ts s a)) _ _ _ _ (left_renamed names (read fr ts s a) s) refl
-  does_renamed (Return a) = returned_renamed (gives_of p fr.method) a ts
-  does_renamed _ = refl
+  does_renamed i = ap (applied p fr' ts' s') (effect_renamed i) ∙ applied_renamed (effect p c fr ts s i)

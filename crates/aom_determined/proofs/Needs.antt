@@ -15,7 +15,7 @@ use Rattle.aom_image.specs.declared.method.Thing.{Thing}
 use Rattle.aom_image.specs.declared.method.Thing.TheVariants.{Object as An_object_of}
 use Rattle.aom_shape.specs.Things.{field_thing}
 use Rattle.aom_sound.specs.Calls.{end_needs, entry_place, given_cells, is_level, is_worked_on, is_emptied, leaves_object, needs_argument, needs_call, needs_each, needs_entering, needs_result, needs_return, needs_target, needs_target_object, needs_trap, passed_cells, result_needs, result_source}
-use Rattle.aom_sound.specs.Cleanup.{above_trap_is_free, has_trap, if_refused, leave_needs, needs_push, pushed, top_is_whole}
+use Rattle.aom_sound.specs.Cleanup.{above_trap_is_free, has_trap, if_refused, leave_needs, needs_push, pushed_cells, top_is_whole}
 use Rattle.aom_sound.specs.Moves.{needs}
 use Rattle.aom_sound.specs.Objects.{is_declared_thing, is_no_message, is_thing, needs_put}
 use Rattle.aom_sound.specs.Places.{Cell, Entry, Object, Register, held, moved}
@@ -248,15 +248,15 @@ module _ (names : ℕ → ℕ) (one_to_one : IsOneToOne names) (p : Image) (c : 
   refusal_kept cells = ap (λ n. cond c.refused n []) (leave_kept names cells (Run fr ∷ ts))
 
   -- the cells once the object of a register is on the cleanup stack
-  pushed_renamed : (a : ℕ) → (pushed p c' fr' ts' s' a).cells ≡ renamed_cells names (pushed p c fr ts s a).cells
+  pub pushed_renamed : (a : ℕ) → pushed_cells fr' ts' s' a ≡ renamed_cells names (pushed_cells fr ts s a)
   pushed_renamed a =
       ap (λ n. moved (Register n a) (Entry (length s.items)) (renamed_cells names s.cells)) (tasks_counted names ts)
       ∙ moved_renamed names one_to_one (Register (length ts) a) (Entry (length s.items)) s.cells
 
   push_kept : (a : ℕ) → needs_push p c' fr' ts' s' a ≡ needs_push p c fr ts s a
   push_kept a =
-      let refusal : if_refused p c' fr' ts' s' (pushed p c' fr' ts' s' a).cells ≡ if_refused p c fr ts s (pushed p c fr ts s a).cells =
-      ap (if_refused p c' fr' ts' s') (pushed_renamed a) ∙ refusal_kept (pushed p c fr ts s a).cells in
+      let refusal : if_refused p c' fr' ts' s' (pushed_cells fr' ts' s' a) ≡ if_refused p c fr ts s (pushed_cells fr ts s a) =
+      ap (if_refused p c' fr' ts' s') (pushed_renamed a) ∙ refusal_kept (pushed_cells fr ts s a) in
       rw (owns_at names one_to_one s.cells ts a, message_at names one_to_one s.cells ts a, refusal, trap_kept names ts)
 
   put_kept : (f b : ℕ) → needs_put p c' fr' ts' s' f b ≡ needs_put p c fr ts s f b

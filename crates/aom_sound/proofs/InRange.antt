@@ -8,27 +8,26 @@ use Rattle.aom_image.specs.Operands.{IsRegister}
 use Rattle.aom_image.specs.Views.{arguments_of, gives_of, instr_at, method_class}
 use Rattle.aom_image.specs.WellFormed.{InstrFits}
 use Rattle.aom_image.specs.declared.instr.Instr.{Instr}
-use Rattle.aom_image.specs.declared.instr.Instr.TheVariants.{Call, Delete, JumpEmpty, JumpEqual, JumpLess, JumpNull, Leave, LeaveIf, Move, New, NewOrLeave, Next, Pop, PopDelete, Push, PushOperation, Put, Return, Store, Take, Trap}
+use Rattle.aom_image.specs.declared.instr.Instr.TheVariants.{Call, Delete, JumpEmpty, JumpEqual, JumpLess, JumpNull, LeaveIf, Move, New, NewOrLeave, Next, Pop, PopDelete, Push, PushOperation, Take, Trap}
 use Rattle.aom_image.specs.declared.instr.Target.{Target}
 use Rattle.aom_image.specs.declared.limits.Limits.{Limits}
 use Rattle.aom_image.specs.declared.method.Argument.{Argument}
 use Rattle.aom_image.specs.declared.method.Argument.TheVariants.{Own as Takes_own, Word as Takes_word}
 use Rattle.aom_image.specs.declared.method.Gives.{Gives}
 use Rattle.aom_image.specs.declared.method.Gives.TheVariants.{Left, Maybe as A_maybe, Nothing, Own as An_own, Word as A_word}
-use Rattle.aom_image.specs.declared.method.Thing.TheVariants.{Object as An_object_of}
 use Rattle.aom_shape.specs.Needs.{AllTrue}
 use Rattle.aom_sound.proofs.Finishing.{all_parts}
 use Rattle.aom_sound.proofs.Guarded.{goes_same, guarded_goes, guarded_met}
 use Rattle.aom_sound.specs.Calls.{needs_entering, needs_target, passed_cells, result_cells, result_register, returned}
-use Rattle.aom_sound.specs.Cleanup.{arrived, dealt_with, destroyed, is_negative, left, no_memory, operation_pushed, pushed, top_is_whole, top_place, unwound}
+use Rattle.aom_sound.specs.Cleanup.{arrived, dealt_with, destroyed, is_negative, no_memory, top_is_whole, top_place, unwound}
 use Rattle.aom_sound.specs.Destruction.{gone, owns_nothing}
+use Rattle.aom_sound.specs.Effects.{Calls, Carried, Destroys, Destroys_last, Effect, Goes_on, In_field, In_register, Jumps, Leaves, Made, Popped, Pushed, Pushed_operation, Returns, Same, Sets_trap, Spot, Update, Written, applied, cells_after, deals, deletes, effect, jumps_unless, makes_unless, round, sets, spot_place, updates}
 use Rattle.aom_sound.specs.Laws.{IsWired, RegistersKeep}
 use Rattle.aom_sound.specs.Moves.{counted, dispatch_ends, does, main_ends, needs, step, step_instr, step_task}
-use Rattle.aom_sound.specs.Objects.{deleted, jumped, no_words}
-use Rattle.aom_sound.specs.Places.{Cell, Elsewhere, Entry, Going, Object, Place, Register, Root, held, moved, same_place, set_word_field, with_new, without}
+use Rattle.aom_sound.specs.Places.{Cell, Elsewhere, Entry, Going, Object, Place, Register, Root, held, moved, same_place, set_word_field, without}
 use Rattle.aom_sound.specs.Registers.{AllInRange, IsInRange}
-use Rattle.aom_sound.specs.State.{A_mark, An_object, An_operation, AtRoot, Choice, Destroy, Dispatch, Dispatched, Frame, Goes, Home, Inside, IsStuck, Item, Main_left, Need, NullOrDead, Of_main, Of_root, Orphan, Run, State, Static, Task, Trapped, Unwind, counter, field_place, guarded, resumed, set_word}
-use Rattle.aom_sound.specs.Words.{branched, go_on, here, looped, read, stored}
+use Rattle.aom_sound.specs.State.{A_mark, An_object, An_operation, AtRoot, Choice, Destroy, Dispatch, Dispatched, Frame, Goes, Home, Inside, IsStuck, Item, Main_left, Need, NullOrDead, Of_main, Of_root, Orphan, Run, State, Static, Task, Trapped, Unwind, counter, field_place, resumed}
+use Rattle.aom_sound.specs.Words.{here, read, stored}
 
 move_in_range : (p q : Place) (cs : List Cell) → IsInRange q → AllInRange cs → AllInRange (moved p q cs)
 move_in_range p q [] fits all = tt
@@ -75,37 +74,43 @@ result_in_range p wired m place = go (instr_at p m place) refl
     go (Some (Trap target m' first c)) e = let fits = (wired.operands m place (Trap target m' first c) e).1.3 in omega arith
     go (Some _) e = omega arith
 
-module _ (p : Image) (wired : IsWired p) (c : Choice) (fr : Frame) (ts : List Task) (s : State) (all : AllInRange s.cells) where
-  jump_in_range : (o : Option Object) (to : ℕ) → AllInRange (jumped p c fr ts s o to).cells
-  jump_in_range None to = all
-  jump_in_range (Some o) to = all
+module _ (p : Image) where
+  -- what is carried to a register, or made in one, comes to one that a method has
+  abbrev SpotFits : Spot → Type 0
+  SpotFits (In_register a) = IsRegister a
+  SpotFits (In_field f) = Unit {0}
 
-  branch_in_range : (b : Bool) (to : ℕ) → AllInRange (branched fr ts s b to).cells
-  branch_in_range true to = all
-  branch_in_range false to = all
+  abbrev UpdateFits : Update → Type 0
+  UpdateFits (Carried from to) = SpotFits to
+  UpdateFits (Made name class a) = IsRegister a
+  UpdateFits (Popped a) = IsRegister a
+  UpdateFits _ = Unit {0}
 
-  loop_in_range : (rounds depth to : ℕ) → AllInRange (looped fr ts s rounds depth to).cells
-  loop_in_range zero depth to = all
-  loop_in_range (suc rounds) depth to = all
+  -- and so do the arguments of a method that is called
+  abbrev EffectFits : Effect → Type 0
+  EffectFits (Goes_on ch) = UpdateFits ch.update
+  EffectFits (Leaves code u) = UpdateFits u
+  EffectFits (Calls target m first) = length (arguments_of p m) ≤ 16
+  EffectFits (Sets_trap target m first) = length (arguments_of p m) ≤ 16
+  EffectFits _ = Unit {0}
+
+module _ (p : Image) (wired : IsWired p) (fr : Frame) (ts : List Task) (s : State) (all : AllInRange s.cells) where
+  spot_in_range : (spot : Spot) → SpotFits p spot → IsInRange (spot_place p fr ts s spot)
+  spot_in_range (In_register a) fits = fits
+  spot_in_range (In_field f) fits = field_in_range fr.home f
 
   store_in_range : (home : Home) (w : ℕ) (v : ℤ) → AllInRange (stored s.cells home w v)
   store_in_range Static w v = all
   store_in_range AtRoot w v = all
   store_in_range (Inside o from) w v = write_in_range o.name w v s.cells all
 
-  delete_in_range : (o : Option Object) (a : ℕ) → AllInRange (deleted p c fr ts s o a).cells
-  delete_in_range None a = all
-  delete_in_range (Some o) a = move_in_range (here fr ts s a) (Going (suc (length ts))) s.cells tt all
-
-  -- a new cell, or none
-  make_in_range : (b : Bool) (x : ℕ) (q : Place) → IsInRange q → AllInRange (cond b s.cells (with_new c.name (An_object_of x) (no_words p x) q s.cells))
-  make_in_range true x q fits = all
-  make_in_range false x q fits = (fits, all)
-
-  -- where a request is refused the method leaves
-  refused_in_range : (b : Bool) (code : ℤ) (u v : State) → AllInRange u.cells → AllInRange v.cells → AllInRange (cond b (left code u) v).cells
-  refused_in_range true code u v all all' = all
-  refused_in_range false code u v all all' = all'
+  update_in_range : (u : Update) → UpdateFits p u → AllInRange (cells_after p fr ts s u)
+  update_in_range (Carried from to) fits = move_in_range (spot_place p fr ts s from) (spot_place p fr ts s to) s.cells (spot_in_range to fits) all
+  update_in_range (Made name class a) fits = (fits, all)
+  update_in_range (Written w v) fits = store_in_range fr.home w v
+  update_in_range (Pushed a) fits = move_in_range (here fr ts s a) (Entry (length s.items)) s.cells tt all
+  update_in_range (Popped a) fits = move_in_range (top_place s.items) (here fr ts s a) s.cells fits all
+  update_in_range _ fits = all
 
   pass_in_range : (depth : ℕ) (xs : List Argument) (first to : ℕ) (cs : List Cell) → to + length xs ≤ 16 → AllInRange cs → AllInRange (passed_cells p fr ts s depth xs first to cs)
   pass_in_range depth [] first to cs few all = all
@@ -113,13 +118,6 @@ module _ (p : Image) (wired : IsWired p) (c : Choice) (fr : Frame) (ts : List Ta
   pass_in_range depth (Takes_own t ∷ xs) first to cs few all =
       pass_in_range depth xs (suc first) (suc to) (moved (here fr ts s first) (Register depth to) cs) (omega arith)
       (move_in_range (here fr ts s first) (Register depth to) cs (omega arith) all)
-
-  -- the arguments lie within the registers of the caller, and so of the method called
-  call_in_range : (depth : ℕ) (target : Target) (m first : ℕ) (more : List Need) → AllTrue (needs_entering p fr ts s target m first more) → AllInRange (passed_cells p fr ts s depth (arguments_of p m) first 0 s.cells)
-  call_in_range depth target m first more n =
-      let met = (all_parts (needs_target p fr ts s target (method_class p m) first (length (arguments_of p m))) _ n).1 in
-      let within = leb-true (first + length (arguments_of p m)) 16 met.0 in
-      pass_in_range depth (arguments_of p m) first 0 s.cells (omega arith) all
 
   bring_in_range : (g : Gives) (a x : ℕ) (below : List Task) → IsRegister x → AllInRange (result_cells p fr ts s g a x below)
   bring_in_range Nothing a x below fits = all
@@ -129,40 +127,74 @@ module _ (p : Image) (wired : IsWired p) (c : Choice) (fr : Frame) (ts : List Ta
   bring_in_range (Left t) a x below fits = all
 
   return_in_range : (g : Gives) (a : ℕ) (below : List Task) → AllInRange (returned p fr ts s g a below).cells
-  return_in_range g a [] = all
   return_in_range g a (Run caller ∷ below) = bring_in_range g a _ below (result_in_range p wired caller.method caller.place)
   return_in_range g a (Trapped ∷ Run caller ∷ below) = bring_in_range g a _ below (result_in_range p wired caller.method caller.place)
   return_in_range g a (Trapped ∷ _) = all
-  return_in_range g a (Destroy ∷ below) = all
-  return_in_range g a (Unwind code ∷ below) = all
-  return_in_range g a (Dispatched d ∷ below) = all
+  return_in_range g a _ = all
 
-  act_in_range : (i : Instr) (l : Limits) → InstrFits l i → AllTrue (needs p c fr ts s i) → AllInRange (does p c fr ts s i).cells
-  act_in_range (JumpEqual a b to) l fits n = branch_in_range (int_eq (read fr ts s a) (read fr ts s b)) to
-  act_in_range (JumpLess a b to) l fits n = branch_in_range (int_lt (read fr ts s a) (read fr ts s b)) to
-  act_in_range (JumpNull a to) l fits n = jump_in_range (held s.cells (here fr ts s a)) to
-  act_in_range (JumpEmpty f to) l fits n = jump_in_range (held s.cells (field_place fr.home f)) to
-  act_in_range (Next depth to) l fits n = loop_in_range (counter fr depth - 1) depth to
-  act_in_range (Store w b) l fits n = store_in_range fr.home w (read fr ts s b)
-  act_in_range (Move a b) l fits n = move_in_range (here fr ts s b) (here fr ts s a) s.cells fits.0 all
-  act_in_range (Take a f) l fits n = move_in_range (field_place fr.home f) (here fr ts s a) s.cells fits.0 all
-  act_in_range (Put f b) l fits n = move_in_range (here fr ts s b) (field_place fr.home f) s.cells (field_in_range fr.home f) all
-  act_in_range (New a x) l fits n = make_in_range c.refused x (here fr ts s a) fits.0
-  act_in_range (NewOrLeave a x) l fits n =
-      let made = with_new c.name (An_object_of x) (no_words p x) (here fr ts s a) s.cells in
-      refused_in_range c.refused no_memory s (go_on fr ts s made (set_word fr a None)) all (fits.0, all)
-  act_in_range (Delete a) l fits n = delete_in_range (held s.cells (here fr ts s a)) a
-  act_in_range (Push a) l fits n =
-      let all' = move_in_range (here fr ts s a) (Entry (length s.items)) s.cells tt all in
-      refused_in_range c.refused no_memory (pushed p c fr ts s a) (pushed p c fr ts s a) all' all'
-  act_in_range (PushOperation a m) l fits n = refused_in_range c.refused no_memory (operation_pushed p c fr ts s a m) (operation_pushed p c fr ts s a m) all all
-  act_in_range (Pop a) l fits n = move_in_range (top_place s.items) (here fr ts s a) s.cells fits all
-  act_in_range PopDelete l fits n = deal_in_range p s.items (Run fr ∷ ts) s all
-  act_in_range (LeaveIf a) l fits n = refused_in_range (is_negative p c fr ts s (read fr ts s a)) (read fr ts s a) s (go_on fr ts s s.cells fr) all all
-  act_in_range (Call target m first x) l fits n = call_in_range (suc (length ts)) target m first _ n
-  act_in_range (Trap target m first x) l fits n = call_in_range (suc (suc (length ts))) target m first _ n
-  act_in_range (Return a) l fits n = return_in_range (gives_of p fr.method) a ts
-  act_in_range _ l fits n = all
+  apply_in_range : (e : Effect) → EffectFits p e → AllInRange (applied p fr ts s e).cells
+  apply_in_range (Goes_on ch) fits = update_in_range ch.update fits
+  apply_in_range (Leaves code u) fits = update_in_range u fits
+  apply_in_range (Calls target m first) fits = pass_in_range (suc (length ts)) (arguments_of p m) first 0 s.cells (omega arith) all
+  apply_in_range (Sets_trap target m first) fits = pass_in_range (suc (suc (length ts))) (arguments_of p m) first 0 s.cells (omega arith) all
+  apply_in_range (Returns g a) fits = return_in_range g a ts
+  apply_in_range (Destroys o a words) fits = move_in_range (here fr ts s a) (Going (suc (length ts))) s.cells tt all
+  apply_in_range (Destroys_last o) fits = move_in_range (top_place s.items) (Going (suc (length ts))) s.cells tt all
+  apply_in_range _ fits = all
+
+-- each instruction's effect fits
+module _ (p : Image) (c : Choice) (fr : Frame) (ts : List Task) (s : State) where
+  either_fits : (b : Bool) (e f : Effect) → EffectFits p e → EffectFits p f → EffectFits p (cond b e f)
+  either_fits true e f x y = x
+  either_fits false e f x y = y
+
+  jump_fits : (o : Option Object) (to : ℕ) → EffectFits p (jumps_unless fr o to)
+  jump_fits None to = tt
+  jump_fits (Some o) to = tt
+
+  round_fits : (n depth to : ℕ) → EffectFits p (round n depth to)
+  round_fits zero depth to = tt
+  round_fits (suc n) depth to = tt
+
+  delete_fits : (o : Option Object) (a : ℕ) → EffectFits p (deletes fr o a)
+  delete_fits None a = tt
+  delete_fits (Some o) a = tt
+
+  deal_fits : (items : List Item) (o : Option Object) → EffectFits p (deals fr items o)
+  deal_fits (An_object ∷ items) (Some o) = tt
+  deal_fits (An_operation m w ∷ items) o = tt
+  deal_fits _ o = tt
+
+  make_fits : (b : Bool) (x a : ℕ) → IsRegister a → UpdateFits p (makes_unless b c.name x a)
+  make_fits true x a fits = tt
+  make_fits false x a fits = fits
+
+  -- the arguments lie within the registers of the caller, and so of the method called
+  call_fits : (target : Target) (m first : ℕ) (more : List Need) → AllTrue (needs_entering p fr ts s target m first more) → length (arguments_of p m) ≤ 16
+  call_fits target m first more n =
+      let met = (all_parts (needs_target p fr ts s target (method_class p m) first (length (arguments_of p m))) _ n).1 in
+      let within = leb-true (first + length (arguments_of p m)) 16 met.0 in
+      omega arith
+
+  effect_fits : (i : Instr) (l : Limits) → InstrFits l i → AllTrue (needs p c fr ts s i) → EffectFits p (effect p c fr ts s i)
+  effect_fits (JumpEqual a b to) l fits n = either_fits (int_eq (read fr ts s a) (read fr ts s b)) (Jumps to) (updates fr Same) tt tt
+  effect_fits (JumpLess a b to) l fits n = either_fits (int_lt (read fr ts s a) (read fr ts s b)) (Jumps to) (updates fr Same) tt tt
+  effect_fits (JumpNull a to) l fits n = jump_fits (held s.cells (here fr ts s a)) to
+  effect_fits (JumpEmpty f to) l fits n = jump_fits (held s.cells (field_place fr.home f)) to
+  effect_fits (Next depth to) l fits n = round_fits (counter fr depth - 1) depth to
+  effect_fits (Move a b) l fits n = fits.0
+  effect_fits (Take a f) l fits n = fits.0
+  effect_fits (New a x) l fits n = make_fits c.refused x a fits.0
+  effect_fits (NewOrLeave a x) l fits n = either_fits c.refused (Leaves no_memory Same) (sets fr a None (Made c.name x a)) tt fits.0
+  effect_fits (Delete a) l fits n = delete_fits (held s.cells (here fr ts s a)) a
+  effect_fits (Push a) l fits n = either_fits c.refused (Leaves no_memory (Pushed a)) (sets fr a None (Pushed a)) tt tt
+  effect_fits (PushOperation a m) l fits n = either_fits c.refused (Leaves no_memory (Pushed_operation m (read fr ts s a))) (updates fr (Pushed_operation m (read fr ts s a))) tt tt
+  effect_fits (Pop a) l fits n = fits
+  effect_fits PopDelete l fits n = deal_fits s.items (held s.cells (top_place s.items))
+  effect_fits (LeaveIf a) l fits n = either_fits (is_negative p c fr ts s (read fr ts s a)) (Leaves (read fr ts s a) Same) (updates fr Same) tt tt
+  effect_fits (Call target m first x) l fits n = call_fits target m first _ n
+  effect_fits (Trap target m first x) l fits n = call_fits target m first _ n
+  effect_fits _ l fits n = tt
 
 arrive_in_range : (p : Image) (code : ℤ) (ts : List Task) (items : List Item) (s u : State) → AllInRange s.cells → arrived p code ts items s ≡ Goes u → AllInRange u.cells
 arrive_in_range p code (Trapped ∷ Run fr ∷ ts) items s u all e = subst (λ v. AllInRange v.cells) (goes_same _ u e) all
@@ -207,7 +239,7 @@ moves p wired c s u all e = go s.tasks e
         runs (Some i) at e =
             let fits = wired.operands fr.method fr.place i at in
             subst (λ v. AllInRange v.cells) (guarded_goes (needs p c fr ts (counted p s) i) (does p c fr ts (counted p s) i) u e)
-            (act_in_range p wired c fr ts (counted p s) all i fits.0 fits.1 (guarded_met (needs p c fr ts (counted p s) i) (does p c fr ts (counted p s) i) u e))
+            (apply_in_range p wired fr ts (counted p s) all (effect p c fr ts (counted p s) i) (effect_fits p c fr ts (counted p s) i fits.0 fits.1 (guarded_met (needs p c fr ts (counted p s) i) (does p c fr ts (counted p s) i) u e)))
     go (Trapped ∷ ts) e = cc
     go (Destroy ∷ ts) e = go_in_range (held s.cells (Going (length ts))) ts (counted p s) u all e
     go (Unwind code ∷ ts) e = unwind_in_range p code ts s.items (counted p s) u all e
