@@ -19,8 +19,6 @@ mod objects;
 mod parts;
 mod progress;
 mod rest;
-#[cfg(test)]
-mod tests;
 mod words;
 
 pub use fault::BootFault;
