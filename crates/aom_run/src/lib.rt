@@ -11,8 +11,6 @@ mod line;
 mod runs;
 mod script;
 mod sink;
-#[cfg(test)]
-mod tests;
 
 pub use fault::{ScriptFault, ScriptFaultKind};
 pub use runs::run;

@@ -1,68 +1,7 @@
-use super::*;
-use aom_budget::{Accepted, accept};
-use aom_classes::link;
-use aom_exec::{Machine, Outcome};
-use aom_image::decode;
-use aom_lines::Turn;
-use aom_verify::check;
+//! Scripts that are read, and each fault with its line.
+use aom_run::{ScriptFault, ScriptFaultKind, read_script};
 use std::alloc::Global;
 use std::test::Fail;
-
-/// A sink that takes three bytes at a time, and so many in all.
-#[derive(Drop)]
-struct Narrow {
-    text: Vec<u8>,
-    room: usize,
-    is_full: bool,
-}
-
-impl Sink for Narrow {
-    ghost use Rattle.std.specs.Prelude.{Some};
-
-    ghost out = { λ s. Some s.text.items };
-
-    ghost failed = { λ s. s.is_full };
-
-    fn put(&mut self, bytes: &[u8]) -> usize {
-        if self.is_full {
-            return 0;
-        }
-        let count = bytes.len().min(self.room).min(3);
-        if self.text.extend_from_slice(&bytes[..count]).is_err() {
-            self.is_full = true;
-            return 0;
-        }
-        self.room -= count;
-        if count == 0 && !bytes.is_empty() {
-            self.is_full = true;
-        }
-        count
-    }
-
-    fn has_failed(&self) -> bool {
-        self.is_full
-    }
-}
-
-fn with_room(rt: &HostRuntime, room: usize) -> Narrow {
-    Narrow {
-        text: Vec::new(rt.alloc()),
-        room,
-        is_full: false,
-    }
-}
-
-#[test]
-fn a_text_goes_out_in_parts(rt: HostRuntime) -> Result<(), Fail> {
-    let mut sink = with_room(&rt, 10);
-    write_text(&mut sink, b"@0 main\n");
-    assert_eq!(rt; sink.text.as_slice(), b"@0 main\n".as_slice());
-    assert!(rt; !sink.has_failed());
-    write_text(&mut sink, b"out 7\n");
-    assert_eq!(rt; sink.text.as_slice(), b"@0 main\nou".as_slice());
-    assert!(rt; sink.has_failed());
-    Ok(())
-}
 
 /// The numbers that a text refuses.
 fn refused(alloc: Global, text: &[u8]) -> Option<Vec<u32>> {
@@ -185,66 +124,5 @@ fn a_fault_is_told_in_a_line(rt: HostRuntime) -> Result<(), Fail> {
         kind: ScriptFaultKind::TimeBack,
     };
     assert_eq!(rt; fault.to_string(rt.alloc())?.as_str(), "script 12 4");
-    Ok(())
-}
-
-/// A main that prints 7 and stops.
-const STOPS: [u8; 80] = [
-    0x41, 0x4f, 0x49, 0x4d, 0, 1, 0, 0, 0, 1, 0, 1, 0, 0, 0, 0, 0xff, 0xff, 0, 0, 0, 0, 0, 4, //
-    0xff, 0xff, 1, 0, 0, 0, 0, 0, 0, 0, 0, 0, 0, 0, 0, 0, 0, 0, 0, 0, 0xff, 0xff, 0, 4, //
-    1, 0, 0, 0, 0, 0, 0, 7, 0x13, 0, 0, 0, 0, 0, 0, 0, 0x30, 0, 0, 0, 0, 0, 0, 0, 0x22, 0, 0, 0, 0,
-    0, 0, 0,
-];
-
-/// A main that prints 7.
-const WAITS: [u8; 72] = [
-    0x41, 0x4f, 0x49, 0x4d, 0, 1, 0, 0, 0, 1, 0, 1, 0, 0, 0, 0, 0xff, 0xff, 0, 0, 0, 0, 0, 4, //
-    0xff, 0xff, 1, 0, 0, 0, 0, 0, 0, 0, 0, 0, 0, 0, 0, 0, 0, 0, 0, 0, 0xff, 0xff, 0, 3, //
-    1, 0, 0, 0, 0, 0, 0, 7, 0x13, 0, 0, 0, 0, 0, 0, 0, 0x22, 0, 0, 0, 0, 0, 0, 0,
-];
-
-fn accepted(alloc: Global, bytes: &[u8]) -> Option<Accepted> {
-    let image = decode(alloc, bytes).ok()?;
-    let linked = link(alloc, image).ok()?;
-    let checked = check(alloc, linked).ok()?;
-    accept(alloc, checked).ok()
-}
-
-fn outcome_of(alloc: Global, bytes: &[u8], sink: &mut Narrow) -> Option<Outcome> {
-    let accepted = accepted(alloc, bytes)?;
-    let script = read_script(alloc, b"\n").ok()?;
-    let mut machine = Machine::boot(alloc, &accepted).ok()?;
-    let mut turn = Turn::new(alloc, &accepted, Vec::new(alloc)).ok()?;
-    Some(run(&mut machine, &script, &mut turn, 1, sink))
-}
-
-#[test]
-fn a_run_is_told(rt: HostRuntime) -> Result<(), Fail> {
-    for (bytes, room, outcome, text) in [
-        (
-            STOPS.as_slice(),
-            100,
-            Outcome::Stopped,
-            "@0 main\nout 7\nend stopped cells 0\n",
-        ),
-        (
-            WAITS.as_slice(),
-            100,
-            Outcome::Waiting,
-            "@0 main\nout 7\nend waiting cells 0\n",
-        ),
-        (STOPS.as_slice(), 10, Outcome::WriteFault, "@0 main\nou"),
-        (
-            STOPS.as_slice(),
-            20,
-            Outcome::WriteFault,
-            "@0 main\nout 7\nend st",
-        ),
-        (STOPS.as_slice(), 0, Outcome::WriteFault, ""),
-    ] {
-        let mut sink = with_room(&rt, room);
-        assert_eq!(rt; outcome_of(rt.alloc(), bytes, &mut sink), Some(outcome));
-        assert_eq!(rt; sink.text.as_slice(), text.as_bytes());
-    }
     Ok(())
 }

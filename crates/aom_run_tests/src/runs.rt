@@ -1,0 +1,113 @@
+//! Texts and transcripts that go out, to a sink that may fail.
+use aom_asm::assemble;
+use aom_budget::{Accepted, accept};
+use aom_classes::link;
+use aom_exec::{Machine, Outcome};
+use aom_lines::Turn;
+use aom_run::{Sink, read_script, run, write_text};
+use aom_verify::check;
+use std::alloc::Global;
+use std::test::Fail;
+
+/// A sink that takes three bytes at a time, and so many in all.
+#[derive(Drop)]
+struct Narrow {
+    text: Vec<u8>,
+    room: usize,
+    is_full: bool,
+}
+
+impl Sink for Narrow {
+    ghost use Rattle.std.specs.Prelude.{Some};
+
+    ghost out = { λ s. Some s.text.items };
+
+    ghost failed = { λ s. s.is_full };
+
+    fn put(&mut self, bytes: &[u8]) -> usize {
+        if self.is_full {
+            return 0;
+        }
+        let count = bytes.len().min(self.room).min(3);
+        if self.text.extend_from_slice(&bytes[..count]).is_err() {
+            self.is_full = true;
+            return 0;
+        }
+        self.room -= count;
+        if count == 0 && !bytes.is_empty() {
+            self.is_full = true;
+        }
+        count
+    }
+
+    fn has_failed(&self) -> bool {
+        self.is_full
+    }
+}
+
+fn with_room(rt: &HostRuntime, room: usize) -> Narrow {
+    Narrow {
+        text: Vec::new(rt.alloc()),
+        room,
+        is_full: false,
+    }
+}
+
+#[test]
+fn a_text_goes_out_in_parts(rt: HostRuntime) -> Result<(), Fail> {
+    let mut sink = with_room(&rt, 10);
+    write_text(&mut sink, b"@0 main\n");
+    assert_eq!(rt; sink.text.as_slice(), b"@0 main\n".as_slice());
+    assert!(rt; !sink.has_failed());
+    write_text(&mut sink, b"out 7\n");
+    assert_eq!(rt; sink.text.as_slice(), b"@0 main\nou".as_slice());
+    assert!(rt; sink.has_failed());
+    Ok(())
+}
+
+/// A main that prints 7 and stops.
+const STOPS: &str = "image budget 4;method main main;const r0 7;print r0;stop;ret;end";
+
+/// A main that prints 7.
+const WAITS: &str = "image budget 4;method main main;const r0 7;print r0;ret;end";
+
+fn accepted_of(alloc: Global, text: &str) -> Option<Accepted> {
+    let image = assemble(alloc, text.as_bytes()).ok()?;
+    let linked = link(alloc, image).ok()?;
+    let checked = check(alloc, linked).ok()?;
+    accept(alloc, checked).ok()
+}
+
+fn outcome_of(alloc: Global, text: &str, sink: &mut Narrow) -> Option<Outcome> {
+    let accepted = accepted_of(alloc, text)?;
+    let script = read_script(alloc, b"\n").ok()?;
+    let mut machine = Machine::boot(alloc, &accepted).ok()?;
+    let mut turn = Turn::new(alloc, &accepted, Vec::new(alloc)).ok()?;
+    Some(run(&mut machine, &script, &mut turn, 1, sink))
+}
+
+#[test]
+fn a_run_is_told(rt: HostRuntime) -> Result<(), Fail> {
+    for (text, room, outcome, transcript) in [
+        (
+            STOPS,
+            100,
+            Outcome::Stopped,
+            "@0 main\nout 7\nend stopped cells 0\n",
+        ),
+        (
+            WAITS,
+            100,
+            Outcome::Waiting,
+            "@0 main\nout 7\nend waiting cells 0\n",
+        ),
+        (STOPS, 10, Outcome::WriteFault, "@0 main\nou"),
+        (STOPS, 20, Outcome::WriteFault, "@0 main\nout 7\nend st"),
+        (STOPS, 0, Outcome::WriteFault, ""),
+    ] {
+        let mut sink = with_room(&rt, room);
+        assert_eq!(rt; outcome_of(rt.alloc(), text, &mut sink), Some(outcome));
+        assert_eq!(rt; sink.text.as_slice(), transcript.as_bytes());
+    }
+    Ok(())
+}
