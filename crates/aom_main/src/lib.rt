@@ -13,8 +13,6 @@ mod commands;
 mod faults;
 mod running;
 mod status;
-#[cfg(test)]
-mod tests;
 
 pub use commands::{asm_bytes, check_bytes, dis_bytes, run_bytes};
 pub use faults::{Fault, tell};

@@ -1,7 +1,10 @@
 //! Worked programs that leave: what is unwound, in which order, and what the trap's method hears.
-use super::programs::{assembled, refuses, stops};
-use super::*;
+use crate::pages::{answer_of, checks, runs};
+use crate::programs::{assembled, refuses, stops};
+use aom_main::ExitStatus;
+use std::alloc::Global;
 use std::process::Abort;
+use std::test::Fail;
 
 /// An object whose second phase makes two others, left on the cleanup stack by the method that made it, and taken from
 /// there by the one that gives it to main.

@@ -1,6 +1,9 @@
 //! Any request for memory may be refused: then a command says so, and writes nothing else. Nothing here but the
 //! command asks for memory.
-use super::*;
+use crate::pages::{FIRST, FULL_HEAP, LISTING, SHORT};
+use aom_main::{ExitStatus, asm_bytes, check_bytes, dis_bytes, run_bytes};
+use aom_run::Sink;
+use std::alloc::Global;
 use std::process::Abort;
 
 /// A sink that takes no memory.

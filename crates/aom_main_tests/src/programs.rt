@@ -1,6 +1,9 @@
 //! Worked programs, each from its text to its transcript or its refusal.
-use super::*;
+use crate::pages::{answer_of, checks, page_of, runs};
+use aom_main::{ExitStatus, asm_bytes};
+use std::alloc::Global;
 use std::process::Abort;
+use std::test::Fail;
 
 /// The bytes of the image that a text denotes.
 pub fn assembled(alloc: Global, text: &str) -> Result<Vec<u8>, Fail> {
