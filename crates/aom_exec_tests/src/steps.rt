@@ -32,44 +32,67 @@ fn add_to(alloc: Global, trace: &mut Vec<u8>, turn: &Turn, cells: usize) -> Resu
 
 /// One step of a program whose request of that number is refused.
 fn step(
+    rt: &impl Abort,
     alloc: Global,
     accepted: &Accepted,
     refused: u32,
     machine: &mut Machine<'_>,
     trace: &mut Vec<u8>,
-) -> Result<Progress, AllocError> {
+) -> Result<(), Fail> {
     let mut turn = Turn::new(alloc, accepted, vec![in alloc; refused]?)?;
     let progress = machine.step(&mut turn);
+    assert_eq!(rt; machine.progress(), progress);
     add_to(alloc, trace, &turn, machine.count())?;
-    Ok(progress)
+    Ok(())
 }
 
-/// Runs a program from its boot, and compares its trace and how it stands then. Request 0 is none.
+/// Steps until nothing is at hand, and once more after waiting where the run is not over.
+fn trace_of(
+    rt: &impl Abort,
+    alloc: Global,
+    accepted: &Accepted,
+    refused: u32,
+    machine: &mut Machine<'_>,
+) -> Result<Vec<u8>, Fail> {
+    let mut trace = Vec::new(alloc);
+    assert_eq!(rt; machine.clock(), 0);
+    for _ in 0..64 {
+        if machine.progress() != Progress::Running {
+            break;
+        }
+        assert!(rt; !machine.is_between());
+        step(rt, alloc, accepted, refused, machine, &mut trace)?;
+    }
+    if machine.is_between() {
+        assert_eq!(rt; machine.clock(), 1);
+        machine.wait();
+        step(rt, alloc, accepted, refused, machine, &mut trace)?;
+    }
+    assert!(rt; !machine.is_between());
+    Ok(trace)
+}
+
+/// Runs a program from its boot, and compares its trace and how the run ended. Request 0 is none.
 fn walks(
     rt: &impl Abort,
     alloc: Global,
     text: &str,
     refused: u32,
     wanted: &str,
-    last: Progress,
+    ending: Ending,
 ) -> Result<(), Fail> {
     let Some(accepted) = accepted_of(alloc, text) else {
         return Err(Fail::from("the image is not accepted"));
     };
-    let Ok(mut machine) = Machine::boot(alloc, &accepted) else {
-        return Err(Fail::from("the machine does not boot"));
-    };
-    let mut trace = Vec::new(alloc);
-    for _ in 0..64 {
-        if machine.progress() != Progress::Running {
-            break;
+    match Machine::boot(alloc, &accepted) {
+        Ok(mut machine) => {
+            let trace = trace_of(rt, alloc, &accepted, refused, &mut machine)?;
+            assert_eq!(rt; trace.as_slice(), wanted.as_bytes());
+            assert_eq!(rt; machine.progress(), Progress::Ended(ending));
+            Ok(())
         }
-        let progress = step(alloc, &accepted, refused, &mut machine, &mut trace)?;
-        assert_eq!(rt; machine.progress(), progress);
+        Err(_) => Err(Fail::from("the machine does not boot")),
     }
-    assert_eq!(rt; trace.as_slice(), wanted.as_bytes());
-    assert_eq!(rt; machine.progress(), last);
-    Ok(())
 }
 
 /// Two objects are wanted. What is printed tells whether the second was had.
@@ -80,15 +103,13 @@ L: print r2;delete r0;delete r1;stop;ret;end";
 #[test]
 fn a_full_heap_refuses_the_second_object(rt: HostRuntime) -> Result<(), Fail> {
     let trace = "@0 main\n1 1 1 1 out 1\n1 1 gone 0\n0 0 0 0 ";
-    let stopped = Progress::Ended(Ending::Stopped);
-    walks(&rt, rt.alloc(), TWO_OBJECTS, 0, trace, stopped)
+    walks(&rt, rt.alloc(), TWO_OBJECTS, 0, trace, Ending::Stopped)
 }
 
 #[test]
 fn the_first_request_is_refused_by_its_number(rt: HostRuntime) -> Result<(), Fail> {
     let trace = "@0 main\n0 1 1 1 1 out 2\n1 1 1 gone 0\n0 0 0 ";
-    let stopped = Progress::Ended(Ending::Stopped);
-    walks(&rt, rt.alloc(), TWO_OBJECTS, 1, trace, stopped)
+    walks(&rt, rt.alloc(), TWO_OBJECTS, 1, trace, Ending::Stopped)
 }
 
 #[test]
@@ -98,8 +119,7 @@ method main main;new r0 C;jnull r0 E;put f0 r0;jempty f0 E;take r1 f0;jempty f0 
 L: move r0 r1;put f0 r0
 E: stop;ret;end";
     let trace = "@0 main\n1 1 1 1 1 1 1 1 1 1 gone 0\n0 ";
-    let stopped = Progress::Ended(Ending::Stopped);
-    walks(&rt, rt.alloc(), text, 0, trace, stopped)
+    walks(&rt, rt.alloc(), text, 0, trace, Ending::Stopped)
 }
 
 /// A class of two words, and one that may own an object of it. Each has a destructor.
@@ -109,38 +129,38 @@ method o destruct of O;jempty f0 L;take r0 f0;delete r0;L: ret;end
 method main main;new r0 O;delete r0;new r0 I;delete r0;ret;end";
 
 #[test]
-fn a_turn_ends_where_main_returns(rt: HostRuntime) -> Result<(), Fail> {
+fn a_run_waits_once_main_returns(rt: HostRuntime) -> Result<(), Fail> {
     for (text, trace) in [
         // A jump passes over.
         (
             "image budget 100;method main main;const r3 -1;jump L;const r3 5;L: print r3;ret;end",
-            "@0 main\n0 0 out -1\n0 0 ",
+            "@0 main\n0 0 out -1\n0 0 0 ",
         ),
         // An inner loop goes its rounds again.
         (
             "image budget 100;method main main;const r0 7;loop 0 2;A: loop 1 2;B: print r0;next 1 B;next 0 A;ret;end",
-            "@0 main\n0 0 0 out 7\n0 0 out 7\n0 0 0 0 out 7\n0 0 out 7\n0 0 0 0 ",
+            "@0 main\n0 0 0 out 7\n0 0 out 7\n0 0 0 0 out 7\n0 0 out 7\n0 0 0 0 0 ",
         ),
         // Destructors use words and fields.
         (
             OWNER,
-            "@0 main\n1 1 1 1 gone 1\n0 1 1 1 1 1 1 out 7\n1 out 0\n1 1 gone 0\n0 0 ",
+            "@0 main\n1 1 1 1 gone 1\n0 1 1 1 1 1 1 out 7\n1 out 0\n1 1 gone 0\n0 0 0 ",
         ),
         // A trap has the code once all is unwound.
         (
             "image cells 1 budget 100;class C plain
 method a do leaves;newl r0 C;push r0;const r1 -7;leave r1;end
 method main main leaves;trap self a r0 r2;print r3;ret;end",
-            "@0 main\n0 1 1 1 1 gone 0\nleave -7\n0 out -7\n0 0 ",
+            "@0 main\n0 1 1 1 1 gone 0\nleave -7\n0 out -7\n0 0 0 ",
         ),
         // An object is pushed and popped.
         (
             "image cells 1 budget 100;class C plain
 method main main leaves;newl r0 C;push r0;pop r1;delete r1;const r0 5;leaveif r0;ret;end",
-            "@0 main\n1 1 1 1 gone 0\n0 0 0 0 ",
+            "@0 main\n1 1 1 1 gone 0\n0 0 0 0 0 ",
         ),
     ] {
-        walks(&rt, rt.alloc(), text, 0, trace, Progress::Turned)?;
+        walks(&rt, rt.alloc(), text, 0, trace, Ending::Waiting)?;
     }
     Ok(())
 }
@@ -150,32 +170,11 @@ fn a_pushed_operation_is_run_and_a_refused_push_leaves(rt: HostRuntime) -> Resul
     let text = "image budget 100;method u undo args word;print r0;ret;end
 method main main leaves;const r0 3;pushop r0 u;popdel;pushop r0 u;popop;ret;end";
     let trace = "@0 main\n0 0 0 out 3\n0 0 0 out 3\n0 leave -4\n0 ";
-    let left = Progress::Ended(Ending::MainLeft(-4));
-    walks(&rt, rt.alloc(), text, 2, trace, left)
-}
-
-/// How far the machine has come, the time, and that no cell lives.
-fn stands(machine: &Machine<'_>, progress: Progress, clock: u64) -> bool {
-    machine.progress() == progress && machine.clock() == clock && machine.count() == 0
+    walks(&rt, rt.alloc(), text, 2, trace, Ending::MainLeft(-4))
 }
 
 #[test]
 fn a_run_waits_and_is_over(rt: HostRuntime) -> Result<(), Fail> {
-    let Some(accepted) = accepted_of(rt.alloc(), "image budget 1;method main main;ret;end") else {
-        return Err(Fail::from("the image is not accepted"));
-    };
-    let Ok(mut machine) = Machine::boot(rt.alloc(), &accepted) else {
-        return Err(Fail::from("the machine does not boot"));
-    };
-    let mut trace = Vec::new(rt.alloc());
-    assert!(rt; stands(&machine, Progress::Running, 0) && !machine.is_between());
-    step(rt.alloc(), &accepted, 0, &mut machine, &mut trace)?;
-    assert!(rt; stands(&machine, Progress::Turned, 1) && machine.is_between());
-    if machine.is_between() {
-        machine.wait();
-    }
-    step(rt.alloc(), &accepted, 0, &mut machine, &mut trace)?;
-    assert!(rt; stands(&machine, Progress::Ended(Ending::Waiting), 1) && !machine.is_between());
-    assert_eq!(rt; trace.as_slice(), b"@0 main\n0 0 ".as_slice());
-    Ok(())
+    let text = "image budget 1;method main main;ret;end";
+    walks(&rt, rt.alloc(), text, 0, "@0 main\n0 0 ", Ending::Waiting)
 }

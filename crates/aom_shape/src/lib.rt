@@ -16,8 +16,6 @@ mod objects;
 mod order;
 mod rules;
 mod shape;
-#[cfg(test)]
-mod tests;
 mod things;
 mod why;
 mod words;

@@ -1,6 +1,6 @@
-//! Examples of the order, of meets and of rules.
-use crate::{Age, Entry, Filling, Kind, Shape, Why, meet, weaker, words};
-use aom_image::{ClassNumber, FieldIndex, Place, Register, Thing};
+//! Examples of the order and of meets.
+use aom_image::{ClassNumber, FieldIndex, Register, Thing};
+use aom_shape::{Age, Entry, Filling, Kind, Shape, Why, meet, weaker};
 use std::test::Fail;
 
 fn own(class: u16) -> Kind {
@@ -106,67 +106,6 @@ fn fields_that_differ_meet_in_perhaps(rt: HostRuntime) -> Result<(), Fail> {
         return Err(Fail::from("no meet"));
     };
     assert!(rt; met.field(field) == Filling::Perhaps);
-    Ok(())
-}
-
-#[test]
-fn const_into_an_owning_register_is_refused(rt: HostRuntime) -> Result<(), Fail> {
-    let (Some(third), Some(fourth)) = (Register::new(3), Register::new(4)) else {
-        return Err(Fail::from("no registers"));
-    };
-    let shape = with(third, own(7));
-    let Err(why) = words::rule_const(5, &shape, third) else {
-        return Err(Fail::from("an own is lost"));
-    };
-    assert!(rt; why == Why::RegisterKind);
-    assert!(rt; words::rule_const(5, &shape, fourth).is_ok());
-    Ok(())
-}
-
-#[test]
-fn a_jump_leads_to_its_place(rt: HostRuntime) -> Result<(), Fail> {
-    let Some(to) = Place::new(9) else {
-        return Err(Fail::from("no place"));
-    };
-    let Ok(flow) = words::rule_jump(5, &Shape::unset(), to) else {
-        return Err(Fail::from("no flow"));
-    };
-    assert_eq!(rt; flow.as_slice().len(), 1);
-    for (place, _) in flow.as_slice() {
-        assert_eq!(rt; *place, 9);
-    }
-    Ok(())
-}
-
-#[test]
-fn a_loop_goes_back_or_on(rt: HostRuntime) -> Result<(), Fail> {
-    let Some(to) = Place::new(2) else {
-        return Err(Fail::from("no place"));
-    };
-    let Ok(flow) = words::rule_next(5, &Shape::unset(), to) else {
-        return Err(Fail::from("no flow"));
-    };
-    let [(back, _), (on, _)] = flow.as_slice() else {
-        return Err(Fail::from("not two ways"));
-    };
-    assert_eq!(rt; *back, 2);
-    assert_eq!(rt; *on, 6);
-    Ok(())
-}
-
-#[test]
-fn a_sum_of_words_is_a_word(rt: HostRuntime) -> Result<(), Fail> {
-    let (Some(third), Some(fourth)) = (Register::new(3), Register::new(4)) else {
-        return Err(Fail::from("no registers"));
-    };
-    let shape = with(third, Kind::Word);
-    let Ok(flow) = words::rule_combine(5, &shape, fourth, third, third) else {
-        return Err(Fail::from("no flow"));
-    };
-    for (_, after) in flow.as_slice() {
-        assert!(rt; matches!(after.register(fourth), Kind::Word));
-    }
-    assert!(rt; words::rule_combine(5, &shape, third, third, fourth).is_err());
     Ok(())
 }
 
