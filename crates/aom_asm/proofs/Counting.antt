@@ -96,7 +96,7 @@ false_true is = cc
 no_some : {X : Type 0} (x : X) → None ≡ Some x → ⊥
 no_some x is = cc
 
-some_is : {X : Type 0} (x y : X) → Some x ≡ Some y → x ≡ y
+pub some_is : {X : Type 0} (x y : X) → Some x ≡ Some y → x ≡ y
 some_is x y is = cc
 
 pub found_passes : {X : Type 0} (test : X → Bool) (xs : List X) (x : X) → find test xs ≡ Some x → test x ≡ true

@@ -5,6 +5,7 @@ use Rattle.aom_image.specs.Image.{Image}
 use Rattle.aom_image.specs.Spelling.{spell}
 use Rattle.aom_image.specs.WellFormed.{WellFormed}
 use Rattle.aom_asm.specs.Denoted.{denoted}
+use Rattle.aom_asm.proofs.Steps.{no_ok}
 use Rattle.aom_listing.specs.Listing.{listing_text}
 use Rattle.aom_readback.specs.Texts.{AllSayQuiet}
 use Rattle.aom_readback.proofs.Assembling.{listing_assembles}
@@ -14,9 +15,6 @@ use Rattle.aom_main.specs.Assembly.{IsFaulty, Lists, Makes}
 
 pub makes : (text bytes : List ℕ) (i : Image) → denoted text ≡ Ok i → bytes ≡ spell i → Makes text bytes
 makes text bytes i read spelled = record { image = i; denotes = read_denotes text i read; spelling = spelled }
-
-no_ok : (e : AsmFault) (i : Image) → Err e ≡ Ok i → ⊥
-no_ok e i is = cc
 
 pub means_nothing : (text : List ℕ) (fault : AsmFault) → denoted text ≡ Err fault → IsFaulty text fault
 means_nothing text fault is = record { meaningless = λ i d. no_ok fault i (sym is ∙ denotes_read text i d); first = is }

@@ -71,7 +71,8 @@ provider_sound natives k.Native vs =
           };
     })
   where
-    native_below : (n : ℕ) (b : Bool) → nat_lt n natives ≡ b → (us : List (List ℕ)) (p : Provider) (rest : List (List ℕ)) → (if b then giving (providers.Native n) else failing LimitPassed) us ≡ Ok (p, rest) → (n < natives) × (us ≡ rest) × (providers.Native n ≡ p)
+    native_below : (n : ℕ) (b : Bool) → nat_lt n natives ≡ b → (us : List (List ℕ)) (p : Provider) (rest : List (List ℕ))
+        → (if b then giving (providers.Native n) else failing LimitPassed) us ≡ Ok (p, rest) → (n < natives) × (us ≡ rest) × (providers.Native n ≡ p)
     native_below n true below us p rest is = let same = ok_is (provided n us) (p, rest) is in (ltb-true n natives below, ap (λ q. q.1) same, ap (λ q. q.0) same)
     native_below n false below us p rest is = absurd cc
 provider_sound natives key vs = record { each = λ p rest is. absurd (refused p rest is) }
@@ -166,7 +167,8 @@ module _ (names : Names) (kinds_before : List ClassDecl) (natives servers : ℕ)
       giving_sound Q (kinds.Server sessions of_class n) rest (record { budget_said = Some b.w; words = b.words; means = (means.0, means.1, b.says) }))
   kind_sound said p means owns ws = absurd means
 
-  owns_says : (owns : Bool) (ws vs : List (List ℕ)) (list : List Thing) (rest : List (List ℕ)) → flag k.Own ws ≡ Ok (owns, vs) → fields (told names kinds_before) owns vs ≡ Ok (list, rest) → Part k.Own (IsList 8 (IsThing names)) [] ws list rest
+  owns_says : (owns : Bool) (ws vs : List (List ℕ)) (list : List Thing) (rest : List (List ℕ)) → flag k.Own ws ≡ Ok (owns, vs) → fields (told names kinds_before) owns vs ≡ Ok (list, rest)
+      → Part k.Own (IsList 8 (IsThing names)) [] ws list rest
   owns_says false ws vs list rest marked read =
       let same : unowned vs ≡ (list, rest) = ok_is (unowned vs) (list, rest) read in
       record { said = None; words = saw_mark k.Own ws false vs marked ∙ ap (λ p. p.1) same; says = sym (ap (λ p. p.0) same) }
@@ -204,7 +206,8 @@ module _ (names : Names) (kinds_before : List ClassDecl) (natives servers : ℕ)
       let b = (kind_sound s.said p s.means owns v6).each K v7 r7 in
       giving_sound Q _ v7 (record {
         said = record { name = d.w; kind = s.said; words = n.said; own = o.said; budget = b.budget_said };
-        words = ap (λ v. keyword_text k.Class ∷ v) (d.words ∙ ap (λ v. d.w ∷ v) (e ∙ s.words ∙ ap (λ v. kind_words s.said ++ v) (n.words ∙ ap (λ v. part k.Words n.said ++ v) (o.words ∙ ap (λ v. part k.Own o.said ++ v) b.words))));
+        words = ap (λ v. keyword_text k.Class ∷ v) (d.words ∙ ap (λ v. d.w ∷ v) (e ∙ s.words ∙ ap (λ v. kind_words s.said ++ v)
+            (n.words ∙ ap (λ v. part k.Words n.said ++ v) (o.words ∙ ap (λ v. part k.Own o.said ++ v) b.words))));
         means = record { name = d.is_name; kind = b.means; words = n.says; own = o.says };
         placed = d.placed;
       }))))))))
@@ -212,7 +215,8 @@ module _ (names : Names) (kinds_before : List ClassDecl) (natives servers : ℕ)
 -- ---- what is read
 
 module _ {names : Names} {scope : Scope} (looks : LooksUp names scope) where
-  own_reads : {Y : Type 0} (g : Bool → List Thing → Reading Y) (said : Option (List ℕ)) (list : List Thing) (rest : List (List ℕ)) (y : Y) → SaidOr (IsList 8 (IsThing names)) [] said list → NotNext k.Own rest
+  own_reads : {Y : Type 0} (g : Bool → List Thing → Reading Y) (said : Option (List ℕ)) (list : List Thing) (rest : List (List ℕ)) (y : Y) → SaidOr (IsList 8 (IsThing names)) [] said list
+      → NotNext k.Own rest
       → ((owns : Bool) → Whole (g owns list) rest y) → Whole (next (flag k.Own) (λ owns. next (fields scope owns) (g owns))) (part k.Own said ++ rest) y
   own_reads g None list rest y says other later =
       let empty : Whole (g false []) rest y = subst (λ l. Whole (g false l) rest y) says (later false) in
@@ -229,13 +233,15 @@ module _ {names : Names} {scope : Scope} (looks : LooksUp names scope) where
     }))
     takes_provider said p means = absurd means
 
-    takes_purpose : (said : KindText) (b : Option (List ℕ)) (K : ClassKind) → KindMeans names natives said b K → (is_server_kind K ≡ true → servers < 8) → Takes (next any_keyword (purpose scope natives servers)) (kind_words said) (purpose_of K)
+    takes_purpose : (said : KindText) (b : Option (List ℕ)) (K : ClassKind) → KindMeans names natives said b K → (is_server_kind K ≡ true → servers < 8)
+        → Takes (next any_keyword (purpose scope natives servers)) (kind_words said) (purpose_of K)
     takes_purpose source.plain None kinds.Plain means few = in_turn _ (takes_any_keyword k.Plain) (gives _)
     takes_purpose source.session None kinds.Session means few = in_turn _ (takes_any_keyword k.Session) (gives _)
     takes_purpose (source.active said) (Some w) (kinds.Active p b) means few = in_turn _ (takes_any_keyword k.Active) (made any_keyword (provider natives) purposes.Active (takes_provider said p means.0))
     takes_purpose (source.server class most) (Some w) (kinds.Server sessions of_class b) means few = in_turn _ (takes_any_keyword k.Server) (record {
       reads = λ rest. ap (λ b. (if b then server scope else failing LimitPassed) (class ∷ keyword_text k.Max ∷ most ∷ rest)) (lt-ltb servers 8 (few refl))
-          ∙ (in_turn _ (takes_class looks class of_class means.0) (in_turn _ (takes_keyword k.Max) (in_turn _ (takes_seen (number_reads 1 64 most sessions means.1)) (gives (purposes.Server sessions of_class))))).reads rest;
+          ∙ (in_turn _ (takes_class looks class of_class means.0) (in_turn _ (takes_keyword k.Max)
+          (in_turn _ (takes_seen (number_reads 1 64 most sessions means.1)) (gives (purposes.Server sessions of_class))))).reads rest;
     })
     takes_purpose said b K means few = absurd means
 

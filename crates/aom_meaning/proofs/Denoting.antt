@@ -22,6 +22,7 @@ use Rattle.aom_readback.specs.Naming.{heading_of}
 use Rattle.aom_readback.specs.Texts.{all_words}
 use Rattle.aom_readback.proofs.Following.{Goes}
 use Rattle.aom_readback.proofs.Parts.{read_so_far, spelled}
+use Rattle.aom_readback.proofs.Wholes.{none_left}
 use Rattle.aom_meaning.specs.Denotes.{Denotes, names_of}
 use Rattle.aom_meaning.specs.Meaning.{ClassMeans, DeclaredOnce, HeaderMeans, MethodMeans, Names, Pairwise}
 use Rattle.aom_meaning.specs.Source.{ClassText, MethodText, Source, classes_of, declared_statements, header_words, methods_of, source_statements}
@@ -113,10 +114,6 @@ class_count names natives [] (c ∷ cs) means = absurd means
 class_count names natives (t ∷ ts) [] means = absurd means
 class_count names natives (t ∷ ts) (c ∷ cs) means = let rest = class_count names natives ts cs means.1 in omega arith
 
-none_after : (ss : List Statement) → all_words ss ≡ [] → ss ≡ []
-none_after [] words = refl
-none_after (s ∷ ss) words = absurd cc
-
 module _ (last : ℕ) (text : Source) (b : Bool) (kinds : List ClassDecl) (h : Header) (cs : List ClassDecl) (ms : List Method) (says : Says (names_of text) kinds text h cs ms) where
   abbrev whole : Program
   whole = read_so_far h cs ms None (24 + 28 * length cs + sum_by spelled ms)
@@ -140,7 +137,7 @@ module _ (last : ℕ) (text : Source) (b : Bool) (kinds : List ClassDecl) (h : H
   closes : (ss : List Statement) → all_words ss ≡ [] → read_rest last (scoped b (names_of text) kinds) whole ss ≡ Ok whole
   closes ss words =
       let some = says.some_method in
-      ap (λ l. read_rest last (scoped b (names_of text) kinds) whole l) (none_after ss words)
+      ap (λ l. read_rest last (scoped b (names_of text) kinds) whole l) (none_left ss words)
       ∙ ap (λ b. at_line last (if b then Err LimitPassed else Ok whole)) (ne_eqb (length ms) 0 (λ none. omega arith))
 
   rest_reads : (ss : List Statement) → all_words ss ≡ declared_statements text.declarations → read_rest last (scoped b (names_of text) kinds) (read_so_far h [] [] None 24) ss ≡ Ok whole
@@ -157,7 +154,8 @@ module _ (last : ℕ) (text : Source) (b : Bool) (kinds : List ClassDecl) (h : H
       ∙ rest_reads ss behind
 
 -- by the names that the statements declare
-by_names : (last : ℕ) (text : Source) (ss : List Statement) → all_words ss ≡ source_statements text → (b : Bool) (kinds : List ClassDecl) (h : Header) (cs : List ClassDecl) (ms : List Method) → Says (names_of text) kinds text h cs ms
+by_names : (last : ℕ) (text : Source) (ss : List Statement) → all_words ss ≡ source_statements text
+    → (b : Bool) (kinds : List ClassDecl) (h : Header) (cs : List ClassDecl) (ms : List Method) → Says (names_of text) kinds text h cs ms
     → read_program last (scope_of b ss kinds) ss ≡ Ok (read_so_far h cs ms None (24 + 28 * length cs + sum_by spelled ms))
 by_names last text ss words b kinds h cs ms says = ap (λ n. read_program last (scoped b n kinds) ss) (names_are text ss words) ∙ program_reads last text b kinds h cs ms says ss words
 
@@ -187,7 +185,8 @@ module _ (text : List ℕ) (i : Image) where
       let says = meant_says d in
       let loose = says_beside (names_of d.source) i.classes [] d.source i.header i.classes i.methods says in
       ap (λ b. if b then read_statements last ss else Err (record { line = 1; kind = LimitPassed })) (le-leb (length text) (2 ^ 20) d.short)
-      ∙ ap (λ r. and_then r (λ first. and_then (read_program last (scope_of true ss first.classes) ss) (λ p. Ok (image_of p)))) (by_names last d.source ss d.written false [] i.header i.classes loose.methods loose.says)
+      ∙ ap (λ r. and_then r (λ first. and_then (read_program last (scope_of true ss first.classes) ss) (λ p. Ok (image_of p))))
+      (by_names last d.source ss d.written false [] i.header i.classes loose.methods loose.says)
       ∙ ap (λ r. and_then r (λ p. Ok (image_of p))) (by_names last d.source ss d.written true i.classes i.header i.classes i.methods says)
 
   -- ---- what was read is meant
@@ -222,7 +221,8 @@ module _ (text : List ℕ) (i : Image) where
       let says : Says (names_of source) kinds source q.header q.classes q.methods = subst (λ n. Says n kinds source q.header q.classes q.methods) same read in
       let loose = says_beside (names_of source) kinds [] source q.header q.classes q.methods says in
       let first = by_names last source ss p.words false [] q.header q.classes loose.methods loose.says in
-      let again : s.first ≡ read_so_far q.header q.classes loose.methods None (24 + 28 * length q.classes + sum_by spelled loose.methods) = ok_is s.first (read_so_far q.header q.classes loose.methods None (24 + 28 * length q.classes + sum_by spelled loose.methods)) (sym s.read ∙ first) in
+      let again : s.first ≡ read_so_far q.header q.classes loose.methods None (24 + 28 * length q.classes + sum_by spelled loose.methods) = ok_is s.first
+      (read_so_far q.header q.classes loose.methods None (24 + 28 * length q.classes + sum_by spelled loose.methods)) (sym s.read ∙ first) in
       let alike : kinds ≡ q.classes = ap (λ (p : Program). p.classes) again in
       subst (Denotes text) made (record {
         source = source;

@@ -98,7 +98,9 @@ module _ (names : Names) (kinds : List ClassDecl) where
       let r = (root_sound v7).each root v8 r8 in
       giving_sound Q _ v8 (record {
         said = record { cells = cs.said; messages = ms.said; natives = ns.said; budget = b.w; root = r.said };
-        words = e1 ∙ ap (λ v. keyword_text k.Image ∷ v) (e2 ∙ cs.words ∙ ap (λ v. part k.Cells cs.said ++ v) (ms.words ∙ ap (λ v. part k.Messages ms.said ++ v) (ns.words ∙ ap (λ v. part k.Natives ns.said ++ v) (e6 ∙ ap (λ v. keyword_text k.Budget ∷ v) (b.words ∙ ap (λ v. b.w ∷ v) r.words)))));
+        words = e1
+            ∙ ap (λ v. keyword_text k.Image ∷ v) (e2 ∙ cs.words ∙ ap (λ v. part k.Cells cs.said ++ v)
+            (ms.words ∙ ap (λ v. part k.Messages ms.said ++ v) (ns.words ∙ ap (λ v. part k.Natives ns.said ++ v) (e6 ∙ ap (λ v. keyword_text k.Budget ∷ v) (b.words ∙ ap (λ v. b.w ∷ v) r.words)))));
         means = record { cells = cs.says; messages = ms.says; natives = ns.says; budget = b.says; root = r.says };
       })))))))))
 
@@ -134,4 +136,5 @@ module _ {names : Names} {scope : Scope} (looks : LooksUp names scope) where
     where
       no_version_next : NotNext k.Version (part k.Cells t.cells ++ (part k.Messages t.messages ++ (part k.Natives t.natives ++ (keyword_text k.Budget ∷ t.budget ∷ part k.Root t.root))))
       no_version_next =
-          not_part k.Version k.Cells t.cells _ refl (not_part k.Version k.Messages t.messages _ refl (not_part k.Version k.Natives t.natives _ refl (not_word k.Version (keyword_text k.Budget) (t.budget ∷ part k.Root t.root) refl)))
+          not_part k.Version k.Cells t.cells _ refl (not_part k.Version k.Messages t.messages _ refl
+          (not_part k.Version k.Natives t.natives _ refl (not_word k.Version (keyword_text k.Budget) (t.budget ∷ part k.Root t.root) refl)))

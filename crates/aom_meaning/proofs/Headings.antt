@@ -175,7 +175,8 @@ module _ (names : Names) (kinds : List ClassDecl) where
       let c = class_says v2 class v3 r3 in
       let i = saw_part k.In states_of AreStates (states (usual_before role all)) (λ w s is. is) v5 before v6 r6 in
       let o = saw_part k.Out states_of AreStates (states (usual_after role all)) (λ w s is. is) v6 after v7 r7 in
-      let a = saw_part k.Args (listed 6 (argument_of scope)) (IsList 6 (IsArgument names)) (replicate (usual_words role) arg.Word) (list_means 6 (argument_of scope) (IsArgument names) (argument_means names kinds)) v7 arguments v8 r8 in
+      let a = saw_part k.Args (listed 6 (argument_of scope)) (IsList 6 (IsArgument names)) (replicate (usual_words role) arg.Word)
+      (list_means 6 (argument_of scope) (IsArgument names) (argument_means names kinds)) v7 arguments v8 r8 in
       let g = (gives_sound (usual_gives role (kind_of kinds class)) v8).each gives v9 r9 in
       let said : HeadingText = record { name = d.w; role = r.key; class = c.said; leaves = leaves; quiet = quiet; before = i.said; after = o.said; arguments = a.said; gives = g.said } in
       giving_sound Q _ v9 (record {
@@ -201,7 +202,8 @@ takes_role : (key : Keyword) (r : Role) → role_of key ≡ Ok r → Takes role 
 takes_role key r says = sees role_of (takes_any_keyword key) says
 
 module _ {names : Names} {scope : Scope} (looks : LooksUp names scope) where
-  class_reads : (said : Option (List ℕ)) (c : Option ℕ) (rest : List (List ℕ)) → SaidOrNone (IsNumbered names.classes) said c → NotNext k.Of rest → Leaves (optional_class scope) (part k.Of said ++ rest) c rest
+  class_reads : (said : Option (List ℕ)) (c : Option ℕ) (rest : List (List ℕ)) → SaidOrNone (IsNumbered names.classes) said c → NotNext k.Of rest
+      → Leaves (optional_class scope) (part k.Of said ++ rest) c rest
   class_reads None None rest says other = record { reads = ap (λ p. if p.0 then (class scope p.1 >>= λ x. Ok (Some x.0, x.1)) else Ok (None, p.1)) other.left }
   class_reads None (Some c) rest says other = absurd says
   class_reads (Some w) None rest says other = absurd says
@@ -232,7 +234,8 @@ module _ {names : Names} {scope : Scope} (looks : LooksUp names scope) where
       giving (record { class = class; role = role; flags = flags_of leaves (quiet || is_quiet_role role); before = before; after = after; arguments = arguments; gives = gives })))))
 
   -- what stands behind the keyword
-  pub heading_reads : (place : ℕ) (t : HeadingText) (h : Heading) → HeadingMeans names scope.kinds t h → place_of t.name scope.methods ≡ Some place → Whole (heading scope place) (t.name ∷ keyword_text t.role ∷ promise_words t) h
+  pub heading_reads : (place : ℕ) (t : HeadingText) (h : Heading) → HeadingMeans names scope.kinds t h → place_of t.name scope.methods ≡ Some place
+      → Whole (heading scope place) (t.name ∷ keyword_text t.role ∷ promise_words t) h
   heading_reads place t h means placed =
       let kind = kind_of scope.kinds h.class in
       let v9 = gives_words t.gives in
@@ -244,16 +247,19 @@ module _ {names : Names} {scope : Scope} (looks : LooksUp names scope) where
       first _ (takes_declared scope.methods place t.name means.name placed) (
       first _ (takes_role t.role h.role means.role) (
       then_reads _ (class_reads t.class h.class v4 means.class
-      (not_mark k.Of k.Leaves t.leaves v5 refl (not_mark k.Of k.Quiet t.quiet v6 refl (not_part k.Of k.In t.before v7 refl (not_part k.Of k.Out t.after v8 refl (not_part k.Of k.Args t.arguments v9 refl (not_gives k.Of t.gives refl))))))) (
+      (not_mark k.Of k.Leaves t.leaves v5 refl (not_mark k.Of k.Quiet t.quiet v6 refl
+      (not_part k.Of k.In t.before v7 refl (not_part k.Of k.Out t.after v8 refl (not_part k.Of k.Args t.arguments v9 refl (not_gives k.Of t.gives refl))))))) (
       then_reads (λ leaves. next (flag k.Quiet) (promised h.role h.class leaves)) (reads_mark k.Leaves t.leaves v5
-      (not_mark k.Leaves k.Quiet t.quiet v6 refl (not_part k.Leaves k.In t.before v7 refl (not_part k.Leaves k.Out t.after v8 refl (not_part k.Leaves k.Args t.arguments v9 refl (not_gives k.Leaves t.gives refl)))))) (
+      (not_mark k.Leaves k.Quiet t.quiet v6 refl (not_part k.Leaves k.In t.before v7 refl
+      (not_part k.Leaves k.Out t.after v8 refl (not_part k.Leaves k.Args t.arguments v9 refl (not_gives k.Leaves t.gives refl)))))) (
       then_reads (promised h.role h.class t.leaves) (reads_mark k.Quiet t.quiet v6
       (not_part k.Quiet k.In t.before v7 refl (not_part k.Quiet k.Out t.after v8 refl (not_part k.Quiet k.Args t.arguments v9 refl (not_gives k.Quiet t.gives refl))))) (
       then_reads _ (reads_part k.In states_of AreStates (states (usual_before h.role (all_states kind))) states_read t.before h.before v7 means.before
       (not_part k.In k.Out t.after v8 refl (not_part k.In k.Args t.arguments v9 refl (not_gives k.In t.gives refl)))) (
       then_reads _ (reads_part k.Out states_of AreStates (states (usual_after h.role (all_states kind))) states_read t.after h.after v8 means.after
       (not_part k.Out k.Args t.arguments v9 refl (not_gives k.Out t.gives refl))) (
-      then_reads _ (reads_part k.Args (listed 6 (argument_of scope)) (IsList 6 (IsArgument names)) (replicate (usual_words h.role) arg.Word) (list_reads 6 (argument_of scope) (IsArgument names) (argument_reads looks)) t.arguments h.arguments v9 means.arguments
+      then_reads _ (reads_part k.Args (listed 6 (argument_of scope)) (IsList 6 (IsArgument names)) (replicate (usual_words h.role) arg.Word)
+      (list_reads 6 (argument_of scope) (IsArgument names) (argument_reads looks)) t.arguments h.arguments v9 means.arguments
       (not_gives k.Args t.gives refl)) (
       last _ (gives_read (usual_gives h.role kind) t.gives h.gives means.gives) (
       settle (ap (λ f. record h { flags = f }) (sym means.flags)) (done _))))))))))

@@ -20,7 +20,7 @@ use Rattle.aom_syntax.specs.Names.{place_of}
 use Rattle.aom_syntax.specs.Reading.{◌>>=◌, as_name, giving, next, nothing_more, seen, word}
 use Rattle.aom_syntax.specs.Words.{words_operands}
 use Rattle.aom_syntax.specs.declared.mnemonic.Mnemonic.{Mnemonic}
-use Rattle.aom_asm.proofs.Counting.{found_passes}
+use Rattle.aom_asm.proofs.Counting.{found_passes, some_is}
 use Rattle.aom_ranges.proofs.Names.{at_place}
 use Rattle.aom_ranges.proofs.Within.{ok_is, passed, steps}
 use Rattle.aom_readback.proofs.Readings.{Takes, Whole, first, in_turn, last, regroup, sees, takes_word}
@@ -35,9 +35,6 @@ use Rattle.aom_meaning.proofs.Sound.{Sound, giving_sound, next_sound}
 use Rattle.aom_meaning.proofs.Words.{name_reads, plain_name}
 
 -- ---- labels
-
-some_is : {X : Type 0} (x y : X) → Some x ≡ Some y → x ≡ y
-some_is x y is = cc
 
 -- a word without its last byte, and that byte
 colon_last : (w : List ℕ) (n : ℕ) → suc n ≡ length w → get_or w n 0 ≡ 58 → w ≡ take n w ++ 58 ∷ []
@@ -83,7 +80,8 @@ module _ (place : ℕ) (labels : List (List ℕ)) where
       let i = passed (list_all is_plain v) (Ok (v, vs)) NotAscii (w, rest) is in
       ap (λ p. p.0 ∷ p.1) (ok_is (v, vs) (w, rest) i.1)
 
-  past : (ws : List (List ℕ)) (v : List ℕ) (vs : List (List ℕ)) (o : Option (List ℕ)) (w : List ℕ) (rest : List (List ℕ)) → ws ≡ v ∷ vs → label_of v ≡ o → skip_label place labels v o vs ≡ Ok (w, rest) → Labelled ws w rest
+  past : (ws : List (List ℕ)) (v : List ℕ) (vs : List (List ℕ)) (o : Option (List ℕ)) (w : List ℕ) (rest : List (List ℕ)) → ws ≡ v ∷ vs → label_of v ≡ o
+      → skip_label place labels v o vs ≡ Ok (w, rest) → Labelled ws w rest
   past ws v vs None w rest words none is = record { label = None; words = words ∙ ap (λ p. p.0 ∷ p.1) (ok_is (v, vs) (w, rest) is); is_named = tt; is_placed = tt }
   past ws v vs (Some l) w rest words some is =
       let s = steps (check_label place labels l) (λ u. word vs) (w, rest) is in
@@ -140,7 +138,8 @@ module _ (place : ℕ) (labels : List (List ℕ)) where
         next_sound Q (nothing_more false) _ v2 (λ u v3 r3.
         let b = begins ws m v1 r1 in
         let none = (none_left false v2 u v3 r3).0 in
-        let found = (operands_follow scope (lookup names) labels (finds_more true 256 names [] kinds names.classes) (finds_more true 1024 names [] kinds names.methods) (finds_more true 1024 names [] kinds labels) m).each v1 i v2 r2 in
+        let found = (operands_follow scope (lookup names) labels (finds_more true 256 names [] kinds names.classes) (finds_more true 1024 names [] kinds names.methods)
+        (finds_more true 1024 names [] kinds labels) m).each v1 i v2 r2 in
         giving_sound Q i v3 (record {
           said = record { label = b.label; mnemonic = m; operands = v1 };
           words = b.words;
@@ -160,7 +159,8 @@ module _ (place : ℕ) (labels : List (List ℕ)) where
       ∙ ap (λ o. if is_at place o then Ok tt else Err DoubleName) there
       ∙ ap (λ b. if b then Ok tt else Err DoubleName) (eq-eqb place place refl)
 
-  takes_label : (label : Option (List ℕ)) (m : Mnemonic) → IsNamed place labels label → IsPlaced place labels label → Takes (after_label place labels) (label_words label ++ mnemonic_text m ∷ []) (mnemonic_text m)
+  takes_label : (label : Option (List ℕ)) (m : Mnemonic) → IsNamed place labels label → IsPlaced place labels label
+      → Takes (after_label place labels) (label_words label ++ mnemonic_text m ∷ []) (mnemonic_text m)
   takes_label None m is there = in_turn _ (takes_word (mnemonic_text m) (mnemonic_is_plain m)) (record {
     reads = λ rest. ap (λ o. skip_label place labels (mnemonic_text m) o rest) (mnemonic_is_no_label m);
   })
@@ -175,9 +175,11 @@ module _ (place : ℕ) (labels : List (List ℕ)) where
   spread None w ws = refl
   spread (Some l) w ws = refl
 
-  pub instruction_reads : (b : Bool) (names : Names) (kinds : List ClassDecl) (t : InstructionText) (i : Instr) → InstructionMeans names labels t i → IsPlaced place labels t.label → Whole (instruction (scoped b names kinds) labels place) (instruction_words t) i
+  pub instruction_reads : (b : Bool) (names : Names) (kinds : List ClassDecl) (t : InstructionText) (i : Instr) → InstructionMeans names labels t i → IsPlaced place labels t.label
+      → Whole (instruction (scoped b names kinds) labels place) (instruction_words t) i
   instruction_reads b names kinds t i means placed =
-      let found = (operands_follow (lookup names) (scoped b names kinds) labels (finds_more b 256 names kinds [] names.classes) (finds_more b 1024 names kinds [] names.methods) (finds_more b 1024 names kinds [] labels) t.mnemonic).each t.operands i [] means.operands in
+      let found = (operands_follow (lookup names) (scoped b names kinds) labels (finds_more b 256 names kinds [] names.classes) (finds_more b 1024 names kinds [] names.methods)
+      (finds_more b 1024 names kinds [] labels) t.mnemonic).each t.operands i [] means.operands in
       let operands : Whole (words_operands (scoped b names kinds) labels t.mnemonic) t.operands i = record { reads = found } in
       regroup (spread t.label (mnemonic_text t.mnemonic) t.operands) (
       first _ (sees named_mnemonic (takes_label t.label t.mnemonic means.label placed) (ap (known_mnemonic (mnemonic_text t.mnemonic)) (mnemonic_reads t.mnemonic))) (

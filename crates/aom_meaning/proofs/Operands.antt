@@ -28,7 +28,8 @@ follows a b c d first later = record {
 pub record FindsMore (limit : ℕ) (strict loose : Scope) (names others : List (List ℕ)) : Type 0 where
   pub finds : (w : List ℕ) (n : ℕ) → referred strict.is_strict limit (place_of w names) ≡ Ok n → referred loose.is_strict limit (place_of w others) ≡ Ok n
 
-used_follows : (limit : ℕ) (strict loose : Scope) (names others : List (List ℕ)) → FindsMore limit strict loose names others → Follows (used strict.is_strict limit names) (used loose.is_strict limit others)
+used_follows : (limit : ℕ) (strict loose : Scope) (names others : List (List ℕ)) → FindsMore limit strict loose names others
+    → Follows (used strict.is_strict limit names) (used loose.is_strict limit others)
 used_follows limit strict loose names others more = record {
   each = λ ws n rest is.
       let s = steps (name ws) (λ x. referred strict.is_strict limit (place_of x.0 names) >>= λ y. Ok (y, x.1)) (n, rest) is in
@@ -38,7 +39,8 @@ used_follows limit strict loose names others more = record {
       ∙ t.second;
 }
 
-module _ (strict loose : Scope) (labels : List (List ℕ)) (classes : FindsMore 256 strict loose strict.classes loose.classes) (methods : FindsMore 1024 strict loose strict.methods loose.methods) (places : FindsMore 1024 strict loose labels labels) where
+module _ (strict loose : Scope) (labels : List (List ℕ)) (classes : FindsMore 256 strict loose strict.classes loose.classes) (methods : FindsMore 1024 strict loose strict.methods loose.methods)
+    (places : FindsMore 1024 strict loose labels labels) where
   class_follows : Follows (class strict) (class loose)
   class_follows = used_follows 256 strict loose strict.classes loose.classes classes
 

@@ -1,8 +1,9 @@
 -- What was read of statements is what they mean: the parts of a program, one after another.
-use Rattle.std.proofs.Common.{◌≡◌, ℕ, ◌+◌, ◌<◌, ◌≤◌, ◌==◌, Bool, true, false, List, [], ◌∷◌, ◌++◌, map, length, Option, Some, None, Result, Ok, Err, refl, sym, ap, subst, ◌∙◌, append_assoc, append-nil, arith, length-append, nat_lt}
+use Rattle.std.proofs.Common.{◌≡◌, ℕ, ◌+◌, ◌<◌, ◌≤◌, ◌==◌, Bool, true, false, List, [], ◌∷◌, ◌++◌, map, length, Option, Some, None, Result, Ok, Err, refl, sym, ap, subst, ◌∙◌, append_assoc, append-nil, arith, nat_lt}
 use Rattle.std.specs.Prelude.{if◌then◌else◌}
 use Rattle.std.specs.List.{count_by}
 use Rattle.std.proofs.lemmas.Bool.{eqb-false, ltb-true}
+use Rattle.std.proofs.lemmas.List.{length_push}
 use Rattle.aom_text.specs.declared.fault.AsmFaultKind.{AsmFaultKind}
 use Rattle.aom_text.specs.declared.fault.AsmFaultKind.TheVariants.{BadShape, LimitPassed}
 use Rattle.aom_text.specs.declared.text.Statement.{Statement}
@@ -39,9 +40,6 @@ use Rattle.aom_meaning.proofs.Pieces.{Took, is_not, is_there, none_left, take_it
 use Rattle.aom_meaning.proofs.Places.{scoped}
 use Rattle.aom_meaning.proofs.Texts.{LabelsPlaced, Placed, labels_once, labels_there}
 
-longer : {X : Type 0} (front : List X) (x : X) → length (front ++ x ∷ []) ≡ length front + 1
-longer front x = length-append front (x ∷ [])
-
 -- a method, by what was read of it
 abbrev pub whole_of : Body → Method
 whole_of b = record { class = b.heading.class; role = b.heading.role; flags = b.heading.flags; before = b.heading.before; after = b.heading.after; arguments = b.heading.arguments; gives = b.heading.gives; code = b.code }
@@ -61,7 +59,8 @@ module _ (last : ℕ) (names : Names) (kinds : List ClassDecl) where
     says : ClassSays names kinds h.natives (count_by is_server cs) (length cs) ws class
     same : q ≡ read_so_far h (cs ++ class ∷ []) ms None size
 
-  class_taken : (h : Header) (cs : List ClassDecl) (ms : List Method) (size : ℕ) (ws : List (List ℕ)) (q : Program) → with_class scope (read_so_far h cs ms None size) ws ≡ Ok q → ClassStep h cs ms ws q
+  class_taken : (h : Header) (cs : List ClassDecl) (ms : List Method) (size : ℕ) (ws : List (List ℕ)) (q : Program) → with_class scope (read_so_far h cs ms None size) ws ≡ Ok q
+      → ClassStep h cs ms ws q
   class_taken h cs ms size ws q is =
       let servers = count_by is_server cs in
       let i = if_ok (nat_lt (length cs) 256) (class_statement scope h.natives (length cs) servers ws >>= λ c. grown 28 size >>= λ n. Ok (read_so_far h (cs ++ c.0 ∷ []) ms None n)) LimitPassed q is in
@@ -80,7 +79,8 @@ module _ (last : ℕ) (names : Names) (kinds : List ClassDecl) where
     says : HeadingSays names kinds (length ms) ws begun
     same : q ≡ read_so_far h cs ms (Some (record { heading = begun; labels = labels_until [] ss; code = [] })) size
 
-  heading_taken : (h : Header) (cs : List ClassDecl) (ms : List Method) (size : ℕ) (ss : List Statement) (ws : List (List ℕ)) (q : Program) → with_heading scope ss (read_so_far h cs ms None size) ws ≡ Ok q → HeadingStep h cs ms ss ws q
+  heading_taken : (h : Header) (cs : List ClassDecl) (ms : List Method) (size : ℕ) (ss : List Statement) (ws : List (List ℕ)) (q : Program)
+      → with_heading scope ss (read_so_far h cs ms None size) ws ≡ Ok q → HeadingStep h cs ms ss ws q
   heading_taken h cs ms size ss ws q is =
       let body : Heading → Option Body = λ m. Some (record { heading = m; labels = labels_until [] ss; code = [] }) in
       let i = if_ok (nat_lt (length ms) 1024) (heading scope (length ms) ws >>= λ m. grown 24 size >>= λ n. Ok (read_so_far h cs ms (body m.0) n)) LimitPassed q is in
@@ -100,7 +100,8 @@ module _ (last : ℕ) (names : Names) (kinds : List ClassDecl) where
     says : InstructionSays (length b.code) b.labels names kinds ws instr
     same : q ≡ read_so_far h cs ms (Some (with_code b (b.code ++ instr ∷ []))) size
 
-  code_taken : (h : Header) (cs : List ClassDecl) (ms : List Method) (size : ℕ) (b : Body) (ws : List (List ℕ)) (q : Program) → (with_instruction scope b ws >>= λ c. grown 8 size >>= λ n. Ok (read_so_far h cs ms (Some c) n)) ≡ Ok q → CodeStep h cs ms b ws q
+  code_taken : (h : Header) (cs : List ClassDecl) (ms : List Method) (size : ℕ) (b : Body) (ws : List (List ℕ)) (q : Program)
+      → (with_instruction scope b ws >>= λ c. grown 8 size >>= λ n. Ok (read_so_far h cs ms (Some c) n)) ≡ Ok q → CodeStep h cs ms b ws q
   code_taken h cs ms size b ws q is =
       let added : Instr → Body = λ i. with_code b (b.code ++ i ∷ []) in
       let s = steps (with_instruction scope b ws) (λ c. grown 8 size >>= λ n. Ok (read_so_far h cs ms (Some c) n)) q is in
@@ -120,7 +121,8 @@ module _ (last : ℕ) (names : Names) (kinds : List ClassDecl) where
     none : ws ≡ []
     same : q ≡ read_so_far h cs (ms ++ whole_of b ∷ []) None size
 
-  end_taken : (h : Header) (cs : List ClassDecl) (ms : List Method) (size : ℕ) (b : Body) (ws : List (List ℕ)) (q : Program) → with_method (read_so_far h cs ms None size) b ws ≡ Ok q → EndStep h cs ms size b ws q
+  end_taken : (h : Header) (cs : List ClassDecl) (ms : List Method) (size : ℕ) (b : Body) (ws : List (List ℕ)) (q : Program) → with_method (read_so_far h cs ms None size) b ws ≡ Ok q
+      → EndStep h cs ms size b ws q
   end_taken h cs ms size b ws q is =
       let s = steps (method_of b) (λ m. nothing_more false ws >>= λ u. Ok (read_so_far h cs (ms ++ m ∷ []) None size)) q is in
       let t = steps (nothing_more false ws) (λ u. Ok (read_so_far h cs (ms ++ s.first ∷ []) None size)) q s.second in
@@ -169,7 +171,8 @@ module _ (last : ℕ) (names : Names) (kinds : List ClassDecl) where
   IsFew (Some b) = length b.code ≤ 1024
 
   abbrev AllAfter : List Statement → Type 0
-  AllAfter ss = (o : Option Body) (h : Header) (cs : List ClassDecl) (ms : List Method) (size : ℕ) (q : Program) → IsFew o → read_rest last scope (read_so_far h cs ms o size) ss ≡ Ok q → After h ss o cs ms q
+  AllAfter ss = (o : Option Body) (h : Header) (cs : List ClassDecl) (ms : List Method) (size : ℕ) (q : Program) → IsFew o → read_rest last scope (read_so_far h cs ms o size) ss ≡ Ok q
+      → After h ss o cs ms q
 
   nothing_after : AllAfter []
   nothing_after None h cs ms size q few is =
@@ -192,7 +195,8 @@ module _ (last : ℕ) (names : Names) (kinds : List ClassDecl) where
   nothing_after (Some b) h cs ms size q few is = absurd (no_ok BadShape q (said last (Err BadShape) q is))
 
   module _ (s : Statement) (ss : List Statement) (h : Header) (cs : List ClassDecl) (ms : List Method) (q : Program) where
-    add_class : (rest : List (List ℕ)) → s.words ≡ keyword_text k.Class ∷ rest → (c : ClassDecl) → ClassSays names kinds h.natives (count_by is_server cs) (length cs) rest c → Later h ss (cs ++ c ∷ []) ms q → Later h (s ∷ ss) cs ms q
+    add_class : (rest : List (List ℕ)) → s.words ≡ keyword_text k.Class ∷ rest → (c : ClassDecl) → ClassSays names kinds h.natives (count_by is_server cs) (length cs) rest c
+        → Later h ss (cs ++ c ∷ []) ms q → Later h (s ∷ ss) cs ms q
     add_class rest begins c says later = record {
       declarations = source.class says.said ∷ later.declarations;
       words = ap (λ ws. ws ∷ all_words ss) (begins ∙ says.words) ∙ ap (λ r. class_words says.said ∷ r) later.words;
@@ -200,7 +204,7 @@ module _ (last : ℕ) (names : Names) (kinds : List ClassDecl) where
       more_classes = c ∷ later.more_classes;
       classes = later.classes ∙ append_assoc cs (c ∷ []) later.more_classes;
       class_means = (says.means, later.class_means);
-      class_places = (says.placed, subst (λ n. Placed names.classes n (map (λ t. t.name) (classes_of later.declarations))) (longer cs c) later.class_places);
+      class_places = (says.placed, subst (λ n. Placed names.classes n (map (λ t. t.name) (classes_of later.declarations))) (length_push cs c) later.class_places);
       more_methods = later.more_methods;
       methods = later.methods;
       method_means = later.method_means;
@@ -217,7 +221,8 @@ module _ (last : ℕ) (names : Names) (kinds : List ClassDecl) where
         record {
           declarations = source.method text ∷ later.declarations;
           words = ap (λ ws. ws ∷ all_words ss) (begins ∙ says.words)
-              ∙ ap (λ r. heading_words says.said ∷ r) (inside.words ∙ ap (λ r. map instruction_words inside.code ++ (end_words ∷ r)) later.words ∙ sym (append_assoc (map instruction_words inside.code) (end_words ∷ []) (declared_statements later.declarations)));
+              ∙ ap (λ r. heading_words says.said ∷ r) (inside.words ∙ ap (λ r. map instruction_words inside.code ++ (end_words ∷ r)) later.words ∙ sym
+              (append_assoc (map instruction_words inside.code) (end_words ∷ []) (declared_statements later.declarations)));
           header = later.header;
           more_classes = later.more_classes;
           classes = later.classes;
@@ -235,10 +240,11 @@ module _ (last : ℕ) (names : Names) (kinds : List ClassDecl) where
             },
             later.method_means,
           );
-          method_places = (says.placed, subst (λ n. Placed names.methods n (map (λ t. t.heading.name) (methods_of later.declarations))) (longer ms m) later.method_places);
+          method_places = (says.placed, subst (λ n. Placed names.methods n (map (λ t. t.heading.name) (methods_of later.declarations))) (length_push ms m) later.method_places);
         }
 
-    add_end : (b : Body) (rest : List (List ℕ)) → s.words ≡ keyword_text k.End ∷ rest → rest ≡ [] → 1 ≤ length b.code → length b.code ≤ 1024 → Later h ss cs (ms ++ whole_of b ∷ []) q → Inside h (s ∷ ss) b cs ms q
+    add_end : (b : Body) (rest : List (List ℕ)) → s.words ≡ keyword_text k.End ∷ rest → rest ≡ [] → 1 ≤ length b.code → length b.code ≤ 1024 → Later h ss cs (ms ++ whole_of b ∷ []) q
+        → Inside h (s ∷ ss) b cs ms q
     add_end b rest begins none some few later =
         let same : b.code ≡ b.code ++ [] = sym (append-nil b.code) in
         record {
@@ -260,7 +266,7 @@ module _ (last : ℕ) (names : Names) (kinds : List ClassDecl) where
           code = says.said ∷ inside.code;
           more = i ∷ inside.more;
           means = (says.means, inside.means);
-          places = (says.placed, subst (λ n. LabelsPlaced b.labels n inside.code) (longer b.code i) inside.places);
+          places = (says.placed, subst (λ n. LabelsPlaced b.labels n inside.code) (length_push b.code i) inside.places);
           rest = inside.rest;
           words = ap (λ ws. ws ∷ all_words ss) says.words ∙ ap (λ r. instruction_words says.said ∷ r) inside.words;
           some = subst (λ (l : List Instr). 1 ≤ length l) same inside.some;
@@ -269,27 +275,30 @@ module _ (last : ℕ) (names : Names) (kinds : List ClassDecl) where
         }
 
     -- a class or the beginning of a method
-    declared_after : AllAfter ss → (size : ℕ) (p : Program) → read_rest last scope p ss ≡ Ok q → (key : Keyword) (rest : List (List ℕ)) → any_keyword s.words ≡ Ok (key, rest) → declaration scope ss (read_so_far h cs ms None size) key rest ≡ Ok p → Later h (s ∷ ss) cs ms q
+    declared_after : AllAfter ss → (size : ℕ) (p : Program) → read_rest last scope p ss ≡ Ok q → (key : Keyword) (rest : List (List ℕ)) → any_keyword s.words ≡ Ok (key, rest)
+        → declaration scope ss (read_so_far h cs ms None size) key rest ≡ Ok p → Later h (s ∷ ss) cs ms q
     declared_after all size p behind k.Class rest read is =
         let c = class_taken h cs ms size rest p is in
         add_class rest (begins_with s.words k.Class rest read) c.class c.says (all None h (cs ++ c.class ∷ []) ms c.size q tt (ap (λ p. read_rest last scope p ss) (sym c.same) ∙ behind))
     declared_after all size p behind k.Method rest read is =
         let m = heading_taken h cs ms size ss rest p is in
-        add_method rest (begins_with s.words k.Method rest read) m.begun m.says (all (Some (record { heading = m.begun; labels = labels_until [] ss; code = [] })) h cs ms m.size q (omega arith) (ap (λ p. read_rest last scope p ss) (sym m.same) ∙ behind))
+        add_method rest (begins_with s.words k.Method rest read) m.begun m.says (all (Some (record { heading = m.begun; labels = labels_until [] ss; code = [] })) h cs ms m.size q (omega arith)
+        (ap (λ p. read_rest last scope p ss) (sym m.same) ∙ behind))
     declared_after all size p behind key rest read is = absurd (no_ok BadShape p is)
 
     -- an instruction, or the end of a method
     abbrev in_method : ℕ → Body → Bool × List (List ℕ) → Result Program AsmFaultKind
     in_method size b t = if t.0 then with_method (read_so_far h cs ms None size) b t.1 else (with_instruction scope b t.1 >>= λ c. grown 8 size >>= λ n. Ok (read_so_far h cs ms (Some c) n))
 
-    spoken_after : AllAfter ss → (size : ℕ) (b : Body) → length b.code ≤ 1024 → (p : Program) → read_rest last scope p ss ≡ Ok q → Took k.End s.words → in_method size b (took k.End s.words) ≡ Ok p → Inside h (s ∷ ss) b cs ms q
+    spoken_after : AllAfter ss → (size : ℕ) (b : Body) → length b.code ≤ 1024 → (p : Program) → read_rest last scope p ss ≡ Ok q → Took k.End s.words
+        → in_method size b (took k.End s.words) ≡ Ok p → Inside h (s ∷ ss) b cs ms q
     spoken_after all size b few p behind (is_there rest words there) is =
         let e = end_taken h cs ms size b rest p (sym (ap (in_method size b) there) ∙ is) in
         add_end b rest words e.none e.some few (all None h cs (ms ++ whole_of b ∷ []) size q tt (ap (λ p. read_rest last scope p ss) (sym e.same) ∙ behind))
     spoken_after all size b few p behind (is_not there) is =
         let c = code_taken h cs ms size b s.words p (sym (ap (in_method size b) there) ∙ is) in
         let less = c.few in
-        let count : length (b.code ++ c.instr ∷ []) ≡ length b.code + 1 = longer b.code c.instr in
+        let count : length (b.code ++ c.instr ∷ []) ≡ length b.code + 1 = length_push b.code c.instr in
         add_code b c.instr c.says (all (Some (with_code b (b.code ++ c.instr ∷ []))) h cs ms c.size q (omega arith) (ap (λ p. read_rest last scope p ss) (sym c.same) ∙ behind))
 
   statement_after : (s : Statement) (ss : List Statement) → AllAfter ss → AllAfter (s ∷ ss)
@@ -332,7 +341,8 @@ module _ (last : ℕ) (names : Names) (kinds : List ClassDecl) where
         text = record { header = says.said; declarations = later.declarations };
         words = ap (λ ws. ws ∷ all_words ss) says.words ∙ ap (λ r. header_words says.said ∷ r) later.words;
         header = subst (HeaderMeans names says.said) (sym later.header) says.means;
-        classes = subst (λ n. Pairwise (ClassMeans names n) (classes_of later.declarations) q.classes) (ap (λ (h : Header). h.natives) (sym later.header)) (subst (Pairwise (ClassMeans names h.natives) (classes_of later.declarations)) (sym later.classes) later.class_means);
+        classes = subst (λ n. Pairwise (ClassMeans names n) (classes_of later.declarations) q.classes) (ap (λ (h : Header). h.natives) (sym later.header))
+            (subst (Pairwise (ClassMeans names h.natives) (classes_of later.declarations)) (sym later.classes) later.class_means);
         methods = subst (Pairwise (MethodMeans names kinds) (methods_of later.declarations)) (sym later.methods) later.method_means;
         class_places = later.class_places;
         method_places = later.method_places;

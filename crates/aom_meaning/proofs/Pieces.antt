@@ -16,7 +16,7 @@ use Rattle.aom_syntax.specs.Operands.{used}
 use Rattle.aom_syntax.specs.Reading.{◌>>=◌, Reading, as_name, exactly, keyword, name, next, nothing_more, seen, took, word}
 use Rattle.aom_syntax.specs.declared.keyword.Keyword.{Keyword}
 use Rattle.aom_ranges.proofs.Within.{ok_is, passed, steps}
-use Rattle.aom_readback.proofs.Readings.{Takes, Whole, reads_on, sees, takes_word}
+use Rattle.aom_readback.proofs.Readings.{Takes, Whole, reads_on, sees, takes_word, took_same}
 use Rattle.aom_meaning.specs.Meaning.{IsNumbered, SaidOr}
 use Rattle.aom_meaning.specs.Source.{part, mark}
 
@@ -134,18 +134,13 @@ pub record Reads {X : Type 0} (f : List ℕ → Result X AsmFaultKind) (w : List
 pub takes_seen : {X : Type 0} {f : List ℕ → Result X AsmFaultKind} {w : List ℕ} {x : X} → Reads f w x → Takes (seen f word) (w ∷ []) x
 takes_seen {f = f} {w = w} r = sees f (takes_word w r.plain) r.says
 
-took_same : (key : Keyword) (ws : List (List ℕ)) → took key (keyword_text key ∷ ws) ≡ (true, ws)
-took_same key ws = ap (λ b. if b then (true, ws) else (false, keyword_text key ∷ ws)) ((bytes_eq-Decides (keyword_text key) (keyword_text key)).1 refl)
-
 module _ {X : Type 0} (key : Keyword) (f : List ℕ → Result X AsmFaultKind) (Says : List ℕ → X → Type 0) (usual : X) where
-  pub reads_part : ((w : List ℕ) (x : X) → Says w x → Reads f w x) → (said : Option (List ℕ)) (x : X) (rest : List (List ℕ)) → SaidOr Says usual said x → NotNext key rest → Leaves (optional key f Says usual) (part key said ++ rest) x rest
+  pub reads_part : ((w : List ℕ) (x : X) → Says w x → Reads f w x) → (said : Option (List ℕ)) (x : X) (rest : List (List ℕ)) → SaidOr Says usual said x → NotNext key rest
+      → Leaves (optional key f Says usual) (part key said ++ rest) x rest
   reads_part reads None x rest says other = record { reads = ap (λ p. if p.0 then seen f word p.1 else Ok (usual, p.1)) other.left ∙ ap (λ y. Ok (y, rest)) (sym says) }
   reads_part reads (Some w) x rest says other = record { reads = ap (λ p. if p.0 then seen f word p.1 else Ok (usual, p.1)) (took_same key (w ∷ rest)) ∙ (takes_seen (reads w x says)).reads rest }
 
 -- ---- names that are used
-
-some_is : (m n : ℕ) → Some m ≡ Some n → m ≡ n
-some_is m n is = cc
 
 module _ (space : List (List ℕ)) where
   pub placed : (w : List ℕ) (n : ℕ) → place_of w space ≡ Some n → slice_get space n ≡ Some w

@@ -9,9 +9,11 @@ use Rattle.std.proofs.lemmas.Slice.Eq.{bytes_eq-Decides}
 use Rattle.aom_image.specs.declared.class.ClassDecl.{ClassDecl}
 use Rattle.aom_syntax.specs.Names.{place_of, nowhere, referred}
 use Rattle.aom_syntax.specs.declared.scope.Scope.{Scope}
+use Rattle.aom_asm.proofs.Counting.{some_is}
+use Rattle.aom_readback.proofs.Names.{not_true}
 use Rattle.aom_meaning.specs.Meaning.{DeclaredOnce, IsNumbered, Names}
 use Rattle.aom_meaning.proofs.Operands.{FindsMore}
-use Rattle.aom_meaning.proofs.Words.{LooksUp, not_so}
+use Rattle.aom_meaning.proofs.Words.{LooksUp}
 
 -- ---- one place for each name
 
@@ -19,16 +21,13 @@ pub found_once : (space : List (List ℕ)) (w : List ℕ) (n : ℕ) → Declared
 found_once space w n once is =
     let within = slice_get_within space n w is.declared in
     let here : get_or space n [] ≡ w = get_or_from_slice_get space n w [] is.declared in
-    let other : (j : ℕ) → j < n → bytes_eq (get_or space j []) w ≡ false = λ j less. not_so (bytes_eq (get_or space j []) w) (λ yes.
+    let other : (j : ℕ) → j < n → bytes_eq (get_or space j []) w ≡ false = λ j less. not_true (bytes_eq (get_or space j []) w) (λ yes.
     let there : IsNumbered space w j = record { is_name = is.is_name; declared = slice_get-get_or space j [] (omega arith) ∙ ap Some ((bytes_eq-Decides (get_or space j []) w).0 yes) } in
     let same = once.same w j n there is in
     omega arith) in
     let at = position_or_len_is (λ v. bytes_eq v w) space n [] (omega arith) other (λ less. (bytes_eq-Decides (get_or space n []) w).1 here) in
     let less : nat_lt n (length space) ≡ true = lt-ltb n (length space) within in
     ap (λ m. cond (nat_lt m (length space)) (Some m) None) at ∙ rw less
-
-some_is : (m n : ℕ) → Some m ≡ Some n → m ≡ n
-some_is m n is = cc
 
 -- each name of a space is found at its place
 pub record FoundInPlace (space : List (List ℕ)) : Type 0 where

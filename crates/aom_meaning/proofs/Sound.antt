@@ -6,7 +6,8 @@ use Rattle.aom_ranges.proofs.Within.{ok_is, steps}
 pub record Sound {X : Type 0} (r : Reading X) (ws : List (List ℕ)) (Q : X → List (List ℕ) → Type 0) : Type 0 where
   pub each : (x : X) (rest : List (List ℕ)) → r ws ≡ Ok (x, rest) → Q x rest
 
-pub next_sound : {A B : Type 0} (Q : B → List (List ℕ) → Type 0) (a : Reading A) (b : A → Reading B) (ws : List (List ℕ)) → ((x : A) (vs : List (List ℕ)) → a ws ≡ Ok (x, vs) → Sound (b x) vs Q) → Sound (next a b) ws Q
+pub next_sound : {A B : Type 0} (Q : B → List (List ℕ) → Type 0) (a : Reading A) (b : A → Reading B) (ws : List (List ℕ))
+    → ((x : A) (vs : List (List ℕ)) → a ws ≡ Ok (x, vs) → Sound (b x) vs Q) → Sound (next a b) ws Q
 next_sound Q a b ws later = record {
   each = λ y rest is.
       let s = steps (a ws) (λ x. b x.0 x.1) (y, rest) is in

@@ -19,13 +19,14 @@ use Rattle.aom_readback.specs.Texts.{all_words}
 use Rattle.aom_readback.proofs.Statements.{label_cut}
 use Rattle.aom_readback.proofs.Tables.{mnemonic_is_no_label}
 use Rattle.aom_readback.proofs.TextNames.{by_words, by_words_more, declared_by_words}
+use Rattle.aom_asm.proofs.Counting.{some_is}
+use Rattle.aom_readback.proofs.Names.{not_true}
 use Rattle.aom_meaning.specs.Denotes.{names_of}
 use Rattle.aom_meaning.specs.Meaning.{DeclaredOnce, Names, labels_of}
 use Rattle.aom_meaning.specs.Source as source
 use Rattle.aom_meaning.specs.Source.{Declaration, InstructionText, Source, classes_of, declaration_statements, declared_statements, end_words, header_words, instruction_words, label_words, methods_of, source_statements}
 use Rattle.aom_meaning.proofs.Pieces.{NotNext, not_word}
 use Rattle.aom_meaning.proofs.Places.{once_found}
-use Rattle.aom_meaning.proofs.Words.{not_so}
 
 -- ---- what an instruction does not begin with
 
@@ -51,7 +52,7 @@ some_none x is = cc
 
 module _ (key : Keyword) (foreign : Foreign key) where
   no_label : (l : List ℕ) → bytes_eq (l ++ 58 ∷ []) (keyword_text key) ≡ false
-  no_label l = not_so (bytes_eq (l ++ 58 ∷ []) (keyword_text key)) (λ yes. some_none l (sym (label_cut l) ∙ ap label_of ((bytes_eq-Decides (l ++ 58 ∷ []) (keyword_text key)).0 yes) ∙ foreign.label))
+  no_label l = not_true (bytes_eq (l ++ 58 ∷ []) (keyword_text key)) (λ yes. some_none l (sym (label_cut l) ∙ ap label_of ((bytes_eq-Decides (l ++ 58 ∷ []) (keyword_text key)).0 yes) ∙ foreign.label))
 
   nameless : (label : Option (List ℕ)) (n : Mnemonic) (ws : List (List ℕ)) → name_after key (label_words label ++ (mnemonic_text n ∷ ws)) ≡ None
   nameless None n [] = refl
@@ -114,8 +115,10 @@ text_names ss = record { classes = declared_names k.Class [] ss; methods = decla
 
 pub names_are : (s : Source) (ss : List Statement) → all_words ss ≡ source_statements s → text_names ss ≡ names_of s
 names_are s ss words =
-    let classes = declared_by_words k.Class [] ss ∙ ap (by_words k.Class []) words ∙ ap (λ o. by_words k.Class (with_name [] o) (declared_statements s.declarations)) (image_no_class (others_of (header_words s.header))) ∙ class_names s.declarations [] in
-    let methods = declared_by_words k.Method [] ss ∙ ap (by_words k.Method []) words ∙ ap (λ o. by_words k.Method (with_name [] o) (declared_statements s.declarations)) (image_no_method (others_of (header_words s.header))) ∙ method_names s.declarations [] in
+    let classes = declared_by_words k.Class [] ss ∙ ap (by_words k.Class []) words
+    ∙ ap (λ o. by_words k.Class (with_name [] o) (declared_statements s.declarations)) (image_no_class (others_of (header_words s.header))) ∙ class_names s.declarations [] in
+    let methods = declared_by_words k.Method [] ss ∙ ap (by_words k.Method []) words
+    ∙ ap (λ o. by_words k.Method (with_name [] o) (declared_statements s.declarations)) (image_no_method (others_of (header_words s.header))) ∙ method_names s.declarations [] in
     ap (λ (l : List (List ℕ)). record { classes = l; methods = declared_names k.Method [] ss }) classes
     ∙ ap (λ (l : List (List ℕ)). record { classes = map (λ t. t.name) (classes_of s.declarations); methods = l }) methods
 
@@ -125,7 +128,8 @@ has_label : (label : Option (List ℕ)) (n : Mnemonic) (ws : List (List ℕ)) �
 has_label None n ws = ap label_or_none (mnemonic_is_no_label n)
 has_label (Some l) n ws = ap label_or_none (label_cut l)
 
-pub labels_there : (code : List InstructionText) (left : List (List (List ℕ))) (labels : List (List ℕ)) (ss : List Statement) → all_words ss ≡ map instruction_words code ++ (end_words ∷ left) → labels_until labels ss ≡ labels ++ labels_of code
+pub labels_there : (code : List InstructionText) (left : List (List (List ℕ))) (labels : List (List ℕ)) (ss : List Statement)
+    → all_words ss ≡ map instruction_words code ++ (end_words ∷ left) → labels_until labels ss ≡ labels ++ labels_of code
 labels_there [] left labels [] words = absurd cc
 labels_there (t ∷ ts) left labels [] words = absurd cc
 labels_there [] left labels (s ∷ ss) words =
@@ -149,9 +153,6 @@ LabelsPlaced labels n (t ∷ ts) = IfSome t.label (λ l. place_of l labels ≡ S
 abbrev pub Placed : List (List ℕ) → ℕ → List (List ℕ) → Type 0
 Placed space n [] = Unit {0}
 Placed space n (w ∷ ws) = (place_of w space ≡ Some n) × Placed space (n + 1) ws
-
-some_is : (x y : List ℕ) → Some x ≡ Some y → x ≡ y
-some_is x y is = cc
 
 nth_placed : (space : List (List ℕ)) (n : ℕ) (ws : List (List ℕ)) (i : ℕ) (w : List ℕ) → Placed space n ws → slice_get ws i ≡ Some w → place_of w space ≡ Some (n + i)
 nth_placed space n [] i w placed there = absurd cc
@@ -178,7 +179,8 @@ is_there : (labels : List (List ℕ)) (n : ℕ) (label : Option (List ℕ)) (w :
 is_there labels n None w same placed = absurd cc
 is_there labels n (Some l) w same placed = ap (λ u. place_of u labels) (sym (some_is l w same)) ∙ placed
 
-nth_label : (labels : List (List ℕ)) (n : ℕ) (code : List InstructionText) (i : ℕ) (w : List ℕ) → LabelsPlaced labels n code → slice_get (labels_of code) i ≡ Some w → is_name w ≡ true → place_of w labels ≡ Some (n + i)
+nth_label : (labels : List (List ℕ)) (n : ℕ) (code : List InstructionText) (i : ℕ) (w : List ℕ) → LabelsPlaced labels n code → slice_get (labels_of code) i ≡ Some w → is_name w ≡ true
+    → place_of w labels ≡ Some (n + i)
 nth_label labels n [] i w placed there is = absurd cc
 nth_label labels n (t ∷ ts) zero w placed there is =
     let same : n ≡ n + 0 = omega arith in

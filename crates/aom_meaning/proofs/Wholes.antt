@@ -1,9 +1,10 @@
 -- Statements that mean a program are read as that program, whether names are told apart or not.
-use Rattle.std.proofs.Common.{◌≡◌, ℕ, suc, ◌+◌, ◌*◌, ◌<◌, ◌≤◌, ◌^◌, Bool, true, false, List, [], ◌∷◌, ◌++◌, map, length, slice_get, Option, Some, None, Result, Ok, Err, refl, sym, ap, subst, ◌∙◌, append_assoc, append-nil, arith, length-append}
+use Rattle.std.proofs.Common.{◌≡◌, ℕ, suc, ◌+◌, ◌*◌, ◌<◌, ◌≤◌, ◌^◌, Bool, true, false, List, [], ◌∷◌, ◌++◌, map, length, slice_get, Option, Some, None, Result, Ok, Err, refl, sym, ap, subst, ◌∙◌, append_assoc, append-nil, arith}
 use Rattle.std.specs.Prelude.{IfSome, if◌then◌else◌}
 use Rattle.std.specs.List.{count_by, sum_by}
 use Rattle.std.proofs.lemmas.Bool.{lt-ltb, ne_eqb}
 use Rattle.std.proofs.lemmas.List.Sums.{sum_by-cons}
+use Rattle.std.proofs.lemmas.List.{length_push}
 use Rattle.aom_text.specs.Names.{is_name}
 use Rattle.aom_text.specs.declared.fault.AsmFaultKind.{AsmFaultKind}
 use Rattle.aom_text.specs.declared.fault.AsmFaultKind.TheVariants.{LimitPassed}
@@ -30,7 +31,7 @@ use Rattle.aom_readback.proofs.Parts.{few_before, read_so_far, spelled}
 use Rattle.aom_readback.proofs.Readings.{takes_any_keyword}
 use Rattle.aom_meaning.specs.Meaning.{ClassMeans, DeclaredOnce, HeadingMeans, InstructionMeans, MethodMeans, Names, Pairwise, labels_of}
 use Rattle.aom_meaning.specs.Source as source
-use Rattle.aom_meaning.specs.Source.{ClassText, Declaration, HeadingText, InstructionText, MethodText, Source, class_words, classes_of, declared_statements, end_words, header_words, heading_words, instruction_words, kind_words, methods_of, part, promise_words, source_statements}
+use Rattle.aom_meaning.specs.Source.{ClassText, Declaration, InstructionText, MethodText, class_words, classes_of, declared_statements, end_words, heading_words, instruction_words, kind_words, methods_of, part, promise_words}
 use Rattle.aom_meaning.proofs.Classes.{class_reads}
 use Rattle.aom_meaning.proofs.Headings.{heading_reads}
 use Rattle.aom_meaning.proofs.Instructions.{instruction_reads}
@@ -46,35 +47,39 @@ regrouped front x xs = sym (append_assoc front (x ∷ []) xs)
 at_place : (space front : List (List ℕ)) (w : List ℕ) (ws : List (List ℕ)) → DeclaredOnce space → space ≡ front ++ w ∷ ws → is_name w ≡ true → place_of w space ≡ Some (length front)
 at_place space front w ws once whole is = found_once space w (length front) once (record { is_name = is; declared = ap (λ l. slice_get l (length front)) whole ∙ at_seam front w ws })
 
-longer : {X : Type 0} (front : List X) (x : X) → length (front ++ x ∷ []) ≡ length front + 1
-longer front x = length-append front (x ∷ [])
-
-pub classes_placed : (names : Names) (natives : ℕ) (space : List (List ℕ)) → DeclaredOnce space → (front : List (List ℕ)) (ts : List ClassText) (cs : List ClassDecl) → Pairwise (ClassMeans names natives) ts cs → space ≡ front ++ map (λ t. t.name) ts → Placed space (length front) (map (λ t. t.name) ts)
+pub classes_placed : (names : Names) (natives : ℕ) (space : List (List ℕ)) → DeclaredOnce space → (front : List (List ℕ)) (ts : List ClassText) (cs : List ClassDecl)
+    → Pairwise (ClassMeans names natives) ts cs → space ≡ front ++ map (λ t. t.name) ts → Placed space (length front) (map (λ t. t.name) ts)
 classes_placed names natives space once front [] cs means whole = tt
 classes_placed names natives space once front (t ∷ ts) [] means whole = absurd means
 classes_placed names natives space once front (t ∷ ts) (c ∷ cs) means whole = (
   at_place space front t.name (map (λ t. t.name) ts) once whole means.0.name,
-  subst (λ n. Placed space n (map (λ t. t.name) ts)) (longer front t.name) (classes_placed names natives space once (front ++ t.name ∷ []) ts cs means.1 (whole ∙ regrouped front t.name (map (λ t. t.name) ts))),
+  subst (λ n. Placed space n (map (λ t. t.name) ts)) (length_push front t.name) (classes_placed names natives space once (front ++ t.name ∷ []) ts cs means.1
+      (whole ∙ regrouped front t.name (map (λ t. t.name) ts))),
 )
 
-pub methods_placed : (names : Names) (kinds : List ClassDecl) (space : List (List ℕ)) → DeclaredOnce space → (front : List (List ℕ)) (ts : List MethodText) (ms : List Method) → Pairwise (MethodMeans names kinds) ts ms → space ≡ front ++ map (λ t. t.heading.name) ts → Placed space (length front) (map (λ t. t.heading.name) ts)
+pub methods_placed : (names : Names) (kinds : List ClassDecl) (space : List (List ℕ)) → DeclaredOnce space → (front : List (List ℕ)) (ts : List MethodText) (ms : List Method)
+    → Pairwise (MethodMeans names kinds) ts ms → space ≡ front ++ map (λ t. t.heading.name) ts → Placed space (length front) (map (λ t. t.heading.name) ts)
 methods_placed names kinds space once front [] ms means whole = tt
 methods_placed names kinds space once front (t ∷ ts) [] means whole = absurd means
 methods_placed names kinds space once front (t ∷ ts) (m ∷ ms) means whole = (
   at_place space front t.heading.name (map (λ t. t.heading.name) ts) once whole means.0.heading.name,
-  subst (λ n. Placed space n (map (λ t. t.heading.name) ts)) (longer front t.heading.name) (methods_placed names kinds space once (front ++ t.heading.name ∷ []) ts ms means.1 (whole ∙ regrouped front t.heading.name (map (λ t. t.heading.name) ts))),
+  subst (λ n. Placed space n (map (λ t. t.heading.name) ts)) (length_push front t.heading.name)
+      (methods_placed names kinds space once (front ++ t.heading.name ∷ []) ts ms means.1 (whole ∙ regrouped front t.heading.name (map (λ t. t.heading.name) ts))),
 )
 
-one_label : (labels front : List (List ℕ)) (label : Option (List ℕ)) (rest : List (List ℕ)) → DeclaredOnce labels → labels ≡ front ++ label_or_none label ∷ rest → IfSome label (λ l. is_name l ≡ true) → IfSome label (λ l. place_of l labels ≡ Some (length front))
+one_label : (labels front : List (List ℕ)) (label : Option (List ℕ)) (rest : List (List ℕ)) → DeclaredOnce labels → labels ≡ front ++ label_or_none label ∷ rest
+    → IfSome label (λ l. is_name l ≡ true) → IfSome label (λ l. place_of l labels ≡ Some (length front))
 one_label labels front None rest once whole is = tt
 one_label labels front (Some l) rest once whole is = at_place labels front l rest once whole is
 
-labels_placed : (names : Names) (all labels : List (List ℕ)) → DeclaredOnce labels → (front : List (List ℕ)) (ts : List InstructionText) (is : List Instr) → Pairwise (InstructionMeans names all) ts is → labels ≡ front ++ labels_of ts → LabelsPlaced labels (length front) ts
+labels_placed : (names : Names) (all labels : List (List ℕ)) → DeclaredOnce labels → (front : List (List ℕ)) (ts : List InstructionText) (is : List Instr)
+    → Pairwise (InstructionMeans names all) ts is → labels ≡ front ++ labels_of ts → LabelsPlaced labels (length front) ts
 labels_placed names all labels once front [] is means whole = tt
 labels_placed names all labels once front (t ∷ ts) [] means whole = absurd means
 labels_placed names all labels once front (t ∷ ts) (i ∷ is) means whole = (
   one_label labels front t.label (labels_of ts) once whole means.0.label,
-  subst (λ n. LabelsPlaced labels n ts) (longer front (label_or_none t.label)) (labels_placed names all labels once (front ++ label_or_none t.label ∷ []) ts is means.1 (whole ∙ regrouped front (label_or_none t.label) (labels_of ts))),
+  subst (λ n. LabelsPlaced labels n ts) (length_push front (label_or_none t.label)) (labels_placed names all labels once (front ++ label_or_none t.label ∷ []) ts is means.1
+      (whole ∙ regrouped front (label_or_none t.label) (labels_of ts))),
 )
 
 -- ---- statement by statement
@@ -83,13 +88,15 @@ module _ (last : ℕ) (names : Names) (h : Header) (b : Bool) (kinds : List Clas
   abbrev scope : Scope
   scope = scoped b names kinds
 
-  class_step : (cs : List ClassDecl) (ms : List Method) (t : ClassText) (c : ClassDecl) (size : ℕ) (rest : List Statement) → length cs < 256 → ClassMeans names h.natives t c → place_of t.name names.classes ≡ Some (length cs) → (is_server c ≡ true → count_by is_server cs < 8) → size + 28 ≤ 2 ^ 20
+  class_step : (cs : List ClassDecl) (ms : List Method) (t : ClassText) (c : ClassDecl) (size : ℕ) (rest : List Statement) → length cs < 256 → ClassMeans names h.natives t c
+      → place_of t.name names.classes ≡ Some (length cs) → (is_server c ≡ true → count_by is_server cs < 8) → size + 28 ≤ 2 ^ 20
       → step scope rest (read_so_far h cs ms None size) (class_words t) ≡ Ok (read_so_far h (cs ++ c ∷ []) ms None (size + 28))
   class_step cs ms t c size rest few means placed servers enough =
       let words = t.name ∷ (kind_words t.kind ++ (part k.Words t.words ++ (part k.Own t.own ++ part k.Budget t.budget))) in
       let p = read_so_far h cs ms None size in
       ap (λ e. e >>= λ key. declaration scope rest p key.0 key.1) ((takes_any_keyword k.Class).reads words)
-      ∙ ap (λ b. if b then (class_statement scope h.natives (length cs) (count_by is_server cs) words >>= λ x. grown 28 size >>= λ n. Ok (read_so_far h (cs ++ x.0 ∷ []) ms None n)) else Err LimitPassed) (lt-ltb (length cs) 256 few)
+      ∙ ap (λ b. if b then (class_statement scope h.natives (length cs) (count_by is_server cs) words >>= λ x. grown 28 size >>= λ n. Ok
+      (read_so_far h (cs ++ x.0 ∷ []) ms None n)) else Err LimitPassed) (lt-ltb (length cs) 256 few)
       ∙ ap (λ e. e >>= λ x. grown 28 size >>= λ n. Ok (read_so_far h (cs ++ x.0 ∷ []) ms None n)) (class_reads looks h.natives (count_by is_server cs) (length cs) t c means placed servers).reads
       ∙ ap (λ e. e >>= λ n. Ok (read_so_far h (cs ++ c ∷ []) ms None n)) (room 28 size enough)
 
@@ -101,15 +108,18 @@ module _ (last : ℕ) (names : Names) (h : Header) (b : Bool) (kinds : List Clas
     abbrev open_method : List Method → MethodText → Method → List Instr → ℕ → Program
     open_method ms t m code size = read_so_far h cs ms (Some (body_of t m code)) size
 
-    heading_step : (ms : List Method) (t : MethodText) (m : Method) (size : ℕ) (left : List (List (List ℕ))) (rest : List Statement) → length ms < 1024 → HeadingMeans names kinds t.heading (heading_of m) → place_of t.heading.name names.methods ≡ Some (length ms) → size + 24 ≤ 2 ^ 20
+    heading_step : (ms : List Method) (t : MethodText) (m : Method) (size : ℕ) (left : List (List (List ℕ))) (rest : List Statement) → length ms < 1024
+        → HeadingMeans names kinds t.heading (heading_of m) → place_of t.heading.name names.methods ≡ Some (length ms) → size + 24 ≤ 2 ^ 20
         → all_words rest ≡ map instruction_words t.code ++ (end_words ∷ left)
         → step scope rest (read_so_far h cs ms None size) (heading_words t.heading) ≡ Ok (open_method ms t m [] (size + 24))
     heading_step ms t m size left rest few means placed enough words =
         let ws = t.heading.name ∷ keyword_text t.heading.role ∷ promise_words t.heading in
         let p = read_so_far h cs ms None size in
         ap (λ e. e >>= λ key. declaration scope rest p key.0 key.1) ((takes_any_keyword k.Method).reads ws)
-        ∙ ap (λ b. if b then (heading scope (length ms) ws >>= λ x. grown 24 size >>= λ n. Ok (read_so_far h cs ms (Some (record { heading = x.0; labels = labels_until [] rest; code = [] })) n)) else Err LimitPassed) (lt-ltb (length ms) 1024 few)
-        ∙ ap (λ e. e >>= λ x. grown 24 size >>= λ n. Ok (read_so_far h cs ms (Some (record { heading = x.0; labels = labels_until [] rest; code = [] })) n)) (heading_reads looks (length ms) t.heading (heading_of m) means placed).reads
+        ∙ ap (λ b. if b then (heading scope (length ms) ws >>= λ x. grown 24 size >>= λ n. Ok
+        (read_so_far h cs ms (Some (record { heading = x.0; labels = labels_until [] rest; code = [] })) n)) else Err LimitPassed) (lt-ltb (length ms) 1024 few)
+        ∙ ap (λ e. e >>= λ x. grown 24 size >>= λ n. Ok (read_so_far h cs ms (Some (record { heading = x.0; labels = labels_until [] rest; code = [] })) n))
+        (heading_reads looks (length ms) t.heading (heading_of m) means placed).reads
         ∙ ap (λ e. e >>= λ n. Ok (read_so_far h cs ms (Some (record { heading = heading_of m; labels = labels_until [] rest; code = [] })) n)) (room 24 size enough)
         ∙ ap (λ l. Ok (read_so_far h cs ms (Some (record { heading = heading_of m; labels = l; code = [] })) (size + 24))) (labels_there t.code left [] rest words)
 
@@ -117,16 +127,20 @@ module _ (last : ℕ) (names : Names) (h : Header) (b : Bool) (kinds : List Clas
     abbrev added : List Method → MethodText → Method → List Instr → ℕ → Result (Instr × List (List ℕ)) AsmFaultKind → Result Program AsmFaultKind
     added ms t m done size read = (read >>= λ x. Ok (body_of t m (done ++ x.0 ∷ []))) >>= λ b. grown 8 size >>= λ n. Ok (read_so_far h cs ms (Some b) n)
 
-    code_step : (ms : List Method) (t : MethodText) (m : Method) (done : List Instr) (one : InstructionText) (i : Instr) (size : ℕ) (rest : List Statement) → length done < 1024 → InstructionMeans names (labels_of t.code) one i → IfSome one.label (λ l. place_of l (labels_of t.code) ≡ Some (length done)) → size + 8 ≤ 2 ^ 20
+    code_step : (ms : List Method) (t : MethodText) (m : Method) (done : List Instr) (one : InstructionText) (i : Instr) (size : ℕ) (rest : List Statement) → length done < 1024
+        → InstructionMeans names (labels_of t.code) one i → IfSome one.label (λ l. place_of l (labels_of t.code) ≡ Some (length done)) → size + 8 ≤ 2 ^ 20
         → step scope rest (open_method ms t m done size) (instruction_words one) ≡ Ok (open_method ms t m (done ++ i ∷ []) (size + 8))
     code_step ms t m done one i size rest few means placed enough =
         let ws = instruction_words one in
-        ap (λ t'. if t'.0 then with_method (read_so_far h cs ms None size) (body_of t m done) t'.1 else (with_instruction scope (body_of t m done) t'.1 >>= λ b. grown 8 size >>= λ n. Ok (read_so_far h cs ms (Some b) n))) (takes_no_end one).left
-        ∙ ap (λ t'. (if t' then (instruction scope (labels_of t.code) (length done) ws >>= λ x. Ok (body_of t m (done ++ x.0 ∷ []))) else Err LimitPassed) >>= λ b. grown 8 size >>= λ n. Ok (read_so_far h cs ms (Some b) n)) (lt-ltb (length done) 1024 few)
+        ap (λ t'. if t'.0 then with_method (read_so_far h cs ms None size) (body_of t m done) t'.1 else
+        (with_instruction scope (body_of t m done) t'.1 >>= λ b. grown 8 size >>= λ n. Ok (read_so_far h cs ms (Some b) n))) (takes_no_end one).left
+        ∙ ap (λ t'. (if t' then (instruction scope (labels_of t.code) (length done) ws >>= λ x. Ok (body_of t m (done ++ x.0 ∷ []))) else Err LimitPassed) >>= λ b. grown 8 size >>= λ n. Ok
+        (read_so_far h cs ms (Some b) n)) (lt-ltb (length done) 1024 few)
         ∙ ap (added ms t m done size) (instruction_reads (length done) (labels_of t.code) b names kinds one i means placed).reads
         ∙ ap (λ e. e >>= λ n. Ok (open_method ms t m (done ++ i ∷ []) n)) (room 8 size enough)
 
-    end_step : (ms : List Method) (t : MethodText) (m : Method) (size : ℕ) (rest : List Statement) → 1 ≤ length m.code → step scope rest (open_method ms t m m.code size) end_words ≡ Ok (read_so_far h cs (ms ++ m ∷ []) None size)
+    end_step : (ms : List Method) (t : MethodText) (m : Method) (size : ℕ) (rest : List Statement) → 1 ≤ length m.code
+        → step scope rest (open_method ms t m m.code size) end_words ≡ Ok (read_so_far h cs (ms ++ m ∷ []) None size)
     end_step ms t m size rest some =
         ap (λ (b : Bool). (if b then Err LimitPassed else Ok m) >>= λ m. nothing_more false [] >>= λ u. Ok (read_so_far h cs (ms ++ m ∷ []) None size)) (ne_eqb (length m.code) 0 (λ none. omega arith))
 
@@ -140,7 +154,7 @@ module _ (last : ℕ) (names : Names) (h : Header) (b : Bool) (kinds : List Clas
     code_goes ms t m done [] (i ∷ todo) size left ss few means placed enough words = absurd means
     code_goes ms t m done (one ∷ ts) [] size left ss few means placed enough words = absurd means
     code_goes ms t m done (one ∷ ts) (i ∷ todo) size left ss few means placed enough words =
-        let count : length (done ++ i ∷ []) ≡ length done + 1 = longer done i in
+        let count : length (done ++ i ∷ []) ≡ length done + 1 = length_push done i in
         let summed : (size + 8) + 8 * length todo ≡ size + 8 * suc (length todo) = omega arith in
         goes_on
         (steps {q = open_method ms t m (done ++ i ∷ []) (size + 8)} {left = map instruction_words ts ++ left} ss words
@@ -148,7 +162,8 @@ module _ (last : ℕ) (names : Names) (h : Header) (b : Bool) (kinds : List Clas
         (λ rest behind. arrives (ap (λ l. open_method ms t m l ((size + 8) + 8 * length todo)) (append_assoc done (i ∷ []) todo) ∙ ap (λ n. open_method ms t m (done ++ i ∷ todo) n) summed)
         (code_goes ms t m (done ++ i ∷ []) ts todo (size + 8) left rest (omega arith) means.1 (subst (λ n. LabelsPlaced (labels_of t.code) n ts) (sym count) placed.1) (omega arith) behind))
 
-    method_goes : (ms : List Method) (t : MethodText) (m : Method) (size : ℕ) (left : List (List (List ℕ))) (ss : List Statement) → length ms < 1024 → MethodMeans names kinds t m → place_of t.heading.name names.methods ≡ Some (length ms) → size + spelled m ≤ 2 ^ 20
+    method_goes : (ms : List Method) (t : MethodText) (m : Method) (size : ℕ) (left : List (List (List ℕ))) (ss : List Statement) → length ms < 1024 → MethodMeans names kinds t m
+        → place_of t.heading.name names.methods ≡ Some (length ms) → size + spelled m ≤ 2 ^ 20
         → all_words ss ≡ heading_words t.heading ∷ (map instruction_words t.code ++ (end_words ∷ left))
         → Goes last scope (read_so_far h cs ms None size) ss (read_so_far h cs (ms ++ m ∷ []) None (size + spelled m)) left
     method_goes ms t m size left ss few means placed enough words =
@@ -156,11 +171,14 @@ module _ (last : ℕ) (names : Names) (h : Header) (b : Bool) (kinds : List Clas
         let short = means.few in
         let summed : (size + 24) + 8 * length m.code ≡ size + spelled m = omega arith in
         goes_on
-        (steps {q = open_method ms t m [] (size + 24)} {left = map instruction_words t.code ++ (end_words ∷ left)} ss words (λ rest behind. heading_step ms t m size left rest few means.heading placed (omega arith) behind))
+        (steps {q = open_method ms t m [] (size + 24)} {left = map instruction_words t.code ++ (end_words ∷ left)} ss words
+        (λ rest behind. heading_step ms t m size left rest few means.heading placed (omega arith) behind))
         (λ rest behind. goes_on
-        (code_goes ms t m [] t.code m.code (size + 24) (end_words ∷ left) rest (omega arith) means.code (labels_placed names (labels_of t.code) (labels_of t.code) means.labels [] t.code m.code means.code refl) (omega arith) behind)
+        (code_goes ms t m [] t.code m.code (size + 24) (end_words ∷ left) rest (omega arith) means.code
+        (labels_placed names (labels_of t.code) (labels_of t.code) means.labels [] t.code m.code means.code refl) (omega arith) behind)
         (λ later others. arrives (ap (λ n. read_so_far h cs (ms ++ m ∷ []) None n) summed)
-        (goes_on (steps {q = read_so_far h cs (ms ++ m ∷ []) None ((size + 24) + 8 * length m.code)} {left = left} later others (λ rest behind. end_step ms t m ((size + 24) + 8 * length m.code) rest some)) (λ rest behind. stays rest refl behind))))
+        (goes_on (steps {q = read_so_far h cs (ms ++ m ∷ []) None ((size + 24) + 8 * length m.code)} {left = left} later others
+        (λ rest behind. end_step ms t m ((size + 24) + 8 * length m.code) rest some)) (λ rest behind. stays rest refl behind))))
 
   -- ---- declarations
 
@@ -172,12 +190,13 @@ module _ (last : ℕ) (names : Names) (h : Header) (b : Bool) (kinds : List Clas
       → Goes last scope (read_so_far h cs ms None size) ss (read_so_far h (cs ++ todo) (ms ++ left) None (size + 28 * length todo + sum_by spelled left)) []
   declarations_go [] cs [] ms [] size ss classes methods cp mp few servers short enough words =
       let same : size ≡ size + 28 * 0 + sum_by spelled [] = omega arith in
-      stays ss (ap (λ l. read_so_far h l ms None size) (sym (append-nil cs)) ∙ ap (λ l. read_so_far h (cs ++ []) l None size) (sym (append-nil ms)) ∙ ap (λ n. read_so_far h (cs ++ []) (ms ++ []) None n) same) words
+      stays ss (ap (λ l. read_so_far h l ms None size) (sym (append-nil cs)) ∙ ap (λ l. read_so_far h (cs ++ []) l None size) (sym (append-nil ms)) ∙ ap
+      (λ n. read_so_far h (cs ++ []) (ms ++ []) None n) same) words
   declarations_go [] cs [] ms (m ∷ left) size ss classes methods cp mp few servers short enough words = absurd methods
   declarations_go [] cs (c ∷ todo) ms left size ss classes methods cp mp few servers short enough words = absurd classes
   declarations_go (source.class t ∷ ds) cs [] ms left size ss classes methods cp mp few servers short enough words = absurd classes
   declarations_go (source.class t ∷ ds) cs (c ∷ todo) ms left size ss classes methods cp mp few servers short enough words =
-      let count : length (cs ++ c ∷ []) ≡ length cs + 1 = longer cs c in
+      let count : length (cs ++ c ∷ []) ≡ length cs + 1 = length_push cs c in
       let again : (cs ++ c ∷ []) ++ todo ≡ cs ++ c ∷ todo = append_assoc cs (c ∷ []) todo in
       let sum = sum_by spelled left in
       let summed : (size + 28) + 28 * length todo + sum ≡ size + 28 * suc (length todo) + sum = omega arith in
@@ -189,12 +208,14 @@ module _ (last : ℕ) (names : Names) (h : Header) (b : Bool) (kinds : List Clas
       (omega arith) (subst (λ l. count_by is_server l ≤ 8) (sym again) servers) short (omega arith) behind))
   declarations_go (source.method t ∷ ds) cs todo ms [] size ss classes methods cp mp few servers short enough words = absurd methods
   declarations_go (source.method t ∷ ds) cs todo ms (m ∷ left) size ss classes methods cp mp few servers short enough words =
-      let count : length (ms ++ m ∷ []) ≡ length ms + 1 = longer ms m in
+      let count : length (ms ++ m ∷ []) ≡ length ms + 1 = length_push ms m in
       let again : (ms ++ m ∷ []) ++ left ≡ ms ++ m ∷ left = append_assoc ms (m ∷ []) left in
       let headed : sum_by spelled (m ∷ left) ≡ spelled m + sum_by spelled left = sum_by-cons spelled m left in
       let summed : (size + spelled m) + 28 * length todo + sum_by spelled left ≡ size + 28 * length todo + sum_by spelled (m ∷ left) = omega arith in
       goes_on
-      (method_goes cs ms t m size (declared_statements ds) ss (omega arith) methods.0 mp.0 (omega arith) (words ∙ ap (λ v. heading_words t.heading ∷ v) (append_assoc (map instruction_words t.code) (end_words ∷ []) (declared_statements ds))))
-      (λ rest behind. arrives (ap (λ l. read_so_far h (cs ++ todo) l None ((size + spelled m) + 28 * length todo + sum_by spelled left)) again ∙ ap (λ n. read_so_far h (cs ++ todo) (ms ++ m ∷ left) None n) summed)
+      (method_goes cs ms t m size (declared_statements ds) ss (omega arith) methods.0 mp.0 (omega arith)
+      (words ∙ ap (λ v. heading_words t.heading ∷ v) (append_assoc (map instruction_words t.code) (end_words ∷ []) (declared_statements ds))))
+      (λ rest behind. arrives (ap (λ l. read_so_far h (cs ++ todo) l None ((size + spelled m) + 28 * length todo + sum_by spelled left)) again ∙ ap
+      (λ n. read_so_far h (cs ++ todo) (ms ++ m ∷ left) None n) summed)
       (declarations_go ds cs todo (ms ++ m ∷ []) left (size + spelled m) rest classes methods.1 cp (subst (λ n. Placed names.methods n (map (λ t. t.heading.name) (methods_of ds))) (sym count) mp.1)
       few servers (omega arith) (omega arith) behind))

@@ -30,7 +30,7 @@ whole_size i = (24 + 28 * length i.classes) + sum_by spelled i.methods
 abbrev all_read : Image → Program
 all_read i = read_so_far i.header i.classes i.methods None (whole_size i)
 
-none_left : (ss : List Statement) → all_words ss ≡ [] → ss ≡ []
+pub none_left : (ss : List Statement) → all_words ss ≡ [] → ss ≡ []
 none_left [] words = refl
 none_left (s ∷ ss) words = absurd cc
 
