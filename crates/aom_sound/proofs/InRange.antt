@@ -8,7 +8,7 @@ use Rattle.aom_image.specs.Operands.{IsRegister}
 use Rattle.aom_image.specs.Views.{arguments_of, gives_of, instr_at, method_class}
 use Rattle.aom_image.specs.WellFormed.{InstrFits}
 use Rattle.aom_image.specs.declared.instr.Instr.{Instr}
-use Rattle.aom_image.specs.declared.instr.Instr.TheVariants.{Call, Delete, JumpEmpty, JumpEqual, JumpLess, JumpNull, Leave, LeaveIf, Move, New, NewOrLeave, Next, Pop, PopDelete, Push, PushOperation, Put, Return, Store, Take, Trap}
+use Rattle.aom_image.specs.declared.instr.Instr.TheVariants.{Call, Delete, JumpEmpty, JumpEqual, JumpLess, JumpNull, LeaveIf, Move, New, NewOrLeave, Next, Pop, PopDelete, Push, PushOperation, Put, Return, Store, Take, Trap}
 use Rattle.aom_image.specs.declared.instr.Target.{Target}
 use Rattle.aom_image.specs.declared.limits.Limits.{Limits}
 use Rattle.aom_image.specs.declared.method.Argument.{Argument}
@@ -28,7 +28,7 @@ use Rattle.aom_sound.specs.Moves.{counted, dispatch_ends, does, main_ends, needs
 use Rattle.aom_sound.specs.Objects.{deleted, jumped, no_words}
 use Rattle.aom_sound.specs.Places.{Cell, Elsewhere, Entry, Going, Object, Place, Register, Root, held, moved, same_place, set_word_field, with_new, without}
 use Rattle.aom_sound.specs.Registers.{AllInRange, IsInRange}
-use Rattle.aom_sound.specs.State.{A_mark, An_object, An_operation, AtRoot, Choice, Destroy, Dispatch, Dispatched, Frame, Goes, Home, Inside, IsStuck, Item, Main_left, Need, NullOrDead, Of_main, Of_root, Orphan, Run, State, Static, Task, Trapped, Unwind, counter, field_place, guarded, resumed, set_word}
+use Rattle.aom_sound.specs.State.{A_mark, An_object, An_operation, AtRoot, Choice, Destroy, Dispatch, Dispatched, Frame, Goes, Home, Inside, IsStuck, Item, Main_left, Need, NullOrDead, Of_main, Of_root, Orphan, Run, State, Static, Task, Trapped, Unwind, counter, field_place, resumed, set_word}
 use Rattle.aom_sound.specs.Words.{branched, go_on, here, looped, read, stored}
 
 move_in_range : (p q : Place) (cs : List Cell) → IsInRange q → AllInRange cs → AllInRange (moved p q cs)

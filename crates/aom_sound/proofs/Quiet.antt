@@ -16,8 +16,6 @@ use Rattle.aom_shape.specs.Needs.{AllTrue}
 use Rattle.aom_shape.specs.Rules.{rule_needs}
 use Rattle.aom_shape.specs.Shape.{Shape}
 use Rattle.aom_shape.specs.Typing.{IsTyped, Typing, shape_at}
-use Rattle.aom_shape.specs.declared.kind.Kind.{Kind}
-use Rattle.aom_shape.specs.declared.kind.Kind.TheVariants.{Null}
 use Rattle.aom_sound.proofs.Arrival.{told_same}
 use Rattle.aom_sound.proofs.Callees.{only_then}
 use Rattle.aom_sound.proofs.Destroying.{destroys}
@@ -25,14 +23,14 @@ use Rattle.aom_sound.proofs.Finishing.{all_parts}
 use Rattle.aom_sound.proofs.Looping.{goes_same, guarded_goes}
 use Rattle.aom_sound.proofs.Owners.{owned}
 use Rattle.aom_sound.specs.Calls.{called, received, result_register, returned}
-use Rattle.aom_sound.specs.Claims.{Dispatching, Dying, Layer, Mark, Method, Unwinding, claim, declared, tasks_of}
+use Rattle.aom_sound.specs.Claims.{Dispatching, Dying, Layer, Mark, Method, Unwinding, tasks_of}
 use Rattle.aom_sound.specs.Cleanup.{arrived, code_told, dealt_with, destroyed, ended_by, has_trap, is_negative, leave_needs, left, no_memory, operation_pushed, pushed, to_trap, top_is_whole, unwound}
 use Rattle.aom_sound.specs.Destruction.{begun, begun_by, destructor_of, gone, owns_nothing}
 use Rattle.aom_sound.specs.Laws.{IsWired}
 use Rattle.aom_sound.specs.Moves.{counted, dispatch_ends, does, main_ends, needs, step, step_instr, step_task}
 use Rattle.aom_sound.specs.Objects.{deleted, jumped}
 use Rattle.aom_sound.specs.Owned.{NoneGoes}
-use Rattle.aom_sound.specs.Places.{Cell, Elsewhere, Entry, Going, Object, Place, Root, held, without}
+use Rattle.aom_sound.specs.Places.{Cell, Elsewhere, Entry, Going, Object, Root, held, without}
 use Rattle.aom_sound.specs.Quiet.{CalmKeeps, CaughtOwned, IsCalm, is_clearing}
 use Rattle.aom_sound.specs.State.{A_mark, An_object, An_operation, Choice, Destroy, Dispatch, Dispatched, Frame, Goes, IsStuck, Item, Main_left, Need, NullOrDead, Of_main, Of_root, Orphan, Run, State, Task, Trapped, Unwind, counter, field_place, guarded, next, resumed, set_word}
 use Rattle.aom_sound.specs.WellTyped.{AllUndo, Good, WellTyped}
