@@ -26,7 +26,7 @@ use Rattle.aom_sound.specs.Laws.{EndsEmpty, EndsOwned, IsWired}
 use Rattle.aom_sound.specs.Owned.{AllOwned, Ends, HasRegisters, IsObjects, Lives, NoneGoes, Owned, at_entry, at_register, at_root, by_cell, over}
 use Rattle.aom_sound.specs.Places.{Cell, Elsewhere, Entry, Field, Going, Object, Place, Register, Root, Tidy, held, named, same_place}
 use Rattle.aom_sound.specs.Registers.{AllInRange, IsInRange}
-use Rattle.aom_sound.specs.State.{A_mark, An_object, An_operation, AtRoot, Dispatch, Dispatched, Home, Inside, Item, Main_left, Of_main, Of_root, Run, State, Static, thing_holder}
+use Rattle.aom_sound.specs.State.{A_mark, An_object, An_operation, AtRoot, Home, Inside, Item, Main_left, Of_main, Of_root, Run, State, Static, thing_holder}
 use Rattle.aom_sound.specs.WellTyped.{Back, Caught, Fits, Gone, IsHoused, Leaves, Now, Returns, Stack, WellTyped}
 
 -- what a kind of an owning place says of the thing

@@ -1,5 +1,5 @@
 -- Who is a living owner in closed states: by computation, and two cells that own each other by following owners.
-use Rattle.std.proofs.Common.{Bool, List, None, Option, Some, [], arith, cond, false, inl, inr, pos, refl, subst, sym, true, ◌∷◌, ◌≡◌}
+use Rattle.std.proofs.Common.{Bool, List, None, Some, [], arith, cond, false, inl, inr, refl, subst, sym, true, ◌∷◌, ◌≡◌}
 use Rattle.std.specs.Prelude.{IsSome, ◌⊎◌}
 use Rattle.aom_image.specs.Views.{class_at, fields_in}
 use Rattle.aom_shape.specs.Things.{field_thing}
@@ -7,7 +7,7 @@ use Rattle.aom_sound.proofs.Maps.{same_place-true}
 use Rattle.aom_sound.specs.Cases.Building.{a_cell, pair, state_of}
 use Rattle.aom_sound.specs.Cases.Owners.{OwnersBite, an_image, caught_tasks}
 use Rattle.aom_sound.specs.Owned.{Ends, at_entry, at_register, at_root, by_cell}
-use Rattle.aom_sound.specs.Places.{Cell, Elsewhere, Entry, Field, Object, Place, Register, Root, held, named, same_place}
+use Rattle.aom_sound.specs.Places.{Cell, Elsewhere, Field, Object, Place, Root, held, named, same_place}
 use Rattle.aom_sound.specs.State.{A_mark, State, thing_holder}
 
 abbrev first : Object

@@ -1,9 +1,9 @@
 -- Who is a living owner, by closed states: at a caught leave, and at a dispatch's end.
-use Rattle.std.specs.Prelude.{ℕ, pos, List, [], ◌∷◌, None}
+use Rattle.std.specs.Prelude.{pos, List, [], ◌∷◌, None}
 use Rattle.aom_image.specs.Image.{Image}
 use Rattle.aom_image.specs.declared.method.Gives.TheVariants.{Nothing}
 use Rattle.aom_sound.specs.Places.{Place, Register, Entry, Field, Going, Elsewhere, Root, Cell}
-use Rattle.aom_sound.specs.State.{Static, frame_of, Task, Run, Trapped, Destroy, Unwind, Dispatched, Of_main, Item, An_object, An_operation, A_mark, State}
+use Rattle.aom_sound.specs.State.{Static, frame_of, Task, Run, Trapped, Destroy, Unwind, Dispatched, Of_main, Item, An_object, An_operation, A_mark}
 use Rattle.aom_sound.specs.Owned.{Owned}
 use Rattle.aom_sound.specs.Cases.Building.{leaf, pair, a_method, a_cell, at_bottom, small_image, state_of}
 
