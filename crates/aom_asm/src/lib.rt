@@ -12,4 +12,3 @@ mod names;
 mod program;
 
 pub use assembling::assemble;
-

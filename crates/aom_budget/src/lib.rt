@@ -14,4 +14,3 @@ mod table;
 
 pub use accepted::{Accepted, accept};
 pub use fault::BudgetFault;
-

@@ -2,8 +2,8 @@
 ghost use Rattle.std.specs.Prelude.{◌↔◌, IsTrue};
 ghost use Rattle.aom_image.specs.Requests.{RequestsFit};
 
-use crate::limits::{Limits, is_register};
 use crate::Instr;
+use crate::limits::{Limits, is_register};
 
 /// Whether the operands fit, of these instructions and of those of the groups after them.
 pub fn fits(instr: Instr, limits: Limits) -> bool

@@ -22,4 +22,3 @@ mod writer;
 
 pub use disassembling::disassemble;
 pub use laws::listings_split;
-
