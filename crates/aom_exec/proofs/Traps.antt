@@ -142,7 +142,7 @@ module _ (p : Image) (formed : WellFormed p) (c : Choice) (fr : Frame) (ts : Lis
   trap_fits target m first x e =
       let fits = instr_fits p formed fr.method fr.place (Trap target m first x) e in
       let is = ap result_register e in
-      let small = fits.1.3 in
+      let small = fits.1.c in
       omega arith
 
   acts_fit : (i : Instr) → instr_at p fr.method fr.place ≡ Some i → TrapsFit p (does p c fr ts s i).tasks

@@ -29,7 +29,7 @@ use Rattle.aom_text.specs.Text.{has_words}
 use Rattle.aom_text.specs.Words.{has_bytes}
 use Rattle.aom_syntax.specs.declared.keyword.Keyword.{Keyword}
 use Rattle.aom_syntax.specs.declared.keyword.Keyword.TheVariants as k
-use Rattle.aom_syntax.specs.declared.mnemonic.Mnemonic.TheVariants as m
+use Rattle.aom_image.specs.declared.mnemonic.Mnemonic.TheVariants as m
 use Rattle.aom_listing.specs.Classes.{budget_words, class_words, field_words, kind_words, provider_words, thing_word}
 use Rattle.aom_listing.specs.Headers.{header_words, root_words}
 use Rattle.aom_listing.specs.Jumps.{is_target}

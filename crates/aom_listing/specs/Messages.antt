@@ -2,8 +2,8 @@
 use Rattle.std.specs.Prelude.{ℕ, List, [], ◌∷◌}
 use Rattle.aom_image.specs.declared.instr.Instr.{Instr}
 use Rattle.aom_image.specs.declared.instr.Instr.TheVariants as instr
-use Rattle.aom_syntax.specs.Mnemonics.{mnemonic_text}
-use Rattle.aom_syntax.specs.declared.mnemonic.Mnemonic.TheVariants as m
+use Rattle.aom_image.specs.Mnemonics.{mnemonic_text}
+use Rattle.aom_image.specs.declared.mnemonic.Mnemonic.TheVariants as m
 use Rattle.aom_listing.specs.Operands.{register_word}
 
 -- the words of an instruction of this group

@@ -3,8 +3,8 @@ use Rattle.std.specs.Prelude.{ℕ, List, [], ◌∷◌, decimal}
 use Rattle.std.specs.Fmt.{signed_decimal}
 use Rattle.aom_image.specs.declared.instr.Instr.{Instr}
 use Rattle.aom_image.specs.declared.instr.Instr.TheVariants as instr
-use Rattle.aom_syntax.specs.Mnemonics.{mnemonic_text}
-use Rattle.aom_syntax.specs.declared.mnemonic.Mnemonic.TheVariants as m
+use Rattle.aom_image.specs.Mnemonics.{mnemonic_text}
+use Rattle.aom_image.specs.declared.mnemonic.Mnemonic.TheVariants as m
 use Rattle.aom_listing.specs.Operands.{label_name, register_word, word_field_word}
 use Rattle.aom_listing.specs.Objects.{objects_statement}
 

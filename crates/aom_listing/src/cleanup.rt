@@ -4,8 +4,7 @@ ghost use Rattle.aom_listing.specs.Cleanup.{cleanup_statement};
 ghost use Rattle.aom_listing.specs.Text.{parted_by};
 
 use crate::writer::Writer;
-use aom_image::Instr;
-use aom_syntax::Mnemonic;
+use aom_image::{Instr, Mnemonic};
 use std::alloc::AllocError;
 
 impl Writer {

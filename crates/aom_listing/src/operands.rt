@@ -1,12 +1,14 @@
 //! Names and the operands of instructions, and what has only registers behind its mnemonic.
 ghost use Rattle.std.specs.Prelude.{◌≡◌, [], ◌∷◌, ◌++◌, OnOk};
-ghost use Rattle.aom_syntax.specs.Mnemonics.{mnemonic_text};
+ghost use Rattle.aom_image.specs.Mnemonics.{mnemonic_text};
 ghost use Rattle.aom_listing.specs.Operands.{class_name, method_name, label_name, register_word, field_word, word_field_word, target_word};
 ghost use Rattle.aom_listing.specs.Text.{parted_by};
 
 use crate::writer::Writer;
-use aom_image::{ClassNumber, FieldIndex, MethodNumber, Place, Register, Target, WordIndex};
-use aom_syntax::{Keyword, Mnemonic};
+use aom_image::{
+    ClassNumber, FieldIndex, MethodNumber, Mnemonic, Place, Register, Target, WordIndex,
+};
+use aom_syntax::Keyword;
 use std::alloc::AllocError;
 
 impl Writer {

@@ -1,13 +1,12 @@
 //! Instructions on words, jumps and loops.
 ghost use Rattle.std.specs.Prelude.{◌≡◌, [], ◌∷◌, ◌++◌, OnOk};
-ghost use Rattle.aom_syntax.specs.Mnemonics.{mnemonic_text};
+ghost use Rattle.aom_image.specs.Mnemonics.{mnemonic_text};
 ghost use Rattle.aom_listing.specs.Operands.{label_name, register_word};
 ghost use Rattle.aom_listing.specs.Words.{words_statement};
 ghost use Rattle.aom_listing.specs.Text.{parted_by};
 
 use crate::writer::Writer;
-use aom_image::{Instr, Place, Register};
-use aom_syntax::Mnemonic;
+use aom_image::{Instr, Mnemonic, Place, Register};
 use std::alloc::AllocError;
 
 impl Writer {

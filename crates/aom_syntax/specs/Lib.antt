@@ -5,7 +5,6 @@ pub mod Headers
 pub mod Keywords
 pub mod Messages
 pub mod Methods
-pub mod Mnemonics
 pub mod Names
 pub mod Natives
 pub mod Objects

@@ -6,8 +6,8 @@ use Rattle.aom_syntax.specs.Reading.{Reading, next, giving}
 use Rattle.aom_syntax.specs.Operands.{class, field, label, last_register, register, two_registers}
 use Rattle.aom_syntax.specs.Calls.{calls_operands}
 use Rattle.aom_syntax.specs.declared.scope.Scope.{Scope}
-use Rattle.aom_syntax.specs.declared.mnemonic.Mnemonic.{Mnemonic}
-use Rattle.aom_syntax.specs.declared.mnemonic.Mnemonic.TheVariants as m
+use Rattle.aom_image.specs.declared.mnemonic.Mnemonic.{Mnemonic}
+use Rattle.aom_image.specs.declared.mnemonic.Mnemonic.TheVariants as m
 
 -- what stands behind each mnemonic, and the instruction
 abbrev pub objects_operands : Scope → List (List ℕ) → Mnemonic → Reading Instr

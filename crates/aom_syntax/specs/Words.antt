@@ -6,8 +6,8 @@ use Rattle.aom_syntax.specs.Reading.{Reading, next, giving}
 use Rattle.aom_syntax.specs.Operands.{depth, label, last_register, register, rounds, signed, three_registers, two_registers, word_field}
 use Rattle.aom_syntax.specs.Objects.{objects_operands}
 use Rattle.aom_syntax.specs.declared.scope.Scope.{Scope}
-use Rattle.aom_syntax.specs.declared.mnemonic.Mnemonic.{Mnemonic}
-use Rattle.aom_syntax.specs.declared.mnemonic.Mnemonic.TheVariants as m
+use Rattle.aom_image.specs.declared.mnemonic.Mnemonic.{Mnemonic}
+use Rattle.aom_image.specs.declared.mnemonic.Mnemonic.TheVariants as m
 
 -- what stands behind each mnemonic, and the instruction
 abbrev pub words_operands : Scope → List (List ℕ) → Mnemonic → Reading Instr

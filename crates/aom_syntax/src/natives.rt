@@ -4,8 +4,8 @@ ghost use Rattle.aom_syntax.specs.Reading.{Reads};
 ghost use Rattle.aom_syntax.specs.Natives.{natives_operands};
 
 use crate::operands::LAST_REGISTER;
-use crate::{Mnemonic, Names, Reader, Scope, messages};
-use aom_image::Instr;
+use crate::{Names, Reader, Scope, messages};
+use aom_image::{Instr, Mnemonic};
 use aom_text::AsmFaultKind;
 
 /// The instruction of a mnemonic of this group, or of one after it.
