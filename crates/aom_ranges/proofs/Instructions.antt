@@ -1,5 +1,5 @@
 -- Whatever instruction is read has its operands in their ranges.
-use Rattle.std.proofs.Common.{◌≡◌, ℕ, ◌≤◌, ◌<◌, true, FitsSigned, w32, List, length, sym, subst}
+use Rattle.std.proofs.Common.{◌≡◌, ℕ, ◌≤◌, ◌<◌, true, false, FitsSigned, w32, List, length, sym, subst}
 use Rattle.aom_image.specs.Operands.{IsDepth, IsField, IsRegister, IsWord, LargeFits, OperandsFit, SmallFits, TargetFits}
 use Rattle.aom_image.specs.declared.kinds.Kinds.{Kinds}
 use Rattle.aom_image.specs.declared.limits.Limits.{Limits}

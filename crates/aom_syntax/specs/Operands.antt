@@ -1,13 +1,13 @@
 -- The operands of instructions.
-use Rattle.std.specs.Prelude.{ℕ, ℤ, Bool, true, false, ◌==◌, ◌&&◌, not, if◌then◌else◌, List, [], ◌∷◌, Option, Some, None, Result, Ok, Err, codes}
+use Rattle.std.specs.Prelude.{ℕ, ℤ, Bool, ◌==◌, if◌then◌else◌, List, [], ◌∷◌, Option, Some, None, Result, Ok, Err, codes}
 use Rattle.std.specs.Str.{bytes_eq}
 use Rattle.aom_text.specs.Numbers.{number_of, number_within, number_signed}
 use Rattle.aom_text.specs.declared.number.Number.{Number}
 use Rattle.aom_text.specs.declared.fault.AsmFaultKind.{AsmFaultKind}
-use Rattle.aom_text.specs.declared.fault.AsmFaultKind.TheVariants.{BadNumber, BadShape, LimitPassed}
+use Rattle.aom_text.specs.declared.fault.AsmFaultKind.TheVariants.{BadNumber, BadShape}
 use Rattle.aom_image.specs.declared.instr.Target.{Target}
 use Rattle.aom_image.specs.declared.instr.Target.TheVariants as targets
-use Rattle.aom_syntax.specs.Reading.{◌>>=◌, Reading, seen, word, name, number, in_range, as_name}
+use Rattle.aom_syntax.specs.Reading.{◌>>=◌, Reading, seen, word, name, number, in_range}
 use Rattle.aom_syntax.specs.Names.{place_of, referred}
 use Rattle.aom_syntax.specs.declared.scope.Scope.{Scope}
 
