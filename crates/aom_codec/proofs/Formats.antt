@@ -1,14 +1,20 @@
 -- The two laws of each format of an image, from those of its parts.
-use Rattle.std.proofs.Common.{◌≡◌, ℕ, zero, suc, ◌-◌, ◌<◌, ◌≤◌, Bool, true, false, cond, eqb, ltb, leb, List, [], ◌∷◌, length, Option, Some, None, Ok, is_some, refl, sym, ap, ◌∙◌, arith, eqb-true, lit<, ◌&&◌}
+use Rattle.std.proofs.Common.{◌≡◌, ℕ, zero, suc, ◌-◌, ◌<◌, ◌≤◌, Bool, true, false, cond, eqb, ltb, leb, List, [], ◌∷◌, length, Option, Some, None, Ok, refl, sym, ap, subst, ◌∙◌, arith, eqb-true, lit<, ◌&&◌}
 use Rattle.std.proofs.lemmas.Bool.{leb-true, le-leb}
 use Rattle.aom_image.specs.Image.{Image}
-use Rattle.aom_codec.specs.Raw.{raw}
-use Rattle.aom_codec.specs.declared.raw.Raw.{Raw}
-use Rattle.aom_codec.specs.Rows.{Row, Small, Large, lookup}
-use Rattle.aom_codec.specs.Words.{words_raw, words_table}
+use Rattle.std.specs.List.{find}
+use Rattle.aom_image.proofs.Again.{making_parts_again}
+use Rattle.aom_image.specs.Mnemonics.{mnemonics, with_opcode}
+use Rattle.aom_image.specs.Parts.{mnemonic, operands}
+use Rattle.aom_image.specs.Rows.{row}
+use Rattle.aom_image.specs.declared.kinds.Kinds.{Kinds}
+use Rattle.aom_image.specs.declared.kinds.LargeKind.{LargeKind}
+use Rattle.aom_image.specs.declared.kinds.SmallKind.{SmallKind}
+use Rattle.aom_image.specs.declared.mnemonic.Mnemonic.{Mnemonic}
+use Rattle.aom_image.specs.declared.operand.Operands.{Operands}
 use Rattle.aom_codec.specs.Spelling.{gives_byte, result_number, kind_byte, budget_of}
 use Rattle.aom_codec.specs.Codec.{Codec, byte, pair, quad, fixed, always, keep, FitMany, unused, is_between, limited}
-use Rattle.aom_codec.specs.Instructions.{small, large, row_operands, row_or, row_of, raw_parts, instruction}
+use Rattle.aom_codec.specs.Instructions.{all_operands, instruction, known, large_operand, opcode, small_operand}
 use Rattle.aom_codec.specs.Spelling.{provider_sort, native_number}
 use Rattle.aom_image.specs.WellFormed.{limits}
 use Rattle.aom_codec.specs.Format.{class_or_none, thing, argument, opening_fields, opening, provider_from, provider, no_session, bare, session_class, active_part, active_provider, server_part, server_numbers, purpose, closing, purpose_of, kind_sort, class_parts, class, count_server, role, flags, states, result_sort, gives_from, result, method_parts, method, image_parts, opening_of, image}
@@ -27,7 +33,8 @@ use Rattle.aom_image.specs.declared.method.Gives.{Gives}
 use Rattle.aom_image.specs.declared.instr.Instr.{Instr}
 use Rattle.aom_codec.proofs.Laws.{IsCodec, ok_is, of_byte, of_pair, of_quad, of_fixed, of_checked, of_next, of_after, of_seen, of_choose, of_many_from, of_many, of_unused, unused_fits}
 use Rattle.aom_codec.proofs.Returning.{index_returns, class_returns, thing_returns, argument_returns, role_returns, flags_returns, states_returns, gives_returns, result_number_returns}
-use Rattle.aom_codec.proofs.Opcodes.{lookup_ok, words_rows}
+use Rattle.aom_codec.proofs.InstructionFits.{operands_in_range}
+use Rattle.aom_codec.proofs.OperandLaws.{large_reads, small_reads}
 
 -- ---- numbers that name things
 
@@ -196,31 +203,45 @@ class_laws classes natives servers = of_seen _ _ (class_parts classes natives se
 
 -- ---- instructions
 
-small_laws : (k : Small) → IsCodec (small k)
-small_laws k = of_checked _ _ _ of_byte
+small_laws : (k : SmallKind) → IsCodec (small_operand k)
+small_laws k = of_seen _ _ byte (record { at = λ x y fits e. (small_reads k x y e).0 }) of_byte
 
-large_laws : (l : Limits) (k : Large) → IsCodec (large l k)
-large_laws l k = of_checked _ _ _ of_quad
+large_laws : (l : Limits) (k : LargeKind) → IsCodec (large_operand l k)
+large_laws l k = of_seen _ _ quad (record { at = λ x y fits e. (large_reads l k x y fits e).0 }) of_quad
 
-row_laws : (l : Limits) (r : Row) → IsCodec (row_operands l r)
-row_laws l r = of_next _ _ (small_laws r.a) (λ _. of_next _ _ (small_laws r.b) (λ _. of_next _ _ (small_laws r.c) (λ _. large_laws l r.d)))
+operands_laws : (l : Limits) (k : Kinds) → IsCodec (all_operands l k)
+operands_laws l k = of_seen _ _ _ (record { at = λ x y fits e. ap (λ (o : Operands). (o.a, (o.b, (o.c, o.d)))) (sym (ok_is _ y e)) })
+    (of_next _ _ (small_laws k.a) (λ _. of_next _ _ (small_laws k.b) (λ _. of_next _ _ (small_laws k.c) (λ _. large_laws l k.d))))
 
-there_is : (n : ℕ) (o : Option Row) → is_some o ≡ true → o ≡ Some (row_or o)
-there_is n None h = absurd cc
-there_is n (Some r) h = refl
+-- what is found passes the test
+found_passes : {X : Type 0} (p : X → Bool) (xs : List X) (x : X) → find p xs ≡ Some x → p x ≡ true
+found_passes p [] x e = absurd cc
+found_passes {X} p (y ∷ ys) x e =
+    elim (p y) as (λ b. p y ≡ b → cond b (Some y) (find p ys) ≡ Some x → p x ≡ true) [
+      | true ↦ λ is found. subst (λ z. p z ≡ true) (some_is y x found) is
+      | false ↦ λ is found. found_passes p ys x found
+    ] refl e
+  where
+    some_is : (y x : X) → Some y ≡ Some x → y ≡ x
+    some_is y x e = cc
 
-parts_again : (r : Raw) (n a b c d : ℕ) → r ≡ raw n a b c d → raw_parts r ≡ (n, (a, (b, (c, d))))
-parts_again r n a b c d e = ap raw_parts e
+known_ok : (o : Option Mnemonic) (m : Mnemonic) → known o ≡ Ok m → o ≡ Some m
+known_ok None m e = absurd cc
+known_ok (Some k) m e = ap (λ k. Some k) (ok_is k m e)
+
+opcode_laws : IsCodec opcode
+opcode_laws = of_seen _ _ byte
+    (record { at = λ n m fits e. eqb-true _ _ (found_passes (λ k. eqb (row k).opcode n) mnemonics m (known_ok (with_opcode n) m e)) })
+    of_byte
 
 instruction_laws : (l : Limits) → IsCodec (instruction l)
 instruction_laws l = of_seen _ _ _
     (record {
       at = λ x y fits e.
-          let ok = lookup_ok x.0 words_table words_rows (row_of x.0) (there_is x.0 (lookup x.0 words_table) fits.0.1) in
-          let made_is = ok.at l x.1.0 x.1.1.0 x.1.1.1.0 x.1.1.1.1 fits.1.0.1 fits.1.1.0.1 fits.1.1.1.0.1 fits.1.1.1.1.0 fits.1.1.1.1.1 in
-          ap (λ (i : Instr). raw_parts (words_raw i)) (sym (ok_is _ y e)) ∙ parts_again _ x.0 x.1.0 x.1.1.0 x.1.1.1.0 x.1.1.1.1 made_is;
+          let again = making_parts_again l x.0 x.1 (operands_in_range l (row x.0).kinds x.1 fits.1) in
+          ap (λ (i : Instr). (mnemonic i, operands i)) (sym (ok_is _ y e)) ∙ pair_is again.0 again.1;
     })
-    (of_next _ _ (of_checked _ _ _ of_byte) (λ n. row_laws l (row_of n)))
+    (of_next _ _ opcode_laws (λ m. operands_laws l (row m).kinds))
 
 -- ---- methods
 

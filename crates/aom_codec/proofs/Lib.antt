@@ -1,12 +1,10 @@
 pub mod Lengths
-pub mod Targets
 pub mod Laws
 pub mod Loops
-pub mod Rows
 pub mod Returning
-pub mod Opcodes
+pub mod OperandLaws
+pub mod InstructionFits
 pub mod Formats
 pub mod Spelled
-pub mod InstructionFits
 pub mod Fitting
 pub mod Images

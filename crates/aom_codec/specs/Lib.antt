@@ -1,12 +1,3 @@
-pub mod Raw
-pub mod Rows
-pub mod Requests
-pub mod Messages
-pub mod Natives
-pub mod Cleanup
-pub mod Calls
-pub mod Objects
-pub mod Words
 pub mod Spelling
 pub mod Faults
 pub mod Codec

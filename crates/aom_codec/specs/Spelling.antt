@@ -1,6 +1,6 @@
 -- The spelling of an image, byte for byte. Numbers stand high byte first.
-use Rattle.std.specs.Prelude.{ℕ, zero, suc, ◌-◌, List, [], ◌∷◌, ◌++◌, length, flat_map, Option, Some, None}
-use Rattle.std.specs.Int.{w16, w32, to_be_bytes}
+use Rattle.std.specs.Prelude.{ℕ, zero, suc, ◌+◌, ◌-◌, List, [], ◌∷◌, ◌++◌, length, flat_map, Option, Some, None}
+use Rattle.std.specs.Int.{w16, w32, cast_unsigned, to_be_bytes}
 use Rattle.aom_image.specs.Image.{Image}
 use Rattle.aom_image.specs.declared.image.Header.{Header}
 use Rattle.aom_image.specs.declared.class.ClassDecl.{ClassDecl}
@@ -18,8 +18,16 @@ use Rattle.aom_image.specs.declared.method.Gives.{Gives}
 use Rattle.aom_image.specs.declared.method.Gives.TheVariants as gives
 use Rattle.aom_image.specs.declared.method.Method.{Method}
 use Rattle.aom_image.specs.declared.instr.Instr.{Instr}
-use Rattle.aom_codec.specs.declared.raw.Raw.{Raw}
-use Rattle.aom_codec.specs.Words.{words_raw}
+use Rattle.aom_image.specs.Parts.{mnemonic, operands}
+use Rattle.aom_image.specs.Rows.{row}
+use Rattle.aom_image.specs.declared.instr.Target.{Target}
+use Rattle.aom_image.specs.declared.instr.Target.TheVariants as targets
+use Rattle.aom_image.specs.declared.mnemonic.Mnemonic.{Mnemonic}
+use Rattle.aom_image.specs.declared.operand.Large.{Large}
+use Rattle.aom_image.specs.declared.operand.Large.TheVariants as large
+use Rattle.aom_image.specs.declared.operand.Operands.{Operands}
+use Rattle.aom_image.specs.declared.operand.Small.{Small}
+use Rattle.aom_image.specs.declared.operand.Small.TheVariants as small
 
 -- a number in two bytes
 abbrev pub pair : ℕ → List ℕ
@@ -124,17 +132,38 @@ class c =
 
 -- ---- instructions
 
--- opcode, three small operands, one large one
-abbrev pub raw_bytes : Raw → List ℕ
-raw_bytes r = r.opcode ∷ r.a ∷ r.b ∷ r.c ∷ quad r.d
+-- what a call is made on: the high half says what it is, the low half which one
+abbrev pub target_byte : Target → ℕ
+target_byte targets.This = 0x00
+target_byte (targets.Register r) = 0x10 + r
+target_byte (targets.Field f) = 0x20 + f
+target_byte (targets.Entry e) = 0x30 + e
 
--- each group passes on what is not its own
-abbrev pub raw_of : Instr → Raw
-raw_of i = words_raw i
+-- a small operand, in one byte
+abbrev pub small_byte : Small → ℕ
+small_byte small.Unused = 0
+small_byte (small.Register r) = r
+small_byte (small.Word w) = w
+small_byte (small.Field f) = f
+small_byte (small.Depth depth) = depth
+small_byte (small.CallTarget t) = target_byte t
+
+-- the large operand, in four bytes
+abbrev pub large_number : Large → ℕ
+large_number large.Nothing = 0
+large_number (large.Number z) = cast_unsigned w32 z
+large_number (large.Rounds n) = n
+large_number (large.Place n) = n
+large_number (large.Class n) = n
+large_number (large.Method n) = n
+
+-- an opcode, three small operands and a large one
+abbrev pub parts_bytes : Mnemonic → Operands → List ℕ
+parts_bytes m o = (row m).opcode ∷ small_byte o.a ∷ small_byte o.b ∷ small_byte o.c ∷ quad (large_number o.d)
 
 -- an instruction, in 8 bytes
 abbrev pub instruction : Instr → List ℕ
-instruction i = raw_bytes (raw_of i)
+instruction i = parts_bytes (mnemonic i) (operands i)
 
 -- ---- methods
 

@@ -56,11 +56,11 @@ impl<'a> Reader<'a> {
     {
         match self.byte()? {
             0 => {
-                self.unused_byte()?;
+                self.fixed_byte(0, LoadFault::NotZero)?;
                 Ok(Provider::Own)
             }
             1 => {
-                self.unused_byte()?;
+                self.fixed_byte(0, LoadFault::NotZero)?;
                 Ok(Provider::Timer)
             }
             2 => match NativeNumber::new(self.byte()?) {

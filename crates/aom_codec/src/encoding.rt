@@ -1,11 +1,10 @@
 //! The way out: the bytes that spell an image.
 ghost use Rattle.std.specs.Prelude.{◌≡◌, ◌≤◌, ◌-◌, ◌++◌, ◌∷◌, length, flat_map, OnOk, IfOk};
-ghost use Rattle.aom_codec.specs.Spelling.{pair, quad, unused_pairs, class_number, thing_number, argument_number, role_byte, gives_byte, result_number, kind_byte, provider_byte, number_byte, session_number, budget_of, class as class_bytes, instruction as instruction_bytes, method as method_bytes, spell};
+ghost use Rattle.aom_codec.specs.Spelling.{pair, quad, unused_pairs, class_number, thing_number, argument_number, role_byte, gives_byte, result_number, kind_byte, provider_byte, number_byte, session_number, budget_of, class as class_bytes, target_byte, small_byte, large_number, instruction as instruction_bytes, method as method_bytes, spell};
 
-use crate::words;
 use aom_image::{
-    Argument, ClassDecl, ClassKind, ClassNumber, Gives, Header, Image, Instr, Method, Provider,
-    Role, Thing, spelled_len,
+    Argument, ClassDecl, ClassKind, ClassNumber, Gives, Header, Image, Instr, Large, Method,
+    Operands, Provider, Role, Small, Target, Thing, spelled_len,
 };
 use bitflags::Flags;
 use std::alloc::{AllocError, Global};
@@ -120,6 +119,44 @@ fn budget_of(kind: ClassKind) -> u32
     }
 }
 
+/// The high half says what the target is, the low half which one.
+fn target_byte(target: Target) -> u8
+    ensures { result ≡ target_byte target }
+{
+    match target {
+        Target::This => 0x00,
+        Target::Register(register) => 0x10 + register.number(),
+        Target::Field(field) => 0x20 + field.number(),
+        Target::Entry(entry) => 0x30 + entry.number(),
+    }
+}
+
+fn small_byte(operand: Small) -> u8
+    ensures { result ≡ small_byte operand }
+{
+    match operand {
+        Small::Unused => 0,
+        Small::Register(register) => register.number(),
+        Small::Word(word) => word.number(),
+        Small::Field(field) => field.number(),
+        Small::Depth(depth) => depth.number(),
+        Small::CallTarget(target) => target_byte(target),
+    }
+}
+
+fn large_number(operand: Large) -> u32
+    ensures { result ≡ large_number operand }
+{
+    match operand {
+        Large::Nothing => 0,
+        Large::Number(number) => number.cast_unsigned(),
+        Large::Rounds(rounds) => u32::from(rounds),
+        Large::Place(place) => u32::from(place.number()),
+        Large::Class(class) => u32::from(class.number()),
+        Large::Method(method) => u32::from(method.number()),
+    }
+}
+
 fn put_pair(out: &mut Vec<u8>, number: u16) -> Result<(), AllocError>
     ensures { OnOk result (out.new.items ≡ out.old.items ++ pair number) }
 {
@@ -204,9 +241,11 @@ fn put_arguments(out: &mut Vec<u8>, arguments: &[Argument]) -> Result<(), AllocE
 fn put_instruction(out: &mut Vec<u8>, instr: Instr) -> Result<(), AllocError>
     ensures { OnOk result (out.new.items ≡ out.old.items ++ instruction_bytes instr) }
 {
-    let raw = words::raw(instr);
-    out.extend_from_slice(&[raw.opcode, raw.a, raw.b, raw.c])?;
-    put_quad(out, raw.d)
+    let row = instr.mnemonic().row();
+    let Operands { a, b, c, d } = instr.operands();
+    let front = [row.opcode(), small_byte(a), small_byte(b), small_byte(c)];
+    out.extend_from_slice(&front)?;
+    put_quad(out, large_number(d))
 }
 
 fn put_code(out: &mut Vec<u8>, code: &[Instr]) -> Result<(), AllocError>

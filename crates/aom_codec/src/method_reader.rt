@@ -1,15 +1,14 @@
 //! Methods, as they are read.
 ghost use Rattle.std.specs.Prelude.{◌≡◌, ◌≤◌};
 ghost use Rattle.aom_codec.specs.Codec.{many};
-ghost use Rattle.aom_codec.specs.Instructions.{instruction, read_row};
+ghost use Rattle.aom_codec.specs.Instructions.{Bounded, instruction};
 ghost use Rattle.aom_codec.specs.Format.{argument_from, argument, role, flags, states, gives_from, result as result_format, result_sort, method};
 ghost use Rattle.aom_codec.specs.Reads.{Reads, ReadsOrNoMemory};
-ghost use Rattle.aom_codec.specs.Rows.{Bounded};
 
+use crate::LoadFault;
 use crate::class_reader::thing_of;
 use crate::header::class_below;
 use crate::reader::Reader;
-use crate::{LoadFault, words};
 use aom_image::{
     Argument, Gives, Instr, Items, Limits, Method, MethodFlags, Role, States, Target, Thing,
 };
@@ -99,14 +98,6 @@ impl<'a> Reader<'a> {
         ensures { Reads (λ x. (x, self.new)) result ((result_format classes sort).read self.old) }
     {
         gives_of(sort, self.pair()?, classes)
-    }
-
-    fn instruction(&mut self, limits: Limits) -> Result<Instr, LoadFault>
-        requires { Bounded limits }
-        ensures { Reads (λ x. (x, self.new)) result ((instruction limits).read self.old) }
-    {
-        let opcode = self.byte()?;
-        words::read(opcode, self, limits)
     }
 
     fn arguments(

@@ -21,5 +21,5 @@ pub code_register : (p : Image) → WellFormed p → (fr : Frame) (ts : List Tas
 code_register p formed fr ts at =
     let fits = instr_fits p formed fr.method fr.place _ at.4 in
     let is = ap result_register at.4 in
-    let small = fits.1.3 in
+    let small = fits.1.c in
     omega arith

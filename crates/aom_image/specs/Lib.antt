@@ -1,11 +1,8 @@
 pub mod Image
 pub mod Views
 pub mod Operands
-pub mod Requests
-pub mod Messages
-pub mod Natives
-pub mod Cleanup
-pub mod Calls
-pub mod Objects
-pub mod Words
+pub mod Rows
+pub mod Mnemonics
+pub mod Parts
 pub mod WellFormed
+pub mod Laws

@@ -2,7 +2,9 @@
 use Rattle.std.specs.Prelude.{ℕ, ◌+◌, ◌*◌, ◌<◌, ◌≤◌, ◌^◌, Bool, true, false, List, length, All, count_by, sum_by, IfSome}
 use Rattle.aom_image.specs.Image.{Image}
 use Rattle.aom_image.specs.declared.limits.Limits.{Limits}
-use Rattle.aom_image.specs.Words.{WordsFit}
+use Rattle.aom_image.specs.Operands.{OperandsFit}
+use Rattle.aom_image.specs.Parts.{mnemonic, operands}
+use Rattle.aom_image.specs.Rows.{row}
 use Rattle.aom_image.specs.declared.instr.Instr.{Instr}
 use Rattle.aom_image.specs.declared.image.Header.{Header}
 use Rattle.aom_image.specs.declared.class.ClassDecl.{ClassDecl}
@@ -58,9 +60,9 @@ is_server c = is_server_kind c.kind
 
 -- ---- methods
 
--- each group of instructions passes on what is not its own
+-- an instruction has the operands that its row asks, each in its range
 abbrev pub InstrFits : Limits → Instr → Type 0
-InstrFits l i = WordsFit l i
+InstrFits l i = OperandsFit l (row (mnemonic i)).kinds (operands i)
 
 -- an argument, beside so many classes
 abbrev pub ArgumentFits : ℕ → Argument → Type 0

@@ -2,11 +2,8 @@
 ghost use Rattle.std.specs.Prelude.{◌≡◌, ◌<◌, ◌≤◌, ◌↔◌, IsTrue, IfSome, All, length, count_by, ◌+◌, ◌*◌, ◌^◌, sum_by, codes};
 ghost use Rattle.aom_image.specs.WellFormed.{ThingFits, ProviderFits, KindFits, ClassFits, ClassesFit, MethodsFit, ArgumentFits, GivesFits, InstrFits, MethodFits, HeaderFits, WellFormed, is_server, spelled_size};
 
-use crate::limits::Limits;
-use crate::{
-    Argument, ClassDecl, ClassKind, ClassNumber, Gives, Header, Instr, Method, Provider, Thing,
-    words,
-};
+use crate::limits::{Limits, fits};
+use crate::{Argument, ClassDecl, ClassKind, ClassNumber, Gives, Header, Method, Provider, Thing};
 
 fn class_fits(class: ClassNumber, classes: usize) -> bool
     ensures { IsTrue result ↔ (class < classes) }
@@ -107,7 +104,7 @@ fn method_ok(method: &Method, classes: usize, methods: usize) -> bool
             .code
             .as_slice()
             .iter()
-            .all(|instr| words::fits(*instr, limits))
+            .all(|instr| fits(instr, limits))
 }
 
 fn header_ok(header: &Header, classes: usize) -> bool

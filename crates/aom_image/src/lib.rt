@@ -1,30 +1,34 @@
-//! The types of an image, and which images are well formed.
+//! The types of an image, the table of instructions, and which images are well formed.
 #![tactic(auto)]
 
-mod calls;
 mod class;
-mod cleanup;
 mod form;
 mod image;
 mod instr;
 mod items;
+mod kinds;
+mod laws;
 mod limits;
-mod messages;
 mod method;
-mod natives;
-mod objects;
+mod mnemonic;
+mod operand;
 mod operands;
-mod requests;
-mod words;
+mod parts;
+mod row;
 
 pub use class::{ClassDecl, ClassKind, Provider};
 pub use form::{form_ok, spelled_len};
 pub use image::{Header, Image};
 pub use instr::{Instr, Target};
 pub use items::Items;
+pub use kinds::{Kinds, LargeKind, Order, SmallKind};
+pub use laws::instructions_and_rows;
 pub use limits::Limits;
 pub use method::{Argument, Gives, Method, MethodFlags, Role, States, Thing};
+pub use mnemonic::Mnemonic;
+pub use operand::{Large, Operands, Small};
 pub use operands::{
     ClassNumber, EntryDepth, FieldIndex, LoopDepth, MethodNumber, NativeNumber, Place, Register,
     WordIndex,
 };
+pub use row::Row;

@@ -1,8 +1,12 @@
 //! What the operands of a method's code are measured by.
 ghost use Rattle.std.specs.Prelude.{◌≡◌, ◌<◌, ◌≤◌, ◌↔◌, IsTrue};
-ghost use Rattle.aom_image.specs.Operands.{IsRegister, IsWord, IsField, IsDepth, TargetFits};
+ghost use Rattle.aom_image.specs.Operands.{SmallFits, LargeFits, OperandsFit, TargetFits};
+ghost use Rattle.aom_image.specs.WellFormed.{InstrFits};
 
-use crate::{ClassNumber, FieldIndex, LoopDepth, MethodNumber, Place, Register, Target, WordIndex};
+use crate::{
+    ClassNumber, Instr, Kinds, Large, LargeKind, MethodNumber, Operands, Place, Small, SmallKind,
+    Target,
+};
 
 /// The counts of classes, of methods and of the method's own instructions.
 #[derive(Clone, Copy)]
@@ -30,39 +34,61 @@ impl Limits {
     {
         (place.number() as usize) < self.places
     }
+
+    fn admits(self, kind: LargeKind, operand: Large) -> bool
+        ensures { IsTrue result ↔ LargeFits self kind operand }
+    {
+        match (kind, operand) {
+            (LargeKind::Nothing, Large::Nothing) | (LargeKind::Number, Large::Number(_)) => true,
+            (LargeKind::Rounds, Large::Rounds(rounds)) => rounds != 0,
+            (LargeKind::Place, Large::Place(place)) => self.has_place(place),
+            (LargeKind::Class, Large::Class(class)) => self.has_class(class),
+            (LargeKind::Method, Large::Method(method)) => self.has_method(method),
+            _ => false,
+        }
+    }
+
+    /// Whether operands are of these kinds, each in its range.
+    fn admit(self, kinds: Kinds, operands: &Operands) -> bool
+        ensures { IsTrue result ↔ OperandsFit self kinds operands.now }
+    {
+        small_fits(kinds.a, operands.a)
+            && small_fits(kinds.b, operands.b)
+            && small_fits(kinds.c, operands.c)
+            && self.admits(kinds.d, operands.d)
+    }
 }
 
-pub fn is_register(register: Register) -> bool
-    ensures { IsTrue result ↔ IsRegister register }
-{
-    register.number() < 16
-}
-
-pub fn is_word(word: WordIndex) -> bool
-    ensures { IsTrue result ↔ IsWord word }
-{
-    word.number() < 8
-}
-
-pub fn is_field(field: FieldIndex) -> bool
-    ensures { IsTrue result ↔ IsField field }
-{
-    field.number() < 8
-}
-
-pub fn is_depth(depth: LoopDepth) -> bool
-    ensures { IsTrue result ↔ IsDepth depth }
-{
-    depth.number() < 4
-}
-
-pub fn target_fits(target: Target) -> bool
+fn target_fits(target: Target) -> bool
     ensures { IsTrue result ↔ TargetFits target }
 {
     match target {
         Target::This => true,
-        Target::Register(register) => is_register(register),
-        Target::Field(field) => is_field(field),
+        Target::Register(register) => register.number() < 16,
+        Target::Field(field) => field.number() < 8,
         Target::Entry(entry) => entry.number() < 16,
     }
+}
+
+fn small_fits(kind: SmallKind, operand: Small) -> bool
+    ensures { IsTrue result ↔ SmallFits kind operand }
+{
+    match (kind, operand) {
+        (SmallKind::Unused, Small::Unused) => true,
+        (SmallKind::Register, Small::Register(register)) => register.number() < 16,
+        (SmallKind::TrapResult, Small::Register(register)) => register.number() <= 14,
+        (SmallKind::Word, Small::Word(word)) => word.number() < 8,
+        (SmallKind::Field, Small::Field(field)) => field.number() < 8,
+        (SmallKind::Depth, Small::Depth(depth)) => depth.number() < 4,
+        (SmallKind::CallTarget, Small::CallTarget(target)) => target_fits(target),
+        _ => false,
+    }
+}
+
+/// Whether an instruction has the operands that its row asks.
+pub fn fits(instr: &Instr, limits: Limits) -> bool
+    ensures { IsTrue result ↔ InstrFits limits instr.now }
+{
+    let kinds = instr.mnemonic().row().kinds();
+    limits.admit(kinds, &instr.operands())
 }

@@ -22,6 +22,8 @@ impl Model for Register {
 }
 
 impl Register {
+    pub const FIRST: Register = Register { number: 0 };
+
     /// The operand of that number, if it is in range.
     pub fn new(number: u8) -> Option<Register>
         ensures variant { IsSome result ↔ (number < 16) }
@@ -61,6 +63,8 @@ impl Model for WordIndex {
 }
 
 impl WordIndex {
+    pub const FIRST: WordIndex = WordIndex { number: 0 };
+
     /// The operand of that number, if it is in range.
     pub fn new(number: u8) -> Option<WordIndex>
         ensures variant { IsSome result ↔ (number < 8) }
@@ -100,6 +104,8 @@ impl Model for FieldIndex {
 }
 
 impl FieldIndex {
+    pub const FIRST: FieldIndex = FieldIndex { number: 0 };
+
     /// The operand of that number, if it is in range.
     pub fn new(number: u8) -> Option<FieldIndex>
         ensures variant { IsSome result ↔ (number < 8) }
@@ -139,6 +145,8 @@ impl Model for LoopDepth {
 }
 
 impl LoopDepth {
+    pub const FIRST: LoopDepth = LoopDepth { number: 0 };
+
     /// The operand of that number, if it is in range.
     pub fn new(number: u8) -> Option<LoopDepth>
         ensures variant { IsSome result ↔ (number < 4) }
@@ -256,6 +264,8 @@ impl Model for ClassNumber {
 }
 
 impl ClassNumber {
+    pub const FIRST: ClassNumber = ClassNumber { number: 0 };
+
     /// The operand of that number, if it is in range.
     pub fn new(number: u16) -> Option<ClassNumber>
         ensures variant { IsSome result ↔ (number < 256) }
@@ -295,6 +305,8 @@ impl Model for MethodNumber {
 }
 
 impl MethodNumber {
+    pub const FIRST: MethodNumber = MethodNumber { number: 0 };
+
     /// The operand of that number, if it is in range.
     pub fn new(number: u16) -> Option<MethodNumber>
         ensures variant { IsSome result ↔ (number < 1024) }
@@ -334,6 +346,8 @@ impl Model for Place {
 }
 
 impl Place {
+    pub const FIRST: Place = Place { number: 0 };
+
     /// The operand of that number, if it is in range.
     pub fn new(number: u16) -> Option<Place>
         ensures variant { IsSome result ↔ (number < 1024) }

@@ -15,7 +15,6 @@ use Rattle.aom_image.specs.declared.class.Provider.{Provider}
 use Rattle.aom_image.specs.declared.class.Provider.TheVariants as providers
 use Rattle.aom_image.specs.declared.image.Header.{Header}
 use Rattle.aom_image.specs.declared.instr.Instr.{Instr}
-use Rattle.aom_image.specs.declared.instr.Instr.TheVariants as instr
 use Rattle.aom_image.specs.declared.instr.Target.{Target}
 use Rattle.aom_image.specs.declared.instr.Target.TheVariants as targets
 use Rattle.aom_image.specs.declared.method.Argument.{Argument}
@@ -29,7 +28,15 @@ use Rattle.aom_text.specs.Text.{has_words}
 use Rattle.aom_text.specs.Words.{has_bytes}
 use Rattle.aom_syntax.specs.declared.keyword.Keyword.{Keyword}
 use Rattle.aom_syntax.specs.declared.keyword.Keyword.TheVariants as k
-use Rattle.aom_syntax.specs.declared.mnemonic.Mnemonic.TheVariants as m
+use Rattle.aom_image.specs.Parts.{mnemonic, operands}
+use Rattle.aom_image.specs.Rows.{row}
+use Rattle.aom_image.specs.declared.kinds.Order.{Order}
+use Rattle.aom_image.specs.declared.kinds.Order.TheVariants.{LargeLast, LargeSecond}
+use Rattle.aom_image.specs.declared.operand.Large.{Large}
+use Rattle.aom_image.specs.declared.operand.Large.TheVariants as large
+use Rattle.aom_image.specs.declared.operand.Operands.{Operands}
+use Rattle.aom_image.specs.declared.operand.Small.{Small}
+use Rattle.aom_image.specs.declared.operand.Small.TheVariants as small
 use Rattle.aom_listing.specs.Classes.{budget_words, class_words, field_words, kind_words, provider_words, thing_word}
 use Rattle.aom_listing.specs.Headers.{header_words, root_words}
 use Rattle.aom_listing.specs.Jumps.{is_target}
@@ -37,7 +44,7 @@ use Rattle.aom_listing.specs.Listing.{end_words, instr_words, label_words, listi
 use Rattle.aom_listing.specs.Methods.{argument_word, flag_words, gives_words, heading_words, of_words, promise_words, role_keyword, states_word, word_where}
 use Rattle.aom_listing.specs.Operands.{label_name, target_word}
 use Rattle.aom_listing.specs.Text.{list_word}
-use Rattle.aom_listing.specs.Words.{words_statement}
+use Rattle.aom_listing.specs.Words.{in_text, large_words, small_words, words_statement}
 use Rattle.aom_listing.proofs.PlainWords.{AreWords, IsWord, decimal_is_word, is_word_byte, keyword_is_word, list_is_word, map_words, mnemonic_is_word, name_is_word, signed_is_word, words_append}
 
 -- words, of which there are some
@@ -61,55 +68,32 @@ target_is_word (targets.Register r) = name_is_word 114 r refl
 target_is_word (targets.Field f) = name_is_word 102 f refl
 target_is_word (targets.Entry e) = name_is_word 99 e refl
 
+small_are_words : (o : Small) → AreWords (small_words o)
+small_are_words small.Unused = tt
+small_are_words (small.Register r) = (name_is_word 114 r refl, tt)
+small_are_words (small.Word w) = (name_is_word 119 w refl, tt)
+small_are_words (small.Field f) = (name_is_word 102 f refl, tt)
+small_are_words (small.Depth d) = (decimal_is_word d, tt)
+small_are_words (small.CallTarget t) = (target_is_word t, tt)
+
+large_are_words : (o : Large) → AreWords (large_words o)
+large_are_words large.Nothing = tt
+large_are_words (large.Number z) = (signed_is_word z, tt)
+large_are_words (large.Rounds n) = (decimal_is_word n, tt)
+large_are_words (large.Place n) = (name_is_word 76 n refl, tt)
+large_are_words (large.Class n) = (name_is_word 99 n refl, tt)
+large_are_words (large.Method n) = (name_is_word 109 n refl, tt)
+
+operands_are_words : (order : Order) (o : Operands) → AreWords (in_text order o)
+operands_are_words LargeLast o =
+    words_append (small_words o.a) _ (small_are_words o.a)
+    (words_append (small_words o.b) _ (small_are_words o.b) (words_append (small_words o.c) _ (small_are_words o.c) (large_are_words o.d)))
+operands_are_words LargeSecond o =
+    words_append (small_words o.a) _ (small_are_words o.a)
+    (words_append (large_words o.d) _ (large_are_words o.d) (words_append (small_words o.b) _ (small_are_words o.b) (small_are_words o.c)))
+
 instr_is_stated : (i : Instr) → IsStated (words_statement i)
-instr_is_stated (instr.Const a n) = record { some = refl; words = (mnemonic_is_word m.Const, (name_is_word 114 a refl, (signed_is_word n, tt))) }
-instr_is_stated (instr.Copy a b) = record { some = refl; words = (mnemonic_is_word m.Copy, (name_is_word 114 a refl, (name_is_word 114 b refl, tt))) }
-instr_is_stated (instr.Add a b c) = record { some = refl; words = (mnemonic_is_word m.Add, (name_is_word 114 a refl, (name_is_word 114 b refl, (name_is_word 114 c refl, tt)))) }
-instr_is_stated (instr.Sub a b c) = record { some = refl; words = (mnemonic_is_word m.Sub, (name_is_word 114 a refl, (name_is_word 114 b refl, (name_is_word 114 c refl, tt)))) }
-instr_is_stated (instr.Mul a b c) = record { some = refl; words = (mnemonic_is_word m.Mul, (name_is_word 114 a refl, (name_is_word 114 b refl, (name_is_word 114 c refl, tt)))) }
-instr_is_stated (instr.And a b c) = record { some = refl; words = (mnemonic_is_word m.And, (name_is_word 114 a refl, (name_is_word 114 b refl, (name_is_word 114 c refl, tt)))) }
-instr_is_stated (instr.Or a b c) = record { some = refl; words = (mnemonic_is_word m.Or, (name_is_word 114 a refl, (name_is_word 114 b refl, (name_is_word 114 c refl, tt)))) }
-instr_is_stated (instr.Xor a b c) = record { some = refl; words = (mnemonic_is_word m.Xor, (name_is_word 114 a refl, (name_is_word 114 b refl, (name_is_word 114 c refl, tt)))) }
-instr_is_stated (instr.Jump d) = record { some = refl; words = (mnemonic_is_word m.Jump, (name_is_word 76 d refl, tt)) }
-instr_is_stated (instr.JumpEqual a b d) = record { some = refl; words = (mnemonic_is_word m.JumpEqual, (name_is_word 114 a refl, (name_is_word 114 b refl, (name_is_word 76 d refl, tt)))) }
-instr_is_stated (instr.JumpLess a b d) = record { some = refl; words = (mnemonic_is_word m.JumpLess, (name_is_word 114 a refl, (name_is_word 114 b refl, (name_is_word 76 d refl, tt)))) }
-instr_is_stated (instr.Loop a n) = record { some = refl; words = (mnemonic_is_word m.Loop, (decimal_is_word a, (decimal_is_word n, tt))) }
-instr_is_stated (instr.Next a d) = record { some = refl; words = (mnemonic_is_word m.Next, (decimal_is_word a, (name_is_word 76 d refl, tt))) }
-instr_is_stated (instr.Print a) = record { some = refl; words = (mnemonic_is_word m.Print, (name_is_word 114 a refl, tt)) }
-instr_is_stated (instr.Load a b) = record { some = refl; words = (mnemonic_is_word m.Load, (name_is_word 114 a refl, (name_is_word 119 b refl, tt))) }
-instr_is_stated (instr.Store a b) = record { some = refl; words = (mnemonic_is_word m.Store, (name_is_word 119 a refl, (name_is_word 114 b refl, tt))) }
-instr_is_stated (instr.Move a b) = record { some = refl; words = (mnemonic_is_word m.Move, (name_is_word 114 a refl, (name_is_word 114 b refl, tt))) }
-instr_is_stated (instr.JumpNull a d) = record { some = refl; words = (mnemonic_is_word m.JumpNull, (name_is_word 114 a refl, (name_is_word 76 d refl, tt))) }
-instr_is_stated (instr.JumpEmpty a d) = record { some = refl; words = (mnemonic_is_word m.JumpEmpty, (name_is_word 102 a refl, (name_is_word 76 d refl, tt))) }
-instr_is_stated (instr.Take a b) = record { some = refl; words = (mnemonic_is_word m.Take, (name_is_word 114 a refl, (name_is_word 102 b refl, tt))) }
-instr_is_stated (instr.Put a b) = record { some = refl; words = (mnemonic_is_word m.Put, (name_is_word 102 a refl, (name_is_word 114 b refl, tt))) }
-instr_is_stated (instr.New a c) = record { some = refl; words = (mnemonic_is_word m.New, (name_is_word 114 a refl, (name_is_word 99 c refl, tt))) }
-instr_is_stated (instr.NewOrLeave a c) = record { some = refl; words = (mnemonic_is_word m.NewOrLeave, (name_is_word 114 a refl, (name_is_word 99 c refl, tt))) }
-instr_is_stated (instr.Delete a) = record { some = refl; words = (mnemonic_is_word m.Delete, (name_is_word 114 a refl, tt)) }
-instr_is_stated (instr.Call t n b c) = record { some = refl; words = (mnemonic_is_word m.Call, (target_is_word t, (name_is_word 109 n refl, (name_is_word 114 b refl, (name_is_word 114 c refl, tt))))) }
-instr_is_stated (instr.Trap t n b c) = record { some = refl; words = (mnemonic_is_word m.Trap, (target_is_word t, (name_is_word 109 n refl, (name_is_word 114 b refl, (name_is_word 114 c refl, tt))))) }
-instr_is_stated (instr.Return a) = record { some = refl; words = (mnemonic_is_word m.Return, (name_is_word 114 a refl, tt)) }
-instr_is_stated (instr.Push a) = record { some = refl; words = (mnemonic_is_word m.Push, (name_is_word 114 a refl, tt)) }
-instr_is_stated (instr.PushOperation a n) = record { some = refl; words = (mnemonic_is_word m.PushOperation, (name_is_word 114 a refl, (name_is_word 109 n refl, tt))) }
-instr_is_stated (instr.Pop a) = record { some = refl; words = (mnemonic_is_word m.Pop, (name_is_word 114 a refl, tt)) }
-instr_is_stated instr.PopOperation = record { some = refl; words = (mnemonic_is_word m.PopOperation, tt) }
-instr_is_stated instr.PopDelete = record { some = refl; words = (mnemonic_is_word m.PopDelete, tt) }
-instr_is_stated (instr.Leave a) = record { some = refl; words = (mnemonic_is_word m.Leave, (name_is_word 114 a refl, tt)) }
-instr_is_stated (instr.LeaveIf a) = record { some = refl; words = (mnemonic_is_word m.LeaveIf, (name_is_word 114 a refl, tt)) }
-instr_is_stated (instr.JumpActive d) = record { some = refl; words = (mnemonic_is_word m.JumpActive, (name_is_word 76 d refl, tt)) }
-instr_is_stated (instr.JumpAdded d) = record { some = refl; words = (mnemonic_is_word m.JumpAdded, (name_is_word 76 d refl, tt)) }
-instr_is_stated (instr.Enlist n) = record { some = refl; words = (mnemonic_is_word m.Enlist, (signed_is_word n, tt)) }
-instr_is_stated (instr.Issue a b) = record { some = refl; words = (mnemonic_is_word m.Issue, (name_is_word 114 a refl, (name_is_word 114 b refl, tt))) }
-instr_is_stated instr.SetActive = record { some = refl; words = (mnemonic_is_word m.SetActive, tt) }
-instr_is_stated instr.Cancel = record { some = refl; words = (mnemonic_is_word m.Cancel, tt) }
-instr_is_stated instr.Abort = record { some = refl; words = (mnemonic_is_word m.Abort, tt) }
-instr_is_stated (instr.Status a) = record { some = refl; words = (mnemonic_is_word m.Status, (name_is_word 114 a refl, tt)) }
-instr_is_stated (instr.Connect a) = record { some = refl; words = (mnemonic_is_word m.Connect, (name_is_word 114 a refl, tt)) }
-instr_is_stated (instr.Ask a b c) = record { some = refl; words = (mnemonic_is_word m.Ask, (name_is_word 114 a refl, (name_is_word 114 b refl, (name_is_word 114 c refl, tt)))) }
-instr_is_stated instr.Close = record { some = refl; words = (mnemonic_is_word m.Close, tt) }
-instr_is_stated (instr.TakeMessage a) = record { some = refl; words = (mnemonic_is_word m.TakeMessage, (name_is_word 114 a refl, tt)) }
-instr_is_stated (instr.Reply a b) = record { some = refl; words = (mnemonic_is_word m.Reply, (name_is_word 114 a refl, (name_is_word 114 b refl, tt))) }
-instr_is_stated instr.Stop = record { some = refl; words = (mnemonic_is_word m.Stop, tt) }
+instr_is_stated i = record { some = refl; words = (mnemonic_is_word (mnemonic i), operands_are_words (row (mnemonic i)).kinds.order (operands i)) }
 
 label_is_word : (place : ℕ) → IsWord (label_name place ++ 58 ∷ [])
 label_is_word place =

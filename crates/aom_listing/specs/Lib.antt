@@ -1,15 +1,9 @@
-pub mod Calls
 pub mod Classes
-pub mod Cleanup
 pub mod Headers
 pub mod Jumps
 pub mod Laws
 pub mod Listing
-pub mod Messages
 pub mod Methods
-pub mod Natives
-pub mod Objects
 pub mod Operands
-pub mod Requests
 pub mod Text
 pub mod Words

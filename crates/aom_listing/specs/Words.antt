@@ -1,29 +1,42 @@
--- Instructions on words, jumps and loops: how they are written.
-use Rattle.std.specs.Prelude.{ℕ, List, [], ◌∷◌, decimal}
+-- How an instruction is written: its mnemonic, and its operands in the order of a text.
+use Rattle.std.specs.Prelude.{ℕ, List, [], ◌∷◌, ◌++◌, decimal}
 use Rattle.std.specs.Fmt.{signed_decimal}
+use Rattle.aom_image.specs.Mnemonics.{mnemonic_text}
+use Rattle.aom_image.specs.Parts.{mnemonic, operands}
+use Rattle.aom_image.specs.Rows.{row}
 use Rattle.aom_image.specs.declared.instr.Instr.{Instr}
-use Rattle.aom_image.specs.declared.instr.Instr.TheVariants as instr
-use Rattle.aom_syntax.specs.Mnemonics.{mnemonic_text}
-use Rattle.aom_syntax.specs.declared.mnemonic.Mnemonic.TheVariants as m
-use Rattle.aom_listing.specs.Operands.{label_name, register_word, word_field_word}
-use Rattle.aom_listing.specs.Objects.{objects_statement}
+use Rattle.aom_image.specs.declared.kinds.Order.{Order}
+use Rattle.aom_image.specs.declared.kinds.Order.TheVariants.{LargeLast, LargeSecond}
+use Rattle.aom_image.specs.declared.operand.Large.{Large}
+use Rattle.aom_image.specs.declared.operand.Large.TheVariants as large
+use Rattle.aom_image.specs.declared.operand.Operands.{Operands}
+use Rattle.aom_image.specs.declared.operand.Small.{Small}
+use Rattle.aom_image.specs.declared.operand.Small.TheVariants as small
+use Rattle.aom_listing.specs.Operands.{class_name, field_word, label_name, method_name, register_word, target_word, word_field_word}
 
--- the words of an instruction of this group, or of one after it
+-- the word of a small operand, where there is one
+abbrev pub small_words : Small → List (List ℕ)
+small_words small.Unused = []
+small_words (small.Register r) = register_word r ∷ []
+small_words (small.Word w) = word_field_word w ∷ []
+small_words (small.Field f) = field_word f ∷ []
+small_words (small.Depth d) = decimal d ∷ []
+small_words (small.CallTarget t) = target_word t ∷ []
+
+-- the word of the large operand, where there is one
+abbrev pub large_words : Large → List (List ℕ)
+large_words large.Nothing = []
+large_words (large.Number z) = signed_decimal z ∷ []
+large_words (large.Rounds n) = decimal n ∷ []
+large_words (large.Place n) = label_name n ∷ []
+large_words (large.Class n) = class_name n ∷ []
+large_words (large.Method n) = method_name n ∷ []
+
+-- operands in the order of a text
+abbrev pub in_text : Order → Operands → List (List ℕ)
+in_text LargeLast o = small_words o.a ++ (small_words o.b ++ (small_words o.c ++ large_words o.d))
+in_text LargeSecond o = small_words o.a ++ (large_words o.d ++ (small_words o.b ++ small_words o.c))
+
+-- the words of an instruction
 abbrev pub words_statement : Instr → List (List ℕ)
-words_statement (instr.Const a n) = mnemonic_text m.Const ∷ register_word a ∷ signed_decimal n ∷ []
-words_statement (instr.Copy a b) = mnemonic_text m.Copy ∷ register_word a ∷ register_word b ∷ []
-words_statement (instr.Add a b c) = mnemonic_text m.Add ∷ register_word a ∷ register_word b ∷ register_word c ∷ []
-words_statement (instr.Sub a b c) = mnemonic_text m.Sub ∷ register_word a ∷ register_word b ∷ register_word c ∷ []
-words_statement (instr.Mul a b c) = mnemonic_text m.Mul ∷ register_word a ∷ register_word b ∷ register_word c ∷ []
-words_statement (instr.And a b c) = mnemonic_text m.And ∷ register_word a ∷ register_word b ∷ register_word c ∷ []
-words_statement (instr.Or a b c) = mnemonic_text m.Or ∷ register_word a ∷ register_word b ∷ register_word c ∷ []
-words_statement (instr.Xor a b c) = mnemonic_text m.Xor ∷ register_word a ∷ register_word b ∷ register_word c ∷ []
-words_statement (instr.Jump d) = mnemonic_text m.Jump ∷ label_name d ∷ []
-words_statement (instr.JumpEqual a b d) = mnemonic_text m.JumpEqual ∷ register_word a ∷ register_word b ∷ label_name d ∷ []
-words_statement (instr.JumpLess a b d) = mnemonic_text m.JumpLess ∷ register_word a ∷ register_word b ∷ label_name d ∷ []
-words_statement (instr.Loop a n) = mnemonic_text m.Loop ∷ decimal a ∷ decimal n ∷ []
-words_statement (instr.Next a d) = mnemonic_text m.Next ∷ decimal a ∷ label_name d ∷ []
-words_statement (instr.Print a) = mnemonic_text m.Print ∷ register_word a ∷ []
-words_statement (instr.Load a b) = mnemonic_text m.Load ∷ register_word a ∷ word_field_word b ∷ []
-words_statement (instr.Store a b) = mnemonic_text m.Store ∷ word_field_word a ∷ register_word b ∷ []
-words_statement i = objects_statement i
+words_statement i = mnemonic_text (mnemonic i) ∷ in_text (row (mnemonic i)).kinds.order (operands i)

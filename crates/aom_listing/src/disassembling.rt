@@ -26,7 +26,7 @@ impl Writer {
         if is_target {
             self.label(place)?;
         }
-        self.words(instr)?;
+        self.statement(&instr)?;
         self.end_line()
     }
 

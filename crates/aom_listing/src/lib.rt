@@ -4,20 +4,14 @@
 //! of the language and mnemonics are those of `aom_syntax`. Nothing here knows how a text is read.
 #![tactic(auto)]
 
-mod calls;
 mod class;
-mod cleanup;
 mod disassembling;
 mod header;
+mod instruction;
 mod jumps;
 mod laws;
-mod messages;
 mod method;
-mod natives;
-mod objects;
 mod operands;
-mod requests;
-mod words;
 mod writer;
 
 pub use disassembling::disassemble;

@@ -1,12 +1,10 @@
-//! Names and the operands of instructions, and what has only registers behind its mnemonic.
-ghost use Rattle.std.specs.Prelude.{◌≡◌, [], ◌∷◌, ◌++◌, OnOk};
-ghost use Rattle.aom_syntax.specs.Mnemonics.{mnemonic_text};
+//! Names, and the operands of instructions.
+ghost use Rattle.std.specs.Prelude.{◌≡◌, ◌∷◌, ◌++◌, OnOk};
 ghost use Rattle.aom_listing.specs.Operands.{class_name, method_name, label_name, register_word, field_word, word_field_word, target_word};
-ghost use Rattle.aom_listing.specs.Text.{parted_by};
 
 use crate::writer::Writer;
 use aom_image::{ClassNumber, FieldIndex, MethodNumber, Place, Register, Target, WordIndex};
-use aom_syntax::{Keyword, Mnemonic};
+use aom_syntax::Keyword;
 use std::alloc::AllocError;
 
 impl Writer {
@@ -55,40 +53,5 @@ impl Writer {
             Target::Field(field) => self.field(field),
             Target::Entry(entry) => self.name(b'c', u32::from(entry.number())),
         }
-    }
-
-    pub fn with_register(&mut self, mnemonic: Mnemonic, a: Register) -> Result<(), AllocError>
-        ensures { OnOk result (self.new ≡ self.old ++ parted_by 32 (mnemonic_text mnemonic ∷ register_word a ∷ [])) }
-    {
-        self.mnemonic(mnemonic)?;
-        self.register(a)
-    }
-
-    pub fn with_two_registers(
-        &mut self,
-        mnemonic: Mnemonic,
-        a: Register,
-        b: Register,
-    ) -> Result<(), AllocError>
-        ensures { OnOk result (self.new ≡ self.old ++ parted_by 32 (mnemonic_text mnemonic ∷ register_word a ∷ register_word b ∷ [])) }
-    {
-        self.mnemonic(mnemonic)?;
-        self.register(a)?;
-        self.register(b)
-    }
-
-    pub fn with_three_registers(
-        &mut self,
-        mnemonic: Mnemonic,
-        a: Register,
-        b: Register,
-        c: Register,
-    ) -> Result<(), AllocError>
-        ensures { OnOk result (self.new ≡ self.old ++ parted_by 32 (mnemonic_text mnemonic ∷ register_word a ∷ register_word b ∷ register_word c ∷ [])) }
-    {
-        self.mnemonic(mnemonic)?;
-        self.register(a)?;
-        self.register(b)?;
-        self.register(c)
     }
 }

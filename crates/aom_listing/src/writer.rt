@@ -2,9 +2,10 @@
 ghost use Rattle.std.specs.Prelude.{◌≡◌, [], ◌∷◌, ◌++◌, OnOk, decimal};
 ghost use Rattle.std.specs.Fmt.{signed_decimal};
 ghost use Rattle.aom_syntax.specs.Keywords.{keyword_text};
-ghost use Rattle.aom_syntax.specs.Mnemonics.{mnemonic_text};
+ghost use Rattle.aom_image.specs.Mnemonics.{mnemonic_text};
 
-use aom_syntax::{Keyword, Mnemonic};
+use aom_image::Mnemonic;
+use aom_syntax::Keyword;
 use itoa::Buffer;
 use std::alloc::{AllocError, Global};
 use std::marker::Model;

@@ -15,11 +15,11 @@ use Rattle.aom_image.specs.declared.class.ClassDecl.{ClassDecl}
 use Rattle.aom_image.specs.declared.instr.Instr.{Instr}
 use Rattle.aom_syntax.specs.Classes.{declared_at, is_at}
 use Rattle.aom_syntax.specs.Methods.{after_label, check_label, instruction, known_mnemonic, label_of, named_mnemonic, skip_label}
-use Rattle.aom_syntax.specs.Mnemonics.{mnemonic_of, mnemonic_text, mnemonics}
+use Rattle.aom_image.specs.Mnemonics.{mnemonic_of, mnemonic_text, mnemonics}
 use Rattle.aom_syntax.specs.Names.{place_of}
 use Rattle.aom_syntax.specs.Reading.{◌>>=◌, as_name, giving, next, nothing_more, seen, word}
 use Rattle.aom_syntax.specs.Words.{words_operands}
-use Rattle.aom_syntax.specs.declared.mnemonic.Mnemonic.{Mnemonic}
+use Rattle.aom_image.specs.declared.mnemonic.Mnemonic.{Mnemonic}
 use Rattle.aom_asm.proofs.Counting.{found_passes, some_is}
 use Rattle.aom_ranges.proofs.Names.{at_place}
 use Rattle.aom_ranges.proofs.Within.{ok_is, passed, steps}

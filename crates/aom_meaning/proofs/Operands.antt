@@ -1,12 +1,17 @@
 -- What is read with some names is read with others that find as much: the operands of instructions.
 use Rattle.std.proofs.Common.{◌≡◌, ℕ, List, Ok, ap, ◌∙◌}
-use Rattle.aom_image.specs.declared.instr.Instr.{Instr}
+use Rattle.aom_image.specs.Rows.{row}
+use Rattle.aom_image.specs.declared.kinds.LargeKind.{LargeKind}
+use Rattle.aom_image.specs.declared.kinds.LargeKind.TheVariants as lk
+use Rattle.aom_image.specs.declared.kinds.Order.{Order}
+use Rattle.aom_image.specs.declared.kinds.Order.TheVariants.{LargeLast, LargeSecond}
+use Rattle.aom_image.specs.declared.mnemonic.Mnemonic.{Mnemonic}
+use Rattle.aom_image.specs.declared.operand.Large.{Large}
+use Rattle.aom_image.specs.declared.operand.Small.{Small}
 use Rattle.aom_syntax.specs.Names.{place_of, referred}
-use Rattle.aom_syntax.specs.Operands.{class, depth, field, label, method, register, target, used}
+use Rattle.aom_syntax.specs.Operands.{class, label, method, used}
 use Rattle.aom_syntax.specs.Reading.{◌>>=◌, Reading, name, next}
-use Rattle.aom_syntax.specs.Words.{words_operands}
-use Rattle.aom_syntax.specs.declared.mnemonic.Mnemonic.{Mnemonic}
-use Rattle.aom_syntax.specs.declared.mnemonic.Mnemonic.TheVariants as m
+use Rattle.aom_syntax.specs.Words.{in_order, large_operand, small_operand, words_operands}
 use Rattle.aom_syntax.specs.declared.scope.Scope.{Scope}
 use Rattle.aom_ranges.proofs.Within.{steps}
 
@@ -51,24 +56,24 @@ module _ (strict loose : Scope) (labels : List (List ℕ)) (classes : FindsMore 
   label_follows = used_follows 1024 strict loose labels labels places
 
   -- by what stands before the name, and behind it
-  only : {A : Type 0} {a c : Reading A} (f : A → Reading Instr) → Follows a c → Follows (next a f) (next c f)
+  only : {A X : Type 0} {a c : Reading A} (f : A → Reading X) → Follows a c → Follows (next a f) (next c f)
   only {a = a} {c = c} f first = follows a f c f first (λ x. same (f x))
 
-  behind : {A B : Type 0} (r : Reading A) {a c : Reading B} (f : A → B → Reading Instr) → Follows a c → Follows (next r (λ x. next a (f x))) (next r (λ x. next c (f x)))
-  behind r {a = a} {c = c} f later = follows r (λ x. next a (f x)) r (λ x. next c (f x)) (same r) (λ x. only (f x) later)
+  behind : {A X : Type 0} (r : Reading A) (b d : A → Reading X) → ((x : A) → Follows (b x) (d x)) → Follows (next r b) (next r d)
+  behind r b d later = follows r b r d (same r) later
+
+  -- large operands alone are found by name
+  large_follows : (k : LargeKind) → Follows (large_operand strict labels k) (large_operand loose labels k)
+  large_follows lk.Place = only _ label_follows
+  large_follows lk.Class = only _ class_follows
+  large_follows lk.Method = only _ method_follows
+  large_follows _ = same _
+
+  order_follows : (o : Order) (first second third : Reading Small) {fourth other : Reading Large} → Follows fourth other → Follows (in_order o first second third fourth) (in_order o first second third other)
+  order_follows LargeLast first second third more = behind first _ _ (λ a. behind second _ _ (λ b. behind third _ _ (λ c. only _ more)))
+  order_follows LargeSecond first second third more = behind first _ _ (λ a. only _ more)
 
   pub operands_follow : (mnemonic : Mnemonic) → Follows (words_operands strict labels mnemonic) (words_operands loose labels mnemonic)
-  operands_follow m.Jump = only _ label_follows
-  operands_follow m.JumpEqual = follows (register 15) _ (register 15) _ (same _) (λ a. behind (register 15) _ label_follows)
-  operands_follow m.JumpLess = follows (register 15) _ (register 15) _ (same _) (λ a. behind (register 15) _ label_follows)
-  operands_follow m.JumpNull = behind (register 15) _ label_follows
-  operands_follow m.JumpEmpty = behind field _ label_follows
-  operands_follow m.JumpActive = only _ label_follows
-  operands_follow m.JumpAdded = only _ label_follows
-  operands_follow m.Next = behind depth _ label_follows
-  operands_follow m.New = behind (register 15) _ class_follows
-  operands_follow m.NewOrLeave = behind (register 15) _ class_follows
-  operands_follow m.PushOperation = behind (register 15) _ method_follows
-  operands_follow m.Call = behind target _ method_follows
-  operands_follow m.Trap = behind target _ method_follows
-  operands_follow mnemonic = same _
+  operands_follow mnemonic =
+      let k = (row mnemonic).kinds in
+      only _ (order_follows k.order (small_operand k.a) (small_operand k.b) (small_operand k.c) (large_follows k.d))

@@ -1,24 +1,39 @@
 -- Whatever instruction is read has its operands in their ranges.
-use Rattle.std.proofs.Common.{◌≡◌, ℕ, ◌≤◌, ◌<◌, true, false, FitsSigned, w32, List, length}
-use Rattle.aom_image.specs.Operands.{IsDepth, IsField, IsRegister, IsWord, TargetFits}
+use Rattle.std.proofs.Common.{◌≡◌, ℕ, ◌≤◌, ◌<◌, true, false, FitsSigned, w32, List, length, sym, subst}
+use Rattle.aom_image.specs.Operands.{IsDepth, IsField, IsRegister, IsWord, LargeFits, OperandsFit, SmallFits, TargetFits}
+use Rattle.aom_image.specs.declared.kinds.Kinds.{Kinds}
+use Rattle.aom_image.specs.declared.limits.Limits.{Limits}
+use Rattle.aom_image.specs.declared.operand.Operands.{Operands}
 use Rattle.aom_image.specs.WellFormed.{InstrFits, limits}
 use Rattle.aom_image.specs.declared.instr.Instr.{Instr}
-use Rattle.aom_image.specs.declared.instr.Instr.TheVariants as instr
+use Rattle.aom_image.proofs.Again.{making_parts_again}
+use Rattle.aom_image.specs.Parts.{make, operands, operands_of}
+use Rattle.aom_image.specs.Rows.{row}
+use Rattle.aom_image.specs.declared.kinds.LargeKind.{LargeKind}
+use Rattle.aom_image.specs.declared.kinds.LargeKind.TheVariants as lk
+use Rattle.aom_image.specs.declared.kinds.Order.{Order}
+use Rattle.aom_image.specs.declared.kinds.Order.TheVariants.{LargeLast, LargeSecond}
+use Rattle.aom_image.specs.declared.kinds.SmallKind.{SmallKind}
+use Rattle.aom_image.specs.declared.kinds.SmallKind.TheVariants as sk
+use Rattle.aom_image.specs.declared.operand.Large.TheVariants as large
+use Rattle.aom_image.specs.declared.operand.Small.TheVariants as small
 use Rattle.aom_syntax.specs.Reading.{Reading, giving, next, nothing_more, seen}
-use Rattle.aom_syntax.specs.Operands.{class, depth, field, label, last_register, method, register, rounds, signed, target, three_registers, two_registers, word_field}
-use Rattle.aom_syntax.specs.Words.{words_operands}
+use Rattle.aom_syntax.specs.Operands.{class, depth, field, label, last_register, method, rounds, signed, target, word_field}
+use Rattle.aom_syntax.specs.Words.{in_order, large_operand, operands_read, small_operand, words_operands}
 use Rattle.aom_syntax.specs.Methods.{after_label, instruction, named_mnemonic}
 use Rattle.aom_syntax.specs.declared.scope.Scope.{Scope}
-use Rattle.aom_syntax.specs.declared.mnemonic.Mnemonic.{Mnemonic}
-use Rattle.aom_syntax.specs.declared.mnemonic.Mnemonic.TheVariants as m
+use Rattle.aom_image.specs.declared.mnemonic.Mnemonic.{Mnemonic}
 use Rattle.aom_ranges.proofs.Within.{Within, after, giving_within, next_within}
 use Rattle.aom_ranges.proofs.Names.{all_known, used_below}
 use Rattle.aom_ranges.proofs.Numbers.{signed_within}
-use Rattle.aom_ranges.proofs.Operands.{AreRounds, AreThree, AreTwo, depth_within, field_within, last_most, last_within, register_within, rounds_within, target_within, three_within, two_within, word_field_within}
+use Rattle.aom_ranges.proofs.Operands.{AreRounds, depth_within, field_within, last_most, last_within, rounds_within, target_within, word_field_within}
 
 module _ (scope : Scope) (strict : scope.is_strict ≡ true) (labels : List (List ℕ)) where
+  abbrev bounds : Limits
+  bounds = limits (length scope.classes) (length scope.methods) (length labels)
+
   abbrev Fits : Instr → Type 0
-  Fits i = InstrFits (limits (length scope.classes) (length scope.methods) (length labels)) i
+  Fits i = InstrFits bounds i
 
   abbrev IsClass : ℕ → Type 0
   IsClass c = c < length scope.classes
@@ -38,90 +53,51 @@ module _ (scope : Scope) (strict : scope.is_strict ≡ true) (labels : List (Lis
   label_within : Within IsLabel (label scope labels)
   label_within = used_below scope.is_strict 1024 labels (all_known scope.is_strict (length labels) strict)
 
-  -- ---- by the number of operands
+  -- ---- by the kind of an operand
 
-  nothing : (i : Instr) → Fits i → Within Fits (giving i)
-  nothing i fits = giving_within Fits i fits
+  said : {A X : Type 0} (P : A → Type 0) (Q : X → Type 0) (a : Reading A) (f : A → X) → Within P a → ((x : A) → P x → Q (f x)) → Within Q (next a (λ x. giving (f x)))
+  said P Q a f wa fits = next_within P Q a (λ x. giving (f x)) wa (λ x p. giving_within Q (f x) (fits x p))
 
-  one : {A : Type 0} (P : A → Type 0) (a : Reading A) (f : A → Instr) → Within P a → ((x : A) → P x → Fits (f x)) → Within Fits (next a (λ x. giving (f x)))
-  one P a f wa fits = next_within P Fits a (λ x. giving (f x)) wa (λ x p. giving_within Fits (f x) (fits x p))
+  small_within : (k : SmallKind) → Within (SmallFits k) (small_operand k)
+  small_within sk.Unused = giving_within (SmallFits sk.Unused) small.Unused tt
+  small_within sk.Register = said IsRegister (SmallFits sk.Register) (last_register 15) (λ r. small.Register r) last_within (λ r p. p)
+  small_within sk.TrapResult = said (λ n. n ≤ 14) (SmallFits sk.TrapResult) (last_register 14) (λ r. small.Register r) (last_most 14) (λ r p. p)
+  small_within sk.Word = said IsWord (SmallFits sk.Word) word_field (λ w. small.Word w) word_field_within (λ w p. p)
+  small_within sk.Field = said IsField (SmallFits sk.Field) field (λ f. small.Field f) field_within (λ f p. p)
+  small_within sk.Depth = said IsDepth (SmallFits sk.Depth) depth (λ d. small.Depth d) depth_within (λ d p. p)
+  small_within sk.CallTarget = said TargetFits (SmallFits sk.CallTarget) target (λ t. small.CallTarget t) target_within (λ t p. p)
 
-  two : {A B : Type 0} (P : A → Type 0) (Q : B → Type 0) (a : Reading A) (b : Reading B) (f : A → B → Instr) → Within P a → Within Q b → ((x : A) (y : B) → P x → Q y → Fits (f x y))
-      → Within Fits (next a (λ x. next b (λ y. giving (f x y))))
-  two P Q a b f wa wb fits = next_within P Fits a (λ x. next b (λ y. giving (f x y))) wa (λ x p. one Q b (f x) wb (λ y q. fits x y p q))
-
-  three : {A B C : Type 0} (P : A → Type 0) (Q : B → Type 0) (R : C → Type 0) (a : Reading A) (b : Reading B) (c : Reading C) (f : A → B → C → Instr) → Within P a → Within Q b → Within R c
-      → ((x : A) (y : B) (z : C) → P x → Q y → R z → Fits (f x y z)) → Within Fits (next a (λ x. next b (λ y. next c (λ z. giving (f x y z)))))
-  three P Q R a b c f wa wb wc fits = next_within P Fits a (λ x. next b (λ y. next c (λ z. giving (f x y z)))) wa (λ x p. two Q R b c (f x) wb wc (λ y z q r. fits x y z p q r))
-
-  four : {A B C D : Type 0} (P : A → Type 0) (Q : B → Type 0) (R : C → Type 0) (S : D → Type 0) (a : Reading A) (b : Reading B) (c : Reading C) (d : Reading D) (f : A → B → C → D → Instr)
-      → Within P a → Within Q b → Within R c → Within S d → ((x : A) (y : B) (z : C) (w : D) → P x → Q y → R z → S w → Fits (f x y z w))
-      → Within Fits (next a (λ x. next b (λ y. next c (λ z. next d (λ w. giving (f x y z w))))))
-  four P Q R S a b c d f wa wb wc wd fits = next_within P Fits a (λ x. next b (λ y. next c (λ z. next d (λ w. giving (f x y z w))))) wa (λ x p. three Q R S b c d (f x) wb wc wd (λ y z w q r s. fits x y z w p q r s))
-
-  on_one : (f : ℕ → Instr) → ((x : ℕ) → IsRegister x → Fits (f x)) → Within Fits (next (last_register 15) (λ x. giving (f x)))
-  on_one f fits = one IsRegister (last_register 15) f last_within fits
-
-  on_two : (f : ℕ × ℕ → Instr) → ((p : ℕ × ℕ) → AreTwo p → Fits (f p)) → Within Fits (next two_registers (λ p. giving (f p)))
-  on_two f fits = one AreTwo two_registers f two_within fits
-
-  on_three : (f : ℕ × (ℕ × ℕ) → Instr) → ((p : ℕ × (ℕ × ℕ)) → AreThree p → Fits (f p)) → Within Fits (next three_registers (λ p. giving (f p)))
-  on_three f fits = one AreThree three_registers f three_within fits
-
-  on_label : (f : ℕ → Instr) → ((x : ℕ) → IsLabel x → Fits (f x)) → Within Fits (next (label scope labels) (λ x. giving (f x)))
-  on_label f fits = one IsLabel (label scope labels) f label_within fits
+  large_within : (k : LargeKind) → Within (LargeFits bounds k) (large_operand scope labels k)
+  large_within lk.Nothing = giving_within (LargeFits bounds lk.Nothing) large.Nothing tt
+  large_within lk.Number = said (FitsSigned w32) (LargeFits bounds lk.Number) signed (λ z. large.Number z) signed_within (λ z p. p)
+  large_within lk.Rounds = said AreRounds (LargeFits bounds lk.Rounds) rounds (λ n. large.Rounds n) rounds_within (λ n p. p)
+  large_within lk.Place = said IsLabel (LargeFits bounds lk.Place) (label scope labels) (λ n. large.Place n) label_within (λ n p. p)
+  large_within lk.Class = said IsClass (LargeFits bounds lk.Class) (class scope) (λ n. large.Class n) class_within (λ n p. p)
+  large_within lk.Method = said IsMethod (LargeFits bounds lk.Method) (method scope) (λ n. large.Method n) method_within (λ n p. p)
 
   -- ---- behind each mnemonic
 
-  operands_within : (mnemonic : Mnemonic) → Within Fits (words_operands scope labels mnemonic)
-  operands_within m.Const = two IsRegister (FitsSigned w32) (register 15) signed (λ a b. instr.Const a b) register_within signed_within (λ x y p q. (p, q))
-  operands_within m.Copy = on_two (λ p. instr.Copy p.0 p.1) (λ x p. p)
-  operands_within m.Add = on_three (λ p. instr.Add p.0 p.1.0 p.1.1) (λ x p. p)
-  operands_within m.Sub = on_three (λ p. instr.Sub p.0 p.1.0 p.1.1) (λ x p. p)
-  operands_within m.Mul = on_three (λ p. instr.Mul p.0 p.1.0 p.1.1) (λ x p. p)
-  operands_within m.And = on_three (λ p. instr.And p.0 p.1.0 p.1.1) (λ x p. p)
-  operands_within m.Or = on_three (λ p. instr.Or p.0 p.1.0 p.1.1) (λ x p. p)
-  operands_within m.Xor = on_three (λ p. instr.Xor p.0 p.1.0 p.1.1) (λ x p. p)
-  operands_within m.Jump = on_label (λ a. instr.Jump a) (λ x p. p)
-  operands_within m.JumpEqual = three IsRegister IsRegister IsLabel (register 15) (register 15) (label scope labels) (λ a b c. instr.JumpEqual a b c) register_within register_within label_within (λ x y z p q r. (p, q, r))
-  operands_within m.JumpLess = three IsRegister IsRegister IsLabel (register 15) (register 15) (label scope labels) (λ a b c. instr.JumpLess a b c) register_within register_within label_within (λ x y z p q r. (p, q, r))
-  operands_within m.Loop = two IsDepth AreRounds depth rounds (λ a b. instr.Loop a b) depth_within rounds_within (λ x y p q. (p, q.0, q.1))
-  operands_within m.Next = two IsDepth IsLabel depth (label scope labels) (λ a b. instr.Next a b) depth_within label_within (λ x y p q. (p, q))
-  operands_within m.Print = on_one (λ a. instr.Print a) (λ x p. p)
-  operands_within m.Load = two IsRegister IsWord (register 15) word_field (λ a b. instr.Load a b) register_within word_field_within (λ x y p q. (p, q))
-  operands_within m.Store = two IsWord IsRegister word_field (last_register 15) (λ a b. instr.Store a b) word_field_within last_within (λ x y p q. (p, q))
-  operands_within m.Move = on_two (λ p. instr.Move p.0 p.1) (λ x p. p)
-  operands_within m.JumpNull = two IsRegister IsLabel (register 15) (label scope labels) (λ a b. instr.JumpNull a b) register_within label_within (λ x y p q. (p, q))
-  operands_within m.JumpEmpty = two IsField IsLabel field (label scope labels) (λ a b. instr.JumpEmpty a b) field_within label_within (λ x y p q. (p, q))
-  operands_within m.Take = two IsRegister IsField (register 15) field (λ a b. instr.Take a b) register_within field_within (λ x y p q. (p, q))
-  operands_within m.Put = two IsField IsRegister field (last_register 15) (λ a b. instr.Put a b) field_within last_within (λ x y p q. (p, q))
-  operands_within m.New = two IsRegister IsClass (register 15) (class scope) (λ a b. instr.New a b) register_within class_within (λ x y p q. (p, q))
-  operands_within m.NewOrLeave = two IsRegister IsClass (register 15) (class scope) (λ a b. instr.NewOrLeave a b) register_within class_within (λ x y p q. (p, q))
-  operands_within m.Delete = on_one (λ a. instr.Delete a) (λ x p. p)
-  operands_within m.Call = four TargetFits IsMethod IsRegister IsRegister target (method scope) (last_register 15) (last_register 15) (λ a b c d. instr.Call a b c d) target_within method_within last_within last_within (λ x y z w p q r s. (p, q, r, s))
-  operands_within m.Trap = four TargetFits IsMethod IsRegister (λ n. n ≤ 14) target (method scope) (last_register 15) (last_register 14) (λ a b c d. instr.Trap a b c d) target_within method_within last_within (last_most 14) (λ x y z w p q r s. (p, q, r, s))
-  operands_within m.Return = on_one (λ a. instr.Return a) (λ x p. p)
-  operands_within m.Push = on_one (λ a. instr.Push a) (λ x p. p)
-  operands_within m.PushOperation = two IsRegister IsMethod (register 15) (method scope) (λ a b. instr.PushOperation a b) register_within method_within (λ x y p q. (p, q))
-  operands_within m.Pop = on_one (λ a. instr.Pop a) (λ x p. p)
-  operands_within m.PopOperation = nothing instr.PopOperation tt
-  operands_within m.PopDelete = nothing instr.PopDelete tt
-  operands_within m.Leave = on_one (λ a. instr.Leave a) (λ x p. p)
-  operands_within m.LeaveIf = on_one (λ a. instr.LeaveIf a) (λ x p. p)
-  operands_within m.JumpActive = on_label (λ a. instr.JumpActive a) (λ x p. p)
-  operands_within m.JumpAdded = on_label (λ a. instr.JumpAdded a) (λ x p. p)
-  operands_within m.Enlist = one (FitsSigned w32) signed (λ a. instr.Enlist a) signed_within (λ x p. p)
-  operands_within m.Issue = on_two (λ p. instr.Issue p.0 p.1) (λ x p. p)
-  operands_within m.SetActive = nothing instr.SetActive tt
-  operands_within m.Cancel = nothing instr.Cancel tt
-  operands_within m.Abort = nothing instr.Abort tt
-  operands_within m.Status = on_one (λ a. instr.Status a) (λ x p. p)
-  operands_within m.Connect = on_one (λ a. instr.Connect a) (λ x p. p)
-  operands_within m.Ask = on_three (λ p. instr.Ask p.0 p.1.0 p.1.1) (λ x p. p)
-  operands_within m.Close = nothing instr.Close tt
-  operands_within m.TakeMessage = on_one (λ a. instr.TakeMessage a) (λ x p. p)
-  operands_within m.Reply = on_two (λ p. instr.Reply p.0 p.1) (λ x p. p)
-  operands_within m.Stop = nothing instr.Stop tt
+  in_order_within : (k : Kinds) (order : Order) → Within (OperandsFit bounds k) (in_order order (small_operand k.a) (small_operand k.b) (small_operand k.c) (large_operand scope labels k.d))
+  in_order_within k LargeLast =
+      next_within (SmallFits k.a) (OperandsFit bounds k) (small_operand k.a) _ (small_within k.a) (λ a pa.
+      next_within (SmallFits k.b) (OperandsFit bounds k) (small_operand k.b) _ (small_within k.b) (λ b pb.
+      next_within (SmallFits k.c) (OperandsFit bounds k) (small_operand k.c) _ (small_within k.c) (λ c pc.
+      said (LargeFits bounds k.d) (OperandsFit bounds k) (large_operand scope labels k.d) (λ d. operands_of a b c d) (large_within k.d) (λ d pd. record { a = pa; b = pb; c = pc; d = pd }))))
+  in_order_within k LargeSecond =
+      next_within (SmallFits k.a) (OperandsFit bounds k) (small_operand k.a) _ (small_within k.a) (λ a pa.
+      next_within (LargeFits bounds k.d) (OperandsFit bounds k) (large_operand scope labels k.d) _ (large_within k.d) (λ d pd.
+      next_within (SmallFits k.b) (OperandsFit bounds k) (small_operand k.b) _ (small_within k.b) (λ b pb.
+      said (SmallFits k.c) (OperandsFit bounds k) (small_operand k.c) (λ c. operands_of a b c d) (small_within k.c) (λ c pc. record { a = pa; b = pb; c = pc; d = pd }))))
+
+  -- what is made of operands that a row asks
+  made_fits : (m : Mnemonic) (o : Operands) → OperandsFit bounds (row m).kinds o → Fits (make m o)
+  made_fits m o fits =
+      let again = making_parts_again bounds m o fits in
+      subst (λ n. OperandsFit bounds (row n).kinds (operands (make m o))) (sym again.0) (subst (OperandsFit bounds (row m).kinds) (sym again.1) fits)
+
+  operands_within : (m : Mnemonic) → Within Fits (words_operands scope labels m)
+  operands_within m =
+      said (OperandsFit bounds (row m).kinds) Fits (operands_read scope labels (row m).kinds) (λ o. make m o) (in_order_within (row m).kinds (row m).kinds.order) (λ o fits. made_fits m o fits)
 
   pub instruction_within : (place : ℕ) → Within Fits (instruction scope labels place)
   instruction_within place =

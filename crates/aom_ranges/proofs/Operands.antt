@@ -10,7 +10,7 @@ use Rattle.aom_image.specs.Operands.{IsDepth, IsField, IsRegister, IsWord, Targe
 use Rattle.aom_image.specs.declared.instr.Target.{Target}
 use Rattle.aom_image.specs.declared.instr.Target.TheVariants as targets
 use Rattle.aom_syntax.specs.Reading.{◌>>=◌, giving, next, word}
-use Rattle.aom_syntax.specs.Operands.{depth, field, index_of, indexed, last_register, register, rounds, target, target_of, three_registers, two_registers, word_field}
+use Rattle.aom_syntax.specs.Operands.{depth, field, index_of, indexed, last_register, register, rounds, target, target_of, word_field}
 use Rattle.aom_ranges.proofs.Numbers.{Between, in_range_between, number_between}
 use Rattle.aom_ranges.proofs.Within.{Within, giving_within, next_within, ok_is, passed, seen_within, steps, value_is, weaker}
 
@@ -26,11 +26,8 @@ indexed_most : (letter highest : ℕ) (w : List ℕ) (x : ℕ) → indexed lette
 indexed_most letter highest [] x is = absurd cc
 indexed_most letter highest (b ∷ bs) x is = index_most highest (number_of bs) x (passed (b == letter) (index_of highest (number_of bs)) BadShape x is).1
 
-pub register_most : (highest : ℕ) → Within (λ n. n ≤ highest) (register highest)
+register_most : (highest : ℕ) → Within (λ n. n ≤ highest) (register highest)
 register_most highest = seen_within (λ n. n ≤ highest) (indexed 114 highest) word (indexed_most 114 highest)
-
-pub register_within : Within IsRegister (register 15)
-register_within = weaker (λ n. n ≤ 15) IsRegister (register 15) (λ n most. omega (arith, most)) (register_most 15)
 
 pub field_within : Within IsField field
 field_within = seen_within IsField (indexed 102 7) word (λ w n is. omega (arith, indexed_most 102 7 w n is))
@@ -47,24 +44,6 @@ last_most highest = record { each = last_from highest }
 
 pub last_within : Within IsRegister (last_register 15)
 last_within = weaker (λ n. n ≤ 15) IsRegister (last_register 15) (λ n most. omega (arith, most)) (last_most 15)
-
-abbrev pub AreTwo : ℕ × ℕ → Type 0
-AreTwo p = IsRegister p.0 × IsRegister p.1
-
-abbrev pub AreThree : ℕ × (ℕ × ℕ) → Type 0
-AreThree p = IsRegister p.0 × IsRegister p.1.0 × IsRegister p.1.1
-
-pub two_within : Within AreTwo two_registers
-two_within =
-    next_within IsRegister AreTwo (last_register 15) (λ a. next (last_register 15) (λ b. giving (a, b))) last_within (λ a first.
-    next_within IsRegister AreTwo (last_register 15) (λ b. giving (a, b)) last_within (λ b second.
-    giving_within AreTwo (a, b) (first, second)))
-
-pub three_within : Within AreThree three_registers
-three_within =
-    next_within IsRegister AreThree (last_register 15) (λ a. next two_registers (λ p. giving (a, p))) last_within (λ a first.
-    next_within AreTwo AreThree two_registers (λ p. giving (a, p)) two_within (λ p others.
-    giving_within AreThree (a, p) (first, others.0, others.1)))
 
 -- ---- targets
 

@@ -59,14 +59,14 @@ jump_is_target code place d i there jumps = any_there (λ i. is_at d (jump_of i)
 
 -- an instruction that fits jumps into the code
 jump_within : (classes methods places : ℕ) (i : Instr) → InstrFits (limits classes methods places) i → IfSome (jump_of i) (λ d. d < places)
-jump_within classes methods places (instr.Jump d) fits = fits
-jump_within classes methods places (instr.JumpEqual a b d) fits = fits.2
-jump_within classes methods places (instr.JumpLess a b d) fits = fits.2
-jump_within classes methods places (instr.JumpNull a d) fits = fits.1
-jump_within classes methods places (instr.JumpEmpty f d) fits = fits.1
-jump_within classes methods places (instr.JumpActive d) fits = fits
-jump_within classes methods places (instr.JumpAdded d) fits = fits
-jump_within classes methods places (instr.Next e d) fits = fits.1
+jump_within classes methods places (instr.Jump d) fits = fits.d
+jump_within classes methods places (instr.JumpEqual a b d) fits = fits.d
+jump_within classes methods places (instr.JumpLess a b d) fits = fits.d
+jump_within classes methods places (instr.JumpNull a d) fits = fits.d
+jump_within classes methods places (instr.JumpEmpty f d) fits = fits.d
+jump_within classes methods places (instr.JumpActive d) fits = fits.d
+jump_within classes methods places (instr.JumpAdded d) fits = fits.d
+jump_within classes methods places (instr.Next e d) fits = fits.d
 jump_within classes methods places _ fits = tt
 
 pub has_label : (classes methods : ℕ) (code : List Instr) (place : ℕ) (i : Instr) → length code ≤ 1024 → slice_get code place ≡ Some i → InstrFits (limits classes methods (length code)) i → HasLabel (code_labels code) i

@@ -10,27 +10,18 @@ use Rattle.aom_image.specs.declared.instr.Target.{Target}
 use Rattle.aom_image.specs.declared.instr.Target.TheVariants as targets
 use Rattle.aom_syntax.specs.Names.{place_of}
 use Rattle.aom_syntax.specs.Reading.{◌>>=◌, in_range}
-use Rattle.aom_syntax.specs.Operands.{class, depth, field, label, last_register, method, register, rounds, signed, signed_of, target, target_of, three_registers, two_registers, word_field}
+use Rattle.aom_syntax.specs.Operands.{class, depth, field, label, last_register, method, rounds, signed, signed_of, target, target_of, word_field}
 use Rattle.aom_syntax.specs.declared.scope.Scope.{Scope}
 use Rattle.aom_listing.specs.Operands.{class_name, field_word, label_name, method_name, register_word, target_word, word_field_word}
 use Rattle.aom_readback.specs.Naming.{HasNames}
 use Rattle.aom_readback.proofs.Names.{plain_lettered, plain_signed}
 use Rattle.aom_readback.proofs.Numbers.{signed_of_decimal}
-use Rattle.aom_readback.proofs.Readings.{Takes, gives, in_turn, indexed_reads, sees, takes_indexed, takes_number, takes_used, takes_word}
+use Rattle.aom_readback.proofs.Readings.{Takes, indexed_reads, sees, takes_indexed, takes_number, takes_used, takes_word}
 
 -- ---- registers, fields and words
 
-pub takes_register : (a : ℕ) → IsRegister a → Takes (register 15) (register_word a ∷ []) a
-takes_register a fits = takes_indexed 114 15 a refl (omega arith) (omega arith)
-
 pub takes_last : (highest a : ℕ) → a ≤ highest → highest ≤ 15 → Takes (last_register highest) (register_word a ∷ []) a
 takes_last highest a fits few = record { reads = (takes_indexed 114 highest a refl fits (omega arith)).reads }
-
-pub takes_two : (a b : ℕ) → IsRegister a → IsRegister b → Takes two_registers (register_word a ∷ register_word b ∷ []) (a, b)
-takes_two a b p q = in_turn _ (takes_last 15 a (omega arith) (omega arith)) (in_turn _ (takes_last 15 b (omega arith) (omega arith)) (gives (a, b)))
-
-pub takes_three : (a b c : ℕ) → IsRegister a → IsRegister b → IsRegister c → Takes three_registers (register_word a ∷ register_word b ∷ register_word c ∷ []) (a, (b, c))
-takes_three a b c p q r = in_turn _ (takes_last 15 a (omega arith) (omega arith)) (in_turn _ (takes_two b c q r) (gives (a, (b, c))))
 
 pub takes_field : (f : ℕ) → IsField f → Takes field (field_word f ∷ []) f
 takes_field f fits = takes_indexed 102 7 f refl (omega arith) (omega arith)

@@ -17,9 +17,9 @@ there (x ∷ xs) (suc k) h = there xs k (omega arith)
 
 has_callee : (p : Image) (n : ℕ) (i : Instr) → InstrFits (limits (length p.classes) (length p.methods) n) i → HasCallee p i
 unfolding method_at
-has_callee p n (Call target m first c) fits = there p.methods m fits.1
-has_callee p n (Trap target m first c) fits = there p.methods m fits.1
-has_callee p n (PushOperation a m) fits = there p.methods m fits.1
+has_callee p n (Call target m first c) fits = there p.methods m fits.d
+has_callee p n (Trap target m first c) fits = there p.methods m fits.d
+has_callee p n (PushOperation a m) fits = there p.methods m fits.d
 has_callee p n _ fits = tt
 
 pub callee_there : (p : Image) (m pc : ℕ) (i : Instr) → WellFormed p → instr_at p m pc ≡ Some i → HasCallee p i
@@ -30,7 +30,7 @@ callee_there p m pc i formed e =
     has_callee p (length w.0.code) i (all_there (InstrFits (limits (length p.classes) (length p.methods) (length w.0.code))) w.0.code pc i method.code w.2)
 
 code_register : (l : Limits) (i : Instr) → InstrFits l i → HasCodeRegister i
-code_register l (Trap target m first c) fits = fits.3
+code_register l (Trap target m first c) fits = fits.c
 code_register l _ fits = tt
 
 pub code_register_there : (p : Image) (m pc : ℕ) (i : Instr) → WellFormed p → instr_at p m pc ≡ Some i → HasCodeRegister i

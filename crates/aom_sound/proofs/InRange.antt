@@ -70,8 +70,8 @@ result_in_range p wired m place = go (instr_at p m place) refl
   where
     go : (i : Option Instr) → instr_at p m place ≡ i → IsRegister (result_register i)
     go None e = omega arith
-    go (Some (Call target m' first c)) e = (wired.operands m place (Call target m' first c) e).1.3
-    go (Some (Trap target m' first c)) e = let fits = (wired.operands m place (Trap target m' first c) e).1.3 in omega arith
+    go (Some (Call target m' first c)) e = (wired.operands m place (Call target m' first c) e).1.c
+    go (Some (Trap target m' first c)) e = let fits = (wired.operands m place (Trap target m' first c) e).1.c in omega arith
     go (Some _) e = omega arith
 
 module _ (p : Image) where
@@ -182,14 +182,14 @@ module _ (p : Image) (c : Choice) (fr : Frame) (ts : List Task) (s : State) wher
   effect_fits (JumpNull a to) l fits n = jump_fits (held s.cells (here fr ts s a)) to
   effect_fits (JumpEmpty f to) l fits n = jump_fits (held s.cells (field_place fr.home f)) to
   effect_fits (Next depth to) l fits n = round_fits (counter fr depth - 1) depth to
-  effect_fits (Move a b) l fits n = fits.0
-  effect_fits (Take a f) l fits n = fits.0
-  effect_fits (New a x) l fits n = make_fits c.refused x a fits.0
-  effect_fits (NewOrLeave a x) l fits n = either_fits c.refused (Leaves no_memory Same) (sets fr a None (Made c.name x a)) tt fits.0
+  effect_fits (Move a b) l fits n = fits.a
+  effect_fits (Take a f) l fits n = fits.a
+  effect_fits (New a x) l fits n = make_fits c.refused x a fits.a
+  effect_fits (NewOrLeave a x) l fits n = either_fits c.refused (Leaves no_memory Same) (sets fr a None (Made c.name x a)) tt fits.a
   effect_fits (Delete a) l fits n = delete_fits (held s.cells (here fr ts s a)) a
   effect_fits (Push a) l fits n = either_fits c.refused (Leaves no_memory (Pushed a)) (sets fr a None (Pushed a)) tt tt
   effect_fits (PushOperation a m) l fits n = either_fits c.refused (Leaves no_memory (Pushed_operation m (read fr ts s a))) (updates fr (Pushed_operation m (read fr ts s a))) tt tt
-  effect_fits (Pop a) l fits n = fits
+  effect_fits (Pop a) l fits n = fits.a
   effect_fits PopDelete l fits n = deal_fits s.items (held s.cells (top_place s.items))
   effect_fits (LeaveIf a) l fits n = either_fits (is_negative p c fr ts s (read fr ts s a)) (Leaves (read fr ts s a) Same) (updates fr Same) tt tt
   effect_fits (Call target m first x) l fits n = call_fits target m first _ n

@@ -1,15 +1,8 @@
 pub mod Classes
-pub mod Calls
-pub mod Cleanup
 pub mod Headers
 pub mod Keywords
-pub mod Messages
 pub mod Methods
-pub mod Mnemonics
 pub mod Names
-pub mod Natives
-pub mod Objects
 pub mod Operands
 pub mod Reading
-pub mod Requests
 pub mod Words

@@ -19,13 +19,13 @@ use Rattle.aom_image.specs.declared.method.MethodFlags.{MethodFlags}
 use Rattle.aom_image.specs.declared.instr.Instr.{Instr}
 use Rattle.aom_syntax.specs.Reading.{◌>>=◌, Reading, next, seen, giving, failing, word, name, as_name, took, any_keyword, nothing_more}
 use Rattle.aom_syntax.specs.Keywords.{strange}
-use Rattle.aom_syntax.specs.Mnemonics.{mnemonic_of}
+use Rattle.aom_image.specs.Mnemonics.{mnemonic_of}
 use Rattle.aom_syntax.specs.Operands.{class}
 use Rattle.aom_syntax.specs.Words.{words_operands}
 use Rattle.aom_syntax.specs.Classes.{declared, declared_at, listed, thing_of, thing, flag}
 use Rattle.aom_syntax.specs.declared.keyword.Keyword.{Keyword}
 use Rattle.aom_syntax.specs.declared.keyword.Keyword.TheVariants as k
-use Rattle.aom_syntax.specs.declared.mnemonic.Mnemonic.{Mnemonic}
+use Rattle.aom_image.specs.declared.mnemonic.Mnemonic.{Mnemonic}
 use Rattle.aom_syntax.specs.declared.scope.Scope.{Scope}
 use Rattle.aom_syntax.specs.declared.method.Heading.{Heading}
 

@@ -1,13 +1,13 @@
 -- The operands of instructions.
-use Rattle.std.specs.Prelude.{ℕ, ℤ, Bool, true, false, ◌==◌, ◌&&◌, not, if◌then◌else◌, List, [], ◌∷◌, Option, Some, None, Result, Ok, Err, codes}
+use Rattle.std.specs.Prelude.{ℕ, ℤ, Bool, ◌==◌, if◌then◌else◌, List, [], ◌∷◌, Option, Some, None, Result, Ok, Err, codes}
 use Rattle.std.specs.Str.{bytes_eq}
 use Rattle.aom_text.specs.Numbers.{number_of, number_within, number_signed}
 use Rattle.aom_text.specs.declared.number.Number.{Number}
 use Rattle.aom_text.specs.declared.fault.AsmFaultKind.{AsmFaultKind}
-use Rattle.aom_text.specs.declared.fault.AsmFaultKind.TheVariants.{BadNumber, BadShape, LimitPassed}
+use Rattle.aom_text.specs.declared.fault.AsmFaultKind.TheVariants.{BadNumber, BadShape}
 use Rattle.aom_image.specs.declared.instr.Target.{Target}
 use Rattle.aom_image.specs.declared.instr.Target.TheVariants as targets
-use Rattle.aom_syntax.specs.Reading.{◌>>=◌, Reading, next, seen, giving, word, name, number, in_range, as_name}
+use Rattle.aom_syntax.specs.Reading.{◌>>=◌, Reading, seen, word, name, number, in_range}
 use Rattle.aom_syntax.specs.Names.{place_of, referred}
 use Rattle.aom_syntax.specs.declared.scope.Scope.{Scope}
 
@@ -31,13 +31,6 @@ register highest = seen (indexed 114 highest) word
 abbrev pub last_register : ℕ → Reading ℕ
 last_register highest [] = Ok (0, [])
 last_register highest (w ∷ ws) = register highest (w ∷ ws)
-
--- registers that are r0 where no word is left
-abbrev pub two_registers : Reading (ℕ × ℕ)
-two_registers = next (last_register 15) (λ a. next (last_register 15) (λ b. giving (a, b)))
-
-abbrev pub three_registers : Reading (ℕ × (ℕ × ℕ))
-three_registers = next (last_register 15) (λ a. next two_registers (λ p. giving (a, p)))
 
 -- an owning field: f0 to f7
 abbrev pub field : Reading ℕ

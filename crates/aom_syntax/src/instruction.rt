@@ -4,8 +4,8 @@ ghost use Rattle.aom_syntax.specs.Reading.{Reads};
 ghost use Rattle.aom_syntax.specs.Methods.{label_of, named_mnemonic, check_label, after_label, instruction};
 
 use crate::keyword::strange;
-use crate::{Mnemonic, Names, Reader, Scope, words};
-use aom_image::Instr;
+use crate::{Names, Reader, Scope};
+use aom_image::{Instr, Mnemonic};
 use aom_text::{AsmFaultKind, is_name};
 
 /// The label that a word is, if it ends with a colon.
@@ -65,7 +65,7 @@ impl<'a> Reader<'a> {
         ensures { Reads (λ x. (x, self.new)) result (instruction scope.now labels.now place self.old) }
     {
         let mnemonic = mnemonic_of(self.after_label(labels, place)?)?;
-        let instr = words::read(mnemonic, self, scope, labels)?;
+        let instr = self.behind(mnemonic, scope, labels)?;
         self.nothing_more(false)?;
         Ok(instr)
     }

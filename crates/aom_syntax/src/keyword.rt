@@ -4,7 +4,7 @@ ghost use Rattle.std.specs.List.{find};
 ghost use Rattle.std.specs.Str.{bytes_eq};
 ghost use Rattle.aom_syntax.specs.Keywords.{keyword_text, keyword_of, strange};
 
-use crate::Mnemonic;
+use aom_image::Mnemonic;
 use aom_text::AsmFaultKind;
 
 /// A word of the language. Some are for later versions alone.

@@ -2,7 +2,7 @@
 ghost use Rattle.std.specs.Prelude.{◌≡◌, ◌≤◌, ◌<◌, IfOk};
 ghost use Rattle.aom_text.specs.Numbers.{number_of};
 ghost use Rattle.aom_syntax.specs.Reading.{Reads};
-ghost use Rattle.aom_syntax.specs.Operands.{indexed, index_of, register, last_register, two_registers, three_registers, field, word_field, target_of, target, signed, depth, rounds, class, method, label, used};
+ghost use Rattle.aom_syntax.specs.Operands.{indexed, index_of, register, last_register, field, word_field, target_of, target, signed, depth, rounds, class, method, label, used};
 
 use crate::{Names, Reader, Scope};
 use aom_image::{
@@ -100,22 +100,6 @@ impl<'a> Reader<'a> {
             Some(register) => Ok(register),
             None => Err(AsmFaultKind::LimitPassed),
         }
-    }
-
-    pub fn two_registers(&mut self) -> Result<(Register, Register), AsmFaultKind>
-        ensures { Reads (λ x. (x, self.new)) result (two_registers self.old) }
-    {
-        let a = self.last_register(LAST_REGISTER)?;
-        let b = self.last_register(LAST_REGISTER)?;
-        Ok((a, b))
-    }
-
-    pub fn three_registers(&mut self) -> Result<(Register, Register, Register), AsmFaultKind>
-        ensures { Reads (λ x. ((x.0, (x.1, x.2)), self.new)) result (three_registers self.old) }
-    {
-        let a = self.last_register(LAST_REGISTER)?;
-        let (b, c) = self.two_registers()?;
-        Ok((a, b, c))
     }
 
     pub fn field(&mut self) -> Result<FieldIndex, AsmFaultKind>

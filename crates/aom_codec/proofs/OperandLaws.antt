@@ -1,0 +1,160 @@
+-- What is read of an operand is spelled so and fits, and what fits and is spelled so is read: for each kind, once.
+use Rattle.std.proofs.Common.{◌≡◌, ℕ, zero, suc, ◌+◌, ◌*◌, ◌/◌, ◌%◌, ◌<◌, ◌≤◌, ◌^◌, Bool, true, false, cond, eqb, ltb, Result, Ok, Err, refl, sym, ap, subst, ◌∙◌, arith, eqb-true, lit<, FitsSigned, Fits, rules, ℤ, pos, negsuc, inl, inr}
+use Rattle.std.specs.Int.{w32, cast_unsigned, cast_signed}
+use Rattle.std.proofs.Math.Facts.{sfits_to_z}
+use Rattle.std.proofs.lemmas.Int.{of_z-to_z, to_z-of_z}
+use Rattle.std.proofs.lemmas.Bool.{ltb-true, lt-ltb, ne_eqb}
+use Rattle.aom_codec.specs.declared.fault.LoadFault.{LoadFault}
+use Rattle.aom_codec.specs.declared.fault.LoadFault.TheVariants.{BadOperand, BadIndex, NotZero}
+use Rattle.aom_codec.specs.Instructions.{Bounded, below, large_from, small_from, target_from}
+use Rattle.aom_codec.specs.Spelling.{large_number, small_byte, target_byte}
+use Rattle.aom_codec.proofs.Laws.{guard_ok, ok_is}
+use Rattle.aom_codec.proofs.Returning.{took}
+use Rattle.aom_image.specs.Operands.{LargeFits, SmallFits, TargetFits}
+use Rattle.aom_image.specs.declared.instr.Target.{Target}
+use Rattle.aom_image.specs.declared.instr.Target.TheVariants as targets
+use Rattle.aom_image.specs.declared.kinds.LargeKind.{LargeKind}
+use Rattle.aom_image.specs.declared.kinds.LargeKind.TheVariants as lk
+use Rattle.aom_image.specs.declared.kinds.SmallKind.{SmallKind}
+use Rattle.aom_image.specs.declared.kinds.SmallKind.TheVariants as sk
+use Rattle.aom_image.specs.declared.limits.Limits.{Limits}
+use Rattle.aom_image.specs.declared.operand.Large.{Large}
+use Rattle.aom_image.specs.declared.operand.Large.TheVariants as large
+use Rattle.aom_image.specs.declared.operand.Small.{Small}
+use Rattle.aom_image.specs.declared.operand.Small.TheVariants as small
+
+below_ok : {X : Type 0} (limit n : ℕ) (x y : X) (fault : LoadFault) → below limit n x fault ≡ Ok y → (n < limit) × (x ≡ y)
+below_ok limit n x y fault e = let g = guard_ok (ltb n limit) fault x y e in (ltb-true n limit g.0, g.1)
+
+below_is : {X : Type 0} (limit n : ℕ) (x : X) (fault : LoadFault) → n < limit → below limit n x fault ≡ Ok x
+below_is limit n x fault lt = ap (λ b. cond b (Ok x) (Err fault)) (lt-ltb n limit lt)
+
+-- ---- what is read
+
+abbrev pub SaysSmall : SmallKind → ℕ → Small → Type 0
+SaysSmall k n o = (small_byte o ≡ n) × SmallFits k o
+
+abbrev pub SaysLarge : Limits → LargeKind → ℕ → Large → Type 0
+SaysLarge l k n o = (large_number o ≡ n) × LargeFits l k o
+
+target_says : (t : Target) (limit low n : ℕ) (o : Small) → (low < limit → target_byte t ≡ n) → (low < limit → TargetFits t)
+    → below limit low (small.CallTarget t) BadOperand ≡ Ok o → SaysSmall sk.CallTarget n o
+target_says t limit low n o spelled fits e =
+    let g = below_ok limit low (small.CallTarget t) o BadOperand e in
+    (ap small_byte (sym g.1) ∙ spelled g.0, subst (SmallFits sk.CallTarget) g.1 (fits g.0))
+
+target_reads : (high low n : ℕ) (o : Small) → high * 16 + low ≡ n → target_from high low ≡ Ok o → SaysSmall sk.CallTarget n o
+target_reads high low n o is e =
+    elim (took (eqb high 0) _ _ o e) [
+      | inl h ↦ let k : high ≡ 0 = eqb-true _ _ h.0 in target_says targets.This 1 low n o (λ lt. omega (arith, is, k, lt)) (λ lt. tt) h.1
+      | inr h ↦
+          elim (took (eqb high 1) _ _ o h.1) [
+            | inl i ↦ let k : high ≡ 1 = eqb-true _ _ i.0 in target_says (targets.Register low) 16 low n o (λ lt. omega (arith, is, k)) (λ lt. lt) i.1
+            | inr i ↦
+                elim (took (eqb high 2) _ _ o i.1) [
+                  | inl j ↦ let k : high ≡ 2 = eqb-true _ _ j.0 in target_says (targets.Field low) 8 low n o (λ lt. omega (arith, is, k)) (λ lt. lt) j.1
+                  | inr j ↦
+                      let g = guarded (eqb high 3) _ _ o j.1 in
+                      let k : high ≡ 3 = eqb-true _ _ g.0 in
+                      target_says (targets.Entry low) 16 low n o (λ lt. omega (arith, is, k)) (λ lt. lt) g.1
+                ]
+          ]
+    ]
+  where
+    guarded : (b : Bool) (r : Result Small LoadFault) (fault : LoadFault) (o : Small) → cond b r (Err fault) ≡ Ok o → (b ≡ true) × (r ≡ Ok o)
+    guarded true r fault o e = (refl, e)
+    guarded false r fault o e = absurd cc
+
+pub small_reads : (k : SmallKind) (n : ℕ) (o : Small) → small_from k n ≡ Ok o → SaysSmall k n o
+small_reads sk.Unused n o e =
+    let g = below_ok 1 n small.Unused o NotZero e in
+    let z : 0 ≡ n = omega (arith, g.0) in
+    (ap small_byte (sym g.1) ∙ z, subst (SmallFits sk.Unused) g.1 tt)
+small_reads sk.Register n o e = let g = below_ok 16 n (small.Register n) o BadOperand e in (ap small_byte (sym g.1), subst (SmallFits sk.Register) g.1 g.0)
+small_reads sk.TrapResult n o e =
+    let g = below_ok 15 n (small.Register n) o BadOperand e in
+    let most : n ≤ 14 = omega (arith, g.0) in
+    (ap small_byte (sym g.1), subst (SmallFits sk.TrapResult) g.1 most)
+small_reads sk.Word n o e = let g = below_ok 8 n (small.Word n) o BadOperand e in (ap small_byte (sym g.1), subst (SmallFits sk.Word) g.1 g.0)
+small_reads sk.Field n o e = let g = below_ok 8 n (small.Field n) o BadOperand e in (ap small_byte (sym g.1), subst (SmallFits sk.Field) g.1 g.0)
+small_reads sk.Depth n o e = let g = below_ok 4 n (small.Depth n) o BadOperand e in (ap small_byte (sym g.1), subst (SmallFits sk.Depth) g.1 g.0)
+small_reads sk.CallTarget n o e = target_reads (n / 16) (n % 16) n o (omega arith) e
+
+-- any four bytes are a number with its sign
+signed_fits : (n : ℕ) → n < 2 ^ 32 → FitsSigned w32 (cast_signed w32 n)
+signed_fits n lt = let f : Fits w32 n = search rules in sfits_to_z f
+
+pub large_reads : (l : Limits) (k : LargeKind) (n : ℕ) (o : Large) → n < 2 ^ 32 → large_from l k n ≡ Ok o → SaysLarge l k n o
+large_reads l lk.Nothing n o lt e =
+    let g = below_ok 1 n large.Nothing o NotZero e in
+    let z : 0 ≡ n = omega (arith, g.0) in
+    (ap large_number (sym g.1) ∙ z, subst (LargeFits l lk.Nothing) g.1 tt)
+large_reads l lk.Number n o lt e =
+    let g = ok_is (large.Number (cast_signed w32 n)) o e in
+    (ap large_number (sym g) ∙ of_z-to_z w32 n lt, subst (LargeFits l lk.Number) g (signed_fits n lt))
+large_reads l lk.Rounds n o lt e =
+    elim (took (eqb n 0) (Err BadOperand) (below 65536 n (large.Rounds n) BadOperand) o e) [
+      | inl h ↦ absurd (refused o h.1)
+      | inr h ↦
+          let g = below_ok 65536 n (large.Rounds n) o BadOperand h.1 in
+          let some : 1 ≤ n = omega (arith, not_zero n h.0) in
+          let most : n < 2 ^ 16 = omega (arith, g.0) in
+          (ap large_number (sym g.1), subst (LargeFits l lk.Rounds) g.1 (some, most))
+    ]
+  where
+    refused : (o : Large) → Err BadOperand ≡ Ok o → ⊥
+    refused o e = cc
+
+    not_zero : (n : ℕ) → eqb n 0 ≡ false → 1 ≤ n
+    not_zero zero h = absurd cc
+    not_zero (suc n) h = omega arith
+large_reads l lk.Place n o lt e = let g = below_ok l.places n (large.Place n) o BadIndex e in (ap large_number (sym g.1), subst (LargeFits l lk.Place) g.1 g.0)
+large_reads l lk.Class n o lt e = let g = below_ok l.classes n (large.Class n) o BadIndex e in (ap large_number (sym g.1), subst (LargeFits l lk.Class) g.1 g.0)
+large_reads l lk.Method n o lt e = let g = below_ok l.methods n (large.Method n) o BadIndex e in (ap large_number (sym g.1), subst (LargeFits l lk.Method) g.1 g.0)
+
+-- ---- what fits
+
+abbrev pub ReadsSmall : SmallKind → Small → Type 0
+ReadsSmall k o = (small_byte o < 256) × (small_from k (small_byte o) ≡ Ok o)
+
+abbrev pub ReadsLarge : Limits → LargeKind → Large → Type 0
+ReadsLarge l k o = (large_number o < 2 ^ 32) × (large_from l k (large_number o) ≡ Ok o)
+
+from_halves : (n high low : ℕ) → n / 16 ≡ high → n % 16 ≡ low → target_from (n / 16) (n % 16) ≡ target_from high low
+from_halves n high low p q = ap (λ h. target_from h (n % 16)) p ∙ ap (target_from high) q
+
+target_takes : (t : Target) → TargetFits t → ReadsSmall sk.CallTarget (small.CallTarget t)
+target_takes targets.This fits = (lit< tt, refl)
+target_takes (targets.Register r) fits = (omega arith, from_halves (16 + r) 1 r (omega arith) (omega arith) ∙ below_is 16 r (small.CallTarget (targets.Register r)) BadOperand fits)
+target_takes (targets.Field f) fits = (omega arith, from_halves (32 + f) 2 f (omega arith) (omega arith) ∙ below_is 8 f (small.CallTarget (targets.Field f)) BadOperand fits)
+target_takes (targets.Entry e) fits = (omega arith, from_halves (48 + e) 3 e (omega arith) (omega arith) ∙ below_is 16 e (small.CallTarget (targets.Entry e)) BadOperand fits)
+
+pub small_takes : (k : SmallKind) (o : Small) → SmallFits k o → ReadsSmall k o
+small_takes sk.Unused small.Unused fits = (lit< tt, refl)
+small_takes sk.Register (small.Register r) fits = (omega arith, below_is 16 r (small.Register r) BadOperand fits)
+small_takes sk.TrapResult (small.Register r) fits = (omega arith, below_is 15 r (small.Register r) BadOperand (omega arith))
+small_takes sk.Word (small.Word w) fits = (omega arith, below_is 8 w (small.Word w) BadOperand fits)
+small_takes sk.Field (small.Field f) fits = (omega arith, below_is 8 f (small.Field f) BadOperand fits)
+small_takes sk.Depth (small.Depth d) fits = (omega arith, below_is 4 d (small.Depth d) BadOperand fits)
+small_takes sk.CallTarget (small.CallTarget t) fits = target_takes t fits
+small_takes _ _ fits = absurd fits
+
+-- what a number with its sign is spelled as
+below_32 : (z : ℤ) → FitsSigned w32 z → cast_unsigned w32 z < 2 ^ 32
+below_32 (pos n) h = omega arith
+below_32 (negsuc n) h = omega arith
+
+abbrev a_number : ℤ → Result Large LoadFault
+a_number z = Ok (large.Number z)
+
+rounds_read : (n : ℕ) → 1 ≤ n → cond (eqb n 0) (Err BadOperand) (below 65536 n (large.Rounds n) BadOperand) ≡ below 65536 n (large.Rounds n) BadOperand
+rounds_read n some = ap (λ b. cond b (Err BadOperand) (below 65536 n (large.Rounds n) BadOperand)) (ne_eqb n 0 (λ is. omega (arith, is, some)))
+
+pub large_takes : (l : Limits) (k : LargeKind) (o : Large) → Bounded l → LargeFits l k o → ReadsLarge l k o
+large_takes l lk.Nothing large.Nothing few fits = (lit< tt, refl)
+large_takes l lk.Number (large.Number z) few fits = (below_32 z fits, ap a_number (to_z-of_z w32 z fits))
+large_takes l lk.Rounds (large.Rounds n) few fits = (omega (arith, fits.1), rounds_read n fits.0 ∙ below_is 65536 n (large.Rounds n) BadOperand (omega (arith, fits.1)))
+large_takes l lk.Place (large.Place n) few fits = (omega (arith, few.places), below_is l.places n (large.Place n) BadIndex fits)
+large_takes l lk.Class (large.Class n) few fits = (omega (arith, few.classes), below_is l.classes n (large.Class n) BadIndex fits)
+large_takes l lk.Method (large.Method n) few fits = (omega (arith, few.methods), below_is l.methods n (large.Method n) BadIndex fits)
+large_takes l _ _ few fits = absurd fits
