@@ -12,7 +12,6 @@ use Rattle.aom_image.specs.WellFormed.{WellFormed, is_server}
 use Rattle.aom_image.specs.declared.class.ClassDecl.{ClassDecl}
 use Rattle.aom_image.specs.declared.image.Header.{Header}
 use Rattle.aom_image.specs.declared.method.Method.{Method}
-use Rattle.aom_image.proofs.Lengths.{length_spell}
 use Rattle.aom_syntax.specs.Reading.{◌>>=◌}
 use Rattle.aom_asm.specs.Body.{Program}
 use Rattle.aom_asm.specs.Denoted.{and_then, at_line, denoted, image_of, last_line_of, opened, read_program, read_rest, read_statements, scope_of}
@@ -192,7 +191,7 @@ module _ (text : List ℕ) (i : Image) where
   -- ---- what was read is meant
 
   read_small : (q : Program) → WellFormed (image_of q) → 24 + 28 * length q.classes + sum_by spelled q.methods ≤ 2 ^ 20
-  read_small q formed = omega (arith, length_spell (image_of q) formed.classes formed.methods, formed.size)
+  read_small q formed = formed.size
 
   pub read_denotes : denoted text ≡ Ok i → Denotes text i
   read_denotes is =
