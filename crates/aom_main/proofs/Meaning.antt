@@ -1,13 +1,12 @@
 -- What was assembled or listed is what a text denotes, by the law that joins reading and meaning.
-use Rattle.std.proofs.Common.{◌≡◌, ℕ, ◌≤◌, ◌^◌, List, length, Ok, Err, sym, subst, ap, ◌∙◌}
+use Rattle.std.proofs.Common.{◌≡◌, ℕ, ◌≤◌, ◌^◌, List, length, Ok, Err, sym, subst, ◌∙◌}
 use Rattle.aom_text.specs.declared.fault.AsmFault.{AsmFault}
 use Rattle.aom_image.specs.Image.{Image}
-use Rattle.aom_image.specs.Spelling.{spell}
+use Rattle.aom_codec.specs.Spelling.{spell}
 use Rattle.aom_image.specs.WellFormed.{WellFormed}
 use Rattle.aom_asm.specs.Denoted.{denoted}
 use Rattle.aom_asm.proofs.Steps.{no_ok}
 use Rattle.aom_listing.specs.Listing.{listing_text}
-use Rattle.aom_readback.specs.Texts.{AllSayQuiet}
 use Rattle.aom_readback.proofs.Assembling.{listing_assembles}
 use Rattle.aom_meaning.specs.Denotes.{Denotes}
 use Rattle.aom_meaning.proofs.Denoting.{denotes_read, read_denotes}

@@ -2,11 +2,8 @@
 use Rattle.std.proofs.Common.{◌≡◌, ◌∙◌, List, ℕ, Ok, Err, ap, length, refl, sym, subst, inl, inr}
 use Rattle.std.specs.Prelude.{◌⊎◌}
 use Rattle.aom_image.specs.Image.{Image}
-use Rattle.aom_classes.specs.Admitted.{IsAdmitted}
 use Rattle.aom_classes.specs.Linked.{IsLinked}
 use Rattle.aom_shape.specs.Typing.{Typing, IsTyped}
-use Rattle.aom_budget.specs.Depths.{DepthsWithin}
-use Rattle.aom_budget.specs.Heights.{HeightsWithin}
 use Rattle.aom_sound.specs.Laws.{LinkedIsWired}
 use Rattle.aom_sound.specs.declared.line.Ending.{Ending}
 use Rattle.aom_determined.specs.Laws.{IsDetermined, TextIsDetermined}
