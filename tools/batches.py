@@ -1,5 +1,6 @@
 """Which edits of a crate go into one check, and what that check shows of each."""
 
+import os
 import re
 from dataclasses import dataclass
 
@@ -14,7 +15,7 @@ ERROR = re.compile(r"(?:\./)?(proofs/\S+)/[^/ ]+:\d+:\d+: error")
 
 @dataclass(frozen=True)
 class Turned:
-    """A function that an edit turns: the module that it stands in, its owner's words, and its name."""
+    """A function that an edit turns: the module of its type, or its own where it has none, its owner's words, and its name."""
 
     module: str
     owner: str
@@ -36,6 +37,20 @@ def module_of(crate, path):
     return "::".join([crate, *[it for it in words if it not in ("lib", "main", "mod")]])
 
 
+def home_of(folder, path, owner):
+    """The file that declares the type whose `impl` stands in a file: a check names its functions by it."""
+    if not owner:
+        return path
+    declares = re.compile(rf"\b(?:struct|enum|trait) {owner}\b")
+    homes = [
+        os.path.relpath(f"{at}/{it}", folder)
+        for at, _, names in os.walk(f"{folder}/src")
+        for it in names
+        if it.endswith(".rt") and declares.search(source.blanked(read_text(f"{at}/{it}")))
+    ]
+    return homes[0] if len(homes) == 1 else path
+
+
 def turned_by(crate, folder, edit):
     """The functions in whose bodies an edit's changes lie; none where one lies elsewhere, or two functions share their words."""
     found = set()
@@ -46,7 +61,8 @@ def turned_by(crate, folder, edit):
         around = [it for it in functions if it.holds(change.start, change.end)]
         if len(around) != 1 or sum((it.owner, it.name) == (around[0].owner, around[0].name) for it in functions) > 1:
             return frozenset()
-        found.add(Turned(module_of(crate, change.path), around[0].owner, around[0].name))
+        home = home_of(folder, change.path, around[0].owner)
+        found.add(Turned(module_of(crate, home), around[0].owner, around[0].name))
     return frozenset(found)
 
 

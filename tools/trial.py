@@ -108,7 +108,7 @@ class Trial:
 
     def try_alone(self, name, edit):
         status, lines = self.check_with("alone", name, edit.texts)
-        told = next((it for it in lines if tells_errors(it)), "")
+        told = next((it for it in lines if tells_errors(it) and ": warning" not in it), "")
         bad = unread(lines, edit.texts)
         if bad:
             self.tell(name, edit.name, False, f"BAD EDIT: the prover cannot read the edited text, so no contract was tried: {bad[:200]}")

@@ -275,6 +275,36 @@ fn each_fault_has_its_line(rt: HostRuntime) -> Result<(), Fail> {
             1,
             AsmFaultKind::UnknownWord,
         ),
+        (
+            "image budget 4;class C plain\nmethod m accept of C;ret;end",
+            2,
+            AsmFaultKind::BadShape,
+        ),
+        (
+            "image budget 4\nmethod m accept;ret;end",
+            2,
+            AsmFaultKind::BadShape,
+        ),
+        (
+            "image budget 4\nmethod m accept of C;ret;end",
+            2,
+            AsmFaultKind::UnknownName,
+        ),
+        (
+            "image budget 4\nmethod m accept;ret r16;end",
+            2,
+            AsmFaultKind::LimitPassed,
+        ),
+        (
+            "image budget 4\nmethod m accept;jump L;end",
+            2,
+            AsmFaultKind::BadShape,
+        ),
+        (
+            "image budget 4;method m main\njump L;ret;end\nmethod n accept;ret;end",
+            2,
+            AsmFaultKind::UnknownName,
+        ),
     ] {
         is_refused(&rt, rt.alloc(), text.as_bytes(), line, kind);
     }

@@ -2,5 +2,5 @@ pub mod Calls
 pub mod Depths
 pub mod Heights
 pub mod Faults
-pub mod Tables
-pub mod Rising
+pub mod Extents
+pub mod Pricing

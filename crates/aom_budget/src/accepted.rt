@@ -1,17 +1,21 @@
 //! Accepted images.
-ghost use Rattle.std.specs.Prelude.{◌≡◌, IfOk, IfErr};
+ghost use Rattle.std.specs.Prelude.{◌≡◌, IfOk, IfErr, IsSome};
+ghost use Rattle.aom_image.specs.Views.{method_at};
 ghost use Rattle.aom_classes.specs.Admitted.{IsAdmitted};
 ghost use Rattle.aom_classes.specs.Linked.{IsLinked};
 ghost use Rattle.aom_shape.specs.Typing.{Typing, IsTyped};
 ghost use Rattle.aom_verify.specs.Strongest.{IsStrongest};
 ghost use Rattle.aom_budget.specs.Depths.{HasDepths, DepthsWithin};
 ghost use Rattle.aom_budget.specs.Heights.{HasHeights, HeightsWithin};
+ghost use Rattle.aom_budget.specs.Pricing.{IsPriceUpTo};
 ghost use Rattle.aom_budget.specs.Faults.{RefusesOrWants};
 
 use crate::BudgetFault;
-use crate::depths::Depths;
-use crate::heights::Heights;
+use crate::extents::Extents;
+use crate::prices::prices_of;
+use crate::sums::Sums;
 use aom_classes::Linked;
+use aom_image::MethodNumber;
 use aom_verify::Checked;
 use std::alloc::Global;
 use std::marker::Model;
@@ -20,18 +24,21 @@ use std::marker::Model;
 #[derive(Drop)]
 pub struct Accepted {
     checked: Checked,
+    /// By the numbers of the methods.
+    prices: Sums,
 }
 
 impl Model for Accepted {
     ghost use Rattle.aom_image.specs.Image.{Image};
     ghost use Rattle.aom_budget.specs.Depths.{HasDepths};
     ghost use Rattle.aom_budget.specs.Heights.{HasHeights};
+    ghost use Rattle.aom_budget.specs.Pricing.{ArePriced};
 
     ghost Value = { Image };
 
     ghost view = { λ a. a.checked };
 
-    ghost invariant = { λ a. HasDepths a.checked × HasHeights a.checked };
+    ghost invariant = { λ a. HasDepths a.checked × HasHeights a.checked × ArePriced a.checked a.prices };
 }
 
 impl Accepted {
@@ -63,6 +70,14 @@ impl Accepted {
         self.linked().facts();
         self.checked.typed();
     }
+
+    /// How many steps a method takes at most, with all that it calls and destroys, or 2^32 where that is more.
+    pub fn price(&self, method: MethodNumber) -> u64
+        requires { IsSome (method_at self.now method) }
+        ensures { IsPriceUpTo self.now method result }
+    {
+        self.prices.at(method.number() as usize)
+    }
 }
 
 /// Accepts an image, or refuses it where a method may come to more than 256 frames, or to more than 1,024 cleanup
@@ -72,7 +87,7 @@ pub fn accept(alloc: Global, checked: Checked) -> Result<Accepted, BudgetFault>
     ensures refused { IfErr result (λ fault. RefusesOrWants checked fault) }
     ensures complete { DepthsWithin checked → HeightsWithin checked → IfErr result (λ fault. fault ≡ BudgetFault.OutOfMemory) }
 {
-    Depths::of_image(alloc, &checked)?;
-    Heights::of_image(alloc, &checked)?;
-    Ok(Accepted { checked })
+    Extents::of_image(alloc, &checked)?;
+    let prices = prices_of(alloc, &checked)?;
+    Ok(Accepted { checked, prices })
 }

@@ -1,6 +1,7 @@
 //! What an instruction may call.
 ghost use Rattle.std.specs.Prelude.{◌≡◌, ◌++◌, [], ◌∷◌, Some};
 ghost use Rattle.aom_budget.specs.Calls.{listed, destructors, cancel_of, thing_class, object_class, callees};
+ghost use Rattle.aom_budget.specs.Extents.{entered};
 ghost use Rattle.aom_image.specs.Views.{method_class};
 
 use aom_classes::Linked;
@@ -112,12 +113,12 @@ impl Callees {
     pub(crate) fn of_instr(
         linked: &Linked,
         method: MethodNumber,
-        shape: &Shape,
-        instr: Instr,
+        shape: &Shape<'_>,
+        instr: &Instr,
     ) -> Callees
-        ensures { listed result.first ++ listed result.second ≡ callees linked.now method shape.now instr }
+        ensures { listed result.first ++ listed result.second ≡ callees linked.now method shape.now instr.now }
     {
-        match instr {
+        match *instr {
             Instr::Call(_, called, _, _)
             | Instr::Trap(_, called, _, _)
             | Instr::PushOperation(_, called) => Callees::one(called),
@@ -125,6 +126,16 @@ impl Callees {
                 Callees::destructors(linked, object_class(shape.register(register)))
             }
             Instr::Cancel => Callees::perhaps(cancel_of(linked, class_of(linked, method))),
+            _ => Callees::none(),
+        }
+    }
+
+    /// The method that an instruction enters, with a trap or without.
+    pub(crate) fn entered(instr: &Instr) -> Callees
+        ensures { listed result.first ++ listed result.second ≡ listed (entered instr.now) }
+    {
+        match *instr {
+            Instr::Call(_, called, _, _) | Instr::Trap(_, called, _, _) => Callees::one(called),
             _ => Callees::none(),
         }
     }

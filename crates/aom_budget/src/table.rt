@@ -1,7 +1,12 @@
 //! A number for each method.
-ghost use Rattle.std.specs.Prelude.{◌≡◌, ◌≤◌, ◌<◌, ◌⊎◌, length, replicate, slice_set, IfOk};
+ghost use Rattle.std.specs.Prelude.{◌≡◌, ◌<◌, ◌++◌, nat_le, length, replicate, slice_set, IfOk, IfErr};
+ghost use Rattle.std.specs.List.{list_all};
 ghost use Rattle.aom_shape.specs.Tables.{at};
+ghost use Rattle.aom_budget.specs.Calls.{listed};
+ghost use Rattle.aom_budget.specs.Extents.{most_at, KeepsTo, Exceeds};
 
+use crate::BudgetFault;
+use crate::callees::Callees;
 use aom_image::MethodNumber;
 use std::alloc::{AllocError, Global};
 use std::marker::Model;
@@ -27,25 +32,17 @@ pub(crate) fn number_at(index: usize) -> MethodNumber
     MethodNumber::new(index as u16).unwrap()
 }
 
-pub(crate) fn larger(one: u16, other: u16) -> u16
-    ensures one { one ≤ result }
-    ensures other { other ≤ result }
-    ensures either { (result ≡ one) ⊎ (result ≡ other) }
-{
-    if one < other { other } else { one }
-}
-
 impl Table {
-    /// The same number for each of so many methods.
-    pub(crate) fn new(alloc: Global, methods: usize, number: u16) -> Result<Table, AllocError>
-        ensures { IfOk result (λ t. t ≡ replicate methods number) }
+    /// 0 for each of so many methods.
+    pub(crate) fn new(alloc: Global, methods: usize) -> Result<Table, AllocError>
+        ensures { IfOk result (λ t. t ≡ replicate methods 0) }
     {
-        let numbers = vec![in alloc; number; methods]?;
+        let numbers = vec![in alloc; 0; methods]?;
         Ok(Table { numbers })
     }
 
     /// It is 0 for what no method is.
-    pub(crate) fn of_method(&self, method: MethodNumber) -> u16
+    fn of_method(&self, method: MethodNumber) -> u16
         ensures { result ≡ at 0 self.now method }
     {
         let index = method.number() as usize;
@@ -56,10 +53,45 @@ impl Table {
         }
     }
 
+    fn of_perhaps(&self, method: Option<MethodNumber>) -> u16
+        ensures { result ≡ most_at self.now (listed method) }
+    {
+        match method {
+            Some(method) => self.of_method(method),
+            None => 0,
+        }
+    }
+
+    /// The greatest number of those methods.
+    pub(crate) fn most_of(&self, callees: Callees) -> u16
+        ensures { result ≡ most_at self.now (listed callees.first ++ listed callees.second) }
+    {
+        self.of_perhaps(callees.first)
+            .max(self.of_perhaps(callees.second))
+    }
+
     pub(crate) fn set(&mut self, method: MethodNumber, number: u16)
         requires { method < length self.old }
         ensures { self.new ≡ slice_set self.old method number }
     {
         self.numbers[method.number() as usize] = number;
+    }
+
+    fn keeps_to(&self, most: u16) -> bool
+        ensures { result ≡ list_all (λ n. nat_le n most) self.now }
+    {
+        self.numbers.iter().all(|number| *number <= most)
+    }
+
+    /// That fault, if some number is greater.
+    pub(crate) fn keep_to(&self, most: u16, fault: BudgetFault) -> Result<(), BudgetFault>
+        ensures ok { IfOk result (λ _. KeepsTo most self.now) }
+        ensures err { IfErr result (λ f. (f ≡ fault) × Exceeds most self.now) }
+    {
+        if self.keeps_to(most) {
+            Ok(())
+        } else {
+            Err(fault)
+        }
     }
 }

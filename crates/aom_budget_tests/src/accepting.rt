@@ -1,9 +1,10 @@
 //! Images that are accepted, and some that may come too deep.
-ghost use Rattle.std.specs.Prelude.{◌≤◌};
+ghost use Rattle.std.specs.Prelude.{◌≤◌, ◌<◌};
 
 use aom_budget::accept;
 use aom_classes::link;
 use aom_codec::decode;
+use aom_image::MethodNumber;
 use aom_verify::check;
 use std::alloc::{AllocError, Global};
 
@@ -74,6 +75,72 @@ fn chain_answer(alloc: Global, methods: u16) -> Answer
     match chain(alloc, methods) {
         Ok(bytes) => answer_of(alloc, bytes.as_slice()),
         Err(_) => Answer::NoMemory,
+    }
+}
+
+/// What the method of a number costs, or nothing where the image is not accepted.
+fn price_of(alloc: Global, bytes: &[u8], number: u16) -> Option<u64> {
+    let image = decode(alloc, bytes).ok()?;
+    let linked = link(alloc, image).ok()?;
+    let checked = check(alloc, linked).ok()?;
+    let accepted = accept(alloc, checked).ok()?;
+    if number as usize >= accepted.linked().image().methods().len() {
+        return None;
+    }
+    Some(accepted.price(MethodNumber::new(number)?))
+}
+
+/// What the last method of a chain costs.
+fn chain_price(alloc: Global, methods: u16) -> Option<u64>
+    requires some { 0 < methods }
+    requires few { methods ≤ 1024 }
+{
+    match chain(alloc, methods) {
+        Ok(bytes) => price_of(alloc, bytes.as_slice(), methods - 1),
+        Err(_) => None,
+    }
+}
+
+/// An instruction with its first small operands and its large one.
+fn instr(opcode: u8, first: u8, second: u8, large: u16) -> [u8; 8] {
+    let [high, low] = large.to_be_bytes();
+    [opcode, first, second, 0, 0, 0, high, low]
+}
+
+/// The head of a static method that takes a word, with so many instructions.
+fn word_head(length: u8) -> [u8; 24] {
+    [
+        0xff, 0xff, 0, 0, 0, 0, 1, 0, 0xff, 0xff, 0, 0, 0, 0, 0, 0, 0, 0, 0, 0, 0xff, 0xff, 0,
+        length,
+    ]
+}
+
+/// An image of a method with a loop in a loop and a jump out of both, and main.
+fn two_loops(alloc: Global, outer: u16, inner: u16) -> Result<Vec<u8>, AllocError> {
+    let mut bytes = Vec::new(alloc);
+    bytes.extend_from_slice(&[0x41, 0x4f, 0x49, 0x4d, 0, 1, 0, 0, 0, 2])?;
+    bytes.extend_from_slice(&[0, 0, 0, 0, 0, 0, 0xff, 0xff, 0, 0, 0, 0, 4, 0])?;
+    bytes.extend_from_slice(&word_head(10))?;
+    bytes.extend_from_slice(&instr(0x11, 0, 0, outer))?;
+    bytes.extend_from_slice(&instr(0x11, 1, 0, inner))?;
+    bytes.extend_from_slice(&instr(0x0b, 0, 0, 7))?;
+    bytes.extend_from_slice(&instr(0x13, 0, 0, 0))?;
+    bytes.extend_from_slice(&instr(0x12, 1, 0, 2))?;
+    bytes.extend_from_slice(&instr(0x12, 0, 0, 1))?;
+    bytes.extend_from_slice(&instr(0x0a, 0, 0, 9))?;
+    bytes.extend_from_slice(&instr(0x13, 0, 0, 0))?;
+    bytes.extend_from_slice(&instr(0x13, 0, 0, 0))?;
+    bytes.extend_from_slice(&RETURN)?;
+    bytes.extend_from_slice(&head(1, 1))?;
+    bytes.extend_from_slice(&RETURN)?;
+    Ok(bytes)
+}
+
+/// What that method costs.
+fn loops_price(alloc: Global, outer: u16, inner: u16) -> Option<u64> {
+    match two_loops(alloc, outer, inner) {
+        Ok(bytes) => price_of(alloc, bytes.as_slice(), 0),
+        Err(_) => None,
     }
 }
 
@@ -156,4 +223,19 @@ fn as_many_calls_as_frames(rt: HostRuntime) {
     assert!(rt; chain_answer(rt.alloc(), 2) == Answer::Accepted);
     assert!(rt; chain_answer(rt.alloc(), 256) == Answer::Accepted);
     assert!(rt; chain_answer(rt.alloc(), 257) == Answer::Refused(2));
+}
+
+/// With memory enough: a call costs 1 and its method's price.
+#[test]
+fn a_caller_pays_for_its_callee(rt: HostRuntime) {
+    assert!(rt; chain_price(rt.alloc(), 2) == Some(3));
+    assert!(rt; chain_price(rt.alloc(), 100) == Some(199));
+}
+
+/// With memory enough: all rounds of both loops, and the dearer way out once; at most 2^32.
+#[test]
+fn loops_cost_their_rounds(rt: HostRuntime) {
+    assert!(rt; loops_price(rt.alloc(), 3, 5) == Some(55));
+    assert!(rt; loops_price(rt.alloc(), 1, 1) == Some(9));
+    assert!(rt; loops_price(rt.alloc(), 65_535, 65_535) == Some(4_294_967_296));
 }

@@ -1,3 +1,4 @@
+pub mod Bodies
 pub mod Each
 pub mod Facts
 pub mod Nested

@@ -255,7 +255,7 @@ loop_within code p d e =
       | Some x ↦ λ f g. slice_get_within code p x f
     ] refl e
 
-next_within : (code : List Instr) (q : ℕ) (e : Ending) → next_at code q ≡ Some e → q < length code
+pub next_within : (code : List Instr) (q : ℕ) (e : Ending) → next_at code q ≡ Some e → q < length code
 unfolding next_in
 next_within code q e h =
     elim (slice_get code q) as (λ o. slice_get code q ≡ o → next_in o ≡ Some e → q < length code) [

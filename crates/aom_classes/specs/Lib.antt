@@ -1,4 +1,5 @@
 pub mod Admitted
+pub mod Bodies
 pub mod Calls
 pub mod Faults
 pub mod Jumps

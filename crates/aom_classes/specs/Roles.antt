@@ -3,7 +3,9 @@ use Rattle.std.specs.Prelude.{ℕ, Bool, false, ◌&&◌, nat_eq, Option, Some, 
 use Rattle.aom_image.specs.Image.{Image}
 use Rattle.aom_image.specs.declared.method.Method.{Method}
 use Rattle.aom_image.specs.declared.method.Role.{Role}
-use Rattle.aom_image.specs.declared.method.Role.TheVariants.{Main}
+use Rattle.aom_image.specs.declared.method.Role.TheVariants.{Destruct, Main}
+use Rattle.aom_image.specs.declared.method.Thing.{Thing}
+use Rattle.aom_image.specs.declared.method.Thing.TheVariants.{Object, Message}
 unfoldable pub use Rattle.aom_roles.specs.Roles.{role_number}
 pub use Rattle.aom_roles.specs.Roles.{same_role}
 
@@ -19,6 +21,11 @@ plays c r m = is_class c m.class && same_role m.role r
 -- the first method of that class with that role
 unfoldable pub role_of : Image → ℕ → Role → Option ℕ
 role_of p c r = position (plays c r) p.methods
+
+-- the method that runs as an object is destroyed
+abbrev pub destructor_of : Image → Thing → Option ℕ
+destructor_of p (Object c) = role_of p c Destruct
+destructor_of p Message = None
 
 -- whether a method is main
 abbrev pub is_main : Method → Bool

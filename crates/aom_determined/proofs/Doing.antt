@@ -12,7 +12,8 @@ use Rattle.aom_image.specs.declared.method.Gives.{Gives}
 use Rattle.aom_image.specs.declared.method.Gives.TheVariants.{Left, Maybe as A_maybe, Nothing, Own as An_own, Word as A_word}
 use Rattle.aom_sound.specs.Calls.{below_top, entry_place, home_at, own_home, received, result_cells, result_register, returned, target_home}
 use Rattle.aom_sound.specs.Cleanup.{code_told, dealt_with, destroyed, is_negative, no_memory, to_trap, top_place}
-use Rattle.aom_sound.specs.Destruction.{begun, begun_by, destructor_of}
+use Rattle.aom_classes.specs.Roles.{destructor_of}
+use Rattle.aom_sound.specs.Destruction.{begun, begun_by}
 use Rattle.aom_sound.specs.Effects.{Calls, Carried, Destroys, Destroys_last, Effect, Goes_on, In_field, In_register, Jumps, Leaves, Made, Popped, Popped_operation, Pushed, Pushed_operation, Returns, Same, Sets_trap, Spot, Update, Written, applied, cells_after, deals, deletes, effect, items_after, jumps_unless, makes_unless, round, sets, spot_place, updates, with_words, writes}
 use Rattle.aom_sound.specs.Moves.{does}
 use Rattle.aom_sound.specs.Places.{Cell, Entry, Going, Object, Place, Register, held, moved}

@@ -28,6 +28,7 @@ use Rattle.aom_exec.proofs.CallActs.{shows_null}
 use Rattle.aom_exec.proofs.Entries.{mark_shows_none}
 use Rattle.aom_exec.proofs.Rooms.{boot_room}
 use Rattle.aom_exec.proofs.Standing.{begun_frame, begun_registers}
+use Rattle.aom_exec.proofs.Waiting.{none_waits}
 use Rattle.aom_exec.specs.Steps.{Sound, StandsFor}
 
 same_cond : {A : Type 0} (b : Bool) (x : A) → cond b x x ≡ x
@@ -96,5 +97,6 @@ boots p m linked admitted t strongest depths heights boot_keeps step_keeps calm_
       calm = calm_keeps.boot p;
       traps = boots_at_traps p (main_of p);
       room = boot_room p t sound;
+      waits = none_waits p t;
       agrees = boot_agrees p m booted;
     }

@@ -1,18 +1,17 @@
 -- `stop`, and how a dispatch comes to its end.
-use Rattle.std.proofs.Common.{suc, ◌≡◌, ◌==◌, ◌≤◌, ℕ, ℤ, Bool, true, false, cond, List, [], ◌∷◌, Option, Some, None, refl, sym, ap, ◌∙◌, subst}
+use Rattle.std.proofs.Common.{◌≡◌, ◌==◌, ◌≤◌, ℕ, ℤ, Bool, true, false, cond, List, [], ◌∷◌, Option, Some, None, refl, sym, ap, ◌∙◌, subst}
 use Rattle.aom_image.specs.Image.{Image}
 use Rattle.aom_image.specs.declared.instr.Instr.TheVariants.{Stop}
 use Rattle.aom_shape.specs.declared.kind.Kind.TheVariants.{Null}
-use Rattle.aom_cells.specs.Heap.{null}
 use Rattle.aom_shape.specs.Typing.{Typing}
+use Rattle.aom_cells.specs.Heap.{null}
 use Rattle.aom_sound.specs.Places.{Place, Register, Entry, Field, Going, Elsewhere, Object, held}
-use Rattle.aom_sound.specs.State.{Dispatch, next, Run, Dispatched, Rest, State}
+use Rattle.aom_sound.specs.State.{Dispatch, Dispatched, Rest, State}
 use Rattle.aom_sound.specs.Calls.{below_top}
 use Rattle.aom_sound.specs.Claims.{Layer, Dispatching, tasks_of}
 use Rattle.aom_sound.specs.WellTyped.{WellTyped, Good, Fits}
 use Rattle.aom_cleanup.specs.Items.{Stack as Held_items, entry_in}
 use Rattle.aom_cleanup.specs.declared.item.Item.TheVariants.{Mark as Is_mark}
-use Rattle.aom_frames.specs.Tasks.{on_top, with_place, place_here}
 use Rattle.aom_frames.specs.declared.task.Task.TheVariants.{Dispatched as Ends}
 use Rattle.aom_frames.specs.declared.task.Dispatch.{Dispatch as Held_dispatch}
 use Rattle.aom_exec.specs.declared.parts.Parts.{Parts}
@@ -20,18 +19,16 @@ use Rattle.aom_exec.specs.Places.{value_in}
 use Rattle.aom_exec.specs.Agrees.{word_at, Shows, dispatch_of, number, Agrees}
 use Rattle.aom_exec.specs.Acts.{requested, Does}
 use Rattle.aom_exec.specs.Acts as acts
-use Rattle.aom_exec.proofs.Standing.{by_top, stays, an_open}
 use Rattle.aom_exec.proofs.Entries.{mark_shows_none, unmarked}
+use Rattle.aom_exec.proofs.GoingOn.{goes_on_as}
+use Rattle.aom_exec.proofs.WordActs.{plain_does}
 
 pub stop_does : (m : Parts) (refused : List ℕ) → Does refused Stop m (acts.next (record m { rest = record m.rest { stopped = true } }))
-stop_does m refused p h here =
-    let c = an_open p refused m h.state h.agrees in (
-      c.0,
-      c.1,
-      λ needs typed. by_top p m h
-          (λ us. Agrees p (record m { stack = record m.stack { tasks = on_top (with_place (suc (place_here us))) us }; rest = record m.rest { stopped = true } }) (record (requested Stop h.state) { tasks = Run (next h.frame) ∷ h.below; rest = record h.state.rest { stopped = true } }))
-          (λ f ms top. stays p m h.state _ _ (suc f.place) (suc h.frame.place) f ms h.frame h.below h.agrees top (ap (λ (r : Rest). record r { stopped = true }) h.agrees.rest) (ap suc top.frame.place)),
-    )
+stop_does m refused = plain_does m (acts.next (record m { rest = record m.rest { stopped = true } })) refused Stop refl (λ p h c met.
+    let s = h.state in
+    goes_on_as p m h (record m { rest = record m.rest { stopped = true } }) s.cells s.items (record s.rest { stopped = true })
+    (record { stack = refl; cells = h.agrees.cells; entries = h.agrees.entries; rest = ap (λ (r : Rest). record r { stopped = true }) h.agrees.rest; room = h.agrees.entry_room })
+    (λ f ms e top. top.values))
 
 -- where a dispatch is at its end, no register, entry or destruction owns
 pub record Closing (s : State) : Type 0 where

@@ -10,7 +10,7 @@ use Rattle.aom_cleanup.specs.declared.item.Item.{Item as Held_item}
 use Rattle.aom_cleanup.specs.declared.item.Item.TheVariants.{Object as Holds_object, Operation as Holds_operation}
 use Rattle.aom_shape.specs.Typing.{Typing}
 use Rattle.aom_sound.specs.Cleanup.{dealt_with as deals_with, destroyed, operation_frame, tops_entry, top_is_whole, top_place}
-use Rattle.aom_sound.specs.Destruction.{destructor_of}
+use Rattle.aom_classes.specs.Roles.{destructor_of}
 use Rattle.aom_sound.specs.Places.{Place, Register, Entry, Going, Object, changed, held}
 use Rattle.aom_sound.proofs.Dealing.{dealing as dealing_effect}
 use Rattle.aom_sound.specs.State.{Static, frame_of, Run, Item, An_object, An_operation, A_mark, State}
@@ -26,8 +26,9 @@ use Rattle.aom_exec.specs.Places.{value_in, with_items, with_tasks}
 use Rattle.aom_exec.proofs.Entries.{owns_none, same_items_length, top_value, value_alike, value_popped}
 use Rattle.aom_exec.proofs.GoingActs.{begins, destructor_same, dying_shows, fresh_value, fresh_word}
 use Rattle.aom_exec.proofs.ReturnActs.{none_above}
-use Rattle.aom_exec.proofs.Standing.{an_open, begun_frame, nothing_held, reframed}
+use Rattle.aom_exec.proofs.Standing.{begun_frame, nothing_held, reframed}
 use Rattle.aom_exec.proofs.Values.{going_past, kept, same_length, value_written, word_written, writes}
+use Rattle.aom_exec.proofs.WordActs.{plain_at}
 
 module _ (p : Image) (m : Parts) (t : Typing) (s : State) (typed : WellTyped p t s) (agrees : Agrees p m s) where
   deep : length m.stack.tasks ≡ length s.tasks
@@ -94,11 +95,7 @@ module _ (p : Image) (m : Parts) (t : Typing) (s : State) (typed : WellTyped p t
 
 pub pop_delete_does : (p : Image) (m : Parts) (refused : List ℕ) → DoesIn p refused PopDelete m (dealt_with p m)
 pop_delete_does p m refused h here =
-    let c = an_open p refused m h.state h.agrees in (
-      c.0,
-      c.1,
-      λ needs typed.
-          let s = h.state in
-          subst (Agrees p (dealt_with p m)) (dealing_effect p h.frame h.below s s.items (held s.cells (top_place s.items)) refl refl needs.0 needs.1.0)
-          (subst (λ us. Agrees p (dealt_with p m) (deals_with p s.items us s)) h.top (deals p m h.typing s h.typed h.agrees needs.0 needs.1.0)),
-    )
+    plain_at p m _ refused PopDelete refl h (λ c needs typed.
+    let s = h.state in
+    subst (Agrees p (dealt_with p m)) (dealing_effect p h.frame h.below s s.items (held s.cells (top_place s.items)) refl refl needs.0 needs.1.0)
+    (subst (λ us. Agrees p (dealt_with p m) (deals_with p s.items us s)) h.top (deals p m h.typing s h.typed h.agrees needs.0 needs.1.0)))

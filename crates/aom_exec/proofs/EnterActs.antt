@@ -5,7 +5,7 @@ use Rattle.std.proofs.lemmas.Bool.{eq-eqb, eqb-true, ne_eqb}
 use Rattle.std.proofs.lemmas.Bool.Decides.{leb_tells}
 use Rattle.std.proofs.lemmas.List.{length-set}
 use Rattle.aom_image.specs.Image.{Image}
-use Rattle.aom_image.specs.Views.{arguments_in, arguments_of, class_in, instr_at, method_at, method_class}
+use Rattle.aom_image.specs.Views.{arguments_in, arguments_of, class_in, method_at, method_class}
 use Rattle.aom_image.specs.declared.instr.Instr.TheVariants.{Call, Trap}
 use Rattle.aom_image.specs.declared.instr.Target.{Target}
 use Rattle.aom_image.specs.declared.instr.Target.TheVariants.{This, Register as On_register, Field as On_field, Entry as On_entry}
@@ -16,20 +16,21 @@ use Rattle.aom_cells.specs.Heap.{Heap, null}
 use Rattle.aom_shape.specs.Needs.{AllTrue}
 use Rattle.aom_shape.specs.Tables.{put_at}
 use Rattle.aom_sound.specs.Calls.{entered, entry_place, home_at, needs_each, needs_target, passed_cells, passed_words, target_home}
-use Rattle.aom_sound.specs.Places.{Place, Register, Entry, Field, Going, Elsewhere, Object, Cell, changed, held, moved, same_place}
+use Rattle.aom_sound.specs.Places.{Place, Register, Entry, Going, Object, Cell, changed, held, moved, same_place}
 use Rattle.aom_sound.specs.State.{Frame, Task, Run, Trapped, A_mark, State, field_place, frame_of, word}
 use Rattle.aom_sound.proofs.Finishing.{all_parts}
 use Rattle.aom_sound.proofs.Maps.{held_moved}
-use Rattle.aom_frames.specs.Tasks.{fresh, given, given_here, on_top, passed_on, passing, register_here, this_here, with_register, Runs, method_here, place_here}
+use Rattle.aom_frames.specs.Tasks.{fresh, given, given_here, on_top, passed_on, passing, register_here, this_here, with_register, method_here, place_here}
 use Rattle.aom_frames.specs.declared.frame.Frame.{Frame as Held_frame}
 use Rattle.aom_frames.specs.declared.task.Task.{Task as Held_task}
 use Rattle.aom_frames.specs.declared.task.Task.TheVariants.{Run as Runs_frame, Trapped as Is_trap}
 use Rattle.aom_cleanup.specs.declared.item.Item.TheVariants.{Mark as Is_mark}
+use Rattle.aom_cleanup.specs.declared.item.Item.{Item}
 use Rattle.aom_exec.specs.declared.parts.Parts.{Parts}
+use Rattle.aom_exec.specs.Next.{IsNext}
 use Rattle.aom_exec.specs.Places.{value_in, register_in, going_in, with_items, with_tasks}
 use Rattle.aom_exec.specs.Agrees.{word_at, word_in, Shows, SameCells, SameFrame, home_number, number, Agrees}
 use Rattle.aom_exec.specs.Acts.{At_hand, DoesIn, requested}
-use Rattle.aom_exec.specs.Steps.{Stands}
 use Rattle.aom_exec.specs.Calls.{target_here}
 use Rattle.aom_exec.proofs.Cells.{cells_moved}
 use Rattle.aom_exec.proofs.Entries.{entry_number, mark_shows_none}
@@ -39,10 +40,10 @@ use Rattle.aom_exec.proofs.Housing.{at_hand, needs_met}
 use Rattle.aom_exec.proofs.ObjectActs.{shown}
 use Rattle.aom_exec.proofs.Overs.{held_over, higher, over_deep, over_register, over_value, over_word, over_words, tasks_over}
 use Rattle.aom_exec.proofs.ReturnActs.{none_above}
-use Rattle.aom_exec.proofs.Standing.{Top, by_top, begun_frame, reframed, no_word, an_open}
+use Rattle.aom_exec.proofs.WordActs.{plain_at}
+use Rattle.aom_exec.proofs.Standing.{Top, by_top, begun_frame, reframed, no_word}
 use Rattle.aom_exec.proofs.Stepping.{at_step}
 use Rattle.aom_exec.proofs.Values.{kept, moves, value_here, value_written, word_written, writes}
-use Rattle.aom_cleanup.specs.declared.item.Item.{Item}
 
 -- what a method takes, and of which class it is
 pub arguments_here : (p : Image) (k : ℕ) (d : Method_decl) → method_at p k ≡ Some d → arguments_of p k ≡ d.arguments
@@ -297,32 +298,28 @@ within a n e = grind (arith, leb_tells (a + n) 16)
 pub call_does : (p : Image) (m : Parts) (refused : List ℕ) (target : Target) (k first x : ℕ)
     → DoesIn p refused (Call target k first x) m (with_tasks (Runs_frame (given_here (arguments_of p k) first m.stack.tasks (fresh k (target_here target (method_class p k) m))) ∷ on_top (passed_on (arguments_of p k) first) m.stack.tasks) m)
 call_does p m refused target k first x h here =
-    let c = an_open p refused m h.state h.agrees in
     let s = h.state in
     let fr = h.frame in
     let ts = h.below in
     let xs = arguments_of p k in
-    let this = target_here target (method_class p k) m in (
-      c.0,
-      c.1,
-      λ needs typed.
-          let parts = all_parts (needs_target p fr ts s target (method_class p k) first (length xs)) _ needs in
-          let fits = within first (length xs) parts.1.0 in
-          let each = (all_parts (needs_each p fr ts s xs first) _ parts.1.1).0 in
-          by_top p m h
-          (λ us. Agrees p (with_tasks (Runs_frame (given_here xs first us (fresh k this)) ∷ on_top (passed_on xs first) us) m) (record s { cells = passed_cells p fr ts s (suc (length ts)) xs first 0 s.cells; tasks = Run (entered p fr ts s target k first (length s.items)) ∷ Run fr ∷ ts }))
-          (λ f ms top.
-          let done = enters p m h false target k first (length s.items) f ms top (home_of p m h target (method_class p k) first (length xs) parts.0) fits each in
-          record {
-            tasks = (done.called, (done.caller, top.below));
-            values = done.values;
-            cells = done.cells;
-            entries = h.agrees.entries;
-            rest = h.agrees.rest;
-            room = h.agrees.room;
-            entry_room = h.agrees.entry_room;
-          }),
-    )
+    let this = target_here target (method_class p k) m in
+    plain_at p m _ refused (Call target k first x) refl h (λ c needs typed.
+    let parts = all_parts (needs_target p fr ts s target (method_class p k) first (length xs)) _ needs in
+    let fits = within first (length xs) parts.1.0 in
+    let each = (all_parts (needs_each p fr ts s xs first) _ parts.1.1).0 in
+    by_top p m h
+    (λ us. Agrees p (with_tasks (Runs_frame (given_here xs first us (fresh k this)) ∷ on_top (passed_on xs first) us) m) (record s { cells = passed_cells p fr ts s (suc (length ts)) xs first 0 s.cells; tasks = Run (entered p fr ts s target k first (length s.items)) ∷ Run fr ∷ ts }))
+    (λ f ms top.
+    let done = enters p m h false target k first (length s.items) f ms top (home_of p m h target (method_class p k) first (length xs) parts.0) fits each in
+    record {
+      tasks = (done.called, (done.caller, top.below));
+      values = done.values;
+      cells = done.cells;
+      entries = h.agrees.entries;
+      rest = h.agrees.rest;
+      room = h.agrees.room;
+      entry_room = h.agrees.entry_room;
+    }))
 
 -- under a trap, whose mark owns nothing
 marked_value : (us : List Held_task) (h : Heap) (es : List Item) (root : ℕ) (r : Place) → value_in us h (Is_mark ∷ es) root r ≡ value_in us h es root r
@@ -332,41 +329,38 @@ marked_value us h es root _ = refl
 pub trap_does : (p : Image) (m : Parts) (refused : List ℕ) (target : Target) (k first x : ℕ)
     → DoesIn p refused (Trap target k first x) m (with_items (Is_mark ∷ m.entries.items) (with_tasks (Runs_frame (given_here (arguments_of p k) first m.stack.tasks (fresh k (target_here target (method_class p k) m))) ∷ Is_trap ∷ on_top (passed_on (arguments_of p k) first) m.stack.tasks) m))
 trap_does p m refused target k first x h here =
-    let c = an_open p refused m h.state h.agrees in
     let s = h.state in
     let fr = h.frame in
     let ts = h.below in
     let xs = arguments_of p k in
-    let this = target_here target (method_class p k) m in (
-      c.0,
-      c.1,
-      λ needs typed.
-          let parts = all_parts (needs_target p fr ts s target (method_class p k) first (length xs)) _ needs in
-          let fits = within first (length xs) parts.1.0 in
-          let each = (all_parts (needs_each p fr ts s xs first) _ parts.1.1).0 in
-          by_top p m h
-          (λ us. Agrees p (with_items (Is_mark ∷ m.entries.items) (with_tasks (Runs_frame (given_here xs first us (fresh k this)) ∷ Is_trap ∷ on_top (passed_on xs first) us) m)) (record s { cells = passed_cells p fr ts s (suc (suc (length ts))) xs first 0 s.cells; tasks = Run (entered p fr ts s target k first (suc (length s.items))) ∷ Trapped ∷ Run fr ∷ ts; items = A_mark ∷ s.items }))
-          (λ f ms top.
-          let done = enters p m h true target k first (suc (length s.items)) f ms top (home_of p m h target (method_class p k) first (length xs) parts.0) fits each in
-          record {
-            tasks = (done.called, (tt, (done.caller, top.below)));
-            values = λ r. subst (λ n. Shows n (word_at (Run (entered p fr ts s target k first (suc (length s.items))) ∷ Trapped ∷ Run fr ∷ ts) r) (held (passed_cells p fr ts s (suc (suc (length ts))) xs first 0 s.cells) r)) (sym (marked_value (Runs_frame (given xs first 0 f (fresh k this)) ∷ Is_trap ∷ Runs_frame (passed_on xs first f) ∷ ms) m.cells m.entries.items m.root r)) (done.values r);
-            cells = done.cells;
-            entries = (tt, h.agrees.entries);
-            rest = h.agrees.rest;
-            room = h.agrees.room;
-            entry_room = h.agrees.entry_room;
-          }),
-    )
+    let this = target_here target (method_class p k) m in
+    plain_at p m _ refused (Trap target k first x) refl h (λ c needs typed.
+    let parts = all_parts (needs_target p fr ts s target (method_class p k) first (length xs)) _ needs in
+    let fits = within first (length xs) parts.1.0 in
+    let each = (all_parts (needs_each p fr ts s xs first) _ parts.1.1).0 in
+    by_top p m h
+    (λ us. Agrees p (with_items (Is_mark ∷ m.entries.items) (with_tasks (Runs_frame (given_here xs first us (fresh k this)) ∷ Is_trap ∷ on_top (passed_on xs first) us) m)) (record s { cells = passed_cells p fr ts s (suc (suc (length ts))) xs first 0 s.cells; tasks = Run (entered p fr ts s target k first (suc (length s.items))) ∷ Trapped ∷ Run fr ∷ ts; items = A_mark ∷ s.items }))
+    (λ f ms top.
+    let done = enters p m h true target k first (suc (length s.items)) f ms top (home_of p m h target (method_class p k) first (length xs) parts.0) fits each in
+    record {
+      tasks = (done.called, (tt, (done.caller, top.below)));
+      values = λ r. subst (λ n. Shows n (word_at (Run (entered p fr ts s target k first (suc (length s.items))) ∷ Trapped ∷ Run fr ∷ ts) r) (held (passed_cells p fr ts s (suc (suc (length ts))) xs first 0 s.cells) r)) (sym (marked_value (Runs_frame (given xs first 0 f (fresh k this)) ∷ Is_trap ∷ Runs_frame (passed_on xs first f) ∷ ms) m.cells m.entries.items m.root r)) (done.values r);
+      cells = done.cells;
+      entries = (tt, h.agrees.entries);
+      rest = h.agrees.rest;
+      room = h.agrees.room;
+      entry_room = h.agrees.entry_room;
+    }))
 
 -- ---- what the code needs to know of a call that is next
 
-module _ (p : Image) (m : Parts) (st : Stands (record { image = p; parts = m })) (runs : Runs m.stack.tasks) (target : Target) (k first x : ℕ) (here : instr_at p (method_here m.stack.tasks) (place_here m.stack.tasks) ≡ Some (Call target k first x)) where
+module _ (p : Image) (m : Parts) (target : Target) (k first x : ℕ) (next : IsNext p (Call target k first x) m) where
   pub called_there : IsSome (method_at p k)
-  called_there = (st.1.sound.wired.called (method_here m.stack.tasks) (place_here m.stack.tasks) target k first x here).there
+  called_there = (next.stands.1.sound.wired.called (method_here m.stack.tasks) (place_here m.stack.tasks) target k first x next.here).there
 
   pub called_fits : (first + length (arguments_of p k)) ≤ 16
   called_fits =
-      let n = needs_met p m st runs (Call target k first x) here in
-      let parts = all_parts (needs_target p (at_hand p m st runs).frame (at_hand p m st runs).below (requested (Call target k first x) (at_step (at_hand p m st runs).state)) target (method_class p k) first (length (arguments_of p k))) _ n.1 in
+      let n = needs_met p m (Call target k first x) next in
+      let h = at_hand p m next.stands next.runs in
+      let parts = all_parts (needs_target p h.frame h.below (requested (Call target k first x) (at_step h.state)) target (method_class p k) first (length (arguments_of p k))) _ n.1 in
       grind (arith, leb_tells (first + length (arguments_of p k)) 16, parts.1.0)

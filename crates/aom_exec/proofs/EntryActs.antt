@@ -1,8 +1,7 @@
 -- Instructions on the cleanup stack.
-use Rattle.std.proofs.Common.{inl, inr, suc, ◌≡◌, ◌≤◌, ◌==◌, ℕ, ℤ, ◌<◌, Bool, true, false, cond, length, List, [], ◌∷◌, Option, None, slice_set, slice_index_or, negsuc, refl, sym, ap, ◌∙◌, subst, arith}
+use Rattle.std.proofs.Common.{inl, inr, ◌≡◌, ◌≤◌, ◌==◌, ℕ, ℤ, ◌<◌, Bool, true, false, cond, length, List, [], ◌∷◌, Option, None, negsuc, refl, sym, ap, ◌∙◌, subst, arith}
 use Rattle.std.specs.Int.{w32, cast_signed}
 use Rattle.std.proofs.lemmas.Bool.{true≢false}
-use Rattle.std.proofs.lemmas.List.{length-set}
 use Rattle.aom_image.specs.Image.{Image}
 use Rattle.aom_image.specs.declared.instr.Instr.TheVariants.{Push, PushOperation, Pop, PopOperation, NewOrLeave}
 use Rattle.aom_cells.specs.Heap.{Heap, null}
@@ -10,15 +9,16 @@ use Rattle.aom_cleanup.specs.Items.{Stack as Held_items, owned_by}
 use Rattle.aom_cleanup.specs.declared.item.Item.{Item as Held_item}
 use Rattle.aom_cleanup.specs.declared.item.Item.TheVariants.{Object as Holds_object, Operation as Holds_operation, Mark as Is_mark}
 use Rattle.aom_shape.specs.Needs.{AllTrue}
+use Rattle.aom_shape.specs.Tables.{put_at}
 use Rattle.aom_sound.specs.Calls.{below_top}
 use Rattle.aom_sound.specs.Cleanup.{leave_needs, no_memory, tops_operation, to_trap}
 use Rattle.aom_sound.specs.Places.{Place, Register, Entry, changed, held, moved}
 use Rattle.aom_sound.specs.Effects.{Effect, Leaves, Pushed, Pushed_operation, Update, applied, sets, unless_refused, updates}
-use Rattle.aom_sound.specs.State.{Task, Run, Item, An_object, A_mark, Rest, State, Choice, next, raised, set_word, word, Frame, Unwind}
-use Rattle.aom_sound.specs.Words.{read, word_or_zero}
+use Rattle.aom_sound.specs.State.{Task, Run, Item, An_object, A_mark, Rest, State, Choice, raised, word, Frame, Unwind, An_operation}
+use Rattle.aom_sound.specs.Words.{read}
 use Rattle.aom_sound.proofs.Maps.{held_moved}
 use Rattle.aom_lines.specs.Turn.{Turn}
-use Rattle.aom_frames.specs.Tasks.{on_top, with_place, with_register, place_here, register_here}
+use Rattle.aom_frames.specs.Tasks.{on_top, with_register, register_here}
 use Rattle.aom_frames.specs.declared.frame.Frame.{Frame as Held_frame}
 use Rattle.aom_frames.specs.declared.task.Task.{Task as Held_task}
 use Rattle.aom_frames.specs.declared.task.Task.TheVariants.{Run as Runs_frame}
@@ -31,10 +31,11 @@ use Rattle.aom_exec.proofs.Cells.{cells_moved}
 use Rattle.aom_exec.proofs.Entries.{and_true, entry_past, owns_none, same_items_length, top_value, value_alike, value_popped, value_pushed}
 use Rattle.aom_exec.proofs.LeavingActs.{leaves, leaves_at}
 use Rattle.aom_exec.proofs.ObjectActs.{asks_one, made_agrees, same_entry_refusal, same_refusal}
-use Rattle.aom_exec.proofs.Standing.{Top, by_top, moved_on, word_here, no_word, free, nothing_held, unnamed}
+use Rattle.aom_exec.proofs.Standing.{Top, word_here, no_word, free, nothing_held, unnamed}
 use Rattle.aom_exec.proofs.Stepping.{agrees_rest}
-use Rattle.aom_exec.proofs.Values.{kept, moves, value_here, value_kept, value_written, word_next, word_written}
+use Rattle.aom_exec.proofs.Values.{kept, moves, value_here, value_written, word_written}
 use Rattle.aom_exec.proofs.WordActs.{plain_does, word_read}
+use Rattle.aom_exec.proofs.GoingOn.{framed, goes_on_as, goes_on_with}
 
 same_cond : {A : Type 0} (b : Bool) (x : A) → x ≡ cond b x x
 same_cond true x = refl
@@ -56,63 +57,48 @@ module _ (p : Image) (m : Parts) (h : At_hand p m) where
       let deep = same_items_length m.entries.items h.state.items h.agrees.entries in
       nothing_held p m h.typing h.state h.typed h.agrees (Entry (length h.state.items)) (sym (entry_past m.entries.items (length h.state.items) (omega arith)) ∙ top.values (Entry (length h.state.items)))
 
-  -- an object is pushed
-  object_pushed : (c : Choice) (a : ℕ) (r : Rest) (f : Held_frame) (ms : List Held_task) → a < 16 → record m.rest { requests = raised m.rest.requests } ≡ r → Top m h.state h.frame h.below f ms → word h.frame a ≡ None
-      → Agrees p (with_items (Holds_object (slice_index_or f.registers a null) ∷ m.entries.items) (record (asked m) { stack = record m.stack { tasks = Runs_frame (record f { registers = slice_set f.registers a null; place = suc f.place }) ∷ ms } })) (applied p h.frame h.below (record h.state { rest = r }) (sets h.frame a None (Pushed a)))
-  object_pushed c a r f ms small rest top wordless =
-      let s = h.state in
-      let fr = h.frame in
-      let ts = h.below in
-      let n = slice_index_or f.registers a null in
-      let here = Register (length ts) a in
-      let there = Entry (length s.items) in
-      let v = value_in (Runs_frame f ∷ ms) m.cells m.entries.items m.root in
-      let us = Runs_frame (record f { registers = slice_set f.registers a null; place = suc f.place }) ∷ ms in
-      let wide = top.frame.wide in
-      let was = word_here fr ts a ∙ wordless in
-      let empty = none_over f ms top in
-      record {
-        tasks = (moved_on f fr (slice_set f.registers a null) (set_word fr a None).words top.frame (length-set f.registers a null ∙ wide), top.below);
-        values = moves v _ (word_at (Run fr ∷ ts)) _ (held s.cells) _ here there top.values was
-            (λ q. value_pushed us m.cells m.entries.items m.root n (length s.items) (same_items_length m.entries.items s.items h.agrees.entries) q
-            ∙ ap (λ x. changed (λ z. x) there n q) (value_written f ms m.cells m.entries.items m.root (length ts) a null (suc f.place) top.deep (omega arith) q)
-            ∙ ap (λ x. changed (changed v here null) there x q) (sym (value_here f ms m.cells m.entries.items m.root (length ts) a top.deep)))
-            (λ q. word_written fr ts a (suc fr.place) None q ∙ sym (kept (word_at (Run fr ∷ ts)) here q ∙ ap (λ x. changed (word_at (Run fr ∷ ts)) here x q) was) ∙ entry_words (Run fr ∷ ts) (length s.items) q)
-            (λ q. held_moved s.cells here there q empty);
-        cells = cells_moved p m.cells s.cells here there h.agrees.cells;
-        entries = (tt, h.agrees.entries);
-        rest = rest;
-        room = h.agrees.room;
-        entry_room = h.agrees.entry_room;
-      }
-
-  -- an operation is pushed
-  operation_comes : (c : Choice) (a k : ℕ) (r : Rest) (f : Held_frame) (ms : List Held_task) → record m.rest { requests = raised m.rest.requests } ≡ r → Top m h.state h.frame h.below f ms → cast_signed w32 (slice_index_or f.registers a null) ≡ read h.frame h.below h.state a
-      → Agrees p (with_items (Holds_operation k (slice_index_or f.registers a null) ∷ m.entries.items) (record (asked m) { stack = record m.stack { tasks = Runs_frame (record f { place = suc f.place }) ∷ ms } })) (applied p h.frame h.below (record h.state { rest = r }) (updates h.frame (Pushed_operation k (read h.frame h.below h.state a))))
-  operation_comes c a k r f ms rest top is =
-      let s = h.state in
-      let fr = h.frame in
-      let ts = h.below in
-      let i = Holds_operation k (slice_index_or f.registers a null) in
-      let us = Runs_frame (record f { place = suc f.place }) ∷ ms in
-      record {
-        tasks = (moved_on f fr f.registers fr.words top.frame top.frame.wide, top.below);
-        values = λ q.
-            subst (λ n. Shows n (word_at (Run (next fr) ∷ ts) q) (held s.cells q)) (sym (value_alike us m.cells (i ∷ m.entries.items) m.entries.items m.root (λ d. owns_none i m.entries.items d refl) q ∙ value_kept f ms m.cells m.entries.items m.root (suc f.place) q))
-            (subst (λ w. Shows (value_in (Runs_frame f ∷ ms) m.cells m.entries.items m.root q) w (held s.cells q)) (sym (word_next fr ts (suc fr.place) q)) (top.values q));
-        cells = h.agrees.cells;
-        entries = ((refl, is), h.agrees.entries);
-        rest = rest;
-        room = h.agrees.room;
-        entry_room = h.agrees.entry_room;
-      }
-
 -- the machine once an object is pushed, and an operation
 abbrev pub held_pushed : ℕ → Parts → Parts
 held_pushed a m = acts.next (with_items (Holds_object (register_here m.stack.tasks a) ∷ m.entries.items) (set_register a null (asked m)))
 
 abbrev pub held_operation : ℕ → ℕ → Parts → Parts
 held_operation a k m = acts.next (with_items (Holds_operation k (register_here m.stack.tasks a) ∷ m.entries.items) (asked m))
+
+module _ (p : Image) (m : Parts) (h : At_hand p m) (r : Rest) (rest : record m.rest { requests = raised m.rest.requests } ≡ r) where
+  object_pushed : (a : ℕ) → a < 16 → word h.frame a ≡ None → Agrees p (held_pushed a m) (applied p h.frame h.below (record h.state { rest = r }) (sets h.frame a None (Pushed a)))
+  object_pushed a small wordless =
+      let s = h.state in
+      let fr = h.frame in
+      let ts = h.below in
+      let n = register_here m.stack.tasks a in
+      let here = Register (length ts) a in
+      let there = Entry (length s.items) in
+      let was = word_here fr ts a ∙ wordless in
+      goes_on_with p m h (with_items (Holds_object n ∷ m.entries.items) (asked m)) (moved here there s.cells) (An_object ∷ s.items) r (put_at None fr.words a None)
+      (on_top (with_register a null)) (with_register a null) (λ f ms. refl)
+      (record { stack = refl; cells = cells_moved p m.cells s.cells here there h.agrees.cells; entries = (tt, h.agrees.entries); rest = rest; room = h.agrees.entry_room })
+      (λ f ms e top.
+      let wide = top.frame.wide in
+      let v = value_in (Runs_frame f ∷ ms) m.cells m.entries.items m.root in
+      record {
+        frame = framed p m h f ms _ a null top;
+        values = moves v _ _ _ (held s.cells) _ here there top.values was
+            (λ q.
+            value_pushed (Runs_frame (with_register a null f) ∷ ms) m.cells m.entries.items m.root n (length s.items) (same_items_length m.entries.items s.items h.agrees.entries) q
+            ∙ ap (λ x. changed (λ z. x) there n q) (value_written f ms m.cells m.entries.items m.root (length ts) a null f.place top.deep (omega arith) q)
+            ∙ ap (λ x. changed (changed v here null) there x q) (ap (λ us. register_here us a) e ∙ sym (value_here f ms m.cells m.entries.items m.root (length ts) a top.deep)))
+            (λ q. word_written fr ts a fr.place None q ∙ sym (kept (word_at (Run fr ∷ ts)) here q ∙ ap (λ x. changed (word_at (Run fr ∷ ts)) here x q) was) ∙ entry_words (Run fr ∷ ts) (length s.items) q)
+            (λ q. held_moved s.cells here there q (none_over p m h f ms top));
+      })
+
+  operation_comes : (a k : ℕ) → cast_signed w32 (register_here m.stack.tasks a) ≡ read h.frame h.below h.state a
+      → Agrees p (held_operation a k m) (applied p h.frame h.below (record h.state { rest = r }) (updates h.frame (Pushed_operation k (read h.frame h.below h.state a))))
+  operation_comes a k is =
+      let s = h.state in
+      let i = Holds_operation k (register_here m.stack.tasks a) in
+      goes_on_as p m h (with_items (i ∷ m.entries.items) (asked m)) s.cells (An_operation k (read h.frame h.below s a) ∷ s.items) r
+      (record { stack = refl; cells = h.agrees.cells; entries = ((refl, is), h.agrees.entries); rest = rest; room = h.agrees.entry_room })
+      (λ f ms e top q. subst (λ n. Shows n (word_at (Run h.frame ∷ h.below) q) (held s.cells q)) (sym (value_alike (Runs_frame f ∷ ms) m.cells (i ∷ m.entries.items) m.entries.items m.root (λ d. owns_none i m.entries.items d refl) q)) (top.values q))
 
 -- where the request is refused the machine leaves
 leaves_if : (p : Image) (m : Parts) (fr : Frame) (ts : List Task) (s : State) (b : Bool) (off : Update) (on : Effect) → Agrees p m (applied p fr ts s on)
@@ -130,9 +116,7 @@ module _ (m : Parts) (turn : Turn) where
         record { name = unnamed p m s null h.agrees h.agrees.cells.null_is_none; refusal = same ∙ same_entry_refusal p turn m h (Push a) here refl },
         λ needs typed.
             let was = no_word _ needs.0 in
-            let object = by_top p m h
-            (λ us. Agrees p (with_items (Holds_object (register_here us a) ∷ m.entries.items) (record (asked m) { stack = record m.stack { tasks = on_top (with_place (suc (place_here (on_top (with_register a null) us)))) (on_top (with_register a null) us) } })) (applied p h.frame h.below (requested (Push a) s) (sets h.frame a None (Pushed a))))
-            (λ f ms top. object_pushed p m h c a _ f ms small (asks_one m turn s.rest h.agrees.rest) top was) in
+            let object = object_pushed p m h _ (asks_one m turn s.rest h.agrees.rest) a small was in
             leaves_if p (held_pushed a m) h.frame h.below (requested (Push a) s) refused (Pushed a) (sets h.frame a None (Pushed a)) object refl needs.1.1.1.1,
       )
 
@@ -144,10 +128,7 @@ module _ (m : Parts) (turn : Turn) where
         record { name = unnamed p m s null h.agrees h.agrees.cells.null_is_none; refusal = same ∙ same_entry_refusal p turn m h (PushOperation a k) here refl },
         λ needs typed.
             let is = word_read p m h a needs.0 in
-            let operation = by_top p m h
-            (λ us. cast_signed w32 (register_here us a) ≡ word_or_zero (word h.frame a) → Agrees p (with_items (Holds_operation k (register_here us a) ∷ m.entries.items) (record (asked m) { stack = record m.stack { tasks = on_top (with_place (suc (place_here us))) us } })) (applied p h.frame h.below (requested (PushOperation a k) s) (updates h.frame (Pushed_operation k (read h.frame h.below s a)))))
-            (λ f ms top is. operation_comes p m h c a k _ f ms (asks_one m turn s.rest h.agrees.rest) top is)
-            is in
+            let operation = operation_comes p m h _ (asks_one m turn s.rest h.agrees.rest) a k is in
             leaves_if p (held_operation a k m) h.frame h.below (requested (PushOperation a k) s) refused (Pushed_operation k (read h.frame h.below s a)) (updates h.frame (Pushed_operation k (read h.frame h.below s a))) operation refl needs.1.1,
       )
 
@@ -175,6 +156,9 @@ below_same : (i : Held_item) (is : List Held_item) (js : List Item) → SameItem
 below_same i is [] same = absurd same
 below_same i is (j ∷ js) same = same.1
 
+deep_enough : (e es : Held_items) (is : List Held_item) → 1024 ≤ e.depth → e ≡ record es { items = is } → 1024 ≤ es.depth
+deep_enough e es is deep same = subst (λ d. 1024 ≤ d) (ap (λ (x : Held_items). x.depth) same) deep
+
 module _ (m : Parts) (refused : List ℕ) (es : Held_items) where
   pub pop_does : (a n : ℕ) → a < 16 → m.entries ≡ record es { items = Holds_object n ∷ es.items } → Does refused (Pop a) m (acts.next (set_register a n (record m { entries = es })))
   pop_does a n small popped = plain_does m (acts.next (set_register a n (record m { entries = es }))) refused (Pop a) refl (λ p h c met.
@@ -187,25 +171,20 @@ module _ (m : Parts) (refused : List ℕ) (es : Held_items) where
       let was : m.entries.items ≡ Holds_object n ∷ es.items = ap (λ (e : Held_items). e.items) popped in
       let same = subst (λ is. SameItems is s.items) was h.agrees.entries in
       let deep = same_items_length es.items items (below_same (Holds_object n) es.items s.items same) in
-      by_top p m h
-      (λ us. Agrees p (record m { stack = record m.stack { tasks = on_top (with_place (suc (place_here (on_top (with_register a n) us)))) (on_top (with_register a n) us) }; entries = es }) (record s { cells = moved from here s.cells; tasks = Run (next (set_word fr a None)) ∷ ts; items = items }))
-      (λ f ms top.
+      goes_on_with p m h (record m { entries = es }) (moved from here s.cells) items s.rest (put_at None fr.words a None) (on_top (with_register a n)) (with_register a n) (λ f ms. refl)
+      (record { stack = refl; cells = cells_moved p m.cells s.cells from here h.agrees.cells; entries = below_same (Holds_object n) es.items s.items same; rest = h.agrees.rest; room = deep_enough m.entries es _ h.agrees.entry_room popped })
+      (λ f ms e top.
       let wide = top.frame.wide in
       let v = value_in (Runs_frame f ∷ ms) m.cells (Holds_object n ∷ es.items) m.root in
       let old : (q : Place) → Shows (v q) (word_at (Run fr ∷ ts) q) (held s.cells q) = λ q. subst (λ is. Shows (value_in (Runs_frame f ∷ ms) m.cells is m.root q) (word_at (Run fr ∷ ts) q) (held s.cells q)) was (top.values q) in
       record {
-        tasks = (moved_on f fr (slice_set f.registers a n) (set_word fr a None).words top.frame (length-set f.registers a n ∙ wide), top.below);
-        values = moves v _ (word_at (Run fr ∷ ts)) _ (held s.cells) _ from here old refl
-            (λ q. value_written f ms m.cells es.items m.root (length ts) a n (suc f.place) top.deep (omega arith) q
+        frame = framed p m h f ms _ a n top;
+        values = moves v _ _ _ (held s.cells) _ from here old refl
+            (λ q. value_written f ms m.cells es.items m.root (length ts) a n f.place top.deep (omega arith) q
             ∙ ap (λ x. changed (λ z. x) here n q) (value_popped (Runs_frame f ∷ ms) m.cells es.items m.root n (length items) deep q)
             ∙ ap (λ x. changed (changed v from null) here x q) (sym (top_value (Runs_frame f ∷ ms) m.cells es.items m.root n (length items) deep)))
-            (word_written fr ts a (suc fr.place) None)
+            (word_written fr ts a fr.place None)
             (λ q. held_moved s.cells from here q (free _ met.0));
-        cells = cells_moved p m.cells s.cells from here h.agrees.cells;
-        entries = below_same (Holds_object n) es.items s.items same;
-        rest = h.agrees.rest;
-        room = h.agrees.room;
-        entry_room = subst (λ d. 1024 ≤ d) (ap (λ (e : Held_items). e.depth) popped) h.agrees.entry_room;
       }))
 
   pub pop_operation_does : (i : Held_item) → m.entries ≡ record es { items = i ∷ es.items } → Does refused PopOperation m (acts.next (record m { entries = es }))
@@ -215,20 +194,12 @@ module _ (m : Parts) (refused : List ℕ) (es : Held_items) where
       let ts = h.below in
       let was : m.entries.items ≡ i ∷ es.items = ap (λ (e : Held_items). e.items) popped in
       let same = subst (λ is. SameItems is s.items) was h.agrees.entries in
-      by_top p m h
-      (λ us. Agrees p (record m { stack = record m.stack { tasks = on_top (with_place (suc (place_here us))) us }; entries = es }) (record s { tasks = Run (next fr) ∷ ts; items = below_top s.items }))
-      (λ f ms top. record {
-        tasks = (moved_on f fr f.registers fr.words top.frame top.frame.wide, top.below);
-        values = λ q.
-            subst (λ k. Shows k (word_at (Run (next fr) ∷ ts) q) (held s.cells q)) (sym (value_kept f ms m.cells es.items m.root (suc f.place) q ∙ sym (value_alike (Runs_frame f ∷ ms) m.cells (i ∷ es.items) es.items m.root (λ d. owns_none i es.items d (operation_owns i es.items s.items same met.1.0)) q)))
-            (subst (λ w. Shows (value_in (Runs_frame f ∷ ms) m.cells (i ∷ es.items) m.root q) w (held s.cells q)) (sym (word_next fr ts (suc fr.place) q))
-            (subst (λ is. Shows (value_in (Runs_frame f ∷ ms) m.cells is m.root q) (word_at (Run fr ∷ ts) q) (held s.cells q)) was (top.values q)));
-        cells = h.agrees.cells;
-        entries = below_same i es.items s.items same;
-        rest = h.agrees.rest;
-        room = h.agrees.room;
-        entry_room = subst (λ d. 1024 ≤ d) (ap (λ (e : Held_items). e.depth) popped) h.agrees.entry_room;
-      }))
+      goes_on_as p m h (record m { entries = es }) s.cells (below_top s.items) s.rest
+      (record { stack = refl; cells = h.agrees.cells; entries = below_same i es.items s.items same; rest = h.agrees.rest; room = deep_enough m.entries es _ h.agrees.entry_room popped })
+      (λ f ms e top q.
+      subst (λ k. Shows k (word_at (Run fr ∷ ts) q) (held s.cells q))
+      (value_alike (Runs_frame f ∷ ms) m.cells (i ∷ es.items) es.items m.root (λ d. owns_none i es.items d (operation_owns i es.items s.items same met.1.0)) q)
+      (subst (λ is. Shows (value_in (Runs_frame f ∷ ms) m.cells is m.root q) (word_at (Run fr ∷ ts) q) (held s.cells q)) was (top.values q))))
     where
       operation_owns : (i : Held_item) (is : List Held_item) (js : List Item) → SameItems (i ∷ is) js → tops_operation js ≡ true → owned_by i ≡ null
       operation_owns (Holds_operation k n) is js same e = refl

@@ -1,15 +1,14 @@
 -- Instructions on the words and the owning fields of what a method works on: of its cell, or of main's, the root.
-use Rattle.std.proofs.Common.{inl, inr, suc, ◌≡◌, ◌≢◌, ℕ, ℤ, ◌<◌, true, cond, length, List, [], ◌∷◌, Option, Some, None, slice_set, refl, sym, ap, ◌∙◌, subst, arith}
+use Rattle.std.proofs.Common.{inl, inr, ◌≡◌, ◌≢◌, ℕ, ℤ, ◌<◌, true, cond, length, List, [], ◌∷◌, Option, Some, None, refl, sym, ap, ◌∙◌, subst, arith}
 use Rattle.std.specs.Prelude.{is_some, nat_lt}
 use Rattle.std.specs.Int.{w32, cast_signed}
 use Rattle.std.proofs.lemmas.Bool.{eq-eqb, ltb-true, ne_eqb}
-use Rattle.std.proofs.lemmas.List.{length-set}
 use Rattle.aom_image.specs.Image.{Image}
 use Rattle.aom_image.specs.declared.instr.Instr.TheVariants.{Load, Store, Take, Put, JumpEmpty}
 use Rattle.aom_image.specs.declared.method.Thing.{Thing}
-use Rattle.aom_cells.specs.Heap.{Heap, null, field_at, Lives}
-use Rattle.aom_cells.specs.Heap.{word_at as cell_word}
+use Rattle.aom_cells.specs.Heap.{Heap, null, field_at, Lives, word_at as cell_word}
 use Rattle.aom_shape.specs.Things.{field_thing, word_count}
+use Rattle.aom_shape.specs.Tables.{put_at}
 use Rattle.aom_sound.specs.Claims.{Layer, Method as A_method, Mark, Dying, Dispatching, tasks_of, Unwinding}
 use Rattle.aom_sound.specs.Places.{Place, Register, Field, Elsewhere, Root, Object, held, named, moved, changed}
 use Rattle.aom_sound.specs.Effects.{applied, jumps_unless, writes as writes_word}
@@ -18,7 +17,8 @@ use Rattle.aom_sound.specs.Objects.{is_declared_thing}
 use Rattle.aom_sound.specs.WellTyped.{IsHoused as Is_housed, Now, Stack}
 use Rattle.aom_sound.specs.Words.{loaded, stored, read}
 use Rattle.aom_sound.proofs.Storing.{held_set_word}
-use Rattle.aom_frames.specs.Tasks.{on_top, with_place, with_register, place_here, register_here, this_here}
+use Rattle.aom_sound.proofs.Maps.{held_moved}
+use Rattle.aom_frames.specs.Tasks.{on_top, with_register, register_here, this_here}
 use Rattle.aom_frames.specs.declared.task.Task.{Task as Held_task}
 use Rattle.aom_frames.specs.declared.task.Task.TheVariants.{Run as Runs_frame}
 use Rattle.aom_exec.specs.declared.parts.Parts.{Parts}
@@ -27,11 +27,12 @@ use Rattle.aom_exec.specs.Agrees.{word_at, home_number, Shows, number, SameCells
 use Rattle.aom_exec.specs.Acts.{At_hand, WritesWord, set_register, Does}
 use Rattle.aom_exec.specs.Acts as acts
 use Rattle.aom_exec.specs.Fields.{this, IsHoused, field_here, PutsWord, PutsField, WritesField}
-use Rattle.aom_exec.proofs.Values.{kept, value_here, value_kept, value_written, word_next, word_written}
-use Rattle.aom_exec.proofs.Standing.{by_top, goes_on, moved_on, word_here, free, no_word, unnamed, not_null}
+use Rattle.aom_exec.proofs.Values.{kept, value_here, value_written, word_written, moves}
+use Rattle.aom_exec.proofs.Standing.{by_top, word_here, free, no_word, unnamed, not_null}
 use Rattle.aom_exec.proofs.CellFields.{field_written, root_written, word_put_elsewhere, cell_of, cells_put, cells_stored}
-use Rattle.aom_exec.proofs.Moving.{hands_over}
 use Rattle.aom_exec.proofs.WordActs.{word_read, word_put, plain_does, jumps, passes}
+use Rattle.aom_exec.proofs.GoingOn.{framed, goes_on_as, goes_on_with}
+use Rattle.aom_exec.proofs.Cells.{cells_moved}
 
 -- ---- the cell that a method works on
 
@@ -177,17 +178,13 @@ store_does m refused w b heap puts =
     let fr = h.frame in
     let ts = h.below in
     let v = read fr ts s b in
+    let cs = stored s.cells fr.home w v in
     let written = subst (λ v. PutsWord (this m) w v m.cells heap) (word_read p m h b met.1.0) puts in
-    by_top p m h
-    (λ us. Agrees p (record m { stack = record m.stack { tasks = on_top (with_place (suc (place_here us))) us }; cells = heap }) (record s { cells = stored s.cells fr.home w v; tasks = Run (next fr) ∷ ts }))
-    (λ f ms top.
-    let f' = record f { place = suc f.place } in
-    goes_on p m s heap (stored s.cells fr.home w v) m.rest _ f' ms (next fr) ts h.agrees (cells_after_store p m h heap w v met.0 written) h.agrees.rest top.below
-    (moved_on f fr f.registers fr.words top.frame top.frame.wide)
-    (λ q.
-    subst (λ n. Shows n (word_at (Run (next fr) ∷ ts) q) (held (stored s.cells fr.home w v) q)) (sym (word_put_elsewhere (Runs_frame f' ∷ ms) m.cells heap m.entries.items m.root (this m) w v written q ∙ value_kept f ms m.cells m.entries.items m.root (suc f.place) q))
-    (subst (λ x. Shows (value_in (Runs_frame f ∷ ms) m.cells m.entries.items m.root q) x (held (stored s.cells fr.home w v) q)) (sym (word_next fr ts (suc fr.place) q))
-    (subst (λ o. Shows (value_in (Runs_frame f ∷ ms) m.cells m.entries.items m.root q) (word_at (Run fr ∷ ts) q) o) (sym (held_stored p m h fr.home w v q)) (top.values q))))))
+    goes_on_as p m h (record m { cells = heap }) cs s.items s.rest
+    (record { stack = refl; cells = cells_after_store p m h heap w v met.0 written; entries = h.agrees.entries; rest = h.agrees.rest; room = h.agrees.entry_room })
+    (λ f ms e top q.
+    subst (λ n. Shows n (word_at (Run fr ∷ ts) q) (held cs q)) (sym (word_put_elsewhere (Runs_frame f ∷ ms) m.cells heap m.entries.items m.root (this m) w v written q))
+    (subst (λ o. Shows (value_in (Runs_frame f ∷ ms) m.cells m.entries.items m.root q) (word_at (Run fr ∷ ts) q) o) (sym (held_stored p m h fr.home w v q)) (top.values q))))
 
 pub take_does : (m mid : Parts) (refused : List ℕ) (a g n : ℕ) → a < 16 → n ≡ field_here g m → WritesField g null m mid → Does refused (Take a g) m (acts.next (set_register a n mid))
 take_does m mid refused a g n small reads writes =
@@ -198,20 +195,23 @@ take_does m mid refused a g n small reads writes =
     let q = field_place fr.home g in
     let here = Register (length ts) a in
     let written = field_written_here p m h mid g null met.0 writes in
-    subst (λ k. Agrees p (acts.next (set_register a n k)) (record s { cells = moved q here s.cells; tasks = Run (next (set_word fr a None)) ∷ ts })) (sym written.rest) (by_top p m h
-    (λ us. Agrees p (record m { stack = record m.stack { tasks = on_top (with_place (suc (place_here (on_top (with_register a n) us)))) (on_top (with_register a n) us) }; cells = mid.cells; root = mid.root }) (record s { cells = moved q here s.cells; tasks = Run (next (set_word fr a None)) ∷ ts }))
-    (λ f ms top.
+    let mid' = record m { cells = mid.cells; root = mid.root } in
+    subst (λ k. Agrees p (acts.next (set_register a n k)) (record s { cells = moved q here s.cells; tasks = Run (next (set_word fr a None)) ∷ ts })) (sym written.rest)
+    (goes_on_with p m h mid' (moved q here s.cells) s.items s.rest (put_at None fr.words a None) (on_top (with_register a n)) (with_register a n) (λ f ms. refl)
+    (record { stack = refl; cells = cells_moved p mid.cells s.cells q here written.cells; entries = h.agrees.entries; rest = h.agrees.rest; room = h.agrees.entry_room })
+    (λ f ms e top.
     let wide = top.frame.wide in
     let v = value_in (Runs_frame f ∷ ms) m.cells m.entries.items m.root in
-    hands_over p m s mid.cells mid.root q here f _ ms fr _ ts h.agrees top written.cells
-    (moved_on f fr (slice_set f.registers a n) (set_word fr a None).words top.frame (length-set f.registers a n ∙ wide))
-    (no_word_there p m h fr.home g (Run fr ∷ ts))
-    (free _ met.1.0)
-    (λ r.
-    value_written f ms mid.cells m.entries.items mid.root (length ts) a n (suc f.place) top.deep (omega arith) r
-    ∙ ap (λ y. changed (λ z. y) here n r) (written.values (Runs_frame f ∷ ms) r)
-    ∙ ap (λ y. changed (changed v q null) here y r) (reads ∙ sym (field_read_here p m h g (Runs_frame f ∷ ms) met.0)))
-    (word_written fr ts a (suc fr.place) None))))
+    record {
+      frame = framed p m h f ms _ a n top;
+      values = moves v _ _ _ (held s.cells) _ q here top.values (no_word_there p m h fr.home g (Run fr ∷ ts))
+          (λ r.
+          value_written f ms mid.cells m.entries.items mid.root (length ts) a n f.place top.deep (omega arith) r
+          ∙ ap (λ y. changed (λ z. y) here n r) (written.values (Runs_frame f ∷ ms) r)
+          ∙ ap (λ y. changed (changed v q null) here y r) (reads ∙ sym (field_read_here p m h g (Runs_frame f ∷ ms) met.0)))
+          (word_written fr ts a fr.place None)
+          (λ r. held_moved s.cells q here r (free _ met.1.0));
+    })))
 
 -- a field that a thing is declared for is declared
 declared_some : (p : Image) (t : Option Thing) (o : Option Object) → is_declared_thing p t o ≡ true → is_some t ≡ true
@@ -227,22 +227,23 @@ put_does m mid refused g b x small reads writes =
     let q = field_place fr.home g in
     let here = Register (length ts) b in
     let written = field_written_here p m h mid g x (declared_some p _ _ met.1.0) writes in
-    subst (λ k. Agrees p (acts.next (set_register b null k)) (record s { cells = moved here q s.cells; tasks = Run (next fr) ∷ ts })) (sym written.rest) (by_top p m h
-    (λ us. x ≡ register_here us b → Agrees p (record m { stack = record m.stack { tasks = on_top (with_place (suc (place_here (on_top (with_register b null) us)))) (on_top (with_register b null) us) }; cells = mid.cells; root = mid.root }) (record s { cells = moved here q s.cells; tasks = Run (next fr) ∷ ts }))
-    (λ f ms top reads.
+    let mid' = record m { cells = mid.cells; root = mid.root } in
+    subst (λ k. Agrees p (acts.next (set_register b null k)) (record s { cells = moved here q s.cells; tasks = Run (next fr) ∷ ts })) (sym written.rest)
+    (goes_on_with p m h mid' (moved here q s.cells) s.items s.rest fr.words (on_top (with_register b null)) (with_register b null) (λ f ms. refl)
+    (record { stack = refl; cells = cells_moved p mid.cells s.cells here q written.cells; entries = h.agrees.entries; rest = h.agrees.rest; room = h.agrees.entry_room })
+    (λ f ms e top.
     let wide = top.frame.wide in
     let v = value_in (Runs_frame f ∷ ms) m.cells m.entries.items m.root in
-    let f' = record f { registers = slice_set f.registers b null; place = suc f.place } in
-    hands_over p m s mid.cells mid.root here q f f' ms fr (next fr) ts h.agrees top written.cells
-    (moved_on f fr (slice_set f.registers b null) fr.words top.frame (length-set f.registers b null ∙ wide))
-    (word_here fr ts b ∙ no_word _ met.0)
-    (free _ met.1.1.0)
-    (λ r.
-    written.values (Runs_frame f' ∷ ms) r
-    ∙ ap (λ y. changed (λ z. y) q x r) (value_written f ms m.cells m.entries.items m.root (length ts) b null (suc f.place) top.deep (omega arith) r)
-    ∙ ap (λ y. changed (changed v here null) q y r) (reads ∙ sym (value_here f ms m.cells m.entries.items m.root (length ts) b top.deep)))
-    (λ r. word_next fr ts (suc fr.place) r ∙ kept (word_at (Run fr ∷ ts)) q r ∙ ap (λ y. changed (word_at (Run fr ∷ ts)) q y r) (no_word_there p m h fr.home g (Run fr ∷ ts))))
-    reads))
+    record {
+      frame = framed p m h f ms _ b null top;
+      values = moves v _ _ _ (held s.cells) _ here q top.values (word_here fr ts b ∙ no_word _ met.0)
+          (λ r.
+          written.values (Runs_frame (with_register b null f) ∷ ms) r
+          ∙ ap (λ y. changed (λ z. y) q x r) (value_written f ms m.cells m.entries.items m.root (length ts) b null f.place top.deep (omega arith) r)
+          ∙ ap (λ y. changed (changed v here null) q y r) (reads ∙ ap (λ us. register_here us b) e ∙ sym (value_here f ms m.cells m.entries.items m.root (length ts) b top.deep)))
+          (λ r. kept (word_at (Run fr ∷ ts)) q r ∙ ap (λ y. changed (word_at (Run fr ∷ ts)) q y r) (no_word_there p m h fr.home g (Run fr ∷ ts)))
+          (λ r. held_moved s.cells here q r (free _ met.1.1.0));
+    })))
 
 module _ (m : Parts) (refused : List ℕ) where
   pub jump_empty_does : (g to : ℕ) → field_here g m ≡ null → Does refused (JumpEmpty g to) m (acts.to_place to m)

@@ -12,7 +12,8 @@ use Rattle.aom_shape.specs.Typing.{Typing}
 use Rattle.aom_sound.specs.Places.{Place, Register, Entry, Field, Going, Elsewhere, Root, same_place, Object, Cell, held, named, moved, changed}
 use Rattle.aom_sound.specs.Effects.{applied, deletes}
 use Rattle.aom_sound.specs.State.{Home, Inside, frame_of, word, set_word, Of_main, Of_root, Task, Run, Trapped, Destroy, Dispatched, resumed, Rest, State, Choice, raised, Unwind}
-use Rattle.aom_sound.specs.Destruction.{destructor_of, begun, begun_by, is_field_of, owns_nothing}
+use Rattle.aom_classes.specs.Roles.{destructor_of}
+use Rattle.aom_sound.specs.Destruction.{begun, begun_by, is_field_of, owns_nothing}
 use Rattle.aom_sound.specs.Moves.{goes_line}
 use Rattle.aom_sound.specs.WellTyped.{WellTyped}
 use Rattle.aom_sound.specs.declared.line.Line.TheVariants.{Gone}
@@ -30,9 +31,10 @@ use Rattle.aom_exec.specs.Agrees.{word_in, word_at, Shows, SameCells, SameItems,
 use Rattle.aom_exec.specs.Acts.{requested, In_going, without_going, DoesIn, GoesAway}
 use Rattle.aom_exec.specs.Acts as acts
 use Rattle.aom_exec.proofs.Values.{cases, same_length, kept, moves, writes, at_depth, register_past, going_past, word_past, value_here, value_kept, value_written, word_next, word_written, destroys_value, destroys_word}
-use Rattle.aom_exec.proofs.Standing.{Top, by_top, reframed, moved_on, begun_frame, begun_registers, word_here, no_word, an_open, nothing_held}
+use Rattle.aom_exec.proofs.Standing.{Top, by_top, reframed, moved_on, begun_frame, begun_registers, word_here, no_word, nothing_held}
 use Rattle.aom_exec.proofs.Cells.{cells_moved, cells_without}
 use Rattle.aom_exec.proofs.ObjectActs.{shown}
+use Rattle.aom_exec.proofs.WordActs.{plain_at}
 use Rattle.aom_cleanup.specs.declared.item.Item.{Item}
 
 -- a method at its first place shows nothing, and has no word
@@ -100,14 +102,10 @@ module _ (p : Image) (m : Parts) (refused : List ℕ) where
   pub delete_does : (a : ℕ) → a < 16 → (register_here m.stack.tasks a ≡ null → ⊥)
       → DoesIn p refused (Delete a) m (with_tasks (destroying (destructor_at p m.cells (register_here m.stack.tasks a)) (register_here m.stack.tasks a) (on_top (with_register a null) m.stack.tasks)) m)
   delete_does a small is h here =
-      let c = an_open p refused m h.state h.agrees in (
-        c.0,
-        c.1,
-        λ needs typed. by_top p m h
-            (λ us. (register_here us a ≡ null → ⊥) → Agrees p (with_tasks (destroying (destructor_at p m.cells (register_here us a)) (register_here us a) (on_top (with_register a null) us)) m) (applied p h.frame h.below (requested (Delete a) h.state) (deletes h.frame (held h.state.cells (Register (length h.below) a)) a)))
-            (λ f ms top is. object c.0 f ms top (no_word _ needs.0) (held h.state.cells (Register (length h.below) a)) refl (λ n. is (shown p m h f ms top a (no_word _ needs.0) ∙ n)))
-            is,
-      )
+      plain_at p m _ refused (Delete a) refl h (λ c needs typed. by_top p m h
+      (λ us. (register_here us a ≡ null → ⊥) → Agrees p (with_tasks (destroying (destructor_at p m.cells (register_here us a)) (register_here us a) (on_top (with_register a null) us)) m) (applied p h.frame h.below (requested (Delete a) h.state) (deletes h.frame (held h.state.cells (Register (length h.below) a)) a)))
+      (λ f ms top is. object c f ms top (no_word _ needs.0) (held h.state.cells (Register (length h.below) a)) refl (λ n. is (shown p m h f ms top a (no_word _ needs.0) ∙ n)))
+      is)
     where
       object : (c : Choice) (f : Held_frame) (ms : List Held_task) → Top m h.state h.frame h.below f ms → word h.frame a ≡ None → (o : Option Object) → held h.state.cells (Register (length h.below) a) ≡ o → (number o ≡ null → ⊥)
           → Agrees p (with_tasks (destroying (destructor_at p m.cells (slice_index_or f.registers a null)) (slice_index_or f.registers a null) (Runs_frame (record f { registers = slice_set f.registers a null }) ∷ ms)) m) (applied p h.frame h.below (requested (Delete a) h.state) (deletes h.frame o a))

@@ -12,7 +12,7 @@ use Rattle.aom_sound.proofs.Items.{length_forms}
 use Rattle.aom_sound.proofs.Straight.{fits_unowning, register_fits}
 use Rattle.aom_sound.specs.Claims.{Dispatching, Dying, Form, Layer, Mark, Method, Unwinding, forms, items_of, objects, tasks_of}
 use Rattle.aom_sound.specs.Places.{Cell, Entry, Register, held}
-use Rattle.aom_sound.specs.State.{A_mark, An_object, An_operation, Dispatched, Destroy, Frame, Item, Main_left, Of_main, Of_root, Run, State, Task, Trapped, Unwind}
+use Rattle.aom_sound.specs.State.{An_object, An_operation, Dispatched, Destroy, Frame, Item, Main_left, Of_main, Of_root, Run, State, Task, Trapped, Unwind}
 use Rattle.aom_sound.specs.WellTyped.{Back, Caught, Fits, Gone, Good, Leaves, Now, Returns, Stack, WellTyped}
 use Rattle.aom_exec.specs.Room.{below_height, entries_in}
 use Rattle.aom_exec.proofs.Depths.{AllLow, below_all, below_pushed}

@@ -1,9 +1,9 @@
 -- A leave: the methods over the trap end, and nothing of theirs is owned.
-use Rattle.std.proofs.Common.{suc, pos, ◌≡◌, ◌<◌, ◌≤◌, ℕ, ℤ, Bool, true, false, cond, not, ◌&&◌, length, List, [], ◌∷◌, Some, None, refl, sym, ap, ◌∙◌, subst, arith}
+use Rattle.std.proofs.Common.{pos, ◌≡◌, ◌<◌, ◌≤◌, ℕ, ℤ, Bool, true, false, cond, not, ◌&&◌, length, List, [], ◌∷◌, Some, None, refl, sym, ap, ◌∙◌, subst, arith}
 use Rattle.std.proofs.lemmas.Bool.{eq-eqb, false≢true}
-use Rattle.aom_image.specs.Image.{Image}
 use Rattle.std.specs.Int.{w32, cast_signed}
 use Rattle.std.specs.Prelude.{int_lt, is_some}
+use Rattle.aom_image.specs.Image.{Image}
 use Rattle.aom_image.specs.declared.instr.Instr.TheVariants.{Leave, LeaveIf}
 use Rattle.aom_shape.specs.Needs.{AllTrue}
 use Rattle.aom_cells.specs.Heap.{Heap, null}
@@ -15,7 +15,7 @@ use Rattle.aom_sound.specs.Effects.{Leaves, Same, applied, updates}
 use Rattle.aom_sound.specs.State.{Task, Run, Trapped, Destroy, Unwind, Dispatched, State, word, Frame}
 use Rattle.aom_sound.specs.Words.{read}
 use Rattle.aom_sound.proofs.Maps.{same_place-true}
-use Rattle.aom_frames.specs.Tasks.{Runs, on_top, place_here, register_here, with_place, to_trap as held_to_trap}
+use Rattle.aom_frames.specs.Tasks.{Runs, register_here, to_trap as held_to_trap}
 use Rattle.aom_frames.specs.declared.task.Task.{Task as Held_task}
 use Rattle.aom_frames.specs.declared.task.Task.TheVariants.{Run as Runs_frame, Trapped as Is_trap, Destroy as Destroys, Unwind as Unwinds, Dispatched as Ends}
 use Rattle.aom_exec.specs.declared.parts.Parts.{Parts}
@@ -24,8 +24,7 @@ use Rattle.aom_exec.specs.Acts as acts
 use Rattle.aom_exec.specs.Places.{value_in, register_in, going_in}
 use Rattle.aom_exec.specs.Agrees.{word_in, word_at, Shows, SameTasks, Agrees}
 use Rattle.aom_exec.proofs.ReturnActs.{beneath, cleared_none}
-use Rattle.aom_exec.proofs.Standing.{by_top, stays}
-use Rattle.aom_exec.proofs.WordActs.{plain_does, word_read}
+use Rattle.aom_exec.proofs.WordActs.{plain_does, word_read, passes}
 use Rattle.aom_exec.proofs.Values.{at_depth, going_past, register_past, same_length, word_past}
 
 -- a leave is no place
@@ -131,6 +130,4 @@ module _ (m : Parts) (refused : List ℕ) where
   leave_if_stays a more = plain_does m (acts.next m) refused (LeaveIf a) refl (λ p h c met.
       let above : int_lt (read h.frame h.below h.state a) (pos 0) ≡ false = ap (λ w. int_lt w (pos 0)) (sym (word_read p m h a met.0)) ∙ more in
       subst (λ b. Agrees p (acts.next m) (applied p h.frame h.below h.state (cond b (Leaves (read h.frame h.below h.state a) Same) (updates h.frame Same)))) (sym above)
-      (by_top p m h
-      (λ us. Agrees p (record m { stack = record m.stack { tasks = on_top (with_place (suc (place_here us))) us } }) (applied p h.frame h.below h.state (updates h.frame Same)))
-      (λ f ms top. stays p m h.state m.rest _ (suc f.place) (suc h.frame.place) f ms h.frame h.below h.agrees top h.agrees.rest (ap suc top.frame.place))))
+      (passes m refused p h))

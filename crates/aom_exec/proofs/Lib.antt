@@ -6,7 +6,7 @@ pub mod CellWords
 pub mod Standing
 pub mod Cells
 pub mod CellFields
-pub mod Moving
+pub mod GoingOn
 pub mod WordActs
 pub mod LoopActs
 pub mod ObjectActs
@@ -23,6 +23,8 @@ pub mod RoomActs
 pub mod RoomMoves
 pub mod Counts
 pub mod Rooms
+pub mod Waiting
+pub mod Nexts
 pub mod Ends
 pub mod Finding
 pub mod Announcing
@@ -40,3 +42,4 @@ pub mod UnwindActs
 pub mod Settled
 pub mod Working
 pub mod Many
+pub mod Agreeing

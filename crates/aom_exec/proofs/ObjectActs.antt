@@ -1,8 +1,8 @@
 -- Instructions on objects: a jump where there is none, a new cell, the destruction of nothing.
-use Rattle.std.proofs.Common.{inl, inr, suc, ◌≡◌, ◌≢◌, ℕ, ◌<◌, ◌+◌, Bool, true, false, cond, ◌==◌, ◌||◌, ◌&&◌, length, List, ◌∷◌, Option, Some, None, replicate, slice_set, slice_index_or, refl, sym, ap, ◌∙◌, subst, arith, ℤ, pos}
+use Rattle.std.proofs.Common.{inl, inr, ◌≡◌, ◌≢◌, ℕ, ◌<◌, ◌+◌, Bool, true, false, cond, ◌==◌, ◌||◌, ◌&&◌, length, List, ◌∷◌, Option, Some, None, replicate, slice_index_or, refl, sym, ap, ◌∙◌, subst, arith, ℤ, pos}
 use Rattle.std.specs.Prelude.{is_none, nat_le}
 use Rattle.std.specs.List.{list_any}
-use Rattle.std.proofs.lemmas.List.{length-set, length-replicate}
+use Rattle.std.proofs.lemmas.List.{length-replicate}
 use Rattle.std.proofs.lemmas.Bool.{eq-eqb, eqb-true, false≢true}
 use Rattle.aom_image.specs.Image.{Image}
 use Rattle.aom_image.specs.Views.{instr_at}
@@ -10,90 +10,71 @@ use Rattle.aom_image.specs.declared.instr.Instr.{Instr}
 use Rattle.aom_image.specs.declared.instr.Instr.TheVariants.{JumpNull, New, Delete}
 use Rattle.aom_image.specs.declared.method.Thing.TheVariants.{Object as An_object_of}
 use Rattle.aom_cells.specs.Heap.{Heap, null, cell_at, word_of, field_of, count, blank, Changes}
-use Rattle.aom_shape.specs.Tables.{at}
+use Rattle.aom_shape.specs.Tables.{at, put_at}
 use Rattle.aom_shape.specs.Things.{words_of}
-use Rattle.aom_sound.specs.Places.{Place, Register, Field, Object, Cell, held, named, changed, with_new, word_field}
+use Rattle.aom_sound.specs.Places.{Place, Register, Field, Object, Cell, held, named, with_new, word_field}
 use Rattle.aom_sound.specs.Effects.{applied, deletes, jumps_unless}
-use Rattle.aom_sound.specs.State.{word, next, set_word, Run, Rest, Choice, raised}
+use Rattle.aom_sound.specs.State.{word, next, set_word, Run, Rest, raised}
 use Rattle.aom_sound.specs.Moves.{is_refused, makes, makes_cell}
 use Rattle.aom_lines.specs.Turn.{Turn}
-use Rattle.aom_frames.specs.Tasks.{on_top, with_place, with_register, place_here, register_here}
+use Rattle.aom_frames.specs.Tasks.{on_top, with_register, register_here}
 use Rattle.aom_frames.specs.declared.frame.Frame.{Frame as Held_frame}
 use Rattle.aom_frames.specs.declared.task.Task.{Task as Held_task}
 use Rattle.aom_frames.specs.declared.task.Task.TheVariants.{Run as Runs_frame}
 use Rattle.aom_exec.specs.declared.parts.Parts.{Parts}
-use Rattle.aom_exec.specs.Places.{value_in, with_tasks}
+use Rattle.aom_exec.specs.Places.{value_in}
 use Rattle.aom_exec.specs.Agrees.{Shows, number, SameCells, thing_in, thing_of, Agrees}
 use Rattle.aom_exec.specs.Acts.{At_hand, requested, set_register, Does, DoesIn, refuses, refuses_entry, Made}
 use Rattle.aom_exec.specs.Acts as acts
-use Rattle.aom_exec.proofs.Values.{cases, writes, kept, value_written, word_written}
-use Rattle.aom_exec.proofs.Standing.{Top, by_top, goes_on, stays, moved_on, register_shows, free, no_word, unnamed, an_open, not_null, nothing_held}
+use Rattle.aom_exec.proofs.Values.{cases}
+use Rattle.aom_exec.proofs.Standing.{Top, by_top, register_shows, free, no_word, unnamed, not_null, nothing_held}
 use Rattle.aom_exec.proofs.CellWords.{all_same, zeros_at}
+use Rattle.aom_exec.proofs.GoingOn.{goes_on_with, still_none, written}
+use Rattle.aom_exec.proofs.WordActs.{jumps, passes, plain_does, plain_at}
 use Rattle.aom_cleanup.specs.declared.item.Item.{Item}
 
 -- what a register shows that has no word
 pub shown : (p : Image) (m : Parts) (h : At_hand p m) (f : Held_frame) (ms : List Held_task) → Top m h.state h.frame h.below f ms → (a : ℕ) → word h.frame a ≡ None → slice_index_or f.registers a null ≡ number (held h.state.cells (Register (length h.below) a))
 shown p m h f ms top a none = subst (λ w. Shows (slice_index_or f.registers a null) w (held h.state.cells (Register (length h.below) a))) none (register_shows m h.state h.frame h.below f ms top a)
 
+pub shown_here : (p : Image) (m : Parts) (h : At_hand p m) (a : ℕ) → word h.frame a ≡ None → register_here m.stack.tasks a ≡ number (held h.state.cells (Register (length h.below) a))
+shown_here p m h a none = by_top p m h (λ us. register_here us a ≡ number (held h.state.cells (Register (length h.below) a))) (λ f ms top. shown p m h f ms top a none)
+
 module _ (m : Parts) (refused : List ℕ) where
   pub jump_null_does : (a to : ℕ) → register_here m.stack.tasks a ≡ null → Does refused (JumpNull a to) m (acts.to_place to m)
-  jump_null_does a to is p h here =
-      let c = an_open p refused m h.state h.agrees in (
-        c.0,
-        c.1,
-        λ needs typed. by_top p m h
-            (λ us. register_here us a ≡ null → Agrees p (with_tasks (on_top (with_place to) us) m) (applied p h.frame h.below (requested (JumpNull a to) h.state) (jumps_unless h.frame (held h.state.cells (Register (length h.below) a)) to)))
-            (λ f ms top is. go c.0 f ms top (held h.state.cells (Register (length h.below) a)) refl (sym (shown p m h f ms top a (no_word _ needs.0)) ∙ is))
-            is,
-      )
+  jump_null_does a to is =
+      plain_does m (acts.to_place to m) refused (JumpNull a to) refl
+      (λ p h c met. go p h (held h.state.cells (Register (length h.below) a)) refl (sym (shown_here p m h a (no_word _ met.0)) ∙ is))
     where
-      go : (c : Choice) (f : Held_frame) (ms : List Held_task) → Top m h.state h.frame h.below f ms → (o : Option Object) → held h.state.cells (Register (length h.below) a) ≡ o → number o ≡ null → Agrees p (with_tasks (Runs_frame (record f { place = to }) ∷ ms) m) (applied p h.frame h.below (requested (JumpNull a to) h.state) (jumps_unless h.frame o to))
-      go c f ms top None e n = stays p m h.state m.rest _ to to f ms h.frame h.below h.agrees top h.agrees.rest refl
-      go c f ms top (Some o) e n = absurd (not_null p m h.typing h.state h.typed h.agrees _ o e n)
+      go : (p : Image) (h : At_hand p m) (o : Option Object) → held h.state.cells (Register (length h.below) a) ≡ o → number o ≡ null
+          → Agrees p (acts.to_place to m) (applied p h.frame h.below h.state (jumps_unless h.frame o to))
+      go p h None e n = jumps m refused p h to
+      go p h (Some o) e n = absurd (not_null p m h.typing h.state h.typed h.agrees _ o e n)
 
   pub jump_object_does : (a to : ℕ) → (register_here m.stack.tasks a ≡ null → ⊥) → Does refused (JumpNull a to) m (acts.next m)
-  jump_object_does a to is p h here =
-      let c = an_open p refused m h.state h.agrees in (
-        c.0,
-        c.1,
-        λ needs typed. by_top p m h
-            (λ us. (register_here us a ≡ null → ⊥) → Agrees p (with_tasks (on_top (with_place (suc (place_here us))) us) m) (applied p h.frame h.below (requested (JumpNull a to) h.state) (jumps_unless h.frame (held h.state.cells (Register (length h.below) a)) to)))
-            (λ f ms top is. go c.0 f ms top (held h.state.cells (Register (length h.below) a)) (λ n. is (shown p m h f ms top a (no_word _ needs.0) ∙ n)))
-            is,
-      )
+  jump_object_does a to is =
+      plain_does m (acts.next m) refused (JumpNull a to) refl (λ p h c met. go p h (held h.state.cells (Register (length h.below) a)) (λ n. is (shown_here p m h a (no_word _ met.0) ∙ n)))
     where
-      go : (c : Choice) (f : Held_frame) (ms : List Held_task) → Top m h.state h.frame h.below f ms → (o : Option Object) → (number o ≡ null → ⊥) → Agrees p (with_tasks (Runs_frame (record f { place = suc f.place }) ∷ ms) m) (applied p h.frame h.below (requested (JumpNull a to) h.state) (jumps_unless h.frame o to))
-      go c f ms top None n = absurd (n refl)
-      go c f ms top (Some o) n = stays p m h.state m.rest _ (suc f.place) (suc h.frame.place) f ms h.frame h.below h.agrees top h.agrees.rest (ap suc top.frame.place)
+      go : (p : Image) (h : At_hand p m) (o : Option Object) → (number o ≡ null → ⊥) → Agrees p (acts.next m) (applied p h.frame h.below h.state (jumps_unless h.frame o to))
+      go p h None n = absurd (n refl)
+      go p h (Some o) n = passes m refused p h
 
   -- null is written, where the register owns nothing
-  nulled : (p : Image) (h : At_hand p m) (a : ℕ) (r r' : Rest) (f : Held_frame) (ms : List Held_task) → a < 16 → r ≡ r' → Top m h.state h.frame h.below f ms → held h.state.cells (Register (length h.below) a) ≡ None
-      → Agrees p (record m { stack = record m.stack { tasks = Runs_frame (record f { registers = slice_set f.registers a null; place = suc f.place }) ∷ ms }; rest = r }) (record h.state { tasks = Run (next (set_word h.frame a None)) ∷ h.below; rest = r' })
-  nulled p h a r r' f ms small rest top none =
+  nulled : (p : Image) (h : At_hand p m) (a : ℕ) (r r' : Rest) → a < 16 → r ≡ r' → held h.state.cells (Register (length h.below) a) ≡ None
+      → Agrees p (acts.next (set_register a null (record m { rest = r }))) (record h.state { tasks = Run (next (set_word h.frame a None)) ∷ h.below; rest = r' })
+  nulled p h a r r' small rest none =
       let s = h.state in
-      let fr = h.frame in
-      let ts = h.below in
-      let wide = top.frame.wide in
-      goes_on p m s m.cells s.cells r r' _ ms (next (set_word fr a None)) ts h.agrees h.agrees.cells rest top.below
-      (moved_on f fr (slice_set f.registers a null) _ top.frame (length-set f.registers a null ∙ wide))
-      (writes _ _ _ _ _ _ (Register (length ts) a) null None None top.values refl
-      (value_written f ms m.cells m.entries.items m.root (length ts) a null (suc f.place) top.deep (omega arith))
-      (word_written fr ts a (suc fr.place) None)
-      (λ q. kept (held s.cells) (Register (length ts) a) q ∙ ap (λ o. changed (held s.cells) (Register (length ts) a) o q) none))
+      let mid = record m { rest = r } in
+      goes_on_with p m h mid s.cells s.items r' (put_at None h.frame.words a None) (on_top (with_register a null)) (with_register a null) (λ f ms. refl)
+      (record { stack = refl; cells = h.agrees.cells; entries = h.agrees.entries; rest = rest; room = h.agrees.entry_room })
+      (λ f ms e top. written p m h mid s.cells a null None None small refl f ms top (λ q. refl) (still_none p m h a none))
 
   pub delete_null_does : (p : Image) (a : ℕ) → a < 16 → register_here m.stack.tasks a ≡ null → DoesIn p refused (Delete a) m (acts.next (set_register a null m))
   delete_null_does p a small is h here =
-      let c = an_open p refused m h.state h.agrees in (
-        c.0,
-        c.1,
-        λ needs typed. by_top p m h
-            (λ us. register_here us a ≡ null → Agrees p (with_tasks (on_top (with_place (suc (place_here (on_top (with_register a null) us)))) (on_top (with_register a null) us)) m) (applied p h.frame h.below (requested (Delete a) h.state) (deletes h.frame (held h.state.cells (Register (length h.below) a)) a)))
-            (λ f ms top is.
-            let none = nothing_held p m h.typing h.state h.typed h.agrees (Register (length h.below) a) (sym is ∙ shown p m h f ms top a (no_word _ needs.0)) in
-            subst (λ o. Agrees p (with_tasks (Runs_frame (record f { registers = slice_set f.registers a null; place = suc f.place }) ∷ ms) m) (applied p h.frame h.below (requested (Delete a) h.state) (deletes h.frame o a))) (sym none)
-            (nulled p h a m.rest _ f ms small h.agrees.rest top none))
-            is,
-      )
+      plain_at p m _ refused (Delete a) refl h (λ c needs typed.
+      let none = nothing_held p m h.typing h.state h.typed h.agrees (Register (length h.below) a) (sym is ∙ shown_here p m h a (no_word _ needs.0)) in
+      subst (λ o. Agrees p (acts.next (set_register a null m)) (applied p h.frame h.below (requested (Delete a) h.state) (deletes h.frame o a))) (sym none)
+      (nulled p h a m.rest _ small h.agrees.rest none))
 
 -- the fields of a new cell are null, and so are those of one that is not there
 values_kept : (ms : List Held_task) (h h' : Heap) (es : List Item) (root n class : ℕ) → cell_at h n ≡ None → Changes h h' n (Some (blank class)) → (r : Place) → value_in ms h' es root r ≡ value_in ms h es root r
@@ -171,9 +152,7 @@ module _ (m : Parts) (turn : Turn) where
   refused_does a class small full p h here = (
     record { name = null; refused = true },
     record { name = unnamed p m h.state null h.agrees h.agrees.cells.null_is_none; refusal = full ∙ same_refusal p turn m h (New a class) here refl },
-    λ needs typed. by_top p m h
-        (λ us. Agrees p (record m { stack = record m.stack { tasks = on_top (with_place (suc (place_here (on_top (with_register a null) us)))) (on_top (with_register a null) us) }; rest = record m.rest { requests = raised m.rest.requests } }) (record (requested (New a class) h.state) { tasks = Run (next (set_word h.frame a None)) ∷ h.below }))
-        (λ f ms top. nulled m turn.refused p h a _ _ f ms small (ap (λ (r : Rest). record r { requests = raised r.requests }) h.agrees.rest) top (free _ needs.0)),
+    λ needs typed. nulled m turn.refused p h a _ _ small (ap (λ (r : Rest). record r { requests = raised r.requests }) h.agrees.rest) (free _ needs.0),
   )
 
   -- a new cell comes to a register
@@ -182,20 +161,18 @@ module _ (m : Parts) (turn : Turn) where
       → Agrees p (acts.next (set_register a n (asked heap))) (record h.state { cells = with_new n (An_object_of class) (zeros p class) (Register (length h.below) a) h.state.cells; tasks = Run (next (set_word h.frame a None)) ∷ h.below; rest = r })
   made_agrees p h a class n heap r small rest empty fits none some ch more =
       let s = h.state in
-      let fr = h.frame in
-      let ts = h.below in
-      by_top p m h
-      (λ us. Agrees p (record m { stack = record m.stack { tasks = on_top (with_place (suc (place_here (on_top (with_register a n) us)))) (on_top (with_register a n) us) }; cells = heap; rest = record m.rest { requests = raised m.rest.requests } }) (record s { cells = with_new n (An_object_of class) (zeros p class) (Register (length ts) a) s.cells; tasks = Run (next (set_word fr a None)) ∷ ts; rest = r }))
-      (λ f ms top.
-      let wide = top.frame.wide in
-      goes_on p m s heap (with_new n (An_object_of class) (zeros p class) (Register (length ts) a) s.cells) _ _ _ ms (next (set_word fr a None)) ts h.agrees
-      (cells_made p m.cells heap s.cells n class (zeros p class) (Register (length ts) a) h.agrees.cells (zeros_at (words_of p class)) fits none some ch more)
-      rest top.below
-      (moved_on f fr (slice_set f.registers a n) (set_word fr a None).words top.frame (length-set f.registers a n ∙ wide))
-      (writes _ _ _ _ (held s.cells) _ (Register (length ts) a) n None (Some (record { name = n; thing = An_object_of class })) top.values refl
-      (λ r. value_written f ms heap m.entries.items m.root (length ts) a n (suc f.place) top.deep (omega arith) r ∙ ap (λ x. changed (λ q. x) (Register (length ts) a) n r) (values_kept (Runs_frame f ∷ ms) m.cells heap m.entries.items m.root n class none ch r))
-      (word_written fr ts a (suc fr.place) None)
-      (λ r. refl)))
+      let here = Register (length h.below) a in
+      let cs = with_new n (An_object_of class) (zeros p class) here s.cells in
+      goes_on_with p m h (asked heap) cs s.items r (put_at None h.frame.words a None) (on_top (with_register a n)) (with_register a n) (λ f ms. refl)
+      (record {
+        stack = refl;
+        cells = cells_made p m.cells heap s.cells n class (zeros p class) here h.agrees.cells (zeros_at (words_of p class)) fits none some ch more;
+        entries = h.agrees.entries;
+        rest = rest;
+        room = h.agrees.entry_room;
+      })
+      (λ f ms e top. written p m h (asked heap) cs a n None (Some (record { name = n; thing = An_object_of class })) small refl f ms top
+      (values_kept (Runs_frame f ∷ ms) m.cells heap m.entries.items m.root n class none ch) (λ q. refl))
 
   pub asks_one : (r : Rest) → m.rest ≡ r → record m.rest { requests = raised m.rest.requests } ≡ record r { requests = raised r.requests }
   asks_one r e = ap (λ (q : Rest). record q { requests = raised q.requests }) e

@@ -2,7 +2,7 @@
 use Rattle.std.proofs.Common.{suc, ◌≡◌, ℕ, ◌<◌, Bool, true, false, length, List, ◌∷◌, None, refl, ap, arith}
 use Rattle.aom_cells.specs.Heap.{Heap, null}
 use Rattle.aom_cleanup.specs.declared.item.Item.{Item}
-use Rattle.aom_sound.specs.Places.{Place, Register, Entry, Field, Going, Elsewhere}
+use Rattle.aom_sound.specs.Places.{Place, Register, Going}
 use Rattle.aom_sound.specs.State.{Task, Trapped}
 use Rattle.aom_frames.specs.declared.task.Task.{Task as Held_task}
 use Rattle.aom_frames.specs.declared.task.Task.TheVariants.{Trapped as Is_trap}

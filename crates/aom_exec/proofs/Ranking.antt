@@ -3,9 +3,7 @@ use Rattle.std.proofs.Common.{zero, suc, ◌≡◌, ℕ, ◌<◌, ◌+◌, ◌-�
 use Rattle.std.specs.Prelude.{map}
 use Rattle.aom_image.specs.Image.{Image}
 use Rattle.aom_image.specs.Views.{method_at}
-use Rattle.aom_image.specs.declared.instr.Instr.{Instr}
 use Rattle.aom_image.specs.declared.method.Method.{Method}
-use Rattle.aom_classes.specs.Loops.{loop_at}
 use Rattle.aom_cells.specs.Heap.{count}
 use Rattle.aom_shape.specs.Tables.{at}
 use Rattle.aom_shape.specs.Typing.{Typing}
@@ -16,10 +14,11 @@ use Rattle.aom_frames.specs.declared.task.Task.{Task as Held_task}
 use Rattle.aom_frames.specs.declared.task.Task.TheVariants.{Run as Runs_frame, Trapped as Is_trap, Destroy as Destroys, Unwind as Unwinds, Dispatched as Ends}
 use Rattle.aom_cleanup.specs.declared.item.Item.{Item as Held_item}
 use Rattle.aom_cleanup.specs.declared.item.Item.TheVariants.{Object as Holds_object, Operation as Holds_operation, Mark as Is_mark}
-use Rattle.aom_ranks.specs.Within.{is_in_body, weight, rounds_left, total}
+use Rattle.aom_ranks.specs.Within.{rounds_weight, weight}
 use Rattle.aom_ranks.specs.Ranks.{price, left_in, frame_rank, end_rank, waiting_rank, tasks_rank, standing, destructions, operations, cell_rank, rank}
 use Rattle.aom_ranks.proofs.Goings.{cells_stand_or_go}
 use Rattle.aom_ranks.proofs.Ranking.{moves_lower_ranks}
+use Rattle.aom_ranks.proofs.Rounds.{worth_alike}
 use Rattle.aom_exec.specs.declared.parts.Parts.{Parts}
 use Rattle.aom_exec.specs.Agrees.{SameFrame, SameTask, SameTasks, SameItem, SameItems, Agrees}
 use Rattle.aom_exec.specs.Ranks.{ranked, operations_in, rank_of}
@@ -32,18 +31,9 @@ at_index none [] i = refl
 at_index none (x ∷ xs) zero = refl
 at_index none (x ∷ xs) (suc i) = at_index none xs i
 
-total_alike : (f g : ℕ → ℕ) (n : ℕ) → ((j : ℕ) → f j ≡ g j) → total f n ≡ total g n
-total_alike f g zero h = refl
-total_alike f g (suc n) h = ap (λ k. k + f n) (total_alike f g n h) ∙ ap (λ k. total g n + k) (h n)
-
-module _ (cs ds : List ℕ) (alike : (i : ℕ) → at 0 cs i ≡ at 0 ds i) where
-  rounds_alike : (code : List Instr) (place q : ℕ) (o : Option ℕ) → rounds_left code cs place q o ≡ rounds_left code ds place q o
-  rounds_alike code place q None = refl
-  rounds_alike code place q (Some n) = ap (λ k. cond (is_in_body code n q place) (k * weight code (suc q)) 0) (alike n)
-
-  left_alike : (o : Option Method) (place : ℕ) → left_in o cs place ≡ left_in o ds place
-  left_alike None place = refl
-  left_alike (Some m) place = ap (λ k. weight m.code place + k) (total_alike _ _ (length m.code) (λ q. rounds_alike m.code place q (loop_at m.code q)))
+left_alike : (cs ds : List ℕ) → ((i : ℕ) → at 0 cs i ≡ at 0 ds i) → (o : Option Method) (place : ℕ) → left_in o cs place ≡ left_in o ds place
+left_alike cs ds alike None place = refl
+left_alike cs ds alike (Some m) place = ap (λ k. weight m.code place + k) (worth_alike m.code (rounds_weight m.code) cs ds alike place)
 
 -- ---- tasks that stand for each other have the same rank
 

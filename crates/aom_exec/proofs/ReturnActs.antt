@@ -27,6 +27,7 @@ use Rattle.aom_sound.proofs.Maps.{at-put_at, held_moved}
 use Rattle.aom_sound.proofs.Straight.{claim_register, fits_unowning}
 use Rattle.aom_cleanup.specs.Items.{Stack as Held_items}
 use Rattle.aom_cleanup.specs.declared.item.Item.TheVariants.{Mark as Is_mark}
+use Rattle.aom_cleanup.specs.declared.item.Item.{Item}
 use Rattle.aom_frames.specs.Tasks.{Runs, method_here, place_here, register_here, below_first}
 use Rattle.aom_frames.specs.declared.frame.Frame.{Frame as Held_frame}
 use Rattle.aom_frames.specs.declared.task.Task.{Task as Held_task}
@@ -41,9 +42,9 @@ use Rattle.aom_exec.proofs.Entries.{mark_shows_none, unmarked, value_alike}
 use Rattle.aom_exec.proofs.Overs.{held_over, higher, over_value, over_words, tasks_over}
 use Rattle.aom_exec.proofs.CallActs.{closing, ended, fits_null, shows_null}
 use Rattle.aom_exec.proofs.Cells.{cells_moved}
-use Rattle.aom_exec.proofs.Standing.{Top, by_top, goes_on, moved_on, register_shows, no_word, an_open}
+use Rattle.aom_exec.proofs.Standing.{Top, by_top, goes_on, moved_on, register_shows, no_word}
 use Rattle.aom_exec.proofs.Values.{at_depth, cases, going_past, kept, register_past, value_kept, value_written, word_next, word_past, word_written, writes}
-use Rattle.aom_cleanup.specs.declared.item.Item.{Item}
+use Rattle.aom_exec.proofs.WordActs.{plain_at}
 
 -- what a method gives back
 pub gives_here : (p : Image) (k : ℕ) (d : Method_decl) → method_at p k ≡ Some d → gives_of p k ≡ d.gives
@@ -379,14 +380,10 @@ module _ (p : Image) (m : Parts) (refused : List ℕ) (a : ℕ) where
   pub return_to_method : (x : ℕ) → Runs (below_first m.stack.tasks) → x < 16 → x ≡ result_register (instr_at p (method_here (below_first m.stack.tasks)) (place_here (below_first m.stack.tasks)))
       → DoesIn p refused (Return a) m (acts.next (resulted (gives_of p (method_here m.stack.tasks)) x (register_here m.stack.tasks a) (with_tasks (below_first m.stack.tasks) m)))
   return_to_method x runs small is h here =
-      let c = an_open p refused m h.state h.agrees in (
-        c.0,
-        c.1,
-        λ needs typed. by_top p m h
-            (λ us. Runs (below_first us) → x ≡ result_register (instr_at p (method_here (below_first us)) (place_here (below_first us))) → Agrees p (acts.next (resulted (gives_of p (method_here us)) x (register_here us a) (with_tasks (below_first us) m))) (returned p h.frame h.below (requested (Return a) h.state) (gives_of p h.frame.method) a h.below))
-            (λ f ms top runs is. go f ms h.below h.top top runs is (of_result h needs) typed)
-            runs is,
-      )
+      plain_at p m _ refused (Return a) refl h (λ c needs typed. by_top p m h
+      (λ us. Runs (below_first us) → x ≡ result_register (instr_at p (method_here (below_first us)) (place_here (below_first us))) → Agrees p (acts.next (resulted (gives_of p (method_here us)) x (register_here us a) (with_tasks (below_first us) m))) (returned p h.frame h.below (requested (Return a) h.state) (gives_of p h.frame.method) a h.below))
+      (λ f ms top runs is. go f ms h.below h.top top runs is (of_result h needs) typed)
+      runs is)
     where
       go : (f : Held_frame) (ms : List Held_task) (ts : List Task) → h.state.tasks ≡ Run h.frame ∷ ts → Top m h.state h.frame ts f ms → Runs ms → x ≡ result_register (instr_at p (method_here ms) (place_here ms))
           → AllTrue (result_needs p h.frame ts h.state (gives_of p h.frame.method) a) → WellTyped p h.typing (returned p h.frame ts h.state (gives_of p h.frame.method) a ts)
@@ -402,14 +399,10 @@ module _ (p : Image) (m : Parts) (refused : List ℕ) (a : ℕ) where
       → x ≡ result_register (instr_at p (method_here (below_first (below_first m.stack.tasks))) (place_here (below_first (below_first m.stack.tasks))))
       → DoesIn p refused (Return a) m (acts.next (acts.set_register (suc x) 0 (resulted (gives_of p (method_here m.stack.tasks)) x (register_here m.stack.tasks a) (record (with_tasks (below_first (below_first m.stack.tasks)) m) { entries = es }))))
   return_through es x trapped runs marked small is h here =
-      let c = an_open p refused m h.state h.agrees in (
-        c.0,
-        c.1,
-        λ needs typed. by_top p m h
-            (λ us. IsTrapped (below_first us) → Runs (below_first (below_first us)) → x ≡ result_register (instr_at p (method_here (below_first (below_first us))) (place_here (below_first (below_first us)))) → Agrees p (acts.next (acts.set_register (suc x) 0 (resulted (gives_of p (method_here us)) x (register_here us a) (record (with_tasks (below_first (below_first us)) m) { entries = es })))) (returned p h.frame h.below (requested (Return a) h.state) (gives_of p h.frame.method) a h.below))
-            (λ f ms top trapped runs is. go f ms h.below h.top top trapped runs is (of_result h needs) typed)
-            trapped runs is,
-      )
+      plain_at p m _ refused (Return a) refl h (λ c needs typed. by_top p m h
+      (λ us. IsTrapped (below_first us) → Runs (below_first (below_first us)) → x ≡ result_register (instr_at p (method_here (below_first (below_first us))) (place_here (below_first (below_first us)))) → Agrees p (acts.next (acts.set_register (suc x) 0 (resulted (gives_of p (method_here us)) x (register_here us a) (record (with_tasks (below_first (below_first us)) m) { entries = es })))) (returned p h.frame h.below (requested (Return a) h.state) (gives_of p h.frame.method) a h.below))
+      (λ f ms top trapped runs is. go f ms h.below h.top top trapped runs is (of_result h needs) typed)
+      trapped runs is)
     where
       go : (f : Held_frame) (ms : List Held_task) (ts : List Task) → h.state.tasks ≡ Run h.frame ∷ ts → Top m h.state h.frame ts f ms → IsTrapped ms → Runs (below_first ms) → x ≡ result_register (instr_at p (method_here (below_first ms)) (place_here (below_first ms)))
           → AllTrue (result_needs p h.frame ts h.state (gives_of p h.frame.method) a) → WellTyped p h.typing (returned p h.frame ts h.state (gives_of p h.frame.method) a ts)
@@ -423,14 +416,10 @@ module _ (p : Image) (m : Parts) (refused : List ℕ) (a : ℕ) where
 
   pub return_to_going : IsDestroying (below_first m.stack.tasks) → DoesIn p refused (Return a) m (with_tasks (below_first m.stack.tasks) m)
   return_to_going destroying h here =
-      let c = an_open p refused m h.state h.agrees in (
-        c.0,
-        c.1,
-        λ needs typed. by_top p m h
-            (λ us. IsDestroying (below_first us) → Agrees p (with_tasks (below_first us) m) (returned p h.frame h.below (requested (Return a) h.state) (gives_of p h.frame.method) a h.below))
-            (λ f ms top destroying. go f ms h.below top destroying typed)
-            destroying,
-      )
+      plain_at p m _ refused (Return a) refl h (λ c needs typed. by_top p m h
+      (λ us. IsDestroying (below_first us) → Agrees p (with_tasks (below_first us) m) (returned p h.frame h.below (requested (Return a) h.state) (gives_of p h.frame.method) a h.below))
+      (λ f ms top destroying. go f ms h.below top destroying typed)
+      destroying)
     where
       go : (f : Held_frame) (ms : List Held_task) (ts : List Task) → Top m h.state h.frame ts f ms → IsDestroying ms → WellTyped p h.typing (returned p h.frame ts h.state (gives_of p h.frame.method) a ts) → Agrees p (with_tasks ms m) (returned p h.frame ts h.state (gives_of p h.frame.method) a ts)
       go f (Destroys x ∷ ms) (Destroy ∷ ts) top destroying typed = to_waiting p m h f a (Destroys x ∷ ms) (Destroy ∷ ts) top typed
@@ -439,14 +428,10 @@ module _ (p : Image) (m : Parts) (refused : List ℕ) (a : ℕ) where
   pub return_to_end : (es : Held_items) → IsEnding (below_first (below_first m.stack.tasks)) → IsTrapped (below_first m.stack.tasks) → m.entries ≡ record es { items = Is_mark ∷ es.items }
       → DoesIn p refused (Return a) m (record m { stack = record m.stack { tasks = below_first (below_first m.stack.tasks) }; entries = es })
   return_to_end es ending trapped marked h here =
-      let c = an_open p refused m h.state h.agrees in (
-        c.0,
-        c.1,
-        λ needs typed. by_top p m h
-            (λ us. IsEnding (below_first (below_first us)) → IsTrapped (below_first us) → Agrees p (record m { stack = record m.stack { tasks = below_first (below_first us) }; entries = es }) (returned p h.frame h.below (requested (Return a) h.state) (gives_of p h.frame.method) a h.below))
-            (λ f ms top ending trapped. go ms h.below top.below ending trapped typed)
-            ending trapped,
-      )
+      plain_at p m _ refused (Return a) refl h (λ c needs typed. by_top p m h
+      (λ us. IsEnding (below_first (below_first us)) → IsTrapped (below_first us) → Agrees p (record m { stack = record m.stack { tasks = below_first (below_first us) }; entries = es }) (returned p h.frame h.below (requested (Return a) h.state) (gives_of p h.frame.method) a h.below))
+      (λ f ms top ending trapped. go ms h.below top.below ending trapped typed)
+      ending trapped)
     where
       at_end : (y : Held_dispatch) (ms : List Held_task) (d : Dispatch) (ts : List Task) → dispatch_of y ≡ d → SameTasks ms ts → ts ≡ [] → WellTyped p h.typing (record h.state { tasks = Dispatched d ∷ ts; items = below_top h.state.items })
           → Agrees p (record m { stack = record m.stack { tasks = Ends y ∷ ms }; entries = es }) (record h.state { tasks = Dispatched d ∷ ts; items = below_top h.state.items })
@@ -461,14 +446,10 @@ module _ (p : Image) (m : Parts) (refused : List ℕ) (a : ℕ) where
 
   pub return_to_unwinding : IsUnwinding (below_first m.stack.tasks) → DoesIn p refused (Return a) m (with_tasks (below_first m.stack.tasks) m)
   return_to_unwinding unwinding h here =
-      let c = an_open p refused m h.state h.agrees in (
-        c.0,
-        c.1,
-        λ needs typed. by_top p m h
-            (λ us. IsUnwinding (below_first us) → Agrees p (with_tasks (below_first us) m) (returned p h.frame h.below (requested (Return a) h.state) (gives_of p h.frame.method) a h.below))
-            (λ f ms top unwinding. go f ms h.below top unwinding typed)
-            unwinding,
-      )
+      plain_at p m _ refused (Return a) refl h (λ c needs typed. by_top p m h
+      (λ us. IsUnwinding (below_first us) → Agrees p (with_tasks (below_first us) m) (returned p h.frame h.below (requested (Return a) h.state) (gives_of p h.frame.method) a h.below))
+      (λ f ms top unwinding. go f ms h.below top unwinding typed)
+      unwinding)
     where
       go : (f : Held_frame) (ms : List Held_task) (ts : List Task) → Top m h.state h.frame ts f ms → IsUnwinding ms → WellTyped p h.typing (returned p h.frame ts h.state (gives_of p h.frame.method) a ts) → Agrees p (with_tasks ms m) (returned p h.frame ts h.state (gives_of p h.frame.method) a ts)
       go f (Unwinds code ∷ ms) (Unwind c ∷ ts) top unwinding typed = to_waiting p m h f a (Unwinds code ∷ ms) (Unwind c ∷ ts) top typed

@@ -20,7 +20,7 @@ use Rattle.aom_sound.proofs.Maps.{held_without}
 use Rattle.aom_sound.specs.Calls.{called, result_register}
 use Rattle.aom_sound.specs.Cleanup.{code_told}
 use Rattle.aom_sound.specs.Laws.{IsWired}
-use Rattle.aom_sound.specs.Moves.{counted, dispatch_ends, main_ends, needs, step}
+use Rattle.aom_sound.specs.Moves.{counted, dispatch_ends, main_ends, step}
 use Rattle.aom_sound.specs.Places.{Elsewhere, Going, Object, Root, held, moved, without}
 use Rattle.aom_sound.specs.State.{A_mark, An_object, An_operation, Choice, Dispatch, Dispatched, Frame, Goes, Item, Main_left, Of_main, Of_root, Run, State, Task, Trapped, Unwind, next}
 use Rattle.aom_sound.specs.WellTyped.{AllUndo, WellTyped}

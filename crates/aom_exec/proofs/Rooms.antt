@@ -18,6 +18,7 @@ use Rattle.aom_sound.specs.WellTyped.{WellTyped}
 use Rattle.aom_sound.specs.World.{boot_state}
 use Rattle.aom_exec.specs.declared.parts.Parts.{Parts}
 use Rattle.aom_exec.specs.Agrees.{SameItems}
+use Rattle.aom_exec.specs.Next.{IsNext}
 use Rattle.aom_exec.specs.Room as room
 use Rattle.aom_exec.specs.Room.{HasRoom}
 use Rattle.aom_exec.specs.Steps.{Sound, Stands}
@@ -72,23 +73,26 @@ module _ (p : Image) (m : Parts) (st : Stands (record { image = p; parts = m }))
       omega (arith, few, same, deep)
 
 -- for an entry where one is pushed
-pub push_room : (p : Image) (m : Parts) (a : ℕ) → Stands (record { image = p; parts = m }) → Runs m.stack.tasks → instr_at p (method_here m.stack.tasks) (place_here m.stack.tasks) ≡ Some (Push a) → entries_in m.entries.items < m.entries.depth
-push_room p m a st runs here =
+pub push_room : (p : Image) (m : Parts) (a : ℕ) → IsNext p (Push a) m → entries_in m.entries.items < m.entries.depth
+push_room p m a next =
+    let st = next.stands in
     let sound = st.1.sound in
-    let f = at_hand p m st runs (Push a) here in
+    let f = at_hand p m st next.runs (Push a) next.here in
     entry_room p m st (push_at_hand p st.1.typing sound.wired sound.typed sound.strongest sound.depths sound.heights st.0 f.0 f.1 st.1.typed f.2 st.1.room a f.3)
 
-pub push_operation_room : (p : Image) (m : Parts) (a k : ℕ) → Stands (record { image = p; parts = m }) → Runs m.stack.tasks → instr_at p (method_here m.stack.tasks) (place_here m.stack.tasks) ≡ Some (PushOperation a k) → entries_in m.entries.items < m.entries.depth
-push_operation_room p m a k st runs here =
+pub push_operation_room : (p : Image) (m : Parts) (a k : ℕ) → IsNext p (PushOperation a k) m → entries_in m.entries.items < m.entries.depth
+push_operation_room p m a k next =
+    let st = next.stands in
     let sound = st.1.sound in
-    let f = at_hand p m st runs (PushOperation a k) here in
+    let f = at_hand p m st next.runs (PushOperation a k) next.here in
     entry_room p m st (push_operation_at_hand p st.1.typing sound.wired sound.typed sound.strongest sound.depths sound.heights st.0 f.0 f.1 st.1.typed f.2 st.1.room a k f.3)
 
 -- and for a mark where a trap is set
-pub mark_room : (p : Image) (m : Parts) (target : Target) (k first x : ℕ) → Stands (record { image = p; parts = m }) → Runs m.stack.tasks → instr_at p (method_here m.stack.tasks) (place_here m.stack.tasks) ≡ Some (Trap target k first x) → marks_in m.entries.items < 256
-mark_room p m target k first x st runs here =
+pub mark_room : (p : Image) (m : Parts) (target : Target) (k first x : ℕ) → IsNext p (Trap target k first x) m → marks_in m.entries.items < 256
+mark_room p m target k first x next =
+    let st = next.stands in
     let sound = st.1.sound in
-    let f = at_hand p m st runs (Trap target k first x) here in
+    let f = at_hand p m st next.runs (Trap target k first x) next.here in
     let few = marks_at_hand p st.1.typing sound.wired sound.typed sound.strongest sound.depths sound.heights st.0 f.0 f.1 st.1.typed f.2 st.1.room target k first x f.3 in
     let same = same_marks m.entries.items st.0.items st.1.agrees.entries in
     omega (arith, few, same)

@@ -11,7 +11,7 @@ use Rattle.aom_sound.specs.Cleanup.{arrival}
 use Rattle.aom_sound.specs.declared.line.Line.TheVariants.{Main}
 use Rattle.aom_image.specs.declared.method.Thing.{Thing}
 use Rattle.aom_image.specs.declared.method.Thing.TheVariants.{Object as An_object_of, Message}
-use Rattle.aom_sound.specs.State.{Task, Run, Trapped, Destroy, Unwind, Dispatched, Item, An_object, An_operation, A_mark, Rest, State}
+use Rattle.aom_sound.specs.State.{Task, Run, Destroy, Unwind, Item, An_object, An_operation, A_mark, Rest, State}
 
 with_line : (o : Object) (t : Thing) → o.thing ≡ t → length (goes_line (Some (record o { thing = t }))) ≤ 1 → length (goes_line (Some o)) ≤ 1
 with_line o t e few = subst (λ x. length (goes_line (Some (record o { thing = x }))) ≤ 1) (sym e) few

@@ -1,5 +1,5 @@
 -- What the code needs to know of the cleanup stack, and of the methods that a trap calls.
-use Rattle.std.proofs.Common.{suc, ◌≡◌, ◌≤◌, ◌<◌, ◌+◌, ℕ, true, length, List, [], ◌∷◌, Option, Some, None, IsSome, refl, sym, ap, ◌∙◌, subst, arith}
+use Rattle.std.proofs.Common.{suc, ◌≡◌, ◌≤◌, ◌<◌, ◌+◌, ◌^◌, ℕ, true, length, List, [], ◌∷◌, Option, Some, None, IsSome, refl, sym, ap, ◌∙◌, subst, arith}
 use Rattle.std.specs.Prelude.{is_some}
 use Rattle.std.proofs.lemmas.Bool.{eqb-true}
 use Rattle.std.proofs.lemmas.Bool.Decides.{leb_tells}
@@ -28,9 +28,9 @@ use Rattle.aom_exec.specs.declared.parts.Parts.{Parts}
 use Rattle.aom_exec.specs.Acts.{requested}
 use Rattle.aom_exec.specs.Agrees.{SameItems, SameTasks, number, Agrees}
 use Rattle.aom_exec.specs.Cleanup.{ItemLives, TopLives, TopsObject}
+use Rattle.aom_exec.specs.Next.{IsNext}
 use Rattle.aom_exec.specs.Places.{value_in, IsEnding, IsTrapped}
 use Rattle.aom_exec.specs.Room.{ReturnsTo}
-use Rattle.aom_exec.specs.Steps.{Stands}
 use Rattle.aom_exec.proofs.Entries.{same_items_length, top_value}
 use Rattle.aom_exec.proofs.Finding.{class_fits, object_lives}
 use Rattle.aom_exec.proofs.Housing.{at_hand, needs_met}
@@ -74,33 +74,35 @@ top_lives p m t s typed agrees whole = go m.entries.items s.items refl agrees.en
     go (Holds_object n ∷ is) (An_operation k w ∷ js) was same whole = absurd same.0
     go (Holds_object n ∷ is) (A_mark ∷ js) was same whole = absurd same.0
 
-module _ (p : Image) (m : Parts) (st : Stands (record { image = p; parts = m })) (runs : Runs m.stack.tasks) where
-  pub pops_object : (a : ℕ) → instr_at p (method_here m.stack.tasks) (place_here m.stack.tasks) ≡ Some (Pop a) → TopsObject m.entries.items
+module _ (p : Image) (m : Parts) where
+  pub pops_object : (a : ℕ) → IsNext p (Pop a) m → TopsObject m.entries.items
   unfolding at_hand
-  pops_object a here = let n = needs_met p m st runs (Pop a) here in object_tops m.entries.items st.0.items st.1.agrees.entries n.1.1.1.0
+  pops_object a next = let n = needs_met p m (Pop a) next in object_tops m.entries.items next.stands.0.items next.stands.1.agrees.entries n.1.1.1.0
 
-  pub pops_entry : instr_at p (method_here m.stack.tasks) (place_here m.stack.tasks) ≡ Some PopOperation → IsAboveMark m.entries.items
+  pub pops_entry : IsNext p PopOperation m → IsAboveMark m.entries.items
   unfolding at_hand
-  pops_entry here = let n = needs_met p m st runs PopOperation here in entry_tops m.entries.items st.0.items st.1.agrees.entries n.1.0
+  pops_entry next = let n = needs_met p m PopOperation next in entry_tops m.entries.items next.stands.0.items next.stands.1.agrees.entries n.1.0
 
-  pub deletes_entry : instr_at p (method_here m.stack.tasks) (place_here m.stack.tasks) ≡ Some PopDelete → IsAboveMark m.entries.items
+  pub deletes_entry : IsNext p PopDelete m → IsAboveMark m.entries.items
   unfolding at_hand
-  deletes_entry here = let n = needs_met p m st runs PopDelete here in entry_tops m.entries.items st.0.items st.1.agrees.entries n.1.0
+  deletes_entry next = let n = needs_met p m PopDelete next in entry_tops m.entries.items next.stands.0.items next.stands.1.agrees.entries n.1.0
 
-  pub deletes_whole : instr_at p (method_here m.stack.tasks) (place_here m.stack.tasks) ≡ Some PopDelete → TopLives m
+  pub deletes_whole : IsNext p PopDelete m → TopLives m
   unfolding at_hand
-  deletes_whole here = let n = needs_met p m st runs PopDelete here in top_lives p m st.1.typing st.0 st.1.typed st.1.agrees n.1.1.0
+  deletes_whole next = let n = needs_met p m PopDelete next in top_lives p m next.stands.1.typing next.stands.0 next.stands.1.typed next.stands.1.agrees n.1.1.0
 
   -- ---- a trap
 
-  pub trapped_there : (target : Target) (k first x : ℕ) → instr_at p (method_here m.stack.tasks) (place_here m.stack.tasks) ≡ Some (Trap target k first x) → IsSome (method_at p k)
-  trapped_there target k first x here = (st.1.sound.wired.trapped (method_here m.stack.tasks) (place_here m.stack.tasks) target k first x here).there
+  module _ (target : Target) (k first x : ℕ) (next : IsNext p (Trap target k first x) m) where
+    pub trapped_there : IsSome (method_at p k)
+    trapped_there = (next.stands.1.sound.wired.trapped (method_here m.stack.tasks) (place_here m.stack.tasks) target k first x next.here).there
 
-  pub trapped_fits : (target : Target) (k first x : ℕ) → instr_at p (method_here m.stack.tasks) (place_here m.stack.tasks) ≡ Some (Trap target k first x) → (first + length (arguments_of p k)) ≤ 16
-  trapped_fits target k first x here =
-      let n = needs_met p m st runs (Trap target k first x) here in
-      let parts = all_parts (needs_target p (at_hand p m st runs).frame (at_hand p m st runs).below (requested (Trap target k first x) (at_step (at_hand p m st runs).state)) target (method_class p k) first (length (arguments_of p k))) _ n.1 in
-      grind (arith, leb_tells (first + length (arguments_of p k)) 16, parts.1.0)
+    pub trapped_fits : (first + length (arguments_of p k)) ≤ 16
+    trapped_fits =
+        let n = needs_met p m (Trap target k first x) next in
+        let h = at_hand p m next.stands next.runs in
+        let parts = all_parts (needs_target p h.frame h.below (requested (Trap target k first x) (at_step h.state)) target (method_class p k) first (length (arguments_of p k))) _ n.1 in
+        grind (arith, leb_tells (first + length (arguments_of p k)) 16, parts.1.0)
 
 -- ---- a return through a trap finds its mark
 
@@ -141,17 +143,18 @@ marked_under p t s fr ts is typed top same flat = go typed.layers (sym typed.tas
         mark_tops is s.items (items_of ls) same (items ∙ no_more sh.entries (Mark_form ∷ items_of ls) even)
     go _ e items good = cc
 
-pub finds_mark : (p : Image) (m : Parts) (a : ℕ) → Stands (record { image = p; parts = m }) → Runs m.stack.tasks → instr_at p (method_here m.stack.tasks) (place_here m.stack.tasks) ≡ Some (Return a) → IsTrapped (below_first m.stack.tasks) → IsMarked m.entries.items
+pub finds_mark : (p : Image) (m : Parts) (a : ℕ) → IsNext p (Return a) m → IsTrapped (below_first m.stack.tasks) → IsMarked m.entries.items
 unfolding at_hand
-finds_mark p m a st runs here trapped =
-    let n = needs_met p m st runs (Return a) here in
-    let h = at_hand p m st runs in
+finds_mark p m a next trapped =
+    let n = needs_met p m (Return a) next in
+    let h = at_hand p m next.stands next.runs in
     let s = requested (Return a) (at_step h.state) in
     let flat = (all_parts (result_needs p h.frame h.below s (gives_of p h.frame.method) a) _ n.1).1.0 in
-    go h.frame h.below h.top flat m.stack.tasks trapped (subst (SameTasks m.stack.tasks) h.top st.1.agrees.tasks)
+    go h.frame h.below h.top flat m.stack.tasks trapped (subst (SameTasks m.stack.tasks) h.top next.stands.1.agrees.tasks)
   where
-    go : (fr : Frame) (ts : List Task) → st.0.tasks ≡ Run fr ∷ ts → is_level p fr ts (requested (Return a) (at_step st.0)) (gives_of p fr.method) ≡ true → (ms : List Held_task) → IsTrapped (below_first ms) → SameTasks ms (Run fr ∷ ts) → IsMarked m.entries.items
-    go fr (Trapped ∷ ts) top flat (k ∷ Is_trap ∷ ms) trapped same = marked_under p st.1.typing st.0 fr ts m.entries.items st.1.typed top st.1.agrees.entries flat
+    go : (fr : Frame) (ts : List Task) → next.stands.0.tasks ≡ Run fr ∷ ts → is_level p fr ts (requested (Return a) (at_step next.stands.0)) (gives_of p fr.method) ≡ true
+        → (ms : List Held_task) → IsTrapped (below_first ms) → SameTasks ms (Run fr ∷ ts) → IsMarked m.entries.items
+    go fr (Trapped ∷ ts) top flat (k ∷ Is_trap ∷ ms) trapped same = marked_under p next.stands.1.typing next.stands.0 fr ts m.entries.items next.stands.1.typed top next.stands.1.agrees.entries flat
     go fr [] top flat (k ∷ Is_trap ∷ ms) trapped same = absurd same.1
     go fr (Run g ∷ ts) top flat (k ∷ Is_trap ∷ ms) trapped same = absurd same.1.0
     go fr (Destroy ∷ ts) top flat (k ∷ Is_trap ∷ ms) trapped same = absurd same.1.0
@@ -180,3 +183,17 @@ pub ends_under : (p : Image) (ms : List Held_task) → ReturnsTo p ms → IsTrap
 ends_under p (Is_trap ∷ Runs_frame f ∷ ms) to trapped stops = absurd (stops tt)
 ends_under p (Is_trap ∷ Ends d ∷ ms) to trapped stops = tt
 ends_under p _ to trapped stops = absurd (assumption tt)
+
+-- it goes on there
+pub returns_within : (p : Image) (ms : List Held_task) → ReturnsTo p ms → Runs ms → IsSome (instr_at p (method_here ms) (place_here ms)) × ((place_here ms + 1) < 2 ^ 64)
+returns_within p (Runs_frame f ∷ ms) to runs = to
+returns_within p _ to runs = absurd (assumption tt)
+
+pub returns_within_through : (p : Image) (ms : List Held_task) → ReturnsTo p ms → IsTrapped ms → Runs (below_first ms) → (place_here (below_first ms) + 1) < 2 ^ 64
+returns_within_through p (Is_trap ∷ Runs_frame f ∷ ms) to trapped runs = to.1
+returns_within_through p _ to trapped runs = absurd (assumption tt)
+
+-- and no dispatch ends right below it
+pub returns_to_none : (p : Image) (ms : List Held_task) → ReturnsTo p ms → IsEnding ms → ⊥
+returns_to_none p (Ends d ∷ ms) to ending = to
+returns_to_none p _ to ending = absurd (assumption tt)

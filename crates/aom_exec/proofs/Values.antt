@@ -4,7 +4,7 @@ use Rattle.std.proofs.lemmas.Bool.{eqb-true, eq-eqb, ne_eqb, false≢true}
 use Rattle.std.proofs.lemmas.List.{get_or-set_same, get_or-set_other}
 use Rattle.aom_cells.specs.Heap.{Heap, null}
 use Rattle.aom_shape.specs.Tables.{at, put_at}
-use Rattle.aom_sound.specs.Places.{Place, Register, Entry, Field, Going, Elsewhere, same_place, Object, changed}
+use Rattle.aom_sound.specs.Places.{Place, Register, Going, same_place, Object, changed}
 use Rattle.aom_sound.specs.State.{Frame, Task, Run, Destroy}
 use Rattle.aom_sound.proofs.Maps.{at-put_at, same_place-true, transfer}
 use Rattle.aom_frames.specs.Tasks.{register_of}

@@ -7,7 +7,10 @@ pub mod Acts
 pub mod Fields
 pub mod Calls
 pub mod Ranks
+pub mod Waits
 pub mod Steps
+pub mod Agreement
+pub mod Next
 pub mod WordMoves
 pub mod Boot
 pub mod Going

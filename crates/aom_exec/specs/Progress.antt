@@ -2,16 +2,8 @@
 use Rattle.std.specs.Prelude.{List, [], ◌∷◌, Option, Some, None}
 use Rattle.aom_sound.specs.State.{State}
 use Rattle.aom_sound.specs.declared.line.Ending.{Ending}
-use Rattle.aom_sound.specs.declared.line.Ending.TheVariants as endings
-use Rattle.aom_exec.specs.declared.progress.Outcome.{Outcome}
-use Rattle.aom_exec.specs.declared.progress.Outcome.TheVariants.{Stopped, Waiting, MainLeft}
 use Rattle.aom_exec.specs.declared.progress.Progress.{Progress}
 use Rattle.aom_exec.specs.declared.progress.Progress.TheVariants.{Running, Turned, Ended}
-
-abbrev pub outcome_of : Ending → Outcome
-outcome_of endings.Stopped = Stopped
-outcome_of endings.Waiting = Waiting
-outcome_of (endings.MainLeft code) = MainLeft code
 
 abbrev pub progress_by : {T : Type 0} → Option Ending → List T → Progress
 progress_by (Some ending) tasks = Ended ending

@@ -1,15 +1,14 @@
 //! Calls, returns, and `stop`.
-ghost use Rattle.std.specs.Prelude.{ℕ, suc, List, ◌<◌, ◌≤◌, ◌+◌, ◌^◌, ◌≡◌, IsSome, Some, length};
-ghost use Rattle.aom_image.specs.Views.{arguments_of, instr_at, method_at};
+ghost use Rattle.std.specs.Prelude.{ℕ, suc, List, ◌<◌, ◌+◌, ◌^◌, ◌≡◌, IsSome, Some};
+ghost use Rattle.aom_image.specs.Image.{Image};
+ghost use Rattle.aom_image.specs.Views.{instr_at};
 ghost use Rattle.aom_image.specs.declared.instr.Instr.TheVariants.{Call, Return, Stop, Trap};
 ghost use Rattle.aom_sound.specs.Calls.{result_register};
-ghost use Rattle.aom_cleanup.specs.Items.{IsMarked, marks_in};
-ghost use Rattle.aom_frames.specs.Tasks.{Runs, method_here, place_here, below_first};
+ghost use Rattle.aom_frames.specs.Tasks.{Runs, method_here, place_here};
 ghost use Rattle.aom_exec.specs.Acts.{Does, DoesIn, resulted, next, set_register};
 ghost use Rattle.aom_exec.specs.Calls.{target_here};
 ghost use Rattle.aom_exec.specs.Fields.{IsHoused};
-ghost use Rattle.aom_exec.specs.Places.{IsTrapped};
-ghost use Rattle.aom_exec.specs.Room.{ReturnsTo};
+ghost use Rattle.aom_exec.specs.Next.{IsNext};
 
 use crate::parts::Parts;
 use aom_cells::NULL;
@@ -53,11 +52,7 @@ impl Parts {
 
     /// Calls a method, with its arguments from a register on.
     pub fn call(&mut self, target: Target, method: MethodNumber, first: Register, linked: &Linked)
-        requires runs { Runs self.old.stack.tasks }
-        requires housed { IsHoused self.old }
-        requires there { IsSome (method_at linked.now method) }
-        requires within { first + length (arguments_of linked.now method) ≤ 16 }
-        requires room { length self.old.stack.tasks < self.old.stack.depth }
+        requires { (to : ℕ) × IsNext linked.now (Call target method first to) self.old }
         ensures { (refused : List ℕ) (to : ℕ) → DoesIn linked.now refused (Call target method first to) self.old self.new }
     {
         let called = linked.method(method);
@@ -69,12 +64,7 @@ impl Parts {
 
     /// The same under a trap, whose mark lies on the cleanup stack.
     pub fn trap(&mut self, target: Target, method: MethodNumber, first: Register, linked: &Linked)
-        requires runs { Runs self.old.stack.tasks }
-        requires housed { IsHoused self.old }
-        requires there { IsSome (method_at linked.now method) }
-        requires within { first + length (arguments_of linked.now method) ≤ 16 }
-        requires room { length self.old.stack.tasks + 1 < self.old.stack.depth }
-        requires marks { marks_in self.old.entries.items < 256 }
+        requires { (to : ℕ) × IsNext linked.now (Trap target method first to) self.old }
         ensures { (refused : List ℕ) (to : ℕ) → DoesIn linked.now refused (Trap target method first to) self.old self.new }
     {
         let called = linked.method(method);
@@ -128,10 +118,7 @@ impl Parts {
 
     /// A method returns: to the one that called it, through a trap, to the going of its cell, or to an unwinding.
     pub fn give_back(&mut self, from: Register, linked: &Linked)
-        requires runs { Runs self.old.stack.tasks }
-        requires there { IsSome (method_at linked.now (method_here self.old.stack.tasks)) }
-        requires below { ReturnsTo linked.now (below_first self.old.stack.tasks) }
-        requires marked { IsTrapped (below_first self.old.stack.tasks) → IsMarked self.old.entries.items }
+        requires { IsNext linked.now (Return from) self.old }
         ensures { (refused : List ℕ) → DoesIn linked.now refused (Return from) self.old self.new }
     {
         let gives = linked.method(self.stack.method()).gives;
@@ -154,8 +141,7 @@ impl Parts {
     }
 
     pub fn stop(&mut self)
-        requires runs { Runs self.old.stack.tasks }
-        requires within { place_here self.old.stack.tasks + 1 < 2 ^ 64 }
+        requires { (p : Image) × IsNext p Stop self.old }
         ensures { (refused : List ℕ) → Does refused Stop self.old self.new }
     {
         self.rest.stop();

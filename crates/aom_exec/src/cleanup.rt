@@ -1,11 +1,11 @@
 //! Instructions on the cleanup stack.
-ghost use Rattle.std.specs.Prelude.{◌≡◌, ◌<◌, ◌≤◌, ◌+◌, ◌^◌, ℕ, List, length};
-ghost use Rattle.aom_cells.specs.Heap.{null, Lives, class_at};
-ghost use Rattle.aom_cleanup.specs.Items.{entries_in, IsAboveMark};
+ghost use Rattle.std.specs.Prelude.{◌≡◌, ◌<◌, ◌+◌, ℕ, List, length};
+ghost use Rattle.aom_cleanup.specs.Items.{IsAboveMark};
+ghost use Rattle.aom_image.specs.Image.{Image};
 ghost use Rattle.aom_image.specs.declared.instr.Instr.TheVariants.{Push, PushOperation, Pop, PopOperation, PopDelete, NewOrLeave};
-ghost use Rattle.aom_frames.specs.Tasks.{Runs, place_here};
 ghost use Rattle.aom_exec.specs.Acts.{Does, DoesIn};
-ghost use Rattle.aom_exec.specs.Cleanup.{TopsObject, TopLives, dealt_with, operating};
+ghost use Rattle.aom_exec.specs.Cleanup.{TopLives, dealt_with, operating};
+ghost use Rattle.aom_exec.specs.Next.{IsNext};
 
 use crate::leaving::NO_MEMORY;
 use crate::parts::Parts;
@@ -19,10 +19,7 @@ use aom_lines::Turn;
 impl Parts {
     /// An object goes from a register to the cleanup stack. Where the request is refused, the method leaves then.
     pub fn push(&mut self, from: Register, turn: &Turn)
-        requires runs { Runs self.old.stack.tasks }
-        requires within { place_here self.old.stack.tasks + 1 < 2 ^ 64 }
-        requires entries { entries_in self.old.entries.items < self.old.entries.depth }
-        requires room { length self.old.stack.tasks ≤ self.old.stack.depth }
+        requires { (p : Image) × IsNext p (Push from) self.old }
         ensures { Does turn.now.refused (Push from) self.old self.new }
     {
         let refused = self.request(turn);
@@ -36,10 +33,7 @@ impl Parts {
 
     /// A method to be called on a register's word goes to the cleanup stack, in the same way.
     pub fn push_operation(&mut self, from: Register, method: MethodNumber, turn: &Turn)
-        requires runs { Runs self.old.stack.tasks }
-        requires within { place_here self.old.stack.tasks + 1 < 2 ^ 64 }
-        requires entries { entries_in self.old.entries.items < self.old.entries.depth }
-        requires room { length self.old.stack.tasks ≤ self.old.stack.depth }
+        requires { (p : Image) × IsNext p (PushOperation from method) self.old }
         ensures { Does turn.now.refused (PushOperation from method) self.old self.new }
     {
         let refused = self.request(turn);
@@ -53,9 +47,7 @@ impl Parts {
 
     /// The last entry's object goes to a register.
     pub fn pop(&mut self, to: Register)
-        requires runs { Runs self.old.stack.tasks }
-        requires within { place_here self.old.stack.tasks + 1 < 2 ^ 64 }
-        requires object { TopsObject self.old.entries.items }
+        requires { (p : Image) × IsNext p (Pop to) self.old }
         ensures { (refused : List ℕ) → Does refused (Pop to) self.old self.new }
     {
         match self.entries.pop() {
@@ -67,9 +59,7 @@ impl Parts {
 
     /// The last entry, an operation, goes and is not run.
     pub fn pop_operation(&mut self)
-        requires runs { Runs self.old.stack.tasks }
-        requires within { place_here self.old.stack.tasks + 1 < 2 ^ 64 }
-        requires entry { IsAboveMark self.old.entries.items }
+        requires { (p : Image) × IsNext p PopOperation self.old }
         ensures { (refused : List ℕ) → Does refused PopOperation self.old self.new }
     {
         let _ = self.entries.pop();
@@ -78,10 +68,7 @@ impl Parts {
 
     /// The last entry goes: an object is destroyed, and an operation is run. The method goes on after that.
     pub fn pop_delete(&mut self, linked: &Linked)
-        requires runs { Runs self.old.stack.tasks }
-        requires entry { IsAboveMark self.old.entries.items }
-        requires lives { TopLives self.old }
-        requires room { length self.old.stack.tasks + 1 < self.old.stack.depth }
+        requires { IsNext linked.now PopDelete self.old }
         ensures { (refused : List ℕ) → DoesIn linked.now refused PopDelete self.old self.new }
     {
         self.deal_with_entry(linked);
@@ -116,9 +103,7 @@ impl Parts {
 
     /// A new object comes to a register. Where the request is refused, the method leaves.
     pub fn create_or_leave(&mut self, to: Register, class: ClassNumber, turn: &Turn)
-        requires runs { Runs self.old.stack.tasks }
-        requires within { place_here self.old.stack.tasks + 1 < 2 ^ 64 }
-        requires room { length self.old.stack.tasks ≤ self.old.stack.depth }
+        requires { (p : Image) × IsNext p (NewOrLeave to class) self.old }
         ensures { Does turn.now.refused (NewOrLeave to class) self.old self.new }
     {
         if self.request_cell(turn) {

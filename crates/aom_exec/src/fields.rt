@@ -1,10 +1,12 @@
 //! The words and the owning fields of what a method works on: of its cell, or the root where it has none.
-ghost use Rattle.std.specs.Prelude.{◌≡◌, ◌<◌, ◌+◌, ◌^◌, ℕ, List};
+ghost use Rattle.std.specs.Prelude.{◌≡◌, ℕ, List};
 ghost use Rattle.aom_cells.specs.Heap.{null, Lives, word_at};
+ghost use Rattle.aom_image.specs.Image.{Image};
 ghost use Rattle.aom_image.specs.declared.instr.Instr.TheVariants.{JumpEmpty, Take, Put};
-ghost use Rattle.aom_frames.specs.Tasks.{Runs, place_here};
+ghost use Rattle.aom_frames.specs.Tasks.{Runs};
 ghost use Rattle.aom_exec.specs.Acts.{Does};
 ghost use Rattle.aom_exec.specs.Fields.{this, IsHoused, field_here, PutsWord, WritesField};
+ghost use Rattle.aom_exec.specs.Next.{IsNext};
 
 use crate::parts::Parts;
 use aom_cells::{CellId, NULL};
@@ -82,9 +84,7 @@ impl Parts {
     }
 
     pub fn jump_empty(&mut self, field: FieldIndex, place: Place)
-        requires runs { Runs self.old.stack.tasks }
-        requires within { place_here self.old.stack.tasks + 1 < 2 ^ 64 }
-        requires housed { IsHoused self.old }
+        requires { (p : Image) × IsNext p (JumpEmpty field place) self.old }
         ensures { (refused : List ℕ) → Does refused (JumpEmpty field place) self.old self.new }
     {
         if self.field(field) == NULL {
@@ -95,9 +95,7 @@ impl Parts {
     }
 
     pub fn take(&mut self, to: Register, field: FieldIndex)
-        requires runs { Runs self.old.stack.tasks }
-        requires within { place_here self.old.stack.tasks + 1 < 2 ^ 64 }
-        requires housed { IsHoused self.old }
+        requires { (p : Image) × IsNext p (Take to field) self.old }
         ensures { (refused : List ℕ) → Does refused (Take to field) self.old self.new }
     {
         let number = self.take_field(field);
@@ -106,9 +104,7 @@ impl Parts {
     }
 
     pub fn put(&mut self, field: FieldIndex, from: Register)
-        requires runs { Runs self.old.stack.tasks }
-        requires within { place_here self.old.stack.tasks + 1 < 2 ^ 64 }
-        requires housed { IsHoused self.old }
+        requires { (p : Image) × IsNext p (Put field from) self.old }
         ensures { (refused : List ℕ) → Does refused (Put field from) self.old self.new }
     {
         let number = self.register(from);

@@ -1,10 +1,11 @@
 //! Destruction: a cell is at hand, its destructor runs first, and then it goes.
 ghost use Rattle.std.specs.Prelude.{◌≡◌, ◌<◌, ◌+◌, ◌^◌, ◌↔◌, ℕ, List, IfSome, IsTrue, Some, length};
-ghost use Rattle.aom_cells.specs.Heap.{null, Lives, class_at};
+ghost use Rattle.aom_cells.specs.Heap.{Lives, class_at};
 ghost use Rattle.aom_image.specs.declared.instr.Instr.TheVariants.{Delete};
-ghost use Rattle.aom_frames.specs.Tasks.{Runs, place_here, register_here, below_first};
+ghost use Rattle.aom_frames.specs.Tasks.{Runs, place_here, below_first};
 ghost use Rattle.aom_exec.specs.Acts.{DoesIn, GoesAway, next};
 ghost use Rattle.aom_exec.specs.Going.{destroying, destructor_at, uprooted};
+ghost use Rattle.aom_exec.specs.Next.{IsNext};
 ghost use Rattle.aom_exec.specs.Places.{with_tasks, IsDestroying, going_here};
 
 use crate::parts::Parts;
@@ -44,11 +45,7 @@ impl Parts {
     }
 
     pub fn delete(&mut self, from: Register, linked: &Linked)
-        requires runs { Runs self.old.stack.tasks }
-        requires within { place_here self.old.stack.tasks + 1 < 2 ^ 64 }
-        requires lives { (register_here self.old.stack.tasks from ≡ null → ⊥) → Lives self.old.cells (register_here self.old.stack.tasks from) }
-        requires small { IfSome (class_at self.old.cells (register_here self.old.stack.tasks from)) (λ class. class < 256) }
-        requires room { length self.old.stack.tasks + 1 < self.old.stack.depth }
+        requires { IsNext linked.now (Delete from) self.old }
         ensures { (refused : List ℕ) → DoesIn linked.now refused (Delete from) self.old self.new }
     {
         let number = self.register(from);

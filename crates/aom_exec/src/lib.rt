@@ -23,4 +23,4 @@ mod words;
 
 pub use fault::BootFault;
 pub use machine::Machine;
-pub use progress::{Outcome, Progress};
+pub use progress::Progress;

@@ -2,6 +2,7 @@
 ghost use Rattle.std.specs.Prelude.{◌≡◌, ◌<◌, ◌+◌, ◌↔◌, IfOk, IsTrue, length};
 ghost use Rattle.aom_cells.specs.Heap.{count};
 ghost use Rattle.aom_sound.specs.World.{boot_state};
+ghost use Rattle.aom_exec.specs.Agreement.{AgreesInAll};
 ghost use Rattle.aom_exec.specs.Steps.{StandsFor, Stepped, SteppedOn, Waited, progress, rank};
 ghost use Rattle.aom_exec.specs.declared.progress.Progress.TheVariants.{Running, Turned};
 
@@ -35,6 +36,7 @@ impl<'a> Machine<'a> {
     pub fn boot(alloc: Global, accepted: &'a Accepted) -> Result<Machine<'a>, BootFault>
         ensures image { IfOk result (λ m. m.image ≡ accepted.now) }
         ensures stands { IfOk result (λ m. StandsFor m (boot_state accepted.now)) }
+        ensures agrees { IfOk result AgreesInAll }
     {
         let linked = accepted.linked();
         let parts = Parts::boot(alloc, linked)?;
@@ -53,6 +55,7 @@ impl<'a> Machine<'a> {
         requires room { length turn.old.lines + 2 < turn.old.room }
         ensures image { self.new.image ≡ self.old.image }
         ensures steps { Stepped self.old result turn.old turn.new self.new }
+        ensures agrees { AgreesInAll self.new }
         ensures falls { result ≡ Running → rank self.new < rank self.old }
     {
         self.parts.step(self.accepted.linked(), turn, 1)
@@ -63,6 +66,7 @@ impl<'a> Machine<'a> {
         requires room { length turn.old.lines + 2 < turn.old.room }
         ensures image { self.new.image ≡ self.old.image }
         ensures steps { SteppedOn self.old result turn.old turn.new self.new }
+        ensures agrees { AgreesInAll self.new }
         ensures told { result ≡ Running → length turn.old.lines < length turn.new.lines }
         ensures falls { result ≡ Running → rank self.new < rank self.old }
     {
@@ -74,6 +78,7 @@ impl<'a> Machine<'a> {
         requires { progress self.old ≡ Turned }
         ensures image { self.new.image ≡ self.old.image }
         ensures waited { Waited self.old self.new }
+        ensures agrees { AgreesInAll self.new }
     {
         self.parts.rest.wait();
     }

@@ -1,8 +1,8 @@
 //! The clock, the counts, and how far the run has come.
 ghost use Rattle.std.specs.Prelude.{◌≡◌, Some, None, true, false, cond};
 ghost use Rattle.aom_sound.specs.State.{raised};
-ghost use Rattle.aom_exec.specs.Counts.{raised_by};
 ghost use Rattle.aom_sound.specs.declared.line.Ending.TheVariants.{Stopped, Waiting, MainLeft};
+ghost use Rattle.aom_exec.specs.Counts.{raised_by};
 
 use aom_sound::Ending;
 use std::marker::Model;

@@ -10,8 +10,8 @@ use Rattle.aom_determined.specs.Laws.{IsDetermined, TextIsDetermined}
 use Rattle.aom_determined.proofs.Alike.{alike_counted}
 use Rattle.aom_lines.specs.Text.{transcript}
 use Rattle.aom_ranks.specs.Runs.{RunsWell, TypedRunsWell}
-use Rattle.aom_exec.specs.declared.progress.Outcome.{Outcome}
-use Rattle.aom_exec.specs.declared.progress.Outcome.TheVariants.{Stopped, Waiting, MainLeft, WriteFault}
+use Rattle.aom_run.specs.declared.outcome.Outcome.{Outcome}
+use Rattle.aom_run.specs.declared.outcome.Outcome.TheVariants.{Stopped, Waiting, MainLeft, WriteFault}
 use Rattle.aom_run.proofs.Faulting.{IsOfText, is_of_text}
 use Rattle.aom_run.specs.Runs.{after}
 use Rattle.aom_run.specs.Script.{Script, denoted, RefusesOrWants}

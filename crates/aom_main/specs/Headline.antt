@@ -9,8 +9,8 @@ use Rattle.aom_sound.specs.declared.line.Ending.TheVariants as endings
 use Rattle.aom_determined.specs.Laws.{IsDetermined}
 use Rattle.aom_lines.specs.Text.{ended, transcript}
 use Rattle.aom_ranks.specs.Runs.{RunsWell}
-use Rattle.aom_exec.specs.declared.progress.Outcome.{Outcome}
-use Rattle.aom_exec.specs.declared.progress.Outcome.TheVariants as outcomes
+use Rattle.aom_run.specs.declared.outcome.Outcome.{Outcome}
+use Rattle.aom_run.specs.declared.outcome.Outcome.TheVariants as outcomes
 use Rattle.aom_run.specs.Runs.{after, CutShort}
 use Rattle.aom_run.specs.Script.{Script, WantsMemory, denoted}
 use Rattle.aom_run.specs.declared.fault.ScriptFault.{ScriptFault}

@@ -10,8 +10,7 @@ use crate::assembling::{assemble_bytes, disassemble_bytes};
 use crate::running::{run_accepted, runs_well};
 use crate::{ExitStatus, Fault, tell};
 use aom_budget::Accepted;
-use aom_exec::Outcome;
-use aom_run::{Script, Sink, read_script, write_text};
+use aom_run::{Outcome, Script, Sink, read_script, write_text};
 use std::alloc::Global;
 
 /// Runs an image under a script, and writes the transcript. The image is looked at before the script.

@@ -4,9 +4,9 @@ ghost use Rattle.aom_main.specs.Headline.{AllRunWell, Shows};
 
 use crate::Fault;
 use aom_budget::Accepted;
-use aom_exec::{Machine, Outcome};
+use aom_exec::Machine;
 use aom_lines::Turn;
-use aom_run::{Script, Sink, run};
+use aom_run::{Outcome, Script, Sink, run};
 use std::alloc::Global;
 
 /// Boots a machine and runs it to its end. All memory is taken before anything is written.

@@ -36,12 +36,12 @@ use Rattle.aom_meaning.proofs.Words.{LooksUp}
 -- ---- what a program says
 
 -- with names of its own, beside those classes
-record Says (names : Names) (kinds : List ClassDecl) (text : Source) (h : Header) (cs : List ClassDecl) (ms : List Method) : Type 0 where
+record Says (names : Names) (b : Bool) (kinds : List ClassDecl) (text : Source) (h : Header) (cs : List ClassDecl) (ms : List Method) : Type 0 where
   class_names : DeclaredOnce names.classes
   method_names : DeclaredOnce names.methods
   header : HeaderMeans names text.header h
   classes : Pairwise (ClassMeans names h.natives) (classes_of text.declarations) cs
-  methods : Pairwise (MethodMeans names kinds) (methods_of text.declarations) ms
+  methods : Pairwise (MethodMeans names b kinds) (methods_of text.declarations) ms
   few_classes : length cs ≤ 256
   few_servers : count_by is_server cs ≤ 8
   some_method : 1 ≤ length ms
@@ -52,11 +52,11 @@ record Says (names : Names) (kinds : List ClassDecl) (text : Source) (h : Header
 
 record Others (names : Names) (kinds : List ClassDecl) (ts : List MethodText) (ms : List Method) : Type 0 where
   others : List Method
-  means : Pairwise (MethodMeans names kinds) ts others
+  means : Pairwise (MethodMeans names false kinds) ts others
   count : length others ≡ length ms
   bytes : sum_by spelled others ≡ sum_by spelled ms
 
-other_methods : (names : Names) (kinds others : List ClassDecl) (ts : List MethodText) (ms : List Method) → Pairwise (MethodMeans names kinds) ts ms → Others names others ts ms
+other_methods : (names : Names) (kinds others : List ClassDecl) (ts : List MethodText) (ms : List Method) → Pairwise (MethodMeans names true kinds) ts ms → Others names others ts ms
 other_methods names kinds others [] [] means = record { others = []; means = tt; count = refl; bytes = refl }
 other_methods names kinds others [] (m ∷ ms) means = absurd means
 other_methods names kinds others (t ∷ ts) [] means = absurd means
@@ -79,9 +79,9 @@ other_methods names kinds others (t ∷ ts) (m ∷ ms) means =
 -- a program says much the same beside other classes
 record SaysBeside (names : Names) (kinds : List ClassDecl) (text : Source) (h : Header) (cs : List ClassDecl) : Type 0 where
   methods : List Method
-  says : Says names kinds text h cs methods
+  says : Says names false kinds text h cs methods
 
-says_beside : (names : Names) (kinds others : List ClassDecl) (text : Source) (h : Header) (cs : List ClassDecl) (ms : List Method) → Says names kinds text h cs ms → SaysBeside names others text h cs
+says_beside : (names : Names) (kinds others : List ClassDecl) (text : Source) (h : Header) (cs : List ClassDecl) (ms : List Method) → Says names true kinds text h cs ms → SaysBeside names others text h cs
 says_beside names kinds others text h cs ms says =
     let o = other_methods names kinds others (methods_of text.declarations) ms says.methods in
     let count = o.count in
@@ -113,7 +113,7 @@ class_count names natives [] (c ∷ cs) means = absurd means
 class_count names natives (t ∷ ts) [] means = absurd means
 class_count names natives (t ∷ ts) (c ∷ cs) means = let rest = class_count names natives ts cs means.1 in omega arith
 
-module _ (last : ℕ) (text : Source) (b : Bool) (kinds : List ClassDecl) (h : Header) (cs : List ClassDecl) (ms : List Method) (says : Says (names_of text) kinds text h cs ms) where
+module _ (last : ℕ) (text : Source) (b : Bool) (kinds : List ClassDecl) (h : Header) (cs : List ClassDecl) (ms : List Method) (says : Says (names_of text) b kinds text h cs ms) where
   abbrev whole : Program
   whole = read_so_far h cs ms None (24 + 28 * length cs + sum_by spelled ms)
 
@@ -130,7 +130,7 @@ module _ (last : ℕ) (text : Source) (b : Bool) (kinds : List ClassDecl) (h : H
       let small = says.small in
       declarations_go last (names_of text) h b kinds looks text.declarations [] cs [] ms 24 ss says.classes says.methods
       (classes_placed (names_of text) h.natives (names_of text).classes says.class_names [] (classes_of text.declarations) cs says.classes refl)
-      (methods_placed (names_of text) kinds (names_of text).methods says.method_names [] (methods_of text.declarations) ms says.methods refl)
+      (methods_placed (names_of text) b kinds (names_of text).methods says.method_names [] (methods_of text.declarations) ms says.methods refl)
       (omega arith) says.few_servers (omega arith) (omega arith) words
 
   closes : (ss : List Statement) → all_words ss ≡ [] → read_rest last (scoped b (names_of text) kinds) whole ss ≡ Ok whole
@@ -154,7 +154,7 @@ module _ (last : ℕ) (text : Source) (b : Bool) (kinds : List ClassDecl) (h : H
 
 -- by the names that the statements declare
 by_names : (last : ℕ) (text : Source) (ss : List Statement) → all_words ss ≡ source_statements text
-    → (b : Bool) (kinds : List ClassDecl) (h : Header) (cs : List ClassDecl) (ms : List Method) → Says (names_of text) kinds text h cs ms
+    → (b : Bool) (kinds : List ClassDecl) (h : Header) (cs : List ClassDecl) (ms : List Method) → Says (names_of text) b kinds text h cs ms
     → read_program last (scope_of b ss kinds) ss ≡ Ok (read_so_far h cs ms None (24 + 28 * length cs + sum_by spelled ms))
 by_names last text ss words b kinds h cs ms says = ap (λ n. read_program last (scoped b n kinds) ss) (names_are text ss words) ∙ program_reads last text b kinds h cs ms says ss words
 
@@ -165,7 +165,7 @@ module _ (text : List ℕ) (i : Image) where
   abbrev ss : List Statement
   ss = statements text
 
-  meant_says : (d : Denotes text i) → Says (names_of d.source) i.classes d.source i.header i.classes i.methods
+  meant_says : (d : Denotes text i) → Says (names_of d.source) true i.classes d.source i.header i.classes i.methods
   meant_says d = record {
     class_names = d.class_names;
     method_names = d.method_names;
@@ -205,7 +205,7 @@ module _ (text : List ℕ) (i : Image) where
       let p = parsed last (text_names ss) kinds ss q t.read in
       let source = p.text in
       let same : text_names ss ≡ names_of source = names_are source ss p.words in
-      let read : Says (text_names ss) kinds source q.header q.classes q.methods = record {
+      let read : Says (text_names ss) true kinds source q.header q.classes q.methods = record {
         class_names = placed_once (text_names ss).classes (subst (Placed (text_names ss).classes 0) (sym (ap (λ (n : Names). n.classes) same)) p.class_places);
         method_names = placed_once (text_names ss).methods (subst (Placed (text_names ss).methods 0) (sym (ap (λ (n : Names). n.methods) same)) p.method_places);
         header = p.header;
@@ -217,7 +217,7 @@ module _ (text : List ℕ) (i : Image) where
         few_methods = formed.methods.count;
         small = read_small q formed;
       } in
-      let says : Says (names_of source) kinds source q.header q.classes q.methods = subst (λ n. Says n kinds source q.header q.classes q.methods) same read in
+      let says : Says (names_of source) true kinds source q.header q.classes q.methods = subst (λ n. Says n true kinds source q.header q.classes q.methods) same read in
       let loose = says_beside (names_of source) kinds [] source q.header q.classes q.methods says in
       let first = by_names last source ss p.words false [] q.header q.classes loose.methods loose.says in
       let again : s.first ≡ read_so_far q.header q.classes loose.methods None (24 + 28 * length q.classes + sum_by spelled loose.methods) = ok_is s.first
@@ -231,7 +231,7 @@ module _ (text : List ℕ) (i : Image) where
         method_names = says.method_names;
         header = says.header;
         classes = says.classes;
-        methods = subst (λ c. Pairwise (MethodMeans (names_of source) c) (methods_of source.declarations) q.methods) alike says.methods;
+        methods = subst (λ c. Pairwise (MethodMeans (names_of source) true c) (methods_of source.declarations) q.methods) alike says.methods;
         few_classes = says.few_classes;
         few_servers = says.few_servers;
         some_method = says.some_method;

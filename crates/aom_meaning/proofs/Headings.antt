@@ -4,18 +4,22 @@ use Rattle.std.specs.Prelude.{if◌then◌else◌}
 use Rattle.std.specs.Str.{bytes_eq}
 use Rattle.aom_text.specs.declared.fault.AsmFaultKind.TheVariants.{BadShape}
 use Rattle.aom_image.specs.declared.class.ClassDecl.{ClassDecl}
+use Rattle.aom_image.specs.declared.class.ClassKind.{ClassKind}
+use Rattle.aom_image.specs.declared.class.ClassKind.TheVariants as class_kind
 use Rattle.aom_image.specs.declared.method.Argument.TheVariants as arg
 use Rattle.aom_image.specs.declared.method.Gives.{Gives}
 use Rattle.aom_image.specs.declared.method.Gives.TheVariants as result
 use Rattle.aom_image.specs.declared.method.Role.{Role}
+use Rattle.aom_image.specs.declared.method.Role.TheVariants as roles
 use Rattle.aom_image.specs.declared.method.States.{States}
 use Rattle.aom_image.specs.declared.method.Thing.{Thing}
+use Rattle.aom_image.specs.declared.method.Thing.TheVariants as owned
 use Rattle.aom_syntax.specs.Classes.{declared, flag, listed, thing, thing_of}
 use Rattle.aom_syntax.specs.Keywords.{keyword_text}
-use Rattle.aom_syntax.specs.Methods.{all_states, argument_of, flags_of, gives, heading, is_quiet_role, kind_of, optional_arguments, optional_class, optional_gives, optional_states, role, role_of, states_of, usual_after, usual_before, usual_gives, usual_words}
+use Rattle.aom_syntax.specs.Methods.{accepted, all_states, argument_of, flags_of, gives, heading, is_quiet_role, kind_of, optional_arguments, optional_class, optional_gives, optional_states, role, role_of, states_of, unsaid_gives, usual_after, usual_before, usual_gives, usual_words}
 use Rattle.aom_syntax.specs.Names.{place_of}
 use Rattle.aom_syntax.specs.Operands.{class}
-use Rattle.aom_syntax.specs.Reading.{◌>>=◌, Reading, any_keyword, giving, next, nothing_more}
+use Rattle.aom_syntax.specs.Reading.{◌>>=◌, Reading, any_keyword, giving, next, nothing_more, seen}
 use Rattle.aom_syntax.specs.declared.keyword.Keyword.{Keyword}
 use Rattle.aom_syntax.specs.declared.keyword.Keyword.TheVariants as k
 use Rattle.aom_syntax.specs.declared.method.Heading.{Heading}
@@ -79,18 +83,18 @@ module _ (names : Names) (kinds : List ClassDecl) where
           let same : pair None ws ≡ (c, rest) = ok_is (pair None ws) (c, rest) read in
           record { said = None; words = ap (λ p. p.1) same; says = subst (SaidOrNone (IsNumbered names.classes) None) (ap (λ p. p.0) same) tt }
 
-  record GivesSays (usual : Gives) (ws : List (List ℕ)) (g : Gives) : Type 0 where
+  record GivesSays (usual : Option Gives) (ws : List (List ℕ)) (g : Gives) : Type 0 where
     said : GivesText
     words : ws ≡ gives_words said
     means : GivesMeans names usual said g
 
   -- a result behind its keyword, with what is left
-  record ResultSays (usual : Gives) (ws : List (List ℕ)) (g : Gives) (rest : List (List ℕ)) : Type 0 where
+  record ResultSays (usual : Option Gives) (ws : List (List ℕ)) (g : Gives) (rest : List (List ℕ)) : Type 0 where
     said : GivesText
     words : keyword_text k.Gives ∷ ws ≡ gives_words said ++ rest
     means : GivesMeans names usual said g
 
-  result_sound : (usual : Gives) (key : Keyword) (vs : List (List ℕ)) → Sound (gives scope key) vs (λ g rest. ResultSays usual (keyword_text key ∷ vs) g rest)
+  result_sound : (usual : Option Gives) (key : Keyword) (vs : List (List ℕ)) → Sound (gives scope key) vs (λ g rest. ResultSays usual (keyword_text key ∷ vs) g rest)
   result_sound usual k.Nothing vs = giving_sound _ result.Nothing vs (record { said = source.nothing; words = refl; means = tt })
   result_sound usual k.Word vs = giving_sound _ result.Word vs (record { said = source.word; words = refl; means = tt })
   result_sound usual k.Own vs =
@@ -113,8 +117,12 @@ module _ (names : Names) (kinds : List ClassDecl) where
   abbrev said_gives : Reading Gives
   said_gives = next any_keyword (λ key. next (gives scope key) (λ g. next (nothing_more false) (λ u. giving g)))
 
-  abbrev unsaid_gives : Gives → Reading Gives
-  unsaid_gives usual = next (nothing_more true) (λ u. giving usual)
+  abbrev nothing_said : Option Gives → Reading Gives
+  nothing_said usual = seen (λ u. unsaid_gives usual) (nothing_more true)
+
+  stands_for : (usual : Option Gives) (g : Gives) → unsaid_gives usual ≡ Ok g → usual ≡ Some g
+  stands_for None g is = absurd cc
+  stands_for (Some u) g is = ap (λ x. Some x) (ok_is u g is)
 
   ended : (said : GivesText) (ws us : List (List ℕ)) → ws ≡ gives_words said ++ us → us ≡ [] → ws ≡ gives_words said
   ended source.unsaid ws us e none = e ∙ none
@@ -124,7 +132,7 @@ module _ (names : Names) (kinds : List ClassDecl) where
   ended (source.maybe w) ws us e none = e ∙ ap (λ v. gives_words (source.maybe w) ++ v) none
   ended (source.left w) ws us e none = e ∙ ap (λ v. gives_words (source.left w) ++ v) none
 
-  gives_sound : (usual : Gives) (ws : List (List ℕ)) → Sound (optional_gives scope usual) ws (λ g rest. GivesSays usual ws g)
+  gives_sound : (usual : Option Gives) (ws : List (List ℕ)) → Sound (optional_gives scope usual) ws (λ g rest. GivesSays usual ws g)
   gives_sound usual ws = go (take_it k.Gives ws)
     where
       behind : (vs : List (List ℕ)) → ws ≡ keyword_text k.Gives ∷ vs → Sound said_gives vs (λ g rest. GivesSays usual ws g)
@@ -141,20 +149,28 @@ module _ (names : Names) (kinds : List ClassDecl) where
             means = s.means;
           }))))
 
-      without : Sound (unsaid_gives usual) ws (λ g rest. GivesSays usual ws g)
-      without =
-          let Q = λ (g : Gives) (rest : List (List ℕ)). GivesSays usual ws g in
-          next_sound Q (nothing_more true) _ ws (λ u rest r. giving_sound Q usual rest (record { said = source.unsaid; words = (none_left true ws u rest r).0; means = refl }))
+      without : Sound (nothing_said usual) ws (λ g rest. GivesSays usual ws g)
+      without = record {
+        each = λ g rest is.
+            let s = steps (nothing_more true ws) (λ x. unsaid_gives usual >>= λ y. Ok (y, x.1)) (g, rest) is in
+            let t = steps (unsaid_gives usual) (λ y. Ok (y, s.first.1)) (g, rest) s.second in
+            let same : pair t.first s.first.1 ≡ (g, rest) = ok_is (pair t.first s.first.1) (g, rest) t.second in
+            record {
+              said = source.unsaid;
+              words = (none_left true ws s.first.0 s.first.1 s.read).0;
+              means = stands_for usual t.first t.read ∙ ap (λ p. Some p.0) same;
+            };
+      }
 
       go : Took k.Gives ws → Sound (optional_gives scope usual) ws (λ g rest. GivesSays usual ws g)
-      go (is_there vs words there) = record { each = λ g rest is. (behind vs words).each g rest (sym (ap (λ p. if p.0 then said_gives p.1 else unsaid_gives usual p.1) there) ∙ is) }
-      go (is_not there) = record { each = λ g rest is. without.each g rest (sym (ap (λ p. if p.0 then said_gives p.1 else unsaid_gives usual p.1) there) ∙ is) }
+      go (is_there vs words there) = record { each = λ g rest is. (behind vs words).each g rest (sym (ap (λ p. if p.0 then said_gives p.1 else nothing_said usual p.1) there) ∙ is) }
+      go (is_not there) = record { each = λ g rest is. without.each g rest (sym (ap (λ p. if p.0 then said_gives p.1 else nothing_said usual p.1) there) ∙ is) }
 
   -- the words of a heading behind its keyword, and what they mean at its place
   pub record HeadingSays (place : ℕ) (ws : List (List ℕ)) (h : Heading) : Type 0 where
     pub said : HeadingText
     pub words : keyword_text k.Method ∷ ws ≡ heading_words said
-    pub means : HeadingMeans names kinds said h
+    pub means : HeadingMeans names true kinds said h
     pub placed : place_of said.name names.methods ≡ Some place
 
   pub heading_sound : (place : ℕ) (ws : List (List ℕ)) → Sound (heading scope place) ws (λ h rest. HeadingSays place ws h)
@@ -169,7 +185,7 @@ module _ (names : Names) (kinds : List ClassDecl) where
       next_sound Q (optional_states k.In (usual_before role all)) _ v5 (λ before v6 r6.
       next_sound Q (optional_states k.Out (usual_after role all)) _ v6 (λ after v7 r7.
       next_sound Q (optional_arguments scope (usual_words role)) _ v7 (λ arguments v8 r8.
-      next_sound Q (optional_gives scope (usual_gives role (kind_of kinds class))) _ v8 (λ gives v9 r9.
+      next_sound Q (optional_gives scope (usual_gives true role (kind_of kinds class))) _ v8 (λ gives v9 r9.
       let d = saw_declared names.methods place ws u v1 r1 in
       let r = role_says v1 role v2 r2 in
       let c = class_says v2 class v3 r3 in
@@ -177,7 +193,7 @@ module _ (names : Names) (kinds : List ClassDecl) where
       let o = saw_part k.Out states_of AreStates (states (usual_after role all)) (λ w s is. is) v6 after v7 r7 in
       let a = saw_part k.Args (listed 6 (argument_of scope)) (IsList 6 (IsArgument names)) (replicate (usual_words role) arg.Word)
       (list_means 6 (argument_of scope) (IsArgument names) (argument_means names kinds)) v7 arguments v8 r8 in
-      let g = (gives_sound (usual_gives role (kind_of kinds class)) v8).each gives v9 r9 in
+      let g = (gives_sound (usual_gives true role (kind_of kinds class)) v8).each gives v9 r9 in
       let said : HeadingText = record { name = d.w; role = r.key; class = c.said; leaves = leaves; quiet = quiet; before = i.said; after = o.said; arguments = a.said; gives = g.said } in
       giving_sound Q _ v9 (record {
         said = said;
@@ -212,11 +228,11 @@ module _ {names : Names} {scope : Scope} (looks : LooksUp names scope) where
   takes_thing : (w : List ℕ) (t : Thing) → IsThing names w t → Takes (thing scope) (w ∷ []) t
   takes_thing w t is = takes_seen (thing_reads looks w t is)
 
-  whole_gives : (usual g : Gives) {ws : List (List ℕ)} → Takes (next any_keyword (gives scope)) ws g → Whole (optional_gives scope usual) (keyword_text k.Gives ∷ ws) g
+  whole_gives : (usual : Option Gives) (g : Gives) {ws : List (List ℕ)} → Takes (next any_keyword (gives scope)) ws g → Whole (optional_gives scope usual) (keyword_text k.Gives ∷ ws) g
   whole_gives usual g takes = record { reads = (only_two any_keyword (gives scope) (λ g. next (nothing_more false) (λ u. giving g)) takes (record { reads = refl })).reads }
 
-  gives_read : (usual : Gives) (said : GivesText) (g : Gives) → GivesMeans names usual said g → Whole (optional_gives scope usual) (gives_words said) g
-  gives_read usual source.unsaid g means = record { reads = ap (λ y. Ok (y, [])) (sym means) }
+  gives_read : (usual : Option Gives) (said : GivesText) (g : Gives) → GivesMeans names usual said g → Whole (optional_gives scope usual) (gives_words said) g
+  gives_read usual source.unsaid g means = record { reads = ap (λ o. unsaid_gives o >>= λ y. Ok (y, [])) means }
   gives_read usual source.nothing result.Nothing means = whole_gives usual result.Nothing (in_turn _ (takes_any_keyword k.Nothing) (gives_it _))
   gives_read usual source.word result.Word means = whole_gives usual result.Word (in_turn _ (takes_any_keyword k.Word) (gives_it _))
   gives_read usual (source.own w) (result.Own t) means = whole_gives usual (result.Own t) (in_turn _ (takes_any_keyword k.Own) (in_turn _ (takes_thing w t means) (gives_it _)))
@@ -230,11 +246,11 @@ module _ {names : Names} {scope : Scope} (looks : LooksUp names scope) where
       next (optional_states k.In (usual_before role (all_states (kind_of scope.kinds class)))) (λ before.
       next (optional_states k.Out (usual_after role (all_states (kind_of scope.kinds class)))) (λ after.
       next (optional_arguments scope (usual_words role)) (λ arguments.
-      next (optional_gives scope (usual_gives role (kind_of scope.kinds class))) (λ gives.
+      next (optional_gives scope (usual_gives scope.is_strict role (kind_of scope.kinds class))) (λ gives.
       giving (record { class = class; role = role; flags = flags_of leaves (quiet || is_quiet_role role); before = before; after = after; arguments = arguments; gives = gives })))))
 
   -- what stands behind the keyword
-  pub heading_reads : (place : ℕ) (t : HeadingText) (h : Heading) → HeadingMeans names scope.kinds t h → place_of t.name scope.methods ≡ Some place
+  pub heading_reads : (place : ℕ) (t : HeadingText) (h : Heading) → HeadingMeans names scope.is_strict scope.kinds t h → place_of t.name scope.methods ≡ Some place
       → Whole (heading scope place) (t.name ∷ keyword_text t.role ∷ promise_words t) h
   heading_reads place t h means placed =
       let kind = kind_of scope.kinds h.class in
@@ -261,7 +277,7 @@ module _ {names : Names} {scope : Scope} (looks : LooksUp names scope) where
       then_reads _ (reads_part k.Args (listed 6 (argument_of scope)) (IsList 6 (IsArgument names)) (replicate (usual_words h.role) arg.Word)
       (list_reads 6 (argument_of scope) (IsArgument names) (argument_reads looks)) t.arguments h.arguments v9 means.arguments
       (not_gives k.Args t.gives refl)) (
-      last _ (gives_read (usual_gives h.role kind) t.gives h.gives means.gives) (
+      last _ (gives_read (usual_gives scope.is_strict h.role kind) t.gives h.gives means.gives) (
       settle (ap (λ f. record h { flags = f }) (sym means.flags)) (done _))))))))))
 
 -- ---- beside other classes
@@ -280,7 +296,7 @@ gives_or : Gives → GivesText → Gives → Gives
 gives_or usual source.unsaid g = usual
 gives_or usual said g = g
 
-still_gives : (names : Names) (usual other : Gives) (said : GivesText) (g : Gives) → GivesMeans names usual said g → GivesMeans names other said (gives_or other said g)
+still_gives : (names : Names) (usual : Option Gives) (other : Gives) (said : GivesText) (g : Gives) → GivesMeans names usual said g → GivesMeans names (Some other) said (gives_or other said g)
 unfolding gives_or
 still_gives names usual other source.unsaid g means = refl
 still_gives names usual other source.nothing result.Nothing means = means
@@ -290,18 +306,42 @@ still_gives names usual other (source.maybe w) (result.Maybe t) means = means
 still_gives names usual other (source.left w) (result.Left c) means = means
 still_gives names usual other said g means = absurd means
 
--- a heading with other classes beside it means a heading too
+-- before the classes are known, something stands for each result that is missing
+record Stands (usual : Option Gives) : Type 0 where
+  gives : Gives
+  is : usual ≡ Some gives
+
+served_stands : (kind : ClassKind) → Stands (accepted false kind)
+served_stands class_kind.Plain = record { gives = result.Nothing; is = refl }
+served_stands (class_kind.Active p budget) = record { gives = result.Nothing; is = refl }
+served_stands (class_kind.Server sessions session budget) = record { gives = result.Own (owned.Object session); is = refl }
+served_stands class_kind.Session = record { gives = result.Nothing; is = refl }
+
+gives_stands : (role : Role) (kind : ClassKind) → Stands (usual_gives false role kind)
+gives_stands roles.Do kind = record { gives = result.Nothing; is = refl }
+gives_stands roles.Main kind = record { gives = result.Nothing; is = refl }
+gives_stands roles.Construct kind = record { gives = result.Nothing; is = refl }
+gives_stands roles.Destruct kind = record { gives = result.Nothing; is = refl }
+gives_stands roles.Run kind = record { gives = result.Nothing; is = refl }
+gives_stands roles.Cancel kind = record { gives = result.Nothing; is = refl }
+gives_stands roles.Error kind = record { gives = result.Word; is = refl }
+gives_stands roles.Accept kind = served_stands kind
+gives_stands roles.Service kind = record { gives = result.Nothing; is = refl }
+gives_stands roles.Undo kind = record { gives = result.Nothing; is = refl }
+
+-- a heading means a heading too where no class is known yet
 pub record Beside (names : Names) (kinds : List ClassDecl) (t : HeadingText) : Type 0 where
   pub heading : Heading
-  pub means : HeadingMeans names kinds t heading
+  pub means : HeadingMeans names false kinds t heading
 
-pub beside_others : (names : Names) (kinds others : List ClassDecl) (t : HeadingText) (h : Heading) → HeadingMeans names kinds t h → Beside names others t
+pub beside_others : (names : Names) (kinds others : List ClassDecl) (t : HeadingText) (h : Heading) → HeadingMeans names true kinds t h → Beside names others t
 beside_others names kinds others t h means =
     let kind = kind_of kinds h.class in
     let other = kind_of others h.class in
     let before = states (usual_before h.role (all_states other)) in
     let after = states (usual_after h.role (all_states other)) in
-    let gives = usual_gives h.role other in
+    let stands = gives_stands h.role other in
+    let gives = stands.gives in
     record {
       heading = record h { before = said_or before t.before h.before; after = said_or after t.after h.after; gives = gives_or gives t.gives h.gives };
       means = record {
@@ -312,6 +352,6 @@ beside_others names kinds others t h means =
         before = still AreStates (states (usual_before h.role (all_states kind))) before t.before h.before means.before;
         after = still AreStates (states (usual_after h.role (all_states kind))) after t.after h.after means.after;
         arguments = means.arguments;
-        gives = still_gives names (usual_gives h.role kind) gives t.gives h.gives means.gives;
+        gives = subst (λ o. GivesMeans names o t.gives (gives_or gives t.gives h.gives)) (sym stands.is) (still_gives names (usual_gives true h.role kind) gives t.gives h.gives means.gives);
       };
     }

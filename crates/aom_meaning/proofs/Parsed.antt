@@ -147,7 +147,7 @@ module _ (last : ℕ) (names : Names) (kinds : List ClassDecl) where
     class_places : Placed names.classes (length cs) (map (λ t. t.name) (classes_of declarations))
     more_methods : List Method
     methods : q.methods ≡ ms ++ more_methods
-    method_means : Pairwise (MethodMeans names kinds) (methods_of declarations) more_methods
+    method_means : Pairwise (MethodMeans names true kinds) (methods_of declarations) more_methods
     method_places : Placed names.methods (length ms) (map (λ t. t.heading.name) (methods_of declarations))
 
   -- where one is open: its instructions up to its end, and declarations behind it
@@ -324,7 +324,7 @@ module _ (last : ℕ) (names : Names) (kinds : List ClassDecl) where
     pub words : all_words ss ≡ source_statements text
     pub header : HeaderMeans names text.header q.header
     pub classes : Pairwise (ClassMeans names q.header.natives) (classes_of text.declarations) q.classes
-    pub methods : Pairwise (MethodMeans names kinds) (methods_of text.declarations) q.methods
+    pub methods : Pairwise (MethodMeans names true kinds) (methods_of text.declarations) q.methods
     pub class_places : Placed names.classes 0 (map (λ t. t.name) (classes_of text.declarations))
     pub method_places : Placed names.methods 0 (map (λ t. t.heading.name) (methods_of text.declarations))
 
@@ -343,7 +343,7 @@ module _ (last : ℕ) (names : Names) (kinds : List ClassDecl) where
         header = subst (HeaderMeans names says.said) (sym later.header) says.means;
         classes = subst (λ n. Pairwise (ClassMeans names n) (classes_of later.declarations) q.classes) (ap (λ (h : Header). h.natives) (sym later.header))
             (subst (Pairwise (ClassMeans names h.natives) (classes_of later.declarations)) (sym later.classes) later.class_means);
-        methods = subst (Pairwise (MethodMeans names kinds) (methods_of later.declarations)) (sym later.methods) later.method_means;
+        methods = subst (Pairwise (MethodMeans names true kinds) (methods_of later.declarations)) (sym later.methods) later.method_means;
         class_places = later.class_places;
         method_places = later.method_places;
       }

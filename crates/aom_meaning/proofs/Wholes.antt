@@ -57,14 +57,14 @@ classes_placed names natives space once front (t ∷ ts) (c ∷ cs) means whole 
       (whole ∙ regrouped front t.name (map (λ t. t.name) ts))),
 )
 
-pub methods_placed : (names : Names) (kinds : List ClassDecl) (space : List (List ℕ)) → DeclaredOnce space → (front : List (List ℕ)) (ts : List MethodText) (ms : List Method)
-    → Pairwise (MethodMeans names kinds) ts ms → space ≡ front ++ map (λ t. t.heading.name) ts → Placed space (length front) (map (λ t. t.heading.name) ts)
-methods_placed names kinds space once front [] ms means whole = tt
-methods_placed names kinds space once front (t ∷ ts) [] means whole = absurd means
-methods_placed names kinds space once front (t ∷ ts) (m ∷ ms) means whole = (
+pub methods_placed : (names : Names) (b : Bool) (kinds : List ClassDecl) (space : List (List ℕ)) → DeclaredOnce space → (front : List (List ℕ)) (ts : List MethodText) (ms : List Method)
+    → Pairwise (MethodMeans names b kinds) ts ms → space ≡ front ++ map (λ t. t.heading.name) ts → Placed space (length front) (map (λ t. t.heading.name) ts)
+methods_placed names b kinds space once front [] ms means whole = tt
+methods_placed names b kinds space once front (t ∷ ts) [] means whole = absurd means
+methods_placed names b kinds space once front (t ∷ ts) (m ∷ ms) means whole = (
   at_place space front t.heading.name (map (λ t. t.heading.name) ts) once whole means.0.heading.name,
   subst (λ n. Placed space n (map (λ t. t.heading.name) ts)) (length_push front t.heading.name)
-      (methods_placed names kinds space once (front ++ t.heading.name ∷ []) ts ms means.1 (whole ∙ regrouped front t.heading.name (map (λ t. t.heading.name) ts))),
+      (methods_placed names b kinds space once (front ++ t.heading.name ∷ []) ts ms means.1 (whole ∙ regrouped front t.heading.name (map (λ t. t.heading.name) ts))),
 )
 
 one_label : (labels front : List (List ℕ)) (label : Option (List ℕ)) (rest : List (List ℕ)) → DeclaredOnce labels → labels ≡ front ++ label_or_none label ∷ rest
@@ -109,7 +109,7 @@ module _ (last : ℕ) (names : Names) (h : Header) (b : Bool) (kinds : List Clas
     open_method ms t m code size = read_so_far h cs ms (Some (body_of t m code)) size
 
     heading_step : (ms : List Method) (t : MethodText) (m : Method) (size : ℕ) (left : List (List (List ℕ))) (rest : List Statement) → length ms < 1024
-        → HeadingMeans names kinds t.heading (heading_of m) → place_of t.heading.name names.methods ≡ Some (length ms) → size + 24 ≤ 2 ^ 20
+        → HeadingMeans names b kinds t.heading (heading_of m) → place_of t.heading.name names.methods ≡ Some (length ms) → size + 24 ≤ 2 ^ 20
         → all_words rest ≡ map instruction_words t.code ++ (end_words ∷ left)
         → step scope rest (read_so_far h cs ms None size) (heading_words t.heading) ≡ Ok (open_method ms t m [] (size + 24))
     heading_step ms t m size left rest few means placed enough words =
@@ -162,7 +162,7 @@ module _ (last : ℕ) (names : Names) (h : Header) (b : Bool) (kinds : List Clas
         (λ rest behind. arrives (ap (λ l. open_method ms t m l ((size + 8) + 8 * length todo)) (append_assoc done (i ∷ []) todo) ∙ ap (λ n. open_method ms t m (done ++ i ∷ todo) n) summed)
         (code_goes ms t m (done ++ i ∷ []) ts todo (size + 8) left rest (omega arith) means.1 (subst (λ n. LabelsPlaced (labels_of t.code) n ts) (sym count) placed.1) (omega arith) behind))
 
-    method_goes : (ms : List Method) (t : MethodText) (m : Method) (size : ℕ) (left : List (List (List ℕ))) (ss : List Statement) → length ms < 1024 → MethodMeans names kinds t m
+    method_goes : (ms : List Method) (t : MethodText) (m : Method) (size : ℕ) (left : List (List (List ℕ))) (ss : List Statement) → length ms < 1024 → MethodMeans names b kinds t m
         → place_of t.heading.name names.methods ≡ Some (length ms) → size + spelled m ≤ 2 ^ 20
         → all_words ss ≡ heading_words t.heading ∷ (map instruction_words t.code ++ (end_words ∷ left))
         → Goes last scope (read_so_far h cs ms None size) ss (read_so_far h cs (ms ++ m ∷ []) None (size + spelled m)) left
@@ -183,7 +183,7 @@ module _ (last : ℕ) (names : Names) (h : Header) (b : Bool) (kinds : List Clas
   -- ---- declarations
 
   pub declarations_go : (ds : List Declaration) (cs todo : List ClassDecl) (ms left : List Method) (size : ℕ) (ss : List Statement)
-      → Pairwise (ClassMeans names h.natives) (classes_of ds) todo → Pairwise (MethodMeans names kinds) (methods_of ds) left
+      → Pairwise (ClassMeans names h.natives) (classes_of ds) todo → Pairwise (MethodMeans names b kinds) (methods_of ds) left
       → Placed names.classes (length cs) (map (λ t. t.name) (classes_of ds)) → Placed names.methods (length ms) (map (λ t. t.heading.name) (methods_of ds))
       → length cs + length todo ≤ 256 → count_by is_server (cs ++ todo) ≤ 8 → length ms + length left ≤ 1024 → size + 28 * length todo + sum_by spelled left ≤ 2 ^ 20
       → all_words ss ≡ declared_statements ds

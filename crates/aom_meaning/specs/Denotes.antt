@@ -1,5 +1,5 @@
 -- What an assembly text denotes.
-use Rattle.std.specs.Prelude.{ℕ, ◌≡◌, ◌≤◌, ◌+◌, ◌*◌, ◌^◌, List, map, length, count_by}
+use Rattle.std.specs.Prelude.{ℕ, true, ◌≡◌, ◌≤◌, ◌+◌, ◌*◌, ◌^◌, List, map, length, count_by}
 use Rattle.std.specs.List.{sum_by}
 use Rattle.aom_text.specs.Text.{statements}
 use Rattle.aom_image.specs.Image.{Image}
@@ -25,7 +25,7 @@ pub record Denotes (text : List ℕ) (i : Image) : Type 0 where
   pub method_names : DeclaredOnce (names_of source).methods
   pub header : HeaderMeans (names_of source) source.header i.header
   pub classes : Pairwise (ClassMeans (names_of source) i.header.natives) (classes_of source.declarations) i.classes
-  pub methods : Pairwise (MethodMeans (names_of source) i.classes) (methods_of source.declarations) i.methods
+  pub methods : Pairwise (MethodMeans (names_of source) true i.classes) (methods_of source.declarations) i.methods
   pub few_classes : length i.classes ≤ 256
   pub few_servers : count_by is_server i.classes ≤ 8
   pub some_method : 1 ≤ length i.methods

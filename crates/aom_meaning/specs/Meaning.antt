@@ -132,9 +132,9 @@ pub record ClassMeans (names : Names) (natives : ℕ) (t : ClassText) (c : Class
 
 -- ---- methods
 
--- what a method gives, or what its role says where that is missing
-abbrev pub GivesMeans : Names → Gives → GivesText → Gives → Type 0
-GivesMeans names usual unsaid g = g ≡ usual
+-- what a method gives, or what stands for it where that is missing
+abbrev pub GivesMeans : Names → Option Gives → GivesText → Gives → Type 0
+GivesMeans names usual unsaid g = usual ≡ Some g
 GivesMeans names usual nothing result.Nothing = Unit {0}
 GivesMeans names usual word result.Word = Unit {0}
 GivesMeans names usual (own w) (result.Own t) = IsThing names w t
@@ -146,8 +146,8 @@ GivesMeans names usual said g = ⊥
 abbrev pub states : ℕ → States
 states set = record { 0 = set }
 
--- a method but its code, beside the classes: each part that is missing is as the role and the class say
-pub record HeadingMeans (names : Names) (classes : List ClassDecl) (t : HeadingText) (h : Heading) : Type 0 where
+-- a method but its code, beside the classes, where they are known: each part that is missing is as the role and the class say
+pub record HeadingMeans (names : Names) (known : Bool) (classes : List ClassDecl) (t : HeadingText) (h : Heading) : Type 0 where
   pub name : is_name t.name ≡ true
   pub role : role_of t.role ≡ Ok h.role
   pub class : SaidOrNone (IsNumbered names.classes) t.class h.class
@@ -155,7 +155,7 @@ pub record HeadingMeans (names : Names) (classes : List ClassDecl) (t : HeadingT
   pub before : SaidOr AreStates (states (usual_before h.role (all_states (kind_of classes h.class)))) t.before h.before
   pub after : SaidOr AreStates (states (usual_after h.role (all_states (kind_of classes h.class)))) t.after h.after
   pub arguments : SaidOr (IsList 6 (IsArgument names)) (replicate (usual_words h.role) arg.Word) t.arguments h.arguments
-  pub gives : GivesMeans names (usual_gives h.role (kind_of classes h.class)) t.gives h.gives
+  pub gives : GivesMeans names (usual_gives known h.role (kind_of classes h.class)) t.gives h.gives
 
 -- the labels of a method, by place: an empty word where there is none
 abbrev pub labels_of : List InstructionText → List Word
@@ -171,8 +171,8 @@ pub record InstructionMeans (names : Names) (labels : List Word) (t : Instructio
   pub operands : words_operands (lookup names) labels t.mnemonic t.operands ≡ Ok (i, [])
 
 -- a method beside the classes: no label stands twice, and each of its instructions is of the image
-pub record MethodMeans (names : Names) (classes : List ClassDecl) (t : MethodText) (m : Method) : Type 0 where
-  pub heading : HeadingMeans names classes t.heading (heading_of m)
+pub record MethodMeans (names : Names) (known : Bool) (classes : List ClassDecl) (t : MethodText) (m : Method) : Type 0 where
+  pub heading : HeadingMeans names known classes t.heading (heading_of m)
   pub labels : DeclaredOnce (labels_of t.code)
   pub code : Pairwise (InstructionMeans names (labels_of t.code)) t.code m.code
   pub some : 1 ≤ length m.code

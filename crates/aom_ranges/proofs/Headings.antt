@@ -19,7 +19,7 @@ use Rattle.aom_image.specs.declared.method.Role.TheVariants as roles
 use Rattle.aom_syntax.specs.Reading.{◌>>=◌, Reading, any_keyword, giving, next, nothing_more, seen, took, word}
 use Rattle.aom_syntax.specs.Operands.{class}
 use Rattle.aom_syntax.specs.Classes.{declared, flag, listed, thing, thing_of}
-use Rattle.aom_syntax.specs.Methods.{accepted, all_states, argument_of, flags_of, gives, heading, is_quiet_role, kind_of, optional_arguments, optional_class, optional_gives, optional_states, role, usual_after, usual_before, usual_gives, usual_words}
+use Rattle.aom_syntax.specs.Methods.{accepted, all_states, argument_of, flags_of, gives, heading, is_quiet_role, kind_of, not_served, optional_arguments, optional_class, optional_gives, optional_states, role, unsaid_gives, usual_after, usual_before, usual_gives, usual_words}
 use Rattle.aom_syntax.specs.declared.keyword.Keyword.{Keyword}
 use Rattle.aom_syntax.specs.declared.keyword.Keyword.TheVariants as k
 use Rattle.aom_syntax.specs.declared.method.Heading.{Heading}
@@ -32,23 +32,34 @@ use Rattle.aom_ranges.proofs.States.{AreStates, after_below, all_few, before_bel
 
 -- ---- what an accept gives
 
-accepted_fits : (classes natives : ℕ) (kind : ClassKind) → KindFits classes natives kind → GivesFits classes (accepted kind)
-accepted_fits classes natives kinds.Plain fits = tt
-accepted_fits classes natives (kinds.Active p budget) fits = tt
-accepted_fits classes natives (kinds.Server sessions session budget) fits = fits.2
-accepted_fits classes natives kinds.Session fits = tt
+abbrev MayGive : ℕ → Option Gives → Type 0
+MayGive classes usual = IfSome usual (λ g. GivesFits classes g)
 
-usual_fits : (classes natives : ℕ) (role : Role) (kind : ClassKind) → KindFits classes natives kind → GivesFits classes (usual_gives role kind)
-usual_fits classes natives roles.Do kind fits = tt
-usual_fits classes natives roles.Main kind fits = tt
-usual_fits classes natives roles.Construct kind fits = tt
-usual_fits classes natives roles.Destruct kind fits = tt
-usual_fits classes natives roles.Run kind fits = tt
-usual_fits classes natives roles.Cancel kind fits = tt
-usual_fits classes natives roles.Error kind fits = tt
-usual_fits classes natives roles.Accept kind fits = accepted_fits classes natives kind fits
-usual_fits classes natives roles.Service kind fits = tt
-usual_fits classes natives roles.Undo kind fits = tt
+not_served_fits : (classes : ℕ) (known : Bool) → MayGive classes (not_served known)
+not_served_fits classes true = tt
+not_served_fits classes false = tt
+
+accepted_fits : (classes natives : ℕ) (known : Bool) (kind : ClassKind) → KindFits classes natives kind → MayGive classes (accepted known kind)
+accepted_fits classes natives known kinds.Plain fits = not_served_fits classes known
+accepted_fits classes natives known (kinds.Active p budget) fits = not_served_fits classes known
+accepted_fits classes natives known (kinds.Server sessions session budget) fits = fits.2
+accepted_fits classes natives known kinds.Session fits = not_served_fits classes known
+
+usual_fits : (classes natives : ℕ) (known : Bool) (role : Role) (kind : ClassKind) → KindFits classes natives kind → MayGive classes (usual_gives known role kind)
+usual_fits classes natives known roles.Do kind fits = tt
+usual_fits classes natives known roles.Main kind fits = tt
+usual_fits classes natives known roles.Construct kind fits = tt
+usual_fits classes natives known roles.Destruct kind fits = tt
+usual_fits classes natives known roles.Run kind fits = tt
+usual_fits classes natives known roles.Cancel kind fits = tt
+usual_fits classes natives known roles.Error kind fits = tt
+usual_fits classes natives known roles.Accept kind fits = accepted_fits classes natives known kind fits
+usual_fits classes natives known roles.Service kind fits = tt
+usual_fits classes natives known roles.Undo kind fits = tt
+
+unsaid_fits : (classes : ℕ) (usual : Option Gives) (g : Gives) → MayGive classes usual → unsaid_gives usual ≡ Ok g → GivesFits classes g
+unsaid_fits classes None g fits is = absurd cc
+unsaid_fits classes (Some u) g fits is = subst (GivesFits classes) (ok_is u g is) fits
 
 -- a class among those that were read before
 kind_fits : (classes natives : ℕ) (decls : List ClassDecl) (class : Option ℕ) → All (ClassFits classes natives) decls → KindFits classes natives (kind_of decls class)
@@ -109,10 +120,10 @@ module _ (scope : Scope) (known : IsKnown scope.is_strict (length scope.classes)
       next_within IsGiven IsGiven (gives scope key) (λ g. next (nothing_more false) (λ u. giving g)) (gives_within key) (λ g fits.
       after IsGiven (nothing_more false) (λ u. giving g) (λ u. giving_within IsGiven g fits)))
 
-  optional_within : (usual : Gives) → IsGiven usual → Within IsGiven (optional_gives scope usual)
+  optional_within : (usual : Option Gives) → MayGive (length scope.classes) usual → Within IsGiven (optional_gives scope usual)
   optional_within usual fits =
-      either IsGiven (λ ws. (took k.Gives ws).0) (λ ws. (took k.Gives ws).1) (next any_keyword (λ key. next (gives scope key) (λ g. next (nothing_more false) (λ u. giving g)))) (next (nothing_more true) (λ u. giving usual))
-      said_gives (after IsGiven (nothing_more true) (λ u. giving usual) (λ u. giving_within IsGiven usual fits))
+      either IsGiven (λ ws. (took k.Gives ws).0) (λ ws. (took k.Gives ws).1) (next any_keyword (λ key. next (gives scope key) (λ g. next (nothing_more false) (λ u. giving g))))
+      (seen (λ u. unsaid_gives usual) (nothing_more true)) said_gives (seen_within IsGiven (λ u. unsaid_gives usual) (nothing_more true) (λ u g is. unsaid_fits (length scope.classes) usual g fits is))
 
 -- ---- the statement
 
@@ -131,7 +142,7 @@ module _ (natives : ℕ) (scope : Scope) (settled : IsSettled natives scope) (pl
       next (optional_states k.In (usual_before role (all_states (kind_of scope.kinds class)))) (λ before.
       next (optional_states k.Out (usual_after role (all_states (kind_of scope.kinds class)))) (λ after.
       next (optional_arguments scope (usual_words role)) (λ arguments.
-      next (optional_gives scope (usual_gives role (kind_of scope.kinds class))) (λ gives.
+      next (optional_gives scope (usual_gives scope.is_strict role (kind_of scope.kinds class))) (λ gives.
       giving (record { class = class; role = role; flags = flags_of leaves (quiet || is_quiet_role role); before = before; after = after; arguments = arguments; gives = gives })))))))
 
   behind_within : place < length scope.methods → (role : Role) (class : Option ℕ) → IsClass scope known class → Within IsRead (behind_class role class)
@@ -142,8 +153,8 @@ module _ (natives : ℕ) (scope : Scope) (settled : IsSettled natives scope) (pl
       next_within AreStates IsRead (optional_states k.In (usual_before role (all_states (kind_of scope.kinds class)))) _ (states_within k.In _ (before_below role _ few)) (λ before in_states.
       next_within AreStates IsRead (optional_states k.Out (usual_after role (all_states (kind_of scope.kinds class)))) _ (states_within k.Out _ (after_below role _ few)) (λ after out_states.
       next_within (AreArguments scope known) IsRead (optional_arguments scope (usual_words role)) _ (arguments_within scope known (usual_words role) (words_few role)) (λ arguments are_few.
-      next_within (IsGiven scope known) IsRead (optional_gives scope (usual_gives role (kind_of scope.kinds class))) _
-      (optional_within scope known (usual_gives role (kind_of scope.kinds class)) (usual_fits (length scope.classes) natives role (kind_of scope.kinds class) (kind_fits (length scope.classes) natives scope.kinds class settled.kinds))) (λ gives is_given.
+      next_within (IsGiven scope known) IsRead (optional_gives scope (usual_gives scope.is_strict role (kind_of scope.kinds class))) _
+      (optional_within scope known (usual_gives scope.is_strict role (kind_of scope.kinds class)) (usual_fits (length scope.classes) natives scope.is_strict role (kind_of scope.kinds class) (kind_fits (length scope.classes) natives scope.kinds class settled.kinds))) (λ gives is_given.
       giving_within IsRead (record { class = class; role = role; flags = flags_of leaves (quiet || is_quiet_role role); before = before; after = after; arguments = arguments; gives = gives }) (record {
         declared = below;
         heading = record {

@@ -1,5 +1,5 @@
 -- The effect of each instruction leads to a lower rank.
-use Rattle.std.proofs.Common.{◌≡◌, ◌<◌, ◌≤◌, ◌+◌, ◌-◌, ◌*◌, ◌∙◌, ℕ, ℤ, suc, inl, inr, Bool, true, false, List, [], ◌∷◌, length, Option, Some, None, slice_get, refl, sym, ap, arith, subst}
+use Rattle.std.proofs.Common.{◌≡◌, ◌<◌, ◌≤◌, ◌+◌, ◌-◌, ◌*◌, ◌∙◌, ℕ, ℤ, suc, inl, inr, Bool, true, false, List, ◌∷◌, length, Option, Some, None, slice_get, refl, sym, ap, arith, subst}
 use Rattle.std.specs.Prelude.{not}
 use Rattle.aom_image.specs.Image.{Image}
 use Rattle.aom_image.specs.Views.{arguments_of, is_quiet, method_at, method_class, method_role}
@@ -7,7 +7,6 @@ use Rattle.aom_image.specs.declared.instr.Instr.{Instr}
 use Rattle.aom_image.specs.declared.instr.Instr.TheVariants.{Call, Delete, Leave, LeaveIf, New, NewOrLeave, Next, PopDelete, Push, PushOperation, Return, Trap}
 use Rattle.aom_image.specs.declared.instr.Target.{Target}
 use Rattle.aom_image.specs.declared.method.Gives.{Gives}
-use Rattle.aom_image.specs.declared.method.Gives.TheVariants.{Nothing, Word as A_word, Own as An_own, Maybe as A_maybe, Left}
 use Rattle.aom_image.specs.declared.method.Method.{Method as Method_declared}
 use Rattle.aom_image.specs.declared.method.Thing.TheVariants.{Object as An_object_of}
 use Rattle.aom_classes.specs.Jumps.{JumpsWell, jump_of}
@@ -20,40 +19,24 @@ use Rattle.aom_shape.specs.Rules.{rule_needs}
 use Rattle.aom_shape.specs.Shape.{Shape}
 use Rattle.aom_shape.specs.Tables.{put_at}
 use Rattle.aom_sound.proofs.Finishing.{all_parts}
-use Rattle.aom_sound.specs.Calls.{below_top, passed_cells, received, returned}
+use Rattle.aom_sound.specs.Calls.{below_top, passed_cells, returned}
 use Rattle.aom_sound.specs.Cleanup.{to_trap, top_place}
 use Rattle.aom_sound.specs.Effects.{Calls, Carried, Counts, Destroys, Destroys_last, Effect, Goes_on, In_field, In_register, Jumps, Leaves, Made, Operates, Popped, Popped_operation, Pushed, Pushed_operation, Repeats, Returns, Same, Sets_trap, Spot, Update, Written, applied, cells_after, items_after, spot_place, with_words}
 use Rattle.aom_sound.specs.Leaves.{LeavesWith}
 use Rattle.aom_sound.specs.Moves.{makes}
 use Rattle.aom_sound.specs.Objects.{no_words}
 use Rattle.aom_sound.specs.Places.{Entry, Going, Object, held, moved}
-use Rattle.aom_sound.specs.State.{An_object, An_operation, Choice, Destroy, Dispatched, Frame, Run, State, Task, Trapped, Unwind, counter, next}
+use Rattle.aom_sound.specs.State.{An_object, An_operation, Choice, Frame, Run, State, Task, Trapped, counter}
 use Rattle.aom_sound.specs.Steps.{Fits, FitsUpdate, Sets}
 use Rattle.aom_sound.specs.WellTyped.{AllUndo}
 use Rattle.aom_sound.specs.Words.{here}
-use Rattle.aom_ranks.specs.Ranks.{cell_rank, frame_rank, is_going, left_in, operations, price, rank, standing, tasks_rank, waiting_rank}
+use Rattle.aom_ranks.specs.Ranks.{cell_rank, frame_rank, is_going, left_in, operations, price, rank, rank_worths, standing, tasks_rank, waiting_rank}
 use Rattle.aom_ranks.specs.Within.{left}
 use Rattle.aom_ranks.proofs.Levels.{begun_paid, called_before, called_lower, cell_paid, cell_some, cell_two, loud_leaver, price_some, run_paid, trapped_before, undo_paid}
 use Rattle.aom_ranks.proofs.Places.{back, enters, jumps, leaves, straight_on}
-use Rattle.aom_ranks.proofs.Standing.{field_stands, operations_below, standing_goes, standing_moved, standing_new, standing_passed, standing_stored}
+use Rattle.aom_ranks.proofs.Standing.{field_stands, operations_below, standing_goes, standing_moved, standing_new, standing_passes, standing_stored}
+use Rattle.aom_ranks.proofs.Worths.{passed_less, to_trap_less}
 use Rattle.aom_ranks.proofs.Sums.{one_less, one_more, scaled, scaled_le}
-
--- the tasks below a leave's methods
-to_trap_lower : (p : Image) (ts : List Task) → waiting_rank p (to_trap ts) ≤ waiting_rank p ts
-to_trap_lower p [] = omega arith
-to_trap_lower p (Run fr ∷ ts) = omega (arith, to_trap_lower p ts)
-to_trap_lower p (Trapped ∷ ts) = omega arith
-to_trap_lower p (Destroy ∷ ts) = omega arith
-to_trap_lower p (Unwind code ∷ ts) = omega arith
-to_trap_lower p (Dispatched d ∷ ts) = omega arith
-
--- what waits below a result goes on alike
-pub received_alike : (p : Image) (fr : Frame) (ts : List Task) (s : State) (g : Gives) (a c : ℕ) (caller : Frame) → frame_rank p (next (received p fr ts s g a c caller)) ≡ frame_rank p (next caller)
-received_alike p fr ts s Nothing a c caller = refl
-received_alike p fr ts s A_word a c caller = refl
-received_alike p fr ts s (An_own t) a c caller = refl
-received_alike p fr ts s (A_maybe t) a c caller = refl
-received_alike p fr ts s (Left x) a c caller = refl
 
 -- ---- an instruction
 
@@ -95,7 +78,7 @@ module _ (p : Image) (linked : IsLinked p) (c : Choice) (s : State) (fr : Frame)
       let less = paid fr.counters (suc fr.place) (straight (Call target m first x) stands refl) in
       let lower = called_lower p fr.method m (called_before p linked fr.method fr.place d target m first x declared_there stands) (λ q. subst (λ b. only_if b (is_quiet p m) ≡ true) q quiet) in
       let run = run_paid p m _ lower in
-      let passed = standing_passed p fr ts s (length (Run fr ∷ ts)) (arguments_of p m) first 0 s.cells in
+      let passed = passed_less standing standing_passes p fr ts s (length (Run fr ∷ ts)) (arguments_of p m) first 0 s.cells in
       let cells = scaled_le (standing (passed_cells p fr ts s (length (Run fr ∷ ts)) (arguments_of p m) first 0 s.cells) + operations s.items) (standing s.cells + operations s.items) (cell_rank p) (omega (arith, passed)) in
       omega (arith, less, run, cells)
 
@@ -105,7 +88,7 @@ module _ (p : Image) (linked : IsLinked p) (c : Choice) (s : State) (fr : Frame)
       let less = paid fr.counters (suc fr.place) (straight (Trap target m first x) stands refl) in
       let lower = called_lower p fr.method m (trapped_before p linked fr.method fr.place d target m first x declared_there stands) (λ q. never (is_quiet p fr.method) q loud) in
       let run = run_paid p m _ lower in
-      let passed = standing_passed p fr ts s (length (Trapped ∷ Run fr ∷ ts)) (arguments_of p m) first 0 s.cells in
+      let passed = passed_less standing standing_passes p fr ts s (length (Trapped ∷ Run fr ∷ ts)) (arguments_of p m) first 0 s.cells in
       let cells = scaled_le (standing (passed_cells p fr ts s (length (Trapped ∷ Run fr ∷ ts)) (arguments_of p m) first 0 s.cells) + operations s.items) (standing s.cells + operations s.items) (cell_rank p) (omega (arith, passed)) in
       omega (arith, less, run, cells)
     where
@@ -120,7 +103,7 @@ module _ (p : Image) (linked : IsLinked p) (c : Choice) (s : State) (fr : Frame)
   leaves_on i stands plain loud m more =
       let less = paid fr.counters (suc fr.place) (straight i stands plain) in
       let one = one_more m (standing s.cells + operations s.items) (cell_rank p) more in
-      omega (arith, less, one, to_trap_lower p ts, cell_paid p fr.method loud, cell_two p linked)
+      omega (arith, less, one, to_trap_less (rank_worths p) ts, cell_paid p fr.method loud, cell_two p linked)
 
   -- an item more, an operation at most
   pushes_on : (i : Instr) → slice_get d.code fr.place ≡ Some i → loop_in (Some i) ≡ None → is_quiet p fr.method ≡ false → (m : ℕ) → m ≤ suc (standing s.cells + operations s.items) → rest_at fr.counters (suc fr.place) + waiting_rank p ts + m * cell_rank p < before

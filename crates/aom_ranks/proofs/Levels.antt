@@ -15,11 +15,11 @@ use Rattle.aom_image.specs.declared.method.Thing.{Thing}
 use Rattle.aom_image.specs.declared.method.Thing.TheVariants.{Object as An_object_of, Message}
 use Rattle.aom_classes.specs.Calls.{CallsOrdered, RunsBelow}
 use Rattle.aom_classes.specs.Linked.{IsLinked}
-use Rattle.aom_classes.specs.Roles.{is_class, is_main, main_of, plays, role_number, role_of, same_role}
+use Rattle.aom_classes.specs.Roles.{destructor_of, is_class, is_main, main_of, plays, role_number, role_of, same_role}
 use Rattle.aom_roles.specs.Shapes.{FlagsFit, HasShape, IsShaped, kind_of, may_leave, is_quiet as quiet_bit}
 use Rattle.aom_classes.proofs.Each.{both}
 use Rattle.aom_classes.proofs.Facts.{at_place}
-use Rattle.aom_sound.specs.Destruction.{begun, begun_by, destructor_of}
+use Rattle.aom_sound.specs.Destruction.{begun, begun_by}
 use Rattle.aom_sound.specs.Places.{Object}
 use Rattle.aom_sound.specs.State.{Task}
 use Rattle.aom_sound.specs.WellTyped.{IsUndo}

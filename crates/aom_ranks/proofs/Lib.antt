@@ -1,7 +1,9 @@
 pub mod Sums
 pub mod Bodies
+pub mod Rounds
 pub mod Places
 pub mod Standing
+pub mod Worths
 pub mod Levels
 pub mod Falling
 pub mod Ranking

@@ -5,7 +5,6 @@ use Rattle.aom_image.specs.Views.{instr_at, method_at}
 use Rattle.aom_image.specs.declared.instr.Instr.{Instr}
 use Rattle.aom_image.specs.declared.instr.Instr.TheVariants.{Return}
 use Rattle.aom_image.specs.declared.method.Gives.{Gives}
-use Rattle.aom_image.specs.declared.method.Gives.TheVariants.{Nothing, Word as A_word, Own as An_own, Maybe as A_maybe, Left}
 use Rattle.aom_image.specs.declared.method.Method.{Method as Method_declared}
 use Rattle.aom_classes.specs.Linked.{IsLinked}
 use Rattle.aom_classes.specs.Loops.{loop_in}
@@ -14,12 +13,12 @@ use Rattle.aom_shape.specs.Needs.{AllTrue}
 use Rattle.aom_shape.specs.Rules.{rule_needs}
 use Rattle.aom_shape.specs.Shape.{Shape}
 use Rattle.aom_shape.specs.Typing.{IsTyped, Typing}
-use Rattle.aom_sound.specs.Calls.{below_top, called, result_cells, result_register, returned}
-use Rattle.aom_sound.specs.Cleanup.{code_told, ended_by, operation_frame}
+use Rattle.aom_sound.specs.Calls.{called, result_register, returned}
+use Rattle.aom_sound.specs.Cleanup.{ended_by, operation_frame}
 use Rattle.aom_sound.specs.Effects.{Effect, applied}
 use Rattle.aom_sound.specs.Steps.{Acts, Arrives, Clears, Comes_out, Ends, Fits, IsStill, Move, Rests, Undoes, Vanishes}
 use Rattle.aom_sound.proofs.Moving.{steps_are_moves}
-use Rattle.aom_sound.specs.Claims.{Dispatching, Dying, Layer, Mark, Method, Unwinding, tasks_of}
+use Rattle.aom_sound.specs.Claims.{Layer, Mark, Method, tasks_of}
 use Rattle.aom_sound.specs.Destruction.{begun}
 use Rattle.aom_sound.proofs.Steps.{step_keeps}
 use Rattle.aom_sound.specs.Laws.{IsWired}
@@ -27,14 +26,15 @@ use Rattle.aom_ranks.specs.Laws.{Moves, no_move, one_move}
 use Rattle.aom_sound.specs.WellTyped.{Keeps}
 use Rattle.aom_sound.specs.Moves.{counted, dispatch_ends, main_ends, step}
 use Rattle.aom_sound.specs.Places.{Elsewhere, Entry, Going, Object, Root, held, moved, without}
-use Rattle.aom_sound.specs.State.{An_object, An_operation, A_mark, Choice, Destroy, Dispatch, Dispatched, Frame, Goes, Item, Main_left, Of_main, Of_root, Outcome, Run, State, Task, Trapped, Unwind, next, resumed}
-use Rattle.aom_sound.specs.WellTyped.{AllUndo, Caught, Good, Now, Returns, Stack, WellTyped}
+use Rattle.aom_sound.specs.State.{An_object, An_operation, A_mark, Choice, Destroy, Dispatch, Dispatched, Frame, Goes, Item, Main_left, Of_main, Of_root, Outcome, Run, State, Task, Trapped, Unwind, resumed}
+use Rattle.aom_sound.specs.WellTyped.{AllUndo, Good, Now, Stack, WellTyped}
 use Rattle.aom_sound.specs.World.{IsBusy}
-use Rattle.aom_ranks.specs.Ranks.{cell_rank, end_rank, frame_rank, operations, rank, standing, tasks_rank, waiting_rank}
-use Rattle.aom_ranks.proofs.Falling.{falls, paid, received_alike, straight}
+use Rattle.aom_ranks.specs.Ranks.{cell_rank, end_rank, frame_rank, operations, rank, rank_worths, standing, tasks_rank}
+use Rattle.aom_ranks.proofs.Falling.{falls, paid, straight}
 use Rattle.aom_ranks.proofs.Levels.{begun_paid, price_some, undo_paid}
-use Rattle.aom_ranks.proofs.Standing.{operations_below, standing_goes, standing_result, standing_without}
+use Rattle.aom_ranks.proofs.Standing.{operations_below, standing_goes, standing_passes, standing_without}
 use Rattle.aom_ranks.proofs.Sums.{one_less, scaled_le}
+use Rattle.aom_ranks.proofs.Worths.{resumed_alike, returned_less, told_alike}
 
 -- ---- a return
 
@@ -46,38 +46,14 @@ ends p linked c s fr ts d declared_there a stands =
     omega (arith, less, price_some p fr.method)
 
 -- to what stands below
-returns : (p : Image) (t : Typing) (s : State) (fr : Frame) (sh : Shape) (ls : List Layer) → Stack p t s.cells Now (Method fr sh ∷ ls) → 1 ≤ frame_rank p fr → (g : Gives) (a : ℕ) → rank p (returned p fr (tasks_of ls) s g a (tasks_of ls)) < tasks_rank p (Run fr ∷ tasks_of ls) + (standing s.cells + operations s.items) * cell_rank p
-returns p t s fr sh [] h some g a = absurd (nothing_below h.4)
-  where
-    nothing_below : Returns fr.method fr.home ≡ Now → ⊥
-    nothing_below e = cc
-returns p t s fr sh (Method caller sh2 ∷ ls) h some g a =
-    let c = result_register (instr_at p caller.method caller.place) in
-    let alike = received_alike p fr (Run caller ∷ tasks_of ls) s g a c caller in
-    let result = standing_result p fr (Run caller ∷ tasks_of ls) s g a c (tasks_of ls) in
-    let cells = scaled_le (standing (result_cells p fr (Run caller ∷ tasks_of ls) s g a c (tasks_of ls)) + operations s.items) (standing s.cells + operations s.items) (cell_rank p) (omega (arith, result)) in
-    omega (arith, some, alike, cells)
-returns p t s fr sh (Dying o ∷ ls) h some g a = omega (arith, some)
-returns p t s fr sh (Unwinding code es ∷ ls) h some g a = omega (arith, some)
-returns p t s fr sh (Dispatching Of_main ∷ ls) h some g a = absurd h.4.0
-returns p t s fr sh (Dispatching (Main_left code) ∷ ls) h some g a = absurd h.4.0
-returns p t s fr sh (Dispatching Of_root ∷ ls) h some g a = absurd h.4.0
-returns p t s fr sh (Mark gv ∷ []) h some g a = absurd (nothing_below h.4.1)
-  where
-    nothing_below : Caught gv ≡ Now → ⊥
-    nothing_below e = cc
-returns p t s fr sh (Mark gv ∷ Method caller sh2 ∷ ls) h some g a =
-    let c = result_register (instr_at p caller.method caller.place) in
-    let alike = received_alike p fr (Trapped ∷ Run caller ∷ tasks_of ls) s g a c caller in
-    let result = standing_result p fr (Trapped ∷ Run caller ∷ tasks_of ls) s g a c (tasks_of ls) in
-    let cells = scaled_le (standing (result_cells p fr (Trapped ∷ Run caller ∷ tasks_of ls) s g a c (tasks_of ls)) + operations (below_top s.items)) (standing s.cells + operations s.items) (cell_rank p) (omega (arith, result, operations_below s.items)) in
-    omega (arith, some, alike, cells)
-returns p t s fr sh (Mark gv ∷ Mark gv' ∷ ls) h some g a = absurd h.4.1.0
-returns p t s fr sh (Mark gv ∷ Dying o ∷ ls) h some g a = absurd h.4.1.1
-returns p t s fr sh (Mark gv ∷ Unwinding code es ∷ ls) h some g a = absurd h.4.1.0
-returns p t s fr sh (Mark gv ∷ Dispatching w ∷ ls) h some g a =
-    let cells = scaled_le (standing s.cells + operations (below_top s.items)) (standing s.cells + operations s.items) (cell_rank p) (omega (arith, operations_below s.items)) in
-    omega (arith, some, cells)
+returns :
+    (p : Image) (t : Typing) (s : State) (fr : Frame) (sh : Shape) (ls : List Layer) → Stack p t s.cells Now (Method fr sh ∷ ls) → 1 ≤ frame_rank p fr → (g : Gives) (a : ℕ) →
+    rank p (returned p fr (tasks_of ls) s g a (tasks_of ls)) < tasks_rank p (Run fr ∷ tasks_of ls) + (standing s.cells + operations s.items) * cell_rank p
+returns p t s fr sh ls h some g a =
+    let u = returned p fr (tasks_of ls) s g a (tasks_of ls) in
+    let less = returned_less (rank_worths p) standing operations standing_passes operations_below p t s fr sh g a ls h in
+    let cells = scaled_le (standing u.cells + operations u.items) (standing s.cells + operations s.items) (cell_rank p) less.1 in
+    omega (arith, some, less.0, cells)
 
 -- ---- every move
 
@@ -107,20 +83,12 @@ module _ (p : Image) (t : Typing) (linked : IsLinked p) (typed : IsTyped p t) (c
       subst (λ f. ActsLower f ts) same (subst (λ l. ActsLower fr' l) below (acts_there fr' sh ls good))
   acts _ good fr ts at = cc
 
-  resumed_alike : (ts : List Task) → tasks_rank p (resumed ts) ≡ waiting_rank p ts
-  resumed_alike [] = refl
-  resumed_alike (Run fr ∷ ts) = refl
-  resumed_alike (Trapped ∷ ts) = refl
-  resumed_alike (Destroy ∷ ts) = refl
-  resumed_alike (Unwind code ∷ ts) = refl
-  resumed_alike (Dispatched d ∷ ts) = refl
-
   -- a cell goes
   vanishes : (ts : List Task) → rank p (record (counted p s) { cells = without (Going (length ts)) s.cells; tasks = resumed ts }) < total (Destroy ∷ ts)
   vanishes ts =
       let fewer = standing_without (Going (length ts)) s.cells in
       let cells = scaled_le (standing (without (Going (length ts)) s.cells) + operations s.items) (standing s.cells + operations s.items) (cell_rank p) (omega (arith, fewer)) in
-      omega (arith, resumed_alike ts, cells)
+      omega (arith, resumed_alike (rank_worths p) ts, cells)
 
   of_main : (ts : List Task) (b : Bool) (o : Option Object) → held s.cells (Elsewhere Root) ≡ o → rank p (main_ends p b o (counted p s)) < total (Dispatched Of_main ∷ ts)
   of_main ts true (Some o) there =
@@ -135,14 +103,6 @@ module _ (p : Image) (t : Typing) (linked : IsLinked p) (typed : IsTyped p t) (c
   of_dispatch ts Of_main = of_main ts s.rest.stopped (held s.cells (Elsewhere Root)) refl
   of_dispatch ts (Main_left code) = omega arith
   of_dispatch ts Of_root = omega arith
-
-  -- the code is a word, and changes no place
-  told_alike : (g : Gives) (r : ℕ) (code : ℤ) (fr : Frame) → frame_rank p (next (code_told g r code fr)) ≡ frame_rank p (next fr)
-  told_alike Nothing r code fr = refl
-  told_alike A_word r code fr = refl
-  told_alike (An_own t) r code fr = refl
-  told_alike (A_maybe t) r code fr = refl
-  told_alike (Left x) r code fr = refl
 
   ended_alike : (code : ℤ) (d : Dispatch) → end_rank (ended_by code d) ≤ end_rank d
   ended_alike code Of_main = omega arith
@@ -188,7 +148,7 @@ module _ (p : Image) (t : Typing) (linked : IsLinked p) (typed : IsTyped p t) (c
   lowers busy u (Undoes code ts items m x at top same) = by (Unwind code ∷ ts) u _ at same (undoes code ts items m x top)
   lowers busy u (Arrives code fr ts items at top same) =
       let i = instr_at p fr.method fr.place in
-      by (Unwind code ∷ Trapped ∷ Run fr ∷ ts) u _ at same (omega (arith, told_alike (called p i) (result_register i) code fr, unmarked items top))
+      by (Unwind code ∷ Trapped ∷ Run fr ∷ ts) u _ at same (omega (arith, told_alike (rank_worths p) (called p i) (result_register i) code fr ts, unmarked items top))
   lowers busy u (Comes_out code d ts items at top same) = by (Unwind code ∷ Trapped ∷ Dispatched d ∷ ts) u _ at same (omega (arith, ended_alike code d, unmarked items top))
   lowers busy u (Ends d ts at same) = by (Dispatched d ∷ ts) u _ at same (of_dispatch ts d)
 

@@ -1,14 +1,9 @@
 -- How many cells stand, after each change of the cells.
-use Rattle.std.proofs.Common.{◌≡◌, ◌≤◌, ◌∙◌, ℕ, ℤ, suc, Bool, true, false, cond, List, [], ◌∷◌, length, Some, refl, ap, arith}
-use Rattle.aom_image.specs.Image.{Image}
-use Rattle.aom_image.specs.declared.method.Argument.{Argument}
-use Rattle.aom_image.specs.declared.method.Argument.TheVariants.{Word as Takes_word, Own as Takes_own}
-use Rattle.aom_image.specs.declared.method.Gives.{Gives}
-use Rattle.aom_image.specs.declared.method.Gives.TheVariants.{Nothing, Word as A_word, Own as An_own, Maybe as A_maybe, Left}
+use Rattle.std.proofs.Common.{◌≡◌, ◌≤◌, ◌∙◌, ℕ, ℤ, suc, Bool, true, false, cond, List, [], ◌∷◌, Some, refl, ap, arith}
 use Rattle.aom_image.specs.declared.method.Thing.{Thing}
 use Rattle.aom_sound.specs.Places.{Cell, Going, Object, Place, Register, held, moved, same_place, set_word_field, with_new, without}
-use Rattle.aom_sound.specs.State.{AtRoot, Frame, Home, Inside, Item, An_object, An_operation, A_mark, State, Static, Task, field_place}
-use Rattle.aom_sound.specs.Calls.{below_top, passed_cells, result_cells}
+use Rattle.aom_sound.specs.State.{AtRoot, Home, Inside, Item, An_object, An_operation, A_mark, Static, field_place}
+use Rattle.aom_sound.specs.Calls.{below_top}
 use Rattle.aom_sound.specs.Words.{stored}
 use Rattle.aom_sound.proofs.Maps.{same_place-true}
 use Rattle.aom_ranks.specs.Ranks.{is_going, standing, operations}
@@ -29,6 +24,9 @@ standing_moved from to (c ∷ cs) e = here (same_place c.owner from) refl (stand
     here : (b : Bool) → same_place c.owner from ≡ b → standing (moved from to cs) ≤ standing cs → cond (is_going (cond b to c.owner)) (standing (moved from to cs)) (suc (standing (moved from to cs))) ≤ cond (is_going c.owner) (standing cs) (suc (standing cs))
     here true s le = rw (ap is_going (same_place-true c.owner from s) ∙ e) (some (is_going to) (standing (moved from to cs)) (standing cs) le)
     here false s le = same (is_going c.owner) (standing (moved from to cs)) (standing cs) le
+
+pub standing_passes : (d i e j : ℕ) (cs : List Cell) → standing (moved (Register d i) (Register e j) cs) ≤ standing cs
+standing_passes d i e j cs = standing_moved (Register d i) (Register e j) cs refl
 
 -- what is there begins to go
 pub standing_goes : (from : Place) (k : ℕ) (o : Object) (cs : List Cell) → is_going from ≡ false → held cs from ≡ Some o → suc (standing (moved from (Going k) cs)) ≤ standing cs
@@ -73,21 +71,6 @@ pub field_stands : (h : Home) (f : ℕ) → is_going (field_place h f) ≡ false
 field_stands Static f = refl
 field_stands AtRoot f = refl
 field_stands (Inside o from) f = refl
-
-pub standing_passed : (p : Image) (fr : Frame) (ts : List Task) (s : State) (depth : ℕ) (xs : List Argument) (first to : ℕ) (cs : List Cell) → standing (passed_cells p fr ts s depth xs first to cs) ≤ standing cs
-standing_passed p fr ts s depth [] first to cs = omega arith
-standing_passed p fr ts s depth (Takes_word ∷ xs) first to cs = standing_passed p fr ts s depth xs (suc first) (suc to) cs
-standing_passed p fr ts s depth (Takes_own t ∷ xs) first to cs =
-    let here = standing_moved (Register (length ts) first) (Register depth to) cs refl in
-    let more = standing_passed p fr ts s depth xs (suc first) (suc to) (moved (Register (length ts) first) (Register depth to) cs) in
-    omega (arith, here, more)
-
-pub standing_result : (p : Image) (fr : Frame) (ts : List Task) (s : State) (g : Gives) (a c : ℕ) (below : List Task) → standing (result_cells p fr ts s g a c below) ≤ standing s.cells
-standing_result p fr ts s Nothing a c below = omega arith
-standing_result p fr ts s A_word a c below = omega arith
-standing_result p fr ts s (An_own t) a c below = standing_moved (Register (length ts) a) (Register (length below) c) s.cells refl
-standing_result p fr ts s (A_maybe t) a c below = standing_moved (Register (length ts) a) (Register (length below) c) s.cells refl
-standing_result p fr ts s (Left x) a c below = omega arith
 
 -- ---- operations
 

@@ -1,4 +1,5 @@
 pub mod Within
+pub mod Worths
 pub mod Ranks
 pub mod Laws
 pub mod Leaves

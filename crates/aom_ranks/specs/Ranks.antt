@@ -4,8 +4,9 @@ use Rattle.aom_image.specs.Image.{Image}
 use Rattle.aom_image.specs.Views.{is_quiet, method_at}
 use Rattle.aom_image.specs.declared.method.Method.{Method}
 use Rattle.aom_sound.specs.Places.{Place, Register, Entry, Field, Going, Elsewhere, Cell}
-use Rattle.aom_sound.specs.State.{Frame, Dispatch, Of_main, Main_left, Of_root, Task, Run, Trapped, Destroy, Unwind, Dispatched, Item, An_object, An_operation, A_mark, State, next}
+use Rattle.aom_sound.specs.State.{Frame, Dispatch, Of_main, Main_left, Of_root, Task, Run, Trapped, Destroy, Unwind, Dispatched, Item, An_object, An_operation, A_mark, State}
 use Rattle.aom_ranks.specs.Within.{left}
+use Rattle.aom_ranks.specs.Worths.{Worths, tasks_worth, waiting_worth}
 
 -- all that the methods have before them as they begin
 abbrev pub all_left : List Method → ℕ
@@ -27,8 +28,11 @@ abbrev pub left_in : Option Method → (counters : List ℕ) → (place : ℕ) �
 left_in None counters place = 0
 left_in (Some m) counters place = left m.code counters place
 
+abbrev pub method_rank : Image → (m : ℕ) (counters : List ℕ) → (place : ℕ) → ℕ
+method_rank p m counters place = left_in (method_at p m) counters place * price p m
+
 abbrev pub frame_rank : Image → Frame → ℕ
-frame_rank p fr = left_in (method_at p fr.method) fr.counters fr.place * price p fr.method
+frame_rank p fr = method_rank p fr.method fr.counters fr.place
 
 -- the end of main's dispatch may begin the root's destruction, and the end after that does not
 abbrev pub end_rank : Dispatch → ℕ
@@ -36,18 +40,15 @@ end_rank Of_main = 2
 end_rank (Main_left code) = 1
 end_rank Of_root = 1
 
--- the tasks that wait: a method goes on at its next place
+-- a trap, the going of a cell and a leave are a move each
+abbrev pub rank_worths : Image → Worths
+rank_worths p = record { method = method_rank p; trap = 1; going = 1; leave = 1; dispatch = end_rank }
+
 abbrev pub waiting_rank : Image → List Task → ℕ
-waiting_rank p [] = 0
-waiting_rank p (Run fr ∷ ts) = frame_rank p (next fr) + waiting_rank p ts
-waiting_rank p (Trapped ∷ ts) = 1 + waiting_rank p ts
-waiting_rank p (Destroy ∷ ts) = 1 + waiting_rank p ts
-waiting_rank p (Unwind code ∷ ts) = 1 + waiting_rank p ts
-waiting_rank p (Dispatched d ∷ ts) = end_rank d + waiting_rank p ts
+waiting_rank p ts = waiting_worth (rank_worths p) ts
 
 abbrev pub tasks_rank : Image → List Task → ℕ
-tasks_rank p (Run fr ∷ ts) = frame_rank p fr + waiting_rank p ts
-tasks_rank p ts = waiting_rank p ts
+tasks_rank p ts = tasks_worth (rank_worths p) ts
 
 -- a cell pays for its destructor, which is quiet, and for its going
 abbrev pub cell_rank : Image → ℕ

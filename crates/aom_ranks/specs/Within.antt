@@ -28,15 +28,23 @@ is_end_of number back _ = false
 abbrev pub is_in_body : List Instr → (number p place : ℕ) → Bool
 is_in_body code number p place = nat_lt p place && list_any (is_end_of number (suc p)) (drop place code)
 
--- for each round that is left the body may be gone through once more
-abbrev pub rounds_left : List Instr → (counters : List ℕ) → (place p : ℕ) → Option ℕ → ℕ
-rounds_left code counters place p None = 0
-rounds_left code counters place p (Some number) = cond (is_in_body code number p place) (at 0 counters number * weight code (suc p)) 0
+-- what a loop counts for at a place in its body, by its counter and where it begins
+abbrev pub worth_at : List Instr → (worth : ℕ → ℕ → ℕ) (counters : List ℕ) → (place p : ℕ) → Option ℕ → ℕ
+worth_at code worth counters place p None = 0
+worth_at code worth counters place p (Some number) = cond (is_in_body code number p place) (worth (at 0 counters number) p) 0
 
 abbrev pub total : (ℕ → ℕ) → ℕ → ℕ
 total f zero = 0
 total f (suc n) = total f n + f n
 
+-- what all the loops round a place count for
+abbrev pub loops_worth : List Instr → (worth : ℕ → ℕ → ℕ) (counters : List ℕ) → (place : ℕ) → ℕ
+loops_worth code worth counters place = total (λ p. worth_at code worth counters place p (loop_at code p)) (length code)
+
+-- for each round that is left the body may be gone through once more
+abbrev pub rounds_weight : List Instr → (rounds p : ℕ) → ℕ
+rounds_weight code rounds p = rounds * weight code (suc p)
+
 -- where a run stands, and the rounds that are left of the loops round that place
 abbrev pub left : List Instr → (counters : List ℕ) → (place : ℕ) → ℕ
-left code counters place = weight code place + total (λ p. rounds_left code counters place p (loop_at code p)) (length code)
+left code counters place = weight code place + loops_worth code (rounds_weight code) counters place

@@ -120,7 +120,7 @@ module _ {classes methods : ℕ} {scope : Scope} (names : HasNames classes metho
   takes_gives (result.Maybe t) fits = in_turn _ (takes_any_keyword k.Maybe) (in_turn _ (takes_thing names t fits) (gives_it _))
   takes_gives (result.Left c) fits = in_turn _ (takes_any_keyword k.Left) (in_turn _ (takes_class names c fits) (gives_it _))
 
-  whole_gives : (usual g : Gives) → GivesFits classes g → Whole (optional_gives scope usual) (keyword_text k.Gives ∷ gives_words g) g
+  whole_gives : (usual : Option Gives) (g : Gives) → GivesFits classes g → Whole (optional_gives scope usual) (keyword_text k.Gives ∷ gives_words g) g
   whole_gives usual g fits = record { reads = (only_two any_keyword (gives scope) (λ g. next (nothing_more false) (λ u. giving g)) (takes_gives g fits) (record { reads = refl })).reads }
 
   -- ---- the statement
@@ -131,7 +131,7 @@ module _ {classes methods : ℕ} {scope : Scope} (names : HasNames classes metho
       next (optional_states k.In (usual_before role (all_states (kind_of scope.kinds class)))) (λ before.
       next (optional_states k.Out (usual_after role (all_states (kind_of scope.kinds class)))) (λ after.
       next (optional_arguments scope (usual_words role)) (λ arguments.
-      next (optional_gives scope (usual_gives role (kind_of scope.kinds class))) (λ gives.
+      next (optional_gives scope (usual_gives scope.is_strict role (kind_of scope.kinds class))) (λ gives.
       giving (record { class = class; role = role; flags = flags_of leaves (quiet || is_quiet_role role); before = before; after = after; arguments = arguments; gives = gives })))))
 
   -- a heading, with flags of its own
@@ -143,7 +143,7 @@ module _ {classes methods : ℕ} {scope : Scope} (names : HasNames classes metho
       first _ (takes_states_in (usual_before m.role (all_states (kind_of scope.kinds m.class))) m.before fits.before) (
       first _ (takes_states_out (usual_after m.role (all_states (kind_of scope.kinds m.class))) m.after fits.after) (
       first _ (takes_arguments (usual_words m.role) m.arguments fits.argument_count fits.arguments) (
-      last _ (whole_gives (usual_gives m.role (kind_of scope.kinds m.class)) m.gives fits.gives) (done _))))
+      last _ (whole_gives (usual_gives scope.is_strict m.role (kind_of scope.kinds m.class)) m.gives fits.gives) (done _))))
 
   whole_flags : (m : Method) → MethodFits classes methods m → (is_quiet_role m.role ≡ true → has m.flags.0 2 ≡ true)
       → Whole (next (flag k.Leaves) (λ leaves. next (flag k.Quiet) (promised m.role m.class leaves))) (flag_words m.flags.0 ++ promise_words m) (heading_of m)

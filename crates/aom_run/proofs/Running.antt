@@ -9,12 +9,13 @@ use Rattle.aom_sound.specs.declared.line.Ending.TheVariants as endings
 use Rattle.aom_lines.specs.Turn.{Turn}
 use Rattle.aom_lines.specs.Text.{text_of, ended, end_text, transcript}
 use Rattle.aom_ranks.specs.Ranks.{rank}
-use Rattle.aom_exec.specs.declared.progress.Outcome.{Outcome}
-use Rattle.aom_exec.specs.declared.progress.Outcome.TheVariants.{Stopped, Waiting, MainLeft, WriteFault}
+use Rattle.aom_run.specs.declared.outcome.Outcome.{Outcome}
+use Rattle.aom_run.specs.declared.outcome.Outcome.TheVariants.{Stopped, Waiting, MainLeft, WriteFault}
 use Rattle.aom_exec.specs.declared.progress.Progress.{Progress}
 use Rattle.aom_exec.specs.declared.progress.Progress.TheVariants as progresses
 use Rattle.aom_exec.specs.Steps.{Machine, StandsFor, Waited, progress as reached}
-use Rattle.aom_exec.specs.Progress.{progress_of, progress_by, outcome_of}
+use Rattle.aom_exec.specs.Progress.{progress_of, progress_by}
+use Rattle.aom_run.specs.Outcomes.{outcome_of}
 use Rattle.aom_exec.proofs.Progressing.{is_as_far}
 use Rattle.aom_run.specs.Runs.{after, Filled, Ended, Told, CutShort, Ran}
 use Rattle.aom_run.proofs.Completing.{Completed, completes}

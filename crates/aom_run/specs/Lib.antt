@@ -1,3 +1,4 @@
 pub mod Faults
+pub mod Outcomes
 pub mod Runs
 pub mod Script

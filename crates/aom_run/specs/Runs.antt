@@ -8,8 +8,8 @@ use Rattle.aom_sound.specs.declared.line.Ending.{Ending}
 use Rattle.aom_sound.specs.declared.line.Ending.TheVariants as endings
 use Rattle.aom_lines.specs.Turn.{Turn}
 use Rattle.aom_lines.specs.Text.{text_of, transcript}
-use Rattle.aom_exec.specs.declared.progress.Outcome.{Outcome}
-use Rattle.aom_exec.specs.declared.progress.Outcome.TheVariants.{Stopped, Waiting, MainLeft, WriteFault}
+use Rattle.aom_run.specs.declared.outcome.Outcome.{Outcome}
+use Rattle.aom_run.specs.declared.outcome.Outcome.TheVariants.{Stopped, Waiting, MainLeft, WriteFault}
 use Rattle.aom_exec.specs.declared.progress.Progress.{Progress}
 use Rattle.aom_exec.specs.Progress.{progress_of}
 use Rattle.aom_exec.specs.Steps.{Machine, StandsFor}

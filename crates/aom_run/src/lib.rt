@@ -8,11 +8,13 @@
 
 mod fault;
 mod line;
+mod outcome;
 mod runs;
 mod script;
 mod sink;
 
 pub use fault::{ScriptFault, ScriptFaultKind};
+pub use outcome::Outcome;
 pub use runs::run;
 pub use script::{Script, read_script};
 pub use sink::{Sink, write_text};

@@ -3,12 +3,12 @@ ghost use Rattle.std.specs.Prelude.{ℕ, true, false, ◌≡◌, ◌+◌, ◌<�
 ghost use Rattle.aom_sound.specs.State.{State};
 ghost use Rattle.aom_determined.specs.Laws.{IsDetermined};
 ghost use Rattle.aom_lines.specs.Text.{text_of, ended, end_text};
+ghost use Rattle.aom_run.specs.Outcomes.{outcome_of};
 ghost use Rattle.aom_run.specs.Runs.{IsFresh, Ran, Filled, Ended, CutShort, after};
-ghost use Rattle.aom_exec.specs.Progress.{outcome_of};
 ghost use Rattle.aom_exec.specs.Steps.{StandsFor, Stands, rank};
 
-use crate::{Script, Sink, write_text};
-use aom_exec::{Machine, Outcome, Progress};
+use crate::{Outcome, Script, Sink, write_text};
+use aom_exec::{Machine, Progress};
 use aom_lines::{Page, Turn};
 use aom_sound::{Ending, Line};
 

@@ -2,9 +2,10 @@
 use aom_asm::assemble;
 use aom_budget::{Accepted, accept};
 use aom_classes::link;
-use aom_exec::{Machine, Outcome};
+use aom_exec::Machine;
 use aom_lines::Turn;
-use aom_run::{Sink, read_script, run, write_text};
+use aom_run::{Outcome, Sink, read_script, run, write_text};
+use aom_sound::Ending;
 use aom_verify::check;
 use std::alloc::Global;
 use std::test::Fail;
@@ -110,4 +111,11 @@ fn a_run_is_told(rt: HostRuntime) -> Result<(), Fail> {
         assert_eq!(rt; sink.text.as_slice(), transcript.as_bytes());
     }
     Ok(())
+}
+
+#[test]
+fn an_ending_is_told_as_an_outcome(rt: HostRuntime) {
+    assert_eq!(rt; Outcome::of(Ending::Stopped), Outcome::Stopped);
+    assert_eq!(rt; Outcome::of(Ending::Waiting), Outcome::Waiting);
+    assert_eq!(rt; Outcome::of(Ending::MainLeft(5)), Outcome::MainLeft(5));
 }

@@ -1,6 +1,7 @@
 -- The arguments of a call, one after the other.
-use Rattle.std.proofs.Common.{◌≡◌, ℕ, suc, true, nat_lt, cond, ◌+◌, ◌<◌, ◌≤◌, List, ◌∷◌, ◌++◌, length, drop, inl, inr, sym, ap, ◌∙◌, Ok, Err, arith}
-use Rattle.std.proofs.lemmas.Bool.{le-leb, lt-leb, lt-ltb}
+use Rattle.std.proofs.Common.{◌≡◌, ℕ, zero, suc, true, false, nat_lt, cond, ◌+◌, ◌<◌, ◌≤◌, List, [], ◌∷◌, ◌++◌, length, slice_get, Some, None, drop, inl, inr, sym, ap, ◌∙◌, Ok, Err, arith}
+use Rattle.std.proofs.lemmas.Bool.{le-leb, lt-leb, lt-ltb, le-ltb}
+use Rattle.std.proofs.lemmas.Option.{slice_get_within}
 use Rattle.std.proofs.lemmas.Bool.Decides.{leb_tells}
 use Rattle.std.proofs.Math.Seq.{drop-cons}
 use Rattle.std.proofs.Math.ListN.{drop_of_length-le}
@@ -69,5 +70,21 @@ arguments_fit p sh xs first u e = elim (leb_tells (first + length xs) 16) [
 ]
 
 -- the entry of a number, where there is one
-pub entry_there : (es : List Entry) (k : ℕ) (x : Entry) → k < length es → x ≡ slice_index_or es k x → (nat_lt k (length es) ≡ true) × (at Operation es k ≡ x)
-entry_there es k x h e = (lt-ltb k (length es) h, sym (at_within Operation x es k h) ∙ sym e)
+pub entry_there : (es : List Entry) (k : ℕ) (x : Entry) → slice_get es k ≡ Some x → (nat_lt k (length es) ≡ true) × (at Operation es k ≡ x)
+entry_there es k x e = (lt-ltb k (length es) (slice_get_within es k x e), found es k x e)
+  where
+    found : (es : List Entry) (k : ℕ) (x : Entry) → slice_get es k ≡ Some x → at Operation es k ≡ x
+    found [] k x e = absurd cc
+    found (y ∷ ys) zero x e = cc
+    found (y ∷ ys) (suc k) x e = found ys k x e
+
+pub entry_missing : (es : List Entry) (k : ℕ) → slice_get es k ≡ None → nat_lt k (length es) ≡ false
+entry_missing es k e = elim (leb_tells (length es) k) [
+  | inl w ↦ le-ltb k (length es) w.1
+  | inr w ↦ absurd (there es k w.1 e)
+]
+  where
+    there : (es : List Entry) (k : ℕ) → k < length es → slice_get es k ≡ None → ⊥
+    there [] k h e = absurd (omega arith)
+    there (y ∷ ys) zero h e = cc
+    there (y ∷ ys) (suc k) h e = there ys k (omega arith) e

@@ -36,7 +36,7 @@ argument_leaves : (x : Argument) (r : ℕ) (sh : Shape) → (argument_moved x r 
 argument_leaves A_word_argument r sh = refl
 argument_leaves (An_own_argument t) r sh = refl
 
-arguments_leave : (xs : List Argument) (first : ℕ) (sh : Shape) → (arguments_moved xs first sh).entries ≡ sh.entries
+pub arguments_leave : (xs : List Argument) (first : ℕ) (sh : Shape) → (arguments_moved xs first sh).entries ≡ sh.entries
 arguments_leave [] first sh = refl
 arguments_leave (x ∷ xs) first sh = arguments_leave xs (suc first) (argument_moved x first sh) ∙ argument_leaves x first sh
 

@@ -1,5 +1,5 @@
 pub mod Lists
-pub mod Packing
+pub mod Piling
 pub mod Views
 pub mod Deciding
 pub mod Judging

@@ -234,7 +234,7 @@ unmet a b h = (
   by_registers h,
 )
 
-kinds_meet : (a b m : List Kind) → length a ≡ 16 → length b ≡ 16 → Met a b m 16 → ¬ Unmet a b
+pub kinds_meet : (a b m : List Kind) → length a ≡ 16 → length b ≡ 16 → Met a b m 16 → ¬ Unmet a b
 kinds_meet a b m la lb h missing =
     elim (leb_tells 16 missing.place) [
       | inr w ↦ let found = h.each missing.place w.1 in let none = missing.none in cc
@@ -242,8 +242,5 @@ kinds_meet a b m la lb h missing =
     ]
 
 -- and where their entries differ nothing does either
-pub parted : (a b : Shape) (m : List Kind) → length a.registers ≡ 16 → length b.registers ≡ 16 → Met a.registers b.registers m 16 → a.entries ≢ b.entries → NoMeet a b × WhyNoMeet a b CleanupAtReturn
-parted a b m la lb h differ = (
-  record { none = λ n k l. differ (sym k.entries ∙ l.entries) },
-  by_entries (kinds_meet a.registers b.registers m la lb h) differ,
-)
+pub parted : (a b : Shape) → ¬ Unmet a.registers b.registers → a.entries ≢ b.entries → NoMeet a b × WhyNoMeet a b CleanupAtReturn
+parted a b meet differ = (record { none = λ n k l. differ (sym k.entries ∙ l.entries) }, by_entries meet differ)

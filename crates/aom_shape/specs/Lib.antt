@@ -1,7 +1,7 @@
 pub mod Tables
 pub mod Things
 pub mod Shape
-pub mod Entries
+pub mod Piles
 pub mod Kinds
 pub mod Order
 pub mod Tests
@@ -14,4 +14,5 @@ pub mod Calls
 pub mod Rules
 pub mod Typing
 pub mod Laws
+pub mod Changes
 pub mod Whys

@@ -9,3 +9,8 @@ pub record Shape : Type 0 where
   pub fields : List Filling
   -- the method's own cleanup entries, the last one first
   pub entries : List Entry
+
+-- what is known of registers and fields
+pub record Known : Type 0 where
+  pub registers : List Kind
+  pub fields : List Filling

@@ -1,16 +1,19 @@
 //! The rules of calls, of returns and of stop.
-ghost use Rattle.std.specs.Prelude.{◌≡◌, ◌≤◌, ◌+◌, [], ◌∷◌, suc, ◌<◌, ◌^◌, nat_lt, ◌&&◌, IsSome, Some, length};
-ghost use Rattle.aom_image.specs.Views.{gives_of, leaves, method_at, method_class};
+ghost use Rattle.std.specs.Prelude.{◌≡◌, ◌≤◌, ◌+◌, List, [], ◌∷◌, suc, ◌<◌, ◌^◌, nat_lt, ◌&&◌, IsSome, Some, length};
+ghost use Rattle.aom_image.specs.Views.{gives_of, leaves, method_at};
 ghost use Rattle.aom_image.specs.declared.method.Thing.TheVariants.{Object};
-ghost use Rattle.aom_shape.specs.Calls.{is_construct, is_own_for, stands_here, is_target, age_need, is_among, awaits, brought, fields_worked, while_called, arguments_moved, argument_needs, rule_arguments, rule_target, rule_moved, rule_call, flow_call, caught, rule_trap, flow_trap, leaves_one, entries_done, is_destruct, is_destructor, fields_done, rule_result, result_moved, rule_return, flow_stop};
+ghost use Rattle.aom_shape.specs.Calls.{is_construct, is_own_for, stands_here, is_target, age_need, is_among, awaits, brought, while_called, argument_needs, rule_arguments, rule_target, rule_moved, rule_call, flow_call, caught, rule_trap, flow_trap, leaves_one, entries_done, is_destruct, is_destructor, fields_done, rule_result, result_moved, rule_return, flow_stop};
 ghost use Rattle.aom_shape.specs.Kinds.{entry_kind, is_ready_kind, is_unowning, register};
+ghost use Rattle.aom_shape.specs.Changes.{next_shape, told};
 ghost use Rattle.aom_shape.specs.Needs.{judged, tested};
 ghost use Rattle.aom_shape.specs.Tables.{at};
 ghost use Rattle.aom_shape.specs.Things.{holder_by, holder_of};
+ghost use Rattle.aom_shape.specs.declared.flow.Last.TheVariants.{Same};
+ghost use Rattle.aom_shape.specs.declared.kind.Entry.{Entry as EntryData};
 ghost use Rattle.aom_shape.specs.declared.kind.Entry.TheVariants.{Operation};
 ghost use Rattle.aom_shape.specs.declared.why.Why.TheVariants.{RegisterKind, PopEmpty};
 
-use crate::flow::{judge, judge_all, only_if};
+use crate::flow::{Next, judge, judge_all, only_if};
 use crate::objects::is_quiet;
 use crate::things::{class_fields, field_thing, is_own_for, may_be, stands_for};
 use crate::{Age, Entry, Flow, Kind, Shape, Why};
@@ -82,14 +85,14 @@ fn is_among(first: Register, count: usize, register: Register) -> bool
 /// What is asked of the cleanup entry that the method is called on.
 fn judge_entry(
     linked: &Linked,
-    entries: &[Entry],
+    shape: &Shape<'_>,
     number: EntryDepth,
     callee: &Method,
     constructs: bool,
 ) -> Result<(), Why>
-    ensures { result ≡ tested ((nat_lt number (length entries.now), PopEmpty) ∷ (is_target linked.now callee.now.class (entry_kind (at Operation entries.now number)), RegisterKind) ∷ age_need constructs (entry_kind (at Operation entries.now number)) ∷ []) }
+    ensures { result ≡ tested ((nat_lt number (length shape.now.entries), PopEmpty) ∷ (is_target linked.now callee.now.class (entry_kind (at Operation shape.now.entries number)), RegisterKind) ∷ age_need constructs (entry_kind (at Operation shape.now.entries number)) ∷ []) }
 {
-    match entries.get(number.number() as usize) {
+    match shape.entry(number.number() as usize) {
         None => Err(Why::PopEmpty),
         Some(entry) => {
             let kind = entry.kind();
@@ -108,7 +111,7 @@ fn judge_entry(
 fn judge_target(
     linked: &Linked,
     method: MethodNumber,
-    shape: &Shape,
+    shape: &Shape<'_>,
     call: &Call,
     callee: &Method,
 ) -> Result<(), Why>
@@ -145,7 +148,7 @@ fn judge_target(
             ];
             judge_all(&needs)
         }
-        Target::Entry(number) => judge_entry(linked, shape.entries(), number, callee, constructs),
+        Target::Entry(number) => judge_entry(linked, shape, number, callee, constructs),
     }
 }
 
@@ -170,7 +173,7 @@ fn judge_argument(linked: &Linked, argument: Argument, kind: &Kind) -> Result<()
 /// What is asked of the arguments, which stand in the registers from the first on.
 fn judge_arguments(
     linked: &Linked,
-    shape: &Shape,
+    shape: &Shape<'_>,
     arguments: &[Argument],
     first: Register,
 ) -> Result<(), Why>
@@ -206,7 +209,12 @@ pub(crate) fn leaves(linked: &Linked, method: MethodNumber) -> bool
 
 /// What is asked once the arguments have moved.
 #[tactic(auto, using(crate::proofs::Views::gives_there))]
-fn judge_moved(linked: &Linked, method: MethodNumber, moved: &Shape, call: &Call) -> Result<(), Why>
+fn judge_moved(
+    linked: &Linked,
+    method: MethodNumber,
+    moved: &Shape<'_>,
+    call: &Call,
+) -> Result<(), Why>
     requires method { IsSome (method_at linked.now method) }
     requires callee { IsSome (method_at linked.now call.now.method) }
     ensures { result ≡ tested (rule_moved linked.now method moved.now call.now.method call.now.result) }
@@ -233,33 +241,35 @@ fn judge_moved(linked: &Linked, method: MethodNumber, moved: &Shape, call: &Call
 }
 
 /// The state while a call of a method of that class lasts.
-fn while_called(target: Target, class: Option<ClassNumber>, shape: &Shape) -> Shape
-    ensures { result ≡ while_called target class shape.now }
+fn while_called(target: Target, class: Option<ClassNumber>, shape: &Shape<'_>) -> Next
+    ensures value { next_shape shape.now.entries result ≡ while_called target class shape.now }
+    ensures same { result.change.last ≡ Same }
 {
     match target {
         Target::This => match class {
-            None => *shape,
-            Some(_) => shape.with_fields_unknown(),
+            None => Next::of(shape),
+            Some(_) => Next::of(&shape.with_fields_unknown()),
         },
         Target::Register(register) => {
-            shape.with_register(register, shape.register(register).readied())
+            Next::of(&shape.with_register(register, shape.register(register).readied()))
         }
-        Target::Field(_) => *shape,
-        Target::Entry(number) => shape.with_readied_entry(number),
+        Target::Field(_) => Next::of(shape),
+        Target::Entry(number) => Next::of(shape).with_readied_entry(number),
     }
 }
 
 /// The state with the result.
-fn brought(gives: Gives, c: Register, shape: &Shape) -> Shape
-    requires { length shape.now.entries < 1024 }
-    ensures { result ≡ brought gives c shape.now }
+fn brought(gives: Gives, c: Register, lasting: Next) -> Next
+    requires { lasting.change.last ≡ Same }
+    ensures { (es : List EntryData) → next_shape es result ≡ brought gives c (next_shape es lasting) }
 {
+    let number = c.number() as usize;
     match gives {
-        Gives::Nothing => *shape,
-        Gives::Word => shape.with_register(c, Kind::Word),
-        Gives::Own(thing) => shape.with_register(c, Kind::Own(thing, Age::Ready)),
-        Gives::Maybe(thing) => shape.with_register(c, Kind::Maybe(thing, Age::Ready)),
-        Gives::Left(class) => shape.with_entry(Entry::Object(class, Age::Ready)),
+        Gives::Nothing => lasting,
+        Gives::Word => lasting.with_kind(number, Kind::Word),
+        Gives::Own(thing) => lasting.with_kind(number, Kind::Own(thing, Age::Ready)),
+        Gives::Maybe(thing) => lasting.with_kind(number, Kind::Maybe(thing, Age::Ready)),
+        Gives::Left(class) => lasting.with_entry(Entry::Object(class, Age::Ready)),
     }
 }
 
@@ -267,14 +277,13 @@ pub(crate) fn rule_call(
     linked: &Linked,
     method: MethodNumber,
     place: usize,
-    shape: &Shape,
+    shape: &Shape<'_>,
     call: &Call,
 ) -> Result<Flow, Why>
     requires method { IsSome (method_at linked.now method) }
     requires callee { IsSome (method_at linked.now call.now.method) }
     requires place { suc place < 2 ^ 64 }
-    requires room { length shape.now.entries < 1024 }
-    ensures { result ≡ judged (rule_call linked.now method place shape.now call.now.target call.now.method call.now.first call.now.result) (flow_call linked.now method place shape.now call.now.target call.now.method call.now.first call.now.result) }
+    ensures { told shape.now.entries result ≡ judged (rule_call linked.now method place shape.now call.now.target call.now.method call.now.first call.now.result) (flow_call linked.now method place shape.now call.now.target call.now.method call.now.first call.now.result) }
 {
     let callee = linked.method(call.method);
     let arguments = callee.arguments.as_slice();
@@ -283,13 +292,13 @@ pub(crate) fn rule_call(
     let moved = shape.without_arguments(arguments, call.first);
     judge_moved(linked, method, &moved, call)?;
     let lasting = while_called(call.target, callee.class, &moved);
-    let after = brought(callee.gives, call.result, &lasting);
-    Ok(Flow::to_next(place, after))
+    let after = brought(callee.gives, call.result, lasting);
+    Ok(Flow::on(place, after))
 }
 
 /// What is asked under a trap once the arguments have moved: nothing leaves on, and the code has a register too.
 #[tactic(auto, using(crate::proofs::Views::gives_there))]
-fn judge_trapped(linked: &Linked, moved: &Shape, call: &Call) -> Result<(), Why>
+fn judge_trapped(linked: &Linked, moved: &Shape<'_>, call: &Call) -> Result<(), Why>
     requires callee { IsSome (method_at linked.now call.now.method) }
     requires code { call.now.result ≤ 14 }
     ensures { result ≡ tested ((awaits (gives_of linked.now call.now.method) (register moved.now call.now.result), RegisterKind) ∷ (is_unowning (register moved.now (suc call.now.result)), RegisterKind) ∷ []) }
@@ -307,32 +316,33 @@ fn judge_trapped(linked: &Linked, moved: &Shape, call: &Call) -> Result<(), Why>
 }
 
 /// The state after a trap, which may have left: with the code, and with the result, if there is one.
-fn caught(gives: Gives, c: Register, shape: &Shape) -> Shape
+fn caught(gives: Gives, c: Register, lasting: Next) -> Next
     requires { c ≤ 14 }
-    ensures { result ≡ caught gives c shape.now }
+    ensures { (es : List EntryData) → next_shape es result ≡ caught gives c (next_shape es lasting) }
 {
+    let number = c.number() as usize;
     let given = match gives {
-        Gives::Nothing | Gives::Left(_) => *shape,
-        Gives::Word => shape.with_register(c, Kind::Word),
+        Gives::Nothing | Gives::Left(_) => lasting,
+        Gives::Word => lasting.with_kind(number, Kind::Word),
         Gives::Own(thing) | Gives::Maybe(thing) => {
-            shape.with_register(c, Kind::Maybe(thing, Age::Ready))
+            lasting.with_kind(number, Kind::Maybe(thing, Age::Ready))
         }
     };
-    given.with_kind(c.number() as usize + 1, Kind::Word)
+    given.with_kind(number + 1, Kind::Word)
 }
 
 pub(crate) fn rule_trap(
     linked: &Linked,
     method: MethodNumber,
     place: usize,
-    shape: &Shape,
+    shape: &Shape<'_>,
     call: &Call,
 ) -> Result<Flow, Why>
     requires method { IsSome (method_at linked.now method) }
     requires callee { IsSome (method_at linked.now call.now.method) }
     requires code { call.now.result ≤ 14 }
     requires place { suc place < 2 ^ 64 }
-    ensures { result ≡ judged (rule_trap linked.now method place shape.now call.now.target call.now.method call.now.first call.now.result) (flow_trap linked.now method place shape.now call.now.target call.now.method call.now.first call.now.result) }
+    ensures { told shape.now.entries result ≡ judged (rule_trap linked.now method place shape.now call.now.target call.now.method call.now.first call.now.result) (flow_trap linked.now method place shape.now call.now.target call.now.method call.now.first call.now.result) }
 {
     if is_quiet(linked, method) {
         return Err(Why::QuietBroken);
@@ -344,8 +354,8 @@ pub(crate) fn rule_trap(
     let moved = shape.without_arguments(arguments, call.first);
     judge_trapped(linked, &moved, call)?;
     let lasting = while_called(call.target, callee.class, &moved);
-    let after = caught(callee.gives, call.result, &lasting);
-    Ok(Flow::to_next(place, after))
+    let after = caught(callee.gives, call.result, lasting);
+    Ok(Flow::on(place, after))
 }
 
 /// It is an entry of an object of that class, ready.
@@ -356,29 +366,29 @@ fn is_left(linked: &Linked, class: ClassNumber, entry: &Entry) -> bool
 }
 
 /// One entry alone is left: of an object of that class, ready.
-fn leaves_one(linked: &Linked, class: ClassNumber, entries: &[Entry]) -> bool
-    ensures { result ≡ leaves_one linked.now class entries.now }
+fn leaves_one(linked: &Linked, class: ClassNumber, shape: &Shape<'_>) -> bool
+    ensures { result ≡ leaves_one linked.now class shape.now.entries }
 {
-    match entries {
-        [] => false,
-        [last, others @ ..] => is_left(linked, class, last) && others.is_empty(),
+    match shape.entry(0) {
+        None => false,
+        Some(last) => is_left(linked, class, &last) && shape.height() == 1,
     }
 }
 
 /// No cleanup entry is left but the one that the method leaves.
 #[tactic(auto, using(crate::proofs::Views::gives_there))]
-fn entries_done(linked: &Linked, method: MethodNumber, shape: &Shape) -> bool
+fn entries_done(linked: &Linked, method: MethodNumber, shape: &Shape<'_>) -> bool
     requires { IsSome (method_at linked.now method) }
     ensures { result ≡ entries_done linked.now (gives_of linked.now method) shape.now.entries }
 {
     match linked.method(method).gives {
         Gives::Nothing | Gives::Word | Gives::Own(_) | Gives::Maybe(_) => shape.has_no_entry(),
-        Gives::Left(class) => leaves_one(linked, class, shape.entries()),
+        Gives::Left(class) => leaves_one(linked, class, shape),
     }
 }
 
 /// Whether the fields may be left as they are, by the role and the class of the method: a destructor leaves them null.
-fn done_by(linked: &Linked, role: Role, class: Option<ClassNumber>, shape: &Shape) -> bool
+fn done_by(linked: &Linked, role: Role, class: Option<ClassNumber>, shape: &Shape<'_>) -> bool
     ensures { result ≡ fields_done linked.now (is_destruct (Some role)) (holder_by (Some role) class) shape.now.fields }
 {
     match role {
@@ -392,7 +402,7 @@ fn done_by(linked: &Linked, role: Role, class: Option<ClassNumber>, shape: &Shap
 
 /// Whether the fields may be left as they are at a return.
 #[tactic(auto, using(crate::proofs::Views::holder_there, crate::proofs::Views::role_there))]
-fn fields_done(linked: &Linked, method: MethodNumber, shape: &Shape) -> bool
+fn fields_done(linked: &Linked, method: MethodNumber, shape: &Shape<'_>) -> bool
     requires { IsSome (method_at linked.now method) }
     ensures { result ≡ fields_done linked.now (is_destructor linked.now method) (holder_of linked.now method) shape.now.fields }
 {
@@ -406,13 +416,13 @@ fn judge_result(
     linked: &Linked,
     method: MethodNumber,
     place: usize,
-    shape: &Shape,
+    shape: &Shape<'_>,
     a: Register,
 ) -> Result<Flow, Why>
     requires { IsSome (method_at linked.now method) }
-    ensures { result ≡ judged (rule_result linked.now method place shape.now (gives_of linked.now method) a) [] }
+    ensures { told shape.now.entries result ≡ judged (rule_result linked.now method place shape.now (gives_of linked.now method) a) [] }
 {
-    let nowhere = Flow::none(*shape);
+    let nowhere = Flow::none();
     match linked.method(method).gives {
         Gives::Nothing | Gives::Left(_) => {
             judge(&[(a.number() == 0, Why::RegisterKind)], nowhere)
@@ -440,18 +450,18 @@ fn judge_result(
 
 /// The registers once the result has moved out.
 #[tactic(auto, using(crate::proofs::Views::gives_there))]
-fn result_moved(
+fn result_moved<'a>(
     linked: &Linked,
     method: MethodNumber,
     place: usize,
-    shape: &Shape,
+    shape: &Shape<'a>,
     a: Register,
-) -> Shape
+) -> Shape<'a>
     requires { IsSome (method_at linked.now method) }
     ensures { result ≡ result_moved linked.now method place shape.now (gives_of linked.now method) a }
 {
     match linked.method(method).gives {
-        Gives::Nothing | Gives::Word | Gives::Left(_) => *shape,
+        Gives::Nothing | Gives::Word | Gives::Left(_) => shape.same(),
         Gives::Own(_) | Gives::Maybe(_) => shape.with_register(a, Kind::Null),
     }
 }
@@ -460,11 +470,11 @@ pub(crate) fn rule_return(
     linked: &Linked,
     method: MethodNumber,
     place: usize,
-    shape: &Shape,
+    shape: &Shape<'_>,
     a: Register,
 ) -> Result<Flow, Why>
     requires { IsSome (method_at linked.now method) }
-    ensures { result ≡ judged (rule_return linked.now method place shape.now a) [] }
+    ensures { told shape.now.entries result ≡ judged (rule_return linked.now method place shape.now a) [] }
 {
     let left = result_moved(linked, method, place, shape, a);
     let needs = [
@@ -473,7 +483,7 @@ pub(crate) fn rule_return(
         (fields_done(linked, method, shape), Why::FieldsLeft),
     ];
     match judge_result(linked, method, place, shape, a) {
-        Ok(_) => judge(&needs, Flow::none(*shape)),
+        Ok(_) => judge(&needs, Flow::none()),
         Err(why) => Err(why),
     }
 }
@@ -482,10 +492,10 @@ pub(crate) fn rule_stop(
     linked: &Linked,
     method: MethodNumber,
     place: usize,
-    shape: &Shape,
+    shape: &Shape<'_>,
 ) -> Result<Flow, Why>
     requires { suc place < 2 ^ 64 }
-    ensures { result ≡ judged [] (flow_stop linked.now method place shape.now) }
+    ensures { told shape.now.entries result ≡ judged [] (flow_stop linked.now method place shape.now) }
 {
-    judge(&[], Flow::to_next(place, *shape))
+    judge(&[], Flow::to_next(place, shape))
 }

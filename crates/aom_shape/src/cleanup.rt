@@ -1,13 +1,14 @@
 //! The rules of the cleanup stack, and of leaves.
-ghost use Rattle.std.specs.Prelude.{◌≡◌, [], ◌∷◌, suc, ◌<◌, ◌^◌, IsSome, length};
+ghost use Rattle.std.specs.Prelude.{◌≡◌, [], ◌∷◌, suc, ◌<◌, ◌^◌, IsSome};
 ghost use Rattle.aom_image.specs.Views.{leaves, method_at};
 ghost use Rattle.aom_shape.specs.Cleanup.{owns_object, thing_entry, entry_of, tops_object, tops_operation, top_kind, rule_new_or_leave, flow_new_or_leave, rule_push, flow_push, rule_push_operation, flow_push_operation, rule_pop, flow_pop, rule_pop_operation, rule_pop_delete, flow_without_entry, rule_leave, flow_leave_if};
 ghost use Rattle.aom_shape.specs.Kinds.{none_owns};
+ghost use Rattle.aom_shape.specs.Changes.{told};
 ghost use Rattle.aom_shape.specs.Needs.{judged};
 ghost use Rattle.aom_shape.specs.declared.why.Why.TheVariants.{OwnedAtLeave, LeaveNotAllowed};
 
 use crate::calls::leaves;
-use crate::flow::judge;
+use crate::flow::{Next, judge};
 use crate::objects::{is_quiet, new_age};
 use crate::things::is_object;
 use crate::{Age, Entry, Flow, Kind, Shape, Why};
@@ -44,37 +45,37 @@ fn entry_of(kind: Kind) -> Entry
 }
 
 /// The last entry is that of an object.
-fn tops_object(entries: &[Entry]) -> bool
-    ensures { result ≡ tops_object entries.now }
+fn tops_object(shape: &Shape<'_>) -> bool
+    ensures { result ≡ tops_object shape.now.entries }
 {
-    match entries {
-        [] => false,
-        [last, ..] => last.is_object(),
+    match shape.entry(0) {
+        None => false,
+        Some(last) => last.is_object(),
     }
 }
 
 /// The last entry is that of an operation.
-fn tops_operation(entries: &[Entry]) -> bool
-    ensures { result ≡ tops_operation entries.now }
+fn tops_operation(shape: &Shape<'_>) -> bool
+    ensures { result ≡ tops_operation shape.now.entries }
 {
-    match entries {
-        [] => false,
-        [last, ..] => !last.is_object(),
+    match shape.entry(0) {
+        None => false,
+        Some(last) => !last.is_object(),
     }
 }
 
 /// What the last entry owns.
-fn top_kind(entries: &[Entry]) -> Kind
-    ensures { result ≡ top_kind entries.now }
+fn top_kind(shape: &Shape<'_>) -> Kind
+    ensures { result ≡ top_kind shape.now.entries }
 {
-    match entries {
-        [] => Kind::Null,
-        [last, ..] => last.kind(),
+    match shape.entry(0) {
+        None => Kind::Null,
+        Some(last) => last.kind(),
     }
 }
 
 /// What is asked where a method may leave in that state: it is one that may, and no register owns.
-fn leave_point(linked: &Linked, method: MethodNumber, left: &Shape) -> [(bool, Why); 2]
+fn leave_point(linked: &Linked, method: MethodNumber, left: &Shape<'_>) -> [(bool, Why); 2]
     requires { IsSome (method_at linked.now method) }
     ensures { result ≡ (leaves linked.now method, LeaveNotAllowed) ∷ (none_owns left.now.registers, OwnedAtLeave) ∷ [] }
 {
@@ -88,13 +89,13 @@ pub(crate) fn rule_new_or_leave(
     linked: &Linked,
     method: MethodNumber,
     place: usize,
-    shape: &Shape,
+    shape: &Shape<'_>,
     a: Register,
     class: ClassNumber,
 ) -> Result<Flow, Why>
     requires method { IsSome (method_at linked.now method) }
     requires place { suc place < 2 ^ 64 }
-    ensures { result ≡ judged (rule_new_or_leave linked.now method place shape.now a) (flow_new_or_leave linked.now method place shape.now a class) }
+    ensures { told shape.now.entries result ≡ judged (rule_new_or_leave linked.now method place shape.now a) (flow_new_or_leave linked.now method place shape.now a class) }
 {
     let [may_leave, unowned] = leave_point(linked, method, shape);
     let needs = [
@@ -104,7 +105,7 @@ pub(crate) fn rule_new_or_leave(
         unowned,
     ];
     let made = Kind::Own(Thing::Object(class), new_age(linked, class));
-    judge(&needs, Flow::to_next(place, shape.with_register(a, made)))
+    judge(&needs, Flow::to_next(place, &shape.with_register(a, made)))
 }
 
 /// The object is on the cleanup stack before the push may leave.
@@ -112,13 +113,12 @@ pub(crate) fn rule_push(
     linked: &Linked,
     method: MethodNumber,
     place: usize,
-    shape: &Shape,
+    shape: &Shape<'_>,
     a: Register,
 ) -> Result<Flow, Why>
     requires method { IsSome (method_at linked.now method) }
     requires place { suc place < 2 ^ 64 }
-    requires room { length shape.now.entries < 1024 }
-    ensures { result ≡ judged (rule_push linked.now method place shape.now a) (flow_push linked.now method place shape.now a) }
+    ensures { told shape.now.entries result ≡ judged (rule_push linked.now method place shape.now a) (flow_push linked.now method place shape.now a) }
 {
     let moved = shape.with_register(a, Kind::Null);
     let [may_leave, unowned] = leave_point(linked, method, &moved);
@@ -127,21 +127,20 @@ pub(crate) fn rule_push(
         may_leave,
         unowned,
     ];
-    let pushed = moved.with_entry(entry_of(shape.register(a)));
-    judge(&needs, Flow::to_next(place, pushed))
+    let pushed = Next::of(&moved).with_entry(entry_of(shape.register(a)));
+    judge(&needs, Flow::on(place, pushed))
 }
 
 pub(crate) fn rule_push_operation(
     linked: &Linked,
     method: MethodNumber,
     place: usize,
-    shape: &Shape,
+    shape: &Shape<'_>,
     a: Register,
 ) -> Result<Flow, Why>
     requires method { IsSome (method_at linked.now method) }
     requires place { suc place < 2 ^ 64 }
-    requires room { length shape.now.entries < 1024 }
-    ensures { result ≡ judged (rule_push_operation linked.now method place shape.now a) (flow_push_operation linked.now method place shape.now) }
+    ensures { told shape.now.entries result ≡ judged (rule_push_operation linked.now method place shape.now a) (flow_push_operation linked.now method place shape.now) }
 {
     let [may_leave, unowned] = leave_point(linked, method, shape);
     let needs = [
@@ -149,46 +148,44 @@ pub(crate) fn rule_push_operation(
         may_leave,
         unowned,
     ];
-    judge(
-        &needs,
-        Flow::to_next(place, shape.with_entry(Entry::Operation)),
-    )
+    let pushed = Next::of(shape).with_entry(Entry::Operation);
+    judge(&needs, Flow::on(place, pushed))
 }
 
 pub(crate) fn rule_pop(
     linked: &Linked,
     method: MethodNumber,
     place: usize,
-    shape: &Shape,
+    shape: &Shape<'_>,
     a: Register,
 ) -> Result<Flow, Why>
     requires { suc place < 2 ^ 64 }
-    ensures { result ≡ judged (rule_pop linked.now method place shape.now a) (flow_pop linked.now method place shape.now a) }
+    ensures { told shape.now.entries result ≡ judged (rule_pop linked.now method place shape.now a) (flow_pop linked.now method place shape.now a) }
 {
     let needs = [
         (shape.register(a).is_unowning(), Why::RegisterKind),
         (!shape.has_no_entry(), Why::PopEmpty),
-        (tops_object(shape.entries()), Why::RegisterKind),
+        (tops_object(shape), Why::RegisterKind),
     ];
-    let popped = top_kind(shape.entries());
-    let next = shape.without_entry().with_register(a, popped);
-    judge(&needs, Flow::to_next(place, next))
+    let popped = top_kind(shape);
+    let next = Next::of(&shape.with_register(a, popped)).without_entry();
+    judge(&needs, Flow::on(place, next))
 }
 
 pub(crate) fn rule_pop_operation(
     linked: &Linked,
     method: MethodNumber,
     place: usize,
-    shape: &Shape,
+    shape: &Shape<'_>,
 ) -> Result<Flow, Why>
     requires { suc place < 2 ^ 64 }
-    ensures { result ≡ judged (rule_pop_operation linked.now method place shape.now) (flow_without_entry linked.now method place shape.now) }
+    ensures { told shape.now.entries result ≡ judged (rule_pop_operation linked.now method place shape.now) (flow_without_entry linked.now method place shape.now) }
 {
     let needs = [
         (!shape.has_no_entry(), Why::PopEmpty),
-        (tops_operation(shape.entries()), Why::RegisterKind),
+        (tops_operation(shape), Why::RegisterKind),
     ];
-    judge(&needs, Flow::to_next(place, shape.without_entry()))
+    judge(&needs, Flow::on(place, Next::of(shape).without_entry()))
 }
 
 /// An object is destroyed, and an operation is run.
@@ -196,24 +193,24 @@ pub(crate) fn rule_pop_delete(
     linked: &Linked,
     method: MethodNumber,
     place: usize,
-    shape: &Shape,
+    shape: &Shape<'_>,
 ) -> Result<Flow, Why>
     requires { suc place < 2 ^ 64 }
-    ensures { result ≡ judged (rule_pop_delete linked.now method place shape.now) (flow_without_entry linked.now method place shape.now) }
+    ensures { told shape.now.entries result ≡ judged (rule_pop_delete linked.now method place shape.now) (flow_without_entry linked.now method place shape.now) }
 {
     let needs = [(!shape.has_no_entry(), Why::PopEmpty)];
-    judge(&needs, Flow::to_next(place, shape.without_entry()))
+    judge(&needs, Flow::on(place, Next::of(shape).without_entry()))
 }
 
 pub(crate) fn rule_leave(
     linked: &Linked,
     method: MethodNumber,
     place: usize,
-    shape: &Shape,
+    shape: &Shape<'_>,
     a: Register,
 ) -> Result<Flow, Why>
     requires { IsSome (method_at linked.now method) }
-    ensures { result ≡ judged (rule_leave linked.now method place shape.now a) [] }
+    ensures { told shape.now.entries result ≡ judged (rule_leave linked.now method place shape.now a) [] }
 {
     let [may_leave, unowned] = leave_point(linked, method, shape);
     let needs = [
@@ -221,7 +218,7 @@ pub(crate) fn rule_leave(
         may_leave,
         unowned,
     ];
-    judge(&needs, Flow::none(*shape))
+    judge(&needs, Flow::none())
 }
 
 /// It leaves where the word is negative.
@@ -229,13 +226,13 @@ pub(crate) fn rule_leave_if(
     linked: &Linked,
     method: MethodNumber,
     place: usize,
-    shape: &Shape,
+    shape: &Shape<'_>,
     a: Register,
 ) -> Result<Flow, Why>
     requires method { IsSome (method_at linked.now method) }
     requires place { suc place < 2 ^ 64 }
-    ensures { result ≡ judged (rule_leave linked.now method place shape.now a) (flow_leave_if linked.now method place shape.now) }
+    ensures { told shape.now.entries result ≡ judged (rule_leave linked.now method place shape.now a) (flow_leave_if linked.now method place shape.now) }
 {
     rule_leave(linked, method, place, shape, a)?;
-    Ok(Flow::to_next(place, *shape))
+    Ok(Flow::to_next(place, shape))
 }

@@ -1,68 +1,187 @@
 //! Where a run may go on.
-ghost use Rattle.std.specs.Prelude.{◌≡◌, [], ◌∷◌, suc, ◌<◌, ◌^◌};
+ghost use Rattle.std.specs.Prelude.{◌≡◌, List, None, [], ◌∷◌, suc, ◌<◌, ◌^◌};
+ghost use Rattle.aom_shape.specs.Calls.{readied_at};
+ghost use Rattle.aom_shape.specs.Changes.{known_with, next_shape, told, ways_from};
+ghost use Rattle.aom_shape.specs.Cleanup.{with_entry, without_entry};
+ghost use Rattle.aom_shape.specs.Kinds.{set_register};
 ghost use Rattle.aom_shape.specs.Needs.{judged, only_if, tested, to_next};
+ghost use Rattle.aom_shape.specs.declared.flow.Last.TheVariants.{Same};
+ghost use Rattle.aom_shape.specs.declared.kind.Entry.{Entry as EntryData};
 
-use crate::{Shape, Why};
-use std::marker::Model;
+use crate::{Entry, Kind, Known, Shape, Why};
+use aom_image::EntryDepth;
 
-/// Where a run may go on, and what is known there: at most two places, the lower one first.
-#[derive(Drop)]
+/// What becomes of the last cleanup entry.
+#[derive(Clone, Copy)]
+pub enum Last {
+    Same,
+    /// One more comes on top.
+    More(Entry),
+    Fewer,
+}
+
+/// What becomes of the cleanup entries: that of a number is readied, and then the last one changes.
+#[derive(Clone, Copy)]
+pub struct Change {
+    pub readied: Option<EntryDepth>,
+    pub last: Last,
+}
+
+/// What is known after an instruction.
+#[derive(Clone, Copy)]
+pub(crate) struct Next {
+    pub(crate) known: Known,
+    pub(crate) change: Change,
+}
+
+/// A place where a run may go on, and what is known there of registers and fields.
+#[derive(Clone, Copy)]
+pub struct Way {
+    pub to: usize,
+    pub known: Known,
+}
+
+/// Where a run may go on, the lower place first. The cleanup entries are the same at both.
+#[derive(Clone, Copy)]
 pub struct Flow {
-    ways: [(usize, Shape); 2],
-    count: usize,
+    pub first: Option<Way>,
+    pub second: Option<Way>,
+    pub change: Change,
 }
 
-impl Model for Flow {
-    ghost use Rattle.std.specs.Prelude.{List, take, ◌≤◌};
-    ghost use Rattle.aom_shape.specs.Needs.{Flow as Way};
-
-    ghost Value = { List Way };
-
-    ghost view = { λ f. take f.count f.ways };
-
-    ghost invariant = { λ f. f.count ≤ 2 };
-}
-
-impl Flow {
-    pub fn as_slice(&self) -> &[(usize, Shape)]
-        ensures { result.now ≡ self.now }
+impl Change {
+    fn none() -> Change
+        ensures { result ≡ record { readied = None; last = Same } }
     {
-        &self.ways[..self.count]
+        Change {
+            readied: None,
+            last: Last::Same,
+        }
     }
+}
 
-    /// Nowhere.
-    pub(crate) fn none(shape: Shape) -> Flow
-        ensures { result ≡ [] }
+impl Next {
+    pub(crate) fn of(shape: &Shape<'_>) -> Next
+        ensures value { next_shape shape.now.entries result ≡ shape.now }
+        ensures same { result.change ≡ record { readied = None; last = Same } }
     {
-        Flow {
-            ways: [(0, shape), (0, shape)],
-            count: 0,
+        Next {
+            known: shape.known(),
+            change: Change::none(),
         }
     }
 
-    pub(crate) fn to(place: usize, shape: Shape) -> Flow
-        ensures { result ≡ (place, shape) ∷ [] }
+    /// The same, and the object of the cleanup entry of that number is ready.
+    pub(crate) fn with_readied_entry(mut self, number: EntryDepth) -> Next
+        requires { self.change.last ≡ Same }
+        ensures value { (es : List EntryData) → next_shape es result ≡ known_with self.known (readied_at es number) }
+        ensures same { result.change.last ≡ Same }
+    {
+        self.change.readied = Some(number);
+        self
+    }
+
+    /// The same with one more cleanup entry.
+    pub(crate) fn with_entry(mut self, entry: Entry) -> Next
+        requires { self.change.last ≡ Same }
+        ensures { (es : List EntryData) → next_shape es result ≡ with_entry entry (next_shape es self) }
+    {
+        self.change.last = Last::More(entry);
+        self
+    }
+
+    /// The same without the last cleanup entry, if there is one.
+    pub(crate) fn without_entry(mut self) -> Next
+        requires { self.change.last ≡ Same }
+        ensures { (es : List EntryData) → next_shape es result ≡ without_entry (next_shape es self) }
+    {
+        self.change.last = Last::Fewer;
+        self
+    }
+
+    /// The same with another kind in the register of that number.
+    pub(crate) fn with_kind(mut self, index: usize, kind: Kind) -> Next
+        requires { index < 16 }
+        ensures value { (es : List EntryData) → next_shape es result ≡ set_register (next_shape es self) index kind }
+        ensures same { result.change ≡ self.change }
+    {
+        self.known = self.known.with_kind(index, kind);
+        self
+    }
+}
+
+impl Flow {
+    /// Nowhere.
+    pub(crate) fn none() -> Flow
+        ensures { (es : List EntryData) → ways_from es result ≡ [] }
     {
         Flow {
-            ways: [(place, shape), (place, shape)],
-            count: 1,
+            first: None,
+            second: None,
+            change: Change::none(),
+        }
+    }
+
+    pub(crate) fn to(place: usize, shape: &Shape<'_>) -> Flow
+        ensures { ways_from shape.now.entries result ≡ (place, shape.now) ∷ [] }
+    {
+        let way = Way {
+            to: place,
+            known: shape.known(),
+        };
+        Flow {
+            first: Some(way),
+            second: None,
+            change: Change::none(),
         }
     }
 
     /// To the place after that one.
-    pub(crate) fn to_next(place: usize, shape: Shape) -> Flow
+    pub(crate) fn to_next(place: usize, shape: &Shape<'_>) -> Flow
         requires { suc place < 2 ^ 64 }
-        ensures { result ≡ to_next place shape }
+        ensures { ways_from shape.now.entries result ≡ to_next place shape.now }
     {
         Flow::to(place + 1, shape)
     }
 
-    pub(crate) fn to_either(first: usize, there: Shape, second: usize, here: Shape) -> Flow
-        ensures { result ≡ (first, there) ∷ (second, here) ∷ [] }
+    /// To the place after that one, with that known.
+    pub(crate) fn on(place: usize, next: Next) -> Flow
+        requires { suc place < 2 ^ 64 }
+        ensures { (es : List EntryData) → ways_from es result ≡ to_next place (next_shape es next) }
     {
+        let way = Way {
+            to: place + 1,
+            known: next.known,
+        };
         Flow {
-            ways: [(first, there), (second, here)],
-            count: 2,
+            first: Some(way),
+            second: None,
+            change: next.change,
+        }
+    }
+
+    /// To two places, with the same cleanup entries.
+    pub(crate) fn to_either<'a>(
+        first: usize,
+        there: &Shape<'a>,
+        second: usize,
+        here: &Shape<'a>,
+    ) -> Flow
+        requires { here.now.entries ≡ there.now.entries }
+        ensures { ways_from there.now.entries result ≡ (first, there.now) ∷ (second, here.now) ∷ [] }
+    {
+        let first = Way {
+            to: first,
+            known: there.known(),
+        };
+        let second = Way {
+            to: second,
+            known: here.known(),
+        };
+        Flow {
+            first: Some(first),
+            second: Some(second),
+            change: Change::none(),
         }
     }
 }
@@ -88,7 +207,7 @@ pub(crate) fn judge_all(needs: &[(bool, Why)]) -> Result<(), Why>
 
 /// The first need that is not met, or the flow.
 pub(crate) fn judge(needs: &[(bool, Why)], flow: Flow) -> Result<Flow, Why>
-    ensures { result ≡ judged needs.now flow }
+    ensures { (es : List EntryData) → told es result ≡ judged needs.now (ways_from es flow) }
 {
     judge_all(needs)?;
     Ok(flow)

@@ -8,22 +8,25 @@
 
 mod calls;
 mod cleanup;
-mod entries;
 mod flow;
 mod kind;
+mod known;
 mod laws;
 mod objects;
 mod order;
+mod piles;
 mod rules;
 mod shape;
 mod things;
 mod why;
 mod words;
 
-pub use flow::Flow;
+pub use flow::{Change, Flow, Last, Way};
 pub use kind::{Age, Entry, Filling, Kind};
+pub use known::Known;
 pub use laws::{order_is_one, rules_are_monotone};
 pub use order::{meet, weaker};
+pub use piles::{Pile, Piles};
 pub use rules::rule;
-pub use shape::Shape;
+pub use shape::{Kept, Shape};
 pub use why::Why;

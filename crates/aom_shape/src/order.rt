@@ -1,10 +1,12 @@
 //! The order between abstract states.
-ghost use Rattle.std.specs.Prelude.{◌≡◌, ◌↔◌, IsTrue, IfOk, IfErr, IfSome, None};
+ghost use Rattle.std.specs.Prelude.{◌≡◌, ◌↔◌, List, IsTrue, IfOk, IfErr, IfSome, None};
+ghost use Rattle.aom_shape.specs.Changes.{known_with};
 ghost use Rattle.aom_shape.specs.Meet.{Met, Unmet, MetFillings, IsMeet, NoMeet, WhyNoMeet};
 ghost use Rattle.aom_shape.specs.Order.{SaysNoMore};
 ghost use Rattle.aom_shape.specs.Tests.{all_no_more, all_no_more_fillings};
+ghost use Rattle.aom_shape.specs.declared.kind.Entry.{Entry};
 
-use crate::{Filling, Kind, Shape, Why};
+use crate::{Filling, Kind, Known, Shape, Why};
 
 fn kinds_say_no_more(a: &[Kind], b: &[Kind]) -> bool
     ensures { result ≡ all_no_more a.now b.now }
@@ -28,14 +30,20 @@ fn fillings_say_no_more(a: &[Filling], b: &[Filling]) -> bool
     true
 }
 
+fn known_says_no_more(a: &Known, b: &Known) -> bool
+    ensures { (xs ys : List Entry) → xs ≡ ys → IsTrue result ↔ SaysNoMore (known_with a.now xs) (known_with b.now ys) }
+{
+    kinds_say_no_more(&a.registers, &b.registers) && fillings_say_no_more(&a.fields, &b.fields)
+}
+
 /// Whether the first state says no more than the second.
-pub fn weaker(a: &Shape, b: &Shape) -> bool
+pub fn weaker(a: &Shape<'_>, b: &Shape<'_>) -> bool
     ensures { IsTrue result ↔ SaysNoMore a.now b.now }
 {
-    if !a.entries.are_same(&b.entries) {
+    if !a.has_same_entries(b) {
         return false;
     }
-    kinds_say_no_more(&a.registers, &b.registers) && fillings_say_no_more(&a.fields, &b.fields)
+    known_says_no_more(&a.known, &b.known)
 }
 
 fn meet_kinds(a: &[Kind; 16], b: &[Kind; 16]) -> Option<[Kind; 16]>
@@ -59,21 +67,28 @@ fn meet_fillings(a: &[Filling; 8], b: &[Filling; 8]) -> [Filling; 8]
     fillings
 }
 
+/// The meet of what is known of registers and fields, if there is one.
+fn meet_known(a: &Known, b: &Known) -> Option<Known>
+    ensures some { IfSome result (λ m. (xs ys : List Entry) → xs ≡ ys → IsMeet (known_with m xs) (known_with a.now xs) (known_with b.now ys)) }
+    ensures met { IfSome result (λ m. ¬ Unmet a.now.registers b.now.registers) }
+    ensures none { result ≡ None → Unmet a.now.registers b.now.registers }
+{
+    let registers = meet_kinds(&a.registers, &b.registers)?;
+    let fields = meet_fillings(&a.fields, &b.fields);
+    Some(Known { registers, fields })
+}
+
 /// The strongest state that says no more than either. A Why where nothing says no more than both: `RegisterKind` where
 /// two registers have nothing in common, and else `CleanupAtReturn`, where the cleanup entries differ.
-pub fn meet(a: &Shape, b: &Shape) -> Result<Shape, Why>
+pub fn meet<'a>(a: &Shape<'a>, b: &Shape<'_>) -> Result<Shape<'a>, Why>
     ensures ok { IfOk result (λ m. IsMeet m a.now b.now) }
     ensures err { IfErr result (λ why. NoMeet a.now b.now × WhyNoMeet a.now b.now why) }
 {
-    let Some(registers) = meet_kinds(&a.registers, &b.registers) else {
+    let Some(known) = meet_known(&a.known, &b.known) else {
         return Err(Why::RegisterKind);
     };
-    if !a.entries.are_same(&b.entries) {
+    if !a.has_same_entries(b) {
         return Err(Why::CleanupAtReturn);
     }
-    Ok(Shape {
-        registers,
-        fields: meet_fillings(&a.fields, &b.fields),
-        entries: a.entries,
-    })
+    Ok(a.with_known(known))
 }

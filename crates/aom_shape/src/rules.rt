@@ -2,6 +2,7 @@
 ghost use Rattle.std.specs.Prelude.{◌≡◌, suc, ◌<◌, ◌^◌, IsSome, IfSome, Some, length};
 ghost use Rattle.aom_image.specs.Views.{instr_at, method_at};
 ghost use Rattle.aom_shape.specs.Calls.{HasCallee, HasCodeRegister};
+ghost use Rattle.aom_shape.specs.Changes.{told};
 ghost use Rattle.aom_shape.specs.Rules.{rule};
 
 use crate::calls::Call;
@@ -24,10 +25,15 @@ fn instr_at(linked: &Linked, method: MethodNumber, place: usize) -> Instr
 
 /// What the instruction at that place asks of the abstract state, and where a run may go on from there: the first need
 /// that is not met, or each place with what is known there. There is room for one more cleanup entry.
-pub fn rule(linked: &Linked, method: MethodNumber, place: usize, shape: &Shape) -> Result<Flow, Why>
+pub fn rule(
+    linked: &Linked,
+    method: MethodNumber,
+    place: usize,
+    shape: &Shape<'_>,
+) -> Result<Flow, Why>
     requires instr { IsSome (instr_at linked.now method place) }
     requires room { length shape.now.entries < 1024 }
-    ensures { IfSome (instr_at linked.now method place) (λ i. result ≡ rule linked.now method place shape.now i) }
+    ensures { IfSome (instr_at linked.now method place) (λ i. told shape.now.entries result ≡ rule linked.now method place shape.now i) }
 {
     match instr_at(linked, method, place) {
         Instr::Const(a, _) => words::rule_const(place, shape, a),

@@ -1,6 +1,9 @@
 //! Examples of the order and of meets.
 use aom_image::{ClassNumber, FieldIndex, Register, Thing};
-use aom_shape::{Age, Entry, Filling, Kind, Shape, Why, meet, weaker};
+use aom_shape::{
+    Age, Change, Entry, Filling, Kept, Kind, Known, Last, Pile, Piles, Shape, Why, meet, weaker,
+};
+use std::alloc::AllocError;
 use std::test::Fail;
 
 fn own(class: u16) -> Kind {
@@ -10,8 +13,13 @@ fn own(class: u16) -> Kind {
     }
 }
 
-fn with(number: Register, kind: Kind) -> Shape {
-    Shape::unset().with_register(number, kind)
+/// A state with that known, and no cleanup entry.
+fn with<'a>(piles: &'a Piles, number: Register, kind: Kind) -> Shape<'a> {
+    let kept = Kept {
+        known: Known::unset(),
+        pile: Pile::none(),
+    };
+    kept.shape(piles).with_register(number, kind)
 }
 
 #[test]
@@ -19,13 +27,17 @@ fn own_and_null_meet_in_maybe(rt: HostRuntime) -> Result<(), Fail> {
     let Some(third) = Register::new(3) else {
         return Err(Fail::from("no register"));
     };
-    let Ok(met) = meet(&with(third, own(7)), &with(third, Kind::Null)) else {
+    let piles = Piles::new(rt.alloc());
+    let Ok(met) = meet(
+        &with(&piles, third, own(7)),
+        &with(&piles, third, Kind::Null),
+    ) else {
         return Err(Fail::from("no meet"));
     };
     assert!(rt; matches!(met.register(third), Kind::Maybe(_, Age::Ready)));
-    assert!(rt; weaker(&met, &with(third, own(7))));
-    assert!(rt; weaker(&met, &with(third, Kind::Null)));
-    assert!(rt; !weaker(&with(third, own(7)), &met));
+    assert!(rt; weaker(&met, &with(&piles, third, own(7))));
+    assert!(rt; weaker(&met, &with(&piles, third, Kind::Null)));
+    assert!(rt; !weaker(&with(&piles, third, own(7)), &met));
     Ok(())
 }
 
@@ -34,7 +46,8 @@ fn owns_of_two_classes_do_not_meet(rt: HostRuntime) -> Result<(), Fail> {
     let Some(third) = Register::new(3) else {
         return Err(Fail::from("no register"));
     };
-    let Err(why) = meet(&with(third, own(7)), &with(third, own(8))) else {
+    let piles = Piles::new(rt.alloc());
+    let Err(why) = meet(&with(&piles, third, own(7)), &with(&piles, third, own(8))) else {
         return Err(Fail::from("a meet"));
     };
     assert!(rt; why == Why::RegisterKind);
@@ -42,22 +55,35 @@ fn owns_of_two_classes_do_not_meet(rt: HostRuntime) -> Result<(), Fail> {
 }
 
 /// A state with one cleanup entry, of a ready object of that class.
-fn stacked(class: u16) -> Shape {
-    match ClassNumber::new(class) {
-        Some(class) => Shape::unset().with_entry(Entry::Object(class, Age::Ready)),
-        None => Shape::unset(),
-    }
+fn stacked(piles: &mut Piles, class: u16) -> Result<Kept, AllocError> {
+    let last = match ClassNumber::new(class) {
+        Some(class) => Last::More(Entry::Object(class, Age::Ready)),
+        None => Last::Same,
+    };
+    let change = Change {
+        readied: None,
+        last,
+    };
+    Ok(Kept {
+        known: Known::unset(),
+        pile: piles.changed(Pile::none(), change)?,
+    })
 }
 
 #[test]
 fn entries_of_two_classes_do_not_meet(rt: HostRuntime) -> Result<(), Fail> {
-    let Err(why) = meet(&stacked(7), &stacked(8)) else {
+    let mut piles = Piles::new(rt.alloc());
+    let seventh = stacked(&mut piles, 7)?;
+    let eighth = stacked(&mut piles, 8)?;
+    let again = stacked(&mut piles, 7)?;
+    let shape = seventh.shape(&piles);
+    let Err(why) = meet(&shape, &eighth.shape(&piles)) else {
         return Err(Fail::from("a meet"));
     };
     assert!(rt; why == Why::CleanupAtReturn);
-    assert!(rt; !weaker(&stacked(7), &stacked(8)));
-    assert!(rt; !weaker(&stacked(7), &Shape::unset()));
-    assert!(rt; weaker(&stacked(7), &stacked(7)));
+    assert!(rt; !weaker(&shape, &eighth.shape(&piles)));
+    assert!(rt; weaker(&shape, &again.shape(&piles)));
+    assert_eq!(rt; shape.height(), 1);
     Ok(())
 }
 
@@ -66,8 +92,11 @@ fn registers_come_before_entries_in_a_meet(rt: HostRuntime) -> Result<(), Fail> 
     let Some(third) = Register::new(3) else {
         return Err(Fail::from("no register"));
     };
-    let first = stacked(7).with_register(third, own(7));
-    let second = stacked(8).with_register(third, own(8));
+    let mut piles = Piles::new(rt.alloc());
+    let seventh = stacked(&mut piles, 7)?;
+    let eighth = stacked(&mut piles, 8)?;
+    let first = seventh.shape(&piles).with_register(third, own(7));
+    let second = eighth.shape(&piles).with_register(third, own(8));
     let Err(why) = meet(&first, &second) else {
         return Err(Fail::from("a meet"));
     };
@@ -80,18 +109,26 @@ fn the_last_entry_comes_first(rt: HostRuntime) -> Result<(), Fail> {
     let Some(class) = ClassNumber::new(7) else {
         return Err(Fail::from("no class"));
     };
-    let shape = Shape::unset()
-        .with_entry(Entry::Object(class, Age::Ready))
-        .with_entry(Entry::Operation);
-    let [last, first] = shape.entries() else {
-        return Err(Fail::from("not two entries"));
+    let mut piles = Piles::new(rt.alloc());
+    let object = Change {
+        readied: None,
+        last: Last::More(Entry::Object(class, Age::Fresh)),
     };
-    assert!(rt; matches!(last, Entry::Operation));
-    assert!(rt; matches!(first, Entry::Object(_, Age::Ready)));
-    let Ok(met) = meet(&shape, &shape) else {
-        return Err(Fail::from("no meet"));
+    let operation = Change {
+        readied: None,
+        last: Last::More(Entry::Operation),
     };
-    assert_eq!(rt; met.entries().len(), 2);
+    let first = piles.changed(Pile::none(), object)?;
+    let both = piles.changed(first, operation)?;
+    let kept = Kept {
+        known: Known::unset(),
+        pile: both,
+    };
+    let shape = kept.shape(&piles);
+    assert_eq!(rt; shape.height(), 2);
+    assert!(rt; matches!(shape.entry(0), Some(Entry::Operation)));
+    assert!(rt; matches!(shape.entry(1), Some(Entry::Object(_, Age::Fresh))));
+    assert!(rt; shape.entry(2).is_none());
     Ok(())
 }
 
@@ -100,8 +137,13 @@ fn fields_that_differ_meet_in_perhaps(rt: HostRuntime) -> Result<(), Fail> {
     let Some(field) = FieldIndex::new(2) else {
         return Err(Fail::from("no field"));
     };
-    let empty = Shape::unset().with_field(field, Filling::Empty);
-    let full = Shape::unset().with_field(field, Filling::Full);
+    let piles = Piles::new(rt.alloc());
+    let kept = Kept {
+        known: Known::unset(),
+        pile: Pile::none(),
+    };
+    let empty = kept.shape(&piles).with_field(field, Filling::Empty);
+    let full = kept.shape(&piles).with_field(field, Filling::Full);
     let Ok(met) = meet(&empty, &full) else {
         return Err(Fail::from("no meet"));
     };

@@ -24,7 +24,8 @@ use Rattle.aom_sound.proofs.Straight.{claim_register, fits_unowning}
 use Rattle.aom_sound.specs.Calls.{called, result_register}
 use Rattle.aom_sound.specs.Claims.{Dispatching, Dying, Form, Layer, Mark, Mark_form, Method, Unwinding, declared, entry_form, forms, items_of, objects, tasks_of}
 use Rattle.aom_sound.specs.Cleanup.{arrival, arrived, code_told, destroyed, has_trap, is_negative, leave_needs, no_memory, operation_frame, to_trap, unwound}
-use Rattle.aom_sound.specs.Destruction.{begun_by, destructor_of}
+use Rattle.aom_classes.specs.Roles.{destructor_of}
+use Rattle.aom_sound.specs.Destruction.{begun_by}
 use Rattle.aom_sound.specs.Laws.{IsWired}
 use Rattle.aom_sound.specs.Leaves.{AreEntries, AreMethods, Arrives, ArrivesAt, Begins, HasMoved, HasNoResult, HasPushed, Hears, IsBegun, IsDestroyed, IsLeaving, IsOver, LeavesWith}
 use Rattle.aom_sound.specs.Moves.{announcement, counted, does, main_left, needs, step, step_instr, step_task, written_task}

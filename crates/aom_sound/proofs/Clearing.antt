@@ -25,7 +25,8 @@ use Rattle.aom_sound.proofs.Preserving.{receives}
 use Rattle.aom_sound.specs.Calls.{result_register, returned}
 use Rattle.aom_sound.specs.Claims.{Form, Layer, Method, forms, items_of, objects, tasks_of}
 use Rattle.aom_sound.specs.Cleanup.{has_trap}
-use Rattle.aom_sound.specs.Destruction.{begun, begun_by, destructor_of}
+use Rattle.aom_classes.specs.Roles.{destructor_of}
+use Rattle.aom_sound.specs.Destruction.{begun, begun_by}
 use Rattle.aom_sound.specs.Effects.{Calls, Counts, Destroys, Destroys_last, Effect, Goes_on, Jumps, Leaves, Operates, Popped, Popped_operation, Pushed, Pushed_operation, Repeats, Returns, Sets_trap, Update, applied, items_after, with_words}
 use Rattle.aom_sound.specs.Laws.{IsWired}
 use Rattle.aom_sound.specs.Leaves.{IsLeaving, IsOver}

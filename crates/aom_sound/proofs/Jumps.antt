@@ -88,11 +88,11 @@ module _ (p : Image) (t : Typing) (c : Choice) (s : State) (fr : Frame) (sh : Sh
   holds_something None o some f = cc
   holds_something (Some x) o some f = f
 
-  not_empty : (x : Option Thing) (o : Object) → Fits p (held s.cells) (Some o) (filled x Empty) → ⊥
+  pub not_empty : (x : Option Thing) (o : Object) → Fits p (held s.cells) (Some o) (filled x Empty) → ⊥
   not_empty None o f = f
   not_empty (Some x) o f = f
 
-  not_full : (x : Option Thing) → is_some x ≡ true → Fits p (held s.cells) None (filled x Full) → ⊥
+  pub not_full : (x : Option Thing) → is_some x ≡ true → Fits p (held s.cells) None (filled x Full) → ⊥
   not_full None some f = cc
   not_full (Some x) some f = f
 

@@ -6,6 +6,7 @@ pub mod Guarded
 pub mod Moving
 pub mod Preserving
 pub mod Resting
+pub mod Counting
 pub mod Straight
 pub mod Jumps
 pub mod Storing
@@ -31,7 +32,6 @@ pub mod Booting
 pub mod Owners
 pub mod Soundness
 pub mod Wiring
-pub mod Bodies
 pub mod Looping
 pub mod Quiet
 pub mod InRange

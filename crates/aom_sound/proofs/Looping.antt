@@ -5,15 +5,16 @@ use Rattle.aom_image.specs.Image.{Image}
 use Rattle.aom_image.specs.Views.{instr_at}
 use Rattle.aom_image.specs.declared.instr.Instr.{Instr}
 use Rattle.aom_image.specs.declared.instr.Instr.TheVariants.{Loop, Next}
+use Rattle.aom_classes.proofs.Bodies.{linked_is_looped}
+use Rattle.aom_classes.specs.Bodies.{Body, IsIn, IsLooped}
 use Rattle.aom_classes.specs.Jumps.{jump_of}
 use Rattle.aom_classes.specs.Loops.{loop_in}
 use Rattle.aom_classes.specs.Roles.{main_of}
-use Rattle.aom_sound.proofs.Bodies.{linked_is_looped}
 use Rattle.aom_sound.proofs.Maps.{at-put_at}
 use Rattle.aom_sound.proofs.Preserving.{Acting, Kept, keeps}
 use Rattle.aom_sound.specs.Calls.{entered}
 use Rattle.aom_sound.specs.Cleanup.{operation_frame}
-use Rattle.aom_sound.specs.Loops.{Body, IsIn, IsLooped, LoopsKeep, RoundsAt, RoundsLeft, rounds_left}
+use Rattle.aom_sound.specs.Loops.{LoopsKeep, RoundsAt, RoundsLeft, rounds_left}
 use Rattle.aom_sound.specs.Moves.{counted, step}
 use Rattle.aom_sound.specs.Places.{Going}
 use Rattle.aom_sound.specs.State.{A_mark, AtRoot, Choice, Frame, Goes, Inside, State, Task, counter, frame_of, set_counter}

@@ -14,8 +14,8 @@ use Rattle.aom_sound.proofs.Guarded.{goes_same, guarded_goes, guarded_met}
 use Rattle.aom_sound.specs.Calls.{below_top}
 use Rattle.aom_sound.specs.Cleanup.{arrived, destroyed, has_trap, is_negative, leave_needs, no_memory, top_is_whole, top_place, tops_entry, tops_object, tops_operation, unwound}
 use Rattle.aom_sound.specs.Destruction.{gone, owns_nothing}
-use Rattle.aom_sound.specs.Effects.{Effect, Leaves, Pushed, Pushed_operation, Same, Update, deals, deletes, effect, jumps_if, jumps_unless, makes_unless, round, sets}
-use Rattle.aom_sound.specs.Moves.{counted, does, needs, step_instr, step_task}
+use Rattle.aom_sound.specs.Effects.{Effect, Leaves, Pushed, Pushed_operation, Same, Update, applied, deals, deletes, effect, jumps_if, jumps_unless, makes_unless, round, sets}
+use Rattle.aom_sound.specs.Moves.{act, counted, does, needs, step_instr, step_task}
 use Rattle.aom_sound.specs.Places.{Cell, Entry, Going, Object, held, without}
 use Rattle.aom_sound.specs.State.{A_mark, An_object, An_operation, Choice, Destroy, Dispatched, Frame, Goes, IsStuck, Item, NullOrDead, Orphan, Run, State, Task, Trapped, Unwind, counter, field_place, resumed, word}
 use Rattle.aom_sound.specs.Steps.{Acts, Arrives, Clears, Comes_out, Ends, Fits, IsStill, IsStraight, Move, Rests, StepsAreMoves, Undoes, Vanishes}
@@ -135,15 +135,20 @@ unwinds p c code ts (An_object ∷ items) s u at top e = go (held s.cells (Entry
 unwinds p c code ts (An_operation m w ∷ items) s u at top e = Undoes code ts items m w at top (sym (goes_same _ u e))
 unwinds p c code ts (A_mark ∷ items) s u at top e = arrives p c code ts items s u at top e
 
+-- an instruction that goes on has met its needs, may have its effect, and has it
+pub acted :
+    (p : Image) (c : Choice) (s u : State) (fr : Frame) (ts : List Task) (i : Instr) → act p c fr ts s i ≡ Goes u →
+    AllTrue (needs p c fr ts s i) × Fits p c fr ts s i (effect p c fr ts s i) × (u ≡ applied p fr ts s (effect p c fr ts s i))
+acted p c s u fr ts i e =
+    let met = guarded_met (needs p c fr ts s i) (does p c fr ts s i) u e in
+    (met, fits p c fr ts s i met, sym (guarded_goes (needs p c fr ts s i) (does p c fr ts s i) u e))
+
 pub steps_are_moves : StepsAreMoves
 steps_are_moves p c s u e = go s.tasks refl e
   where
     runs : (fr : Frame) (ts : List Task) (o : Option Instr) → s.tasks ≡ Run fr ∷ ts → instr_at p fr.method fr.place ≡ o → step_instr p c fr ts (counted p s) o ≡ Goes u → Move p c s u
     runs fr ts None at there e = cc
-    runs fr ts (Some i) at there e =
-        let s' = counted p s in
-        let met = guarded_met (needs p c fr ts s' i) (does p c fr ts s' i) u e in
-        Acts fr ts i (effect p c fr ts s' i) at there met (fits p c fr ts s' i met) (sym (guarded_goes (needs p c fr ts s' i) (does p c fr ts s' i) u e))
+    runs fr ts (Some i) at there e = let a = acted p c (counted p s) u fr ts i e in Acts fr ts i (effect p c fr ts (counted p s) i) at there a.0 a.1 a.2
 
     go : (ts : List Task) → s.tasks ≡ ts → step_task p c (counted p s) ts ≡ Goes u → Move p c s u
     go [] at e = Rests (subst IsStill (sym at) tt) (sym (goes_same _ u e))

@@ -13,7 +13,8 @@ use Rattle.aom_shape.specs.Needs.{AllTrue}
 use Rattle.aom_sound.proofs.Moving.{steps_are_moves}
 use Rattle.aom_sound.specs.Calls.{below_top, called, entered, received, result_register, returned}
 use Rattle.aom_sound.specs.Cleanup.{code_told, has_trap, operation_frame, to_trap}
-use Rattle.aom_sound.specs.Destruction.{begun, begun_by, destructor_of}
+use Rattle.aom_classes.specs.Roles.{destructor_of}
+use Rattle.aom_sound.specs.Destruction.{begun, begun_by}
 use Rattle.aom_sound.specs.Effects.{Calls, Counts, Destroys, Destroys_last, Effect, Goes_on, Jumps, Leaves, Operates, Repeats, Returns, Sets_trap, applied, with_words}
 use Rattle.aom_sound.specs.Moves.{counted, dispatch_ends, main_ends, needs, step}
 use Rattle.aom_sound.specs.Places.{Elsewhere, Going, Object, Root, held}

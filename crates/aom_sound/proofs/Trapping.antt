@@ -22,7 +22,8 @@ use Rattle.aom_sound.proofs.View.{under_dispatch as nothing_under}
 use Rattle.aom_sound.specs.Calls.{below_top, called, received, result_register, returned}
 use Rattle.aom_sound.specs.Claims.{Dispatching, Dying, Form, Layer, Mark, Mark_form, Method, Object_form, Operation_form, Unwinding, forms, items_of, objects, tasks_of}
 use Rattle.aom_sound.specs.Cleanup.{code_told, ended_by, to_trap}
-use Rattle.aom_sound.specs.Destruction.{begun, begun_by, destructor_of}
+use Rattle.aom_classes.specs.Roles.{destructor_of}
+use Rattle.aom_sound.specs.Destruction.{begun, begun_by}
 use Rattle.aom_sound.specs.Effects.{Calls, Counts, Destroys, Destroys_last, Effect, Goes_on, Jumps, Leaves, Operates, Popped, Popped_operation, Pushed, Pushed_operation, Repeats, Returns, Sets_trap, Update, applied, items_after, with_words}
 use Rattle.aom_sound.specs.Laws.{IsWired}
 use Rattle.aom_sound.specs.Moves.{IsOpen, counted, does, needs, step, step_instr, step_task}

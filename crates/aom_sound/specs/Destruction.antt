@@ -1,17 +1,9 @@
 -- Destruction: a cell is at hand from here on, its destructor runs first, and then the cell goes.
 use Rattle.std.specs.Prelude.{ℕ, Bool, true, false, not, ◌&&◌, ◌==◌, List, [], ◌∷◌, Option, Some, None, length}
 use Rattle.aom_image.specs.Image.{Image}
-use Rattle.aom_image.specs.declared.method.Role.TheVariants.{Destruct}
-use Rattle.aom_image.specs.declared.method.Thing.{Thing}
-use Rattle.aom_image.specs.declared.method.Thing.TheVariants.{Object as An_object_of, Message}
-use Rattle.aom_classes.specs.Roles.{role_of}
+use Rattle.aom_classes.specs.Roles.{destructor_of}
 use Rattle.aom_sound.specs.Places.{Place, Register, Entry, Field, Going, Elsewhere, Object, Cell, without}
 use Rattle.aom_sound.specs.State.{Inside, Task, Run, Destroy, frame_of, State, Outcome, IsStuck, Orphan, NullOrDead, guarded, resumed}
-
--- the method that runs as an object is destroyed
-abbrev pub destructor_of : Image → Thing → Option ℕ
-destructor_of p (An_object_of c) = role_of p c Destruct
-destructor_of p Message = None
 
 abbrev pub begun_by : Option ℕ → Object → ℕ → List Task → List Task
 begun_by None o height below = Destroy ∷ below

@@ -10,7 +10,7 @@ use Rattle.aom_image.specs.declared.method.Gives.TheVariants.{Nothing, Word as A
 use Rattle.aom_shape.specs.Typing.{Typing, IsTyped}
 use Rattle.aom_sound.specs.Places.{Place, Register, Entry, Going, Object, Cell, held, named}
 use Rattle.aom_sound.specs.State.{Inside, Frame, Of_main, Main_left, Task, Run, Trapped, Destroy, Unwind, Dispatched, Item, An_object, An_operation, A_mark, State, Choice, Goes, word, next}
-use Rattle.aom_sound.specs.Destruction.{destructor_of}
+use Rattle.aom_classes.specs.Roles.{destructor_of}
 use Rattle.aom_sound.specs.Moves.{step, written, announcement}
 use Rattle.aom_sound.specs.WellTyped.{WellTyped}
 use Rattle.aom_sound.specs.World.{boot_state, Reaches}

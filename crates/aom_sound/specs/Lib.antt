@@ -18,5 +18,6 @@ pub mod Laws
 pub mod Quiet
 pub mod Leaves
 pub mod Steps
+pub mod Counting
 pub mod Traps
 pub mod Cases

@@ -4,6 +4,7 @@ ghost use Rattle.aom_sound.specs.Loops.{LoopsKeep};
 ghost use Rattle.aom_sound.specs.Quiet.{CalmKeeps, CaughtOwned};
 ghost use Rattle.aom_sound.specs.Leaves.{LeavesMove, LeavesArrive};
 ghost use Rattle.aom_sound.specs.Steps.{StepsAreMoves};
+ghost use Rattle.aom_sound.specs.Counting.{StepsAreCounted};
 ghost use Rattle.aom_sound.specs.Traps.{TrapsKeep};
 ghost use Rattle.aom_sound.specs.Cases.Words.{WordsBite};
 ghost use Rattle.aom_sound.specs.Cases.Objects.{ObjectsBite};
@@ -51,6 +52,11 @@ pub fn step_keeps()
 /// Each step is a move of one of eight kinds, and what an instruction does is its effect.
 pub fn steps_are_moves()
     ensures { StepsAreMoves }
+{}
+
+/// Instructions and the cells that go count, from 0 as a run begins, and nothing else does.
+pub fn steps_are_counted()
+    ensures { StepsAreCounted }
 {}
 
 /// While a cell goes or a leave unwinds, quiet methods alone run.

@@ -61,12 +61,17 @@ all_states (kinds.Active p budget) = 11
 all_states (kinds.Server sessions session budget) = 3
 all_states kinds.Session = 0
 
+-- what an accept of a class that is no server gives: nothing stands for it, once the classes are known
+abbrev pub not_served : Bool → Option Gives
+not_served true = None
+not_served false = Some result.Nothing
+
 -- what an accept gives
-abbrev pub accepted : ClassKind → Gives
-accepted kinds.Plain = result.Nothing
-accepted (kinds.Active p budget) = result.Nothing
-accepted (kinds.Server sessions session budget) = result.Own (owned.Object session)
-accepted kinds.Session = result.Nothing
+abbrev pub accepted : Bool → ClassKind → Option Gives
+accepted known kinds.Plain = not_served known
+accepted known (kinds.Active p budget) = not_served known
+accepted known (kinds.Server sessions session budget) = Some (result.Own (owned.Object session))
+accepted known kinds.Session = not_served known
 
 -- ---- what stands for what is missing
 
@@ -113,18 +118,18 @@ usual_words roles.Accept = 0
 usual_words roles.Service = 5
 usual_words roles.Undo = 1
 
--- what it gives
-abbrev pub usual_gives : Role → ClassKind → Gives
-usual_gives roles.Do kind = result.Nothing
-usual_gives roles.Main kind = result.Nothing
-usual_gives roles.Construct kind = result.Nothing
-usual_gives roles.Destruct kind = result.Nothing
-usual_gives roles.Run kind = result.Nothing
-usual_gives roles.Cancel kind = result.Nothing
-usual_gives roles.Error kind = result.Word
-usual_gives roles.Accept kind = accepted kind
-usual_gives roles.Service kind = result.Nothing
-usual_gives roles.Undo kind = result.Nothing
+-- what it gives, if anything stands for it
+abbrev pub usual_gives : (known : Bool) → Role → ClassKind → Option Gives
+usual_gives known roles.Do kind = Some result.Nothing
+usual_gives known roles.Main kind = Some result.Nothing
+usual_gives known roles.Construct kind = Some result.Nothing
+usual_gives known roles.Destruct kind = Some result.Nothing
+usual_gives known roles.Run kind = Some result.Nothing
+usual_gives known roles.Cancel kind = Some result.Nothing
+usual_gives known roles.Error kind = Some result.Word
+usual_gives known roles.Accept kind = accepted known kind
+usual_gives known roles.Service kind = Some result.Nothing
+usual_gives known roles.Undo kind = Some result.Nothing
 
 -- whether it is quiet, said or not
 abbrev pub is_quiet_role : Role → Bool
@@ -188,11 +193,16 @@ gives scope k.Maybe = next (thing scope) (λ t. giving (result.Maybe t))
 gives scope k.Left = next (class scope) (λ c. giving (result.Left c))
 gives scope key = failing BadShape
 
+-- what stands for a result that is missing
+abbrev pub unsaid_gives : Option Gives → Result Gives AsmFaultKind
+unsaid_gives None = Err BadShape
+unsaid_gives (Some g) = Ok g
+
 -- the end of the statement
-abbrev pub optional_gives : Scope → Gives → Reading Gives
+abbrev pub optional_gives : Scope → Option Gives → Reading Gives
 optional_gives scope usual ws =
     if (took k.Gives ws).0 then next any_keyword (λ key. next (gives scope key) (λ g. next (nothing_more false) (λ u. giving g))) (took k.Gives ws).1
-    else next (nothing_more true) (λ u. giving usual) (took k.Gives ws).1
+    else seen (λ u. unsaid_gives usual) (nothing_more true) (took k.Gives ws).1
 
 -- the flags of a method
 abbrev pub flags_of : Bool → Bool → MethodFlags
@@ -209,7 +219,7 @@ heading scope place =
     next (optional_states k.In (usual_before role (all_states (kind_of scope.kinds class)))) (λ before.
     next (optional_states k.Out (usual_after role (all_states (kind_of scope.kinds class)))) (λ after.
     next (optional_arguments scope (usual_words role)) (λ arguments.
-    next (optional_gives scope (usual_gives role (kind_of scope.kinds class))) (λ gives.
+    next (optional_gives scope (usual_gives scope.is_strict role (kind_of scope.kinds class))) (λ gives.
     giving (record { class = class; role = role; flags = flags_of leaves (quiet || is_quiet_role role); before = before; after = after; arguments = arguments; gives = gives }))))))))))
 
 -- ---- instructions

@@ -3,7 +3,7 @@ ghost use Rattle.std.specs.Prelude.{◌≡◌, ◌≤◌, ◌<◌, ◌∷◌, le
 ghost use Rattle.aom_image.specs.declared.method.Argument.TheVariants.{Word};
 ghost use Rattle.aom_syntax.specs.Reading.{Reads, ReadsOrNoMemory};
 ghost use Rattle.aom_syntax.specs.Classes.{listed};
-ghost use Rattle.aom_syntax.specs.Methods.{role, role_of, kind_of, all_states, accepted, usual_before, usual_after, usual_words, usual_gives, is_quiet_role, optional_states, optional_class, argument_of, optional_arguments, gives, optional_gives, flags_of, heading};
+ghost use Rattle.aom_syntax.specs.Methods.{role, role_of, kind_of, all_states, accepted, usual_before, usual_after, usual_words, usual_gives, unsaid_gives, is_quiet_role, optional_states, optional_class, argument_of, optional_arguments, gives, optional_gives, flags_of, heading};
 
 use crate::class::{split_element, thing_of};
 use crate::states::{set_of, states_of};
@@ -94,24 +94,35 @@ fn usual_words(role: Role) -> usize
     }
 }
 
-/// What it gives, where nothing is said.
-fn usual_gives(role: Role, kind: ClassKind) -> Gives
-    ensures { result ≡ usual_gives role kind }
+/// What it gives, where nothing is said; none where it has to be said.
+fn usual_gives(known: bool, role: Role, kind: ClassKind) -> Option<Gives>
+    ensures { result ≡ usual_gives known role kind }
 {
     match role {
-        Role::Error => Gives::Word,
-        Role::Accept => accepted(kind),
-        _ => Gives::Nothing,
+        Role::Error => Some(Gives::Word),
+        Role::Accept => accepted(known, kind),
+        _ => Some(Gives::Nothing),
     }
 }
 
-/// What an accept of such a class gives.
-fn accepted(kind: ClassKind) -> Gives
-    ensures { result ≡ accepted kind }
+/// What an accept of such a class gives. Before the classes are known, any may be a server's.
+fn accepted(known: bool, kind: ClassKind) -> Option<Gives>
+    ensures { result ≡ accepted known kind }
 {
     match kind {
-        ClassKind::Server { session, .. } => Gives::Own(Thing::Object(session)),
-        _ => Gives::Nothing,
+        ClassKind::Server { session, .. } => Some(Gives::Own(Thing::Object(session))),
+        _ if known => None,
+        _ => Some(Gives::Nothing),
+    }
+}
+
+/// What stands for a result that is missing.
+fn unsaid_gives(usual: Option<Gives>) -> Result<Gives, AsmFaultKind>
+    ensures { result ≡ unsaid_gives usual }
+{
+    match usual {
+        Some(gives) => Ok(gives),
+        None => Err(AsmFaultKind::BadShape),
     }
 }
 
@@ -255,13 +266,13 @@ impl<'a> Reader<'a> {
         }
     }
 
-    /// The end of the statement: what is said to be given, and else the usual.
-    fn optional_gives(&mut self, scope: &Scope, usual: Gives) -> Result<Gives, AsmFaultKind>
+    /// The end of the statement: what is said to be given, and else the usual, if there is one.
+    fn optional_gives(&mut self, scope: &Scope, usual: Option<Gives>) -> Result<Gives, AsmFaultKind>
         ensures { Reads (λ x. (x, self.new)) result (optional_gives scope.now usual self.old) }
     {
         if !self.took(Keyword::Gives) {
             self.nothing_more(true)?;
-            return Ok(usual);
+            return unsaid_gives(usual);
         }
         let key = self.any_keyword()?;
         let gives = self.gives(key, scope)?;
@@ -288,7 +299,7 @@ impl<'a> Reader<'a> {
         let before = self.optional_states(Keyword::In, usual_before(role, all))?;
         let after = self.optional_states(Keyword::Out, usual_after(role, all))?;
         let arguments = self.optional_arguments(alloc, scope, usual_words(role))?;
-        let gives = self.optional_gives(scope, usual_gives(role, kind))?;
+        let gives = self.optional_gives(scope, usual_gives(scope.is_strict, role, kind))?;
         Ok(Heading {
             class,
             role,

@@ -1,5 +1,5 @@
 -- The states of a method have fewer cleanup entries than there are places reached, and so fewer than it has places.
-use Rattle.std.proofs.Common.{◌≡◌, ℕ, zero, suc, ◌<◌, ◌≤◌, List, [], ◌∷◌, length, Option, Some, None, slice_set, slice_index_or, replicate, inl, inr, refl, sym, ◌∙◌, ap, arith}
+use Rattle.std.proofs.Common.{◌≡◌, ℕ, zero, suc, ◌<◌, ◌≤◌, List, [], ◌∷◌, ◌++◌, length, Option, Some, None, slice_set, slice_index_or, replicate, inl, inr, refl, sym, ◌∙◌, ap, arith}
 use Rattle.std.proofs.lemmas.Bool.Decides.{eqb_tells}
 use Rattle.std.proofs.lemmas.List.{length-set, length-replicate}
 use Rattle.std.proofs.lemmas.List.Sums.{sum_by-set, sum_by-cons}
@@ -17,7 +17,6 @@ use Rattle.aom_verify.specs.Shapes.{Shapes}
 use Rattle.aom_verify.specs.Sweep.{Spans, Joins, Flows}
 use Rattle.aom_verify.specs.declared.change.Change.{Change}
 use Rattle.aom_verify.specs.declared.change.Change.TheVariants.{Nothing, Fell, Reached}
-use Rattle.aom_verify.proofs.Joining.{IsWay}
 
 -- ---- a place that is written
 
@@ -82,14 +81,21 @@ fewer_left old new Nothing h = rw h (omega arith)
 fewer_left old new Fell h = omega (arith, h.0)
 fewer_left old new Reached h = omega (arith, h)
 
-way_few : (s : Shapes) (ways : List Flow) (i : ℕ) (way : Flow) → AllFew s ways → IsWay ways i way → IsFew s way.1
-way_few s [] i way h w = absurd (omega (arith, w.within))
-way_few s (x ∷ xs) zero way h w = let same : way ≡ x = w.is in rw same h.0
-way_few s (x ∷ xs) (suc i) way h w = way_few s xs i way h.1 (record { within = omega (arith, w.within); is = w.is })
+pub few_ways_first : (s : Shapes) (xs ys : List Flow) → AllFew s (xs ++ ys) → AllFew s xs
+few_ways_first s [] ys h = tt
+few_ways_first s (x ∷ xs) ys h = (h.0, few_ways_first s xs ys h.1)
 
--- a way is as few once others have been joined
-pub way_still_few : (a b : Shapes) (ways done : List Flow) (i : ℕ) (way : Flow) (x : Change) → IsWay ways i way → AllFew a ways → Joins a b done x → IsFew b way.1
-way_still_few a b ways done i way x w few h = omega (arith, way_few a ways i way few w, h.size, fewer_left a b x h.changed)
+few_ways_last : (s : Shapes) (xs ys : List Flow) → AllFew s (xs ++ ys) → AllFew s ys
+few_ways_last s [] ys h = h
+few_ways_last s (x ∷ xs) ys h = few_ways_last s xs ys h.1
+
+still_few : (a b : Shapes) (xs ys : List Flow) (x : Change) → Joins a b xs x → AllFew a ys → AllFew b ys
+still_few a b xs [] x h few = tt
+still_few a b xs (y ∷ ys) x h few = (omega (arith, few.0, h.size, fewer_left a b x h.changed), still_few a b xs ys x h few.1)
+
+-- ways are as few once others have been joined
+pub ways_still_few : (a b : Shapes) (xs ys : List Flow) (x : Change) → Joins a b xs x → AllFew a (xs ++ ys) → AllFew b ys
+ways_still_few a b xs ys x h few = still_few a b xs ys x h (few_ways_last a xs ys few)
 
 -- ---- a visit
 

@@ -126,10 +126,6 @@ cannot_join s to sh there here no_meet =
 pub join_fails : (s : Shapes) (to : ℕ) (sh there : Shape) (why : Why) → at None s to ≡ Some there → NoMeet there sh → WhyNoMeet there sh why → JoinFails s ((to, sh) ∷ []) to why
 join_fails s to sh there why here no_meet reason = λ p k all each. by_meet (all to there here) each.0 no_meet reason
 
--- what is read at a place of the list
-pub read : (s xs : Shapes) (to : ℕ) (o : Option Shape) → xs ≡ s → to < length s → o ≡ slice_index_or xs to o → at None s to ≡ o
-read s xs to o e within h = sym (at_within None o s to within) ∙ sym (rw e at h)
-
 all_met_add : (s : Shapes) (xs ys : List Flow) → AllMet s xs → AllMet s ys → AllMet s (xs ++ ys)
 all_met_add s [] ys h k = k
 all_met_add s (x ∷ xs) ys h k = (h.0, all_met_add s xs ys h.1 k)
@@ -157,7 +153,7 @@ each_last : (p : Image) (k : ℕ) (xs ys : List Flow) → EachArrives p k (xs ++
 each_last p k [] ys h = h
 each_last p k (x ∷ xs) ys h = each_last p k xs ys h.1
 
-joins_add : (a b c : Shapes) (xs ys : List Flow) (x y : Change) → Joins a b xs x → Joins b c ys y → Joins a c (xs ++ ys) (then x y)
+pub joins_add : (a b c : Shapes) (xs ys : List Flow) (x y : Change) → Joins a b xs x → Joins b c ys y → Joins a c (xs ++ ys) (then x y)
 joins_add a b c xs ys x y h k = record {
   size = k.size ∙ h.size;
   below_old = below_along c b a k.below_old h.below_old;
@@ -167,34 +163,23 @@ joins_add a b c xs ys x y h k = record {
   changed = changes_add a b c x y h.changed k.changed;
 }
 
--- a way of the list, by its number
-pub record IsWay (ways : List Flow) (i : ℕ) (way : Flow) : Type 0 where
-  pub within : i < length ways
-  pub is : way ≡ slice_index_or ways i way
+pub cannot_first : (a : Shapes) (xs ys : List Flow) → CannotJoin a xs → CannotJoin a (xs ++ ys)
+cannot_first a xs ys h = record { none = λ t below met. h.none t below (all_met_first t xs ys met) }
 
-pub joins_more : (a b c : Shapes) (ways : List Flow) (i : ℕ) (way : Flow) (x y : Change) → IsWay ways i way → Joins a b (take i ways) x → Joins b c (way ∷ []) y → Joins a c (take (i + 1) ways) (then x y)
-joins_more a b c ways i way x y w h k = rw (take_more ways i way w.within, ← w.is) (joins_add a b c (take i ways) (way ∷ []) x y h k)
-
-pub cannot_more : (a b : Shapes) (ways : List Flow) (i : ℕ) (way : Flow) (x : Change) → IsWay ways i way → Joins a b (take i ways) x → CannotJoin b (way ∷ []) → CannotJoin a ways
-cannot_more a b ways i way x w h k = record {
-  none = λ t below met.
-      let whole : AllMet t (take (i + 1) ways ++ drop (i + 1) ways) = rw (take-append-drop (i + 1) ways) met in
-      let some : AllMet t (take i ways ++ way ∷ []) = rw (take_more ways i way w.within, ← w.is) at (all_met_first t (take (i + 1) ways) (drop (i + 1) ways) whole) in
-      k.none t (h.strongest t below (all_met_first t (take i ways) (way ∷ []) some)) (all_met_last t (take i ways) (way ∷ []) some);
-}
+pub cannot_last : (a b : Shapes) (xs ys : List Flow) (x : Change) → Joins a b xs x → CannotJoin b ys → CannotJoin a (xs ++ ys)
+cannot_last a b xs ys x h k = record { none = λ t below met. k.none t (h.strongest t below (all_met_first t xs ys met)) (all_met_last t xs ys met) }
 
 -- the place where one way fails fails for all of them
-pub fails_more : (a b : Shapes) (ways : List Flow) (i : ℕ) (way : Flow) (x : Change) (place : ℕ) (why : Why) → IsWay ways i way → Joins a b (take i ways) x → JoinFails b (way ∷ []) place why → JoinFails a ways place why
-fails_more a b ways i way x place why w h fails = λ p k all each.
-    let whole : EachArrives p k (take (i + 1) ways ++ drop (i + 1) ways) = rw (take-append-drop (i + 1) ways) each in
-    let some : EachArrives p k (take i ways ++ way ∷ []) = rw (take_more ways i way w.within, ← w.is) at (each_first p k (take (i + 1) ways) (drop (i + 1) ways) whole) in
-    fails p k (h.arrives p k all (each_first p k (take i ways) (way ∷ []) some)) (each_last p k (take i ways) (way ∷ []) some)
+pub fails_first : (a : Shapes) (xs ys : List Flow) (place : ℕ) (why : Why) → JoinFails a xs place why → JoinFails a (xs ++ ys) place why
+fails_first a xs ys place why fails = λ p k all each. fails p k all (each_first p k xs ys each)
 
-pub way_within : (n : ℕ) (ways : List Flow) (i : ℕ) (way : Flow) → AllWithin n ways → IsWay ways i way → way.0 < n
-way_within n [] i way h w = absurd (omega (arith, w.within))
-way_within n (x ∷ xs) zero way h w = let same : way ≡ x = w.is in rw same h.0
-way_within n (x ∷ xs) (suc i) way h w = way_within n xs i way h.1 (record { within = omega (arith, w.within); is = w.is })
+pub fails_last : (a b : Shapes) (xs ys : List Flow) (x : Change) (place : ℕ) (why : Why) → Joins a b xs x → JoinFails b ys place why → JoinFails a (xs ++ ys) place why
+fails_last a b xs ys x place why h fails = λ p k all each. fails p k (h.arrives p k all (each_first p k xs ys each)) (each_last p k xs ys each)
 
--- a test that failed does not hold
-pub refused_test : (b : Bool) → b ≡ false → IsTrue b → ⊥
-refused_test b e h = cc
+pub within_first : (n : ℕ) (xs ys : List Flow) → AllWithin n (xs ++ ys) → AllWithin n xs
+within_first n [] ys h = tt
+within_first n (x ∷ xs) ys h = (h.0, within_first n xs ys h.1)
+
+pub within_last : (n : ℕ) (xs ys : List Flow) → AllWithin n (xs ++ ys) → AllWithin n ys
+within_last n [] ys h = h
+within_last n (x ∷ xs) ys h = within_last n xs ys h.1

@@ -2,10 +2,12 @@ pub mod Ordering
 pub mod Falling
 pub mod Joining
 pub mod Few
+pub mod Keeping
 pub mod Following
 pub mod Ways
 pub mod Visiting
 pub mod Sweeping
+pub mod Stopping
 pub mod Typings
 pub mod Places
 pub mod Refusing

@@ -3,33 +3,34 @@ ghost use Rattle.std.specs.Prelude.{◌≡◌, ◌<◌, IfOk, IfErr, IsSome};
 ghost use Rattle.aom_image.specs.Views.{method_at};
 ghost use Rattle.aom_shape.specs.Typing.{Typing, IsTyped};
 ghost use Rattle.aom_verify.specs.Refusals.{RefusesMethod, RefusesOrWants};
-ghost use Rattle.aom_verify.specs.Strongest.{IsMethodStrongest, EachHasStrongest, IsStrongest};
+ghost use Rattle.aom_verify.specs.Strongest.{IsMethodStrongest, IsStrongest, IsShapeAt};
 ghost use Rattle.aom_verify.specs.Sweep.{HasPlaces};
 
 use crate::Refusal;
 use crate::sheet::Sheet;
 use aom_classes::Linked;
 use aom_image::MethodNumber;
-use aom_shape::Shape;
-use std::alloc::{AllocError, Global};
+use aom_shape::{Known, Shape};
+use std::alloc::Global;
 use std::marker::Model;
 
-/// A linked image whose methods all have a typing. Its states are found again where they are asked for.
+/// A linked image whose methods all have a typing, with the states of the strongest one.
 #[derive(Drop)]
 pub struct Checked {
     linked: Linked,
+    /// By the numbers of the methods.
+    sheets: Vec<Sheet>,
 }
 
 impl Model for Checked {
     ghost use Rattle.aom_image.specs.Image.{Image};
-    ghost use Rattle.aom_shape.specs.Typing.{Typing};
     ghost use Rattle.aom_verify.specs.Strongest.{IsStrongest};
 
     ghost Value = { Image };
 
     ghost view = { λ c. c.linked };
 
-    ghost invariant = { λ c. (t : Typing) × IsStrongest c.linked t };
+    ghost invariant = { λ c. IsStrongest c.linked c.sheets.items };
 }
 
 impl Checked {
@@ -43,19 +44,23 @@ impl Checked {
     pub fn typed(&self)
         ensures { (t : Typing) × IsStrongest self.now t }
     {
-        let _ = &self.linked;
+        let _ = &self.sheets;
     }
 
-    /// The states of a method in the strongest typing. They are swept for again at each call.
-    pub fn sheet(&self, alloc: Global, method: MethodNumber) -> Result<Sheet, AllocError>
+    /// The states of a method in the strongest typing.
+    pub fn sheet(&self, method: MethodNumber) -> &Sheet
         requires { IsSome (method_at self.now method) }
-        ensures { IfOk result (λ s. IsMethodStrongest self.now method s) }
+        ensures { IsMethodStrongest self.now method result.now }
     {
-        match sheet_of(alloc, &self.linked, method) {
-            Ok(sheet) => Ok(sheet),
-            Err(Refusal::OutOfMemory) => Err(AllocError),
-            Err(Refusal::Refused { .. }) => unreachable!(),
-        }
+        &self.sheets[method.number() as usize]
+    }
+
+    /// The state of a place of a method in the strongest typing, if that place is reached.
+    pub fn shape(&self, method: MethodNumber, place: usize) -> Option<Shape<'_>>
+        requires { IsSome (method_at self.now method) }
+        ensures { IsShapeAt self.now method place result }
+    {
+        self.sheet(method).shape(place)
     }
 }
 
@@ -65,19 +70,22 @@ pub fn check(alloc: Global, linked: Linked) -> Result<Checked, Refusal>
     ensures refused { IfErr result (λ refusal. RefusesOrWants linked refusal) }
     ensures complete { (t : Typing) → IsTyped linked t → IfErr result (λ refusal. refusal ≡ Refusal.OutOfMemory) }
 {
-    check_methods(alloc, &linked)?;
-    Ok(Checked { linked })
+    let sheets = sheets_of(alloc, &linked)?;
+    Ok(Checked { linked, sheets })
 }
 
-fn check_methods(alloc: Global, linked: &Linked) -> Result<(), Refusal>
-    ensures ok { IfOk result (λ _. EachHasStrongest linked.now) }
+/// The states of each method, or why the first that has none has none.
+fn sheets_of(alloc: Global, linked: &Linked) -> Result<Vec<Sheet>, Refusal>
+    ensures ok { IfOk result (λ sheets. IsStrongest linked.now sheets.items) }
     ensures err { IfErr result (λ refusal. RefusesOrWants linked.now refusal) }
 {
     let methods = linked.image().methods();
+    let mut sheets = Vec::with_capacity(alloc, methods.len())?;
     for index in 0..methods.len() {
-        sheet_of(alloc, linked, number_at(index))?;
+        let sheet = sheet_of(alloc, linked, number_at(index))?;
+        sheets.push(sheet).unwrap();
     }
-    Ok(())
+    Ok(sheets)
 }
 
 /// The number of the method at an index.
@@ -104,14 +112,10 @@ fn sheet_of(alloc: Global, linked: &Linked, method: MethodNumber) -> Result<Shee
     ensures ok { IfOk result (λ s. IsMethodStrongest linked.now method s) }
     ensures err { IfErr result (λ refusal. RefusesMethod linked.now method refusal) }
 {
-    let entry = Shape::entry(linked, method);
+    let entry = Known::entry(linked, method);
     let mut sheet = Sheet::new(alloc, place_count(linked, method), entry)?;
     match sheet.settle(linked, method) {
         Ok(()) => Ok(sheet),
-        Err(fault) => Err(Refusal::Refused {
-            method,
-            place: fault.place,
-            why: fault.why,
-        }),
+        Err(fault) => Err(fault.refusal(method)),
     }
 }

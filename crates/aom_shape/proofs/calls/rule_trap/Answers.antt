@@ -1,8 +1,12 @@
-use Rattle.std.proofs.Common.{◌≡◌, false, sym, ◌∙◌}
+use Rattle.std.proofs.Common.{◌≡◌, false, ap, sym, ◌∙◌}
 use Rattle.std.proofs.lemmas.Result.{err_from_is_err_and}
 use Rattle.aom_image.specs.Views.{is_quiet}
 use Rattle.aom_shape.proofs.Arguments.{arguments_fit}
+use Rattle.aom_shape.specs.Calls.{while_called}
+use Rattle.aom_shape.specs.Changes.{next_shape}
+use Rattle.aom_shape.specs.Shape.{Shape}
 use Rattle.aom_shape.proofs.Calling.{trap_target_failed, trap_arguments_failed, trapped_failed, trap_met}
+use Rattle.aom_shape.proofs.Growing.{arguments_leave}
 use Rattle.aom_shape.proofs.calls.rule_trap.Goals as goal
 
 pub without_arguments-moved-requires : goal.without_arguments-moved-requires
@@ -38,8 +42,10 @@ returns-in_err-judge_trapped c =
 pub returns : goal.returns
 returns c =
     let call = c.args.call.now in
+    let same = sym (arguments_leave c.as_slice-arguments.result.now call.first c.args.shape.now) ∙ ap (λ (sh : Shape). sh.entries) (sym c.without_arguments-moved.ensures) in
+    let lasting : next_shape c.args.shape.now.entries c.while_called-lasting.result ≡ while_called call.target c.method-callee.result.now.class c.without_arguments-moved.result = rw same c.while_called-lasting.ensures.value in
     let loud : is_quiet c.args.linked.now c.args.method ≡ false = sym c.is_quiet.ensures ∙ c.if-is_quiet.false in
-    rw (c.to_next.ensures, c.caught-after.ensures, c.while_called-lasting.ensures, c.without_arguments-moved.ensures, c.as_slice-arguments.ensures)
+    rw (c.on.ensures c.args.shape.now.entries, c.caught-after.ensures c.args.shape.now.entries, lasting, c.without_arguments-moved.ensures, c.as_slice-arguments.ensures)
     (sym (trap_met c.args.linked.now c.args.method c.args.place c.args.shape.now call.target call.method call.first call.result c.method-callee.result.now c.method-callee.ensures loud _ _ _ (sym c.judge_target.ensures ∙ c.in_ok-judge_target.was)
     (rw (← c.as_slice-arguments.ensures) (sym c.judge_arguments.ensures ∙ c.in_ok-judge_arguments.was))
     (rw (← c.as_slice-arguments.ensures, ← c.without_arguments-moved.ensures) (sym c.judge_trapped.ensures ∙ c.in_ok-judge_trapped.was))))

@@ -1,15 +1,17 @@
-use Rattle.std.proofs.Common.{refl, rules}
-use Rattle.aom_shape.proofs.Meeting.{met, unmet, parted}
+use Rattle.std.proofs.Common.{rules, ap, sym, ◌∙◌}
+use Rattle.aom_shape.specs.Shape.{Shape}
+use Rattle.aom_shape.proofs.Meeting.{unmet, parted}
 use Rattle.aom_shape.proofs.Ordering.{passes_not}
 use Rattle.aom_shape.proofs.order.meet.Goals as goal
 
 pub returns-in_default-clause-err : goal.returns-in_default-clause-err
-returns-in_default-clause-err c = rw (← c.a.view_is, ← c.b.view_is) (unmet _ _ (c.meet_kinds.ensures.none c.in_default.is))
+returns-in_default-clause-err c = unmet _ _ (rw (← c.a.view_is, ← c.b.view_is) (c.meet_known.ensures.none c.in_default.is))
 
-pub returns-then-not-are_same-clause-err : goal.returns-then-not-are_same-clause-err
-returns-then-not-are_same-clause-err c =
-    rw (← c.a.view_is, ← c.b.view_is) (parted _ _ _ c.a.invariant.0 c.b.invariant.0 c.in-Some.ensures.some (passes_not _ c.are_same.ensures (search rules)))
+pub returns-then-not-has_same_entries-clause-err : goal.returns-then-not-has_same_entries-clause-err
+returns-then-not-has_same_entries-clause-err c =
+    parted _ _ (rw (← c.a.view_is, ← c.b.view_is) c.in-Some.ensures.met) (passes_not _ c.has_same_entries.ensures (search rules))
 
 pub returns-clause-ok : goal.returns-clause-ok
 returns-clause-ok c =
-    rw (← c.a.view_is, ← c.b.view_is) (met _ _ _ c.a.invariant.0 c.b.invariant.0 c.a.invariant.1 c.b.invariant.1 c.in-Some.ensures.some c.meet_fillings.ensures refl (c.are_same.ensures.0 (search rules)))
+    let same = c.has_same_entries.ensures.0 (search rules) in
+    rw (c.with_known.ensures, ← c.a.view_is, ← c.b.view_is) (c.in-Some.ensures.some _ _ (ap (λ (sh : Shape). sh.entries) c.a.view_is ∙ same ∙ ap (λ (sh : Shape). sh.entries) (sym c.b.view_is)))

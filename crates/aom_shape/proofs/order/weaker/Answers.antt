@@ -1,14 +1,12 @@
-use Rattle.std.proofs.Common.{refl, rules, arith}
-use Rattle.aom_shape.proofs.Ordering.{decided_by, undecided, passes_not}
+use Rattle.std.proofs.Common.{refl, rules, ap, sym, ◌∙◌}
+use Rattle.aom_shape.specs.Shape.{Shape}
+use Rattle.aom_shape.proofs.Ordering.{undecided, passes_not}
 use Rattle.aom_shape.proofs.order.weaker.Goals as goal
 
-pub returns-then-not-are_same : goal.returns-then-not-are_same
-returns-then-not-are_same c = rw (← c.a.view_is, ← c.b.view_is) (undecided _ _ _ refl (passes_not _ c.are_same.ensures (search rules)))
+pub returns-then-not-has_same_entries : goal.returns-then-not-has_same_entries
+returns-then-not-has_same_entries c = undecided _ _ _ refl (passes_not _ c.has_same_entries.ensures (search rules))
 
-pub returns-then-kinds_say_no_more : goal.returns-then-kinds_say_no_more
-returns-then-kinds_say_no_more c =
-    rw (← c.a.view_is, ← c.b.view_is) (decided_by _ _ c.fillings_say_no_more.result (omega (arith, c.a.invariant, c.b.invariant)) (omega (arith, c.a.invariant, c.b.invariant)) (c.are_same.ensures.0 (search rules)) (rw (← c.kinds_say_no_more.ensures, c.if-kinds_say_no_more.true) c.fillings_say_no_more.ensures))
-
-pub returns-else-kinds_say_no_more : goal.returns-else-kinds_say_no_more
-returns-else-kinds_say_no_more c =
-    rw (← c.a.view_is, ← c.b.view_is) (decided_by _ _ c.kinds_say_no_more.result (omega (arith, c.a.invariant, c.b.invariant)) (omega (arith, c.a.invariant, c.b.invariant)) (c.are_same.ensures.0 (search rules)) (rw (← c.kinds_say_no_more.ensures, c.if-kinds_say_no_more.false)))
+pub returns : goal.returns
+returns c =
+    let same = c.has_same_entries.ensures.0 (search rules) in
+    rw (← c.a.view_is, ← c.b.view_is) (c.known_says_no_more.ensures _ _ (ap (λ (sh : Shape). sh.entries) c.a.view_is ∙ same ∙ ap (λ (sh : Shape). sh.entries) (sym c.b.view_is)))

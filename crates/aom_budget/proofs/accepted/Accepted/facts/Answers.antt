@@ -2,8 +2,7 @@
 use Rattle.std.proofs.Common.{subst}
 use Rattle.aom_budget.specs.Depths.{DepthsWithin}
 use Rattle.aom_budget.specs.Heights.{HeightsWithin}
-use Rattle.aom_budget.proofs.High.{all_high}
-use Rattle.aom_budget.proofs.Settled.{all_within}
+use Rattle.aom_budget.proofs.Limits.{all_within, all_high}
 use Rattle.aom_budget.proofs.accepted.Accepted.facts.Goals as goal
 
 pub returns-clause-within : goal.returns-clause-within

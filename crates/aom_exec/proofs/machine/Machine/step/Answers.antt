@@ -1,6 +1,7 @@
 use Rattle.std.proofs.Common.{refl, subst}
 use Rattle.aom_exec.specs.Steps.{Machine, Stepped}
 use Rattle.aom_exec.proofs.Progressing.{stands_again}
+use Rattle.aom_exec.proofs.Agreeing.{agrees_in_all}
 use Rattle.aom_exec.proofs.machine.Machine.step.Goals as goal
 
 pub invariant_of-self : goal.invariant_of-self
@@ -12,3 +13,6 @@ pub returns-clause-steps : goal.returns-clause-steps
 returns-clause-steps c =
     let stepped = subst (λ p. Stepped (record { image = p; parts = c.self.inside.parts }) c.step.result c.args.turn.now c.step.new.turn (record { image = p; parts = c.step.new.self })) c.linked.ensures (c.step.ensures.one refl) in
     subst (λ (m : Machine). Stepped m c.step.result c.args.turn.now c.step.new.turn (record { image = c.self.inside.accepted.now; parts = c.step.new.self })) c.self.view_is stepped
+
+pub returns-clause-agrees : goal.returns-clause-agrees
+returns-clause-agrees c = agrees_in_all _

@@ -1,6 +1,7 @@
 use Rattle.std.proofs.Common.{subst}
 use Rattle.aom_exec.specs.Steps.{Machine, SteppedOn}
 use Rattle.aom_exec.proofs.Many.{stands_on}
+use Rattle.aom_exec.proofs.Agreeing.{agrees_in_all}
 use Rattle.aom_exec.proofs.machine.Machine.step_on.Goals as goal
 
 pub invariant_of-self : goal.invariant_of-self
@@ -12,3 +13,6 @@ pub returns-clause-steps : goal.returns-clause-steps
 returns-clause-steps c =
     let stepped = subst (λ p. SteppedOn (record { image = p; parts = c.self.inside.parts }) c.step_on.result c.args.turn.now c.step_on.new.turn (record { image = p; parts = c.step_on.new.self })) c.linked.ensures c.step_on.ensures.steps in
     subst (λ (m : Machine). SteppedOn m c.step_on.result c.args.turn.now c.step_on.new.turn (record { image = c.self.inside.accepted.now; parts = c.step_on.new.self })) c.self.view_is stepped
+
+pub returns-clause-agrees : goal.returns-clause-agrees
+returns-clause-agrees c = agrees_in_all _

@@ -6,13 +6,17 @@ use Rattle.aom_frames.specs.declared.task.Task.TheVariants.{Run as Runs_frame}
 use Rattle.aom_exec.specs.Acts.{DoesIn}
 use Rattle.aom_exec.specs.Calls.{target_here}
 use Rattle.aom_exec.specs.Places.{with_tasks}
-use Rattle.aom_exec.proofs.EnterActs.{arguments_here, call_does, class_here}
+use Rattle.aom_exec.proofs.EnterActs.{arguments_here, call_does, called_fits, called_there, class_here}
 use Rattle.aom_exec.proofs.parts.Parts.call.Goals as goal
+
+pub method-called-requires : goal.method-called-requires
+method-called-requires c = called_there c.args.linked.now c.args.self.now c.args.target c.args.method c.args.first c.requires.0 c.requires.1
 
 pub enter-requires-clause-within : goal.enter-requires-clause-within
 enter-requires-clause-within c =
     let arguments = arguments_here c.args.linked.now c.args.method c.method-called.result.now c.method-called.ensures in
-    rw (c.number.ensures.value, c.as_slice.ensures) (subst (λ xs. (c.args.first + length xs) ≤ 16) arguments c.requires.within)
+    rw (c.number.ensures.value, c.as_slice.ensures)
+    (subst (λ xs. (c.args.first + length xs) ≤ 16) arguments (called_fits c.args.linked.now c.args.self.now c.args.target c.args.method c.args.first c.requires.0 c.requires.1))
 
 pub returns : goal.returns
 returns c = λ refused to.

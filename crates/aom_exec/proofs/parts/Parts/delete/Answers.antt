@@ -1,7 +1,13 @@
 use Rattle.std.proofs.Common.{sym, ◌∙◌}
+use Rattle.aom_exec.proofs.Finding.{deletes_living}
 use Rattle.aom_exec.proofs.GoingActs.{delete_does}
 use Rattle.aom_exec.proofs.ObjectActs.{delete_null_does}
 use Rattle.aom_exec.proofs.parts.Parts.delete.Goals as goal
+
+pub begin-requires-clause-lives : goal.begin-requires-clause-lives
+begin-requires-clause-lives c =
+    rw (c.set_register.ensures.written, c.register-number.ensures.value)
+    (deletes_living c.args.linked.now c.args.self.now c.args.from c.requires (λ e. c.if-number.false (c.register-number.ensures.value ∙ e)))
 
 pub returns-then-number : goal.returns-then-number
 returns-then-number c = λ refused. rw (c.next.ensures, c.set_register.ensures.written) (delete_null_does c.args.self.now refused c.args.linked.now c.args.from c.register-number.ensures.in_range (sym c.register-number.ensures.value ∙ c.if-number.true))

@@ -3,7 +3,11 @@ use Rattle.std.specs.Int.{w32}
 use Rattle.std.proofs.lemmas.Int.{to_z-of_z}
 use Rattle.aom_exec.specs.Acts.{WritesWord}
 use Rattle.aom_exec.proofs.FieldActs.{load_does}
+use Rattle.aom_exec.proofs.Housing.{finds_loaded}
 use Rattle.aom_exec.proofs.parts.Parts.load.Goals as goal
+
+pub field_word-value-requires-clause-lives : goal.field_word-value-requires-clause-lives
+field_word-value-requires-clause-lives c = finds_loaded c.requires.0 c.args.self.now c.args.to c.args.word c.requires.1
 
 pub returns : goal.returns
 returns c = λ refused.

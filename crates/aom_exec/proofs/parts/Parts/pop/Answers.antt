@@ -1,6 +1,10 @@
-use Rattle.std.proofs.Common.{ap, ◌∙◌, ◌∷◌}
+use Rattle.std.proofs.Common.{rules, ap, ◌∙◌, ◌∷◌}
 use Rattle.aom_exec.proofs.EntryActs.{pop_does}
+use Rattle.aom_exec.proofs.Topping.{pops_object}
 use Rattle.aom_exec.proofs.parts.Parts.pop.Goals as goal
+
+pub unreachable-requires : goal.unreachable-requires
+unreachable-requires c = let h = pops_object c.requires.0 c.args.self.now c.args.to c.requires.1 in search rules
 
 pub returns : goal.returns
 returns c = λ refused.

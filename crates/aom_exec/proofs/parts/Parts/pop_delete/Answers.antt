@@ -1,5 +1,12 @@
 use Rattle.aom_exec.proofs.DealActs.{pop_delete_does}
+use Rattle.aom_exec.proofs.Topping.{deletes_entry, deletes_whole}
 use Rattle.aom_exec.proofs.parts.Parts.pop_delete.Goals as goal
+
+pub deal_with_entry-requires-clause-entry : goal.deal_with_entry-requires-clause-entry
+deal_with_entry-requires-clause-entry c = deletes_entry c.args.linked.now c.args.self.now c.requires
+
+pub deal_with_entry-requires-clause-lives : goal.deal_with_entry-requires-clause-lives
+deal_with_entry-requires-clause-lives c = deletes_whole c.args.linked.now c.args.self.now c.requires
 
 pub returns : goal.returns
 returns c = λ refused. rw c.deal_with_entry.ensures (pop_delete_does c.args.linked.now c.args.self.now refused)

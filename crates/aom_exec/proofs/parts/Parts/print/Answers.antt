@@ -10,6 +10,6 @@ returns-clause-does c = λ refused. rw c.next.ensures (print_does c.args.self.no
 
 pub returns-clause-tells : goal.returns-clause-tells
 returns-clause-tells c = λ p h choice needs.
-    let fits : FitsSigned w32 c.cast_signed-word.result = search rules in
-    let word : to_z w32 (of_z w32 c.cast_signed-word.result) ≡ to_z w32 (register_here c.args.self.now.stack.tasks c.args.from) = to_z-of_z w32 c.cast_signed-word.result fits ∙ c.cast_signed-word.ensures ∙ ap (to_z w32) c.register.ensures.value in
+    let fits : FitsSigned w32 c.word-word.result = search rules in
+    let word : to_z w32 (of_z w32 c.word-word.result) ≡ to_z w32 (register_here c.args.self.now.stack.tasks c.args.from) = to_z-of_z w32 c.word-word.result fits ∙ c.word-word.ensures in
     c.push.ensures ∙ ap (λ w. record c.args.turn.now { lines = c.args.turn.now.lines ++ Out w ∷ [] }) word ∙ print_tells c.args.self.now c.args.turn.now c.args.from p h choice needs

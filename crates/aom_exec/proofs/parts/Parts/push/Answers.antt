@@ -1,6 +1,10 @@
 use Rattle.std.proofs.Common.{true, false, sym, ◌∙◌}
 use Rattle.aom_exec.proofs.EntryActs.{push_does}
+use Rattle.aom_exec.proofs.Rooms.{push_room}
 use Rattle.aom_exec.proofs.parts.Parts.push.Goals as goal
+
+pub push_object-requires : goal.push_object-requires
+push_object-requires c = rw (c.take_register-object.ensures.emptied, c.request-refused.ensures.counted) (push_room c.requires.0 c.args.self.now c.args.from c.requires.1)
 
 pub returns-then-refused : goal.returns-then-refused
 returns-then-refused c =

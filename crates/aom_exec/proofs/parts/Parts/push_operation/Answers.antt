@@ -1,6 +1,10 @@
 use Rattle.std.proofs.Common.{true, false, sym, ◌∙◌}
 use Rattle.aom_exec.proofs.EntryActs.{push_operation_does}
+use Rattle.aom_exec.proofs.Rooms.{push_operation_room}
 use Rattle.aom_exec.proofs.parts.Parts.push_operation.Goals as goal
+
+pub push_operation-requires : goal.push_operation-requires
+push_operation-requires c = rw c.request-refused.ensures.counted (push_operation_room c.requires.0 c.args.self.now c.args.from c.args.method c.requires.1)
 
 pub returns-then-refused : goal.returns-then-refused
 returns-then-refused c =

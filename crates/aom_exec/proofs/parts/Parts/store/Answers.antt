@@ -3,7 +3,11 @@ use Rattle.std.specs.Int.{w32}
 use Rattle.std.proofs.lemmas.Int.{to_z-of_z}
 use Rattle.aom_exec.specs.Fields.{this, PutsWord}
 use Rattle.aom_exec.proofs.FieldActs.{store_does}
+use Rattle.aom_exec.proofs.Housing.{finds_stored}
 use Rattle.aom_exec.proofs.parts.Parts.store.Goals as goal
+
+pub set_field_word-requires-clause-lives : goal.set_field_word-requires-clause-lives
+set_field_word-requires-clause-lives c = finds_stored c.requires.0 c.args.self.now c.args.word c.args.from c.requires.1
 
 pub returns : goal.returns
 returns c = λ refused.

@@ -8,12 +8,21 @@ use Rattle.aom_exec.specs.Acts.{DoesIn}
 use Rattle.aom_exec.specs.Calls.{target_here}
 use Rattle.aom_exec.specs.Places.{with_items, with_tasks}
 use Rattle.aom_exec.proofs.EnterActs.{arguments_here, class_here, trap_does}
+use Rattle.aom_exec.proofs.Rooms.{mark_room}
+use Rattle.aom_exec.proofs.Topping.{trapped_fits, trapped_there}
 use Rattle.aom_exec.proofs.parts.Parts.trap.Goals as goal
+
+pub method-called-requires : goal.method-called-requires
+method-called-requires c = trapped_there c.args.linked.now c.args.self.now c.args.target c.args.method c.args.first c.requires.0 c.requires.1
+
+pub mark-requires : goal.mark-requires
+mark-requires c = mark_room c.args.linked.now c.args.self.now c.args.target c.args.method c.args.first c.requires.0 c.requires.1
 
 pub enter_trap-requires-clause-within : goal.enter_trap-requires-clause-within
 enter_trap-requires-clause-within c =
     let arguments = arguments_here c.args.linked.now c.args.method c.method-called.result.now c.method-called.ensures in
-    rw (c.number.ensures.value, c.as_slice.ensures) (subst (λ xs. (c.args.first + length xs) ≤ 16) arguments c.requires.within)
+    rw (c.number.ensures.value, c.as_slice.ensures)
+    (subst (λ xs. (c.args.first + length xs) ≤ 16) arguments (trapped_fits c.args.linked.now c.args.self.now c.args.target c.args.method c.args.first c.requires.0 c.requires.1))
 
 pub returns : goal.returns
 returns c = λ refused to.

@@ -1,6 +1,7 @@
 use Rattle.std.proofs.Common.{sym, ◌∙◌, arith}
 use Rattle.std.proofs.lemmas.Bool.{false≢true}
 use Rattle.aom_exec.proofs.Rooms.{has_room}
+use Rattle.aom_exec.proofs.Stepping.{unwinding_moves}
 use Rattle.aom_exec.proofs.UnwindActs.{deals_move, unwinds_marked, unwinds_to, unwinds_trapped, unwinds_whole, calls_there}
 use Rattle.aom_exec.proofs.parts.Parts.unwind.Goals as goal
 
@@ -26,4 +27,9 @@ pub arrive-requires-clause-calls : goal.arrive-requires-clause-calls
 arrive-requires-clause-calls c = calls_there c.args.linked.now c.requires.stands.1.sound.wired _
 
 pub returns-then-above_mark : goal.returns-then-above_mark
-returns-then-above_mark c = rw c.deal_with_entry.ensures (deals_move c.args.linked.now c.args.self.now c.args.turn.now (c.above_mark.ensures.0 c.if-above_mark.true))
+returns-then-above_mark c =
+    let deals = deals_move c.args.linked.now c.args.self.now c.args.turn.now (c.above_mark.ensures.0 c.if-above_mark.true) in
+    rw c.deal_with_entry.ensures (unwinding_moves c.args.linked.now c.args.self.now _ c.args.turn.now c.args.turn.now c.requires.unwinding c.requires.announced deals)
+
+pub returns-else-above_mark : goal.returns-else-above_mark
+returns-else-above_mark c = unwinding_moves c.args.linked.now c.args.self.now c.arrive.new.self c.args.turn.now c.arrive.new.turn c.requires.unwinding c.requires.announced c.arrive.ensures

@@ -6,7 +6,7 @@ use Rattle.aom_shape.proofs.shape.Shape.without_arguments.Goals as goal
 pub loop-index-init : goal.loop-index-init
 loop-index-init c =
     let none : c.number-first.result ≡ c.number-first.result + 0 = omega arith in
-    ap (λ (k : ℕ). arguments_moved c.args.arguments.now k c.args.self.now) none
+    ap (λ (k : ℕ). arguments_moved c.args.arguments.now k c.same-left.result) none
 
 pub loop-index-preserved : goal.loop-index-preserved
 loop-index-preserved c =
@@ -14,4 +14,4 @@ loop-index-preserved c =
 
 pub returns : goal.returns
 returns c =
-    rw (← c.number-first.ensures.value) (sym (c.loop-index.invariant ∙ moves_done c.args.arguments.now c.loop-index.index _ c.loop-index.left c.loop-index-test.false))
+    rw (← c.number-first.ensures.value, ← c.same-left.ensures) (sym (c.loop-index.invariant ∙ moves_done c.args.arguments.now c.loop-index.index _ c.loop-index.left c.loop-index-test.false))

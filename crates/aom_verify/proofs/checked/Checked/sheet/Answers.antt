@@ -1,14 +1,20 @@
--- A method of a checked image has a typing, so it is not refused.
-use Rattle.std.proofs.Common.{IsSome, sym, subst}
+-- The states that are kept for a method are the strongest.
+use Rattle.std.proofs.Common.{◌<◌, IsSome, [], length, ◌∙◌, sym, subst, arith}
 use Rattle.aom_image.specs.Image.{Image}
 use Rattle.aom_image.specs.Views.{method_at}
-use Rattle.aom_verify.specs.Refusals.{RefusesMethod}
-use Rattle.aom_verify.proofs.Typings.{method_typed}
+use Rattle.aom_shape.proofs.Lists.{at_within}
+use Rattle.aom_verify.proofs.Typings.{has_states}
 use Rattle.aom_verify.proofs.checked.Checked.sheet.Goals as goal
 
-pub unreachable-requires : goal.unreachable-requires
-unreachable-requires c =
-    let p = c.self.inside.linked in
-    let some : IsSome (method_at p c.args.method) = subst (λ (q : Image). IsSome (method_at q c.args.method)) (sym c.self.view_is) c.requires in
-    let failed = subst (RefusesMethod p c.args.method) c.in-Err-Refused.field-0-is c.in-Err-Refused.ensures.err in
-    failed.1 (method_typed p c.self.invariant.0 c.args.method c.self.invariant.1.typed some)
+pub index-requires : goal.index-requires
+index-requires c =
+    let some : IsSome (method_at c.self.inside.linked c.args.method) = subst (λ (q : Image). IsSome (method_at q c.args.method)) (sym c.self.view_is) c.requires in
+    omega (arith, has_states _ c.self.inside.sheets.items c.args.method (c.self.invariant.each c.args.method some), c.number.ensures.value)
+
+pub returns : goal.returns
+returns c =
+    let some : IsSome (method_at c.self.inside.linked c.args.method) = subst (λ (q : Image). IsSome (method_at q c.args.method)) (sym c.self.view_is) c.requires in
+    let strongest = c.self.invariant.each c.args.method some in
+    let within : c.number.result < length c.self.inside.sheets.items = omega (arith, has_states _ c.self.inside.sheets.items c.args.method strongest, c.number.ensures.value) in
+    let read = c.index.ensures ∙ at_within [] _ c.self.inside.sheets.items c.number.result within in
+    rw (← c.self.view_is, read, c.number.ensures.value) strongest

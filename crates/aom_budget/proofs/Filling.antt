@@ -1,0 +1,234 @@
+-- What the places of a method come to it comes to, and the tables are filled by it.
+use Rattle.std.proofs.Common.{◌≡◌, ℕ, suc, ◌<◌, ◌+◌, List, length, Some, None, slice_index_or, slice_set, replicate, inl, inr, refl, sym, ap, ◌∙◌, subst, arith}
+use Rattle.std.specs.Prelude.{min}
+use Rattle.std.proofs.lemmas.Bool.Decides.{eqb_tells, leb_tells}
+use Rattle.std.proofs.lemmas.List.{length-set, length-replicate}
+use Rattle.aom_image.specs.Image.{Image}
+use Rattle.aom_image.specs.Views.{instr_at}
+use Rattle.aom_image.specs.declared.instr.Instr.{Instr}
+use Rattle.aom_image.specs.declared.instr.Instr.TheVariants.{Call, Trap, Push, PushOperation, Delete, Cancel}
+use Rattle.aom_classes.specs.Linked.{IsLinked}
+use Rattle.aom_classes.proofs.Facts.{of_method}
+use Rattle.aom_shape.specs.Kinds.{register}
+use Rattle.aom_shape.specs.Order.{Weaker, SaysNoMore}
+use Rattle.aom_shape.specs.Order.Weaker.{alike as same_kind, unset_word, unset_null, maybe_null, maybe_own}
+use Rattle.aom_shape.specs.Shape.{Shape}
+use Rattle.aom_shape.specs.Tables.{at}
+use Rattle.aom_shape.specs.declared.kind.Kind.{Kind}
+use Rattle.aom_shape.proofs.Lists.{at_past, at_within, at_set_here, at_set_other}
+use Rattle.aom_verify.specs.Shapes.{Shapes}
+use Rattle.aom_verify.specs.Strongest.{IsMethodStrongest}
+use Rattle.aom_budget.specs.Calls.{Among, listed, destructors, object_class, callees, CallsAt, MayCall}
+use Rattle.aom_budget.specs.Depths.{Frames}
+use Rattle.aom_budget.specs.Depths.Frames.{alone, calling}
+use Rattle.aom_budget.specs.Heights.{StandsAt, Enters, CallsOver, Heights}
+use Rattle.aom_budget.specs.Heights.Heights.{own, under}
+use Rattle.aom_budget.specs.Extents.{IsMost, entered, OfSome, Joined, ComesTo, FramesAt, EntriesAt, Before, IsFilled, most_at}
+use Rattle.aom_budget.proofs.Mentioned.{called_lower}
+use Rattle.aom_budget.proofs.Most.{of_none, alike, joined, of_methods}
+
+-- ---- one place
+
+module _ (p : Image) (cap : ℕ) (its_own : Shape → ℕ) (calls : Shape → Instr → List ℕ) (of : ℕ → ℕ → Type 0) (m : ℕ) (s : Shapes) (place : ℕ) where
+  pub unreached : at None s place ≡ None → IsMost cap (ComesTo p its_own calls of m s place) 0
+  unreached none = of_none cap (ComesTo p its_own calls of m s place) (λ n c. let f = c.there in cc)
+
+  reached :
+      (sh : Shape) (i : Instr) (n : ℕ) → at None s place ≡ Some sh → instr_at p m place ≡ Some i → IsMost cap (OfSome of (calls sh i)) n →
+      IsMost cap (ComesTo p its_own calls of m s place) (min (its_own sh + n) cap)
+  reached sh i n there stands h =
+      alike cap (Joined (its_own sh) (OfSome of (calls sh i))) (ComesTo p its_own calls of m s place) _
+      (λ k is. record { shape = sh; there = there; instr = i; stands = stands; is = is })
+      (λ k c.
+      let alike : c.shape ≡ sh = let f = c.there in cc in
+      let one : c.instr ≡ i = let f = c.stands in cc in
+      rw (alike, one) at c.is)
+      (joined cap (its_own sh) (OfSome of (calls sh i)) n h)
+
+-- ---- what is called is found already
+
+entered_called : (p : Image) (m : ℕ) (sh : Shape) (i : Instr) (k : ℕ) → Among k (listed (entered i)) → Among k (callees p m sh i)
+entered_called p m sh (Call target called first c) k h = h
+entered_called p m sh (Trap target called first c) k h = h
+entered_called p m sh _ k h = absurd h
+
+enters : (i : Instr) (k : ℕ) → Among k (listed (entered i)) → Enters i k
+enters (Call target called first c) k (inl e) = sym e
+enters (Call target called first c) k (inr none) = absurd none
+enters (Trap target called first c) k (inl e) = sym e
+enters (Trap target called first c) k (inr none) = absurd none
+enters _ k h = absurd h
+
+is_entered : (i : Instr) (k : ℕ) → Enters i k → Among k (listed (entered i))
+is_entered (Call target called first c) k e = inl (sym e)
+is_entered (Trap target called first c) k e = inl (sym e)
+is_entered _ k e = absurd e
+
+module _ (p : Image) (m : ℕ) (s : Shapes) (place : ℕ) (sh : Shape) (i : Instr) (linked : IsLinked p) (strongest : IsMethodStrongest p m s) where
+  module _ (there : at None s place ≡ Some sh) (stands : instr_at p m place ≡ Some i) where
+    called_found : (cap : ℕ) (of : ℕ → ℕ → Type 0) (table : List ℕ) → IsFilled p cap of m table → (k : ℕ) → Among k (callees p m sh i) → IsMost cap (of k) (at 0 table k)
+    called_found cap of table filled k c =
+        let calls : CallsAt p m s place k = record { shape = sh; there = there; instr = i; stands = stands; calls = c } in
+        filled.each k (called_lower p m k linked (record { states = s; strongest = strongest; place = place; calls = calls }))
+
+    pub depth_found : (ds : List ℕ) (n : ℕ) → IsFilled p 257 (Frames p) m ds → n ≡ min (1 + most_at ds (callees p m sh i)) 257 → IsMost 257 (FramesAt p m s place) n
+    depth_found ds n filled is =
+        let over = of_methods 257 (Frames p) ds (callees p m sh i) (called_found 257 (Frames p) ds filled) in
+        rw is (reached p 257 (λ x. 1) (callees p m) (Frames p) m s place sh i _ there stands over)
+
+    pub height_found : (hs : List ℕ) (n : ℕ) → IsFilled p 1025 (Heights p) m hs → n ≡ min (length sh.entries + most_at hs (listed (entered i))) 1025 → IsMost 1025 (EntriesAt p m s place) n
+    height_found hs n filled is =
+        let found = called_found 1025 (Heights p) hs filled in
+        let over = of_methods 1025 (Heights p) hs (listed (entered i)) (λ k c. found k (entered_called p m sh i k c)) in
+        rw is (reached p 1025 (λ x. length x.entries) (λ x j. listed (entered j)) (Heights p) m s place sh i _ there stands over)
+
+-- ---- frames: what an instruction may call by what is known, it may call by what says less
+
+destroys_more : (p : Image) (x y : Kind) (k : ℕ) → Weaker x y → Among k (destructors p (object_class y)) → Among k (destructors p (object_class x))
+destroys_more p x y k (same_kind {k = same}) c = c
+destroys_more p x y k unset_word c = c
+destroys_more p x y k unset_null c = c
+destroys_more p x y k (maybe_null {t = t} {a = age}) c = absurd c
+destroys_more p x y k (maybe_own {t = t} {a = age}) c = c
+
+calls_more : (p : Image) (m : ℕ) (a b : Shape) (i : Instr) (k : ℕ) → SaysNoMore a b → Among k (callees p m b i) → Among k (callees p m a i)
+calls_more p m a b (Push r) k h c = destroys_more p (register a r) (register b r) k (h.registers r) c
+calls_more p m a b (Delete r) k h c = destroys_more p (register a r) (register b r) k (h.registers r) c
+calls_more p m a b (Call target called first r) k h c = c
+calls_more p m a b (Trap target called first r) k h c = c
+calls_more p m a b (PushOperation r called) k h c = c
+calls_more p m a b Cancel k h c = c
+calls_more p m a b _ k h c = absurd c
+
+reached_within : (s : Shapes) (place : ℕ) (sh : Shape) → at None s place ≡ Some sh → place < length s
+reached_within s place sh e = elim (leb_tells (length s) place) [
+  | inl w ↦ let past = at_past None s place w.1 in absurd cc
+  | inr w ↦ omega (arith, w.1)
+]
+
+module _ (p : Image) (m : ℕ) (s : Shapes) (strongest : IsMethodStrongest p m s) where
+  framed : (n : ℕ) → Before (FramesAt p m s) (length s) n → Frames p m n
+  framed n h = elim h.comes.is [
+    | inl e ↦ let w = of_method p m h.place h.comes.instr h.comes.stands in subst (Frames p m) (sym e) (alone (rw w.1 refl))
+    | inr w ↦
+        let calls : CallsAt p m s h.place w.1.method = record { shape = h.comes.shape; there = h.comes.there; instr = h.comes.instr; stands = h.comes.stands; calls = w.1.among } in
+        let call : MayCall p m w.1.method = record { states = s; strongest = strongest; place = h.place; calls = calls } in
+        let same : suc w.0 ≡ n = omega (arith, w.2) in
+        subst (Frames p m) same (calling call w.1.has)
+  ]
+
+  frames_before : (n : ℕ) → Frames p m n → Before (FramesAt p m s) (length s) n
+  frames_before n (alone some) =
+      let entry = strongest.typed.entry in
+      let applies = strongest.typed.each 0 entry.next entry.there in
+      record {
+        place = 0;
+        below = reached_within s 0 entry.next entry.there;
+        comes = record { shape = entry.next; there = entry.there; instr = applies.instr; stands = applies.stands; is = inl refl };
+      }
+  frames_before n (calling {k = k} {n = above} call frames) =
+      let meets = (call.strongest.least s strongest.typed).each call.place call.calls.shape call.calls.there in
+      let among = calls_more p m meets.next call.calls.shape call.calls.instr k meets.no_more call.calls.calls in
+      record {
+        place = call.place;
+        below = reached_within s call.place meets.next meets.there;
+        comes = record {
+          shape = meets.next;
+          there = meets.there;
+          instr = call.calls.instr;
+          stands = call.calls.stands;
+          is = inr (above, record { method = k; among = among; has = frames }, omega arith);
+        };
+      }
+
+  pub most_frames : (n : ℕ) → IsMost 257 (Before (FramesAt p m s) (length s)) n → IsMost 257 (Frames p m) n
+  most_frames n h = alike 257 (Before (FramesAt p m s) (length s)) (Frames p m) n framed frames_before h
+
+  -- ---- entries
+
+  heightened : (n : ℕ) → Before (EntriesAt p m s) (length s) n → Heights p m n
+  heightened n h =
+      let stands : StandsAt p m h.place h.comes.shape = record { states = s; strongest = strongest; there = h.comes.there } in
+      elim h.comes.is [
+        | inl e ↦ own (record { place = h.place; shape = h.comes.shape; stands = stands; count = sym e })
+        | inr w ↦
+            let call : CallsOver p m w.1.method (length h.comes.shape.entries) = record {
+              place = h.place;
+              shape = h.comes.shape;
+              stands = stands;
+              instr = h.comes.instr;
+              here = h.comes.stands;
+              enters = enters h.comes.instr w.1.method w.1.among;
+              count = refl;
+            } in
+            subst (Heights p m) (sym w.2) (under call w.1.has)
+      ]
+
+  heights_before : (n : ℕ) → Heights p m n → Before (EntriesAt p m s) (length s) n
+  heights_before n (own h) =
+      let meets = (h.stands.strongest.least s strongest.typed).each h.place h.shape h.stands.there in
+      let applies = strongest.typed.each h.place meets.next meets.there in
+      record {
+        place = h.place;
+        below = reached_within s h.place meets.next meets.there;
+        comes = record {
+          shape = meets.next;
+          there = meets.there;
+          instr = applies.instr;
+          stands = applies.stands;
+          is = inl (sym h.count ∙ sym (ap (λ es. length es) meets.no_more.entries));
+        };
+      }
+  heights_before n (under {k = k} {h = count} {n = above} call heights) =
+      let meets = (call.stands.strongest.least s strongest.typed).each call.place call.shape call.stands.there in
+      let same = ap (λ es. length es) meets.no_more.entries in
+      record {
+        place = call.place;
+        below = reached_within s call.place meets.next meets.there;
+        comes = record {
+          shape = meets.next;
+          there = meets.there;
+          instr = call.instr;
+          stands = call.here;
+          is = inr (above, record { method = k; among = is_entered call.instr k call.enters; has = heights }, omega (arith, same, call.count));
+        };
+      }
+
+  pub most_entries : (n : ℕ) → IsMost 1025 (Before (EntriesAt p m s) (length s)) n → IsMost 1025 (Heights p m) n
+  most_entries n h = alike 1025 (Before (EntriesAt p m s) (length s)) (Heights p m) n heightened heights_before h
+
+-- what is entered is called
+pub entered_is_called : (p : Image) (m k h : ℕ) → CallsOver p m k h → MayCall p m k
+entered_is_called p m k h call = record {
+  states = call.stands.states;
+  strongest = call.stands.strongest;
+  place = call.place;
+  calls = record {
+    shape = call.shape;
+    there = call.stands.there;
+    instr = call.instr;
+    stands = call.here;
+    calls = entered_called p m call.shape call.instr k (is_entered call.instr k call.enters);
+  };
+}
+
+-- ---- the tables
+
+pub read_at : (ds xs : List ℕ) (i j n : ℕ) → xs ≡ ds → i ≡ j → j < length ds → n ≡ slice_index_or xs i n → n ≡ at 0 ds j
+read_at ds xs i j n e same h r = (rw (e, same) at r) ∙ at_within 0 n ds j h
+
+pub filled_first : (p : Image) (cap : ℕ) (of : ℕ → ℕ → Type 0) (n : ℕ) → n ≡ length p.methods → IsFilled p cap of 0 (replicate n 0)
+filled_first p cap of n e = record { size = length-replicate {A = ℕ} n 0 ∙ e; each = λ m below. absurd (omega (arith, below)) }
+
+pub filled_more :
+    (p : Image) (cap : ℕ) (of : ℕ → ℕ → Type 0) (m : ℕ) (table : List ℕ) (n : ℕ) → IsFilled p cap of m table → m < length p.methods → IsMost cap (of m) n →
+    IsFilled p cap of (suc m) (slice_set table m n)
+filled_more p cap of m table n h within most =
+    let inside : m < length table = omega (arith, within, h.size) in
+    record {
+      size = length-set table m n ∙ h.size;
+      each = λ k below. elim (eqb_tells k m) [
+        | inl w ↦ rw (w.1, at_set_here 0 table m n inside) most
+        | inr w ↦ rw (at_set_other 0 table m k n w.1) (h.each k (omega (arith, below, w.1)))
+      ];
+    }

@@ -1,0 +1,531 @@
+-- Each class that a state of the strongest typing names is one that the method mentions; so what a method may call has a lower number.
+use Rattle.std.proofs.Common.{◌≡◌, ℕ, zero, suc, ◌<◌, ◌==◌, Bool, true, false, cond, ◌&&◌, All, IsTrue, IfSome, List, [], ◌∷◌, map, position, Option, Some, None, slice_get, inl, inr, refl, sym, ap, ◌∙◌, subst, arith}
+use Rattle.std.specs.Prelude.{nat_lt}
+use Rattle.std.specs.List.{list_all}
+use Rattle.std.proofs.lemmas.List.Folds.{list_all-append}
+use Rattle.aom_image.specs.Image.{Image}
+use Rattle.aom_image.specs.Views.{arguments_of, arguments_in, class_in, fields_of, gives_of, instr_at, method_at, method_class, role_in}
+use Rattle.aom_image.specs.declared.instr.Instr.{Instr}
+use Rattle.aom_image.specs.declared.instr.Instr.TheVariants.{Const, Copy, Move, Add, Sub, Mul, And, Or, Xor, Jump, JumpEqual, JumpLess, JumpNull, JumpEmpty, Loop, Next, Print, Load, Store, Take, Put, New, NewOrLeave, Delete, Push, PushOperation, Pop, PopOperation, PopDelete, Call, Trap, Return, Leave, LeaveIf, Stop, Cancel}
+use Rattle.aom_image.specs.declared.instr.Target.{Target}
+use Rattle.aom_image.specs.declared.instr.Target.TheVariants.{This, Register, Field, Entry as On_entry}
+use Rattle.aom_image.specs.declared.method.Argument.{Argument}
+use Rattle.aom_image.specs.declared.method.Argument.TheVariants.{Word as A_word_argument, Own as An_own_argument}
+use Rattle.aom_image.specs.declared.method.Gives.{Gives}
+use Rattle.aom_image.specs.declared.method.Gives.TheVariants.{Nothing, Word as A_word, Own as An_own, Maybe as A_maybe, Left}
+use Rattle.aom_image.specs.declared.method.Method.{Method}
+use Rattle.aom_image.specs.declared.method.Role.{Role}
+use Rattle.aom_image.specs.declared.method.Role.TheVariants as roles
+use Rattle.aom_image.specs.declared.method.Thing.{Thing}
+use Rattle.aom_image.specs.declared.method.Thing.TheVariants.{Object, Message}
+use Rattle.aom_roles.specs.Classes.{sessions_at}
+use Rattle.aom_roles.specs.Roles.{role_number}
+use Rattle.aom_classes.specs.Calls.{AllBelow, DestructsBelow, Mentions, MentionsThing, MentionsArgument, MentionsResult, MentionsFields, MentionsRoot, RunsBelow, CallsOrdered}
+use Rattle.aom_classes.specs.Linked.{IsLinked}
+use Rattle.aom_classes.specs.Roles.{plays, role_of, same_role}
+use Rattle.aom_classes.proofs.Each.{both, join}
+use Rattle.aom_classes.proofs.Facts.{at_place, all_there, of_method}
+use Rattle.aom_classes.proofs.Playing.{found}
+use Rattle.aom_shape.specs.Calls.{brought, caught, readied_entry, readied_at, fields_worked, while_called, argument_moved, arguments_moved}
+use Rattle.aom_shape.specs.Cleanup.{entry_of, top_kind, without_top, with_entry}
+use Rattle.aom_shape.specs.Kinds.{entry_kind, register, field, set_register, set_field, filled, readied}
+use Rattle.aom_shape.specs.Needs.{Flow}
+use Rattle.aom_shape.specs.Objects.{flow_jump_null, flow_jump_empty}
+use Rattle.aom_shape.specs.Order.{Weaker, SaysNoMore}
+use Rattle.aom_shape.specs.Order.WeakerFilling.{alike_filling}
+use Rattle.aom_shape.specs.Order.Weaker.{alike, unset_word, unset_null, maybe_null, maybe_own}
+use Rattle.aom_shape.specs.Rules.{flows}
+use Rattle.aom_shape.specs.Shape.{Shape}
+use Rattle.aom_shape.specs.Tables.{at}
+use Rattle.aom_shape.specs.Things.{Holder, Member, root_thing, field_thing, holder_by, holder_of}
+use Rattle.aom_shape.specs.Typing.{argument_kind, entry_shape}
+use Rattle.aom_shape.specs.declared.kind.Entry.{Entry}
+use Rattle.aom_shape.specs.declared.kind.Entry.TheVariants.{Object as An_object, Operation}
+use Rattle.aom_shape.specs.declared.kind.Filling.{Filling}
+use Rattle.aom_shape.specs.declared.kind.Filling.TheVariants.{Empty, Full, Perhaps}
+use Rattle.aom_shape.specs.declared.kind.Kind.{Kind}
+use Rattle.aom_shape.specs.declared.kind.Kind.TheVariants.{Unset, Word, Null, Own, Maybe}
+use Rattle.aom_shape.proofs.Lists.{at_put}
+use Rattle.aom_shape.proofs.Monotone.{needs_more, flows_more}
+use Rattle.aom_verify.specs.Shapes.{Shapes, Meets, AllMet, Applies, IsMethodTyped}
+use Rattle.aom_verify.specs.Strongest.{IsMethodStrongest}
+use Rattle.aom_verify.proofs.Following.{follow_met}
+use Rattle.aom_budget.specs.Calls.{listed, destructor_of, destructors, cancel_of, thing_class, object_class, callees, Among, MayCall}
+
+-- ---- what runs as an object goes has a lower number
+
+abbrev runs_below : Image → ℕ → Option ℕ → Bool
+runs_below p m class = list_all (λ k. nat_lt k m) (destructors p class)
+
+listed_below : (m : ℕ) (o : Option ℕ) → IfSome o (λ k. k < m) → IsTrue (list_all (λ k. nat_lt k m) (listed o))
+listed_below m None h = refl
+listed_below m (Some k) h = join (nat_lt k m) true (grind (arith, h)) refl
+
+role_below : (p : Image) (m c : ℕ) (r : Role) → AllBelow p.methods m c r → IfSome (role_of p c r) (λ k. k < m)
+unfolding role_of
+role_below p m c r h = go (position (plays c r) p.methods) refl
+  where
+    go : (o : Option ℕ) → position (plays c r) p.methods ≡ o → IfSome o (λ k. k < m)
+    go None e = tt
+    go (Some k) e = let w = found (plays c r) p.methods k e in at_place (λ j d. IsTrue (plays c r d) → j < m) p.methods k w.0 h w.1 w.2
+
+destructor_below : (p : Image) (m : ℕ) (class : Option ℕ) → IfSome class (DestructsBelow p m) → IfSome (destructor_of p class) (λ k. k < m)
+destructor_below p m None h = tt
+destructor_below p m (Some c) h = role_below p m c roles.Destruct h
+
+mentioned : (p : Image) (m c : ℕ) → Mentions p m c → IsTrue (runs_below p m (Some c))
+mentioned p m c h =
+    let own = listed_below m (role_of p c roles.Destruct) (role_below p m c roles.Destruct h.own) in
+    let sessions = listed_below m (destructor_of p (sessions_at p c)) (destructor_below p m (sessions_at p c) h.sessions) in
+    rw (list_all-append (λ k. nat_lt k m) (listed (role_of p c roles.Destruct)) (listed (destructor_of p (sessions_at p c)))) (join _ _ own sessions)
+
+thing_mentioned : (p : Image) (m : ℕ) (t : Thing) → MentionsThing p m t → IsTrue (runs_below p m (thing_class t))
+thing_mentioned p m (Object c) h = mentioned p m c h
+thing_mentioned p m Message h = refl
+
+-- ---- states that name such classes alone
+
+abbrev is_low : Image → ℕ → Kind → Bool
+is_low p m k = runs_below p m (object_class k)
+
+abbrev entry_low : Image → ℕ → Entry → Bool
+entry_low p m e = is_low p m (entry_kind e)
+
+record IsLow (p : Image) (m : ℕ) (sh : Shape) : Type 0 where
+  registers : (i : ℕ) → IsTrue (is_low p m (register sh i))
+  entries : IsTrue (list_all (entry_low p m) sh.entries)
+
+abbrev AllLow : Image → ℕ → List Flow → Type 0
+AllLow p m [] = Unit {0}
+AllLow p m (way ∷ ways) = IsLow p m way.1 × AllLow p m ways
+
+abbrev FieldsLow : Image → ℕ → Holder → Type 0
+FieldsLow p m holder = (f : ℕ) → IfSome (field_thing p holder f) (λ t. IsTrue (runs_below p m (thing_class t)))
+
+module _ (p : Image) (m : ℕ) where
+  root_low : (root : Option ℕ) → IfSome root (Mentions p m) → (f : ℕ) → IfSome (root_thing root f) (λ t. IsTrue (runs_below p m (thing_class t)))
+  root_low None h zero = tt
+  root_low (Some c) h zero = mentioned p m c h
+  root_low root h (suc f) = tt
+
+  member_low : (c : ℕ) → All (MentionsThing p m) (fields_of p c) → FieldsLow p m (Member c)
+  member_low c h f = go (slice_get (fields_of p c) f) refl
+    where
+      go : (o : Option Thing) → slice_get (fields_of p c) f ≡ o → IfSome o (λ t. IsTrue (runs_below p m (thing_class t)))
+      go None e = tt
+      go (Some t) e = thing_mentioned p m t (all_there (MentionsThing p m) (fields_of p c) f t h e)
+
+  class_low : (own : Option ℕ) (r : Role) → (IsTrue (same_role r roles.Main) → MentionsRoot p m) → MentionsFields p m own → FieldsLow p m (holder_by (Some r) own)
+  unfolding role_number
+  class_low own roles.Main root fields = root_low p.header.root (root refl)
+  class_low None _ root fields = λ f. tt
+  class_low (Some c) _ root fields = member_low c fields
+
+  holder_low : (d : Method) → method_at p m ≡ Some d → CallsOrdered p m d → FieldsLow p m (holder_of p m)
+  unfolding role_in class_in
+  holder_low d e h = rw e (class_low d.class d.role h.root h.fields)
+
+  set_low : (sh : Shape) (i : ℕ) (k : Kind) → IsLow p m sh → IsTrue (is_low p m k) → IsLow p m (set_register sh i k)
+  set_low sh i k h low = record {
+    registers = λ j. rw (at_put Unset sh.registers i j k) (either j (i == j));
+    entries = h.entries;
+  }
+    where
+      either : (j : ℕ) (b : Bool) → IsTrue (is_low p m (cond b k (register sh j)))
+      either j true = low
+      either j false = h.registers j
+
+  -- what a field has is no part of it
+  field_low : (sh : Shape) (f : ℕ) (x : Filling) → IsLow p m sh → IsLow p m (set_field sh f x)
+  field_low sh f x h = record { registers = h.registers; entries = h.entries }
+
+  filled_low : (o : Option Thing) (x : Filling) → IfSome o (λ t. IsTrue (runs_below p m (thing_class t))) → IsTrue (is_low p m (filled o x))
+  filled_low None x h = refl
+  filled_low (Some t) Empty h = refl
+  filled_low (Some t) Full h = h
+  filled_low (Some t) Perhaps h = h
+
+  with_low : (e : Entry) (sh : Shape) → IsTrue (entry_low p m e) → IsLow p m sh → IsLow p m (with_entry e sh)
+  with_low e sh low h = record { registers = h.registers; entries = join (entry_low p m e) (list_all (entry_low p m) sh.entries) low h.entries }
+
+  pushed_low : (k : Kind) → IsTrue (is_low p m k) → IsTrue (entry_low p m (entry_of k))
+  pushed_low Unset h = refl
+  pushed_low Word h = refl
+  pushed_low Null h = refl
+  pushed_low (Own (Object c) a) h = h
+  pushed_low (Own Message a) h = refl
+  pushed_low (Maybe t a) h = refl
+
+  top_low : (es : List Entry) → IsTrue (list_all (entry_low p m) es) → IsTrue (is_low p m (top_kind es))
+  top_low [] h = refl
+  top_low (e ∷ es) h = (both (entry_low p m e) (list_all (entry_low p m) es) h).0
+
+  rest_low : (es : List Entry) → IsTrue (list_all (entry_low p m) es) → IsTrue (list_all (entry_low p m) (without_top es))
+  rest_low [] h = refl
+  rest_low (e ∷ es) h = (both (entry_low p m e) (list_all (entry_low p m) es) h).1
+
+  without_low : (sh : Shape) → IsLow p m sh → IsLow p m (record sh { entries = without_top sh.entries })
+  without_low sh h = record { registers = h.registers; entries = rest_low sh.entries h.entries }
+
+  -- ---- calls
+
+  readied_low : (k : Kind) → IsTrue (is_low p m k) → IsTrue (is_low p m (readied k))
+  readied_low Unset h = refl
+  readied_low Word h = refl
+  readied_low Null h = refl
+  readied_low (Own t a) h = h
+  readied_low (Maybe t a) h = h
+
+  readied_entry_low : (e : Entry) → IsTrue (entry_low p m e) → IsTrue (entry_low p m (readied_entry e))
+  readied_entry_low (An_object c a) h = h
+  readied_entry_low Operation h = h
+
+  readied_at_low : (es : List Entry) (k : ℕ) → IsTrue (list_all (entry_low p m) es) → IsTrue (list_all (entry_low p m) (readied_at es k))
+  readied_at_low [] k h = refl
+  readied_at_low (e ∷ es) zero h = let w = both (entry_low p m e) (list_all (entry_low p m) es) h in join (entry_low p m (readied_entry e)) (list_all (entry_low p m) es) (readied_entry_low e w.0) w.1
+  readied_at_low (e ∷ es) (suc k) h =
+      let w = both (entry_low p m e) (list_all (entry_low p m) es) h in
+      join (entry_low p m e) (list_all (entry_low p m) (readied_at es k)) w.0 (readied_at_low es k w.1)
+
+  argument_low : (x : Argument) (r : ℕ) (sh : Shape) → IsLow p m sh → IsLow p m (argument_moved x r sh)
+  argument_low A_word_argument r sh h = h
+  argument_low (An_own_argument t) r sh h = set_low sh r Null h refl
+
+  arguments_low : (xs : List Argument) (first : ℕ) (sh : Shape) → IsLow p m sh → IsLow p m (arguments_moved xs first sh)
+  arguments_low [] first sh h = h
+  arguments_low (x ∷ xs) first sh h = arguments_low xs (suc first) (argument_moved x first sh) (argument_low x first sh h)
+
+  worked_low : (class : Option ℕ) (sh : Shape) → IsLow p m sh → IsLow p m (fields_worked class sh)
+  worked_low None sh h = h
+  worked_low (Some c) sh h = record { registers = h.registers; entries = h.entries }
+
+  called_low : (target : Target) (class : Option ℕ) (sh : Shape) → IsLow p m sh → IsLow p m (while_called target class sh)
+  called_low This class sh h = worked_low class sh h
+  called_low (Register r) class sh h = set_low sh r (readied (register sh r)) h (readied_low (register sh r) (h.registers r))
+  called_low (Field f) class sh h = h
+  called_low (On_entry k) class sh h = record { registers = h.registers; entries = readied_at_low sh.entries k h.entries }
+
+  brought_low : (g : Gives) (c : ℕ) (sh : Shape) → MentionsResult p m g → IsLow p m sh → IsLow p m (brought g c sh)
+  brought_low Nothing c sh g h = h
+  brought_low A_word c sh g h = set_low sh c Word h refl
+  brought_low (An_own t) c sh g h = set_low sh c _ h (thing_mentioned p m t g)
+  brought_low (A_maybe t) c sh g h = set_low sh c _ h (thing_mentioned p m t g)
+  brought_low (Left x) c sh g h = with_low _ sh (mentioned p m x g) h
+
+  caught_low : (g : Gives) (c : ℕ) (sh : Shape) → MentionsResult p m g → IsLow p m sh → IsLow p m (caught g c sh)
+  caught_low Nothing c sh g h = set_low sh (suc c) Word h refl
+  caught_low A_word c sh g h = set_low (set_register sh c Word) (suc c) Word (set_low sh c Word h refl) refl
+  caught_low (An_own t) c sh g h = set_low _ (suc c) Word (set_low sh c _ h (thing_mentioned p m t g)) refl
+  caught_low (A_maybe t) c sh g h = set_low _ (suc c) Word (set_low sh c _ h (thing_mentioned p m t g)) refl
+  caught_low (Left x) c sh g h = set_low sh (suc c) Word h refl
+
+  lasting_low : (target : Target) (called first : ℕ) (sh : Shape) → IsLow p m sh → IsLow p m (while_called target (method_class p called) (arguments_moved (arguments_of p called) first sh))
+  lasting_low target called first sh h = called_low target (method_class p called) (arguments_moved (arguments_of p called) first sh) (arguments_low (arguments_of p called) first sh h)
+
+  -- ---- flows
+
+  null_low : (pc : ℕ) (sh : Shape) (k : Kind) (r to : ℕ) → IsLow p m sh → IsTrue (is_low p m k) → AllLow p m (flow_jump_null p m pc sh k r to)
+  null_low pc sh Unset r to h low = tt
+  null_low pc sh Word r to h low = tt
+  null_low pc sh Null r to h low = (h, tt)
+  null_low pc sh (Own t a) r to h low = (h, tt)
+  null_low pc sh (Maybe t a) r to h low = (set_low sh r (Own t a) h low, (set_low sh r Null h refl, tt))
+
+  empty_low : (pc : ℕ) (sh : Shape) (x : Filling) (f to : ℕ) → IsLow p m sh → AllLow p m (flow_jump_empty p m pc sh x f to)
+  empty_low pc sh Empty f to h = (h, tt)
+  empty_low pc sh Full f to h = (h, tt)
+  empty_low pc sh Perhaps f to h = (field_low sh f Full h, (field_low sh f Empty h, tt))
+
+  module _ (own : Option ℕ) (fields : FieldsLow p m (holder_of p m)) where
+    flows_low : (pc : ℕ) (sh : Shape) (i : Instr) → RunsBelow p m own i → IsLow p m sh → AllLow p m (flows p m pc sh i)
+    flows_low pc sh (Const a w) r h = (set_low sh a Word h refl, tt)
+    flows_low pc sh (Copy a b) r h = (set_low sh a Word h refl, tt)
+    flows_low pc sh (Add a b c) r h = (set_low sh a Word h refl, tt)
+    flows_low pc sh (Sub a b c) r h = (set_low sh a Word h refl, tt)
+    flows_low pc sh (Mul a b c) r h = (set_low sh a Word h refl, tt)
+    flows_low pc sh (And a b c) r h = (set_low sh a Word h refl, tt)
+    flows_low pc sh (Or a b c) r h = (set_low sh a Word h refl, tt)
+    flows_low pc sh (Xor a b c) r h = (set_low sh a Word h refl, tt)
+    flows_low pc sh (Load a w) r h = (set_low sh a Word h refl, tt)
+    flows_low pc sh (Jump to) r h = (h, tt)
+    flows_low pc sh (Loop depth rounds) r h = (h, tt)
+    flows_low pc sh (Print a) r h = (h, tt)
+    flows_low pc sh (Store w b) r h = (h, tt)
+    flows_low pc sh (LeaveIf a) r h = (h, tt)
+    flows_low pc sh Stop r h = (h, tt)
+    flows_low pc sh (JumpEqual a b to) r h = (h, (h, tt))
+    flows_low pc sh (JumpLess a b to) r h = (h, (h, tt))
+    flows_low pc sh (Next depth to) r h = (h, (h, tt))
+    flows_low pc sh (Move a b) r h = (set_low (set_register sh b Null) a (register sh b) (set_low sh b Null h refl) (h.registers b), tt)
+    flows_low pc sh (JumpNull a to) r h = null_low pc sh (register sh a) a to h (h.registers a)
+    flows_low pc sh (JumpEmpty f to) r h = empty_low pc sh (field sh f) f to h
+    flows_low pc sh (Take a f) r h = (set_low (set_field sh f Empty) a _ (field_low sh f Empty h) (filled_low (field_thing p (holder_of p m) f) (field sh f) (fields f)), tt)
+    flows_low pc sh (Put f b) r h = (field_low (set_register sh b Null) f _ (set_low sh b Null h refl), tt)
+    flows_low pc sh (New a c) r h = (set_low sh a _ h (mentioned p m c r), tt)
+    flows_low pc sh (NewOrLeave a c) r h = (set_low sh a _ h (mentioned p m c r), tt)
+    flows_low pc sh (Delete a) r h = (set_low sh a Null h refl, tt)
+    flows_low pc sh (Push a) r h = (with_low (entry_of (register sh a)) (set_register sh a Null) (pushed_low (register sh a) (h.registers a)) (set_low sh a Null h refl), tt)
+    flows_low pc sh (PushOperation a called) r h = (with_low Operation sh refl h, tt)
+    flows_low pc sh (Pop a) r h = (set_low _ a (top_kind sh.entries) (without_low sh h) (top_low sh.entries h.entries), tt)
+    flows_low pc sh PopOperation r h = (without_low sh h, tt)
+    flows_low pc sh PopDelete r h = (without_low sh h, tt)
+    flows_low pc sh (Call target called first c) r h = (brought_low (gives_of p called) c _ r.gives (lasting_low target called first sh h), tt)
+    flows_low pc sh (Trap target called first c) r h = (caught_low (gives_of p called) c _ r.gives (lasting_low target called first sh h), tt)
+    flows_low pc sh (Leave a) r h = tt
+    flows_low pc sh (Return a) r h = tt
+    flows_low pc sh _ r h = tt
+
+  arguments_kinds : (xs : List Argument) (i : ℕ) → All (MentionsArgument p m) xs → IsTrue (is_low p m (at Unset (map argument_kind xs) i))
+  arguments_kinds [] i h = refl
+  arguments_kinds (A_word_argument ∷ xs) zero h = refl
+  arguments_kinds (An_own_argument t ∷ xs) zero h = thing_mentioned p m t (h 0 A_word_argument (omega arith))
+  arguments_kinds (x ∷ xs) (suc i) h = arguments_kinds xs i (λ k d below. h (suc k) d (omega (arith, below)))
+
+  begins_low : (d : Method) → method_at p m ≡ Some d → CallsOrdered p m d → IsLow p m (entry_shape p m)
+  unfolding arguments_in
+  begins_low d e h = record { registers = λ i. rw e (arguments_kinds d.arguments i h.arguments); entries = refl }
+
+-- ---- the strongest states name no others
+
+-- what may be there of a class that is not mentioned is null
+abbrev raised : Image → ℕ → Kind → Kind
+raised p m Unset = Unset
+raised p m Word = Word
+raised p m Null = Null
+raised p m (Own t a) = Own t a
+raised p m (Maybe t a) = cond (runs_below p m (thing_class t)) (Maybe t a) Null
+
+abbrev owned_low : Image → ℕ → Kind → Bool
+owned_low p m Unset = true
+owned_low p m Word = true
+owned_low p m Null = true
+owned_low p m (Own t a) = runs_below p m (thing_class t)
+owned_low p m (Maybe t a) = true
+
+abbrev raised_shape : Image → ℕ → Shape → Shape
+raised_shape p m sh = record sh { registers = map (raised p m) sh.registers }
+
+-- a state stays where nothing is owned of such a class
+abbrev stays : Image → ℕ → Shape → Bool
+stays p m sh = list_all (owned_low p m) sh.registers && list_all (entry_low p m) sh.entries
+
+abbrev kept : Image → ℕ → Option Shape → Option Shape
+kept p m None = None
+kept p m (Some sh) = cond (stays p m sh) (Some (raised_shape p m sh)) None
+
+abbrev all_kept : Image → ℕ → Shapes → Shapes
+all_kept p m s = map (kept p m) s
+
+at_map : {A B : Type 0} (f : A → B) (d : A) (xs : List A) (i : ℕ) → at (f d) (map f xs) i ≡ f (at d xs i)
+at_map f d [] i = refl
+at_map f d (x ∷ xs) zero = refl
+at_map f d (x ∷ xs) (suc i) = at_map f d xs i
+
+nothing_below_null : (x y : Kind) → Weaker x y → x ≡ Null → y ≡ Null
+nothing_below_null x y (alike {k = k}) e = e
+nothing_below_null x y unset_word e = absurd cc
+nothing_below_null x y unset_null e = refl
+nothing_below_null x y (maybe_null {t = t} {a = age}) e = refl
+nothing_below_null x y (maybe_own {t = t} {a = age}) e = absurd cc
+
+module _ (p : Image) (m : ℕ) where
+  at_raised : (ks : List Kind) (i : ℕ) → at Unset (map (raised p m) ks) i ≡ raised p m (at Unset ks i)
+  at_raised ks i = at_map (raised p m) Unset ks i
+
+  at_kept : (s : Shapes) (pc : ℕ) → at None (all_kept p m s) pc ≡ kept p m (at None s pc)
+  at_kept s pc = at_map (kept p m) None s pc
+
+  kind_raised : (k : Kind) → Weaker k (raised p m k)
+  kind_raised Unset = alike
+  kind_raised Word = alike
+  kind_raised Null = alike
+  kind_raised (Own t a) = alike
+  kind_raised (Maybe t a) = go (runs_below p m (thing_class t))
+    where
+      go : (b : Bool) → Weaker (Maybe t a) (cond b (Maybe t a) Null)
+      go true = alike
+      go false = maybe_null
+
+  shape_raised : (sh : Shape) → SaysNoMore sh (raised_shape p m sh)
+  shape_raised sh = record {
+    registers = λ i. rw (at_raised sh.registers i) (kind_raised (register sh i));
+    fields = λ f. alike_filling;
+    entries = refl;
+  }
+
+  raised_low : (k : Kind) → IsTrue (owned_low p m k) → IsTrue (is_low p m (raised p m k))
+  raised_low Unset h = refl
+  raised_low Word h = refl
+  raised_low Null h = refl
+  raised_low (Own t a) h = h
+  raised_low (Maybe t a) h = go (runs_below p m (thing_class t)) refl
+    where
+      go : (b : Bool) → runs_below p m (thing_class t) ≡ b → IsTrue (is_low p m (cond b (Maybe t a) Null))
+      go true e = e
+      go false e = refl
+
+  owned_at : (ks : List Kind) (i : ℕ) → IsTrue (list_all (owned_low p m) ks) → IsTrue (owned_low p m (at Unset ks i))
+  owned_at [] i h = refl
+  owned_at (k ∷ ks) zero h = (both (owned_low p m k) (list_all (owned_low p m) ks) h).0
+  owned_at (k ∷ ks) (suc i) h = owned_at ks i (both (owned_low p m k) (list_all (owned_low p m) ks) h).1
+
+  owned_all : (ks : List Kind) → ((i : ℕ) → IsTrue (owned_low p m (at Unset ks i))) → IsTrue (list_all (owned_low p m) ks)
+  owned_all [] h = refl
+  owned_all (k ∷ ks) h = join (owned_low p m k) (list_all (owned_low p m) ks) (h zero) (owned_all ks (λ i. h (suc i)))
+
+  shape_low : (sh : Shape) → IsTrue (stays p m sh) → IsLow p m (raised_shape p m sh)
+  shape_low sh h =
+      let w = both (list_all (owned_low p m) sh.registers) (list_all (entry_low p m) sh.entries) h in
+      record {
+        registers = λ i. rw (at_raised sh.registers i) (raised_low (register sh i) (owned_at sh.registers i w.0));
+        entries = w.1;
+      }
+
+  low_owned : (k : Kind) → IsTrue (is_low p m k) → IsTrue (owned_low p m k)
+  low_owned Unset h = refl
+  low_owned Word h = refl
+  low_owned Null h = refl
+  low_owned (Own t a) h = h
+  low_owned (Maybe t a) h = refl
+
+  -- what says no more than a kind of such a class
+  weaker_owned : (x y : Kind) → Weaker x y → IsTrue (is_low p m y) → IsTrue (owned_low p m x)
+  weaker_owned x y (alike {k = k}) h = low_owned k h
+  weaker_owned x y unset_word h = refl
+  weaker_owned x y unset_null h = refl
+  weaker_owned x y (maybe_null {t = t} {a = age}) h = refl
+  weaker_owned x y (maybe_own {t = t} {a = age}) h = refl
+
+  low_raised : (k : Kind) → IsTrue (is_low p m k) → raised p m k ≡ k
+  low_raised Unset h = refl
+  low_raised Word h = refl
+  low_raised Null h = refl
+  low_raised (Own t a) h = refl
+  low_raised (Maybe t a) h = rw h refl
+
+  -- still says no more once it is raised
+  weaker_raised : (x y : Kind) → Weaker x y → IsTrue (is_low p m y) → Weaker (raised p m x) y
+  weaker_raised x y (alike {k = k}) h = rw (low_raised k h) alike
+  weaker_raised x y unset_word h = unset_word
+  weaker_raised x y unset_null h = unset_null
+  weaker_raised x y (maybe_null {t = t} {a = age}) h = go (runs_below p m (thing_class t))
+    where
+      go : (b : Bool) → Weaker (cond b (Maybe t age) Null) Null
+      go true = maybe_null
+      go false = alike
+  weaker_raised x y (maybe_own {t = t} {a = age}) h = rw h maybe_own
+
+  meets_kept : (s : Shapes) (to : ℕ) (sh : Shape) → IsLow p m sh → Meets s to sh → Meets (all_kept p m s) to sh
+  meets_kept s to sh low h =
+      let owned = owned_all h.next.registers (λ i. weaker_owned (register h.next i) (register sh i) (h.no_more.registers i) (low.registers i)) in
+      let stay : IsTrue (stays p m h.next) = join (list_all (owned_low p m) h.next.registers) (list_all (entry_low p m) h.next.entries) owned (rw h.no_more.entries low.entries) in
+      let there : kept p m (Some h.next) ≡ Some (raised_shape p m h.next) = rw stay refl in
+      record {
+        next = raised_shape p m h.next;
+        there = at_kept s to ∙ (ap (kept p m) h.there ∙ there);
+        no_more = record {
+          registers = λ i. rw (at_raised h.next.registers i) (weaker_raised (register h.next i) (register sh i) (h.no_more.registers i) (low.registers i));
+          fields = h.no_more.fields;
+          entries = h.no_more.entries;
+        };
+      }
+
+  all_meet_kept : (s : Shapes) (ways : List Flow) → AllLow p m ways → AllMet s ways → AllMet (all_kept p m s) ways
+  all_meet_kept s [] low h = tt
+  all_meet_kept s (way ∷ ways) low h = (meets_kept s way.0 way.1 low.0 h.0, all_meet_kept s ways low.1 h.1)
+
+  -- what is kept stood there
+  stood : (o : Option Shape) (x : Shape) → kept p m o ≡ Some x → (sh : Shape) × (o ≡ Some sh) × IsTrue (stays p m sh) × (x ≡ raised_shape p m sh)
+  stood None x e = absurd cc
+  stood (Some sh) x e = go (stays p m sh) refl e
+    where
+      go : (b : Bool) → stays p m sh ≡ b → cond b (Some (raised_shape p m sh)) None ≡ Some x → (y : Shape) × (Some sh ≡ Some y) × IsTrue (stays p m y) × (x ≡ raised_shape p m y)
+      go true f g = let same : x ≡ raised_shape p m sh = cc in (sh, refl, f, same)
+      go false f g = absurd cc
+
+  ordered : IsLinked p → (d : Method) → method_at p m ≡ Some d → CallsOrdered p m d
+  unfolding method_at
+  ordered linked d e = at_place (CallsOrdered p) p.methods m d linked.calls e
+
+  -- the method of an instruction, and what it runs and mentions
+  runs_ordered : IsLinked p → (pc : ℕ) (i : Instr) → instr_at p m pc ≡ Some i → (d : Method) × (method_at p m ≡ Some d) × CallsOrdered p m d × RunsBelow p m d.class i
+  runs_ordered linked pc i e =
+      let w = of_method p m pc i e in
+      let calls = ordered linked w.0 w.1 in
+      (w.0, w.1, calls, all_there (RunsBelow p m w.0.class) w.0.code pc i calls.code w.2)
+
+  raised_applies : (s : Shapes) (pc : ℕ) (sh : Shape) → IsLinked p → IsMethodTyped p m s → at None s pc ≡ Some sh → IsTrue (stays p m sh) → Applies p m (all_kept p m s) pc (raised_shape p m sh)
+  raised_applies s pc sh linked h there stay =
+      let applies = h.each pc sh there in
+      let runs = runs_ordered linked pc applies.instr applies.stands in
+      let low = flows_low p m runs.0.class (holder_low p m runs.0 runs.1 runs.2) pc (raised_shape p m sh) applies.instr runs.3 (shape_low sh stay) in
+      record {
+        instr = applies.instr;
+        stands = applies.stands;
+        needs = needs_more p m pc sh (raised_shape p m sh) applies.instr (shape_raised sh) applies.needs;
+        flows = all_meet_kept s _ low (follow_met s _ _ (flows_more p m pc sh (raised_shape p m sh) applies.instr (shape_raised sh) applies.needs) applies.flows);
+      }
+
+  kept_typed : (s : Shapes) → IsLinked p → IsMethodTyped p m s → IsMethodTyped p m (all_kept p m s)
+  kept_typed s linked h = record {
+    each = λ pc x e.
+        let w = stood (at None s pc) x (sym (at_kept s pc) ∙ e) in
+        subst (λ y. Applies p m (all_kept p m s) pc y) (sym w.3) (raised_applies s pc w.0 linked h w.1 w.2);
+    entry =
+        let applies = h.each 0 h.entry.next h.entry.there in
+        let runs = runs_ordered linked 0 applies.instr applies.stands in
+        meets_kept s 0 (entry_shape p m) (begins_low p m runs.0 runs.1 runs.2) h.entry;
+  }
+
+  was_low : (k : Kind) → IsTrue (owned_low p m k) → Weaker (raised p m k) k → IsTrue (is_low p m k)
+  was_low Unset h w = refl
+  was_low Word h w = refl
+  was_low Null h w = refl
+  was_low (Own t a) h w = h
+  was_low (Maybe t a) h w = go (runs_below p m (thing_class t)) refl w
+    where
+      go : (b : Bool) → runs_below p m (thing_class t) ≡ b → Weaker (cond b (Maybe t a) Null) (Maybe t a) → IsTrue (runs_below p m (thing_class t))
+      go true e w = e
+      go false e w = let same = nothing_below_null Null (Maybe t a) w refl in absurd cc
+
+  states_low : (s : Shapes) (pc : ℕ) (sh : Shape) → IsLinked p → IsMethodStrongest p m s → at None s pc ≡ Some sh → IsLow p m sh
+  states_low s pc sh linked h there =
+      let meets = (h.least (all_kept p m s) (kept_typed s linked h.typed)).each pc sh there in
+      let w = stood (at None s pc) meets.next (sym (at_kept s pc) ∙ meets.there) in
+      let same : w.0 ≡ sh = let f = w.1 in cc in
+      let stay : IsTrue (stays p m sh) = rw same at w.2 in
+      let is : meets.next ≡ raised_shape p m sh = rw same at w.3 in
+      let back : SaysNoMore (raised_shape p m sh) sh = rw is at meets.no_more in
+      let both_stay = both (list_all (owned_low p m) sh.registers) (list_all (entry_low p m) sh.entries) stay in
+      record {
+        registers = λ i. was_low (register sh i) (owned_at sh.registers i both_stay.0) (subst (λ k. Weaker k (register sh i)) (at_raised sh.registers i) (back.registers i));
+        entries = both_stay.1;
+      }
+
+  -- ---- what is called
+
+  among_low : (k : ℕ) (xs : List ℕ) → IsTrue (list_all (λ j. nat_lt j m) xs) → Among k xs → k < m
+  among_low k [] h c = absurd c
+  among_low k (x ∷ xs) h (inl e) = let w = both (nat_lt x m) (list_all (λ j. nat_lt j m) xs) h in let low = w.0 in grind (arith, low, e)
+  among_low k (x ∷ xs) h (inr c) = among_low k xs (both (nat_lt x m) (list_all (λ j. nat_lt j m) xs) h).1 c
+
+  cancel_low : (own : Option ℕ) → RunsBelow p m own Cancel → IsTrue (list_all (λ j. nat_lt j m) (listed (cancel_of p own)))
+  cancel_low None h = refl
+  cancel_low (Some c) h = listed_below m (role_of p c roles.Cancel) (role_below p m c roles.Cancel h)
+
+  callees_low : (sh : Shape) (i : Instr) → RunsBelow p m (method_class p m) i → IsLow p m sh → IsTrue (list_all (λ j. nat_lt j m) (callees p m sh i))
+  callees_low sh (Call target called first c) r h = listed_below m (Some called) r.below
+  callees_low sh (Trap target called first c) r h = listed_below m (Some called) r.below
+  callees_low sh (PushOperation a called) r h = listed_below m (Some called) r
+  callees_low sh (Push a) r h = h.registers a
+  callees_low sh (Delete a) r h = h.registers a
+  callees_low sh Cancel r h = cancel_low (method_class p m) r
+  callees_low sh _ r h = refl
+
+  pub called_lower : (k : ℕ) → IsLinked p → MayCall p m k → k < m
+  unfolding class_in
+  called_lower k linked call =
+      let runs = runs_ordered linked call.place call.calls.instr call.calls.stands in
+      let own : RunsBelow p m (method_class p m) call.calls.instr = rw runs.1 runs.3 in
+      let low = states_low call.states call.place call.calls.shape linked call.strongest call.calls.there in
+      among_low k (callees p m call.calls.shape call.calls.instr) (callees_low call.calls.shape call.calls.instr own low) call.calls.calls

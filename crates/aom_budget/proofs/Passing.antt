@@ -1,0 +1,210 @@
+-- One place more of a pass: tables that agree with what is found there too are swept there too.
+use Rattle.std.proofs.Common.{◌≡◌, ◌≢◌, ℕ, suc, ◌<◌, ◌≤◌, ◌+◌, List, [], ◌∷◌, ◌++◌, map, Option, Some, None, IsSome, inl, inr, refl, sym, ap, ◌∙◌, subst, arith}
+use Rattle.std.proofs.lemmas.Bool.{false≢true}
+use Rattle.std.proofs.lemmas.Bool.Decides.{eqb_tells}
+use Rattle.aom_image.specs.Image.{Image}
+use Rattle.aom_image.specs.declared.instr.Instr.{Instr}
+use Rattle.aom_image.specs.declared.instr.Instr.TheVariants.{Const, Copy, Move, Add, Sub, Mul, And, Or, Xor, Jump, JumpEqual, JumpLess, JumpNull, JumpEmpty, Loop, Next, Print, Load, Store, Take, Put, New, NewOrLeave, Delete, Push, PushOperation, Pop, PopOperation, PopDelete, Call, Trap, Return, Leave, LeaveIf, Stop}
+use Rattle.aom_image.specs.declared.method.Role.TheVariants.{Destruct}
+use Rattle.aom_image.specs.declared.method.Thing.{Thing}
+use Rattle.aom_image.specs.declared.method.Thing.TheVariants.{Object, Message}
+use Rattle.aom_classes.specs.Bodies.{Body, IsLooped}
+use Rattle.aom_classes.specs.Roles.{destructor_of, role_of}
+use Rattle.aom_shape.specs.Kinds.{register, field}
+use Rattle.aom_shape.specs.Needs.{Flow, AllTrue}
+use Rattle.aom_shape.specs.Objects.{flow_jump_null, flow_jump_empty}
+use Rattle.aom_shape.specs.Rules.{rule_needs, flows}
+use Rattle.aom_shape.specs.Shape.{Shape}
+use Rattle.aom_shape.specs.Tables.{at}
+use Rattle.aom_shape.specs.Typing.{Typing, shape_at}
+use Rattle.aom_shape.specs.declared.kind.Filling.{Filling}
+use Rattle.aom_shape.specs.declared.kind.Filling.TheVariants.{Empty, Full, Perhaps}
+use Rattle.aom_shape.specs.declared.kind.Kind.{Kind}
+use Rattle.aom_shape.specs.declared.kind.Kind.TheVariants.{Unset, Word, Null, Own, Maybe}
+use Rattle.aom_verify.specs.Shapes.{Shapes}
+use Rattle.aom_prices.specs.Prices.{Prices, price, kind_price, own}
+use Rattle.aom_prices.specs.Costs.{AmongFlows, Region, Whole, Round, destructor_price}
+use Rattle.aom_prices.specs.Sweeping.{Afters, IsInnermost, IsSweptFrom, most_within}
+use Rattle.aom_prices.proofs.At.{IsSweptAt, at_each, from_each}
+use Rattle.aom_prices.proofs.Regions.{ends_before, innermost_of_body}
+use Rattle.aom_budget.specs.Calls.{Among, listed, thing_class, object_class, destructors, callees}
+use Rattle.aom_budget.specs.Pricing.{kept, price_by, destruction_by, kind_by, own_by, null_targets, empty_targets, targets_of, most_to, after_in, Found, Agrees, IsPassed}
+
+-- ---- targets
+
+abbrev pub targets : List Flow → List ℕ
+targets ways = map (λ way. way.0) ways
+
+null_same : (p : Image) (m place : ℕ) (sh : Shape) (k : Kind) (a to : ℕ) → null_targets (suc place) k to ≡ targets (flow_jump_null p m place sh k a to)
+null_same p m place sh Unset a to = refl
+null_same p m place sh Word a to = refl
+null_same p m place sh Null a to = refl
+null_same p m place sh (Own t age) a to = refl
+null_same p m place sh (Maybe t age) a to = refl
+
+empty_same : (p : Image) (m place : ℕ) (sh : Shape) (x : Filling) (f to : ℕ) → empty_targets (suc place) x to ≡ targets (flow_jump_empty p m place sh x f to)
+empty_same p m place sh Empty f to = refl
+empty_same p m place sh Full f to = refl
+empty_same p m place sh Perhaps f to = refl
+
+pub targets_same : (p : Image) (m place : ℕ) (sh : Shape) (i : Instr) → AllTrue (rule_needs p m place sh i) → targets_of place sh i ≡ targets (flows p m place sh i)
+targets_same p m place sh (Const a w) needs = refl
+targets_same p m place sh (Copy a b) needs = refl
+targets_same p m place sh (Add a b c) needs = refl
+targets_same p m place sh (Sub a b c) needs = refl
+targets_same p m place sh (Mul a b c) needs = refl
+targets_same p m place sh (And a b c) needs = refl
+targets_same p m place sh (Or a b c) needs = refl
+targets_same p m place sh (Xor a b c) needs = refl
+targets_same p m place sh (Jump to) needs = refl
+targets_same p m place sh (JumpEqual a b to) needs = refl
+targets_same p m place sh (JumpLess a b to) needs = refl
+targets_same p m place sh (JumpNull a to) needs = null_same p m place sh (register sh a) a to
+targets_same p m place sh (JumpEmpty f to) needs = empty_same p m place sh (field sh f) f to
+targets_same p m place sh (Loop depth rounds) needs = refl
+targets_same p m place sh (Next depth to) needs = refl
+targets_same p m place sh (Print a) needs = refl
+targets_same p m place sh (Load a w) needs = refl
+targets_same p m place sh (Store w b) needs = refl
+targets_same p m place sh (Move a b) needs = refl
+targets_same p m place sh (Take a f) needs = refl
+targets_same p m place sh (Put f b) needs = refl
+targets_same p m place sh (New a c) needs = refl
+targets_same p m place sh (NewOrLeave a c) needs = refl
+targets_same p m place sh (Delete a) needs = refl
+targets_same p m place sh (Push a) needs = refl
+targets_same p m place sh (PushOperation a k) needs = refl
+targets_same p m place sh (Pop a) needs = refl
+targets_same p m place sh PopOperation needs = refl
+targets_same p m place sh PopDelete needs = refl
+targets_same p m place sh (Call target k first c) needs = refl
+targets_same p m place sh (Trap target k first c) needs = refl
+targets_same p m place sh (Return a) needs = refl
+targets_same p m place sh (Leave a) needs = refl
+targets_same p m place sh (LeaveIf a) needs = refl
+targets_same p m place sh Stop needs = refl
+targets_same p m place sh _ needs = absurd (false≢true needs.0)
+
+pub among_flows : (to : ℕ) (fs : List Flow) → Among to (targets fs) → AmongFlows to fs
+among_flows to [] h = absurd h
+among_flows to (f ∷ fs) (inl e) = inl (sym e)
+among_flows to (f ∷ fs) (inr h) = inr (among_flows to fs h)
+
+pub flows_among : (to : ℕ) (fs : List Flow) → AmongFlows to fs → Among to (targets fs)
+flows_among to [] h = absurd h
+flows_among to (f ∷ fs) (inl e) = inl (sym e)
+flows_among to (f ∷ fs) (inr h) = inr (flows_among to fs h)
+
+pub most_same : (c : Prices) (m : ℕ) (r : Region) (from : List ℕ) (fs : List Flow) → ((to : ℕ) → AmongFlows to fs → c.from m to ≡ at 0 from to) → most_within c m r fs ≡ most_to from r (targets fs)
+most_same c m r from [] same = refl
+most_same c m r from (f ∷ fs) same = rw (same f.0 (inl refl), most_same c m r from fs (λ to h. same to (inr h))) refl
+
+-- ---- what an instruction costs
+
+pub below_first : (o : Option ℕ) (j : ℕ) (rest : List ℕ) → o ≡ Some j → Among j (listed o ++ rest)
+below_first o j rest e = subst (λ x. Among j (listed x ++ rest)) (sym e) (inl refl)
+
+module _ (p : Image) (prices : List ℕ) (m : ℕ) (c : Prices) (lower : (k : ℕ) → k < m → price c k ≡ at 0 prices k) where
+  module _ (classes : (x : Thing) → c.destruction x ≡ kept (1 + destructor_price c (destructor_of p x))) where
+    thing_same : (x : Thing) → ((j : ℕ) → destructor_of p x ≡ Some j → j < m) → c.destruction x ≡ destruction_by p prices x
+    thing_same x below = classes x ∙ ap (λ n. kept (1 + n)) (go (destructor_of p x) refl)
+      where
+        go : (o : Option ℕ) → destructor_of p x ≡ o → destructor_price c o ≡ price_by prices o
+        go None e = refl
+        go (Some j) e = lower j (below j e)
+
+    destruction_same : (x : Thing) → ((j : ℕ) → Among j (destructors p (thing_class x)) → j < m) → c.destruction x ≡ destruction_by p prices x
+    destruction_same (Object y) below = thing_same (Object y) (λ j e. below j (below_first (role_of p y Destruct) j _ e))
+    destruction_same Message below = thing_same Message (λ j e. absurd cc)
+
+    kind_same : (k : Kind) → ((j : ℕ) → Among j (destructors p (object_class k)) → j < m) → kind_price c k ≡ kind_by p prices k
+    kind_same Unset below = refl
+    kind_same Word below = refl
+    kind_same Null below = refl
+    kind_same (Own t a) below = destruction_same t below
+    kind_same (Maybe t a) below = destruction_same t below
+
+    pub own_same : (sh : Shape) (i : Instr) → ((j : ℕ) → Among j (callees p m sh i) → j < m) → own c sh i ≡ own_by p prices sh i
+    own_same sh (Call target k first x) below = ap (λ n. 1 + n) (lower k (below k (inl refl)))
+    own_same sh (Trap target k first x) below = ap (λ n. 1 + n) (lower k (below k (inl refl)))
+    own_same sh (PushOperation a k) below = ap (λ n. 1 + n) (lower k (below k (inl refl)))
+    own_same sh (Push a) below = ap (λ n. 1 + n) (kind_same (register sh a) below)
+    own_same sh (Delete a) below = ap (λ n. 1 + n) (kind_same (register sh a) below)
+    own_same sh _ below = refl
+
+-- ---- tables that agree down to a place agree down to the one after it
+
+pub record Extends (p : Image) (m x : ℕ) (old new : Found) : Type 0 where
+  pub froms : (y : ℕ) → x < y → at 0 new.from y ≡ at 0 old.from y
+  pub afters : (f to d n : ℕ) → x < to → Body p m f to d n → at 0 new.after f ≡ at 0 old.after f
+
+agrees_before :
+    (p : Image) (prices : List ℕ) (m : ℕ) (s : Shapes) (x : ℕ) (old new : Found) (t : Typing) (c : Prices) (a : Afters) → Extends p m x old new → Agrees p prices m s x new t c a →
+    Agrees p prices m s (suc x) old t c a
+agrees_before p prices m s x old new t c a e h = record {
+  states = h.states;
+  froms = λ y after. h.froms y (omega (arith, after)) ∙ e.froms y after;
+  afters = λ f to d n after b. h.afters f to d n (omega (arith, after)) b ∙ e.afters f to d n after b;
+  rounds = h.rounds;
+  lower = h.lower;
+  classes = h.classes;
+}
+
+later : (x y : ℕ) → x ≤ y → y ≢ x → suc x ≤ y
+later x y le differs = omega (arith, le, differs)
+
+swept_more : (p : Image) (t : Typing) (c : Prices) (a : Afters) (m x : ℕ) → IsSweptFrom kept p t c a m (suc x) → IsSweptAt kept p t c a m x → IsSweptFrom kept p t c a m x
+swept_more p t c a m x h here = from_each kept p t c a m x (λ y le. elim (eqb_tells y x) [
+  | inl w ↦ rw w.1 here
+  | inr w ↦ at_each kept p t c a m (suc x) h y (later x y le w.1)
+])
+
+-- ---- one place more
+
+module _ (p : Image) (prices : List ℕ) (m : ℕ) (s : Shapes) (looped : IsLooped p) (x : ℕ) (old new : Found) (extends : Extends p m x old new) (h : IsPassed p prices m s (suc x) old) where
+  -- of a region that ends later
+  after_same : (r : Region) (y : ℕ) → IsInnermost p m y r → x < y → after_in new.after r ≡ after_in old.after r
+  after_same Whole y inner le = refl
+  after_same (Round f e) y inner le = extends.afters f e inner.body.0 inner.body.1 (omega (arith, le, inner.inside.1)) inner.body.2
+
+  after_around : (r : Region) (f to d n : ℕ) → IsInnermost p m f r → Body p m f to d n → x < to → after_in new.after r ≡ after_in old.after r
+  after_around Whole f to d n inner b le = refl
+  after_around (Round g e) f to d n inner b le =
+      let ends = ends_before p looped m g e inner.body.0 inner.body.1 f to d n inner.body.2 b inner.inside in
+      extends.afters g e inner.body.0 inner.body.1 (omega (arith, le, ends)) inner.body.2
+
+  -- a round is what is found at the body's first place, less what follows
+  pub round_found :
+      (t : Typing) (c : Prices) (a : Afters) → Agrees p prices m s x new t c a → (to d n : ℕ) → Body p m x to d n → IsSome (shape_at t m (suc x)) → c.from m (suc x) ≡ c.round m x + a m x
+  round_found t c a agrees to d n b some =
+      let inner = innermost_of_body p looped m x to d n b in
+      let there : IsSome (at None s (suc x)) = subst (λ y. IsSome (at None y (suc x))) agrees.states some in
+      let covered : at 0 old.after x ≤ at 0 old.from (suc x) = covers_some (at None s (suc x)) refl there inner in
+      let follows : a m x ≡ at 0 old.after x = agrees.afters x to d n (omega (arith, b.later)) b ∙ extends.afters x to d n b.later b in
+      let first : c.from m (suc x) ≡ at 0 old.from (suc x) = agrees.froms (suc x) (omega arith) ∙ extends.froms (suc x) (omega arith) in
+      omega (arith, covered, agrees.rounds x, follows, first)
+    where
+      covers_some : (o : Option Shape) → at None s (suc x) ≡ o → IsSome o → IsInnermost p m (suc x) (Round x to) → at 0 old.after x ≤ at 0 old.from (suc x)
+      covers_some None e some inner = absurd cc
+      covers_some (Some sh) e some inner = h.covers (suc x) sh (Round x to) (omega arith) e inner
+
+  pub passed_more :
+      ((t : Typing) (c : Prices) (a : Afters) → Agrees p prices m s x new t c a → IsSweptAt kept p t c a m x) →
+      ((f d n : ℕ) (r : Region) → Body p m f x d n → IsInnermost p m f r → after_in new.after r ≤ at 0 new.after f) →
+      ((sh : Shape) (r : Region) → at None s x ≡ Some sh → IsInnermost p m x r → after_in new.after r ≤ at 0 new.from x) →
+      IsPassed p prices m s x new
+  passed_more here around covers = record {
+    around = λ f to d n r le b inner. elim (eqb_tells to x) [
+      | inl w ↦ around f d n r (rw w.1 at b) inner
+      | inr w ↦
+          let past = later x to le w.1 in
+          rw (after_around r f to d n inner b past, extends.afters f to d n past b) (h.around f to d n r past b inner)
+    ];
+    covers = λ y sh r le there inner. elim (eqb_tells y x) [
+      | inl w ↦ rw w.1 (covers sh r (rw w.1 at there) (rw w.1 at inner))
+      | inr w ↦
+          let past = later x y le w.1 in
+          rw (after_same r y inner past, extends.froms y past) (h.covers y sh r past there inner)
+    ];
+    swept = λ t c a agrees. swept_more p t c a m x (h.swept t c a (agrees_before p prices m s x old new t c a extends agrees)) (here t c a agrees);
+  }

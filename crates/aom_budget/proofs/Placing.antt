@@ -1,0 +1,282 @@
+-- What a pass finds at a place, by the instruction that stands there: a plain one, a loop, or a next.
+use Rattle.std.proofs.Common.{◌≡◌, ℕ, suc, ◌<◌, ◌≤◌, ◌+◌, ◌-◌, ◌*◌, List, [], Some, None, IfSome, inl, inr, refl, sym, ap, ◌∙◌, subst, arith}
+use Rattle.std.specs.Prelude.{max}
+use Rattle.std.proofs.lemmas.Bool.Decides.{leb_tells}
+use Rattle.aom_image.specs.Image.{Image}
+use Rattle.aom_image.specs.Views.{instr_at}
+use Rattle.aom_image.specs.declared.instr.Instr.{Instr}
+use Rattle.aom_image.specs.declared.instr.Instr.TheVariants.{Loop, Next}
+use Rattle.aom_classes.specs.Bodies.{Body, IsLooped}
+use Rattle.aom_classes.specs.Linked.{IsLinked}
+use Rattle.aom_classes.specs.Loops.{loop_in, next_in}
+use Rattle.aom_classes.proofs.Facts.{linked_place, of_method}
+use Rattle.aom_shape.specs.Needs.{AllTrue}
+use Rattle.aom_shape.specs.Rules.{rule_needs, flows}
+use Rattle.aom_shape.specs.Shape.{Shape}
+use Rattle.aom_shape.specs.Tables.{at}
+use Rattle.aom_shape.specs.Typing.{Typing, shape_at}
+use Rattle.aom_verify.specs.Shapes.{Shapes, AllMet}
+use Rattle.aom_verify.specs.Strongest.{IsMethodStrongest}
+use Rattle.aom_prices.specs.Prices.{Prices, own}
+use Rattle.aom_prices.specs.Costs.{AmongFlows, GoesOut, Region, Whole, Round}
+use Rattle.aom_prices.specs.Sweeping.{Afters, IsAfter, IsInnermost, after, most_within}
+use Rattle.aom_prices.proofs.Regions.{innermost_of_body, one_innermost, no_loop_here, no_next_here, no_way_back, some_same}
+use Rattle.aom_prices.proofs.Ways.{Way, way_of}
+use Rattle.aom_prices.proofs.Ways.Way.{back, jump, on}
+use Rattle.aom_budget.specs.Calls.{Among, callees}
+use Rattle.aom_budget.specs.Extents.{IsMost, Before}
+use Rattle.aom_budget.specs.Pricing.{AreKept, kept, targets_of, most_to, after_in, ExitsAt, Found, Agrees, IsPassed, plain_cost}
+use Rattle.aom_budget.proofs.Mentioned.{called_lower}
+use Rattle.aom_budget.proofs.Passing.{targets, targets_same, among_flows, flows_among, most_same, own_same, Extends, round_found, passed_more}
+use Rattle.aom_budget.proofs.Rounds.{no_body_ends, one_begin, next_around, next_here}
+
+module _ (p : Image) (prices : List ℕ) (m : ℕ) (s : Shapes) (looped : IsLooped p) (linked : IsLinked p) (strongest : IsMethodStrongest p m s) where
+  -- ---- what is known of a reached place
+
+  stands_there : (t : Typing) (x : ℕ) (sh : Shape) → at [] t m ≡ s → shape_at t m x ≡ Some sh → at None s x ≡ Some sh
+  stands_there t x sh same e = subst (λ y. at None y x ≡ Some sh) same e
+
+  there_stands : (t : Typing) (x : ℕ) (sh : Shape) → at [] t m ≡ s → at None s x ≡ Some sh → shape_at t m x ≡ Some sh
+  there_stands t x sh same e = subst (λ y. at None y x ≡ Some sh) (sym same) e
+
+  needs_at : (x : ℕ) (sh : Shape) (i : Instr) → at None s x ≡ Some sh → instr_at p m x ≡ Some i → AllTrue (rule_needs p m x sh i)
+  needs_at x sh i there stands =
+      let applies = strongest.typed.each x sh there in
+      let same : applies.instr ≡ i = some_same applies.instr i (sym applies.stands ∙ stands) in
+      subst (λ j. AllTrue (rule_needs p m x sh j)) same applies.needs
+
+  targets_at : (x : ℕ) (sh : Shape) (i : Instr) → at None s x ≡ Some sh → instr_at p m x ≡ Some i → targets_of x sh i ≡ targets (flows p m x sh i)
+  targets_at x sh i there stands = targets_same p m x sh i (needs_at x sh i there stands)
+
+  called_below : (x : ℕ) (sh : Shape) (i : Instr) → at None s x ≡ Some sh → instr_at p m x ≡ Some i → (k : ℕ) → Among k (callees p m sh i) → k < m
+  called_below x sh i there stands k c =
+      called_lower p m k linked (record { states = s; strongest = strongest; place = x; calls = record { shape = sh; there = there; instr = i; stands = stands; calls = c } })
+
+  -- what is no next goes on at later places
+  forward : (x to : ℕ) (sh : Shape) (i : Instr) → instr_at p m x ≡ Some i → next_in (Some i) ≡ None → AmongFlows to (flows p m x sh i) → x < to
+  forward x to sh i stands no_next among = go to (way_of p m x to sh i among)
+    where
+      go : (y : ℕ) → Way x i y → x < y
+      go y on = omega arith
+      go y (jump e) =
+          let w = of_method p m x i stands in
+          let keeps = linked_place p m x w.0 i linked w.1 w.2 in
+          subst (λ o. IfSome o (λ z. x < z)) e keeps.forward
+      go y (back e) = absurd (no_way_back i y no_next e)
+
+  module _ (x : ℕ) (old new : Found) (extends : Extends p m x old new) (h : IsPassed p prices m s (suc x) old) where
+    -- ---- a plain instruction
+
+    module _
+        (i : Instr) (stands : instr_at p m x ≡ Some i) (no_loop : loop_in (Some i) ≡ None) (no_next : next_in (Some i) ≡ None) (r : Region) (inner : IsInnermost p m x r)
+        (same : new.after ≡ old.after) where
+      plain_after : (c : Prices) (a : Afters) (t : Typing) → Agrees p prices m s x new t c a → after a m r ≡ after_in old.after r
+      plain_after c a t agrees = go r inner
+        where
+          go : (u : Region) → IsInnermost p m x u → after a m u ≡ after_in old.after u
+          go Whole w = refl
+          go (Round f e) w = agrees.afters f e w.body.0 w.body.1 w.inside.1 w.body.2 ∙ ap (λ l. at 0 l f) same
+
+      plain_most :
+          (c : Prices) (a : Afters) (t : Typing) (sh : Shape) → at None s x ≡ Some sh → Agrees p prices m s x new t c a →
+          most_within c m r (flows p m x sh i) ≡ most_to old.from r (targets_of x sh i)
+      plain_most c a t sh there agrees =
+          let each = λ (to : ℕ) (among : AmongFlows to (flows p m x sh i)).
+          let past = forward x to sh i stands no_next among in
+          agrees.froms to (omega (arith, past)) ∙ extends.froms to past in
+          most_same c m r old.from (flows p m x sh i) each ∙ ap (λ l. most_to old.from r l) (sym (targets_at x sh i there stands))
+
+      plain_value :
+          (c : Prices) (a : Afters) (t : Typing) (sh : Shape) → at None s x ≡ Some sh → Agrees p prices m s x new t c a →
+          at 0 new.from x ≡ plain_cost p prices old r x sh i →
+          c.from m x ≡ kept (own c sh i + max (after a m r) (most_within c m r (flows p m x sh i)))
+      plain_value c a t sh there agrees is =
+          rw (own_same p prices m c agrees.lower agrees.classes sh i (called_below x sh i there stands), plain_after c a t agrees, plain_most c a t sh there agrees)
+          (agrees.froms x (omega arith) ∙ is)
+
+      pub plain_more :
+          after_in old.after r ≤ 4294967296 →
+          ((sh : Shape) → at None s x ≡ Some sh → at 0 new.from x ≡ plain_cost p prices old r x sh i) →
+          IsPassed p prices m s x new
+      plain_more low value = passed_more p prices m s looped x old new extends h
+          (λ t c a agrees. record {
+            plain = λ sh j u there j_no_loop j_no_next u_inner.
+                let same_instr : i ≡ j = some_same i j (sym stands ∙ there.instr) in
+                let same_region : r ≡ u = one_innermost p looped m x r u inner u_inner in
+                let here = stands_there t x sh agrees.states there.shape in
+                let is = plain_value c a t sh here agrees (value sh here) in
+                subst (λ y. c.from m x ≡ kept (own c sh j + max (after a m y) (most_within c m y (flows p m x sh j)))) same_region
+                (subst (λ y. c.from m x ≡ kept (own c sh y + max (after a m r) (most_within c m r (flows p m x sh y)))) same_instr is);
+            loops = λ d n sh there. absurd (no_loop_here i d n no_loop (some_same i (Loop d n) (sym stands ∙ there.instr)));
+            nexts = λ d f sh there. absurd (no_next_here i d (suc f) no_next (some_same i (Next d (suc f)) (sym stands ∙ there.instr)));
+            rounds = round_found p prices m s looped x old new extends h t c a agrees;
+            afters = λ f d n u b w. absurd (no_body_ends p m x f x d n i stands no_next b refl);
+          })
+          (λ f d n u b w. absurd (no_body_ends p m x f x d n i stands no_next b refl))
+          (λ sh u there w.
+          let is = value sh there in
+          let same_region : u ≡ r = one_innermost p looped m x u r w inner in
+          let covered : after_in old.after r ≤ at 0 new.from x = omega (arith, is, low) in
+          rw (same_region, same) covered)
+
+    -- ---- a loop
+
+    module _ (d n : ℕ) (stands : instr_at p m x ≡ Some (Loop d n)) (same : new.after ≡ old.after) where
+      abbrev pub round_of : ℕ
+      round_of = at 0 old.from (suc x) - at 0 old.after x
+
+      rounds_same : (t : Typing) (c : Prices) (a : Afters) → Agrees p prices m s x new t c a → c.round m x ≡ round_of
+      rounds_same t c a agrees =
+          let begins = looped.begins m x d n stands in
+          let later = begins.2.later in
+          let follows : a m x ≡ at 0 old.after x = agrees.afters x begins.1 d n (omega (arith, later)) begins.2 ∙ ap (λ l. at 0 l x) same in
+          let first : c.from m (suc x) ≡ at 0 old.from (suc x) = agrees.froms (suc x) (omega arith) ∙ extends.froms (suc x) (omega arith) in
+          rw (agrees.rounds x, first, follows) refl
+
+      one_loop : (e l : ℕ) → Some (Loop d n) ≡ Some (Loop e l) → l ≡ n
+      one_loop e l eq = cc
+
+      loop_value :
+          (t : Typing) (c : Prices) (a : Afters) → Agrees p prices m s x new t c a → at 0 new.from x ≡ kept (1 + (n - 1) * round_of + at 0 old.from (suc x)) →
+          c.from m x ≡ kept (1 + (n - 1) * c.round m x + c.from m (suc x))
+      loop_value t c a agrees is =
+          let first : c.from m (suc x) ≡ at 0 old.from (suc x) = agrees.froms (suc x) (omega arith) ∙ extends.froms (suc x) (omega arith) in
+          rw (rounds_same t c a agrees, first) (agrees.froms x (omega arith) ∙ is)
+
+      body_reached : (sh : Shape) → at None s x ≡ Some sh → (y : Shape) × (at None s (suc x) ≡ Some y)
+      body_reached sh there =
+          let applies = strongest.typed.each x sh there in
+          let one : applies.instr ≡ Loop d n = some_same applies.instr (Loop d n) (sym applies.stands ∙ stands) in
+          let ways = subst (λ i. AllMet s (flows p m x sh i)) one applies.flows in
+          (ways.0.next, ways.0.there)
+
+      loop_covers : (v q y around low : ℕ) → v ≡ kept (1 + q + y) → around ≤ low → low ≤ y → y ≤ 4294967296 → around ≤ v
+      loop_covers v q y around low is le more small = omega (arith, is, le, more, small)
+
+      pub loop_more :
+          AreKept old.from → ((sh : Shape) → at None s x ≡ Some sh → at 0 new.from x ≡ kept (1 + (n - 1) * round_of + at 0 old.from (suc x))) →
+          IsPassed p prices m s x new
+      unfolding next_in loop_in
+      loop_more small value = passed_more p prices m s looped x old new extends h
+          (λ t c a agrees. record {
+            plain = λ sh j u there j_no_loop j_no_next u_inner. absurd (no_loop_here j d n j_no_loop (some_same j (Loop d n) (sym there.instr ∙ stands)));
+            loops = λ e l sh there.
+                let rounds = one_loop e l (sym stands ∙ there.instr) in
+                let here = stands_there t x sh agrees.states there.shape in
+                rw rounds (loop_value t c a agrees (value sh here));
+            nexts = λ e f sh there. absurd (no_next_here (Loop d n) e (suc f) refl (some_same (Loop d n) (Next e (suc f)) (sym stands ∙ there.instr)));
+            rounds = round_found p prices m s looped x old new extends h t c a agrees;
+            afters = λ f e l u b w. absurd (no_body_ends p m x f x e l (Loop d n) stands refl b refl);
+          })
+          (λ f e l u b w. absurd (no_body_ends p m x f x e l (Loop d n) stands refl b refl))
+          (λ sh u there w.
+          let begins = looped.begins m x d n stands in
+          let body = begins.2 in
+          let around = h.around x begins.1 d n u body.later body w in
+          let next = body_reached sh there in
+          let covered = h.covers (suc x) next.0 (Round x begins.1) (omega arith) next.1 (innermost_of_body p looped m x begins.1 d n body) in
+          rw same (loop_covers _ _ _ _ _ (value sh there) around covered (small.each (suc x))))
+
+    -- ---- a next
+
+    module _ (f d n : ℕ) (body : Body p m f x d n) (r : Region) (outside : IsInnermost p m (suc x) r) (u : ℕ) (exits : IsMost 4294967296 (Before (ExitsAt p m s old.from f x) (suc x)) u) where
+      abbrev pub follows : ℕ
+      follows = max (after_in old.after r) u
+
+      module _ (is : at 0 new.after f ≡ follows) (small : AreKept old.from) where
+        round_it : IsInnermost p m f r
+        round_it = next_around p m looped f x d n r body outside
+
+        closed : (t : Typing) (c : Prices) (a : Afters) → Agrees p prices m s x new t c a → a m f ≡ follows
+        closed t c a agrees = agrees.afters f x d n (omega arith) body ∙ is
+
+        around_same : (t : Typing) (c : Prices) (a : Afters) → Agrees p prices m s x new t c a → after a m r ≡ after_in old.after r
+        around_same t c a agrees = go r outside
+          where
+            go : (v : Region) → IsInnermost p m (suc x) v → after a m v ≡ after_in old.after v
+            go Whole w = refl
+            go (Round g e) w =
+                let past = w.inside.1 in
+                agrees.afters g e w.body.0 w.body.1 (omega (arith, past)) w.body.2 ∙ extends.afters g e w.body.0 w.body.1 (omega (arith, past)) w.body.2
+
+        found_out : (t : Typing) (c : Prices) (a : Afters) → Agrees p prices m s x new t c a → (out : ℕ) → x < out → c.from m out ≡ at 0 old.from out
+        found_out t c a agrees out past = agrees.froms out (omega (arith, past)) ∙ extends.froms out past
+
+        exit_of : (t : Typing) → at [] t m ≡ s → (out : ℕ) → GoesOut p t m f x out → Before (ExitsAt p m s old.from f x) (suc x) (at 0 old.from out)
+        exit_of t same out g =
+            let there = stands_there t g.place g.shape same g.stands.shape in
+            record {
+              place = g.place;
+              below = omega (arith, g.inside.1);
+              comes = record {
+                inside = g.inside;
+                shape = g.shape;
+                there = there;
+                instr = g.instr;
+                stands = g.stands.instr;
+                out = out;
+                flow = subst (λ l. Among out l) (sym (targets_at g.place g.shape g.instr there g.stands.instr)) (flows_among out (flows p m g.place g.shape g.instr) g.flow);
+                outside = g.outside;
+                is = refl;
+              };
+            }
+
+        goes_out : (t : Typing) → at [] t m ≡ s → (k : ℕ) → (b : Before (ExitsAt p m s old.from f x) (suc x) k) → GoesOut p t m f x b.comes.out
+        goes_out t same k b = record {
+          place = b.place;
+          inside = b.comes.inside;
+          shape = b.comes.shape;
+          instr = b.comes.instr;
+          stands = record { shape = there_stands t b.place b.comes.shape same b.comes.there; instr = b.comes.stands };
+          flow = among_flows b.comes.out _ (subst (λ l. Among b.comes.out l) (targets_at b.place b.comes.shape b.comes.instr b.comes.there b.comes.stands) b.comes.flow);
+          outside = b.comes.outside;
+        }
+
+        follows_after : (t : Typing) (c : Prices) (a : Afters) → Agrees p prices m s x new t c a → IsAfter p t c a m f x r
+        follows_after t c a agrees = record {
+          around = omega (arith, around_same t c a agrees, closed t c a agrees);
+          out = λ place g.
+              let more = exits.above (at 0 old.from place) (exit_of t agrees.states place g) in
+              omega (arith, found_out t c a agrees place g.outside, closed t c a agrees, more, small.each place);
+          met = elim exits.met [
+            | inl none ↦ inl (omega (arith, closed t c a agrees, around_same t c a agrees, none))
+            | inr w ↦ elim (leb_tells u (after_in old.after r)) [
+              | inl v ↦ inl (omega (arith, closed t c a agrees, around_same t c a agrees, v.1))
+              | inr v ↦
+                  let out = w.1.comes.out in
+                  let value = w.1.comes.is in
+                  inr (out, goes_out t agrees.states w.0 w.1, omega (arith, found_out t c a agrees out w.1.comes.outside, closed t c a agrees, w.2, v.1, value, small.each out))
+            ]
+          ];
+        }
+
+        one_next : (e g : ℕ) → Some (Next d (suc f)) ≡ Some (Next e (suc g)) → g ≡ f
+        one_next e g eq = let one : suc f ≡ suc g = cc in omega (arith, one)
+
+        pub next_more : ((sh : Shape) → at None s x ≡ Some sh → at 0 new.from x ≡ kept (1 + follows)) → follows ≤ 4294967296 → IsPassed p prices m s x new
+        unfolding next_in loop_in
+        next_more value low = passed_more p prices m s looped x old new extends h
+            (λ t c a agrees. record {
+              plain = λ sh j v there j_no_loop j_no_next v_inner. absurd (no_next_here j d (suc f) j_no_next (some_same j (Next d (suc f)) (sym there.instr ∙ body.ends)));
+              loops = λ e l sh there. absurd (no_loop_here (Next d (suc f)) e l refl (some_same (Next d (suc f)) (Loop e l) (sym body.ends ∙ there.instr)));
+              nexts = λ e g sh there.
+                  let back = one_next e g (sym body.ends ∙ there.instr) in
+                  let here = stands_there t x sh agrees.states there.shape in
+                  rw (back, closed t c a agrees) (agrees.froms x (omega arith) ∙ value sh here);
+              rounds = round_found p prices m s looped x old new extends h t c a agrees;
+              afters = λ g e l v b w.
+                  let begins = one_begin p m f g x d n e l body b in
+                  let region : r ≡ v = one_innermost p looped m f r v round_it (rw (sym begins) at w) in
+                  subst (λ y. IsAfter p t c a m y x v) begins (subst (λ y. IsAfter p t c a m f x y) region (follows_after t c a agrees));
+            })
+            (λ g e l v b w.
+            let begins = one_begin p m f g x d n e l body b in
+            let region : v ≡ r = sym (one_innermost p looped m f r v round_it (rw (sym begins) at w)) in
+            rw (region, sym begins, is) (rw (after_outside r outside) (omega arith)))
+            (λ sh v there w.
+            let region : v ≡ Round f x = one_innermost p looped m x v (Round f x) w (next_here p m looped f x d n body) in
+            rw region (omega (arith, is, value sh there, low)))
+          where
+            after_outside : (v : Region) → IsInnermost p m (suc x) v → after_in new.after v ≡ after_in old.after v
+            after_outside Whole w = refl
+            after_outside (Round g e) w = let past = w.inside.1 in extends.afters g e w.body.0 w.body.1 (omega (arith, past)) w.body.2

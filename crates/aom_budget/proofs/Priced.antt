@@ -1,0 +1,234 @@
+-- What was found of each method makes one table, and it says the prices.
+use Rattle.std.proofs.Common.{◌≡◌, ℕ, zero, suc, ◌<◌, ◌≤◌, ◌+◌, ◌-◌, ◌⊎◌, ⊎_elim, List, [], ◌∷◌, length, Option, Some, None, IsSome, slice_set, replicate, inl, inr, refl, sym, ap, ◌∙◌, subst, arith}
+use Rattle.std.proofs.lemmas.Bool.{cases_lt}
+use Rattle.std.proofs.lemmas.Bool.Decides.{eqb_tells}
+use Rattle.std.proofs.lemmas.List.{length-set, length-replicate}
+use Rattle.aom_image.specs.Image.{Image}
+use Rattle.aom_image.specs.Views.{instr_at, method_at}
+use Rattle.aom_image.specs.WellFormed.{WellFormed}
+use Rattle.aom_image.specs.declared.instr.Instr.{Instr}
+use Rattle.aom_image.specs.declared.instr.Instr.TheVariants.{Call, Trap, Push, PushOperation, Delete}
+use Rattle.aom_image.specs.declared.method.Role.TheVariants.{Destruct}
+use Rattle.aom_image.specs.declared.method.Thing.{Thing}
+use Rattle.aom_image.specs.declared.method.Thing.TheVariants.{Object, Message}
+use Rattle.aom_classes.specs.Linked.{IsLinked}
+use Rattle.aom_classes.specs.Roles.{destructor_of, role_of}
+use Rattle.aom_classes.proofs.Facts.{of_method}
+use Rattle.aom_shape.specs.Kinds.{register}
+use Rattle.aom_shape.specs.Shape.{Shape}
+use Rattle.aom_shape.specs.Tables.{at}
+use Rattle.aom_shape.specs.Typing.{Typing}
+use Rattle.aom_shape.specs.declared.kind.Kind.{Kind}
+use Rattle.aom_shape.specs.declared.kind.Kind.TheVariants.{Unset, Word, Null, Own, Maybe}
+use Rattle.aom_shape.proofs.Lists.{at_set_here, at_set_other}
+use Rattle.aom_verify.specs.Shapes.{Shapes}
+use Rattle.aom_verify.specs.Strongest.{IsMethodStrongest, IsStrongest}
+use Rattle.aom_verify.proofs.Typings.{image_strongest, method_within}
+use Rattle.aom_prices.specs.Prices.{Prices}
+use Rattle.aom_prices.specs.Costs.{destructor_price}
+use Rattle.aom_prices.specs.Layers.{PaysBefore, kind_destructor, paid_method}
+use Rattle.aom_prices.specs.Sweeping.{Afters, IsSweptFrom, IsSweptUpTo}
+use Rattle.aom_prices.proofs.At.{from_each}
+use Rattle.aom_prices.proofs.Capping.{law_up_to}
+use Rattle.aom_prices.proofs.Places.{nothing_there}
+use Rattle.aom_budget.specs.Calls.{Among, object_class, destructors, callees, CallsAt}
+use Rattle.aom_budget.specs.Pricing.{kept, Found, Agrees, IsMethodPriced, ArePricedBelow, ArePriced, IsPriceUpTo}
+use Rattle.aom_budget.proofs.Mentioned.{called_lower}
+use Rattle.aom_budget.proofs.Passing.{below_first}
+
+-- ---- a method pays for lower ones
+
+kind_called : (p : Image) (k : Kind) (m : ℕ) → kind_destructor p k ≡ Some m → Among m (destructors p (object_class k))
+kind_called p Unset m e = absurd cc
+kind_called p Word m e = absurd cc
+kind_called p Null m e = absurd cc
+kind_called p (Own (Object c) a) m e = below_first (role_of p c Destruct) m _ e
+kind_called p (Own Message a) m e = absurd cc
+kind_called p (Maybe (Object c) a) m e = below_first (role_of p c Destruct) m _ e
+kind_called p (Maybe Message a) m e = absurd cc
+
+paid_called : (p : Image) (m : ℕ) (sh : Shape) (i : Instr) (k : ℕ) → paid_method p sh i ≡ Some k → Among k (callees p m sh i)
+paid_called p m sh (Call target called first c) k e = let same : k ≡ called = cc in inl same
+paid_called p m sh (Trap target called first c) k e = let same : k ≡ called = cc in inl same
+paid_called p m sh (PushOperation a called) k e = let same : k ≡ called = cc in inl same
+paid_called p m sh (Push a) k e = kind_called p (register sh a) k e
+paid_called p m sh (Delete a) k e = kind_called p (register sh a) k e
+paid_called p m sh _ k e = absurd cc
+
+method_there : (p : Image) (m place : ℕ) (i : Instr) → instr_at p m place ≡ Some i → IsSome (method_at p m)
+method_there p m place i stands = let w = of_method p m place i stands in rw w.1 refl
+
+pays_before : (p : Image) (t : Typing) → IsLinked p → IsStrongest p t → PaysBefore p t
+pays_before p t linked strongest = record {
+  each = λ m place k sh i stands e.
+      let states = strongest.each m (method_there p m place i stands.instr) in
+      let calls = paid_called p m sh i k e in
+      let call : CallsAt p m (at [] t m) place k = record { shape = sh; there = stands.shape; instr = i; stands = stands.instr; calls = calls } in
+      called_lower p m k linked (record { states = at [] t m; strongest = states; place = place; calls = call });
+}
+
+-- ---- one table
+
+tabulated : ℕ → (ℕ → Shapes) → Typing
+tabulated zero f = []
+tabulated (suc n) f = f 0 ∷ tabulated n (λ k. f (suc k))
+
+at_tabulated : (n : ℕ) (f : ℕ → Shapes) (k : ℕ) → k < n → at [] (tabulated n f) k ≡ f k
+unfolding tabulated
+at_tabulated zero f k below = absurd (omega (arith, below))
+at_tabulated (suc n) f zero below = refl
+at_tabulated (suc n) f (suc k) below = at_tabulated n (λ j. f (suc j)) k (omega (arith, below))
+
+tabulated_size : (n : ℕ) (f : ℕ → Shapes) → length (tabulated n f) ≡ n
+unfolding tabulated
+tabulated_size zero f = refl
+tabulated_size (suc n) f = ap suc (tabulated_size n (λ k. f (suc k)))
+
+-- what was found of each method, chosen once
+record Chosen (p : Image) (prices : List ℕ) (n : ℕ) : Type 0 where
+  states : ℕ → Shapes
+  found : ℕ → Found
+  strongest : (k : ℕ) → k < n → IsMethodStrongest p k (states k)
+  is : (k : ℕ) → k < n → at 0 (found k).from 0 ≡ at 0 prices k
+  swept : (k : ℕ) → k < n → (t : Typing) (c : Prices) (a : Afters) → Agrees p prices k (states k) 0 (found k) t c a → IsSweptFrom kept p t c a k 0
+
+module _ (p : Image) (prices : List ℕ) (n : ℕ) (h : ArePricedBelow p n prices) where
+  abbrev states_in : (k : ℕ) → (k < n) ⊎ (n ≤ k) → Shapes
+  states_in k (inl w) = (h.each k w).states
+  states_in k (inr w) = []
+
+  abbrev found_in : (k : ℕ) → (k < n) ⊎ (n ≤ k) → Found
+  found_in k (inl w) = (h.each k w).found
+  found_in k (inr w) = record { from = []; after = [] }
+
+  strongest_in : (k : ℕ) → k < n → (o : (k < n) ⊎ (n ≤ k)) → IsMethodStrongest p k (states_in k o)
+  strongest_in k below (inl w) = (h.each k w).strongest
+  strongest_in k below (inr w) = absurd (omega (arith, below, w))
+
+  is_in : (k : ℕ) → k < n → (o : (k < n) ⊎ (n ≤ k)) → at 0 (found_in k o).from 0 ≡ at 0 prices k
+  is_in k below (inl w) = (h.each k w).is
+  is_in k below (inr w) = absurd (omega (arith, below, w))
+
+  swept_in : (k : ℕ) → k < n → (o : (k < n) ⊎ (n ≤ k)) (t : Typing) (c : Prices) (a : Afters) → Agrees p prices k (states_in k o) 0 (found_in k o) t c a → IsSweptFrom kept p t c a k 0
+  swept_in k below (inl w) t c a agrees = (h.each k w).swept t c a agrees
+  swept_in k below (inr w) t c a agrees = absurd (omega (arith, below, w))
+
+  chosen : Chosen p prices n
+  chosen = record {
+    states = λ k. states_in k (cases_lt k n);
+    found = λ k. found_in k (cases_lt k n);
+    strongest = λ k below. strongest_in k below (cases_lt k n);
+    is = λ k below. is_in k below (cases_lt k n);
+    swept = λ k below. swept_in k below (cases_lt k n);
+  }
+
+module _ (p : Image) (prices : List ℕ) (h : Chosen p prices (length p.methods)) (linked : IsLinked p) where
+  abbrev typing : Typing
+  typing = tabulated (length p.methods) h.states
+
+  typing_strongest : IsStrongest p typing
+  typing_strongest = image_strongest p typing (record {
+    size = tabulated_size (length p.methods) h.states;
+    each = λ m below. subst (λ s. IsMethodStrongest p m s) (sym (at_tabulated (length p.methods) h.states m below)) (h.strongest m below);
+  })
+
+  abbrev price_in : Option ℕ → ℕ
+  price_in None = 0
+  price_in (Some k) = at 0 (h.found k).from 0
+
+  abbrev table : Prices
+  table = record {
+    from = λ m place. at 0 (h.found m).from place;
+    round = λ m from. at 0 (h.found m).from (suc from) - at 0 (h.found m).after from;
+    destruction = λ x. kept (1 + price_in (destructor_of p x));
+  }
+
+  abbrev afters : Afters
+  afters = λ m from. at 0 (h.found m).after from
+
+  destructions : (x : Thing) → table.destruction x ≡ kept (1 + destructor_price table (destructor_of p x))
+  destructions x = ap (λ n. kept (1 + n)) (go (destructor_of p x))
+    where
+      go : (o : Option ℕ) → price_in o ≡ destructor_price table o
+      go None = refl
+      go (Some k) = refl
+
+  agrees : (m : ℕ) → m < length p.methods → Agrees p prices m (h.states m) 0 (h.found m) typing table afters
+  agrees m below = record {
+    states = at_tabulated (length p.methods) h.states m below;
+    froms = λ place le. refl;
+    afters = λ from to d n le b. refl;
+    rounds = λ from. refl;
+    lower = λ k lt. h.is k (omega (arith, lt, below));
+    classes = destructions;
+  }
+
+  nothing_past : (m place : ℕ) → length p.methods ≤ m → instr_at p m place ≡ None
+  nothing_past m place past = go (instr_at p m place) refl
+    where
+      go : (o : Option Instr) → instr_at p m place ≡ o → instr_at p m place ≡ None
+      go None e = e
+      go (Some i) e = absurd (omega (arith, past, method_within p m (method_there p m place i e)))
+
+  table_swept : IsSweptUpTo 4294967296 p typing table afters
+  table_swept = record {
+    methods = λ m. ⊎_elim
+        (λ (below : m < length p.methods). h.swept m below typing table afters (agrees m below))
+        (λ (past : length p.methods ≤ m). from_each kept p typing table afters m 0 (λ place le. nothing_there kept p typing table afters m place (nothing_past m place past)))
+        (cases_lt m (length p.methods));
+    classes = destructions;
+  }
+
+  priced : WellFormed p → ArePriced p prices
+  priced formed = record {
+    typing = typing;
+    strongest = typing_strongest;
+    table = table;
+    told = law_up_to 4294967296 p typing table afters formed linked typing_strongest.typed (pays_before p typing linked typing_strongest) table_swept;
+    is = λ m some. h.is m (method_within p m some);
+  }
+
+pub are_priced : (p : Image) (prices : List ℕ) → WellFormed p → IsLinked p → ArePricedBelow p (length p.methods) prices → ArePriced p prices
+are_priced p prices formed linked h = priced p prices (chosen p prices (length p.methods) h) linked formed
+
+-- ---- the walk
+
+pub priced_first : (p : Image) (n : ℕ) → n ≡ length p.methods → ArePricedBelow p 0 (replicate n 0)
+priced_first p n e = record { size = length-replicate {A = ℕ} n 0 ∙ e; each = λ m below. absurd (omega (arith, below)) }
+
+-- a later number is no matter
+still_priced : (p : Image) (prices : List ℕ) (m k n v : ℕ) → m ≤ k → IsMethodPriced p prices m n → IsMethodPriced p (slice_set prices k v) m n
+still_priced p prices m k n v le h = record {
+  states = h.states;
+  strongest = h.strongest;
+  found = h.found;
+  is = h.is;
+  swept = λ t c a agrees. h.swept t c a (record {
+    states = agrees.states;
+    froms = agrees.froms;
+    afters = agrees.afters;
+    rounds = agrees.rounds;
+    lower = λ j lt. agrees.lower j lt ∙ at_set_other 0 prices k j v (λ e. omega (arith, lt, le, e));
+    classes = agrees.classes;
+  });
+}
+
+pub priced_more : (p : Image) (prices : List ℕ) (m n : ℕ) → ArePricedBelow p m prices → m < length p.methods → IsMethodPriced p prices m n → ArePricedBelow p (m + 1) (slice_set prices m n)
+priced_more p prices m n h within here =
+    let inside : m < length prices = omega (arith, within, h.size) in
+    record {
+      size = length-set prices m n ∙ h.size;
+      each = λ k below. elim (eqb_tells k m) [
+        | inl w ↦ rw (w.1, at_set_here 0 prices m n inside) (still_priced p prices m m n n (omega arith) here)
+        | inr w ↦ rw (at_set_other 0 prices m k n w.1) (still_priced p prices k m _ n (omega (arith, below)) (h.each k (omega (arith, below, w.1))))
+      ];
+    }
+
+pub price_up_to : (p : Image) (prices : List ℕ) (m : ℕ) → ArePriced p prices → IsSome (method_at p m) → IsPriceUpTo p m (at 0 prices m)
+price_up_to p prices m h some = record {
+  typing = h.typing;
+  strongest = h.strongest;
+  prices = h.told.whole.prices;
+  are = h.told.whole.are;
+  is = sym (h.is m some) ∙ h.told.methods m some;
+}

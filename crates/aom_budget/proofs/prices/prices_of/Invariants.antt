@@ -1,0 +1,6 @@
+-- The methods below have their prices.
+use Rattle.aom_budget.specs.Pricing.{ArePricedBelow}
+use Rattle.aom_budget.proofs.prices.prices_of.Given as goal
+
+abbrev pub invariant-loop-index : goal.invariant-loop-index
+invariant-loop-index l = ArePricedBelow l.checked l.index l.prices

@@ -1,0 +1,76 @@
+-- What the tables of depths and of heights say while they are filled, from the lowest method up.
+use Rattle.std.specs.Prelude.{ℕ, ◌≡◌, ◌≤◌, ◌<◌, ◌+◌, ◌⊎◌, min, max, List, [], ◌∷◌, length, Option, Some, None}
+use Rattle.aom_image.specs.Image.{Image}
+use Rattle.aom_image.specs.Views.{instr_at}
+use Rattle.aom_image.specs.declared.instr.Instr.{Instr}
+use Rattle.aom_image.specs.declared.instr.Instr.TheVariants.{Call, Trap}
+use Rattle.aom_shape.specs.Shape.{Shape}
+use Rattle.aom_shape.specs.Tables.{at}
+use Rattle.aom_verify.specs.Shapes.{Shapes}
+use Rattle.aom_budget.specs.Calls.{Among, listed, callees}
+use Rattle.aom_budget.specs.Depths.{Frames}
+use Rattle.aom_budget.specs.Heights.{Heights}
+
+-- the greatest of some numbers, none of which counts for more than a cap; 0 where there are none
+pub record IsMost (cap : ℕ) (some : ℕ → Type 0) (n : ℕ) : Type 0 where
+  pub above : (k : ℕ) → some k → min k cap ≤ n
+  pub met : (n ≡ 0) ⊎ ((k : ℕ) × some k × (n ≡ min k cap))
+
+-- the method that an instruction enters, with a trap or without
+abbrev pub entered : Instr → Option ℕ
+entered (Call target k first c) = Some k
+entered (Trap target k first c) = Some k
+entered _ = None
+
+-- so many of one of those methods
+pub record OfSome (of : ℕ → ℕ → Type 0) (methods : List ℕ) (n : ℕ) : Type 0 where
+  pub method : ℕ
+  pub among : Among method methods
+  pub has : of method n
+
+-- the own ones, alone or with others
+abbrev pub Joined : ℕ → (ℕ → Type 0) → ℕ → Type 0
+Joined own others n = (n ≡ own) ⊎ ((k : ℕ) × others k × (n ≡ own + k))
+
+-- a reached place comes to so many: its own, alone or with those of a method that it calls
+pub record ComesTo (p : Image) (own : Shape → ℕ) (calls : Shape → Instr → List ℕ) (of : ℕ → ℕ → Type 0) (m : ℕ) (s : Shapes) (place n : ℕ) : Type 0 where
+  pub shape : Shape
+  pub there : at None s place ≡ Some shape
+  pub instr : Instr
+  pub stands : instr_at p m place ≡ Some instr
+  pub is : Joined (own shape) (OfSome of (calls shape instr)) n
+
+abbrev pub FramesAt : Image → ℕ → Shapes → ℕ → ℕ → Type 0
+FramesAt p m = ComesTo p (λ sh. 1) (callees p m) (Frames p) m
+
+abbrev pub EntriesAt : Image → ℕ → Shapes → ℕ → ℕ → Type 0
+EntriesAt p m = ComesTo p (λ sh. length sh.entries) (λ sh i. listed (entered i)) (Heights p) m
+
+-- a place below a count comes to so many
+pub record Before (at_place : ℕ → ℕ → Type 0) (count n : ℕ) : Type 0 where
+  pub place : ℕ
+  pub below : place < count
+  pub comes : at_place place n
+
+-- the greatest number that a table has for those methods
+abbrev pub most_at : List ℕ → List ℕ → ℕ
+most_at table [] = 0
+most_at table (k ∷ ks) = max (at 0 table k) (most_at table ks)
+
+-- a number for each method, right for those below a count
+pub record IsFilled (p : Image) (cap : ℕ) (of : ℕ → ℕ → Type 0) (count : ℕ) (table : List ℕ) : Type 0 where
+  pub size : length table ≡ length p.methods
+  pub each : (m : ℕ) → m < count → IsMost cap (of m) (at 0 table m)
+
+-- frames count up to 257, and entries up to 1,025: one more than a method may come to
+pub record AreFilled (p : Image) (count : ℕ) (depths heights : List ℕ) : Type 0 where
+  pub deep : IsFilled p 257 (Frames p) count depths
+  pub high : IsFilled p 1025 (Heights p) count heights
+
+pub record KeepsTo (most : ℕ) (table : List ℕ) : Type 0 where
+  pub each : (m : ℕ) → at 0 table m ≤ most
+
+pub record Exceeds (most : ℕ) (table : List ℕ) : Type 0 where
+  pub method : ℕ
+  pub within : method < length table
+  pub more : most < at 0 table method

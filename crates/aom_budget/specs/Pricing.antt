@@ -1,0 +1,198 @@
+-- What the pass over a method says of its places while it is made, the last place first, and what the walk says of prices.
+use Rattle.std.specs.Prelude.{ℕ, suc, ◌+◌, ◌-◌, ◌≡◌, ◌≤◌, ◌<◌, min, max, nat_lt, cond, List, [], ◌∷◌, Option, Some, None, IsSome, length}
+use Rattle.aom_image.specs.Image.{Image}
+use Rattle.aom_image.specs.Views.{instr_at, method_at}
+use Rattle.aom_image.specs.declared.instr.Instr.{Instr}
+use Rattle.aom_image.specs.declared.instr.Instr.TheVariants.{Call, Trap, Push, PushOperation, Delete, Jump, JumpEqual, JumpLess, JumpNull, JumpEmpty, Next, Return, Leave}
+use Rattle.aom_image.specs.declared.method.Thing.{Thing}
+use Rattle.aom_classes.specs.Bodies.{Body, IsIn}
+use Rattle.aom_classes.specs.Roles.{destructor_of}
+use Rattle.aom_shape.specs.Kinds.{register, field}
+use Rattle.aom_shape.specs.Shape.{Shape}
+use Rattle.aom_shape.specs.Tables.{at}
+use Rattle.aom_shape.specs.Typing.{Typing}
+use Rattle.aom_shape.specs.declared.kind.Filling.{Filling}
+use Rattle.aom_shape.specs.declared.kind.Filling.TheVariants.{Empty, Full, Perhaps}
+use Rattle.aom_shape.specs.declared.kind.Kind.{Kind}
+use Rattle.aom_shape.specs.declared.kind.Kind.TheVariants.{Unset, Word, Null, Own, Maybe}
+use Rattle.aom_verify.specs.Shapes.{Shapes}
+use Rattle.aom_verify.specs.Strongest.{IsMethodStrongest, IsStrongest}
+use Rattle.aom_verify.specs.Sweep.{HasPlaces}
+use Rattle.aom_prices.specs.Prices.{Prices, price}
+use Rattle.aom_prices.specs.Costs.{Region, Whole, Round, ArePrices, destructor_price}
+use Rattle.aom_prices.specs.Layers.{ArePricesUpTo}
+use Rattle.aom_prices.specs.Sweeping.{Afters, IsInnermost, IsSweptFrom, is_past}
+use Rattle.aom_budget.specs.Calls.{Among}
+use Rattle.aom_budget.specs.Extents.{IsMost, Before}
+use Rattle.aom_budget.specs.declared.pass.Round as rounds
+
+-- all that is more counts for 2^32
+abbrev pub kept : ℕ → ℕ
+kept n = min 4294967296 n
+
+pub record AreKept (sums : List ℕ) : Type 0 where
+  pub each : (i : ℕ) → at 0 sums i ≤ 4294967296
+
+-- ---- by the prices of the lower methods
+
+abbrev pub price_by : List ℕ → Option ℕ → ℕ
+price_by prices None = 0
+price_by prices (Some k) = at 0 prices k
+
+-- the destruction of a thing
+abbrev pub destruction_by : Image → List ℕ → Thing → ℕ
+destruction_by p prices x = kept (1 + price_by prices (destructor_of p x))
+
+-- that of what a register may have
+abbrev pub kind_by : Image → List ℕ → Kind → ℕ
+kind_by p prices Unset = 0
+kind_by p prices Word = 0
+kind_by p prices Null = 0
+kind_by p prices (Own t a) = destruction_by p prices t
+kind_by p prices (Maybe t a) = destruction_by p prices t
+
+-- what an instruction costs itself
+abbrev pub own_by : Image → List ℕ → Shape → Instr → ℕ
+own_by p prices sh (Call target k first x) = 1 + at 0 prices k
+own_by p prices sh (Trap target k first x) = 1 + at 0 prices k
+own_by p prices sh (PushOperation a k) = 1 + at 0 prices k
+own_by p prices sh (Push a) = 1 + kind_by p prices (register sh a)
+own_by p prices sh (Delete a) = 1 + kind_by p prices (register sh a)
+own_by p prices sh _ = 1
+
+-- ---- places
+
+abbrev pub null_targets : ℕ → Kind → ℕ → List ℕ
+null_targets next Unset to = []
+null_targets next Word to = []
+null_targets next Null to = to ∷ []
+null_targets next (Own t a) to = next ∷ []
+null_targets next (Maybe t a) to = next ∷ to ∷ []
+
+abbrev pub empty_targets : ℕ → Filling → ℕ → List ℕ
+empty_targets next Empty to = to ∷ []
+empty_targets next Full to = next ∷ []
+empty_targets next Perhaps to = next ∷ to ∷ []
+
+-- where an instruction whose rule applies goes on
+abbrev pub targets_of : ℕ → Shape → Instr → List ℕ
+targets_of place sh (Jump to) = to ∷ []
+targets_of place sh (JumpEqual a b to) = suc place ∷ to ∷ []
+targets_of place sh (JumpLess a b to) = suc place ∷ to ∷ []
+targets_of place sh (JumpNull a to) = null_targets (suc place) (register sh a) to
+targets_of place sh (JumpEmpty f to) = empty_targets (suc place) (field sh f) to
+targets_of place sh (Next d to) = to ∷ suc place ∷ []
+targets_of place sh (Return a) = []
+targets_of place sh (Leave a) = []
+targets_of place sh _ = suc place ∷ []
+
+-- the most over the places that are not past the region
+abbrev pub most_to : List ℕ → Region → List ℕ → ℕ
+most_to from r [] = 0
+most_to from r (to ∷ rest) = max (cond (is_past r to) 0 (at 0 from to)) (most_to from r rest)
+
+-- and over those past a place
+abbrev pub most_past : List ℕ → ℕ → List ℕ → ℕ
+most_past from last [] = 0
+most_past from last (to ∷ rest) = max (cond (nat_lt last to) (at 0 from to) 0) (most_past from last rest)
+
+-- the most that follows the region
+abbrev pub after_in : List ℕ → Region → ℕ
+after_in after Whole = 0
+after_in after (Round first last) = at 0 after first
+
+-- a reached place of a body goes out to a place from which the method costs so much
+pub record ExitsAt (p : Image) (m : ℕ) (s : Shapes) (from : List ℕ) (first last place n : ℕ) : Type 0 where
+  pub inside : IsIn first last place
+  pub shape : Shape
+  pub there : at None s place ≡ Some shape
+  pub instr : Instr
+  pub stands : instr_at p m place ≡ Some instr
+  pub out : ℕ
+  pub flow : Among out (targets_of place shape instr)
+  pub outside : last < out
+  pub is : at 0 from out ≡ n
+
+-- the lists of a pass: by place what the method costs from there, and by a loop's place what follows it
+pub record Found : Type 0 where
+  pub from : List ℕ
+  pub after : List ℕ
+
+abbrev pub found_by : List ℕ → List ℕ → Found
+found_by from after = record { from = from; after = after }
+
+-- what a method costs from a plain instruction on, with the dearest way
+abbrev pub plain_cost : Image → List ℕ → Found → Region → ℕ → Shape → Instr → ℕ
+plain_cost p prices found r place sh i = kept (own_by p prices sh i + max (after_in found.after r) (most_to found.from r (targets_of place sh i)))
+
+-- the most that follows a loop: so much after the one round it, or what its body goes out to
+pub record Follows (p : Image) (m : ℕ) (s : Shapes) (from : List ℕ) (outside first last n : ℕ) : Type 0 where
+  pub most : ℕ
+  pub exits : IsMost 4294967296 (Before (ExitsAt p m s from first last) (suc last)) most
+  pub is : n ≡ max outside most
+
+-- ---- the pass
+
+-- tables that say what the pass has found down to a place, and what was found of the lower methods
+pub record Agrees (p : Image) (prices : List ℕ) (m : ℕ) (s : Shapes) (down : ℕ) (found : Found) (t : Typing) (c : Prices) (a : Afters) : Type 0 where
+  pub states : at [] t m ≡ s
+  pub froms : (place : ℕ) → down ≤ place → c.from m place ≡ at 0 found.from place
+  pub afters : (from to d n : ℕ) → down ≤ to → Body p m from to d n → a m from ≡ at 0 found.after from
+  pub rounds : (from : ℕ) → c.round m from ≡ c.from m (suc from) - a m from
+  pub lower : (k : ℕ) → k < m → price c k ≡ at 0 prices k
+  pub classes : (x : Thing) → c.destruction x ≡ kept (1 + destructor_price c (destructor_of p x))
+
+-- each table that agrees is swept, down to that place
+pub record IsPassed (p : Image) (prices : List ℕ) (m : ℕ) (s : Shapes) (down : ℕ) (found : Found) : Type 0 where
+  -- what follows a region is found at each reached place of it too
+  pub around : (from to d n : ℕ) (r : Region) → down ≤ to → Body p m from to d n → IsInnermost p m from r → after_in found.after r ≤ at 0 found.after from
+  pub covers : (place : ℕ) (sh : Shape) (r : Region) → down ≤ place → at None s place ≡ Some sh → IsInnermost p m place r → after_in found.after r ≤ at 0 found.from place
+  pub swept : (t : Typing) (c : Prices) (a : Afters) → Agrees p prices m s down found t c a → IsSweptFrom kept p t c a m down
+
+-- the innermost loop round a place, as the pass keeps it
+abbrev pub region_of : Option rounds.Round → Region
+region_of None = Whole
+region_of (Some b) = Round b.first b.last
+
+-- the loops that the pass is in: the innermost one, and by its place the one round each
+pub record IsWithin (p : Image) (m down : ℕ) (innermost : Option rounds.Round) (around : List (Option rounds.Round)) : Type 0 where
+  pub here : IsInnermost p m down (region_of innermost)
+  pub loops : (from to d n : ℕ) → from < down → down ≤ to → Body p m from to d n → IsInnermost p m from (region_of (at None around from))
+
+-- the pass stands at a place
+pub record IsPassing (p : Image) (prices : List ℕ) (m : ℕ) (s : Shapes) (down : ℕ) (from after : List ℕ) (innermost : Option rounds.Round) (around : List (Option rounds.Round)) : Type 0 where
+  pub passed : IsPassed p prices m s down (record { from = from; after = after })
+  pub within : IsWithin p m down innermost around
+  pub places : HasPlaces p m (length from)
+  pub after_size : length after ≡ length from
+  pub around_size : length around ≡ length from
+
+-- ---- the walk
+
+-- what was found of a method, and the number that came of it
+pub record IsMethodPriced (p : Image) (prices : List ℕ) (m n : ℕ) : Type 0 where
+  pub states : Shapes
+  pub strongest : IsMethodStrongest p m states
+  pub found : Found
+  pub is : at 0 found.from 0 ≡ n
+  pub swept : (t : Typing) (c : Prices) (a : Afters) → Agrees p prices m states 0 found t c a → IsSweptFrom kept p t c a m 0
+
+pub record ArePricedBelow (p : Image) (count : ℕ) (prices : List ℕ) : Type 0 where
+  pub size : length prices ≡ length p.methods
+  pub each : (m : ℕ) → m < count → IsMethodPriced p prices m (at 0 prices m)
+
+-- the prices of the methods by number, of which none counts for more than 2^32
+pub record ArePriced (p : Image) (prices : List ℕ) : Type 0 where
+  pub typing : Typing
+  pub strongest : IsStrongest p typing
+  pub table : Prices
+  pub told : ArePricesUpTo 4294967296 p typing table
+  pub is : (m : ℕ) → IsSome (method_at p m) → price table m ≡ at 0 prices m
+
+-- the number is a method's price by the strongest typing, or 2^32 where that is more
+pub record IsPriceUpTo (p : Image) (m n : ℕ) : Type 0 where
+  pub typing : Typing
+  pub strongest : IsStrongest p typing
+  pub prices : Prices
+  pub are : ArePrices p typing prices
+  pub is : n ≡ min 4294967296 (price prices m)

@@ -1,0 +1,354 @@
+//! One pass over the places of a method, the last one first: what the method costs from each of them.
+ghost use Rattle.std.specs.Prelude.{◌≡◌, ◌≢◌, ◌≤◌, ◌<◌, ◌+◌, ◌-◌, ◌*◌, ◌^◌, ◌++◌, ℕ, suc, max, length, replicate, slice_set, Some, None, IfOk, IsSome};
+ghost use Rattle.aom_image.specs.Views.{method_at};
+ghost use Rattle.aom_classes.specs.Bodies.{IsIn};
+ghost use Rattle.aom_shape.specs.Shape.{Shape};
+ghost use Rattle.aom_shape.specs.Tables.{at};
+ghost use Rattle.aom_verify.specs.Strongest.{IsMethodStrongest};
+ghost use Rattle.aom_verify.specs.Sweep.{HasPlaces};
+ghost use Rattle.aom_budget.specs.Calls.{listed};
+ghost use Rattle.aom_budget.specs.Extents.{IsMost, Before};
+ghost use Rattle.aom_budget.specs.Pricing.{kept, destruction_by, kind_by, own_by, after_in, most_to, most_past, ExitsAt, Follows, IsPassing, IsMethodPriced, found_by, plain_cost, region_of};
+
+use crate::sums::{Sums, kept};
+use crate::targets::Targets;
+use aom_classes::Linked;
+use aom_image::{Instr, MethodNumber, Role, Thing};
+use aom_shape::{Kind, Shape};
+use aom_verify::{Checked, Sheet};
+use std::alloc::{AllocError, Global};
+
+/// A loop's place, and that of the next that closes it.
+#[derive(Clone, Copy)]
+pub(crate) struct Round {
+    first: usize,
+    last: usize,
+}
+
+/// What the pass has found, and the loops that it is in.
+#[derive(Drop)]
+pub(crate) struct Pass {
+    /// By place what the method costs from there, where the round at hand is the last of each loop round that place.
+    from: Sums,
+    /// By a loop's place the most that follows the loop.
+    after: Sums,
+    /// By a loop's place the innermost loop round it.
+    around: Vec<Option<Round>>,
+    /// The innermost loop round the last place that was looked at.
+    innermost: Option<Round>,
+}
+
+impl Pass {
+    /// The pass stands past the last of so many places.
+    fn new(alloc: Global, places: usize) -> Result<Pass, AllocError>
+        ensures from { IfOk result (λ s. s.from ≡ replicate places 0) }
+        ensures after { IfOk result (λ s. s.after ≡ replicate places 0) }
+        ensures around { IfOk result (λ s. s.around.items ≡ replicate places None) }
+        ensures innermost { IfOk result (λ s. s.innermost ≡ None) }
+    {
+        let from = Sums::new(alloc, places)?;
+        let after = Sums::new(alloc, places)?;
+        let around = vec![in alloc; None; places]?;
+        Ok(Pass {
+            from,
+            after,
+            around,
+            innermost: None,
+        })
+    }
+
+    /// The most that follows a loop, or 0 for the whole method.
+    fn after_in(&self, region: Option<Round>) -> u64
+        ensures is { result ≡ after_in self.now.after (region_of region) }
+        ensures low { result ≤ 4294967296 }
+    {
+        match region {
+            Some(round) => self.after.at(round.first),
+            None => 0,
+        }
+    }
+
+    /// What the method costs from a place, if it is not past the innermost loop.
+    fn within(&self, target: Option<usize>) -> u64
+        ensures is { result ≡ most_to self.now.from (region_of self.now.innermost) (listed target) }
+        ensures low { result ≤ 4294967296 }
+    {
+        match (target, self.innermost) {
+            (None, _) => 0,
+            (Some(place), None) => self.from.at(place),
+            (Some(place), Some(round)) => {
+                if round.last < place {
+                    0
+                } else {
+                    self.from.at(place)
+                }
+            }
+        }
+    }
+
+    /// What it costs from a place past that one.
+    fn past(&self, last: usize, target: Option<usize>) -> u64
+        ensures is { result ≡ most_past self.now.from last (listed target) }
+        ensures low { result ≤ 4294967296 }
+    {
+        match target {
+            Some(place) => { if last < place { self.from.at(place) } else { 0 } }
+            None => 0,
+        }
+    }
+
+    fn most_within(&self, targets: Targets) -> u64
+        ensures is { result ≡ most_to self.now.from (region_of self.now.innermost) (listed targets.first ++ listed targets.second) }
+        ensures low { result ≤ 4294967296 }
+    {
+        self.within(targets.first).max(self.within(targets.second))
+    }
+
+    fn most_past(&self, last: usize, targets: Targets) -> u64
+        ensures is { result ≡ most_past self.now.from last (listed targets.first ++ listed targets.second) }
+        ensures low { result ≤ 4294967296 }
+    {
+        self.past(last, targets.first)
+            .max(self.past(last, targets.second))
+    }
+    /// The most that a place of a body goes out to.
+    fn exit_at(
+        &self,
+        linked: &Linked,
+        method: MethodNumber,
+        sheet: &Sheet,
+        round: Round,
+        place: usize,
+    ) -> u64
+        requires strongest { IsMethodStrongest linked.now method sheet.now }
+        requires inside { IsIn round.first round.last place }
+        requires place { suc place < 2 ^ 64 }
+        ensures is { IsMost 4294967296 (ExitsAt linked.now method sheet.now self.now.from round.first round.last place) result }
+        ensures low { result ≤ 4294967296 }
+    {
+        match sheet.shape(place) {
+            None => 0,
+            Some(shape) => {
+                let instr = linked.instr(method, place);
+                self.most_past(round.last, Targets::of_instr(place, &shape, &instr))
+            }
+        }
+    }
+
+    /// The most that the places of a body go out to.
+    fn exits_of(&self, linked: &Linked, method: MethodNumber, sheet: &Sheet, round: Round) -> u64
+        requires strongest { IsMethodStrongest linked.now method sheet.now }
+        requires order { round.first < round.last }
+        requires last { suc round.last < 2 ^ 64 }
+        ensures is { IsMost 4294967296 (Before (ExitsAt linked.now method sheet.now self.now.from round.first round.last) (suc round.last)) result }
+        ensures low { result ≤ 4294967296 }
+    {
+        let mut most = 0;
+        for place in round.first + 1..round.last + 1 {
+            most = most.max(self.exit_at(linked, method, sheet, round, place));
+        }
+        most
+    }
+
+    /// The most that follows a loop: what follows the one round it, or what its body goes out to.
+    fn follows(&self, linked: &Linked, method: MethodNumber, sheet: &Sheet, round: Round) -> u64
+        requires strongest { IsMethodStrongest linked.now method sheet.now }
+        requires order { round.first < round.last }
+        requires last { suc round.last < 2 ^ 64 }
+        ensures is { Follows linked.now method sheet.now self.now.from (after_in self.now.after (region_of self.now.innermost)) round.first round.last result }
+        ensures low { result ≤ 4294967296 }
+    {
+        self.after_in(self.innermost)
+            .max(self.exits_of(linked, method, sheet, round))
+    }
+
+    /// Goes into the body of a loop, at its end.
+    fn close(&mut self, round: Round, follows: u64)
+        requires room { round.first < length self.old.after }
+        requires around { round.first < length self.old.around.items }
+        requires low { follows ≤ 4294967296 }
+        ensures from { self.new.from ≡ self.old.from }
+        ensures after { self.new.after ≡ slice_set self.old.after round.first follows }
+        ensures around { self.new.around.items ≡ slice_set self.old.around.items round.first self.old.innermost }
+        ensures innermost { self.new.innermost ≡ Some round }
+    {
+        self.after.set(round.first, follows);
+        self.around[round.first] = self.innermost;
+        self.innermost = Some(round);
+    }
+
+    /// What a loop costs with all its rounds, where the last is part of what follows.
+    fn all_rounds(&self, place: usize, rounds: u16) -> u64
+        requires { suc place < 2 ^ 64 }
+        ensures is { result ≡ kept (1 + (rounds - 1) * (at 0 self.now.from (suc place) - at 0 self.now.after place) + at 0 self.now.from (suc place)) }
+        ensures low { result ≤ 4294967296 }
+    {
+        let next = self.from.at(place + 1);
+        let round = next.saturating_sub(self.after.at(place));
+        kept(1 + u64::from(rounds.saturating_sub(1)) * round + next)
+    }
+
+    /// What a method costs from a place with a plain instruction, and the dearest way on: nothing where it is not reached.
+    fn plain(
+        &self,
+        linked: &Linked,
+        prices: &Sums,
+        sheet: &Sheet,
+        place: usize,
+        instr: &Instr,
+    ) -> u64
+        requires { suc place < 2 ^ 64 }
+        ensures is { (sh : Shape) → at None sheet.now place ≡ Some sh → result ≡ plain_cost linked.now prices.now (found_by self.now.from self.now.after) (region_of self.now.innermost) place sh instr.now }
+        ensures low { result ≤ 4294967296 }
+    {
+        match sheet.shape(place) {
+            None => 0,
+            Some(shape) => {
+                let onward = self
+                    .after_in(self.innermost)
+                    .max(self.most_within(Targets::of_instr(place, &shape, instr)));
+                kept(cost_of(linked, prices, &shape, instr) + onward)
+            }
+        }
+    }
+
+    /// Keeps what a place costs, if it is reached.
+    fn note(&mut self, sheet: &Sheet, place: usize, cost: u64)
+        requires within { place < length self.old.from }
+        requires low { cost ≤ 4294967296 }
+        ensures here { (sh : Shape) → at None sheet.now place ≡ Some sh → at 0 self.new.from place ≡ cost }
+        ensures others { (y : ℕ) → y ≢ place → at 0 self.new.from y ≡ at 0 self.old.from y }
+        ensures size { length self.new.from ≡ length self.old.from }
+        ensures after { self.new.after ≡ self.old.after }
+        ensures around { self.new.around.items ≡ self.old.around.items }
+        ensures innermost { self.new.innermost ≡ self.old.innermost }
+    {
+        if sheet.shape(place).is_some() {
+            self.from.set(place, cost);
+        }
+    }
+
+    /// Finds what the method costs from a place, once that is found of the later ones.
+    fn visit(
+        &mut self,
+        linked: &Linked,
+        prices: &Sums,
+        method: MethodNumber,
+        sheet: &Sheet,
+        place: usize,
+    )
+        requires strongest { IsMethodStrongest linked.now method sheet.now }
+        requires passing { IsPassing linked.now prices.now method sheet.now (suc place) self.old.from self.old.after self.old.innermost self.old.around.items }
+        requires place { place < length self.old.from }
+        requires fits { suc place < 2 ^ 64 }
+        ensures passing { IsPassing linked.now prices.now method sheet.now place self.new.from self.new.after self.new.innermost self.new.around.items }
+        ensures size { length self.new.from ≡ length self.old.from }
+    {
+        linked.facts();
+        let _formed = linked.image().methods();
+        self.from.low();
+        self.after.low();
+        let instr = linked.instr(method, place);
+        match instr {
+            Instr::Next(_, to) => {
+                let round = Round {
+                    first: to.number() as usize - 1,
+                    last: place,
+                };
+                let follows = self.follows(linked, method, sheet, round);
+                self.close(round, follows);
+                self.note(sheet, place, kept(1 + follows));
+            }
+            Instr::Loop(_, rounds) => {
+                self.innermost = self.around[place];
+                let cost = self.all_rounds(place, rounds);
+                self.note(sheet, place, cost);
+            }
+            _ => {
+                let cost = self.plain(linked, prices, sheet, place, &instr);
+                self.note(sheet, place, cost);
+            }
+        }
+    }
+
+    /// Finds what the method costs from each place, the last one first.
+    fn sweep(&mut self, linked: &Linked, prices: &Sums, method: MethodNumber, sheet: &Sheet)
+        requires strongest { IsMethodStrongest linked.now method sheet.now }
+        requires passing { IsPassing linked.now prices.now method sheet.now (length self.old.from) self.old.from self.old.after self.old.innermost self.old.around.items }
+        ensures { IsPassing linked.now prices.now method sheet.now 0 self.new.from self.new.after self.new.innermost self.new.around.items }
+    {
+        let mut place = self.from.len();
+        while place > 0 {
+            place -= 1;
+            self.visit(linked, prices, method, sheet, place);
+        }
+    }
+}
+
+/// What the destruction of a thing costs.
+fn destruction(linked: &Linked, prices: &Sums, thing: Thing) -> u64
+    ensures is { result ≡ destruction_by linked.now prices.now thing }
+    ensures low { result ≤ 4294967296 }
+{
+    let destructor = match thing {
+        Thing::Object(class) => linked.role(class, Role::Destruct),
+        Thing::Message => None,
+    };
+    match destructor {
+        Some(method) => kept(1 + prices.at(method.number() as usize)),
+        None => 1,
+    }
+}
+
+/// What the destruction of what a register may have costs.
+fn kind_cost(linked: &Linked, prices: &Sums, kind: Kind) -> u64
+    ensures is { result ≡ kind_by linked.now prices.now kind }
+    ensures low { result ≤ 4294967296 }
+{
+    match kind {
+        Kind::Unset | Kind::Word | Kind::Null => 0,
+        Kind::Own(thing, _) | Kind::Maybe(thing, _) => destruction(linked, prices, thing),
+    }
+}
+
+/// What an instruction costs itself, by the prices of the lower methods.
+fn cost_of(linked: &Linked, prices: &Sums, shape: &Shape<'_>, instr: &Instr) -> u64
+    ensures is { result ≡ own_by linked.now prices.now shape.now instr.now }
+    ensures low { result ≤ 4294967297 }
+{
+    match *instr {
+        Instr::Call(_, called, _, _)
+        | Instr::Trap(_, called, _, _)
+        | Instr::PushOperation(_, called) => 1 + prices.at(called.number() as usize),
+        Instr::Push(register) | Instr::Delete(register) => {
+            1 + kind_cost(linked, prices, shape.register(register))
+        }
+        _ => 1,
+    }
+}
+
+/// How many places a method has.
+fn place_count(linked: &Linked, method: MethodNumber) -> usize
+    requires { IsSome (method_at linked.now method) }
+    ensures { HasPlaces linked.now method result }
+{
+    let methods = linked.image().methods();
+    methods.at(method.number() as usize).code.len()
+}
+
+/// The price of a method, by those of the lower ones.
+pub(crate) fn price_of(
+    alloc: Global,
+    checked: &Checked,
+    prices: &Sums,
+    method: MethodNumber,
+) -> Result<u64, AllocError>
+    requires { IsSome (method_at checked.now method) }
+    ensures price { IfOk result (λ n. IsMethodPriced checked.now prices.now method n) }
+    ensures low { IfOk result (λ n. n ≤ 4294967296) }
+{
+    let linked = checked.linked();
+    let mut pass = Pass::new(alloc, place_count(linked, method))?;
+    pass.sweep(linked, prices, method, checked.sheet(method));
+    Ok(pass.from.at(0))
+}

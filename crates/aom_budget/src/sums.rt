@@ -1,0 +1,76 @@
+//! Sums by place or by method. What is more than 2^32 counts for 2^32.
+ghost use Rattle.std.specs.Prelude.{◌≡◌, ◌≤◌, ◌<◌, length, replicate, slice_set, IfOk};
+ghost use Rattle.aom_shape.specs.Tables.{at};
+ghost use Rattle.aom_budget.specs.Pricing.{AreKept, kept};
+
+use std::alloc::{AllocError, Global};
+use std::marker::Model;
+
+/// The most that a sum counts for.
+const MOST: u64 = 4_294_967_296;
+
+/// The sum, or the most that one counts for.
+pub(crate) fn kept(sum: u64) -> u64
+    ensures { result ≡ kept sum }
+{
+    sum.min(MOST)
+}
+
+#[derive(Drop)]
+pub(crate) struct Sums {
+    numbers: Vec<u64>,
+}
+
+impl Model for Sums {
+    ghost use Rattle.std.specs.Prelude.{ℕ, List};
+    ghost use Rattle.aom_budget.specs.Pricing.{AreKept};
+
+    ghost Value = { List ℕ };
+
+    ghost view = { λ s. s.numbers.items };
+
+    ghost invariant = { λ s. AreKept s.numbers.items };
+}
+
+impl Sums {
+    /// 0 for each of so many.
+    pub(crate) fn new(alloc: Global, count: usize) -> Result<Sums, AllocError>
+        ensures { IfOk result (λ s. s ≡ replicate count 0) }
+    {
+        let numbers = vec![in alloc; 0; count]?;
+        Ok(Sums { numbers })
+    }
+
+    pub(crate) fn len(&self) -> usize
+        ensures { result ≡ length self.now }
+    {
+        self.numbers.len()
+    }
+
+    /// None counts for more than 2^32.
+    pub(crate) fn low(&self)
+        ensures { AreKept self.now }
+    {
+        let _ = &self.numbers;
+    }
+
+    /// It is 0 past the end.
+    pub(crate) fn at(&self, index: usize) -> u64
+        ensures is { result ≡ at 0 self.now index }
+        ensures low { result ≤ 4294967296 }
+    {
+        if index < self.numbers.len() {
+            self.numbers[index]
+        } else {
+            0
+        }
+    }
+
+    pub(crate) fn set(&mut self, index: usize, sum: u64)
+        requires within { index < length self.old }
+        requires low { sum ≤ 4294967296 }
+        ensures { self.new ≡ slice_set self.old index sum }
+    {
+        self.numbers[index] = sum;
+    }
+}

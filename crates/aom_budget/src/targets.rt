@@ -1,0 +1,87 @@
+//! Where an instruction goes on.
+ghost use Rattle.std.specs.Prelude.{◌≡◌, ◌++◌, [], ◌∷◌, ◌<◌, ◌^◌, suc};
+ghost use Rattle.aom_budget.specs.Calls.{listed};
+ghost use Rattle.aom_budget.specs.Pricing.{null_targets, empty_targets, targets_of};
+
+use aom_image::Instr;
+use aom_shape::{Filling, Kind, Shape};
+
+/// At most two places.
+#[derive(Clone, Copy)]
+pub(crate) struct Targets {
+    pub(crate) first: Option<usize>,
+    pub(crate) second: Option<usize>,
+}
+
+impl Targets {
+    fn none() -> Targets
+        ensures { listed result.first ++ listed result.second ≡ [] }
+    {
+        Targets {
+            first: None,
+            second: None,
+        }
+    }
+
+    fn one(place: usize) -> Targets
+        ensures { listed result.first ++ listed result.second ≡ place ∷ [] }
+    {
+        Targets {
+            first: Some(place),
+            second: None,
+        }
+    }
+
+    fn two(first: usize, second: usize) -> Targets
+        ensures { listed result.first ++ listed result.second ≡ first ∷ second ∷ [] }
+    {
+        Targets {
+            first: Some(first),
+            second: Some(second),
+        }
+    }
+
+    fn of_null(next: usize, kind: Kind, to: usize) -> Targets
+        ensures { listed result.first ++ listed result.second ≡ null_targets next kind to }
+    {
+        match kind {
+            Kind::Unset | Kind::Word => Targets::none(),
+            Kind::Null => Targets::one(to),
+            Kind::Own(_, _) => Targets::one(next),
+            Kind::Maybe(_, _) => Targets::two(next, to),
+        }
+    }
+
+    fn of_empty(next: usize, filling: Filling, to: usize) -> Targets
+        ensures { listed result.first ++ listed result.second ≡ empty_targets next filling to }
+    {
+        match filling {
+            Filling::Empty => Targets::one(to),
+            Filling::Full => Targets::one(next),
+            Filling::Perhaps => Targets::two(next, to),
+        }
+    }
+
+    /// The places at which a run may go on from one, by what is known there.
+    pub(crate) fn of_instr(place: usize, shape: &Shape<'_>, instr: &Instr) -> Targets
+        requires { suc place < 2 ^ 64 }
+        ensures { listed result.first ++ listed result.second ≡ targets_of place shape.now instr.now }
+    {
+        let next = place + 1;
+        match *instr {
+            Instr::Jump(to) => Targets::one(to.number() as usize),
+            Instr::JumpEqual(_, _, to) | Instr::JumpLess(_, _, to) => {
+                Targets::two(next, to.number() as usize)
+            }
+            Instr::JumpNull(register, to) => {
+                Targets::of_null(next, shape.register(register), to.number() as usize)
+            }
+            Instr::JumpEmpty(field, to) => {
+                Targets::of_empty(next, shape.field(field), to.number() as usize)
+            }
+            Instr::Next(_, to) => Targets::two(to.number() as usize, next),
+            Instr::Return(_) | Instr::Leave(_) => Targets::none(),
+            _ => Targets::one(next),
+        }
+    }
+}

@@ -1,0 +1,279 @@
+-- Each state that a machine stands for has agreement: from what the machine's numbers show, and from what the typing says of the methods at hand.
+use Rattle.std.proofs.Common.{Bool, List, None, Option, Some, [], ap, arith, cond, false, inl, inr, length, refl, subst, sym, true, ℕ, ℤ, ◌++◌, ◌<◌, ◌==◌, ◌∙◌, ◌∷◌, ◌≡◌}
+use Rattle.std.proofs.lemmas.Bool.{eq-eqb, eqb-true, ne_eqb}
+use Rattle.std.specs.Prelude.{is_some}
+use Rattle.aom_image.specs.Image.{Image}
+use Rattle.aom_image.specs.declared.method.Thing.{Thing}
+use Rattle.aom_cells.specs.Heap.{null}
+use Rattle.aom_shape.specs.Kinds.{entry_kind, field, filled}
+use Rattle.aom_shape.specs.Shape.{Shape}
+use Rattle.aom_shape.specs.Things.{Program, field_thing}
+use Rattle.aom_shape.specs.Typing.{Typing, shape_at}
+use Rattle.aom_shape.specs.declared.kind.Entry.{Entry as Pushed}
+use Rattle.aom_shape.specs.declared.kind.Entry.TheVariants.{Object as Pushed_object, Operation as Pushed_operation}
+use Rattle.aom_shape.specs.declared.kind.Filling.{Filling}
+use Rattle.aom_shape.specs.declared.kind.Filling.TheVariants.{Empty, Full, Perhaps}
+use Rattle.aom_shape.specs.declared.kind.Kind.{Kind}
+use Rattle.aom_shape.specs.declared.kind.Kind.TheVariants.{Maybe, Null, Own, Unset, Word}
+use Rattle.aom_sound.proofs.Items.{length_forms}
+use Rattle.aom_sound.proofs.Maps.{held_lives, one_place}
+use Rattle.aom_sound.proofs.Straight.{claim_field}
+use Rattle.aom_sound.specs.Claims.{Dispatching, Dying, Layer, Mark, Mark_form, Method, Object_form, Unwinding, claim, declared, declared_field, entry_claim, entry_form, form, forms, home_claim, items_of, objects, root_claim, tasks_of}
+use Rattle.aom_sound.specs.Owned.{over}
+use Rattle.aom_sound.specs.Places.{Cell, Elsewhere, Entry, Field, Object, Place, Register, Root, held, named}
+use Rattle.aom_sound.specs.State.{An_object, AtRoot, Destroy, Dispatched, Frame, Home, Inside, Item, Main_left, Of_main, Of_root, Run, State, Static, Task, Trapped, Unwind, field_place, thing_holder, word}
+use Rattle.aom_sound.specs.WellTyped.{Back, Caught, Fits, Gone, IsHoused, Leaves, Now, Returns, Stack, Good}
+use Rattle.aom_exec.specs.Agreement.{Agreement, AgreesInAll, FieldsAgree, NumberSays, RegistersAgree}
+use Rattle.aom_exec.specs.Agrees.{Shows, number, word_at, word_in, word_of}
+use Rattle.aom_exec.specs.Places.{value}
+use Rattle.aom_exec.specs.Steps.{Machine, StandsFor}
+use Rattle.aom_exec.specs.Waits.{AllWait, KindSays, OthersWait, Waits}
+use Rattle.aom_exec.proofs.Standing.{unnamed}
+use Rattle.aom_exec.proofs.Waiting.{runs_typed}
+
+-- ---- registers
+
+number_says : (p : Image) (k : Kind) (n : ℕ) (w : Option ℤ) (o : Option Object) → KindSays p k w o → Shows n w o → NumberSays p k n o
+number_says p Unset n w o says shows = says
+number_says p Word n w o says shows = says.1
+number_says p Null n w o says shows = record { number = subst (λ x. n ≡ number x) says.1 (subst (λ x. Shows n x o) says.0 shows); none = says.1 }
+number_says p (Own t a) n w None says shows = let none = says.1 in cc
+number_says p (Own t a) n w (Some x) says shows = record { object = x; owned = refl; number = subst (λ y. Shows n y (Some x)) says.0 shows; thing = says.2 }
+number_says p (Maybe t a) n w None says shows = inl (record { number = subst (λ y. Shows n y None) says.0 shows; none = refl })
+number_says p (Maybe t a) n w (Some x) says shows = inr (record { object = x; owned = refl; number = subst (λ y. Shows n y (Some x)) says.0 shows; thing = says.1 })
+
+-- a method under other tasks waits
+waits_under : (p : Image) (t : Typing) (cs : List Cell) (above : List Task) (fr : Frame) (below : List Task) → AllWait p t cs (above ++ Run fr ∷ below) → Waits p t cs (length below) fr
+waits_under p t cs [] fr below w = w.0
+waits_under p t cs (Run g ∷ above) fr below w = waits_under p t cs above fr below w.1
+waits_under p t cs (Trapped ∷ above) fr below w = waits_under p t cs above fr below w
+waits_under p t cs (Destroy ∷ above) fr below w = waits_under p t cs above fr below w
+waits_under p t cs (Unwind code ∷ above) fr below w = waits_under p t cs above fr below w
+waits_under p t cs (Dispatched d ∷ above) fr below w = waits_under p t cs above fr below w
+
+deeper : (above : List Task) (fr : Frame) (below : List Task) → length below < length (above ++ Run fr ∷ below)
+deeper [] fr below = omega arith
+deeper (task ∷ above) fr below = let rest = deeper above fr below in omega (arith, rest)
+
+word_under : (above : List Task) (fr : Frame) (below : List Task) (i : ℕ) → word_in (above ++ Run fr ∷ below) (length below) i ≡ word fr i
+word_under [] fr below i = ap (λ b. cond b (word fr i) (word_in below (length below) i)) (eq-eqb (length below) (length below) refl)
+word_under (task ∷ above) fr below i =
+    let deep = deeper above fr below in
+    ap (λ b. cond b (word_of task i) (word_in (above ++ Run fr ∷ below) (length below) i)) (ne_eqb (length (above ++ Run fr ∷ below)) (length below) (λ e. absurd (omega (arith, deep, e))))
+    ∙ word_under above fr below i
+
+-- ---- fields, the root and entries
+
+-- what a field is declared to be says no more than what is known of it
+declared_says : (p : Image) (h : Place → Option Object) (thing : Option Thing) (x : Filling) (n : ℕ) (o : Option Object) → n ≡ number o → Fits p h o (filled thing x)
+    → NumberSays p (filled thing Perhaps) n o
+declared_says p h None x n None same fits = record { number = same; none = refl }
+declared_says p h None x n (Some y) same fits = absurd fits
+declared_says p h (Some t) x n None same fits = inl (record { number = same; none = refl })
+declared_says p h (Some t) Empty n (Some y) same fits = absurd fits
+declared_says p h (Some t) Full n (Some y) same fits = inr (record { object = y; owned = refl; number = same; thing = fits.0 })
+declared_says p h (Some t) Perhaps n (Some y) same fits = inr (record { object = y; owned = refl; number = same; thing = fits.0 })
+
+-- and what is known of it says so
+filled_says : (p : Image) (h : Place → Option Object) (t : Thing) (x : Filling) (n : ℕ) (o : Option Object) → n ≡ number o → Fits p h o (filled (Some t) x) → NumberSays p (filled (Some t) x) n o
+filled_says p h t Empty n None same fits = record { number = same; none = refl }
+filled_says p h t Perhaps n None same fits = inl (record { number = same; none = refl })
+filled_says p h t Full n (Some y) same fits = record { object = y; owned = refl; number = same; thing = fits.0 }
+filled_says p h t Perhaps n (Some y) same fits = inr (record { object = y; owned = refl; number = same; thing = fits.0 })
+filled_says p h t _ n _ same fits = absurd fits
+
+empty_fits : (p : Image) (h : Place → Option Object) (thing : Option Thing) (o : Option Object) → Fits p h o Null → Fits p h o (filled thing Empty)
+empty_fits p h None o fits = fits
+empty_fits p h (Some t) o fits = fits
+
+one_object : (x y : Object) → Some x ≡ Some y → x ≡ y
+one_object x y e = cc
+
+module _ (p : Image) (t : Typing) (cs : List Cell) (n : ℕ) (o : Option Object) (same : n ≡ number o) where
+  abbrev F : Kind → Type 0
+  F k = Fits p (held cs) o k
+
+  abbrev Declared : Object → ℕ → Type 0
+  Declared x f = NumberSays p (filled (field_thing p (thing_holder x.thing) f) Perhaps) n o
+
+  abbrev RootDeclared : Type 0
+  RootDeclared = NumberSays p (filled (field_thing p Program 0) Perhaps) n o
+
+  field_says : (x : Object) (f : ℕ) → named cs x.name ≡ Some x → (ls : List Layer) (back : Back) → Stack p t cs back ls → F (claim p (declared p cs) ls (Field x.name f)) → Declared x f
+  field_says x f lives [] back st fits = declared_says p (held cs) (field_thing p (thing_holder x.thing) f) Perhaps n o same (subst (λ y. F (declared_field p y f)) lives fits)
+  field_says x f lives (Method fr sh ∷ ls) back st fits = go fr.home st.2 (field_says x f lives ls (Returns fr.method fr.home) st.4) fits
+    where
+      go : (home : Home) → IsHoused p cs ls home → (F (claim p (declared p cs) ls (Field x.name f)) → Declared x f)
+          → F (home_claim p home sh x.name f (claim p (declared p cs) ls (Field x.name f))) → Declared x f
+      go Static housed below fits = below fits
+      go AtRoot housed below fits = below fits
+      go (Inside y from) housed below fits = inside (y.name == x.name) refl fits
+        where
+          inside : (b : Bool) → (y.name == x.name) ≡ b → F (cond b (filled (field_thing p (thing_holder y.thing) f) (field sh f)) (claim p (declared p cs) ls (Field x.name f))) → Declared x f
+          inside true e fits =
+              let alike : y ≡ x = one_object y x (sym housed.lives ∙ ap (λ k. named cs k) (eqb-true y.name x.name e) ∙ lives) in
+              declared_says p (held cs) (field_thing p (thing_holder x.thing) f) (field sh f) n o same
+              (subst (λ (z : Object). F (filled (field_thing p (thing_holder z.thing) f) (field sh f))) alike fits)
+          inside false e fits = below fits
+  field_says x f lives (Mark gv ∷ ls) back st fits = field_says x f lives ls (Caught gv) st.1 fits
+  field_says x f lives (Unwinding code es ∷ ls) back st fits = field_says x f lives ls Leaves st.1 fits
+  field_says x f lives (Dispatching d ∷ ls) back st fits =
+      declared_says p (held cs) (field_thing p (thing_holder x.thing) f) Perhaps n o same
+      (subst (λ y. F (declared_field p y f)) lives (subst (λ l. F (claim p (declared p cs) l (Field x.name f))) st.1 fits))
+  field_says x f lives (Dying y ∷ ls) back st fits = go (y.name == x.name) (field_says x f lives ls Gone st.2) fits
+    where
+      go : (b : Bool) → (F (claim p (declared p cs) ls (Field x.name f)) → Declared x f) → F (cond b Null (claim p (declared p cs) ls (Field x.name f))) → Declared x f
+      go true below fits = let thing = field_thing p (thing_holder x.thing) f in declared_says p (held cs) thing Empty n o same (empty_fits p (held cs) thing o fits)
+      go false below fits = below fits
+
+  root_says : (ls : List Layer) → F (claim p (declared p cs) ls (Elsewhere Root)) → RootDeclared
+  root_says [] fits = declared_says p (held cs) (field_thing p Program 0) Perhaps n o same fits
+  root_says (Method fr sh ∷ ls) fits = go fr.home (root_says ls) fits
+    where
+      go : (home : Home) → (F (claim p (declared p cs) ls (Elsewhere Root)) → RootDeclared) → F (root_claim p home sh (claim p (declared p cs) ls (Elsewhere Root))) → RootDeclared
+      go Static below fits = below fits
+      go AtRoot below fits = declared_says p (held cs) (field_thing p Program 0) (field sh 0) n o same fits
+      go (Inside y from) below fits = below fits
+  root_says (Mark gv ∷ ls) fits = root_says ls fits
+  root_says (Dying y ∷ ls) fits = root_says ls fits
+  root_says (Unwinding code es ∷ ls) fits = root_says ls fits
+  root_says (Dispatching Of_main ∷ ls) fits = root_says ls fits
+  root_says (Dispatching (Main_left code) ∷ ls) fits = root_says ls fits
+  root_says (Dispatching Of_root ∷ ls) fits = declared_says p (held cs) (field_thing p Program 0) Empty n o same (empty_fits p (held cs) (field_thing p Program 0) o fits)
+
+-- an object's item is claimed to own
+abbrev IsOwn : Kind → Type 0
+IsOwn Unset = ⊥
+IsOwn Word = ⊥
+IsOwn Null = ⊥
+IsOwn (Own t a) = Unit {0}
+IsOwn (Maybe t a) = ⊥
+
+owns_one : (p : Image) (h : Place → Option Object) (k : Kind) (o : Option Object) → IsOwn k → Fits p h o k → (x : Object) × (o ≡ Some x)
+owns_one p h (Own t a) (Some x) own fits = (x, refl)
+owns_one p h (Own t a) None own fits = absurd fits
+owns_one p h _ o own fits = absurd own
+
+over_forms : (items : List Item) (k : ℕ) → over items k ≡ Some An_object → over (forms items) k ≡ Some Object_form
+over_forms [] k e = cc
+over_forms (i ∷ items) k e = go (length items == k) refl (over_forms items k) e
+  where
+    shown : (i : Item) → Some i ≡ Some An_object → Some (form i) ≡ Some Object_form
+    shown An_object e = refl
+    shown _ e = cc
+
+    go : (b : Bool) → (length items == k) ≡ b → (over items k ≡ Some An_object → over (forms items) k ≡ Some Object_form) → cond b (Some i) (over items k) ≡ Some An_object
+        → cond (length (forms items) == k) (Some (form i)) (over (forms items) k) ≡ Some Object_form
+    go true is below e = ap (λ n. cond (n == k) (Some (form i)) (over (forms items) k)) (length_forms items) ∙ ap (λ b. cond b (Some (form i)) (over (forms items) k)) is ∙ shown i e
+    go false is below e = ap (λ n. cond (n == k) (Some (form i)) (over (forms items) k)) (length_forms items) ∙ ap (λ b. cond b (Some (form i)) (over (forms items) k)) is ∙ below e
+
+module _ (p : Image) (d : Place → Kind) (k : ℕ) where
+  abbrev ClaimedOwn : List Layer → Type 0
+  ClaimedOwn ls = over (items_of ls) k ≡ Some Object_form → IsOwn (claim p d ls (Entry k))
+
+  pushed_own : (es : List Pushed) (ls : List Layer) → ClaimedOwn ls → over (objects es (items_of ls)) k ≡ Some Object_form → IsOwn (entry_claim es (items_of ls) k (claim p d ls (Entry k)))
+  pushed_own [] ls below e = below e
+  pushed_own (x ∷ es) ls below e = go (length (objects es (items_of ls)) == k) (pushed_own es ls below) e
+    where
+      own : (x : Pushed) → Some (entry_form x) ≡ Some Object_form → IsOwn (entry_kind x)
+      own (Pushed_object c a) e = tt
+      own Pushed_operation e = cc
+
+      go : (b : Bool) → (over (objects es (items_of ls)) k ≡ Some Object_form → IsOwn (entry_claim es (items_of ls) k (claim p d ls (Entry k))))
+          → cond b (Some (entry_form x)) (over (objects es (items_of ls)) k) ≡ Some Object_form → IsOwn (cond b (entry_kind x) (entry_claim es (items_of ls) k (claim p d ls (Entry k))))
+      go true rest e = own x e
+      go false rest e = rest e
+
+  entries_own : (ls : List Layer) → ClaimedOwn ls
+  entries_own [] e = cc
+  entries_own (Method fr sh ∷ ls) e = pushed_own sh.entries ls (entries_own ls) e
+  entries_own (Unwinding code es ∷ ls) e = pushed_own es ls (entries_own ls) e
+  entries_own (Dying o ∷ ls) e = entries_own ls e
+  entries_own (Dispatching x ∷ ls) e = entries_own ls e
+  entries_own (Mark gv ∷ ls) e = go (length (items_of ls) == k) (entries_own ls) e
+    where
+      go : (b : Bool) → ClaimedOwn ls → cond b (Some Mark_form) (over (items_of ls) k) ≡ Some Object_form → IsOwn (claim p d ls (Entry k))
+      go true below e = cc
+      go false below e = below e
+
+-- ---- all together
+
+module _ (m : Machine) (s : State) (st : StandsFor m s) where
+  abbrev p : Image
+  p = m.image
+
+  -- a place of no words shows its object's number
+  plain : (r : Place) → word_at s.tasks r ≡ None → value m.parts r ≡ number (held s.cells r)
+  plain r none = subst (λ w. Shows (value m.parts r) w (held s.cells r)) none (st.agrees.values r)
+
+  owner_shows : (r : Place) (x : Object) → held s.cells r ≡ Some x → (word_at s.tasks r ≡ None) × (value m.parts r ≡ x.name)
+  owner_shows r x holds = go (word_at s.tasks r) refl (subst (λ o. Shows (value m.parts r) (word_at s.tasks r) o) holds (st.agrees.values r))
+    where
+      go : (w : Option ℤ) → word_at s.tasks r ≡ w → Shows (value m.parts r) w (Some x) → (word_at s.tasks r ≡ None) × (value m.parts r ≡ x.name)
+      go None e shows = (e, shows)
+      go (Some w) e shows = absurd shows
+
+  shows_owner : (r : Place) (x : Object) → named s.cells x.name ≡ Some x → word_at s.tasks r ≡ None → value m.parts r ≡ x.name → held s.cells r ≡ Some x
+  shows_owner r x lives none is = go (held s.cells r) refl (sym is ∙ plain r none)
+    where
+      go : (o : Option Object) → held s.cells r ≡ o → x.name ≡ number o → o ≡ Some x
+      go None holds e = let nobody = unnamed p m.parts s null st.agrees st.agrees.cells.null_is_none in let clash : Some x ≡ None = sym lives ∙ ap (λ n. named s.cells n) e ∙ nobody in cc
+      go (Some y) holds e = sym (held_lives s.cells r y st.typed.good.tidy holds) ∙ ap (λ n. named s.cells n) (sym e) ∙ lives
+
+  shown : (above : List Task) (fr : Frame) (below : List Task) → s.tasks ≡ above ++ Run fr ∷ below → (i : ℕ)
+      → Shows (value m.parts (Register (length below) i)) (word fr i) (held s.cells (Register (length below) i))
+  shown above fr below top i =
+      subst (λ w. Shows (value m.parts (Register (length below) i)) w (held s.cells (Register (length below) i))) (ap (λ us. word_in us (length below) i) top ∙ word_under above fr below i)
+      (st.agrees.values (Register (length below) i))
+
+  registers_agree : (above : List Task) (fr : Frame) (below : List Task) → s.tasks ≡ above ++ Run fr ∷ below → RegistersAgree p st.typing m.parts s above fr (length below)
+  registers_agree [] fr below top =
+      let h = runs_typed p st.typing s fr below st.typed top in
+      record { shape = h.shape; typed = h.typed; registers = λ i. number_says p _ _ _ _ (h.says i) (shown [] fr below top i) }
+  registers_agree (task ∷ above) fr below top =
+      let w = waits_under p st.typing s.cells above fr below (subst (λ us. OthersWait p st.typing s.cells us) top st.waits) in
+      record { shape = w.shape; typed = w.typed; registers = λ i. number_says p _ _ _ _ (w.says i) (shown (task ∷ above) fr below top i) }
+
+  own_fields_agree : (fr : Frame) (below : List Task) → s.tasks ≡ Run fr ∷ below → FieldsAgree p st.typing m.parts s fr
+  own_fields_agree fr below top = go st.typed.layers (sym st.typed.tasks ∙ top) st.typed.good
+    where
+      no_word_there : (home : Home) (f : ℕ) → word_at s.tasks (field_place home f) ≡ None
+      no_word_there Static f = refl
+      no_word_there AtRoot f = refl
+      no_word_there (Inside o from) f = refl
+
+      by_frame : (g : Frame) (sh : Shape) (ls : List Layer) → shape_at st.typing g.method g.place ≡ Some sh → Good p st.typing s.cells (Method g sh ∷ ls) → FieldsAgree p st.typing m.parts s g
+      by_frame g sh ls there good = record {
+        shape = sh;
+        typed = there;
+        fields = λ f thing declares.
+            let q = field_place g.home f in
+            let claims = claim_field p (declared p s.cells) g sh ls g.home f refl (ap is_some declares) ∙ ap (λ x. filled x (field sh f)) declares in
+            filled_says p (held s.cells) thing (field sh f) (value m.parts q) (held s.cells q) (plain q (no_word_there g.home f))
+            (subst (λ k. Fits p (held s.cells) (held s.cells q) k) claims (good.fits q));
+      }
+
+      go : (ls : List Layer) → tasks_of ls ≡ Run fr ∷ below → Good p st.typing s.cells ls → FieldsAgree p st.typing m.parts s fr
+      go (Method g sh ∷ ls) e good = let same : g ≡ fr = cc in subst (λ (x : Frame). FieldsAgree p st.typing m.parts s x) same (by_frame g sh ls good.stack.0 good)
+      go _ e good = cc
+
+  pub agreement : Agreement m s
+  agreement = record {
+    typing = st.typing;
+    strongest = st.sound.strongest;
+    owners = λ r x lives. (owner_shows r x, λ is. shows_owner r x lives is.0 is.1);
+    once = λ q r x lives none none' is is'. one_place s.cells q r x x st.typed.good.tidy (shows_owner q x lives none is) (shows_owner r x lives none' is') refl;
+    registers = registers_agree;
+    own_fields = own_fields_agree;
+    fields =
+        λ x f lives. field_says p st.typing s.cells (value m.parts (Field x.name f)) (held s.cells (Field x.name f))
+        (plain (Field x.name f) refl) x f lives st.typed.layers Now st.typed.good.stack (st.typed.good.fits (Field x.name f));
+    root = root_says p st.typing s.cells (value m.parts (Elsewhere Root)) (held s.cells (Elsewhere Root)) (plain (Elsewhere Root) refl) st.typed.layers (st.typed.good.fits (Elsewhere Root));
+    entries = λ k object.
+        let own = entries_own p (declared p s.cells) k st.typed.layers (ap (λ fs. over fs k) (sym st.typed.items) ∙ over_forms s.items k object) in
+        let x = owns_one p (held s.cells) _ _ own (st.typed.good.fits (Entry k)) in
+        (x.0, x.1, (owner_shows (Entry k) x.0 x.1).1);
+  }
+
+pub agrees_in_all : (m : Machine) → AgreesInAll m
+agrees_in_all m s st = agreement m s st

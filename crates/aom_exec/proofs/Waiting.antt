@@ -1,0 +1,384 @@
+-- Each move keeps what the typing says of the methods that wait: what runs over a method leaves its registers alone, and a method begins to wait with its operands moved.
+use Rattle.std.proofs.Common.{Bool, List, None, Option, Some, [], ap, arith, cond, false, length, refl, subst, suc, sym, true, ℕ, ℤ, ◌&&◌, ◌<◌, ◌==◌, ◌∙◌, ◌∷◌, ◌≡◌}
+use Rattle.std.proofs.lemmas.Bool.{eq-eqb, eqb-true, ne_eqb}
+use Rattle.aom_image.specs.Image.{Image}
+use Rattle.aom_image.specs.Views.{arguments_of, instr_at, method_class}
+use Rattle.aom_image.specs.declared.instr.Instr.{Instr}
+use Rattle.aom_image.specs.declared.instr.Instr.TheVariants.{Delete, PopDelete}
+use Rattle.aom_image.specs.declared.instr.Target.{Target}
+use Rattle.aom_image.specs.declared.instr.Target.TheVariants.{Entry as On_entry, Field as On_field, Register as On_register, This}
+use Rattle.aom_image.specs.declared.method.Argument.{Argument}
+use Rattle.aom_image.specs.declared.method.Argument.TheVariants.{Own as Takes_own, Word as Takes_word}
+use Rattle.aom_image.specs.declared.method.Gives.{Gives}
+use Rattle.aom_image.specs.declared.method.Gives.TheVariants.{Maybe as A_maybe, Own as An_own}
+use Rattle.aom_image.specs.declared.method.Thing.TheVariants.{Object as An_object_of}
+use Rattle.aom_classes.specs.Roles.{main_of}
+use Rattle.aom_shape.specs.Calls.{arguments_moved, while_called}
+use Rattle.aom_shape.specs.Kinds.{readied, register, set_register}
+use Rattle.aom_shape.specs.Needs.{AllTrue}
+use Rattle.aom_shape.specs.Shape.{Shape}
+use Rattle.aom_shape.specs.Tables.{at, put_at}
+use Rattle.aom_shape.specs.Typing.{Typing, shape_at}
+use Rattle.aom_shape.specs.declared.kind.Kind.{Kind}
+use Rattle.aom_shape.specs.declared.kind.Kind.TheVariants.{Maybe, Null, Own, Unset, Word}
+use Rattle.aom_sound.proofs.Finishing.{all_parts}
+use Rattle.aom_sound.proofs.Guarded.{guarded_goes, guarded_met}
+use Rattle.aom_sound.proofs.Maps.{at-put_at, held_without, same_place-true}
+use Rattle.aom_sound.proofs.Moving.{steps_are_moves}
+use Rattle.aom_sound.proofs.Storing.{held_set_word}
+use Rattle.aom_sound.proofs.Straight.{register_fits}
+use Rattle.aom_sound.specs.Calls.{needs_each, needs_entering, needs_target, passed_cells, result_cells, returned}
+use Rattle.aom_sound.specs.Claims.{Layer, Method, tasks_of}
+use Rattle.aom_sound.specs.Cleanup.{to_trap, top_place}
+use Rattle.aom_sound.specs.Destruction.{begun_by}
+use Rattle.aom_classes.specs.Roles.{destructor_of}
+use Rattle.aom_sound.specs.Effects.{Calls, Carried, Counts, Destroys, Destroys_last, Effect, Goes_on, In_field, In_register, Jumps, Leaves, Made, Operates, Popped, Pushed, Repeats, Returns, Sets_trap, Spot, Update, Written, applied, cells_after, deletes, spot_place, with_words}
+use Rattle.aom_sound.specs.Moves.{counted, dispatch_ends, does, main_ends, needs, step}
+use Rattle.aom_sound.specs.Places.{Cell, Elsewhere, Entry, Going, Object, Place, Register, Root, held, moved, same_place, without}
+use Rattle.aom_sound.specs.State.{AtRoot, Choice, Destroy, Dispatch, Dispatched, Frame, Goes, Home, Inside, Main_left, Need, Of_main, Of_root, Run, State, Static, Task, Trapped, Unwind, field_place, guarded, resumed, word}
+use Rattle.aom_sound.specs.Steps.{Acts, Arrives, Clears, Comes_out, Ends, Fits as May, Move, Rests, Undoes, Vanishes}
+use Rattle.aom_sound.specs.WellTyped.{Fits, Good, WellTyped, WordFits}
+use Rattle.aom_sound.specs.Words.{here, stored}
+use Rattle.aom_sound.specs.World.{boot_state, main_tasks}
+use Rattle.aom_exec.specs.Acts.{requested}
+use Rattle.aom_exec.specs.Waits.{AllWait, KindSays, OthersWait, Waits, while_waiting}
+use Rattle.aom_exec.proofs.Depths.{held_apart}
+use Rattle.aom_exec.proofs.Standing.{no_word}
+use Rattle.aom_exec.proofs.Stepping.{at_step, step_of_instr}
+
+-- ---- kinds
+
+pub kind_says : (p : Image) (h : Place → Option Object) (k : Kind) (w : Option ℤ) (o : Option Object) → WordFits w k → Fits p h o k → KindSays p k w o
+kind_says p h Word (Some w) None words fits = (refl, refl)
+kind_says p h Word (Some w) (Some o) words fits = absurd fits
+kind_says p h Word None o words fits = absurd words
+kind_says p h Unset w None words fits = refl
+kind_says p h Null w None words fits = (words, refl)
+kind_says p h (Own t a) w (Some o) words fits = (words, refl, fits.0)
+kind_says p h (Maybe t a) w None words fits = (words, tt)
+kind_says p h (Maybe t a) w (Some o) words fits = (words, fits.0)
+kind_says p h _ w _ words fits = absurd fits
+
+-- ages are no part of it
+readied_says : (p : Image) (k : Kind) (w : Option ℤ) (o : Option Object) → KindSays p k w o → KindSays p (readied k) w o
+readied_says p Unset w o says = says
+readied_says p Word w o says = says
+readied_says p Null w o says = says
+readied_says p (Own t a) w o says = says
+readied_says p (Maybe t a) w o says = says
+
+-- ---- registers below a depth
+
+abbrev SameBelow : List Cell → List Cell → ℕ → Type 0
+SameBelow cs cs' n = (d i : ℕ) → d < n → held cs' (Register d i) ≡ held cs (Register d i)
+
+still_wait : (p : Image) (t : Typing) (cs cs' : List Cell) (ts : List Task) → SameBelow cs cs' (length ts) → AllWait p t cs ts → AllWait p t cs' ts
+still_wait p t cs cs' [] same w = tt
+still_wait p t cs cs' (Run fr ∷ ts) same w = (
+  record {
+    shape = w.0.shape;
+    typed = w.0.typed;
+    says = λ i. subst (λ o. KindSays p (register (while_waiting p (instr_at p fr.method fr.place) w.0.shape) i) (word fr i) o) (sym (same (length ts) i (omega arith))) (w.0.says i);
+  },
+  still_wait p t cs cs' ts (λ d i lt. same d i (omega (arith, lt))) w.1,
+)
+still_wait p t cs cs' (Trapped ∷ ts) same w = still_wait p t cs cs' ts (λ d i lt. same d i (omega (arith, lt))) w
+still_wait p t cs cs' (Destroy ∷ ts) same w = still_wait p t cs cs' ts (λ d i lt. same d i (omega (arith, lt))) w
+still_wait p t cs cs' (Unwind code ∷ ts) same w = still_wait p t cs cs' ts (λ d i lt. same d i (omega (arith, lt))) w
+still_wait p t cs cs' (Dispatched e ∷ ts) same w = still_wait p t cs cs' ts (λ d i lt. same d i (omega (arith, lt))) w
+
+higher_apart : (d a e i : ℕ) → e < d → same_place (Register d a) (Register e i) ≡ false
+higher_apart d a e i lt = ap (λ b. b && (a == i)) (ne_eqb d e (λ x. absurd (omega (arith, lt, x))))
+
+field_apart : (home : Home) (f e i : ℕ) → same_place (field_place home f) (Register e i) ≡ false
+field_apart Static f e i = refl
+field_apart AtRoot f e i = refl
+field_apart (Inside o from) f e i = refl
+
+stored_same : (cs : List Cell) (home : Home) (w : ℕ) (v : ℤ) (n : ℕ) → SameBelow cs (stored cs home w v) n
+stored_same cs Static w v n d i lt = refl
+stored_same cs AtRoot w v n d i lt = refl
+stored_same cs (Inside o from) w v n d i lt = held_set_word cs o.name w v (Register d i)
+
+module _ (p : Image) (fr : Frame) (ts : List Task) (s : State) where
+  spot_apart : (spot : Spot) (e i : ℕ) → e < length ts → same_place (spot_place p fr ts s spot) (Register e i) ≡ false
+  spot_apart (In_register a) e i lt = higher_apart (length ts) a e i lt
+  spot_apart (In_field f) e i lt = field_apart fr.home f e i
+
+  updated_same : (u : Update) → SameBelow s.cells (cells_after p fr ts s u) (length ts)
+  updated_same (Carried from to) d i lt = held_apart s.cells (spot_place p fr ts s from) (spot_place p fr ts s to) (Register d i) (spot_apart from d i lt) (spot_apart to d i lt)
+  updated_same (Made name class a) d i lt = ap (λ b. cond b (Some (record { name = name; thing = An_object_of class })) (held s.cells (Register d i))) (higher_apart (length ts) a d i lt)
+  updated_same (Written w v) d i lt = stored_same s.cells fr.home w v (length ts) d i lt
+  updated_same (Pushed a) d i lt = held_apart s.cells (here fr ts s a) (Entry (length s.items)) (Register d i) (higher_apart (length ts) a d i lt) refl
+  updated_same (Popped a) d i lt = held_apart s.cells (top_place s.items) (here fr ts s a) (Register d i) refl (higher_apart (length ts) a d i lt)
+  updated_same _ d i lt = refl
+
+  passed_same : (depth : ℕ) (xs : List Argument) (first to : ℕ) (cs : List Cell) → length ts < depth → SameBelow cs (passed_cells p fr ts s depth xs first to cs) (length ts)
+  passed_same depth [] first to cs deep d i lt = refl
+  passed_same depth (Takes_word ∷ xs) first to cs deep d i lt = passed_same depth xs (suc first) (suc to) cs deep d i lt
+  passed_same depth (Takes_own t ∷ xs) first to cs deep d i lt =
+      passed_same depth xs (suc first) (suc to) (moved (here fr ts s first) (Register depth to) cs) deep d i lt
+      ∙ held_apart cs (here fr ts s first) (Register depth to) (Register d i) (higher_apart (length ts) first d i lt) (higher_apart depth to d i (omega (arith, lt, deep)))
+
+  result_same : (g : Gives) (a x : ℕ) (below : List Task) → length below < length ts → SameBelow s.cells (result_cells p fr ts s g a x below) (length below)
+  result_same (An_own t) a x below deep d i lt =
+      held_apart s.cells (here fr ts s a) (Register (length below) x) (Register d i) (higher_apart (length ts) a d i (omega (arith, lt, deep))) (higher_apart (length below) x d i lt)
+  result_same (A_maybe t) a x below deep d i lt =
+      held_apart s.cells (here fr ts s a) (Register (length below) x) (Register d i) (higher_apart (length ts) a d i (omega (arith, lt, deep))) (higher_apart (length below) x d i lt)
+  result_same _ a x below deep d i lt = refl
+
+-- ---- operands move
+
+-- what leaves a place is there no more
+held_left : (cs : List Cell) (q r e : Place) → same_place r e ≡ false → held (moved q r cs) e ≡ cond (same_place q e) None (held cs e)
+held_left cs q r e apart = by (same_place q e) refl
+  where
+    left : (cs : List Cell) → same_place q e ≡ true → held (moved q r cs) e ≡ None
+    left [] h = refl
+    left (c ∷ cs) h = go (same_place c.owner q) refl (left cs h)
+      where
+        go : (b : Bool) → same_place c.owner q ≡ b → held (moved q r cs) e ≡ None → cond (same_place (cond b r c.owner) e) (Some c.object) (held (moved q r cs) e) ≡ None
+        go true x rest = ap (λ y. cond y (Some c.object) (held (moved q r cs) e)) apart ∙ rest
+        go false x rest = ap (λ y. cond y (Some c.object) (held (moved q r cs) e)) (ap (λ z. same_place c.owner z) (sym (same_place-true q e h)) ∙ x) ∙ rest
+
+    by : (b : Bool) → same_place q e ≡ b → held (moved q r cs) e ≡ cond b None (held cs e)
+    by true h = left cs h
+    by false h = held_apart cs q r e h apart
+
+module _ (p : Image) (fr : Frame) (ts : List Task) (s : State) where
+  -- the registers of the method that runs
+  abbrev Says : List Cell → Shape → Type 0
+  Says cs sh = (i : ℕ) → KindSays p (register sh i) (word fr i) (held cs (Register (length ts) i))
+
+  emptied : (cs : List Cell) (sh : Shape) (a : ℕ) (to : Place) → ((i : ℕ) → same_place to (Register (length ts) i) ≡ false) → word fr a ≡ None → Says cs sh
+      → Says (moved (here fr ts s a) to cs) (set_register sh a Null)
+  emptied cs sh a to apart wordless says i =
+      subst (λ k. KindSays p k (word fr i) (held (moved (here fr ts s a) to cs) (Register (length ts) i))) (sym (at-put_at Unset sh.registers a i Null))
+      (subst (λ o. KindSays p (cond (a == i) Null (register sh i)) (word fr i) o) (sym left) (go (a == i) refl))
+    where
+      left : held (moved (here fr ts s a) to cs) (Register (length ts) i) ≡ cond (a == i) None (held cs (Register (length ts) i))
+      left = held_left cs (here fr ts s a) to (Register (length ts) i) (apart i) ∙ ap (λ b. cond (b && (a == i)) None (held cs (Register (length ts) i))) (eq-eqb (length ts) (length ts) refl)
+
+      go : (b : Bool) → (a == i) ≡ b → KindSays p (cond b Null (register sh i)) (word fr i) (cond b None (held cs (Register (length ts) i)))
+      go true e = (ap (λ j. word fr j) (sym (eqb-true a i e)) ∙ wordless, refl)
+      go false e = says i
+
+  arguments_says :
+      (depth : ℕ) (xs : List Argument) (first to : ℕ) (cs : List Cell) (sh : Shape) → length ts < depth → AllTrue (needs_each p fr ts s xs first) → Says cs sh →
+      Says (passed_cells p fr ts s depth xs first to cs) (arguments_moved xs first sh)
+  arguments_says depth [] first to cs sh deep met says = says
+  arguments_says depth (Takes_word ∷ xs) first to cs sh deep met says = arguments_says depth xs (suc first) (suc to) cs sh deep met.1 says
+  arguments_says depth (Takes_own t ∷ xs) first to cs sh deep met says =
+      arguments_says depth xs (suc first) (suc to) (moved (here fr ts s first) (Register depth to) cs) (set_register sh first Null) deep met.1.1.1
+      (emptied cs sh first (Register depth to) (λ i. higher_apart depth to (length ts) i deep) (no_word _ met.0) says)
+
+  called_says : (target : Target) (class : Option ℕ) (cs : List Cell) (sh : Shape) → Says cs sh → Says cs (while_called target class sh)
+  called_says This None cs sh says i = says i
+  called_says This (Some c) cs sh says i = says i
+  called_says (On_field f) class cs sh says i = says i
+  called_says (On_entry k) class cs sh says i = says i
+  called_says (On_register r) class cs sh says i =
+      subst (λ k. KindSays p k (word fr i) (held cs (Register (length ts) i))) (sym (at-put_at Unset sh.registers r i (readied (register sh r)))) (go (r == i) refl)
+    where
+      go : (b : Bool) → (r == i) ≡ b → KindSays p (cond b (readied (register sh r)) (register sh i)) (word fr i) (held cs (Register (length ts) i))
+      go true e = subst (λ j. KindSays p (readied (register sh j)) (word fr i) (held cs (Register (length ts) i))) (sym (eqb-true r i e)) (readied_says p (register sh i) _ _ (says i))
+      go false e = says i
+
+-- what the typing says of the method that runs
+pub record RunsTyped (p : Image) (t : Typing) (cs : List Cell) (fr : Frame) (ts : List Task) : Type 0 where
+  pub shape : Shape
+  pub typed : shape_at t fr.method fr.place ≡ Some shape
+  pub says : (i : ℕ) → KindSays p (register shape i) (word fr i) (held cs (Register (length ts) i))
+
+pub runs_typed : (p : Image) (t : Typing) (s : State) (fr : Frame) (ts : List Task) → WellTyped p t s → s.tasks ≡ Run fr ∷ ts → RunsTyped p t s.cells fr ts
+runs_typed p t s fr ts w top = go w.layers (sym w.tasks ∙ top) w.good
+  where
+    go : (ls : List Layer) → tasks_of ls ≡ Run fr ∷ ts → Good p t s.cells ls → RunsTyped p t s.cells fr ts
+    go (Method fr' sh ∷ ls) e good =
+        let same : fr' ≡ fr = cc in
+        let under : tasks_of ls ≡ ts = cc in
+        record {
+          shape = sh;
+          typed = subst (λ (f : Frame). shape_at t f.method f.place ≡ Some sh) same good.stack.0;
+          says = λ i.
+              subst (λ (f : Frame). KindSays p (register sh i) (word f i) (held s.cells (Register (length ts) i))) same
+              (subst (λ us. KindSays p (register sh i) (word fr' i) (held s.cells (Register (length us) i))) under
+              (kind_says p (held s.cells) (register sh i) (word fr' i) _ (good.stack.1.words i) (register_fits p s.cells fr' sh ls good.fits i)));
+        }
+    go _ e good = cc
+
+-- ---- moves
+
+begun_wait : (p : Image) (t : Typing) (cs : List Cell) (d : Option ℕ) (o : Object) (height : ℕ) (ts : List Task) → AllWait p t cs ts → OthersWait p t cs (begun_by d o height ts)
+begun_wait p t cs None o height ts w = w
+begun_wait p t cs (Some m) o height ts w = w
+
+resumed_wait : (p : Image) (t : Typing) (cs : List Cell) (ts : List Task) → AllWait p t cs ts → OthersWait p t cs (resumed ts)
+resumed_wait p t cs [] w = tt
+resumed_wait p t cs (Run fr ∷ ts) w = w.1
+resumed_wait p t cs (Trapped ∷ ts) w = w
+resumed_wait p t cs (Destroy ∷ ts) w = w
+resumed_wait p t cs (Unwind code ∷ ts) w = w
+resumed_wait p t cs (Dispatched d ∷ ts) w = w
+
+trapped_wait : (p : Image) (t : Typing) (cs : List Cell) (ts : List Task) → AllWait p t cs ts → AllWait p t cs (to_trap ts)
+trapped_wait p t cs [] w = tt
+trapped_wait p t cs (Run fr ∷ ts) w = trapped_wait p t cs ts w.1
+trapped_wait p t cs (Trapped ∷ ts) w = w
+trapped_wait p t cs (Destroy ∷ ts) w = w
+trapped_wait p t cs (Unwind code ∷ ts) w = w
+trapped_wait p t cs (Dispatched d ∷ ts) w = w
+
+-- a method's move
+module _ (p : Image) (t : Typing) (c : Choice) (s : State) (fr : Frame) (ts : List Task) (at_hand : s.tasks ≡ Run fr ∷ ts) (i : Instr) (there : instr_at p fr.method fr.place ≡ Some i) (met : AllTrue (needs p c fr ts s i)) (h : RunsTyped p t s.cells fr ts) (w : AllWait p t s.cells ts) where
+  abbrev W : State → Type 0
+  W u = OthersWait p t u.cells u.tasks
+
+  -- it waits from then on
+  begins : (cs : List Cell) → ((j : ℕ) → KindSays p (register (while_waiting p (Some i) h.shape) j) (word fr j) (held cs (Register (length ts) j))) → Waits p t cs (length ts) fr
+  begins cs says = record {
+    shape = h.shape;
+    typed = h.typed;
+    says = λ j. subst (λ o. KindSays p (register (while_waiting p o h.shape) j) (word fr j) (held cs (Register (length ts) j))) (sym there) (says j);
+  }
+
+  -- for a method that it has called, at that depth
+  calls :
+      (depth m first : ℕ) (target : Target) (more : List Need) → length ts < depth → AllTrue (needs_entering p fr ts s target m first more) →
+      ((sh : Shape) → while_waiting p (Some i) sh ≡ while_called target (method_class p m) (arguments_moved (arguments_of p m) first sh)) →
+      AllWait p t (passed_cells p fr ts s depth (arguments_of p m) first 0 s.cells) (Run fr ∷ ts)
+  calls depth m first target more deep needed is =
+      let xs = arguments_of p m in
+      let cs = passed_cells p fr ts s depth xs first 0 s.cells in
+      let parts = all_parts (needs_target p fr ts s target (method_class p m) first (length xs)) _ needed in
+      let each = (all_parts (needs_each p fr ts s xs first) more parts.1.1).0 in
+      let moved_on = arguments_says p fr ts s depth xs first 0 s.cells h.shape deep each h.says in
+      let says = called_says p fr ts s target (method_class p m) cs (arguments_moved xs first h.shape) moved_on in (
+        begins cs (λ j. subst (λ sh. KindSays p (register sh j) (word fr j) (held cs (Register (length ts) j))) (sym (is h.shape)) (says j)),
+        still_wait p t s.cells cs ts (passed_same p fr ts s depth xs first 0 s.cells deep) w,
+      )
+
+  returns : (g : Gives) (a : ℕ) (us : List Task) → us ≡ ts → W (returned p fr ts s g a us)
+  returns g a (Run caller ∷ below) e = still_wait p t s.cells _ below (result_same p fr ts s g a _ below (let n = ap length e in omega (arith, n))) (subst (AllWait p t s.cells) (sym e) w).1
+  returns g a (Trapped ∷ Run caller ∷ below) e = still_wait p t s.cells _ below (result_same p fr ts s g a _ below (let n = ap length e in omega (arith, n))) (subst (AllWait p t s.cells) (sym e) w).1
+  returns g a (Trapped ∷ Dispatched d ∷ below) e = subst (AllWait p t s.cells) (sym e) w
+  returns g a (Destroy ∷ below) e = subst (AllWait p t s.cells) (sym e) w
+  returns g a (Unwind code ∷ below) e = subst (AllWait p t s.cells) (sym e) w
+  returns g a [] e = stays
+    where
+      stays : W s
+      stays = subst (OthersWait p t s.cells) (sym at_hand) w
+  returns g a (Dispatched d ∷ below) e = subst (OthersWait p t s.cells) (sym at_hand) w
+  returns g a (Trapped ∷ []) e = subst (OthersWait p t s.cells) (sym at_hand) w
+  returns g a (Trapped ∷ Trapped ∷ below) e = subst (OthersWait p t s.cells) (sym at_hand) w
+  returns g a (Trapped ∷ Destroy ∷ below) e = subst (OthersWait p t s.cells) (sym at_hand) w
+  returns g a (Trapped ∷ Unwind code ∷ below) e = subst (OthersWait p t s.cells) (sym at_hand) w
+
+  -- the object of a register goes
+  deletes_wait : (o : Object) (a : ℕ) → i ≡ Delete a → W (applied p fr ts s (Destroys o a (put_at None fr.words a None)))
+  deletes_wait o a is =
+      let cs = moved (here fr ts s a) (Going (suc (length ts))) s.cells in
+      let wordless = no_word _ (subst (λ j. AllTrue (needs p c fr ts s j)) is met).0 in
+      let says = emptied p fr ts s s.cells h.shape a (Going (suc (length ts))) (λ j. refl) wordless h.says in
+      begun_wait p t cs (destructor_of p o.thing) o (length s.items) (Run (with_words fr (put_at None fr.words a None)) ∷ ts) (
+        record {
+          shape = h.shape;
+          typed = h.typed;
+          says = λ j.
+              subst (λ x. KindSays p (register (while_waiting p x h.shape) j) (at None (put_at None fr.words a None) j) (held cs (Register (length ts) j))) (sym there)
+              (subst (λ x. KindSays p (register (while_waiting p (Some x) h.shape) j) (at None (put_at None fr.words a None) j) (held cs (Register (length ts) j))) (sym is)
+              (subst (λ x. KindSays p (register (set_register h.shape a Null) j) x (held cs (Register (length ts) j))) (sym (blank wordless j)) (says j)));
+        },
+        still_wait p t s.cells cs ts (λ d j lt. held_apart s.cells (here fr ts s a) (Going (suc (length ts))) (Register d j) (higher_apart (length ts) a d j lt) refl) w,
+      )
+    where
+      blank : word fr a ≡ None → (j : ℕ) → at None (put_at None fr.words a None) j ≡ word fr j
+      blank wordless j = at-put_at None fr.words a j None ∙ go (a == j) refl
+        where
+          go : (b : Bool) → (a == j) ≡ b → cond b None (word fr j) ≡ word fr j
+          go true e = sym wordless ∙ ap (λ k. word fr k) (eqb-true a j e)
+          go false e = refl
+
+  -- its registers stay as they are
+  pops : (cs : List Cell) → i ≡ PopDelete → ((d j : ℕ) → held cs (Register d j) ≡ held s.cells (Register d j)) → AllWait p t cs (Run fr ∷ ts)
+  pops cs is same = (
+    begins cs (λ j. subst (λ x. KindSays p (register (while_waiting p (Some x) h.shape) j) (word fr j) (held cs (Register (length ts) j))) (sym is)
+        (subst (λ o. KindSays p (register h.shape j) (word fr j) o) (sym (same (length ts) j)) (h.says j))),
+    still_wait p t s.cells cs ts (λ d j lt. same d j) w,
+  )
+
+  -- by its effect; with what words a method waits for an object that goes is told by the instruction
+  acts_wait : (e : Effect) → ((o : Object) (a : ℕ) (words : List (Option ℤ)) → e ≡ Destroys o a words → W (applied p fr ts s e)) → May p c fr ts s i e → W (applied p fr ts s e)
+  acts_wait (Goes_on ch) deleted fits = still_wait p t s.cells _ ts (updated_same p fr ts s ch.update) w
+  acts_wait (Jumps to) deleted fits = w
+  acts_wait (Counts d n) deleted fits = w
+  acts_wait (Repeats d n to) deleted fits = w
+  acts_wait (Calls target m first) deleted fits =
+      calls (suc (length ts)) m first target _ (omega arith) (subst (λ j. AllTrue (needs p c fr ts s j)) fits.1 met) (λ sh. ap (λ j. while_waiting p (Some j) sh) fits.1)
+  acts_wait (Sets_trap target m first) deleted fits =
+      calls (suc (suc (length ts))) m first target _ (omega arith) (subst (λ j. AllTrue (needs p c fr ts s j)) fits.1 met) (λ sh. ap (λ j. while_waiting p (Some j) sh) fits.1)
+  acts_wait (Returns g a) deleted fits = returns g a ts refl
+  acts_wait (Leaves code u) deleted fits = trapped_wait p t _ ts (still_wait p t s.cells _ ts (updated_same p fr ts s u) w)
+  acts_wait (Destroys o a words) deleted fits = deleted o a words refl
+  acts_wait (Destroys_last o) deleted fits =
+      let cs = moved (top_place s.items) (Going (suc (length ts))) s.cells in
+      begun_wait p t cs (destructor_of p o.thing) o _ (Run fr ∷ ts) (pops cs fits.0 (λ d j. held_apart s.cells (top_place s.items) (Going (suc (length ts))) (Register d j) refl refl))
+  acts_wait (Operates m x) deleted fits = pops s.cells fits.0 (λ d j. refl)
+
+module _ (p : Image) (t : Typing) (c : Choice) (s u : State) (typed : WellTyped p t s) (others : OthersWait p t s.cells s.tasks) (goes : step p c s ≡ Goes u) where
+  abbrev V : State → Type 0
+  V v = OthersWait p t v.cells v.tasks
+
+  over_these : (ts : List Task) → s.tasks ≡ ts → OthersWait p t s.cells ts
+  over_these ts top = subst (OthersWait p t s.cells) top others
+
+  -- where `delete` lets an object go
+  deleted : (fr : Frame) (ts : List Task) (i : Instr) (o : Object) (a : ℕ) → s.tasks ≡ Run fr ∷ ts → instr_at p fr.method fr.place ≡ Some i → i ≡ Delete a
+      → held s.cells (Register (length ts) a) ≡ Some o → V u
+  deleted fr ts i o a top there is some =
+      let mid = requested i (at_step s) in
+      let goes_on : guarded (needs p c fr ts mid i) (does p c fr ts mid i) ≡ Goes u = sym (step_of_instr p c s fr ts i top there) ∙ goes in
+      let met = guarded_met (needs p c fr ts mid i) (does p c fr ts mid i) u goes_on in
+      let wait = deletes_wait p t c mid fr ts top i there met (runs_typed p t s fr ts typed top) (over_these (Run fr ∷ ts) top) o a is in
+      subst V
+      (sym (ap (λ x. applied p fr ts mid (deletes fr x a)) some) ∙ sym (ap (λ j. does p c fr ts mid j) is) ∙ guarded_goes (needs p c fr ts mid i) (does p c fr ts mid i) u goes_on)
+      wait
+
+  ends : (d : Dispatch) → V (dispatch_ends p d (counted p s))
+  ends Of_root = tt
+  ends (Main_left code) = tt
+  ends Of_main = go s.rest.stopped (held s.cells (Elsewhere Root))
+    where
+      go : (b : Bool) (root : Option Object) → V (main_ends p b root (counted p s))
+      go true (Some o) = begun_wait p t _ (destructor_of p o.thing) o _ (Dispatched Of_root ∷ []) tt
+      go true None = tt
+      go false root = tt
+
+  pub keeps_waiting : V u
+  keeps_waiting = go (steps_are_moves p c s u goes)
+    where
+      go : Move p c s u → V u
+      go (Rests still same) = subst V (sym same) others
+      go (Acts fr ts i e top there met fits same) =
+          subst V (sym same)
+          (acts_wait p t c (counted p s) fr ts top i there met (runs_typed p t s fr ts typed top) (over_these (Run fr ∷ ts) top) e
+          (λ o a words is. let may = subst (May p c fr ts (counted p s) i) is fits in subst V same (deleted fr ts i o a top there may.0 may.1)) fits)
+      go (Vanishes ts o top there owns same) =
+          let cs = without (Going (length ts)) s.cells in
+          subst V (sym same) (resumed_wait p t cs ts (still_wait p t s.cells cs ts (λ d i lt. held_without s.cells (Going (length ts)) (Register d i)) (over_these (Destroy ∷ ts) top)))
+      go (Clears code ts items o top last there same) =
+          let cs = moved (Entry (length items)) (Going (suc (length ts))) s.cells in
+          subst V (sym same)
+          (begun_wait p t cs (destructor_of p o.thing) o _ (Unwind code ∷ ts)
+          (still_wait p t s.cells cs ts (λ d i lt. held_apart s.cells (Entry (length items)) (Going (suc (length ts))) (Register d i) refl refl) (over_these (Unwind code ∷ ts) top)))
+      go (Undoes code ts items m x top last same) = subst V (sym same) (over_these (Unwind code ∷ ts) top)
+      go (Arrives code fr ts items top last same) = subst V (sym same) (over_these (Unwind code ∷ Trapped ∷ Run fr ∷ ts) top).1
+      go (Comes_out code d ts items top last same) = subst V (sym same) (over_these (Unwind code ∷ Trapped ∷ Dispatched d ∷ ts) top)
+      go (Ends d ts top same) = subst V (sym same) (ends d)
+
+pub none_waits : (p : Image) (t : Typing) → OthersWait p t (boot_state p).cells (boot_state p).tasks
+none_waits p t = go (main_of p)
+  where
+    go : (m : Option ℕ) → OthersWait p t [] (main_tasks m)
+    go None = tt
+    go (Some m) = tt

@@ -1,0 +1,16 @@
+pub mod Ways
+pub mod Regions
+pub mod At
+pub mod Paths
+pub mod Adding
+pub mod Paying
+pub mod Worked
+pub mod Related
+pub mod Moving
+pub mod Outs
+pub mod Places
+pub mod Methods
+pub mod Making
+pub mod Capped
+pub mod Capping
+pub mod Unique

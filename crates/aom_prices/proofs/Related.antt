@@ -1,0 +1,56 @@
+-- What two tables say of instructions and of flows is related as what they say of methods and of places.
+use Rattle.std.proofs.Common.{◌≡◌, ◌+◌, ℕ, Bool, true, false, cond, List, [], ◌∷◌, Option, Some, None, inl, inr, refl}
+use Rattle.std.specs.Prelude.{max}
+use Rattle.aom_image.specs.Image.{Image}
+use Rattle.aom_image.specs.declared.instr.Instr.{Instr}
+use Rattle.aom_image.specs.declared.instr.Instr.TheVariants.{Call, Delete, Push, PushOperation, Trap}
+use Rattle.aom_image.specs.declared.method.Thing.{Thing}
+use Rattle.aom_classes.specs.Roles.{destructor_of}
+use Rattle.aom_shape.specs.Kinds.{register}
+use Rattle.aom_shape.specs.Needs.{Flow}
+use Rattle.aom_shape.specs.Shape.{Shape}
+use Rattle.aom_shape.specs.declared.kind.Kind.{Kind}
+use Rattle.aom_shape.specs.declared.kind.Kind.TheVariants.{Maybe, Null, Own, Unset, Word}
+use Rattle.aom_prices.specs.Prices.{Prices, kind_price, own, price}
+use Rattle.aom_prices.specs.Costs.{AmongFlows, Region, destructor_price}
+use Rattle.aom_prices.specs.Layers.{kind_destructor, paid_method}
+use Rattle.aom_prices.specs.Sweeping.{is_past, most_within}
+
+module _ (R : ℕ → ℕ → Type 0) (none : R 0 0) (p : Image) (c d : Prices) where
+  pub destructor_related : (o : Option ℕ) → ((k : ℕ) → o ≡ Some k → R (price c k) (price d k)) → R (destructor_price c o) (destructor_price d o)
+  destructor_related None h = none
+  destructor_related (Some k) h = h k refl
+
+  -- where sums with 1 are related, and destructions as the prices of their destructors
+  module _ (more : (x y : ℕ) → R x y → R (1 + x) (1 + y))
+      (things : (x : Thing) → R (destructor_price c (destructor_of p x)) (destructor_price d (destructor_of p x)) → R (c.destruction x) (d.destruction x)) where
+    thing_related : (x : Thing) → ((k : ℕ) → destructor_of p x ≡ Some k → R (price c k) (price d k)) → R (c.destruction x) (d.destruction x)
+    thing_related x h = things x (destructor_related (destructor_of p x) h)
+
+    kind_related : (k : Kind) → ((j : ℕ) → kind_destructor p k ≡ Some j → R (price c j) (price d j)) → R (kind_price c k) (kind_price d k)
+    kind_related Unset h = none
+    kind_related Word h = none
+    kind_related Null h = none
+    kind_related (Own x g) h = thing_related x h
+    kind_related (Maybe x g) h = thing_related x h
+
+    -- what an instruction costs itself
+    pub own_related : (sh : Shape) (i : Instr) → ((k : ℕ) → paid_method p sh i ≡ Some k → R (price c k) (price d k)) → R (own c sh i) (own d sh i)
+    own_related sh (Call target k first x) h = more (price c k) (price d k) (h k refl)
+    own_related sh (Trap target k first x) h = more (price c k) (price d k) (h k refl)
+    own_related sh (Push r) h = more (kind_price c (register sh r)) (kind_price d (register sh r)) (kind_related (register sh r) h)
+    own_related sh (Delete r) h = more (kind_price c (register sh r)) (kind_price d (register sh r)) (kind_related (register sh r) h)
+    own_related sh (PushOperation r k) h = more (price c k) (price d k) (h k refl)
+    own_related sh i h = more 0 0 none
+
+  -- the most over flows, where maxima are related
+  module _ (maxima : (x y z w : ℕ) → R x y → R z w → R (max x z) (max y w)) (m : ℕ) (r : Region) where
+    pub most_related : (fs : List Flow) → ((to : ℕ) → AmongFlows to fs → R (c.from m to) (d.from m to)) → R (most_within c m r fs) (most_within d m r fs)
+    most_related [] h = none
+    most_related (f ∷ fs) h =
+        maxima (cond (is_past r f.0) 0 (c.from m f.0)) (cond (is_past r f.0) 0 (d.from m f.0)) (most_within c m r fs) (most_within d m r fs)
+        (this (is_past r f.0)) (most_related fs (λ to among. h to (inr among)))
+      where
+        this : (past : Bool) → R (cond past 0 (c.from m f.0)) (cond past 0 (d.from m f.0))
+        this true = none
+        this false = h f.0 (inl refl)

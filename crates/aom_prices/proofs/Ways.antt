@@ -1,0 +1,102 @@
+-- Where the flows of an instruction lead: to the next place, where it jumps, or where a next goes back, and each place is reached.
+use Rattle.std.proofs.Common.{◌≡◌, ◌<◌, ℕ, suc, List, [], ◌∷◌, Some, ⊎_elim, refl, subst}
+use Rattle.aom_image.specs.Image.{Image}
+use Rattle.aom_image.specs.Views.{instr_at}
+use Rattle.aom_image.specs.declared.instr.Instr.{Instr}
+use Rattle.aom_image.specs.declared.instr.Instr.TheVariants.{Const, Copy, Move, Add, Sub, Mul, And, Or, Xor, Jump, JumpEqual, JumpLess, JumpNull, JumpEmpty, Loop, Next, Print, Load, Store, Take, Put, New, NewOrLeave, Delete, Push, PushOperation, Pop, PopOperation, PopDelete, Call, Trap, Return, Leave, LeaveIf, Stop}
+use Rattle.aom_classes.specs.Jumps.{back_of, jump_of}
+use Rattle.aom_shape.specs.Kinds.{field, register}
+use Rattle.aom_shape.specs.Needs.{Flow}
+use Rattle.aom_shape.specs.Objects.{flow_jump_empty, flow_jump_null}
+use Rattle.aom_shape.specs.Rules.{flows}
+use Rattle.aom_shape.specs.Shape.{Shape}
+use Rattle.aom_shape.specs.Typing.{AllLead, Typing, shape_at}
+use Rattle.aom_shape.specs.declared.kind.Filling.{Filling}
+use Rattle.aom_shape.specs.declared.kind.Filling.TheVariants as fillings
+use Rattle.aom_shape.specs.declared.kind.Kind.{Kind}
+use Rattle.aom_shape.specs.declared.kind.Kind.TheVariants as kinds
+use Rattle.aom_prices.specs.Costs.{AmongFlows}
+
+-- the jumps of a method go forward
+abbrev pub JumpsForward : Image → ℕ → Type 0
+JumpsForward p m = (place to : ℕ) (i : Instr) → instr_at p m place ≡ Some i → jump_of i ≡ Some to → place < to
+
+-- an instruction at a place goes on there
+pub data Way (place : ℕ) (i : Instr) : ℕ → Type 0 where
+  on : Way place i (suc place)
+  jump : {to : ℕ} → jump_of i ≡ Some to → Way place i to
+  back : {to : ℕ} → back_of i ≡ Some to → Way place i to
+
+AllWays : ℕ → Instr → List Flow → Type 0
+AllWays place i [] = Unit {0}
+AllWays place i (f ∷ fs) = Way place i f.0 × AllWays place i fs
+
+null_ways : (p : Image) (m pc : ℕ) (sh : Shape) (k : Kind) (a to : ℕ) (i : Instr) → jump_of i ≡ Some to → AllWays pc i (flow_jump_null p m pc sh k a to)
+unfolding AllWays
+null_ways p m pc sh kinds.Unset a to i e = tt
+null_ways p m pc sh kinds.Word a to i e = tt
+null_ways p m pc sh kinds.Null a to i e = (jump e, tt)
+null_ways p m pc sh (kinds.Own t age) a to i e = (on, tt)
+null_ways p m pc sh (kinds.Maybe t age) a to i e = (on, (jump e, tt))
+
+empty_ways : (p : Image) (m pc : ℕ) (sh : Shape) (x : Filling) (f to : ℕ) (i : Instr) → jump_of i ≡ Some to → AllWays pc i (flow_jump_empty p m pc sh x f to)
+unfolding AllWays
+empty_ways p m pc sh fillings.Empty f to i e = (jump e, tt)
+empty_ways p m pc sh fillings.Full f to i e = (on, tt)
+empty_ways p m pc sh fillings.Perhaps f to i e = (on, (jump e, tt))
+
+all_ways : (p : Image) (m pc : ℕ) (sh : Shape) (i : Instr) → AllWays pc i (flows p m pc sh i)
+unfolding AllWays jump_of back_of
+all_ways p m pc sh (Const a w) = (on, tt)
+all_ways p m pc sh (Copy a b) = (on, tt)
+all_ways p m pc sh (Add a b c) = (on, tt)
+all_ways p m pc sh (Sub a b c) = (on, tt)
+all_ways p m pc sh (Mul a b c) = (on, tt)
+all_ways p m pc sh (And a b c) = (on, tt)
+all_ways p m pc sh (Or a b c) = (on, tt)
+all_ways p m pc sh (Xor a b c) = (on, tt)
+all_ways p m pc sh (Jump to) = (jump refl, tt)
+all_ways p m pc sh (JumpEqual a b to) = (on, (jump refl, tt))
+all_ways p m pc sh (JumpLess a b to) = (on, (jump refl, tt))
+all_ways p m pc sh (JumpNull a to) = null_ways p m pc sh (register sh a) a to (JumpNull a to) refl
+all_ways p m pc sh (JumpEmpty f to) = empty_ways p m pc sh (field sh f) f to (JumpEmpty f to) refl
+all_ways p m pc sh (Loop depth rounds) = (on, tt)
+all_ways p m pc sh (Next depth to) = (back refl, (on, tt))
+all_ways p m pc sh (Print a) = (on, tt)
+all_ways p m pc sh (Load a w) = (on, tt)
+all_ways p m pc sh (Store w b) = (on, tt)
+all_ways p m pc sh (Move a b) = (on, tt)
+all_ways p m pc sh (Take a f) = (on, tt)
+all_ways p m pc sh (Put f b) = (on, tt)
+all_ways p m pc sh (New a c) = (on, tt)
+all_ways p m pc sh (Delete a) = (on, tt)
+all_ways p m pc sh (Call target m' first c) = (on, tt)
+all_ways p m pc sh (Trap target m' first c) = (on, tt)
+all_ways p m pc sh (NewOrLeave a c) = (on, tt)
+all_ways p m pc sh (Push a) = (on, tt)
+all_ways p m pc sh (PushOperation a m') = (on, tt)
+all_ways p m pc sh (Pop a) = (on, tt)
+all_ways p m pc sh PopOperation = (on, tt)
+all_ways p m pc sh PopDelete = (on, tt)
+all_ways p m pc sh (Leave a) = tt
+all_ways p m pc sh (LeaveIf a) = (on, tt)
+all_ways p m pc sh (Return a) = tt
+all_ways p m pc sh Stop = (on, tt)
+all_ways p m pc sh _ = tt
+
+way_among : (place to : ℕ) (i : Instr) (fs : List Flow) → AllWays place i fs → AmongFlows to fs → Way place i to
+unfolding AllWays
+way_among place to i [] ways among = absurd among
+way_among place to i (f ∷ fs) ways among = ⊎_elim (λ (e : f.0 ≡ to). subst (λ x. Way place i x) e ways.0) (λ rest. way_among place to i fs ways.1 rest) among
+
+-- a flow is one of the ways
+pub way_of : (p : Image) (m place to : ℕ) (sh : Shape) (i : Instr) → AmongFlows to (flows p m place sh i) → Way place i to
+way_of p m place to sh i among = way_among place to i (flows p m place sh i) (all_ways p m place sh i) among
+
+-- the typing reaches the place
+abbrev pub IsReached : Typing → ℕ → ℕ → Type 0
+IsReached t m place = (sh : Shape) × (shape_at t m place ≡ Some sh)
+
+pub led_to : (t : Typing) (m to : ℕ) (fs : List Flow) → AllLead t m fs → AmongFlows to fs → IsReached t m to
+led_to t m to [] lead among = absurd among
+led_to t m to (f ∷ fs) lead among = ⊎_elim (λ (e : f.0 ≡ to). subst (λ x. IsReached t m x) e (lead.0.0, lead.0.1)) (λ rest. led_to t m to fs lead.1 rest) among

@@ -1,0 +1,106 @@
+-- What the tasks come to after a leave, a return, an arrival and the going of a cell; and what of the cells is only passed on.
+use Rattle.std.proofs.Common.{◌≡◌, ◌≤◌, ◌+◌, ℕ, ℤ, suc, List, [], ◌∷◌, length, refl, arith}
+use Rattle.aom_image.specs.Image.{Image}
+use Rattle.aom_image.specs.Views.{instr_at}
+use Rattle.aom_image.specs.declared.method.Argument.{Argument}
+use Rattle.aom_image.specs.declared.method.Argument.TheVariants.{Word as Takes_word, Own as Takes_own}
+use Rattle.aom_image.specs.declared.method.Gives.{Gives}
+use Rattle.aom_image.specs.declared.method.Gives.TheVariants.{Nothing, Word as A_word, Own as An_own, Maybe as A_maybe, Left}
+use Rattle.aom_shape.specs.Shape.{Shape}
+use Rattle.aom_shape.specs.Typing.{Typing}
+use Rattle.aom_sound.specs.Calls.{below_top, passed_cells, received, result_cells, result_register, returned}
+use Rattle.aom_sound.specs.Claims.{Dispatching, Dying, Layer, Mark, Method, Unwinding, tasks_of}
+use Rattle.aom_sound.specs.Cleanup.{code_told, to_trap}
+use Rattle.aom_sound.specs.Places.{Cell, Register, moved}
+use Rattle.aom_sound.specs.State.{Destroy, Dispatched, Frame, Item, Main_left, Of_main, Of_root, Run, State, Task, Trapped, Unwind, next, resumed}
+use Rattle.aom_sound.specs.WellTyped.{Caught, Now, Returns, Stack}
+use Rattle.aom_ranks.specs.Worths.{Worths, tasks_worth, waiting_worth}
+
+-- ---- cells that are only passed on
+
+-- by a number of the cells that is no more where one register's object is another's
+module _ (f : List Cell → ℕ) (passes : (d i e j : ℕ) (cs : List Cell) → f (moved (Register d i) (Register e j) cs) ≤ f cs) where
+  -- with the arguments of a call
+  pub passed_less : (p : Image) (fr : Frame) (ts : List Task) (s : State) (depth : ℕ) (xs : List Argument) (first to : ℕ) (cs : List Cell) → f (passed_cells p fr ts s depth xs first to cs) ≤ f cs
+  passed_less p fr ts s depth [] first to cs = omega arith
+  passed_less p fr ts s depth (Takes_word ∷ xs) first to cs = passed_less p fr ts s depth xs (suc first) (suc to) cs
+  passed_less p fr ts s depth (Takes_own t ∷ xs) first to cs =
+      let here = passes (length ts) first depth to cs in
+      let more = passed_less p fr ts s depth xs (suc first) (suc to) (moved (Register (length ts) first) (Register depth to) cs) in
+      omega (arith, here, more)
+
+  -- with a result
+  result_less : (p : Image) (fr : Frame) (ts : List Task) (s : State) (g : Gives) (a x : ℕ) (below : List Task) → f (result_cells p fr ts s g a x below) ≤ f s.cells
+  result_less p fr ts s (An_own t) a x below = passes (length ts) a (length below) x s.cells
+  result_less p fr ts s (A_maybe t) a x below = passes (length ts) a (length below) x s.cells
+  result_less p fr ts s _ a x below = omega arith
+
+-- ---- tasks
+
+module _ (w : Worths) where
+  -- the methods over the trap end
+  pub to_trap_less : (ts : List Task) → waiting_worth w (to_trap ts) ≤ waiting_worth w ts
+  to_trap_less [] = omega arith
+  to_trap_less (Run fr ∷ ts) = omega (arith, to_trap_less ts)
+  to_trap_less (Trapped ∷ ts) = omega arith
+  to_trap_less (Destroy ∷ ts) = omega arith
+  to_trap_less (Unwind code ∷ ts) = omega arith
+  to_trap_less (Dispatched d ∷ ts) = omega arith
+
+  -- what waited goes on
+  pub resumed_alike : (ts : List Task) → tasks_worth w (resumed ts) ≡ waiting_worth w ts
+  resumed_alike [] = refl
+  resumed_alike (Run fr ∷ ts) = refl
+  resumed_alike (Trapped ∷ ts) = refl
+  resumed_alike (Destroy ∷ ts) = refl
+  resumed_alike (Unwind code ∷ ts) = refl
+  resumed_alike (Dispatched d ∷ ts) = refl
+
+  -- the code is a word, and changes no place
+  pub told_alike : (g : Gives) (r : ℕ) (code : ℤ) (fr : Frame) (ts : List Task) → tasks_worth w (Run (next (code_told g r code fr)) ∷ ts) ≡ waiting_worth w (Run fr ∷ ts)
+  told_alike Nothing r code fr ts = refl
+  told_alike A_word r code fr ts = refl
+  told_alike (An_own t) r code fr ts = refl
+  told_alike (A_maybe t) r code fr ts = refl
+  told_alike (Left x) r code fr ts = refl
+
+  -- and so is a result
+  received_alike :
+      (p : Image) (fr : Frame) (ts : List Task) (s : State) (g : Gives) (a x : ℕ) (caller : Frame) (below : List Task) →
+      tasks_worth w (Run (next (received p fr ts s g a x caller)) ∷ below) ≡ waiting_worth w (Run caller ∷ below)
+  received_alike p fr ts s Nothing a x caller below = refl
+  received_alike p fr ts s A_word a x caller below = refl
+  received_alike p fr ts s (An_own t) a x caller below = refl
+  received_alike p fr ts s (A_maybe t) a x caller below = refl
+  received_alike p fr ts s (Left y) a x caller below = refl
+
+  -- a return to what stands below
+  module _ (f : List Cell → ℕ) (g : List Item → ℕ)
+      (passes : (d i e j : ℕ) (cs : List Cell) → f (moved (Register d i) (Register e j) cs) ≤ f cs) (below : (items : List Item) → g (below_top items) ≤ g items)
+      (p : Image) (t : Typing) (s : State) (fr : Frame) (sh : Shape) (gives : Gives) (a : ℕ) where
+    abbrev pub after : List Layer → State
+    after ls = returned p fr (tasks_of ls) s gives a (tasks_of ls)
+
+    abbrev pub Less : List Layer → Type 0
+    Less ls = (tasks_worth w (after ls).tasks ≤ waiting_worth w (tasks_of ls)) × (f (after ls).cells + g (after ls).items ≤ f s.cells + g s.items)
+
+    pub returned_less : (ls : List Layer) → Stack p t s.cells Now (Method fr sh ∷ ls) → Less ls
+    returned_less [] h = let e : Returns fr.method fr.home ≡ Now = h.4 in absurd (cc)
+    returned_less (Method caller sh2 ∷ ls) h =
+        let x = result_register (instr_at p caller.method caller.place) in
+        let below = Run caller ∷ tasks_of ls in
+        (omega (arith, received_alike p fr below s gives a x caller (tasks_of ls)), omega (arith, result_less f passes p fr below s gives a x (tasks_of ls)))
+    returned_less (Dying o ∷ ls) h = (omega arith, omega arith)
+    returned_less (Unwinding code es ∷ ls) h = (omega arith, omega arith)
+    returned_less (Dispatching Of_main ∷ ls) h = absurd h.4.0
+    returned_less (Dispatching (Main_left code) ∷ ls) h = absurd h.4.0
+    returned_less (Dispatching Of_root ∷ ls) h = absurd h.4.0
+    returned_less (Mark gv ∷ []) h = let e : Caught gv ≡ Now = h.4.1 in absurd (cc)
+    returned_less (Mark gv ∷ Method caller sh2 ∷ ls) h =
+        let x = result_register (instr_at p caller.method caller.place) in
+        let over = Trapped ∷ Run caller ∷ tasks_of ls in
+        (omega (arith, received_alike p fr over s gives a x caller (tasks_of ls)), omega (arith, result_less f passes p fr over s gives a x (tasks_of ls), below s.items))
+    returned_less (Mark gv ∷ Mark gv' ∷ ls) h = absurd h.4.1.0
+    returned_less (Mark gv ∷ Dying o ∷ ls) h = absurd h.4.1.1
+    returned_less (Mark gv ∷ Unwinding code es ∷ ls) h = absurd h.4.1.0
+    returned_less (Mark gv ∷ Dispatching d ∷ ls) h = (omega arith, omega (arith, below s.items))

@@ -1,0 +1,10 @@
+-- How a run that was written ended.
+use Rattle.aom_sound.specs.declared.line.Ending.{Ending}
+use Rattle.aom_sound.specs.declared.line.Ending.TheVariants as endings
+use Rattle.aom_run.specs.declared.outcome.Outcome.{Outcome}
+use Rattle.aom_run.specs.declared.outcome.Outcome.TheVariants.{Stopped, Waiting, MainLeft}
+
+abbrev pub outcome_of : Ending → Outcome
+outcome_of endings.Stopped = Stopped
+outcome_of endings.Waiting = Waiting
+outcome_of (endings.MainLeft code) = MainLeft code

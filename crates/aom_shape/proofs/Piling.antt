@@ -1,0 +1,96 @@
+-- Entries that are kept as nodes: what stands stays as nodes are added, and one node more is one entry more.
+use Rattle.std.proofs.Common.{◌≡◌, ℕ, zero, suc, ◌<◌, ◌-◌, ◌&&◌, List, [], ◌∷◌, ◌++◌, length, length-append, slice_get, Option, Some, None, refl, sym, ap, ◌∙◌, arith}
+use Rattle.aom_shape.specs.Calls.{readied_at, readied_entry}
+use Rattle.aom_shape.specs.Cleanup.{without_top}
+use Rattle.aom_shape.specs.Piles.{AllThere, Extends, Stands, entries_of, listed, node_at, nowhere}
+use Rattle.aom_shape.specs.Tables.{at}
+use Rattle.aom_shape.specs.Tests.{same_entries, same_entry}
+use Rattle.aom_shape.specs.declared.kind.Entry.{Entry}
+use Rattle.aom_shape.specs.declared.piles.Node.{Node}
+use Rattle.aom_shape.specs.declared.piles.Pile.{Pile}
+
+before_last : (nodes : List Node) (x : Node) (i : ℕ) → i < length nodes → node_at (nodes ++ x ∷ []) i ≡ node_at nodes i
+before_last [] x i h = absurd (omega arith)
+before_last (n ∷ ns) x zero h = refl
+before_last (n ∷ ns) x (suc i) h = before_last ns x i (omega arith)
+
+at_last : (nodes : List Node) (x : Node) → node_at (nodes ++ x ∷ []) (length nodes) ≡ x
+at_last [] x = refl
+at_last (n ∷ ns) x = at_last ns x
+
+still_there : (n : ℕ) (nodes : List Node) (x : Node) (top : ℕ) → AllThere n nodes top → AllThere n (nodes ++ x ∷ []) top
+still_there zero nodes x top h = tt
+still_there (suc n) nodes x top h = (
+  omega (arith, h.0, length-append nodes (x ∷ [])),
+  rw (before_last nodes x top h.0) (still_there n nodes x (node_at nodes top).below h.1),
+)
+
+still_listed : (n : ℕ) (nodes : List Node) (x : Node) (top : ℕ) → AllThere n nodes top → listed n (nodes ++ x ∷ []) top ≡ listed n nodes top
+still_listed zero nodes x top h = refl
+still_listed (suc n) nodes x top h = rw (before_last nodes x top h.0, still_listed n nodes x (node_at nodes top).below h.1)
+
+pub extends_push : (nodes : List Node) (x : Node) → Extends nodes (nodes ++ x ∷ [])
+extends_push nodes x = record {
+  stands = λ pile h. still_there pile.height nodes x pile.top h;
+  same = λ pile h. still_listed pile.height nodes x pile.top h;
+}
+
+pub extends_self : (nodes : List Node) → Extends nodes nodes
+extends_self nodes = record { stands = λ pile h. h; same = λ pile h. refl }
+
+pub extends_along : (a b c : List Node) → Extends a b → Extends b c → Extends a c
+extends_along a b c h k = record {
+  stands = λ pile s. k.stands pile (h.stands pile s);
+  same = λ pile s. k.same pile (h.stands pile s) ∙ h.same pile s;
+}
+
+-- the pile with one more node on top
+pub pushed_stands : (nodes : List Node) (pile : Pile) (e : Entry) → Stands nodes pile → AllThere (suc pile.height) (nodes ++ record { entry = e; below = pile.top } ∷ []) (length nodes)
+pushed_stands nodes pile e h =
+    let x : Node = record { entry = e; below = pile.top } in (
+      omega (arith, length-append nodes (x ∷ [])),
+      rw (at_last nodes x) (still_there pile.height nodes x pile.top h),
+    )
+
+pub pushed_entries : (nodes : List Node) (pile : Pile) (e : Entry) → Stands nodes pile → listed (suc pile.height) (nodes ++ record { entry = e; below = pile.top } ∷ []) (length nodes) ≡ e ∷ entries_of nodes pile
+pushed_entries nodes pile e h =
+    let x : Node = record { entry = e; below = pile.top } in
+    rw (at_last nodes x, still_listed pile.height nodes x pile.top h)
+
+pub length_listed : (n : ℕ) (nodes : List Node) (top : ℕ) → length (listed n nodes top) ≡ n
+length_listed zero nodes top = refl
+length_listed (suc n) nodes top = ap suc (length_listed n nodes (node_at nodes top).below)
+
+-- what is below the last entry
+pub entry_below : (nodes : List Node) (top h n : ℕ) → 0 < h → 0 < n → slice_get (listed h nodes top) n ≡ slice_get (listed (h - 1) nodes (node_at nodes top).below) (n - 1)
+entry_below nodes top zero n some more = absurd (omega arith)
+entry_below nodes top (suc h) zero some more = absurd (omega arith)
+entry_below nodes top (suc h) (suc n) some more =
+    let e : suc h - 1 ≡ h = omega arith in
+    let f : suc n - 1 ≡ n = omega arith in
+    rw (e, f) refl
+
+pub entry_first : (nodes : List Node) (top h n : ℕ) → 0 < h → n ≡ 0 → slice_get (listed h nodes top) n ≡ Some (node_at nodes top).entry
+entry_first nodes top zero n some none = absurd (omega arith)
+entry_first nodes top (suc h) n some none = rw none refl
+
+pub same_below : (a b : List Node) (x y h : ℕ) → 0 < h → same_entries (listed h a x) (listed h b y) ≡ (same_entry (node_at a x).entry (node_at b y).entry && same_entries (listed (h - 1) a (node_at a x).below) (listed (h - 1) b (node_at b y).below))
+same_below a b x y zero some = absurd (omega arith)
+same_below a b x y (suc h) some = let e : suc h - 1 ≡ h = omega arith in rw e refl
+
+pub none_below : (nodes : List Node) (top h : ℕ) → 0 < h → listed (h - 1) nodes (node_at nodes top).below ≡ without_top (listed h nodes top)
+none_below nodes top zero some = absurd (omega arith)
+none_below nodes top (suc h) some = let e : suc h - 1 ≡ h = omega arith in rw e refl
+
+pub below_there : (nodes : List Node) (top h : ℕ) → 0 < h → AllThere h nodes top → AllThere (h - 1) nodes (node_at nodes top).below
+below_there nodes top zero some there = absurd (omega arith)
+below_there nodes top (suc h) some there = let e : suc h - 1 ≡ h = omega arith in rw e there.1
+
+pub readied_here : (nodes : List Node) (top h n : ℕ) → 0 < h → n ≡ 0 → readied_at (listed h nodes top) n ≡ readied_entry (node_at nodes top).entry ∷ without_top (listed h nodes top)
+readied_here nodes top zero n some none = absurd (omega arith)
+readied_here nodes top (suc h) n some none = rw none refl
+
+pub readied_below : (nodes : List Node) (top h n : ℕ) → 0 < h → 0 < n → readied_at (listed h nodes top) n ≡ (node_at nodes top).entry ∷ readied_at (without_top (listed h nodes top)) (n - 1)
+readied_below nodes top zero n some more = absurd (omega arith)
+readied_below nodes top (suc h) zero some more = absurd (omega arith)
+readied_below nodes top (suc h) (suc n) some more = let f : suc n - 1 ≡ n = omega arith in rw f refl

@@ -1,0 +1,18 @@
+use Rattle.std.proofs.Common.{arith}
+use Rattle.aom_shape.proofs.Callees.{few_arguments}
+use Rattle.aom_shape.proofs.Starting.{begun}
+use Rattle.aom_shape.proofs.known.Known.entry.Goals as goal
+
+pub argument_kinds-requires : goal.argument_kinds-requires
+argument_kinds-requires c =
+    let formed = rw c.image.ensures at c.methods-formed.ensures.well_formed in
+    let few = few_arguments c.args.linked.now c.args.method c.method-declared.result.now formed c.method-declared.ensures in
+    rw c.as_slice.ensures (omega (arith, few))
+
+pub returns-clause-no_more : goal.returns-clause-no_more
+returns-clause-no_more c =
+    (begun c.args.linked.now c.args.method c.method-declared.result.now c.argument_kinds.result c.entry_fields.result c.method-declared.ensures (rw c.as_slice.ensures at c.argument_kinds.ensures) c.entry_fields.ensures).0
+
+pub returns-clause-no_less : goal.returns-clause-no_less
+returns-clause-no_less c =
+    (begun c.args.linked.now c.args.method c.method-declared.result.now c.argument_kinds.result c.entry_fields.result c.method-declared.ensures (rw c.as_slice.ensures at c.argument_kinds.ensures) c.entry_fields.ensures).1

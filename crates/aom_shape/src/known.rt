@@ -1,0 +1,170 @@
+//! What is known of registers and fields.
+ghost use Rattle.std.specs.Prelude.{◌≡◌, ◌≤◌, ◌<◌, ℕ, IsSome, Some, [], length, map, replicate};
+ghost use Rattle.aom_image.specs.Views.{method_at};
+ghost use Rattle.aom_shape.specs.Calls.{all_empty};
+ghost use Rattle.aom_shape.specs.Changes.{known_with};
+ghost use Rattle.aom_shape.specs.Kinds.{none_owns};
+ghost use Rattle.aom_shape.specs.Order.{SaysNoMore};
+ghost use Rattle.aom_shape.specs.Tables.{at, put_at};
+ghost use Rattle.aom_shape.specs.Typing.{argument_kind, entry_fields, entry_shape};
+ghost use Rattle.aom_shape.specs.declared.kind.Filling.TheVariants.{Perhaps};
+ghost use Rattle.aom_shape.specs.declared.kind.Kind.TheVariants.{Unset};
+
+use crate::{Age, Filling, Kind};
+use aom_classes::Linked;
+use aom_image::{Argument, FieldIndex, MethodNumber, Role, Thing};
+use std::marker::Model;
+
+/// What is known of the registers, and of the fields of a method's object.
+#[derive(Clone, Copy)]
+pub struct Known {
+    pub(crate) registers: [Kind; 16],
+    pub(crate) fields: [Filling; 8],
+}
+
+impl Model for Known {
+    ghost use Rattle.std.specs.Prelude.{◌≡◌, length};
+    ghost use Rattle.aom_shape.specs.Shape.{Known as KnownRecord};
+
+    ghost Value = { KnownRecord };
+
+    ghost view = { λ k. record { registers = k.registers; fields = k.fields } };
+
+    ghost invariant = { λ k. (length k.registers ≡ 16) × (length k.fields ≡ 8) };
+
+    ghost inverse = { λ v. record { registers = v.registers; fields = v.fields } };
+}
+
+impl Known {
+    /// Nothing is known of any register or field.
+    pub fn unset() -> Known
+        ensures { result ≡ record { registers = replicate 16 Unset; fields = replicate 8 Perhaps } }
+    {
+        Known {
+            registers: [Kind::Unset; 16],
+            fields: [Filling::Perhaps; 8],
+        }
+    }
+
+    /// What is known as a method begins. There is no cleanup entry then.
+    pub fn entry(linked: &Linked, method: MethodNumber) -> Known
+        requires { IsSome (method_at linked.now method) }
+        ensures no_more { SaysNoMore (known_with result []) (entry_shape linked.now method) }
+        ensures no_less { SaysNoMore (entry_shape linked.now method) (known_with result []) }
+    {
+        let _formed = linked.image().methods();
+        let declared = linked.method(method);
+        Known {
+            registers: argument_kinds(declared.arguments.as_slice()),
+            fields: entry_fields(declared.role),
+        }
+    }
+
+    /// The kind of the register of that number.
+    pub(crate) fn kind_at(&self, index: usize) -> Kind
+        requires { index < 16 }
+        ensures { result ≡ at Unset self.now.registers index }
+    {
+        self.registers[index]
+    }
+
+    /// The same with another kind in the register of that number.
+    pub(crate) fn with_kind(mut self, index: usize, kind: Kind) -> Known
+        requires { index < 16 }
+        ensures { result ≡ record self { registers = put_at Unset self.registers index kind } }
+    {
+        self.registers[index] = kind;
+        self
+    }
+
+    pub(crate) fn field(&self, number: FieldIndex) -> Filling
+        ensures { result ≡ at Perhaps self.now.fields number }
+    {
+        self.fields[number.number() as usize]
+    }
+
+    /// The same with another filling of a field.
+    pub(crate) fn with_field(mut self, number: FieldIndex, filling: Filling) -> Known
+        ensures { result ≡ record self { fields = put_at Perhaps self.fields number filling } }
+    {
+        let index = number.number() as usize;
+        self.fields[index] = filling;
+        self
+    }
+
+    /// The same with nothing known of the fields.
+    pub(crate) fn with_fields_unknown(mut self) -> Known
+        ensures { result ≡ record self { fields = replicate 8 Perhaps } }
+    {
+        self.fields = [Filling::Perhaps; 8];
+        self
+    }
+
+    /// No register owns, and none perhaps owns.
+    pub(crate) fn none_owns(&self) -> bool
+        ensures { result ≡ none_owns self.now.registers }
+    {
+        none_owns(&self.registers)
+    }
+
+    /// The fields that a class declares are null.
+    pub(crate) fn are_empty(&self, declared: &[Thing]) -> bool
+        ensures { result ≡ all_empty declared.now self.now.fields }
+    {
+        all_empty(declared, &self.fields)
+    }
+}
+
+fn none_owns(kinds: &[Kind]) -> bool
+    ensures { result ≡ none_owns kinds.now }
+{
+    for kind in kinds {
+        if !kind.is_unowning() {
+            return false;
+        }
+    }
+    true
+}
+
+fn all_empty(declared: &[Thing], fillings: &[Filling]) -> bool
+    ensures { result ≡ all_empty declared.now fillings.now }
+{
+    if fillings.len() < declared.len() {
+        return false;
+    }
+    for (_, filling) in declared.iter().zip(fillings) {
+        if !filling.is_empty() {
+            return false;
+        }
+    }
+    true
+}
+
+fn argument_kind(argument: Argument) -> Kind
+    ensures { result ≡ argument_kind argument }
+{
+    match argument {
+        Argument::Word => Kind::Word,
+        Argument::Own(thing) => Kind::Own(thing, Age::Ready),
+    }
+}
+
+fn argument_kinds(arguments: &[Argument]) -> [Kind; 16]
+    requires { length arguments.now ≤ 16 }
+    ensures { (i : ℕ) → at Unset result i ≡ at Unset (map argument_kind arguments.now) i }
+{
+    let mut kinds = [Kind::Unset; 16];
+    for index in 0..arguments.len() {
+        kinds[index] = argument_kind(arguments[index]);
+    }
+    kinds
+}
+
+fn entry_fields(role: Role) -> [Filling; 8]
+    ensures { result ≡ entry_fields (Some role) }
+{
+    match role {
+        Role::Main | Role::Construct => [Filling::Empty; 8],
+        _ => [Filling::Perhaps; 8],
+    }
+}

@@ -1,0 +1,160 @@
+-- What the price of each instruction's place covers: that of the place at which its method goes on, and what begins or is pushed.
+use Rattle.std.proofs.Common.{◌≡◌, ◌≤◌, ◌+◌, ◌-◌, ◌∙◌, ℕ, ℤ, zero, suc, Bool, true, false, cond, List, ◌∷◌, Option, Some, None, refl, ap, arith}
+use Rattle.std.specs.Ordering.{int_eq}
+use Rattle.std.specs.Prelude.{int_lt, is_some}
+use Rattle.aom_image.specs.Image.{Image}
+use Rattle.aom_image.specs.declared.instr.Instr.{Instr}
+use Rattle.aom_image.specs.declared.instr.Instr.TheVariants.{Add, And, Call, Const, Copy, Delete, Jump, JumpEmpty, JumpEqual, JumpLess, JumpNull, Leave, LeaveIf, Load, Loop, Move, Mul, New, NewOrLeave, Next, Or, Pop, PopDelete, PopOperation, Print, Push, PushOperation, Put, Return, Stop, Store, Sub, Take, Trap, Xor}
+use Rattle.aom_image.specs.declared.method.Thing.{Thing}
+use Rattle.aom_classes.specs.Loops.{loop_in, next_in}
+use Rattle.aom_shape.specs.Kinds.{field, filled, is_object_or_null, register}
+use Rattle.aom_shape.specs.Needs.{AllTrue}
+use Rattle.aom_shape.specs.Objects.{flow_jump_empty, flow_jump_null}
+use Rattle.aom_shape.specs.Rules.{flows, rule_needs}
+use Rattle.aom_shape.specs.Shape.{Shape}
+use Rattle.aom_shape.specs.Things.{field_thing}
+use Rattle.aom_shape.specs.Typing.{Typing}
+use Rattle.aom_shape.specs.declared.kind.Filling.{Filling}
+use Rattle.aom_shape.specs.declared.kind.Filling.TheVariants.{Empty, Full, Perhaps}
+use Rattle.aom_shape.specs.declared.kind.Kind.{Kind}
+use Rattle.aom_shape.specs.declared.kind.Kind.TheVariants.{Unset, Word, Null, Own, Maybe}
+use Rattle.aom_sound.proofs.Jumps.{not_empty, not_full}
+use Rattle.aom_sound.proofs.Straight.{At, field_fits, kind_fits}
+use Rattle.aom_sound.specs.Claims.{Layer, tasks_of}
+use Rattle.aom_sound.specs.Cleanup.{is_negative}
+use Rattle.aom_sound.specs.Effects.{Calls, Counts, Destroys, Destroys_last, Effect, Goes_on, Jumps, Leaves, Operates, Pushed, Pushed_operation, Repeats, Returns, Sets_trap, Update, deals, deletes, effect, jumps_if, jumps_unless, makes_unless, round}
+use Rattle.aom_sound.specs.Places.{Object, held}
+use Rattle.aom_sound.specs.State.{An_object, An_operation, Choice, Frame, Item, State, Task, counter, field_place, home_holder}
+use Rattle.aom_sound.specs.WellTyped.{Fits}
+use Rattle.aom_sound.specs.Words.{here, read}
+use Rattle.aom_prices.specs.Prices.{AllPaid, IsPriced, Prices, Stands, kind_price, own, price}
+
+module _ (c : Prices) (fr : Frame) (sh : Shape) where
+  -- at its place the method has so much for what comes at once, and the price of the place at which it goes on
+  abbrev pub Affords : ℕ → ℕ → Type 0
+  Affords n to = n + c.from fr.method to ≤ c.from fr.method fr.place
+
+  -- what an update pushes
+  abbrev pub pushes : Update → ℕ
+  pushes (Pushed a) = kind_price c (register sh a)
+  pushes (Pushed_operation m w) = price c m
+  pushes _ = 0
+
+  -- what an effect asks of the place's price; loops are paid for by their own rule
+  abbrev pub Covers : Effect → Type 0
+  Covers (Goes_on change) = Affords (1 + pushes change.update) (suc fr.place)
+  Covers (Jumps to) = Affords 1 to
+  Covers (Counts depth n) = Unit {0}
+  Covers (Repeats depth n to) = Unit {0}
+  Covers (Calls target m first) = Affords (1 + price c m) (suc fr.place)
+  Covers (Sets_trap target m first) = Affords (1 + price c m) (suc fr.place)
+  Covers (Returns g a) = 1 ≤ c.from fr.method fr.place
+  Covers (Leaves code u) = 1 + pushes u ≤ c.from fr.method fr.place
+  Covers (Destroys o a words) = Affords (1 + kind_price c (register sh a)) (suc fr.place)
+  Covers (Destroys_last o) = Affords 1 (suc fr.place)
+  Covers (Operates m w) = Affords 1 (suc fr.place)
+
+  branches : (b : Bool) (to : ℕ) → Affords 1 (suc fr.place) → Affords 1 to → Covers (jumps_if fr b to)
+  branches true to on away = away
+  branches false to on away = on
+
+  either : (b : Bool) (code : ℤ) (off : Update) (on : Effect) → Covers (Leaves code off) → Covers on → Covers (cond b (Leaves code off) on)
+  either true code off on x y = x
+  either false code off on x y = y
+
+  rounding : (n depth to : ℕ) → Covers (round n depth to)
+  rounding zero depth to = tt
+  rounding (suc n) depth to = tt
+
+  deleting : (o : Option Object) (a : ℕ) → Affords (1 + kind_price c (register sh a)) (suc fr.place) → Covers (deletes fr o a)
+  deleting None a pays = omega (arith, pays)
+  deleting (Some o) a pays = pays
+
+  dealing : (items : List Item) (o : Option Object) → Affords 1 (suc fr.place) → Covers (deals fr items o)
+  dealing (An_object ∷ items) (Some o) pays = pays
+  dealing (An_operation m w ∷ items) o pays = pays
+  dealing _ o pays = pays
+
+module _ (p : Image) (t : Typing) (c : Prices) (priced : IsPriced p t c) (ch : Choice) (s : State) (fr : Frame) (sh : Shape) (ls : List Layer) (at_hand : At p t s fr sh ls) where
+  abbrev ts : List Task
+  ts = tasks_of ls
+
+  -- ---- jumps on what a register or a field holds: the flow that is taken is one of the typing's
+
+  on_null :
+      (a to : ℕ) (k : Kind) (o : Option Object) → is_object_or_null k ≡ true → AllPaid c fr.method 1 (c.from fr.method fr.place) (flow_jump_null p fr.method fr.place sh k a to) →
+      Fits p (held s.cells) o k → Covers c fr sh (jumps_unless fr o to)
+  on_null a to Unset o need pays fits = cc
+  on_null a to Word o need pays fits = cc
+  on_null a to Null None need pays fits = pays.0
+  on_null a to Null (Some o) need pays fits = absurd fits
+  on_null a to (Own x y) None need pays fits = absurd fits
+  on_null a to (Own x y) (Some o) need pays fits = pays.0
+  on_null a to (Maybe x y) None need pays fits = pays.1.0
+  on_null a to (Maybe x y) (Some o) need pays fits = pays.0
+
+  on_empty :
+      (f to : ℕ) (x : Option Thing) → is_some x ≡ true → (y : Filling) (o : Option Object) → AllPaid c fr.method 1 (c.from fr.method fr.place) (flow_jump_empty p fr.method fr.place sh y f to) →
+      Fits p (held s.cells) o (filled x y) → Covers c fr sh (jumps_unless fr o to)
+  on_empty f to x some Empty None pays fits = pays.0
+  on_empty f to x some Empty (Some o) pays fits = absurd (not_empty p t ch s fr sh ls at_hand x o fits)
+  on_empty f to x some Full None pays fits = absurd (not_full p t ch s fr sh ls at_hand x some fits)
+  on_empty f to x some Full (Some o) pays fits = pays.0
+  on_empty f to x some Perhaps None pays fits = pays.1.0
+  on_empty f to x some Perhaps (Some o) pays fits = pays.0
+
+  -- ---- every instruction
+
+  abbrev Standing : Instr → Type 0
+  Standing i = Stands p t fr.method fr.place sh i
+
+  paid : (i : Instr) → Standing i → loop_in (Some i) ≡ None → next_in (Some i) ≡ None → AllPaid c fr.method (own c sh i) (c.from fr.method fr.place) (flows p fr.method fr.place sh i)
+  paid i it straight no_next = priced.flows fr.method fr.place sh i it straight no_next
+
+  some : (i : Instr) → Standing i → own c sh i ≤ c.from fr.method fr.place
+  some i it = priced.ends fr.method fr.place sh i it
+
+  pub covers : (i : Instr) → Standing i → AllTrue (rule_needs p fr.method fr.place sh i) → Covers c fr sh (effect p ch fr ts s i)
+  unfolding loop_in next_in
+  covers (Const a w) it rule = (paid (Const a w) it refl refl).0
+  covers (Copy a b) it rule = (paid (Copy a b) it refl refl).0
+  covers (Add a b x) it rule = (paid (Add a b x) it refl refl).0
+  covers (Sub a b x) it rule = (paid (Sub a b x) it refl refl).0
+  covers (Mul a b x) it rule = (paid (Mul a b x) it refl refl).0
+  covers (And a b x) it rule = (paid (And a b x) it refl refl).0
+  covers (Or a b x) it rule = (paid (Or a b x) it refl refl).0
+  covers (Xor a b x) it rule = (paid (Xor a b x) it refl refl).0
+  covers (Jump to) it rule = (paid (Jump to) it refl refl).0
+  covers (JumpEqual a b to) it rule = let f = paid (JumpEqual a b to) it refl refl in branches c fr sh (int_eq (read fr ts s a) (read fr ts s b)) to f.0 f.1.0
+  covers (JumpLess a b to) it rule = let f = paid (JumpLess a b to) it refl refl in branches c fr sh (int_lt (read fr ts s a) (read fr ts s b)) to f.0 f.1.0
+  covers (JumpNull a to) it rule = on_null a to (register sh a) (held s.cells (here fr ts s a)) rule.0 (paid (JumpNull a to) it refl refl) (kind_fits p t ch s fr sh ls at_hand a)
+  covers (JumpEmpty f to) it rule =
+      let some : is_some (field_thing p (home_holder fr.home) f) ≡ true = ap (λ h. is_some (field_thing p h f)) at_hand.good.stack.1.holder ∙ rule.0 in
+      on_empty f to (field_thing p (home_holder fr.home) f) some (field sh f) (held s.cells (field_place fr.home f)) (paid (JumpEmpty f to) it refl refl) (field_fits p t ch s fr sh ls at_hand f some)
+  covers (Loop depth rounds) it rule = tt
+  covers (Next depth to) it rule = rounding c fr sh (counter fr depth - 1) depth to
+  covers (Load a w) it rule = (paid (Load a w) it refl refl).0
+  covers (Store w b) it rule = (paid (Store w b) it refl refl).0
+  covers (Print a) it rule = (paid (Print a) it refl refl).0
+  covers (Move a b) it rule = (paid (Move a b) it refl refl).0
+  covers (Take a f) it rule = (paid (Take a f) it refl refl).0
+  covers (Put f b) it rule = (paid (Put f b) it refl refl).0
+  covers (New a x) it rule = made ch.refused (paid (New a x) it refl refl).0
+    where
+      made : (b : Bool) → Affords c fr sh 1 (suc fr.place) → Affords c fr sh (1 + pushes c fr sh (makes_unless b ch.name x a)) (suc fr.place)
+      made true pays = pays
+      made false pays = pays
+  covers (Delete a) it rule = deleting c fr sh (held s.cells (here fr ts s a)) a (paid (Delete a) it refl refl).0
+  covers (Call target m first x) it rule = (paid (Call target m first x) it refl refl).0
+  covers (Trap target m first x) it rule = (paid (Trap target m first x) it refl refl).0
+  covers (NewOrLeave a x) it rule = either c fr sh ch.refused _ _ _ (some (NewOrLeave a x) it) (paid (NewOrLeave a x) it refl refl).0
+  covers (Push a) it rule = either c fr sh ch.refused _ _ _ (some (Push a) it) (paid (Push a) it refl refl).0
+  covers (PushOperation a m) it rule = either c fr sh ch.refused _ _ _ (some (PushOperation a m) it) (paid (PushOperation a m) it refl refl).0
+  covers (Pop a) it rule = (paid (Pop a) it refl refl).0
+  covers PopOperation it rule = (paid PopOperation it refl refl).0
+  covers PopDelete it rule = dealing c fr sh s.items _ (paid PopDelete it refl refl).0
+  covers (Leave a) it rule = some (Leave a) it
+  covers (LeaveIf a) it rule = either c fr sh (is_negative p ch fr ts s (read fr ts s a)) _ _ _ (some (LeaveIf a) it) (paid (LeaveIf a) it refl refl).0
+  covers (Return a) it rule = some (Return a) it
+  covers Stop it rule = (paid Stop it refl refl).0
+  covers _ it rule = let never : false ≡ true = rule.0 in cc

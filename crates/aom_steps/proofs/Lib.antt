@@ -1,0 +1,5 @@
+pub mod Pushed
+pub mod Covering
+pub mod Paying
+pub mod Within
+pub mod Examples

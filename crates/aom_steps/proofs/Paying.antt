@@ -1,0 +1,245 @@
+-- Each effect pays for its step: what a method goes on with, what it calls, destroys or pushes, and where a loop leads.
+use Rattle.std.proofs.Common.{◌≡◌, ◌≤◌, ◌+◌, ◌-◌, ◌*◌, ◌∙◌, ℕ, ℤ, zero, suc, Bool, true, false, cond, inl, inr, List, [], ◌∷◌, length, Option, Some, None, slice_get, refl, sym, ap, arith, subst}
+use Rattle.aom_image.specs.Image.{Image}
+use Rattle.aom_image.specs.Views.{arguments_of, method_at}
+use Rattle.aom_image.specs.declared.instr.Instr.{Instr}
+use Rattle.aom_image.specs.declared.instr.Instr.TheVariants.{Call, Delete, Next, PopDelete, Trap}
+use Rattle.aom_image.specs.declared.instr.Target.{Target}
+use Rattle.aom_image.specs.declared.method.Gives.{Gives}
+use Rattle.aom_image.specs.declared.method.Method.{Method as Method_declared}
+use Rattle.aom_classes.specs.Jumps.{JumpsWell, jump_of}
+use Rattle.aom_classes.specs.Linked.{IsLinked}
+use Rattle.aom_classes.specs.Loops.{LoopsNest, loop_in}
+use Rattle.aom_classes.specs.Roles.{destructor_of}
+use Rattle.aom_classes.proofs.Facts.{at_place}
+use Rattle.aom_shape.specs.Kinds.{register}
+use Rattle.aom_shape.specs.Shape.{Shape}
+use Rattle.aom_shape.specs.Tables.{at, put_at}
+use Rattle.aom_shape.specs.Typing.{Typing}
+use Rattle.aom_shape.specs.declared.kind.Kind.{Kind}
+use Rattle.aom_shape.specs.declared.kind.Kind.TheVariants.{Own, Maybe}
+use Rattle.aom_sound.proofs.Straight.{At, kind_fits}
+use Rattle.aom_sound.specs.Calls.{below_top}
+use Rattle.aom_sound.specs.Claims.{Layer, tasks_of}
+use Rattle.aom_sound.specs.Cleanup.{top_place}
+use Rattle.aom_sound.specs.Destruction.{begun, begun_by}
+use Rattle.aom_sound.specs.Effects.{Calls, Carried, Counts, Destroys, Destroys_last, Effect, Goes_on, In_field, In_register, Jumps, Leaves, Made, Operates, Popped, Popped_operation, Pushed, Pushed_operation, Repeats, Returns, Same, Sets_trap, Spot, Update, Written, applied, cells_after, items_after, spot_place, with_words}
+use Rattle.aom_sound.specs.Places.{Entry, Going, Object, Place, held}
+use Rattle.aom_sound.specs.State.{An_object, An_operation, Choice, Frame, Run, State, Task, Trapped, counter}
+use Rattle.aom_sound.specs.Steps.{Fits, Sets}
+use Rattle.aom_sound.specs.WellTyped.{Fits as Holds_of}
+use Rattle.aom_sound.specs.Words.{here}
+use Rattle.aom_ranks.specs.Within.{loops_worth, total, worth_at}
+use Rattle.aom_ranks.proofs.Rounds.{back, closed_loop, enters, jumps, leaves, straight_on}
+use Rattle.aom_ranks.proofs.Sums.{scaled, scaled_le}
+use Rattle.aom_ranks.proofs.Worths.{passed_less, returned_less, to_trap_less}
+use Rattle.aom_prices.specs.Prices.{IsPriced, Prices, Stands, kind_price, price}
+use Rattle.aom_steps.specs.Left.{is_entry, left, left_worths, method_left, objects_left, operations_left, rounds_left, rounds_price, tasks_left, waiting_left}
+use Rattle.aom_steps.proofs.Covering.{Affords, Covers, pushes}
+use Rattle.aom_steps.proofs.Pushed.{enters_stack, field_no_entry, leaves_entry, moved_less, none_moves, operations_below, register_passes, stored_same}
+
+-- ---- what begins, and what ends
+
+-- a method that begins has no rounds before it
+none_in_all : (f : ℕ → ℕ) (n : ℕ) → ((j : ℕ) → f j ≤ 0) → total f n ≤ 0
+none_in_all f zero h = omega arith
+none_in_all f (suc n) h = omega (arith, none_in_all f n h, h n)
+
+pub fresh_rounds : (c : Prices) (m : ℕ) (d : Option Method_declared) → rounds_left c m d [] 0 ≤ 0
+fresh_rounds c m None = omega arith
+fresh_rounds c m (Some d) = none_in_all _ (length d.code) (λ q. none q _)
+  where
+    no_rounds : (b : Bool) (x : ℕ) → cond b ((0 - 1) * x) 0 ≤ 0
+    no_rounds true x = let e : 0 - 1 ≡ 0 = omega arith in rw e (omega arith)
+    no_rounds false x = omega arith
+
+    none : (q : ℕ) (l : Option ℕ) → worth_at d.code (rounds_price c m) [] 0 q l ≤ 0
+    none q None = omega arith
+    none q (Some number) = no_rounds _ (c.round m q)
+
+-- a destruction that begins costs what that of its class does
+pub begun_left :
+    (p : Image) (t : Typing) (c : Prices) → IsPriced p t c → (o : Object) (height : ℕ) (below : List Task) →
+    tasks_left p c (begun p o height below) ≤ c.destruction o.thing + waiting_left p c below
+begun_left p t c priced o height below = go (destructor_of p o.thing) refl
+  where
+    go : (m : Option ℕ) → destructor_of p o.thing ≡ m → tasks_left p c (begun_by m o height below) ≤ c.destruction o.thing + waiting_left p c below
+    go None e = omega (arith, priced.cells o.thing)
+    go (Some m) e = omega (arith, priced.destructors o.thing m e, fresh_rounds c m (method_at p m))
+
+-- a register's kind pays for what it owns
+kind_pays : (p : Image) (t : Typing) (c : Prices) → IsPriced p t c → (h : Place → Option Object) (o : Object) (k : Kind) → Holds_of p h (Some o) k → c.destruction o.thing ≤ kind_price c k
+kind_pays p t c priced h o (Own x a) f = priced.stands_in o.thing x f.0
+kind_pays p t c priced h o (Maybe x a) f = priced.stands_in o.thing x f.0
+kind_pays p t c priced h o _ f = absurd f
+
+-- ---- a method at its place
+
+module _ (p : Image) (t : Typing) (c : Prices) (linked : IsLinked p) (priced : IsPriced p t c) (ch : Choice) (s : State) (fr : Frame) (sh : Shape) (ls : List Layer)
+    (at_hand : At p t s fr sh ls) (d : Method_declared) (declared_there : method_at p fr.method ≡ Some d) where
+  abbrev ts : List Task
+  ts = tasks_of ls
+
+  abbrev pushed : ℕ
+  pushed = objects_left c s.cells + operations_left c s.items
+
+  abbrev before : ℕ
+  before = tasks_left p c (Run fr ∷ ts) + pushed
+
+  -- the method at other counters and another place
+  abbrev rest_at : List ℕ → ℕ → ℕ
+  rest_at cs k = method_left p c fr.method cs k
+
+  abbrev worth : ℕ → ℕ → ℕ
+  worth = rounds_price c fr.method
+
+  grows : (q a b : ℕ) → a ≤ b → worth a q ≤ worth b q
+  grows q a b le = scaled_le (a - 1) (b - 1) (c.round fr.method q) (omega (arith, le))
+
+  -- so much less is before it there, where a loop that begins adds its rounds, and one that goes back takes one of them
+  there :
+      (cs : List ℕ) (k n adds takes : ℕ) → loops_worth d.code worth cs k + takes ≤ loops_worth d.code worth fr.counters fr.place + adds →
+      n + adds + c.from fr.method k ≤ c.from fr.method fr.place + takes → n + rest_at cs k ≤ rest_at fr.counters fr.place
+  there cs k n adds takes loops pays = omega (arith, loops, pays, same cs k, same fr.counters fr.place)
+    where
+      same : (cs : List ℕ) (k : ℕ) → rounds_left c fr.method (method_at p fr.method) cs k ≡ loops_worth d.code worth cs k
+      same cs k = ap (λ o. rounds_left c fr.method o cs k) declared_there
+
+  -- the method goes on there, with so much for what it pushes
+  goes : (cs : List ℕ) (k n x : ℕ) → 1 + n + rest_at cs k ≤ rest_at fr.counters fr.place → x ≤ n + pushed → 1 + (rest_at cs k + waiting_left p c ts + x) ≤ before
+  goes cs k n x less most = omega (arith, less, most)
+
+  straight :
+      (i : Instr) → slice_get d.code fr.place ≡ Some i → loop_in (Some i) ≡ None → (n : ℕ) → Affords c fr sh n (suc fr.place) →
+      n + rest_at fr.counters (suc fr.place) ≤ rest_at fr.counters fr.place
+  straight i stands plain n pays = there fr.counters (suc fr.place) n 0 0 (omega (arith, straight_on d.code worth grows fr.counters fr.place i stands plain)) (omega (arith, pays))
+
+  nests : LoopsNest d.code
+  unfolding method_at
+  nests = at_place (λ _ x. LoopsNest x.code) p.methods fr.method d linked.loops declared_there
+
+  -- ---- updates
+
+  spot_no_entry : (x : Spot) → is_entry (spot_place p fr ts s x) ≡ false
+  spot_no_entry (In_register a) = refl
+  spot_no_entry (In_field f) = field_no_entry fr.home f
+
+  -- what is on the cleanup stack after an update was there before, or its place pays for it
+  after : (u : Update) → objects_left c (cells_after p fr ts s u) + operations_left c (items_after u s.items) ≤ pushes c fr sh u + pushed
+  after Same = omega arith
+  after (Carried from to) = omega (arith, moved_less c (spot_place p fr ts s from) (spot_place p fr ts s to) s.cells (spot_no_entry to))
+  after (Made name x a) = omega arith
+  after (Written w v) = omega (arith, stored_same c s.cells fr.home w v)
+  after (Pushed a) = of_object (held s.cells (here fr ts s a)) refl
+    where
+      of_object : (o : Option Object) → held s.cells (here fr ts s a) ≡ o → objects_left c (cells_after p fr ts s (Pushed a)) + operations_left c s.items ≤ kind_price c (register sh a) + pushed
+      of_object None e = omega (arith, none_moves c (here fr ts s a) (Entry (length s.items)) s.cells e)
+      of_object (Some o) e =
+          let pays = kind_pays p t c priced (held s.cells) o (register sh a) (subst (λ y. Holds_of p (held s.cells) y (register sh a)) e (kind_fits p t ch s fr sh ls at_hand a)) in
+          omega (arith, pays, enters_stack c (here fr ts s a) (Entry (length s.items)) o s.cells at_hand.good.tidy e)
+  after (Pushed_operation m w) = omega arith
+  after (Popped a) = omega (arith, moved_less c (top_place s.items) (here fr ts s a) s.cells refl, operations_below c s.items)
+  after Popped_operation = omega (arith, operations_below c s.items)
+
+  -- ---- effects
+
+  abbrev Pays : Effect → Type 0
+  Pays e = 1 + left p c (applied p fr ts s e) ≤ before
+
+  -- a jump goes into no loop
+  away : (i : Instr) → slice_get d.code fr.place ≡ Some i → (to : ℕ) → jump_of i ≡ Some to → Affords c fr sh 1 to → Pays (Jumps to)
+  unfolding method_at
+  away i stands to jump pays =
+      let well : JumpsWell d.code = at_place (λ _ x. JumpsWell x.code) p.methods fr.method d linked.jumps declared_there in
+      let loops = jumps d.code worth grows fr.counters fr.place to i well stands jump in
+      goes fr.counters to 0 pushed (there fr.counters to 1 0 0 (omega (arith, loops)) (omega (arith, pays))) (omega arith)
+
+  -- a loop pays for all its rounds as it begins, and its last round goes on
+  counts : (i : Instr) → slice_get d.code fr.place ≡ Some i → Stands p t fr.method fr.place sh i → (depth n : ℕ) → Sets i depth n → Pays (Counts depth n)
+  counts i stands it depth n (inl e) =
+      let pays = priced.loops fr.method fr.place depth n sh (subst (λ x. Stands p t fr.method fr.place sh x) e it) in
+      let loops = enters d.code worth grows fr.counters fr.place depth n nests (stands ∙ ap (λ x. Some x) e) in
+      let less = there (put_at 0 fr.counters depth n) (suc fr.place) 1 (worth n fr.place) 0 (omega (arith, loops)) (omega (arith, pays)) in
+      goes (put_at 0 fr.counters depth n) (suc fr.place) 0 pushed less (omega arith)
+  counts i stands it depth n (inr e) = subst (λ k. Pays (Counts depth k)) (sym e.2) last
+    where
+      last : Pays (Counts depth 0)
+      last =
+          let pays = priced.nexts fr.method fr.place depth e.0 sh (subst (λ x. Stands p t fr.method fr.place sh x) e.1 it) in
+          let loops = leaves d.code worth grows fr.counters fr.place depth e.0 (stands ∙ ap (λ x. Some x) e.1) in
+          let less = there (put_at 0 fr.counters depth 0) (suc fr.place) 1 0 0 (omega (arith, loops)) (omega (arith, pays)) in
+          goes (put_at 0 fr.counters depth 0) (suc fr.place) 0 pushed less (omega arith)
+
+  -- another round is one that was paid for
+  again : (depth to n : ℕ) → slice_get d.code fr.place ≡ Some (Next depth to) → Stands p t fr.method fr.place sh (Next depth to) → counter fr depth - 1 ≡ suc n → Pays (Repeats depth (suc n) to)
+  again depth to n stands it e =
+      let r = closed_loop d.code fr.place depth to nests stands in
+      let pays = priced.rounds fr.method fr.place depth r.0 sh (subst (λ k. Stands p t fr.method fr.place sh (Next depth k)) r.2 it) in
+      let loops = back d.code worth grows fr.counters fr.place depth to (suc n) nests stands (omega (arith, e)) r.0 r.1 in
+      let one : worth (suc n) r.0 ≡ n * c.round fr.method r.0 = ap (λ k. k * c.round fr.method r.0) (omega arith) in
+      let more = scaled n (at 0 fr.counters depth - 1) (c.round fr.method r.0) (omega (arith, e)) in
+      let less = there (put_at 0 fr.counters depth (suc n)) (suc r.0) 1 0 (c.round fr.method r.0) (omega (arith, loops, one, more)) (omega (arith, pays)) in
+      subst (λ k. Pays (Repeats depth (suc n) k)) (sym r.2) (goes (put_at 0 fr.counters depth (suc n)) (suc r.0) 0 pushed less (omega arith))
+
+  calls : (target : Target) (m first x : ℕ) → slice_get d.code fr.place ≡ Some (Call target m first x) → Affords c fr sh (1 + price c m) (suc fr.place) → Pays (Calls target m first)
+  unfolding loop_in
+  calls target m first x stands pays =
+      let less = straight (Call target m first x) stands refl (1 + price c m) pays in
+      omega (arith, less, passed_less (objects_left c) (register_passes c) p fr ts s (length (Run fr ∷ ts)) (arguments_of p m) first 0 s.cells, fresh_rounds c m (method_at p m))
+
+  traps : (target : Target) (m first x : ℕ) → slice_get d.code fr.place ≡ Some (Trap target m first x) → Affords c fr sh (1 + price c m) (suc fr.place) → Pays (Sets_trap target m first)
+  unfolding loop_in
+  traps target m first x stands pays =
+      let less = straight (Trap target m first x) stands refl (1 + price c m) pays in
+      omega (arith, less, passed_less (objects_left c) (register_passes c) p fr ts s (length (Trapped ∷ Run fr ∷ ts)) (arguments_of p m) first 0 s.cells, fresh_rounds c m (method_at p m))
+
+  -- the object of a register goes, or that of the last item, which was paid for as it was pushed
+  destroys :
+      (o : Object) (a : ℕ) (words : List (Option ℤ)) → slice_get d.code fr.place ≡ Some (Delete a) → held s.cells (here fr ts s a) ≡ Some o →
+      Affords c fr sh (1 + kind_price c (register sh a)) (suc fr.place) →
+      Pays (Destroys o a words)
+  unfolding loop_in
+  destroys o a words stands owned pays =
+      let less = straight (Delete a) stands refl (1 + kind_price c (register sh a)) pays in
+      let destruction = begun_left p t c priced o (length s.items) (Run (with_words fr words) ∷ ts) in
+      let kind = kind_pays p t c priced (held s.cells) o (register sh a) (subst (λ y. Holds_of p (held s.cells) y (register sh a)) owned (kind_fits p t ch s fr sh ls at_hand a)) in
+      omega (arith, less, destruction, kind, moved_less c (here fr ts s a) (Going (length (Run fr ∷ ts))) s.cells refl)
+
+  destroys_last :
+      (o : Object) → slice_get d.code fr.place ≡ Some PopDelete → s.items ≡ An_object ∷ below_top s.items → held s.cells (top_place s.items) ≡ Some o →
+      Affords c fr sh 1 (suc fr.place) →
+      Pays (Destroys_last o)
+  unfolding loop_in
+  destroys_last o stands top owned pays =
+      let less = straight PopDelete stands refl 1 pays in
+      let destruction = begun_left p t c priced o (length (below_top s.items)) (Run fr ∷ ts) in
+      omega (arith, less, destruction, leaves_entry c (top_place s.items) (Going (length (Run fr ∷ ts))) o s.cells refl refl owned, operations_below c s.items)
+
+  operates : (m : ℕ) (w : ℤ) → slice_get d.code fr.place ≡ Some PopDelete → s.items ≡ An_operation m w ∷ below_top s.items → Affords c fr sh 1 (suc fr.place) → Pays (Operates m w)
+  unfolding loop_in
+  operates m w stands top pays =
+      let less = straight PopDelete stands refl 1 pays in
+      let same : operations_left c s.items ≡ price c m + operations_left c (below_top s.items) = ap (λ l. operations_left c l) top in
+      omega (arith, less, same, fresh_rounds c m (method_at p m))
+
+  -- what the method could still cost is dropped
+  returns : (g : Gives) (a : ℕ) → 1 ≤ c.from fr.method fr.place → Pays (Returns g a)
+  returns g a some =
+      let less = returned_less (left_worths p c) (objects_left c) (operations_left c) (register_passes c) (operations_below c) p t s fr sh g a ls at_hand.good.stack in
+      omega (arith, some, less.0, less.1)
+
+  pub pays : (i : Instr) → slice_get d.code fr.place ≡ Some i → Stands p t fr.method fr.place sh i → (e : Effect) → Fits p ch fr ts s i e → Covers c fr sh e → Pays e
+  pays i stands it (Goes_on change) f covered =
+      let n = pushes c fr sh change.update in
+      goes fr.counters (suc fr.place) n _ (straight i stands f.0 (1 + n) covered) (after change.update)
+  pays i stands it (Jumps to) f covered = away i stands to f covered
+  pays i stands it (Counts depth n) f covered = counts i stands it depth n f
+  pays i stands it (Repeats depth n to) f covered =
+      subst (λ k. Pays (Repeats depth k to)) (sym f.2) (again depth to f.1 (stands ∙ ap (λ x. Some x) f.0) (subst (λ x. Stands p t fr.method fr.place sh x) f.0 it) (f.3 ∙ f.2))
+  pays i stands it (Calls target m first) f covered = calls target m first f.0 (stands ∙ ap (λ x. Some x) f.1) covered
+  pays i stands it (Sets_trap target m first) f covered = traps target m first f.0 (stands ∙ ap (λ x. Some x) f.1) covered
+  pays i stands it (Returns g a) f covered = returns g a covered
+  pays i stands it (Leaves code u) f covered = omega (arith, covered, after u, to_trap_less (left_worths p c) ts)
+  pays i stands it (Destroys o a words) f covered = destroys o a words (stands ∙ ap (λ x. Some x) f.0) f.1 covered
+  pays i stands it (Destroys_last o) f covered = destroys_last o (stands ∙ ap (λ x. Some x) f.0) f.1 f.2 covered
+  pays i stands it (Operates m w) f covered = operates m w (stands ∙ ap (λ x. Some x) f.0) f.1 covered

@@ -1,0 +1,73 @@
+-- What a dispatch may still cost, by a table of prices.
+use Rattle.std.specs.Prelude.{ℕ, ◌+◌, ◌-◌, ◌*◌, ◌≤◌, cond, Bool, true, false, List, [], ◌∷◌, Option, Some, None}
+use Rattle.aom_image.specs.Image.{Image}
+use Rattle.aom_image.specs.Views.{method_at}
+use Rattle.aom_image.specs.declared.method.Method.{Method}
+use Rattle.aom_image.specs.declared.method.Thing.TheVariants.{Object as An_object_of}
+use Rattle.aom_sound.specs.Places.{Place, Register, Entry, Field, Going, Elsewhere, Object, Cell}
+use Rattle.aom_sound.specs.State.{Dispatch, Of_main, Main_left, Of_root, Task, Item, An_object, An_operation, A_mark, State}
+use Rattle.aom_ranks.specs.Within.{loops_worth}
+use Rattle.aom_ranks.specs.Worths.{Worths, tasks_worth, waiting_worth}
+use Rattle.aom_prices.specs.Prices.{Prices, price}
+
+-- the rounds that are left of a loop, but for the one at hand, which its place pays for
+abbrev pub rounds_price : Prices → (m rounds place : ℕ) → ℕ
+rounds_price c m rounds place = (rounds - 1) * c.round m place
+
+abbrev pub rounds_left : Prices → (m : ℕ) → Option Method → (counters : List ℕ) → (place : ℕ) → ℕ
+rounds_left c m None counters place = 0
+rounds_left c m (Some d) counters place = loops_worth d.code (rounds_price c m) counters place
+
+-- a method from where it stands
+abbrev pub method_left : Image → Prices → (m : ℕ) (counters : List ℕ) → (place : ℕ) → ℕ
+method_left p c m counters place = c.from m place + rounds_left c m (method_at p m) counters place
+
+-- main's end may begin the root's destruction
+abbrev pub root_price : Prices → Option ℕ → ℕ
+root_price c None = 0
+root_price c (Some x) = c.destruction (An_object_of x)
+
+abbrev pub end_left : Image → Prices → Dispatch → ℕ
+end_left p c Of_main = root_price c p.header.root
+end_left p c (Main_left code) = 0
+end_left p c Of_root = 0
+
+-- the going of a cell is a step; a trap and a leave are none
+abbrev pub left_worths : Image → Prices → Worths
+left_worths p c = record { method = method_left p c; trap = 0; going = 1; leave = 0; dispatch = end_left p c }
+
+abbrev pub waiting_left : Image → Prices → List Task → ℕ
+waiting_left p c ts = waiting_worth (left_worths p c) ts
+
+abbrev pub tasks_left : Image → Prices → List Task → ℕ
+tasks_left p c ts = tasks_worth (left_worths p c) ts
+
+abbrev pub is_entry : Place → Bool
+is_entry (Register f r) = false
+is_entry (Entry k) = true
+is_entry (Field n f) = false
+is_entry (Going k) = false
+is_entry (Elsewhere o) = false
+
+-- an object on the cleanup stack was paid for as it was pushed
+abbrev pub due : Prices → (owner : Place) → Object → ℕ
+due c owner o = cond (is_entry owner) (c.destruction o.thing) 0
+
+abbrev pub objects_left : Prices → List Cell → ℕ
+objects_left c [] = 0
+objects_left c (x ∷ xs) = due c x.owner x.object + objects_left c xs
+
+-- and so was an operation
+abbrev pub operations_left : Prices → List Item → ℕ
+operations_left c [] = 0
+operations_left c (An_object ∷ items) = operations_left c items
+operations_left c (An_operation m w ∷ items) = price c m + operations_left c items
+operations_left c (A_mark ∷ items) = operations_left c items
+
+-- all that may still come
+abbrev pub left : Image → Prices → State → ℕ
+left p c s = tasks_left p c s.tasks + (objects_left c s.cells + operations_left c s.items)
+
+-- the steps so far, and all that may still come
+pub record WithinBudget (p : Image) (c : Prices) (n : ℕ) (s : State) : Type 0 where
+  pub within : s.rest.steps + left p c s ≤ n

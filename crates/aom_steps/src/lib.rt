@@ -1,0 +1,11 @@
+//! That each dispatch takes at most its declared number of steps: what it may still cost falls with each step.
+//!
+//! Promises: in a linked image with a typing and a table of prices that pays for each move of that typing, the steps
+//! so far and all that may still come (`left` of `specs/Left.antt`) never grow. So where main's price, the root's
+//! destruction among it, is within what the image declares, no run takes more steps than that. It is about any such
+//! table, and says nothing of how one is found.
+#![tactic(auto)]
+
+mod laws;
+
+pub use laws::{boot_within, moves_pay, steps_within};

@@ -1,0 +1,6 @@
+-- Where there is no way nothing changes.
+use Rattle.aom_verify.proofs.Joining.{joins_self}
+use Rattle.aom_verify.proofs.states.States.join_perhaps.Goals as goal
+
+pub returns-in-None-clause-ok : goal.returns-in-None-clause-ok
+returns-in-None-clause-ok c = rw c.in-None.is (joins_self _)

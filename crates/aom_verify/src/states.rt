@@ -1,0 +1,285 @@
+//! The abstract states of one method, by place, and the sweeps that find them.
+ghost use Rattle.std.specs.Prelude.{◌≡◌, ◌<◌, suc, [], ◌∷◌, length, replicate, slice_set, IfOk, IfErr, IsSome, Some, None};
+ghost use Rattle.aom_image.specs.Views.{instr_at};
+ghost use Rattle.aom_shape.specs.Changes.{changed, kept_shape, known_with, leads_both, leads_to, ways_from};
+ghost use Rattle.aom_shape.specs.Laws.{HaveAtMost};
+ghost use Rattle.aom_shape.specs.Meet.{NoMeet, WhyNoMeet};
+ghost use Rattle.aom_shape.specs.Piles.{Stands, entries_of};
+ghost use Rattle.aom_shape.specs.Rules.{rule};
+ghost use Rattle.aom_shape.specs.Tables.{at};
+ghost use Rattle.aom_verify.specs.Entries.{IsFew, AllFew, HasRoom};
+ghost use Rattle.aom_verify.specs.Faults.{JoinStops, Stops, refusal_of};
+ghost use Rattle.aom_verify.specs.States.{Lowers, shapes};
+ghost use Rattle.aom_verify.specs.Sweep.{Spans, AllWithin, Joins, Flows, Fails, WithinMethod, Visits, Sweeps, SweepsOn, Settles};
+
+use crate::Refusal;
+use crate::change::Change;
+use aom_classes::Linked;
+use aom_image::MethodNumber;
+use aom_shape::{
+    Change as EntriesChange, Flow, Kept, Known, Pile, Piles, Shape, Way, Why, meet, rule, weaker,
+};
+use std::alloc::{AllocError, Global};
+use std::marker::Model;
+
+/// Why sweeps end early.
+#[derive(Clone, Copy)]
+pub(crate) enum Fault {
+    OutOfMemory,
+    /// Where a rule or a meet fails.
+    At { place: usize, why: Why },
+}
+
+impl From<AllocError> for Fault {
+    ghost use Rattle.aom_verify.specs.declared.states.Fault.TheVariants.{OutOfMemory};
+
+    ghost from_gives = { λ _ e. e ≡ OutOfMemory };
+
+    fn from(_error: AllocError) -> Fault {
+        Fault::OutOfMemory
+    }
+}
+
+impl Fault {
+    /// The same as a refusal of the method.
+    pub(crate) fn refusal(self, method: MethodNumber) -> Refusal
+        ensures { result ≡ refusal_of method self }
+    {
+        match self {
+            Fault::OutOfMemory => Refusal::OutOfMemory,
+            Fault::At { place, why } => Refusal::Refused { method, place, why },
+        }
+    }
+}
+
+/// A state for each place of a method that is reached.
+#[derive(Drop)]
+pub(crate) struct States {
+    places: Vec<Option<Kept>>,
+    piles: Piles,
+}
+
+impl Model for States {
+    ghost use Rattle.aom_verify.specs.States.{AreKept, States as StatesRecord};
+
+    ghost Value = { StatesRecord };
+
+    ghost view = { λ s. record { places = s.places.items; nodes = s.piles } };
+
+    ghost invariant = { λ s. AreKept s.piles s.places.items };
+}
+
+impl States {
+    /// So many places, of which the first alone is reached.
+    pub(crate) fn new(alloc: Global, count: usize, entry: Known) -> Result<States, AllocError>
+        requires { 0 < count }
+        ensures { IfOk result (λ s. shapes s ≡ slice_set (replicate count None) 0 (Some (known_with entry []))) }
+    {
+        let mut places = vec![in alloc; None; count]?;
+        places[0] = Some(Kept {
+            known: entry,
+            pile: Pile::none(),
+        });
+        Ok(States {
+            places,
+            piles: Piles::new(alloc),
+        })
+    }
+
+    /// How many places there are.
+    pub(crate) fn len(&self) -> usize
+        ensures { result ≡ length (shapes self.now) }
+    {
+        self.places.len()
+    }
+
+    /// The state at a place, if that is a place that is reached.
+    pub(crate) fn shape(&self, place: usize) -> Option<Shape<'_>>
+        ensures { result ≡ at None (shapes self.now) place }
+    {
+        if self.places.len() <= place {
+            return None;
+        }
+        match self.places[place] {
+            None => None,
+            Some(kept) => Some(kept.shape(&self.piles)),
+        }
+    }
+
+    /// The entries after a change. The states stay as they are.
+    fn changed(&mut self, pile: Pile, change: EntriesChange) -> Result<Pile, AllocError>
+        requires stands { Stands self.old.nodes pile }
+        requires room { length (entries_of self.old.nodes pile) < 1024 }
+        ensures same { shapes self.new ≡ shapes self.old }
+        ensures stands { IfOk result (λ p. Stands self.new.nodes p) }
+        ensures value { IfOk result (λ p. entries_of self.new.nodes p ≡ changed change (entries_of self.old.nodes pile)) }
+    {
+        self.piles.changed(pile, change)
+    }
+
+    /// What is known at a place from one flow to it.
+    fn join(&mut self, to: usize, new: Kept) -> Result<Change, Fault>
+        requires within { to < length (shapes self.old) }
+        requires few { IsFew (shapes self.old) (kept_shape self.old.nodes new) }
+        requires stands { Stands self.old.nodes new.pile }
+        ensures nodes { self.new.nodes ≡ self.old.nodes }
+        ensures ok { IfOk result (λ change. Joins (shapes self.old) (shapes self.new) ((to, kept_shape self.old.nodes new) ∷ []) change) }
+        ensures err { IfErr result (λ fault. JoinStops (shapes self.old) ((to, kept_shape self.old.nodes new) ∷ []) fault) }
+    {
+        let Some(there) = self.places[to] else {
+            self.places[to] = Some(new);
+            return Ok(Change::Reached);
+        };
+        match lowered(&self.piles, &there, &new) {
+            Ok(None) => Ok(Change::Nothing),
+            Ok(Some(known)) => {
+                let pile = there.pile;
+                self.places[to] = Some(Kept { known, pile });
+                Ok(Change::Fell)
+            }
+            Err(why) => Err(Fault::At { place: to, why }),
+        }
+    }
+
+    fn join_perhaps(&mut self, way: Option<Way>, pile: Pile) -> Result<Change, Fault>
+        requires within { AllWithin (length (shapes self.old)) (leads_to (entries_of self.old.nodes pile) way) }
+        requires few { AllFew (shapes self.old) (leads_to (entries_of self.old.nodes pile) way) }
+        requires stands { Stands self.old.nodes pile }
+        ensures nodes { self.new.nodes ≡ self.old.nodes }
+        ensures ok { IfOk result (λ change. Joins (shapes self.old) (shapes self.new) (leads_to (entries_of self.old.nodes pile) way) change) }
+        ensures err { IfErr result (λ fault. JoinStops (shapes self.old) (leads_to (entries_of self.old.nodes pile) way) fault) }
+    {
+        match way {
+            None => Ok(Change::Nothing),
+            Some(way) => {
+                let known = way.known;
+                self.join(way.to, Kept { known, pile })
+            }
+        }
+    }
+
+    fn join_all(&mut self, flow: Flow, pile: Pile) -> Result<Change, Fault>
+        requires within { AllWithin (length (shapes self.old)) (leads_both (entries_of self.old.nodes pile) flow) }
+        requires few { AllFew (shapes self.old) (leads_both (entries_of self.old.nodes pile) flow) }
+        requires stands { Stands self.old.nodes pile }
+        ensures ok { IfOk result (λ change. Joins (shapes self.old) (shapes self.new) (leads_both (entries_of self.old.nodes pile) flow) change) }
+        ensures err { IfErr result (λ fault. JoinStops (shapes self.old) (leads_both (entries_of self.old.nodes pile) flow) fault) }
+    {
+        let first = self.join_perhaps(flow.first, pile)?;
+        let second = self.join_perhaps(flow.second, pile)?;
+        Ok(first.then(second))
+    }
+
+    /// Meets the flows of a state with these entries into their targets, the lower target first.
+    fn follow(&mut self, pile: Pile, flow: Flow) -> Result<Change, Fault>
+        requires within { AllWithin (length (shapes self.old)) (ways_from (entries_of self.old.nodes pile) flow) }
+        requires few { AllFew (shapes self.old) (ways_from (entries_of self.old.nodes pile) flow) }
+        requires stands { Stands self.old.nodes pile }
+        requires room { length (entries_of self.old.nodes pile) < 1024 }
+        ensures ok { IfOk result (λ change. Joins (shapes self.old) (shapes self.new) (ways_from (entries_of self.old.nodes pile) flow) change) }
+        ensures err { IfErr result (λ fault. JoinStops (shapes self.old) (ways_from (entries_of self.old.nodes pile) flow) fault) }
+    {
+        let after = self.changed(pile, flow.change)?;
+        self.join_all(flow, after)
+    }
+
+    /// Applies the rule at a place, if it is reached, and meets its flows into their targets, the lower target first.
+    fn visit(
+        &mut self,
+        linked: &Linked,
+        method: MethodNumber,
+        place: usize,
+    ) -> Result<Change, Fault>
+        requires spans { Spans linked.now method (shapes self.old) }
+        requires place { place < length (shapes self.old) }
+        ensures ok { IfOk result (λ change. Visits linked.now method (shapes self.old) (shapes self.new) place change) }
+        ensures err { IfErr result (λ fault. Stops linked.now method (shapes self.old) fault) }
+    {
+        match self.places[place] {
+            None => Ok(Change::Nothing),
+            Some(kept) => {
+                match flow_of(linked, method, place, &kept.shape(&self.piles)) {
+                    Ok(flow) => self.follow(kept.pile, flow),
+                    Err(why) => Err(Fault::At { place, why }),
+                }
+            }
+        }
+    }
+
+    /// Visits each place in order.
+    fn sweep(&mut self, linked: &Linked, method: MethodNumber) -> Result<Change, Fault>
+        requires { Spans linked.now method (shapes self.old) }
+        ensures ok { IfOk result (λ change. Sweeps linked.now method (shapes self.old) (shapes self.new) (length (shapes self.old)) change) }
+        ensures err { IfErr result (λ fault. Stops linked.now method (shapes self.old) fault) }
+    {
+        let mut change = Change::Nothing;
+        for place in 0..self.len() {
+            change = change.then(self.visit(linked, method, place)?);
+        }
+        Ok(change)
+    }
+
+    /// Sweeps until one reaches a place, or changes nothing. Whether one did reach a place.
+    fn sweep_on(&mut self, linked: &Linked, method: MethodNumber) -> Result<bool, Fault>
+        requires { Spans linked.now method (shapes self.old) }
+        ensures ok { IfOk result (λ reached. SweepsOn linked.now method (shapes self.old) (shapes self.new) reached) }
+        ensures err { IfErr result (λ fault. Stops linked.now method (shapes self.old) fault) }
+    {
+        loop {
+            match self.sweep(linked, method)? {
+                Change::Nothing => return Ok(false),
+                Change::Fell => {}
+                Change::Reached => return Ok(true),
+            }
+        }
+    }
+
+    /// Sweeps until one changes nothing.
+    pub(crate) fn settle(&mut self, linked: &Linked, method: MethodNumber) -> Result<(), Fault>
+        requires { Spans linked.now method (shapes self.old) }
+        ensures ok { IfOk result (λ _. Settles linked.now method (shapes self.old) (shapes self.new)) }
+        ensures err { IfErr result (λ fault. Stops linked.now method (shapes self.old) fault) }
+    {
+        while self.sweep_on(linked, method)? {}
+        Ok(())
+    }
+}
+
+/// Where a run may go on from a place with that state, or the need that fails there.
+fn flow_of(
+    linked: &Linked,
+    method: MethodNumber,
+    place: usize,
+    shape: &Shape<'_>,
+) -> Result<Flow, Why>
+    requires instr { IsSome (instr_at linked.now method place) }
+    requires room { HasRoom linked.now method shape.now }
+    ensures ok { IfOk result (λ flow. Flows linked.now method place shape.now (ways_from shape.now.entries flow)) }
+    ensures within { IfOk result (λ flow. WithinMethod linked.now method (ways_from shape.now.entries flow)) }
+    ensures few { IfOk result (λ flow. HaveAtMost (suc (length shape.now.entries)) (ways_from shape.now.entries flow)) }
+    ensures room { length shape.now.entries < 1024 }
+    ensures err { IfErr result (λ why. Fails linked.now method place shape.now why) }
+{
+    linked.facts();
+    let _formed = linked.image().methods();
+    match rule(linked, method, place, shape) {
+        Ok(flow) => Ok(flow),
+        Err(why) => Err(why),
+    }
+}
+
+/// What is known at a place once something new comes there, if that is less than before.
+fn lowered(piles: &Piles, there: &Kept, new: &Kept) -> Result<Option<Known>, Why>
+    ensures ok { IfOk result (λ less. Lowers piles.now there.now new.now less) }
+    ensures err { IfErr result (λ why. NoMeet (kept_shape piles.now there.now) (kept_shape piles.now new.now) × WhyNoMeet (kept_shape piles.now there.now) (kept_shape piles.now new.now) why) }
+{
+    let before = there.shape(piles);
+    let after = new.shape(piles);
+    if weaker(&before, &after) {
+        return Ok(None);
+    }
+    match meet(&before, &after) {
+        Ok(less) => Ok(Some(less.known())),
+        Err(why) => Err(why),
+    }
+}
