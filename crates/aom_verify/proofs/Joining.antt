@@ -1,7 +1,7 @@
 -- Meeting a flow into the state at a place, and meeting several one after the other.
-use Rattle.std.proofs.Common.{◌≡◌, ℕ, zero, suc, ◌<◌, ◌+◌, Bool, false, IsTrue, List, [], ◌∷◌, ◌++◌, length, Option, Some, None, slice_set, slice_index_or, take, drop, inl, inr, refl, sym, ◌∙◌, ap, arith}
+use Rattle.std.proofs.Common.{◌≡◌, ℕ, ◌<◌, List, [], ◌∷◌, ◌++◌, length, Some, None, slice_set, slice_index_or, inl, inr, refl, sym, ◌∙◌, ap, arith}
 use Rattle.std.proofs.lemmas.Bool.Decides.{eqb_tells}
-use Rattle.std.proofs.lemmas.List.{length-set, take_more, take-append-drop}
+use Rattle.std.proofs.lemmas.List.{length-set}
 use Rattle.std.proofs.lemmas.List.Sums.{sum_by-set}
 use Rattle.aom_image.specs.Image.{Image}
 use Rattle.aom_shape.specs.Meet.{IsMeet, NoMeet, WhyNoMeet}
@@ -138,7 +138,7 @@ all_met_last : (s : Shapes) (xs ys : List Flow) → AllMet s (xs ++ ys) → AllM
 all_met_last s [] ys h = h
 all_met_last s (x ∷ xs) ys h = all_met_last s xs ys h.1
 
-all_met_below : (t s : Shapes) (xs : List Flow) → IsBelow t s → AllMet s xs → AllMet t xs
+pub all_met_below : (t s : Shapes) (xs : List Flow) → IsBelow t s → AllMet s xs → AllMet t xs
 all_met_below t s [] h k = tt
 all_met_below t s (x ∷ xs) h k = (meets_below t s x.0 x.1 h k.0, all_met_below t s xs h k.1)
 

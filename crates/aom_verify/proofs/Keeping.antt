@@ -2,16 +2,16 @@
 use Rattle.std.proofs.Common.{◌≡◌, ℕ, zero, suc, ◌<◌, List, [], ◌∷◌, length, Option, Some, None, replicate, slice_set, slice_index_or, inl, inr, refl, sym, ◌∙◌, ap, arith}
 use Rattle.std.proofs.lemmas.Bool.Decides.{eqb_tells}
 use Rattle.std.proofs.lemmas.List.{length-replicate}
-use Rattle.aom_shape.specs.Changes.{kept_shape, known_with}
-use Rattle.aom_shape.specs.Meet.{IsMeet, NoMeet, WhyNoMeet}
-use Rattle.aom_shape.specs.Piles.{Extends, Stands, entries_of}
-use Rattle.aom_shape.specs.Shape.{Known, Shape}
+use Rattle.aom_shape.specs.Changes.{kept_shape}
+use Rattle.aom_shape.specs.Meet.{NoMeet, WhyNoMeet}
+use Rattle.aom_shape.specs.Piles.{Extends, Stands}
+use Rattle.aom_shape.specs.Shape.{Known}
 use Rattle.aom_shape.specs.Tables.{at}
 use Rattle.aom_shape.specs.declared.piles.Node.{Node}
 use Rattle.aom_shape.specs.declared.shape.Kept.{Kept}
 use Rattle.aom_shape.specs.declared.why.Why.{Why}
 use Rattle.aom_shape.proofs.Lists.{at_within, at_set_here, at_set_other}
-use Rattle.aom_verify.specs.Entries.{HasFewEntries, IsFew}
+use Rattle.aom_verify.specs.Entries.{IsFew}
 use Rattle.aom_verify.specs.Faults.{JoinStops}
 use Rattle.aom_verify.specs.Shapes.{Shapes}
 use Rattle.aom_verify.specs.States.{AreKept, Lowers, shape_of, shapes_of}

@@ -1,6 +1,7 @@
 pub mod Ordering
 pub mod Falling
 pub mod Joining
+pub mod Ahead
 pub mod Few
 pub mod Keeping
 pub mod Following

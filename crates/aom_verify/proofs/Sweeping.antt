@@ -1,5 +1,5 @@
 -- Visits add up to a sweep, and sweeps to the states that they find.
-use Rattle.std.proofs.Common.{◌≡◌, ℕ, zero, suc, ◌<◌, ◌+◌, length, Option, Some, None, replicate, slice_set, inl, inr, refl, ◌∙◌, arith}
+use Rattle.std.proofs.Common.{◌≡◌, ℕ, zero, suc, ◌<◌, ◌+◌, false, length, Option, Some, None, replicate, slice_set, inl, inr, refl, ◌∙◌, arith}
 use Rattle.std.proofs.lemmas.Bool.Decides.{eqb_tells, leb_tells}
 use Rattle.std.proofs.lemmas.List.{length-set, length-replicate}
 use Rattle.aom_image.specs.Image.{Image}
@@ -11,12 +11,13 @@ use Rattle.aom_shape.specs.declared.why.Why.{Why}
 use Rattle.aom_shape.proofs.Lists.{at_set_other, at_past}
 use Rattle.aom_verify.specs.Arrivals.{AllArrive, StatesFail}
 use Rattle.aom_verify.specs.Arrivals.Arrives.{begins}
-use Rattle.aom_verify.specs.Change.{then}
+use Rattle.aom_verify.specs.Change.{step_then}
 use Rattle.aom_verify.specs.Shapes.{Shapes, IsMethodTyped, HasTyping}
 use Rattle.aom_verify.specs.Strongest.{IsMethodStrongest}
-use Rattle.aom_verify.specs.Sweep.{Spans, IsBelow, Keeps, AppliesAt, Visits, Sweeps, Settles, NoTypingBelow}
-use Rattle.aom_verify.specs.declared.change.Change.{Change}
-use Rattle.aom_verify.specs.declared.change.Change.TheVariants.{Nothing, Fell, Reached}
+use Rattle.aom_verify.specs.Sweep.{Spans, IsBelow, Keeps, Visits, Sweeps, Settles, NoTypingBelow}
+use Rattle.aom_verify.specs.declared.change.Change.TheVariants.{Nothing}
+use Rattle.aom_verify.specs.declared.change.Step.{Step}
+use Rattle.aom_verify.proofs.Ahead.{applies_still, then_first, then_last, then_nothing}
 use Rattle.aom_verify.proofs.Ordering.{meets_more, below_self, below_along}
 use Rattle.aom_verify.proofs.Falling.{changes_add}
 
@@ -40,41 +41,20 @@ none_before p m a b h k = record { none = λ t typed below. k.none t typed (h.ty
 pub fails_before : (p : Image) (m : ℕ) (a b : Shapes) (place : ℕ) (why : Why) → Keeps p m a b → StatesFail p m b place why → StatesFail p m a place why
 fails_before p m a b place why h k = λ all. k (h.arrives all)
 
-pub sweeps_self : (p : Image) (m : ℕ) (s : Shapes) → Sweeps p m s s 0 Nothing
-sweeps_self p m s = record { keeps = keeps_self p m s; changed = refl; applies = λ nothing pc below. absurd (omega arith) }
+pub sweeps_self : (p : Image) (m : ℕ) (s : Shapes) → Sweeps p m s s 0 (record { change = Nothing; is_behind = false })
+sweeps_self p m s = record { keeps = keeps_self p m s; changed = refl; nothing = λ none. refl; applies = λ behind pc below. absurd (omega arith) }
 
-nothing_first : (x y : Change) → then x y ≡ Nothing → x ≡ Nothing
-nothing_first Nothing y e = refl
-nothing_first Fell Nothing e = cc
-nothing_first Fell Fell e = cc
-nothing_first Fell Reached e = cc
-nothing_first Reached Nothing e = cc
-nothing_first Reached Fell e = cc
-nothing_first Reached Reached e = cc
-
-nothing_last : (x y : Change) → then x y ≡ Nothing → y ≡ Nothing
-nothing_last Nothing y e = e
-nothing_last Fell Nothing e = refl
-nothing_last Fell Fell e = cc
-nothing_last Fell Reached e = cc
-nothing_last Reached Nothing e = refl
-nothing_last Reached Fell e = cc
-nothing_last Reached Reached e = cc
-
-applies_more : (p : Image) (m : ℕ) (b c : Shapes) (count : ℕ) → c ≡ b → ((pc : ℕ) → pc < count → AppliesAt p m b pc) → AppliesAt p m c count → (pc : ℕ) → pc < count + 1 → AppliesAt p m c pc
-applies_more p m b c count same lower here pc below =
-    elim (eqb_tells pc count) [
-      | inl w ↦ rw w.1 here
-      | inr w ↦ rw same (lower pc (omega (arith, w.1)))
-    ]
-
-pub sweeps_more : (p : Image) (m : ℕ) (a b c : Shapes) (count : ℕ) (x y : Change) → Sweeps p m a b count x → Visits p m b c count y → Sweeps p m a c (count + 1) (then x y)
+pub sweeps_more : (p : Image) (m : ℕ) (a b c : Shapes) (count : ℕ) (x y : Step) → Sweeps p m a b count x → Visits p m b c count y → Sweeps p m a c (count + 1) (step_then x y)
 sweeps_more p m a b c count x y h k = record {
   keeps = keeps_along p m a b c h.keeps k.keeps;
-  changed = changes_add a b c x y h.changed k.changed;
-  applies = λ nothing.
-      let last = nothing_last x y nothing in
-      applies_more p m b c count (rw last at k.changed) (h.applies (nothing_first x y nothing)) (k.applies last);
+  changed = changes_add a b c x.change y.change h.changed k.changed;
+  nothing = then_nothing x y h.nothing k.ahead.nothing;
+  applies = λ behind pc below. elim (eqb_tells pc count) [
+    | inl w ↦ rw w.1 (k.applies (then_last x y behind))
+    | inr w ↦
+        let low : pc < count = omega (arith, w.1, below) in
+        applies_still p m b c pc (k.ahead.same (then_last x y behind) pc (omega (arith, low))) k.keeps.below_old (h.applies (then_first x y behind) pc low)
+  ];
 }
 
 -- the states before the first sweep

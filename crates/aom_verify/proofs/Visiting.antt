@@ -1,5 +1,5 @@
 -- A visit of one place: what it changes, and that no typing is lost.
-use Rattle.std.proofs.Common.{◌≡◌, ℕ, zero, suc, ◌<◌, List, [], ◌∷◌, length, Some, None, IsSome, slice_get, inl, inr, refl, arith}
+use Rattle.std.proofs.Common.{◌≡◌, ℕ, zero, suc, ◌<◌, false, List, [], ◌∷◌, length, Some, None, IsSome, slice_get, inl, inr, refl, arith}
 use Rattle.aom_image.specs.Image.{Image}
 use Rattle.aom_image.specs.Views.{instr_at, instr_in}
 use Rattle.aom_image.specs.declared.instr.Instr.{Instr}
@@ -14,9 +14,10 @@ use Rattle.aom_verify.specs.Arrivals.{Arrives, IsOneOf, AllArrive, EachArrives, 
 use Rattle.aom_verify.specs.Arrivals.Arrives.{led}
 use Rattle.aom_verify.specs.Arrivals.FailsFor.{by_rule}
 use Rattle.aom_verify.specs.Shapes.{Shapes, AllMet, Applies, IsMethodTyped}
-use Rattle.aom_verify.specs.Sweep.{Spans, IsBelow, Joins, CannotJoin, Flows, Fails, AppliesAt, Visits, NoTypingBelow, AllWithin, WithinMethod}
-use Rattle.aom_verify.specs.declared.change.Change.{Change}
+use Rattle.aom_verify.specs.Sweep.{Spans, IsBelow, Joins, CannotJoin, Flows, Fails, AppliesAt, IsAhead, Visits, NoTypingBelow, AllWithin, WithinMethod}
 use Rattle.aom_verify.specs.declared.change.Change.TheVariants.{Nothing}
+use Rattle.aom_verify.specs.declared.change.Step.{Step}
+use Rattle.aom_verify.proofs.Ahead.{nothing_ahead}
 use Rattle.aom_verify.proofs.Ordering.{below_self}
 use Rattle.aom_verify.proofs.Following.{follow_met}
 
@@ -82,14 +83,14 @@ told_rule p m s pc place sh why e h same = λ all. rw same (by_rule (all pc sh e
 pub told_join : (p : Image) (m : ℕ) (s : Shapes) (pc place : ℕ) (sh : Shape) (ways : List Flow) (why : Why) → at None s pc ≡ Some sh → Flows p m pc sh ways → JoinFails s ways place why → StatesFail p m s place why
 told_join p m s pc place sh ways why e h fails = λ all. fails p m all (ways_arrive p m s pc sh ways e h all)
 
-applies_after : (p : Image) (m : ℕ) (s new : Shapes) (pc : ℕ) (sh : Shape) (ways : List Flow) → at None s pc ≡ Some sh → Flows p m pc sh ways → AllMet new ways → new ≡ s → AppliesAt p m new pc
+applies_after : (p : Image) (m : ℕ) (s new : Shapes) (pc : ℕ) (sh : Shape) (ways : List Flow) → at None s pc ≡ Some sh → Flows p m pc sh ways → AllMet new ways → at None new pc ≡ at None s pc → AppliesAt p m new pc
 applies_after p m s new pc sh ways e h met same = λ x f.
     let alike : sh ≡ x = let g = rw same at f in cc in
     let found : Applies p m new pc sh = record { instr = h.instr; stands = h.stands; needs = h.needs; flows = rw h.is at met } in
     rw alike at found
 
-pub visited : (p : Image) (m : ℕ) (s new : Shapes) (pc : ℕ) (sh : Shape) (ways : List Flow) (change : Change) → at None s pc ≡ Some sh → Flows p m pc sh ways → Joins s new ways change → Visits p m s new pc change
-visited p m s new pc sh ways change e h k = record {
+pub visited : (p : Image) (m : ℕ) (s new : Shapes) (pc : ℕ) (sh : Shape) (ways : List Flow) (step : Step) → at None s pc ≡ Some sh → Flows p m pc sh ways → Joins s new ways step.change → IsAhead pc s new step → Visits p m s new pc step
+visited p m s new pc sh ways step e h k ahead = record {
   keeps = record {
     size = k.size;
     below_old = k.below_old;
@@ -97,13 +98,15 @@ visited p m s new pc sh ways change e h k = record {
     typings = λ t typed below. k.strongest t below (typing_meets p m t s pc sh ways e h typed below);
   };
   changed = k.changed;
-  applies = λ nothing. applies_after p m s new pc sh ways e h k.met (rw nothing at k.changed);
+  ahead = ahead;
+  applies = λ behind. applies_after p m s new pc sh ways e h k.met (ahead.same behind pc (omega arith));
 }
 
 -- a place that is not reached
-pub visited_none : (p : Image) (m : ℕ) (s : Shapes) (pc : ℕ) → at None s pc ≡ None → Visits p m s s pc Nothing
+pub visited_none : (p : Image) (m : ℕ) (s : Shapes) (pc : ℕ) → at None s pc ≡ None → Visits p m s s pc (record { change = Nothing; is_behind = false })
 visited_none p m s pc e = record {
   keeps = record { size = refl; below_old = below_self s; arrives = λ all. all; typings = λ t typed below. below };
   changed = refl;
-  applies = λ nothing sh f. absurd cc;
+  ahead = nothing_ahead pc s;
+  applies = λ behind sh f. absurd cc;
 }

@@ -1,5 +1,5 @@
 -- What a sweep changes, and why that ends: places are reached, or states fall.
-use Rattle.std.specs.Prelude.{ℕ, ◌≡◌, ◌<◌, ◌+◌, Option, Some, None}
+use Rattle.std.specs.Prelude.{ℕ, ◌≡◌, ◌<◌, ◌+◌, ◌||◌, Option, Some, None}
 use Rattle.std.specs.List.{sum_by}
 use Rattle.aom_shape.specs.Shape.{Shape}
 use Rattle.aom_shape.specs.declared.kind.Filling.{Filling}
@@ -9,6 +9,7 @@ use Rattle.aom_shape.specs.declared.kind.Kind.TheVariants.{Unset, Word, Null, Ow
 use Rattle.aom_verify.specs.Shapes.{Shapes}
 use Rattle.aom_verify.specs.declared.change.Change.{Change}
 use Rattle.aom_verify.specs.declared.change.Change.TheVariants.{Nothing, Fell, Reached}
+use Rattle.aom_verify.specs.declared.change.Step.{Step}
 
 -- how often a kind can still fall
 abbrev pub kind_rank : Kind → ℕ
@@ -55,3 +56,7 @@ then Fell Nothing = Fell
 then Fell Fell = Fell
 then Fell Reached = Reached
 then Reached after = Reached
+
+-- one step and then another
+abbrev pub step_then : Step → Step → Step
+step_then x y = record { change = then x.change y.change; is_behind = x.is_behind || y.is_behind }

@@ -1,5 +1,5 @@
 -- What a step of a sweep keeps.
-use Rattle.std.specs.Prelude.{ℕ, ◌≡◌, ◌<◌, Bool, true, false, length, List, [], ◌∷◌, Some, None, Err}
+use Rattle.std.specs.Prelude.{ℕ, ◌≡◌, ◌≢◌, ◌≤◌, ◌<◌, Bool, true, false, length, List, [], ◌∷◌, Some, None, Err}
 use Rattle.aom_image.specs.Image.{Image}
 use Rattle.aom_image.specs.Views.{method_at, instr_at}
 use Rattle.aom_image.specs.declared.instr.Instr.{Instr}
@@ -14,6 +14,7 @@ use Rattle.aom_verify.specs.Change.{IsChange, unreached_count}
 use Rattle.aom_verify.specs.Shapes.{Shapes, Meets, AllMet, Applies, IsMethodTyped}
 use Rattle.aom_verify.specs.declared.change.Change.{Change}
 use Rattle.aom_verify.specs.declared.change.Change.TheVariants.{Nothing}
+use Rattle.aom_verify.specs.declared.change.Step.{Step}
 
 -- the method has so many places
 pub record HasPlaces (p : Image) (m n : ℕ) : Type 0 where
@@ -78,17 +79,33 @@ pub record Keeps (p : Image) (m : ℕ) (old new : Shapes) : Type 0 where
 abbrev pub AppliesAt : Image → ℕ → Shapes → ℕ → Type 0
 AppliesAt p m s pc = (sh : Shape) → at None s pc ≡ Some sh → Applies p m s pc sh
 
+-- all states but that of a place are as they were
+abbrev pub SameBut : ℕ → Shapes → Shapes → Type 0
+SameBut to old new = (pc : ℕ) → pc ≢ to → at None new pc ≡ at None old pc
+
+-- the states up to a place are as they were
+abbrev pub SameUpTo : ℕ → Shapes → Shapes → Type 0
+SameUpTo seen old new = (pc : ℕ) → pc ≤ seen → at None new pc ≡ at None old pc
+
+-- what a step says of the states up to a place: as they were, if it changed none of them; and it did not where it changed nothing
+pub record IsAhead (seen : ℕ) (old new : Shapes) (step : Step) : Type 0 where
+  pub same : step.is_behind ≡ false → SameUpTo seen old new
+  pub nothing : step.change ≡ Nothing → step.is_behind ≡ false
+
 -- one place was visited
-pub record Visits (p : Image) (m : ℕ) (old new : Shapes) (pc : ℕ) (change : Change) : Type 0 where
+pub record Visits (p : Image) (m : ℕ) (old new : Shapes) (pc : ℕ) (step : Step) : Type 0 where
   pub keeps : Keeps p m old new
-  pub changed : IsChange old new change
-  pub applies : change ≡ Nothing → AppliesAt p m new pc
+  pub changed : IsChange old new step.change
+  pub ahead : IsAhead pc old new step
+  pub applies : step.is_behind ≡ false → AppliesAt p m new pc
 
 -- the places below a count were visited
-pub record Sweeps (p : Image) (m : ℕ) (old new : Shapes) (count : ℕ) (change : Change) : Type 0 where
+pub record Sweeps (p : Image) (m : ℕ) (old new : Shapes) (count : ℕ) (step : Step) : Type 0 where
   pub keeps : Keeps p m old new
-  pub changed : IsChange old new change
-  pub applies : change ≡ Nothing → (pc : ℕ) → pc < count → AppliesAt p m new pc
+  pub changed : IsChange old new step.change
+  pub nothing : step.change ≡ Nothing → step.is_behind ≡ false
+  -- where none of them changed once the sweep had come to it
+  pub applies : step.is_behind ≡ false → (pc : ℕ) → pc < count → AppliesAt p m new pc
 
 -- sweeps have reached a place first, or the rule applies at each place that is reached
 abbrev pub SweptOn : Image → ℕ → Shapes → Shapes → Bool → Type 0

@@ -1,6 +1,7 @@
 //! What a step of a sweep changes.
-ghost use Rattle.std.specs.Prelude.{◌≡◌};
-ghost use Rattle.aom_verify.specs.Change.{then};
+ghost use Rattle.std.specs.Prelude.{◌≡◌, ◌<◌, ◌⊎◌, false};
+ghost use Rattle.aom_verify.specs.Change.{step_then, then};
+ghost use Rattle.aom_verify.specs.declared.change.Change.TheVariants.{Nothing};
 
 /// What became of the states of a method.
 #[derive(Clone, Copy, PartialEq, Eq, Debug)]
@@ -24,6 +25,49 @@ impl Change {
                 Change::Reached => Change::Reached,
             },
             Change::Reached => Change::Reached,
+        }
+    }
+}
+
+/// What a step of a sweep changes, and whether it does so at a place that the sweep has come to.
+#[derive(Clone, Copy)]
+pub(crate) struct Step {
+    pub(crate) change: Change,
+    pub(crate) is_behind: bool,
+}
+
+impl Step {
+    pub(crate) fn nothing() -> Step
+        ensures { result ≡ record { change = Nothing; is_behind = false } }
+    {
+        Step {
+            change: Change::Nothing,
+            is_behind: false,
+        }
+    }
+
+    /// That change at a place, of a sweep that has come to another.
+    pub(crate) fn at(to: usize, seen: usize, change: Change) -> Step
+        ensures change { result.change ≡ change }
+        ensures ahead { result.is_behind ≡ false → (change ≡ Nothing) ⊎ (seen < to) }
+        ensures nothing { change ≡ Nothing → result.is_behind ≡ false }
+    {
+        match change {
+            Change::Nothing => Step::nothing(),
+            Change::Fell | Change::Reached => Step {
+                change,
+                is_behind: to <= seen,
+            },
+        }
+    }
+
+    /// This step and then another.
+    pub(crate) fn then(self, after: Step) -> Step
+        ensures { result ≡ step_then self after }
+    {
+        Step {
+            change: self.change.then(after.change),
+            is_behind: self.is_behind || after.is_behind,
         }
     }
 }

@@ -10,10 +10,10 @@ ghost use Rattle.aom_shape.specs.Tables.{at};
 ghost use Rattle.aom_verify.specs.Entries.{IsFew, AllFew, HasRoom};
 ghost use Rattle.aom_verify.specs.Faults.{JoinStops, Stops, refusal_of};
 ghost use Rattle.aom_verify.specs.States.{Lowers, shapes};
-ghost use Rattle.aom_verify.specs.Sweep.{Spans, AllWithin, Joins, Flows, Fails, WithinMethod, Visits, Sweeps, SweepsOn, Settles};
+ghost use Rattle.aom_verify.specs.Sweep.{Spans, AllWithin, Joins, Flows, Fails, IsAhead, SameBut, WithinMethod, Visits, Sweeps, SweepsOn, Settles};
 
 use crate::Refusal;
-use crate::change::Change;
+use crate::change::{Change, Step};
 use aom_classes::Linked;
 use aom_image::MethodNumber;
 use aom_shape::{
@@ -124,6 +124,7 @@ impl States {
         requires stands { Stands self.old.nodes new.pile }
         ensures nodes { self.new.nodes ≡ self.old.nodes }
         ensures ok { IfOk result (λ change. Joins (shapes self.old) (shapes self.new) ((to, kept_shape self.old.nodes new) ∷ []) change) }
+        ensures others { IfOk result (λ change. SameBut to (shapes self.old) (shapes self.new)) }
         ensures err { IfErr result (λ fault. JoinStops (shapes self.old) ((to, kept_shape self.old.nodes new) ∷ []) fault) }
     {
         let Some(there) = self.places[to] else {
@@ -141,65 +142,62 @@ impl States {
         }
     }
 
-    fn join_perhaps(&mut self, way: Option<Way>, pile: Pile) -> Result<Change, Fault>
+    /// The same of a way, if there is one, by a sweep that has come to that place.
+    fn join_perhaps(&mut self, way: Option<Way>, pile: Pile, seen: usize) -> Result<Step, Fault>
         requires within { AllWithin (length (shapes self.old)) (leads_to (entries_of self.old.nodes pile) way) }
         requires few { AllFew (shapes self.old) (leads_to (entries_of self.old.nodes pile) way) }
         requires stands { Stands self.old.nodes pile }
         ensures nodes { self.new.nodes ≡ self.old.nodes }
-        ensures ok { IfOk result (λ change. Joins (shapes self.old) (shapes self.new) (leads_to (entries_of self.old.nodes pile) way) change) }
+        ensures ok { IfOk result (λ step. Joins (shapes self.old) (shapes self.new) (leads_to (entries_of self.old.nodes pile) way) step.change × IsAhead seen (shapes self.old) (shapes self.new) step) }
         ensures err { IfErr result (λ fault. JoinStops (shapes self.old) (leads_to (entries_of self.old.nodes pile) way) fault) }
     {
         match way {
-            None => Ok(Change::Nothing),
+            None => Ok(Step::nothing()),
             Some(way) => {
                 let known = way.known;
-                self.join(way.to, Kept { known, pile })
+                let change = self.join(way.to, Kept { known, pile })?;
+                Ok(Step::at(way.to, seen, change))
             }
         }
     }
 
-    fn join_all(&mut self, flow: Flow, pile: Pile) -> Result<Change, Fault>
+    fn join_all(&mut self, flow: Flow, pile: Pile, seen: usize) -> Result<Step, Fault>
         requires within { AllWithin (length (shapes self.old)) (leads_both (entries_of self.old.nodes pile) flow) }
         requires few { AllFew (shapes self.old) (leads_both (entries_of self.old.nodes pile) flow) }
         requires stands { Stands self.old.nodes pile }
-        ensures ok { IfOk result (λ change. Joins (shapes self.old) (shapes self.new) (leads_both (entries_of self.old.nodes pile) flow) change) }
+        ensures ok { IfOk result (λ step. Joins (shapes self.old) (shapes self.new) (leads_both (entries_of self.old.nodes pile) flow) step.change × IsAhead seen (shapes self.old) (shapes self.new) step) }
         ensures err { IfErr result (λ fault. JoinStops (shapes self.old) (leads_both (entries_of self.old.nodes pile) flow) fault) }
     {
-        let first = self.join_perhaps(flow.first, pile)?;
-        let second = self.join_perhaps(flow.second, pile)?;
+        let first = self.join_perhaps(flow.first, pile, seen)?;
+        let second = self.join_perhaps(flow.second, pile, seen)?;
         Ok(first.then(second))
     }
 
     /// Meets the flows of a state with these entries into their targets, the lower target first.
-    fn follow(&mut self, pile: Pile, flow: Flow) -> Result<Change, Fault>
+    fn follow(&mut self, pile: Pile, flow: Flow, seen: usize) -> Result<Step, Fault>
         requires within { AllWithin (length (shapes self.old)) (ways_from (entries_of self.old.nodes pile) flow) }
         requires few { AllFew (shapes self.old) (ways_from (entries_of self.old.nodes pile) flow) }
         requires stands { Stands self.old.nodes pile }
         requires room { length (entries_of self.old.nodes pile) < 1024 }
-        ensures ok { IfOk result (λ change. Joins (shapes self.old) (shapes self.new) (ways_from (entries_of self.old.nodes pile) flow) change) }
+        ensures ok { IfOk result (λ step. Joins (shapes self.old) (shapes self.new) (ways_from (entries_of self.old.nodes pile) flow) step.change × IsAhead seen (shapes self.old) (shapes self.new) step) }
         ensures err { IfErr result (λ fault. JoinStops (shapes self.old) (ways_from (entries_of self.old.nodes pile) flow) fault) }
     {
         let after = self.changed(pile, flow.change)?;
-        self.join_all(flow, after)
+        self.join_all(flow, after, seen)
     }
 
     /// Applies the rule at a place, if it is reached, and meets its flows into their targets, the lower target first.
-    fn visit(
-        &mut self,
-        linked: &Linked,
-        method: MethodNumber,
-        place: usize,
-    ) -> Result<Change, Fault>
+    fn visit(&mut self, linked: &Linked, method: MethodNumber, place: usize) -> Result<Step, Fault>
         requires spans { Spans linked.now method (shapes self.old) }
         requires place { place < length (shapes self.old) }
-        ensures ok { IfOk result (λ change. Visits linked.now method (shapes self.old) (shapes self.new) place change) }
+        ensures ok { IfOk result (λ step. Visits linked.now method (shapes self.old) (shapes self.new) place step) }
         ensures err { IfErr result (λ fault. Stops linked.now method (shapes self.old) fault) }
     {
         match self.places[place] {
-            None => Ok(Change::Nothing),
+            None => Ok(Step::nothing()),
             Some(kept) => {
                 match flow_of(linked, method, place, &kept.shape(&self.piles)) {
-                    Ok(flow) => self.follow(kept.pile, flow),
+                    Ok(flow) => self.follow(kept.pile, flow, place),
                     Err(why) => Err(Fault::At { place, why }),
                 }
             }
@@ -207,26 +205,30 @@ impl States {
     }
 
     /// Visits each place in order.
-    fn sweep(&mut self, linked: &Linked, method: MethodNumber) -> Result<Change, Fault>
+    fn sweep(&mut self, linked: &Linked, method: MethodNumber) -> Result<Step, Fault>
         requires { Spans linked.now method (shapes self.old) }
-        ensures ok { IfOk result (λ change. Sweeps linked.now method (shapes self.old) (shapes self.new) (length (shapes self.old)) change) }
+        ensures ok { IfOk result (λ step. Sweeps linked.now method (shapes self.old) (shapes self.new) (length (shapes self.old)) step) }
         ensures err { IfErr result (λ fault. Stops linked.now method (shapes self.old) fault) }
     {
-        let mut change = Change::Nothing;
+        let mut step = Step::nothing();
         for place in 0..self.len() {
-            change = change.then(self.visit(linked, method, place)?);
+            step = step.then(self.visit(linked, method, place)?);
         }
-        Ok(change)
+        Ok(step)
     }
 
-    /// Sweeps until one reaches a place, or changes nothing. Whether one did reach a place.
+    /// Sweeps until one reaches a place, or changes nothing at a place that it has come to. Whether another has to follow.
     fn sweep_on(&mut self, linked: &Linked, method: MethodNumber) -> Result<bool, Fault>
         requires { Spans linked.now method (shapes self.old) }
         ensures ok { IfOk result (λ reached. SweepsOn linked.now method (shapes self.old) (shapes self.new) reached) }
         ensures err { IfErr result (λ fault. Stops linked.now method (shapes self.old) fault) }
     {
         loop {
-            match self.sweep(linked, method)? {
+            let step = self.sweep(linked, method)?;
+            if !step.is_behind {
+                return Ok(false);
+            }
+            match step.change {
                 Change::Nothing => return Ok(false),
                 Change::Fell => {}
                 Change::Reached => return Ok(true),
@@ -234,7 +236,7 @@ impl States {
         }
     }
 
-    /// Sweeps until one changes nothing.
+    /// Sweeps until one leaves nothing to do.
     pub(crate) fn settle(&mut self, linked: &Linked, method: MethodNumber) -> Result<(), Fault>
         requires { Spans linked.now method (shapes self.old) }
         ensures ok { IfOk result (λ _. Settles linked.now method (shapes self.old) (shapes self.new)) }

@@ -1,5 +1,5 @@
 -- What stood stands, so the states stay.
-use Rattle.std.proofs.Common.{◌<◌, sym, ◌∙◌, arith}
+use Rattle.std.proofs.Common.{arith}
 use Rattle.aom_shape.proofs.Piling.{length_listed}
 use Rattle.aom_verify.proofs.Keeping.{kept_extended, same_shapes}
 use Rattle.aom_verify.proofs.states.States.changed.Goals as goal

@@ -1,5 +1,6 @@
 -- The four ways in which a flow is met into a state, each by its lemma.
-use Rattle.std.proofs.Common.{◌<◌, length, ◌∙◌, arith}
+use Rattle.std.proofs.Common.{◌<◌, length, ◌∙◌, refl, arith}
+use Rattle.aom_verify.proofs.Ahead.{set_but}
 use Rattle.aom_verify.proofs.Keeping.{first_joined, kept_first, kept_lower, length_shapes, lower_joined, never_joined, none_joined, read_kept}
 use Rattle.aom_verify.proofs.states.States.join.Goals as goal
 
@@ -59,3 +60,12 @@ returns-in-Err-clause-err c =
     let inside : c.args.to < length c.self.inside.places.items = omega (arith, within, length_shapes c.self.inside.piles c.self.inside.places.items) in
     let here = read_kept _ _ _ inside c.index.ensures ∙ c.in-Some.is in
     rw (← c.self.view_is) (never_joined _ _ _ _ inside _ _ here c.in-Err.ensures.err.0 c.in-Err.ensures.err.1)
+
+pub returns-in_default-clause-others : goal.returns-in_default-clause-others
+returns-in_default-clause-others c = rw (← c.self.view_is) (set_but c.self.inside.piles c.self.inside.places.items c.args.to c.args.new)
+
+pub returns-in-Ok-None-clause-others : goal.returns-in-Ok-None-clause-others
+returns-in-Ok-None-clause-others c = λ pc other. refl
+
+pub returns-in-Ok-Some-clause-others : goal.returns-in-Ok-Some-clause-others
+returns-in-Ok-Some-clause-others c = rw (← c.self.view_is) (set_but c.self.inside.piles c.self.inside.places.items c.args.to _)

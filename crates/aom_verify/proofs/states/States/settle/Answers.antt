@@ -1,5 +1,4 @@
 -- Sweeps are made until the rule applies at each place that is reached.
-use Rattle.std.proofs.Common.{arith}
 use Rattle.std.proofs.lemmas.Result.{err_from_is_err_and}
 use Rattle.aom_verify.proofs.Stopping.{stops_before}
 use Rattle.aom_verify.proofs.Sweeping.{keeps_self, keeps_along}

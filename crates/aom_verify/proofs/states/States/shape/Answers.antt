@@ -1,6 +1,5 @@
 -- What is read of the list is the state at that place, and past its end there is none.
-use Rattle.std.proofs.Common.{◌≤◌, ◌<◌, length, Some, None, ap, sym, ◌∙◌, arith}
-use Rattle.aom_shape.specs.Shape.{Shape}
+use Rattle.std.proofs.Common.{◌≤◌, ◌<◌, length, None, sym, ◌∙◌, arith}
 use Rattle.aom_shape.proofs.Lists.{at_past}
 use Rattle.aom_verify.specs.States.{shapes_of}
 use Rattle.aom_verify.proofs.Keeping.{length_shapes, none_there, read_kept, there_shape}

@@ -5,11 +5,11 @@ use Rattle.aom_verify.specs.States.{shapes}
 use Rattle.aom_verify.specs.Sweep.{Keeps}
 use Rattle.aom_verify.proofs.states.States.sweep_on.Given as goal
 
-abbrev pub invariant-loop : goal.invariant-loop
-invariant-loop l = record {
+abbrev pub invariant-loop-step : goal.invariant-loop-step
+invariant-loop-step l = record {
   keeps : Keeps l.linked l.method (shapes l.initial.self) (shapes l.self);
   same : unreached_count (shapes l.self) ≡ unreached_count (shapes l.initial.self);
 }
 
-abbrev pub decreases-loop : goal.decreases-loop
-decreases-loop l = rank (shapes l.self)
+abbrev pub decreases-loop-step : goal.decreases-loop-step
+decreases-loop-step l = rank (shapes l.self)

@@ -51,7 +51,7 @@ returns-in-None-clause-ok c =
     let within = rw (← c.self.view_is) at c.requires.place in
     let inside : c.args.place < length c.self.inside.places.items = omega (arith, within, length_shapes c.self.inside.piles c.self.inside.places.items) in
     let there = read_kept _ _ _ inside c.index.ensures ∙ c.in-None.is in
-    visited_none _ _ _ _ (rw (← c.self.view_is) (none_there c.self.inside.piles c.self.inside.places.items c.args.place there))
+    rw c.nothing.ensures (visited_none _ _ _ _ (rw (← c.self.view_is) (none_there c.self.inside.piles c.self.inside.places.items c.args.place there)))
 
 pub returns-in-Ok-clause-ok : goal.returns-in-Ok-clause-ok
 returns-in-Ok-clause-ok c =
@@ -60,7 +60,7 @@ returns-in-Ok-clause-ok c =
     let there = read_kept _ _ _ inside c.index.ensures ∙ c.in-Some.is in
     let here : at None (shapes c.args.self.now) c.args.place ≡ Some (kept_shape c.args.self.now.nodes c.in-Some.kept) = rw (← c.self.view_is) (there_shape c.self.inside.piles c.self.inside.places.items c.args.place c.in-Some.kept there) in
     let shown : c.shape.result ≡ kept_shape c.args.self.now.nodes c.in-Some.kept = rw (← c.self.view_is) c.shape.ensures in
-    IfOk-weaker c.follow.result _ _ (λ change h. visited _ _ _ _ _ _ _ _ here (rw shown at c.in-Ok.ensures.ok) h) c.follow.ensures.ok
+    IfOk-weaker c.follow.result _ _ (λ step h. visited _ _ _ _ _ _ _ step here (rw shown at c.in-Ok.ensures.ok) h.0 h.1) c.follow.ensures.ok
 
 pub returns-in-Ok-clause-err : goal.returns-in-Ok-clause-err
 returns-in-Ok-clause-err c =

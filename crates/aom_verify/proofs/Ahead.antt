@@ -1,0 +1,86 @@
+-- Where a step changes no place that the sweep has come to, what was found of these places stands.
+use Rattle.std.proofs.Common.{◌≡◌, ◌∙◌, ℕ, ◌<◌, Bool, true, false, List, Option, Some, None, slice_set, inl, inr, refl, ap, arith}
+use Rattle.std.specs.Prelude.{◌⊎◌, ◌||◌, not}
+use Rattle.aom_image.specs.Image.{Image}
+use Rattle.aom_shape.specs.Changes.{kept_shape}
+use Rattle.aom_shape.specs.Tables.{at}
+use Rattle.aom_shape.specs.declared.piles.Node.{Node}
+use Rattle.aom_shape.specs.declared.shape.Kept.{Kept}
+use Rattle.aom_shape.proofs.Lists.{at_set_other}
+use Rattle.aom_verify.specs.Change.{IsChange, step_then, then}
+use Rattle.aom_verify.specs.Shapes.{Shapes}
+use Rattle.aom_verify.specs.States.{shapes_of}
+use Rattle.aom_verify.specs.Sweep.{AppliesAt, IsAhead, IsBelow, SameBut, SameUpTo}
+use Rattle.aom_verify.specs.declared.change.Change.{Change}
+use Rattle.aom_verify.specs.declared.change.Change.TheVariants.{Nothing, Fell, Reached}
+use Rattle.aom_verify.specs.declared.change.Step.{Step}
+use Rattle.aom_verify.proofs.Joining.{all_met_below}
+use Rattle.aom_verify.proofs.Keeping.{set_shapes}
+
+-- ---- one place changes
+
+pub set_but : (nodes : List Node) (kept : List (Option Kept)) (to : ℕ) (k : Kept) → SameBut to (shapes_of nodes kept) (shapes_of nodes (slice_set kept to (Some k)))
+set_but nodes kept to k pc other = rw (set_shapes nodes kept to (Some k)) (at_set_other None (shapes_of nodes kept) to pc (Some (kept_shape nodes k)) other)
+
+pub joined_ahead :
+    (old new : Shapes) (to seen : ℕ) (step : Step) → IsChange old new step.change → SameBut to old new →
+    (step.is_behind ≡ false → (step.change ≡ Nothing) ⊎ (seen < to)) → (step.change ≡ Nothing → step.is_behind ≡ false) → IsAhead seen old new step
+joined_ahead old new to seen step changed others ahead nothing = record { same = λ behind. go (ahead behind); nothing = nothing }
+  where
+    go : (step.change ≡ Nothing) ⊎ (seen < to) → SameUpTo seen old new
+    go (inl none) pc le = let same : new ≡ old = rw none at changed in ap (λ s. at None s pc) same
+    go (inr lt) pc le = others pc (λ e. absurd (omega (arith, e, le, lt)))
+
+-- ---- nothing changes, and one step after another
+
+pub nothing_ahead : (seen : ℕ) (s : Shapes) → IsAhead seen s s (record { change = Nothing; is_behind = false })
+nothing_ahead seen s = record { same = λ behind pc le. refl; nothing = λ none. refl }
+
+or_first : (x y : Bool) → (x || y) ≡ false → x ≡ false
+or_first true y e = cc
+or_first false y e = refl
+
+or_last : (x y : Bool) → (x || y) ≡ false → y ≡ false
+or_last true y e = cc
+or_last false y e = e
+
+or_none : (x y : Bool) → x ≡ false → y ≡ false → (x || y) ≡ false
+or_none x y e f = rw (e, f) refl
+
+pub not_true : (x : Bool) → not x ≡ true → x ≡ false
+not_true true e = cc
+not_true false e = refl
+
+pub then_first : (x y : Step) → (step_then x y).is_behind ≡ false → x.is_behind ≡ false
+then_first x y e = or_first x.is_behind y.is_behind e
+
+pub then_last : (x y : Step) → (step_then x y).is_behind ≡ false → y.is_behind ≡ false
+then_last x y e = or_last x.is_behind y.is_behind e
+
+nothing_first : (x y : Change) → then x y ≡ Nothing → x ≡ Nothing
+nothing_first Nothing y e = refl
+nothing_first Fell Nothing e = cc
+nothing_first Fell Fell e = cc
+nothing_first Fell Reached e = cc
+nothing_first Reached Nothing e = cc
+nothing_first Reached Fell e = cc
+nothing_first Reached Reached e = cc
+
+nothing_last : (x y : Change) → then x y ≡ Nothing → y ≡ Nothing
+nothing_last x y e = rw (nothing_first x y e) at e
+
+pub then_nothing : (x y : Step) → (x.change ≡ Nothing → x.is_behind ≡ false) → (y.change ≡ Nothing → y.is_behind ≡ false) → (step_then x y).change ≡ Nothing → (step_then x y).is_behind ≡ false
+then_nothing x y one other e = or_none x.is_behind y.is_behind (one (nothing_first x.change y.change e)) (other (nothing_last x.change y.change e))
+
+pub then_ahead : (seen : ℕ) (a b c : Shapes) (x y : Step) → IsAhead seen a b x → IsAhead seen b c y → IsAhead seen a c (step_then x y)
+then_ahead seen a b c x y h k = record {
+  same = λ behind pc le. k.same (then_last x y behind) pc le ∙ h.same (then_first x y behind) pc le;
+  nothing = then_nothing x y h.nothing k.nothing;
+}
+
+-- ---- the rule still applies
+
+pub applies_still : (p : Image) (m : ℕ) (b c : Shapes) (pc : ℕ) → at None c pc ≡ at None b pc → IsBelow c b → AppliesAt p m b pc → AppliesAt p m c pc
+applies_still p m b c pc same below h sh e =
+    let applies = h sh (rw same at e) in
+    record { instr = applies.instr; stands = applies.stands; needs = applies.needs; flows = all_met_below c b _ below applies.flows }
