@@ -12,3 +12,4 @@ pub mod Exits
 pub mod Visiting
 pub mod Starting
 pub mod Priced
+pub mod Budgeting

@@ -18,11 +18,8 @@ use Rattle.aom_budget.specs.Calls.{MayCall}
 use Rattle.aom_budget.specs.Depths.{Frames, AreDepths, HasDepths, DepthsWithin, IsTooDeep}
 use Rattle.aom_budget.specs.Depths.Frames.{alone, calling}
 use Rattle.aom_budget.specs.Extents.{IsFilled, KeepsTo, Exceeds}
-use Rattle.aom_budget.specs.Faults.{RefusesOrWants}
 use Rattle.aom_budget.specs.Heights.{StandsAt, StandsWith, Heights, AreHeights, HasHeights, HeightsWithin, IsTooHigh}
 use Rattle.aom_budget.specs.Heights.Heights.{own, under}
-use Rattle.aom_budget.specs.declared.fault.BudgetFault.{BudgetFault}
-use Rattle.aom_budget.specs.declared.fault.BudgetFault.TheVariants.{TooDeep, CleanupTooDeep, OutOfMemory}
 use Rattle.aom_budget.proofs.Filling.{entered_is_called}
 use Rattle.aom_budget.proofs.Mentioned.{called_lower}
 use Rattle.aom_budget.proofs.Most.{no_more, is_one, one_exceeds}
@@ -134,9 +131,3 @@ heights_most p hs h m n (under {k = k} {h = count} {n = above} call heights) = o
 
 pub all_high : (p : Image) → HasHeights p → HeightsWithin p
 all_high p h = record { within = λ m n heights. omega (arith, heights_most p h.heights h.are m n heights, h.are.within m) }
-
--- an image within its limits is refused for want of memory alone
-pub only_memory : (p : Image) (fault : BudgetFault) → RefusesOrWants p fault → DepthsWithin p → HeightsWithin p → fault ≡ OutOfMemory
-only_memory p TooDeep h within low = absurd (omega (arith, within.within h.method h.count h.frames, h.many))
-only_memory p CleanupTooDeep h within low = absurd (omega (arith, low.within h.1.method h.1.count h.1.heights, h.1.many))
-only_memory p OutOfMemory h within low = refl

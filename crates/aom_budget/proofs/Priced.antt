@@ -55,10 +55,10 @@ paid_called p m sh (Push a) k e = kind_called p (register sh a) k e
 paid_called p m sh (Delete a) k e = kind_called p (register sh a) k e
 paid_called p m sh _ k e = absurd cc
 
-method_there : (p : Image) (m place : ℕ) (i : Instr) → instr_at p m place ≡ Some i → IsSome (method_at p m)
+pub method_there : (p : Image) (m place : ℕ) (i : Instr) → instr_at p m place ≡ Some i → IsSome (method_at p m)
 method_there p m place i stands = let w = of_method p m place i stands in rw w.1 refl
 
-pays_before : (p : Image) (t : Typing) → IsLinked p → IsStrongest p t → PaysBefore p t
+pub pays_before : (p : Image) (t : Typing) → IsLinked p → IsStrongest p t → PaysBefore p t
 pays_before p t linked strongest = record {
   each = λ m place k sh i stands e.
       let states = strongest.each m (method_there p m place i stands.instr) in

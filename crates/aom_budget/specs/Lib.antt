@@ -4,3 +4,5 @@ pub mod Heights
 pub mod Faults
 pub mod Extents
 pub mod Pricing
+pub mod Budgets
+pub mod Figures

@@ -5,15 +5,16 @@ ghost use Rattle.aom_classes.specs.Admitted.{IsAdmitted};
 ghost use Rattle.aom_classes.specs.Linked.{IsLinked};
 ghost use Rattle.aom_shape.specs.Typing.{Typing, IsTyped};
 ghost use Rattle.aom_verify.specs.Strongest.{IsStrongest};
+ghost use Rattle.aom_prices.specs.Dispatches.{IsAffordable};
+ghost use Rattle.aom_prices.specs.Prices.{Prices};
+ghost use Rattle.aom_budget.specs.Budgets.{BudgetsWithin};
 ghost use Rattle.aom_budget.specs.Depths.{HasDepths, DepthsWithin};
 ghost use Rattle.aom_budget.specs.Heights.{HasHeights, HeightsWithin};
 ghost use Rattle.aom_budget.specs.Pricing.{IsPriceUpTo};
 ghost use Rattle.aom_budget.specs.Faults.{RefusesOrWants};
+ghost use Rattle.aom_budget.specs.Figures.{AreFigures};
 
-use crate::BudgetFault;
-use crate::extents::Extents;
-use crate::prices::prices_of;
-use crate::sums::Sums;
+use crate::{BudgetFault, Figures};
 use aom_classes::Linked;
 use aom_image::MethodNumber;
 use aom_verify::Checked;
@@ -24,21 +25,21 @@ use std::marker::Model;
 #[derive(Drop)]
 pub struct Accepted {
     checked: Checked,
-    /// By the numbers of the methods.
-    prices: Sums,
+    figures: Figures,
 }
 
 impl Model for Accepted {
     ghost use Rattle.aom_image.specs.Image.{Image};
     ghost use Rattle.aom_budget.specs.Depths.{HasDepths};
     ghost use Rattle.aom_budget.specs.Heights.{HasHeights};
-    ghost use Rattle.aom_budget.specs.Pricing.{ArePriced};
+    ghost use Rattle.aom_budget.specs.Budgets.{BudgetsWithin};
+    ghost use Rattle.aom_budget.specs.Figures.{AreFigures};
 
     ghost Value = { Image };
 
     ghost view = { λ a. a.checked };
 
-    ghost invariant = { λ a. HasDepths a.checked × HasHeights a.checked × ArePriced a.checked a.prices };
+    ghost invariant = { λ a. BudgetsWithin a.checked × HasDepths a.checked × HasHeights a.checked × AreFigures a.checked a.figures };
 }
 
 impl Accepted {
@@ -54,7 +55,14 @@ impl Accepted {
         self.checked.linked()
     }
 
-    /// It is linked, has nothing that is not admitted yet, and has a typing. What an instruction that its strongest
+    pub fn figures(&self) -> &Figures
+        ensures { AreFigures self.now result.now }
+    {
+        &self.figures
+    }
+
+    /// It is linked, has nothing that is not admitted yet, and has a typing. Each dispatch takes at most the steps that
+    /// are declared of it. What an instruction that its strongest
     /// typing reaches may call is less deep than its own method, so no stack of such frames is higher than 256, and no
     /// method comes to more than 1,024 cleanup entries.
     pub fn facts(&self)
@@ -62,6 +70,8 @@ impl Accepted {
         ensures admitted { IsAdmitted self.now }
         ensures typed { (t : Typing) × IsTyped self.now t }
         ensures strongest { (t : Typing) × IsStrongest self.now t }
+        ensures budgets { BudgetsWithin self.now }
+        ensures affordable { (t : Typing) × IsTyped self.now t × (c : Prices) × IsAffordable self.now t c }
         ensures depths { HasDepths self.now }
         ensures within { DepthsWithin self.now }
         ensures heights { HasHeights self.now }
@@ -76,18 +86,19 @@ impl Accepted {
         requires { IsSome (method_at self.now method) }
         ensures { IsPriceUpTo self.now method result }
     {
-        self.prices.at(method.number() as usize)
+        self.figures.price(method)
     }
 }
 
-/// Accepts an image, or refuses it where a method may come to more than 256 frames, or to more than 1,024 cleanup
-/// entries. A refused image is dropped.
+/// Accepts an image, or refuses it where a dispatch may take more steps than it declares, where a method may come to
+/// more than 256 frames, or to more than 1,024 cleanup entries. A refused image is dropped.
 pub fn accept(alloc: Global, checked: Checked) -> Result<Accepted, BudgetFault>
     ensures ok { IfOk result (λ accepted. accepted ≡ checked) }
     ensures refused { IfErr result (λ fault. RefusesOrWants checked fault) }
-    ensures complete { DepthsWithin checked → HeightsWithin checked → IfErr result (λ fault. fault ≡ BudgetFault.OutOfMemory) }
+    ensures complete { BudgetsWithin checked → DepthsWithin checked → HeightsWithin checked → IfErr result (λ fault. fault ≡ BudgetFault.OutOfMemory) }
 {
-    Extents::of_image(alloc, &checked)?;
-    let prices = prices_of(alloc, &checked)?;
-    Ok(Accepted { checked, prices })
+    checked.linked().facts();
+    let figures = Figures::of_image(alloc, &checked)?;
+    figures.keep(&checked)?;
+    Ok(Accepted { checked, figures })
 }

@@ -1,12 +1,14 @@
 //! What the methods may come to, found from the lowest number up: what a method may call has a lower one.
 ghost use Rattle.std.specs.Prelude.{◌≡◌, ◌+◌, ◌<◌, suc, min, max, length, replicate, IfOk, IfErr, IsSome};
 ghost use Rattle.aom_image.specs.Views.{method_at};
+ghost use Rattle.aom_shape.specs.Tables.{at};
 ghost use Rattle.aom_verify.specs.Strongest.{IsMethodStrongest};
 ghost use Rattle.aom_budget.specs.Calls.{listed, callees};
-ghost use Rattle.aom_budget.specs.Depths.{AreDepths, Frames};
+ghost use Rattle.aom_budget.specs.Budgets.{BudgetsWithin};
+ghost use Rattle.aom_budget.specs.Depths.{Frames, HasDepths};
 ghost use Rattle.aom_budget.specs.Extents.{IsMost, entered, most_at, FramesAt, EntriesAt, AreFilled};
-ghost use Rattle.aom_budget.specs.Faults.{RefusesOrWants};
-ghost use Rattle.aom_budget.specs.Heights.{AreHeights, Heights};
+ghost use Rattle.aom_budget.specs.Faults.{Refuses};
+ghost use Rattle.aom_budget.specs.Heights.{Heights, HasHeights};
 
 use crate::BudgetFault;
 use crate::callees::Callees;
@@ -160,21 +162,47 @@ impl Extents {
         }
     }
 
-    /// The extents of a checked image, if they are within their limits: the depths are looked at first.
-    pub(crate) fn of_image(alloc: Global, checked: &Checked) -> Result<Extents, BudgetFault>
-        ensures depths { IfOk result (λ e. AreDepths checked.now e.depths) }
-        ensures heights { IfOk result (λ e. AreHeights checked.now e.heights) }
-        ensures err { IfErr result (λ fault. RefusesOrWants checked.now fault) }
+    /// The extents of a checked image. One more than may be stands for all that is too many.
+    pub(crate) fn of_image(alloc: Global, checked: &Checked) -> Result<Extents, AllocError>
+        ensures { IfOk result (λ e. AreFilled checked.now (length checked.now.methods) e.depths e.heights) }
     {
         let methods = checked.linked().image().methods();
         let mut extents = Extents::new(alloc, methods.len())?;
         extents.find_all(checked);
+        Ok(extents)
+    }
+
+    /// How many frames a method may come to.
+    pub(crate) fn frames(&self, method: MethodNumber) -> u16
+        ensures { result ≡ at 0 self.now.depths method }
+    {
+        self.depths.of_method(method)
+    }
+
+    /// How many cleanup entries a method may come to.
+    pub(crate) fn entries(&self, method: MethodNumber) -> u16
+        ensures { result ≡ at 0 self.now.heights method }
+    {
+        self.heights.of_method(method)
+    }
+
+    /// Whether they are within their limits: the depths are looked at first.
+    pub(crate) fn keep(&self, checked: &Checked) -> Result<(), BudgetFault>
+        requires filled { AreFilled checked.now (length checked.now.methods) self.now.depths self.now.heights }
+        requires budgets { BudgetsWithin checked.now }
+        ensures budgets { IfOk result (λ _. BudgetsWithin checked.now) }
+        ensures depths { IfOk result (λ _. HasDepths checked.now) }
+        ensures heights { IfOk result (λ _. HasHeights checked.now) }
+        ensures err { IfErr result (λ fault. Refuses checked.now fault) }
+    {
         checked.linked().facts();
         checked.typed();
-        extents.depths.keep_to(MOST_FRAMES, BudgetFault::TooDeep)?;
-        extents
-            .heights
-            .keep_to(MOST_ENTRIES, BudgetFault::CleanupTooDeep)?;
-        Ok(extents)
+        if !self.depths.keeps_to(MOST_FRAMES) {
+            return Err(BudgetFault::TooDeep);
+        }
+        if !self.heights.keeps_to(MOST_ENTRIES) {
+            return Err(BudgetFault::CleanupTooDeep);
+        }
+        Ok(())
     }
 }

@@ -2,12 +2,45 @@
 ghost use Rattle.std.specs.Prelude.{◌≡◌};
 ghost use Rattle.aom_budget.specs.Faults.{number_of};
 
+use aom_image::ClassNumber;
 use std::alloc::AllocError;
+use std::fmt;
 use thiserror::Error;
 
-/// What an image may come to and must not. Faults of what it declares come with prices.
+/// Whose dispatches an image declares a budget of: main, or the objects of an active class or of a server's.
+#[derive(Clone, Copy, PartialEq, Eq, Debug)]
+pub enum Payer {
+    Main,
+    Class(ClassNumber),
+}
+
+impl fmt::Display for Payer {
+    ghost use Rattle.std.specs.Prelude.{Some};
+    ghost use Rattle.aom_budget.specs.Faults.{payer_text};
+
+    ghost output = { λ p. Some (payer_text p) };
+
+    fn fmt<W: fmt::Write>(&self, f: &mut fmt::Formatter<W>) -> fmt::Result {
+        match *self {
+            Payer::Main => write!(f, "main"),
+            Payer::Class(class) => {
+                let class = class.number();
+                write!(f, "class {class}")
+            }
+        }
+    }
+}
+
+/// What an image may come to and must not.
 #[derive(Clone, Copy, PartialEq, Eq, Debug, Error)]
 pub enum BudgetFault {
+    /// A dispatch may take more steps than the image declares of it. A price of 2^32 stands for all that is more.
+    #[error("budget 1 {payer} price {price} declared {declared}")]
+    OverBudget {
+        payer: Payer,
+        price: u64,
+        declared: u32,
+    },
     /// A method may come to more than 256 frames.
     #[error("budget 2")]
     TooDeep,
@@ -24,6 +57,7 @@ impl BudgetFault {
         ensures { result ≡ number_of self }
     {
         match self {
+            BudgetFault::OverBudget { .. } => 1,
             BudgetFault::TooDeep => 2,
             BudgetFault::CleanupTooDeep => 3,
             BudgetFault::OutOfMemory => 4,

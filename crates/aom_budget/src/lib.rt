@@ -1,15 +1,16 @@
 //! Acceptance: whether a checked image keeps within its limits.
 //!
-//! Promises: `accept` answers an `Accepted` where no method may come to more than 256 frames, or to more than 1,024
-//! cleanup entries, and an `Accepted` hands out all that is known of a linked, checked and accepted image, and what
-//! each method costs (`Accepted::price`). What the image declares is not compared with that yet. It knows nothing of
-//! the machine.
+//! Promises: `accept` answers an `Accepted` where each dispatch takes at most the steps that the image declares of it,
+//! and no method may come to more than 256 frames, or to more than 1,024 cleanup entries; an `Accepted` hands out all
+//! that is known of a linked, checked and accepted image, and what each method costs (`Accepted::price`). `Figures` are
+//! there for images that are refused here, too. It knows nothing of the machine.
 #![tactic(auto)]
 
 mod accepted;
 mod callees;
 mod extents;
 mod fault;
+mod figures;
 mod pass;
 mod prices;
 mod sums;
@@ -17,4 +18,6 @@ mod table;
 mod targets;
 
 pub use accepted::{Accepted, accept};
-pub use fault::BudgetFault;
+pub use fault::{BudgetFault, Payer};
+pub use figures::Figures;
+

@@ -286,7 +286,7 @@ impl Pass {
 }
 
 /// What the destruction of a thing costs.
-fn destruction(linked: &Linked, prices: &Sums, thing: Thing) -> u64
+pub(crate) fn destruction(linked: &Linked, prices: &Sums, thing: Thing) -> u64
     ensures is { result ≡ destruction_by linked.now prices.now thing }
     ensures low { result ≤ 4294967296 }
 {

@@ -1,10 +1,13 @@
-//! The prices of the methods.
-ghost use Rattle.std.specs.Prelude.{IfOk};
+//! The prices of the methods, and of main's dispatch.
+ghost use Rattle.std.specs.Prelude.{◌≡◌, ◌≤◌, IfOk};
+ghost use Rattle.aom_budget.specs.Figures.{main_by, root_by};
 ghost use Rattle.aom_budget.specs.Pricing.{ArePriced};
 
-use crate::pass::price_of;
-use crate::sums::Sums;
+use crate::pass::{destruction, price_of};
+use crate::sums::{Sums, kept};
 use crate::table::number_at;
+use aom_classes::Linked;
+use aom_image::{ClassNumber, Thing};
 use aom_verify::Checked;
 use std::alloc::{AllocError, Global};
 
@@ -20,4 +23,23 @@ pub(crate) fn prices_of(alloc: Global, checked: &Checked) -> Result<Sums, AllocE
         prices.set(index, price);
     }
     Ok(prices)
+}
+
+/// What the destruction of the root costs, if there is one.
+fn root_price(linked: &Linked, prices: &Sums, root: Option<ClassNumber>) -> u64
+    ensures is { result ≡ root_by linked.now prices.now root }
+    ensures low { result ≤ 4294967296 }
+{
+    match root {
+        Some(class) => destruction(linked, prices, Thing::Object(class)),
+        None => 0,
+    }
+}
+
+/// What main's dispatch costs: main, and the destruction of the root.
+pub(crate) fn main_price(linked: &Linked, prices: &Sums) -> u64
+    ensures { result ≡ main_by linked.now prices.now }
+{
+    let root = root_price(linked, prices, linked.image().header().root);
+    kept(prices.at(linked.main().number() as usize) + root)
 }

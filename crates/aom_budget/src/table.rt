@@ -1,11 +1,10 @@
 //! A number for each method.
-ghost use Rattle.std.specs.Prelude.{◌≡◌, ◌<◌, ◌++◌, nat_le, length, replicate, slice_set, IfOk, IfErr};
+ghost use Rattle.std.specs.Prelude.{◌≡◌, ◌<◌, ◌++◌, nat_le, length, replicate, slice_set, IfOk};
 ghost use Rattle.std.specs.List.{list_all};
 ghost use Rattle.aom_shape.specs.Tables.{at};
 ghost use Rattle.aom_budget.specs.Calls.{listed};
-ghost use Rattle.aom_budget.specs.Extents.{most_at, KeepsTo, Exceeds};
+ghost use Rattle.aom_budget.specs.Extents.{most_at};
 
-use crate::BudgetFault;
 use crate::callees::Callees;
 use aom_image::MethodNumber;
 use std::alloc::{AllocError, Global};
@@ -42,7 +41,7 @@ impl Table {
     }
 
     /// It is 0 for what no method is.
-    fn of_method(&self, method: MethodNumber) -> u16
+    pub(crate) fn of_method(&self, method: MethodNumber) -> u16
         ensures { result ≡ at 0 self.now method }
     {
         let index = method.number() as usize;
@@ -77,21 +76,10 @@ impl Table {
         self.numbers[method.number() as usize] = number;
     }
 
-    fn keeps_to(&self, most: u16) -> bool
+    /// Whether no number is greater.
+    pub(crate) fn keeps_to(&self, most: u16) -> bool
         ensures { result ≡ list_all (λ n. nat_le n most) self.now }
     {
         self.numbers.iter().all(|number| *number <= most)
-    }
-
-    /// That fault, if some number is greater.
-    pub(crate) fn keep_to(&self, most: u16, fault: BudgetFault) -> Result<(), BudgetFault>
-        ensures ok { IfOk result (λ _. KeepsTo most self.now) }
-        ensures err { IfErr result (λ f. (f ≡ fault) × Exceeds most self.now) }
-    {
-        if self.keeps_to(most) {
-            Ok(())
-        } else {
-            Err(fault)
-        }
     }
 }

@@ -14,3 +14,4 @@ pub mod Making
 pub mod Capped
 pub mod Capping
 pub mod Unique
+pub mod Alike

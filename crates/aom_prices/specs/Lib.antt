@@ -4,3 +4,4 @@ pub mod Sweeping
 pub mod Layers
 pub mod Laws
 pub mod Cases
+pub mod Dispatches

@@ -32,7 +32,7 @@ use Rattle.aom_sound.specs.World.{boot_state}
 use Rattle.aom_sound.specs.declared.line.Ending.{Ending}
 use Rattle.aom_sound.specs.declared.line.Ending.TheVariants.{Stopped}
 use Rattle.aom_prices.specs.Prices.{AllPaid, Prices, Stands, own, price}
-use Rattle.aom_steps.specs.Laws.{IsAffordable, main_price}
+use Rattle.aom_prices.specs.Dispatches.{IsAffordable, main_price}
 
 -- ---- the image: main makes an object and deletes it, in three rounds
 

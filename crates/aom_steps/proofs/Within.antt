@@ -38,8 +38,9 @@ use Rattle.aom_sound.specs.declared.line.Line.{Line}
 use Rattle.aom_ranks.proofs.Worths.{resumed_alike, told_alike}
 use Rattle.aom_prices.specs.Layers.{ArePricesUpTo}
 use Rattle.aom_prices.specs.Prices.{IsPriced, Prices, Stands, price}
-use Rattle.aom_steps.specs.Laws.{BootWithin, IsAffordable, KeepsBudget, MovesPay, StepsWithin, main_price, method_price}
-use Rattle.aom_steps.specs.Left.{WithinBudget, end_left, left, left_worths, objects_left, operations_left, root_price, tasks_left}
+use Rattle.aom_prices.specs.Dispatches.{IsAffordable, main_price, method_price, root_price}
+use Rattle.aom_steps.specs.Laws.{BootWithin, KeepsBudget, MovesPay, StepsWithin}
+use Rattle.aom_steps.specs.Left.{WithinBudget, end_left, left, left_worths, objects_left, operations_left, tasks_left}
 use Rattle.aom_steps.proofs.Covering.{covers}
 use Rattle.aom_steps.proofs.Paying.{begun_left, fresh_rounds, pays}
 use Rattle.aom_steps.proofs.Pushed.{leaves_entry, moved_less, without_less}

@@ -1,9 +1,8 @@
 -- The laws of steps.
-use Rattle.std.specs.Prelude.{ℕ, ◌+◌, ◌≤◌, ◌<◌, ◌≡◌, List, Option, Some, None}
+use Rattle.std.specs.Prelude.{ℕ, ◌+◌, ◌≤◌, ◌<◌, ◌≡◌, List}
 use Rattle.aom_image.specs.Image.{Image}
 use Rattle.aom_image.specs.WellFormed.{WellFormed}
 use Rattle.aom_classes.specs.Linked.{IsLinked}
-use Rattle.aom_classes.specs.Roles.{main_of}
 use Rattle.aom_shape.specs.Typing.{Typing, IsTyped}
 use Rattle.aom_sound.specs.Counting.{steps_of, taken}
 use Rattle.aom_sound.specs.Moves.{step}
@@ -11,17 +10,10 @@ use Rattle.aom_sound.specs.State.{State, Choice, Goes}
 use Rattle.aom_sound.specs.WellTyped.{WellTyped}
 use Rattle.aom_sound.specs.World.{boot_state, Reaches}
 use Rattle.aom_sound.specs.declared.line.Line.{Line}
+use Rattle.aom_prices.specs.Dispatches.{IsAffordable, main_price}
 use Rattle.aom_prices.specs.Layers.{ArePricesUpTo}
-use Rattle.aom_prices.specs.Prices.{Prices, IsPriced, price}
-use Rattle.aom_steps.specs.Left.{WithinBudget, left, root_price}
-
--- what main costs with the root's destruction, which its end may begin
-abbrev pub method_price : Image → Prices → Option ℕ → ℕ
-method_price p c None = 0
-method_price p c (Some m) = price c m + root_price c p.header.root
-
-abbrev pub main_price : Image → Prices → ℕ
-main_price p c = method_price p c (main_of p)
+use Rattle.aom_prices.specs.Prices.{Prices, IsPriced}
+use Rattle.aom_steps.specs.Left.{WithinBudget, left}
 
 -- a run begins within main's price
 abbrev pub BootWithin : Type 0
@@ -35,11 +27,6 @@ pub record MovesPay : Type 0 where
   pub within :
       (p : Image) (t : Typing) (c : Prices) → IsLinked p → IsTyped p t → IsPriced p t c → (ch : Choice) (s u : State) → WellTyped p t s → step p ch s ≡ Goes u →
       (n : ℕ) → WithinBudget p c n s → WithinBudget p c n u
-
--- a table pays for the whole of main's dispatch, and main's price is within its declaration
-pub record IsAffordable (p : Image) (t : Typing) (c : Prices) : Type 0 where
-  pub priced : IsPriced p t c
-  pub declared : main_price p c ≤ p.header.budget
 
 -- no run of the image has taken more steps than main's dispatch declares, and what is counted is what was taken
 pub record KeepsBudget (p : Image) (refused : List ℕ) : Type 0 where

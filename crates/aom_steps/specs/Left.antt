@@ -3,11 +3,11 @@ use Rattle.std.specs.Prelude.{ℕ, ◌+◌, ◌-◌, ◌*◌, ◌≤◌, cond, B
 use Rattle.aom_image.specs.Image.{Image}
 use Rattle.aom_image.specs.Views.{method_at}
 use Rattle.aom_image.specs.declared.method.Method.{Method}
-use Rattle.aom_image.specs.declared.method.Thing.TheVariants.{Object as An_object_of}
 use Rattle.aom_sound.specs.Places.{Place, Register, Entry, Field, Going, Elsewhere, Object, Cell}
 use Rattle.aom_sound.specs.State.{Dispatch, Of_main, Main_left, Of_root, Task, Item, An_object, An_operation, A_mark, State}
 use Rattle.aom_ranks.specs.Within.{loops_worth}
 use Rattle.aom_ranks.specs.Worths.{Worths, tasks_worth, waiting_worth}
+use Rattle.aom_prices.specs.Dispatches.{root_price}
 use Rattle.aom_prices.specs.Prices.{Prices, price}
 
 -- the rounds that are left of a loop, but for the one at hand, which its place pays for
@@ -23,10 +23,6 @@ abbrev pub method_left : Image → Prices → (m : ℕ) (counters : List ℕ) �
 method_left p c m counters place = c.from m place + rounds_left c m (method_at p m) counters place
 
 -- main's end may begin the root's destruction
-abbrev pub root_price : Prices → Option ℕ → ℕ
-root_price c None = 0
-root_price c (Some x) = c.destruction (An_object_of x)
-
 abbrev pub end_left : Image → Prices → Dispatch → ℕ
 end_left p c Of_main = root_price c p.header.root
 end_left p c (Main_left code) = 0

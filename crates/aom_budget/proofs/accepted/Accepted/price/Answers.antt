@@ -9,4 +9,4 @@ use Rattle.aom_budget.proofs.accepted.Accepted.price.Goals as goal
 pub returns : goal.returns
 returns c =
     let here : IsSome (method_at c.self.inside.checked c.args.method) = subst (λ (q : Image). IsSome (method_at q c.args.method)) (sym c.self.view_is) c.requires in
-    subst (λ q. IsPriceUpTo q c.args.method c.at.result) c.self.view_is (rw (c.at.ensures.is, c.number.ensures.value) (price_up_to _ _ _ c.self.invariant.2 here))
+    subst (λ q. IsPriceUpTo q c.args.method c.price.result) c.self.view_is (rw c.price.ensures (price_up_to _ _ _ c.self.invariant.3.priced here))

@@ -1,0 +1,84 @@
+-- What each dispatch costs at most, and what the image declares of it.
+use Rattle.std.specs.Prelude.{ℕ, ◌+◌, ◌≡◌, ◌≤◌, ◌<◌, max, min, Option, Some, None}
+use Rattle.aom_image.specs.Image.{Image}
+use Rattle.aom_image.specs.Views.{class_at}
+use Rattle.aom_image.specs.declared.class.ClassDecl.{ClassDecl}
+use Rattle.aom_image.specs.declared.class.ClassKind.{ClassKind}
+use Rattle.aom_image.specs.declared.class.ClassKind.TheVariants.{Plain, Active, Server, Session}
+use Rattle.aom_image.specs.declared.method.Role.{Role}
+use Rattle.aom_image.specs.declared.method.Role.TheVariants.{Run, Error, Accept, Service}
+use Rattle.aom_image.specs.declared.method.Thing.TheVariants.{Object}
+use Rattle.aom_classes.specs.Roles.{role_of}
+use Rattle.aom_shape.specs.Typing.{Typing}
+use Rattle.aom_verify.specs.Strongest.{IsStrongest}
+use Rattle.aom_prices.specs.Costs.{ArePrices, destructor_price}
+use Rattle.aom_prices.specs.Dispatches.{main_price}
+use Rattle.aom_prices.specs.Prices.{Prices}
+use Rattle.aom_budget.specs.declared.fault.Payer.{Payer}
+use Rattle.aom_budget.specs.declared.fault.Payer.TheVariants.{Main, Class}
+
+-- ---- what is declared
+
+abbrev pub kind_declares : ClassKind → Option ℕ
+kind_declares Plain = None
+kind_declares (Active provider budget) = Some budget
+kind_declares (Server sessions session budget) = Some budget
+kind_declares Session = None
+
+abbrev pub class_declares : Option ClassDecl → Option ℕ
+class_declares None = None
+class_declares (Some class) = kind_declares class.kind
+
+-- of main, or of each dispatch of an object of that class, if it is one that is dispatched
+abbrev pub declared_by : Image → Payer → Option ℕ
+declared_by p Main = Some p.header.budget
+declared_by p (Class k) = class_declares (class_at p k)
+
+-- ---- what it costs
+
+-- nothing where the class has no such method
+abbrev pub role_price : Image → Prices → ℕ → Role → ℕ
+role_price p c k role = destructor_price c (role_of p k role)
+
+-- an active object runs, and its error method follows where the run left; a server accepts, serves, or ends a session
+abbrev pub kind_price : Image → Prices → ℕ → ClassKind → ℕ
+kind_price p c k Plain = 0
+kind_price p c k (Active provider budget) = role_price p c k Run + role_price p c k Error
+kind_price p c k (Server sessions session budget) = max (role_price p c k Accept) (max (role_price p c session Service) (c.destruction (Object session)))
+kind_price p c k Session = 0
+
+abbrev pub class_price : Image → Prices → ℕ → Option ClassDecl → ℕ
+class_price p c k None = 0
+class_price p c k (Some class) = kind_price p c k class.kind
+
+abbrev pub payer_price : Image → Prices → Payer → ℕ
+payer_price p c Main = main_price p c
+payer_price p c (Class k) = class_price p c k (class_at p k)
+
+-- ---- whether that is enough
+
+-- by the prices of the strongest typing each dispatch costs at most what is declared of it
+pub record BudgetsWithin (p : Image) : Type 0 where
+  pub typing : Typing
+  pub strongest : IsStrongest p typing
+  pub prices : Prices
+  pub are : ArePrices p typing prices
+  pub within : (payer : Payer) (most : ℕ) → declared_by p payer ≡ Some most → payer_price p prices payer ≤ most
+
+-- main comes first, then the classes by number
+abbrev pub IsBefore : Payer → Payer → Type 0
+IsBefore Main Main = ⊥
+IsBefore Main (Class k) = Unit {0}
+IsBefore (Class j) Main = ⊥
+IsBefore (Class j) (Class k) = j < k
+
+-- the first whose dispatch may cost more than is declared of it, with its price, or 2^32 where that is more
+pub record IsOver (p : Image) (payer : Payer) (price most : ℕ) : Type 0 where
+  pub typing : Typing
+  pub strongest : IsStrongest p typing
+  pub prices : Prices
+  pub are : ArePrices p typing prices
+  pub declares : declared_by p payer ≡ Some most
+  pub is : price ≡ min 4294967296 (payer_price p prices payer)
+  pub over : most < payer_price p prices payer
+  pub first : (before : Payer) (enough : ℕ) → IsBefore before payer → declared_by p before ≡ Some enough → payer_price p prices before ≤ enough
