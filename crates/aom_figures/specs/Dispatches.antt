@@ -11,8 +11,8 @@ use Rattle.aom_image.specs.declared.method.Thing.TheVariants.{Object}
 use Rattle.aom_classes.specs.Roles.{role_of}
 use Rattle.aom_budget.specs.Figures.{main_by}
 use Rattle.aom_budget.specs.Pricing.{destruction_by, kept, price_by}
-use Rattle.aom_budget.specs.declared.payer.Payer.{Payer}
-use Rattle.aom_budget.specs.declared.payer.Payer.TheVariants.{Main, Class}
+use Rattle.aom_budget.specs.declared.fault.Payer.{Payer}
+use Rattle.aom_budget.specs.declared.fault.Payer.TheVariants.{Main, Class}
 
 -- nothing where the class has no such method
 abbrev pub role_by : Image → List ℕ → ℕ → Role → ℕ

@@ -6,8 +6,8 @@ use Rattle.aom_shape.specs.Tables.{at}
 use Rattle.aom_budget.specs.Budgets.{declared_by}
 use Rattle.aom_budget.specs.Faults.{payer_text}
 use Rattle.aom_budget.specs.Figures.{Figures}
-use Rattle.aom_budget.specs.declared.payer.Payer.{Payer}
-use Rattle.aom_budget.specs.declared.payer.Payer.TheVariants.{Main, Class}
+use Rattle.aom_budget.specs.declared.fault.Payer.{Payer}
+use Rattle.aom_budget.specs.declared.fault.Payer.TheVariants.{Main, Class}
 use Rattle.aom_figures.specs.Dispatches.{dispatch_by}
 
 -- what is written for each number below that one, in their order

@@ -1,7 +1,7 @@
 //! The text of an image's figures.
 ghost use Rattle.std.specs.Prelude.{◌≡◌, ◌<◌, ◌++◌, length, IfOk, OnOk};
 ghost use Rattle.aom_budget.specs.Faults.{payer_text};
-ghost use Rattle.aom_budget.specs.declared.payer.Payer.TheVariants as payers;
+ghost use Rattle.aom_budget.specs.declared.fault.Payer.TheVariants as payers;
 ghost use Rattle.aom_figures.specs.Text.{classes_text, declared_text, dispatch_line, entries_line, figures_text, frames_line, limits_text, method_line, methods_text, payer_lines};
 ghost use Rattle.aom_figures.specs.Dispatches.{kind_by};
 ghost use Rattle.aom_budget.specs.Budgets.{kind_declares};

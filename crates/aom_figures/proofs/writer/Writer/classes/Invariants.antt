@@ -1,5 +1,5 @@
 use Rattle.std.proofs.Common.{◌≡◌, ◌++◌}
-use Rattle.aom_budget.specs.declared.payer.Payer.TheVariants.{Class}
+use Rattle.aom_budget.specs.declared.fault.Payer.TheVariants.{Class}
 use Rattle.aom_figures.specs.Text.{by_number, payer_lines}
 use Rattle.aom_figures.proofs.writer.Writer.classes.Given as goal
 
