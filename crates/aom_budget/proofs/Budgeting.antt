@@ -152,11 +152,11 @@ module _ (p : Image) (prices : List ℕ) (linked : IsLinked p) (admitted : IsAdm
 -- ---- what an accepted image keeps to
 
 -- a table pays for main's dispatch within what is declared of it
-pub affordable : (p : Image) (prices : List ℕ) → IsLinked p → BudgetsWithin p → ArePriced p prices → (t : Typing) × IsTyped p t × (c : Prices) × IsAffordable p t c
+pub affordable : (p : Image) (prices : List ℕ) → IsLinked p → BudgetsWithin p → ArePriced p prices → (t : Typing) × IsStrongest p t × (c : Prices) × IsAffordable p t c
 affordable p prices linked b h =
     let main = some_main p linked in
     let is = same_main p linked h.typing b.typing h.strongest b.strongest (whole p prices h) b.prices h.told.whole.are b.are main.0 main.1 in
-    (h.typing, h.strongest.typed, whole p prices h, record { priced = h.told.whole.pays; declared = omega (arith, is, b.within Main p.header.budget refl) })
+    (h.typing, h.strongest, whole p prices h, record { priced = h.told.whole.pays; declared = omega (arith, is, b.within Main p.header.budget refl) })
 
 -- an image that keeps its budgets is over none
 none_over : (p : Image) (payer : Payer) (price most : ℕ) → IsLinked p → IsAdmitted p → BudgetsWithin p → IsOver p payer price most → ⊥

@@ -71,7 +71,7 @@ impl Accepted {
         ensures typed { (t : Typing) × IsTyped self.now t }
         ensures strongest { (t : Typing) × IsStrongest self.now t }
         ensures budgets { BudgetsWithin self.now }
-        ensures affordable { (t : Typing) × IsTyped self.now t × (c : Prices) × IsAffordable self.now t c }
+        ensures affordable { (t : Typing) × IsStrongest self.now t × (c : Prices) × IsAffordable self.now t c }
         ensures depths { HasDepths self.now }
         ensures within { DepthsWithin self.now }
         ensures heights { HasHeights self.now }

@@ -8,9 +8,9 @@ use Rattle.aom_classes.specs.Admitted.{IsAdmitted}
 use Rattle.aom_classes.specs.Linked.{IsLinked}
 use Rattle.aom_shape.specs.Typing.{Typing, IsTyped}
 use Rattle.aom_verify.specs.Strongest.{IsStrongest}
-use Rattle.aom_budget.specs.Faults.{RefusesOrWants as RefusesDepths}
+use Rattle.aom_budget.specs.Faults.{RefusesOrWants as RefusesBudget}
 use Rattle.aom_budget.specs.declared.fault.BudgetFault.{BudgetFault}
-use Rattle.aom_budget.specs.declared.fault.BudgetFault.TheVariants.{TooDeep, CleanupTooDeep}
+use Rattle.aom_budget.specs.declared.fault.BudgetFault.TheVariants.{OverBudget, TooDeep, CleanupTooDeep}
 use Rattle.aom_budget.specs.declared.fault.BudgetFault.TheVariants as budgets
 use Rattle.aom_main.specs.declared.faults.Fault.TheVariants.{Memory}
 use Rattle.aom_main.specs.Status.{of_link, of_budget}
@@ -43,8 +43,13 @@ link_refused bytes p BadLoop spelled refused = (p, spelled, refused)
 link_refused bytes p NoMain spelled refused = (p, spelled, refused)
 link_refused bytes p OutOfMemory spelled refused = tt
 
--- a checked image whose methods may come to too many frames, or to too many cleanup entries
-pub depths_refused : (bytes : List ℕ) (p q : Image) (fault : BudgetFault) → IsSpelled bytes p → IsAdmitted p → IsLinked p → q ≡ p → (t : Typing) × IsStrongest q t → RefusesDepths q fault → RefusesOrWants bytes (of_budget fault)
-depths_refused bytes p q TooDeep spelled admitted linked same typing h = (p, spelled, admitted, linked, subst (λ (r : Image). (t : Typing) × IsTyped r t) same (typing.0, typing.1.typed), subst (λ (r : Image). RefusesDepths r TooDeep) same h)
-depths_refused bytes p q CleanupTooDeep spelled admitted linked same typing h = (p, spelled, admitted, linked, subst (λ (r : Image). (t : Typing) × IsTyped r t) same (typing.0, typing.1.typed), subst (λ (r : Image). RefusesDepths r CleanupTooDeep) same h)
-depths_refused bytes p q budgets.OutOfMemory spelled admitted linked same typing h = tt
+-- a checked image that costs more than it declares, or whose methods may come to too many frames or cleanup entries
+has_typing : (p q : Image) → q ≡ p → (t : Typing) × IsStrongest q t → (t : Typing) × IsTyped p t
+has_typing p q same typing = subst (λ (r : Image). (t : Typing) × IsTyped r t) same (typing.0, typing.1.typed)
+
+pub budget_refused : (bytes : List ℕ) (p q : Image) (fault : BudgetFault) → IsSpelled bytes p → IsAdmitted p → IsLinked p → q ≡ p → (t : Typing) × IsStrongest q t → RefusesBudget q fault → RefusesOrWants bytes (of_budget fault)
+budget_refused bytes p q (OverBudget payer price declared) spelled admitted linked same typing h =
+    (p, spelled, admitted, linked, has_typing p q same typing, subst (λ (r : Image). RefusesBudget r (OverBudget payer price declared)) same h)
+budget_refused bytes p q TooDeep spelled admitted linked same typing h = (p, spelled, admitted, linked, has_typing p q same typing, subst (λ (r : Image). RefusesBudget r TooDeep) same h)
+budget_refused bytes p q CleanupTooDeep spelled admitted linked same typing h = (p, spelled, admitted, linked, has_typing p q same typing, subst (λ (r : Image). RefusesBudget r CleanupTooDeep) same h)
+budget_refused bytes p q budgets.OutOfMemory spelled admitted linked same typing h = tt

@@ -3,13 +3,17 @@ use Rattle.std.proofs.Common.{◌≡◌, ◌∙◌, List, ℕ, Ok, Err, ap, leng
 use Rattle.std.specs.Prelude.{◌⊎◌}
 use Rattle.aom_image.specs.Image.{Image}
 use Rattle.aom_classes.specs.Linked.{IsLinked}
-use Rattle.aom_shape.specs.Typing.{Typing, IsTyped}
+use Rattle.aom_shape.specs.Typing.{Typing}
+use Rattle.aom_verify.specs.Strongest.{IsStrongest}
+use Rattle.aom_prices.specs.Dispatches.{IsAffordable}
+use Rattle.aom_prices.specs.Prices.{Prices}
 use Rattle.aom_sound.specs.Laws.{LinkedIsWired}
 use Rattle.aom_sound.specs.declared.line.Ending.{Ending}
 use Rattle.aom_determined.specs.Laws.{IsDetermined, TextIsDetermined}
 use Rattle.aom_determined.proofs.Alike.{alike_counted}
 use Rattle.aom_lines.specs.Text.{transcript}
 use Rattle.aom_ranks.specs.Runs.{RunsWell, TypedRunsWell}
+use Rattle.aom_steps.specs.Laws.{StepsWithin}
 use Rattle.aom_run.specs.declared.outcome.Outcome.{Outcome}
 use Rattle.aom_run.specs.declared.outcome.Outcome.TheVariants.{Stopped, Waiting, MainLeft, WriteFault}
 use Rattle.aom_run.proofs.Faulting.{IsOfText, is_of_text}
@@ -30,11 +34,14 @@ use Rattle.aom_main.specs.Headline.RunBreaks.{machine_wants_memory, output_fails
 -- ---- a run
 
 -- what the laws of runs say of an accepted image
-pub all_run_well : (p : Image) → IsLinked p → (t : Typing) × IsTyped p t → TypedRunsWell → LinkedIsWired → TextIsDetermined → AllRunWell p
-all_run_well p linked typed law wired determined =
+pub all_run_well :
+    (p : Image) → IsLinked p → (t : Typing) × IsStrongest p t × (c : Prices) × IsAffordable p t c →
+    TypedRunsWell → StepsWithin → LinkedIsWired → TextIsDetermined → AllRunWell p
+all_run_well p linked table law steps wired determined =
     record {
-      each = λ bytes spelled refused. law.each p typed.0 refused spelled.formed linked typed.1;
-      one = λ bytes spelled refused. determined p typed.0 refused (wired p spelled.formed linked) typed.1;
+      each = λ bytes spelled refused. law.each p table.0 refused spelled.formed linked table.1.typed;
+      within = λ bytes spelled refused. steps.each p table.0 table.2 refused spelled.formed linked table.1.typed table.3;
+      one = λ bytes spelled refused. determined p table.0 refused (wired p spelled.formed linked) table.1.typed;
     }
 
 -- a run of a linked image that has a typing
@@ -47,6 +54,7 @@ runs_of bytes text p script acceptable well spelled denotes =
       script = script;
       denotes = denotes;
       well = well.each bytes spelled script.refused;
+      within = well.within bytes spelled script.refused;
       determined = well.one bytes spelled script.refused;
     }
 

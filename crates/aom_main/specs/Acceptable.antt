@@ -9,9 +9,10 @@ use Rattle.aom_classes.specs.Linked.{IsLinked}
 use Rattle.aom_classes.specs.Faults.{Refuses as RefusesLink}
 use Rattle.aom_shape.specs.Typing.{Typing, IsTyped}
 use Rattle.aom_verify.specs.Refusals.{Refuses as RefusesTyping}
+use Rattle.aom_budget.specs.Budgets.{BudgetsWithin}
 use Rattle.aom_budget.specs.Depths.{DepthsWithin}
 use Rattle.aom_budget.specs.Heights.{HeightsWithin}
-use Rattle.aom_budget.specs.Faults.{Refuses as RefusesDepths}
+use Rattle.aom_budget.specs.Faults.{Refuses as RefusesBudget}
 use Rattle.aom_main.specs.declared.faults.Fault.{Fault}
 use Rattle.aom_main.specs.declared.faults.Fault.TheVariants.{Load, Link, Verify, Budget, Memory}
 
@@ -20,12 +21,13 @@ pub record IsSpelled (bytes : List ℕ) (p : Image) : Type 0 where
   pub formed : WellFormed p
   pub spelling : bytes ≡ spell p
 
--- the image is admitted, keeps the link conditions, has a typing, and comes to no more than 256 frames and 1,024 cleanup entries by it
+-- the image is admitted, keeps the link conditions, has a typing, declares of each dispatch at least its price, and comes to no more than 256 frames and 1,024 cleanup entries
 pub record IsAcceptable (p : Image) : Type 0 where
   pub admitted : IsAdmitted p
   pub linked : IsLinked p
   pub typing : Typing
   pub typed : IsTyped p typing
+  pub budgets : BudgetsWithin p
   pub depths : DepthsWithin p
   pub heights : HeightsWithin p
 
@@ -34,7 +36,7 @@ abbrev pub Refuses : List ℕ → Fault → Type 0
 Refuses bytes (Load fault) = first_fault bytes ≡ Some fault
 Refuses bytes (Link fault) = (p : Image) × IsSpelled bytes p × RefusesLink p fault
 Refuses bytes (Verify refusal) = (p : Image) × IsSpelled bytes p × IsAdmitted p × IsLinked p × RefusesTyping p refusal
-Refuses bytes (Budget fault) = (p : Image) × IsSpelled bytes p × IsAdmitted p × IsLinked p × ((t : Typing) × IsTyped p t) × RefusesDepths p fault
+Refuses bytes (Budget fault) = (p : Image) × IsSpelled bytes p × IsAdmitted p × IsLinked p × ((t : Typing) × IsTyped p t) × RefusesBudget p fault
 Refuses bytes _ = ⊥
 
 -- what a fault on that way says of the bytes: why they are none, or nothing, where memory was wanting

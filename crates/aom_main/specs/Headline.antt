@@ -9,6 +9,7 @@ use Rattle.aom_sound.specs.declared.line.Ending.TheVariants as endings
 use Rattle.aom_determined.specs.Laws.{IsDetermined}
 use Rattle.aom_lines.specs.Text.{ended, transcript}
 use Rattle.aom_ranks.specs.Runs.{RunsWell}
+use Rattle.aom_steps.specs.Laws.{KeepsBudget}
 use Rattle.aom_run.specs.declared.outcome.Outcome.{Outcome}
 use Rattle.aom_run.specs.declared.outcome.Outcome.TheVariants as outcomes
 use Rattle.aom_run.specs.Runs.{after, CutShort}
@@ -87,12 +88,13 @@ pub record Accepts (bytes : List ℕ) : Type 0 where
   pub spelled : IsSpelled bytes image
   pub acceptable : IsAcceptable image
 
--- every run of an image goes well, whatever is refused, and has one text
+-- every run of an image goes well within its declared steps, whatever is refused, and has one text
 pub record AllRunWell (p : Image) : Type 0 where
   pub each : (bytes : List ℕ) → IsSpelled bytes p → (refused : List ℕ) → RunsWell p refused
+  pub within : (bytes : List ℕ) → IsSpelled bytes p → (refused : List ℕ) → KeepsBudget p refused
   pub one : (bytes : List ℕ) → IsSpelled bytes p → (refused : List ℕ) → IsDetermined p refused
 
--- they are, and the text is a script; each run of that image under that script's refusals goes well, and none writes anything else than another
+-- they are, and the text is a script; each run of that image under that script's refusals goes well within its declared steps, and none writes anything else than another
 pub record Runs (bytes text : List ℕ) : Type 0 where
   pub image : Image
   pub spelled : IsSpelled bytes image
@@ -100,6 +102,7 @@ pub record Runs (bytes text : List ℕ) : Type 0 where
   pub script : Script
   pub denotes : denoted text ≡ Ok script
   pub well : RunsWell image script.refused
+  pub within : KeepsBudget image script.refused
   pub determined : IsDetermined image script.refused
 
 -- the bytes are no accepted image, and the errors say why

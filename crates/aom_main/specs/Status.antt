@@ -10,7 +10,7 @@ use Rattle.aom_classes.specs.declared.fault.LinkFault.TheVariants as links
 use Rattle.aom_verify.specs.Refusals.{line_of}
 use Rattle.aom_verify.specs.declared.refusal.Refusal.{Refusal}
 use Rattle.aom_verify.specs.declared.refusal.Refusal.TheVariants as refusals
-use Rattle.aom_budget.specs.Faults.{number_of as budget_number}
+use Rattle.aom_budget.specs.Faults.{line_of as budget_line}
 use Rattle.aom_budget.specs.declared.fault.BudgetFault.{BudgetFault}
 use Rattle.aom_budget.specs.declared.fault.BudgetFault.TheVariants as budgets
 use Rattle.aom_run.specs.Faults.{fault_text}
@@ -41,7 +41,7 @@ fault_line (Load fault) = codes "load " ++ decimal (fault_number fault)
 fault_line (Asm fault) = asm_line fault
 fault_line (Link fault) = codes "link " ++ decimal (number_of fault)
 fault_line (Verify refusal) = line_of refusal
-fault_line (Budget fault) = codes "budget " ++ decimal (budget_number fault)
+fault_line (Budget fault) = budget_line fault
 fault_line (Script fault) = fault_text fault
 fault_line Native = codes "native"
 fault_line File = codes "file"

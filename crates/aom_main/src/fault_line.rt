@@ -2,9 +2,11 @@
 ghost use Rattle.std.specs.Prelude.{◌≡◌, ◌+◌, ◌≤◌, [], ◌++◌, length, decimal, codes};
 ghost use Rattle.aom_lines.specs.Text.{ended};
 ghost use Rattle.aom_verify.specs.Refusals.{line_of};
+ghost use Rattle.aom_budget.specs.Faults.{line_of as budget_line, payer_text};
 ghost use Rattle.aom_main.specs.Status.{fault_line};
 
 use crate::Fault;
+use aom_budget::{BudgetFault, Payer};
 use aom_verify::Refusal;
 use arrayvec::ArrayVec;
 use itoa::Buffer;
@@ -48,7 +50,7 @@ impl FaultLine {
     fn add_fault(&mut self, fault: &Fault)
         requires { self.old ≡ [] }
         ensures text { self.new ≡ fault_line fault.now }
-        ensures short { length self.new ≤ 80 }
+        ensures short { length self.new ≤ 92 }
     {
         match fault {
             Fault::Load(fault) => self.add_one(b"load ", u64::from(fault.number())),
@@ -61,7 +63,7 @@ impl FaultLine {
             }
             Fault::Link(fault) => self.add_one(b"link ", u64::from(fault.number())),
             Fault::Verify(refusal) => self.add_refusal(refusal),
-            Fault::Budget(fault) => self.add_one(b"budget ", u64::from(fault.number())),
+            Fault::Budget(fault) => self.add_budget(fault),
             Fault::Script(fault) => {
                 self.add_two(
                     b"script ",
@@ -87,6 +89,45 @@ impl FaultLine {
                 self.add_two(b"verify ", u64::from(method.number()), place as u64);
                 self.add(b" ");
                 self.add_number(u64::from(why.number()));
+            }
+        }
+    }
+
+    fn add_budget(&mut self, fault: &BudgetFault)
+        requires { self.old ≡ [] }
+        ensures text { self.new ≡ budget_line fault.now }
+        ensures short { length self.new ≤ 92 }
+    {
+        match *fault {
+            BudgetFault::OverBudget {
+                payer,
+                price,
+                declared,
+            } => {
+                self.add_payer(payer);
+                self.add(b" price ");
+                self.add_number(price);
+                self.add(b" declared ");
+                self.add_number(u64::from(declared));
+            }
+            BudgetFault::TooDeep => self.add(b"budget 2"),
+            BudgetFault::CleanupTooDeep => self.add(b"budget 3"),
+            BudgetFault::OutOfMemory => self.add(b"budget 4"),
+        }
+    }
+
+    /// Adds whose budget it is.
+    fn add_payer(&mut self, payer: Payer)
+        requires { self.old ≡ [] }
+        ensures text { self.new ≡ codes "budget 1 " ++ payer_text payer }
+        ensures short { length self.new ≤ 35 }
+    {
+        self.add(b"budget 1 ");
+        match payer {
+            Payer::Main => self.add(b"main"),
+            Payer::Class(class) => {
+                self.add(b"class ");
+                self.add_number(u64::from(class.number()));
             }
         }
     }

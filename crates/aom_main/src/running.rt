@@ -27,7 +27,7 @@ pub fn run_accepted<W: Sink>(
     Ok(run(&mut machine, script, &mut turn, limit, out))
 }
 
-/// Every run of an accepted image goes well, whatever is refused, and has one text.
+/// Every run of an accepted image goes well within its declared steps, whatever is refused, and has one text.
 #[tactic(auto, using(crate::proofs::Telling::all_run_well))]
 pub fn runs_well(accepted: &Accepted)
     ensures { AllRunWell accepted.now }
@@ -35,5 +35,6 @@ pub fn runs_well(accepted: &Accepted)
     accepted.facts();
     aom_sound::linked_is_wired();
     aom_ranks::typed_runs_well();
+    aom_steps::steps_within();
     aom_determined::text_is_determined();
 }

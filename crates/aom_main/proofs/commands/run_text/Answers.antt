@@ -11,7 +11,7 @@ returns-in-Ok g c = λ bytes spelled. c.run_script.ensures bytes c.args.text.now
 pub returns-in-Err : goal.returns-in-Err
 returns-in-Err g c =
     let facts = c.facts.ensures in
-    let acceptable : IsAcceptable c.args.accepted.now = record { admitted = facts.admitted; linked = facts.linked; typing = facts.typed.0; typed = facts.typed.1; depths = facts.within; heights = facts.high } in
+    let acceptable : IsAcceptable c.args.accepted.now = record { admitted = facts.admitted; linked = facts.linked; typing = facts.typed.0; typed = facts.typed.1; budgets = facts.budgets; depths = facts.within; heights = facts.high } in
     λ bytes spelled.
     let accepts : Accepts bytes = record { image = c.args.accepted.now; spelled = spelled; acceptable = acceptable } in
     unscripted bytes c.args.text.now c.in-Err.fault c.from.result _ _ c.tell.result accepts c.in-Err.ensures.err refl c.from.ensures c.tell.ensures
