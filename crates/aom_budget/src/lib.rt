@@ -20,4 +20,3 @@ mod targets;
 pub use accepted::{Accepted, accept};
 pub use fault::{BudgetFault, Payer};
 pub use figures::Figures;
-

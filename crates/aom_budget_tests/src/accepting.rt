@@ -28,10 +28,10 @@ fn answer_of(alloc: Global, bytes: &[u8]) -> Answer {
     let Ok(checked) = check(alloc, linked) else {
         return Answer::NotChecked;
     };
-    match accept(alloc, checked) {
-        Ok(_) => Answer::Accepted,
-        Err(fault) => Answer::Refused(fault.number()),
-    }
+    let Err(fault) = accept(alloc, checked) else {
+        return Answer::Accepted;
+    };
+    Answer::Refused(fault.number())
 }
 
 /// The head of a static method of that role, with so many instructions.
@@ -49,14 +49,15 @@ fn call(number: u16) -> [u8; 8] {
 
 const RETURN: [u8; 8] = [0x22, 0, 0, 0, 0, 0, 0, 0];
 
-/// An image of so many methods, each of which calls the one before it, and the last is main.
-fn chain(alloc: Global, methods: u16) -> Result<Vec<u8>, AllocError>
+/// An image of so many methods, each of which calls the one before it, and the last is main, which declares that budget.
+fn chain(alloc: Global, methods: u16, budget: u16) -> Result<Vec<u8>, AllocError>
     requires { methods ≤ 1024 }
 {
     let mut bytes = Vec::new(alloc);
     let [high, low] = methods.to_be_bytes();
     bytes.extend_from_slice(&[0x41, 0x4f, 0x49, 0x4d, 0, 1, 0, 0, high, low])?;
-    bytes.extend_from_slice(&[0, 0, 0, 0, 0, 0, 0xff, 0xff, 0, 0, 0, 0, 4, 0])?;
+    let [more, less] = budget.to_be_bytes();
+    bytes.extend_from_slice(&[0, 0, 0, 0, 0, 0, 0xff, 0xff, 0, 0, 0, 0, more, less])?;
     bytes.extend_from_slice(&head(0, 1))?;
     bytes.extend_from_slice(&RETURN)?;
     for number in 1..methods {
@@ -69,10 +70,10 @@ fn chain(alloc: Global, methods: u16) -> Result<Vec<u8>, AllocError>
 }
 
 /// What becomes of that chain; want of memory on the way is told as such.
-fn chain_answer(alloc: Global, methods: u16) -> Answer
+fn chain_answer(alloc: Global, methods: u16, budget: u16) -> Answer
     requires { methods ≤ 1024 }
 {
-    match chain(alloc, methods) {
+    match chain(alloc, methods, budget) {
         Ok(bytes) => answer_of(alloc, bytes.as_slice()),
         Err(_) => Answer::NoMemory,
     }
@@ -95,7 +96,7 @@ fn chain_price(alloc: Global, methods: u16) -> Option<u64>
     requires some { 0 < methods }
     requires few { methods ≤ 1024 }
 {
-    match chain(alloc, methods) {
+    match chain(alloc, methods, 1024) {
         Ok(bytes) => price_of(alloc, bytes.as_slice(), methods - 1),
         Err(_) => None,
     }
@@ -220,9 +221,18 @@ fn as_many_entries_as_have_room(rt: HostRuntime) {
 /// With memory enough: a frame for each method, and no more than there are.
 #[test]
 fn as_many_calls_as_frames(rt: HostRuntime) {
-    assert!(rt; chain_answer(rt.alloc(), 2) == Answer::Accepted);
-    assert!(rt; chain_answer(rt.alloc(), 256) == Answer::Accepted);
-    assert!(rt; chain_answer(rt.alloc(), 257) == Answer::Refused(2));
+    assert!(rt; chain_answer(rt.alloc(), 2, 1024) == Answer::Accepted);
+    assert!(rt; chain_answer(rt.alloc(), 256, 1024) == Answer::Accepted);
+    assert!(rt; chain_answer(rt.alloc(), 257, 1024) == Answer::Refused(2));
+}
+
+/// With memory enough: main declares its price, and no step less. That is looked at before the frames are.
+#[test]
+fn main_declares_its_price(rt: HostRuntime) {
+    assert!(rt; chain_answer(rt.alloc(), 2, 3) == Answer::Accepted);
+    assert!(rt; chain_answer(rt.alloc(), 2, 2) == Answer::Refused(1));
+    assert!(rt; chain_answer(rt.alloc(), 257, 512) == Answer::Refused(1));
+    assert!(rt; chain_answer(rt.alloc(), 257, 513) == Answer::Refused(2));
 }
 
 /// With memory enough: a call costs 1 and its method's price.
