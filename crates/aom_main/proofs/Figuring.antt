@@ -20,7 +20,7 @@ use Rattle.aom_main.specs.declared.faults.Fault.TheVariants as faults
 use Rattle.aom_main.specs.Status.{of_link, of_load, status_of}
 use Rattle.aom_main.specs.Acceptable.{IsSpelled, IsAcceptable, Refuses, RefusesOrWants}
 use Rattle.aom_main.specs.Headline.{Sent, IsSilent, Says, Told}
-use Rattle.aom_main.specs.Prices.{IsBeyond, IsEarly, IsWithin, IsWritten, Prices, PricesAnswers, Shown}
+use Rattle.aom_main.specs.Prices.{IsBeyond, IsEarly, IsFigured, IsWithin, IsWritten, PricesAnswers, Shown}
 use Rattle.aom_main.specs.Prices.PricesBreaks.{accepted_fails, refused_fails}
 
 -- ---- faults before budgets
@@ -96,16 +96,16 @@ unpriced bytes faults.Write out errors status refuses early complete silent told
 -- ---- a checked image
 
 -- it keeps within its budgets and its limits
-pub within : (bytes text : List ℕ) → (r : Prices bytes text) → BudgetsWithin r.image → HasDepths r.image → HasHeights r.image → IsWithin bytes text
+pub within : (bytes text : List ℕ) → (r : IsFigured bytes text) → BudgetsWithin r.image → HasDepths r.image → HasHeights r.image → IsWithin bytes text
 within bytes text r budgets depths heights = record {
-  prices = r;
+  figured = r;
   acceptable = record { admitted = r.admitted; linked = r.linked; typing = r.typing; typed = r.typed; budgets = budgets; depths = all_within r.image depths; heights = all_high r.image heights };
 }
 
 -- or it does not: the bytes are no other image, so they are none that is accepted
-pub beyond : (bytes text : List ℕ) (r : Prices bytes text) (fault : BudgetFault) → ((p : Image) → IsSpelled bytes p → r.image ≡ p) → RefusesBudget r.image fault → IsBeyond bytes text fault
+pub beyond : (bytes text : List ℕ) (r : IsFigured bytes text) (fault : BudgetFault) → ((p : Image) → IsSpelled bytes p → r.image ≡ p) → RefusesBudget r.image fault → IsBeyond bytes text fault
 beyond bytes text r fault only refuses = record {
-  prices = r;
+  figured = r;
   refuses = refuses;
   none = λ p spelled acceptable.
       let a : IsAcceptable r.image = subst IsAcceptable (sym (only p spelled)) acceptable in

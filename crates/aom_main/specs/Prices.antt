@@ -17,7 +17,7 @@ use Rattle.aom_main.specs.Acceptable.{IsSpelled, IsAcceptable}
 use Rattle.aom_main.specs.Headline.{Sent, IsSilent, Says, Tells, ImageWantsMemory, IsRefused, accepted_text}
 
 -- the bytes are an image of which its budgets and its limits alone are left to look at, and the text tells its figures
-pub record Prices (bytes text : List ℕ) : Type 0 where
+pub record IsFigured (bytes text : List ℕ) : Type 0 where
   pub image : Image
   pub spelled : IsSpelled bytes image
   pub admitted : IsAdmitted image
@@ -30,13 +30,13 @@ pub record Prices (bytes text : List ℕ) : Type 0 where
 
 -- and it is an accepted one
 pub record IsWithin (bytes text : List ℕ) : Type 0 where
-  pub prices : Prices bytes text
-  pub acceptable : IsAcceptable prices.image
+  pub figured : IsFigured bytes text
+  pub acceptable : IsAcceptable figured.image
 
 -- or it is refused for its budgets or its limits
 pub record IsBeyond (bytes text : List ℕ) (fault : BudgetFault) : Type 0 where
-  pub prices : Prices bytes text
-  pub refuses : Refuses prices.image fault
+  pub figured : IsFigured bytes text
+  pub refuses : Refuses figured.image fault
   pub none : (p : Image) → IsSpelled bytes p → IsAcceptable p → ⊥
 
 -- what is written of it, by why it is refused, if it is

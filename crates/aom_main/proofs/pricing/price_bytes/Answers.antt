@@ -3,7 +3,7 @@ use Rattle.std.proofs.Common.{◌≡◌, ◌∙◌, ◌++◌, ap}
 use Rattle.aom_image.specs.Image.{Image}
 use Rattle.aom_figures.specs.Text.{figures_text}
 use Rattle.aom_main.specs.Headline.{accepted_text}
-use Rattle.aom_main.specs.Prices.{Prices}
+use Rattle.aom_main.specs.Prices.{IsFigured}
 use Rattle.aom_main.proofs.Figuring.{beyond, within}
 use Rattle.aom_main.proofs.pricing.price_bytes.Goals as goal
 
@@ -11,7 +11,7 @@ pub returns-in-Ok-clause-ok : goal.returns-in-Ok-clause-ok
 returns-in-Ok-clause-ok c =
     let checked = c.in_ok-checked.ensures.ok in
     let told : c.in_ok-text.text.items ≡ figures_text c.in_ok-checked.checked c.in_ok-figures.figures = c.in_ok-text.ensures ∙ ap (λ (p : Image). figures_text p c.in_ok-figures.figures) c.linked.ensures in
-    let prices : Prices c.args.bytes.now c.in_ok-text.text.items = record {
+    let figured : IsFigured c.args.bytes.now c.in_ok-text.text.items = record {
       image = c.in_ok-checked.checked;
       spelled = checked.0;
       admitted = checked.1;
@@ -22,13 +22,13 @@ returns-in-Ok-clause-ok c =
       are = c.in_ok-figures.ensures;
       told = told;
     } in
-    (_, within _ _ prices c.in-Ok.ensures.budgets c.in-Ok.ensures.depths c.in-Ok.ensures.heights, c.in_ok-with_accepted-in-Ok.ensures ∙ ap (λ t. accepted_text ++ t) c.deref.ensures.value)
+    (_, within _ _ figured c.in-Ok.ensures.budgets c.in-Ok.ensures.depths c.in-Ok.ensures.heights, c.in_ok-with_accepted-in-Ok.ensures ∙ ap (λ t. accepted_text ++ t) c.deref.ensures.value)
 
 pub returns-clause-ok : goal.returns-clause-ok
 returns-clause-ok c =
     let checked = c.in_ok-checked.ensures.ok in
     let told : c.in_ok-text.text.items ≡ figures_text c.in_ok-checked.checked c.in_ok-figures.figures = c.in_ok-text.ensures ∙ ap (λ (p : Image). figures_text p c.in_ok-figures.figures) c.linked.ensures in
-    let prices : Prices c.args.bytes.now c.in_ok-text.text.items = record {
+    let figured : IsFigured c.args.bytes.now c.in_ok-text.text.items = record {
       image = c.in_ok-checked.checked;
       spelled = checked.0;
       admitted = checked.1;
@@ -39,4 +39,4 @@ returns-clause-ok c =
       are = c.in_ok-figures.ensures;
       told = told;
     } in
-    beyond _ _ prices _ c.in_ok-checked.ensures.only c.in-Err.ensures.err
+    beyond _ _ figured _ c.in_ok-checked.ensures.only c.in-Err.ensures.err
