@@ -1,5 +1,5 @@
 -- A fault before budgets is none of theirs, and what was sent of an image's figures is what the status answers.
-use Rattle.std.proofs.Common.{◌≡◌, ◌∙◌, ◌++◌, ℕ, List, Option, Some, None, ap, refl, sym, subst, inl, inr}
+use Rattle.std.proofs.Common.{◌≡◌, ◌∙◌, ℕ, List, Option, Some, None, ap, refl, sym, subst, inl, inr}
 use Rattle.aom_codec.specs.declared.fault.LoadFault.{LoadFault}
 use Rattle.aom_codec.specs.declared.fault.LoadFault.TheVariants as loads
 use Rattle.aom_classes.specs.declared.fault.LinkFault.{LinkFault}
