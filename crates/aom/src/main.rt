@@ -12,7 +12,9 @@ mod output;
 use crate::files::read_file;
 use crate::output::Output;
 use aom_command_line::{Words, WordsFault, read_words};
-use aom_main::{ExitStatus, Fault, asm_bytes, check_bytes, dis_bytes, run_bytes, tell};
+use aom_main::{
+    ExitStatus, Fault, asm_bytes, check_bytes, dis_bytes, prices_bytes, run_bytes, tell,
+};
 use aom_run::{Sink, write_text};
 use std::env;
 use std::io::{self, BufWriter, Write};
@@ -95,8 +97,11 @@ fn obey<W: Sink, E: Sink>(
 {
     let alloc = rt.alloc();
     match words {
-        Words::Check { image } => {
+        Words::Check { image, prices } => {
             let image = read_file(rt, image)?;
+            if *prices {
+                return Ok(prices_bytes(alloc, &image, out, errors));
+            }
             Ok(check_bytes(alloc, &image, out, errors))
         }
         Words::Run {

@@ -1,11 +1,11 @@
 -- The form of a command line as `clap` reads it, and what is asked by one.
-use Rattle.std.specs.Prelude.{ℕ, ◌≡◌, ◌≢◌, ◌≤◌, ◌⊎◌, String, Bool, true, List, [], ◌∷◌, map, Option, Some, None, codes, unwrap_or, IsSome, pos}
+use Rattle.std.specs.Prelude.{ℕ, ◌≡◌, ◌≢◌, ◌≤◌, ◌⊎◌, String, Bool, true, false, List, [], ◌∷◌, map, Option, Some, None, codes, unwrap_or, IsSome, pos}
 use Rattle.std.specs.String.{string_bytes}
 use Rattle.std.specs.Fmt.{decimal}
 use Rattle.std.specs.Str.Parse.{IsNumeral, digits_value, without_leading_plus}
 use Rattle.clap.specs.Lexer.{usize_max}
 use Rattle.clap.specs.Words.{App, Row, Rule, Text, first_of, one_of, all_of, new_app, new_rule, with_rule, with_subcommand}
-use Rattle.clap.specs.declared.builder.action.ArgAction.TheVariants.{Append}
+use Rattle.clap.specs.declared.builder.action.ArgAction.TheVariants.{Append, SetTrue}
 use Rattle.clap.specs.declared.builder.value_parser.ValueParser.TheVariants.{Signed}
 use Rattle.clap.specs.declared.error.kind.ErrorKind.{ErrorKind}
 use Rattle.clap.specs.declared.error.kind.ErrorKind.TheVariants.{OutOfMemory}
@@ -28,6 +28,14 @@ limit_rule =
       defaults = codes "1000000" ∷ [];
     }
 
+-- `--prices`, which stands alone
+abbrev pub prices_rule : Rule
+prices_rule =
+    record (new_rule (codes "prices")) {
+      long = Some (codes "prices");
+      action = Some SetTrue;
+    }
+
 -- any number of words at the end
 abbrev pub native_rule : Rule
 native_rule =
@@ -36,9 +44,9 @@ native_rule =
       range = Some (record { start_inclusive = 0; end_inclusive = usize_max });
     }
 
--- check IMAGE
+-- check [--prices] IMAGE
 abbrev pub check_form : App
-check_form = with_rule (new_app (codes "check")) (file_rule (codes "IMAGE"))
+check_form = with_rule (with_rule (new_app (codes "check")) prices_rule) (file_rule (codes "IMAGE"))
 
 -- asm TEXT
 abbrev pub asm_form : App
@@ -74,10 +82,17 @@ pub record IsLimit (text : Option Text) (limit : ℕ) : Type 0 where
   pub is : (n : ℕ) → 1 ≤ n → n ≤ 1000000000 → text ≡ Some (decimal n) → limit ≡ n
   pub digits : (n : ℕ) (word : Text) → 1 ≤ n → n ≤ 1000000000 → text ≡ Some word → IsNumeral 10 (without_leading_plus word) → n ≡ digits_value 10 (without_leading_plus word) → limit ≡ n
 
+-- a flag is set just where the text found for it is `true`; where it is left out, that text is `false`
+pub record IsFlag (text : Option Text) (flag : Bool) : Type 0 where
+  pub none : text ≡ None → flag ≡ false
+  pub used : text ≡ Some (codes "true") → flag ≡ true
+  pub unused : text ≡ Some (codes "false") → flag ≡ false
+
 -- a command and the words found for it ask this; no native is known yet
 abbrev pub Asks : Option (Text × List Row) → Words → Type 0
 Asks None words = ⊥
-Asks (Some met) (Check image) = (met.0 ≡ codes "check") × (string_bytes image ≡ word_of (codes "IMAGE") met.1)
+Asks (Some met) (Check image prices) =
+    (met.0 ≡ codes "check") × (string_bytes image ≡ word_of (codes "IMAGE") met.1) × IsFlag (one_of (codes "prices") met.1) prices
 Asks (Some met) (Run image script limit) =
     (met.0 ≡ codes "run") × (string_bytes image ≡ word_of (codes "IMAGE") met.1) × (string_bytes script ≡ word_of (codes "SCRIPT") met.1)
     × IsLimit (one_of (codes "limit") met.1) limit × (all_of (codes "NATIVE") met.1 ≡ None)
@@ -108,7 +123,7 @@ Says kind faults.Memory = Unit {0}
 
 -- what is known of the limit of a run
 abbrev pub KeepsLimit : Words → Type 0
-KeepsLimit (Check image) = Unit {0}
+KeepsLimit (Check image prices) = Unit {0}
 KeepsLimit (Run image script limit) = (1 ≤ limit) × (limit ≤ 1000000000)
 KeepsLimit (Asm text) = Unit {0}
 KeepsLimit (Dis image) = Unit {0}

@@ -3,7 +3,7 @@ ghost use Rattle.std.specs.Prelude.{◌≡◌, ◌≤◌, IfOk, IfErr, Some, fal
 ghost use Rattle.std.specs.String.{string_bytes};
 ghost use Rattle.clap.specs.declared.builder.command.Command.TheViews.{out-Command as fields_of};
 ghost use Rattle.clap.specs.Words.{app_of, found_of, kind_of, one_of, rows_of, rule_of, subcommand_of, subcommand_rows_of, takes};
-ghost use Rattle.aom_command_line.specs.CommandLine.{asm_form, check_form, dis_form, run_form, form, file_rule, limit_rule, native_rule, texts_of, word_of, Asks, Declines, IsLimit, KeepsLimit, Says};
+ghost use Rattle.aom_command_line.specs.CommandLine.{asm_form, check_form, dis_form, run_form, form, file_rule, limit_rule, native_rule, prices_rule, texts_of, word_of, Asks, Declines, IsFlag, IsLimit, KeepsLimit, Says};
 
 use clap::error::ErrorKind;
 use clap::{Arg, ArgAction, ArgMatches, Command, Error, value_parser};
@@ -14,6 +14,8 @@ use std::alloc::{AllocError, Global};
 pub enum Words {
     Check {
         image: String,
+        /// Whether what the methods come to and cost is asked for.
+        prices: bool,
     },
     Run {
         image: String,
@@ -82,6 +84,7 @@ fn check_command<'a>(alloc: Global) -> Result<Command<'a>, AllocError>
 {
     Command::new(alloc, "check")
         .about("Tells whether an image is accepted")
+        .arg(prices_arg(alloc))?
         .arg(file_arg(alloc, "IMAGE", "The file of an image"))
 }
 
@@ -145,6 +148,16 @@ fn limit_arg<'a>(alloc: Global) -> Arg<'a>
         .default_value("1000000")
 }
 
+fn prices_arg<'a>(alloc: Global) -> Arg<'a>
+    ensures rule { rule_of result ≡ prices_rule }
+    ensures own { result.global ≡ false }
+{
+    Arg::new(alloc, "prices")
+        .long("prices")
+        .help("Tells too what the methods come to and cost, accepted or not")
+        .action(ArgAction::SetTrue)
+}
+
 /// What `clap` has to say of the words, unless it had no memory for that.
 fn refusal_of(alloc: Global, error: &Error) -> WordsFault
     ensures { Says (kind_of error.now) result }
@@ -177,6 +190,7 @@ fn command_words(alloc: Global, command: &str, own: &ArgMatches) -> Result<Words
     match command {
         "check" => Ok(Words::Check {
             image: word_of(alloc, own, "IMAGE")?,
+            prices: asks_prices(own),
         }),
         "run" => run_words(alloc, own),
         "asm" => Ok(Words::Asm {
@@ -204,6 +218,12 @@ fn run_words(alloc: Global, own: &ArgMatches) -> Result<Words, WordsFault>
         script,
         limit: limit_of(own),
     })
+}
+
+fn asks_prices(own: &ArgMatches) -> bool
+    ensures { IsFlag (one_of (codes "prices") (rows_of (found_of own.now))) result }
+{
+    own.get_flag("prices")
 }
 
 /// The limit. `clap` has found it to be in its range, so bringing it there changes nothing.

@@ -6,6 +6,7 @@ use std::test::Fail;
 #[derive(Clone, Copy, PartialEq, Eq, Debug)]
 enum Asked {
     Check,
+    Prices,
     Run(u32),
     Asm,
     Dis,
@@ -20,7 +21,9 @@ fn ask(alloc: Global, line: &str) -> Result<Asked, Fail> {
         words.push(String::from_str(alloc, word)?)?;
     }
     Ok(match &read_words(alloc, words) {
-        Ok(Words::Check { image }) if image.as_str() == "one.image" => Asked::Check,
+        Ok(Words::Check { image, prices }) if image.as_str() == "one.image" => {
+            if *prices { Asked::Prices } else { Asked::Check }
+        }
         Ok(
             Words::Run {
                 image,
@@ -44,6 +47,13 @@ fn ask(alloc: Global, line: &str) -> Result<Asked, Fail> {
 fn the_command_line_is_read(rt: HostRuntime) -> Result<(), Fail> {
     for (line, expected) in [
         ("aom check one.image", Asked::Check),
+        ("aom check --prices one.image", Asked::Prices),
+        ("aom check one.image --prices", Asked::Prices),
+        ("aom check --prices", Asked::Text),
+        ("aom check --prices=3 one.image", Asked::Text),
+        ("aom check --prices --prices one.image", Asked::Text),
+        ("aom check --limit 7 one.image", Asked::Text),
+        ("aom run --prices one.image one.script", Asked::Text),
         ("aom run one.image one.script", Asked::Run(1_000_000)),
         ("aom asm one.text", Asked::Asm),
         ("aom dis one.image", Asked::Dis),

@@ -1,5 +1,5 @@
 -- What is known of an outcome, of a script and of the image is what the status answers.
-use Rattle.std.proofs.Common.{◌≡◌, ◌∙◌, List, ℕ, Ok, Err, ap, length, refl, sym, subst, inl, inr}
+use Rattle.std.proofs.Common.{◌≡◌, ◌∙◌, List, ℕ, Ok, ap, length, refl, sym, subst, inl, inr}
 use Rattle.std.specs.Prelude.{◌⊎◌}
 use Rattle.aom_image.specs.Image.{Image}
 use Rattle.aom_classes.specs.Linked.{IsLinked}
@@ -9,10 +9,10 @@ use Rattle.aom_prices.specs.Dispatches.{IsAffordable}
 use Rattle.aom_prices.specs.Prices.{Prices}
 use Rattle.aom_sound.specs.Laws.{LinkedIsWired}
 use Rattle.aom_sound.specs.declared.line.Ending.{Ending}
-use Rattle.aom_determined.specs.Laws.{IsDetermined, TextIsDetermined}
+use Rattle.aom_determined.specs.Laws.{TextIsDetermined}
 use Rattle.aom_determined.proofs.Alike.{alike_counted}
 use Rattle.aom_lines.specs.Text.{transcript}
-use Rattle.aom_ranks.specs.Runs.{RunsWell, TypedRunsWell}
+use Rattle.aom_ranks.specs.Runs.{TypedRunsWell}
 use Rattle.aom_steps.specs.Laws.{StepsWithin}
 use Rattle.aom_run.specs.declared.outcome.Outcome.{Outcome}
 use Rattle.aom_run.specs.declared.outcome.Outcome.TheVariants.{Stopped, Waiting, MainLeft, WriteFault}

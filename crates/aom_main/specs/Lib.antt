@@ -2,3 +2,4 @@ pub mod Acceptable
 pub mod Assembly
 pub mod Headline
 pub mod Status
+pub mod Prices

@@ -4,6 +4,7 @@ ghost use Rattle.aom_image.specs.Image.{Image};
 ghost use Rattle.aom_classes.specs.Admitted.{IsAdmitted};
 ghost use Rattle.aom_classes.specs.Linked.{IsLinked};
 ghost use Rattle.aom_main.specs.Acceptable.{IsSpelled, IsAcceptable, RefusesOrWants};
+ghost use Rattle.aom_main.specs.Prices.{IsEarly};
 
 use crate::Fault;
 use aom_budget::{Accepted, accept};
@@ -27,9 +28,10 @@ pub fn accept_bytes(alloc: Global, bytes: &[u8]) -> Result<Accepted, Fault>
 }
 
 /// The linked image that the bytes are, or the first fault on the way.
-fn link_bytes(alloc: Global, bytes: &[u8]) -> Result<Linked, Fault>
+pub fn link_bytes(alloc: Global, bytes: &[u8]) -> Result<Linked, Fault>
     ensures ok { IfOk result (λ linked. IsSpelled bytes.now linked × IsAdmitted linked × IsLinked linked) }
     ensures err { IfErr result (λ fault. RefusesOrWants bytes.now fault) }
+    ensures early { IfErr result (λ fault. IsEarly fault) }
     ensures only { (p : Image) → IsSpelled bytes.now p → IfOk result (λ linked. linked ≡ p) }
     ensures complete { (p : Image) → IsSpelled bytes.now p → IsAcceptable p → IfErr result (λ fault. fault ≡ Fault.Memory) }
 {

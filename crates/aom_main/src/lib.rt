@@ -1,7 +1,7 @@
 //! The program's library: one call for each command over bytes and sinks.
 //!
-//! `run_bytes`, `check_bytes`, `asm_bytes` and `dis_bytes` take the bytes of files and write to two sinks, one for what is
-//! asked and one for a fault's line. Their contracts, `RunAnswers` and `CheckAnswers` of `specs/Headline.antt`, `AsmAnswers`
+//! `run_bytes`, `check_bytes`, `prices_bytes`, `asm_bytes` and `dis_bytes` take the bytes of files and write to two sinks, one for what is
+//! asked and one for a fault's line. Their contracts, `RunAnswers` and `CheckAnswers` of `specs/Headline.antt`, `PricesAnswers` of `specs/Prices.antt`, `AsmAnswers`
 //! and `DisAnswers` of `specs/Assembly.antt`, go from bytes to bytes: what the image is, what the script says, and that the text is the
 //! transcript of a run of the checked machine that never goes wrong. Nothing here reads a file, knows the command line or
 //! where a sink leads.
@@ -12,9 +12,11 @@ mod assembling;
 mod commands;
 mod fault_line;
 mod faults;
+mod pricing;
 mod running;
 mod status;
 
 pub use commands::{asm_bytes, check_bytes, dis_bytes, run_bytes};
 pub use faults::{Fault, tell};
+pub use pricing::prices_bytes;
 pub use status::ExitStatus;

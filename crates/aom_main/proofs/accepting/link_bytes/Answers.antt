@@ -2,6 +2,7 @@
 use Rattle.std.proofs.Common.{sym, subst}
 use Rattle.std.proofs.lemmas.Result.{err_from_is_err_and}
 use Rattle.aom_main.specs.Acceptable.{IsAcceptable}
+use Rattle.aom_main.proofs.Figuring.{link_early, load_early}
 use Rattle.aom_main.proofs.Refusing.{link_refused, linked_memory}
 use Rattle.aom_main.proofs.accepting.link_bytes.Goals as goal
 
@@ -15,3 +16,13 @@ returns-in_err-link-clause-err c =
     let e = err_from_is_err_and c.from_residual-in_err-link.result c.from_residual-in_err-link.ensures.1 in
     let found = c.in_ok-image.ensures.found in
     rw (e.1, e.2) (link_refused c.args.bytes.now _ _ (record { formed = found.0; spelling = found.1 }) c.in_err-link.ensures.err)
+
+pub returns-in_err-image-clause-early : goal.returns-in_err-image-clause-early
+returns-in_err-image-clause-early c =
+    let e = err_from_is_err_and c.from_residual.result c.from_residual.ensures.1 in
+    rw (e.1, e.2) (load_early _)
+
+pub returns-in_err-link-clause-early : goal.returns-in_err-link-clause-early
+returns-in_err-link-clause-early c =
+    let e = err_from_is_err_and c.from_residual-in_err-link.result c.from_residual-in_err-link.ensures.1 in
+    rw (e.1, e.2) (link_early _)

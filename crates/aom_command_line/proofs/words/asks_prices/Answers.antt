@@ -1,0 +1,14 @@
+-- The flag is read of the text that was found for it.
+use Rattle.std.proofs.Common.{◌∙◌, codes}
+use Rattle.clap.specs.Words.{found_of}
+use Rattle.clap.proofs.WalkLemmas.{one_text-rows}
+use Rattle.aom_command_line.proofs.words.asks_prices.Goals as goal
+
+pub returns : goal.returns
+returns c =
+    let read = one_text-rows (found_of c.args.own.now) (codes "prices") in
+    record {
+      none = λ text. c.get_flag.ensures.none (read ∙ text);
+      used = λ text. c.get_flag.ensures.value (read ∙ text);
+      unused = λ text. c.get_flag.ensures.other (read ∙ text);
+    }

@@ -1,0 +1,130 @@
+//! The text of an image's figures.
+ghost use Rattle.std.specs.Prelude.{◌≡◌, ◌<◌, ◌++◌, length, IfOk, OnOk};
+ghost use Rattle.aom_budget.specs.Faults.{payer_text};
+ghost use Rattle.aom_budget.specs.declared.fault.Payer.TheVariants as payers;
+ghost use Rattle.aom_figures.specs.Text.{classes_text, declared_text, dispatch_line, entries_line, figures_text, frames_line, limits_text, method_line, methods_text, payer_lines};
+ghost use Rattle.aom_figures.specs.Dispatches.{kind_by};
+ghost use Rattle.aom_budget.specs.Budgets.{kind_declares};
+
+use crate::dispatches::kind_price;
+use crate::most::{method_number, most_entries, most_frames};
+use crate::writer::Writer;
+use aom_budget::{Figures, Payer};
+use aom_classes::Linked;
+use aom_image::{ClassDecl, ClassKind, ClassNumber, MethodNumber};
+use std::alloc::{AllocError, Global};
+
+/// The number of the class at an index.
+fn class_number(index: usize) -> ClassNumber
+    requires { index < 256 }
+    ensures { result ≡ index }
+{
+    ClassNumber::new(index as u16).unwrap()
+}
+
+/// The budget of a class, if its objects are dispatched.
+fn declared(kind: ClassKind) -> Option<u32>
+    ensures { result ≡ kind_declares kind }
+{
+    match kind {
+        ClassKind::Plain | ClassKind::Session => None,
+        ClassKind::Active { budget, .. } | ClassKind::Server { budget, .. } => Some(budget),
+    }
+}
+
+impl Writer {
+    /// Whose dispatch it is.
+    fn payer(&mut self, payer: Payer) -> Result<(), AllocError>
+        ensures { OnOk result (self.new ≡ self.old ++ payer_text payer) }
+    {
+        match payer {
+            Payer::Main => self.words(b"main"),
+            Payer::Class(class) => self.count(b"class ", u64::from(class.number())),
+        }
+    }
+
+    fn dispatch(&mut self, payer: Payer, price: u64, declared: u32) -> Result<(), AllocError>
+        ensures { OnOk result (self.new ≡ self.old ++ dispatch_line payer price declared) }
+    {
+        self.payer(payer)?;
+        self.count(b" price ", price)?;
+        self.count(b" declared ", u64::from(declared))?;
+        self.words(b"\n")
+    }
+
+    /// A line for a class whose objects are dispatched.
+    fn class(
+        &mut self,
+        linked: &Linked,
+        figures: &Figures,
+        class: ClassNumber,
+        declaration: &ClassDecl,
+    ) -> Result<(), AllocError>
+        ensures { OnOk result (self.new ≡ self.old ++ declared_text (payers.Class class) (kind_by linked.now figures.now.prices class declaration.now.kind) (kind_declares declaration.now.kind)) }
+    {
+        match declared(declaration.kind) {
+            Some(declared) => {
+                let price = kind_price(linked, figures, class, declaration.kind);
+                self.dispatch(Payer::Class(class), price, declared)
+            }
+            None => Ok(()),
+        }
+    }
+
+    fn classes(&mut self, linked: &Linked, figures: &Figures) -> Result<(), AllocError>
+        ensures { OnOk result (self.new ≡ self.old ++ classes_text linked.now figures.now.prices) }
+    {
+        let classes = linked.image().classes();
+        for index in 0..classes.len() {
+            self.class(linked, figures, class_number(index), classes.at(index))?;
+        }
+        Ok(())
+    }
+
+    /// What all methods keep within, if they do.
+    fn limits(&mut self, linked: &Linked, figures: &Figures) -> Result<(), AllocError>
+        ensures { OnOk result (self.new ≡ self.old ++ limits_text linked.now figures.now) }
+    {
+        self.count(b"frames ", u64::from(most_frames(linked, figures)))?;
+        self.words(b" of 256\n")?;
+        self.count(b"entries ", u64::from(most_entries(linked, figures)))?;
+        self.words(b" of 1024\n")
+    }
+
+    fn method(&mut self, figures: &Figures, method: MethodNumber) -> Result<(), AllocError>
+        ensures { OnOk result (self.new ≡ self.old ++ method_line figures.now method) }
+    {
+        self.count(b"method ", u64::from(method.number()))?;
+        self.count(b" price ", figures.price(method))?;
+        self.count(b" frames ", u64::from(figures.frames(method)))?;
+        self.count(b" entries ", u64::from(figures.entries(method)))?;
+        self.words(b"\n")
+    }
+
+    fn methods(&mut self, linked: &Linked, figures: &Figures) -> Result<(), AllocError>
+        ensures { OnOk result (self.new ≡ self.old ++ methods_text linked.now figures.now) }
+    {
+        let methods = linked.image().methods();
+        for index in 0..methods.len() {
+            self.method(figures, method_number(index))?;
+        }
+        Ok(())
+    }
+}
+
+/// The text of the figures of an image.
+pub fn figures_text(
+    alloc: Global,
+    linked: &Linked,
+    figures: &Figures,
+) -> Result<Vec<u8>, AllocError>
+    ensures { IfOk result (λ text. text.items ≡ figures_text linked.now figures.now) }
+{
+    let mut writer = Writer::new(alloc);
+    let declared = linked.image().header().budget;
+    writer.dispatch(Payer::Main, figures.main_price(linked), declared)?;
+    writer.classes(linked, figures)?;
+    writer.limits(linked, figures)?;
+    writer.methods(linked, figures)?;
+    Ok(writer.into_text())
+}

@@ -1,0 +1,113 @@
+-- A fault before budgets is none of theirs, and what was sent of an image's figures is what the status answers.
+use Rattle.std.proofs.Common.{◌≡◌, ◌∙◌, ℕ, List, Option, Some, None, ap, refl, sym, subst, inl, inr}
+use Rattle.aom_codec.specs.declared.fault.LoadFault.{LoadFault}
+use Rattle.aom_codec.specs.declared.fault.LoadFault.TheVariants as loads
+use Rattle.aom_classes.specs.declared.fault.LinkFault.{LinkFault}
+use Rattle.aom_classes.specs.declared.fault.LinkFault.TheVariants as links
+use Rattle.aom_image.specs.Image.{Image}
+use Rattle.aom_budget.specs.Budgets.{BudgetsWithin}
+use Rattle.aom_budget.specs.Depths.{HasDepths}
+use Rattle.aom_budget.specs.Faults.{Refuses as RefusesBudget}
+use Rattle.aom_budget.specs.Heights.{HasHeights}
+use Rattle.aom_budget.specs.declared.fault.BudgetFault.{BudgetFault}
+use Rattle.aom_budget.proofs.Budgeting.{refuses_none}
+use Rattle.aom_budget.proofs.Limits.{all_high, all_within}
+use Rattle.aom_run.specs.Runs.{after}
+use Rattle.aom_main.specs.declared.status.ExitStatus.{ExitStatus}
+use Rattle.aom_main.specs.declared.status.ExitStatus.TheVariants as statuses
+use Rattle.aom_main.specs.declared.faults.Fault.{Fault}
+use Rattle.aom_main.specs.declared.faults.Fault.TheVariants as faults
+use Rattle.aom_main.specs.Status.{of_link, of_load, status_of}
+use Rattle.aom_main.specs.Acceptable.{IsSpelled, IsAcceptable, Refuses, RefusesOrWants}
+use Rattle.aom_main.specs.Headline.{Sent, IsSilent, Says, Told}
+use Rattle.aom_main.specs.Prices.{IsBeyond, IsEarly, IsFigured, IsWithin, IsWritten, PricesAnswers, Shown}
+use Rattle.aom_main.specs.Prices.PricesBreaks.{accepted_fails, refused_fails}
+
+-- ---- faults before budgets
+
+pub load_early : (fault : LoadFault) → IsEarly (of_load fault)
+load_early loads.BadMagic = tt
+load_early loads.BadVersion = tt
+load_early loads.Truncated = tt
+load_early loads.Trailing = tt
+load_early loads.LimitPassed = tt
+load_early loads.BadOpcode = tt
+load_early loads.BadOperand = tt
+load_early loads.BadIndex = tt
+load_early loads.NotZero = tt
+load_early loads.OutOfMemory = tt
+
+pub link_early : (fault : LinkFault) → IsEarly (of_link fault)
+link_early links.NotYet = tt
+link_early links.ClassOrder = tt
+link_early links.CallOrder = tt
+link_early links.MissingRole = tt
+link_early links.DoubleRole = tt
+link_early links.RoleShape = tt
+link_early links.BadJump = tt
+link_early links.BadLoop = tt
+link_early links.NoMain = tt
+link_early links.OutOfMemory = tt
+
+-- ---- what was sent
+
+pub shown : (bytes text : List ℕ) (refusal : Option BudgetFault) (out errors : Sent) (status : ExitStatus) → IsWritten bytes text refusal → Shown text refusal status out errors
+    → PricesAnswers bytes out errors status
+shown bytes text None out errors status written (inl sent) = subst (PricesAnswers bytes out errors) (sym sent.0) (written.0, written.1, sent.1 ∙ ap (λ t. after out.before t) written.2, sent.2)
+shown bytes text None out errors status written (inr fails) =
+    subst (PricesAnswers bytes out errors) (sym fails.0) (inr (accepted_fails written.0 written.1 fails.1 (subst (λ t. Says t out) written.2 fails.2) fails.3))
+shown bytes text (Some fault) out errors status written (inl sent) =
+    subst (PricesAnswers bytes out errors) (sym sent.0) (inl (record { text = text; fault = fault; beyond = written; shows = sent.1; tells = sent.2 }))
+shown bytes text (Some fault) out errors status written (inr fails) = subst (PricesAnswers bytes out errors) (sym fails.0) (inr (refused_fails text fault written fails.1 fails.2 fails.3))
+
+-- ---- what was told
+
+unpriced_for : (bytes : List ℕ) (fault : Fault) (out errors : Sent) (status : ExitStatus) → Refuses bytes fault → IsEarly fault → status_of fault ≡ statuses.ImageRefused
+    → (fault ≡ faults.Memory → ⊥) → ((p : Image) → IsSpelled bytes p → IsAcceptable p → fault ≡ faults.Memory) → IsSilent out → Told fault status errors
+    → PricesAnswers bytes out errors status
+unpriced_for bytes fault out errors status refuses early is other complete silent told =
+    subst (PricesAnswers bytes out errors) (sym (told.0 ∙ is)) (inr (record {
+      refused = record { silent = silent; fault = fault; refuses = refuses; none = λ p spelled acceptable. other (complete p spelled acceptable); status = is; tells = told.1 };
+      early = early;
+    }))
+
+pub unpriced : (bytes : List ℕ) (fault : Fault) (out errors : Sent) (status : ExitStatus) → RefusesOrWants bytes fault → IsEarly fault
+    → ((p : Image) → IsSpelled bytes p → IsAcceptable p → fault ≡ faults.Memory) → IsSilent out → Told fault status errors → PricesAnswers bytes out errors status
+unpriced bytes (faults.Load fault) out errors status refuses early complete silent told = unpriced_for bytes (faults.Load fault) out errors status refuses early refl other complete silent told
+  where
+    other : faults.Load fault ≡ faults.Memory → ⊥
+    other e = cc
+unpriced bytes (faults.Link fault) out errors status refuses early complete silent told = unpriced_for bytes (faults.Link fault) out errors status refuses early refl other complete silent told
+  where
+    other : faults.Link fault ≡ faults.Memory → ⊥
+    other e = cc
+unpriced bytes (faults.Verify refusal) out errors status refuses early complete silent told = unpriced_for bytes (faults.Verify refusal) out errors status refuses early refl other complete silent told
+  where
+    other : faults.Verify refusal ≡ faults.Memory → ⊥
+    other e = cc
+unpriced bytes faults.Memory out errors status refuses early complete silent told = subst (PricesAnswers bytes out errors) (sym told.0) (inl (record { silent = silent; tells = told.1 }))
+unpriced bytes (faults.Budget fault) out errors status refuses early complete silent told = absurd early
+unpriced bytes (faults.Asm fault) out errors status refuses early complete silent told = absurd refuses
+unpriced bytes (faults.Script fault) out errors status refuses early complete silent told = absurd refuses
+unpriced bytes faults.Native out errors status refuses early complete silent told = absurd refuses
+unpriced bytes faults.File out errors status refuses early complete silent told = absurd refuses
+unpriced bytes faults.Write out errors status refuses early complete silent told = absurd refuses
+
+-- ---- a checked image
+
+-- it keeps within its budgets and its limits
+pub within : (bytes text : List ℕ) → (r : IsFigured bytes text) → BudgetsWithin r.image → HasDepths r.image → HasHeights r.image → IsWithin bytes text
+within bytes text r budgets depths heights = record {
+  figured = r;
+  acceptable = record { admitted = r.admitted; linked = r.linked; typing = r.typing; typed = r.typed; budgets = budgets; depths = all_within r.image depths; heights = all_high r.image heights };
+}
+
+-- or it does not: the bytes are no other image, so they are none that is accepted
+pub beyond : (bytes text : List ℕ) (r : IsFigured bytes text) (fault : BudgetFault) → ((p : Image) → IsSpelled bytes p → r.image ≡ p) → RefusesBudget r.image fault → IsBeyond bytes text fault
+beyond bytes text r fault only refuses = record {
+  figured = r;
+  refuses = refuses;
+  none = λ p spelled acceptable.
+      let a : IsAcceptable r.image = subst IsAcceptable (sym (only p spelled)) acceptable in
+      refuses_none r.image fault r.linked r.admitted refuses a.budgets a.depths a.heights;
+}

@@ -1,0 +1,97 @@
+//! The figures of an image that has been checked, accepted or not.
+ghost use Rattle.std.specs.Prelude.{◌≡◌, ◌++◌, IfOk, IfErr};
+ghost use Rattle.aom_image.specs.Image.{Image};
+ghost use Rattle.aom_classes.specs.Admitted.{IsAdmitted};
+ghost use Rattle.aom_classes.specs.Linked.{IsLinked};
+ghost use Rattle.aom_main.specs.Acceptable.{IsSpelled, IsAcceptable, RefusesOrWants};
+ghost use Rattle.aom_main.specs.Headline.{accepted_text};
+ghost use Rattle.aom_main.specs.Prices.{IsEarly, IsWritten, PricesAnswers, Shown};
+
+use crate::accepting::link_bytes;
+use crate::{ExitStatus, Fault, tell};
+use aom_budget::{BudgetFault, Figures};
+use aom_figures::figures_text;
+use aom_run::{Sink, write_text};
+use aom_verify::{Checked, check};
+use std::alloc::{AllocError, Global};
+
+/// What is written of a checked image, and why it is refused, if it is.
+#[derive(Drop)]
+struct Priced {
+    text: Vec<u8>,
+    refusal: Option<BudgetFault>,
+}
+
+/// Tells whether an image is accepted, with its figures. Those of one that its budgets or its limits alone refuse are
+/// told too.
+pub fn prices_bytes<W: Sink, E: Sink>(
+    alloc: Global,
+    image: &[u8],
+    out: &mut W,
+    errors: &mut E,
+) -> ExitStatus
+    ensures { PricesAnswers image.now (record { before = W.out out.old; now = W.out out.new; failed = W.failed out.new }) (record { before = E.out errors.old; now = E.out errors.new; failed = E.failed errors.new }) result }
+{
+    match price_bytes(alloc, image) {
+        Ok(priced) => show(&priced, out, errors),
+        Err(fault) => tell(&fault, errors),
+    }
+}
+
+/// Writes what is written, and tells why the image is refused, if it is. A failure of the output is told instead.
+fn show<W: Sink, E: Sink>(priced: &Priced, out: &mut W, errors: &mut E) -> ExitStatus
+    ensures { Shown priced.now.text.items priced.now.refusal result (record { before = W.out out.old; now = W.out out.new; failed = W.failed out.new }) (record { before = E.out errors.old; now = E.out errors.new; failed = E.failed errors.new }) }
+{
+    write_text(out, &priced.text);
+    if out.has_failed() {
+        return tell(&Fault::Write, errors);
+    }
+    match priced.refusal {
+        Some(fault) => tell(&Fault::Budget(fault), errors),
+        None => ExitStatus::Done,
+    }
+}
+
+/// What is written of the image that the bytes are, or the first fault on the way to its budgets.
+fn price_bytes(alloc: Global, bytes: &[u8]) -> Result<Priced, Fault>
+    ensures ok { IfOk result (λ priced. IsWritten bytes.now priced.text.items priced.refusal) }
+    ensures err { IfErr result (λ fault. RefusesOrWants bytes.now fault) }
+    ensures early { IfErr result (λ fault. IsEarly fault) }
+    ensures complete { (p : Image) → IsSpelled bytes.now p → IsAcceptable p → IfErr result (λ fault. fault ≡ Fault.Memory) }
+{
+    let checked = check_image(alloc, bytes)?;
+    checked.typed();
+    let figures = Figures::of_image(alloc, &checked)?;
+    let text = figures_text(alloc, checked.linked(), &figures)?;
+    match figures.keep(&checked) {
+        Ok(()) => Ok(Priced {
+            text: with_accepted(alloc, &text)?,
+            refusal: None,
+        }),
+        Err(fault) => Ok(Priced {
+            text,
+            refusal: Some(fault),
+        }),
+    }
+}
+
+/// The text of an accepted image.
+fn with_accepted(alloc: Global, figures: &[u8]) -> Result<Vec<u8>, AllocError>
+    ensures { IfOk result (λ text. text.items ≡ accepted_text ++ figures.now) }
+{
+    let mut text = Vec::from_slice(alloc, b"accepted\n")?;
+    text.extend_from_slice(figures)?;
+    Ok(text)
+}
+
+/// The checked image that the bytes are, or the first fault on the way.
+fn check_image(alloc: Global, bytes: &[u8]) -> Result<Checked, Fault>
+    ensures ok { IfOk result (λ checked. IsSpelled bytes.now checked × IsAdmitted checked × IsLinked checked) }
+    ensures err { IfErr result (λ fault. RefusesOrWants bytes.now fault) }
+    ensures early { IfErr result (λ fault. IsEarly fault) }
+    ensures only { (p : Image) → IsSpelled bytes.now p → IfOk result (λ checked. checked ≡ p) }
+    ensures complete { (p : Image) → IsSpelled bytes.now p → IsAcceptable p → IfErr result (λ fault. fault ≡ Fault.Memory) }
+{
+    let linked = link_bytes(alloc, bytes)?;
+    Ok(check(alloc, linked)?)
+}
