@@ -44,6 +44,8 @@ impl<'a> Machine<'a> {
         aom_sound::step_keeps();
         aom_sound::calm_keeps();
         aom_sound::linked_is_wired();
+        aom_steps::boot_within();
+        aom_steps::moves_pay();
         accepted.facts();
         Ok(Machine { accepted, parts })
     }
