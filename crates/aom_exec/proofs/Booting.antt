@@ -19,6 +19,9 @@ use Rattle.aom_sound.specs.Places.{Place, Register, Entry, Field, Going, Elsewhe
 use Rattle.aom_sound.specs.Laws.{BootKeeps, StepKeeps, LinkedIsWired}
 use Rattle.aom_sound.specs.Quiet.{CalmKeeps}
 use Rattle.aom_sound.specs.World.{main_tasks, boot_state}
+use Rattle.aom_prices.specs.Dispatches.{IsAffordable}
+use Rattle.aom_prices.specs.Prices.{Prices}
+use Rattle.aom_steps.specs.Laws.{BootWithin, MovesPay}
 use Rattle.aom_sound.proofs.Standing.{boot as boots_at_traps}
 use Rattle.aom_exec.specs.declared.parts.Parts.{Parts}
 use Rattle.aom_exec.specs.Boot.{Booted}
@@ -86,10 +89,28 @@ module _ (p : Image) (m : Parts) (booted : Booted p m) where
           some_none : Some c ≡ None → ⊥
           some_none e = cc
 
-pub boots : (p : Image) (m : Parts) → IsLinked p → IsAdmitted p → (t : Typing) → IsStrongest p t → HasDepths p → HasHeights p → BootKeeps → StepKeeps → CalmKeeps → LinkedIsWired → Booted p m → StandsFor (record { image = p; parts = m }) (boot_state p)
-boots p m linked admitted t strongest depths heights boot_keeps step_keeps calm_keeps wired booted =
+-- the strongest typing, and a table of prices that the image can afford
+abbrev pub Afforded : Image → Type 0
+Afforded p = (t : Typing) × IsStrongest p t × (c : Prices) × IsAffordable p t c
+
+pub boots : (p : Image) (m : Parts) → IsLinked p → IsAdmitted p → Afforded p → HasDepths p → HasHeights p → BootKeeps → StepKeeps → CalmKeeps → LinkedIsWired → BootWithin → MovesPay
+    → Booted p m → StandsFor (record { image = p; parts = m }) (boot_state p)
+boots p m linked admitted (t, strongest, prices, affordable) depths heights boot_keeps step_keeps calm_keeps wired boot_within moves_pay booted =
     let w = wired p booted.formed linked in
-    let sound : Sound p t = record { formed = booted.formed; linked = linked; admitted = admitted; wired = w; strongest = strongest; depths = depths; heights = heights; typed = strongest.typed; keeps = λ c s well unused. step_keeps p t w strongest.typed c s well unused } in
+    let sound : Sound p t = record {
+      formed = booted.formed;
+      linked = linked;
+      admitted = admitted;
+      wired = w;
+      strongest = strongest;
+      depths = depths;
+      heights = heights;
+      typed = strongest.typed;
+      keeps = λ c s well unused. step_keeps p t w strongest.typed c s well unused;
+      prices = prices;
+      affordable = affordable;
+      pays = λ c s u well goes n h. moves_pay.within p t prices linked strongest.typed affordable.priced c s u well goes n h;
+    } in
     record {
       typing = t;
       sound = sound;
@@ -98,5 +119,6 @@ boots p m linked admitted t strongest depths heights boot_keeps step_keeps calm_
       traps = boots_at_traps p (main_of p);
       room = boot_room p t sound;
       waits = none_waits p t;
+      within = record { within = omega (arith, (boot_within p prices).within, affordable.declared) };
       agrees = boot_agrees p m booted;
     }

@@ -27,7 +27,7 @@ use Rattle.aom_frames.specs.declared.task.Task.TheVariants.{Run as Runs_frame, T
 use Rattle.aom_cleanup.specs.declared.item.Item.TheVariants.{Mark as Is_mark}
 use Rattle.aom_cleanup.specs.declared.item.Item.{Item}
 use Rattle.aom_exec.specs.declared.parts.Parts.{Parts}
-use Rattle.aom_exec.specs.Next.{IsNext}
+use Rattle.aom_exec.specs.Next.{IsNext, counting}
 use Rattle.aom_exec.specs.Places.{value_in, register_in, going_in, with_items, with_tasks}
 use Rattle.aom_exec.specs.Agrees.{word_at, word_in, Shows, SameCells, SameFrame, home_number, number, Agrees}
 use Rattle.aom_exec.specs.Acts.{At_hand, DoesIn, requested}
@@ -361,6 +361,6 @@ module _ (p : Image) (m : Parts) (target : Target) (k first x : ℕ) (next : IsN
   pub called_fits : (first + length (arguments_of p k)) ≤ 16
   called_fits =
       let n = needs_met p m (Call target k first x) next in
-      let h = at_hand p m next.stands next.runs in
+      let h = at_hand p (counting next.counts m) next.stands next.runs in
       let parts = all_parts (needs_target p h.frame h.below (requested (Call target k first x) (at_step h.state)) target (method_class p k) first (length (arguments_of p k))) _ n.1 in
       grind (arith, leb_tells (first + length (arguments_of p k)) 16, parts.1.0)

@@ -1,5 +1,5 @@
 -- The machine's rank is that of the states that it stands for, and each move lowers that.
-use Rattle.std.proofs.Common.{zero, suc, ◌≡◌, ℕ, ◌<◌, ◌+◌, ◌-◌, ◌*◌, cond, length, List, [], ◌∷◌, Option, Some, None, slice_index_or, refl, ap, ◌∙◌, arith}
+use Rattle.std.proofs.Common.{zero, suc, ◌≡◌, ℕ, ◌<◌, ◌+◌, ◌-◌, ◌*◌, length, List, [], ◌∷◌, Option, Some, None, slice_index_or, refl, ap, ◌∙◌, arith}
 use Rattle.std.specs.Prelude.{map}
 use Rattle.aom_image.specs.Image.{Image}
 use Rattle.aom_image.specs.Views.{method_at}

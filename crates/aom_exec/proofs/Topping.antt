@@ -28,7 +28,7 @@ use Rattle.aom_exec.specs.declared.parts.Parts.{Parts}
 use Rattle.aom_exec.specs.Acts.{requested}
 use Rattle.aom_exec.specs.Agrees.{SameItems, SameTasks, number, Agrees}
 use Rattle.aom_exec.specs.Cleanup.{ItemLives, TopLives, TopsObject}
-use Rattle.aom_exec.specs.Next.{IsNext}
+use Rattle.aom_exec.specs.Next.{IsNext, counting}
 use Rattle.aom_exec.specs.Places.{value_in, IsEnding, IsTrapped}
 use Rattle.aom_exec.specs.Room.{ReturnsTo}
 use Rattle.aom_exec.proofs.Entries.{same_items_length, top_value}
@@ -89,7 +89,7 @@ module _ (p : Image) (m : Parts) where
 
   pub deletes_whole : IsNext p PopDelete m → TopLives m
   unfolding at_hand
-  deletes_whole next = let n = needs_met p m PopDelete next in top_lives p m next.stands.1.typing next.stands.0 next.stands.1.typed next.stands.1.agrees n.1.1.0
+  deletes_whole next = let n = needs_met p m PopDelete next in top_lives p (counting next.counts m) next.stands.1.typing next.stands.0 next.stands.1.typed next.stands.1.agrees n.1.1.0
 
   -- ---- a trap
 
@@ -100,7 +100,7 @@ module _ (p : Image) (m : Parts) where
     pub trapped_fits : (first + length (arguments_of p k)) ≤ 16
     trapped_fits =
         let n = needs_met p m (Trap target k first x) next in
-        let h = at_hand p m next.stands next.runs in
+        let h = at_hand p (counting next.counts m) next.stands next.runs in
         let parts = all_parts (needs_target p h.frame h.below (requested (Trap target k first x) (at_step h.state)) target (method_class p k) first (length (arguments_of p k))) _ n.1 in
         grind (arith, leb_tells (first + length (arguments_of p k)) 16, parts.1.0)
 
@@ -147,7 +147,7 @@ pub finds_mark : (p : Image) (m : Parts) (a : ℕ) → IsNext p (Return a) m →
 unfolding at_hand
 finds_mark p m a next trapped =
     let n = needs_met p m (Return a) next in
-    let h = at_hand p m next.stands next.runs in
+    let h = at_hand p (counting next.counts m) next.stands next.runs in
     let s = requested (Return a) (at_step h.state) in
     let flat = (all_parts (result_needs p h.frame h.below s (gives_of p h.frame.method) a) _ n.1).1.0 in
     go h.frame h.below h.top flat m.stack.tasks trapped (subst (SameTasks m.stack.tasks) h.top next.stands.1.agrees.tasks)

@@ -24,10 +24,7 @@ impl Parts {
         ensures { class_at self.now.cells number ≡ Some result }
     {
         let class = self.cells.class(self.cells.living(number));
-        match ClassNumber::new(class) {
-            Some(class) => class,
-            None => unreachable!(),
-        }
+        ClassNumber::new(class).unwrap()
     }
 
     /// The destruction of that cell is at hand, and over it its destructor, if it has one.

@@ -1,5 +1,5 @@
 //! A machine over the image that it runs.
-ghost use Rattle.std.specs.Prelude.{◌≡◌, ◌<◌, ◌+◌, ◌↔◌, IfOk, IsTrue, length};
+ghost use Rattle.std.specs.Prelude.{◌≡◌, ◌<◌, ◌≤◌, ◌+◌, ◌↔◌, IfOk, IsTrue, length};
 ghost use Rattle.aom_cells.specs.Heap.{count};
 ghost use Rattle.aom_sound.specs.World.{boot_state};
 ghost use Rattle.aom_exec.specs.Agreement.{AgreesInAll};
@@ -44,13 +44,14 @@ impl<'a> Machine<'a> {
         aom_sound::step_keeps();
         aom_sound::calm_keeps();
         aom_sound::linked_is_wired();
+        aom_steps::boot_within();
+        aom_steps::moves_pay();
         accepted.facts();
         Ok(Machine { accepted, parts })
     }
 
     /// One instruction, or the going of one cell, with what counts as no step after it: a leave's next move, and the end of
-    /// the dispatch. The first step
-    /// writes main's line before all else. Where nothing is at hand, nothing changes.
+    /// the dispatch. The first step writes main's line before all else. Where nothing is at hand, nothing changes.
     pub fn step(&mut self, turn: &mut Turn) -> Progress
         requires room { length turn.old.lines + 2 < turn.old.room }
         ensures image { self.new.image ≡ self.old.image }
@@ -102,6 +103,14 @@ impl<'a> Machine<'a> {
         ensures { result ≡ self.now.parts.rest.clock }
     {
         self.parts.rest.clock()
+    }
+
+    /// The steps of the dispatch at hand, or of the last one: instructions that ran, and cells that went.
+    pub fn steps(&self) -> u64
+        ensures is { result ≡ self.now.parts.rest.steps }
+        ensures within { result ≤ self.now.image.header.budget }
+    {
+        self.parts.rest.steps()
     }
 
     /// How many cells live.

@@ -47,11 +47,10 @@ impl Rest {
         self.clock
     }
 
-    /// How many allocation requests there were.
-    pub fn requests(&self) -> u64
-        ensures { result ≡ self.now.requests }
+    pub fn steps(&self) -> u64
+        ensures { result ≡ self.now.steps }
     {
-        self.requests
+        self.steps
     }
 
     /// Whether main's line is written.
@@ -86,10 +85,13 @@ impl Rest {
         self.steps = self.steps.saturating_add(u64::from(count));
     }
 
-    pub fn count_request(&mut self)
-        ensures { self.new ≡ record self.old { requests = raised self.old.requests } }
+    /// Counts an allocation request, and answers its number.
+    pub fn count_request(&mut self) -> u64
+        ensures counted { self.new ≡ record self.old { requests = raised self.old.requests } }
+        ensures number { result ≡ raised self.old.requests }
     {
         self.requests = self.requests.saturating_add(1);
+        self.requests
     }
 
     pub fn stop(&mut self)
@@ -124,11 +126,7 @@ impl Rest {
         ensures { self.new ≡ record self.old { clock = raised self.old.clock; ended = cond self.old.stopped (Some Stopped) None } }
     {
         self.tick();
-        self.ended = if self.stopped {
-            Some(Ending::Stopped)
-        } else {
-            None
-        };
+        self.ended = self.stopped.then_some(Ending::Stopped);
     }
 
     /// The end of main's dispatch, which left with that code.

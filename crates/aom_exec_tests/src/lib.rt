@@ -4,6 +4,10 @@
 #![tactic(auto)]
 
 #[cfg(test)]
+mod images;
+#[cfg(test)]
+mod prices;
+#[cfg(test)]
 mod steps;
 #[cfg(test)]
 mod tellings;

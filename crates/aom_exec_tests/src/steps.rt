@@ -1,22 +1,12 @@
 //! Programs that run step by step. A trace has the lines of each step, and after them how many cells there are.
-use aom_asm::assemble;
-use aom_budget::{Accepted, accept};
-use aom_classes::link;
+use crate::images::accepted_of;
+use aom_budget::Accepted;
 use aom_exec::{Machine, Progress};
 use aom_lines::{Page, Turn};
 use aom_sound::Ending;
-use aom_verify::check;
 use std::alloc::{AllocError, Global};
 use std::process::Abort;
 use std::test::Fail;
-
-/// The image of a text, where it is accepted.
-fn accepted_of(alloc: Global, text: &str) -> Option<Accepted> {
-    let image = assemble(alloc, text.as_bytes()).ok()?;
-    let linked = link(alloc, image).ok()?;
-    let checked = check(alloc, linked).ok()?;
-    accept(alloc, checked).ok()
-}
 
 /// What a step wrote, and how many cells there are then.
 fn add_to(alloc: Global, trace: &mut Vec<u8>, turn: &Turn, cells: usize) -> Result<(), AllocError> {
@@ -72,7 +62,7 @@ fn trace_of(
     Ok(trace)
 }
 
-/// Runs a program from its boot, and compares its trace and how the run ended. Request 0 is none.
+/// Runs a program that declares its price from its boot, and compares its trace and how the run ended. Request 0 is none.
 fn walks(
     rt: &impl Abort,
     alloc: Global,
@@ -81,9 +71,11 @@ fn walks(
     wanted: &str,
     ending: Ending,
 ) -> Result<(), Fail> {
-    let Some(accepted) = accepted_of(alloc, text) else {
+    let Some(accepted) = accepted_of(alloc, text.as_bytes()) else {
         return Err(Fail::from("the image is not accepted"));
     };
+    let declared = accepted.linked().image().header().budget;
+    assert_eq!(rt; accepted.figures().main_price(accepted.linked()), u64::from(declared));
     match Machine::boot(alloc, &accepted) {
         Ok(mut machine) => {
             let trace = trace_of(rt, alloc, &accepted, refused, &mut machine)?;
@@ -96,7 +88,7 @@ fn walks(
 }
 
 /// Two objects are wanted. What is printed tells whether the second was had.
-const TWO_OBJECTS: &str = "image cells 1 budget 100;class C plain
+const TWO_OBJECTS: &str = "image cells 1 budget 12;class C plain
 method main main;new r0 C;new r1 C;const r2 1;jnull r1 L;const r2 2
 L: print r2;delete r0;delete r1;stop;ret;end";
 
@@ -114,7 +106,7 @@ fn the_first_request_is_refused_by_its_number(rt: HostRuntime) -> Result<(), Fai
 
 #[test]
 fn the_root_is_put_taken_and_moved(rt: HostRuntime) -> Result<(), Fail> {
-    let text = "image cells 1 budget 100 root C;class C plain
+    let text = "image cells 1 budget 11 root C;class C plain
 method main main;new r0 C;jnull r0 E;put f0 r0;jempty f0 E;take r1 f0;jempty f0 L
 L: move r0 r1;put f0 r0
 E: stop;ret;end";
@@ -123,7 +115,7 @@ E: stop;ret;end";
 }
 
 /// A class of two words, and one that may own an object of it. Each has a destructor.
-const OWNER: &str = "image cells 1 budget 100;class I plain words 2;class O plain own I
+const OWNER: &str = "image cells 1 budget 26;class I plain words 2;class O plain own I
 method i destruct of I;const r0 7;store w1 r0;load r1 w1;load r2 w0;print r1;print r2;ret;end
 method o destruct of O;jempty f0 L;take r0 f0;delete r0;L: ret;end
 method main main;new r0 O;delete r0;new r0 I;delete r0;ret;end";
@@ -133,12 +125,12 @@ fn a_run_waits_once_main_returns(rt: HostRuntime) -> Result<(), Fail> {
     for (text, trace) in [
         // A jump passes over.
         (
-            "image budget 100;method main main;const r3 -1;jump L;const r3 5;L: print r3;ret;end",
+            "image budget 4;method main main;const r3 -1;jump L;const r3 5;L: print r3;ret;end",
             "@0 main\n0 0 out -1\n0 0 0 ",
         ),
         // An inner loop goes its rounds again.
         (
-            "image budget 100;method main main;const r0 7;loop 0 2;A: loop 1 2;B: print r0;next 1 B;next 0 A;ret;end",
+            "image budget 15;method main main;const r0 7;loop 0 2;A: loop 1 2;B: print r0;next 1 B;next 0 A;ret;end",
             "@0 main\n0 0 0 out 7\n0 0 out 7\n0 0 0 0 out 7\n0 0 out 7\n0 0 0 0 0 ",
         ),
         // Destructors use words and fields.
@@ -148,14 +140,14 @@ fn a_run_waits_once_main_returns(rt: HostRuntime) -> Result<(), Fail> {
         ),
         // A trap has the code once all is unwound.
         (
-            "image cells 1 budget 100;class C plain
+            "image cells 1 budget 8;class C plain
 method a do leaves;newl r0 C;push r0;const r1 -7;leave r1;end
 method main main leaves;trap self a r0 r2;print r3;ret;end",
             "@0 main\n0 1 1 1 1 gone 0\nleave -7\n0 out -7\n0 0 0 ",
         ),
         // An object is pushed and popped.
         (
-            "image cells 1 budget 100;class C plain
+            "image cells 1 budget 9;class C plain
 method main main leaves;newl r0 C;push r0;pop r1;delete r1;const r0 5;leaveif r0;ret;end",
             "@0 main\n1 1 1 1 gone 0\n0 0 0 0 0 ",
         ),
@@ -167,7 +159,7 @@ method main main leaves;newl r0 C;push r0;pop r1;delete r1;const r0 5;leaveif r0
 
 #[test]
 fn a_pushed_operation_is_run_and_a_refused_push_leaves(rt: HostRuntime) -> Result<(), Fail> {
-    let text = "image budget 100;method u undo args word;print r0;ret;end
+    let text = "image budget 10;method u undo args word;print r0;ret;end
 method main main leaves;const r0 3;pushop r0 u;popdel;pushop r0 u;popop;ret;end";
     let trace = "@0 main\n0 0 0 out 3\n0 0 0 out 3\n0 leave -4\n0 ";
     walks(&rt, rt.alloc(), text, 2, trace, Ending::MainLeft(-4))

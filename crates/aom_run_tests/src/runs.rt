@@ -70,7 +70,7 @@ fn a_text_goes_out_in_parts(rt: HostRuntime) -> Result<(), Fail> {
 const STOPS: &str = "image budget 4;method main main;const r0 7;print r0;stop;ret;end";
 
 /// A main that prints 7.
-const WAITS: &str = "image budget 4;method main main;const r0 7;print r0;ret;end";
+const WAITS: &str = "image budget 3;method main main;const r0 7;print r0;ret;end";
 
 fn accepted_of(alloc: Global, text: &str) -> Option<Accepted> {
     let image = assemble(alloc, text.as_bytes()).ok()?;

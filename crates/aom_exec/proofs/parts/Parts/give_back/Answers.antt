@@ -10,26 +10,27 @@ use Rattle.aom_frames.specs.Tasks.{Runs, method_here, place_here, register_here,
 use Rattle.aom_exec.specs.Acts.{DoesIn, resulted}
 use Rattle.aom_exec.specs.Acts as acts
 use Rattle.aom_exec.specs.Places.{IsDestroying, IsTrapped, IsUnwinding, with_tasks}
+use Rattle.aom_exec.specs.Next.{counting}
 use Rattle.aom_exec.specs.Room.{ReturnsTo}
 use Rattle.aom_exec.proofs.ReturnActs.{gives_here, return_to_end, return_to_going, return_through, return_to_method, return_to_unwinding}
 use Rattle.aom_exec.proofs.parts.Parts.give_back.Goals as goal
 
 pub method-requires-2 : goal.method-requires-2
-method-requires-2 c = rw c.method.ensures (finds_method c.args.linked.now c.args.self.now c.requires.stands c.requires.runs)
+method-requires-2 c = rw c.method.ensures (finds_method c.args.linked.now (counting c.requires.counts c.args.self.now) c.requires.stands c.requires.runs)
 
 pub receive-requires-clause-there : goal.receive-requires-clause-there
 receive-requires-clause-there c =
     let p = c.args.linked.now in
     let m = c.args.self.now in
     let runs : Runs (below_first m.stack.tasks) = runs_on _ _ (rw c.drop_task.ensures at c.in-Some-Run.ensures.some) c.in-Some-Run.field-0-is in
-    rw c.drop_task.ensures (returns_within p (below_first m.stack.tasks) (returns_to p m c.requires.stands c.requires.runs) runs).0
+    rw c.drop_task.ensures (returns_within p (below_first m.stack.tasks) (returns_to p (counting c.requires.counts m) c.requires.stands c.requires.runs) runs).0
 
 pub receive-requires-clause-within : goal.receive-requires-clause-within
 receive-requires-clause-within c =
     let p = c.args.linked.now in
     let m = c.args.self.now in
     let runs : Runs (below_first m.stack.tasks) = runs_on _ _ (rw c.drop_task.ensures at c.in-Some-Run.ensures.some) c.in-Some-Run.field-0-is in
-    rw c.drop_task.ensures (returns_within p (below_first m.stack.tasks) (returns_to p m c.requires.stands c.requires.runs) runs).1
+    rw c.drop_task.ensures (returns_within p (below_first m.stack.tasks) (returns_to p (counting c.requires.counts m) c.requires.stands c.requires.runs) runs).1
 
 pub unmark-requires : goal.unmark-requires
 unmark-requires c =
@@ -43,20 +44,20 @@ receive_trapped-requires-clause-within c =
     let m = c.args.self.now in
     let trapped : IsTrapped (below_first m.stack.tasks) = subst IsTrapped (sym (trap_on _ _ (rw c.drop_task.ensures at c.in-Some-Trapped.ensures.some) c.in-Some-Trapped.field-0-is)) tt in
     let runs : Runs (below_first (below_first m.stack.tasks)) = rw (c.drop_task-in-Some-Trapped.ensures, c.drop_task.ensures) at (c.is_running.ensures.0 c.if-is_running.true) in
-    rw (c.drop_task-in-Some-Trapped.ensures, c.drop_task.ensures) (returns_within_through p (below_first m.stack.tasks) (returns_to p m c.requires.stands c.requires.runs) trapped runs)
+    rw (c.drop_task-in-Some-Trapped.ensures, c.drop_task.ensures) (returns_within_through p (below_first m.stack.tasks) (returns_to p (counting c.requires.counts m) c.requires.stands c.requires.runs) trapped runs)
 
 pub unreachable-requires : goal.unreachable-requires
 unreachable-requires c =
     let p = c.args.linked.now in
     let m = c.args.self.now in
     let ending = ends_on_top _ _ (rw c.drop_task.ensures at c.in-Some-Dispatched.ensures.some) c.in-Some-Dispatched.field-0-is in
-    returns_to_none p (below_first m.stack.tasks) (returns_to p m c.requires.stands c.requires.runs) (ending_of _ ending)
+    returns_to_none p (below_first m.stack.tasks) (returns_to p (counting c.requires.counts m) c.requires.stands c.requires.runs) (ending_of _ ending)
 
 pub unreachable-requires-in-None : goal.unreachable-requires-in-None
 unreachable-requires-in-None c =
     let p = c.args.linked.now in
     let none = rw c.drop_task.ensures at c.in-None.ensures.none in
-    subst (ReturnsTo p) none (returns_to p c.args.self.now c.requires.stands c.requires.runs)
+    subst (ReturnsTo p) none (returns_to p (counting c.requires.counts c.args.self.now) c.requires.stands c.requires.runs)
 
 pub returns-in-Some-Run : goal.returns-in-Some-Run
 returns-in-Some-Run c = λ refused.
@@ -78,7 +79,7 @@ returns-then-is_running c = λ refused.
     let runs : Runs (below_first (below_first m.stack.tasks)) = rw (c.drop_task-in-Some-Trapped.ensures, c.drop_task.ensures) at (c.is_running.ensures.0 c.if-is_running.true) in
     let marked = rw (c.drop_task-in-Some-Trapped.ensures, c.drop_task.ensures) at c.unmark.ensures in
     let gives = gives_here p (method_here m.stack.tasks) c.method-2.result.now (rw c.method.ensures at c.method-2.ensures) in
-    let coded = coded_through p (below_first m.stack.tasks) (returns_to p m c.requires.stands c.requires.runs) trapped runs in
+    let coded = coded_through p (below_first m.stack.tasks) (returns_to p (counting c.requires.counts m) c.requires.stands c.requires.runs) trapped runs in
     let under = below_first (below_first m.stack.tasks) in
     let x = result_register (instr_at p (method_here under) (place_here under)) in
     let es = c.unmark.new.self in
@@ -94,7 +95,7 @@ returns-else-is_running c = λ refused.
     let stops : Runs (below_first (below_first m.stack.tasks)) → ⊥ = λ runs. false≢true (sym c.if-is_running.false ∙ c.is_running.ensures.1 (rw (c.drop_task-in-Some-Trapped.ensures, c.drop_task.ensures) runs)) in
     let marked = rw (c.drop_task-in-Some-Trapped.ensures, c.drop_task.ensures) at c.unmark.ensures in
     rw (c.drop_task-in-Some-Trapped.ensures, c.drop_task.ensures)
-    (return_to_end p m refused c.args.from c.unmark.new.self (ends_under p (below_first m.stack.tasks) (returns_to p m c.requires.stands c.requires.runs) trapped stops) trapped marked)
+    (return_to_end p m refused c.args.from c.unmark.new.self (ends_under p (below_first m.stack.tasks) (returns_to p (counting c.requires.counts m) c.requires.stands c.requires.runs) trapped stops) trapped marked)
 
 pub returns-in-Some-Unwind : goal.returns-in-Some-Unwind
 returns-in-Some-Unwind c = λ refused.
