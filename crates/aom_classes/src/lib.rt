@@ -16,9 +16,5 @@ mod role_table;
 mod roles;
 
 pub use fault::LinkFault;
-pub use linked::{Linked, link};
-
-#[cfg(test)]
-mod drafts;
-#[cfg(test)]
-mod tests;
+pub use linked::{Linked, check_conditions, link};
+pub use role_table::RoleTable;

@@ -11,8 +11,6 @@
 mod frame;
 mod task;
 mod tasks;
-#[cfg(test)]
-mod tests;
 mod words;
 
 pub use frame::Frame;

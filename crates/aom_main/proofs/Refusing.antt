@@ -1,5 +1,8 @@
 -- Faults on the way to an accepted image. An acceptable one is refused for want of memory alone.
-use Rattle.std.proofs.Common.{◌≡◌, ℕ, List, refl, subst}
+use Rattle.std.proofs.Common.{◌≡◌, ◌≢◌, ℕ, List, Some, refl, subst}
+use Rattle.aom_codec.specs.Format.{first_fault}
+use Rattle.aom_codec.specs.declared.fault.LoadFault.{LoadFault}
+use Rattle.aom_codec.specs.declared.fault.LoadFault.TheVariants as loads
 use Rattle.aom_image.specs.Image.{Image}
 use Rattle.aom_classes.specs.Faults.{Fails, Refuses as RefusesLink, RefusesOrWants as RefusesOrWantsLink}
 use Rattle.aom_classes.specs.declared.fault.LinkFault.{LinkFault}
@@ -13,8 +16,21 @@ use Rattle.aom_budget.specs.declared.fault.BudgetFault.{BudgetFault}
 use Rattle.aom_budget.specs.declared.fault.BudgetFault.TheVariants.{OverBudget, TooDeep, CleanupTooDeep}
 use Rattle.aom_budget.specs.declared.fault.BudgetFault.TheVariants as budgets
 use Rattle.aom_main.specs.declared.faults.Fault.TheVariants.{Memory}
-use Rattle.aom_main.specs.Status.{of_link, of_budget}
+use Rattle.aom_main.specs.Status.{of_load, of_link, of_budget}
 use Rattle.aom_main.specs.Acceptable.{IsSpelled, IsAcceptable, RefusesOrWants}
+
+-- bytes that are no image have a fault, unless it is that memory was wanting
+pub load_refused : (bytes : List ℕ) (fault : LoadFault) → (fault ≢ loads.OutOfMemory → first_fault bytes ≡ Some fault) → RefusesOrWants bytes (of_load fault)
+load_refused bytes loads.BadMagic is = is (λ e. cc)
+load_refused bytes loads.BadVersion is = is (λ e. cc)
+load_refused bytes loads.Truncated is = is (λ e. cc)
+load_refused bytes loads.Trailing is = is (λ e. cc)
+load_refused bytes loads.LimitPassed is = is (λ e. cc)
+load_refused bytes loads.BadOpcode is = is (λ e. cc)
+load_refused bytes loads.BadOperand is = is (λ e. cc)
+load_refused bytes loads.BadIndex is = is (λ e. cc)
+load_refused bytes loads.NotZero is = is (λ e. cc)
+load_refused bytes loads.OutOfMemory is = tt
 
 pub linked_memory : (p : Image) (fault : LinkFault) → RefusesOrWantsLink p fault → IsAcceptable p → of_link fault ≡ Memory
 unfolding RefusesOrWantsLink RefusesLink Fails

@@ -1,14 +1,9 @@
-//! Tests of `aom_main`, from outside: each command over bytes and sinks, and programs from their texts to their
-//! transcripts.
+//! Tests of `aom_main`, from outside: each command over bytes and sinks. Programs are in `aom_main_program_tests`.
 #![tactic(auto)]
 
 #[cfg(test)]
 mod commands;
 #[cfg(test)]
-mod leaves;
-#[cfg(test)]
 mod memory;
 #[cfg(test)]
 mod pages;
-#[cfg(test)]
-mod programs;

@@ -16,6 +16,3 @@ pub use name::is_name;
 pub use number::Number;
 pub use text::{Statement, Text, last_line, split_line};
 pub use word::{Words, is_text_word};
-
-#[cfg(test)]
-mod tests;

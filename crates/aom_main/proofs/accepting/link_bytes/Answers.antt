@@ -1,9 +1,12 @@
 -- A fault of linking is told as one of the bytes. An acceptable image is linked, unless memory runs out.
-use Rattle.std.proofs.Common.{sym, subst}
+use Rattle.std.proofs.Common.{◌∙◌, ap, sym, subst}
 use Rattle.std.proofs.lemmas.Result.{err_from_is_err_and}
-use Rattle.aom_main.specs.Acceptable.{IsAcceptable}
+use Rattle.aom_classes.specs.Admitted.{IsAdmitted}
+use Rattle.aom_classes.specs.Linked.{IsLinked}
+use Rattle.aom_main.specs.Acceptable.{IsAcceptable, IsSpelled}
+use Rattle.aom_main.specs.Status.{of_load}
 use Rattle.aom_main.proofs.Figuring.{link_early, load_early}
-use Rattle.aom_main.proofs.Refusing.{link_refused, linked_memory}
+use Rattle.aom_main.proofs.Refusing.{link_refused, linked_memory, load_refused}
 use Rattle.aom_main.proofs.accepting.link_bytes.Goals as goal
 
 pub returns-in_err-link-clause-complete : goal.returns-in_err-link-clause-complete
@@ -26,3 +29,47 @@ pub returns-in_err-link-clause-early : goal.returns-in_err-link-clause-early
 returns-in_err-link-clause-early c =
     let e = err_from_is_err_and c.from_residual-in_err-link.result c.from_residual-in_err-link.ensures.1 in
     rw (e.1, e.2) (link_early _)
+
+pub returns-in_err-image-clause-ok : goal.returns-in_err-image-clause-ok
+returns-in_err-image-clause-ok c =
+    let e = err_from_is_err_and c.from_residual.result c.from_residual.ensures.1 in
+    rw e.1 tt
+
+pub returns-in_err-image-clause-err : goal.returns-in_err-image-clause-err
+returns-in_err-image-clause-err c =
+    let e = err_from_is_err_and c.from_residual.result c.from_residual.ensures.1 in
+    rw (e.1, e.2) (load_refused c.args.bytes.now c.in_err-image.field-0.0 c.in_err-image.ensures.fault)
+
+pub returns-in_err-image-clause-only : goal.returns-in_err-image-clause-only
+returns-in_err-image-clause-only c =
+    let e = err_from_is_err_and c.from_residual.result c.from_residual.ensures.1 in
+    λ p spelled. rw e.1 tt
+
+pub returns-in_err-image-clause-complete : goal.returns-in_err-image-clause-complete
+returns-in_err-image-clause-complete c =
+    let e = err_from_is_err_and c.from_residual.result c.from_residual.ensures.1 in
+    λ p spelled acceptable. rw (e.1, e.2) (ap of_load (c.in_err-image.ensures.only p spelled.formed spelled.spelling))
+
+pub returns-in_err-link-clause-ok : goal.returns-in_err-link-clause-ok
+returns-in_err-link-clause-ok c =
+    let e = err_from_is_err_and c.from_residual-in_err-link.result c.from_residual-in_err-link.ensures.1 in
+    rw e.1 tt
+
+pub returns-in_err-link-clause-only : goal.returns-in_err-link-clause-only
+returns-in_err-link-clause-only c =
+    let e = err_from_is_err_and c.from_residual-in_err-link.result c.from_residual-in_err-link.ensures.1 in
+    λ p spelled. rw e.1 tt
+
+pub returns-clause-ok : goal.returns-clause-ok
+returns-clause-ok c =
+    let found = c.in_ok-image.ensures.found in
+    let ok = c.in_ok-link.ensures.ok in
+    subst (λ p. IsSpelled c.args.bytes.now p × IsAdmitted p × IsLinked p) (sym ok.0) (record { formed = found.0; spelling = found.1 }, ok.1, ok.2)
+
+pub returns-clause-only : goal.returns-clause-only
+returns-clause-only c =
+    λ p spelled. c.in_ok-link.ensures.ok.0 ∙ c.in_ok-image.ensures.only p spelled.formed spelled.spelling
+
+pub returns-clause-complete : goal.returns-clause-complete
+returns-clause-complete c =
+    λ p spelled acceptable. tt

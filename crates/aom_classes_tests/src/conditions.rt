@@ -4,9 +4,7 @@ ghost use Rattle.std.specs.Prelude.{◌<◌};
 use crate::drafts::{
     ImageDraft, MethodDraft, active, class, depth, draft, entry, method, place, register, server,
 };
-use crate::link;
-use crate::linked::check_conditions;
-use crate::role_table::RoleTable;
+use aom_classes::{RoleTable, check_conditions, link};
 use aom_image::{
     Argument, ClassKind, ClassNumber, Gives, Image, Instr, MethodFlags, Role, States, Target, Thing,
 };

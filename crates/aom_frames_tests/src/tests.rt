@@ -1,5 +1,5 @@
-use crate::{Dispatch, Frame, Task, TaskKind, Tasks};
 use aom_cells::NULL;
+use aom_frames::{Dispatch, Frame, Task, TaskKind, Tasks};
 use aom_image::MethodNumber;
 use std::test::Fail;
 

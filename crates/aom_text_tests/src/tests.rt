@@ -1,5 +1,5 @@
 //! A text from its bytes to its words.
-use super::*;
+use aom_text::{AsmFault, AsmFaultKind, Text, is_text_word};
 use std::test::Fail;
 
 #[test]

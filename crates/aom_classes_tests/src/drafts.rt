@@ -1,7 +1,7 @@
 //! Images in short, for tests.
 ghost use Rattle.std.specs.Prelude.{◌<◌};
 
-use crate::linked::check_conditions;
+use aom_classes::check_conditions;
 use aom_image::{
     Argument, ClassDecl, ClassKind, ClassNumber, EntryDepth, Gives, Header, Image, Instr, Items,
     LoopDepth, Method, MethodFlags, MethodNumber, Place, Provider, Register, Role, States, Thing,

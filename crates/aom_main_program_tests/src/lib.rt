@@ -1,0 +1,9 @@
+//! Tests of `aom_main`, from outside: programs from their texts to their transcripts.
+#![tactic(auto)]
+
+#[cfg(test)]
+mod leaves;
+#[cfg(test)]
+mod pages;
+#[cfg(test)]
+mod programs;
