@@ -75,7 +75,10 @@ fn walks(
         return Err(Fail::from("the image is not accepted"));
     };
     let declared = accepted.linked().image().header().budget;
-    assert_eq!(rt; accepted.figures().main_price(accepted.linked()), u64::from(declared));
+    assert_eq!(rt;
+        accepted.figures().main_price(accepted.linked()),
+        u64::from(declared)
+    );
     match Machine::boot(alloc, &accepted) {
         Ok(mut machine) => {
             let trace = trace_of(rt, alloc, &accepted, refused, &mut machine)?;

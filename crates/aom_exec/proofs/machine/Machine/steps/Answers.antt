@@ -6,4 +6,5 @@ use Rattle.aom_exec.proofs.machine.Machine.steps.Goals as goal
 
 pub returns-clause-within : goal.returns-clause-within
 returns-clause-within c =
-    rw c.steps.ensures (subst (λ (m : Machine). c.self.inside.parts.rest.steps ≤ m.image.header.budget) c.self.view_is (steps_within (record { image = c.self.inside.accepted.now; parts = c.self.inside.parts }) c.self.invariant))
+    let m : Machine = record { image = c.self.inside.accepted.now; parts = c.self.inside.parts } in
+    rw c.steps.ensures (subst (λ (n : Machine). m.parts.rest.steps ≤ n.image.header.budget) c.self.view_is (steps_within m c.self.invariant))

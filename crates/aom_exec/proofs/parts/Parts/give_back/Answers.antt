@@ -44,7 +44,8 @@ receive_trapped-requires-clause-within c =
     let m = c.args.self.now in
     let trapped : IsTrapped (below_first m.stack.tasks) = subst IsTrapped (sym (trap_on _ _ (rw c.drop_task.ensures at c.in-Some-Trapped.ensures.some) c.in-Some-Trapped.field-0-is)) tt in
     let runs : Runs (below_first (below_first m.stack.tasks)) = rw (c.drop_task-in-Some-Trapped.ensures, c.drop_task.ensures) at (c.is_running.ensures.0 c.if-is_running.true) in
-    rw (c.drop_task-in-Some-Trapped.ensures, c.drop_task.ensures) (returns_within_through p (below_first m.stack.tasks) (returns_to p (counting c.requires.counts m) c.requires.stands c.requires.runs) trapped runs)
+    let below = returns_to p (counting c.requires.counts m) c.requires.stands c.requires.runs in
+    rw (c.drop_task-in-Some-Trapped.ensures, c.drop_task.ensures) (returns_within_through p (below_first m.stack.tasks) below trapped runs)
 
 pub unreachable-requires : goal.unreachable-requires
 unreachable-requires c =
@@ -94,8 +95,9 @@ returns-else-is_running c = λ refused.
     let trapped : IsTrapped (below_first m.stack.tasks) = subst IsTrapped (sym (trap_on _ _ (rw c.drop_task.ensures at c.in-Some-Trapped.ensures.some) c.in-Some-Trapped.field-0-is)) tt in
     let stops : Runs (below_first (below_first m.stack.tasks)) → ⊥ = λ runs. false≢true (sym c.if-is_running.false ∙ c.is_running.ensures.1 (rw (c.drop_task-in-Some-Trapped.ensures, c.drop_task.ensures) runs)) in
     let marked = rw (c.drop_task-in-Some-Trapped.ensures, c.drop_task.ensures) at c.unmark.ensures in
+    let below = returns_to p (counting c.requires.counts m) c.requires.stands c.requires.runs in
     rw (c.drop_task-in-Some-Trapped.ensures, c.drop_task.ensures)
-    (return_to_end p m refused c.args.from c.unmark.new.self (ends_under p (below_first m.stack.tasks) (returns_to p (counting c.requires.counts m) c.requires.stands c.requires.runs) trapped stops) trapped marked)
+    (return_to_end p m refused c.args.from c.unmark.new.self (ends_under p (below_first m.stack.tasks) below trapped stops) trapped marked)
 
 pub returns-in-Some-Unwind : goal.returns-in-Some-Unwind
 returns-in-Some-Unwind c = λ refused.
