@@ -1,12 +1,11 @@
 -- The parts of a text by where the first end is.
-use Rattle.std.proofs.Common.{◌≡◌, ℕ, suc, ◌+◌, ◌-◌, ◌<◌, ◌≤◌, ◌==◌, ◌&&◌, ◌||◌, Bool, true, false, not, cond, nat_lt, nat_le, List, [], ◌∷◌, ◌++◌, Option, Some, None, length, take, drop, map, refl, sym, ap, subst, ◌∙◌, arith, rules, tests}
-use Rattle.std.specs.List.{filter, slice_split, onto_first, list_all, find, position, position_or_len, before_first, after_first}
+use Rattle.std.proofs.Common.{◌≡◌, ℕ, suc, ◌+◌, ◌-◌, ◌<◌, ◌==◌, ◌&&◌, ◌||◌, Bool, true, false, not, cond, nat_lt, nat_le, List, [], ◌∷◌, Some, None, length, take, drop, map, refl, sym, ap, subst, ◌∙◌, arith, rules, tests}
+use Rattle.std.specs.List.{filter, slice_split, onto_first, find, position, position_or_len}
 use Rattle.std.proofs.lemmas.Grind.{common_steps}
 use Rattle.std.proofs.lemmas.List.{take_rest}
 use Rattle.std.proofs.lemmas.List.Splits.{slice_split_first}
 use Rattle.aom_text.specs.Words.{is_blank, is_plain, has_bytes, words}
 use Rattle.aom_text.specs.Text.{true_lines, lines_of, worded, put_words, has_words, in_line, other_byte, comment_statements}
-use Rattle.aom_text.specs.declared.text.Statement.{Statement}
 
 -- where a place is chosen, it is the one that the test was for
 chosen : (t : Bool) (n i : ℕ) → cond t (Some n) None ≡ Some i → (t ≡ true) × (n ≡ i)
