@@ -1,14 +1,13 @@
 -- What was found of main's dispatch is its price, and an image whose dispatches cost more than is declared of them is none that keeps its budgets.
-use Rattle.std.proofs.Common.{◌≡◌, ◌∙◌, ◌<◌, ◌≤◌, ◌+◌, ℕ, true, false, List, [], Option, Some, None, IsSome, IsTrue, refl, sym, ap, subst, arith}
-use Rattle.std.specs.Prelude.{◌&&◌, IfSome, min, slice_get}
+use Rattle.std.proofs.Common.{◌≡◌, ◌∙◌, ◌<◌, ◌≤◌, ◌+◌, ℕ, true, List, [], Option, Some, None, IsSome, IsTrue, refl, sym, arith}
+use Rattle.std.specs.Prelude.{IfSome, min, slice_get}
 use Rattle.std.specs.List.{list_all}
 use Rattle.std.proofs.lemmas.Option.{slice_get_within}
 use Rattle.aom_image.specs.Image.{Image}
-use Rattle.aom_image.specs.Views.{class_at, instr_at, method_at}
+use Rattle.aom_image.specs.Views.{class_at, method_at}
 use Rattle.aom_image.specs.declared.class.ClassDecl.{ClassDecl}
 use Rattle.aom_image.specs.declared.class.ClassKind.{ClassKind}
 use Rattle.aom_image.specs.declared.class.ClassKind.TheVariants.{Plain, Active, Server, Session}
-use Rattle.aom_image.specs.declared.instr.Instr.{Instr}
 use Rattle.aom_image.specs.declared.method.Thing.{Thing}
 use Rattle.aom_image.specs.declared.method.Thing.TheVariants.{Object}
 use Rattle.aom_classes.specs.Admitted.{IsAdmitted, admits_class, admits_thing, is_plain}
@@ -16,14 +15,13 @@ use Rattle.aom_classes.specs.Linked.{IsLinked}
 use Rattle.aom_classes.specs.Roles.{destructor_of, is_main, main_of}
 use Rattle.aom_classes.proofs.Each.{both}
 use Rattle.aom_classes.proofs.Playing.{found}
-use Rattle.aom_shape.specs.Shape.{Shape}
 use Rattle.aom_shape.specs.Tables.{at}
-use Rattle.aom_shape.specs.Typing.{Typing, IsTyped}
-use Rattle.aom_verify.specs.Strongest.{IsMethodStrongest, IsStrongest}
+use Rattle.aom_shape.specs.Typing.{Typing}
+use Rattle.aom_verify.specs.Strongest.{IsStrongest}
 use Rattle.aom_prices.specs.Costs.{ArePrices, destructor_price}
-use Rattle.aom_prices.specs.Dispatches.{IsAffordable, main_price, method_price, root_price}
+use Rattle.aom_prices.specs.Dispatches.{IsAffordable, main_price, root_price}
 use Rattle.aom_prices.specs.Layers.{SayTheSame}
-use Rattle.aom_prices.specs.Prices.{Prices, Stands, price}
+use Rattle.aom_prices.specs.Prices.{Prices, price}
 use Rattle.aom_prices.proofs.Alike.{IsCovered, prices_alike}
 use Rattle.aom_prices.proofs.Methods.{destructor_within, method_is_some}
 use Rattle.aom_prices.proofs.Unique.{law_one}
@@ -32,7 +30,7 @@ use Rattle.aom_budget.specs.Depths.{DepthsWithin}
 use Rattle.aom_budget.specs.Faults.{Refuses}
 use Rattle.aom_budget.specs.Figures.{main_by, root_by}
 use Rattle.aom_budget.specs.Heights.{HeightsWithin}
-use Rattle.aom_budget.specs.Pricing.{ArePriced, destruction_by, kept, price_by}
+use Rattle.aom_budget.specs.Pricing.{ArePriced, destruction_by, price_by}
 use Rattle.aom_budget.specs.declared.fault.BudgetFault.{BudgetFault}
 use Rattle.aom_budget.specs.declared.fault.BudgetFault.TheVariants.{OverBudget, TooDeep, CleanupTooDeep, OutOfMemory}
 use Rattle.aom_budget.specs.declared.fault.Payer.{Payer}

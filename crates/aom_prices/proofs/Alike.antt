@@ -13,7 +13,7 @@ use Rattle.aom_shape.specs.Shape.{Shape}
 use Rattle.aom_shape.specs.Typing.{IsTyped, Typing}
 use Rattle.aom_shape.specs.declared.kind.Kind.{Kind}
 use Rattle.aom_shape.proofs.Monotone.{flows_more}
-use Rattle.aom_prices.specs.Costs.{AmongFlows, ArePrices, Costs, GoesOut, IsPrice, Region, Whole}
+use Rattle.aom_prices.specs.Costs.{AmongFlows, ArePrices, Costs, GoesOut, Region, Whole}
 use Rattle.aom_prices.specs.Costs.Costs.{outside, ends, goes, loops, loops_in}
 use Rattle.aom_prices.specs.Prices.{Prices, Stands, kind_price, own, price}
 use Rattle.aom_prices.proofs.Regions.{some_same}

@@ -1,5 +1,4 @@
 -- An image within its limits is refused for want of memory alone.
-use Rattle.std.proofs.lemmas.Result.{err_from_is_err_and}
 use Rattle.aom_classes.specs.Admitted.{IsAdmitted}
 use Rattle.aom_classes.specs.Linked.{IsLinked}
 use Rattle.aom_budget.proofs.Budgeting.{refuses_none}

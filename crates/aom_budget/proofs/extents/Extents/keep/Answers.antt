@@ -1,13 +1,6 @@
 -- What the tests of the tables say, the depths first.
-use Rattle.std.proofs.Common.{◌≡◌, ◌∙◌, List, false, true, refl, sym}
-use Rattle.std.specs.Prelude.{ℕ, nat_le}
-use Rattle.std.specs.List.{list_all}
-use Rattle.aom_image.specs.Image.{Image}
+use Rattle.std.proofs.Common.{◌∙◌, sym}
 use Rattle.aom_classes.specs.Linked.{IsLinked}
-use Rattle.aom_shape.specs.Typing.{Typing}
-use Rattle.aom_verify.specs.Strongest.{IsStrongest}
-use Rattle.aom_budget.specs.Depths.{AreDepths, HasDepths}
-use Rattle.aom_budget.specs.Heights.{HasHeights}
 use Rattle.aom_budget.proofs.Limits.{are_depths, are_heights, too_deep, too_high, all_within, keeps, exceeds}
 use Rattle.aom_budget.proofs.extents.Extents.keep.Goals as goal
 

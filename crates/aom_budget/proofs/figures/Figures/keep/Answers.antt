@@ -5,7 +5,6 @@ use Rattle.aom_image.specs.WellFormed.{WellFormed}
 use Rattle.aom_image.specs.declared.image.Header.{Header}
 use Rattle.aom_classes.specs.Admitted.{IsAdmitted}
 use Rattle.aom_classes.specs.Linked.{IsLinked}
-use Rattle.aom_budget.specs.Budgets.{BudgetsWithin}
 use Rattle.aom_budget.specs.Figures.{main_by}
 use Rattle.aom_budget.proofs.Budgeting.{budgets_within, is_over}
 use Rattle.aom_budget.proofs.figures.Figures.keep.Goals as goal

@@ -1,0 +1,123 @@
+//! Images that declare their price, and images that declare a step less.
+ghost use Rattle.std.specs.Prelude.{◌<◌};
+
+use crate::pages::{answer_of, runs};
+use crate::programs::{assembled, refuses, stops};
+use aom_main::ExitStatus;
+use std::alloc::Global;
+use std::process::Abort;
+use std::test::Fail;
+
+/// `check` and `run` refuse the image of a text.
+fn is_refused(rt: &impl Abort, alloc: Global, text: &str, line: &str) -> Result<(), Fail> {
+    refuses(rt, alloc, text, line)?;
+    let image = assembled(alloc, text)?;
+    let refused = answer_of(alloc, ExitStatus::ImageRefused, "", line)?;
+    assert_eq!(rt; runs(alloc, image.as_slice(), b"", 100), refused);
+    Ok(())
+}
+
+/// An image that declares that price runs and stops; where it declares a step less it is refused.
+fn costs(
+    rt: &impl Abort,
+    alloc: Global,
+    price: u32,
+    rest: &str,
+    transcript: &str,
+) -> Result<(), Fail>
+    requires { 0 < price }
+{
+    let text = format!(in alloc; "image cells 3 budget {price} {rest}")?;
+    stops(rt, alloc, text.as_str(), transcript)?;
+    let declared = price - 1;
+    let text = format!(in alloc; "image cells 3 budget {declared} {rest}")?;
+    let line = format!(in alloc; "budget 1 main price {price} declared {declared}\n")?;
+    is_refused(rt, alloc, text.as_str(), line.as_str())
+}
+
+/// What is pushed is paid for, and a leave that unwinds it costs nothing more.
+#[test]
+fn pushed_objects_are_paid_for(rt: HostRuntime) -> Result<(), Fail> {
+    costs(
+        &rt,
+        rt.alloc(),
+        15,
+        ";class C plain;class D plain;class E plain
+method f do leaves;newl r0 C;push r0;newl r0 D;push r0;newl r0 E;push r0;const r0 -2;leave r0;end
+method main main;trap self f r0 r0;print r1;stop;ret;end",
+        "@0 main\ngone 2\ngone 1\ngone 0\nleave -2\nout -2\nend stopped cells 0\n",
+    )
+}
+
+#[test]
+fn rounds_are_paid_for(rt: HostRuntime) -> Result<(), Fail> {
+    costs(
+        &rt,
+        rt.alloc(),
+        10,
+        ";method main main;const r0 5;loop 0 3;L: print r0;next 0 L;stop;ret;end",
+        "@0 main\nout 5\nout 5\nout 5\nend stopped cells 0\n",
+    )
+}
+
+/// Main pays for the destruction of the root too.
+#[test]
+fn the_root_is_paid_for(rt: HostRuntime) -> Result<(), Fail> {
+    costs(
+        &rt,
+        rt.alloc(),
+        19,
+        "root P;class M plain;class P plain words 1 own M
+method pd destruct of P;take r0 f0;delete r0;ret;end
+method pn construct of P args word
+store w0 r0;load r2 w0;print r2;new r1 M;jnull r1 L;put f0 r1
+L: ret
+end
+method main main
+new r0 P;jnull r0 E;const r1 3;call r0 pn r1;put f0 r0
+E: stop;ret
+end
+",
+        "@0 main\nout 3\ngone 0\ngone 1\nend stopped cells 0\n",
+    )
+}
+
+/// A method that pushes 600 operations and leaves, one that pushes so many and calls it, and main, which traps that.
+fn two_stacks(alloc: Global, budget: u32, pushed: u32) -> Result<String, Fail> {
+    let mut text = format!(in alloc;
+        "image budget {budget};method u undo;ret;end\nmethod g do leaves;const r0 0\n"
+    )?;
+    for _ in 0..600u32 {
+        text.push_str("pushop r0 u\n")?;
+    }
+    text.push_str("leave r0;end\nmethod f do leaves;const r0 0\n")?;
+    for _ in 0..pushed {
+        text.push_str("pushop r0 u\n")?;
+    }
+    text.push_str("call self g;leave r0;end\nmethod main main;trap self f r0 r0;stop;ret;end\n")?;
+    Ok(text)
+}
+
+/// Budgets are looked at before the limits are.
+#[test]
+fn a_cleanup_stack_has_1024_entries(rt: HostRuntime) -> Result<(), Fail> {
+    let deep = two_stacks(rt.alloc(), 2056, 424)?;
+    let told = "@0 main\nleave 0\nend stopped cells 0\n";
+    stops(&rt, rt.alloc(), deep.as_str(), told)?;
+    let over = two_stacks(rt.alloc(), 2055, 424)?;
+    is_refused(
+        &rt,
+        rt.alloc(),
+        over.as_str(),
+        "budget 1 main price 2056 declared 2055\n",
+    )?;
+    let too_deep = two_stacks(rt.alloc(), 2058, 425)?;
+    is_refused(&rt, rt.alloc(), too_deep.as_str(), "budget 3\n")?;
+    let both = two_stacks(rt.alloc(), 2057, 425)?;
+    is_refused(
+        &rt,
+        rt.alloc(),
+        both.as_str(),
+        "budget 1 main price 2058 declared 2057\n",
+    )
+}
