@@ -2,7 +2,7 @@
 ghost use Rattle.std.specs.Prelude.{◌≡◌, ◌≤◌, IfOk, IfErr, Some, false, true, codes};
 ghost use Rattle.std.specs.String.{string_bytes};
 ghost use Rattle.clap.specs.declared.builder.command.Command.TheViews.{out-Command as fields_of};
-ghost use Rattle.clap.specs.Words.{app_of, found_of, kind_of, one_of, rows_of, rule_of, subcommand_of, subcommand_rows_of, takes};
+ghost use Rattle.clap.specs.Words.{app_of, found_of, kind_of, one_of, rows_of, rule_of, subcommand_of, subcommand_rows_of, takes, with_subcommand};
 ghost use Rattle.aom_command_line.specs.CommandLine.{asm_form, check_form, dis_form, run_form, form, file_rule, limit_rule, native_rule, prices_rule, texts_of, word_of, Asks, Declines, IsFlag, IsLimit, KeepsLimit, Says};
 
 use clap::error::ErrorKind;
@@ -69,11 +69,26 @@ pub fn read_words(alloc: Global, words: Vec<String>) -> Result<Words, WordsFault
 fn aom_command<'a>(alloc: Global) -> Result<Command<'a>, AllocError>
     ensures { IfOk result (λ c. app_of c ≡ form) }
 {
-    Command::new(alloc, "aom")
+    let command = Command::new(alloc, "aom")
         .about("Assembles, lists, checks and runs images of programs of active objects")
-        .subcommand_required(true)
+        .subcommand_required(true);
+    with_translations(alloc, with_uses(alloc, command)?)
+}
+
+/// Adds what is done with an image.
+fn with_uses<'a>(alloc: Global, command: Command<'a>) -> Result<Command<'a>, AllocError>
+    ensures { IfOk result (λ c. app_of c ≡ with_subcommand (with_subcommand (app_of command.entry) check_form.top) run_form.top) }
+{
+    command
         .subcommand(check_command(alloc)?)?
-        .subcommand(run_command(alloc)?)?
+        .subcommand(run_command(alloc)?)
+}
+
+/// Adds what makes an image of a text, and a text of an image.
+fn with_translations<'a>(alloc: Global, command: Command<'a>) -> Result<Command<'a>, AllocError>
+    ensures { IfOk result (λ c. app_of c ≡ with_subcommand (with_subcommand (app_of command.entry) asm_form.top) dis_form.top) }
+{
+    command
         .subcommand(asm_command(alloc)?)?
         .subcommand(dis_command(alloc)?)
 }

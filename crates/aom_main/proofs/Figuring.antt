@@ -5,6 +5,9 @@ use Rattle.aom_codec.specs.declared.fault.LoadFault.TheVariants as loads
 use Rattle.aom_classes.specs.declared.fault.LinkFault.{LinkFault}
 use Rattle.aom_classes.specs.declared.fault.LinkFault.TheVariants as links
 use Rattle.aom_image.specs.Image.{Image}
+use Rattle.aom_classes.specs.Admitted.{IsAdmitted}
+use Rattle.aom_classes.specs.Linked.{IsLinked}
+use Rattle.aom_shape.specs.Typing.{Typing, IsTyped}
 use Rattle.aom_budget.specs.Budgets.{BudgetsWithin}
 use Rattle.aom_budget.specs.Depths.{HasDepths}
 use Rattle.aom_budget.specs.Faults.{Refuses as RefusesBudget}
@@ -20,7 +23,7 @@ use Rattle.aom_main.specs.declared.faults.Fault.TheVariants as faults
 use Rattle.aom_main.specs.Status.{of_link, of_load, status_of}
 use Rattle.aom_main.specs.Acceptable.{IsSpelled, IsAcceptable, Refuses, RefusesOrWants}
 use Rattle.aom_main.specs.Headline.{Sent, IsSilent, Says, Told}
-use Rattle.aom_main.specs.Prices.{IsBeyond, IsEarly, IsFigured, IsWithin, IsWritten, PricesAnswers, Shown}
+use Rattle.aom_main.specs.Prices.{AreTold, IsBeyond, IsEarly, IsFigured, IsPriced, IsWithin, IsWritten, PricesAnswers, Shown}
 use Rattle.aom_main.specs.Prices.PricesBreaks.{accepted_fails, refused_fails}
 
 -- ---- faults before budgets
@@ -111,3 +114,15 @@ beyond bytes text r fault only refuses = record {
       let a : IsAcceptable r.image = subst IsAcceptable (sym (only p spelled)) acceptable in
       refuses_none r.image fault r.linked r.admitted refuses a.budgets a.depths a.heights;
 }
+
+-- so what is written of the image is what is written of the bytes
+pub written : (bytes : List ℕ) (p : Image) (t : Typing) → IsSpelled bytes p → IsAdmitted p → IsLinked p → IsTyped p t → ((q : Image) → IsSpelled bytes q → p ≡ q)
+    → (text : List ℕ) (refusal : Option BudgetFault) → IsPriced p text refusal → IsWritten bytes text refusal
+written bytes p t spelled admitted linked typed only text refusal priced = go refusal priced
+  where
+    figured : (told : List ℕ) → AreTold p told → IsFigured bytes told
+    figured told a = record { image = p; spelled = spelled; admitted = admitted; linked = linked; typing = t; typed = typed; figures = a.figures; are = a.are; told = a.told }
+
+    go : (refusal : Option BudgetFault) → IsPriced p text refusal → IsWritten bytes text refusal
+    go None (told, a, budgets, depths, heights, is) = (told, within bytes told (figured told a) budgets depths heights, is)
+    go (Some fault) (a, refuses) = beyond bytes text (figured text a) fault only refuses

@@ -4,6 +4,9 @@ use Rattle.aom_image.specs.Image.{Image}
 use Rattle.aom_classes.specs.Admitted.{IsAdmitted}
 use Rattle.aom_classes.specs.Linked.{IsLinked}
 use Rattle.aom_shape.specs.Typing.{Typing, IsTyped}
+use Rattle.aom_budget.specs.Budgets.{BudgetsWithin}
+use Rattle.aom_budget.specs.Depths.{HasDepths}
+use Rattle.aom_budget.specs.Heights.{HasHeights}
 use Rattle.aom_budget.specs.Faults.{Refuses}
 use Rattle.aom_budget.specs.Figures.{Figures, AreFigures}
 use Rattle.aom_budget.specs.declared.fault.BudgetFault.{BudgetFault}
@@ -43,6 +46,17 @@ pub record IsBeyond (bytes text : List ℕ) (fault : BudgetFault) : Type 0 where
 abbrev pub IsWritten : List ℕ → List ℕ → Option BudgetFault → Type 0
 IsWritten bytes written None = (text : List ℕ) × IsWithin bytes text × (written ≡ accepted_text ++ text)
 IsWritten bytes written (Some fault) = IsBeyond bytes written fault
+
+-- the text tells the image's figures
+pub record AreTold (p : Image) (text : List ℕ) : Type 0 where
+  pub figures : Figures
+  pub are : AreFigures p figures
+  pub told : text ≡ figures_text p figures
+
+-- what is written of an image that is well-typed: its figures, behind the word of an accepted one where it keeps within all
+abbrev pub IsPriced : Image → List ℕ → Option BudgetFault → Type 0
+IsPriced p written None = (text : List ℕ) × AreTold p text × BudgetsWithin p × HasDepths p × HasHeights p × (written ≡ accepted_text ++ text)
+IsPriced p written (Some fault) = AreTold p written × Refuses p fault
 
 -- the fault is none of budgets or limits
 abbrev pub IsEarly : Fault → Type 0

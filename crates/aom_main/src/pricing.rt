@@ -5,7 +5,7 @@ ghost use Rattle.aom_classes.specs.Admitted.{IsAdmitted};
 ghost use Rattle.aom_classes.specs.Linked.{IsLinked};
 ghost use Rattle.aom_main.specs.Acceptable.{IsSpelled, IsAcceptable, RefusesOrWants};
 ghost use Rattle.aom_main.specs.Headline.{accepted_text};
-ghost use Rattle.aom_main.specs.Prices.{IsEarly, IsWritten, PricesAnswers, Shown};
+ghost use Rattle.aom_main.specs.Prices.{IsEarly, IsPriced, IsWritten, PricesAnswers, Shown};
 
 use crate::accepting::link_bytes;
 use crate::{ExitStatus, Fault, tell};
@@ -61,9 +61,16 @@ fn price_bytes(alloc: Global, bytes: &[u8]) -> Result<Priced, Fault>
 {
     let checked = check_image(alloc, bytes)?;
     checked.typed();
-    let figures = Figures::of_image(alloc, &checked)?;
+    Ok(price_checked(alloc, &checked)?)
+}
+
+/// What is written of a checked image.
+fn price_checked(alloc: Global, checked: &Checked) -> Result<Priced, AllocError>
+    ensures { IfOk result (λ priced. IsPriced checked.now priced.text.items priced.refusal) }
+{
+    let figures = Figures::of_image(alloc, checked)?;
     let text = figures_text(alloc, checked.linked(), &figures)?;
-    match figures.keep(&checked) {
+    match figures.keep(checked) {
         Ok(()) => Ok(Priced {
             text: with_accepted(alloc, &text)?,
             refusal: None,
