@@ -5,6 +5,7 @@ ghost use Rattle.aom_codec.specs.Reads.{Reads};
 ghost use Rattle.aom_codec.specs.declared.fault.LoadFault.TheVariants.{NotZero};
 
 use crate::LoadFault;
+use byteorder::{BigEndian, ByteOrder};
 use std::marker::Model;
 
 /// The bytes that are still to be read. After a fault nothing is said of them.
@@ -55,7 +56,7 @@ impl<'a> Reader<'a> {
         }
         let (front, rest) = self.rest.split_at(2);
         self.rest = rest;
-        Ok(u16::from_be_bytes([front[0], front[1]]))
+        Ok(BigEndian::read_u16(front))
     }
 
     pub fn quad(&mut self) -> Result<u32, LoadFault>
@@ -66,7 +67,7 @@ impl<'a> Reader<'a> {
         }
         let (front, rest) = self.rest.split_at(4);
         self.rest = rest;
-        Ok(u32::from_be_bytes([front[0], front[1], front[2], front[3]]))
+        Ok(BigEndian::read_u32(front))
     }
 
     /// A count or a limit.
