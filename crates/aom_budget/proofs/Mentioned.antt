@@ -6,7 +6,7 @@ use Rattle.std.proofs.lemmas.List.Folds.{list_all-append}
 use Rattle.aom_image.specs.Image.{Image}
 use Rattle.aom_image.specs.Views.{arguments_of, arguments_in, class_in, fields_of, gives_of, instr_at, method_at, method_class, role_in}
 use Rattle.aom_image.specs.declared.instr.Instr.{Instr}
-use Rattle.aom_image.specs.declared.instr.Instr.TheVariants.{Const, Copy, Move, Add, Sub, Mul, And, Or, Xor, Jump, JumpEqual, JumpLess, JumpNull, JumpEmpty, Loop, Next, Print, Load, Store, Take, Put, New, NewOrLeave, Delete, Push, PushOperation, Pop, PopOperation, PopDelete, Call, Trap, Return, Leave, LeaveIf, Stop, Cancel}
+use Rattle.aom_image.specs.declared.instr.Instr.TheVariants.{New, NewOrLeave, Delete, Push, PushOperation, Call, Trap, Cancel}
 use Rattle.aom_image.specs.declared.instr.Target.{Target}
 use Rattle.aom_image.specs.declared.instr.Target.TheVariants.{This, Register, Field, Entry as On_entry}
 use Rattle.aom_image.specs.declared.method.Argument.{Argument}
@@ -34,8 +34,9 @@ use Rattle.aom_shape.specs.Objects.{flow_jump_null, flow_jump_empty}
 use Rattle.aom_shape.specs.Order.{Weaker, SaysNoMore}
 use Rattle.aom_shape.specs.Order.WeakerFilling.{alike_filling}
 use Rattle.aom_shape.specs.Order.Weaker.{alike, unset_word, unset_null, maybe_null, maybe_own}
-use Rattle.aom_shape.specs.Rules.{flows}
+use Rattle.aom_shape.specs.Rules.{flows, ways_of}
 use Rattle.aom_shape.specs.Shape.{Shape}
+use Rattle.aom_shape.specs.Ways.{As_before, Branches, Branches_on_empty, Branches_on_null, Called, Caught, Dropped, Ends, Filled, Goes_back, Goes_on, Goes_to, Holding, Moved, News, Popped, Pushed, Pushed_operation, Taken, Ways, after, flowing}
 use Rattle.aom_shape.specs.Tables.{at}
 use Rattle.aom_shape.specs.Things.{Holder, Member, root_thing, field_thing, holder_by, holder_of}
 use Rattle.aom_shape.specs.Typing.{argument_kind, entry_shape}
@@ -236,44 +237,47 @@ module _ (p : Image) (m : ℕ) where
   empty_low pc sh Full f to h = (h, tt)
   empty_low pc sh Perhaps f to h = (field_low sh f Full h, (field_low sh f Empty h, tt))
 
+  -- the kind that a register comes to have names such a class, and so does what a call gives
+  NamesLow : Ways → Type 0
+  NamesLow (Goes_on (Holding a kind)) = IsTrue (is_low p m kind)
+  NamesLow (Goes_on (Called target called first c)) = MentionsResult p m (gives_of p called)
+  NamesLow (Goes_on (Caught target called first c)) = MentionsResult p m (gives_of p called)
+  NamesLow _ = true ≡ true
+
+  names_low : (own : Option ℕ) (i : Instr) → RunsBelow p m own i → NamesLow (ways_of p i)
+  unfolding NamesLow
+  names_low own (New a c) r = mentioned p m c r
+  names_low own (NewOrLeave a c) r = mentioned p m c r
+  names_low own (Call target called first c) r = r.gives
+  names_low own (Trap target called first c) r = r.gives
+  names_low own _ r = refl
+
   module _ (own : Option ℕ) (fields : FieldsLow p m (holder_of p m)) where
+    after_low : (pc : ℕ) (sh : Shape) (news : News) → NamesLow (Goes_on news) → IsLow p m sh → IsLow p m (after p m pc sh news)
+    unfolding NamesLow
+    after_low pc sh As_before low h = h
+    after_low pc sh (Holding a kind) low h = set_low sh a kind h low
+    after_low pc sh (Moved a b) low h = set_low (set_register sh b Null) a (register sh b) (set_low sh b Null h refl) (h.registers b)
+    after_low pc sh (Taken a f) low h = set_low (set_field sh f Empty) a _ (field_low sh f Empty h) (filled_low (field_thing p (holder_of p m) f) (field sh f) (fields f))
+    after_low pc sh (Filled f b) low h = field_low (set_register sh b Null) f _ (set_low sh b Null h refl)
+    after_low pc sh (Pushed a) low h = with_low (entry_of (register sh a)) (set_register sh a Null) (pushed_low (register sh a) (h.registers a)) (set_low sh a Null h refl)
+    after_low pc sh Pushed_operation low h = with_low Operation sh refl h
+    after_low pc sh (Popped a) low h = set_low _ a (top_kind sh.entries) (without_low sh h) (top_low sh.entries h.entries)
+    after_low pc sh Dropped low h = without_low sh h
+    after_low pc sh (Called target called first c) low h = brought_low (gives_of p called) c _ low (lasting_low target called first sh h)
+    after_low pc sh (Caught target called first c) low h = caught_low (gives_of p called) c _ low (lasting_low target called first sh h)
+
+    ways_low : (pc : ℕ) (sh : Shape) (ways : Ways) → NamesLow ways → IsLow p m sh → AllLow p m (flowing p m pc sh ways)
+    ways_low pc sh Ends low h = tt
+    ways_low pc sh (Goes_on news) low h = (after_low pc sh news low h, tt)
+    ways_low pc sh (Goes_to to) low h = (h, tt)
+    ways_low pc sh (Branches to) low h = (h, (h, tt))
+    ways_low pc sh (Goes_back to) low h = (h, (h, tt))
+    ways_low pc sh (Branches_on_null a to) low h = null_low pc sh (register sh a) a to h (h.registers a)
+    ways_low pc sh (Branches_on_empty f to) low h = empty_low pc sh (field sh f) f to h
+
     flows_low : (pc : ℕ) (sh : Shape) (i : Instr) → RunsBelow p m own i → IsLow p m sh → AllLow p m (flows p m pc sh i)
-    flows_low pc sh (Const a w) r h = (set_low sh a Word h refl, tt)
-    flows_low pc sh (Copy a b) r h = (set_low sh a Word h refl, tt)
-    flows_low pc sh (Add a b c) r h = (set_low sh a Word h refl, tt)
-    flows_low pc sh (Sub a b c) r h = (set_low sh a Word h refl, tt)
-    flows_low pc sh (Mul a b c) r h = (set_low sh a Word h refl, tt)
-    flows_low pc sh (And a b c) r h = (set_low sh a Word h refl, tt)
-    flows_low pc sh (Or a b c) r h = (set_low sh a Word h refl, tt)
-    flows_low pc sh (Xor a b c) r h = (set_low sh a Word h refl, tt)
-    flows_low pc sh (Load a w) r h = (set_low sh a Word h refl, tt)
-    flows_low pc sh (Jump to) r h = (h, tt)
-    flows_low pc sh (Loop depth rounds) r h = (h, tt)
-    flows_low pc sh (Print a) r h = (h, tt)
-    flows_low pc sh (Store w b) r h = (h, tt)
-    flows_low pc sh (LeaveIf a) r h = (h, tt)
-    flows_low pc sh Stop r h = (h, tt)
-    flows_low pc sh (JumpEqual a b to) r h = (h, (h, tt))
-    flows_low pc sh (JumpLess a b to) r h = (h, (h, tt))
-    flows_low pc sh (Next depth to) r h = (h, (h, tt))
-    flows_low pc sh (Move a b) r h = (set_low (set_register sh b Null) a (register sh b) (set_low sh b Null h refl) (h.registers b), tt)
-    flows_low pc sh (JumpNull a to) r h = null_low pc sh (register sh a) a to h (h.registers a)
-    flows_low pc sh (JumpEmpty f to) r h = empty_low pc sh (field sh f) f to h
-    flows_low pc sh (Take a f) r h = (set_low (set_field sh f Empty) a _ (field_low sh f Empty h) (filled_low (field_thing p (holder_of p m) f) (field sh f) (fields f)), tt)
-    flows_low pc sh (Put f b) r h = (field_low (set_register sh b Null) f _ (set_low sh b Null h refl), tt)
-    flows_low pc sh (New a c) r h = (set_low sh a _ h (mentioned p m c r), tt)
-    flows_low pc sh (NewOrLeave a c) r h = (set_low sh a _ h (mentioned p m c r), tt)
-    flows_low pc sh (Delete a) r h = (set_low sh a Null h refl, tt)
-    flows_low pc sh (Push a) r h = (with_low (entry_of (register sh a)) (set_register sh a Null) (pushed_low (register sh a) (h.registers a)) (set_low sh a Null h refl), tt)
-    flows_low pc sh (PushOperation a called) r h = (with_low Operation sh refl h, tt)
-    flows_low pc sh (Pop a) r h = (set_low _ a (top_kind sh.entries) (without_low sh h) (top_low sh.entries h.entries), tt)
-    flows_low pc sh PopOperation r h = (without_low sh h, tt)
-    flows_low pc sh PopDelete r h = (without_low sh h, tt)
-    flows_low pc sh (Call target called first c) r h = (brought_low (gives_of p called) c _ r.gives (lasting_low target called first sh h), tt)
-    flows_low pc sh (Trap target called first c) r h = (caught_low (gives_of p called) c _ r.gives (lasting_low target called first sh h), tt)
-    flows_low pc sh (Leave a) r h = tt
-    flows_low pc sh (Return a) r h = tt
-    flows_low pc sh _ r h = tt
+    flows_low pc sh i r h = ways_low pc sh (ways_of p i) (names_low own i r) h
 
   arguments_kinds : (xs : List Argument) (i : ℕ) → All (MentionsArgument p m) xs → IsTrue (is_low p m (at Unset (map argument_kind xs) i))
   arguments_kinds [] i h = refl

@@ -4,7 +4,7 @@ use Rattle.std.proofs.lemmas.Bool.{false≢true}
 use Rattle.std.proofs.lemmas.Bool.Decides.{eqb_tells}
 use Rattle.aom_image.specs.Image.{Image}
 use Rattle.aom_image.specs.declared.instr.Instr.{Instr}
-use Rattle.aom_image.specs.declared.instr.Instr.TheVariants.{Const, Copy, Move, Add, Sub, Mul, And, Or, Xor, Jump, JumpEqual, JumpLess, JumpNull, JumpEmpty, Loop, Next, Print, Load, Store, Take, Put, New, NewOrLeave, Delete, Push, PushOperation, Pop, PopOperation, PopDelete, Call, Trap, Return, Leave, LeaveIf, Stop}
+use Rattle.aom_image.specs.declared.instr.Instr.TheVariants.{JumpNull, JumpEmpty, Call, Trap, PushOperation, Push, Delete}
 use Rattle.aom_image.specs.declared.method.Role.TheVariants.{Destruct}
 use Rattle.aom_image.specs.declared.method.Thing.{Thing}
 use Rattle.aom_image.specs.declared.method.Thing.TheVariants.{Object, Message}
@@ -48,42 +48,9 @@ empty_same p m place sh Full f to = refl
 empty_same p m place sh Perhaps f to = refl
 
 pub targets_same : (p : Image) (m place : ℕ) (sh : Shape) (i : Instr) → AllTrue (rule_needs p m place sh i) → targets_of place sh i ≡ targets (flows p m place sh i)
-targets_same p m place sh (Const a w) needs = refl
-targets_same p m place sh (Copy a b) needs = refl
-targets_same p m place sh (Add a b c) needs = refl
-targets_same p m place sh (Sub a b c) needs = refl
-targets_same p m place sh (Mul a b c) needs = refl
-targets_same p m place sh (And a b c) needs = refl
-targets_same p m place sh (Or a b c) needs = refl
-targets_same p m place sh (Xor a b c) needs = refl
-targets_same p m place sh (Jump to) needs = refl
-targets_same p m place sh (JumpEqual a b to) needs = refl
-targets_same p m place sh (JumpLess a b to) needs = refl
 targets_same p m place sh (JumpNull a to) needs = null_same p m place sh (register sh a) a to
 targets_same p m place sh (JumpEmpty f to) needs = empty_same p m place sh (field sh f) f to
-targets_same p m place sh (Loop depth rounds) needs = refl
-targets_same p m place sh (Next depth to) needs = refl
-targets_same p m place sh (Print a) needs = refl
-targets_same p m place sh (Load a w) needs = refl
-targets_same p m place sh (Store w b) needs = refl
-targets_same p m place sh (Move a b) needs = refl
-targets_same p m place sh (Take a f) needs = refl
-targets_same p m place sh (Put f b) needs = refl
-targets_same p m place sh (New a c) needs = refl
-targets_same p m place sh (NewOrLeave a c) needs = refl
-targets_same p m place sh (Delete a) needs = refl
-targets_same p m place sh (Push a) needs = refl
-targets_same p m place sh (PushOperation a k) needs = refl
-targets_same p m place sh (Pop a) needs = refl
-targets_same p m place sh PopOperation needs = refl
-targets_same p m place sh PopDelete needs = refl
-targets_same p m place sh (Call target k first c) needs = refl
-targets_same p m place sh (Trap target k first c) needs = refl
-targets_same p m place sh (Return a) needs = refl
-targets_same p m place sh (Leave a) needs = refl
-targets_same p m place sh (LeaveIf a) needs = refl
-targets_same p m place sh Stop needs = refl
-targets_same p m place sh _ needs = absurd (false≢true needs.0)
+targets_same p m place sh _ needs = first_of (cc, grind arith)
 
 pub among_flows : (to : ℕ) (fs : List Flow) → Among to (targets fs) → AmongFlows to fs
 among_flows to [] h = absurd h

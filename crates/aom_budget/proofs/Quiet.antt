@@ -5,7 +5,7 @@ use Rattle.std.proofs.lemmas.Bool.{true≢false}
 use Rattle.aom_image.specs.Image.{Image}
 use Rattle.aom_image.specs.Views.{arguments_of, gives_of, gives_in, is_quiet, quiet_in, leaves, leaves_in, method_at, method_class, method_role}
 use Rattle.aom_image.specs.declared.instr.Instr.{Instr}
-use Rattle.aom_image.specs.declared.instr.Instr.TheVariants.{Const, Copy, Move, Add, Sub, Mul, And, Or, Xor, Jump, JumpEqual, JumpLess, JumpNull, JumpEmpty, Loop, Next, Print, Load, Store, Take, Put, New, NewOrLeave, Delete, Push, PushOperation, Pop, PopOperation, PopDelete, Call, Trap, Return, Leave, LeaveIf, Stop}
+use Rattle.aom_image.specs.declared.instr.Instr.TheVariants.{Push, PushOperation, Call, Trap}
 use Rattle.aom_image.specs.declared.instr.Target.{Target}
 use Rattle.aom_image.specs.declared.method.Gives.{Gives}
 use Rattle.aom_image.specs.declared.method.Gives.TheVariants.{Nothing, Word as A_word, Own as An_own, Maybe as A_maybe, Left}
@@ -13,14 +13,15 @@ use Rattle.aom_image.specs.declared.method.Method.{Method}
 use Rattle.aom_roles.specs.Shapes.{IsShaped, gives_left}
 use Rattle.aom_classes.specs.Linked.{IsLinked}
 use Rattle.aom_classes.proofs.Facts.{all_there}
-use Rattle.aom_shape.specs.Calls.{brought, while_called, arguments_moved, rule_target, rule_arguments, is_construct}
+use Rattle.aom_shape.specs.Calls.{brought, lasting, while_called, arguments_moved, rule_target, rule_arguments, is_construct}
 use Rattle.aom_shape.specs.Cleanup.{without_top}
 use Rattle.aom_shape.specs.Kinds.{register, field}
 use Rattle.aom_shape.specs.Laws.{HaveAtMost}
 use Rattle.aom_shape.specs.Needs.{AllTrue, Need, Flow}
 use Rattle.aom_shape.specs.Objects.{flow_jump_null, flow_jump_empty}
-use Rattle.aom_shape.specs.Rules.{rule_needs, flows}
+use Rattle.aom_shape.specs.Rules.{rule_needs, flows, ways_of}
 use Rattle.aom_shape.specs.Shape.{Shape}
+use Rattle.aom_shape.specs.Ways.{As_before, Branches, Branches_on_empty, Branches_on_null, Called, Caught, Dropped, Ends, Filled, Goes_back, Goes_on, Goes_to, Holding, Moved, News, Popped, Pushed, Pushed_operation, Taken, Ways, after, flowing}
 use Rattle.aom_shape.specs.Tables.{at}
 use Rattle.aom_shape.specs.Typing.{entry_shape}
 use Rattle.aom_shape.specs.declared.kind.Entry.{Entry}
@@ -105,46 +106,44 @@ module _ (p : Image) (m : ℕ) (linked : IsLinked p) (quiet : is_quiet p m ≡ t
   empty_low pc sh Full f to none = (low none, tt)
   empty_low pc sh Perhaps f to none = (low none, (low none, tt))
 
+  -- nothing is pushed, no trap is set, and what is called is quiet too
+  IsQuietly : Ways → Type 0
+  IsQuietly (Goes_on (Pushed r)) = ⊥
+  IsQuietly (Goes_on Pushed_operation) = ⊥
+  IsQuietly (Goes_on (Called target k first c)) = is_quiet p k ≡ true
+  IsQuietly (Goes_on (Caught target k first c)) = ⊥
+  IsQuietly _ = true ≡ true
+
+  quietly : (pc : ℕ) (sh : Shape) (i : Instr) → AllTrue (rule_needs p m pc sh i) → IsQuietly (ways_of p i)
+  unfolding IsQuietly
+  quietly pc sh (Push r) needs = unleft needs.1.0
+  quietly pc sh (PushOperation r k) needs = unleft needs.1.0
+  quietly pc sh (Call target k first c) needs = callee_quiet pc sh target k first c needs
+  quietly pc sh (Trap target k first c) needs = untrapped pc sh target k first c needs
+  quietly pc sh _ needs = refl
+
+  after_none : (pc : ℕ) (sh : Shape) (news : News) → IsQuietly (Goes_on news) → sh.entries ≡ [] → length (after p m pc sh news).entries ≤ 0
+  unfolding IsQuietly
+  after_none pc sh (Pushed r) q none = absurd q
+  after_none pc sh Pushed_operation q none = absurd q
+  after_none pc sh (Popped r) q none = top_low sh.entries none
+  after_none pc sh Dropped q none = top_low sh.entries none
+  after_none pc sh (Called target k first c) q none =
+      omega (arith, brings_none (gives_of p k) c (lasting p m pc sh target k first) (quiet_keeps p k linked q), lasting_has target (method_class p k) (arguments_of p k) first sh, low none)
+  after_none pc sh (Caught target k first c) q none = absurd q
+  after_none pc sh _ q none = low none
+
+  ways_none : (pc : ℕ) (sh : Shape) (ways : Ways) → IsQuietly ways → sh.entries ≡ [] → HaveAtMost 0 (flowing p m pc sh ways)
+  ways_none pc sh Ends q none = tt
+  ways_none pc sh (Goes_on news) q none = (after_none pc sh news q none, tt)
+  ways_none pc sh (Goes_to to) q none = (low none, tt)
+  ways_none pc sh (Branches to) q none = (low none, (low none, tt))
+  ways_none pc sh (Goes_back to) q none = (low none, (low none, tt))
+  ways_none pc sh (Branches_on_null r to) q none = null_low pc sh (register sh r) r to none
+  ways_none pc sh (Branches_on_empty f to) q none = empty_low pc sh (field sh f) f to none
+
   stays_low : (pc : ℕ) (sh : Shape) (i : Instr) → AllTrue (rule_needs p m pc sh i) → sh.entries ≡ [] → HaveAtMost 0 (flows p m pc sh i)
-  stays_low pc sh (Const r w) needs none = (low none, tt)
-  stays_low pc sh (Copy r s) needs none = (low none, tt)
-  stays_low pc sh (Add r s t) needs none = (low none, tt)
-  stays_low pc sh (Sub r s t) needs none = (low none, tt)
-  stays_low pc sh (Mul r s t) needs none = (low none, tt)
-  stays_low pc sh (And r s t) needs none = (low none, tt)
-  stays_low pc sh (Or r s t) needs none = (low none, tt)
-  stays_low pc sh (Xor r s t) needs none = (low none, tt)
-  stays_low pc sh (Jump to) needs none = (low none, tt)
-  stays_low pc sh (JumpEqual r s to) needs none = (low none, (low none, tt))
-  stays_low pc sh (JumpLess r s to) needs none = (low none, (low none, tt))
-  stays_low pc sh (Loop depth rounds) needs none = (low none, tt)
-  stays_low pc sh (Next depth to) needs none = (low none, (low none, tt))
-  stays_low pc sh (Print r) needs none = (low none, tt)
-  stays_low pc sh (Load r w) needs none = (low none, tt)
-  stays_low pc sh (Store w s) needs none = (low none, tt)
-  stays_low pc sh (Move r s) needs none = (low none, tt)
-  stays_low pc sh (Take r f) needs none = (low none, tt)
-  stays_low pc sh (Put f s) needs none = (low none, tt)
-  stays_low pc sh (New r c) needs none = (low none, tt)
-  stays_low pc sh (NewOrLeave r c) needs none = (low none, tt)
-  stays_low pc sh (Delete r) needs none = (low none, tt)
-  stays_low pc sh (LeaveIf r) needs none = (low none, tt)
-  stays_low pc sh Stop needs none = (low none, tt)
-  stays_low pc sh (JumpNull r to) needs none = null_low pc sh (register sh r) r to none
-  stays_low pc sh (JumpEmpty f to) needs none = empty_low pc sh (field sh f) f to none
-  stays_low pc sh (Push r) needs none = absurd (unleft needs.1.0)
-  stays_low pc sh (PushOperation r k) needs none = absurd (unleft needs.1.0)
-  stays_low pc sh (Pop r) needs none = (top_low sh.entries none, tt)
-  stays_low pc sh PopOperation needs none = (top_low sh.entries none, tt)
-  stays_low pc sh PopDelete needs none = (top_low sh.entries none, tt)
-  stays_low pc sh (Call target k first c) needs none =
-      let keeps = quiet_keeps p k linked (callee_quiet pc sh target k first c needs) in
-      let lasting = while_called target (method_class p k) (arguments_moved (arguments_of p k) first sh) in
-      (omega (arith, brings_none (gives_of p k) c lasting keeps, lasting_has target (method_class p k) (arguments_of p k) first sh, low none), tt)
-  stays_low pc sh (Trap target k first c) needs none = absurd (untrapped pc sh target k first c needs)
-  stays_low pc sh (Leave r) needs none = tt
-  stays_low pc sh (Return r) needs none = tt
-  stays_low pc sh _ needs none = tt
+  stays_low pc sh i needs none = ways_none pc sh (ways_of p i) (quietly pc sh i needs) none
 
 -- ---- the states without entries
 

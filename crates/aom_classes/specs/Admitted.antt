@@ -1,5 +1,5 @@
 -- What an image may have so far.
-use Rattle.std.specs.Prelude.{ℕ, Bool, true, false, ◌&&◌, nat_eq, List, IfSome, IsTrue, slice_get}
+use Rattle.std.specs.Prelude.{ℕ, ◌==◌, Bool, true, false, not, ◌&&◌, nat_eq, List, [], ◌∷◌, IfSome, IsTrue, slice_get}
 use Rattle.std.specs.List.{list_all}
 use Rattle.aom_image.specs.Image.{Image}
 use Rattle.aom_image.specs.declared.class.ClassDecl.{ClassDecl}
@@ -7,7 +7,6 @@ use Rattle.aom_image.specs.declared.class.ClassKind.{ClassKind}
 use Rattle.aom_image.specs.declared.class.ClassKind.TheVariants.{Plain}
 use Rattle.aom_image.specs.declared.image.Header.{Header}
 use Rattle.aom_image.specs.declared.instr.Instr.{Instr}
-use Rattle.aom_image.specs.declared.instr.Instr.TheVariants as instrs
 use Rattle.aom_image.specs.declared.method.Argument.{Argument}
 use Rattle.aom_image.specs.declared.method.Argument.TheVariants as arguments
 use Rattle.aom_image.specs.declared.method.Gives.{Gives}
@@ -17,45 +16,35 @@ use Rattle.aom_image.specs.declared.method.Role.{Role}
 use Rattle.aom_image.specs.declared.method.Role.TheVariants.{Do, Main, Construct, Destruct, Undo}
 use Rattle.aom_image.specs.declared.method.Thing.{Thing}
 use Rattle.aom_image.specs.declared.method.Thing.TheVariants.{Object, Message}
+use Rattle.aom_image.specs.declared.mnemonic.Mnemonic.{Mnemonic}
+use Rattle.aom_image.specs.declared.mnemonic.Mnemonic.TheVariants as m
+use Rattle.aom_image.specs.Parts.{mnemonic}
+use Rattle.aom_image.specs.Rows.{row}
 
--- whether an instruction is one of those
+-- the instructions that come later
+abbrev pub later : List Mnemonic
+later =
+    m.JumpActive
+    ∷ m.JumpAdded
+    ∷ m.Enlist
+    ∷ m.Issue
+    ∷ m.SetActive
+    ∷ m.Cancel
+    ∷ m.Abort
+    ∷ m.Status
+    ∷ m.Connect
+    ∷ m.Ask
+    ∷ m.Close
+    ∷ m.TakeMessage
+    ∷ m.Reply
+    ∷ []
+
+abbrev pub is_other : Mnemonic → Mnemonic → Bool
+is_other a b = not ((row a).opcode == (row b).opcode)
+
+-- whether an instruction is none of those
 unfoldable pub admits_instr : Instr → Bool
-admits_instr (instrs.Const r w) = true
-admits_instr (instrs.Copy a b) = true
-admits_instr (instrs.Move a b) = true
-admits_instr (instrs.Add a b c) = true
-admits_instr (instrs.Sub a b c) = true
-admits_instr (instrs.Mul a b c) = true
-admits_instr (instrs.And a b c) = true
-admits_instr (instrs.Or a b c) = true
-admits_instr (instrs.Xor a b c) = true
-admits_instr (instrs.Jump t) = true
-admits_instr (instrs.JumpEqual a b t) = true
-admits_instr (instrs.JumpLess a b t) = true
-admits_instr (instrs.JumpNull r t) = true
-admits_instr (instrs.JumpEmpty f t) = true
-admits_instr (instrs.Loop d n) = true
-admits_instr (instrs.Next d t) = true
-admits_instr (instrs.Print r) = true
-admits_instr (instrs.Load r w) = true
-admits_instr (instrs.Store w r) = true
-admits_instr (instrs.Take r f) = true
-admits_instr (instrs.Put f r) = true
-admits_instr (instrs.New r c) = true
-admits_instr (instrs.Delete r) = true
-admits_instr (instrs.Call t m a r) = true
-admits_instr (instrs.Trap t m a r) = true
-admits_instr (instrs.NewOrLeave r c) = true
-admits_instr (instrs.Push r) = true
-admits_instr (instrs.PushOperation r m) = true
-admits_instr (instrs.Pop r) = true
-admits_instr instrs.PopOperation = true
-admits_instr instrs.PopDelete = true
-admits_instr (instrs.Leave r) = true
-admits_instr (instrs.LeaveIf r) = true
-admits_instr (instrs.Return r) = true
-admits_instr instrs.Stop = true
-admits_instr _ = false
+admits_instr i = list_all (is_other (mnemonic i)) later
 
 -- whether a class is plain
 unfoldable pub is_plain : ClassKind → Bool
@@ -93,11 +82,11 @@ admits_result (gives.Left c) = true
 
 -- whether a method is of no states
 abbrev pub stays : Method → Bool
-stays m = nat_eq m.before.0 0 && nat_eq m.after.0 0
+stays d = nat_eq d.before.0 0 && nat_eq d.after.0 0
 
 -- whether a method has such a role, arguments and result, and is of admitted instructions
 unfoldable pub admits_method : Method → Bool
-admits_method m = admits_role m.role && stays m && list_all admits_argument m.arguments && admits_result m.gives && list_all admits_instr m.code
+admits_method d = admits_role d.role && stays d && list_all admits_argument d.arguments && admits_result d.gives && list_all admits_instr d.code
 
 -- whether there are no natives
 abbrev pub admits_header : Header → Bool

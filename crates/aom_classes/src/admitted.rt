@@ -1,65 +1,42 @@
 //! What an image may have so far.
 ghost use Rattle.std.specs.Prelude.{◌≡◌, ◌↔◌, IsTrue};
 ghost use Rattle.std.specs.List.{list_all};
-ghost use Rattle.aom_classes.specs.Admitted.{admits_instr, is_plain, admits_thing, admits_class, admits_role, admits_argument, admits_result, stays, admits_method, admits_header, EachPasses, IsAdmitted};
+ghost use Rattle.aom_classes.specs.Admitted.{is_other, admits_instr, is_plain, admits_thing, admits_class, admits_role, admits_argument, admits_result, stays, admits_method, admits_header, EachPasses, IsAdmitted};
 
-use aom_image::{Argument, ClassDecl, ClassKind, Gives, Header, Image, Instr, Method, Role, Thing};
+use aom_image::{
+    Argument, ClassDecl, ClassKind, Gives, Header, Image, Instr, Method, Mnemonic, Role, Thing,
+};
 use bitflags::Flags;
+
+/// The instructions that come later.
+const LATER: [Mnemonic; 13] = [
+    Mnemonic::JumpActive,
+    Mnemonic::JumpAdded,
+    Mnemonic::Enlist,
+    Mnemonic::Issue,
+    Mnemonic::SetActive,
+    Mnemonic::Cancel,
+    Mnemonic::Abort,
+    Mnemonic::Status,
+    Mnemonic::Connect,
+    Mnemonic::Ask,
+    Mnemonic::Close,
+    Mnemonic::TakeMessage,
+    Mnemonic::Reply,
+];
+
+fn is_other(a: Mnemonic, b: Mnemonic) -> bool
+    ensures { result ≡ is_other a b }
+{
+    a.row().opcode() != b.row().opcode()
+}
 
 #[tactic(auto, unfolding(crate::specs::Admitted::admits_instr))]
 fn admits_instr(instr: &Instr) -> bool
     ensures { result ≡ admits_instr instr.now }
 {
-    match instr {
-        Instr::Const(_, _)
-        | Instr::Copy(_, _)
-        | Instr::Move(_, _)
-        | Instr::Add(_, _, _)
-        | Instr::Sub(_, _, _)
-        | Instr::Mul(_, _, _)
-        | Instr::And(_, _, _)
-        | Instr::Or(_, _, _)
-        | Instr::Xor(_, _, _)
-        | Instr::Jump(_)
-        | Instr::JumpEqual(_, _, _)
-        | Instr::JumpLess(_, _, _)
-        | Instr::JumpNull(_, _)
-        | Instr::JumpEmpty(_, _)
-        | Instr::Loop(_, _)
-        | Instr::Next(_, _)
-        | Instr::Print(_)
-        | Instr::Load(_, _)
-        | Instr::Store(_, _)
-        | Instr::Take(_, _)
-        | Instr::Put(_, _)
-        | Instr::New(_, _)
-        | Instr::NewOrLeave(_, _)
-        | Instr::Delete(_)
-        | Instr::Push(_)
-        | Instr::PushOperation(_, _)
-        | Instr::Pop(_)
-        | Instr::PopOperation
-        | Instr::PopDelete
-        | Instr::Call(_, _, _, _)
-        | Instr::Trap(_, _, _, _)
-        | Instr::Return(_)
-        | Instr::Leave(_)
-        | Instr::LeaveIf(_)
-        | Instr::Stop => true,
-        Instr::JumpActive(_)
-        | Instr::JumpAdded(_)
-        | Instr::Enlist(_)
-        | Instr::Issue(_, _)
-        | Instr::SetActive
-        | Instr::Cancel
-        | Instr::Abort
-        | Instr::Status(_)
-        | Instr::Connect(_)
-        | Instr::Ask(_, _, _)
-        | Instr::Close
-        | Instr::TakeMessage(_)
-        | Instr::Reply(_, _) => false,
-    }
+    let mnemonic = instr.mnemonic();
+    LATER.iter().all(|other| is_other(mnemonic, *other))
 }
 
 #[tactic(auto, unfolding(crate::specs::Admitted::is_plain))]

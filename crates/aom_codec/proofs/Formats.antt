@@ -4,9 +4,9 @@ use Rattle.std.proofs.lemmas.Bool.{leb-true, le-leb}
 use Rattle.aom_image.specs.Image.{Image}
 use Rattle.std.specs.List.{find}
 use Rattle.aom_image.proofs.Again.{making_parts_again}
-use Rattle.aom_image.specs.Mnemonics.{mnemonics, with_opcode}
+use Rattle.aom_image.specs.Mnemonics.{with_opcode}
 use Rattle.aom_image.specs.Parts.{mnemonic, operands}
-use Rattle.aom_image.specs.Rows.{row}
+use Rattle.aom_image.specs.Rows.{mnemonics, row}
 use Rattle.aom_image.specs.declared.kinds.Kinds.{Kinds}
 use Rattle.aom_image.specs.declared.kinds.LargeKind.{LargeKind}
 use Rattle.aom_image.specs.declared.kinds.SmallKind.{SmallKind}

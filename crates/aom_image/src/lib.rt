@@ -14,7 +14,6 @@ mod mnemonic;
 mod operand;
 mod operands;
 mod parts;
-mod row;
 
 pub use class::{ClassDecl, ClassKind, Provider};
 pub use form::{form_ok, spelled_len};
@@ -25,10 +24,9 @@ pub use kinds::{Kinds, LargeKind, Order, SmallKind};
 pub use laws::instructions_and_rows;
 pub use limits::Limits;
 pub use method::{Argument, Gives, Method, MethodFlags, Role, States, Thing};
-pub use mnemonic::Mnemonic;
+pub use mnemonic::{Mnemonic, Row};
 pub use operand::{Large, Operands, Small};
 pub use operands::{
     ClassNumber, EntryDepth, FieldIndex, LoopDepth, MethodNumber, NativeNumber, Place, Register,
     WordIndex,
 };
-pub use row::Row;

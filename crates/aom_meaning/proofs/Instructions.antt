@@ -15,7 +15,8 @@ use Rattle.aom_image.specs.declared.class.ClassDecl.{ClassDecl}
 use Rattle.aom_image.specs.declared.instr.Instr.{Instr}
 use Rattle.aom_syntax.specs.Classes.{declared_at, is_at}
 use Rattle.aom_syntax.specs.Methods.{after_label, check_label, instruction, known_mnemonic, label_of, named_mnemonic, skip_label}
-use Rattle.aom_image.specs.Mnemonics.{mnemonic_of, mnemonic_text, mnemonics}
+use Rattle.aom_image.specs.Mnemonics.{mnemonic_of, mnemonic_text}
+use Rattle.aom_image.specs.Rows.{mnemonics}
 use Rattle.aom_syntax.specs.Names.{place_of}
 use Rattle.aom_syntax.specs.Reading.{◌>>=◌, as_name, giving, next, nothing_more, seen, word}
 use Rattle.aom_syntax.specs.Words.{words_operands}

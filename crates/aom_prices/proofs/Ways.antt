@@ -1,20 +1,21 @@
 -- Where the flows of an instruction lead: to the next place, where it jumps, or where a next goes back, and each place is reached.
-use Rattle.std.proofs.Common.{◌≡◌, ◌<◌, ℕ, suc, List, [], ◌∷◌, Some, ⊎_elim, refl, subst}
+use Rattle.std.proofs.Common.{◌≡◌, ◌<◌, ℕ, suc, List, [], ◌∷◌, Some, ⊎_elim, ap, refl, subst}
 use Rattle.aom_image.specs.Image.{Image}
 use Rattle.aom_image.specs.Views.{instr_at}
 use Rattle.aom_image.specs.declared.instr.Instr.{Instr}
-use Rattle.aom_image.specs.declared.instr.Instr.TheVariants.{Const, Copy, Move, Add, Sub, Mul, And, Or, Xor, Jump, JumpEqual, JumpLess, JumpNull, JumpEmpty, Loop, Next, Print, Load, Store, Take, Put, New, NewOrLeave, Delete, Push, PushOperation, Pop, PopOperation, PopDelete, Call, Trap, Return, Leave, LeaveIf, Stop}
 use Rattle.aom_classes.specs.Jumps.{back_of, jump_of}
 use Rattle.aom_shape.specs.Kinds.{field, register}
 use Rattle.aom_shape.specs.Needs.{Flow}
 use Rattle.aom_shape.specs.Objects.{flow_jump_empty, flow_jump_null}
-use Rattle.aom_shape.specs.Rules.{flows}
+use Rattle.aom_shape.specs.Rules.{flows, ways_of}
 use Rattle.aom_shape.specs.Shape.{Shape}
+use Rattle.aom_shape.specs.Ways.{Ways, Ends, Goes_on, Goes_to, Branches, Goes_back, Branches_on_null, Branches_on_empty, flowing}
 use Rattle.aom_shape.specs.Typing.{AllLead, Typing, shape_at}
 use Rattle.aom_shape.specs.declared.kind.Filling.{Filling}
 use Rattle.aom_shape.specs.declared.kind.Filling.TheVariants as fillings
 use Rattle.aom_shape.specs.declared.kind.Kind.{Kind}
 use Rattle.aom_shape.specs.declared.kind.Kind.TheVariants as kinds
+use Rattle.aom_shape.proofs.Ways.{Leads, leads}
 use Rattle.aom_prices.specs.Costs.{AmongFlows}
 
 -- the jumps of a method go forward
@@ -46,43 +47,17 @@ empty_ways p m pc sh fillings.Full f to i e = (on, tt)
 empty_ways p m pc sh fillings.Perhaps f to i e = (on, (jump e, tt))
 
 all_ways : (p : Image) (m pc : ℕ) (sh : Shape) (i : Instr) → AllWays pc i (flows p m pc sh i)
-unfolding AllWays jump_of back_of
-all_ways p m pc sh (Const a w) = (on, tt)
-all_ways p m pc sh (Copy a b) = (on, tt)
-all_ways p m pc sh (Add a b c) = (on, tt)
-all_ways p m pc sh (Sub a b c) = (on, tt)
-all_ways p m pc sh (Mul a b c) = (on, tt)
-all_ways p m pc sh (And a b c) = (on, tt)
-all_ways p m pc sh (Or a b c) = (on, tt)
-all_ways p m pc sh (Xor a b c) = (on, tt)
-all_ways p m pc sh (Jump to) = (jump refl, tt)
-all_ways p m pc sh (JumpEqual a b to) = (on, (jump refl, tt))
-all_ways p m pc sh (JumpLess a b to) = (on, (jump refl, tt))
-all_ways p m pc sh (JumpNull a to) = null_ways p m pc sh (register sh a) a to (JumpNull a to) refl
-all_ways p m pc sh (JumpEmpty f to) = empty_ways p m pc sh (field sh f) f to (JumpEmpty f to) refl
-all_ways p m pc sh (Loop depth rounds) = (on, tt)
-all_ways p m pc sh (Next depth to) = (back refl, (on, tt))
-all_ways p m pc sh (Print a) = (on, tt)
-all_ways p m pc sh (Load a w) = (on, tt)
-all_ways p m pc sh (Store w b) = (on, tt)
-all_ways p m pc sh (Move a b) = (on, tt)
-all_ways p m pc sh (Take a f) = (on, tt)
-all_ways p m pc sh (Put f b) = (on, tt)
-all_ways p m pc sh (New a c) = (on, tt)
-all_ways p m pc sh (Delete a) = (on, tt)
-all_ways p m pc sh (Call target m' first c) = (on, tt)
-all_ways p m pc sh (Trap target m' first c) = (on, tt)
-all_ways p m pc sh (NewOrLeave a c) = (on, tt)
-all_ways p m pc sh (Push a) = (on, tt)
-all_ways p m pc sh (PushOperation a m') = (on, tt)
-all_ways p m pc sh (Pop a) = (on, tt)
-all_ways p m pc sh PopOperation = (on, tt)
-all_ways p m pc sh PopDelete = (on, tt)
-all_ways p m pc sh (Leave a) = tt
-all_ways p m pc sh (LeaveIf a) = (on, tt)
-all_ways p m pc sh (Return a) = tt
-all_ways p m pc sh Stop = (on, tt)
-all_ways p m pc sh _ = tt
+unfolding AllWays
+all_ways p m pc sh i = by (ways_of p i) (leads p i)
+  where
+    by : (ways : Ways) → Leads i ways → AllWays pc i (flowing p m pc sh ways)
+    by Ends lead = tt
+    by (Goes_on news) lead = (on, tt)
+    by (Goes_to to) lead = (jump lead, tt)
+    by (Branches to) lead = (on, (jump (ap (λ x. x.1) lead), tt))
+    by (Goes_back to) lead = (back (ap (λ x. x.1) lead), (on, tt))
+    by (Branches_on_null a to) lead = null_ways p m pc sh (register sh a) a to i (ap (λ x. x.1) lead)
+    by (Branches_on_empty f to) lead = empty_ways p m pc sh (field sh f) f to i (ap (λ x. x.1) lead)
 
 way_among : (place to : ℕ) (i : Instr) (fs : List Flow) → AllWays place i fs → AmongFlows to fs → Way place i to
 unfolding AllWays

@@ -3,20 +3,20 @@ use Rattle.std.proofs.Common.{◌≡◌, ℕ, zero, suc, ◌≤◌, List, [], �
 use Rattle.aom_image.specs.Image.{Image}
 use Rattle.aom_image.specs.Views.{arguments_of, gives_of, method_class}
 use Rattle.aom_image.specs.declared.instr.Instr.{Instr}
-use Rattle.aom_image.specs.declared.instr.Instr.TheVariants.{Const, Copy, Move, Add, Sub, Mul, And, Or, Xor, Jump, JumpEqual, JumpLess, JumpNull, JumpEmpty, Loop, Next, Print, Load, Store, Take, Put, New, NewOrLeave, Delete, Push, PushOperation, Pop, PopOperation, PopDelete, Call, Trap, Return, Leave, LeaveIf, Stop}
 use Rattle.aom_image.specs.declared.instr.Target.{Target}
 use Rattle.aom_image.specs.declared.instr.Target.TheVariants.{This, Register, Field, Entry as On_entry}
 use Rattle.aom_image.specs.declared.method.Argument.{Argument}
 use Rattle.aom_image.specs.declared.method.Argument.TheVariants.{Word as A_word_argument, Own as An_own_argument}
 use Rattle.aom_image.specs.declared.method.Gives.{Gives}
 use Rattle.aom_image.specs.declared.method.Gives.TheVariants.{Nothing, Word as A_word, Own as An_own, Maybe as A_maybe, Left}
-use Rattle.aom_shape.specs.Calls.{brought, caught, readied_at, while_called, fields_worked, argument_moved, arguments_moved}
+use Rattle.aom_shape.specs.Calls.{brought, caught, readied_at, while_called, fields_worked, argument_moved, arguments_moved, lasting}
 use Rattle.aom_shape.specs.Cleanup.{without_top}
 use Rattle.aom_shape.specs.Kinds.{register, field}
 use Rattle.aom_shape.specs.Laws.{HaveAtMost}
 use Rattle.aom_shape.specs.Objects.{flow_jump_null, flow_jump_empty}
-use Rattle.aom_shape.specs.Rules.{flows}
+use Rattle.aom_shape.specs.Rules.{flows, ways_of}
 use Rattle.aom_shape.specs.Shape.{Shape}
+use Rattle.aom_shape.specs.Ways.{As_before, Branches, Branches_on_empty, Branches_on_null, Called, Caught, Dropped, Ends, Filled, Goes_back, Goes_on, Goes_to, Holding, Moved, News, Popped, Pushed, Pushed_operation, Taken, Ways, after, flowing}
 use Rattle.aom_shape.specs.declared.kind.Entry.{Entry}
 use Rattle.aom_shape.specs.declared.kind.Filling.{Filling}
 use Rattle.aom_shape.specs.declared.kind.Filling.TheVariants.{Empty, Full, Perhaps}
@@ -80,44 +80,30 @@ jump_empty_leaves p m pc sh Empty f to = (omega arith, tt)
 jump_empty_leaves p m pc sh Full f to = (omega arith, tt)
 jump_empty_leaves p m pc sh Perhaps f to = (omega arith, (omega arith, tt))
 
+module _ (p : Image) (m pc : ℕ) (sh : Shape) where
+  after_has : (news : News) → length (after p m pc sh news).entries ≤ suc (length sh.entries)
+  after_has As_before = omega arith
+  after_has (Holding r kind) = omega arith
+  after_has (Moved r s) = omega arith
+  after_has (Taken r f) = omega arith
+  after_has (Filled f s) = omega arith
+  after_has (Pushed r) = omega arith
+  after_has Pushed_operation = omega arith
+  after_has (Popped r) = top_gone sh.entries
+  after_has Dropped = top_gone sh.entries
+  after_has (Called target m' first c) =
+      omega (arith, brings_one (gives_of p m') c (lasting p m pc sh target m' first), lasting_has target (method_class p m') (arguments_of p m') first sh)
+  after_has (Caught target m' first c) =
+      rw (catches_none (gives_of p m') c (lasting p m pc sh target m' first)) (omega (arith, lasting_has target (method_class p m') (arguments_of p m') first sh))
+
+  ways_have : (ways : Ways) → HaveAtMost (suc (length sh.entries)) (flowing p m pc sh ways)
+  ways_have Ends = tt
+  ways_have (Goes_on news) = (after_has news, tt)
+  ways_have (Goes_to to) = (omega arith, tt)
+  ways_have (Branches to) = (omega arith, (omega arith, tt))
+  ways_have (Goes_back to) = (omega arith, (omega arith, tt))
+  ways_have (Branches_on_null r to) = jump_null_leaves p m pc sh (register sh r) r to
+  ways_have (Branches_on_empty f to) = jump_empty_leaves p m pc sh (field sh f) f to
+
 pub at_most_one_more : (p : Image) (m pc : ℕ) (sh : Shape) (i : Instr) → HaveAtMost (suc (length sh.entries)) (flows p m pc sh i)
-at_most_one_more p m pc sh (Const r w) = (omega arith, tt)
-at_most_one_more p m pc sh (Copy r s) = (omega arith, tt)
-at_most_one_more p m pc sh (Add r s t) = (omega arith, tt)
-at_most_one_more p m pc sh (Sub r s t) = (omega arith, tt)
-at_most_one_more p m pc sh (Mul r s t) = (omega arith, tt)
-at_most_one_more p m pc sh (And r s t) = (omega arith, tt)
-at_most_one_more p m pc sh (Or r s t) = (omega arith, tt)
-at_most_one_more p m pc sh (Xor r s t) = (omega arith, tt)
-at_most_one_more p m pc sh (Jump to) = (omega arith, tt)
-at_most_one_more p m pc sh (JumpEqual r s to) = (omega arith, (omega arith, tt))
-at_most_one_more p m pc sh (JumpLess r s to) = (omega arith, (omega arith, tt))
-at_most_one_more p m pc sh (Loop depth rounds) = (omega arith, tt)
-at_most_one_more p m pc sh (Next depth to) = (omega arith, (omega arith, tt))
-at_most_one_more p m pc sh (Print r) = (omega arith, tt)
-at_most_one_more p m pc sh (Load r w) = (omega arith, tt)
-at_most_one_more p m pc sh (Store w s) = (omega arith, tt)
-at_most_one_more p m pc sh (Move r s) = (omega arith, tt)
-at_most_one_more p m pc sh (JumpNull r to) = jump_null_leaves p m pc sh (register sh r) r to
-at_most_one_more p m pc sh (JumpEmpty f to) = jump_empty_leaves p m pc sh (field sh f) f to
-at_most_one_more p m pc sh (Take r f) = (omega arith, tt)
-at_most_one_more p m pc sh (Put f s) = (omega arith, tt)
-at_most_one_more p m pc sh (New r c) = (omega arith, tt)
-at_most_one_more p m pc sh (NewOrLeave r c) = (omega arith, tt)
-at_most_one_more p m pc sh (Delete r) = (omega arith, tt)
-at_most_one_more p m pc sh (Push r) = (omega arith, tt)
-at_most_one_more p m pc sh (PushOperation r m') = (omega arith, tt)
-at_most_one_more p m pc sh (Pop r) = (top_gone sh.entries, tt)
-at_most_one_more p m pc sh PopOperation = (top_gone sh.entries, tt)
-at_most_one_more p m pc sh PopDelete = (top_gone sh.entries, tt)
-at_most_one_more p m pc sh (Call target m' first c) =
-    let lasting = while_called target (method_class p m') (arguments_moved (arguments_of p m') first sh) in
-    (omega (arith, brings_one (gives_of p m') c lasting, lasting_has target (method_class p m') (arguments_of p m') first sh), tt)
-at_most_one_more p m pc sh (Trap target m' first c) =
-    let lasting = while_called target (method_class p m') (arguments_moved (arguments_of p m') first sh) in
-    (rw (catches_none (gives_of p m') c lasting) (omega (arith, lasting_has target (method_class p m') (arguments_of p m') first sh)), tt)
-at_most_one_more p m pc sh (Leave r) = tt
-at_most_one_more p m pc sh (LeaveIf r) = (omega arith, tt)
-at_most_one_more p m pc sh (Return r) = tt
-at_most_one_more p m pc sh Stop = (omega arith, tt)
-at_most_one_more p m pc sh _ = tt
+at_most_one_more p m pc sh i = ways_have p m pc sh (ways_of p i)

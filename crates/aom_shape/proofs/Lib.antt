@@ -10,6 +10,7 @@ pub mod Meeting
 pub mod Starting
 pub mod Emptying
 pub mod Telling
+pub mod Ways
 pub mod Monotone
 pub mod Growing
 pub mod Examples

@@ -12,18 +12,19 @@ use Rattle.aom_image.specs.declared.method.Argument.TheVariants.{Word as A_word_
 use Rattle.aom_image.specs.declared.method.Gives.{Gives}
 use Rattle.aom_image.specs.declared.method.Gives.TheVariants.{Nothing, Word as A_word, Own as An_own, Maybe as A_maybe, Left}
 use Rattle.aom_image.specs.declared.method.Thing.TheVariants.{Object}
-use Rattle.aom_shape.specs.Calls.{is_construct, is_destructor, is_target, age_need, awaits, brought, caught, readied_at, fields_worked, while_called, argument_needs, each_argument, argument_moved, arguments_moved, rule_target, rule_arguments, rule_moved, rule_trapped, fields_done, rule_result, result_moved}
+use Rattle.aom_shape.specs.Calls.{is_construct, is_destructor, is_target, age_need, awaits, brought, caught, readied_at, fields_worked, while_called, argument_needs, each_argument, argument_moved, arguments_moved, rule_target, rule_arguments, rule_moved, rule_trapped, fields_done, rule_result, result_moved, lasting}
 use Rattle.aom_shape.specs.Cleanup.{owns_object, entry_of, leave_point, top_kind, without_top, with_entry, without_entry}
 use Rattle.aom_shape.specs.Kinds.{register, field, set_register, set_field, filled, filling_of, is_object_or_null, none_owns, readied}
 use Rattle.aom_shape.specs.Laws.{AllFollow}
 use Rattle.aom_shape.specs.Needs.{Need, AllTrue, only_if}
-use Rattle.aom_shape.specs.Objects.{new_age, flow_jump_null, flow_jump_empty}
-use Rattle.aom_shape.specs.Words.{rule_copy, rule_combine, rule_compare, flow_word}
+use Rattle.aom_shape.specs.Objects.{flow_jump_null, flow_jump_empty}
+use Rattle.aom_shape.specs.Words.{rule_copy, rule_combine, rule_compare}
 use Rattle.aom_shape.specs.Order.{Weaker, WeakerFilling, SaysNoMore}
 use Rattle.aom_shape.specs.Order.Weaker.{alike, unset_word, unset_null, maybe_null, maybe_own}
 use Rattle.aom_shape.specs.Order.WeakerFilling.{alike_filling, perhaps_empty, perhaps_full}
-use Rattle.aom_shape.specs.Rules.{rule_needs, flows}
+use Rattle.aom_shape.specs.Rules.{rule_needs, flows, ways_of}
 use Rattle.aom_shape.specs.Shape.{Shape}
+use Rattle.aom_shape.specs.Ways.{As_before, Branches, Branches_on_empty, Branches_on_null, Called, Caught, Dropped, Ends, Filled, Goes_back, Goes_on, Goes_to, Holding, Moved, News, Popped, Pushed, Pushed_operation, Taken, Ways, after, flowing}
 use Rattle.aom_shape.specs.Things.{Holder, Nobody, Program, Member, field_thing, holder_of}
 use Rattle.aom_shape.specs.declared.kind.Age.TheVariants.{Ready}
 use Rattle.aom_shape.specs.declared.kind.Entry.{Entry}
@@ -33,6 +34,7 @@ use Rattle.aom_shape.specs.declared.kind.Kind.TheVariants.{Unset, Word, Null, Ow
 use Rattle.aom_shape.specs.declared.kind.Filling.{Filling}
 use Rattle.aom_shape.specs.declared.kind.Filling.TheVariants.{Empty, Full, Perhaps}
 use Rattle.aom_shape.proofs.Judging.{left_needs}
+use Rattle.aom_shape.proofs.Ways.{Allows, allows}
 use Rattle.aom_shape.proofs.Lists.{at_put}
 use Rattle.aom_shape.proofs.Telling.{fresh_more, readied_more, word_more, unowning_more, object_or_null_more, destroyed_more, ready_more, own_more, may_be_more, declared_more, empty_more, filled_more, filling_more, none_owns_more, all_empty_more}
 
@@ -180,8 +182,8 @@ only_if_more : (asked x y : Bool) → (x ≡ true → y ≡ true) → only_if as
 only_if_more true x y f h = f h
 only_if_more false x y f h = h
 
-after_more : (p : Image) (m : ℕ) (a b : Shape) (m' c : ℕ) → SaysNoMore a b → AllTrue (rule_moved p m a m' c) → AllTrue (rule_moved p m b m' c)
-after_more p m a b m' c h n = (
+moved_needs_more : (p : Image) (m : ℕ) (a b : Shape) (m' c : ℕ) → SaysNoMore a b → AllTrue (rule_moved p m a m' c) → AllTrue (rule_moved p m b m' c)
+moved_needs_more p m a b m' c h n = (
   n.0,
   (
     awaits_more (gives_of p m') (register a c) (register b c) (h.registers c) n.1.0,
@@ -201,7 +203,7 @@ call_more p m pc a b target m' first c h n =
     let args = all_true_first two three rest in
     all_true_both (rule_target p m b target class constructs first (length xs)) (rule_arguments p b xs first ++ rule_moved p m (arguments_moved xs first b) m' c) (called_on_more p m a b target class constructs first (length xs) h (all_true_first one (two ++ three) n))
     (all_true_both (rule_arguments p b xs first) (rule_moved p m (arguments_moved xs first b) m' c) (args.0, arguments_more p a b xs first h args.1)
-    (after_more p m (arguments_moved xs first a) (arguments_moved xs first b) m' c (arguments_moved_more xs first a b h) (all_true_rest two three rest)))
+    (moved_needs_more p m (arguments_moved xs first a) (arguments_moved xs first b) m' c (arguments_moved_more xs first a b h) (all_true_rest two three rest)))
 
 -- one entry more, or one less
 entry_more : (d e : Entry) (a b : Shape) → SaysNoMore a b → d ≡ e → SaysNoMore (with_entry d a) (with_entry e b)
@@ -355,62 +357,43 @@ empty_jump_more p m pc a b f to h x y (alike_filling {x = same}) e = same_empty 
 empty_jump_more p m pc a b f to h x y perhaps_empty e = (inr (inl (refl, field_told a b f Empty h (rw e alike_filling))), tt)
 empty_jump_more p m pc a b f to h x y perhaps_full e = (inl (refl, field_told a b f Full h (rw e alike_filling)), tt)
 
--- a word in the same register
-word_flow_more : (pc : ℕ) (a b : Shape) (r : ℕ) → SaysNoMore a b → AllFollow (flow_word pc a r) (flow_word pc b r)
-word_flow_more pc a b r h = (inl (refl, register_more a b r Word Word h alike), tt)
-
 both_ways_more : (x y : ℕ) (a b : Shape) → SaysNoMore a b → AllFollow ((x, a) ∷ (y, a) ∷ []) ((x, b) ∷ (y, b) ∷ [])
 both_ways_more x y a b h = (inl (refl, h), (inr (inl (refl, h)), tt))
 
+module _ (p : Image) (m pc : ℕ) (a b : Shape) (h : SaysNoMore a b) where
+  lasting_more : (target : Target) (m' first : ℕ) → SaysNoMore (lasting p m pc a target m' first) (lasting p m pc b target m' first)
+  lasting_more target m' first =
+      let xs = arguments_of p m' in
+      called_more target (method_class p m') (arguments_moved xs first a) (arguments_moved xs first b) (arguments_moved_more xs first a b h)
+
+  after_more : (news : News) → Allows a (Goes_on news) → SaysNoMore (after p m pc a news) (after p m pc b news)
+  after_more As_before n = h
+  after_more (Holding r kind) n = register_more a b r kind kind h alike
+  after_more (Moved r s) n = register_more (set_register a s Null) (set_register b s Null) r (register a s) (register b s) (register_more a b s Null Null h alike) (h.registers s)
+  after_more (Taken r f) n =
+      let o = field_thing p (holder_of p m) f in
+      register_more (set_field a f Empty) (set_field b f Empty) r (filled o (field a f)) (filled o (field b f)) (field_more a b f Empty Empty h alike_filling) (filled_more o (field a f) (field b f) (h.fields f))
+  after_more (Filled f s) n = field_more (set_register a s Null) (set_register b s Null) f (filling_of (register a s)) (filling_of (register b s)) (register_more a b s Null Null h alike) (filling_more (register a s) (register b s) (h.registers s))
+  after_more (Pushed r) n =
+      let moved = register_more a b r Null Null h alike in
+      let same = pushed_more (register a r) (register b r) (h.registers r) n in
+      entry_more (entry_of (register a r)) (entry_of (register b r)) (set_register a r Null) (set_register b r Null) moved same
+  after_more Pushed_operation n = entry_more Operation Operation a b h refl
+  after_more (Popped r) n =
+      let same : Weaker (top_kind a.entries) (top_kind b.entries) = rw (← h.entries) alike in
+      register_more (without_entry a) (without_entry b) r (top_kind a.entries) (top_kind b.entries) (entry_less a b h) same
+  after_more Dropped n = entry_less a b h
+  after_more (Called target m' first c) n = brought_more (gives_of p m') c (lasting p m pc a target m' first) (lasting p m pc b target m' first) (lasting_more target m' first)
+  after_more (Caught target m' first c) n = caught_more (gives_of p m') c (lasting p m pc a target m' first) (lasting p m pc b target m' first) (lasting_more target m' first)
+
+  ways_more : (ways : Ways) → Allows a ways → AllFollow (flowing p m pc a ways) (flowing p m pc b ways)
+  ways_more Ends n = tt
+  ways_more (Goes_on news) n = (inl (refl, after_more news n), tt)
+  ways_more (Goes_to to) n = (inl (refl, h), tt)
+  ways_more (Branches to) n = both_ways_more (suc pc) to a b h
+  ways_more (Goes_back to) n = both_ways_more to (suc pc) a b h
+  ways_more (Branches_on_null r to) n = jump_more p m pc a b r to h (register a r) (register b r) (h.registers r) refl n
+  ways_more (Branches_on_empty f to) n = empty_jump_more p m pc a b f to h (field a f) (field b f) (h.fields f) refl
+
 pub flows_more : (p : Image) (m pc : ℕ) (a b : Shape) (i : Instr) → SaysNoMore a b → AllTrue (rule_needs p m pc a i) → AllFollow (flows p m pc a i) (flows p m pc b i)
-flows_more p m pc a b (Const r w) h n = word_flow_more pc a b r h
-flows_more p m pc a b (Copy r s) h n = word_flow_more pc a b r h
-flows_more p m pc a b (Add r s t) h n = word_flow_more pc a b r h
-flows_more p m pc a b (Sub r s t) h n = word_flow_more pc a b r h
-flows_more p m pc a b (Mul r s t) h n = word_flow_more pc a b r h
-flows_more p m pc a b (And r s t) h n = word_flow_more pc a b r h
-flows_more p m pc a b (Or r s t) h n = word_flow_more pc a b r h
-flows_more p m pc a b (Xor r s t) h n = word_flow_more pc a b r h
-flows_more p m pc a b (Jump to) h n = (inl (refl, h), tt)
-flows_more p m pc a b (JumpEqual r s to) h n = both_ways_more (suc pc) to a b h
-flows_more p m pc a b (JumpLess r s to) h n = both_ways_more (suc pc) to a b h
-flows_more p m pc a b (Loop depth rounds) h n = (inl (refl, h), tt)
-flows_more p m pc a b (Next depth to) h n = both_ways_more to (suc pc) a b h
-flows_more p m pc a b (Load r w) h n = word_flow_more pc a b r h
-flows_more p m pc a b (Store w s) h n = (inl (refl, h), tt)
-flows_more p m pc a b (JumpEmpty f to) h n = empty_jump_more p m pc a b f to h (field a f) (field b f) (h.fields f) refl
-flows_more p m pc a b (JumpNull r to) h n = jump_more p m pc a b r to h (register a r) (register b r) (h.registers r) refl n.0
-flows_more p m pc a b (Print r) h n = (inl (refl, h), tt)
-flows_more p m pc a b (Move r s) h n = (inl (refl, register_more (set_register a s Null) (set_register b s Null) r (register a s) (register b s) (register_more a b s Null Null h alike) (h.registers s)), tt)
-flows_more p m pc a b (Take r f) h n =
-    let o = field_thing p (holder_of p m) f in
-    (inl (refl, register_more (set_field a f Empty) (set_field b f Empty) r (filled o (field a f)) (filled o (field b f)) (field_more a b f Empty Empty h alike_filling) (filled_more o (field a f) (field b f) (h.fields f))), tt)
-flows_more p m pc a b (Put f s) h n = (inl (refl, field_more (set_register a s Null) (set_register b s Null) f (filling_of (register a s)) (filling_of (register b s)) (register_more a b s Null Null h alike) (filling_more (register a s) (register b s) (h.registers s))), tt)
-flows_more p m pc a b (New r c) h n = (inl (refl, register_more a b r (Maybe (Object c) (new_age p c)) (Maybe (Object c) (new_age p c)) h alike), tt)
-flows_more p m pc a b (Delete r) h n = (inl (refl, register_more a b r Null Null h alike), tt)
-flows_more p m pc a b (Call target m' first c) h n =
-    let xs = arguments_of p m' in
-    let class = method_class p m' in
-    let moved = arguments_moved_more xs first a b h in
-    (inl (refl, brought_more (gives_of p m') c (while_called target class (arguments_moved xs first a)) (while_called target class (arguments_moved xs first b)) (called_more target class (arguments_moved xs first a) (arguments_moved xs first b) moved)), tt)
-flows_more p m pc a b (Trap target m' first c) h n =
-    let xs = arguments_of p m' in
-    let class = method_class p m' in
-    let moved = arguments_moved_more xs first a b h in
-    (inl (refl, caught_more (gives_of p m') c (while_called target class (arguments_moved xs first a)) (while_called target class (arguments_moved xs first b)) (called_more target class (arguments_moved xs first a) (arguments_moved xs first b) moved)), tt)
-flows_more p m pc a b (NewOrLeave r c) h n = (inl (refl, register_more a b r (Own (Object c) (new_age p c)) (Own (Object c) (new_age p c)) h alike), tt)
-flows_more p m pc a b (Push r) h n =
-    let moved = register_more a b r Null Null h alike in
-    let same = pushed_more (register a r) (register b r) (h.registers r) n.0 in
-    (inl (refl, entry_more (entry_of (register a r)) (entry_of (register b r)) (set_register a r Null) (set_register b r Null) moved same), tt)
-flows_more p m pc a b (PushOperation r m') h n = (inl (refl, entry_more Operation Operation a b h refl), tt)
-flows_more p m pc a b (Pop r) h n =
-    let same : Weaker (top_kind a.entries) (top_kind b.entries) = rw (← h.entries) alike in
-    (inl (refl, register_more (without_entry a) (without_entry b) r (top_kind a.entries) (top_kind b.entries) (entry_less a b h) same), tt)
-flows_more p m pc a b PopOperation h n = (inl (refl, entry_less a b h), tt)
-flows_more p m pc a b PopDelete h n = (inl (refl, entry_less a b h), tt)
-flows_more p m pc a b (Leave r) h n = tt
-flows_more p m pc a b (LeaveIf r) h n = (inl (refl, h), tt)
-flows_more p m pc a b (Return r) h n = tt
-flows_more p m pc a b Stop h n = (inl (refl, h), tt)
-flows_more p m pc a b _ h n = tt
+flows_more p m pc a b i h n = ways_more p m pc a b h (ways_of p i) (allows p m pc a i n)

@@ -183,8 +183,12 @@ module _ (p : Image) (m : ℕ) (pc : ℕ) (sh : Shape) where
       ++ (rule_arguments p sh (arguments_of p m') first
       ++ rule_moved p m (arguments_moved (arguments_of p m') first sh) m' c)
 
+  -- the state while the call lasts
+  abbrev pub lasting : Target → ℕ → ℕ → Shape
+  lasting target m' first = while_called target (method_class p m') (arguments_moved (arguments_of p m') first sh)
+
   abbrev pub flow_call : Target → ℕ → ℕ → ℕ → List Flow
-  flow_call target m' first c = to_next pc (brought (gives_of p m') c (while_called target (method_class p m') (arguments_moved (arguments_of p m') first sh)))
+  flow_call target m' first c = to_next pc (brought (gives_of p m') c (lasting target m' first))
 
   -- under a trap nothing leaves on, and the code has a register too
   abbrev pub rule_trapped : Shape → ℕ → ℕ → List Need
@@ -198,7 +202,7 @@ module _ (p : Image) (m : ℕ) (pc : ℕ) (sh : Shape) where
       ++ rule_trapped (arguments_moved (arguments_of p m') first sh) m' c))
 
   abbrev pub flow_trap : Target → ℕ → ℕ → ℕ → List Flow
-  flow_trap target m' first c = to_next pc (caught (gives_of p m') c (while_called target (method_class p m') (arguments_moved (arguments_of p m') first sh)))
+  flow_trap target m' first c = to_next pc (caught (gives_of p m') c (lasting target m' first))
 
 -- ---- returns
 

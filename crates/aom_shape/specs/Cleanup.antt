@@ -78,8 +78,11 @@ module _ (p : Image) (m : ℕ) (pc : ℕ) (sh : Shape) where
   abbrev pub rule_push : ℕ → List Need
   rule_push a = (owns_object (register sh a), RegisterKind) ∷ leave_point (set_register sh a Null)
 
+  abbrev pub after_push : ℕ → Shape
+  after_push a = with_entry (entry_of (register sh a)) (set_register sh a Null)
+
   abbrev pub flow_push : ℕ → List Flow
-  flow_push a = to_next pc (with_entry (entry_of (register sh a)) (set_register sh a Null))
+  flow_push a = to_next pc (after_push a)
 
   abbrev pub rule_push_operation : ℕ → List Need
   rule_push_operation a = (is_word (register sh a), RegisterKind) ∷ leave_point sh
@@ -94,8 +97,11 @@ module _ (p : Image) (m : ℕ) (pc : ℕ) (sh : Shape) where
       ∷ (tops_object sh.entries, RegisterKind)
       ∷ []
 
+  abbrev pub after_pop : ℕ → Shape
+  after_pop a = set_register (without_entry sh) a (top_kind sh.entries)
+
   abbrev pub flow_pop : ℕ → List Flow
-  flow_pop a = to_next pc (set_register (without_entry sh) a (top_kind sh.entries))
+  flow_pop a = to_next pc (after_pop a)
 
   abbrev pub rule_pop_operation : List Need
   rule_pop_operation = (not (no_entry sh.entries), PopEmpty) ∷ (tops_operation sh.entries, RegisterKind) ∷ []

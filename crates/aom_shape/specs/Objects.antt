@@ -25,8 +25,11 @@ module _ (p : Image) (m : ℕ) (pc : ℕ) (sh : Shape) where
   abbrev pub rule_move : ℕ → ℕ → List Need
   rule_move a b = (is_object_or_null (register sh b), RegisterKind) ∷ (is_unowning (register sh a), RegisterKind) ∷ []
 
+  abbrev pub after_move : ℕ → ℕ → Shape
+  after_move a b = set_register (set_register sh b Null) a (register sh b)
+
   abbrev pub flow_move : ℕ → ℕ → List Flow
-  flow_move a b = to_next pc (set_register (set_register sh b Null) a (register sh b))
+  flow_move a b = to_next pc (after_move a b)
 
   abbrev pub rule_jump_null : ℕ → List Need
   rule_jump_null a = (is_object_or_null (register sh a), RegisterKind) ∷ []
@@ -50,8 +53,11 @@ module _ (p : Image) (m : ℕ) (pc : ℕ) (sh : Shape) where
   abbrev pub rule_take : ℕ → ℕ → List Need
   rule_take a f = (is_some (field_thing p (holder_of p m) f), RegisterKind) ∷ (is_unowning (register sh a), RegisterKind) ∷ []
 
+  abbrev pub after_take : ℕ → ℕ → Shape
+  after_take a f = set_register (set_field sh f Empty) a (filled (field_thing p (holder_of p m) f) (field sh f))
+
   abbrev pub flow_take : ℕ → ℕ → List Flow
-  flow_take a f = to_next pc (set_register (set_field sh f Empty) a (filled (field_thing p (holder_of p m) f) (field sh f)))
+  flow_take a f = to_next pc (after_take a f)
 
   abbrev pub rule_put : ℕ → ℕ → List Need
   rule_put f b =
@@ -60,8 +66,11 @@ module _ (p : Image) (m : ℕ) (pc : ℕ) (sh : Shape) where
       ∷ (is_empty (field sh f), FieldNotNull)
       ∷ []
 
+  abbrev pub after_put : ℕ → ℕ → Shape
+  after_put f b = set_field (set_register sh b Null) f (filling_of (register sh b))
+
   abbrev pub flow_put : ℕ → ℕ → List Flow
-  flow_put f b = to_next pc (set_field (set_register sh b Null) f (filling_of (register sh b)))
+  flow_put f b = to_next pc (after_put f b)
 
   abbrev pub rule_new : ℕ → List Need
   rule_new a = (is_unowning (register sh a), RegisterKind) ∷ (not (is_quiet p m), QuietBroken) ∷ []

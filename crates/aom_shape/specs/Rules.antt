@@ -1,17 +1,58 @@
--- The verifier's rules: for each instruction what the abstract state must say, and the state of each flow.
+-- The verifier's rules: for each instruction what the abstract state must say, and which ways go on from it.
 use Rattle.std.specs.Prelude.{ℕ, false, List, [], ◌∷◌, Result}
 use Rattle.aom_image.specs.Image.{Image}
 use Rattle.aom_image.specs.declared.instr.Instr.{Instr}
 use Rattle.aom_image.specs.declared.instr.Instr.TheVariants.{Const, Copy, Move, Add, Sub, Mul, And, Or, Xor, Jump, JumpEqual, JumpLess, JumpNull, JumpEmpty, Loop, Next, Print, Load, Store, Take, Put, New, NewOrLeave, Delete, Push, PushOperation, Pop, PopOperation, PopDelete, Call, Trap, Return, Leave, LeaveIf, Stop}
+use Rattle.aom_image.specs.declared.method.Thing.TheVariants.{Object}
 use Rattle.aom_shape.specs.Shape.{Shape}
-use Rattle.aom_shape.specs.Kinds.{register, field}
 use Rattle.aom_shape.specs.Needs.{Need, Flow, judged}
-use Rattle.aom_shape.specs.Words.{rule_const, rule_copy, rule_combine, flow_word, flow_jump, rule_compare, flow_compare, flow_next, rule_print, flow_same, rule_load, rule_store}
-use Rattle.aom_shape.specs.Objects.{rule_move, flow_move, rule_jump_null, flow_jump_null, rule_jump_empty, flow_jump_empty, rule_take, flow_take, rule_put, flow_put, rule_new, flow_new, rule_delete, flow_delete}
-use Rattle.aom_shape.specs.Calls.{rule_call, flow_call, rule_trap, flow_trap, rule_return, flow_stop}
-use Rattle.aom_shape.specs.Cleanup.{rule_new_or_leave, flow_new_or_leave, rule_push, flow_push, rule_push_operation, flow_push_operation, rule_pop, flow_pop, rule_pop_operation, rule_pop_delete, flow_without_entry, rule_leave, flow_leave_if}
+use Rattle.aom_shape.specs.Words.{rule_const, rule_copy, rule_combine, rule_compare, rule_print, rule_load, rule_store}
+use Rattle.aom_shape.specs.Objects.{new_age, rule_move, rule_jump_null, rule_jump_empty, rule_take, rule_put, rule_new, rule_delete}
+use Rattle.aom_shape.specs.Calls.{rule_call, rule_trap, rule_return}
+use Rattle.aom_shape.specs.Cleanup.{rule_new_or_leave, rule_push, rule_push_operation, rule_pop, rule_pop_operation, rule_pop_delete, rule_leave}
+use Rattle.aom_shape.specs.Ways.{Ways, Ends, Goes_on, Goes_to, Branches, Goes_back, Branches_on_null, Branches_on_empty, As_before, Holding, Moved, Taken, Filled, Pushed, Pushed_operation, Popped, Dropped, Called, Caught, flowing}
+use Rattle.aom_shape.specs.declared.kind.Kind.TheVariants.{Word, Null, Own, Maybe}
 use Rattle.aom_shape.specs.declared.why.Why.{Why}
 use Rattle.aom_shape.specs.declared.why.Why.TheVariants.{RegisterKind}
+
+-- the ways on from each instruction
+abbrev pub ways_of : Image → Instr → Ways
+ways_of p (Const a w) = Goes_on (Holding a Word)
+ways_of p (Copy a b) = Goes_on (Holding a Word)
+ways_of p (Add a b c) = Goes_on (Holding a Word)
+ways_of p (Sub a b c) = Goes_on (Holding a Word)
+ways_of p (Mul a b c) = Goes_on (Holding a Word)
+ways_of p (And a b c) = Goes_on (Holding a Word)
+ways_of p (Or a b c) = Goes_on (Holding a Word)
+ways_of p (Xor a b c) = Goes_on (Holding a Word)
+ways_of p (Jump to) = Goes_to to
+ways_of p (JumpEqual a b to) = Branches to
+ways_of p (JumpLess a b to) = Branches to
+ways_of p (Loop depth rounds) = Goes_on As_before
+ways_of p (Next depth to) = Goes_back to
+ways_of p (Print a) = Goes_on As_before
+ways_of p (Load a w) = Goes_on (Holding a Word)
+ways_of p (Store w b) = Goes_on As_before
+ways_of p (Move a b) = Goes_on (Moved a b)
+ways_of p (JumpNull a to) = Branches_on_null a to
+ways_of p (JumpEmpty f to) = Branches_on_empty f to
+ways_of p (Take a f) = Goes_on (Taken a f)
+ways_of p (Put f b) = Goes_on (Filled f b)
+ways_of p (New a c) = Goes_on (Holding a (Maybe (Object c) (new_age p c)))
+ways_of p (Delete a) = Goes_on (Holding a Null)
+ways_of p (Call target m' first c) = Goes_on (Called target m' first c)
+ways_of p (Trap target m' first c) = Goes_on (Caught target m' first c)
+ways_of p (NewOrLeave a c) = Goes_on (Holding a (Own (Object c) (new_age p c)))
+ways_of p (Push a) = Goes_on (Pushed a)
+ways_of p (PushOperation a m') = Goes_on Pushed_operation
+ways_of p (Pop a) = Goes_on (Popped a)
+ways_of p PopOperation = Goes_on Dropped
+ways_of p PopDelete = Goes_on Dropped
+ways_of p (Leave a) = Ends
+ways_of p (LeaveIf a) = Goes_on As_before
+ways_of p (Return a) = Ends
+ways_of p Stop = Goes_on As_before
+ways_of p _ = Ends
 
 module _ (p : Image) (m : ℕ) (pc : ℕ) (sh : Shape) where
   abbrev pub rule_needs : Instr → List Need
@@ -54,42 +95,7 @@ module _ (p : Image) (m : ℕ) (pc : ℕ) (sh : Shape) where
   rule_needs _ = (false, RegisterKind) ∷ []
 
   abbrev pub flows : Instr → List Flow
-  flows (Const a w) = flow_word pc sh a
-  flows (Copy a b) = flow_word pc sh a
-  flows (Add a b c) = flow_word pc sh a
-  flows (Sub a b c) = flow_word pc sh a
-  flows (Mul a b c) = flow_word pc sh a
-  flows (And a b c) = flow_word pc sh a
-  flows (Or a b c) = flow_word pc sh a
-  flows (Xor a b c) = flow_word pc sh a
-  flows (Jump to) = flow_jump pc sh to
-  flows (JumpEqual a b to) = flow_compare pc sh to
-  flows (JumpLess a b to) = flow_compare pc sh to
-  flows (Loop depth rounds) = flow_same pc sh
-  flows (Next depth to) = flow_next pc sh to
-  flows (Print a) = flow_same pc sh
-  flows (Load a w) = flow_word pc sh a
-  flows (Store w b) = flow_same pc sh
-  flows (Move a b) = flow_move p m pc sh a b
-  flows (JumpNull a to) = flow_jump_null p m pc sh (register sh a) a to
-  flows (JumpEmpty f to) = flow_jump_empty p m pc sh (field sh f) f to
-  flows (Take a f) = flow_take p m pc sh a f
-  flows (Put f b) = flow_put p m pc sh f b
-  flows (New a c) = flow_new p m pc sh a c
-  flows (Delete a) = flow_delete p m pc sh a
-  flows (Call target m' first c) = flow_call p m pc sh target m' first c
-  flows (Trap target m' first c) = flow_trap p m pc sh target m' first c
-  flows (NewOrLeave a c) = flow_new_or_leave p m pc sh a c
-  flows (Push a) = flow_push p m pc sh a
-  flows (PushOperation a m') = flow_push_operation p m pc sh
-  flows (Pop a) = flow_pop p m pc sh a
-  flows PopOperation = flow_without_entry p m pc sh
-  flows PopDelete = flow_without_entry p m pc sh
-  flows (Leave a) = []
-  flows (LeaveIf a) = flow_leave_if p m pc sh
-  flows (Return a) = []
-  flows Stop = flow_stop p m pc sh
-  flows _ = []
+  flows i = flowing p m pc sh (ways_of p i)
 
   abbrev pub rule : Instr → Result (List Flow) Why
   rule i = judged (rule_needs i) (flows i)

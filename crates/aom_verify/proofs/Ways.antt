@@ -1,9 +1,8 @@
 -- What the rule answers: its needs hold and its flows stay within the method, or a need fails.
-use Rattle.std.proofs.Common.{◌≡◌, ℕ, suc, ◌<◌, true, false, cond, List, [], ◌∷◌, length, IsSome, IfSome, Some, None, Ok, Err, refl, sym}
+use Rattle.std.proofs.Common.{◌≡◌, ℕ, suc, ◌<◌, true, false, cond, List, [], ◌∷◌, length, IsSome, IfSome, Some, None, Ok, Err, refl, sym, ap, subst}
 use Rattle.aom_image.specs.Image.{Image}
 use Rattle.aom_image.specs.Views.{instr_at, method_at}
 use Rattle.aom_image.specs.declared.instr.Instr.{Instr}
-use Rattle.aom_image.specs.declared.instr.Instr.TheVariants.{Const, Copy, Move, Add, Sub, Mul, And, Or, Xor, Jump, JumpEqual, JumpLess, JumpNull, JumpEmpty, Loop, Next, Print, Load, Store, Take, Put, New, NewOrLeave, Delete, Push, PushOperation, Pop, PopOperation, PopDelete, Call, Trap, Return, Leave, LeaveIf, Stop}
 use Rattle.aom_classes.specs.Jumps.{KeepsWithin, back_of, jump_of, goes_on}
 use Rattle.aom_classes.specs.Linked.{IsLinked}
 use Rattle.aom_classes.specs.Loops.{LoopsNest}
@@ -13,13 +12,15 @@ use Rattle.aom_image.specs.declared.method.Method.{Method}
 use Rattle.aom_shape.specs.Kinds.{register, field}
 use Rattle.aom_shape.specs.Needs.{Need, Flow, AllTrue, judged}
 use Rattle.aom_shape.specs.Objects.{flow_jump_null, flow_jump_empty}
-use Rattle.aom_shape.specs.Rules.{rule_needs, flows, rule}
+use Rattle.aom_shape.specs.Rules.{rule_needs, flows, rule, ways_of}
 use Rattle.aom_shape.specs.Shape.{Shape}
+use Rattle.aom_shape.specs.Ways.{Ways, Ends, Goes_on, Goes_to, Branches, Goes_back, Branches_on_null, Branches_on_empty, flowing}
 use Rattle.aom_shape.specs.declared.kind.Filling.{Filling}
 use Rattle.aom_shape.specs.declared.kind.Filling.TheVariants as fillings
 use Rattle.aom_shape.specs.declared.kind.Kind.{Kind}
 use Rattle.aom_shape.specs.declared.kind.Kind.TheVariants as kinds
 use Rattle.aom_shape.specs.declared.why.Why.{Why}
+use Rattle.aom_shape.proofs.Ways.{Leads, leads}
 use Rattle.aom_verify.specs.Sweep.{AllWithin, Flows, Fails, WithinMethod}
 
 judged_ok : (needs : List Need) (fs gs : List Flow) → judged needs fs ≡ Ok gs → AllTrue needs × (gs ≡ fs)
@@ -64,43 +65,19 @@ empty_within p m n pc sh fillings.Perhaps f to h next = (next, (h, tt))
 
 -- the flows of an instruction that keeps within its method
 flows_within : (p : Image) (m n pc : ℕ) (sh : Shape) (i : Instr) → KeepsWithin n pc i → IfSome (back_of i) (λ t. t < n) → AllWithin n (flows p m pc sh i)
-unfolding jump_of goes_on back_of
-flows_within p m n pc sh (Const a w) h back = (h.ends refl, tt)
-flows_within p m n pc sh (Copy a b) h back = (h.ends refl, tt)
-flows_within p m n pc sh (Add a b c) h back = (h.ends refl, tt)
-flows_within p m n pc sh (Sub a b c) h back = (h.ends refl, tt)
-flows_within p m n pc sh (Mul a b c) h back = (h.ends refl, tt)
-flows_within p m n pc sh (And a b c) h back = (h.ends refl, tt)
-flows_within p m n pc sh (Or a b c) h back = (h.ends refl, tt)
-flows_within p m n pc sh (Xor a b c) h back = (h.ends refl, tt)
-flows_within p m n pc sh (Jump to) h back = (h.within, tt)
-flows_within p m n pc sh (JumpEqual a b to) h back = (h.ends refl, (h.within, tt))
-flows_within p m n pc sh (JumpLess a b to) h back = (h.ends refl, (h.within, tt))
-flows_within p m n pc sh (JumpNull a to) h back = null_within p m n pc sh (register sh a) a to h.within (h.ends refl)
-flows_within p m n pc sh (JumpEmpty f to) h back = empty_within p m n pc sh (field sh f) f to h.within (h.ends refl)
-flows_within p m n pc sh (Loop depth rounds) h back = (h.ends refl, tt)
-flows_within p m n pc sh (Next depth to) h back = (back, (h.ends refl, tt))
-flows_within p m n pc sh (Print a) h back = (h.ends refl, tt)
-flows_within p m n pc sh (Load a w) h back = (h.ends refl, tt)
-flows_within p m n pc sh (Store w b) h back = (h.ends refl, tt)
-flows_within p m n pc sh (Move a b) h back = (h.ends refl, tt)
-flows_within p m n pc sh (Take a f) h back = (h.ends refl, tt)
-flows_within p m n pc sh (Put f b) h back = (h.ends refl, tt)
-flows_within p m n pc sh (New a c) h back = (h.ends refl, tt)
-flows_within p m n pc sh (Delete a) h back = (h.ends refl, tt)
-flows_within p m n pc sh (Call target m' first c) h back = (h.ends refl, tt)
-flows_within p m n pc sh (Trap target m' first c) h back = (h.ends refl, tt)
-flows_within p m n pc sh (NewOrLeave a c) h back = (h.ends refl, tt)
-flows_within p m n pc sh (Push a) h back = (h.ends refl, tt)
-flows_within p m n pc sh (PushOperation a m') h back = (h.ends refl, tt)
-flows_within p m n pc sh (Pop a) h back = (h.ends refl, tt)
-flows_within p m n pc sh PopOperation h back = (h.ends refl, tt)
-flows_within p m n pc sh PopDelete h back = (h.ends refl, tt)
-flows_within p m n pc sh (Leave a) h back = tt
-flows_within p m n pc sh (LeaveIf a) h back = (h.ends refl, tt)
-flows_within p m n pc sh (Return a) h back = tt
-flows_within p m n pc sh Stop h back = (h.ends refl, tt)
-flows_within p m n pc sh _ h back = tt
+flows_within p m n pc sh i h back = within (ways_of p i) (leads p i)
+  where
+    jumps : (to : ℕ) → jump_of i ≡ Some to → to < n
+    jumps to e = subst (λ o. IfSome o (λ t. t < n)) e h.within
+
+    within : (ways : Ways) → Leads i ways → AllWithin n (flowing p m pc sh ways)
+    within Ends lead = tt
+    within (Goes_on news) lead = (h.ends lead, tt)
+    within (Goes_to to) lead = (jumps to lead, tt)
+    within (Branches to) lead = (h.ends (ap (λ x. x.0) lead), (jumps to (ap (λ x. x.1) lead), tt))
+    within (Goes_back to) lead = (subst (λ o. IfSome o (λ t. t < n)) (ap (λ x. x.1) lead) back, (h.ends (ap (λ x. x.0) lead), tt))
+    within (Branches_on_null a to) lead = null_within p m n pc sh (register sh a) a to (jumps to (ap (λ x. x.1) lead)) (h.ends (ap (λ x. x.0) lead))
+    within (Branches_on_empty f to) lead = empty_within p m n pc sh (field sh f) f to (jumps to (ap (λ x. x.1) lead)) (h.ends (ap (λ x. x.0) lead))
 
 nest_of : (p : Image) (m : ℕ) (d : Method) → IsLinked p → method_at p m ≡ Some d → LoopsNest d.code
 unfolding method_at
