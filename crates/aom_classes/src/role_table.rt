@@ -7,7 +7,6 @@ ghost use Rattle.aom_classes.specs.Table.{IsRow, IsTable};
 use crate::needs::class_number;
 use crate::roles::find_role;
 use aom_image::{ClassNumber, Image, Method, MethodNumber, Role};
-use aom_roles::role_number;
 use std::alloc::{AllocError, Global};
 
 /// For each class the first method of each role.
@@ -16,7 +15,7 @@ pub struct RoleTable {
     pub rows: Vec<[Option<MethodNumber>; 10]>,
 }
 
-#[tactic(auto, unfolding(aom_roles::specs::Roles::role_number))]
+#[tactic(auto, unfolding(aom_image::specs::Roles::role_number))]
 fn row_of(methods: &[Method], class: ClassNumber) -> [Option<MethodNumber>; 10]
     requires { length methods.now ≤ 1024 }
     ensures { IsRow methods.now class result }
@@ -54,7 +53,7 @@ impl RoleTable {
         ensures { (p : ImageRecord) → IsTable p self.now.rows.items → result ≡ role_of p class role }
     {
         match self.rows.get(class.number() as usize) {
-            Some(row) => row[role_number(role)],
+            Some(row) => row[role.number() as usize],
             None => None,
         }
     }

@@ -5,7 +5,7 @@ use Rattle.std.proofs.lemmas.Bool.Decides.{nat_tests}
 use Rattle.std.proofs.lemmas.List.Elements.{All-nil, All-cons}
 use Rattle.std.proofs.lemmas.List.Sums.{sum_by-cons}
 use Rattle.aom_image.specs.Image.{Image}
-use Rattle.aom_codec.specs.Spelling.{class_number, thing_number, argument_number, gives_byte, result_number, kind_byte}
+use Rattle.aom_codec.specs.Spelling.{class_number, thing_number, argument_number, role_number, gives_byte, result_number, kind_byte}
 use Rattle.aom_image.specs.WellFormed.{ThingFits, ProviderFits, KindFits, ClassFits, is_server_kind, is_server, ArgumentFits, GivesFits, InstrFits, MethodFits, HeaderFits, ClassesFit, MethodsFit}
 use Rattle.aom_codec.specs.Codec.{Codec, ◌>>=◌, byte, pair, always, keep, FitMany, limited}
 use Rattle.aom_codec.specs.Instructions.{Bounded, instruction}
@@ -298,6 +298,7 @@ classes_fit classes natives servers (c ∷ cs) few some_natives h low =
 -- ---- methods
 
 role_fits : (r : Role) → role.Fits r
+unfolding role_number
 role_fits roles.Do = (lit< tt, refl)
 role_fits roles.Main = (lit< tt, refl)
 role_fits roles.Construct = (lit< tt, refl)

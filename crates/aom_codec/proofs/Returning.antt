@@ -12,7 +12,7 @@ use Rattle.aom_image.specs.declared.method.Gives.{Gives}
 use Rattle.aom_image.specs.declared.method.Role.{Role}
 use Rattle.aom_image.specs.declared.method.MethodFlags.{MethodFlags}
 use Rattle.aom_image.specs.declared.method.States.{States}
-use Rattle.aom_codec.specs.Spelling.{class_number, thing_number, argument_number, role_byte, gives_byte, result_number}
+use Rattle.aom_codec.specs.Spelling.{class_number, thing_number, argument_number, role_number, gives_byte, result_number}
 use Rattle.aom_codec.specs.Codec.{◌>>=◌}
 use Rattle.aom_codec.specs.Format.{index_from, class_from, thing_from, argument_from, role_from, flags_from, states_from, gives_from}
 use Rattle.aom_codec.proofs.Laws.{bind_ok, guard_ok, ok_is}
@@ -52,7 +52,8 @@ argument_returns classes n y e =
           ap argument_number (sym (ok_is (arguments.Own b.0) y b.2)) ∙ thing_returns classes n b.0 b.1
     ]
 
-pub role_returns : (n : ℕ) (y : Role) → role_from n ≡ Ok y → role_byte y ≡ n
+pub role_returns : (n : ℕ) (y : Role) → role_from n ≡ Ok y → role_number y ≡ n
+unfolding role_number
 role_returns n y e = grind (arith, nat_tests, e)
 
 pub flags_returns : (n : ℕ) (y : MethodFlags) → flags_from n ≡ Ok y → y.0 ≡ n

@@ -55,7 +55,7 @@ arguments_spelled classes arguments = many_spelled (always (argument classes)) k
 
 method_spelled : (classes methods : ℕ) (m : Method) → (method classes methods).spell m ≡ text.method m
 method_spelled classes methods m =
-    let front = λ (t : List ℕ). text.pair (text.class_number m.class) ++ (text.role_byte m.role ∷ m.flags.0 ∷ m.before.0 ∷ m.after.0 ∷ length m.arguments ∷ text.gives_byte m.gives ∷ t) in
+    let front = λ (t : List ℕ). text.pair (text.class_number m.class) ++ (text.role_number m.role ∷ m.flags.0 ∷ m.before.0 ∷ m.after.0 ∷ length m.arguments ∷ text.gives_byte m.gives ∷ t) in
     let last = λ (t : List ℕ). text.pair (text.result_number m.gives) ++ (text.pair (length m.code) ++ t) in
     let code = spell_many (always (instruction (limits classes methods (length m.code)))) keep tt m.code in
     let arguments = flat_map (λ a. text.pair (text.argument_number a)) m.arguments in

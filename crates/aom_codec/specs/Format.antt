@@ -3,7 +3,7 @@ use Rattle.std.specs.Prelude.{ℕ, ◌+◌, ◌-◌, true, List, length, Option,
 use Rattle.aom_codec.specs.Codec.{Codec, ◌>>=◌, byte, pair, quad, is_between, limited, checked, fixed, next, after, seen, many_from, many, unused, choose}
 use Rattle.aom_codec.specs.Instructions.{instruction}
 use Rattle.aom_image.specs.Image.{Image}
-use Rattle.aom_codec.specs.Spelling.{class_number, thing_number, argument_number, role_byte, gives_byte, result_number, kind_byte, budget_of, provider_sort, native_number}
+use Rattle.aom_codec.specs.Spelling.{class_number, thing_number, argument_number, role_number, gives_byte, result_number, kind_byte, budget_of, provider_sort, native_number}
 use Rattle.aom_image.specs.WellFormed.{is_server, limits}
 use Rattle.aom_codec.specs.declared.fault.LoadFault.{LoadFault}
 use Rattle.aom_codec.specs.declared.fault.LoadFault.TheVariants.{BadMagic, BadVersion, Trailing, LimitPassed, BadOperand, BadIndex, NotZero}
@@ -190,7 +190,7 @@ role_from n =
 
 -- a role
 abbrev pub role : Codec Role
-role = seen role_from role_byte byte
+role = seen role_from role_number byte
 
 -- flags with no bits but the two
 abbrev pub flags_from : ℕ → Result MethodFlags LoadFault

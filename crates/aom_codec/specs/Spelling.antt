@@ -2,6 +2,7 @@
 use Rattle.std.specs.Prelude.{ℕ, zero, suc, ◌+◌, ◌-◌, List, [], ◌∷◌, ◌++◌, length, flat_map, Option, Some, None}
 use Rattle.std.specs.Int.{w16, w32, cast_unsigned, to_be_bytes}
 use Rattle.aom_image.specs.Image.{Image}
+unfoldable pub use Rattle.aom_image.specs.Roles.{role_number}
 use Rattle.aom_image.specs.declared.image.Header.{Header}
 use Rattle.aom_image.specs.declared.class.ClassDecl.{ClassDecl}
 use Rattle.aom_image.specs.declared.class.ClassKind.{ClassKind}
@@ -10,8 +11,6 @@ use Rattle.aom_image.specs.declared.class.Provider.{Provider}
 use Rattle.aom_image.specs.declared.class.Provider.TheVariants as providers
 use Rattle.aom_image.specs.declared.method.Thing.{Thing}
 use Rattle.aom_image.specs.declared.method.Thing.TheVariants.{Object, Message}
-use Rattle.aom_image.specs.declared.method.Role.{Role}
-use Rattle.aom_image.specs.declared.method.Role.TheVariants as roles
 use Rattle.aom_image.specs.declared.method.Argument.{Argument}
 use Rattle.aom_image.specs.declared.method.Argument.TheVariants as arguments
 use Rattle.aom_image.specs.declared.method.Gives.{Gives}
@@ -167,19 +166,6 @@ instruction i = parts_bytes (mnemonic i) (operands i)
 
 -- ---- methods
 
--- roles by their numbers
-abbrev pub role_byte : Role → ℕ
-role_byte roles.Do = 0
-role_byte roles.Main = 1
-role_byte roles.Construct = 2
-role_byte roles.Destruct = 3
-role_byte roles.Run = 4
-role_byte roles.Cancel = 5
-role_byte roles.Error = 6
-role_byte roles.Accept = 7
-role_byte roles.Service = 8
-role_byte roles.Undo = 9
-
 -- the kind of a result
 abbrev pub gives_byte : Gives → ℕ
 gives_byte gives.Nothing = 0
@@ -199,7 +185,7 @@ result_number (gives.Left c) = c
 -- a method in 24 bytes, and its code
 abbrev pub method : Method → List ℕ
 method m =
-    pair (class_number m.class) ++ (role_byte m.role ∷ m.flags.0 ∷ m.before.0 ∷ m.after.0 ∷ length m.arguments ∷ gives_byte m.gives
+    pair (class_number m.class) ++ (role_number m.role ∷ m.flags.0 ∷ m.before.0 ∷ m.after.0 ∷ length m.arguments ∷ gives_byte m.gives
     ∷ (flat_map (λ a. pair (argument_number a)) m.arguments ++ (unused_pairs (6 - length m.arguments)
     ++ (pair (result_number m.gives) ++ (pair (length m.code) ++ flat_map instruction m.code)))))
 

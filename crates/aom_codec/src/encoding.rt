@@ -1,6 +1,6 @@
 //! The way out: the bytes that spell an image.
 ghost use Rattle.std.specs.Prelude.{◌≡◌, ◌≤◌, ◌-◌, ◌++◌, ◌∷◌, length, flat_map, OnOk, IfOk};
-ghost use Rattle.aom_codec.specs.Spelling.{pair, quad, unused_pairs, class_number, thing_number, argument_number, role_byte, gives_byte, result_number, kind_byte, provider_byte, number_byte, session_number, budget_of, class as class_bytes, target_byte, small_byte, large_number, instruction as instruction_bytes, method as method_bytes, spell};
+ghost use Rattle.aom_codec.specs.Spelling.{pair, quad, unused_pairs, class_number, thing_number, argument_number, gives_byte, result_number, kind_byte, provider_byte, number_byte, session_number, budget_of, class as class_bytes, target_byte, small_byte, large_number, instruction as instruction_bytes, method as method_bytes, spell};
 
 use aom_image::{
     Argument, ClassDecl, ClassKind, ClassNumber, Gives, Header, Image, Instr, Large, Method,
@@ -55,23 +55,6 @@ fn gives_byte(gives: Gives) -> u8
         Gives::Own(_) => 2,
         Gives::Maybe(_) => 3,
         Gives::Left(_) => 4,
-    }
-}
-
-fn role_byte(role: Role) -> u8
-    ensures { result ≡ role_byte role }
-{
-    match role {
-        Role::Do => 0,
-        Role::Main => 1,
-        Role::Construct => 2,
-        Role::Destruct => 3,
-        Role::Run => 4,
-        Role::Cancel => 5,
-        Role::Error => 6,
-        Role::Accept => 7,
-        Role::Service => 8,
-        Role::Undo => 9,
     }
 }
 
@@ -265,7 +248,7 @@ fn put_method(out: &mut Vec<u8>, method: &Method) -> Result<(), AllocError>
     let count = method.arguments.len();
     put_pair(out, class_number(method.class))?;
     let front = [
-        role_byte(method.role),
+        method.role.number(),
         method.flags.bits(),
         method.before.bits(),
         method.after.bits(),

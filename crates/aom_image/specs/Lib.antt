@@ -1,5 +1,6 @@
 pub mod Image
 pub mod Views
+pub mod Roles
 pub mod Operands
 pub mod Rows
 pub mod Mnemonics

@@ -1,5 +1,6 @@
 //! Methods.
 ghost use Rattle.std.specs.Prelude.{⊤, [], ◌∷◌, codes, ◌≡◌, IsSome, IfSome, IsTrue, ◌↔◌, ◌<◌};
+ghost use Rattle.aom_image.specs.Roles.{role_number};
 
 use crate::{ClassNumber, Instr, Items};
 use bitflags::{Flag, Flags};
@@ -24,6 +25,28 @@ pub enum Role {
     Accept,
     Service,
     Undo,
+}
+
+impl Role {
+    /// Its number, from 0 to 9.
+    #[tactic(auto, unfolding(crate::specs::Roles::role_number))]
+    pub fn number(self) -> u8
+        ensures value { result ≡ role_number self }
+        ensures small { result < 10 }
+    {
+        match self {
+            Role::Do => 0,
+            Role::Main => 1,
+            Role::Construct => 2,
+            Role::Destruct => 3,
+            Role::Run => 4,
+            Role::Cancel => 5,
+            Role::Error => 6,
+            Role::Accept => 7,
+            Role::Service => 8,
+            Role::Undo => 9,
+        }
+    }
 }
 
 /// What an argument is.

@@ -10,5 +10,5 @@ mod shapes;
 mod states;
 
 pub use class_order::{classes_are_ordered, sessions_at};
-pub use roles::{role_number, same_role};
+pub use roles::same_role;
 pub use shapes::{all_are_shaped, gives_nothing, gives_of};
