@@ -100,7 +100,5 @@ module _ (p : Image) (t : Typing) (s : State) (code : ℤ) (items : List Item) w
       nothing_below : Stack p t s.cells (Caught gv) [] → ⊥
       nothing_below e = cc
   arrives gv (Method fr sh ∷ ls) same undos good = at_method gv fr sh ls same undos good
-  arrives gv (Mark gv' ∷ ls) same undos good = absurd good.stack.1.1.0
-  arrives gv (Dying o ∷ ls) same undos good = absurd good.stack.1.1.1
-  arrives gv (Unwinding x es ∷ ls) same undos good = absurd good.stack.1.1.0
   arrives gv (Dispatching d ∷ ls) same undos good = at_dispatch gv d ls same undos good
+  arrives gv _ same undos good = absurd (assumption tt)

@@ -85,9 +85,8 @@ holder_member (Some Main) c no_main = absurd (no_main refl)
 holder_member _ c no_main = refl
 
 pub home_member : (h : Home) (c : ℕ) → home_holder h ≡ Member c → (o : Object) × (from : Place) × (h ≡ Inside o from) × (thing_holder o.thing ≡ Member c)
-home_member Static c e = cc
-home_member AtRoot c e = cc
 home_member (Inside o from) c e = (o, from, refl, e)
+home_member _ c e = cc
 
 pub own_for : (p : Image) (t : Thing) (k : Kind) → is_own_for p t k ≡ true → (x : Thing) × (a : Age) × (k ≡ Own x a) × (stands_for p x t ≡ true)
 own_for p t (Own x a) e = (x, a, refl, e)

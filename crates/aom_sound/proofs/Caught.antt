@@ -60,8 +60,7 @@ split _ fs _ e = cc
 
 no_dispatch : {A : Type 0} (p : Image) (d : Dispatch) → EndsDispatch p d Leaves → A
 no_dispatch p Of_main e = absurd e
-no_dispatch p (Main_left x) e = absurd e
-no_dispatch p Of_root e = absurd e
+no_dispatch p _ e = absurd e
 
 -- a leave on top has entries over the mark of its trap
 pub splits : (p : Image) (t : Typing) (s : State) → WellTyped p t s → (code : ℤ) (below : List Task) → s.tasks ≡ Unwind code ∷ below → (entries : List Item) × (items : List Item) × IsLeaving p code below entries items s
@@ -70,12 +69,9 @@ splits p t s w code below at =
     (r.0, r.1, record { over = subst (λ ts. IsOver p (length s.items) code below ts) (sym at) (refl, refl); stack = r.2; plain = r.3 })
   where
     under : (es : List Pushed) (ls : List Layer) → forms s.items ≡ objects es (items_of ls) → Stack p t s.cells Leaves ls → (entries : List Item) × (items : List Item) × (s.items ≡ entries ++ (A_mark ∷ items)) × AreEntries entries
-    under es [] f stack = cc
-    under es (Method fr sh ∷ ls) f stack = absurd stack.0
     under es (Mark gv ∷ ls) f stack = split es (items_of ls) s.items f
-    under es (Dying o ∷ ls) f stack = absurd stack.1
-    under es (Unwinding x fs ∷ ls) f stack = absurd stack.0
     under es (Dispatching d ∷ ls) f stack = no_dispatch p d stack.0
+    under es _ f stack = absurd (first_of (assumption tt, cc))
 
     go : (ls : List Layer) → Unwind code ∷ below ≡ tasks_of ls → forms s.items ≡ items_of ls → Stack p t s.cells Now ls → (entries : List Item) × (items : List Item) × (s.items ≡ entries ++ (A_mark ∷ items)) × AreEntries entries
     go (Unwinding x es ∷ ls) e f stack = under es ls f stack.1
@@ -312,17 +308,14 @@ module _ (p : Image) (t : Typing) (s u : State) (code : ℤ) (items : List Item)
           (hears c code fr (gives_of p m) s.cells (length (tasks_of ls)) sh (subst (λ g. Awaits g c sh) (sym w.0) w.2) w.1 free)
 
   below_trap : (ls : List Layer) (gv : Gives) (es : List Pushed) → Good p t s.cells (Unwinding code es ∷ Mark gv ∷ ls) → arrived p code (Trapped ∷ tasks_of ls) items (counted p s) ≡ Goes u → Arrived (Trapped ∷ tasks_of ls) u
-  below_trap [] gv es good e = cc
   below_trap (Method fr sh ∷ ls) gv es good e = subst (λ v. Arrived (Trapped ∷ Run fr ∷ tasks_of ls) v) (goes_same _ u e) (at_method fr sh ls gv es good)
-  below_trap (Dying o ∷ ls) gv es good e = absurd good.stack.1.1.1
   below_trap (Dispatching Of_main ∷ ls) gv es good e = subst (λ v. Arrived (Trapped ∷ Dispatched Of_main ∷ tasks_of ls) v) (goes_same _ u e) (refl, refl, refl)
-  below_trap _ gv es good e = absurd good.stack.1.1.0
+  below_trap _ gv es good e = absurd (first_of (assumption tt, cc))
 
   below_leave : (ls : List Layer) (es : List Pushed) → Good p t s.cells (Unwinding code es ∷ ls) → arrived p code (tasks_of ls) items (counted p s) ≡ Goes u → Arrived (tasks_of ls) u
   below_leave (Mark gv ∷ ls) es good e = below_trap ls gv es good e
   below_leave (Dispatching d ∷ ls) es good e = no_dispatch p d good.stack.1.0
-  below_leave [] es good e = cc
-  below_leave _ es good e = absurd (assumption tt)
+  below_leave _ es good e = absurd (first_of (assumption tt, cc))
 
   by_layers : (below : List Task) (ls : List Layer) → tasks_of ls ≡ Unwind code ∷ below → Good p t s.cells ls → arrived p code below items (counted p s) ≡ Goes u → Arrived below u
   by_layers below (Unwinding x es ∷ ls) at good e =

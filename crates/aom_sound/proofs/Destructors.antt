@@ -53,8 +53,7 @@ module _ (p : Image) (t : Typing) (c : Choice) (s : State) (fr : Frame) (sh : Sh
         where
           empty : (z : Filling) → is_empty z ≡ true → Fits p (held s.cells) x (filled (Some y) z) → Fits p (held s.cells) x Null
           empty Empty e h = h
-          empty Full e h = cc
-          empty Perhaps e h = cc
+          empty _ e h = cc
 
   fits_dying : fr.home ≡ Inside o (Going (length (tasks_of ls))) → no_entry sh.entries ≡ true → none_owns sh.registers ≡ true → fields_done p true (thing_holder o.thing) sh.fields ≡ true → (r : Place) → Fits p (held s.cells) (held s.cells r) (claim p (declared p s.cells) (Dying o ∷ ls) r)
   fits_dying eh e n done (Register f i) = go (length (tasks_of (Dying o ∷ ls)) == f) refl (at_hand.good.fits (Register f i))

@@ -65,10 +65,9 @@ named_held (c ∷ cs) n o t e = go (c.object.name == n) (λ e. named_held cs n o
 
 -- what is claimed to be filled is declared for a thing
 filled_thing : (k : Option Thing) (y : Filling) (x : Thing) → HasThing (filled k y) x → k ≡ Some x
-filled_thing None y x h = absurd h
-filled_thing (Some d) Empty x h = absurd h
 filled_thing (Some d) Full x h = ap (λ z. Some z) (sym h)
 filled_thing (Some d) Perhaps x h = ap (λ z. Some z) (sym h)
+filled_thing _ _ x h = absurd h
 
 -- what is declared of a field, by the cell that has it
 declared_thing_of : (p : Image) (cs : List Cell) (n f : ℕ) (c : Thing) → HasThing (declared p cs (Field n f)) c → (o : Object) × (named cs n ≡ Some o) × (field_thing p (thing_holder o.thing) f ≡ Some c)
@@ -188,8 +187,7 @@ objects_item (i ∷ items) k e = go (length items == k) (objects_item items k) (
   where
     here : (i : Item) → Some (form i) ≡ Some Object_form → IsObjects (Some i)
     here An_object e = tt
-    here (An_operation m w) e = cc
-    here A_mark e = cc
+    here _ e = cc
 
     go : (b : Bool) → (over (forms items) k ≡ Some Object_form → IsObjects (over items k)) → cond b (Some (form i)) (over (forms items) k) ≡ Some Object_form → IsObjects (cond b (Some i) (over items k))
     go true rest e = here i e

@@ -98,9 +98,8 @@ none_goes : (ts : List Task) → is_clearing ts ≡ false → NoneGoes ts
 none_goes [] e = tt
 none_goes (Run fr ∷ ts) e = none_goes ts e
 none_goes (Trapped ∷ ts) e = none_goes ts e
-none_goes (Destroy ∷ ts) e = absurd (true≢false e)
-none_goes (Unwind code ∷ ts) e = absurd (true≢false e)
 none_goes (Dispatched d ∷ ts) e = none_goes ts e
+none_goes _ e = absurd (true≢false e)
 
 pub caught_owned : CaughtOwned
 caught_owned p t wired s w calm fits code tasks items at top = owned p t wired s w (subst (λ l. NoneGoes l) (sym at) (none_goes tasks (subst (λ l. IsCalm p l) at calm).0)) fits

@@ -122,54 +122,34 @@ module _ (p : Image) (t : Typing) (c : Choice) (s : State) where
   of_method wired typed unused fr ts e w = by_layers (Run fr ∷ ts) e go w
     where
       go : (ls : List Layer) → Run fr ∷ ts ≡ tasks_of ls → forms s.items ≡ items_of ls → AllUndo p s.items → Good p t s.cells ls → Keeps p t (step_task p c s (Run fr ∷ ts))
-      go [] at items undos good = cc
       go (Method fr' sh ∷ ls) at items undos good = subst (λ l. Keeps p t (step_task p c s l)) (sym at) (instruction_keeps p t wired typed c s fr' sh ls (record { tasks = e ∙ at; items = items; undos = undos; good = good }) unused)
-      go (Mark gv ∷ ls) at items undos good = cc
-      go (Unwinding code es ∷ ls) at items undos good = cc
-      go (Dying o ∷ ls) at items undos good = cc
-      go (Dispatching d ∷ ls) at items undos good = cc
+      go _ at items undos good = cc
 
   of_going : (ts : List Task) → s.tasks ≡ Destroy ∷ ts → WellTyped p t s → Keeps p t (step_task p c s s.tasks)
   of_going ts e w = by_layers (Destroy ∷ ts) e go w
     where
       go : (ls : List Layer) → Destroy ∷ ts ≡ tasks_of ls → forms s.items ≡ items_of ls → AllUndo p s.items → Good p t s.cells ls → Keeps p t (step_task p c s (Destroy ∷ ts))
-      go [] at items undos good = cc
-      go (Method fr' sh ∷ ls) at items undos good = cc
-      go (Mark gv ∷ ls) at items undos good = cc
-      go (Unwinding code es ∷ ls) at items undos good = cc
       go (Dying o ∷ ls) at items undos good = subst (λ l. Keeps p t (step_task p c s l)) (sym at) (going_keeps p t s o ls good items undos)
-      go (Dispatching d ∷ ls) at items undos good = cc
+      go _ at items undos good = cc
 
   of_dispatch : IsWired p → IsTyped p t → (d : Dispatch) (ts : List Task) → s.tasks ≡ Dispatched d ∷ ts → WellTyped p t s → Keeps p t (step_task p c s s.tasks)
   of_dispatch wired typed d ts e w = by_layers (Dispatched d ∷ ts) e go w
     where
       go : (ls : List Layer) → Dispatched d ∷ ts ≡ tasks_of ls → forms s.items ≡ items_of ls → AllUndo p s.items → Good p t s.cells ls → Keeps p t (step_task p c s (Dispatched d ∷ ts))
-      go [] at items undos good = cc
-      go (Method fr' sh ∷ ls) at items undos good = cc
-      go (Mark gv ∷ ls) at items undos good = cc
-      go (Unwinding code es ∷ ls) at items undos good = cc
-      go (Dying o ∷ ls) at items undos good = cc
       go (Dispatching w ∷ ls) at items undos good = let same : d ≡ w = cc in subst (λ x. WellTyped p t (dispatch_ends p x s)) (sym same) (dispatch_keeps p t wired typed s w ls good items)
+      go _ at items undos good = cc
 
   of_unwinding : IsWired p → IsTyped p t → (code : ℤ) (ts : List Task) → s.tasks ≡ Unwind code ∷ ts → WellTyped p t s → Keeps p t (step_task p c s s.tasks)
   of_unwinding wired typed code ts e w = by_layers (Unwind code ∷ ts) e go w
     where
       go : (ls : List Layer) → Unwind code ∷ ts ≡ tasks_of ls → forms s.items ≡ items_of ls → AllUndo p s.items → Good p t s.cells ls → Keeps p t (step_task p c s (Unwind code ∷ ts))
-      go [] at items undos good = cc
-      go (Method fr' sh ∷ ls) at items undos good = cc
-      go (Mark gv ∷ ls) at items undos good = cc
-      go (Dying o ∷ ls) at items undos good = cc
       go (Unwinding x es ∷ ls) at items undos good = subst (λ l. Keeps p t (step_task p c s l)) (sym at) (unwinds p t wired typed s x es ls items undos good)
-      go (Dispatching d ∷ ls) at items undos good = cc
+      go _ at items undos good = cc
 
   -- a trap is never on top
   none_on_top : (ls : List Layer) (ts : List Task) → tasks_of ls ≡ Trapped ∷ ts → Good p t s.cells ls → ⊥
-  none_on_top [] ts e good = cc
-  none_on_top (Method fr sh ∷ ls) ts e good = cc
   none_on_top (Mark gv ∷ ls) ts e good = good.stack.0
-  none_on_top (Unwinding code es ∷ ls) ts e good = cc
-  none_on_top (Dying o ∷ ls) ts e good = cc
-  none_on_top (Dispatching d ∷ ls) ts e good = cc
+  none_on_top _ ts e good = cc
 
   -- any task
   of_any : IsWired p → IsTyped p t → named s.cells c.name ≡ None → (ts : List Task) → s.tasks ≡ ts → WellTyped p t s → Keeps p t (step_task p c s s.tasks)
