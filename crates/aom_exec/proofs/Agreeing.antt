@@ -68,11 +68,10 @@ word_under (task ∷ above) fr below i =
 declared_says : (p : Image) (h : Place → Option Object) (thing : Option Thing) (x : Filling) (n : ℕ) (o : Option Object) → n ≡ number o → Fits p h o (filled thing x)
     → NumberSays p (filled thing Perhaps) n o
 declared_says p h None x n None same fits = record { number = same; none = refl }
-declared_says p h None x n (Some y) same fits = absurd fits
 declared_says p h (Some t) x n None same fits = inl (record { number = same; none = refl })
-declared_says p h (Some t) Empty n (Some y) same fits = absurd fits
 declared_says p h (Some t) Full n (Some y) same fits = inr (record { object = y; owned = refl; number = same; thing = fits.0 })
 declared_says p h (Some t) Perhaps n (Some y) same fits = inr (record { object = y; owned = refl; number = same; thing = fits.0 })
+declared_says p h _ _ n _ same fits = absurd fits
 
 -- and what is known of it says so
 filled_says : (p : Image) (h : Place → Option Object) (t : Thing) (x : Filling) (n : ℕ) (o : Option Object) → n ≡ number o → Fits p h o (filled (Some t) x) → NumberSays p (filled (Some t) x) n o
@@ -151,8 +150,7 @@ IsOwn (Maybe t a) = ⊥
 
 owns_one : (p : Image) (h : Place → Option Object) (k : Kind) (o : Option Object) → IsOwn k → Fits p h o k → (x : Object) × (o ≡ Some x)
 owns_one p h (Own t a) (Some x) own fits = (x, refl)
-owns_one p h (Own t a) None own fits = absurd fits
-owns_one p h _ o own fits = absurd own
+owns_one p h _ _ own fits = absurd (assumption tt)
 
 over_forms : (items : List Item) (k : ℕ) → over items k ≡ Some An_object → over (forms items) k ≡ Some Object_form
 over_forms [] k e = cc

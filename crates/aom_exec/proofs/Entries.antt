@@ -17,8 +17,7 @@ use Rattle.aom_exec.proofs.Values.{at_depth, cases}
 pub same_items_length : (is : List Held_item) (js : List Item) → SameItems is js → length is ≡ length js
 same_items_length [] [] e = refl
 same_items_length (i ∷ is) (j ∷ js) e = ap suc (same_items_length is js e.1)
-same_items_length [] (j ∷ js) e = absurd e
-same_items_length (i ∷ is) [] e = absurd e
+same_items_length _ _ e = absurd e
 
 -- past the items there is nothing
 pub entry_past : (is : List Held_item) (k : ℕ) → length is ≤ k → entry_in is k ≡ null
@@ -88,6 +87,4 @@ entry_number (i ∷ is) (An_operation m w ∷ js) (suc k) n same some at =
     let deep = same_items_length is js same.1 in
     let there = some_entry js k some in
     entry_number is js k n same.1 some (omega arith) ∙ sym (ap (λ b. cond b (owned_by i) (entry_in is n)) (ne_eqb (length is) n (λ e. absurd (omega arith))))
-entry_number [] [] k n same some at = cc
-entry_number (i ∷ is) (A_mark ∷ js) k n same some at = cc
-entry_number _ _ k n same some at = absurd (assumption tt)
+entry_number _ _ k n same some at = absurd (grind arith)

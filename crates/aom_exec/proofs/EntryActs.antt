@@ -204,6 +204,4 @@ module _ (m : Parts) (refused : List ℕ) (es : Held_items) where
       operation_owns : (i : Held_item) (is : List Held_item) (js : List Item) → SameItems (i ∷ is) js → tops_operation js ≡ true → owned_by i ≡ null
       operation_owns (Holds_operation k n) is js same e = refl
       operation_owns Is_mark is js same e = refl
-      operation_owns (Holds_object n) is (An_object ∷ js) same e = cc
-      operation_owns (Holds_object n) is (A_mark ∷ js) same e = cc
-      operation_owns _ is _ same e = absurd (assumption tt)
+      operation_owns _ is _ same e = absurd (grind arith)

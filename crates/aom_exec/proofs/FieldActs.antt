@@ -45,15 +45,11 @@ module _ (p : Image) (m : Parts) (h : At_hand p m) where
   housed o from e = go h.typed.layers (sym h.typed.tasks ∙ h.top) h.typed.good.stack
     where
       go : (ls : List Layer) → tasks_of ls ≡ Run h.frame ∷ h.below → Stack p h.typing h.state.cells Now ls → named h.state.cells o.name ≡ Some o
-      go [] top stack = cc
-      go (Mark g ∷ ls) top stack = cc
-      go (Dying x ∷ ls) top stack = cc
-      go (Dispatching d ∷ ls) top stack = cc
-      go (Unwinding code es ∷ ls) top stack = cc
       go (A_method fr sh ∷ ls) top stack =
           let same : fr ≡ h.frame = cc in
           let lives = subst (Is_housed p h.state.cells ls) (ap (λ (x : Frame). x.home) same ∙ e) stack.2 in
           lives.lives
+      go _ top stack = cc
 
   -- the machine's number of it
   this_is : this m ≡ home_number h.frame.home
@@ -69,11 +65,10 @@ module _ (p : Image) (m : Parts) (h : At_hand p m) where
   is_housed there = go h.frame.home refl
     where
       go : (home : Home) → h.frame.home ≡ home → Lives m.cells (this m)
-      go Static e = absurd (there (this_is ∙ ap home_number e))
-      go AtRoot e = absurd (there (this_is ∙ ap home_number e))
       go (Inside o from) e =
           let c = cell_of p m.cells h.state.cells o.name o h.agrees.cells (housed o from e) in
           subst (Lives m.cells) (sym (inside_number o from e)) (ap is_some c.1)
+      go _ e = absurd (there (this_is ∙ ap home_number e))
 
   -- a method that has words has a cell
   no_words : {P : Type 0} (w : ℕ) → nat_lt w 0 ≡ true → P

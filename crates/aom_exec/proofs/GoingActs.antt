@@ -205,13 +205,12 @@ nothing_owned [] n f e = refl
 nothing_owned (c ∷ cs) n f e = go (same_place c.owner (Field n f)) refl (is_field_of n c.owner) refl (nothing_owned cs n f) e
   where
     go : (b : Bool) → same_place c.owner (Field n f) ≡ b → (i : Bool) → is_field_of n c.owner ≡ i → (owns_nothing cs n ≡ true → held cs (Field n f) ≡ None) → (not i && owns_nothing cs n) ≡ true → cond b (Some c.object) (held cs (Field n f)) ≡ None
+    go true same _ is rest e = absurd (grind arith)
     go false same i is rest e = rest (second i e)
       where
         second : (i : Bool) → (not i && owns_nothing cs n) ≡ true → owns_nothing cs n ≡ true
         second true e = cc
         second false e = e
-    go true same true is rest e = cc
-    go true same false is rest e = absurd (false≢true (sym is ∙ ap (is_field_of n) (same_place-true c.owner (Field n f) same) ∙ eq-eqb n n refl))
 
 -- a place is written twice
 over : {A : Type 0} (f g : Place → A) (q : Place) (x y : A) → ((r : Place) → f r ≡ changed g q x r) → g q ≡ y → (r : Place) → changed f q y r ≡ g r

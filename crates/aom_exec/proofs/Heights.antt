@@ -100,16 +100,10 @@ left_over : (p : Image) (t : Typing) (cs : List Cell) (es : List Pushed) (ls : L
 left_over p t cs (e ∷ es) ls i items s same =
     let rest : forms items ≡ objects es (items_of ls) = cc in
     low_stack p t cs Leaves ls (length items) s (omega (arith, length_forms items, ap length rest, length_objects es (items_of ls)))
-left_over p t cs [] [] i items s same = cc
-left_over p t cs [] (Method fr sh ∷ ls) i items s same = absurd s.0
 left_over p t cs [] (Mark gv ∷ ls) i items s same =
     let rest : forms items ≡ items_of ls = cc in
     low_stack p t cs (Caught gv) ls (length items) s.1 (omega (arith, length_forms items, ap length rest))
-left_over p t cs [] (Dying o ∷ ls) i items s same = absurd s.1
-left_over p t cs [] (Unwinding code es ∷ ls) i items s same = absurd s.0
-left_over p t cs [] (Dispatching Of_main ∷ ls) i items s same = absurd s.0
-left_over p t cs [] (Dispatching (Main_left code) ∷ ls) i items s same = absurd s.0
-left_over p t cs [] (Dispatching Of_root ∷ ls) i items s same = absurd s.0
+left_over p t cs _ _ i items s same = absurd (first_of (assumption tt, cc))
 
 pub low_unwinding : (p : Image) (t : Typing) (s : State) (code : ℤ) (ts : List Task) (i : Item) (items : List Item) → WellTyped p t s → s.tasks ≡ Unwind code ∷ ts → s.items ≡ i ∷ items → AllLow (length items) ts
 low_unwinding p t s code ts i items w at top = go w.layers (sym w.tasks ∙ at) (ap forms (sym top) ∙ w.items) w.good.stack

@@ -436,8 +436,7 @@ module _ (p : Image) (m : Parts) (refused : List ℕ) (a : ℕ) where
       at_end : (y : Held_dispatch) (ms : List Held_task) (d : Dispatch) (ts : List Task) → dispatch_of y ≡ d → SameTasks ms ts → ts ≡ [] → WellTyped p h.typing (record h.state { tasks = Dispatched d ∷ ts; items = below_top h.state.items })
           → Agrees p (record m { stack = record m.stack { tasks = Ends y ∷ ms }; entries = es }) (record h.state { tasks = Dispatched d ∷ ts; items = below_top h.state.items })
       at_end y [] d [] same below last typed = ended p m es h.state y d h.agrees marked same (closing p h.typing _ d typed refl)
-      at_end y (k ∷ ms) d [] same below last typed = absurd below
-      at_end y ms d (t ∷ ts) same below last typed = cc
+      at_end y _ d _ same below last typed = absurd (grind arith)
 
       go : (ms : List Held_task) (ts : List Task) → SameTasks ms ts → IsEnding (below_first ms) → IsTrapped ms → WellTyped p h.typing (returned p h.frame ts h.state (gives_of p h.frame.method) a ts)
           → Agrees p (record m { stack = record m.stack { tasks = below_first ms }; entries = es }) (returned p h.frame ts h.state (gives_of p h.frame.method) a ts)

@@ -77,13 +77,9 @@ deals_move p m told above h u e typed = go m.entries.items h.state.items above h
     )
 
     go : (is : List Held_item) (js : List Item) → IsAboveMark is → SameItems is js → s.items ≡ js → unwound p h.code h.below s js ≡ Goes u → Agrees p (dealt_with p m) u × (told ≡ record told { lines = told.lines ++ arrival h.code s.items })
-    go is [] above same is' e = cc
-    go [] (A_mark ∷ js) above same is' e = absurd same
-    go (Holds_object n ∷ is) (A_mark ∷ js) above same is' e = absurd same.0
-    go (Holds_operation k n ∷ is) (A_mark ∷ js) above same is' e = absurd same.0
-    go (Is_mark ∷ is) (A_mark ∷ js) above same is' e = absurd above
     go is (An_object ∷ js) above same is' e = let w = whole_goes (top_is_whole s.cells (An_object ∷ js)) (deals_with p (An_object ∷ js) (Unwind h.code ∷ h.below) s) u e in done (An_object ∷ js) is' refl w.0 w.1 (ap (arrival h.code) is')
     go is (An_operation k w ∷ js) above same is' e = done (An_operation k w ∷ js) is' refl refl (goes_same (deals_with p (An_operation k w ∷ js) (Unwind h.code ∷ h.below) s) u e) (ap (arrival h.code) is')
+    go _ _ above same is' e = absurd (grind arith)
 
 -- ---- what the code needs to know there
 
@@ -114,10 +110,7 @@ module _ (p : Image) (m : Parts) (st : Stands (record { image = p; parts = m }))
     where
       go : (code : ℤ) (ts : List Task) (u : State) (is : List Held_item) (js : List Item) → (IsAboveMark is → ⊥) → SameItems is js → unwound p code ts (at_rest st.0) js ≡ Goes u → IsMarked is
       go code ts u (Is_mark ∷ is) js none same e = tt
-      go code ts u (Holds_object n ∷ is) js none same e = absurd (none tt)
-      go code ts u (Holds_operation k n ∷ is) js none same e = absurd (none tt)
-      go code ts u [] [] none same e = cc
-      go code ts u [] (j ∷ js) none same e = absurd same
+      go code ts u _ _ none same e = absurd (grind arith)
 
   beneath_it : (ts : List Task) × (code : ℤ) × ReturnsTo p (below_first m.stack.tasks) × IsTrapped (below_first m.stack.tasks)
   beneath_it =
@@ -132,16 +125,7 @@ module _ (p : Image) (m : Parts) (st : Stands (record { image = p; parts = m }))
 
       on_top : (ms : List Held_task) (ts : List Task) → SameTasks ms ts → IsTrapOnTop ts → IsTrapped ms
       on_top (Is_trap ∷ ms) (Trapped ∷ ts) same top = tt
-      on_top ms [] same top = absurd top
-      on_top ms (Run g ∷ ts) same top = absurd top
-      on_top ms (Destroy ∷ ts) same top = absurd top
-      on_top ms (Unwind c ∷ ts) same top = absurd top
-      on_top ms (Dispatched d ∷ ts) same top = absurd top
-      on_top [] (Trapped ∷ ts) same top = absurd same
-      on_top (Runs_frame f ∷ ms) (Trapped ∷ ts) same top = absurd same.0
-      on_top (Destroys x ∷ ms) (Trapped ∷ ts) same top = absurd same.0
-      on_top (Unwinds c ∷ ms) (Trapped ∷ ts) same top = absurd same.0
-      on_top (Ends d ∷ ms) (Trapped ∷ ts) same top = absurd same.0
+      on_top _ _ same top = absurd (grind arith)
 
       trap : (ms : List Held_task) (code : ℤ) (ts : List Task) → IsUnwinding ms → SameTasks ms (Unwind code ∷ ts) → IsTrapOnTop ts → IsTrapped (below_first ms)
       trap (Unwinds c ∷ ms) code ts unwinding same top = on_top ms ts same.1 top
@@ -194,8 +178,7 @@ left_main p t s code d ts typed top = go typed.layers (sym typed.tasks ∙ top) 
   where
     which : (d : Dispatch) (g : Gives) → EndsDispatch p d (Caught g) → d ≡ Of_main
     which Of_main g e = refl
-    which (Main_left c) g e = absurd e
-    which Of_root g e = absurd e
+    which _ g e = absurd e
 
     go : (ls : List Layer) → tasks_of ls ≡ Unwind code ∷ Trapped ∷ Dispatched d ∷ ts → Good p t s.cells ls → d ≡ Of_main
     go (Unwinding c es ∷ Mark gv ∷ Dispatching x ∷ ls) e good = let same : x ≡ d = cc in sym same ∙ which x gv good.stack.1.1.0
@@ -281,9 +264,7 @@ module _ (p : Image) (m : Parts) (es : Held_items) (marked : m.entries ≡ recor
     where
       go : (js : List Item) → SameItems (Is_mark ∷ es.items) js → (ks : List Item) × (js ≡ A_mark ∷ ks)
       go (A_mark ∷ ks) same = (ks, refl)
-      go [] same = absurd same
-      go (An_object ∷ ks) same = absurd same.0
-      go (An_operation k w ∷ ks) same = absurd same.0
+      go _ same = absurd (assumption tt)
 
   pub arrives_method : IsUnwinding m.stack.tasks → IsTrapped (below_first m.stack.tasks) → Runs under → suc (result_register (instr_at p (method_here under) (place_here under))) < 16
       → Unwinds_by p m (told p (instr_at p (method_here under) (place_here under)) (code_here m.stack.tasks) (record (with_tasks under m) { entries = es })) t said
@@ -343,8 +324,7 @@ module _ (p : Image) (m : Parts) (es : Held_items) (marked : m.entries ≡ recor
 
       alone : (ms : List Held_task) (ts : List Task) → SameTasks ms ts → ts ≡ [] → ms ≡ []
       alone [] ts same none = refl
-      alone (n ∷ ms) [] same none = absurd same
-      alone (n ∷ ms) (t ∷ ts) same none = cc
+      alone _ _ same none = absurd (grind arith)
 
       go : (us : List Held_task) (code : ℤ) (below : List Task) → s.tasks ≡ Unwind code ∷ below → IsUnwinding us → IsTrapped (below_first us) → IsEnding (below_first (below_first us)) → SameTasks us (Unwind code ∷ below)
           → (ks : List Item) → s.items ≡ A_mark ∷ ks → unwound p code below s (A_mark ∷ ks) ≡ Goes u → Done us code

@@ -50,14 +50,12 @@ use Rattle.aom_exec.proofs.Stepping.{at_step, step_of_instr}
 
 pub kind_says : (p : Image) (h : Place → Option Object) (k : Kind) (w : Option ℤ) (o : Option Object) → WordFits w k → Fits p h o k → KindSays p k w o
 kind_says p h Word (Some w) None words fits = (refl, refl)
-kind_says p h Word (Some w) (Some o) words fits = absurd fits
-kind_says p h Word None o words fits = absurd words
 kind_says p h Unset w None words fits = refl
 kind_says p h Null w None words fits = (words, refl)
 kind_says p h (Own t a) w (Some o) words fits = (words, refl, fits.0)
 kind_says p h (Maybe t a) w None words fits = (words, tt)
 kind_says p h (Maybe t a) w (Some o) words fits = (words, fits.0)
-kind_says p h _ w _ words fits = absurd fits
+kind_says p h _ _ _ words fits = absurd (assumption tt)
 
 -- ages are no part of it
 readied_says : (p : Image) (k : Kind) (w : Option ℤ) (o : Option Object) → KindSays p k w o → KindSays p (readied k) w o
