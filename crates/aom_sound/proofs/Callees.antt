@@ -27,7 +27,7 @@ use Rattle.aom_sound.proofs.Passing.{lower, upper}
 use Rattle.aom_sound.specs.Calls.{passed_cells}
 use Rattle.aom_sound.specs.Claims.{Layer, Method, items_of, tasks_of}
 use Rattle.aom_sound.specs.Places.{Cell, Elsewhere, Entry, Field, Going, Object, Place, Register, Root, held, moved, same_place}
-use Rattle.aom_sound.specs.State.{AtRoot, Frame, Home, Inside, State, Static, home_holder, thing_holder}
+use Rattle.aom_sound.specs.State.{Frame, Home, Inside, State, home_holder, thing_holder}
 use Rattle.aom_sound.specs.WellTyped.{Fits, IsBelow}
 
 -- what a test that is asked for says

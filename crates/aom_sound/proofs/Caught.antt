@@ -22,7 +22,7 @@ use Rattle.aom_sound.proofs.Guarded.{goes_same, guarded_goes, guarded_met}
 use Rattle.aom_sound.proofs.Maps.{at-put_at, held_moved, same_place-true, same_place_refl}
 use Rattle.aom_sound.proofs.Straight.{claim_register, fits_unowning}
 use Rattle.aom_sound.specs.Calls.{called, result_register}
-use Rattle.aom_sound.specs.Claims.{Dispatching, Dying, Form, Layer, Mark, Mark_form, Method, Unwinding, declared, entry_form, forms, items_of, objects, tasks_of}
+use Rattle.aom_sound.specs.Claims.{Dispatching, Form, Layer, Mark, Mark_form, Method, Unwinding, declared, entry_form, forms, items_of, objects, tasks_of}
 use Rattle.aom_sound.specs.Cleanup.{arrival, arrived, code_told, destroyed, has_trap, is_negative, leave_needs, no_memory, operation_frame, to_trap, unwound}
 use Rattle.aom_classes.specs.Roles.{destructor_of}
 use Rattle.aom_sound.specs.Destruction.{begun_by}
@@ -30,7 +30,7 @@ use Rattle.aom_sound.specs.Laws.{IsWired}
 use Rattle.aom_sound.specs.Leaves.{AreEntries, AreMethods, Arrives, ArrivesAt, Begins, HasMoved, HasNoResult, HasPushed, Hears, IsBegun, IsDestroyed, IsLeaving, IsOver, LeavesWith}
 use Rattle.aom_sound.specs.Moves.{announcement, counted, does, main_left, needs, step, step_instr, step_task, written_task}
 use Rattle.aom_sound.specs.Places.{Cell, Entry, Going, Object, Register, held, moved, named, same_place, Place}
-use Rattle.aom_sound.specs.State.{A_mark, An_object, An_operation, Choice, Dispatch, Dispatched, Frame, Goes, Inside, IsStuck, Item, Main_left, NullOrDead, Of_main, Of_root, Run, State, Task, Trapped, Unwind, frame_of, next, set_word, word}
+use Rattle.aom_sound.specs.State.{A_mark, An_object, An_operation, Choice, Dispatch, Dispatched, Frame, Goes, Inside, IsStuck, Item, Main_left, NullOrDead, Of_main, Run, State, Task, Trapped, Unwind, frame_of, next, set_word, word}
 use Rattle.aom_sound.specs.WellTyped.{AllUndo, Awaits, EndsDispatch, Fits, Good, Keeps, Leaves, Now, Stack, WellTyped}
 use Rattle.aom_sound.specs.Effects.{Effect, Leaves, Pushed as Object_pushed, Pushed_operation as Operation_pushed, Same, Update, applied, unless_refused, updates}
 use Rattle.aom_sound.specs.Words.{word_or_zero}

@@ -10,7 +10,7 @@ use Rattle.aom_sound.proofs.Steps.{step_keeps}
 use Rattle.aom_sound.specs.Laws.{IsWired}
 use Rattle.aom_sound.specs.Leaves.{HasArrived, IsLeaving, IsOver, LeavesArrive, LeavesMove, StillLeaves, Unwinds, deals, leaves, works}
 use Rattle.aom_sound.specs.Moves.{IsOpen, step}
-use Rattle.aom_sound.specs.State.{A_mark, Choice, Destroy, Dispatched, Goes, Item, Run, State, Task, Trapped, Unwind}
+use Rattle.aom_sound.specs.State.{A_mark, Choice, Destroy, Goes, Item, Run, State, Task, Unwind}
 use Rattle.aom_sound.specs.WellTyped.{Keeps, WellTyped}
 use Rattle.aom_sound.specs.World.{IsBetween, IsBusy, Reaches, begins, boot_state, moves, waiting, waits}
 use Rattle.aom_sound.specs.declared.line.Line.{Line}

@@ -33,7 +33,7 @@ use Rattle.aom_sound.specs.Laws.{IsWired}
 use Rattle.aom_sound.specs.Moves.{does, needs}
 use Rattle.aom_sound.specs.Objects.{is_no_message, no_words}
 use Rattle.aom_sound.specs.Places.{Cell, Entry, Object, Place, changed, held, moved, same_place, with_new}
-use Rattle.aom_sound.specs.State.{A_mark, An_object, An_operation, Choice, Frame, Item, Run, State, Static, next, set_word}
+use Rattle.aom_sound.specs.State.{An_object, An_operation, Choice, Frame, Item, Run, State, Static, next, set_word}
 use Rattle.aom_sound.specs.WellTyped.{AllUndo, Awaits, Fits, Gone, IsUndo, Returns, Stack, WellTyped}
 use Rattle.aom_sound.specs.Effects.{Made, Pushed as Object_pushed, Pushed_operation as Operation_pushed, Same, applied, sets, unless_refused, updates}
 use Rattle.aom_sound.specs.Words.{read}

@@ -20,7 +20,7 @@ use Rattle.aom_shape.specs.Typing.{Typing}
 use Rattle.aom_shape.specs.declared.kind.Age.{Age}
 use Rattle.aom_shape.specs.declared.kind.Age.TheVariants.{Fresh, Ready}
 use Rattle.aom_shape.specs.declared.kind.Entry.{Entry as Pushed}
-use Rattle.aom_shape.specs.declared.kind.Entry.TheVariants.{Object as Pushed_object, Operation as Pushed_operation}
+use Rattle.aom_shape.specs.declared.kind.Entry.TheVariants.{Object as Pushed_object}
 use Rattle.aom_shape.specs.declared.kind.Filling.{Filling}
 use Rattle.aom_shape.specs.declared.kind.Filling.TheVariants.{Empty, Full, Perhaps}
 use Rattle.aom_shape.specs.declared.kind.Kind.{Kind}
@@ -36,7 +36,7 @@ use Rattle.aom_sound.specs.Claims.{Dispatching, Dying, Layer, Mark, Method, Obje
 use Rattle.aom_sound.specs.Moves.{needs}
 use Rattle.aom_sound.specs.Objects.{is_thing}
 use Rattle.aom_sound.specs.Places.{Cell, Elsewhere, Entry, Field, Going, Object, Place, Register, Root, held, same_place}
-use Rattle.aom_sound.specs.State.{A_mark, An_object, An_operation, AtRoot, Choice, Frame, Home, Inside, Item, Main_left, Of_main, Of_root, State, Static, thing_holder}
+use Rattle.aom_sound.specs.State.{An_object, AtRoot, Choice, Frame, Home, Inside, Item, Main_left, Of_main, Of_root, State, Static, thing_holder}
 use Rattle.aom_sound.specs.WellTyped.{Fits, IsApart, IsHoused, NotAtRoot, RootUnclaimed, Unclaimed, past_going}
 
 pub none_owns_at : (ks : List Kind) (i : ℕ) → none_owns ks ≡ true → is_unowning (at Unset ks i) ≡ true

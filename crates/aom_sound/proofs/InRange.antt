@@ -5,7 +5,7 @@ use Rattle.std.specs.Ordering.{int_eq}
 use Rattle.std.specs.Prelude.{int_lt}
 use Rattle.aom_image.specs.Image.{Image}
 use Rattle.aom_image.specs.Operands.{IsRegister}
-use Rattle.aom_image.specs.Views.{arguments_of, gives_of, instr_at, method_class}
+use Rattle.aom_image.specs.Views.{arguments_of, instr_at, method_class}
 use Rattle.aom_image.specs.WellFormed.{InstrFits}
 use Rattle.aom_image.specs.declared.instr.Instr.{Instr}
 use Rattle.aom_image.specs.declared.instr.Instr.TheVariants.{Call, Delete, JumpEmpty, JumpEqual, JumpLess, JumpNull, LeaveIf, Move, New, NewOrLeave, Next, Pop, PopDelete, Push, PushOperation, Take, Trap}

@@ -1,6 +1,5 @@
 -- Each step is a move: an instruction has its effect, and may have it.
 use Rattle.std.proofs.Common.{Bool, List, None, Option, Some, [], ap, cond, false, inl, inr, length, refl, subst, suc, sym, true, zero, ℕ, ℤ, ◌-◌, ◌∙◌, ◌∷◌, ◌≡◌}
-use Rattle.std.proofs.lemmas.Bool.{true≢false}
 use Rattle.std.specs.Ordering.{int_eq}
 use Rattle.std.specs.Prelude.{int_lt, is_some}
 use Rattle.aom_image.specs.Image.{Image}

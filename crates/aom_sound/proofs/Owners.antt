@@ -14,7 +14,7 @@ use Rattle.aom_shape.specs.Typing.{Typing}
 use Rattle.aom_shape.specs.declared.kind.Entry.{Entry as Pushed}
 use Rattle.aom_shape.specs.declared.kind.Entry.TheVariants.{Object as Pushed_object, Operation as Pushed_operation}
 use Rattle.aom_shape.specs.declared.kind.Filling.{Filling}
-use Rattle.aom_shape.specs.declared.kind.Filling.TheVariants.{Empty, Full, Perhaps}
+use Rattle.aom_shape.specs.declared.kind.Filling.TheVariants.{Full, Perhaps}
 use Rattle.aom_shape.specs.declared.kind.Kind.{Kind}
 use Rattle.aom_shape.specs.declared.kind.Kind.TheVariants.{Maybe, Null, Own, Unset, Word}
 use Rattle.aom_sound.proofs.Claimed.{claim_entry_above, claim_register_above}
@@ -26,7 +26,7 @@ use Rattle.aom_sound.specs.Laws.{EndsEmpty, EndsOwned, IsWired}
 use Rattle.aom_sound.specs.Owned.{AllOwned, Ends, HasRegisters, IsObjects, Lives, NoneGoes, Owned, at_entry, at_register, at_root, by_cell, over}
 use Rattle.aom_sound.specs.Places.{Cell, Elsewhere, Entry, Field, Going, Object, Place, Register, Root, Tidy, held, named, same_place}
 use Rattle.aom_sound.specs.Registers.{AllInRange, IsInRange}
-use Rattle.aom_sound.specs.State.{A_mark, An_object, An_operation, AtRoot, Home, Inside, Item, Main_left, Of_main, Of_root, Run, State, Static, thing_holder}
+use Rattle.aom_sound.specs.State.{An_object, AtRoot, Home, Inside, Item, Main_left, Of_main, Of_root, Run, State, Static, thing_holder}
 use Rattle.aom_sound.specs.WellTyped.{Back, Caught, Fits, Gone, IsHoused, Leaves, Now, Returns, Stack, WellTyped}
 
 -- what a kind of an owning place says of the thing
@@ -220,10 +220,7 @@ unfolding class_at fields_in
 declaring p (An_object_of c) y f e = go (slice_get p.classes c) refl e
   where
     go : (k : Option ClassDecl) → slice_get p.classes c ≡ k → slice_get (fields_in k) f ≡ Some y → suc c ≤ length p.classes
-    go None at h = absurd (nothing_there f h)
-      where
-        nothing_there : (f : ℕ) → slice_get {X = Thing} [] f ≡ Some y → ⊥
-        nothing_there f h = cc
+    go None at h = let clash : slice_get {X = Thing} [] f ≡ Some y = h in cc
     go (Some k) at h = let lt = slice_get_within p.classes c k at in omega arith
 declaring p Message y f e = cc
 

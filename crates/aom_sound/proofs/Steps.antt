@@ -82,20 +82,14 @@ module _ (p : Image) (t : Typing) (wired : IsWired p) (typed : IsTyped p t) (c :
 
 -- a method returns to what stands below it
 returns : (p : Image) (t : Typing) (c : Choice) (s : State) (fr : Frame) (sh : Shape) (ls : List Layer) (at_hand : At p t s fr sh ls) (a : ℕ) → Law p t c s fr sh ls at_hand (Return a)
-returns p t c s fr sh [] h a = absurd (nothing_below h.good.stack.4)
-  where
-    nothing_below : Returns fr.method fr.home ≡ Now → ⊥
-    nothing_below e = cc
+returns p t c s fr sh [] h a = let clash : Returns fr.method fr.home ≡ Now = h.good.stack.4 in cc
 returns p t c s fr sh (Method fr2 sh2 ∷ ls) h a = law_return p t c s fr fr2 sh sh2 ls h a
 returns p t c s fr sh (Dying o ∷ ls) h a = law_destructor p t c s fr sh o ls h a
 returns p t c s fr sh (Dispatching Of_main ∷ ls) h a = absurd h.good.stack.4.0
 returns p t c s fr sh (Dispatching (Main_left code) ∷ ls) h a = absurd h.good.stack.4.0
 returns p t c s fr sh (Dispatching Of_root ∷ ls) h a = absurd h.good.stack.4.0
 returns p t c s fr sh (Unwinding code es ∷ ls) h a = law_return_unwound p t c s fr sh code es ls h a
-returns p t c s fr sh (Mark gv ∷ []) h a = absurd (nothing_below h.good.stack.4.1)
-  where
-    nothing_below : Caught gv ≡ Now → ⊥
-    nothing_below e = cc
+returns p t c s fr sh (Mark gv ∷ []) h a = let clash : Caught gv ≡ Now = h.good.stack.4.1 in cc
 returns p t c s fr sh (Mark gv ∷ Method fr2 sh2 ∷ ls) h a = law_return_caught p t c s fr fr2 sh sh2 gv ls h a
 returns p t c s fr sh (Mark gv ∷ Mark gv' ∷ ls) h a = absurd h.good.stack.4.1.0
 returns p t c s fr sh (Mark gv ∷ Dying o ∷ ls) h a = absurd h.good.stack.4.1.1
