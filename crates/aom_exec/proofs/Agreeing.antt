@@ -1,5 +1,7 @@
 -- Each state that a machine stands for has agreement: from what the machine's numbers show, and from what the typing says of the methods at hand.
+use Rattle.std.proofs.lemmas.Option.{same_Some}
 use Rattle.std.proofs.Common.{Bool, List, None, Option, Some, [], ap, arith, cond, false, inl, inr, length, refl, subst, sym, true, ℕ, ℤ, ◌++◌, ◌<◌, ◌==◌, ◌∙◌, ◌∷◌, ◌≡◌}
+use Rattle.aom_image.proofs.Given.{false_given, none_given}
 use Rattle.std.proofs.lemmas.Bool.{eq-eqb, eqb-true, ne_eqb}
 use Rattle.std.specs.Prelude.{is_some}
 use Rattle.aom_image.specs.Image.{Image}
@@ -85,8 +87,6 @@ empty_fits : (p : Image) (h : Place → Option Object) (thing : Option Thing) (o
 empty_fits p h None o fits = fits
 empty_fits p h (Some t) o fits = fits
 
-one_object : (x y : Object) → Some x ≡ Some y → x ≡ y
-one_object x y e = cc
 
 module _ (p : Image) (t : Typing) (cs : List Cell) (n : ℕ) (o : Option Object) (same : n ≡ number o) where
   abbrev F : Kind → Type 0
@@ -110,7 +110,7 @@ module _ (p : Image) (t : Typing) (cs : List Cell) (n : ℕ) (o : Option Object)
         where
           inside : (b : Bool) → (y.name == x.name) ≡ b → F (cond b (filled (field_thing p (thing_holder y.thing) f) (field sh f)) (claim p (declared p cs) ls (Field x.name f))) → Declared x f
           inside true e fits =
-              let alike : y ≡ x = one_object y x (sym housed.lives ∙ ap (λ k. named cs k) (eqb-true y.name x.name e) ∙ lives) in
+              let alike : y ≡ x = same_Some y x (sym housed.lives ∙ ap (λ k. named cs k) (eqb-true y.name x.name e) ∙ lives) in
               declared_says p (held cs) (field_thing p (thing_holder x.thing) f) (field sh f) n o same
               (subst (λ (z : Object). F (filled (field_thing p (thing_holder z.thing) f) (field sh f))) alike fits)
           inside false e fits = below fits
@@ -188,12 +188,7 @@ module _ (p : Image) (d : Place → Kind) (k : ℕ) where
   entries_own (Unwinding code es ∷ ls) e = pushed_own es ls (entries_own ls) e
   entries_own (Dying o ∷ ls) e = entries_own ls e
   entries_own (Dispatching x ∷ ls) e = entries_own ls e
-  entries_own (Mark gv ∷ ls) e = go (length (items_of ls) == k) (entries_own ls) e
-    where
-      go : (b : Bool) → ClaimedOwn ls → cond b (Some Mark_form) (over (items_of ls) k) ≡ Some Object_form → IsOwn (claim p d ls (Entry k))
-      go true below e = cc
-      go false below e = below e
-
+  entries_own (Mark gv ∷ ls) e = let below : ClaimedOwn ls = entries_own ls in false_given (λ b. cond b (Some Mark_form) (over (items_of ls) k) ≡ Some Object_form) (length (items_of ls) == k) e (λ e. cc) (λ _ e. below e)
 -- ---- all together
 
 module _ (m : Machine) (s : State) (st : StandsFor m s) where
@@ -205,12 +200,7 @@ module _ (m : Machine) (s : State) (st : StandsFor m s) where
   plain r none = subst (λ w. Shows (value m.parts r) w (held s.cells r)) none (st.agrees.values r)
 
   owner_shows : (r : Place) (x : Object) → held s.cells r ≡ Some x → (word_at s.tasks r ≡ None) × (value m.parts r ≡ x.name)
-  owner_shows r x holds = go (word_at s.tasks r) refl (subst (λ o. Shows (value m.parts r) (word_at s.tasks r) o) holds (st.agrees.values r))
-    where
-      go : (w : Option ℤ) → word_at s.tasks r ≡ w → Shows (value m.parts r) w (Some x) → (word_at s.tasks r ≡ None) × (value m.parts r ≡ x.name)
-      go None e shows = (e, shows)
-      go (Some w) e shows = absurd shows
-
+  owner_shows r x holds = none_given (λ w. Shows (value m.parts r) w (Some x)) (word_at s.tasks r) (subst (λ o. Shows (value m.parts r) (word_at s.tasks r) o) holds (st.agrees.values r)) (λ w shows. shows) (λ e shows. (e, shows))
   shows_owner : (r : Place) (x : Object) → named s.cells x.name ≡ Some x → word_at s.tasks r ≡ None → value m.parts r ≡ x.name → held s.cells r ≡ Some x
   shows_owner r x lives none is = go (held s.cells r) refl (sym is ∙ plain r none)
     where

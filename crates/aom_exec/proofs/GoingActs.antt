@@ -1,5 +1,6 @@
 -- How a destruction begins, and the going of a cell.
 use Rattle.std.proofs.Common.{suc, ◌≡◌, ℕ, ℤ, ◌+◌, ◌<◌, ◌≤◌, Bool, true, false, cond, not, ◌==◌, ◌&&◌, length, List, [], ◌∷◌, ◌++◌, Option, Some, None, slice_set, slice_index_or, refl, sym, ap, ◌∙◌, subst, arith}
+use Rattle.aom_image.proofs.Given.{false_given}
 use Rattle.std.proofs.lemmas.Bool.{eqb-true, eq-eqb, false≢true}
 use Rattle.std.proofs.lemmas.List.{length-set}
 use Rattle.aom_image.specs.Image.{Image}
@@ -206,12 +207,7 @@ nothing_owned (c ∷ cs) n f e = go (same_place c.owner (Field n f)) refl (is_fi
   where
     go : (b : Bool) → same_place c.owner (Field n f) ≡ b → (i : Bool) → is_field_of n c.owner ≡ i → (owns_nothing cs n ≡ true → held cs (Field n f) ≡ None) → (not i && owns_nothing cs n) ≡ true → cond b (Some c.object) (held cs (Field n f)) ≡ None
     go true same _ is rest e = absurd (grind arith)
-    go false same i is rest e = rest (second i e)
-      where
-        second : (i : Bool) → (not i && owns_nothing cs n) ≡ true → owns_nothing cs n ≡ true
-        second true e = cc
-        second false e = e
-
+    go false same i is rest e = rest (false_given (λ i. (not i && owns_nothing cs n) ≡ true) i e (λ e. cc) (λ _ e. e))
 -- a place is written twice
 over : {A : Type 0} (f g : Place → A) (q : Place) (x y : A) → ((r : Place) → f r ≡ changed g q x r) → g q ≡ y → (r : Place) → changed f q y r ≡ g r
 over f g q x y ef e r = cases (same_place q r)
