@@ -20,11 +20,12 @@ use Rattle.aom_shape.specs.declared.kind.Kind.TheVariants.{Maybe, Null, Own, Uns
 use Rattle.aom_sound.proofs.Items.{length_forms}
 use Rattle.aom_sound.proofs.Maps.{held_lives, one_place}
 use Rattle.aom_sound.proofs.Straight.{claim_field}
-use Rattle.aom_sound.specs.Claims.{Dispatching, Dying, Layer, Mark, Mark_form, Method, Object_form, Unwinding, claim, declared, declared_field, entry_claim, entry_form, form, forms, home_claim, items_of, objects, root_claim, tasks_of}
+use Rattle.aom_sound.specs.Claims.{Dispatching, Dying, Layer, Mark, Mark_form, Method, Object_form, Unwinding, claim, declared, declared_field, entry_claim, entry_form, form, forms, home_claim, items_of, objects, root_claim}
 use Rattle.aom_sound.specs.Owned.{over}
 use Rattle.aom_sound.specs.Places.{Cell, Elsewhere, Entry, Field, Object, Place, Register, Root, held, named}
 use Rattle.aom_sound.specs.State.{An_object, AtRoot, Destroy, Dispatched, Frame, Home, Inside, Item, Main_left, Of_main, Of_root, Run, State, Static, Task, Trapped, Unwind, field_place, thing_holder, word}
 use Rattle.aom_sound.specs.WellTyped.{Back, Caught, Fits, Gone, IsHoused, Leaves, Now, Returns, Stack, Good}
+use Rattle.aom_sound.proofs.Layers.{method_layer}
 use Rattle.aom_exec.specs.Agreement.{Agreement, AgreesInAll, FieldsAgree, NumberSays, RegistersAgree}
 use Rattle.aom_exec.specs.Agrees.{Shows, number, word_at, word_in, word_of}
 use Rattle.aom_exec.specs.Places.{value}
@@ -86,7 +87,6 @@ filled_says p h t _ n _ same fits = absurd fits
 empty_fits : (p : Image) (h : Place → Option Object) (thing : Option Thing) (o : Option Object) → Fits p h o Null → Fits p h o (filled thing Empty)
 empty_fits p h None o fits = fits
 empty_fits p h (Some t) o fits = fits
-
 
 module _ (p : Image) (t : Typing) (cs : List Cell) (n : ℕ) (o : Option Object) (same : n ≡ number o) where
   abbrev F : Kind → Type 0
@@ -189,6 +189,7 @@ module _ (p : Image) (d : Place → Kind) (k : ℕ) where
   entries_own (Dying o ∷ ls) e = entries_own ls e
   entries_own (Dispatching x ∷ ls) e = entries_own ls e
   entries_own (Mark gv ∷ ls) e = let below : ClaimedOwn ls = entries_own ls in false_given (λ b. cond b (Some Mark_form) (over (items_of ls) k) ≡ Some Object_form) (length (items_of ls) == k) e (λ e. cc) (λ _ e. below e)
+
 -- ---- all together
 
 module _ (m : Machine) (s : State) (st : StandsFor m s) where
@@ -201,6 +202,7 @@ module _ (m : Machine) (s : State) (st : StandsFor m s) where
 
   owner_shows : (r : Place) (x : Object) → held s.cells r ≡ Some x → (word_at s.tasks r ≡ None) × (value m.parts r ≡ x.name)
   owner_shows r x holds = none_given (λ w. Shows (value m.parts r) w (Some x)) (word_at s.tasks r) (subst (λ o. Shows (value m.parts r) (word_at s.tasks r) o) holds (st.agrees.values r)) (λ w shows. shows) (λ e shows. (e, shows))
+
   shows_owner : (r : Place) (x : Object) → named s.cells x.name ≡ Some x → word_at s.tasks r ≡ None → value m.parts r ≡ x.name → held s.cells r ≡ Some x
   shows_owner r x lives none is = go (held s.cells r) refl (sym is ∙ plain r none)
     where
@@ -223,7 +225,7 @@ module _ (m : Machine) (s : State) (st : StandsFor m s) where
       record { shape = w.shape; typed = w.typed; registers = λ i. number_says p _ _ _ _ (w.says i) (shown (task ∷ above) fr below top i) }
 
   own_fields_agree : (fr : Frame) (below : List Task) → s.tasks ≡ Run fr ∷ below → FieldsAgree p st.typing m.parts s fr
-  own_fields_agree fr below top = go st.typed.layers (sym st.typed.tasks ∙ top) st.typed.good
+  own_fields_agree fr below top = method_layer (λ ls. Good p st.typing s.cells ls) fr below st.typed.layers (sym st.typed.tasks ∙ top) st.typed.good (λ sh ls _ good. (by_frame fr sh ls good.stack.0 good))
     where
       no_word_there : (home : Home) (f : ℕ) → word_at s.tasks (field_place home f) ≡ None
       no_word_there Static f = refl
@@ -240,10 +242,6 @@ module _ (m : Machine) (s : State) (st : StandsFor m s) where
             filled_says p (held s.cells) thing (field sh f) (value m.parts q) (held s.cells q) (plain q (no_word_there g.home f))
             (subst (λ k. Fits p (held s.cells) (held s.cells q) k) claims (good.fits q));
       }
-
-      go : (ls : List Layer) → tasks_of ls ≡ Run fr ∷ below → Good p st.typing s.cells ls → FieldsAgree p st.typing m.parts s fr
-      go (Method g sh ∷ ls) e good = let same : g ≡ fr = cc in subst (λ (x : Frame). FieldsAgree p st.typing m.parts s x) same (by_frame g sh ls good.stack.0 good)
-      go _ e good = cc
 
   pub agreement : Agreement m s
   agreement = record {

@@ -64,6 +64,7 @@ word_put_elsewhere us h h' es root n w v puts _ = refl
 -- the machine has a cell of that name
 pub cell_of : (p : Image) (h : Heap) (cs : List Cell) (n : ℕ) (o : Object) → SameCells p h cs → named cs n ≡ Some o → (c : Held_cell) × (cell_at h n ≡ Some c)
 cell_of p h cs n o same lives = some_given (λ c. thing_in c ≡ Some o.thing) (cell_at h n) (same.things n ∙ ap thing_of lives) (λ f. cc) (λ c e f. (c, e))
+
 some_none : {A : Type 0} {x : A} → Some x ≡ None → ⊥
 some_none e = cc
 

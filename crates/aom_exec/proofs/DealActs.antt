@@ -13,7 +13,7 @@ use Rattle.aom_sound.specs.Cleanup.{dealt_with as deals_with, destroyed, operati
 use Rattle.aom_classes.specs.Roles.{destructor_of}
 use Rattle.aom_sound.specs.Places.{Place, Register, Entry, Going, Object, changed, held}
 use Rattle.aom_sound.proofs.Dealing.{dealing as dealing_effect}
-use Rattle.aom_sound.specs.State.{Static, frame_of, Run, Item, An_object, An_operation, A_mark, State}
+use Rattle.aom_sound.specs.State.{Static, frame_of, Run, Item, An_object, An_operation, State}
 use Rattle.aom_sound.specs.WellTyped.{WellTyped}
 use Rattle.aom_frames.specs.Tasks.{fresh}
 use Rattle.aom_frames.specs.declared.task.Task.TheVariants.{Run as Runs_frame}

@@ -8,7 +8,7 @@ use Rattle.aom_cleanup.specs.declared.item.Item.{Item as Held_item}
 use Rattle.aom_cleanup.specs.declared.item.Item.TheVariants.{Object as Holds_object, Mark as Is_mark}
 use Rattle.aom_sound.specs.Calls.{below_top, entry_at}
 use Rattle.aom_sound.specs.Places.{Place, Entry, changed}
-use Rattle.aom_sound.specs.State.{Item, An_object, An_operation, A_mark}
+use Rattle.aom_sound.specs.State.{Item, An_object, An_operation}
 use Rattle.aom_frames.specs.declared.task.Task.{Task as Held_task}
 use Rattle.aom_exec.specs.Places.{number_in, value_in}
 use Rattle.aom_exec.specs.Agrees.{SameItems}

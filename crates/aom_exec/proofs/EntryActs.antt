@@ -14,7 +14,7 @@ use Rattle.aom_sound.specs.Calls.{below_top}
 use Rattle.aom_sound.specs.Cleanup.{leave_needs, no_memory, tops_operation, to_trap}
 use Rattle.aom_sound.specs.Places.{Place, Register, Entry, changed, held, moved}
 use Rattle.aom_sound.specs.Effects.{Effect, Leaves, Pushed, Pushed_operation, Update, applied, sets, unless_refused, updates}
-use Rattle.aom_sound.specs.State.{Task, Run, Item, An_object, A_mark, Rest, State, Choice, raised, word, Frame, Unwind, An_operation}
+use Rattle.aom_sound.specs.State.{Task, Run, Item, An_object, Rest, State, Choice, raised, word, Frame, Unwind, An_operation}
 use Rattle.aom_sound.specs.Words.{read}
 use Rattle.aom_sound.proofs.Maps.{held_moved}
 use Rattle.aom_lines.specs.Turn.{Turn}

@@ -208,6 +208,7 @@ nothing_owned (c ∷ cs) n f e = go (same_place c.owner (Field n f)) refl (is_fi
     go : (b : Bool) → same_place c.owner (Field n f) ≡ b → (i : Bool) → is_field_of n c.owner ≡ i → (owns_nothing cs n ≡ true → held cs (Field n f) ≡ None) → (not i && owns_nothing cs n) ≡ true → cond b (Some c.object) (held cs (Field n f)) ≡ None
     go true same _ is rest e = absurd (grind arith)
     go false same i is rest e = rest (false_given (λ i. (not i && owns_nothing cs n) ≡ true) i e (λ e. cc) (λ _ e. e))
+
 -- a place is written twice
 over : {A : Type 0} (f g : Place → A) (q : Place) (x y : A) → ((r : Place) → f r ≡ changed g q x r) → g q ≡ y → (r : Place) → changed f q y r ≡ g r
 over f g q x y ef e r = cases (same_place q r)

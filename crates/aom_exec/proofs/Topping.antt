@@ -15,15 +15,16 @@ use Rattle.aom_cleanup.specs.declared.item.Item.TheVariants.{Object as Holds_obj
 use Rattle.aom_shape.specs.Typing.{Typing}
 use Rattle.aom_shape.specs.declared.kind.Entry.{Entry as Pushed}
 use Rattle.aom_sound.specs.Calls.{is_level, needs_target, result_needs, result_register}
-use Rattle.aom_sound.specs.Claims.{Layer, Method, Mark, Form, Mark_form, forms, items_of, objects, tasks_of}
+use Rattle.aom_sound.specs.Claims.{Method, Form, Mark_form, forms, items_of, objects}
 use Rattle.aom_sound.specs.Cleanup.{tops_entry, tops_object, top_is_whole}
 use Rattle.aom_sound.specs.Places.{Entry, Object, held}
-use Rattle.aom_sound.specs.State.{Frame, Task, Run, Trapped, Destroy, Unwind, Dispatched, Item, An_object, An_operation, A_mark, State}
+use Rattle.aom_sound.specs.State.{Frame, Task, Run, Trapped, Item, An_object, A_mark, State}
 use Rattle.aom_sound.specs.WellTyped.{Good, LeavesNone, WellTyped}
 use Rattle.aom_sound.proofs.Finishing.{all_parts}
+use Rattle.aom_sound.proofs.Layers.{mark_layer, method_layer}
 use Rattle.aom_frames.specs.Tasks.{Runs, method_here, place_here, below_first}
 use Rattle.aom_frames.specs.declared.task.Task.{Task as Held_task}
-use Rattle.aom_frames.specs.declared.task.Task.TheVariants.{Run as Runs_frame, Trapped as Is_trap, Destroy as Destroys, Unwind as Unwinds, Dispatched as Ends}
+use Rattle.aom_frames.specs.declared.task.Task.TheVariants.{Run as Runs_frame, Trapped as Is_trap, Dispatched as Ends}
 use Rattle.aom_exec.specs.declared.parts.Parts.{Parts}
 use Rattle.aom_exec.specs.Acts.{requested}
 use Rattle.aom_exec.specs.Agrees.{SameItems, SameTasks, number, Agrees}
@@ -121,17 +122,13 @@ level p fr ts s (Left c) none e = absurd none
 level p fr ts s _ none e = eqb-true (length s.items) fr.height e
 
 marked_under : (p : Image) (t : Typing) (s : State) (fr : Frame) (ts : List Task) (is : List Held_item) → WellTyped p t s → s.tasks ≡ Run fr ∷ Trapped ∷ ts → SameItems is s.items → is_level p fr (Trapped ∷ ts) s (gives_of p fr.method) ≡ true → IsMarked is
-marked_under p t s fr ts is typed top same flat = go typed.layers (sym typed.tasks ∙ top) typed.items typed.good
-  where
-    go : (ls : List Layer) → tasks_of ls ≡ Run fr ∷ Trapped ∷ ts → forms s.items ≡ items_of ls → Good p t s.cells ls → IsMarked is
-    go (Method fr' sh ∷ Mark gv ∷ ls) e items good =
-        let alike : fr' ≡ fr = cc in
-        let mark = good.stack.4.0 in
-        let none : LeavesNone (gives_of p fr.method) = subst (λ (f : Frame). LeavesNone (gives_of p f.method)) alike (subst LeavesNone (sym mark.0) mark.1) in
-        let height : fr.height ≡ suc (length (items_of ls)) = sym (ap (λ (f : Frame). f.height) alike) ∙ good.stack.1.height in
-        let even = sym (ap length items) ∙ length_forms s.items ∙ level p fr (Trapped ∷ ts) s (gives_of p fr.method) none flat ∙ height in
-        mark_tops is s.items (items_of ls) same (items ∙ no_more sh.entries (Mark_form ∷ items_of ls) even)
-    go _ e items good = cc
+marked_under p t s fr ts is typed top same flat =
+    method_layer (λ ls. (forms s.items ≡ items_of ls) × Good p t s.cells ls) fr (Trapped ∷ ts) typed.layers (sym typed.tasks ∙ top) (typed.items, typed.good) (λ sh ls under h.
+    mark_layer (λ ls. (forms s.items ≡ items_of (Method fr sh ∷ ls)) × Good p t s.cells (Method fr sh ∷ ls)) ts ls under h (λ gv ls _ h.
+    let mark = h.1.stack.4.0 in
+    let none : LeavesNone (gives_of p fr.method) = subst LeavesNone (sym mark.0) mark.1 in
+    let even = sym (ap length h.0) ∙ length_forms s.items ∙ level p fr (Trapped ∷ ts) s (gives_of p fr.method) none flat ∙ h.1.stack.1.height in
+    mark_tops is s.items (items_of ls) same (h.0 ∙ no_more sh.entries (Mark_form ∷ items_of ls) even)))
 
 pub finds_mark : (p : Image) (m : Parts) (a : ℕ) → IsNext p (Return a) m → IsTrapped (below_first m.stack.tasks) → IsMarked m.entries.items
 unfolding at_hand

@@ -14,17 +14,17 @@ use Rattle.aom_image.specs.declared.method.Gives.TheVariants.{Left, Maybe as A_m
 use Rattle.aom_cells.specs.Heap.{null}
 use Rattle.aom_cleanup.specs.Items.{Stack as Held_items, IsAboveMark, IsMarked}
 use Rattle.aom_cleanup.specs.declared.item.Item.{Item as Held_item}
-use Rattle.aom_cleanup.specs.declared.item.Item.TheVariants.{Object as Holds_object, Operation as Holds_operation, Mark as Is_mark}
+use Rattle.aom_cleanup.specs.declared.item.Item.TheVariants.{Mark as Is_mark}
 use Rattle.aom_shape.specs.Kinds.{register}
 use Rattle.aom_shape.specs.Tables.{at, put_at}
 use Rattle.aom_shape.specs.Typing.{Typing}
 use Rattle.aom_sound.proofs.View.{under_dispatch}
 use Rattle.aom_sound.specs.Calls.{below_top, called, result_register}
-use Rattle.aom_sound.specs.Claims.{Layer, Method, Mark, Unwinding, Dispatching, tasks_of, claim, declared}
+use Rattle.aom_sound.specs.Claims.{Method, Mark, Unwinding, tasks_of, claim, declared}
 use Rattle.aom_sound.specs.Cleanup.{arrival, code_told, dealt_with as deals_with, ended_by, top_is_whole, tops_entry, unwound}
 use Rattle.aom_sound.specs.Laws.{IsWired}
 use Rattle.aom_sound.specs.Places.{Place, Register, changed, held}
-use Rattle.aom_sound.specs.State.{Frame, Dispatch, Of_main, Main_left, Of_root, Task, Run, Trapped, Destroy, Unwind, Dispatched, Item, An_object, An_operation, A_mark, State, Goes, IsStuck, NullOrDead, next, set_word, word}
+use Rattle.aom_sound.specs.State.{Frame, Dispatch, Of_main, Main_left, Task, Run, Trapped, Unwind, Dispatched, Item, An_object, An_operation, A_mark, State, Goes, IsStuck, NullOrDead, next, set_word, word}
 use Rattle.aom_sound.specs.WellTyped.{Caught, EndsDispatch, Fits, Good, Keeps, WellTyped}
 use Rattle.aom_sound.specs.declared.line.Line.TheVariants.{Leave}
 use Rattle.aom_sound.proofs.Guarded.{goes_same}
@@ -32,11 +32,12 @@ use Rattle.aom_sound.specs.Tasks.{Below}
 use Rattle.aom_sound.specs.Traps.{AllAtTraps, at_traps}
 use Rattle.aom_sound.proofs.Straight.{claim_register, fits_unowning}
 use Rattle.aom_sound.proofs.Maps.{at-put_at}
+use Rattle.aom_sound.proofs.Layers.{dispatch_layer, leave_layer, mark_layer, method_layer}
 use Rattle.aom_lines.specs.Turn.{Turn}
 use Rattle.aom_frames.specs.Tasks.{Runs, method_here, place_here, below_first}
 use Rattle.aom_frames.specs.declared.frame.Frame.{Frame as Held_frame}
 use Rattle.aom_frames.specs.declared.task.Task.{Task as Held_task}
-use Rattle.aom_frames.specs.declared.task.Task.TheVariants.{Run as Runs_frame, Trapped as Is_trap, Destroy as Destroys, Unwind as Unwinds, Dispatched as Ends}
+use Rattle.aom_frames.specs.declared.task.Task.TheVariants.{Run as Runs_frame, Trapped as Is_trap, Unwind as Unwinds, Dispatched as Ends}
 use Rattle.aom_frames.specs.declared.task.Dispatch.TheVariants.{MainLeft}
 use Rattle.aom_exec.specs.declared.parts.Parts.{Parts}
 use Rattle.aom_exec.specs.Acts as acts
@@ -155,34 +156,28 @@ calls_there p wired _ = tt
 -- what the result comes to owns nothing
 awaited_caught : (p : Image) (t : Typing) (s : State) (code : ℤ) (caller : Frame) (ts : List Task) → WellTyped p t s → s.tasks ≡ Unwind code ∷ Trapped ∷ Run caller ∷ ts → bears (called p (instr_at p caller.method caller.place)) ≡ true
     → held s.cells (Register (length ts) (result_register (instr_at p caller.method caller.place))) ≡ None
-awaited_caught p t s code caller ts typed top some = go typed.layers (sym typed.tasks ∙ top) typed.good
-  where
-    go : (ls : List Layer) → tasks_of ls ≡ Unwind code ∷ Trapped ∷ Run caller ∷ ts → Good p t s.cells ls → held s.cells (Register (length ts) (result_register (instr_at p caller.method caller.place))) ≡ None
-    go (Unwinding c es ∷ Mark gv ∷ Method caller' sh' ∷ ls) e good =
-        let below : caller' ≡ caller = cc in
-        let rest : tasks_of ls ≡ ts = cc in
-        let i = instr_at p caller'.method caller'.place in
-        let x = result_register i in
-        let q = Register (length (tasks_of ls)) x in
-        let caught = good.stack.1.1.0 in
-        let given : bears gv ≡ true = ap bears (sym caught.0) ∙ subst (λ (f : Frame). bears (called p (instr_at p f.method f.place)) ≡ true) (sym below) some in
-        let quiet = awaiting gv x sh' given caught.2 in
-        let claims : claim p (declared p s.cells) (Unwinding c es ∷ Mark gv ∷ Method caller' sh' ∷ ls) q ≡ register sh' x = claim_register p (declared p s.cells) caller' sh' ls x in
-        let none = fits_unowning p (held s.cells) (held s.cells q) (register sh' x) quiet (subst (Fits p (held s.cells) (held s.cells q)) claims (good.fits q)) in
-        subst (λ (f : Frame). held s.cells (Register (length ts) (result_register (instr_at p f.method f.place))) ≡ None) below (subst (λ us. held s.cells (Register (length us) x) ≡ None) rest none)
-    go _ e good = cc
+awaited_caught p t s code caller ts typed top some =
+    leave_layer (Good p t s.cells) code (Trapped ∷ Run caller ∷ ts) typed.layers (sym typed.tasks ∙ top) typed.good (λ es ls under good.
+    mark_layer (λ ls. Good p t s.cells (Unwinding code es ∷ ls)) (Run caller ∷ ts) ls under good (λ gv ls under good.
+    method_layer (λ ls. Good p t s.cells (Unwinding code es ∷ Mark gv ∷ ls)) caller ts ls under good (λ sh' ls rest good.
+    let x = result_register (instr_at p caller.method caller.place) in
+    let q = Register (length (tasks_of ls)) x in
+    let caught = good.stack.1.1.0 in
+    let quiet = awaiting gv x sh' (ap bears (sym caught.0) ∙ some) caught.2 in
+    let claims : claim p (declared p s.cells) (Unwinding code es ∷ Mark gv ∷ Method caller sh' ∷ ls) q ≡ register sh' x = claim_register p (declared p s.cells) caller sh' ls x in
+    let none = fits_unowning p (held s.cells) (held s.cells q) (register sh' x) quiet (subst (Fits p (held s.cells) (held s.cells q)) claims (good.fits q)) in
+    subst (λ us. held s.cells (Register (length us) x) ≡ None) rest none)))
 
 -- main's dispatch alone is left
 left_main : (p : Image) (t : Typing) (s : State) (code : ℤ) (d : Dispatch) (ts : List Task) → WellTyped p t s → s.tasks ≡ Unwind code ∷ Trapped ∷ Dispatched d ∷ ts → d ≡ Of_main
-left_main p t s code d ts typed top = go typed.layers (sym typed.tasks ∙ top) typed.good
+left_main p t s code d ts typed top =
+    leave_layer (Good p t s.cells) code (Trapped ∷ Dispatched d ∷ ts) typed.layers (sym typed.tasks ∙ top) typed.good (λ es ls under good.
+    mark_layer (λ ls. Good p t s.cells (Unwinding code es ∷ ls)) (Dispatched d ∷ ts) ls under good (λ gv ls under good.
+    dispatch_layer (λ ls. Good p t s.cells (Unwinding code es ∷ Mark gv ∷ ls)) d ts ls under good (λ ls _ good. which d gv good.stack.1.1.0)))
   where
     which : (d : Dispatch) (g : Gives) → EndsDispatch p d (Caught g) → d ≡ Of_main
     which Of_main g e = refl
     which _ g e = absurd e
-
-    go : (ls : List Layer) → tasks_of ls ≡ Unwind code ∷ Trapped ∷ Dispatched d ∷ ts → Good p t s.cells ls → d ≡ Of_main
-    go (Unwinding c es ∷ Mark gv ∷ Dispatching x ∷ ls) e good = let same : x ≡ d = cc in sym same ∙ which x gv good.stack.1.1.0
-    go _ e good = cc
 
 module _ (p : Image) (m : Parts) (s : State) (agrees : Agrees p m s) (es : Held_items) (marked : m.entries ≡ record es { items = Is_mark ∷ es.items }) (g : Held_frame) (ms : List Held_task) (caller : Frame) (ts : List Task) (same_frame : SameFrame g caller) (same_below : SameTasks ms ts) (x : ℕ) (coded : suc x < 16)
     (base : (r : Place) → Shows (value_in (Runs_frame g ∷ ms) m.cells es.items m.root r) (word_at (Run caller ∷ ts) r) (held s.cells r)) where

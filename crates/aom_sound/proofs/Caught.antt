@@ -37,6 +37,7 @@ use Rattle.aom_sound.specs.Words.{word_or_zero}
 use Rattle.aom_shape.specs.Needs.{AllTrue}
 use Rattle.aom_sound.specs.declared.line.Ending.TheVariants.{MainLeft}
 use Rattle.aom_sound.proofs.Steps.{step_keeps}
+use Rattle.aom_sound.proofs.Layers.{leave_layer}
 
 -- ---- the entries of a leave, and its mark
 
@@ -65,17 +66,13 @@ no_dispatch p _ e = absurd e
 -- a leave on top has entries over the mark of its trap
 pub splits : (p : Image) (t : Typing) (s : State) → WellTyped p t s → (code : ℤ) (below : List Task) → s.tasks ≡ Unwind code ∷ below → (entries : List Item) × (items : List Item) × IsLeaving p code below entries items s
 splits p t s w code below at =
-    let r = go w.layers (sym at ∙ w.tasks) w.items w.good.stack in
+    let r = leave_layer (λ ls. (forms s.items ≡ items_of ls) × (Stack p t s.cells Now ls)) code below w.layers (sym w.tasks ∙ at) (w.items, w.good.stack) (λ es ls _ h. under es ls h.0 h.1.1) in
     (r.0, r.1, record { over = subst (λ ts. IsOver p (length s.items) code below ts) (sym at) (refl, refl); stack = r.2; plain = r.3 })
   where
     under : (es : List Pushed) (ls : List Layer) → forms s.items ≡ objects es (items_of ls) → Stack p t s.cells Leaves ls → (entries : List Item) × (items : List Item) × (s.items ≡ entries ++ (A_mark ∷ items)) × AreEntries entries
     under es (Mark gv ∷ ls) f stack = split es (items_of ls) s.items f
     under es (Dispatching d ∷ ls) f stack = no_dispatch p d stack.0
     under es _ f stack = absurd (first_of (assumption tt, cc))
-
-    go : (ls : List Layer) → Unwind code ∷ below ≡ tasks_of ls → forms s.items ≡ items_of ls → Stack p t s.cells Now ls → (entries : List Item) × (items : List Item) × (s.items ≡ entries ++ (A_mark ∷ items)) × AreEntries entries
-    go (Unwinding x es ∷ ls) e f stack = under es ls f stack.1
-    go _ e f stack = cc
 
 -- ---- the beginning
 
@@ -318,11 +315,9 @@ module _ (p : Image) (t : Typing) (s u : State) (code : ℤ) (items : List Item)
   below_leave _ es good e = absurd (first_of (assumption tt, cc))
 
   by_layers : (below : List Task) (ls : List Layer) → tasks_of ls ≡ Unwind code ∷ below → Good p t s.cells ls → arrived p code below items (counted p s) ≡ Goes u → Arrived below u
-  by_layers below (Unwinding x es ∷ ls) at good e =
-      let same : tasks_of ls ≡ below = cc in
-      let equal : x ≡ code = cc in
-      subst (λ b. Arrived b u) same (below_leave ls es (subst (λ y. Good p t s.cells (Unwinding y es ∷ ls)) equal good) (subst (λ b. arrived p code b items (counted p s) ≡ Goes u) (sym same) e))
-  by_layers below _ at good e = cc
+  by_layers below ls at good e =
+      leave_layer (Good p t s.cells) code below ls at good (λ es ls same good.
+      subst (λ b. Arrived b u) same (below_leave ls es good (subst (λ b. arrived p code b items (counted p s) ≡ Goes u) (sym same) e)))
 
 pub arrives :
     (p : Image) (t : Typing) (c : Choice) (s u : State) → WellTyped p t s →

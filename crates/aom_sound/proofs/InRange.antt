@@ -229,10 +229,10 @@ moves p wired c s u all e = go s.tasks e
   where
     go : (ts : List Task) → step_task p c (counted p s) ts ≡ Goes u → AllInRange u.cells
     go [] e = subst (λ v. AllInRange v.cells) (goes_same _ u e) all
-    go (Run fr ∷ ts) e = some_given (λ i. step_instr p c fr ts (counted p s) i ≡ Goes u) (instr_at p fr.method fr.place) e (λ e. cc) (λ i at e. 
-            let fits = wired.operands fr.method fr.place i at in
-            subst (λ v. AllInRange v.cells) (guarded_goes (needs p c fr ts (counted p s) i) (does p c fr ts (counted p s) i) u e)
-            (apply_in_range p wired fr ts (counted p s) all (effect p c fr ts (counted p s) i) (effect_fits p c fr ts (counted p s) i fits.0 fits.1 (guarded_met (needs p c fr ts (counted p s) i) (does p c fr ts (counted p s) i) u e))))
+    go (Run fr ∷ ts) e = some_given (λ i. step_instr p c fr ts (counted p s) i ≡ Goes u) (instr_at p fr.method fr.place) e (λ e. cc) (λ i at e.
+        let fits = wired.operands fr.method fr.place i at in
+        subst (λ v. AllInRange v.cells) (guarded_goes (needs p c fr ts (counted p s) i) (does p c fr ts (counted p s) i) u e)
+        (apply_in_range p wired fr ts (counted p s) all (effect p c fr ts (counted p s) i) (effect_fits p c fr ts (counted p s) i fits.0 fits.1 (guarded_met (needs p c fr ts (counted p s) i) (does p c fr ts (counted p s) i) u e))))
     go (Trapped ∷ ts) e = cc
     go (Destroy ∷ ts) e = go_in_range (held s.cells (Going (length ts))) ts (counted p s) u all e
     go (Unwind code ∷ ts) e = unwind_in_range p code ts s.items (counted p s) u all e

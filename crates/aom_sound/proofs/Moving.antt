@@ -105,10 +105,11 @@ module _ (p : Image) (c : Choice) (fr : Frame) (ts : List Task) (s : State) wher
 
 -- a cell goes
 vanishes : (p : Image) (c : Choice) (ts : List Task) (s u : State) → s.tasks ≡ Destroy ∷ ts → gone (held s.cells (Going (length ts))) ts (counted p s) ≡ Goes u → Move p c s u
-vanishes p c ts s u at e = some_given (λ o. gone o ts (counted p s) ≡ Goes u) (held s.cells (Going (length ts))) e (λ e. cc) (λ o there e. 
-        let needed = (owns_nothing s.cells o.name, Orphan) ∷ [] in
-        let after : State = record (counted p s) { cells = without (Going (length ts)) s.cells; tasks = resumed ts } in
-        Vanishes ts o at there (guarded_met needed after u e).0 (sym (guarded_goes needed after u e)))
+vanishes p c ts s u at e = some_given (λ o. gone o ts (counted p s) ≡ Goes u) (held s.cells (Going (length ts))) e (λ e. cc) (λ o there e.
+    let needed = (owns_nothing s.cells o.name, Orphan) ∷ [] in
+    let after : State = record (counted p s) { cells = without (Going (length ts)) s.cells; tasks = resumed ts } in
+    Vanishes ts o at there (guarded_met needed after u e).0 (sym (guarded_goes needed after u e)))
+
 -- a code arrives
 arrives :
     (p : Image) (c : Choice) (code : ℤ) (ts : List Task) (items : List Item) (s u : State) → s.tasks ≡ Unwind code ∷ ts → s.items ≡ A_mark ∷ items → arrived p code ts items (counted p s) ≡ Goes u →

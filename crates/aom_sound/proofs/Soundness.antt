@@ -11,7 +11,6 @@ use Rattle.aom_sound.proofs.Owners.{ends_empty, ends_owned}
 use Rattle.aom_sound.proofs.Quiet.{calm_keeps, caught_owned}
 use Rattle.aom_sound.proofs.Resting.{IsEnd, Takes, course_ended, move_rest}
 use Rattle.aom_sound.proofs.Steps.{step_keeps}
-use Rattle.aom_sound.specs.Claims.{Dispatching, Layer, tasks_of}
 use Rattle.aom_sound.specs.Destruction.{gone}
 use Rattle.aom_sound.specs.Laws.{IsSound, IsWired}
 use Rattle.aom_sound.specs.Moves.{IsOpen, counted, dispatch_ends, main_ends, step}
@@ -25,6 +24,7 @@ use Rattle.aom_sound.specs.World.{IsBusy, Reaches, begins, boot_state, moves, wa
 use Rattle.aom_sound.specs.declared.line.Ending.{Ending}
 use Rattle.aom_sound.specs.declared.line.Ending.TheVariants.{Stopped}
 use Rattle.aom_sound.specs.declared.line.Line.{Line}
+use Rattle.aom_sound.proofs.Layers.{dispatch_layer}
 
 -- nothing is at hand, and where the run is over as stopped the root holds nothing
 record Settled (s : State) : Type 0 where
@@ -69,11 +69,7 @@ busy_open s busy (inr settled) = let clash : busy.0 ∷ busy.1 ≡ [] = sym busy
 
 -- by the layers
 uprooted_so : (p : Image) (t : Typing) (s : State) → WellTyped p t s → Uprooted s
-uprooted_so p t s w ts e = go w.layers (sym w.tasks ∙ e) w.good
-  where
-    go : (ls : List Layer) → tasks_of ls ≡ Dispatched Of_root ∷ ts → Good p t s.cells ls → held s.cells (Elsewhere Root) ≡ None
-    go (Dispatching d ∷ ls) at good = let same : d ≡ Of_root = cc in root_gone p t s ls (subst (λ x. Good p t s.cells (Dispatching x ∷ ls)) same good)
-    go _ at good = cc
+uprooted_so p t s w ts e = dispatch_layer (λ ls. Good p t s.cells ls) Of_root ts w.layers (sym w.tasks ∙ e) w.good (λ ls _ good. root_gone p t s ls good)
 
 module _ (p : Image) (t : Typing) (refused : List ℕ) (wired : IsWired p) (typed : IsTyped p t) where
   -- what holds of each state of a run

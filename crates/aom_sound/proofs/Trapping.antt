@@ -111,12 +111,16 @@ none_below below e = go e.0 e.1
 -- below a task that is no trap
 under_frame : (below ts : List Task) (fr : Frame) → Ends below (Run fr ∷ ts) → Ends below ts
 under_frame below ts fr e = cons_given (λ over. Run fr ∷ ts ≡ over ++ (Trapped ∷ below)) e.0 e.1 (λ e. cc) (λ x over _ e. (over, cc))
+
 under_going : (below ts : List Task) → Ends below (Destroy ∷ ts) → Ends below ts
 under_going below ts e = cons_given (λ over. Destroy ∷ ts ≡ over ++ (Trapped ∷ below)) e.0 e.1 (λ e. cc) (λ x over _ e. (over, cc))
+
 under_leave : (below ts : List Task) (code : ℤ) → Ends below (Unwind code ∷ ts) → Ends below ts
 under_leave below ts code e = cons_given (λ over. Unwind code ∷ ts ≡ over ++ (Trapped ∷ below)) e.0 e.1 (λ e. cc) (λ x over _ e. (over, cc))
+
 under_dispatch : (below ts : List Task) (d : Dispatch) → Ends below (Dispatched d ∷ ts) → Ends below ts
 under_dispatch below ts d e = cons_given (λ over. Dispatched d ∷ ts ≡ over ++ (Trapped ∷ below)) e.0 e.1 (λ e. cc) (λ x over _ e. (over, cc))
+
 -- below a trap: it is the one, or another over it
 under_trap : (below ts : List Task) → Ends below (Trapped ∷ ts) → (ts ≡ below) ⊎ Ends below ts
 under_trap below ts e = go e.0 e.1
