@@ -106,9 +106,7 @@ module _ (p : Image) (prices : List ℕ) (h : ArePriced p prices) where
 plain_declares : (k : ClassKind) → is_plain k ≡ true → kind_declares k ≡ None
 unfolding is_plain
 plain_declares Plain plain = refl
-plain_declares (Active provider budget) plain = absurd cc
-plain_declares (Server sessions session budget) plain = absurd cc
-plain_declares Session plain = absurd cc
+plain_declares _ plain = absurd cc
 
 pub none_declares : (p : Image) (k : ℕ) → IsAdmitted p → declared_by p (Class k) ≡ None
 unfolding class_at admits_class

@@ -327,10 +327,9 @@ at_map f d (x ∷ xs) (suc i) = at_map f d xs i
 
 nothing_below_null : (x y : Kind) → Weaker x y → x ≡ Null → y ≡ Null
 nothing_below_null x y (alike {k = k}) e = e
-nothing_below_null x y unset_word e = absurd cc
 nothing_below_null x y unset_null e = refl
 nothing_below_null x y (maybe_null {t = t} {a = age}) e = refl
-nothing_below_null x y (maybe_own {t = t} {a = age}) e = absurd cc
+nothing_below_null x y _ e = absurd cc
 
 module _ (p : Image) (m : ℕ) where
   at_raised : (ks : List Kind) (i : ℕ) → at Unset (map (raised p m) ks) i ≡ raised p m (at Unset ks i)

@@ -39,13 +39,9 @@ use Rattle.aom_budget.proofs.Passing.{below_first}
 -- ---- a method pays for lower ones
 
 kind_called : (p : Image) (k : Kind) (m : ℕ) → kind_destructor p k ≡ Some m → Among m (destructors p (object_class k))
-kind_called p Unset m e = absurd cc
-kind_called p Word m e = absurd cc
-kind_called p Null m e = absurd cc
 kind_called p (Own (Object c) a) m e = below_first (role_of p c Destruct) m _ e
-kind_called p (Own Message a) m e = absurd cc
 kind_called p (Maybe (Object c) a) m e = below_first (role_of p c Destruct) m _ e
-kind_called p (Maybe Message a) m e = absurd cc
+kind_called p _ m e = absurd cc
 
 paid_called : (p : Image) (m : ℕ) (sh : Shape) (i : Instr) (k : ℕ) → paid_method p sh i ≡ Some k → Among k (callees p m sh i)
 paid_called p m sh (Call target called first c) k e = let same : k ≡ called = cc in inl same

@@ -218,8 +218,7 @@ stands_lowest p m place sh linked quiet h =
 
 entered_quiet : (p : Image) (m pc : ℕ) (sh : Shape) (i : Instr) (k : ℕ) → IsLinked p → is_quiet p m ≡ true → Enters i k → AllTrue (rule_needs p m pc sh i) → is_quiet p k ≡ true
 entered_quiet p m pc sh (Call target k' first c) k linked quiet enters needs = rw enters at (callee_quiet p m linked quiet pc sh target k' first c needs)
-entered_quiet p m pc sh (Trap target k' first c) k linked quiet enters needs = absurd (untrapped p m linked quiet pc sh target k' first c needs)
-entered_quiet p m pc sh _ k linked quiet enters needs = absurd enters
+entered_quiet p m pc sh _ k linked quiet enters needs = absurd (first_of (assumption tt, cc))
 
 called_quiet : (p : Image) (m k h : ℕ) → IsLinked p → is_quiet p m ≡ true → CallsOver p m k h → is_quiet p k ≡ true
 called_quiet p m k h linked quiet call =

@@ -34,12 +34,11 @@ at_last (y ∷ xs) x = at_last xs x
 
 -- a list ends with its last element
 ends_with : (xs : List ℕ) (d p : ℕ) → slice_get xs d ≡ Some p → length xs ≡ suc d → (ys : List ℕ) × (xs ≡ ys ++ p ∷ []) × (length ys ≡ d)
-ends_with [] d p e n = absurd (cc)
 ends_with (x ∷ []) zero p e n = ([], (cc), refl)
-ends_with (x ∷ (y ∷ xs)) zero p e n = absurd (omega (arith, n))
 ends_with (x ∷ xs) (suc d) p e n =
     let r = ends_with xs d p e (omega (arith, n)) in
     (x ∷ r.0, ap (λ (l : List ℕ). x ∷ l) r.1, ap suc r.2)
+ends_with _ d p e n = absurd cc
 
 -- ---- the state of the scan
 

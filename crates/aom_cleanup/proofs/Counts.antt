@@ -27,16 +27,13 @@ marks_with Mark is entry = absurd entry
 
 -- what is last is counted
 pub some_entry : (is : List Item) → IsAboveMark is → 0 < entries_in is
-some_entry [] above = absurd above
 some_entry (Object n ∷ is) above = omega arith
 some_entry (Operation m w ∷ is) above = omega arith
-some_entry (Mark ∷ is) above = absurd above
+some_entry _ above = absurd above
 
 pub some_mark : (is : List Item) → IsMarked is → 0 < marks_in is
-some_mark [] marked = absurd marked
-some_mark (Object n ∷ is) marked = absurd marked
-some_mark (Operation m w ∷ is) marked = absurd marked
 some_mark (Mark ∷ is) marked = omega arith
+some_mark _ marked = absurd marked
 
 -- an entry is last, or not, and never both
 pub not_above : (is : List Item) → (IsAboveMark is → ⊥) → IsNotAboveMark is

@@ -39,9 +39,8 @@ use Rattle.aom_codec.proofs.InstructionFits.{in_range, fits}
 
 all_fit : {X : Type 0} (c : Codec X) (n : ℕ) (xs : List X) → FitMany (always c) keep tt n xs → All c.Fits xs
 all_fit c zero [] f = All-nil c.Fits
-all_fit c (suc n) [] f = absurd f
-all_fit c zero (x ∷ xs) f = absurd f
 all_fit c (suc n) (x ∷ xs) f = All-cons c.Fits x xs f.0 (all_fit c n xs f.1)
+all_fit c _ _ f = absurd f
 
 fit_all : {X : Type 0} (c : Codec X) (xs : List X) → All c.Fits xs → FitMany (always c) keep tt (length xs) xs
 fit_all c [] h = tt
@@ -225,10 +224,8 @@ first_fits servers (kinds.Server sessions session budget) h = lt-ltb servers 8 (
 first_fits servers kinds.Session h = refl
 
 first_in : (servers : ℕ) (k : ClassKind) → first_ok servers k ≡ true → is_server_kind k ≡ true → servers < 8
-first_in servers kinds.Plain h is = absurd cc
-first_in servers (kinds.Active p budget) h is = absurd cc
 first_in servers (kinds.Server sessions session budget) h is = ltb-true servers 8 h
-first_in servers kinds.Session h is = absurd cc
+first_in servers _ h is = absurd cc
 
 kind_sort_fits : (servers : ℕ) (k : ClassKind) → first_ok servers k ≡ true → (kind_sort servers).Fits (kind_byte k)
 kind_sort_fits servers kinds.Plain h = ((lit< tt, refl), h)
@@ -272,14 +269,13 @@ count-cons c cs = sum_by-cons (λ x. cond (is_server x) 1 0) c cs
 classes_in : (classes natives n servers : ℕ) (cs : List ClassDecl) → servers ≤ 8 → FitMany (class classes natives) count_server servers n cs
     → All (ClassFits classes natives) cs × (servers + count_by is_server cs ≤ 8)
 classes_in classes natives zero servers [] low f = (All-nil (ClassFits classes natives), omega arith)
-classes_in classes natives (suc n) servers [] low f = absurd f
-classes_in classes natives zero servers (c ∷ cs) low f = absurd f
 classes_in classes natives (suc n) servers (c ∷ cs) low f =
     let first = first_in servers c.kind f.0.0.0.1 in
     let rest = classes_in classes natives n (count_server servers c) cs (next_low (is_server c) servers low first) f.1 in (
       All-cons (ClassFits classes natives) c cs (class_in_range classes natives servers c f.0) rest.0,
       omega (arith, rest.1, next_is (is_server c) servers, count-cons c cs),
     )
+classes_in classes natives _ servers _ low f = absurd f
 
 some_server : (b : Bool) (servers n : ℕ) → servers + (cond b 1 0 + n) ≤ 8 → b ≡ true → servers < 8
 some_server true servers n h is = omega arith

@@ -184,9 +184,8 @@ purpose_fits classes natives (suc (suc (suc (suc n)))) p small fits = absurd (om
 
 pub many_length : {S X : Type 0} (c : S → Codec X) (add : S → X → S) (s : S) (n : ℕ) (xs : List X) → FitMany c add s n xs → length xs ≡ n
 many_length c add s zero [] fits = refl
-many_length c add s (suc n) [] fits = absurd fits
-many_length c add s zero (x ∷ xs) fits = absurd fits
 many_length c add s (suc n) (x ∷ xs) fits = omega (arith, many_length c add (add s x) n xs fits.1)
+many_length c add s _ _ fits = absurd fits
 
 class_laws : (classes natives servers : ℕ) → IsCodec (class classes natives servers)
 class_laws classes natives servers = of_seen _ _ (class_parts classes natives servers)

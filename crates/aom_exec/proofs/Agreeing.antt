@@ -1,5 +1,7 @@
 -- Each state that a machine stands for has agreement: from what the machine's numbers show, and from what the typing says of the methods at hand.
+use Rattle.std.proofs.lemmas.Option.{same_Some}
 use Rattle.std.proofs.Common.{Bool, List, None, Option, Some, [], ap, arith, cond, false, inl, inr, length, refl, subst, sym, true, ℕ, ℤ, ◌++◌, ◌<◌, ◌==◌, ◌∙◌, ◌∷◌, ◌≡◌}
+use Rattle.aom_image.proofs.Given.{false_given, none_given}
 use Rattle.std.proofs.lemmas.Bool.{eq-eqb, eqb-true, ne_eqb}
 use Rattle.std.specs.Prelude.{is_some}
 use Rattle.aom_image.specs.Image.{Image}
@@ -18,11 +20,12 @@ use Rattle.aom_shape.specs.declared.kind.Kind.TheVariants.{Maybe, Null, Own, Uns
 use Rattle.aom_sound.proofs.Items.{length_forms}
 use Rattle.aom_sound.proofs.Maps.{held_lives, one_place}
 use Rattle.aom_sound.proofs.Straight.{claim_field}
-use Rattle.aom_sound.specs.Claims.{Dispatching, Dying, Layer, Mark, Mark_form, Method, Object_form, Unwinding, claim, declared, declared_field, entry_claim, entry_form, form, forms, home_claim, items_of, objects, root_claim, tasks_of}
+use Rattle.aom_sound.specs.Claims.{Dispatching, Dying, Layer, Mark, Mark_form, Method, Object_form, Unwinding, claim, declared, declared_field, entry_claim, entry_form, form, forms, home_claim, items_of, objects, root_claim}
 use Rattle.aom_sound.specs.Owned.{over}
 use Rattle.aom_sound.specs.Places.{Cell, Elsewhere, Entry, Field, Object, Place, Register, Root, held, named}
 use Rattle.aom_sound.specs.State.{An_object, AtRoot, Destroy, Dispatched, Frame, Home, Inside, Item, Main_left, Of_main, Of_root, Run, State, Static, Task, Trapped, Unwind, field_place, thing_holder, word}
 use Rattle.aom_sound.specs.WellTyped.{Back, Caught, Fits, Gone, IsHoused, Leaves, Now, Returns, Stack, Good}
+use Rattle.aom_sound.proofs.Layers.{method_layer}
 use Rattle.aom_exec.specs.Agreement.{Agreement, AgreesInAll, FieldsAgree, NumberSays, RegistersAgree}
 use Rattle.aom_exec.specs.Agrees.{Shows, number, word_at, word_in, word_of}
 use Rattle.aom_exec.specs.Places.{value}
@@ -68,11 +71,10 @@ word_under (task ∷ above) fr below i =
 declared_says : (p : Image) (h : Place → Option Object) (thing : Option Thing) (x : Filling) (n : ℕ) (o : Option Object) → n ≡ number o → Fits p h o (filled thing x)
     → NumberSays p (filled thing Perhaps) n o
 declared_says p h None x n None same fits = record { number = same; none = refl }
-declared_says p h None x n (Some y) same fits = absurd fits
 declared_says p h (Some t) x n None same fits = inl (record { number = same; none = refl })
-declared_says p h (Some t) Empty n (Some y) same fits = absurd fits
 declared_says p h (Some t) Full n (Some y) same fits = inr (record { object = y; owned = refl; number = same; thing = fits.0 })
 declared_says p h (Some t) Perhaps n (Some y) same fits = inr (record { object = y; owned = refl; number = same; thing = fits.0 })
+declared_says p h _ _ n _ same fits = absurd fits
 
 -- and what is known of it says so
 filled_says : (p : Image) (h : Place → Option Object) (t : Thing) (x : Filling) (n : ℕ) (o : Option Object) → n ≡ number o → Fits p h o (filled (Some t) x) → NumberSays p (filled (Some t) x) n o
@@ -85,9 +87,6 @@ filled_says p h t _ n _ same fits = absurd fits
 empty_fits : (p : Image) (h : Place → Option Object) (thing : Option Thing) (o : Option Object) → Fits p h o Null → Fits p h o (filled thing Empty)
 empty_fits p h None o fits = fits
 empty_fits p h (Some t) o fits = fits
-
-one_object : (x y : Object) → Some x ≡ Some y → x ≡ y
-one_object x y e = cc
 
 module _ (p : Image) (t : Typing) (cs : List Cell) (n : ℕ) (o : Option Object) (same : n ≡ number o) where
   abbrev F : Kind → Type 0
@@ -111,7 +110,7 @@ module _ (p : Image) (t : Typing) (cs : List Cell) (n : ℕ) (o : Option Object)
         where
           inside : (b : Bool) → (y.name == x.name) ≡ b → F (cond b (filled (field_thing p (thing_holder y.thing) f) (field sh f)) (claim p (declared p cs) ls (Field x.name f))) → Declared x f
           inside true e fits =
-              let alike : y ≡ x = one_object y x (sym housed.lives ∙ ap (λ k. named cs k) (eqb-true y.name x.name e) ∙ lives) in
+              let alike : y ≡ x = same_Some y x (sym housed.lives ∙ ap (λ k. named cs k) (eqb-true y.name x.name e) ∙ lives) in
               declared_says p (held cs) (field_thing p (thing_holder x.thing) f) (field sh f) n o same
               (subst (λ (z : Object). F (filled (field_thing p (thing_holder z.thing) f) (field sh f))) alike fits)
           inside false e fits = below fits
@@ -151,8 +150,7 @@ IsOwn (Maybe t a) = ⊥
 
 owns_one : (p : Image) (h : Place → Option Object) (k : Kind) (o : Option Object) → IsOwn k → Fits p h o k → (x : Object) × (o ≡ Some x)
 owns_one p h (Own t a) (Some x) own fits = (x, refl)
-owns_one p h (Own t a) None own fits = absurd fits
-owns_one p h _ o own fits = absurd own
+owns_one p h _ _ own fits = absurd (assumption tt)
 
 over_forms : (items : List Item) (k : ℕ) → over items k ≡ Some An_object → over (forms items) k ≡ Some Object_form
 over_forms [] k e = cc
@@ -190,11 +188,7 @@ module _ (p : Image) (d : Place → Kind) (k : ℕ) where
   entries_own (Unwinding code es ∷ ls) e = pushed_own es ls (entries_own ls) e
   entries_own (Dying o ∷ ls) e = entries_own ls e
   entries_own (Dispatching x ∷ ls) e = entries_own ls e
-  entries_own (Mark gv ∷ ls) e = go (length (items_of ls) == k) (entries_own ls) e
-    where
-      go : (b : Bool) → ClaimedOwn ls → cond b (Some Mark_form) (over (items_of ls) k) ≡ Some Object_form → IsOwn (claim p d ls (Entry k))
-      go true below e = cc
-      go false below e = below e
+  entries_own (Mark gv ∷ ls) e = let below : ClaimedOwn ls = entries_own ls in false_given (λ b. cond b (Some Mark_form) (over (items_of ls) k) ≡ Some Object_form) (length (items_of ls) == k) e (λ e. cc) (λ _ e. below e)
 
 -- ---- all together
 
@@ -207,11 +201,7 @@ module _ (m : Machine) (s : State) (st : StandsFor m s) where
   plain r none = subst (λ w. Shows (value m.parts r) w (held s.cells r)) none (st.agrees.values r)
 
   owner_shows : (r : Place) (x : Object) → held s.cells r ≡ Some x → (word_at s.tasks r ≡ None) × (value m.parts r ≡ x.name)
-  owner_shows r x holds = go (word_at s.tasks r) refl (subst (λ o. Shows (value m.parts r) (word_at s.tasks r) o) holds (st.agrees.values r))
-    where
-      go : (w : Option ℤ) → word_at s.tasks r ≡ w → Shows (value m.parts r) w (Some x) → (word_at s.tasks r ≡ None) × (value m.parts r ≡ x.name)
-      go None e shows = (e, shows)
-      go (Some w) e shows = absurd shows
+  owner_shows r x holds = none_given (λ w. Shows (value m.parts r) w (Some x)) (word_at s.tasks r) (subst (λ o. Shows (value m.parts r) (word_at s.tasks r) o) holds (st.agrees.values r)) (λ w shows. shows) (λ e shows. (e, shows))
 
   shows_owner : (r : Place) (x : Object) → named s.cells x.name ≡ Some x → word_at s.tasks r ≡ None → value m.parts r ≡ x.name → held s.cells r ≡ Some x
   shows_owner r x lives none is = go (held s.cells r) refl (sym is ∙ plain r none)
@@ -235,7 +225,7 @@ module _ (m : Machine) (s : State) (st : StandsFor m s) where
       record { shape = w.shape; typed = w.typed; registers = λ i. number_says p _ _ _ _ (w.says i) (shown (task ∷ above) fr below top i) }
 
   own_fields_agree : (fr : Frame) (below : List Task) → s.tasks ≡ Run fr ∷ below → FieldsAgree p st.typing m.parts s fr
-  own_fields_agree fr below top = go st.typed.layers (sym st.typed.tasks ∙ top) st.typed.good
+  own_fields_agree fr below top = method_layer (λ ls. Good p st.typing s.cells ls) fr below st.typed.layers (sym st.typed.tasks ∙ top) st.typed.good (λ sh ls _ good. (by_frame fr sh ls good.stack.0 good))
     where
       no_word_there : (home : Home) (f : ℕ) → word_at s.tasks (field_place home f) ≡ None
       no_word_there Static f = refl
@@ -252,10 +242,6 @@ module _ (m : Machine) (s : State) (st : StandsFor m s) where
             filled_says p (held s.cells) thing (field sh f) (value m.parts q) (held s.cells q) (plain q (no_word_there g.home f))
             (subst (λ k. Fits p (held s.cells) (held s.cells q) k) claims (good.fits q));
       }
-
-      go : (ls : List Layer) → tasks_of ls ≡ Run fr ∷ below → Good p st.typing s.cells ls → FieldsAgree p st.typing m.parts s fr
-      go (Method g sh ∷ ls) e good = let same : g ≡ fr = cc in subst (λ (x : Frame). FieldsAgree p st.typing m.parts s x) same (by_frame g sh ls good.stack.0 good)
-      go _ e good = cc
 
   pub agreement : Agreement m s
   agreement = record {

@@ -84,10 +84,7 @@ module _ (p : Image) (m : Parts) (booted : Booted p m) where
   }
     where
       never : (n : ℕ) (c : Held_cell) → cell_at m.cells n ≡ Some c → ⊥
-      never n c e = some_none (sym e ∙ no_cell n)
-        where
-          some_none : Some c ≡ None → ⊥
-          some_none e = cc
+      never n c e = (let clash : Some c ≡ None = sym e ∙ no_cell n in cc)
 
 -- the strongest typing, and a table of prices that the image can afford
 abbrev pub Afforded : Image → Type 0

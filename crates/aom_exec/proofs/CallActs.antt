@@ -8,8 +8,9 @@ use Rattle.aom_cells.specs.Heap.{null}
 use Rattle.aom_sound.specs.Places.{Place, Register, Entry, Field, Going, Elsewhere, Object, held}
 use Rattle.aom_sound.specs.State.{Dispatch, Dispatched, Rest, State}
 use Rattle.aom_sound.specs.Calls.{below_top}
-use Rattle.aom_sound.specs.Claims.{Layer, Dispatching, tasks_of}
+use Rattle.aom_sound.specs.Claims.{Dispatching}
 use Rattle.aom_sound.specs.WellTyped.{WellTyped, Good, Fits}
+use Rattle.aom_sound.proofs.Layers.{dispatch_layer}
 use Rattle.aom_cleanup.specs.Items.{Stack as Held_items, entry_in}
 use Rattle.aom_cleanup.specs.declared.item.Item.TheVariants.{Mark as Is_mark}
 use Rattle.aom_frames.specs.declared.task.Task.TheVariants.{Dispatched as Ends}
@@ -41,15 +42,13 @@ fits_null p h None e = refl
 fits_null p h (Some o) e = absurd e
 
 pub closing : (p : Image) (t : Typing) (s : State) (d : Dispatch) → WellTyped p t s → s.tasks ≡ Dispatched d ∷ [] → Closing s
-closing p t s d typed e = go typed.layers (sym typed.tasks ∙ e) typed.good
-  where
-    go : (ls : List Layer) → tasks_of ls ≡ Dispatched d ∷ [] → Good p t s.cells ls → Closing s
-    go (Dispatching x ∷ []) e good = record {
-      registers = λ d i. fits_null p (held s.cells) _ (good.fits (Register d i));
-      entries = λ k. fits_null p (held s.cells) _ (good.fits (Entry k));
-      goings = λ k. fits_null p (held s.cells) _ (good.fits (Going k));
-    }
-    go _ e good = cc
+closing p t s d typed e = dispatch_layer (Good p t s.cells) d [] typed.layers (sym typed.tasks ∙ e) typed.good (λ ls _ good.
+    let alone = subst (λ ls. Good p t s.cells (Dispatching d ∷ ls)) good.stack.1 good in
+    record {
+      registers = λ d i. fits_null p (held s.cells) _ (alone.fits (Register d i));
+      entries = λ k. fits_null p (held s.cells) _ (alone.fits (Entry k));
+      goings = λ k. fits_null p (held s.cells) _ (alone.fits (Going k));
+    })
 
 same_cond : {A : Type 0} (b : Bool) (x : A) → cond b x x ≡ x
 same_cond true x = refl

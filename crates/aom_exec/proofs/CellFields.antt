@@ -1,5 +1,6 @@
 -- What a write of one field or of one word of a cell does to the places and to the cells.
 use Rattle.std.proofs.Common.{suc, ◌≡◌, ℕ, ℤ, ◌<◌, true, false, cond, ◌==◌, ◌&&◌, length, List, [], ◌∷◌, Option, Some, None, slice_set, refl, sym, ap, ◌∙◌, subst}
+use Rattle.aom_image.proofs.Given.{some_given}
 use Rattle.std.proofs.lemmas.Bool.{eq-eqb, eqb-true, false≢true}
 use Rattle.std.proofs.lemmas.List.{get_or-set_other, length-set}
 use Rattle.aom_image.specs.Image.{Image}
@@ -62,11 +63,7 @@ word_put_elsewhere us h h' es root n w v puts _ = refl
 
 -- the machine has a cell of that name
 pub cell_of : (p : Image) (h : Heap) (cs : List Cell) (n : ℕ) (o : Object) → SameCells p h cs → named cs n ≡ Some o → (c : Held_cell) × (cell_at h n ≡ Some c)
-cell_of p h cs n o same lives = go (cell_at h n) refl (same.things n ∙ ap thing_of lives)
-  where
-    go : (c : Option Held_cell) → cell_at h n ≡ c → thing_in c ≡ Some o.thing → (d : Held_cell) × (cell_at h n ≡ Some d)
-    go None e f = cc
-    go (Some c) e f = (c, e)
+cell_of p h cs n o same lives = some_given (λ c. thing_in c ≡ Some o.thing) (cell_at h n) (same.things n ∙ ap thing_of lives) (λ f. cc) (λ c e f. (c, e))
 
 some_none : {A : Type 0} {x : A} → Some x ≡ None → ⊥
 some_none e = cc

@@ -77,8 +77,5 @@ cells_without p h h' cs g o same tidy is ch less = record {
 
     still : (k : ℕ) (c : _) → cell_at h' k ≡ Some c → cell_at h' k ≡ cell_at h k
     still k c is' = cases (o.name == k)
-        (λ e. let none : cell_at h' k ≡ None = ap (cell_at h') (sym (eqb-true o.name k e)) ∙ ch.here in absurd (some_none (sym is' ∙ none)))
+        (λ e. let none : cell_at h' k ≡ None = ap (cell_at h') (sym (eqb-true o.name k e)) ∙ ch.here in absurd (let clash : Some c ≡ None = sym is' ∙ none in cc))
         (λ e. other k e)
-      where
-        some_none : Some c ≡ None → ⊥
-        some_none e = cc

@@ -24,6 +24,7 @@ use Rattle.aom_sound.specs.Tasks.{Below}
 use Rattle.aom_sound.specs.Quiet.{IsCalm, calm, is_clearing}
 use Rattle.aom_sound.specs.State.{A_mark, An_object, An_operation, Destroy, Dispatched, Frame, Item, Run, State, Task, Trapped, Unwind}
 use Rattle.aom_sound.specs.WellTyped.{Back, Gone, Leaves, Now, Returns, Stack, WellTyped}
+use Rattle.aom_sound.proofs.Layers.{method_layer}
 use Rattle.aom_exec.specs.Room.{AllUnder, HasRoom, IsUnder, entries_in}
 use Rattle.aom_exec.proofs.Depths.{Roomy}
 use Rattle.aom_exec.proofs.Heights.{stands_here}
@@ -71,9 +72,8 @@ none_unwinds : (ts : List Task) → is_clearing ts ≡ false → unwindings_in t
 none_unwinds [] e = refl
 none_unwinds (Run fr ∷ ts) e = none_unwinds ts e
 none_unwinds (Trapped ∷ ts) e = none_unwinds ts e
-none_unwinds (Destroy ∷ ts) e = absurd (true≢false e)
-none_unwinds (Unwind code ∷ ts) e = absurd (true≢false e)
 none_unwinds (Dispatched d ∷ ts) e = none_unwinds ts e
+none_unwinds _ e = absurd (true≢false e)
 
 calm_below : (p : Image) (ts : List Task) → IsCalm p ts → Below (calm p) ts
 calm_below p [] h = h
@@ -150,18 +150,9 @@ few_marks p t cs back _ s = absurd (assumption tt)
 
 -- the marks under the method that runs
 marks_under : (p : Image) (t : Typing) (s : State) (fr : Frame) (ts : List Task) → WellTyped p t s → s.tasks ≡ Run fr ∷ ts → marks_in s.items ≤ suc (methods_in ts)
-marks_under p t s fr ts w same = go w.layers (sym w.tasks ∙ same) w.items w.good.stack
-  where
-    go : (ls : List Layer) → tasks_of ls ≡ Run fr ∷ ts → forms s.items ≡ items_of ls → Stack p t s.cells Now ls → marks_in s.items ≤ suc (methods_in ts)
-    go [] e items stack = cc
-    go (Mark g ∷ ls) e items stack = cc
-    go (Dying o ∷ ls) e items stack = cc
-    go (Unwinding code es ∷ ls) e items stack = cc
-    go (Dispatching d ∷ ls) e items stack = cc
-    go (Method fr' sh ∷ ls) e items stack =
-        let under : tasks_of ls ≡ ts = cc in
-        let few = few_marks p t s.cells (Returns fr'.method fr'.home) ls stack.4 in
-        omega (arith, few, no_marks sh.entries (items_of ls), ap form_marks items, marks_told s.items, ap methods_in under)
+marks_under p t s fr ts w same = method_layer (λ ls. (forms s.items ≡ items_of ls) × (Stack p t s.cells Now ls)) fr ts w.layers (sym w.tasks ∙ same) (w.items, w.good.stack) (λ sh ls under h.
+    let few = few_marks p t s.cells (Returns fr.method fr.home) ls h.1.4 in
+    omega (arith, few, no_marks sh.entries (items_of ls), ap form_marks h.0, marks_told s.items, ap methods_in under))
 
 pub marks_at_hand : (p : Image) (t : Typing) → IsWired p → IsTyped p t → IsStrongest p t → (depths : HasDepths p) (heights : HasHeights p) (s : State) (fr : Frame) (ts : List Task) → WellTyped p t s → s.tasks ≡ Run fr ∷ ts → HasRoom p (at 0 depths.depths) (at 0 heights.heights) s
     → (target : Target) (m first x : ℕ) → instr_at p fr.method fr.place ≡ Some (Trap target m first x) → marks_in s.items < 256

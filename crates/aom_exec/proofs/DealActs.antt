@@ -13,7 +13,7 @@ use Rattle.aom_sound.specs.Cleanup.{dealt_with as deals_with, destroyed, operati
 use Rattle.aom_classes.specs.Roles.{destructor_of}
 use Rattle.aom_sound.specs.Places.{Place, Register, Entry, Going, Object, changed, held}
 use Rattle.aom_sound.proofs.Dealing.{dealing as dealing_effect}
-use Rattle.aom_sound.specs.State.{Static, frame_of, Run, Item, An_object, An_operation, A_mark, State}
+use Rattle.aom_sound.specs.State.{Static, frame_of, Run, Item, An_object, An_operation, State}
 use Rattle.aom_sound.specs.WellTyped.{WellTyped}
 use Rattle.aom_frames.specs.Tasks.{fresh}
 use Rattle.aom_frames.specs.declared.task.Task.TheVariants.{Run as Runs_frame}
@@ -89,9 +89,7 @@ module _ (p : Image) (m : Parts) (t : Typing) (s : State) (typed : WellTyped p t
       go : (is : List Held_item) (js : List Item) → m.entries.items ≡ is → SameItems is js → tops_entry js ≡ true → top_is_whole s.cells js ≡ true → Agrees p (dealing p is m) (deals_with p js s.tasks s)
       go (Holds_object n ∷ is) (An_object ∷ js) was same some whole = object_goes n is js was same.1 (held s.cells (Entry (length js))) refl whole
       go (Holds_operation k n ∷ is) (An_operation k' w ∷ js) was same some whole = operation_runs k n k' w is js was same.0.0 same.0.1 same.1
-      go is [] was same some whole = cc
-      go is (A_mark ∷ js) was same some whole = cc
-      go _ _ was same some whole = absurd (assumption tt)
+      go is _ was same some whole = absurd (grind arith)
 
 pub pop_delete_does : (p : Image) (m : Parts) (refused : List ℕ) → DoesIn p refused PopDelete m (dealt_with p m)
 pop_delete_does p m refused h here =

@@ -36,8 +36,7 @@ at_end p t m s typed agrees ending = go m.stack.tasks s.tasks refl refl ending a
   where
     none : (ms : List Held_task) (ts : List Task) → SameTasks ms ts → ts ≡ [] → ms ≡ []
     none [] ts same e = refl
-    none (m ∷ ms) [] same e = absurd same
-    none (m ∷ ms) (t ∷ ts) same e = cc
+    none _ _ same e = absurd (grind arith)
 
     go : (ms : List Held_task) (us : List Task) → m.stack.tasks ≡ ms → s.tasks ≡ us → IsEnding ms → SameTasks ms us → AtEnd m s
     go (Ends x ∷ ms) (Dispatched d ∷ ts) e f ending same =

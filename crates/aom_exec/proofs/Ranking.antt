@@ -109,9 +109,8 @@ same_rank p t m s typed agrees =
 -- ---- a move
 
 busy_state : (ms : List Held_task) (us : List Task) → SameTasks ms us → 0 < length ms → (u : Task) × (vs : List Task) × (us ≡ u ∷ vs)
-busy_state [] us same busy = absurd (omega arith)
-busy_state (m ∷ ms) [] same busy = absurd same
 busy_state (m ∷ ms) (u ∷ us) same busy = (u, us, refl)
+busy_state _ _ same busy = absurd (first_of (assumption tt, omega arith))
 
 pub moved_falls : (p : Image) (t : Typing) (refused : List ℕ) (m new : Parts) (s : State) → Sound p t → WellTyped p t s → Agrees p m s → Moved p refused t s new → 0 < length m.stack.tasks
     → rank_of p new.stack.tasks new.entries.items (count new.cells) < rank_of p m.stack.tasks m.entries.items (count m.cells)

@@ -17,7 +17,7 @@ use Rattle.aom_shape.specs.Shape.{Shape}
 use Rattle.aom_shape.specs.Typing.{Typing}
 use Rattle.aom_sound.proofs.View.{under_dispatch}
 use Rattle.aom_sound.specs.Calls.{below_top, needs_return, result_needs, result_register, returned}
-use Rattle.aom_sound.specs.Claims.{Layer, Method, Mark, tasks_of, claim, declared}
+use Rattle.aom_sound.specs.Claims.{Method, Mark, tasks_of, claim, declared}
 use Rattle.aom_sound.specs.Places.{Place, Register, Entry, Field, Going, Elsewhere, Object, Cell, changed, held, moved, same_place}
 use Rattle.aom_sound.specs.State.{Frame, Dispatch, next, set_word, word, Task, Run, Trapped, Destroy, Dispatched, State, Unwind}
 use Rattle.aom_sound.specs.WellTyped.{Awaits, Fits, Good, WellTyped, WordFits}
@@ -25,6 +25,7 @@ use Rattle.aom_sound.proofs.Claimed.{claim_register_above}
 use Rattle.aom_sound.proofs.Finishing.{all_parts}
 use Rattle.aom_sound.proofs.Maps.{at-put_at, held_moved}
 use Rattle.aom_sound.proofs.Straight.{claim_register, fits_unowning}
+use Rattle.aom_sound.proofs.Layers.{mark_layer, method_layer}
 use Rattle.aom_cleanup.specs.Items.{Stack as Held_items}
 use Rattle.aom_cleanup.specs.declared.item.Item.TheVariants.{Mark as Is_mark}
 use Rattle.aom_cleanup.specs.declared.item.Item.{Item}
@@ -102,63 +103,47 @@ awaiting _ x sh b a = a
 
 awaited : (p : Image) (t : Typing) (s : State) (fr caller : Frame) (ts : List Task) → WellTyped p t s → s.tasks ≡ Run fr ∷ Run caller ∷ ts → bears (gives_of p fr.method) ≡ true
     → held s.cells (Register (length ts) (result_register (instr_at p caller.method caller.place))) ≡ None
-awaited p t s fr caller ts typed top some = go typed.layers (sym typed.tasks ∙ top) typed.good
-  where
-    go : (ls : List Layer) → tasks_of ls ≡ Run fr ∷ Run caller ∷ ts → Good p t s.cells ls → held s.cells (Register (length ts) (result_register (instr_at p caller.method caller.place))) ≡ None
-    go (Method fr' sh ∷ Method caller' sh' ∷ ls) e good =
-        let same : fr' ≡ fr = cc in
-        let below : caller' ≡ caller = cc in
-        let rest : tasks_of ls ≡ ts = cc in
-        let x = result_register (instr_at p caller'.method caller'.place) in
-        let q = Register (length (tasks_of ls)) x in
-        let quiet = awaiting (gives_of p fr'.method) x sh' (subst (λ (f : Frame). bears (gives_of p f.method) ≡ true) (sym same) some) good.stack.4.0.1 in
-        let claims : claim p (declared p s.cells) (Method fr' sh ∷ Method caller' sh' ∷ ls) q ≡ register sh' x =
-        ap (λ b. cond b (register sh x) (claim p (declared p s.cells) (Method caller' sh' ∷ ls) q)) (ne_eqb (suc (length (tasks_of ls))) (length (tasks_of ls)) (λ e. absurd (omega arith))) ∙ claim_register p (declared p s.cells) caller' sh' ls x in
-        let none = fits_unowning p (held s.cells) (held s.cells q) (register sh' x) quiet (subst (Fits p (held s.cells) (held s.cells q)) claims (good.fits q)) in
-        subst (λ (f : Frame). held s.cells (Register (length ts) (result_register (instr_at p f.method f.place))) ≡ None) below (subst (λ us. held s.cells (Register (length us) x) ≡ None) rest none)
-    go _ e good = cc
+awaited p t s fr caller ts typed top some =
+    method_layer (Good p t s.cells) fr (Run caller ∷ ts) typed.layers (sym typed.tasks ∙ top) typed.good (λ sh ls under good.
+    method_layer (λ ls. Good p t s.cells (Method fr sh ∷ ls)) caller ts ls under good (λ sh' ls rest good.
+    let x = result_register (instr_at p caller.method caller.place) in
+    let q = Register (length (tasks_of ls)) x in
+    let quiet = awaiting (gives_of p fr.method) x sh' some good.stack.4.0.1 in
+    let claims : claim p (declared p s.cells) (Method fr sh ∷ Method caller sh' ∷ ls) q ≡ register sh' x =
+    ap (λ b. cond b (register sh x) (claim p (declared p s.cells) (Method caller sh' ∷ ls) q)) (ne_eqb (suc (length (tasks_of ls))) (length (tasks_of ls)) (λ e. absurd (omega arith))) ∙ claim_register p (declared p s.cells) caller sh' ls x in
+    let none = fits_unowning p (held s.cells) (held s.cells q) (register sh' x) quiet (subst (Fits p (held s.cells) (held s.cells q)) claims (good.fits q)) in
+    subst (λ us. held s.cells (Register (length us) x) ≡ None) rest none))
 
 -- the same through a trap
 awaited_trapped : (p : Image) (t : Typing) (s : State) (fr caller : Frame) (ts : List Task) → WellTyped p t s → s.tasks ≡ Run fr ∷ Trapped ∷ Run caller ∷ ts → bears (gives_of p fr.method) ≡ true
     → held s.cells (Register (length ts) (result_register (instr_at p caller.method caller.place))) ≡ None
-awaited_trapped p t s fr caller ts typed top some = go typed.layers (sym typed.tasks ∙ top) typed.good
-  where
-    go : (ls : List Layer) → tasks_of ls ≡ Run fr ∷ Trapped ∷ Run caller ∷ ts → Good p t s.cells ls → held s.cells (Register (length ts) (result_register (instr_at p caller.method caller.place))) ≡ None
-    go (Method fr' sh ∷ Mark gv ∷ Method caller' sh' ∷ ls) e good =
-        let same : fr' ≡ fr = cc in
-        let below : caller' ≡ caller = cc in
-        let rest : tasks_of ls ≡ ts = cc in
-        let x = result_register (instr_at p caller'.method caller'.place) in
-        let d = length (tasks_of ls) in
-        let q = Register d x in
-        let mark = good.stack.4 in
-        let given = ap bears (sym mark.0.0) ∙ subst (λ (f : Frame). bears (gives_of p f.method) ≡ true) (sym same) some in
-        let quiet = awaiting gv x sh' given mark.1.0.2 in
-        let claims : claim p (declared p s.cells) (Method fr' sh ∷ Mark gv ∷ Method caller' sh' ∷ ls) q ≡ register sh' x =
-        ap (λ b. cond b (register sh x) (claim p (declared p s.cells) (Mark gv ∷ Method caller' sh' ∷ ls) q)) (ne_eqb (suc (suc d)) d (λ e. absurd (omega arith))) ∙ claim_register p (declared p s.cells) caller' sh' ls x in
-        let none = fits_unowning p (held s.cells) (held s.cells q) (register sh' x) quiet (subst (Fits p (held s.cells) (held s.cells q)) claims (good.fits q)) in
-        subst (λ (f : Frame). held s.cells (Register (length ts) (result_register (instr_at p f.method f.place))) ≡ None) below (subst (λ us. held s.cells (Register (length us) x) ≡ None) rest none)
-    go _ e good = cc
+awaited_trapped p t s fr caller ts typed top some =
+    method_layer (Good p t s.cells) fr (Trapped ∷ Run caller ∷ ts) typed.layers (sym typed.tasks ∙ top) typed.good (λ sh ls under good.
+    mark_layer (λ ls. Good p t s.cells (Method fr sh ∷ ls)) (Run caller ∷ ts) ls under good (λ gv ls under good.
+    method_layer (λ ls. Good p t s.cells (Method fr sh ∷ Mark gv ∷ ls)) caller ts ls under good (λ sh' ls rest good.
+    let x = result_register (instr_at p caller.method caller.place) in
+    let d = length (tasks_of ls) in
+    let q = Register d x in
+    let mark = good.stack.4 in
+    let quiet = awaiting gv x sh' (ap bears (sym mark.0.0) ∙ some) mark.1.0.2 in
+    let claims : claim p (declared p s.cells) (Method fr sh ∷ Mark gv ∷ Method caller sh' ∷ ls) q ≡ register sh' x =
+    ap (λ b. cond b (register sh x) (claim p (declared p s.cells) (Mark gv ∷ Method caller sh' ∷ ls) q)) (ne_eqb (suc (suc d)) d (λ e. absurd (omega arith))) ∙ claim_register p (declared p s.cells) caller sh' ls x in
+    let none = fits_unowning p (held s.cells) (held s.cells q) (register sh' x) quiet (subst (Fits p (held s.cells) (held s.cells q)) claims (good.fits q)) in
+    subst (λ us. held s.cells (Register (length us) x) ≡ None) rest none)))
 
 -- a register with a word owns nothing
 pub word_alone : (p : Image) (t : Typing) (s : State) (fr : Frame) (ts : List Task) (i : ℕ) (w : ℤ) → WellTyped p t s → s.tasks ≡ Run fr ∷ ts → word fr i ≡ Some w → held s.cells (Register (length ts) i) ≡ None
-word_alone p t s fr ts i w typed top has = go typed.layers (sym typed.tasks ∙ top) typed.good
+word_alone p t s fr ts i w typed top has = method_layer (λ ls. Good p t s.cells ls) fr ts typed.layers (sym typed.tasks ∙ top) typed.good (λ sh ls rest good.
+    let q = Register (length (tasks_of ls)) i in
+    let claims = claim_register p (declared p s.cells) fr sh ls i in
+    let none = kind_alone (register sh i) (word fr i) (held s.cells q) has (good.stack.1.words i) (subst (Fits p (held s.cells) (held s.cells q)) claims (good.fits q)) in
+    subst (λ us. held s.cells (Register (length us) i) ≡ None) rest none)
   where
     kind_alone : (k : Kind) (w' : Option ℤ) (o : Option Object) → w' ≡ Some w → WordFits w' k → Fits p (held s.cells) o k → o ≡ None
     kind_alone k w' None e word fits = refl
     kind_alone (Own y age) w' (Some o) e word fits = let none : Some w ≡ None = sym e ∙ word in cc
     kind_alone (Maybe y age) w' (Some o) e word fits = let none : Some w ≡ None = sym e ∙ word in cc
     kind_alone _ w' _ e word fits = absurd (assumption tt)
-
-    go : (ls : List Layer) → tasks_of ls ≡ Run fr ∷ ts → Good p t s.cells ls → held s.cells (Register (length ts) i) ≡ None
-    go (Method fr' sh ∷ ls) e good =
-        let same : fr' ≡ fr = cc in
-        let rest : tasks_of ls ≡ ts = cc in
-        let q = Register (length (tasks_of ls)) i in
-        let claims = claim_register p (declared p s.cells) fr' sh ls i in
-        let none = kind_alone (register sh i) (word fr' i) (held s.cells q) (ap (λ (f : Frame). word f i) same ∙ has) (good.stack.1.words i) (subst (Fits p (held s.cells) (held s.cells q)) claims (good.fits q)) in
-        subst (λ us. held s.cells (Register (length us) i) ≡ None) rest none
-    go _ e good = cc
 
 module _ (p : Image) (m : Parts) (h : At_hand p m) (f : Held_frame) (a : ℕ) where
   abbrev s : State
@@ -436,8 +421,7 @@ module _ (p : Image) (m : Parts) (refused : List ℕ) (a : ℕ) where
       at_end : (y : Held_dispatch) (ms : List Held_task) (d : Dispatch) (ts : List Task) → dispatch_of y ≡ d → SameTasks ms ts → ts ≡ [] → WellTyped p h.typing (record h.state { tasks = Dispatched d ∷ ts; items = below_top h.state.items })
           → Agrees p (record m { stack = record m.stack { tasks = Ends y ∷ ms }; entries = es }) (record h.state { tasks = Dispatched d ∷ ts; items = below_top h.state.items })
       at_end y [] d [] same below last typed = ended p m es h.state y d h.agrees marked same (closing p h.typing _ d typed refl)
-      at_end y (k ∷ ms) d [] same below last typed = absurd below
-      at_end y ms d (t ∷ ts) same below last typed = cc
+      at_end y _ d _ same below last typed = absurd (grind arith)
 
       go : (ms : List Held_task) (ts : List Task) → SameTasks ms ts → IsEnding (below_first ms) → IsTrapped ms → WellTyped p h.typing (returned p h.frame ts h.state (gives_of p h.frame.method) a ts)
           → Agrees p (record m { stack = record m.stack { tasks = below_first ms }; entries = es }) (returned p h.frame ts h.state (gives_of p h.frame.method) a ts)

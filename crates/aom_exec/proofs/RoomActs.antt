@@ -311,11 +311,10 @@ module _ (p : Image) (t : Typing) (depth heights : ℕ → ℕ) (tables : Tables
     low_below some = go h.shape.entries s.items high some
       where
         go : (es : List Pushed_entry) (items : List Item) → length items ≡ length (objects es h.below) → not (no_entry es) ≡ true → AllLow (length (below_top items)) (Run fr ∷ ts)
-        go [] items same some = absurd (true≢false (sym some))
-        go (e ∷ es) [] same some = absurd (omega (arith, same))
         go (e ∷ es) (i ∷ items) same some =
             let le : fr.height ≤ length items = omega (arith, same, h.height, length_objects es h.below) in
             (le, lower fr.height (length items) ts le h.low)
+        go _ _ same some = absurd cc
 
     pop_room : (a : ℕ) → not (no_entry h.shape.entries) ≡ true → After (Popped a)
     pop_room a some = go s.items (low_below some) w

@@ -1,4 +1,5 @@
 -- Each move of a well-typed state keeps the room that a run needs.
+use Rattle.std.proofs.lemmas.Option.{same_Some}
 use Rattle.std.proofs.Common.{Bool, List, None, Option, Some, [], arith, false, length, subst, sym, true, ℕ, ℤ, ◌∙◌, ◌∷◌, ◌≡◌}
 use Rattle.aom_image.specs.Image.{Image}
 use Rattle.aom_image.specs.Views.{instr_at}
@@ -60,13 +61,10 @@ module _ (p : Image) (t : Typing) (depth heights : ℕ → ℕ) (tables : Tables
   acts typed c s w room fr ts i e at there fits =
       let h = stands_here p t s fr ts w at in
       let x = typed.each fr.method fr.place h.shape h.there in
-      let is : x.instr ≡ i = some_same x.instr i (sym x.stands ∙ there) in
+      let is : x.instr ≡ i = same_Some x.instr i (sym x.stands ∙ there) in
       acts_room p t depth heights tables c fr ts (counted p s) w.undos at (again h) (subst (λ us. Roomy p depth heights s.cells s.items us) at room) i there
       (subst (λ j. AllTrue (rule_needs p fr.method fr.place h.shape j)) is x.needs) (subst (λ j. AllLead t fr.method (flows p fr.method fr.place h.shape j)) is x.flows) e fits
     where
-      some_same : (x y : Instr) → Some x ≡ Some y → x ≡ y
-      some_same x y e = cc
-
       -- what a move counts is no part of it
       again : Stands_here p t s fr ts → Stands_here p t (counted p s) fr ts
       again h = record { shape = h.shape; below = h.below; there = h.there; items = h.items; height = h.height; low = h.low; low_under = h.low_under; fits = h.fits; free = h.free }

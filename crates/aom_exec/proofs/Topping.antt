@@ -15,15 +15,16 @@ use Rattle.aom_cleanup.specs.declared.item.Item.TheVariants.{Object as Holds_obj
 use Rattle.aom_shape.specs.Typing.{Typing}
 use Rattle.aom_shape.specs.declared.kind.Entry.{Entry as Pushed}
 use Rattle.aom_sound.specs.Calls.{is_level, needs_target, result_needs, result_register}
-use Rattle.aom_sound.specs.Claims.{Layer, Method, Mark, Form, Mark_form, forms, items_of, objects, tasks_of}
+use Rattle.aom_sound.specs.Claims.{Method, Form, Mark_form, forms, items_of, objects}
 use Rattle.aom_sound.specs.Cleanup.{tops_entry, tops_object, top_is_whole}
 use Rattle.aom_sound.specs.Places.{Entry, Object, held}
-use Rattle.aom_sound.specs.State.{Frame, Task, Run, Trapped, Destroy, Unwind, Dispatched, Item, An_object, An_operation, A_mark, State}
+use Rattle.aom_sound.specs.State.{Frame, Task, Run, Trapped, Item, An_object, A_mark, State}
 use Rattle.aom_sound.specs.WellTyped.{Good, LeavesNone, WellTyped}
 use Rattle.aom_sound.proofs.Finishing.{all_parts}
+use Rattle.aom_sound.proofs.Layers.{mark_layer, method_layer}
 use Rattle.aom_frames.specs.Tasks.{Runs, method_here, place_here, below_first}
 use Rattle.aom_frames.specs.declared.task.Task.{Task as Held_task}
-use Rattle.aom_frames.specs.declared.task.Task.TheVariants.{Run as Runs_frame, Trapped as Is_trap, Destroy as Destroys, Unwind as Unwinds, Dispatched as Ends}
+use Rattle.aom_frames.specs.declared.task.Task.TheVariants.{Run as Runs_frame, Trapped as Is_trap, Dispatched as Ends}
 use Rattle.aom_exec.specs.declared.parts.Parts.{Parts}
 use Rattle.aom_exec.specs.Acts.{requested}
 use Rattle.aom_exec.specs.Agrees.{SameItems, SameTasks, number, Agrees}
@@ -41,16 +42,11 @@ use Rattle.aom_exec.proofs.Stepping.{at_step}
 pub entry_tops : (is : List Held_item) (js : List Item) → SameItems is js → tops_entry js ≡ true → IsAboveMark is
 entry_tops (Holds_object n ∷ is) (j ∷ js) same e = tt
 entry_tops (Holds_operation k n ∷ is) (j ∷ js) same e = tt
-entry_tops is [] same e = cc
-entry_tops is (A_mark ∷ js) same e = cc
-entry_tops _ _ same e = absurd (assumption tt)
+entry_tops is _ same e = absurd (grind arith)
 
 pub object_tops : (is : List Held_item) (js : List Item) → SameItems is js → tops_object js ≡ true → TopsObject is
-object_tops [] (An_object ∷ js) same e = absurd same
 object_tops (Holds_object n ∷ is) (An_object ∷ js) same e = tt
-object_tops (Holds_operation k n ∷ is) (An_object ∷ js) same e = absurd same.0
-object_tops (Is_mark ∷ is) (An_object ∷ js) same e = absurd same.0
-object_tops is _ same e = cc
+object_tops _ _ same e = absurd (grind arith)
 
 -- an object that is last lives
 pub top_lives : (p : Image) (m : Parts) (t : Typing) (s : State) → WellTyped p t s → Agrees p m s → top_is_whole s.cells s.items ≡ true → TopLives m
@@ -69,10 +65,8 @@ top_lives p m t s typed agrees whole = go m.entries.items s.items refl agrees.en
     go [] js was same whole = tt
     go (Holds_operation k n ∷ is) js was same whole = tt
     go (Is_mark ∷ is) js was same whole = tt
-    go (Holds_object n ∷ is) [] was same whole = absurd same
     go (Holds_object n ∷ is) (An_object ∷ js) was same whole = of_object n is js was same.1 (held s.cells (Entry (length js))) refl whole
-    go (Holds_object n ∷ is) (An_operation k w ∷ js) was same whole = absurd same.0
-    go (Holds_object n ∷ is) (A_mark ∷ js) was same whole = absurd same.0
+    go _ _ was same whole = absurd (assumption tt)
 
 module _ (p : Image) (m : Parts) where
   pub pops_object : (a : ℕ) → IsNext p (Pop a) m → TopsObject m.entries.items
@@ -120,28 +114,21 @@ length_forms [] = refl
 length_forms (j ∷ js) = ap suc (length_forms js)
 
 mark_tops : (is : List Held_item) (js : List Item) (fs : List Form) → SameItems is js → forms js ≡ Mark_form ∷ fs → IsMarked is
-mark_tops [] (A_mark ∷ js) fs same e = absurd same
-mark_tops (Holds_object n ∷ is) (A_mark ∷ js) fs same e = absurd same.0
-mark_tops (Holds_operation k n ∷ is) (A_mark ∷ js) fs same e = absurd same.0
 mark_tops (Is_mark ∷ is) (A_mark ∷ js) fs same e = tt
-mark_tops is _ fs same e = cc
+mark_tops _ _ fs same e = absurd (grind arith)
 
 level : (p : Image) (fr : Frame) (ts : List Task) (s : State) (g : Gives) → LeavesNone g → is_level p fr ts s g ≡ true → length s.items ≡ fr.height
 level p fr ts s (Left c) none e = absurd none
 level p fr ts s _ none e = eqb-true (length s.items) fr.height e
 
 marked_under : (p : Image) (t : Typing) (s : State) (fr : Frame) (ts : List Task) (is : List Held_item) → WellTyped p t s → s.tasks ≡ Run fr ∷ Trapped ∷ ts → SameItems is s.items → is_level p fr (Trapped ∷ ts) s (gives_of p fr.method) ≡ true → IsMarked is
-marked_under p t s fr ts is typed top same flat = go typed.layers (sym typed.tasks ∙ top) typed.items typed.good
-  where
-    go : (ls : List Layer) → tasks_of ls ≡ Run fr ∷ Trapped ∷ ts → forms s.items ≡ items_of ls → Good p t s.cells ls → IsMarked is
-    go (Method fr' sh ∷ Mark gv ∷ ls) e items good =
-        let alike : fr' ≡ fr = cc in
-        let mark = good.stack.4.0 in
-        let none : LeavesNone (gives_of p fr.method) = subst (λ (f : Frame). LeavesNone (gives_of p f.method)) alike (subst LeavesNone (sym mark.0) mark.1) in
-        let height : fr.height ≡ suc (length (items_of ls)) = sym (ap (λ (f : Frame). f.height) alike) ∙ good.stack.1.height in
-        let even = sym (ap length items) ∙ length_forms s.items ∙ level p fr (Trapped ∷ ts) s (gives_of p fr.method) none flat ∙ height in
-        mark_tops is s.items (items_of ls) same (items ∙ no_more sh.entries (Mark_form ∷ items_of ls) even)
-    go _ e items good = cc
+marked_under p t s fr ts is typed top same flat =
+    method_layer (λ ls. (forms s.items ≡ items_of ls) × Good p t s.cells ls) fr (Trapped ∷ ts) typed.layers (sym typed.tasks ∙ top) (typed.items, typed.good) (λ sh ls under h.
+    mark_layer (λ ls. (forms s.items ≡ items_of (Method fr sh ∷ ls)) × Good p t s.cells (Method fr sh ∷ ls)) ts ls under h (λ gv ls _ h.
+    let mark = h.1.stack.4.0 in
+    let none : LeavesNone (gives_of p fr.method) = subst LeavesNone (sym mark.0) mark.1 in
+    let even = sym (ap length h.0) ∙ length_forms s.items ∙ level p fr (Trapped ∷ ts) s (gives_of p fr.method) none flat ∙ h.1.stack.1.height in
+    mark_tops is s.items (items_of ls) same (h.0 ∙ no_more sh.entries (Mark_form ∷ items_of ls) even)))
 
 pub finds_mark : (p : Image) (m : Parts) (a : ℕ) → IsNext p (Return a) m → IsTrapped (below_first m.stack.tasks) → IsMarked m.entries.items
 unfolding at_hand
@@ -155,17 +142,7 @@ finds_mark p m a next trapped =
     go : (fr : Frame) (ts : List Task) → next.stands.0.tasks ≡ Run fr ∷ ts → is_level p fr ts (requested (Return a) (at_step next.stands.0)) (gives_of p fr.method) ≡ true
         → (ms : List Held_task) → IsTrapped (below_first ms) → SameTasks ms (Run fr ∷ ts) → IsMarked m.entries.items
     go fr (Trapped ∷ ts) top flat (k ∷ Is_trap ∷ ms) trapped same = marked_under p next.stands.1.typing next.stands.0 fr ts m.entries.items next.stands.1.typed top next.stands.1.agrees.entries flat
-    go fr [] top flat (k ∷ Is_trap ∷ ms) trapped same = absurd same.1
-    go fr (Run g ∷ ts) top flat (k ∷ Is_trap ∷ ms) trapped same = absurd same.1.0
-    go fr (Destroy ∷ ts) top flat (k ∷ Is_trap ∷ ms) trapped same = absurd same.1.0
-    go fr (Unwind code ∷ ts) top flat (k ∷ Is_trap ∷ ms) trapped same = absurd same.1.0
-    go fr (Dispatched d ∷ ts) top flat (k ∷ Is_trap ∷ ms) trapped same = absurd same.1.0
-    go fr ts top flat [] trapped same = absurd trapped
-    go fr ts top flat (k ∷ []) trapped same = absurd trapped
-    go fr ts top flat (k ∷ Runs_frame f ∷ ms) trapped same = absurd trapped
-    go fr ts top flat (k ∷ Destroys x ∷ ms) trapped same = absurd trapped
-    go fr ts top flat (k ∷ Unwinds code ∷ ms) trapped same = absurd trapped
-    go fr ts top flat (k ∷ Ends d ∷ ms) trapped same = absurd trapped
+    go fr _ top flat _ trapped same = absurd (grind arith)
 
 -- an entry is last or not
 pub not_both : (is : List Held_item) → IsAboveMark is → IsNotAboveMark is → ⊥
@@ -180,9 +157,8 @@ coded_through p (Is_trap ∷ Runs_frame f ∷ ms) to trapped runs = to.2
 coded_through p _ to trapped runs = absurd (assumption tt)
 
 pub ends_under : (p : Image) (ms : List Held_task) → ReturnsTo p ms → IsTrapped ms → (Runs (below_first ms) → ⊥) → IsEnding (below_first ms)
-ends_under p (Is_trap ∷ Runs_frame f ∷ ms) to trapped stops = absurd (stops tt)
 ends_under p (Is_trap ∷ Ends d ∷ ms) to trapped stops = tt
-ends_under p _ to trapped stops = absurd (assumption tt)
+ends_under p _ to trapped stops = absurd (grind arith)
 
 -- it goes on there
 pub returns_within : (p : Image) (ms : List Held_task) → ReturnsTo p ms → Runs ms → IsSome (instr_at p (method_here ms) (place_here ms)) × ((place_here ms + 1) < 2 ^ 64)

@@ -14,17 +14,17 @@ use Rattle.aom_image.specs.declared.method.Gives.TheVariants.{Left, Maybe as A_m
 use Rattle.aom_cells.specs.Heap.{null}
 use Rattle.aom_cleanup.specs.Items.{Stack as Held_items, IsAboveMark, IsMarked}
 use Rattle.aom_cleanup.specs.declared.item.Item.{Item as Held_item}
-use Rattle.aom_cleanup.specs.declared.item.Item.TheVariants.{Object as Holds_object, Operation as Holds_operation, Mark as Is_mark}
+use Rattle.aom_cleanup.specs.declared.item.Item.TheVariants.{Mark as Is_mark}
 use Rattle.aom_shape.specs.Kinds.{register}
 use Rattle.aom_shape.specs.Tables.{at, put_at}
 use Rattle.aom_shape.specs.Typing.{Typing}
 use Rattle.aom_sound.proofs.View.{under_dispatch}
 use Rattle.aom_sound.specs.Calls.{below_top, called, result_register}
-use Rattle.aom_sound.specs.Claims.{Layer, Method, Mark, Unwinding, Dispatching, tasks_of, claim, declared}
+use Rattle.aom_sound.specs.Claims.{Method, Mark, Unwinding, tasks_of, claim, declared}
 use Rattle.aom_sound.specs.Cleanup.{arrival, code_told, dealt_with as deals_with, ended_by, top_is_whole, tops_entry, unwound}
 use Rattle.aom_sound.specs.Laws.{IsWired}
 use Rattle.aom_sound.specs.Places.{Place, Register, changed, held}
-use Rattle.aom_sound.specs.State.{Frame, Dispatch, Of_main, Main_left, Of_root, Task, Run, Trapped, Destroy, Unwind, Dispatched, Item, An_object, An_operation, A_mark, State, Goes, IsStuck, NullOrDead, next, set_word, word}
+use Rattle.aom_sound.specs.State.{Frame, Dispatch, Of_main, Main_left, Task, Run, Trapped, Unwind, Dispatched, Item, An_object, An_operation, A_mark, State, Goes, IsStuck, NullOrDead, next, set_word, word}
 use Rattle.aom_sound.specs.WellTyped.{Caught, EndsDispatch, Fits, Good, Keeps, WellTyped}
 use Rattle.aom_sound.specs.declared.line.Line.TheVariants.{Leave}
 use Rattle.aom_sound.proofs.Guarded.{goes_same}
@@ -32,11 +32,12 @@ use Rattle.aom_sound.specs.Tasks.{Below}
 use Rattle.aom_sound.specs.Traps.{AllAtTraps, at_traps}
 use Rattle.aom_sound.proofs.Straight.{claim_register, fits_unowning}
 use Rattle.aom_sound.proofs.Maps.{at-put_at}
+use Rattle.aom_sound.proofs.Layers.{dispatch_layer, leave_layer, mark_layer, method_layer}
 use Rattle.aom_lines.specs.Turn.{Turn}
 use Rattle.aom_frames.specs.Tasks.{Runs, method_here, place_here, below_first}
 use Rattle.aom_frames.specs.declared.frame.Frame.{Frame as Held_frame}
 use Rattle.aom_frames.specs.declared.task.Task.{Task as Held_task}
-use Rattle.aom_frames.specs.declared.task.Task.TheVariants.{Run as Runs_frame, Trapped as Is_trap, Destroy as Destroys, Unwind as Unwinds, Dispatched as Ends}
+use Rattle.aom_frames.specs.declared.task.Task.TheVariants.{Run as Runs_frame, Trapped as Is_trap, Unwind as Unwinds, Dispatched as Ends}
 use Rattle.aom_frames.specs.declared.task.Dispatch.TheVariants.{MainLeft}
 use Rattle.aom_exec.specs.declared.parts.Parts.{Parts}
 use Rattle.aom_exec.specs.Acts as acts
@@ -77,13 +78,9 @@ deals_move p m told above h u e typed = go m.entries.items h.state.items above h
     )
 
     go : (is : List Held_item) (js : List Item) → IsAboveMark is → SameItems is js → s.items ≡ js → unwound p h.code h.below s js ≡ Goes u → Agrees p (dealt_with p m) u × (told ≡ record told { lines = told.lines ++ arrival h.code s.items })
-    go is [] above same is' e = cc
-    go [] (A_mark ∷ js) above same is' e = absurd same
-    go (Holds_object n ∷ is) (A_mark ∷ js) above same is' e = absurd same.0
-    go (Holds_operation k n ∷ is) (A_mark ∷ js) above same is' e = absurd same.0
-    go (Is_mark ∷ is) (A_mark ∷ js) above same is' e = absurd above
     go is (An_object ∷ js) above same is' e = let w = whole_goes (top_is_whole s.cells (An_object ∷ js)) (deals_with p (An_object ∷ js) (Unwind h.code ∷ h.below) s) u e in done (An_object ∷ js) is' refl w.0 w.1 (ap (arrival h.code) is')
     go is (An_operation k w ∷ js) above same is' e = done (An_operation k w ∷ js) is' refl refl (goes_same (deals_with p (An_operation k w ∷ js) (Unwind h.code ∷ h.below) s) u e) (ap (arrival h.code) is')
+    go _ _ above same is' e = absurd (grind arith)
 
 -- ---- what the code needs to know there
 
@@ -114,10 +111,7 @@ module _ (p : Image) (m : Parts) (st : Stands (record { image = p; parts = m }))
     where
       go : (code : ℤ) (ts : List Task) (u : State) (is : List Held_item) (js : List Item) → (IsAboveMark is → ⊥) → SameItems is js → unwound p code ts (at_rest st.0) js ≡ Goes u → IsMarked is
       go code ts u (Is_mark ∷ is) js none same e = tt
-      go code ts u (Holds_object n ∷ is) js none same e = absurd (none tt)
-      go code ts u (Holds_operation k n ∷ is) js none same e = absurd (none tt)
-      go code ts u [] [] none same e = cc
-      go code ts u [] (j ∷ js) none same e = absurd same
+      go code ts u _ _ none same e = absurd (grind arith)
 
   beneath_it : (ts : List Task) × (code : ℤ) × ReturnsTo p (below_first m.stack.tasks) × IsTrapped (below_first m.stack.tasks)
   beneath_it =
@@ -132,16 +126,7 @@ module _ (p : Image) (m : Parts) (st : Stands (record { image = p; parts = m }))
 
       on_top : (ms : List Held_task) (ts : List Task) → SameTasks ms ts → IsTrapOnTop ts → IsTrapped ms
       on_top (Is_trap ∷ ms) (Trapped ∷ ts) same top = tt
-      on_top ms [] same top = absurd top
-      on_top ms (Run g ∷ ts) same top = absurd top
-      on_top ms (Destroy ∷ ts) same top = absurd top
-      on_top ms (Unwind c ∷ ts) same top = absurd top
-      on_top ms (Dispatched d ∷ ts) same top = absurd top
-      on_top [] (Trapped ∷ ts) same top = absurd same
-      on_top (Runs_frame f ∷ ms) (Trapped ∷ ts) same top = absurd same.0
-      on_top (Destroys x ∷ ms) (Trapped ∷ ts) same top = absurd same.0
-      on_top (Unwinds c ∷ ms) (Trapped ∷ ts) same top = absurd same.0
-      on_top (Ends d ∷ ms) (Trapped ∷ ts) same top = absurd same.0
+      on_top _ _ same top = absurd (grind arith)
 
       trap : (ms : List Held_task) (code : ℤ) (ts : List Task) → IsUnwinding ms → SameTasks ms (Unwind code ∷ ts) → IsTrapOnTop ts → IsTrapped (below_first ms)
       trap (Unwinds c ∷ ms) code ts unwinding same top = on_top ms ts same.1 top
@@ -171,35 +156,28 @@ calls_there p wired _ = tt
 -- what the result comes to owns nothing
 awaited_caught : (p : Image) (t : Typing) (s : State) (code : ℤ) (caller : Frame) (ts : List Task) → WellTyped p t s → s.tasks ≡ Unwind code ∷ Trapped ∷ Run caller ∷ ts → bears (called p (instr_at p caller.method caller.place)) ≡ true
     → held s.cells (Register (length ts) (result_register (instr_at p caller.method caller.place))) ≡ None
-awaited_caught p t s code caller ts typed top some = go typed.layers (sym typed.tasks ∙ top) typed.good
-  where
-    go : (ls : List Layer) → tasks_of ls ≡ Unwind code ∷ Trapped ∷ Run caller ∷ ts → Good p t s.cells ls → held s.cells (Register (length ts) (result_register (instr_at p caller.method caller.place))) ≡ None
-    go (Unwinding c es ∷ Mark gv ∷ Method caller' sh' ∷ ls) e good =
-        let below : caller' ≡ caller = cc in
-        let rest : tasks_of ls ≡ ts = cc in
-        let i = instr_at p caller'.method caller'.place in
-        let x = result_register i in
-        let q = Register (length (tasks_of ls)) x in
-        let caught = good.stack.1.1.0 in
-        let given : bears gv ≡ true = ap bears (sym caught.0) ∙ subst (λ (f : Frame). bears (called p (instr_at p f.method f.place)) ≡ true) (sym below) some in
-        let quiet = awaiting gv x sh' given caught.2 in
-        let claims : claim p (declared p s.cells) (Unwinding c es ∷ Mark gv ∷ Method caller' sh' ∷ ls) q ≡ register sh' x = claim_register p (declared p s.cells) caller' sh' ls x in
-        let none = fits_unowning p (held s.cells) (held s.cells q) (register sh' x) quiet (subst (Fits p (held s.cells) (held s.cells q)) claims (good.fits q)) in
-        subst (λ (f : Frame). held s.cells (Register (length ts) (result_register (instr_at p f.method f.place))) ≡ None) below (subst (λ us. held s.cells (Register (length us) x) ≡ None) rest none)
-    go _ e good = cc
+awaited_caught p t s code caller ts typed top some =
+    leave_layer (Good p t s.cells) code (Trapped ∷ Run caller ∷ ts) typed.layers (sym typed.tasks ∙ top) typed.good (λ es ls under good.
+    mark_layer (λ ls. Good p t s.cells (Unwinding code es ∷ ls)) (Run caller ∷ ts) ls under good (λ gv ls under good.
+    method_layer (λ ls. Good p t s.cells (Unwinding code es ∷ Mark gv ∷ ls)) caller ts ls under good (λ sh' ls rest good.
+    let x = result_register (instr_at p caller.method caller.place) in
+    let q = Register (length (tasks_of ls)) x in
+    let caught = good.stack.1.1.0 in
+    let quiet = awaiting gv x sh' (ap bears (sym caught.0) ∙ some) caught.2 in
+    let claims : claim p (declared p s.cells) (Unwinding code es ∷ Mark gv ∷ Method caller sh' ∷ ls) q ≡ register sh' x = claim_register p (declared p s.cells) caller sh' ls x in
+    let none = fits_unowning p (held s.cells) (held s.cells q) (register sh' x) quiet (subst (Fits p (held s.cells) (held s.cells q)) claims (good.fits q)) in
+    subst (λ us. held s.cells (Register (length us) x) ≡ None) rest none)))
 
 -- main's dispatch alone is left
 left_main : (p : Image) (t : Typing) (s : State) (code : ℤ) (d : Dispatch) (ts : List Task) → WellTyped p t s → s.tasks ≡ Unwind code ∷ Trapped ∷ Dispatched d ∷ ts → d ≡ Of_main
-left_main p t s code d ts typed top = go typed.layers (sym typed.tasks ∙ top) typed.good
+left_main p t s code d ts typed top =
+    leave_layer (Good p t s.cells) code (Trapped ∷ Dispatched d ∷ ts) typed.layers (sym typed.tasks ∙ top) typed.good (λ es ls under good.
+    mark_layer (λ ls. Good p t s.cells (Unwinding code es ∷ ls)) (Dispatched d ∷ ts) ls under good (λ gv ls under good.
+    dispatch_layer (λ ls. Good p t s.cells (Unwinding code es ∷ Mark gv ∷ ls)) d ts ls under good (λ ls _ good. which d gv good.stack.1.1.0)))
   where
     which : (d : Dispatch) (g : Gives) → EndsDispatch p d (Caught g) → d ≡ Of_main
     which Of_main g e = refl
-    which (Main_left c) g e = absurd e
-    which Of_root g e = absurd e
-
-    go : (ls : List Layer) → tasks_of ls ≡ Unwind code ∷ Trapped ∷ Dispatched d ∷ ts → Good p t s.cells ls → d ≡ Of_main
-    go (Unwinding c es ∷ Mark gv ∷ Dispatching x ∷ ls) e good = let same : x ≡ d = cc in sym same ∙ which x gv good.stack.1.1.0
-    go _ e good = cc
+    which _ g e = absurd e
 
 module _ (p : Image) (m : Parts) (s : State) (agrees : Agrees p m s) (es : Held_items) (marked : m.entries ≡ record es { items = Is_mark ∷ es.items }) (g : Held_frame) (ms : List Held_task) (caller : Frame) (ts : List Task) (same_frame : SameFrame g caller) (same_below : SameTasks ms ts) (x : ℕ) (coded : suc x < 16)
     (base : (r : Place) → Shows (value_in (Runs_frame g ∷ ms) m.cells es.items m.root r) (word_at (Run caller ∷ ts) r) (held s.cells r)) where
@@ -281,9 +259,7 @@ module _ (p : Image) (m : Parts) (es : Held_items) (marked : m.entries ≡ recor
     where
       go : (js : List Item) → SameItems (Is_mark ∷ es.items) js → (ks : List Item) × (js ≡ A_mark ∷ ks)
       go (A_mark ∷ ks) same = (ks, refl)
-      go [] same = absurd same
-      go (An_object ∷ ks) same = absurd same.0
-      go (An_operation k w ∷ ks) same = absurd same.0
+      go _ same = absurd (assumption tt)
 
   pub arrives_method : IsUnwinding m.stack.tasks → IsTrapped (below_first m.stack.tasks) → Runs under → suc (result_register (instr_at p (method_here under) (place_here under))) < 16
       → Unwinds_by p m (told p (instr_at p (method_here under) (place_here under)) (code_here m.stack.tasks) (record (with_tasks under m) { entries = es })) t said
@@ -343,8 +319,7 @@ module _ (p : Image) (m : Parts) (es : Held_items) (marked : m.entries ≡ recor
 
       alone : (ms : List Held_task) (ts : List Task) → SameTasks ms ts → ts ≡ [] → ms ≡ []
       alone [] ts same none = refl
-      alone (n ∷ ms) [] same none = absurd same
-      alone (n ∷ ms) (t ∷ ts) same none = cc
+      alone _ _ same none = absurd (grind arith)
 
       go : (us : List Held_task) (code : ℤ) (below : List Task) → s.tasks ≡ Unwind code ∷ below → IsUnwinding us → IsTrapped (below_first us) → IsEnding (below_first (below_first us)) → SameTasks us (Unwind code ∷ below)
           → (ks : List Item) → s.items ≡ A_mark ∷ ks → unwound p code below s (A_mark ∷ ks) ≡ Goes u → Done us code

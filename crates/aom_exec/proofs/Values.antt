@@ -28,8 +28,7 @@ slot_set none xs i j x small = cases (i == j)
 pub same_length : (ms : List Held_task) (ts : List Task) → SameTasks ms ts → length ms ≡ length ts
 same_length [] [] e = refl
 same_length (m ∷ ms) (t ∷ ts) e = ap suc (same_length ms ts e.1)
-same_length [] (t ∷ ts) e = absurd e
-same_length (m ∷ ms) [] e = absurd e
+same_length _ _ e = absurd e
 
 -- past the tasks at hand there is nothing
 pub register_past : (us : List Held_task) (d i : ℕ) → length us ≤ d → register_in us d i ≡ null

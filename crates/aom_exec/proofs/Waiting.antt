@@ -28,7 +28,6 @@ use Rattle.aom_sound.proofs.Moving.{steps_are_moves}
 use Rattle.aom_sound.proofs.Storing.{held_set_word}
 use Rattle.aom_sound.proofs.Straight.{register_fits}
 use Rattle.aom_sound.specs.Calls.{needs_each, needs_entering, needs_target, passed_cells, result_cells, returned}
-use Rattle.aom_sound.specs.Claims.{Layer, Method, tasks_of}
 use Rattle.aom_sound.specs.Cleanup.{to_trap, top_place}
 use Rattle.aom_sound.specs.Destruction.{begun_by}
 use Rattle.aom_classes.specs.Roles.{destructor_of}
@@ -40,6 +39,7 @@ use Rattle.aom_sound.specs.Steps.{Acts, Arrives, Clears, Comes_out, Ends, Fits a
 use Rattle.aom_sound.specs.WellTyped.{Fits, Good, WellTyped, WordFits}
 use Rattle.aom_sound.specs.Words.{here, stored}
 use Rattle.aom_sound.specs.World.{boot_state, main_tasks}
+use Rattle.aom_sound.proofs.Layers.{method_layer}
 use Rattle.aom_exec.specs.Acts.{requested}
 use Rattle.aom_exec.specs.Waits.{AllWait, KindSays, OthersWait, Waits, while_waiting}
 use Rattle.aom_exec.proofs.Depths.{held_apart}
@@ -50,14 +50,12 @@ use Rattle.aom_exec.proofs.Stepping.{at_step, step_of_instr}
 
 pub kind_says : (p : Image) (h : Place → Option Object) (k : Kind) (w : Option ℤ) (o : Option Object) → WordFits w k → Fits p h o k → KindSays p k w o
 kind_says p h Word (Some w) None words fits = (refl, refl)
-kind_says p h Word (Some w) (Some o) words fits = absurd fits
-kind_says p h Word None o words fits = absurd words
 kind_says p h Unset w None words fits = refl
 kind_says p h Null w None words fits = (words, refl)
 kind_says p h (Own t a) w (Some o) words fits = (words, refl, fits.0)
 kind_says p h (Maybe t a) w None words fits = (words, tt)
 kind_says p h (Maybe t a) w (Some o) words fits = (words, fits.0)
-kind_says p h _ w _ words fits = absurd fits
+kind_says p h _ _ _ words fits = absurd (assumption tt)
 
 -- ages are no part of it
 readied_says : (p : Image) (k : Kind) (w : Option ℤ) (o : Option Object) → KindSays p k w o → KindSays p (readied k) w o
@@ -191,21 +189,14 @@ pub record RunsTyped (p : Image) (t : Typing) (cs : List Cell) (fr : Frame) (ts 
   pub says : (i : ℕ) → KindSays p (register shape i) (word fr i) (held cs (Register (length ts) i))
 
 pub runs_typed : (p : Image) (t : Typing) (s : State) (fr : Frame) (ts : List Task) → WellTyped p t s → s.tasks ≡ Run fr ∷ ts → RunsTyped p t s.cells fr ts
-runs_typed p t s fr ts w top = go w.layers (sym w.tasks ∙ top) w.good
-  where
-    go : (ls : List Layer) → tasks_of ls ≡ Run fr ∷ ts → Good p t s.cells ls → RunsTyped p t s.cells fr ts
-    go (Method fr' sh ∷ ls) e good =
-        let same : fr' ≡ fr = cc in
-        let under : tasks_of ls ≡ ts = cc in
-        record {
-          shape = sh;
-          typed = subst (λ (f : Frame). shape_at t f.method f.place ≡ Some sh) same good.stack.0;
-          says = λ i.
-              subst (λ (f : Frame). KindSays p (register sh i) (word f i) (held s.cells (Register (length ts) i))) same
-              (subst (λ us. KindSays p (register sh i) (word fr' i) (held s.cells (Register (length us) i))) under
-              (kind_says p (held s.cells) (register sh i) (word fr' i) _ (good.stack.1.words i) (register_fits p s.cells fr' sh ls good.fits i)));
-        }
-    go _ e good = cc
+runs_typed p t s fr ts w top = method_layer (λ ls. Good p t s.cells ls) fr ts w.layers (sym w.tasks ∙ top) w.good (λ sh ls under good.
+    record {
+      shape = sh;
+      typed = good.stack.0;
+      says = λ i.
+          subst (λ us. KindSays p (register sh i) (word fr i) (held s.cells (Register (length us) i))) under
+          (kind_says p (held s.cells) (register sh i) (word fr i) _ (good.stack.1.words i) (register_fits p s.cells fr sh ls good.fits i));
+    })
 
 -- ---- moves
 

@@ -89,12 +89,7 @@ unpriced bytes (faults.Verify refusal) out errors status refuses early complete 
     other : faults.Verify refusal ≡ faults.Memory → ⊥
     other e = cc
 unpriced bytes faults.Memory out errors status refuses early complete silent told = subst (PricesAnswers bytes out errors) (sym told.0) (inl (record { silent = silent; tells = told.1 }))
-unpriced bytes (faults.Budget fault) out errors status refuses early complete silent told = absurd early
-unpriced bytes (faults.Asm fault) out errors status refuses early complete silent told = absurd refuses
-unpriced bytes (faults.Script fault) out errors status refuses early complete silent told = absurd refuses
-unpriced bytes faults.Native out errors status refuses early complete silent told = absurd refuses
-unpriced bytes faults.File out errors status refuses early complete silent told = absurd refuses
-unpriced bytes faults.Write out errors status refuses early complete silent told = absurd refuses
+unpriced bytes _ out errors status refuses early complete silent told = absurd (assumption tt)
 
 -- ---- a checked image
 

@@ -28,11 +28,4 @@ listed bytes text out errors status lists (inr fails) = subst (DisAnswers bytes 
 pub unlisted : (bytes : List ℕ) (fault : Fault) (out errors : Sent) (status : ExitStatus) → RefusesBytes bytes fault → IsSilent out → Told fault status errors → DisAnswers bytes out errors status
 unlisted bytes (faults.Load fault) out errors status refuses silent told = subst (DisAnswers bytes out errors) (sym told.0) (record { silent = silent; fault = fault; refuses = refuses; tells = told.1 })
 unlisted bytes faults.Memory out errors status refuses silent told = subst (DisAnswers bytes out errors) (sym told.0) (wants_memory silent told.1)
-unlisted bytes (faults.Asm fault) out errors status refuses silent told = absurd refuses
-unlisted bytes (faults.Link fault) out errors status refuses silent told = absurd refuses
-unlisted bytes (faults.Verify refusal) out errors status refuses silent told = absurd refuses
-unlisted bytes (faults.Budget fault) out errors status refuses silent told = absurd refuses
-unlisted bytes (faults.Script fault) out errors status refuses silent told = absurd refuses
-unlisted bytes faults.Native out errors status refuses silent told = absurd refuses
-unlisted bytes faults.File out errors status refuses silent told = absurd refuses
-unlisted bytes faults.Write out errors status refuses silent told = absurd refuses
+unlisted bytes _ out errors status refuses silent told = absurd refuses

@@ -140,11 +140,7 @@ turned bytes (faults.Budget fault) out errors status refuses complete silent tol
     other : faults.Budget fault ≡ faults.Memory → ⊥
     other e = cc
 turned bytes faults.Memory out errors status refuses complete silent told = inr (told.0, record { silent = silent; tells = told.1 })
-turned bytes (faults.Asm fault) out errors status refuses complete silent told = absurd refuses
-turned bytes (faults.Script fault) out errors status refuses complete silent told = absurd refuses
-turned bytes faults.Native out errors status refuses complete silent told = absurd refuses
-turned bytes faults.File out errors status refuses complete silent told = absurd refuses
-turned bytes faults.Write out errors status refuses complete silent told = absurd refuses
+turned bytes _ out errors status refuses complete silent told = absurd refuses
 
 to_run : (bytes text : List ℕ) (out errors : Sent) (status : ExitStatus) → Turned bytes out errors status → RunAnswers bytes text out errors status
 to_run bytes text out errors status (inl refused) = subst (RunAnswers bytes text out errors) (sym refused.0) refused.1

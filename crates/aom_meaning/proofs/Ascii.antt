@@ -89,9 +89,8 @@ plain_joined (p ∷ q ∷ ps) is =
 module _ {X : Type 0} (Says : List ℕ → X → Type 0) (plain : (w : List ℕ) (x : X) → Says w x → list_all is_plain w ≡ true) where
   plain_parts : (ps : List (List ℕ)) (xs : List X) → Pairwise Says ps xs → list_all (list_all is_plain) ps ≡ true
   plain_parts [] [] each = refl
-  plain_parts [] (x ∷ xs) each = absurd each
-  plain_parts (p ∷ ps) [] each = absurd each
   plain_parts (p ∷ ps) (x ∷ xs) each = rw (plain p x each.0, plain_parts ps xs each.1)
+  plain_parts _ _ each = absurd each
 
   pub plain_list : (w : List ℕ) (xs : List X) → Elements Says (bytes_eq w (codes "-")) w xs → list_all is_plain w ≡ true
   plain_list w xs is = go (bytes_eq w (codes "-")) refl is

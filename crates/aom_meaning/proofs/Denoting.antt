@@ -58,8 +58,6 @@ record Others (names : Names) (kinds : List ClassDecl) (ts : List MethodText) (m
 
 other_methods : (names : Names) (kinds others : List ClassDecl) (ts : List MethodText) (ms : List Method) → Pairwise (MethodMeans names true kinds) ts ms → Others names others ts ms
 other_methods names kinds others [] [] means = record { others = []; means = tt; count = refl; bytes = refl }
-other_methods names kinds others [] (m ∷ ms) means = absurd means
-other_methods names kinds others (t ∷ ts) [] means = absurd means
 other_methods names kinds others (t ∷ ts) (m ∷ ms) means =
     let one = means.0 in
     let b = beside_others names kinds others t.heading (heading_of m) one.heading in
@@ -75,6 +73,7 @@ other_methods names kinds others (t ∷ ts) (m ∷ ms) means =
       count = omega arith;
       bytes = omega arith;
     }
+other_methods names kinds others _ _ means = absurd means
 
 -- a program says much the same beside other classes
 record SaysBeside (names : Names) (kinds : List ClassDecl) (text : Source) (h : Header) (cs : List ClassDecl) : Type 0 where
@@ -109,9 +108,8 @@ says_beside names kinds others text h cs ms says =
 
 class_count : (names : Names) (natives : ℕ) (ts : List ClassText) (cs : List ClassDecl) → Pairwise (ClassMeans names natives) ts cs → length (map (λ t. t.name) ts) ≡ length cs
 class_count names natives [] [] means = refl
-class_count names natives [] (c ∷ cs) means = absurd means
-class_count names natives (t ∷ ts) [] means = absurd means
 class_count names natives (t ∷ ts) (c ∷ cs) means = let rest = class_count names natives ts cs means.1 in omega arith
+class_count names natives _ _ means = absurd means
 
 module _ (last : ℕ) (text : Source) (b : Bool) (kinds : List ClassDecl) (h : Header) (cs : List ClassDecl) (ms : List Method) (says : Says (names_of text) b kinds text h cs ms) where
   abbrev whole : Program

@@ -112,9 +112,8 @@ version_reads ws other = record { reads = ap (λ p. if p.0 then next (number 2 2
 module _ {names : Names} {scope : Scope} (looks : LooksUp names scope) where
   root_reads : (said : Option (List ℕ)) (root : Option ℕ) → SaidOrNone (IsNumbered names.classes) said root → Whole (optional_root scope) (part k.Root said) root
   root_reads None None is = record { reads = refl }
-  root_reads None (Some c) is = absurd is
-  root_reads (Some w) None is = absurd is
   root_reads (Some w) (Some c) is = record { reads = ends _ (takes_class looks w c is) refl }
+  root_reads _ _ is = absurd is
 
   pub header_reads : (t : HeaderText) (h : Header) → HeaderMeans names t h → Whole (image_statement scope) (header_words t) h
   header_reads t h means =

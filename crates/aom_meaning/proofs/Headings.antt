@@ -221,9 +221,8 @@ module _ {names : Names} {scope : Scope} (looks : LooksUp names scope) where
   class_reads : (said : Option (List ℕ)) (c : Option ℕ) (rest : List (List ℕ)) → SaidOrNone (IsNumbered names.classes) said c → NotNext k.Of rest
       → Leaves (optional_class scope) (part k.Of said ++ rest) c rest
   class_reads None None rest says other = record { reads = ap (λ p. if p.0 then (class scope p.1 >>= λ x. Ok (Some x.0, x.1)) else Ok (None, p.1)) other.left }
-  class_reads None (Some c) rest says other = absurd says
-  class_reads (Some w) None rest says other = absurd says
   class_reads (Some w) (Some c) rest says other = record { reads = ap (λ e. e >>= λ x. Ok (Some x.0, x.1)) ((takes_class looks w c says).reads rest) }
+  class_reads _ _ rest says other = absurd says
 
   takes_thing : (w : List ℕ) (t : Thing) → IsThing names w t → Takes (thing scope) (w ∷ []) t
   takes_thing w t is = takes_seen (thing_reads looks w t is)

@@ -130,8 +130,6 @@ has_label (Some l) n ws = ap label_or_none (label_cut l)
 
 pub labels_there : (code : List InstructionText) (left : List (List (List ℕ))) (labels : List (List ℕ)) (ss : List Statement)
     → all_words ss ≡ map instruction_words code ++ (end_words ∷ left) → labels_until labels ss ≡ labels ++ labels_of code
-labels_there [] left labels [] words = absurd cc
-labels_there (t ∷ ts) left labels [] words = absurd cc
 labels_there [] left labels (s ∷ ss) words =
     let here : s.words ≡ end_words = cc in
     ap (λ ws. if is_end ws then labels else labels_until (labels ++ label_in ws ∷ []) ss) here ∙ sym (append-nil labels)
@@ -143,6 +141,7 @@ labels_there (t ∷ ts) left labels (s ∷ ss) words =
     ∙ ap (λ l. labels_until (labels ++ l ∷ []) ss) (has_label t.label t.mnemonic t.operands)
     ∙ labels_there ts left (labels ++ label_or_none t.label ∷ []) ss behind
     ∙ append_assoc labels (label_or_none t.label ∷ []) (labels_of ts)
+labels_there _ left labels _ words = absurd cc
 
 -- each label is found at the place of its instruction
 abbrev pub LabelsPlaced : List (List ℕ) → ℕ → List InstructionText → Type 0

@@ -151,8 +151,6 @@ module _ (last : ℕ) (names : Names) (h : Header) (b : Bool) (kinds : List Clas
     code_goes ms t m done [] [] size left ss few means placed enough words =
         let same : size ≡ size + 8 * 0 = omega arith in
         stays ss (ap (λ l. open_method ms t m l size) (sym (append-nil done)) ∙ ap (λ n. open_method ms t m (done ++ []) n) same) words
-    code_goes ms t m done [] (i ∷ todo) size left ss few means placed enough words = absurd means
-    code_goes ms t m done (one ∷ ts) [] size left ss few means placed enough words = absurd means
     code_goes ms t m done (one ∷ ts) (i ∷ todo) size left ss few means placed enough words =
         let count : length (done ++ i ∷ []) ≡ length done + 1 = length_push done i in
         let summed : (size + 8) + 8 * length todo ≡ size + 8 * suc (length todo) = omega arith in
@@ -161,6 +159,7 @@ module _ (last : ℕ) (names : Names) (h : Header) (b : Bool) (kinds : List Clas
         (λ rest behind. code_step ms t m done one i size rest (omega arith) means.0 placed.0 (omega arith)))
         (λ rest behind. arrives (ap (λ l. open_method ms t m l ((size + 8) + 8 * length todo)) (append_assoc done (i ∷ []) todo) ∙ ap (λ n. open_method ms t m (done ++ i ∷ todo) n) summed)
         (code_goes ms t m (done ++ i ∷ []) ts todo (size + 8) left rest (omega arith) means.1 (subst (λ n. LabelsPlaced (labels_of t.code) n ts) (sym count) placed.1) (omega arith) behind))
+    code_goes ms t m done _ _ size left ss few means placed enough words = absurd means
 
     method_goes : (ms : List Method) (t : MethodText) (m : Method) (size : ℕ) (left : List (List (List ℕ))) (ss : List Statement) → length ms < 1024 → MethodMeans names b kinds t m
         → place_of t.heading.name names.methods ≡ Some (length ms) → size + spelled m ≤ 2 ^ 20
@@ -192,9 +191,6 @@ module _ (last : ℕ) (names : Names) (h : Header) (b : Bool) (kinds : List Clas
       let same : size ≡ size + 28 * 0 + sum_by spelled [] = omega arith in
       stays ss (ap (λ l. read_so_far h l ms None size) (sym (append-nil cs)) ∙ ap (λ l. read_so_far h (cs ++ []) l None size) (sym (append-nil ms)) ∙ ap
       (λ n. read_so_far h (cs ++ []) (ms ++ []) None n) same) words
-  declarations_go [] cs [] ms (m ∷ left) size ss classes methods cp mp few servers short enough words = absurd methods
-  declarations_go [] cs (c ∷ todo) ms left size ss classes methods cp mp few servers short enough words = absurd classes
-  declarations_go (source.class t ∷ ds) cs [] ms left size ss classes methods cp mp few servers short enough words = absurd classes
   declarations_go (source.class t ∷ ds) cs (c ∷ todo) ms left size ss classes methods cp mp few servers short enough words =
       let count : length (cs ++ c ∷ []) ≡ length cs + 1 = length_push cs c in
       let again : (cs ++ c ∷ []) ++ todo ≡ cs ++ c ∷ todo = append_assoc cs (c ∷ []) todo in
@@ -206,7 +202,6 @@ module _ (last : ℕ) (names : Names) (h : Header) (b : Bool) (kinds : List Clas
       (λ rest behind. arrives (ap (λ l. read_so_far h l (ms ++ left) None ((size + 28) + 28 * length todo + sum)) again ∙ ap (λ n. read_so_far h (cs ++ c ∷ todo) (ms ++ left) None n) summed)
       (declarations_go ds (cs ++ c ∷ []) todo ms left (size + 28) rest classes.1 methods (subst (λ n. Placed names.classes n (map (λ t. t.name) (classes_of ds))) (sym count) cp.1) mp
       (omega arith) (subst (λ l. count_by is_server l ≤ 8) (sym again) servers) short (omega arith) behind))
-  declarations_go (source.method t ∷ ds) cs todo ms [] size ss classes methods cp mp few servers short enough words = absurd methods
   declarations_go (source.method t ∷ ds) cs todo ms (m ∷ left) size ss classes methods cp mp few servers short enough words =
       let count : length (ms ++ m ∷ []) ≡ length ms + 1 = length_push ms m in
       let again : (ms ++ m ∷ []) ++ left ≡ ms ++ m ∷ left = append_assoc ms (m ∷ []) left in
@@ -219,3 +214,4 @@ module _ (last : ℕ) (names : Names) (h : Header) (b : Bool) (kinds : List Clas
       (λ n. read_so_far h (cs ++ todo) (ms ++ m ∷ left) None n) summed)
       (declarations_go ds cs todo (ms ++ m ∷ []) left (size + spelled m) rest classes methods.1 cp (subst (λ n. Placed names.methods n (map (λ t. t.heading.name) (methods_of ds))) (sym count) mp.1)
       few servers (omega arith) (omega arith) behind))
+  declarations_go _ cs _ ms _ size ss classes methods cp mp few servers short enough words = absurd (assumption tt)

@@ -149,13 +149,12 @@ module _ {X : Type 0} (most : ℕ) (one : List ℕ → Result X AsmFaultKind) (S
   module _ (reads : (w : List ℕ) (x : X) → Says w x → Reads one w x) where
     parts_read : (ps : List (List ℕ)) (front xs : List X) → length front + length xs ≤ most → Pairwise Says ps xs → elements most one front ps ≡ Ok (front ++ xs)
     parts_read [] front [] few each = ap Ok (sym (append-nil front))
-    parts_read [] front (x ∷ xs) few each = absurd each
-    parts_read (p ∷ ps) front [] few each = absurd each
     parts_read (p ∷ ps) front (x ∷ xs) few each =
         ap (λ b. if b then (one p >>= λ y. elements most one (front ++ y ∷ []) ps) else Err LimitPassed) (lt-ltb (length front) most (omega arith))
         ∙ ap (λ e. e >>= λ y. elements most one (front ++ y ∷ []) ps) (reads p x each.0).says
         ∙ parts_read ps (front ++ x ∷ []) xs (omega (arith, length-append front (x ∷ []))) each.1
         ∙ ap Ok (append_assoc front (x ∷ []) xs)
+    parts_read _ front _ few each = absurd each
 
     whole_read : (w : List ℕ) (xs : List X) (b : Bool) → length xs ≤ most → Elements Says b w xs → (if b then Ok [] else elements most one [] (slice_split (λ b. b == 44) w)) ≡ Ok xs
     whole_read w xs true few none = ap Ok (sym none)

@@ -87,11 +87,10 @@ module _ (p : Image) (t : Typing) (m from end : ℕ) (h : ℕ → ℕ) where
 
   place_met : (place : ℕ) → from < place → place ≤ end → (s : Option Shape) (o : Option Instr) → shape_at t m place ≡ s → instr_at p m place ≡ o → 0 < place_out place s o → Met (place_out place s o)
   unfolding place_out
-  place_met place after upto None o es eo some = absurd (omega (arith, some))
-  place_met place after upto (Some sh) None es eo some = absurd (omega (arith, some))
   place_met place after upto (Some sh) (Some i) es eo some =
       let w = flows_met end h (flows p m place sh i) some in
       (w.0, record { place = place; inside = (after, upto); shape = sh; instr = i; stands = record { shape = es; instr = eo }; flow = w.1; outside = w.2 }, w.3)
+  place_met place after upto _ _ es eo some = absurd (omega (arith, some))
 
   body_met : (n : ℕ) → n ≤ suc end → 0 < body_out n → Met (body_out n)
   unfolding body_out

@@ -72,17 +72,9 @@ same_depth d t e u same = cc
 -- where the nexts stand: that of depth 1 at 4, and that of depth 0 at 5
 next_place : (to d back : ℕ) → instr_at worked 0 to ≡ Some (Next d back) → to + d ≡ 5
 unfolding method_at instr_in
-next_place zero d back e = cc
-next_place (suc zero) d back e = cc
-next_place (suc (suc zero)) d back e = cc
-next_place (suc (suc (suc zero))) d back e = cc
 next_place (suc (suc (suc (suc zero)))) d back e = omega (arith, same_depth 1 2 d back e)
 next_place (suc (suc (suc (suc (suc zero))))) d back e = omega (arith, same_depth 0 1 d back e)
-next_place (suc (suc (suc (suc (suc (suc zero)))))) d back e = cc
-next_place (suc (suc (suc (suc (suc (suc (suc zero))))))) d back e = cc
-next_place (suc (suc (suc (suc (suc (suc (suc (suc zero)))))))) d back e = cc
-next_place (suc (suc (suc (suc (suc (suc (suc (suc (suc zero))))))))) d back e = cc
-next_place (suc (suc (suc (suc (suc (suc (suc (suc (suc (suc k)))))))))) d back e = cc
+next_place _ d back e = absurd (grind arith)
 
 inner_end : (to : ℕ) → instr_at worked 0 to ≡ Some (Next 1 2) → to ≡ 4
 inner_end to e = omega (arith, next_place to 1 2 e)

@@ -82,12 +82,10 @@ module _ (p : Image) (t : Typing) (wired : IsWired p) (linked : IsLinked p) (typ
           (dealt_with (choose s) i (es ++ (A_mark ∷ items)) course at l.stack next.1 r.0.stack r.1) r.0)
 
       go : (ts : List Task) → s.tasks ≡ ts → IsOver p (length s.items) code below ts → Comes_from s
-      go [] at o = absurd o
       go (Run fr ∷ ts) at o = over (Run fr) ts at (λ top. let clash : Run fr ∷ ts ≡ Unwind code ∷ below = sym at ∙ top in cc)
-      go (Trapped ∷ ts) at o = absurd o
       go (Destroy ∷ ts) at o = over Destroy ts at (λ top. let clash : Destroy ∷ ts ≡ Unwind code ∷ below = sym at ∙ top in cc)
       go (Unwind x ∷ ts) at o = turns rest all l (at ∙ ap (λ y. Unwind y ∷ ts) o.0 ∙ ap (λ b. Unwind code ∷ b) o.1)
-      go (Dispatched d ∷ ts) at o = absurd o
+      go _ at o = absurd o
 
   each : (k : ℕ) → From k
   each zero = λ s lt w dealt rest all course l. absurd (omega (arith, lt))

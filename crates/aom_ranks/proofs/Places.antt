@@ -20,10 +20,9 @@ weight_less : (code : List Instr) (k to : ℕ) → k < length code → k < to �
 weight_less code k to within later = pow_less (all_rounds code) (length code - to) (length code - k) (omega (arith, within, later))
 
 rounds_less : (code : List Instr) (k : ℕ) (d n : ℕ) → slice_get code k ≡ Some (Loop d n) → n ≤ all_rounds code
-rounds_less [] zero d n e = cc
-rounds_less [] (suc k) d n e = cc
 rounds_less (x ∷ xs) zero d n e = let same : x ≡ Loop d n = cc in let is : rounds_of x ≡ n = ap rounds_of same in omega (arith, is)
 rounds_less (x ∷ xs) (suc k) d n e = omega (arith, rounds_less xs k d n e)
+rounds_less _ _ d n e = cc
 
 -- a loop's place weighs more than its body does for all rounds
 weight_loop : (code : List Instr) (k n : ℕ) → k < length code → n ≤ all_rounds code → weight code (suc k) + n * weight code (suc k) < weight code k

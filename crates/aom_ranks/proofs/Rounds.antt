@@ -197,9 +197,8 @@ module _ (code : List Instr) (worth : ℕ → ℕ → ℕ) (grows : (p a b : ℕ
     other_loop c p inside = by_loop (slice_get code r) refl it.begins
       where
         by_loop : (o : Option Instr) → slice_get code r ≡ o → loop_in o ≡ Some d → c ≢ d
-        by_loop None e h = cc
         by_loop (Some (Loop a x)) e h = let same : a ≡ d = cc in subst (λ y. c ≢ y) same (other_number code c a p r x nest inside e)
-        by_loop (Some i) e h = cc
+        by_loop _ e h = cc
 
     around : (p : ℕ) → p ≢ r → (c : ℕ) → IsIn code c p (suc r) → IsIn code c p k × (at 0 (put_at 0 cs d n) c ≤ at 0 cs c)
     around p other c w =

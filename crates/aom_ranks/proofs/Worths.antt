@@ -92,15 +92,10 @@ module _ (w : Worths) where
         (omega (arith, received_alike p fr below s gives a x caller (tasks_of ls)), omega (arith, result_less f passes p fr below s gives a x (tasks_of ls)))
     returned_less (Dying o ∷ ls) h = (omega arith, omega arith)
     returned_less (Unwinding code es ∷ ls) h = (omega arith, omega arith)
-    returned_less (Dispatching Of_main ∷ ls) h = absurd h.4.0
-    returned_less (Dispatching (Main_left code) ∷ ls) h = absurd h.4.0
-    returned_less (Dispatching Of_root ∷ ls) h = absurd h.4.0
     returned_less (Mark gv ∷ []) h = let e : Caught gv ≡ Now = h.4.1 in absurd (cc)
     returned_less (Mark gv ∷ Method caller sh2 ∷ ls) h =
         let x = result_register (instr_at p caller.method caller.place) in
         let over = Trapped ∷ Run caller ∷ tasks_of ls in
         (omega (arith, received_alike p fr over s gives a x caller (tasks_of ls)), omega (arith, result_less f passes p fr over s gives a x (tasks_of ls), below s.items))
-    returned_less (Mark gv ∷ Mark gv' ∷ ls) h = absurd h.4.1.0
-    returned_less (Mark gv ∷ Dying o ∷ ls) h = absurd h.4.1.1
-    returned_less (Mark gv ∷ Unwinding code es ∷ ls) h = absurd h.4.1.0
     returned_less (Mark gv ∷ Dispatching d ∷ ls) h = (omega arith, omega (arith, below s.items))
+    returned_less _ h = absurd (grind arith)

@@ -66,8 +66,6 @@ has_its_label false place i = plain_has_no_label i
 
 -- the labels up to the end of a method are those of its code
 labels_there : (code : List Instr) (place : ℕ) (is : List Instr) (labels : List (List ℕ)) (left : List (List (List ℕ))) (ss : List Statement) → all_words ss ≡ instr_statements code place is ++ end_words ∷ left → labels_of labels ss ≡ labels ++ labels_from code place is
-labels_there code place [] labels left [] words = absurd cc
-labels_there code place (i ∷ is) labels left [] words = absurd cc
 labels_there code place [] labels left (s ∷ ss) words =
     let here : s.words ≡ end_words = cc in
     ap (λ ws. if is_end ws then labels else labels_of (labels ++ label_in ws ∷ []) ss) here ∙ sym (append-nil labels)
@@ -80,6 +78,7 @@ labels_there code place (i ∷ is) labels left (s ∷ ss) words =
     ∙ ap (λ l. labels_of (labels ++ l ∷ []) ss) (has_its_label jumped place i)
     ∙ labels_there code (place + 1) is (labels ++ label_or_none jumped place ∷ []) left ss behind
     ∙ append_assoc labels (label_or_none jumped place ∷ []) (labels_from code (place + 1) is)
+labels_there code place _ labels left _ words = absurd cc
 
 -- ---- programs
 

@@ -111,8 +111,7 @@ ended_same a b is = cc
 
 ended_by : (ended : Option Ending) (tasks : List Task) (ending : Ending) → progress_by ended tasks ≡ progresses.Ended ending → ended ≡ Some ending
 ended_by (Some e) tasks ending is = ap (λ x. Some x) (ended_same e ending is)
-ended_by None [] ending is = absurd cc
-ended_by None (t ∷ ts) ending is = absurd cc
+ended_by _ _ ending is = absurd (grind arith)
 
 module _ (p : Image) (refused : List ℕ) (before mid now : Option (List ℕ)) (told : List Line) (progress : Progress) (new : Machine) (n : Next p refused before mid told progress new) where
   pub goes_on : now ≡ after mid (text_of told) → SoFar p refused before now new

@@ -23,9 +23,8 @@ both false false h = cc
 
 pub thing_is : (t u : Thing) → same_thing t u ≡ true → t ≡ u
 thing_is (Object c) (Object d) h = ap Object (eqb-true c d h)
-thing_is (Object c) Message h = cc
-thing_is Message (Object d) h = cc
 thing_is Message Message h = refl
+thing_is _ _ h = cc
 
 pub thing_self : (t : Thing) → same_thing t t ≡ true
 thing_self (Object c) = eq-eqb c c refl
@@ -33,9 +32,8 @@ thing_self Message = refl
 
 pub age_is : (a b : Age) → same_age a b ≡ true → a ≡ b
 age_is Fresh Fresh h = refl
-age_is Fresh Ready h = cc
-age_is Ready Fresh h = cc
 age_is Ready Ready h = refl
+age_is _ _ h = cc
 
 pub age_self : (a : Age) → same_age a a ≡ true
 age_self Fresh = refl
@@ -67,28 +65,13 @@ pub weaker_tested : (a b : Kind) → no_more a b ≡ true → Weaker a b
 weaker_tested Unset Unset h = alike
 weaker_tested Unset Word h = unset_word
 weaker_tested Unset Null h = unset_null
-weaker_tested Unset (Own t a) h = absurd cc
-weaker_tested Unset (Maybe t a) h = absurd cc
-weaker_tested Word Unset h = absurd cc
 weaker_tested Word Word h = alike
-weaker_tested Word Null h = absurd cc
-weaker_tested Word (Own t a) h = absurd cc
-weaker_tested Word (Maybe t a) h = absurd cc
-weaker_tested Null Unset h = absurd cc
-weaker_tested Null Word h = absurd cc
 weaker_tested Null Null h = alike
-weaker_tested Null (Own t a) h = absurd cc
-weaker_tested Null (Maybe t a) h = absurd cc
-weaker_tested (Own u b) Unset h = absurd cc
-weaker_tested (Own u b) Word h = absurd cc
-weaker_tested (Own u b) Null h = absurd cc
 weaker_tested (Own u b) (Own t a) h = let s = same_own u t b a h in rw (s.0, s.1) alike
-weaker_tested (Own u b) (Maybe t a) h = absurd cc
-weaker_tested (Maybe u b) Unset h = absurd cc
-weaker_tested (Maybe u b) Word h = absurd cc
 weaker_tested (Maybe u b) Null h = maybe_null
 weaker_tested (Maybe u b) (Own t a) h = let s = same_own u t b a h in rw (s.0, s.1) maybe_own
 weaker_tested (Maybe u b) (Maybe t a) h = let s = same_own u t b a h in rw (s.0, s.1) alike
+weaker_tested _ _ h = absurd cc
 
 pub fillings_test : (x y : Filling) → WeakerFilling x y → no_more_filling x y ≡ true
 fillings_test Empty y (alike_filling {x = x}) = refl
@@ -99,14 +82,11 @@ fillings_test x y perhaps_full = refl
 
 pub fillings_tested : (x y : Filling) → no_more_filling x y ≡ true → WeakerFilling x y
 fillings_tested Empty Empty h = alike_filling
-fillings_tested Empty Full h = absurd cc
-fillings_tested Empty Perhaps h = absurd cc
-fillings_tested Full Empty h = absurd cc
 fillings_tested Full Full h = alike_filling
-fillings_tested Full Perhaps h = absurd cc
 fillings_tested Perhaps Empty h = perhaps_empty
 fillings_tested Perhaps Full h = perhaps_full
 fillings_tested Perhaps Perhaps h = alike_filling
+fillings_tested _ _ h = absurd cc
 
 -- the order is transitive
 pub weaker_along : (a b c : Kind) → Weaker a b → Weaker b c → Weaker a c

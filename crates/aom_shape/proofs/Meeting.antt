@@ -29,17 +29,11 @@ pub record IsMeetKind (m a b : Kind) : Type 0 where
 
 below_word_and_null : (n : Kind) → no_more n Word ≡ true → no_more n Null ≡ true → no_more n Unset ≡ true
 below_word_and_null Unset h k = refl
-below_word_and_null Word h k = absurd cc
-below_word_and_null Null h k = absurd cc
-below_word_and_null (Own u b) h k = absurd cc
-below_word_and_null (Maybe u b) h k = absurd cc
+below_word_and_null _ h k = absurd cc
 
 below_null_and_own : (t : Thing) (a : Age) (n : Kind) → no_more n Null ≡ true → no_more n (Own t a) ≡ true → no_more n (Maybe t a) ≡ true
-below_null_and_own t a Unset h k = absurd cc
-below_null_and_own t a Word h k = absurd cc
-below_null_and_own t a Null h k = absurd cc
-below_null_and_own t a (Own u b) h k = absurd cc
 below_null_and_own t a (Maybe u b) h k = k
+below_null_and_own t a _ h k = absurd cc
 
 word_and_null : IsMeetKind Unset Word Null
 word_and_null = record { first = unset_word; second = unset_null; strongest = λ n h k. weaker_tested n Unset (below_word_and_null n (weaker_tests n Word h) (weaker_tests n Null k)) }
@@ -52,31 +46,11 @@ turned m a b h = record { first = h.second; second = h.first; strongest = λ n k
 
 -- what two kinds that differ have in common
 apart_meets : (a b m : Kind) → apart a b ≡ Some m → IsMeetKind m a b
-apart_meets Unset Unset m e = absurd cc
-apart_meets Unset Word m e = absurd cc
-apart_meets Unset Null m e = absurd cc
-apart_meets Unset (Own u b) m e = absurd cc
-apart_meets Unset (Maybe u b) m e = absurd cc
-apart_meets Word Unset m e = absurd cc
-apart_meets Word Word m e = absurd cc
 apart_meets Word Null m e = let same : Unset ≡ m = cc in rw (← same) word_and_null
-apart_meets Word (Own u b) m e = absurd cc
-apart_meets Word (Maybe u b) m e = absurd cc
-apart_meets Null Unset m e = absurd cc
 apart_meets Null Word m e = let same : Unset ≡ m = cc in rw (← same) (turned Unset Word Null word_and_null)
-apart_meets Null Null m e = absurd cc
 apart_meets Null (Own u b) m e = let same : Maybe u b ≡ m = cc in rw (← same) (null_and_own u b)
-apart_meets Null (Maybe u b) m e = absurd cc
-apart_meets (Own t a) Unset m e = absurd cc
-apart_meets (Own t a) Word m e = absurd cc
 apart_meets (Own t a) Null m e = let same : Maybe t a ≡ m = cc in rw (← same) (turned (Maybe t a) Null (Own t a) (null_and_own t a))
-apart_meets (Own t a) (Own u b) m e = absurd cc
-apart_meets (Own t a) (Maybe u b) m e = absurd cc
-apart_meets (Maybe t a) Unset m e = absurd cc
-apart_meets (Maybe t a) Word m e = absurd cc
-apart_meets (Maybe t a) Null m e = absurd cc
-apart_meets (Maybe t a) (Own u b) m e = absurd cc
-apart_meets (Maybe t a) (Maybe u b) m e = absurd cc
+apart_meets _ _ m e = absurd cc
 
 pub meet_found : (a b m : Kind) → meet_kind a b ≡ Some m → IsMeetKind m a b
 meet_found a b m e = go (no_more a b) refl (no_more b a) refl e
@@ -96,32 +70,28 @@ unset_under_word : (b : Kind) → Strangers Word b → no_more Unset b ≡ true 
 unset_under_word Unset s h = let f = s.second in cc
 unset_under_word Word s h = let f = s.first in cc
 unset_under_word Null s h = let f = s.nothing in cc
-unset_under_word (Own u y) s h = cc
-unset_under_word (Maybe u y) s h = cc
+unset_under_word _ s h = cc
 
 unset_under_null : (b : Kind) → Strangers Null b → no_more Unset b ≡ true → ⊥
 unset_under_null Unset s h = let f = s.second in cc
 unset_under_null Word s h = let f = s.nothing in cc
 unset_under_null Null s h = let f = s.first in cc
-unset_under_null (Own u y) s h = cc
-unset_under_null (Maybe u y) s h = cc
+unset_under_null _ s h = cc
 
 maybe_under_null : (t : Thing) (x : Age) (b : Kind) → Strangers Null b → no_more (Maybe t x) b ≡ true → ⊥
-maybe_under_null t x Unset s h = cc
-maybe_under_null t x Word s h = cc
 maybe_under_null t x Null s h = let f = s.first in cc
 maybe_under_null t x (Own u y) s h = let f = s.nothing in cc
 maybe_under_null t x (Maybe u y) s h = let f = s.second in cc
+maybe_under_null t x _ s h = cc
 
 maybe_under_own : (t : Thing) (x : Age) (b : Kind) → Strangers (Own t x) b → no_more (Maybe t x) b ≡ true → ⊥
-maybe_under_own t x Unset s h = cc
-maybe_under_own t x Word s h = cc
 maybe_under_own t x Null s h = let f = s.nothing in cc
 maybe_under_own t x (Own u y) s h = let f = s.first in cc
 maybe_under_own t x (Maybe u y) s h =
     let same = same_own t u x y h in
     let f : no_more (Maybe u y) (Own t x) ≡ true = rw (same.0, same.1) (object_self u y) in
     let g = s.second in cc
+maybe_under_own t x _ s h = cc
 
 strangers_apart : (a b n : Kind) → Strangers a b → Weaker n a → Weaker n b → ⊥
 strangers_apart a b n s (alike {k = k}) h = let f = weaker_tests a b h in let g = s.first in cc
@@ -185,9 +155,8 @@ filling_second Perhaps Full = perhaps_full
 filling_second Perhaps Perhaps = alike_filling
 
 below_empty_and_full : (n : Filling) → no_more_filling n Empty ≡ true → no_more_filling n Full ≡ true → n ≡ Perhaps
-below_empty_and_full Empty h k = absurd cc
-below_empty_and_full Full h k = absurd cc
 below_empty_and_full Perhaps h k = refl
+below_empty_and_full _ h k = absurd cc
 
 filling_strongest : (x y n : Filling) → WeakerFilling n x → WeakerFilling n y → WeakerFilling n (meet_filling x y)
 filling_strongest Empty Empty n h k = h

@@ -267,10 +267,7 @@ leave_more p m pc x y a b h n = (n.0, (none_owns_more a.registers b.registers h.
 -- what is pushed is the same
 owns_more : (k l : Kind) → Weaker k l → owns_object k ≡ true → owns_object l ≡ true
 owns_more k l (alike {k = same}) h = h
-owns_more k l unset_word h = absurd (false≢true h)
-owns_more k l unset_null h = absurd (false≢true h)
-owns_more k l (maybe_null {t = t} {a = age}) h = absurd (false≢true h)
-owns_more k l (maybe_own {t = t} {a = age}) h = absurd (false≢true h)
+owns_more k l _ h = absurd (false≢true h)
 
 pushed_more : (k l : Kind) → Weaker k l → owns_object k ≡ true → entry_of k ≡ entry_of l
 pushed_more k l (alike {k = same}) h = refl

@@ -28,10 +28,9 @@ transitive a b c h k = record {
 
 kinds_hold : (xs ys : List Kind) → length xs ≡ length ys → all_no_more xs ys ≡ true → (i : ℕ) → Weaker (at Unset xs i) (at Unset ys i)
 kinds_hold [] [] e h i = alike
-kinds_hold [] (y ∷ ys) e h i = absurd (omega arith)
-kinds_hold (x ∷ xs) [] e h i = absurd (omega arith)
 kinds_hold (x ∷ xs) (y ∷ ys) e h zero = weaker_tested x y (both (no_more x y) (all_no_more xs ys) h).0
 kinds_hold (x ∷ xs) (y ∷ ys) e h (suc i) = kinds_hold xs ys (omega arith) (both (no_more x y) (all_no_more xs ys) h).1 i
+kinds_hold _ _ e h i = absurd (omega arith)
 
 kinds_test : (xs ys : List Kind) → ((i : ℕ) → Weaker (at Unset xs i) (at Unset ys i)) → all_no_more xs ys ≡ true
 kinds_test [] ys h = refl
@@ -40,10 +39,9 @@ kinds_test (x ∷ xs) (y ∷ ys) h = rw (weaker_tests x y (h 0), kinds_test xs y
 
 fillings_hold : (xs ys : List Filling) → length xs ≡ length ys → all_no_more_fillings xs ys ≡ true → (i : ℕ) → WeakerFilling (at Perhaps xs i) (at Perhaps ys i)
 fillings_hold [] [] e h i = alike_filling
-fillings_hold [] (y ∷ ys) e h i = absurd (omega arith)
-fillings_hold (x ∷ xs) [] e h i = absurd (omega arith)
 fillings_hold (x ∷ xs) (y ∷ ys) e h zero = fillings_tested x y (both (no_more_filling x y) (all_no_more_fillings xs ys) h).0
 fillings_hold (x ∷ xs) (y ∷ ys) e h (suc i) = fillings_hold xs ys (omega arith) (both (no_more_filling x y) (all_no_more_fillings xs ys) h).1 i
+fillings_hold _ _ e h i = absurd (omega arith)
 
 fillings_all_test : (xs ys : List Filling) → ((i : ℕ) → WeakerFilling (at Perhaps xs i) (at Perhaps ys i)) → all_no_more_fillings xs ys ≡ true
 fillings_all_test [] ys h = refl
@@ -87,9 +85,8 @@ fillings_ended (x ∷ xs) (y ∷ ys) h = absurd (omega arith)
 -- the test on entries passes exactly where they are the same
 entry_is : (x y : Entry) → same_entry x y ≡ true → x ≡ y
 entry_is (An_object c a) (An_object d b) h = let same = both (c == d) (same_age a b) h in rw (eqb-true c d same.0, age_is a b same.1) refl
-entry_is (An_object c a) Operation h = cc
-entry_is Operation (An_object d b) h = cc
 entry_is Operation Operation h = refl
+entry_is _ _ h = cc
 
 entry_self : (x : Entry) → same_entry x x ≡ true
 entry_self (An_object c a) = rw (eq-eqb c c refl, age_self a)
@@ -97,9 +94,8 @@ entry_self Operation = refl
 
 pub entries_are : (xs ys : List Entry) → same_entries xs ys ≡ true → xs ≡ ys
 entries_are [] [] h = refl
-entries_are [] (y ∷ ys) h = cc
-entries_are (x ∷ xs) [] h = cc
 entries_are (x ∷ xs) (y ∷ ys) h = let same = both (same_entry x y) (same_entries xs ys) h in rw (entry_is x y same.0, entries_are xs ys same.1) refl
+entries_are _ _ h = cc
 
 pub entries_self : (xs : List Entry) → same_entries xs xs ≡ true
 entries_self [] = refl
@@ -118,9 +114,7 @@ entries_differ (x ∷ xs) (y ∷ ys) h = rw (entries_differ xs ys (λ e. h (ap s
 -- both have ended
 pub entries_ended : (xs ys : List Entry) → length xs ≡ length ys → (length xs ≡ 0) ⊎ (length ys ≡ 0) → same_entries xs ys ≡ true
 entries_ended [] [] e h = refl
-entries_ended [] (y ∷ ys) e h = absurd (omega arith)
-entries_ended (x ∷ xs) [] e h = absurd (omega arith)
-entries_ended (x ∷ xs) (y ∷ ys) e h = absurd (omega arith)
+entries_ended _ _ e h = absurd (omega arith)
 
 pub entries_tested : (xs ys : List Entry) (r : Bool) → r ≡ same_entries xs ys → IsTrue r ↔ (xs ≡ ys)
 entries_tested xs ys r h = (λ e. entries_are xs ys (rw (← h) e), λ e. rw (h, ← e) (entries_self xs))

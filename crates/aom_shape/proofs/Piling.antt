@@ -63,12 +63,11 @@ length_listed (suc n) nodes top = ap suc (length_listed n nodes (node_at nodes t
 
 -- what is below the last entry
 pub entry_below : (nodes : List Node) (top h n : ℕ) → 0 < h → 0 < n → slice_get (listed h nodes top) n ≡ slice_get (listed (h - 1) nodes (node_at nodes top).below) (n - 1)
-entry_below nodes top zero n some more = absurd (omega arith)
-entry_below nodes top (suc h) zero some more = absurd (omega arith)
 entry_below nodes top (suc h) (suc n) some more =
     let e : suc h - 1 ≡ h = omega arith in
     let f : suc n - 1 ≡ n = omega arith in
     rw (e, f) refl
+entry_below nodes top _ n some more = absurd (omega arith)
 
 pub entry_first : (nodes : List Node) (top h n : ℕ) → 0 < h → n ≡ 0 → slice_get (listed h nodes top) n ≡ Some (node_at nodes top).entry
 entry_first nodes top zero n some none = absurd (omega arith)
@@ -91,6 +90,5 @@ readied_here nodes top zero n some none = absurd (omega arith)
 readied_here nodes top (suc h) n some none = rw none refl
 
 pub readied_below : (nodes : List Node) (top h n : ℕ) → 0 < h → 0 < n → readied_at (listed h nodes top) n ≡ (node_at nodes top).entry ∷ readied_at (without_top (listed h nodes top)) (n - 1)
-readied_below nodes top zero n some more = absurd (omega arith)
-readied_below nodes top (suc h) zero some more = absurd (omega arith)
 readied_below nodes top (suc h) (suc n) some more = let f : suc n - 1 ≡ n = omega arith in rw f refl
+readied_below nodes top _ n some more = absurd (omega arith)

@@ -52,10 +52,7 @@ ready_more a b (maybe_own {t = t} {a = age}) h = h
 
 pub own_more : (p : Image) (x : Thing) (a b : Kind) → Weaker a b → is_own_for p x a ≡ true → is_own_for p x b ≡ true
 own_more p x a b (alike {k = k}) h = h
-own_more p x a b unset_word h = absurd (false≢true h)
-own_more p x a b unset_null h = absurd (false≢true h)
-own_more p x a b (maybe_null {t = t} {a = age}) h = absurd (false≢true h)
-own_more p x a b (maybe_own {t = t} {a = age}) h = absurd (false≢true h)
+own_more p x a b _ h = absurd (false≢true h)
 
 pub may_be_more : (p : Image) (x : Thing) (a b : Kind) → Weaker a b → may_be p x a ≡ true → may_be p x b ≡ true
 may_be_more p x a b (alike {k = k}) h = h
@@ -88,10 +85,7 @@ filling_more a b (maybe_own {t = t} {a = age}) = perhaps_full
 
 pub fresh_more : (a b : Kind) → Weaker a b → is_fresh_kind a ≡ true → is_fresh_kind b ≡ true
 fresh_more a b (alike {k = k}) h = h
-fresh_more a b unset_word h = absurd (false≢true h)
-fresh_more a b unset_null h = absurd (false≢true h)
-fresh_more a b (maybe_null {t = t} {a = age}) h = absurd (false≢true h)
-fresh_more a b (maybe_own {t = t} {a = age}) h = absurd (false≢true h)
+fresh_more a b _ h = absurd (false≢true h)
 
 pub readied_more : (a b : Kind) → Weaker a b → Weaker (readied a) (readied b)
 readied_more a b (alike {k = k}) = alike
@@ -115,10 +109,9 @@ none_owns_more xs ys w h = none_from ys (λ i. unowning_more (at Unset xs i) (at
 
 -- the fields that are declared are empty, read by their numbers
 empty_at : (ts : List Thing) (xs : List Filling) → all_empty ts xs ≡ true → (k : ℕ) → k < length ts → is_empty (at Perhaps xs k) ≡ true
-empty_at [] xs h k below = absurd (omega arith)
-empty_at (t ∷ ts) [] h k below = absurd (false≢true h)
 empty_at (t ∷ ts) (x ∷ xs) h zero below = (both (is_empty x) (all_empty ts xs) h).0
 empty_at (t ∷ ts) (x ∷ xs) h (suc k) below = empty_at ts xs (both (is_empty x) (all_empty ts xs) h).1 k (omega arith)
+empty_at _ _ h k below = absurd (first_of (cc, omega arith))
 
 empty_from : (ts : List Thing) (xs : List Filling) → ((k : ℕ) → k < length ts → is_empty (at Perhaps xs k) ≡ true) → all_empty ts xs ≡ true
 empty_from [] xs h = refl

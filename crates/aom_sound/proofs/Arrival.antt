@@ -12,7 +12,7 @@ use Rattle.aom_shape.specs.declared.kind.Age.TheVariants.{Ready}
 use Rattle.aom_shape.specs.declared.kind.Kind.TheVariants.{Maybe, Word}
 use Rattle.aom_sound.proofs.Straight.{Fitted, next_unowning, settle, stepped, write}
 use Rattle.aom_sound.specs.Calls.{called, result_register}
-use Rattle.aom_sound.specs.Claims.{Dispatching, Dying, Layer, Mark, Method, Unwinding, claim, declared, forms, items_of, objects, tasks_of}
+use Rattle.aom_sound.specs.Claims.{Dispatching, Layer, Mark, Method, Unwinding, claim, declared, forms, items_of, objects, tasks_of}
 use Rattle.aom_sound.specs.Cleanup.{arrived, code_told}
 use Rattle.aom_sound.specs.Places.{Cell, Elsewhere, Entry, Field, Going, Place, Register, Root, held}
 use Rattle.aom_sound.specs.State.{Dispatch, Frame, Item, Main_left, Of_main, Of_root, State, Static, next, set_word}
@@ -95,12 +95,7 @@ module _ (p : Image) (t : Typing) (s : State) (code : ℤ) (items : List Item) w
 
   -- a trap stands over one of the two
   pub arrives : (gv : Gives) (ls : List Layer) → forms items ≡ items_of ls → AllUndo p items → Good p t s.cells (Unwinding code [] ∷ Mark gv ∷ ls) → Keeps p t (arrived p code (tasks_of (Mark gv ∷ ls)) items s)
-  arrives gv [] same undos good = absurd (nothing_below good.stack.1.1)
-    where
-      nothing_below : Stack p t s.cells (Caught gv) [] → ⊥
-      nothing_below e = cc
+  arrives gv [] same undos good = let clash : Stack p t s.cells (Caught gv) [] = good.stack.1.1 in cc
   arrives gv (Method fr sh ∷ ls) same undos good = at_method gv fr sh ls same undos good
-  arrives gv (Mark gv' ∷ ls) same undos good = absurd good.stack.1.1.0
-  arrives gv (Dying o ∷ ls) same undos good = absurd good.stack.1.1.1
-  arrives gv (Unwinding x es ∷ ls) same undos good = absurd good.stack.1.1.0
   arrives gv (Dispatching d ∷ ls) same undos good = at_dispatch gv d ls same undos good
+  arrives gv _ same undos good = absurd (assumption tt)

@@ -27,7 +27,7 @@ use Rattle.aom_sound.proofs.Passing.{lower, upper}
 use Rattle.aom_sound.specs.Calls.{passed_cells}
 use Rattle.aom_sound.specs.Claims.{Layer, Method, items_of, tasks_of}
 use Rattle.aom_sound.specs.Places.{Cell, Elsewhere, Entry, Field, Going, Object, Place, Register, Root, held, moved, same_place}
-use Rattle.aom_sound.specs.State.{AtRoot, Frame, Home, Inside, State, Static, home_holder, thing_holder}
+use Rattle.aom_sound.specs.State.{Frame, Home, Inside, State, home_holder, thing_holder}
 use Rattle.aom_sound.specs.WellTyped.{Fits, IsBelow}
 
 -- what a test that is asked for says
@@ -85,9 +85,8 @@ holder_member (Some Main) c no_main = absurd (no_main refl)
 holder_member _ c no_main = refl
 
 pub home_member : (h : Home) (c : ℕ) → home_holder h ≡ Member c → (o : Object) × (from : Place) × (h ≡ Inside o from) × (thing_holder o.thing ≡ Member c)
-home_member Static c e = cc
-home_member AtRoot c e = cc
 home_member (Inside o from) c e = (o, from, refl, e)
+home_member _ c e = cc
 
 pub own_for : (p : Image) (t : Thing) (k : Kind) → is_own_for p t k ≡ true → (x : Thing) × (a : Age) × (k ≡ Own x a) × (stands_for p x t ≡ true)
 own_for p t (Own x a) e = (x, a, refl, e)

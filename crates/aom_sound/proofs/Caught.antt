@@ -22,7 +22,7 @@ use Rattle.aom_sound.proofs.Guarded.{goes_same, guarded_goes, guarded_met}
 use Rattle.aom_sound.proofs.Maps.{at-put_at, held_moved, same_place-true, same_place_refl}
 use Rattle.aom_sound.proofs.Straight.{claim_register, fits_unowning}
 use Rattle.aom_sound.specs.Calls.{called, result_register}
-use Rattle.aom_sound.specs.Claims.{Dispatching, Dying, Form, Layer, Mark, Mark_form, Method, Unwinding, declared, entry_form, forms, items_of, objects, tasks_of}
+use Rattle.aom_sound.specs.Claims.{Dispatching, Form, Layer, Mark, Mark_form, Method, Unwinding, declared, entry_form, forms, items_of, objects, tasks_of}
 use Rattle.aom_sound.specs.Cleanup.{arrival, arrived, code_told, destroyed, has_trap, is_negative, leave_needs, no_memory, operation_frame, to_trap, unwound}
 use Rattle.aom_classes.specs.Roles.{destructor_of}
 use Rattle.aom_sound.specs.Destruction.{begun_by}
@@ -30,13 +30,14 @@ use Rattle.aom_sound.specs.Laws.{IsWired}
 use Rattle.aom_sound.specs.Leaves.{AreEntries, AreMethods, Arrives, ArrivesAt, Begins, HasMoved, HasNoResult, HasPushed, Hears, IsBegun, IsDestroyed, IsLeaving, IsOver, LeavesWith}
 use Rattle.aom_sound.specs.Moves.{announcement, counted, does, main_left, needs, step, step_instr, step_task, written_task}
 use Rattle.aom_sound.specs.Places.{Cell, Entry, Going, Object, Register, held, moved, named, same_place, Place}
-use Rattle.aom_sound.specs.State.{A_mark, An_object, An_operation, Choice, Dispatch, Dispatched, Frame, Goes, Inside, IsStuck, Item, Main_left, NullOrDead, Of_main, Of_root, Run, State, Task, Trapped, Unwind, frame_of, next, set_word, word}
+use Rattle.aom_sound.specs.State.{A_mark, An_object, An_operation, Choice, Dispatch, Dispatched, Frame, Goes, Inside, IsStuck, Item, Main_left, NullOrDead, Of_main, Run, State, Task, Trapped, Unwind, frame_of, next, set_word, word}
 use Rattle.aom_sound.specs.WellTyped.{AllUndo, Awaits, EndsDispatch, Fits, Good, Keeps, Leaves, Now, Stack, WellTyped}
 use Rattle.aom_sound.specs.Effects.{Effect, Leaves, Pushed as Object_pushed, Pushed_operation as Operation_pushed, Same, Update, applied, unless_refused, updates}
 use Rattle.aom_sound.specs.Words.{word_or_zero}
 use Rattle.aom_shape.specs.Needs.{AllTrue}
 use Rattle.aom_sound.specs.declared.line.Ending.TheVariants.{MainLeft}
 use Rattle.aom_sound.proofs.Steps.{step_keeps}
+use Rattle.aom_sound.proofs.Layers.{leave_layer}
 
 -- ---- the entries of a leave, and its mark
 
@@ -60,26 +61,18 @@ split _ fs _ e = cc
 
 no_dispatch : {A : Type 0} (p : Image) (d : Dispatch) → EndsDispatch p d Leaves → A
 no_dispatch p Of_main e = absurd e
-no_dispatch p (Main_left x) e = absurd e
-no_dispatch p Of_root e = absurd e
+no_dispatch p _ e = absurd e
 
 -- a leave on top has entries over the mark of its trap
 pub splits : (p : Image) (t : Typing) (s : State) → WellTyped p t s → (code : ℤ) (below : List Task) → s.tasks ≡ Unwind code ∷ below → (entries : List Item) × (items : List Item) × IsLeaving p code below entries items s
 splits p t s w code below at =
-    let r = go w.layers (sym at ∙ w.tasks) w.items w.good.stack in
+    let r = leave_layer (λ ls. (forms s.items ≡ items_of ls) × (Stack p t s.cells Now ls)) code below w.layers (sym w.tasks ∙ at) (w.items, w.good.stack) (λ es ls _ h. under es ls h.0 h.1.1) in
     (r.0, r.1, record { over = subst (λ ts. IsOver p (length s.items) code below ts) (sym at) (refl, refl); stack = r.2; plain = r.3 })
   where
     under : (es : List Pushed) (ls : List Layer) → forms s.items ≡ objects es (items_of ls) → Stack p t s.cells Leaves ls → (entries : List Item) × (items : List Item) × (s.items ≡ entries ++ (A_mark ∷ items)) × AreEntries entries
-    under es [] f stack = cc
-    under es (Method fr sh ∷ ls) f stack = absurd stack.0
     under es (Mark gv ∷ ls) f stack = split es (items_of ls) s.items f
-    under es (Dying o ∷ ls) f stack = absurd stack.1
-    under es (Unwinding x fs ∷ ls) f stack = absurd stack.0
     under es (Dispatching d ∷ ls) f stack = no_dispatch p d stack.0
-
-    go : (ls : List Layer) → Unwind code ∷ below ≡ tasks_of ls → forms s.items ≡ items_of ls → Stack p t s.cells Now ls → (entries : List Item) × (items : List Item) × (s.items ≡ entries ++ (A_mark ∷ items)) × AreEntries entries
-    go (Unwinding x es ∷ ls) e f stack = under es ls f stack.1
-    go _ e f stack = cc
+    under es _ f stack = absurd (first_of (assumption tt, cc))
 
 -- ---- the beginning
 
@@ -312,24 +305,19 @@ module _ (p : Image) (t : Typing) (s u : State) (code : ℤ) (items : List Item)
           (hears c code fr (gives_of p m) s.cells (length (tasks_of ls)) sh (subst (λ g. Awaits g c sh) (sym w.0) w.2) w.1 free)
 
   below_trap : (ls : List Layer) (gv : Gives) (es : List Pushed) → Good p t s.cells (Unwinding code es ∷ Mark gv ∷ ls) → arrived p code (Trapped ∷ tasks_of ls) items (counted p s) ≡ Goes u → Arrived (Trapped ∷ tasks_of ls) u
-  below_trap [] gv es good e = cc
   below_trap (Method fr sh ∷ ls) gv es good e = subst (λ v. Arrived (Trapped ∷ Run fr ∷ tasks_of ls) v) (goes_same _ u e) (at_method fr sh ls gv es good)
-  below_trap (Dying o ∷ ls) gv es good e = absurd good.stack.1.1.1
   below_trap (Dispatching Of_main ∷ ls) gv es good e = subst (λ v. Arrived (Trapped ∷ Dispatched Of_main ∷ tasks_of ls) v) (goes_same _ u e) (refl, refl, refl)
-  below_trap _ gv es good e = absurd good.stack.1.1.0
+  below_trap _ gv es good e = absurd (first_of (assumption tt, cc))
 
   below_leave : (ls : List Layer) (es : List Pushed) → Good p t s.cells (Unwinding code es ∷ ls) → arrived p code (tasks_of ls) items (counted p s) ≡ Goes u → Arrived (tasks_of ls) u
   below_leave (Mark gv ∷ ls) es good e = below_trap ls gv es good e
   below_leave (Dispatching d ∷ ls) es good e = no_dispatch p d good.stack.1.0
-  below_leave [] es good e = cc
-  below_leave _ es good e = absurd (assumption tt)
+  below_leave _ es good e = absurd (first_of (assumption tt, cc))
 
   by_layers : (below : List Task) (ls : List Layer) → tasks_of ls ≡ Unwind code ∷ below → Good p t s.cells ls → arrived p code below items (counted p s) ≡ Goes u → Arrived below u
-  by_layers below (Unwinding x es ∷ ls) at good e =
-      let same : tasks_of ls ≡ below = cc in
-      let equal : x ≡ code = cc in
-      subst (λ b. Arrived b u) same (below_leave ls es (subst (λ y. Good p t s.cells (Unwinding y es ∷ ls)) equal good) (subst (λ b. arrived p code b items (counted p s) ≡ Goes u) (sym same) e))
-  by_layers below _ at good e = cc
+  by_layers below ls at good e =
+      leave_layer (Good p t s.cells) code below ls at good (λ es ls same good.
+      subst (λ b. Arrived b u) same (below_leave ls es good (subst (λ b. arrived p code b items (counted p s) ≡ Goes u) (sym same) e)))
 
 pub arrives :
     (p : Image) (t : Typing) (c : Choice) (s u : State) → WellTyped p t s →

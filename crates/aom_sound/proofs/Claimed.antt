@@ -1,5 +1,5 @@
 -- How the claims change with the abstract state of the top method, and how they go on to hold.
-use Rattle.std.proofs.Common.{Bool, List, None, Option, Some, [], ap, arith, cond, false, inl, inr, length, refl, subst, suc, sym, true, zero, ℕ, ℤ, ◌&&◌, ◌<◌, ◌==◌, ◌∙◌, ◌∷◌, ◌≡◌, ◌≤◌}
+use Rattle.std.proofs.Common.{Bool, List, None, Option, Some, [], ap, arith, cond, false, inl, inr, length, refl, subst, sym, true, zero, ℕ, ℤ, ◌&&◌, ◌<◌, ◌==◌, ◌∙◌, ◌∷◌, ◌≡◌, ◌≤◌}
 use Rattle.std.proofs.lemmas.Bool.{cases_Bool, eq-eqb, eqb-true, ne_eqb, true≢false}
 use Rattle.std.specs.Prelude.{is_some}
 use Rattle.aom_image.specs.Image.{Image}
@@ -75,10 +75,9 @@ claim-set_root p d fr sh ls x v _ e same = refl
 
 -- a field of the top method is claimed anew
 pub claim-set_field : (p : Image) (d : Place → Kind) (fr : Frame) (home : Home) (sh : Shape) (ls : List Layer) (a : ℕ) (x : Filling) (v : Kind) (r : Place) → fr.home ≡ home → is_some (field_thing p (home_holder home) a) ≡ true → filled (field_thing p (home_holder home) a) x ≡ v → claim p d (Method fr (set_field sh a x) ∷ ls) r ≡ changed (claim p d (Method fr sh ∷ ls)) (field_place home a) v r
-claim-set_field p d fr Static sh ls a x v r e some same = cc
 claim-set_field p d fr AtRoot sh ls zero x v r e some same = claim-set_root p d fr sh ls x v r e same
-claim-set_field p d fr AtRoot sh ls (suc a) x v r e some same = cc
 claim-set_field p d fr (Inside o from) sh ls a x v r e some same = claim-set_member p d fr o from sh ls a x v r e same
+claim-set_field p d fr _ sh ls _ x v r e some same = cc
 
 -- one more entry, and one less
 pub claim_push : (p : Image) (d : Place → Kind) (fr : Frame) (sh : Shape) (ls : List Layer) (v : Pushed) (r : Place) → claim p d (Method fr (record sh { entries = v ∷ sh.entries }) ∷ ls) r ≡ changed (claim p d (Method fr sh ∷ ls)) (Entry (length (items_of (Method fr sh ∷ ls)))) (entry_kind v) r

@@ -1,4 +1,5 @@
 -- While a leave is at hand, the methods and the going cells over it leave the cleanup stack as it is: by the heights at which the methods began.
+use Rattle.std.proofs.lemmas.Option.{same_Some}
 use Rattle.std.proofs.Common.{List, None, Option, Some, [], ap, arith, length, refl, subst, sym, true, ℕ, ℤ, ◌∙◌, ◌∷◌, ◌≡◌, ◌≢◌}
 use Rattle.std.proofs.lemmas.Bool.{true≢false}
 use Rattle.std.specs.Prelude.{not}
@@ -139,11 +140,8 @@ module _ (p : Image) (t : Typing) (wired : IsWired p) (typed : IsTyped p t) (c :
       let h = subst O at over in
       let stands = bare_shape p t s.cells fr ts s.items w.layers (sym at ∙ w.tasks) w.items h.1 w.good in
       let x = typed.each fr.method fr.place stands.0 stands.1 in
-      let is : x.instr ≡ i = some_same x.instr i (sym x.stands ∙ there) in
+      let is : x.instr ≡ i = same_Some x.instr i (sym x.stands ∙ there) in
       subst Stays (sym same) (acts_kept p wired c fr stands.0 ts (counted p s) code below h stands.2 i e (subst (λ j. AllTrue (rule_needs p fr.method fr.place stands.0 j)) is x.needs) fits)
-    where
-      some_same : (x y : Instr) → Some x ≡ Some y → x ≡ y
-      some_same x y e = cc
   kept (Vanishes ts o at there owns same) = subst Stays (sym same) (resumes_over p (length s.items) code below ts (subst O at over), refl)
   kept (Clears x ts items o at top there same) = absurd (at_leave x ts at)
   kept (Undoes x ts items m y at top same) = absurd (at_leave x ts at)

@@ -10,7 +10,7 @@ use Rattle.aom_sound.proofs.Steps.{step_keeps}
 use Rattle.aom_sound.specs.Laws.{IsWired}
 use Rattle.aom_sound.specs.Leaves.{HasArrived, IsLeaving, IsOver, LeavesArrive, LeavesMove, StillLeaves, Unwinds, deals, leaves, works}
 use Rattle.aom_sound.specs.Moves.{IsOpen, step}
-use Rattle.aom_sound.specs.State.{A_mark, Choice, Destroy, Dispatched, Goes, Item, Run, State, Task, Trapped, Unwind}
+use Rattle.aom_sound.specs.State.{A_mark, Choice, Destroy, Goes, Item, Run, State, Task, Unwind}
 use Rattle.aom_sound.specs.WellTyped.{Keeps, WellTyped}
 use Rattle.aom_sound.specs.World.{IsBetween, IsBusy, Reaches, begins, boot_state, moves, waiting, waits}
 use Rattle.aom_sound.specs.declared.line.Line.{Line}
@@ -68,12 +68,10 @@ module _ (p : Image) (t : Typing) (refused : List ℕ) (wired : IsWired p) (type
     still s u c w h e = go s.tasks refl h.leaving.over
       where
         go : (ts : List Task) → s.tasks ≡ ts → IsOver p (length s.items) code below ts → Course u
-        go [] at o = absurd o
         go (Run fr ∷ ts) at o = goes_on s u c w h (λ top. let clash : Run fr ∷ ts ≡ Unwind code ∷ below = sym at ∙ top in cc) e
-        go (Trapped ∷ ts) at o = absurd o
         go (Destroy ∷ ts) at o = goes_on s u c w h (λ top. let clash : Destroy ∷ ts ≡ Unwind code ∷ below = sym at ∙ top in cc) e
         go (Unwind x ∷ ts) at o = turns s u c w h.dealt h.rest h.all h.course h.leaving (at ∙ ap (λ y. Unwind y ∷ ts) o.0 ∙ ap (λ l. Unwind code ∷ l) o.1) e
-        go (Dispatched d ∷ ts) at o = absurd o
+        go _ at o = absurd o
 
     moved_on : (lines : List Line) (s u : State) (c : Choice) → WellTyped p t s → IsBusy s → IsOpen p refused c s → step p c s ≡ Goes u → Course s → Course u
     moved_on lines s u c w busy choice e (inl h) = still s u c w h e

@@ -15,7 +15,7 @@ use Rattle.aom_shape.specs.Tables.{at}
 use Rattle.aom_shape.specs.Things.{field_thing, holder_of}
 use Rattle.aom_shape.specs.Typing.{Typing}
 use Rattle.aom_shape.specs.declared.kind.Filling.{Filling}
-use Rattle.aom_shape.specs.declared.kind.Filling.TheVariants.{Empty, Full, Perhaps}
+use Rattle.aom_shape.specs.declared.kind.Filling.TheVariants.{Empty, Perhaps}
 use Rattle.aom_shape.specs.declared.kind.Kind.TheVariants.{Null}
 use Rattle.aom_sound.proofs.Claimed.{claim_register_above}
 use Rattle.aom_sound.proofs.Finishing.{no_entries, none_left, none_owns_at, return_needs, returnable, same_items}
@@ -23,16 +23,12 @@ use Rattle.aom_sound.proofs.Going.{no_fields, nothing_in}
 use Rattle.aom_sound.proofs.Straight.{At, Law, fits_unowning}
 use Rattle.aom_sound.specs.Calls.{is_emptied, result_needs}
 use Rattle.aom_sound.specs.Claims.{Dying, Layer, claim, declared, entry_claim, home_claim, items_of, root_claim, tasks_of}
-use Rattle.aom_sound.specs.Destruction.{owns_nothing}
 use Rattle.aom_sound.specs.Places.{Elsewhere, Entry, Field, Going, Object, Place, Register, Root, held}
 use Rattle.aom_sound.specs.State.{Choice, Frame, Inside, State, home_holder, thing_holder}
 use Rattle.aom_sound.specs.WellTyped.{Fits, Good}
 
 empty_at : (ts : List Thing) (xs : List Filling) (f : ℕ) (y : Thing) → all_empty ts xs ≡ true → slice_get ts f ≡ Some y → is_empty (at Perhaps xs f) ≡ true
-empty_at [] xs f y e h = absurd (nothing_there f h)
-  where
-    nothing_there : (f : ℕ) → slice_get {X = Thing} [] f ≡ Some y → ⊥
-    nothing_there f h = cc
+empty_at [] xs f y e h = let clash : slice_get {X = Thing} [] f ≡ Some y = h in cc
 empty_at (t ∷ ts) [] f y e h = cc
 empty_at (t ∷ ts) (x ∷ xs) zero y e h = (and_parts _ _ e).0
 empty_at (t ∷ ts) (x ∷ xs) (suc f) y e h = empty_at ts xs f y (and_parts _ _ e).1 h
@@ -53,8 +49,7 @@ module _ (p : Image) (t : Typing) (c : Choice) (s : State) (fr : Frame) (sh : Sh
         where
           empty : (z : Filling) → is_empty z ≡ true → Fits p (held s.cells) x (filled (Some y) z) → Fits p (held s.cells) x Null
           empty Empty e h = h
-          empty Full e h = cc
-          empty Perhaps e h = cc
+          empty _ e h = cc
 
   fits_dying : fr.home ≡ Inside o (Going (length (tasks_of ls))) → no_entry sh.entries ≡ true → none_owns sh.registers ≡ true → fields_done p true (thing_holder o.thing) sh.fields ≡ true → (r : Place) → Fits p (held s.cells) (held s.cells r) (claim p (declared p s.cells) (Dying o ∷ ls) r)
   fits_dying eh e n done (Register f i) = go (length (tasks_of (Dying o ∷ ls)) == f) refl (at_hand.good.fits (Register f i))

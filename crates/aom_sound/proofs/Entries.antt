@@ -33,7 +33,7 @@ use Rattle.aom_sound.specs.Laws.{IsWired}
 use Rattle.aom_sound.specs.Moves.{does, needs}
 use Rattle.aom_sound.specs.Objects.{is_no_message, no_words}
 use Rattle.aom_sound.specs.Places.{Cell, Entry, Object, Place, changed, held, moved, same_place, with_new}
-use Rattle.aom_sound.specs.State.{A_mark, An_object, An_operation, Choice, Frame, Item, Run, State, Static, next, set_word}
+use Rattle.aom_sound.specs.State.{An_object, An_operation, Choice, Frame, Item, Run, State, Static, next, set_word}
 use Rattle.aom_sound.specs.WellTyped.{AllUndo, Awaits, Fits, Gone, IsUndo, Returns, Stack, WellTyped}
 use Rattle.aom_sound.specs.Effects.{Made, Pushed as Object_pushed, Pushed_operation as Operation_pushed, Same, applied, sets, unless_refused, updates}
 use Rattle.aom_sound.specs.Words.{read}
@@ -54,9 +54,8 @@ owned_or_null _ e = cc
 
 -- such a place holds an object, and no message
 owned_met : (p : Image) (h : Place → Option Object) (o : Option Object) (k : Kind) → owns_object k ≡ true → Fits p h o k → (is_some o ≡ true) × (is_no_message o ≡ true)
-owned_met p h None (Own t a) e f = absurd f
 owned_met p h (Some o) (Own t a) e f = (refl, ap is_object (stands_same p o.thing t f.0) ∙ e)
-owned_met p h o _ e f = cc
+owned_met p h _ _ e f = absurd (grind arith)
 
 -- an entry's register holds no word
 entry_object : (x : Pushed) → is_object_or_null (entry_kind x) ≡ true
@@ -292,11 +291,9 @@ module _ (p : Image) (t : Typing) (c : Choice) (s : State) (fr : Frame) (sh : Sh
       known x es e = at_hand.items ∙ ap (λ es. objects es (items_of ls)) e
 
       tops : (x : Pushed) (below : List Form) (items : List Item) → forms items ≡ entry_form x ∷ below → tops_entry items ≡ true
-      tops x below [] f = cc
       tops x below (An_object ∷ items) f = refl
       tops x below (An_operation m w ∷ items) f = refl
-      tops (Pushed_object y a) below (A_mark ∷ items) f = cc
-      tops Pushed_operation below (A_mark ∷ items) f = cc
+      tops _ below _ f = absurd (grind arith)
 
       go : (es : List Pushed) → sh.entries ≡ es → not (no_entry es) ≡ true → AllTrue (needs p c fr (tasks_of ls) s PopDelete) × WellTyped p t (does p c fr (tasks_of ls) s PopDelete)
       go [] e h = cc

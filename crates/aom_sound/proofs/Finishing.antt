@@ -20,7 +20,7 @@ use Rattle.aom_shape.specs.Typing.{Typing}
 use Rattle.aom_shape.specs.declared.kind.Age.{Age}
 use Rattle.aom_shape.specs.declared.kind.Age.TheVariants.{Fresh, Ready}
 use Rattle.aom_shape.specs.declared.kind.Entry.{Entry as Pushed}
-use Rattle.aom_shape.specs.declared.kind.Entry.TheVariants.{Object as Pushed_object, Operation as Pushed_operation}
+use Rattle.aom_shape.specs.declared.kind.Entry.TheVariants.{Object as Pushed_object}
 use Rattle.aom_shape.specs.declared.kind.Filling.{Filling}
 use Rattle.aom_shape.specs.declared.kind.Filling.TheVariants.{Empty, Full, Perhaps}
 use Rattle.aom_shape.specs.declared.kind.Kind.{Kind}
@@ -36,7 +36,7 @@ use Rattle.aom_sound.specs.Claims.{Dispatching, Dying, Layer, Mark, Method, Obje
 use Rattle.aom_sound.specs.Moves.{needs}
 use Rattle.aom_sound.specs.Objects.{is_thing}
 use Rattle.aom_sound.specs.Places.{Cell, Elsewhere, Entry, Field, Going, Object, Place, Register, Root, held, same_place}
-use Rattle.aom_sound.specs.State.{A_mark, An_object, An_operation, AtRoot, Choice, Frame, Home, Inside, Item, Main_left, Of_main, Of_root, State, Static, thing_holder}
+use Rattle.aom_sound.specs.State.{An_object, AtRoot, Choice, Frame, Home, Inside, Item, Main_left, Of_main, Of_root, State, Static, thing_holder}
 use Rattle.aom_sound.specs.WellTyped.{Fits, IsApart, IsHoused, NotAtRoot, RootUnclaimed, Unclaimed, past_going}
 
 pub none_owns_at : (ks : List Kind) (i : ℕ) → none_owns ks ≡ true → is_unowning (at Unset ks i) ≡ true
@@ -164,8 +164,6 @@ none_left p fr sh a nothing r = ap (λ g. entries_done p g sh.entries) (sym noth
 
 -- one that leaves an object leaves it alone
 pub left_alone : (p : Image) (x : ℕ) (es : List Pushed) → leaves_one p x es ≡ true → es ≡ Pushed_object x Ready ∷ []
-left_alone p x [] e = cc
-left_alone p x (Pushed_operation ∷ es) e = cc
 left_alone p x (Pushed_object y a ∷ es) e =
     let owned = and_parts (is_own_for p (An_object_of x) (Own (An_object_of y) a)) (is_ready_kind (Own (An_object_of y) a) && no_entry es) e in
     let ready = and_parts (is_ready_kind (Own (An_object_of y) a)) (no_entry es) owned.1 in
@@ -174,6 +172,7 @@ left_alone p x (Pushed_object y a ∷ es) e =
     one_class : (a : Age) → An_object_of y ≡ An_object_of x → is_ready_kind (Own (An_object_of y) a) ≡ true → Pushed_object y a ≡ Pushed_object x Ready
     one_class Fresh f e = cc
     one_class Ready f e = cc
+left_alone p x _ e = cc
 
 module _ (p : Image) (t : Typing) (c : Choice) (s : State) (fr : Frame) (sh : Shape) (ls : List Layer) (at_hand : At p t s fr sh ls) where
   -- the cleanup stack is as it was
@@ -202,9 +201,6 @@ module _ (p : Image) (t : Typing) (c : Choice) (s : State) (fr : Frame) (sh : Sh
       there (Some o) f = f.0
 
       go : (items : List Item) → forms items ≡ Object_form ∷ items_of ls → leaves_object p fr (tasks_of ls) s x items ≡ true
-      go [] f = cc
-      go (A_mark ∷ items) f = cc
-      go (An_operation m w ∷ items) f = cc
       go (An_object ∷ items) f =
           let same : forms items ≡ items_of ls = cc in
           let high : length items ≡ length (items_of ls) = sym (length_forms items) ∙ ap length same in
@@ -212,6 +208,7 @@ module _ (p : Image) (t : Typing) (c : Choice) (s : State) (fr : Frame) (sh : Sh
           and_from (length items == fr.height) (is_some (held s.cells place) && is_thing p (An_object_of x) (held s.cells place))
           (eq-eqb _ _ (high ∙ sym at_hand.good.stack.1.height))
           (there (held s.cells place) (subst (λ n. Fits p (held s.cells) (held s.cells (Entry n)) (Own (An_object_of x) Ready)) (sym high) (left_held x e)))
+      go _ f = cc
 
   -- the cleanup stack is level
   level : (g : Gives) → entries_done p g sh.entries ≡ true → is_level p fr (tasks_of ls) s g ≡ true

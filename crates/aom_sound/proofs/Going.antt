@@ -102,14 +102,8 @@ module _ (p : Image) (t : Typing) (cs : List Cell) (o : Object) (ls : List Layer
           (subst (λ k. Fits p (held cs) (held cs r) k) (e ∙ claim_rel (λ x y. x ≡ y) (λ k. refl) p (declared p cs) (declared p cs') ls r (same_declared r h)) (good.fits r))
 
       others : (r : Place) → same_place g r ≡ false → Fits p (held cs') (held cs r) (claim p (declared p cs') ls r)
-      others (Register f i) e = keep (Register f i) refl (λ n m e. absurd (register_field f i n m e))
-        where
-          register_field : (f i n m : ℕ) → Register f i ≡ Field n m → ⊥
-          register_field f i n m e = cc
-      others (Entry k) e = keep (Entry k) refl (λ n m e. absurd (entry_field k n m e))
-        where
-          entry_field : (k n m : ℕ) → Entry k ≡ Field n m → ⊥
-          entry_field k n m e = cc
+      others (Register f i) e = keep (Register f i) refl (λ n m e. cc)
+      others (Entry k) e = keep (Entry k) refl (λ n m e. cc)
       others (Field n f) e = fields (o.name == n) refl
         where
           fields : (b : Bool) → (o.name == n) ≡ b → Fits p (held cs') (held cs (Field n f)) (claim p (declared p cs') ls (Field n f))
@@ -119,18 +113,12 @@ module _ (p : Image) (t : Typing) (cs : List Cell) (o : Object) (ls : List Layer
               let null = ap (λ m. claim p (declared p cs') ls (Field m f)) (sym same) ∙ claim_unclaimed p (declared p cs') ls o.name f (λ f. Null) u.unclaimed (ap (λ x. declared_field p x f) (unnamed cs g o good.tidy good.stack.0.1)) in
               subst (λ x. Fits p (held cs') x (claim p (declared p cs') ls (Field n f))) (sym gone) (subst (λ k. Fits p (held cs') None k) (sym null) tt)
           fields false d = keep (Field n f) (ap (λ b. cond b Null (claim p (declared p cs) ls (Field n f))) d) (λ m h e. let same : n ≡ m = cc in subst (λ m. (o.name == m) ≡ false) same d)
-      others (Elsewhere Root) e = keep (Elsewhere Root) refl (λ n m e. absurd (root_field n m e))
-        where
-          root_field : (n m : ℕ) → Elsewhere Root ≡ Field n m → ⊥
-          root_field n m e = cc
-      others (Going k) e = keep (Going k) (ap (λ b. cond b (Own o.thing Ready) (claim p (declared p cs) ls (Going k))) (tail (length (tasks_of ls) == k) e)) (λ n m e. absurd (going_field k n m e))
+      others (Elsewhere Root) e = keep (Elsewhere Root) refl (λ n m e. cc)
+      others (Going k) e = keep (Going k) (ap (λ b. cond b (Own o.thing Ready) (claim p (declared p cs) ls (Going k))) (tail (length (tasks_of ls) == k) e)) (λ n m e. cc)
         where
           tail : (b : Bool) → (b && true) ≡ false → b ≡ false
           tail true e = e
           tail false e = refl
-
-          going_field : (k n m : ℕ) → Going k ≡ Field n m → ⊥
-          going_field k n m e = cc
 
       go : (b : Bool) → same_place g r ≡ b → Fits p (held cs') (cond b None (held cs r)) (claim p (declared p cs') ls r)
       go true e = subst (λ k. Fits p (held cs') None k) (sym (ap (λ q. claim p (declared p cs') ls q) (sym (same_place-true g r e)) ∙ claim_going_above p cs' ls (length (tasks_of ls)) (omega arith))) tt
@@ -138,10 +126,7 @@ module _ (p : Image) (t : Typing) (cs : List Cell) (o : Object) (ls : List Layer
 
 -- the method below goes on, or the run is at its end
 goes_on : (p : Image) (t : Typing) (s : State) (ls : List Layer) → Stack p t s.cells Gone ls → ((r : Place) → Fits p (held s.cells) (held s.cells r) (claim p (declared p s.cells) ls r)) → Tidy s.cells → s.tasks ≡ resumed (tasks_of ls) → forms s.items ≡ items_of ls → AllUndo p s.items → WellTyped p t s
-goes_on p t s [] stack fits tidy tasks items undos = absurd (gone_now stack)
-  where
-    gone_now : Gone ≡ Now → ⊥
-    gone_now e = cc
+goes_on p t s [] stack fits tidy tasks items undos = let clash : Gone ≡ Now = stack in cc
 goes_on p t s (Method fr sh ∷ ls) stack fits tidy tasks items undos =
     let f : Fitted p t s.cells (next fr) sh ls = record {
       fits = λ r. subst (λ k. Fits p (held s.cells) (held s.cells r) k) (sym (claim_frame p (declared p s.cells) fr (next fr) sh ls r refl)) (fits r);

@@ -1,5 +1,6 @@
 -- A move that goes on has met its needs, and goes where it says.
-use Rattle.std.proofs.Common.{Bool, List, [], cond, false, refl, true, ◌∷◌, ◌≡◌}
+use Rattle.std.proofs.Common.{List, [], cond, ◌∷◌, ◌≡◌}
+use Rattle.aom_image.proofs.Given.{true_given}
 use Rattle.aom_shape.specs.Needs.{AllTrue}
 use Rattle.aom_sound.specs.State.{Goes, IsStuck, Need, State, guarded}
 
@@ -8,16 +9,8 @@ goes_same s u e = cc
 
 pub guarded_goes : (needs : List Need) (s u : State) → guarded needs s ≡ Goes u → s ≡ u
 guarded_goes [] s u e = cc
-guarded_goes (need ∷ needs) s u e = go need.0 (guarded_goes needs s u) e
-  where
-    go : (b : Bool) → (guarded needs s ≡ Goes u → s ≡ u) → cond b (guarded needs s) (IsStuck need.1) ≡ Goes u → s ≡ u
-    go true rest e = rest e
-    go false rest e = cc
+guarded_goes (need ∷ needs) s u e = let rest : (guarded needs s ≡ Goes u → s ≡ u) = guarded_goes needs s u in true_given (λ b. cond b (guarded needs s) (IsStuck need.1) ≡ Goes u) need.0 e (λ e. cc) (λ _ e. rest e)
 
 pub guarded_met : (list : List Need) (s u : State) → guarded list s ≡ Goes u → AllTrue list
 guarded_met [] s u e = tt
-guarded_met (need ∷ list) s u e = go need.0 refl (guarded_met list s u) e
-  where
-    go : (b : Bool) → need.0 ≡ b → (guarded list s ≡ Goes u → AllTrue list) → cond b (guarded list s) (IsStuck need.1) ≡ Goes u → (need.0 ≡ true) × AllTrue list
-    go true h rest e = (h, rest e)
-    go false h rest e = cc
+guarded_met (need ∷ list) s u e = let rest : (guarded list s ≡ Goes u → AllTrue list) = guarded_met list s u in true_given (λ b. cond b (guarded list s) (IsStuck need.1) ≡ Goes u) need.0 e (λ e. cc) (λ h e. (h, rest e))

@@ -1,11 +1,12 @@
 -- Only registers that a method has come to own: an instruction names no other, and arguments come to the first ones.
 use Rattle.std.proofs.Common.{Bool, List, None, Option, Some, [], arith, cond, false, length, refl, subst, suc, true, zero, ℕ, ℤ, ◌+◌, ◌-◌, ◌∷◌, ◌≡◌, ◌≤◌}
+use Rattle.aom_image.proofs.Given.{true_given, some_given}
 use Rattle.std.proofs.lemmas.Bool.{leb-true}
 use Rattle.std.specs.Ordering.{int_eq}
 use Rattle.std.specs.Prelude.{int_lt}
 use Rattle.aom_image.specs.Image.{Image}
 use Rattle.aom_image.specs.Operands.{IsRegister}
-use Rattle.aom_image.specs.Views.{arguments_of, gives_of, instr_at, method_class}
+use Rattle.aom_image.specs.Views.{arguments_of, instr_at, method_class}
 use Rattle.aom_image.specs.WellFormed.{InstrFits}
 use Rattle.aom_image.specs.declared.instr.Instr.{Instr}
 use Rattle.aom_image.specs.declared.instr.Instr.TheVariants.{Call, Delete, JumpEmpty, JumpEqual, JumpLess, JumpNull, LeaveIf, Move, New, NewOrLeave, Next, Pop, PopDelete, Push, PushOperation, Take, Trap}
@@ -203,11 +204,7 @@ arrive_in_range p code _ items s u all e = cc
 
 unwind_in_range : (p : Image) (code : ℤ) (ts : List Task) (items : List Item) (s u : State) → AllInRange s.cells → unwound p code ts s items ≡ Goes u → AllInRange u.cells
 unwind_in_range p code ts [] s u all e = cc
-unwind_in_range p code ts (An_object ∷ items) s u all e = go (top_is_whole s.cells (An_object ∷ items)) e
-  where
-    go : (b : Bool) → cond b (Goes (dealt_with p (An_object ∷ items) (Unwind code ∷ ts) s)) (IsStuck NullOrDead) ≡ Goes u → AllInRange u.cells
-    go true e = subst (λ v. AllInRange v.cells) (goes_same _ u e) (deal_in_range p (An_object ∷ items) (Unwind code ∷ ts) s all)
-    go false e = cc
+unwind_in_range p code ts (An_object ∷ items) s u all e = true_given (λ b. cond b (Goes (dealt_with p (An_object ∷ items) (Unwind code ∷ ts) s)) (IsStuck NullOrDead) ≡ Goes u) (top_is_whole s.cells (An_object ∷ items)) e (λ e. cc) (λ _ e. subst (λ v. AllInRange v.cells) (goes_same _ u e) (deal_in_range p (An_object ∷ items) (Unwind code ∷ ts) s all))
 unwind_in_range p code ts (An_operation m w ∷ items) s u all e = subst (λ v. AllInRange v.cells) (goes_same _ u e) all
 unwind_in_range p code ts (A_mark ∷ items) s u all e = arrive_in_range p code ts items s u all e
 
@@ -232,14 +229,10 @@ moves p wired c s u all e = go s.tasks e
   where
     go : (ts : List Task) → step_task p c (counted p s) ts ≡ Goes u → AllInRange u.cells
     go [] e = subst (λ v. AllInRange v.cells) (goes_same _ u e) all
-    go (Run fr ∷ ts) e = runs (instr_at p fr.method fr.place) refl e
-      where
-        runs : (i : Option Instr) → instr_at p fr.method fr.place ≡ i → step_instr p c fr ts (counted p s) i ≡ Goes u → AllInRange u.cells
-        runs None at e = cc
-        runs (Some i) at e =
-            let fits = wired.operands fr.method fr.place i at in
-            subst (λ v. AllInRange v.cells) (guarded_goes (needs p c fr ts (counted p s) i) (does p c fr ts (counted p s) i) u e)
-            (apply_in_range p wired fr ts (counted p s) all (effect p c fr ts (counted p s) i) (effect_fits p c fr ts (counted p s) i fits.0 fits.1 (guarded_met (needs p c fr ts (counted p s) i) (does p c fr ts (counted p s) i) u e)))
+    go (Run fr ∷ ts) e = some_given (λ i. step_instr p c fr ts (counted p s) i ≡ Goes u) (instr_at p fr.method fr.place) e (λ e. cc) (λ i at e.
+        let fits = wired.operands fr.method fr.place i at in
+        subst (λ v. AllInRange v.cells) (guarded_goes (needs p c fr ts (counted p s) i) (does p c fr ts (counted p s) i) u e)
+        (apply_in_range p wired fr ts (counted p s) all (effect p c fr ts (counted p s) i) (effect_fits p c fr ts (counted p s) i fits.0 fits.1 (guarded_met (needs p c fr ts (counted p s) i) (does p c fr ts (counted p s) i) u e))))
     go (Trapped ∷ ts) e = cc
     go (Destroy ∷ ts) e = go_in_range (held s.cells (Going (length ts))) ts (counted p s) u all e
     go (Unwind code ∷ ts) e = unwind_in_range p code ts s.items (counted p s) u all e

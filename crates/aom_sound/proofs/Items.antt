@@ -25,10 +25,8 @@ forms_below (i ∷ items) x rest e = cc
 
 -- a mark is the last item
 pub mark_on_top : (items : List Item) (rest : List Form) → forms items ≡ Mark_form ∷ rest → tops_mark items ≡ true
-mark_on_top [] rest e = cc
-mark_on_top (An_object ∷ items) rest e = cc
-mark_on_top (An_operation m w ∷ items) rest e = cc
 mark_on_top (A_mark ∷ items) rest e = refl
+mark_on_top _ rest e = cc
 
 pub undos_below : (p : Image) (items : List Item) → AllUndo p items → AllUndo p (below_top items)
 undos_below p (An_operation m w ∷ items) u = u.1
@@ -41,8 +39,6 @@ length_each (e ∷ es) below = omega (arith, length_each es below)
 
 -- an entry is among the items
 pub entry_there : (es : List Pushed) (below : List Form) (items : List Item) (k : ℕ) → forms items ≡ objects es below → k < length es → is_some (entry_at items k) ≡ true
-entry_there [] below items k e lt = absurd (omega arith)
-entry_there (x ∷ es) below [] k e lt = cc
 entry_there (x ∷ es) below (An_object ∷ items) zero e lt = refl
 entry_there (x ∷ es) below (An_object ∷ items) (suc k) e lt = let same : forms items ≡ objects es below = cc in entry_there es below items k same (omega arith)
 entry_there (x ∷ es) below (An_operation m w ∷ items) zero e lt = refl
@@ -52,17 +48,15 @@ entry_there (x ∷ es) below (A_mark ∷ items) k e lt = absurd (no_mark x e)
     no_mark : (x : Pushed) → Mark_form ∷ forms items ≡ entry_form x ∷ objects es below → ⊥
     no_mark (Pushed_object c a) e = cc
     no_mark Pushed_operation e = cc
+entry_there _ below _ k e lt = absurd (first_of (cc, omega arith))
 
 -- an entry that owns is no operation
 pub entry_owns : (es : List Pushed) (below : List Form) (items : List Item) (k : ℕ) → forms items ≡ objects es below → k < length es → is_unowning (entry_kind (at Pushed_operation es k)) ≡ false → is_no_operation (entry_at items k) ≡ true
-entry_owns [] below items k e lt own = absurd (omega arith)
-entry_owns (x ∷ es) below [] k e lt own = cc
 entry_owns (x ∷ es) below (An_object ∷ items) zero e lt own = refl
 entry_owns (x ∷ es) below (An_object ∷ items) (suc k) e lt own = let same : forms items ≡ objects es below = cc in entry_owns es below items k same (omega arith) own
-entry_owns (Pushed_object c a ∷ es) below (An_operation m w ∷ items) zero e lt own = cc
-entry_owns (Pushed_operation ∷ es) below (An_operation m w ∷ items) zero e lt own = cc
 entry_owns (x ∷ es) below (An_operation m w ∷ items) (suc k) e lt own = let same : forms items ≡ objects es below = cc in entry_owns es below items k same (omega arith) own
 entry_owns (x ∷ es) below (A_mark ∷ items) k e lt own = refl
+entry_owns _ below _ k e lt own = absurd (grind arith)
 
 -- an entry that becomes ready is an item as before
 pub readied_items : (es : List Pushed) (k : ℕ) (below : List Form) → objects (readied_at es k) below ≡ objects es below

@@ -19,7 +19,7 @@ use Rattle.aom_sound.specs.Calls.{none_owns_but}
 use Rattle.aom_sound.specs.Claims.{Dispatching, Dying, Form, Layer, Mark, Method, Unwinding, claim, declared, entry_claim, entry_form, forms, home_claim, items_of, objects, root_claim, tasks_of}
 use Rattle.aom_sound.specs.Cleanup.{above_trap_is_free, has_trap, is_negative, leave_needs, to_trap}
 use Rattle.aom_sound.specs.Places.{Cell, Elsewhere, Entry, Field, Going, Object, Place, Register, Root, held}
-use Rattle.aom_sound.specs.State.{AtRoot, Choice, Dispatch, Frame, Home, Inside, Main_left, Of_main, Of_root, Run, State, Static, Unwind, next}
+use Rattle.aom_sound.specs.State.{AtRoot, Choice, Dispatch, Frame, Home, Inside, Of_main, Run, State, Static, Unwind, next}
 use Rattle.aom_sound.specs.WellTyped.{AllUndo, EndsDispatch, Fits, IsApart, IsHoused, Leaves, Returns, Stack, WellTyped, past_going}
 use Rattle.aom_sound.specs.Effects.{Leaves, Same, applied, updates}
 use Rattle.aom_sound.specs.Words.{read}
@@ -71,8 +71,7 @@ join_claims p d code es fs ls (Going k) = refl
 -- what lies under a method that may leave: neither the end of the run nor a dispatch's
 no_end : {A : Type 0} (p : Image) (d : Dispatch) (m : ℕ) (home : Home) → EndsDispatch p d (Returns m home) → A
 no_end p Of_main m home e = absurd e
-no_end p (Main_left code) m home e = absurd e
-no_end p Of_root m home e = absurd e
+no_end p _ m home e = absurd e
 
 not_going : (p : Image) (t : Typing) (cs : List Cell) (ls : List Layer) (m : ℕ) (home : Home) → leaves p m ≡ true → Stack p t cs (Returns m home) ls → past_going ls ≡ ls
 not_going p t cs (Dying o ∷ ls) m home e s = absurd (true≢false (sym e ∙ s.1.0))
@@ -104,7 +103,6 @@ ended_by_leave p cs fr sh ls code housed apart at_top n r h o fits = go r fits
 
 -- all methods over the trap end so
 all_ended : (p : Image) (t : Typing) (cs : List Cell) (code : ℤ) (ls : List Layer) (es : List Pushed) (m : ℕ) (home : Home) → leaves p m ≡ true → Stack p t cs (Returns m home) ls → (r : Place) (h : Place → Option Object) (o : Option Object) → Fits p h o (claim p (declared p cs) (Unwinding code es ∷ ls) r) → Fits p h o (claim p (declared p cs) (Unwinding code (es ++ entries_over ls) ∷ from_trap ls) r)
-all_ended p t cs code [] es m home e s r h o fits = cc
 all_ended p t cs code (Method fr sh ∷ ls) es m home e s r h o fits =
     let may = s.0.0 e in
     let d = declared p cs in
@@ -113,17 +111,14 @@ all_ended p t cs code (Method fr sh ∷ ls) es m home e s r h o fits =
     subst (λ es. Fits p h o (claim p d (Unwinding code es ∷ from_trap ls) r)) (append_assoc es sh.entries (entries_over ls))
     (all_ended p t cs code ls (es ++ sh.entries) fr.method fr.home may.0 s.4 r h o two)
 all_ended p t cs code (Mark gv ∷ ls) es m home e s r h o fits = subst (λ es. Fits p h o (claim p (declared p cs) (Unwinding code es ∷ Mark gv ∷ ls) r)) (sym (append-nil es)) fits
-all_ended p t cs code (Dying x ∷ ls) es m home e s r h o fits = absurd (true≢false (sym e ∙ s.1.0))
-all_ended p t cs code (Unwinding c fs ∷ ls) es m home e s r h o fits = absurd (true≢false (sym e ∙ s.0.0))
 all_ended p t cs code (Dispatching d ∷ ls) es m home e s r h o fits = no_end p d m home s.0
+all_ended p t cs code _ es m home e s r h o fits = absurd (first_of (assumption tt, cc))
 
 stack_from_trap : (p : Image) (t : Typing) (cs : List Cell) (ls : List Layer) (m : ℕ) (home : Home) → leaves p m ≡ true → Stack p t cs (Returns m home) ls → Stack p t cs Leaves (from_trap ls)
-stack_from_trap p t cs [] m home e s = cc
 stack_from_trap p t cs (Method fr sh ∷ ls) m home e s = stack_from_trap p t cs ls fr.method fr.home (s.0.0 e).0 s.4
 stack_from_trap p t cs (Mark gv ∷ ls) m home e s = (tt, s.1)
-stack_from_trap p t cs (Dying o ∷ ls) m home e s = absurd (true≢false (sym e ∙ s.1.0))
-stack_from_trap p t cs (Unwinding code es ∷ ls) m home e s = absurd (true≢false (sym e ∙ s.0.0))
 stack_from_trap p t cs (Dispatching d ∷ ls) m home e s = no_end p d m home s.0
+stack_from_trap p t cs _ m home e s = absurd (first_of (assumption tt, cc))
 
 -- what the registers of the layers hold is as claimed
 abbrev RegistersFit : Image → List Cell → List Layer → Type 0
@@ -137,15 +132,13 @@ frame_is_free p cs fr sh ls h n = none_owns_from cs (length (tasks_of ls)) None 
 
 -- under a method that may leave there is a trap, and the registers up to it own nothing
 below_leaving : (p : Image) (t : Typing) (cs : List Cell) (ls : List Layer) (m : ℕ) (home : Home) → leaves p m ≡ true → Stack p t cs (Returns m home) ls → RegistersFit p cs ls → (has_trap (tasks_of ls) ≡ true) × (above_trap_is_free cs (tasks_of ls) ≡ true)
-below_leaving p t cs [] m home e s h = cc
 below_leaving p t cs (Method fr sh ∷ ls) m home e s h =
     let may = s.0.0 e in
     let rest = below_leaving p t cs ls fr.method fr.home may.0 s.4 (registers_below p cs fr sh ls h) in
     (rest.0, and_from _ _ (frame_is_free p cs fr sh ls h may.1) rest.1)
 below_leaving p t cs (Mark gv ∷ ls) m home e s h = (refl, refl)
-below_leaving p t cs (Dying o ∷ ls) m home e s h = absurd (true≢false (sym e ∙ s.1.0))
-below_leaving p t cs (Unwinding code es ∷ ls) m home e s h = absurd (true≢false (sym e ∙ s.0.0))
 below_leaving p t cs (Dispatching d ∷ ls) m home e s h = no_end p d m home s.0
+below_leaving p t cs _ m home e s h = absurd (first_of (assumption tt, cc))
 
 -- where a method may leave and its registers own nothing, the needs of a leave are met; any frame may stand for its own
 pub leave_is_met : (p : Image) (t : Typing) (cs : List Cell) (fr top_frame : Frame) (sh : Shape) (ls : List Layer) → Fitted p t cs fr sh ls → leaves p fr.method ≡ true → none_owns sh.registers ≡ true → AllTrue (leave_needs cs (Run top_frame ∷ tasks_of ls))

@@ -43,3 +43,4 @@ pub mod Standing
 pub mod Trapping
 pub mod Owning
 pub mod Biting
+pub mod Layers

@@ -1,6 +1,6 @@
 -- Each step is a move: an instruction has its effect, and may have it.
 use Rattle.std.proofs.Common.{Bool, List, None, Option, Some, [], ap, cond, false, inl, inr, length, refl, subst, suc, sym, true, zero, ℕ, ℤ, ◌-◌, ◌∙◌, ◌∷◌, ◌≡◌}
-use Rattle.std.proofs.lemmas.Bool.{true≢false}
+use Rattle.aom_image.proofs.Given.{some_given}
 use Rattle.std.specs.Ordering.{int_eq}
 use Rattle.std.specs.Prelude.{int_lt, is_some}
 use Rattle.aom_image.specs.Image.{Image}
@@ -71,10 +71,9 @@ module _ (p : Image) (c : Choice) (fr : Frame) (ts : List Task) (s : State) wher
   may_leave false cs n e = cc
 
   dealing : (items : List Item) (o : Option Object) → s.items ≡ items → held s.cells (top_place items) ≡ o → tops_entry items ≡ true → top_is_whole s.cells items ≡ true → May PopDelete (deals fr items o)
-  dealing (An_object ∷ items) None at e there whole = absurd (true≢false (sym whole ∙ ap is_some e))
   dealing (An_object ∷ items) (Some o) at e there whole = (refl, at ∙ ap (λ l. An_object ∷ l) (sym (ap below_top at)), ap (λ l. held s.cells (top_place l)) at ∙ e)
   dealing (An_operation m w ∷ items) o at e there whole = (refl, at ∙ ap (λ l. An_operation m w ∷ l) (sym (ap below_top at)))
-  dealing _ o at e there whole = cc
+  dealing _ _ at e there whole = absurd (first_of (assumption tt, cc))
 
   fits : (i : Instr) → AllTrue (needs p c fr ts s i) → May i (effect p c fr ts s i)
   unfolding jump_of loop_in
@@ -106,14 +105,10 @@ module _ (p : Image) (c : Choice) (fr : Frame) (ts : List Task) (s : State) wher
 
 -- a cell goes
 vanishes : (p : Image) (c : Choice) (ts : List Task) (s u : State) → s.tasks ≡ Destroy ∷ ts → gone (held s.cells (Going (length ts))) ts (counted p s) ≡ Goes u → Move p c s u
-vanishes p c ts s u at e = go (held s.cells (Going (length ts))) refl e
-  where
-    go : (o : Option Object) → held s.cells (Going (length ts)) ≡ o → gone o ts (counted p s) ≡ Goes u → Move p c s u
-    go None there e = cc
-    go (Some o) there e =
-        let needed = (owns_nothing s.cells o.name, Orphan) ∷ [] in
-        let after : State = record (counted p s) { cells = without (Going (length ts)) s.cells; tasks = resumed ts } in
-        Vanishes ts o at there (guarded_met needed after u e).0 (sym (guarded_goes needed after u e))
+vanishes p c ts s u at e = some_given (λ o. gone o ts (counted p s) ≡ Goes u) (held s.cells (Going (length ts))) e (λ e. cc) (λ o there e.
+    let needed = (owns_nothing s.cells o.name, Orphan) ∷ [] in
+    let after : State = record (counted p s) { cells = without (Going (length ts)) s.cells; tasks = resumed ts } in
+    Vanishes ts o at there (guarded_met needed after u e).0 (sym (guarded_goes needed after u e)))
 
 -- a code arrives
 arrives :
@@ -127,11 +122,7 @@ unwinds :
     (p : Image) (c : Choice) (code : ℤ) (ts : List Task) (items : List Item) (s u : State) → s.tasks ≡ Unwind code ∷ ts → s.items ≡ items → unwound p code ts (counted p s) items ≡ Goes u →
     Move p c s u
 unwinds p c code ts [] s u at top e = cc
-unwinds p c code ts (An_object ∷ items) s u at top e = go (held s.cells (Entry (length items))) refl e
-  where
-    go : (o : Option Object) → held s.cells (Entry (length items)) ≡ o → cond (is_some o) (Goes (destroyed p o items (Unwind code ∷ ts) (counted p s))) (IsStuck NullOrDead) ≡ Goes u → Move p c s u
-    go None there e = cc
-    go (Some o) there e = Clears code ts items o at top there (sym (goes_same _ u e))
+unwinds p c code ts (An_object ∷ items) s u at top e = some_given (λ o. cond (is_some o) (Goes (destroyed p o items (Unwind code ∷ ts) (counted p s))) (IsStuck NullOrDead) ≡ Goes u) (held s.cells (Entry (length items))) e (λ e. cc) (λ o there e. Clears code ts items o at top there (sym (goes_same _ u e)))
 unwinds p c code ts (An_operation m w ∷ items) s u at top e = Undoes code ts items m w at top (sym (goes_same _ u e))
 unwinds p c code ts (A_mark ∷ items) s u at top e = arrives p c code ts items s u at top e
 

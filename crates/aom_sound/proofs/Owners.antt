@@ -14,7 +14,7 @@ use Rattle.aom_shape.specs.Typing.{Typing}
 use Rattle.aom_shape.specs.declared.kind.Entry.{Entry as Pushed}
 use Rattle.aom_shape.specs.declared.kind.Entry.TheVariants.{Object as Pushed_object, Operation as Pushed_operation}
 use Rattle.aom_shape.specs.declared.kind.Filling.{Filling}
-use Rattle.aom_shape.specs.declared.kind.Filling.TheVariants.{Empty, Full, Perhaps}
+use Rattle.aom_shape.specs.declared.kind.Filling.TheVariants.{Full, Perhaps}
 use Rattle.aom_shape.specs.declared.kind.Kind.{Kind}
 use Rattle.aom_shape.specs.declared.kind.Kind.TheVariants.{Maybe, Null, Own, Unset, Word}
 use Rattle.aom_sound.proofs.Claimed.{claim_entry_above, claim_register_above}
@@ -26,7 +26,7 @@ use Rattle.aom_sound.specs.Laws.{EndsEmpty, EndsOwned, IsWired}
 use Rattle.aom_sound.specs.Owned.{AllOwned, Ends, HasRegisters, IsObjects, Lives, NoneGoes, Owned, at_entry, at_register, at_root, by_cell, over}
 use Rattle.aom_sound.specs.Places.{Cell, Elsewhere, Entry, Field, Going, Object, Place, Register, Root, Tidy, held, named, same_place}
 use Rattle.aom_sound.specs.Registers.{AllInRange, IsInRange}
-use Rattle.aom_sound.specs.State.{A_mark, An_object, An_operation, AtRoot, Home, Inside, Item, Main_left, Of_main, Of_root, Run, State, Static, thing_holder}
+use Rattle.aom_sound.specs.State.{An_object, AtRoot, Home, Inside, Item, Main_left, Of_main, Of_root, Run, State, Static, thing_holder}
 use Rattle.aom_sound.specs.WellTyped.{Back, Caught, Fits, Gone, IsHoused, Leaves, Now, Returns, Stack, WellTyped}
 
 -- what a kind of an owning place says of the thing
@@ -65,10 +65,9 @@ named_held (c ∷ cs) n o t e = go (c.object.name == n) (λ e. named_held cs n o
 
 -- what is claimed to be filled is declared for a thing
 filled_thing : (k : Option Thing) (y : Filling) (x : Thing) → HasThing (filled k y) x → k ≡ Some x
-filled_thing None y x h = absurd h
-filled_thing (Some d) Empty x h = absurd h
 filled_thing (Some d) Full x h = ap (λ z. Some z) (sym h)
 filled_thing (Some d) Perhaps x h = ap (λ z. Some z) (sym h)
+filled_thing _ _ x h = absurd h
 
 -- what is declared of a field, by the cell that has it
 declared_thing_of : (p : Image) (cs : List Cell) (n f : ℕ) (c : Thing) → HasThing (declared p cs (Field n f)) c → (o : Object) × (named cs n ≡ Some o) × (field_thing p (thing_holder o.thing) f ≡ Some c)
@@ -188,8 +187,7 @@ objects_item (i ∷ items) k e = go (length items == k) (objects_item items k) (
   where
     here : (i : Item) → Some (form i) ≡ Some Object_form → IsObjects (Some i)
     here An_object e = tt
-    here (An_operation m w) e = cc
-    here A_mark e = cc
+    here _ e = cc
 
     go : (b : Bool) → (over (forms items) k ≡ Some Object_form → IsObjects (over items k)) → cond b (Some (form i)) (over (forms items) k) ≡ Some Object_form → IsObjects (cond b (Some i) (over items k))
     go true rest e = here i e
@@ -222,10 +220,7 @@ unfolding class_at fields_in
 declaring p (An_object_of c) y f e = go (slice_get p.classes c) refl e
   where
     go : (k : Option ClassDecl) → slice_get p.classes c ≡ k → slice_get (fields_in k) f ≡ Some y → suc c ≤ length p.classes
-    go None at h = absurd (nothing_there f h)
-      where
-        nothing_there : (f : ℕ) → slice_get {X = Thing} [] f ≡ Some y → ⊥
-        nothing_there f h = cc
+    go None at h = let clash : slice_get {X = Thing} [] f ≡ Some y = h in cc
     go (Some k) at h = let lt = slice_get_within p.classes c k at in omega arith
 declaring p Message y f e = cc
 

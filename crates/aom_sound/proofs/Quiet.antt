@@ -1,4 +1,5 @@
 -- While a cell goes or a leave unwinds, quiet methods alone run, so that no trap stands over it.
+use Rattle.std.proofs.lemmas.Option.{same_Some}
 use Rattle.std.proofs.Common.{Bool, List, None, Option, Some, [], ap, false, length, refl, subst, sym, true, ℕ, ℤ, ◌∙◌, ◌∷◌, ◌≡◌}
 use Rattle.std.proofs.lemmas.Bool.{true≢false}
 use Rattle.std.specs.Prelude.{not}
@@ -13,20 +14,18 @@ use Rattle.aom_shape.specs.Needs.{AllTrue}
 use Rattle.aom_shape.specs.Rules.{rule_needs}
 use Rattle.aom_shape.specs.Shape.{Shape}
 use Rattle.aom_shape.specs.Typing.{IsTyped, Typing, shape_at}
-use Rattle.aom_shape.specs.declared.kind.Kind.{Kind}
-use Rattle.aom_shape.specs.declared.kind.Kind.TheVariants.{Null}
 use Rattle.aom_sound.proofs.Callees.{only_then}
 use Rattle.aom_sound.proofs.Destroying.{destroys}
 use Rattle.aom_sound.proofs.Finishing.{all_parts}
 use Rattle.aom_sound.proofs.Owners.{owned}
 use Rattle.aom_sound.proofs.Preserving.{Acting, Kept, keeps}
-use Rattle.aom_sound.specs.Claims.{Dispatching, Dying, Layer, Mark, Method, Unwinding, claim, declared, tasks_of}
+use Rattle.aom_sound.specs.Claims.{Layer, Method, tasks_of}
 use Rattle.aom_sound.specs.Laws.{IsWired}
 use Rattle.aom_sound.specs.Moves.{step}
 use Rattle.aom_sound.specs.Owned.{NoneGoes}
-use Rattle.aom_sound.specs.Places.{Cell, Going, Place}
+use Rattle.aom_sound.specs.Places.{Cell}
 use Rattle.aom_sound.specs.Quiet.{CalmKeeps, CaughtOwned, IsCalm, calm, is_clearing}
-use Rattle.aom_sound.specs.State.{An_operation, Choice, Destroy, Dispatched, Frame, Goes, Item, Run, State, Task, Trapped, Unwind}
+use Rattle.aom_sound.specs.State.{An_operation, Choice, Dispatched, Frame, Goes, Item, Run, State, Task, Trapped}
 use Rattle.aom_sound.specs.WellTyped.{AllUndo, Good, WellTyped}
 use Rattle.aom_sound.specs.World.{boot_state, main_tasks}
 
@@ -41,11 +40,8 @@ module _ (p : Image) (t : Typing) (wired : IsWired p) (typed : IsTyped p t) (c :
   ruled fr ts i a =
       let stands = its_shape p t s.cells fr ts w.layers (sym a.tasks ∙ w.tasks) w.good in
       let x = typed.each fr.method fr.place stands.0 stands.1 in
-      let same : x.instr ≡ i = some_same x.instr i (sym x.stands ∙ a.there) in
+      let same : x.instr ≡ i = same_Some x.instr i (sym x.stands ∙ a.there) in
       (stands.0, subst (λ j. AllTrue (rule_needs p fr.method fr.place stands.0 j)) same x.needs)
-    where
-      some_same : (x y : Instr) → Some x ≡ Some y → x ≡ y
-      some_same x y e = cc
 
   -- a quiet method calls quiet ones
   calls_quiet : (fr : Frame) (ts : List Task) (target : Target) (m first x : ℕ) → Acting p c (calm p) s fr ts (Call target m first x) → is_clearing ts ≡ true → is_quiet p m ≡ true
@@ -98,9 +94,8 @@ none_goes : (ts : List Task) → is_clearing ts ≡ false → NoneGoes ts
 none_goes [] e = tt
 none_goes (Run fr ∷ ts) e = none_goes ts e
 none_goes (Trapped ∷ ts) e = none_goes ts e
-none_goes (Destroy ∷ ts) e = absurd (true≢false e)
-none_goes (Unwind code ∷ ts) e = absurd (true≢false e)
 none_goes (Dispatched d ∷ ts) e = none_goes ts e
+none_goes _ e = absurd (true≢false e)
 
 pub caught_owned : CaughtOwned
 caught_owned p t wired s w calm fits code tasks items at top = owned p t wired s w (subst (λ l. NoneGoes l) (sym at) (none_goes tasks (subst (λ l. IsCalm p l) at calm).0)) fits

@@ -176,9 +176,8 @@ module _ (p : Image) (s : State) where
   may_hold x _ e r = cc
 
   pub word_is : (w : Option ℤ) (k : Kind) → is_word k ≡ true → WordFits w k → (is_some w ≡ true) × WordFits w Word
-  word_is None Word e f = absurd f
   word_is (Some w) Word e f = (refl, tt)
-  word_is w _ e f = cc
+  word_is _ _ e f = absurd (grind arith)
 
   pub held_thing : (x : Thing) (o : Option Object) → Fits p (held s.cells) o (Own x Ready) → (is_some o ≡ true) × (is_thing p x o ≡ true)
   held_thing x None f = absurd f

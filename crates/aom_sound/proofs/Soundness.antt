@@ -1,5 +1,5 @@
 -- Each run of an image that has a typing: every state that it comes to is well typed, and where it ended nothing is at hand.
-use Rattle.std.proofs.Common.{Bool, List, None, Option, Some, [], ap, cond, false, inl, inr, refl, subst, sym, true, ℕ, ℤ, ⊎_elim, ◌-◌, ◌∙◌, ◌∷◌, ◌≡◌}
+use Rattle.std.proofs.Common.{Bool, List, None, Option, Some, [], ap, cond, false, inl, inr, refl, subst, sym, true, ℕ, ⊎_elim, ◌∙◌, ◌∷◌, ◌≡◌}
 use Rattle.std.specs.Prelude.{◌⊎◌}
 use Rattle.aom_image.specs.Image.{Image}
 use Rattle.aom_shape.specs.Typing.{IsTyped, Typing}
@@ -11,7 +11,6 @@ use Rattle.aom_sound.proofs.Owners.{ends_empty, ends_owned}
 use Rattle.aom_sound.proofs.Quiet.{calm_keeps, caught_owned}
 use Rattle.aom_sound.proofs.Resting.{IsEnd, Takes, course_ended, move_rest}
 use Rattle.aom_sound.proofs.Steps.{step_keeps}
-use Rattle.aom_sound.specs.Claims.{Dispatching, Layer, tasks_of}
 use Rattle.aom_sound.specs.Destruction.{gone}
 use Rattle.aom_sound.specs.Laws.{IsSound, IsWired}
 use Rattle.aom_sound.specs.Moves.{IsOpen, counted, dispatch_ends, main_ends, step}
@@ -23,8 +22,9 @@ use Rattle.aom_sound.specs.Steps.{Move}
 use Rattle.aom_sound.specs.WellTyped.{Good, Keeps, WellTyped}
 use Rattle.aom_sound.specs.World.{IsBusy, Reaches, begins, boot_state, moves, waits}
 use Rattle.aom_sound.specs.declared.line.Ending.{Ending}
-use Rattle.aom_sound.specs.declared.line.Ending.TheVariants.{MainLeft, Stopped, Waiting}
+use Rattle.aom_sound.specs.declared.line.Ending.TheVariants.{Stopped}
 use Rattle.aom_sound.specs.declared.line.Line.{Line}
+use Rattle.aom_sound.proofs.Layers.{dispatch_layer}
 
 -- nothing is at hand, and where the run is over as stopped the root holds nothing
 record Settled (s : State) : Type 0 where
@@ -39,12 +39,6 @@ not_stopped : (b : Bool) → b ≡ false → cond b (Some Stopped) None ≡ Some
 not_stopped true f e = cc
 not_stopped false f e = cc
 
-left_stopped : (code : ℤ) → Some (MainLeft code) ≡ Some Stopped → ⊥
-left_stopped code e = cc
-
-waiting_stopped : Some Waiting ≡ Some Stopped → ⊥
-waiting_stopped e = cc
-
 -- at the end of a run the root is gone
 abbrev Uprooted : State → Type 0
 Uprooted s = (ts : List Task) → s.tasks ≡ Dispatched Of_root ∷ ts → held s.cells (Elsewhere Root) ≡ None
@@ -56,7 +50,7 @@ main_holds p s false root f e = inr (record { idle = refl; rootless = λ h. absu
 
 dispatch_holds : (p : Image) (s : State) (d : Dispatch) → (d ≡ Of_root → held s.cells (Elsewhere Root) ≡ None) → ((dispatch_ends p d s).rest.ended ≡ s.rest.ended) ⊎ Settled (dispatch_ends p d s)
 dispatch_holds p s Of_main rootless = main_holds p s s.rest.stopped (held s.cells (Elsewhere Root)) refl refl
-dispatch_holds p s (Main_left code) rootless = inr (record { idle = refl; rootless = λ h. absurd (left_stopped code h) })
+dispatch_holds p s (Main_left code) rootless = inr (record { idle = refl; rootless = λ h. cc })
 dispatch_holds p s Of_root rootless = inr (record { idle = refl; rootless = λ h. rootless refl })
 
 -- a move ends the run only where it leaves nothing at hand
@@ -75,11 +69,7 @@ busy_open s busy (inr settled) = let clash : busy.0 ∷ busy.1 ≡ [] = sym busy
 
 -- by the layers
 uprooted_so : (p : Image) (t : Typing) (s : State) → WellTyped p t s → Uprooted s
-uprooted_so p t s w ts e = go w.layers (sym w.tasks ∙ e) w.good
-  where
-    go : (ls : List Layer) → tasks_of ls ≡ Dispatched Of_root ∷ ts → Good p t s.cells ls → held s.cells (Elsewhere Root) ≡ None
-    go (Dispatching d ∷ ls) at good = let same : d ≡ Of_root = cc in root_gone p t s ls (subst (λ x. Good p t s.cells (Dispatching x ∷ ls)) same good)
-    go _ at good = cc
+uprooted_so p t s w ts e = dispatch_layer (λ ls. Good p t s.cells ls) Of_root ts w.layers (sym w.tasks ∙ e) w.good (λ ls _ good. root_gone p t s ls good)
 
 module _ (p : Image) (t : Typing) (refused : List ℕ) (wired : IsWired p) (typed : IsTyped p t) where
   -- what holds of each state of a run
@@ -104,7 +94,7 @@ module _ (p : Image) (t : Typing) (refused : List ℕ) (wired : IsWired p) (type
     well = record { layers = h.well.layers; tasks = h.well.tasks; items = h.well.items; undos = h.well.undos; good = h.well.good };
     calm = h.calm;
     in_range = h.in_range;
-    goes_on = inr (record { idle = between.idle; rootless = λ e. absurd (waiting_stopped e) });
+    goes_on = inr (record { idle = between.idle; rootless = λ e. cc });
   }
 
   goes : (o : Outcome) → Keeps p t o → (u : State) × (o ≡ Goes u)

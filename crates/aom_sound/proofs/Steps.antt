@@ -9,7 +9,6 @@ use Rattle.aom_image.specs.declared.instr.Instr.{Instr}
 use Rattle.aom_image.specs.declared.instr.Instr.TheVariants.{Add, And, Call, Const, Copy, Delete, Jump, JumpEmpty, JumpEqual, JumpLess, JumpNull, Leave, LeaveIf, Load, Loop, Move, Mul, New, NewOrLeave, Next, Or, Pop, PopDelete, PopOperation, Print, Push, PushOperation, Put, Return, Stop, Store, Sub, Take, Trap, Xor}
 use Rattle.aom_shape.specs.Needs.{AllTrue}
 use Rattle.aom_shape.specs.Shape.{Shape}
-use Rattle.aom_shape.specs.Tables.{at}
 use Rattle.aom_shape.specs.Typing.{IsTyped, Typing}
 use Rattle.aom_sound.proofs.Calling.{law_call, law_trap}
 use Rattle.aom_sound.proofs.Creation.{law_new}
@@ -27,10 +26,11 @@ use Rattle.aom_sound.proofs.Straight.{At, Law, fitted, settle, stepped, well}
 use Rattle.aom_sound.proofs.Unwinding.{unwinds}
 use Rattle.aom_sound.specs.Claims.{Dispatching, Dying, Layer, Mark, Method, Unwinding, forms, items_of, tasks_of}
 use Rattle.aom_sound.specs.Laws.{IsWired}
-use Rattle.aom_sound.specs.Moves.{counted, dispatch_ends, does, needs, step, step_instr, step_task}
+use Rattle.aom_sound.specs.Moves.{counted, does, needs, step, step_instr, step_task}
 use Rattle.aom_sound.specs.Places.{named}
 use Rattle.aom_sound.specs.State.{Choice, Destroy, Dispatch, Dispatched, Frame, IsStuck, Main_left, Need, Of_main, Of_root, Run, State, Task, Trapped, Unwind, guarded, next}
-use Rattle.aom_sound.specs.WellTyped.{AllUndo, Caught, Good, Keeps, Now, Returns, WellTyped}
+use Rattle.aom_sound.specs.WellTyped.{Caught, Good, Keeps, Now, Returns, WellTyped}
+use Rattle.aom_sound.proofs.Layers.{dispatch_layer, going_layer, leave_layer, mark_layer, method_layer}
 
 -- a state goes on where all needs are met
 kept : (p : Image) (t : Typing) (needs : List Need) (s : State) → AllTrue needs → WellTyped p t s → Keeps p t (guarded needs s)
@@ -82,20 +82,14 @@ module _ (p : Image) (t : Typing) (wired : IsWired p) (typed : IsTyped p t) (c :
 
 -- a method returns to what stands below it
 returns : (p : Image) (t : Typing) (c : Choice) (s : State) (fr : Frame) (sh : Shape) (ls : List Layer) (at_hand : At p t s fr sh ls) (a : ℕ) → Law p t c s fr sh ls at_hand (Return a)
-returns p t c s fr sh [] h a = absurd (nothing_below h.good.stack.4)
-  where
-    nothing_below : Returns fr.method fr.home ≡ Now → ⊥
-    nothing_below e = cc
+returns p t c s fr sh [] h a = let clash : Returns fr.method fr.home ≡ Now = h.good.stack.4 in cc
 returns p t c s fr sh (Method fr2 sh2 ∷ ls) h a = law_return p t c s fr fr2 sh sh2 ls h a
 returns p t c s fr sh (Dying o ∷ ls) h a = law_destructor p t c s fr sh o ls h a
 returns p t c s fr sh (Dispatching Of_main ∷ ls) h a = absurd h.good.stack.4.0
 returns p t c s fr sh (Dispatching (Main_left code) ∷ ls) h a = absurd h.good.stack.4.0
 returns p t c s fr sh (Dispatching Of_root ∷ ls) h a = absurd h.good.stack.4.0
 returns p t c s fr sh (Unwinding code es ∷ ls) h a = law_return_unwound p t c s fr sh code es ls h a
-returns p t c s fr sh (Mark gv ∷ []) h a = absurd (nothing_below h.good.stack.4.1)
-  where
-    nothing_below : Caught gv ≡ Now → ⊥
-    nothing_below e = cc
+returns p t c s fr sh (Mark gv ∷ []) h a = let clash : Caught gv ≡ Now = h.good.stack.4.1 in cc
 returns p t c s fr sh (Mark gv ∷ Method fr2 sh2 ∷ ls) h a = law_return_caught p t c s fr fr2 sh sh2 gv ls h a
 returns p t c s fr sh (Mark gv ∷ Mark gv' ∷ ls) h a = absurd h.good.stack.4.1.0
 returns p t c s fr sh (Mark gv ∷ Dying o ∷ ls) h a = absurd h.good.stack.4.1.1
@@ -115,61 +109,28 @@ counted_well p t s w = record { layers = w.layers; tasks = w.tasks; items = w.it
 
 -- each kind of task at hand
 module _ (p : Image) (t : Typing) (c : Choice) (s : State) where
-  by_layers : (ts : List Task) → s.tasks ≡ ts → ((ls : List Layer) → ts ≡ tasks_of ls → forms s.items ≡ items_of ls → AllUndo p s.items → Good p t s.cells ls → Keeps p t (step_task p c s ts)) → WellTyped p t s → Keeps p t (step_task p c s s.tasks)
-  by_layers ts e go w = subst (λ l. Keeps p t (step_task p c s l)) (sym e) (go w.layers (sym e ∙ w.tasks) w.items w.undos w.good)
+  abbrev Stacked : List Layer → Type 0
+  Stacked ls = (s.tasks ≡ tasks_of ls) × (forms s.items ≡ items_of ls) × Good p t s.cells ls
 
   of_method : IsWired p → IsTyped p t → named s.cells c.name ≡ None → (fr : Frame) (ts : List Task) → s.tasks ≡ Run fr ∷ ts → WellTyped p t s → Keeps p t (step_task p c s s.tasks)
-  of_method wired typed unused fr ts e w = by_layers (Run fr ∷ ts) e go w
-    where
-      go : (ls : List Layer) → Run fr ∷ ts ≡ tasks_of ls → forms s.items ≡ items_of ls → AllUndo p s.items → Good p t s.cells ls → Keeps p t (step_task p c s (Run fr ∷ ts))
-      go [] at items undos good = cc
-      go (Method fr' sh ∷ ls) at items undos good = subst (λ l. Keeps p t (step_task p c s l)) (sym at) (instruction_keeps p t wired typed c s fr' sh ls (record { tasks = e ∙ at; items = items; undos = undos; good = good }) unused)
-      go (Mark gv ∷ ls) at items undos good = cc
-      go (Unwinding code es ∷ ls) at items undos good = cc
-      go (Dying o ∷ ls) at items undos good = cc
-      go (Dispatching d ∷ ls) at items undos good = cc
+  of_method wired typed unused fr ts e w =
+      method_layer Stacked fr ts w.layers (sym w.tasks ∙ e) (w.tasks, w.items, w.good) (λ sh ls rest h.
+      subst (λ l. Keeps p t (step_task p c s l)) (sym h.0) (instruction_keeps p t wired typed c s fr sh ls (record { tasks = h.0; items = h.1; undos = w.undos; good = h.2 }) unused))
 
   of_going : (ts : List Task) → s.tasks ≡ Destroy ∷ ts → WellTyped p t s → Keeps p t (step_task p c s s.tasks)
-  of_going ts e w = by_layers (Destroy ∷ ts) e go w
-    where
-      go : (ls : List Layer) → Destroy ∷ ts ≡ tasks_of ls → forms s.items ≡ items_of ls → AllUndo p s.items → Good p t s.cells ls → Keeps p t (step_task p c s (Destroy ∷ ts))
-      go [] at items undos good = cc
-      go (Method fr' sh ∷ ls) at items undos good = cc
-      go (Mark gv ∷ ls) at items undos good = cc
-      go (Unwinding code es ∷ ls) at items undos good = cc
-      go (Dying o ∷ ls) at items undos good = subst (λ l. Keeps p t (step_task p c s l)) (sym at) (going_keeps p t s o ls good items undos)
-      go (Dispatching d ∷ ls) at items undos good = cc
+  of_going ts e w =
+      going_layer Stacked ts w.layers (sym w.tasks ∙ e) (w.tasks, w.items, w.good) (λ o ls rest h.
+      subst (λ l. Keeps p t (step_task p c s l)) (sym h.0) (going_keeps p t s o ls h.2 h.1 w.undos))
 
   of_dispatch : IsWired p → IsTyped p t → (d : Dispatch) (ts : List Task) → s.tasks ≡ Dispatched d ∷ ts → WellTyped p t s → Keeps p t (step_task p c s s.tasks)
-  of_dispatch wired typed d ts e w = by_layers (Dispatched d ∷ ts) e go w
-    where
-      go : (ls : List Layer) → Dispatched d ∷ ts ≡ tasks_of ls → forms s.items ≡ items_of ls → AllUndo p s.items → Good p t s.cells ls → Keeps p t (step_task p c s (Dispatched d ∷ ts))
-      go [] at items undos good = cc
-      go (Method fr' sh ∷ ls) at items undos good = cc
-      go (Mark gv ∷ ls) at items undos good = cc
-      go (Unwinding code es ∷ ls) at items undos good = cc
-      go (Dying o ∷ ls) at items undos good = cc
-      go (Dispatching w ∷ ls) at items undos good = let same : d ≡ w = cc in subst (λ x. WellTyped p t (dispatch_ends p x s)) (sym same) (dispatch_keeps p t wired typed s w ls good items)
+  of_dispatch wired typed d ts e w =
+      dispatch_layer Stacked d ts w.layers (sym w.tasks ∙ e) (w.tasks, w.items, w.good) (λ ls rest h.
+      subst (λ l. Keeps p t (step_task p c s l)) (sym h.0) (dispatch_keeps p t wired typed s d ls h.2 h.1))
 
   of_unwinding : IsWired p → IsTyped p t → (code : ℤ) (ts : List Task) → s.tasks ≡ Unwind code ∷ ts → WellTyped p t s → Keeps p t (step_task p c s s.tasks)
-  of_unwinding wired typed code ts e w = by_layers (Unwind code ∷ ts) e go w
-    where
-      go : (ls : List Layer) → Unwind code ∷ ts ≡ tasks_of ls → forms s.items ≡ items_of ls → AllUndo p s.items → Good p t s.cells ls → Keeps p t (step_task p c s (Unwind code ∷ ts))
-      go [] at items undos good = cc
-      go (Method fr' sh ∷ ls) at items undos good = cc
-      go (Mark gv ∷ ls) at items undos good = cc
-      go (Dying o ∷ ls) at items undos good = cc
-      go (Unwinding x es ∷ ls) at items undos good = subst (λ l. Keeps p t (step_task p c s l)) (sym at) (unwinds p t wired typed s x es ls items undos good)
-      go (Dispatching d ∷ ls) at items undos good = cc
-
-  -- a trap is never on top
-  none_on_top : (ls : List Layer) (ts : List Task) → tasks_of ls ≡ Trapped ∷ ts → Good p t s.cells ls → ⊥
-  none_on_top [] ts e good = cc
-  none_on_top (Method fr sh ∷ ls) ts e good = cc
-  none_on_top (Mark gv ∷ ls) ts e good = good.stack.0
-  none_on_top (Unwinding code es ∷ ls) ts e good = cc
-  none_on_top (Dying o ∷ ls) ts e good = cc
-  none_on_top (Dispatching d ∷ ls) ts e good = cc
+  of_unwinding wired typed code ts e w =
+      leave_layer Stacked code ts w.layers (sym w.tasks ∙ e) (w.tasks, w.items, w.good) (λ es ls rest h.
+      subst (λ l. Keeps p t (step_task p c s l)) (sym h.0) (unwinds p t wired typed s code es ls h.1 w.undos h.2))
 
   -- any task
   of_any : IsWired p → IsTyped p t → named s.cells c.name ≡ None → (ts : List Task) → s.tasks ≡ ts → WellTyped p t s → Keeps p t (step_task p c s s.tasks)
@@ -178,7 +139,7 @@ module _ (p : Image) (t : Typing) (c : Choice) (s : State) where
   of_any wired typed unused (Destroy ∷ ts) e w = of_going ts e w
   of_any wired typed unused (Unwind code ∷ ts) e w = of_unwinding wired typed code ts e w
   of_any wired typed unused (Dispatched d ∷ ts) e w = of_dispatch wired typed d ts e w
-  of_any wired typed unused (Trapped ∷ ts) e w = absurd (none_on_top w.layers ts (sym w.tasks ∙ e) w.good)
+  of_any wired typed unused (Trapped ∷ ts) e w = mark_layer (λ ls. Good p t s.cells ls) ts w.layers (sym w.tasks ∙ e) w.good (λ gv ls rest good. absurd good.stack.0)
 
 pub move_keeps : (p : Image) (t : Typing) → IsWired p → IsTyped p t → (c : Choice) (s : State) (fr : Frame) (ts : List Task) → WellTyped p t s → s.tasks ≡ Run fr ∷ ts → named s.cells c.name ≡ None → Keeps p t (step p c s)
 move_keeps p t wired typed c s fr ts w e unused = of_method p t c (counted p s) wired typed unused fr ts e (counted_well p t s w)

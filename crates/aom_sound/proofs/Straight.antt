@@ -14,7 +14,7 @@ use Rattle.aom_shape.specs.Things.{field_thing, holder_of}
 use Rattle.aom_shape.specs.Typing.{AllLead, Leads, Typing}
 use Rattle.aom_shape.specs.declared.kind.Age.TheVariants.{Ready}
 use Rattle.aom_shape.specs.declared.kind.Filling.{Filling}
-use Rattle.aom_shape.specs.declared.kind.Filling.TheVariants.{Empty, Full, Perhaps}
+use Rattle.aom_shape.specs.declared.kind.Filling.TheVariants.{Empty}
 use Rattle.aom_shape.specs.declared.kind.Kind.{Kind}
 use Rattle.aom_shape.specs.declared.kind.Kind.TheVariants.{Maybe, Null, Own, Unset, Word}
 use Rattle.aom_sound.proofs.Claimed.{NoFieldHere, Outside, claim-set_register, claim_frame, claim_from, claim_ready, claim_weaker, declared_moved, fits_weaker, holds_moved, keep_fits, outside_differs, stack_moved, word_fits_weaker}
@@ -41,9 +41,7 @@ register_fits p cs fr sh ls fits i =
 
 pub fits_unowning : (p : Image) (h : Place → Option Object) (o : Option Object) (k : Kind) → is_unowning k ≡ true → Fits p h o k → o ≡ None
 fits_unowning p h None k u f = refl
-fits_unowning p h (Some o) (Own c a) u f = cc
-fits_unowning p h (Some o) (Maybe c a) u f = cc
-fits_unowning p h _ _ u f = absurd f
+fits_unowning p h _ _ u f = absurd (grind arith)
 
 pub word_of_object : (w : Option ℤ) (k : Kind) → is_object_or_null k ≡ true → WordFits w k → w ≡ None
 word_of_object w Unset e f = cc
@@ -187,10 +185,9 @@ write p t cs fr sh ls a w k g u new word =
 
 -- a field of what the frame works on
 pub claim_field : (p : Image) (d : Place → Kind) (fr : Frame) (sh : Shape) (ls : List Layer) (home : Home) (f : ℕ) → fr.home ≡ home → is_some (field_thing p (home_holder home) f) ≡ true → claim p d (Method fr sh ∷ ls) (field_place home f) ≡ filled (field_thing p (home_holder home) f) (field sh f)
-claim_field p d fr sh ls Static f e some = cc
 claim_field p d fr sh ls AtRoot zero e some = ap (λ h. root_claim p h sh (claim p d ls (Elsewhere Root))) e
-claim_field p d fr sh ls AtRoot (suc f) e some = cc
 claim_field p d fr sh ls (Inside o from) f e some = ap (λ h. home_claim p h sh o.name f (claim p d ls (Field o.name f))) e ∙ ap (λ b. cond b (filled (field_thing p (thing_holder o.thing) f) (field sh f)) (claim p d ls (Field o.name f))) (eq-eqb o.name _ refl)
+claim_field p d fr sh ls _ _ e some = cc
 
 module _ (p : Image) (t : Typing) (c : Choice) (s : State) (fr : Frame) (sh : Shape) (ls : List Layer) (at_hand : At p t s fr sh ls) where
   pub free_register : (a : ℕ) → is_unowning (register sh a) ≡ true → held s.cells (Register (length (tasks_of ls)) a) ≡ None
@@ -221,12 +218,11 @@ module _ (p : Image) (t : Typing) (c : Choice) (s : State) (fr : Frame) (sh : Sh
   field_outside (Inside o from) f e some = let apart : IsApart p (Inside o from) ls = subst (λ h. IsApart p h ls) e at_hand.good.stack.3 in apart.1
 
   pub field_not_from : (home : Home) (f : ℕ) → fr.home ≡ home → (o : Object) (from : Place) → home ≡ Inside o from → NoFieldHere (field_place home f) from
-  field_not_from Static f e o from e' = cc
-  field_not_from AtRoot f e o from e' = cc
   field_not_from (Inside x q) f e o from e' =
       let apart : IsApart p (Inside x q) ls = subst (λ h. IsApart p h ls) e at_hand.good.stack.3 in
       let same : q ≡ from = cc in
       subst (λ r. IsNoFieldOf x.name r) same apart.0
+  field_not_from _ f e o from e' = cc
 
   pub kind_fits : (b : ℕ) → Fits p (held s.cells) (held s.cells (top ls b)) (register sh b)
   kind_fits b = register_fits p s.cells fr sh ls at_hand.good.fits b
@@ -259,8 +255,7 @@ module _ (p : Image) (t : Typing) (c : Choice) (s : State) (fr : Frame) (sh : Sh
   pub empties : (x : Option Thing) (y : Filling) → is_empty y ≡ true → is_unowning (filled x y) ≡ true
   empties None y e = refl
   empties (Some x) Empty e = refl
-  empties (Some x) Full e = cc
-  empties (Some x) Perhaps e = cc
+  empties _ _ e = cc
 
   pub may_be_some : (x : Option Thing) (k : Kind) → may_be_declared p x k ≡ true → is_some x ≡ true
   may_be_some None k e = cc

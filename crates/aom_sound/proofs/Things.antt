@@ -8,9 +8,8 @@ use Rattle.aom_shape.specs.Things.{same_thing, stands_for}
 
 pub same_thing-true : (x y : Thing) → same_thing x y ≡ true → x ≡ y
 same_thing-true (An_object_of c) (An_object_of d) e = ap (λ n. An_object_of n) (eqb-true c d e)
-same_thing-true (An_object_of c) Message e = cc
-same_thing-true Message (An_object_of d) e = cc
 same_thing-true Message Message e = refl
+same_thing-true _ _ e = cc
 
 pub stands_same : (p : Image) (x y : Thing) → stands_for p x y ≡ true → x ≡ y
 stands_same p x y e = same_thing-true x y e

@@ -1,5 +1,6 @@
 -- What lies below the mark of a trap stays: as many marks lie on the cleanup stack as traps are at hand, and a move changes its last item at most.
 use Rattle.std.proofs.Common.{List, None, Option, Some, [], ap, arith, inl, inr, length, pos, refl, subst, suc, sym, ℕ, ℤ, ◌+◌, ◌∙◌, ◌∷◌, ◌≡◌}
+use Rattle.aom_image.proofs.Given.{cons_given}
 use Rattle.std.specs.Prelude.{◌++◌, ◌⊎◌}
 use Rattle.aom_image.specs.Image.{Image}
 use Rattle.aom_image.specs.Views.{instr_at}
@@ -109,32 +110,16 @@ none_below below e = go e.0 e.1
 
 -- below a task that is no trap
 under_frame : (below ts : List Task) (fr : Frame) → Ends below (Run fr ∷ ts) → Ends below ts
-under_frame below ts fr e = go e.0 e.1
-  where
-    go : (over : List Task) → Run fr ∷ ts ≡ over ++ (Trapped ∷ below) → Ends below ts
-    go [] e = cc
-    go (x ∷ over) e = (over, cc)
+under_frame below ts fr e = cons_given (λ over. Run fr ∷ ts ≡ over ++ (Trapped ∷ below)) e.0 e.1 (λ e. cc) (λ x over _ e. (over, cc))
 
 under_going : (below ts : List Task) → Ends below (Destroy ∷ ts) → Ends below ts
-under_going below ts e = go e.0 e.1
-  where
-    go : (over : List Task) → Destroy ∷ ts ≡ over ++ (Trapped ∷ below) → Ends below ts
-    go [] e = cc
-    go (x ∷ over) e = (over, cc)
+under_going below ts e = cons_given (λ over. Destroy ∷ ts ≡ over ++ (Trapped ∷ below)) e.0 e.1 (λ e. cc) (λ x over _ e. (over, cc))
 
 under_leave : (below ts : List Task) (code : ℤ) → Ends below (Unwind code ∷ ts) → Ends below ts
-under_leave below ts code e = go e.0 e.1
-  where
-    go : (over : List Task) → Unwind code ∷ ts ≡ over ++ (Trapped ∷ below) → Ends below ts
-    go [] e = cc
-    go (x ∷ over) e = (over, cc)
+under_leave below ts code e = cons_given (λ over. Unwind code ∷ ts ≡ over ++ (Trapped ∷ below)) e.0 e.1 (λ e. cc) (λ x over _ e. (over, cc))
 
 under_dispatch : (below ts : List Task) (d : Dispatch) → Ends below (Dispatched d ∷ ts) → Ends below ts
-under_dispatch below ts d e = go e.0 e.1
-  where
-    go : (over : List Task) → Dispatched d ∷ ts ≡ over ++ (Trapped ∷ below) → Ends below ts
-    go [] e = cc
-    go (x ∷ over) e = (over, cc)
+under_dispatch below ts d e = cons_given (λ over. Dispatched d ∷ ts ≡ over ++ (Trapped ∷ below)) e.0 e.1 (λ e. cc) (λ x over _ e. (over, cc))
 
 -- below a trap: it is the one, or another over it
 under_trap : (below ts : List Task) → Ends below (Trapped ∷ ts) → (ts ≡ below) ⊎ Ends below ts

@@ -53,17 +53,12 @@ module _ (p : Image) (t : Typing) (wired : IsWired p) (typed : IsTyped p t) (s :
 
   -- none is left: under an unwinding stands its trap
   of_none : (ls : List Layer) → forms s.items ≡ items_of ls → AllUndo p s.items → Good p t s.cells (Unwinding code [] ∷ ls) → Keeps p t (unwound p code (tasks_of ls) s s.items)
-  of_none [] same undos good = absurd (nothing_below good.stack.1)
-    where
-      nothing_below : Stack p t s.cells Leaves [] → ⊥
-      nothing_below e = cc
+  of_none [] same undos good = let clash : Stack p t s.cells Leaves [] = good.stack.1 in cc
   of_none (Mark gv ∷ ls) same undos good = go s.items same undos
     where
       go : (items : List Item) → forms items ≡ Mark_form ∷ items_of ls → AllUndo p items → Keeps p t (unwound p code (tasks_of (Mark gv ∷ ls)) s items)
-      go [] same undos = cc
-      go (An_object ∷ items) same undos = cc
-      go (An_operation m w ∷ items) same undos = cc
       go (A_mark ∷ items) same undos = let rest : forms items ≡ items_of ls = cc in arrives p t s code items gv ls rest undos good
+      go _ same undos = cc
   of_none (Dispatching d ∷ ls) same undos good = absurd (no_dispatch d good.stack.1.0)
     where
       no_dispatch : (d : Dispatch) → EndsDispatch p d Leaves → ⊥

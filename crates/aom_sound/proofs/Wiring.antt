@@ -1,5 +1,6 @@
 -- What a linked image gives the laws: main and the destructors are as they must be, what is called does or constructs, and what is owned is of a class before its owner's.
 use Rattle.std.proofs.Common.{Bool, IfSome, IsSome, IsTrue, List, None, Option, Some, [], ap, arith, false, inl, inr, length, refl, slice_get, subst, suc, true, zero, ℕ, ◌<◌, ◌∙◌, ◌∷◌, ◌≡◌}
+use Rattle.aom_image.proofs.Given.{some_given}
 use Rattle.std.specs.Prelude.{is_none, ◌||◌, ◌⊎◌}
 use Rattle.std.proofs.lemmas.Option.{slice_get_within}
 use Rattle.aom_image.specs.Image.{Image}
@@ -144,11 +145,7 @@ module _ (p : Image) (formed : WellFormed p) (linked : IsLinked p) where
   trapped_is m place target m' first c e =
       let w = of_method p m place (Trap target m' first c) e in
       let names : ShapedTrapped p m' = all_there (NamesRoles p) w.0.code place (Trap target m' first c) (shaped m w.0 w.1).code w.2 in
-      go (method_at p m') refl names.role (leaves_none (gives_of p m') names.gives)
-    where
-      go : (o : Option Method_declared) → method_at p m' ≡ o → IsTrue (is_role Do (role_in o)) → LeavesNone (gives_of p m') → IsTrapped p m'
-      go None f names gives = cc
-      go (Some d) f names gives = record { there = rw f refl; role = ap role_in f ∙ ap (λ r. Some r) (same_roles d.role Do names); gives = gives }
+      let gives : LeavesNone (gives_of p m') = leaves_none (gives_of p m') names.gives in some_given (λ o. IsTrue (is_role Do (role_in o))) (method_at p m') names.role (λ names. cc) (λ d f names. record { there = rw f refl; role = ap role_in f ∙ ap (λ r. Some r) (same_roles d.role Do names); gives = gives })
 
   pushed_is : (m place a m' : ℕ) → instr_at p m place ≡ Some (PushOperation a m') → IsUndo p m'
   unfolding role_in is_role class_in leaves_in quiet_in gives_in arguments_in method_at
@@ -189,11 +186,7 @@ module _ (p : Image) (formed : WellFormed p) (linked : IsLinked p) where
 
   owned_before : (c d f : ℕ) → field_thing p (Member c) f ≡ Some (An_object_of d) → d < c
   unfolding fields_in class_at
-  owned_before c d f e = go (class_at p c) refl e
-    where
-      go : (o : Option ClassDecl) → class_at p c ≡ o → slice_get (fields_in o) f ≡ Some (An_object_of d) → d < c
-      go None g e = cc
-      go (Some k) g e = (all_there (OwnsBefore p c) k.fields f (An_object_of d) (at_place (ClassOrdered p) p.classes c k linked.classes.classes g).fields e).0
+  owned_before c d f e = some_given (λ o. slice_get (fields_in o) f ≡ Some (An_object_of d)) (class_at p c) e (λ e. cc) (λ k g e. (all_there (OwnsBefore p c) k.fields f (An_object_of d) (at_place (ClassOrdered p) p.classes c k linked.classes.classes g).fields e).0)
 
 pub linked_is_wired : (p : Image) → WellFormed p → IsLinked p → IsWired p
 linked_is_wired p formed linked = record {

@@ -59,12 +59,7 @@ then_last x y e = or_last x.is_behind y.is_behind e
 
 nothing_first : (x y : Change) → then x y ≡ Nothing → x ≡ Nothing
 nothing_first Nothing y e = refl
-nothing_first Fell Nothing e = cc
-nothing_first Fell Fell e = cc
-nothing_first Fell Reached e = cc
-nothing_first Reached Nothing e = cc
-nothing_first Reached Fell e = cc
-nothing_first Reached Reached e = cc
+nothing_first _ _ e = absurd (grind arith)
 
 nothing_last : (x y : Change) → then x y ≡ Nothing → y ≡ Nothing
 nothing_last x y e = rw (nothing_first x y e) at e

@@ -27,10 +27,7 @@ kind_falls a b (maybe_own {t = t} {a = age}) = omega arith
 -- and if it can fall as often it is the same
 kind_stays : (a b : Kind) → Weaker a b → kind_rank a ≡ kind_rank b → Weaker b a
 kind_stays a b (alike {k = k}) e = alike
-kind_stays a b unset_word e = absurd (omega arith)
-kind_stays a b unset_null e = absurd (omega arith)
-kind_stays a b (maybe_null {t = t} {a = age}) e = absurd (omega arith)
-kind_stays a b (maybe_own {t = t} {a = age}) e = absurd (omega arith)
+kind_stays a b _ e = absurd (omega arith)
 
 filling_falls : (a b : Filling) → WeakerFilling a b → filling_rank a ≤ filling_rank b
 filling_falls a b (alike_filling {x = x}) = omega arith

@@ -121,9 +121,8 @@ pub first_shapes_are : (nodes : List Node) (n : ℕ) (k : Kept) → shapes_of no
 first_shapes_are nodes n k = set_shapes nodes (replicate n None) 0 (Some k) ∙ ap (λ (s : Shapes). slice_set s 0 (Some (kept_shape nodes k))) (none_shapes nodes n)
 
 none_reached : (n pc : ℕ) (k : Kept) → at {A = Option Kept} None (replicate n None) pc ≡ Some k → ⊥
-none_reached zero pc k e = cc
-none_reached (suc n) zero k e = cc
 none_reached (suc n) (suc pc) k e = none_reached n pc k e
+none_reached _ pc k e = cc
 
 pub kept_at_first : (nodes : List Node) (n : ℕ) (new : Kept) → 0 < n → Stands nodes new.pile → (kept_shape nodes new).entries ≡ [] → AreKept nodes (slice_set (replicate n None) 0 (Some new))
 kept_at_first nodes n new some stands none = record {
