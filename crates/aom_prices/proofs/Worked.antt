@@ -1,4 +1,5 @@
 -- The cases come out as their tables say; and of the worked method each path from each place costs no more than is said, and one just that.
+use Rattle.std.proofs.lemmas.Option.{same_Some}
 use Rattle.std.proofs.Common.{◌≡◌, ◌<◌, ◌≤◌, ◌+◌, ◌*◌, ◌∙◌, ℕ, zero, suc, Some, None, inl, inr, ⊎_elim, refl, sym, arith, subst}
 use Rattle.std.specs.Prelude.{◌⊎◌}
 use Rattle.aom_image.specs.Views.{instr_at, instr_in, method_at}
@@ -13,7 +14,7 @@ use Rattle.aom_prices.specs.Costs.{AmongFlows, Costs, GoesOut, Inside, Region, R
 use Rattle.aom_prices.specs.Costs.Costs.{ends, goes, loops}
 use Rattle.aom_prices.specs.Prices.{Prices, Stands, own}
 use Rattle.aom_prices.proofs.Paths.{GoesOn, Rounds, ends_or_goes, outside_cost, rounds_of}
-use Rattle.aom_prices.proofs.Regions.{no_next_here, some_same}
+use Rattle.aom_prices.proofs.Regions.{no_next_here}
 
 abbrev There : ℕ → Instr → Type 0
 There place i = Stands worked worked_typing 0 place a_word i
@@ -86,7 +87,7 @@ outer_end to e = omega (arith, next_place to 0 1 e)
 
 known : (place out : ℕ) (sh : Shape) (i j : Instr) → instr_at worked 0 place ≡ Some i → instr_at worked 0 place ≡ Some j →
     AmongFlows out (flows worked 0 place sh i) → AmongFlows out (flows worked 0 place sh j)
-known place out sh i j a b among = subst (λ x. AmongFlows out (flows worked 0 place sh x)) (some_same i j (sym a ∙ b)) among
+known place out sh i j a b among = subst (λ x. AmongFlows out (flows worked 0 place sh x)) (same_Some i j (sym a ∙ b)) among
 
 -- a place to which it goes on is one of two, or not past the end
 of_one : (a end out : ℕ) → (a ≡ out) ⊎ ⊥ → a ≤ end → end < out → ⊥
