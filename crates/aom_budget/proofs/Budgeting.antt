@@ -45,8 +45,8 @@ main_there p m e = let w = found is_main p.methods m e in method_is_some p m (sl
 
 some_main : (p : Image) → IsLinked p → (m : ℕ) × (main_of p ≡ Some m)
 some_main p linked = some_given (λ o. IsSome o) (main_of p) linked.main (λ some. cc) (λ m e some. (m, e))
--- ---- of two strongest typings each says as much as the other
 
+-- ---- of two strongest typings each says as much as the other
 
 pub covered : (p : Image) (t d : Typing) → IsStrongest p t → IsStrongest p d → IsCovered p t d
 covered p t d one other = record {

@@ -438,6 +438,7 @@ module _ (p : Image) (m : ℕ) where
   stood : (o : Option Shape) (x : Shape) → kept p m o ≡ Some x → (sh : Shape) × (o ≡ Some sh) × IsTrue (stays p m sh) × (x ≡ raised_shape p m sh)
   stood None x e = absurd cc
   stood (Some sh) x e = true_given (λ b. cond b (Some (raised_shape p m sh)) None ≡ Some x) (stays p m sh) e (λ g. cc) (λ f g. let same : x ≡ raised_shape p m sh = cc in (sh, refl, f, same))
+
   ordered : IsLinked p → (d : Method) → method_at p m ≡ Some d → CallsOrdered p m d
   unfolding method_at
   ordered linked d e = at_place (CallsOrdered p) p.methods m d linked.calls e

@@ -184,6 +184,7 @@ module _ (p : Image) (prices : List ℕ) (m : ℕ) (s : Shapes) (looped : IsLoop
       let follows : a m x ≡ at 0 old.after x = agrees.afters x to d n (omega (arith, b.later)) b ∙ extends.afters x to d n b.later b in
       let first : c.from m (suc x) ≡ at 0 old.from (suc x) = agrees.froms (suc x) (omega arith) ∙ extends.froms (suc x) (omega arith) in
       omega (arith, covered, agrees.rounds x, follows, first)
+
   pub passed_more :
       ((t : Typing) (c : Prices) (a : Afters) → Agrees p prices m s x new t c a → IsSweptAt kept p t c a m x) →
       ((f d n : ℕ) (r : Region) → Body p m f x d n → IsInnermost p m f r → after_in new.after r ≤ at 0 new.after f) →

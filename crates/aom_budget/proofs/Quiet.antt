@@ -171,6 +171,7 @@ stood : (o : Option Shape) (sh : Shape) → lowest_at o ≡ Some sh → (o ≡ S
 unfolding lowest_at with_none
 stood None sh e = absurd cc
 stood (Some x) sh e = nil_given (λ es. with_none x es ≡ Some sh) x.entries e (λ y ys g. cc) (λ f g. let same : x ≡ sh = cc in (g, rw same at f))
+
 stays_there : (sh : Shape) → sh.entries ≡ [] → lowest_at (Some sh) ≡ Some sh
 unfolding lowest_at with_none
 stays_there sh none = ap (with_none sh) none

@@ -127,7 +127,6 @@ argument_number_fits classes (arguments.Own t) few h =
 abbrev refused : Result Gives LoadFault
 refused = Err BadOperand
 
-
 own_in : (classes n : ℕ) (make : Thing → Gives) (y : Gives) → ((t : Thing) → ThingFits classes t → GivesFits classes (make t))
     → cond (eqb n 0xffff) (Err BadOperand) (thing_from classes n >>= λ t. Ok (make t)) ≡ Ok y → GivesFits classes y
 own_in classes n make y kept e =

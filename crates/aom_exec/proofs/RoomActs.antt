@@ -294,7 +294,6 @@ module _ (p : Image) (t : Typing) (depth heights : ℕ → ℕ) (tables : Tables
         there_now : held (moved (here fr ts s a) (Entry (length s.items)) s.cells) (Entry (length s.items)) ≡ held s.cells (here fr ts s a)
         there_now = held_moved s.cells (here fr ts s a) (Entry (length s.items)) (Entry (length s.items)) h.free ∙ ap (λ b. cond b (held s.cells (here fr ts s a)) (held s.cells (Entry (length s.items)))) (same_place_refl (Entry (length s.items)))
 
-
     push_operation_room :
         (a m : ℕ) (v : ℤ) → instr_at p fr.method fr.place ≡ Some (PushOperation a m) → leaves p fr.method ≡ true → Leads t fr.method (suc fr.place) (with_entry Operation h.shape) →
         After (Pushed_operation m v)

@@ -39,6 +39,7 @@ from_number (b ∷ bs) n is = go (b == 45) refl is
 
 pub plain_number : (low high : ℕ) (w : List ℕ) (n : ℕ) → number_in low high w ≡ Ok n → list_all is_plain w ≡ true
 plain_number low high w n is = some_given (λ o. ◌≡◌ {A = Result ℕ AsmFaultKind} (elim o [ None ↦ Err BadNumber | Some m ↦ in_range (number_within low high m) ]) (Ok n)) (number_of w) is (λ e. cc) (λ m there e. from_number w m there)
+
 -- ---- sets
 
 -- what is left behind a letter that is there, or not

@@ -48,10 +48,11 @@ colon_last w n long is =
 
 pub label_is : (w l : List ℕ) → label_of w ≡ Some l → w ≡ l ++ 58 ∷ []
 label_is [] l is = absurd cc
-label_is (b ∷ bs) l is = true_given (λ c. (if c then Some (take (length (b ∷ bs) - 1) (b ∷ bs)) else None) ≡ Some l) (get_or (b ∷ bs) (length (b ∷ bs) - 1) 0 == 58) is (λ e. cc) (λ same e. 
-        let long : suc (length (b ∷ bs) - 1) ≡ length (b ∷ bs) = omega arith in
-        colon_last (b ∷ bs) (length (b ∷ bs) - 1) long (eqb-true (get_or (b ∷ bs) (length (b ∷ bs) - 1) 0) 58 same)
-        ∙ ap (λ v. v ++ 58 ∷ []) (same_Some (take (length (b ∷ bs) - 1) (b ∷ bs)) l e))
+label_is (b ∷ bs) l is = true_given (λ c. (if c then Some (take (length (b ∷ bs) - 1) (b ∷ bs)) else None) ≡ Some l) (get_or (b ∷ bs) (length (b ∷ bs) - 1) 0 == 58) is (λ e. cc) (λ same e.
+    let long : suc (length (b ∷ bs) - 1) ≡ length (b ∷ bs) = omega arith in
+    colon_last (b ∷ bs) (length (b ∷ bs) - 1) long (eqb-true (get_or (b ∷ bs) (length (b ∷ bs) - 1) 0) 58 same)
+    ∙ ap (λ v. v ++ 58 ∷ []) (same_Some (take (length (b ∷ bs) - 1) (b ∷ bs)) l e))
+
 -- ---- what was read
 
 known_is : (w : List ℕ) (o : Option Mnemonic) (m : Mnemonic) → known_mnemonic w o ≡ Ok m → o ≡ Some m

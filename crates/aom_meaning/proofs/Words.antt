@@ -88,7 +88,6 @@ not_both false true is = absurd cc
 not_reserved : (w : List ℕ) → is_name w ≡ true → is_reserved w ≡ false
 not_reserved w is = not_both (has_name_form w && nat_le (length w) 32) (is_reserved w) is
 
-
 no_message : (w : List ℕ) → is_name w ≡ true → bytes_eq w (codes "msg") ≡ false
 no_message w is = false_from_ne_true (bytes_eq w (codes "msg")) (λ same. (let clash : true ≡ false = sym (ap is_reserved ((bytes_eq-Decides w (codes "msg")).0 same)) ∙ not_reserved w is in cc))
 

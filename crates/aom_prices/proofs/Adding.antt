@@ -295,6 +295,6 @@ pub law_is_price : SweptIsPrice
 law_is_price p t c a formed linked typed swept = record { methods = methods; classes = swept.classes }
   where
     methods : (m : ℕ) → IsSome (method_at p m) → IsPrice p t c m (price c m)
-    methods m some = some_given (λ o. IsSome o) (method_at p m) some (λ s. cc) (λ d e s. 
-            let begins = typed.entry m some in
-            priced_from p t c a m (linked_is_looped p formed linked) (jumps_forward p linked m) typed (place_of (λ n. n) p t c a swept m) (length d.code) (in_code p m d e) (begins.0, begins.1))
+    methods m some = some_given (λ o. IsSome o) (method_at p m) some (λ s. cc) (λ d e s.
+        let begins = typed.entry m some in
+        priced_from p t c a m (linked_is_looped p formed linked) (jumps_forward p linked m) typed (place_of (λ n. n) p t c a swept m) (length d.code) (in_code p m d e) (begins.0, begins.1))

@@ -155,9 +155,10 @@ module _
   -- ---- the methods
 
   method_alike : (m : ℕ) → IsSome (method_at p m) → ((k : ℕ) → k < m → Alike limit (price c k) (price e k)) → Alike limit (price c m) (price e m)
-  method_alike m some before = some_given (λ o. IsSome o) (method_at p m) some (λ s. cc) (λ d here s. 
-          let begins = typed.entry m some in
-          (agrees_from m before (length d.code) (in_code p m d here)).from 0 (omega arith) (begins.0, begins.1))
+  method_alike m some before = some_given (λ o. IsSome o) (method_at p m) some (λ s. cc) (λ d here s.
+      let begins = typed.entry m some in
+      (agrees_from m before (length d.code) (in_code p m d here)).from 0 (omega arith) (begins.0, begins.1))
+
   all_alike : (n : ℕ) → n ≤ length p.methods → (k : ℕ) → k < n → Alike limit (price c k) (price e k)
   all_alike zero le k lt = absurd (omega (arith, lt))
   all_alike (suc n) le k lt = ⊎_elim

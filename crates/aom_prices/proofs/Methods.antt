@@ -18,6 +18,7 @@ method_within p m d e = slice_get_within p.methods m d e
 
 pub method_there : (p : Image) (m : ℕ) → IsSome (method_at p m) → m < length p.methods
 method_there p m some = some_given (λ o. IsSome o) (method_at p m) some (λ s. cc) (λ d e s. method_within p m d e)
+
 pub destructor_within : (p : Image) (x : Thing) (k : ℕ) → destructor_of p x ≡ Some k → k < length p.methods
 unfolding role_of
 destructor_within p (Object c) k e = let w = found (plays c Destruct) p.methods k e in slice_get_within p.methods k w.0 w.1

@@ -18,6 +18,7 @@ use Rattle.aom_ranks.specs.Ranks.{destructions, is_going, standing}
 
 none_there : (c : Cell) (cs : List Cell) (g : Place) → held (c ∷ cs) g ≡ None → (same_place c.owner g ≡ false) × (held cs g ≡ None)
 none_there c cs g e = false_given (λ b. cond b (Some c.object) (held cs g) ≡ None) (same_place c.owner g) e (λ e. cc) (λ s e. (s, e))
+
 all_stand : (cs : List Cell) → ((k : ℕ) → held cs (Going k) ≡ None) → standing cs ≡ length cs
 all_stand [] none = refl
 all_stand (c ∷ cs) none = here c.owner refl (all_stand cs (λ k. (none_there c cs (Going k) (none k)).1))
@@ -118,6 +119,7 @@ claims_none p cs (Mark gv ∷ ls) k e = claims_none p cs ls k e
 claims_none p cs (Unwinding code es ∷ ls) k e = claims_none p cs ls k e
 claims_none p cs (Dispatching d ∷ ls) k e = claims_none p cs ls k e
 claims_none p cs (Dying o ∷ ls) k e = let ih : (goes_at ls k ≡ false → claim p (declared p cs) ls (Going k) ≡ Null) = λ h. claims_none p cs ls k h in false_given (λ b. (b || goes_at ls k) ≡ false) (length (tasks_of ls) == k) e (λ e. cc) (λ s e. ap (λ b. cond b (Own o.thing Ready) (claim p (declared p cs) ls (Going k))) s ∙ ih e)
+
 nothing_of_null : (p : Image) (h : Place → Option Object) (o : Option Object) → Fits p h o Null → o ≡ None
 nothing_of_null p h None f = refl
 nothing_of_null p h (Some o) f = absurd f

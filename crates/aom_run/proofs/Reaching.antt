@@ -13,6 +13,7 @@ use Rattle.aom_run.specs.Runs.{Filled}
 
 is_busy : (s : State) → IsUncounted s.tasks → IsBusy s
 is_busy s uncounted = cons_given (λ ts. IsUncounted ts) s.tasks uncounted (λ u. u) (λ t ts e u. (t, ts, e))
+
 -- the moves that count as no step are moves of a run
 settled_on : (p : Image) (refused : List ℕ) (b : State) (lines : List Line) (s : State) (more : List Line) (u : State)
     → Reaches p refused b lines s → Settles p refused s more u → Reaches p refused b (lines ++ more) u

@@ -94,6 +94,7 @@ field_thing_of p t cs (Mark gv ∷ ls) back n f c s h = field_thing_of p t cs ls
 field_thing_of p t cs (Unwinding code es ∷ ls) back n f c s h = field_thing_of p t cs ls Leaves n f c s.1 h
 field_thing_of p t cs (Dispatching w ∷ ls) back n f c s h = declared_thing_of p cs n f c (subst (λ l. HasThing (claim p (declared p cs) l (Field n f)) c) s.1 h)
 field_thing_of p t cs (Dying o ∷ ls) back n f c s h = let ih : (HasThing (claim p (declared p cs) ls (Field n f)) c → (o : Object) × (named cs n ≡ Some o) × (field_thing p (thing_holder o.thing) f ≡ Some c)) = field_thing_of p t cs ls Gone n f c s.2 in false_given (λ b. HasThing (cond b Null (claim p (declared p cs) ls (Field n f))) c) (o.name == n) h (λ h. h) (λ _ h. ih h)
+
 -- ---- the places that are claimed to own live
 
 over_below : {A : Type 0} (x : A) (xs : List A) (k : ℕ) → k < length xs → over (x ∷ xs) k ≡ over xs k

@@ -70,7 +70,6 @@ table = record { from = λ m place. at 0 (at [] costs m) place; round = λ m q. 
 
 -- ---- at each place
 
-
 -- the instructions of the image, one after another
 module _ (P : ℕ → ℕ → Shape → Instr → Type 0)
     (ends : P 0 0 (holding Unset) (Return 0))
