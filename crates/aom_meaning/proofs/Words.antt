@@ -82,8 +82,7 @@ argument_means names kinds w a is = go (bytes_eq w (codes "word")) refl is
 -- a name is no reserved word
 not_both : (b c : Bool) → (b && not c) ≡ true → c ≡ false
 not_both b false is = refl
-not_both true true is = absurd cc
-not_both false true is = absurd cc
+not_both _ _ is = absurd (grind arith)
 
 not_reserved : (w : List ℕ) → is_name w ≡ true → is_reserved w ≡ false
 not_reserved w is = not_both (has_name_form w && nat_le (length w) 32) (is_reserved w) is

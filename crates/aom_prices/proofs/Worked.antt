@@ -97,22 +97,19 @@ of_two : (a b end out : ℕ) → (a ≡ out) ⊎ ((b ≡ out) ⊎ ⊥) → a ≤
 of_two a b end out among le past = ⊎_elim (λ e. absurd (omega (arith, e, le, past))) (λ rest. ⊎_elim (λ e. sym e) (λ none. absurd none) rest) among
 
 out_of_inner : (out place : ℕ) (sh : Shape) (i : Instr) → instr_at worked 0 place ≡ Some i → 1 < place → place ≤ 4 → AmongFlows out (flows worked 0 place sh i) → 4 < out → (out ≡ 5) ⊎ (out ≡ 7)
-out_of_inner out zero sh i at low high among past = absurd (omega (arith, low))
-out_of_inner out (suc zero) sh i at low high among past = absurd (omega (arith, low))
 out_of_inner out (suc (suc zero)) sh i at low high among past = inr (of_two 3 7 4 out (known 2 out sh i (JumpEqual 0 0 7) at at_2.instr among) (omega arith) past)
 out_of_inner out (suc (suc (suc zero))) sh i at low high among past = absurd (of_one 4 4 out (known 3 out sh i (Print 0) at at_3.instr among) (omega arith) past)
 out_of_inner out (suc (suc (suc (suc zero)))) sh i at low high among past = inl (of_two 2 5 4 out (known 4 out sh i (Next 1 2) at at_4.instr among) (omega arith) past)
-out_of_inner out (suc (suc (suc (suc (suc k))))) sh i at low high among past = absurd (omega (arith, high))
+out_of_inner out _ sh i at low high among past = absurd (omega arith)
 
 out_of_outer : (out place : ℕ) (sh : Shape) (i : Instr) → instr_at worked 0 place ≡ Some i → 0 < place → place ≤ 5 → AmongFlows out (flows worked 0 place sh i) → 5 < out → (out ≡ 6) ⊎ (out ≡ 7)
-out_of_outer out zero sh i at low high among past = absurd (omega (arith, low))
 out_of_outer out (suc zero) sh i at low high among past = absurd (of_one 2 5 out (known 1 out sh i (Loop 1 5) at at_1.instr among) (omega arith) past)
 out_of_outer out (suc (suc zero)) sh i at low high among past = inr (of_two 3 7 5 out (known 2 out sh i (JumpEqual 0 0 7) at at_2.instr among) (omega arith) past)
 out_of_outer out (suc (suc (suc zero))) sh i at low high among past = absurd (of_one 4 5 out (known 3 out sh i (Print 0) at at_3.instr among) (omega arith) past)
 out_of_outer out (suc (suc (suc (suc zero)))) sh i at low high among past =
     let e = of_two 2 5 5 out (known 4 out sh i (Next 1 2) at at_4.instr among) (omega arith) past in absurd (omega (arith, e, past))
 out_of_outer out (suc (suc (suc (suc (suc zero))))) sh i at low high among past = inl (of_two 1 6 5 out (known 5 out sh i (Next 0 1) at at_5.instr among) (omega arith) past)
-out_of_outer out (suc (suc (suc (suc (suc (suc k)))))) sh i at low high among past = absurd (omega (arith, high))
+out_of_outer out _ sh i at low high among past = absurd (omega arith)
 
 -- ---- no path costs more
 

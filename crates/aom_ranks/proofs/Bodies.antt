@@ -57,8 +57,7 @@ ends_so number back (Next d t) e = both (d == number) (t == back) refl refl e
 
     both : (a b : Bool) → (d == number) ≡ a → (t == back) ≡ b → (a && b) ≡ true → ending d t ≡ ending number back
     both true true n k e = ap (λ x. ending x t) (eqb-true d number n) ∙ ap (λ x. ending number x) (eqb-true t back k)
-    both true false n k e = cc
-    both false b n k e = cc
+    both _ _ n k e = cc
 ends_so number back i e = cc
 
 so_ends : (number back : ℕ) (i : Instr) → next_in (Some i) ≡ Some (record { number = number; back = back }) → is_end_of number back i ≡ true
