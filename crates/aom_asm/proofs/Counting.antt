@@ -1,4 +1,6 @@
 -- How many statements declare a name by a keyword, and how many stand before the end of a method.
+use Rattle.std.proofs.lemmas.Bool.{false≢true}
+use Rattle.std.proofs.lemmas.Option.{same_Some, none-some}
 use Rattle.std.proofs.Common.{◌≡◌, ◌∙◌, refl, sym, ap, subst, arith, ℕ, suc, ◌+◌, Bool, true, false, List, [], ◌∷◌, ◌++◌, length, length-append, cond, Option, Some, None, Ok}
 use Rattle.std.specs.Prelude.{if◌then◌else◌}
 use Rattle.std.specs.List.{find, list_all}
@@ -90,21 +92,12 @@ takes_no_end (w ∷ ws) is = ap (λ (b : Bool). if b then (true, ws) else (false
 
 -- ---- words
 
-pub false_true : false ≡ true → ⊥
-false_true is = cc
-
-no_some : {X : Type 0} (x : X) → None ≡ Some x → ⊥
-no_some x is = cc
-
-pub some_is : {X : Type 0} (x y : X) → Some x ≡ Some y → x ≡ y
-some_is x y is = cc
-
 pub found_passes : {X : Type 0} (test : X → Bool) (xs : List X) (x : X) → find test xs ≡ Some x → test x ≡ true
-found_passes test [] x is = absurd (no_some x is)
+found_passes test [] x is = absurd (none-some x is)
 found_passes test (y ∷ ys) x is = go (test y) refl (found_passes test ys x) is
   where
     go : (b : Bool) → test y ≡ b → (find test ys ≡ Some x → test x ≡ true) → cond b (Some y) (find test ys) ≡ Some x → test x ≡ true
-    go true passes later found = subst (λ z. test z ≡ true) (some_is y x found) passes
+    go true passes later found = subst (λ z. test z ≡ true) (same_Some y x found) passes
     go false passes later found = later found
 
 known_is : (w : List ℕ) (o : Option Keyword) (key : Keyword) → known w o ≡ Ok key → o ≡ Some key
@@ -150,10 +143,10 @@ pub record Silent (ws : List (List ℕ)) : Type 0 where
   pub method : one_of (name_after k.Method ws) ≡ 0
 
 end_no_class : (n : List ℕ) (rest : List (List ℕ)) → is_end (keyword_text k.Class ∷ n ∷ rest) ≡ true → ⊥
-end_no_class n rest is = false_true is
+end_no_class n rest is = false≢true is
 
 end_no_method : (n : List ℕ) (rest : List (List ℕ)) → is_end (keyword_text k.Method ∷ n ∷ rest) ≡ true → ⊥
-end_no_method n rest is = false_true is
+end_no_method n rest is = false≢true is
 
 pub end_silent : (ws : List (List ℕ)) → is_end ws ≡ true → Silent ws
 end_silent ws is = record {
@@ -188,17 +181,15 @@ module _ (scope : Scope) where
     }
 
 -- what declares a class declares no method, and the other way round
-apart : k.Method ≡ k.Class → ⊥
-apart e = cc
 
 read_key : (key other : Keyword) (rest left : List (List ℕ)) → ◌≡◌ {A = Keyword × List (List ℕ)} (key, rest) (other, left) → key ≡ other
 read_key key other rest left e = ap (λ p. p.0) e
 
 class_no_method : (n : List ℕ) (rest left : List (List ℕ)) → any_keyword (keyword_text k.Method ∷ n ∷ rest) ≡ Ok (k.Class, left) → ⊥
-class_no_method n rest left is = apart (read_key k.Method k.Class (n ∷ rest) left (ok_is _ _ is))
+class_no_method n rest left is = (let clash : k.Method ≡ k.Class = read_key k.Method k.Class (n ∷ rest) left (ok_is _ _ is) in cc)
 
 method_no_class : (n : List ℕ) (rest left : List (List ℕ)) → any_keyword (keyword_text k.Class ∷ n ∷ rest) ≡ Ok (k.Method, left) → ⊥
-method_no_class n rest left is = apart (sym (read_key k.Class k.Method (n ∷ rest) left (ok_is _ _ is)))
+method_no_class n rest left is = (let clash : k.Method ≡ k.Class = sym (read_key k.Class k.Method (n ∷ rest) left (ok_is _ _ is)) in cc)
 
 pub class_alone : (ws rest : List (List ℕ)) → any_keyword ws ≡ Ok (k.Class, rest) → one_of (name_after k.Method ws) ≡ 0
 class_alone ws rest is = names_none k.Method ws (λ n other e. class_no_method n other rest (ap any_keyword (sym e) ∙ is))

@@ -2,7 +2,7 @@
 use Rattle.std.proofs.Common.{◌≡◌, ◌∙◌, refl, sym, ap, subst, arith, ℕ, suc, ◌+◌, ◌*◌, ◌<◌, ◌≤◌, ◌^◌, ◌==◌, nat_lt, nat_le, Bool, true, false, List, [], ◌∷◌, ◌++◌, length, length-append, Option, Some, None, Result, Ok, Err, is_some}
 use Rattle.std.specs.Prelude.{cond, if◌then◌else◌}
 use Rattle.std.specs.List.{All, count_by, sum_by}
-use Rattle.std.proofs.lemmas.Bool.{ltb-true, eqb-false}
+use Rattle.std.proofs.lemmas.Bool.{ltb-true, eqb-false, false≢true}
 use Rattle.std.proofs.lemmas.List.Elements.{All-nil, All-push}
 use Rattle.std.proofs.lemmas.List.Sums.{sum_by-append, sum_by-cons}
 use Rattle.aom_text.specs.Text.{statements}
@@ -29,7 +29,7 @@ use Rattle.aom_asm.specs.Body.{Body, Program}
 use Rattle.aom_asm.specs.Denoted.{and_then, at_line, closed, declaration, denoted, grown, image_of, in_body, last_line_of, method_of, opened, read_program, read_rest, read_statements, scope_of, step, step_by, with_class, with_heading, with_instruction, with_method}
 use Rattle.aom_ranges.proofs.Within.{steps}
 use Rattle.aom_asm.specs.TextNames.{declared_names, is_end, labels_of, name_after}
-use Rattle.aom_asm.proofs.Counting.{Silent, at_end, before_end, begins_with, class_alone, code_silent, count_declared, declares, declares_more, declares_none, end_silent, false_true, header_silent, length_labels, method_alone, names_one, not_at_end, one_of, takes_end, takes_no_end}
+use Rattle.aom_asm.proofs.Counting.{Silent, at_end, before_end, begins_with, class_alone, code_silent, count_declared, declares, declares_more, declares_none, end_silent, header_silent, length_labels, method_alone, names_one, not_at_end, one_of, takes_end, takes_no_end}
 use Rattle.aom_asm.proofs.Steps.{grown_is, if_not_ok, if_ok, no_ok, ok_is, said, steps_then}
 
 -- a program between two statements
@@ -64,7 +64,7 @@ few_counted n false few le = omega arith
 
 if_true : {X : Type 0} (r s y : X) (b : Bool) → b ≡ true → (if b then r else s) ≡ y → r ≡ y
 if_true r s y true is e = e
-if_true r s y false is e = absurd (false_true is)
+if_true r s y false is e = absurd (false≢true is)
 
 -- ---- what holds
 
@@ -326,10 +326,7 @@ module _ (headers : HeadersInRange) (classes_in : ClassesInRange) (headings : He
 
   no_body : (o : Option Body) → is_some o ≡ false → o ≡ None
   no_body None is = refl
-  no_body (Some b) is = absurd (true_false is)
-    where
-      true_false : true ≡ false → ⊥
-      true_false e = cc
+  no_body (Some b) is = let clash : true ≡ false = is in cc
 
   closes : (p q : Program) → Read scope p [] → closed p ≡ Ok q → AtEnd q
   closes p q read is =
@@ -399,7 +396,7 @@ module _ (headers : HeadersInRange) (classes_in : ClassesInRange) (headings : He
   -- the classes of the first reading are in range for the second
   first_classes : (last : ℕ) (ss : List Statement) (q : Program) → read_program last (scope_of false ss []) ss ≡ Ok q → All (ClassFits (length (declared_names k.Class [] ss)) q.header.natives) q.classes
   first_classes last ss q is =
-      let at = program_read headers classes_in headings instructions (scope_of false ss []) 0 (λ strict. absurd (false_true strict)) last ss q (count_declared k.Class ss) (count_declared k.Method ss) is in
+      let at = program_read headers classes_in headings instructions (scope_of false ss []) 0 (λ strict. absurd (false≢true strict)) last ss q (count_declared k.Class ss) (count_declared k.Method ss) is in
       at.read.parts.classes
 
   statements_well : (last : ℕ) (ss : List Statement) (i : Image) → read_statements last ss ≡ Ok i → WellFormed i

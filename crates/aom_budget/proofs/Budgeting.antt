@@ -1,8 +1,9 @@
 -- What was found of main's dispatch is its price, and an image whose dispatches cost more than is declared of them is none that keeps its budgets.
 use Rattle.std.proofs.Common.{◌≡◌, ◌∙◌, ◌<◌, ◌≤◌, ◌+◌, ℕ, true, List, [], Option, Some, None, IsSome, IsTrue, refl, sym, arith}
+use Rattle.aom_image.proofs.Given.{some_given}
 use Rattle.std.specs.Prelude.{IfSome, min, slice_get}
 use Rattle.std.specs.List.{list_all}
-use Rattle.std.proofs.lemmas.Option.{slice_get_within}
+use Rattle.std.proofs.lemmas.Option.{slice_get_within, same_Some}
 use Rattle.aom_image.specs.Image.{Image}
 use Rattle.aom_image.specs.Views.{class_at, method_at}
 use Rattle.aom_image.specs.declared.class.ClassDecl.{ClassDecl}
@@ -43,16 +44,9 @@ unfolding main_of
 main_there p m e = let w = found is_main p.methods m e in method_is_some p m (slice_get_within p.methods m w.0 w.1)
 
 some_main : (p : Image) → IsLinked p → (m : ℕ) × (main_of p ≡ Some m)
-some_main p linked = go (main_of p) refl linked.main
-  where
-    go : (o : Option ℕ) → main_of p ≡ o → IsSome o → (m : ℕ) × (main_of p ≡ Some m)
-    go None e some = absurd cc
-    go (Some m) e some = (m, e)
+some_main p linked = some_given (λ o. IsSome o) (main_of p) linked.main (λ some. cc) (λ m e some. (m, e))
 
 -- ---- of two strongest typings each says as much as the other
-
-some_is : {A : Type 0} (a b : A) → Some a ≡ Some b → a ≡ b
-some_is a b e = cc
 
 pub covered : (p : Image) (t d : Typing) → IsStrongest p t → IsStrongest p d → IsCovered p t d
 covered p t d one other = record {
@@ -63,7 +57,7 @@ covered p t d one other = record {
       let down = (its.least (at [] t m) mine.typed).each in
       let up = (mine.least (at [] d m) its.typed).each place sh stands.shape in
       let back = down place up.next up.there in
-      (up.next, record { shape = up.there; instr = stands.instr }, up.no_more, rw (some_is back.next sh (sym back.there ∙ stands.shape)) at back.no_more);
+      (up.next, record { shape = up.there; instr = stands.instr }, up.no_more, rw (same_Some back.next sh (sym back.there ∙ stands.shape)) at back.no_more);
 }
 
 -- so the prices by the one are those by the other
@@ -126,7 +120,7 @@ module _ (p : Image) (prices : List ℕ) (linked : IsLinked p) (admitted : IsAdm
   budgets_within small le = record { typing = h.typing; strongest = h.strongest; prices = whole p prices h; are = h.told.whole.are; within = within }
     where
       within : (payer : Payer) (most : ℕ) → declared_by p payer ≡ Some most → payer_price p (whole p prices h) payer ≤ most
-      within Main most e = let is : p.header.budget ≡ most = some_is p.header.budget most e in omega (arith, small, le, found_main, is)
+      within Main most e = let is : p.header.budget ≡ most = same_Some p.header.budget most e in omega (arith, small, le, found_main, is)
       within (Class k) most e = let none = none_declares p k admitted in absurd cc
 
   pub is_over : p.header.budget < main_by p prices → IsOver p Main (main_by p prices) p.header.budget

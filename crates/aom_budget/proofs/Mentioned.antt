@@ -1,5 +1,6 @@
 -- Each class that a state of the strongest typing names is one that the method mentions; so what a method may call has a lower number.
 use Rattle.std.proofs.Common.{◌≡◌, ℕ, zero, suc, ◌<◌, ◌==◌, Bool, true, false, cond, ◌&&◌, All, IsTrue, IfSome, List, [], ◌∷◌, map, position, Option, Some, None, slice_get, inl, inr, refl, sym, ap, ◌∙◌, subst, arith}
+use Rattle.aom_image.proofs.Given.{true_given}
 use Rattle.std.specs.Prelude.{nat_lt}
 use Rattle.std.specs.List.{list_all}
 use Rattle.std.proofs.lemmas.List.Folds.{list_all-append}
@@ -440,11 +441,7 @@ module _ (p : Image) (m : ℕ) where
   -- what is kept stood there
   stood : (o : Option Shape) (x : Shape) → kept p m o ≡ Some x → (sh : Shape) × (o ≡ Some sh) × IsTrue (stays p m sh) × (x ≡ raised_shape p m sh)
   stood None x e = absurd cc
-  stood (Some sh) x e = go (stays p m sh) refl e
-    where
-      go : (b : Bool) → stays p m sh ≡ b → cond b (Some (raised_shape p m sh)) None ≡ Some x → (y : Shape) × (Some sh ≡ Some y) × IsTrue (stays p m y) × (x ≡ raised_shape p m y)
-      go true f g = let same : x ≡ raised_shape p m sh = cc in (sh, refl, f, same)
-      go false f g = absurd cc
+  stood (Some sh) x e = true_given (λ b. cond b (Some (raised_shape p m sh)) None ≡ Some x) (stays p m sh) e (λ g. cc) (λ f g. let same : x ≡ raised_shape p m sh = cc in (sh, refl, f, same))
 
   ordered : IsLinked p → (d : Method) → method_at p m ≡ Some d → CallsOrdered p m d
   unfolding method_at

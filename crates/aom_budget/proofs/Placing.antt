@@ -1,4 +1,5 @@
 -- What a pass finds at a place, by the instruction that stands there: a plain one, a loop, or a next.
+use Rattle.std.proofs.lemmas.Option.{same_Some}
 use Rattle.std.proofs.Common.{◌≡◌, ℕ, suc, ◌<◌, ◌≤◌, ◌+◌, ◌-◌, ◌*◌, List, [], Some, None, IfSome, inl, inr, refl, sym, ap, ◌∙◌, subst, arith}
 use Rattle.std.specs.Prelude.{max}
 use Rattle.std.proofs.lemmas.Bool.Decides.{leb_tells}
@@ -20,7 +21,7 @@ use Rattle.aom_verify.specs.Strongest.{IsMethodStrongest}
 use Rattle.aom_prices.specs.Prices.{Prices, own}
 use Rattle.aom_prices.specs.Costs.{AmongFlows, GoesOut, Region, Whole, Round}
 use Rattle.aom_prices.specs.Sweeping.{Afters, IsAfter, IsInnermost, after, most_within}
-use Rattle.aom_prices.proofs.Regions.{innermost_of_body, one_innermost, no_loop_here, no_next_here, no_way_back, some_same}
+use Rattle.aom_prices.proofs.Regions.{innermost_of_body, one_innermost, no_loop_here, no_next_here, no_way_back}
 use Rattle.aom_prices.proofs.Ways.{Way, way_of}
 use Rattle.aom_prices.proofs.Ways.Way.{back, jump, on}
 use Rattle.aom_budget.specs.Calls.{Among, callees}
@@ -42,7 +43,7 @@ module _ (p : Image) (prices : List ℕ) (m : ℕ) (s : Shapes) (looped : IsLoop
   needs_at : (x : ℕ) (sh : Shape) (i : Instr) → at None s x ≡ Some sh → instr_at p m x ≡ Some i → AllTrue (rule_needs p m x sh i)
   needs_at x sh i there stands =
       let applies = strongest.typed.each x sh there in
-      let same : applies.instr ≡ i = some_same applies.instr i (sym applies.stands ∙ stands) in
+      let same : applies.instr ≡ i = same_Some applies.instr i (sym applies.stands ∙ stands) in
       subst (λ j. AllTrue (rule_needs p m x sh j)) same applies.needs
 
   targets_at : (x : ℕ) (sh : Shape) (i : Instr) → at None s x ≡ Some sh → instr_at p m x ≡ Some i → targets_of x sh i ≡ targets (flows p m x sh i)
@@ -101,14 +102,14 @@ module _ (p : Image) (prices : List ℕ) (m : ℕ) (s : Shapes) (looped : IsLoop
       plain_more low value = passed_more p prices m s looped x old new extends h
           (λ t c a agrees. record {
             plain = λ sh j u there j_no_loop j_no_next u_inner.
-                let same_instr : i ≡ j = some_same i j (sym stands ∙ there.instr) in
+                let same_instr : i ≡ j = same_Some i j (sym stands ∙ there.instr) in
                 let same_region : r ≡ u = one_innermost p looped m x r u inner u_inner in
                 let here = stands_there t x sh agrees.states there.shape in
                 let is = plain_value c a t sh here agrees (value sh here) in
                 subst (λ y. c.from m x ≡ kept (own c sh j + max (after a m y) (most_within c m y (flows p m x sh j)))) same_region
                 (subst (λ y. c.from m x ≡ kept (own c sh y + max (after a m r) (most_within c m r (flows p m x sh y)))) same_instr is);
-            loops = λ d n sh there. absurd (no_loop_here i d n no_loop (some_same i (Loop d n) (sym stands ∙ there.instr)));
-            nexts = λ d f sh there. absurd (no_next_here i d (suc f) no_next (some_same i (Next d (suc f)) (sym stands ∙ there.instr)));
+            loops = λ d n sh there. absurd (no_loop_here i d n no_loop (same_Some i (Loop d n) (sym stands ∙ there.instr)));
+            nexts = λ d f sh there. absurd (no_next_here i d (suc f) no_next (same_Some i (Next d (suc f)) (sym stands ∙ there.instr)));
             rounds = round_found p prices m s looped x old new extends h t c a agrees;
             afters = λ f d n u b w. absurd (no_body_ends p m x f x d n i stands no_next b refl);
           })
@@ -146,7 +147,7 @@ module _ (p : Image) (prices : List ℕ) (m : ℕ) (s : Shapes) (looped : IsLoop
       body_reached : (sh : Shape) → at None s x ≡ Some sh → (y : Shape) × (at None s (suc x) ≡ Some y)
       body_reached sh there =
           let applies = strongest.typed.each x sh there in
-          let one : applies.instr ≡ Loop d n = some_same applies.instr (Loop d n) (sym applies.stands ∙ stands) in
+          let one : applies.instr ≡ Loop d n = same_Some applies.instr (Loop d n) (sym applies.stands ∙ stands) in
           let ways = subst (λ i. AllMet s (flows p m x sh i)) one applies.flows in
           (ways.0.next, ways.0.there)
 
@@ -159,12 +160,12 @@ module _ (p : Image) (prices : List ℕ) (m : ℕ) (s : Shapes) (looped : IsLoop
       unfolding next_in loop_in
       loop_more small value = passed_more p prices m s looped x old new extends h
           (λ t c a agrees. record {
-            plain = λ sh j u there j_no_loop j_no_next u_inner. absurd (no_loop_here j d n j_no_loop (some_same j (Loop d n) (sym there.instr ∙ stands)));
+            plain = λ sh j u there j_no_loop j_no_next u_inner. absurd (no_loop_here j d n j_no_loop (same_Some j (Loop d n) (sym there.instr ∙ stands)));
             loops = λ e l sh there.
                 let rounds = one_loop e l (sym stands ∙ there.instr) in
                 let here = stands_there t x sh agrees.states there.shape in
                 rw rounds (loop_value t c a agrees (value sh here));
-            nexts = λ e f sh there. absurd (no_next_here (Loop d n) e (suc f) refl (some_same (Loop d n) (Next e (suc f)) (sym stands ∙ there.instr)));
+            nexts = λ e f sh there. absurd (no_next_here (Loop d n) e (suc f) refl (same_Some (Loop d n) (Next e (suc f)) (sym stands ∙ there.instr)));
             rounds = round_found p prices m s looped x old new extends h t c a agrees;
             afters = λ f e l u b w. absurd (no_body_ends p m x f x e l (Loop d n) stands refl b refl);
           })
@@ -257,8 +258,8 @@ module _ (p : Image) (prices : List ℕ) (m : ℕ) (s : Shapes) (looped : IsLoop
         unfolding next_in loop_in
         next_more value low = passed_more p prices m s looped x old new extends h
             (λ t c a agrees. record {
-              plain = λ sh j v there j_no_loop j_no_next v_inner. absurd (no_next_here j d (suc f) j_no_next (some_same j (Next d (suc f)) (sym there.instr ∙ body.ends)));
-              loops = λ e l sh there. absurd (no_loop_here (Next d (suc f)) e l refl (some_same (Next d (suc f)) (Loop e l) (sym body.ends ∙ there.instr)));
+              plain = λ sh j v there j_no_loop j_no_next v_inner. absurd (no_next_here j d (suc f) j_no_next (same_Some j (Next d (suc f)) (sym there.instr ∙ body.ends)));
+              loops = λ e l sh there. absurd (no_loop_here (Next d (suc f)) e l refl (same_Some (Next d (suc f)) (Loop e l) (sym body.ends ∙ there.instr)));
               nexts = λ e g sh there.
                   let back = one_next e g (sym body.ends ∙ there.instr) in
                   let here = stands_there t x sh agrees.states there.shape in

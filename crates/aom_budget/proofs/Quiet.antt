@@ -1,5 +1,6 @@
 -- A quiet method has no cleanup entries, and calls none that has.
 use Rattle.std.proofs.Common.{◌≡◌, ℕ, zero, suc, ◌≤◌, true, false, List, [], ◌∷◌, ◌++◌, length, map, IsTrue, Option, Some, None, refl, sym, ap, ◌∙◌, arith}
+use Rattle.aom_image.proofs.Given.{nil_given}
 use Rattle.std.specs.Prelude.{not}
 use Rattle.std.proofs.lemmas.Bool.{true≢false}
 use Rattle.aom_image.specs.Image.{Image}
@@ -168,11 +169,7 @@ at_lowest (x ∷ xs) (suc pc) = at_lowest xs pc
 stood : (o : Option Shape) (sh : Shape) → lowest_at o ≡ Some sh → (o ≡ Some sh) × (sh.entries ≡ [])
 unfolding lowest_at with_none
 stood None sh e = absurd cc
-stood (Some x) sh e = go x.entries refl e
-  where
-    go : (es : List Entry) → x.entries ≡ es → with_none x es ≡ Some sh → (Some x ≡ Some sh) × (sh.entries ≡ [])
-    go [] f g = let same : x ≡ sh = cc in (g, rw same at f)
-    go (y ∷ ys) f g = absurd cc
+stood (Some x) sh e = nil_given (λ es. with_none x es ≡ Some sh) x.entries e (λ y ys g. cc) (λ f g. let same : x ≡ sh = cc in (g, rw same at f))
 
 stays_there : (sh : Shape) → sh.entries ≡ [] → lowest_at (Some sh) ≡ Some sh
 unfolding lowest_at with_none

@@ -1,4 +1,5 @@
 -- The innermost loops round two places that follow each other, and the list of the loops that a pass is in.
+use Rattle.std.proofs.lemmas.Option.{same_Some}
 use Rattle.std.proofs.Common.{◌≡◌, ℕ, suc, ◌<◌, List, length, Option, Some, None, slice_set, inl, inr, refl, sym, ap, ◌∙◌, subst, arith}
 use Rattle.std.proofs.lemmas.Bool.Decides.{eqb_tells, leb_tells}
 use Rattle.aom_image.specs.Image.{Image}
@@ -11,7 +12,7 @@ use Rattle.aom_shape.specs.Tables.{at}
 use Rattle.aom_shape.proofs.Lists.{at_set_here, at_set_other}
 use Rattle.aom_prices.specs.Costs.{Region, Whole, Round}
 use Rattle.aom_prices.specs.Sweeping.{IsInnermost}
-use Rattle.aom_prices.proofs.Regions.{some_same, no_loop_here, no_next_here, nested, ends_before, one_end}
+use Rattle.aom_prices.proofs.Regions.{no_loop_here, no_next_here, nested, ends_before, one_end}
 use Rattle.aom_budget.specs.Pricing.{IsWithin, region_of}
 use Rattle.aom_budget.specs.declared.pass.Round as rounds
 
@@ -31,12 +32,12 @@ module _ (p : Image) (m : ℕ) where
   pub no_body_begins : (x f e d n : ℕ) (i : Instr) → instr_at p m x ≡ Some i → loop_in (Some i) ≡ None → Body p m f e d n → f ≡ x → ⊥
   no_body_begins x f e d n i stands none b same =
       let one : Some i ≡ Some (Loop d n) = sym stands ∙ (ap (λ y. instr_at p m y) (sym same) ∙ b.begins) in
-      no_loop_here i d n none (some_same i (Loop d n) one)
+      no_loop_here i d n none (same_Some i (Loop d n) one)
 
   pub no_body_ends : (x f e d n : ℕ) (i : Instr) → instr_at p m x ≡ Some i → next_in (Some i) ≡ None → Body p m f e d n → e ≡ x → ⊥
   no_body_ends x f e d n i stands none b same =
       let one : Some i ≡ Some (Next d (suc f)) = sym stands ∙ (ap (λ y. instr_at p m y) (sym same) ∙ b.ends) in
-      no_next_here i d (suc f) none (some_same i (Next d (suc f)) one)
+      no_next_here i d (suc f) none (same_Some i (Next d (suc f)) one)
 
   -- a next closes one loop
   pub one_begin : (f g x d n k l : ℕ) → Body p m f x d n → Body p m g x k l → f ≡ g

@@ -1,7 +1,7 @@
 -- How the bodies of loops lie in a linked image: what jumps, nexts and nesting give.
 use Rattle.std.proofs.Common.{◌≡◌, ◌≢◌, ◌<◌, ◌≤◌, ◌∙◌, ℕ, suc, length, Option, Some, IfSome, IsTrue, slice_get, ⊎_elim, ap, sym, refl, subst, arith}
 use Rattle.std.proofs.lemmas.Bool.{cases_lt}
-use Rattle.std.proofs.lemmas.Option.{slice_get_within}
+use Rattle.std.proofs.lemmas.Option.{slice_get_within, same_Some}
 use Rattle.aom_image.specs.Image.{Image}
 use Rattle.aom_image.specs.Views.{instr_at, instr_in, method_at}
 use Rattle.aom_image.specs.WellFormed.{InstrFits, MethodFits, WellFormed, limits}
@@ -13,7 +13,6 @@ use Rattle.aom_classes.specs.Linked.{IsLinked}
 use Rattle.aom_classes.specs.Loops.{Closes, Ending, LoopsNest, loop_at, loop_in, next_in}
 use Rattle.aom_classes.proofs.Facts.{all_there, at_place, of_method}
 use Rattle.aom_classes.proofs.Nested.{back_of_closed, closed_by, deeper}
-use Rattle.aom_classes.proofs.Nesting.{same_ending}
 use Rattle.aom_classes.specs.Bodies.{Body, IsIn, IsLooped}
 
 -- a loop of that number begins there
@@ -25,7 +24,7 @@ loop_there _ d e = cc
 next_there : (o : Option Instr) (d t : ℕ) → next_in o ≡ Some (record { number = d; back = t }) → o ≡ Some (Next d t)
 unfolding next_in
 next_there (Some (Next k u)) d t e =
-    let one = same_ending (record { number = k; back = u }) (record { number = d; back = t }) e in
+    let one = same_Some (record { number = k; back = u }) (record { number = d; back = t }) e in
     let number : k ≡ d = ap (λ (x : Ending). x.number) one in
     let back : u ≡ t = ap (λ (x : Ending). x.back) one in
     cc

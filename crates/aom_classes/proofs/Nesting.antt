@@ -4,7 +4,7 @@ use Rattle.std.specs.Prelude.{◌⊎◌}
 use Rattle.std.specs.List.{count_by}
 use Rattle.std.proofs.lemmas.Bool.{cases_lt}
 use Rattle.std.proofs.lemmas.List.Sums.{count_by_more_yes, count_by_more_no}
-use Rattle.std.proofs.lemmas.Option.{slice_get_within, get_or_from_slice_get, slice_get_cases}
+use Rattle.std.proofs.lemmas.Option.{slice_get_within, get_or_from_slice_get, slice_get_cases, same_Some}
 use Rattle.std.proofs.lemmas.List.{length-append}
 use Rattle.aom_image.specs.declared.instr.Instr.{Instr}
 use Rattle.aom_image.specs.declared.instr.Instr.TheVariants.{Loop, Next}
@@ -135,13 +135,10 @@ scanned_enter code i d x s t e is no_next l n a h =
       count = (let b = counted code i x is_loop e l in let f = not_counted code i x is_next e n in let c = h.count in let m = length-append s (i ∷ []) in omega arith);
     })
 
-pub same_ending : (a b : Ending) → Some a ≡ Some b → a ≡ b
-same_ending a b e = cc
-
 -- a next closes the one loop that it goes back to
 same_start : (code : List Instr) (i d c p t : ℕ) → next_at code i ≡ Some (record { number = d; back = suc t }) → Closes code c p i → (p ≡ t) × (c ≡ d)
 same_start code i d c p t e one =
-    let g = same_ending _ _ (sym one.ends ∙ e) in
+    let g = same_Some _ _ (sym one.ends ∙ e) in
     let b : suc p ≡ suc t = ap (λ (x : Ending). x.back) g in
     (cc, ap (λ (x : Ending). x.number) g)
 
@@ -287,7 +284,7 @@ closes_top code i d t s is h nest =
       | inr w ↦ w.0
     ] in
     let split = ends_with s d p open_here (omega arith) in
-    let back : t ≡ suc p = ap (λ (x : Ending). x.back) (same_ending (record { number = d; back = t }) (record { number = d; back = suc p }) (sym {a = next_at code i} is ∙ it.ends)) in
+    let back : t ≡ suc p = ap (λ (x : Ending). x.back) (same_Some (record { number = d; back = t }) (record { number = d; back = suc p }) (sym {a = next_at code i} is ∙ it.ends)) in
     let number : d ≡ length split.0 = sym {a = length split.0} split.2 in
     (split.0, record { start = p; last = split.1; back = back; number = number })
 

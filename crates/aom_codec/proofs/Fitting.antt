@@ -127,14 +127,11 @@ argument_number_fits classes (arguments.Own t) few h =
 abbrev refused : Result Gives LoadFault
 refused = Err BadOperand
 
-refused_not : (y : Gives) → refused ≡ Ok y → ⊥
-refused_not y h = cc
-
 own_in : (classes n : ℕ) (make : Thing → Gives) (y : Gives) → ((t : Thing) → ThingFits classes t → GivesFits classes (make t))
     → cond (eqb n 0xffff) (Err BadOperand) (thing_from classes n >>= λ t. Ok (make t)) ≡ Ok y → GivesFits classes y
 own_in classes n make y kept e =
     elim (took (eqb n 0xffff) (Err BadOperand) (thing_from classes n >>= λ t. Ok (make t)) y e) [
-      | inl h ↦ absurd (refused_not y h.1)
+      | inl h ↦ absurd (let clash : refused ≡ Ok y = h.1 in cc)
       | inr h ↦
           let b = bind_ok (thing_from classes n) (λ t. Ok (make t)) y h.1 in
           subst (GivesFits classes) (ok_is (make b.0) y b.2) (kept b.0 (thing_in classes n b.0 b.1))
@@ -147,7 +144,7 @@ gives_in classes (suc (suc zero)) n y low e = own_in classes n (λ t. gives.Own 
 gives_in classes (suc (suc (suc zero))) n y low e = own_in classes n (λ t. gives.Maybe t) y (λ t h. h) e
 gives_in classes (suc (suc (suc (suc zero)))) n y low e =
     elim (took (leb 0xfffe n) (Err BadOperand) (index_from classes n >>= λ c. Ok (gives.Left c)) y e) [
-      | inl h ↦ absurd (refused_not y h.1)
+      | inl h ↦ absurd (let clash : refused ≡ Ok y = h.1 in cc)
       | inr h ↦
           let b = bind_ok (index_from classes n) (λ c. Ok (gives.Left c)) y h.1 in
           let i = index_returns classes n b.0 b.1 in

@@ -1,6 +1,7 @@
 -- The two laws of each format of an image, from those of its parts.
+use Rattle.std.proofs.lemmas.Option.{same_Some}
 use Rattle.std.proofs.Common.{◌≡◌, ℕ, zero, suc, ◌-◌, ◌<◌, ◌≤◌, Bool, true, false, cond, eqb, ltb, leb, List, [], ◌∷◌, length, Option, Some, None, Ok, refl, sym, ap, subst, ◌∙◌, arith, eqb-true, lit<, ◌&&◌}
-use Rattle.std.proofs.lemmas.Bool.{leb-true, le-leb}
+use Rattle.std.proofs.lemmas.Bool.{leb-true, le-leb, and_parts}
 use Rattle.aom_image.specs.Image.{Image}
 use Rattle.std.specs.List.{find}
 use Rattle.aom_image.proofs.Again.{making_parts_again}
@@ -87,12 +88,8 @@ provider_back natives (suc zero) n low h = pair_is refl (sym (eqb-true n 0 h))
 provider_back natives (suc (suc zero)) n low h = refl
 provider_back natives (suc (suc (suc k))) n low h = absurd (omega arith)
 
-pub and_true : (a b : Bool) → (a && b) ≡ true → (a ≡ true) × (b ≡ true)
-and_true true b h = (refl, h)
-and_true false b h = absurd cc
-
 pub between_true : (low high n : ℕ) → is_between low high n ≡ true → (low ≤ n) × (n ≤ high)
-between_true low high n h = let p = and_true (leb low n) (leb n high) h in (leb-true _ _ p.0, leb-true _ _ p.1)
+between_true low high n h = let p = and_parts (leb low n) (leb n high) h in (leb-true _ _ p.0, leb-true _ _ p.1)
 
 pub between_is : (low high n : ℕ) → low ≤ n → n ≤ high → is_between low high n ≡ true
 between_is low high n p q = ap (λ b. b && leb n high) (le-leb low n p) ∙ le-leb n high q
@@ -217,12 +214,9 @@ found_passes : {X : Type 0} (p : X → Bool) (xs : List X) (x : X) → find p xs
 found_passes p [] x e = absurd cc
 found_passes {X} p (y ∷ ys) x e =
     elim (p y) as (λ b. p y ≡ b → cond b (Some y) (find p ys) ≡ Some x → p x ≡ true) [
-      | true ↦ λ is found. subst (λ z. p z ≡ true) (some_is y x found) is
+      | true ↦ λ is found. subst (λ z. p z ≡ true) (same_Some y x found) is
       | false ↦ λ is found. found_passes p ys x found
     ] refl e
-  where
-    some_is : (y x : X) → Some y ≡ Some x → y ≡ x
-    some_is y x e = cc
 
 known_ok : (o : Option Mnemonic) (m : Mnemonic) → known o ≡ Ok m → o ≡ Some m
 known_ok None m e = absurd cc

@@ -94,7 +94,7 @@ large_reads l lk.Number n o lt e =
     (ap large_number (sym g) ∙ of_z-to_z w32 n lt, subst (LargeFits l lk.Number) g (signed_fits n lt))
 large_reads l lk.Rounds n o lt e =
     elim (took (eqb n 0) (Err BadOperand) (below 65536 n (large.Rounds n) BadOperand) o e) [
-      | inl h ↦ absurd (refused o h.1)
+      | inl h ↦ absurd (let clash : Err BadOperand ≡ Ok o = h.1 in cc)
       | inr h ↦
           let g = below_ok 65536 n (large.Rounds n) o BadOperand h.1 in
           let some : 1 ≤ n = omega (arith, not_zero n h.0) in
@@ -102,9 +102,6 @@ large_reads l lk.Rounds n o lt e =
           (ap large_number (sym g.1), subst (LargeFits l lk.Rounds) g.1 (some, most))
     ]
   where
-    refused : (o : Large) → Err BadOperand ≡ Ok o → ⊥
-    refused o e = cc
-
     not_zero : (n : ℕ) → eqb n 0 ≡ false → 1 ≤ n
     not_zero zero h = absurd cc
     not_zero (suc n) h = omega arith

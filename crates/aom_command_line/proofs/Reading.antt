@@ -61,7 +61,7 @@ absent f id b is missing = sym (raw_values-rows f id) ∙ no_raw (matched_of f i
 -- without a command there is none
 pub nothing_met : (met : Option (Text × List Row)) → None ≡ option_map (λ p. p.1) met → true ≡ true → IsCommand met → ⊥
 nothing_met None e taken is = is
-nothing_met (Some m) e taken is = absurd cc
+nothing_met (Some m) e taken is = cc
 
 -- the exact matches of `clap` are there for this form
 pub simple : is_simple form ≡ true

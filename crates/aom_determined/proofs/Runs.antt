@@ -57,16 +57,10 @@ module _ (p : Image) (t : Typing) (refused : List ℕ) (wired : IsWired p) (type
 
   -- what is at hand in one is at hand in the other
   busy_idle : (v w : State) → AreAlike v w → IsBusy v → w.tasks ≡ [] → ⊥
-  busy_idle v w alike busy idle = go (ap (renamed_tasks alike.names) (sym busy.2) ∙ sym (ap (λ x. x.tasks) alike.same) ∙ idle)
-    where
-      go : renamed_tasks alike.names (busy.0 ∷ busy.1) ≡ [] → ⊥
-      go e = cc
+  busy_idle v w alike busy idle = let clash : renamed_tasks alike.names (busy.0 ∷ busy.1) ≡ [] = ap (renamed_tasks alike.names) (sym busy.2) ∙ sym (ap (λ x. x.tasks) alike.same) ∙ idle in cc
 
   idle_busy : (v w : State) → AreAlike v w → v.tasks ≡ [] → IsBusy w → ⊥
-  idle_busy v w alike idle busy = go (sym busy.2 ∙ ap (λ x. x.tasks) alike.same ∙ ap (renamed_tasks alike.names) idle)
-    where
-      go : busy.0 ∷ busy.1 ≡ [] → ⊥
-      go e = cc
+  idle_busy v w alike idle busy = let clash : busy.0 ∷ busy.1 ≡ [] = sym busy.2 ∙ ap (λ x. x.tasks) alike.same ∙ ap (renamed_tasks alike.names) idle in cc
 
   goes_alike : (o o' : Outcome) (s u : State) → o ≡ Goes s → o' ≡ Goes u → AlikeOutcomes o o' → AreAlike s u
   goes_alike o o' s u e e' h = subst (λ x. AlikeOutcomes (Goes s) x) e' (subst (λ x. AlikeOutcomes x o') e h)

@@ -23,6 +23,7 @@ use Rattle.aom_exec.specs.Acts as acts
 use Rattle.aom_exec.proofs.Entries.{mark_shows_none, unmarked}
 use Rattle.aom_exec.proofs.GoingOn.{goes_on_as}
 use Rattle.aom_exec.proofs.WordActs.{plain_does}
+use Rattle.aom_sound.proofs.Straight.{fits_unowning}
 
 pub stop_does : (m : Parts) (refused : List ℕ) → Does refused Stop m (acts.next (record m { rest = record m.rest { stopped = true } }))
 stop_does m refused = plain_does m (acts.next (record m { rest = record m.rest { stopped = true } })) refused Stop refl (λ p h c met.
@@ -38,8 +39,7 @@ pub record Closing (s : State) : Type 0 where
   pub goings : (k : ℕ) → held s.cells (Going k) ≡ None
 
 pub fits_null : (p : Image) (h : Place → Option Object) (o : Option Object) → Fits p h o Null → o ≡ None
-fits_null p h None e = refl
-fits_null p h (Some o) e = absurd e
+fits_null p h o e = fits_unowning p h o Null refl e
 
 pub closing : (p : Image) (t : Typing) (s : State) (d : Dispatch) → WellTyped p t s → s.tasks ≡ Dispatched d ∷ [] → Closing s
 closing p t s d typed e = dispatch_layer (Good p t s.cells) d [] typed.layers (sym typed.tasks ∙ e) typed.good (λ ls _ good.

@@ -1,4 +1,5 @@
 -- What a write of one field or of one word of a cell does to the places and to the cells.
+use Rattle.std.proofs.lemmas.Option.{none-some}
 use Rattle.std.proofs.Common.{suc, ◌≡◌, ℕ, ℤ, ◌<◌, true, false, cond, ◌==◌, ◌&&◌, length, List, [], ◌∷◌, Option, Some, None, slice_set, refl, sym, ap, ◌∙◌, subst}
 use Rattle.aom_image.proofs.Given.{some_given}
 use Rattle.std.proofs.lemmas.Bool.{eq-eqb, eqb-true, false≢true}
@@ -65,9 +66,6 @@ word_put_elsewhere us h h' es root n w v puts _ = refl
 pub cell_of : (p : Image) (h : Heap) (cs : List Cell) (n : ℕ) (o : Object) → SameCells p h cs → named cs n ≡ Some o → (c : Held_cell) × (cell_at h n ≡ Some c)
 cell_of p h cs n o same lives = some_given (λ c. thing_in c ≡ Some o.thing) (cell_at h n) (same.things n ∙ ap thing_of lives) (λ f. cc) (λ c e f. (c, e))
 
-some_none : {A : Type 0} {x : A} → Some x ≡ None → ⊥
-some_none e = cc
-
 -- a cell has other words and fields, of the same class and as many
 cells_rewritten : (p : Image) (h h' : Heap) (cs cs' : List Cell) (n : ℕ) (c c' : Held_cell) → SameCells p h cs → cell_at h n ≡ Some c → Changes h h' n (Some c') → c'.class ≡ c.class → length c'.fields ≡ length c.fields → count h' ≡ count h
     → ((k : ℕ) → named cs' k ≡ named cs k) → length cs' ≡ length cs → ((k w : ℕ) → cell_word h' k w ≡ word_field cs' k w) → SameCells p h' cs'
@@ -82,7 +80,7 @@ cells_rewritten p h h' cs cs' n c c' same at ch class as_wide as_many names as_l
   classes = λ k z is. cases (n == k)
       (λ e. let it = new k z e is in subst (λ x. x < 256) (sym class ∙ ap (λ y. y.class) it) (same.classes n c at))
       (λ e. same.classes k z (sym (other k e) ∙ is));
-  null_is_none = ch.others null (λ d. some_none (sym at ∙ ap (λ i. cell_at h i) (sym d) ∙ same.null_is_none)) ∙ same.null_is_none;
+  null_is_none = ch.others null (λ d. none-some _ (sym (sym at ∙ ap (λ i. cell_at h i) (sym d) ∙ same.null_is_none))) ∙ same.null_is_none;
 }
   where
     other : (k : ℕ) → (n == k) ≡ false → cell_at h' k ≡ cell_at h k

@@ -31,17 +31,17 @@ pub record AtEnd (m : Parts) (s : State) : Type 0 where
   pub held : m.stack.tasks ≡ Ends dispatch ∷ []
   pub state : s.tasks ≡ Dispatched (dispatch_of dispatch) ∷ []
 
+pub none_alike : (ms : List Held_task) (ts : List Task) → SameTasks ms ts → ts ≡ [] → ms ≡ []
+none_alike [] ts same e = refl
+none_alike _ _ same e = absurd (grind arith)
+
 pub at_end : (p : Image) (t : Typing) (m : Parts) (s : State) → WellTyped p t s → Agrees p m s → IsEnding m.stack.tasks → AtEnd m s
 at_end p t m s typed agrees ending = go m.stack.tasks s.tasks refl refl ending agrees.tasks
   where
-    none : (ms : List Held_task) (ts : List Task) → SameTasks ms ts → ts ≡ [] → ms ≡ []
-    none [] ts same e = refl
-    none _ _ same e = absurd (grind arith)
-
     go : (ms : List Held_task) (us : List Task) → m.stack.tasks ≡ ms → s.tasks ≡ us → IsEnding ms → SameTasks ms us → AtEnd m s
     go (Ends x ∷ ms) (Dispatched d ∷ ts) e f ending same =
         let below = under_dispatch p t s d ts typed f in
-        record { dispatch = x; held = e ∙ ap (λ us. Ends x ∷ us) (none ms ts same.1 below); state = f ∙ ap (λ us. Dispatched d ∷ us) below ∙ ap (λ y. Dispatched y ∷ []) (sym same.0) }
+        record { dispatch = x; held = e ∙ ap (λ us. Ends x ∷ us) (none_alike ms ts same.1 below); state = f ∙ ap (λ us. Dispatched d ∷ us) below ∙ ap (λ y. Dispatched y ∷ []) (sym same.0) }
     go _ _ e f ending same = absurd (assumption tt)
 
 -- the root's destruction and its destructor find room there

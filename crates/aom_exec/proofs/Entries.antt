@@ -13,11 +13,10 @@ use Rattle.aom_frames.specs.declared.task.Task.{Task as Held_task}
 use Rattle.aom_exec.specs.Places.{number_in, value_in}
 use Rattle.aom_exec.specs.Agrees.{SameItems}
 use Rattle.aom_exec.proofs.Values.{at_depth, cases}
+use Rattle.aom_exec.proofs.Alike.{by_items}
 
 pub same_items_length : (is : List Held_item) (js : List Item) → SameItems is js → length is ≡ length js
-same_items_length [] [] e = refl
-same_items_length (i ∷ is) (j ∷ js) e = ap suc (same_items_length is js e.1)
-same_items_length _ _ e = absurd e
+same_items_length = by_items (λ is js. length is ≡ length js) refl (λ i j is js _ e. ap suc e)
 
 -- past the items there is nothing
 pub entry_past : (is : List Held_item) (k : ℕ) → length is ≤ k → entry_in is k ≡ null
@@ -35,13 +34,14 @@ pub value_alike : (us : List Held_task) (h : Heap) (es es' : List Held_item) (ro
 value_alike us h es es' root same (Entry k) = same k
 value_alike us h es es' root same _ = refl
 
+-- the items below what is last
+pub below_same : (i : Held_item) (is : List Held_item) (js : List Item) → SameItems (i ∷ is) js → SameItems is (below_top js)
+below_same i is [] same = absurd same
+below_same i is (j ∷ js) same = same.1
+
 -- where a mark goes the items below it stay
 pub unmarked : (is below : List Held_item) (js : List Item) → is ≡ Is_mark ∷ below → SameItems is js → SameItems below (below_top js)
-unmarked is below js e same = go js (subst (λ xs. SameItems xs js) e same)
-  where
-    go : (js : List Item) → SameItems (Is_mark ∷ below) js → SameItems below (below_top js)
-    go [] same = absurd same
-    go (j ∷ js) same = same.1
+unmarked is below js e same = below_same Is_mark below js (subst (λ xs. SameItems xs js) e same)
 
 pub and_true : {A : Type 0} (b : Bool) (x y : A) → cond b x y ≡ cond (b && true) x y
 and_true true x y = refl

@@ -28,7 +28,7 @@ use Rattle.aom_exec.specs.Acts as acts
 use Rattle.aom_exec.specs.Agrees.{Shows, SameItems, word_at, Agrees}
 use Rattle.aom_exec.specs.Places.{value_in, with_items}
 use Rattle.aom_exec.proofs.Cells.{cells_moved}
-use Rattle.aom_exec.proofs.Entries.{and_true, entry_past, owns_none, same_items_length, top_value, value_alike, value_popped, value_pushed}
+use Rattle.aom_exec.proofs.Entries.{and_true, entry_past, owns_none, same_items_length, top_value, value_alike, value_popped, value_pushed, below_same}
 use Rattle.aom_exec.proofs.LeavingActs.{leaves, leaves_at}
 use Rattle.aom_exec.proofs.ObjectActs.{asks_one, made_agrees, same_entry_refusal, same_refusal}
 use Rattle.aom_exec.proofs.Standing.{Top, word_here, no_word, free, nothing_held, unnamed}
@@ -151,10 +151,6 @@ module _ (m : Parts) (turn : Turn) where
   ]
 
 -- ---- what is on top goes
-
-below_same : (i : Held_item) (is : List Held_item) (js : List Item) → SameItems (i ∷ is) js → SameItems is (below_top js)
-below_same i is [] same = absurd same
-below_same i is (j ∷ js) same = same.1
 
 deep_enough : (e es : Held_items) (is : List Held_item) → 1024 ≤ e.depth → e ≡ record es { items = is } → 1024 ≤ es.depth
 deep_enough e es is deep same = subst (λ d. 1024 ≤ d) (ap (λ (x : Held_items). x.depth) same) deep

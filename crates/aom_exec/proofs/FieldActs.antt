@@ -1,4 +1,5 @@
 -- Instructions on the words and the owning fields of what a method works on: of its cell, or of main's, the root.
+use Rattle.std.proofs.lemmas.Option.{none-some}
 use Rattle.std.proofs.Common.{inl, inr, ◌≡◌, ◌≢◌, ℕ, ℤ, ◌<◌, true, cond, length, List, ◌∷◌, Option, Some, None, refl, sym, ap, ◌∙◌, subst, arith}
 use Rattle.std.specs.Prelude.{is_some, nat_lt}
 use Rattle.std.specs.Int.{w32, cast_signed}
@@ -36,9 +37,6 @@ use Rattle.aom_exec.proofs.Cells.{cells_moved}
 
 -- ---- the cell that a method works on
 
-some_none : {A : Type 0} {x : A} → Some x ≡ None → ⊥
-some_none e = cc
-
 module _ (p : Image) (m : Parts) (h : At_hand p m) where
   -- it lives
   housed : (o : Object) (from : Place) → h.frame.home ≡ Inside o from → named h.state.cells o.name ≡ Some o
@@ -54,7 +52,7 @@ module _ (p : Image) (m : Parts) (h : At_hand p m) where
   inside_number o from e = this_is ∙ ap home_number e
 
   inside_there : (o : Object) (from : Place) → h.frame.home ≡ Inside o from → this m ≢ null
-  inside_there o from e n = some_none (sym (housed o from e) ∙ ap (named h.state.cells) (sym (inside_number o from e) ∙ n) ∙ unnamed p m h.state null h.agrees h.agrees.cells.null_is_none)
+  inside_there o from e n = none-some _ (sym (sym (housed o from e) ∙ ap (named h.state.cells) (sym (inside_number o from e) ∙ n) ∙ unnamed p m h.state null h.agrees h.agrees.cells.null_is_none))
 
   pub is_housed : IsHoused m
   is_housed there = go h.frame.home refl

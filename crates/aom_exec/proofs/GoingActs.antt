@@ -37,6 +37,7 @@ use Rattle.aom_exec.proofs.Cells.{cells_moved, cells_without}
 use Rattle.aom_exec.proofs.ObjectActs.{shown}
 use Rattle.aom_exec.proofs.WordActs.{plain_at}
 use Rattle.aom_cleanup.specs.declared.item.Item.{Item}
+use Rattle.aom_exec.proofs.Alike.{by_task, by_tasks}
 
 -- a method at its first place shows nothing, and has no word
 pub fresh_value : (method this : ℕ) (us : List Held_task) (h : Heap) (es : List Item) (root : ℕ) (r : Place) → value_in (Runs_frame (fresh method this) ∷ us) h es root r ≡ value_in us h es root r
@@ -180,17 +181,14 @@ abbrev pub going_on : List Held_task → List Held_task
 going_on ms = on_top (with_place (suc (place_here ms))) ms
 
 same_resumed : (ms : List Held_task) (ts : List Task) → SameTasks ms ts → SameTasks (going_on ms) (resumed ts)
-same_resumed [] [] same = tt
-same_resumed (m ∷ ms) (t ∷ ts) same = heads m t same.0
-  where
-    heads : (m : Held_task) (t : Task) → SameTask m t → SameTasks (going_on (m ∷ ms)) (resumed (t ∷ ts))
-    heads (Runs_frame f) (Run fr) e = (moved_on f fr f.registers fr.words e e.wide, same.1)
-    heads Is_trap Trapped e = (tt, same.1)
-    heads (Destroys x) Destroy e = (tt, same.1)
-    heads (Unwinds code) (Unwind c) e = (e, same.1)
-    heads (Ends d) (Dispatched x) e = (e, same.1)
-    heads m t e = absurd e
-same_resumed _ _ same = absurd (assumption tt)
+same_resumed = by_tasks (λ ms ts. SameTasks (going_on ms) (resumed ts)) tt (λ m t ms ts same rest _.
+    by_task (λ m t. SameTasks (going_on (m ∷ ms)) (resumed (t ∷ ts))) (record {
+      runs = λ f fr e. (moved_on f fr f.registers fr.words e e.wide, rest);
+      trapped = (tt, rest);
+      destroys = λ x. (tt, rest);
+      unwinds = λ code c e. (e, rest);
+      ends = λ d x e. (e, rest);
+    }) m t same)
 
 value_resumed : (ms : List Held_task) (h : Heap) (es : List Item) (root : ℕ) (r : Place) → value_in (going_on ms) h es root r ≡ value_in ms h es root r
 value_resumed (Runs_frame f ∷ ms) h es root r = value_kept f ms h es root (suc f.place) r

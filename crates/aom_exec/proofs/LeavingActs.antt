@@ -1,6 +1,6 @@
 -- A leave: the methods over the trap end, and nothing of theirs is owned.
 use Rattle.std.proofs.Common.{pos, ◌≡◌, ◌<◌, ◌≤◌, ℕ, ℤ, Bool, true, false, cond, not, ◌&&◌, length, List, [], ◌∷◌, Some, None, refl, sym, ap, ◌∙◌, subst, arith}
-use Rattle.std.proofs.lemmas.Bool.{eq-eqb, false≢true}
+use Rattle.std.proofs.lemmas.Bool.{eq-eqb, false≢true, and_parts}
 use Rattle.std.specs.Int.{w32, cast_signed}
 use Rattle.std.specs.Prelude.{int_lt, is_some}
 use Rattle.aom_image.specs.Image.{Image}
@@ -71,15 +71,11 @@ pub record Stays (cs : List Cell) (heap : Heap) (es : List Item) (root : ℕ) (m
 pub stays_to_trap : (cs : List Cell) (heap : Heap) (es : List Item) (root : ℕ) (ms : List Held_task) (ts : List Task) → above_trap_is_free cs ts ≡ true → Stays cs heap es root ms ts → Stays cs heap es root (held_to_trap ms) (to_trap ts)
 stays_to_trap cs heap es root [] [] free stays = stays
 stays_to_trap cs heap es root (Runs_frame f ∷ ms) (Run fr ∷ ts) free stays =
-    let both = parts (none_owns_but cs (length ts) None) (above_trap_is_free cs ts) free in
+    let both = and_parts (none_owns_but cs (length ts) None) (above_trap_is_free cs ts) free in
     stays_to_trap cs heap es root ms ts both.1 (record {
       tasks = stays.tasks.1;
       values = λ r. subst (Shows (value_in ms heap es root r) (word_at ts r)) (cleared_none (length ts) (held cs) (λ i. none_owned cs (length ts) i both.0) r) (beneath f ms fr ts heap es root (held cs) (same_length ms ts stays.tasks.1) stays.values r);
     })
-  where
-    parts : (a b : Bool) → (a && b) ≡ true → (a ≡ true) × (b ≡ true)
-    parts true b e = (refl, e)
-    parts false b e = cc
 stays_to_trap cs heap es root (Is_trap ∷ ms) (Trapped ∷ ts) free stays = stays
 stays_to_trap cs heap es root (Destroys x ∷ ms) (Destroy ∷ ts) free stays = stays
 stays_to_trap cs heap es root (Unwinds code ∷ ms) (Unwind c ∷ ts) free stays = stays

@@ -43,3 +43,4 @@ pub mod Settled
 pub mod Working
 pub mod Many
 pub mod Agreeing
+pub mod Alike

@@ -23,6 +23,7 @@ use Rattle.aom_exec.specs.declared.parts.Parts.{Parts}
 use Rattle.aom_exec.specs.Agrees.{SameFrame, SameTask, SameTasks, SameItem, SameItems, Agrees}
 use Rattle.aom_exec.specs.Ranks.{ranked, operations_in, rank_of}
 use Rattle.aom_exec.specs.Steps.{Sound, Moved}
+use Rattle.aom_exec.proofs.Alike.{by_task, by_tasks, by_item, by_items}
 
 -- ---- what is left of a method hangs on the number of rounds in each counter
 
@@ -44,55 +45,39 @@ frame_alike p f fr to to' same there =
     ∙ ap (λ k. k * price p fr.method) (left_alike f.counters fr.counters (λ i. at_index 0 f.counters i ∙ same.counters i) (method_at p fr.method) to')
 
 waits_alike : (p : Image) (ms : List Held_task) (us : List Task) → SameTasks ms us → waiting_rank p (map ranked ms) ≡ waiting_rank p us
-waits_alike p [] [] same = refl
-waits_alike p (m ∷ ms) (u ∷ us) same = go m u same.0 (waits_alike p ms us same.1)
-  where
-    go : (m : Held_task) (u : Task) → SameTask m u → waiting_rank p (map ranked ms) ≡ waiting_rank p us → waiting_rank p (map ranked (m ∷ ms)) ≡ waiting_rank p (u ∷ us)
-    go (Runs_frame f) (Run fr) same e = ap (λ k. k + waiting_rank p (map ranked ms)) (frame_alike p f fr (suc f.place) (suc fr.place) same (ap suc same.place)) ∙ ap (λ k. frame_rank p (next fr) + k) e
-    go Is_trap Trapped same e = ap (λ k. 1 + k) e
-    go (Destroys x) Destroy same e = ap (λ k. 1 + k) e
-    go (Unwinds code) (Unwind c) same e = ap (λ k. 1 + k) e
-    go (Ends x) (Dispatched d) same e = ap (λ k. end_rank k + waiting_rank p (map ranked ms)) same ∙ ap (λ k. end_rank d + k) e
-    go m u same e = absurd same
-waits_alike p _ _ same = absurd (assumption tt)
+waits_alike p = by_tasks (λ ms us. waiting_rank p (map ranked ms) ≡ waiting_rank p us) refl (λ m u ms us same _ e.
+    by_task (λ m u. waiting_rank p (map ranked (m ∷ ms)) ≡ waiting_rank p (u ∷ us)) (record {
+      runs = λ f fr same. ap (λ k. k + waiting_rank p (map ranked ms)) (frame_alike p f fr (suc f.place) (suc fr.place) same (ap suc same.place)) ∙ ap (λ k. frame_rank p (next fr) + k) e;
+      trapped = ap (λ k. 1 + k) e;
+      destroys = λ x. ap (λ k. 1 + k) e;
+      unwinds = λ code c same. ap (λ k. 1 + k) e;
+      ends = λ x d same. ap (λ k. end_rank k + waiting_rank p (map ranked ms)) same ∙ ap (λ k. end_rank d + k) e;
+    }) m u same)
 
 tasks_alike : (p : Image) (ms : List Held_task) (us : List Task) → SameTasks ms us → tasks_rank p (map ranked ms) ≡ tasks_rank p us
-tasks_alike p [] [] same = refl
-tasks_alike p (m ∷ ms) (u ∷ us) same = go m u same.0
-  where
-    go : (m : Held_task) (u : Task) → SameTask m u → tasks_rank p (map ranked (m ∷ ms)) ≡ tasks_rank p (u ∷ us)
-    go (Runs_frame f) (Run fr) same' = ap (λ k. k + waiting_rank p (map ranked ms)) (frame_alike p f fr f.place fr.place same' same'.place) ∙ ap (λ k. frame_rank p fr + k) (waits_alike p ms us same.1)
-    go Is_trap Trapped same' = waits_alike p (Is_trap ∷ ms) (Trapped ∷ us) (same', same.1)
-    go (Destroys x) Destroy same' = waits_alike p (Destroys x ∷ ms) (Destroy ∷ us) (same', same.1)
-    go (Unwinds code) (Unwind c) same' = waits_alike p (Unwinds code ∷ ms) (Unwind c ∷ us) (same', same.1)
-    go (Ends x) (Dispatched d) same' = waits_alike p (Ends x ∷ ms) (Dispatched d ∷ us) (same', same.1)
-    go m u same' = absurd same'
-tasks_alike p _ _ same = absurd (assumption tt)
+tasks_alike p = by_tasks (λ ms us. tasks_rank p (map ranked ms) ≡ tasks_rank p us) refl (λ m u ms us same rest _.
+    by_task (λ m u. tasks_rank p (map ranked (m ∷ ms)) ≡ tasks_rank p (u ∷ us)) (record {
+      runs = λ f fr same. ap (λ k. k + waiting_rank p (map ranked ms)) (frame_alike p f fr f.place fr.place same same.place) ∙ ap (λ k. frame_rank p fr + k) (waits_alike p ms us rest);
+      trapped = waits_alike p (Is_trap ∷ ms) (Trapped ∷ us) (tt, rest);
+      destroys = λ x. waits_alike p (Destroys x ∷ ms) (Destroy ∷ us) (tt, rest);
+      unwinds = λ code c same. waits_alike p (Unwinds code ∷ ms) (Unwind c ∷ us) (same, rest);
+      ends = λ x d same. waits_alike p (Ends x ∷ ms) (Dispatched d ∷ us) (same, rest);
+    }) m u same)
 
 destructions_alike : (ms : List Held_task) (us : List Task) → SameTasks ms us → destructions (map ranked ms) ≡ destructions us
-destructions_alike [] [] same = refl
-destructions_alike (m ∷ ms) (u ∷ us) same = go m u same.0 (destructions_alike ms us same.1)
-  where
-    go : (m : Held_task) (u : Task) → SameTask m u → destructions (map ranked ms) ≡ destructions us → destructions (map ranked (m ∷ ms)) ≡ destructions (u ∷ us)
-    go (Runs_frame f) (Run fr) same e = e
-    go Is_trap Trapped same e = e
-    go (Destroys x) Destroy same e = ap suc e
-    go (Unwinds code) (Unwind c) same e = e
-    go (Ends x) (Dispatched d) same e = e
-    go m u same e = absurd same
-destructions_alike _ _ same = absurd (assumption tt)
+destructions_alike = by_tasks (λ ms us. destructions (map ranked ms) ≡ destructions us) refl (λ m u ms us same _ e.
+    by_task (λ m u. destructions (map ranked (m ∷ ms)) ≡ destructions (u ∷ us)) (record {
+      runs = λ f fr same. e;
+      trapped = e;
+      destroys = λ x. ap suc e;
+      unwinds = λ code c same. e;
+      ends = λ x d same. e;
+    }) m u same)
 
 -- as many operations are on the cleanup stack
 operations_alike : (is : List Held_item) (js : List Item) → SameItems is js → operations_in is ≡ operations js
-operations_alike [] [] same = refl
-operations_alike (i ∷ is) (j ∷ js) same = go i j same.0 (operations_alike is js same.1)
-  where
-    go : (i : Held_item) (j : Item) → SameItem i j → operations_in is ≡ operations js → operations_in (i ∷ is) ≡ operations (j ∷ js)
-    go (Holds_object n) An_object same e = e
-    go (Holds_operation m n) (An_operation k w) same e = ap suc e
-    go Is_mark A_mark same e = e
-    go i j same e = absurd same
-operations_alike _ _ same = absurd (assumption tt)
+operations_alike = by_items (λ is js. operations_in is ≡ operations js) refl (λ i j is js same e.
+    by_item (λ i j. operations_in (i ∷ is) ≡ operations (j ∷ js)) (λ n. e) (λ m n k w. ap suc e) e i j same)
 
 -- the machine's rank is its state's
 pub same_rank : (p : Image) (t : Typing) (m : Parts) (s : State) → WellTyped p t s → Agrees p m s → rank_of p m.stack.tasks m.entries.items (count m.cells) ≡ rank p s

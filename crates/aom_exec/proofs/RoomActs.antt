@@ -1,5 +1,6 @@
 -- Each instruction keeps the room that a run needs.
 use Rattle.std.proofs.Common.{Bool, List, None, Option, Some, [], ap, arith, cond, false, inl, length, refl, subst, suc, sym, true, ℕ, ℤ, pos, ◌&&◌, ◌==◌, ◌+◌, ◌++◌, ◌-◌, ◌<◌, ◌∙◌, ◌∷◌, ◌≡◌, ◌≤◌}
+use Rattle.aom_image.proofs.Given.{some_given}
 use Rattle.std.proofs.lemmas.Bool.{ne_eqb, true≢false}
 use Rattle.std.specs.Prelude.{is_some, not, ◌||◌}
 use Rattle.aom_image.specs.Image.{Image}
@@ -285,17 +286,13 @@ module _ (p : Image) (t : Typing) (depth heights : ℕ → ℕ) (tables : Tables
         Leads t fr.method (suc fr.place) (with_entry (entry_of (register h.shape a)) (set_register h.shape a Null)) → After (Pushed a)
     push_room a stands leave leads =
         item_pushed p depth heights (moved (here fr ts s a) (Entry (length s.items)) s.cells) An_object s.items (Run fr ∷ ts) all_low
-        (λ m e. runs (held s.cells (here fr ts s a)) m (h.fits a) (sym (ap (destructor_in p) there_now) ∙ e))
+        (λ m e. some_given (λ o. (Fits p (held s.cells) o (register h.shape a)) × (destructor_in p o ≡ Some m)) (held s.cells (here fr ts s a)) (h.fits a, sym (ap (destructor_in p) there_now) ∙ e) (λ given. cc) (λ o _ given. may_call fr h.shape h.there (Push a) m stands (destructor_among p (held s.cells) o (register h.shape a) m given.0 given.1)))
         (let few = pushes (Push a) (with_entry (entry_of (register h.shape a)) (set_register h.shape a Null)) stands leave leads refl in omega (arith, few))
         (moves (moved (here fr ts s a) (Entry (length s.items)) s.cells) (λ k lt. held_apart s.cells (here fr ts s a) (Entry (length s.items)) (Entry k) refl (entry_apart (length s.items) k lt)))
       where
         -- what the register owned is in the entry's place
         there_now : held (moved (here fr ts s a) (Entry (length s.items)) s.cells) (Entry (length s.items)) ≡ held s.cells (here fr ts s a)
         there_now = held_moved s.cells (here fr ts s a) (Entry (length s.items)) (Entry (length s.items)) h.free ∙ ap (λ b. cond b (held s.cells (here fr ts s a)) (held s.cells (Entry (length s.items)))) (same_place_refl (Entry (length s.items)))
-
-        runs : (o : Option Object) (m : ℕ) → Fits p (held s.cells) o (register h.shape a) → destructor_in p o ≡ Some m → depth m < depth fr.method
-        runs None m fits e = cc
-        runs (Some o) m fits e = may_call fr h.shape h.there (Push a) m stands (destructor_among p (held s.cells) o (register h.shape a) m fits e)
 
     push_operation_room :
         (a m : ℕ) (v : ℤ) → instr_at p fr.method fr.place ≡ Some (PushOperation a m) → leaves p fr.method ≡ true → Leads t fr.method (suc fr.place) (with_entry Operation h.shape) →

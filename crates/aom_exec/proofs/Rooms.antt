@@ -27,6 +27,7 @@ use Rattle.aom_exec.proofs.Counts.{marks_at_hand, push_at_hand, push_operation_a
 use Rattle.aom_exec.proofs.RoomMoves.{boots_with_room, keeps_room}
 use Rattle.aom_exec.proofs.Stepping.{frame_of}
 use Rattle.aom_exec.proofs.Values.{same_length}
+use Rattle.aom_exec.proofs.Alike.{by_item, by_items}
 
 -- each move keeps the room
 pub room_kept : (p : Image) (t : Typing) (s u : State) (sound : Sound p t) → WellTyped p t s → IsCalm p s.tasks → (c : Choice) → HasRoom p (at 0 sound.depths.depths) (at 0 sound.heights.heights) s → step p c s ≡ Goes u
@@ -38,18 +39,12 @@ pub boot_room : (p : Image) (t : Typing) (sound : Sound p t) → HasRoom p (at 0
 boot_room p t sound = boots_with_room p (at 0 sound.depths.depths) sound.heights
 
 same_entries : (is : List Held_item) (js : List Item) → SameItems is js → entries_in is ≡ room.entries_in js
-same_entries [] [] same = omega arith
-same_entries (Holds_object n ∷ is) (An_object ∷ js) same = let rest = same_entries is js same.1 in omega (arith, rest)
-same_entries (Holds_operation m n ∷ is) (An_operation k w ∷ js) same = let rest = same_entries is js same.1 in omega (arith, rest)
-same_entries (Is_mark ∷ is) (A_mark ∷ js) same = same_entries is js same.1
-same_entries _ _ same = absurd (assumption tt)
+same_entries = by_items (λ is js. entries_in is ≡ room.entries_in js) (omega arith) (λ i j is js same rest.
+    by_item (λ i j. entries_in (i ∷ is) ≡ room.entries_in (j ∷ js)) (λ n. omega (arith, rest)) (λ m n k w. omega (arith, rest)) rest i j same)
 
 same_marks : (is : List Held_item) (js : List Item) → SameItems is js → marks_in is ≡ counts.marks_in js
-same_marks [] [] same = omega arith
-same_marks (Holds_object n ∷ is) (An_object ∷ js) same = same_marks is js same.1
-same_marks (Holds_operation m n ∷ is) (An_operation k w ∷ js) same = same_marks is js same.1
-same_marks (Is_mark ∷ is) (A_mark ∷ js) same = ap suc (same_marks is js same.1)
-same_marks _ _ same = absurd (assumption tt)
+same_marks = by_items (λ is js. marks_in is ≡ counts.marks_in js) (omega arith) (λ i j is js same rest.
+    by_item (λ i j. marks_in (i ∷ is) ≡ counts.marks_in (j ∷ js)) (λ n. rest) (λ m n k w. rest) (ap suc rest) i j same)
 
 module _ (p : Image) (m : Parts) (st : Stands (record { image = p; parts = m })) where
   -- there is room for two tasks more

@@ -172,4 +172,4 @@ returns_within_through p _ to trapped runs = absurd (assumption tt)
 -- and no dispatch ends right below it
 pub returns_to_none : (p : Image) (ms : List Held_task) → ReturnsTo p ms → IsEnding ms → ⊥
 returns_to_none p (Ends d ∷ ms) to ending = to
-returns_to_none p _ to ending = absurd (assumption tt)
+returns_to_none p _ to ending = assumption tt

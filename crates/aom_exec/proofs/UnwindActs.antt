@@ -52,6 +52,7 @@ use Rattle.aom_exec.proofs.Entries.{mark_shows_none, unmarked, value_alike}
 use Rattle.aom_exec.proofs.Finding.{Beneath, held_beneath, unwinds_over, IsTrapOnTop}
 use Rattle.aom_exec.proofs.LeavingActs.{unwinds_value, unwinds_word}
 use Rattle.aom_exec.proofs.Overs.{over_value, over_words}
+use Rattle.aom_exec.proofs.Ends.{none_alike}
 use Rattle.aom_exec.proofs.ReturnActs.{awaiting, bears, word_alone}
 use Rattle.aom_exec.proofs.Standing.{an_open, moved_on}
 use Rattle.aom_exec.proofs.Stepping.{at_rest, goes_somewhere, step_of_unwinding, unwinding_of}
@@ -317,10 +318,6 @@ module _ (p : Image) (m : Parts) (es : Held_items) (marked : m.entries ≡ recor
       Done us code =
           Agrees p (record (with_tasks (Ends (MainLeft (code_here us)) ∷ below_first (below_first (below_first us))) m) { entries = es }) u × (record t { lines = t.lines ++ Leave (code_here us) ∷ [] } ≡ record t { lines = t.lines ++ arrival code s.items })
 
-      alone : (ms : List Held_task) (ts : List Task) → SameTasks ms ts → ts ≡ [] → ms ≡ []
-      alone [] ts same none = refl
-      alone _ _ same none = absurd (grind arith)
-
       go : (us : List Held_task) (code : ℤ) (below : List Task) → s.tasks ≡ Unwind code ∷ below → IsUnwinding us → IsTrapped (below_first us) → IsEnding (below_first (below_first us)) → SameTasks us (Unwind code ∷ below)
           → (ks : List Item) → s.items ≡ A_mark ∷ ks → unwound p code below s (A_mark ∷ ks) ≡ Goes u → Done us code
       go (Unwinds c ∷ Is_trap ∷ Ends y ∷ ms) code (Trapped ∷ Dispatched d ∷ ts) top unwinding trapped ending same ks items e =
@@ -329,7 +326,7 @@ module _ (p : Image) (m : Parts) (es : Held_items) (marked : m.entries ≡ recor
           let is : v ≡ u = ap (λ x. record s { tasks = Dispatched (ended_by code x) ∷ ts; items = ks }) (sym main) ∙ goes_same (record s { tasks = Dispatched (ended_by code d) ∷ ts; items = ks }) u e in
           let fresh = subst (WellTyped p h.typing) (sym is) typed in
           let none = under_dispatch p h.typing v (Main_left code) ts fresh refl in
-          let bare = alone ms ts same.1.1.1 none in
+          let bare = none_alike ms ts same.1.1.1 none in
           let items_too : v ≡ record s { tasks = Dispatched (Main_left code) ∷ []; items = below_top s.items } = ap (λ us. record s { tasks = Dispatched (Main_left code) ∷ us; items = ks }) none ∙ ap (λ js. record s { tasks = Dispatched (Main_left code) ∷ []; items = below_top js }) (sym items) in
           let shut = closing p h.typing (record s { tasks = Dispatched (Main_left code) ∷ []; items = below_top s.items }) (Main_left code) (subst (WellTyped p h.typing) items_too fresh) refl in
           let end = ended p m es s (MainLeft c) (Main_left code) h.agrees marked (ap Main_left same.0) shut in (

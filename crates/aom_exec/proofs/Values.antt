@@ -14,6 +14,7 @@ use Rattle.aom_frames.specs.declared.task.Task.TheVariants.{Run as Runs_frame, D
 use Rattle.aom_exec.specs.Places.{register_in, going_of, going_in, value_in}
 use Rattle.aom_exec.specs.Agrees.{word_of, word_in, word_at, Shows, SameTasks}
 use Rattle.aom_cleanup.specs.declared.item.Item.{Item}
+use Rattle.aom_exec.proofs.Alike.{by_tasks}
 
 pub cases : (b : Bool) {P : Type 0} → (b ≡ true → P) → (b ≡ false → P) → P
 cases true y n = y refl
@@ -26,9 +27,7 @@ slot_set none xs i j x small = cases (i == j)
     (λ e. get_or-set_other xs i j x none (λ d. false≢true (sym e ∙ eq-eqb i j (sym d))) ∙ ap (λ b. cond b x (slice_index_or xs j none)) (sym e))
 
 pub same_length : (ms : List Held_task) (ts : List Task) → SameTasks ms ts → length ms ≡ length ts
-same_length [] [] e = refl
-same_length (m ∷ ms) (t ∷ ts) e = ap suc (same_length ms ts e.1)
-same_length _ _ e = absurd e
+same_length = by_tasks (λ ms ts. length ms ≡ length ts) refl (λ m t ms ts _ _ e. ap suc e)
 
 -- past the tasks at hand there is nothing
 pub register_past : (us : List Held_task) (d i : ℕ) → length us ≤ d → register_in us d i ≡ null

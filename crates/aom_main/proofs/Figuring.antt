@@ -76,18 +76,9 @@ unpriced_for bytes fault out errors status refuses early is other complete silen
 
 pub unpriced : (bytes : List ℕ) (fault : Fault) (out errors : Sent) (status : ExitStatus) → RefusesOrWants bytes fault → IsEarly fault
     → ((p : Image) → IsSpelled bytes p → IsAcceptable p → fault ≡ faults.Memory) → IsSilent out → Told fault status errors → PricesAnswers bytes out errors status
-unpriced bytes (faults.Load fault) out errors status refuses early complete silent told = unpriced_for bytes (faults.Load fault) out errors status refuses early refl other complete silent told
-  where
-    other : faults.Load fault ≡ faults.Memory → ⊥
-    other e = cc
-unpriced bytes (faults.Link fault) out errors status refuses early complete silent told = unpriced_for bytes (faults.Link fault) out errors status refuses early refl other complete silent told
-  where
-    other : faults.Link fault ≡ faults.Memory → ⊥
-    other e = cc
-unpriced bytes (faults.Verify refusal) out errors status refuses early complete silent told = unpriced_for bytes (faults.Verify refusal) out errors status refuses early refl other complete silent told
-  where
-    other : faults.Verify refusal ≡ faults.Memory → ⊥
-    other e = cc
+unpriced bytes (faults.Load fault) out errors status refuses early complete silent told = unpriced_for bytes (faults.Load fault) out errors status refuses early refl (λ e. cc) complete silent told
+unpriced bytes (faults.Link fault) out errors status refuses early complete silent told = unpriced_for bytes (faults.Link fault) out errors status refuses early refl (λ e. cc) complete silent told
+unpriced bytes (faults.Verify refusal) out errors status refuses early complete silent told = unpriced_for bytes (faults.Verify refusal) out errors status refuses early refl (λ e. cc) complete silent told
 unpriced bytes faults.Memory out errors status refuses early complete silent told = subst (PricesAnswers bytes out errors) (sym told.0) (inl (record { silent = silent; tells = told.1 }))
 unpriced bytes _ out errors status refuses early complete silent told = absurd (assumption tt)
 

@@ -123,22 +123,10 @@ turned_for bytes fault out errors status refuses is other complete silent told =
 
 turned : (bytes : List ℕ) (fault : Fault) (out errors : Sent) (status : ExitStatus) → RefusesImage bytes fault
     → ((p : Image) → IsSpelled bytes p → IsAcceptable p → fault ≡ faults.Memory) → IsSilent out → Told fault status errors → Turned bytes out errors status
-turned bytes (faults.Load fault) out errors status refuses complete silent told = turned_for bytes (faults.Load fault) out errors status refuses refl other complete silent told
-  where
-    other : faults.Load fault ≡ faults.Memory → ⊥
-    other e = cc
-turned bytes (faults.Link fault) out errors status refuses complete silent told = turned_for bytes (faults.Link fault) out errors status refuses refl other complete silent told
-  where
-    other : faults.Link fault ≡ faults.Memory → ⊥
-    other e = cc
-turned bytes (faults.Verify refusal) out errors status refuses complete silent told = turned_for bytes (faults.Verify refusal) out errors status refuses refl other complete silent told
-  where
-    other : faults.Verify refusal ≡ faults.Memory → ⊥
-    other e = cc
-turned bytes (faults.Budget fault) out errors status refuses complete silent told = turned_for bytes (faults.Budget fault) out errors status refuses refl other complete silent told
-  where
-    other : faults.Budget fault ≡ faults.Memory → ⊥
-    other e = cc
+turned bytes (faults.Load fault) out errors status refuses complete silent told = turned_for bytes (faults.Load fault) out errors status refuses refl (λ e. cc) complete silent told
+turned bytes (faults.Link fault) out errors status refuses complete silent told = turned_for bytes (faults.Link fault) out errors status refuses refl (λ e. cc) complete silent told
+turned bytes (faults.Verify refusal) out errors status refuses complete silent told = turned_for bytes (faults.Verify refusal) out errors status refuses refl (λ e. cc) complete silent told
+turned bytes (faults.Budget fault) out errors status refuses complete silent told = turned_for bytes (faults.Budget fault) out errors status refuses refl (λ e. cc) complete silent told
 turned bytes faults.Memory out errors status refuses complete silent told = inr (told.0, record { silent = silent; tells = told.1 })
 turned bytes _ out errors status refuses complete silent told = absurd refuses
 

@@ -1,5 +1,6 @@
 -- A word that spells a number, a set or a list is of ASCII.
 use Rattle.std.proofs.Common.{◌≡◌, ℕ, ◌==◌, Bool, true, false, not, List, [], ◌∷◌, length, Option, Some, None, Result, Ok, Err, refl, sym, ap, ◌∙◌, codes, eqb-true, arith}
+use Rattle.aom_image.proofs.Given.{some_given}
 use Rattle.std.specs.Prelude.{if◌then◌else◌}
 use Rattle.std.specs.List.{join_with_byte, list_all, slice_split}
 use Rattle.std.specs.Str.{bytes_eq}
@@ -37,11 +38,7 @@ from_number (b ∷ bs) n is = go (b == 45) refl is
     go false other e = plain_digits (b ∷ bs) (digits_from n _ (is_digits (b ∷ bs)) e)
 
 pub plain_number : (low high : ℕ) (w : List ℕ) (n : ℕ) → number_in low high w ≡ Ok n → list_all is_plain w ≡ true
-plain_number low high w n is = go (number_of w) refl is
-  where
-    go : (o : Option Number) → number_of w ≡ o → ◌≡◌ {A = Result ℕ AsmFaultKind} (elim o [ None ↦ Err BadNumber | Some m ↦ in_range (number_within low high m) ]) (Ok n) → list_all is_plain w ≡ true
-    go None there e = absurd cc
-    go (Some m) there e = from_number w m there
+plain_number low high w n is = some_given (λ o. ◌≡◌ {A = Result ℕ AsmFaultKind} (elim o [ None ↦ Err BadNumber | Some m ↦ in_range (number_within low high m) ]) (Ok n)) (number_of w) is (λ e. cc) (λ m there e. from_number w m there)
 
 -- ---- sets
 

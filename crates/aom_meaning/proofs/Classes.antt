@@ -75,10 +75,7 @@ provider_sound natives k.Native vs =
         → (if b then giving (providers.Native n) else failing LimitPassed) us ≡ Ok (p, rest) → (n < natives) × (us ≡ rest) × (providers.Native n ≡ p)
     native_below n true below us p rest is = let same = ok_is (provided n us) (p, rest) is in (ltb-true n natives below, ap (λ q. q.1) same, ap (λ q. q.0) same)
     native_below n false below us p rest is = absurd cc
-provider_sound natives key vs = record { each = λ p rest is. absurd (refused p rest is) }
-  where
-    refused : (p : Provider) (rest : List (List ℕ)) → Err BadShape ≡ giving p rest → ⊥
-    refused p rest is = cc
+provider_sound natives key vs = record { each = λ p rest is. cc }
 
 module _ (names : Names) (kinds_before : List ClassDecl) (natives servers : ℕ) where
   record PurposeSays (ws : List (List ℕ)) (p : Purpose) (rest : List (List ℕ)) : Type 0 where
@@ -103,10 +100,7 @@ module _ (names : Names) (kinds_before : List ClassDecl) (natives servers : ℕ)
 
   if_few : (b : Bool) (vs : List (List ℕ)) → Sound (if b then server (told names kinds_before) else failing LimitPassed) vs (λ p rest. PurposeSays (keyword_text k.Server ∷ vs) p rest)
   if_few true vs = server_sound vs
-  if_few false vs = record { each = λ p rest is. absurd (refused p rest is) }
-    where
-      refused : (p : Purpose) (rest : List (List ℕ)) → Err LimitPassed ≡ giving p rest → ⊥
-      refused p rest is = cc
+  if_few false vs = record { each = λ p rest is. cc }
 
   purpose_sound : (key : Keyword) (vs : List (List ℕ)) → Sound (purpose (told names kinds_before) natives servers key) vs (λ p rest. PurposeSays (keyword_text key ∷ vs) p rest)
   purpose_sound k.Plain vs = giving_sound _ purposes.Plain vs (record { said = source.plain; words = refl; means = tt })
@@ -119,10 +113,7 @@ module _ (names : Names) (kinds_before : List ClassDecl) (natives servers : ℕ)
       let s = (provider_sound natives key us).each p rest r2 in
       giving_sound Q (purposes.Active p) rest (record { said = source.active s.said; words = ap (λ v. keyword_text k.Active ∷ v) (e ∙ s.words); means = s.means })))
   purpose_sound k.Server vs = if_few (nat_lt servers 8) vs
-  purpose_sound key vs = record { each = λ p rest is. absurd (refused p rest is) }
-    where
-      refused : (p : Purpose) (rest : List (List ℕ)) → Err BadShape ≡ giving p rest → ⊥
-      refused p rest is = cc
+  purpose_sound key vs = record { each = λ p rest is. cc }
 
   record KindSays (said : KindText) (ws : List (List ℕ)) (K : ClassKind) : Type 0 where
     budget_said : Option (List ℕ)

@@ -109,10 +109,7 @@ module _ (names : Names) (kinds : List ClassDecl) where
       next_sound _ (class scope) _ vs (λ c rest read.
       let s = saw_used names.classes 256 vs c rest read in
       giving_sound _ (result.Left c) rest (record { said = source.left s.w; words = ap (λ v. keyword_text k.Gives ∷ keyword_text k.Left ∷ v) s.words; means = s.numbered }))
-  result_sound usual key vs = record { each = λ g rest is. absurd (refused g rest is) }
-    where
-      refused : (g : Gives) (rest : List (List ℕ)) → Err BadShape ≡ giving g rest → ⊥
-      refused g rest is = cc
+  result_sound usual key vs = record { each = λ g rest is. cc }
 
   abbrev said_gives : Reading Gives
   said_gives = next any_keyword (λ key. next (gives scope key) (λ g. next (nothing_more false) (λ u. giving g)))

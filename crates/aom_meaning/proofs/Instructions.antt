@@ -1,5 +1,7 @@
 -- A statement of a method's code is read where its words mean an instruction, and as that instruction.
+use Rattle.std.proofs.lemmas.Option.{same_Some}
 use Rattle.std.proofs.Common.{◌≡◌, ℕ, suc, ◌-◌, ◌==◌, ◌<◌, ◌≤◌, Bool, true, false, List, [], ◌∷◌, ◌++◌, length, take, drop, get_or, Option, Some, None, Ok, Err, refl, sym, ap, ◌∙◌, arith}
+use Rattle.aom_image.proofs.Given.{true_given}
 use Rattle.std.specs.Prelude.{IfSome, if◌then◌else◌}
 use Rattle.std.specs.List.{list_all}
 use Rattle.std.specs.Str.{bytes_eq}
@@ -21,7 +23,7 @@ use Rattle.aom_syntax.specs.Names.{place_of}
 use Rattle.aom_syntax.specs.Reading.{◌>>=◌, as_name, giving, next, nothing_more, seen, word}
 use Rattle.aom_syntax.specs.Words.{words_operands}
 use Rattle.aom_image.specs.declared.mnemonic.Mnemonic.{Mnemonic}
-use Rattle.aom_asm.proofs.Counting.{found_passes, some_is}
+use Rattle.aom_asm.proofs.Counting.{found_passes}
 use Rattle.aom_ranges.proofs.Names.{at_place}
 use Rattle.aom_ranges.proofs.Within.{ok_is, passed, steps}
 use Rattle.aom_readback.proofs.Readings.{Takes, Whole, first, in_turn, last, regroup, sees, takes_word}
@@ -47,14 +49,10 @@ colon_last w n long is =
 
 pub label_is : (w l : List ℕ) → label_of w ≡ Some l → w ≡ l ++ 58 ∷ []
 label_is [] l is = absurd cc
-label_is (b ∷ bs) l is = go (get_or (b ∷ bs) (length (b ∷ bs) - 1) 0 == 58) refl is
-  where
-    go : (c : Bool) → (get_or (b ∷ bs) (length (b ∷ bs) - 1) 0 == 58) ≡ c → (if c then Some (take (length (b ∷ bs) - 1) (b ∷ bs)) else None) ≡ Some l → b ∷ bs ≡ l ++ 58 ∷ []
-    go true same e =
-        let long : suc (length (b ∷ bs) - 1) ≡ length (b ∷ bs) = omega arith in
-        colon_last (b ∷ bs) (length (b ∷ bs) - 1) long (eqb-true (get_or (b ∷ bs) (length (b ∷ bs) - 1) 0) 58 same)
-        ∙ ap (λ v. v ++ 58 ∷ []) (some_is (take (length (b ∷ bs) - 1) (b ∷ bs)) l e)
-    go false other e = absurd cc
+label_is (b ∷ bs) l is = true_given (λ c. (if c then Some (take (length (b ∷ bs) - 1) (b ∷ bs)) else None) ≡ Some l) (get_or (b ∷ bs) (length (b ∷ bs) - 1) 0 == 58) is (λ e. cc) (λ same e.
+    let long : suc (length (b ∷ bs) - 1) ≡ length (b ∷ bs) = omega arith in
+    colon_last (b ∷ bs) (length (b ∷ bs) - 1) long (eqb-true (get_or (b ∷ bs) (length (b ∷ bs) - 1) 0) 58 same)
+    ∙ ap (λ v. v ++ 58 ∷ []) (same_Some (take (length (b ∷ bs) - 1) (b ∷ bs)) l e))
 
 -- ---- what was read
 

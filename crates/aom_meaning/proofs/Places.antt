@@ -2,15 +2,13 @@
 use Rattle.std.proofs.Common.{◌≡◌, ℕ, ◌<◌, Bool, true, false, List, [], length, Option, Some, None, Ok, sym, ap, ◌∙◌, arith, cond, get_or, nat_lt}
 use Rattle.std.specs.Prelude.{if◌then◌else◌}
 use Rattle.std.specs.Str.{bytes_eq}
-use Rattle.std.proofs.lemmas.Bool.{lt-ltb}
+use Rattle.std.proofs.lemmas.Bool.{lt-ltb, false_from_ne_true}
 use Rattle.std.proofs.lemmas.List.Sums.{position_or_len_is}
-use Rattle.std.proofs.lemmas.Option.{get_or_from_slice_get, slice_get-get_or, slice_get_within}
+use Rattle.std.proofs.lemmas.Option.{get_or_from_slice_get, slice_get-get_or, slice_get_within, same_Some}
 use Rattle.std.proofs.lemmas.Slice.Eq.{bytes_eq-Decides}
 use Rattle.aom_image.specs.declared.class.ClassDecl.{ClassDecl}
 use Rattle.aom_syntax.specs.Names.{place_of, nowhere, referred}
 use Rattle.aom_syntax.specs.declared.scope.Scope.{Scope}
-use Rattle.aom_asm.proofs.Counting.{some_is}
-use Rattle.aom_readback.proofs.Names.{not_true}
 use Rattle.aom_meaning.specs.Meaning.{DeclaredOnce, IsNumbered, Names}
 use Rattle.aom_meaning.proofs.Operands.{FindsMore}
 use Rattle.aom_meaning.proofs.Words.{LooksUp}
@@ -21,7 +19,7 @@ pub found_once : (space : List (List ℕ)) (w : List ℕ) (n : ℕ) → Declared
 found_once space w n once is =
     let within = slice_get_within space n w is.declared in
     let here : get_or space n [] ≡ w = get_or_from_slice_get space n w [] is.declared in
-    let other : (j : ℕ) → j < n → bytes_eq (get_or space j []) w ≡ false = λ j less. not_true (bytes_eq (get_or space j []) w) (λ yes.
+    let other : (j : ℕ) → j < n → bytes_eq (get_or space j []) w ≡ false = λ j less. false_from_ne_true (bytes_eq (get_or space j []) w) (λ yes.
     let there : IsNumbered space w j = record { is_name = is.is_name; declared = slice_get-get_or space j [] (omega arith) ∙ ap Some ((bytes_eq-Decides (get_or space j []) w).0 yes) } in
     let same = once.same w j n there is in
     omega arith) in
@@ -34,7 +32,7 @@ pub record FoundInPlace (space : List (List ℕ)) : Type 0 where
   pub found : (w : List ℕ) (n : ℕ) → IsNumbered space w n → place_of w space ≡ Some n
 
 pub once_found : (space : List (List ℕ)) → FoundInPlace space → DeclaredOnce space
-once_found space all = record { same = λ w m n one other. some_is m n (sym (all.found w m one) ∙ all.found w n other) }
+once_found space all = record { same = λ w m n one other. same_Some m n (sym (all.found w m one) ∙ all.found w n other) }
 
 -- ---- scopes
 

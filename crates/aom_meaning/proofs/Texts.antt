@@ -1,4 +1,6 @@
 -- The statements of a program declare its names, and those of a method's code its labels.
+use Rattle.std.proofs.lemmas.Option.{same_Some, none-some}
+use Rattle.std.proofs.lemmas.Bool.{false_from_ne_true}
 use Rattle.std.proofs.Common.{◌≡◌, ℕ, zero, suc, ◌+◌, Bool, true, false, List, [], ◌∷◌, ◌++◌, map, Option, Some, None, refl, sym, ap, ◌∙◌, append_assoc, append-nil, arith, slice_get}
 use Rattle.std.specs.Prelude.{IfSome, if◌then◌else◌}
 use Rattle.std.specs.Str.{bytes_eq}
@@ -19,8 +21,6 @@ use Rattle.aom_readback.specs.Texts.{all_words}
 use Rattle.aom_readback.proofs.Statements.{label_cut}
 use Rattle.aom_readback.proofs.Tables.{mnemonic_is_no_label}
 use Rattle.aom_readback.proofs.TextNames.{by_words, by_words_more, declared_by_words}
-use Rattle.aom_asm.proofs.Counting.{some_is}
-use Rattle.aom_readback.proofs.Names.{not_true}
 use Rattle.aom_meaning.specs.Denotes.{names_of}
 use Rattle.aom_meaning.specs.Meaning.{DeclaredOnce, Names, labels_of}
 use Rattle.aom_meaning.specs.Source as source
@@ -47,12 +47,9 @@ end_foreign : (n : Mnemonic) → bytes_eq (mnemonic_text n) (keyword_text k.End)
 end_foreign m.Const = refl
 end_foreign _ = refl
 
-some_none : {X : Type 0} (x : X) → Some x ≡ None → ⊥
-some_none x is = cc
-
 module _ (key : Keyword) (foreign : Foreign key) where
   no_label : (l : List ℕ) → bytes_eq (l ++ 58 ∷ []) (keyword_text key) ≡ false
-  no_label l = not_true (bytes_eq (l ++ 58 ∷ []) (keyword_text key)) (λ yes. some_none l (sym (label_cut l) ∙ ap label_of ((bytes_eq-Decides (l ++ 58 ∷ []) (keyword_text key)).0 yes) ∙ foreign.label))
+  no_label l = false_from_ne_true (bytes_eq (l ++ 58 ∷ []) (keyword_text key)) (λ yes. none-some l (sym (sym (label_cut l) ∙ ap label_of ((bytes_eq-Decides (l ++ 58 ∷ []) (keyword_text key)).0 yes) ∙ foreign.label)))
 
   nameless : (label : Option (List ℕ)) (n : Mnemonic) (ws : List (List ℕ)) → name_after key (label_words label ++ (mnemonic_text n ∷ ws)) ≡ None
   nameless None n [] = refl
@@ -157,7 +154,7 @@ nth_placed : (space : List (List ℕ)) (n : ℕ) (ws : List (List ℕ)) (i : ℕ
 nth_placed space n [] i w placed there = absurd cc
 nth_placed space n (v ∷ vs) zero w placed there =
     let same : n ≡ n + 0 = omega arith in
-    ap (λ u. place_of u space) (sym (some_is v w there)) ∙ placed.0 ∙ ap Some same
+    ap (λ u. place_of u space) (sym (same_Some v w there)) ∙ placed.0 ∙ ap Some same
 nth_placed space n (v ∷ vs) (suc i) w placed there =
     let same : (n + 1) + i ≡ n + suc i = omega arith in
     nth_placed space (n + 1) vs i w placed.1 there ∙ ap Some same
@@ -168,22 +165,19 @@ placed_once space placed = once_found space (record {
 })
 
 name_of_label : (label : Option (List ℕ)) (w : List ℕ) → label_or_none label ≡ w → is_name w ≡ true → label ≡ Some w
-name_of_label None w same is = absurd (false_true (ap is_name same ∙ is))
-  where
-    false_true : false ≡ true → ⊥
-    false_true e = cc
+name_of_label None w same is = let clash : false ≡ true = ap is_name same ∙ is in cc
 name_of_label (Some l) w same is = ap Some same
 
 is_there : (labels : List (List ℕ)) (n : ℕ) (label : Option (List ℕ)) (w : List ℕ) → label ≡ Some w → IfSome label (λ l. place_of l labels ≡ Some n) → place_of w labels ≡ Some n
 is_there labels n None w same placed = absurd cc
-is_there labels n (Some l) w same placed = ap (λ u. place_of u labels) (sym (some_is l w same)) ∙ placed
+is_there labels n (Some l) w same placed = ap (λ u. place_of u labels) (sym (same_Some l w same)) ∙ placed
 
 nth_label : (labels : List (List ℕ)) (n : ℕ) (code : List InstructionText) (i : ℕ) (w : List ℕ) → LabelsPlaced labels n code → slice_get (labels_of code) i ≡ Some w → is_name w ≡ true
     → place_of w labels ≡ Some (n + i)
 nth_label labels n [] i w placed there is = absurd cc
 nth_label labels n (t ∷ ts) zero w placed there is =
     let same : n ≡ n + 0 = omega arith in
-    is_there labels n t.label w (name_of_label t.label w (some_is (label_or_none t.label) w there) is) placed.0 ∙ ap Some same
+    is_there labels n t.label w (name_of_label t.label w (same_Some (label_or_none t.label) w there) is) placed.0 ∙ ap Some same
 nth_label labels n (t ∷ ts) (suc i) w placed there is =
     let same : (n + 1) + i ≡ n + suc i = omega arith in
     nth_label labels (n + 1) ts i w placed.1 there is ∙ ap Some same

@@ -3,7 +3,7 @@ use Rattle.std.proofs.Common.{◌≡◌, ℕ, ◌+◌, ◌≤◌, ◌==◌, Bool
 use Rattle.std.specs.Prelude.{◌&&◌, if◌then◌else◌, nat_le, nat_lt, not}
 use Rattle.std.specs.List.{list_all, slice_split}
 use Rattle.std.specs.Str.{bytes_eq}
-use Rattle.std.proofs.lemmas.Bool.{and_parts, lt-ltb}
+use Rattle.std.proofs.lemmas.Bool.{and_parts, lt-ltb, false_from_ne_true}
 use Rattle.std.proofs.lemmas.Slice.Eq.{bytes_eq-Decides}
 use Rattle.aom_text.specs.Names.{has_name_form, is_name, is_reserved}
 use Rattle.aom_text.specs.Words.{is_plain}
@@ -23,7 +23,6 @@ use Rattle.aom_syntax.specs.declared.scope.Scope.{Scope}
 use Rattle.aom_ranges.proofs.Lists.{listed_fits}
 use Rattle.aom_ranges.proofs.Within.{ok_is, passed, steps}
 use Rattle.aom_readback.proofs.Lists.{plain_form}
-use Rattle.aom_readback.proofs.Names.{not_true}
 use Rattle.aom_readback.proofs.Readings.{Takes, sees}
 use Rattle.aom_meaning.specs.Meaning.{Elements, IsArgument, IsList, IsNumbered, IsThing, Names, Pairwise}
 use Rattle.aom_meaning.proofs.Ascii.{plain_list}
@@ -83,20 +82,16 @@ argument_means names kinds w a is = go (bytes_eq w (codes "word")) refl is
 -- a name is no reserved word
 not_both : (b c : Bool) → (b && not c) ≡ true → c ≡ false
 not_both b false is = refl
-not_both true true is = absurd cc
-not_both false true is = absurd cc
+not_both _ _ is = absurd (grind arith)
 
 not_reserved : (w : List ℕ) → is_name w ≡ true → is_reserved w ≡ false
 not_reserved w is = not_both (has_name_form w && nat_le (length w) 32) (is_reserved w) is
 
-true_is_false : true ≡ false → ⊥
-true_is_false e = cc
-
 no_message : (w : List ℕ) → is_name w ≡ true → bytes_eq w (codes "msg") ≡ false
-no_message w is = not_true (bytes_eq w (codes "msg")) (λ same. true_is_false (sym (ap is_reserved ((bytes_eq-Decides w (codes "msg")).0 same)) ∙ not_reserved w is))
+no_message w is = false_from_ne_true (bytes_eq w (codes "msg")) (λ same. (let clash : true ≡ false = sym (ap is_reserved ((bytes_eq-Decides w (codes "msg")).0 same)) ∙ not_reserved w is in cc))
 
 no_word : (w : List ℕ) → is_name w ≡ true → bytes_eq w (codes "word") ≡ false
-no_word w is = not_true (bytes_eq w (codes "word")) (λ same. true_is_false (sym (ap is_reserved ((bytes_eq-Decides w (codes "word")).0 same)) ∙ not_reserved w is))
+no_word w is = false_from_ne_true (bytes_eq w (codes "word")) (λ same. (let clash : true ≡ false = sym (ap is_reserved ((bytes_eq-Decides w (codes "word")).0 same)) ∙ not_reserved w is in cc))
 
 module _ {names : Names} {scope : Scope} (looks : LooksUp names scope) where
   pub thing_reads : (w : List ℕ) (t : Thing) → IsThing names w t → Reads (thing_of scope) w t

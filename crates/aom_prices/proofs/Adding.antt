@@ -1,8 +1,9 @@
 -- What one pass finds is the price: what a place costs in the body of the innermost loop round it, and what follows that loop, add up to what is found there.
 use Rattle.std.proofs.Common.{◌≡◌, ◌<◌, ◌≤◌, ◌+◌, ◌-◌, ◌*◌, ◌∙◌, ℕ, zero, suc, Bool, true, false, cond, List, [], ◌∷◌, length, Option, Some, None, inl, inr, ⊎_elim, refl, sym, ap, arith, subst}
+use Rattle.aom_image.proofs.Given.{some_given}
 use Rattle.std.specs.Prelude.{IfSome, IsSome, max, slice_get}
 use Rattle.std.proofs.lemmas.Bool.{cases_lt}
-use Rattle.std.proofs.lemmas.Option.{slice_get_within}
+use Rattle.std.proofs.lemmas.Option.{slice_get_within, same_Some}
 use Rattle.aom_image.specs.Image.{Image}
 use Rattle.aom_image.specs.Views.{instr_at, method_at}
 use Rattle.aom_image.specs.declared.instr.Instr.{Instr}
@@ -24,7 +25,7 @@ use Rattle.aom_prices.specs.Laws.{SweptIsPrice}
 use Rattle.aom_prices.specs.Sweeping.{Afters, IsAfter, IsInnermost, after, is_past, most_within}
 use Rattle.aom_prices.proofs.At.{IsSweptAt, place_of}
 use Rattle.aom_prices.proofs.Paths.{GoesOn, Rounds, ends_or_goes, outside_cost, rounds_of}
-use Rattle.aom_prices.proofs.Regions.{by_kind, here_is_inside, innermost, innermost_first, innermost_of_body, innermost_of_next, innermost_on, innermost_out, next_is_no_loop, no_next_here, no_way_back, one_end, out_of_both, past_is_outside, some_same}
+use Rattle.aom_prices.proofs.Regions.{by_kind, here_is_inside, innermost, innermost_first, innermost_of_body, innermost_of_next, innermost_on, innermost_out, next_is_no_loop, no_next_here, no_way_back, one_end, out_of_both, past_is_outside}
 use Rattle.aom_prices.proofs.Ways.{IsReached, JumpsForward, Way, led_to, way_of}
 use Rattle.aom_prices.proofs.Ways.Way.{back, jump, on}
 
@@ -92,7 +93,7 @@ reached_is_some t m place reached = some_there reached.0 (shape_at t m place) re
 pub leads_on : (p : Image) (t : Typing) (m : ℕ) → IsTyped p t → (place to : ℕ) (sh : Shape) (i : Instr) → Stands p t m place sh i → AmongFlows to (flows p m place sh i) → IsReached t m to
 leads_on p t m typed place to sh i at among =
     let passes = typed.each m place sh at.shape in
-    let same = some_same i passes.instr (sym at.instr ∙ passes.stands) in
+    let same = same_Some i passes.instr (sym at.instr ∙ passes.stands) in
     led_to t m to (flows p m place sh passes.instr) passes.flows (subst (λ j. AmongFlows to (flows p m place sh j)) same among)
 
 -- an instruction that ends no round goes on at a later place
@@ -287,17 +288,13 @@ jumps_forward p linked m place to i at j =
 pub in_code : (p : Image) (m : ℕ) (d : Method) → method_at p m ≡ Some d → (place : ℕ) (i : Instr) → instr_at p m place ≡ Some i → place < length d.code
 in_code p m d here place i at =
     let w = of_method p m place i at in
-    let same : w.0 ≡ d = some_same w.0 d (sym w.1 ∙ here) in
+    let same : w.0 ≡ d = same_Some w.0 d (sym w.1 ∙ here) in
     slice_get_within d.code place i (subst (λ x. slice_get x.code place ≡ Some i) same w.2)
 
 pub law_is_price : SweptIsPrice
 law_is_price p t c a formed linked typed swept = record { methods = methods; classes = swept.classes }
   where
     methods : (m : ℕ) → IsSome (method_at p m) → IsPrice p t c m (price c m)
-    methods m some = go (method_at p m) refl some
-      where
-        go : (o : Option Method) → method_at p m ≡ o → IsSome o → IsPrice p t c m (price c m)
-        go None e s = cc
-        go (Some d) e s =
-            let begins = typed.entry m some in
-            priced_from p t c a m (linked_is_looped p formed linked) (jumps_forward p linked m) typed (place_of (λ n. n) p t c a swept m) (length d.code) (in_code p m d e) (begins.0, begins.1)
+    methods m some = some_given (λ o. IsSome o) (method_at p m) some (λ s. cc) (λ d e s.
+        let begins = typed.entry m some in
+        priced_from p t c a m (linked_is_looped p formed linked) (jumps_forward p linked m) typed (place_of (λ n. n) p t c a swept m) (length d.code) (in_code p m d e) (begins.0, begins.1))

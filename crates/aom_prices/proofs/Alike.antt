@@ -1,4 +1,5 @@
 -- Typings that say the same of each place have the same prices.
+use Rattle.std.proofs.lemmas.Option.{same_Some}
 use Rattle.std.proofs.Common.{◌≡◌, ◌+◌, ◌∙◌, ℕ, suc, List, [], ◌∷◌, inl, inr, refl, sym, ap, subst}
 use Rattle.aom_image.specs.Image.{Image}
 use Rattle.aom_image.specs.declared.instr.Instr.{Instr}
@@ -16,7 +17,6 @@ use Rattle.aom_shape.proofs.Monotone.{flows_more}
 use Rattle.aom_prices.specs.Costs.{AmongFlows, ArePrices, Costs, GoesOut, Region, Whole}
 use Rattle.aom_prices.specs.Costs.Costs.{outside, ends, goes, loops, loops_in}
 use Rattle.aom_prices.specs.Prices.{Prices, Stands, kind_price, own, price}
-use Rattle.aom_prices.proofs.Regions.{some_same}
 
 -- what one typing reaches the other reaches too, with a state that says just as much
 pub record IsCovered (p : Image) (t d : Typing) : Type 0 where
@@ -54,7 +54,7 @@ module _ (p : Image) (t d : Typing) (c : Prices) (m : ℕ) (typed : IsTyped p d)
   applies : (place : ℕ) (sh : Shape) (i : Instr) → Stands p d m place sh i → AllTrue (rule_needs p m place sh i)
   applies place sh i at =
       let passes = typed.each m place sh at.shape in
-      subst (λ j. AllTrue (rule_needs p m place sh j)) (some_same passes.instr i (sym passes.stands ∙ at.instr)) passes.needs
+      subst (λ j. AllTrue (rule_needs p m place sh j)) (same_Some passes.instr i (sym passes.stands ∙ at.instr)) passes.needs
 
   among_there : (place to : ℕ) (sh other : Shape) (i : Instr) → Stands p d m place other i → SaysNoMore other sh → AmongFlows to (flows p m place sh i) → AmongFlows to (flows p m place other i)
   among_there place to sh other i at no_more among = leads to (flows p m place other i) (flows p m place sh i) (flows_more p m place other sh i no_more (applies place other i at)) among

@@ -1,5 +1,6 @@
 -- What one pass finds with each sum kept up to a limit is, up to the limit, what it finds with whole sums.
 use Rattle.std.proofs.Common.{◌≡◌, ◌<◌, ◌≤◌, ◌∙◌, ℕ, zero, suc, length, Option, Some, None, inl, ⊎_elim, refl, sym, ap, arith, subst}
+use Rattle.aom_image.proofs.Given.{some_given}
 use Rattle.std.specs.Prelude.{IsSome, max, min}
 use Rattle.std.proofs.lemmas.Bool.{cases_lt}
 use Rattle.aom_image.specs.Image.{Image}
@@ -154,13 +155,9 @@ module _
   -- ---- the methods
 
   method_alike : (m : ℕ) → IsSome (method_at p m) → ((k : ℕ) → k < m → Alike limit (price c k) (price e k)) → Alike limit (price c m) (price e m)
-  method_alike m some before = go (method_at p m) refl some
-    where
-      go : (o : Option Method) → method_at p m ≡ o → IsSome o → Alike limit (price c m) (price e m)
-      go None e s = cc
-      go (Some d) here s =
-          let begins = typed.entry m some in
-          (agrees_from m before (length d.code) (in_code p m d here)).from 0 (omega arith) (begins.0, begins.1)
+  method_alike m some before = some_given (λ o. IsSome o) (method_at p m) some (λ s. cc) (λ d here s.
+      let begins = typed.entry m some in
+      (agrees_from m before (length d.code) (in_code p m d here)).from 0 (omega arith) (begins.0, begins.1))
 
   all_alike : (n : ℕ) → n ≤ length p.methods → (k : ℕ) → k < n → Alike limit (price c k) (price e k)
   all_alike zero le k lt = absurd (omega (arith, lt))

@@ -1,4 +1,5 @@
 -- There is a table of prices: each method's is made from its last place down, and the image's by method.
+use Rattle.std.proofs.lemmas.Option.{same_Some}
 use Rattle.std.proofs.Common.{◌≡◌, ◌<◌, ◌≤◌, ◌+◌, ◌-◌, ◌*◌, ◌∙◌, ℕ, zero, suc, Bool, true, false, cond, length, Option, Some, None, inl, inr, ⊎_elim, refl, sym, ap, arith, subst}
 use Rattle.std.specs.Prelude.{◌≢◌, ◌==◌, ◌&&◌, IsSome, max}
 use Rattle.std.proofs.lemmas.Bool.{cases_lt, eq-eqb, ne_eqb}
@@ -30,7 +31,7 @@ use Rattle.aom_prices.proofs.Moving.{AreSameFrom, most_same, own_same, swept_sam
 use Rattle.aom_prices.proofs.Places.{loop_there, next_there, nothing_there, pays_after, plain_there}
 use Rattle.aom_prices.proofs.Outs.{body_out, exit_met, exit_most}
 use Rattle.aom_prices.proofs.Paying.{law_pays}
-use Rattle.aom_prices.proofs.Regions.{by_kind, innermost, innermost_of_body, one_end, one_innermost, some_same}
+use Rattle.aom_prices.proofs.Regions.{by_kind, innermost, innermost_of_body, one_end, one_innermost}
 
 -- ---- numbers by method and place
 
@@ -175,7 +176,7 @@ module _ (p : Image) (t : Typing) (looped : IsLooped p) (typed : IsTyped p t) (l
 
         found : (s : Shape) (r : Region) → Stands p t m k s i → IsInnermost p m k r → table.from m k ≡ own table s i + max (after w.after m r) (most_within table m r (flows p m k s i))
         found s r at inner =
-            let one = some_same sh s (sym shape ∙ at.shape) in
+            let one = same_Some sh s (sym shape ∙ at.shape) in
             let place = one_innermost p looped m k region.0 r region.1 inner in
             let same : v ≡ found_there s i r = ap (λ x. found_there x i region.0) one ∙ ap (λ x. found_there s i x) place in
             let owned = own_same (λ n. n) p old table (classes_of p w.from w.round) (classes_of p (set w.from m k v) (set w.round m k 0)) s i

@@ -1,5 +1,6 @@
 -- Which methods are there, by their numbers.
 use Rattle.std.proofs.Common.{◌≡◌, ◌<◌, ℕ, zero, suc, List, [], ◌∷◌, length, Option, Some, None, refl, arith}
+use Rattle.aom_image.proofs.Given.{some_given}
 use Rattle.std.specs.Prelude.{IsSome, slice_get}
 use Rattle.std.proofs.lemmas.Option.{slice_get_within}
 use Rattle.aom_image.specs.Image.{Image}
@@ -16,11 +17,7 @@ unfolding method_at
 method_within p m d e = slice_get_within p.methods m d e
 
 pub method_there : (p : Image) (m : ℕ) → IsSome (method_at p m) → m < length p.methods
-method_there p m some = go (method_at p m) refl some
-  where
-    go : (o : Option Method) → method_at p m ≡ o → IsSome o → m < length p.methods
-    go None e s = cc
-    go (Some d) e s = method_within p m d e
+method_there p m some = some_given (λ o. IsSome o) (method_at p m) some (λ s. cc) (λ d e s. method_within p m d e)
 
 pub destructor_within : (p : Image) (x : Thing) (k : ℕ) → destructor_of p x ≡ Some k → k < length p.methods
 unfolding role_of

@@ -1,4 +1,5 @@
 -- What the paths from a place cost, by the instruction that stands there.
+use Rattle.std.proofs.lemmas.Option.{same_Some}
 use Rattle.std.proofs.Common.{◌≡◌, ◌+◌, ◌*◌, ◌∙◌, ℕ, suc, Some, None, inl, inr, refl, sym, ap, subst}
 use Rattle.std.specs.Prelude.{◌⊎◌}
 use Rattle.aom_image.specs.Image.{Image}
@@ -12,7 +13,7 @@ use Rattle.aom_shape.specs.Typing.{Typing}
 use Rattle.aom_prices.specs.Prices.{Prices, Stands, own}
 use Rattle.aom_prices.specs.Costs.{AmongFlows, Costs, GoesOut, Inside, Region, Round}
 use Rattle.aom_prices.specs.Costs.Costs.{outside, ends, goes, loops, loops_in}
-use Rattle.aom_prices.proofs.Regions.{no_loop_here, some_same}
+use Rattle.aom_prices.proofs.Regions.{no_loop_here}
 
 module _ (p : Image) (t : Typing) (c : Prices) (m : ℕ) where
   -- a path from a place outside costs nothing
@@ -24,10 +25,10 @@ module _ (p : Image) (t : Typing) (c : Prices) (m : ℕ) where
   outside_cost r place k (loops_in inside it body round) far = absurd (far inside)
 
   same_shape : (place : ℕ) (sh sh' : Shape) (i i' : Instr) → Stands p t m place sh i → Stands p t m place sh' i' → sh ≡ sh'
-  same_shape place sh sh' i i' a b = some_same sh sh' (sym a.shape ∙ b.shape)
+  same_shape place sh sh' i i' a b = same_Some sh sh' (sym a.shape ∙ b.shape)
 
   pub same_instr : (place : ℕ) (sh sh' : Shape) (i i' : Instr) → Stands p t m place sh i → Stands p t m place sh' i' → i ≡ i'
-  same_instr place sh sh' i i' a b = some_same i i' (sym a.instr ∙ b.instr)
+  same_instr place sh sh' i i' a b = same_Some i i' (sym a.instr ∙ b.instr)
 
   own_same : (place : ℕ) (sh sh' : Shape) (i i' : Instr) → Stands p t m place sh i → Stands p t m place sh' i' → own c sh i ≡ own c sh' i'
   own_same place sh sh' i i' a b = ap (λ s. own c s i) (same_shape place sh sh' i i' a b) ∙ ap (λ j. own c sh' j) (same_instr place sh sh' i i' a b)

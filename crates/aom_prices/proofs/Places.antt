@@ -1,4 +1,5 @@
 -- What the pass finds at a place, by the instruction that stands there.
+use Rattle.std.proofs.lemmas.Option.{same_Some}
 use Rattle.std.proofs.Common.{◌≡◌, ◌≤◌, ◌+◌, ◌-◌, ◌*◌, ◌∙◌, ℕ, suc, Option, Some, None, inl, refl, sym, ap, arith, subst}
 use Rattle.std.specs.Prelude.{IsSome, max}
 use Rattle.aom_image.specs.Image.{Image}
@@ -15,14 +16,14 @@ use Rattle.aom_prices.specs.Costs.{Region}
 use Rattle.aom_prices.specs.Sweeping.{Afters, IsAfter, IsInnermost, after, most_within}
 use Rattle.aom_prices.proofs.At.{IsSweptAt}
 use Rattle.aom_prices.proofs.Adding.{leads_on, reached_is_some}
-use Rattle.aom_prices.proofs.Regions.{by_kind, innermost_of_next, no_loop_here, no_next_here, not_both, some_same}
+use Rattle.aom_prices.proofs.Regions.{by_kind, innermost_of_next, no_loop_here, no_next_here, not_both}
 use Rattle.aom_prices.proofs.Ways.{IsReached}
 
 no_instr : (o : Option Instr) (i : Instr) → o ≡ None → o ≡ Some i → ⊥
 no_instr o i none some = let clash : None ≡ Some i = sym none ∙ some in cc
 
 instr_same : (o : Option Instr) (i j : Instr) → o ≡ Some i → o ≡ Some j → i ≡ j
-instr_same o i j a b = some_same i j (sym a ∙ b)
+instr_same o i j a b = same_Some i j (sym a ∙ b)
 
 module _ (keep : ℕ → ℕ) (p : Image) (t : Typing) (c : Prices) (a : Afters) (m place : ℕ) where
   pub nothing_there : instr_at p m place ≡ None → IsSweptAt keep p t c a m place
@@ -52,15 +53,14 @@ module _ (keep : ℕ → ℕ) (p : Image) (t : Typing) (c : Prices) (a : Afters)
       (IsSome (shape_at t m (suc place)) → c.from m (suc place) ≡ c.round m place + a m place) → IsSweptAt keep p t c a m place
   loop_there d n there found round = record {
     plain = λ sh j r at l k w. absurd (no_loop_here j d n l (instr_same (instr_at p m place) j (Loop d n) at.instr there));
-    loops = λ e k sh at. subst (λ x. c.from m place ≡ keep (1 + (x - 1) * c.round m place + c.from m (suc place)))
-        (rounds_same e k (instr_same (instr_at p m place) (Loop d n) (Loop e k) there at.instr)) found;
+    loops = λ e k sh at.
+        let alike : Loop d n ≡ Loop e k = instr_same (instr_at p m place) (Loop d n) (Loop e k) there at.instr in
+        let same : n ≡ k = cc in
+        subst (λ x. c.from m place ≡ keep (1 + (x - 1) * c.round m place + c.from m (suc place))) same found;
     nexts = λ e from sh at. absurd (not_both (Loop d n) d n e (suc from) refl (instr_same (instr_at p m place) (Loop d n) (Next e (suc from)) there at.instr));
     rounds = λ to e k body reached. round reached;
     afters = λ from e k r body w. absurd (not_both (Loop d n) d n e (suc from) refl (instr_same (instr_at p m place) (Loop d n) (Next e (suc from)) there body.ends));
   }
-    where
-      rounds_same : (e k : ℕ) → Loop d n ≡ Loop e k → n ≡ k
-      rounds_same e k same = cc
 
   pub next_there : (d from : ℕ) → instr_at p m place ≡ Some (Next d (suc from)) → c.from m place ≡ keep (1 + a m from) →
       ((r : Region) → IsInnermost p m from r → IsAfter p t c a m from place r) → IsSweptAt keep p t c a m place

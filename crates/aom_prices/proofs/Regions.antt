@@ -1,4 +1,5 @@
 -- How paths stay in the body of the innermost loop, and how they leave it: from what linking promises of loops and jumps.
+use Rattle.std.proofs.lemmas.Option.{same_Some}
 use Rattle.std.proofs.Common.{◌≡◌, ◌<◌, ◌≤◌, ◌∙◌, ℕ, zero, suc, true, false, Option, Some, None, inl, inr, ⊎_elim, refl, sym, ap, arith, subst}
 use Rattle.std.specs.Prelude.{◌⊎◌}
 use Rattle.std.proofs.lemmas.Bool.{cases_lt, ltb-true, ltb-false}
@@ -16,9 +17,6 @@ use Rattle.aom_prices.proofs.Ways.{Way, way_of}
 use Rattle.aom_prices.proofs.Ways.Way.{back, jump, on}
 
 -- ---- instructions
-
-pub some_same : {A : Type 0} (a b : A) → Some a ≡ Some b → a ≡ b
-some_same a b e = cc
 
 -- an instruction begins a loop, ends a round, or does neither
 pub by_kind : (P : Type 0) (i : Instr) → (loop_in (Some i) ≡ None → next_in (Some i) ≡ None → P) → ((d n : ℕ) → i ≡ Loop d n → P) → ((d to : ℕ) → i ≡ Next d to → P) → P
@@ -63,7 +61,7 @@ next_is_no_loop i d to e = ap (λ x. loop_in (Some x)) e
 
 pub past_is_outside : (r : Region) (to : ℕ) → is_past r to ≡ true → Inside r to → ⊥
 past_is_outside Whole to past inside = cc
-past_is_outside (Round from end) to past inside = absurd (omega (arith, ltb-true end to past, inside.1))
+past_is_outside (Round from end) to past inside = omega (arith, ltb-true end to past, inside.1)
 
 pub here_is_inside : (r : Region) (place to : ℕ) → Inside r place → place < to → is_past r to ≡ false → Inside r to
 here_is_inside Whole place to inside later past = tt
@@ -85,7 +83,7 @@ module _ (p : Image) (looped : IsLooped p) (m : ℕ) where
       (λ (ge : to ≤ f).
       let same : f ≡ to = omega (arith, ge, inside.1) in
       let clash : Some (Loop k l) ≡ Some (Next d (suc from)) = sym other.begins ∙ (ap (λ x. instr_at p m x) same ∙ body.ends) in
-      absurd (not_both (Loop k l) k l d (suc from) refl (some_same (Loop k l) (Next d (suc from)) clash)))
+      absurd (not_both (Loop k l) k l d (suc from) refl (same_Some (Loop k l) (Next d (suc from)) clash)))
       (cases_lt f to)
 
   pub one_end : (from to to' d n d' n' : ℕ) → Body p m from to d n → Body p m from to' d' n' → to' ≡ to
@@ -102,7 +100,7 @@ module _ (p : Image) (looped : IsLooped p) (m : ℕ) where
       (λ (ge : place ≤ f).
       let same : f ≡ place = omega (arith, ge, inside.0) in
       let begins : Some i ≡ Some (Loop k l) = sym stands ∙ (ap (λ x. instr_at p m x) (sym same) ∙ body.begins) in
-      absurd (no_loop_here i k l none (some_same i (Loop k l) begins)))
+      absurd (no_loop_here i k l none (same_Some i (Loop k l) begins)))
       (cases_lt f place)
   came_from place to i stands none (jump j) f e k l body inside = looped.jumps m place to i stands j f e k l body inside
   came_from place to i stands none (back b) f e k l body inside =
@@ -181,7 +179,7 @@ module _ (p : Image) (looped : IsLooped p) (m : ℕ) where
             let way = loop_way g.place k l out (subst (λ x. Way g.place x out) e (way_of p m g.place out g.shape g.instr g.flow)) in
             let same : g.place ≡ to = omega (arith, way, g.inside.1, g.outside) in
             let next : Some g.instr ≡ Some (Next d (suc from)) = sym g.stands.instr ∙ (ap (λ x. instr_at p m x) same ∙ body.ends) in
-            absurd (not_both g.instr k l d (suc from) e (some_same g.instr (Next d (suc from)) next))
+            absurd (not_both g.instr k l d (suc from) e (same_Some g.instr (Next d (suc from)) next))
 
     -- a body that has the place to which another body goes out has that body's loop
     out_around : (from to d n out : ℕ) → Body p m from to d n → GoesOut p t m from to out → (f e k l : ℕ) → Body p m f e k l → IsIn f e out → IsIn f e from

@@ -1,4 +1,5 @@
 -- The cases come out as their tables say; and of the worked method each path from each place costs no more than is said, and one just that.
+use Rattle.std.proofs.lemmas.Option.{same_Some}
 use Rattle.std.proofs.Common.{◌≡◌, ◌<◌, ◌≤◌, ◌+◌, ◌*◌, ◌∙◌, ℕ, zero, suc, Some, None, inl, inr, ⊎_elim, refl, sym, arith, subst}
 use Rattle.std.specs.Prelude.{◌⊎◌}
 use Rattle.aom_image.specs.Views.{instr_at, instr_in, method_at}
@@ -13,7 +14,7 @@ use Rattle.aom_prices.specs.Costs.{AmongFlows, Costs, GoesOut, Inside, Region, R
 use Rattle.aom_prices.specs.Costs.Costs.{ends, goes, loops}
 use Rattle.aom_prices.specs.Prices.{Prices, Stands, own}
 use Rattle.aom_prices.proofs.Paths.{GoesOn, Rounds, ends_or_goes, outside_cost, rounds_of}
-use Rattle.aom_prices.proofs.Regions.{no_next_here, some_same}
+use Rattle.aom_prices.proofs.Regions.{no_next_here}
 
 abbrev There : ℕ → Instr → Type 0
 There place i = Stands worked worked_typing 0 place a_word i
@@ -86,7 +87,7 @@ outer_end to e = omega (arith, next_place to 0 1 e)
 
 known : (place out : ℕ) (sh : Shape) (i j : Instr) → instr_at worked 0 place ≡ Some i → instr_at worked 0 place ≡ Some j →
     AmongFlows out (flows worked 0 place sh i) → AmongFlows out (flows worked 0 place sh j)
-known place out sh i j a b among = subst (λ x. AmongFlows out (flows worked 0 place sh x)) (some_same i j (sym a ∙ b)) among
+known place out sh i j a b among = subst (λ x. AmongFlows out (flows worked 0 place sh x)) (same_Some i j (sym a ∙ b)) among
 
 -- a place to which it goes on is one of two, or not past the end
 of_one : (a end out : ℕ) → (a ≡ out) ⊎ ⊥ → a ≤ end → end < out → ⊥
@@ -96,22 +97,19 @@ of_two : (a b end out : ℕ) → (a ≡ out) ⊎ ((b ≡ out) ⊎ ⊥) → a ≤
 of_two a b end out among le past = ⊎_elim (λ e. absurd (omega (arith, e, le, past))) (λ rest. ⊎_elim (λ e. sym e) (λ none. absurd none) rest) among
 
 out_of_inner : (out place : ℕ) (sh : Shape) (i : Instr) → instr_at worked 0 place ≡ Some i → 1 < place → place ≤ 4 → AmongFlows out (flows worked 0 place sh i) → 4 < out → (out ≡ 5) ⊎ (out ≡ 7)
-out_of_inner out zero sh i at low high among past = absurd (omega (arith, low))
-out_of_inner out (suc zero) sh i at low high among past = absurd (omega (arith, low))
 out_of_inner out (suc (suc zero)) sh i at low high among past = inr (of_two 3 7 4 out (known 2 out sh i (JumpEqual 0 0 7) at at_2.instr among) (omega arith) past)
 out_of_inner out (suc (suc (suc zero))) sh i at low high among past = absurd (of_one 4 4 out (known 3 out sh i (Print 0) at at_3.instr among) (omega arith) past)
 out_of_inner out (suc (suc (suc (suc zero)))) sh i at low high among past = inl (of_two 2 5 4 out (known 4 out sh i (Next 1 2) at at_4.instr among) (omega arith) past)
-out_of_inner out (suc (suc (suc (suc (suc k))))) sh i at low high among past = absurd (omega (arith, high))
+out_of_inner out _ sh i at low high among past = absurd (omega arith)
 
 out_of_outer : (out place : ℕ) (sh : Shape) (i : Instr) → instr_at worked 0 place ≡ Some i → 0 < place → place ≤ 5 → AmongFlows out (flows worked 0 place sh i) → 5 < out → (out ≡ 6) ⊎ (out ≡ 7)
-out_of_outer out zero sh i at low high among past = absurd (omega (arith, low))
 out_of_outer out (suc zero) sh i at low high among past = absurd (of_one 2 5 out (known 1 out sh i (Loop 1 5) at at_1.instr among) (omega arith) past)
 out_of_outer out (suc (suc zero)) sh i at low high among past = inr (of_two 3 7 5 out (known 2 out sh i (JumpEqual 0 0 7) at at_2.instr among) (omega arith) past)
 out_of_outer out (suc (suc (suc zero))) sh i at low high among past = absurd (of_one 4 5 out (known 3 out sh i (Print 0) at at_3.instr among) (omega arith) past)
 out_of_outer out (suc (suc (suc (suc zero)))) sh i at low high among past =
     let e = of_two 2 5 5 out (known 4 out sh i (Next 1 2) at at_4.instr among) (omega arith) past in absurd (omega (arith, e, past))
 out_of_outer out (suc (suc (suc (suc (suc zero))))) sh i at low high among past = inl (of_two 1 6 5 out (known 5 out sh i (Next 0 1) at at_5.instr among) (omega arith) past)
-out_of_outer out (suc (suc (suc (suc (suc (suc k)))))) sh i at low high among past = absurd (omega (arith, high))
+out_of_outer out _ sh i at low high among past = absurd (omega arith)
 
 -- ---- no path costs more
 

@@ -1,4 +1,5 @@
 -- Numbers that are read are in their ranges.
+use Rattle.std.proofs.lemmas.Option.{cond_some}
 use Rattle.std.proofs.Common.{◌≡◌, refl, subst, arith, ℕ, zero, suc, ℤ, pos, neg_ℤ, ◌≤◌, ◌^◌, ◌&&◌, ◌||◌, ◌==◌, not, nat_le, nat_lt, Bool, true, false, FitsSigned, w32, Option, Some, None, Result, Ok, Err}
 use Rattle.std.specs.Prelude.{if◌then◌else◌}
 use Rattle.std.proofs.lemmas.Bool.{and_parts, leb-true, ltb-true}
@@ -15,10 +16,6 @@ in_range_is : {X : Type 0} (o : Option X) (x : X) → in_range o ≡ Ok x → o 
 in_range_is None x is = absurd cc
 in_range_is (Some y) x is = cc
 
-if_some : {X : Type 0} (b : Bool) (x y : X) → (if b then Some x else None) ≡ Some y → (b ≡ true) × (x ≡ y)
-if_some true x y is = (refl, cc)
-if_some false x y is = absurd cc
-
 -- a number between two
 pub record Between (low high n : ℕ) : Type 0 where
   pub least : low ≤ n
@@ -26,7 +23,7 @@ pub record Between (low high n : ℕ) : Type 0 where
 
 between : (low high : ℕ) (n : Number) (x : ℕ) → number_within low high n ≡ Some x → Between low high x
 between low high n x is =
-    let s = if_some ((not n.is_negative || n.size == 0) && nat_le low n.size && nat_le n.size high) n.size x is in
+    let s = cond_some ((not n.is_negative || n.size == 0) && nat_le low n.size && nat_le n.size high) n.size x is in
     let t = and_parts _ _ s.0 in
     let u = and_parts _ _ t.0 in
     subst (Between low high) s.1 (record { least = leb-true _ _ u.1; most = leb-true _ _ t.1 })
@@ -55,12 +52,12 @@ negative_fits (suc n) small = record { sfits = small }
 
 below_zero : (n : ℕ) (z : ℤ) → (if nat_le n (2 ^ 31) then Some (neg_ℤ (pos n)) else None) ≡ Some z → FitsSigned w32 z
 below_zero n z is =
-    let s = if_some (nat_le n (2 ^ 31)) (neg_ℤ (pos n)) z is in
+    let s = cond_some (nat_le n (2 ^ 31)) (neg_ℤ (pos n)) z is in
     subst (FitsSigned w32) s.1 (negative_fits n (leb-true _ _ s.0))
 
 from_zero : (n : ℕ) (z : ℤ) → (if nat_lt n (2 ^ 31) then Some (pos n) else None) ≡ Some z → FitsSigned w32 z
 from_zero n z is =
-    let s = if_some (nat_lt n (2 ^ 31)) (pos n) z is in
+    let s = cond_some (nat_lt n (2 ^ 31)) (pos n) z is in
     subst (FitsSigned w32) s.1 (record { sfits = ltb-true _ _ s.0 })
 
 signed_fits : (is_negative : Bool) (size : ℕ) (z : ℤ) → number_signed (record { is_negative = is_negative; size = size }) ≡ Some z → FitsSigned w32 z

@@ -3,7 +3,7 @@ use Rattle.std.proofs.Common.{◌≡◌, ◌<◌, ◌≤◌, ◌∙◌, ℕ, zer
 use Rattle.std.specs.Prelude.{◌≢◌, ◌&&◌, ◌||◌, ◌==◌, nat_lt}
 use Rattle.std.specs.List.{list_any}
 use Rattle.std.proofs.lemmas.Bool.{eqb-true, eq-eqb, ltb-true, lt-ltb}
-use Rattle.std.proofs.lemmas.Option.{slice_get_within, slice_get_cases}
+use Rattle.std.proofs.lemmas.Option.{slice_get_within, slice_get_cases, same_Some}
 use Rattle.aom_image.specs.declared.instr.Instr.{Instr}
 use Rattle.aom_image.specs.declared.instr.Instr.TheVariants.{Loop, Next}
 use Rattle.aom_classes.specs.Loops.{loop_in, loop_at, Ending, next_in, next_at, Closes, LoopsNest}
@@ -57,17 +57,13 @@ ends_so number back (Next d t) e = both (d == number) (t == back) refl refl e
 
     both : (a b : Bool) → (d == number) ≡ a → (t == back) ≡ b → (a && b) ≡ true → ending d t ≡ ending number back
     both true true n k e = ap (λ x. ending x t) (eqb-true d number n) ∙ ap (λ x. ending number x) (eqb-true t back k)
-    both true false n k e = cc
-    both false b n k e = cc
+    both _ _ n k e = cc
 ends_so number back i e = cc
-
-pub same_ending : (x y : Ending) → Some x ≡ Some y → x ≡ y
-same_ending x y e = cc
 
 so_ends : (number back : ℕ) (i : Instr) → next_in (Some i) ≡ Some (record { number = number; back = back }) → is_end_of number back i ≡ true
 unfolding next_in
 so_ends number back (Next d t) e =
-    let same = same_ending (record { number = d; back = t }) (record { number = number; back = back }) e in
+    let same = same_Some (record { number = d; back = t }) (record { number = number; back = back }) e in
     ap (λ b. b && (t == back)) (eq-eqb d number (ap (λ (x : Ending). x.number) same)) ∙ eq-eqb t back (ap (λ (x : Ending). x.back) same)
 so_ends number back i e = cc
 

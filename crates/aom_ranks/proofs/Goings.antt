@@ -1,5 +1,6 @@
 -- The cells that go are as many as the destructions at hand.
 use Rattle.std.proofs.Common.{◌≡◌, ◌≤◌, ◌+◌, ◌∙◌, ℕ, suc, Bool, true, false, cond, List, [], ◌∷◌, length, Option, Some, None, refl, sym, ap, arith, subst}
+use Rattle.aom_image.proofs.Given.{false_given}
 use Rattle.std.specs.Prelude.{◌==◌, ◌&&◌, ◌||◌}
 use Rattle.std.proofs.lemmas.Bool.{eqb-true, ne_eqb}
 use Rattle.aom_image.specs.Image.{Image}
@@ -16,11 +17,7 @@ use Rattle.aom_ranks.specs.Ranks.{destructions, is_going, standing}
 -- ---- cells
 
 none_there : (c : Cell) (cs : List Cell) (g : Place) → held (c ∷ cs) g ≡ None → (same_place c.owner g ≡ false) × (held cs g ≡ None)
-none_there c cs g e = go (same_place c.owner g) refl e
-  where
-    go : (b : Bool) → same_place c.owner g ≡ b → cond b (Some c.object) (held cs g) ≡ None → (same_place c.owner g ≡ false) × (held cs g ≡ None)
-    go true s e = cc
-    go false s e = (s, e)
+none_there c cs g e = false_given (λ b. cond b (Some c.object) (held cs g) ≡ None) (same_place c.owner g) e (λ e. cc) (λ s e. (s, e))
 
 all_stand : (cs : List Cell) → ((k : ℕ) → held cs (Going k) ≡ None) → standing cs ≡ length cs
 all_stand [] none = refl
@@ -31,10 +28,7 @@ all_stand (c ∷ cs) none = here c.owner refl (all_stand cs (λ k. (none_there c
     here (Entry k) e ih = ap suc ih
     here (Field n f) e ih = ap suc ih
     here (Elsewhere o) e ih = ap suc ih
-    here (Going k) e ih = absurd (clash (sym (ap (λ r. same_place r (Going k)) e ∙ same_place_refl (Going k)) ∙ (none_there c cs (Going k) (none k)).0))
-      where
-        clash : true ≡ false → ⊥
-        clash h = cc
+    here (Going k) e ih = let clash : true ≡ false = sym (ap (λ r. same_place r (Going k)) e ∙ same_place_refl (Going k)) ∙ (none_there c cs (Going k) (none k)).0 in cc
 
 still_stand : (k : ℕ) (cs : List Cell) → standing (without (Going k) cs) ≡ standing cs
 still_stand k [] = refl
@@ -116,10 +110,7 @@ stack_held p t cs back (Mark gv ∷ ls) h = stack_held p t cs (Caught gv) ls h.1
 stack_held p t cs back (Unwinding code es ∷ ls) h = stack_held p t cs Leaves ls h.1
 stack_held p t cs back (Dying o ∷ ls) h = (h.0.1, stack_held p t cs Gone ls h.2)
 stack_held p t cs back (Dispatching d ∷ []) h = tt
-stack_held p t cs back (Dispatching d ∷ l ∷ ls) h = absurd (more h.1)
-  where
-    more : l ∷ ls ≡ [] → ⊥
-    more e = cc
+stack_held p t cs back (Dispatching d ∷ l ∷ ls) h = let clash : l ∷ ls ≡ [] = h.1 in cc
 
 claims_none : (p : Image) (cs : List Cell) (ls : List Layer) (k : ℕ) → goes_at ls k ≡ false → claim p (declared p cs) ls (Going k) ≡ Null
 claims_none p cs [] k e = refl
@@ -127,11 +118,7 @@ claims_none p cs (Method fr sh ∷ ls) k e = claims_none p cs ls k e
 claims_none p cs (Mark gv ∷ ls) k e = claims_none p cs ls k e
 claims_none p cs (Unwinding code es ∷ ls) k e = claims_none p cs ls k e
 claims_none p cs (Dispatching d ∷ ls) k e = claims_none p cs ls k e
-claims_none p cs (Dying o ∷ ls) k e = here (length (tasks_of ls) == k) refl (λ h. claims_none p cs ls k h) e
-  where
-    here : (b : Bool) → (length (tasks_of ls) == k) ≡ b → (goes_at ls k ≡ false → claim p (declared p cs) ls (Going k) ≡ Null) → (b || goes_at ls k) ≡ false → claim p (declared p cs) (Dying o ∷ ls) (Going k) ≡ Null
-    here true s ih e = cc
-    here false s ih e = ap (λ b. cond b (Own o.thing Ready) (claim p (declared p cs) ls (Going k))) s ∙ ih e
+claims_none p cs (Dying o ∷ ls) k e = let ih : (goes_at ls k ≡ false → claim p (declared p cs) ls (Going k) ≡ Null) = λ h. claims_none p cs ls k h in false_given (λ b. (b || goes_at ls k) ≡ false) (length (tasks_of ls) == k) e (λ e. cc) (λ s e. ap (λ b. cond b (Own o.thing Ready) (claim p (declared p cs) ls (Going k))) s ∙ ih e)
 
 nothing_of_null : (p : Image) (h : Place → Option Object) (o : Option Object) → Fits p h o Null → o ≡ None
 nothing_of_null p h None f = refl

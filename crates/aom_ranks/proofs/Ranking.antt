@@ -1,4 +1,5 @@
 -- Every move leads to a lower rank.
+use Rattle.std.proofs.lemmas.Option.{same_Some}
 use Rattle.std.proofs.Common.{◌≡◌, ◌<◌, ◌≤◌, ◌+◌, ◌*◌, ◌∙◌, ℕ, ℤ, suc, Bool, true, false, List, [], ◌∷◌, length, Option, Some, None, slice_get, refl, sym, ap, arith, subst}
 use Rattle.aom_image.specs.Image.{Image}
 use Rattle.aom_image.specs.Views.{instr_at, method_at}
@@ -69,12 +70,9 @@ module _ (p : Image) (t : Typing) (linked : IsLinked p) (typed : IsTyped p t) (c
   acts_there fr sh ls good i e there fits =
       let x = typed.each fr.method fr.place sh good.stack.0 in
       let m = of_method p fr.method fr.place i there in
-      let is : x.instr ≡ i = some_same x.instr i (sym x.stands ∙ there) in
+      let is : x.instr ≡ i = same_Some x.instr i (sym x.stands ∙ there) in
       falls p linked c (counted p s) fr (tasks_of ls) m.0 m.1 sh w.undos i m.2 (subst (λ j. AllTrue (rule_needs p fr.method fr.place sh j)) is x.needs) e fits
       (λ g a stands. returns p t (counted p s) fr sh ls good.stack (ends p linked c (counted p s) fr (tasks_of ls) m.0 m.1 a stands) g a)
-    where
-      some_same : (x y : Instr) → Some x ≡ Some y → x ≡ y
-      some_same x y e = cc
 
   acts : (ls : List Layer) → Good p t s.cells ls → (fr : Frame) (ts : List Task) → tasks_of ls ≡ Run fr ∷ ts → ActsLower fr ts
   acts (Method fr' sh ∷ ls) good fr ts at =

@@ -2,7 +2,7 @@
 use Rattle.std.proofs.Common.{◌≡◌, ◌<◌, ◌≤◌, ◌+◌, ◌∙◌, ℕ, zero, suc, Bool, true, false, cond, List, length, Option, Some, None, IfSome, slice_get, ⊎_elim, refl, sym, ap, arith, subst}
 use Rattle.std.specs.Prelude.{◌≢◌, ◌==◌}
 use Rattle.std.proofs.lemmas.Bool.{cases_lt, eq-eqb, ne_eqb}
-use Rattle.std.proofs.lemmas.Option.{slice_get_within}
+use Rattle.std.proofs.lemmas.Option.{slice_get_within, same_Some}
 use Rattle.aom_image.specs.declared.instr.Instr.{Instr}
 use Rattle.aom_image.specs.declared.instr.Instr.TheVariants.{Loop, Next}
 use Rattle.aom_classes.specs.Jumps.{Body, JumpsWell, back_of, begins_loop, jump_of}
@@ -13,7 +13,7 @@ use Rattle.aom_shape.specs.Tables.{at, put_at}
 use Rattle.aom_sound.proofs.Maps.{at-put_at}
 use Rattle.aom_ranks.specs.Within.{is_in_body, loops_worth, total, worth_at}
 use Rattle.aom_ranks.proofs.Sums.{total_but, total_le}
-use Rattle.aom_ranks.proofs.Bodies.{IsIn, body_in, in_body, other_number, same_ending}
+use Rattle.aom_ranks.proofs.Bodies.{IsIn, body_in, in_body, other_number}
 
 -- ---- the bodies round a place
 
@@ -27,10 +27,7 @@ from_here code k p d none w = record {
 }
   where
     no_loop : loop_at code k ≡ Some d → ⊥
-    no_loop e = some_none (sym e ∙ none)
-      where
-        some_none : Some d ≡ None → ⊥
-        some_none h = cc
+    no_loop e = (let clash : Some d ≡ None = sym e ∙ none in cc)
 
 -- the body of a loop, as the jumps see it
 begins_there : (code : List Instr) (p d : ℕ) → loop_at code p ≡ Some d → IfSome (slice_get code p) (λ i. begins_loop i ≡ true)
@@ -57,7 +54,7 @@ goes_back code q d t e =
     ] e
   where
     back_is : (c u : ℕ) → Some (ending c u) ≡ Some (ending d t) → u ≡ t
-    back_is c u h = ap (λ (e : Ending). e.back) (same_ending (ending c u) (ending d t) h)
+    back_is c u h = ap (λ (e : Ending). e.back) (same_Some (ending c u) (ending d t) h)
 
     back : (i : Instr) → next_in (Some i) ≡ Some (record { number = d; back = t }) → back_of i ≡ Some t
     back (Next c u) h = ap (λ x. Some x) (back_is c u h)
@@ -84,7 +81,7 @@ closed_loop code k d t nest stands =
     (some.place, some.closes, back_is (sym is ∙ some.closes.ends))
   where
     back_is : {x : ℕ} → Some (ending d t) ≡ Some (ending d x) → t ≡ x
-    back_is {x} e = ap (λ (e : Ending). e.back) (same_ending (ending d t) (ending d x) e)
+    back_is {x} e = ap (λ (e : Ending). e.back) (same_Some (ending d t) (ending d x) e)
 
 -- ---- counters
 

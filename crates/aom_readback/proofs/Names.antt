@@ -5,7 +5,7 @@ use Rattle.std.specs.Fmt.{decimal, signed_decimal}
 use Rattle.std.specs.Int.{w32}
 use Rattle.std.specs.Str.{bytes_eq}
 use Rattle.std.specs.List.{list_all, position}
-use Rattle.std.proofs.lemmas.Bool.{and_parts, le-leb, lt-ltb}
+use Rattle.std.proofs.lemmas.Bool.{and_parts, le-leb, lt-ltb, false_from_ne_true}
 use Rattle.std.proofs.lemmas.Fmt.{decimal_injective, decimal_nonempty, length-decimal-le}
 use Rattle.std.proofs.lemmas.List.Sums.{position_or_len_is}
 use Rattle.std.proofs.lemmas.Slice.Eq.{bytes_eq-Decides}
@@ -71,12 +71,8 @@ name_lettered letter n is small =
 
 -- ---- places
 
-pub not_true : (b : Bool) → (b ≡ true → ⊥) → b ≡ false
-not_true true never = absurd (never refl)
-not_true false never = refl
-
 differing : (xs ys : List ℕ) → (xs ≡ ys → ⊥) → bytes_eq xs ys ≡ false
-differing xs ys differ = not_true (bytes_eq xs ys) (λ yes. differ ((bytes_eq-Decides xs ys).0 yes))
+differing xs ys differ = false_from_ne_true (bytes_eq xs ys) (λ yes. differ ((bytes_eq-Decides xs ys).0 yes))
 
 same_number : (letter m n : ℕ) → m < 2 ^ 32 → n < 2 ^ 32 → lettered letter m ≡ lettered letter n → m ≡ n
 same_number letter m n p q e = decimal_injective m n (omega arith) (omega arith) cc
@@ -87,10 +83,7 @@ pub place_found : (letter k : ℕ) (names : List (List ℕ)) → k < 2 ^ 32 → 
     → position (λ n. bytes_eq n (lettered letter k)) names ≡ Some k
 place_found letter k names small within here before =
     let other : (j : ℕ) → j < k → bytes_eq (get_or names j []) (lettered letter k) ≡ false =
-    λ j less. differing _ _ (λ same. ⊎_elim (λ named. omega (arith, same_number letter j k (omega arith) small (sym named ∙ same))) (λ none. empty_differs (sym none ∙ same)) (before j less)) in
+    λ j less. differing _ _ (λ same. ⊎_elim (λ named. omega (arith, same_number letter j k (omega arith) small (sym named ∙ same))) (λ none. (let clash : [] ≡ lettered letter k = sym none ∙ same in cc)) (before j less)) in
     let at = position_or_len_is (λ n. bytes_eq n (lettered letter k)) names k [] (omega arith) other (λ less. (bytes_eq-Decides _ _).1 here) in
     let less : nat_lt k (length names) ≡ true = lt-ltb _ _ within in
     ap (λ n. cond (nat_lt n (length names)) (Some n) None) at ∙ rw less
-  where
-    empty_differs : [] ≡ lettered letter k → ⊥
-    empty_differs e = cc

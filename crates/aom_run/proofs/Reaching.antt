@@ -1,5 +1,6 @@
 -- A step of the machine is moves of a run, and steps one after another fill a turn.
 use Rattle.std.proofs.Common.{◌≡◌, ℕ, List, [], ◌∷◌, ◌++◌, refl, sym, ap, subst, ◌∙◌, append-nil, append_assoc}
+use Rattle.aom_image.proofs.Given.{cons_given}
 use Rattle.aom_image.specs.Image.{Image}
 use Rattle.aom_sound.specs.Moves.{written}
 use Rattle.aom_sound.specs.State.{State, Task}
@@ -11,11 +12,7 @@ use Rattle.aom_exec.specs.Steps.{Machine, StandsFor, Stands, Steps, rests, moves
 use Rattle.aom_run.specs.Runs.{Filled}
 
 is_busy : (s : State) → IsUncounted s.tasks → IsBusy s
-is_busy s uncounted = go s.tasks refl uncounted
-  where
-    go : (ts : List Task) → s.tasks ≡ ts → IsUncounted ts → IsBusy s
-    go [] e u = absurd u
-    go (t ∷ ts) e u = (t, ts, e)
+is_busy s uncounted = cons_given (λ ts. IsUncounted ts) s.tasks uncounted (λ u. u) (λ t ts e u. (t, ts, e))
 
 -- the moves that count as no step are moves of a run
 settled_on : (p : Image) (refused : List ℕ) (b : State) (lines : List Line) (s : State) (more : List Line) (u : State)

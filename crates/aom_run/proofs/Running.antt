@@ -97,14 +97,9 @@ refused_kept m new old now progress s stands filled = ap (λ (t : Turn). t.refus
 
 same_outcome : (d e : Ending) → outcome_of d ≡ outcome_of e → d ≡ e
 same_outcome endings.Stopped endings.Stopped is = refl
-same_outcome endings.Stopped endings.Waiting is = absurd cc
-same_outcome endings.Waiting endings.Stopped is = absurd cc
 same_outcome endings.Waiting endings.Waiting is = refl
-same_outcome endings.Stopped (endings.MainLeft n) is = absurd cc
-same_outcome endings.Waiting (endings.MainLeft n) is = absurd cc
-same_outcome (endings.MainLeft n) endings.Stopped is = absurd cc
-same_outcome (endings.MainLeft n) endings.Waiting is = absurd cc
 same_outcome (endings.MainLeft n) (endings.MainLeft k) is = cc
+same_outcome _ _ is = absurd cc
 
 ended_same : (a b : Ending) → progresses.Ended a ≡ progresses.Ended b → a ≡ b
 ended_same a b is = cc

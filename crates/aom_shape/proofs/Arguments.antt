@@ -86,4 +86,4 @@ entry_missing es k e = elim (leb_tells (length es) k) [
   where
     there : (es : List Entry) (k : ℕ) → k < length es → slice_get es k ≡ None → ⊥
     there (y ∷ ys) (suc k) h e = there ys k (omega arith) e
-    there _ k h e = absurd (first_of (cc, omega arith))
+    there _ k h e = first_of (cc, omega arith)

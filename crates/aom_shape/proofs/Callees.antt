@@ -10,7 +10,7 @@ use Rattle.aom_image.specs.declared.method.Method.{Method}
 use Rattle.aom_classes.proofs.Facts.{all_there, of_method}
 use Rattle.aom_shape.specs.Calls.{HasCallee, HasCodeRegister}
 
-there : {A : Type 0} (xs : List A) (k : ℕ) → k < length xs → IsSome (slice_get xs k)
+pub there : {A : Type 0} (xs : List A) (k : ℕ) → k < length xs → IsSome (slice_get xs k)
 there [] k h = absurd (omega arith)
 there (x ∷ xs) zero h = refl
 there (x ∷ xs) (suc k) h = there xs k (omega arith)

@@ -1,6 +1,6 @@
 -- The tests on kinds and fillings decide the order, and the meet of two kinds is the strongest below both.
 use Rattle.std.proofs.Common.{◌≡◌, Bool, true, false, ◌&&◌, refl, ap}
-use Rattle.std.proofs.lemmas.Bool.{eqb-true, eq-eqb}
+use Rattle.std.proofs.lemmas.Bool.{eqb-true, eq-eqb, and_parts}
 use Rattle.aom_image.specs.declared.method.Thing.{Thing}
 use Rattle.aom_image.specs.declared.method.Thing.TheVariants.{Object, Message}
 use Rattle.aom_shape.specs.Things.{same_thing}
@@ -14,12 +14,6 @@ use Rattle.aom_shape.specs.declared.kind.Kind.{Kind}
 use Rattle.aom_shape.specs.declared.kind.Kind.TheVariants.{Unset, Word, Null, Own, Maybe}
 use Rattle.aom_shape.specs.declared.kind.Filling.{Filling}
 use Rattle.aom_shape.specs.declared.kind.Filling.TheVariants.{Empty, Full, Perhaps}
-
-pub both : (a b : Bool) → (a && b) ≡ true → (a ≡ true) × (b ≡ true)
-both true true h = (refl, refl)
-both true false h = cc
-both false true h = cc
-both false false h = cc
 
 pub thing_is : (t u : Thing) → same_thing t u ≡ true → t ≡ u
 thing_is (Object c) (Object d) h = ap Object (eqb-true c d h)
@@ -59,7 +53,7 @@ weaker_tests a b (maybe_own {t = t} {a = age}) = object_self t age
 
 -- and only there
 pub same_own : (t u : Thing) (a b : Age) → (same_thing t u && same_age a b) ≡ true → (t ≡ u) × (a ≡ b)
-same_own t u a b h = let both_are = both (same_thing t u) (same_age a b) h in (thing_is t u both_are.0, age_is a b both_are.1)
+same_own t u a b h = let both_are = and_parts (same_thing t u) (same_age a b) h in (thing_is t u both_are.0, age_is a b both_are.1)
 
 pub weaker_tested : (a b : Kind) → no_more a b ≡ true → Weaker a b
 weaker_tested Unset Unset h = alike

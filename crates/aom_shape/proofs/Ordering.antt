@@ -1,6 +1,6 @@
 -- The tests on lists decide the order between states.
 use Rattle.std.proofs.Common.{◌≡◌, ◌≢◌, ℕ, zero, suc, Bool, true, false, ◌&&◌, ◌==◌, List, [], ◌∷◌, length, ◌↔◌, ◌⊎◌, IsTrue, refl, sym, ap, ◌∙◌, arith}
-use Rattle.std.proofs.lemmas.Bool.{eqb-true, eq-eqb, false≢true}
+use Rattle.std.proofs.lemmas.Bool.{eqb-true, eq-eqb, false≢true, and_parts}
 use Rattle.aom_shape.specs.Kinds.{register, field}
 use Rattle.aom_shape.specs.Order.{Weaker, WeakerFilling, SaysNoMore}
 use Rattle.aom_shape.specs.Order.Weaker.{alike}
@@ -14,7 +14,7 @@ use Rattle.aom_shape.specs.declared.kind.Kind.{Kind}
 use Rattle.aom_shape.specs.declared.kind.Kind.TheVariants.{Unset}
 use Rattle.aom_shape.specs.declared.kind.Filling.{Filling}
 use Rattle.aom_shape.specs.declared.kind.Filling.TheVariants.{Perhaps}
-use Rattle.aom_shape.proofs.Deciding.{both, age_is, age_self, weaker_tests, weaker_tested, weaker_along, fillings_test, fillings_tested, fillings_along}
+use Rattle.aom_shape.proofs.Deciding.{age_is, age_self, weaker_tests, weaker_tested, weaker_along, fillings_test, fillings_tested, fillings_along}
 
 pub reflexive : (a : Shape) → SaysNoMore a a
 reflexive a = record { registers = λ i. alike; fields = λ i. alike_filling; entries = refl }
@@ -28,8 +28,8 @@ transitive a b c h k = record {
 
 kinds_hold : (xs ys : List Kind) → length xs ≡ length ys → all_no_more xs ys ≡ true → (i : ℕ) → Weaker (at Unset xs i) (at Unset ys i)
 kinds_hold [] [] e h i = alike
-kinds_hold (x ∷ xs) (y ∷ ys) e h zero = weaker_tested x y (both (no_more x y) (all_no_more xs ys) h).0
-kinds_hold (x ∷ xs) (y ∷ ys) e h (suc i) = kinds_hold xs ys (omega arith) (both (no_more x y) (all_no_more xs ys) h).1 i
+kinds_hold (x ∷ xs) (y ∷ ys) e h zero = weaker_tested x y (and_parts (no_more x y) (all_no_more xs ys) h).0
+kinds_hold (x ∷ xs) (y ∷ ys) e h (suc i) = kinds_hold xs ys (omega arith) (and_parts (no_more x y) (all_no_more xs ys) h).1 i
 kinds_hold _ _ e h i = absurd (omega arith)
 
 kinds_test : (xs ys : List Kind) → ((i : ℕ) → Weaker (at Unset xs i) (at Unset ys i)) → all_no_more xs ys ≡ true
@@ -39,8 +39,8 @@ kinds_test (x ∷ xs) (y ∷ ys) h = rw (weaker_tests x y (h 0), kinds_test xs y
 
 fillings_hold : (xs ys : List Filling) → length xs ≡ length ys → all_no_more_fillings xs ys ≡ true → (i : ℕ) → WeakerFilling (at Perhaps xs i) (at Perhaps ys i)
 fillings_hold [] [] e h i = alike_filling
-fillings_hold (x ∷ xs) (y ∷ ys) e h zero = fillings_tested x y (both (no_more_filling x y) (all_no_more_fillings xs ys) h).0
-fillings_hold (x ∷ xs) (y ∷ ys) e h (suc i) = fillings_hold xs ys (omega arith) (both (no_more_filling x y) (all_no_more_fillings xs ys) h).1 i
+fillings_hold (x ∷ xs) (y ∷ ys) e h zero = fillings_tested x y (and_parts (no_more_filling x y) (all_no_more_fillings xs ys) h).0
+fillings_hold (x ∷ xs) (y ∷ ys) e h (suc i) = fillings_hold xs ys (omega arith) (and_parts (no_more_filling x y) (all_no_more_fillings xs ys) h).1 i
 fillings_hold _ _ e h i = absurd (omega arith)
 
 fillings_all_test : (xs ys : List Filling) → ((i : ℕ) → WeakerFilling (at Perhaps xs i) (at Perhaps ys i)) → all_no_more_fillings xs ys ≡ true
@@ -51,7 +51,7 @@ fillings_all_test (x ∷ xs) (y ∷ ys) h = rw (fillings_test x y (h 0), filling
 -- both lists pass exactly where the first state says no more
 pub decided : (a b : Shape) → length a.registers ≡ length b.registers → length a.fields ≡ length b.fields → a.entries ≡ b.entries → IsTrue (all_no_more a.registers b.registers && all_no_more_fillings a.fields b.fields) ↔ SaysNoMore a b
 decided a b r f e = (
-  λ h. let pair = both (all_no_more a.registers b.registers) (all_no_more_fillings a.fields b.fields) h in record {
+  λ h. let pair = and_parts (all_no_more a.registers b.registers) (all_no_more_fillings a.fields b.fields) h in record {
     registers = kinds_hold a.registers b.registers r pair.0;
     fields = fillings_hold a.fields b.fields f pair.1;
     entries = e;
@@ -84,7 +84,7 @@ fillings_ended (x ∷ xs) (y ∷ ys) h = absurd (omega arith)
 
 -- the test on entries passes exactly where they are the same
 entry_is : (x y : Entry) → same_entry x y ≡ true → x ≡ y
-entry_is (An_object c a) (An_object d b) h = let same = both (c == d) (same_age a b) h in rw (eqb-true c d same.0, age_is a b same.1) refl
+entry_is (An_object c a) (An_object d b) h = let same = and_parts (c == d) (same_age a b) h in rw (eqb-true c d same.0, age_is a b same.1) refl
 entry_is Operation Operation h = refl
 entry_is _ _ h = cc
 
@@ -94,7 +94,7 @@ entry_self Operation = refl
 
 pub entries_are : (xs ys : List Entry) → same_entries xs ys ≡ true → xs ≡ ys
 entries_are [] [] h = refl
-entries_are (x ∷ xs) (y ∷ ys) h = let same = both (same_entry x y) (same_entries xs ys) h in rw (entry_is x y same.0, entries_are xs ys same.1) refl
+entries_are (x ∷ xs) (y ∷ ys) h = let same = and_parts (same_entry x y) (same_entries xs ys) h in rw (entry_is x y same.0, entries_are xs ys same.1) refl
 entries_are _ _ h = cc
 
 pub entries_self : (xs : List Entry) → same_entries xs xs ≡ true

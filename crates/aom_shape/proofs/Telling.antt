@@ -1,6 +1,6 @@
 -- What a test tells of a kind or filling it tells of one that says more.
 use Rattle.std.proofs.Common.{◌≡◌, ℕ, zero, suc, ◌<◌, true, List, [], ◌∷◌, length, Option, Some, None, refl, arith}
-use Rattle.std.proofs.lemmas.Bool.{false≢true}
+use Rattle.std.proofs.lemmas.Bool.{false≢true, and_parts}
 use Rattle.aom_image.specs.Image.{Image}
 use Rattle.aom_image.specs.declared.method.Thing.{Thing}
 use Rattle.aom_shape.specs.Calls.{all_empty, is_own_for}
@@ -13,7 +13,6 @@ use Rattle.aom_shape.specs.declared.kind.Kind.{Kind}
 use Rattle.aom_shape.specs.declared.kind.Kind.TheVariants.{Unset}
 use Rattle.aom_shape.specs.declared.kind.Filling.{Filling}
 use Rattle.aom_shape.specs.declared.kind.Filling.TheVariants.{Perhaps}
-use Rattle.aom_shape.proofs.Deciding.{both}
 
 pub word_more : (a b : Kind) → Weaker a b → is_word a ≡ true → is_word b ≡ true
 word_more a b (alike {k = k}) h = h
@@ -97,8 +96,8 @@ readied_more a b (maybe_own {t = t} {a = age}) = maybe_own
 -- no register owns, read by their numbers
 none_at : (xs : List Kind) → none_owns xs ≡ true → (i : ℕ) → is_unowning (at Unset xs i) ≡ true
 none_at [] h i = refl
-none_at (x ∷ xs) h zero = (both (is_unowning x) (none_owns xs) h).0
-none_at (x ∷ xs) h (suc i) = none_at xs (both (is_unowning x) (none_owns xs) h).1 i
+none_at (x ∷ xs) h zero = (and_parts (is_unowning x) (none_owns xs) h).0
+none_at (x ∷ xs) h (suc i) = none_at xs (and_parts (is_unowning x) (none_owns xs) h).1 i
 
 none_from : (xs : List Kind) → ((i : ℕ) → is_unowning (at Unset xs i) ≡ true) → none_owns xs ≡ true
 none_from [] h = refl
@@ -109,8 +108,8 @@ none_owns_more xs ys w h = none_from ys (λ i. unowning_more (at Unset xs i) (at
 
 -- the fields that are declared are empty, read by their numbers
 empty_at : (ts : List Thing) (xs : List Filling) → all_empty ts xs ≡ true → (k : ℕ) → k < length ts → is_empty (at Perhaps xs k) ≡ true
-empty_at (t ∷ ts) (x ∷ xs) h zero below = (both (is_empty x) (all_empty ts xs) h).0
-empty_at (t ∷ ts) (x ∷ xs) h (suc k) below = empty_at ts xs (both (is_empty x) (all_empty ts xs) h).1 k (omega arith)
+empty_at (t ∷ ts) (x ∷ xs) h zero below = (and_parts (is_empty x) (all_empty ts xs) h).0
+empty_at (t ∷ ts) (x ∷ xs) h (suc k) below = empty_at ts xs (and_parts (is_empty x) (all_empty ts xs) h).1 k (omega arith)
 empty_at _ _ h k below = absurd (first_of (cc, omega arith))
 
 empty_from : (ts : List Thing) (xs : List Filling) → ((k : ℕ) → k < length ts → is_empty (at Perhaps xs k) ≡ true) → all_empty ts xs ≡ true

@@ -1,6 +1,6 @@
 -- The beginning of a leave, the entry that it deals with, and its arrival, by the layers of a well-typed state.
 use Rattle.std.proofs.Common.{Bool, List, None, Option, Some, [], ap, arith, cond, false, length, negsuc, pos, refl, subst, suc, sym, true, ℕ, ℤ, ◌∙◌, ◌∷◌, ◌≡◌, ◌≢◌}
-use Rattle.std.proofs.lemmas.Bool.{eq-eqb, ne_eqb}
+use Rattle.std.proofs.lemmas.Bool.{eq-eqb, ne_eqb, false_from_ne_true, cond-true}
 use Rattle.std.specs.Prelude.{int_lt, is_some, ◌++◌}
 use Rattle.aom_image.specs.Image.{Image}
 use Rattle.aom_image.specs.Views.{gives_of, instr_at}
@@ -17,7 +17,7 @@ use Rattle.aom_shape.specs.declared.kind.Entry.TheVariants.{Object as Pushed_obj
 use Rattle.aom_shape.specs.declared.kind.Kind.TheVariants.{Null}
 use Rattle.aom_sound.proofs.Claimed.{claim_entry_above, claim_going_above}
 use Rattle.aom_sound.proofs.Clearing.{begins_over}
-use Rattle.aom_sound.proofs.Items.{length_forms}
+use Rattle.aom_sound.proofs.Items.{length_forms, no_mark}
 use Rattle.aom_sound.proofs.Guarded.{goes_same, guarded_goes, guarded_met}
 use Rattle.aom_sound.proofs.Maps.{at-put_at, held_moved, same_place-true, same_place_refl}
 use Rattle.aom_sound.proofs.Straight.{claim_register, fits_unowning}
@@ -41,10 +41,6 @@ use Rattle.aom_sound.proofs.Layers.{leave_layer}
 
 -- ---- the entries of a leave, and its mark
 
-no_mark : {A : Type 0} (x : Pushed) → Mark_form ≡ entry_form x → A
-no_mark (Pushed_object c a) e = cc
-no_mark Pushed_operation e = cc
-
 -- the items of some entries over a mark
 split : (es : List Pushed) (fs : List Form) (all : List Item) → forms all ≡ objects es (Mark_form ∷ fs) → (entries : List Item) × (items : List Item) × (all ≡ entries ++ (A_mark ∷ items)) × AreEntries entries
 split [] fs (A_mark ∷ all) e = ([], all, refl, tt)
@@ -56,10 +52,10 @@ split (x ∷ es) fs (An_operation m w ∷ all) e =
     let same : forms all ≡ objects es (Mark_form ∷ fs) = cc in
     let r = split es fs all same in
     (An_operation m w ∷ r.0, r.1, ap (λ l. An_operation m w ∷ l) r.2, r.3)
-split (x ∷ es) fs (A_mark ∷ all) e = no_mark x cc
+split (x ∷ es) fs (A_mark ∷ all) e = absurd (no_mark x cc)
 split _ fs _ e = cc
 
-no_dispatch : {A : Type 0} (p : Image) (d : Dispatch) → EndsDispatch p d Leaves → A
+pub no_dispatch : {A : Type 0} (p : Image) (d : Dispatch) → EndsDispatch p d Leaves → A
 no_dispatch p Of_main e = absurd e
 no_dispatch p _ e = absurd e
 
@@ -86,11 +82,7 @@ has_moved cs q g o there free apart = record {
 }
   where
     differs : (x r : Place) → r ≢ x → same_place x r ≡ false
-    differs x r n = go (same_place x r) refl
-      where
-        go : (b : Bool) → same_place x r ≡ b → b ≡ false
-        go true e = absurd (n (sym (same_place-true x r e)))
-        go false e = refl
+    differs x r n = false_from_ne_true (same_place x r) (λ e. n (sym (same_place-true x r e)))
 
 -- no entry is claimed over all items
 none_pushed_yet : (p : Image) (t : Typing) (s : State) → WellTyped p t s → held s.cells (Entry (length s.items)) ≡ None
@@ -138,8 +130,7 @@ module _ (p : Image) (t : Typing) (c : Choice) (fr : Frame) (ts : List Task) (s 
       }
 
   taken : (b : Bool) (off on : Effect) → b ≡ true → applied p fr ts (counted p s) (cond b off on) ≡ u → applied p fr ts (counted p s) off ≡ u
-  taken true off on b e = e
-  taken false off on b e = cc
+  taken b off on is e = subst (λ v. applied p fr ts (counted p s) v ≡ u) (cond-true b off on is) e
 
   trap_so : (b : Bool) (cs : List Cell) → b ≡ true → AllTrue (cond b (leave_needs cs (Run fr ∷ ts)) []) → has_trap ts ≡ true
   trap_so true cs b n = n.0

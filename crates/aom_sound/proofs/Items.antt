@@ -37,17 +37,18 @@ pub length_each : (es : List Pushed) (below : List Form) → length (objects es 
 length_each [] below = omega arith
 length_each (e ∷ es) below = omega (arith, length_each es below)
 
+-- the form of no entry is a mark's
+pub no_mark : (x : Pushed) → Mark_form ≡ entry_form x → ⊥
+no_mark (Pushed_object c a) e = cc
+no_mark Pushed_operation e = cc
+
 -- an entry is among the items
 pub entry_there : (es : List Pushed) (below : List Form) (items : List Item) (k : ℕ) → forms items ≡ objects es below → k < length es → is_some (entry_at items k) ≡ true
 entry_there (x ∷ es) below (An_object ∷ items) zero e lt = refl
 entry_there (x ∷ es) below (An_object ∷ items) (suc k) e lt = let same : forms items ≡ objects es below = cc in entry_there es below items k same (omega arith)
 entry_there (x ∷ es) below (An_operation m w ∷ items) zero e lt = refl
 entry_there (x ∷ es) below (An_operation m w ∷ items) (suc k) e lt = let same : forms items ≡ objects es below = cc in entry_there es below items k same (omega arith)
-entry_there (x ∷ es) below (A_mark ∷ items) k e lt = absurd (no_mark x e)
-  where
-    no_mark : (x : Pushed) → Mark_form ∷ forms items ≡ entry_form x ∷ objects es below → ⊥
-    no_mark (Pushed_object c a) e = cc
-    no_mark Pushed_operation e = cc
+entry_there (x ∷ es) below (A_mark ∷ items) k e lt = absurd (no_mark x cc)
 entry_there _ below _ k e lt = absurd (first_of (cc, omega arith))
 
 -- an entry that owns is no operation

@@ -1,4 +1,5 @@
 -- What a move of ownership does to the places, and lists that are read and written by place.
+use Rattle.std.proofs.lemmas.Option.{none-some}
 use Rattle.std.proofs.Common.{Bool, List, None, Option, Some, [], ap, cond, false, refl, subst, suc, sym, true, zero, ℕ, ◌==◌, ◌∙◌, ◌∷◌, ◌≡◌}
 use Rattle.std.proofs.lemmas.Bool.{and_from, and_parts, eq-eqb, eqb-true, false≢true, ne_eqb, true≢false}
 use Rattle.aom_shape.specs.Tables.{at, put_at}
@@ -55,12 +56,9 @@ cond_same : {A : Type 0} (b : Bool) (x : A) → cond b x x ≡ x
 cond_same true x = refl
 cond_same false x = refl
 
-some_none : {A : Type 0} {x : A} → Some x ≡ None → ⊥
-some_none e = cc
-
 -- the front cell does not stand where nothing is held
 pub front_free : (b : Bool) (o : Object) (rest : Option Object) → cond b (Some o) rest ≡ None → (b ≡ false) × (rest ≡ None)
-front_free true o rest e = absurd (some_none e)
+front_free true o rest e = absurd (none-some _ (sym e))
 front_free false o rest e = (refl, e)
 
 -- what the places hold after p's thing moved to q
@@ -122,7 +120,7 @@ held_named [] p o e n = cc
 held_named (c ∷ cs) p o e n = go (same_place c.owner p) (c.object.name == o.name) refl (held_named cs p o) e n
   where
     go : (b x : Bool) → (c.object.name == o.name) ≡ x → (held cs p ≡ Some o → named cs o.name ≡ None → ⊥) → cond b (Some c.object) (held cs p) ≡ Some o → cond x (Some c.object) (named cs o.name) ≡ None → ⊥
-    go b true f ih e n = some_none n
+    go b true f ih e n = none-some _ (sym n)
     go true false f ih e n = let same : c.object ≡ o = cc in false≢true (sym f ∙ eq-eqb _ _ (ap (λ x. x.name) same))
     go false false f ih e n = ih e n
 

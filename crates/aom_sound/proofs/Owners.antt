@@ -1,5 +1,6 @@
 -- In a well-typed state each cell has one living owner, and following owners ends: by what the layers claim of the owner.
 use Rattle.std.proofs.Common.{Bool, List, None, Option, Some, [], ap, arith, cond, false, length, refl, subst, suc, sym, true, zero, ℕ, ⊎_elim, ◌+◌, ◌<◌, ◌==◌, ◌∙◌, ◌∷◌, ◌≡◌, ◌≤◌}
+use Rattle.aom_image.proofs.Given.{false_given}
 use Rattle.std.proofs.lemmas.Bool.{cases_lt, eqb-true, ne_eqb}
 use Rattle.std.proofs.lemmas.Option.{slice_get_within}
 use Rattle.std.specs.Prelude.{IsSome, is_some, slice_get}
@@ -92,11 +93,7 @@ field_thing_of p t cs (Method fr sh ∷ ls) back n f c s h = go fr.home s.2 (fie
 field_thing_of p t cs (Mark gv ∷ ls) back n f c s h = field_thing_of p t cs ls (Caught gv) n f c s.1 h
 field_thing_of p t cs (Unwinding code es ∷ ls) back n f c s h = field_thing_of p t cs ls Leaves n f c s.1 h
 field_thing_of p t cs (Dispatching w ∷ ls) back n f c s h = declared_thing_of p cs n f c (subst (λ l. HasThing (claim p (declared p cs) l (Field n f)) c) s.1 h)
-field_thing_of p t cs (Dying o ∷ ls) back n f c s h = go (o.name == n) (field_thing_of p t cs ls Gone n f c s.2) h
-  where
-    go : (b : Bool) → (HasThing (claim p (declared p cs) ls (Field n f)) c → (o : Object) × (named cs n ≡ Some o) × (field_thing p (thing_holder o.thing) f ≡ Some c)) → HasThing (cond b Null (claim p (declared p cs) ls (Field n f))) c → (o : Object) × (named cs n ≡ Some o) × (field_thing p (thing_holder o.thing) f ≡ Some c)
-    go true ih h = absurd h
-    go false ih h = ih h
+field_thing_of p t cs (Dying o ∷ ls) back n f c s h = let ih : (HasThing (claim p (declared p cs) ls (Field n f)) c → (o : Object) × (named cs n ≡ Some o) × (field_thing p (thing_holder o.thing) f ≡ Some c)) = field_thing_of p t cs ls Gone n f c s.2 in false_given (λ b. HasThing (cond b Null (claim p (declared p cs) ls (Field n f))) c) (o.name == n) h (λ h. h) (λ _ h. ih h)
 
 -- ---- the places that are claimed to own live
 

@@ -1,7 +1,7 @@
 -- While a cell goes or a leave unwinds, quiet methods alone run, so that no trap stands over it.
 use Rattle.std.proofs.lemmas.Option.{same_Some}
 use Rattle.std.proofs.Common.{Bool, List, None, Option, Some, [], ap, false, length, refl, subst, sym, true, ℕ, ℤ, ◌∙◌, ◌∷◌, ◌≡◌}
-use Rattle.std.proofs.lemmas.Bool.{true≢false}
+use Rattle.std.proofs.lemmas.Bool.{true≢false, false_from_ne_true}
 use Rattle.std.specs.Prelude.{not}
 use Rattle.aom_classes.specs.Roles.{main_of}
 use Rattle.aom_image.specs.Image.{Image}
@@ -28,11 +28,11 @@ use Rattle.aom_sound.specs.Quiet.{CalmKeeps, CaughtOwned, IsCalm, calm, is_clear
 use Rattle.aom_sound.specs.State.{An_operation, Choice, Dispatched, Frame, Goes, Item, Run, State, Task, Trapped}
 use Rattle.aom_sound.specs.WellTyped.{AllUndo, Good, WellTyped}
 use Rattle.aom_sound.specs.World.{boot_state, main_tasks}
+use Rattle.aom_sound.proofs.Layers.{method_layer}
 
 -- the abstract state of the method at hand
 its_shape : (p : Image) (t : Typing) (cs : List Cell) (fr : Frame) (ts : List Task) (ls : List Layer) → Run fr ∷ ts ≡ tasks_of ls → Good p t cs ls → (sh : Shape) × (shape_at t fr.method fr.place ≡ Some sh)
-its_shape p t cs fr ts (Method fr' sh ∷ ls) at good = let same : fr' ≡ fr = cc in (sh, subst (λ x. shape_at t x.method x.place ≡ Some sh) same good.stack.0)
-its_shape p t cs fr ts _ at good = cc
+its_shape p t cs fr ts ls at good = method_layer (Good p t cs) fr ts ls (sym at) good (λ sh ls _ good. (sh, good.stack.0))
 
 module _ (p : Image) (t : Typing) (wired : IsWired p) (typed : IsTyped p t) (c : Choice) (s : State) (w : WellTyped p t s) where
   -- what the verifier asks of the instruction at hand
@@ -53,11 +53,7 @@ module _ (p : Image) (t : Typing) (wired : IsWired p) (typed : IsTyped p t) (c :
 
   -- no quiet method sets a trap
   not_clearing : (fr : Frame) (ts : List Task) (target : Target) (m first x : ℕ) → Acting p c (calm p) s fr ts (Trap target m first x) → is_clearing ts ≡ false
-  not_clearing fr ts target m first x a = go (is_clearing ts) refl
-    where
-      go : (b : Bool) → is_clearing ts ≡ b → is_clearing ts ≡ false
-      go true e = absurd (true≢false (sym (ruled fr ts (Trap target m first x) a).1.0 ∙ ap not (a.runs e)))
-      go false e = e
+  not_clearing fr ts target m first x a = false_from_ne_true (is_clearing ts) (λ e. true≢false (sym (ruled fr ts (Trap target m first x) a).1.0 ∙ ap not (a.runs e)))
 
   undo_quiet : (m : ℕ) (x : ℤ) (items : List Item) → s.items ≡ An_operation m x ∷ items → is_quiet p m ≡ true
   undo_quiet m x items e = (subst (λ is. AllUndo p is) e w.undos).0.quiet

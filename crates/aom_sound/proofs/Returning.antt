@@ -24,7 +24,7 @@ use Rattle.aom_sound.proofs.Claimed.{claim-set_register, claim_frame, claim_push
 use Rattle.aom_sound.proofs.Finishing.{ended, left_alone, left_held, none_left, return_needs, returnable, same_items}
 use Rattle.aom_sound.proofs.Items.{forms_below, mark_on_top, undos_below}
 use Rattle.aom_sound.proofs.Maps.{at-put_at, held_moved, same_place-true, same_place_refl, tidy_moved}
-use Rattle.aom_sound.proofs.Straight.{At, Fitted, Law, claim_register, fits_unowning, housed_relocated, next_unowning, no_word_fits, register_fits, settle, stepped, top, word_of_object, words_set, write}
+use Rattle.aom_sound.proofs.Straight.{At, Fitted, Law, claim_register, fits_unowning, housed_relocated, next_unowning, no_word_fits, register_fits, settle, stepped, top, word_of_object, words_set, write, may_be_object}
 use Rattle.aom_sound.proofs.Things.{stands_same}
 use Rattle.aom_sound.specs.Calls.{below_top, received, result_cells, result_needs, result_register}
 use Rattle.aom_sound.specs.Claims.{Dispatching, Layer, Mark, Mark_form, Method, Unwinding, claim, declared, forms, items_of, objects, tasks_of}
@@ -188,9 +188,7 @@ module _ (p : Image) (s : State) where
   held_maybe x (Some o) f = f.0
 
   pub object_of : (x : Thing) (k : Kind) → may_be p x k ≡ true → is_object_or_null k ≡ true
-  object_of x Unset e = cc
-  object_of x Word e = cc
-  object_of x _ e = refl
+  object_of x k e = may_be_object p x k e
 
 module _ (p : Image) (t : Typing) (c : Choice) (s : State) (fr fr2 : Frame) (sh sh2 : Shape) (ls : List Layer) (at_hand : At p t s fr sh (Method fr2 sh2 ∷ ls)) where
   abbrev pub below : List Layer

@@ -43,6 +43,11 @@ pub fits_unowning : (p : Image) (h : Place → Option Object) (o : Option Object
 fits_unowning p h None k u f = refl
 fits_unowning p h _ _ u f = absurd (grind arith)
 
+pub may_be_object : (p : Image) (x : Thing) (k : Kind) → may_be p x k ≡ true → is_object_or_null k ≡ true
+may_be_object p x Unset e = cc
+may_be_object p x Word e = cc
+may_be_object p x _ e = refl
+
 pub word_of_object : (w : Option ℤ) (k : Kind) → is_object_or_null k ≡ true → WordFits w k → w ≡ None
 word_of_object w Unset e f = cc
 word_of_object w Word e f = cc
@@ -237,14 +242,9 @@ module _ (p : Image) (t : Typing) (c : Choice) (s : State) (fr : Frame) (sh : Sh
   declared_ok None o k e f = cc
   declared_ok (Some x) o k e f = thing_ok x o k e f
 
-  pub may_be_object : (x : Thing) (k : Kind) → may_be p x k ≡ true → is_object_or_null k ≡ true
-  may_be_object x Unset e = cc
-  may_be_object x Word e = cc
-  may_be_object x _ e = refl
-
   pub declared_object : (x : Option Thing) (k : Kind) → may_be_declared p x k ≡ true → is_object_or_null k ≡ true
   declared_object None k e = cc
-  declared_object (Some x) k e = may_be_object x k e
+  declared_object (Some x) k e = may_be_object p x k e
 
   pub refills : (x : Option Thing) (k : Kind) → may_be_declared p x k ≡ true → is_ready_kind k ≡ true → filled x (filling_of k) ≡ k
   refills (Some x) Null e r = refl

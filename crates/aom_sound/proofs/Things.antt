@@ -5,11 +5,10 @@ use Rattle.aom_image.specs.Image.{Image}
 use Rattle.aom_image.specs.declared.method.Thing.{Thing}
 use Rattle.aom_image.specs.declared.method.Thing.TheVariants.{Message, Object as An_object_of}
 use Rattle.aom_shape.specs.Things.{same_thing, stands_for}
+use Rattle.aom_shape.proofs.Deciding.{thing_is}
 
 pub same_thing-true : (x y : Thing) → same_thing x y ≡ true → x ≡ y
-same_thing-true (An_object_of c) (An_object_of d) e = ap (λ n. An_object_of n) (eqb-true c d e)
-same_thing-true Message Message e = refl
-same_thing-true _ _ e = cc
+same_thing-true x y e = thing_is x y e
 
 pub stands_same : (p : Image) (x y : Thing) → stands_for p x y ≡ true → x ≡ y
 stands_same p x y e = same_thing-true x y e

@@ -14,6 +14,7 @@ use Rattle.aom_sound.specs.Laws.{IsWired}
 use Rattle.aom_sound.specs.Places.{Entry, Place, changed}
 use Rattle.aom_sound.specs.State.{A_mark, An_object, An_operation, Dispatch, Goes, IsStuck, Item, Main_left, NullOrDead, Of_main, Of_root, State, Unwind}
 use Rattle.aom_sound.specs.WellTyped.{AllUndo, EndsDispatch, Good, Keeps, Leaves, Stack, WellTyped}
+use Rattle.aom_sound.proofs.Items.{no_mark}
 
 -- one more entry to unwind
 claim_unwinding : (p : Image) (d : Place → Kind) (code : ℤ) (e : Pushed) (es : List Pushed) (ls : List Layer) (r : Place) → claim p d (Unwinding code (e ∷ es) ∷ ls) r ≡ changed (claim p d (Unwinding code es ∷ ls)) (Entry (length (items_of (Unwinding code es ∷ ls)))) (entry_kind e) r
@@ -46,10 +47,6 @@ module _ (p : Image) (t : Typing) (wired : IsWired p) (typed : IsTyped p t) (s :
       go e (An_object ∷ items) same whole w = subst (λ b. Keeps p t (cond b (Goes (dealt_with p (An_object ∷ items) (Unwind code ∷ tasks_of ls) s)) (IsStuck NullOrDead))) (sym whole) w
       go e (An_operation m x ∷ items) same whole w = w
       go e (A_mark ∷ items) same whole w = absurd (no_mark e cc)
-        where
-          no_mark : (e : Pushed) → Mark_form ≡ entry_form e → ⊥
-          no_mark (Pushed_object c a) h = cc
-          no_mark Pushed_operation h = cc
 
   -- none is left: under an unwinding stands its trap
   of_none : (ls : List Layer) → forms s.items ≡ items_of ls → AllUndo p s.items → Good p t s.cells (Unwinding code [] ∷ ls) → Keeps p t (unwound p code (tasks_of ls) s s.items)

@@ -1,4 +1,5 @@
 -- What a linked image gives the laws: main and the destructors are as they must be, what is called does or constructs, and what is owned is of a class before its owner's.
+use Rattle.std.proofs.lemmas.List.{nil_from_length}
 use Rattle.std.proofs.Common.{Bool, IfSome, IsSome, IsTrue, List, None, Option, Some, [], ap, arith, false, inl, inr, length, refl, slice_get, subst, suc, true, zero, ℕ, ◌<◌, ◌∙◌, ◌∷◌, ◌≡◌}
 use Rattle.aom_image.proofs.Given.{some_given}
 use Rattle.std.specs.Prelude.{is_none, ◌||◌, ◌⊎◌}
@@ -36,13 +37,9 @@ unfolding gives_nothing
 nothing_given Nothing e = refl
 nothing_given _ e = cc
 
-empty_list : {A : Type 0} (xs : List A) → length xs ≡ 0 → xs ≡ []
-empty_list [] e = refl
-empty_list (x ∷ xs) e = cc
-
 one_word : (xs : List Argument) → length xs ≡ 1 → IsTrue (list_all is_word xs) → xs ≡ Takes_word ∷ []
 unfolding is_word
-one_word (Takes_word ∷ xs) e w = ap (λ ys. Takes_word ∷ ys) (empty_list xs cc)
+one_word (Takes_word ∷ xs) e w = ap (λ ys. Takes_word ∷ ys) (nil_from_length xs cc)
 one_word _ e w = cc
 
 leaves_none : (g : Gives) → gives_left g ≡ false → LeavesNone g
@@ -85,7 +82,7 @@ module _ (p : Image) (formed : WellFormed p) (linked : IsLinked p) where
         rw d.1 refl,
         ap role_in d.1 ∙ ap (λ r. Some r) d.2,
         ap gives_in d.1 ∙ nothing_given d.0.gives s.gives,
-        ap arguments_in d.1 ∙ empty_list d.0.arguments s.takes.count,
+        ap arguments_in d.1 ∙ nil_from_length d.0.arguments s.takes.count,
       )
 
   -- a main has no class
@@ -112,7 +109,7 @@ module _ (p : Image) (formed : WellFormed p) (linked : IsLinked p) where
         ap leaves_in d.1 ∙ (shaped m d.0 d.1).flags.quiet s.flags,
         ap quiet_in d.1 ∙ s.flags,
         ap gives_in d.1 ∙ nothing_given d.0.gives s.gives,
-        ap arguments_in d.1 ∙ empty_list d.0.arguments s.takes.count,
+        ap arguments_in d.1 ∙ nil_from_length d.0.arguments s.takes.count,
       )
 
   operands_fit : (m place : ℕ) (i : Instr) → instr_at p m place ≡ Some i → (l : Limits) × InstrFits l i

@@ -1,4 +1,5 @@
 -- A closed image with a typing and a table that pays for it: the premises of the laws of steps can be met.
+use Rattle.std.proofs.lemmas.Option.{same_Some}
 use Rattle.std.specs.Prelude.{false}
 use Rattle.std.proofs.Common.{◌≡◌, ◌≤◌, ◌+◌, ◌-◌, ◌*◌, ◌∙◌, ℕ, zero, suc, List, [], ◌∷◌, Option, Some, None, IsSome, replicate, refl, sym, ap, arith, subst}
 use Rattle.aom_image.specs.Image.{Image}
@@ -69,9 +70,6 @@ table = record { from = λ m place. at 0 (at [] costs m) place; round = λ m q. 
 
 -- ---- at each place
 
-some_same : {A : Type 0} (x y : A) → Some x ≡ Some y → x ≡ y
-some_same x y e = cc
-
 -- the instructions of the image, one after another
 module _ (P : ℕ → ℕ → Shape → Instr → Type 0)
     (ends : P 0 0 (holding Unset) (Return 0))
@@ -85,7 +83,7 @@ module _ (P : ℕ → ℕ → Shape → Instr → Type 0)
   At_place m place sh = (i : Instr) × (instr_at image m place ≡ Some i) × P m place sh i
 
   so : (m place : ℕ) (sh sh' : Shape) → Some sh ≡ Some sh' → At_place m place sh → At_place m place sh'
-  so m place sh sh' e h = subst (λ x. At_place m place x) (some_same sh sh' e) h
+  so m place sh sh' e h = subst (λ x. At_place m place x) (same_Some sh sh' e) h
 
   there : (m place : ℕ) (sh : Shape) → shape_at typing m place ≡ Some sh → At_place m place sh
   unfolding method_at instr_in
@@ -99,7 +97,7 @@ module _ (P : ℕ → ℕ → Shape → Instr → Type 0)
   there _ _ sh e = cc
 
   at_each : (m place : ℕ) (sh : Shape) (i : Instr) → Stands image typing m place sh i → P m place sh i
-  at_each m place sh i it = let x = there m place sh it.shape in subst (λ y. P m place sh y) (some_same x.0 i (sym x.1 ∙ it.instr)) x.2
+  at_each m place sh i it = let x = there m place sh it.shape in subst (λ y. P m place sh y) (same_Some x.0 i (sym x.1 ∙ it.instr)) x.2
 
 -- ---- the table pays
 
@@ -143,7 +141,7 @@ destructors_pay (Object class) m e = of_method m (role_found image class m Destr
     of_method : (m : ℕ) → (d : Method) × (method_at image m ≡ Some d) × (d.class ≡ Some class) × (d.role ≡ Destruct) → 1 + price table m ≤ 2
     of_method zero w = omega arith
     of_method (suc zero) w =
-        let role : Main ≡ w.0.role = ap (λ (d : Method). d.role) (some_same _ w.0 w.1) in
+        let role : Main ≡ w.0.role = ap (λ (d : Method). d.role) (same_Some _ w.0 w.1) in
         let clash : Main ≡ Destruct = role ∙ w.3 in
         absurd (cc)
     of_method (suc (suc m)) w = let e : None ≡ Some w.0 = w.1 in cc

@@ -1,4 +1,5 @@
 -- Every move pays for the steps that it is, and so each dispatch keeps within what is declared.
+use Rattle.std.proofs.lemmas.Option.{same_Some}
 use Rattle.std.proofs.Common.{◌≡◌, ◌<◌, ◌≤◌, ◌+◌, ◌∙◌, ℕ, ℤ, Bool, true, false, cond, List, [], ◌∷◌, length, Option, Some, None, refl, sym, ap, arith, subst}
 use Rattle.aom_image.specs.Image.{Image}
 use Rattle.aom_image.specs.Views.{instr_at, method_at}
@@ -44,6 +45,7 @@ use Rattle.aom_steps.specs.Left.{WithinBudget, end_left, left, left_worths, obje
 use Rattle.aom_steps.proofs.Covering.{covers}
 use Rattle.aom_steps.proofs.Paying.{begun_left, fresh_rounds, pays}
 use Rattle.aom_steps.proofs.Pushed.{leaves_entry, moved_less, without_less}
+use Rattle.aom_sound.proofs.Layers.{method_layer}
 
 -- ---- every move
 
@@ -64,22 +66,17 @@ module _ (p : Image) (t : Typing) (c : Prices) (linked : IsLinked p) (typed : Is
       let ts = tasks_of ls in
       let m = of_method p fr.method fr.place i there in
       let x = typed.each fr.method fr.place sh good.stack.0 in
-      let rule = subst (λ j. AllTrue (rule_needs p fr.method fr.place sh j)) (same_instr x.instr i (sym x.stands ∙ there)) x.needs in
+      let rule = subst (λ j. AllTrue (rule_needs p fr.method fr.place sh j)) (same_Some x.instr i (sym x.stands ∙ there)) x.needs in
       let it : Stands p t fr.method fr.place sh i = record { shape = good.stack.0; instr = there } in
       let at_hand : At p t (counted p s) fr sh ls = record { tasks = tasks; items = items; undos = w.undos; good = good } in
       let a = acted p ch (counted p s) u fr ts i (subst (λ o. step_instr p ch fr ts (counted p s) o ≡ Goes u) there goes) in
       let covered = covers p t c priced ch (counted p s) fr sh ls at_hand i it rule in
       subst (λ x. 1 + left p c x ≤ all_left (Run fr ∷ ts)) (sym a.2) (pays p t c linked priced ch (counted p s) fr sh ls at_hand m.0 m.1 i m.2 it (effect p ch fr ts (counted p s) i) a.1 covered)
-    where
-      same_instr : (x y : Instr) → Some x ≡ Some y → x ≡ y
-      same_instr x y e = cc
 
   acts : (ls : List Layer) → s.tasks ≡ tasks_of ls → forms s.items ≡ items_of ls → Good p t s.cells ls → (fr : Frame) (ts : List Task) → tasks_of ls ≡ Run fr ∷ ts → ActsPay fr ts
-  acts (Method fr' sh ∷ ls) tasks items good fr ts at =
-      let same : fr' ≡ fr = cc in
-      let below : tasks_of ls ≡ ts = cc in
-      subst (λ f. ActsPay f ts) same (subst (λ l. ActsPay fr' l) below (acts_there fr' sh ls tasks items good))
-  acts _ tasks items good fr ts at = cc
+  acts ls tasks items good fr ts at =
+      method_layer (λ ls. (s.tasks ≡ tasks_of ls) × (forms s.items ≡ items_of ls) × Good p t s.cells ls) fr ts ls at (tasks, items, good)
+      (λ sh ls below h. subst (λ l. ActsPay fr l) below (acts_there fr sh ls h.0 h.1 h.2))
 
   -- ---- the others
 

@@ -6,6 +6,7 @@ use Rattle.std.proofs.lemmas.List.{take_rest}
 use Rattle.std.proofs.lemmas.List.Splits.{slice_split_first}
 use Rattle.aom_text.specs.Words.{is_blank, is_plain, has_bytes, words}
 use Rattle.aom_text.specs.Text.{true_lines, lines_of, worded, put_words, has_words, in_line, other_byte, comment_statements}
+use Rattle.std.proofs.lemmas.Bool.{or_parts}
 
 -- where a place is chosen, it is the one that the test was for
 chosen : (t : Bool) (n i : ℕ) → cond t (Some n) None ≡ Some i → (t ≡ true) × (n ≡ i)
@@ -184,8 +185,7 @@ no_other (b ∷ bs) h =
     ] h
 
 second : (p q : Bool) → (p || q) ≡ false → q ≡ false
-second true q h = absurd cc
-second false q h = h
+second p q h = (or_parts p q h).1
 
 one_word : (b : ℕ) → is_blank b ≡ false → words (b ∷ []) ≡ (b ∷ []) ∷ []
 one_word b e = ap (λ t. filter has_bytes (cond t ([] ∷ slice_split is_blank []) (onto_first b (slice_split is_blank [])))) e

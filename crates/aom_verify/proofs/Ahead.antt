@@ -16,6 +16,7 @@ use Rattle.aom_verify.specs.declared.change.Change.TheVariants.{Nothing, Fell, R
 use Rattle.aom_verify.specs.declared.change.Step.{Step}
 use Rattle.aom_verify.proofs.Joining.{all_met_below}
 use Rattle.aom_verify.proofs.Keeping.{set_shapes}
+use Rattle.std.proofs.lemmas.Bool.{or_parts}
 
 -- ---- one place changes
 
@@ -37,19 +38,13 @@ pub nothing_ahead : (seen : ℕ) (s : Shapes) → IsAhead seen s s (record { cha
 nothing_ahead seen s = record { same = λ behind pc le. refl; nothing = λ none. refl }
 
 or_first : (x y : Bool) → (x || y) ≡ false → x ≡ false
-or_first true y e = cc
-or_first false y e = refl
+or_first x y e = (or_parts x y e).0
 
 or_last : (x y : Bool) → (x || y) ≡ false → y ≡ false
-or_last true y e = cc
-or_last false y e = e
+or_last x y e = (or_parts x y e).1
 
 or_none : (x y : Bool) → x ≡ false → y ≡ false → (x || y) ≡ false
 or_none x y e f = rw (e, f) refl
-
-pub not_true : (x : Bool) → not x ≡ true → x ≡ false
-not_true true e = cc
-not_true false e = refl
 
 pub then_first : (x y : Step) → (step_then x y).is_behind ≡ false → x.is_behind ≡ false
 then_first x y e = or_first x.is_behind y.is_behind e

@@ -11,6 +11,7 @@ use Rattle.aom_shape.specs.Typing.{Typing, IsTyped, Passes, AllLead, shape_at}
 use Rattle.aom_shape.proofs.Lists.{at_past}
 use Rattle.aom_verify.specs.Shapes.{Shapes, AllMet, Applies, IsMethodTyped, HasTyping}
 use Rattle.aom_verify.specs.Strongest.{IsMethodStrongest, IsStrongest}
+use Rattle.aom_shape.proofs.Callees.{there}
 
 leads_all : (t : Typing) (m : ℕ) (ways : List Flow) → AllMet (at [] t m) ways → AllLead t m ways
 leads_all t m [] h = tt
@@ -26,12 +27,7 @@ method_within p m h = within p.methods p.methods m m refl refl h
 
 pub within_method : (p : Image) (m : ℕ) → m < length p.methods → IsSome (method_at p m)
 unfolding method_at
-within_method p m h = go p.methods m h
-  where
-    go : {X : Type 0} (xs : List X) (k : ℕ) → k < length xs → IsSome (slice_get xs k)
-    go [] k h = absurd (omega arith)
-    go (x ∷ xs) zero h = refl
-    go (x ∷ xs) (suc k) h = go xs k (omega arith)
+within_method p m h = there p.methods m h
 
 passes : (p : Image) (t : Typing) (m pc : ℕ) (sh : Shape) → Applies p m (at [] t m) pc sh → Passes p t m pc sh
 passes p t m pc sh h = record { instr = h.instr; stands = h.stands; needs = h.needs; flows = leads_all t m _ h.flows }

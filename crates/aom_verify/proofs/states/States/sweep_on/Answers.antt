@@ -1,7 +1,7 @@
 -- A sweep that lowers states alone is followed by another.
+use Rattle.std.proofs.lemmas.Bool.{not-true}
 use Rattle.std.proofs.Common.{refl, ◌∙◌, arith}
 use Rattle.std.proofs.lemmas.Result.{err_from_is_err_and}
-use Rattle.aom_verify.proofs.Ahead.{not_true}
 use Rattle.aom_verify.proofs.Stopping.{stops_before}
 use Rattle.aom_verify.proofs.Sweeping.{keeps_self, keeps_along}
 use Rattle.aom_verify.proofs.states.States.sweep_on.Goals as goal
@@ -25,7 +25,7 @@ returns-then-not-step-clause-ok c =
     let swept = c.in_ok-step.ensures.ok in
     record {
       keeps = keeps_along _ _ _ _ _ c.loop-step.invariant.keeps swept.keeps;
-      swept = λ pc below. swept.applies (not_true _ c.if-not-step.true) pc (omega (arith, below, swept.keeps.size));
+      swept = λ pc below. swept.applies (not-true _ c.if-not-step.true) pc (omega (arith, below, swept.keeps.size));
     }
 
 pub returns-in_err-step-clause-err : goal.returns-in_err-step-clause-err
