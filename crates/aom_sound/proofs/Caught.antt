@@ -1,11 +1,11 @@
 -- The beginning of a leave, the entry that it deals with, and its arrival, by the layers of a well-typed state.
-use Rattle.std.proofs.Common.{Bool, List, None, Option, Some, [], ap, arith, cond, false, length, negsuc, pos, refl, subst, suc, sym, true, ℕ, ℤ, ◌∙◌, ◌∷◌, ◌≡◌, ◌≢◌}
+use Rattle.std.proofs.Common.{Bool, List, None, Option, Some, [], ap, arith, cond, false, length, pos, refl, subst, suc, sym, true, ℕ, ℤ, ◌∙◌, ◌∷◌, ◌≡◌, ◌≢◌}
 use Rattle.std.proofs.lemmas.Bool.{eq-eqb, ne_eqb}
-use Rattle.std.specs.Prelude.{int_lt, is_some, ◌++◌}
+use Rattle.std.specs.Prelude.{is_some, ◌++◌}
 use Rattle.aom_image.specs.Image.{Image}
 use Rattle.aom_image.specs.Views.{gives_of, instr_at}
 use Rattle.aom_image.specs.declared.instr.Instr.{Instr}
-use Rattle.aom_image.specs.declared.instr.Instr.TheVariants.{Leave, LeaveIf, NewOrLeave, Push, PushOperation, Trap}
+use Rattle.aom_image.specs.declared.instr.Instr.TheVariants.{Push, PushOperation, Trap}
 use Rattle.aom_image.specs.declared.instr.Target.{Target}
 use Rattle.aom_image.specs.declared.method.Gives.{Gives}
 use Rattle.aom_image.specs.declared.method.Gives.TheVariants.{Left, Maybe as A_maybe, Nothing, Own as An_own, Word as A_word}
@@ -17,22 +17,24 @@ use Rattle.aom_shape.specs.declared.kind.Entry.TheVariants.{Object as Pushed_obj
 use Rattle.aom_shape.specs.declared.kind.Kind.TheVariants.{Null}
 use Rattle.aom_sound.proofs.Claimed.{claim_entry_above, claim_going_above}
 use Rattle.aom_sound.proofs.Clearing.{begins_over}
+use Rattle.aom_sound.proofs.Fitting.{fits, leaves_so, off_of}
 use Rattle.aom_sound.proofs.Items.{length_forms}
 use Rattle.aom_sound.proofs.Guarded.{goes_same, guarded_goes, guarded_met}
 use Rattle.aom_sound.proofs.Maps.{at-put_at, held_moved, same_place-true, same_place_refl}
 use Rattle.aom_sound.proofs.Straight.{claim_register, fits_unowning}
 use Rattle.aom_sound.specs.Calls.{called, result_register}
 use Rattle.aom_sound.specs.Claims.{Dispatching, Dying, Form, Layer, Mark, Mark_form, Method, Unwinding, declared, entry_form, forms, items_of, objects, tasks_of}
-use Rattle.aom_sound.specs.Cleanup.{arrival, arrived, code_told, destroyed, has_trap, is_negative, leave_needs, no_memory, operation_frame, to_trap, unwound}
+use Rattle.aom_sound.specs.Cleanup.{arrival, arrived, code_told, destroyed, has_trap, operation_frame, to_trap, unwound}
 use Rattle.aom_classes.specs.Roles.{destructor_of}
 use Rattle.aom_sound.specs.Destruction.{begun_by}
 use Rattle.aom_sound.specs.Laws.{IsWired}
 use Rattle.aom_sound.specs.Leaves.{AreEntries, AreMethods, Arrives, ArrivesAt, Begins, HasMoved, HasNoResult, HasPushed, Hears, IsBegun, IsDestroyed, IsLeaving, IsOver, LeavesWith}
+use Rattle.aom_sound.specs.Steps.{Fits as MayHave}
 use Rattle.aom_sound.specs.Moves.{announcement, counted, does, main_left, needs, step, step_instr, step_task, written_task}
 use Rattle.aom_sound.specs.Places.{Cell, Entry, Going, Object, Register, held, moved, named, same_place, Place}
 use Rattle.aom_sound.specs.State.{A_mark, An_object, An_operation, Choice, Dispatch, Dispatched, Frame, Goes, Inside, IsStuck, Item, Main_left, NullOrDead, Of_main, Of_root, Run, State, Task, Trapped, Unwind, frame_of, next, set_word, word}
 use Rattle.aom_sound.specs.WellTyped.{AllUndo, Awaits, EndsDispatch, Fits, Good, Keeps, Leaves, Now, Stack, WellTyped}
-use Rattle.aom_sound.specs.Effects.{Effect, Leaves, Pushed as Object_pushed, Pushed_operation as Operation_pushed, Same, Update, applied, unless_refused, updates}
+use Rattle.aom_sound.specs.Effects.{Leaves, Update, applied}
 use Rattle.aom_sound.specs.Words.{word_or_zero}
 use Rattle.aom_shape.specs.Needs.{AllTrue}
 use Rattle.aom_sound.specs.declared.line.Ending.TheVariants.{MainLeft}
@@ -144,33 +146,23 @@ module _ (p : Image) (t : Typing) (c : Choice) (fr : Frame) (ts : List Task) (s 
         pushed = subst (λ x. HasPushed fr (length ts) i s x) e on;
       }
 
-  taken : (b : Bool) (off on : Effect) → b ≡ true → applied p fr ts (counted p s) (cond b off on) ≡ u → applied p fr ts (counted p s) off ≡ u
-  taken true off on b e = e
-  taken false off on b e = cc
-
-  trap_so : (b : Bool) (cs : List Cell) → b ≡ true → AllTrue (cond b (leave_needs cs (Run fr ∷ ts)) []) → has_trap ts ≡ true
-  trap_so true cs b n = n.0
-  trap_so false cs b n = cc
-
-  refused : (i : Instr) (code : ℤ) (off : Update) (on : Effect) → has_trap ts ≡ true → (c.refused ≡ true) × (code ≡ negsuc 3) → applied p fr ts (counted p s) (unless_refused c.refused off on) ≡ u →
-      HasPushed fr (length ts) i s (applied p fr ts (counted p s) (Leaves no_memory off)) → Begins p code fr (length ts) i s u
-  refused i code off on trap h e so = subst (λ k. Begins p k fr (length ts) i s u) (sym h.1) (begins_at i (negsuc 3) off trap (taken c.refused (Leaves no_memory off) on h.0 e) so)
-
-  pub begins_by : (i : Instr) (code : ℤ) → LeavesWith c fr i code → AllTrue (needs p c fr ts (counted p s) i) → does p c fr ts (counted p s) i ≡ u → Begins p code fr (length ts) i s u
-  begins_by (Leave a) code h n e = begins_at (Leave a) code Same n.1.0 (subst (λ x. applied p fr ts (counted p s) (Leaves (word_or_zero x) Same) ≡ u) h e) (refl, refl)
-  begins_by (LeaveIf a) code h n e =
-      let e' = subst (λ x. applied p fr ts (counted p s) (cond (is_negative p c fr ts (counted p s) (word_or_zero x)) (Leaves (word_or_zero x) Same) (updates fr Same)) ≡ u) h.0 e in
-      let n' = subst (λ x. AllTrue (cond (is_negative p c fr ts (counted p s) (word_or_zero x)) (leave_needs s.cells (Run fr ∷ ts)) [])) h.0 n.1 in
-      begins_at (LeaveIf a) code Same (trap_so (int_lt code (pos 0)) s.cells h.1 n') (taken (int_lt code (pos 0)) (Leaves code Same) _ h.1 e') (refl, refl)
-  begins_by (NewOrLeave a x) code h n e = refused (NewOrLeave a x) code Same _ (trap_so c.refused s.cells h.0 n.1) h e (refl, refl)
-  begins_by (Push a) code h n e =
+  -- what was to be pushed is pushed
+  pushes : (i : Instr) (code : ℤ) → AllTrue (needs p c fr ts (counted p s) i) → HasPushed fr (length ts) i s (applied p fr ts (counted p s) (Leaves code (off_of p c fr ts (counted p s) i)))
+  pushes (Push a) code n =
       let o = is_there (held s.cells (Register (length ts) a)) n.1.0 in
       let goes = has_moved s.cells (Register (length ts) a) (Entry (length s.items)) o.0 o.1 (none_pushed_yet p t s w) refl in
-      refused (Push a) code (Object_pushed a) _ n.1.1.1.0 h e (o.0, goes, refl)
-  begins_by (PushOperation a m) code h n e =
+      (o.0, goes, refl)
+  pushes (PushOperation a m) code n =
       let x = is_there (word fr a) n.0 in
-      refused (PushOperation a m) code (Operation_pushed m (word_or_zero (word fr a))) _ n.1.0 h e (x.0, x.1, ap (λ y. An_operation m (word_or_zero y) ∷ s.items) x.1, refl)
-  begins_by _ code h n e = absurd h
+      (x.0, x.1, ap (λ y. An_operation m (word_or_zero y) ∷ s.items) x.1, refl)
+  pushes _ code n = (refl, refl)
+
+  pub begins_by : (i : Instr) (code : ℤ) → LeavesWith c fr i code → AllTrue (needs p c fr ts (counted p s) i) → does p c fr ts (counted p s) i ≡ u → Begins p code fr (length ts) i s u
+  begins_by i code h n e =
+      let v = counted p s in
+      let so = leaves_so p c fr ts v i code h in
+      let may = subst (λ x. MayHave p c fr ts v i x) so (fits p c fr ts v i n).0 in
+      begins_at i code (off_of p c fr ts v i) may.0 (subst (λ x. applied p fr ts v x ≡ u) so e) (pushes i code n)
 
 pub begins :
     (p : Image) (t : Typing) → IsWired p → IsTyped p t → (c : Choice) (s u : State) → WellTyped p t s → named s.cells c.name ≡ None →
