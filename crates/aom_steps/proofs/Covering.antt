@@ -4,7 +4,7 @@ use Rattle.std.specs.Ordering.{int_eq}
 use Rattle.std.specs.Prelude.{int_lt, is_some}
 use Rattle.aom_image.specs.Image.{Image}
 use Rattle.aom_image.specs.declared.instr.Instr.{Instr}
-use Rattle.aom_image.specs.declared.instr.Instr.TheVariants.{Delete, JumpEmpty, JumpEqual, JumpLess, JumpNull, Leave, Loop, New, Next, PopDelete, Return}
+use Rattle.aom_image.specs.declared.instr.Instr.TheVariants.{JumpEmpty, JumpEqual, JumpLess, JumpNull, Leave, Loop, New, Next, Return}
 use Rattle.aom_image.specs.declared.method.Thing.{Thing}
 use Rattle.aom_classes.specs.Loops.{loop_in, next_in}
 use Rattle.aom_shape.specs.Kinds.{field, filled, is_object_or_null, register}
@@ -128,8 +128,6 @@ module _ (p : Image) (t : Typing) (c : Prices) (priced : IsPriced p t c) (ch : C
       made : (b : Bool) → Affords c fr sh 1 (suc fr.place) → Affords c fr sh (1 + pushes c fr sh (makes_unless b ch.name x a)) (suc fr.place)
       made true pays = pays
       made false pays = pays
-  covers (Delete a) it rule = deleting c fr sh (held s.cells (here fr ts s a)) a (paid (Delete a) it refl refl).0
-  covers PopDelete it rule = dealing c fr sh s.items _ (paid PopDelete it refl refl).0
   covers (Leave a) it rule = some (Leave a) it
   covers (Return a) it rule = some (Return a) it
-  covers i it rule = first_of (assumption (paid i it refl refl), search (either c fr sh, some i it, paid i it refl refl), grind (arith, rule))
+  covers i it rule = first_of (assumption (paid i it refl refl), search (either c fr sh, deleting c fr sh, dealing c fr sh, some i it, paid i it refl refl), grind (arith, rule))
