@@ -239,7 +239,7 @@ module _ (names : ℕ → ℕ) (one_to_one : IsOneToOne names) (p : Image) (c : 
   effect_renamed (Load a w) = ap (writes fr a) (loaded_kept names one_to_one s.cells fr.home w)
   effect_renamed (New a x) = ap (sets fr a None) (made_renamed c.refused a x)
   effect_renamed (Delete a) = ap (λ o. deletes fr' o a) (register_renamed names one_to_one s.cells ts a) ∙ deletes_renamed (held s.cells (Register (length ts) a)) a
-  effect_renamed _ = first_of (cc, search (either_renamed, dealt_alike))
+  effect_renamed _ = first_of (cc, search (either_renamed), search (dealt_alike))
 
   -- ---- what an instruction needs
 

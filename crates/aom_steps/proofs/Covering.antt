@@ -130,4 +130,4 @@ module _ (p : Image) (t : Typing) (c : Prices) (priced : IsPriced p t c) (ch : C
       made false pays = pays
   covers (Leave a) it rule = some (Leave a) it
   covers (Return a) it rule = some (Return a) it
-  covers i it rule = first_of (assumption (paid i it refl refl), search (either c fr sh, deleting c fr sh, dealing c fr sh, some i it, paid i it refl refl), grind (arith, rule))
+  covers i it rule = first_of (assumption (paid i it refl refl), search (either c fr sh, some i it, paid i it refl refl), search (deleting c fr sh, paid i it refl refl), search (dealing c fr sh, paid i it refl refl), grind (arith, rule))
