@@ -1,7 +1,5 @@
 -- One place more of a pass: tables that agree with what is found there too are swept there too.
 use Rattle.std.proofs.Common.{◌≡◌, ◌≢◌, ℕ, suc, ◌<◌, ◌≤◌, ◌+◌, List, [], ◌∷◌, ◌++◌, map, Option, Some, None, IsSome, inl, inr, refl, sym, ap, ◌∙◌, subst, arith}
-use Rattle.aom_image.proofs.Given.{some_given}
-use Rattle.std.proofs.lemmas.Bool.{false≢true}
 use Rattle.std.proofs.lemmas.Bool.Decides.{eqb_tells}
 use Rattle.aom_image.specs.Image.{Image}
 use Rattle.aom_image.specs.declared.instr.Instr.{Instr}
@@ -147,10 +145,14 @@ module _ (p : Image) (prices : List ℕ) (m : ℕ) (s : Shapes) (looped : IsLoop
   round_found t c a agrees to d n b some =
       let inner = innermost_of_body p looped m x to d n b in
       let there : IsSome (at None s (suc x)) = subst (λ y. IsSome (at None y (suc x))) agrees.states some in
-      let covered : at 0 old.after x ≤ at 0 old.from (suc x) = some_given (λ o. IsSome o) (at None s (suc x)) there (λ some. cc) (λ sh e some. h.covers (suc x) sh (Round x to) (omega arith) e inner) in
+      let covered : at 0 old.after x ≤ at 0 old.from (suc x) = covers_some (at None s (suc x)) refl there inner in
       let follows : a m x ≡ at 0 old.after x = agrees.afters x to d n (omega (arith, b.later)) b ∙ extends.afters x to d n b.later b in
       let first : c.from m (suc x) ≡ at 0 old.from (suc x) = agrees.froms (suc x) (omega arith) ∙ extends.froms (suc x) (omega arith) in
       omega (arith, covered, agrees.rounds x, follows, first)
+    where
+      covers_some : (o : Option Shape) → at None s (suc x) ≡ o → IsSome o → IsInnermost p m (suc x) (Round x to) → at 0 old.after x ≤ at 0 old.from (suc x)
+      covers_some None e some inner = absurd cc
+      covers_some (Some sh) e some inner = h.covers (suc x) sh (Round x to) (omega arith) e inner
 
   pub passed_more :
       ((t : Typing) (c : Prices) (a : Afters) → Agrees p prices m s x new t c a → IsSweptAt kept p t c a m x) →

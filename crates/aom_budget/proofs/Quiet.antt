@@ -14,7 +14,7 @@ use Rattle.aom_image.specs.declared.method.Method.{Method}
 use Rattle.aom_roles.specs.Shapes.{IsShaped, gives_left}
 use Rattle.aom_classes.specs.Linked.{IsLinked}
 use Rattle.aom_classes.proofs.Facts.{all_there}
-use Rattle.aom_shape.specs.Calls.{brought, lasting, while_called, arguments_moved, rule_target, rule_arguments, is_construct}
+use Rattle.aom_shape.specs.Calls.{brought, lasting, rule_target, rule_arguments, is_construct}
 use Rattle.aom_shape.specs.Cleanup.{without_top}
 use Rattle.aom_shape.specs.Kinds.{register, field}
 use Rattle.aom_shape.specs.Laws.{HaveAtMost}
@@ -22,7 +22,7 @@ use Rattle.aom_shape.specs.Needs.{AllTrue, Need, Flow}
 use Rattle.aom_shape.specs.Objects.{flow_jump_null, flow_jump_empty}
 use Rattle.aom_shape.specs.Rules.{rule_needs, flows, ways_of}
 use Rattle.aom_shape.specs.Shape.{Shape}
-use Rattle.aom_shape.specs.Ways.{As_before, Branches, Branches_on_empty, Branches_on_null, Called, Caught, Dropped, Ends, Filled, Goes_back, Goes_on, Goes_to, Holding, Moved, News, Popped, Pushed, Pushed_operation, Taken, Ways, after, flowing}
+use Rattle.aom_shape.specs.Ways.{Branches, Branches_on_empty, Branches_on_null, Called, Caught, Dropped, Ends, Goes_back, Goes_on, Goes_to, News, Popped, Pushed, Pushed_operation, Ways, after, flowing}
 use Rattle.aom_shape.specs.Tables.{at}
 use Rattle.aom_shape.specs.Typing.{entry_shape}
 use Rattle.aom_shape.specs.declared.kind.Entry.{Entry}

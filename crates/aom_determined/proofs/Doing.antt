@@ -1,26 +1,25 @@
--- What an instruction does it does under other names too: its effect is the same under these names, and so is what each effect does.
+-- What an instruction needs and does it needs and does under other names too: its effect is the same under these names, and so is what each effect does.
 use Rattle.std.proofs.Common.{Bool, List, None, Option, Some, [], ap, cond, false, length, refl, suc, true, zero, ℕ, ℤ, ◌-◌, ◌∙◌, ◌∷◌, ◌≡◌}
-use Rattle.std.specs.Ordering.{int_eq}
-use Rattle.std.specs.Prelude.{int_lt, option_map}
+use Rattle.std.specs.Prelude.{option_map}
 use Rattle.aom_image.specs.Image.{Image}
 use Rattle.aom_image.specs.Views.{instr_at, method_class}
 use Rattle.aom_image.specs.declared.instr.Instr.{Instr}
-use Rattle.aom_image.specs.declared.instr.Instr.TheVariants.{Delete, JumpEmpty, JumpEqual, JumpLess, JumpNull, LeaveIf, Load, New, NewOrLeave, Next, PopDelete, Push, PushOperation}
+use Rattle.aom_image.specs.declared.instr.Instr.TheVariants.{Add, And, Call, Const, Copy, Delete, JumpEmpty, JumpNull, Load, Move, Mul, New, NewOrLeave, Next, Or, Pop, Push, PushOperation, Put, Return, Store, Sub, Take, Trap, Xor}
 use Rattle.aom_image.specs.declared.instr.Target.{Target}
 use Rattle.aom_image.specs.declared.instr.Target.TheVariants.{Entry as On_entry, Field as On_field, Register as On_register, This}
 use Rattle.aom_image.specs.declared.method.Gives.{Gives}
 use Rattle.aom_image.specs.declared.method.Gives.TheVariants.{Left, Maybe as A_maybe, Nothing, Own as An_own, Word as A_word}
 use Rattle.aom_sound.specs.Calls.{below_top, entry_place, home_at, own_home, received, result_cells, result_register, returned, target_home}
-use Rattle.aom_sound.specs.Cleanup.{code_told, dealt_with, destroyed, is_negative, no_memory, to_trap, top_place}
+use Rattle.aom_sound.specs.Cleanup.{code_told, dealt_with, destroyed, to_trap, top_place}
 use Rattle.aom_classes.specs.Roles.{destructor_of}
 use Rattle.aom_sound.specs.Destruction.{begun, begun_by}
-use Rattle.aom_sound.specs.Effects.{Calls, Carried, Destroys, Destroys_last, Effect, Goes_on, In_field, In_register, Jumps, Leaves, Made, Popped, Popped_operation, Pushed, Pushed_operation, Returns, Same, Sets_trap, Spot, Update, Written, applied, cells_after, deals, deletes, effect, items_after, jumps_unless, makes_unless, round, sets, spot_place, updates, with_words, writes}
-use Rattle.aom_sound.specs.Moves.{does}
+use Rattle.aom_sound.specs.Effects.{Calls, Carried, Destroys, Destroys_last, Effect, Goes_on, In_field, In_register, Leaves, Made, Popped, Popped_operation, Pushed, Pushed_operation, Returns, Same, Sets_trap, Spot, Update, Written, applied, cells_after, deals, deletes, effect, items_after, jumps_unless, makes_unless, round, sets, spot_place, with_words, writes}
+use Rattle.aom_sound.specs.Moves.{does, needs}
 use Rattle.aom_sound.specs.Places.{Cell, Entry, Going, Object, Place, Register, held, moved}
 use Rattle.aom_sound.specs.State.{A_mark, An_object, An_operation, AtRoot, Choice, Destroy, Dispatched, Frame, Home, Inside, Item, Run, State, Static, Task, Trapped, Unwind, counter, field_place}
-use Rattle.aom_sound.specs.Words.{loaded, read, stored}
+use Rattle.aom_sound.specs.Words.{loaded, stored}
 use Rattle.aom_determined.proofs.Cells.{held_renamed, moved_renamed, set_word_field_renamed, tasks_counted, word_field_kept}
-use Rattle.aom_determined.proofs.Needs.{field_renamed, given_renamed, held_field, pushed_renamed, register_renamed}
+use Rattle.aom_determined.proofs.Needs.{call_kept, field_renamed, free_at, given_renamed, held_field, holder_kept, leave_kept, message_at, push_kept, pushed_renamed, put_kept, refusal_kept, register_renamed, return_kept, trap_kept, under_trap_kept, whole_kept}
 use Rattle.aom_determined.specs.Names.{IsOneToOne, renamed, renamed_cells, renamed_choice, renamed_frame, renamed_home, renamed_object, renamed_place, renamed_tasks}
 
 -- ---- an effect under other names: a new cell and one that goes have names
@@ -229,23 +228,46 @@ module _ (names : ℕ → ℕ) (one_to_one : IsOneToOne names) (p : Image) (c : 
   either_renamed true x y x' y' e f = e
   either_renamed false x y x' y' e f = f
 
+  -- the last item is dealt with
+  dealt_alike : deals fr' s.items (held s'.cells (top_place s.items)) ≡ renamed_effect names (deals fr s.items (held s.cells (top_place s.items)))
+  dealt_alike = ap (deals fr' s.items) (held_renamed names one_to_one s.cells (top_place s.items)) ∙ deals_renamed s.items (held s.cells (top_place s.items))
+
   effect_renamed : (i : Instr) → effect p c' fr' ts' s' i ≡ renamed_effect names (effect p c fr ts s i)
-  effect_renamed (JumpEqual a b to) = either_renamed (int_eq (read fr ts s a) (read fr ts s b)) (Jumps to) (updates fr Same) (Jumps to) (updates fr' Same) refl refl
-  effect_renamed (JumpLess a b to) = either_renamed (int_lt (read fr ts s a) (read fr ts s b)) (Jumps to) (updates fr Same) (Jumps to) (updates fr' Same) refl refl
   effect_renamed (JumpNull a to) = ap (λ o. jumps_unless fr' o to) (register_renamed names one_to_one s.cells ts a) ∙ jumps_renamed (held s.cells (Register (length ts) a)) to
   effect_renamed (JumpEmpty f to) = ap (λ o. jumps_unless fr' o to) (held_field names one_to_one s.cells fr.home f) ∙ jumps_renamed (held s.cells (field_place fr.home f)) to
   effect_renamed (Next depth to) = round_renamed (counter fr depth - 1) depth to
   effect_renamed (Load a w) = ap (writes fr a) (loaded_kept names one_to_one s.cells fr.home w)
   effect_renamed (New a x) = ap (sets fr a None) (made_renamed c.refused a x)
   effect_renamed (Delete a) = ap (λ o. deletes fr' o a) (register_renamed names one_to_one s.cells ts a) ∙ deletes_renamed (held s.cells (Register (length ts) a)) a
-  effect_renamed (NewOrLeave a x) = either_renamed c.refused (Leaves no_memory Same) (sets fr a None (Made c.name x a)) _ _ refl refl
-  effect_renamed (Push a) = either_renamed c.refused (Leaves no_memory (Pushed a)) (sets fr a None (Pushed a)) _ _ refl refl
-  effect_renamed (PushOperation a m) =
-      let off = Pushed_operation m (read fr ts s a) in
-      either_renamed c.refused (Leaves no_memory off) (updates fr off) _ _ refl refl
-  effect_renamed PopDelete = ap (deals fr' s.items) (held_renamed names one_to_one s.cells (top_place s.items)) ∙ deals_renamed s.items (held s.cells (top_place s.items))
-  effect_renamed (LeaveIf a) = either_renamed (is_negative p c fr ts s (read fr ts s a)) (Leaves (read fr ts s a) Same) (updates fr Same) _ _ refl refl
-  effect_renamed _ = refl
+  effect_renamed _ = first_of (cc, search (either_renamed), search (dealt_alike))
+
+  -- ---- what an instruction needs
+
+  pub needs_kept : (i : Instr) → needs p c' fr' ts' s' i ≡ needs p c fr ts s i
+  needs_kept (Const a w) = rw (free_at names one_to_one s.cells ts a)
+  needs_kept (Copy a b) = rw (free_at names one_to_one s.cells ts a)
+  needs_kept (Add a b x) = rw (free_at names one_to_one s.cells ts a)
+  needs_kept (Sub a b x) = rw (free_at names one_to_one s.cells ts a)
+  needs_kept (Mul a b x) = rw (free_at names one_to_one s.cells ts a)
+  needs_kept (And a b x) = rw (free_at names one_to_one s.cells ts a)
+  needs_kept (Or a b x) = rw (free_at names one_to_one s.cells ts a)
+  needs_kept (Xor a b x) = rw (free_at names one_to_one s.cells ts a)
+  needs_kept (JumpEmpty f to) = rw (holder_kept names fr.home)
+  needs_kept (Load a w) = rw (holder_kept names fr.home, free_at names one_to_one s.cells ts a)
+  needs_kept (Store w b) = rw (holder_kept names fr.home)
+  needs_kept (Move a b) = rw (free_at names one_to_one s.cells ts a)
+  needs_kept (Take a f) = rw (holder_kept names fr.home, free_at names one_to_one s.cells ts a)
+  needs_kept (Put f b) = put_kept names one_to_one p c fr ts s f b
+  needs_kept (New a x) = rw (free_at names one_to_one s.cells ts a)
+  needs_kept (Delete a) = rw (message_at names one_to_one s.cells ts a)
+  needs_kept (Call target m first a) = call_kept names one_to_one p c fr ts s target m first a
+  needs_kept (Trap target m first a) = under_trap_kept names one_to_one p c fr ts s target m first a
+  needs_kept (NewOrLeave a x) = rw (free_at names one_to_one s.cells ts a, refusal_kept names one_to_one p c fr ts s s.cells)
+  needs_kept (Push a) = push_kept names one_to_one p c fr ts s a
+  needs_kept (PushOperation a m) = rw (refusal_kept names one_to_one p c fr ts s s.cells, trap_kept names ts)
+  needs_kept (Pop a) = rw (free_at names one_to_one s.cells ts a)
+  needs_kept (Return a) = return_kept names one_to_one p c fr ts s a
+  needs_kept _ = first_of (cc, rw (leave_kept names s.cells (Run fr ∷ ts)), rw (whole_kept names one_to_one s.cells s.items))
 
   pub does_renamed : (i : Instr) → does p c' fr' ts' s' i ≡ renamed names (does p c fr ts s i)
   does_renamed i = ap (applied p fr' ts' s') (effect_renamed i) ∙ applied_renamed (effect p c fr ts s i)

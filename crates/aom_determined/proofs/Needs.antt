@@ -1,10 +1,8 @@
--- What an instruction needs it needs under other names too: no need looks at a name but to compare it with another.
+-- What is asked is asked under other names too: no need looks at a name but to compare it with another.
 use Rattle.std.proofs.Common.{List, None, Option, Some, [], ap, cond, length, refl, suc, ℕ, ◌&&◌, ◌==◌, ◌∙◌, ◌∷◌, ◌≡◌}
 use Rattle.std.specs.Prelude.{is_none, is_some, option_map, ◌++◌}
 use Rattle.aom_image.specs.Image.{Image}
 use Rattle.aom_image.specs.Views.{arguments_of, gives_of, method_class}
-use Rattle.aom_image.specs.declared.instr.Instr.{Instr}
-use Rattle.aom_image.specs.declared.instr.Instr.TheVariants.{Add, And, Call, Const, Copy, Delete, JumpEmpty, Leave, LeaveIf, Load, Move, Mul, New, NewOrLeave, Or, Pop, PopDelete, Push, PushOperation, Put, Return, Store, Sub, Take, Trap, Xor}
 use Rattle.aom_image.specs.declared.instr.Target.{Target}
 use Rattle.aom_image.specs.declared.instr.Target.TheVariants.{Entry as On_entry, Field as On_field, Register as On_register, This}
 use Rattle.aom_image.specs.declared.method.Argument.{Argument}
@@ -16,7 +14,6 @@ use Rattle.aom_image.specs.declared.method.Thing.TheVariants.{Object as An_objec
 use Rattle.aom_shape.specs.Things.{field_thing}
 use Rattle.aom_sound.specs.Calls.{end_needs, entry_place, given_cells, is_level, is_worked_on, is_emptied, leaves_object, needs_argument, needs_call, needs_each, needs_entering, needs_result, needs_return, needs_target, needs_target_object, needs_trap, passed_cells, result_needs, result_source}
 use Rattle.aom_sound.specs.Cleanup.{above_trap_is_free, has_trap, if_refused, leave_needs, needs_push, pushed_cells, top_is_whole}
-use Rattle.aom_sound.specs.Moves.{needs}
 use Rattle.aom_sound.specs.Objects.{is_declared_thing, is_no_message, is_thing, needs_put}
 use Rattle.aom_sound.specs.Places.{Cell, Entry, Object, Register, held, moved}
 use Rattle.aom_sound.specs.State.{A_mark, An_object, An_operation, AtRoot, Choice, Destroy, Dispatched, Frame, Home, Inside, Item, Need, Orphan, Run, State, Static, Task, Trapped, Unwind, field_place, home_holder}
@@ -94,7 +91,7 @@ module _ (names : ℕ → ℕ) (one_to_one : IsOneToOne names) where
       held (renamed_cells names cs) (Register (length (renamed_tasks names ts)) a) ≡ option_map (renamed_object names) (held cs (Register (length ts) a))
   register_renamed cs ts a = ap (λ n. held (renamed_cells names cs) (Register n a)) (tasks_counted names ts) ∙ held_renamed names one_to_one cs (Register (length ts) a)
 
-  free_at : (cs : List Cell) (ts : List Task) (a : ℕ) → is_none (held (renamed_cells names cs) (Register (length (renamed_tasks names ts)) a)) ≡ is_none (held cs (Register (length ts) a))
+  pub free_at : (cs : List Cell) (ts : List Task) (a : ℕ) → is_none (held (renamed_cells names cs) (Register (length (renamed_tasks names ts)) a)) ≡ is_none (held cs (Register (length ts) a))
   free_at cs ts a = ap is_none (register_renamed cs ts a) ∙ none_kept names (held cs (Register (length ts) a))
 
   owns_at : (cs : List Cell) (ts : List Task) (a : ℕ) → is_some (held (renamed_cells names cs) (Register (length (renamed_tasks names ts)) a)) ≡ is_some (held cs (Register (length ts) a))
@@ -105,7 +102,7 @@ module _ (names : ℕ → ℕ) (one_to_one : IsOneToOne names) where
       is_thing p t (held (renamed_cells names cs) (Register (length (renamed_tasks names ts)) a)) ≡ is_thing p t (held cs (Register (length ts) a))
   thing_at p t cs ts a = ap (is_thing p t) (register_renamed cs ts a) ∙ thing_kept names p t (held cs (Register (length ts) a))
 
-  message_at :
+  pub message_at :
       (cs : List Cell) (ts : List Task) (a : ℕ) →
       is_no_message (held (renamed_cells names cs) (Register (length (renamed_tasks names ts)) a)) ≡ is_no_message (held cs (Register (length ts) a))
   message_at cs ts a = ap is_no_message (register_renamed cs ts a) ∙ message_kept names (held cs (Register (length ts) a))
@@ -188,13 +185,13 @@ module _ (names : ℕ → ℕ) (one_to_one : IsOneToOne names) (p : Image) (c : 
   entering_kept : (target : Target) (m first : ℕ) (more : List Need) → needs_entering p fr' ts' s' target m first more ≡ needs_entering p fr ts s target m first more
   entering_kept target m first more = rw (target_kept target (method_class p m) first (length (arguments_of p m)), each_kept (arguments_of p m) first)
 
-  call_kept : (target : Target) (m first a : ℕ) → needs_call p fr' ts' s' target m first a ≡ needs_call p fr ts s target m first a
+  pub call_kept : (target : Target) (m first a : ℕ) → needs_call p fr' ts' s' target m first a ≡ needs_call p fr ts s target m first a
   call_kept target m first a =
       entering_kept target m first _
       ∙ ap (λ cs. needs_entering p fr ts s target m first (needs_result p fr' ts' s' (gives_of p m) cs a)) (given_renamed (Run fr ∷ ts) m first)
       ∙ ap (needs_entering p fr ts s target m first) (result_kept (gives_of p m) (given_cells p fr ts s (Run fr ∷ ts) m first) a)
 
-  under_trap_kept : (target : Target) (m first a : ℕ) → needs_trap p fr' ts' s' target m first a ≡ needs_trap p fr ts s target m first a
+  pub under_trap_kept : (target : Target) (m first a : ℕ) → needs_trap p fr' ts' s' target m first a ≡ needs_trap p fr ts s target m first a
   under_trap_kept target m first a =
       entering_kept target m first _
       ∙ ap
@@ -233,7 +230,7 @@ module _ (names : ℕ → ℕ) (one_to_one : IsOneToOne names) (p : Image) (c : 
   level_kept (A_maybe t) = refl
   level_kept (Left x) = leaves_object_kept x s.items
 
-  return_kept : (a : ℕ) → needs_return p fr' ts' s' a ≡ needs_return p fr ts s a
+  pub return_kept : (a : ℕ) → needs_return p fr' ts' s' a ≡ needs_return p fr ts s a
   return_kept a = rw (
     result_needs_kept (gives_of p fr.method) a,
     level_kept (gives_of p fr.method),
@@ -244,7 +241,7 @@ module _ (names : ℕ → ℕ) (one_to_one : IsOneToOne names) (p : Image) (c : 
 
   -- ---- requests and leaves
 
-  refusal_kept : (cells : List Cell) → if_refused p c' fr' ts' s' (renamed_cells names cells) ≡ if_refused p c fr ts s cells
+  pub refusal_kept : (cells : List Cell) → if_refused p c' fr' ts' s' (renamed_cells names cells) ≡ if_refused p c fr ts s cells
   refusal_kept cells = ap (λ n. cond c.refused n []) (leave_kept names cells (Run fr ∷ ts))
 
   -- the cells once the object of a register is on the cleanup stack
@@ -253,45 +250,16 @@ module _ (names : ℕ → ℕ) (one_to_one : IsOneToOne names) (p : Image) (c : 
       ap (λ n. moved (Register n a) (Entry (length s.items)) (renamed_cells names s.cells)) (tasks_counted names ts)
       ∙ moved_renamed names one_to_one (Register (length ts) a) (Entry (length s.items)) s.cells
 
-  push_kept : (a : ℕ) → needs_push p c' fr' ts' s' a ≡ needs_push p c fr ts s a
+  pub push_kept : (a : ℕ) → needs_push p c' fr' ts' s' a ≡ needs_push p c fr ts s a
   push_kept a =
       let refusal : if_refused p c' fr' ts' s' (pushed_cells fr' ts' s' a) ≡ if_refused p c fr ts s (pushed_cells fr ts s a) =
       ap (if_refused p c' fr' ts' s') (pushed_renamed a) ∙ refusal_kept (pushed_cells fr ts s a) in
       rw (owns_at names one_to_one s.cells ts a, message_at names one_to_one s.cells ts a, refusal, trap_kept names ts)
 
-  put_kept : (f b : ℕ) → needs_put p c' fr' ts' s' f b ≡ needs_put p c fr ts s f b
+  pub put_kept : (f b : ℕ) → needs_put p c' fr' ts' s' f b ≡ needs_put p c fr ts s f b
   put_kept f b = rw (
     holder_kept names fr.home,
     register_renamed names one_to_one s.cells ts b,
     declared_kept names p (field_thing p (home_holder fr.home) f) (held s.cells (Register (length ts) b)),
     field_at names one_to_one s.cells fr.home f,
   )
-
-  pub needs_kept : (i : Instr) → needs p c' fr' ts' s' i ≡ needs p c fr ts s i
-  needs_kept (Const a w) = rw (free_at names one_to_one s.cells ts a)
-  needs_kept (Copy a b) = rw (free_at names one_to_one s.cells ts a)
-  needs_kept (Add a b x) = rw (free_at names one_to_one s.cells ts a)
-  needs_kept (Sub a b x) = rw (free_at names one_to_one s.cells ts a)
-  needs_kept (Mul a b x) = rw (free_at names one_to_one s.cells ts a)
-  needs_kept (And a b x) = rw (free_at names one_to_one s.cells ts a)
-  needs_kept (Or a b x) = rw (free_at names one_to_one s.cells ts a)
-  needs_kept (Xor a b x) = rw (free_at names one_to_one s.cells ts a)
-  needs_kept (JumpEmpty f to) = rw (holder_kept names fr.home)
-  needs_kept (Load a w) = rw (holder_kept names fr.home, free_at names one_to_one s.cells ts a)
-  needs_kept (Store w b) = rw (holder_kept names fr.home)
-  needs_kept (Move a b) = rw (free_at names one_to_one s.cells ts a)
-  needs_kept (Take a f) = rw (holder_kept names fr.home, free_at names one_to_one s.cells ts a)
-  needs_kept (Put f b) = put_kept f b
-  needs_kept (New a x) = rw (free_at names one_to_one s.cells ts a)
-  needs_kept (Delete a) = rw (message_at names one_to_one s.cells ts a)
-  needs_kept (Call target m first a) = call_kept target m first a
-  needs_kept (Trap target m first a) = under_trap_kept target m first a
-  needs_kept (NewOrLeave a x) = rw (free_at names one_to_one s.cells ts a, refusal_kept s.cells)
-  needs_kept (Push a) = push_kept a
-  needs_kept (PushOperation a m) = rw (refusal_kept s.cells, trap_kept names ts)
-  needs_kept (Pop a) = rw (free_at names one_to_one s.cells ts a)
-  needs_kept PopDelete = rw (whole_kept names one_to_one s.cells s.items)
-  needs_kept (Leave a) = rw (leave_kept names s.cells (Run fr ∷ ts))
-  needs_kept (LeaveIf a) = rw (leave_kept names s.cells (Run fr ∷ ts))
-  needs_kept (Return a) = return_kept a
-  needs_kept _ = refl

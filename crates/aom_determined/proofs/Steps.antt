@@ -12,8 +12,8 @@ use Rattle.aom_sound.specs.Moves.{IsOpen, asked, counted, dispatch_ends, does, g
 use Rattle.aom_sound.specs.Places.{Elsewhere, Going, Object, Root, held, named, without}
 use Rattle.aom_sound.specs.State.{A_mark, An_object, An_operation, Choice, Destroy, Dispatch, Dispatched, Frame, Goes, IsStuck, Item, Main_left, Need, NullOrDead, Of_main, Of_root, Orphan, Run, State, Task, Trapped, Unwind, guarded, resumed}
 use Rattle.aom_determined.proofs.Cells.{cells_counted, held_renamed, moved_renamed, named_renamed, owns_nothing_kept, tasks_counted, without_renamed}
-use Rattle.aom_determined.proofs.Doing.{begun_renamed, dealt_renamed, does_renamed, told_renamed}
-use Rattle.aom_determined.proofs.Needs.{needs_kept, whole_kept}
+use Rattle.aom_determined.proofs.Doing.{begun_renamed, dealt_renamed, does_renamed, needs_kept, told_renamed}
+use Rattle.aom_determined.proofs.Needs.{whole_kept}
 use Rattle.aom_determined.specs.Laws.{NamesMeanNothing}
 use Rattle.aom_determined.specs.Names.{IsOneToOne, renamed, renamed_cells, renamed_choice, renamed_frame, renamed_object, renamed_outcome, renamed_tasks}
 

@@ -17,10 +17,14 @@ use Rattle.aom_sound.specs.State.{Static, frame_of, Run, Item, An_object, An_ope
 use Rattle.aom_sound.specs.WellTyped.{WellTyped}
 use Rattle.aom_frames.specs.Tasks.{fresh}
 use Rattle.aom_frames.specs.declared.task.Task.TheVariants.{Run as Runs_frame}
+use Rattle.aom_cleanup.specs.Items.{IsAboveMark}
+use Rattle.aom_exec.proofs.Housing.{at_hand, needs_met}
+use Rattle.aom_exec.specs.Next.{IsNext, counting}
+use Rattle.aom_exec.proofs.Topping.{entry_tops, top_lives}
 use Rattle.aom_exec.specs.declared.parts.Parts.{Parts}
 use Rattle.aom_exec.specs.Acts.{DoesIn}
 use Rattle.aom_exec.specs.Agrees.{Shows, SameFrame, SameItems, word_at, number, Agrees}
-use Rattle.aom_exec.specs.Cleanup.{dealing, dealt_with}
+use Rattle.aom_exec.specs.Cleanup.{TopLives, dealing, dealt_with}
 use Rattle.aom_exec.specs.Going.{destroying, destructor_at}
 use Rattle.aom_exec.specs.Places.{value_in, with_items, with_tasks}
 use Rattle.aom_exec.proofs.Entries.{owns_none, same_items_length, top_value, value_alike, value_popped}
@@ -90,6 +94,15 @@ module _ (p : Image) (m : Parts) (t : Typing) (s : State) (typed : WellTyped p t
       go (Holds_object n ∷ is) (An_object ∷ js) was same some whole = object_goes n is js was same.1 (held s.cells (Entry (length js))) refl whole
       go (Holds_operation k n ∷ is) (An_operation k' w ∷ js) was same some whole = operation_runs k n k' w is js was same.0.0 same.0.1 same.1
       go is _ was same some whole = absurd (grind arith)
+
+module _ (p : Image) (m : Parts) where
+  pub deletes_entry : IsNext p PopDelete m → IsAboveMark m.entries.items
+  unfolding at_hand
+  deletes_entry next = let n = needs_met p m PopDelete next in entry_tops m.entries.items next.stands.0.items next.stands.1.agrees.entries n.1.0
+
+  pub deletes_whole : IsNext p PopDelete m → TopLives m
+  unfolding at_hand
+  deletes_whole next = let n = needs_met p m PopDelete next in top_lives p (counting next.counts m) next.stands.1.typing next.stands.0 next.stands.1.typed next.stands.1.agrees n.1.1.0
 
 pub pop_delete_does : (p : Image) (m : Parts) (refused : List ℕ) → DoesIn p refused PopDelete m (dealt_with p m)
 pop_delete_does p m refused h here =

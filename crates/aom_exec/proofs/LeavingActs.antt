@@ -114,11 +114,14 @@ module _ (m : Parts) (refused : List ℕ) where
   pub leave_does : (a : ℕ) → Does refused (Leave a) m (leaving (cast_signed w32 (register_here m.stack.tasks a)) m)
   leave_does a = plain_does m (leaving (cast_signed w32 (register_here m.stack.tasks a)) m) refused (Leave a) refl (λ p h c met. left_with p h a met.0 met.1.1.0)
 
-  pub leave_if_leaves : (a : ℕ) → int_lt (cast_signed w32 (register_here m.stack.tasks a)) (pos 0) ≡ true → Does refused (LeaveIf a) m (leaving (cast_signed w32 (register_here m.stack.tasks a)) m)
-  leave_if_leaves a less = plain_does m (leaving (cast_signed w32 (register_here m.stack.tasks a)) m) refused (LeaveIf a) refl (λ p h c met.
+  left_negative : (a : ℕ) → int_lt (cast_signed w32 (register_here m.stack.tasks a)) (pos 0) ≡ true → Does refused (LeaveIf a) m (leaving (cast_signed w32 (register_here m.stack.tasks a)) m)
+  left_negative a less = plain_does m (leaving (cast_signed w32 (register_here m.stack.tasks a)) m) refused (LeaveIf a) refl (λ p h c met.
       let below : int_lt (read h.frame h.below h.state a) (pos 0) ≡ true = ap (λ w. int_lt w (pos 0)) (sym (word_read p m h a met.0)) ∙ less in
       let free = subst (λ b. AllTrue (cond b (leave_needs h.state.cells (Run h.frame ∷ h.below)) [])) below met.1 in
       subst (λ b. Agrees p (leaving (cast_signed w32 (register_here m.stack.tasks a)) m) (applied p h.frame h.below h.state (cond b (Leaves (read h.frame h.below h.state a) Same) (updates h.frame Same)))) (sym below) (left_with p h a met.0 free.1.0))
+
+  pub leave_if_leaves : (a : ℕ) (code : ℤ) → code ≡ cast_signed w32 (register_here m.stack.tasks a) → int_lt code (pos 0) ≡ true → Does refused (LeaveIf a) m (leaving code m)
+  leave_if_leaves a code e less = subst (λ w. Does refused (LeaveIf a) m (leaving w m)) (sym e) (left_negative a (ap (λ w. int_lt w (pos 0)) (sym e) ∙ less))
 
   pub leave_if_stays : (a : ℕ) → int_lt (cast_signed w32 (register_here m.stack.tasks a)) (pos 0) ≡ false → Does refused (LeaveIf a) m (acts.next m)
   leave_if_stays a more = plain_does m (acts.next m) refused (LeaveIf a) refl (λ p h c met.

@@ -5,7 +5,7 @@ use Rattle.std.proofs.lemmas.Bool.{eqb-true}
 use Rattle.std.proofs.lemmas.Bool.Decides.{leb_tells}
 use Rattle.aom_image.specs.Image.{Image}
 use Rattle.aom_image.specs.Views.{arguments_of, gives_of, instr_at, method_at, method_class}
-use Rattle.aom_image.specs.declared.instr.Instr.TheVariants.{Pop, PopDelete, PopOperation, Return, Trap}
+use Rattle.aom_image.specs.declared.instr.Instr.TheVariants.{Pop, PopOperation, Return, Trap}
 use Rattle.aom_image.specs.declared.instr.Target.{Target}
 use Rattle.aom_image.specs.declared.method.Gives.{Gives}
 use Rattle.aom_image.specs.declared.method.Gives.TheVariants.{Left}
@@ -76,14 +76,6 @@ module _ (p : Image) (m : Parts) where
   pub pops_entry : IsNext p PopOperation m → IsAboveMark m.entries.items
   unfolding at_hand
   pops_entry next = let n = needs_met p m PopOperation next in entry_tops m.entries.items next.stands.0.items next.stands.1.agrees.entries n.1.0
-
-  pub deletes_entry : IsNext p PopDelete m → IsAboveMark m.entries.items
-  unfolding at_hand
-  deletes_entry next = let n = needs_met p m PopDelete next in entry_tops m.entries.items next.stands.0.items next.stands.1.agrees.entries n.1.0
-
-  pub deletes_whole : IsNext p PopDelete m → TopLives m
-  unfolding at_hand
-  deletes_whole next = let n = needs_met p m PopDelete next in top_lives p (counting next.counts m) next.stands.1.typing next.stands.0 next.stands.1.typed next.stands.1.agrees n.1.1.0
 
   -- ---- a trap
 

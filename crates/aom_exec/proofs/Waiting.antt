@@ -4,7 +4,7 @@ use Rattle.std.proofs.lemmas.Bool.{eq-eqb, eqb-true, ne_eqb}
 use Rattle.aom_image.specs.Image.{Image}
 use Rattle.aom_image.specs.Views.{arguments_of, instr_at, method_class}
 use Rattle.aom_image.specs.declared.instr.Instr.{Instr}
-use Rattle.aom_image.specs.declared.instr.Instr.TheVariants.{Delete, PopDelete}
+use Rattle.aom_image.specs.declared.instr.Instr.TheVariants.{Delete}
 use Rattle.aom_image.specs.declared.instr.Target.{Target}
 use Rattle.aom_image.specs.declared.instr.Target.TheVariants.{Entry as On_entry, Field as On_field, Register as On_register, This}
 use Rattle.aom_image.specs.declared.method.Argument.{Argument}
@@ -13,6 +13,7 @@ use Rattle.aom_image.specs.declared.method.Gives.{Gives}
 use Rattle.aom_image.specs.declared.method.Gives.TheVariants.{Maybe as A_maybe, Own as An_own}
 use Rattle.aom_image.specs.declared.method.Thing.TheVariants.{Object as An_object_of}
 use Rattle.aom_classes.specs.Roles.{main_of}
+use Rattle.aom_shape.specs.Cleanup.{without_entry}
 use Rattle.aom_shape.specs.Calls.{arguments_moved, while_called}
 use Rattle.aom_shape.specs.Kinds.{readied, register, set_register}
 use Rattle.aom_shape.specs.Needs.{AllTrue}
@@ -291,9 +292,9 @@ module _ (p : Image) (t : Typing) (c : Choice) (s : State) (fr : Frame) (ts : Li
           go false e = refl
 
   -- its registers stay as they are
-  pops : (cs : List Cell) → i ≡ PopDelete → ((d j : ℕ) → held cs (Register d j) ≡ held s.cells (Register d j)) → AllWait p t cs (Run fr ∷ ts)
+  pops : (cs : List Cell) → ((x : Shape) → while_waiting p (Some i) x ≡ without_entry x) → ((d j : ℕ) → held cs (Register d j) ≡ held s.cells (Register d j)) → AllWait p t cs (Run fr ∷ ts)
   pops cs is same = (
-    begins cs (λ j. subst (λ x. KindSays p (register (while_waiting p (Some x) h.shape) j) (word fr j) (held cs (Register (length ts) j))) (sym is)
+    begins cs (λ j. subst (λ x. KindSays p (register x j) (word fr j) (held cs (Register (length ts) j))) (sym (is h.shape))
         (subst (λ o. KindSays p (register h.shape j) (word fr j) o) (sym (same (length ts) j)) (h.says j))),
     still_wait p t s.cells cs ts (λ d j lt. same d j) w,
   )
@@ -313,8 +314,8 @@ module _ (p : Image) (t : Typing) (c : Choice) (s : State) (fr : Frame) (ts : Li
   acts_wait (Destroys o a words) deleted fits = deleted o a words refl
   acts_wait (Destroys_last o) deleted fits =
       let cs = moved (top_place s.items) (Going (suc (length ts))) s.cells in
-      begun_wait p t cs (destructor_of p o.thing) o _ (Run fr ∷ ts) (pops cs fits.0 (λ d j. held_apart s.cells (top_place s.items) (Going (suc (length ts))) (Register d j) refl refl))
-  acts_wait (Operates m x) deleted fits = pops s.cells fits.0 (λ d j. refl)
+      begun_wait p t cs (destructor_of p o.thing) o _ (Run fr ∷ ts) (pops cs (λ x. ap (λ j. while_waiting p (Some j) x) fits.0) (λ d j. held_apart s.cells (top_place s.items) (Going (suc (length ts))) (Register d j) refl refl))
+  acts_wait (Operates m x) deleted fits = pops s.cells (λ x. ap (λ j. while_waiting p (Some j) x) fits.0) (λ d j. refl)
 
 module _ (p : Image) (t : Typing) (c : Choice) (s u : State) (typed : WellTyped p t s) (others : OthersWait p t s.cells s.tasks) (goes : step p c s ≡ Goes u) where
   abbrev V : State → Type 0

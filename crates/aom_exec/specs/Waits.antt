@@ -3,13 +3,14 @@ use Rattle.std.specs.Prelude.{ℕ, ℤ, ◌≡◌, true, IsSome, IfSome, List, [
 use Rattle.aom_image.specs.Image.{Image}
 use Rattle.aom_image.specs.Views.{arguments_of, instr_at, method_class}
 use Rattle.aom_image.specs.declared.instr.Instr.{Instr}
-use Rattle.aom_image.specs.declared.instr.Instr.TheVariants.{Call, Delete, PopDelete, Trap}
 use Rattle.aom_shape.specs.Calls.{arguments_moved, while_called}
 use Rattle.aom_shape.specs.Cleanup.{without_entry}
 use Rattle.aom_shape.specs.Kinds.{register, set_register}
+use Rattle.aom_shape.specs.Rules.{ways_of}
 use Rattle.aom_shape.specs.Shape.{Shape}
 use Rattle.aom_shape.specs.Things.{stands_for}
 use Rattle.aom_shape.specs.Typing.{Typing, shape_at}
+use Rattle.aom_shape.specs.Ways.{As_before, Branches, Branches_on_empty, Branches_on_null, Called, Caught, Dropped, Ends, Filled, Goes_back, Goes_on, Goes_to, Holding, Moved, News, Popped, Pushed, Pushed_operation, Taken, Ways}
 use Rattle.aom_shape.specs.declared.kind.Kind.{Kind}
 use Rattle.aom_shape.specs.declared.kind.Kind.TheVariants.{Maybe, Null, Own, Unset, Word}
 use Rattle.aom_sound.specs.Places.{Cell, Object, Register, held}
@@ -23,13 +24,35 @@ KindSays p Null w o = (w ≡ None) × (o ≡ None)
 KindSays p (Own t a) w o = (w ≡ None) × IsSome o × IfSome o (λ x. stands_for p x.thing t ≡ true)
 KindSays p (Maybe t a) w o = (w ≡ None) × IfSome o (λ x. stands_for p x.thing t ≡ true)
 
+-- what is known while what is called, or lets go, is at hand: the operands have moved, and no result is there
+abbrev pub waiting_for : Image → News → Shape → Shape
+waiting_for p (Called target m first c) sh = while_called target (method_class p m) (arguments_moved (arguments_of p m) first sh)
+waiting_for p (Caught target m first c) sh = while_called target (method_class p m) (arguments_moved (arguments_of p m) first sh)
+waiting_for p (Holding a Null) sh = set_register sh a Null
+waiting_for p (Holding a kind) sh = sh
+waiting_for p Dropped sh = without_entry sh
+-- nothing is called or let go
+waiting_for p As_before sh = sh
+waiting_for p (Moved a b) sh = sh
+waiting_for p (Taken a f) sh = sh
+waiting_for p (Filled f a) sh = sh
+waiting_for p (Pushed a) sh = sh
+waiting_for p Pushed_operation sh = sh
+waiting_for p (Popped a) sh = sh
+
+abbrev pub waiting_by : Image → Ways → Shape → Shape
+waiting_by p (Goes_on news) sh = waiting_for p news sh
+waiting_by p Ends sh = sh
+waiting_by p (Goes_to to) sh = sh
+waiting_by p (Branches to) sh = sh
+waiting_by p (Goes_back to) sh = sh
+waiting_by p (Branches_on_null a to) sh = sh
+waiting_by p (Branches_on_empty f to) sh = sh
+
 -- the state of a method while what its instruction has called, or lets go, is at hand
 abbrev pub while_waiting : Image → Option Instr → Shape → Shape
-while_waiting p (Some (Call target m first c)) sh = while_called target (method_class p m) (arguments_moved (arguments_of p m) first sh)
-while_waiting p (Some (Trap target m first c)) sh = while_called target (method_class p m) (arguments_moved (arguments_of p m) first sh)
-while_waiting p (Some (Delete a)) sh = set_register sh a Null
-while_waiting p (Some PopDelete) sh = without_entry sh
-while_waiting p _ sh = sh
+while_waiting p (Some i) sh = waiting_by p (ways_of p i) sh
+while_waiting p None sh = sh
 
 -- so are the registers of a method that waits at that depth
 pub record Waits (p : Image) (t : Typing) (cs : List Cell) (depth : ℕ) (fr : Frame) : Type 0 where

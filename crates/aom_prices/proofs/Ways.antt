@@ -1,5 +1,5 @@
 -- Where the flows of an instruction lead: to the next place, where it jumps, or where a next goes back, and each place is reached.
-use Rattle.std.proofs.Common.{◌≡◌, ◌<◌, ℕ, suc, List, [], ◌∷◌, Some, ⊎_elim, ap, refl, subst}
+use Rattle.std.proofs.Common.{◌≡◌, ◌<◌, ℕ, suc, List, [], ◌∷◌, Some, ⊎_elim, ap, subst}
 use Rattle.aom_image.specs.Image.{Image}
 use Rattle.aom_image.specs.Views.{instr_at}
 use Rattle.aom_image.specs.declared.instr.Instr.{Instr}

@@ -4,7 +4,7 @@ use Rattle.std.specs.Prelude.{not}
 use Rattle.aom_image.specs.Image.{Image}
 use Rattle.aom_image.specs.Views.{arguments_of, is_quiet, method_at, method_class, method_role}
 use Rattle.aom_image.specs.declared.instr.Instr.{Instr}
-use Rattle.aom_image.specs.declared.instr.Instr.TheVariants.{Call, Delete, Leave, LeaveIf, New, NewOrLeave, Next, PopDelete, Push, PushOperation, Return, Trap}
+use Rattle.aom_image.specs.declared.instr.Instr.TheVariants.{Call, New, NewOrLeave, Next, Return, Trap}
 use Rattle.aom_image.specs.declared.instr.Target.{Target}
 use Rattle.aom_image.specs.declared.method.Gives.{Gives}
 use Rattle.aom_image.specs.declared.method.Method.{Method as Method_declared}
@@ -19,6 +19,7 @@ use Rattle.aom_shape.specs.Rules.{rule_needs}
 use Rattle.aom_shape.specs.Shape.{Shape}
 use Rattle.aom_shape.specs.Tables.{put_at}
 use Rattle.aom_sound.proofs.Finishing.{all_parts}
+use Rattle.aom_sound.proofs.Fitting.{straight_by}
 use Rattle.aom_sound.specs.Calls.{below_top, passed_cells, returned}
 use Rattle.aom_sound.specs.Cleanup.{to_trap, top_place}
 use Rattle.aom_sound.specs.Effects.{Calls, Carried, Counts, Destroys, Destroys_last, Effect, Goes_on, In_field, In_register, Jumps, Leaves, Made, Operates, Popped, Popped_operation, Pushed, Pushed_operation, Repeats, Returns, Same, Sets_trap, Spot, Update, Written, applied, cells_after, items_after, spot_place, with_words}
@@ -149,21 +150,8 @@ module _ (p : Image) (linked : IsLinked p) (c : Choice) (s : State) (fr : Frame)
     loud_maker _ e r = cc
 
     loud_leaving : (i : Instr) (code : ℤ) → LeavesWith c fr i code → Ruled i → is_quiet p fr.method ≡ false
-    loud_leaving (Leave a) code e r = loud_leaver p linked fr.method r.1.0
-    loud_leaving (LeaveIf a) code e r = loud_leaver p linked fr.method r.1.0
     loud_leaving (NewOrLeave a x) code e r = loud_by (is_quiet p fr.method) r.1.0
-    loud_leaving (Push a) code e r = loud_leaver p linked fr.method r.1.0
-    loud_leaving (PushOperation a m) code e r = loud_leaver p linked fr.method r.1.0
-    loud_leaving _ code e r = absurd (assumption tt)
-
-    plain_leaving : (i : Instr) (code : ℤ) → LeavesWith c fr i code → loop_in (Some i) ≡ None
-    unfolding loop_in
-    plain_leaving (Leave a) code e = refl
-    plain_leaving (LeaveIf a) code e = refl
-    plain_leaving (NewOrLeave a x) code e = refl
-    plain_leaving (Push a) code e = refl
-    plain_leaving (PushOperation a m) code e = refl
-    plain_leaving _ code e = absurd (assumption tt)
+    loud_leaving i code e r = first_of (cc, search (loud_leaver p linked fr.method))
 
     -- the method goes on after an update
     goes_after :
@@ -190,22 +178,20 @@ module _ (p : Image) (linked : IsLinked p) (c : Choice) (s : State) (fr : Frame)
 
     -- an object goes over the method
     deletes :
-        (o : Object) (a : ℕ) (words : List (Option ℤ)) → slice_get d.code fr.place ≡ Some (Delete a) → held s.cells (here fr ts s a) ≡ Some o →
+        (i : Instr) → slice_get d.code fr.place ≡ Some i → loop_in (Some i) ≡ None → (o : Object) (a : ℕ) (words : List (Option ℤ)) → held s.cells (here fr ts s a) ≡ Some o →
         rank p (applied p fr ts s (Destroys o a words)) < before
-    unfolding loop_in
-    deletes o a words stands there =
-        let less = paid fr.counters (suc fr.place) (straight (Delete a) stands refl) in
+    deletes i stands plain o a words there =
+        let less = paid fr.counters (suc fr.place) (straight i stands plain) in
         let destruction = begun_paid p linked o (length s.items) (Run (with_words fr words) ∷ ts) in
         let goes = standing_goes (here fr ts s a) (length (Run fr ∷ ts)) o s.cells refl there in
         let cells = one_less (standing (moved (here fr ts s a) (Going (length (Run fr ∷ ts))) s.cells) + operations s.items) (standing s.cells + operations s.items) (cell_rank p) (omega (arith, goes)) in
         omega (arith, less, destruction, cells, price_some p fr.method)
 
     deletes_last :
-        (o : Object) → slice_get d.code fr.place ≡ Some PopDelete → s.items ≡ An_object ∷ below_top s.items → held s.cells (top_place s.items) ≡ Some o →
+        (i : Instr) → slice_get d.code fr.place ≡ Some i → loop_in (Some i) ≡ None → (o : Object) → s.items ≡ An_object ∷ below_top s.items → held s.cells (top_place s.items) ≡ Some o →
         rank p (applied p fr ts s (Destroys_last o)) < before
-    unfolding loop_in
-    deletes_last o stands top there =
-        let less = paid fr.counters (suc fr.place) (straight PopDelete stands refl) in
+    deletes_last i stands plain o top there =
+        let less = paid fr.counters (suc fr.place) (straight i stands plain) in
         let destruction = begun_paid p linked o (length (below_top s.items)) (Run fr ∷ ts) in
         let goes = standing_goes (top_place s.items) (length (Run fr ∷ ts)) o s.cells refl there in
         let same : operations s.items ≡ operations (below_top s.items) = ap operations top in
@@ -213,10 +199,11 @@ module _ (p : Image) (linked : IsLinked p) (c : Choice) (s : State) (fr : Frame)
         omega (arith, less, destruction, cells, price_some p fr.method)
 
     -- an operation runs over it
-    operates : (m : ℕ) (w : ℤ) → AllUndo p s.items → slice_get d.code fr.place ≡ Some PopDelete → s.items ≡ An_operation m w ∷ below_top s.items → rank p (applied p fr ts s (Operates m w)) < before
-    unfolding loop_in
-    operates m w undos stands top =
-        let less = paid fr.counters (suc fr.place) (straight PopDelete stands refl) in
+    operates :
+        (i : Instr) → slice_get d.code fr.place ≡ Some i → loop_in (Some i) ≡ None → (m : ℕ) (w : ℤ) → AllUndo p s.items → s.items ≡ An_operation m w ∷ below_top s.items →
+        rank p (applied p fr ts s (Operates m w)) < before
+    operates i stands plain m w undos top =
+        let less = paid fr.counters (suc fr.place) (straight i stands plain) in
         let run = undo_paid p m (subst (λ is. AllUndo p is) top undos).0 in
         let same : operations s.items ≡ suc (operations (below_top s.items)) = ap operations top in
         let cells = one_less (standing s.cells + operations (below_top s.items)) (standing s.cells + operations s.items) (cell_rank p) (omega (arith, same)) in
@@ -239,7 +226,7 @@ module _ (p : Image) (linked : IsLinked p) (c : Choice) (s : State) (fr : Frame)
     falls undos i stands r (Calls target m first) f returns = calls target m first f.0 (stands ∙ ap (λ x. Some x) f.1) (called_quiet target m first f.0 (subst Ruled f.1 r))
     falls undos i stands r (Sets_trap target m first) f returns = traps target m first f.0 (stands ∙ ap (λ x. Some x) f.1) (loud_by (is_quiet p fr.method) (subst Ruled f.1 r).0)
     falls undos i stands r (Returns g a) f returns = returns g a (stands ∙ ap (λ x. Some x) f.0)
-    falls undos i stands r (Leaves code u) f returns = leaves_on i stands (plain_leaving i code f.1) (loud_leaving i code f.1 r) (count_after u) (more u)
-    falls undos i stands r (Destroys o a words) f returns = deletes o a words (stands ∙ ap (λ x. Some x) f.0) f.1
-    falls undos i stands r (Destroys_last o) f returns = deletes_last o (stands ∙ ap (λ x. Some x) f.0) f.1 f.2
-    falls undos i stands r (Operates m w) f returns = operates m w undos (stands ∙ ap (λ x. Some x) f.0) f.1
+    falls undos i stands r (Leaves code u) f returns = leaves_on i stands (straight_by p c fr ts s i (Leaves code u) f) (loud_leaving i code f.1 r) (count_after u) (more u)
+    falls undos i stands r (Destroys o a words) f returns = deletes i stands (straight_by p c fr ts s i (Destroys o a words) f) o a words f.1
+    falls undos i stands r (Destroys_last o) f returns = deletes_last i stands (straight_by p c fr ts s i (Destroys_last o) f) o f.1 f.2
+    falls undos i stands r (Operates m w) f returns = operates i stands (straight_by p c fr ts s i (Operates m w) f) m w undos f.1

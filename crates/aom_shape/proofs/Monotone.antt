@@ -1,10 +1,10 @@
 -- The rules are monotone: each instruction's needs and flows, from a state to one that says more.
-use Rattle.std.proofs.Common.{◌≡◌, ℕ, suc, Bool, true, false, cond, ◌==◌, List, [], ◌∷◌, ◌++◌, length, Option, Some, None, inl, inr, refl, ap, ◌∙◌}
+use Rattle.std.proofs.Common.{arith, ◌≡◌, ℕ, suc, Bool, true, false, cond, ◌==◌, List, [], ◌∷◌, ◌++◌, length, Option, Some, None, inl, inr, refl, ap, ◌∙◌}
 use Rattle.std.proofs.lemmas.Bool.{false≢true, eqb-true}
 use Rattle.aom_image.specs.Image.{Image}
 use Rattle.aom_image.specs.Views.{arguments_of, gives_of, fields_of, leaves, method_class, method_role}
 use Rattle.aom_image.specs.declared.instr.Instr.{Instr}
-use Rattle.aom_image.specs.declared.instr.Instr.TheVariants.{Const, Copy, Move, Add, Sub, Mul, And, Or, Xor, Jump, JumpEqual, JumpLess, JumpNull, JumpEmpty, Loop, Next, Print, Load, Store, Take, Put, New, NewOrLeave, Delete, Push, PushOperation, Pop, PopOperation, PopDelete, Call, Trap, Return, Leave, LeaveIf, Stop}
+use Rattle.aom_image.specs.declared.instr.Instr.TheVariants.{Const, Copy, Move, Add, Sub, Mul, And, Or, Xor, JumpEqual, JumpLess, JumpNull, JumpEmpty, Print, Load, Store, Take, Put, New, NewOrLeave, Delete, Push, PushOperation, Pop, Call, Trap, Return, Leave, LeaveIf}
 use Rattle.aom_image.specs.declared.instr.Target.{Target}
 use Rattle.aom_image.specs.declared.instr.Target.TheVariants.{This, Register, Field, Entry as On_entry}
 use Rattle.aom_image.specs.declared.method.Argument.{Argument}
@@ -285,11 +285,8 @@ needs_more p m pc a b (Mul r s t) h n = combine_more pc a b r s t h n
 needs_more p m pc a b (And r s t) h n = combine_more pc a b r s t h n
 needs_more p m pc a b (Or r s t) h n = combine_more pc a b r s t h n
 needs_more p m pc a b (Xor r s t) h n = combine_more pc a b r s t h n
-needs_more p m pc a b (Jump to) h n = tt
 needs_more p m pc a b (JumpEqual r s to) h n = compare_more pc a b r s h n
 needs_more p m pc a b (JumpLess r s to) h n = compare_more pc a b r s h n
-needs_more p m pc a b (Loop depth rounds) h n = tt
-needs_more p m pc a b (Next depth to) h n = tt
 needs_more p m pc a b (Load r w) h n = (n.0, (unowning_more (register a r) (register b r) (h.registers r) n.1.0, tt))
 needs_more p m pc a b (Store w s) h n = (n.0, (word_more (register a s) (register b s) (h.registers s) n.1.0, tt))
 needs_more p m pc a b (JumpEmpty f to) h n = n
@@ -312,8 +309,6 @@ needs_more p m pc a b (Push r) h n = (
 )
 needs_more p m pc a b (PushOperation r m') h n = (word_more (register a r) (register b r) (h.registers r) n.0, leave_more p m pc a b a b h n.1)
 needs_more p m pc a b (Pop r) h n = (unowning_more (register a r) (register b r) (h.registers r) n.0, rw (← h.entries) n.1)
-needs_more p m pc a b PopOperation h n = rw (← h.entries) n
-needs_more p m pc a b PopDelete h n = rw (← h.entries) n
 needs_more p m pc a b (Leave r) h n = (word_more (register a r) (register b r) (h.registers r) n.0, leave_more p m pc a b a b h n.1)
 needs_more p m pc a b (LeaveIf r) h n = (word_more (register a r) (register b r) (h.registers r) n.0, leave_more p m pc a b a b h n.1)
 needs_more p m pc a b (Return r) h n =
@@ -327,8 +322,8 @@ needs_more p m pc a b (Return r) h n =
         (done_more p (is_destructor p m) (holder_of p m) a b h rest.1.1.0, tt),
       ),
     )
-needs_more p m pc a b Stop h n = tt
-needs_more p m pc a b _ h n = absurd (false≢true n.0)
+-- of the entries alone, or of nothing, or never met
+needs_more p m pc a b _ h n = grind (arith, n, h.entries)
 
 same_jump : (p : Image) (m pc : ℕ) (a b : Shape) (r to : ℕ) → SaysNoMore a b → (k : Kind) → AllFollow (flow_jump_null p m pc a k r to) (flow_jump_null p m pc b k r to)
 same_jump p m pc a b r to h Unset = tt

@@ -1,11 +1,11 @@
 -- The beginning of a leave, the entry that it deals with, and its arrival, by the layers of a well-typed state.
-use Rattle.std.proofs.Common.{Bool, List, None, Option, Some, [], ap, arith, cond, false, length, negsuc, pos, refl, subst, suc, sym, true, ℕ, ℤ, ◌∙◌, ◌∷◌, ◌≡◌, ◌≢◌}
-use Rattle.std.proofs.lemmas.Bool.{eq-eqb, ne_eqb, false_from_ne_true, cond-true}
-use Rattle.std.specs.Prelude.{int_lt, is_some, ◌++◌}
+use Rattle.std.proofs.Common.{Bool, List, None, Option, Some, [], ap, arith, cond, false, length, pos, refl, subst, suc, sym, true, ℕ, ℤ, ◌∙◌, ◌∷◌, ◌≡◌, ◌≢◌}
+use Rattle.std.proofs.lemmas.Bool.{eq-eqb, ne_eqb}
+use Rattle.std.specs.Prelude.{is_some, ◌++◌}
 use Rattle.aom_image.specs.Image.{Image}
 use Rattle.aom_image.specs.Views.{gives_of, instr_at}
 use Rattle.aom_image.specs.declared.instr.Instr.{Instr}
-use Rattle.aom_image.specs.declared.instr.Instr.TheVariants.{Leave, LeaveIf, NewOrLeave, Push, PushOperation, Trap}
+use Rattle.aom_image.specs.declared.instr.Instr.TheVariants.{Push, PushOperation, Trap}
 use Rattle.aom_image.specs.declared.instr.Target.{Target}
 use Rattle.aom_image.specs.declared.method.Gives.{Gives}
 use Rattle.aom_image.specs.declared.method.Gives.TheVariants.{Left, Maybe as A_maybe, Nothing, Own as An_own, Word as A_word}
@@ -17,29 +17,34 @@ use Rattle.aom_shape.specs.declared.kind.Entry.TheVariants.{Object as Pushed_obj
 use Rattle.aom_shape.specs.declared.kind.Kind.TheVariants.{Null}
 use Rattle.aom_sound.proofs.Claimed.{claim_entry_above, claim_going_above}
 use Rattle.aom_sound.proofs.Clearing.{begins_over}
-use Rattle.aom_sound.proofs.Items.{length_forms, no_mark}
+use Rattle.aom_sound.proofs.Fitting.{fits, leaves_so, off_of}
+use Rattle.aom_sound.proofs.Items.{length_forms}
 use Rattle.aom_sound.proofs.Guarded.{goes_same, guarded_goes, guarded_met}
 use Rattle.aom_sound.proofs.Maps.{at-put_at, held_moved, same_place-true, same_place_refl}
 use Rattle.aom_sound.proofs.Straight.{claim_register, fits_unowning}
 use Rattle.aom_sound.specs.Calls.{called, result_register}
-use Rattle.aom_sound.specs.Claims.{Dispatching, Form, Layer, Mark, Mark_form, Method, Unwinding, declared, entry_form, forms, items_of, objects, tasks_of}
-use Rattle.aom_sound.specs.Cleanup.{arrival, arrived, code_told, destroyed, has_trap, is_negative, leave_needs, no_memory, operation_frame, to_trap, unwound}
+use Rattle.aom_sound.specs.Claims.{Dispatching, Dying, Form, Layer, Mark, Mark_form, Method, Unwinding, declared, entry_form, forms, items_of, objects, tasks_of}
+use Rattle.aom_sound.specs.Cleanup.{arrival, arrived, code_told, destroyed, has_trap, operation_frame, to_trap, unwound}
 use Rattle.aom_classes.specs.Roles.{destructor_of}
 use Rattle.aom_sound.specs.Destruction.{begun_by}
 use Rattle.aom_sound.specs.Laws.{IsWired}
 use Rattle.aom_sound.specs.Leaves.{AreEntries, AreMethods, Arrives, ArrivesAt, Begins, HasMoved, HasNoResult, HasPushed, Hears, IsBegun, IsDestroyed, IsLeaving, IsOver, LeavesWith}
+use Rattle.aom_sound.specs.Steps.{Fits as MayHave}
 use Rattle.aom_sound.specs.Moves.{announcement, counted, does, main_left, needs, step, step_instr, step_task, written_task}
 use Rattle.aom_sound.specs.Places.{Cell, Entry, Going, Object, Register, held, moved, named, same_place, Place}
-use Rattle.aom_sound.specs.State.{A_mark, An_object, An_operation, Choice, Dispatch, Dispatched, Frame, Goes, Inside, IsStuck, Item, Main_left, NullOrDead, Of_main, Run, State, Task, Trapped, Unwind, frame_of, next, set_word, word}
+use Rattle.aom_sound.specs.State.{A_mark, An_object, An_operation, Choice, Dispatch, Dispatched, Frame, Goes, Inside, IsStuck, Item, Main_left, NullOrDead, Of_main, Of_root, Run, State, Task, Trapped, Unwind, frame_of, next, set_word, word}
 use Rattle.aom_sound.specs.WellTyped.{AllUndo, Awaits, EndsDispatch, Fits, Good, Keeps, Leaves, Now, Stack, WellTyped}
-use Rattle.aom_sound.specs.Effects.{Effect, Leaves, Pushed as Object_pushed, Pushed_operation as Operation_pushed, Same, Update, applied, unless_refused, updates}
+use Rattle.aom_sound.specs.Effects.{Leaves, Update, applied}
 use Rattle.aom_sound.specs.Words.{word_or_zero}
 use Rattle.aom_shape.specs.Needs.{AllTrue}
 use Rattle.aom_sound.specs.declared.line.Ending.TheVariants.{MainLeft}
 use Rattle.aom_sound.proofs.Steps.{step_keeps}
-use Rattle.aom_sound.proofs.Layers.{leave_layer}
 
 -- ---- the entries of a leave, and its mark
+
+no_mark : {A : Type 0} (x : Pushed) → Mark_form ≡ entry_form x → A
+no_mark (Pushed_object c a) e = cc
+no_mark Pushed_operation e = cc
 
 -- the items of some entries over a mark
 split : (es : List Pushed) (fs : List Form) (all : List Item) → forms all ≡ objects es (Mark_form ∷ fs) → (entries : List Item) × (items : List Item) × (all ≡ entries ++ (A_mark ∷ items)) × AreEntries entries
@@ -52,23 +57,31 @@ split (x ∷ es) fs (An_operation m w ∷ all) e =
     let same : forms all ≡ objects es (Mark_form ∷ fs) = cc in
     let r = split es fs all same in
     (An_operation m w ∷ r.0, r.1, ap (λ l. An_operation m w ∷ l) r.2, r.3)
-split (x ∷ es) fs (A_mark ∷ all) e = absurd (no_mark x cc)
+split (x ∷ es) fs (A_mark ∷ all) e = no_mark x cc
 split _ fs _ e = cc
 
-pub no_dispatch : {A : Type 0} (p : Image) (d : Dispatch) → EndsDispatch p d Leaves → A
+no_dispatch : {A : Type 0} (p : Image) (d : Dispatch) → EndsDispatch p d Leaves → A
 no_dispatch p Of_main e = absurd e
-no_dispatch p _ e = absurd e
+no_dispatch p (Main_left x) e = absurd e
+no_dispatch p Of_root e = absurd e
 
 -- a leave on top has entries over the mark of its trap
 pub splits : (p : Image) (t : Typing) (s : State) → WellTyped p t s → (code : ℤ) (below : List Task) → s.tasks ≡ Unwind code ∷ below → (entries : List Item) × (items : List Item) × IsLeaving p code below entries items s
 splits p t s w code below at =
-    let r = leave_layer (λ ls. (forms s.items ≡ items_of ls) × (Stack p t s.cells Now ls)) code below w.layers (sym w.tasks ∙ at) (w.items, w.good.stack) (λ es ls _ h. under es ls h.0 h.1.1) in
+    let r = go w.layers (sym at ∙ w.tasks) w.items w.good.stack in
     (r.0, r.1, record { over = subst (λ ts. IsOver p (length s.items) code below ts) (sym at) (refl, refl); stack = r.2; plain = r.3 })
   where
     under : (es : List Pushed) (ls : List Layer) → forms s.items ≡ objects es (items_of ls) → Stack p t s.cells Leaves ls → (entries : List Item) × (items : List Item) × (s.items ≡ entries ++ (A_mark ∷ items)) × AreEntries entries
+    under es [] f stack = cc
+    under es (Method fr sh ∷ ls) f stack = absurd stack.0
     under es (Mark gv ∷ ls) f stack = split es (items_of ls) s.items f
+    under es (Dying o ∷ ls) f stack = absurd stack.1
+    under es (Unwinding x fs ∷ ls) f stack = absurd stack.0
     under es (Dispatching d ∷ ls) f stack = no_dispatch p d stack.0
-    under es _ f stack = absurd (first_of (assumption tt, cc))
+
+    go : (ls : List Layer) → Unwind code ∷ below ≡ tasks_of ls → forms s.items ≡ items_of ls → Stack p t s.cells Now ls → (entries : List Item) × (items : List Item) × (s.items ≡ entries ++ (A_mark ∷ items)) × AreEntries entries
+    go (Unwinding x es ∷ ls) e f stack = under es ls f stack.1
+    go _ e f stack = cc
 
 -- ---- the beginning
 
@@ -82,7 +95,11 @@ has_moved cs q g o there free apart = record {
 }
   where
     differs : (x r : Place) → r ≢ x → same_place x r ≡ false
-    differs x r n = false_from_ne_true (same_place x r) (λ e. n (sym (same_place-true x r e)))
+    differs x r n = go (same_place x r) refl
+      where
+        go : (b : Bool) → same_place x r ≡ b → b ≡ false
+        go true e = absurd (n (sym (same_place-true x r e)))
+        go false e = refl
 
 -- no entry is claimed over all items
 none_pushed_yet : (p : Image) (t : Typing) (s : State) → WellTyped p t s → held s.cells (Entry (length s.items)) ≡ None
@@ -129,32 +146,23 @@ module _ (p : Image) (t : Typing) (c : Choice) (fr : Frame) (ts : List Task) (s 
         pushed = subst (λ x. HasPushed fr (length ts) i s x) e on;
       }
 
-  taken : (b : Bool) (off on : Effect) → b ≡ true → applied p fr ts (counted p s) (cond b off on) ≡ u → applied p fr ts (counted p s) off ≡ u
-  taken b off on is e = subst (λ v. applied p fr ts (counted p s) v ≡ u) (cond-true b off on is) e
-
-  trap_so : (b : Bool) (cs : List Cell) → b ≡ true → AllTrue (cond b (leave_needs cs (Run fr ∷ ts)) []) → has_trap ts ≡ true
-  trap_so true cs b n = n.0
-  trap_so false cs b n = cc
-
-  refused : (i : Instr) (code : ℤ) (off : Update) (on : Effect) → has_trap ts ≡ true → (c.refused ≡ true) × (code ≡ negsuc 3) → applied p fr ts (counted p s) (unless_refused c.refused off on) ≡ u →
-      HasPushed fr (length ts) i s (applied p fr ts (counted p s) (Leaves no_memory off)) → Begins p code fr (length ts) i s u
-  refused i code off on trap h e so = subst (λ k. Begins p k fr (length ts) i s u) (sym h.1) (begins_at i (negsuc 3) off trap (taken c.refused (Leaves no_memory off) on h.0 e) so)
-
-  pub begins_by : (i : Instr) (code : ℤ) → LeavesWith c fr i code → AllTrue (needs p c fr ts (counted p s) i) → does p c fr ts (counted p s) i ≡ u → Begins p code fr (length ts) i s u
-  begins_by (Leave a) code h n e = begins_at (Leave a) code Same n.1.0 (subst (λ x. applied p fr ts (counted p s) (Leaves (word_or_zero x) Same) ≡ u) h e) (refl, refl)
-  begins_by (LeaveIf a) code h n e =
-      let e' = subst (λ x. applied p fr ts (counted p s) (cond (is_negative p c fr ts (counted p s) (word_or_zero x)) (Leaves (word_or_zero x) Same) (updates fr Same)) ≡ u) h.0 e in
-      let n' = subst (λ x. AllTrue (cond (is_negative p c fr ts (counted p s) (word_or_zero x)) (leave_needs s.cells (Run fr ∷ ts)) [])) h.0 n.1 in
-      begins_at (LeaveIf a) code Same (trap_so (int_lt code (pos 0)) s.cells h.1 n') (taken (int_lt code (pos 0)) (Leaves code Same) _ h.1 e') (refl, refl)
-  begins_by (NewOrLeave a x) code h n e = refused (NewOrLeave a x) code Same _ (trap_so c.refused s.cells h.0 n.1) h e (refl, refl)
-  begins_by (Push a) code h n e =
+  -- what was to be pushed is pushed
+  pushes : (i : Instr) (code : ℤ) → AllTrue (needs p c fr ts (counted p s) i) → HasPushed fr (length ts) i s (applied p fr ts (counted p s) (Leaves code (off_of p c fr ts (counted p s) i)))
+  pushes (Push a) code n =
       let o = is_there (held s.cells (Register (length ts) a)) n.1.0 in
       let goes = has_moved s.cells (Register (length ts) a) (Entry (length s.items)) o.0 o.1 (none_pushed_yet p t s w) refl in
-      refused (Push a) code (Object_pushed a) _ n.1.1.1.0 h e (o.0, goes, refl)
-  begins_by (PushOperation a m) code h n e =
+      (o.0, goes, refl)
+  pushes (PushOperation a m) code n =
       let x = is_there (word fr a) n.0 in
-      refused (PushOperation a m) code (Operation_pushed m (word_or_zero (word fr a))) _ n.1.0 h e (x.0, x.1, ap (λ y. An_operation m (word_or_zero y) ∷ s.items) x.1, refl)
-  begins_by _ code h n e = absurd h
+      (x.0, x.1, ap (λ y. An_operation m (word_or_zero y) ∷ s.items) x.1, refl)
+  pushes _ code n = (refl, refl)
+
+  pub begins_by : (i : Instr) (code : ℤ) → LeavesWith c fr i code → AllTrue (needs p c fr ts (counted p s) i) → does p c fr ts (counted p s) i ≡ u → Begins p code fr (length ts) i s u
+  begins_by i code h n e =
+      let v = counted p s in
+      let so = leaves_so p c fr ts v i code h in
+      let may = subst (λ x. MayHave p c fr ts v i x) so (fits p c fr ts v i n).0 in
+      begins_at i code (off_of p c fr ts v i) may.0 (subst (λ x. applied p fr ts v x ≡ u) so e) (pushes i code n)
 
 pub begins :
     (p : Image) (t : Typing) → IsWired p → IsTyped p t → (c : Choice) (s u : State) → WellTyped p t s → named s.cells c.name ≡ None →
@@ -296,19 +304,24 @@ module _ (p : Image) (t : Typing) (s u : State) (code : ℤ) (items : List Item)
           (hears c code fr (gives_of p m) s.cells (length (tasks_of ls)) sh (subst (λ g. Awaits g c sh) (sym w.0) w.2) w.1 free)
 
   below_trap : (ls : List Layer) (gv : Gives) (es : List Pushed) → Good p t s.cells (Unwinding code es ∷ Mark gv ∷ ls) → arrived p code (Trapped ∷ tasks_of ls) items (counted p s) ≡ Goes u → Arrived (Trapped ∷ tasks_of ls) u
+  below_trap [] gv es good e = cc
   below_trap (Method fr sh ∷ ls) gv es good e = subst (λ v. Arrived (Trapped ∷ Run fr ∷ tasks_of ls) v) (goes_same _ u e) (at_method fr sh ls gv es good)
+  below_trap (Dying o ∷ ls) gv es good e = absurd good.stack.1.1.1
   below_trap (Dispatching Of_main ∷ ls) gv es good e = subst (λ v. Arrived (Trapped ∷ Dispatched Of_main ∷ tasks_of ls) v) (goes_same _ u e) (refl, refl, refl)
-  below_trap _ gv es good e = absurd (first_of (assumption tt, cc))
+  below_trap _ gv es good e = absurd good.stack.1.1.0
 
   below_leave : (ls : List Layer) (es : List Pushed) → Good p t s.cells (Unwinding code es ∷ ls) → arrived p code (tasks_of ls) items (counted p s) ≡ Goes u → Arrived (tasks_of ls) u
   below_leave (Mark gv ∷ ls) es good e = below_trap ls gv es good e
   below_leave (Dispatching d ∷ ls) es good e = no_dispatch p d good.stack.1.0
-  below_leave _ es good e = absurd (first_of (assumption tt, cc))
+  below_leave [] es good e = cc
+  below_leave _ es good e = absurd (assumption tt)
 
   by_layers : (below : List Task) (ls : List Layer) → tasks_of ls ≡ Unwind code ∷ below → Good p t s.cells ls → arrived p code below items (counted p s) ≡ Goes u → Arrived below u
-  by_layers below ls at good e =
-      leave_layer (Good p t s.cells) code below ls at good (λ es ls same good.
-      subst (λ b. Arrived b u) same (below_leave ls es good (subst (λ b. arrived p code b items (counted p s) ≡ Goes u) (sym same) e)))
+  by_layers below (Unwinding x es ∷ ls) at good e =
+      let same : tasks_of ls ≡ below = cc in
+      let equal : x ≡ code = cc in
+      subst (λ b. Arrived b u) same (below_leave ls es (subst (λ y. Good p t s.cells (Unwinding y es ∷ ls)) equal good) (subst (λ b. arrived p code b items (counted p s) ≡ Goes u) (sym same) e))
+  by_layers below _ at good e = cc
 
 pub arrives :
     (p : Image) (t : Typing) (c : Choice) (s u : State) → WellTyped p t s →

@@ -3,6 +3,7 @@ pub mod Things
 pub mod Items
 pub mod Claimed
 pub mod Guarded
+pub mod Fitting
 pub mod Moving
 pub mod Preserving
 pub mod Resting

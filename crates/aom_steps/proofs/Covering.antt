@@ -4,7 +4,7 @@ use Rattle.std.specs.Ordering.{int_eq}
 use Rattle.std.specs.Prelude.{int_lt, is_some}
 use Rattle.aom_image.specs.Image.{Image}
 use Rattle.aom_image.specs.declared.instr.Instr.{Instr}
-use Rattle.aom_image.specs.declared.instr.Instr.TheVariants.{Add, And, Call, Const, Copy, Delete, Jump, JumpEmpty, JumpEqual, JumpLess, JumpNull, Leave, LeaveIf, Load, Loop, Move, Mul, New, NewOrLeave, Next, Or, Pop, PopDelete, PopOperation, Print, Push, PushOperation, Put, Return, Stop, Store, Sub, Take, Trap, Xor}
+use Rattle.aom_image.specs.declared.instr.Instr.TheVariants.{JumpEmpty, JumpEqual, JumpLess, JumpNull, Leave, Loop, New, Next, Return}
 use Rattle.aom_image.specs.declared.method.Thing.{Thing}
 use Rattle.aom_classes.specs.Loops.{loop_in, next_in}
 use Rattle.aom_shape.specs.Kinds.{field, filled, is_object_or_null, register}
@@ -21,7 +21,6 @@ use Rattle.aom_shape.specs.declared.kind.Kind.TheVariants.{Unset, Word, Null, Ow
 use Rattle.aom_sound.proofs.Jumps.{not_empty, not_full}
 use Rattle.aom_sound.proofs.Straight.{At, field_fits, kind_fits}
 use Rattle.aom_sound.specs.Claims.{Layer, tasks_of}
-use Rattle.aom_sound.specs.Cleanup.{is_negative}
 use Rattle.aom_sound.specs.Effects.{Calls, Counts, Destroys, Destroys_last, Effect, Goes_on, Jumps, Leaves, Operates, Pushed, Pushed_operation, Repeats, Returns, Sets_trap, Update, deals, deletes, effect, jumps_if, jumps_unless, makes_unless, round}
 use Rattle.aom_sound.specs.Places.{Object, held}
 use Rattle.aom_sound.specs.State.{An_object, An_operation, Choice, Frame, Item, State, Task, counter, field_place, home_holder}
@@ -116,15 +115,6 @@ module _ (p : Image) (t : Typing) (c : Prices) (priced : IsPriced p t c) (ch : C
 
   pub covers : (i : Instr) → Standing i → AllTrue (rule_needs p fr.method fr.place sh i) → Covers c fr sh (effect p ch fr ts s i)
   unfolding loop_in next_in
-  covers (Const a w) it rule = (paid (Const a w) it refl refl).0
-  covers (Copy a b) it rule = (paid (Copy a b) it refl refl).0
-  covers (Add a b x) it rule = (paid (Add a b x) it refl refl).0
-  covers (Sub a b x) it rule = (paid (Sub a b x) it refl refl).0
-  covers (Mul a b x) it rule = (paid (Mul a b x) it refl refl).0
-  covers (And a b x) it rule = (paid (And a b x) it refl refl).0
-  covers (Or a b x) it rule = (paid (Or a b x) it refl refl).0
-  covers (Xor a b x) it rule = (paid (Xor a b x) it refl refl).0
-  covers (Jump to) it rule = (paid (Jump to) it refl refl).0
   covers (JumpEqual a b to) it rule = let f = paid (JumpEqual a b to) it refl refl in branches c fr sh (int_eq (read fr ts s a) (read fr ts s b)) to f.0 f.1.0
   covers (JumpLess a b to) it rule = let f = paid (JumpLess a b to) it refl refl in branches c fr sh (int_lt (read fr ts s a) (read fr ts s b)) to f.0 f.1.0
   covers (JumpNull a to) it rule = on_null a to (register sh a) (held s.cells (here fr ts s a)) rule.0 (paid (JumpNull a to) it refl refl) (kind_fits p t ch s fr sh ls at_hand a)
@@ -133,28 +123,11 @@ module _ (p : Image) (t : Typing) (c : Prices) (priced : IsPriced p t c) (ch : C
       on_empty f to (field_thing p (home_holder fr.home) f) some (field sh f) (held s.cells (field_place fr.home f)) (paid (JumpEmpty f to) it refl refl) (field_fits p t ch s fr sh ls at_hand f some)
   covers (Loop depth rounds) it rule = tt
   covers (Next depth to) it rule = rounding c fr sh (counter fr depth - 1) depth to
-  covers (Load a w) it rule = (paid (Load a w) it refl refl).0
-  covers (Store w b) it rule = (paid (Store w b) it refl refl).0
-  covers (Print a) it rule = (paid (Print a) it refl refl).0
-  covers (Move a b) it rule = (paid (Move a b) it refl refl).0
-  covers (Take a f) it rule = (paid (Take a f) it refl refl).0
-  covers (Put f b) it rule = (paid (Put f b) it refl refl).0
   covers (New a x) it rule = made ch.refused (paid (New a x) it refl refl).0
     where
       made : (b : Bool) → Affords c fr sh 1 (suc fr.place) → Affords c fr sh (1 + pushes c fr sh (makes_unless b ch.name x a)) (suc fr.place)
       made true pays = pays
       made false pays = pays
-  covers (Delete a) it rule = deleting c fr sh (held s.cells (here fr ts s a)) a (paid (Delete a) it refl refl).0
-  covers (Call target m first x) it rule = (paid (Call target m first x) it refl refl).0
-  covers (Trap target m first x) it rule = (paid (Trap target m first x) it refl refl).0
-  covers (NewOrLeave a x) it rule = either c fr sh ch.refused _ _ _ (some (NewOrLeave a x) it) (paid (NewOrLeave a x) it refl refl).0
-  covers (Push a) it rule = either c fr sh ch.refused _ _ _ (some (Push a) it) (paid (Push a) it refl refl).0
-  covers (PushOperation a m) it rule = either c fr sh ch.refused _ _ _ (some (PushOperation a m) it) (paid (PushOperation a m) it refl refl).0
-  covers (Pop a) it rule = (paid (Pop a) it refl refl).0
-  covers PopOperation it rule = (paid PopOperation it refl refl).0
-  covers PopDelete it rule = dealing c fr sh s.items _ (paid PopDelete it refl refl).0
   covers (Leave a) it rule = some (Leave a) it
-  covers (LeaveIf a) it rule = either c fr sh (is_negative p ch fr ts s (read fr ts s a)) _ _ _ (some (LeaveIf a) it) (paid (LeaveIf a) it refl refl).0
   covers (Return a) it rule = some (Return a) it
-  covers Stop it rule = (paid Stop it refl refl).0
-  covers _ it rule = let never : false ≡ true = rule.0 in cc
+  covers i it rule = first_of (assumption (paid i it refl refl), search (either c fr sh, some i it, paid i it refl refl), search (deleting c fr sh, paid i it refl refl), search (dealing c fr sh, paid i it refl refl), grind (arith, rule))

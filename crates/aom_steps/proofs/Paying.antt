@@ -3,7 +3,7 @@ use Rattle.std.proofs.Common.{◌≡◌, ◌≤◌, ◌+◌, ◌-◌, ◌*◌, �
 use Rattle.aom_image.specs.Image.{Image}
 use Rattle.aom_image.specs.Views.{arguments_of, method_at}
 use Rattle.aom_image.specs.declared.instr.Instr.{Instr}
-use Rattle.aom_image.specs.declared.instr.Instr.TheVariants.{Call, Delete, Next, PopDelete, Trap}
+use Rattle.aom_image.specs.declared.instr.Instr.TheVariants.{Next}
 use Rattle.aom_image.specs.declared.instr.Target.{Target}
 use Rattle.aom_image.specs.declared.method.Gives.{Gives}
 use Rattle.aom_image.specs.declared.method.Method.{Method as Method_declared}
@@ -19,6 +19,7 @@ use Rattle.aom_shape.specs.Typing.{Typing}
 use Rattle.aom_shape.specs.declared.kind.Kind.{Kind}
 use Rattle.aom_shape.specs.declared.kind.Kind.TheVariants.{Own, Maybe}
 use Rattle.aom_sound.proofs.Straight.{At, kind_fits}
+use Rattle.aom_sound.proofs.Fitting.{straight_by}
 use Rattle.aom_sound.specs.Calls.{below_top}
 use Rattle.aom_sound.specs.Claims.{Layer, tasks_of}
 use Rattle.aom_sound.specs.Cleanup.{top_place}
@@ -181,44 +182,39 @@ module _ (p : Image) (t : Typing) (c : Prices) (linked : IsLinked p) (priced : I
       let less = there (put_at 0 fr.counters depth (suc n)) (suc r.0) 1 0 (c.round fr.method r.0) (omega (arith, loops, one, more)) (omega (arith, pays)) in
       subst (λ k. Pays (Repeats depth (suc n) k)) (sym r.2) (goes (put_at 0 fr.counters depth (suc n)) (suc r.0) 0 pushed less (omega arith))
 
-  calls : (target : Target) (m first x : ℕ) → slice_get d.code fr.place ≡ Some (Call target m first x) → Affords c fr sh (1 + price c m) (suc fr.place) → Pays (Calls target m first)
-  unfolding loop_in
-  calls target m first x stands pays =
-      let less = straight (Call target m first x) stands refl (1 + price c m) pays in
+  calls : (i : Instr) → slice_get d.code fr.place ≡ Some i → loop_in (Some i) ≡ None → (target : Target) (m first : ℕ) → Affords c fr sh (1 + price c m) (suc fr.place) → Pays (Calls target m first)
+  calls i stands plain target m first pays =
+      let less = straight i stands plain (1 + price c m) pays in
       omega (arith, less, passed_less (objects_left c) (register_passes c) p fr ts s (length (Run fr ∷ ts)) (arguments_of p m) first 0 s.cells, fresh_rounds c m (method_at p m))
 
-  traps : (target : Target) (m first x : ℕ) → slice_get d.code fr.place ≡ Some (Trap target m first x) → Affords c fr sh (1 + price c m) (suc fr.place) → Pays (Sets_trap target m first)
-  unfolding loop_in
-  traps target m first x stands pays =
-      let less = straight (Trap target m first x) stands refl (1 + price c m) pays in
+  traps : (i : Instr) → slice_get d.code fr.place ≡ Some i → loop_in (Some i) ≡ None → (target : Target) (m first : ℕ) → Affords c fr sh (1 + price c m) (suc fr.place) → Pays (Sets_trap target m first)
+  traps i stands plain target m first pays =
+      let less = straight i stands plain (1 + price c m) pays in
       omega (arith, less, passed_less (objects_left c) (register_passes c) p fr ts s (length (Trapped ∷ Run fr ∷ ts)) (arguments_of p m) first 0 s.cells, fresh_rounds c m (method_at p m))
 
   -- the object of a register goes, or that of the last item, which was paid for as it was pushed
   destroys :
-      (o : Object) (a : ℕ) (words : List (Option ℤ)) → slice_get d.code fr.place ≡ Some (Delete a) → held s.cells (here fr ts s a) ≡ Some o →
+      (i : Instr) → slice_get d.code fr.place ≡ Some i → loop_in (Some i) ≡ None → (o : Object) (a : ℕ) (words : List (Option ℤ)) → held s.cells (here fr ts s a) ≡ Some o →
       Affords c fr sh (1 + kind_price c (register sh a)) (suc fr.place) →
       Pays (Destroys o a words)
-  unfolding loop_in
-  destroys o a words stands owned pays =
-      let less = straight (Delete a) stands refl (1 + kind_price c (register sh a)) pays in
+  destroys i stands plain o a words owned pays =
+      let less = straight i stands plain (1 + kind_price c (register sh a)) pays in
       let destruction = begun_left p t c priced o (length s.items) (Run (with_words fr words) ∷ ts) in
       let kind = kind_pays p t c priced (held s.cells) o (register sh a) (subst (λ y. Holds_of p (held s.cells) y (register sh a)) owned (kind_fits p t ch s fr sh ls at_hand a)) in
       omega (arith, less, destruction, kind, moved_less c (here fr ts s a) (Going (length (Run fr ∷ ts))) s.cells refl)
 
   destroys_last :
-      (o : Object) → slice_get d.code fr.place ≡ Some PopDelete → s.items ≡ An_object ∷ below_top s.items → held s.cells (top_place s.items) ≡ Some o →
+      (i : Instr) → slice_get d.code fr.place ≡ Some i → loop_in (Some i) ≡ None → (o : Object) → s.items ≡ An_object ∷ below_top s.items → held s.cells (top_place s.items) ≡ Some o →
       Affords c fr sh 1 (suc fr.place) →
       Pays (Destroys_last o)
-  unfolding loop_in
-  destroys_last o stands top owned pays =
-      let less = straight PopDelete stands refl 1 pays in
+  destroys_last i stands plain o top owned pays =
+      let less = straight i stands plain 1 pays in
       let destruction = begun_left p t c priced o (length (below_top s.items)) (Run fr ∷ ts) in
       omega (arith, less, destruction, leaves_entry c (top_place s.items) (Going (length (Run fr ∷ ts))) o s.cells refl refl owned, operations_below c s.items)
 
-  operates : (m : ℕ) (w : ℤ) → slice_get d.code fr.place ≡ Some PopDelete → s.items ≡ An_operation m w ∷ below_top s.items → Affords c fr sh 1 (suc fr.place) → Pays (Operates m w)
-  unfolding loop_in
-  operates m w stands top pays =
-      let less = straight PopDelete stands refl 1 pays in
+  operates : (i : Instr) → slice_get d.code fr.place ≡ Some i → loop_in (Some i) ≡ None → (m : ℕ) (w : ℤ) → s.items ≡ An_operation m w ∷ below_top s.items → Affords c fr sh 1 (suc fr.place) → Pays (Operates m w)
+  operates i stands plain m w top pays =
+      let less = straight i stands plain 1 pays in
       let same : operations_left c s.items ≡ price c m + operations_left c (below_top s.items) = ap (λ l. operations_left c l) top in
       omega (arith, less, same, fresh_rounds c m (method_at p m))
 
@@ -236,10 +232,10 @@ module _ (p : Image) (t : Typing) (c : Prices) (linked : IsLinked p) (priced : I
   pays i stands it (Counts depth n) f covered = counts i stands it depth n f
   pays i stands it (Repeats depth n to) f covered =
       subst (λ k. Pays (Repeats depth k to)) (sym f.2) (again depth to f.1 (stands ∙ ap (λ x. Some x) f.0) (subst (λ x. Stands p t fr.method fr.place sh x) f.0 it) (f.3 ∙ f.2))
-  pays i stands it (Calls target m first) f covered = calls target m first f.0 (stands ∙ ap (λ x. Some x) f.1) covered
-  pays i stands it (Sets_trap target m first) f covered = traps target m first f.0 (stands ∙ ap (λ x. Some x) f.1) covered
+  pays i stands it (Calls target m first) f covered = calls i stands (straight_by p ch fr ts s i (Calls target m first) f) target m first covered
+  pays i stands it (Sets_trap target m first) f covered = traps i stands (straight_by p ch fr ts s i (Sets_trap target m first) f) target m first covered
   pays i stands it (Returns g a) f covered = returns g a covered
   pays i stands it (Leaves code u) f covered = omega (arith, covered, after u, to_trap_less (left_worths p c) ts)
-  pays i stands it (Destroys o a words) f covered = destroys o a words (stands ∙ ap (λ x. Some x) f.0) f.1 covered
-  pays i stands it (Destroys_last o) f covered = destroys_last o (stands ∙ ap (λ x. Some x) f.0) f.1 f.2 covered
-  pays i stands it (Operates m w) f covered = operates m w (stands ∙ ap (λ x. Some x) f.0) f.1 covered
+  pays i stands it (Destroys o a words) f covered = destroys i stands (straight_by p ch fr ts s i (Destroys o a words) f) o a words f.1 covered
+  pays i stands it (Destroys_last o) f covered = destroys_last i stands (straight_by p ch fr ts s i (Destroys_last o) f) o f.1 f.2 covered
+  pays i stands it (Operates m w) f covered = operates i stands (straight_by p ch fr ts s i (Operates m w) f) m w f.1 covered

@@ -3,7 +3,7 @@ use Rattle.std.proofs.Common.{◌≡◌, ℕ, suc, ◌<◌, true, false, cond, L
 use Rattle.aom_image.specs.Image.{Image}
 use Rattle.aom_image.specs.Views.{instr_at, method_at}
 use Rattle.aom_image.specs.declared.instr.Instr.{Instr}
-use Rattle.aom_classes.specs.Jumps.{KeepsWithin, back_of, jump_of, goes_on}
+use Rattle.aom_classes.specs.Jumps.{KeepsWithin, back_of, jump_of}
 use Rattle.aom_classes.specs.Linked.{IsLinked}
 use Rattle.aom_classes.specs.Loops.{LoopsNest}
 use Rattle.aom_classes.proofs.Facts.{at_place, of_method, linked_place}

@@ -1,5 +1,4 @@
-use Rattle.aom_exec.proofs.DealActs.{pop_delete_does}
-use Rattle.aom_exec.proofs.Topping.{deletes_entry, deletes_whole}
+use Rattle.aom_exec.proofs.DealActs.{deletes_entry, deletes_whole, pop_delete_does}
 use Rattle.aom_exec.proofs.parts.Parts.pop_delete.Goals as goal
 
 pub deal_with_entry-requires-clause-entry : goal.deal_with_entry-requires-clause-entry

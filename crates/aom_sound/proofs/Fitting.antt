@@ -1,0 +1,188 @@
+-- Each instruction may have its effect, and the registers that the effect names are among those of a method.
+use Rattle.std.proofs.Common.{Bool, List, None, Option, Some, [], ap, cond, false, inl, inr, length, refl, subst, suc, sym, true, zero, ℕ, ℤ, negsuc, pos, arith, ◌+◌, ◌-◌, ◌∙◌, ◌∷◌, ◌≡◌, ◌≤◌}
+use Rattle.std.proofs.lemmas.Bool.{leb-true, true≢false}
+use Rattle.std.specs.Ordering.{int_eq}
+use Rattle.std.specs.Prelude.{int_lt, is_some}
+use Rattle.aom_image.specs.Image.{Image}
+use Rattle.aom_image.specs.Operands.{IsRegister}
+use Rattle.aom_image.specs.Views.{arguments_of, method_class}
+use Rattle.aom_image.specs.WellFormed.{InstrFits}
+use Rattle.aom_image.specs.declared.instr.Instr.{Instr}
+use Rattle.aom_image.specs.declared.instr.Instr.TheVariants.{Call, Delete, Jump, JumpEmpty, JumpEqual, JumpLess, JumpNull, Leave, LeaveIf, Loop, Move, New, NewOrLeave, Next, Pop, PopDelete, PopOperation, Push, PushOperation, Return, Take, Trap}
+use Rattle.aom_image.specs.declared.instr.Target.{Target}
+use Rattle.aom_image.specs.declared.limits.Limits.{Limits}
+use Rattle.aom_classes.specs.Jumps.{jump_of}
+use Rattle.aom_classes.specs.Loops.{loop_in}
+use Rattle.aom_shape.specs.Needs.{AllTrue}
+use Rattle.aom_sound.proofs.Finishing.{all_parts}
+use Rattle.aom_sound.specs.Calls.{below_top, needs_entering, needs_target}
+use Rattle.aom_sound.specs.Cleanup.{has_trap, is_negative, leave_needs, no_memory, top_is_whole, top_place, tops_entry, tops_object, tops_operation}
+use Rattle.aom_sound.specs.Effects.{Calls, Carried, Destroys, Destroys_last, Effect, Goes_on, In_field, In_register, Leaves, Made, Operates, Popped, Pushed, Pushed_operation, Same, Sets_trap, Spot, Update, deals, deletes, effect, jumps_if, jumps_unless, makes_unless, round, sets, updates}
+use Rattle.aom_sound.specs.Leaves.{LeavesWith}
+use Rattle.aom_sound.specs.Moves.{needs}
+use Rattle.aom_sound.specs.Places.{Cell, Object, held}
+use Rattle.aom_sound.specs.State.{An_object, An_operation, Choice, Frame, Item, Need, Run, State, Task, counter, field_place, word}
+use Rattle.aom_sound.specs.Steps.{Fits, IsStraight}
+use Rattle.aom_sound.specs.Words.{here, read, word_or_zero}
+
+-- the word that a register has
+read_word : (o : Option ℤ) → is_some o ≡ true → o ≡ Some (word_or_zero o)
+read_word None e = cc
+read_word (Some w) e = refl
+
+-- the last item, by what is asked of it
+object_on_top : (items : List Item) → tops_object items ≡ true → items ≡ An_object ∷ below_top items
+object_on_top (An_object ∷ items) e = refl
+object_on_top _ e = cc
+
+operation_on_top : (items : List Item) → tops_operation items ≡ true → (m : ℕ) × (w : ℤ) × (items ≡ An_operation m w ∷ below_top items)
+operation_on_top (An_operation m w ∷ items) e = (m, w, refl)
+operation_on_top _ e = cc
+
+module _ (p : Image) where
+  -- what is carried to a register, or made in one, comes to one that a method has
+  abbrev pub SpotFits : Spot → Type 0
+  SpotFits (In_register a) = IsRegister a
+  SpotFits (In_field f) = Unit {0}
+
+  abbrev pub UpdateFits : Update → Type 0
+  UpdateFits (Carried from to) = SpotFits to
+  UpdateFits (Made name class a) = IsRegister a
+  UpdateFits (Popped a) = IsRegister a
+  UpdateFits _ = Unit {0}
+
+  -- and so do the arguments of a method that is called
+  abbrev pub EffectFits : Effect → Type 0
+  EffectFits (Goes_on ch) = UpdateFits ch.update
+  EffectFits (Leaves code u) = UpdateFits u
+  EffectFits (Calls target m first) = length (arguments_of p m) ≤ 16
+  EffectFits (Sets_trap target m first) = length (arguments_of p m) ≤ 16
+  EffectFits _ = Unit {0}
+
+module _ (p : Image) (c : Choice) (fr : Frame) (ts : List Task) (s : State) where
+  abbrev May : Instr → Effect → Type 0
+  May i e = Fits p c fr ts s i e × ((l : Limits) → InstrFits l i → EffectFits p e)
+
+  branches : (i : Instr) (b : Bool) (to : ℕ) → jump_of i ≡ Some to → IsStraight i → May i (jumps_if fr b to)
+  branches i true to jump straight = (jump, λ l f. tt)
+  branches i false to jump straight = ((straight, tt), λ l f. tt)
+
+  jumps : (i : Instr) (o : Option Object) (to : ℕ) → jump_of i ≡ Some to → IsStraight i → May i (jumps_unless fr o to)
+  jumps i None to jump straight = (jump, λ l f. tt)
+  jumps i (Some o) to jump straight = ((straight, tt), λ l f. tt)
+
+  loops : (n depth to : ℕ) → counter fr depth - 1 ≡ n → May (Next depth to) (round n depth to)
+  loops zero depth to e = (inr (to, refl, refl), λ l f. tt)
+  loops (suc n) depth to e = ((refl, n, refl, e), λ l f. tt)
+
+  making : (refused : Bool) (a x : ℕ) → May (New a x) (sets fr a None (makes_unless refused c.name x a))
+  unfolding loop_in
+  making true a x = ((refl, tt), λ l f. tt)
+  making false a x = ((refl, refl), λ l f. f.a)
+
+  deleting : (o : Option Object) (a : ℕ) → held s.cells (here fr ts s a) ≡ o → May (Delete a) (deletes fr o a)
+  unfolding loop_in
+  deleting None a e = ((refl, tt), λ l f. tt)
+  deleting (Some o) a e = ((refl, e), λ l f. tt)
+
+  either : (i : Instr) (b : Bool) (code : ℤ) (off : Update) (on : Effect) → (b ≡ true → May i (Leaves code off)) → May i on → May i (cond b (Leaves code off) on)
+  either i true code off on x y = x refl
+  either i false code off on x y = y
+
+  -- where it leaves, it may
+  may_leave : (b : Bool) (cs : List Cell) → AllTrue (cond b (leave_needs cs (Run fr ∷ ts)) []) → b ≡ true → has_trap ts ≡ true
+  may_leave true cs n e = n.0
+  may_leave false cs n e = cc
+
+  dealing : (items : List Item) (o : Option Object) → s.items ≡ items → held s.cells (top_place items) ≡ o → tops_entry items ≡ true → top_is_whole s.cells items ≡ true → May PopDelete (deals fr items o)
+  dealing (An_object ∷ items) None at e there whole = absurd (true≢false (sym whole ∙ ap is_some e))
+  dealing (An_object ∷ items) (Some o) at e there whole = ((refl, at ∙ ap (λ l. An_object ∷ l) (sym (ap below_top at)), ap (λ l. held s.cells (top_place l)) at ∙ e), λ l f. tt)
+  dealing (An_operation m w ∷ items) o at e there whole = ((refl, at ∙ ap (λ l. An_operation m w ∷ l) (sym (ap below_top at))), λ l f. tt)
+  dealing _ o at e there whole = cc
+
+  -- the arguments lie within the registers of the caller, and so of the method called
+  few_arguments : (target : Target) (m first : ℕ) (more : List Need) → AllTrue (needs_entering p fr ts s target m first more) → length (arguments_of p m) ≤ 16
+  few_arguments target m first more n =
+      let met = (all_parts (needs_target p fr ts s target (method_class p m) first (length (arguments_of p m))) _ n).1 in
+      let within = leb-true (first + length (arguments_of p m)) 16 met.0 in
+      omega arith
+
+  pub fits : (i : Instr) → AllTrue (needs p c fr ts s i) → May i (effect p c fr ts s i)
+  unfolding jump_of loop_in
+  fits (Jump to) n = (refl, λ l f. tt)
+  fits (JumpEqual a b to) n = branches (JumpEqual a b to) (int_eq (read fr ts s a) (read fr ts s b)) to refl refl
+  fits (JumpLess a b to) n = branches (JumpLess a b to) (int_lt (read fr ts s a) (read fr ts s b)) to refl refl
+  fits (JumpNull a to) n = jumps (JumpNull a to) (held s.cells (here fr ts s a)) to refl refl
+  fits (JumpEmpty f to) n = jumps (JumpEmpty f to) (held s.cells (field_place fr.home f)) to refl refl
+  fits (Loop depth rounds) n = (inl refl, λ l f. tt)
+  fits (Next depth to) n = loops (counter fr depth - 1) depth to refl
+  fits (Move a b) n = ((refl, tt), λ l f. f.a)
+  fits (Take a field) n = ((refl, tt), λ l f. f.a)
+  fits (New a x) n = making c.refused a x
+  fits (Delete a) n = deleting (held s.cells (here fr ts s a)) a refl
+  fits (Call target m first x) n = ((x, refl), λ l f. few_arguments target m first _ n)
+  fits (Trap target m first x) n = ((x, refl), λ l f. few_arguments target m first _ n)
+  fits (NewOrLeave a x) n = either (NewOrLeave a x) c.refused no_memory Same _ (λ e. ((may_leave c.refused s.cells n.1 e, (e, refl), tt), λ l f. tt)) ((refl, refl), λ l f. f.a)
+  fits (Push a) n = either (Push a) c.refused no_memory (Pushed a) _ (λ e. ((n.1.1.1.0, (e, refl), (refl, n.1.1.1.0)), λ l f. tt)) ((refl, (refl, n.1.1.1.0)), λ l f. tt)
+  fits (PushOperation a m) n =
+      either (PushOperation a m) c.refused no_memory (Pushed_operation m (read fr ts s a)) _ (λ e. ((n.1.0, (e, refl), (a, refl, n.1.0)), λ l f. tt)) ((refl, (a, refl, n.1.0)), λ l f. tt)
+  fits (Pop a) n = ((refl, (refl, object_on_top s.items n.1.1.0)), λ l f. f.a)
+  fits PopOperation n = let o = operation_on_top s.items n.1.0 in ((refl, (refl, o.0, o.1, o.2)), λ l f. tt)
+  fits PopDelete n = dealing s.items (held s.cells (top_place s.items)) refl refl n.0 n.1.0
+  fits (Leave a) n = ((n.1.0, read_word (word fr a) n.0, tt), λ l f. tt)
+  fits (LeaveIf a) n =
+      let code = read fr ts s a in
+      let b = is_negative p c fr ts s code in
+      either (LeaveIf a) b code Same _ (λ e. ((may_leave b s.cells n.1 e, (read_word (word fr a) n.0, e), tt), λ l f. tt)) ((refl, tt), λ l f. tt)
+  fits (Return a) n = ((refl, refl), λ l f. tt)
+  -- the others go on
+  fits _ n = ((refl, tt), λ l f. tt)
+
+  -- what a leave of an instruction pushes before it
+  abbrev pub off_of : Instr → Update
+  off_of (Push a) = Pushed a
+  off_of (PushOperation a m) = Pushed_operation m (read fr ts s a)
+  off_of _ = Same
+
+  taken : (b : Bool) (off on : Effect) → b ≡ true → cond b off on ≡ off
+  taken true off on e = refl
+  taken false off on e = cc
+
+  refused : (code : ℤ) (off : Update) (on : Effect) → (c.refused ≡ true) × (code ≡ negsuc 3) → cond c.refused (Leaves no_memory off) on ≡ Leaves code off
+  refused code off on h = taken c.refused (Leaves no_memory off) on h.0 ∙ ap (λ k. Leaves k off) (sym h.1)
+
+  -- an instruction that leaves with a code has that effect
+  pub leaves_so : (i : Instr) (code : ℤ) → LeavesWith c fr i code → effect p c fr ts s i ≡ Leaves code (off_of i)
+  leaves_so (Leave a) code h = ap (λ x. Leaves (word_or_zero x) Same) h
+  leaves_so (LeaveIf a) code h =
+      ap (λ x. cond (is_negative p c fr ts s (word_or_zero x)) (Leaves (word_or_zero x) Same) (updates fr Same)) h.0
+      ∙ taken (int_lt code (pos 0)) (Leaves code Same) (updates fr Same) h.1
+  leaves_so (NewOrLeave a x) code h = refused code Same (sets fr a None (Made c.name x a)) h
+  leaves_so (Push a) code h = refused code (Pushed a) (sets fr a None (Pushed a)) h
+  leaves_so (PushOperation a m) code h = refused code (Pushed_operation m (read fr ts s a)) (updates fr (Pushed_operation m (read fr ts s a))) h
+  leaves_so _ code h = absurd h
+
+  -- no loop begins at an instruction that calls or leaves, or lets an object or an operation go
+  abbrev pub StraightBy : Instr → Effect → Type 0
+  StraightBy i (Calls target m first) = IsStraight i
+  StraightBy i (Sets_trap target m first) = IsStraight i
+  StraightBy i (Leaves code u) = IsStraight i
+  StraightBy i (Destroys o a words) = IsStraight i
+  StraightBy i (Destroys_last o) = IsStraight i
+  StraightBy i (Operates m w) = IsStraight i
+  StraightBy i _ = Unit {0}
+
+  leaver_straight : (i : Instr) (code : ℤ) → LeavesWith c fr i code → IsStraight i
+  unfolding loop_in
+  leaver_straight (Loop depth rounds) code h = absurd h
+  leaver_straight _ code h = refl
+
+  pub straight_by : (i : Instr) (e : Effect) → Fits p c fr ts s i e → StraightBy i e
+  unfolding loop_in
+  straight_by i (Calls target m first) f = subst IsStraight (sym f.1) refl
+  straight_by i (Sets_trap target m first) f = subst IsStraight (sym f.1) refl
+  straight_by i (Leaves code u) f = leaver_straight i code f.1
+  straight_by i (Destroys o a words) f = subst IsStraight (sym f.0) refl
+  straight_by i (Destroys_last o) f = subst IsStraight (sym f.0) refl
+  straight_by i (Operates m w) f = subst IsStraight (sym f.0) refl
+  straight_by i _ f = tt
