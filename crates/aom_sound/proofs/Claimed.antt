@@ -134,10 +134,8 @@ claim_weaker p d fr a b ls (Going k) w = alike
 
 pub fits_weaker : (p : Image) (h : Place → Option Object) (o : Option Object) {a b : Kind} → Weaker a b → Fits p h o b → Fits p h o a
 fits_weaker p h o alike f = f
-fits_weaker p h (Some o) unset_word f = absurd f
-fits_weaker p h (Some o) unset_null f = absurd f
-fits_weaker p h (Some o) maybe_null f = absurd f
 fits_weaker p h (Some o) maybe_own f = f
+fits_weaker p h (Some o) _ f = absurd f
 fits_weaker p h _ _ f = tt
 
 pub word_fits_weaker : (w : Option ℤ) {a b : Kind} → Weaker a b → WordFits w b → WordFits w a

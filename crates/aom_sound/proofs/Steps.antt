@@ -1,5 +1,5 @@
 -- Every move from a well-typed state.
-use Rattle.std.proofs.Common.{List, None, Some, [], cond, refl, subst, sym, ℕ, ℤ, ◌∙◌, ◌∷◌, ◌≡◌}
+use Rattle.std.proofs.Common.{List, None, Some, [], cond, refl, subst, sym, ℕ, ℤ, ◌∙◌, ◌∷◌, ◌≡◌, arith}
 use Rattle.std.specs.Int.{int_bit_and, int_bit_or, int_bit_xor, int_wrapping_add, int_wrapping_mul, int_wrapping_sub, w32}
 use Rattle.std.specs.Ordering.{int_eq}
 use Rattle.std.specs.Prelude.{int_lt}
@@ -85,16 +85,11 @@ returns : (p : Image) (t : Typing) (c : Choice) (s : State) (fr : Frame) (sh : S
 returns p t c s fr sh [] h a = let clash : Returns fr.method fr.home ≡ Now = h.good.stack.4 in cc
 returns p t c s fr sh (Method fr2 sh2 ∷ ls) h a = law_return p t c s fr fr2 sh sh2 ls h a
 returns p t c s fr sh (Dying o ∷ ls) h a = law_destructor p t c s fr sh o ls h a
-returns p t c s fr sh (Dispatching Of_main ∷ ls) h a = absurd h.good.stack.4.0
-returns p t c s fr sh (Dispatching (Main_left code) ∷ ls) h a = absurd h.good.stack.4.0
-returns p t c s fr sh (Dispatching Of_root ∷ ls) h a = absurd h.good.stack.4.0
 returns p t c s fr sh (Unwinding code es ∷ ls) h a = law_return_unwound p t c s fr sh code es ls h a
 returns p t c s fr sh (Mark gv ∷ []) h a = let clash : Caught gv ≡ Now = h.good.stack.4.1 in cc
 returns p t c s fr sh (Mark gv ∷ Method fr2 sh2 ∷ ls) h a = law_return_caught p t c s fr fr2 sh sh2 gv ls h a
-returns p t c s fr sh (Mark gv ∷ Mark gv' ∷ ls) h a = absurd h.good.stack.4.1.0
-returns p t c s fr sh (Mark gv ∷ Dying o ∷ ls) h a = absurd h.good.stack.4.1.1
-returns p t c s fr sh (Mark gv ∷ Unwinding code es ∷ ls) h a = absurd h.good.stack.4.1.0
 returns p t c s fr sh (Mark gv ∷ Dispatching w ∷ ls) h a = law_return_dispatch p t c s fr sh gv w ls h a
+returns p t c s fr sh _ h a = absurd (grind (arith, h.good.stack.4))
 
 -- an instruction of a well-typed state
 pub instruction_keeps : (p : Image) (t : Typing) → IsWired p → IsTyped p t → (c : Choice) (s : State) (fr : Frame) (sh : Shape) (ls : List Layer) → At p t s fr sh ls → named s.cells c.name ≡ None → Keeps p t (step_instr p c fr (tasks_of ls) s (instr_at p fr.method fr.place))

@@ -1,5 +1,5 @@
 -- The tasks of a well-typed state as a stack on which only what can stand on a layer is written: for proofs that split what stands under a method, a going cell or a leave.
-use Rattle.std.proofs.Common.{List, [], ap, refl, sym, ◌∙◌, ◌∷◌, ◌≡◌, ℤ}
+use Rattle.std.proofs.Common.{arith, List, [], ap, refl, sym, ◌∙◌, ◌∷◌, ◌≡◌, ℤ}
 use Rattle.aom_image.specs.Image.{Image}
 use Rattle.aom_shape.specs.Typing.{Typing}
 use Rattle.aom_sound.specs.Claims.{Dispatching, Dying, Layer, Mark, Method, Unwinding, tasks_of}
@@ -79,10 +79,7 @@ under p t cs Gone (Method fr sh ∷ ls) s = let b = under p t cs (Returns fr.met
 under p t cs Gone (Unwinding code es ∷ ls) s = let b = under p t cs Leaves ls s.1 in (Clearing code b.0, ap (λ l. Unwind code ∷ l) b.1)
 under p t cs Gone (Dispatching Of_root ∷ ls) s = (The_root, ap (λ l. Dispatched Of_root ∷ tasks_of l) s.1)
 under p t cs Leaves (Mark gv ∷ ls) s = let b = under p t cs (Caught gv) ls s.1 in (b.0, ap (λ l. Trapped ∷ l) b.1)
-under p t cs (Returns m home) (Dispatching Of_main ∷ ls) s = absurd s.0
-under p t cs Leaves (Dispatching Of_main ∷ ls) s = absurd s.0
-under p t cs _ [] s = cc
-under p t cs _ _ s = absurd (assumption tt)
+under p t cs _ _ s = absurd (grind arith)
 
 pub stacked : (p : Image) (t : Typing) (s : State) → WellTyped p t s → (k : Tower) × (s.tasks ≡ all_listed k)
 stacked p t s w = let u = under p t s.cells Now w.layers w.good.stack in (u.0, w.tasks ∙ u.1)

@@ -1,5 +1,5 @@
 -- The laws of the instructions on words.
-use Rattle.std.proofs.Common.{Bool, List, None, Option, Some, ap, refl, true, ℕ, ℤ, ◌∙◌, ◌≡◌}
+use Rattle.std.proofs.Common.{Bool, List, None, Option, Some, ap, refl, true, ℕ, ℤ, ◌∙◌, ◌≡◌, arith}
 use Rattle.std.specs.Prelude.{is_none, is_some, length, nat_lt}
 use Rattle.aom_image.specs.Image.{Image}
 use Rattle.aom_image.specs.declared.instr.Instr.TheVariants.{Const, Copy, Load, Print, Store}
@@ -23,9 +23,8 @@ use Rattle.aom_sound.specs.Effects.{applied, computes, jumps_if, writes}
 use Rattle.aom_sound.specs.Words.{loaded, needs_binary, needs_compare, read, stored}
 
 is_read : (w : Option ℤ) (k : Kind) → is_word k ≡ true → WordFits w k → is_some w ≡ true
-is_read None Word e f = absurd f
 is_read (Some w) Word e f = refl
-is_read w _ e f = cc
+is_read _ _ e f = absurd (grind arith)
 
 module _ (p : Image) (t : Typing) (c : Choice) (s : State) (fr : Frame) (sh : Shape) (ls : List Layer) (at_hand : At p t s fr sh ls) where
   -- a register that is claimed to be a word has one

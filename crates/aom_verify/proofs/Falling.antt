@@ -36,8 +36,7 @@ filling_falls a b perhaps_full = omega arith
 
 filling_stays : (a b : Filling) → WeakerFilling a b → filling_rank a ≡ filling_rank b → WeakerFilling b a
 filling_stays a b (alike_filling {x = x}) e = alike_filling
-filling_stays a b perhaps_empty e = absurd (omega arith)
-filling_stays a b perhaps_full e = absurd (omega arith)
+filling_stays a b _ e = absurd (omega arith)
 
 kinds_fall : (xs ys : List Kind) → ((i : ℕ) → Weaker (at Unset xs i) (at Unset ys i)) → sum_by kind_rank xs ≤ sum_by kind_rank ys
 kinds_fall [] ys h = omega arith
