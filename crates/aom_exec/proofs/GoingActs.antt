@@ -12,7 +12,7 @@ use Rattle.aom_cells.specs.declared.cell.Cell.{Cell as Held_cell}
 use Rattle.aom_shape.specs.Typing.{Typing}
 use Rattle.aom_sound.specs.Places.{Place, Register, Entry, Field, Going, Elsewhere, Root, same_place, Object, Cell, held, named, moved, changed}
 use Rattle.aom_sound.specs.Effects.{applied, deletes}
-use Rattle.aom_sound.specs.State.{Home, Inside, frame_of, word, set_word, Of_main, Of_root, Task, Run, Trapped, Destroy, Dispatched, resumed, Rest, State, Choice, raised, Unwind}
+use Rattle.aom_sound.specs.State.{Home, Inside, frame_of, word, set_word, Of_main, Of_root, Task, Run, Destroy, Dispatched, resumed, Rest, State, Choice, raised}
 use Rattle.aom_classes.specs.Roles.{destructor_of}
 use Rattle.aom_sound.specs.Destruction.{begun, begun_by, is_field_of, owns_nothing}
 use Rattle.aom_sound.specs.Moves.{goes_line}
@@ -23,12 +23,12 @@ use Rattle.aom_lines.specs.Turn.{Turn}
 use Rattle.aom_frames.specs.Tasks.{fresh, on_top, with_place, with_register, place_here, register_here, below_first}
 use Rattle.aom_frames.specs.declared.frame.Frame.{Frame as Held_frame}
 use Rattle.aom_frames.specs.declared.task.Task.{Task as Held_task}
-use Rattle.aom_frames.specs.declared.task.Task.TheVariants.{Run as Runs_frame, Trapped as Is_trap, Destroy as Destroys, Dispatched as Ends, Unwind as Unwinds}
+use Rattle.aom_frames.specs.declared.task.Task.TheVariants.{Run as Runs_frame, Destroy as Destroys, Dispatched as Ends}
 use Rattle.aom_frames.specs.declared.task.Dispatch.TheVariants.{Main, Root as End_of_run}
 use Rattle.aom_exec.specs.declared.parts.Parts.{Parts}
 use Rattle.aom_exec.specs.Places.{value_in, register_in, going_in, going_here, with_tasks}
 use Rattle.aom_exec.specs.Going.{destructor_in, destructor_at, destroying, uprooted}
-use Rattle.aom_exec.specs.Agrees.{word_in, word_at, Shows, SameCells, SameItems, SameTask, SameTasks, thing_in, thing_of, number, Agrees}
+use Rattle.aom_exec.specs.Agrees.{word_in, word_at, Shows, SameCells, SameItems, SameTasks, thing_in, thing_of, number, Agrees}
 use Rattle.aom_exec.specs.Acts.{requested, In_going, without_going, DoesIn, GoesAway}
 use Rattle.aom_exec.specs.Acts as acts
 use Rattle.aom_exec.proofs.Values.{cases, same_length, kept, moves, writes, at_depth, register_past, going_past, word_past, value_here, value_kept, value_written, word_next, word_written, destroys_value, destroys_word}

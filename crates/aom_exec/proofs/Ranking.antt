@@ -7,20 +7,19 @@ use Rattle.aom_image.specs.declared.method.Method.{Method}
 use Rattle.aom_cells.specs.Heap.{count}
 use Rattle.aom_shape.specs.Tables.{at}
 use Rattle.aom_shape.specs.Typing.{Typing}
-use Rattle.aom_sound.specs.State.{Frame, Task, Run, Trapped, Destroy, Unwind, Dispatched, Item, An_object, An_operation, A_mark, State, next}
+use Rattle.aom_sound.specs.State.{Frame, Task, Trapped, Destroy, Unwind, Dispatched, Item, State, next}
 use Rattle.aom_sound.specs.WellTyped.{WellTyped}
 use Rattle.aom_frames.specs.declared.frame.Frame.{Frame as Held_frame}
 use Rattle.aom_frames.specs.declared.task.Task.{Task as Held_task}
-use Rattle.aom_frames.specs.declared.task.Task.TheVariants.{Run as Runs_frame, Trapped as Is_trap, Destroy as Destroys, Unwind as Unwinds, Dispatched as Ends}
+use Rattle.aom_frames.specs.declared.task.Task.TheVariants.{Trapped as Is_trap, Destroy as Destroys, Unwind as Unwinds, Dispatched as Ends}
 use Rattle.aom_cleanup.specs.declared.item.Item.{Item as Held_item}
-use Rattle.aom_cleanup.specs.declared.item.Item.TheVariants.{Object as Holds_object, Operation as Holds_operation, Mark as Is_mark}
 use Rattle.aom_ranks.specs.Within.{rounds_weight, weight}
 use Rattle.aom_ranks.specs.Ranks.{price, left_in, frame_rank, end_rank, waiting_rank, tasks_rank, standing, destructions, operations, cell_rank, rank}
 use Rattle.aom_ranks.proofs.Goings.{cells_stand_or_go}
 use Rattle.aom_ranks.proofs.Ranking.{moves_lower_ranks}
 use Rattle.aom_ranks.proofs.Rounds.{worth_alike}
 use Rattle.aom_exec.specs.declared.parts.Parts.{Parts}
-use Rattle.aom_exec.specs.Agrees.{SameFrame, SameTask, SameTasks, SameItem, SameItems, Agrees}
+use Rattle.aom_exec.specs.Agrees.{SameFrame, SameTasks, SameItems, Agrees}
 use Rattle.aom_exec.specs.Ranks.{ranked, operations_in, rank_of}
 use Rattle.aom_exec.specs.Steps.{Sound, Moved}
 use Rattle.aom_exec.proofs.Alike.{by_task, by_tasks, by_item, by_items}

@@ -1,5 +1,5 @@
 -- The room that a run needs is there: on the machine's side as on that of the checked machine.
-use Rattle.std.proofs.Common.{List, Some, [], ap, arith, length, suc, sym, ℕ, ◌+◌, ◌<◌, ◌∙◌, ◌∷◌, ◌≡◌}
+use Rattle.std.proofs.Common.{List, Some, ap, arith, length, suc, sym, ℕ, ◌+◌, ◌<◌, ◌∙◌, ◌∷◌, ◌≡◌}
 use Rattle.aom_image.specs.Image.{Image}
 use Rattle.aom_image.specs.Views.{instr_at}
 use Rattle.aom_image.specs.declared.instr.Instr.{Instr}
@@ -7,13 +7,12 @@ use Rattle.aom_image.specs.declared.instr.Instr.TheVariants.{Push, PushOperation
 use Rattle.aom_image.specs.declared.instr.Target.{Target}
 use Rattle.aom_cleanup.specs.Items.{entries_in, marks_in}
 use Rattle.aom_cleanup.specs.declared.item.Item.{Item as Held_item}
-use Rattle.aom_cleanup.specs.declared.item.Item.TheVariants.{Object as Holds_object, Operation as Holds_operation, Mark as Is_mark}
 use Rattle.aom_frames.specs.Tasks.{Runs, method_here, place_here}
 use Rattle.aom_shape.specs.Tables.{at}
 use Rattle.aom_shape.specs.Typing.{Typing}
 use Rattle.aom_sound.specs.Moves.{step}
 use Rattle.aom_sound.specs.Quiet.{IsCalm}
-use Rattle.aom_sound.specs.State.{A_mark, An_object, An_operation, Choice, Frame, Goes, Item, Run, State, Task}
+use Rattle.aom_sound.specs.State.{Choice, Frame, Goes, Item, Run, State, Task}
 use Rattle.aom_sound.specs.WellTyped.{WellTyped}
 use Rattle.aom_sound.specs.World.{boot_state}
 use Rattle.aom_exec.specs.declared.parts.Parts.{Parts}

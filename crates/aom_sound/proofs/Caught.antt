@@ -13,7 +13,6 @@ use Rattle.aom_shape.specs.Kinds.{is_unowning, register}
 use Rattle.aom_shape.specs.Shape.{Shape}
 use Rattle.aom_shape.specs.Typing.{IsTyped, Typing}
 use Rattle.aom_shape.specs.declared.kind.Entry.{Entry as Pushed}
-use Rattle.aom_shape.specs.declared.kind.Entry.TheVariants.{Object as Pushed_object, Operation as Pushed_operation}
 use Rattle.aom_shape.specs.declared.kind.Kind.TheVariants.{Null}
 use Rattle.aom_sound.proofs.Claimed.{claim_entry_above, claim_going_above}
 use Rattle.aom_sound.proofs.Clearing.{begins_over}
@@ -23,7 +22,7 @@ use Rattle.aom_sound.proofs.Guarded.{goes_same, guarded_goes, guarded_met}
 use Rattle.aom_sound.proofs.Maps.{at-put_at, held_moved, same_place-true, same_place_refl}
 use Rattle.aom_sound.proofs.Straight.{claim_register, fits_unowning}
 use Rattle.aom_sound.specs.Calls.{called, result_register}
-use Rattle.aom_sound.specs.Claims.{Dispatching, Dying, Form, Layer, Mark, Mark_form, Method, Unwinding, declared, entry_form, forms, items_of, objects, tasks_of}
+use Rattle.aom_sound.specs.Claims.{Dispatching, Form, Layer, Mark, Mark_form, Method, Unwinding, declared, forms, items_of, objects, tasks_of}
 use Rattle.aom_sound.specs.Cleanup.{arrival, arrived, code_told, destroyed, has_trap, operation_frame, to_trap, unwound}
 use Rattle.aom_classes.specs.Roles.{destructor_of}
 use Rattle.aom_sound.specs.Destruction.{begun_by}

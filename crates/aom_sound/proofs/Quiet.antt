@@ -1,6 +1,6 @@
 -- While a cell goes or a leave unwinds, quiet methods alone run, so that no trap stands over it.
 use Rattle.std.proofs.lemmas.Option.{same_Some}
-use Rattle.std.proofs.Common.{Bool, List, None, Option, Some, [], ap, false, length, refl, subst, sym, true, ℕ, ℤ, ◌∙◌, ◌∷◌, ◌≡◌}
+use Rattle.std.proofs.Common.{List, None, Option, Some, [], ap, false, length, refl, subst, sym, true, ℕ, ℤ, ◌∙◌, ◌∷◌, ◌≡◌}
 use Rattle.std.proofs.lemmas.Bool.{true≢false, false_from_ne_true}
 use Rattle.std.specs.Prelude.{not}
 use Rattle.aom_classes.specs.Roles.{main_of}
@@ -19,7 +19,7 @@ use Rattle.aom_sound.proofs.Destroying.{destroys}
 use Rattle.aom_sound.proofs.Finishing.{all_parts}
 use Rattle.aom_sound.proofs.Owners.{owned}
 use Rattle.aom_sound.proofs.Preserving.{Acting, Kept, keeps}
-use Rattle.aom_sound.specs.Claims.{Layer, Method, tasks_of}
+use Rattle.aom_sound.specs.Claims.{Layer, tasks_of}
 use Rattle.aom_sound.specs.Laws.{IsWired}
 use Rattle.aom_sound.specs.Moves.{step}
 use Rattle.aom_sound.specs.Owned.{NoneGoes}

@@ -28,7 +28,7 @@ use Rattle.aom_sound.specs.Claims.{Dispatching, Dying, Layer, Mark, Method, Unwi
 use Rattle.aom_sound.specs.Laws.{IsWired}
 use Rattle.aom_sound.specs.Moves.{counted, does, needs, step, step_instr, step_task}
 use Rattle.aom_sound.specs.Places.{named}
-use Rattle.aom_sound.specs.State.{Choice, Destroy, Dispatch, Dispatched, Frame, IsStuck, Main_left, Need, Of_main, Of_root, Run, State, Task, Trapped, Unwind, guarded, next}
+use Rattle.aom_sound.specs.State.{Choice, Destroy, Dispatch, Dispatched, Frame, IsStuck, Need, Run, State, Task, Trapped, Unwind, guarded, next}
 use Rattle.aom_sound.specs.WellTyped.{Caught, Good, Keeps, Now, Returns, WellTyped}
 use Rattle.aom_sound.proofs.Layers.{dispatch_layer, going_layer, leave_layer, mark_layer, method_layer}
 

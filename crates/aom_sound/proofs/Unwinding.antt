@@ -4,7 +4,6 @@ use Rattle.aom_image.specs.Image.{Image}
 use Rattle.aom_shape.specs.Kinds.{entry_kind}
 use Rattle.aom_shape.specs.Typing.{IsTyped, Typing}
 use Rattle.aom_shape.specs.declared.kind.Entry.{Entry as Pushed}
-use Rattle.aom_shape.specs.declared.kind.Entry.TheVariants.{Object as Pushed_object, Operation as Pushed_operation}
 use Rattle.aom_shape.specs.declared.kind.Kind.{Kind}
 use Rattle.aom_sound.proofs.Arrival.{arrives}
 use Rattle.aom_sound.proofs.Dealing.{Dealing, deals}

@@ -1,5 +1,5 @@
 -- The laws of the instructions on words.
-use Rattle.std.proofs.Common.{Bool, List, None, Option, Some, ap, refl, true, ℕ, ℤ, ◌∙◌, ◌≡◌, arith}
+use Rattle.std.proofs.Common.{Bool, List, Option, Some, ap, refl, true, ℕ, ℤ, ◌∙◌, ◌≡◌, arith}
 use Rattle.std.specs.Prelude.{is_none, is_some, length, nat_lt}
 use Rattle.aom_image.specs.Image.{Image}
 use Rattle.aom_image.specs.declared.instr.Instr.TheVariants.{Const, Copy, Load, Print, Store}
