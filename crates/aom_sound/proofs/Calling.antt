@@ -618,8 +618,8 @@ below_mark (Elsewhere w) gv ls b = tt
 below_mark _ gv ls b = omega arith
 
 housed_mark : (p : Image) (cs : List Cell) (home : Home) (gv : Gives) (ls : List Layer) → IsHoused p cs ls home → IsHoused p cs (Mark gv ∷ ls) home
-housed_mark p cs Static gv ls h = h
-housed_mark p cs AtRoot gv ls h = h
+housed_mark p _ Static gv ls h = h
+housed_mark p _ AtRoot gv ls h = h
 housed_mark p cs (Inside o from) gv ls h = record { there = h.there; lives = h.lives; below = below_mark from gv ls h.below; ready = ap is_ready_kind (mark_claims p (λ r. Null) gv ls from) ∙ h.ready }
 
 apart_mark : (p : Image) (home : Home) (gv : Gives) (fr : Frame) (sh : Shape) (ls : List Layer) → IsApart p home (Method fr sh ∷ ls) → IsApart p home (Mark gv ∷ Method fr sh ∷ ls)

@@ -17,12 +17,12 @@ use Rattle.aom_shape.specs.declared.kind.Kind.TheVariants.{Null}
 use Rattle.aom_sound.proofs.Claimed.{claim_entry_above, claim_going_above}
 use Rattle.aom_sound.proofs.Clearing.{begins_over}
 use Rattle.aom_sound.proofs.Fitting.{fits, leaves_so, off_of}
-use Rattle.aom_sound.proofs.Items.{length_forms}
+use Rattle.aom_sound.proofs.Items.{length_forms, no_mark}
 use Rattle.aom_sound.proofs.Guarded.{goes_same, guarded_goes, guarded_met}
 use Rattle.aom_sound.proofs.Maps.{at-put_at, held_moved, same_place-true, same_place_refl}
 use Rattle.aom_sound.proofs.Straight.{claim_register, fits_unowning}
 use Rattle.aom_sound.specs.Calls.{called, result_register}
-use Rattle.aom_sound.specs.Claims.{Dispatching, Form, Layer, Mark, Mark_form, Method, Unwinding, declared, forms, items_of, objects, tasks_of}
+use Rattle.aom_sound.specs.Claims.{Dispatching, Dying, Form, Layer, Mark, Mark_form, Method, Unwinding, declared, forms, items_of, objects, tasks_of}
 use Rattle.aom_sound.specs.Cleanup.{arrival, arrived, code_told, destroyed, has_trap, operation_frame, to_trap, unwound}
 use Rattle.aom_classes.specs.Roles.{destructor_of}
 use Rattle.aom_sound.specs.Destruction.{begun_by}
@@ -41,10 +41,6 @@ use Rattle.aom_sound.proofs.Steps.{step_keeps}
 
 -- ---- the entries of a leave, and its mark
 
-no_mark : {A : Type 0} (x : Pushed) → Mark_form ≡ entry_form x → A
-no_mark (Pushed_object c a) e = cc
-no_mark Pushed_operation e = cc
-
 -- the items of some entries over a mark
 split : (es : List Pushed) (fs : List Form) (all : List Item) → forms all ≡ objects es (Mark_form ∷ fs) → (entries : List Item) × (items : List Item) × (all ≡ entries ++ (A_mark ∷ items)) × AreEntries entries
 split [] fs (A_mark ∷ all) e = ([], all, refl, tt)
@@ -56,7 +52,7 @@ split (x ∷ es) fs (An_operation m w ∷ all) e =
     let same : forms all ≡ objects es (Mark_form ∷ fs) = cc in
     let r = split es fs all same in
     (An_operation m w ∷ r.0, r.1, ap (λ l. An_operation m w ∷ l) r.2, r.3)
-split (x ∷ es) fs (A_mark ∷ all) e = no_mark x cc
+split (x ∷ es) fs (A_mark ∷ all) e = absurd (no_mark x cc)
 split _ fs _ e = cc
 
 no_dispatch : {A : Type 0} (p : Image) (d : Dispatch) → EndsDispatch p d Leaves → A

@@ -1,0 +1,62 @@
+//! A sink that takes no memory.
+ghost use Rattle.std.specs.Prelude.{◌≡◌, ◌==◌, ◌&&◌, length, false, starts_with, nat_eq};
+
+use aom_run::Sink;
+
+/// A sink for 256 bytes that takes no memory.
+#[derive(Drop)]
+pub struct Slip {
+    pub text: [u8; 256],
+    pub length: usize,
+    pub is_full: bool,
+}
+
+impl Sink for Slip {
+    ghost use Rattle.std.specs.Prelude.{None};
+
+    ghost out = { λ _. None };
+
+    ghost failed = { λ s. s.is_full };
+
+    fn put(&mut self, bytes: &[u8]) -> usize {
+        if self.is_full || bytes.is_empty() {
+            return 0;
+        }
+        match self.text.get_mut(self.length) {
+            Some(place) => {
+                *place = bytes[0];
+                self.length = self.length.saturating_add(1);
+                1
+            }
+            None => {
+                self.is_full = true;
+                0
+            }
+        }
+    }
+
+    fn has_failed(&self) -> bool {
+        self.is_full
+    }
+}
+
+impl Slip {
+    /// An empty one.
+    pub fn blank() -> Slip
+        ensures empty { result.length ≡ 0 }
+        ensures well { result.is_full ≡ false }
+    {
+        Slip {
+            text: [0; 256],
+            length: 0,
+            is_full: false,
+        }
+    }
+
+    /// Whether that is what it took.
+    pub fn has(&self, text: &[u8]) -> bool
+        ensures { result ≡ ((self.now.length == length text.now) && starts_with nat_eq self.now.text text.now) }
+    {
+        self.length == text.len() && self.text.as_slice().starts_with(text)
+    }
+}
