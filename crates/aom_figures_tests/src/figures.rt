@@ -1,6 +1,7 @@
 //! Worked images and their figures, each of which was counted by hand.
-use crate::pages::{answer_of, assembled, prices};
+use crate::pages::{assembled, prices};
 use aom_main::ExitStatus;
+use aom_pages::Answer;
 use std::alloc::Global;
 use std::process::Abort;
 use std::test::Fail;
@@ -11,7 +12,7 @@ const ROOM: usize = 1 << 16;
 fn accepts(rt: &impl Abort, alloc: Global, text: &str, figures: &str) -> Result<(), Fail> {
     let image = assembled(alloc, text)?;
     let written = format!(in alloc; "accepted\n{figures}")?;
-    let told = answer_of(alloc, ExitStatus::Done, written.as_str(), "")?;
+    let told = Answer::told(alloc, ExitStatus::Done, written.as_str(), "")?;
     assert_eq!(rt; prices(alloc, image.as_slice(), ROOM), told);
     Ok(())
 }
@@ -25,7 +26,7 @@ fn refuses(
     line: &str,
 ) -> Result<(), Fail> {
     let image = assembled(alloc, text)?;
-    let told = answer_of(alloc, ExitStatus::ImageRefused, figures, line)?;
+    let told = Answer::told(alloc, ExitStatus::ImageRefused, figures, line)?;
     assert_eq!(rt; prices(alloc, image.as_slice(), ROOM), told);
     Ok(())
 }
@@ -181,7 +182,7 @@ fn other_refusals_write_no_figures(rt: HostRuntime) -> Result<(), Fail> {
     refuses(&rt, alloc, unset, "", "verify 0 0 1\n")?;
     let twice = "image budget 1;method m main;ret;end;method n main;ret;end";
     refuses(&rt, alloc, twice, "", "link 4\n")?;
-    let told = answer_of(alloc, ExitStatus::ImageRefused, "", "load 3\n")?;
+    let told = Answer::told(alloc, ExitStatus::ImageRefused, "", "load 3\n")?;
     assert_eq!(rt; prices(alloc, b"AOIM", ROOM), told);
     Ok(())
 }
@@ -203,7 +204,7 @@ fn the_output_may_fail(rt: HostRuntime) -> Result<(), Fail> {
     ] {
         let text = format!(in alloc; "image cells 3 budget {budget};{THREE}")?;
         let image = assembled(alloc, text.as_str())?;
-        let cut = answer_of(alloc, ExitStatus::Fault, written, "write\n")?;
+        let cut = Answer::told(alloc, ExitStatus::Fault, written, "write\n")?;
         assert_eq!(rt; prices(alloc, image.as_slice(), room), cut);
     }
     Ok(())

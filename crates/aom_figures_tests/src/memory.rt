@@ -1,60 +1,9 @@
 //! Any request for memory may be refused: then the command says so, and writes nothing else. Nothing here but the
 //! command asks for memory.
 use aom_main::{ExitStatus, prices_bytes};
-use aom_run::Sink;
+use aom_pages::Slip;
 use std::alloc::Global;
 use std::process::Abort;
-
-/// A sink that takes no memory.
-#[derive(Drop)]
-struct Slip {
-    text: [u8; 256],
-    length: usize,
-    is_full: bool,
-}
-
-impl Sink for Slip {
-    ghost use Rattle.std.specs.Prelude.{None};
-
-    ghost out = { λ _. None };
-
-    ghost failed = { λ s. s.is_full };
-
-    fn put(&mut self, bytes: &[u8]) -> usize {
-        if self.is_full || bytes.is_empty() {
-            return 0;
-        }
-        match self.text.get_mut(self.length) {
-            Some(place) => {
-                *place = bytes[0];
-                self.length = self.length.saturating_add(1);
-                1
-            }
-            None => {
-                self.is_full = true;
-                0
-            }
-        }
-    }
-
-    fn has_failed(&self) -> bool {
-        self.is_full
-    }
-}
-
-impl Slip {
-    fn blank() -> Slip {
-        Slip {
-            text: [0; 256],
-            length: 0,
-            is_full: false,
-        }
-    }
-
-    fn has(&self, text: &[u8]) -> bool {
-        self.length == text.len() && self.text.as_slice().starts_with(text)
-    }
-}
 
 /// A main that prints 7 and stops, in 4 steps, with a declared number of them.
 fn first(declared: u8) -> [u8; 80] {

@@ -1,9 +1,10 @@
 //! Images that declare their price, and images that declare a step less.
 ghost use Rattle.std.specs.Prelude.{◌<◌};
 
-use crate::pages::{answer_of, runs};
-use crate::programs::{assembled, refuses, stops};
+use crate::pages::{assembled, runs};
+use crate::programs::{refuses, stops};
 use aom_main::ExitStatus;
+use aom_pages::Answer;
 use std::alloc::Global;
 use std::process::Abort;
 use std::test::Fail;
@@ -12,7 +13,7 @@ use std::test::Fail;
 fn is_refused(rt: &impl Abort, alloc: Global, text: &str, line: &str) -> Result<(), Fail> {
     refuses(rt, alloc, text, line)?;
     let image = assembled(alloc, text)?;
-    let refused = answer_of(alloc, ExitStatus::ImageRefused, "", line)?;
+    let refused = Answer::told(alloc, ExitStatus::ImageRefused, "", line)?;
     assert_eq!(rt; runs(alloc, image.as_slice(), b"", 100), refused);
     Ok(())
 }

@@ -1,7 +1,8 @@
 //! Worked programs that leave: what is unwound, in which order, and what the trap's method hears.
-use crate::pages::{answer_of, checks, runs};
-use crate::programs::{assembled, refuses, stops};
+use crate::pages::{assembled, checks, runs};
+use crate::programs::{refuses, stops};
 use aom_main::ExitStatus;
+use aom_pages::Answer;
 use std::alloc::Global;
 use std::process::Abort;
 use std::test::Fail;
@@ -41,7 +42,7 @@ fn stops_refused(
         format!(in alloc; "refuse {request}\n")?
     };
     let text = format!(in alloc; "@0 main\n{told}end stopped cells 0\n")?;
-    let answer = answer_of(alloc, ExitStatus::Done, text.as_str(), "")?;
+    let answer = Answer::told(alloc, ExitStatus::Done, text.as_str(), "")?;
     assert_eq!(rt; runs(alloc, image, script.as_bytes(), 1 << 10), answer);
     Ok(())
 }
@@ -100,7 +101,7 @@ fn what_was_pushed_last_goes_first(rt: HostRuntime) -> Result<(), Fail> {
     ] {
         stops_refused(&rt, rt.alloc(), image.as_slice(), request, told)?;
     }
-    let accepted = answer_of(rt.alloc(), ExitStatus::Done, "accepted\n", "")?;
+    let accepted = Answer::told(rt.alloc(), ExitStatus::Done, "accepted\n", "")?;
     assert_eq!(rt; checks(rt.alloc(), image.as_slice(), 100), accepted);
     Ok(())
 }
@@ -146,7 +147,7 @@ fn main_may_leave(rt: HostRuntime) -> Result<(), Fail> {
         rt.alloc(),
         "image budget 2;method main main leaves;const r0 -5;leave r0;end",
     )?;
-    let left = answer_of(
+    let left = Answer::told(
         rt.alloc(),
         ExitStatus::Broken,
         "@0 main\nleave -5\nend left -5 cells 0\n",

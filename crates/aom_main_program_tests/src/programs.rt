@@ -1,25 +1,15 @@
 //! Worked programs, each from its text to its transcript or its refusal.
-use crate::pages::{answer_of, checks, page_of, runs};
-use aom_main::{ExitStatus, asm_bytes};
+use crate::pages::{assembled, checks, runs};
+use aom_main::ExitStatus;
+use aom_pages::Answer;
 use std::alloc::Global;
 use std::process::Abort;
 use std::test::Fail;
 
-/// The bytes of the image that a text denotes.
-pub fn assembled(alloc: Global, text: &str) -> Result<Vec<u8>, Fail> {
-    let mut image = page_of(alloc, 1 << 20);
-    let mut errors = page_of(alloc, 100);
-    let status = asm_bytes(alloc, text.as_bytes(), &mut image, &mut errors);
-    if status != ExitStatus::Done {
-        return Err(Fail::from("a text that denotes no image"));
-    }
-    Ok(image.text)
-}
-
 /// Runs the image of a text, which ends as stopped with that transcript.
 pub fn stops(rt: &impl Abort, alloc: Global, text: &str, transcript: &str) -> Result<(), Fail> {
     let image = assembled(alloc, text)?;
-    let told = answer_of(alloc, ExitStatus::Done, transcript, "")?;
+    let told = Answer::told(alloc, ExitStatus::Done, transcript, "")?;
     assert_eq!(rt; runs(alloc, image.as_slice(), b"", 1 << 16), told);
     Ok(())
 }
@@ -27,7 +17,7 @@ pub fn stops(rt: &impl Abort, alloc: Global, text: &str, transcript: &str) -> Re
 /// The image of a text is refused.
 pub fn refuses(rt: &impl Abort, alloc: Global, text: &str, line: &str) -> Result<(), Fail> {
     let image = assembled(alloc, text)?;
-    let refused = answer_of(alloc, ExitStatus::ImageRefused, "", line)?;
+    let refused = Answer::told(alloc, ExitStatus::ImageRefused, "", line)?;
     assert_eq!(rt; checks(alloc, image.as_slice(), 100), refused);
     Ok(())
 }
@@ -235,7 +225,7 @@ fn a_refused_request_gives_null(rt: HostRuntime) -> Result<(), Fail> {
     ] {
         let [first, second, third] = given;
         let text = format!(in alloc; "@0 main\n{first}{second}{third}end stopped cells 0\n")?;
-        let told = answer_of(alloc, ExitStatus::Done, text.as_str(), "")?;
+        let told = Answer::told(alloc, ExitStatus::Done, text.as_str(), "")?;
         assert_eq!(rt; runs(alloc, image.as_slice(), script.as_bytes(), 100), told);
     }
     Ok(())

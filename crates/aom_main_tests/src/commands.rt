@@ -1,8 +1,7 @@
 //! Each command over bytes and pages, and what is told where something fails.
-use crate::pages::{
-    Answer, FIRST, FULL_HEAP, LISTING, SHORT, answer_of, assembles, checks, lists, page_of, runs,
-};
+use crate::pages::{FIRST, FULL_HEAP, LISTING, SHORT, assembles, checks, lists, runs};
 use aom_main::{ExitStatus, Fault, run_bytes, tell};
+use aom_pages::{Answer, Page};
 use std::alloc::Global;
 use std::test::Fail;
 
@@ -20,9 +19,9 @@ const FIRST_TEXT: &str = "@0 main\nout 7\nend stopped cells 0\n";
 #[test]
 fn the_first_image_is_accepted_and_runs(rt: HostRuntime) -> Result<(), Fail> {
     let alloc = rt.alloc();
-    let accepted = answer_of(alloc, ExitStatus::Done, "accepted\n", "")?;
+    let accepted = Answer::told(alloc, ExitStatus::Done, "accepted\n", "")?;
     assert_eq!(rt; checks(alloc, &FIRST, 100), accepted);
-    let told = answer_of(alloc, ExitStatus::Done, FIRST_TEXT, "")?;
+    let told = Answer::told(alloc, ExitStatus::Done, FIRST_TEXT, "")?;
     assert_eq!(rt; runs(alloc, &FIRST, b"", 100), told);
     Ok(())
 }
@@ -42,7 +41,7 @@ fn other_bytes_are_refused(rt: HostRuntime) -> Result<(), Fail> {
         (one_native.as_slice(), "link 0\n"),
         (unset_register.as_slice(), "verify 0 1 1\n"),
     ] {
-        let refused = answer_of(alloc, ExitStatus::ImageRefused, "", line)?;
+        let refused = Answer::told(alloc, ExitStatus::ImageRefused, "", line)?;
         assert_eq!(rt; checks(alloc, bytes, 100), refused);
         assert_eq!(rt; runs(alloc, bytes, b"x", 100), refused);
     }
@@ -59,7 +58,7 @@ fn a_text_is_assembled_and_an_image_listed(rt: HostRuntime) -> Result<(), Fail> 
     };
     assert_eq!(rt; assembles(alloc, SHORT.as_bytes(), 100), bytes);
     assert_eq!(rt; assembles(alloc, LISTING.as_bytes(), 100), bytes);
-    let listing = answer_of(alloc, ExitStatus::Done, LISTING, "")?;
+    let listing = Answer::told(alloc, ExitStatus::Done, LISTING, "")?;
     assert_eq!(rt; lists(alloc, &FIRST, 200), listing);
     Ok(())
 }
@@ -76,14 +75,14 @@ fn a_text_is_refused_with_its_line(rt: HostRuntime) -> Result<(), Fail> {
         ("", "asm 1 6\n"),
         ("\nimage version 3 budget 4", "asm 2 7\n"),
     ] {
-        let refused = answer_of(alloc, ExitStatus::ImageRefused, "", line)?;
+        let refused = Answer::told(alloc, ExitStatus::ImageRefused, "", line)?;
         assert_eq!(rt; assembles(alloc, text.as_bytes(), 100), refused);
     }
-    let cut = answer_of(alloc, ExitStatus::Fault, "AOIM", "write\n")?;
+    let cut = Answer::told(alloc, ExitStatus::Fault, "AOIM", "write\n")?;
     assert_eq!(rt; assembles(alloc, SHORT.as_bytes(), 4), cut);
-    let refused = answer_of(alloc, ExitStatus::ImageRefused, "", "load 3\n")?;
+    let refused = Answer::told(alloc, ExitStatus::ImageRefused, "", "load 3\n")?;
     assert_eq!(rt; lists(alloc, &FIRST[..79], 100), refused);
-    let cut = answer_of(alloc, ExitStatus::Fault, "image", "write\n")?;
+    let cut = Answer::told(alloc, ExitStatus::Fault, "image", "write\n")?;
     assert_eq!(rt; lists(alloc, &FIRST, 5), cut);
     Ok(())
 }
@@ -92,7 +91,7 @@ fn a_text_is_refused_with_its_line(rt: HostRuntime) -> Result<(), Fail> {
 fn a_full_heap_gives_null(rt: HostRuntime) -> Result<(), Fail> {
     let alloc = rt.alloc();
     let text = "@0 main\nout 1\ngone 0\nend stopped cells 0\n";
-    let told = answer_of(alloc, ExitStatus::Done, text, "")?;
+    let told = Answer::told(alloc, ExitStatus::Done, text, "")?;
     assert_eq!(rt; runs(alloc, &FULL_HEAP, b"\n", 100), told);
     Ok(())
 }
@@ -102,7 +101,7 @@ fn a_run_may_end_waiting(rt: HostRuntime) -> Result<(), Fail> {
     let alloc = rt.alloc();
     let prints_twice = changed(alloc, 64, 0x13)?;
     let text = "@0 main\nout 7\nout 7\nend waiting cells 0\n";
-    let told = answer_of(alloc, ExitStatus::Unfinished, text, "")?;
+    let told = Answer::told(alloc, ExitStatus::Unfinished, text, "")?;
     assert_eq!(rt; runs(alloc, &prints_twice, b"", 100), told);
     Ok(())
 }
@@ -117,7 +116,7 @@ fn a_script_may_be_refused(rt: HostRuntime) -> Result<(), Fail> {
         (b"refuse x", "script 1 3\n"),
         (b"refuse 1\n\nrefuse 0", "script 3 5\n"),
     ] {
-        let refused = answer_of(alloc, ExitStatus::CallRefused, "", line)?;
+        let refused = Answer::told(alloc, ExitStatus::CallRefused, "", line)?;
         assert_eq!(rt; runs(alloc, &FIRST, script, 100), refused);
     }
     Ok(())
@@ -127,10 +126,10 @@ fn a_script_may_be_refused(rt: HostRuntime) -> Result<(), Fail> {
 fn the_output_may_fail(rt: HostRuntime) -> Result<(), Fail> {
     let alloc = rt.alloc();
     for (room, text) in [(0, ""), (10, "@0 main\nou"), (20, "@0 main\nout 7\nend st")] {
-        let cut = answer_of(alloc, ExitStatus::Fault, text, "write\n")?;
+        let cut = Answer::told(alloc, ExitStatus::Fault, text, "write\n")?;
         assert_eq!(rt; runs(alloc, &FIRST, b"", room), cut);
     }
-    let cut = answer_of(alloc, ExitStatus::Fault, "accep", "write\n")?;
+    let cut = Answer::told(alloc, ExitStatus::Fault, "accep", "write\n")?;
     assert_eq!(rt; checks(alloc, &FIRST, 5), cut);
     Ok(())
 }
@@ -138,8 +137,8 @@ fn the_output_may_fail(rt: HostRuntime) -> Result<(), Fail> {
 #[test]
 fn errors_that_fail_change_nothing_else(rt: HostRuntime) -> Result<(), Fail> {
     let alloc = rt.alloc();
-    let mut out = page_of(alloc, 100);
-    let mut errors = page_of(alloc, 3);
+    let mut out = Page::new(alloc, 100);
+    let mut errors = Page::new(alloc, 3);
     let status = run_bytes(alloc, b"", b"", 1, &mut out, &mut errors);
     assert_eq!(rt; status, ExitStatus::ImageRefused);
     assert_eq!(rt; errors.text.as_slice(), b"loa".as_slice());
@@ -156,7 +155,7 @@ fn each_fault_has_its_line_and_status(rt: HostRuntime) -> Result<(), Fail> {
         (Fault::Write, "write\n", 5),
         (Fault::Memory, "memory\n", 5),
     ] {
-        let mut errors = page_of(alloc, 100);
+        let mut errors = Page::new(alloc, 100);
         let status = tell(&fault, &mut errors);
         assert_eq!(rt; status.number(), number);
         assert_eq!(rt; errors.text.as_slice(), line.as_bytes());

@@ -2,60 +2,9 @@
 //! command asks for memory.
 use crate::pages::{FIRST, FULL_HEAP, LISTING, SHORT};
 use aom_main::{ExitStatus, asm_bytes, check_bytes, dis_bytes, run_bytes};
-use aom_run::Sink;
+use aom_pages::Slip;
 use std::alloc::Global;
 use std::process::Abort;
-
-/// A sink that takes no memory.
-#[derive(Drop)]
-struct Slip {
-    text: [u8; 256],
-    length: usize,
-    is_full: bool,
-}
-
-impl Sink for Slip {
-    ghost use Rattle.std.specs.Prelude.{None};
-
-    ghost out = { λ _. None };
-
-    ghost failed = { λ s. s.is_full };
-
-    fn put(&mut self, bytes: &[u8]) -> usize {
-        if self.is_full || bytes.is_empty() {
-            return 0;
-        }
-        match self.text.get_mut(self.length) {
-            Some(place) => {
-                *place = bytes[0];
-                self.length = self.length.saturating_add(1);
-                1
-            }
-            None => {
-                self.is_full = true;
-                0
-            }
-        }
-    }
-
-    fn has_failed(&self) -> bool {
-        self.is_full
-    }
-}
-
-impl Slip {
-    fn blank() -> Slip {
-        Slip {
-            text: [0; 256],
-            length: 0,
-            is_full: false,
-        }
-    }
-
-    fn has(&self, text: &[u8]) -> bool {
-        self.length == text.len() && self.text.as_slice().starts_with(text)
-    }
-}
 
 /// What a call answered and wrote.
 #[derive(Drop)]

@@ -8,6 +8,6 @@ mod answer;
 mod page;
 mod slip;
 
-pub use answer::{Answer, assembled, checks, runs};
+pub use answer::Answer;
 pub use page::Page;
 pub use slip::Slip;

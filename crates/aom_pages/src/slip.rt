@@ -1,5 +1,6 @@
 //! A sink that takes no memory.
-ghost use Rattle.std.specs.Prelude.{◌≡◌, ◌==◌, ◌&&◌, length, false, starts_with, nat_eq};
+ghost use Rattle.std.specs.Prelude.{◌≡◌, ◌==◌, ◌&&◌, length, nat_eq, false};
+ghost use Rattle.std.specs.List.{starts_with};
 
 use aom_run::Sink;
 

@@ -4,54 +4,15 @@ use aom_budget::{Accepted, accept};
 use aom_classes::link;
 use aom_exec::Machine;
 use aom_lines::Turn;
+use aom_pages::Page;
 use aom_run::{Outcome, Sink, read_script, run, write_text};
 use aom_sound::Ending;
 use aom_verify::check;
 use std::alloc::Global;
 use std::test::Fail;
 
-/// A sink that takes three bytes at a time, and so many in all.
-#[derive(Drop)]
-struct Narrow {
-    text: Vec<u8>,
-    room: usize,
-    is_full: bool,
-}
-
-impl Sink for Narrow {
-    ghost use Rattle.std.specs.Prelude.{Some};
-
-    ghost out = { λ s. Some s.text.items };
-
-    ghost failed = { λ s. s.is_full };
-
-    fn put(&mut self, bytes: &[u8]) -> usize {
-        if self.is_full || bytes.is_empty() {
-            return 0;
-        }
-        let count = bytes.len().min(self.room).min(3);
-        if self.text.extend_from_slice(&bytes[..count]).is_err() {
-            self.is_full = true;
-            return 0;
-        }
-        self.room -= count;
-        if count == 0 && !bytes.is_empty() {
-            self.is_full = true;
-        }
-        count
-    }
-
-    fn has_failed(&self) -> bool {
-        self.is_full
-    }
-}
-
-fn with_room(rt: &HostRuntime, room: usize) -> Narrow {
-    Narrow {
-        text: Vec::new(rt.alloc()),
-        room,
-        is_full: false,
-    }
+fn with_room(rt: &HostRuntime, room: usize) -> Page {
+    Page::narrow(rt.alloc(), room, 3)
 }
 
 #[test]
@@ -79,7 +40,7 @@ fn accepted_of(alloc: Global, text: &str) -> Option<Accepted> {
     accept(alloc, checked).ok()
 }
 
-fn outcome_of(alloc: Global, text: &str, sink: &mut Narrow) -> Option<Outcome> {
+fn outcome_of(alloc: Global, text: &str, sink: &mut Page) -> Option<Outcome> {
     let accepted = accepted_of(alloc, text)?;
     let script = read_script(alloc, b"\n").ok()?;
     let mut machine = Machine::boot(alloc, &accepted).ok()?;

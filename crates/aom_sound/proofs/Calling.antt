@@ -620,7 +620,7 @@ below_mark _ gv ls b = omega arith
 housed_mark : (p : Image) (cs : List Cell) (home : Home) (gv : Gives) (ls : List Layer) → IsHoused p cs ls home → IsHoused p cs (Mark gv ∷ ls) home
 housed_mark p _ Static gv ls h = h
 housed_mark p _ AtRoot gv ls h = h
-housed_mark p cs (Inside o from) gv ls h = record { there = h.there; lives = h.lives; below = below_mark from gv ls h.below; ready = ap is_ready_kind (mark_claims p (λ r. Null) gv ls from) ∙ h.ready }
+housed_mark p _ (Inside o from) gv ls h = record { there = h.there; lives = h.lives; below = below_mark from gv ls h.below; ready = ap is_ready_kind (mark_claims p (λ r. Null) gv ls from) ∙ h.ready }
 
 apart_mark : (p : Image) (home : Home) (gv : Gives) (fr : Frame) (sh : Shape) (ls : List Layer) → IsApart p home (Method fr sh ∷ ls) → IsApart p home (Mark gv ∷ Method fr sh ∷ ls)
 apart_mark p Static gv fr sh ls a = a
