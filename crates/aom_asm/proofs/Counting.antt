@@ -10,7 +10,7 @@ use Rattle.aom_text.specs.Words.{is_plain}
 use Rattle.aom_text.specs.declared.fault.AsmFaultKind.TheVariants.{NotAscii}
 use Rattle.aom_text.specs.declared.text.Statement.{Statement}
 use Rattle.aom_image.specs.declared.image.Header.{Header}
-use Rattle.aom_image.specs.declared.instr.Instr.{Instr}
+use Rattle.aom_instructions.specs.declared.instr.Instr.{Instr}
 use Rattle.aom_syntax.specs.Headers.{image_statement}
 use Rattle.aom_syntax.specs.Keywords.{keyword_of, keyword_text, keywords}
 use Rattle.aom_syntax.specs.Methods.{instruction}

@@ -17,7 +17,7 @@ use Rattle.aom_classes.specs.Roles.{destructor_of, is_main, main_of}
 use Rattle.aom_classes.proofs.Each.{both}
 use Rattle.aom_classes.proofs.Playing.{found}
 use Rattle.aom_shape.specs.Tables.{at}
-use Rattle.aom_shape.specs.Typing.{Typing}
+use Rattle.aom_rules.specs.Typing.{Typing}
 use Rattle.aom_verify.specs.Strongest.{IsStrongest}
 use Rattle.aom_prices.specs.Costs.{ArePrices, destructor_price}
 use Rattle.aom_prices.specs.Dispatches.{IsAffordable, main_price, root_price}

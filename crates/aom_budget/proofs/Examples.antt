@@ -3,8 +3,8 @@ use Rattle.std.proofs.Common.{◌≡◌, ℕ, zero, suc, ◌<◌, ◌≤◌, [],
 use Rattle.aom_image.specs.Image.{Image}
 use Rattle.aom_image.specs.Views.{method_at, class_at, class_in}
 use Rattle.aom_image.specs.declared.class.ClassKind.TheVariants.{Session, Server}
-use Rattle.aom_image.specs.declared.instr.Instr.TheVariants.{Push, PushOperation, Delete, Trap, Cancel, PopDelete}
-use Rattle.aom_image.specs.declared.instr.Target.TheVariants.{This}
+use Rattle.aom_instructions.specs.declared.instr.Instr.TheVariants.{Push, PushOperation, Delete, Trap, Cancel, PopDelete}
+use Rattle.aom_instructions.specs.declared.instr.Target.TheVariants.{This}
 use Rattle.aom_image.specs.declared.method.Gives.TheVariants.{Nothing}
 use Rattle.aom_image.specs.declared.method.Method.{Method}
 use Rattle.aom_image.specs.declared.method.Role.{Role}

@@ -6,10 +6,10 @@ use Rattle.std.specs.List.{list_all}
 use Rattle.std.proofs.lemmas.List.Folds.{list_all-append}
 use Rattle.aom_image.specs.Image.{Image}
 use Rattle.aom_image.specs.Views.{arguments_of, arguments_in, class_in, fields_of, gives_of, instr_at, method_at, method_class, role_in}
-use Rattle.aom_image.specs.declared.instr.Instr.{Instr}
-use Rattle.aom_image.specs.declared.instr.Instr.TheVariants.{New, NewOrLeave, Delete, Push, PushOperation, Call, Trap, Cancel}
-use Rattle.aom_image.specs.declared.instr.Target.{Target}
-use Rattle.aom_image.specs.declared.instr.Target.TheVariants.{This, Register, Field, Entry as On_entry}
+use Rattle.aom_instructions.specs.declared.instr.Instr.{Instr}
+use Rattle.aom_instructions.specs.declared.instr.Instr.TheVariants.{New, NewOrLeave, Delete, Push, PushOperation, Call, Trap, Cancel}
+use Rattle.aom_instructions.specs.declared.instr.Target.{Target}
+use Rattle.aom_instructions.specs.declared.instr.Target.TheVariants.{This, Register, Field, Entry as On_entry}
 use Rattle.aom_image.specs.declared.method.Argument.{Argument}
 use Rattle.aom_image.specs.declared.method.Argument.TheVariants.{Word as A_word_argument, Own as An_own_argument}
 use Rattle.aom_image.specs.declared.method.Gives.{Gives}
@@ -27,20 +27,21 @@ use Rattle.aom_classes.specs.Roles.{plays, role_of, same_role}
 use Rattle.aom_classes.proofs.Each.{both, join}
 use Rattle.aom_classes.proofs.Facts.{at_place, all_there, of_method}
 use Rattle.aom_classes.proofs.Playing.{found}
-use Rattle.aom_shape.specs.Calls.{brought, caught, readied_entry, readied_at, fields_worked, while_called, argument_moved, arguments_moved}
-use Rattle.aom_shape.specs.Cleanup.{entry_of, top_kind, without_top, with_entry}
+use Rattle.aom_rules.specs.Calls.{brought, caught, fields_worked, while_called}
+use Rattle.aom_shape.specs.Entries.{readied_entry, readied_at, without_top, with_entry}
+use Rattle.aom_shape.specs.Arguments.{argument_moved, arguments_moved, argument_kind, entry_shape}
+use Rattle.aom_rules.specs.Cleanup.{entry_of, top_kind}
 use Rattle.aom_shape.specs.Kinds.{entry_kind, register, field, set_register, set_field, filled, readied}
 use Rattle.aom_shape.specs.Needs.{Flow}
-use Rattle.aom_shape.specs.Objects.{flow_jump_null, flow_jump_empty}
+use Rattle.aom_rules.specs.Objects.{flow_jump_null, flow_jump_empty}
 use Rattle.aom_shape.specs.Order.{Weaker, SaysNoMore}
 use Rattle.aom_shape.specs.Order.WeakerFilling.{alike_filling}
 use Rattle.aom_shape.specs.Order.Weaker.{alike, unset_word, unset_null, maybe_null, maybe_own}
-use Rattle.aom_shape.specs.Rules.{flows, ways_of}
+use Rattle.aom_rules.specs.Rules.{flows, ways_of}
 use Rattle.aom_shape.specs.Shape.{Shape}
-use Rattle.aom_shape.specs.Ways.{As_before, Branches, Branches_on_empty, Branches_on_null, Called, Caught, Dropped, Ends, Filled, Goes_back, Goes_on, Goes_to, Holding, Moved, News, Popped, Pushed, Pushed_operation, Taken, Ways, after, flowing}
+use Rattle.aom_rules.specs.Ways.{As_before, Branches, Branches_on_empty, Branches_on_null, Called, Caught, Dropped, Ends, Filled, Goes_back, Goes_on, Goes_to, Holding, Moved, News, Popped, Pushed, Pushed_operation, Taken, Ways, after, flowing}
 use Rattle.aom_shape.specs.Tables.{at}
 use Rattle.aom_shape.specs.Things.{Holder, Member, root_thing, field_thing, holder_by, holder_of}
-use Rattle.aom_shape.specs.Typing.{argument_kind, entry_shape}
 use Rattle.aom_shape.specs.declared.kind.Entry.{Entry}
 use Rattle.aom_shape.specs.declared.kind.Entry.TheVariants.{Object as An_object, Operation}
 use Rattle.aom_shape.specs.declared.kind.Filling.{Filling}
@@ -48,7 +49,7 @@ use Rattle.aom_shape.specs.declared.kind.Filling.TheVariants.{Empty, Full, Perha
 use Rattle.aom_shape.specs.declared.kind.Kind.{Kind}
 use Rattle.aom_shape.specs.declared.kind.Kind.TheVariants.{Unset, Word, Null, Own, Maybe}
 use Rattle.aom_shape.proofs.Lists.{at_put}
-use Rattle.aom_shape.proofs.Monotone.{needs_more, flows_more}
+use Rattle.aom_rules.proofs.Monotone.{needs_more, flows_more}
 use Rattle.aom_verify.specs.Shapes.{Shapes, Meets, AllMet, Applies, IsMethodTyped}
 use Rattle.aom_verify.specs.Strongest.{IsMethodStrongest}
 use Rattle.aom_verify.proofs.Following.{follow_met}

@@ -5,32 +5,32 @@ use Rattle.std.specs.Prelude.{not}
 use Rattle.std.proofs.lemmas.Bool.{true≢false}
 use Rattle.aom_image.specs.Image.{Image}
 use Rattle.aom_image.specs.Views.{arguments_of, gives_of, gives_in, is_quiet, quiet_in, leaves, leaves_in, method_at, method_class, method_role}
-use Rattle.aom_image.specs.declared.instr.Instr.{Instr}
-use Rattle.aom_image.specs.declared.instr.Instr.TheVariants.{Push, PushOperation, Call, Trap}
-use Rattle.aom_image.specs.declared.instr.Target.{Target}
+use Rattle.aom_instructions.specs.declared.instr.Instr.{Instr}
+use Rattle.aom_instructions.specs.declared.instr.Instr.TheVariants.{Push, PushOperation, Call, Trap}
+use Rattle.aom_instructions.specs.declared.instr.Target.{Target}
 use Rattle.aom_image.specs.declared.method.Gives.{Gives}
 use Rattle.aom_image.specs.declared.method.Gives.TheVariants.{Nothing, Word as A_word, Own as An_own, Maybe as A_maybe, Left}
 use Rattle.aom_image.specs.declared.method.Method.{Method}
 use Rattle.aom_roles.specs.Shapes.{IsShaped, gives_left}
 use Rattle.aom_classes.specs.Linked.{IsLinked}
 use Rattle.aom_classes.proofs.Facts.{all_there}
-use Rattle.aom_shape.specs.Calls.{brought, lasting, rule_target, rule_arguments, is_construct}
-use Rattle.aom_shape.specs.Cleanup.{without_top}
+use Rattle.aom_rules.specs.Calls.{brought, lasting, rule_target, rule_arguments, is_construct}
+use Rattle.aom_shape.specs.Entries.{without_top}
 use Rattle.aom_shape.specs.Kinds.{register, field}
-use Rattle.aom_shape.specs.Laws.{HaveAtMost}
+use Rattle.aom_rules.specs.Laws.{HaveAtMost}
 use Rattle.aom_shape.specs.Needs.{AllTrue, Need, Flow}
-use Rattle.aom_shape.specs.Objects.{flow_jump_null, flow_jump_empty}
-use Rattle.aom_shape.specs.Rules.{rule_needs, flows, ways_of}
+use Rattle.aom_rules.specs.Objects.{flow_jump_null, flow_jump_empty}
+use Rattle.aom_rules.specs.Rules.{rule_needs, flows, ways_of}
 use Rattle.aom_shape.specs.Shape.{Shape}
-use Rattle.aom_shape.specs.Ways.{Branches, Branches_on_empty, Branches_on_null, Called, Caught, Dropped, Ends, Goes_back, Goes_on, Goes_to, News, Popped, Pushed, Pushed_operation, Ways, after, flowing}
+use Rattle.aom_rules.specs.Ways.{Branches, Branches_on_empty, Branches_on_null, Called, Caught, Dropped, Ends, Goes_back, Goes_on, Goes_to, News, Popped, Pushed, Pushed_operation, Ways, after, flowing}
 use Rattle.aom_shape.specs.Tables.{at}
-use Rattle.aom_shape.specs.Typing.{entry_shape}
+use Rattle.aom_shape.specs.Arguments.{entry_shape}
 use Rattle.aom_shape.specs.declared.kind.Entry.{Entry}
 use Rattle.aom_shape.specs.declared.kind.Filling.{Filling}
 use Rattle.aom_shape.specs.declared.kind.Filling.TheVariants.{Empty, Full, Perhaps}
 use Rattle.aom_shape.specs.declared.kind.Kind.{Kind}
 use Rattle.aom_shape.specs.declared.kind.Kind.TheVariants.{Unset, Word, Null, Own, Maybe}
-use Rattle.aom_shape.proofs.Growing.{lasting_has}
+use Rattle.aom_rules.proofs.Growing.{lasting_has}
 use Rattle.aom_verify.specs.Shapes.{Shapes, Meets, AllMet, IsMethodTyped}
 use Rattle.aom_budget.specs.Heights.{StandsAt, Enters, CallsOver, Heights}
 use Rattle.aom_budget.specs.Heights.Heights.{own, under}

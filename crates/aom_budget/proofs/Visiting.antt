@@ -4,8 +4,8 @@ use Rattle.std.specs.Prelude.{max}
 use Rattle.std.proofs.lemmas.List.{length-set, length-replicate}
 use Rattle.aom_image.specs.Image.{Image}
 use Rattle.aom_image.specs.Views.{instr_at}
-use Rattle.aom_image.specs.declared.instr.Instr.{Instr}
-use Rattle.aom_image.specs.declared.instr.Instr.TheVariants.{Loop, Next}
+use Rattle.aom_instructions.specs.declared.instr.Instr.{Instr}
+use Rattle.aom_instructions.specs.declared.instr.Instr.TheVariants.{Loop, Next}
 use Rattle.aom_classes.specs.Bodies.{Body, IsLooped}
 use Rattle.aom_classes.specs.Linked.{IsLinked}
 use Rattle.aom_classes.specs.Loops.{loop_in, next_in}

@@ -3,7 +3,7 @@ ghost use Rattle.std.specs.Prelude.{◌≡◌, IfOk, IfErr, IsSome};
 ghost use Rattle.aom_image.specs.Views.{method_at};
 ghost use Rattle.aom_classes.specs.Admitted.{IsAdmitted};
 ghost use Rattle.aom_classes.specs.Linked.{IsLinked};
-ghost use Rattle.aom_shape.specs.Typing.{Typing, IsTyped};
+ghost use Rattle.aom_rules.specs.Typing.{Typing, IsTyped};
 ghost use Rattle.aom_verify.specs.Strongest.{IsStrongest};
 ghost use Rattle.aom_prices.specs.Dispatches.{IsAffordable};
 ghost use Rattle.aom_prices.specs.Prices.{Prices};

@@ -4,9 +4,10 @@ use Rattle.std.proofs.lemmas.Bool.{cases_lt}
 use Rattle.std.proofs.lemmas.Option.{slice_get_within, same_Some}
 use Rattle.aom_image.specs.Image.{Image}
 use Rattle.aom_image.specs.Views.{instr_at, instr_in, method_at}
-use Rattle.aom_image.specs.WellFormed.{InstrFits, MethodFits, WellFormed, limits}
-use Rattle.aom_image.specs.declared.instr.Instr.{Instr}
-use Rattle.aom_image.specs.declared.instr.Instr.TheVariants.{Loop, Next}
+use Rattle.aom_instructions.specs.Fits.{InstrFits, limits}
+use Rattle.aom_image.specs.WellFormed.{MethodFits, WellFormed}
+use Rattle.aom_instructions.specs.declared.instr.Instr.{Instr}
+use Rattle.aom_instructions.specs.declared.instr.Instr.TheVariants.{Loop, Next}
 use Rattle.aom_image.specs.declared.method.Method.{Method}
 use Rattle.aom_classes.specs.Jumps.{Body as Body_in, JumpsWell, StaysOut, back_of, begins_loop, jump_of}
 use Rattle.aom_classes.specs.Linked.{IsLinked}

@@ -6,7 +6,7 @@ use Rattle.std.proofs.lemmas.Option.{get_or_from_slice_get, slice_get_within}
 use Rattle.aom_image.specs.Image.{Image}
 use Rattle.aom_image.specs.Views.{method_at, instr_at, instr_in}
 use Rattle.aom_image.specs.declared.method.Method.{Method}
-use Rattle.aom_image.specs.declared.instr.Instr.{Instr}
+use Rattle.aom_instructions.specs.declared.instr.Instr.{Instr}
 use Rattle.aom_classes.specs.Admitted.{IsAdmitted, admits_role, stays, admits_argument, admits_result, admits_method, admits_instr}
 use Rattle.aom_classes.specs.Jumps.{KeepsWithin, JumpsWell}
 use Rattle.aom_classes.specs.Linked.{IsLinked}

@@ -1,8 +1,8 @@
 -- What loops that nest give: a next goes back, and of two loops with a common place the inner one has the higher number.
 use Rattle.std.proofs.Common.{◌≡◌, ◌<◌, ◌≤◌, ◌+◌, ℕ, zero, suc, List, [], length, Some, IfSome, slice_get, inl, inr, ⊎_elim, ◌∙◌, sym, ap, arith, subst}
 use Rattle.std.proofs.lemmas.Option.{slice_get_within, slice_get_cases}
-use Rattle.aom_image.specs.declared.instr.Instr.{Instr}
-use Rattle.aom_image.specs.declared.instr.Instr.TheVariants.{Next}
+use Rattle.aom_instructions.specs.declared.instr.Instr.{Instr}
+use Rattle.aom_instructions.specs.declared.instr.Instr.TheVariants.{Next}
 use Rattle.aom_classes.specs.Jumps.{back_of}
 use Rattle.aom_classes.specs.Loops.{Closes, ClosesSome, Ending, LoopsNest, next_at, next_in}
 use Rattle.aom_classes.proofs.Nesting.{ClosedBefore, Scanned, loop_within, must_pass, scanned_more, scanned_none}

@@ -6,7 +6,7 @@ use Rattle.aom_image.specs.declared.class.ClassDecl.{ClassDecl}
 use Rattle.aom_image.specs.declared.class.ClassKind.{ClassKind}
 use Rattle.aom_image.specs.declared.class.ClassKind.TheVariants.{Plain}
 use Rattle.aom_image.specs.declared.image.Header.{Header}
-use Rattle.aom_image.specs.declared.instr.Instr.{Instr}
+use Rattle.aom_instructions.specs.declared.instr.Instr.{Instr}
 use Rattle.aom_image.specs.declared.method.Argument.{Argument}
 use Rattle.aom_image.specs.declared.method.Argument.TheVariants as arguments
 use Rattle.aom_image.specs.declared.method.Gives.{Gives}
@@ -16,10 +16,10 @@ use Rattle.aom_image.specs.declared.method.Role.{Role}
 use Rattle.aom_image.specs.declared.method.Role.TheVariants.{Do, Main, Construct, Destruct, Undo}
 use Rattle.aom_image.specs.declared.method.Thing.{Thing}
 use Rattle.aom_image.specs.declared.method.Thing.TheVariants.{Object, Message}
-use Rattle.aom_image.specs.declared.mnemonic.Mnemonic.{Mnemonic}
-use Rattle.aom_image.specs.declared.mnemonic.Mnemonic.TheVariants as m
-use Rattle.aom_image.specs.Parts.{mnemonic}
-use Rattle.aom_image.specs.Rows.{row}
+use Rattle.aom_instructions.specs.declared.mnemonic.Mnemonic.{Mnemonic}
+use Rattle.aom_instructions.specs.declared.mnemonic.Mnemonic.TheVariants as m
+use Rattle.aom_instructions.specs.Parts.{mnemonic}
+use Rattle.aom_instructions.specs.Rows.{row}
 
 -- the instructions that come later
 abbrev pub later : List Mnemonic

@@ -2,8 +2,8 @@
 use Rattle.std.specs.Prelude.{◌<◌, ℕ, List, All, Option, IfSome, IsTrue, slice_get}
 use Rattle.aom_image.specs.Image.{Image}
 use Rattle.aom_image.specs.Views.{fields_of, gives_of}
-use Rattle.aom_image.specs.declared.instr.Instr.{Instr}
-use Rattle.aom_image.specs.declared.instr.Instr.TheVariants as instrs
+use Rattle.aom_instructions.specs.declared.instr.Instr.{Instr}
+use Rattle.aom_instructions.specs.declared.instr.Instr.TheVariants as instrs
 use Rattle.aom_image.specs.declared.method.Argument.{Argument}
 use Rattle.aom_image.specs.declared.method.Argument.TheVariants as arguments
 use Rattle.aom_image.specs.declared.method.Gives.{Gives}

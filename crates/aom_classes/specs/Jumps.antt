@@ -1,7 +1,7 @@
 -- Where an instruction may go on, and what is asked of it.
 use Rattle.std.specs.Prelude.{ℕ, suc, ◌≡◌, ◌<◌, ◌≤◌, Bool, true, false, List, length, Option, Some, None, IfSome, IsTrue, slice_get}
-use Rattle.aom_image.specs.declared.instr.Instr.{Instr}
-use Rattle.aom_image.specs.declared.instr.Instr.TheVariants.{Jump, JumpEqual, JumpLess, JumpNull, JumpEmpty, JumpActive, JumpAdded, Loop, Next, Return, Leave}
+use Rattle.aom_instructions.specs.declared.instr.Instr.{Instr}
+use Rattle.aom_instructions.specs.declared.instr.Instr.TheVariants.{Jump, JumpEqual, JumpLess, JumpNull, JumpEmpty, JumpActive, JumpAdded, Loop, Next, Return, Leave}
 
 -- where a jump goes that is not taken back to a loop's first place
 unfoldable pub jump_of : Instr → Option ℕ

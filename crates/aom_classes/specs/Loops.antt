@@ -1,7 +1,7 @@
 -- How the loops of a method lie.
 use Rattle.std.specs.Prelude.{◌≡◌, ◌<◌, ◌+◌, ◌⊎◌, ℕ, suc, Bool, true, false, List, Option, Some, None, IfSome, slice_get, take, count_by}
-use Rattle.aom_image.specs.declared.instr.Instr.{Instr}
-use Rattle.aom_image.specs.declared.instr.Instr.TheVariants.{Loop, Next}
+use Rattle.aom_instructions.specs.declared.instr.Instr.{Instr}
+use Rattle.aom_instructions.specs.declared.instr.Instr.TheVariants.{Loop, Next}
 
 -- the number of a loop
 unfoldable pub loop_in : Option Instr → Option ℕ

@@ -1,7 +1,7 @@
 -- One step over a method's code, with the loops that are open.
 use Rattle.std.specs.Prelude.{◌≡◌, ℕ, suc, List, [], ◌∷◌, ◌++◌, length}
-use Rattle.aom_image.specs.declared.instr.Instr.{Instr}
-use Rattle.aom_image.specs.declared.instr.Instr.TheVariants.{Loop, Next}
+use Rattle.aom_instructions.specs.declared.instr.Instr.{Instr}
+use Rattle.aom_instructions.specs.declared.instr.Instr.TheVariants.{Loop, Next}
 
 -- the innermost open loop is closed
 pub record Leaves (d t : ℕ) (before after : List ℕ) : Type 0 where

@@ -6,10 +6,10 @@ use Rattle.std.proofs.lemmas.List.Elements.{All-nil, All-cons}
 use Rattle.std.proofs.lemmas.List.Sums.{sum_by-cons}
 use Rattle.aom_image.specs.Image.{Image}
 use Rattle.aom_codec.specs.Spelling.{class_number, thing_number, argument_number, role_number, gives_byte, result_number, kind_byte}
-use Rattle.aom_image.specs.WellFormed.{ThingFits, ProviderFits, KindFits, ClassFits, is_server_kind, is_server, ArgumentFits, GivesFits, InstrFits, MethodFits, HeaderFits, ClassesFit, MethodsFit}
+use Rattle.aom_image.specs.WellFormed.{ThingFits, ProviderFits, KindFits, ClassFits, is_server_kind, is_server, ArgumentFits, GivesFits, MethodFits, HeaderFits, ClassesFit, MethodsFit}
+use Rattle.aom_instructions.specs.Fits.{InstrFits, limits}
 use Rattle.aom_codec.specs.Codec.{Codec, ◌>>=◌, byte, pair, always, keep, FitMany, limited}
 use Rattle.aom_codec.specs.Instructions.{Bounded, instruction}
-use Rattle.aom_image.specs.WellFormed.{limits}
 use Rattle.aom_codec.specs.Format.{index_from, class_from, class_or_none, thing_from, thing, argument_from, argument, provider, purpose, closing, purpose_of, kind_sort, class, count_server, role, flags, states, result, gives_from, method, image}
 use Rattle.aom_codec.specs.declared.fault.LoadFault.{LoadFault}
 use Rattle.aom_codec.specs.declared.fault.LoadFault.TheVariants.{BadIndex, BadOperand}

@@ -4,24 +4,24 @@ use Rattle.std.proofs.Common.{◌≡◌, ℕ, zero, suc, ◌-◌, ◌<◌, ◌�
 use Rattle.std.proofs.lemmas.Bool.{leb-true, le-leb, and_parts}
 use Rattle.aom_image.specs.Image.{Image}
 use Rattle.std.specs.List.{find}
-use Rattle.aom_image.proofs.Again.{making_parts_again}
-use Rattle.aom_image.specs.Mnemonics.{with_opcode}
-use Rattle.aom_image.specs.Parts.{mnemonic, operands}
-use Rattle.aom_image.specs.Rows.{mnemonics, row}
-use Rattle.aom_image.specs.declared.kinds.Kinds.{Kinds}
-use Rattle.aom_image.specs.declared.kinds.LargeKind.{LargeKind}
-use Rattle.aom_image.specs.declared.kinds.SmallKind.{SmallKind}
-use Rattle.aom_image.specs.declared.mnemonic.Mnemonic.{Mnemonic}
-use Rattle.aom_image.specs.declared.operand.Operands.{Operands}
+use Rattle.aom_instructions.proofs.Again.{making_parts_again}
+use Rattle.aom_instructions.specs.Mnemonics.{with_opcode}
+use Rattle.aom_instructions.specs.Parts.{mnemonic, operands}
+use Rattle.aom_instructions.specs.Rows.{mnemonics, row}
+use Rattle.aom_instructions.specs.declared.kinds.Kinds.{Kinds}
+use Rattle.aom_instructions.specs.declared.kinds.LargeKind.{LargeKind}
+use Rattle.aom_instructions.specs.declared.kinds.SmallKind.{SmallKind}
+use Rattle.aom_instructions.specs.declared.mnemonic.Mnemonic.{Mnemonic}
+use Rattle.aom_instructions.specs.declared.operand.Operands.{Operands}
 use Rattle.aom_codec.specs.Spelling.{gives_byte, result_number, kind_byte, budget_of}
 use Rattle.aom_codec.specs.Codec.{Codec, byte, pair, quad, fixed, always, keep, FitMany, unused, is_between, limited}
 use Rattle.aom_codec.specs.Instructions.{all_operands, instruction, known, large_operand, opcode, small_operand}
 use Rattle.aom_codec.specs.Spelling.{provider_sort, native_number}
-use Rattle.aom_image.specs.WellFormed.{limits}
+use Rattle.aom_instructions.specs.Fits.{limits}
 use Rattle.aom_codec.specs.Format.{class_or_none, thing, argument, opening_fields, opening, provider_from, provider, no_session, bare, session_class, active_part, active_provider, server_part, server_numbers, purpose, closing, purpose_of, kind_sort, class_parts, class, count_server, role, flags, states, result_sort, gives_from, result, method_parts, method, image_parts, opening_of, image}
 use Rattle.aom_codec.specs.declared.fault.LoadFault.{LoadFault}
 use Rattle.aom_codec.specs.declared.fault.LoadFault.TheVariants.{BadMagic, BadVersion, LimitPassed, NotZero}
-use Rattle.aom_image.specs.declared.limits.Limits.{Limits}
+use Rattle.aom_instructions.specs.declared.limits.Limits.{Limits}
 use Rattle.aom_codec.specs.declared.header.Opening.{Opening}
 use Rattle.aom_image.specs.declared.class.ClassDecl.{ClassDecl}
 use Rattle.aom_image.specs.declared.class.ClassKind.{ClassKind}
@@ -31,7 +31,7 @@ use Rattle.aom_codec.specs.declared.class_reader.Purpose.{Purpose}
 use Rattle.aom_codec.specs.declared.class_reader.Purpose.TheVariants as purposes
 use Rattle.aom_image.specs.declared.method.Method.{Method}
 use Rattle.aom_image.specs.declared.method.Gives.{Gives}
-use Rattle.aom_image.specs.declared.instr.Instr.{Instr}
+use Rattle.aom_instructions.specs.declared.instr.Instr.{Instr}
 use Rattle.aom_codec.proofs.Laws.{IsCodec, ok_is, of_byte, of_pair, of_quad, of_fixed, of_checked, of_next, of_after, of_seen, of_choose, of_many_from, of_many, of_unused, unused_fits}
 use Rattle.aom_codec.proofs.Returning.{index_returns, class_returns, thing_returns, argument_returns, role_returns, flags_returns, states_returns, gives_returns, result_number_returns}
 use Rattle.aom_codec.proofs.InstructionFits.{operands_in_range}

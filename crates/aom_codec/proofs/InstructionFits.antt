@@ -1,16 +1,16 @@
 -- An instruction fits its format exactly where its operands are of the kinds that its row asks, each in its range.
 use Rattle.std.proofs.Common.{◌<◌, Ok, refl, ap, lit<}
-use Rattle.aom_image.proofs.Again.{parts_make_again, rows_are_one}
-use Rattle.aom_image.specs.Operands.{OperandsFit}
-use Rattle.aom_image.specs.Parts.{mnemonic, operands}
-use Rattle.aom_image.specs.Rows.{row}
-use Rattle.aom_image.specs.WellFormed.{InstrFits}
-use Rattle.aom_image.specs.declared.instr.Instr.{Instr}
-use Rattle.aom_image.specs.declared.kinds.Kinds.{Kinds}
-use Rattle.aom_image.specs.declared.limits.Limits.{Limits}
-use Rattle.aom_image.specs.declared.mnemonic.Mnemonic.{Mnemonic}
-use Rattle.aom_image.specs.declared.mnemonic.Mnemonic.TheVariants as m
-use Rattle.aom_image.specs.declared.operand.Operands.{Operands}
+use Rattle.aom_instructions.proofs.Again.{parts_make_again, rows_are_one}
+use Rattle.aom_instructions.specs.Operands.{OperandsFit}
+use Rattle.aom_instructions.specs.Parts.{mnemonic, operands}
+use Rattle.aom_instructions.specs.Rows.{row}
+use Rattle.aom_instructions.specs.Fits.{InstrFits}
+use Rattle.aom_instructions.specs.declared.instr.Instr.{Instr}
+use Rattle.aom_instructions.specs.declared.kinds.Kinds.{Kinds}
+use Rattle.aom_instructions.specs.declared.limits.Limits.{Limits}
+use Rattle.aom_instructions.specs.declared.mnemonic.Mnemonic.{Mnemonic}
+use Rattle.aom_instructions.specs.declared.mnemonic.Mnemonic.TheVariants as m
+use Rattle.aom_instructions.specs.declared.operand.Operands.{Operands}
 use Rattle.aom_codec.specs.Instructions.{Bounded, all_operands, instruction, known, opcode}
 use Rattle.aom_codec.specs.Spelling.{large_number, small_byte}
 use Rattle.aom_codec.proofs.OperandLaws.{large_reads, large_takes, small_reads, small_takes}

@@ -10,18 +10,18 @@ use Rattle.aom_codec.specs.Instructions.{Bounded, below, large_from, small_from,
 use Rattle.aom_codec.specs.Spelling.{large_number, small_byte, target_byte}
 use Rattle.aom_codec.proofs.Laws.{guard_ok, ok_is}
 use Rattle.aom_codec.proofs.Returning.{took}
-use Rattle.aom_image.specs.Operands.{LargeFits, SmallFits, TargetFits}
-use Rattle.aom_image.specs.declared.instr.Target.{Target}
-use Rattle.aom_image.specs.declared.instr.Target.TheVariants as targets
-use Rattle.aom_image.specs.declared.kinds.LargeKind.{LargeKind}
-use Rattle.aom_image.specs.declared.kinds.LargeKind.TheVariants as lk
-use Rattle.aom_image.specs.declared.kinds.SmallKind.{SmallKind}
-use Rattle.aom_image.specs.declared.kinds.SmallKind.TheVariants as sk
-use Rattle.aom_image.specs.declared.limits.Limits.{Limits}
-use Rattle.aom_image.specs.declared.operand.Large.{Large}
-use Rattle.aom_image.specs.declared.operand.Large.TheVariants as large
-use Rattle.aom_image.specs.declared.operand.Small.{Small}
-use Rattle.aom_image.specs.declared.operand.Small.TheVariants as small
+use Rattle.aom_instructions.specs.Operands.{LargeFits, SmallFits, TargetFits}
+use Rattle.aom_instructions.specs.declared.instr.Target.{Target}
+use Rattle.aom_instructions.specs.declared.instr.Target.TheVariants as targets
+use Rattle.aom_instructions.specs.declared.kinds.LargeKind.{LargeKind}
+use Rattle.aom_instructions.specs.declared.kinds.LargeKind.TheVariants as lk
+use Rattle.aom_instructions.specs.declared.kinds.SmallKind.{SmallKind}
+use Rattle.aom_instructions.specs.declared.kinds.SmallKind.TheVariants as sk
+use Rattle.aom_instructions.specs.declared.limits.Limits.{Limits}
+use Rattle.aom_instructions.specs.declared.operand.Large.{Large}
+use Rattle.aom_instructions.specs.declared.operand.Large.TheVariants as large
+use Rattle.aom_instructions.specs.declared.operand.Small.{Small}
+use Rattle.aom_instructions.specs.declared.operand.Small.TheVariants as small
 
 below_ok : {X : Type 0} (limit n : ℕ) (x y : X) (fault : LoadFault) → below limit n x fault ≡ Ok y → (n < limit) × (x ≡ y)
 below_ok limit n x y fault e = let g = guard_ok (ltb n limit) fault x y e in (ltb-true n limit g.0, g.1)

@@ -4,17 +4,17 @@ use Rattle.aom_image.specs.Image.{Image}
 use Rattle.aom_codec.specs.Spelling as text
 use Rattle.aom_codec.specs.Codec.{Codec, pair, always, keep, spell_many, unused}
 use Rattle.aom_codec.specs.Instructions.{instruction}
-use Rattle.aom_image.specs.WellFormed.{limits}
+use Rattle.aom_instructions.specs.Fits.{limits}
 use Rattle.aom_codec.specs.Format.{thing, argument, class, count_server, method, image}
 use Rattle.aom_codec.specs.declared.fault.LoadFault.TheVariants.{NotZero}
-use Rattle.aom_image.specs.declared.limits.Limits.{Limits}
+use Rattle.aom_instructions.specs.declared.limits.Limits.{Limits}
 use Rattle.aom_image.specs.declared.class.ClassKind.{ClassKind}
 use Rattle.aom_image.specs.declared.class.ClassKind.TheVariants as kinds
 use Rattle.aom_image.specs.declared.class.Provider.TheVariants as providers
 use Rattle.aom_image.specs.declared.method.Thing.{Thing}
 use Rattle.aom_image.specs.declared.method.Argument.{Argument}
 use Rattle.aom_image.specs.declared.method.Method.{Method}
-use Rattle.aom_image.specs.declared.instr.Instr.{Instr}
+use Rattle.aom_instructions.specs.declared.instr.Instr.{Instr}
 
 many_spelled : {S X : Type 0} (c : S → Codec X) (add : S → X → S) (f : X → List ℕ) → ((s : S) (x : X) → (c s).spell x ≡ f x) → (s : S) (xs : List X) → spell_many c add s xs ≡ flat_map f xs
 many_spelled c add f each s [] = refl

@@ -4,7 +4,8 @@ use Rattle.aom_codec.specs.Codec.{Codec, ◌>>=◌, byte, pair, quad, is_between
 use Rattle.aom_codec.specs.Instructions.{instruction}
 use Rattle.aom_image.specs.Image.{Image}
 use Rattle.aom_codec.specs.Spelling.{class_number, thing_number, argument_number, role_number, gives_byte, result_number, kind_byte, budget_of, provider_sort, native_number}
-use Rattle.aom_image.specs.WellFormed.{is_server, limits}
+use Rattle.aom_image.specs.WellFormed.{is_server}
+use Rattle.aom_instructions.specs.Fits.{limits}
 use Rattle.aom_codec.specs.declared.fault.LoadFault.{LoadFault}
 use Rattle.aom_codec.specs.declared.fault.LoadFault.TheVariants.{BadMagic, BadVersion, Trailing, LimitPassed, BadOperand, BadIndex, NotZero}
 use Rattle.aom_codec.specs.declared.header.Opening.{Opening}
@@ -26,7 +27,7 @@ use Rattle.aom_image.specs.declared.method.Argument.TheVariants as arguments
 use Rattle.aom_image.specs.declared.method.Gives.{Gives}
 use Rattle.aom_image.specs.declared.method.Gives.TheVariants as gives
 use Rattle.aom_image.specs.declared.method.Method.{Method}
-use Rattle.aom_image.specs.declared.instr.Instr.{Instr}
+use Rattle.aom_instructions.specs.declared.instr.Instr.{Instr}
 
 -- ---- numbers that name things
 

@@ -5,23 +5,23 @@ use Rattle.aom_codec.specs.Codec.{Codec, byte, quad, next, seen}
 use Rattle.aom_codec.specs.Spelling.{small_byte, large_number}
 use Rattle.aom_codec.specs.declared.fault.LoadFault.{LoadFault}
 use Rattle.aom_codec.specs.declared.fault.LoadFault.TheVariants.{BadOpcode, BadOperand, BadIndex, NotZero}
-use Rattle.aom_image.specs.Mnemonics.{with_opcode}
-use Rattle.aom_image.specs.Parts.{make, mnemonic, operands, operands_of}
-use Rattle.aom_image.specs.Rows.{row}
-use Rattle.aom_image.specs.declared.instr.Instr.{Instr}
-use Rattle.aom_image.specs.declared.instr.Target.TheVariants as targets
-use Rattle.aom_image.specs.declared.kinds.Kinds.{Kinds}
-use Rattle.aom_image.specs.declared.kinds.LargeKind.{LargeKind}
-use Rattle.aom_image.specs.declared.kinds.LargeKind.TheVariants as lk
-use Rattle.aom_image.specs.declared.kinds.SmallKind.{SmallKind}
-use Rattle.aom_image.specs.declared.kinds.SmallKind.TheVariants as sk
-use Rattle.aom_image.specs.declared.limits.Limits.{Limits}
-use Rattle.aom_image.specs.declared.mnemonic.Mnemonic.{Mnemonic}
-use Rattle.aom_image.specs.declared.operand.Large.{Large}
-use Rattle.aom_image.specs.declared.operand.Large.TheVariants as large
-use Rattle.aom_image.specs.declared.operand.Operands.{Operands}
-use Rattle.aom_image.specs.declared.operand.Small.{Small}
-use Rattle.aom_image.specs.declared.operand.Small.TheVariants as small
+use Rattle.aom_instructions.specs.Mnemonics.{with_opcode}
+use Rattle.aom_instructions.specs.Parts.{make, mnemonic, operands, operands_of}
+use Rattle.aom_instructions.specs.Rows.{row}
+use Rattle.aom_instructions.specs.declared.instr.Instr.{Instr}
+use Rattle.aom_instructions.specs.declared.instr.Target.TheVariants as targets
+use Rattle.aom_instructions.specs.declared.kinds.Kinds.{Kinds}
+use Rattle.aom_instructions.specs.declared.kinds.LargeKind.{LargeKind}
+use Rattle.aom_instructions.specs.declared.kinds.LargeKind.TheVariants as lk
+use Rattle.aom_instructions.specs.declared.kinds.SmallKind.{SmallKind}
+use Rattle.aom_instructions.specs.declared.kinds.SmallKind.TheVariants as sk
+use Rattle.aom_instructions.specs.declared.limits.Limits.{Limits}
+use Rattle.aom_instructions.specs.declared.mnemonic.Mnemonic.{Mnemonic}
+use Rattle.aom_instructions.specs.declared.operand.Large.{Large}
+use Rattle.aom_instructions.specs.declared.operand.Large.TheVariants as large
+use Rattle.aom_instructions.specs.declared.operand.Operands.{Operands}
+use Rattle.aom_instructions.specs.declared.operand.Small.{Small}
+use Rattle.aom_instructions.specs.declared.operand.Small.TheVariants as small
 
 -- limits that an image can have
 pub record Bounded (l : Limits) : Type 0 where

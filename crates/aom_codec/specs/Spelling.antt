@@ -16,17 +16,17 @@ use Rattle.aom_image.specs.declared.method.Argument.TheVariants as arguments
 use Rattle.aom_image.specs.declared.method.Gives.{Gives}
 use Rattle.aom_image.specs.declared.method.Gives.TheVariants as gives
 use Rattle.aom_image.specs.declared.method.Method.{Method}
-use Rattle.aom_image.specs.declared.instr.Instr.{Instr}
-use Rattle.aom_image.specs.Parts.{mnemonic, operands}
-use Rattle.aom_image.specs.Rows.{row}
-use Rattle.aom_image.specs.declared.instr.Target.{Target}
-use Rattle.aom_image.specs.declared.instr.Target.TheVariants as targets
-use Rattle.aom_image.specs.declared.mnemonic.Mnemonic.{Mnemonic}
-use Rattle.aom_image.specs.declared.operand.Large.{Large}
-use Rattle.aom_image.specs.declared.operand.Large.TheVariants as large
-use Rattle.aom_image.specs.declared.operand.Operands.{Operands}
-use Rattle.aom_image.specs.declared.operand.Small.{Small}
-use Rattle.aom_image.specs.declared.operand.Small.TheVariants as small
+use Rattle.aom_instructions.specs.declared.instr.Instr.{Instr}
+use Rattle.aom_instructions.specs.Parts.{mnemonic, operands}
+use Rattle.aom_instructions.specs.Rows.{row}
+use Rattle.aom_instructions.specs.declared.instr.Target.{Target}
+use Rattle.aom_instructions.specs.declared.instr.Target.TheVariants as targets
+use Rattle.aom_instructions.specs.declared.mnemonic.Mnemonic.{Mnemonic}
+use Rattle.aom_instructions.specs.declared.operand.Large.{Large}
+use Rattle.aom_instructions.specs.declared.operand.Large.TheVariants as large
+use Rattle.aom_instructions.specs.declared.operand.Operands.{Operands}
+use Rattle.aom_instructions.specs.declared.operand.Small.{Small}
+use Rattle.aom_instructions.specs.declared.operand.Small.TheVariants as small
 
 -- a number in two bytes
 abbrev pub pair : ℕ → List ℕ

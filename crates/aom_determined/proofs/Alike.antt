@@ -1,7 +1,7 @@
 -- A move of each of two states that are the same but for names: the new cells' names are changed with one another.
 use Rattle.std.proofs.Common.{List, None, ap, length, refl, subst, sym, ℕ, ◌∙◌, ◌≡◌}
 use Rattle.aom_image.specs.Image.{Image}
-use Rattle.aom_shape.specs.Typing.{Typing}
+use Rattle.aom_rules.specs.Typing.{Typing}
 use Rattle.aom_sound.specs.Moves.{IsOpen, is_refused, step, written}
 use Rattle.aom_sound.specs.Places.{named}
 use Rattle.aom_sound.specs.State.{Choice, Goes, IsStuck, Outcome, State}

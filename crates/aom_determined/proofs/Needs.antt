@@ -3,8 +3,8 @@ use Rattle.std.proofs.Common.{List, None, Option, Some, [], ap, cond, length, re
 use Rattle.std.specs.Prelude.{is_none, is_some, option_map, ◌++◌}
 use Rattle.aom_image.specs.Image.{Image}
 use Rattle.aom_image.specs.Views.{arguments_of, gives_of, method_class}
-use Rattle.aom_image.specs.declared.instr.Target.{Target}
-use Rattle.aom_image.specs.declared.instr.Target.TheVariants.{Entry as On_entry, Field as On_field, Register as On_register, This}
+use Rattle.aom_instructions.specs.declared.instr.Target.{Target}
+use Rattle.aom_instructions.specs.declared.instr.Target.TheVariants.{Entry as On_entry, Field as On_field, Register as On_register, This}
 use Rattle.aom_image.specs.declared.method.Argument.{Argument}
 use Rattle.aom_image.specs.declared.method.Argument.TheVariants.{Own as Takes_own, Word as Takes_word}
 use Rattle.aom_image.specs.declared.method.Gives.{Gives}

@@ -4,7 +4,7 @@ use Rattle.std.proofs.lemmas.Bool.{cases_eq, cases_lt}
 use Rattle.std.specs.Prelude.{◌++◌, ◌⊎◌}
 use Rattle.aom_image.specs.Image.{Image}
 use Rattle.aom_classes.specs.Roles.{main_of}
-use Rattle.aom_shape.specs.Typing.{IsTyped, Typing}
+use Rattle.aom_rules.specs.Typing.{IsTyped, Typing}
 use Rattle.aom_sound.proofs.Booting.{boot_keeps}
 use Rattle.aom_sound.proofs.Course.{well_on}
 use Rattle.aom_sound.proofs.Soundness.{over_idle}
@@ -12,19 +12,19 @@ use Rattle.aom_sound.specs.Laws.{IsWired}
 use Rattle.aom_sound.specs.Moves.{IsOpen, step, written}
 use Rattle.aom_sound.specs.State.{Choice, Goes, Outcome, State}
 use Rattle.aom_sound.specs.WellTyped.{WellTyped}
-use Rattle.aom_sound.specs.World.{IsBetween, IsBusy, Reaches, Run_of, begins, boot_state, main_tasks, moves, waiting, waits}
-use Rattle.aom_sound.specs.declared.line.Ending.{Ending}
-use Rattle.aom_sound.specs.declared.line.Line.{Line}
+use Rattle.aom_sound.specs.World.{IsBetween, IsBusy, Reaches, Run_of, begins, boot_state, main_tasks, moves, waiting, waits, Outside}
+use Rattle.aom_transcript.specs.declared.line.Ending.{Ending}
+use Rattle.aom_transcript.specs.declared.line.Line.{Line}
 use Rattle.aom_determined.proofs.Alike.{move_alike, writes_alike}
 use Rattle.aom_determined.specs.Laws.{Begins, TextIsDetermined}
 use Rattle.aom_determined.specs.Names.{AlikeOutcomes, AreAlike, renamed_tasks}
 
-module _ (p : Image) (t : Typing) (refused : List ℕ) (wired : IsWired p) (typed : IsTyped p t) where
+module _ (p : Image) (t : Typing) (outside : Outside) (wired : IsWired p) (typed : IsTyped p t) where
   -- one turn of a run: a move, or the end of one that waits
   record Moved (v s : State) (new : List Line) : Type 0 where
     choice : Choice
     busy : IsBusy v
-    open_so : IsOpen p refused choice v
+    open_so : IsOpen p outside.refused choice v
     goes : step p choice v ≡ Goes s
     lines : new ≡ written p v
 
@@ -39,9 +39,9 @@ module _ (p : Image) (t : Typing) (refused : List ℕ) (wired : IsWired p) (type
   -- so many turns of a run
   abbrev After : ℕ → List Line → State → Type 0
   After zero lines s = (lines ≡ []) × (s ≡ boot_state p)
-  After (suc n) lines s = (before : List Line) × (v : State) × (new : List Line) × After n before v × Reaches p refused (boot_state p) before v × Turned v s new × (lines ≡ before ++ new)
+  After (suc n) lines s = (before : List Line) × (v : State) × (new : List Line) × After n before v × Reaches p outside (boot_state p) before v × Turned v s new × (lines ≡ before ++ new)
 
-  turns : (lines : List Line) (s : State) → Reaches p refused (boot_state p) lines s → (n : ℕ) × After n lines s
+  turns : (lines : List Line) (s : State) → Reaches p outside (boot_state p) lines s → (n : ℕ) × After n lines s
   turns _ _ begins = (zero, (refl, refl))
   turns _ _ (moves {lines = lines} {s = s} {u = u} c before busy choice e) =
       let h = turns lines s before in
@@ -50,8 +50,8 @@ module _ (p : Image) (t : Typing) (refused : List ℕ) (wired : IsWired p) (type
       let h = turns lines s before in
       (suc h.0, (lines, s, [], h.1, before, inr (record { between = between; goes = refl; lines = refl }), sym (append-nil lines)))
 
-  well : (lines : List Line) (s : State) → Reaches p refused (boot_state p) lines s → WellTyped p t s
-  well lines s r = well_on p t refused wired typed (boot_state p) (boot_keeps p t wired typed) lines s r
+  well : (lines : List Line) (s : State) → Reaches p outside (boot_state p) lines s → WellTyped p t s
+  well lines s r = well_on p t outside wired typed (boot_state p) (boot_keeps p t wired typed) lines s r
 
   -- ---- as many turns
 
@@ -71,7 +71,7 @@ module _ (p : Image) (t : Typing) (refused : List ℕ) (wired : IsWired p) (type
   turn_alike : (v w s u : State) (new new' : List Line) → WellTyped p t w → AreAlike v w → Turned v s new → Turned w u new' → (new ≡ new') × AreAlike s u
   turn_alike v w s u new new' wt alike (inl m) (inl n) = (
     m.lines ∙ writes_alike p v w alike ∙ sym n.lines,
-    goes_alike _ _ s u m.goes n.goes (move_alike p t refused m.choice n.choice v w wt alike m.open_so n.open_so),
+    goes_alike _ _ s u m.goes n.goes (move_alike p t outside.refused m.choice n.choice v w wt alike m.open_so n.open_so),
   )
   turn_alike v w s u new new' wt alike (inl m) (inr n) = absurd (busy_idle v w alike m.busy n.between.idle)
   turn_alike v w s u new new' wt alike (inr m) (inl n) = absurd (idle_busy v w alike m.between.idle n.busy)
@@ -127,29 +127,29 @@ module _ (p : Image) (t : Typing) (refused : List ℕ) (wired : IsWired p) (type
   same_ended s u alike = ap (λ x. x.rest.ended) alike.same
 
   -- no run goes on from where another has ended
-  never_past : (n m : ℕ) (lines others : List Line) (s u : State) (ending : Ending) → Run_of p refused lines s ending → n < m → After n lines s → After m others u → ⊥
+  never_past : (n m : ℕ) (lines others : List Line) (s u : State) (ending : Ending) → Run_of p outside lines s ending → n < m → After n lines s → After m others u → ⊥
   never_past n m lines others s u ending run lt a b =
       let h = earlier (suc n) m others u (omega arith) b in
       let before = together n lines h.after.0 s h.after.1 a h.after.3 in
       go h.after.1 (same_ended s h.after.1 before.1 ∙ run.ended) h.after.4 h.after.5
     where
-      go : {first new : List Line} {x : State} (v : State) → v.rest.ended ≡ Some ending → Reaches p refused (boot_state p) first v → Turned v x new → ⊥
-      go {first = first} v over r (inl m) = let clash : m.busy.0 ∷ m.busy.1 ≡ [] = sym m.busy.2 ∙ over_idle p t refused wired typed first v ending r over in cc
+      go : {first new : List Line} {x : State} (v : State) → v.rest.ended ≡ Some ending → Reaches p outside (boot_state p) first v → Turned v x new → ⊥
+      go {first = first} v over r (inl m) = let clash : m.busy.0 ∷ m.busy.1 ≡ [] = sym m.busy.2 ∙ over_idle p t outside wired typed first v ending r over in cc
       go v over r (inr m) = let clash : Some ending ≡ None = sym over ∙ m.between.going in cc
 
-  agree : (lines others : List Line) (s u : State) → Reaches p refused (boot_state p) lines s → Reaches p refused (boot_state p) others u → Begins lines others ⊎ Begins others lines
+  agree : (lines others : List Line) (s u : State) → Reaches p outside (boot_state p) lines s → Reaches p outside (boot_state p) others u → Begins lines others ⊎ Begins others lines
   agree lines others s u r q =
       let a = turns lines s r in
       let b = turns others u q in
       ⊎_elim (λ lt. inl (begins_so a.0 b.0 lines others s u (omega arith) a.1 b.1)) (λ le. inr (begins_so b.0 a.0 others lines u s le b.1 a.1)) (cases_lt a.0 b.0)
 
-  whole : (lines others : List Line) (s u : State) (ending : Ending) → Run_of p refused lines s ending → Reaches p refused (boot_state p) others u → Begins others lines
+  whole : (lines others : List Line) (s u : State) (ending : Ending) → Run_of p outside lines s ending → Reaches p outside (boot_state p) others u → Begins others lines
   whole lines others s u ending run q =
       let a = turns lines s run.reaches in
       let b = turns others u q in
       ⊎_elim (λ lt. absurd (never_past a.0 b.0 lines others s u ending run lt a.1 b.1)) (λ le. begins_so b.0 a.0 others lines u s le b.1 a.1) (cases_lt a.0 b.0)
 
-  ended : (lines others : List Line) (s u : State) (ending other : Ending) → Run_of p refused lines s ending → Run_of p refused others u other → (lines ≡ others) × (ending ≡ other) × AreAlike s u
+  ended : (lines others : List Line) (s u : State) (ending other : Ending) → Run_of p outside lines s ending → Run_of p outside others u other → (lines ≡ others) × (ending ≡ other) × AreAlike s u
   ended lines others s u ending other run run' =
       let a = turns lines s run.reaches in
       let b = turns others u run'.reaches in
@@ -163,4 +163,4 @@ module _ (p : Image) (t : Typing) (refused : List ℕ) (wired : IsWired p) (type
       (cases_lt a.0 b.0)
 
 pub text_is_determined : TextIsDetermined
-text_is_determined p t refused wired typed = record { agree = agree p t refused wired typed; whole = whole p t refused wired typed; ended = ended p t refused wired typed }
+text_is_determined p t outside wired typed = record { agree = agree p t outside wired typed; whole = whole p t outside wired typed; ended = ended p t outside wired typed }

@@ -1,14 +1,14 @@
 -- The laws of names, and that the text of a run is determined.
 use Rattle.std.specs.Prelude.{ℕ, ◌≡◌, ◌⊎◌, List, ◌++◌}
 use Rattle.aom_image.specs.Image.{Image}
-use Rattle.aom_shape.specs.Typing.{Typing, IsTyped}
+use Rattle.aom_rules.specs.Typing.{Typing, IsTyped}
 use Rattle.aom_sound.specs.State.{State, Choice}
 use Rattle.aom_sound.specs.Moves.{step, written, IsOpen}
 use Rattle.aom_sound.specs.WellTyped.{WellTyped}
-use Rattle.aom_sound.specs.World.{boot_state, Reaches, Run_of}
+use Rattle.aom_sound.specs.World.{boot_state, Reaches, Run_of, Outside}
 use Rattle.aom_sound.specs.Laws.{IsWired}
-use Rattle.aom_sound.specs.declared.line.Line.{Line}
-use Rattle.aom_sound.specs.declared.line.Ending.{Ending}
+use Rattle.aom_transcript.specs.declared.line.Line.{Line}
+use Rattle.aom_transcript.specs.declared.line.Ending.{Ending}
 use Rattle.aom_determined.specs.Names.{IsOneToOne, renamed, renamed_choice, renamed_outcome, AreAlike, AlikeOutcomes}
 
 -- of any state, well typed or not: under other names the same moves are open to it, it moves to the same state under these names, or is stuck alike, and writes the same
@@ -28,15 +28,15 @@ MovesStayAlike =
 abbrev pub Begins : List Line → List Line → Type 0
 Begins lines whole = (more : List Line) × (whole ≡ lines ++ more)
 
--- any two runs of an image with the same requests refused
-pub record IsDetermined (p : Image) (refused : List ℕ) : Type 0 where
+-- any two runs of an image with the same requests outside
+pub record IsDetermined (p : Image) (outside : Outside) : Type 0 where
   -- as far as both have come they have written the same
-  pub agree : (lines others : List Line) (s u : State) → Reaches p refused (boot_state p) lines s → Reaches p refused (boot_state p) others u → Begins lines others ⊎ Begins others lines
+  pub agree : (lines others : List Line) (s u : State) → Reaches p outside (boot_state p) lines s → Reaches p outside (boot_state p) others u → Begins lines others ⊎ Begins others lines
   -- one that has ended has written all that the other has
-  pub whole : (lines others : List Line) (s u : State) (ending : Ending) → Run_of p refused lines s ending → Reaches p refused (boot_state p) others u → Begins others lines
+  pub whole : (lines others : List Line) (s u : State) (ending : Ending) → Run_of p outside lines s ending → Reaches p outside (boot_state p) others u → Begins others lines
   -- and two that have ended have written the same and ended alike, in states that are the same but for names
-  pub ended : (lines others : List Line) (s u : State) (ending other : Ending) → Run_of p refused lines s ending → Run_of p refused others u other → (lines ≡ others) × (ending ≡ other) × AreAlike s u
+  pub ended : (lines others : List Line) (s u : State) (ending other : Ending) → Run_of p outside lines s ending → Run_of p outside others u other → (lines ≡ others) × (ending ≡ other) × AreAlike s u
 
--- each linked image that has a typing is determined, whatever is refused
+-- each linked image that has a typing is determined, whatever is outside
 abbrev pub TextIsDetermined : Type 0
-TextIsDetermined = (p : Image) (t : Typing) (refused : List ℕ) → IsWired p → IsTyped p t → IsDetermined p refused
+TextIsDetermined = (p : Image) (t : Typing) (outside : Outside) → IsWired p → IsTyped p t → IsDetermined p outside

@@ -1,9 +1,9 @@
 -- `stop`, and how a dispatch comes to its end.
 use Rattle.std.proofs.Common.{◌≡◌, ◌==◌, ◌≤◌, ℕ, ℤ, Bool, true, false, cond, List, [], ◌∷◌, Option, None, refl, sym, ap, ◌∙◌, subst}
 use Rattle.aom_image.specs.Image.{Image}
-use Rattle.aom_image.specs.declared.instr.Instr.TheVariants.{Stop}
+use Rattle.aom_instructions.specs.declared.instr.Instr.TheVariants.{Stop}
 use Rattle.aom_shape.specs.declared.kind.Kind.TheVariants.{Null}
-use Rattle.aom_shape.specs.Typing.{Typing}
+use Rattle.aom_rules.specs.Typing.{Typing}
 use Rattle.aom_cells.specs.Heap.{null}
 use Rattle.aom_sound.specs.Places.{Place, Register, Entry, Field, Going, Elsewhere, Object, held}
 use Rattle.aom_sound.specs.State.{Dispatch, Dispatched, Rest, State}

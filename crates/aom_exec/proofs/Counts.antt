@@ -3,14 +3,15 @@ use Rattle.std.proofs.Common.{List, Some, [], ap, arith, false, inl, length, ref
 use Rattle.std.proofs.lemmas.Bool.{true≢false}
 use Rattle.aom_image.specs.Image.{Image}
 use Rattle.aom_image.specs.Views.{instr_at}
-use Rattle.aom_image.specs.declared.instr.Instr.TheVariants.{Push, PushOperation, Trap}
-use Rattle.aom_image.specs.declared.instr.Target.{Target}
-use Rattle.aom_shape.specs.Cleanup.{entry_of, with_entry}
+use Rattle.aom_instructions.specs.declared.instr.Instr.TheVariants.{Push, PushOperation, Trap}
+use Rattle.aom_instructions.specs.declared.instr.Target.{Target}
+use Rattle.aom_rules.specs.Cleanup.{entry_of}
+use Rattle.aom_shape.specs.Entries.{with_entry}
 use Rattle.aom_shape.specs.Kinds.{register, set_register}
 use Rattle.aom_shape.specs.Needs.{AllTrue}
-use Rattle.aom_shape.specs.Rules.{flows, rule_needs}
+use Rattle.aom_rules.specs.Rules.{flows, rule_needs}
 use Rattle.aom_shape.specs.Tables.{at}
-use Rattle.aom_shape.specs.Typing.{AllLead, IsTyped, Typing}
+use Rattle.aom_rules.specs.Typing.{AllLead, IsTyped, Typing}
 use Rattle.aom_shape.specs.declared.kind.Entry.{Entry as Pushed}
 use Rattle.aom_shape.specs.declared.kind.Entry.TheVariants.{Object as Pushed_object, Operation as Pushed_operation}
 use Rattle.aom_shape.specs.declared.kind.Kind.TheVariants.{Null}

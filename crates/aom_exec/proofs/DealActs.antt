@@ -4,11 +4,11 @@ use Rattle.std.specs.Int.{w32, cast_signed}
 use Rattle.std.specs.Prelude.{is_some}
 use Rattle.std.proofs.lemmas.List.{length-set, length-replicate}
 use Rattle.aom_image.specs.Image.{Image}
-use Rattle.aom_image.specs.declared.instr.Instr.TheVariants.{PopDelete}
+use Rattle.aom_instructions.specs.declared.instr.Instr.TheVariants.{PopDelete}
 use Rattle.aom_cells.specs.Heap.{null}
 use Rattle.aom_cleanup.specs.declared.item.Item.{Item as Held_item}
 use Rattle.aom_cleanup.specs.declared.item.Item.TheVariants.{Object as Holds_object, Operation as Holds_operation}
-use Rattle.aom_shape.specs.Typing.{Typing}
+use Rattle.aom_rules.specs.Typing.{Typing}
 use Rattle.aom_sound.specs.Cleanup.{dealt_with as deals_with, destroyed, operation_frame, tops_entry, top_is_whole, top_place}
 use Rattle.aom_classes.specs.Roles.{destructor_of}
 use Rattle.aom_sound.specs.Places.{Place, Register, Entry, Going, Object, changed, held}

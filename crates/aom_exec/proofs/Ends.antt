@@ -2,10 +2,10 @@
 use Rattle.std.proofs.Common.{◌≡◌, ◌+◌, ◌<◌, ℤ, Bool, true, false, cond, length, List, [], ◌∷◌, ◌++◌, Option, Some, None, refl, sym, ap, ◌∙◌, subst, append-nil, arith}
 use Rattle.aom_image.specs.Image.{Image}
 use Rattle.aom_cells.specs.Heap.{null}
-use Rattle.aom_shape.specs.Typing.{Typing}
+use Rattle.aom_rules.specs.Typing.{Typing}
 use Rattle.aom_sound.proofs.View.{under_dispatch}
 use Rattle.aom_sound.specs.Places.{Place, Register, Entry, Field, Going, Elsewhere, Root, Object, held}
-use Rattle.aom_sound.specs.declared.line.Ending.TheVariants.{Stopped, MainLeft as Left_with}
+use Rattle.aom_transcript.specs.declared.line.Ending.TheVariants.{Stopped, MainLeft as Left_with}
 use Rattle.aom_sound.specs.State.{Dispatch, Of_main, Task, Dispatched, Rest, State, Choice, Goes, raised}
 use Rattle.aom_sound.specs.Moves.{asked, is_counted, closed, main_ends, dispatch_ends, step, step_task, written_task}
 use Rattle.aom_sound.specs.WellTyped.{WellTyped, Keeps}

@@ -5,7 +5,7 @@ use Rattle.std.specs.Prelude.{is_some, nat_lt}
 use Rattle.std.specs.Int.{w32, cast_signed}
 use Rattle.std.proofs.lemmas.Bool.{eq-eqb, ltb-true, ne_eqb}
 use Rattle.aom_image.specs.Image.{Image}
-use Rattle.aom_image.specs.declared.instr.Instr.TheVariants.{Load, Store, Take, Put, JumpEmpty}
+use Rattle.aom_instructions.specs.declared.instr.Instr.TheVariants.{Load, Store, Take, Put, JumpEmpty}
 use Rattle.aom_image.specs.declared.method.Thing.{Thing}
 use Rattle.aom_cells.specs.Heap.{Heap, null, field_at, Lives, word_at as cell_word}
 use Rattle.aom_shape.specs.Things.{field_thing, word_count}
@@ -14,7 +14,7 @@ use Rattle.aom_sound.specs.Places.{Place, Register, Field, Elsewhere, Root, Obje
 use Rattle.aom_sound.specs.Effects.{applied, jumps_unless, writes as writes_word}
 use Rattle.aom_sound.specs.State.{Home, Static, AtRoot, Inside, next, set_word, Task, Run, Choice, field_place, home_holder}
 use Rattle.aom_sound.specs.Objects.{is_declared_thing}
-use Rattle.aom_sound.specs.WellTyped.{IsHoused as Is_housed, Now, Stack}
+use Rattle.aom_sound.specs.WellTyped.{IsHoused, Now, Stack}
 use Rattle.aom_sound.specs.Words.{loaded, stored, read}
 use Rattle.aom_sound.proofs.Storing.{held_set_word}
 use Rattle.aom_sound.proofs.Maps.{held_moved}
@@ -27,7 +27,7 @@ use Rattle.aom_exec.specs.Places.{value_in}
 use Rattle.aom_exec.specs.Agrees.{word_at, home_number, Shows, number, SameCells, Agrees}
 use Rattle.aom_exec.specs.Acts.{At_hand, WritesWord, set_register, Does}
 use Rattle.aom_exec.specs.Acts as acts
-use Rattle.aom_exec.specs.Fields.{this, IsHoused, field_here, PutsWord, PutsField, WritesField}
+use Rattle.aom_exec.specs.Fields.{this, ThisLives, field_here, PutsWord, PutsField, WritesField}
 use Rattle.aom_exec.proofs.Values.{kept, value_here, value_written, word_written, moves}
 use Rattle.aom_exec.proofs.Standing.{by_top, word_here, free, no_word, unnamed, not_null}
 use Rattle.aom_exec.proofs.CellFields.{field_written, root_written, word_put_elsewhere, cell_of, cells_put, cells_stored}
@@ -41,7 +41,7 @@ module _ (p : Image) (m : Parts) (h : At_hand p m) where
   -- it lives
   housed : (o : Object) (from : Place) → h.frame.home ≡ Inside o from → named h.state.cells o.name ≡ Some o
   housed o from e = method_layer (λ ls. Stack p h.typing h.state.cells Now ls) h.frame h.below h.typed.layers (sym h.typed.tasks ∙ h.top) h.typed.good.stack (λ sh ls _ stack.
-      let lives = subst (Is_housed p h.state.cells ls) e stack.2 in
+      let lives = subst (IsHoused p h.state.cells ls) e stack.2 in
       lives.lives)
 
   -- the machine's number of it
@@ -54,7 +54,7 @@ module _ (p : Image) (m : Parts) (h : At_hand p m) where
   inside_there : (o : Object) (from : Place) → h.frame.home ≡ Inside o from → this m ≢ null
   inside_there o from e n = none-some _ (sym (sym (housed o from e) ∙ ap (named h.state.cells) (sym (inside_number o from e) ∙ n) ∙ unnamed p m h.state null h.agrees h.agrees.cells.null_is_none))
 
-  pub is_housed : IsHoused m
+  pub is_housed : ThisLives m
   is_housed there = go h.frame.home refl
     where
       go : (home : Home) → h.frame.home ≡ home → Lives m.cells (this m)

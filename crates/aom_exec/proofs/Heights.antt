@@ -3,7 +3,7 @@ use Rattle.std.proofs.Common.{List, None, Some, [], ap, arith, length, refl, sub
 use Rattle.aom_image.specs.Image.{Image}
 use Rattle.aom_shape.specs.Kinds.{register}
 use Rattle.aom_shape.specs.Shape.{Shape}
-use Rattle.aom_shape.specs.Typing.{Typing, shape_at}
+use Rattle.aom_rules.specs.Typing.{Typing, shape_at}
 use Rattle.aom_shape.specs.declared.kind.Entry.{Entry as Pushed}
 use Rattle.aom_shape.specs.declared.kind.Entry.TheVariants.{Object as Pushed_object, Operation as Pushed_operation}
 use Rattle.aom_shape.specs.declared.kind.Kind.TheVariants.{Null}

@@ -2,8 +2,8 @@
 use Rattle.std.proofs.Common.{◌≡◌, ℕ, [], Some, sym, ap, ◌∙◌, subst}
 use Rattle.aom_image.specs.Image.{Image}
 use Rattle.aom_image.specs.Views.{instr_at}
-use Rattle.aom_image.specs.declared.instr.Instr.{Instr}
-use Rattle.aom_image.specs.declared.instr.Instr.TheVariants.{Load, Store}
+use Rattle.aom_instructions.specs.declared.instr.Instr.{Instr}
+use Rattle.aom_instructions.specs.declared.instr.Instr.TheVariants.{Load, Store}
 use Rattle.aom_cells.specs.Heap.{Lives}
 use Rattle.aom_shape.specs.Needs.{AllTrue}
 use Rattle.aom_sound.specs.State.{Choice}
@@ -12,7 +12,7 @@ use Rattle.aom_sound.specs.WellTyped.{Keeps}
 use Rattle.aom_frames.specs.Tasks.{Runs, method_here}
 use Rattle.aom_exec.specs.declared.parts.Parts.{Parts}
 use Rattle.aom_exec.specs.Acts.{At_hand, requested}
-use Rattle.aom_exec.specs.Fields.{this, IsHoused}
+use Rattle.aom_exec.specs.Fields.{this, ThisLives}
 use Rattle.aom_exec.specs.Next.{IsNext, counting}
 use Rattle.aom_exec.specs.Steps.{Stands}
 use Rattle.aom_exec.proofs.Standing.{an_open}
@@ -25,7 +25,7 @@ module _ (p : Image) (m : Parts) (st : Stands (record { image = p; parts = m }))
       let f = frame_of m.stack.tasks st.0.tasks runs st.1.agrees.tasks in
       record { typing = st.1.typing; state = st.0; frame = f.0; below = f.1; top = f.2; wired = st.1.sound.wired; typed = st.1.typed; agrees = st.1.agrees }
 
-  pub finds_home : IsHoused m
+  pub finds_home : ThisLives m
   finds_home = is_housed p m at_hand
 
 module _ (p : Image) (m : Parts) where

@@ -1,7 +1,7 @@
 -- An object goes from one register to another.
 use Rattle.std.proofs.Common.{◌≡◌, ℕ, ◌<◌, length, List, ◌∷◌, None, slice_set, refl, sym, ap, ◌∙◌, arith}
 use Rattle.std.proofs.lemmas.List.{length-set}
-use Rattle.aom_image.specs.declared.instr.Instr.TheVariants.{Move}
+use Rattle.aom_instructions.specs.declared.instr.Instr.TheVariants.{Move}
 use Rattle.aom_cells.specs.Heap.{null}
 use Rattle.aom_sound.specs.Places.{Register, moved, changed, held}
 use Rattle.aom_sound.proofs.Maps.{held_moved}

@@ -6,7 +6,7 @@ use Rattle.aom_image.specs.Views.{method_at}
 use Rattle.aom_image.specs.declared.method.Method.{Method}
 use Rattle.aom_cells.specs.Heap.{count}
 use Rattle.aom_shape.specs.Tables.{at}
-use Rattle.aom_shape.specs.Typing.{Typing}
+use Rattle.aom_rules.specs.Typing.{Typing}
 use Rattle.aom_sound.specs.State.{Frame, Task, Trapped, Destroy, Unwind, Dispatched, Item, State, next}
 use Rattle.aom_sound.specs.WellTyped.{WellTyped}
 use Rattle.aom_frames.specs.declared.frame.Frame.{Frame as Held_frame}

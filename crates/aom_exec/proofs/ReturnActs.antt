@@ -5,7 +5,7 @@ use Rattle.std.proofs.lemmas.List.{length-set}
 use Rattle.aom_image.specs.Image.{Image}
 use Rattle.aom_image.specs.Views.{gives_in, gives_of, instr_at, method_at}
 use Rattle.aom_image.specs.declared.method.Method.{Method as Method_decl}
-use Rattle.aom_image.specs.declared.instr.Instr.TheVariants.{Return}
+use Rattle.aom_instructions.specs.declared.instr.Instr.TheVariants.{Return}
 use Rattle.aom_image.specs.declared.method.Gives.{Gives}
 use Rattle.aom_image.specs.declared.method.Gives.TheVariants.{Left, Maybe as A_maybe, Nothing, Own as An_own, Word as A_word}
 use Rattle.aom_cells.specs.Heap.{Heap, null}
@@ -14,7 +14,7 @@ use Rattle.aom_shape.specs.declared.kind.Kind.{Kind}
 use Rattle.aom_shape.specs.declared.kind.Kind.TheVariants.{Own, Maybe}
 use Rattle.aom_shape.specs.Needs.{AllTrue}
 use Rattle.aom_shape.specs.Shape.{Shape}
-use Rattle.aom_shape.specs.Typing.{Typing}
+use Rattle.aom_rules.specs.Typing.{Typing}
 use Rattle.aom_sound.proofs.View.{under_dispatch}
 use Rattle.aom_sound.specs.Calls.{below_top, needs_return, result_needs, result_register, returned}
 use Rattle.aom_sound.specs.Claims.{Method, Mark, tasks_of, claim, declared}

@@ -5,9 +5,9 @@ use Rattle.std.proofs.lemmas.Bool.{ne_eqb, true≢false}
 use Rattle.std.specs.Prelude.{is_some, not, ◌||◌}
 use Rattle.aom_image.specs.Image.{Image}
 use Rattle.aom_image.specs.Views.{arguments_of, instr_at, is_quiet, leaves, method_class, method_role}
-use Rattle.aom_image.specs.declared.instr.Instr.{Instr}
-use Rattle.aom_image.specs.declared.instr.Instr.TheVariants.{Call, Delete, Push, PushOperation, Trap}
-use Rattle.aom_image.specs.declared.instr.Target.{Target}
+use Rattle.aom_instructions.specs.declared.instr.Instr.{Instr}
+use Rattle.aom_instructions.specs.declared.instr.Instr.TheVariants.{Call, Delete, Push, PushOperation, Trap}
+use Rattle.aom_instructions.specs.declared.instr.Target.{Target}
 use Rattle.aom_image.specs.declared.method.Argument.{Argument}
 use Rattle.aom_image.specs.declared.method.Argument.TheVariants.{Own as Takes_own, Word as Takes_word}
 use Rattle.aom_image.specs.declared.method.Gives.{Gives}
@@ -15,14 +15,15 @@ use Rattle.aom_image.specs.declared.method.Gives.TheVariants.{Left, Maybe as A_m
 use Rattle.aom_image.specs.declared.method.Thing.{Thing}
 use Rattle.aom_image.specs.declared.method.Thing.TheVariants.{Object as An_object_of, Message}
 use Rattle.aom_classes.proofs.Facts.{of_method}
-use Rattle.aom_shape.specs.Calls.{each_argument, is_construct, rule_target}
-use Rattle.aom_shape.specs.Cleanup.{entry_of, with_entry}
+use Rattle.aom_rules.specs.Calls.{each_argument, is_construct, rule_target}
+use Rattle.aom_rules.specs.Cleanup.{entry_of}
+use Rattle.aom_shape.specs.Entries.{with_entry}
 use Rattle.aom_shape.specs.Kinds.{no_entry, register, set_register}
 use Rattle.aom_shape.specs.Needs.{AllTrue, only_if}
-use Rattle.aom_shape.specs.Rules.{flows, rule_needs}
+use Rattle.aom_rules.specs.Rules.{flows, rule_needs}
 use Rattle.aom_shape.specs.Shape.{Shape}
 use Rattle.aom_shape.specs.Tables.{at}
-use Rattle.aom_shape.specs.Typing.{AllLead, Leads, Typing, shape_at}
+use Rattle.aom_rules.specs.Typing.{AllLead, Leads, Typing, shape_at}
 use Rattle.aom_shape.specs.declared.kind.Entry.{Entry as Pushed_entry}
 use Rattle.aom_shape.specs.declared.kind.Entry.TheVariants.{Operation}
 use Rattle.aom_shape.specs.declared.kind.Kind.{Kind}

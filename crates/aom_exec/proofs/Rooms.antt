@@ -2,14 +2,14 @@
 use Rattle.std.proofs.Common.{List, Some, ap, arith, length, suc, sym, ℕ, ◌+◌, ◌<◌, ◌∙◌, ◌∷◌, ◌≡◌}
 use Rattle.aom_image.specs.Image.{Image}
 use Rattle.aom_image.specs.Views.{instr_at}
-use Rattle.aom_image.specs.declared.instr.Instr.{Instr}
-use Rattle.aom_image.specs.declared.instr.Instr.TheVariants.{Push, PushOperation, Trap}
-use Rattle.aom_image.specs.declared.instr.Target.{Target}
+use Rattle.aom_instructions.specs.declared.instr.Instr.{Instr}
+use Rattle.aom_instructions.specs.declared.instr.Instr.TheVariants.{Push, PushOperation, Trap}
+use Rattle.aom_instructions.specs.declared.instr.Target.{Target}
 use Rattle.aom_cleanup.specs.Items.{entries_in, marks_in}
 use Rattle.aom_cleanup.specs.declared.item.Item.{Item as Held_item}
 use Rattle.aom_frames.specs.Tasks.{Runs, method_here, place_here}
 use Rattle.aom_shape.specs.Tables.{at}
-use Rattle.aom_shape.specs.Typing.{Typing}
+use Rattle.aom_rules.specs.Typing.{Typing}
 use Rattle.aom_sound.specs.Moves.{step}
 use Rattle.aom_sound.specs.Quiet.{IsCalm}
 use Rattle.aom_sound.specs.State.{Choice, Frame, Goes, Item, Run, State, Task}

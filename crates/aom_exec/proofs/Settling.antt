@@ -3,12 +3,12 @@ use Rattle.std.proofs.Common.{◌≡◌, ◌≤◌, Bool, true, false, cond, len
 use Rattle.std.proofs.lemmas.List.{length-append}
 use Rattle.aom_image.specs.Image.{Image}
 use Rattle.aom_image.specs.Views.{instr_at}
-use Rattle.aom_image.specs.declared.instr.Instr.{Instr}
-use Rattle.aom_image.specs.declared.instr.Instr.TheVariants.{Print}
+use Rattle.aom_instructions.specs.declared.instr.Instr.{Instr}
+use Rattle.aom_instructions.specs.declared.instr.Instr.TheVariants.{Print}
 use Rattle.aom_sound.specs.Moves.{announcement, goes_line, written, written_instr, written_task}
 use Rattle.aom_sound.specs.Places.{Going, Object, held}
 use Rattle.aom_sound.specs.Cleanup.{arrival}
-use Rattle.aom_sound.specs.declared.line.Line.TheVariants.{Main}
+use Rattle.aom_transcript.specs.declared.line.Line.TheVariants.{Main}
 use Rattle.aom_image.specs.declared.method.Thing.{Thing}
 use Rattle.aom_image.specs.declared.method.Thing.TheVariants.{Object as An_object_of, Message}
 use Rattle.aom_sound.specs.State.{Task, Run, Destroy, Unwind, Item, An_object, An_operation, A_mark, Rest, State}

@@ -3,8 +3,9 @@ use Rattle.std.proofs.Common.{suc, ◌≡◌, ◌<◌, ℕ, length, List, ◌∷
 use Rattle.aom_classes.proofs.Facts.{all_there, of_method}
 use Rattle.aom_image.specs.Image.{Image}
 use Rattle.aom_image.specs.Views.{instr_at, method_at}
-use Rattle.aom_image.specs.WellFormed.{InstrFits, limits, MethodFits, WellFormed}
-use Rattle.aom_image.specs.declared.instr.Instr.{Instr}
+use Rattle.aom_instructions.specs.Fits.{InstrFits, limits}
+use Rattle.aom_image.specs.WellFormed.{MethodFits, WellFormed}
+use Rattle.aom_instructions.specs.declared.instr.Instr.{Instr}
 use Rattle.aom_image.specs.declared.method.Method.{Method}
 use Rattle.aom_sound.specs.Calls.{result_register}
 use Rattle.aom_sound.specs.State.{Frame, Run, Task}

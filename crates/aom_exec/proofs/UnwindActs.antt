@@ -7,8 +7,8 @@ use Rattle.std.proofs.lemmas.Int.{to_z-of_z}
 use Rattle.std.proofs.lemmas.List.{length-set}
 use Rattle.aom_image.specs.Image.{Image}
 use Rattle.aom_image.specs.Views.{instr_at}
-use Rattle.aom_image.specs.declared.instr.Instr.{Instr}
-use Rattle.aom_image.specs.declared.instr.Instr.TheVariants.{Call, Trap}
+use Rattle.aom_instructions.specs.declared.instr.Instr.{Instr}
+use Rattle.aom_instructions.specs.declared.instr.Instr.TheVariants.{Call, Trap}
 use Rattle.aom_image.specs.declared.method.Gives.{Gives}
 use Rattle.aom_image.specs.declared.method.Gives.TheVariants.{Left, Maybe as A_maybe, Nothing, Own as An_own, Word as A_word}
 use Rattle.aom_cells.specs.Heap.{null}
@@ -17,7 +17,7 @@ use Rattle.aom_cleanup.specs.declared.item.Item.{Item as Held_item}
 use Rattle.aom_cleanup.specs.declared.item.Item.TheVariants.{Mark as Is_mark}
 use Rattle.aom_shape.specs.Kinds.{register}
 use Rattle.aom_shape.specs.Tables.{at, put_at}
-use Rattle.aom_shape.specs.Typing.{Typing}
+use Rattle.aom_rules.specs.Typing.{Typing}
 use Rattle.aom_sound.proofs.View.{under_dispatch}
 use Rattle.aom_sound.specs.Calls.{below_top, called, result_register}
 use Rattle.aom_sound.specs.Claims.{Method, Mark, Unwinding, tasks_of, claim, declared}
@@ -26,7 +26,7 @@ use Rattle.aom_sound.specs.Laws.{IsWired}
 use Rattle.aom_sound.specs.Places.{Place, Register, changed, held}
 use Rattle.aom_sound.specs.State.{Frame, Dispatch, Of_main, Main_left, Task, Run, Trapped, Unwind, Dispatched, Item, An_object, An_operation, A_mark, State, Goes, IsStuck, NullOrDead, next, set_word, word}
 use Rattle.aom_sound.specs.WellTyped.{Caught, EndsDispatch, Fits, Good, Keeps, WellTyped}
-use Rattle.aom_sound.specs.declared.line.Line.TheVariants.{Leave}
+use Rattle.aom_transcript.specs.declared.line.Line.TheVariants.{Leave}
 use Rattle.aom_sound.proofs.Guarded.{goes_same}
 use Rattle.aom_sound.specs.Tasks.{Below}
 use Rattle.aom_sound.specs.Traps.{AllAtTraps, at_traps}

@@ -1,7 +1,7 @@
 -- What a call is made on.
 use Rattle.std.specs.Prelude.{ℕ, Option, Some, None}
-use Rattle.aom_image.specs.declared.instr.Target.{Target}
-use Rattle.aom_image.specs.declared.instr.Target.TheVariants.{This, Register, Field, Entry}
+use Rattle.aom_instructions.specs.declared.instr.Target.{Target}
+use Rattle.aom_instructions.specs.declared.instr.Target.TheVariants.{This, Register, Field, Entry}
 use Rattle.aom_cells.specs.Heap.{null}
 use Rattle.aom_frames.specs.Tasks.{register_here}
 use Rattle.aom_exec.specs.declared.parts.Parts.{Parts}

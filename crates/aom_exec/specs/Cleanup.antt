@@ -2,13 +2,13 @@
 use Rattle.std.specs.Prelude.{ℕ, suc, ℤ, ◌≡◌, ◌<◌, ◌++◌, List, [], ◌∷◌, Option, IfSome}
 use Rattle.std.specs.Int.{w32, cast_unsigned}
 use Rattle.aom_image.specs.Image.{Image}
-use Rattle.aom_image.specs.declared.instr.Instr.{Instr}
+use Rattle.aom_instructions.specs.declared.instr.Instr.{Instr}
 use Rattle.aom_image.specs.declared.method.Gives.{Gives}
 use Rattle.aom_image.specs.declared.method.Gives.TheVariants.{Nothing, Word as A_word, Own as An_own, Maybe as A_maybe, Left}
 use Rattle.aom_cells.specs.Heap.{Heap, null, Lives, class_at}
 use Rattle.aom_cleanup.specs.declared.item.Item.{Item}
 use Rattle.aom_cleanup.specs.declared.item.Item.TheVariants.{Object, Operation, Mark}
-use Rattle.aom_shape.specs.Typing.{Typing}
+use Rattle.aom_rules.specs.Typing.{Typing}
 use Rattle.aom_sound.specs.Calls.{called, result_register}
 use Rattle.aom_sound.specs.Cleanup.{arrival, unwound}
 use Rattle.aom_sound.specs.State.{State, Task, Unwind, Goes}

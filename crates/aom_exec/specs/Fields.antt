@@ -9,8 +9,8 @@ abbrev pub this : Parts → ℕ
 this m = this_here m.stack.tasks
 
 -- it lives, if there is one
-abbrev pub IsHoused : Parts → Type 0
-IsHoused m = this m ≢ null → Lives m.cells (this m)
+abbrev pub ThisLives : Parts → Type 0
+ThisLives m = this m ≢ null → Lives m.cells (this m)
 
 -- the number in a field
 abbrev pub field_here : ℕ → Parts → ℕ

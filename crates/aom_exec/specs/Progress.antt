@@ -1,7 +1,7 @@
 -- How far the checked machine has come.
 use Rattle.std.specs.Prelude.{List, [], ◌∷◌, Option, Some, None}
 use Rattle.aom_sound.specs.State.{State}
-use Rattle.aom_sound.specs.declared.line.Ending.{Ending}
+use Rattle.aom_transcript.specs.declared.line.Ending.{Ending}
 use Rattle.aom_exec.specs.declared.progress.Progress.{Progress}
 use Rattle.aom_exec.specs.declared.progress.Progress.TheVariants.{Running, Turned, Ended}
 

@@ -2,8 +2,8 @@
 use Rattle.std.specs.Prelude.{ℕ, suc, Bool, true, not, ◌||◌, ◌+◌, ◌<◌, ◌≤◌, ◌≡◌, ◌^◌, cond, nat_lt, List, [], ◌∷◌, length, Option, Some, None, IsSome}
 use Rattle.aom_image.specs.Image.{Image}
 use Rattle.aom_image.specs.Views.{instr_at, is_quiet, leaves, method_at}
-use Rattle.aom_image.specs.declared.instr.Instr.{Instr}
-use Rattle.aom_image.specs.declared.instr.Instr.TheVariants.{Call, Trap}
+use Rattle.aom_instructions.specs.declared.instr.Instr.{Instr}
+use Rattle.aom_instructions.specs.declared.instr.Instr.TheVariants.{Call, Trap}
 use Rattle.aom_frames.specs.declared.task.Task.{Task as Held_task}
 use Rattle.aom_frames.specs.declared.task.Task.TheVariants.{Run as Runs_frame, Trapped as Is_trap, Destroy as Destroys, Unwind as Unwinds, Dispatched as Ends}
 use Rattle.aom_sound.specs.Calls.{result_register}

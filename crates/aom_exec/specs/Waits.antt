@@ -2,15 +2,16 @@
 use Rattle.std.specs.Prelude.{ℕ, ℤ, ◌≡◌, true, IsSome, IfSome, List, [], ◌∷◌, length, Option, Some, None}
 use Rattle.aom_image.specs.Image.{Image}
 use Rattle.aom_image.specs.Views.{arguments_of, instr_at, method_class}
-use Rattle.aom_image.specs.declared.instr.Instr.{Instr}
-use Rattle.aom_shape.specs.Calls.{arguments_moved, while_called}
-use Rattle.aom_shape.specs.Cleanup.{without_entry}
+use Rattle.aom_instructions.specs.declared.instr.Instr.{Instr}
+use Rattle.aom_shape.specs.Arguments.{arguments_moved}
+use Rattle.aom_rules.specs.Calls.{while_called}
+use Rattle.aom_shape.specs.Entries.{without_entry}
 use Rattle.aom_shape.specs.Kinds.{register, set_register}
-use Rattle.aom_shape.specs.Rules.{ways_of}
+use Rattle.aom_rules.specs.Rules.{ways_of}
 use Rattle.aom_shape.specs.Shape.{Shape}
 use Rattle.aom_shape.specs.Things.{stands_for}
-use Rattle.aom_shape.specs.Typing.{Typing, shape_at}
-use Rattle.aom_shape.specs.Ways.{As_before, Branches, Branches_on_empty, Branches_on_null, Called, Caught, Dropped, Ends, Filled, Goes_back, Goes_on, Goes_to, Holding, Moved, News, Popped, Pushed, Pushed_operation, Taken, Ways}
+use Rattle.aom_rules.specs.Typing.{Typing, shape_at}
+use Rattle.aom_rules.specs.Ways.{As_before, Branches, Branches_on_empty, Branches_on_null, Called, Caught, Dropped, Ends, Filled, Goes_back, Goes_on, Goes_to, Holding, Moved, News, Popped, Pushed, Pushed_operation, Taken, Ways}
 use Rattle.aom_shape.specs.declared.kind.Kind.{Kind}
 use Rattle.aom_shape.specs.declared.kind.Kind.TheVariants.{Maybe, Null, Own, Unset, Word}
 use Rattle.aom_sound.specs.Places.{Cell, Object, Register, held}

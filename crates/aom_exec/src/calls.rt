@@ -2,12 +2,12 @@
 ghost use Rattle.std.specs.Prelude.{ℕ, suc, List, ◌<◌, ◌+◌, ◌^◌, ◌≡◌, IsSome, Some};
 ghost use Rattle.aom_image.specs.Image.{Image};
 ghost use Rattle.aom_image.specs.Views.{instr_at};
-ghost use Rattle.aom_image.specs.declared.instr.Instr.TheVariants.{Call, Return, Stop, Trap};
+ghost use Rattle.aom_instructions.specs.declared.instr.Instr.TheVariants.{Call, Return, Stop, Trap};
 ghost use Rattle.aom_sound.specs.Calls.{result_register};
 ghost use Rattle.aom_frames.specs.Tasks.{Runs, method_here, place_here};
 ghost use Rattle.aom_exec.specs.Acts.{Does, DoesIn, resulted, next, set_register};
 ghost use Rattle.aom_exec.specs.Calls.{target_here};
-ghost use Rattle.aom_exec.specs.Fields.{IsHoused};
+ghost use Rattle.aom_exec.specs.Fields.{ThisLives};
 ghost use Rattle.aom_exec.specs.Next.{IsNext};
 
 use crate::parts::Parts;
@@ -33,7 +33,7 @@ impl Parts {
     /// What a method that is called works on: the number of a cell, or null.
     fn target(&self, target: Target, class: Option<ClassNumber>) -> u32
         requires runs { Runs self.now.stack.tasks }
-        requires housed { IsHoused self.now }
+        requires housed { ThisLives self.now }
         ensures { result ≡ target_here target class self.now }
     {
         match target {

@@ -2,7 +2,7 @@
 ghost use Rattle.std.specs.Prelude.{◌≡◌, ◌<◌, ◌+◌, ℕ, List, length};
 ghost use Rattle.aom_cleanup.specs.Items.{IsAboveMark};
 ghost use Rattle.aom_image.specs.Image.{Image};
-ghost use Rattle.aom_image.specs.declared.instr.Instr.TheVariants.{Push, PushOperation, Pop, PopOperation, PopDelete, NewOrLeave};
+ghost use Rattle.aom_instructions.specs.declared.instr.Instr.TheVariants.{Push, PushOperation, Pop, PopOperation, PopDelete, NewOrLeave};
 ghost use Rattle.aom_exec.specs.Acts.{Does, DoesIn};
 ghost use Rattle.aom_exec.specs.Cleanup.{TopLives, dealt_with, operating};
 ghost use Rattle.aom_exec.specs.Next.{IsNext};

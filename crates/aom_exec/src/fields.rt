@@ -2,10 +2,10 @@
 ghost use Rattle.std.specs.Prelude.{◌≡◌, ℕ, List};
 ghost use Rattle.aom_cells.specs.Heap.{null, Lives, word_at};
 ghost use Rattle.aom_image.specs.Image.{Image};
-ghost use Rattle.aom_image.specs.declared.instr.Instr.TheVariants.{JumpEmpty, Take, Put};
+ghost use Rattle.aom_instructions.specs.declared.instr.Instr.TheVariants.{JumpEmpty, Take, Put};
 ghost use Rattle.aom_frames.specs.Tasks.{Runs};
 ghost use Rattle.aom_exec.specs.Acts.{Does};
-ghost use Rattle.aom_exec.specs.Fields.{this, IsHoused, field_here, PutsWord, WritesField};
+ghost use Rattle.aom_exec.specs.Fields.{this, ThisLives, field_here, PutsWord, WritesField};
 ghost use Rattle.aom_exec.specs.Next.{IsNext};
 
 use crate::parts::Parts;
@@ -45,7 +45,7 @@ impl Parts {
     /// The number in a field.
     pub fn field(&self, field: FieldIndex) -> u32
         requires runs { Runs self.now.stack.tasks }
-        requires housed { IsHoused self.now }
+        requires housed { ThisLives self.now }
         ensures { result ≡ field_here field self.now }
     {
         if self.stack.this() == NULL {
@@ -57,7 +57,7 @@ impl Parts {
     /// Takes the number out of a field, and leaves null.
     pub fn take_field(&mut self, field: FieldIndex) -> u32
         requires runs { Runs self.old.stack.tasks }
-        requires housed { IsHoused self.old }
+        requires housed { ThisLives self.old }
         ensures value { result ≡ field_here field self.old }
         ensures emptied { WritesField field null self.old self.new }
         ensures stack { self.new.stack ≡ self.old.stack }
@@ -71,7 +71,7 @@ impl Parts {
 
     pub fn set_field(&mut self, field: FieldIndex, number: u32)
         requires runs { Runs self.old.stack.tasks }
-        requires housed { IsHoused self.old }
+        requires housed { ThisLives self.old }
         ensures written { WritesField field number self.old self.new }
         ensures stack { self.new.stack ≡ self.old.stack }
     {

@@ -1,7 +1,7 @@
 //! Destruction: a cell is at hand, its destructor runs first, and then it goes.
 ghost use Rattle.std.specs.Prelude.{◌≡◌, ◌<◌, ◌+◌, ◌^◌, ◌↔◌, ℕ, List, IfSome, IsTrue, Some, length};
 ghost use Rattle.aom_cells.specs.Heap.{Lives, class_at};
-ghost use Rattle.aom_image.specs.declared.instr.Instr.TheVariants.{Delete};
+ghost use Rattle.aom_instructions.specs.declared.instr.Instr.TheVariants.{Delete};
 ghost use Rattle.aom_frames.specs.Tasks.{Runs, place_here, below_first};
 ghost use Rattle.aom_exec.specs.Acts.{DoesIn, GoesAway, next};
 ghost use Rattle.aom_exec.specs.Going.{destroying, destructor_at, uprooted};
@@ -14,7 +14,7 @@ use aom_classes::Linked;
 use aom_frames::{Dispatch, Frame, Task, TaskKind};
 use aom_image::{ClassNumber, Register, Role};
 use aom_lines::Turn;
-use aom_sound::Line;
+use aom_transcript::Line;
 
 impl Parts {
     /// The class of a living cell.

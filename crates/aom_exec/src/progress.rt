@@ -1,6 +1,6 @@
 //! How far a step has come.
 
-use aom_sound::Ending;
+use aom_transcript::Ending;
 
 /// What stands after a step.
 #[derive(Clone, Copy, PartialEq, Eq, Debug)]

@@ -1,10 +1,10 @@
 //! The clock, the counts, and how far the run has come.
 ghost use Rattle.std.specs.Prelude.{◌≡◌, Some, None, true, false, cond};
 ghost use Rattle.aom_sound.specs.State.{raised};
-ghost use Rattle.aom_sound.specs.declared.line.Ending.TheVariants.{Stopped, Waiting, MainLeft};
+ghost use Rattle.aom_transcript.specs.declared.line.Ending.TheVariants.{Stopped, Waiting, MainLeft};
 ghost use Rattle.aom_exec.specs.Counts.{raised_by};
 
-use aom_sound::Ending;
+use aom_transcript::Ending;
 use std::marker::Model;
 
 /// What no place of the machine tells.

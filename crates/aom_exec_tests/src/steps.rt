@@ -2,8 +2,8 @@
 use crate::images::accepted_of;
 use aom_budget::Accepted;
 use aom_exec::{Machine, Progress};
-use aom_lines::{Page, Turn};
-use aom_sound::Ending;
+use aom_lines::Turn;
+use aom_transcript::{Ending, Page};
 use std::alloc::{AllocError, Global};
 use std::process::Abort;
 use std::test::Fail;

@@ -1,3 +1,2 @@
-pub mod Lengths
-pub mod Again
 pub mod Given
+pub mod Lengths

@@ -1,9 +1,4 @@
 pub mod Image
 pub mod Views
 pub mod Roles
-pub mod Operands
-pub mod Rows
-pub mod Mnemonics
-pub mod Parts
 pub mod WellFormed
-pub mod Laws

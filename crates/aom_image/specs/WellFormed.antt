@@ -1,11 +1,7 @@
 -- Which images are well formed: every field in its range, and at most 1 MiB of bytes.
 use Rattle.std.specs.Prelude.{ℕ, ◌+◌, ◌*◌, ◌<◌, ◌≤◌, ◌^◌, Bool, true, false, List, length, All, count_by, sum_by, IfSome}
 use Rattle.aom_image.specs.Image.{Image}
-use Rattle.aom_image.specs.declared.limits.Limits.{Limits}
-use Rattle.aom_image.specs.Operands.{OperandsFit}
-use Rattle.aom_image.specs.Parts.{mnemonic, operands}
-use Rattle.aom_image.specs.Rows.{row}
-use Rattle.aom_image.specs.declared.instr.Instr.{Instr}
+use Rattle.aom_instructions.specs.Fits.{InstrFits, limits}
 use Rattle.aom_image.specs.declared.image.Header.{Header}
 use Rattle.aom_image.specs.declared.class.ClassDecl.{ClassDecl}
 use Rattle.aom_image.specs.declared.class.ClassKind.{ClassKind}
@@ -60,10 +56,6 @@ is_server c = is_server_kind c.kind
 
 -- ---- methods
 
--- an instruction has the operands that its row asks, each in its range
-abbrev pub InstrFits : Limits → Instr → Type 0
-InstrFits l i = OperandsFit l (row (mnemonic i)).kinds (operands i)
-
 -- an argument, beside so many classes
 abbrev pub ArgumentFits : ℕ → Argument → Type 0
 ArgumentFits classes arguments.Word = Unit {0}
@@ -76,10 +68,6 @@ GivesFits classes gives.Word = Unit {0}
 GivesFits classes (gives.Own t) = ThingFits classes t
 GivesFits classes (gives.Maybe t) = ThingFits classes t
 GivesFits classes (gives.Left c) = c < classes
-
--- what the operands of a method's code are measured by
-abbrev pub limits : ℕ → ℕ → ℕ → Limits
-limits classes methods places = record { classes = classes; methods = methods; places = places }
 
 -- a method, beside so many classes and methods
 pub record MethodFits (classes methods : ℕ) (m : Method) : Type 0 where

@@ -1,9 +1,10 @@
 //! Whether parts make a well-formed image.
 ghost use Rattle.std.specs.Prelude.{◌≡◌, ◌<◌, ◌≤◌, ◌↔◌, IsTrue, IfSome, All, length, count_by, ◌+◌, ◌*◌, ◌^◌, sum_by, codes};
-ghost use Rattle.aom_image.specs.WellFormed.{ThingFits, ProviderFits, KindFits, ClassFits, ClassesFit, MethodsFit, ArgumentFits, GivesFits, InstrFits, MethodFits, HeaderFits, WellFormed, is_server, spelled_size};
+ghost use Rattle.aom_image.specs.WellFormed.{ThingFits, ProviderFits, KindFits, ClassFits, ClassesFit, MethodsFit, ArgumentFits, GivesFits, MethodFits, HeaderFits, WellFormed, is_server, spelled_size};
+ghost use Rattle.aom_instructions.specs.Fits.{InstrFits};
 
-use crate::limits::{Limits, fits};
 use crate::{Argument, ClassDecl, ClassKind, ClassNumber, Gives, Header, Method, Provider, Thing};
+use aom_instructions::{Limits, fits};
 
 fn class_fits(class: ClassNumber, classes: usize) -> bool
     ensures { IsTrue result ↔ (class < classes) }

@@ -1,6 +1,6 @@
 -- The lines of a turn, as contracts see them.
 use Rattle.std.specs.Prelude.{ℕ, List}
-use Rattle.aom_sound.specs.declared.line.Line.{Line}
+use Rattle.aom_transcript.specs.declared.line.Line.{Line}
 
 pub record Turn : Type 0 where
   pub lines : List Line

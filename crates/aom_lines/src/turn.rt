@@ -4,7 +4,7 @@ ghost use Rattle.std.specs.List.{list_any};
 
 use crate::refusals::Refusals;
 use aom_budget::Accepted;
-use aom_sound::Line;
+use aom_transcript::Line;
 use std::alloc::{AllocError, Global};
 use std::marker::Model;
 

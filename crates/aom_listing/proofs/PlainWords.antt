@@ -7,11 +7,11 @@ use Rattle.std.proofs.lemmas.Bool.{agree_below_at, and_from, true≢false}
 use Rattle.std.proofs.lemmas.List.Folds.{list_all-append}
 use Rattle.aom_text.specs.Words.{has_bytes}
 use Rattle.aom_syntax.specs.Keywords.{keyword_text}
-use Rattle.aom_image.specs.Mnemonics.{mnemonic_text}
+use Rattle.aom_instructions.specs.Mnemonics.{mnemonic_text}
 use Rattle.aom_syntax.specs.declared.keyword.Keyword.{Keyword}
 use Rattle.aom_syntax.specs.declared.keyword.Keyword.TheVariants as k
-use Rattle.aom_image.specs.declared.mnemonic.Mnemonic.{Mnemonic}
-use Rattle.aom_image.specs.declared.mnemonic.Mnemonic.TheVariants as m
+use Rattle.aom_instructions.specs.declared.mnemonic.Mnemonic.{Mnemonic}
+use Rattle.aom_instructions.specs.declared.mnemonic.Mnemonic.TheVariants as m
 use Rattle.aom_listing.specs.Text.{behind, list_word}
 
 -- a byte from a comma to a colon, or from A to z

@@ -1,8 +1,8 @@
 -- The places to which a method's instructions jump.
 use Rattle.std.specs.Prelude.{◌≡◌, ◌<◌, ℕ, Bool, false, List, Option, Some, None, slice_index_or}
 use Rattle.std.specs.List.{list_any}
-use Rattle.aom_image.specs.declared.instr.Instr.{Instr}
-use Rattle.aom_image.specs.declared.instr.Instr.TheVariants as instr
+use Rattle.aom_instructions.specs.declared.instr.Instr.{Instr}
+use Rattle.aom_instructions.specs.declared.instr.Instr.TheVariants as instr
 use Rattle.aom_syntax.specs.Classes.{is_at}
 
 -- where an instruction jumps to

@@ -2,7 +2,7 @@
 use Rattle.std.specs.Prelude.{ℕ, ◌+◌, Bool, true, false, List, [], ◌∷◌, ◌++◌, flat_map}
 use Rattle.aom_image.specs.Image.{Image}
 use Rattle.aom_image.specs.declared.class.ClassDecl.{ClassDecl}
-use Rattle.aom_image.specs.declared.instr.Instr.{Instr}
+use Rattle.aom_instructions.specs.declared.instr.Instr.{Instr}
 use Rattle.aom_image.specs.declared.method.Method.{Method}
 use Rattle.aom_syntax.specs.Keywords.{keyword_text}
 use Rattle.aom_syntax.specs.declared.keyword.Keyword.TheVariants as k

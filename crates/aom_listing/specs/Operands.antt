@@ -1,7 +1,7 @@
 -- How names and the operands of instructions are written.
 use Rattle.std.specs.Prelude.{ℕ, List, ◌∷◌, decimal}
-use Rattle.aom_image.specs.declared.instr.Target.{Target}
-use Rattle.aom_image.specs.declared.instr.Target.TheVariants as targets
+use Rattle.aom_instructions.specs.declared.instr.Target.{Target}
+use Rattle.aom_instructions.specs.declared.instr.Target.TheVariants as targets
 use Rattle.aom_syntax.specs.Keywords.{keyword_text}
 use Rattle.aom_syntax.specs.declared.keyword.Keyword.TheVariants as k
 

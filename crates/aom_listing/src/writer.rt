@@ -2,7 +2,7 @@
 ghost use Rattle.std.specs.Prelude.{◌≡◌, [], ◌∷◌, ◌++◌, OnOk, decimal};
 ghost use Rattle.std.specs.Fmt.{signed_decimal};
 ghost use Rattle.aom_syntax.specs.Keywords.{keyword_text};
-ghost use Rattle.aom_image.specs.Mnemonics.{mnemonic_text};
+ghost use Rattle.aom_instructions.specs.Mnemonics.{mnemonic_text};
 
 use aom_image::Mnemonic;
 use aom_syntax::Keyword;

@@ -7,7 +7,7 @@ use Rattle.aom_classes.specs.declared.fault.LinkFault.TheVariants as links
 use Rattle.aom_image.specs.Image.{Image}
 use Rattle.aom_classes.specs.Admitted.{IsAdmitted}
 use Rattle.aom_classes.specs.Linked.{IsLinked}
-use Rattle.aom_shape.specs.Typing.{Typing, IsTyped}
+use Rattle.aom_rules.specs.Typing.{Typing, IsTyped}
 use Rattle.aom_budget.specs.Budgets.{BudgetsWithin}
 use Rattle.aom_budget.specs.Depths.{HasDepths}
 use Rattle.aom_budget.specs.Faults.{Refuses as RefusesBudget}

@@ -3,15 +3,15 @@ use Rattle.std.proofs.Common.{◌≡◌, ◌∙◌, List, ℕ, Ok, ap, length, r
 use Rattle.std.specs.Prelude.{◌⊎◌}
 use Rattle.aom_image.specs.Image.{Image}
 use Rattle.aom_classes.specs.Linked.{IsLinked}
-use Rattle.aom_shape.specs.Typing.{Typing}
+use Rattle.aom_rules.specs.Typing.{Typing}
 use Rattle.aom_verify.specs.Strongest.{IsStrongest}
 use Rattle.aom_prices.specs.Dispatches.{IsAffordable}
 use Rattle.aom_prices.specs.Prices.{Prices}
 use Rattle.aom_sound.specs.Laws.{LinkedIsWired}
-use Rattle.aom_sound.specs.declared.line.Ending.{Ending}
+use Rattle.aom_transcript.specs.declared.line.Ending.{Ending}
 use Rattle.aom_determined.specs.Laws.{TextIsDetermined}
 use Rattle.aom_determined.proofs.Alike.{alike_counted}
-use Rattle.aom_lines.specs.Text.{transcript}
+use Rattle.aom_transcript.specs.Text.{transcript}
 use Rattle.aom_ranks.specs.Runs.{TypedRunsWell}
 use Rattle.aom_steps.specs.Laws.{StepsWithin}
 use Rattle.aom_run.specs.declared.outcome.Outcome.{Outcome}
@@ -28,7 +28,7 @@ use Rattle.aom_main.specs.declared.faults.Fault.{Fault}
 use Rattle.aom_main.specs.declared.faults.Fault.TheVariants as faults
 use Rattle.aom_main.specs.Status.{of_script, of_script_kind, status_of}
 use Rattle.aom_main.specs.Acceptable.{IsSpelled, IsAcceptable, Refuses, RefusesOrWants as RefusesImage}
-use Rattle.aom_main.specs.Headline.{Sent, IsSilent, Told, Shows, Accepts, AcceptedAnswers, AllRunWell, CheckAnswers, Ends, ImageWantsMemory, IsOnly, IsRefused, RunAnswers, Runs, Transcribed}
+use Rattle.aom_main.specs.Headline.{Sent, outside_of, IsSilent, Told, Shows, Accepts, AcceptedAnswers, AllRunWell, CheckAnswers, Ends, ImageWantsMemory, IsOnly, IsRefused, RunAnswers, Runs, Transcribed}
 use Rattle.aom_main.specs.Headline.RunBreaks.{machine_wants_memory, output_fails, script_wants_memory}
 
 -- ---- a run
@@ -39,9 +39,9 @@ pub all_run_well :
     TypedRunsWell → StepsWithin → LinkedIsWired → TextIsDetermined → AllRunWell p
 all_run_well p linked table law steps wired determined =
     record {
-      each = λ bytes spelled refused. law.each p table.0 refused spelled.formed linked table.1.typed;
-      within = λ bytes spelled refused. steps.each p table.0 table.2 refused spelled.formed linked table.1.typed table.3;
-      one = λ bytes spelled refused. determined p table.0 refused (wired p spelled.formed linked) table.1.typed;
+      each = λ bytes spelled outside. law.each p table.0 outside spelled.formed linked table.1.typed;
+      within = λ bytes spelled outside. steps.each p table.0 table.2 outside spelled.formed linked table.1.typed table.3;
+      one = λ bytes spelled outside. determined p table.0 outside (wired p spelled.formed linked) table.1.typed;
     }
 
 -- a run of a linked image that has a typing
@@ -53,13 +53,13 @@ runs_of bytes text p script acceptable well spelled denotes =
       acceptable = acceptable;
       script = script;
       denotes = denotes;
-      well = well.each bytes spelled script.refused;
-      within = well.within bytes spelled script.refused;
-      determined = well.one bytes spelled script.refused;
+      well = well.each bytes spelled (outside_of script);
+      within = well.within bytes spelled (outside_of script);
+      determined = well.one bytes spelled (outside_of script);
     }
 
 -- what went out is what each run that ends has written
-only : (bytes text : List ℕ) (r : Runs bytes text) (ending : Ending) (out : Sent) → Transcribed r.image r.script.refused ending out → IsOnly r.image r.script.refused ending out
+only : (bytes text : List ℕ) (r : Runs bytes text) (ending : Ending) (out : Sent) → Transcribed r.image (outside_of r.script) ending out → IsOnly r.image (outside_of r.script) ending out
 only bytes text r ending out shows lines last other run =
     let same = r.determined.ended shows.lines lines shows.last last ending other shows.run run in (
       sym same.1,
@@ -69,7 +69,7 @@ only bytes text r ending out shows lines last other run =
           ∙ ap (λ n. after out.before (transcript lines other n)) (alike_counted shows.last last same.2),
     )
 
-ran : (bytes text : List ℕ) (r : Runs bytes text) (out errors : Sent) (outcome : Outcome) (status : ExitStatus) → Shows r.image r.script.refused outcome out
+ran : (bytes text : List ℕ) (r : Runs bytes text) (out errors : Sent) (outcome : Outcome) (status : ExitStatus) → Shows r.image (outside_of r.script) outcome out
     → Ends outcome status errors → AcceptedAnswers bytes text out errors status
 ran bytes text r out errors Stopped status shows ends = subst (AcceptedAnswers bytes text out errors) (sym ends.0) (r, shows, only bytes text r _ out shows, ends.1)
 ran bytes text r out errors Waiting status shows ends = subst (AcceptedAnswers bytes text out errors) (sym ends.0) (r, shows, only bytes text r _ out shows, ends.1)
@@ -78,7 +78,7 @@ ran bytes text r out errors WriteFault status shows ends = subst (AcceptedAnswer
 
 -- a run of an accepted image under a script ended so
 pub ran_of : (bytes text : List ℕ) (p : Image) (script : Script) → IsAcceptable p → AllRunWell p → IsSpelled bytes p → denoted text ≡ Ok script
-    → (out errors : Sent) (outcome : Outcome) (status : ExitStatus) → Shows p script.refused outcome out → Ends outcome status errors → AcceptedAnswers bytes text out errors status
+    → (out errors : Sent) (outcome : Outcome) (status : ExitStatus) → Shows p (outside_of script) outcome out → Ends outcome status errors → AcceptedAnswers bytes text out errors status
 ran_of bytes text p script acceptable well spelled denotes out errors outcome status shows ends =
     ran bytes text (runs_of bytes text p script acceptable well spelled denotes) out errors outcome status shows ends
 

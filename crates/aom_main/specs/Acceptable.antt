@@ -7,7 +7,7 @@ use Rattle.aom_codec.specs.Format.{first_fault}
 use Rattle.aom_classes.specs.Admitted.{IsAdmitted}
 use Rattle.aom_classes.specs.Linked.{IsLinked}
 use Rattle.aom_classes.specs.Faults.{Refuses as RefusesLink}
-use Rattle.aom_shape.specs.Typing.{Typing, IsTyped}
+use Rattle.aom_rules.specs.Typing.{Typing, IsTyped}
 use Rattle.aom_verify.specs.Refusals.{Refuses as RefusesTyping}
 use Rattle.aom_budget.specs.Budgets.{BudgetsWithin}
 use Rattle.aom_budget.specs.Depths.{DepthsWithin}

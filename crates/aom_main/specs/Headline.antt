@@ -2,12 +2,12 @@
 use Rattle.std.specs.Prelude.{ℕ, ℤ, ◌≡◌, ◌⊎◌, Bool, true, false, List, Option, length, take, codes, Ok, Err}
 use Rattle.aom_image.specs.Image.{Image}
 use Rattle.aom_sound.specs.State.{State}
-use Rattle.aom_sound.specs.World.{Run_of}
-use Rattle.aom_sound.specs.declared.line.Line.{Line}
-use Rattle.aom_sound.specs.declared.line.Ending.{Ending}
-use Rattle.aom_sound.specs.declared.line.Ending.TheVariants as endings
+use Rattle.aom_sound.specs.World.{Outside, refusing, Run_of}
+use Rattle.aom_transcript.specs.declared.line.Line.{Line}
+use Rattle.aom_transcript.specs.declared.line.Ending.{Ending}
+use Rattle.aom_transcript.specs.declared.line.Ending.TheVariants as endings
 use Rattle.aom_determined.specs.Laws.{IsDetermined}
-use Rattle.aom_lines.specs.Text.{ended, transcript}
+use Rattle.aom_transcript.specs.Text.{ended, transcript}
 use Rattle.aom_ranks.specs.Runs.{RunsWell}
 use Rattle.aom_steps.specs.Laws.{KeepsBudget}
 use Rattle.aom_run.specs.declared.outcome.Outcome.{Outcome}
@@ -53,27 +53,27 @@ Sends text status out errors =
     ⊎ ((status ≡ Faulty) × (out.failed ≡ true) × Says text out × Tells faults.Write errors)
 
 -- the transcript of a run of the checked machine went out
-pub record Transcribed (p : Image) (refused : List ℕ) (ending : Ending) (sent : Sent) : Type 0 where
+pub record Transcribed (p : Image) (outside : Outside) (ending : Ending) (sent : Sent) : Type 0 where
   pub lines : List Line
   pub last : State
-  pub run : Run_of p refused lines last ending
+  pub run : Run_of p outside lines last ending
   pub out : sent.now ≡ after sent.before (transcript lines ending (length last.cells))
 
 -- and each run of the image that ends ends so, with the transcript that went out
-abbrev pub IsOnly : Image → List ℕ → Ending → Sent → Type 0
-IsOnly p refused ending sent = (lines : List Line) (last : State) (other : Ending) → Run_of p refused lines last other → (other ≡ ending) × (sent.now ≡ after sent.before (transcript lines other (length last.cells)))
+abbrev pub IsOnly : Image → Outside → Ending → Sent → Type 0
+IsOnly p outside ending sent = (lines : List Line) (last : State) (other : Ending) → Run_of p outside lines last other → (other ≡ ending) × (sent.now ≡ after sent.before (transcript lines other (length last.cells)))
 
 -- the sink has failed, and a beginning of such a transcript went out
-pub record Cut (p : Image) (refused : List ℕ) (sent : Sent) : Type 0 where
+pub record Cut (p : Image) (outside : Outside) (sent : Sent) : Type 0 where
   pub failed : sent.failed ≡ true
-  pub beginning : CutShort p refused sent.before sent.now
+  pub beginning : CutShort p outside sent.before sent.now
 
 -- what an outcome says of the transcript
-abbrev pub Shows : Image → List ℕ → Outcome → Sent → Type 0
-Shows p refused outcomes.Stopped out = Transcribed p refused endings.Stopped out
-Shows p refused outcomes.Waiting out = Transcribed p refused endings.Waiting out
-Shows p refused (outcomes.MainLeft code) out = Transcribed p refused (endings.MainLeft code) out
-Shows p refused outcomes.WriteFault out = Cut p refused out
+abbrev pub Shows : Image → Outside → Outcome → Sent → Type 0
+Shows p outside outcomes.Stopped out = Transcribed p outside endings.Stopped out
+Shows p outside outcomes.Waiting out = Transcribed p outside endings.Waiting out
+Shows p outside (outcomes.MainLeft code) out = Transcribed p outside (endings.MainLeft code) out
+Shows p outside outcomes.WriteFault out = Cut p outside out
 
 -- the status of a run, and what the errors say of it
 abbrev pub Ends : Outcome → ExitStatus → Sent → Type 0
@@ -88,22 +88,26 @@ pub record Accepts (bytes : List ℕ) : Type 0 where
   pub spelled : IsSpelled bytes image
   pub acceptable : IsAcceptable image
 
--- every run of an image goes well within its declared steps, whatever is refused, and has one text
+-- every run of an image goes well within its declared steps, whatever comes from outside, and has one text
 pub record AllRunWell (p : Image) : Type 0 where
-  pub each : (bytes : List ℕ) → IsSpelled bytes p → (refused : List ℕ) → RunsWell p refused
-  pub within : (bytes : List ℕ) → IsSpelled bytes p → (refused : List ℕ) → KeepsBudget p refused
-  pub one : (bytes : List ℕ) → IsSpelled bytes p → (refused : List ℕ) → IsDetermined p refused
+  pub each : (bytes : List ℕ) → IsSpelled bytes p → (outside : Outside) → RunsWell p outside
+  pub within : (bytes : List ℕ) → IsSpelled bytes p → (outside : Outside) → KeepsBudget p outside
+  pub one : (bytes : List ℕ) → IsSpelled bytes p → (outside : Outside) → IsDetermined p outside
 
--- they are, and the text is a script; each run of that image under that script's refusals goes well within its declared steps, and none writes anything else than another
+-- what a script lets come from outside
+abbrev pub outside_of : Script → Outside
+outside_of script = refusing script.refused
+
+-- they are, and the text is a script; each run of that image under that script goes well within its declared steps, and none writes anything else than another
 pub record Runs (bytes text : List ℕ) : Type 0 where
   pub image : Image
   pub spelled : IsSpelled bytes image
   pub acceptable : IsAcceptable image
   pub script : Script
   pub denotes : denoted text ≡ Ok script
-  pub well : RunsWell image script.refused
-  pub within : KeepsBudget image script.refused
-  pub determined : IsDetermined image script.refused
+  pub well : RunsWell image (outside_of script)
+  pub within : KeepsBudget image (outside_of script)
+  pub determined : IsDetermined image (outside_of script)
 
 -- the bytes are no accepted image, and the errors say why
 pub record IsRefused (bytes : List ℕ) (out errors : Sent) : Type 0 where
@@ -126,13 +130,13 @@ pub record IsNoScript (bytes text : List ℕ) (out errors : Sent) : Type 0 where
 pub data RunBreaks (bytes text : List ℕ) (out errors : Sent) : Type 0 where
   script_wants_memory : IsSilent out → Accepts bytes → (fault : ScriptFault) → WantsMemory text fault → Tells faults.Memory errors → RunBreaks bytes text out errors
   machine_wants_memory : IsSilent out → Runs bytes text → Tells faults.Memory errors → RunBreaks bytes text out errors
-  output_fails : (r : Runs bytes text) → Cut r.image r.script.refused out → Tells faults.Write errors → RunBreaks bytes text out errors
+  output_fails : (r : Runs bytes text) → Cut r.image (outside_of r.script) out → Tells faults.Write errors → RunBreaks bytes text out errors
 
 -- what each status says of a call of `run` whose image is accepted
 abbrev pub AcceptedAnswers : List ℕ → List ℕ → Sent → Sent → ExitStatus → Type 0
-AcceptedAnswers bytes text out errors Done = (r : Runs bytes text) × Transcribed r.image r.script.refused endings.Stopped out × IsOnly r.image r.script.refused endings.Stopped out × IsSilent errors
-AcceptedAnswers bytes text out errors Unfinished = (r : Runs bytes text) × Transcribed r.image r.script.refused endings.Waiting out × IsOnly r.image r.script.refused endings.Waiting out × IsSilent errors
-AcceptedAnswers bytes text out errors Broken = (r : Runs bytes text) × (code : ℤ) × Transcribed r.image r.script.refused (endings.MainLeft code) out × IsOnly r.image r.script.refused (endings.MainLeft code) out × IsSilent errors
+AcceptedAnswers bytes text out errors Done = (r : Runs bytes text) × Transcribed r.image (outside_of r.script) endings.Stopped out × IsOnly r.image (outside_of r.script) endings.Stopped out × IsSilent errors
+AcceptedAnswers bytes text out errors Unfinished = (r : Runs bytes text) × Transcribed r.image (outside_of r.script) endings.Waiting out × IsOnly r.image (outside_of r.script) endings.Waiting out × IsSilent errors
+AcceptedAnswers bytes text out errors Broken = (r : Runs bytes text) × (code : ℤ) × Transcribed r.image (outside_of r.script) (endings.MainLeft code) out × IsOnly r.image (outside_of r.script) (endings.MainLeft code) out × IsSilent errors
 AcceptedAnswers bytes text out errors ImageRefused = ⊥
 AcceptedAnswers bytes text out errors CallRefused = IsNoScript bytes text out errors
 AcceptedAnswers bytes text out errors Faulty = RunBreaks bytes text out errors

@@ -3,7 +3,7 @@ use Rattle.std.specs.Prelude.{ℕ, ◌≡◌, ◌⊎◌, true, List, ◌++◌, O
 use Rattle.aom_image.specs.Image.{Image}
 use Rattle.aom_classes.specs.Admitted.{IsAdmitted}
 use Rattle.aom_classes.specs.Linked.{IsLinked}
-use Rattle.aom_shape.specs.Typing.{Typing, IsTyped}
+use Rattle.aom_rules.specs.Typing.{Typing, IsTyped}
 use Rattle.aom_budget.specs.Budgets.{BudgetsWithin}
 use Rattle.aom_budget.specs.Depths.{HasDepths}
 use Rattle.aom_budget.specs.Heights.{HasHeights}

@@ -1,6 +1,6 @@
 //! The line of a fault, in a buffer of its own, so that no memory is taken for it.
 ghost use Rattle.std.specs.Prelude.{◌≡◌, ◌+◌, ◌≤◌, [], ◌++◌, length, decimal, codes};
-ghost use Rattle.aom_lines.specs.Text.{ended};
+ghost use Rattle.aom_transcript.specs.Text.{ended};
 ghost use Rattle.aom_verify.specs.Refusals.{line_of};
 ghost use Rattle.aom_budget.specs.Faults.{line_of as budget_line, payer_text};
 ghost use Rattle.aom_main.specs.Status.{fault_line};

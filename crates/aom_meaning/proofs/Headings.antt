@@ -16,7 +16,7 @@ use Rattle.aom_image.specs.declared.method.Thing.{Thing}
 use Rattle.aom_image.specs.declared.method.Thing.TheVariants as owned
 use Rattle.aom_syntax.specs.Classes.{declared, flag, listed, thing, thing_of}
 use Rattle.aom_syntax.specs.Keywords.{keyword_text}
-use Rattle.aom_syntax.specs.Methods.{accepted, all_states, argument_of, flags_of, gives, heading, is_quiet_role, kind_of, optional_arguments, optional_class, optional_gives, optional_states, role, role_of, states_of, unsaid_gives, usual_after, usual_before, usual_gives, usual_words}
+use Rattle.aom_syntax.specs.Methods.{accepted, all_states, argument_of, flags_of, gives, heading, is_quiet_role, kind_of, optional_arguments, optional_class, optional_gives, optional_states, role, role_of, states_of, unsaid_gives, usual_after, usual_before, usual_gives, usual_words, promised}
 use Rattle.aom_syntax.specs.Names.{place_of}
 use Rattle.aom_syntax.specs.Operands.{class}
 use Rattle.aom_syntax.specs.Reading.{◌>>=◌, Reading, any_keyword, giving, next, nothing_more, seen}
@@ -236,15 +236,6 @@ module _ {names : Names} {scope : Scope} (looks : LooksUp names scope) where
   gives_read usual (source.left w) (result.Left c) means = whole_gives usual (result.Left c) (in_turn _ (takes_any_keyword k.Left) (in_turn _ (takes_class looks w c means) (gives_it _)))
   gives_read usual said g means = absurd means
 
-  -- what is read behind the class and the flags
-  abbrev promised : Role → Option ℕ → Bool → Bool → Reading Heading
-  promised role class leaves quiet =
-      next (optional_states k.In (usual_before role (all_states (kind_of scope.kinds class)))) (λ before.
-      next (optional_states k.Out (usual_after role (all_states (kind_of scope.kinds class)))) (λ after.
-      next (optional_arguments scope (usual_words role)) (λ arguments.
-      next (optional_gives scope (usual_gives scope.is_strict role (kind_of scope.kinds class))) (λ gives.
-      giving (record { class = class; role = role; flags = flags_of leaves (quiet || is_quiet_role role); before = before; after = after; arguments = arguments; gives = gives })))))
-
   -- what stands behind the keyword
   pub heading_reads : (place : ℕ) (t : HeadingText) (h : Heading) → HeadingMeans names scope.is_strict scope.kinds t h → place_of t.name scope.methods ≡ Some place
       → Whole (heading scope place) (t.name ∷ keyword_text t.role ∷ promise_words t) h
@@ -261,10 +252,10 @@ module _ {names : Names} {scope : Scope} (looks : LooksUp names scope) where
       then_reads _ (class_reads t.class h.class v4 means.class
       (not_mark k.Of k.Leaves t.leaves v5 refl (not_mark k.Of k.Quiet t.quiet v6 refl
       (not_part k.Of k.In t.before v7 refl (not_part k.Of k.Out t.after v8 refl (not_part k.Of k.Args t.arguments v9 refl (not_gives k.Of t.gives refl))))))) (
-      then_reads (λ leaves. next (flag k.Quiet) (promised h.role h.class leaves)) (reads_mark k.Leaves t.leaves v5
+      then_reads (λ leaves. next (flag k.Quiet) (promised scope h.role h.class leaves)) (reads_mark k.Leaves t.leaves v5
       (not_mark k.Leaves k.Quiet t.quiet v6 refl (not_part k.Leaves k.In t.before v7 refl
       (not_part k.Leaves k.Out t.after v8 refl (not_part k.Leaves k.Args t.arguments v9 refl (not_gives k.Leaves t.gives refl)))))) (
-      then_reads (promised h.role h.class t.leaves) (reads_mark k.Quiet t.quiet v6
+      then_reads (promised scope h.role h.class t.leaves) (reads_mark k.Quiet t.quiet v6
       (not_part k.Quiet k.In t.before v7 refl (not_part k.Quiet k.Out t.after v8 refl (not_part k.Quiet k.Args t.arguments v9 refl (not_gives k.Quiet t.gives refl))))) (
       then_reads _ (reads_part k.In states_of AreStates (states (usual_before h.role (all_states kind))) states_read t.before h.before v7 means.before
       (not_part k.In k.Out t.after v8 refl (not_part k.In k.Args t.arguments v9 refl (not_gives k.In t.gives refl)))) (

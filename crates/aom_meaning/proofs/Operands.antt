@@ -1,13 +1,13 @@
 -- What is read with some names is read with others that find as much: the operands of instructions.
 use Rattle.std.proofs.Common.{◌≡◌, ℕ, List, Ok, ap, ◌∙◌}
-use Rattle.aom_image.specs.Rows.{row}
-use Rattle.aom_image.specs.declared.kinds.LargeKind.{LargeKind}
-use Rattle.aom_image.specs.declared.kinds.LargeKind.TheVariants as lk
-use Rattle.aom_image.specs.declared.kinds.Order.{Order}
-use Rattle.aom_image.specs.declared.kinds.Order.TheVariants.{LargeLast, LargeSecond}
-use Rattle.aom_image.specs.declared.mnemonic.Mnemonic.{Mnemonic}
-use Rattle.aom_image.specs.declared.operand.Large.{Large}
-use Rattle.aom_image.specs.declared.operand.Small.{Small}
+use Rattle.aom_instructions.specs.Rows.{row}
+use Rattle.aom_instructions.specs.declared.kinds.LargeKind.{LargeKind}
+use Rattle.aom_instructions.specs.declared.kinds.LargeKind.TheVariants as lk
+use Rattle.aom_instructions.specs.declared.kinds.Order.{Order}
+use Rattle.aom_instructions.specs.declared.kinds.Order.TheVariants.{LargeLast, LargeSecond}
+use Rattle.aom_instructions.specs.declared.mnemonic.Mnemonic.{Mnemonic}
+use Rattle.aom_instructions.specs.declared.operand.Large.{Large}
+use Rattle.aom_instructions.specs.declared.operand.Small.{Small}
 use Rattle.aom_syntax.specs.Names.{place_of, referred}
 use Rattle.aom_syntax.specs.Operands.{class, label, method, used}
 use Rattle.aom_syntax.specs.Reading.{◌>>=◌, Reading, name, next}

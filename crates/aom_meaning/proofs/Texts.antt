@@ -10,12 +10,12 @@ use Rattle.aom_text.specs.Words.{others_of}
 use Rattle.aom_text.specs.declared.text.Statement.{Statement}
 use Rattle.aom_syntax.specs.Keywords.{keyword_text}
 use Rattle.aom_syntax.specs.Methods.{label_of}
-use Rattle.aom_image.specs.Mnemonics.{mnemonic_text}
+use Rattle.aom_instructions.specs.Mnemonics.{mnemonic_text}
 use Rattle.aom_syntax.specs.Names.{place_of}
 use Rattle.aom_syntax.specs.declared.keyword.Keyword.{Keyword}
 use Rattle.aom_syntax.specs.declared.keyword.Keyword.TheVariants as k
-use Rattle.aom_image.specs.declared.mnemonic.Mnemonic.{Mnemonic}
-use Rattle.aom_image.specs.declared.mnemonic.Mnemonic.TheVariants as m
+use Rattle.aom_instructions.specs.declared.mnemonic.Mnemonic.{Mnemonic}
+use Rattle.aom_instructions.specs.declared.mnemonic.Mnemonic.TheVariants as m
 use Rattle.aom_asm.specs.TextNames.{declared_names, is_end, label_in, label_or_none, labels_of as labels_until, name_after, with_name}
 use Rattle.aom_readback.specs.Texts.{all_words}
 use Rattle.aom_readback.proofs.Statements.{label_cut}

@@ -12,7 +12,7 @@ use Rattle.aom_text.specs.declared.text.Statement.{Statement}
 use Rattle.aom_image.specs.WellFormed.{is_server}
 use Rattle.aom_image.specs.declared.class.ClassDecl.{ClassDecl}
 use Rattle.aom_image.specs.declared.image.Header.{Header}
-use Rattle.aom_image.specs.declared.instr.Instr.{Instr}
+use Rattle.aom_instructions.specs.declared.instr.Instr.{Instr}
 use Rattle.aom_image.specs.declared.method.Method.{Method}
 use Rattle.aom_syntax.specs.Classes.{class_statement}
 use Rattle.aom_syntax.specs.Keywords.{keyword_text}

@@ -9,7 +9,7 @@ use Rattle.aom_image.specs.declared.class.ClassKind.TheVariants as kinds
 use Rattle.aom_image.specs.declared.class.Provider.{Provider}
 use Rattle.aom_image.specs.declared.class.Provider.TheVariants as providers
 use Rattle.aom_image.specs.declared.image.Header.{Header}
-use Rattle.aom_image.specs.declared.instr.Instr.{Instr}
+use Rattle.aom_instructions.specs.declared.instr.Instr.{Instr}
 use Rattle.aom_image.specs.declared.method.Argument.{Argument}
 use Rattle.aom_image.specs.declared.method.Argument.TheVariants as arg
 use Rattle.aom_image.specs.declared.method.Gives.{Gives}

@@ -1,10 +1,10 @@
 -- The parts of an assembly text, and the words with which each is written.
 use Rattle.std.specs.Prelude.{ℕ, Bool, true, false, List, [], ◌∷◌, ◌++◌, map, Option, Some, None, codes}
 use Rattle.aom_syntax.specs.Keywords.{keyword_text}
-use Rattle.aom_image.specs.Mnemonics.{mnemonic_text}
+use Rattle.aom_instructions.specs.Mnemonics.{mnemonic_text}
 use Rattle.aom_syntax.specs.declared.keyword.Keyword.{Keyword}
 use Rattle.aom_syntax.specs.declared.keyword.Keyword.TheVariants as k
-use Rattle.aom_image.specs.declared.mnemonic.Mnemonic.{Mnemonic}
+use Rattle.aom_instructions.specs.declared.mnemonic.Mnemonic.{Mnemonic}
 
 -- a word, by its bytes
 abbrev pub Word : Type 0

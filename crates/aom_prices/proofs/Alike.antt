@@ -2,18 +2,18 @@
 use Rattle.std.proofs.lemmas.Option.{same_Some}
 use Rattle.std.proofs.Common.{◌≡◌, ◌+◌, ◌∙◌, ℕ, suc, List, [], ◌∷◌, inl, inr, refl, sym, ap, subst}
 use Rattle.aom_image.specs.Image.{Image}
-use Rattle.aom_image.specs.declared.instr.Instr.{Instr}
-use Rattle.aom_image.specs.declared.instr.Instr.TheVariants.{Delete, Push}
+use Rattle.aom_instructions.specs.declared.instr.Instr.{Instr}
+use Rattle.aom_instructions.specs.declared.instr.Instr.TheVariants.{Delete, Push}
 use Rattle.aom_shape.specs.Kinds.{register}
-use Rattle.aom_shape.specs.Laws.{AllFollow, Follows}
+use Rattle.aom_rules.specs.Laws.{AllFollow, Follows}
 use Rattle.aom_shape.specs.Needs.{AllTrue, Flow}
 use Rattle.aom_shape.specs.Order.{SaysNoMore, Weaker}
 use Rattle.aom_shape.specs.Order.Weaker.{alike, unset_word, unset_null, maybe_null, maybe_own}
-use Rattle.aom_shape.specs.Rules.{flows, rule_needs}
+use Rattle.aom_rules.specs.Rules.{flows, rule_needs}
 use Rattle.aom_shape.specs.Shape.{Shape}
-use Rattle.aom_shape.specs.Typing.{IsTyped, Typing}
+use Rattle.aom_rules.specs.Typing.{IsTyped, Typing}
 use Rattle.aom_shape.specs.declared.kind.Kind.{Kind}
-use Rattle.aom_shape.proofs.Monotone.{flows_more}
+use Rattle.aom_rules.proofs.Monotone.{flows_more}
 use Rattle.aom_prices.specs.Costs.{AmongFlows, ArePrices, Costs, GoesOut, Region, Whole}
 use Rattle.aom_prices.specs.Costs.Costs.{outside, ends, goes, loops, loops_in}
 use Rattle.aom_prices.specs.Prices.{Prices, Stands, kind_price, own, price}

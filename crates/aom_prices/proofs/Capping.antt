@@ -5,16 +5,16 @@ use Rattle.std.specs.Prelude.{IsSome, max, min}
 use Rattle.std.proofs.lemmas.Bool.{cases_lt}
 use Rattle.aom_image.specs.Image.{Image}
 use Rattle.aom_image.specs.Views.{instr_at, method_at}
-use Rattle.aom_image.specs.declared.instr.Instr.{Instr}
-use Rattle.aom_image.specs.declared.instr.Instr.TheVariants.{Loop, Next}
+use Rattle.aom_instructions.specs.declared.instr.Instr.{Instr}
+use Rattle.aom_instructions.specs.declared.instr.Instr.TheVariants.{Loop, Next}
 use Rattle.aom_image.specs.declared.method.Method.{Method}
 use Rattle.aom_classes.proofs.Bodies.{linked_is_looped}
 use Rattle.aom_classes.specs.Bodies.{Body, IsLooped}
 use Rattle.aom_classes.specs.Loops.{loop_in, next_in}
 use Rattle.aom_classes.specs.Roles.{destructor_of}
-use Rattle.aom_shape.specs.Rules.{flows}
+use Rattle.aom_rules.specs.Rules.{flows}
 use Rattle.aom_shape.specs.Shape.{Shape}
-use Rattle.aom_shape.specs.Typing.{IsTyped, Passes, Typing, shape_at}
+use Rattle.aom_rules.specs.Typing.{IsTyped, Passes, Typing, shape_at}
 use Rattle.aom_prices.specs.Prices.{Prices, Stands, own, price}
 use Rattle.aom_prices.specs.Costs.{GoesOut, Region, Round, Whole}
 use Rattle.aom_prices.specs.Laws.{SweptUpToIsPrice}

@@ -6,8 +6,8 @@ use Rattle.std.proofs.lemmas.Bool.{cases_lt, eq-eqb, ne_eqb}
 use Rattle.aom_image.specs.Image.{Image}
 use Rattle.aom_image.specs.Views.{instr_at, instr_in, method_at}
 use Rattle.aom_image.specs.WellFormed.{WellFormed}
-use Rattle.aom_image.specs.declared.instr.Instr.{Instr}
-use Rattle.aom_image.specs.declared.instr.Instr.TheVariants.{Loop, Next}
+use Rattle.aom_instructions.specs.declared.instr.Instr.{Instr}
+use Rattle.aom_instructions.specs.declared.instr.Instr.TheVariants.{Loop, Next}
 use Rattle.aom_image.specs.declared.method.Method.{Method}
 use Rattle.aom_image.specs.declared.method.Thing.{Thing}
 use Rattle.aom_classes.proofs.Bodies.{linked_is_looped}
@@ -15,9 +15,9 @@ use Rattle.aom_classes.specs.Bodies.{Body, IsLooped}
 use Rattle.aom_classes.specs.Linked.{IsLinked}
 use Rattle.aom_classes.specs.Loops.{loop_in, next_in}
 use Rattle.aom_classes.specs.Roles.{destructor_of}
-use Rattle.aom_shape.specs.Rules.{flows}
+use Rattle.aom_rules.specs.Rules.{flows}
 use Rattle.aom_shape.specs.Shape.{Shape}
-use Rattle.aom_shape.specs.Typing.{IsTyped, Typing, shape_at}
+use Rattle.aom_rules.specs.Typing.{IsTyped, Typing, shape_at}
 use Rattle.aom_prices.proofs.Ways.{JumpsForward}
 use Rattle.aom_prices.specs.Prices.{Prices, Stands, own}
 use Rattle.aom_prices.specs.Costs.{Region, Round, Whole, destructor_price}

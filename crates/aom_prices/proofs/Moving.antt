@@ -2,15 +2,15 @@
 use Rattle.std.proofs.Common.{◌≡◌, ◌<◌, ◌≤◌, ◌+◌, ◌-◌, ◌*◌, ◌∙◌, ℕ, suc, List, Some, None, inl, inr, ⊎_elim, refl, sym, ap, arith, subst}
 use Rattle.std.specs.Prelude.{max}
 use Rattle.aom_image.specs.Image.{Image}
-use Rattle.aom_image.specs.declared.instr.Instr.{Instr}
+use Rattle.aom_instructions.specs.declared.instr.Instr.{Instr}
 use Rattle.aom_image.specs.declared.method.Thing.{Thing}
 use Rattle.aom_classes.specs.Bodies.{Body, IsLooped}
 use Rattle.aom_classes.specs.Loops.{loop_in, next_in}
 use Rattle.aom_classes.specs.Roles.{destructor_of}
 use Rattle.aom_shape.specs.Needs.{Flow}
-use Rattle.aom_shape.specs.Rules.{flows}
+use Rattle.aom_rules.specs.Rules.{flows}
 use Rattle.aom_shape.specs.Shape.{Shape}
-use Rattle.aom_shape.specs.Typing.{Typing}
+use Rattle.aom_rules.specs.Typing.{Typing}
 use Rattle.aom_prices.proofs.Ways.{JumpsForward}
 use Rattle.aom_prices.specs.Prices.{Prices, Stands, own, price}
 use Rattle.aom_prices.specs.Costs.{AmongFlows, GoesOut, Region, Round, Whole, destructor_price}

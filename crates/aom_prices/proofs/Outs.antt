@@ -4,11 +4,11 @@ use Rattle.std.specs.Prelude.{max, nat_lt}
 use Rattle.std.proofs.lemmas.Bool.{cases_lt, lt-ltb, ltb-true}
 use Rattle.aom_image.specs.Image.{Image}
 use Rattle.aom_image.specs.Views.{instr_at}
-use Rattle.aom_image.specs.declared.instr.Instr.{Instr}
+use Rattle.aom_instructions.specs.declared.instr.Instr.{Instr}
 use Rattle.aom_shape.specs.Needs.{Flow}
-use Rattle.aom_shape.specs.Rules.{flows}
+use Rattle.aom_rules.specs.Rules.{flows}
 use Rattle.aom_shape.specs.Shape.{Shape}
-use Rattle.aom_shape.specs.Typing.{Typing, shape_at}
+use Rattle.aom_rules.specs.Typing.{Typing, shape_at}
 use Rattle.aom_prices.specs.Prices.{Stands}
 use Rattle.aom_prices.specs.Costs.{AmongFlows, GoesOut}
 use Rattle.aom_prices.proofs.Adding.{by_past}

@@ -2,8 +2,8 @@
 use Rattle.std.proofs.Common.{◌≡◌, ◌+◌, ℕ, Bool, true, false, cond, List, [], ◌∷◌, Option, Some, None, inl, inr, refl}
 use Rattle.std.specs.Prelude.{max}
 use Rattle.aom_image.specs.Image.{Image}
-use Rattle.aom_image.specs.declared.instr.Instr.{Instr}
-use Rattle.aom_image.specs.declared.instr.Instr.TheVariants.{Call, Delete, Push, PushOperation, Trap}
+use Rattle.aom_instructions.specs.declared.instr.Instr.{Instr}
+use Rattle.aom_instructions.specs.declared.instr.Instr.TheVariants.{Call, Delete, Push, PushOperation, Trap}
 use Rattle.aom_image.specs.declared.method.Thing.{Thing}
 use Rattle.aom_classes.specs.Roles.{destructor_of}
 use Rattle.aom_shape.specs.Kinds.{register}

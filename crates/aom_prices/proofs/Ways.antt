@@ -2,20 +2,20 @@
 use Rattle.std.proofs.Common.{◌≡◌, ◌<◌, ℕ, suc, List, [], ◌∷◌, Some, ⊎_elim, ap, subst}
 use Rattle.aom_image.specs.Image.{Image}
 use Rattle.aom_image.specs.Views.{instr_at}
-use Rattle.aom_image.specs.declared.instr.Instr.{Instr}
+use Rattle.aom_instructions.specs.declared.instr.Instr.{Instr}
 use Rattle.aom_classes.specs.Jumps.{back_of, jump_of}
 use Rattle.aom_shape.specs.Kinds.{field, register}
 use Rattle.aom_shape.specs.Needs.{Flow}
-use Rattle.aom_shape.specs.Objects.{flow_jump_empty, flow_jump_null}
-use Rattle.aom_shape.specs.Rules.{flows, ways_of}
+use Rattle.aom_rules.specs.Objects.{flow_jump_empty, flow_jump_null}
+use Rattle.aom_rules.specs.Rules.{flows, ways_of}
 use Rattle.aom_shape.specs.Shape.{Shape}
-use Rattle.aom_shape.specs.Ways.{Ways, Ends, Goes_on, Goes_to, Branches, Goes_back, Branches_on_null, Branches_on_empty, flowing}
-use Rattle.aom_shape.specs.Typing.{AllLead, Typing, shape_at}
+use Rattle.aom_rules.specs.Ways.{Ways, Ends, Goes_on, Goes_to, Branches, Goes_back, Branches_on_null, Branches_on_empty, flowing}
+use Rattle.aom_rules.specs.Typing.{AllLead, Typing, shape_at}
 use Rattle.aom_shape.specs.declared.kind.Filling.{Filling}
 use Rattle.aom_shape.specs.declared.kind.Filling.TheVariants as fillings
 use Rattle.aom_shape.specs.declared.kind.Kind.{Kind}
 use Rattle.aom_shape.specs.declared.kind.Kind.TheVariants as kinds
-use Rattle.aom_shape.proofs.Ways.{Leads, leads}
+use Rattle.aom_rules.proofs.Ways.{Leads, leads}
 use Rattle.aom_prices.specs.Costs.{AmongFlows}
 
 -- the jumps of a method go forward

@@ -3,11 +3,11 @@ use Rattle.std.proofs.lemmas.Option.{same_Some}
 use Rattle.std.proofs.Common.{◌≡◌, ◌<◌, ◌≤◌, ◌+◌, ◌*◌, ◌∙◌, ℕ, zero, suc, Some, None, inl, inr, ⊎_elim, refl, sym, arith, subst}
 use Rattle.std.specs.Prelude.{◌⊎◌}
 use Rattle.aom_image.specs.Views.{instr_at, instr_in, method_at}
-use Rattle.aom_image.specs.declared.instr.Instr.{Instr}
-use Rattle.aom_image.specs.declared.instr.Instr.TheVariants.{Jump, JumpEqual, Loop, Next, Print, Return}
+use Rattle.aom_instructions.specs.declared.instr.Instr.{Instr}
+use Rattle.aom_instructions.specs.declared.instr.Instr.TheVariants.{Jump, JumpEqual, Loop, Next, Print, Return}
 use Rattle.aom_classes.specs.Bodies.{Body}
 use Rattle.aom_classes.specs.Loops.{loop_in, next_in}
-use Rattle.aom_shape.specs.Rules.{flows}
+use Rattle.aom_rules.specs.Rules.{flows}
 use Rattle.aom_shape.specs.Shape.{Shape}
 use Rattle.aom_prices.specs.Cases.{PricesBite, a_word, worked, worked_typing}
 use Rattle.aom_prices.specs.Costs.{AmongFlows, Costs, GoesOut, Inside, Region, Round, Whole}

@@ -3,7 +3,7 @@ use Rattle.std.specs.Prelude.{ℕ}
 use Rattle.aom_image.specs.Image.{Image}
 use Rattle.aom_image.specs.WellFormed.{WellFormed}
 use Rattle.aom_classes.specs.Linked.{IsLinked}
-use Rattle.aom_shape.specs.Typing.{Typing, IsTyped}
+use Rattle.aom_rules.specs.Typing.{Typing, IsTyped}
 use Rattle.aom_prices.specs.Prices.{Prices, IsPriced}
 use Rattle.aom_prices.specs.Costs.{ArePrices}
 use Rattle.aom_prices.specs.Layers.{ArePricesUpTo, HasPrices, PaysBefore, SayTheSame}

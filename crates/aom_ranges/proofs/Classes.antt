@@ -12,7 +12,7 @@ use Rattle.aom_image.specs.declared.class.Provider.TheVariants as providers
 use Rattle.aom_image.specs.declared.method.Thing.{Thing}
 use Rattle.aom_syntax.specs.Reading.{Reading, any_keyword, failing, giving, keyword, next, nothing_more, number, optional_number, word}
 use Rattle.aom_syntax.specs.Operands.{class}
-use Rattle.aom_syntax.specs.Classes.{budget, class_statement, declared, fields, flag, kind, listed, provider, purpose, server, thing_of}
+use Rattle.aom_syntax.specs.Classes.{budget, class_statement, declared, fields, flag, kind, listed, provider, purpose, server, thing_of, class_parts}
 use Rattle.aom_syntax.specs.declared.class.Purpose.{Purpose}
 use Rattle.aom_syntax.specs.declared.class.Purpose.TheVariants as purposes
 use Rattle.aom_syntax.specs.declared.keyword.Keyword.{Keyword}
@@ -112,18 +112,7 @@ module _ (scope : Scope) (natives place servers : ℕ) where
   abbrev IsRead : ClassDecl → Type 0
   IsRead c = ClassIsRead scope natives place servers c
 
-  -- what is read behind the name
-  abbrev behind_name : Reading ClassDecl
-  behind_name =
-      next any_keyword (λ key.
-      next (purpose scope natives servers key) (λ p.
-      next (optional_number k.Words 8) (λ words.
-      next (flag k.Own) (λ owns.
-      next (fields scope owns) (λ list.
-      next (kind owns p) (λ kind.
-      giving (record { kind = kind; words = words; fields = list })))))))
-
-  behind_within : place < length scope.classes → Within IsRead behind_name
+  behind_within : place < length scope.classes → Within IsRead (class_parts scope natives servers)
   behind_within below =
       let known = some_names scope.is_strict place (length scope.classes) below in
       after IsRead any_keyword _ (λ key.
@@ -139,4 +128,4 @@ module _ (scope : Scope) (natives place servers : ℕ) where
       })))))))
 
   pub class_within : Within IsRead (class_statement scope natives place servers)
-  class_within = next_within (λ u. place < length scope.classes) IsRead (declared place scope.classes) (λ u. behind_name) (declared_below place scope.classes) (λ u below. behind_within below)
+  class_within = next_within (λ u. place < length scope.classes) IsRead (declared place scope.classes) (λ u. class_parts scope natives servers) (declared_below place scope.classes) (λ u below. behind_within below)

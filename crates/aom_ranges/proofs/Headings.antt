@@ -19,7 +19,7 @@ use Rattle.aom_image.specs.declared.method.Role.TheVariants as roles
 use Rattle.aom_syntax.specs.Reading.{◌>>=◌, Reading, any_keyword, giving, next, nothing_more, seen, took, word}
 use Rattle.aom_syntax.specs.Operands.{class}
 use Rattle.aom_syntax.specs.Classes.{declared, flag, listed, thing, thing_of}
-use Rattle.aom_syntax.specs.Methods.{accepted, all_states, argument_of, flags_of, gives, heading, is_quiet_role, kind_of, not_served, optional_arguments, optional_class, optional_gives, optional_states, role, unsaid_gives, usual_after, usual_before, usual_gives, usual_words}
+use Rattle.aom_syntax.specs.Methods.{accepted, all_states, argument_of, flags_of, gives, heading, is_quiet_role, kind_of, not_served, optional_arguments, optional_class, optional_gives, optional_states, role, unsaid_gives, usual_after, usual_before, usual_gives, usual_words, behind_class}
 use Rattle.aom_syntax.specs.declared.keyword.Keyword.{Keyword}
 use Rattle.aom_syntax.specs.declared.keyword.Keyword.TheVariants as k
 use Rattle.aom_syntax.specs.declared.method.Heading.{Heading}
@@ -134,18 +134,7 @@ module _ (natives : ℕ) (scope : Scope) (settled : IsSettled natives scope) (pl
   abbrev IsRead : Heading → Type 0
   IsRead h = HeadingIsRead scope place h
 
-  -- what is read behind the name, the role and the class
-  abbrev behind_class : Role → Option ℕ → Reading Heading
-  behind_class role class =
-      next (flag k.Leaves) (λ leaves.
-      next (flag k.Quiet) (λ quiet.
-      next (optional_states k.In (usual_before role (all_states (kind_of scope.kinds class)))) (λ before.
-      next (optional_states k.Out (usual_after role (all_states (kind_of scope.kinds class)))) (λ after.
-      next (optional_arguments scope (usual_words role)) (λ arguments.
-      next (optional_gives scope (usual_gives scope.is_strict role (kind_of scope.kinds class))) (λ gives.
-      giving (record { class = class; role = role; flags = flags_of leaves (quiet || is_quiet_role role); before = before; after = after; arguments = arguments; gives = gives })))))))
-
-  behind_within : place < length scope.methods → (role : Role) (class : Option ℕ) → IsClass scope known class → Within IsRead (behind_class role class)
+  behind_within : place < length scope.methods → (role : Role) (class : Option ℕ) → IsClass scope known class → Within IsRead (behind_class scope role class)
   behind_within below role class is_class =
       let few = all_few (kind_of scope.kinds class) in
       after IsRead (flag k.Leaves) _ (λ leaves.
@@ -170,6 +159,6 @@ module _ (natives : ℕ) (scope : Scope) (settled : IsSettled natives scope) (pl
 
   pub heading_within : Within IsRead (heading scope place)
   heading_within =
-      next_within (λ u. place < length scope.methods) IsRead (declared place scope.methods) (λ u. next role (λ role. next (optional_class scope) (λ class. behind_class role class))) (declared_below place scope.methods) (λ u below.
-      after IsRead role (λ role. next (optional_class scope) (λ class. behind_class role class)) (λ role.
-      next_within (IsClass scope known) IsRead (optional_class scope) (λ class. behind_class role class) (class_within scope known) (λ class is_class. behind_within below role class is_class)))
+      next_within (λ u. place < length scope.methods) IsRead (declared place scope.methods) (λ u. next role (λ role. next (optional_class scope) (λ class. behind_class scope role class))) (declared_below place scope.methods) (λ u below.
+      after IsRead role (λ role. next (optional_class scope) (λ class. behind_class scope role class)) (λ role.
+      next_within (IsClass scope known) IsRead (optional_class scope) (λ class. behind_class scope role class) (class_within scope known) (λ class is_class. behind_within below role class is_class)))

@@ -6,9 +6,9 @@ use Rattle.aom_text.specs.declared.fault.AsmFaultKind.{AsmFaultKind}
 use Rattle.aom_text.specs.declared.fault.AsmFaultKind.TheVariants.{BadShape}
 use Rattle.aom_text.specs.declared.number.Number.{Number}
 use Rattle.aom_text.specs.Numbers.{number_of}
-use Rattle.aom_image.specs.Operands.{IsDepth, IsField, IsRegister, IsWord, TargetFits}
-use Rattle.aom_image.specs.declared.instr.Target.{Target}
-use Rattle.aom_image.specs.declared.instr.Target.TheVariants as targets
+use Rattle.aom_instructions.specs.Operands.{IsDepth, IsField, IsRegister, IsWord, TargetFits}
+use Rattle.aom_instructions.specs.declared.instr.Target.{Target}
+use Rattle.aom_instructions.specs.declared.instr.Target.TheVariants as targets
 use Rattle.aom_syntax.specs.Reading.{◌>>=◌, giving, next, word}
 use Rattle.aom_syntax.specs.Operands.{depth, field, index_of, indexed, last_register, register, rounds, target, target_of, word_field}
 use Rattle.aom_ranges.proofs.Numbers.{Between, in_range_between, number_between}

@@ -1,9 +1,10 @@
 -- The laws: what a statement says is in its range, whatever its words are.
 use Rattle.std.specs.Prelude.{◌≡◌, ◌<◌, ◌≤◌, ℕ, true, List, length, All, IfSome, Ok}
-use Rattle.aom_image.specs.WellFormed.{ArgumentFits, ClassFits, GivesFits, HeaderFits, InstrFits, is_server, limits}
+use Rattle.aom_image.specs.WellFormed.{ArgumentFits, ClassFits, GivesFits, HeaderFits, is_server}
+use Rattle.aom_instructions.specs.Fits.{InstrFits, limits}
 use Rattle.aom_image.specs.declared.class.ClassDecl.{ClassDecl}
 use Rattle.aom_image.specs.declared.image.Header.{Header}
-use Rattle.aom_image.specs.declared.instr.Instr.{Instr}
+use Rattle.aom_instructions.specs.declared.instr.Instr.{Instr}
 use Rattle.aom_syntax.specs.Classes.{class_statement}
 use Rattle.aom_syntax.specs.Headers.{image_statement}
 use Rattle.aom_syntax.specs.Methods.{heading, instruction}

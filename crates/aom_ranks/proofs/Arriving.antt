@@ -6,7 +6,7 @@ use Rattle.aom_image.specs.Image.{Image}
 use Rattle.aom_ranks.proofs.Ranking.{moves_lower_ranks}
 use Rattle.aom_ranks.specs.Leaves.{Comes, LeavesCome, goes, stays}
 use Rattle.aom_ranks.specs.Ranks.{rank}
-use Rattle.aom_shape.specs.Typing.{IsTyped, Typing}
+use Rattle.aom_rules.specs.Typing.{IsTyped, Typing}
 use Rattle.aom_sound.proofs.Caught.{arrives, deals}
 use Rattle.aom_sound.proofs.Clearing.{works_kept}
 use Rattle.aom_sound.proofs.Steps.{step_keeps}
@@ -14,7 +14,7 @@ use Rattle.aom_sound.specs.Laws.{IsWired}
 use Rattle.aom_sound.specs.Leaves.{IsLeaving, IsOver, Unwinds, deals as dealt_with, leaves, works}
 use Rattle.aom_sound.specs.Moves.{step}
 use Rattle.aom_sound.specs.Places.{named}
-use Rattle.aom_sound.specs.State.{A_mark, Choice, Destroy, Dispatched, Goes, IsStuck, Item, Outcome, Run, State, Task, Trapped, Unwind}
+use Rattle.aom_sound.specs.State.{A_mark, Choice, Destroy, Goes, IsStuck, Item, Outcome, Run, State, Task, Unwind}
 use Rattle.aom_sound.specs.WellTyped.{Keeps, WellTyped}
 
 -- a state that is not stuck leads on

@@ -3,7 +3,7 @@ use Rattle.std.proofs.Common.{List, [], arith, refl, suc, zero, ℕ, ◌<◌, �
 use Rattle.aom_image.specs.Image.{Image}
 use Rattle.aom_image.specs.WellFormed.{WellFormed}
 use Rattle.aom_classes.specs.Linked.{IsLinked}
-use Rattle.aom_shape.specs.Typing.{IsTyped, Typing}
+use Rattle.aom_rules.specs.Typing.{IsTyped, Typing}
 use Rattle.aom_sound.proofs.Booting.{boot_keeps}
 use Rattle.aom_sound.proofs.Course.{leaves_arrive, leaves_move, well_on}
 use Rattle.aom_sound.proofs.Looping.{loops_keep}
@@ -18,20 +18,20 @@ use Rattle.aom_sound.specs.Moves.{step}
 use Rattle.aom_sound.specs.Quiet.{IsCalm}
 use Rattle.aom_sound.specs.State.{Choice, Goes, State, Task}
 use Rattle.aom_sound.specs.WellTyped.{WellTyped}
-use Rattle.aom_sound.specs.World.{Reaches, begins, boot_state, moves, waits}
-use Rattle.aom_sound.specs.declared.line.Line.{Line}
+use Rattle.aom_sound.specs.World.{Reaches, begins, boot_state, moves, waits, Outside}
+use Rattle.aom_transcript.specs.declared.line.Line.{Line}
 use Rattle.aom_ranks.proofs.Arriving.{leads_on, leaves_come}
 use Rattle.aom_ranks.proofs.Ranking.{moves_lower_ranks, ranks_bound_moves}
 use Rattle.aom_ranks.specs.Leaves.{goes, stays}
 use Rattle.aom_ranks.specs.Ranks.{rank}
 use Rattle.aom_ranks.specs.Runs.{ComesToRest, IsFree, RunsWell, TypedRunsWell}
 
-module _ (p : Image) (t : Typing) (refused : List ℕ) (formed : WellFormed p) (linked : IsLinked p) (typed : IsTyped p t) where
+module _ (p : Image) (t : Typing) (outside : Outside) (formed : WellFormed p) (linked : IsLinked p) (typed : IsTyped p t) where
   wired : IsWired p
   wired = linked_is_wired p formed linked
 
-  well : (lines : List Line) (s : State) → Reaches p refused (boot_state p) lines s → WellTyped p t s
-  well lines s reached = well_on p t refused wired typed (boot_state p) (boot_keeps p t wired typed) lines s reached
+  well : (lines : List Line) (s : State) → Reaches p outside (boot_state p) lines s → WellTyped p t s
+  well lines s reached = well_on p t outside wired typed (boot_state p) (boot_keeps p t wired typed) lines s reached
 
   module _ (choose : State → Choice) (unused : IsFree choose) where
     -- one move earlier
@@ -56,26 +56,26 @@ module _ (p : Image) (t : Typing) (refused : List ℕ) (formed : WellFormed p) (
     each zero = λ s lt w. absurd (omega (arith, lt))
     each (suc k) = higher k (each k)
 
-  rounds : (lines : List Line) (s : State) → Reaches p refused (boot_state p) lines s → RoundsLeft p s.tasks
+  rounds : (lines : List Line) (s : State) → Reaches p outside (boot_state p) lines s → RoundsLeft p s.tasks
   rounds _ _ begins = loops_keep.boot p
   rounds _ _ (moves {lines = lines} {s = s} {u = u} c before busy choice e) = loops_keep.moves p (loops_keep.linked p formed linked) c s u (rounds lines s before) e
   rounds _ _ (waits {lines = lines} {s = s} before between) = rounds lines s before
 
-  calm : (lines : List Line) (s : State) → Reaches p refused (boot_state p) lines s → IsCalm p s.tasks
+  calm : (lines : List Line) (s : State) → Reaches p outside (boot_state p) lines s → IsCalm p s.tasks
   calm _ _ begins = calm_keeps.boot p
   calm _ _ (moves {lines = lines} {s = s} {u = u} c before busy choice e) = calm_keeps.moves p t wired typed c s u (well lines s before) (calm lines s before) e
   calm _ _ (waits {lines = lines} {s = s} before between) = calm lines s before
 
-  runs_well : RunsWell p refused
+  runs_well : RunsWell p outside
   runs_well = record {
-    sound = typed_is_sound p t refused wired typed;
+    sound = typed_is_sound p t outside wired typed;
     ends = λ lines s reached choose unused. each choose unused (suc (rank p s)) s (omega arith) (well lines s reached);
     falls = λ lines s reached n u more. ranks_bound_moves p t wired linked typed n s u (well lines s reached) more;
     begins = λ lines s reached c u unused fr ts i code at stands leaves e. leaves_move.begins p t wired typed c s u (well lines s reached) unused fr ts i code at stands leaves e;
-    arrives = leaves_arrive p t refused wired typed;
+    arrives = leaves_arrive p t outside wired typed;
     comes = λ lines s reached choose unused code below entries items l. leaves_come p t wired linked typed choose unused s (well lines s reached) code below entries items l;
-    stands = traps_keep.stand p refused;
-    holds = traps_keep.runs p t refused wired typed;
+    stands = traps_keep.stand p outside;
+    holds = traps_keep.runs p t outside wired typed;
     rounds = rounds;
     calm = calm;
   }

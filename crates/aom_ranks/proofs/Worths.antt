@@ -7,12 +7,12 @@ use Rattle.aom_image.specs.declared.method.Argument.TheVariants.{Word as Takes_w
 use Rattle.aom_image.specs.declared.method.Gives.{Gives}
 use Rattle.aom_image.specs.declared.method.Gives.TheVariants.{Nothing, Word as A_word, Own as An_own, Maybe as A_maybe, Left}
 use Rattle.aom_shape.specs.Shape.{Shape}
-use Rattle.aom_shape.specs.Typing.{Typing}
+use Rattle.aom_rules.specs.Typing.{Typing}
 use Rattle.aom_sound.specs.Calls.{below_top, passed_cells, received, result_cells, result_register, returned}
 use Rattle.aom_sound.specs.Claims.{Dispatching, Dying, Layer, Mark, Method, Unwinding, tasks_of}
 use Rattle.aom_sound.specs.Cleanup.{code_told, to_trap}
 use Rattle.aom_sound.specs.Places.{Cell, Register, moved}
-use Rattle.aom_sound.specs.State.{Destroy, Dispatched, Frame, Item, Main_left, Of_main, Of_root, Run, State, Task, Trapped, Unwind, next, resumed}
+use Rattle.aom_sound.specs.State.{Destroy, Dispatched, Frame, Item, Run, State, Task, Trapped, Unwind, next, resumed}
 use Rattle.aom_sound.specs.WellTyped.{Caught, Now, Returns, Stack}
 use Rattle.aom_ranks.specs.Worths.{Worths, tasks_worth, waiting_worth}
 

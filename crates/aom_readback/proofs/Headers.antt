@@ -4,7 +4,7 @@ use Rattle.std.specs.Prelude.{IfSome}
 use Rattle.aom_image.specs.WellFormed.{HeaderFits}
 use Rattle.aom_image.specs.declared.image.Header.{Header}
 use Rattle.aom_text.specs.Words.{others_of}
-use Rattle.aom_syntax.specs.Headers.{image_statement, optional_root}
+use Rattle.aom_syntax.specs.Headers.{image_statement, optional_root, limits_and_root}
 use Rattle.aom_syntax.specs.Reading.{Reading, giving, keyword, next, number, optional_number}
 use Rattle.aom_syntax.specs.declared.keyword.Keyword.TheVariants as k
 use Rattle.aom_syntax.specs.declared.scope.Scope.{Scope}
@@ -18,18 +18,7 @@ module _ {classes methods : ℕ} {scope : Scope} (names : HasNames classes metho
   whole_root None fits = record { reads = refl }
   whole_root (Some c) fits = record { reads = ends _ (takes_class names c fits) refl }
 
-  -- what is read behind the version, which a listing does not say
-  abbrev behind_version : Reading Header
-  behind_version =
-      next (optional_number k.Cells 4096) (λ cells.
-      next (optional_number k.Messages 1024) (λ messages.
-      next (optional_number k.Natives 16) (λ natives.
-      next (keyword k.Budget) (λ u.
-      next (number 0 4294967295) (λ budget.
-      next (optional_root scope) (λ root.
-      giving (record { cells = cells; messages = messages; natives = natives; root = root; budget = budget })))))))
-
-  whole_limits : (h : Header) → HeaderFits classes h → Whole behind_version (others_of (header_words h)) h
+  whole_limits : (h : Header) → HeaderFits classes h → Whole (limits_and_root scope) (others_of (header_words h)) h
   whole_limits h fits =
       first _ (takes_optional k.Cells 4096 h.cells fits.cells (omega (arith, fits.cells))) (
       first _ (takes_optional k.Messages 1024 h.messages fits.messages (omega (arith, fits.messages))) (

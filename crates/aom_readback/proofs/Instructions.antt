@@ -1,26 +1,26 @@
 -- Each instruction reads back, by the kinds of its operands.
 use Rattle.std.proofs.Common.{◌≡◌, ℕ, ◌<◌, List, [], ◌∷◌, ◌++◌, refl, ap, ◌∙◌, arith, Some, Result, Ok, IfSome}
-use Rattle.aom_image.proofs.Again.{parts_make_again}
-use Rattle.aom_image.specs.Mnemonics.{mnemonic_text}
-use Rattle.aom_image.specs.Operands.{LargeFits, OperandsFit, SmallFits}
-use Rattle.aom_image.specs.Parts.{make, mnemonic, operands, operands_of}
-use Rattle.aom_image.specs.Rows.{row}
-use Rattle.aom_image.specs.WellFormed.{InstrFits, limits}
-use Rattle.aom_image.specs.declared.instr.Instr.{Instr}
-use Rattle.aom_image.specs.declared.instr.Instr.TheVariants as instr
-use Rattle.aom_image.specs.declared.kinds.Kinds.{Kinds}
-use Rattle.aom_image.specs.declared.kinds.LargeKind.{LargeKind}
-use Rattle.aom_image.specs.declared.kinds.LargeKind.TheVariants as lk
-use Rattle.aom_image.specs.declared.kinds.Order.{Order}
-use Rattle.aom_image.specs.declared.kinds.Order.TheVariants.{LargeLast, LargeSecond}
-use Rattle.aom_image.specs.declared.kinds.SmallKind.{SmallKind}
-use Rattle.aom_image.specs.declared.kinds.SmallKind.TheVariants as sk
-use Rattle.aom_image.specs.declared.mnemonic.Mnemonic.{Mnemonic}
-use Rattle.aom_image.specs.declared.operand.Large.{Large}
-use Rattle.aom_image.specs.declared.operand.Large.TheVariants as large
-use Rattle.aom_image.specs.declared.operand.Operands.{Operands}
-use Rattle.aom_image.specs.declared.operand.Small.{Small}
-use Rattle.aom_image.specs.declared.operand.Small.TheVariants as small
+use Rattle.aom_instructions.proofs.Again.{parts_make_again}
+use Rattle.aom_instructions.specs.Mnemonics.{mnemonic_text}
+use Rattle.aom_instructions.specs.Operands.{LargeFits, OperandsFit, SmallFits}
+use Rattle.aom_instructions.specs.Parts.{make, mnemonic, operands, operands_of}
+use Rattle.aom_instructions.specs.Rows.{row}
+use Rattle.aom_instructions.specs.Fits.{InstrFits, limits}
+use Rattle.aom_instructions.specs.declared.instr.Instr.{Instr}
+use Rattle.aom_instructions.specs.declared.instr.Instr.TheVariants as instr
+use Rattle.aom_instructions.specs.declared.kinds.Kinds.{Kinds}
+use Rattle.aom_instructions.specs.declared.kinds.LargeKind.{LargeKind}
+use Rattle.aom_instructions.specs.declared.kinds.LargeKind.TheVariants as lk
+use Rattle.aom_instructions.specs.declared.kinds.Order.{Order}
+use Rattle.aom_instructions.specs.declared.kinds.Order.TheVariants.{LargeLast, LargeSecond}
+use Rattle.aom_instructions.specs.declared.kinds.SmallKind.{SmallKind}
+use Rattle.aom_instructions.specs.declared.kinds.SmallKind.TheVariants as sk
+use Rattle.aom_instructions.specs.declared.mnemonic.Mnemonic.{Mnemonic}
+use Rattle.aom_instructions.specs.declared.operand.Large.{Large}
+use Rattle.aom_instructions.specs.declared.operand.Large.TheVariants as large
+use Rattle.aom_instructions.specs.declared.operand.Operands.{Operands}
+use Rattle.aom_instructions.specs.declared.operand.Small.{Small}
+use Rattle.aom_instructions.specs.declared.operand.Small.TheVariants as small
 use Rattle.aom_syntax.specs.Names.{place_of}
 use Rattle.aom_syntax.specs.Reading.{◌>>=◌, Reading, giving, next}
 use Rattle.aom_syntax.specs.Words.{in_order, large_operand, operands_read, small_operand, words_operands}

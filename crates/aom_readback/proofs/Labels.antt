@@ -3,9 +3,9 @@ use Rattle.std.proofs.Common.{◌≡◌, ℕ, zero, suc, ◌+◌, ◌<◌, ◌�
 use Rattle.std.specs.Prelude.{IfSome}
 use Rattle.std.specs.List.{list_any}
 use Rattle.std.proofs.lemmas.Bool.{eq-eqb}
-use Rattle.aom_image.specs.WellFormed.{InstrFits, limits}
-use Rattle.aom_image.specs.declared.instr.Instr.{Instr}
-use Rattle.aom_image.specs.declared.instr.Instr.TheVariants as instr
+use Rattle.aom_instructions.specs.Fits.{InstrFits, limits}
+use Rattle.aom_instructions.specs.declared.instr.Instr.{Instr}
+use Rattle.aom_instructions.specs.declared.instr.Instr.TheVariants as instr
 use Rattle.aom_syntax.specs.Classes.{is_at}
 use Rattle.aom_syntax.specs.Names.{place_of}
 use Rattle.aom_listing.specs.Jumps.{is_target, jump_of}

@@ -18,7 +18,7 @@ use Rattle.aom_image.specs.declared.method.Role.TheVariants as roles
 use Rattle.aom_image.specs.declared.method.Thing.TheVariants as owned
 use Rattle.aom_image.specs.declared.method.States.{States}
 use Rattle.aom_syntax.specs.Classes.{flag}
-use Rattle.aom_syntax.specs.Methods.{all_states, argument_of, flags_of, gives, heading, is_quiet_role, kind_of, optional_arguments, optional_class, optional_gives, optional_states, role, role_of, states_of, usual_after, usual_before, usual_gives, usual_words}
+use Rattle.aom_syntax.specs.Methods.{all_states, argument_of, flags_of, gives, heading, is_quiet_role, kind_of, optional_arguments, optional_class, optional_gives, optional_states, role, role_of, states_of, usual_after, usual_before, usual_gives, usual_words, promised}
 use Rattle.aom_syntax.specs.Reading.{◌>>=◌, Reading, any_keyword, giving, next, nothing_more, took}
 use Rattle.aom_syntax.specs.Operands.{class}
 use Rattle.aom_syntax.specs.Keywords.{keyword_text}
@@ -125,20 +125,11 @@ module _ {classes methods : ℕ} {scope : Scope} (names : HasNames classes metho
 
   -- ---- the statement
 
-  -- what is read behind the class and the flags
-  abbrev promised : Role → Option ℕ → Bool → Bool → Reading Heading
-  promised role class leaves quiet =
-      next (optional_states k.In (usual_before role (all_states (kind_of scope.kinds class)))) (λ before.
-      next (optional_states k.Out (usual_after role (all_states (kind_of scope.kinds class)))) (λ after.
-      next (optional_arguments scope (usual_words role)) (λ arguments.
-      next (optional_gives scope (usual_gives scope.is_strict role (kind_of scope.kinds class))) (λ gives.
-      giving (record { class = class; role = role; flags = flags_of leaves (quiet || is_quiet_role role); before = before; after = after; arguments = arguments; gives = gives })))))
-
   -- a heading, with flags of its own
   abbrev with_flags : Method → MethodFlags → Heading
   with_flags m flags = record { class = m.class; role = m.role; flags = flags; before = m.before; after = m.after; arguments = m.arguments; gives = m.gives }
 
-  whole_promise : (m : Method) → MethodFits classes methods m → (leaves quiet : Bool) → Whole (promised m.role m.class leaves quiet) (promise_words m) (with_flags m (flags_of leaves (quiet || is_quiet_role m.role)))
+  whole_promise : (m : Method) → MethodFits classes methods m → (leaves quiet : Bool) → Whole (promised scope m.role m.class leaves quiet) (promise_words m) (with_flags m (flags_of leaves (quiet || is_quiet_role m.role)))
   whole_promise m fits leaves quiet =
       first _ (takes_states_in (usual_before m.role (all_states (kind_of scope.kinds m.class))) m.before fits.before) (
       first _ (takes_states_out (usual_after m.role (all_states (kind_of scope.kinds m.class))) m.after fits.after) (
@@ -146,15 +137,15 @@ module _ {classes methods : ℕ} {scope : Scope} (names : HasNames classes metho
       last _ (whole_gives (usual_gives scope.is_strict m.role (kind_of scope.kinds m.class)) m.gives fits.gives) (done _))))
 
   whole_flags : (m : Method) → MethodFits classes methods m → (is_quiet_role m.role ≡ true → has m.flags.0 2 ≡ true)
-      → Whole (next (flag k.Leaves) (λ leaves. next (flag k.Quiet) (promised m.role m.class leaves))) (flag_words m.flags.0 ++ promise_words m) (heading_of m)
+      → Whole (next (flag k.Leaves) (λ leaves. next (flag k.Quiet) (promised scope m.role m.class leaves))) (flag_words m.flags.0 ++ promise_words m) (heading_of m)
   whole_flags m fits quiet =
-      flags_before (has m.flags.0 1) (has m.flags.0 2) (promised m.role m.class) (others_of (promise_words m)) (heading_of m)
+      flags_before (has m.flags.0 1) (has m.flags.0 2) (promised scope m.role m.class) (others_of (promise_words m)) (heading_of m)
       (settle (ap (with_flags m) (flags_read m.role m.flags fits.flags quiet)) (whole_promise m fits (has m.flags.0 1) (has m.flags.0 2)))
 
   whole_class_and_flags : (m : Method) → MethodFits classes methods m → (is_quiet_role m.role ≡ true → has m.flags.0 2 ≡ true)
-      → Whole (next (optional_class scope) (λ class. next (flag k.Leaves) (λ leaves. next (flag k.Quiet) (promised m.role class leaves)))) (of_words m.class ++ (flag_words m.flags.0 ++ promise_words m)) (heading_of m)
+      → Whole (next (optional_class scope) (λ class. next (flag k.Leaves) (λ leaves. next (flag k.Quiet) (promised scope m.role class leaves)))) (of_words m.class ++ (flag_words m.flags.0 ++ promise_words m)) (heading_of m)
   whole_class_and_flags m fits quiet = record {
-    reads = reads_on (optional_class scope) (λ class. next (flag k.Leaves) (λ leaves. next (flag k.Quiet) (promised m.role class leaves))) {ws = of_words m.class ++ (flag_words m.flags.0 ++ promise_words m)}
+    reads = reads_on (optional_class scope) (λ class. next (flag k.Leaves) (λ leaves. next (flag k.Quiet) (promised scope m.role class leaves))) {ws = of_words m.class ++ (flag_words m.flags.0 ++ promise_words m)}
         (class_before m.class fits.class (flag_words m.flags.0 ++ promise_words m) (no_class (has m.flags.0 1) (has m.flags.0 2) (others_of (promise_words m))))
         (whole_flags m fits quiet).reads;
   }

@@ -7,14 +7,14 @@ use Rattle.std.proofs.Math.Seq.{get_or-append_seam, take-append_seam}
 use Rattle.std.proofs.lemmas.List.Folds.{list_all-append}
 use Rattle.aom_text.specs.Words.{is_plain}
 use Rattle.aom_text.specs.declared.fault.AsmFaultKind.TheVariants.{BadShape}
-use Rattle.aom_image.specs.WellFormed.{InstrFits, limits}
-use Rattle.aom_image.specs.declared.instr.Instr.{Instr}
-use Rattle.aom_image.specs.Mnemonics.{mnemonic_text}
+use Rattle.aom_instructions.specs.Fits.{InstrFits, limits}
+use Rattle.aom_instructions.specs.declared.instr.Instr.{Instr}
+use Rattle.aom_instructions.specs.Mnemonics.{mnemonic_text}
 use Rattle.aom_syntax.specs.Methods.{after_label, check_label, instruction, known_mnemonic, label_of, named_mnemonic, skip_label}
 use Rattle.aom_syntax.specs.Classes.{declared_at}
 use Rattle.aom_syntax.specs.Names.{place_of}
 use Rattle.aom_syntax.specs.Reading.{◌>>=◌, seen, word}
-use Rattle.aom_image.specs.declared.mnemonic.Mnemonic.{Mnemonic}
+use Rattle.aom_instructions.specs.declared.mnemonic.Mnemonic.{Mnemonic}
 use Rattle.aom_syntax.specs.declared.scope.Scope.{Scope}
 use Rattle.aom_listing.specs.Jumps.{is_target}
 use Rattle.aom_listing.specs.Listing.{instr_words, label_words}

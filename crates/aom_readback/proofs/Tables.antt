@@ -3,11 +3,11 @@ use Rattle.std.proofs.Common.{◌≡◌, true, Some, None, refl}
 use Rattle.std.specs.List.{list_all}
 use Rattle.aom_text.specs.Words.{is_plain}
 use Rattle.aom_syntax.specs.Keywords.{keyword_text, keyword_of}
-use Rattle.aom_image.specs.Mnemonics.{mnemonic_text, mnemonic_of}
+use Rattle.aom_instructions.specs.Mnemonics.{mnemonic_text, mnemonic_of}
 use Rattle.aom_syntax.specs.declared.keyword.Keyword.{Keyword}
 use Rattle.aom_syntax.specs.declared.keyword.Keyword.TheVariants as k
-use Rattle.aom_image.specs.declared.mnemonic.Mnemonic.{Mnemonic}
-use Rattle.aom_image.specs.declared.mnemonic.Mnemonic.TheVariants as m
+use Rattle.aom_instructions.specs.declared.mnemonic.Mnemonic.{Mnemonic}
+use Rattle.aom_instructions.specs.declared.mnemonic.Mnemonic.TheVariants as m
 use Rattle.aom_syntax.specs.Methods.{label_of}
 
 pub keyword_reads : (key : Keyword) → keyword_of (keyword_text key) ≡ Some key

@@ -3,8 +3,8 @@ use Rattle.std.proofs.Common.{◌≡◌, ℕ, zero, suc, ◌+◌, ◌<◌, ◌�
 use Rattle.aom_text.specs.declared.text.Statement.{Statement}
 use Rattle.aom_image.specs.Image.{Image}
 use Rattle.aom_image.specs.declared.class.ClassDecl.{ClassDecl}
-use Rattle.aom_image.specs.declared.instr.Instr.{Instr}
-use Rattle.aom_image.specs.declared.instr.Instr.TheVariants as instr
+use Rattle.aom_instructions.specs.declared.instr.Instr.{Instr}
+use Rattle.aom_instructions.specs.declared.instr.Instr.TheVariants as instr
 use Rattle.aom_image.specs.declared.method.Method.{Method}
 use Rattle.aom_syntax.specs.Names.{place_of}
 use Rattle.aom_syntax.specs.declared.keyword.Keyword.{Keyword}

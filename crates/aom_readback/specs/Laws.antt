@@ -12,13 +12,14 @@ use Rattle.aom_listing.specs.Headers.{header_words}
 use Rattle.aom_listing.specs.Methods.{heading_words}
 use Rattle.aom_text.specs.declared.text.Statement.{Statement}
 use Rattle.aom_text.specs.Numbers.{number_of}
-use Rattle.aom_image.specs.WellFormed.{ClassFits, HeaderFits, InstrFits, MethodFits, WellFormed, is_server, limits}
-use Rattle.aom_image.specs.declared.instr.Instr.{Instr}
+use Rattle.aom_image.specs.WellFormed.{ClassFits, HeaderFits, MethodFits, WellFormed, is_server}
+use Rattle.aom_instructions.specs.Fits.{InstrFits, limits}
+use Rattle.aom_instructions.specs.declared.instr.Instr.{Instr}
 use Rattle.aom_syntax.specs.Keywords.{keyword_text, keyword_of}
-use Rattle.aom_image.specs.Mnemonics.{mnemonic_text, mnemonic_of}
+use Rattle.aom_instructions.specs.Mnemonics.{mnemonic_text, mnemonic_of}
 use Rattle.aom_syntax.specs.Methods.{heading, instruction}
 use Rattle.aom_syntax.specs.declared.keyword.Keyword.{Keyword}
-use Rattle.aom_image.specs.declared.mnemonic.Mnemonic.{Mnemonic}
+use Rattle.aom_instructions.specs.declared.mnemonic.Mnemonic.{Mnemonic}
 use Rattle.aom_syntax.specs.declared.scope.Scope.{Scope}
 use Rattle.aom_listing.specs.Listing.{instr_words, listing, listing_text}
 use Rattle.aom_roles.specs.Shapes.{AllShaped}

@@ -3,15 +3,15 @@ use Rattle.std.proofs.Common.{◌≡◌, ℕ, suc, ◌+◌, ◌<◌, ◌≤◌, 
 use Rattle.std.proofs.lemmas.Bool.{ne_eqb}
 use Rattle.aom_image.specs.Image.{Image}
 use Rattle.aom_classes.specs.Linked.{IsLinked}
-use Rattle.aom_shape.specs.Typing.{Typing, IsTyped}
+use Rattle.aom_rules.specs.Typing.{Typing, IsTyped}
 use Rattle.aom_sound.specs.Places.{Cell, named}
 use Rattle.aom_sound.specs.State.{Task, State, Choice, Outcome, Goes, IsStuck}
 use Rattle.aom_sound.specs.Moves.{step, written, is_refused, IsOpen}
 use Rattle.aom_sound.specs.WellTyped.{WellTyped, Keeps}
-use Rattle.aom_sound.specs.World.{boot_state, Reaches, moves, waits, Run_of, IsBusy, waiting}
-use Rattle.aom_sound.specs.declared.line.Line.{Line}
-use Rattle.aom_sound.specs.declared.line.Ending.{Ending}
-use Rattle.aom_sound.specs.declared.line.Ending.TheVariants.{Waiting}
+use Rattle.aom_sound.specs.World.{boot_state, Reaches, moves, waits, Run_of, IsBusy, waiting, Outside}
+use Rattle.aom_transcript.specs.declared.line.Line.{Line}
+use Rattle.aom_transcript.specs.declared.line.Ending.{Ending}
+use Rattle.aom_transcript.specs.declared.line.Ending.TheVariants.{Waiting}
 use Rattle.aom_ranks.specs.Ranks.{rank}
 use Rattle.aom_ranks.proofs.Ranking.{moves_lower_ranks}
 
@@ -28,52 +28,52 @@ above (c ∷ cs) n h =
     rw other (above cs n (omega arith))
 
 -- a run that was brought to its end
-pub record Completed (p : Image) (refused : List ℕ) (lines : List Line) : Type 0 where
+pub record Completed (p : Image) (outside : Outside) (lines : List Line) : Type 0 where
   pub more : List Line
   pub last : State
   pub ending : Ending
-  pub run : Run_of p refused (lines ++ more) last ending
+  pub run : Run_of p outside (lines ++ more) last ending
 
-module _ (p : Image) (t : Typing) (refused : List ℕ) (linked : IsLinked p) (is_typed : IsTyped p t)
+module _ (p : Image) (t : Typing) (outside : Outside) (linked : IsLinked p) (is_typed : IsTyped p t)
     (keeps : (c : Choice) (s : State) → WellTyped p t s → named s.cells c.name ≡ None → Keeps p t (step p c s)) where
   -- an open choice
   choice : State → Choice
-  choice s = record { name = top s.cells; refused = is_refused p refused s }
+  choice s = record { name = top s.cells; refused = is_refused p outside.refused s }
 
-  is_open : (s : State) → IsOpen p refused (choice s) s
+  is_open : (s : State) → IsOpen p outside.refused (choice s) s
   unfolding choice
   is_open s = record { name = above s.cells (top s.cells) (omega arith); refusal = refl }
 
   -- the run is over: no more lines
-  over : (lines : List Line) (s : State) (ending : Ending) → Reaches p refused (boot_state p) lines s → s.rest.ended ≡ Some ending → Completed p refused lines
-  over lines s ending r e = record { more = []; last = s; ending = ending; run = record { reaches = subst (λ ls. Reaches p refused (boot_state p) ls s) (sym (append-nil lines)) r; ended = e } }
+  over : (lines : List Line) (s : State) (ending : Ending) → Reaches p outside (boot_state p) lines s → s.rest.ended ≡ Some ending → Completed p outside lines
+  over lines s ending r e = record { more = []; last = s; ending = ending; run = record { reaches = subst (λ ls. Reaches p outside (boot_state p) ls s) (sym (append-nil lines)) r; ended = e } }
 
   -- lines of a move, and then more
-  further : (lines now : List Line) → Completed p refused (lines ++ now) → Completed p refused lines
-  further lines now c = record { more = now ++ c.more; last = c.last; ending = c.ending; run = subst (λ ls. Run_of p refused ls c.last c.ending) (append_assoc lines now c.more) c.run }
+  further : (lines now : List Line) → Completed p outside (lines ++ now) → Completed p outside lines
+  further lines now c = record { more = now ++ c.more; last = c.last; ending = c.ending; run = subst (λ ls. Run_of p outside ls c.last c.ending) (append_assoc lines now c.more) c.run }
 
   goes_of : (o : Outcome) → Keeps p t o → (u : State) × (o ≡ Goes u) × WellTyped p t u
   goes_of (Goes u) k = (u, refl, k)
   goes_of (IsStuck kind) k = absurd k
 
   -- a run that can be brought to an end from each state of lower rank
-  by_move : (lines : List Line) (s : State) → Reaches p refused (boot_state p) lines s → WellTyped p t s → IsBusy s
-      → ((now : List Line) (u : State) → rank p u < rank p s → Reaches p refused (boot_state p) (lines ++ now) u → WellTyped p t u → Completed p refused (lines ++ now)) → Completed p refused lines
+  by_move : (lines : List Line) (s : State) → Reaches p outside (boot_state p) lines s → WellTyped p t s → IsBusy s
+      → ((now : List Line) (u : State) → rank p u < rank p s → Reaches p outside (boot_state p) (lines ++ now) u → WellTyped p t u → Completed p outside (lines ++ now)) → Completed p outside lines
   by_move lines s r typed busy again =
       let free = is_open s in
       let then_is = goes_of (step p (choice s) s) (keeps (choice s) s typed free.name) in
       let lower = moves_lower_ranks p t linked is_typed (choice s) s then_is.0 typed busy then_is.1 in
       further lines (written p s) (again (written p s) then_is.0 lower (moves (choice s) r busy free then_is.1) then_is.2)
 
-  by_tasks : (ts : List Task) (lines : List Line) (s : State) → s.tasks ≡ ts → s.rest.ended ≡ None → Reaches p refused (boot_state p) lines s → (IsBusy s → Completed p refused lines) → Completed p refused lines
+  by_tasks : (ts : List Task) (lines : List Line) (s : State) → s.tasks ≡ ts → s.rest.ended ≡ None → Reaches p outside (boot_state p) lines s → (IsBusy s → Completed p outside lines) → Completed p outside lines
   by_tasks [] lines s none open_end r busy = over lines (waiting s) Waiting (waits r (record { idle = none; going = open_end })) refl
   by_tasks (task ∷ tasks) lines s is open_end r busy = busy (task, tasks, is)
 
-  by_end : (e : Option Ending) (lines : List Line) (s : State) → s.rest.ended ≡ e → Reaches p refused (boot_state p) lines s → (IsBusy s → Completed p refused lines) → Completed p refused lines
+  by_end : (e : Option Ending) (lines : List Line) (s : State) → s.rest.ended ≡ e → Reaches p outside (boot_state p) lines s → (IsBusy s → Completed p outside lines) → Completed p outside lines
   by_end None lines s open_end r busy = by_tasks s.tasks lines s refl open_end r busy
   by_end (Some ending) lines s ended r busy = over lines s ending r ended
 
-  pub completes : (n : ℕ) (lines : List Line) (s : State) → rank p s < n → Reaches p refused (boot_state p) lines s → WellTyped p t s → Completed p refused lines
+  pub completes : (n : ℕ) (lines : List Line) (s : State) → rank p s < n → Reaches p outside (boot_state p) lines s → WellTyped p t s → Completed p outside lines
   completes zero lines s less r typed = absurd (omega arith)
   completes (suc n) lines s less r typed =
       by_end s.rest.ended lines s refl r (λ busy. by_move lines s r typed busy (λ now u lower on_to typed_u. completes n (lines ++ now) u (omega arith) on_to typed_u))

@@ -2,12 +2,12 @@
 use Rattle.std.proofs.Common.{◌≡◌, ℕ, suc, min, ◌+◌, Bool, true, List, [], ◌∷◌, ◌++◌, Option, Some, None, length, take, refl, sym, ap, subst, ◌∙◌, append_assoc, arith}
 use Rattle.aom_image.specs.Image.{Image}
 use Rattle.aom_sound.specs.State.{State, Task}
-use Rattle.aom_sound.specs.World.{boot_state, Reaches, begins, waits as waited, waiting}
-use Rattle.aom_sound.specs.declared.line.Line.{Line}
-use Rattle.aom_sound.specs.declared.line.Ending.{Ending}
-use Rattle.aom_sound.specs.declared.line.Ending.TheVariants as endings
+use Rattle.aom_sound.specs.World.{boot_state, Reaches, begins, waits as waited, waiting, Outside}
+use Rattle.aom_transcript.specs.declared.line.Line.{Line}
+use Rattle.aom_transcript.specs.declared.line.Ending.{Ending}
+use Rattle.aom_transcript.specs.declared.line.Ending.TheVariants as endings
 use Rattle.aom_lines.specs.Turn.{Turn}
-use Rattle.aom_lines.specs.Text.{text_of, ended, end_text, transcript}
+use Rattle.aom_transcript.specs.Text.{text_of, ended, end_text, transcript}
 use Rattle.aom_ranks.specs.Ranks.{rank}
 use Rattle.aom_run.specs.declared.outcome.Outcome.{Outcome}
 use Rattle.aom_run.specs.declared.outcome.Outcome.TheVariants.{Stopped, Waiting, MainLeft, WriteFault}
@@ -23,26 +23,26 @@ use Rattle.aom_run.proofs.Reaching.{reaches_both}
 use Rattle.aom_run.proofs.Sending.{cut_short, after_both, after_none, text_of_both, cut_next}
 
 -- the machine stands for a state that a run comes to, and the run's lines are out
-pub record SoFar (p : Image) (refused : List ℕ) (before now : Option (List ℕ)) (m : Machine) : Type 0 where
+pub record SoFar (p : Image) (outside : Outside) (before now : Option (List ℕ)) (m : Machine) : Type 0 where
   pub lines : List Line
   pub state : State
-  pub reaches : Reaches p refused (boot_state p) lines state
+  pub reaches : Reaches p outside (boot_state p) lines state
   pub stands : StandsFor m state
   pub out : now ≡ after before (text_of lines)
 
-pub starts : (refused : List ℕ) (out : Option (List ℕ)) (m : Machine) → StandsFor m (boot_state m.image) → SoFar m.image refused out out m
-starts refused out m fresh = record { lines = []; state = boot_state m.image; reaches = begins; stands = fresh; out = after_none out }
+pub starts : (outside : Outside) (out : Option (List ℕ)) (m : Machine) → StandsFor m (boot_state m.image) → SoFar m.image outside out out m
+starts outside out m fresh = record { lines = []; state = boot_state m.image; reaches = begins; stands = fresh; out = after_none out }
 
 -- a run that has come to a state that the machine stands for can be brought to an end
-completed : (p : Image) (refused : List ℕ) (lines : List Line) (s : State) (m : Machine) → m.image ≡ p → Reaches p refused (boot_state p) lines s → StandsFor m s → Completed p refused lines
-completed p refused lines s m image r stands =
-    let Whole : Image → Type 0 = λ q. Reaches q refused (boot_state q) lines s → Completed q refused lines in
+completed : (p : Image) (outside : Outside) (lines : List Line) (s : State) (m : Machine) → m.image ≡ p → Reaches p outside (boot_state p) lines s → StandsFor m s → Completed p outside lines
+completed p outside lines s m image r stands =
+    let Whole : Image → Type 0 = λ q. Reaches q outside (boot_state q) lines s → Completed q outside lines in
     let sound = stands.sound in
-    subst Whole image (λ r'. completes m.image stands.typing refused sound.linked sound.typed sound.keeps (suc (rank m.image s)) lines s (omega arith) r' stands.typed) r
+    subst Whole image (λ r'. completes m.image stands.typing outside sound.linked sound.typed sound.keeps (suc (rank m.image s)) lines s (omega arith) r' stands.typed) r
 
 -- the beginning of the lines of a run is one of its transcript
-cut_of : (p : Image) (refused : List ℕ) (before now : Option (List ℕ)) (lines : List Line) → Completed p refused lines → (n : ℕ) → now ≡ after before (take n (text_of lines)) → CutShort p refused before now
-cut_of p refused before now lines all n out =
+cut_of : (p : Image) (outside : Outside) (before now : Option (List ℕ)) (lines : List Line) → Completed p outside lines → (n : ℕ) → now ≡ after before (take n (text_of lines)) → CutShort p outside before now
+cut_of p outside before now lines all n out =
     let rest = text_of all.more ++ ended (end_text all.ending (length all.last.cells)) in
     let whole : transcript (lines ++ all.more) all.ending (length all.last.cells) ≡ text_of lines ++ rest = ap (λ t. t ++ ended (end_text all.ending (length all.last.cells))) (text_of_both lines all.more) ∙ append_assoc (text_of lines) (text_of all.more) (ended (end_text all.ending (length all.last.cells))) in
     let short = cut_short n (text_of lines) rest in
@@ -56,27 +56,27 @@ cut_of p refused before now lines all n out =
     }
 
 -- what is known after some steps, before their lines are out
-pub record Next (p : Image) (refused : List ℕ) (before mid : Option (List ℕ)) (told : List Line) (progress : Progress) (new : Machine) : Type 0 where
+pub record Next (p : Image) (outside : Outside) (before mid : Option (List ℕ)) (told : List Line) (progress : Progress) (new : Machine) : Type 0 where
   pub lines : List Line
   pub state : State
-  pub reaches : Reaches p refused (boot_state p) lines state
+  pub reaches : Reaches p outside (boot_state p) lines state
   pub stands : StandsFor new state
   pub is : progress ≡ progress_of state
   pub sent : ℕ
   pub part : (n : ℕ) → after mid (take n (text_of told)) ≡ after before (take (sent + n) (text_of lines))
   pub whole : after mid (text_of told) ≡ after before (text_of lines)
 
-pub next : (p : Image) (refused : List ℕ) (before mid : Option (List ℕ)) (m new : Machine) (old now : Turn) (progress : Progress)
-    → SoFar p refused before mid m → m.image ≡ p → old.refused ≡ refused → old.lines ≡ [] → Filled m progress old now new
-    → Next p refused before mid now.lines progress new
-next p refused before mid m new old now progress far image same clear filled =
+pub next : (p : Image) (outside : Outside) (before mid : Option (List ℕ)) (m new : Machine) (old now : Turn) (progress : Progress)
+    → SoFar p outside before mid m → m.image ≡ p → old.refused ≡ outside.refused → old.lines ≡ [] → Filled m progress old now new
+    → Next p outside before mid now.lines progress new
+next p outside before mid m new old now progress far image same clear filled =
     let s = filled far.state far.stands in
     let told : now.lines ≡ s.0 = ap (λ (t : Turn). t.lines) s.3 ∙ ap (λ ls. ls ++ s.0) clear in
-    let more = subst (λ q. Reaches q refused far.state s.0 s.1) image (subst (λ r. Reaches m.image r far.state s.0 s.1) same s.2) in
+    let more = subst (λ q. Reaches q outside far.state s.0 s.1) image (s.2 outside (sym same)) in
     record {
       lines = far.lines ++ s.0;
       state = s.1;
-      reaches = reaches_both p refused (boot_state p) far.lines far.state s.0 s.1 far.reaches more;
+      reaches = reaches_both p outside (boot_state p) far.lines far.state s.0 s.1 far.reaches more;
       stands = s.5;
       is = s.4;
       sent = length (text_of far.lines);
@@ -108,19 +108,19 @@ ended_by : (ended : Option Ending) (tasks : List Task) (ending : Ending) → pro
 ended_by (Some e) tasks ending is = ap (λ x. Some x) (ended_same e ending is)
 ended_by _ _ ending is = absurd (grind arith)
 
-module _ (p : Image) (refused : List ℕ) (before mid now : Option (List ℕ)) (told : List Line) (progress : Progress) (new : Machine) (n : Next p refused before mid told progress new) where
-  pub goes_on : now ≡ after mid (text_of told) → SoFar p refused before now new
+module _ (p : Image) (outside : Outside) (before mid now : Option (List ℕ)) (told : List Line) (progress : Progress) (new : Machine) (n : Next p outside before mid told progress new) where
+  pub goes_on : now ≡ after mid (text_of told) → SoFar p outside before now new
   goes_on out = record { lines = n.lines; state = n.state; reaches = n.reaches; stands = n.stands; out = out ∙ n.whole }
 
-  pub cut : new.image ≡ p → (count : ℕ) → now ≡ after mid (take count (text_of told)) → CutShort p refused before now
+  pub cut : new.image ≡ p → (count : ℕ) → now ≡ after mid (take count (text_of told)) → CutShort p outside before now
   cut image count out =
-      let all = completed p refused n.lines n.state new image n.reaches n.stands in
-      cut_of p refused before now n.lines all (n.sent + count) (out ∙ n.part count)
+      let all = completed p outside n.lines n.state new image n.reaches n.stands in
+      cut_of p outside before now n.lines all (n.sent + count) (out ∙ n.part count)
 
   pub turned : progress ≡ progresses.Turned → reached new ≡ progresses.Turned
   turned is = is_as_far new n.state n.stands ∙ sym n.is ∙ is
 
-  pub waits : (last : Machine) → Waited new last → now ≡ after mid (text_of told) → Ended p refused endings.Waiting before now last
+  pub waits : (last : Machine) → Waited new last → now ≡ after mid (text_of told) → Ended p outside endings.Waiting before now last
   waits last wait out =
       let w = wait n.state n.stands in
       record {
@@ -131,7 +131,7 @@ module _ (p : Image) (refused : List ℕ) (before mid now : Option (List ℕ)) (
         out = out ∙ n.whole;
       }
 
-  pub ends : (ending : Ending) → progress ≡ progresses.Ended ending → now ≡ after mid (text_of told) → Ended p refused ending before now new
+  pub ends : (ending : Ending) → progress ≡ progresses.Ended ending → now ≡ after mid (text_of told) → Ended p outside ending before now new
   ends ending is out =
       record {
         lines = n.lines;
@@ -142,15 +142,15 @@ module _ (p : Image) (refused : List ℕ) (before mid now : Option (List ℕ)) (
       }
 
 -- the last line after the others
-module _ (m new : Machine) (refused : List ℕ) (ending : Ending) (before mid now : Option (List ℕ)) (failed : Bool) (run : Ended m.image refused ending before mid new) where
+module _ (m new : Machine) (outside : Outside) (ending : Ending) (before mid now : Option (List ℕ)) (failed : Bool) (run : Ended m.image outside ending before mid new) where
   last : List ℕ
   last = ended (end_text ending (length run.state.cells))
 
-  told : now ≡ after mid last → Told m.image refused ending before now new
+  told : now ≡ after mid last → Told m.image outside ending before now new
   unfolding last
   told out = record { lines = run.lines; state = run.state; run = run.run; stands = run.stands; out = out ∙ ap (λ o. after o last) run.out ∙ after_both before (text_of run.lines) last }
 
-  cut_last : (n : ℕ) → now ≡ after mid (take n last) → CutShort m.image refused before now
+  cut_last : (n : ℕ) → now ≡ after mid (take n last) → CutShort m.image outside before now
   unfolding last
   cut_last n out =
       record {
@@ -165,11 +165,11 @@ module _ (m new : Machine) (refused : List ℕ) (ending : Ending) (before mid no
   pub ran : (outcome : Outcome) → (outcome ≡ WriteFault → failed ≡ true) → ((outcome ≡ WriteFault → ⊥) → outcome ≡ outcome_of ending)
       → ((s : State) → StandsFor new s → (n : ℕ) × (now ≡ after mid (take n (ended (end_text ending (length s.cells))))))
       → ((outcome ≡ WriteFault → ⊥) → (s : State) → StandsFor new s → now ≡ after mid (ended (end_text ending (length s.cells))))
-      → Ran m refused outcome failed before now new
+      → Ran m outside outcome failed before now new
   unfolding last
-  ran Stopped fault is part whole = subst (λ e. Told m.image refused e before now new) (sym (same_outcome endings.Stopped ending (is (λ f. cc)))) (told (whole (λ f. cc) run.state run.stands))
-  ran Waiting fault is part whole = subst (λ e. Told m.image refused e before now new) (sym (same_outcome endings.Waiting ending (is (λ f. cc)))) (told (whole (λ f. cc) run.state run.stands))
-  ran (MainLeft n) fault is part whole = subst (λ e. Told m.image refused e before now new) (sym (same_outcome (endings.MainLeft n) ending (is (λ f. cc)))) (told (whole (λ f. cc) run.state run.stands))
+  ran Stopped fault is part whole = subst (λ e. Told m.image outside e before now new) (sym (same_outcome endings.Stopped ending (is (λ f. cc)))) (told (whole (λ f. cc) run.state run.stands))
+  ran Waiting fault is part whole = subst (λ e. Told m.image outside e before now new) (sym (same_outcome endings.Waiting ending (is (λ f. cc)))) (told (whole (λ f. cc) run.state run.stands))
+  ran (MainLeft n) fault is part whole = subst (λ e. Told m.image outside e before now new) (sym (same_outcome (endings.MainLeft n) ending (is (λ f. cc)))) (told (whole (λ f. cc) run.state run.stands))
   ran WriteFault fault is part whole =
       let sent = part run.state run.stands in
       (fault refl, cut_last sent.0 sent.1)

@@ -3,8 +3,8 @@ use Rattle.std.proofs.Common.{◌≡◌, ℕ, suc, min, arith, ◌+◌, ◌<◌,
 use Rattle.std.proofs.Math.Seq.{take-append-add, take-suc}
 use Rattle.std.proofs.lemmas.List.{take-append-le, take-append-drop, take_all, take_min}
 use Rattle.std.proofs.lemmas.Grind.{flat_map-append}
-use Rattle.aom_sound.specs.declared.line.Line.{Line}
-use Rattle.aom_lines.specs.Text.{line_text, ended, text_of}
+use Rattle.aom_transcript.specs.declared.line.Line.{Line}
+use Rattle.aom_transcript.specs.Text.{line_text, ended, text_of}
 use Rattle.aom_run.specs.Runs.{after}
 
 pub after_both : (before : Option (List ℕ)) (a b : List ℕ) → after (after before a) b ≡ after before (a ++ b)

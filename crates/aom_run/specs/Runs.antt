@@ -2,12 +2,12 @@
 use Rattle.std.specs.Prelude.{◌≡◌, ℕ, Bool, true, List, ◌++◌, Option, length, take, option_map}
 use Rattle.aom_image.specs.Image.{Image}
 use Rattle.aom_sound.specs.State.{State}
-use Rattle.aom_sound.specs.World.{boot_state, Reaches, Run_of}
-use Rattle.aom_sound.specs.declared.line.Line.{Line}
-use Rattle.aom_sound.specs.declared.line.Ending.{Ending}
-use Rattle.aom_sound.specs.declared.line.Ending.TheVariants as endings
+use Rattle.aom_sound.specs.World.{boot_state, Reaches, Run_of, Outside}
+use Rattle.aom_transcript.specs.declared.line.Line.{Line}
+use Rattle.aom_transcript.specs.declared.line.Ending.{Ending}
+use Rattle.aom_transcript.specs.declared.line.Ending.TheVariants as endings
 use Rattle.aom_lines.specs.Turn.{Turn}
-use Rattle.aom_lines.specs.Text.{text_of, transcript}
+use Rattle.aom_transcript.specs.Text.{text_of, transcript}
 use Rattle.aom_run.specs.declared.outcome.Outcome.{Outcome}
 use Rattle.aom_run.specs.declared.outcome.Outcome.TheVariants.{Stopped, Waiting, MainLeft, WriteFault}
 use Rattle.aom_exec.specs.declared.progress.Progress.{Progress}
@@ -22,43 +22,47 @@ after out text = option_map (λ t. t ++ text) out
 abbrev pub IsFresh : Machine → Type 0
 IsFresh m = StandsFor m (boot_state m.image)
 
+-- a run comes there where those requests are refused, whatever else comes from outside
+abbrev pub ReachesWith : Image → List ℕ → State → List Line → State → Type 0
+ReachesWith p refused s lines u = (outside : Outside) → outside.refused ≡ refused → Reaches p outside s lines u
+
 -- from each state that the machine stands for a run comes to one that it then stands for, and its lines are added to the turn
 abbrev pub Filled : Machine → Progress → Turn → Turn → Machine → Type 0
 Filled old progress told now new =
     (s : State) → StandsFor old s
-    → (lines : List Line) × (u : State) × Reaches old.image told.refused s lines u
+    → (lines : List Line) × (u : State) × ReachesWith old.image told.refused s lines u
     × (now ≡ record told { lines = told.lines ++ lines })
     × (progress ≡ progress_of u)
     × StandsFor new u
 
 -- a run to its end: the machine stands for its last state, and its lines are out
-pub record Ended (p : Image) (refused : List ℕ) (ending : Ending) (before now : Option (List ℕ)) (new : Machine) : Type 0 where
+pub record Ended (p : Image) (outside : Outside) (ending : Ending) (before now : Option (List ℕ)) (new : Machine) : Type 0 where
   pub lines : List Line
   pub state : State
-  pub run : Run_of p refused lines state ending
+  pub run : Run_of p outside lines state ending
   pub stands : StandsFor new state
   pub out : now ≡ after before (text_of lines)
 
 -- and its last line too
-pub record Told (p : Image) (refused : List ℕ) (ending : Ending) (before now : Option (List ℕ)) (new : Machine) : Type 0 where
+pub record Told (p : Image) (outside : Outside) (ending : Ending) (before now : Option (List ℕ)) (new : Machine) : Type 0 where
   pub lines : List Line
   pub state : State
-  pub run : Run_of p refused lines state ending
+  pub run : Run_of p outside lines state ending
   pub stands : StandsFor new state
   pub out : now ≡ after before (transcript lines ending (length state.cells))
 
 -- a run whose sink failed: a beginning of the transcript of a run is out
-pub record CutShort (p : Image) (refused : List ℕ) (before now : Option (List ℕ)) : Type 0 where
+pub record CutShort (p : Image) (outside : Outside) (before now : Option (List ℕ)) : Type 0 where
   pub lines : List Line
   pub state : State
   pub ending : Ending
-  pub run : Run_of p refused lines state ending
+  pub run : Run_of p outside lines state ending
   pub sent : ℕ
   pub out : now ≡ after before (take sent (transcript lines ending (length state.cells)))
 
 -- what an outcome says of the run
-abbrev pub Ran : Machine → List ℕ → Outcome → Bool → Option (List ℕ) → Option (List ℕ) → Machine → Type 0
-Ran old refused Stopped failed before now new = Told old.image refused endings.Stopped before now new
-Ran old refused Waiting failed before now new = Told old.image refused endings.Waiting before now new
-Ran old refused (MainLeft code) failed before now new = Told old.image refused (endings.MainLeft code) before now new
-Ran old refused WriteFault failed before now new = (failed ≡ true) × CutShort old.image refused before now
+abbrev pub Ran : Machine → Outside → Outcome → Bool → Option (List ℕ) → Option (List ℕ) → Machine → Type 0
+Ran old outside Stopped failed before now new = Told old.image outside endings.Stopped before now new
+Ran old outside Waiting failed before now new = Told old.image outside endings.Waiting before now new
+Ran old outside (MainLeft code) failed before now new = Told old.image outside (endings.MainLeft code) before now new
+Ran old outside WriteFault failed before now new = (failed ≡ true) × CutShort old.image outside before now

@@ -2,7 +2,7 @@
 ghost use Rattle.std.specs.Prelude.{◌≡◌};
 ghost use Rattle.aom_run.specs.Outcomes.{outcome_of};
 
-use aom_sound::Ending;
+use aom_transcript::Ending;
 
 #[derive(Clone, Copy, PartialEq, Eq, Debug)]
 pub enum Outcome {

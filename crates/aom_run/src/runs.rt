@@ -1,16 +1,17 @@
 //! A run, from a fresh machine to its end, with its transcript.
 ghost use Rattle.std.specs.Prelude.{ℕ, true, false, ◌≡◌, ◌+◌, ◌<◌, ◌≤◌, [], length, take, IfNone, IfSome};
 ghost use Rattle.aom_sound.specs.State.{State};
+ghost use Rattle.aom_sound.specs.World.{refusing};
 ghost use Rattle.aom_determined.specs.Laws.{IsDetermined};
-ghost use Rattle.aom_lines.specs.Text.{text_of, ended, end_text};
+ghost use Rattle.aom_transcript.specs.Text.{text_of, ended, end_text};
 ghost use Rattle.aom_run.specs.Outcomes.{outcome_of};
 ghost use Rattle.aom_run.specs.Runs.{IsFresh, Ran, Filled, Ended, CutShort, after};
 ghost use Rattle.aom_exec.specs.Steps.{StandsFor, Stands, rank};
 
 use crate::{Outcome, Script, Sink, write_text};
 use aom_exec::{Machine, Progress};
-use aom_lines::{Page, Turn};
-use aom_sound::{Ending, Line};
+use aom_lines::Turn;
+use aom_transcript::{Ending, Line, Page};
 
 /// How many lines the machine writes, at least, before they are sent out. A turn has room for them and for one call more.
 const MANY_LINES: usize = 64;
@@ -30,8 +31,8 @@ pub fn run<W: Sink>(
     requires room { machine.old.image.header.messages + 80 ≤ turn.old.room }
     requires limit { (1 ≤ _limit) × (_limit ≤ 1000000000) }
     ensures image { machine.new.image ≡ machine.old.image }
-    ensures ran { Ran machine.old turn.old.refused result (W.failed out.new) (W.out out.old) (W.out out.new) machine.new }
-    ensures determined { IsDetermined machine.old.image turn.old.refused }
+    ensures ran { Ran machine.old (refusing turn.old.refused) result (W.failed out.new) (W.out out.old) (W.out out.new) machine.new }
+    ensures determined { IsDetermined machine.old.image (refusing turn.old.refused) }
 {
     aom_determined::text_is_determined();
     match run_lines(machine, turn, out) {
@@ -45,8 +46,8 @@ fn run_lines<W: Sink>(machine: &mut Machine, turn: &mut Turn, out: &mut W) -> Op
     requires fresh { IsFresh machine.old }
     requires room { machine.old.image.header.messages + 80 ≤ turn.old.room }
     ensures image { machine.new.image ≡ machine.old.image }
-    ensures none { IfNone result ((W.failed out.new ≡ true) × CutShort machine.old.image turn.old.refused (W.out out.old) (W.out out.new)) }
-    ensures some { IfSome result (λ ending. Ended machine.old.image turn.old.refused ending (W.out out.old) (W.out out.new) machine.new) }
+    ensures none { IfNone result ((W.failed out.new ≡ true) × CutShort machine.old.image (refusing turn.old.refused) (W.out out.old) (W.out out.new)) }
+    ensures some { IfSome result (λ ending. Ended machine.old.image (refusing turn.old.refused) ending (W.out out.old) (W.out out.new) machine.new) }
 {
     let mut page = Page::new();
     loop {

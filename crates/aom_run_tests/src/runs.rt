@@ -6,7 +6,7 @@ use aom_exec::Machine;
 use aom_lines::Turn;
 use aom_pages::Page;
 use aom_run::{Outcome, Sink, read_script, run, write_text};
-use aom_sound::Ending;
+use aom_transcript::Ending;
 use aom_verify::check;
 use std::alloc::Global;
 use std::test::Fail;

@@ -1,8 +1,7 @@
 -- Whether the fillings of the fields that a class declares are empty.
 use Rattle.std.proofs.Common.{◌≡◌, ◌<◌, Bool, true, false, ◌&&◌, List, [], ◌∷◌, length, refl, arith}
 use Rattle.aom_image.specs.declared.method.Thing.{Thing}
-use Rattle.aom_shape.specs.Calls.{all_empty}
-use Rattle.aom_shape.specs.Kinds.{is_empty}
+use Rattle.aom_shape.specs.Kinds.{all_empty, is_empty}
 use Rattle.aom_shape.specs.declared.kind.Filling.{Filling}
 
 and_false : (b : Bool) → (b && false) ≡ false

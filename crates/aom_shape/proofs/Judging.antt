@@ -1,13 +1,6 @@
 -- Needs that are judged one list after the other.
-use Rattle.std.proofs.Common.{◌≡◌, ℕ, true, false, cond, List, [], ◌∷◌, ◌++◌, Result, Ok, Err, refl, sym, ◌∙◌}
-use Rattle.aom_image.specs.Image.{Image}
-use Rattle.aom_image.specs.Views.{gives_of}
-use Rattle.aom_shape.specs.Calls.{rule_result, result_moved, rule_return, entries_done, fields_done, is_destructor}
-use Rattle.aom_shape.specs.Kinds.{none_owns}
-use Rattle.aom_shape.specs.Shape.{Shape}
-use Rattle.aom_shape.specs.Things.{holder_of}
-use Rattle.aom_shape.specs.declared.why.Why.TheVariants.{OwnedAtReturn, CleanupAtReturn, FieldsLeft}
-use Rattle.aom_shape.specs.Needs.{Need, Flow, judged, tested}
+use Rattle.std.proofs.Common.{◌≡◌, true, false, cond, List, [], ◌∷◌, ◌++◌, Ok, Err, refl}
+use Rattle.aom_shape.specs.Needs.{Need, judged, tested}
 use Rattle.aom_shape.specs.declared.why.Why.{Why}
 
 -- a failure of the first list is the failure of both
@@ -44,20 +37,3 @@ all_passed {B = B} (x ∷ xs) b u e =
       | true ↦ λ e. all_passed xs b u e
       | false ↦ λ e. absurd cc
     ] e
-
--- what a return asks once its result is in order
-abbrev pub left_needs : Image → ℕ → ℕ → Shape → ℕ → List Need
-left_needs p m pc sh a =
-    (entries_done p (gives_of p m) sh.entries, CleanupAtReturn)
-    ∷ (none_owns (result_moved p m pc sh (gives_of p m) a).registers, OwnedAtReturn)
-    ∷ (fields_done p (is_destructor p m) (holder_of p m) sh.fields, FieldsLeft)
-    ∷ []
-
-abbrev nowhere : List Flow
-nowhere = []
-
-pub refused : (p : Image) (m pc : ℕ) (sh : Shape) (a : ℕ) (w : Why) → judged (rule_result p m pc sh (gives_of p m) a) nowhere ≡ Err w → Err w ≡ judged (rule_return p m pc sh a) nowhere
-refused p m pc sh a w e = sym (failed_first (rule_result p m pc sh (gives_of p m) a) (left_needs p m pc sh a) nowhere nowhere w e)
-
-pub returned : (p : Image) (m pc : ℕ) (sh : Shape) (a : ℕ) (zs : List Flow) (r : Result (List Flow) Why) → judged (rule_result p m pc sh (gives_of p m) a) nowhere ≡ Ok zs → r ≡ judged (left_needs p m pc sh a) nowhere → r ≡ judged (rule_return p m pc sh a) nowhere
-returned p m pc sh a zs r passed rest = rest ∙ sym (passed_first (rule_result p m pc sh (gives_of p m) a) (left_needs p m pc sh a) nowhere zs nowhere passed)

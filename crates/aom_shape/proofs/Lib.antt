@@ -3,15 +3,8 @@ pub mod Piling
 pub mod Views
 pub mod Deciding
 pub mod Judging
-pub mod Arguments
-pub mod Calling
-pub mod Callees
 pub mod Meeting
 pub mod Starting
 pub mod Emptying
-pub mod Telling
-pub mod Ways
-pub mod Monotone
-pub mod Growing
-pub mod Examples
 pub mod Ordering
+pub mod Moving

@@ -1,5 +1,5 @@
 -- Lists that are read and written at any place agree with slices where the place is within.
-use Rattle.std.proofs.Common.{◌≡◌, ◌≢◌, ℕ, zero, suc, ◌<◌, ◌≤◌, cond, ◌==◌, List, [], ◌∷◌, length, refl, sym, ap, ◌∙◌, arith}
+use Rattle.std.proofs.Common.{◌≡◌, ◌≢◌, ℕ, zero, suc, ◌<◌, ◌≤◌, cond, ◌==◌, List, [], ◌∷◌, length, IsSome, slice_get, refl, sym, ap, ◌∙◌, arith}
 use Rattle.std.proofs.Math.Dec.{eqb-zero-suc, eqb-suc-zero, eqb-suc-suc}
 use Rattle.std.specs.Prelude.{slice_index_or, slice_set}
 use Rattle.aom_shape.specs.Tables.{at, put_at}
@@ -43,3 +43,8 @@ at_put d (x ∷ xs) zero zero v = refl
 at_put d (x ∷ xs) zero (suc j) v = ap (λ b. cond b v (at d xs j)) (sym (eqb-zero-suc j))
 at_put d (x ∷ xs) (suc i) zero v = ap (λ b. cond b v x) (sym (eqb-suc-zero i))
 at_put d (x ∷ xs) (suc i) (suc j) v = at_put d xs i j v ∙ ap (λ b. cond b v (at d xs j)) (sym (eqb-suc-suc i j))
+
+pub there : {A : Type 0} (xs : List A) (k : ℕ) → k < length xs → IsSome (slice_get xs k)
+there [] k h = absurd (omega arith)
+there (x ∷ xs) zero h = refl
+there (x ∷ xs) (suc k) h = there xs k (omega arith)

@@ -1,9 +1,7 @@
 -- Entries that are kept as nodes: what stands stays as nodes are added, and one node more is one entry more.
-use Rattle.std.proofs.Common.{◌≡◌, ℕ, zero, suc, ◌<◌, ◌-◌, ◌&&◌, List, [], ◌∷◌, ◌++◌, length, length-append, slice_get, Option, Some, None, refl, sym, ap, ◌∙◌, arith}
-use Rattle.aom_shape.specs.Calls.{readied_at, readied_entry}
-use Rattle.aom_shape.specs.Cleanup.{without_top}
-use Rattle.aom_shape.specs.Piles.{AllThere, Extends, Stands, entries_of, listed, node_at, nowhere}
-use Rattle.aom_shape.specs.Tables.{at}
+use Rattle.std.proofs.Common.{◌≡◌, ℕ, zero, suc, ◌<◌, ◌-◌, ◌&&◌, List, [], ◌∷◌, ◌++◌, length, length-append, slice_get, Some, refl, ap, ◌∙◌, arith}
+use Rattle.aom_shape.specs.Entries.{readied_at, readied_entry, without_top}
+use Rattle.aom_shape.specs.Piles.{AllThere, Extends, Stands, entries_of, listed, node_at}
 use Rattle.aom_shape.specs.Tests.{same_entries, same_entry}
 use Rattle.aom_shape.specs.declared.kind.Entry.{Entry}
 use Rattle.aom_shape.specs.declared.piles.Node.{Node}

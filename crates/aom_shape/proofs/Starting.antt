@@ -3,6 +3,8 @@ use Rattle.std.proofs.Common.{◌≡◌, ℕ, zero, suc, ◌+◌, ◌<◌, ◌�
 use Rattle.std.proofs.lemmas.List.{length-set}
 use Rattle.std.proofs.lemmas.Bool.Decides.{eqb_tells, leb_tells}
 use Rattle.aom_image.specs.Image.{Image}
+use Rattle.aom_image.specs.WellFormed.{WellFormed, MethodFits}
+use Rattle.aom_classes.proofs.Facts.{all_there}
 use Rattle.aom_image.specs.Views.{method_at, method_role, arguments_of}
 use Rattle.aom_image.specs.declared.method.Argument.{Argument}
 use Rattle.aom_image.specs.declared.method.Method.{Method}
@@ -12,7 +14,7 @@ use Rattle.aom_shape.specs.Order.Weaker.{alike}
 use Rattle.aom_shape.specs.Order.WeakerFilling.{alike_filling}
 use Rattle.aom_shape.specs.Shape.{Shape}
 use Rattle.aom_shape.specs.Tables.{at}
-use Rattle.aom_shape.specs.Typing.{argument_kind, entry_fields, entry_shape}
+use Rattle.aom_shape.specs.Arguments.{argument_kind, entry_fields, entry_shape}
 use Rattle.aom_shape.specs.declared.kind.Filling.{Filling}
 use Rattle.aom_shape.specs.declared.kind.Filling.TheVariants.{Perhaps}
 use Rattle.aom_shape.specs.declared.kind.Kind.{Kind}
@@ -79,3 +81,8 @@ begun p m d kinds fillings e registers fields =
       says_the_same (record { registers = kinds; fields = fillings; entries = [] }) (entry_shape p m) same fields_same refl,
       says_the_same (entry_shape p m) (record { registers = kinds; fields = fillings; entries = [] }) (λ k. sym (same k)) (sym fields_same) refl,
     )
+
+-- a method takes six arguments at most
+pub few_arguments : (p : Image) (m : ℕ) (d : Method) → WellFormed p → method_at p m ≡ Some d → length d.arguments ≤ 6
+unfolding method_at
+few_arguments p m d formed e = (all_there (MethodFits (length p.classes) (length p.methods)) p.methods m d formed.methods.each e).argument_count

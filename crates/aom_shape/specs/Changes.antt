@@ -1,7 +1,6 @@
 -- What a rule answers, apart from the cleanup entries of the state that it is applied to.
 use Rattle.std.specs.Prelude.{ℕ, List, [], ◌∷◌, ◌++◌, Option, Some, None, Result, Ok, Err}
-use Rattle.aom_shape.specs.Calls.{readied_at}
-use Rattle.aom_shape.specs.Cleanup.{without_top}
+use Rattle.aom_shape.specs.Entries.{readied_at, without_top}
 use Rattle.aom_shape.specs.Needs.{Flow as Leads}
 use Rattle.aom_shape.specs.Piles.{entries_of}
 use Rattle.aom_shape.specs.Shape.{Known, Shape}

@@ -132,3 +132,17 @@ none_owns (k ∷ ks) = is_unowning k && none_owns ks
 abbrev pub no_entry : List Entry → Bool
 no_entry [] = true
 no_entry (e ∷ es) = false
+
+-- it owns what may stand for that thing
+abbrev pub is_own_for : Image → Thing → Kind → Bool
+is_own_for p t Unset = false
+is_own_for p t Word = false
+is_own_for p t Null = false
+is_own_for p t (Own x a) = stands_for p x t
+is_own_for p t (Maybe x a) = false
+
+-- the fields that a class declares are null
+abbrev pub all_empty : List Thing → List Filling → Bool
+all_empty [] xs = true
+all_empty (t ∷ ts) [] = false
+all_empty (t ∷ ts) (x ∷ xs) = is_empty x && all_empty ts xs

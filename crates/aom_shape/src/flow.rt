@@ -1,8 +1,7 @@
 //! Where a run may go on.
 ghost use Rattle.std.specs.Prelude.{◌≡◌, List, None, [], ◌∷◌, suc, ◌<◌, ◌^◌};
-ghost use Rattle.aom_shape.specs.Calls.{readied_at};
+ghost use Rattle.aom_shape.specs.Entries.{readied_at, with_entry, without_entry};
 ghost use Rattle.aom_shape.specs.Changes.{known_with, next_shape, told, ways_from};
-ghost use Rattle.aom_shape.specs.Cleanup.{with_entry, without_entry};
 ghost use Rattle.aom_shape.specs.Kinds.{set_register};
 ghost use Rattle.aom_shape.specs.Needs.{judged, only_if, tested, to_next};
 ghost use Rattle.aom_shape.specs.declared.flow.Last.TheVariants.{Same};
@@ -29,9 +28,9 @@ pub struct Change {
 
 /// What is known after an instruction.
 #[derive(Clone, Copy)]
-pub(crate) struct Next {
-    pub(crate) known: Known,
-    pub(crate) change: Change,
+pub struct Next {
+    pub known: Known,
+    pub change: Change,
 }
 
 /// A place where a run may go on, and what is known there of registers and fields.
@@ -61,7 +60,7 @@ impl Change {
 }
 
 impl Next {
-    pub(crate) fn of(shape: &Shape<'_>) -> Next
+    pub fn of(shape: &Shape<'_>) -> Next
         ensures value { next_shape shape.now.entries result ≡ shape.now }
         ensures same { result.change ≡ record { readied = None; last = Same } }
     {
@@ -72,7 +71,7 @@ impl Next {
     }
 
     /// The same, and the object of the cleanup entry of that number is ready.
-    pub(crate) fn with_readied_entry(mut self, number: EntryDepth) -> Next
+    pub fn with_readied_entry(mut self, number: EntryDepth) -> Next
         requires { self.change.last ≡ Same }
         ensures value { (es : List EntryData) → next_shape es result ≡ known_with self.known (readied_at es number) }
         ensures same { result.change.last ≡ Same }
@@ -82,7 +81,7 @@ impl Next {
     }
 
     /// The same with one more cleanup entry.
-    pub(crate) fn with_entry(mut self, entry: Entry) -> Next
+    pub fn with_entry(mut self, entry: Entry) -> Next
         requires { self.change.last ≡ Same }
         ensures { (es : List EntryData) → next_shape es result ≡ with_entry entry (next_shape es self) }
     {
@@ -91,7 +90,7 @@ impl Next {
     }
 
     /// The same without the last cleanup entry, if there is one.
-    pub(crate) fn without_entry(mut self) -> Next
+    pub fn without_entry(mut self) -> Next
         requires { self.change.last ≡ Same }
         ensures { (es : List EntryData) → next_shape es result ≡ without_entry (next_shape es self) }
     {
@@ -100,7 +99,7 @@ impl Next {
     }
 
     /// The same with another kind in the register of that number.
-    pub(crate) fn with_kind(mut self, index: usize, kind: Kind) -> Next
+    pub fn with_kind(mut self, index: usize, kind: Kind) -> Next
         requires { index < 16 }
         ensures value { (es : List EntryData) → next_shape es result ≡ set_register (next_shape es self) index kind }
         ensures same { result.change ≡ self.change }
@@ -112,7 +111,7 @@ impl Next {
 
 impl Flow {
     /// Nowhere.
-    pub(crate) fn none() -> Flow
+    pub fn none() -> Flow
         ensures { (es : List EntryData) → ways_from es result ≡ [] }
     {
         Flow {
@@ -122,7 +121,7 @@ impl Flow {
         }
     }
 
-    pub(crate) fn to(place: usize, shape: &Shape<'_>) -> Flow
+    pub fn to(place: usize, shape: &Shape<'_>) -> Flow
         ensures { ways_from shape.now.entries result ≡ (place, shape.now) ∷ [] }
     {
         let way = Way {
@@ -137,7 +136,7 @@ impl Flow {
     }
 
     /// To the place after that one.
-    pub(crate) fn to_next(place: usize, shape: &Shape<'_>) -> Flow
+    pub fn to_next(place: usize, shape: &Shape<'_>) -> Flow
         requires { suc place < 2 ^ 64 }
         ensures { ways_from shape.now.entries result ≡ to_next place shape.now }
     {
@@ -145,7 +144,7 @@ impl Flow {
     }
 
     /// To the place after that one, with that known.
-    pub(crate) fn on(place: usize, next: Next) -> Flow
+    pub fn on(place: usize, next: Next) -> Flow
         requires { suc place < 2 ^ 64 }
         ensures { (es : List EntryData) → ways_from es result ≡ to_next place (next_shape es next) }
     {
@@ -161,12 +160,7 @@ impl Flow {
     }
 
     /// To two places, with the same cleanup entries.
-    pub(crate) fn to_either<'a>(
-        first: usize,
-        there: &Shape<'a>,
-        second: usize,
-        here: &Shape<'a>,
-    ) -> Flow
+    pub fn to_either<'a>(first: usize, there: &Shape<'a>, second: usize, here: &Shape<'a>) -> Flow
         requires { here.now.entries ≡ there.now.entries }
         ensures { ways_from there.now.entries result ≡ (first, there.now) ∷ (second, here.now) ∷ [] }
     {
@@ -187,14 +181,14 @@ impl Flow {
 }
 
 /// A need that is asked only where the first holds.
-pub(crate) fn only_if(asked: bool, holds: bool) -> bool
+pub fn only_if(asked: bool, holds: bool) -> bool
     ensures { result ≡ only_if asked holds }
 {
     !asked || holds
 }
 
 /// The first need that is not met.
-pub(crate) fn judge_all(needs: &[(bool, Why)]) -> Result<(), Why>
+pub fn judge_all(needs: &[(bool, Why)]) -> Result<(), Why>
     ensures { result ≡ tested needs.now }
 {
     for (holds, why) in needs {
@@ -206,7 +200,7 @@ pub(crate) fn judge_all(needs: &[(bool, Why)]) -> Result<(), Why>
 }
 
 /// The first need that is not met, or the flow.
-pub(crate) fn judge(needs: &[(bool, Why)], flow: Flow) -> Result<Flow, Why>
+pub fn judge(needs: &[(bool, Why)], flow: Flow) -> Result<Flow, Why>
     ensures { (es : List EntryData) → told es result ≡ judged needs.now (ways_from es flow) }
 {
     judge_all(needs)?;

@@ -1,8 +1,7 @@
 //! What is known of one place.
 ghost use Rattle.std.specs.Prelude.{◌≡◌};
 ghost use Rattle.aom_shape.specs.Kinds.{is_empty, is_ready, is_word, is_unowning, is_object_or_null, may_be_destroyed, is_ready_kind, is_fresh_kind, readied, filled, filling_of, entry_kind};
-ghost use Rattle.aom_shape.specs.Calls.{readied_entry};
-ghost use Rattle.aom_shape.specs.Cleanup.{is_object_entry};
+ghost use Rattle.aom_shape.specs.Entries.{readied_entry, is_object_entry};
 ghost use Rattle.aom_shape.specs.Tests.{same_age, is_unset, may_be_null, may_own, may_be_same, no_more, no_more_filling, meet_kind, apart, meet_filling, same_entry};
 
 use crate::things::{is_object, same_thing};
@@ -17,7 +16,7 @@ pub enum Age {
 }
 
 impl Age {
-    pub(crate) fn is_ready(self) -> bool
+    pub fn is_ready(self) -> bool
         ensures { result ≡ is_ready self }
     {
         match self {
@@ -48,7 +47,7 @@ pub enum Kind {
 }
 
 impl Kind {
-    pub(crate) fn is_word(self) -> bool
+    pub fn is_word(self) -> bool
         ensures { result ≡ is_word self }
     {
         match self {
@@ -58,7 +57,7 @@ impl Kind {
     }
 
     /// It owns nothing, and perhaps nothing.
-    pub(crate) fn is_unowning(self) -> bool
+    pub fn is_unowning(self) -> bool
         ensures { result ≡ is_unowning self }
     {
         match self {
@@ -67,7 +66,7 @@ impl Kind {
         }
     }
 
-    pub(crate) fn is_object_or_null(self) -> bool
+    pub fn is_object_or_null(self) -> bool
         ensures { result ≡ is_object_or_null self }
     {
         match self {
@@ -77,7 +76,7 @@ impl Kind {
     }
 
     /// An object or null, and no message.
-    pub(crate) fn may_be_destroyed(self) -> bool
+    pub fn may_be_destroyed(self) -> bool
         ensures { result ≡ may_be_destroyed self }
     {
         match self {
@@ -88,7 +87,7 @@ impl Kind {
     }
 
     /// Ready, where it is an object at all.
-    pub(crate) fn is_ready(self) -> bool
+    pub fn is_ready(self) -> bool
         ensures { result ≡ is_ready_kind self }
     {
         match self {
@@ -98,7 +97,7 @@ impl Kind {
     }
 
     /// It is an object that is fresh.
-    pub(crate) fn is_fresh(self) -> bool
+    pub fn is_fresh(self) -> bool
         ensures { result ≡ is_fresh_kind self }
     {
         match self {
@@ -108,7 +107,7 @@ impl Kind {
     }
 
     /// The same, ready where it is an object at all.
-    pub(crate) fn readied(self) -> Kind
+    pub fn readied(self) -> Kind
         ensures { result ≡ readied self }
     {
         match self {
@@ -119,7 +118,7 @@ impl Kind {
     }
 
     /// What a field holds once this has moved there.
-    pub(crate) fn filling(self) -> Filling
+    pub fn filling(self) -> Filling
         ensures { result ≡ filling_of self }
     {
         match self {
@@ -167,7 +166,7 @@ impl Kind {
     }
 
     /// Whether this says no more than the other.
-    pub(crate) fn says_no_more(&self, other: &Kind) -> bool
+    pub fn says_no_more(&self, other: &Kind) -> bool
         ensures { result ≡ no_more self.now other.now }
     {
         match *other {
@@ -193,7 +192,7 @@ impl Kind {
     }
 
     /// The strongest kind that says no more than either.
-    pub(crate) fn meet(&self, other: &Kind) -> Option<Kind>
+    pub fn meet(&self, other: &Kind) -> Option<Kind>
         ensures { result ≡ meet_kind self.now other.now }
     {
         if self.says_no_more(other) {
@@ -215,7 +214,7 @@ pub enum Filling {
 }
 
 impl Filling {
-    pub(crate) fn is_empty(self) -> bool
+    pub fn is_empty(self) -> bool
         ensures { result ≡ is_empty self }
     {
         match self {
@@ -225,7 +224,7 @@ impl Filling {
     }
 
     /// The kind of what the field holds, by what is declared of it.
-    pub(crate) fn kind(self, declared: Option<Thing>) -> Kind
+    pub fn kind(self, declared: Option<Thing>) -> Kind
         ensures { result ≡ filled declared self }
     {
         match declared {
@@ -239,7 +238,7 @@ impl Filling {
     }
 
     /// Whether this says no more than the other.
-    pub(crate) fn says_no_more(self, other: Filling) -> bool
+    pub fn says_no_more(self, other: Filling) -> bool
         ensures { result ≡ no_more_filling self other }
     {
         match self {
@@ -250,7 +249,7 @@ impl Filling {
     }
 
     /// The strongest filling that says no more than either.
-    pub(crate) fn meet(self, other: Filling) -> Filling
+    pub fn meet(self, other: Filling) -> Filling
         ensures { result ≡ meet_filling self other }
     {
         if self.says_no_more(other) {
@@ -269,7 +268,7 @@ pub enum Entry {
 }
 
 impl Entry {
-    pub(crate) fn is_object(self) -> bool
+    pub fn is_object(self) -> bool
         ensures { result ≡ is_object_entry self }
     {
         match self {
@@ -279,7 +278,7 @@ impl Entry {
     }
 
     /// The kind of what it owns.
-    pub(crate) fn kind(self) -> Kind
+    pub fn kind(self) -> Kind
         ensures { result ≡ entry_kind self }
     {
         match self {
@@ -289,7 +288,7 @@ impl Entry {
     }
 
     /// The same, and its object is ready.
-    pub(crate) fn readied(self) -> Entry
+    pub fn readied(self) -> Entry
         ensures { result ≡ readied_entry self }
     {
         match self {
@@ -298,7 +297,7 @@ impl Entry {
         }
     }
 
-    pub(crate) fn is_same(self, other: Entry) -> bool
+    pub fn is_same(self, other: Entry) -> bool
         ensures { result ≡ same_entry self other }
     {
         match self {

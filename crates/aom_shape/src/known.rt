@@ -1,12 +1,11 @@
 //! What is known of registers and fields.
 ghost use Rattle.std.specs.Prelude.{◌≡◌, ◌≤◌, ◌<◌, ℕ, IsSome, Some, [], length, map, replicate};
 ghost use Rattle.aom_image.specs.Views.{method_at};
-ghost use Rattle.aom_shape.specs.Calls.{all_empty};
+ghost use Rattle.aom_shape.specs.Kinds.{all_empty, none_owns};
 ghost use Rattle.aom_shape.specs.Changes.{known_with};
-ghost use Rattle.aom_shape.specs.Kinds.{none_owns};
 ghost use Rattle.aom_shape.specs.Order.{SaysNoMore};
 ghost use Rattle.aom_shape.specs.Tables.{at, put_at};
-ghost use Rattle.aom_shape.specs.Typing.{argument_kind, entry_fields, entry_shape};
+ghost use Rattle.aom_shape.specs.Arguments.{argument_kind, entry_fields, entry_shape};
 ghost use Rattle.aom_shape.specs.declared.kind.Filling.TheVariants.{Perhaps};
 ghost use Rattle.aom_shape.specs.declared.kind.Kind.TheVariants.{Unset};
 
@@ -18,8 +17,8 @@ use std::marker::Model;
 /// What is known of the registers, and of the fields of a method's object.
 #[derive(Clone, Copy)]
 pub struct Known {
-    pub(crate) registers: [Kind; 16],
-    pub(crate) fields: [Filling; 8],
+    pub registers: [Kind; 16],
+    pub fields: [Filling; 8],
 }
 
 impl Model for Known {
@@ -61,7 +60,7 @@ impl Known {
     }
 
     /// The kind of the register of that number.
-    pub(crate) fn kind_at(&self, index: usize) -> Kind
+    pub fn kind_at(&self, index: usize) -> Kind
         requires { index < 16 }
         ensures { result ≡ at Unset self.now.registers index }
     {
@@ -69,7 +68,7 @@ impl Known {
     }
 
     /// The same with another kind in the register of that number.
-    pub(crate) fn with_kind(mut self, index: usize, kind: Kind) -> Known
+    pub fn with_kind(mut self, index: usize, kind: Kind) -> Known
         requires { index < 16 }
         ensures { result ≡ record self { registers = put_at Unset self.registers index kind } }
     {
@@ -77,14 +76,14 @@ impl Known {
         self
     }
 
-    pub(crate) fn field(&self, number: FieldIndex) -> Filling
+    pub fn field(&self, number: FieldIndex) -> Filling
         ensures { result ≡ at Perhaps self.now.fields number }
     {
         self.fields[number.number() as usize]
     }
 
     /// The same with another filling of a field.
-    pub(crate) fn with_field(mut self, number: FieldIndex, filling: Filling) -> Known
+    pub fn with_field(mut self, number: FieldIndex, filling: Filling) -> Known
         ensures { result ≡ record self { fields = put_at Perhaps self.fields number filling } }
     {
         let index = number.number() as usize;
@@ -93,7 +92,7 @@ impl Known {
     }
 
     /// The same with nothing known of the fields.
-    pub(crate) fn with_fields_unknown(mut self) -> Known
+    pub fn with_fields_unknown(mut self) -> Known
         ensures { result ≡ record self { fields = replicate 8 Perhaps } }
     {
         self.fields = [Filling::Perhaps; 8];
@@ -101,14 +100,14 @@ impl Known {
     }
 
     /// No register owns, and none perhaps owns.
-    pub(crate) fn none_owns(&self) -> bool
+    pub fn none_owns(&self) -> bool
         ensures { result ≡ none_owns self.now.registers }
     {
         none_owns(&self.registers)
     }
 
     /// The fields that a class declares are null.
-    pub(crate) fn are_empty(&self, declared: &[Thing]) -> bool
+    pub fn are_empty(&self, declared: &[Thing]) -> bool
         ensures { result ≡ all_empty declared.now self.now.fields }
     {
         all_empty(declared, &self.fields)

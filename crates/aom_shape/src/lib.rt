@@ -1,32 +1,30 @@
-//! Abstract states of a method, the order between them, and the verifier's rules.
+//! Abstract states of a method, and the order between them.
 //!
-//! `weaker` is the order, and `meet` is the strongest state that says no more than either, or a Why where there is
-//! none. `rule` is the table of rules: the first need that an instruction's state does not meet, or each place where a
-//! run may go on with what is known there. `rules_are_monotone` says that what passes for a state passes for one that
-//! says more. Nothing here takes memory, and nothing knows of the machine, of sweeps or of prices.
+//! A state says what is known of registers, fields and cleanup entries at a place. `weaker` is the order, and `meet` is the strongest state that
+//! says no more than either, or a Why where there is none. `Flow` is what a rule answers: where a run may go on, and what is known there.
+//! What a declared thing may hold (`may_be`, `field_thing`, ..) is told here too, for the rules and for the laws. No call but `Piles::changed`
+//! takes memory, and nothing knows of instructions, of sweeps or of prices.
 #![tactic(auto)]
 
-mod calls;
-mod cleanup;
 mod flow;
 mod kind;
 mod known;
 mod laws;
-mod objects;
 mod order;
 mod piles;
-mod rules;
 mod shape;
 mod things;
 mod why;
-mod words;
 
-pub use flow::{Change, Flow, Last, Way};
+pub use flow::{Change, Flow, Last, Next, Way, judge, judge_all, only_if};
 pub use kind::{Age, Entry, Filling, Kind};
 pub use known::Known;
-pub use laws::{order_is_one, rules_are_monotone};
+pub use laws::order_is_one;
 pub use order::{meet, weaker};
 pub use piles::{Pile, Piles};
-pub use rules::rule;
 pub use shape::{Kept, Shape};
+pub use things::{
+    class_fields, field_thing, is_object, is_own_for, may_be, may_be_declared, stands_for,
+    word_count,
+};
 pub use why::Why;

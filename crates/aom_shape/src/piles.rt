@@ -1,8 +1,7 @@
 //! How the cleanup entries of the states of a method are kept.
 ghost use Rattle.std.specs.Prelude.{◌≡◌, ◌≤◌, ◌<◌, ◌+◌, ◌-◌, ◌↔◌, [], ◌∷◌, IfOk, IsTrue, slice_get};
-ghost use Rattle.aom_shape.specs.Calls.{readied_at};
+ghost use Rattle.aom_shape.specs.Entries.{readied_at, without_top};
 ghost use Rattle.aom_shape.specs.Changes.{changed, readied_perhaps};
-ghost use Rattle.aom_shape.specs.Cleanup.{without_top};
 ghost use Rattle.aom_shape.specs.Piles.{Extends, Stands, entries_of, node_at};
 ghost use Rattle.aom_shape.specs.Tests.{same_entries};
 
@@ -49,7 +48,7 @@ impl Pile {
         Pile { top: 0, height: 0 }
     }
 
-    pub(crate) fn height(self) -> usize
+    pub fn height(self) -> usize
         ensures { result ≡ self.height }
     {
         self.height
@@ -65,7 +64,7 @@ impl Piles {
         }
     }
 
-    pub(crate) fn nodes(&self) -> &[Node]
+    pub fn nodes(&self) -> &[Node]
         ensures { result.now ≡ self.now }
     {
         self.nodes.as_slice()
@@ -178,7 +177,7 @@ fn node_at(nodes: &[Node], index: usize) -> Node
 }
 
 /// The entry of that number, counted from the last.
-pub(crate) fn entry_at(nodes: &[Node], pile: Pile, number: usize) -> Option<Entry>
+pub fn entry_at(nodes: &[Node], pile: Pile, number: usize) -> Option<Entry>
     ensures { result ≡ slice_get (entries_of nodes.now pile) number }
 {
     if pile.height == 0 {
@@ -216,7 +215,7 @@ fn are_same_down(a: &[Node], one: Pile, b: &[Node], other: Pile) -> bool
     true
 }
 
-pub(crate) fn are_same(a: &[Node], one: Pile, b: &[Node], other: Pile) -> bool
+pub fn are_same(a: &[Node], one: Pile, b: &[Node], other: Pile) -> bool
     ensures { IsTrue result ↔ (entries_of a.now one ≡ entries_of b.now other) }
 {
     if one.height != other.height {

@@ -1,8 +1,8 @@
 //! Abstract states.
 ghost use Rattle.std.specs.Prelude.{◌≡◌, ◌≤◌, ◌<◌, ◌+◌, ◌↔◌, IsTrue, length, replicate, slice_get};
-ghost use Rattle.aom_shape.specs.Calls.{all_empty, argument_moved, arguments_moved};
+ghost use Rattle.aom_shape.specs.Kinds.{all_empty, register, field, set_register, set_field, none_owns, no_entry};
+ghost use Rattle.aom_shape.specs.Arguments.{argument_moved, arguments_moved};
 ghost use Rattle.aom_shape.specs.Changes.{kept_shape, known_with};
-ghost use Rattle.aom_shape.specs.Kinds.{register, field, set_register, set_field, none_owns, no_entry};
 ghost use Rattle.aom_shape.specs.declared.kind.Filling.TheVariants.{Perhaps};
 
 use crate::piles::{Node, Pile, Piles, are_same, entry_at};
@@ -21,7 +21,7 @@ pub struct Kept {
 /// pushed.
 #[derive(Drop)]
 pub struct Shape<'a> {
-    pub(crate) known: Known,
+    pub known: Known,
     nodes: &'a [Node],
     pile: Pile,
 }
@@ -60,7 +60,7 @@ impl<'a> Shape<'a> {
         }
     }
 
-    pub(crate) fn same(&self) -> Shape<'a>
+    pub fn same(&self) -> Shape<'a>
         ensures { result ≡ self.now }
     {
         self.with_known(self.known)
@@ -86,7 +86,7 @@ impl<'a> Shape<'a> {
     }
 
     /// The kind of the register of that number.
-    pub(crate) fn kind_at(&self, index: usize) -> Kind
+    pub fn kind_at(&self, index: usize) -> Kind
         requires { index < 16 }
         ensures { result ≡ register self.now index }
     {
@@ -94,7 +94,7 @@ impl<'a> Shape<'a> {
     }
 
     /// The same with another kind in the register of that number.
-    pub(crate) fn with_kind(&self, index: usize, kind: Kind) -> Shape<'a>
+    pub fn with_kind(&self, index: usize, kind: Kind) -> Shape<'a>
         requires { index < 16 }
         ensures { result ≡ set_register self.now index kind }
     {
@@ -120,7 +120,7 @@ impl<'a> Shape<'a> {
     }
 
     /// The same once the arguments have left their registers, from that one on.
-    pub(crate) fn without_arguments(&self, arguments: &[Argument], first: Register) -> Shape<'a>
+    pub fn without_arguments(&self, arguments: &[Argument], first: Register) -> Shape<'a>
         requires { first + length arguments.now ≤ 16 }
         ensures { result ≡ arguments_moved arguments.now first self.now }
     {
@@ -133,7 +133,7 @@ impl<'a> Shape<'a> {
     }
 
     /// The same with nothing known of the fields.
-    pub(crate) fn with_fields_unknown(&self) -> Shape<'a>
+    pub fn with_fields_unknown(&self) -> Shape<'a>
         ensures { result ≡ record self.now { fields = replicate 8 Perhaps } }
     {
         self.with_known(self.known.with_fields_unknown())
@@ -147,14 +147,14 @@ impl<'a> Shape<'a> {
     }
 
     /// No register owns, and none perhaps owns.
-    pub(crate) fn none_owns(&self) -> bool
+    pub fn none_owns(&self) -> bool
         ensures { result ≡ none_owns self.now.registers }
     {
         self.known.none_owns()
     }
 
     /// The fields that a class declares are null.
-    pub(crate) fn are_empty(&self, declared: &[Thing]) -> bool
+    pub fn are_empty(&self, declared: &[Thing]) -> bool
         ensures { result ≡ all_empty declared.now self.now.fields }
     {
         self.known.are_empty(declared)
@@ -175,13 +175,13 @@ impl<'a> Shape<'a> {
     }
 
     /// It has no cleanup entry.
-    pub(crate) fn has_no_entry(&self) -> bool
+    pub fn has_no_entry(&self) -> bool
         ensures { result ≡ no_entry self.now.entries }
     {
         self.height() == 0
     }
 
-    pub(crate) fn has_same_entries(&self, other: &Shape<'_>) -> bool
+    pub fn has_same_entries(&self, other: &Shape<'_>) -> bool
         ensures { IsTrue result ↔ (self.now.entries ≡ other.now.entries) }
     {
         are_same(self.nodes, self.pile, other.nodes, other.pile)

@@ -1,15 +1,14 @@
 //! What a place may own, by what is declared.
 ghost use Rattle.std.specs.Prelude.{◌≡◌, IsSome, Some};
 ghost use Rattle.aom_image.specs.Views.{fields_of, method_at};
-ghost use Rattle.aom_shape.specs.Calls.{is_own_for};
-ghost use Rattle.aom_shape.specs.Kinds.{is_object, may_be, may_be_declared};
+ghost use Rattle.aom_shape.specs.Kinds.{is_own_for, is_object, may_be, may_be_declared};
 ghost use Rattle.aom_shape.specs.Things.{same_thing, stands_for, root_thing, field_thing, holder_by, holder_of, words_of, word_count};
 
 use crate::Kind;
 use aom_classes::Linked;
 use aom_image::{ClassNumber, FieldIndex, MethodNumber, Role, Thing};
 
-pub(crate) fn is_object(thing: Thing) -> bool
+pub fn is_object(thing: Thing) -> bool
     ensures { result ≡ is_object thing }
 {
     match thing {
@@ -18,7 +17,7 @@ pub(crate) fn is_object(thing: Thing) -> bool
     }
 }
 
-pub(crate) fn same_thing(one: Thing, other: Thing) -> bool
+pub fn same_thing(one: Thing, other: Thing) -> bool
     ensures { result ≡ same_thing one other }
 {
     match one {
@@ -31,14 +30,14 @@ pub(crate) fn same_thing(one: Thing, other: Thing) -> bool
 }
 
 /// A thing of the first kind may stand where one of the second is declared.
-pub(crate) fn stands_for(_linked: &Linked, one: Thing, other: Thing) -> bool
+pub fn stands_for(_linked: &Linked, one: Thing, other: Thing) -> bool
     ensures { result ≡ stands_for _linked.now one other }
 {
     same_thing(one, other)
 }
 
 /// It owns what may stand for that thing.
-pub(crate) fn is_own_for(linked: &Linked, thing: Thing, kind: Kind) -> bool
+pub fn is_own_for(linked: &Linked, thing: Thing, kind: Kind) -> bool
     ensures { result ≡ is_own_for linked.now thing kind }
 {
     match kind {
@@ -48,7 +47,7 @@ pub(crate) fn is_own_for(linked: &Linked, thing: Thing, kind: Kind) -> bool
 }
 
 /// It is what may stand for that thing, or null.
-pub(crate) fn may_be(linked: &Linked, thing: Thing, kind: Kind) -> bool
+pub fn may_be(linked: &Linked, thing: Thing, kind: Kind) -> bool
     ensures { result ≡ may_be linked.now thing kind }
 {
     match kind {
@@ -58,7 +57,7 @@ pub(crate) fn may_be(linked: &Linked, thing: Thing, kind: Kind) -> bool
     }
 }
 
-pub(crate) fn may_be_declared(linked: &Linked, declared: Option<Thing>, kind: Kind) -> bool
+pub fn may_be_declared(linked: &Linked, declared: Option<Thing>, kind: Kind) -> bool
     ensures { result ≡ may_be_declared linked.now declared kind }
 {
     match declared {
@@ -68,7 +67,7 @@ pub(crate) fn may_be_declared(linked: &Linked, declared: Option<Thing>, kind: Ki
 }
 
 /// What the owning fields of a class may own.
-pub(crate) fn class_fields<'a>(linked: &'a Linked, class: ClassNumber) -> &'a [Thing]
+pub fn class_fields<'a>(linked: &'a Linked, class: ClassNumber) -> &'a [Thing]
     ensures { result.now ≡ fields_of linked.now class }
 {
     match linked
@@ -115,7 +114,7 @@ fn thing_by(
 
 /// What is declared of a field that the method works on.
 #[tactic(auto, using(crate::proofs::Views::holder_there))]
-pub(crate) fn field_thing(linked: &Linked, method: MethodNumber, field: FieldIndex) -> Option<Thing>
+pub fn field_thing(linked: &Linked, method: MethodNumber, field: FieldIndex) -> Option<Thing>
     requires { IsSome (method_at linked.now method) }
     ensures { result ≡ field_thing linked.now (holder_of linked.now method) field }
 {
@@ -153,7 +152,7 @@ fn words_by(linked: &Linked, role: Role, class: Option<ClassNumber>) -> u8
 
 /// How many words the method works on.
 #[tactic(auto, using(crate::proofs::Views::holder_there))]
-pub(crate) fn word_count(linked: &Linked, method: MethodNumber) -> u8
+pub fn word_count(linked: &Linked, method: MethodNumber) -> u8
     requires { IsSome (method_at linked.now method) }
     ensures { result ≡ word_count linked.now (holder_of linked.now method) }
 {

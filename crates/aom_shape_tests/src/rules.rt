@@ -4,7 +4,8 @@ ghost use Rattle.std.specs.Prelude.{◌≡◌, ◌<◌, [], length};
 use aom_asm::assemble;
 use aom_classes::{Linked, link};
 use aom_image::{ClassNumber, Register, Thing};
-use aom_shape::{Age, Flow, Kept, Kind, Known, Pile, Piles, Shape, Why, rule};
+use aom_rules::rule;
+use aom_shape::{Age, Flow, Kept, Kind, Known, Pile, Piles, Shape, Why};
 use std::alloc::Global;
 use std::test::Fail;
 

@@ -4,10 +4,10 @@ use Rattle.aom_image.specs.Image.{Image}
 use Rattle.aom_image.specs.Views.{instr_at}
 use Rattle.aom_image.specs.declared.method.Gives.{Gives}
 use Rattle.aom_image.specs.declared.method.Gives.TheVariants.{Left, Maybe as A_maybe, Nothing, Own as An_own, Word as A_word}
-use Rattle.aom_shape.specs.Calls.{caught}
+use Rattle.aom_rules.specs.Calls.{caught}
 use Rattle.aom_shape.specs.Kinds.{is_unowning, register, set_register}
 use Rattle.aom_shape.specs.Shape.{Shape}
-use Rattle.aom_shape.specs.Typing.{Leads, Typing}
+use Rattle.aom_rules.specs.Typing.{Leads, Typing}
 use Rattle.aom_shape.specs.declared.kind.Age.TheVariants.{Ready}
 use Rattle.aom_shape.specs.declared.kind.Kind.TheVariants.{Maybe, Word}
 use Rattle.aom_sound.proofs.Straight.{Fitted, next_unowning, settle, stepped, write}

@@ -1,7 +1,7 @@
 -- Each case comes out as its table says: by computation.
 use Rattle.std.proofs.Common.{refl}
 use Rattle.aom_image.specs.Views.{arguments_in, class_at, class_in, fields_in, gives_in, instr_in, method_at, role_in}
-use Rattle.aom_image.specs.declared.instr.Instr.TheVariants.{Call, Trap}
+use Rattle.aom_instructions.specs.declared.instr.Instr.TheVariants.{Call, Trap}
 use Rattle.aom_shape.specs.Things.{words_in}
 use Rattle.aom_sound.specs.Cases.Calls.{CallBites, CallsBite}
 use Rattle.aom_sound.specs.Cases.Cleanup.{CleanupBites}

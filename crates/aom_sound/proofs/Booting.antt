@@ -12,7 +12,8 @@ use Rattle.aom_shape.specs.Order.{SaysNoMore, Weaker, WeakerFilling, alike_filli
 use Rattle.aom_shape.specs.Shape.{Shape}
 use Rattle.aom_shape.specs.Tables.{at}
 use Rattle.aom_shape.specs.Things.{Program, field_thing, holder_by}
-use Rattle.aom_shape.specs.Typing.{IsTyped, Typing, entry_fields, entry_shape, shape_at}
+use Rattle.aom_rules.specs.Typing.{IsTyped, Typing, shape_at}
+use Rattle.aom_shape.specs.Arguments.{entry_fields, entry_shape}
 use Rattle.aom_shape.specs.declared.kind.Filling.{Filling}
 use Rattle.aom_shape.specs.declared.kind.Filling.TheVariants.{Full, Perhaps}
 use Rattle.aom_shape.specs.declared.kind.Kind.TheVariants.{Null, Unset}

@@ -9,13 +9,14 @@ use Rattle.aom_image.specs.declared.method.Argument.TheVariants.{Own as Takes_ow
 use Rattle.aom_image.specs.declared.method.Role.{Role}
 use Rattle.aom_image.specs.declared.method.Role.TheVariants.{Construct, Do, Main}
 use Rattle.aom_image.specs.declared.method.Thing.{Thing}
-use Rattle.aom_shape.specs.Calls.{arguments_moved, is_among, is_own_for}
-use Rattle.aom_shape.specs.Kinds.{filled, is_ready_kind, is_unowning, none_owns, register, set_register}
+use Rattle.aom_shape.specs.Arguments.{arguments_moved}
+use Rattle.aom_rules.specs.Calls.{is_among}
+use Rattle.aom_shape.specs.Kinds.{is_own_for, filled, is_ready_kind, is_unowning, none_owns, register, set_register}
 use Rattle.aom_shape.specs.Needs.{only_if}
 use Rattle.aom_shape.specs.Shape.{Shape}
 use Rattle.aom_shape.specs.Tables.{at}
 use Rattle.aom_shape.specs.Things.{Member, Nobody, holder_by, stands_for}
-use Rattle.aom_shape.specs.Typing.{Typing}
+use Rattle.aom_rules.specs.Typing.{Typing}
 use Rattle.aom_shape.specs.declared.kind.Age.{Age}
 use Rattle.aom_shape.specs.declared.kind.Filling.{Filling}
 use Rattle.aom_shape.specs.declared.kind.Filling.TheVariants.{Empty, Full, Perhaps}

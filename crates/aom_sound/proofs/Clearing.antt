@@ -5,16 +5,16 @@ use Rattle.std.proofs.lemmas.Bool.{true≢false}
 use Rattle.std.specs.Prelude.{not}
 use Rattle.aom_image.specs.Image.{Image}
 use Rattle.aom_image.specs.Views.{arguments_of, instr_at, is_quiet, method_class, method_role}
-use Rattle.aom_image.specs.declared.instr.Instr.{Instr}
-use Rattle.aom_image.specs.declared.instr.Instr.TheVariants.{Call}
-use Rattle.aom_image.specs.declared.instr.Target.{Target}
+use Rattle.aom_instructions.specs.declared.instr.Instr.{Instr}
+use Rattle.aom_instructions.specs.declared.instr.Instr.TheVariants.{Call}
+use Rattle.aom_instructions.specs.declared.instr.Target.{Target}
 use Rattle.aom_image.specs.declared.method.Gives.{Gives}
-use Rattle.aom_shape.specs.Calls.{each_argument, is_construct, rule_target}
+use Rattle.aom_rules.specs.Calls.{each_argument, is_construct, rule_target}
 use Rattle.aom_shape.specs.Kinds.{no_entry}
 use Rattle.aom_shape.specs.Needs.{AllTrue}
-use Rattle.aom_shape.specs.Rules.{rule_needs}
+use Rattle.aom_rules.specs.Rules.{rule_needs}
 use Rattle.aom_shape.specs.Shape.{Shape}
-use Rattle.aom_shape.specs.Typing.{IsTyped, Typing, shape_at}
+use Rattle.aom_rules.specs.Typing.{IsTyped, Typing, shape_at}
 use Rattle.aom_shape.specs.declared.kind.Entry.{Entry as Pushed_entry}
 use Rattle.aom_sound.proofs.Callees.{only_then}
 use Rattle.aom_sound.proofs.Claimed.{length_objects}

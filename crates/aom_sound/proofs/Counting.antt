@@ -8,8 +8,8 @@ use Rattle.aom_sound.specs.Effects.{Course, Goes_its_way, Stops, coursed}
 use Rattle.aom_sound.specs.Moves.{counted, dispatch_ends, is_counted, main_ends, step}
 use Rattle.aom_sound.specs.Places.{Elsewhere, Object, Root, held}
 use Rattle.aom_sound.specs.State.{Choice, Destroy, Dispatch, Goes, Main_left, Of_main, Of_root, Rest, Run, State, Task, raised}
-use Rattle.aom_sound.specs.World.{Reaches, begins, boot_state, moves, waits}
-use Rattle.aom_sound.specs.declared.line.Line.{Line}
+use Rattle.aom_sound.specs.World.{Reaches, begins, boot_state, moves, waits, Outside}
+use Rattle.aom_transcript.specs.declared.line.Line.{Line}
 
 course_steps : (x : Course) (r : Rest) → (coursed x r).steps ≡ r.steps
 course_steps Goes_its_way r = refl
@@ -49,17 +49,17 @@ at_most_one _ = omega arith
 moves_count : (p : Image) (c : Choice) (s u : State) → s.rest.steps ≡ in_range s.rest.steps → step p c s ≡ Goes u → u.rest.steps ≡ in_range (s.rest.steps + steps_of s.tasks)
 moves_count p c s u within e = move_steps p c s u e ∙ counted_steps s.tasks s.rest.steps within
 
-runs_count : (p : Image) (refused : List ℕ) {lines : List Line} {s : State} (reached : Reaches p refused (boot_state p) lines s) → s.rest.steps ≡ in_range (taken reached)
-runs_count p refused begins = refl
-runs_count p refused (moves {s = s} {u = u} c reached busy opened goes) =
-    let so = runs_count p refused reached in
+runs_count : (p : Image) (outside : Outside) {lines : List Line} {s : State} (reached : Reaches p outside (boot_state p) lines s) → s.rest.steps ≡ in_range (taken reached)
+runs_count p outside begins = refl
+runs_count p outside (moves {s = s} {u = u} c reached busy opened goes) =
+    let so = runs_count p outside reached in
     let within : s.rest.steps ≡ in_range s.rest.steps = omega (arith, so) in
     moves_count p c s u within goes ∙ ap (λ n. in_range (n + steps_of s.tasks)) so ∙ one_more (taken reached) (steps_of s.tasks) (at_most_one s.tasks)
-runs_count p refused (waits reached between) = runs_count p refused reached
+runs_count p outside (waits reached between) = runs_count p outside reached
 
 pub steps_are_counted : StepsAreCounted
 steps_are_counted = record {
   boot = λ p. refl;
   moves = moves_count;
-  runs = λ p refused lines s reached. runs_count p refused reached;
+  runs = λ p outside lines s reached. runs_count p outside reached;
 }

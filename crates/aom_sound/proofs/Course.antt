@@ -1,8 +1,8 @@
 -- The course of a leave on a run: which entries it has dealt with, and that its code arrives.
-use Rattle.std.proofs.Common.{List, [], ap, append-nil, append_assoc, inl, inr, length, refl, subst, sym, ℕ, ℤ, ◌∙◌, ◌∷◌, ◌≡◌, ◌≢◌}
+use Rattle.std.proofs.Common.{List, [], ap, append-nil, append_assoc, inl, inr, length, refl, subst, sym, ℤ, ◌∙◌, ◌∷◌, ◌≡◌, ◌≢◌}
 use Rattle.std.specs.Prelude.{◌++◌, ◌⊎◌}
 use Rattle.aom_image.specs.Image.{Image}
-use Rattle.aom_shape.specs.Typing.{IsTyped, Typing}
+use Rattle.aom_rules.specs.Typing.{IsTyped, Typing}
 use Rattle.aom_sound.proofs.Booting.{boot_keeps}
 use Rattle.aom_sound.proofs.Caught.{arrives as arrives_so, begins as begins_so, deals as deals_so, ends as ends_so, splits}
 use Rattle.aom_sound.proofs.Clearing.{works_kept}
@@ -12,8 +12,8 @@ use Rattle.aom_sound.specs.Leaves.{HasArrived, IsLeaving, IsOver, LeavesArrive, 
 use Rattle.aom_sound.specs.Moves.{IsOpen, step}
 use Rattle.aom_sound.specs.State.{A_mark, Choice, Destroy, Goes, Item, Run, State, Task, Unwind}
 use Rattle.aom_sound.specs.WellTyped.{Keeps, WellTyped}
-use Rattle.aom_sound.specs.World.{IsBetween, IsBusy, Reaches, begins, boot_state, moves, waiting, waits}
-use Rattle.aom_sound.specs.declared.line.Line.{Line}
+use Rattle.aom_sound.specs.World.{IsBetween, IsBusy, Reaches, begins, boot_state, moves, waiting, waits, Outside}
+use Rattle.aom_transcript.specs.declared.line.Line.{Line}
 
 pub leaves_move : LeavesMove
 leaves_move = record {
@@ -24,8 +24,8 @@ leaves_move = record {
   ends = ends_so;
 }
 
-module _ (p : Image) (t : Typing) (refused : List ℕ) (wired : IsWired p) (typed : IsTyped p t) where
-  pub well_on : (from : State) → WellTyped p t from → (lines : List Line) (s : State) → Reaches p refused from lines s → WellTyped p t s
+module _ (p : Image) (t : Typing) (outside : Outside) (wired : IsWired p) (typed : IsTyped p t) where
+  pub well_on : (from : State) → WellTyped p t from → (lines : List Line) (s : State) → Reaches p outside from lines s → WellTyped p t s
   well_on from w _ _ begins = w
   well_on from w _ _ (moves {lines = lines} {s = s} {u = u} c before busy choice e) = subst (λ o. Keeps p t o) e (step_keeps p t wired typed c s (well_on from w lines s before) choice.name)
   well_on from w _ _ (waits {lines = lines} {s = s} before between) =
@@ -34,7 +34,7 @@ module _ (p : Image) (t : Typing) (refused : List ℕ) (wired : IsWired p) (type
 
   module _ (from : State) (well : WellTyped p t from) (code : ℤ) (below : List Task) (entries items : List Item) where
     abbrev Course : State → Type 0
-    Course s = StillLeaves p code below entries items from s ⊎ HasArrived p refused code below entries items from s
+    Course s = StillLeaves p code below entries items from s ⊎ HasArrived p outside code below entries items from s
 
     -- something is over the leave
     goes_on : (s u : State) (c : Choice) → WellTyped p t s → StillLeaves p code below entries items from s → s.tasks ≢ Unwind code ∷ below → step p c s ≡ Goes u → Course u
@@ -73,7 +73,7 @@ module _ (p : Image) (t : Typing) (refused : List ℕ) (wired : IsWired p) (type
         go (Unwind x ∷ ts) at o = turns s u c w h.dealt h.rest h.all h.course h.leaving (at ∙ ap (λ y. Unwind y ∷ ts) o.0 ∙ ap (λ l. Unwind code ∷ l) o.1) e
         go _ at o = absurd o
 
-    moved_on : (lines : List Line) (s u : State) (c : Choice) → WellTyped p t s → IsBusy s → IsOpen p refused c s → step p c s ≡ Goes u → Course s → Course u
+    moved_on : (lines : List Line) (s u : State) (c : Choice) → WellTyped p t s → IsBusy s → IsOpen p outside.refused c s → step p c s ≡ Goes u → Course s → Course u
     moved_on lines s u c w busy choice e (inl h) = still s u c w h e
     moved_on lines s u c w busy choice e (inr h) = inr (record { last = h.last; course = h.course; choice = h.choice; after = h.after; move = h.move; arrives = h.arrives; lines = _; reaches = moves c h.reaches busy choice e })
 
@@ -81,13 +81,13 @@ module _ (p : Image) (t : Typing) (refused : List ℕ) (wired : IsWired p) (type
     waited s between (inl h) = absurd (subst (λ ts. IsOver p (length s.items) code below ts) between.idle h.leaving.over)
     waited s between (inr h) = inr (record { last = h.last; course = h.course; choice = h.choice; after = h.after; move = h.move; arrives = h.arrives; lines = h.lines; reaches = waits h.reaches between })
 
-    course_of : IsLeaving p code below entries items from → (lines : List Line) (s : State) → Reaches p refused from lines s → Course s
+    course_of : IsLeaving p code below entries items from → (lines : List Line) (s : State) → Reaches p outside from lines s → Course s
     course_of l _ _ begins = inl (record { dealt = []; rest = entries; all = refl; course = leaves; leaving = l })
     course_of l _ _ (moves {lines = lines} {s = s} {u = u} c before busy choice e) = moved_on lines s u c (well_on from well lines s before) busy choice e (course_of l lines s before)
     course_of l _ _ (waits {lines = lines} {s = s} before between) = waited s between (course_of l lines s before)
 
 pub leaves_arrive : LeavesArrive
-leaves_arrive p t refused wired typed before s reached code below at =
-    let w = well_on p t refused wired typed (boot_state p) (boot_keeps p t wired typed) before s reached in
+leaves_arrive p t outside wired typed before s reached code below at =
+    let w = well_on p t outside wired typed (boot_state p) (boot_keeps p t wired typed) before s reached in
     let found = splits p t s w code below at in
-    (found.0, found.1, found.2.stack, found.2.plain, λ lines u r. course_of p t refused wired typed s w code below found.0 found.1 found.2 lines u r)
+    (found.0, found.1, found.2.stack, found.2.plain, λ lines u r. course_of p t outside wired typed s w code below found.0 found.1 found.2 lines u r)

@@ -11,7 +11,8 @@ use Rattle.aom_shape.specs.Order.{SaysNoMore}
 use Rattle.aom_shape.specs.Shape.{Shape}
 use Rattle.aom_shape.specs.Tables.{at}
 use Rattle.aom_shape.specs.Things.{Nobody, field_thing, holder_by, holder_of}
-use Rattle.aom_shape.specs.Typing.{IsTyped, Typing, argument_kind, entry_shape}
+use Rattle.aom_rules.specs.Typing.{IsTyped, Typing}
+use Rattle.aom_shape.specs.Arguments.{argument_kind, entry_shape}
 use Rattle.aom_shape.specs.declared.kind.Age.{Age}
 use Rattle.aom_shape.specs.declared.kind.Entry.{Entry as Pushed}
 use Rattle.aom_shape.specs.declared.kind.Entry.TheVariants.{Object as Pushed_object, Operation as Pushed_operation}

@@ -4,18 +4,19 @@ use Rattle.std.proofs.lemmas.Bool.{cases_Bool, eq-eqb, eqb-true, ne_eqb, true≢
 use Rattle.std.specs.Prelude.{IsSome, is_none, map, replicate}
 use Rattle.aom_image.specs.Image.{Image}
 use Rattle.aom_image.specs.Views.{arguments_of, gives_of, is_quiet, leaves, method_at, method_class, method_role}
-use Rattle.aom_image.specs.declared.instr.Instr.TheVariants.{Delete}
+use Rattle.aom_instructions.specs.declared.instr.Instr.TheVariants.{Delete}
 use Rattle.aom_image.specs.declared.method.Gives.TheVariants.{Nothing}
 use Rattle.aom_image.specs.declared.method.Role.TheVariants.{Destruct}
 use Rattle.aom_image.specs.declared.method.Thing.{Thing}
 use Rattle.aom_image.specs.declared.method.Thing.TheVariants.{Message, Object as An_object_of}
-use Rattle.aom_shape.specs.Calls.{is_destruct}
+use Rattle.aom_rules.specs.Calls.{is_destruct}
 use Rattle.aom_shape.specs.Kinds.{field, filled, is_object, is_object_or_null, is_ready_kind, may_be_destroyed, register, set_register}
 use Rattle.aom_shape.specs.Order.{SaysNoMore, Weaker, WeakerFilling, alike, alike_filling}
 use Rattle.aom_shape.specs.Shape.{Shape}
 use Rattle.aom_shape.specs.Tables.{at}
 use Rattle.aom_shape.specs.Things.{field_thing, holder_by, holder_of}
-use Rattle.aom_shape.specs.Typing.{IsTyped, Typing, argument_kind, entry_fields, entry_shape}
+use Rattle.aom_rules.specs.Typing.{IsTyped, Typing}
+use Rattle.aom_shape.specs.Arguments.{argument_kind, entry_fields, entry_shape}
 use Rattle.aom_shape.specs.declared.kind.Age.TheVariants.{Ready}
 use Rattle.aom_shape.specs.declared.kind.Filling.{Filling}
 use Rattle.aom_shape.specs.declared.kind.Filling.TheVariants.{Perhaps}

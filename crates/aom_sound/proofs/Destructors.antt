@@ -4,16 +4,16 @@ use Rattle.std.proofs.lemmas.Bool.{and_parts, eqb-true}
 use Rattle.std.specs.Prelude.{slice_get}
 use Rattle.aom_image.specs.Image.{Image}
 use Rattle.aom_image.specs.Views.{fields_of}
-use Rattle.aom_image.specs.declared.instr.Instr.TheVariants.{Return}
+use Rattle.aom_instructions.specs.declared.instr.Instr.TheVariants.{Return}
 use Rattle.aom_image.specs.declared.method.Thing.{Thing}
 use Rattle.aom_image.specs.declared.method.Thing.TheVariants.{Message, Object as An_object_of}
-use Rattle.aom_shape.specs.Calls.{all_empty, fields_done, result_moved}
-use Rattle.aom_shape.specs.Kinds.{field, filled, is_empty, no_entry, none_owns, register}
+use Rattle.aom_shape.specs.Kinds.{all_empty, field, filled, is_empty, no_entry, none_owns, register}
+use Rattle.aom_rules.specs.Calls.{fields_done, result_moved}
 use Rattle.aom_shape.specs.Needs.{AllTrue}
 use Rattle.aom_shape.specs.Shape.{Shape}
 use Rattle.aom_shape.specs.Tables.{at}
 use Rattle.aom_shape.specs.Things.{field_thing, holder_of}
-use Rattle.aom_shape.specs.Typing.{Typing}
+use Rattle.aom_rules.specs.Typing.{Typing}
 use Rattle.aom_shape.specs.declared.kind.Filling.{Filling}
 use Rattle.aom_shape.specs.declared.kind.Filling.TheVariants.{Empty, Perhaps}
 use Rattle.aom_shape.specs.declared.kind.Kind.TheVariants.{Null}

@@ -4,15 +4,16 @@ use Rattle.std.proofs.lemmas.Bool.{true≢false}
 use Rattle.std.specs.Prelude.{is_none, is_some, not}
 use Rattle.aom_image.specs.Image.{Image}
 use Rattle.aom_image.specs.Views.{instr_at}
-use Rattle.aom_image.specs.declared.instr.Instr.TheVariants.{NewOrLeave, Pop, PopDelete, PopOperation, Push, PushOperation}
+use Rattle.aom_instructions.specs.declared.instr.Instr.TheVariants.{NewOrLeave, Pop, PopDelete, PopOperation, Push, PushOperation}
 use Rattle.aom_image.specs.declared.method.Thing.TheVariants.{Object as An_object_of}
-use Rattle.aom_shape.specs.Calls.{brought}
-use Rattle.aom_shape.specs.Cleanup.{entry_of, owns_object, top_kind, tops_object as tops_object_entry, tops_operation as tops_operation_entry, with_entry, without_top}
+use Rattle.aom_rules.specs.Calls.{brought}
+use Rattle.aom_rules.specs.Cleanup.{entry_of, owns_object, top_kind, tops_object as tops_object_entry, tops_operation as tops_operation_entry}
+use Rattle.aom_shape.specs.Entries.{with_entry, without_top}
 use Rattle.aom_shape.specs.Kinds.{entry_kind, is_object, is_object_or_null, no_entry, register, set_register}
 use Rattle.aom_shape.specs.Needs.{AllTrue}
-use Rattle.aom_shape.specs.Objects.{new_age}
+use Rattle.aom_rules.specs.Objects.{new_age}
 use Rattle.aom_shape.specs.Shape.{Shape}
-use Rattle.aom_shape.specs.Typing.{IsTyped, Leads, Typing}
+use Rattle.aom_rules.specs.Typing.{IsTyped, Leads, Typing}
 use Rattle.aom_shape.specs.declared.kind.Entry.{Entry as Pushed}
 use Rattle.aom_shape.specs.declared.kind.Entry.TheVariants.{Object as Pushed_object, Operation as Pushed_operation}
 use Rattle.aom_shape.specs.declared.kind.Kind.{Kind}

@@ -4,19 +4,19 @@ use Rattle.std.proofs.lemmas.Bool.{and_from, and_parts, cases_Bool, eq-eqb, eqb-
 use Rattle.std.specs.Prelude.{is_some, not, ◌++◌}
 use Rattle.aom_image.specs.Image.{Image}
 use Rattle.aom_image.specs.Views.{gives_of}
-use Rattle.aom_image.specs.declared.instr.Instr.TheVariants.{Return}
+use Rattle.aom_instructions.specs.declared.instr.Instr.TheVariants.{Return}
 use Rattle.aom_image.specs.declared.method.Gives.{Gives}
 use Rattle.aom_image.specs.declared.method.Gives.TheVariants.{Left, Maybe as A_maybe, Nothing, Own as An_own}
 use Rattle.aom_image.specs.declared.method.Thing.{Thing}
 use Rattle.aom_image.specs.declared.method.Thing.TheVariants.{Object as An_object_of}
-use Rattle.aom_shape.specs.Calls.{entries_done, fields_done, is_destructor, is_own_for, leaves_one, result_moved, rule_result}
-use Rattle.aom_shape.specs.Kinds.{field, filled, is_ready_kind, is_unowning, no_entry, none_owns, register, set_register}
+use Rattle.aom_rules.specs.Calls.{entries_done, fields_done, is_destructor, leaves_one, result_moved, rule_result}
+use Rattle.aom_shape.specs.Kinds.{is_own_for, field, filled, is_ready_kind, is_unowning, no_entry, none_owns, register, set_register}
 use Rattle.aom_shape.specs.Needs.{AllTrue}
-use Rattle.aom_shape.specs.Rules.{rule_needs}
+use Rattle.aom_rules.specs.Rules.{rule_needs}
 use Rattle.aom_shape.specs.Shape.{Shape}
 use Rattle.aom_shape.specs.Tables.{at}
 use Rattle.aom_shape.specs.Things.{Program, field_thing, holder_of}
-use Rattle.aom_shape.specs.Typing.{Typing}
+use Rattle.aom_rules.specs.Typing.{Typing}
 use Rattle.aom_shape.specs.declared.kind.Age.{Age}
 use Rattle.aom_shape.specs.declared.kind.Age.TheVariants.{Fresh, Ready}
 use Rattle.aom_shape.specs.declared.kind.Entry.{Entry as Pushed}

@@ -4,13 +4,13 @@ use Rattle.std.proofs.lemmas.Bool.{leb-true, true≢false}
 use Rattle.std.specs.Ordering.{int_eq}
 use Rattle.std.specs.Prelude.{int_lt, is_some}
 use Rattle.aom_image.specs.Image.{Image}
-use Rattle.aom_image.specs.Operands.{IsRegister}
+use Rattle.aom_instructions.specs.Operands.{IsRegister}
 use Rattle.aom_image.specs.Views.{arguments_of, method_class}
-use Rattle.aom_image.specs.WellFormed.{InstrFits}
-use Rattle.aom_image.specs.declared.instr.Instr.{Instr}
-use Rattle.aom_image.specs.declared.instr.Instr.TheVariants.{Call, Delete, Jump, JumpEmpty, JumpEqual, JumpLess, JumpNull, Leave, LeaveIf, Loop, Move, New, NewOrLeave, Next, Pop, PopDelete, PopOperation, Push, PushOperation, Return, Take, Trap}
-use Rattle.aom_image.specs.declared.instr.Target.{Target}
-use Rattle.aom_image.specs.declared.limits.Limits.{Limits}
+use Rattle.aom_instructions.specs.Fits.{InstrFits}
+use Rattle.aom_instructions.specs.declared.instr.Instr.{Instr}
+use Rattle.aom_instructions.specs.declared.instr.Instr.TheVariants.{Call, Delete, Jump, JumpEmpty, JumpEqual, JumpLess, JumpNull, Leave, LeaveIf, Loop, Move, New, NewOrLeave, Next, Pop, PopDelete, PopOperation, Push, PushOperation, Return, Take, Trap}
+use Rattle.aom_instructions.specs.declared.instr.Target.{Target}
+use Rattle.aom_instructions.specs.declared.limits.Limits.{Limits}
 use Rattle.aom_classes.specs.Jumps.{jump_of}
 use Rattle.aom_classes.specs.Loops.{loop_in}
 use Rattle.aom_shape.specs.Needs.{AllTrue}

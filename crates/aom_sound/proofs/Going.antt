@@ -3,7 +3,7 @@ use Rattle.std.proofs.Common.{Bool, List, None, Option, Some, [], ap, arith, con
 use Rattle.std.proofs.lemmas.Bool.{and_from, cases_Bool, eq-eqb, eqb-true, ne_eqb, true≢false}
 use Rattle.std.specs.Prelude.{not}
 use Rattle.aom_image.specs.Image.{Image}
-use Rattle.aom_shape.specs.Typing.{Typing}
+use Rattle.aom_rules.specs.Typing.{Typing}
 use Rattle.aom_shape.specs.declared.kind.Age.TheVariants.{Ready}
 use Rattle.aom_shape.specs.declared.kind.Kind.TheVariants.{Null, Own}
 use Rattle.aom_sound.proofs.Claimed.{NoFieldHere, Outside, claim_frame, claim_going_above, claim_rel, claim_unclaimed, fits_age, going_differs, outside_differs, outside_less}

@@ -1,10 +1,10 @@
 -- Only registers that a method has come to own: an instruction names no other, and arguments come to the first ones.
 use Rattle.std.proofs.Common.{Bool, List, None, Option, Some, [], arith, cond, false, length, refl, subst, suc, true, ℕ, ℤ, ◌+◌, ◌∷◌, ◌≡◌, ◌≤◌}
 use Rattle.aom_image.specs.Image.{Image}
-use Rattle.aom_image.specs.Operands.{IsRegister}
+use Rattle.aom_instructions.specs.Operands.{IsRegister}
 use Rattle.aom_image.specs.Views.{arguments_of, instr_at}
-use Rattle.aom_image.specs.declared.instr.Instr.{Instr}
-use Rattle.aom_image.specs.declared.instr.Instr.TheVariants.{Call, Trap}
+use Rattle.aom_instructions.specs.declared.instr.Instr.{Instr}
+use Rattle.aom_instructions.specs.declared.instr.Instr.TheVariants.{Call, Trap}
 use Rattle.aom_image.specs.declared.method.Argument.{Argument}
 use Rattle.aom_image.specs.declared.method.Argument.TheVariants.{Own as Takes_own, Word as Takes_word}
 use Rattle.aom_image.specs.declared.method.Gives.{Gives}

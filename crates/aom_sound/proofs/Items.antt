@@ -3,7 +3,7 @@ use Rattle.std.proofs.Common.{Bool, List, [], ap, arith, cond, false, length, re
 use Rattle.std.proofs.lemmas.Bool.{eq-eqb, eqb-true, ne_eqb}
 use Rattle.std.specs.Prelude.{is_some}
 use Rattle.aom_image.specs.Image.{Image}
-use Rattle.aom_shape.specs.Calls.{readied_at, readied_entry}
+use Rattle.aom_shape.specs.Entries.{readied_at, readied_entry}
 use Rattle.aom_shape.specs.Kinds.{entry_kind, is_unowning, readied}
 use Rattle.aom_shape.specs.Tables.{at}
 use Rattle.aom_shape.specs.declared.kind.Entry.{Entry as Pushed}

@@ -3,15 +3,15 @@ use Rattle.std.proofs.Common.{Bool, List, None, Option, Some, ap, cond, false, r
 use Rattle.std.proofs.lemmas.Bool.{eqb-true}
 use Rattle.std.specs.Prelude.{is_none, is_some}
 use Rattle.aom_image.specs.Image.{Image}
-use Rattle.aom_image.specs.declared.instr.Instr.TheVariants.{Jump, JumpEmpty, JumpNull, Loop, Next}
+use Rattle.aom_instructions.specs.declared.instr.Instr.TheVariants.{Jump, JumpEmpty, JumpNull, Loop, Next}
 use Rattle.aom_image.specs.declared.method.Thing.{Thing}
 use Rattle.aom_shape.specs.Kinds.{field, filled, is_object_or_null, register, set_field, set_register}
-use Rattle.aom_shape.specs.Objects.{flow_jump_empty, flow_jump_null}
+use Rattle.aom_rules.specs.Objects.{flow_jump_empty, flow_jump_null}
 use Rattle.aom_shape.specs.Shape.{Shape}
 use Rattle.aom_shape.specs.Tables.{at}
 use Rattle.aom_shape.specs.Things.{field_thing, holder_of}
-use Rattle.aom_shape.specs.Typing.{AllLead, Leads, Typing}
-use Rattle.aom_shape.specs.Words.{flow_compare}
+use Rattle.aom_rules.specs.Typing.{AllLead, Leads, Typing}
+use Rattle.aom_rules.specs.Words.{flow_compare}
 use Rattle.aom_shape.specs.declared.kind.Filling.{Filling}
 use Rattle.aom_shape.specs.declared.kind.Filling.TheVariants.{Empty, Full, Perhaps}
 use Rattle.aom_shape.specs.declared.kind.Kind.{Kind}

@@ -4,11 +4,11 @@ use Rattle.std.proofs.lemmas.Bool.{and_from, ne_eqb, true≢false}
 use Rattle.std.specs.Prelude.{◌++◌}
 use Rattle.aom_image.specs.Image.{Image}
 use Rattle.aom_image.specs.Views.{leaves}
-use Rattle.aom_image.specs.declared.instr.Instr.TheVariants.{Leave, LeaveIf}
+use Rattle.aom_instructions.specs.declared.instr.Instr.TheVariants.{Leave, LeaveIf}
 use Rattle.aom_shape.specs.Kinds.{entry_kind, none_owns, register}
 use Rattle.aom_shape.specs.Needs.{AllTrue}
 use Rattle.aom_shape.specs.Shape.{Shape}
-use Rattle.aom_shape.specs.Typing.{Typing}
+use Rattle.aom_rules.specs.Typing.{Typing}
 use Rattle.aom_shape.specs.declared.kind.Entry.{Entry as Pushed}
 use Rattle.aom_shape.specs.declared.kind.Kind.{Kind}
 use Rattle.aom_sound.proofs.Claimed.{layer_rel}

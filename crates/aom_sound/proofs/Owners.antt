@@ -11,7 +11,7 @@ use Rattle.aom_image.specs.declared.method.Thing.{Thing}
 use Rattle.aom_image.specs.declared.method.Thing.TheVariants.{Message, Object as An_object_of}
 use Rattle.aom_shape.specs.Kinds.{entry_kind, field, filled, register}
 use Rattle.aom_shape.specs.Things.{Program, field_thing}
-use Rattle.aom_shape.specs.Typing.{Typing}
+use Rattle.aom_rules.specs.Typing.{Typing}
 use Rattle.aom_shape.specs.declared.kind.Entry.{Entry as Pushed}
 use Rattle.aom_shape.specs.declared.kind.Entry.TheVariants.{Object as Pushed_object, Operation as Pushed_operation}
 use Rattle.aom_shape.specs.declared.kind.Filling.{Filling}

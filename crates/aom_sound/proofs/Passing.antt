@@ -5,12 +5,13 @@ use Rattle.std.specs.Prelude.{is_none, map, ◌++◌}
 use Rattle.aom_image.specs.Image.{Image}
 use Rattle.aom_image.specs.declared.method.Argument.{Argument}
 use Rattle.aom_image.specs.declared.method.Argument.TheVariants.{Own as Takes_own, Word as Takes_word}
-use Rattle.aom_shape.specs.Calls.{argument_needs, arguments_moved, each_argument}
+use Rattle.aom_rules.specs.Calls.{argument_needs, each_argument}
+use Rattle.aom_shape.specs.Arguments.{arguments_moved, argument_kind}
 use Rattle.aom_shape.specs.Kinds.{is_object_or_null, register, set_register}
 use Rattle.aom_shape.specs.Needs.{AllTrue}
 use Rattle.aom_shape.specs.Shape.{Shape}
 use Rattle.aom_shape.specs.Tables.{at, put_at}
-use Rattle.aom_shape.specs.Typing.{Typing, argument_kind}
+use Rattle.aom_rules.specs.Typing.{Typing}
 use Rattle.aom_shape.specs.declared.kind.Age.TheVariants.{Ready}
 use Rattle.aom_shape.specs.declared.kind.Kind.{Kind}
 use Rattle.aom_shape.specs.declared.kind.Kind.TheVariants.{Null, Own, Unset, Word}

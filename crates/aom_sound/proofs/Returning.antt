@@ -4,17 +4,17 @@ use Rattle.std.proofs.lemmas.Bool.{ne_eqb}
 use Rattle.std.specs.Prelude.{is_none, is_some}
 use Rattle.aom_image.specs.Image.{Image}
 use Rattle.aom_image.specs.Views.{gives_of, instr_at}
-use Rattle.aom_image.specs.declared.instr.Instr.TheVariants.{Return}
+use Rattle.aom_instructions.specs.declared.instr.Instr.TheVariants.{Return}
 use Rattle.aom_image.specs.declared.method.Gives.{Gives}
 use Rattle.aom_image.specs.declared.method.Gives.TheVariants.{Left, Maybe as A_maybe, Nothing, Own as An_own, Word as A_word}
 use Rattle.aom_image.specs.declared.method.Thing.{Thing}
-use Rattle.aom_shape.specs.Calls.{brought, caught, entries_done, is_own_for, leaves_one, result_moved, rule_result}
-use Rattle.aom_shape.specs.Cleanup.{with_entry}
-use Rattle.aom_shape.specs.Kinds.{entry_kind, is_object_or_null, is_ready_kind, is_unowning, is_word, may_be, no_entry, none_owns, register, set_register}
+use Rattle.aom_rules.specs.Calls.{brought, caught, entries_done, leaves_one, result_moved, rule_result}
+use Rattle.aom_shape.specs.Kinds.{is_own_for, entry_kind, is_object_or_null, is_ready_kind, is_unowning, is_word, may_be, no_entry, none_owns, register, set_register}
+use Rattle.aom_shape.specs.Entries.{with_entry}
 use Rattle.aom_shape.specs.Needs.{AllTrue}
 use Rattle.aom_shape.specs.Order.{SaysNoMore, Weaker, alike, alike_filling, maybe_null, maybe_own}
 use Rattle.aom_shape.specs.Shape.{Shape}
-use Rattle.aom_shape.specs.Typing.{Leads, Typing}
+use Rattle.aom_rules.specs.Typing.{Leads, Typing}
 use Rattle.aom_shape.specs.declared.kind.Age.TheVariants.{Ready}
 use Rattle.aom_shape.specs.declared.kind.Entry.{Entry as Pushed}
 use Rattle.aom_shape.specs.declared.kind.Entry.TheVariants.{Object as Pushed_object}

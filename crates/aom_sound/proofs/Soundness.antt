@@ -1,8 +1,8 @@
 -- Each run of an image that has a typing: every state that it comes to is well typed, and where it ended nothing is at hand.
-use Rattle.std.proofs.Common.{Bool, List, None, Option, Some, [], ap, cond, false, inl, inr, refl, subst, sym, true, ℕ, ⊎_elim, ◌∙◌, ◌∷◌, ◌≡◌}
+use Rattle.std.proofs.Common.{Bool, List, None, Option, Some, [], ap, cond, false, inl, inr, refl, subst, sym, true, ⊎_elim, ◌∙◌, ◌∷◌, ◌≡◌}
 use Rattle.std.specs.Prelude.{◌⊎◌}
 use Rattle.aom_image.specs.Image.{Image}
-use Rattle.aom_shape.specs.Typing.{IsTyped, Typing}
+use Rattle.aom_rules.specs.Typing.{IsTyped, Typing}
 use Rattle.aom_sound.proofs.Booting.{boot_keeps}
 use Rattle.aom_sound.proofs.Closing.{root_gone}
 use Rattle.aom_sound.proofs.InRange.{registers_keep}
@@ -20,20 +20,20 @@ use Rattle.aom_sound.specs.Registers.{AllInRange}
 use Rattle.aom_sound.specs.State.{Choice, Dispatch, Dispatched, Goes, IsStuck, Main_left, Of_main, Of_root, Outcome, Rest, State, Task}
 use Rattle.aom_sound.specs.Steps.{Move}
 use Rattle.aom_sound.specs.WellTyped.{Good, Keeps, WellTyped}
-use Rattle.aom_sound.specs.World.{IsBusy, Reaches, begins, boot_state, moves, waits}
-use Rattle.aom_sound.specs.declared.line.Ending.{Ending}
-use Rattle.aom_sound.specs.declared.line.Ending.TheVariants.{Stopped}
-use Rattle.aom_sound.specs.declared.line.Line.{Line}
+use Rattle.aom_sound.specs.World.{IsBusy, Reaches, begins, boot_state, moves, waits, Outside}
+use Rattle.aom_transcript.specs.declared.line.Ending.{Ending}
+use Rattle.aom_transcript.specs.declared.line.Ending.TheVariants.{Stopped}
+use Rattle.aom_transcript.specs.declared.line.Line.{Line}
 use Rattle.aom_sound.proofs.Layers.{dispatch_layer}
 
 -- nothing is at hand, and where the run is over as stopped the root holds nothing
-record Settled (s : State) : Type 0 where
+record IsAtRest (s : State) : Type 0 where
   idle : s.tasks ≡ []
   rootless : s.rest.ended ≡ Some Stopped → held s.cells (Elsewhere Root) ≡ None
 
 -- the run is not over, or nothing is at hand
 abbrev GoesOn : State → Type 0
-GoesOn s = (s.rest.ended ≡ None) ⊎ Settled s
+GoesOn s = (s.rest.ended ≡ None) ⊎ IsAtRest s
 
 not_stopped : (b : Bool) → b ≡ false → cond b (Some Stopped) None ≡ Some Stopped → ⊥
 not_stopped true f e = cc
@@ -43,24 +43,24 @@ not_stopped false f e = cc
 abbrev Uprooted : State → Type 0
 Uprooted s = (ts : List Task) → s.tasks ≡ Dispatched Of_root ∷ ts → held s.cells (Elsewhere Root) ≡ None
 
-main_holds : (p : Image) (s : State) (b : Bool) (root : Option Object) → s.rest.stopped ≡ b → held s.cells (Elsewhere Root) ≡ root → ((main_ends p b root s).rest.ended ≡ s.rest.ended) ⊎ Settled (main_ends p b root s)
+main_holds : (p : Image) (s : State) (b : Bool) (root : Option Object) → s.rest.stopped ≡ b → held s.cells (Elsewhere Root) ≡ root → ((main_ends p b root s).rest.ended ≡ s.rest.ended) ⊎ IsAtRest (main_ends p b root s)
 main_holds p s true (Some o) f e = inl refl
 main_holds p s true None f e = inr (record { idle = refl; rootless = λ h. e })
 main_holds p s false root f e = inr (record { idle = refl; rootless = λ h. absurd (not_stopped s.rest.stopped f h) })
 
-dispatch_holds : (p : Image) (s : State) (d : Dispatch) → (d ≡ Of_root → held s.cells (Elsewhere Root) ≡ None) → ((dispatch_ends p d s).rest.ended ≡ s.rest.ended) ⊎ Settled (dispatch_ends p d s)
+dispatch_holds : (p : Image) (s : State) (d : Dispatch) → (d ≡ Of_root → held s.cells (Elsewhere Root) ≡ None) → ((dispatch_ends p d s).rest.ended ≡ s.rest.ended) ⊎ IsAtRest (dispatch_ends p d s)
 dispatch_holds p s Of_main rootless = main_holds p s s.rest.stopped (held s.cells (Elsewhere Root)) refl refl
 dispatch_holds p s (Main_left code) rootless = inr (record { idle = refl; rootless = λ h. cc })
 dispatch_holds p s Of_root rootless = inr (record { idle = refl; rootless = λ h. rootless refl })
 
 -- a move ends the run only where it leaves nothing at hand
-move_holds : (p : Image) (c : Choice) (s u : State) → Uprooted s → Move p c s u → (u.rest.ended ≡ s.rest.ended) ⊎ Settled u
+move_holds : (p : Image) (c : Choice) (s u : State) → Uprooted s → Move p c s u → (u.rest.ended ≡ s.rest.ended) ⊎ IsAtRest u
 move_holds p c s u gone m = go (move_rest p c s u m)
   where
-    go : Takes p s u ⊎ IsEnd p s u → (u.rest.ended ≡ s.rest.ended) ⊎ Settled u
+    go : Takes p s u ⊎ IsEnd p s u → (u.rest.ended ≡ s.rest.ended) ⊎ IsAtRest u
     go (inl t) = inl (ap (λ (r : Rest). r.ended) t.1 ∙ course_ended t.0 (counted p s).rest)
     go (inr e) =
-        subst (λ v. (v.rest.ended ≡ s.rest.ended) ⊎ Settled v) (sym e.3)
+        subst (λ v. (v.rest.ended ≡ s.rest.ended) ⊎ IsAtRest v) (sym e.3)
         (dispatch_holds p (counted p s) e.0 (λ is. gone e.1 (e.2 ∙ ap (λ x. Dispatched x ∷ e.1) is)))
 
 busy_open : (s : State) → IsBusy s → GoesOn s → s.rest.ended ≡ None
@@ -71,7 +71,7 @@ busy_open s busy (inr settled) = let clash : busy.0 ∷ busy.1 ≡ [] = sym busy
 uprooted_so : (p : Image) (t : Typing) (s : State) → WellTyped p t s → Uprooted s
 uprooted_so p t s w ts e = dispatch_layer (λ ls. Good p t s.cells ls) Of_root ts w.layers (sym w.tasks ∙ e) w.good (λ ls _ good. root_gone p t s ls good)
 
-module _ (p : Image) (t : Typing) (refused : List ℕ) (wired : IsWired p) (typed : IsTyped p t) where
+module _ (p : Image) (t : Typing) (outside : Outside) (wired : IsWired p) (typed : IsTyped p t) where
   -- what holds of each state of a run
   record Stays (s : State) : Type 0 where
     well : WellTyped p t s
@@ -79,7 +79,7 @@ module _ (p : Image) (t : Typing) (refused : List ℕ) (wired : IsWired p) (type
     in_range : AllInRange s.cells
     goes_on : GoesOn s
 
-  moved_on : (s u : State) (c : Choice) → Stays s → IsBusy s → IsOpen p refused c s → step p c s ≡ Goes u → Stays u
+  moved_on : (s u : State) (c : Choice) → Stays s → IsBusy s → IsOpen p outside.refused c s → step p c s ≡ Goes u → Stays u
   moved_on s u c h busy choice e = record {
     well = subst (λ o. Keeps p t o) e (step_keeps p t wired typed c s h.well choice.name);
     calm = calm_keeps.moves p t wired typed c s u h.well h.calm e;
@@ -87,7 +87,7 @@ module _ (p : Image) (t : Typing) (refused : List ℕ) (wired : IsWired p) (type
     goes_on = ⊎_elim (λ same. inl (same ∙ busy_open s busy h.goes_on)) (λ idle. inr idle) (move_holds p c s u (uprooted_so p t s h.well) (steps_are_moves p c s u e));
   }
 
-  stays : (lines : List Line) (s : State) → Reaches p refused (boot_state p) lines s → Stays s
+  stays : (lines : List Line) (s : State) → Reaches p outside (boot_state p) lines s → Stays s
   stays _ _ begins = record { well = boot_keeps p t wired typed; calm = calm_keeps.boot p; in_range = registers_keep.boot p; goes_on = inl refl }
   stays _ _ (moves {lines = lines} {s = s} {u = u} c before busy choice e) = moved_on s u c (stays lines s before) busy choice e
   stays _ _ (waits {lines = lines} {s = s} before between) = let h = stays lines s before in record {
@@ -101,18 +101,18 @@ module _ (p : Image) (t : Typing) (refused : List ℕ) (wired : IsWired p) (type
   goes (Goes u) k = (u, refl)
   goes (IsStuck kind) k = absurd k
 
-  over : (s : State) (ending : Ending) → Stays s → s.rest.ended ≡ Some ending → Settled s
+  over : (s : State) (ending : Ending) → Stays s → s.rest.ended ≡ Some ending → IsAtRest s
   over s ending h e = go h.goes_on
     where
-      go : GoesOn s → Settled s
+      go : GoesOn s → IsAtRest s
       go (inl on) = let clash : Some ending ≡ None = sym e ∙ on in cc
       go (inr settled) = settled
 
   -- where a run is over nothing is at hand
-  pub over_idle : (lines : List Line) (s : State) (ending : Ending) → Reaches p refused (boot_state p) lines s → s.rest.ended ≡ Some ending → s.tasks ≡ []
+  pub over_idle : (lines : List Line) (s : State) (ending : Ending) → Reaches p outside (boot_state p) lines s → s.rest.ended ≡ Some ending → s.tasks ≡ []
   over_idle lines s ending r e = (over s ending (stays lines s r) e).idle
 
-  pub sound : IsSound p refused
+  pub sound : IsSound p outside
   sound = record {
     goes_on = λ lines s r busy c choice. goes (step p c s) (step_keeps p t wired typed c s (stays lines s r).well choice.name);
     caught = λ lines s code tasks items r at top. let h = stays lines s r in caught_owned p t wired s h.well h.calm h.in_range code tasks items at top;
@@ -123,5 +123,5 @@ module _ (p : Image) (t : Typing) (refused : List ℕ) (wired : IsWired p) (type
         ends_empty p t wired s h.well settled.idle (settled.rootless e);
   }
 
-pub typed_is_sound : (p : Image) (t : Typing) (refused : List ℕ) → IsWired p → IsTyped p t → IsSound p refused
-typed_is_sound p t refused wired typed = sound p t refused wired typed
+pub typed_is_sound : (p : Image) (t : Typing) (outside : Outside) → IsWired p → IsTyped p t → IsSound p outside
+typed_is_sound p t outside wired typed = sound p t outside wired typed

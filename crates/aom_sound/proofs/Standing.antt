@@ -6,8 +6,8 @@ use Rattle.aom_sound.proofs.Preserving.{Kept, keeps}
 use Rattle.aom_sound.specs.Moves.{step}
 use Rattle.aom_sound.specs.State.{Choice, Goes, State}
 use Rattle.aom_sound.specs.Traps.{AllAtTraps, at_traps}
-use Rattle.aom_sound.specs.World.{Reaches, begins, boot_state, main_tasks, moves, waits}
-use Rattle.aom_sound.specs.declared.line.Line.{Line}
+use Rattle.aom_sound.specs.World.{Reaches, begins, boot_state, main_tasks, moves, waits, Outside}
+use Rattle.aom_transcript.specs.declared.line.Line.{Line}
 
 kept : (p : Image) (c : Choice) (s : State) → Kept p c (at_traps p) s
 kept p c s = record {
@@ -33,7 +33,7 @@ pub boot : (p : Image) (m : Option ℕ) → AllAtTraps p (main_tasks m)
 boot p None = tt
 boot p (Some m) = (tt, (tt, tt))
 
-pub stand : (p : Image) (refused : List ℕ) (lines : List Line) (s : State) → Reaches p refused (boot_state p) lines s → AllAtTraps p s.tasks
-stand p refused _ _ begins = boot p (main_of p)
-stand p refused _ _ (moves {lines = lines} {s = s} {u = u} c before busy choice e) = stays p c s u (stand p refused lines s before) e
-stand p refused _ _ (waits {lines = lines} {s = s} before between) = stand p refused lines s before
+pub stand : (p : Image) (outside : Outside) (lines : List Line) (s : State) → Reaches p outside (boot_state p) lines s → AllAtTraps p s.tasks
+stand p outside _ _ begins = boot p (main_of p)
+stand p outside _ _ (moves {lines = lines} {s = s} {u = u} c before busy choice e) = stays p c s u (stand p outside lines s before) e
+stand p outside _ _ (waits {lines = lines} {s = s} before between) = stand p outside lines s before

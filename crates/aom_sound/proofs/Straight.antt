@@ -3,15 +3,15 @@ use Rattle.std.proofs.Common.{Bool, List, None, Option, Some, ap, arith, cond, f
 use Rattle.std.proofs.lemmas.Bool.{eq-eqb, eqb-true, ne_eqb, true≢false}
 use Rattle.std.specs.Prelude.{is_some}
 use Rattle.aom_image.specs.Image.{Image}
-use Rattle.aom_image.specs.declared.instr.Instr.{Instr}
+use Rattle.aom_instructions.specs.declared.instr.Instr.{Instr}
 use Rattle.aom_image.specs.declared.method.Thing.{Thing}
 use Rattle.aom_shape.specs.Kinds.{field, filled, filling_of, is_empty, is_object_or_null, is_ready_kind, is_unowning, may_be, may_be_declared, register, set_register}
 use Rattle.aom_shape.specs.Needs.{AllTrue}
-use Rattle.aom_shape.specs.Rules.{flows, rule_needs}
+use Rattle.aom_rules.specs.Rules.{flows, rule_needs}
 use Rattle.aom_shape.specs.Shape.{Shape}
 use Rattle.aom_shape.specs.Tables.{at, put_at}
 use Rattle.aom_shape.specs.Things.{field_thing, holder_of}
-use Rattle.aom_shape.specs.Typing.{AllLead, Leads, Typing}
+use Rattle.aom_rules.specs.Typing.{AllLead, Leads, Typing}
 use Rattle.aom_shape.specs.declared.kind.Age.TheVariants.{Ready}
 use Rattle.aom_shape.specs.declared.kind.Filling.{Filling}
 use Rattle.aom_shape.specs.declared.kind.Filling.TheVariants.{Empty}

@@ -4,12 +4,12 @@ use Rattle.aom_image.proofs.Given.{cons_given}
 use Rattle.std.specs.Prelude.{◌++◌, ◌⊎◌}
 use Rattle.aom_image.specs.Image.{Image}
 use Rattle.aom_image.specs.Views.{instr_at}
-use Rattle.aom_image.specs.declared.instr.Instr.{Instr}
-use Rattle.aom_image.specs.declared.instr.Instr.TheVariants.{Trap}
-use Rattle.aom_image.specs.declared.instr.Target.{Target}
+use Rattle.aom_instructions.specs.declared.instr.Instr.{Instr}
+use Rattle.aom_instructions.specs.declared.instr.Instr.TheVariants.{Trap}
+use Rattle.aom_instructions.specs.declared.instr.Target.{Target}
 use Rattle.aom_image.specs.declared.method.Gives.{Gives}
 use Rattle.aom_image.specs.declared.method.Gives.TheVariants.{Left, Maybe as A_maybe, Nothing, Own as An_own, Word as A_word}
-use Rattle.aom_shape.specs.Typing.{IsTyped, Typing}
+use Rattle.aom_rules.specs.Typing.{IsTyped, Typing}
 use Rattle.aom_shape.specs.declared.kind.Entry.{Entry as Pushed_entry}
 use Rattle.aom_shape.specs.declared.kind.Entry.TheVariants.{Object as Pushed_object, Operation as Operation_entry}
 use Rattle.aom_sound.proofs.Booting.{boot_keeps}
@@ -33,8 +33,8 @@ use Rattle.aom_sound.specs.State.{A_mark, An_object, An_operation, Choice, Destr
 use Rattle.aom_sound.specs.Steps.{Acts, Arrives, Clears, Comes_out, Ends as A_dispatch_ends, Move, Rests, Undoes, Vanishes}
 use Rattle.aom_sound.specs.Traps.{ComesOff, GoesOnAfter, IsPast, IsTrapping, TellsZero, TrapsKeep, WasPast, marks, traps}
 use Rattle.aom_sound.specs.WellTyped.{Keeps, WellTyped}
-use Rattle.aom_sound.specs.World.{IsBetween, IsBusy, Reaches, begins, boot_state, moves, waiting, waits}
-use Rattle.aom_sound.specs.declared.line.Line.{Line}
+use Rattle.aom_sound.specs.World.{IsBetween, IsBusy, Reaches, begins, boot_state, moves, waiting, waits, Outside}
+use Rattle.aom_transcript.specs.declared.line.Line.{Line}
 
 -- ---- as many marks as traps
 
@@ -310,11 +310,11 @@ keeps_trap :
 keeps_trap p t wired typed c s u w unused below items h e =
     by_moved p t s u w (subst (λ o. Keeps p t o) e (step_keeps p t wired typed c s w unused)) below items h (moved p c s below t u w (h.over, h.tasks) (steps_are_moves p c s u e))
 
-module _ (p : Image) (t : Typing) (refused : List ℕ) (wired : IsWired p) (typed : IsTyped p t) (from : State) (well : WellTyped p t from) (below : List Task) (items : List Item) where
+module _ (p : Image) (t : Typing) (outside : Outside) (wired : IsWired p) (typed : IsTyped p t) (from : State) (well : WellTyped p t from) (below : List Task) (items : List Item) where
   abbrev Lasts : State → Type 0
-  Lasts s = IsTrapping below items s ⊎ WasPast p refused below items from s
+  Lasts s = IsTrapping below items s ⊎ WasPast p outside below items from s
 
-  moved_on : (lines : List Line) (s u : State) (c : Choice) → WellTyped p t s → Reaches p refused from lines s → IsBusy s → IsOpen p refused c s → step p c s ≡ Goes u → Lasts s → Lasts u
+  moved_on : (lines : List Line) (s u : State) (c : Choice) → WellTyped p t s → Reaches p outside from lines s → IsBusy s → IsOpen p outside.refused c s → step p c s ≡ Goes u → Lasts s → Lasts u
   moved_on lines s u c w before busy choice e (inl h) = go (keeps_trap p t wired typed c s u w choice.name below items h e)
     where
       go : IsTrapping below items u ⊎ IsPast p below items s u → Lasts u
@@ -348,9 +348,9 @@ module _ (p : Image) (t : Typing) (refused : List ℕ) (wired : IsWired p) (type
     reaches = waits h.reaches between;
   })
 
-  lasts : IsTrapping below items from → (lines : List Line) (s : State) → Reaches p refused from lines s → Lasts s
+  lasts : IsTrapping below items from → (lines : List Line) (s : State) → Reaches p outside from lines s → Lasts s
   lasts h _ _ begins = inl h
-  lasts h _ _ (moves {lines = lines} {s = s} {u = u} c before busy choice e) = moved_on lines s u c (well_on p t refused wired typed from well lines s before) before busy choice e (lasts h lines s before)
+  lasts h _ _ (moves {lines = lines} {s = s} {u = u} c before busy choice e) = moved_on lines s u c (well_on p t outside wired typed from well lines s before) before busy choice e (lasts h lines s before)
   lasts h _ _ (waits {lines = lines} {s = s} before between) = waited s between (lasts h lines s before)
 
 pub traps_keep : TrapsKeep
@@ -358,5 +358,5 @@ traps_keep = record {
   stand = stand;
   sets = sets;
   moves = keeps_trap;
-  runs = λ p t refused wired typed before s reached below items h lines u r. lasts p t refused wired typed s (well_on p t refused wired typed (boot_state p) (boot_keeps p t wired typed) before s reached) below items h lines u r;
+  runs = λ p t outside wired typed before s reached below items h lines u r. lasts p t outside wired typed s (well_on p t outside wired typed (boot_state p) (boot_keeps p t wired typed) before s reached) below items h lines u r;
 }

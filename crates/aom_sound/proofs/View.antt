@@ -1,7 +1,7 @@
 -- The tasks of a well-typed state as a stack on which only what can stand on a layer is written: for proofs that split what stands under a method, a going cell or a leave.
 use Rattle.std.proofs.Common.{arith, List, [], ap, refl, sym, ◌∙◌, ◌∷◌, ◌≡◌, ℤ}
 use Rattle.aom_image.specs.Image.{Image}
-use Rattle.aom_shape.specs.Typing.{Typing}
+use Rattle.aom_rules.specs.Typing.{Typing}
 use Rattle.aom_sound.specs.Claims.{Dispatching, Dying, Layer, Mark, Method, Unwinding, tasks_of}
 use Rattle.aom_sound.specs.Places.{Cell}
 use Rattle.aom_sound.specs.State.{Destroy, Dispatch, Dispatched, Frame, Of_main, Of_root, Run, State, Task, Trapped, Unwind}

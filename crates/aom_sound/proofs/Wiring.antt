@@ -6,12 +6,13 @@ use Rattle.std.specs.Prelude.{is_none, ◌||◌, ◌⊎◌}
 use Rattle.std.proofs.lemmas.Option.{slice_get_within}
 use Rattle.aom_image.specs.Image.{Image}
 use Rattle.aom_image.specs.Views.{arguments_in, arguments_of, class_at, class_in, fields_in, gives_in, gives_of, instr_at, is_quiet, leaves, leaves_in, method_at, method_class, method_role, quiet_in, role_in}
-use Rattle.aom_image.specs.WellFormed.{InstrFits, MethodFits, WellFormed, limits}
+use Rattle.aom_instructions.specs.Fits.{InstrFits, limits}
+use Rattle.aom_image.specs.WellFormed.{MethodFits, WellFormed}
 use Rattle.aom_image.specs.declared.class.ClassDecl.{ClassDecl}
-use Rattle.aom_image.specs.declared.instr.Instr.{Instr}
-use Rattle.aom_image.specs.declared.instr.Instr.TheVariants.{Call, PushOperation, Trap}
-use Rattle.aom_image.specs.declared.instr.Target.{Target}
-use Rattle.aom_image.specs.declared.limits.Limits.{Limits}
+use Rattle.aom_instructions.specs.declared.instr.Instr.{Instr}
+use Rattle.aom_instructions.specs.declared.instr.Instr.TheVariants.{Call, PushOperation, Trap}
+use Rattle.aom_instructions.specs.declared.instr.Target.{Target}
+use Rattle.aom_instructions.specs.declared.limits.Limits.{Limits}
 use Rattle.aom_image.specs.declared.method.Gives.{Gives}
 use Rattle.aom_image.specs.declared.method.Gives.TheVariants.{Left, Nothing}
 use Rattle.aom_image.specs.declared.method.Method.{Method as Method_declared}

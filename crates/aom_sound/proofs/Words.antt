@@ -2,13 +2,13 @@
 use Rattle.std.proofs.Common.{Bool, List, Option, Some, ap, refl, true, ℕ, ℤ, ◌∙◌, ◌≡◌, arith}
 use Rattle.std.specs.Prelude.{is_none, is_some, length, nat_lt}
 use Rattle.aom_image.specs.Image.{Image}
-use Rattle.aom_image.specs.declared.instr.Instr.TheVariants.{Const, Copy, Load, Print, Store}
+use Rattle.aom_instructions.specs.declared.instr.Instr.TheVariants.{Const, Copy, Load, Print, Store}
 use Rattle.aom_shape.specs.Kinds.{is_unowning, is_word, register, set_register}
 use Rattle.aom_shape.specs.Needs.{AllTrue}
 use Rattle.aom_shape.specs.Shape.{Shape}
 use Rattle.aom_shape.specs.Things.{holder_of, word_count}
-use Rattle.aom_shape.specs.Typing.{AllLead, Typing}
-use Rattle.aom_shape.specs.Words.{flow_compare, flow_word, rule_combine, rule_compare}
+use Rattle.aom_rules.specs.Typing.{AllLead, Typing}
+use Rattle.aom_rules.specs.Words.{flow_compare, flow_word, rule_combine, rule_compare}
 use Rattle.aom_shape.specs.declared.kind.Kind.{Kind}
 use Rattle.aom_shape.specs.declared.kind.Kind.TheVariants.{Word}
 use Rattle.aom_sound.proofs.Jumps.{goes_either}

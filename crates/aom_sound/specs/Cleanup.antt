@@ -10,8 +10,8 @@ use Rattle.aom_sound.specs.Destruction.{begun}
 use Rattle.aom_sound.specs.Words.{here, needs_word, read}
 use Rattle.aom_sound.specs.Objects.{is_no_message}
 use Rattle.aom_sound.specs.Calls.{result_register, called, none_owns_but, below_top}
-use Rattle.aom_sound.specs.declared.line.Line.{Line}
-use Rattle.aom_sound.specs.declared.line.Line.TheVariants.{Leave}
+use Rattle.aom_transcript.specs.declared.line.Line.{Line}
+use Rattle.aom_transcript.specs.declared.line.Line.TheVariants.{Leave}
 
 -- ---- leaves
 

@@ -2,27 +2,28 @@
 use Rattle.std.specs.Prelude.{ℕ, ℤ, true, false, ◌≡◌, ◌⊎◌, ◌<◌, IsSome, List, [], ◌∷◌, Some, None}
 use Rattle.aom_image.specs.Image.{Image}
 use Rattle.aom_image.specs.Views.{instr_at, method_at, method_class, method_role, is_quiet, leaves, gives_of, arguments_of}
-use Rattle.aom_image.specs.WellFormed.{InstrFits, WellFormed}
-use Rattle.aom_image.specs.declared.instr.Instr.{Instr}
-use Rattle.aom_image.specs.declared.instr.Instr.TheVariants.{Call, Trap, PushOperation}
-use Rattle.aom_image.specs.declared.instr.Target.{Target}
-use Rattle.aom_image.specs.declared.limits.Limits.{Limits}
+use Rattle.aom_instructions.specs.Fits.{InstrFits}
+use Rattle.aom_image.specs.WellFormed.{WellFormed}
+use Rattle.aom_instructions.specs.declared.instr.Instr.{Instr}
+use Rattle.aom_instructions.specs.declared.instr.Instr.TheVariants.{Call, Trap, PushOperation}
+use Rattle.aom_instructions.specs.declared.instr.Target.{Target}
+use Rattle.aom_instructions.specs.declared.limits.Limits.{Limits}
 use Rattle.aom_image.specs.declared.method.Gives.TheVariants.{Nothing}
 use Rattle.aom_image.specs.declared.method.Role.TheVariants.{Do, Main, Construct, Destruct}
 use Rattle.aom_image.specs.declared.method.Thing.TheVariants.{Object as An_object_of}
 use Rattle.aom_classes.specs.Linked.{IsLinked}
 use Rattle.aom_classes.specs.Roles.{role_of, main_of}
 use Rattle.aom_shape.specs.Things.{Member, field_thing}
-use Rattle.aom_shape.specs.Typing.{Typing, IsTyped}
+use Rattle.aom_rules.specs.Typing.{Typing, IsTyped}
 use Rattle.aom_sound.specs.Places.{Elsewhere, Root, held, named}
 use Rattle.aom_sound.specs.State.{Dispatch, Frame, Task, Run, Destroy, Unwind, Dispatched, Item, A_mark, State, Choice, Goes}
 use Rattle.aom_sound.specs.Moves.{step, IsOpen}
 use Rattle.aom_sound.specs.WellTyped.{LeavesNone, IsUndo, WellTyped, Keeps}
 use Rattle.aom_sound.specs.Owned.{Owned}
 use Rattle.aom_sound.specs.Registers.{AllInRange}
-use Rattle.aom_sound.specs.World.{boot_state, IsBusy, Reaches}
-use Rattle.aom_sound.specs.declared.line.Line.{Line}
-use Rattle.aom_sound.specs.declared.line.Ending.TheVariants.{Stopped}
+use Rattle.aom_sound.specs.World.{boot_state, IsBusy, Reaches, Outside}
+use Rattle.aom_transcript.specs.declared.line.Line.{Line}
+use Rattle.aom_transcript.specs.declared.line.Ending.TheVariants.{Stopped}
 
 -- a method that is called is there, and it does or constructs
 pub record IsCalled (p : Image) (m : ℕ) : Type 0 where
@@ -74,16 +75,16 @@ abbrev pub EndsEmpty : Type 0
 EndsEmpty = (p : Image) (t : Typing) → IsWired p → (s : State) → WellTyped p t s → s.tasks ≡ [] → held s.cells (Elsewhere Root) ≡ None → s.cells ≡ []
 
 -- of each run of an image: it is never stuck, at each caught leave and each dispatch's end each cell has one living owner, and where it stopped no cell is left
-pub record IsSound (p : Image) (refused : List ℕ) : Type 0 where
-  pub goes_on : (lines : List Line) (s : State) → Reaches p refused (boot_state p) lines s → IsBusy s → (c : Choice) → IsOpen p refused c s → (u : State) × (step p c s ≡ Goes u)
+pub record IsSound (p : Image) (outside : Outside) : Type 0 where
+  pub goes_on : (lines : List Line) (s : State) → Reaches p outside (boot_state p) lines s → IsBusy s → (c : Choice) → IsOpen p outside.refused c s → (u : State) × (step p c s ≡ Goes u)
   -- a leave is caught once all that was pushed since its trap is dealt with
-  pub caught : (lines : List Line) (s : State) (code : ℤ) (tasks : List Task) (items : List Item) → Reaches p refused (boot_state p) lines s → s.tasks ≡ Unwind code ∷ tasks → s.items ≡ A_mark ∷ items → Owned p s
-  pub owned : (lines : List Line) (s : State) (d : Dispatch) → Reaches p refused (boot_state p) lines s → s.tasks ≡ Dispatched d ∷ [] → Owned p s
-  pub stopped_empty : (lines : List Line) (s : State) → Reaches p refused (boot_state p) lines s → s.rest.ended ≡ Some Stopped → s.cells ≡ []
+  pub caught : (lines : List Line) (s : State) (code : ℤ) (tasks : List Task) (items : List Item) → Reaches p outside (boot_state p) lines s → s.tasks ≡ Unwind code ∷ tasks → s.items ≡ A_mark ∷ items → Owned p s
+  pub owned : (lines : List Line) (s : State) (d : Dispatch) → Reaches p outside (boot_state p) lines s → s.tasks ≡ Dispatched d ∷ [] → Owned p s
+  pub stopped_empty : (lines : List Line) (s : State) → Reaches p outside (boot_state p) lines s → s.rest.ended ≡ Some Stopped → s.cells ≡ []
 
--- each linked image that has a typing is sound, whatever is refused
+-- each linked image that has a typing is sound, whatever is outside
 abbrev pub TypedIsSound : Type 0
-TypedIsSound = (p : Image) (t : Typing) (refused : List ℕ) → IsWired p → IsTyped p t → IsSound p refused
+TypedIsSound = (p : Image) (t : Typing) (outside : Outside) → IsWired p → IsTyped p t → IsSound p outside
 
 -- what a linked image gives the laws
 abbrev pub LinkedIsWired : Type 0

@@ -2,22 +2,22 @@
 use Rattle.std.specs.Prelude.{ℕ, suc, ℤ, negsuc, pos, true, ◌≡◌, ◌≢◌, ◌⊎◌, int_lt, List, [], ◌∷◌, ◌++◌, Option, Some, None, length}
 use Rattle.aom_image.specs.Image.{Image}
 use Rattle.aom_image.specs.Views.{instr_at, is_quiet, gives_of}
-use Rattle.aom_image.specs.declared.instr.Instr.{Instr}
-use Rattle.aom_image.specs.declared.instr.Instr.TheVariants.{NewOrLeave, Push, PushOperation, Leave, LeaveIf, Trap}
-use Rattle.aom_image.specs.declared.instr.Target.{Target}
+use Rattle.aom_instructions.specs.declared.instr.Instr.{Instr}
+use Rattle.aom_instructions.specs.declared.instr.Instr.TheVariants.{NewOrLeave, Push, PushOperation, Leave, LeaveIf, Trap}
+use Rattle.aom_instructions.specs.declared.instr.Target.{Target}
 use Rattle.aom_image.specs.declared.method.Gives.{Gives}
 use Rattle.aom_image.specs.declared.method.Gives.TheVariants.{Nothing, Word as A_word, Own as An_own, Maybe as A_maybe, Left}
-use Rattle.aom_shape.specs.Typing.{Typing, IsTyped}
+use Rattle.aom_rules.specs.Typing.{Typing, IsTyped}
 use Rattle.aom_sound.specs.Places.{Place, Register, Entry, Going, Object, Cell, held, named}
 use Rattle.aom_sound.specs.State.{Inside, Frame, Of_main, Main_left, Task, Run, Trapped, Destroy, Unwind, Dispatched, Item, An_object, An_operation, A_mark, State, Choice, Goes, word, next}
 use Rattle.aom_classes.specs.Roles.{destructor_of}
 use Rattle.aom_sound.specs.Moves.{step, written, announcement}
 use Rattle.aom_sound.specs.WellTyped.{WellTyped}
-use Rattle.aom_sound.specs.World.{boot_state, Reaches}
+use Rattle.aom_sound.specs.World.{boot_state, Reaches, Outside}
 use Rattle.aom_sound.specs.Laws.{IsWired}
-use Rattle.aom_sound.specs.declared.line.Line.{Line}
-use Rattle.aom_sound.specs.declared.line.Line.TheVariants.{Leave as Leave_line}
-use Rattle.aom_sound.specs.declared.line.Ending.TheVariants.{MainLeft}
+use Rattle.aom_transcript.specs.declared.line.Line.{Line}
+use Rattle.aom_transcript.specs.declared.line.Line.TheVariants.{Leave as Leave_line}
+use Rattle.aom_transcript.specs.declared.line.Ending.TheVariants.{MainLeft}
 
 -- ---- a leave at hand
 
@@ -180,7 +180,7 @@ pub record StillLeaves (p : Image) (code : ℤ) (below : List Task) (entries ite
   pub leaving : IsLeaving p code below rest items s
 
 -- it has dealt with all of them, each once and in their order, and then its code has arrived
-pub record HasArrived (p : Image) (refused : List ℕ) (code : ℤ) (below : List Task) (entries items : List Item) (from s : State) : Type 0 where
+pub record HasArrived (p : Image) (outside : Outside) (code : ℤ) (below : List Task) (entries items : List Item) (from s : State) : Type 0 where
   pub last : State
   pub course : Unwinds p code below from entries last
   pub choice : Choice
@@ -188,17 +188,17 @@ pub record HasArrived (p : Image) (refused : List ℕ) (code : ℤ) (below : Lis
   pub move : step p choice last ≡ Goes after
   pub arrives : Arrives p code below items last after
   pub lines : List Line
-  pub reaches : Reaches p refused after lines s
+  pub reaches : Reaches p outside after lines s
 
 -- where a leave is on top in a run, there are entries over a mark, and each run from there is one of the two
-abbrev pub EachLeaveArrives : Image → List ℕ → Type 0
-EachLeaveArrives p refused =
-    (before : List Line) (s : State) → Reaches p refused (boot_state p) before s → (code : ℤ) (below : List Task) → s.tasks ≡ Unwind code ∷ below →
+abbrev pub EachLeaveArrives : Image → Outside → Type 0
+EachLeaveArrives p outside =
+    (before : List Line) (s : State) → Reaches p outside (boot_state p) before s → (code : ℤ) (below : List Task) → s.tasks ≡ Unwind code ∷ below →
     (entries : List Item)
     × (items : List Item)
     × (s.items ≡ entries ++ (A_mark ∷ items))
     × AreEntries entries
-    × ((lines : List Line) (u : State) → Reaches p refused s lines u → StillLeaves p code below entries items s u ⊎ HasArrived p refused code below entries items s u)
+    × ((lines : List Line) (u : State) → Reaches p outside s lines u → StillLeaves p code below entries items s u ⊎ HasArrived p outside code below entries items s u)
 
 abbrev pub LeavesArrive : Type 0
-LeavesArrive = (p : Image) (t : Typing) (refused : List ℕ) → IsWired p → IsTyped p t → EachLeaveArrives p refused
+LeavesArrive = (p : Image) (t : Typing) (outside : Outside) → IsWired p → IsTyped p t → EachLeaveArrives p outside

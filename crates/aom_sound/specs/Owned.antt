@@ -1,7 +1,7 @@
 -- Each cell has exactly one living owner, and no destruction is at hand.
 use Rattle.std.specs.Prelude.{ℕ, ◌==◌, ◌≡◌, cond, List, [], ◌∷◌, Option, Some, None, IsSome, length}
 use Rattle.aom_image.specs.Image.{Image}
-use Rattle.aom_image.specs.Operands.{IsRegister}
+use Rattle.aom_instructions.specs.Operands.{IsRegister}
 use Rattle.aom_shape.specs.Things.{Program, field_thing}
 use Rattle.aom_sound.specs.Places.{Place, Register, Entry, Field, Going, Elsewhere, Root, Object, Cell, held, named}
 use Rattle.aom_sound.specs.State.{Task, Run, Trapped, Destroy, Unwind, Dispatched, Item, An_object, An_operation, A_mark, State, thing_holder}

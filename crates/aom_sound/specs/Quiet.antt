@@ -2,7 +2,7 @@
 use Rattle.std.specs.Prelude.{ℤ, Bool, true, false, ◌≡◌, List, [], ◌∷◌}
 use Rattle.aom_image.specs.Image.{Image}
 use Rattle.aom_image.specs.Views.{is_quiet}
-use Rattle.aom_shape.specs.Typing.{Typing, IsTyped}
+use Rattle.aom_rules.specs.Typing.{Typing, IsTyped}
 use Rattle.aom_sound.specs.State.{Frame, Task, Run, Trapped, Destroy, Unwind, Dispatched, Item, A_mark, State, Choice, Goes}
 use Rattle.aom_sound.specs.Moves.{step}
 use Rattle.aom_sound.specs.Tasks.{TaskLaw, Holds}

@@ -1,6 +1,6 @@
 -- What registers own stands in those that a method has.
 use Rattle.std.specs.Prelude.{List, [], ◌∷◌}
-use Rattle.aom_image.specs.Operands.{IsRegister}
+use Rattle.aom_instructions.specs.Operands.{IsRegister}
 use Rattle.aom_sound.specs.Places.{Place, Register, Entry, Field, Going, Elsewhere, Cell}
 
 -- a register has a number that is in its range

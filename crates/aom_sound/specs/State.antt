@@ -5,7 +5,7 @@ use Rattle.aom_image.specs.declared.method.Thing.TheVariants.{Object as An_objec
 use Rattle.aom_shape.specs.Tables.{at, put_at}
 use Rattle.aom_shape.specs.Things.{Holder, Nobody, Program, Member}
 use Rattle.aom_sound.specs.Places.{Place, Field, Elsewhere, Root, Object, Cell}
-use Rattle.aom_sound.specs.declared.line.Ending.{Ending}
+use Rattle.aom_transcript.specs.declared.line.Ending.{Ending}
 
 -- whose fields a frame works on: nobody's, the root as main's only field, or a cell's, with the place that held it when the frame was made
 pub data Home : Type 0 where

@@ -2,8 +2,8 @@
 use Rattle.std.specs.Prelude.{ℕ, suc, ◌-◌, ◌≡◌, ◌⊎◌, ℤ, true, List, [], ◌∷◌, Some, None, length}
 use Rattle.aom_image.specs.Image.{Image}
 use Rattle.aom_image.specs.Views.{gives_of, instr_at}
-use Rattle.aom_image.specs.declared.instr.Instr.{Instr}
-use Rattle.aom_image.specs.declared.instr.Instr.TheVariants.{Call, Delete, Loop, Next, Pop, PopDelete, PopOperation, Push, PushOperation, Return, Trap}
+use Rattle.aom_instructions.specs.declared.instr.Instr.{Instr}
+use Rattle.aom_instructions.specs.declared.instr.Instr.TheVariants.{Call, Delete, Loop, Next, Pop, PopDelete, PopOperation, Push, PushOperation, Return, Trap}
 use Rattle.aom_classes.specs.Jumps.{jump_of}
 use Rattle.aom_classes.specs.Loops.{loop_in}
 use Rattle.aom_shape.specs.Needs.{AllTrue}

@@ -2,17 +2,17 @@
 use Rattle.std.specs.Prelude.{ℕ, suc, ℤ, pos, ◌≡◌, ◌⊎◌, List, [], ◌∷◌, ◌++◌, Some, None}
 use Rattle.aom_image.specs.Image.{Image}
 use Rattle.aom_image.specs.Views.{instr_at}
-use Rattle.aom_image.specs.declared.instr.Instr.TheVariants.{Trap}
-use Rattle.aom_image.specs.declared.instr.Target.{Target}
-use Rattle.aom_shape.specs.Typing.{Typing, IsTyped}
+use Rattle.aom_instructions.specs.declared.instr.Instr.TheVariants.{Trap}
+use Rattle.aom_instructions.specs.declared.instr.Target.{Target}
+use Rattle.aom_rules.specs.Typing.{Typing, IsTyped}
 use Rattle.aom_sound.specs.Places.{named}
 use Rattle.aom_sound.specs.State.{Frame, Dispatch, Task, Run, Trapped, Destroy, Unwind, Dispatched, Item, An_object, An_operation, A_mark, State, Choice, Goes, word, next}
 use Rattle.aom_sound.specs.Moves.{step}
 use Rattle.aom_sound.specs.Tasks.{TaskLaw, Holds}
 use Rattle.aom_sound.specs.WellTyped.{WellTyped}
-use Rattle.aom_sound.specs.World.{boot_state, Reaches}
+use Rattle.aom_sound.specs.World.{boot_state, Reaches, Outside}
 use Rattle.aom_sound.specs.Laws.{IsWired}
-use Rattle.aom_sound.specs.declared.line.Line.{Line}
+use Rattle.aom_transcript.specs.declared.line.Line.{Line}
 
 abbrev pub traps : List Task → ℕ
 traps [] = 0
@@ -61,17 +61,17 @@ pub record IsPast (p : Image) (below : List Task) (items : List Item) (s u : Sta
   pub off : ComesOff p below s u
 
 -- it came to that on the way
-pub record WasPast (p : Image) (refused : List ℕ) (below : List Task) (items : List Item) (from s : State) : Type 0 where
+pub record WasPast (p : Image) (outside : Outside) (below : List Task) (items : List Item) (from s : State) : Type 0 where
   pub earlier : List Line
   pub last : State
-  pub until : Reaches p refused from earlier last
+  pub until : Reaches p outside from earlier last
   pub trapping : IsTrapping below items last
   pub choice : Choice
   pub after : State
   pub move : step p choice last ≡ Goes after
   pub past : IsPast p below items last after
   pub lines : List Line
-  pub reaches : Reaches p refused after lines s
+  pub reaches : Reaches p outside after lines s
 
 -- a method that waits under a trap stands at the instruction that set it
 abbrev pub IsAtTrap : Image → List Task → Type 0
@@ -90,17 +90,17 @@ abbrev pub AllAtTraps : Image → List Task → Type 0
 AllAtTraps p ts = Holds (at_traps p) ts
 
 -- in each state of a run
-abbrev pub EachStandsAtTraps : Image → List ℕ → Type 0
-EachStandsAtTraps p refused = (lines : List Line) (s : State) → Reaches p refused (boot_state p) lines s → AllAtTraps p s.tasks
+abbrev pub EachStandsAtTraps : Image → Outside → Type 0
+EachStandsAtTraps p outside = (lines : List Line) (s : State) → Reaches p outside (boot_state p) lines s → AllAtTraps p s.tasks
 
 -- from a state of a run on a trap is at hand, or it was over at some move
-abbrev pub EachTrapHolds : Image → List ℕ → Type 0
-EachTrapHolds p refused =
-    (before : List Line) (s : State) → Reaches p refused (boot_state p) before s →
-    (below : List Task) (items : List Item) → IsTrapping below items s → (lines : List Line) (u : State) → Reaches p refused s lines u → IsTrapping below items u ⊎ WasPast p refused below items s u
+abbrev pub EachTrapHolds : Image → Outside → Type 0
+EachTrapHolds p outside =
+    (before : List Line) (s : State) → Reaches p outside (boot_state p) before s →
+    (below : List Task) (items : List Item) → IsTrapping below items s → (lines : List Line) (u : State) → Reaches p outside s lines u → IsTrapping below items u ⊎ WasPast p outside below items s u
 
 pub record TrapsKeep : Type 0 where
-  pub stand : (p : Image) (refused : List ℕ) → EachStandsAtTraps p refused
+  pub stand : (p : Image) (outside : Outside) → EachStandsAtTraps p outside
   -- a method sets a trap: it waits under it, and the items are those below its mark
   pub sets :
       (p : Image) (t : Typing) (c : Choice) (s u : State) (fr : Frame) (ts : List Task) (target : Target) (m first x : ℕ) →
@@ -110,4 +110,4 @@ pub record TrapsKeep : Type 0 where
       (p : Image) (t : Typing) → IsWired p → IsTyped p t → (c : Choice) (s u : State) → WellTyped p t s → named s.cells c.name ≡ None →
       (below : List Task) (items : List Item) → IsTrapping below items s → step p c s ≡ Goes u → IsTrapping below items u ⊎ IsPast p below items s u
   -- and of each run from there
-  pub runs : (p : Image) (t : Typing) (refused : List ℕ) → IsWired p → IsTyped p t → EachTrapHolds p refused
+  pub runs : (p : Image) (t : Typing) (outside : Outside) → IsWired p → IsTyped p t → EachTrapHolds p outside

@@ -9,8 +9,8 @@ use Rattle.aom_image.specs.declared.method.Gives.TheVariants.{Nothing, Word as A
 use Rattle.aom_shape.specs.Things.{stands_for, field_thing, holder_of}
 use Rattle.aom_shape.specs.Shape.{Shape}
 use Rattle.aom_shape.specs.Kinds.{register, filled, is_unowning, is_ready_kind, none_owns}
-use Rattle.aom_shape.specs.Typing.{Typing, shape_at, Leads}
-use Rattle.aom_shape.specs.Calls.{brought, caught, is_destructor}
+use Rattle.aom_rules.specs.Typing.{Typing, shape_at, Leads}
+use Rattle.aom_rules.specs.Calls.{brought, caught, is_destructor}
 use Rattle.aom_shape.specs.declared.kind.Age.{Age}
 use Rattle.aom_shape.specs.declared.kind.Age.TheVariants.{Fresh, Ready}
 use Rattle.aom_shape.specs.declared.kind.Filling.TheVariants.{Perhaps}

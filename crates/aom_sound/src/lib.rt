@@ -1,13 +1,12 @@
 //! The checked machine and its laws.
 //!
 //! What a run does is defined here apart from the code that runs: states with a map of owners, what each instruction
-//! needs and does, destruction, the world. Nothing in this crate runs but the types of what a run shows. It promises
+//! needs and does, destruction, the world. Nothing in this crate runs. It promises
 //! that a move from a well-typed state is not stuck and leads to a well-typed one; each law is the contract of a
 //! public function with an empty body.
 #![tactic(auto)]
 
 mod laws;
-mod line;
 
 pub use laws::{
     boot_keeps, calls_bite, calm_keeps, caught_owned, cleanup_bites, destruction_keeps, ends_empty,
@@ -16,4 +15,3 @@ pub use laws::{
     steps_are_counted, steps_are_moves, traps_keep, turn_keeps, typed_is_sound, unwinding_keeps,
     words_bite,
 };
-pub use line::{Ending, Line};

@@ -5,8 +5,8 @@ use Rattle.std.proofs.Common.{◌≡◌, ◌≤◌, ◌+◌, ◌-◌, ◌*◌, �
 use Rattle.aom_image.specs.Image.{Image}
 use Rattle.aom_image.specs.Views.{arguments_in, class_at, class_in, fields_in, gives_in, instr_at, instr_in, method_at, quiet_in, role_in}
 use Rattle.aom_image.specs.declared.class.ClassKind.TheVariants.{Plain}
-use Rattle.aom_image.specs.declared.instr.Instr.{Instr}
-use Rattle.aom_image.specs.declared.instr.Instr.TheVariants.{Delete, Loop, New, Next, Return, Stop}
+use Rattle.aom_instructions.specs.declared.instr.Instr.{Instr}
+use Rattle.aom_instructions.specs.declared.instr.Instr.TheVariants.{Delete, Loop, New, Next, Return, Stop}
 use Rattle.aom_image.specs.declared.method.Gives.TheVariants.{Nothing}
 use Rattle.aom_image.specs.declared.method.Method.{Method}
 use Rattle.aom_image.specs.declared.method.Role.{Role}
@@ -18,10 +18,11 @@ use Rattle.aom_classes.specs.Loops.{loop_in, next_in}
 use Rattle.aom_classes.specs.Roles.{destructor_of, main_of, plays, role_of}
 use Rattle.aom_classes.proofs.Playing.{role_found}
 use Rattle.aom_shape.specs.Order.{SaysNoMore, Weaker, WeakerFilling, alike, alike_filling, perhaps_empty, unset_null}
-use Rattle.aom_shape.specs.Rules.{flows}
+use Rattle.aom_rules.specs.Rules.{flows}
 use Rattle.aom_shape.specs.Shape.{Shape}
 use Rattle.aom_shape.specs.Tables.{at}
-use Rattle.aom_shape.specs.Typing.{IsTyped, Leads, Passes, Typing, entry_shape, shape_at}
+use Rattle.aom_rules.specs.Typing.{IsTyped, Leads, Passes, Typing, shape_at}
+use Rattle.aom_shape.specs.Arguments.{entry_shape}
 use Rattle.aom_shape.specs.declared.kind.Age.TheVariants.{Ready}
 use Rattle.aom_shape.specs.declared.kind.Filling.{Filling}
 use Rattle.aom_shape.specs.declared.kind.Filling.TheVariants.{Empty, Perhaps}
@@ -30,8 +31,8 @@ use Rattle.aom_shape.specs.declared.kind.Kind.TheVariants.{Maybe, Null, Unset}
 use Rattle.aom_sound.specs.Moves.{step}
 use Rattle.aom_sound.specs.State.{Goes, IsStuck, Outcome}
 use Rattle.aom_sound.specs.World.{boot_state}
-use Rattle.aom_sound.specs.declared.line.Ending.{Ending}
-use Rattle.aom_sound.specs.declared.line.Ending.TheVariants.{Stopped}
+use Rattle.aom_transcript.specs.declared.line.Ending.{Ending}
+use Rattle.aom_transcript.specs.declared.line.Ending.TheVariants.{Stopped}
 use Rattle.aom_prices.specs.Prices.{AllPaid, Prices, Stands, own, price}
 use Rattle.aom_prices.specs.Dispatches.{IsAffordable, main_price}
 

@@ -4,17 +4,17 @@ use Rattle.std.proofs.Common.{◌≡◌, ◌<◌, ◌≤◌, ◌+◌, ◌∙◌,
 use Rattle.aom_image.specs.Image.{Image}
 use Rattle.aom_image.specs.Views.{instr_at, method_at}
 use Rattle.aom_image.specs.WellFormed.{WellFormed}
-use Rattle.aom_image.specs.declared.instr.Instr.{Instr}
+use Rattle.aom_instructions.specs.declared.instr.Instr.{Instr}
 use Rattle.aom_image.specs.declared.method.Thing.TheVariants.{Object as An_object_of}
 use Rattle.aom_classes.specs.Linked.{IsLinked}
 use Rattle.aom_classes.specs.Roles.{main_of}
 use Rattle.aom_classes.proofs.Facts.{of_method}
 use Rattle.aom_shape.specs.Kinds.{filled}
 use Rattle.aom_shape.specs.Needs.{AllTrue}
-use Rattle.aom_shape.specs.Rules.{rule_needs}
+use Rattle.aom_rules.specs.Rules.{rule_needs}
 use Rattle.aom_shape.specs.Shape.{Shape}
 use Rattle.aom_shape.specs.Things.{root_thing}
-use Rattle.aom_shape.specs.Typing.{IsTyped, Typing}
+use Rattle.aom_rules.specs.Typing.{IsTyped, Typing}
 use Rattle.aom_shape.specs.declared.kind.Filling.TheVariants.{Perhaps}
 use Rattle.aom_sound.proofs.Booting.{boot_keeps}
 use Rattle.aom_sound.proofs.Counting.{move_steps, steps_are_counted}
@@ -34,8 +34,8 @@ use Rattle.aom_sound.specs.Places.{Elsewhere, Entry, Going, Object, Root, held, 
 use Rattle.aom_sound.specs.State.{An_object, Choice, Destroy, Dispatch, Dispatched, Frame, Goes, Item, Main_left, Of_main, Of_root, Outcome, Run, State, Task, Trapped, Unwind, raised}
 use Rattle.aom_sound.specs.Steps.{Acts, Arrives, Clears, Comes_out, Ends, Move, Rests, Undoes, Vanishes, IsStill}
 use Rattle.aom_sound.specs.WellTyped.{Fits, Good, Keeps, WellTyped}
-use Rattle.aom_sound.specs.World.{Reaches, begins, boot_state, moves, waits}
-use Rattle.aom_sound.specs.declared.line.Line.{Line}
+use Rattle.aom_sound.specs.World.{Reaches, begins, boot_state, moves, waits, Outside}
+use Rattle.aom_transcript.specs.declared.line.Line.{Line}
 use Rattle.aom_ranks.proofs.Worths.{resumed_alike, told_alike}
 use Rattle.aom_prices.specs.Layers.{ArePricesUpTo}
 use Rattle.aom_prices.specs.Prices.{IsPriced, Prices, Stands, price}
@@ -171,11 +171,11 @@ moves_pay = record {
   };
 }
 
-module _ (p : Image) (t : Typing) (c : Prices) (refused : List ℕ) (wired : IsWired p) (linked : IsLinked p) (typed : IsTyped p t) (priced : IsPriced p t c) where
+module _ (p : Image) (t : Typing) (c : Prices) (outside : Outside) (wired : IsWired p) (linked : IsLinked p) (typed : IsTyped p t) (priced : IsPriced p t c) where
   keeps_on : (u : State) (o : Outcome) → o ≡ Goes u → Keeps p t o → WellTyped p t u
   keeps_on u o e k = subst (λ x. Keeps p t x) e k
 
-  stays : {lines : List Line} {s : State} (reached : Reaches p refused (boot_state p) lines s) → WellTyped p t s × (taken reached + left p c s ≤ main_price p c)
+  stays : {lines : List Line} {s : State} (reached : Reaches p outside (boot_state p) lines s) → WellTyped p t s × (taken reached + left p c s ≤ main_price p c)
   stays begins = (boot_keeps p t wired typed, (boot_within p c).within)
   stays (moves {s = s} {u = u} ch reached busy opened goes) =
       let so = stays reached in
@@ -204,21 +204,21 @@ pub steps_within : StepsWithin
 steps_within = record { price = by_price; each = by_budget; limited = by_limit }
   where
     by_price :
-        (p : Image) (t : Typing) (c : Prices) (refused : List ℕ) → WellFormed p → IsLinked p → IsTyped p t → IsPriced p t c →
-        (lines : List Line) (s : State) (reached : Reaches p refused (boot_state p) lines s) → taken reached ≤ main_price p c
-    by_price p t c refused formed linked typed priced lines s reached = omega (arith, (stays p t c refused (linked_is_wired p formed linked) linked typed priced reached).1)
+        (p : Image) (t : Typing) (c : Prices) (outside : Outside) → WellFormed p → IsLinked p → IsTyped p t → IsPriced p t c →
+        (lines : List Line) (s : State) (reached : Reaches p outside (boot_state p) lines s) → taken reached ≤ main_price p c
+    by_price p t c outside formed linked typed priced lines s reached = omega (arith, (stays p t c outside (linked_is_wired p formed linked) linked typed priced reached).1)
 
-    by_budget : (p : Image) (t : Typing) (c : Prices) (refused : List ℕ) → WellFormed p → IsLinked p → IsTyped p t → IsAffordable p t c → KeepsBudget p refused
-    by_budget p t c refused formed linked typed affords = record {
+    by_budget : (p : Image) (t : Typing) (c : Prices) (outside : Outside) → WellFormed p → IsLinked p → IsTyped p t → IsAffordable p t c → KeepsBudget p outside
+    by_budget p t c outside formed linked typed affords = record {
       within = within;
-      counted = λ lines s reached. omega (arith, within lines s reached, formed.header.budget, steps_are_counted.runs p refused lines s reached);
+      counted = λ lines s reached. omega (arith, within lines s reached, formed.header.budget, steps_are_counted.runs p outside lines s reached);
     }
       where
-        within : (lines : List Line) (s : State) (reached : Reaches p refused (boot_state p) lines s) → taken reached ≤ p.header.budget
-        within lines s reached = omega (arith, by_price p t c refused formed linked typed affords.priced lines s reached, affords.declared)
+        within : (lines : List Line) (s : State) (reached : Reaches p outside (boot_state p) lines s) → taken reached ≤ p.header.budget
+        within lines s reached = omega (arith, by_price p t c outside formed linked typed affords.priced lines s reached, affords.declared)
 
     by_limit :
-        (limit : ℕ) (p : Image) (t : Typing) (c : Prices) (refused : List ℕ) → WellFormed p → IsLinked p → IsTyped p t → ArePricesUpTo limit p t c →
-        p.header.budget < limit → main_price p c ≤ p.header.budget → KeepsBudget p refused
-    by_limit limit p t c refused formed linked typed are below declared =
-        by_budget p t are.whole.prices refused formed linked typed (affordable_below limit p t c (linked_is_wired p formed linked) are below declared)
+        (limit : ℕ) (p : Image) (t : Typing) (c : Prices) (outside : Outside) → WellFormed p → IsLinked p → IsTyped p t → ArePricesUpTo limit p t c →
+        p.header.budget < limit → main_price p c ≤ p.header.budget → KeepsBudget p outside
+    by_limit limit p t c outside formed linked typed are below declared =
+        by_budget p t are.whole.prices outside formed linked typed (affordable_below limit p t c (linked_is_wired p formed linked) are below declared)

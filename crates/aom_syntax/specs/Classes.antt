@@ -107,14 +107,17 @@ fields scope true = things scope
 abbrev pub flag : Keyword → Reading Bool
 flag key ws = Ok (took key ws)
 
--- a class, at its place among the classes, after so many servers
-abbrev pub class_statement : Scope → ℕ → ℕ → ℕ → Reading ClassDecl
-class_statement scope natives place servers =
-    next (declared place scope.classes) (λ u.
+-- what stands behind a class's name, where so many servers stand before it
+abbrev pub class_parts : Scope → ℕ → ℕ → Reading ClassDecl
+class_parts scope natives servers =
     next any_keyword (λ key.
     next (purpose scope natives servers key) (λ p.
     next (optional_number k.Words 8) (λ words.
     next (flag k.Own) (λ owns.
     next (fields scope owns) (λ list.
     next (kind owns p) (λ kind.
-    giving (record { kind = kind; words = words; fields = list }))))))))
+    giving (record { kind = kind; words = words; fields = list })))))))
+
+-- a class, at its place among the classes, after so many servers
+abbrev pub class_statement : Scope → ℕ → ℕ → ℕ → Reading ClassDecl
+class_statement scope natives place servers = next (declared place scope.classes) (λ u. class_parts scope natives servers)

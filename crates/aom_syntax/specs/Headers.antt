@@ -18,14 +18,16 @@ abbrev pub optional_version : Reading (Unit {0})
 optional_version ws = if (took k.Version ws).0 then next (number 2 2) (λ n. failing BadShape) (took k.Version ws).1 else Ok (tt, (took k.Version ws).1)
 
 -- limits, main's budget and the root's class
-abbrev pub image_statement : Scope → Reading Header
-image_statement scope =
-    next (keyword k.Image) (λ u.
-    next optional_version (λ u.
+abbrev pub limits_and_root : Scope → Reading Header
+limits_and_root scope =
     next (optional_number k.Cells 4096) (λ cells.
     next (optional_number k.Messages 1024) (λ messages.
     next (optional_number k.Natives 16) (λ natives.
     next (keyword k.Budget) (λ u.
     next (number 0 4294967295) (λ budget.
     next (optional_root scope) (λ root.
-    giving (record { cells = cells; messages = messages; natives = natives; root = root; budget = budget })))))))))
+    giving (record { cells = cells; messages = messages; natives = natives; root = root; budget = budget })))))))
+
+-- the statement that opens a text
+abbrev pub image_statement : Scope → Reading Header
+image_statement scope = next (keyword k.Image) (λ u. next optional_version (λ u. limits_and_root scope))

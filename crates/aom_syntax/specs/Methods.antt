@@ -16,16 +16,16 @@ use Rattle.aom_image.specs.declared.method.Role.{Role}
 use Rattle.aom_image.specs.declared.method.Role.TheVariants as roles
 use Rattle.aom_image.specs.declared.method.States.{States}
 use Rattle.aom_image.specs.declared.method.MethodFlags.{MethodFlags}
-use Rattle.aom_image.specs.declared.instr.Instr.{Instr}
+use Rattle.aom_instructions.specs.declared.instr.Instr.{Instr}
 use Rattle.aom_syntax.specs.Reading.{◌>>=◌, Reading, next, seen, giving, failing, word, name, as_name, took, any_keyword, nothing_more}
 use Rattle.aom_syntax.specs.Keywords.{strange}
-use Rattle.aom_image.specs.Mnemonics.{mnemonic_of}
+use Rattle.aom_instructions.specs.Mnemonics.{mnemonic_of}
 use Rattle.aom_syntax.specs.Operands.{class}
 use Rattle.aom_syntax.specs.Words.{words_operands}
 use Rattle.aom_syntax.specs.Classes.{declared, declared_at, listed, thing_of, thing, flag}
 use Rattle.aom_syntax.specs.declared.keyword.Keyword.{Keyword}
 use Rattle.aom_syntax.specs.declared.keyword.Keyword.TheVariants as k
-use Rattle.aom_image.specs.declared.mnemonic.Mnemonic.{Mnemonic}
+use Rattle.aom_instructions.specs.declared.mnemonic.Mnemonic.{Mnemonic}
 use Rattle.aom_syntax.specs.declared.scope.Scope.{Scope}
 use Rattle.aom_syntax.specs.declared.method.Heading.{Heading}
 
@@ -208,19 +208,22 @@ optional_gives scope usual ws =
 abbrev pub flags_of : Bool → Bool → MethodFlags
 flags_of leaves quiet = record { 0 = (if leaves then 1 else 0) + (if quiet then 2 else 0) }
 
--- a method but its code, at its place among the methods
-abbrev pub heading : Scope → ℕ → Reading Heading
-heading scope place =
-    next (declared place scope.methods) (λ u.
-    next role (λ role.
-    next (optional_class scope) (λ class.
-    next (flag k.Leaves) (λ leaves.
-    next (flag k.Quiet) (λ quiet.
+-- what a method promises: its states, its arguments and its result
+abbrev pub promised : Scope → Role → Option ℕ → Bool → Bool → Reading Heading
+promised scope role class leaves quiet =
     next (optional_states k.In (usual_before role (all_states (kind_of scope.kinds class)))) (λ before.
     next (optional_states k.Out (usual_after role (all_states (kind_of scope.kinds class)))) (λ after.
     next (optional_arguments scope (usual_words role)) (λ arguments.
     next (optional_gives scope (usual_gives scope.is_strict role (kind_of scope.kinds class))) (λ gives.
-    giving (record { class = class; role = role; flags = flags_of leaves (quiet || is_quiet_role role); before = before; after = after; arguments = arguments; gives = gives }))))))))))
+    giving (record { class = class; role = role; flags = flags_of leaves (quiet || is_quiet_role role); before = before; after = after; arguments = arguments; gives = gives })))))
+
+-- what stands behind its class
+abbrev pub behind_class : Scope → Role → Option ℕ → Reading Heading
+behind_class scope role class = next (flag k.Leaves) (λ leaves. next (flag k.Quiet) (λ quiet. promised scope role class leaves quiet))
+
+-- a method but its code, at its place among the methods
+abbrev pub heading : Scope → ℕ → Reading Heading
+heading scope place = next (declared place scope.methods) (λ u. next role (λ role. next (optional_class scope) (λ class. behind_class scope role class)))
 
 -- ---- instructions
 

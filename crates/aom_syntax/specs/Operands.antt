@@ -5,8 +5,8 @@ use Rattle.aom_text.specs.Numbers.{number_of, number_within, number_signed}
 use Rattle.aom_text.specs.declared.number.Number.{Number}
 use Rattle.aom_text.specs.declared.fault.AsmFaultKind.{AsmFaultKind}
 use Rattle.aom_text.specs.declared.fault.AsmFaultKind.TheVariants.{BadNumber, BadShape}
-use Rattle.aom_image.specs.declared.instr.Target.{Target}
-use Rattle.aom_image.specs.declared.instr.Target.TheVariants as targets
+use Rattle.aom_instructions.specs.declared.instr.Target.{Target}
+use Rattle.aom_instructions.specs.declared.instr.Target.TheVariants as targets
 use Rattle.aom_syntax.specs.Reading.{◌>>=◌, Reading, seen, word, name, number, in_range}
 use Rattle.aom_syntax.specs.Names.{place_of, referred}
 use Rattle.aom_syntax.specs.declared.scope.Scope.{Scope}

@@ -1,21 +1,21 @@
 -- What stands behind a mnemonic: operands of the kinds that its row asks, in the order of a text.
 use Rattle.std.specs.Prelude.{ℕ, List}
-use Rattle.aom_image.specs.Parts.{make, operands_of}
-use Rattle.aom_image.specs.Rows.{row}
-use Rattle.aom_image.specs.declared.instr.Instr.{Instr}
-use Rattle.aom_image.specs.declared.kinds.Kinds.{Kinds}
-use Rattle.aom_image.specs.declared.kinds.LargeKind.{LargeKind}
-use Rattle.aom_image.specs.declared.kinds.LargeKind.TheVariants as lk
-use Rattle.aom_image.specs.declared.kinds.Order.{Order}
-use Rattle.aom_image.specs.declared.kinds.Order.TheVariants.{LargeLast, LargeSecond}
-use Rattle.aom_image.specs.declared.kinds.SmallKind.{SmallKind}
-use Rattle.aom_image.specs.declared.kinds.SmallKind.TheVariants as sk
-use Rattle.aom_image.specs.declared.mnemonic.Mnemonic.{Mnemonic}
-use Rattle.aom_image.specs.declared.operand.Large.{Large}
-use Rattle.aom_image.specs.declared.operand.Large.TheVariants as large
-use Rattle.aom_image.specs.declared.operand.Operands.{Operands}
-use Rattle.aom_image.specs.declared.operand.Small.{Small}
-use Rattle.aom_image.specs.declared.operand.Small.TheVariants as small
+use Rattle.aom_instructions.specs.Parts.{make, operands_of}
+use Rattle.aom_instructions.specs.Rows.{row}
+use Rattle.aom_instructions.specs.declared.instr.Instr.{Instr}
+use Rattle.aom_instructions.specs.declared.kinds.Kinds.{Kinds}
+use Rattle.aom_instructions.specs.declared.kinds.LargeKind.{LargeKind}
+use Rattle.aom_instructions.specs.declared.kinds.LargeKind.TheVariants as lk
+use Rattle.aom_instructions.specs.declared.kinds.Order.{Order}
+use Rattle.aom_instructions.specs.declared.kinds.Order.TheVariants.{LargeLast, LargeSecond}
+use Rattle.aom_instructions.specs.declared.kinds.SmallKind.{SmallKind}
+use Rattle.aom_instructions.specs.declared.kinds.SmallKind.TheVariants as sk
+use Rattle.aom_instructions.specs.declared.mnemonic.Mnemonic.{Mnemonic}
+use Rattle.aom_instructions.specs.declared.operand.Large.{Large}
+use Rattle.aom_instructions.specs.declared.operand.Large.TheVariants as large
+use Rattle.aom_instructions.specs.declared.operand.Operands.{Operands}
+use Rattle.aom_instructions.specs.declared.operand.Small.{Small}
+use Rattle.aom_instructions.specs.declared.operand.Small.TheVariants as small
 use Rattle.aom_syntax.specs.Reading.{Reading, next, giving}
 use Rattle.aom_syntax.specs.Operands.{class, depth, field, label, last_register, method, rounds, signed, target, word_field}
 use Rattle.aom_syntax.specs.declared.scope.Scope.{Scope}

@@ -4,12 +4,12 @@ use Rattle.std.proofs.lemmas.Bool.Decides.{eqb_tells}
 use Rattle.std.proofs.lemmas.List.{length-set, length-replicate}
 use Rattle.std.proofs.lemmas.List.Sums.{sum_by-set, sum_by-cons}
 use Rattle.aom_image.specs.Image.{Image}
-use Rattle.aom_shape.specs.Laws.{HaveAtMost}
+use Rattle.aom_rules.specs.Laws.{HaveAtMost}
 use Rattle.aom_shape.specs.Meet.{IsMeet}
 use Rattle.aom_shape.specs.Needs.{Flow}
 use Rattle.aom_shape.specs.Shape.{Shape}
 use Rattle.aom_shape.specs.Tables.{at}
-use Rattle.aom_shape.proofs.Growing.{at_most_one_more}
+use Rattle.aom_rules.proofs.Growing.{at_most_one_more}
 use Rattle.aom_shape.proofs.Lists.{at_within, at_set_here, at_set_other}
 use Rattle.aom_verify.specs.Change.{unreached, unreached_count, IsChange}
 use Rattle.aom_verify.specs.Entries.{HasFewEntries, IsFew, AllFew, HasRoom}

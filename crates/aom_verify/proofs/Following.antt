@@ -1,6 +1,6 @@
 -- Whoever meets the flows of a state meets those of a state that says more.
 use Rattle.std.proofs.Common.{List, [], ◌∷◌, inl, inr}
-use Rattle.aom_shape.specs.Laws.{Follows, AllFollow}
+use Rattle.aom_rules.specs.Laws.{Follows, AllFollow}
 use Rattle.aom_shape.specs.Needs.{Flow}
 use Rattle.aom_verify.specs.Shapes.{Shapes, Meets, AllMet}
 use Rattle.aom_verify.proofs.Ordering.{meets_more}

@@ -2,7 +2,7 @@
 use Rattle.std.proofs.Common.{◌≡◌, ℕ, ◌<◌, IsSome, refl}
 use Rattle.aom_image.specs.Image.{Image}
 use Rattle.aom_image.specs.Views.{method_at}
-use Rattle.aom_shape.specs.Typing.{Typing, IsTyped}
+use Rattle.aom_rules.specs.Typing.{Typing, IsTyped}
 use Rattle.aom_verify.specs.Refusals.{RefusesMethod, RefusesOrWants}
 use Rattle.aom_verify.specs.Shapes.{HasTyping}
 use Rattle.aom_verify.specs.declared.refusal.Refusal.{Refusal}

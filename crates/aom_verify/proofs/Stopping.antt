@@ -5,7 +5,7 @@ use Rattle.aom_shape.specs.Needs.{Flow}
 use Rattle.aom_shape.specs.Order.{SaysNoMore}
 use Rattle.aom_shape.specs.Shape.{Shape}
 use Rattle.aom_shape.specs.Tables.{at}
-use Rattle.aom_shape.specs.Typing.{entry_shape}
+use Rattle.aom_shape.specs.Arguments.{entry_shape}
 use Rattle.aom_shape.specs.declared.why.Why.{Why}
 use Rattle.aom_verify.specs.Faults.{JoinStops, Stops, refusal_of}
 use Rattle.aom_verify.specs.Refusals.{RefusesMethod}

@@ -6,7 +6,7 @@ use Rattle.aom_image.specs.Image.{Image}
 use Rattle.aom_shape.specs.Order.{SaysNoMore}
 use Rattle.aom_shape.specs.Shape.{Shape}
 use Rattle.aom_shape.specs.Tables.{at}
-use Rattle.aom_shape.specs.Typing.{entry_shape}
+use Rattle.aom_shape.specs.Arguments.{entry_shape}
 use Rattle.aom_shape.specs.declared.why.Why.{Why}
 use Rattle.aom_shape.proofs.Lists.{at_set_other, at_past}
 use Rattle.aom_verify.specs.Arrivals.{AllArrive, StatesFail}

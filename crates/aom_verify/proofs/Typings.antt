@@ -7,11 +7,10 @@ use Rattle.aom_classes.proofs.Views.{within}
 use Rattle.aom_shape.specs.Needs.{Flow}
 use Rattle.aom_shape.specs.Shape.{Shape}
 use Rattle.aom_shape.specs.Tables.{at}
-use Rattle.aom_shape.specs.Typing.{Typing, IsTyped, Passes, AllLead, shape_at}
-use Rattle.aom_shape.proofs.Lists.{at_past}
+use Rattle.aom_rules.specs.Typing.{Typing, IsTyped, Passes, AllLead, shape_at}
+use Rattle.aom_shape.proofs.Lists.{at_past, there}
 use Rattle.aom_verify.specs.Shapes.{Shapes, AllMet, Applies, IsMethodTyped, HasTyping}
 use Rattle.aom_verify.specs.Strongest.{IsMethodStrongest, IsStrongest}
-use Rattle.aom_shape.proofs.Callees.{there}
 
 leads_all : (t : Typing) (m : ℕ) (ways : List Flow) → AllMet (at [] t m) ways → AllLead t m ways
 leads_all t m [] h = tt

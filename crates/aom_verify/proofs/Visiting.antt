@@ -2,14 +2,14 @@
 use Rattle.std.proofs.Common.{◌≡◌, ℕ, zero, suc, ◌<◌, false, List, [], ◌∷◌, length, Some, None, IsSome, slice_get, inl, inr, refl, arith}
 use Rattle.aom_image.specs.Image.{Image}
 use Rattle.aom_image.specs.Views.{instr_at, instr_in}
-use Rattle.aom_image.specs.declared.instr.Instr.{Instr}
+use Rattle.aom_instructions.specs.declared.instr.Instr.{Instr}
 use Rattle.aom_shape.specs.Needs.{Flow}
 use Rattle.aom_shape.specs.Order.{SaysNoMore}
-use Rattle.aom_shape.specs.Rules.{flows}
+use Rattle.aom_rules.specs.Rules.{flows}
 use Rattle.aom_shape.specs.Shape.{Shape}
 use Rattle.aom_shape.specs.Tables.{at}
 use Rattle.aom_shape.specs.declared.why.Why.{Why}
-use Rattle.aom_shape.proofs.Monotone.{needs_more, flows_more}
+use Rattle.aom_rules.proofs.Monotone.{needs_more, flows_more}
 use Rattle.aom_verify.specs.Arrivals.{Arrives, IsOneOf, AllArrive, EachArrives, JoinFails, StatesFail}
 use Rattle.aom_verify.specs.Arrivals.Arrives.{led}
 use Rattle.aom_verify.specs.Arrivals.FailsFor.{by_rule}

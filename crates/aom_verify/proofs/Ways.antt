@@ -2,7 +2,7 @@
 use Rattle.std.proofs.Common.{◌≡◌, ℕ, suc, ◌<◌, true, false, cond, List, [], ◌∷◌, length, IsSome, IfSome, Some, None, Ok, Err, refl, sym, ap, subst}
 use Rattle.aom_image.specs.Image.{Image}
 use Rattle.aom_image.specs.Views.{instr_at, method_at}
-use Rattle.aom_image.specs.declared.instr.Instr.{Instr}
+use Rattle.aom_instructions.specs.declared.instr.Instr.{Instr}
 use Rattle.aom_classes.specs.Jumps.{KeepsWithin, back_of, jump_of}
 use Rattle.aom_classes.specs.Linked.{IsLinked}
 use Rattle.aom_classes.specs.Loops.{LoopsNest}
@@ -11,16 +11,16 @@ use Rattle.aom_classes.proofs.Nested.{back_within}
 use Rattle.aom_image.specs.declared.method.Method.{Method}
 use Rattle.aom_shape.specs.Kinds.{register, field}
 use Rattle.aom_shape.specs.Needs.{Need, Flow, AllTrue, judged}
-use Rattle.aom_shape.specs.Objects.{flow_jump_null, flow_jump_empty}
-use Rattle.aom_shape.specs.Rules.{rule_needs, flows, rule, ways_of}
+use Rattle.aom_rules.specs.Objects.{flow_jump_null, flow_jump_empty}
+use Rattle.aom_rules.specs.Rules.{rule_needs, flows, rule, ways_of}
 use Rattle.aom_shape.specs.Shape.{Shape}
-use Rattle.aom_shape.specs.Ways.{Ways, Ends, Goes_on, Goes_to, Branches, Goes_back, Branches_on_null, Branches_on_empty, flowing}
+use Rattle.aom_rules.specs.Ways.{Ways, Ends, Goes_on, Goes_to, Branches, Goes_back, Branches_on_null, Branches_on_empty, flowing}
 use Rattle.aom_shape.specs.declared.kind.Filling.{Filling}
 use Rattle.aom_shape.specs.declared.kind.Filling.TheVariants as fillings
 use Rattle.aom_shape.specs.declared.kind.Kind.{Kind}
 use Rattle.aom_shape.specs.declared.kind.Kind.TheVariants as kinds
 use Rattle.aom_shape.specs.declared.why.Why.{Why}
-use Rattle.aom_shape.proofs.Ways.{Leads, leads}
+use Rattle.aom_rules.proofs.Ways.{Leads, leads}
 use Rattle.aom_verify.specs.Sweep.{AllWithin, Flows, Fails, WithinMethod}
 
 judged_ok : (needs : List Need) (fs gs : List Flow) → judged needs fs ≡ Ok gs → AllTrue needs × (gs ≡ fs)

@@ -2,13 +2,13 @@
 use Rattle.std.specs.Prelude.{ℕ, ◌≡◌, List, [], ◌∷◌, Option, Some, None}
 use Rattle.aom_image.specs.Image.{Image}
 use Rattle.aom_image.specs.Views.{instr_at}
-use Rattle.aom_image.specs.declared.instr.Instr.{Instr}
+use Rattle.aom_instructions.specs.declared.instr.Instr.{Instr}
 use Rattle.aom_shape.specs.Tables.{at}
 use Rattle.aom_shape.specs.Shape.{Shape}
 use Rattle.aom_shape.specs.Order.{SaysNoMore}
 use Rattle.aom_shape.specs.Needs.{Flow, AllTrue}
-use Rattle.aom_shape.specs.Rules.{rule_needs, flows}
-use Rattle.aom_shape.specs.Typing.{entry_shape}
+use Rattle.aom_rules.specs.Rules.{rule_needs, flows}
+use Rattle.aom_shape.specs.Arguments.{entry_shape}
 
 -- by place; none where the place is not reached
 abbrev pub Shapes : Type 0

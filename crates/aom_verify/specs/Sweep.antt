@@ -2,12 +2,12 @@
 use Rattle.std.specs.Prelude.{ℕ, ◌≡◌, ◌≢◌, ◌≤◌, ◌<◌, Bool, true, false, length, List, [], ◌∷◌, Some, None, Err}
 use Rattle.aom_image.specs.Image.{Image}
 use Rattle.aom_image.specs.Views.{method_at, instr_at}
-use Rattle.aom_image.specs.declared.instr.Instr.{Instr}
+use Rattle.aom_instructions.specs.declared.instr.Instr.{Instr}
 use Rattle.aom_image.specs.declared.method.Method.{Method}
 use Rattle.aom_shape.specs.Tables.{at}
 use Rattle.aom_shape.specs.Shape.{Shape}
 use Rattle.aom_shape.specs.Needs.{Flow, AllTrue}
-use Rattle.aom_shape.specs.Rules.{rule_needs, flows, rule}
+use Rattle.aom_rules.specs.Rules.{rule_needs, flows, rule}
 use Rattle.aom_shape.specs.declared.why.Why.{Why}
 use Rattle.aom_verify.specs.Arrivals.{AllArrive, EachArrives}
 use Rattle.aom_verify.specs.Change.{IsChange, unreached_count}

@@ -1,7 +1,7 @@
 //! Checked images.
 ghost use Rattle.std.specs.Prelude.{◌≡◌, ◌<◌, IfOk, IfErr, IsSome};
 ghost use Rattle.aom_image.specs.Views.{method_at};
-ghost use Rattle.aom_shape.specs.Typing.{Typing, IsTyped};
+ghost use Rattle.aom_rules.specs.Typing.{Typing, IsTyped};
 ghost use Rattle.aom_verify.specs.Refusals.{RefusesMethod, RefusesOrWants};
 ghost use Rattle.aom_verify.specs.Strongest.{IsMethodStrongest, IsStrongest, IsShapeAt};
 ghost use Rattle.aom_verify.specs.Sweep.{HasPlaces};

@@ -2,10 +2,10 @@
 ghost use Rattle.std.specs.Prelude.{◌≡◌, ◌<◌, suc, [], ◌∷◌, length, replicate, slice_set, IfOk, IfErr, IsSome, Some, None};
 ghost use Rattle.aom_image.specs.Views.{instr_at};
 ghost use Rattle.aom_shape.specs.Changes.{changed, kept_shape, known_with, leads_both, leads_to, ways_from};
-ghost use Rattle.aom_shape.specs.Laws.{HaveAtMost};
+ghost use Rattle.aom_rules.specs.Laws.{HaveAtMost};
 ghost use Rattle.aom_shape.specs.Meet.{NoMeet, WhyNoMeet};
 ghost use Rattle.aom_shape.specs.Piles.{Stands, entries_of};
-ghost use Rattle.aom_shape.specs.Rules.{rule};
+ghost use Rattle.aom_rules.specs.Rules.{rule};
 ghost use Rattle.aom_shape.specs.Tables.{at};
 ghost use Rattle.aom_verify.specs.Entries.{IsFew, AllFew, HasRoom};
 ghost use Rattle.aom_verify.specs.Faults.{JoinStops, Stops, refusal_of};
@@ -16,8 +16,9 @@ use crate::Refusal;
 use crate::change::{Change, Step};
 use aom_classes::Linked;
 use aom_image::MethodNumber;
+use aom_rules::rule;
 use aom_shape::{
-    Change as EntriesChange, Flow, Kept, Known, Pile, Piles, Shape, Way, Why, meet, rule, weaker,
+    Change as EntriesChange, Flow, Kept, Known, Pile, Piles, Shape, Way, Why, meet, weaker,
 };
 use std::alloc::{AllocError, Global};
 use std::marker::Model;

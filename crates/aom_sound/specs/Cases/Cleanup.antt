@@ -1,6 +1,6 @@
 -- The needs of instructions on the cleanup stack and of leaves.
 use Rattle.std.specs.Prelude.{pos, negsuc, List, [], ◌∷◌, true, Some}
-use Rattle.aom_image.specs.declared.instr.Instr.TheVariants.{NewOrLeave, Push, PushOperation, Pop, PopOperation, PopDelete, Leave, LeaveIf}
+use Rattle.aom_instructions.specs.declared.instr.Instr.TheVariants.{NewOrLeave, Push, PushOperation, Pop, PopOperation, PopDelete, Leave, LeaveIf}
 use Rattle.aom_image.specs.declared.method.Thing.TheVariants.{Message}
 use Rattle.aom_sound.specs.Places.{Register, Entry}
 use Rattle.aom_sound.specs.State.{Static, frame_of, Task, Run, Trapped, Destroy, Unwind, Dispatched, Of_main, An_object, An_operation, A_mark, PopUnder, PushNoTrap, LeaveNoTrap, Orphan, NullOrDead, WrongKind}

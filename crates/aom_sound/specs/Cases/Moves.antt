@@ -1,7 +1,7 @@
 -- The needs of the moves that are no instruction, and of the place where a method stands.
 use Rattle.std.specs.Prelude.{pos, Bool, false, List, [], ◌∷◌, ◌≡◌, map, None}
 use Rattle.aom_image.specs.Image.{Image}
-use Rattle.aom_image.specs.declared.instr.Instr.TheVariants.{Stop, JumpActive, JumpAdded, Enlist, Issue, SetActive, Cancel, Abort, Status, Connect, Ask, Close, TakeMessage, Reply}
+use Rattle.aom_instructions.specs.declared.instr.Instr.TheVariants.{Stop, JumpActive, JumpAdded, Enlist, Issue, SetActive, Cancel, Abort, Status, Connect, Ask, Close, TakeMessage, Reply}
 use Rattle.aom_image.specs.declared.method.Gives.TheVariants.{Nothing}
 use Rattle.aom_image.specs.declared.method.Thing.TheVariants.{Message}
 use Rattle.aom_sound.specs.Places.{Entry, Field, Going}

@@ -1,6 +1,6 @@
 -- The needs of instructions on objects.
 use Rattle.std.specs.Prelude.{List, [], ◌∷◌, true, None}
-use Rattle.aom_image.specs.declared.instr.Instr.TheVariants.{Move, JumpNull, JumpEmpty, Take, Put, New, Delete}
+use Rattle.aom_instructions.specs.declared.instr.Instr.TheVariants.{Move, JumpNull, JumpEmpty, Take, Put, New, Delete}
 use Rattle.aom_image.specs.declared.method.Thing.TheVariants.{Message}
 use Rattle.aom_sound.specs.Places.{Field, Elsewhere, Root}
 use Rattle.aom_sound.specs.State.{AtRoot, Orphan, WrongKind}

@@ -1,7 +1,7 @@
 -- The needs of instructions on words.
 use Rattle.std.specs.Prelude.{ℕ, pos, List, [], ◌∷◌, ◌++◌, None}
-use Rattle.aom_image.specs.declared.instr.Instr.{Instr}
-use Rattle.aom_image.specs.declared.instr.Instr.TheVariants.{Const, Copy, Add, Sub, Mul, And, Or, Xor, Jump, JumpEqual, JumpLess, Loop, Next, Load, Store, Print, Stop}
+use Rattle.aom_instructions.specs.declared.instr.Instr.{Instr}
+use Rattle.aom_instructions.specs.declared.instr.Instr.TheVariants.{Const, Copy, Add, Sub, Mul, And, Or, Xor, Jump, JumpEqual, JumpLess, Loop, Next, Load, Store, Print, Stop}
 use Rattle.aom_sound.specs.State.{AtRoot, Orphan, WrongKind}
 use Rattle.aom_sound.specs.Cases.Building.{leaf, pair, seven, a_cell, mine, inside, Case, fails, AllBite}
 

@@ -1,5 +1,5 @@
 use Rattle.std.proofs.Common.{◌≡◌, ◌≤◌, length}
-use Rattle.aom_shape.specs.Calls.{all_empty}
+use Rattle.aom_shape.specs.Kinds.{all_empty}
 use Rattle.aom_shape.proofs.known.all_empty.Given as goal
 
 abbrev pub invariant-loop-filling : goal.invariant-loop-filling

@@ -1,6 +1,5 @@
 -- Piles of two heights differ, and those of one height are gone through.
-use Rattle.std.proofs.Common.{ap, length, List, sym, ◌∙◌}
-use Rattle.aom_shape.specs.declared.kind.Entry.{Entry}
+use Rattle.std.proofs.Common.{sym, ◌∙◌}
 use Rattle.aom_shape.proofs.Ordering.{entries_differ, entries_tested}
 use Rattle.aom_shape.proofs.Piling.{length_listed}
 use Rattle.aom_shape.proofs.piles.are_same.Goals as goal

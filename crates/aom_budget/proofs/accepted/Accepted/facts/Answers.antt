@@ -1,7 +1,7 @@
 -- The strongest typing is a typing, its prices pay for what is declared, and the tables keep frames within 256 and entries within 1,024.
 use Rattle.std.proofs.Common.{◌∙◌, sym, subst}
 use Rattle.aom_image.specs.Image.{Image}
-use Rattle.aom_shape.specs.Typing.{Typing}
+use Rattle.aom_rules.specs.Typing.{Typing}
 use Rattle.aom_verify.specs.Strongest.{IsStrongest}
 use Rattle.aom_prices.specs.Dispatches.{IsAffordable}
 use Rattle.aom_prices.specs.Prices.{Prices}

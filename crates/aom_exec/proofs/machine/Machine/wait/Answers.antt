@@ -1,5 +1,5 @@
 use Rattle.std.proofs.Common.{◌≡◌, subst, sym, Some}
-use Rattle.aom_sound.specs.declared.line.Ending.TheVariants.{Waiting}
+use Rattle.aom_transcript.specs.declared.line.Ending.TheVariants.{Waiting}
 use Rattle.aom_exec.specs.declared.progress.Progress.TheVariants.{Turned}
 use Rattle.aom_exec.specs.Steps.{Machine, Waited, progress}
 use Rattle.aom_exec.proofs.Progressing.{waits, waits_again}

@@ -2,7 +2,7 @@ use Rattle.std.proofs.Common.{rules, subst, sym, ◌∙◌, ◌≡◌, ◌∷◌
 use Rattle.std.proofs.lemmas.Bool.{false≢true}
 use Rattle.std.proofs.lemmas.Int.{to_z-of_z}
 use Rattle.aom_image.specs.Views.{instr_at}
-use Rattle.aom_sound.specs.declared.line.Line.TheVariants.{Leave}
+use Rattle.aom_transcript.specs.declared.line.Line.TheVariants.{Leave}
 use Rattle.aom_frames.specs.Tasks.{Runs, method_here, place_here, below_first}
 use Rattle.aom_frames.specs.declared.task.Task.TheVariants.{Dispatched}
 use Rattle.aom_frames.specs.declared.task.Dispatch.TheVariants.{MainLeft}

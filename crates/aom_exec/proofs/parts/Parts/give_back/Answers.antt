@@ -4,7 +4,7 @@ use Rattle.aom_exec.proofs.OnTop.{ending_of, ends_on_top, goes_on_top, leaves_on
 use Rattle.aom_exec.proofs.Topping.{coded_through, ends_under, finds_mark, returns_to_none, returns_within, returns_within_through}
 use Rattle.std.proofs.Common.{suc, subst, sym, refl, ◌∙◌}
 use Rattle.aom_image.specs.Views.{instr_at}
-use Rattle.aom_image.specs.declared.instr.Instr.TheVariants.{Return}
+use Rattle.aom_instructions.specs.declared.instr.Instr.TheVariants.{Return}
 use Rattle.aom_sound.specs.Calls.{result_register}
 use Rattle.aom_frames.specs.Tasks.{Runs, method_here, place_here, register_here, below_first}
 use Rattle.aom_exec.specs.Acts.{DoesIn, resulted}

@@ -1,6 +1,6 @@
 use Rattle.std.proofs.Common.{rules, subst, sym, ◌∙◌, ◌≡◌, w32, FitsSigned, to_z, of_z}
 use Rattle.std.proofs.lemmas.Int.{to_z-of_z}
-use Rattle.aom_image.specs.declared.instr.Instr.TheVariants.{Leave}
+use Rattle.aom_instructions.specs.declared.instr.Instr.TheVariants.{Leave}
 use Rattle.aom_frames.specs.Tasks.{register_here}
 use Rattle.aom_exec.specs.Acts.{leaving, Does}
 use Rattle.aom_exec.proofs.LeavingActs.{leave_does}

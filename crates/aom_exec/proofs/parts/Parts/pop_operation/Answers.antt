@@ -1,7 +1,7 @@
 use Rattle.std.proofs.Common.{None, Some, IfNone, IfSome, ◌≡◌, ◌∷◌}
 use Rattle.aom_cleanup.specs.Items.{IsEntry, IsNotAboveMark}
 use Rattle.aom_exec.specs.Acts.{next, Does}
-use Rattle.aom_image.specs.declared.instr.Instr.TheVariants.{PopOperation}
+use Rattle.aom_instructions.specs.declared.instr.Instr.TheVariants.{PopOperation}
 use Rattle.aom_exec.proofs.EntryActs.{pop_operation_does}
 use Rattle.aom_exec.proofs.Topping.{not_both, pops_entry}
 use Rattle.aom_exec.proofs.parts.Parts.pop_operation.Goals as goal

@@ -1,6 +1,6 @@
 use Rattle.std.proofs.Common.{rules, ap, ◌∙◌, ◌≡◌, w32, FitsSigned, to_z, of_z, ◌++◌, ◌∷◌, []}
 use Rattle.std.proofs.lemmas.Int.{to_z-of_z}
-use Rattle.aom_sound.specs.declared.line.Line.TheVariants.{Out}
+use Rattle.aom_transcript.specs.declared.line.Line.TheVariants.{Out}
 use Rattle.aom_frames.specs.Tasks.{register_here}
 use Rattle.aom_exec.proofs.WordActs.{print_does, print_tells}
 use Rattle.aom_exec.proofs.parts.Parts.print.Goals as goal

@@ -1,6 +1,6 @@
 use Rattle.std.proofs.Common.{subst, length, ◌+◌, ◌≤◌, ◌∷◌}
 use Rattle.aom_image.specs.Views.{method_class}
-use Rattle.aom_image.specs.declared.instr.Instr.TheVariants.{Trap}
+use Rattle.aom_instructions.specs.declared.instr.Instr.TheVariants.{Trap}
 use Rattle.aom_cleanup.specs.declared.item.Item.TheVariants.{Mark}
 use Rattle.aom_frames.specs.Tasks.{fresh, given_here, on_top, passed_on}
 use Rattle.aom_frames.specs.declared.task.Task.TheVariants.{Run as Runs_frame, Trapped as Is_trap}

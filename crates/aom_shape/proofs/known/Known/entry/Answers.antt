@@ -1,6 +1,5 @@
 use Rattle.std.proofs.Common.{arith}
-use Rattle.aom_shape.proofs.Callees.{few_arguments}
-use Rattle.aom_shape.proofs.Starting.{begun}
+use Rattle.aom_shape.proofs.Starting.{few_arguments, begun}
 use Rattle.aom_shape.proofs.known.Known.entry.Goals as goal
 
 pub argument_kinds-requires : goal.argument_kinds-requires

@@ -1,7 +1,7 @@
 -- What is below is readied first, and then the entry comes on top of it.
 use Rattle.std.proofs.Common.{◌≡◌, ◌∷◌, List, ap, sym, ◌∙◌, arith}
 use Rattle.std.proofs.lemmas.Result.{IfOk-weaker}
-use Rattle.aom_shape.specs.Calls.{readied_at}
+use Rattle.aom_shape.specs.Entries.{readied_at}
 use Rattle.aom_shape.specs.Piles.{entries_of, node_at}
 use Rattle.aom_shape.specs.declared.piles.Node.{Node}
 use Rattle.aom_shape.proofs.Piling.{readied_below}

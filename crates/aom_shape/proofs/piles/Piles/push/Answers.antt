@@ -1,5 +1,5 @@
 -- One node more is one entry more, over what stood.
-use Rattle.std.proofs.Common.{◌≡◌, ◌+◌, suc, List, length, ap, ◌∙◌, arith}
+use Rattle.std.proofs.Common.{◌≡◌, ◌+◌, suc, List, length, ap, arith}
 use Rattle.aom_shape.specs.declared.piles.Node.{Node}
 use Rattle.aom_shape.proofs.Piling.{extends_push, pushed_entries, pushed_stands}
 use Rattle.aom_shape.proofs.piles.Piles.push.Goals as goal

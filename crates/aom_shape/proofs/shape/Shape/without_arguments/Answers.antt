@@ -1,6 +1,6 @@
 use Rattle.std.proofs.Common.{◌≡◌, ◌+◌, sym, ap, ◌∙◌, ℕ, arith}
-use Rattle.aom_shape.specs.Calls.{arguments_moved}
-use Rattle.aom_shape.proofs.Arguments.{moves_one, moves_done}
+use Rattle.aom_shape.specs.Arguments.{arguments_moved}
+use Rattle.aom_shape.proofs.Moving.{moves_one, moves_done}
 use Rattle.aom_shape.proofs.shape.Shape.without_arguments.Goals as goal
 
 pub loop-index-init : goal.loop-index-init

@@ -1,5 +1,5 @@
 use Rattle.std.proofs.Common.{◌≡◌, ◌+◌, drop}
-use Rattle.aom_shape.specs.Calls.{arguments_moved}
+use Rattle.aom_shape.specs.Arguments.{arguments_moved}
 use Rattle.aom_shape.proofs.shape.Shape.without_arguments.Given as goal
 
 abbrev pub invariant-loop-index : goal.invariant-loop-index

@@ -1,0 +1,6 @@
+pub mod Operands
+pub mod Parts
+pub mod Rows
+pub mod Mnemonics
+pub mod Fits
+pub mod Laws

@@ -1,0 +1,9 @@
+//! What holds of the table of instructions, whatever runs.
+ghost use Rattle.aom_instructions.specs.Laws.{PartsMakeAgain, MakingPartsAgain, RowsAreOne};
+
+/// Instructions and their parts give each other, and no two rows share an opcode or a mnemonic's text.
+pub fn instructions_and_rows()
+    ensures made { PartsMakeAgain }
+    ensures parted { MakingPartsAgain }
+    ensures rows { RowsAreOne }
+{}

@@ -1,0 +1,26 @@
+//! The instruction set: the numbers that instructions name, the instructions, and the table of their rows.
+//!
+//! An operand is a number with a range of its own. A row of the table has an instruction's opcode, its mnemonic and the kinds of its operands;
+//! `Instr::make` and its views are the two ways between an instruction and its parts, and `instructions_and_rows` says that they are
+//! one. Whoever reads, spells or lists instructions goes over rows and kinds. This room knows nothing of images, bytes and texts.
+#![tactic(auto)]
+
+mod instr;
+mod kinds;
+mod laws;
+mod limits;
+mod mnemonic;
+mod operand;
+mod operands;
+mod parts;
+
+pub use instr::{Instr, Target};
+pub use kinds::{Kinds, LargeKind, Order, SmallKind};
+pub use laws::instructions_and_rows;
+pub use limits::{Limits, fits};
+pub use mnemonic::{Mnemonic, Row};
+pub use operand::{Large, Operands, Small};
+pub use operands::{
+    ClassNumber, EntryDepth, FieldIndex, LoopDepth, MethodNumber, NativeNumber, Place, Register,
+    WordIndex,
+};

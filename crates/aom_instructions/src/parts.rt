@@ -1,0 +1,264 @@
+//! Instructions and their parts: the mnemonic and the operands.
+ghost use Rattle.std.specs.Prelude.{◌≡◌};
+ghost use Rattle.aom_instructions.specs.Parts.{mnemonic, operands, make};
+
+use crate::{Instr, Large, Mnemonic, Operands, Small};
+
+impl Instr {
+    /// What it is called.
+    pub fn mnemonic(&self) -> Mnemonic
+        ensures { result ≡ mnemonic self.now }
+    {
+        match self {
+            Instr::Const(..) => Mnemonic::Const,
+            Instr::Copy(..) => Mnemonic::Copy,
+            Instr::Move(..) => Mnemonic::Move,
+            Instr::Add(..) => Mnemonic::Add,
+            Instr::Sub(..) => Mnemonic::Sub,
+            Instr::Mul(..) => Mnemonic::Mul,
+            Instr::And(..) => Mnemonic::And,
+            Instr::Or(..) => Mnemonic::Or,
+            Instr::Xor(..) => Mnemonic::Xor,
+            Instr::Jump(..) => Mnemonic::Jump,
+            Instr::JumpEqual(..) => Mnemonic::JumpEqual,
+            Instr::JumpLess(..) => Mnemonic::JumpLess,
+            Instr::JumpNull(..) => Mnemonic::JumpNull,
+            Instr::JumpEmpty(..) => Mnemonic::JumpEmpty,
+            Instr::JumpActive(..) => Mnemonic::JumpActive,
+            Instr::JumpAdded(..) => Mnemonic::JumpAdded,
+            Instr::Loop(..) => Mnemonic::Loop,
+            Instr::Next(..) => Mnemonic::Next,
+            Instr::Print(..) => Mnemonic::Print,
+            Instr::Load(..) => Mnemonic::Load,
+            Instr::Store(..) => Mnemonic::Store,
+            Instr::Take(..) => Mnemonic::Take,
+            Instr::Put(..) => Mnemonic::Put,
+            Instr::New(..) => Mnemonic::New,
+            Instr::NewOrLeave(..) => Mnemonic::NewOrLeave,
+            Instr::Delete(..) => Mnemonic::Delete,
+            Instr::Push(..) => Mnemonic::Push,
+            Instr::PushOperation(..) => Mnemonic::PushOperation,
+            Instr::Pop(..) => Mnemonic::Pop,
+            Instr::PopOperation => Mnemonic::PopOperation,
+            Instr::PopDelete => Mnemonic::PopDelete,
+            Instr::Call(..) => Mnemonic::Call,
+            Instr::Trap(..) => Mnemonic::Trap,
+            Instr::Return(..) => Mnemonic::Return,
+            Instr::Leave(..) => Mnemonic::Leave,
+            Instr::LeaveIf(..) => Mnemonic::LeaveIf,
+            Instr::Enlist(..) => Mnemonic::Enlist,
+            Instr::Issue(..) => Mnemonic::Issue,
+            Instr::SetActive => Mnemonic::SetActive,
+            Instr::Cancel => Mnemonic::Cancel,
+            Instr::Abort => Mnemonic::Abort,
+            Instr::Status(..) => Mnemonic::Status,
+            Instr::Connect(..) => Mnemonic::Connect,
+            Instr::Ask(..) => Mnemonic::Ask,
+            Instr::Close => Mnemonic::Close,
+            Instr::TakeMessage(..) => Mnemonic::TakeMessage,
+            Instr::Reply(..) => Mnemonic::Reply,
+            Instr::Stop => Mnemonic::Stop,
+        }
+    }
+
+    /// What stands behind its mnemonic.
+    pub fn operands(&self) -> Operands
+        ensures { result ≡ operands self.now }
+    {
+        match *self {
+            Instr::Const(a, d) => Operands::of(
+                Small::Register(a),
+                Small::Unused,
+                Small::Unused,
+                Large::Number(d),
+            ),
+            Instr::Copy(a, b) | Instr::Move(a, b) | Instr::Issue(a, b) | Instr::Reply(a, b) =>
+                Operands::of(
+                    Small::Register(a),
+                    Small::Register(b),
+                    Small::Unused,
+                    Large::Nothing,
+                ),
+            Instr::Add(a, b, c)
+            | Instr::Sub(a, b, c)
+            | Instr::Mul(a, b, c)
+            | Instr::And(a, b, c)
+            | Instr::Or(a, b, c)
+            | Instr::Xor(a, b, c)
+            | Instr::Ask(a, b, c) => Operands::of(
+                Small::Register(a),
+                Small::Register(b),
+                Small::Register(c),
+                Large::Nothing,
+            ),
+            Instr::Jump(d) | Instr::JumpActive(d) | Instr::JumpAdded(d) => Operands::of(
+                Small::Unused,
+                Small::Unused,
+                Small::Unused,
+                Large::Place(d),
+            ),
+            Instr::JumpEqual(a, b, d) | Instr::JumpLess(a, b, d) => Operands::of(
+                Small::Register(a),
+                Small::Register(b),
+                Small::Unused,
+                Large::Place(d),
+            ),
+            Instr::JumpNull(a, d) => Operands::of(
+                Small::Register(a),
+                Small::Unused,
+                Small::Unused,
+                Large::Place(d),
+            ),
+            Instr::JumpEmpty(a, d) => Operands::of(
+                Small::Field(a),
+                Small::Unused,
+                Small::Unused,
+                Large::Place(d),
+            ),
+            Instr::Loop(a, d) => Operands::of(
+                Small::Depth(a),
+                Small::Unused,
+                Small::Unused,
+                Large::Rounds(d),
+            ),
+            Instr::Next(a, d) => Operands::of(
+                Small::Depth(a),
+                Small::Unused,
+                Small::Unused,
+                Large::Place(d),
+            ),
+            Instr::Print(a)
+            | Instr::Delete(a)
+            | Instr::Push(a)
+            | Instr::Pop(a)
+            | Instr::Return(a)
+            | Instr::Leave(a)
+            | Instr::LeaveIf(a)
+            | Instr::Status(a)
+            | Instr::Connect(a)
+            | Instr::TakeMessage(a) => Operands::of(
+                Small::Register(a),
+                Small::Unused,
+                Small::Unused,
+                Large::Nothing,
+            ),
+            Instr::Load(a, b) => Operands::of(
+                Small::Register(a),
+                Small::Word(b),
+                Small::Unused,
+                Large::Nothing,
+            ),
+            Instr::Store(a, b) => Operands::of(
+                Small::Word(a),
+                Small::Register(b),
+                Small::Unused,
+                Large::Nothing,
+            ),
+            Instr::Take(a, b) => Operands::of(
+                Small::Register(a),
+                Small::Field(b),
+                Small::Unused,
+                Large::Nothing,
+            ),
+            Instr::Put(a, b) => Operands::of(
+                Small::Field(a),
+                Small::Register(b),
+                Small::Unused,
+                Large::Nothing,
+            ),
+            Instr::New(a, d) | Instr::NewOrLeave(a, d) => Operands::of(
+                Small::Register(a),
+                Small::Unused,
+                Small::Unused,
+                Large::Class(d),
+            ),
+            Instr::PushOperation(a, d) => Operands::of(
+                Small::Register(a),
+                Small::Unused,
+                Small::Unused,
+                Large::Method(d),
+            ),
+            Instr::PopOperation
+            | Instr::PopDelete
+            | Instr::SetActive
+            | Instr::Cancel
+            | Instr::Abort
+            | Instr::Close
+            | Instr::Stop => Operands::of(
+                Small::Unused,
+                Small::Unused,
+                Small::Unused,
+                Large::Nothing,
+            ),
+            Instr::Call(a, d, b, c) | Instr::Trap(a, d, b, c) => Operands::of(
+                Small::CallTarget(a),
+                Small::Register(b),
+                Small::Register(c),
+                Large::Method(d),
+            ),
+            Instr::Enlist(d) => Operands::of(
+                Small::Unused,
+                Small::Unused,
+                Small::Unused,
+                Large::Number(d),
+            ),
+        }
+    }
+
+    /// The instruction of a mnemonic and of operands of the kinds that its row asks.
+    pub fn make(mnemonic: Mnemonic, operands: Operands) -> Instr
+        ensures { result ≡ make mnemonic operands }
+    {
+        let Operands { a, b, c, d } = operands;
+        match mnemonic {
+            Mnemonic::Const => Instr::Const(a.register(), d.number()),
+            Mnemonic::Copy => Instr::Copy(a.register(), b.register()),
+            Mnemonic::Move => Instr::Move(a.register(), b.register()),
+            Mnemonic::Add => Instr::Add(a.register(), b.register(), c.register()),
+            Mnemonic::Sub => Instr::Sub(a.register(), b.register(), c.register()),
+            Mnemonic::Mul => Instr::Mul(a.register(), b.register(), c.register()),
+            Mnemonic::And => Instr::And(a.register(), b.register(), c.register()),
+            Mnemonic::Or => Instr::Or(a.register(), b.register(), c.register()),
+            Mnemonic::Xor => Instr::Xor(a.register(), b.register(), c.register()),
+            Mnemonic::Jump => Instr::Jump(d.place()),
+            Mnemonic::JumpEqual => Instr::JumpEqual(a.register(), b.register(), d.place()),
+            Mnemonic::JumpLess => Instr::JumpLess(a.register(), b.register(), d.place()),
+            Mnemonic::JumpNull => Instr::JumpNull(a.register(), d.place()),
+            Mnemonic::JumpEmpty => Instr::JumpEmpty(a.field(), d.place()),
+            Mnemonic::JumpActive => Instr::JumpActive(d.place()),
+            Mnemonic::JumpAdded => Instr::JumpAdded(d.place()),
+            Mnemonic::Loop => Instr::Loop(a.depth(), d.rounds()),
+            Mnemonic::Next => Instr::Next(a.depth(), d.place()),
+            Mnemonic::Print => Instr::Print(a.register()),
+            Mnemonic::Load => Instr::Load(a.register(), b.word()),
+            Mnemonic::Store => Instr::Store(a.word(), b.register()),
+            Mnemonic::Take => Instr::Take(a.register(), b.field()),
+            Mnemonic::Put => Instr::Put(a.field(), b.register()),
+            Mnemonic::New => Instr::New(a.register(), d.class()),
+            Mnemonic::NewOrLeave => Instr::NewOrLeave(a.register(), d.class()),
+            Mnemonic::Delete => Instr::Delete(a.register()),
+            Mnemonic::Push => Instr::Push(a.register()),
+            Mnemonic::PushOperation => Instr::PushOperation(a.register(), d.method()),
+            Mnemonic::Pop => Instr::Pop(a.register()),
+            Mnemonic::PopOperation => Instr::PopOperation,
+            Mnemonic::PopDelete => Instr::PopDelete,
+            Mnemonic::Call => Instr::Call(a.target(), d.method(), b.register(), c.register()),
+            Mnemonic::Trap => Instr::Trap(a.target(), d.method(), b.register(), c.register()),
+            Mnemonic::Return => Instr::Return(a.register()),
+            Mnemonic::Leave => Instr::Leave(a.register()),
+            Mnemonic::LeaveIf => Instr::LeaveIf(a.register()),
+            Mnemonic::Enlist => Instr::Enlist(d.number()),
+            Mnemonic::Issue => Instr::Issue(a.register(), b.register()),
+            Mnemonic::SetActive => Instr::SetActive,
+            Mnemonic::Cancel => Instr::Cancel,
+            Mnemonic::Abort => Instr::Abort,
+            Mnemonic::Status => Instr::Status(a.register()),
+            Mnemonic::Connect => Instr::Connect(a.register()),
+            Mnemonic::Ask => Instr::Ask(a.register(), b.register(), c.register()),
+            Mnemonic::Close => Instr::Close,
+            Mnemonic::TakeMessage => Instr::TakeMessage(a.register()),
+            Mnemonic::Reply => Instr::Reply(a.register(), b.register()),
+            Mnemonic::Stop => Instr::Stop,
+        }
+    }
+}

@@ -1,0 +1,139 @@
+-- What a call or a trap asks and leaves, by the declaration of the called method: its parts decide in turn.
+use Rattle.std.proofs.Common.{◌≡◌, ℕ, true, false, cond, List, [], ◌∷◌, ◌++◌, length, Some, Result, Ok, Err, refl, ap, sym, ◌∙◌}
+use Rattle.std.proofs.lemmas.List.{append_assoc}
+use Rattle.aom_image.specs.Image.{Image}
+use Rattle.aom_image.specs.Views.{method_at, is_quiet}
+use Rattle.aom_instructions.specs.declared.instr.Target.{Target}
+use Rattle.aom_image.specs.declared.method.Method.{Method}
+use Rattle.aom_rules.specs.Calls.{is_construct, brought, caught, while_called, rule_given, rule_target, rule_arguments, rule_moved, rule_call, flow_call, rule_trapped, rule_trap, flow_trap}
+use Rattle.aom_rules.proofs.Growing.{arguments_leave}
+use Rattle.aom_shape.specs.Arguments.{arguments_moved}
+use Rattle.aom_shape.specs.Needs.{Need, Flow, judged, tested, to_next}
+use Rattle.aom_shape.specs.Shape.{Shape}
+use Rattle.aom_shape.specs.declared.why.Why.{Why}
+use Rattle.aom_shape.specs.declared.why.Why.TheVariants.{QuietBroken}
+use Rattle.aom_shape.proofs.Judging.{failed_first, passed_first, all_failed, all_passed}
+use Rattle.aom_shape.proofs.Views.{class_there, role_there, gives_there, arguments_there}
+
+-- what passes is what was to pass
+passed_is : {A : Type 0} (xs : List Need) (a z : A) → judged xs a ≡ Ok z → a ≡ z
+passed_is [] a z e = cc
+passed_is {A = A} (x ∷ xs) a z e =
+    elim x.0 as (λ t. cond t (judged xs a) (Err x.1) ≡ Ok z → a ≡ z) [
+      | true ↦ λ e. passed_is xs a z e
+      | false ↦ λ e. absurd cc
+    ] e
+
+module _ (p : Image) (m : ℕ) (sh : Shape) (target : Target) (first : ℕ) (d : Method) where
+  abbrev of_target : List Need
+  of_target = rule_target p m sh target d.class (is_construct (Some d.role)) first (length d.arguments)
+
+  abbrev of_arguments : List Need
+  of_arguments = rule_arguments p sh d.arguments first
+
+  abbrev moved : Shape
+  moved = arguments_moved d.arguments first sh
+
+  abbrev given : List Need
+  given = rule_given p m sh target d first
+
+  pub target_refused : (w : Why) → tested of_target ≡ Err w → judged given moved ≡ Err w
+  target_refused w e = failed_first of_target of_arguments tt moved w e
+
+  pub arguments_refused : (u : Unit {0}) (w : Why) → tested of_target ≡ Ok u → tested of_arguments ≡ Err w → judged given moved ≡ Err w
+  arguments_refused u w e f = passed_first of_target of_arguments tt u moved e ∙ all_failed of_arguments moved w f
+
+  pub both_met : (u v : Unit {0}) → tested of_target ≡ Ok u → tested of_arguments ≡ Ok v → judged given moved ≡ Ok moved
+  both_met u v e f = passed_first of_target of_arguments tt u moved e ∙ all_passed of_arguments moved v f
+
+  -- the arguments take no cleanup entry with them
+  pub entries_kept : (z : Shape) → judged given moved ≡ Ok z → sh.entries ≡ z.entries
+  entries_kept z e = sym (arguments_leave d.arguments first sh) ∙ ap (λ (s : Shape). s.entries) (passed_is given moved z e)
+
+  -- ---- what comes after them
+
+  module _ (rest : Shape → List Need) (left : Shape → List Flow) where
+    refused_so : (w : Why) → judged given moved ≡ Err w → judged (given ++ rest moved) (left moved) ≡ Err w
+    refused_so w e = failed_first given (rest moved) moved (left moved) w e
+
+    rest_refused : (z : Shape) (w : Why) → judged given moved ≡ Ok z → tested (rest z) ≡ Err w → judged (given ++ rest moved) (left moved) ≡ Err w
+    rest_refused z w e f = passed_first given (rest moved) moved z (left moved) e ∙ all_failed (rest moved) (left moved) w (ap (λ s. tested (rest s)) (passed_is given moved z e) ∙ f)
+
+    all_met : (z : Shape) (u : Unit {0}) → judged given moved ≡ Ok z → tested (rest z) ≡ Ok u → judged (given ++ rest moved) (left moved) ≡ Ok (left z)
+    all_met z u e f =
+        passed_first given (rest moved) moved z (left moved) e
+        ∙ (all_passed (rest moved) (left moved) u (ap (λ s. tested (rest s)) (passed_is given moved z e) ∙ f)
+        ∙ ap (λ s. Ok (left s)) (passed_is given moved z e))
+
+module _ (p : Image) (m : ℕ) (pc : ℕ) (sh : Shape) (target : Target) (m' : ℕ) (first : ℕ) (c : ℕ) (d : Method) (there : method_at p m' ≡ Some d) where
+  abbrev needs : List Need
+  needs = rule_given p m sh target d first
+
+  abbrev after : Shape
+  after = arguments_moved d.arguments first sh
+
+  abbrev lasting : Shape → Shape
+  lasting s = while_called target d.class s
+
+  -- ---- calls
+
+  abbrev of_moved : Shape → List Need
+  of_moved s = rule_moved p m s m' c
+
+  abbrev left_by_call : Shape → List Flow
+  left_by_call s = to_next pc (brought d.gives c (lasting s))
+
+  abbrev call_answer : Result (List Flow) Why
+  call_answer = judged (rule_call p m pc sh target m' first c) (flow_call p m pc sh target m' first c)
+
+  call_asks : rule_call p m pc sh target m' first c ≡ needs ++ of_moved after
+  call_asks =
+      rw (class_there p m' d there, role_there p m' d there, arguments_there p m' d there)
+      (sym (append_assoc (of_target p m sh target first d) (of_arguments p m sh target first d) (of_moved after)))
+
+  call_leaves : flow_call p m pc sh target m' first c ≡ left_by_call after
+  call_leaves = rw (gives_there p m' d there, class_there p m' d there, arguments_there p m' d there) refl
+
+  call_is : call_answer ≡ judged (needs ++ of_moved after) (left_by_call after)
+  call_is = ap (λ ns. judged ns (flow_call p m pc sh target m' first c)) call_asks ∙ ap (λ fs. judged (needs ++ of_moved after) fs) call_leaves
+
+  pub call_refused : (w : Why) → judged needs after ≡ Err w → call_answer ≡ Err w
+  call_refused w e = call_is ∙ refused_so p m sh target first d of_moved left_by_call w e
+
+  pub call_moved_refused : (z : Shape) (w : Why) → judged needs after ≡ Ok z → tested (of_moved z) ≡ Err w → call_answer ≡ Err w
+  call_moved_refused z w e f = call_is ∙ rest_refused p m sh target first d of_moved left_by_call z w e f
+
+  pub call_met : (z : Shape) (u : Unit {0}) → judged needs after ≡ Ok z → tested (of_moved z) ≡ Ok u → call_answer ≡ Ok (left_by_call z)
+  call_met z u e f = call_is ∙ all_met p m sh target first d of_moved left_by_call z u e f
+
+  -- ---- traps
+
+  abbrev of_trapped : Shape → List Need
+  of_trapped s = rule_trapped p m pc sh s m' c
+
+  abbrev left_by_trap : Shape → List Flow
+  left_by_trap s = to_next pc (caught d.gives c (lasting s))
+
+  abbrev trap_answer : Result (List Flow) Why
+  trap_answer = judged (rule_trap p m pc sh target m' first c) (flow_trap p m pc sh target m' first c)
+
+  module _ (loud : is_quiet p m ≡ false) where
+    trap_asks : rule_trap p m pc sh target m' first c ≡ (true, QuietBroken) ∷ (needs ++ of_trapped after)
+    trap_asks =
+        rw (loud, class_there p m' d there, role_there p m' d there, arguments_there p m' d there)
+        (ap (λ (ns : List Need). (true, QuietBroken) ∷ ns) (sym (append_assoc (of_target p m sh target first d) (of_arguments p m sh target first d) (of_trapped after))))
+
+    trap_leaves : flow_trap p m pc sh target m' first c ≡ left_by_trap after
+    trap_leaves = rw (gives_there p m' d there, class_there p m' d there, arguments_there p m' d there) refl
+
+    trap_is : trap_answer ≡ judged (needs ++ of_trapped after) (left_by_trap after)
+    trap_is = ap (λ ns. judged ns (flow_trap p m pc sh target m' first c)) trap_asks ∙ ap (λ fs. judged (needs ++ of_trapped after) fs) trap_leaves
+
+    pub trap_refused : (w : Why) → judged needs after ≡ Err w → trap_answer ≡ Err w
+    trap_refused w e = trap_is ∙ refused_so p m sh target first d of_trapped left_by_trap w e
+
+    pub trap_moved_refused : (z : Shape) (w : Why) → judged needs after ≡ Ok z → tested (of_trapped z) ≡ Err w → trap_answer ≡ Err w
+    trap_moved_refused z w e f = trap_is ∙ rest_refused p m sh target first d of_trapped left_by_trap z w e f
+
+    pub trap_met : (z : Shape) (u : Unit {0}) → judged needs after ≡ Ok z → tested (of_trapped z) ≡ Ok u → trap_answer ≡ Ok (left_by_trap z)
+    trap_met z u e f = trap_is ∙ all_met p m sh target first d of_trapped left_by_trap z u e f

@@ -1,0 +1,9 @@
+pub mod Returning
+pub mod Arguments
+pub mod Calling
+pub mod Callees
+pub mod Telling
+pub mod Ways
+pub mod Monotone
+pub mod Growing
+pub mod Examples

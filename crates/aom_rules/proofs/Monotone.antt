@@ -1,0 +1,393 @@
+-- The rules are monotone: each instruction's needs and flows, from a state to one that says more.
+use Rattle.std.proofs.Common.{arith, ◌≡◌, ℕ, suc, Bool, true, false, cond, ◌==◌, List, [], ◌∷◌, ◌++◌, length, Option, Some, None, inl, inr, refl, ap, ◌∙◌}
+use Rattle.std.proofs.lemmas.Bool.{false≢true, eqb-true}
+use Rattle.aom_image.specs.Image.{Image}
+use Rattle.aom_image.specs.Views.{arguments_of, gives_of, fields_of, leaves, method_class, method_role}
+use Rattle.aom_instructions.specs.declared.instr.Instr.{Instr}
+use Rattle.aom_instructions.specs.declared.instr.Instr.TheVariants.{Const, Copy, Move, Add, Sub, Mul, And, Or, Xor, JumpEqual, JumpLess, JumpNull, JumpEmpty, Print, Load, Store, Take, Put, New, NewOrLeave, Delete, Push, PushOperation, Pop, Call, Trap, Return, Leave, LeaveIf}
+use Rattle.aom_instructions.specs.declared.instr.Target.{Target}
+use Rattle.aom_instructions.specs.declared.instr.Target.TheVariants.{This, Register, Field, Entry as On_entry}
+use Rattle.aom_image.specs.declared.method.Argument.{Argument}
+use Rattle.aom_image.specs.declared.method.Argument.TheVariants.{Word as A_word_argument, Own as An_own_argument}
+use Rattle.aom_image.specs.declared.method.Gives.{Gives}
+use Rattle.aom_image.specs.declared.method.Gives.TheVariants.{Nothing, Word as A_word, Own as An_own, Maybe as A_maybe, Left}
+use Rattle.aom_image.specs.declared.method.Thing.TheVariants.{Object}
+use Rattle.aom_rules.specs.Calls.{is_construct, is_destructor, is_target, age_need, awaits, brought, caught, fields_worked, while_called, argument_needs, each_argument, rule_target, rule_arguments, rule_moved, rule_trapped, fields_done, rule_result, result_moved, lasting}
+use Rattle.aom_shape.specs.Entries.{readied_at, without_top, with_entry, without_entry}
+use Rattle.aom_shape.specs.Arguments.{argument_moved, arguments_moved}
+use Rattle.aom_rules.specs.Cleanup.{owns_object, entry_of, leave_point, top_kind}
+use Rattle.aom_shape.specs.Kinds.{register, field, set_register, set_field, filled, filling_of, is_object_or_null, none_owns, readied}
+use Rattle.aom_rules.specs.Laws.{AllFollow}
+use Rattle.aom_shape.specs.Needs.{Need, AllTrue, only_if}
+use Rattle.aom_rules.specs.Objects.{flow_jump_null, flow_jump_empty}
+use Rattle.aom_rules.specs.Words.{rule_copy, rule_combine, rule_compare}
+use Rattle.aom_shape.specs.Order.{Weaker, WeakerFilling, SaysNoMore}
+use Rattle.aom_shape.specs.Order.Weaker.{alike, unset_word, unset_null, maybe_null, maybe_own}
+use Rattle.aom_shape.specs.Order.WeakerFilling.{alike_filling, perhaps_empty, perhaps_full}
+use Rattle.aom_rules.specs.Rules.{rule_needs, flows, ways_of}
+use Rattle.aom_shape.specs.Shape.{Shape}
+use Rattle.aom_rules.specs.Ways.{As_before, Branches, Branches_on_empty, Branches_on_null, Called, Caught, Dropped, Ends, Filled, Goes_back, Goes_on, Goes_to, Holding, Moved, News, Popped, Pushed, Pushed_operation, Taken, Ways, after, flowing}
+use Rattle.aom_shape.specs.Things.{Holder, Nobody, Program, Member, field_thing, holder_of}
+use Rattle.aom_shape.specs.declared.kind.Age.TheVariants.{Ready}
+use Rattle.aom_shape.specs.declared.kind.Entry.{Entry}
+use Rattle.aom_shape.specs.declared.kind.Entry.TheVariants.{Object as An_object, Operation}
+use Rattle.aom_shape.specs.declared.kind.Kind.{Kind}
+use Rattle.aom_shape.specs.declared.kind.Kind.TheVariants.{Unset, Word, Null, Own, Maybe}
+use Rattle.aom_shape.specs.declared.kind.Filling.{Filling}
+use Rattle.aom_shape.specs.declared.kind.Filling.TheVariants.{Empty, Full, Perhaps}
+use Rattle.aom_rules.proofs.Returning.{left_needs}
+use Rattle.aom_rules.proofs.Ways.{Allows, allows}
+use Rattle.aom_shape.proofs.Lists.{at_put}
+use Rattle.aom_rules.proofs.Telling.{fresh_more, readied_more, word_more, unowning_more, object_or_null_more, destroyed_more, ready_more, own_more, may_be_more, declared_more, empty_more, filled_more, filling_more, none_owns_more, all_empty_more}
+
+-- two states with a register written alike
+pub register_more : (a b : Shape) (i : ℕ) (k l : Kind) → SaysNoMore a b → Weaker k l → SaysNoMore (set_register a i k) (set_register b i l)
+register_more a b i k l h w = record {
+  registers = λ j. rw (at_put Unset a.registers i j k, at_put Unset b.registers i j l) (either j (i == j));
+  fields = h.fields;
+  entries = h.entries;
+}
+  where
+    either : (j : ℕ) (c : Bool) → Weaker (cond c k (register a j)) (cond c l (register b j))
+    either j true = w
+    either j false = h.registers j
+
+pub field_more : (a b : Shape) (i : ℕ) (x y : Filling) → SaysNoMore a b → WeakerFilling x y → SaysNoMore (set_field a i x) (set_field b i y)
+field_more a b i x y h w = record {
+  registers = h.registers;
+  fields = λ j. rw (at_put Perhaps a.fields i j x, at_put Perhaps b.fields i j y) (either j (i == j));
+  entries = h.entries;
+}
+  where
+    either : (j : ℕ) (c : Bool) → WeakerFilling (cond c x (field a j)) (cond c y (field b j))
+    either j true = w
+    either j false = h.fields j
+
+-- a register written with what a state that says more has there
+pub register_told : (a b : Shape) (i : ℕ) (k : Kind) → SaysNoMore a b → Weaker k (register b i) → SaysNoMore (set_register a i k) b
+register_told a b i k h w = record {
+  registers = λ j. rw (at_put Unset a.registers i j k) (go j (i == j) refl);
+  fields = h.fields;
+  entries = h.entries;
+}
+  where
+    go : (j : ℕ) (c : Bool) → (i == j) ≡ c → Weaker (cond c k (register a j)) (register b j)
+    go j true e = rw (← eqb-true i j e) w
+    go j false e = h.registers j
+
+-- a field written with what a state that says more has there
+pub field_told : (a b : Shape) (i : ℕ) (x : Filling) → SaysNoMore a b → WeakerFilling x (field b i) → SaysNoMore (set_field a i x) b
+field_told a b i x h w = record {
+  registers = h.registers;
+  fields = λ j. rw (at_put Perhaps a.fields i j x) (go j (i == j) refl);
+  entries = h.entries;
+}
+  where
+    go : (j : ℕ) (c : Bool) → (i == j) ≡ c → WeakerFilling (cond c x (field a j)) (field b j)
+    go j true e = rw (← eqb-true i j e) w
+    go j false e = h.fields j
+
+copy_more : (pc : ℕ) (a b : Shape) (r s : ℕ) → SaysNoMore a b → AllTrue (rule_copy pc a r s) → AllTrue (rule_copy pc b r s)
+copy_more pc a b r s h n = (word_more (register a s) (register b s) (h.registers s) n.0, (unowning_more (register a r) (register b r) (h.registers r) n.1.0, tt))
+
+combine_more : (pc : ℕ) (a b : Shape) (r s t : ℕ) → SaysNoMore a b → AllTrue (rule_combine pc a r s t) → AllTrue (rule_combine pc b r s t)
+combine_more pc a b r s t h n = (
+  word_more (register a s) (register b s) (h.registers s) n.0,
+  (word_more (register a t) (register b t) (h.registers t) n.1.0, (unowning_more (register a r) (register b r) (h.registers r) n.1.1.0, tt)),
+)
+
+compare_more : (pc : ℕ) (a b : Shape) (r s : ℕ) → SaysNoMore a b → AllTrue (rule_compare pc a r s) → AllTrue (rule_compare pc b r s)
+compare_more pc a b r s h n = (word_more (register a r) (register b r) (h.registers r) n.0, (word_more (register a s) (register b s) (h.registers s) n.1.0, tt))
+
+result_more : (p : Image) (m pc : ℕ) (a b : Shape) (g : Gives) (r : ℕ) → SaysNoMore a b → AllTrue (rule_result p m pc a g r) → AllTrue (rule_result p m pc b g r)
+result_more p m pc a b Nothing r h n = n
+result_more p m pc a b A_word r h n = (word_more (register a r) (register b r) (h.registers r) n.0, tt)
+result_more p m pc a b (An_own t) r h n = (own_more p t (register a r) (register b r) (h.registers r) n.0, (ready_more (register a r) (register b r) (h.registers r) n.1.0, tt))
+result_more p m pc a b (A_maybe t) r h n = (may_be_more p t (register a r) (register b r) (h.registers r) n.0, (ready_more (register a r) (register b r) (h.registers r) n.1.0, tt))
+result_more p m pc a b (Left c) r h n = n
+
+moved_more : (p : Image) (m pc : ℕ) (a b : Shape) (g : Gives) (r : ℕ) → SaysNoMore a b → SaysNoMore (result_moved p m pc a g r) (result_moved p m pc b g r)
+moved_more p m pc a b Nothing r h = h
+moved_more p m pc a b A_word r h = h
+moved_more p m pc a b (An_own t) r h = register_more a b r Null Null h alike
+moved_more p m pc a b (A_maybe t) r h = register_more a b r Null Null h alike
+moved_more p m pc a b (Left c) r h = h
+
+done_more : (p : Image) (d : Bool) (o : Holder) (a b : Shape) → SaysNoMore a b → fields_done p d o a.fields ≡ true → fields_done p d o b.fields ≡ true
+done_more p true (Member c) a b h n = all_empty_more (fields_of p c) a.fields b.fields h.fields n
+done_more p true Program a b h n = refl
+done_more p true Nobody a b h n = refl
+done_more p false o a b h n = refl
+
+all_true_first : (xs ys : List Need) → AllTrue (xs ++ ys) → AllTrue xs
+all_true_first [] ys h = tt
+all_true_first (x ∷ xs) ys h = (h.0, all_true_first xs ys h.1)
+
+all_true_rest : (xs ys : List Need) → AllTrue (xs ++ ys) → AllTrue ys
+all_true_rest [] ys h = h
+all_true_rest (x ∷ xs) ys h = all_true_rest xs ys h.1
+
+all_true_both : (xs ys : List Need) → AllTrue xs → AllTrue ys → AllTrue (xs ++ ys)
+all_true_both [] ys h k = k
+all_true_both (x ∷ xs) ys h k = (h.0, all_true_both xs ys h.1 k)
+
+-- a call's target
+target_more : (p : Image) (class : Option ℕ) (k l : Kind) → Weaker k l → is_target p class k ≡ true → is_target p class l ≡ true
+target_more p None k l w h = h
+target_more p (Some c) k l w h = own_more p (Object c) k l w h
+
+age_more : (constructs : Bool) (k l : Kind) → Weaker k l → (age_need constructs k).0 ≡ true → (age_need constructs l).0 ≡ true
+age_more true k l w h = fresh_more k l w h
+age_more false k l w h = ready_more k l w h
+
+called_on_more : (p : Image) (m : ℕ) (a b : Shape) (target : Target) (class : Option ℕ) (constructs : Bool) (first count : ℕ) → SaysNoMore a b → AllTrue (rule_target p m a target class constructs first count) → AllTrue (rule_target p m b target class constructs first count)
+called_on_more p m a b This class constructs first count h n = n
+called_on_more p m a b (Register r) class constructs first count h n = (
+  target_more p class (register a r) (register b r) (h.registers r) n.0,
+  (n.1.0, (age_more constructs (register a r) (register b r) (h.registers r) n.1.1.0, tt)),
+)
+called_on_more p m a b (Field f) class constructs first count h n =
+    let o = field_thing p (holder_of p m) f in
+    let w = filled_more o (field a f) (field b f) (h.fields f) in
+    (target_more p class (filled o (field a f)) (filled o (field b f)) w n.0, (age_more constructs (filled o (field a f)) (filled o (field b f)) w n.1.0, tt))
+called_on_more p m a b (On_entry k) class constructs first count h n = rw (← h.entries) n
+
+-- its arguments
+argument_more : (p : Image) (x : Argument) (k l : Kind) → Weaker k l → AllTrue (argument_needs p x k) → AllTrue (argument_needs p x l)
+argument_more p A_word_argument k l w n = (word_more k l w n.0, tt)
+argument_more p (An_own_argument t) k l w n = (own_more p t k l w n.0, (ready_more k l w n.1.0, tt))
+
+arguments_more : (p : Image) (a b : Shape) (xs : List Argument) (first : ℕ) → SaysNoMore a b → AllTrue (each_argument p a xs first) → AllTrue (each_argument p b xs first)
+arguments_more p a b [] first h n = tt
+arguments_more p a b (x ∷ xs) first h n =
+    let here = argument_needs p x (register a first) in
+    let rest = each_argument p a xs (suc first) in
+    all_true_both (argument_needs p x (register b first)) (each_argument p b xs (suc first)) (argument_more p x (register a first) (register b first) (h.registers first) (all_true_first here rest n)) (arguments_more p a b xs (suc first) h (all_true_rest here rest n))
+
+argument_moved_more : (x : Argument) (r : ℕ) (a b : Shape) → SaysNoMore a b → SaysNoMore (argument_moved x r a) (argument_moved x r b)
+argument_moved_more A_word_argument r a b h = h
+argument_moved_more (An_own_argument t) r a b h = register_more a b r Null Null h alike
+
+arguments_moved_more : (xs : List Argument) (first : ℕ) (a b : Shape) → SaysNoMore a b → SaysNoMore (arguments_moved xs first a) (arguments_moved xs first b)
+arguments_moved_more [] first a b h = h
+arguments_moved_more (x ∷ xs) first a b h = arguments_moved_more xs (suc first) (argument_moved x first a) (argument_moved x first b) (argument_moved_more x first a b h)
+
+-- and what is asked once they have moved
+awaits_more : (g : Gives) (k l : Kind) → Weaker k l → awaits g k ≡ true → awaits g l ≡ true
+awaits_more Nothing k l w h = h
+awaits_more A_word k l w h = unowning_more k l w h
+awaits_more (An_own t) k l w h = unowning_more k l w h
+awaits_more (A_maybe t) k l w h = unowning_more k l w h
+awaits_more (Left c) k l w h = h
+
+only_if_more : (asked x y : Bool) → (x ≡ true → y ≡ true) → only_if asked x ≡ true → only_if asked y ≡ true
+only_if_more true x y f h = f h
+only_if_more false x y f h = h
+
+moved_needs_more : (p : Image) (m : ℕ) (a b : Shape) (m' c : ℕ) → SaysNoMore a b → AllTrue (rule_moved p m a m' c) → AllTrue (rule_moved p m b m' c)
+moved_needs_more p m a b m' c h n = (
+  n.0,
+  (
+    awaits_more (gives_of p m') (register a c) (register b c) (h.registers c) n.1.0,
+    (n.1.1.0, (only_if_more (leaves p m') (none_owns a.registers) (none_owns b.registers) (none_owns_more a.registers b.registers h.registers) n.1.1.1.0, tt)),
+  ),
+)
+
+call_more : (p : Image) (m pc : ℕ) (a b : Shape) (target : Target) (m' first c : ℕ) → SaysNoMore a b → AllTrue (rule_needs p m pc a (Call target m' first c)) → AllTrue (rule_needs p m pc b (Call target m' first c))
+call_more p m pc a b target m' first c h n =
+    let xs = arguments_of p m' in
+    let class = method_class p m' in
+    let constructs = is_construct (method_role p m') in
+    let one = rule_target p m a target class constructs first (length xs) in
+    let two = rule_arguments p a xs first in
+    let three = rule_moved p m (arguments_moved xs first a) m' c in
+    let rest = all_true_rest one (two ++ three) n in
+    let args = all_true_first two three rest in
+    all_true_both (rule_target p m b target class constructs first (length xs)) (rule_arguments p b xs first ++ rule_moved p m (arguments_moved xs first b) m' c) (called_on_more p m a b target class constructs first (length xs) h (all_true_first one (two ++ three) n))
+    (all_true_both (rule_arguments p b xs first) (rule_moved p m (arguments_moved xs first b) m' c) (args.0, arguments_more p a b xs first h args.1)
+    (moved_needs_more p m (arguments_moved xs first a) (arguments_moved xs first b) m' c (arguments_moved_more xs first a b h) (all_true_rest two three rest)))
+
+-- one entry more, or one less
+entry_more : (d e : Entry) (a b : Shape) → SaysNoMore a b → d ≡ e → SaysNoMore (with_entry d a) (with_entry e b)
+entry_more d e a b h same = record { registers = h.registers; fields = h.fields; entries = ap (λ (x : Entry). x ∷ a.entries) same ∙ ap (λ (xs : List Entry). e ∷ xs) h.entries }
+
+entry_less : (a b : Shape) → SaysNoMore a b → SaysNoMore (without_entry a) (without_entry b)
+entry_less a b h = record { registers = h.registers; fields = h.fields; entries = ap without_top h.entries }
+
+-- what a call leaves
+brought_more : (g : Gives) (c : ℕ) (a b : Shape) → SaysNoMore a b → SaysNoMore (brought g c a) (brought g c b)
+brought_more Nothing c a b h = h
+brought_more A_word c a b h = register_more a b c Word Word h alike
+brought_more (An_own t) c a b h = register_more a b c (Own t Ready) (Own t Ready) h alike
+brought_more (A_maybe t) c a b h = register_more a b c (Maybe t Ready) (Maybe t Ready) h alike
+brought_more (Left x) c a b h = entry_more (An_object x Ready) (An_object x Ready) a b h refl
+
+worked_more : (class : Option ℕ) (a b : Shape) → SaysNoMore a b → SaysNoMore (fields_worked class a) (fields_worked class b)
+worked_more None a b h = h
+worked_more (Some c) a b h = record { registers = h.registers; fields = λ i. alike_filling; entries = h.entries }
+
+called_more : (target : Target) (class : Option ℕ) (a b : Shape) → SaysNoMore a b → SaysNoMore (while_called target class a) (while_called target class b)
+called_more This class a b h = worked_more class a b h
+called_more (Register r) class a b h = register_more a b r (readied (register a r)) (readied (register b r)) h (readied_more (register a r) (register b r) (h.registers r))
+called_more (Field f) class a b h = h
+called_more (On_entry k) class a b h = record { registers = h.registers; fields = h.fields; entries = ap (λ es. readied_at es k) h.entries }
+
+-- what a trap asks and leaves
+trapped_more : (p : Image) (m pc : ℕ) (x y a b : Shape) (m' c : ℕ) → SaysNoMore a b → AllTrue (rule_trapped p m pc x a m' c) → AllTrue (rule_trapped p m pc y b m' c)
+trapped_more p m pc x y a b m' c h n = (
+  awaits_more (gives_of p m') (register a c) (register b c) (h.registers c) n.0,
+  (unowning_more (register a (suc c)) (register b (suc c)) (h.registers (suc c)) n.1.0, tt),
+)
+
+trap_more : (p : Image) (m pc : ℕ) (a b : Shape) (target : Target) (m' first c : ℕ) → SaysNoMore a b → AllTrue (rule_needs p m pc a (Trap target m' first c)) → AllTrue (rule_needs p m pc b (Trap target m' first c))
+trap_more p m pc a b target m' first c h n =
+    let xs = arguments_of p m' in
+    let class = method_class p m' in
+    let constructs = is_construct (method_role p m') in
+    let one = rule_target p m a target class constructs first (length xs) in
+    let two = rule_arguments p a xs first in
+    let three = rule_trapped p m pc a (arguments_moved xs first a) m' c in
+    let rest = all_true_rest one (two ++ three) n.1 in
+    let args = all_true_first two three rest in (
+      n.0,
+      all_true_both (rule_target p m b target class constructs first (length xs)) (rule_arguments p b xs first ++ rule_trapped p m pc b (arguments_moved xs first b) m' c) (called_on_more p m a b target class constructs first (length xs) h (all_true_first one (two ++ three) n.1))
+          (all_true_both (rule_arguments p b xs first) (rule_trapped p m pc b (arguments_moved xs first b) m' c) (args.0, arguments_more p a b xs first h args.1)
+          (trapped_more p m pc a b (arguments_moved xs first a) (arguments_moved xs first b) m' c (arguments_moved_more xs first a b h) (all_true_rest two three rest))),
+    )
+
+caught_more : (g : Gives) (c : ℕ) (a b : Shape) → SaysNoMore a b → SaysNoMore (caught g c a) (caught g c b)
+caught_more Nothing c a b h = register_more a b (suc c) Word Word h alike
+caught_more A_word c a b h = register_more (set_register a c Word) (set_register b c Word) (suc c) Word Word (register_more a b c Word Word h alike) alike
+caught_more (An_own t) c a b h = register_more (set_register a c (Maybe t Ready)) (set_register b c (Maybe t Ready)) (suc c) Word Word (register_more a b c (Maybe t Ready) (Maybe t Ready) h alike) alike
+caught_more (A_maybe t) c a b h = register_more (set_register a c (Maybe t Ready)) (set_register b c (Maybe t Ready)) (suc c) Word Word (register_more a b c (Maybe t Ready) (Maybe t Ready) h alike) alike
+caught_more (Left x) c a b h = register_more a b (suc c) Word Word h alike
+
+-- where a method may leave
+leave_more : (p : Image) (m pc : ℕ) (x y a b : Shape) → SaysNoMore a b → AllTrue (leave_point p m pc x a) → AllTrue (leave_point p m pc y b)
+leave_more p m pc x y a b h n = (n.0, (none_owns_more a.registers b.registers h.registers n.1.0, tt))
+
+-- what is pushed is the same
+owns_more : (k l : Kind) → Weaker k l → owns_object k ≡ true → owns_object l ≡ true
+owns_more k l (alike {k = same}) h = h
+owns_more k l _ h = absurd (false≢true h)
+
+pushed_more : (k l : Kind) → Weaker k l → owns_object k ≡ true → entry_of k ≡ entry_of l
+pushed_more k l (alike {k = same}) h = refl
+pushed_more k l unset_word h = refl
+pushed_more k l unset_null h = refl
+pushed_more k l (maybe_null {t = t} {a = age}) h = refl
+pushed_more k l (maybe_own {t = t} {a = age}) h = absurd (false≢true h)
+
+pub needs_more : (p : Image) (m pc : ℕ) (a b : Shape) (i : Instr) → SaysNoMore a b → AllTrue (rule_needs p m pc a i) → AllTrue (rule_needs p m pc b i)
+needs_more p m pc a b (Const r w) h n = (unowning_more (register a r) (register b r) (h.registers r) n.0, tt)
+needs_more p m pc a b (Copy r s) h n = copy_more pc a b r s h n
+needs_more p m pc a b (Add r s t) h n = combine_more pc a b r s t h n
+needs_more p m pc a b (Sub r s t) h n = combine_more pc a b r s t h n
+needs_more p m pc a b (Mul r s t) h n = combine_more pc a b r s t h n
+needs_more p m pc a b (And r s t) h n = combine_more pc a b r s t h n
+needs_more p m pc a b (Or r s t) h n = combine_more pc a b r s t h n
+needs_more p m pc a b (Xor r s t) h n = combine_more pc a b r s t h n
+needs_more p m pc a b (JumpEqual r s to) h n = compare_more pc a b r s h n
+needs_more p m pc a b (JumpLess r s to) h n = compare_more pc a b r s h n
+needs_more p m pc a b (Load r w) h n = (n.0, (unowning_more (register a r) (register b r) (h.registers r) n.1.0, tt))
+needs_more p m pc a b (Store w s) h n = (n.0, (word_more (register a s) (register b s) (h.registers s) n.1.0, tt))
+needs_more p m pc a b (JumpEmpty f to) h n = n
+needs_more p m pc a b (JumpNull r to) h n = (object_or_null_more (register a r) (register b r) (h.registers r) n.0, tt)
+needs_more p m pc a b (Print r) h n = (word_more (register a r) (register b r) (h.registers r) n.0, tt)
+needs_more p m pc a b (Move r s) h n = (object_or_null_more (register a s) (register b s) (h.registers s) n.0, (unowning_more (register a r) (register b r) (h.registers r) n.1.0, tt))
+needs_more p m pc a b (Take r f) h n = (n.0, (unowning_more (register a r) (register b r) (h.registers r) n.1.0, tt))
+needs_more p m pc a b (Put f s) h n = (
+  declared_more p (field_thing p (holder_of p m) f) (register a s) (register b s) (h.registers s) n.0,
+  (ready_more (register a s) (register b s) (h.registers s) n.1.0, (empty_more (field a f) (field b f) (h.fields f) n.1.1.0, tt)),
+)
+needs_more p m pc a b (New r c) h n = (unowning_more (register a r) (register b r) (h.registers r) n.0, n.1)
+needs_more p m pc a b (Delete r) h n = (destroyed_more (register a r) (register b r) (h.registers r) n.0, tt)
+needs_more p m pc a b (Call target m' first c) h n = call_more p m pc a b target m' first c h n
+needs_more p m pc a b (Trap target m' first c) h n = trap_more p m pc a b target m' first c h n
+needs_more p m pc a b (NewOrLeave r c) h n = (unowning_more (register a r) (register b r) (h.registers r) n.0, (n.1.0, leave_more p m pc a b a b h n.1.1))
+needs_more p m pc a b (Push r) h n = (
+  owns_more (register a r) (register b r) (h.registers r) n.0,
+  leave_more p m pc a b (set_register a r Null) (set_register b r Null) (register_more a b r Null Null h alike) n.1,
+)
+needs_more p m pc a b (PushOperation r m') h n = (word_more (register a r) (register b r) (h.registers r) n.0, leave_more p m pc a b a b h n.1)
+needs_more p m pc a b (Pop r) h n = (unowning_more (register a r) (register b r) (h.registers r) n.0, rw (← h.entries) n.1)
+needs_more p m pc a b (Leave r) h n = (word_more (register a r) (register b r) (h.registers r) n.0, leave_more p m pc a b a b h n.1)
+needs_more p m pc a b (LeaveIf r) h n = (word_more (register a r) (register b r) (h.registers r) n.0, leave_more p m pc a b a b h n.1)
+needs_more p m pc a b (Return r) h n =
+    let g = gives_of p m in
+    let first = all_true_first (rule_result p m pc a g r) (left_needs p m pc a r) n in
+    let rest = all_true_rest (rule_result p m pc a g r) (left_needs p m pc a r) n in
+    all_true_both (rule_result p m pc b g r) (left_needs p m pc b r) (result_more p m pc a b g r h first) (
+      rw (← h.entries) rest.0,
+      (
+        none_owns_more (result_moved p m pc a g r).registers (result_moved p m pc b g r).registers (moved_more p m pc a b g r h).registers rest.1.0,
+        (done_more p (is_destructor p m) (holder_of p m) a b h rest.1.1.0, tt),
+      ),
+    )
+-- of the entries alone, or of nothing, or never met
+needs_more p m pc a b _ h n = grind (arith, n, h.entries)
+
+same_jump : (p : Image) (m pc : ℕ) (a b : Shape) (r to : ℕ) → SaysNoMore a b → (k : Kind) → AllFollow (flow_jump_null p m pc a k r to) (flow_jump_null p m pc b k r to)
+same_jump p m pc a b r to h Unset = tt
+same_jump p m pc a b r to h Word = tt
+same_jump p m pc a b r to h Null = (inl (refl, h), tt)
+same_jump p m pc a b r to h (Own t x) = (inl (refl, h), tt)
+same_jump p m pc a b r to h (Maybe t x) = (inl (refl, register_more a b r (Own t x) (Own t x) h alike), (inr (inl (refl, register_more a b r Null Null h alike)), tt))
+
+jump_more : (p : Image) (m pc : ℕ) (a b : Shape) (r to : ℕ) → SaysNoMore a b → (k l : Kind) → Weaker k l → register b r ≡ l → is_object_or_null k ≡ true → AllFollow (flow_jump_null p m pc a k r to) (flow_jump_null p m pc b l r to)
+jump_more p m pc a b r to h k l (alike {k = same}) e n = same_jump p m pc a b r to h k
+jump_more p m pc a b r to h k l unset_word e n = tt
+jump_more p m pc a b r to h k l unset_null e n = absurd (false≢true n)
+jump_more p m pc a b r to h k l (maybe_null {t = t} {a = x}) e n = (inr (inl (refl, register_told a b r Null h (rw e alike))), tt)
+jump_more p m pc a b r to h k l (maybe_own {t = t} {a = x}) e n = (inl (refl, register_told a b r (Own t x) h (rw e alike)), tt)
+
+same_empty : (p : Image) (m pc : ℕ) (a b : Shape) (f to : ℕ) → SaysNoMore a b → (x : Filling) → AllFollow (flow_jump_empty p m pc a x f to) (flow_jump_empty p m pc b x f to)
+same_empty p m pc a b f to h Empty = (inl (refl, h), tt)
+same_empty p m pc a b f to h Full = (inl (refl, h), tt)
+same_empty p m pc a b f to h Perhaps = (inl (refl, field_more a b f Full Full h alike_filling), (inr (inl (refl, field_more a b f Empty Empty h alike_filling)), tt))
+
+empty_jump_more : (p : Image) (m pc : ℕ) (a b : Shape) (f to : ℕ) → SaysNoMore a b → (x y : Filling) → WeakerFilling x y → field b f ≡ y → AllFollow (flow_jump_empty p m pc a x f to) (flow_jump_empty p m pc b y f to)
+empty_jump_more p m pc a b f to h x y (alike_filling {x = same}) e = same_empty p m pc a b f to h x
+empty_jump_more p m pc a b f to h x y perhaps_empty e = (inr (inl (refl, field_told a b f Empty h (rw e alike_filling))), tt)
+empty_jump_more p m pc a b f to h x y perhaps_full e = (inl (refl, field_told a b f Full h (rw e alike_filling)), tt)
+
+both_ways_more : (x y : ℕ) (a b : Shape) → SaysNoMore a b → AllFollow ((x, a) ∷ (y, a) ∷ []) ((x, b) ∷ (y, b) ∷ [])
+both_ways_more x y a b h = (inl (refl, h), (inr (inl (refl, h)), tt))
+
+module _ (p : Image) (m pc : ℕ) (a b : Shape) (h : SaysNoMore a b) where
+  lasting_more : (target : Target) (m' first : ℕ) → SaysNoMore (lasting p m pc a target m' first) (lasting p m pc b target m' first)
+  lasting_more target m' first =
+      let xs = arguments_of p m' in
+      called_more target (method_class p m') (arguments_moved xs first a) (arguments_moved xs first b) (arguments_moved_more xs first a b h)
+
+  after_more : (news : News) → Allows a (Goes_on news) → SaysNoMore (after p m pc a news) (after p m pc b news)
+  after_more As_before n = h
+  after_more (Holding r kind) n = register_more a b r kind kind h alike
+  after_more (Moved r s) n = register_more (set_register a s Null) (set_register b s Null) r (register a s) (register b s) (register_more a b s Null Null h alike) (h.registers s)
+  after_more (Taken r f) n =
+      let o = field_thing p (holder_of p m) f in
+      register_more (set_field a f Empty) (set_field b f Empty) r (filled o (field a f)) (filled o (field b f)) (field_more a b f Empty Empty h alike_filling) (filled_more o (field a f) (field b f) (h.fields f))
+  after_more (Filled f s) n = field_more (set_register a s Null) (set_register b s Null) f (filling_of (register a s)) (filling_of (register b s)) (register_more a b s Null Null h alike) (filling_more (register a s) (register b s) (h.registers s))
+  after_more (Pushed r) n =
+      let moved = register_more a b r Null Null h alike in
+      let same = pushed_more (register a r) (register b r) (h.registers r) n in
+      entry_more (entry_of (register a r)) (entry_of (register b r)) (set_register a r Null) (set_register b r Null) moved same
+  after_more Pushed_operation n = entry_more Operation Operation a b h refl
+  after_more (Popped r) n =
+      let same : Weaker (top_kind a.entries) (top_kind b.entries) = rw (← h.entries) alike in
+      register_more (without_entry a) (without_entry b) r (top_kind a.entries) (top_kind b.entries) (entry_less a b h) same
+  after_more Dropped n = entry_less a b h
+  after_more (Called target m' first c) n = brought_more (gives_of p m') c (lasting p m pc a target m' first) (lasting p m pc b target m' first) (lasting_more target m' first)
+  after_more (Caught target m' first c) n = caught_more (gives_of p m') c (lasting p m pc a target m' first) (lasting p m pc b target m' first) (lasting_more target m' first)
+
+  ways_more : (ways : Ways) → Allows a ways → AllFollow (flowing p m pc a ways) (flowing p m pc b ways)
+  ways_more Ends n = tt
+  ways_more (Goes_on news) n = (inl (refl, after_more news n), tt)
+  ways_more (Goes_to to) n = (inl (refl, h), tt)
+  ways_more (Branches to) n = both_ways_more (suc pc) to a b h
+  ways_more (Goes_back to) n = both_ways_more to (suc pc) a b h
+  ways_more (Branches_on_null r to) n = jump_more p m pc a b r to h (register a r) (register b r) (h.registers r) refl n
+  ways_more (Branches_on_empty f to) n = empty_jump_more p m pc a b f to h (field a f) (field b f) (h.fields f) refl
+
+pub flows_more : (p : Image) (m pc : ℕ) (a b : Shape) (i : Instr) → SaysNoMore a b → AllTrue (rule_needs p m pc a i) → AllFollow (flows p m pc a i) (flows p m pc b i)
+flows_more p m pc a b i h n = ways_more p m pc a b h (ways_of p i) (allows p m pc a i n)

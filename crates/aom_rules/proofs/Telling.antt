@@ -1,0 +1,118 @@
+-- What a test tells of a kind or filling it tells of one that says more.
+use Rattle.std.proofs.Common.{◌≡◌, ℕ, zero, suc, ◌<◌, true, List, [], ◌∷◌, length, Option, Some, None, refl, arith}
+use Rattle.std.proofs.lemmas.Bool.{false≢true, and_parts}
+use Rattle.aom_image.specs.Image.{Image}
+use Rattle.aom_image.specs.declared.method.Thing.{Thing}
+use Rattle.aom_shape.specs.Kinds.{all_empty, is_own_for, is_word, is_unowning, is_object_or_null, may_be_destroyed, may_be, may_be_declared, is_fresh_kind, is_ready_kind, readied, none_owns, is_empty, filled, filling_of}
+use Rattle.aom_shape.specs.Order.{Weaker, WeakerFilling}
+use Rattle.aom_shape.specs.Order.Weaker.{alike, unset_word, unset_null, maybe_null, maybe_own}
+use Rattle.aom_shape.specs.Order.WeakerFilling.{alike_filling, perhaps_empty, perhaps_full}
+use Rattle.aom_shape.specs.Tables.{at}
+use Rattle.aom_shape.specs.declared.kind.Kind.{Kind}
+use Rattle.aom_shape.specs.declared.kind.Kind.TheVariants.{Unset}
+use Rattle.aom_shape.specs.declared.kind.Filling.{Filling}
+use Rattle.aom_shape.specs.declared.kind.Filling.TheVariants.{Perhaps}
+
+pub word_more : (a b : Kind) → Weaker a b → is_word a ≡ true → is_word b ≡ true
+word_more a b (alike {k = k}) h = h
+word_more a b unset_word h = refl
+word_more a b _ h = absurd (false≢true h)
+
+pub unowning_more : (a b : Kind) → Weaker a b → is_unowning a ≡ true → is_unowning b ≡ true
+unowning_more a b (alike {k = k}) h = h
+unowning_more a b unset_word h = refl
+unowning_more a b unset_null h = refl
+unowning_more a b (maybe_null {t = t} {a = age}) h = refl
+unowning_more a b (maybe_own {t = t} {a = age}) h = absurd (false≢true h)
+
+pub object_or_null_more : (a b : Kind) → Weaker a b → is_object_or_null a ≡ true → is_object_or_null b ≡ true
+object_or_null_more a b (alike {k = k}) h = h
+object_or_null_more a b unset_word h = absurd (false≢true h)
+object_or_null_more a b unset_null h = refl
+object_or_null_more a b (maybe_null {t = t} {a = age}) h = refl
+object_or_null_more a b (maybe_own {t = t} {a = age}) h = refl
+
+pub destroyed_more : (a b : Kind) → Weaker a b → may_be_destroyed a ≡ true → may_be_destroyed b ≡ true
+destroyed_more a b (alike {k = k}) h = h
+destroyed_more a b unset_word h = absurd (false≢true h)
+destroyed_more a b unset_null h = refl
+destroyed_more a b (maybe_null {t = t} {a = age}) h = refl
+destroyed_more a b (maybe_own {t = t} {a = age}) h = h
+
+pub ready_more : (a b : Kind) → Weaker a b → is_ready_kind a ≡ true → is_ready_kind b ≡ true
+ready_more a b (alike {k = k}) h = h
+ready_more a b unset_word h = refl
+ready_more a b unset_null h = refl
+ready_more a b (maybe_null {t = t} {a = age}) h = refl
+ready_more a b (maybe_own {t = t} {a = age}) h = h
+
+pub own_more : (p : Image) (x : Thing) (a b : Kind) → Weaker a b → is_own_for p x a ≡ true → is_own_for p x b ≡ true
+own_more p x a b (alike {k = k}) h = h
+own_more p x a b _ h = absurd (false≢true h)
+
+pub may_be_more : (p : Image) (x : Thing) (a b : Kind) → Weaker a b → may_be p x a ≡ true → may_be p x b ≡ true
+may_be_more p x a b (alike {k = k}) h = h
+may_be_more p x a b unset_word h = absurd (false≢true h)
+may_be_more p x a b unset_null h = refl
+may_be_more p x a b (maybe_null {t = t} {a = age}) h = refl
+may_be_more p x a b (maybe_own {t = t} {a = age}) h = h
+
+pub declared_more : (p : Image) (o : Option Thing) (a b : Kind) → Weaker a b → may_be_declared p o a ≡ true → may_be_declared p o b ≡ true
+declared_more p None a b w h = h
+declared_more p (Some x) a b w h = may_be_more p x a b w h
+
+pub empty_more : (x y : Filling) → WeakerFilling x y → is_empty x ≡ true → is_empty y ≡ true
+empty_more x y (alike_filling {x = f}) h = h
+empty_more x y perhaps_empty h = refl
+empty_more x y perhaps_full h = absurd (false≢true h)
+
+pub filled_more : (o : Option Thing) (x y : Filling) → WeakerFilling x y → Weaker (filled o x) (filled o y)
+filled_more None x y h = alike
+filled_more (Some t) x y (alike_filling {x = f}) = alike
+filled_more (Some t) x y perhaps_empty = maybe_null
+filled_more (Some t) x y perhaps_full = maybe_own
+
+pub filling_more : (a b : Kind) → Weaker a b → WeakerFilling (filling_of a) (filling_of b)
+filling_more a b (alike {k = k}) = alike_filling
+filling_more a b unset_word = alike_filling
+filling_more a b unset_null = perhaps_empty
+filling_more a b (maybe_null {t = t} {a = age}) = perhaps_empty
+filling_more a b (maybe_own {t = t} {a = age}) = perhaps_full
+
+pub fresh_more : (a b : Kind) → Weaker a b → is_fresh_kind a ≡ true → is_fresh_kind b ≡ true
+fresh_more a b (alike {k = k}) h = h
+fresh_more a b _ h = absurd (false≢true h)
+
+pub readied_more : (a b : Kind) → Weaker a b → Weaker (readied a) (readied b)
+readied_more a b (alike {k = k}) = alike
+readied_more a b unset_word = unset_word
+readied_more a b unset_null = unset_null
+readied_more a b (maybe_null {t = t} {a = age}) = maybe_null
+readied_more a b (maybe_own {t = t} {a = age}) = maybe_own
+
+-- no register owns, read by their numbers
+none_at : (xs : List Kind) → none_owns xs ≡ true → (i : ℕ) → is_unowning (at Unset xs i) ≡ true
+none_at [] h i = refl
+none_at (x ∷ xs) h zero = (and_parts (is_unowning x) (none_owns xs) h).0
+none_at (x ∷ xs) h (suc i) = none_at xs (and_parts (is_unowning x) (none_owns xs) h).1 i
+
+none_from : (xs : List Kind) → ((i : ℕ) → is_unowning (at Unset xs i) ≡ true) → none_owns xs ≡ true
+none_from [] h = refl
+none_from (x ∷ xs) h = rw (h 0, none_from xs (λ i. h (suc i)))
+
+pub none_owns_more : (xs ys : List Kind) → ((i : ℕ) → Weaker (at Unset xs i) (at Unset ys i)) → none_owns xs ≡ true → none_owns ys ≡ true
+none_owns_more xs ys w h = none_from ys (λ i. unowning_more (at Unset xs i) (at Unset ys i) (w i) (none_at xs h i))
+
+-- the fields that are declared are empty, read by their numbers
+empty_at : (ts : List Thing) (xs : List Filling) → all_empty ts xs ≡ true → (k : ℕ) → k < length ts → is_empty (at Perhaps xs k) ≡ true
+empty_at (t ∷ ts) (x ∷ xs) h zero below = (and_parts (is_empty x) (all_empty ts xs) h).0
+empty_at (t ∷ ts) (x ∷ xs) h (suc k) below = empty_at ts xs (and_parts (is_empty x) (all_empty ts xs) h).1 k (omega arith)
+empty_at _ _ h k below = absurd (first_of (cc, omega arith))
+
+empty_from : (ts : List Thing) (xs : List Filling) → ((k : ℕ) → k < length ts → is_empty (at Perhaps xs k) ≡ true) → all_empty ts xs ≡ true
+empty_from [] xs h = refl
+empty_from (t ∷ ts) [] h = h 0 (omega arith)
+empty_from (t ∷ ts) (x ∷ xs) h = rw (h 0 (omega arith), empty_from ts xs (λ k below. h (suc k) (omega arith)))
+
+pub all_empty_more : (ts : List Thing) (xs ys : List Filling) → ((i : ℕ) → WeakerFilling (at Perhaps xs i) (at Perhaps ys i)) → all_empty ts xs ≡ true → all_empty ts ys ≡ true
+all_empty_more ts xs ys w h = empty_from ts ys (λ k below. empty_more (at Perhaps xs k) (at Perhaps ys k) (w k) (empty_at ts xs h k below))

@@ -1,0 +1,88 @@
+-- The rules of the cleanup stack, and of leaves.
+use Rattle.std.specs.Prelude.{ℕ, Bool, false, not, List, [], ◌∷◌}
+use Rattle.aom_image.specs.Image.{Image}
+use Rattle.aom_image.specs.Views.{is_quiet, leaves}
+use Rattle.aom_image.specs.declared.method.Thing.{Thing}
+use Rattle.aom_image.specs.declared.method.Thing.TheVariants.{Object, Message}
+use Rattle.aom_shape.specs.Shape.{Shape}
+use Rattle.aom_shape.specs.Entries.{is_object_entry, with_entry, without_entry}
+use Rattle.aom_shape.specs.Kinds.{register, set_register, entry_kind, is_object, is_unowning, is_word, none_owns, no_entry}
+use Rattle.aom_shape.specs.Needs.{Need}
+use Rattle.aom_shape.specs.declared.kind.Age.{Age}
+use Rattle.aom_shape.specs.declared.kind.Kind.{Kind}
+use Rattle.aom_shape.specs.declared.kind.Kind.TheVariants.{Unset, Word, Null, Own, Maybe}
+use Rattle.aom_shape.specs.declared.kind.Entry.{Entry}
+use Rattle.aom_shape.specs.declared.kind.Entry.TheVariants.{Object as An_object, Operation}
+use Rattle.aom_shape.specs.declared.why.Why.TheVariants.{RegisterKind, OwnedAtLeave, PopEmpty, LeaveNotAllowed, QuietBroken}
+
+-- it owns an object, which is no message
+abbrev pub owns_object : Kind → Bool
+owns_object Unset = false
+owns_object Word = false
+owns_object Null = false
+owns_object (Own t a) = is_object t
+owns_object (Maybe t a) = false
+
+-- the entry of an object that is pushed
+abbrev pub thing_entry : Thing → Age → Entry
+thing_entry (Object c) a = An_object c a
+thing_entry Message a = Operation
+
+abbrev pub entry_of : Kind → Entry
+entry_of Unset = Operation
+entry_of Word = Operation
+entry_of Null = Operation
+entry_of (Own t a) = thing_entry t a
+entry_of (Maybe t a) = Operation
+
+abbrev pub tops_object : List Entry → Bool
+tops_object [] = false
+tops_object (e ∷ es) = is_object_entry e
+
+abbrev pub tops_operation : List Entry → Bool
+tops_operation [] = false
+tops_operation (e ∷ es) = not (is_object_entry e)
+
+-- what the last entry owns
+abbrev pub top_kind : List Entry → Kind
+top_kind [] = Null
+top_kind (e ∷ es) = entry_kind e
+
+module _ (p : Image) (m : ℕ) (pc : ℕ) (sh : Shape) where
+  -- where a method may leave in that state: it is one that may, and no register owns
+  abbrev pub leave_point : Shape → List Need
+  leave_point left = (leaves p m, LeaveNotAllowed) ∷ (none_owns left.registers, OwnedAtLeave) ∷ []
+
+  abbrev pub rule_new_or_leave : ℕ → List Need
+  rule_new_or_leave a = (is_unowning (register sh a), RegisterKind) ∷ (not (is_quiet p m), QuietBroken) ∷ leave_point sh
+
+  -- the object is on the cleanup stack before the push may leave
+  abbrev pub rule_push : ℕ → List Need
+  rule_push a = (owns_object (register sh a), RegisterKind) ∷ leave_point (set_register sh a Null)
+
+  abbrev pub after_push : ℕ → Shape
+  after_push a = with_entry (entry_of (register sh a)) (set_register sh a Null)
+
+  abbrev pub rule_push_operation : ℕ → List Need
+  rule_push_operation a = (is_word (register sh a), RegisterKind) ∷ leave_point sh
+
+  abbrev pub rule_pop : ℕ → List Need
+  rule_pop a =
+      (is_unowning (register sh a), RegisterKind)
+      ∷ (not (no_entry sh.entries), PopEmpty)
+      ∷ (tops_object sh.entries, RegisterKind)
+      ∷ []
+
+  abbrev pub after_pop : ℕ → Shape
+  after_pop a = set_register (without_entry sh) a (top_kind sh.entries)
+
+  abbrev pub rule_pop_operation : List Need
+  rule_pop_operation = (not (no_entry sh.entries), PopEmpty) ∷ (tops_operation sh.entries, RegisterKind) ∷ []
+
+  -- an object is destroyed, and an operation is run
+  abbrev pub rule_pop_delete : List Need
+  rule_pop_delete = (not (no_entry sh.entries), PopEmpty) ∷ []
+
+  -- of the two instructions that leave with a word, one of them where it is negative
+  abbrev pub rule_leave : ℕ → List Need
+  rule_leave a = (is_word (register sh a), RegisterKind) ∷ leave_point sh

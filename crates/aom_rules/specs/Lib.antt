@@ -1,0 +1,9 @@
+pub mod Words
+pub mod Objects
+pub mod Cleanup
+pub mod Calls
+pub mod Ways
+pub mod Rules
+pub mod Typing
+pub mod Laws
+pub mod Site

@@ -1,0 +1,101 @@
+-- The verifier's rules: for each instruction what the abstract state must say, and which ways go on from it.
+use Rattle.std.specs.Prelude.{ℕ, false, List, [], ◌∷◌, Result}
+use Rattle.aom_image.specs.Image.{Image}
+use Rattle.aom_instructions.specs.declared.instr.Instr.{Instr}
+use Rattle.aom_instructions.specs.declared.instr.Instr.TheVariants.{Const, Copy, Move, Add, Sub, Mul, And, Or, Xor, Jump, JumpEqual, JumpLess, JumpNull, JumpEmpty, Loop, Next, Print, Load, Store, Take, Put, New, NewOrLeave, Delete, Push, PushOperation, Pop, PopOperation, PopDelete, Call, Trap, Return, Leave, LeaveIf, Stop}
+use Rattle.aom_image.specs.declared.method.Thing.TheVariants.{Object}
+use Rattle.aom_shape.specs.Shape.{Shape}
+use Rattle.aom_shape.specs.Needs.{Need, Flow, judged}
+use Rattle.aom_rules.specs.Words.{rule_const, rule_copy, rule_combine, rule_compare, rule_print, rule_load, rule_store}
+use Rattle.aom_rules.specs.Objects.{new_age, rule_move, rule_jump_null, rule_jump_empty, rule_take, rule_put, rule_new, rule_delete}
+use Rattle.aom_rules.specs.Calls.{rule_call, rule_trap, rule_return}
+use Rattle.aom_rules.specs.Cleanup.{rule_new_or_leave, rule_push, rule_push_operation, rule_pop, rule_pop_operation, rule_pop_delete, rule_leave}
+use Rattle.aom_rules.specs.Ways.{Ways, Ends, Goes_on, Goes_to, Branches, Goes_back, Branches_on_null, Branches_on_empty, As_before, Holding, Moved, Taken, Filled, Pushed, Pushed_operation, Popped, Dropped, Called, Caught, flowing}
+use Rattle.aom_shape.specs.declared.kind.Kind.TheVariants.{Word, Null, Own, Maybe}
+use Rattle.aom_shape.specs.declared.why.Why.{Why}
+use Rattle.aom_shape.specs.declared.why.Why.TheVariants.{RegisterKind}
+
+-- the ways on from each instruction
+abbrev pub ways_of : Image → Instr → Ways
+ways_of p (Const a w) = Goes_on (Holding a Word)
+ways_of p (Copy a b) = Goes_on (Holding a Word)
+ways_of p (Add a b c) = Goes_on (Holding a Word)
+ways_of p (Sub a b c) = Goes_on (Holding a Word)
+ways_of p (Mul a b c) = Goes_on (Holding a Word)
+ways_of p (And a b c) = Goes_on (Holding a Word)
+ways_of p (Or a b c) = Goes_on (Holding a Word)
+ways_of p (Xor a b c) = Goes_on (Holding a Word)
+ways_of p (Jump to) = Goes_to to
+ways_of p (JumpEqual a b to) = Branches to
+ways_of p (JumpLess a b to) = Branches to
+ways_of p (Loop depth rounds) = Goes_on As_before
+ways_of p (Next depth to) = Goes_back to
+ways_of p (Print a) = Goes_on As_before
+ways_of p (Load a w) = Goes_on (Holding a Word)
+ways_of p (Store w b) = Goes_on As_before
+ways_of p (Move a b) = Goes_on (Moved a b)
+ways_of p (JumpNull a to) = Branches_on_null a to
+ways_of p (JumpEmpty f to) = Branches_on_empty f to
+ways_of p (Take a f) = Goes_on (Taken a f)
+ways_of p (Put f b) = Goes_on (Filled f b)
+ways_of p (New a c) = Goes_on (Holding a (Maybe (Object c) (new_age p c)))
+ways_of p (Delete a) = Goes_on (Holding a Null)
+ways_of p (Call target m' first c) = Goes_on (Called target m' first c)
+ways_of p (Trap target m' first c) = Goes_on (Caught target m' first c)
+ways_of p (NewOrLeave a c) = Goes_on (Holding a (Own (Object c) (new_age p c)))
+ways_of p (Push a) = Goes_on (Pushed a)
+ways_of p (PushOperation a m') = Goes_on Pushed_operation
+ways_of p (Pop a) = Goes_on (Popped a)
+ways_of p PopOperation = Goes_on Dropped
+ways_of p PopDelete = Goes_on Dropped
+ways_of p (Leave a) = Ends
+ways_of p (LeaveIf a) = Goes_on As_before
+ways_of p (Return a) = Ends
+ways_of p Stop = Goes_on As_before
+ways_of p _ = Ends
+
+module _ (p : Image) (m : ℕ) (pc : ℕ) (sh : Shape) where
+  abbrev pub rule_needs : Instr → List Need
+  rule_needs (Const a w) = rule_const pc sh a
+  rule_needs (Copy a b) = rule_copy pc sh a b
+  rule_needs (Add a b c) = rule_combine pc sh a b c
+  rule_needs (Sub a b c) = rule_combine pc sh a b c
+  rule_needs (Mul a b c) = rule_combine pc sh a b c
+  rule_needs (And a b c) = rule_combine pc sh a b c
+  rule_needs (Or a b c) = rule_combine pc sh a b c
+  rule_needs (Xor a b c) = rule_combine pc sh a b c
+  rule_needs (Jump to) = []
+  rule_needs (JumpEqual a b to) = rule_compare pc sh a b
+  rule_needs (JumpLess a b to) = rule_compare pc sh a b
+  rule_needs (Loop depth rounds) = []
+  rule_needs (Next depth to) = []
+  rule_needs (Print a) = rule_print pc sh a
+  rule_needs (Load a w) = rule_load p m sh a w
+  rule_needs (Store w b) = rule_store p m sh w b
+  rule_needs (Move a b) = rule_move p m pc sh a b
+  rule_needs (JumpNull a to) = rule_jump_null p m pc sh a
+  rule_needs (JumpEmpty f to) = rule_jump_empty p m pc sh f
+  rule_needs (Take a f) = rule_take p m pc sh a f
+  rule_needs (Put f b) = rule_put p m pc sh f b
+  rule_needs (New a c) = rule_new p m pc sh a
+  rule_needs (Delete a) = rule_delete p m pc sh a
+  rule_needs (Call target m' first c) = rule_call p m pc sh target m' first c
+  rule_needs (Trap target m' first c) = rule_trap p m pc sh target m' first c
+  rule_needs (NewOrLeave a c) = rule_new_or_leave p m pc sh a
+  rule_needs (Push a) = rule_push p m pc sh a
+  rule_needs (PushOperation a m') = rule_push_operation p m pc sh a
+  rule_needs (Pop a) = rule_pop p m pc sh a
+  rule_needs PopOperation = rule_pop_operation p m pc sh
+  rule_needs PopDelete = rule_pop_delete p m pc sh
+  rule_needs (Leave a) = rule_leave p m pc sh a
+  rule_needs (LeaveIf a) = rule_leave p m pc sh a
+  rule_needs (Return a) = rule_return p m pc sh a
+  rule_needs Stop = []
+  -- the others come with their stages, and no image that has one is linked until then
+  rule_needs _ = (false, RegisterKind) ∷ []
+
+  abbrev pub flows : Instr → List Flow
+  flows i = flowing p m pc sh (ways_of p i)
+
+  abbrev pub rule : Instr → Result (List Flow) Why
+  rule i = judged (rule_needs i) (flows i)

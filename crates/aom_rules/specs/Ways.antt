@@ -1,0 +1,66 @@
+-- The ways on from an instruction: a few kinds, whatever the instruction is.
+use Rattle.std.specs.Prelude.{ℕ, List, []}
+use Rattle.aom_image.specs.Image.{Image}
+use Rattle.aom_image.specs.Views.{gives_of}
+use Rattle.aom_instructions.specs.declared.instr.Target.{Target}
+use Rattle.aom_rules.specs.Calls.{brought, caught, lasting}
+use Rattle.aom_rules.specs.Cleanup.{after_pop, after_push}
+use Rattle.aom_shape.specs.Entries.{with_entry, without_entry}
+use Rattle.aom_shape.specs.Kinds.{field, register, set_register}
+use Rattle.aom_shape.specs.Needs.{Flow, to_next}
+use Rattle.aom_rules.specs.Objects.{after_move, after_put, after_take, flow_jump_empty, flow_jump_null}
+use Rattle.aom_shape.specs.Shape.{Shape}
+use Rattle.aom_rules.specs.Words.{flow_compare, flow_jump, flow_next}
+use Rattle.aom_shape.specs.declared.kind.Entry.TheVariants.{Operation}
+use Rattle.aom_shape.specs.declared.kind.Kind.{Kind}
+
+-- what is known at the next place that was not known before
+pub data News : Type 0 where
+  As_before : News
+  -- a register has that kind
+  Holding : (register : ℕ) → Kind → News
+  Moved : (to from : ℕ) → News
+  Taken : (register field : ℕ) → News
+  Filled : (field register : ℕ) → News
+  Pushed : (register : ℕ) → News
+  Pushed_operation : News
+  Popped : (register : ℕ) → News
+  -- the last entry is gone
+  Dropped : News
+  Called : Target → (method first result : ℕ) → News
+  Caught : Target → (method first result : ℕ) → News
+
+-- where a run may go on
+pub data Ways : Type 0 where
+  Ends : Ways
+  -- at the next place
+  Goes_on : News → Ways
+  Goes_to : (to : ℕ) → Ways
+  -- at the next place or at that one
+  Branches : (to : ℕ) → Ways
+  Goes_back : (to : ℕ) → Ways
+  Branches_on_null : (register to : ℕ) → Ways
+  Branches_on_empty : (field to : ℕ) → Ways
+
+module _ (p : Image) (m : ℕ) (pc : ℕ) (sh : Shape) where
+  abbrev pub after : News → Shape
+  after As_before = sh
+  after (Holding a kind) = set_register sh a kind
+  after (Moved a b) = after_move p m pc sh a b
+  after (Taken a f) = after_take p m pc sh a f
+  after (Filled f b) = after_put p m pc sh f b
+  after (Pushed a) = after_push p m pc sh a
+  after Pushed_operation = with_entry Operation sh
+  after (Popped a) = after_pop p m pc sh a
+  after Dropped = without_entry sh
+  after (Called target called first c) = brought (gives_of p called) c (lasting p m pc sh target called first)
+  after (Caught target called first c) = caught (gives_of p called) c (lasting p m pc sh target called first)
+
+  abbrev pub flowing : Ways → List Flow
+  flowing Ends = []
+  flowing (Goes_on news) = to_next pc (after news)
+  flowing (Goes_to to) = flow_jump pc sh to
+  flowing (Branches to) = flow_compare pc sh to
+  flowing (Goes_back to) = flow_next pc sh to
+  flowing (Branches_on_null a to) = flow_jump_null p m pc sh (register sh a) a to
+  flowing (Branches_on_empty f to) = flow_jump_empty p m pc sh (field sh f) f to

@@ -1,0 +1,300 @@
+-- The list of places after each change: from what the renumbering ensures and from where items stand.
+use Rattle.std.proofs.Common.{◌≡◌, ◌≢◌, ◌<◌, ◌≤◌, ◌==◌, ℕ, zero, suc, ℤ, pos, Bool, true, false, cond, List, [], ◌∷◌, ◌++◌, Option, Some, None, length, take, drop, set, get_or, refl, sym, ap, ◌∙◌, subst, inl, inr, arith}
+use Rattle.std.specs.Prelude.{remove, insert, int_le, not, option_map, IsNone, is_ok, Result, Ok, if◌then◌else◌}
+use Rattle.std.proofs.lemmas.Bool.{cases_Bool, cases_eq, eqb-true, eq-eqb, ne_eqb, cond-true, cond-false, true≢false}
+use Rattle.std.proofs.lemmas.List.{get_or-set_same, get_or-set_other, length-set}
+use Rattle.std.proofs.lemmas.List.Elements.{All-cons}
+use Rattle.std.proofs.lemmas.Int.{ints}
+use Rattle.std.proofs.lemmas.List.Edits.{length-insert, length-remove}
+use Rattle.std.proofs.Math.Seq.{take-append_seam}
+use Rattle.std.specs.List.Sorted.{IsPartitionPoint}
+use Rattle.aom_scheduler.specs.Order.{placed, without, place_of, IsOrdered}
+use Rattle.aom_scheduler.specs.Roster.{Roster, place, before, marked, marked_entry}
+use Rattle.aom_scheduler.specs.Places.{or_else, numbered, Knows, IsIndexed}
+use Rattle.aom_scheduler.specs.declared.entry.Entry.{Entry}
+use Rattle.aom_scheduler.proofs.Items.{IsAt, IsAbsent, AreDistinct, Found, there, nowhere, find_it, at-place, place-at, place-absent, absent-place, absent-head, absent-tail, at-from_take, place-take_other, place-take_same, at-within, at-number, IsRanking, All-from_placed, ordered-placed, ordered-without, ordered-map, take-insert, take-remove, without-at, distinct-tail, distinct-head, few, placed-point}
+
+-- the number of an entry
+abbrev pub id_of : Entry → ℕ
+id_of e = e.id
+
+-- priorities rank
+pub by_priority : IsRanking before
+by_priority =
+    record {
+      either = λ x y lower. higher x.priority y.priority lower;
+      chain = λ x y z h k. chained x.priority y.priority z.priority h k;
+    }
+  where
+    higher : (a b : ℤ) → int_le b a ≡ false → int_le a b ≡ true
+    higher a b lower = grind (arith, ints)
+
+    chained : (a b c : ℤ) → int_le b a ≡ true → int_le c b ≡ true → int_le c a ≡ true
+    chained a b c h k = grind (arith, ints)
+
+-- one entry more is numbered
+pub numbered-more : (entries : List Entry) (places start : List (Option ℕ)) (at : ℕ) (e : Entry)
+    → AreDistinct id_of entries → at < length entries → e ≡ get_or entries at e → e.id < length places
+    → ((id : ℕ) → get_or places id None ≡ numbered id (take at entries) start)
+    → (id : ℕ) → get_or (set places e.id (Some at)) id None ≡ numbered id (take (suc at) entries) start
+numbered-more entries places start at e distinct within is small before_it id =
+    elim (cases_eq id e.id) [
+      | inl same ↦
+          let here : place_of id_of e.id (take (suc at) entries) ≡ Some at = subst (λ x. place_of id_of (id_of x) (take (suc at) entries) ≡ Some at)
+          (sym is) (place-take_same id_of entries at e distinct within) in
+          subst (λ n. get_or (set places e.id (Some at)) n None ≡ numbered n (take (suc at) entries) start) (sym same)
+          (get_or-set_same places e.id (Some at) None small ∙ sym (ap (λ o. or_else o (get_or start e.id None)) here))
+      | inr other ↦
+          let apart : id_of (get_or entries at e) ≢ id = λ same. other (sym same ∙ ap id_of (sym is)) in
+          get_or-set_other places e.id id (Some at) None other ∙ before_it id
+          ∙ sym (ap (λ o. or_else o (get_or start id None)) (place-take_other id_of id entries at e within apart))
+    ]
+
+-- at first those before the place are known
+pub numbered-start : (places : List (Option ℕ)) (entries : List Entry) → Knows places entries → (id : ℕ) → get_or places id None ≡ numbered id entries places
+numbered-start places entries known id = by_place (place_of id_of id entries) refl
+  where
+    by_place : (o : Option ℕ) → place_of id_of id entries ≡ o → get_or places id None ≡ or_else (place_of id_of id entries) (get_or places id None)
+    by_place None e = ap (λ o. or_else o (get_or places id None)) (sym e)
+    by_place (Some at) e = known id at e ∙ ap (λ o. or_else o (get_or places id None)) (sym e)
+
+-- what is absent beside an item that goes is absent, but for that item
+absent-without : (gone id : ℕ) (xs : List Entry) → id ≢ gone → IsAbsent id_of id (without id_of gone xs) → IsAbsent id_of id xs
+absent-without gone id [] other absent = absent
+absent-without gone id (x ∷ xs) other absent =
+    elim (cases_Bool (id_of x == gone)) [
+      | inl e ↦
+          All-cons (λ y. id_of y ≢ id) x xs (λ same. other (sym same ∙ eqb-true (id_of x) gone e))
+          (absent-without gone id xs other (subst (λ b. IsAbsent id_of id (cond b (without id_of gone xs) (x ∷ without id_of gone xs))) e
+          (swapped (id_of x == gone) absent)))
+      | inr e ↦
+          let whole : IsAbsent id_of id (x ∷ without id_of gone xs) = subst
+          (λ b. IsAbsent id_of id (cond b (without id_of gone xs) (x ∷ without id_of gone xs))) e (swapped (id_of x == gone) absent) in
+          All-cons (λ y. id_of y ≢ id) x xs (absent-head id_of id x (without id_of gone xs) whole)
+          (absent-without gone id xs other (absent-tail id_of id x (without id_of gone xs) whole))
+    ]
+  where
+    swapped : (b : Bool) → IsAbsent id_of id (cond (not b) (x ∷ without id_of gone xs) (without id_of gone xs))
+        → IsAbsent id_of id (cond b (without id_of gone xs) (x ∷ without id_of gone xs))
+    swapped true h = h
+    swapped false h = h
+
+-- before an insertion the places of those in front are known
+pub known-insert : (entries : List Entry) (places : List (Option ℕ)) (at : ℕ) (e : Entry) → IsIndexed entries places → at ≤ length entries
+    → Knows places (take at (insert entries at e))
+known-insert entries places at e indexed within id i is =
+    let front : IsAt id_of id (take at entries) i = subst (λ xs. IsAt id_of id xs i) (take-insert entries at e within)
+    (place-at id_of id (take at (insert entries at e)) i is) in
+    indexed.stands id ∙ at-place id_of id entries i (at-from_take id_of id entries at i front).1
+
+-- so before a removal
+pub known-remove : (entries : List Entry) (places : List (Option ℕ)) (at gone : ℕ) → IsIndexed entries places → place_of id_of gone entries ≡ Some at
+    → Knows (set places gone None) (take at (remove entries at))
+known-remove entries places at gone indexed here id i is =
+    let found = place-at id_of gone entries at here in
+    let front : IsAt id_of id (take at entries) i = subst (λ xs. IsAt id_of id xs i) (take-remove entries at (at-within id_of gone entries at found))
+    (place-at id_of id (take at (remove entries at)) i is) in
+    let stands = at-from_take id_of id entries at i front in
+    let there_it : place_of id_of id entries ≡ Some i = at-place id_of id entries i stands.1 in
+    let less : i < at = stands.0 in
+    let other : id ≢ gone = λ same. absurd (omega (arith, less, same_place i at (sym (subst (λ n. place_of id_of n entries ≡ Some i) same there_it) ∙ here))) in
+    get_or-set_other places gone id None None other ∙ indexed.stands id ∙ there_it
+  where
+    same_place : (a b : ℕ) → Some a ≡ Some b → a ≡ b
+    same_place a b e = cc
+
+-- what is indexed after an insertion
+pub indexed-insert : (entries after : List Entry) (places now : List (Option ℕ)) (e : Entry) → IsIndexed entries places → e.id < length places
+    → place_of id_of e.id entries ≡ None
+    → after ≡ placed before e entries → length now ≡ length places → ((id : ℕ) → get_or now id None ≡ numbered id after places) → IsIndexed after now
+indexed-insert entries after places now e indexed small new is same says =
+    record {
+      ordered = subst (λ n. IsOrdered id_of before n after) (sym same) (subst (IsOrdered id_of before (length places)) (sym is)
+          (ordered-placed id_of before by_priority (length places) e entries small (place-absent id_of e.id entries new) indexed.ordered));
+      stands = λ id. says id ∙ settled id (find_it id_of id after);
+    }
+  where
+    settled : (id : ℕ) → Found id_of id after → numbered id after places ≡ place_of id_of id after
+    settled id (there i at) = ap (λ o. or_else o (get_or places id None)) (at-place id_of id after i at) ∙ sym (at-place id_of id after i at)
+    settled id (nowhere absent) =
+        let was : IsAbsent id_of id entries = All-from_placed before (λ x. id_of x ≢ id) e entries (subst (IsAbsent id_of id) is absent) in
+        ap (λ o. or_else o (get_or places id None)) (absent-place id_of id after absent)
+        ∙ indexed.stands id ∙ absent-place id_of id entries was ∙ sym (absent-place id_of id after absent)
+
+-- after a removal
+pub indexed-remove : (entries after : List Entry) (places now : List (Option ℕ)) (gone : ℕ) → IsIndexed entries places → gone < length places
+    → after ≡ without id_of gone entries → length now ≡ length places → ((id : ℕ) → get_or now id None ≡ numbered id after (set places gone None))
+    → IsIndexed after now
+indexed-remove entries after places now gone indexed small is same says =
+    record {
+      ordered = subst (λ n. IsOrdered id_of before n after) (sym same) (subst (IsOrdered id_of before (length places)) (sym is)
+          (ordered-without id_of before (length places) gone entries indexed.ordered));
+      stands = λ id. says id ∙ settled id (find_it id_of id after);
+    }
+  where
+    settled : (id : ℕ) → Found id_of id after → numbered id after (set places gone None) ≡ place_of id_of id after
+    settled id (there i at) = ap (λ o. or_else o (get_or (set places gone None) id None)) (at-place id_of id after i at) ∙ sym (at-place id_of id after i at)
+    settled id (nowhere absent) =
+        let none : get_or (set places gone None) id None ≡ None = elim (cases_eq id gone) [
+          | inl e ↦ subst (λ n. get_or (set places gone None) n None ≡ None) (sym e) (get_or-set_same places gone None None small)
+          | inr other ↦ get_or-set_other places gone id None None other ∙ indexed.stands id ∙ absent-place id_of id entries
+              (absent-without gone id entries other (subst (IsAbsent id_of id) is absent))
+        ] in
+        ap (λ o. or_else o (get_or (set places gone None) id None)) (absent-place id_of id after absent) ∙ none ∙ sym (absent-place id_of id after absent)
+
+-- a mark keeps the object and its priority
+marked-id : (id : ℕ) (ready : Bool) (e : Entry) → id_of (marked_entry id ready e) ≡ id_of e
+marked-id id ready e = elim (cases_Bool (e.id == id)) [
+  | inl t ↦ ap id_of (cond-true (e.id == id) (record e { is_ready = ready }) e t)
+  | inr f ↦ ap id_of (cond-false (e.id == id) (record e { is_ready = ready }) e f)
+]
+
+marked-priority : (id : ℕ) (ready : Bool) (e : Entry) → (marked_entry id ready e).priority ≡ e.priority
+marked-priority id ready e = elim (cases_Bool (e.id == id)) [
+  | inl t ↦ ap (λ x. x.priority) (cond-true (e.id == id) (record e { is_ready = ready }) e t)
+  | inr f ↦ ap (λ x. x.priority) (cond-false (e.id == id) (record e { is_ready = ready }) e f)
+]
+
+pub marked-place : (gone : ℕ) (ready : Bool) (id : ℕ) (xs : List Entry) → place_of id_of id (marked gone ready xs) ≡ place_of id_of id xs
+marked-place gone ready id [] = refl
+marked-place gone ready id (x ∷ xs) =
+    ap (λ n. cond (n == id) (Some 0) (option_map suc (place_of id_of id (marked gone ready xs)))) (marked-id gone ready x)
+    ∙ ap (λ o. cond (id_of x == id) (Some 0) (option_map suc o)) (marked-place gone ready id xs)
+
+-- a mark is a write at the object's place
+pub marked-absent : (id : ℕ) (ready : Bool) (xs : List Entry) → IsAbsent id_of id xs → marked id ready xs ≡ xs
+marked-absent id ready [] absent = refl
+marked-absent id ready (x ∷ xs) absent =
+    ap (λ y. y ∷ marked id ready xs) (cond-false (x.id == id) (record x { is_ready = ready }) x (ne_eqb (id_of x) id (absent-head id_of id x xs absent)))
+    ∙ ap (λ ys. x ∷ ys) (marked-absent id ready xs (absent-tail id_of id x xs absent))
+
+pub marked-at : (id : ℕ) (ready : Bool) (xs : List Entry) (i : ℕ) (d : Entry) → AreDistinct id_of xs → IsAt id_of id xs i
+    → set xs i (record (get_or xs i d) { is_ready = ready }) ≡ marked id ready xs
+marked-at id ready [] i d distinct at = absurd at
+marked-at id ready (x ∷ xs) zero d distinct at =
+    sym (ap (λ y. y ∷ marked id ready xs) (cond-true (x.id == id) (record x { is_ready = ready }) x (eq-eqb (id_of x) id at))
+    ∙ ap (λ ys. record x { is_ready = ready } ∷ ys) (marked-absent id ready xs (subst (λ n. IsAbsent id_of n xs) at (distinct-head id_of x xs distinct))))
+marked-at id ready (x ∷ xs) (suc i) d distinct at =
+    ap (λ ys. x ∷ ys) (marked-at id ready xs i d (distinct-tail id_of x xs distinct) at.1)
+    ∙ sym (ap (λ y. y ∷ marked id ready xs) (cond-false (x.id == id) (record x { is_ready = ready }) x (ne_eqb (id_of x) id at.0)))
+
+-- after a mark all stand where they stood
+pub indexed-mark : (entries : List Entry) (places : List (Option ℕ)) (id : ℕ) (ready : Bool) → IsIndexed entries places
+    → IsIndexed (marked id ready entries) places
+indexed-mark entries places id ready indexed =
+    record {
+      ordered = ordered-map id_of before (marked_entry id ready) (marked-id id ready) standing (length places) entries indexed.ordered;
+      stands = λ other. indexed.stands other ∙ sym (marked-place id ready other entries);
+    }
+  where
+    standing : (x y : Entry) → before (marked_entry id ready x) (marked_entry id ready y) ≡ before x y
+    standing x y =
+        ap (λ p. int_le p (marked_entry id ready x).priority) (marked-priority id ready y) ∙ ap (λ p. int_le y.priority p) (marked-priority id ready x)
+
+-- what holds when an entry is put at its place
+pub record Insertion (entries : List Entry) (places : List (Option ℕ)) (at : ℕ) (e : Entry) : Type 0 where
+  pub indexed : IsIndexed entries places
+  pub small : e.id < length places
+  pub new : place_of id_of e.id entries ≡ None
+  pub is : insert entries at e ≡ placed before e entries
+  pub ordered : IsOrdered id_of before (length places) (insert entries at e)
+  pub room : length entries < length places
+  pub many : length (insert entries at e) ≤ length places
+  pub known : Knows places (take at (insert entries at e))
+
+pub none_is : {X : Type 0} (o : Option X) → IsNone o → o ≡ None
+none_is None is = refl
+none_is (Some x) is = absurd (true≢false is)
+
+pub insertion : (entries : List Entry) (places : List (Option ℕ)) (at : ℕ) (e : Entry) → IsIndexed entries places → e.id < length places
+    → IsNone (place_of id_of e.id entries)
+    → at ≤ length entries → IsPartitionPoint (λ f. before f e ≡ true) (λ f. before f e ≡ false) entries at → Insertion entries places at e
+insertion entries places at e indexed small new within point =
+    let is : insert entries at e ≡ placed before e entries = placed-point before e entries at within point in
+    let absent = place-absent id_of e.id entries (none_is (place_of id_of e.id entries) new) in
+    let ordered : IsOrdered id_of before (length places) (insert entries at e) =
+    subst (IsOrdered id_of before (length places)) (sym is) (ordered-placed id_of before by_priority (length places) e entries small absent indexed.ordered) in
+    let many : length (insert entries at e) ≤ length places = few id_of (length places) (insert entries at e) ordered.below ordered.distinct in
+    record {
+      indexed = indexed;
+      small = small;
+      new = none_is (place_of id_of e.id entries) new;
+      is = is;
+      ordered = ordered;
+      room = omega (arith, many, length-insert entries at e within);
+      many = many;
+      known = known-insert entries places at e indexed within;
+    }
+
+-- a slice that was written over keeps what was written
+pub written : {X : Type 0} (n : ℕ) (old new : List X) → n ≡ length new → take n (new ++ drop (length new) old) ≡ new
+written n old new is = ap (λ k. take k (new ++ drop (length new) old)) is ∙ take-append_seam new (drop (length new) old)
+
+-- the same from what the fields and a search among them say
+pub insertion-from : (roster : Roster) (entries shown : List Entry) (places : List (Option ℕ)) (at : ℕ) (e : Entry)
+    → record { entries = entries; limit = length places } ≡ roster → shown ≡ entries
+    → IsIndexed entries places → e.id < roster.limit → IsNone (place e.id roster) → at ≤ length shown
+    → IsPartitionPoint (λ f. before f e ≡ true) (λ f. before f e ≡ false) shown at → Insertion entries places at e
+insertion-from roster entries shown places at e view same indexed small new within point =
+    insertion entries places at e indexed (subst (λ r. e.id < r.limit) (sym view) small) (subst (λ r. IsNone (place e.id r)) (sym view) new)
+    (subst (λ xs. at ≤ length xs) same within)
+    (subst (λ xs. IsPartitionPoint (λ f. before f e ≡ true) (λ f. before f e ≡ false) xs at) same point)
+
+-- what a fallible insertion leaves where it succeeds
+pub when_ok : {X T E : Type 0} (r : Result T E) (t : T) (now x y : X) → r ≡ Ok t → now ≡ (if is_ok r then x else y) → now ≡ x
+when_ok r t now x y ok is = is ∙ ap (λ s. if is_ok s then x else y) ok
+
+-- the places after the entry is put there and those behind it are numbered anew
+pub indexed-by_insertion : (entries shown : List Entry) (places lent now : List (Option ℕ)) (at : ℕ) (e : Entry) → Insertion entries places at e
+    → shown ≡ insert entries at e → lent ≡ places
+    → length now ≡ length lent → ((id : ℕ) → get_or now id None ≡ numbered id shown lent) → IsIndexed shown now
+indexed-by_insertion entries shown places lent now at e made is same long says =
+    indexed-insert entries shown places now e made.indexed made.small made.new (is ∙ made.is) (long ∙ ap length same) (subst (λ ps. (id : ℕ)
+    → get_or now id None ≡ numbered id shown ps) same says)
+
+-- rosters of the same entries and limit
+pub same_roster : (xs ys : List Entry) (m n : ℕ) → xs ≡ ys → m ≡ n → ◌≡◌ {A = Roster} (record { entries = xs; limit = m }) (record { entries = ys; limit = n })
+same_roster xs ys m n p q = cc
+
+-- an object that has an entry has it where its place says, in the fields too
+pub stands-in : (roster : Roster) (entries : List Entry) (limit id at : ℕ) (o : Option ℕ) → record { entries = entries; limit = limit } ≡ roster
+    → o ≡ place id roster → o ≡ Some at → IsAt id_of id entries at
+stands-in roster entries limit id at o view is some = place-at id_of id entries at (ap (λ r. place id r) view ∙ sym is ∙ some)
+
+-- the entry that is written over, marked
+pub marked-in : (entries : List Entry) (id at : ℕ) (ready : Bool) (e : Entry) → AreDistinct id_of entries → IsAt id_of id entries at
+    → e ≡ get_or entries at e → set entries at (record e { is_ready = ready }) ≡ marked id ready entries
+marked-in entries id at ready e distinct found is =
+    subst (λ x. set entries at (record x { is_ready = ready }) ≡ marked id ready entries) (sym is) (marked-at id ready entries at e distinct found)
+
+-- what holds when the entry at a place goes
+pub record Removal (entries : List Entry) (places : List (Option ℕ)) (at gone : ℕ) : Type 0 where
+  pub indexed : IsIndexed entries places
+  pub small : gone < length places
+  pub is : remove entries at ≡ without id_of gone entries
+  pub many : length (remove entries at) ≤ length places
+  pub known : Knows (set places gone None) (take at (remove entries at))
+
+pub removal : (entries : List Entry) (places : List (Option ℕ)) (at gone : ℕ) → IsIndexed entries places → IsAt id_of gone entries at
+    → Removal entries places at gone
+removal entries places at gone indexed found =
+    let within : at < length entries = at-within id_of gone entries at found in
+    let small : gone < length places = subst (λ n. n < length places) (at-number id_of gone entries at d found) (indexed.ordered.below at d within) in
+    record {
+      indexed = indexed;
+      small = small;
+      is = without-at id_of gone entries at indexed.ordered.distinct found;
+      many = omega (arith, length-remove entries at within, few id_of (length places) entries indexed.ordered.below indexed.ordered.distinct);
+      known = known-remove entries places at gone indexed (at-place id_of gone entries at found);
+    }
+  where
+    d : Entry
+    d = record { id = 0; priority = pos 0; is_ready = false }
+
+-- the places after the entry is gone and those behind it are numbered anew
+pub indexed-by_removal : (entries shown : List Entry) (places lent now : List (Option ℕ)) (at gone : ℕ) → Removal entries places at gone
+    → shown ≡ remove entries at → lent ≡ set places gone None
+    → length now ≡ length lent → ((id : ℕ) → get_or now id None ≡ numbered id shown lent) → IsIndexed shown now
+indexed-by_removal entries shown places lent now at gone made is same long says =
+    indexed-remove entries shown places now gone made.indexed made.small (is ∙ made.is) (long ∙ ap length same ∙ length-set places gone None)
+    (subst (λ ps. (id : ℕ) → get_or now id None ≡ numbered id shown ps) same says)

@@ -1,0 +1,284 @@
+-- Those that are ready, in order: what a mark, an insertion and a removal do to their list, and where a search among them ends.
+use Rattle.std.proofs.Common.{◌≡◌, ◌≢◌, ◌<◌, ◌≤◌, ◌+◌, ◌-◌, ◌==◌, ℕ, zero, suc, Bool, true, false, nat_lt, List, [], ◌∷◌, ◌++◌, Some, length, take, drop, get_or, refl, sym, ap, ◌∙◌, subst, inl, inr, arith}
+use Rattle.std.specs.Prelude.{All, remove, insert, map, filter, not, slice_get}
+use Rattle.std.proofs.lemmas.Bool.{cases_Bool, cases_lt, cases_eq, eq-eqb, ne_eqb, cond-true, cond-false, lt-ltb, le-ltb, false≢true}
+use Rattle.std.proofs.lemmas.List.{get_or-take, get_or-drop, get_or_append_left, get_or-append_right, map-append, take-append-drop, length-map, length-append, length-take-le, length-drop}
+use Rattle.std.proofs.lemmas.List.Elements.{All-filter, All-map, filter-append}
+use Rattle.std.specs.List.Sorted.{IsPartitionPoint, IsPartitionedBy}
+use Rattle.aom_scheduler.specs.Order.{placed, without, place_of}
+use Rattle.aom_scheduler.specs.Roster.{Roster, IsSound, before, marked, marked_entry, ready_ids, first_ready}
+use Rattle.aom_scheduler.specs.Places.{stands_before}
+use Rattle.aom_scheduler.specs.declared.entry.Entry.{Entry}
+use Rattle.aom_scheduler.proofs.Items.{IsAt, AreDistinct, own-place, at-place, distinct-head, distinct-tail, at-within, few}
+use Rattle.aom_scheduler.proofs.Places.{id_of, marked-absent}
+use Rattle.aom_scheduler.specs.Ready.{IsReadyAt, IsWaitingAt}
+use Rattle.std.proofs.lemmas.List.Edits.{length-insert}
+
+ready-first : (e : Entry) (es : List Entry) → e.is_ready ≡ true → ready_ids (e ∷ es) ≡ e.id ∷ ready_ids es
+ready-first e es is = ap (map (λ f. f.id)) (cond-true e.is_ready (e ∷ filter (λ f. f.is_ready) es) (filter (λ f. f.is_ready) es) is)
+
+ready-skipped : (e : Entry) (es : List Entry) → e.is_ready ≡ false → ready_ids (e ∷ es) ≡ ready_ids es
+ready-skipped e es is = ap (map (λ f. f.id)) (cond-false e.is_ready (e ∷ filter (λ f. f.is_ready) es) (filter (λ f. f.is_ready) es) is)
+
+ready-append : (xs ys : List Entry) → ready_ids (xs ++ ys) ≡ ready_ids xs ++ ready_ids ys
+ready-append xs ys = ap (map (λ f. f.id)) (filter-append (λ f. f.is_ready) xs ys) ∙ map-append (λ f. f.id) (filter (λ f. f.is_ready) xs)
+    (filter (λ f. f.is_ready) ys)
+
+ready-same : (e : Entry) (xs ys : List Entry) → ready_ids xs ≡ ready_ids ys → ready_ids (e ∷ xs) ≡ ready_ids (e ∷ ys)
+ready-same e xs ys same = elim (cases_Bool e.is_ready) [
+  | inl is_so ↦ ready-first e xs is_so ∙ ap (λ ids. e.id ∷ ids) same ∙ sym (ready-first e ys is_so)
+  | inr is_not ↦ ready-skipped e xs is_not ∙ same ∙ sym (ready-skipped e ys is_not)
+]
+
+-- no more are ready than have an entry
+pub length-ready : (xs : List Entry) → length (ready_ids xs) ≤ length xs
+length-ready [] = omega arith
+length-ready (x ∷ xs) = elim (cases_Bool x.is_ready) [
+  | inl is_so ↦ omega (arith, ap length (ready-first x xs is_so), length-ready xs)
+  | inr is_not ↦ omega (arith, ap length (ready-skipped x xs is_not), length-ready xs)
+]
+
+-- an entry that waits adds nobody
+pub ready-placed : (e : Entry) (xs : List Entry) → e.is_ready ≡ false → ready_ids (placed before e xs) ≡ ready_ids xs
+ready-placed e [] waits = ready-skipped e [] waits
+ready-placed e (x ∷ xs) waits = elim (cases_Bool (before x e)) [
+  | inl is_so ↦ ap ready_ids (cond-true (before x e) (x ∷ placed before e xs) (e ∷ x ∷ xs) is_so) ∙ ready-same x (placed before e xs) xs
+      (ready-placed e xs waits)
+  | inr is_not ↦ ap ready_ids (cond-false (before x e) (x ∷ placed before e xs) (e ∷ x ∷ xs) is_not) ∙ ready-skipped e (x ∷ xs) waits
+]
+
+marked-here : (id : ℕ) (ready : Bool) (x : Entry) → id_of x ≡ id → marked_entry id ready x ≡ record x { is_ready = ready }
+marked-here id ready x same = cond-true (x.id == id) (record x { is_ready = ready }) x (eq-eqb (id_of x) id same)
+
+marked-other : (id : ℕ) (ready : Bool) (x : Entry) → id_of x ≢ id → marked_entry id ready x ≡ x
+marked-other id ready x other = cond-false (x.id == id) (record x { is_ready = ready }) x (ne_eqb (id_of x) id other)
+
+-- the list of a marked object and the rest
+marked-first : (id : ℕ) (ready : Bool) (x : Entry) (xs : List Entry) → AreDistinct id_of (x ∷ xs) → id_of x ≡ id
+    → marked id ready (x ∷ xs) ≡ record x { is_ready = ready } ∷ xs
+marked-first id ready x xs distinct same =
+    ap (λ y. y ∷ marked id ready xs) (marked-here id ready x same)
+    ∙ ap (λ ys. record x { is_ready = ready } ∷ ys) (marked-absent id ready xs
+    (subst (λ n. (k : ℕ) (d : Entry) → k < length xs → id_of (get_or xs k d) ≢ n) same (distinct-head id_of x xs distinct)))
+
+marked-later : (id : ℕ) (ready : Bool) (x : Entry) (xs : List Entry) → id_of x ≢ id → marked id ready (x ∷ xs) ≡ x ∷ marked id ready xs
+marked-later id ready x xs other = ap (λ y. y ∷ marked id ready xs) (marked-other id ready x other)
+
+abbrev with_ready : Entry → List Entry → Bool → List Entry
+with_ready x xs b = record x { is_ready = b } ∷ xs
+
+-- marked as it is
+pub marked-same : (id : ℕ) (xs : List Entry) (i : ℕ) (d : Entry) (ready : Bool) → AreDistinct id_of xs → IsAt id_of id xs i
+    → (get_or xs i d).is_ready ≡ ready → marked id ready xs ≡ xs
+marked-same id [] i d ready distinct at is = absurd at
+marked-same id (x ∷ xs) zero d ready distinct at is =
+    marked-first id ready x xs distinct at ∙ ap (with_ready x xs) (sym is)
+marked-same id (x ∷ xs) (suc i) d ready distinct at is =
+    marked-later id ready x xs at.0 ∙ ap (λ ys. x ∷ ys) (marked-same id xs i d ready (distinct-tail id_of x xs distinct) at.1 is)
+
+-- one more is ready
+pub ready-more : (id : ℕ) (xs : List Entry) (i : ℕ) (d : Entry) → AreDistinct id_of xs → IsAt id_of id xs i → (get_or xs i d).is_ready ≡ false
+    → insert (ready_ids xs) (length (ready_ids (take i xs))) id ≡ ready_ids (marked id true xs)
+ready-more id [] i d distinct at is = absurd at
+ready-more id (x ∷ xs) zero d distinct at is =
+    ap (λ ids. id ∷ ids) (ready-skipped x xs is) ∙ ap (λ n. n ∷ ready_ids xs) (sym at) ∙ sym (ready-first (record x { is_ready = true }) xs refl) ∙ sym
+    (ap ready_ids (marked-first id true x xs distinct at))
+ready-more id (x ∷ xs) (suc i) d distinct at is =
+    let rest = ready-more id xs i d (distinct-tail id_of x xs distinct) at.1 is in
+    let later = sym (ap ready_ids (marked-later id true x xs at.0)) in
+    elim (cases_Bool x.is_ready) [
+      | inl is_so ↦
+          ap (λ ids. insert ids (length (ready_ids (x ∷ take i xs))) id) (ready-first x xs is_so)
+          ∙ ap (λ ids. insert (x.id ∷ ready_ids xs) (length ids) id) (ready-first x (take i xs) is_so)
+          ∙ ap (λ ids. x.id ∷ ids) rest ∙ sym (ready-first x (marked id true xs) is_so) ∙ later
+      | inr is_not ↦
+          ap (λ ids. insert ids (length (ready_ids (x ∷ take i xs))) id) (ready-skipped x xs is_not)
+          ∙ ap (λ ids. insert (ready_ids xs) (length ids) id) (ready-skipped x (take i xs) is_not)
+          ∙ rest ∙ sym (ready-skipped x (marked id true xs) is_not) ∙ later
+    ]
+
+-- one fewer is ready
+pub ready-less : (id : ℕ) (xs : List Entry) (i : ℕ) (d : Entry) → AreDistinct id_of xs → IsAt id_of id xs i → (get_or xs i d).is_ready ≡ true
+    → (remove (ready_ids xs) (length (ready_ids (take i xs))) ≡ ready_ids (marked id false xs)) × (length (ready_ids (take i xs)) < length (ready_ids xs))
+ready-less id [] i d distinct at is = absurd at
+ready-less id (x ∷ xs) zero d distinct at is = (
+  ap (λ ids. remove ids 0) (ready-first x xs is) ∙ sym (ready-skipped (record x { is_ready = false }) xs refl) ∙ sym
+      (ap ready_ids (marked-first id false x xs distinct at)),
+  omega (arith, ap length (ready-first x xs is)),
+)
+ready-less id (x ∷ xs) (suc i) d distinct at is =
+    let rest = ready-less id xs i d (distinct-tail id_of x xs distinct) at.1 is in
+    let later = sym (ap ready_ids (marked-later id false x xs at.0)) in
+    elim (cases_Bool x.is_ready) [
+      | inl is_so ↦ (
+        ap (λ ids. remove ids (length (ready_ids (x ∷ take i xs)))) (ready-first x xs is_so)
+            ∙ ap (λ ids. remove (x.id ∷ ready_ids xs) (length ids)) (ready-first x (take i xs) is_so)
+            ∙ ap (λ ids. x.id ∷ ids) rest.0 ∙ sym (ready-first x (marked id false xs) is_so) ∙ later,
+        omega (arith, rest.1, ap length (ready-first x xs is_so), ap length (ready-first x (take i xs) is_so)),
+      )
+      | inr is_not ↦ (
+        ap (λ ids. remove ids (length (ready_ids (x ∷ take i xs)))) (ready-skipped x xs is_not)
+            ∙ ap (λ ids. remove (ready_ids xs) (length ids)) (ready-skipped x (take i xs) is_not)
+            ∙ rest.0 ∙ sym (ready-skipped x (marked id false xs) is_not) ∙ later,
+        omega (arith, rest.1, ap length (ready-skipped x xs is_not), ap length (ready-skipped x (take i xs) is_not)),
+      )
+    ]
+
+-- an object that waits goes, and those that are ready stay
+pub ready-without : (id : ℕ) (xs : List Entry) → ready_ids (without id_of id (marked id false xs)) ≡ ready_ids (marked id false xs)
+ready-without id [] = refl
+ready-without id (x ∷ xs) = elim (cases_eq x.id id) [
+  | inl same ↦
+      let here = marked-here id false x same in
+      let gone = record x { is_ready = false } in
+      ap (λ y. ready_ids (without id_of id (y ∷ marked id false xs))) here
+      ∙ ap ready_ids (cond-false (not (gone.id == id)) (gone ∷ without id_of id (marked id false xs)) (without id_of id (marked id false xs))
+      (ap not (eq-eqb (id_of x) id same)))
+      ∙ ready-without id xs ∙ sym (ready-skipped gone (marked id false xs) refl) ∙ sym (ap (λ y. ready_ids (y ∷ marked id false xs)) here)
+  | inr other ↦
+      let here = marked-other id false x other in
+      ap (λ y. ready_ids (without id_of id (y ∷ marked id false xs))) here
+      ∙ ap ready_ids (cond-true (not (x.id == id)) (x ∷ without id_of id (marked id false xs)) (without id_of id (marked id false xs))
+      (ap not (ne_eqb (id_of x) id other)))
+      ∙ ready-same x (without id_of id (marked id false xs)) (marked id false xs) (ready-without id xs) ∙ sym
+      (ap (λ y. ready_ids (y ∷ marked id false xs)) here)
+]
+
+pub without-marked : (id : ℕ) (ready : Bool) (xs : List Entry) → without id_of id (marked id ready xs) ≡ without id_of id xs
+without-marked id ready [] = refl
+without-marked id ready (x ∷ xs) = elim (cases_eq x.id id) [
+  | inl same ↦
+      let test = ap not (eq-eqb (id_of x) id same) in
+      let gone : Entry = record x { is_ready = ready } in
+      ap (λ y. without id_of id (y ∷ marked id ready xs)) (marked-here id ready x same)
+      ∙ cond-false (not (gone.id == id)) (gone ∷ without id_of id (marked id ready xs)) (without id_of id (marked id ready xs)) test
+      ∙ without-marked id ready xs ∙ sym (cond-false (not (x.id == id)) (x ∷ without id_of id xs) (without id_of id xs) test)
+  | inr other ↦
+      let test = ap not (ne_eqb (id_of x) id other) in
+      ap (λ y. without id_of id (y ∷ marked id ready xs)) (marked-other id ready x other)
+      ∙ cond-true (not (x.id == id)) (x ∷ without id_of id (marked id ready xs)) (without id_of id (marked id ready xs)) test
+      ∙ ap (λ ys. x ∷ ys) (without-marked id ready xs) ∙ sym (cond-true (not (x.id == id)) (x ∷ without id_of id xs) (without id_of id xs) test)
+]
+
+module _ {A : Type 0} (p : A → Bool) (us vs : List A) where
+  -- a test that what is in front passes and what is behind does not
+  pub searchable-split : All (λ x. p x ≡ true) us → All (λ x. p x ≡ false) vs → IsPartitionedBy p (us ++ vs)
+  searchable-split front behind = λ i j d le within h.
+      elim (cases_lt j (length us)) [
+        | inl inside ↦ ap p (get_or_append_left us vs d i (omega arith)) ∙ front i d (omega arith)
+        | inr past ↦
+            let is_not = ap p (get_or-append_right us vs (length us) j d refl past) ∙ behind (j - length us) d (omega (arith, within, length-append us vs)) in
+            absurd (false≢true (sym is_not ∙ h))
+      ]
+
+  pub point-split : (i : ℕ) (d : A) → All (λ x. p x ≡ true) us → All (λ x. p x ≡ false) vs → i ≤ length (us ++ vs)
+      → IsPartitionPoint (λ x. p x ≡ true) (λ x. p x ≡ false) (us ++ vs) i → i ≡ length us
+  point-split i d front behind within point =
+      elim (cases_lt i (length us)) [
+        | inl inside ↦
+            let is_so = ap p (get_or_append_left us vs d i inside) ∙ front i d inside in
+            absurd (false≢true (sym (point.1 i d (omega arith) (omega (arith, length-append us vs))) ∙ is_so))
+        | inr past ↦ elim (cases_eq i (length us)) [
+          | inl same ↦ same
+          | inr other ↦
+              let is_not = ap p (get_or-append_right us vs (length us) (length us) d refl (omega arith)) ∙ behind (length us - length us) d
+              (omega (arith, within, length-append us vs)) in
+              absurd (false≢true (sym is_not ∙ point.0 (length us) d (omega arith) (omega arith)))
+        ]
+      ]
+
+-- the test that a search among the ready makes
+abbrev pub is_in_front : List Entry → ℕ → ℕ → Bool
+is_in_front xs i id = stands_before i (place_of id_of id xs)
+
+own : (xs : List Entry) (i k : ℕ) (d : Entry) → AreDistinct id_of xs → k < length xs → is_in_front xs i (id_of (get_or xs k d)) ≡ nat_lt k i
+own xs i k d distinct within = ap (stands_before i) (at-place id_of (id_of (get_or xs k d)) xs k (own-place id_of xs k d distinct within))
+
+ready-all : (p : ℕ → Bool) (b : Bool) (xs : List Entry) → All (λ e. p (id_of e) ≡ b) xs → All (λ n. p n ≡ b) (ready_ids xs)
+ready-all p b xs all = All-map (λ n. p n ≡ b) id_of (filter (λ e. e.is_ready) xs) (All-filter (λ e. e.is_ready) (λ e. p (id_of e) ≡ b) xs all)
+
+front-all : (xs : List Entry) (i : ℕ) → AreDistinct id_of xs → i ≤ length xs → All (λ n. is_in_front xs i n ≡ true) (ready_ids (take i xs))
+front-all xs i distinct le = ready-all (is_in_front xs i) true (take i xs) all
+  where
+    all : All (λ e. is_in_front xs i (id_of e) ≡ true) (take i xs)
+    all k d within =
+        let less : k < i = omega (arith, within, length-take-le i xs le) in
+        ap (λ e. is_in_front xs i (id_of e)) (get_or-take i xs k d less) ∙ own xs i k d distinct (omega arith) ∙ lt-ltb k i less
+
+behind-all : (xs : List Entry) (i : ℕ) → AreDistinct id_of xs → i ≤ length xs → All (λ n. is_in_front xs i n ≡ false) (ready_ids (drop i xs))
+behind-all xs i distinct le = ready-all (is_in_front xs i) false (drop i xs) all
+  where
+    all : All (λ e. is_in_front xs i (id_of e) ≡ false) (drop i xs)
+    all k d within =
+        ap (λ e. is_in_front xs i (id_of e)) (get_or-drop i xs k d) ∙ own xs i (i + k) d distinct (omega (arith, within, length-drop i xs)) ∙ le-ltb (i + k)
+        i (omega arith)
+
+halves : (xs : List Entry) (i : ℕ) → ready_ids (take i xs) ++ ready_ids (drop i xs) ≡ ready_ids xs
+halves xs i = sym (ready-append (take i xs) (drop i xs)) ∙ ap ready_ids (take-append-drop i xs)
+
+-- a search among the ready is one in an order
+pub searchable-ready : (xs : List Entry) (i : ℕ) → AreDistinct id_of xs → i ≤ length xs → IsPartitionedBy (is_in_front xs i) (ready_ids xs)
+searchable-ready xs i distinct le =
+    subst (IsPartitionedBy (is_in_front xs i)) (halves xs i)
+    (searchable-split (is_in_front xs i) (ready_ids (take i xs)) (ready_ids (drop i xs)) (front-all xs i distinct le) (behind-all xs i distinct le))
+
+-- and ends after those that are ready before the place
+pub point-ready : (xs : List Entry) (i at : ℕ) → AreDistinct id_of xs → i ≤ length xs → at ≤ length (ready_ids xs)
+    → IsPartitionPoint (λ n. is_in_front xs i n ≡ true) (λ n. is_in_front xs i n ≡ false) (ready_ids xs) at → at ≡ length (ready_ids (take i xs))
+point-ready xs i at distinct le within point =
+    let split = sym (halves xs i) in
+    point-split (is_in_front xs i) (ready_ids (take i xs)) (ready_ids (drop i xs)) at 0 (front-all xs i distinct le) (behind-all xs i distinct le)
+    (subst (λ ids. at ≤ length ids) split within) (subst (λ ids. IsPartitionPoint (λ n. is_in_front xs i n ≡ true) (λ n. is_in_front xs i n ≡ false) ids at)
+    split point)
+
+-- the first that is ready is the first of those
+pub first-is : (xs : List Entry) → first_ready xs ≡ slice_get (ready_ids xs) 0
+first-is [] = refl
+first-is (x ∷ xs) = elim (cases_Bool x.is_ready) [
+  | inl is_so ↦ cond-true x.is_ready (Some x.id) (first_ready xs) is_so ∙ sym (ap (λ ids. slice_get ids 0) (ready-first x xs is_so))
+  | inr is_not ↦ cond-false x.is_ready (Some x.id) (first_ready xs) is_not ∙ first-is xs ∙ sym (ap (λ ids. slice_get ids 0) (ready-skipped x xs is_not))
+]
+
+-- what the search among the ready found, by whether the object is ready
+pub ready-at : (r : Roster) (ids : List ℕ) (id place at : ℕ) (d : Entry) → IsSound r → ids ≡ ready_ids r.entries → IsAt id_of id r.entries place
+    → at ≤ length ids
+    → IsPartitionPoint (λ n. is_in_front r.entries place n ≡ true) (λ n. is_in_front r.entries place n ≡ false) ids
+    at → (get_or r.entries place d).is_ready ≡ true → IsReadyAt r id at
+ready-at r ids id place at d sound is found within point ready =
+    let le : place ≤ length r.entries = omega (arith, at-within id_of id r.entries place found) in
+    let here : at ≡ length (ready_ids (take place r.entries)) =
+    point-ready r.entries place at sound.distinct le (subst (λ ns. at ≤ length ns) is within)
+    (subst (λ ns. IsPartitionPoint (λ n. is_in_front r.entries place n ≡ true) (λ n. is_in_front r.entries place n ≡ false) ns at) is point) in
+    let fewer = ready-less id r.entries place d sound.distinct found ready in
+    record {
+      within = subst (λ n. n < length (ready_ids r.entries)) (sym here) fewer.1;
+      less = ap (remove (ready_ids r.entries)) here ∙ fewer.0;
+      same = marked-same id r.entries place d true sound.distinct found ready;
+    }
+
+pub waiting-at : (r : Roster) (ids : List ℕ) (id place at : ℕ) (d : Entry) → IsSound r → ids ≡ ready_ids r.entries → IsAt id_of id r.entries place
+    → at ≤ length ids
+    → IsPartitionPoint (λ n. is_in_front r.entries place n ≡ true) (λ n. is_in_front r.entries place n ≡ false) ids
+    at → (get_or r.entries place d).is_ready ≡ false → IsWaitingAt r id at
+waiting-at r ids id place at d sound is found within point waits =
+    let le : place ≤ length r.entries = omega (arith, at-within id_of id r.entries place found) in
+    let inside : at ≤ length (ready_ids r.entries) = subst (λ ns. at ≤ length ns) is within in
+    let here : at ≡ length (ready_ids (take place r.entries)) =
+    point-ready r.entries place at sound.distinct le inside (subst (λ ns. IsPartitionPoint (λ n. is_in_front r.entries place n ≡ true)
+    (λ n. is_in_front r.entries place n ≡ false) ns at) is point) in
+    let more : insert (ready_ids r.entries) at id ≡ ready_ids (marked id true r.entries) = ap (λ n. insert (ready_ids r.entries) n id) here ∙ ready-more id
+    r.entries place d sound.distinct found waits in
+    record {
+      within = inside;
+      room = omega (
+        arith,
+        length-insert (ready_ids r.entries) at id inside,
+        ap length more,
+        length-ready (marked id true r.entries),
+        length-map r.entries
+            (marked_entry id true),
+        few id_of r.limit r.entries sound.below sound.distinct,
+      );
+      more = more;
+      same = marked-same id r.entries place d false sound.distinct found waits;
+    }

@@ -1,0 +1,202 @@
+-- The list of due times after each change of the timers.
+use Rattle.std.proofs.Common.{◌≡◌, ◌≢◌, ◌<◌, ◌≤◌, ◌==◌, ℕ, zero, suc, true, false, cond, List, [], ◌∷◌, Option, Some, None, length, set, get_or, refl, sym, ap, ◌∙◌, subst, inl, inr, arith}
+use Rattle.std.specs.Prelude.{AllPairs, remove, insert, not, IsNone, Result, Ok, Err, OnErr, OnOk, IsOk, IsSome, OnSome, nat_lt}
+use Rattle.std.proofs.lemmas.Bool.{cases_Bool, cases_eq, eq-eqb, ne_eqb, cond-true, cond-false, leb-true, leb-false, le-leb, ltb-true, lt-ltb, cases_lt, false≢true}
+use Rattle.std.proofs.lemmas.List.{get_or-set_same, get_or-set_other, length-set}
+use Rattle.std.proofs.lemmas.List.Edits.{length-insert}
+use Rattle.std.specs.List.Sorted.{IsPartitionPoint, IsPartitionedBy}
+use Rattle.aom_scheduler.specs.Order.{placed, without, place_of, IsOrdered}
+use Rattle.aom_scheduler.specs.Pending.{Pending, no_later, due_of}
+use Rattle.aom_scheduler.specs.Dues.{IsTimed}
+use Rattle.aom_scheduler.specs.declared.timer.Timer.{Timer}
+use Rattle.aom_scheduler.proofs.Items.{IsAt, IsAbsent, Found, there, nowhere, find_it, at-place, place-at, absent-head, absent-tail, at-within, at-number, IsRanking, ordered-placed, ordered-without, without-at, few, placed-point}
+use Rattle.aom_scheduler.proofs.Places.{none_is}
+use Rattle.std.proofs.lemmas.Option.{none-some, same_Some}
+
+-- the number of a timer
+abbrev pub id_of : Timer → ℕ
+id_of t = t.id
+
+-- due times rank
+pub by_due : IsRanking no_later
+by_due =
+    record {
+      either = λ t u later. le-leb u.due t.due (omega (arith, leb-false t.due u.due later));
+      chain = λ t u v h k. le-leb t.due v.due (omega (arith, leb-true t.due u.due h, leb-true u.due v.due k));
+    }
+
+due-here : (id : ℕ) (t : Timer) (ts : List Timer) → id_of t ≡ id → due_of id (t ∷ ts) ≡ Some t.due
+due-here id t ts same = cond-true (t.id == id) (Some t.due) (due_of id ts) (eq-eqb (id_of t) id same)
+
+due-later : (id : ℕ) (t : Timer) (ts : List Timer) → id_of t ≢ id → due_of id (t ∷ ts) ≡ due_of id ts
+due-later id t ts other = cond-false (t.id == id) (Some t.due) (due_of id ts) (ne_eqb (id_of t) id other)
+
+pub due-absent : (id : ℕ) (ts : List Timer) → IsAbsent id_of id ts → due_of id ts ≡ None
+due-absent id [] absent = refl
+due-absent id (t ∷ ts) absent = due-later id t ts (absent-head id_of id t ts absent) ∙ due-absent id ts (absent-tail id_of id t ts absent)
+
+pub due-at : (id : ℕ) (ts : List Timer) (i : ℕ) (d : Timer) → IsAt id_of id ts i → due_of id ts ≡ Some (get_or ts i d).due
+due-at id [] i d at = absurd at
+due-at id (t ∷ ts) zero d at = due-here id t ts at
+due-at id (t ∷ ts) (suc i) d at = due-later id t ts at.0 ∙ due-at id ts i d at.1
+
+abbrev blank : ℕ → Timer
+blank id = record { id = id; due = 0 }
+
+-- an object without a timer is absent
+pub absent-due : (id : ℕ) (ts : List Timer) → due_of id ts ≡ None → IsAbsent id_of id ts
+absent-due id ts none = by_found (find_it id_of id ts)
+  where
+    by_found : Found id_of id ts → IsAbsent id_of id ts
+    by_found (there i at) = absurd (none-some (get_or ts i (blank id)).due (sym none ∙ due-at id ts i (blank id) at))
+    by_found (nowhere absent) = absent
+
+-- a timer that is placed is the object's, and those of others stay
+due-placed_same : (t : Timer) (ts : List Timer) → IsAbsent id_of t.id ts → due_of t.id (placed no_later t ts) ≡ Some t.due
+due-placed_same t [] absent = due-here t.id t [] refl
+due-placed_same t (u ∷ us) absent = elim (cases_Bool (no_later u t)) [
+  | inl is_so ↦
+      ap (due_of t.id) (cond-true (no_later u t) (u ∷ placed no_later t us) (t ∷ u ∷ us) is_so)
+      ∙ due-later t.id u (placed no_later t us) (absent-head id_of t.id u us absent) ∙ due-placed_same t us (absent-tail id_of t.id u us absent)
+  | inr is_not ↦ ap (due_of t.id) (cond-false (no_later u t) (u ∷ placed no_later t us) (t ∷ u ∷ us) is_not) ∙ due-here t.id t (u ∷ us) refl
+]
+
+due-placed_other : (id : ℕ) (t : Timer) (ts : List Timer) → id_of t ≢ id → due_of id (placed no_later t ts) ≡ due_of id ts
+due-placed_other id t [] other = due-later id t [] other
+due-placed_other id t (u ∷ us) other = elim (cases_Bool (no_later u t)) [
+  | inl is_so ↦
+      ap (due_of id) (cond-true (no_later u t) (u ∷ placed no_later t us) (t ∷ u ∷ us) is_so)
+      ∙ ap (λ o. cond (u.id == id) (Some u.due) o) (due-placed_other id t us other)
+  | inr is_not ↦ ap (due_of id) (cond-false (no_later u t) (u ∷ placed no_later t us) (t ∷ u ∷ us) is_not) ∙ due-later id t (u ∷ us) other
+]
+
+-- a timer that goes is none, and those of others stay
+due-without_same : (id : ℕ) (ts : List Timer) → due_of id (without id_of id ts) ≡ None
+due-without_same id [] = refl
+due-without_same id (t ∷ ts) = elim (cases_eq t.id id) [
+  | inl same ↦ ap (due_of id) (cond-false (not (t.id == id)) (t ∷ without id_of id ts) (without id_of id ts) (ap not (eq-eqb (id_of t) id same))) ∙
+      due-without_same id ts
+  | inr other ↦
+      ap (due_of id) (cond-true (not (t.id == id)) (t ∷ without id_of id ts) (without id_of id ts) (ap not (ne_eqb (id_of t) id other)))
+      ∙ due-later id t (without id_of id ts) other ∙ due-without_same id ts
+]
+
+due-without_other : (gone id : ℕ) (ts : List Timer) → id ≢ gone → due_of id (without id_of gone ts) ≡ due_of id ts
+due-without_other gone id [] other = refl
+due-without_other gone id (t ∷ ts) other = elim (cases_eq t.id gone) [
+  | inl same ↦
+      ap (due_of id) (cond-false (not (t.id == gone)) (t ∷ without id_of gone ts) (without id_of gone ts) (ap not (eq-eqb (id_of t) gone same)))
+      ∙ due-without_other gone id ts other ∙ sym (due-later id t ts (λ here. other (sym here ∙ same)))
+  | inr apart ↦
+      ap (due_of id) (cond-true (not (t.id == gone)) (t ∷ without id_of gone ts) (without id_of gone ts) (ap not (ne_eqb (id_of t) gone apart)))
+      ∙ ap (λ o. cond (t.id == id) (Some t.due) o) (due-without_other gone id ts other)
+]
+
+-- what holds when a timer is put at its place
+pub record Setting (timers : List Timer) (dues : List (Option ℕ)) (at : ℕ) (t : Timer) : Type 0 where
+  pub is : insert timers at t ≡ placed no_later t timers
+  pub room : length timers < length dues
+  pub timed : IsTimed (insert timers at t) (set dues t.id (Some t.due))
+
+pub setting : (timers : List Timer) (dues : List (Option ℕ)) (at : ℕ) (t : Timer) → IsTimed timers dues → t.id < length dues → IsNone (due_of t.id timers)
+    → at ≤ length timers
+    → IsPartitionPoint (λ u. no_later u t ≡ true) (λ u. no_later u t ≡ false) timers at → Setting timers dues at t
+setting timers dues at t timed small unset within point =
+    let is : insert timers at t ≡ placed no_later t timers = placed-point no_later t timers at within point in
+    let absent = absent-due t.id timers (none_is (due_of t.id timers) unset) in
+    let ordered : IsOrdered id_of no_later (length dues) (insert timers at t) = subst (IsOrdered id_of no_later (length dues)) (sym is)
+    (ordered-placed id_of no_later by_due (length dues) t timers small absent timed.ordered) in
+    record {
+      is = is;
+      room = omega (arith, few id_of (length dues) (insert timers at t) ordered.below ordered.distinct, length-insert timers at t within);
+      timed = record {
+        ordered = subst (λ n. IsOrdered id_of no_later n (insert timers at t)) (sym (length-set dues t.id (Some t.due))) ordered;
+        says = λ id. elim (cases_eq id t.id) [
+          | inl same ↦ subst (λ n. get_or (set dues t.id (Some t.due)) n None ≡ due_of n (insert timers at t)) (sym same)
+              (get_or-set_same dues t.id (Some t.due) None small ∙ sym (ap (due_of t.id) is ∙ due-placed_same t timers absent))
+          | inr other ↦ get_or-set_other dues t.id id (Some t.due) None other ∙ timed.says id ∙ sym
+              (ap (due_of id) is ∙ due-placed_other id t timers (λ same. other (sym same)))
+        ];
+      };
+    }
+
+-- what holds when the timer at a place goes
+pub record Ending (timers : List Timer) (dues : List (Option ℕ)) (at gone : ℕ) : Type 0 where
+  pub is : remove timers at ≡ without id_of gone timers
+  pub small : gone < length dues
+  pub timed : IsTimed (remove timers at) (set dues gone None)
+
+pub ending : (timers : List Timer) (dues : List (Option ℕ)) (at gone : ℕ) → IsTimed timers dues → IsAt id_of gone timers at → Ending timers dues at gone
+ending timers dues at gone timed found =
+    let within : at < length timers = at-within id_of gone timers at found in
+    let is : remove timers at ≡ without id_of gone timers = without-at id_of gone timers at timed.ordered.distinct found in
+    let small : gone < length dues = subst (λ n. n < length dues) (at-number id_of gone timers at (blank gone) found)
+    (timed.ordered.below at (blank gone) within) in
+    record {
+      is = is;
+      small = small;
+      timed = record {
+        ordered = subst (λ n. IsOrdered id_of no_later n (remove timers at)) (sym (length-set dues gone None))
+            (subst (IsOrdered id_of no_later (length dues)) (sym is) (ordered-without id_of no_later (length dues) gone timers timed.ordered));
+        says = λ id. elim (cases_eq id gone) [
+          | inl same ↦ subst (λ n. get_or (set dues gone None) n None ≡ due_of n (remove timers at)) (sym same)
+              (get_or-set_same dues gone None None small ∙ sym (ap (due_of gone) is ∙ due-without_same gone timers))
+          | inr other ↦ get_or-set_other dues gone id None None other ∙ timed.says id ∙ sym (ap (due_of id) is ∙ due-without_other gone id timers other)
+        ];
+      };
+    }
+
+-- lists of timers and limits that are the same
+pub same_pending : (ts us : List Timer) (m n : ℕ) → ts ≡ us → m ≡ n → ◌≡◌ {A = Pending} (record { timers = ts; limit = m }) (record { timers = us; limit = n })
+same_pending ts us m n p q = cc
+
+-- what a fallible insertion says where there is room, and where it succeeded
+pub ok_by_room : {X E : Type 0} (r : Result X E) (len cap : ℕ) → OnErr r (cap ≤ len) → len < cap → IsOk r
+ok_by_room (Ok x) len cap full room = refl
+ok_by_room (Err e) len cap full room = absurd (omega (arith, full))
+
+pub on_ok : {X E P : Type 0} (r : Result X E) (x : X) → r ≡ Ok x → OnOk r P → P
+on_ok {P = P} r x is p = subst (λ s. OnOk s P) is p
+
+-- the timer in front stands first
+pub front-at : (ts : List Timer) (t : Timer) → 0 < length ts → t ≡ get_or ts 0 t → IsAt id_of t.id ts 0
+front-at [] t some is = absurd (omega (arith, some))
+front-at (u ∷ us) t some is = ap id_of (sym is)
+
+-- an object with a timer stands somewhere, and where its timer is due then
+pub stands-if_set : (id : ℕ) (ts : List Timer) → IsSome (due_of id ts) → IsSome (place_of id_of id ts)
+stands-if_set id ts some = by_found (find_it id_of id ts)
+  where
+    by_found : Found id_of id ts → IsSome (place_of id_of id ts)
+    by_found (there i at) = subst IsSome (sym (at-place id_of id ts i at)) refl
+    by_found (nowhere absent) = absurd (false≢true (subst IsSome (due-absent id ts absent) some))
+
+-- a search for those that are due earlier is one in an order, and ends no later than at the object's
+pub searchable-early : (due : ℕ) (ts : List Timer) → AllPairs (λ t u. no_later t u ≡ true) ts → IsPartitionedBy (λ t. nat_lt t.due due) ts
+searchable-early due ts sorted = λ i j d le within h.
+    elim (cases_eq i j) [
+      | inl same ↦ subst (λ n. nat_lt (get_or ts n d).due due ≡ true) (sym same) h
+      | inr other ↦
+          lt-ltb (get_or ts i d).due due (omega (
+            arith,
+            ltb-true (get_or ts j d).due due h,
+            leb-true (get_or ts i d).due (get_or ts j d).due
+                (sorted i j d (omega arith) within),
+          ))
+    ]
+
+pub early-ends : (id due start : ℕ) (ts : List Timer) → IsPartitionPoint (λ t. nat_lt t.due due ≡ true) (λ t. nat_lt t.due due ≡ false) ts start
+    → due_of id ts ≡ Some due
+    → (at : ℕ) → place_of id_of id ts ≡ Some at → start ≤ at
+early-ends id due start ts point is at stands =
+    let d = blank id in
+    let due_then : due ≡ (get_or ts at d).due = same_Some due (get_or ts at d).due (sym is ∙ due-at id ts at d (place-at id_of id ts at stands)) in
+    elim (cases_lt at start) [
+      | inl early ↦ absurd (omega (arith, due_then, ltb-true (get_or ts at d).due due (point.0 at d (omega arith) early)))
+      | inr late ↦ late
+    ]
+
+-- what a removal says where there was something to remove
+pub on_some : {X P : Type 0} (o : Option X) → IsSome o → OnSome o P → P
+on_some None some p = absurd (false≢true some)
+on_some (Some x) some p = p

@@ -1,0 +1,31 @@
+use Rattle.std.proofs.Common.{sym, subst, ap, ◌∙◌, arith}
+use Rattle.aom_scheduler.specs.Places.{IsIndexed}
+use Rattle.aom_scheduler.specs.Roster.{marked}
+use Rattle.aom_scheduler.proofs.Items.{at-within}
+use Rattle.aom_scheduler.proofs.Places.{stands-in, marked-in, indexed-mark, same_roster, id_of}
+use Rattle.aom_scheduler.proofs.order.Order.mark.Goals as goal
+
+pub index_mut-requires : goal.index_mut-requires
+index_mut-requires c =
+    let found = stands-in c.args.self.now c.self.inside.entries.items _ c.args.id c.in-Some.place c.place.result c.self.view_is c.place.ensures c.in-Some.is in
+    omega (arith, at-within id_of c.args.id c.self.inside.entries.items c.in-Some.place found)
+
+pub invariant_of-self : goal.invariant_of-self
+invariant_of-self c =
+    let entries = c.self.inside.entries.items in
+    let found = stands-in c.args.self.now entries _ c.args.id c.in-Some.place c.place.result c.self.view_is c.place.ensures c.in-Some.is in
+    let is = marked-in entries c.args.id c.in-Some.place c.args.is_ready c.index_mut.result.now c.self.invariant.0.ordered.distinct found
+    c.index_mut.ensures.value in (
+      subst (λ xs. IsIndexed xs c.self.inside.places.items) (sym is) (indexed-mark entries c.self.inside.places.items c.args.id c.args.is_ready
+          c.self.invariant.0),
+      c.self.invariant.1,
+      c.self.invariant.2,
+    )
+
+pub returns-in-Some : goal.returns-in-Some
+returns-in-Some c =
+    let entries = c.self.inside.entries.items in
+    let found = stands-in c.args.self.now entries _ c.args.id c.in-Some.place c.place.result c.self.view_is c.place.ensures c.in-Some.is in
+    let is = marked-in entries c.args.id c.in-Some.place c.args.is_ready c.index_mut.result.now c.self.invariant.0.ordered.distinct found
+    c.index_mut.ensures.value in
+    same_roster _ _ _ _ (is ∙ ap (λ r. marked c.args.id c.args.is_ready r.entries) c.self.view_is) (ap (λ r. r.limit) c.self.view_is)

@@ -1,0 +1,146 @@
+//! The objects that are enlisted, and the pick among those that are ready.
+ghost use Rattle.std.specs.Prelude.{◌≡◌, ◌<◌, ◌≤◌, true, false, IfOk, IfErr, IfSome, IsNone, length, is_some, slice_get, All};
+ghost use Rattle.aom_scheduler.specs.Order.{placed, without};
+ghost use Rattle.aom_scheduler.specs.Ready.{IsReadyAt, IsWaitingAt};
+ghost use Rattle.aom_scheduler.specs.Roster.{empty, before, place, IsEnlisted, waiting, marked, first_ready, IsPick, IsSound};
+
+use crate::Entry;
+use crate::order::Order;
+use aom_cells::CellId;
+use std::alloc::{AllocError, Global};
+use std::collections::VecDeque;
+use std::marker::Model;
+
+/// Objects by falling priority, among equals by when they were enlisted; each is ready or waits.
+#[derive(Drop)]
+pub struct Schedule {
+    order: Order,
+    /// Those that are ready, in the same order.
+    ready: VecDeque<CellId>,
+}
+
+impl Model for Schedule {
+    ghost use Rattle.std.specs.Prelude.{◌≡◌, ◌≤◌};
+    ghost use Rattle.std.specs.VecDeque.{deque_capacity};
+    ghost use Rattle.aom_scheduler.specs.Roster.{Roster, ready_ids};
+
+    ghost Value = { Roster };
+
+    ghost view = { λ s. s.order };
+
+    ghost invariant = { λ s. (s.ready.items ≡ ready_ids s.order.entries) × (s.order.limit ≤ deque_capacity s.ready) };
+}
+
+impl Schedule {
+    /// Nobody, and room for objects of ids below `limit`, which is all the memory that is ever taken.
+    pub fn with_limit(alloc: Global, limit: usize) -> Result<Schedule, AllocError>
+        requires { limit ≤ 4096 }
+        ensures { IfOk result (λ s. s ≡ empty limit) }
+    {
+        let order = Order::with_limit(alloc, limit)?;
+        let ready = VecDeque::with_capacity(alloc, limit)?;
+        Ok(Schedule { order, ready })
+    }
+
+    /// The number below which the ids of objects are.
+    pub fn limit(&self) -> usize
+        ensures value { result ≡ self.now.limit }
+        ensures in_range { result ≤ 4096 }
+    {
+        self.order.limit()
+    }
+
+    /// How many objects are enlisted.
+    pub fn count(&self) -> usize
+        ensures value { result ≡ length self.now.entries }
+        ensures in_order { IsSound self.now }
+    {
+        self.order.in_order();
+        self.order.count()
+    }
+
+    /// The entry at this place in the order of choice, 0 the first.
+    pub fn entry(&self, place: usize) -> Option<Entry>
+        ensures { result ≡ slice_get self.now.entries place }
+    {
+        self.order.entry(place)
+    }
+
+    pub fn is_enlisted(&self, id: CellId) -> bool
+        ensures { result ≡ is_some (place id self.now) }
+    {
+        self.order.place(id).is_some()
+    }
+
+    /// Enlists an object, which waits at first.
+    pub fn insert(&mut self, id: CellId, priority: i32)
+        requires below { id < self.old.limit }
+        requires unlisted { IsNone (place id self.old) }
+        ensures { self.new ≡ record self.old { entries = placed before (waiting id priority) self.old.entries } }
+    {
+        self.order.insert(Entry {
+            id,
+            priority,
+            is_ready: false,
+        });
+    }
+
+    /// Takes an object off the list, ready or not.
+    pub fn remove(&mut self, id: CellId)
+        requires { IsEnlisted id self.old }
+        ensures { self.new ≡ record self.old { entries = without (λ e. e.id) id self.old.entries } }
+    {
+        self.set_waiting(id);
+        self.order.remove(id);
+    }
+
+    /// Nothing changes where the object is ready already.
+    pub fn set_ready(&mut self, id: CellId)
+        requires { IsEnlisted id self.old }
+        ensures { self.new ≡ record self.old { entries = marked id true self.old.entries } }
+    {
+        if let Err(at) = self.ready_place(id) {
+            self.order.mark(id, true);
+            self.ready.insert(at, id).unwrap();
+        }
+    }
+
+    /// Nothing changes where the object waits already.
+    pub fn set_waiting(&mut self, id: CellId)
+        requires { IsEnlisted id self.old }
+        ensures { self.new ≡ record self.old { entries = marked id false self.old.entries } }
+    {
+        if let Ok(at) = self.ready_place(id) {
+            self.order.mark(id, false);
+            self.ready.remove(at);
+        }
+    }
+
+    /// The pick: the ready object of the highest priority, among equals the one that was enlisted first.
+    pub fn next_ready(&self) -> Option<CellId>
+        ensures value { result ≡ first_ready self.now.entries }
+        ensures pick { IfSome result (λ id. IsPick self.now.entries id) }
+        ensures none { IsNone result → All (λ e. e.is_ready ≡ false) self.now.entries }
+    {
+        self.order.in_order();
+        self.ready.front().copied()
+    }
+
+    /// Where the object stands among those that are ready, or else where it would.
+    fn ready_place(&self, id: CellId) -> Result<usize, usize>
+        requires { IsEnlisted id self.now }
+        ensures ready { IfOk result (λ at. IsReadyAt self.now id at) }
+        ensures waiting { IfErr result (λ at. IsWaitingAt self.now id at) }
+    {
+        self.order.in_order();
+        let place = self.order.place(id).unwrap();
+        let at = self
+            .ready
+            .partition_point(|other| self.order.is_before(*other, place));
+        if self.order.is_ready(place) {
+            Ok(at)
+        } else {
+            Err(at)
+        }
+    }
+}

@@ -1,0 +1,151 @@
+//! The timers that are set.
+ghost use Rattle.std.specs.Prelude.{◌≡◌, ◌<◌, ◌≤◌, ℕ, true, false, IfOk, IsSome, IsNone, Some, length, is_some, AllPairs, ◌≢◌};
+ghost use Rattle.std.specs.List.Sorted.{IsPartitionPoint};
+ghost use Rattle.aom_scheduler.specs.Order.{placed, without, place_of};
+ghost use Rattle.aom_scheduler.specs.Pending.{no_timers, no_later, timer_of, due_of, IsSet, first_due, due_by, left_by, AreInOrder};
+
+use crate::timer::Timer;
+use aom_cells::CellId;
+use std::alloc::{AllocError, Global};
+use std::collections::VecDeque;
+use std::marker::Model;
+
+/// Timers by due time, the first issued first among equals; an object has one at most.
+#[derive(Drop)]
+pub struct Timers {
+    queue: VecDeque<Timer>,
+    /// When each object's timer is due, by its id.
+    dues: Vec<Option<u64>>,
+}
+
+impl Model for Timers {
+    ghost use Rattle.std.specs.Prelude.{◌≤◌, length};
+    ghost use Rattle.std.specs.VecDeque.{deque_capacity};
+    ghost use Rattle.aom_scheduler.specs.Pending.{Pending};
+
+    ghost Value = { Pending };
+
+    ghost view = { λ t. record { timers = t.queue.items; limit = length t.dues.items } };
+
+    ghost use Rattle.aom_scheduler.specs.Dues.{IsTimed};
+
+    ghost invariant = { λ t. IsTimed t.queue.items t.dues.items × (length t.dues.items ≤ deque_capacity t.queue) × (length t.dues.items ≤ 4096) };
+}
+
+impl Timers {
+    /// No timer, and room for one of each id below `limit`, which is all the memory that is ever taken.
+    pub fn with_limit(alloc: Global, limit: usize) -> Result<Timers, AllocError>
+        requires { limit ≤ 4096 }
+        ensures { IfOk result (λ t. t ≡ no_timers limit) }
+    {
+        let queue = VecDeque::with_capacity(alloc, limit)?;
+        let dues = vec![in alloc; None; limit]?;
+        Ok(Timers { queue, dues })
+    }
+
+    /// The number below which the ids of objects are.
+    pub fn limit(&self) -> usize
+        ensures value { result ≡ self.now.limit }
+        ensures in_range { result ≤ 4096 }
+    {
+        self.dues.len()
+    }
+
+    /// How many timers are set.
+    pub fn count(&self) -> usize
+        ensures value { result ≡ length self.now.timers }
+        ensures in_order { AreInOrder self.now }
+    {
+        let _ = &self.dues;
+        self.queue.len()
+    }
+
+    /// Whether the object has a timer.
+    pub fn is_set(&self, id: CellId) -> bool
+        ensures { result ≡ is_some (due_of id self.now.timers) }
+    {
+        self.due_time(id).is_some()
+    }
+
+    /// When the first timer is due, in microseconds.
+    pub fn next_due(&self) -> Option<u64>
+        ensures { result ≡ first_due self.now.timers }
+    {
+        self.queue.front().map(|timer| timer.due)
+    }
+
+    /// Sets the object's timer, after all that are due at the same time or earlier.
+    pub fn after(&mut self, id: CellId, due: u64)
+        requires below { id < self.old.limit }
+        requires unset { IsNone (due_of id self.old.timers) }
+        ensures { self.new ≡ record self.old { timers = placed no_later (timer_of id due) self.old.timers } }
+    {
+        let timer = Timer { id, due };
+        let at = place_for(&self.queue, &timer);
+        self.queue.insert(at, timer).unwrap();
+        self.dues[id.number() as usize] = Some(due);
+    }
+
+    /// Ends the object's timer before it is due.
+    pub fn cancel(&mut self, id: CellId)
+        requires { IsSet id self.old }
+        ensures { self.new ≡ record self.old { timers = without (λ t. t.id) id self.old.timers } }
+    {
+        let at = self.place(id);
+        self.queue.remove(at);
+        self.dues[id.number() as usize] = None;
+    }
+
+    /// The object of the first timer if it is due by `now`: the timer is over.
+    pub fn due(&mut self, now: u64) -> Option<CellId>
+        ensures value { result ≡ due_by now self.old.timers }
+        ensures left { self.new ≡ record self.old { timers = left_by now self.old.timers } }
+    {
+        let timer = *self.queue.front()?;
+        if timer.due > now {
+            return None;
+        }
+        self.queue.pop_front();
+        self.dues[timer.id.number() as usize] = None;
+        Some(timer.id)
+    }
+
+    fn due_time(&self, id: CellId) -> Option<u64>
+        ensures { result ≡ due_of id self.now.timers }
+    {
+        self.dues.get(id.number() as usize).copied()?
+    }
+
+    /// Where the object's timer stands.
+    fn place(&self, id: CellId) -> usize
+        requires { IsSet id self.now }
+        ensures { place_of (λ t. t.id) id self.now.timers ≡ Some result }
+    {
+        let due = self.due_time(id).unwrap();
+        let start = self.queue.partition_point(|timer| timer.due < due);
+        place_from(&self.queue, id, start)
+    }
+}
+
+/// The place after all timers that are due no later than this one.
+fn place_for(queue: &VecDeque<Timer>, timer: &Timer) -> usize
+    requires { AllPairs (λ t u. no_later t u ≡ true) queue.now.items }
+    ensures bound { result ≤ length queue.now.items }
+    ensures point { IsPartitionPoint (λ t. no_later t timer.now ≡ true) (λ t. no_later t timer.now ≡ false) queue.now.items result }
+{
+    queue.partition_point(|other| other.due <= timer.due)
+}
+
+/// Where the object's timer stands, which is not before `start`.
+fn place_from(queue: &VecDeque<Timer>, id: CellId, start: usize) -> usize
+    requires set { IsSome (place_of (λ t. t.id) id queue.now.items) }
+    requires later { (at : ℕ) → place_of (λ t. t.id) id queue.now.items ≡ Some at → start ≤ at }
+    requires distinct { AllPairs (λ t u. t.id ≢ u.id) queue.now.items }
+    ensures { place_of (λ t. t.id) id queue.now.items ≡ Some result }
+{
+    let mut at = start;
+    while queue[at].id != id {
+        at += 1;
+    }
+    at
+}

@@ -1,0 +1,11 @@
+//! What a run shows: the lines of its transcript, how it ended, and their text.
+//!
+//! A `Line` is a value; a `Page` is the text of some lines in one buffer, and takes no memory. The text is the one that `specs/Text.antt`
+//! spells. This room knows no machine: the laws and the machine say which lines a run has.
+#![tactic(auto)]
+
+mod line;
+mod page;
+
+pub use line::{Ending, Line};
+pub use page::Page;

@@ -1,0 +1,170 @@
+//! The text of lines, in a buffer of its own.
+ghost use Rattle.std.specs.Prelude.{◌≡◌, ◌+◌, ◌≤◌, ◌↔◌, IsTrue, [], ◌∷◌, ◌++◌, length, decimal, codes};
+ghost use Rattle.std.specs.Fmt.{signed_decimal};
+ghost use Rattle.aom_transcript.specs.Text.{line_text, end_text, ending_text, ended};
+
+use crate::{Ending, Line};
+use arrayvec::ArrayVec;
+use itoa::Buffer;
+use std::marker::Model;
+
+/// How many bytes a page has.
+const PAGE: usize = 4096;
+
+/// No line is longer than this, the last one included.
+const LONGEST: usize = 64;
+
+/// The text of some lines, each with its line feed.
+#[derive(Drop)]
+pub struct Page {
+    bytes: ArrayVec<u8, PAGE>,
+}
+
+impl Model for Page {
+    ghost use Rattle.std.specs.Prelude.{ℕ, List};
+
+    ghost Value = { List ℕ };
+
+    ghost view = { λ p. p.bytes.items };
+}
+
+impl Page {
+    pub fn new() -> Page
+        ensures { result ≡ [] }
+    {
+        Page {
+            bytes: ArrayVec::new(),
+        }
+    }
+
+    /// Whether there is room for one more line.
+    pub fn has_room(&self) -> bool
+        ensures { IsTrue result ↔ (length self.now + 64 ≤ 4096) }
+    {
+        self.bytes.len() + LONGEST <= PAGE
+    }
+
+    /// Adds a line of the transcript.
+    pub fn add_line(&mut self, line: &Line)
+        requires { length self.old + 64 ≤ 4096 }
+        ensures { self.new ≡ self.old ++ ended (line_text line.now) }
+    {
+        match line {
+            Line::Main(time) => self.add_main(*time),
+            Line::Out(word) => self.add_out(*word),
+            Line::Leave(code) => self.add_leave(*code),
+            Line::Gone(class) => self.add_gone(class.number()),
+        }
+    }
+
+    /// Adds the last line, where so many cells are left.
+    pub fn add_end(&mut self, ending: Ending, cells: usize)
+        requires { length self.old + 64 ≤ 4096 }
+        ensures { self.new ≡ self.old ++ ended (end_text ending cells) }
+    {
+        self.add(b"end ");
+        self.add_ending(ending);
+        self.add(b" cells ");
+        self.add_number(cells as u64);
+        self.add(b"\n");
+    }
+
+    pub fn as_bytes(&self) -> &[u8]
+        ensures { result.now ≡ self.now }
+    {
+        self.bytes.as_slice()
+    }
+
+    /// Forgets the text.
+    pub fn clear(&mut self)
+        ensures { self.new ≡ [] }
+    {
+        self.bytes.clear();
+    }
+
+    fn add_main(&mut self, time: u64)
+        requires { length self.old + 64 ≤ 4096 }
+        ensures { self.new ≡ self.old ++ ended (line_text (Line.Main time)) }
+    {
+        self.add(b"@");
+        self.add_number(time);
+        self.add(b" main\n");
+    }
+
+    fn add_out(&mut self, word: i32)
+        requires { length self.old + 64 ≤ 4096 }
+        ensures { self.new ≡ self.old ++ ended (line_text (Line.Out word)) }
+    {
+        self.add(b"out ");
+        self.add_word(word);
+        self.add(b"\n");
+    }
+
+    fn add_leave(&mut self, code: i32)
+        requires { length self.old + 64 ≤ 4096 }
+        ensures { self.new ≡ self.old ++ ended (line_text (Line.Leave code)) }
+    {
+        self.add(b"leave ");
+        self.add_word(code);
+        self.add(b"\n");
+    }
+
+    fn add_gone(&mut self, class: u16)
+        requires { length self.old + 64 ≤ 4096 }
+        ensures { self.new ≡ self.old ++ ended (line_text (Line.Gone class)) }
+    {
+        self.add(b"gone ");
+        self.add_class(class);
+        self.add(b"\n");
+    }
+
+    fn add_ending(&mut self, ending: Ending)
+        requires { length self.old + 16 ≤ 4096 }
+        ensures text { self.new ≡ self.old ++ ending_text ending }
+        ensures short { length self.new ≤ length self.old + 16 }
+    {
+        match ending {
+            Ending::Stopped => self.add(b"stopped"),
+            Ending::Waiting => self.add(b"waiting"),
+            Ending::MainLeft(code) => {
+                self.add(b"left ");
+                self.add_word(code);
+            }
+        }
+    }
+
+    fn add_class(&mut self, class: u16)
+        requires { length self.old + 5 ≤ 4096 }
+        ensures text { self.new ≡ self.old ++ decimal class }
+        ensures short { length self.new ≤ length self.old + 5 }
+    {
+        let mut buffer = Buffer::new();
+        self.add(buffer.format(class).as_bytes());
+    }
+
+    fn add_number(&mut self, number: u64)
+        requires { length self.old + 20 ≤ 4096 }
+        ensures text { self.new ≡ self.old ++ decimal number }
+        ensures short { length self.new ≤ length self.old + 20 }
+    {
+        let mut buffer = Buffer::new();
+        self.add(buffer.format(number).as_bytes());
+    }
+
+    fn add_word(&mut self, word: i32)
+        requires { length self.old + 11 ≤ 4096 }
+        ensures text { self.new ≡ self.old ++ signed_decimal word }
+        ensures short { length self.new ≤ length self.old + 11 }
+    {
+        let mut buffer = Buffer::new();
+        self.add(buffer.format(word).as_bytes());
+    }
+
+    fn add(&mut self, part: &[u8])
+        requires { length self.old + length part.now ≤ 4096 }
+        ensures text { self.new ≡ self.old ++ part.now }
+        ensures long { length self.new ≡ length self.old + length part.now }
+    {
+        self.bytes.try_extend_from_slice(part).unwrap();
+    }
+}
