@@ -91,6 +91,15 @@ def overlap(changes):
     return any(one[0] == other[0] and one[2] > other[1] for one, other in zip(spans, spans[1:]))
 
 
+def edit_faults(house, names):
+    """What lies in must-fail/ and cannot be applied, and why: crate, name, fault."""
+    for name in names:
+        good, bad = edit_files(house.folder(name))
+        yield from ((name, it, "a name is of letters, digits, _, - and . and ends in .edit (or .md, if it is only to be read)") for it in bad)
+        read = (read_edit(house.folder(name), it) for it in good)
+        yield from ((name, it.name, it.fault) for it in read if it.fault)
+
+
 def apply_changes(text, changes):
     """The text with changes at places that do not overlap."""
     for it in sorted(changes, key=lambda it: -it.start):

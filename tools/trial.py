@@ -5,7 +5,7 @@ import threading
 import time
 
 from batches import plan, shown, texts_of, unread
-from edit_files import edit_files, read_edit
+from edit_files import edit_faults, edit_files, read_edit
 from house import KEPT, make_room, run_rt, tells_errors
 from keeping import Keeping
 from lanes import Lanes
@@ -24,6 +24,8 @@ class Trial:
         self.kept = Keeping(house, self.names, self.lanes, place, self.add_edits, self.give_up)
 
     def run(self):
+        for name, it, fault in edit_faults(self.house, self.names):
+            self.tell(name, it, False, f"BAD EDIT: {fault}")
         self.kept.start()
         self.lanes.run()
         return not self.failed
@@ -59,13 +61,7 @@ class Trial:
         if name not in self.names:
             return
         folder = self.house.folder(name)
-        good, bad = edit_files(folder)
-        edits = [read_edit(folder, it) for it in good]
-        for it in bad:
-            self.tell(name, it, False, "BAD EDIT: a name is of letters, digits, _, - and . and ends in .edit (or .md, if it is only to be read)")
-        for it in edits:
-            if it.fault:
-                self.tell(name, it.name, False, f"BAD EDIT: {it.fault}")
+        edits = [read_edit(folder, it) for it in edit_files(folder)[0]]
         together, alone = plan(name, folder, [it for it in edits if not it.fault])
         for batch in together:
             self.add_batch(name, batch)
