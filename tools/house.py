@@ -102,7 +102,14 @@ def link_kept(house, top, names):
 
 
 def run_rt(folder, *words):
-    """Runs rt in a folder: its status, and the lines that it said."""
+    """Runs rt in a folder: its status, and the lines that it said. A run that fails without a reason was broken off, and is begun once more."""
+    status, lines = run_once(folder, words)
+    if status and not any(map(tells_errors, lines)):
+        return run_once(folder, words)
+    return status, lines
+
+
+def run_once(folder, words):
     ran = subprocess.run(
         ["rt", *words], cwd=folder, stdin=subprocess.DEVNULL, stdout=subprocess.PIPE, stderr=subprocess.STDOUT, errors="replace"
     )

@@ -43,7 +43,7 @@ class Keeping:
         """Proves a crate over what it has kept. In a clean copy that is from nothing."""
         start, folder = time.monotonic(), self.house.folder(name)
         verb = "check" if os.path.isfile(f"{folder}/src/main.rt") else "lib"
-        with tempfile.TemporaryDirectory(dir=self.place) as room:
+        with tempfile.TemporaryDirectory(dir=self.place, ignore_cleanup_errors=True) as room:
             make_room(self.house, name, f"{room}/r", KEPT)
             status, lines = run_rt(f"{room}/r/crates/{name}", verb, "--jobs", "1")
             if status == 0:

@@ -3,11 +3,15 @@
 import heapq
 import itertools
 import threading
+import time
+import traceback
 
 
 class Lanes:
-    def __init__(self, open_lanes):
-        self.open_lanes = open_lanes
+    def __init__(self, open_lanes, say, pause=20.0):
+        self.open_lanes, self.say = open_lanes, say
+        # the seconds before work that met a fault is tried again
+        self.pause = pause
         self.waiting = []
         self.running = 0
         self.fault = None
@@ -26,7 +30,7 @@ class Lanes:
             self.changed.notify_all()
 
     def run(self):
-        """Runs all work, that which is added meanwhile too. The first fault of a piece of work ends it."""
+        """Runs all work, that which is added meanwhile too. The first piece of work that meets a fault twice ends it."""
         with self.changed:
             while not self.fault and (self.waiting or self.running):
                 while not self.fault and self.waiting and self.running < self.open_lanes:
@@ -39,12 +43,21 @@ class Lanes:
         self.running += 1
         threading.Thread(target=self.carry_out, args=(work,), daemon=True).start()
 
-    def carry_out(self, work):
-        fault = None
+    def fault_of(self, work):
+        """Carries out a piece of work: what it met with, if anything."""
         try:
             work()
-        except BaseException as it:
-            fault = it
+        except Exception as it:
+            return it
+        return None
+
+    def carry_out(self, work):
+        fault = self.fault_of(work)
+        if fault:
+            # the machine may have been short of memory or room for a moment
+            self.say(f"tried again: {''.join(traceback.format_exception(fault))}")
+            time.sleep(self.pause)
+            fault = self.fault_of(work)
         with self.changed:
             self.running -= 1
             self.fault = self.fault or fault

@@ -16,7 +16,7 @@ class Trial:
 
     def __init__(self, house, names, lanes, place, say):
         self.house, self.place, self.say = house, place, say
-        self.lanes = Lanes(lanes)
+        self.lanes = Lanes(lanes, say)
         self.passed, self.failed = [], []
         self.seconds, self.checks = {"batches": 0.0, "alone": 0.0}, {"batches": 0, "alone": 0}
         self.lock = threading.Lock()
@@ -79,7 +79,7 @@ class Trial:
 
     def check_with(self, kind, name, texts):
         """Checks a copy of a crate with these texts in place of its own, over what the crate as it stands has kept."""
-        with tempfile.TemporaryDirectory(dir=self.place) as room:
+        with tempfile.TemporaryDirectory(dir=self.place, ignore_cleanup_errors=True) as room:
             make_room(self.house, name, f"{room}/r", KEPT[:1])
             for path, text in texts.items():
                 with open(f"{room}/r/crates/{name}/{path}", "w", encoding="utf-8") as it:

@@ -13,7 +13,8 @@ use crate::files::read_file;
 use crate::output::Output;
 use aom_command_line::{Words, WordsFault, read_words};
 use aom_main::{
-    ExitStatus, Fault, asm_bytes, check_bytes, dis_bytes, prices_bytes, run_bytes, tell,
+    ExitStatus, Fault, Part, asm_bytes, check_bytes, dis_bytes, dot_bytes, explore_bytes,
+    prices_bytes, run_bytes, tell,
 };
 use aom_run::{Sink, write_text};
 use std::env;
@@ -104,22 +105,20 @@ fn obey<W: Sink, E: Sink>(
             }
             Ok(check_bytes(alloc, &image, out, errors))
         }
-        Words::Run {
-            image,
-            script,
-            limit,
-        } => {
-            let image = read_file(rt, image)?;
-            let script = read_file(rt, script)?;
-            Ok(run_bytes(alloc, &image, &script, *limit, out, errors))
+        Words::Run(run) => {
+            let image = read_file(rt, &run.image)?;
+            let script = read_file(rt, &run.script)?;
+            Ok(run_bytes(alloc, &image, &script, run.limit, out, errors))
         }
-        Words::Asm { text } => {
-            let text = read_file(rt, text)?;
-            Ok(asm_bytes(alloc, &text, out, errors))
+        Words::Explore { run, first, last } => {
+            let image = read_file(rt, &run.image)?;
+            let script = read_file(rt, &run.script)?;
+            let (first, last) = (*first, *last);
+            let part = Part { first, last };
+            Ok(explore_bytes(alloc, &image, &script, run.limit, part, out, errors))
         }
-        Words::Dis { image } => {
-            let image = read_file(rt, image)?;
-            Ok(dis_bytes(alloc, &image, out, errors))
-        }
+        Words::Asm { text } => Ok(asm_bytes(alloc, &read_file(rt, text)?, out, errors)),
+        Words::Dis { image } => Ok(dis_bytes(alloc, &read_file(rt, image)?, out, errors)),
+        Words::Dot { image } => Ok(dot_bytes(alloc, &read_file(rt, image)?, out, errors)),
     }
 }

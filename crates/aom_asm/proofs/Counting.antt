@@ -1,13 +1,11 @@
 -- How many statements declare a name by a keyword, and how many stand before the end of a method.
-use Rattle.std.proofs.lemmas.Bool.{false≢true}
+use Rattle.std.proofs.lemmas.Bool.{false≢true, false_from_ne_true}
 use Rattle.std.proofs.lemmas.Option.{same_Some, none-some}
 use Rattle.std.proofs.Common.{◌≡◌, ◌∙◌, refl, sym, ap, subst, arith, ℕ, suc, ◌+◌, Bool, true, false, List, [], ◌∷◌, ◌++◌, length, length-append, cond, Option, Some, None, Ok}
 use Rattle.std.specs.Prelude.{if◌then◌else◌}
-use Rattle.std.specs.List.{find, list_all}
+use Rattle.std.specs.List.{find}
 use Rattle.std.specs.Str.{bytes_eq}
 use Rattle.std.proofs.lemmas.Slice.Eq.{bytes_eq-Decides}
-use Rattle.aom_text.specs.Words.{is_plain}
-use Rattle.aom_text.specs.declared.fault.AsmFaultKind.TheVariants.{NotAscii}
 use Rattle.aom_text.specs.declared.text.Statement.{Statement}
 use Rattle.aom_image.specs.declared.image.Header.{Header}
 use Rattle.aom_instructions.specs.declared.instr.Instr.{Instr}
@@ -18,9 +16,10 @@ use Rattle.aom_syntax.specs.Reading.{◌>>=◌, any_keyword, known, took, word}
 use Rattle.aom_syntax.specs.declared.keyword.Keyword.{Keyword}
 use Rattle.aom_syntax.specs.declared.keyword.Keyword.TheVariants as k
 use Rattle.aom_syntax.specs.declared.scope.Scope.{Scope}
-use Rattle.aom_ranges.proofs.Within.{steps}
+use Rattle.aom_ranges.proofs.Within.{steps, ok_is, saw_word}
 use Rattle.aom_asm.specs.TextNames.{declared_names, is_end, label_in, labels_of, name_after, with_name}
-use Rattle.aom_asm.proofs.Steps.{no_ok, ok_is, if_ok}
+use Rattle.aom_asm.proofs.Steps.{no_ok}
+use Rattle.aom_image.proofs.Given.{some_given}
 
 -- ---- names
 
@@ -101,21 +100,17 @@ found_passes test (y ∷ ys) x is = go (test y) refl (found_passes test ys x) is
     go false passes later found = later found
 
 known_is : (w : List ℕ) (o : Option Keyword) (key : Keyword) → known w o ≡ Ok key → o ≡ Some key
-known_is w None key is = absurd (no_ok _ key is)
-known_is w (Some x) key is = ap Some (ok_is x key is)
+known_is w o key is = some_given (λ o. known w o ≡ Ok key) o is (λ e. no_ok _ key e) (λ x same e. same ∙ ap Some (ok_is x key e))
 
 -- the word that was read as a keyword
 pub begins_with : (ws : List (List ℕ)) (key : Keyword) (rest : List (List ℕ)) → any_keyword ws ≡ Ok (key, rest) → ws ≡ keyword_text key ∷ rest
-begins_with [] key rest is = absurd (no_ok _ _ is)
-begins_with (w ∷ ws) key rest is =
-    let s = steps (word (w ∷ ws)) (λ x. known x.0 (keyword_of x.0) >>= λ y. Ok (y, x.1)) (key, rest) is in
-    let i = if_ok (list_all is_plain w) (Ok (w, ws)) NotAscii s.first s.read in
-    let first : (w, ws) ≡ s.first = ok_is (w, ws) s.first i.1 in
+begins_with ws key rest is =
+    let s = steps (word ws) (λ x. known x.0 (keyword_of x.0) >>= λ y. Ok (y, x.1)) (key, rest) is in
     let t = steps (known s.first.0 (keyword_of s.first.0)) (λ y. Ok (y, s.first.1)) (key, rest) s.second in
     let last : (t.first, s.first.1) ≡ (key, rest) = ok_is (t.first, s.first.1) (key, rest) t.second in
     let read : keyword_of s.first.0 ≡ Some key = known_is s.first.0 (keyword_of s.first.0) t.first t.read ∙ ap (λ p. Some p.0) last in
     let same : keyword_text key ≡ s.first.0 = (bytes_eq-Decides _ _).0 (found_passes (λ key. bytes_eq (keyword_text key) s.first.0) keywords key read) in
-    ap (λ p. p.0 ∷ p.1) first ∙ ap (λ v. v ∷ s.first.1) (sym same) ∙ ap (λ p. keyword_text key ∷ p.1) last
+    saw_word ws s.first.0 s.first.1 s.read ∙ ap (λ v. v ∷ s.first.1) (sym same) ∙ ap (λ p. keyword_text key ∷ p.1) last
 
 -- a name behind its keyword
 pub names_one : (key : Keyword) (ws : List (List ℕ)) (n : List ℕ) (rest : List (List ℕ)) → ws ≡ keyword_text key ∷ n ∷ rest → one_of (name_after key ws) ≡ 1
@@ -129,11 +124,9 @@ pub names_none : (key : Keyword) (ws : List (List ℕ)) → ((n : List ℕ) (res
 unfolding one_of
 names_none key [] never = refl
 names_none key (w ∷ []) never = refl
-names_none key (w ∷ n ∷ ws) never = go (bytes_eq w (keyword_text key)) refl
-  where
-    go : (b : Bool) → bytes_eq w (keyword_text key) ≡ b → one_of (if b then Some n else None) ≡ 0
-    go true is = absurd (never n ws (ap (λ v. v ∷ n ∷ ws) ((bytes_eq-Decides w (keyword_text key)).0 is)))
-    go false is = refl
+names_none key (w ∷ n ∷ ws) never =
+    let other = false_from_ne_true (bytes_eq w (keyword_text key)) (λ is. never n ws (ap (λ v. v ∷ n ∷ ws) ((bytes_eq-Decides w (keyword_text key)).0 is))) in
+    ap (λ (b : Bool). one_of (if b then Some n else None)) other
 
 -- ---- what declares no names
 
@@ -142,42 +135,24 @@ pub record Silent (ws : List (List ℕ)) : Type 0 where
   pub class : one_of (name_after k.Class ws) ≡ 0
   pub method : one_of (name_after k.Method ws) ≡ 0
 
-end_no_class : (n : List ℕ) (rest : List (List ℕ)) → is_end (keyword_text k.Class ∷ n ∷ rest) ≡ true → ⊥
-end_no_class n rest is = false≢true is
-
-end_no_method : (n : List ℕ) (rest : List (List ℕ)) → is_end (keyword_text k.Method ∷ n ∷ rest) ≡ true → ⊥
-end_no_method n rest is = false≢true is
-
 pub end_silent : (ws : List (List ℕ)) → is_end ws ≡ true → Silent ws
 end_silent ws is = record {
-  class = names_none k.Class ws (λ n rest e. end_no_class n rest (ap is_end (sym e) ∙ is));
-  method = names_none k.Method ws (λ n rest e. end_no_method n rest (ap is_end (sym e) ∙ is));
+  class = names_none k.Class ws (λ n rest e. false≢true (ap is_end (sym e) ∙ is));
+  method = names_none k.Method ws (λ n rest e. false≢true (ap is_end (sym e) ∙ is));
 }
 
 module _ (scope : Scope) where
-  header_no_class : (n : List ℕ) (rest : List (List ℕ)) (x : Header × List (List ℕ)) → image_statement scope (keyword_text k.Class ∷ n ∷ rest) ≡ Ok x → ⊥
-  header_no_class n rest x is = no_ok _ x is
-
-  header_no_method : (n : List ℕ) (rest : List (List ℕ)) (x : Header × List (List ℕ)) → image_statement scope (keyword_text k.Method ∷ n ∷ rest) ≡ Ok x → ⊥
-  header_no_method n rest x is = no_ok _ x is
-
   pub header_silent : (ws : List (List ℕ)) (x : Header × List (List ℕ)) → image_statement scope ws ≡ Ok x → Silent ws
   header_silent ws x is = record {
-    class = names_none k.Class ws (λ n rest e. header_no_class n rest x (ap (image_statement scope) (sym e) ∙ is));
-    method = names_none k.Method ws (λ n rest e. header_no_method n rest x (ap (image_statement scope) (sym e) ∙ is));
+    class = names_none k.Class ws (λ n rest e. no_ok _ x (ap (image_statement scope) (sym e) ∙ is));
+    method = names_none k.Method ws (λ n rest e. no_ok _ x (ap (image_statement scope) (sym e) ∙ is));
   }
 
   module _ (labels : List (List ℕ)) (place : ℕ) where
-    code_no_class : (n : List ℕ) (rest : List (List ℕ)) (x : Instr × List (List ℕ)) → instruction scope labels place (keyword_text k.Class ∷ n ∷ rest) ≡ Ok x → ⊥
-    code_no_class n rest x is = no_ok _ x is
-
-    code_no_method : (n : List ℕ) (rest : List (List ℕ)) (x : Instr × List (List ℕ)) → instruction scope labels place (keyword_text k.Method ∷ n ∷ rest) ≡ Ok x → ⊥
-    code_no_method n rest x is = no_ok _ x is
-
     pub code_silent : (ws : List (List ℕ)) (x : Instr × List (List ℕ)) → instruction scope labels place ws ≡ Ok x → Silent ws
     code_silent ws x is = record {
-      class = names_none k.Class ws (λ n rest e. code_no_class n rest x (ap (instruction scope labels place) (sym e) ∙ is));
-      method = names_none k.Method ws (λ n rest e. code_no_method n rest x (ap (instruction scope labels place) (sym e) ∙ is));
+      class = names_none k.Class ws (λ n rest e. no_ok _ x (ap (instruction scope labels place) (sym e) ∙ is));
+      method = names_none k.Method ws (λ n rest e. no_ok _ x (ap (instruction scope labels place) (sym e) ∙ is));
     }
 
 -- what declares a class declares no method, and the other way round

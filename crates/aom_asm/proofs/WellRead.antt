@@ -28,10 +28,11 @@ use Rattle.aom_syntax.specs.declared.scope.Scope.{Scope}
 use Rattle.aom_ranges.specs.Ranges.{ClassesInRange, HeadersInRange, HeadingFits, HeadingsInRange, InstructionsInRange}
 use Rattle.aom_asm.specs.Body.{Body, Program}
 use Rattle.aom_asm.specs.Denoted.{and_then, at_line, closed, declaration, denoted, grown, image_of, in_body, last_line_of, method_of, opened, read_program, read_rest, read_statements, scope_of, step, step_by, with_class, with_heading, with_instruction, with_method}
-use Rattle.aom_ranges.proofs.Within.{steps}
+use Rattle.aom_ranges.proofs.Within.{kept, ok_is, passed, steps}
 use Rattle.aom_asm.specs.TextNames.{declared_names, is_end, labels_of, name_after}
 use Rattle.aom_asm.proofs.Counting.{Silent, at_end, before_end, begins_with, class_alone, code_silent, count_declared, declares, declares_more, declares_none, end_silent, header_silent, length_labels, method_alone, names_one, not_at_end, one_of, takes_end, takes_no_end}
-use Rattle.aom_asm.proofs.Steps.{grown_is, if_not_ok, if_ok, no_ok, ok_is, said, steps_then}
+use Rattle.aom_asm.proofs.Steps.{Started, grown_is, no_ok, program_starts, said, started, steps_then}
+use Rattle.aom_image.proofs.Given.{cons_given}
 
 -- a program between two statements
 abbrev program : Header → List ClassDecl → List Method → Option Body → ℕ → Program
@@ -64,8 +65,7 @@ few_counted n true few le = let less : n < 8 = few refl in omega arith
 few_counted n false few le = omega arith
 
 if_true : {X : Type 0} (r s y : X) (b : Bool) → b ≡ true → (if b then r else s) ≡ y → r ≡ y
-if_true r s y true is e = e
-if_true r s y false is e = absurd (false≢true is)
+if_true r s y b is e = ap (λ c. if c then r else s) (sym is) ∙ e
 
 -- ---- what holds
 
@@ -105,7 +105,7 @@ module _ (headers : HeadersInRange) (classes_in : ClassesInRange) (headings : He
   class_step : (ss : List Statement) (h : Header) (cs : List ClassDecl) (ms : List Method) (size cl ml : ℕ) (ws : List (List ℕ)) (q : Program)
       → cl ≡ suc (declares k.Class ss) → ml ≡ declares k.Method ss → Holds scope h cs ms size None cl ml → with_class scope (program h cs ms None size) ws ≡ Ok q → Read scope q ss
   class_step ss h cs ms size cl ml ws q some none holds is =
-      let i = if_ok (nat_lt (length cs) 256) (class_statement scope h.natives (length cs) (count_by is_server cs) ws >>= λ c. grown 28 size >>= λ n. Ok (program h (cs ++ c.0 ∷ []) ms None n)) LimitPassed q is in
+      let i = passed (nat_lt (length cs) 256) (class_statement scope h.natives (length cs) (count_by is_server cs) ws >>= λ c. grown 28 size >>= λ n. Ok (program h (cs ++ c.0 ∷ []) ms None n)) LimitPassed q is in
       let s = steps (class_statement scope h.natives (length cs) (count_by is_server cs) ws) (λ c. grown 28 size >>= λ n. Ok (program h (cs ++ c.0 ∷ []) ms None n)) q i.1 in
       let c = s.first.0 in
       let t = steps (grown 28 size) (λ n. Ok (program h (cs ++ c ∷ []) ms None n)) q s.second in
@@ -138,7 +138,7 @@ module _ (headers : HeadersInRange) (classes_in : ClassesInRange) (headings : He
       → cl ≡ declares k.Class ss → ml ≡ suc (declares k.Method ss) → Holds scope h cs ms size None cl ml → with_heading scope ss (program h cs ms None size) ws ≡ Ok q → Read scope q ss
   heading_step ss h cs ms size cl ml ws q none some holds is =
       let begun : Heading → Option Body = λ m. Some (record { heading = m; labels = labels_of [] ss; code = [] }) in
-      let i = if_ok (nat_lt (length ms) 1024) (heading scope (length ms) ws >>= λ m. grown 24 size >>= λ n. Ok (program h cs ms (begun m.0) n)) LimitPassed q is in
+      let i = passed (nat_lt (length ms) 1024) (heading scope (length ms) ws >>= λ m. grown 24 size >>= λ n. Ok (program h cs ms (begun m.0) n)) LimitPassed q is in
       let s = steps (heading scope (length ms) ws) (λ m. grown 24 size >>= λ n. Ok (program h cs ms (begun m.0) n)) q i.1 in
       let m = s.first.0 in
       let t = steps (grown 24 size) (λ n. Ok (program h cs ms (begun m) n)) q s.second in
@@ -178,7 +178,7 @@ module _ (headers : HeadersInRange) (classes_in : ClassesInRange) (headings : He
       let s = steps (with_instruction scope b ws) (λ c. grown 8 size >>= λ n. Ok (program h cs ms (Some c) n)) q is in
       let t = steps (grown 8 size) (λ n. Ok (program h cs ms (Some s.first) n)) q s.second in
       let g = grown_is 8 size t.first t.read in
-      let i = if_ok (nat_lt (length b.code) 1024) (instruction scope b.labels (length b.code) ws >>= λ i. Ok (longer_by i.0)) LimitPassed s.first s.read in
+      let i = passed (nat_lt (length b.code) 1024) (instruction scope b.labels (length b.code) ws >>= λ i. Ok (longer_by i.0)) LimitPassed s.first s.read in
       let u = steps (instruction scope b.labels (length b.code) ws) (λ i. Ok (longer_by i.0)) s.first i.1 in
       let less : length b.code < 1024 = ltb-true (length b.code) 1024 i.0 in
       let added = u.first.0 in
@@ -236,7 +236,7 @@ module _ (headers : HeadersInRange) (classes_in : ClassesInRange) (headings : He
       let whole = whole_of b in
       let s = steps (method_of b) (λ m. nothing_more false ws >>= λ u. Ok (program h cs (ms ++ m ∷ []) None size)) q is in
       let t = steps (nothing_more false ws) (λ u. Ok (program h cs (ms ++ s.first ∷ []) None size)) q s.second in
-      let i = if_not_ok (length b.code == 0) (Ok whole) LimitPassed s.first s.read in
+      let i = kept (length b.code == 0) (Ok whole) LimitPassed s.first s.read in
       let made : whole ≡ s.first = ok_is whole s.first i.1 in
       let some : length b.code ≡ 0 → ⊥ = eqb-false (length b.code) 0 i.0 in
       let longer : length (ms ++ whole ∷ []) ≡ length ms + 1 = length-append ms (whole ∷ []) in
@@ -267,12 +267,14 @@ module _ (headers : HeadersInRange) (classes_in : ClassesInRange) (headings : He
 
   -- a name behind a keyword, where more was read behind it
   class_named : (h : Header) (cs : List ClassDecl) (ms : List Method) (size : ℕ) (ws rest : List (List ℕ)) (q : Program) → ws ≡ keyword_text k.Class ∷ rest → with_class scope (program h cs ms None size) rest ≡ Ok q → one_of (name_after k.Class ws) ≡ 1
-  class_named h cs ms size ws (n ∷ rest) q begins is = names_one k.Class ws n rest begins
-  class_named h cs ms size ws [] q begins is = absurd (no_ok _ _ (if_ok (nat_lt (length cs) 256) (Err BadShape) LimitPassed q is).1)
+  class_named h cs ms size ws rest q begins is =
+      cons_given (λ r. with_class scope (program h cs ms None size) r ≡ Ok q) rest is (λ e. no_ok _ _ (passed (nat_lt (length cs) 256) (Err BadShape) LimitPassed q e).1)
+      (λ n left same e. names_one k.Class ws n left (begins ∙ ap (λ v. keyword_text k.Class ∷ v) same))
 
   method_named : (ss : List Statement) (h : Header) (cs : List ClassDecl) (ms : List Method) (size : ℕ) (ws rest : List (List ℕ)) (q : Program) → ws ≡ keyword_text k.Method ∷ rest → with_heading scope ss (program h cs ms None size) rest ≡ Ok q → one_of (name_after k.Method ws) ≡ 1
-  method_named ss h cs ms size ws (n ∷ rest) q begins is = names_one k.Method ws n rest begins
-  method_named ss h cs ms size ws [] q begins is = absurd (no_ok _ _ (if_ok (nat_lt (length ms) 1024) (Err BadShape) LimitPassed q is).1)
+  method_named ss h cs ms size ws rest q begins is =
+      cons_given (λ r. with_heading scope ss (program h cs ms None size) r ≡ Ok q) rest is (λ e. no_ok _ _ (passed (nat_lt (length ms) 1024) (Err BadShape) LimitPassed q e).1)
+      (λ n left same e. names_one k.Method ws n left (begins ∙ ap (λ v. keyword_text k.Method ∷ v) same))
 
   module _ (s : Statement) (ss : List Statement) (h : Header) (cs : List ClassDecl) (ms : List Method) (size : ℕ) (q : Program) where
     -- a class or the beginning of a method
@@ -298,7 +300,7 @@ module _ (headers : HeadersInRange) (classes_in : ClassesInRange) (headings : He
     spoken b holds body goes_on is =
         let added : Instr → Body = λ i. record b { code = b.code ++ i ∷ [] } in
         let first = steps (with_instruction scope b s.words) (λ c. grown 8 size >>= λ n. Ok (program h cs ms (Some c) n)) q is in
-        let i = if_ok (nat_lt (length b.code) 1024) (instruction scope b.labels (length b.code) s.words >>= λ i. Ok (added i.0)) LimitPassed first.first first.read in
+        let i = passed (nat_lt (length b.code) 1024) (instruction scope b.labels (length b.code) s.words >>= λ i. Ok (added i.0)) LimitPassed first.first first.read in
         let said = steps (instruction scope b.labels (length b.code) s.words) (λ i. Ok (added i.0)) first.first i.1 in
         code_step ss h cs ms size (before_end (s ∷ ss)) b s.words q (not_at_end s ss goes_on) (none_declared (Some b) (code_silent scope b.labels (length b.code) s.words said.first said.read) holds) body is
 
@@ -331,8 +333,8 @@ module _ (headers : HeadersInRange) (classes_in : ClassesInRange) (headings : He
 
   closes : (p q : Program) → Read scope p [] → closed p ≡ Ok q → AtEnd q
   closes p q read is =
-      let i = if_not_ok (is_some p.body) (if length p.methods == 0 then Err LimitPassed else Ok p) BadShape q is in
-      let j = if_not_ok (length p.methods == 0) (Ok p) LimitPassed q i.1 in
+      let i = kept (is_some p.body) (if length p.methods == 0 then Err LimitPassed else Ok p) BadShape q is in
+      let j = kept (length p.methods == 0) (Ok p) LimitPassed q i.1 in
       let some : length p.methods ≡ 0 → ⊥ = eqb-false (length p.methods) 0 j.0 in
       subst AtEnd (ok_is p q j.1) (record { read = read; closed = no_body p.body i.0; some = omega (arith, some) })
 
@@ -364,11 +366,8 @@ module _ (headers : HeadersInRange) (classes_in : ClassesInRange) (headings : He
         body = tt;
       })
 
-  program_read : (last : ℕ) (ss : List Statement) (q : Program) → length scope.classes ≡ declares k.Class ss → length scope.methods ≡ declares k.Method ss → read_program last scope ss ≡ Ok q → AtEnd q
-  program_read last [] q class_names method_names is = absurd (no_ok _ _ is)
-  program_read last (s ∷ ss) q class_names method_names is =
-      let t = steps_then (at_line s.line (opened scope s.words)) (λ p. read_rest last scope p ss) q is in
-      rest_read last t.first ss q (opens s ss t.first class_names method_names (said s.line (opened scope s.words) t.first t.read)) t.second
+  program_read : (last : ℕ) (ss : List Statement) (q : Program) → length scope.classes ≡ declares k.Class ss → length scope.methods ≡ declares k.Method ss → Started last scope q ss → AtEnd q
+  program_read last _ q class_names method_names (started s ss p starts rest) = rest_read last p ss q (opens s ss p class_names method_names starts) rest
 
   -- with names told apart it is an image
   well_formed : (q : Program) → scope.is_strict ≡ true → AtEnd q → WellFormed (image_of q)
@@ -397,7 +396,8 @@ module _ (headers : HeadersInRange) (classes_in : ClassesInRange) (headings : He
   -- the classes of the first reading are in range for the second
   first_classes : (last : ℕ) (ss : List Statement) (q : Program) → read_program last (scope_of false ss []) ss ≡ Ok q → All (ClassFits (length (declared_names k.Class [] ss)) q.header.natives) q.classes
   first_classes last ss q is =
-      let at = program_read headers classes_in headings instructions (scope_of false ss []) 0 (λ strict. absurd (false≢true strict)) last ss q (count_declared k.Class ss) (count_declared k.Method ss) is in
+      let at = program_read headers classes_in headings instructions (scope_of false ss []) 0 (λ strict. absurd (false≢true strict)) last ss q (count_declared k.Class ss) (count_declared k.Method ss)
+      (program_starts last (scope_of false ss []) ss q is) in
       at.read.parts.classes
 
   statements_well : (last : ℕ) (ss : List Statement) (i : Image) → read_statements last ss ≡ Ok i → WellFormed i
@@ -407,8 +407,9 @@ module _ (headers : HeadersInRange) (classes_in : ClassesInRange) (headings : He
       let first = s.first in
       let t = steps_then (read_program last (second first) ss) (λ p. Ok (image_of p)) i s.second in
       let kinds = first_classes last ss first s.read in
-      let at = program_read headers classes_in headings instructions (second first) first.header.natives (λ strict. kinds) last ss t.first (count_declared k.Class ss) (count_declared k.Method ss) t.read in
+      let at = program_read headers classes_in headings instructions (second first) first.header.natives (λ strict. kinds) last ss t.first (count_declared k.Class ss) (count_declared k.Method ss)
+      (program_starts last (second first) ss t.first t.read) in
       subst WellFormed (ok_is (image_of t.first) i t.second) (well_formed headers classes_in headings instructions (second first) first.header.natives (λ strict. kinds) t.first refl at)
 
   pub text_well : (text : List ℕ) (i : Image) → denoted text ≡ Ok i → WellFormed i
-  text_well text i is = statements_well (last_line_of text) (statements text) i (if_ok (nat_le (length text) (2 ^ 20)) (read_statements (last_line_of text) (statements text)) (record { line = 1; kind = LimitPassed }) i is).1
+  text_well text i is = statements_well (last_line_of text) (statements text) i (passed (nat_le (length text) (2 ^ 20)) (read_statements (last_line_of text) (statements text)) (record { line = 1; kind = LimitPassed }) i is).1

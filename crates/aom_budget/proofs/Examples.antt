@@ -14,6 +14,7 @@ use Rattle.aom_roles.specs.Classes.{kind_in, sessions_in, sessions_of}
 use Rattle.aom_roles.specs.Roles.{role_number}
 use Rattle.aom_classes.specs.Roles.{plays, role_of}
 use Rattle.aom_shape.specs.Shape.{Shape}
+use Rattle.aom_shape.specs.declared.kind.Delivery.TheVariants.{Here}
 use Rattle.aom_shape.specs.declared.kind.Age.TheVariants.{Ready}
 use Rattle.aom_shape.specs.declared.kind.Kind.{Kind}
 use Rattle.aom_shape.specs.declared.kind.Kind.TheVariants.{Null, Own, Maybe}
@@ -33,7 +34,7 @@ image = record {
 }
 
 holding : Kind → Shape
-holding kind = record { registers = kind ∷ []; fields = []; entries = [] }
+holding kind = record { registers = kind ∷ []; fields = []; entries = []; states = 0; delivery = Here }
 
 delete_of_a_server : callees image 3 (holding (Own (Object 1) Ready)) (Delete 0) ≡ 1 ∷ 0 ∷ []
 unfolding image method holding class_at kind_in sessions_in sessions_of role_of plays role_number

@@ -6,12 +6,12 @@ use Rattle.std.proofs.lemmas.List.{length-set, length-replicate}
 use Rattle.aom_image.specs.Image.{Image}
 use Rattle.aom_image.specs.Views.{instr_at}
 use Rattle.aom_instructions.specs.declared.instr.Instr.{Instr}
-use Rattle.aom_instructions.specs.declared.instr.Instr.TheVariants.{Call, Trap, Push, PushOperation, Delete, Cancel}
+use Rattle.aom_instructions.specs.declared.instr.Instr.TheVariants.{Call, Trap, Push, Delete}
 use Rattle.aom_classes.specs.Linked.{IsLinked}
 use Rattle.aom_classes.proofs.Facts.{of_method}
 use Rattle.aom_shape.specs.Kinds.{register}
 use Rattle.aom_shape.specs.Order.{Weaker, SaysNoMore}
-use Rattle.aom_shape.specs.Order.Weaker.{alike as same_kind, unset_word, unset_null, maybe_null, maybe_own}
+use Rattle.aom_shape.specs.Order.Weaker.{maybe_null}
 use Rattle.aom_shape.specs.Shape.{Shape}
 use Rattle.aom_shape.specs.Tables.{at}
 use Rattle.aom_shape.specs.declared.kind.Kind.{Kind}
@@ -26,6 +26,9 @@ use Rattle.aom_budget.specs.Heights.Heights.{own, under}
 use Rattle.aom_budget.specs.Extents.{IsMost, entered, OfSome, Joined, ComesTo, FramesAt, EntriesAt, Before, IsFilled, most_at}
 use Rattle.aom_budget.proofs.Mentioned.{called_lower}
 use Rattle.aom_budget.proofs.Most.{of_none, alike, joined, of_methods}
+use Rattle.std.proofs.Common.{⊎_elim}
+use Rattle.aom_instructions.specs.declared.instr.Instr.{Instr}
+use Rattle.aom_instructions.specs.declared.instr.Target.{Target}
 
 -- ---- one place
 
@@ -47,22 +50,23 @@ module _ (p : Image) (cap : ℕ) (its_own : Shape → ℕ) (calls : Shape → In
 
 -- ---- what is called is found already
 
-entered_called : (p : Image) (m : ℕ) (sh : Shape) (i : Instr) (k : ℕ) → Among k (listed (entered i)) → Among k (callees p m sh i)
-entered_called p m sh (Call target called first c) k h = h
-entered_called p m sh (Trap target called first c) k h = h
-entered_called p m sh _ k h = absurd h
+-- what holds of a call and of a trap of a method holds of each instruction that enters it
+pub by_entering : (k : ℕ) (P : Instr → Type 0) → ((target : Target) (first c : ℕ) → P (Call target k first c)) → ((target : Target) (first c : ℕ) → P (Trap target k first c)) →
+    (i : Instr) → Enters i k → P i
+by_entering k P call trap (Call target called first c) e = subst (λ x. P (Call target x first c)) (sym e) (call target first c)
+by_entering k P call trap (Trap target called first c) e = subst (λ x. P (Trap target x first c)) (sym e) (trap target first c)
+by_entering k P call trap _ e = absurd e
 
-enters : (i : Instr) (k : ℕ) → Among k (listed (entered i)) → Enters i k
-enters (Call target called first c) k (inl e) = sym e
-enters (Call target called first c) k (inr none) = absurd none
-enters (Trap target called first c) k (inl e) = sym e
-enters (Trap target called first c) k (inr none) = absurd none
-enters _ k h = absurd h
+entered_called : (p : Image) (m : ℕ) (sh : Shape) (i : Instr) (k : ℕ) → Enters i k → Among k (callees p m sh i)
+entered_called p m sh i k e = by_entering k (λ j. Among k (callees p m sh j)) (λ target first c. inl refl) (λ target first c. inl refl) i e
 
 is_entered : (i : Instr) (k : ℕ) → Enters i k → Among k (listed (entered i))
-is_entered (Call target called first c) k e = inl (sym e)
-is_entered (Trap target called first c) k e = inl (sym e)
-is_entered _ k e = absurd e
+is_entered i k e = by_entering k (λ j. Among k (listed (entered j))) (λ target first c. inl refl) (λ target first c. inl refl) i e
+
+enters : (i : Instr) (k : ℕ) → Among k (listed (entered i)) → Enters i k
+enters (Call target called first c) k h = ⊎_elim (λ e. sym e) (λ none. absurd none) h
+enters (Trap target called first c) k h = ⊎_elim (λ e. sym e) (λ none. absurd none) h
+enters _ k h = absurd h
 
 module _ (p : Image) (m : ℕ) (s : Shapes) (place : ℕ) (sh : Shape) (i : Instr) (linked : IsLinked p) (strongest : IsMethodStrongest p m s) where
   module _ (there : at None s place ≡ Some sh) (stands : instr_at p m place ≡ Some i) where
@@ -79,26 +83,19 @@ module _ (p : Image) (m : ℕ) (s : Shapes) (place : ℕ) (sh : Shape) (i : Inst
     pub height_found : (hs : List ℕ) (n : ℕ) → IsFilled p 1025 (Heights p) m hs → n ≡ min (length sh.entries + most_at hs (listed (entered i))) 1025 → IsMost 1025 (EntriesAt p m s place) n
     height_found hs n filled is =
         let found = called_found 1025 (Heights p) hs filled in
-        let over = of_methods 1025 (Heights p) hs (listed (entered i)) (λ k c. found k (entered_called p m sh i k c)) in
+        let over = of_methods 1025 (Heights p) hs (listed (entered i)) (λ k c. found k (entered_called p m sh i k (enters i k c))) in
         rw is (reached p 1025 (λ x. length x.entries) (λ x j. listed (entered j)) (Heights p) m s place sh i _ there stands over)
 
 -- ---- frames: what an instruction may call by what is known, it may call by what says less
 
 destroys_more : (p : Image) (x y : Kind) (k : ℕ) → Weaker x y → Among k (destructors p (object_class y)) → Among k (destructors p (object_class x))
-destroys_more p x y k (same_kind {k = same}) c = c
-destroys_more p x y k unset_word c = c
-destroys_more p x y k unset_null c = c
 destroys_more p x y k (maybe_null {t = t} {a = age}) c = absurd c
-destroys_more p x y k (maybe_own {t = t} {a = age}) c = c
+destroys_more p x y k _ c = c
 
 calls_more : (p : Image) (m : ℕ) (a b : Shape) (i : Instr) (k : ℕ) → SaysNoMore a b → Among k (callees p m b i) → Among k (callees p m a i)
 calls_more p m a b (Push r) k h c = destroys_more p (register a r) (register b r) k (h.registers r) c
 calls_more p m a b (Delete r) k h c = destroys_more p (register a r) (register b r) k (h.registers r) c
-calls_more p m a b (Call target called first r) k h c = c
-calls_more p m a b (Trap target called first r) k h c = c
-calls_more p m a b (PushOperation r called) k h c = c
-calls_more p m a b Cancel k h c = c
-calls_more p m a b _ k h c = absurd c
+calls_more p m a b _ k h c = c
 
 reached_within : (s : Shapes) (place : ℕ) (sh : Shape) → at None s place ≡ Some sh → place < length s
 reached_within s place sh e = elim (leb_tells (length s) place) [
@@ -208,7 +205,7 @@ entered_is_called p m k h call = record {
     there = call.stands.there;
     instr = call.instr;
     stands = call.here;
-    calls = entered_called p m call.shape call.instr k (is_entered call.instr k call.enters);
+    calls = entered_called p m call.shape call.instr k call.enters;
   };
 }
 

@@ -1,6 +1,6 @@
 -- Each class that a state of the strongest typing names is one that the method mentions; so what a method may call has a lower number.
 use Rattle.std.proofs.Common.{◌≡◌, ℕ, zero, suc, ◌<◌, ◌==◌, Bool, true, false, cond, ◌&&◌, All, IsTrue, IfSome, List, [], ◌∷◌, map, position, Option, Some, None, slice_get, inl, inr, refl, sym, ap, ◌∙◌, subst, arith}
-use Rattle.aom_image.proofs.Given.{true_given}
+use Rattle.aom_image.proofs.Given.{some_given, true_given}
 use Rattle.std.specs.Prelude.{nat_lt}
 use Rattle.std.specs.List.{list_all}
 use Rattle.std.proofs.lemmas.List.Folds.{list_all-append}
@@ -27,9 +27,11 @@ use Rattle.aom_classes.specs.Roles.{plays, role_of, same_role}
 use Rattle.aom_classes.proofs.Each.{both, join}
 use Rattle.aom_classes.proofs.Facts.{at_place, all_there, of_method}
 use Rattle.aom_classes.proofs.Playing.{found}
-use Rattle.aom_rules.specs.Calls.{brought, caught, fields_worked, while_called}
+use Rattle.aom_rules.specs.Calls.{brought, caught, worked_on, while_called}
+use Rattle.aom_rules.specs.Requests.{resting}
+use Rattle.aom_shape.proofs.Sets.{has_itself}
 use Rattle.aom_shape.specs.Entries.{readied_entry, readied_at, without_top, with_entry}
-use Rattle.aom_shape.specs.Arguments.{argument_moved, arguments_moved, argument_kind, entry_shape}
+use Rattle.aom_shape.specs.Arguments.{after_of, argument_moved, arguments_moved, argument_kind, entry_shape}
 use Rattle.aom_rules.specs.Cleanup.{entry_of, top_kind}
 use Rattle.aom_shape.specs.Kinds.{entry_kind, register, field, set_register, set_field, filled, readied}
 use Rattle.aom_shape.specs.Needs.{Flow}
@@ -39,7 +41,7 @@ use Rattle.aom_shape.specs.Order.WeakerFilling.{alike_filling}
 use Rattle.aom_shape.specs.Order.Weaker.{alike, unset_word, unset_null, maybe_null, maybe_own}
 use Rattle.aom_rules.specs.Rules.{flows, ways_of}
 use Rattle.aom_shape.specs.Shape.{Shape}
-use Rattle.aom_rules.specs.Ways.{As_before, Branches, Branches_on_empty, Branches_on_null, Called, Caught, Dropped, Ends, Filled, Goes_back, Goes_on, Goes_to, Holding, Moved, News, Popped, Pushed, Pushed_operation, Taken, Ways, after, flowing}
+use Rattle.aom_rules.specs.Ways.{As_before, Branches, Branches_in, Branches_on_empty, Branches_on_null, Called, Caught, Dropped, Ends, Filled, Goes_back, Goes_on, Goes_to, Holding, Left_in, Moved, News, Popped, Pushed, Pushed_operation, Taken, Ways, after, flowing}
 use Rattle.aom_shape.specs.Tables.{at}
 use Rattle.aom_shape.specs.Things.{Holder, Member, root_thing, field_thing, holder_by, holder_of}
 use Rattle.aom_shape.specs.declared.kind.Entry.{Entry}
@@ -49,6 +51,7 @@ use Rattle.aom_shape.specs.declared.kind.Filling.TheVariants.{Empty, Full, Perha
 use Rattle.aom_shape.specs.declared.kind.Kind.{Kind}
 use Rattle.aom_shape.specs.declared.kind.Kind.TheVariants.{Unset, Word, Null, Own, Maybe}
 use Rattle.aom_shape.proofs.Lists.{at_put}
+use Rattle.aom_rules.proofs.Branching.{by_states}
 use Rattle.aom_rules.proofs.Monotone.{needs_more, flows_more}
 use Rattle.aom_verify.specs.Shapes.{Shapes, Meets, AllMet, Applies, IsMethodTyped}
 use Rattle.aom_verify.specs.Strongest.{IsMethodStrongest}
@@ -198,15 +201,15 @@ module _ (p : Image) (m : ℕ) where
   arguments_low [] first sh h = h
   arguments_low (x ∷ xs) first sh h = arguments_low xs (suc first) (argument_moved x first sh) (argument_low x first sh h)
 
-  worked_low : (class : Option ℕ) (sh : Shape) → IsLow p m sh → IsLow p m (fields_worked class sh)
-  worked_low None sh h = h
-  worked_low (Some c) sh h = record { registers = h.registers; entries = h.entries }
+  worked_low : (class : Option ℕ) (ended : ℕ) (sh : Shape) → IsLow p m sh → IsLow p m (worked_on class ended sh)
+  worked_low None ended sh h = h
+  worked_low (Some c) ended sh h = record { registers = h.registers; entries = h.entries }
 
-  called_low : (target : Target) (class : Option ℕ) (sh : Shape) → IsLow p m sh → IsLow p m (while_called target class sh)
-  called_low This class sh h = worked_low class sh h
-  called_low (Register r) class sh h = set_low sh r (readied (register sh r)) h (readied_low (register sh r) (h.registers r))
-  called_low (Field f) class sh h = h
-  called_low (On_entry k) class sh h = record { registers = h.registers; entries = readied_at_low sh.entries k h.entries }
+  called_low : (target : Target) (class : Option ℕ) (ended : ℕ) (sh : Shape) → IsLow p m sh → IsLow p m (while_called target class ended sh)
+  called_low This class ended sh h = worked_low class ended sh h
+  called_low (Register r) class ended sh h = set_low sh r (readied (register sh r)) h (readied_low (register sh r) (h.registers r))
+  called_low (Field f) class ended sh h = h
+  called_low (On_entry k) class ended sh h = record { registers = h.registers; entries = readied_at_low sh.entries k h.entries }
 
   brought_low : (g : Gives) (c : ℕ) (sh : Shape) → MentionsResult p m g → IsLow p m sh → IsLow p m (brought g c sh)
   brought_low Nothing c sh g h = h
@@ -222,8 +225,8 @@ module _ (p : Image) (m : ℕ) where
   caught_low (A_maybe t) c sh g h = set_low _ (suc c) Word (set_low sh c _ h (thing_mentioned p m t g)) refl
   caught_low (Left x) c sh g h = set_low sh (suc c) Word h refl
 
-  lasting_low : (target : Target) (called first : ℕ) (sh : Shape) → IsLow p m sh → IsLow p m (while_called target (method_class p called) (arguments_moved (arguments_of p called) first sh))
-  lasting_low target called first sh h = called_low target (method_class p called) (arguments_moved (arguments_of p called) first sh) (arguments_low (arguments_of p called) first sh h)
+  lasting_low : (target : Target) (called first ended : ℕ) (sh : Shape) → IsLow p m sh → IsLow p m (while_called target (method_class p called) ended (arguments_moved (arguments_of p called) first sh))
+  lasting_low target called first ended sh h = called_low target (method_class p called) ended (arguments_moved (arguments_of p called) first sh) (arguments_low (arguments_of p called) first sh h)
 
   -- ---- flows
 
@@ -266,8 +269,9 @@ module _ (p : Image) (m : ℕ) where
     after_low pc sh Pushed_operation low h = with_low Operation sh refl h
     after_low pc sh (Popped a) low h = set_low _ a (top_kind sh.entries) (without_low sh h) (top_low sh.entries h.entries)
     after_low pc sh Dropped low h = without_low sh h
-    after_low pc sh (Called target called first c) low h = brought_low (gives_of p called) c _ low (lasting_low target called first sh h)
-    after_low pc sh (Caught target called first c) low h = caught_low (gives_of p called) c _ low (lasting_low target called first sh h)
+    after_low pc sh (Called target called first c) low h = brought_low (gives_of p called) c _ low (lasting_low target called first (after_of p called) sh h)
+    after_low pc sh (Caught target called first c) low h = caught_low (gives_of p called) c _ low (lasting_low target called first (resting p (method_class p called)) sh h)
+    after_low pc sh (Left_in states) low h = record { registers = h.registers; entries = h.entries }
 
     ways_low : (pc : ℕ) (sh : Shape) (ways : Ways) → NamesLow ways → IsLow p m sh → AllLow p m (flowing p m pc sh ways)
     ways_low pc sh Ends low h = tt
@@ -277,6 +281,9 @@ module _ (p : Image) (m : ℕ) where
     ways_low pc sh (Goes_back to) low h = (h, (h, tt))
     ways_low pc sh (Branches_on_null a to) low h = null_low pc sh (register sh a) a to h (h.registers a)
     ways_low pc sh (Branches_on_empty f to) low h = empty_low pc sh (field sh f) f to h
+    ways_low pc sh (Branches_in there here to) low h =
+        let same : (s : ℕ) → IsLow p m (record sh { states = s }) = λ s. record { registers = h.registers; entries = h.entries } in
+        by_states (λ fs. AllLow p m fs) sh (suc pc) there here to tt (λ s. (same s, tt)) (λ t. (same t, tt)) (λ s t. (same s, (same t, tt)))
 
     flows_low : (pc : ℕ) (sh : Shape) (i : Instr) → RunsBelow p m own i → IsLow p m sh → AllLow p m (flows p m pc sh i)
     flows_low pc sh i r h = ways_low pc sh (ways_of p i) (names_low own i r) h
@@ -327,12 +334,6 @@ at_map f d [] i = refl
 at_map f d (x ∷ xs) zero = refl
 at_map f d (x ∷ xs) (suc i) = at_map f d xs i
 
-nothing_below_null : (x y : Kind) → Weaker x y → x ≡ Null → y ≡ Null
-nothing_below_null x y (alike {k = k}) e = e
-nothing_below_null x y unset_null e = refl
-nothing_below_null x y (maybe_null {t = t} {a = age}) e = refl
-nothing_below_null x y _ e = absurd cc
-
 module _ (p : Image) (m : ℕ) where
   at_raised : (ks : List Kind) (i : ℕ) → at Unset (map (raised p m) ks) i ≡ raised p m (at Unset ks i)
   at_raised ks i = at_map (raised p m) Unset ks i
@@ -356,6 +357,8 @@ module _ (p : Image) (m : ℕ) where
     registers = λ i. rw (at_raised sh.registers i) (kind_raised (register sh i));
     fields = λ f. alike_filling;
     entries = refl;
+    states = has_itself sh.states;
+    delivery = refl;
   }
 
   raised_low : (k : Kind) → IsTrue (owned_low p m k) → IsTrue (is_low p m (raised p m k))
@@ -432,6 +435,8 @@ module _ (p : Image) (m : ℕ) where
           registers = λ i. rw (at_raised h.next.registers i) (weaker_raised (register h.next i) (register sh i) (h.no_more.registers i) (low.registers i));
           fields = h.no_more.fields;
           entries = h.no_more.entries;
+          states = h.no_more.states;
+          delivery = h.no_more.delivery;
         };
       }
 
@@ -441,8 +446,8 @@ module _ (p : Image) (m : ℕ) where
 
   -- what is kept stood there
   stood : (o : Option Shape) (x : Shape) → kept p m o ≡ Some x → (sh : Shape) × (o ≡ Some sh) × IsTrue (stays p m sh) × (x ≡ raised_shape p m sh)
-  stood None x e = absurd cc
-  stood (Some sh) x e = true_given (λ b. cond b (Some (raised_shape p m sh)) None ≡ Some x) (stays p m sh) e (λ g. cc) (λ f g. let same : x ≡ raised_shape p m sh = cc in (sh, refl, f, same))
+  stood o x e = some_given (λ y. kept p m y ≡ Some x) o e (λ none. cc) (λ sh is f.
+      true_given (λ b. cond b (Some (raised_shape p m sh)) None ≡ Some x) (stays p m sh) f (λ g. cc) (λ stay g. let same : x ≡ raised_shape p m sh = cc in (sh, is, stay, same)))
 
   ordered : IsLinked p → (d : Method) → method_at p m ≡ Some d → CallsOrdered p m d
   unfolding method_at
@@ -487,7 +492,7 @@ module _ (p : Image) (m : ℕ) where
     where
       go : (b : Bool) → runs_below p m (thing_class t) ≡ b → Weaker (cond b (Maybe t a) Null) (Maybe t a) → IsTrue (runs_below p m (thing_class t))
       go true e w = e
-      go false e w = let same = nothing_below_null Null (Maybe t a) w refl in absurd cc
+      go false e w = elim w [ ]
 
   states_low : (s : Shapes) (pc : ℕ) (sh : Shape) → IsLinked p → IsMethodStrongest p m s → at None s pc ≡ Some sh → IsLow p m sh
   states_low s pc sh linked h there =

@@ -1,9 +1,11 @@
 -- One place more of a pass: tables that agree with what is found there too are swept there too.
-use Rattle.std.proofs.Common.{◌≡◌, ◌≢◌, ℕ, suc, ◌<◌, ◌≤◌, ◌+◌, List, [], ◌∷◌, ◌++◌, map, Option, Some, None, IsSome, inl, inr, refl, sym, ap, ◌∙◌, subst, arith}
+use Rattle.std.proofs.Common.{◌≡◌, ◌≢◌, ◌==◌, ℕ, suc, ◌<◌, ◌≤◌, ◌+◌, Bool, true, false, cond, List, [], ◌∷◌, ◌++◌, map, Option, Some, None, IsSome, inl, inr, refl, sym, ap, ◌∙◌, subst, arith}
 use Rattle.std.proofs.lemmas.Bool.Decides.{eqb_tells}
+use Rattle.std.specs.Prelude.{bit_and}
 use Rattle.aom_image.specs.Image.{Image}
+use Rattle.aom_image.specs.Views.{method_class}
 use Rattle.aom_instructions.specs.declared.instr.Instr.{Instr}
-use Rattle.aom_instructions.specs.declared.instr.Instr.TheVariants.{JumpNull, JumpEmpty, Call, Trap, PushOperation, Push, Delete}
+use Rattle.aom_instructions.specs.declared.instr.Instr.TheVariants.{JumpNull, JumpEmpty, JumpActive, JumpAdded, Call, Cancel, Trap, PushOperation, Push, Delete}
 use Rattle.aom_image.specs.declared.method.Role.TheVariants.{Destruct}
 use Rattle.aom_image.specs.declared.method.Thing.{Thing}
 use Rattle.aom_image.specs.declared.method.Thing.TheVariants.{Object, Message}
@@ -11,7 +13,9 @@ use Rattle.aom_classes.specs.Bodies.{Body, IsLooped}
 use Rattle.aom_classes.specs.Roles.{destructor_of, role_of}
 use Rattle.aom_shape.specs.Kinds.{register, field}
 use Rattle.aom_shape.specs.Needs.{Flow, AllTrue}
+use Rattle.aom_roles.specs.States.{unlisted}
 use Rattle.aom_rules.specs.Objects.{flow_jump_null, flow_jump_empty}
+use Rattle.aom_rules.specs.Requests.{enlisted, flow_narrowed, inactive, outstanding}
 use Rattle.aom_rules.specs.Rules.{rule_needs, flows}
 use Rattle.aom_shape.specs.Shape.{Shape}
 use Rattle.aom_shape.specs.Tables.{at}
@@ -21,13 +25,15 @@ use Rattle.aom_shape.specs.declared.kind.Filling.TheVariants.{Empty, Full, Perha
 use Rattle.aom_shape.specs.declared.kind.Kind.{Kind}
 use Rattle.aom_shape.specs.declared.kind.Kind.TheVariants.{Unset, Word, Null, Own, Maybe}
 use Rattle.aom_verify.specs.Shapes.{Shapes}
-use Rattle.aom_prices.specs.Prices.{Prices, price, kind_price, own}
+use Rattle.aom_prices.specs.Prices.{Prices, price, kind_price, own, perhaps_price}
 use Rattle.aom_prices.specs.Costs.{AmongFlows, Region, Whole, Round, destructor_price}
 use Rattle.aom_prices.specs.Sweeping.{Afters, IsInnermost, IsSweptFrom, most_within}
 use Rattle.aom_prices.proofs.At.{IsSweptAt, at_each, from_each}
 use Rattle.aom_prices.proofs.Regions.{ends_before, innermost_of_body}
-use Rattle.aom_budget.specs.Calls.{Among, listed, thing_class, object_class, destructors, callees}
-use Rattle.aom_budget.specs.Pricing.{kept, price_by, destruction_by, kind_by, own_by, null_targets, empty_targets, targets_of, most_to, after_in, Found, Agrees, IsPassed}
+use Rattle.aom_budget.specs.Calls.{Among, cancel_of, listed, thing_class, object_class, destructors, callees}
+use Rattle.aom_budget.specs.Pricing.{kept, price_by, destruction_by, kind_by, own_by, null_targets, empty_targets, states_targets, targets_of, most_to, after_in, Found, Agrees, IsPassed}
+use Rattle.aom_prices.proofs.Among.{by_flow}
+use Rattle.aom_image.proofs.Given.{some_given}
 
 -- ---- targets
 
@@ -46,9 +52,20 @@ empty_same p m place sh Empty f to = refl
 empty_same p m place sh Full f to = refl
 empty_same p m place sh Perhaps f to = refl
 
+states_same : (sh : Shape) (next here to there : ℕ) → states_targets next (bit_and sh.states here) to (bit_and sh.states there) ≡ targets (flow_narrowed sh next here ++ flow_narrowed sh to there)
+states_same sh next here to there = go (bit_and sh.states here) (bit_and sh.states there) (bit_and sh.states here == 0) (bit_and sh.states there == 0)
+  where
+    go : (s t : ℕ) (x y : Bool) → (cond x [] (next ∷ []) ++ cond y [] (to ∷ [])) ≡ targets (cond x [] ((next, record sh { states = s }) ∷ []) ++ cond y [] ((to, record sh { states = t }) ∷ []))
+    go s t true true = refl
+    go s t true false = refl
+    go s t false true = refl
+    go s t false false = refl
+
 pub targets_same : (p : Image) (m place : ℕ) (sh : Shape) (i : Instr) → AllTrue (rule_needs p m place sh i) → targets_of place sh i ≡ targets (flows p m place sh i)
 targets_same p m place sh (JumpNull a to) needs = null_same p m place sh (register sh a) a to
 targets_same p m place sh (JumpEmpty f to) needs = empty_same p m place sh (field sh f) f to
+targets_same p m place sh (JumpActive to) needs = states_same sh (suc place) inactive to outstanding
+targets_same p m place sh (JumpAdded to) needs = states_same sh (suc place) unlisted to enlisted
 targets_same p m place sh _ needs = first_of (cc, grind arith)
 
 pub among_flows : (to : ℕ) (fs : List Flow) → Among to (targets fs) → AmongFlows to fs
@@ -57,9 +74,7 @@ among_flows to (f ∷ fs) (inl e) = inl (sym e)
 among_flows to (f ∷ fs) (inr h) = inr (among_flows to fs h)
 
 pub flows_among : (to : ℕ) (fs : List Flow) → AmongFlows to fs → Among to (targets fs)
-flows_among to [] h = absurd h
-flows_among to (f ∷ fs) (inl e) = inl (sym e)
-flows_among to (f ∷ fs) (inr h) = inr (flows_among to fs h)
+flows_among to fs h = by_flow to (λ gs. Among to (targets gs)) (λ f gs e. inl (sym e)) (λ f gs rest. inr rest) fs h
 
 pub most_same : (c : Prices) (m : ℕ) (r : Region) (from : List ℕ) (fs : List Flow) → ((to : ℕ) → AmongFlows to fs → c.from m to ≡ at 0 from to) → most_within c m r fs ≡ most_to from r (targets fs)
 most_same c m r from [] same = refl
@@ -90,12 +105,17 @@ module _ (p : Image) (prices : List ℕ) (m : ℕ) (c : Prices) (lower : (k : �
     kind_same (Own t a) below = destruction_same t below
     kind_same (Maybe t a) below = destruction_same t below
 
-    pub own_same : (sh : Shape) (i : Instr) → ((j : ℕ) → Among j (callees p m sh i) → j < m) → own c sh i ≡ own_by p prices sh i
+    perhaps_same : (o : Option ℕ) → ((j : ℕ) → Among j (listed o) → j < m) → perhaps_price c o ≡ price_by prices o
+    perhaps_same None below = refl
+    perhaps_same (Some k) below = lower k (below k (inl refl))
+
+    pub own_same : (sh : Shape) (i : Instr) → ((j : ℕ) → Among j (callees p m sh i) → j < m) → own p m c sh i ≡ own_by p m prices sh i
     own_same sh (Call target k first x) below = ap (λ n. 1 + n) (lower k (below k (inl refl)))
     own_same sh (Trap target k first x) below = ap (λ n. 1 + n) (lower k (below k (inl refl)))
     own_same sh (PushOperation a k) below = ap (λ n. 1 + n) (lower k (below k (inl refl)))
     own_same sh (Push a) below = ap (λ n. 1 + n) (kind_same (register sh a) below)
     own_same sh (Delete a) below = ap (λ n. 1 + n) (kind_same (register sh a) below)
+    own_same sh Cancel below = ap (λ n. 1 + n) (perhaps_same (cancel_of p (method_class p m)) below)
     own_same sh _ below = refl
 
 -- ---- tables that agree down to a place agree down to the one after it
@@ -145,14 +165,11 @@ module _ (p : Image) (prices : List ℕ) (m : ℕ) (s : Shapes) (looped : IsLoop
   round_found t c a agrees to d n b some =
       let inner = innermost_of_body p looped m x to d n b in
       let there : IsSome (at None s (suc x)) = subst (λ y. IsSome (at None y (suc x))) agrees.states some in
-      let covered : at 0 old.after x ≤ at 0 old.from (suc x) = covers_some (at None s (suc x)) refl there inner in
+      let covered : at 0 old.after x ≤ at 0 old.from (suc x) =
+      some_given (λ o. IsSome o) (at None s (suc x)) there (λ none. cc) (λ sh e some_shape. h.covers (suc x) sh (Round x to) (omega arith) e inner) in
       let follows : a m x ≡ at 0 old.after x = agrees.afters x to d n (omega (arith, b.later)) b ∙ extends.afters x to d n b.later b in
       let first : c.from m (suc x) ≡ at 0 old.from (suc x) = agrees.froms (suc x) (omega arith) ∙ extends.froms (suc x) (omega arith) in
       omega (arith, covered, agrees.rounds x, follows, first)
-    where
-      covers_some : (o : Option Shape) → at None s (suc x) ≡ o → IsSome o → IsInnermost p m (suc x) (Round x to) → at 0 old.after x ≤ at 0 old.from (suc x)
-      covers_some None e some inner = absurd cc
-      covers_some (Some sh) e some inner = h.covers (suc x) sh (Round x to) (omega arith) e inner
 
   pub passed_more :
       ((t : Typing) (c : Prices) (a : Afters) → Agrees p prices m s x new t c a → IsSweptAt kept p t c a m x) →

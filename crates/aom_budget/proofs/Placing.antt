@@ -1,6 +1,6 @@
 -- What a pass finds at a place, by the instruction that stands there: a plain one, a loop, or a next.
 use Rattle.std.proofs.lemmas.Option.{same_Some}
-use Rattle.std.proofs.Common.{◌≡◌, ℕ, suc, ◌<◌, ◌≤◌, ◌+◌, ◌-◌, ◌*◌, List, [], Some, None, IfSome, inl, inr, refl, sym, ap, ◌∙◌, subst, arith}
+use Rattle.std.proofs.Common.{◌≡◌, ℕ, suc, ◌<◌, ◌≤◌, ◌+◌, ◌-◌, ◌*◌, List, [], Some, None, inl, inr, refl, sym, ap, ◌∙◌, subst, arith}
 use Rattle.std.specs.Prelude.{max}
 use Rattle.std.proofs.lemmas.Bool.Decides.{leb_tells}
 use Rattle.aom_image.specs.Image.{Image}
@@ -10,7 +10,6 @@ use Rattle.aom_instructions.specs.declared.instr.Instr.TheVariants.{Loop, Next}
 use Rattle.aom_classes.specs.Bodies.{Body, IsLooped}
 use Rattle.aom_classes.specs.Linked.{IsLinked}
 use Rattle.aom_classes.specs.Loops.{loop_in, next_in}
-use Rattle.aom_classes.proofs.Facts.{linked_place, of_method}
 use Rattle.aom_shape.specs.Needs.{AllTrue}
 use Rattle.aom_rules.specs.Rules.{rule_needs, flows}
 use Rattle.aom_shape.specs.Shape.{Shape}
@@ -21,9 +20,8 @@ use Rattle.aom_verify.specs.Strongest.{IsMethodStrongest}
 use Rattle.aom_prices.specs.Prices.{Prices, own}
 use Rattle.aom_prices.specs.Costs.{AmongFlows, GoesOut, Region, Whole, Round}
 use Rattle.aom_prices.specs.Sweeping.{Afters, IsAfter, IsInnermost, after, most_within}
-use Rattle.aom_prices.proofs.Regions.{innermost_of_body, one_innermost, no_loop_here, no_next_here, no_way_back}
-use Rattle.aom_prices.proofs.Ways.{Way, way_of}
-use Rattle.aom_prices.proofs.Ways.Way.{back, jump, on}
+use Rattle.aom_prices.proofs.Regions.{innermost_of_body, one_innermost, no_loop_here, no_next_here}
+use Rattle.aom_prices.proofs.Adding.{goes_forward, jumps_forward}
 use Rattle.aom_budget.specs.Calls.{Among, callees}
 use Rattle.aom_budget.specs.Extents.{IsMost, Before}
 use Rattle.aom_budget.specs.Pricing.{AreKept, kept, targets_of, most_to, after_in, ExitsAt, Found, Agrees, IsPassed, plain_cost}
@@ -55,15 +53,7 @@ module _ (p : Image) (prices : List ℕ) (m : ℕ) (s : Shapes) (looped : IsLoop
 
   -- what is no next goes on at later places
   forward : (x to : ℕ) (sh : Shape) (i : Instr) → instr_at p m x ≡ Some i → next_in (Some i) ≡ None → AmongFlows to (flows p m x sh i) → x < to
-  forward x to sh i stands no_next among = go to (way_of p m x to sh i among)
-    where
-      go : (y : ℕ) → Way x i y → x < y
-      go y on = omega arith
-      go y (jump e) =
-          let w = of_method p m x i stands in
-          let keeps = linked_place p m x w.0 i linked w.1 w.2 in
-          subst (λ o. IfSome o (λ z. x < z)) e keeps.forward
-      go y (back e) = absurd (no_way_back i y no_next e)
+  forward x to sh i stands no_next among = goes_forward p m (jumps_forward p linked m) x to sh i stands no_next among
 
   module _ (x : ℕ) (old new : Found) (extends : Extends p m x old new) (h : IsPassed p prices m s (suc x) old) where
     -- ---- a plain instruction
@@ -89,15 +79,15 @@ module _ (p : Image) (prices : List ℕ) (m : ℕ) (s : Shapes) (looped : IsLoop
 
       plain_value :
           (c : Prices) (a : Afters) (t : Typing) (sh : Shape) → at None s x ≡ Some sh → Agrees p prices m s x new t c a →
-          at 0 new.from x ≡ plain_cost p prices old r x sh i →
-          c.from m x ≡ kept (own c sh i + max (after a m r) (most_within c m r (flows p m x sh i)))
+          at 0 new.from x ≡ plain_cost p m prices old r x sh i →
+          c.from m x ≡ kept (own p m c sh i + max (after a m r) (most_within c m r (flows p m x sh i)))
       plain_value c a t sh there agrees is =
           rw (own_same p prices m c agrees.lower agrees.classes sh i (called_below x sh i there stands), plain_after c a t agrees, plain_most c a t sh there agrees)
           (agrees.froms x (omega arith) ∙ is)
 
       pub plain_more :
           after_in old.after r ≤ 4294967296 →
-          ((sh : Shape) → at None s x ≡ Some sh → at 0 new.from x ≡ plain_cost p prices old r x sh i) →
+          ((sh : Shape) → at None s x ≡ Some sh → at 0 new.from x ≡ plain_cost p m prices old r x sh i) →
           IsPassed p prices m s x new
       plain_more low value = passed_more p prices m s looped x old new extends h
           (λ t c a agrees. record {
@@ -106,8 +96,8 @@ module _ (p : Image) (prices : List ℕ) (m : ℕ) (s : Shapes) (looped : IsLoop
                 let same_region : r ≡ u = one_innermost p looped m x r u inner u_inner in
                 let here = stands_there t x sh agrees.states there.shape in
                 let is = plain_value c a t sh here agrees (value sh here) in
-                subst (λ y. c.from m x ≡ kept (own c sh j + max (after a m y) (most_within c m y (flows p m x sh j)))) same_region
-                (subst (λ y. c.from m x ≡ kept (own c sh y + max (after a m r) (most_within c m r (flows p m x sh y)))) same_instr is);
+                subst (λ y. c.from m x ≡ kept (own p m c sh j + max (after a m y) (most_within c m y (flows p m x sh j)))) same_region
+                (subst (λ y. c.from m x ≡ kept (own p m c sh y + max (after a m r) (most_within c m r (flows p m x sh y)))) same_instr is);
             loops = λ d n sh there. absurd (no_loop_here i d n no_loop (same_Some i (Loop d n) (sym stands ∙ there.instr)));
             nexts = λ d f sh there. absurd (no_next_here i d (suc f) no_next (same_Some i (Next d (suc f)) (sym stands ∙ there.instr)));
             rounds = round_found p prices m s looped x old new extends h t c a agrees;
@@ -134,9 +124,6 @@ module _ (p : Image) (prices : List ℕ) (m : ℕ) (s : Shapes) (looped : IsLoop
           let first : c.from m (suc x) ≡ at 0 old.from (suc x) = agrees.froms (suc x) (omega arith) ∙ extends.froms (suc x) (omega arith) in
           rw (agrees.rounds x, first, follows) refl
 
-      one_loop : (e l : ℕ) → Some (Loop d n) ≡ Some (Loop e l) → l ≡ n
-      one_loop e l eq = cc
-
       loop_value :
           (t : Typing) (c : Prices) (a : Afters) → Agrees p prices m s x new t c a → at 0 new.from x ≡ kept (1 + (n - 1) * round_of + at 0 old.from (suc x)) →
           c.from m x ≡ kept (1 + (n - 1) * c.round m x + c.from m (suc x))
@@ -162,7 +149,8 @@ module _ (p : Image) (prices : List ℕ) (m : ℕ) (s : Shapes) (looped : IsLoop
           (λ t c a agrees. record {
             plain = λ sh j u there j_no_loop j_no_next u_inner. absurd (no_loop_here j d n j_no_loop (same_Some j (Loop d n) (sym there.instr ∙ stands)));
             loops = λ e l sh there.
-                let rounds = one_loop e l (sym stands ∙ there.instr) in
+                let one : Some (Loop d n) ≡ Some (Loop e l) = sym stands ∙ there.instr in
+                let rounds : l ≡ n = cc in
                 let here = stands_there t x sh agrees.states there.shape in
                 rw rounds (loop_value t c a agrees (value sh here));
             nexts = λ e f sh there. absurd (no_next_here (Loop d n) e (suc f) refl (same_Some (Loop d n) (Next e (suc f)) (sym stands ∙ there.instr)));

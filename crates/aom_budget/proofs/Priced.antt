@@ -4,13 +4,13 @@ use Rattle.std.proofs.lemmas.Bool.{cases_lt}
 use Rattle.std.proofs.lemmas.Bool.Decides.{eqb_tells}
 use Rattle.std.proofs.lemmas.List.{length-set, length-replicate}
 use Rattle.aom_image.specs.Image.{Image}
-use Rattle.aom_image.specs.Views.{instr_at, method_at}
+use Rattle.aom_image.specs.Views.{instr_at, method_at, method_class}
 use Rattle.aom_image.specs.WellFormed.{WellFormed}
 use Rattle.aom_instructions.specs.declared.instr.Instr.{Instr}
-use Rattle.aom_instructions.specs.declared.instr.Instr.TheVariants.{Call, Trap, Push, PushOperation, Delete}
+use Rattle.aom_instructions.specs.declared.instr.Instr.TheVariants.{Call, Cancel, Trap, Push, PushOperation, Delete}
 use Rattle.aom_image.specs.declared.method.Role.TheVariants.{Destruct}
 use Rattle.aom_image.specs.declared.method.Thing.{Thing}
-use Rattle.aom_image.specs.declared.method.Thing.TheVariants.{Object, Message}
+use Rattle.aom_image.specs.declared.method.Thing.TheVariants.{Object}
 use Rattle.aom_classes.specs.Linked.{IsLinked}
 use Rattle.aom_classes.specs.Roles.{destructor_of, role_of}
 use Rattle.aom_classes.proofs.Facts.{of_method}
@@ -19,7 +19,7 @@ use Rattle.aom_shape.specs.Shape.{Shape}
 use Rattle.aom_shape.specs.Tables.{at}
 use Rattle.aom_rules.specs.Typing.{Typing}
 use Rattle.aom_shape.specs.declared.kind.Kind.{Kind}
-use Rattle.aom_shape.specs.declared.kind.Kind.TheVariants.{Unset, Word, Null, Own, Maybe}
+use Rattle.aom_shape.specs.declared.kind.Kind.TheVariants.{Own, Maybe}
 use Rattle.aom_shape.proofs.Lists.{at_set_here, at_set_other}
 use Rattle.aom_verify.specs.Shapes.{Shapes}
 use Rattle.aom_verify.specs.Strongest.{IsMethodStrongest, IsStrongest}
@@ -31,10 +31,11 @@ use Rattle.aom_prices.specs.Sweeping.{Afters, IsSweptFrom, IsSweptUpTo}
 use Rattle.aom_prices.proofs.At.{from_each}
 use Rattle.aom_prices.proofs.Capping.{law_up_to}
 use Rattle.aom_prices.proofs.Places.{nothing_there}
-use Rattle.aom_budget.specs.Calls.{Among, object_class, destructors, callees, CallsAt}
+use Rattle.aom_budget.specs.Calls.{Among, cancel_of, listed, object_class, destructors, callees, CallsAt}
 use Rattle.aom_budget.specs.Pricing.{kept, Found, Agrees, IsMethodPriced, ArePricedBelow, ArePriced, IsPriceUpTo}
 use Rattle.aom_budget.proofs.Mentioned.{called_lower}
 use Rattle.aom_budget.proofs.Passing.{below_first}
+use Rattle.aom_image.proofs.Given.{none_given}
 
 -- ---- a method pays for lower ones
 
@@ -43,12 +44,17 @@ kind_called p (Own (Object c) a) m e = below_first (role_of p c Destruct) m _ e
 kind_called p (Maybe (Object c) a) m e = below_first (role_of p c Destruct) m _ e
 kind_called p _ m e = absurd cc
 
-paid_called : (p : Image) (m : ℕ) (sh : Shape) (i : Instr) (k : ℕ) → paid_method p sh i ≡ Some k → Among k (callees p m sh i)
+cancel_called : (o : Option ℕ) (k : ℕ) → o ≡ Some k → Among k (listed o)
+cancel_called None k e = absurd cc
+cancel_called (Some j) k e = let same : k ≡ j = cc in inl same
+
+paid_called : (p : Image) (m : ℕ) (sh : Shape) (i : Instr) (k : ℕ) → paid_method p m sh i ≡ Some k → Among k (callees p m sh i)
 paid_called p m sh (Call target called first c) k e = let same : k ≡ called = cc in inl same
 paid_called p m sh (Trap target called first c) k e = let same : k ≡ called = cc in inl same
 paid_called p m sh (PushOperation a called) k e = let same : k ≡ called = cc in inl same
 paid_called p m sh (Push a) k e = kind_called p (register sh a) k e
 paid_called p m sh (Delete a) k e = kind_called p (register sh a) k e
+paid_called p m sh Cancel k e = cancel_called (cancel_of p (method_class p m)) k e
 paid_called p m sh _ k e = absurd cc
 
 pub method_there : (p : Image) (m place : ℕ) (i : Instr) → instr_at p m place ≡ Some i → IsSome (method_at p m)
@@ -97,25 +103,22 @@ module _ (p : Image) (prices : List ℕ) (n : ℕ) (h : ArePricedBelow p n price
   found_in k (inl w) = (h.each k w).found
   found_in k (inr w) = record { from = []; after = [] }
 
-  strongest_in : (k : ℕ) → k < n → (o : (k < n) ⊎ (n ≤ k)) → IsMethodStrongest p k (states_in k o)
-  strongest_in k below (inl w) = (h.each k w).strongest
-  strongest_in k below (inr w) = absurd (omega (arith, below, w))
-
-  is_in : (k : ℕ) → k < n → (o : (k < n) ⊎ (n ≤ k)) → at 0 (found_in k o).from 0 ≡ at 0 prices k
-  is_in k below (inl w) = (h.each k w).is
-  is_in k below (inr w) = absurd (omega (arith, below, w))
-
-  swept_in : (k : ℕ) → k < n → (o : (k < n) ⊎ (n ≤ k)) (t : Typing) (c : Prices) (a : Afters) → Agrees p prices k (states_in k o) 0 (found_in k o) t c a → IsSweptFrom kept p t c a k 0
-  swept_in k below (inl w) t c a agrees = (h.each k w).swept t c a agrees
-  swept_in k below (inr w) t c a agrees = absurd (omega (arith, below, w))
+  -- what holds as it is found below the number holds
+  inside : (k : ℕ) → k < n → (P : (k < n) ⊎ (n ≤ k) → Type 0) → ((w : k < n) → P (inl w)) → P (cases_lt k n)
+  inside k below P holds = go (cases_lt k n)
+    where
+      go : (o : (k < n) ⊎ (n ≤ k)) → P o
+      go (inl w) = holds w
+      go (inr w) = absurd (omega (arith, below, w))
 
   chosen : Chosen p prices n
   chosen = record {
     states = λ k. states_in k (cases_lt k n);
     found = λ k. found_in k (cases_lt k n);
-    strongest = λ k below. strongest_in k below (cases_lt k n);
-    is = λ k below. is_in k below (cases_lt k n);
-    swept = λ k below. swept_in k below (cases_lt k n);
+    strongest = λ k below. inside k below (λ o. IsMethodStrongest p k (states_in k o)) (λ w. (h.each k w).strongest);
+    is = λ k below. inside k below (λ o. at 0 (found_in k o).from 0 ≡ at 0 prices k) (λ w. (h.each k w).is);
+    swept = λ k below. inside k below
+        (λ o. (t : Typing) (c : Prices) (a : Afters) → Agrees p prices k (states_in k o) 0 (found_in k o) t c a → IsSweptFrom kept p t c a k 0) (λ w. (h.each k w).swept);
   }
 
 module _ (p : Image) (prices : List ℕ) (h : Chosen p prices (length p.methods)) (linked : IsLinked p) where
@@ -160,11 +163,8 @@ module _ (p : Image) (prices : List ℕ) (h : Chosen p prices (length p.methods)
   }
 
   nothing_past : (m place : ℕ) → length p.methods ≤ m → instr_at p m place ≡ None
-  nothing_past m place past = go (instr_at p m place) refl
-    where
-      go : (o : Option Instr) → instr_at p m place ≡ o → instr_at p m place ≡ None
-      go None e = e
-      go (Some i) e = absurd (omega (arith, past, method_within p m (method_there p m place i e)))
+  nothing_past m place past =
+      none_given (λ o. instr_at p m place ≡ o) (instr_at p m place) refl (λ i e. omega (arith, past, method_within p m (method_there p m place i e))) (λ none e. e)
 
   table_swept : IsSweptUpTo 4294967296 p typing table afters
   table_swept = record {

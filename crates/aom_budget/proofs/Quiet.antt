@@ -1,6 +1,6 @@
 -- A quiet method has no cleanup entries, and calls none that has.
 use Rattle.std.proofs.Common.{◌≡◌, ℕ, zero, suc, ◌≤◌, true, false, List, [], ◌∷◌, ◌++◌, length, map, IsTrue, Option, Some, None, refl, sym, ap, ◌∙◌, arith}
-use Rattle.aom_image.proofs.Given.{nil_given}
+use Rattle.aom_image.proofs.Given.{nil_given, some_given}
 use Rattle.std.specs.Prelude.{not}
 use Rattle.std.proofs.lemmas.Bool.{true≢false}
 use Rattle.aom_image.specs.Image.{Image}
@@ -14,7 +14,8 @@ use Rattle.aom_image.specs.declared.method.Method.{Method}
 use Rattle.aom_roles.specs.Shapes.{IsShaped, gives_left}
 use Rattle.aom_classes.specs.Linked.{IsLinked}
 use Rattle.aom_classes.proofs.Facts.{all_there}
-use Rattle.aom_rules.specs.Calls.{brought, lasting, rule_target, rule_arguments, is_construct}
+use Rattle.aom_rules.specs.Calls.{brought, lasting, rule_target, rule_arguments}
+use Rattle.aom_rules.specs.Requests.{is_construct}
 use Rattle.aom_shape.specs.Entries.{without_top}
 use Rattle.aom_shape.specs.Kinds.{register, field}
 use Rattle.aom_rules.specs.Laws.{HaveAtMost}
@@ -22,18 +23,20 @@ use Rattle.aom_shape.specs.Needs.{AllTrue, Need, Flow}
 use Rattle.aom_rules.specs.Objects.{flow_jump_null, flow_jump_empty}
 use Rattle.aom_rules.specs.Rules.{rule_needs, flows, ways_of}
 use Rattle.aom_shape.specs.Shape.{Shape}
-use Rattle.aom_rules.specs.Ways.{Branches, Branches_on_empty, Branches_on_null, Called, Caught, Dropped, Ends, Goes_back, Goes_on, Goes_to, News, Popped, Pushed, Pushed_operation, Ways, after, flowing}
+use Rattle.aom_rules.specs.Ways.{Branches, Branches_in, Branches_on_empty, Branches_on_null, Called, Caught, Dropped, Ends, Goes_back, Goes_on, Goes_to, News, Popped, Pushed, Pushed_operation, Ways, after, flowing}
 use Rattle.aom_shape.specs.Tables.{at}
-use Rattle.aom_shape.specs.Arguments.{entry_shape}
+use Rattle.aom_shape.specs.Arguments.{after_of, entry_shape}
 use Rattle.aom_shape.specs.declared.kind.Entry.{Entry}
 use Rattle.aom_shape.specs.declared.kind.Filling.{Filling}
 use Rattle.aom_shape.specs.declared.kind.Filling.TheVariants.{Empty, Full, Perhaps}
 use Rattle.aom_shape.specs.declared.kind.Kind.{Kind}
 use Rattle.aom_shape.specs.declared.kind.Kind.TheVariants.{Unset, Word, Null, Own, Maybe}
+use Rattle.aom_rules.proofs.Branching.{by_states}
 use Rattle.aom_rules.proofs.Growing.{lasting_has}
 use Rattle.aom_verify.specs.Shapes.{Shapes, Meets, AllMet, IsMethodTyped}
 use Rattle.aom_budget.specs.Heights.{StandsAt, Enters, CallsOver, Heights}
 use Rattle.aom_budget.specs.Heights.Heights.{own, under}
+use Rattle.aom_budget.proofs.Filling.{by_entering}
 
 -- ---- flags
 
@@ -72,11 +75,8 @@ top_low es none = rw none (omega arith)
 
 brings_none : (g : Gives) (c : ℕ) (sh : Shape) → gives_left g ≡ false → length (brought g c sh).entries ≡ length sh.entries
 unfolding gives_left
-brings_none Nothing c sh e = refl
-brings_none A_word c sh e = refl
-brings_none (An_own t) c sh e = refl
-brings_none (A_maybe t) c sh e = refl
 brings_none (Left x) c sh e = absurd (true≢false e)
+brings_none _ c sh e = refl
 
 rest_true : (xs ys : List Need) → AllTrue (xs ++ ys) → AllTrue ys
 rest_true [] ys h = h
@@ -90,7 +90,7 @@ module _ (p : Image) (m : ℕ) (linked : IsLinked p) (quiet : is_quiet p m ≡ t
   callee_quiet pc sh target k first c needs =
       let targets = rule_target p m sh target (method_class p k) (is_construct (method_role p k)) first (length (arguments_of p k)) in
       let moved = rest_true (rule_arguments p sh (arguments_of p k) first) _ (rest_true targets _ needs) in
-      rw quiet at moved.0
+      rw quiet at moved.1.0
 
   untrapped : (pc : ℕ) (sh : Shape) (target : Target) (k first c : ℕ) → AllTrue (rule_needs p m pc sh (Trap target k first c)) → ⊥
   untrapped pc sh target k first c needs = true≢false (sym needs.0 ∙ ap not quiet)
@@ -125,14 +125,11 @@ module _ (p : Image) (m : ℕ) (linked : IsLinked p) (quiet : is_quiet p m ≡ t
 
   after_none : (pc : ℕ) (sh : Shape) (news : News) → IsQuietly (Goes_on news) → sh.entries ≡ [] → length (after p m pc sh news).entries ≤ 0
   unfolding IsQuietly
-  after_none pc sh (Pushed r) q none = absurd q
-  after_none pc sh Pushed_operation q none = absurd q
   after_none pc sh (Popped r) q none = top_low sh.entries none
   after_none pc sh Dropped q none = top_low sh.entries none
   after_none pc sh (Called target k first c) q none =
-      omega (arith, brings_none (gives_of p k) c (lasting p m pc sh target k first) (quiet_keeps p k linked q), lasting_has target (method_class p k) (arguments_of p k) first sh, low none)
-  after_none pc sh (Caught target k first c) q none = absurd q
-  after_none pc sh _ q none = low none
+      omega (arith, brings_none (gives_of p k) c (lasting p m pc sh target k first (after_of p k)) (quiet_keeps p k linked q), lasting_has target (method_class p k) (after_of p k) (arguments_of p k) first sh, low none)
+  after_none pc sh _ q none = search (low none)
 
   ways_none : (pc : ℕ) (sh : Shape) (ways : Ways) → IsQuietly ways → sh.entries ≡ [] → HaveAtMost 0 (flowing p m pc sh ways)
   ways_none pc sh Ends q none = tt
@@ -142,6 +139,7 @@ module _ (p : Image) (m : ℕ) (linked : IsLinked p) (quiet : is_quiet p m ≡ t
   ways_none pc sh (Goes_back to) q none = (low none, (low none, tt))
   ways_none pc sh (Branches_on_null r to) q none = null_low pc sh (register sh r) r to none
   ways_none pc sh (Branches_on_empty f to) q none = empty_low pc sh (field sh f) f to none
+  ways_none pc sh (Branches_in there here to) q none = by_states (λ fs. HaveAtMost 0 fs) sh (suc pc) there here to tt (λ s. (low none, tt)) (λ t. (low none, tt)) (λ s t. (low none, (low none, tt)))
 
   stays_low : (pc : ℕ) (sh : Shape) (i : Instr) → AllTrue (rule_needs p m pc sh i) → sh.entries ≡ [] → HaveAtMost 0 (flows p m pc sh i)
   stays_low pc sh i needs none = ways_none pc sh (ways_of p i) (quietly pc sh i needs) none
@@ -168,16 +166,15 @@ at_lowest (x ∷ xs) (suc pc) = at_lowest xs pc
 -- what stands there stood there, with no entries
 stood : (o : Option Shape) (sh : Shape) → lowest_at o ≡ Some sh → (o ≡ Some sh) × (sh.entries ≡ [])
 unfolding lowest_at with_none
-stood None sh e = absurd cc
-stood (Some x) sh e = nil_given (λ es. with_none x es ≡ Some sh) x.entries e (λ y ys g. cc) (λ f g. let same : x ≡ sh = cc in (g, rw same at f))
+stood o sh e = some_given (λ x. lowest_at x ≡ Some sh) o e (λ none. cc) (λ x is stays.
+    nil_given (λ es. with_none x es ≡ Some sh) x.entries stays (λ y ys g. cc) (λ f g. let same : x ≡ sh = cc in (is ∙ g, rw same at f)))
 
 stays_there : (sh : Shape) → sh.entries ≡ [] → lowest_at (Some sh) ≡ Some sh
 unfolding lowest_at with_none
 stays_there sh none = ap (with_none sh) none
 
 no_length : (es : List Entry) → length es ≤ 0 → es ≡ []
-no_length [] h = refl
-no_length (e ∷ es) h = absurd (omega (arith, h))
+no_length es h = nil_given (λ xs. length xs ≤ 0) es h (λ x xs some. omega (arith, some)) (λ e none. e)
 
 meets_lowest : (s : Shapes) (to : ℕ) (sh : Shape) → length sh.entries ≤ 0 → Meets s to sh → Meets (lowest s) to sh
 meets_lowest s to sh few h = record {
@@ -214,8 +211,9 @@ stands_lowest p m place sh linked quiet h =
 -- ---- heights
 
 entered_quiet : (p : Image) (m pc : ℕ) (sh : Shape) (i : Instr) (k : ℕ) → IsLinked p → is_quiet p m ≡ true → Enters i k → AllTrue (rule_needs p m pc sh i) → is_quiet p k ≡ true
-entered_quiet p m pc sh (Call target k' first c) k linked quiet enters needs = rw enters at (callee_quiet p m linked quiet pc sh target k' first c needs)
-entered_quiet p m pc sh _ k linked quiet enters needs = absurd (first_of (assumption tt, cc))
+entered_quiet p m pc sh i k linked quiet enters needs = by_entering k (λ j. AllTrue (rule_needs p m pc sh j) → is_quiet p k ≡ true)
+    (λ target first c rule. callee_quiet p m linked quiet pc sh target k first c rule)
+    (λ target first c rule. absurd (untrapped p m linked quiet pc sh target k first c rule)) i enters needs
 
 called_quiet : (p : Image) (m k h : ℕ) → IsLinked p → is_quiet p m ≡ true → CallsOver p m k h → is_quiet p k ≡ true
 called_quiet p m k h linked quiet call =

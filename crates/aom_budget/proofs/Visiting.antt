@@ -1,5 +1,5 @@
 -- One place more of a pass, with the loops that it is in.
-use Rattle.std.proofs.Common.{◌≡◌, ◌≢◌, ℕ, suc, ◌<◌, ◌≤◌, ◌+◌, ◌-◌, ◌*◌, List, length, replicate, Option, Some, None, IsSome, slice_set, refl, sym, ap, ◌∙◌, subst, arith}
+use Rattle.std.proofs.Common.{◌≡◌, ◌≢◌, ℕ, suc, ◌<◌, ◌≤◌, ◌+◌, ◌-◌, ◌*◌, List, length, replicate, Option, Some, None, IsSome, slice_set, sym, ap, ◌∙◌, subst, arith}
 use Rattle.std.specs.Prelude.{max}
 use Rattle.std.proofs.lemmas.List.{length-set, length-replicate}
 use Rattle.aom_image.specs.Image.{Image}
@@ -17,7 +17,7 @@ use Rattle.aom_verify.specs.Strongest.{IsMethodStrongest}
 use Rattle.aom_verify.specs.Sweep.{HasPlaces}
 use Rattle.aom_verify.proofs.Visiting.{has_instr}
 use Rattle.aom_prices.specs.Costs.{Region, Whole, Round}
-use Rattle.aom_prices.proofs.Regions.{one_end}
+use Rattle.aom_prices.proofs.Regions.{by_kind, next_is_no_loop, one_end}
 use Rattle.aom_budget.specs.Pricing.{AreKept, kept, after_in, Follows, IsPassing, region_of, found_by, plain_cost}
 use Rattle.aom_budget.specs.declared.pass.Round as rounds
 use Rattle.aom_budget.proofs.Passing.{Extends}
@@ -30,14 +30,11 @@ instr_there p m n place h within =
     has_instr p m (replicate n None) place (record { method = h.method; is = h.is; size = size ∙ h.size }) (omega (arith, within, size))
 
 pub no_loop : (i : Instr) → ((d n : ℕ) → i ≢ Loop d n) → loop_in (Some i) ≡ None
-unfolding loop_in
-no_loop (Loop d n) h = absurd (h d n refl)
-no_loop _ h = refl
+no_loop i h = by_kind (loop_in (Some i) ≡ None) i (λ loop next. loop) (λ d n e. absurd (h d n e)) (next_is_no_loop i)
 
 pub no_next : (i : Instr) → ((d to : ℕ) → i ≢ Next d to) → next_in (Some i) ≡ None
 unfolding next_in
-no_next (Next d to) h = absurd (h d to refl)
-no_next _ h = refl
+no_next i h = by_kind (next_in (Some i) ≡ None) i (λ loop next. next) (λ d n e. ap (λ j. next_in (Some j)) e) (λ d to e. absurd (h d to e))
 
 low_in : (after : List ℕ) (r : Region) → AreKept after → after_in after r ≤ 4294967296
 low_in after Whole low = omega arith
@@ -51,7 +48,7 @@ module _ (p : Image) (prices : List ℕ) (m : ℕ) (s : Shapes) (looped : IsLoop
 
       pub visit_plain :
           (i : Instr) → instr_at p m x ≡ Some i → loop_in (Some i) ≡ None → next_in (Some i) ≡ None → after' ≡ after →
-          ((sh : Shape) → at None s x ≡ Some sh → at 0 from' x ≡ plain_cost p prices (found_by from after) (region_of inner) x sh i) →
+          ((sh : Shape) → at None s x ≡ Some sh → at 0 from' x ≡ plain_cost p m prices (found_by from after) (region_of inner) x sh i) →
           IsPassing p prices m s x from' after' inner around
       visit_plain i stands no_loop no_next same value =
           let within = within_plain p m looped x i inner around stands no_loop no_next h.within in

@@ -1,12 +1,14 @@
 -- What the pass over a method says of its places while it is made, the last place first, and what the walk says of prices.
-use Rattle.std.specs.Prelude.{ℕ, suc, ◌+◌, ◌-◌, ◌≡◌, ◌≤◌, ◌<◌, min, max, nat_lt, cond, List, [], ◌∷◌, Option, Some, None, IsSome, length}
+use Rattle.std.specs.Prelude.{ℕ, suc, ◌+◌, ◌-◌, ◌≡◌, ◌==◌, ◌≤◌, ◌<◌, min, max, nat_lt, cond, List, [], ◌∷◌, ◌++◌, bit_and, Option, Some, None, IsSome, length}
 use Rattle.aom_image.specs.Image.{Image}
-use Rattle.aom_image.specs.Views.{instr_at, method_at}
+use Rattle.aom_image.specs.Views.{instr_at, method_at, method_class}
 use Rattle.aom_instructions.specs.declared.instr.Instr.{Instr}
-use Rattle.aom_instructions.specs.declared.instr.Instr.TheVariants.{Call, Trap, Push, PushOperation, Delete, Jump, JumpEqual, JumpLess, JumpNull, JumpEmpty, Next, Return, Leave}
+use Rattle.aom_instructions.specs.declared.instr.Instr.TheVariants.{Call, Cancel, Trap, Push, PushOperation, Delete, Jump, JumpEqual, JumpLess, JumpNull, JumpEmpty, JumpActive, JumpAdded, Next, Return, Leave}
 use Rattle.aom_image.specs.declared.method.Thing.{Thing}
 use Rattle.aom_classes.specs.Bodies.{Body, IsIn}
 use Rattle.aom_classes.specs.Roles.{destructor_of}
+use Rattle.aom_roles.specs.States.{unlisted}
+use Rattle.aom_rules.specs.Requests.{enlisted, inactive, outstanding}
 use Rattle.aom_shape.specs.Kinds.{register, field}
 use Rattle.aom_shape.specs.Shape.{Shape}
 use Rattle.aom_shape.specs.Tables.{at}
@@ -22,7 +24,7 @@ use Rattle.aom_prices.specs.Prices.{Prices, price}
 use Rattle.aom_prices.specs.Costs.{Region, Whole, Round, ArePrices, destructor_price}
 use Rattle.aom_prices.specs.Layers.{ArePricesUpTo}
 use Rattle.aom_prices.specs.Sweeping.{Afters, IsInnermost, IsSweptFrom, is_past}
-use Rattle.aom_budget.specs.Calls.{Among}
+use Rattle.aom_budget.specs.Calls.{Among, cancel_of}
 use Rattle.aom_budget.specs.Extents.{IsMost, Before}
 use Rattle.aom_budget.specs.declared.pass.Round as rounds
 
@@ -51,14 +53,15 @@ kind_by p prices Null = 0
 kind_by p prices (Own t a) = destruction_by p prices t
 kind_by p prices (Maybe t a) = destruction_by p prices t
 
--- what an instruction costs itself
-abbrev pub own_by : Image → List ℕ → Shape → Instr → ℕ
-own_by p prices sh (Call target k first x) = 1 + at 0 prices k
-own_by p prices sh (Trap target k first x) = 1 + at 0 prices k
-own_by p prices sh (PushOperation a k) = 1 + at 0 prices k
-own_by p prices sh (Push a) = 1 + kind_by p prices (register sh a)
-own_by p prices sh (Delete a) = 1 + kind_by p prices (register sh a)
-own_by p prices sh _ = 1
+-- what an instruction of a method costs itself
+abbrev pub own_by : Image → (m : ℕ) → List ℕ → Shape → Instr → ℕ
+own_by p m prices sh (Call target k first x) = 1 + at 0 prices k
+own_by p m prices sh (Trap target k first x) = 1 + at 0 prices k
+own_by p m prices sh (PushOperation a k) = 1 + at 0 prices k
+own_by p m prices sh (Push a) = 1 + kind_by p prices (register sh a)
+own_by p m prices sh (Delete a) = 1 + kind_by p prices (register sh a)
+own_by p m prices sh Cancel = 1 + price_by prices (cancel_of p (method_class p m))
+own_by p m prices sh _ = 1
 
 -- ---- places
 
@@ -74,6 +77,10 @@ empty_targets next Empty to = to ∷ []
 empty_targets next Full to = next ∷ []
 empty_targets next Perhaps to = next ∷ to ∷ []
 
+-- at the next place in the first states, at that place in the others, and nowhere where there are none
+abbrev pub states_targets : (next here to there : ℕ) → List ℕ
+states_targets next here to there = cond (here == 0) [] (next ∷ []) ++ cond (there == 0) [] (to ∷ [])
+
 -- where an instruction whose rule applies goes on
 abbrev pub targets_of : ℕ → Shape → Instr → List ℕ
 targets_of place sh (Jump to) = to ∷ []
@@ -81,6 +88,8 @@ targets_of place sh (JumpEqual a b to) = suc place ∷ to ∷ []
 targets_of place sh (JumpLess a b to) = suc place ∷ to ∷ []
 targets_of place sh (JumpNull a to) = null_targets (suc place) (register sh a) to
 targets_of place sh (JumpEmpty f to) = empty_targets (suc place) (field sh f) to
+targets_of place sh (JumpActive to) = states_targets (suc place) (bit_and sh.states inactive) to (bit_and sh.states outstanding)
+targets_of place sh (JumpAdded to) = states_targets (suc place) (bit_and sh.states unlisted) to (bit_and sh.states enlisted)
 targets_of place sh (Next d to) = to ∷ suc place ∷ []
 targets_of place sh (Return a) = []
 targets_of place sh (Leave a) = []
@@ -122,8 +131,8 @@ abbrev pub found_by : List ℕ → List ℕ → Found
 found_by from after = record { from = from; after = after }
 
 -- what a method costs from a plain instruction on, with the dearest way
-abbrev pub plain_cost : Image → List ℕ → Found → Region → ℕ → Shape → Instr → ℕ
-plain_cost p prices found r place sh i = kept (own_by p prices sh i + max (after_in found.after r) (most_to found.from r (targets_of place sh i)))
+abbrev pub plain_cost : Image → (m : ℕ) → List ℕ → Found → Region → ℕ → Shape → Instr → ℕ
+plain_cost p m prices found r place sh i = kept (own_by p m prices sh i + max (after_in found.after r) (most_to found.from r (targets_of place sh i)))
 
 -- the most that follows a loop: so much after the one round it, or what its body goes out to
 pub record Follows (p : Image) (m : ℕ) (s : Shapes) (from : List ℕ) (outside first last n : ℕ) : Type 0 where

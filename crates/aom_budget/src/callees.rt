@@ -16,7 +16,8 @@ pub(crate) struct Callees {
     pub(crate) second: Option<MethodNumber>,
 }
 
-fn cancel_of(linked: &Linked, class: Option<ClassNumber>) -> Option<MethodNumber>
+/// The method that cancels the request of an object of that class.
+pub(crate) fn cancel_of(linked: &Linked, class: Option<ClassNumber>) -> Option<MethodNumber>
     ensures { result ≡ cancel_of linked.now class }
 {
     match class {
@@ -45,7 +46,7 @@ fn object_class(kind: Kind) -> Option<ClassNumber>
 }
 
 #[tactic(auto, unfolding(aom_image::specs::Views::class_in, aom_image::specs::Views::method_at))]
-fn class_of(linked: &Linked, method: MethodNumber) -> Option<ClassNumber>
+pub(crate) fn class_of(linked: &Linked, method: MethodNumber) -> Option<ClassNumber>
     ensures { result ≡ method_class linked.now method }
 {
     let methods = linked.image().methods();

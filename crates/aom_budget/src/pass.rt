@@ -8,8 +8,9 @@ ghost use Rattle.aom_verify.specs.Strongest.{IsMethodStrongest};
 ghost use Rattle.aom_verify.specs.Sweep.{HasPlaces};
 ghost use Rattle.aom_budget.specs.Calls.{listed};
 ghost use Rattle.aom_budget.specs.Extents.{IsMost, Before};
-ghost use Rattle.aom_budget.specs.Pricing.{kept, destruction_by, kind_by, own_by, after_in, most_to, most_past, ExitsAt, Follows, IsPassing, IsMethodPriced, found_by, plain_cost, region_of};
+ghost use Rattle.aom_budget.specs.Pricing.{kept, destruction_by, kind_by, own_by, after_in, most_to, most_past, ExitsAt, Follows, IsPassing, IsMethodPriced, found_by, plain_cost, price_by, region_of};
 
+use crate::callees::{cancel_of, class_of};
 use crate::sums::{Sums, kept};
 use crate::targets::Targets;
 use aom_classes::Linked;
@@ -193,12 +194,13 @@ impl Pass {
         &self,
         linked: &Linked,
         prices: &Sums,
+        method: MethodNumber,
         sheet: &Sheet,
         place: usize,
         instr: &Instr,
     ) -> u64
         requires { suc place < 2 ^ 64 }
-        ensures is { (sh : Shape) → at None sheet.now place ≡ Some sh → result ≡ plain_cost linked.now prices.now (found_by self.now.from self.now.after) (region_of self.now.innermost) place sh instr.now }
+        ensures is { (sh : Shape) → at None sheet.now place ≡ Some sh → result ≡ plain_cost linked.now method prices.now (found_by self.now.from self.now.after) (region_of self.now.innermost) place sh instr.now }
         ensures low { result ≤ 4294967296 }
     {
         match sheet.shape(place) {
@@ -207,7 +209,7 @@ impl Pass {
                 let onward = self
                     .after_in(self.innermost)
                     .max(self.most_within(Targets::of_instr(place, &shape, instr)));
-                kept(cost_of(linked, prices, &shape, instr) + onward)
+                kept(cost_of(linked, prices, method, &shape, instr) + onward)
             }
         }
     }
@@ -265,7 +267,7 @@ impl Pass {
                 self.note(sheet, place, cost);
             }
             _ => {
-                let cost = self.plain(linked, prices, sheet, place, &instr);
+                let cost = self.plain(linked, prices, method, sheet, place, &instr);
                 self.note(sheet, place, cost);
             }
         }
@@ -311,9 +313,26 @@ fn kind_cost(linked: &Linked, prices: &Sums, kind: Kind) -> u64
     }
 }
 
-/// What an instruction costs itself, by the prices of the lower methods.
-fn cost_of(linked: &Linked, prices: &Sums, shape: &Shape<'_>, instr: &Instr) -> u64
-    ensures is { result ≡ own_by linked.now prices.now shape.now instr.now }
+/// What a method costs, if there is one.
+fn perhaps_cost(prices: &Sums, method: Option<MethodNumber>) -> u64
+    ensures is { result ≡ price_by prices.now method }
+    ensures low { result ≤ 4294967296 }
+{
+    match method {
+        Some(method) => prices.at(method.number() as usize),
+        None => 0,
+    }
+}
+
+/// What an instruction of a method costs itself, by the prices of the lower methods.
+fn cost_of(
+    linked: &Linked,
+    prices: &Sums,
+    method: MethodNumber,
+    shape: &Shape<'_>,
+    instr: &Instr,
+) -> u64
+    ensures is { result ≡ own_by linked.now method prices.now shape.now instr.now }
     ensures low { result ≤ 4294967297 }
 {
     match *instr {
@@ -323,6 +342,7 @@ fn cost_of(linked: &Linked, prices: &Sums, shape: &Shape<'_>, instr: &Instr) -> 
         Instr::Push(register) | Instr::Delete(register) => {
             1 + kind_cost(linked, prices, shape.register(register))
         }
+        Instr::Cancel => 1 + perhaps_cost(prices, cancel_of(linked, class_of(linked, method))),
         _ => 1,
     }
 }

@@ -1,10 +1,12 @@
 //! Where an instruction goes on.
 ghost use Rattle.std.specs.Prelude.{◌≡◌, ◌++◌, [], ◌∷◌, ◌<◌, ◌^◌, suc};
 ghost use Rattle.aom_budget.specs.Calls.{listed};
-ghost use Rattle.aom_budget.specs.Pricing.{null_targets, empty_targets, targets_of};
+ghost use Rattle.aom_budget.specs.Pricing.{null_targets, empty_targets, states_targets, targets_of};
 
-use aom_image::Instr;
+use aom_image::{Instr, States};
+use aom_rules::{enlisted, inactive, outstanding};
 use aom_shape::{Filling, Kind, Shape};
+use bitflags::Flags;
 
 /// At most two places.
 #[derive(Clone, Copy)]
@@ -62,6 +64,18 @@ impl Targets {
         }
     }
 
+    /// The next place in the first states, and that place in the others. A place for which there is no state is left out.
+    fn of_states(next: usize, here: States, to: usize, there: States) -> Targets
+        ensures { listed result.first ++ listed result.second ≡ states_targets next here.0 to there.0 }
+    {
+        match (here.is_empty(), there.is_empty()) {
+            (false, false) => Targets::two(next, to),
+            (false, true) => Targets::one(next),
+            (true, false) => Targets::one(to),
+            (true, true) => Targets::none(),
+        }
+    }
+
     /// The places at which a run may go on from one, by what is known there.
     pub(crate) fn of_instr(place: usize, shape: &Shape<'_>, instr: &Instr) -> Targets
         requires { suc place < 2 ^ 64 }
@@ -78,6 +92,16 @@ impl Targets {
             }
             Instr::JumpEmpty(field, to) => {
                 Targets::of_empty(next, shape.field(field), to.number() as usize)
+            }
+            Instr::JumpActive(to) => {
+                let here = shape.states().intersection(inactive());
+                let there = shape.states().intersection(outstanding());
+                Targets::of_states(next, here, to.number() as usize, there)
+            }
+            Instr::JumpAdded(to) => {
+                let here = shape.states().intersection(States::UNLISTED);
+                let there = shape.states().intersection(enlisted());
+                Targets::of_states(next, here, to.number() as usize, there)
             }
             Instr::Next(_, to) => Targets::two(to.number() as usize, next),
             Instr::Return(_) | Instr::Leave(_) => Targets::none(),

@@ -1,7 +1,7 @@
 -- How the bodies of loops lie in a linked image: what jumps, nexts and nesting give.
-use Rattle.std.proofs.Common.{◌≡◌, ◌≢◌, ◌<◌, ◌≤◌, ◌∙◌, ℕ, suc, length, Option, Some, IfSome, IsTrue, slice_get, ⊎_elim, ap, sym, refl, subst, arith}
+use Rattle.std.proofs.Common.{◌≡◌, ◌≢◌, ◌<◌, ◌≤◌, ◌∙◌, ℕ, suc, length, Some, IfSome, IsTrue, slice_get, ⊎_elim, ap, sym, refl, subst, arith}
 use Rattle.std.proofs.lemmas.Bool.{cases_lt}
-use Rattle.std.proofs.lemmas.Option.{slice_get_within, same_Some}
+use Rattle.std.proofs.lemmas.Option.{slice_get_within}
 use Rattle.aom_image.specs.Image.{Image}
 use Rattle.aom_image.specs.Views.{instr_at, instr_in, method_at}
 use Rattle.aom_instructions.specs.Fits.{InstrFits, limits}
@@ -11,25 +11,11 @@ use Rattle.aom_instructions.specs.declared.instr.Instr.TheVariants.{Loop, Next}
 use Rattle.aom_image.specs.declared.method.Method.{Method}
 use Rattle.aom_classes.specs.Jumps.{Body as Body_in, JumpsWell, StaysOut, back_of, begins_loop, jump_of}
 use Rattle.aom_classes.specs.Linked.{IsLinked}
-use Rattle.aom_classes.specs.Loops.{Closes, Ending, LoopsNest, loop_at, loop_in, next_in}
+use Rattle.aom_classes.specs.Loops.{Closes, LoopsNest, loop_at, loop_in, next_in}
 use Rattle.aom_classes.proofs.Facts.{all_there, at_place, of_method}
 use Rattle.aom_classes.proofs.Nested.{back_of_closed, closed_by, deeper}
 use Rattle.aom_classes.specs.Bodies.{Body, IsIn, IsLooped}
-
--- a loop of that number begins there
-loop_there : (o : Option Instr) (d : ℕ) → loop_in o ≡ Some d → (n : ℕ) × (o ≡ Some (Loop d n))
-unfolding loop_in
-loop_there (Some (Loop k n)) d e = let same : k ≡ d = cc in (n, ap (λ x. Some (Loop x n)) same)
-loop_there _ d e = cc
-
-next_there : (o : Option Instr) (d t : ℕ) → next_in o ≡ Some (record { number = d; back = t }) → o ≡ Some (Next d t)
-unfolding next_in
-next_there (Some (Next k u)) d t e =
-    let one = same_Some (record { number = k; back = u }) (record { number = d; back = t }) e in
-    let number : k ≡ d = ap (λ (x : Ending). x.number) one in
-    let back : u ≡ t = ap (λ (x : Ending). x.back) one in
-    cc
-next_there _ d t e = cc
+use Rattle.aom_classes.proofs.LoopPlaces.{loop_there, next_there}
 
 -- the bodies of a method that is there
 module _ (p : Image) (formed : WellFormed p) (linked : IsLinked p) (m : ℕ) (k : Method) (here : method_at p m ≡ Some k) where

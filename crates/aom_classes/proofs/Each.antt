@@ -2,11 +2,11 @@
 use Rattle.std.proofs.Common.{sym, ◌∙◌, ◌≡◌, zero, suc, Bool, true, false, ◌&&◌, List, [], ◌∷◌, IsTrue, ◌↔◌, refl}
 use Rattle.std.specs.List.{list_all}
 use Rattle.aom_classes.specs.Admitted.{EachPasses}
+use Rattle.aom_image.proofs.Given.{true_given}
 pub use Rattle.aom_roles.proofs.Each.{EachBelow, each_more, each_all}
 
 pub both : (a b : Bool) → IsTrue (a && b) → IsTrue a × IsTrue b
-both true b h = (refl, h)
-both false b h = cc
+both a b h = true_given (λ x. IsTrue (x && b)) a h (λ none. cc) (λ first second. (first, second))
 
 pub join : (a b : Bool) → IsTrue a → IsTrue b → IsTrue (a && b)
 join true b h k = k

@@ -1,6 +1,7 @@
 pub mod Bodies
 pub mod Each
 pub mod Facts
+pub mod LoopPlaces
 pub mod Nested
 pub mod Nesting
 pub mod Playing

@@ -10,6 +10,7 @@ use Rattle.aom_instructions.specs.declared.instr.Instr.{Instr}
 use Rattle.aom_instructions.specs.declared.instr.Instr.TheVariants.{Loop, Next}
 use Rattle.aom_classes.specs.Loops.{loop_in, loop_at, Ending, next_in, next_at, Closes, ClosesSome, ApartOrWithin, is_loop, is_next, begun, ended, LoopsNest}
 use Rattle.aom_classes.specs.Scanning.{Enters, Leaves, Passes}
+use Rattle.aom_image.proofs.Given.{nil_given}
 
 -- ---- lists
 
@@ -18,10 +19,10 @@ at_or_before p i h = ⊎_elim (λ lt. inl lt) (λ ge. inr (omega arith)) (cases_
 
 -- a place of a list with one more element
 last_get : (xs : List ℕ) (x k p : ℕ) → slice_get (xs ++ x ∷ []) k ≡ Some p → (slice_get xs k ≡ Some p) ⊎ ((k ≡ length xs) × (p ≡ x))
-last_get [] x zero p e = inr (refl, cc)
-last_get [] x (suc k) p e = absurd (cc)
 last_get (y ∷ xs) x zero p e = inl e
 last_get (y ∷ xs) x (suc k) p e = ⊎_elim (λ h. inl h) (λ h. inr (ap suc h.0, h.1)) (last_get xs x k p e)
+last_get [] x zero p e = inr (refl, cc)
+last_get _ x k p e = absurd (cc)
 
 keep_get : (xs : List ℕ) (x k p : ℕ) → slice_get xs k ≡ Some p → slice_get (xs ++ x ∷ []) k ≡ Some p
 keep_get [] x k p e = absurd (cc)
@@ -309,10 +310,9 @@ none_open code i (p ∷ s) le h nest =
     absurd (omega arith)
 
 -- what was gone over whole, with no loop open, nests
-pub nests : (code : List Instr) (i : ℕ) (s : List ℕ) → length code ≤ i → length s ≡ 0 → Scanned code i s → LoopsNest code
+all_closed : (code : List Instr) (i : ℕ) → length code ≤ i → Scanned code i [] → LoopsNest code
 unfolding next_in
-nests code i (p ∷ s) le none h = absurd (omega (arith, none))
-nests code i [] le none h = record {
+all_closed code i le h = record {
   closed = λ p d e. ⊎_elim
       (λ (o : slice_get [] d ≡ Some p). absurd (cc))
       (λ (b : ClosedBefore code i d p). record { place = b.place; closes = b.closes; only = λ q c. b.only q (let w = next_within code q _ c.ends in omega arith) c })
@@ -324,3 +324,6 @@ nests code i [] le none h = record {
   nested = λ c d p q r t one other lt. h.apart c d p q r t one other (let w = next_within code q _ one.ends in omega arith) (let w = next_within code t _ other.ends in omega arith) lt;
   number = λ p d e. h.number p d (let w = loop_within code p d e in omega arith) e;
 }
+
+pub nests : (code : List Instr) (i : ℕ) (s : List ℕ) → length code ≤ i → length s ≡ 0 → Scanned code i s → LoopsNest code
+nests code i s le none h = nil_given (λ r. length r ≡ 0) s none (λ x r some. omega (arith, some)) (λ is e. all_closed code i le (subst (Scanned code i) is h))

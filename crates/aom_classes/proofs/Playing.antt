@@ -1,5 +1,5 @@
 -- What is known of the methods that the searches by role answer.
-use Rattle.std.proofs.Common.{◌≡◌, ◌∙◌, ℕ, List, [], ◌∷◌, Bool, true, Option, Some, None, slice_get, get_or, position, refl, sym, ap}
+use Rattle.std.proofs.Common.{◌≡◌, ◌∙◌, ℕ, List, [], ◌∷◌, Bool, true, Option, Some, slice_get, get_or, position, refl, sym, ap}
 use Rattle.std.proofs.lemmas.Bool.{eqb-true}
 use Rattle.std.proofs.lemmas.Option.{slice_get-get_or}
 use Rattle.std.proofs.lemmas.List.Quantifiers.{position-Some}
@@ -8,8 +8,11 @@ use Rattle.aom_image.specs.Views.{method_at}
 use Rattle.aom_image.specs.declared.method.Method.{Method}
 use Rattle.aom_image.specs.declared.method.Role.{Role}
 use Rattle.aom_image.specs.declared.method.Role.TheVariants.{Do, Main, Construct, Destruct, Run, Cancel, Error, Accept, Service, Undo}
-use Rattle.aom_classes.specs.Roles.{is_class, is_main, main_of, plays, role_number, role_of, same_role}
+use Rattle.aom_classes.specs.Roles.{destructor_of, is_class, is_main, main_of, plays, role_number, role_of, same_role}
 use Rattle.aom_classes.proofs.Each.{both}
+use Rattle.aom_image.proofs.Given.{cons_given, some_given}
+use Rattle.aom_image.specs.declared.method.Thing.{Thing}
+use Rattle.aom_image.specs.declared.method.Thing.TheVariants.{Message, Object}
 
 -- the roles by their numbers
 roles : List Role
@@ -37,10 +40,8 @@ same_roles a b e =
 
 -- a place that a search answers has an element that passes
 pub found : {X : Type 0} (test : X → Bool) (xs : List X) (k : ℕ) → position test xs ≡ Some k → (x : X) × (slice_get xs k ≡ Some x) × (test x ≡ true)
-found test [] k e = cc
-found test (x ∷ xs) k e =
-    let w = position-Some test (x ∷ xs) k x e in
-    (get_or (x ∷ xs) k x, slice_get-get_or (x ∷ xs) k x w.0, w.1)
+found test xs k e = cons_given (λ ys. position test ys ≡ Some k) xs e (λ none. cc) (λ x rest is f.
+    let w = position-Some test xs k x e in (get_or xs k x, slice_get-get_or xs k x w.0, w.1))
 
 -- main is a method
 pub main_found : (p : Image) (m : ℕ) → main_of p ≡ Some m → (d : Method) × (method_at p m ≡ Some d) × (d.role ≡ Main)
@@ -48,8 +49,7 @@ unfolding main_of method_at
 main_found p m e = let w = found is_main p.methods m e in (w.0, w.1, same_roles w.0.role Main w.2)
 
 class_is : (c : ℕ) (own : Option ℕ) → is_class c own ≡ true → own ≡ Some c
-class_is c None e = cc
-class_is c (Some k) e = ap (λ n. Some n) (eqb-true k c e)
+class_is c own e = some_given (λ o. is_class c o ≡ true) own e (λ none. cc) (λ k is same. is ∙ ap (λ n. Some n) (eqb-true k c same))
 
 -- and what plays a role in a class is one of its methods
 pub role_found : (p : Image) (c m : ℕ) (r : Role) → role_of p c r ≡ Some m → (d : Method) × (method_at p m ≡ Some d) × (d.class ≡ Some c) × (d.role ≡ r)
@@ -58,3 +58,8 @@ role_found p c m r e =
     let w = found (plays c r) p.methods m e in
     let t = both (is_class c w.0.class) (same_role w.0.role r) w.2 in
     (w.0, w.1, class_is c w.0.class t.0, same_roles w.0.role r t.1)
+
+-- what is destroyed by a method is an object, and the method its class's destructor
+pub destroyed : (p : Image) (x : Thing) (m : ℕ) → destructor_of p x ≡ Some m → (c : ℕ) × (x ≡ Object c) × (role_of p c Destruct ≡ Some m)
+destroyed p (Object c) m e = (c, refl, e)
+destroyed p Message m e = cc

@@ -1,6 +1,6 @@
 -- An image fits its format exactly where it is well formed, its length aside.
-use Rattle.std.proofs.Common.{◌≡◌, ℕ, zero, suc, ◌+◌, ◌<◌, ◌≤◌, Bool, true, false, cond, eqb, ltb, leb, List, [], ◌∷◌, length, All, count_by, Option, Some, None, IfSome, Result, Ok, Err, refl, ap, subst, arith, inl, inr, lit<, lit≤, slice_index_or}
-use Rattle.std.proofs.lemmas.Bool.{ltb-true, lt-ltb}
+use Rattle.std.proofs.Common.{◌≡◌, ℕ, zero, suc, ◌+◌, ◌<◌, ◌≤◌, Bool, true, false, cond, eqb, ltb, leb, List, [], ◌∷◌, length, All, count_by, Option, Some, None, IfSome, Result, Ok, Err, refl, ap, subst, arith, inl, inr, lit<, lit≤, slice_index_or, sym, ◌∙◌}
+use Rattle.std.proofs.lemmas.Bool.{ltb-true, lt-ltb, cases_Bool, cond-true, cond-false}
 use Rattle.std.proofs.lemmas.Bool.Decides.{nat_tests}
 use Rattle.std.proofs.lemmas.List.Elements.{All-nil, All-cons}
 use Rattle.std.proofs.lemmas.List.Sums.{sum_by-cons}
@@ -30,17 +30,19 @@ use Rattle.aom_image.specs.declared.method.MethodFlags.{MethodFlags}
 use Rattle.aom_image.specs.declared.method.States.{States}
 use Rattle.aom_image.specs.declared.method.Method.{Method}
 use Rattle.aom_codec.proofs.Lengths.{head_of, rest_of}
-use Rattle.aom_codec.proofs.Laws.{bind_ok, guard_ok, ok_is}
-use Rattle.aom_codec.proofs.Returning.{took, index_returns}
+use Rattle.aom_codec.proofs.Laws.{guard_ok, FitEach, fit_each, no_more, one_more, marked_or, made_of, kept}
+use Rattle.aom_codec.proofs.Returning.{index_returns}
 use Rattle.aom_codec.proofs.Formats.{between_true, between_is}
 use Rattle.aom_codec.proofs.InstructionFits.{in_range, fits}
 
 -- ---- lists
 
 all_fit : {X : Type 0} (c : Codec X) (n : ℕ) (xs : List X) → FitMany (always c) keep tt n xs → All c.Fits xs
-all_fit c zero [] f = All-nil c.Fits
-all_fit c (suc n) (x ∷ xs) f = All-cons c.Fits x xs f.0 (all_fit c n xs f.1)
-all_fit c _ _ f = absurd f
+all_fit {X} c n xs fits = by_each n xs (fit_each (always c) keep tt n xs fits)
+  where
+    by_each : (n : ℕ) (xs : List X) → FitEach (always c) keep tt n xs → All c.Fits xs
+    by_each _ _ no_more = All-nil c.Fits
+    by_each _ _ (one_more {n = n} x xs here more) = All-cons c.Fits x xs here (by_each n xs more)
 
 fit_all : {X : Type 0} (c : Codec X) (xs : List X) → All c.Fits xs → FitMany (always c) keep tt (length xs) xs
 fit_all c [] h = tt
@@ -69,16 +71,13 @@ eqb_below n m lt = grind (arith, nat_tests, lt)
 leb_below : (n m : ℕ) → n < m → leb m n ≡ false
 leb_below n m lt = grind (arith, nat_tests, lt)
 
+-- what stands for a class is below their number
+in_classes : (classes n c : ℕ) → index_from classes n ≡ Ok c → c < classes
+in_classes classes n c e = let i = index_returns classes n c e in omega (arith, i.0, i.1)
+
 class_in : (classes n : ℕ) (y : Option ℕ) → class_from classes n ≡ Ok y → IfSome y (λ c. c < classes)
 class_in classes n y e =
-    elim (took (eqb n 0xffff) (Ok None) (index_from classes n >>= λ c. Ok (Some c)) y e) [
-      | inl h ↦ subst (λ (o : Option ℕ). IfSome o (λ c. c < classes)) (ok_is None y h.1) tt
-      | inr h ↦
-          let b = bind_ok (index_from classes n) (λ c. Ok (Some c)) y h.1 in
-          let i = index_returns classes n b.0 b.1 in
-          let lt : b.0 < classes = omega (arith, i.0, i.1) in
-          subst (λ (o : Option ℕ). IfSome o (λ c. c < classes)) (ok_is (Some b.0) y b.2) lt
-    ]
+    marked_or (λ (o : Option ℕ). IfSome o (λ c. c < classes)) (eqb n 0xffff) None (index_from classes n) (λ c. Some c) y (λ is. tt) (in_classes classes n) e
 
 class_number_fits : (classes : ℕ) (y : Option ℕ) → classes ≤ 256 → IfSome y (λ c. c < classes) → (class_or_none classes).Fits y
 class_number_fits classes None few h = (lit< tt, refl)
@@ -87,15 +86,7 @@ class_number_fits classes (Some c) few h =
     (omega arith, rw (eqb_below c 0xffff lt, index_is classes c h) refl)
 
 thing_in : (classes n : ℕ) (y : Thing) → thing_from classes n ≡ Ok y → ThingFits classes y
-thing_in classes n y e =
-    elim (took (eqb n 0xfffe) (Ok Message) (index_from classes n >>= λ c. Ok (Object c)) y e) [
-      | inl h ↦ subst (ThingFits classes) (ok_is Message y h.1) tt
-      | inr h ↦
-          let b = bind_ok (index_from classes n) (λ c. Ok (Object c)) y h.1 in
-          let i = index_returns classes n b.0 b.1 in
-          let lt : b.0 < classes = omega (arith, i.0, i.1) in
-          subst (ThingFits classes) (ok_is (Object b.0) y b.2) lt
-    ]
+thing_in classes n y e = marked_or (ThingFits classes) (eqb n 0xfffe) Message (index_from classes n) (λ c. Object c) y (λ is. tt) (in_classes classes n) e
 
 thing_is : (classes : ℕ) (t : Thing) → classes ≤ 256 → ThingFits classes t → thing_from classes (thing_number t) ≡ Ok t
 thing_is classes (Object c) few h = let lt : c < 0xfffe = omega arith in rw (eqb_below c 0xfffe lt, index_is classes c h) refl
@@ -110,12 +101,7 @@ thing_number_fits classes t few h = (omega (arith, thing_small classes t few h),
 
 argument_in : (classes n : ℕ) (y : Argument) → argument_from classes n ≡ Ok y → ArgumentFits classes y
 argument_in classes n y e =
-    elim (took (eqb n 0xffff) (Ok arguments.Word) (thing_from classes n >>= λ t. Ok (arguments.Own t)) y e) [
-      | inl h ↦ subst (ArgumentFits classes) (ok_is arguments.Word y h.1) tt
-      | inr h ↦
-          let b = bind_ok (thing_from classes n) (λ t. Ok (arguments.Own t)) y h.1 in
-          subst (ArgumentFits classes) (ok_is (arguments.Own b.0) y b.2) (thing_in classes n b.0 b.1)
-    ]
+    marked_or (ArgumentFits classes) (eqb n 0xffff) arguments.Word (thing_from classes n) (λ t. arguments.Own t) y (λ is. tt) (thing_in classes n) e
 
 argument_number_fits : (classes : ℕ) (a : Argument) → classes ≤ 256 → ArgumentFits classes a → (argument classes).Fits a
 argument_number_fits classes arguments.Word few h = (lit< tt, refl)
@@ -124,18 +110,10 @@ argument_number_fits classes (arguments.Own t) few h =
     let lt : thing_number t < 0xffff = omega arith in
     (omega arith, rw (eqb_below (thing_number t) 0xffff lt, thing_is classes t few h) refl)
 
-abbrev refused : Result Gives LoadFault
-refused = Err BadOperand
-
 own_in : (classes n : ℕ) (make : Thing → Gives) (y : Gives) → ((t : Thing) → ThingFits classes t → GivesFits classes (make t))
     → cond (eqb n 0xffff) (Err BadOperand) (thing_from classes n >>= λ t. Ok (make t)) ≡ Ok y → GivesFits classes y
-own_in classes n make y kept e =
-    elim (took (eqb n 0xffff) (Err BadOperand) (thing_from classes n >>= λ t. Ok (make t)) y e) [
-      | inl h ↦ absurd (let clash : refused ≡ Ok y = h.1 in cc)
-      | inr h ↦
-          let b = bind_ok (thing_from classes n) (λ t. Ok (make t)) y h.1 in
-          subst (GivesFits classes) (ok_is (make b.0) y b.2) (kept b.0 (thing_in classes n b.0 b.1))
-    ]
+own_in classes n make y fit e =
+    made_of (GivesFits classes) (thing_from classes n) make y (λ t h. fit t (thing_in classes n t h)) (kept (eqb n 0xffff) _ BadOperand y e).1
 
 gives_in : (classes sort n : ℕ) (y : Gives) → sort ≤ 4 → gives_from classes sort n ≡ Ok y → GivesFits classes y
 gives_in classes zero n y low e = subst (GivesFits classes) (guard_ok (eqb n 0xffff) BadOperand gives.Nothing y e).1 tt
@@ -143,14 +121,7 @@ gives_in classes (suc zero) n y low e = subst (GivesFits classes) (guard_ok (eqb
 gives_in classes (suc (suc zero)) n y low e = own_in classes n (λ t. gives.Own t) y (λ t h. h) e
 gives_in classes (suc (suc (suc zero))) n y low e = own_in classes n (λ t. gives.Maybe t) y (λ t h. h) e
 gives_in classes (suc (suc (suc (suc zero)))) n y low e =
-    elim (took (leb 0xfffe n) (Err BadOperand) (index_from classes n >>= λ c. Ok (gives.Left c)) y e) [
-      | inl h ↦ absurd (let clash : refused ≡ Ok y = h.1 in cc)
-      | inr h ↦
-          let b = bind_ok (index_from classes n) (λ c. Ok (gives.Left c)) y h.1 in
-          let i = index_returns classes n b.0 b.1 in
-          let lt : b.0 < classes = omega (arith, i.0, i.1) in
-          subst (GivesFits classes) (ok_is (gives.Left b.0) y b.2) lt
-    ]
+    made_of (GivesFits classes) (index_from classes n) (λ c. gives.Left c) y (in_classes classes n) (kept (leb 0xfffe n) _ BadOperand y e).1
 gives_in classes (suc (suc (suc (suc (suc k))))) n y low e = absurd (omega arith)
 
 gives_number_fits : (classes : ℕ) (y : Gives) → classes ≤ 256 → GivesFits classes y → (result classes (gives_byte y)).Fits y
@@ -214,21 +185,23 @@ class_in_range classes natives servers c f = record {
 abbrev first_ok : ℕ → ClassKind → Bool
 first_ok servers k = cond (eqb (kind_byte k) 2) (ltb servers 8) true
 
+server_sort : (k : ClassKind) → eqb (kind_byte k) 2 ≡ is_server_kind k
+server_sort kinds.Plain = refl
+server_sort _ = refl
+
 first_fits : (servers : ℕ) (k : ClassKind) → (is_server_kind k ≡ true → servers < 8) → first_ok servers k ≡ true
-first_fits servers kinds.Plain h = refl
-first_fits servers (kinds.Active p budget) h = refl
-first_fits servers (kinds.Server sessions session budget) h = lt-ltb servers 8 (h refl)
-first_fits servers kinds.Session h = refl
+first_fits servers k h =
+    elim (cases_Bool (eqb (kind_byte k) 2)) [
+      | inl is ↦ cond-true _ _ _ is ∙ lt-ltb servers 8 (h (sym (server_sort k) ∙ is))
+      | inr is_not ↦ cond-false _ _ _ is_not
+    ]
 
 first_in : (servers : ℕ) (k : ClassKind) → first_ok servers k ≡ true → is_server_kind k ≡ true → servers < 8
-first_in servers (kinds.Server sessions session budget) h is = ltb-true servers 8 h
-first_in servers _ h is = absurd cc
+first_in servers k h is = ltb-true servers 8 (sym (cond-true _ _ _ (server_sort k ∙ is)) ∙ h)
 
 kind_sort_fits : (servers : ℕ) (k : ClassKind) → first_ok servers k ≡ true → (kind_sort servers).Fits (kind_byte k)
 kind_sort_fits servers kinds.Plain h = ((lit< tt, refl), h)
-kind_sort_fits servers (kinds.Active p budget) h = ((lit< tt, refl), h)
-kind_sort_fits servers (kinds.Server sessions session budget) h = ((lit< tt, refl), h)
-kind_sort_fits servers kinds.Session h = ((lit< tt, refl), h)
+kind_sort_fits servers _ h = ((lit< tt, refl), h)
 
 class_fits : (classes natives servers : ℕ) (c : ClassDecl) → classes ≤ 256 → natives ≤ 16 → first_ok servers c.kind ≡ true → ClassFits classes natives c → (class classes natives servers).Fits c
 class_fits classes natives servers c few some_natives first h = (
@@ -263,20 +236,18 @@ next_is false servers = omega arith
 count-cons : (c : ClassDecl) (cs : List ClassDecl) → count_by is_server (c ∷ cs) ≡ cond (is_server c) 1 0 + count_by is_server cs
 count-cons c cs = sum_by-cons (λ x. cond (is_server x) 1 0) c cs
 
-classes_in : (classes natives n servers : ℕ) (cs : List ClassDecl) → servers ≤ 8 → FitMany (class classes natives) count_server servers n cs
+classes_in : (classes natives n servers : ℕ) (cs : List ClassDecl) → servers ≤ 8 → FitEach (class classes natives) count_server servers n cs
     → All (ClassFits classes natives) cs × (servers + count_by is_server cs ≤ 8)
-classes_in classes natives zero servers [] low f = (All-nil (ClassFits classes natives), omega arith)
-classes_in classes natives (suc n) servers (c ∷ cs) low f =
-    let first = first_in servers c.kind f.0.0.0.1 in
-    let rest = classes_in classes natives n (count_server servers c) cs (next_low (is_server c) servers low first) f.1 in (
-      All-cons (ClassFits classes natives) c cs (class_in_range classes natives servers c f.0) rest.0,
+classes_in classes natives _ servers _ low no_more = (All-nil (ClassFits classes natives), omega arith)
+classes_in classes natives _ servers _ low (one_more {n = n} c cs fit more) =
+    let first = first_in servers c.kind fit.0.0.1 in
+    let rest = classes_in classes natives n (count_server servers c) cs (next_low (is_server c) servers low first) more in (
+      All-cons (ClassFits classes natives) c cs (class_in_range classes natives servers c fit) rest.0,
       omega (arith, rest.1, next_is (is_server c) servers, count-cons c cs),
     )
-classes_in classes natives _ servers _ low f = absurd f
 
 some_server : (b : Bool) (servers n : ℕ) → servers + (cond b 1 0 + n) ≤ 8 → b ≡ true → servers < 8
-some_server true servers n h is = omega arith
-some_server false servers n h is = absurd cc
+some_server b servers n h is = omega (arith, ap {B = ℕ} (λ c. cond c 1 0) is)
 
 classes_fit : (classes natives servers : ℕ) (cs : List ClassDecl) → classes ≤ 256 → natives ≤ 16 → All (ClassFits classes natives) cs → servers + count_by is_server cs ≤ 8
     → FitMany (class classes natives) count_server servers (length cs) cs
@@ -293,15 +264,7 @@ classes_fit classes natives servers (c ∷ cs) few some_natives h low =
 role_fits : (r : Role) → role.Fits r
 unfolding role_number
 role_fits roles.Do = (lit< tt, refl)
-role_fits roles.Main = (lit< tt, refl)
-role_fits roles.Construct = (lit< tt, refl)
-role_fits roles.Destruct = (lit< tt, refl)
-role_fits roles.Run = (lit< tt, refl)
-role_fits roles.Cancel = (lit< tt, refl)
-role_fits roles.Error = (lit< tt, refl)
-role_fits roles.Accept = (lit< tt, refl)
-role_fits roles.Service = (lit< tt, refl)
-role_fits roles.Undo = (lit< tt, refl)
+role_fits _ = (lit< tt, refl)
 
 flags_fits : (f : MethodFlags) → f.0 < 4 → flags.Fits f
 flags_fits f h = (omega arith, ap (λ b. cond b (okay f) (Err BadOperand)) (lt-ltb f.0 4 h))
@@ -323,10 +286,7 @@ states_in s h = ltb-true s.0 64 (guard_ok (ltb s.0 64) BadOperand (record { 0 = 
 
 gives_small : (g : Gives) → gives_byte g ≤ 4
 gives_small gives.Nothing = lit≤ tt
-gives_small gives.Word = lit≤ tt
-gives_small (gives.Own t) = lit≤ tt
-gives_small (gives.Maybe t) = lit≤ tt
-gives_small (gives.Left c) = lit≤ tt
+gives_small _ = lit≤ tt
 
 method_in_range : (classes methods : ℕ) (m : Method) → (method classes methods).Fits m → MethodFits classes methods m
 method_in_range classes methods m f =
@@ -392,7 +352,8 @@ image_in_range i f =
     let o = f.0.0.0 in
     let classes = length i.classes in
     let methods = length i.methods in
-    let cs = classes_in classes i.header.natives classes 0 i.classes (omega arith) f.0.1.0 in (
+    let cs = classes_in classes i.header.natives classes 0 i.classes (omega arith)
+    (fit_each (class classes i.header.natives) count_server 0 classes i.classes f.0.1.0) in (
       record {
         cells = (between_true 0 4096 i.header.cells o.1.1.0.1).1;
         messages = (between_true 0 1024 i.header.messages o.1.1.1.0.1).1;

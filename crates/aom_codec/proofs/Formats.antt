@@ -1,6 +1,6 @@
 -- The two laws of each format of an image, from those of its parts.
 use Rattle.std.proofs.lemmas.Option.{same_Some}
-use Rattle.std.proofs.Common.{◌≡◌, ℕ, zero, suc, ◌-◌, ◌<◌, ◌≤◌, Bool, true, false, cond, eqb, ltb, leb, List, [], ◌∷◌, length, Option, Some, None, Ok, refl, sym, ap, subst, ◌∙◌, arith, eqb-true, lit<, ◌&&◌}
+use Rattle.std.proofs.Common.{◌≡◌, ℕ, zero, suc, ◌-◌, ◌<◌, ◌≤◌, Bool, true, false, cond, eqb, ltb, leb, List, [], ◌∷◌, length, Option, Some, Ok, refl, sym, ap, subst, ◌∙◌, arith, eqb-true, lit<, ◌&&◌}
 use Rattle.std.proofs.lemmas.Bool.{leb-true, le-leb, and_parts}
 use Rattle.aom_image.specs.Image.{Image}
 use Rattle.std.specs.List.{find}
@@ -32,10 +32,11 @@ use Rattle.aom_codec.specs.declared.class_reader.Purpose.TheVariants as purposes
 use Rattle.aom_image.specs.declared.method.Method.{Method}
 use Rattle.aom_image.specs.declared.method.Gives.{Gives}
 use Rattle.aom_instructions.specs.declared.instr.Instr.{Instr}
-use Rattle.aom_codec.proofs.Laws.{IsCodec, ok_is, of_byte, of_pair, of_quad, of_fixed, of_checked, of_next, of_after, of_seen, of_choose, of_many_from, of_many, of_unused, unused_fits}
+use Rattle.aom_codec.proofs.Laws.{IsCodec, ok_is, of_byte, of_pair, of_quad, of_fixed, of_checked, of_next, of_after, of_seen, of_choose, of_many_from, of_many, of_unused, unused_fits, FitEach, fit_each, no_more, one_more}
 use Rattle.aom_codec.proofs.Returning.{index_returns, class_returns, thing_returns, argument_returns, role_returns, flags_returns, states_returns, gives_returns, result_number_returns}
 use Rattle.aom_codec.proofs.InstructionFits.{operands_in_range}
 use Rattle.aom_codec.proofs.OperandLaws.{large_reads, small_reads}
+use Rattle.aom_image.proofs.Given.{some_given}
 
 -- ---- numbers that name things
 
@@ -154,9 +155,7 @@ class_parts_laws classes natives servers =
 -- what was read before the budget is what the kind says
 closing_fits : (p : Purpose) (k : ClassKind) → (closing p).Fits k → purpose_of k ≡ p
 closing_fits purposes.Plain k fits = ap purpose_of (sym (ok_is _ k fits.1))
-closing_fits (purposes.Active p) k fits = ap purpose_of (sym (ok_is _ k fits.1))
-closing_fits (purposes.Server sessions session) k fits = ap purpose_of (sym (ok_is _ k fits.1))
-closing_fits purposes.Session k fits = ap purpose_of (sym (ok_is _ k fits.1))
+closing_fits _ k fits = ap purpose_of (sym (ok_is _ k fits.1))
 
 purpose_byte : Purpose → ℕ
 purpose_byte purposes.Plain = 0
@@ -167,9 +166,7 @@ purpose_byte purposes.Session = 3
 purpose_byte-of : (k : ClassKind) → purpose_byte (purpose_of k) ≡ kind_byte k
 unfolding purpose_byte
 purpose_byte-of kinds.Plain = refl
-purpose_byte-of (kinds.Active p budget) = refl
-purpose_byte-of (kinds.Server sessions session budget) = refl
-purpose_byte-of kinds.Session = refl
+purpose_byte-of _ = refl
 
 purpose_fits : (classes natives sort : ℕ) (p : Purpose) → sort ≤ 3 → (purpose classes natives sort).Fits p → purpose_byte p ≡ sort
 unfolding purpose_byte
@@ -180,9 +177,11 @@ purpose_fits classes natives (suc (suc (suc zero))) p small fits = ap purpose_by
 purpose_fits classes natives (suc (suc (suc (suc n)))) p small fits = absurd (omega arith)
 
 pub many_length : {S X : Type 0} (c : S → Codec X) (add : S → X → S) (s : S) (n : ℕ) (xs : List X) → FitMany c add s n xs → length xs ≡ n
-many_length c add s zero [] fits = refl
-many_length c add s (suc n) (x ∷ xs) fits = omega (arith, many_length c add (add s x) n xs fits.1)
-many_length c add s _ _ fits = absurd fits
+many_length {S} {X} c add s n xs fits = by_each s n xs (fit_each c add s n xs fits)
+  where
+    by_each : (s : S) (n : ℕ) (xs : List X) → FitEach c add s n xs → length xs ≡ n
+    by_each s _ _ no_more = refl
+    by_each s _ _ (one_more {n = n} x xs here more) = omega (arith, by_each (add s x) n xs more)
 
 class_laws : (classes natives servers : ℕ) → IsCodec (class classes natives servers)
 class_laws classes natives servers = of_seen _ _ (class_parts classes natives servers)
@@ -219,8 +218,7 @@ found_passes {X} p (y ∷ ys) x e =
     ] refl e
 
 known_ok : (o : Option Mnemonic) (m : Mnemonic) → known o ≡ Ok m → o ≡ Some m
-known_ok None m e = absurd cc
-known_ok (Some k) m e = ap (λ k. Some k) (ok_is k m e)
+known_ok o m e = some_given (λ o. known o ≡ Ok m) o e (λ f. cc) (λ k same f. same ∙ ap Some (ok_is k m f))
 
 opcode_laws : IsCodec opcode
 opcode_laws = of_seen _ _ byte

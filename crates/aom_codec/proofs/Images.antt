@@ -1,5 +1,5 @@
 -- The laws of a whole image: its format's, its length, and that nothing stands after it.
-use Rattle.std.proofs.Common.{◌≡◌, ◌≢◌, ℕ, ◌<◌, ◌≤◌, Bool, true, false, cond, eqb, ltb, List, [], ◌++◌, length, All, Result, Ok, Err, refl, sym, ap, ◌∙◌, arith, ◌⊎◌, inl, inr, eqb-true}
+use Rattle.std.proofs.Common.{◌≡◌, ◌≢◌, ℕ, ◌<◌, ◌≤◌, cond, eqb, ltb, List, [], ◌++◌, length, All, Result, Ok, Err, refl, sym, ap, ◌∙◌, arith, ◌⊎◌, inl, inr, eqb-true}
 use Rattle.std.proofs.lemmas.Bool.{ltb-false, le-ltb, cases_lt}
 use Rattle.std.proofs.lemmas.List.{append-nil, nil_from_length, get_or_past}
 use Rattle.aom_image.specs.Image.{Image}
@@ -8,8 +8,8 @@ use Rattle.aom_image.specs.WellFormed.{WellFormed}
 use Rattle.aom_codec.specs.RoundTrip.{SpellingReadsBack, ReadingSpellsBack}
 use Rattle.aom_codec.specs.Format.{image, whole, read_image}
 use Rattle.aom_codec.specs.declared.fault.LoadFault.{LoadFault}
-use Rattle.aom_codec.specs.declared.fault.LoadFault.TheVariants.{BadMagic, BadVersion, Truncated, Trailing, LimitPassed, BadOpcode, BadOperand, BadIndex, NotZero, OutOfMemory}
-use Rattle.aom_codec.proofs.Laws.{IsBytes, guard_ok, ok_is}
+use Rattle.aom_codec.specs.declared.fault.LoadFault.TheVariants.{Trailing, LimitPassed, OutOfMemory}
+use Rattle.aom_codec.proofs.Laws.{IsBytes, guard_ok, ok_is, kept}
 use Rattle.aom_codec.proofs.Lengths.{length_spell}
 use Rattle.aom_codec.proofs.Formats.{image_laws}
 use Rattle.aom_codec.proofs.Spelled.{image_spelled}
@@ -19,13 +19,9 @@ whole_ok : (r : Result (Image × List ℕ) LoadFault) (x : Image) → whole r �
 whole_ok (Err e) x h = absurd (cc)
 whole_ok (Ok y) x h = let g = guard_ok (eqb (length y.1) 0) Trailing y.0 x h in (y.1, ap (λ k. Ok (k, y.1)) g.1, eqb-true _ _ g.0)
 
-within : (b : Bool) (r : Result Image LoadFault) (x : Image) → cond b (Err LimitPassed) r ≡ Ok x → (b ≡ false) × (r ≡ Ok x)
-within true r x h = absurd cc
-within false r x h = (refl, h)
-
 pub read_takes : (bytes : List ℕ) (i : Image) → IsBytes bytes → read_image bytes ≡ Ok i → WellFormed i × (bytes ≡ spell i)
 read_takes bytes i fits e =
-    let short = within (ltb 1048576 (length bytes)) (whole (image.read bytes)) i e in
+    let short = kept (ltb 1048576 (length bytes)) (whole (image.read bytes)) LimitPassed i e in
     let small : length bytes ≤ 1048576 = ltb-false _ _ short.0 in
     let w = whole_ok (image.read bytes) i short.1 in
     let t = image_laws.takes bytes (i, w.0) fits w.1 in
@@ -54,24 +50,13 @@ spells_back bytes i h e = let t = read_takes bytes i (bytes_fit bytes h) e in (t
 -- a fault where an image is read can be want of memory alone
 memory_or : (e : LoadFault) → (e ≡ OutOfMemory) ⊎ (e ≢ OutOfMemory)
 memory_or OutOfMemory = inl refl
-memory_or BadMagic = inr (λ h. cc)
-memory_or BadVersion = inr (λ h. cc)
-memory_or Truncated = inr (λ h. cc)
-memory_or Trailing = inr (λ h. cc)
-memory_or LimitPassed = inr (λ h. cc)
-memory_or BadOpcode = inr (λ h. cc)
-memory_or BadOperand = inr (λ h. cc)
-memory_or BadIndex = inr (λ h. cc)
-memory_or NotZero = inr (λ h. cc)
-
-clash : (r : Result Image LoadFault) (i : Image) (e : LoadFault) → r ≡ Ok i → r ≡ Err e → ⊥
-clash r i e p q = cc
+memory_or _ = inr (λ h. cc)
 
 pub only_memory : (r : Result Image LoadFault) (i : Image) (e : LoadFault) → r ≡ Ok i → (e ≢ OutOfMemory → r ≡ Err e) → e ≡ OutOfMemory
 only_memory r i e is fails =
     elim (memory_or e) [
       | inl h ↦ h
-      | inr h ↦ absurd (clash r i e is (fails h))
+      | inr h ↦ absurd (let failed = fails h in cc)
     ]
 
 pub one_image : (r : Result Image LoadFault) (i j : Image) → r ≡ Ok i → r ≡ Ok j → i ≡ j

@@ -25,19 +25,34 @@ pub bind_ok : {A B : Type 0} (r : Result A LoadFault) (f : A → Result B LoadFa
 bind_ok (Ok x) f y e = (x, refl, e)
 bind_ok (Err d) f y e = absurd cc
 
-pub guard_ok : {A : Type 0} (b : Bool) (d : LoadFault) (x y : A) → cond b (Ok x) (Err d) ≡ Ok y → (b ≡ true) × (x ≡ y)
-guard_ok true d x y e = (refl, cc)
-guard_ok false d x y e = absurd cc
-
-short_ok : {A : Type 0} (b : Bool) (d : LoadFault) (x y : A) → cond b (Err d) (Ok x) ≡ Ok y → (b ≡ false) × (x ≡ y)
-short_ok true d x y e = absurd cc
-short_ok false d x y e = (refl, cc)
-
 abbrev done : {A : Type 0} → A → Result A LoadFault
 done x = Ok x
 
 pub ok_is : {A : Type 0} (x y : A) → done x ≡ done y → x ≡ y
 ok_is x y e = cc
+
+-- what a test leaves that refuses where it fails, and one that refuses where it passes
+pub passed : {A : Type 0} (b : Bool) (r : Result A LoadFault) (d : LoadFault) (y : A) → cond b r (Err d) ≡ Ok y → (b ≡ true) × (r ≡ Ok y)
+passed true r d y e = (refl, e)
+passed false r d y e = absurd cc
+
+pub kept : {A : Type 0} (b : Bool) (r : Result A LoadFault) (d : LoadFault) (y : A) → cond b (Err d) r ≡ Ok y → (b ≡ false) × (r ≡ Ok y)
+kept true r d y e = absurd cc
+kept false r d y e = (refl, e)
+
+pub guard_ok : {A : Type 0} (b : Bool) (d : LoadFault) (x y : A) → cond b (Ok x) (Err d) ≡ Ok y → (b ≡ true) × (x ≡ y)
+guard_ok b d x y e = let p = passed b (Ok x) d y e in (p.0, ok_is x y p.1)
+
+-- what holds of all that is made of what is read holds of what was made
+pub made_of : {A B : Type 0} (P : B → Type 0) (r : Result A LoadFault) (make : A → B) (y : B) → ((x : A) → r ≡ Ok x → P (make x))
+    → (r >>= λ x. Ok (make x)) ≡ Ok y → P y
+made_of P r make y holds e = let b = bind_ok r (λ x. Ok (make x)) y e in subst P (ok_is (make b.0) y b.2) (holds b.0 b.1)
+
+-- so where a mark stands for a value of its own
+pub marked_or : {A B : Type 0} (P : B → Type 0) (b : Bool) (mark : B) (r : Result A LoadFault) (make : A → B) (y : B) → (b ≡ true → P mark)
+    → ((x : A) → r ≡ Ok x → P (make x)) → cond b (Ok mark) (r >>= λ x. Ok (make x)) ≡ Ok y → P y
+marked_or P true mark r make y own holds e = subst P (ok_is mark y e) (own refl)
+marked_or P false mark r make y own holds e = made_of P r make y holds e
 
 pub record Takes (bytes text rest : List ℕ) : Type 0 where
   pub parts : bytes ≡ text ++ rest
@@ -76,11 +91,11 @@ wide32 = record { len = λ n. refl; back = λ bytes len fits. be_bytes_4 bytes _
 
 number_takes : (w : Width) (wide : IsWide w) (bytes : List ℕ) (x : ℕ × List ℕ) → IsBytes bytes → number_at w bytes ≡ Ok x → Takes bytes (to_be_bytes w x.0) x.1 × (x.0 < 256 ^ byte_len w)
 number_takes w wide bytes x fits e =
-    let g = short_ok (ltb (length bytes) (byte_len w)) Truncated (from_be_bytes w (take (byte_len w) bytes), drop (byte_len w) bytes) x e in
+    let g = kept (ltb (length bytes) (byte_len w)) (Ok (from_be_bytes w (take (byte_len w) bytes), drop (byte_len w) bytes)) Truncated x e in
     let long : byte_len w ≤ length bytes = ltb-false _ _ g.0 in
     let front_fits = IsBytes-take (byte_len w) bytes fits in
     let front : to_be_bytes w (from_be_bytes w (take (byte_len w) bytes)) ≡ take (byte_len w) bytes = wide.back (take (byte_len w) bytes) (omega (arith, length-take (byte_len w) bytes)) front_fits in
-    subst (λ (p : ℕ × List ℕ). Takes bytes (to_be_bytes w p.0) p.1 × (p.0 < 256 ^ byte_len w)) g.1
+    subst (λ (p : ℕ × List ℕ). Takes bytes (to_be_bytes w p.0) p.1 × (p.0 < 256 ^ byte_len w)) (ok_is _ x g.1)
     (record { parts = sym (ap (λ t. t ++ drop (byte_len w) bytes) front ∙ take-append-drop (byte_len w) bytes); rest_fits = IsBytes-drop (byte_len w) bytes fits }, wide.below (take (byte_len w) bytes) front_fits)
 
 number_again : (w : Width) (wide : IsWide w) (n : ℕ) (rest : List ℕ) → n < 256 ^ byte_len w → number_at w (to_be_bytes w n ++ rest) ≡ Ok (n, rest)
@@ -177,15 +192,24 @@ pub of_choose : {X : Type 0} (b : Bool) (c d : Codec X) → IsCodec c → IsCode
 of_choose true c d one two = one
 of_choose false c d one two = two
 
+-- values that fit a number of formats, one after another
+pub data FitEach {S X : Type 0} (c : S → Codec X) (add : S → X → S) : S → ℕ → List X → Type 0 where
+  no_more : {s : S} → FitEach c add s zero []
+  one_more : {s : S} {n : ℕ} (x : X) (xs : List X) → (c s).Fits x → FitEach c add (add s x) n xs → FitEach c add s (suc n) (x ∷ xs)
+
+pub fit_each : {S X : Type 0} (c : S → Codec X) (add : S → X → S) (s : S) (n : ℕ) (xs : List X) → FitMany c add s n xs → FitEach c add s n xs
+fit_each c add s zero [] fits = no_more
+fit_each c add s (suc n) (x ∷ xs) fits = one_more x xs fits.0 (fit_each c add (add s x) n xs fits.1)
+fit_each c add s _ _ fits = absurd fits
+
 pub of_many_from : {S X : Type 0} (c : S → Codec X) (add : S → X → S) → ((s : S) → IsCodec (c s)) → (n : ℕ) (s : S) → IsCodec (many_from c add s n)
 of_many_from {S} {X} c add laws zero s = record {
   takes = λ bytes x fits e. subst (λ (y : List X × List ℕ). Takes bytes (spell_many c add s y.0) y.1 × FitMany c add s zero y.0) (ok_is ([], bytes) x e) (record { parts = refl; rest_fits = fits }, tt);
-  again = again;
+  again = λ x rest fits. again x rest (fit_each c add s zero x fits);
 }
   where
-    again : (x : List X) (rest : List ℕ) → FitMany c add s zero x → read_many c add s zero (spell_many c add s x ++ rest) ≡ Ok (x, rest)
-    again [] rest fits = refl
-    again (x ∷ xs) rest fits = absurd fits
+    again : (x : List X) (rest : List ℕ) → FitEach c add s zero x → read_many c add s zero (spell_many c add s x ++ rest) ≡ Ok (x, rest)
+    again _ rest no_more = refl
 of_many_from {S} {X} c add laws (suc n) s = record {
   takes = λ bytes x fits e.
       let p = bind_ok ((c s).read bytes) (λ y. read_many c add (add s y.0) n y.1 >>= λ z. Ok (y.0 ∷ z.0, z.1)) x e in
@@ -194,14 +218,14 @@ of_many_from {S} {X} c add laws (suc n) s = record {
       let u = (of_many_from c add laws n (add s p.0.0)).takes p.0.1 q.0 t.0.rest_fits q.1 in
       let both = Takes-then bytes ((c s).spell p.0.0) p.0.1 (spell_many c add (add s p.0.0) q.0.0) q.0.1 t.0 u.0 in
       subst (λ (y : List X × List ℕ). Takes bytes (spell_many c add s y.0) y.1 × FitMany c add s (suc n) y.0) (ok_is (p.0.0 ∷ q.0.0, q.0.1) x q.2) (both, (t.1, u.1));
-  again = again (of_many_from c add laws n);
+  again = λ x rest fits. again (of_many_from c add laws n) x rest (fit_each c add s (suc n) x fits) fits;
 }
   where
-    again : ((t : S) → IsCodec (many_from c add t n)) → (x : List X) (rest : List ℕ) → FitMany c add s (suc n) x → read_many c add s (suc n) (spell_many c add s x ++ rest) ≡ Ok (x, rest)
-    again rest_laws [] rest fits = absurd fits
-    again rest_laws (x ∷ xs) rest fits =
+    again : ((t : S) → IsCodec (many_from c add t n)) → (x : List X) (rest : List ℕ) → FitEach c add s (suc n) x → FitMany c add s (suc n) x
+        → read_many c add s (suc n) (spell_many c add s x ++ rest) ≡ Ok (x, rest)
+    again rest_laws _ rest (one_more x xs here more) fits =
         ap (read_many c add s (suc n)) (append_assoc ((c s).spell x) (spell_many c add (add s x) xs) rest)
-        ∙ ap (λ r. r >>= λ y. read_many c add (add s y.0) n y.1 >>= λ z. Ok (y.0 ∷ z.0, z.1)) ((laws s).again x (spell_many c add (add s x) xs ++ rest) fits.0)
+        ∙ ap (λ r. r >>= λ y. read_many c add (add s y.0) n y.1 >>= λ z. Ok (y.0 ∷ z.0, z.1)) ((laws s).again x (spell_many c add (add s x) xs ++ rest) here)
         ∙ ap (λ r. r >>= λ z. Ok (x ∷ z.0, z.1)) ((rest_laws (add s x)).again xs rest fits.1)
 
 pub of_many : {X : Type 0} (n : ℕ) (c : Codec X) → IsCodec c → IsCodec (many n c)

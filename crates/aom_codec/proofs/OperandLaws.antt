@@ -1,14 +1,14 @@
 -- What is read of an operand is spelled so and fits, and what fits and is spelled so is read: for each kind, once.
-use Rattle.std.proofs.Common.{◌≡◌, ℕ, zero, suc, ◌+◌, ◌*◌, ◌/◌, ◌%◌, ◌<◌, ◌≤◌, ◌^◌, Bool, true, false, cond, eqb, ltb, Result, Ok, Err, refl, sym, ap, subst, ◌∙◌, arith, eqb-true, lit<, FitsSigned, Fits, rules, ℤ, pos, negsuc, inl, inr}
+use Rattle.std.proofs.Common.{◌≡◌, ℕ, ◌+◌, ◌*◌, ◌/◌, ◌%◌, ◌<◌, ◌≤◌, ◌^◌, cond, eqb, ltb, Result, Ok, Err, refl, sym, ap, subst, ◌∙◌, arith, eqb-true, lit<, FitsSigned, Fits, rules, ℤ, pos, negsuc, inl, inr}
 use Rattle.std.specs.Int.{w32, cast_unsigned, cast_signed}
 use Rattle.std.proofs.Math.Facts.{sfits_to_z}
 use Rattle.std.proofs.lemmas.Int.{of_z-to_z, to_z-of_z}
-use Rattle.std.proofs.lemmas.Bool.{ltb-true, lt-ltb, ne_eqb}
+use Rattle.std.proofs.lemmas.Bool.{ltb-true, lt-ltb, ne_eqb, eqb-false}
 use Rattle.aom_codec.specs.declared.fault.LoadFault.{LoadFault}
 use Rattle.aom_codec.specs.declared.fault.LoadFault.TheVariants.{BadOperand, BadIndex, NotZero}
 use Rattle.aom_codec.specs.Instructions.{Bounded, below, large_from, small_from, target_from}
 use Rattle.aom_codec.specs.Spelling.{large_number, small_byte, target_byte}
-use Rattle.aom_codec.proofs.Laws.{guard_ok, ok_is}
+use Rattle.aom_codec.proofs.Laws.{guard_ok, ok_is, passed, kept}
 use Rattle.aom_codec.proofs.Returning.{took}
 use Rattle.aom_instructions.specs.Operands.{LargeFits, SmallFits, TargetFits}
 use Rattle.aom_instructions.specs.declared.instr.Target.{Target}
@@ -54,16 +54,12 @@ target_reads high low n o is e =
                 elim (took (eqb high 2) _ _ o i.1) [
                   | inl j ↦ let k : high ≡ 2 = eqb-true _ _ j.0 in target_says (targets.Field low) 8 low n o (λ lt. omega (arith, is, k)) (λ lt. lt) j.1
                   | inr j ↦
-                      let g = guarded (eqb high 3) _ _ o j.1 in
+                      let g = passed (eqb high 3) _ _ o j.1 in
                       let k : high ≡ 3 = eqb-true _ _ g.0 in
                       target_says (targets.Entry low) 16 low n o (λ lt. omega (arith, is, k)) (λ lt. lt) g.1
                 ]
           ]
     ]
-  where
-    guarded : (b : Bool) (r : Result Small LoadFault) (fault : LoadFault) (o : Small) → cond b r (Err fault) ≡ Ok o → (b ≡ true) × (r ≡ Ok o)
-    guarded true r fault o e = (refl, e)
-    guarded false r fault o e = absurd cc
 
 pub small_reads : (k : SmallKind) (n : ℕ) (o : Small) → small_from k n ≡ Ok o → SaysSmall k n o
 small_reads sk.Unused n o e =
@@ -93,18 +89,11 @@ large_reads l lk.Number n o lt e =
     let g = ok_is (large.Number (cast_signed w32 n)) o e in
     (ap large_number (sym g) ∙ of_z-to_z w32 n lt, subst (LargeFits l lk.Number) g (signed_fits n lt))
 large_reads l lk.Rounds n o lt e =
-    elim (took (eqb n 0) (Err BadOperand) (below 65536 n (large.Rounds n) BadOperand) o e) [
-      | inl h ↦ absurd (let clash : Err BadOperand ≡ Ok o = h.1 in cc)
-      | inr h ↦
-          let g = below_ok 65536 n (large.Rounds n) o BadOperand h.1 in
-          let some : 1 ≤ n = omega (arith, not_zero n h.0) in
-          let most : n < 2 ^ 16 = omega (arith, g.0) in
-          (ap large_number (sym g.1), subst (LargeFits l lk.Rounds) g.1 (some, most))
-    ]
-  where
-    not_zero : (n : ℕ) → eqb n 0 ≡ false → 1 ≤ n
-    not_zero zero h = absurd cc
-    not_zero (suc n) h = omega arith
+    let h = kept (eqb n 0) (below 65536 n (large.Rounds n) BadOperand) BadOperand o e in
+    let g = below_ok 65536 n (large.Rounds n) o BadOperand h.1 in
+    let some : 1 ≤ n = omega (arith, eqb-false n 0 h.0) in
+    let most : n < 2 ^ 16 = omega (arith, g.0) in
+    (ap large_number (sym g.1), subst (LargeFits l lk.Rounds) g.1 (some, most))
 large_reads l lk.Place n o lt e = let g = below_ok l.places n (large.Place n) o BadIndex e in (ap large_number (sym g.1), subst (LargeFits l lk.Place) g.1 g.0)
 large_reads l lk.Class n o lt e = let g = below_ok l.classes n (large.Class n) o BadIndex e in (ap large_number (sym g.1), subst (LargeFits l lk.Class) g.1 g.0)
 large_reads l lk.Method n o lt e = let g = below_ok l.methods n (large.Method n) o BadIndex e in (ap large_number (sym g.1), subst (LargeFits l lk.Method) g.1 g.0)

@@ -1,5 +1,5 @@
 -- What a number stands for is spelled as that number.
-use Rattle.std.proofs.Common.{◌≡◌, ℕ, ◌<◌, ◌≤◌, Bool, true, false, cond, eqb, ltb, Option, Some, None, Result, Ok, refl, sym, ap, ◌∙◌, arith, eqb-true, ◌⊎◌, inl, inr}
+use Rattle.std.proofs.Common.{◌≡◌, ℕ, ◌<◌, ◌≤◌, Bool, true, false, cond, eqb, ltb, Option, Some, None, Result, Ok, refl, sym, ap, arith, eqb-true, ◌⊎◌, inl, inr}
 use Rattle.std.proofs.lemmas.Bool.{ltb-true}
 use Rattle.std.proofs.lemmas.Bool.Decides.{nat_tests}
 use Rattle.aom_codec.specs.declared.fault.LoadFault.{LoadFault}
@@ -13,9 +13,8 @@ use Rattle.aom_image.specs.declared.method.Role.{Role}
 use Rattle.aom_image.specs.declared.method.MethodFlags.{MethodFlags}
 use Rattle.aom_image.specs.declared.method.States.{States}
 use Rattle.aom_codec.specs.Spelling.{class_number, thing_number, argument_number, role_number, gives_byte, result_number}
-use Rattle.aom_codec.specs.Codec.{◌>>=◌}
 use Rattle.aom_codec.specs.Format.{index_from, class_from, thing_from, argument_from, role_from, flags_from, states_from, gives_from}
-use Rattle.aom_codec.proofs.Laws.{bind_ok, guard_ok, ok_is}
+use Rattle.aom_codec.proofs.Laws.{guard_ok, marked_or}
 
 -- a test that answers one of two things
 pub took : {A : Type 0} (b : Bool) (x y : Result A LoadFault) (z : A) → cond b x y ≡ Ok z → ((b ≡ true) × (x ≡ Ok z)) ⊎ ((b ≡ false) × (y ≡ Ok z))
@@ -27,30 +26,18 @@ index_returns classes n y e = let g = guard_ok (ltb n classes) BadIndex n y e in
 
 pub class_returns : (classes n : ℕ) (y : Option ℕ) → class_from classes n ≡ Ok y → class_number y ≡ n
 class_returns classes n y e =
-    elim (took (eqb n 0xffff) (Ok None) (index_from classes n >>= λ c. Ok (Some c)) y e) [
-      | inl h ↦ ap class_number (sym (ok_is None y h.1)) ∙ sym (eqb-true _ _ h.0)
-      | inr h ↦
-          let b = bind_ok (index_from classes n) (λ c. Ok (Some c)) y h.1 in
-          ap class_number (sym (ok_is (Some b.0) y b.2)) ∙ (index_returns classes n b.0 b.1).0
-    ]
+    marked_or (λ o. class_number o ≡ n) (eqb n 0xffff) None (index_from classes n) (λ c. Some c) y (λ is. sym (eqb-true _ _ is))
+    (λ c h. (index_returns classes n c h).0) e
 
 pub thing_returns : (classes n : ℕ) (y : Thing) → thing_from classes n ≡ Ok y → thing_number y ≡ n
 thing_returns classes n y e =
-    elim (took (eqb n 0xfffe) (Ok Message) (index_from classes n >>= λ c. Ok (Object c)) y e) [
-      | inl h ↦ ap thing_number (sym (ok_is Message y h.1)) ∙ sym (eqb-true _ _ h.0)
-      | inr h ↦
-          let b = bind_ok (index_from classes n) (λ c. Ok (Object c)) y h.1 in
-          ap thing_number (sym (ok_is (Object b.0) y b.2)) ∙ (index_returns classes n b.0 b.1).0
-    ]
+    marked_or (λ t. thing_number t ≡ n) (eqb n 0xfffe) Message (index_from classes n) (λ c. Object c) y (λ is. sym (eqb-true _ _ is))
+    (λ c h. (index_returns classes n c h).0) e
 
 pub argument_returns : (classes n : ℕ) (y : Argument) → argument_from classes n ≡ Ok y → argument_number y ≡ n
 argument_returns classes n y e =
-    elim (took (eqb n 0xffff) (Ok arguments.Word) (thing_from classes n >>= λ t. Ok (arguments.Own t)) y e) [
-      | inl h ↦ ap argument_number (sym (ok_is arguments.Word y h.1)) ∙ sym (eqb-true _ _ h.0)
-      | inr h ↦
-          let b = bind_ok (thing_from classes n) (λ t. Ok (arguments.Own t)) y h.1 in
-          ap argument_number (sym (ok_is (arguments.Own b.0) y b.2)) ∙ thing_returns classes n b.0 b.1
-    ]
+    marked_or (λ a. argument_number a ≡ n) (eqb n 0xffff) arguments.Word (thing_from classes n) (λ t. arguments.Own t) y (λ is. sym (eqb-true _ _ is))
+    (λ t h. thing_returns classes n t h) e
 
 pub role_returns : (n : ℕ) (y : Role) → role_from n ≡ Ok y → role_number y ≡ n
 unfolding role_number

@@ -1,5 +1,5 @@
 -- What `clap` answers of the words of a command line.
-use Rattle.std.proofs.Common.{◌≡◌, ◌∙◌, ℕ, Bool, true, false, ◌≤◌, List, [], Option, Some, None, Result, Ok, Err, option_map, unwrap_or, is_some, IsSome, refl, sym, ap, subst, arith}
+use Rattle.std.proofs.Common.{◌≡◌, ◌∙◌, ℕ, Bool, ◌||◌, true, false, ◌<◌, ◌^◌, ◌⊎◌, List, [], Option, Some, None, Result, Ok, Err, option_map, unwrap_or, is_some, IsSome, codes, refl, sym, ap, subst, arith}
 use Rattle.std.specs.Borrow.{Bor}
 use Rattle.std.specs.Fmt.{decimal}
 use Rattle.std.specs.Str.Parse.{IsNumeral, ParsesUnsigned, digits_value, without_leading_plus}
@@ -13,7 +13,7 @@ use Rattle.clap.specs.declared.error.kind.ErrorKind.{ErrorKind}
 use Rattle.clap.specs.declared.error.kind.ErrorKind.TheVariants.{OutOfMemory}
 use Rattle.aom_command_line.specs.declared.words.WordsFault.{WordsFault}
 use Rattle.aom_command_line.specs.declared.words.WordsFault.TheVariants as faults
-use Rattle.aom_command_line.specs.CommandLine.{IsCommand, Declines, Says, form, word_of}
+use Rattle.aom_command_line.specs.CommandLine.{IsCommand, Declines, DeclinesRun, Says, form, word_of}
 
 same : {E : Type 0} (v n : ℕ) (r : Result ℕ E) → r ≡ Ok v → r ≡ Ok n → Some v ≡ Some n
 same v n r a b = cc
@@ -23,16 +23,16 @@ no_error e n r a b = cc
 
 -- digits are read as the number that they write, whatever zeros or plus lead them
 pub reads_digits : {E : Type 0} (gives : List ℕ → Result ℕ E → Type 0) → ((bs : List ℕ) (r : Result ℕ E) → gives bs r → ParsesUnsigned 32 10 bs r)
-    → (word : List ℕ) → IsNumeral 10 (without_leading_plus word) → digits_value 10 (without_leading_plus word) ≤ 1000000000 → (o : Option ℕ) → ReadsOne gives word o
+    → (word : List ℕ) → IsNumeral 10 (without_leading_plus word) → digits_value 10 (without_leading_plus word) < 2 ^ 32 → (o : Option ℕ) → ReadsOne gives word o
     → o ≡ Some (digits_value 10 (without_leading_plus word))
 reads_digits gives parses word numeral most (Some v) read = ap (λ x. Some x) (parses word (Ok v) read).1
 reads_digits gives parses word numeral most None read = absurd (parses word (Err read.0) read.1 (numeral, omega (arith, most)))
 
 -- a number in decimal is read as itself
 pub reads : {E : Type 0} (gives : List ℕ → Result ℕ E → Type 0) → ((bs : List ℕ) (r : Result ℕ E) → gives bs r → ParsesUnsigned 32 10 bs r)
-    → (n : ℕ) → n ≤ 1000000000 → (o : Option ℕ) → ReadsOne gives (decimal n) o → o ≡ Some n
-reads {E} gives parses n most (Some v) read = same {E = E} v n (Ok v) refl (parse-decimal 32 n (decimal n) (Ok v) (omega arith) (omega arith) refl (parses (decimal n) (Ok v) read))
-reads {E} gives parses n most None read = absurd (no_error {E = E} read.0 n (Err read.0) refl (parse-decimal 32 n (decimal n) (Err read.0) (omega arith) (omega arith) refl (parses (decimal n) (Err read.0) read.1)))
+    → (n : ℕ) → n < 2 ^ 32 → (o : Option ℕ) → ReadsOne gives (decimal n) o → o ≡ Some n
+reads {E} gives parses n most (Some v) read = same {E = E} v n (Ok v) refl (parse-decimal 32 n (decimal n) (Ok v) (omega arith) (omega (arith, most)) refl (parses (decimal n) (Ok v) read))
+reads {E} gives parses n most None read = absurd (no_error {E = E} read.0 n (Err read.0) refl (parse-decimal 32 n (decimal n) (Err read.0) (omega arith) (omega (arith, most)) refl (parses (decimal n) (Err read.0) read.1)))
 
 -- the first word of a name, or none
 pub chosen : (f : Found) (id : Text) (o : Option (Bor Text)) (d r : Bor Text) → r ≡ unwrap_or o d → d.now ≡ [] → option_map (λ s. s.now) o ≡ first_value f id
@@ -63,10 +63,21 @@ pub nothing_met : (met : Option (Text × List Row)) → None ≡ option_map (λ 
 nothing_met None e taken is = is
 nothing_met (Some m) e taken is = cc
 
+-- an argument for its own command alone leaves a command as it was in this
+pub as_before : (old new added : Bool) → new ≡ (old || added) → added ≡ false → new ≡ old
+as_before true new added is none = is
+as_before false new added is none = is ∙ none
+
 -- the exact matches of `clap` are there for this form
 pub simple : is_simple form ≡ true
 unfolding clap_on_literals
 simple = refl
+
+-- each command that runs an image declines the same
+pub declines_run : (command : Text) (rows : List Row) (fault : WordsFault) → (command ≡ codes "run") ⊎ (command ≡ codes "explore") → DeclinesRun rows fault → Declines true (Some (command, rows)) fault
+declines_run command rows (faults.Text text) runs none = absurd none
+declines_run command rows faults.Native runs none = (runs, none)
+declines_run command rows faults.Memory runs none = none
 
 -- what `clap` takes, and what it does not
 pub declines : (taken : Bool) (met : Option (Text × List Row)) (fault : WordsFault) → Declines true met fault → Declines taken met fault

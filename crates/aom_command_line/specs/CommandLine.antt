@@ -6,11 +6,13 @@ use Rattle.std.specs.Str.Parse.{IsNumeral, digits_value, without_leading_plus}
 use Rattle.clap.specs.Lexer.{usize_max}
 use Rattle.clap.specs.Words.{App, Row, Rule, Text, first_of, one_of, all_of, new_app, new_rule, with_rule, with_subcommand}
 use Rattle.clap.specs.declared.builder.action.ArgAction.TheVariants.{Append, SetTrue}
+use Rattle.clap.specs.declared.builder.value_parser.ValueParser.{ValueParser}
 use Rattle.clap.specs.declared.builder.value_parser.ValueParser.TheVariants.{Signed}
 use Rattle.clap.specs.declared.error.kind.ErrorKind.{ErrorKind}
 use Rattle.clap.specs.declared.error.kind.ErrorKind.TheVariants.{OutOfMemory}
+use Rattle.aom_command_line.specs.declared.words.RunWords.{RunWords}
 use Rattle.aom_command_line.specs.declared.words.Words.{Words}
-use Rattle.aom_command_line.specs.declared.words.Words.TheVariants.{Check, Run, Asm, Dis}
+use Rattle.aom_command_line.specs.declared.words.Words.TheVariants.{Check, Run, Explore, Asm, Dis, Dot}
 use Rattle.aom_command_line.specs.declared.words.WordsFault.{WordsFault}
 use Rattle.aom_command_line.specs.declared.words.WordsFault.TheVariants as faults
 
@@ -18,15 +20,27 @@ use Rattle.aom_command_line.specs.declared.words.WordsFault.TheVariants as fault
 abbrev pub file_rule : Text → Rule
 file_rule id = record (new_rule id) { required = true }
 
+-- an option with a number in that range, which is the default where it is left out
+abbrev pub number_rule : Text → ValueParser → Text → Rule
+number_rule id range default =
+    record (new_rule id) {
+      long = Some id;
+      value_names = 1;
+      parser = Some range;
+      defaults = default ∷ [];
+    }
+
 -- `--limit N`, a number from 1 to 10^9; where it is left out, 1000000
 abbrev pub limit_rule : Rule
-limit_rule =
-    record (new_rule (codes "limit")) {
-      long = Some (codes "limit");
-      value_names = 1;
-      parser = Some (Signed (pos 1) (pos 1000000000));
-      defaults = codes "1000000" ∷ [];
-    }
+limit_rule = number_rule (codes "limit") (Signed (pos 1) (pos 1000000000)) (codes "1000000")
+
+-- `--from N`, the number of a request, from 1 to 2^32 - 1; where it is left out, 1
+abbrev pub from_rule : Rule
+from_rule = number_rule (codes "from") (Signed (pos 1) (pos 4294967295)) (codes "1")
+
+-- `--to N`, a number of that kind; where it is left out, the greatest
+abbrev pub to_rule : Rule
+to_rule = number_rule (codes "to") (Signed (pos 1) (pos 4294967295)) (codes "4294967295")
 
 -- `--prices`, which stands alone
 abbrev pub prices_rule : Rule
@@ -56,16 +70,28 @@ asm_form = with_rule (new_app (codes "asm")) (file_rule (codes "TEXT"))
 abbrev pub dis_form : App
 dis_form = with_rule (new_app (codes "dis")) (file_rule (codes "IMAGE"))
 
+-- dot IMAGE
+abbrev pub dot_form : App
+dot_form = with_rule (new_app (codes "dot")) (file_rule (codes "IMAGE"))
+
+-- IMAGE SCRIPT [NATIVE].., the last words of each command that runs an image
+abbrev pub with_files : App → App
+with_files command = with_rule (with_rule (with_rule command (file_rule (codes "IMAGE"))) (file_rule (codes "SCRIPT"))) native_rule
+
 -- run [--limit N] IMAGE SCRIPT [NATIVE]..
 abbrev pub run_form : App
-run_form = with_rule (with_rule (with_rule (with_rule (new_app (codes "run")) limit_rule) (file_rule (codes "IMAGE"))) (file_rule (codes "SCRIPT"))) native_rule
+run_form = with_files (with_rule (new_app (codes "run")) limit_rule)
+
+-- explore [--limit N] [--from N] [--to N] IMAGE SCRIPT [NATIVE]..
+abbrev pub explore_form : App
+explore_form = with_files (with_rule (with_rule (with_rule (new_app (codes "explore")) limit_rule) from_rule) to_rule)
 
 -- the program's name, and one of these
 abbrev pub bare_form : App
 bare_form = record { top = record (new_app (codes "aom")).top { subcommand_required = true }; subs = [] }
 
 abbrev pub form : App
-form = with_subcommand (with_subcommand (with_subcommand (with_subcommand bare_form check_form.top) run_form.top) asm_form.top) dis_form.top
+form = with_subcommand (with_subcommand (with_subcommand (with_subcommand (with_subcommand (with_subcommand bare_form check_form.top) run_form.top) explore_form.top) asm_form.top) dis_form.top) dot_form.top
 
 -- the texts of words
 abbrev pub texts_of : {A : Type 0} → List (String A) → List Text
@@ -75,12 +101,12 @@ texts_of words = map (λ w. string_bytes w) words
 abbrev pub word_of : Text → List Row → Text
 word_of id rows = unwrap_or (first_of id rows) []
 
--- the limit is from 1 to 10^9, and it is the number that its text is, also where zeros or a plus lead the text
-pub record IsLimit (text : Option Text) (limit : ℕ) : Type 0 where
-  pub least : 1 ≤ limit
-  pub most : limit ≤ 1000000000
-  pub is : (n : ℕ) → 1 ≤ n → n ≤ 1000000000 → text ≡ Some (decimal n) → limit ≡ n
-  pub digits : (n : ℕ) (word : Text) → 1 ≤ n → n ≤ 1000000000 → text ≡ Some word → IsNumeral 10 (without_leading_plus word) → n ≡ digits_value 10 (without_leading_plus word) → limit ≡ n
+-- the number is from 1 to the greatest, and it is the one that its text is, also where zeros or a plus lead the text
+pub record IsNumberUpTo (greatest : ℕ) (text : Option Text) (number : ℕ) : Type 0 where
+  pub least : 1 ≤ number
+  pub most : number ≤ greatest
+  pub is : (n : ℕ) → 1 ≤ n → n ≤ greatest → text ≡ Some (decimal n) → number ≡ n
+  pub digits : (n : ℕ) (word : Text) → 1 ≤ n → n ≤ greatest → text ≡ Some word → IsNumeral 10 (without_leading_plus word) → n ≡ digits_value 10 (without_leading_plus word) → number ≡ n
 
 -- a flag is set just where the text found for it is `true`; where it is left out, that text is `false`
 pub record IsFlag (text : Option Text) (flag : Bool) : Type 0 where
@@ -88,26 +114,35 @@ pub record IsFlag (text : Option Text) (flag : Bool) : Type 0 where
   pub used : text ≡ Some (codes "true") → flag ≡ true
   pub unused : text ≡ Some (codes "false") → flag ≡ false
 
--- a command and the words found for it ask this; no native is known yet
+-- the words found for a command that runs an image ask this; no native is known yet
+pub record AsksRun (rows : List Row) (run : RunWords) : Type 0 where
+  pub image : string_bytes run.image ≡ word_of (codes "IMAGE") rows
+  pub script : string_bytes run.script ≡ word_of (codes "SCRIPT") rows
+  pub limit : IsNumberUpTo 1000000000 (one_of (codes "limit") rows) run.limit
+  pub natives : all_of (codes "NATIVE") rows ≡ None
+
+-- a command and the words found for it ask this
 abbrev pub Asks : Option (Text × List Row) → Words → Type 0
 Asks None words = ⊥
 Asks (Some met) (Check image prices) =
     (met.0 ≡ codes "check") × (string_bytes image ≡ word_of (codes "IMAGE") met.1) × IsFlag (one_of (codes "prices") met.1) prices
-Asks (Some met) (Run image script limit) =
-    (met.0 ≡ codes "run") × (string_bytes image ≡ word_of (codes "IMAGE") met.1) × (string_bytes script ≡ word_of (codes "SCRIPT") met.1)
-    × IsLimit (one_of (codes "limit") met.1) limit × (all_of (codes "NATIVE") met.1 ≡ None)
+Asks (Some met) (Run run) = (met.0 ≡ codes "run") × AsksRun met.1 run
+Asks (Some met) (Explore run first last) =
+    (met.0 ≡ codes "explore") × AsksRun met.1 run
+    × IsNumberUpTo 4294967295 (one_of (codes "from") met.1) first × IsNumberUpTo 4294967295 (one_of (codes "to") met.1) last
 Asks (Some met) (Asm text) = (met.0 ≡ codes "asm") × (string_bytes text ≡ word_of (codes "TEXT") met.1)
 Asks (Some met) (Dis image) = (met.0 ≡ codes "dis") × (string_bytes image ≡ word_of (codes "IMAGE") met.1)
+Asks (Some met) (Dot image) = (met.0 ≡ codes "dot") × (string_bytes image ≡ word_of (codes "IMAGE") met.1)
 
 -- it is one of the program's commands
 abbrev pub IsCommand : Option (Text × List Row) → Type 0
 IsCommand None = ⊥
-IsCommand (Some met) = (met.0 ≡ codes "check") ⊎ (met.0 ≡ codes "run") ⊎ (met.0 ≡ codes "asm") ⊎ (met.0 ≡ codes "dis")
+IsCommand (Some met) = (met.0 ≡ codes "check") ⊎ (met.0 ≡ codes "run") ⊎ (met.0 ≡ codes "explore") ⊎ (met.0 ≡ codes "asm") ⊎ (met.0 ≡ codes "dis") ⊎ (met.0 ≡ codes "dot")
 
--- it is a run with natives
+-- it is a command that runs an image, with natives
 abbrev pub NamesNatives : Option (Text × List Row) → Type 0
 NamesNatives None = ⊥
-NamesNatives (Some met) = (met.0 ≡ codes "run") × IsSome (all_of (codes "NATIVE") met.1)
+NamesNatives (Some met) = ((met.0 ≡ codes "run") ⊎ (met.0 ≡ codes "explore")) × IsSome (all_of (codes "NATIVE") met.1)
 
 -- why words ask nothing: `clap` does not take them, or they name natives, or memory is wanting
 abbrev pub Declines : Bool → Option (Text × List Row) → WordsFault → Type 0
@@ -115,15 +150,23 @@ Declines taken met (faults.Text text) = taken ≡ true → IsCommand met → ⊥
 Declines taken met faults.Native = NamesNatives met
 Declines taken met faults.Memory = Unit {0}
 
+-- why the words found for a command that runs an image ask nothing
+abbrev pub DeclinesRun : List Row → WordsFault → Type 0
+DeclinesRun rows (faults.Text text) = ⊥
+DeclinesRun rows faults.Native = IsSome (all_of (codes "NATIVE") rows)
+DeclinesRun rows faults.Memory = Unit {0}
+
 -- what is made of an error of `clap`
 abbrev pub Says : ErrorKind → WordsFault → Type 0
 Says kind (faults.Text text) = kind ≢ OutOfMemory
 Says kind faults.Native = ⊥
 Says kind faults.Memory = Unit {0}
 
--- what is known of the limit of a run
+-- what is known of the limit of runs
 abbrev pub KeepsLimit : Words → Type 0
 KeepsLimit (Check image prices) = Unit {0}
-KeepsLimit (Run image script limit) = (1 ≤ limit) × (limit ≤ 1000000000)
+KeepsLimit (Run run) = (1 ≤ run.limit) × (run.limit ≤ 1000000000)
+KeepsLimit (Explore run first last) = (1 ≤ run.limit) × (run.limit ≤ 1000000000)
 KeepsLimit (Asm text) = Unit {0}
 KeepsLimit (Dis image) = Unit {0}
+KeepsLimit (Dot image) = Unit {0}

@@ -7,4 +7,4 @@
 
 mod words;
 
-pub use words::{Words, WordsFault, read_words};
+pub use words::{RunWords, Words, WordsFault, read_words};

@@ -2,9 +2,10 @@
 ghost use Rattle.std.specs.Prelude.{◌≡◌, ◌≤◌, IfOk, IfErr, Some, false, true, codes};
 ghost use Rattle.std.specs.String.{string_bytes};
 ghost use Rattle.clap.specs.declared.builder.command.Command.TheViews.{out-Command as fields_of};
-ghost use Rattle.clap.specs.Words.{app_of, found_of, kind_of, one_of, rows_of, rule_of, subcommand_of, subcommand_rows_of, takes, with_subcommand};
-ghost use Rattle.aom_command_line.specs.CommandLine.{asm_form, check_form, dis_form, run_form, form, file_rule, limit_rule, native_rule, prices_rule, texts_of, word_of, Asks, Declines, IsFlag, IsLimit, KeepsLimit, Says};
+ghost use Rattle.clap.specs.Words.{app_of, found_of, kind_of, one_of, rows_of, rule_of, subcommand_of, subcommand_rows_of, takes, with_rule, with_subcommand};
+ghost use Rattle.aom_command_line.specs.CommandLine.{asm_form, check_form, dis_form, dot_form, explore_form, run_form, form, file_rule, from_rule, limit_rule, native_rule, number_rule, prices_rule, to_rule, texts_of, word_of, Asks, AsksRun, Declines, DeclinesRun, IsFlag, IsNumberUpTo, KeepsLimit, Says};
 
+use clap::builder::ValueParser;
 use clap::error::ErrorKind;
 use clap::{Arg, ArgAction, ArgMatches, Command, Error, value_parser};
 use std::alloc::{AllocError, Global};
@@ -17,16 +18,22 @@ pub enum Words {
         /// Whether what the methods come to and cost is asked for.
         prices: bool,
     },
-    Run {
-        image: String,
-        script: String,
-        /// The most dispatches after main's.
-        limit: u32,
+    Run(RunWords),
+    /// Run again and again, each time with one more allocation request refused.
+    Explore {
+        run: RunWords,
+        /// The number of the first request that is refused so.
+        first: u32,
+        /// The number of the last one.
+        last: u32,
     },
     Asm {
         text: String,
     },
     Dis {
+        image: String,
+    },
+    Dot {
         image: String,
     },
 }
@@ -50,6 +57,15 @@ impl From<AllocError> for WordsFault {
     fn from(_error: AllocError) -> WordsFault {
         WordsFault::Memory
     }
+}
+
+/// What every command that runs an image is given.
+#[derive(Debug, Drop)]
+pub struct RunWords {
+    pub image: String,
+    pub script: String,
+    /// The most dispatches after main's, of each run.
+    pub limit: u32,
 }
 
 /// Reads a command line, the program's own word first.
@@ -77,20 +93,22 @@ fn aom_command<'a>(alloc: Global) -> Result<Command<'a>, AllocError>
 
 /// Adds what is done with an image.
 fn with_uses<'a>(alloc: Global, command: Command<'a>) -> Result<Command<'a>, AllocError>
-    ensures { IfOk result (λ c. app_of c ≡ with_subcommand (with_subcommand (app_of command.entry) check_form.top) run_form.top) }
+    ensures { IfOk result (λ c. app_of c ≡ with_subcommand (with_subcommand (with_subcommand (app_of command.entry) check_form.top) run_form.top) explore_form.top) }
 {
     command
         .subcommand(check_command(alloc)?)?
-        .subcommand(run_command(alloc)?)
+        .subcommand(run_command(alloc)?)?
+        .subcommand(explore_command(alloc)?)
 }
 
-/// Adds what makes an image of a text, and a text of an image.
+/// Adds what makes an image of a text, and texts of an image.
 fn with_translations<'a>(alloc: Global, command: Command<'a>) -> Result<Command<'a>, AllocError>
-    ensures { IfOk result (λ c. app_of c ≡ with_subcommand (with_subcommand (app_of command.entry) asm_form.top) dis_form.top) }
+    ensures { IfOk result (λ c. app_of c ≡ with_subcommand (with_subcommand (with_subcommand (app_of command.entry) asm_form.top) dis_form.top) dot_form.top) }
 {
     command
         .subcommand(asm_command(alloc)?)?
-        .subcommand(dis_command(alloc)?)
+        .subcommand(dis_command(alloc)?)?
+        .subcommand(dot_command(alloc)?)
 }
 
 fn check_command<'a>(alloc: Global) -> Result<Command<'a>, AllocError>
@@ -121,13 +139,43 @@ fn dis_command<'a>(alloc: Global) -> Result<Command<'a>, AllocError>
         .arg(file_arg(alloc, "IMAGE", "The file of an image"))
 }
 
+fn dot_command<'a>(alloc: Global) -> Result<Command<'a>, AllocError>
+    ensures form { IfOk result (λ c. app_of c ≡ dot_form) }
+    ensures own { IfOk result (λ c. (fields_of c).has_globals ≡ false) }
+{
+    Command::new(alloc, "dot")
+        .about("Writes an image as a graph in Graphviz's language")
+        .arg(file_arg(alloc, "IMAGE", "The file of an image"))
+}
+
 fn run_command<'a>(alloc: Global) -> Result<Command<'a>, AllocError>
     ensures form { IfOk result (λ c. app_of c ≡ run_form) }
     ensures own { IfOk result (λ c. (fields_of c).has_globals ≡ false) }
 {
-    Command::new(alloc, "run")
+    let command = Command::new(alloc, "run")
         .about("Runs an image under a script and writes the transcript")
+        .arg(limit_arg(alloc))?;
+    with_files(alloc, command)
+}
+
+fn explore_command<'a>(alloc: Global) -> Result<Command<'a>, AllocError>
+    ensures form { IfOk result (λ c. app_of c ≡ explore_form) }
+    ensures own { IfOk result (λ c. (fields_of c).has_globals ≡ false) }
+{
+    let command = Command::new(alloc, "explore")
+        .about("Runs an image again with one more allocation request refused, for each in turn")
         .arg(limit_arg(alloc))?
+        .arg(from_arg(alloc))?
+        .arg(to_arg(alloc))?;
+    with_files(alloc, command)
+}
+
+/// Adds the files of a run, and its natives.
+fn with_files<'a>(alloc: Global, command: Command<'a>) -> Result<Command<'a>, AllocError>
+    ensures form { IfOk result (λ c. app_of c ≡ with_rule (with_rule (with_rule (app_of command.entry) (file_rule (codes "IMAGE"))) (file_rule (codes "SCRIPT"))) native_rule) }
+    ensures own { IfOk result (λ c. (fields_of c).has_globals ≡ (fields_of command.entry).has_globals) }
+{
+    command
         .arg(file_arg(alloc, "IMAGE", "The file of an image"))?
         .arg(file_arg(alloc, "SCRIPT", "The file of a script"))?
         .arg(native_arg(alloc))
@@ -155,12 +203,58 @@ fn limit_arg<'a>(alloc: Global) -> Arg<'a>
     ensures rule { rule_of result ≡ limit_rule }
     ensures own { result.global ≡ false }
 {
-    Arg::new(alloc, "limit")
-        .long("limit")
+    number_arg(
+        alloc,
+        "limit",
+        "The most dispatches after main's",
+        value_parser!(u32).range(1..=1_000_000_000),
+        "1000000",
+    )
+}
+
+fn from_arg<'a>(alloc: Global) -> Arg<'a>
+    ensures rule { rule_of result ≡ from_rule }
+    ensures own { result.global ≡ false }
+{
+    number_arg(
+        alloc,
+        "from",
+        "The first allocation request that is refused",
+        value_parser!(u32).range(1..),
+        "1",
+    )
+}
+
+fn to_arg<'a>(alloc: Global) -> Arg<'a>
+    ensures rule { rule_of result ≡ to_rule }
+    ensures own { result.global ≡ false }
+{
+    number_arg(
+        alloc,
+        "to",
+        "The last allocation request that is refused",
+        value_parser!(u32).range(1..),
+        "4294967295",
+    )
+}
+
+/// An option with a number, which is `standard` where the option is left out.
+fn number_arg<'a>(
+    alloc: Global,
+    id: &'a str,
+    help: &'a str,
+    range: ValueParser<'a>,
+    standard: &'a str,
+) -> Arg<'a>
+    ensures rule { rule_of result ≡ number_rule id.entry.now range.entry standard.entry.now }
+    ensures own { result.global ≡ false }
+{
+    Arg::new(alloc, id)
+        .long(id)
         .value_name("N")
-        .help("The most dispatches after main's")
-        .value_parser(value_parser!(u32).range(1..=1_000_000_000))
-        .default_value("1000000")
+        .help(help)
+        .value_parser(range)
+        .default_value(standard)
 }
 
 fn prices_arg<'a>(alloc: Global) -> Arg<'a>
@@ -207,30 +301,43 @@ fn command_words(alloc: Global, command: &str, own: &ArgMatches) -> Result<Words
             image: word_of(alloc, own, "IMAGE")?,
             prices: asks_prices(own),
         }),
-        "run" => run_words(alloc, own),
+        "run" => Ok(Words::Run(run_words(alloc, own)?)),
+        "explore" => explore_words(alloc, own),
         "asm" => Ok(Words::Asm {
             text: word_of(alloc, own, "TEXT")?,
         }),
         "dis" => Ok(Words::Dis {
             image: word_of(alloc, own, "IMAGE")?,
         }),
+        "dot" => Ok(Words::Dot {
+            image: word_of(alloc, own, "IMAGE")?,
+        }),
         _ => Err(WordsFault::Text(String::new(alloc))),
     }
 }
 
-/// What the words after `run` ask. There are no natives yet, so no word names one.
-fn run_words(alloc: Global, own: &ArgMatches) -> Result<Words, WordsFault>
-    ensures asks { IfOk result (λ asked. Asks (Some (codes "run", rows_of (found_of own.now))) asked) }
-    ensures declines { IfErr result (λ fault. Declines true (Some (codes "run", rows_of (found_of own.now))) fault) }
+fn explore_words(alloc: Global, own: &ArgMatches) -> Result<Words, WordsFault>
+    ensures asks { IfOk result (λ asked. Asks (Some (codes "explore", rows_of (found_of own.now))) asked) }
+    ensures declines { IfErr result (λ fault. Declines true (Some (codes "explore", rows_of (found_of own.now))) fault) }
+{
+    Ok(Words::Explore {
+        run: run_words(alloc, own)?,
+        first: number_of(own, "from", 1, u32::MAX),
+        last: number_of(own, "to", u32::MAX, u32::MAX),
+    })
+}
+
+/// What is to run. There are no natives yet, so no word names one.
+fn run_words(alloc: Global, own: &ArgMatches) -> Result<RunWords, WordsFault>
+    ensures asks { IfOk result (λ run. AsksRun (rows_of (found_of own.now)) run) }
+    ensures declines { IfErr result (λ fault. DeclinesRun (rows_of (found_of own.now)) fault) }
 {
     if own.contains_id("NATIVE") {
         return Err(WordsFault::Native);
     }
-    let image = word_of(alloc, own, "IMAGE")?;
-    let script = word_of(alloc, own, "SCRIPT")?;
-    Ok(Words::Run {
-        image,
-        script,
+    Ok(RunWords {
+        image: word_of(alloc, own, "IMAGE")?,
+        script: word_of(alloc, own, "SCRIPT")?,
         limit: limit_of(own),
     })
 }
@@ -241,12 +348,19 @@ fn asks_prices(own: &ArgMatches) -> bool
     own.get_flag("prices")
 }
 
-/// The limit. `clap` has found it to be in its range, so bringing it there changes nothing.
 fn limit_of(own: &ArgMatches) -> u32
-    ensures { IsLimit (one_of (codes "limit") (rows_of (found_of own.now))) result }
+    ensures { IsNumberUpTo 1000000000 (one_of (codes "limit") (rows_of (found_of own.now))) result }
 {
-    let limit = own.get_one::<u32>("limit").unwrap_or(1_000_000);
-    limit.clamp(1, 1_000_000_000)
+    number_of(own, "limit", 1_000_000, 1_000_000_000)
+}
+
+/// The number found for that name. `clap` has found one in its range, so bringing it there changes nothing.
+fn number_of(own: &ArgMatches, id: &str, standard: u32, most: u32) -> u32
+    requires { 1 ≤ most }
+    ensures { IsNumberUpTo most (one_of id.now (rows_of (found_of own.now))) result }
+{
+    let number = own.get_one::<u32>(id).unwrap_or(standard);
+    number.clamp(1, most)
 }
 
 /// The word found for that name. `clap` has found one where it is needed; no file has a name without letters.

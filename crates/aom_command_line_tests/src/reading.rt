@@ -1,4 +1,4 @@
-use aom_command_line::{Words, WordsFault, read_words};
+use aom_command_line::{RunWords, Words, WordsFault, read_words};
 use std::alloc::Global;
 use std::test::Fail;
 
@@ -8,11 +8,17 @@ enum Asked {
     Check,
     Prices,
     Run(u32),
+    Explore(u32, u32, u32),
     Asm,
     Dis,
+    Dot,
     Text,
     Native,
     Memory,
+}
+
+fn is_one(run: &RunWords) -> bool {
+    run.image.as_str() == "one.image" && run.script.as_str() == "one.script"
 }
 
 fn ask(alloc: Global, line: &str) -> Result<Asked, Fail> {
@@ -24,17 +30,13 @@ fn ask(alloc: Global, line: &str) -> Result<Asked, Fail> {
         Ok(Words::Check { image, prices }) if image.as_str() == "one.image" => {
             if *prices { Asked::Prices } else { Asked::Check }
         }
-        Ok(
-            Words::Run {
-                image,
-                script,
-                limit,
-            },
-        ) if image.as_str() == "one.image" && script.as_str() == "one.script" => {
-            Asked::Run(*limit)
+        Ok(Words::Run(run)) if is_one(run) => Asked::Run(run.limit),
+        Ok(Words::Explore { run, first, last }) if is_one(run) => {
+            Asked::Explore(run.limit, *first, *last)
         }
         Ok(Words::Asm { text }) if text.as_str() == "one.text" => Asked::Asm,
         Ok(Words::Dis { image }) if image.as_str() == "one.image" => Asked::Dis,
+        Ok(Words::Dot { image }) if image.as_str() == "one.image" => Asked::Dot,
         Ok(_) => return Err(Fail::from("another file")),
         Err(WordsFault::Text(text)) if text.is_empty() => return Err(Fail::from("no text")),
         Err(WordsFault::Text(_)) => Asked::Text,
@@ -57,6 +59,8 @@ fn the_command_line_is_read(rt: HostRuntime) -> Result<(), Fail> {
         ("aom run one.image one.script", Asked::Run(1_000_000)),
         ("aom asm one.text", Asked::Asm),
         ("aom dis one.image", Asked::Dis),
+        ("aom dot one.image", Asked::Dot),
+        ("aom dot", Asked::Text),
         ("aom asm", Asked::Text),
         ("aom dis one.image one.text", Asked::Text),
         ("aom run --limit 7 one.image one.script", Asked::Run(7)),
@@ -74,12 +78,36 @@ fn the_command_line_is_read(rt: HostRuntime) -> Result<(), Fail> {
         ("aom run --limit +7 one.image one.script", Asked::Run(7)),
         ("aom run --limit 00 one.image one.script", Asked::Text),
         ("aom run one.image", Asked::Text),
+        (
+            "aom explore one.image one.script",
+            Asked::Explore(1_000_000, 1, u32::MAX),
+        ),
+        (
+            "aom explore --from 3 --to 2 --limit 7 one.image one.script",
+            Asked::Explore(7, 3, 2),
+        ),
+        (
+            "aom explore one.image --to=0017 one.script --from +4294967295",
+            Asked::Explore(1_000_000, u32::MAX, 17),
+        ),
+        ("aom explore --from 0 one.image one.script", Asked::Text),
+        ("aom explore --to x one.image one.script", Asked::Text),
+        (
+            "aom explore --to 4294967296 one.image one.script",
+            Asked::Text,
+        ),
+        ("aom explore one.image", Asked::Text),
+        ("aom run --from 3 one.image one.script", Asked::Text),
         ("aom check one.image one.script", Asked::Text),
         ("aom", Asked::Text),
         ("aom --help", Asked::Text),
         ("aom help run", Asked::Text),
         ("aom walk", Asked::Text),
         ("aom run one.image one.script counter", Asked::Native),
+        (
+            "aom explore --from 3 one.image one.script counter",
+            Asked::Native,
+        ),
         (
             "aom run one.image one.script a b c d e f g h i j k l m n o p q",
             Asked::Native,

@@ -2,10 +2,11 @@
 use Rattle.std.proofs.Common.{Bool, List, None, Option, Some, [], ap, cond, false, length, refl, true, ℕ, ℤ, ◌&&◌, ◌==◌, ◌∙◌, ◌∷◌, ◌≡◌}
 use Rattle.std.proofs.lemmas.Bool.{eq-eqb, eqb-false, eqb-true, ne_eqb}
 use Rattle.std.proofs.lemmas.List.{length-map}
-use Rattle.std.specs.Prelude.{option_map}
+use Rattle.std.specs.Prelude.{max, option_map}
 use Rattle.aom_sound.specs.Calls.{is_register_but, none_owns_but}
 use Rattle.aom_sound.specs.Destruction.{is_field_of, owns_nothing}
-use Rattle.aom_sound.specs.Places.{Cell, Elsewhere, Entry, Field, Going, Place, Register, held, moved, named, same_place, set_word_field, without, word_field}
+use Rattle.aom_sound.specs.Enlisted.{next_order, next_timer, order_after, request_after}
+use Rattle.aom_sound.specs.Places.{Cell, Elsewhere, Entry, Field, Going, Place, Register, Request, held, moved, named, requested, same_place, set_request, set_word_field, without, word_field}
 use Rattle.aom_sound.specs.State.{Task}
 use Rattle.aom_determined.specs.Names.{IsOneToOne, renamed_cell, renamed_cells, renamed_object, renamed_place, renamed_tasks}
 
@@ -71,6 +72,14 @@ module _ (names : ℕ → ℕ) (one_to_one : IsOneToOne names) where
   set_word_field_renamed n w v [] = refl
   set_word_field_renamed n w v (c ∷ cs) = rw (same_name c.object.name n, set_word_field_renamed n w v cs)
 
+  pub requested_kept : (cs : List Cell) (n : ℕ) → requested (renamed_cells names cs) (names n) ≡ requested cs n
+  requested_kept [] n = refl
+  requested_kept (c ∷ cs) n = rw (same_name c.object.name n, requested_kept cs n)
+
+  pub set_request_renamed : (n : ℕ) (r : Option Request) (cs : List Cell) → set_request (names n) r (renamed_cells names cs) ≡ renamed_cells names (set_request n r cs)
+  set_request_renamed n r [] = refl
+  set_request_renamed n r (c ∷ cs) = rw (same_name c.object.name n, set_request_renamed n r cs)
+
   is_field_kept : (n : ℕ) (q : Place) → is_field_of (names n) (renamed_place names q) ≡ is_field_of n q
   is_field_kept n (Field m f) = same_name n m
   is_field_kept n _ = refl
@@ -78,6 +87,15 @@ module _ (names : ℕ → ℕ) (one_to_one : IsOneToOne names) where
   pub owns_nothing_kept : (cs : List Cell) (n : ℕ) → owns_nothing (renamed_cells names cs) (names n) ≡ owns_nothing cs n
   owns_nothing_kept [] n = refl
   owns_nothing_kept (c ∷ cs) n = rw (is_field_kept n c.owner, owns_nothing_kept cs n)
+
+-- no order looks at a name
+pub order_kept : (names : ℕ → ℕ) (cs : List Cell) → next_order (renamed_cells names cs) ≡ next_order cs
+order_kept names [] = refl
+order_kept names (c ∷ cs) = ap (max (order_after c.request)) (order_kept names cs)
+
+pub timer_kept : (names : ℕ → ℕ) (cs : List Cell) → next_timer (renamed_cells names cs) ≡ next_timer cs
+timer_kept names [] = refl
+timer_kept names (c ∷ cs) = ap (max (request_after c.request)) (timer_kept names cs)
 
 is_register_kept : (names : ℕ → ℕ) (d : ℕ) (spared : Option ℕ) (q : Place) → is_register_but d spared (renamed_place names q) ≡ is_register_but d spared q
 is_register_kept names d None (Field n f) = refl

@@ -1,10 +1,10 @@
 -- What an instruction needs and does it needs and does under other names too: its effect is the same under these names, and so is what each effect does.
 use Rattle.std.proofs.Common.{Bool, List, None, Option, Some, [], ap, cond, false, length, refl, suc, true, zero, ℕ, ℤ, ◌-◌, ◌∙◌, ◌∷◌, ◌≡◌}
-use Rattle.std.specs.Prelude.{option_map}
+use Rattle.std.specs.Prelude.{is_some, option_map}
 use Rattle.aom_image.specs.Image.{Image}
 use Rattle.aom_image.specs.Views.{instr_at, method_class}
 use Rattle.aom_instructions.specs.declared.instr.Instr.{Instr}
-use Rattle.aom_instructions.specs.declared.instr.Instr.TheVariants.{Add, And, Call, Const, Copy, Delete, JumpEmpty, JumpNull, Load, Move, Mul, New, NewOrLeave, Next, Or, Pop, Push, PushOperation, Put, Return, Store, Sub, Take, Trap, Xor}
+use Rattle.aom_instructions.specs.declared.instr.Instr.TheVariants.{Abort, Add, And, Call, Const, Copy, Delete, Enlist, Issue, JumpActive, JumpAdded, JumpEmpty, JumpNull, Load, Move, Mul, New, NewOrLeave, Next, Or, Pop, Push, PushOperation, Put, Return, SetActive, Status, Store, Sub, Take, Trap, Xor}
 use Rattle.aom_instructions.specs.declared.instr.Target.{Target}
 use Rattle.aom_instructions.specs.declared.instr.Target.TheVariants.{Entry as On_entry, Field as On_field, Register as On_register, This}
 use Rattle.aom_image.specs.declared.method.Gives.{Gives}
@@ -13,13 +13,14 @@ use Rattle.aom_sound.specs.Calls.{below_top, entry_place, home_at, own_home, rec
 use Rattle.aom_sound.specs.Cleanup.{code_told, dealt_with, destroyed, to_trap, top_place}
 use Rattle.aom_classes.specs.Roles.{destructor_of}
 use Rattle.aom_sound.specs.Destruction.{begun, begun_by}
-use Rattle.aom_sound.specs.Effects.{Calls, Carried, Destroys, Destroys_last, Effect, Goes_on, In_field, In_register, Leaves, Made, Popped, Popped_operation, Pushed, Pushed_operation, Returns, Same, Sets_trap, Spot, Update, Written, applied, cells_after, deals, deletes, effect, items_after, jumps_unless, makes_unless, round, sets, spot_place, with_words, writes}
+use Rattle.aom_sound.specs.Effects.{Calls, Carried, Destroys, Destroys_last, Effect, Goes_on, In_field, In_register, Jumps, Leaves, Made, Popped, Popped_operation, Pushed, Pushed_operation, Requested, Returns, Same, Sets_trap, Spot, Update, Written, applied, cells_after, deals, deletes, effect, items_after, jumps_if, jumps_unless, makes_unless, round, sets, spot_place, updates, with_words, writes}
+use Rattle.aom_sound.specs.Enlisted.{in_phase, is_busy, own_request, rerequested}
 use Rattle.aom_sound.specs.Moves.{does, needs}
-use Rattle.aom_sound.specs.Places.{Cell, Entry, Going, Object, Place, Register, held, moved}
+use Rattle.aom_sound.specs.Places.{Cell, Entry, Going, Object, Place, Register, Request, held, moved}
 use Rattle.aom_sound.specs.State.{A_mark, An_object, An_operation, AtRoot, Choice, Destroy, Dispatched, Frame, Home, Inside, Item, Run, State, Static, Task, Trapped, Unwind, counter, field_place}
 use Rattle.aom_sound.specs.Words.{loaded, stored}
-use Rattle.aom_determined.proofs.Cells.{held_renamed, moved_renamed, set_word_field_renamed, tasks_counted, word_field_kept}
-use Rattle.aom_determined.proofs.Needs.{call_kept, field_renamed, free_at, given_renamed, held_field, holder_kept, leave_kept, message_at, push_kept, pushed_renamed, put_kept, refusal_kept, register_renamed, return_kept, trap_kept, under_trap_kept, whole_kept}
+use Rattle.aom_determined.proofs.Cells.{held_renamed, moved_renamed, order_kept, set_request_renamed, set_word_field_renamed, tasks_counted, timer_kept, word_field_kept}
+use Rattle.aom_determined.proofs.Needs.{call_kept, field_renamed, free_at, given_renamed, held_field, holder_kept, kind_kept, leave_kept, message_at, own_request_kept, push_kept, pushed_renamed, put_kept, refusal_kept, register_renamed, return_kept, trap_kept, under_trap_kept, whole_kept}
 use Rattle.aom_determined.specs.Names.{IsOneToOne, renamed, renamed_cells, renamed_choice, renamed_frame, renamed_home, renamed_object, renamed_place, renamed_tasks}
 
 -- ---- an effect under other names: a new cell and one that goes have names
@@ -76,6 +77,11 @@ module _ (names : ℕ → ℕ) (one_to_one : IsOneToOne names) where
   stored_renamed cs Static w v = refl
   stored_renamed cs AtRoot w v = refl
   stored_renamed cs (Inside o from) w v = set_word_field_renamed names one_to_one o.name w v cs
+
+  rerequested_renamed : (cs : List Cell) (h : Home) (r : Option Request) → rerequested (renamed_cells names cs) (renamed_home names h) r ≡ renamed_cells names (rerequested cs h r)
+  rerequested_renamed cs Static r = refl
+  rerequested_renamed cs AtRoot r = refl
+  rerequested_renamed cs (Inside o from) r = set_request_renamed names one_to_one o.name r cs
 
   -- ---- what an item is dealt with
 
@@ -171,6 +177,7 @@ module _ (names : ℕ → ℕ) (one_to_one : IsOneToOne names) (p : Image) (c : 
   cells_renamed (Carried from to) = rw (place_renamed from, place_renamed to, moved_renamed names one_to_one (spot_place p fr ts s from) (spot_place p fr ts s to) s.cells)
   cells_renamed (Made name class a) = rw (tasks_counted names ts)
   cells_renamed (Written w v) = stored_renamed names one_to_one s.cells fr.home w v
+  cells_renamed (Requested r) = rerequested_renamed names one_to_one s.cells fr.home r
   cells_renamed (Pushed a) = pushed_renamed names one_to_one p c fr ts s a
   cells_renamed (Pushed_operation m w) = refl
   cells_renamed (Popped a) = rw (tasks_counted names ts, moved_renamed names one_to_one (top_place s.items) (Register (length ts) a) s.cells)
@@ -228,6 +235,12 @@ module _ (names : ℕ → ℕ) (one_to_one : IsOneToOne names) (p : Image) (c : 
   either_renamed true x y x' y' e f = e
   either_renamed false x y x' y' e f = f
 
+  -- a jump by the request of what the method works on
+  branch_renamed : (test : Option Request → Bool) (to : ℕ) → jumps_if fr' (test (own_request s'.cells fr'.home)) to ≡ renamed_effect names (jumps_if fr (test (own_request s.cells fr.home)) to)
+  branch_renamed test to =
+      ap (λ r. jumps_if fr' (test r) to) (own_request_kept names one_to_one s.cells fr.home)
+      ∙ either_renamed (test (own_request s.cells fr.home)) (Jumps to) (updates fr Same) (Jumps to) (updates fr' Same) refl refl
+
   -- the last item is dealt with
   dealt_alike : deals fr' s.items (held s'.cells (top_place s.items)) ≡ renamed_effect names (deals fr s.items (held s.cells (top_place s.items)))
   dealt_alike = ap (deals fr' s.items) (held_renamed names one_to_one s.cells (top_place s.items)) ∙ deals_renamed s.items (held s.cells (top_place s.items))
@@ -239,6 +252,13 @@ module _ (names : ℕ → ℕ) (one_to_one : IsOneToOne names) (p : Image) (c : 
   effect_renamed (Load a w) = ap (writes fr a) (loaded_kept names one_to_one s.cells fr.home w)
   effect_renamed (New a x) = ap (sets fr a None) (made_renamed c.refused a x)
   effect_renamed (Delete a) = ap (λ o. deletes fr' o a) (register_renamed names one_to_one s.cells ts a) ∙ deletes_renamed (held s.cells (Register (length ts) a)) a
+  effect_renamed (JumpActive to) = branch_renamed (in_phase is_busy) to
+  effect_renamed (JumpAdded to) = branch_renamed is_some to
+  effect_renamed (Enlist priority) = rw (order_kept names s.cells)
+  effect_renamed (Issue a b) = rw (kind_kept names p fr.home, timer_kept names s.cells, own_request_kept names one_to_one s.cells fr.home)
+  effect_renamed SetActive = rw (own_request_kept names one_to_one s.cells fr.home)
+  effect_renamed Abort = rw (own_request_kept names one_to_one s.cells fr.home)
+  effect_renamed (Status a) = rw (own_request_kept names one_to_one s.cells fr.home)
   effect_renamed _ = first_of (cc, search (either_renamed), search (dealt_alike))
 
   -- ---- what an instruction needs
@@ -266,6 +286,13 @@ module _ (names : ℕ → ℕ) (one_to_one : IsOneToOne names) (p : Image) (c : 
   needs_kept (Push a) = push_kept names one_to_one p c fr ts s a
   needs_kept (PushOperation a m) = rw (refusal_kept names one_to_one p c fr ts s s.cells, trap_kept names ts)
   needs_kept (Pop a) = rw (free_at names one_to_one s.cells ts a)
+  needs_kept (JumpActive to) = rw (kind_kept names p fr.home)
+  needs_kept (JumpAdded to) = rw (kind_kept names p fr.home)
+  needs_kept (Enlist priority) = rw (kind_kept names p fr.home, own_request_kept names one_to_one s.cells fr.home)
+  needs_kept (Issue a b) = rw (kind_kept names p fr.home, own_request_kept names one_to_one s.cells fr.home)
+  needs_kept SetActive = rw (kind_kept names p fr.home, own_request_kept names one_to_one s.cells fr.home)
+  needs_kept Abort = rw (kind_kept names p fr.home, own_request_kept names one_to_one s.cells fr.home)
+  needs_kept (Status a) = rw (kind_kept names p fr.home, free_at names one_to_one s.cells ts a)
   needs_kept (Return a) = return_kept names one_to_one p c fr ts s a
   needs_kept _ = first_of (cc, rw (leave_kept names s.cells (Run fr ∷ ts)), rw (whole_kept names one_to_one s.cells s.items))
 

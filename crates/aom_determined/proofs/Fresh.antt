@@ -7,7 +7,7 @@ use Rattle.aom_shape.specs.declared.kind.Kind.TheVariants.{Null}
 use Rattle.aom_sound.proofs.Claimed.{claim_unnamed}
 use Rattle.aom_sound.proofs.Straight.{fits_unowning}
 use Rattle.aom_sound.specs.Claims.{Dispatching, Dying, Layer, Mark, Method, Unwinding, declared, declared_field, tasks_of}
-use Rattle.aom_sound.specs.Places.{Cell, Elsewhere, Entry, Field, Going, Place, Register, held, named, same_place}
+use Rattle.aom_sound.specs.Places.{Cell, Elsewhere, Entry, Field, Going, Place, Register, held, named, same_place, seen}
 use Rattle.aom_sound.specs.State.{AtRoot, Home, Inside, Run, State, Static, Task}
 use Rattle.aom_sound.specs.WellTyped.{Back, Caught, Fits, Gone, Good, IsHoused, Leaves, Now, Returns, Stack, WellTyped}
 use Rattle.aom_sound.proofs.Maps.{same_place_refl}
@@ -135,7 +135,7 @@ module _ (names : ℕ → ℕ) where
 unnamed_owns_nothing : (p : Image) (t : Typing) (cs : List Cell) (ls : List Layer) → Good p t cs ls → (n f : ℕ) → named cs n ≡ None → held cs (Field n f) ≡ None
 unnamed_owns_nothing p t cs ls good n f e =
     let null = claim_unnamed p t cs (declared p cs) ls Now n f good.stack e ∙ ap (λ o. declared_field p o f) e in
-    fits_unowning p (held cs) (held cs (Field n f)) Null refl (subst (λ k. Fits p (held cs) (held cs (Field n f)) k) null (good.fits (Field n f)))
+    fits_unowning p (seen cs) (held cs (Field n f)) Null refl (subst (λ k. Fits p (seen cs) (held cs (Field n f)) k) null (good.fits (Field n f)))
 
 -- a renaming of names that are not in use
 pub spared : (p : Image) (t : Typing) (s : State) (names : ℕ → ℕ) → WellTyped p t s → ((n : ℕ) → named s.cells n ≢ None → names n ≡ n) → renamed names s ≡ s

@@ -14,10 +14,11 @@ use Rattle.aom_image.specs.declared.method.Thing.TheVariants.{Object as An_objec
 use Rattle.aom_shape.specs.Things.{field_thing}
 use Rattle.aom_sound.specs.Calls.{end_needs, entry_place, given_cells, is_level, is_worked_on, is_emptied, leaves_object, needs_argument, needs_call, needs_each, needs_entering, needs_result, needs_return, needs_target, needs_target_object, needs_trap, passed_cells, result_needs, result_source}
 use Rattle.aom_sound.specs.Cleanup.{above_trap_is_free, has_trap, if_refused, leave_needs, needs_push, pushed_cells, top_is_whole}
+use Rattle.aom_sound.specs.Enlisted.{home_kind, own_request}
 use Rattle.aom_sound.specs.Objects.{is_declared_thing, is_no_message, is_thing, needs_put}
 use Rattle.aom_sound.specs.Places.{Cell, Entry, Object, Register, held, moved}
 use Rattle.aom_sound.specs.State.{A_mark, An_object, An_operation, AtRoot, Choice, Destroy, Dispatched, Frame, Home, Inside, Item, Need, Orphan, Run, State, Static, Task, Trapped, Unwind, field_place, home_holder}
-use Rattle.aom_determined.proofs.Cells.{held_renamed, moved_renamed, none_owns_kept, owns_nothing_kept, tasks_counted}
+use Rattle.aom_determined.proofs.Cells.{held_renamed, moved_renamed, none_owns_kept, owns_nothing_kept, requested_kept, tasks_counted}
 use Rattle.aom_determined.specs.Names.{IsOneToOne, renamed, renamed_cells, renamed_choice, renamed_frame, renamed_home, renamed_object, renamed_place, renamed_tasks}
 
 -- ---- what is asked of an object, none of which is its name
@@ -55,6 +56,11 @@ module _ (names : ℕ → ℕ) where
   holder_kept Static = refl
   holder_kept AtRoot = refl
   holder_kept (Inside o from) = refl
+
+  pub kind_kept : (p : Image) (h : Home) → home_kind p (renamed_home names h) ≡ home_kind p h
+  kind_kept p Static = refl
+  kind_kept p AtRoot = refl
+  kind_kept p (Inside o from) = refl
 
   pub field_renamed : (h : Home) (f : ℕ) → field_place (renamed_home names h) f ≡ renamed_place names (field_place h f)
   field_renamed Static f = refl
@@ -118,6 +124,12 @@ module _ (names : ℕ → ℕ) (one_to_one : IsOneToOne names) where
   emptied_kept cs Static = refl
   emptied_kept cs AtRoot = refl
   emptied_kept cs (Inside o from) = owns_nothing_kept names one_to_one cs o.name
+
+  -- the request of what a method works on
+  pub own_request_kept : (cs : List Cell) (h : Home) → own_request (renamed_cells names cs) (renamed_home names h) ≡ own_request cs h
+  own_request_kept cs Static = refl
+  own_request_kept cs AtRoot = refl
+  own_request_kept cs (Inside o from) = requested_kept names one_to_one cs o.name
 
   entry_owns : (cs : List Cell) (k : ℕ) → is_some (held (renamed_cells names cs) (Entry k)) ≡ is_some (held cs (Entry k))
   entry_owns cs k = ap is_some (held_renamed names one_to_one cs (Entry k)) ∙ some_kept names (held cs (Entry k))

@@ -22,7 +22,7 @@ use Rattle.aom_sound.proofs.Maps.{held_lives, one_place}
 use Rattle.aom_sound.proofs.Straight.{claim_field}
 use Rattle.aom_sound.specs.Claims.{Dispatching, Dying, Layer, Mark, Mark_form, Method, Object_form, Unwinding, claim, declared, declared_field, entry_claim, entry_form, form, forms, home_claim, items_of, objects, root_claim}
 use Rattle.aom_sound.specs.Owned.{over}
-use Rattle.aom_sound.specs.Places.{Cell, Elsewhere, Entry, Field, Object, Place, Register, Root, held, named}
+use Rattle.aom_sound.specs.Places.{Cell, Elsewhere, Entry, Field, Object, Place, Register, Root, Sight, held, named, seen}
 use Rattle.aom_sound.specs.State.{An_object, AtRoot, Destroy, Dispatched, Frame, Home, Inside, Item, Main_left, Of_main, Of_root, Run, State, Static, Task, Trapped, Unwind, field_place, thing_holder, word}
 use Rattle.aom_sound.specs.WellTyped.{Back, Caught, Fits, Gone, IsHoused, Leaves, Now, Returns, Stack, Good}
 use Rattle.aom_sound.proofs.Layers.{method_layer}
@@ -68,7 +68,7 @@ word_under (task ∷ above) fr below i =
 -- ---- fields, the root and entries
 
 -- what a field is declared to be says no more than what is known of it
-declared_says : (p : Image) (h : Place → Option Object) (thing : Option Thing) (x : Filling) (n : ℕ) (o : Option Object) → n ≡ number o → Fits p h o (filled thing x)
+declared_says : (p : Image) (h : Sight) (thing : Option Thing) (x : Filling) (n : ℕ) (o : Option Object) → n ≡ number o → Fits p h o (filled thing x)
     → NumberSays p (filled thing Perhaps) n o
 declared_says p h None x n None same fits = record { number = same; none = refl }
 declared_says p h (Some t) x n None same fits = inl (record { number = same; none = refl })
@@ -77,20 +77,20 @@ declared_says p h (Some t) Perhaps n (Some y) same fits = inr (record { object =
 declared_says p h _ _ n _ same fits = absurd fits
 
 -- and what is known of it says so
-filled_says : (p : Image) (h : Place → Option Object) (t : Thing) (x : Filling) (n : ℕ) (o : Option Object) → n ≡ number o → Fits p h o (filled (Some t) x) → NumberSays p (filled (Some t) x) n o
+filled_says : (p : Image) (h : Sight) (t : Thing) (x : Filling) (n : ℕ) (o : Option Object) → n ≡ number o → Fits p h o (filled (Some t) x) → NumberSays p (filled (Some t) x) n o
 filled_says p h t Empty n None same fits = record { number = same; none = refl }
 filled_says p h t Perhaps n None same fits = inl (record { number = same; none = refl })
 filled_says p h t Full n (Some y) same fits = record { object = y; owned = refl; number = same; thing = fits.0 }
 filled_says p h t Perhaps n (Some y) same fits = inr (record { object = y; owned = refl; number = same; thing = fits.0 })
 filled_says p h t _ n _ same fits = absurd fits
 
-empty_fits : (p : Image) (h : Place → Option Object) (thing : Option Thing) (o : Option Object) → Fits p h o Null → Fits p h o (filled thing Empty)
+empty_fits : (p : Image) (h : Sight) (thing : Option Thing) (o : Option Object) → Fits p h o Null → Fits p h o (filled thing Empty)
 empty_fits p h None o fits = fits
 empty_fits p h (Some t) o fits = fits
 
 module _ (p : Image) (t : Typing) (cs : List Cell) (n : ℕ) (o : Option Object) (same : n ≡ number o) where
   abbrev F : Kind → Type 0
-  F k = Fits p (held cs) o k
+  F k = Fits p (seen cs) o k
 
   abbrev Declared : Object → ℕ → Type 0
   Declared x f = NumberSays p (filled (field_thing p (thing_holder x.thing) f) Perhaps) n o
@@ -99,7 +99,7 @@ module _ (p : Image) (t : Typing) (cs : List Cell) (n : ℕ) (o : Option Object)
   RootDeclared = NumberSays p (filled (field_thing p Program 0) Perhaps) n o
 
   field_says : (x : Object) (f : ℕ) → named cs x.name ≡ Some x → (ls : List Layer) (back : Back) → Stack p t cs back ls → F (claim p (declared p cs) ls (Field x.name f)) → Declared x f
-  field_says x f lives [] back st fits = declared_says p (held cs) (field_thing p (thing_holder x.thing) f) Perhaps n o same (subst (λ y. F (declared_field p y f)) lives fits)
+  field_says x f lives [] back st fits = declared_says p (seen cs) (field_thing p (thing_holder x.thing) f) Perhaps n o same (subst (λ y. F (declared_field p y f)) lives fits)
   field_says x f lives (Method fr sh ∷ ls) back st fits = go fr.home st.2 (field_says x f lives ls (Returns fr.method fr.home) st.4) fits
     where
       go : (home : Home) → IsHoused p cs ls home → (F (claim p (declared p cs) ls (Field x.name f)) → Declared x f)
@@ -111,34 +111,34 @@ module _ (p : Image) (t : Typing) (cs : List Cell) (n : ℕ) (o : Option Object)
           inside : (b : Bool) → (y.name == x.name) ≡ b → F (cond b (filled (field_thing p (thing_holder y.thing) f) (field sh f)) (claim p (declared p cs) ls (Field x.name f))) → Declared x f
           inside true e fits =
               let alike : y ≡ x = same_Some y x (sym housed.lives ∙ ap (λ k. named cs k) (eqb-true y.name x.name e) ∙ lives) in
-              declared_says p (held cs) (field_thing p (thing_holder x.thing) f) (field sh f) n o same
+              declared_says p (seen cs) (field_thing p (thing_holder x.thing) f) (field sh f) n o same
               (subst (λ (z : Object). F (filled (field_thing p (thing_holder z.thing) f) (field sh f))) alike fits)
           inside false e fits = below fits
   field_says x f lives (Mark gv ∷ ls) back st fits = field_says x f lives ls (Caught gv) st.1 fits
   field_says x f lives (Unwinding code es ∷ ls) back st fits = field_says x f lives ls Leaves st.1 fits
   field_says x f lives (Dispatching d ∷ ls) back st fits =
-      declared_says p (held cs) (field_thing p (thing_holder x.thing) f) Perhaps n o same
+      declared_says p (seen cs) (field_thing p (thing_holder x.thing) f) Perhaps n o same
       (subst (λ y. F (declared_field p y f)) lives (subst (λ l. F (claim p (declared p cs) l (Field x.name f))) st.1 fits))
   field_says x f lives (Dying y ∷ ls) back st fits = go (y.name == x.name) (field_says x f lives ls Gone st.2) fits
     where
       go : (b : Bool) → (F (claim p (declared p cs) ls (Field x.name f)) → Declared x f) → F (cond b Null (claim p (declared p cs) ls (Field x.name f))) → Declared x f
-      go true below fits = let thing = field_thing p (thing_holder x.thing) f in declared_says p (held cs) thing Empty n o same (empty_fits p (held cs) thing o fits)
+      go true below fits = let thing = field_thing p (thing_holder x.thing) f in declared_says p (seen cs) thing Empty n o same (empty_fits p (seen cs) thing o fits)
       go false below fits = below fits
 
   root_says : (ls : List Layer) → F (claim p (declared p cs) ls (Elsewhere Root)) → RootDeclared
-  root_says [] fits = declared_says p (held cs) (field_thing p Program 0) Perhaps n o same fits
+  root_says [] fits = declared_says p (seen cs) (field_thing p Program 0) Perhaps n o same fits
   root_says (Method fr sh ∷ ls) fits = go fr.home (root_says ls) fits
     where
       go : (home : Home) → (F (claim p (declared p cs) ls (Elsewhere Root)) → RootDeclared) → F (root_claim p home sh (claim p (declared p cs) ls (Elsewhere Root))) → RootDeclared
       go Static below fits = below fits
-      go AtRoot below fits = declared_says p (held cs) (field_thing p Program 0) (field sh 0) n o same fits
+      go AtRoot below fits = declared_says p (seen cs) (field_thing p Program 0) (field sh 0) n o same fits
       go (Inside y from) below fits = below fits
   root_says (Mark gv ∷ ls) fits = root_says ls fits
   root_says (Dying y ∷ ls) fits = root_says ls fits
   root_says (Unwinding code es ∷ ls) fits = root_says ls fits
   root_says (Dispatching Of_main ∷ ls) fits = root_says ls fits
   root_says (Dispatching (Main_left code) ∷ ls) fits = root_says ls fits
-  root_says (Dispatching Of_root ∷ ls) fits = declared_says p (held cs) (field_thing p Program 0) Empty n o same (empty_fits p (held cs) (field_thing p Program 0) o fits)
+  root_says (Dispatching Of_root ∷ ls) fits = declared_says p (seen cs) (field_thing p Program 0) Empty n o same (empty_fits p (seen cs) (field_thing p Program 0) o fits)
 
 -- an object's item is claimed to own
 abbrev IsOwn : Kind → Type 0
@@ -148,7 +148,7 @@ IsOwn Null = ⊥
 IsOwn (Own t a) = Unit {0}
 IsOwn (Maybe t a) = ⊥
 
-owns_one : (p : Image) (h : Place → Option Object) (k : Kind) (o : Option Object) → IsOwn k → Fits p h o k → (x : Object) × (o ≡ Some x)
+owns_one : (p : Image) (h : Sight) (k : Kind) (o : Option Object) → IsOwn k → Fits p h o k → (x : Object) × (o ≡ Some x)
 owns_one p h (Own t a) (Some x) own fits = (x, refl)
 owns_one p h _ _ own fits = absurd (assumption tt)
 
@@ -239,8 +239,8 @@ module _ (m : Machine) (s : State) (st : StandsFor m s) where
         fields = λ f thing declares.
             let q = field_place g.home f in
             let claims = claim_field p (declared p s.cells) g sh ls g.home f refl (ap is_some declares) ∙ ap (λ x. filled x (field sh f)) declares in
-            filled_says p (held s.cells) thing (field sh f) (value m.parts q) (held s.cells q) (plain q (no_word_there g.home f))
-            (subst (λ k. Fits p (held s.cells) (held s.cells q) k) claims (good.fits q));
+            filled_says p (seen s.cells) thing (field sh f) (value m.parts q) (held s.cells q) (plain q (no_word_there g.home f))
+            (subst (λ k. Fits p (seen s.cells) (held s.cells q) k) claims (good.fits q));
       }
 
   pub agreement : Agreement m s
@@ -257,7 +257,7 @@ module _ (m : Machine) (s : State) (st : StandsFor m s) where
     root = root_says p st.typing s.cells (value m.parts (Elsewhere Root)) (held s.cells (Elsewhere Root)) (plain (Elsewhere Root) refl) st.typed.layers (st.typed.good.fits (Elsewhere Root));
     entries = λ k object.
         let own = entries_own p (declared p s.cells) k st.typed.layers (ap (λ fs. over fs k) (sym st.typed.items) ∙ over_forms s.items k object) in
-        let x = owns_one p (held s.cells) _ _ own (st.typed.good.fits (Entry k)) in
+        let x = owns_one p (seen s.cells) _ _ own (st.typed.good.fits (Entry k)) in
         (x.0, x.1, (owner_shows (Entry k) x.0 x.1).1);
   }
 

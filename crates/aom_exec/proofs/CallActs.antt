@@ -5,7 +5,7 @@ use Rattle.aom_instructions.specs.declared.instr.Instr.TheVariants.{Stop}
 use Rattle.aom_shape.specs.declared.kind.Kind.TheVariants.{Null}
 use Rattle.aom_rules.specs.Typing.{Typing}
 use Rattle.aom_cells.specs.Heap.{null}
-use Rattle.aom_sound.specs.Places.{Place, Register, Entry, Field, Going, Elsewhere, Object, held}
+use Rattle.aom_sound.specs.Places.{Elsewhere, Entry, Field, Going, Object, Place, Register, Sight, held, seen}
 use Rattle.aom_sound.specs.State.{Dispatch, Dispatched, Rest, State}
 use Rattle.aom_sound.specs.Calls.{below_top}
 use Rattle.aom_sound.specs.Claims.{Dispatching}
@@ -38,16 +38,16 @@ pub record Closing (s : State) : Type 0 where
   pub entries : (k : ℕ) → held s.cells (Entry k) ≡ None
   pub goings : (k : ℕ) → held s.cells (Going k) ≡ None
 
-pub fits_null : (p : Image) (h : Place → Option Object) (o : Option Object) → Fits p h o Null → o ≡ None
+pub fits_null : (p : Image) (h : Sight) (o : Option Object) → Fits p h o Null → o ≡ None
 fits_null p h o e = fits_unowning p h o Null refl e
 
 pub closing : (p : Image) (t : Typing) (s : State) (d : Dispatch) → WellTyped p t s → s.tasks ≡ Dispatched d ∷ [] → Closing s
 closing p t s d typed e = dispatch_layer (Good p t s.cells) d [] typed.layers (sym typed.tasks ∙ e) typed.good (λ ls _ good.
     let alone = subst (λ ls. Good p t s.cells (Dispatching d ∷ ls)) good.stack.1 good in
     record {
-      registers = λ d i. fits_null p (held s.cells) _ (alone.fits (Register d i));
-      entries = λ k. fits_null p (held s.cells) _ (alone.fits (Entry k));
-      goings = λ k. fits_null p (held s.cells) _ (alone.fits (Going k));
+      registers = λ d i. fits_null p (seen s.cells) _ (alone.fits (Register d i));
+      entries = λ k. fits_null p (seen s.cells) _ (alone.fits (Entry k));
+      goings = λ k. fits_null p (seen s.cells) _ (alone.fits (Going k));
     })
 
 same_cond : {A : Type 0} (b : Bool) (x : A) → cond b x x ≡ x

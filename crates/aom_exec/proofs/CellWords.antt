@@ -1,5 +1,6 @@
 -- The words of cells: what moves, goes, is made and is written leaves all others as they were.
-use Rattle.std.proofs.Common.{zero, suc, inl, inr, ◌≡◌, ℕ, ℤ, pos, Bool, true, false, cond, ◌==◌, List, [], ◌∷◌, Option, Some, None, replicate, slice_index_or, refl, sym, ap, ◌∙◌, arith}
+use Rattle.std.proofs.Common.{zero, suc, inl, inr, ◌≡◌, ℕ, ℤ, pos, Bool, true, false, cond, ◌==◌, ◌&&◌, List, [], ◌∷◌, Option, Some, None, replicate, slice_index_or, refl, sym, ap, ◌∙◌, arith}
+use Rattle.std.specs.Prelude.{is_some}
 use Rattle.std.proofs.lemmas.Bool.{cases_lt, eq-eqb, eqb-true, false≢true}
 use Rattle.std.proofs.lemmas.List.{get_or_past, get_or-replicate, get_or-set_other, length-replicate}
 use Rattle.aom_cells.specs.Heap.{Heap, cell_at, word_of, with_word, Changes}
@@ -43,13 +44,15 @@ words_other (c ∷ cs) n w v k x d = go (c.object.name == n) refl (words_other c
         ∙ rest
         ∙ sym (ap (λ b. cond b (at (pos 0) c.words x) (word_field cs k x)) other)
 
-pub words_here : (cs : List Cell) (n w : ℕ) (v : ℤ) (o : Object) (x : ℕ) → named cs n ≡ Some o → word_field (set_word_field n w v cs) n x ≡ cond (w == x) v (word_field cs n x)
-words_here [] n w v o x e = cc
-words_here (c ∷ cs) n w v o x e = go (c.object.name == n) (words_here cs n w v o x) e
+pub words_here : (cs : List Cell) (n w : ℕ) (v : ℤ) (x : ℕ) → word_field (set_word_field n w v cs) n x ≡ cond (is_some (named cs n) && (w == x)) v (word_field cs n x)
+words_here [] n w v x = refl
+words_here (c ∷ cs) n w v x = go (c.object.name == n) (words_here cs n w v x)
   where
-    go : (b : Bool) → (named cs n ≡ Some o → word_field (set_word_field n w v cs) n x ≡ cond (w == x) v (word_field cs n x)) → cond b (Some c.object) (named cs n) ≡ Some o → cond b (at (pos 0) (cond b (put_at (pos 0) c.words w v) c.words) x) (word_field (set_word_field n w v cs) n x) ≡ cond (w == x) v (cond b (at (pos 0) c.words x) (word_field cs n x))
-    go true rest e = at-put_at (pos 0) c.words w x v
-    go false rest e = rest e
+    go : (b : Bool) → word_field (set_word_field n w v cs) n x ≡ cond (is_some (named cs n) && (w == x)) v (word_field cs n x)
+        → cond b (at (pos 0) (cond b (put_at (pos 0) c.words w v) c.words) x) (word_field (set_word_field n w v cs) n x)
+        ≡ cond (is_some (cond b (Some c.object) (named cs n)) && (w == x)) v (cond b (at (pos 0) c.words x) (word_field cs n x))
+    go true rest = at-put_at (pos 0) c.words w x v
+    go false rest = rest
 
 -- the machine writes a word of a cell
 word_left : (c : Option Held_cell) (w x : ℕ) (v : ℤ) → (w == x) ≡ false → word_of (with_word c w v) x ≡ word_of c x
@@ -62,7 +65,10 @@ words_stored h h' cs n w v o same lives ch here k x = cases (n == k)
     (λ e. ap (λ i. cell_word h' i x) (sym (eqb-true n k e)) ∙ this ∙ ap (λ i. word_field (set_word_field n w v cs) i x) (eqb-true n k e))
     (λ e. ap (λ c. word_of c x) (ch.others k (λ d. false≢true (sym e ∙ eq-eqb n k (sym d)))) ∙ same k x ∙ sym (words_other cs n w v k x e))
   where
+    now : (b : Bool) → (w == x) ≡ b → word_field (set_word_field n w v cs) n x ≡ cond b v (word_field cs n x)
+    now b e = words_here cs n w v x ∙ ap (λ o. cond (is_some o && (w == x)) v (word_field cs n x)) lives ∙ ap (λ b. cond b v (word_field cs n x)) e
+
     this : cell_word h' n x ≡ word_field (set_word_field n w v cs) n x
     this = cases (w == x)
-        (λ e. ap (λ i. cell_word h' n i) (sym (eqb-true w x e)) ∙ here ∙ sym (words_here cs n w v o x lives ∙ ap (λ b. cond b v (word_field cs n x)) e))
-        (λ e. ap (λ c. word_of c x) ch.here ∙ word_left (cell_at h n) w x v e ∙ same n x ∙ sym (words_here cs n w v o x lives ∙ ap (λ b. cond b v (word_field cs n x)) e))
+        (λ e. ap (λ i. cell_word h' n i) (sym (eqb-true w x e)) ∙ here ∙ sym (now true e))
+        (λ e. ap (λ c. word_of c x) ch.here ∙ word_left (cell_at h n) w x v e ∙ same n x ∙ sym (now false e))

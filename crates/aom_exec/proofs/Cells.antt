@@ -1,11 +1,11 @@
 -- The machine's cells, where owners move and where a cell goes.
-use Rattle.std.proofs.Common.{suc, ◌≡◌, ℕ, pos, ◌+◌, Bool, true, false, cond, ◌==◌, length, List, [], ◌∷◌, Some, None, refl, sym, ap, ◌∙◌, arith}
-use Rattle.std.proofs.lemmas.Bool.{eqb-true, eq-eqb, false≢true}
+use Rattle.std.proofs.Common.{suc, ◌≡◌, ℕ, pos, ◌+◌, Bool, true, false, cond, not, ◌==◌, length, List, [], ◌∷◌, Option, Some, None, refl, sym, ap, ◌∙◌, arith}
+use Rattle.std.proofs.lemmas.Bool.{eqb-true, eq-eqb, false≢true, false_from_ne_true, not-true, true≢false}
 use Rattle.aom_image.specs.Image.{Image}
 use Rattle.aom_cells.specs.Heap.{Heap, null, cell_at, word_of, count, Changes}
 use Rattle.aom_shape.specs.Tables.{at}
 use Rattle.aom_sound.specs.Places.{Place, Object, Cell, same_place, held, named, moved, without, Tidy, word_field}
-use Rattle.aom_sound.proofs.Maps.{same_place-true, named_moved, named_without, unnamed}
+use Rattle.aom_sound.proofs.Maps.{front_free, same_place-true, named_moved, named_without, unnamed}
 use Rattle.aom_exec.specs.Agrees.{SameCells, thing_in, thing_of}
 use Rattle.aom_exec.proofs.Values.{cases}
 use Rattle.aom_exec.proofs.CellWords.{words_moved, words_unnamed}
@@ -28,19 +28,29 @@ cells_moved p h cs from to same = record {
 -- where a place owns nothing, nothing of its goes
 without_free : (cs : List Cell) (g : Place) → held cs g ≡ None → without g cs ≡ cs
 without_free [] g e = refl
-without_free (c ∷ cs) g e = go (same_place c.owner g) (without_free cs g) e
-  where
-    go : (b : Bool) → (held cs g ≡ None → without g cs ≡ cs) → cond b (Some c.object) (held cs g) ≡ None → cond b (without g cs) (c ∷ without g cs) ≡ c ∷ cs
-    go true rest e = cc
-    go false rest e = ap (λ (ds : List Cell). c ∷ ds) (rest e)
+without_free (c ∷ cs) g e =
+    let f = front_free _ _ _ e in
+    ap (λ b. cond b (without g cs) (c ∷ without g cs)) f.0 ∙ ap (λ (ds : List Cell). c ∷ ds) (without_free cs g f.1)
 
-length_without : (cs : List Cell) (g : Place) (o : Object) → Tidy cs → held cs g ≡ Some o → length cs ≡ suc (length (without g cs))
-length_without [] g o tidy e = cc
-length_without (c ∷ cs) g o tidy e = go (same_place c.owner g) refl (length_without cs g o tidy.2) e
+-- the place of a cell that is not owned so is another
+pub unowned : (c : Cell) (cs : List Cell) (r : Place) (is : Place → Bool) → is r ≡ true → not (is c.owner) ≡ true → held cs r ≡ None → held (c ∷ cs) r ≡ None
+unowned c cs r is here other none =
+    let apart = false_from_ne_true (same_place c.owner r) (λ same. true≢false (sym here ∙ ap is (sym (same_place-true c.owner r same)) ∙ not-true _ other)) in
+    ap (λ b. cond b (Some c.object) (held cs r)) apart ∙ none
+
+-- and else one cell goes
+abbrev counted : Option Object → ℕ
+counted None = 0
+counted (Some o) = 1
+
+length_without : (cs : List Cell) (g : Place) → Tidy cs → length cs ≡ counted (held cs g) + length (without g cs)
+length_without [] g tidy = omega arith
+length_without (c ∷ cs) g tidy = go (same_place c.owner g) refl (length_without cs g tidy.2)
   where
-    go : (b : Bool) → same_place c.owner g ≡ b → (held cs g ≡ Some o → length cs ≡ suc (length (without g cs))) → cond b (Some c.object) (held cs g) ≡ Some o → suc (length cs) ≡ suc (length (cond b (without g cs) (c ∷ without g cs)))
-    go true is rest e = ap (λ (ds : List Cell). suc (length ds)) (sym (without_free cs g (ap (held cs) (sym (same_place-true c.owner g is)) ∙ tidy.0)))
-    go false is rest e = ap suc (rest e)
+    go : (b : Bool) → same_place c.owner g ≡ b → length cs ≡ counted (held cs g) + length (without g cs)
+        → suc (length cs) ≡ counted (cond b (Some c.object) (held cs g)) + length (cond b (without g cs) (c ∷ without g cs))
+    go true is rest = let same = ap length (without_free cs g (ap (held cs) (sym (same_place-true c.owner g is)) ∙ tidy.0)) in omega arith
+    go false is rest = omega (arith, rest)
 
 -- the words of another cell than the one that goes
 words_without : (cs : List Cell) (g : Place) (o : Object) (n w : ℕ) → Tidy cs → held cs g ≡ Some o → (o.name == n) ≡ false → word_field (without g cs) n w ≡ word_field cs n w
@@ -63,7 +73,7 @@ cells_without p h h' cs g o same tidy is ch less = record {
   words = λ k w. cases (o.name == k)
       (λ e. ap (λ i. word_of (cell_at h' i) w) (sym (eqb-true o.name k e)) ∙ ap (λ c. word_of c w) ch.here ∙ sym (words_unnamed (without g cs) k w (ap (named (without g cs)) (sym (eqb-true o.name k e)) ∙ unnamed cs g o tidy is)))
       (λ e. ap (λ c. word_of c w) (other k e) ∙ same.words k w ∙ sym (words_without cs g o k w tidy is e));
-  count = (let a = length_without cs g o tidy is in let b = same.count in omega arith);
+  count = (let a = length_without cs g tidy ∙ ap (λ o. counted o + length (without g cs)) is in let b = same.count in omega arith);
   limit = ch.limit ∙ same.limit;
   wide = λ k c e. same.wide k c (sym (still k c e) ∙ e);
   classes = λ k c e. same.classes k c (sym (still k c e) ∙ e);

@@ -13,7 +13,7 @@ use Rattle.aom_sound.specs.Cleanup.{dealt_with as deals_with, destroyed, operati
 use Rattle.aom_classes.specs.Roles.{destructor_of}
 use Rattle.aom_sound.specs.Places.{Place, Register, Entry, Going, Object, changed, held}
 use Rattle.aom_sound.proofs.Dealing.{dealing as dealing_effect}
-use Rattle.aom_sound.specs.State.{Static, frame_of, Run, Item, An_object, An_operation, State}
+use Rattle.aom_sound.specs.State.{Static, frame_of, Run, Item, An_object, State}
 use Rattle.aom_sound.specs.WellTyped.{WellTyped}
 use Rattle.aom_frames.specs.Tasks.{fresh}
 use Rattle.aom_frames.specs.declared.task.Task.TheVariants.{Run as Runs_frame}
@@ -27,6 +27,7 @@ use Rattle.aom_exec.specs.Agrees.{Shows, SameFrame, SameItems, word_at, number, 
 use Rattle.aom_exec.specs.Cleanup.{TopLives, dealing, dealt_with}
 use Rattle.aom_exec.specs.Going.{destroying, destructor_at}
 use Rattle.aom_exec.specs.Places.{value_in, with_items, with_tasks}
+use Rattle.aom_exec.proofs.Alike.{Entries_alike, entries_alike, entries_own, entries_run}
 use Rattle.aom_exec.proofs.Entries.{owns_none, same_items_length, top_value, value_alike, value_popped}
 use Rattle.aom_exec.proofs.GoingActs.{begins, destructor_same, dying_shows, fresh_value, fresh_word}
 use Rattle.aom_exec.proofs.ReturnActs.{none_above}
@@ -88,12 +89,11 @@ module _ (p : Image) (m : Parts) (t : Typing) (s : State) (typed : WellTyped p t
       }
 
   pub deals : tops_entry s.items ≡ true → top_is_whole s.cells s.items ≡ true → Agrees p (dealt_with p m) (deals_with p s.items s.tasks s)
-  deals some whole = go m.entries.items s.items refl agrees.entries some whole
+  deals some whole = go refl (entries_alike m.entries.items s.items agrees.entries (entry_tops m.entries.items s.items agrees.entries some)) whole
     where
-      go : (is : List Held_item) (js : List Item) → m.entries.items ≡ is → SameItems is js → tops_entry js ≡ true → top_is_whole s.cells js ≡ true → Agrees p (dealing p is m) (deals_with p js s.tasks s)
-      go (Holds_object n ∷ is) (An_object ∷ js) was same some whole = object_goes n is js was same.1 (held s.cells (Entry (length js))) refl whole
-      go (Holds_operation k n ∷ is) (An_operation k' w ∷ js) was same some whole = operation_runs k n k' w is js was same.0.0 same.0.1 same.1
-      go is _ was same some whole = absurd (grind arith)
+      go : {is : List Held_item} {js : List Item} → m.entries.items ≡ is → Entries_alike is js → top_is_whole s.cells js ≡ true → Agrees p (dealing p is m) (deals_with p js s.tasks s)
+      go was (entries_own n is js same) whole = object_goes n is js was same (held s.cells (Entry (length js))) refl whole
+      go was (entries_run k n k' w is js which word same) whole = operation_runs k n k' w is js was which word same
 
 module _ (p : Image) (m : Parts) where
   pub deletes_entry : IsNext p PopDelete m → IsAboveMark m.entries.items

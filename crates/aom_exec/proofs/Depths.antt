@@ -1,7 +1,6 @@
 -- The room that a run needs, and what a move does to it: a frame begins or ends, an item comes or goes, cells move.
 use Rattle.std.proofs.Common.{Bool, List, Some, [], ap, arith, cond, false, length, refl, subst, sym, true, ℕ, ◌+◌, ◌<◌, ◌∙◌, ◌∷◌, ◌≡◌, ◌≤◌}
-use Rattle.std.proofs.lemmas.Bool.{le-ltb, ltb-false}
-use Rattle.std.specs.Prelude.{nat_lt}
+use Rattle.std.proofs.lemmas.Bool.{le-ltb, lt-ltb}
 use Rattle.aom_image.specs.Image.{Image}
 use Rattle.aom_sound.proofs.Maps.{same_place-true}
 use Rattle.aom_sound.specs.Cleanup.{to_trap}
@@ -49,11 +48,7 @@ below_pushed height i items le = ap (λ b. cond b (i ∷ items) (below_height he
 
 pub below_all : (height : ℕ) (items : List Item) → length items ≤ height → below_height height items ≡ items
 below_all height [] le = refl
-below_all height (i ∷ items) le = go (nat_lt (length items) height) refl
-  where
-    go : (b : Bool) → nat_lt (length items) height ≡ b → cond b (i ∷ items) (below_height height items) ≡ i ∷ items
-    go true e = refl
-    go false e = absurd (omega (arith, le, ltb-false (length items) height e))
+below_all height (i ∷ items) le = ap (λ b. cond b (i ∷ items) (below_height height items)) (lt-ltb (length items) height (omega (arith, le)))
 
 pub fewer_entries : (i : Item) (items : List Item) → entries_in items ≤ entries_in (i ∷ items)
 fewer_entries An_object items = omega arith

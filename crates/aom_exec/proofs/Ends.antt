@@ -6,7 +6,7 @@ use Rattle.aom_rules.specs.Typing.{Typing}
 use Rattle.aom_sound.proofs.View.{under_dispatch}
 use Rattle.aom_sound.specs.Places.{Place, Register, Entry, Field, Going, Elsewhere, Root, Object, held}
 use Rattle.aom_transcript.specs.declared.line.Ending.TheVariants.{Stopped, MainLeft as Left_with}
-use Rattle.aom_sound.specs.State.{Dispatch, Of_main, Task, Dispatched, Rest, State, Choice, Goes, raised}
+use Rattle.aom_sound.specs.State.{Dispatch, Task, Dispatched, Rest, State, Choice, Goes, raised}
 use Rattle.aom_sound.specs.Moves.{asked, is_counted, closed, main_ends, dispatch_ends, step, step_task, written_task}
 use Rattle.aom_sound.specs.WellTyped.{WellTyped, Keeps}
 use Rattle.aom_lines.specs.Turn.{Turn}
@@ -18,9 +18,11 @@ use Rattle.aom_frames.specs.declared.task.Dispatch.TheVariants.{Main, MainLeft, 
 use Rattle.aom_exec.specs.declared.parts.Parts.{Parts}
 use Rattle.aom_exec.specs.Places.{value_in, IsEnding}
 use Rattle.aom_exec.specs.Going.{ending_here, uprooted}
-use Rattle.aom_exec.specs.Agrees.{word_at, Shows, SameTasks, dispatch_of, number, Agrees}
+use Rattle.aom_exec.specs.Agrees.{word_at, Shows, dispatch_of, Agrees}
 use Rattle.aom_exec.specs.Steps.{Stands, Moves}
-use Rattle.aom_exec.proofs.Standing.{an_open, nothing_held}
+use Rattle.aom_exec.proofs.Alike.{Alike, An_end, Tops, alike, both_end, end_on_top, tops}
+use Rattle.aom_exec.proofs.Values.{none_alike}
+use Rattle.aom_exec.proofs.Standing.{an_open, nothing_held, some_held}
 use Rattle.aom_exec.proofs.CallActs.{Closing, closing, shows_null}
 use Rattle.aom_exec.proofs.GoingActs.{uproots}
 use Rattle.aom_exec.proofs.Stepping.{counted_by}
@@ -31,18 +33,13 @@ pub record AtEnd (m : Parts) (s : State) : Type 0 where
   pub held : m.stack.tasks ≡ Ends dispatch ∷ []
   pub state : s.tasks ≡ Dispatched (dispatch_of dispatch) ∷ []
 
-pub none_alike : (ms : List Held_task) (ts : List Task) → SameTasks ms ts → ts ≡ [] → ms ≡ []
-none_alike [] ts same e = refl
-none_alike _ _ same e = absurd (grind arith)
-
 pub at_end : (p : Image) (t : Typing) (m : Parts) (s : State) → WellTyped p t s → Agrees p m s → IsEnding m.stack.tasks → AtEnd m s
-at_end p t m s typed agrees ending = go m.stack.tasks s.tasks refl refl ending agrees.tasks
+at_end p t m s typed agrees ending = go refl refl (tops An_end m.stack.tasks ending) (alike m.stack.tasks s.tasks agrees.tasks)
   where
-    go : (ms : List Held_task) (us : List Task) → m.stack.tasks ≡ ms → s.tasks ≡ us → IsEnding ms → SameTasks ms us → AtEnd m s
-    go (Ends x ∷ ms) (Dispatched d ∷ ts) e f ending same =
+    go : {ms : List Held_task} {us : List Task} → m.stack.tasks ≡ ms → s.tasks ≡ us → Tops An_end ms → Alike ms us → AtEnd m s
+    go e f (end_on_top x _) (both_end _ d ms ts same rest _) =
         let below = under_dispatch p t s d ts typed f in
-        record { dispatch = x; held = e ∙ ap (λ us. Ends x ∷ us) (none_alike ms ts same.1 below); state = f ∙ ap (λ us. Dispatched d ∷ us) below ∙ ap (λ y. Dispatched y ∷ []) (sym same.0) }
-    go _ _ e f ending same = absurd (assumption tt)
+        record { dispatch = x; held = e ∙ ap (λ us. Ends x ∷ us) (none_alike ms ts rest below); state = f ∙ ap (λ us. Dispatched d ∷ us) below ∙ ap (λ y. Dispatched y ∷ []) (sym same) }
 
 -- the root's destruction and its destructor find room there
 pub uproot_room : (p : Image) (m : Parts) → Stands (record { image = p; parts = m }) → IsEnding m.stack.tasks → length (below_first m.stack.tasks) + 2 < m.stack.depth
@@ -158,8 +155,6 @@ module _ (p : Image) (m : Parts) (told : Turn) (ending : IsEnding m.stack.tasks)
       let is = which m s e Main main in
       subst (λ d. Agrees p (uprooted p m) (dispatch_ends p (dispatch_of d) (at_close s))) (sym is)
       (subst (λ b. Agrees p (uprooted p m) (main_ends p b (held s.cells (Elsewhere Root)) (at_close s))) (sym (stopped_too s agrees ∙ stopped))
-      (go t s typed agrees (e.held ∙ ap (λ d. Ends d ∷ []) is) (e.state ∙ ap (λ d. Dispatched (dispatch_of d) ∷ []) is) (held s.cells (Elsewhere Root)) refl)))
-    where
-      go : (t : Typing) (s : State) → WellTyped p t s → Agrees p m s → m.stack.tasks ≡ Ends Main ∷ [] → s.tasks ≡ Dispatched Of_main ∷ [] → (o : Option Object) → held s.cells (Elsewhere Root) ≡ o → Agrees p (uprooted p m) (main_ends p true o (at_close s))
-      go t s typed agrees held_top top None none = absurd (rooted (agrees.values (Elsewhere Root) ∙ ap number none))
-      go t s typed agrees held_top top (Some o) some = uproots p m t s o _ typed agrees held_top top some (same_counts uprooted_counts m.rest s.rest agrees.rest announced)
+      (let root = some_held (held s.cells (Elsewhere Root)) (λ n. rooted (agrees.values (Elsewhere Root) ∙ n)) in
+      subst (λ o. Agrees p (uprooted p m) (main_ends p true o (at_close s))) (sym root.1)
+      (uproots p m t s root.0 _ typed agrees (e.held ∙ ap (λ d. Ends d ∷ []) is) (e.state ∙ ap (λ d. Dispatched (dispatch_of d) ∷ []) is) root.1 (same_counts uprooted_counts m.rest s.rest agrees.rest announced)))))

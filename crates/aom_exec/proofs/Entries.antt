@@ -1,7 +1,7 @@
 -- The items of the cleanup stack, on the machine's side and on the checked machine's.
 use Rattle.std.proofs.Common.{zero, suc, ◌≡◌, ℕ, ◌<◌, ◌≤◌, ◌-◌, Bool, true, false, cond, ◌==◌, ◌&&◌, length, List, [], ◌∷◌, refl, sym, ap, ◌∙◌, subst, arith}
 use Rattle.std.specs.Prelude.{is_some}
-use Rattle.std.proofs.lemmas.Bool.{eq-eqb, eqb-true, ne_eqb}
+use Rattle.std.proofs.lemmas.Bool.{eq-eqb, eqb-true, false≢true, ne_eqb}
 use Rattle.aom_cells.specs.Heap.{Heap, null}
 use Rattle.aom_cleanup.specs.Items.{entry_in, item_at, owned_by}
 use Rattle.aom_cleanup.specs.declared.item.Item.{Item as Held_item}
@@ -13,10 +13,11 @@ use Rattle.aom_frames.specs.declared.task.Task.{Task as Held_task}
 use Rattle.aom_exec.specs.Places.{number_in, value_in}
 use Rattle.aom_exec.specs.Agrees.{SameItems}
 use Rattle.aom_exec.proofs.Values.{at_depth, cases}
-use Rattle.aom_exec.proofs.Alike.{by_items}
+use Rattle.aom_image.proofs.Given.{cons_given}
+use Rattle.aom_exec.proofs.Alike.{by_items, some_members}
 
 pub same_items_length : (is : List Held_item) (js : List Item) → SameItems is js → length is ≡ length js
-same_items_length = by_items (λ is js. length is ≡ length js) refl (λ i j is js _ e. ap suc e)
+same_items_length = by_items (λ is js. length is ≡ length js) refl (λ i j is js _ _ e. ap suc e)
 
 -- past the items there is nothing
 pub entry_past : (is : List Held_item) (k : ℕ) → length is ≤ k → entry_in is k ≡ null
@@ -36,8 +37,7 @@ value_alike us h es es' root same _ = refl
 
 -- the items below what is last
 pub below_same : (i : Held_item) (is : List Held_item) (js : List Item) → SameItems (i ∷ is) js → SameItems is (below_top js)
-below_same i is [] same = absurd same
-below_same i is (j ∷ js) same = same.1
+below_same i is js same = cons_given (λ xs. SameItems (i ∷ is) xs) js same (λ none. none) (λ j rest e here. subst (λ xs. SameItems is (below_top xs)) (sym e) here.1)
 
 -- where a mark goes the items below it stay
 pub unmarked : (is below : List Held_item) (js : List Item) → is ≡ Is_mark ∷ below → SameItems is js → SameItems below (below_top js)
@@ -66,8 +66,7 @@ pub top_value : (us : List Held_task) (h : Heap) (es : List Held_item) (root n d
 top_value us h es root n d deep = ap (λ b. cond b n (entry_in es d)) (eq-eqb (length es) d deep)
 
 some_entry : (js : List Item) (k : ℕ) → is_some (entry_at js k) ≡ true → 0 < length js
-some_entry [] k e = cc
-some_entry (j ∷ js) k e = omega arith
+some_entry js k e = some_members (λ xs. is_some (entry_at xs k) ≡ true) js e (λ none. false≢true none)
 
 last_number : (i : Held_item) (is : List Held_item) (n : ℕ) → length is ≡ n → owned_by i ≡ entry_in (i ∷ is) n
 last_number i is n e = sym (ap (λ b. cond b (owned_by i) (entry_in is n)) (eq-eqb (length is) n e))

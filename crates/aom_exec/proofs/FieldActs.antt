@@ -3,7 +3,7 @@ use Rattle.std.proofs.lemmas.Option.{none-some}
 use Rattle.std.proofs.Common.{inl, inr, ◌≡◌, ◌≢◌, ℕ, ℤ, ◌<◌, true, cond, length, List, ◌∷◌, Option, Some, None, refl, sym, ap, ◌∙◌, subst, arith}
 use Rattle.std.specs.Prelude.{is_some, nat_lt}
 use Rattle.std.specs.Int.{w32, cast_signed}
-use Rattle.std.proofs.lemmas.Bool.{eq-eqb, ltb-true, ne_eqb}
+use Rattle.std.proofs.lemmas.Bool.{eq-eqb, false≢true, ltb-true, ne_eqb}
 use Rattle.aom_image.specs.Image.{Image}
 use Rattle.aom_instructions.specs.declared.instr.Instr.TheVariants.{Load, Store, Take, Put, JumpEmpty}
 use Rattle.aom_image.specs.declared.method.Thing.{Thing}
@@ -11,8 +11,8 @@ use Rattle.aom_cells.specs.Heap.{Heap, null, field_at, Lives, word_at as cell_wo
 use Rattle.aom_shape.specs.Things.{field_thing, word_count}
 use Rattle.aom_shape.specs.Tables.{put_at}
 use Rattle.aom_sound.specs.Places.{Place, Register, Field, Elsewhere, Root, Object, held, named, moved, changed}
-use Rattle.aom_sound.specs.Effects.{applied, jumps_unless, writes as writes_word}
-use Rattle.aom_sound.specs.State.{Home, Static, AtRoot, Inside, next, set_word, Task, Run, Choice, field_place, home_holder}
+use Rattle.aom_sound.specs.Effects.{applied, writes as writes_word}
+use Rattle.aom_sound.specs.State.{Home, Static, AtRoot, Inside, next, set_word, Task, Run, field_place, home_holder}
 use Rattle.aom_sound.specs.Objects.{is_declared_thing}
 use Rattle.aom_sound.specs.WellTyped.{IsHoused, Now, Stack}
 use Rattle.aom_sound.specs.Words.{loaded, stored, read}
@@ -29,9 +29,11 @@ use Rattle.aom_exec.specs.Acts.{At_hand, WritesWord, set_register, Does}
 use Rattle.aom_exec.specs.Acts as acts
 use Rattle.aom_exec.specs.Fields.{this, ThisLives, field_here, PutsWord, PutsField, WritesField}
 use Rattle.aom_exec.proofs.Values.{kept, value_here, value_written, word_written, moves}
-use Rattle.aom_exec.proofs.Standing.{by_top, word_here, free, no_word, unnamed, not_null}
+use Rattle.aom_exec.proofs.Standing.{by_top, word_here, free, no_word, unnamed}
 use Rattle.aom_exec.proofs.CellFields.{field_written, root_written, word_put_elsewhere, cell_of, cells_put, cells_stored}
-use Rattle.aom_exec.proofs.WordActs.{word_read, word_put, plain_does, jumps, passes}
+use Rattle.aom_exec.proofs.WordActs.{word_read, word_put, plain_does}
+use Rattle.aom_exec.proofs.ObjectActs.{jumps_empty, passes_full}
+use Rattle.aom_image.proofs.Given.{some_given}
 use Rattle.aom_exec.proofs.GoingOn.{framed, goes_on_as, goes_on_with}
 use Rattle.aom_exec.proofs.Cells.{cells_moved}
 
@@ -203,8 +205,7 @@ take_does m mid refused a g n small reads writes =
 
 -- a field that a thing is declared for is declared
 declared_some : (p : Image) (t : Option Thing) (o : Option Object) → is_declared_thing p t o ≡ true → is_some t ≡ true
-declared_some p None o e = cc
-declared_some p (Some t) o e = refl
+declared_some p t o e = some_given (λ t. is_declared_thing p t o ≡ true) t e (λ none. false≢true none) (λ x is _. ap is_some is)
 
 pub put_does : (m mid : Parts) (refused : List ℕ) (g b x : ℕ) → b < 16 → x ≡ register_here m.stack.tasks b → WritesField g x m mid → Does refused (Put g b) m (acts.next (set_register b null mid))
 put_does m mid refused g b x small reads writes =
@@ -235,17 +236,7 @@ put_does m mid refused g b x small reads writes =
 
 module _ (m : Parts) (refused : List ℕ) where
   pub jump_empty_does : (g to : ℕ) → field_here g m ≡ null → Does refused (JumpEmpty g to) m (acts.to_place to m)
-  jump_empty_does g to is = plain_does m (acts.to_place to m) refused (JumpEmpty g to) refl (λ p h c met. go p h c (held h.state.cells (field_place h.frame.home g)) refl (sym (field_shown p m h g met.0) ∙ is))
-    where
-      go :
-          (p : Image) (h : At_hand p m) (c : Choice) (o : Option Object) → held h.state.cells (field_place h.frame.home g) ≡ o → number o ≡ null →
-          Agrees p (acts.to_place to m) (applied p h.frame h.below h.state (jumps_unless h.frame o to))
-      go p h c None e n = jumps m refused p h to
-      go p h c (Some o) e n = absurd (not_null p m h.typing h.state h.typed h.agrees _ o e n)
+  jump_empty_does g to is = plain_does m (acts.to_place to m) refused (JumpEmpty g to) refl (λ p h c met. jumps_empty m refused p h (field_place h.frame.home g) to (sym (field_shown p m h g met.0) ∙ is))
 
   pub jump_full_does : (g to : ℕ) → field_here g m ≢ null → Does refused (JumpEmpty g to) m (acts.next m)
-  jump_full_does g to is = plain_does m (acts.next m) refused (JumpEmpty g to) refl (λ p h c met. go p h c (held h.state.cells (field_place h.frame.home g)) (λ n. is (field_shown p m h g met.0 ∙ n)))
-    where
-      go : (p : Image) (h : At_hand p m) (c : Choice) (o : Option Object) → (number o ≡ null → ⊥) → Agrees p (acts.next m) (applied p h.frame h.below h.state (jumps_unless h.frame o to))
-      go p h c None n = absurd (n refl)
-      go p h c (Some o) n = passes m refused p h
+  jump_full_does g to is = plain_does m (acts.next m) refused (JumpEmpty g to) refl (λ p h c met. passes_full m refused p h (field_place h.frame.home g) to (λ n. is (field_shown p m h g met.0 ∙ n)))

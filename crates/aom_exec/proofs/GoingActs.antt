@@ -1,7 +1,8 @@
 -- How a destruction begins, and the going of a cell.
-use Rattle.std.proofs.Common.{suc, ◌≡◌, ℕ, ℤ, ◌+◌, ◌<◌, ◌≤◌, Bool, true, false, cond, not, ◌==◌, ◌&&◌, length, List, [], ◌∷◌, ◌++◌, Option, Some, None, slice_set, slice_index_or, refl, sym, ap, ◌∙◌, subst, arith}
-use Rattle.aom_image.proofs.Given.{false_given}
-use Rattle.std.proofs.lemmas.Bool.{eqb-true, eq-eqb, false≢true}
+use Rattle.std.proofs.Common.{suc, ◌≡◌, ℕ, ℤ, ◌+◌, ◌<◌, ◌≤◌, true, cond, not, ◌==◌, length, List, [], ◌∷◌, ◌++◌, Option, Some, None, slice_set, slice_index_or, refl, sym, ap, ◌∙◌, subst, arith}
+use Rattle.aom_image.proofs.Given.{some_given}
+use Rattle.std.proofs.lemmas.Option.{none-some, same_Some}
+use Rattle.std.proofs.lemmas.Bool.{and_parts, eqb-true, eq-eqb, false≢true}
 use Rattle.std.proofs.lemmas.List.{length-set}
 use Rattle.aom_image.specs.Image.{Image}
 use Rattle.aom_instructions.specs.declared.instr.Instr.TheVariants.{Delete}
@@ -12,7 +13,7 @@ use Rattle.aom_cells.specs.declared.cell.Cell.{Cell as Held_cell}
 use Rattle.aom_rules.specs.Typing.{Typing}
 use Rattle.aom_sound.specs.Places.{Place, Register, Entry, Field, Going, Elsewhere, Root, same_place, Object, Cell, held, named, moved, changed}
 use Rattle.aom_sound.specs.Effects.{applied, deletes}
-use Rattle.aom_sound.specs.State.{Home, Inside, frame_of, word, set_word, Of_main, Of_root, Task, Run, Destroy, Dispatched, resumed, Rest, State, Choice, raised}
+use Rattle.aom_sound.specs.State.{Home, Inside, frame_of, word, set_word, Of_main, Of_root, Task, Run, Destroy, Dispatched, resumed, Rest, State, raised}
 use Rattle.aom_classes.specs.Roles.{destructor_of}
 use Rattle.aom_sound.specs.Destruction.{begun, begun_by, is_field_of, owns_nothing}
 use Rattle.aom_sound.specs.Moves.{goes_line}
@@ -32,12 +33,12 @@ use Rattle.aom_exec.specs.Agrees.{word_in, word_at, Shows, SameCells, SameItems,
 use Rattle.aom_exec.specs.Acts.{requested, In_going, without_going, DoesIn, GoesAway}
 use Rattle.aom_exec.specs.Acts as acts
 use Rattle.aom_exec.proofs.Values.{cases, same_length, kept, moves, writes, at_depth, register_past, going_past, word_past, value_here, value_kept, value_written, word_next, word_written, destroys_value, destroys_word}
-use Rattle.aom_exec.proofs.Standing.{Top, by_top, reframed, moved_on, begun_frame, begun_registers, word_here, no_word, nothing_held}
-use Rattle.aom_exec.proofs.Cells.{cells_moved, cells_without}
+use Rattle.aom_exec.proofs.Standing.{Top, by_top, reframed, moved_on, begun_frame, begun_registers, word_here, no_word, nothing_held, some_held}
+use Rattle.aom_exec.proofs.Cells.{cells_moved, cells_without, unowned}
 use Rattle.aom_exec.proofs.ObjectActs.{shown}
 use Rattle.aom_exec.proofs.WordActs.{plain_at}
 use Rattle.aom_cleanup.specs.declared.item.Item.{Item}
-use Rattle.aom_exec.proofs.Alike.{by_task, by_tasks}
+use Rattle.aom_exec.proofs.Alike.{Alike, both_go, alike, by_task, by_tasks}
 
 -- a method at its first place shows nothing, and has no word
 pub fresh_value : (method this : ℕ) (us : List Held_task) (h : Heap) (es : List Item) (root : ℕ) (r : Place) → value_in (Runs_frame (fresh method this) ∷ us) h es root r ≡ value_in us h es root r
@@ -52,11 +53,9 @@ fresh_word method home height ts _ = refl
 
 -- the destructor that the machine finds is the one that the checked machine runs
 pub destructor_same : (p : Image) (m : Parts) (t : Typing) (s : State) → WellTyped p t s → Agrees p m s → (r : Place) (o : Object) → held s.cells r ≡ Some o → destructor_at p m.cells o.name ≡ destructor_of p o.thing
-destructor_same p m t s typed agrees r o e = go (cell_at m.cells o.name) o.thing (agrees.cells.things o.name ∙ ap thing_of (held_lives s.cells r o typed.good.tidy e))
-  where
-    go : (c : Option Held_cell) (x : Thing) → thing_in c ≡ Some x → destructor_in p (class_of c) ≡ destructor_of p x
-    go None x e = cc
-    go (Some c) x e = let same : An_object_of c.class ≡ x = cc in ap (destructor_of p) same
+destructor_same p m t s typed agrees r o e =
+    some_given (λ c. thing_in c ≡ Some o.thing) (cell_at m.cells o.name) (agrees.cells.things o.name ∙ ap thing_of (held_lives s.cells r o typed.good.tidy e)) (λ none. none-some _ none)
+    (λ c is same. ap (λ c. destructor_in p (class_of c)) is ∙ ap (destructor_of p) (same_Some _ _ same))
 
 -- what a place owned is at hand to go, and the place is null
 module _ (p : Image) (m : Parts) (s : State) (us : List Held_task) (ts : List Task) (from : Place) (root n : ℕ) where
@@ -106,13 +105,18 @@ module _ (p : Image) (m : Parts) (refused : List ℕ) where
   delete_does a small is h here =
       plain_at p m _ refused (Delete a) refl h (λ c needs typed. by_top p m h
       (λ us. (register_here us a ≡ null → ⊥) → Agrees p (with_tasks (destroying (destructor_at p m.cells (register_here us a)) (register_here us a) (on_top (with_register a null) us)) m) (applied p h.frame h.below (requested (Delete a) h.state) (deletes h.frame (held h.state.cells (Register (length h.below) a)) a)))
-      (λ f ms top is. object c f ms top (no_word _ needs.0) (held h.state.cells (Register (length h.below) a)) refl (λ n. is (shown p m h f ms top a (no_word _ needs.0) ∙ n)))
+      (λ f ms top is.
+      let x = some_held (held h.state.cells (Register (length h.below) a)) (λ n. is (shown p m h f ms top a (no_word _ needs.0) ∙ n)) in
+      subst (λ o. Agrees p (deleted f ms) (applied p h.frame h.below (requested (Delete a) h.state) (deletes h.frame o a))) (sym x.1) (object f ms top (no_word _ needs.0) x.0 x.1))
       is)
     where
-      object : (c : Choice) (f : Held_frame) (ms : List Held_task) → Top m h.state h.frame h.below f ms → word h.frame a ≡ None → (o : Option Object) → held h.state.cells (Register (length h.below) a) ≡ o → (number o ≡ null → ⊥)
-          → Agrees p (with_tasks (destroying (destructor_at p m.cells (slice_index_or f.registers a null)) (slice_index_or f.registers a null) (Runs_frame (record f { registers = slice_set f.registers a null }) ∷ ms)) m) (applied p h.frame h.below (requested (Delete a) h.state) (deletes h.frame o a))
-      object c f ms top none None e n = absurd (n refl)
-      object c f ms top none (Some o) e n =
+      deleted : Held_frame → List Held_task → Parts
+      deleted f ms =
+          with_tasks (destroying (destructor_at p m.cells (slice_index_or f.registers a null)) (slice_index_or f.registers a null) (Runs_frame (record f { registers = slice_set f.registers a null }) ∷ ms)) m
+
+      object : (f : Held_frame) (ms : List Held_task) → Top m h.state h.frame h.below f ms → word h.frame a ≡ None → (o : Object) → held h.state.cells (Register (length h.below) a) ≡ Some o
+          → Agrees p (deleted f ms) (applied p h.frame h.below (requested (Delete a) h.state) (deletes h.frame (Some o) a))
+      object f ms top none o e =
           let s = h.state in
           let fr = h.frame in
           let ts = h.below in
@@ -168,13 +172,12 @@ pub record Ends_cell (m : Parts) (s : State) (x : ℕ) (ms : List Held_task) (ts
 pub by_going : (p : Image) (m : Parts) (h : In_going p m) (G : List Held_task → Type 0)
     → ((x : ℕ) (ms : List Held_task) → Ends_cell m h.state x ms h.below → G (Destroys x ∷ ms)) → G m.stack.tasks
 by_going p m h G show =
-    go m.stack.tasks
-    (subst (λ us. SameTasks m.stack.tasks us) h.top h.agrees.tasks)
+    go
+    (alike m.stack.tasks (Destroy ∷ h.below) (subst (λ us. SameTasks m.stack.tasks us) h.top h.agrees.tasks))
     (λ r. subst (λ us. Shows (value_in m.stack.tasks m.cells m.entries.items m.root r) (word_at us r) (held h.state.cells r)) h.top (h.agrees.values r))
   where
-    go : (ms : List Held_task) → SameTasks ms (Destroy ∷ h.below) → ((r : Place) → Shows (value_in ms m.cells m.entries.items m.root r) (word_at (Destroy ∷ h.below) r) (held h.state.cells r)) → G ms
-    go (Destroys x ∷ ms) same values = show x ms (record { below = same.1; deep = same_length ms h.below same.1; values = values })
-    go _ same values = absurd (assumption tt)
+    go : {ms : List Held_task} → Alike ms (Destroy ∷ h.below) → ((r : Place) → Shows (value_in ms m.cells m.entries.items m.root r) (word_at (Destroy ∷ h.below) r) (held h.state.cells r)) → G ms
+    go (both_go x ms _ below _) values = show x ms (record { below = below; deep = same_length ms h.below below; values = values })
 
 -- the method below goes on, if there is one
 abbrev pub going_on : List Held_task → List Held_task
@@ -201,11 +204,9 @@ word_resumed _ r = refl
 -- no field of that cell owns
 nothing_owned : (cs : List Cell) (n f : ℕ) → owns_nothing cs n ≡ true → held cs (Field n f) ≡ None
 nothing_owned [] n f e = refl
-nothing_owned (c ∷ cs) n f e = go (same_place c.owner (Field n f)) refl (is_field_of n c.owner) refl (nothing_owned cs n f) e
-  where
-    go : (b : Bool) → same_place c.owner (Field n f) ≡ b → (i : Bool) → is_field_of n c.owner ≡ i → (owns_nothing cs n ≡ true → held cs (Field n f) ≡ None) → (not i && owns_nothing cs n) ≡ true → cond b (Some c.object) (held cs (Field n f)) ≡ None
-    go true same _ is rest e = absurd (grind arith)
-    go false same i is rest e = rest (false_given (λ i. (not i && owns_nothing cs n) ≡ true) i e (λ e. cc) (λ _ e. e))
+nothing_owned (c ∷ cs) n f e =
+    let both = and_parts (not (is_field_of n c.owner)) (owns_nothing cs n) e in
+    unowned c cs (Field n f) (is_field_of n) (eq-eqb n n refl) both.0 (nothing_owned cs n f both.1)
 
 -- a place is written twice
 over : {A : Type 0} (f g : Place → A) (q : Place) (x y : A) → ((r : Place) → f r ≡ changed g q x r) → g q ≡ y → (r : Place) → changed f q y r ≡ g r
@@ -227,11 +228,7 @@ line_of : (o : Object) (class : ℕ) → o.thing ≡ An_object_of class → goes
 line_of o class e = ap (λ (t : Thing). goes_line (Some (record o { thing = t }))) e
 
 thing_is : (t : Thing) (class : ℕ) (c : Option Held_cell) → class_of c ≡ Some class → thing_in c ≡ Some t → t ≡ An_object_of class
-thing_is t class None e f = cc
-thing_is t class (Some c) e f =
-    let same : c.class ≡ class = cc in
-    let it : An_object_of c.class ≡ t = cc in
-    sym it ∙ ap An_object_of same
+thing_is t class c e f = some_given (λ c. (class_of c ≡ Some class) × (thing_in c ≡ Some t)) c (e, f) (λ none. none-some _ none.0) (λ x is h. sym (same_Some _ _ h.1) ∙ ap An_object_of (same_Some _ _ h.0))
 
 module _ (p : Image) (m : Parts) (h : In_going p m) (o : Object) where
   -- the number that goes is the object's

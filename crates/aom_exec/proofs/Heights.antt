@@ -11,7 +11,7 @@ use Rattle.aom_sound.proofs.Claimed.{claim_entry_above, length_objects}
 use Rattle.aom_sound.proofs.Items.{length_forms}
 use Rattle.aom_sound.proofs.Straight.{fits_unowning, register_fits}
 use Rattle.aom_sound.specs.Claims.{Dispatching, Dying, Form, Layer, Mark, Method, Unwinding, forms, items_of, objects, tasks_of}
-use Rattle.aom_sound.specs.Places.{Cell, Entry, Register, held}
+use Rattle.aom_sound.specs.Places.{Cell, Entry, Register, held, seen}
 use Rattle.aom_sound.specs.State.{An_object, An_operation, Dispatched, Destroy, Frame, Item, Run, State, Task, Trapped, Unwind}
 use Rattle.aom_sound.specs.WellTyped.{Back, Caught, Fits, Gone, Good, Leaves, Now, Returns, Stack, WellTyped}
 use Rattle.aom_sound.proofs.Layers.{leave_layer, method_layer}
@@ -52,7 +52,7 @@ pub record Stands_here (p : Image) (t : Typing) (s : State) (fr : Frame) (ts : L
   pub height : fr.height ≡ length below
   pub low : AllLow fr.height ts
   pub low_under : LowUnder fr.height ts
-  pub fits : (a : ℕ) → Fits p (held s.cells) (held s.cells (Register (length ts) a)) (register shape a)
+  pub fits : (a : ℕ) → Fits p (seen s.cells) (held s.cells (Register (length ts) a)) (register shape a)
   pub free : held s.cells (Entry (length s.items)) ≡ None
 
 pub stands_here : (p : Image) (t : Typing) (s : State) (fr : Frame) (ts : List Task) → WellTyped p t s → s.tasks ≡ Run fr ∷ ts → Stands_here p t s fr ts
@@ -68,8 +68,8 @@ stands_here p t s fr ts w at = method_layer (λ ls. (forms s.items ≡ items_of 
       height = high;
       low = subst (λ us. AllLow fr.height us) under (low_stack p t s.cells (Returns fr.method fr.home) ls fr.height h.1.stack.4 (omega (arith, high)));
       low_under = subst (λ us. LowUnder fr.height us) under (subst (λ n. LowUnder n (tasks_of ls)) (sym high) (low_under p t s.cells (Returns fr.method fr.home) ls h.1.stack.4));
-      fits = λ a. subst (λ us. Fits p (held s.cells) (held s.cells (Register (length us) a)) (register sh a)) under (register_fits p s.cells fr sh ls h.1.fits a);
-      free = fits_unowning p (held s.cells) _ Null refl (subst (λ k. Fits p (held s.cells) (held s.cells (Entry (length s.items))) k) none (h.1.fits (Entry (length s.items))));
+      fits = λ a. subst (λ us. Fits p (seen s.cells) (held s.cells (Register (length us) a)) (register sh a)) under (register_fits p s.cells fr sh ls h.1.fits a);
+      free = fits_unowning p (seen s.cells) _ Null refl (subst (λ k. Fits p (seen s.cells) (held s.cells (Entry (length s.items))) k) none (h.1.fits (Entry (length s.items))));
     })
 
 -- the items over a height are a method's own entries

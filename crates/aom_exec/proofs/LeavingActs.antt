@@ -1,6 +1,6 @@
 -- A leave: the methods over the trap end, and nothing of theirs is owned.
-use Rattle.std.proofs.Common.{pos, ◌≡◌, ◌<◌, ◌≤◌, ℕ, ℤ, Bool, true, false, cond, not, ◌&&◌, length, List, [], ◌∷◌, Some, None, refl, sym, ap, ◌∙◌, subst, arith}
-use Rattle.std.proofs.lemmas.Bool.{eq-eqb, false≢true, and_parts}
+use Rattle.std.proofs.Common.{pos, ◌≡◌, ◌<◌, ◌≤◌, ℕ, ℤ, true, false, cond, not, length, List, [], ◌∷◌, None, refl, sym, ap, ◌∙◌, subst, arith}
+use Rattle.std.proofs.lemmas.Bool.{eq-eqb, and_parts}
 use Rattle.std.specs.Int.{w32, cast_signed}
 use Rattle.std.specs.Prelude.{int_lt, is_some}
 use Rattle.aom_image.specs.Image.{Image}
@@ -10,11 +10,10 @@ use Rattle.aom_cells.specs.Heap.{Heap, null}
 use Rattle.aom_cleanup.specs.declared.item.Item.{Item}
 use Rattle.aom_sound.specs.Calls.{is_register_but, none_owns_but}
 use Rattle.aom_sound.specs.Cleanup.{above_trap_is_free, leave_needs, to_trap}
-use Rattle.aom_sound.specs.Places.{Place, Register, Going, same_place, Cell, held}
+use Rattle.aom_sound.specs.Places.{Place, Register, Going, Cell, held}
 use Rattle.aom_sound.specs.Effects.{Leaves, Same, applied, updates}
 use Rattle.aom_sound.specs.State.{Task, Run, Trapped, Destroy, Unwind, Dispatched, State, word, Frame}
 use Rattle.aom_sound.specs.Words.{read}
-use Rattle.aom_sound.proofs.Maps.{same_place-true}
 use Rattle.aom_frames.specs.Tasks.{Runs, register_here, to_trap as held_to_trap}
 use Rattle.aom_frames.specs.declared.task.Task.{Task as Held_task}
 use Rattle.aom_frames.specs.declared.task.Task.TheVariants.{Run as Runs_frame, Trapped as Is_trap, Destroy as Destroys, Unwind as Unwinds, Dispatched as Ends}
@@ -23,6 +22,8 @@ use Rattle.aom_exec.specs.Acts.{At_hand, leaving, Does}
 use Rattle.aom_exec.specs.Acts as acts
 use Rattle.aom_exec.specs.Places.{value_in, register_in, going_in}
 use Rattle.aom_exec.specs.Agrees.{word_in, word_at, Shows, SameTasks, Agrees}
+use Rattle.aom_exec.proofs.Alike.{A_method, Tops, method_on_top, tops}
+use Rattle.aom_exec.proofs.Cells.{unowned}
 use Rattle.aom_exec.proofs.ReturnActs.{beneath, cleared_none}
 use Rattle.aom_exec.proofs.WordActs.{plain_does, word_read, passes}
 use Rattle.aom_exec.proofs.Values.{at_depth, going_past, register_past, same_length, word_past}
@@ -40,28 +41,20 @@ unwinds_word us code _ = refl
 -- a frame whose registers own nothing
 pub none_owned : (cs : List Cell) (d i : ℕ) → none_owns_but cs d None ≡ true → held cs (Register d i) ≡ None
 none_owned [] d i e = refl
-none_owned (c ∷ cs) d i e = go (same_place c.owner (Register d i)) refl (is_register_but d None c.owner) refl (none_owned cs d i) e
-  where
-    mine : same_place c.owner (Register d i) ≡ true → is_register_but d None c.owner ≡ true
-    mine same = ap (is_register_but d None) (same_place-true c.owner (Register d i) same) ∙ eq-eqb d d refl
-
-    go : (b : Bool) → same_place c.owner (Register d i) ≡ b → (o : Bool) → is_register_but d None c.owner ≡ o → (none_owns_but cs d None ≡ true → held cs (Register d i) ≡ None) → (not o && none_owns_but cs d None) ≡ true → cond b (Some c.object) (held cs (Register d i)) ≡ None
-    go true same false is rest e = absurd (false≢true (sym is ∙ mine same))
-    go false same false is rest e = rest e
-    go _ same true is rest e = cc
+none_owned (c ∷ cs) d i e =
+    let both = and_parts (not (is_register_but d None c.owner)) (none_owns_but cs d None) e in
+    unowned c cs (Register d i) (is_register_but d None) (eq-eqb d d refl) both.0 (none_owned cs d i both.1)
 
 -- a leave is one task in the place of some
 pub to_trap_shorter : (us : List Held_task) → Runs us → length (held_to_trap us) < length us
-to_trap_shorter (Runs_frame f ∷ us) runs = let few = no_longer us in omega arith
+to_trap_shorter us runs = go (tops A_method us runs)
   where
     no_longer : (us : List Held_task) → length (held_to_trap us) ≤ length us
-    no_longer [] = omega arith
     no_longer (Runs_frame f ∷ us) = let few = no_longer us in omega arith
-    no_longer (Is_trap ∷ us) = omega arith
-    no_longer (Destroys x ∷ us) = omega arith
-    no_longer (Unwinds code ∷ us) = omega arith
-    no_longer (Ends d ∷ us) = omega arith
-to_trap_shorter _ runs = absurd runs
+    no_longer _ = omega arith
+
+    go : {us : List Held_task} → Tops A_method us → length (held_to_trap us) < length us
+    go (method_on_top f us) = let few = no_longer us in omega arith
 
 -- the tasks that stay, and what they hold
 pub record Stays (cs : List Cell) (heap : Heap) (es : List Item) (root : ℕ) (ms : List Held_task) (ts : List Task) : Type 0 where

@@ -1,5 +1,5 @@
 -- Instructions on objects: a jump where there is none, a new cell, the destruction of nothing.
-use Rattle.std.proofs.Common.{inl, inr, ◌≡◌, ◌≢◌, ℕ, ◌<◌, ◌+◌, Bool, true, false, cond, ◌==◌, ◌||◌, ◌&&◌, length, List, ◌∷◌, Option, Some, None, replicate, slice_index_or, refl, sym, ap, ◌∙◌, subst, arith, ℤ, pos}
+use Rattle.std.proofs.Common.{inl, inr, ◌≡◌, ◌≢◌, ℕ, ◌<◌, ◌+◌, Bool, true, false, cond, ◌==◌, ◌||◌, ◌&&◌, length, List, ◌∷◌, Some, None, replicate, slice_index_or, refl, sym, ap, ◌∙◌, subst, arith, ℤ, pos}
 use Rattle.std.specs.Prelude.{is_none, nat_le}
 use Rattle.std.specs.List.{list_any}
 use Rattle.std.proofs.lemmas.List.{length-replicate}
@@ -12,7 +12,7 @@ use Rattle.aom_image.specs.declared.method.Thing.TheVariants.{Object as An_objec
 use Rattle.aom_cells.specs.Heap.{Heap, null, cell_at, word_of, field_of, count, blank, Changes}
 use Rattle.aom_shape.specs.Tables.{at, put_at}
 use Rattle.aom_shape.specs.Things.{words_of}
-use Rattle.aom_sound.specs.Places.{Place, Register, Field, Object, Cell, held, named, with_new, word_field}
+use Rattle.aom_sound.specs.Places.{Place, Register, Field, Cell, held, named, with_new, word_field}
 use Rattle.aom_sound.specs.Effects.{applied, deletes, jumps_unless}
 use Rattle.aom_sound.specs.State.{word, next, set_word, Run, Rest, raised}
 use Rattle.aom_sound.specs.Moves.{is_refused, makes, makes_cell}
@@ -27,7 +27,7 @@ use Rattle.aom_exec.specs.Agrees.{Shows, number, SameCells, thing_in, thing_of, 
 use Rattle.aom_exec.specs.Acts.{At_hand, requested, set_register, Does, DoesIn, refuses, refuses_entry, Made}
 use Rattle.aom_exec.specs.Acts as acts
 use Rattle.aom_exec.proofs.Values.{cases}
-use Rattle.aom_exec.proofs.Standing.{Top, by_top, register_shows, free, no_word, unnamed, not_null, nothing_held}
+use Rattle.aom_exec.proofs.Standing.{Top, by_top, register_shows, free, no_word, unnamed, nothing_held, some_held}
 use Rattle.aom_exec.proofs.CellWords.{all_same, zeros_at}
 use Rattle.aom_exec.proofs.GoingOn.{goes_on_with, still_none, written}
 use Rattle.aom_exec.proofs.WordActs.{jumps, passes, plain_does, plain_at}
@@ -41,23 +41,26 @@ pub shown_here : (p : Image) (m : Parts) (h : At_hand p m) (a : ℕ) → word h.
 shown_here p m h a none = by_top p m h (λ us. register_here us a ≡ number (held h.state.cells (Register (length h.below) a))) (λ f ms top. shown p m h f ms top a none)
 
 module _ (m : Parts) (refused : List ℕ) where
+  -- a jump unless a place owns something, by the number of what it owns
+  pub jumps_empty : (p : Image) (h : At_hand p m) (r : Place) (to : ℕ) → number (held h.state.cells r) ≡ null
+      → Agrees p (acts.to_place to m) (applied p h.frame h.below h.state (jumps_unless h.frame (held h.state.cells r) to))
+  jumps_empty p h r to n =
+      subst (λ o. Agrees p (acts.to_place to m) (applied p h.frame h.below h.state (jumps_unless h.frame o to)))
+      (sym (nothing_held p m h.typing h.state h.typed h.agrees r (sym n))) (jumps m refused p h to)
+
+  pub passes_full : (p : Image) (h : At_hand p m) (r : Place) (to : ℕ) → (number (held h.state.cells r) ≡ null → ⊥)
+      → Agrees p (acts.next m) (applied p h.frame h.below h.state (jumps_unless h.frame (held h.state.cells r) to))
+  passes_full p h r to n =
+      subst (λ o. Agrees p (acts.next m) (applied p h.frame h.below h.state (jumps_unless h.frame o to))) (sym (some_held _ n).1) (passes m refused p h)
+
   pub jump_null_does : (a to : ℕ) → register_here m.stack.tasks a ≡ null → Does refused (JumpNull a to) m (acts.to_place to m)
   jump_null_does a to is =
       plain_does m (acts.to_place to m) refused (JumpNull a to) refl
-      (λ p h c met. go p h (held h.state.cells (Register (length h.below) a)) refl (sym (shown_here p m h a (no_word _ met.0)) ∙ is))
-    where
-      go : (p : Image) (h : At_hand p m) (o : Option Object) → held h.state.cells (Register (length h.below) a) ≡ o → number o ≡ null
-          → Agrees p (acts.to_place to m) (applied p h.frame h.below h.state (jumps_unless h.frame o to))
-      go p h None e n = jumps m refused p h to
-      go p h (Some o) e n = absurd (not_null p m h.typing h.state h.typed h.agrees _ o e n)
+      (λ p h c met. jumps_empty p h (Register (length h.below) a) to (sym (shown_here p m h a (no_word _ met.0)) ∙ is))
 
   pub jump_object_does : (a to : ℕ) → (register_here m.stack.tasks a ≡ null → ⊥) → Does refused (JumpNull a to) m (acts.next m)
   jump_object_does a to is =
-      plain_does m (acts.next m) refused (JumpNull a to) refl (λ p h c met. go p h (held h.state.cells (Register (length h.below) a)) (λ n. is (shown_here p m h a (no_word _ met.0) ∙ n)))
-    where
-      go : (p : Image) (h : At_hand p m) (o : Option Object) → (number o ≡ null → ⊥) → Agrees p (acts.next m) (applied p h.frame h.below h.state (jumps_unless h.frame o to))
-      go p h None n = absurd (n refl)
-      go p h (Some o) n = passes m refused p h
+      plain_does m (acts.next m) refused (JumpNull a to) refl (λ p h c met. passes_full p h (Register (length h.below) a) to (λ n. is (shown_here p m h a (no_word _ met.0) ∙ n)))
 
   -- null is written, where the register owns nothing
   nulled : (p : Image) (h : At_hand p m) (a : ℕ) (r r' : Rest) → a < 16 → r ≡ r' → held h.state.cells (Register (length h.below) a) ≡ None

@@ -23,6 +23,8 @@ use Rattle.aom_exec.specs.Agrees.{SameFrame, SameTasks, SameItems, Agrees}
 use Rattle.aom_exec.specs.Ranks.{ranked, operations_in, rank_of}
 use Rattle.aom_exec.specs.Steps.{Sound, Moved}
 use Rattle.aom_exec.proofs.Alike.{by_task, by_tasks, by_item, by_items}
+use Rattle.aom_exec.proofs.Values.{same_length}
+use Rattle.aom_image.proofs.Given.{cons_given}
 
 -- ---- what is left of a method hangs on the number of rounds in each counter
 
@@ -75,8 +77,8 @@ destructions_alike = by_tasks (λ ms us. destructions (map ranked ms) ≡ destru
 
 -- as many operations are on the cleanup stack
 operations_alike : (is : List Held_item) (js : List Item) → SameItems is js → operations_in is ≡ operations js
-operations_alike = by_items (λ is js. operations_in is ≡ operations js) refl (λ i j is js same e.
-    by_item (λ i j. operations_in (i ∷ is) ≡ operations (j ∷ js)) (λ n. e) (λ m n k w. ap suc e) e i j same)
+operations_alike = by_items (λ is js. operations_in is ≡ operations js) refl (λ i j is js same _ e.
+    by_item (λ i j. operations_in (i ∷ is) ≡ operations (j ∷ js)) (λ n. e) (λ m n k w _ _. ap suc e) e i j same)
 
 -- the machine's rank is its state's
 pub same_rank : (p : Image) (t : Typing) (m : Parts) (s : State) → WellTyped p t s → Agrees p m s → rank_of p m.stack.tasks m.entries.items (count m.cells) ≡ rank p s
@@ -93,8 +95,7 @@ same_rank p t m s typed agrees =
 -- ---- a move
 
 busy_state : (ms : List Held_task) (us : List Task) → SameTasks ms us → 0 < length ms → (u : Task) × (vs : List Task) × (us ≡ u ∷ vs)
-busy_state (m ∷ ms) (u ∷ us) same busy = (u, us, refl)
-busy_state _ _ same busy = absurd (first_of (assumption tt, omega arith))
+busy_state ms us same busy = cons_given (λ vs. 0 < length vs) us (let even = same_length ms us same in omega arith) (λ none. omega arith) (λ u vs e _. (u, vs, e))
 
 pub moved_falls : (p : Image) (t : Typing) (refused : List ℕ) (m new : Parts) (s : State) → Sound p t → WellTyped p t s → Agrees p m s → Moved p refused t s new → 0 < length m.stack.tasks
     → rank_of p new.stack.tasks new.entries.items (count new.cells) < rank_of p m.stack.tasks m.entries.items (count m.cells)

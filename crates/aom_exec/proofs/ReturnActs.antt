@@ -1,6 +1,6 @@
 -- A method returns: to the method that called it, to the going of its cell, or through the trap of its dispatch.
 use Rattle.std.proofs.Common.{suc, ◌≡◌, ◌==◌, ◌&&◌, ℕ, ℤ, ◌<◌, ◌≤◌, Bool, true, false, cond, length, List, [], ◌∷◌, Option, Some, None, pos, slice_index_or, slice_set, refl, sym, ap, ◌∙◌, subst, arith}
-use Rattle.std.proofs.lemmas.Bool.{eq-eqb, eqb-true, ne_eqb}
+use Rattle.std.proofs.lemmas.Bool.{OnTrue_at, eq-eqb, eqb-true, ne_eqb}
 use Rattle.std.proofs.lemmas.List.{length-set}
 use Rattle.aom_image.specs.Image.{Image}
 use Rattle.aom_image.specs.Views.{gives_in, gives_of, instr_at, method_at}
@@ -18,7 +18,7 @@ use Rattle.aom_rules.specs.Typing.{Typing}
 use Rattle.aom_sound.proofs.View.{under_dispatch}
 use Rattle.aom_sound.specs.Calls.{below_top, needs_return, result_needs, result_register, returned}
 use Rattle.aom_sound.specs.Claims.{Method, Mark, tasks_of, claim, declared}
-use Rattle.aom_sound.specs.Places.{Place, Register, Entry, Field, Going, Elsewhere, Object, Cell, changed, held, moved, same_place}
+use Rattle.aom_sound.specs.Places.{Cell, Elsewhere, Entry, Field, Going, Object, Place, Register, changed, held, moved, same_place, seen}
 use Rattle.aom_sound.specs.State.{Frame, Dispatch, next, set_word, word, Task, Run, Trapped, Destroy, Dispatched, State, Unwind}
 use Rattle.aom_sound.specs.WellTyped.{Awaits, Fits, Good, WellTyped, WordFits}
 use Rattle.aom_sound.proofs.Claimed.{claim_register_above}
@@ -36,7 +36,7 @@ use Rattle.aom_frames.specs.declared.task.Task.TheVariants.{Run as Runs_frame, T
 use Rattle.aom_frames.specs.declared.task.Dispatch.{Dispatch as Held_dispatch}
 use Rattle.aom_exec.specs.declared.parts.Parts.{Parts}
 use Rattle.aom_exec.specs.Places.{value_in, register_in, going_in, with_tasks, IsDestroying, IsEnding, IsTrapped, IsUnwinding}
-use Rattle.aom_exec.specs.Agrees.{word_at, word_in, Shows, SameCells, SameFrame, SameTasks, dispatch_of, Agrees}
+use Rattle.aom_exec.specs.Agrees.{word_at, word_in, Shows, SameCells, SameFrame, SameTasks, Agrees}
 use Rattle.aom_exec.specs.Acts.{At_hand, requested, resulted, DoesIn}
 use Rattle.aom_exec.specs.Acts as acts
 use Rattle.aom_exec.proofs.Entries.{mark_shows_none, unmarked, value_alike}
@@ -44,7 +44,11 @@ use Rattle.aom_exec.proofs.Overs.{held_over, higher, over_value, over_words, tas
 use Rattle.aom_exec.proofs.CallActs.{closing, ended, fits_null, shows_null}
 use Rattle.aom_exec.proofs.Cells.{cells_moved}
 use Rattle.aom_exec.proofs.Standing.{Top, by_top, goes_on, moved_on, register_shows, no_word}
-use Rattle.aom_exec.proofs.Values.{at_depth, cases, going_past, kept, register_past, value_kept, value_written, word_next, word_past, word_written, writes}
+use Rattle.std.specs.Bool.{OnTrue}
+use Rattle.std.proofs.lemmas.Option.{none-some}
+use Rattle.aom_image.proofs.Given.{none_given}
+use Rattle.aom_exec.proofs.Alike.{A_catcher, A_going, A_last_trap, A_leave, A_method, Alike, Tops, alike, both_end, both_go, both_run, both_trapped, both_unwind, catcher_on_top, going_on_top, last_trap_on_top, leave_on_top, method_on_top, tops}
+use Rattle.aom_exec.proofs.Values.{at_depth, cases, going_past, kept, none_alike, register_past, value_kept, value_written, word_next, word_past, word_written, writes}
 use Rattle.aom_exec.proofs.WordActs.{plain_at}
 
 -- what a method gives back
@@ -86,7 +90,7 @@ beneath f us fr ts heap es root h deep old (Elsewhere o) = old (Elsewhere o)
 pub none_above : (p : Image) (t : Typing) (s : State) (d i : ℕ) → WellTyped p t s → length s.tasks ≤ d → held s.cells (Register d i) ≡ None
 none_above p t s d i typed le =
     let layers = ap length typed.tasks in
-    fits_null p (held s.cells) _ (subst (Fits p (held s.cells) (held s.cells (Register d i))) (claim_register_above p s.cells typed.layers d i (omega arith)) (typed.good.fits (Register d i)))
+    fits_null p (seen s.cells) _ (subst (Fits p (seen s.cells) (held s.cells (Register d i))) (claim_register_above p s.cells typed.layers d i (omega arith)) (typed.good.fits (Register d i)))
 
 -- what the result comes to owns nothing
 abbrev pub bears : Gives → Bool
@@ -96,10 +100,13 @@ bears (An_own t) = true
 bears (A_maybe t) = true
 bears (Left c) = false
 
+awaits : (g : Gives) (x : ℕ) (sh : Shape) → Awaits g x sh → OnTrue (bears g) (is_unowning (register sh x) ≡ true)
+awaits Nothing x sh a = tt
+awaits (Left c) x sh a = tt
+awaits _ x sh a = a
+
 pub awaiting : (g : Gives) (x : ℕ) (sh : Shape) → bears g ≡ true → Awaits g x sh → is_unowning (register sh x) ≡ true
-awaiting Nothing x sh b a = cc
-awaiting (Left c) x sh b a = cc
-awaiting _ x sh b a = a
+awaiting g x sh b a = OnTrue_at b (awaits g x sh a)
 
 awaited : (p : Image) (t : Typing) (s : State) (fr caller : Frame) (ts : List Task) → WellTyped p t s → s.tasks ≡ Run fr ∷ Run caller ∷ ts → bears (gives_of p fr.method) ≡ true
     → held s.cells (Register (length ts) (result_register (instr_at p caller.method caller.place))) ≡ None
@@ -111,7 +118,7 @@ awaited p t s fr caller ts typed top some =
     let quiet = awaiting (gives_of p fr.method) x sh' some good.stack.4.0.1 in
     let claims : claim p (declared p s.cells) (Method fr sh ∷ Method caller sh' ∷ ls) q ≡ register sh' x =
     ap (λ b. cond b (register sh x) (claim p (declared p s.cells) (Method caller sh' ∷ ls) q)) (ne_eqb (suc (length (tasks_of ls))) (length (tasks_of ls)) (λ e. absurd (omega arith))) ∙ claim_register p (declared p s.cells) caller sh' ls x in
-    let none = fits_unowning p (held s.cells) (held s.cells q) (register sh' x) quiet (subst (Fits p (held s.cells) (held s.cells q)) claims (good.fits q)) in
+    let none = fits_unowning p (seen s.cells) (held s.cells q) (register sh' x) quiet (subst (Fits p (seen s.cells) (held s.cells q)) claims (good.fits q)) in
     subst (λ us. held s.cells (Register (length us) x) ≡ None) rest none))
 
 -- the same through a trap
@@ -128,7 +135,7 @@ awaited_trapped p t s fr caller ts typed top some =
     let quiet = awaiting gv x sh' (ap bears (sym mark.0.0) ∙ some) mark.1.0.2 in
     let claims : claim p (declared p s.cells) (Method fr sh ∷ Mark gv ∷ Method caller sh' ∷ ls) q ≡ register sh' x =
     ap (λ b. cond b (register sh x) (claim p (declared p s.cells) (Mark gv ∷ Method caller sh' ∷ ls) q)) (ne_eqb (suc (suc d)) d (λ e. absurd (omega arith))) ∙ claim_register p (declared p s.cells) caller sh' ls x in
-    let none = fits_unowning p (held s.cells) (held s.cells q) (register sh' x) quiet (subst (Fits p (held s.cells) (held s.cells q)) claims (good.fits q)) in
+    let none = fits_unowning p (seen s.cells) (held s.cells q) (register sh' x) quiet (subst (Fits p (seen s.cells) (held s.cells q)) claims (good.fits q)) in
     subst (λ us. held s.cells (Register (length us) x) ≡ None) rest none)))
 
 -- a register with a word owns nothing
@@ -136,14 +143,16 @@ pub word_alone : (p : Image) (t : Typing) (s : State) (fr : Frame) (ts : List Ta
 word_alone p t s fr ts i w typed top has = method_layer (λ ls. Good p t s.cells ls) fr ts typed.layers (sym typed.tasks ∙ top) typed.good (λ sh ls rest good.
     let q = Register (length (tasks_of ls)) i in
     let claims = claim_register p (declared p s.cells) fr sh ls i in
-    let none = kind_alone (register sh i) (word fr i) (held s.cells q) has (good.stack.1.words i) (subst (Fits p (held s.cells) (held s.cells q)) claims (good.fits q)) in
+    let none = kind_alone (register sh i) (word fr i) (held s.cells q) has (good.stack.1.words i) (subst (Fits p (seen s.cells) (held s.cells q)) claims (good.fits q)) in
     subst (λ us. held s.cells (Register (length us) i) ≡ None) rest none)
   where
-    kind_alone : (k : Kind) (w' : Option ℤ) (o : Option Object) → w' ≡ Some w → WordFits w' k → Fits p (held s.cells) o k → o ≡ None
-    kind_alone k w' None e word fits = refl
-    kind_alone (Own y age) w' (Some o) e word fits = let none : Some w ≡ None = sym e ∙ word in cc
-    kind_alone (Maybe y age) w' (Some o) e word fits = let none : Some w ≡ None = sym e ∙ word in cc
-    kind_alone _ w' _ e word fits = absurd (assumption tt)
+    kind_alone : (k : Kind) (w' : Option ℤ) (o : Option Object) → w' ≡ Some w → WordFits w' k → Fits p (seen s.cells) o k → o ≡ None
+    kind_alone k w' o e word fits = none_given (λ o. Fits p (seen s.cells) o k) o fits (λ x fits. owned x k fits (subst (λ v. WordFits v k) e word)) (λ is _. is)
+      where
+        owned : (x : Object) (k : Kind) → Fits p (seen s.cells) (Some x) k → WordFits (Some w) k → ⊥
+        owned x (Own y age) fits word = none-some _ (sym word)
+        owned x (Maybe y age) fits word = none-some _ (sym word)
+        owned x _ fits word = fits
 
 module _ (p : Image) (m : Parts) (h : At_hand p m) (f : Held_frame) (a : ℕ) where
   abbrev s : State
@@ -367,18 +376,17 @@ module _ (p : Image) (m : Parts) (refused : List ℕ) (a : ℕ) where
   return_to_method x runs small is h here =
       plain_at p m _ refused (Return a) refl h (λ c needs typed. by_top p m h
       (λ us. Runs (below_first us) → x ≡ result_register (instr_at p (method_here (below_first us)) (place_here (below_first us))) → Agrees p (acts.next (resulted (gives_of p (method_here us)) x (register_here us a) (with_tasks (below_first us) m))) (returned p h.frame h.below (requested (Return a) h.state) (gives_of p h.frame.method) a h.below))
-      (λ f ms top runs is. go f ms h.below h.top top runs is (of_result h needs) typed)
+      (λ f ms top runs is. go f ms h.below h.top top (tops A_method ms runs) (alike ms h.below top.below) is (of_result h needs) typed)
       runs is)
     where
-      go : (f : Held_frame) (ms : List Held_task) (ts : List Task) → h.state.tasks ≡ Run h.frame ∷ ts → Top m h.state h.frame ts f ms → Runs ms → x ≡ result_register (instr_at p (method_here ms) (place_here ms))
+      go : (f : Held_frame) (ms : List Held_task) (ts : List Task) → h.state.tasks ≡ Run h.frame ∷ ts → Top m h.state h.frame ts f ms → Tops A_method ms → Alike ms ts → x ≡ result_register (instr_at p (method_here ms) (place_here ms))
           → AllTrue (result_needs p h.frame ts h.state (gives_of p h.frame.method) a) → WellTyped p h.typing (returned p h.frame ts h.state (gives_of p h.frame.method) a ts)
           → Agrees p (acts.next (resulted (gives_of p f.method) x (slice_index_or f.registers a null) (with_tasks ms m))) (returned p h.frame ts h.state (gives_of p h.frame.method) a ts)
-      go f (Runs_frame g ∷ ms) (Run caller ∷ ts) e top runs is needs typed =
-          let at : x ≡ result_register (instr_at p caller.method caller.place) = is ∙ ap (λ k. result_register (instr_at p k g.place)) top.below.0.method ∙ ap (λ k. result_register (instr_at p caller.method k)) top.below.0.place in
+      go f _ _ e top (method_on_top g ms) (both_run _ caller _ ts frame _ _) is needs typed =
+          let at : x ≡ result_register (instr_at p caller.method caller.place) = is ∙ ap (λ k. result_register (instr_at p k g.place)) frame.method ∙ ap (λ k. result_register (instr_at p caller.method k)) frame.place in
           subst (λ k. Agrees p (acts.next (resulted (gives_of p k) x (slice_index_or f.registers a null) (with_tasks (Runs_frame g ∷ ms) m))) (returned p h.frame (Run caller ∷ ts) h.state (gives_of p h.frame.method) a (Run caller ∷ ts))) (sym top.frame.method)
           (subst (λ k. Agrees p (acts.next (resulted (gives_of p h.frame.method) k (slice_index_or f.registers a null) (with_tasks (Runs_frame g ∷ ms) m))) (returned p h.frame (Run caller ∷ ts) h.state (gives_of p h.frame.method) a (Run caller ∷ ts))) (sym at)
           (to_method p m h f a g ms caller ts top e (subst (λ k. k < 16) at small) (gives_of p h.frame.method) needs refl typed))
-      go f _ _ e top runs is needs typed = absurd (assumption tt)
 
   pub return_through : (es : Held_items) (x : ℕ) → IsTrapped (below_first m.stack.tasks) → Runs (below_first (below_first m.stack.tasks)) → m.entries ≡ record es { items = Is_mark ∷ es.items } → suc x < 16
       → x ≡ result_register (instr_at p (method_here (below_first (below_first m.stack.tasks))) (place_here (below_first (below_first m.stack.tasks))))
@@ -386,55 +394,56 @@ module _ (p : Image) (m : Parts) (refused : List ℕ) (a : ℕ) where
   return_through es x trapped runs marked small is h here =
       plain_at p m _ refused (Return a) refl h (λ c needs typed. by_top p m h
       (λ us. IsTrapped (below_first us) → Runs (below_first (below_first us)) → x ≡ result_register (instr_at p (method_here (below_first (below_first us))) (place_here (below_first (below_first us)))) → Agrees p (acts.next (acts.set_register (suc x) 0 (resulted (gives_of p (method_here us)) x (register_here us a) (record (with_tasks (below_first (below_first us)) m) { entries = es })))) (returned p h.frame h.below (requested (Return a) h.state) (gives_of p h.frame.method) a h.below))
-      (λ f ms top trapped runs is. go f ms h.below h.top top trapped runs is (of_result h needs) typed)
+      (λ f ms top trapped runs is. go f ms h.below h.top top (tops A_catcher ms (trapped, runs)) (alike ms h.below top.below) is (of_result h needs) typed)
       trapped runs is)
     where
-      go : (f : Held_frame) (ms : List Held_task) (ts : List Task) → h.state.tasks ≡ Run h.frame ∷ ts → Top m h.state h.frame ts f ms → IsTrapped ms → Runs (below_first ms) → x ≡ result_register (instr_at p (method_here (below_first ms)) (place_here (below_first ms)))
+      go : (f : Held_frame) (ms : List Held_task) (ts : List Task) → h.state.tasks ≡ Run h.frame ∷ ts → Top m h.state h.frame ts f ms → Tops A_catcher ms → Alike ms ts → x ≡ result_register (instr_at p (method_here (below_first ms)) (place_here (below_first ms)))
           → AllTrue (result_needs p h.frame ts h.state (gives_of p h.frame.method) a) → WellTyped p h.typing (returned p h.frame ts h.state (gives_of p h.frame.method) a ts)
           → Agrees p (acts.next (acts.set_register (suc x) 0 (resulted (gives_of p f.method) x (slice_index_or f.registers a null) (record (with_tasks (below_first ms) m) { entries = es })))) (returned p h.frame ts h.state (gives_of p h.frame.method) a ts)
-      go f (Is_trap ∷ Runs_frame g ∷ ms) (Trapped ∷ Run caller ∷ ts) e top trapped runs is needs typed =
-          let at : x ≡ result_register (instr_at p caller.method caller.place) = is ∙ ap (λ k. result_register (instr_at p k g.place)) top.below.1.0.method ∙ ap (λ k. result_register (instr_at p caller.method k)) top.below.1.0.place in
+      go f _ _ e top (catcher_on_top g ms) (both_trapped _ _ _ (both_run _ caller _ ts frame _ _)) is needs typed =
+          let at : x ≡ result_register (instr_at p caller.method caller.place) = is ∙ ap (λ k. result_register (instr_at p k g.place)) frame.method ∙ ap (λ k. result_register (instr_at p caller.method k)) frame.place in
           subst (λ k. Agrees p (acts.next (acts.set_register (suc x) 0 (resulted (gives_of p k) x (slice_index_or f.registers a null) (record (with_tasks (Runs_frame g ∷ ms) m) { entries = es })))) (returned p h.frame (Trapped ∷ Run caller ∷ ts) h.state (gives_of p h.frame.method) a (Trapped ∷ Run caller ∷ ts))) (sym top.frame.method)
           (subst (λ k. Agrees p (acts.next (acts.set_register (suc k) 0 (resulted (gives_of p h.frame.method) k (slice_index_or f.registers a null) (record (with_tasks (Runs_frame g ∷ ms) m) { entries = es })))) (returned p h.frame (Trapped ∷ Run caller ∷ ts) h.state (gives_of p h.frame.method) a (Trapped ∷ Run caller ∷ ts))) (sym at)
           (through p m h f a es marked g ms caller ts top e (subst (λ k. suc k < 16) at small) (gives_of p h.frame.method) needs refl typed))
-      go f _ _ e top trapped runs is needs typed = absurd (assumption tt)
 
   pub return_to_going : IsDestroying (below_first m.stack.tasks) → DoesIn p refused (Return a) m (with_tasks (below_first m.stack.tasks) m)
   return_to_going destroying h here =
       plain_at p m _ refused (Return a) refl h (λ c needs typed. by_top p m h
       (λ us. IsDestroying (below_first us) → Agrees p (with_tasks (below_first us) m) (returned p h.frame h.below (requested (Return a) h.state) (gives_of p h.frame.method) a h.below))
-      (λ f ms top destroying. go f ms h.below top destroying typed)
+      (λ f ms top destroying. go f ms h.below top (tops A_going ms destroying) (alike ms h.below top.below) typed)
       destroying)
     where
-      go : (f : Held_frame) (ms : List Held_task) (ts : List Task) → Top m h.state h.frame ts f ms → IsDestroying ms → WellTyped p h.typing (returned p h.frame ts h.state (gives_of p h.frame.method) a ts) → Agrees p (with_tasks ms m) (returned p h.frame ts h.state (gives_of p h.frame.method) a ts)
-      go f (Destroys x ∷ ms) (Destroy ∷ ts) top destroying typed = to_waiting p m h f a (Destroys x ∷ ms) (Destroy ∷ ts) top typed
-      go f _ _ top destroying typed = absurd (assumption tt)
+      go : (f : Held_frame) (ms : List Held_task) (ts : List Task) → Top m h.state h.frame ts f ms → Tops A_going ms → Alike ms ts → WellTyped p h.typing (returned p h.frame ts h.state (gives_of p h.frame.method) a ts) → Agrees p (with_tasks ms m) (returned p h.frame ts h.state (gives_of p h.frame.method) a ts)
+      go f _ _ top (going_on_top x ms) (both_go _ _ ts _ _) typed = to_waiting p m h f a (Destroys x ∷ ms) (Destroy ∷ ts) top typed
 
   pub return_to_end : (es : Held_items) → IsEnding (below_first (below_first m.stack.tasks)) → IsTrapped (below_first m.stack.tasks) → m.entries ≡ record es { items = Is_mark ∷ es.items }
       → DoesIn p refused (Return a) m (record m { stack = record m.stack { tasks = below_first (below_first m.stack.tasks) }; entries = es })
   return_to_end es ending trapped marked h here =
       plain_at p m _ refused (Return a) refl h (λ c needs typed. by_top p m h
       (λ us. IsEnding (below_first (below_first us)) → IsTrapped (below_first us) → Agrees p (record m { stack = record m.stack { tasks = below_first (below_first us) }; entries = es }) (returned p h.frame h.below (requested (Return a) h.state) (gives_of p h.frame.method) a h.below))
-      (λ f ms top ending trapped. go ms h.below top.below ending trapped typed)
+      (λ f ms top ending trapped. go ms h.below (tops A_last_trap ms (trapped, ending)) (alike ms h.below top.below) typed)
       ending trapped)
     where
-      at_end : (y : Held_dispatch) (ms : List Held_task) (d : Dispatch) (ts : List Task) → dispatch_of y ≡ d → SameTasks ms ts → ts ≡ [] → WellTyped p h.typing (record h.state { tasks = Dispatched d ∷ ts; items = below_top h.state.items })
-          → Agrees p (record m { stack = record m.stack { tasks = Ends y ∷ ms }; entries = es }) (record h.state { tasks = Dispatched d ∷ ts; items = below_top h.state.items })
-      at_end y [] d [] same below last typed = ended p m es h.state y d h.agrees marked same (closing p h.typing _ d typed refl)
-      at_end y _ d _ same below last typed = absurd (grind arith)
+      ends : Held_dispatch → List Held_task → Parts
+      ends x ms = record m { stack = record m.stack { tasks = Ends x ∷ ms }; entries = es }
 
-      go : (ms : List Held_task) (ts : List Task) → SameTasks ms ts → IsEnding (below_first ms) → IsTrapped ms → WellTyped p h.typing (returned p h.frame ts h.state (gives_of p h.frame.method) a ts)
+      ended_state : Dispatch → List Task → State
+      ended_state d ts = record h.state { tasks = Dispatched d ∷ ts; items = below_top h.state.items }
+
+      go : (ms : List Held_task) (ts : List Task) → Tops A_last_trap ms → Alike ms ts → WellTyped p h.typing (returned p h.frame ts h.state (gives_of p h.frame.method) a ts)
           → Agrees p (record m { stack = record m.stack { tasks = below_first ms }; entries = es }) (returned p h.frame ts h.state (gives_of p h.frame.method) a ts)
-      go (Is_trap ∷ Ends x ∷ ms) (Trapped ∷ Dispatched d ∷ ts) same ending trapped typed = at_end x ms d ts same.1.0 same.1.1 (under_dispatch p h.typing _ d ts typed refl) typed
-      go _ _ same ending trapped typed = absurd (assumption tt)
+      go _ _ (last_trap_on_top x ms) (both_trapped _ _ _ (both_end _ d _ ts same below _)) typed =
+          let last = under_dispatch p h.typing _ d ts typed refl in
+          let shut = closing p h.typing _ d (subst (λ us. WellTyped p h.typing (ended_state d us)) last typed) refl in
+          subst (λ us. Agrees p (ends x us) (ended_state d ts)) (sym (none_alike ms ts below last))
+          (subst (λ us. Agrees p (ends x []) (ended_state d us)) (sym last) (ended p m es h.state x d h.agrees marked same shut))
 
   pub return_to_unwinding : IsUnwinding (below_first m.stack.tasks) → DoesIn p refused (Return a) m (with_tasks (below_first m.stack.tasks) m)
   return_to_unwinding unwinding h here =
       plain_at p m _ refused (Return a) refl h (λ c needs typed. by_top p m h
       (λ us. IsUnwinding (below_first us) → Agrees p (with_tasks (below_first us) m) (returned p h.frame h.below (requested (Return a) h.state) (gives_of p h.frame.method) a h.below))
-      (λ f ms top unwinding. go f ms h.below top unwinding typed)
+      (λ f ms top unwinding. go f ms h.below top (tops A_leave ms unwinding) (alike ms h.below top.below) typed)
       unwinding)
     where
-      go : (f : Held_frame) (ms : List Held_task) (ts : List Task) → Top m h.state h.frame ts f ms → IsUnwinding ms → WellTyped p h.typing (returned p h.frame ts h.state (gives_of p h.frame.method) a ts) → Agrees p (with_tasks ms m) (returned p h.frame ts h.state (gives_of p h.frame.method) a ts)
-      go f (Unwinds code ∷ ms) (Unwind c ∷ ts) top unwinding typed = to_waiting p m h f a (Unwinds code ∷ ms) (Unwind c ∷ ts) top typed
-      go f _ _ top unwinding typed = absurd (assumption tt)
+      go : (f : Held_frame) (ms : List Held_task) (ts : List Task) → Top m h.state h.frame ts f ms → Tops A_leave ms → Alike ms ts → WellTyped p h.typing (returned p h.frame ts h.state (gives_of p h.frame.method) a ts) → Agrees p (with_tasks ms m) (returned p h.frame ts h.state (gives_of p h.frame.method) a ts)
+      go f _ _ top (leave_on_top code ms) (both_unwind _ c _ ts _ _ _) typed = to_waiting p m h f a (Unwinds code ∷ ms) (Unwind c ∷ ts) top typed

@@ -15,7 +15,8 @@ use Rattle.aom_image.specs.declared.method.Gives.TheVariants.{Left, Maybe as A_m
 use Rattle.aom_image.specs.declared.method.Thing.{Thing}
 use Rattle.aom_image.specs.declared.method.Thing.TheVariants.{Object as An_object_of, Message}
 use Rattle.aom_classes.proofs.Facts.{of_method}
-use Rattle.aom_rules.specs.Calls.{each_argument, is_construct, rule_target}
+use Rattle.aom_rules.specs.Calls.{each_argument, rule_target}
+use Rattle.aom_rules.specs.Requests.{is_construct}
 use Rattle.aom_rules.specs.Cleanup.{entry_of}
 use Rattle.aom_shape.specs.Entries.{with_entry}
 use Rattle.aom_shape.specs.Kinds.{no_entry, register, set_register}
@@ -37,6 +38,7 @@ use Rattle.aom_sound.proofs.Destroying.{destroys}
 use Rattle.aom_sound.proofs.Finishing.{all_parts}
 use Rattle.aom_sound.proofs.Items.{length_forms}
 use Rattle.aom_sound.proofs.Maps.{held_moved, same_place_refl}
+use Rattle.aom_sound.proofs.Requesting.{rerequested_alike}
 use Rattle.aom_sound.proofs.Storing.{held_set_word}
 use Rattle.aom_sound.proofs.Things.{stands_same}
 use Rattle.aom_sound.specs.Calls.{below_top, entered, given_cells, over_caller, over_trap, passed_cells, received, result_cells, result_register, returned}
@@ -44,10 +46,10 @@ use Rattle.aom_sound.specs.Claims.{objects}
 use Rattle.aom_sound.specs.Cleanup.{operation_frame, top_place}
 use Rattle.aom_classes.specs.Roles.{destructor_of}
 use Rattle.aom_sound.specs.Destruction.{begun, begun_by}
-use Rattle.aom_sound.specs.Effects.{Calls, Carried, Counts, Destroys, Destroys_last, Effect, Goes_on, In_field, In_register, Jumps, Leaves, Made, Operates, Popped, Popped_operation, Pushed, Pushed_operation, Repeats, Returns, Same, Sets_trap, Spot, Update, Written, applied, cells_after, items_after, spot_place, with_words}
+use Rattle.aom_sound.specs.Effects.{Calls, Carried, Counts, Destroys, Destroys_last, Effect, Goes_on, In_field, In_register, Jumps, Leaves, Made, Operates, Popped, Popped_operation, Pushed, Pushed_operation, Repeats, Requested, Returns, Same, Sets_trap, Spot, Update, Written, applied, cells_after, items_after, spot_place, with_words}
 use Rattle.aom_sound.specs.Laws.{IsWired}
 use Rattle.aom_sound.specs.Steps.{Fits as May, FitsUpdate}
-use Rattle.aom_sound.specs.Places.{Cell, Entry, Going, Object, Place, Register, held, moved, same_place}
+use Rattle.aom_sound.specs.Places.{Cell, Entry, Going, Object, Register, Sight, held, moved, same_place, seen}
 use Rattle.aom_sound.specs.State.{A_mark, An_object, An_operation, AtRoot, Choice, Destroy, Dispatched, Frame, Home, Inside, Item, Run, State, Static, Task, Trapped, Unwind, field_place, frame_of, next, set_word}
 use Rattle.aom_sound.specs.WellTyped.{AllUndo, Fits, IsUndo}
 use Rattle.aom_sound.specs.Words.{here, stored}
@@ -56,7 +58,7 @@ use Rattle.aom_exec.proofs.Depths.{AllLow, Roomy, SameEntries, begins, dropped, 
 use Rattle.aom_exec.proofs.Heights.{LowUnder, Stands_here, own_entries}
 
 -- the destructor of an object is that of the class which its register's kind tells
-destructor_among : (p : Image) (h : Place → Option Object) (o : Object) (k : Kind) (m : ℕ) → Fits p h (Some o) k → destructor_of p o.thing ≡ Some m → Among m (destructors p (object_class k))
+destructor_among : (p : Image) (h : Sight) (o : Object) (k : Kind) (m : ℕ) → Fits p h (Some o) k → destructor_of p o.thing ≡ Some m → Among m (destructors p (object_class k))
 destructor_among p h o (Own t a) m fits e = of_thing t (ap (destructor_of p) (sym (stands_same p o.thing t fits.0)) ∙ e)
   where
     of_thing : (t : Thing) → destructor_of p t ≡ Some m → Among m (destructors p (object_class (Own t a)))
@@ -215,7 +217,7 @@ module _ (p : Image) (t : Typing) (depth heights : ℕ → ℕ) (tables : Tables
         let more = all_parts (each_argument p h.shape (arguments_of p m) first) _ parts.1.1 in
         begins p depth heights (given_cells p fr ts s (over_caller p fr ts s) m first) s.items (entered p fr ts s target m first (length s.items)) (Run fr ∷ ts) refl
         (may_call fr h.shape h.there (Call target m first x) m stands (inl refl))
-        (λ may. finds (Call target m first x) m stands refl (pushes_from (is_quiet p fr.method) (is_quiet p m) (leaves p fr.method) (leaves p m) more.1.0 more.1.1.1.0 may))
+        (λ may. finds (Call target m first x) m stands refl (pushes_from (is_quiet p fr.method) (is_quiet p m) (leaves p fr.method) (leaves p m) more.1.1.0 more.1.1.1.1.0 may))
         (moves (given_cells p fr ts s (over_caller p fr ts s) m first) (λ k lt. passed_same p fr ts s _ (arguments_of p m) first 0 s.cells k))
 
     trap_room : (target : Target) (m first x : ℕ) → instr_at p fr.method fr.place ≡ Some (Trap target m first x) → not (is_quiet p fr.method) ≡ true → R (applied p fr ts s (Sets_trap target m first))
@@ -285,7 +287,7 @@ module _ (p : Image) (t : Typing) (depth heights : ℕ → ℕ) (tables : Tables
         Leads t fr.method (suc fr.place) (with_entry (entry_of (register h.shape a)) (set_register h.shape a Null)) → After (Pushed a)
     push_room a stands leave leads =
         item_pushed p depth heights (moved (here fr ts s a) (Entry (length s.items)) s.cells) An_object s.items (Run fr ∷ ts) all_low
-        (λ m e. some_given (λ o. (Fits p (held s.cells) o (register h.shape a)) × (destructor_in p o ≡ Some m)) (held s.cells (here fr ts s a)) (h.fits a, sym (ap (destructor_in p) there_now) ∙ e) (λ given. cc) (λ o _ given. may_call fr h.shape h.there (Push a) m stands (destructor_among p (held s.cells) o (register h.shape a) m given.0 given.1)))
+        (λ m e. some_given (λ o. (Fits p (seen s.cells) o (register h.shape a)) × (destructor_in p o ≡ Some m)) (held s.cells (here fr ts s a)) (h.fits a, sym (ap (destructor_in p) there_now) ∙ e) (λ given. cc) (λ o _ given. may_call fr h.shape h.there (Push a) m stands (destructor_among p (seen s.cells) o (register h.shape a) m given.0 given.1)))
         (let few = pushes (Push a) (with_entry (entry_of (register h.shape a)) (set_register h.shape a Null)) stands leave leads refl in omega (arith, few))
         (moves (moved (here fr ts s a) (Entry (length s.items)) s.cells) (λ k lt. held_apart s.cells (here fr ts s a) (Entry (length s.items)) (Entry k) refl (entry_apart (length s.items) k lt)))
       where
@@ -343,6 +345,7 @@ module _ (p : Image) (t : Typing) (depth heights : ℕ → ℕ) (tables : Tables
     updated_room i stands r n (Carried from to) f = moves (cells_after p fr ts s (Carried from to)) (λ k lt. held_apart s.cells (spot_place p fr ts s from) (spot_place p fr ts s to) (Entry k) (spot_apart from k) (spot_apart to k))
     updated_room i stands r n (Made name x a) f = moves (cells_after p fr ts s (Made name x a)) (λ k lt. refl)
     updated_room i stands r n (Written x v) f = moves (cells_after p fr ts s (Written x v)) (stored_same s.cells fr.home x (length s.items) v)
+    updated_room i stands r n (Requested q) f = moves (cells_after p fr ts s (Requested q)) (λ k lt. (rerequested_alike s.cells fr.home q).held_so (Entry k))
     updated_room i stands r n (Pushed a) f = push_room a (stands_as i _ stands f.0) (subst Ruled f.0 r).1.0 (subst Leading f.0 n).0
     updated_room i stands r n (Pushed_operation m v) f = push_operation_room f.0 m v (stands_as i _ stands f.1) (subst Ruled f.1 r).1.0 (subst Leading f.1 n).0
     updated_room i stands r n (Popped a) f = pop_room a (subst Ruled f.0 r).1.0
@@ -350,11 +353,11 @@ module _ (p : Image) (t : Typing) (depth heights : ℕ → ℕ) (tables : Tables
 
     -- an object of a register goes
     delete_room :
-        (o : Object) (a : ℕ) (words : List (Option ℤ)) → instr_at p fr.method fr.place ≡ Some (Delete a) → Fits p (held s.cells) (Some o) (register h.shape a) →
+        (o : Object) (a : ℕ) (words : List (Option ℤ)) → instr_at p fr.method fr.place ≡ Some (Delete a) → Fits p (seen s.cells) (Some o) (register h.shape a) →
         R (applied p fr ts s (Destroys o a words))
     delete_room o a words stands fits =
         begins_over (moved (here fr ts s a) (Going (length (Run fr ∷ ts))) s.cells) s.items o (Run (with_words fr words) ∷ ts)
-        (λ m e. may_call fr h.shape h.there (Delete a) m stands (destructor_among p (held s.cells) o (register h.shape a) m fits e))
+        (λ m e. may_call fr h.shape h.there (Delete a) m stands (destructor_among p (seen s.cells) o (register h.shape a) m fits e))
         (moves (moved (here fr ts s a) (Going (length (Run fr ∷ ts))) s.cells) (λ k lt. held_apart s.cells (here fr ts s a) (Going (length (Run fr ∷ ts))) (Entry k) refl refl))
 
     pub acts_room : (i : Instr) → instr_at p fr.method fr.place ≡ Some i → Ruled i → Leading i → (e : Effect) → May p c fr ts s i e → R (applied p fr ts s e)
@@ -369,6 +372,6 @@ module _ (p : Image) (t : Typing) (depth heights : ℕ → ℕ) (tables : Tables
         let cs = cells_after p fr ts s u in
         let items = items_after u s.items in
         off_to_trap p depth heights cs items ts (dropped p depth heights cs items fr ts (updated_room i stands r n u f.2))
-    acts_room i stands r n (Destroys o a words) f = delete_room o a words (stands_as i _ stands f.0) (subst (λ x. Fits p (held s.cells) x (register h.shape a)) f.1 (h.fits a))
+    acts_room i stands r n (Destroys o a words) f = delete_room o a words (stands_as i _ stands f.0) (subst (λ x. Fits p (seen s.cells) x (register h.shape a)) f.1 (h.fits a))
     acts_room i stands r n (Destroys_last o) f = clears s.cells (below_top s.items) o (Run fr ∷ ts) f.2 (low_below (subst Ruled f.0 r).0) (subst (λ is. Roomy p depth heights s.cells is (Run fr ∷ ts)) f.1 w)
     acts_room i stands r n (Operates m v) f = undoes s.cells (below_top s.items) m v (Run fr ∷ ts) (subst (λ is. AllUndo p is) f.1 undos).0 (low_below (subst Ruled f.0 r).0) (subst (λ is. Roomy p depth heights s.cells is (Run fr ∷ ts)) f.1 w)

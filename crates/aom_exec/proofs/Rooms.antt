@@ -38,12 +38,12 @@ pub boot_room : (p : Image) (t : Typing) (sound : Sound p t) → HasRoom p (at 0
 boot_room p t sound = boots_with_room p (at 0 sound.depths.depths) sound.heights
 
 same_entries : (is : List Held_item) (js : List Item) → SameItems is js → entries_in is ≡ room.entries_in js
-same_entries = by_items (λ is js. entries_in is ≡ room.entries_in js) (omega arith) (λ i j is js same rest.
-    by_item (λ i j. entries_in (i ∷ is) ≡ room.entries_in (j ∷ js)) (λ n. omega (arith, rest)) (λ m n k w. omega (arith, rest)) rest i j same)
+same_entries = by_items (λ is js. entries_in is ≡ room.entries_in js) (omega arith) (λ i j is js same _ rest.
+    by_item (λ i j. entries_in (i ∷ is) ≡ room.entries_in (j ∷ js)) (λ n. omega (arith, rest)) (λ m n k w _ _. omega (arith, rest)) rest i j same)
 
 same_marks : (is : List Held_item) (js : List Item) → SameItems is js → marks_in is ≡ counts.marks_in js
-same_marks = by_items (λ is js. marks_in is ≡ counts.marks_in js) (omega arith) (λ i j is js same rest.
-    by_item (λ i j. marks_in (i ∷ is) ≡ counts.marks_in (j ∷ js)) (λ n. rest) (λ m n k w. rest) (ap suc rest) i j same)
+same_marks = by_items (λ is js. marks_in is ≡ counts.marks_in js) (omega arith) (λ i j is js same _ rest.
+    by_item (λ i j. marks_in (i ∷ is) ≡ counts.marks_in (j ∷ js)) (λ n. rest) (λ m n k w _ _. rest) (ap suc rest) i j same)
 
 module _ (p : Image) (m : Parts) (st : Stands (record { image = p; parts = m })) where
   -- there is room for two tasks more

@@ -1,5 +1,5 @@
 -- What the code needs to know of the cleanup stack, and of the methods that a trap calls.
-use Rattle.std.proofs.Common.{suc, ◌≡◌, ◌≤◌, ◌<◌, ◌+◌, ◌^◌, ℕ, true, length, List, [], ◌∷◌, Option, Some, None, IsSome, refl, sym, ap, ◌∙◌, subst, arith}
+use Rattle.std.proofs.Common.{suc, ◌≡◌, ◌≤◌, ◌<◌, ◌+◌, ◌^◌, ℕ, Bool, true, length, List, [], ◌∷◌, IsSome, refl, sym, ap, ◌∙◌, subst, arith}
 use Rattle.std.specs.Prelude.{is_some}
 use Rattle.std.proofs.lemmas.Bool.{eqb-true}
 use Rattle.std.proofs.lemmas.Bool.Decides.{leb_tells}
@@ -17,8 +17,8 @@ use Rattle.aom_shape.specs.declared.kind.Entry.{Entry as Pushed}
 use Rattle.aom_sound.specs.Calls.{is_level, needs_target, result_needs, result_register}
 use Rattle.aom_sound.specs.Claims.{Method, Form, Mark_form, forms, items_of, objects}
 use Rattle.aom_sound.specs.Cleanup.{tops_entry, tops_object, top_is_whole}
-use Rattle.aom_sound.specs.Places.{Entry, Object, held}
-use Rattle.aom_sound.specs.State.{Frame, Task, Run, Trapped, Item, An_object, A_mark, State}
+use Rattle.aom_sound.specs.Places.{Entry, held}
+use Rattle.aom_sound.specs.State.{Frame, Task, Run, Trapped, Item, A_mark, State}
 use Rattle.aom_sound.specs.WellTyped.{Good, LeavesNone, WellTyped}
 use Rattle.aom_sound.proofs.Finishing.{all_parts}
 use Rattle.aom_sound.proofs.Layers.{mark_layer, method_layer}
@@ -32,6 +32,10 @@ use Rattle.aom_exec.specs.Cleanup.{ItemLives, TopLives, TopsObject}
 use Rattle.aom_exec.specs.Next.{IsNext, counting}
 use Rattle.aom_exec.specs.Places.{value_in, IsEnding, IsTrapped}
 use Rattle.aom_exec.specs.Room.{ReturnsTo}
+use Rattle.std.specs.Bool.{OnFalse}
+use Rattle.std.proofs.lemmas.Bool.{false≢true}
+use Rattle.aom_image.proofs.Given.{some_given}
+use Rattle.aom_exec.proofs.Alike.{A_catcher, A_method, A_trap, Alike, Alike_items, Tops, alike, both_objects, both_trapped, by_item, by_items, catcher_on_top, items_alike, method_on_top, same_below, tops, trap_on_top}
 use Rattle.aom_exec.proofs.Entries.{same_items_length, top_value}
 use Rattle.aom_exec.proofs.Finding.{class_fits, object_lives}
 use Rattle.aom_exec.proofs.Housing.{at_hand, needs_met}
@@ -39,34 +43,31 @@ use Rattle.aom_exec.proofs.Stepping.{at_step}
 
 -- ---- what is last
 
+-- what a test of the state's items tells of the machine's
+true_tops : (test : List Item → Bool) (Q : List Held_item → Type 0) (is : List Held_item) (js : List Item) → (OnFalse (test js) ⊥ → Q is) → test js ≡ true → Q is
+true_tops test Q is js says e = says (subst (λ b. OnFalse b ⊥) (sym e) tt)
+
 pub entry_tops : (is : List Held_item) (js : List Item) → SameItems is js → tops_entry js ≡ true → IsAboveMark is
-entry_tops (Holds_object n ∷ is) (j ∷ js) same e = tt
-entry_tops (Holds_operation k n ∷ is) (j ∷ js) same e = tt
-entry_tops is _ same e = absurd (grind arith)
+entry_tops is js same e = true_tops tops_entry IsAboveMark is js
+    (by_items (λ is js. OnFalse (tops_entry js) ⊥ → IsAboveMark is) (λ x. x) (λ i j is js same _ _.
+    by_item (λ i j. OnFalse (tops_entry (j ∷ js)) ⊥ → IsAboveMark (i ∷ is)) (λ n x. x) (λ m n k w _ _ x. x) (λ x. x) i j same) is js same) e
 
 pub object_tops : (is : List Held_item) (js : List Item) → SameItems is js → tops_object js ≡ true → TopsObject is
-object_tops (Holds_object n ∷ is) (An_object ∷ js) same e = tt
-object_tops _ _ same e = absurd (grind arith)
+object_tops is js same e = true_tops tops_object TopsObject is js
+    (by_items (λ is js. OnFalse (tops_object js) ⊥ → TopsObject is) (λ x. x) (λ i j is js same _ _.
+    by_item (λ i j. OnFalse (tops_object (j ∷ js)) ⊥ → TopsObject (i ∷ is)) (λ n x. x) (λ m n k w _ _ x. x) (λ x. x) i j same) is js same) e
 
 -- an object that is last lives
 pub top_lives : (p : Image) (m : Parts) (t : Typing) (s : State) → WellTyped p t s → Agrees p m s → top_is_whole s.cells s.items ≡ true → TopLives m
-top_lives p m t s typed agrees whole = go m.entries.items s.items refl agrees.entries whole
+top_lives p m t s typed agrees whole = go refl (items_alike m.entries.items s.items agrees.entries) whole
   where
-    of_object : (n : ℕ) (is : List Held_item) (js : List Item) → m.entries.items ≡ Holds_object n ∷ is → SameItems is js → (o : Option Object) → held s.cells (Entry (length js)) ≡ o → is_some o ≡ true → ItemLives m.cells (Holds_object n ∷ is)
-    of_object n is js was same None e some = cc
-    of_object n is js was same (Some o) e some =
-        let name : n ≡ o.name = sym (top_value m.stack.tasks m.cells is m.root n (length js) (same_items_length is js same)) ∙ sym (value_here_is n is js was) ∙ agrees.values (Entry (length js)) ∙ ap number e in
-        (object_lives p m t s typed agrees (Entry (length js)) o n e name, class_fits p m s agrees n)
-      where
-        value_here_is : (n : ℕ) (is : List Held_item) (js : List Item) → m.entries.items ≡ Holds_object n ∷ is → value_in m.stack.tasks m.cells m.entries.items m.root (Entry (length js)) ≡ value_in m.stack.tasks m.cells (Holds_object n ∷ is) m.root (Entry (length js))
-        value_here_is n is js was = ap (λ es. value_in m.stack.tasks m.cells es m.root (Entry (length js))) was
-
-    go : (is : List Held_item) (js : List Item) → m.entries.items ≡ is → SameItems is js → top_is_whole s.cells js ≡ true → ItemLives m.cells is
-    go [] js was same whole = tt
-    go (Holds_operation k n ∷ is) js was same whole = tt
-    go (Is_mark ∷ is) js was same whole = tt
-    go (Holds_object n ∷ is) (An_object ∷ js) was same whole = of_object n is js was same.1 (held s.cells (Entry (length js))) refl whole
-    go _ _ was same whole = absurd (assumption tt)
+    go : {is : List Held_item} {js : List Item} → m.entries.items ≡ is → Alike_items is js → top_is_whole s.cells js ≡ true → ItemLives m.cells is
+    go was (both_objects n is js same) whole =
+        some_given (λ o. is_some o ≡ true) (held s.cells (Entry (length js))) whole (λ none. false≢true none) (λ o e _.
+        let value_here = ap (λ es. value_in m.stack.tasks m.cells es m.root (Entry (length js))) was in
+        let name : n ≡ o.name = sym (top_value m.stack.tasks m.cells is m.root n (length js) (same_items_length is js same)) ∙ sym value_here ∙ agrees.values (Entry (length js)) ∙ ap number e in
+        (object_lives p m t s typed agrees (Entry (length js)) o n e name, class_fits p m s agrees n))
+    go was _ whole = tt
 
 module _ (p : Image) (m : Parts) where
   pub pops_object : (a : ℕ) → IsNext p (Pop a) m → TopsObject m.entries.items
@@ -129,12 +130,12 @@ finds_mark p m a next trapped =
     let h = at_hand p (counting next.counts m) next.stands next.runs in
     let s = requested (Return a) (at_step h.state) in
     let flat = (all_parts (result_needs p h.frame h.below s (gives_of p h.frame.method) a) _ n.1).1.0 in
-    go h.frame h.below h.top flat m.stack.tasks trapped (subst (SameTasks m.stack.tasks) h.top next.stands.1.agrees.tasks)
+    let same = subst (SameTasks m.stack.tasks) h.top next.stands.1.agrees.tasks in
+    go h.frame h.below h.top flat (tops A_trap (below_first m.stack.tasks) trapped) (alike (below_first m.stack.tasks) h.below (same_below m.stack.tasks (Run h.frame) h.below same))
   where
     go : (fr : Frame) (ts : List Task) → next.stands.0.tasks ≡ Run fr ∷ ts → is_level p fr ts (requested (Return a) (at_step next.stands.0)) (gives_of p fr.method) ≡ true
-        → (ms : List Held_task) → IsTrapped (below_first ms) → SameTasks ms (Run fr ∷ ts) → IsMarked m.entries.items
-    go fr (Trapped ∷ ts) top flat (k ∷ Is_trap ∷ ms) trapped same = marked_under p next.stands.1.typing next.stands.0 fr ts m.entries.items next.stands.1.typed top next.stands.1.agrees.entries flat
-    go fr _ top flat _ trapped same = absurd (grind arith)
+        → {ms : List Held_task} → Tops A_trap ms → Alike ms ts → IsMarked m.entries.items
+    go fr _ top flat (trap_on_top _) (both_trapped _ ts _ _) = marked_under p next.stands.1.typing next.stands.0 fr ts m.entries.items next.stands.1.typed top next.stands.1.agrees.entries flat
 
 -- an entry is last or not
 pub not_both : (is : List Held_item) → IsAboveMark is → IsNotAboveMark is → ⊥
@@ -144,22 +145,32 @@ not_both (Holds_operation k n ∷ is) above not = not
 not_both (Is_mark ∷ is) above not = above
 
 -- what a method returns to through a trap
+caught_within : (p : Image) {ms : List Held_task} → ReturnsTo p ms → Tops A_catcher ms
+    → ((place_here (below_first ms) + 1) < 2 ^ 64) × (suc (result_register (instr_at p (method_here (below_first ms)) (place_here (below_first ms)))) < 16)
+caught_within p to (catcher_on_top f ms) = (to.1, to.2)
+
 pub coded_through : (p : Image) (ms : List Held_task) → ReturnsTo p ms → IsTrapped ms → Runs (below_first ms) → suc (result_register (instr_at p (method_here (below_first ms)) (place_here (below_first ms)))) < 16
-coded_through p (Is_trap ∷ Runs_frame f ∷ ms) to trapped runs = to.2
-coded_through p _ to trapped runs = absurd (assumption tt)
+coded_through p ms to trapped runs = (caught_within p to (tops A_catcher ms (trapped, runs))).1
 
 pub ends_under : (p : Image) (ms : List Held_task) → ReturnsTo p ms → IsTrapped ms → (Runs (below_first ms) → ⊥) → IsEnding (below_first ms)
-ends_under p (Is_trap ∷ Ends d ∷ ms) to trapped stops = tt
-ends_under p _ to trapped stops = absurd (grind arith)
+ends_under p ms to trapped stops = go to (tops A_trap ms trapped) stops
+  where
+    under : (ms : List Held_task) → ReturnsTo p (Is_trap ∷ ms) → (Runs ms → ⊥) → IsEnding ms
+    under (Runs_frame f ∷ ms) to stops = stops tt
+    under _ to stops = to
+
+    go : {ms : List Held_task} → ReturnsTo p ms → Tops A_trap ms → (Runs (below_first ms) → ⊥) → IsEnding (below_first ms)
+    go to (trap_on_top ms) stops = under ms to stops
 
 -- it goes on there
 pub returns_within : (p : Image) (ms : List Held_task) → ReturnsTo p ms → Runs ms → IsSome (instr_at p (method_here ms) (place_here ms)) × ((place_here ms + 1) < 2 ^ 64)
-returns_within p (Runs_frame f ∷ ms) to runs = to
-returns_within p _ to runs = absurd (assumption tt)
+returns_within p ms to runs = go to (tops A_method ms runs)
+  where
+    go : {ms : List Held_task} → ReturnsTo p ms → Tops A_method ms → IsSome (instr_at p (method_here ms) (place_here ms)) × ((place_here ms + 1) < 2 ^ 64)
+    go to (method_on_top f ms) = to
 
 pub returns_within_through : (p : Image) (ms : List Held_task) → ReturnsTo p ms → IsTrapped ms → Runs (below_first ms) → (place_here (below_first ms) + 1) < 2 ^ 64
-returns_within_through p (Is_trap ∷ Runs_frame f ∷ ms) to trapped runs = to.1
-returns_within_through p _ to trapped runs = absurd (assumption tt)
+returns_within_through p ms to trapped runs = (caught_within p to (tops A_catcher ms (trapped, runs))).0
 
 -- and no dispatch ends right below it
 pub returns_to_none : (p : Image) (ms : List Held_task) → ReturnsTo p ms → IsEnding ms → ⊥

@@ -1,5 +1,5 @@
 -- The moves of a leave that unwinds: what was pushed is dealt with, and then the code arrives.
-use Rattle.std.proofs.Common.{suc, ◌≡◌, ◌<◌, ◌≤◌, ℕ, ℤ, Bool, true, false, cond, length, List, [], ◌∷◌, ◌++◌, Option, Some, None, slice_set, pos, refl, sym, ap, ◌∙◌, subst, append-nil, arith}
+use Rattle.std.proofs.Common.{suc, ◌≡◌, ◌<◌, ◌≤◌, ℕ, ℤ, Bool, true, cond, length, List, [], ◌∷◌, ◌++◌, Option, Some, None, slice_set, pos, refl, sym, ap, ◌∙◌, subst, append-nil, arith}
 use Rattle.std.specs.Int.{w32, cast_unsigned}
 use Rattle.std.proofs.lemmas.Bool.{eq-eqb}
 use Rattle.std.proofs.Common.{FitsSigned}
@@ -23,13 +23,12 @@ use Rattle.aom_sound.specs.Calls.{below_top, called, result_register}
 use Rattle.aom_sound.specs.Claims.{Method, Mark, Unwinding, tasks_of, claim, declared}
 use Rattle.aom_sound.specs.Cleanup.{arrival, code_told, dealt_with as deals_with, ended_by, top_is_whole, tops_entry, unwound}
 use Rattle.aom_sound.specs.Laws.{IsWired}
-use Rattle.aom_sound.specs.Places.{Place, Register, changed, held}
+use Rattle.aom_sound.specs.Places.{Place, Register, changed, held, seen}
 use Rattle.aom_sound.specs.State.{Frame, Dispatch, Of_main, Main_left, Task, Run, Trapped, Unwind, Dispatched, Item, An_object, An_operation, A_mark, State, Goes, IsStuck, NullOrDead, next, set_word, word}
 use Rattle.aom_sound.specs.WellTyped.{Caught, EndsDispatch, Fits, Good, Keeps, WellTyped}
 use Rattle.aom_transcript.specs.declared.line.Line.TheVariants.{Leave}
-use Rattle.aom_sound.proofs.Guarded.{goes_same}
-use Rattle.aom_sound.specs.Tasks.{Below}
-use Rattle.aom_sound.specs.Traps.{AllAtTraps, at_traps}
+use Rattle.aom_sound.proofs.Guarded.{goes_same, guarded_goes, guarded_met}
+use Rattle.aom_sound.specs.Traps.{AllAtTraps}
 use Rattle.aom_sound.proofs.Straight.{claim_register, fits_unowning}
 use Rattle.aom_sound.proofs.Maps.{at-put_at}
 use Rattle.aom_sound.proofs.Layers.{dispatch_layer, leave_layer, mark_layer, method_layer}
@@ -49,24 +48,23 @@ use Rattle.aom_exec.specs.Steps.{Stands}
 use Rattle.aom_exec.proofs.CallActs.{closing, ended}
 use Rattle.aom_exec.proofs.DealActs.{deals}
 use Rattle.aom_exec.proofs.Entries.{mark_shows_none, unmarked, value_alike}
-use Rattle.aom_exec.proofs.Finding.{Beneath, held_beneath, unwinds_over, IsTrapOnTop}
+use Rattle.aom_exec.proofs.Finding.{held_beneath, unwinds_over, IsTrapOnTop}
 use Rattle.aom_exec.proofs.LeavingActs.{unwinds_value, unwinds_word}
 use Rattle.aom_exec.proofs.Overs.{over_value, over_words}
-use Rattle.aom_exec.proofs.Ends.{none_alike}
+use Rattle.aom_exec.proofs.Alike.{A_caught_leave, A_last_leave, Alike, Alike_items, Entries_alike, Tops, alike, both_end, both_marks, both_run, both_trapped, both_unwind, caught_leave_on_top, entries_alike, entries_own, entries_run, items_alike, last_leave_on_top, same_below, tops}
 use Rattle.aom_exec.proofs.ReturnActs.{awaiting, bears, word_alone}
 use Rattle.aom_exec.proofs.Standing.{an_open, moved_on}
 use Rattle.aom_exec.proofs.Stepping.{at_rest, goes_somewhere, step_of_unwinding, unwinding_of}
 use Rattle.aom_exec.proofs.Topping.{top_lives}
-use Rattle.aom_exec.proofs.Values.{kept, same_length, value_written, word_written, writes}
+use Rattle.aom_exec.proofs.Values.{kept, none_alike, same_length, value_written, word_written, writes}
 
 -- ---- what is pushed is dealt with
 
-whole_goes : (b : Bool) (v u : State) → cond b (Goes v) (IsStuck NullOrDead) ≡ Goes u → (b ≡ true) × (v ≡ u)
-whole_goes true v u e = (refl, goes_same v u e)
-whole_goes false v u e = cc
+pub whole_goes : (b : Bool) (v u : State) → cond b (Goes v) (IsStuck NullOrDead) ≡ Goes u → (b ≡ true) × (v ≡ u)
+whole_goes b v u e = ((guarded_met ((b, NullOrDead) ∷ []) v u e).0, guarded_goes ((b, NullOrDead) ∷ []) v u e)
 
 pub deals_move : (p : Image) (m : Parts) (told : Turn) → IsAboveMark m.entries.items → Unwinds_by p m (dealt_with p m) told told
-deals_move p m told above h u e typed = go m.entries.items h.state.items above h.agrees.entries refl e
+deals_move p m told above h u e typed = go (entries_alike m.entries.items h.state.items h.agrees.entries above) refl e
   where
     s : State
     s = h.state
@@ -78,10 +76,9 @@ deals_move p m told above h u e typed = go m.entries.items h.state.items above h
       ap (λ ls. record told { lines = ls }) (sym (ap (λ ls. told.lines ++ ls) none ∙ append-nil told.lines)),
     )
 
-    go : (is : List Held_item) (js : List Item) → IsAboveMark is → SameItems is js → s.items ≡ js → unwound p h.code h.below s js ≡ Goes u → Agrees p (dealt_with p m) u × (told ≡ record told { lines = told.lines ++ arrival h.code s.items })
-    go is (An_object ∷ js) above same is' e = let w = whole_goes (top_is_whole s.cells (An_object ∷ js)) (deals_with p (An_object ∷ js) (Unwind h.code ∷ h.below) s) u e in done (An_object ∷ js) is' refl w.0 w.1 (ap (arrival h.code) is')
-    go is (An_operation k w ∷ js) above same is' e = done (An_operation k w ∷ js) is' refl refl (goes_same (deals_with p (An_operation k w ∷ js) (Unwind h.code ∷ h.below) s) u e) (ap (arrival h.code) is')
-    go _ _ above same is' e = absurd (grind arith)
+    go : {is : List Held_item} {js : List Item} → Entries_alike is js → s.items ≡ js → unwound p h.code h.below s js ≡ Goes u → Agrees p (dealt_with p m) u × (told ≡ record told { lines = told.lines ++ arrival h.code s.items })
+    go (entries_own n is js same) is' e = let w = whole_goes (top_is_whole s.cells (An_object ∷ js)) (deals_with p (An_object ∷ js) (Unwind h.code ∷ h.below) s) u e in done (An_object ∷ js) is' refl w.0 w.1 (ap (arrival h.code) is')
+    go (entries_run m n k w is js _ _ same) is' e = done (An_operation k w ∷ js) is' refl refl (goes_same (deals_with p (An_operation k w ∷ js) (Unwind h.code ∷ h.below) s) u e) (ap (arrival h.code) is')
 
 -- ---- what the code needs to know there
 
@@ -119,19 +116,12 @@ module _ (p : Image) (m : Parts) (st : Stands (record { image = p; parts = m }))
       let g = goes_on in
       let over = unwinds_over p st.1.typing st.0 st.1.sound g.0 g.1 st.1.typed g.3 in
       let same = subst (SameTasks m.stack.tasks) g.3 st.1.agrees.tasks in
-      (g.1, g.0, go m.stack.tasks g.0 g.1 unwinding same (subst (λ us. AllAtTraps p us) g.3 st.1.traps).1 over.0, trap m.stack.tasks g.0 g.1 unwinding same over.1)
+      let under = alike (below_first m.stack.tasks) g.1 (same_below m.stack.tasks (Unwind g.0) g.1 same) in
+      (g.1, g.0, held_beneath p st.1.sound.formed over.0 under (subst (λ us. AllAtTraps p us) g.3 st.1.traps).1, on_top under over.1)
     where
-      go : (ms : List Held_task) (code : ℤ) (ts : List Task) → IsUnwinding ms → SameTasks ms (Unwind code ∷ ts) → Below (at_traps p) ts → Beneath p ts → ReturnsTo p (below_first ms)
-      go (Unwinds c ∷ ms) code ts unwinding same fits under = held_beneath p st.1.sound.formed ms ts same.1 fits under
-      go _ code ts unwinding same fits under = absurd (assumption tt)
-
-      on_top : (ms : List Held_task) (ts : List Task) → SameTasks ms ts → IsTrapOnTop ts → IsTrapped ms
-      on_top (Is_trap ∷ ms) (Trapped ∷ ts) same top = tt
-      on_top _ _ same top = absurd (grind arith)
-
-      trap : (ms : List Held_task) (code : ℤ) (ts : List Task) → IsUnwinding ms → SameTasks ms (Unwind code ∷ ts) → IsTrapOnTop ts → IsTrapped (below_first ms)
-      trap (Unwinds c ∷ ms) code ts unwinding same top = on_top ms ts same.1 top
-      trap _ code ts unwinding same top = absurd (assumption tt)
+      on_top : {ms : List Held_task} {ts : List Task} → Alike ms ts → IsTrapOnTop ts → IsTrapped ms
+      on_top (both_trapped _ _ _ _) top = top
+      on_top _ top = top
 
   pub unwinds_to : ReturnsTo p (below_first m.stack.tasks)
   unwinds_to = beneath_it.2
@@ -166,7 +156,7 @@ awaited_caught p t s code caller ts typed top some =
     let caught = good.stack.1.1.0 in
     let quiet = awaiting gv x sh' (ap bears (sym caught.0) ∙ some) caught.2 in
     let claims : claim p (declared p s.cells) (Unwinding code es ∷ Mark gv ∷ Method caller sh' ∷ ls) q ≡ register sh' x = claim_register p (declared p s.cells) caller sh' ls x in
-    let none = fits_unowning p (held s.cells) (held s.cells q) (register sh' x) quiet (subst (Fits p (held s.cells) (held s.cells q)) claims (good.fits q)) in
+    let none = fits_unowning p (seen s.cells) (held s.cells q) (register sh' x) quiet (subst (Fits p (seen s.cells) (held s.cells q)) claims (good.fits q)) in
     subst (λ us. held s.cells (Register (length us) x) ≡ None) rest none)))
 
 -- main's dispatch alone is left
@@ -256,18 +246,17 @@ module _ (p : Image) (m : Parts) (es : Held_items) (marked : m.entries ≡ recor
   said = record t { lines = t.lines ++ Leave (code_here m.stack.tasks) ∷ [] }
 
   top_mark : (js : List Item) → SameItems m.entries.items js → (ks : List Item) × (js ≡ A_mark ∷ ks)
-  top_mark js same = go js (subst (λ is. SameItems is js) (ap (λ (e : Held_items). e.items) marked) same)
+  top_mark js same = go (items_alike (Is_mark ∷ es.items) js (subst (λ is. SameItems is js) (ap (λ (e : Held_items). e.items) marked) same))
     where
-      go : (js : List Item) → SameItems (Is_mark ∷ es.items) js → (ks : List Item) × (js ≡ A_mark ∷ ks)
-      go (A_mark ∷ ks) same = (ks, refl)
-      go _ same = absurd (assumption tt)
+      go : {js : List Item} → Alike_items (Is_mark ∷ es.items) js → (ks : List Item) × (js ≡ A_mark ∷ ks)
+      go (both_marks _ ks _) = (ks, refl)
 
   pub arrives_method : IsUnwinding m.stack.tasks → IsTrapped (below_first m.stack.tasks) → Runs under → suc (result_register (instr_at p (method_here under) (place_here under))) < 16
       → Unwinds_by p m (told p (instr_at p (method_here under) (place_here under)) (code_here m.stack.tasks) (record (with_tasks under m) { entries = es })) t said
   arrives_method unwinding trapped runs coded h u e typed =
       let k = top_mark h.state.items h.agrees.entries in
-      go m.stack.tasks h.code h.below refl h.top unwinding trapped runs coded fits
-      (subst (SameTasks m.stack.tasks) h.top h.agrees.tasks)
+      go m.stack.tasks h.code h.below refl h.top (tops A_caught_leave m.stack.tasks (unwinding, trapped, runs)) coded fits
+      (alike m.stack.tasks (Unwind h.code ∷ h.below) (subst (SameTasks m.stack.tasks) h.top h.agrees.tasks))
       (λ r. subst (λ us. Shows (value_in m.stack.tasks m.cells m.entries.items m.root r) (word_at us r) (held h.state.cells r)) h.top (h.agrees.values r))
       k.0 k.1 (subst (λ is. unwound p h.code h.below h.state is ≡ Goes u) k.1 e)
     where
@@ -279,14 +268,13 @@ module _ (p : Image) (m : Parts) (es : Held_items) (marked : m.entries ≡ recor
           let v = below_first (below_first us) in
           Agrees p (told p (instr_at p (method_here v) (place_here v)) (code_here us) (record (with_tasks v m) { entries = es })) u × (record t { lines = t.lines ++ Leave (code_here us) ∷ [] } ≡ record t { lines = t.lines ++ arrival code s.items })
 
-      go : (us : List Held_task) (code : ℤ) (below : List Task) → m.stack.tasks ≡ us → s.tasks ≡ Unwind code ∷ below → IsUnwinding us → IsTrapped (below_first us) → Runs (below_first (below_first us)) → suc (result_register (instr_at p (method_here (below_first (below_first us))) (place_here (below_first (below_first us))))) < 16 → FitsSigned w32 (code_here us)
-          → SameTasks us (Unwind code ∷ below) → ((r : Place) → Shows (value_in us m.cells m.entries.items m.root r) (word_at (Unwind code ∷ below) r) (held s.cells r))
+      go : (us : List Held_task) (code : ℤ) (below : List Task) → m.stack.tasks ≡ us → s.tasks ≡ Unwind code ∷ below → Tops A_caught_leave us → suc (result_register (instr_at p (method_here (below_first (below_first us))) (place_here (below_first (below_first us))))) < 16 → FitsSigned w32 (code_here us)
+          → Alike us (Unwind code ∷ below) → ((r : Place) → Shows (value_in us m.cells m.entries.items m.root r) (word_at (Unwind code ∷ below) r) (held s.cells r))
           → (ks : List Item) → s.items ≡ A_mark ∷ ks → unwound p code below s (A_mark ∷ ks) ≡ Goes u → Done us code
-      go (Unwinds c ∷ Is_trap ∷ Runs_frame g ∷ ms) code (Trapped ∷ Run caller ∷ ts) held_tasks top unwinding trapped runs coded fits same values ks items e =
+      go _ code _ held_tasks top (caught_leave_on_top c g ms) coded fits (both_unwind _ _ _ _ same _ (both_trapped _ _ _ (both_run _ caller _ ts frame rest _))) values ks items e =
           let i = instr_at p caller.method caller.place in
           let x = result_register i in
           let gv = called p i in
-          let frame = same.1.1.0 in
           let alike : instr_at p g.method g.place ≡ i = ap (λ n. instr_at p n g.place) frame.method ∙ ap (λ n. instr_at p caller.method n) frame.place in
           let v : State = record s { tasks = Run (next (code_told gv x code caller)) ∷ ts; items = ks } in
           let is : v ≡ u = goes_same v u e in
@@ -297,19 +285,19 @@ module _ (p : Image) (m : Parts) (es : Held_items) (marked : m.entries ≡ recor
           subst (λ n. Shows n (word_at (Run caller ∷ ts) r) (held s.cells r))
           (unwinds_value (Is_trap ∷ Runs_frame g ∷ ms) m.cells m.entries.items m.root c r ∙ over_value true (Runs_frame g ∷ ms) m.cells m.entries.items m.root r ∙ ap (λ is. value_in (Runs_frame g ∷ ms) m.cells is m.root r) was ∙ value_alike (Runs_frame g ∷ ms) m.cells (Is_mark ∷ es.items) es.items m.root (λ d. mark_shows_none es.items d) r)
           (subst (λ w. Shows (value_in (Unwinds c ∷ Is_trap ∷ Runs_frame g ∷ ms) m.cells m.entries.items m.root r) w (held s.cells r)) (unwinds_word (Trapped ∷ Run caller ∷ ts) code r ∙ over_words true (Run caller ∷ ts) r) (values r)) in
-          let told_all = tells p m s h.agrees es marked g ms caller ts frame same.1.1.1 x small base code gv (subst (FitsSigned w32) same.0 fits) (awaited_caught p h.typing s code caller ts h.typed top) (code_alone p h.typing gv x code caller ts v fresh refl) in (
+          let told_all = tells p m s h.agrees es marked g ms caller ts frame rest x small base code gv (subst (FitsSigned w32) same fits) (awaited_caught p h.typing s code caller ts h.typed top) (code_alone p h.typing gv x code caller ts v fresh refl) in (
             subst (λ o. Agrees p (told p o c (record (with_tasks (Runs_frame g ∷ ms) m) { entries = es })) u) (sym alike)
-                (subst (λ w. Agrees p (told p i w (record (with_tasks (Runs_frame g ∷ ms) m) { entries = es })) u) (sym same.0)
+                (subst (λ w. Agrees p (told p i w (record (with_tasks (Runs_frame g ∷ ms) m) { entries = es })) u) (sym same)
                 (subst (Agrees p (told p i code (record (with_tasks (Runs_frame g ∷ ms) m) { entries = es }))) (ap (λ js. record s { tasks = Run (next (code_told gv x code caller)) ∷ ts; items = below_top js }) items ∙ is) told_all)),
-            ap (λ w. record t { lines = t.lines ++ Leave w ∷ [] }) same.0 ∙ ap (λ js. record t { lines = t.lines ++ arrival code js }) (sym items),
+            ap (λ w. record t { lines = t.lines ++ Leave w ∷ [] }) same ∙ ap (λ js. record t { lines = t.lines ++ arrival code js }) (sym items),
           )
-      go _ code _ held_tasks top unwinding trapped runs coded fits same values ks items e = absurd (assumption tt)
 
   pub arrives_end : IsUnwinding m.stack.tasks → IsTrapped (below_first m.stack.tasks) → IsEnding under
       → Unwinds_by p m (record (with_tasks (Ends (MainLeft (code_here m.stack.tasks)) ∷ below_first under) m) { entries = es }) t said
   arrives_end unwinding trapped ending h u e typed =
       let k = top_mark h.state.items h.agrees.entries in
-      go m.stack.tasks h.code h.below h.top unwinding trapped ending (subst (SameTasks m.stack.tasks) h.top h.agrees.tasks) k.0 k.1 (subst (λ is. unwound p h.code h.below h.state is ≡ Goes u) k.1 e)
+      go m.stack.tasks h.code h.below h.top (tops A_last_leave m.stack.tasks (unwinding, trapped, ending))
+      (alike m.stack.tasks (Unwind h.code ∷ h.below) (subst (SameTasks m.stack.tasks) h.top h.agrees.tasks)) k.0 k.1 (subst (λ is. unwound p h.code h.below h.state is ≡ Goes u) k.1 e)
     where
       s : State
       s = h.state
@@ -318,19 +306,18 @@ module _ (p : Image) (m : Parts) (es : Held_items) (marked : m.entries ≡ recor
       Done us code =
           Agrees p (record (with_tasks (Ends (MainLeft (code_here us)) ∷ below_first (below_first (below_first us))) m) { entries = es }) u × (record t { lines = t.lines ++ Leave (code_here us) ∷ [] } ≡ record t { lines = t.lines ++ arrival code s.items })
 
-      go : (us : List Held_task) (code : ℤ) (below : List Task) → s.tasks ≡ Unwind code ∷ below → IsUnwinding us → IsTrapped (below_first us) → IsEnding (below_first (below_first us)) → SameTasks us (Unwind code ∷ below)
+      go : (us : List Held_task) (code : ℤ) (below : List Task) → s.tasks ≡ Unwind code ∷ below → Tops A_last_leave us → Alike us (Unwind code ∷ below)
           → (ks : List Item) → s.items ≡ A_mark ∷ ks → unwound p code below s (A_mark ∷ ks) ≡ Goes u → Done us code
-      go (Unwinds c ∷ Is_trap ∷ Ends y ∷ ms) code (Trapped ∷ Dispatched d ∷ ts) top unwinding trapped ending same ks items e =
+      go _ code _ top (last_leave_on_top c y ms) (both_unwind _ _ _ _ same _ (both_trapped _ _ _ (both_end _ d _ ts _ rest _))) ks items e =
           let main = left_main p h.typing s code d ts h.typed top in
           let v : State = record s { tasks = Dispatched (Main_left code) ∷ ts; items = ks } in
           let is : v ≡ u = ap (λ x. record s { tasks = Dispatched (ended_by code x) ∷ ts; items = ks }) (sym main) ∙ goes_same (record s { tasks = Dispatched (ended_by code d) ∷ ts; items = ks }) u e in
           let fresh = subst (WellTyped p h.typing) (sym is) typed in
           let none = under_dispatch p h.typing v (Main_left code) ts fresh refl in
-          let bare = none_alike ms ts same.1.1.1 none in
+          let bare = none_alike ms ts rest none in
           let items_too : v ≡ record s { tasks = Dispatched (Main_left code) ∷ []; items = below_top s.items } = ap (λ us. record s { tasks = Dispatched (Main_left code) ∷ us; items = ks }) none ∙ ap (λ js. record s { tasks = Dispatched (Main_left code) ∷ []; items = below_top js }) (sym items) in
           let shut = closing p h.typing (record s { tasks = Dispatched (Main_left code) ∷ []; items = below_top s.items }) (Main_left code) (subst (WellTyped p h.typing) items_too fresh) refl in
-          let end = ended p m es s (MainLeft c) (Main_left code) h.agrees marked (ap Main_left same.0) shut in (
+          let end = ended p m es s (MainLeft c) (Main_left code) h.agrees marked (ap Main_left same) shut in (
             subst (λ us. Agrees p (record (with_tasks (Ends (MainLeft c) ∷ us) m) { entries = es }) u) (sym bare) (subst (Agrees p (record (with_tasks (Ends (MainLeft c) ∷ []) m) { entries = es })) (sym items_too ∙ is) end),
-            ap (λ w. record t { lines = t.lines ++ Leave w ∷ [] }) same.0 ∙ ap (λ js. record t { lines = t.lines ++ arrival code js }) (sym items),
+            ap (λ w. record t { lines = t.lines ++ Leave w ∷ [] }) same ∙ ap (λ js. record t { lines = t.lines ++ arrival code js }) (sym items),
           )
-      go _ code _ top unwinding trapped ending same ks items e = absurd (assumption tt)

@@ -14,6 +14,7 @@ use Rattle.aom_frames.specs.declared.task.Task.TheVariants.{Run as Runs_frame, D
 use Rattle.aom_exec.specs.Places.{register_in, going_of, going_in, value_in}
 use Rattle.aom_exec.specs.Agrees.{word_of, word_in, word_at, Shows, SameTasks}
 use Rattle.aom_cleanup.specs.declared.item.Item.{Item}
+use Rattle.std.proofs.lemmas.List.{nil_from_length}
 use Rattle.aom_exec.proofs.Alike.{by_tasks}
 
 pub cases : (b : Bool) {P : Type 0} → (b ≡ true → P) → (b ≡ false → P) → P
@@ -28,6 +29,9 @@ slot_set none xs i j x small = cases (i == j)
 
 pub same_length : (ms : List Held_task) (ts : List Task) → SameTasks ms ts → length ms ≡ length ts
 same_length = by_tasks (λ ms ts. length ms ≡ length ts) refl (λ m t ms ts _ _ e. ap suc e)
+
+pub none_alike : (ms : List Held_task) (ts : List Task) → SameTasks ms ts → ts ≡ [] → ms ≡ []
+none_alike ms ts same e = nil_from_length ms (same_length ms ts same ∙ ap length e)
 
 -- past the tasks at hand there is nothing
 pub register_past : (us : List Held_task) (d i : ℕ) → length us ≤ d → register_in us d i ≡ null

@@ -14,8 +14,9 @@ use Rattle.aom_image.specs.declared.method.Gives.TheVariants.{Maybe as A_maybe, 
 use Rattle.aom_image.specs.declared.method.Thing.TheVariants.{Object as An_object_of}
 use Rattle.aom_classes.specs.Roles.{main_of}
 use Rattle.aom_shape.specs.Entries.{without_entry}
-use Rattle.aom_shape.specs.Arguments.{arguments_moved}
+use Rattle.aom_shape.specs.Arguments.{after_of, arguments_moved}
 use Rattle.aom_rules.specs.Calls.{while_called}
+use Rattle.aom_rules.specs.Requests.{resting}
 use Rattle.aom_shape.specs.Kinds.{readied, register, set_register}
 use Rattle.aom_shape.specs.Needs.{AllTrue}
 use Rattle.aom_shape.specs.Shape.{Shape}
@@ -27,15 +28,16 @@ use Rattle.aom_sound.proofs.Finishing.{all_parts}
 use Rattle.aom_sound.proofs.Guarded.{guarded_goes, guarded_met}
 use Rattle.aom_sound.proofs.Maps.{at-put_at, held_without, same_place-true}
 use Rattle.aom_sound.proofs.Moving.{steps_are_moves}
+use Rattle.aom_sound.proofs.Requesting.{rerequested_alike}
 use Rattle.aom_sound.proofs.Storing.{held_set_word}
 use Rattle.aom_sound.proofs.Straight.{register_fits}
 use Rattle.aom_sound.specs.Calls.{needs_each, needs_entering, needs_target, passed_cells, result_cells, returned}
 use Rattle.aom_sound.specs.Cleanup.{to_trap, top_place}
 use Rattle.aom_sound.specs.Destruction.{begun_by}
 use Rattle.aom_classes.specs.Roles.{destructor_of}
-use Rattle.aom_sound.specs.Effects.{Calls, Carried, Counts, Destroys, Destroys_last, Effect, Goes_on, In_field, In_register, Jumps, Leaves, Made, Operates, Popped, Pushed, Repeats, Returns, Sets_trap, Spot, Update, Written, applied, cells_after, deletes, spot_place, with_words}
+use Rattle.aom_sound.specs.Effects.{Calls, Carried, Counts, Destroys, Destroys_last, Effect, Goes_on, In_field, In_register, Jumps, Leaves, Made, Operates, Popped, Pushed, Repeats, Requested, Returns, Sets_trap, Spot, Update, Written, applied, cells_after, deletes, spot_place, with_words}
 use Rattle.aom_sound.specs.Moves.{counted, dispatch_ends, does, main_ends, needs, step}
-use Rattle.aom_sound.specs.Places.{Cell, Elsewhere, Entry, Going, Object, Place, Register, Root, held, moved, same_place, without}
+use Rattle.aom_sound.specs.Places.{Cell, Elsewhere, Entry, Going, Object, Place, Register, Root, Sight, held, moved, same_place, seen, without}
 use Rattle.aom_sound.specs.State.{AtRoot, Choice, Destroy, Dispatch, Dispatched, Frame, Goes, Home, Inside, Main_left, Need, Of_main, Of_root, Run, State, Static, Task, Trapped, Unwind, field_place, guarded, resumed, word}
 use Rattle.aom_sound.specs.Steps.{Acts, Arrives, Clears, Comes_out, Ends, Fits as May, Move, Rests, Undoes, Vanishes}
 use Rattle.aom_sound.specs.WellTyped.{Fits, Good, WellTyped, WordFits}
@@ -50,7 +52,7 @@ use Rattle.aom_exec.proofs.Stepping.{at_step, step_of_instr}
 
 -- ---- kinds
 
-pub kind_says : (p : Image) (h : Place → Option Object) (k : Kind) (w : Option ℤ) (o : Option Object) → WordFits w k → Fits p h o k → KindSays p k w o
+pub kind_says : (p : Image) (h : Sight) (k : Kind) (w : Option ℤ) (o : Option Object) → WordFits w k → Fits p h o k → KindSays p k w o
 kind_says p h Word (Some w) None words fits = (refl, refl)
 kind_says p h Unset w None words fits = refl
 kind_says p h Null w None words fits = (words, refl)
@@ -109,6 +111,7 @@ module _ (p : Image) (fr : Frame) (ts : List Task) (s : State) where
   updated_same (Carried from to) d i lt = held_apart s.cells (spot_place p fr ts s from) (spot_place p fr ts s to) (Register d i) (spot_apart from d i lt) (spot_apart to d i lt)
   updated_same (Made name class a) d i lt = ap (λ b. cond b (Some (record { name = name; thing = An_object_of class })) (held s.cells (Register d i))) (higher_apart (length ts) a d i lt)
   updated_same (Written w v) d i lt = stored_same s.cells fr.home w v (length ts) d i lt
+  updated_same (Requested r) d i lt = (rerequested_alike s.cells fr.home r).held_so (Register d i)
   updated_same (Pushed a) d i lt = held_apart s.cells (here fr ts s a) (Entry (length s.items)) (Register d i) (higher_apart (length ts) a d i lt) refl
   updated_same (Popped a) d i lt = held_apart s.cells (top_place s.items) (here fr ts s a) (Register d i) refl (higher_apart (length ts) a d i lt)
   updated_same _ d i lt = refl
@@ -172,12 +175,12 @@ module _ (p : Image) (fr : Frame) (ts : List Task) (s : State) where
       arguments_says depth xs (suc first) (suc to) (moved (here fr ts s first) (Register depth to) cs) (set_register sh first Null) deep met.1.1.1
       (emptied cs sh first (Register depth to) (λ i. higher_apart depth to (length ts) i deep) (no_word _ met.0) says)
 
-  called_says : (target : Target) (class : Option ℕ) (cs : List Cell) (sh : Shape) → Says cs sh → Says cs (while_called target class sh)
-  called_says This None cs sh says i = says i
-  called_says This (Some c) cs sh says i = says i
-  called_says (On_field f) class cs sh says i = says i
-  called_says (On_entry k) class cs sh says i = says i
-  called_says (On_register r) class cs sh says i =
+  called_says : (target : Target) (class : Option ℕ) (ended : ℕ) (cs : List Cell) (sh : Shape) → Says cs sh → Says cs (while_called target class ended sh)
+  called_says This None ended cs sh says i = says i
+  called_says This (Some c) ended cs sh says i = says i
+  called_says (On_field f) class ended cs sh says i = says i
+  called_says (On_entry k) class ended cs sh says i = says i
+  called_says (On_register r) class ended cs sh says i =
       subst (λ k. KindSays p k (word fr i) (held cs (Register (length ts) i))) (sym (at-put_at Unset sh.registers r i (readied (register sh r)))) (go (r == i) refl)
     where
       go : (b : Bool) → (r == i) ≡ b → KindSays p (cond b (readied (register sh r)) (register sh i)) (word fr i) (held cs (Register (length ts) i))
@@ -197,7 +200,7 @@ runs_typed p t s fr ts w top = method_layer (λ ls. Good p t s.cells ls) fr ts w
       typed = good.stack.0;
       says = λ i.
           subst (λ us. KindSays p (register sh i) (word fr i) (held s.cells (Register (length us) i))) under
-          (kind_says p (held s.cells) (register sh i) (word fr i) _ (good.stack.1.words i) (register_fits p s.cells fr sh ls good.fits i));
+          (kind_says p (seen s.cells) (register sh i) (word fr i) _ (good.stack.1.words i) (register_fits p s.cells fr sh ls good.fits i));
     })
 
 -- ---- moves
@@ -237,16 +240,16 @@ module _ (p : Image) (t : Typing) (c : Choice) (s : State) (fr : Frame) (ts : Li
 
   -- for a method that it has called, at that depth
   calls :
-      (depth m first : ℕ) (target : Target) (more : List Need) → length ts < depth → AllTrue (needs_entering p fr ts s target m first more) →
-      ((sh : Shape) → while_waiting p (Some i) sh ≡ while_called target (method_class p m) (arguments_moved (arguments_of p m) first sh)) →
+      (depth m first ended : ℕ) (target : Target) (more : List Need) → length ts < depth → AllTrue (needs_entering p fr ts s target m first more) →
+      ((sh : Shape) → while_waiting p (Some i) sh ≡ while_called target (method_class p m) ended (arguments_moved (arguments_of p m) first sh)) →
       AllWait p t (passed_cells p fr ts s depth (arguments_of p m) first 0 s.cells) (Run fr ∷ ts)
-  calls depth m first target more deep needed is =
+  calls depth m first ended target more deep needed is =
       let xs = arguments_of p m in
       let cs = passed_cells p fr ts s depth xs first 0 s.cells in
       let parts = all_parts (needs_target p fr ts s target (method_class p m) first (length xs)) _ needed in
       let each = (all_parts (needs_each p fr ts s xs first) more parts.1.1).0 in
       let moved_on = arguments_says p fr ts s depth xs first 0 s.cells h.shape deep each h.says in
-      let says = called_says p fr ts s target (method_class p m) cs (arguments_moved xs first h.shape) moved_on in (
+      let says = called_says p fr ts s target (method_class p m) ended cs (arguments_moved xs first h.shape) moved_on in (
         begins cs (λ j. subst (λ sh. KindSays p (register sh j) (word fr j) (held cs (Register (length ts) j))) (sym (is h.shape)) (says j)),
         still_wait p t s.cells cs ts (passed_same p fr ts s depth xs first 0 s.cells deep) w,
       )
@@ -307,9 +310,9 @@ module _ (p : Image) (t : Typing) (c : Choice) (s : State) (fr : Frame) (ts : Li
   acts_wait (Counts d n) deleted fits = w
   acts_wait (Repeats d n to) deleted fits = w
   acts_wait (Calls target m first) deleted fits =
-      calls (suc (length ts)) m first target _ (omega arith) (subst (λ j. AllTrue (needs p c fr ts s j)) fits.1 met) (λ sh. ap (λ j. while_waiting p (Some j) sh) fits.1)
+      calls (suc (length ts)) m first (after_of p m) target _ (omega arith) (subst (λ j. AllTrue (needs p c fr ts s j)) fits.1 met) (λ sh. ap (λ j. while_waiting p (Some j) sh) fits.1)
   acts_wait (Sets_trap target m first) deleted fits =
-      calls (suc (suc (length ts))) m first target _ (omega arith) (subst (λ j. AllTrue (needs p c fr ts s j)) fits.1 met) (λ sh. ap (λ j. while_waiting p (Some j) sh) fits.1)
+      calls (suc (suc (length ts))) m first (resting p (method_class p m)) target _ (omega arith) (subst (λ j. AllTrue (needs p c fr ts s j)) fits.1 met) (λ sh. ap (λ j. while_waiting p (Some j) sh) fits.1)
   acts_wait (Returns g a) deleted fits = returns g a ts refl
   acts_wait (Leaves code u) deleted fits = trapped_wait p t _ ts (still_wait p t s.cells _ ts (updated_same p fr ts s u) w)
   acts_wait (Destroys o a words) deleted fits = deleted o a words refl

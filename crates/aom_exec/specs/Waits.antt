@@ -3,15 +3,16 @@ use Rattle.std.specs.Prelude.{ℕ, ℤ, ◌≡◌, true, IsSome, IfSome, List, [
 use Rattle.aom_image.specs.Image.{Image}
 use Rattle.aom_image.specs.Views.{arguments_of, instr_at, method_class}
 use Rattle.aom_instructions.specs.declared.instr.Instr.{Instr}
-use Rattle.aom_shape.specs.Arguments.{arguments_moved}
+use Rattle.aom_shape.specs.Arguments.{after_of, arguments_moved}
 use Rattle.aom_rules.specs.Calls.{while_called}
+use Rattle.aom_rules.specs.Requests.{resting}
 use Rattle.aom_shape.specs.Entries.{without_entry}
 use Rattle.aom_shape.specs.Kinds.{register, set_register}
 use Rattle.aom_rules.specs.Rules.{ways_of}
 use Rattle.aom_shape.specs.Shape.{Shape}
 use Rattle.aom_shape.specs.Things.{stands_for}
 use Rattle.aom_rules.specs.Typing.{Typing, shape_at}
-use Rattle.aom_rules.specs.Ways.{As_before, Branches, Branches_on_empty, Branches_on_null, Called, Caught, Dropped, Ends, Filled, Goes_back, Goes_on, Goes_to, Holding, Moved, News, Popped, Pushed, Pushed_operation, Taken, Ways}
+use Rattle.aom_rules.specs.Ways.{As_before, Branches, Branches_in, Branches_on_empty, Branches_on_null, Called, Caught, Dropped, Ends, Filled, Goes_back, Goes_on, Goes_to, Holding, Left_in, Moved, News, Popped, Pushed, Pushed_operation, Taken, Ways}
 use Rattle.aom_shape.specs.declared.kind.Kind.{Kind}
 use Rattle.aom_shape.specs.declared.kind.Kind.TheVariants.{Maybe, Null, Own, Unset, Word}
 use Rattle.aom_sound.specs.Places.{Cell, Object, Register, held}
@@ -27,8 +28,8 @@ KindSays p (Maybe t a) w o = (w ≡ None) × IfSome o (λ x. stands_for p x.thin
 
 -- what is known while what is called, or lets go, is at hand: the operands have moved, and no result is there
 abbrev pub waiting_for : Image → News → Shape → Shape
-waiting_for p (Called target m first c) sh = while_called target (method_class p m) (arguments_moved (arguments_of p m) first sh)
-waiting_for p (Caught target m first c) sh = while_called target (method_class p m) (arguments_moved (arguments_of p m) first sh)
+waiting_for p (Called target m first c) sh = while_called target (method_class p m) (after_of p m) (arguments_moved (arguments_of p m) first sh)
+waiting_for p (Caught target m first c) sh = while_called target (method_class p m) (resting p (method_class p m)) (arguments_moved (arguments_of p m) first sh)
 waiting_for p (Holding a Null) sh = set_register sh a Null
 waiting_for p (Holding a kind) sh = sh
 waiting_for p Dropped sh = without_entry sh
@@ -40,6 +41,7 @@ waiting_for p (Filled f a) sh = sh
 waiting_for p (Pushed a) sh = sh
 waiting_for p Pushed_operation sh = sh
 waiting_for p (Popped a) sh = sh
+waiting_for p (Left_in states) sh = sh
 
 abbrev pub waiting_by : Image → Ways → Shape → Shape
 waiting_by p (Goes_on news) sh = waiting_for p news sh
@@ -49,6 +51,7 @@ waiting_by p (Branches to) sh = sh
 waiting_by p (Goes_back to) sh = sh
 waiting_by p (Branches_on_null a to) sh = sh
 waiting_by p (Branches_on_empty f to) sh = sh
+waiting_by p (Branches_in there here to) sh = sh
 
 -- the state of a method while what its instruction has called, or lets go, is at hand
 abbrev pub while_waiting : Image → Option Instr → Shape → Shape

@@ -113,6 +113,13 @@ impl<'a> Machine<'a> {
         self.parts.rest.steps()
     }
 
+    /// How many allocation requests were made so far. It stays at 2^64 - 1 once there.
+    pub fn requests(&self) -> u64
+        ensures { result ≡ self.now.parts.rest.requests }
+    {
+        self.parts.rest.requests()
+    }
+
     /// How many cells live.
     pub fn count(&self) -> usize
         ensures { result ≡ count self.now.parts.cells }

@@ -53,6 +53,12 @@ impl Rest {
         self.steps
     }
 
+    pub fn requests(&self) -> u64
+        ensures { result ≡ self.now.requests }
+    {
+        self.requests
+    }
+
     /// Whether main's line is written.
     pub fn is_announced(&self) -> bool
         ensures { result ≡ self.now.announced }

@@ -30,12 +30,7 @@ fn destruction(linked: &Linked, figures: &Figures, class: ClassNumber) -> u64
 }
 
 /// What the dispatch of an object of a class costs, by the kind of the class.
-pub(crate) fn kind_price(
-    linked: &Linked,
-    figures: &Figures,
-    class: ClassNumber,
-    kind: ClassKind,
-) -> u64
+pub fn kind_price(linked: &Linked, figures: &Figures, class: ClassNumber, kind: ClassKind) -> u64
     ensures { result ≡ kind_by linked.now figures.now.prices class kind }
 {
     match kind {

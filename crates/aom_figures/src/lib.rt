@@ -9,4 +9,5 @@ mod most;
 mod text;
 mod writer;
 
-pub use text::figures_text;
+pub use dispatches::kind_price;
+pub use text::{declared, figures_text};

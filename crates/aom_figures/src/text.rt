@@ -23,7 +23,7 @@ fn class_number(index: usize) -> ClassNumber
 }
 
 /// The budget of a class, if its objects are dispatched.
-fn declared(kind: ClassKind) -> Option<u32>
+pub fn declared(kind: ClassKind) -> Option<u32>
     ensures { result ≡ kind_declares kind }
 {
     match kind {

@@ -1,5 +1,5 @@
 -- A fault before budgets is none of theirs, and what was sent of an image's figures is what the status answers.
-use Rattle.std.proofs.Common.{◌≡◌, ◌∙◌, ℕ, List, Option, Some, None, ap, refl, sym, subst, inl, inr}
+use Rattle.std.proofs.Common.{◌≡◌, ◌⊎◌, ◌∙◌, ℕ, List, Option, Some, None, ap, refl, sym, subst, inl, inr}
 use Rattle.aom_codec.specs.declared.fault.LoadFault.{LoadFault}
 use Rattle.aom_codec.specs.declared.fault.LoadFault.TheVariants as loads
 use Rattle.aom_classes.specs.declared.fault.LinkFault.{LinkFault}
@@ -22,8 +22,8 @@ use Rattle.aom_main.specs.declared.faults.Fault.{Fault}
 use Rattle.aom_main.specs.declared.faults.Fault.TheVariants as faults
 use Rattle.aom_main.specs.Status.{of_link, of_load, status_of}
 use Rattle.aom_main.specs.Acceptable.{IsSpelled, IsAcceptable, Refuses, RefusesOrWants}
-use Rattle.aom_main.specs.Headline.{Sent, IsSilent, Says, Told}
-use Rattle.aom_main.specs.Prices.{AreTold, IsBeyond, IsEarly, IsFigured, IsPriced, IsWithin, IsWritten, PricesAnswers, Shown}
+use Rattle.aom_main.specs.Headline.{Sent, ImageWantsMemory, IsSilent, Says, Told}
+use Rattle.aom_main.specs.Prices.{AreTold, IsBeyond, IsEarly, IsFigured, IsPriced, IsUnpriced, IsWithin, IsWritten, PricesAnswers, Shown}
 use Rattle.aom_main.specs.Prices.PricesBreaks.{accepted_fails, refused_fails}
 
 -- ---- faults before budgets
@@ -65,22 +65,37 @@ shown bytes text (Some fault) out errors status written (inr fails) = subst (Pri
 
 -- ---- what was told
 
-unpriced_for : (bytes : List ℕ) (fault : Fault) (out errors : Sent) (status : ExitStatus) → Refuses bytes fault → IsEarly fault → status_of fault ≡ statuses.ImageRefused
+-- what the status is then, and what is told
+abbrev pub Turned : List ℕ → Sent → Sent → ExitStatus → Type 0
+Turned bytes out errors status = ((status ≡ statuses.ImageRefused) × IsUnpriced bytes out errors) ⊎ ((status ≡ statuses.Fault) × ImageWantsMemory out errors)
+
+turned_for : (bytes : List ℕ) (fault : Fault) (out errors : Sent) (status : ExitStatus) → Refuses bytes fault → IsEarly fault → status_of fault ≡ statuses.ImageRefused
     → (fault ≡ faults.Memory → ⊥) → ((p : Image) → IsSpelled bytes p → IsAcceptable p → fault ≡ faults.Memory) → IsSilent out → Told fault status errors
-    → PricesAnswers bytes out errors status
-unpriced_for bytes fault out errors status refuses early is other complete silent told =
-    subst (PricesAnswers bytes out errors) (sym (told.0 ∙ is)) (inr (record {
-      refused = record { silent = silent; fault = fault; refuses = refuses; none = λ p spelled acceptable. other (complete p spelled acceptable); status = is; tells = told.1 };
-      early = early;
-    }))
+    → Turned bytes out errors status
+turned_for bytes fault out errors status refuses early is other complete silent told =
+    inl (
+      told.0 ∙ is,
+      record {
+        refused = record { silent = silent; fault = fault; refuses = refuses; none = λ p spelled acceptable. other (complete p spelled acceptable); status = is; tells = told.1 };
+        early = early;
+      },
+    )
+
+pub turned : (bytes : List ℕ) (fault : Fault) (out errors : Sent) (status : ExitStatus) → RefusesOrWants bytes fault → IsEarly fault
+    → ((p : Image) → IsSpelled bytes p → IsAcceptable p → fault ≡ faults.Memory) → IsSilent out → Told fault status errors → Turned bytes out errors status
+turned bytes (faults.Load fault) out errors status refuses early complete silent told = turned_for bytes (faults.Load fault) out errors status refuses early refl (λ e. cc) complete silent told
+turned bytes (faults.Link fault) out errors status refuses early complete silent told = turned_for bytes (faults.Link fault) out errors status refuses early refl (λ e. cc) complete silent told
+turned bytes (faults.Verify refusal) out errors status refuses early complete silent told = turned_for bytes (faults.Verify refusal) out errors status refuses early refl (λ e. cc) complete silent told
+turned bytes faults.Memory out errors status refuses early complete silent told = inr (told.0, record { silent = silent; tells = told.1 })
+turned bytes _ out errors status refuses early complete silent told = absurd (assumption tt)
+
+to_prices : (bytes : List ℕ) (out errors : Sent) (status : ExitStatus) → Turned bytes out errors status → PricesAnswers bytes out errors status
+to_prices bytes out errors status (inl refused) = subst (PricesAnswers bytes out errors) (sym refused.0) (inr refused.1)
+to_prices bytes out errors status (inr wants) = subst (PricesAnswers bytes out errors) (sym wants.0) (inl wants.1)
 
 pub unpriced : (bytes : List ℕ) (fault : Fault) (out errors : Sent) (status : ExitStatus) → RefusesOrWants bytes fault → IsEarly fault
     → ((p : Image) → IsSpelled bytes p → IsAcceptable p → fault ≡ faults.Memory) → IsSilent out → Told fault status errors → PricesAnswers bytes out errors status
-unpriced bytes (faults.Load fault) out errors status refuses early complete silent told = unpriced_for bytes (faults.Load fault) out errors status refuses early refl (λ e. cc) complete silent told
-unpriced bytes (faults.Link fault) out errors status refuses early complete silent told = unpriced_for bytes (faults.Link fault) out errors status refuses early refl (λ e. cc) complete silent told
-unpriced bytes (faults.Verify refusal) out errors status refuses early complete silent told = unpriced_for bytes (faults.Verify refusal) out errors status refuses early refl (λ e. cc) complete silent told
-unpriced bytes faults.Memory out errors status refuses early complete silent told = subst (PricesAnswers bytes out errors) (sym told.0) (inl (record { silent = silent; tells = told.1 }))
-unpriced bytes _ out errors status refuses early complete silent told = absurd (assumption tt)
+unpriced bytes fault out errors status refuses early complete silent told = to_prices bytes out errors status (turned bytes fault out errors status refuses early complete silent told)
 
 -- ---- a checked image
 

@@ -1,5 +1,5 @@
 -- What is known of an outcome, of a script and of the image is what the status answers.
-use Rattle.std.proofs.Common.{◌≡◌, ◌∙◌, List, ℕ, Ok, ap, length, refl, sym, subst, inl, inr}
+use Rattle.std.proofs.Common.{◌≡◌, ◌∙◌, List, ℕ, Ok, true, false, ap, length, refl, sym, subst, inl, inr}
 use Rattle.std.specs.Prelude.{◌⊎◌}
 use Rattle.aom_image.specs.Image.{Image}
 use Rattle.aom_classes.specs.Linked.{IsLinked}
@@ -29,6 +29,9 @@ use Rattle.aom_main.specs.declared.faults.Fault.TheVariants as faults
 use Rattle.aom_main.specs.Status.{of_script, of_script_kind, status_of}
 use Rattle.aom_main.specs.Acceptable.{IsSpelled, IsAcceptable, Refuses, RefusesOrWants as RefusesImage}
 use Rattle.aom_main.specs.Headline.{Sent, outside_of, IsSilent, Told, Shows, Accepts, AcceptedAnswers, AllRunWell, CheckAnswers, Ends, ImageWantsMemory, IsOnly, IsRefused, RunAnswers, Runs, Transcribed}
+use Rattle.aom_main.specs.Explored.{AcceptedExplores, Begun, ExploreAnswers, Explored}
+use Rattle.aom_main.specs.Explored.ExploreBreaks.{script_wants_memory as wants_for_script, machine_wants_memory as wants_for_machine, output_fails as fails}
+use Rattle.aom_main.specs.declared.exploring.Part.{Part}
 use Rattle.aom_main.specs.Headline.RunBreaks.{machine_wants_memory, output_fails, script_wants_memory}
 
 -- ---- a run
@@ -109,6 +112,39 @@ unscripted bytes text fault line out errors status accepts (inl denotes) silent 
 unscripted bytes text fault line out errors status accepts (inr wants) silent is told =
     let memory : Told faults.Memory status errors = subst (λ f. Told f status errors) (is ∙ ap (of_script_kind fault) wants.lines.kind) told in
     subst (AcceptedAnswers bytes text out errors) (sym memory.0) (script_wants_memory silent accepts fault wants memory.1)
+
+-- ---- runs with one more refusal
+
+module _ (bytes text : List ℕ) (p : Image) (script : Script) (acceptable : IsAcceptable p) (well : AllRunWell p) (spelled : IsSpelled bytes p) (denotes : denoted text ≡ Ok script) (part : Part) (out errors : Sent) where
+  abbrev of_them : Runs bytes text
+  of_them = runs_of bytes text p script acceptable well spelled denotes
+
+  -- memory was wanting for one of them
+  pub broken_off : (fault : Fault) (status : ExitStatus) → fault ≡ faults.Memory → (count : ℕ) × Begun p script part.first count out → Told fault status errors → AcceptedExplores bytes text part out errors status
+  broken_off fault status is begun told =
+      let memory : Told faults.Memory status errors = subst (λ f. Told f status errors) is told in
+      subst (AcceptedExplores bytes text part out errors) (sym memory.0) (wants_for_machine of_them begun.0 begun.1 memory.1)
+
+  -- the output failed
+  pub cut_off : (status : ExitStatus) → Explored p script part out → out.failed ≡ true → Told faults.Write status errors → AcceptedExplores bytes text part out errors status
+  cut_off status explored failed told = subst (AcceptedExplores bytes text part out errors) (sym told.0) (fails of_them explored failed told.1)
+
+  pub explored : Explored p script part out → out.failed ≡ false → IsSilent errors → AcceptedExplores bytes text part out errors statuses.Done
+  explored all lives silent = (of_them, all, lives, silent)
+
+pub untried : (bytes text : List ℕ) (part : Part) (fault : ScriptFault) (line : Fault) (out errors : Sent) (status : ExitStatus) → Accepts bytes → RefusesOrWants text fault → IsSilent out
+    → line ≡ of_script fault → Told line status errors → AcceptedExplores bytes text part out errors status
+untried bytes text part fault line out errors status accepts (inl denotes) silent is told =
+    let script : Told (faults.Script fault) status errors = subst (λ f. Told f status errors) (is ∙ told_so fault fault.kind (is_of_text text fault denotes)) told in
+    subst (AcceptedExplores bytes text part out errors) (sym script.0) (record { silent = silent; accepts = accepts; fault = fault; denotes = denotes; tells = script.1 })
+untried bytes text part fault line out errors status accepts (inr wants) silent is told =
+    let memory : Told faults.Memory status errors = subst (λ f. Told f status errors) (is ∙ ap (of_script_kind fault) wants.lines.kind) told in
+    subst (AcceptedExplores bytes text part out errors) (sym memory.0) (wants_for_script silent accepts fault wants memory.1)
+
+pub explores : (bytes text : List ℕ) (part : Part) (out errors : Sent) (status : ExitStatus) → AcceptedExplores bytes text part out errors status → ExploreAnswers bytes text part out errors status
+explores bytes text part out errors statuses.ImageRefused a = absurd a
+explores bytes text part out errors statuses.Fault a = inr a
+explores bytes text part out errors _ a = a
 
 -- ---- bytes that are no accepted image
 

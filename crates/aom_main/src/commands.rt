@@ -130,7 +130,7 @@ pub fn dis_bytes<W: Sink, E: Sink>(
 }
 
 /// Writes a text to the output, and tells whether that has failed.
-fn send<W: Sink, E: Sink>(text: &[u8], out: &mut W, errors: &mut E) -> ExitStatus
+pub fn send<W: Sink, E: Sink>(text: &[u8], out: &mut W, errors: &mut E) -> ExitStatus
     ensures { Sends text.now result (record { before = W.out out.old; now = W.out out.new; failed = W.failed out.new }) (record { before = E.out errors.old; now = E.out errors.new; failed = E.failed errors.new }) }
 {
     write_text(out, text);

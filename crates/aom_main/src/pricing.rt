@@ -92,7 +92,7 @@ fn with_accepted(alloc: Global, figures: &[u8]) -> Result<Vec<u8>, AllocError>
 }
 
 /// The checked image that the bytes are, or the first fault on the way.
-fn check_image(alloc: Global, bytes: &[u8]) -> Result<Checked, Fault>
+pub(crate) fn check_image(alloc: Global, bytes: &[u8]) -> Result<Checked, Fault>
     ensures ok { IfOk result (λ checked. IsSpelled bytes.now checked × IsAdmitted checked × IsLinked checked) }
     ensures err { IfErr result (λ fault. RefusesOrWants bytes.now fault) }
     ensures early { IfErr result (λ fault. IsEarly fault) }

@@ -1,6 +1,6 @@
 //! Each command over bytes and pages, and what is told where something fails.
-use crate::pages::{FIRST, FULL_HEAP, LISTING, SHORT, assembles, checks, lists, runs};
-use aom_main::{ExitStatus, Fault, run_bytes, tell};
+use crate::pages::{FIRST, FULL_HEAP, LISTING, SHORT, assembles, checks, explores, lists, runs};
+use aom_main::{ExitStatus, Fault, Part, run_bytes, tell};
 use aom_pages::{Answer, Page};
 use std::alloc::Global;
 use std::test::Fail;
@@ -23,6 +23,29 @@ fn the_first_image_is_accepted_and_runs(rt: HostRuntime) -> Result<(), Fail> {
     assert_eq!(rt; checks(alloc, &FIRST, 100), accepted);
     let told = Answer::told(alloc, ExitStatus::Done, FIRST_TEXT, "")?;
     assert_eq!(rt; runs(alloc, &FIRST, b"", 100), told);
+    Ok(())
+}
+
+#[test]
+fn each_request_is_refused_in_turn(rt: HostRuntime) -> Result<(), Fail> {
+    let alloc = rt.alloc();
+    let all = Part {
+        first: 1,
+        last: 1_000_000,
+    };
+    let both = "refuse 1 end stopped cells 0\nrefuse 2 end stopped cells 0\n";
+    let told = Answer::told(alloc, ExitStatus::Done, both, "")?;
+    assert_eq!(rt; explores(alloc, &FULL_HEAP, b"", all, 100), told);
+    let second = Part { first: 2, last: 2 };
+    let told = Answer::told(
+        alloc,
+        ExitStatus::Done,
+        "refuse 2 end stopped cells 0\n",
+        "",
+    )?;
+    assert_eq!(rt; explores(alloc, &FULL_HEAP, b"refuse 1", second, 100), told);
+    let none = Answer::told(alloc, ExitStatus::Done, "", "")?;
+    assert_eq!(rt; explores(alloc, &FIRST, b"", all, 100), none);
     Ok(())
 }
 

@@ -1,5 +1,5 @@
 //! What the tests share: two images and their texts, and what a command answered and wrote.
-use aom_main::{ExitStatus, asm_bytes, check_bytes, dis_bytes, run_bytes};
+use aom_main::{ExitStatus, Part, asm_bytes, check_bytes, dis_bytes, explore_bytes, run_bytes};
 use aom_pages::{Answer, Page};
 use std::alloc::Global;
 
@@ -26,6 +26,20 @@ pub fn runs(alloc: Global, image: &[u8], script: &[u8], room: usize) -> Answer<E
     let mut out = Page::new(alloc, room);
     let mut errors = Page::new(alloc, 100);
     let status = run_bytes(alloc, image, script, 1_000_000, &mut out, &mut errors);
+    Answer::of(status, out, errors)
+}
+
+/// Explores a part of an image's requests, with so much room for the output.
+pub fn explores(
+    alloc: Global,
+    image: &[u8],
+    script: &[u8],
+    part: Part,
+    room: usize,
+) -> Answer<ExitStatus> {
+    let mut out = Page::new(alloc, room);
+    let mut errors = Page::new(alloc, 100);
+    let status = explore_bytes(alloc, image, script, 1_000_000, part, &mut out, &mut errors);
     Answer::of(status, out, errors)
 }
 

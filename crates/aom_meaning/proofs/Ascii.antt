@@ -1,6 +1,6 @@
 -- A word that spells a number, a set or a list is of ASCII.
-use Rattle.std.proofs.Common.{◌≡◌, ℕ, ◌==◌, Bool, true, false, not, List, [], ◌∷◌, length, Option, Some, None, Result, Ok, Err, refl, sym, ap, ◌∙◌, codes, eqb-true, arith}
-use Rattle.aom_image.proofs.Given.{some_given}
+use Rattle.std.proofs.Common.{◌≡◌, ℕ, ◌==◌, Bool, true, false, not, List, [], ◌∷◌, length, Some, None, Result, Ok, Err, refl, sym, ap, ◌∙◌, codes, eqb-true, arith}
+use Rattle.aom_image.proofs.Given.{some_given, true_given}
 use Rattle.std.specs.Prelude.{if◌then◌else◌}
 use Rattle.std.specs.List.{join_with_byte, list_all, slice_split}
 use Rattle.std.specs.Str.{bytes_eq}
@@ -18,7 +18,8 @@ use Rattle.aom_syntax.specs.Methods.{all_read, cut_letter, letters_of, states_of
 use Rattle.aom_syntax.specs.Reading.{in_range, number_in}
 use Rattle.aom_ranges.proofs.Within.{passed}
 use Rattle.aom_readback.proofs.Names.{all_of, digit_is_plain}
-use Rattle.aom_meaning.specs.Meaning.{Elements, Pairwise}
+use Rattle.aom_meaning.specs.Meaning.{Elements}
+use Rattle.aom_meaning.proofs.Pairs.{Pairs, pairs, no_pair, a_pair}
 
 -- ---- numbers
 
@@ -26,8 +27,7 @@ plain_digits : (w : List ℕ) → is_digits w ≡ true → list_all is_plain w �
 plain_digits w is = all_of is_digit is_plain digit_is_plain w (and_parts (not (length w == 0)) (list_all is_digit w) is).1
 
 digits_from : (n m : Number) (b : Bool) → (if b then Some m else None) ≡ Some n → b ≡ true
-digits_from n m true is = refl
-digits_from n m false is = absurd cc
+digits_from n m b is = true_given (λ c. (if c then Some m else None) ≡ Some n) b is (λ e. cc) (λ same e. same)
 
 from_number : (w : List ℕ) (n : Number) → number_of w ≡ Some n → list_all is_plain w ≡ true
 from_number [] n is = absurd cc
@@ -84,14 +84,13 @@ plain_joined (p ∷ q ∷ ps) is =
     list_all-append is_plain p (44 ∷ join_with_byte 44 (q ∷ ps)) ∙ rw (parts.0, plain_joined (q ∷ ps) parts.1)
 
 module _ {X : Type 0} (Says : List ℕ → X → Type 0) (plain : (w : List ℕ) (x : X) → Says w x → list_all is_plain w ≡ true) where
-  plain_parts : (ps : List (List ℕ)) (xs : List X) → Pairwise Says ps xs → list_all (list_all is_plain) ps ≡ true
-  plain_parts [] [] each = refl
-  plain_parts (p ∷ ps) (x ∷ xs) each = rw (plain p x each.0, plain_parts ps xs each.1)
-  plain_parts _ _ each = absurd each
+  plain_parts : (ps : List (List ℕ)) (xs : List X) → Pairs Says ps xs → list_all (list_all is_plain) ps ≡ true
+  plain_parts _ _ no_pair = refl
+  plain_parts _ _ (a_pair p ps x xs here more) = rw (plain p x here, plain_parts ps xs more)
 
   pub plain_list : (w : List ℕ) (xs : List X) → Elements Says (bytes_eq w (codes "-")) w xs → list_all is_plain w ≡ true
   plain_list w xs is = go (bytes_eq w (codes "-")) refl is
     where
       go : (c : Bool) → bytes_eq w (codes "-") ≡ c → Elements Says c w xs → list_all is_plain w ≡ true
       go true same e = ap (list_all is_plain) ((bytes_eq-Decides w (codes "-")).0 same)
-      go false other e = ap (list_all is_plain) (sym (join_with_byte-slice_split 44 w)) ∙ plain_joined (slice_split (λ b. b == 44) w) (plain_parts (slice_split (λ b. b == 44) w) xs e)
+      go false other e = ap (list_all is_plain) (sym (join_with_byte-slice_split 44 w)) ∙ plain_joined (slice_split (λ b. b == 44) w) (plain_parts (slice_split (λ b. b == 44) w) xs (pairs Says (slice_split (λ b. b == 44) w) xs e))

@@ -1,8 +1,8 @@
 -- The statement of a class is read where its words mean a class, and as that class.
-use Rattle.std.proofs.Common.{◌≡◌, ℕ, ◌<◌, Bool, true, false, not, List, [], ◌∷◌, ◌++◌, Option, Some, None, Ok, Err, refl, sym, ap, subst, ◌∙◌, nat_lt}
+use Rattle.std.proofs.Common.{◌≡◌, ℕ, ◌<◌, Bool, true, false, not, List, [], ◌∷◌, ◌++◌, Option, Some, None, Ok, refl, sym, ap, subst, ◌∙◌, nat_lt}
 use Rattle.std.specs.Prelude.{if◌then◌else◌}
 use Rattle.std.proofs.lemmas.Bool.{lt-ltb, ltb-true}
-use Rattle.aom_text.specs.declared.fault.AsmFaultKind.TheVariants.{BadShape, LimitPassed}
+use Rattle.aom_text.specs.declared.fault.AsmFaultKind.TheVariants.{LimitPassed}
 use Rattle.aom_image.specs.WellFormed.{is_server, is_server_kind}
 use Rattle.aom_image.specs.declared.class.ClassDecl.{ClassDecl}
 use Rattle.aom_image.specs.declared.class.ClassKind.{ClassKind}
@@ -32,6 +32,7 @@ use Rattle.aom_image.specs.declared.class.Provider.TheVariants as providers
 use Rattle.aom_syntax.specs.declared.class.Purpose.TheVariants as purposes
 use Rattle.aom_syntax.specs.declared.keyword.Keyword.TheVariants as k
 use Rattle.aom_meaning.specs.Source as source
+use Rattle.aom_image.proofs.Given.{true_given}
 
 abbrev provided : ℕ → List (List ℕ) → Provider × List (List ℕ)
 provided n ws = (providers.Native n, ws)
@@ -42,12 +43,12 @@ unowned ws = ([], ws)
 -- ---- what was read
 
 -- what a class is for, without its budget
-abbrev PurposeMeans : Names → ℕ → KindText → Purpose → Type 0
-PurposeMeans names natives source.plain purposes.Plain = Unit {0}
-PurposeMeans names natives source.session purposes.Session = Unit {0}
-PurposeMeans names natives (source.active said) (purposes.Active p) = ProviderMeans natives said p
-PurposeMeans names natives (source.server class most) (purposes.Server sessions of_class) = IsNumbered names.classes class of_class × IsNumber 1 64 most sessions
-PurposeMeans names natives said p = ⊥
+data PurposeMeans (names : Names) (natives : ℕ) : KindText → Purpose → Type 0 where
+  as_plain : PurposeMeans names natives source.plain purposes.Plain
+  as_session : PurposeMeans names natives source.session purposes.Session
+  as_active : (said : ProviderText) (p : Provider) → ProviderMeans natives said p → PurposeMeans names natives (source.active said) (purposes.Active p)
+  as_server : (class most : List ℕ) (sessions of_class : ℕ) → IsNumbered names.classes class of_class → IsNumber 1 64 most sessions
+      → PurposeMeans names natives (source.server class most) (purposes.Server sessions of_class)
 
 record ProviderSays (natives : ℕ) (ws : List (List ℕ)) (p : Provider) (rest : List (List ℕ)) : Type 0 where
   said : ProviderText
@@ -63,18 +64,14 @@ provider_sound natives k.Native vs =
     let s = saw (number_in 0 15) vs n us read in
     record {
       each = λ p rest is.
-          let below = native_below n (nat_lt n natives) refl us p rest is in
+          true_given (λ b. (if b then giving (providers.Native n) else failing LimitPassed) us ≡ Ok (p, rest)) (nat_lt n natives) is (λ e. cc) (λ below e.
+          let same = ok_is (provided n us) (p, rest) e in
           record {
             said = source.by_native s.w;
-            words = ap (λ v. keyword_text k.Native ∷ v) (s.words ∙ ap (λ v. s.w ∷ v) below.1);
-            means = subst (ProviderMeans natives (source.by_native s.w)) below.2 (s.says, below.0);
-          };
+            words = ap (λ v. keyword_text k.Native ∷ v) (s.words ∙ ap (λ v. s.w ∷ v) (ap (λ q. q.1) same));
+            means = subst (ProviderMeans natives (source.by_native s.w)) (ap (λ q. q.0) same) (s.says, ltb-true n natives below);
+          });
     })
-  where
-    native_below : (n : ℕ) (b : Bool) → nat_lt n natives ≡ b → (us : List (List ℕ)) (p : Provider) (rest : List (List ℕ))
-        → (if b then giving (providers.Native n) else failing LimitPassed) us ≡ Ok (p, rest) → (n < natives) × (us ≡ rest) × (providers.Native n ≡ p)
-    native_below n true below us p rest is = let same = ok_is (provided n us) (p, rest) is in (ltb-true n natives below, ap (λ q. q.1) same, ap (λ q. q.0) same)
-    native_below n false below us p rest is = absurd cc
 provider_sound natives key vs = record { each = λ p rest is. cc }
 
 module _ (names : Names) (kinds_before : List ClassDecl) (natives servers : ℕ) where
@@ -95,7 +92,7 @@ module _ (names : Names) (kinds_before : List ClassDecl) (natives servers : ℕ)
       giving_sound Q (purposes.Server n c) rest (record {
         said = source.server s.w n_said.w;
         words = ap (λ v. keyword_text k.Server ∷ v) (s.words ∙ ap (λ v. s.w ∷ v) (e ∙ ap (λ v. keyword_text k.Max ∷ v) n_said.words));
-        means = (s.numbered, n_said.says);
+        means = as_server s.w n_said.w n c s.numbered n_said.says;
       }))))
 
   if_few : (b : Bool) (vs : List (List ℕ)) → Sound (if b then server (told names kinds_before) else failing LimitPassed) vs (λ p rest. PurposeSays (keyword_text k.Server ∷ vs) p rest)
@@ -103,15 +100,15 @@ module _ (names : Names) (kinds_before : List ClassDecl) (natives servers : ℕ)
   if_few false vs = record { each = λ p rest is. cc }
 
   purpose_sound : (key : Keyword) (vs : List (List ℕ)) → Sound (purpose (told names kinds_before) natives servers key) vs (λ p rest. PurposeSays (keyword_text key ∷ vs) p rest)
-  purpose_sound k.Plain vs = giving_sound _ purposes.Plain vs (record { said = source.plain; words = refl; means = tt })
-  purpose_sound k.Session vs = giving_sound _ purposes.Session vs (record { said = source.session; words = refl; means = tt })
+  purpose_sound k.Plain vs = giving_sound _ purposes.Plain vs (record { said = source.plain; words = refl; means = as_plain })
+  purpose_sound k.Session vs = giving_sound _ purposes.Session vs (record { said = source.session; words = refl; means = as_session })
   purpose_sound k.Active vs =
       let Q = λ (p : Purpose) (rest : List (List ℕ)). PurposeSays (keyword_text k.Active ∷ vs) p rest in
       next_sound Q any_keyword _ vs (λ key us r1.
       next_sound Q (provider natives key) _ us (λ p rest r2.
       let e = begins_with vs key us r1 in
       let s = (provider_sound natives key us).each p rest r2 in
-      giving_sound Q (purposes.Active p) rest (record { said = source.active s.said; words = ap (λ v. keyword_text k.Active ∷ v) (e ∙ s.words); means = s.means })))
+      giving_sound Q (purposes.Active p) rest (record { said = source.active s.said; words = ap (λ v. keyword_text k.Active ∷ v) (e ∙ s.words); means = as_active s.said p s.means })))
   purpose_sound k.Server vs = if_few (nat_lt servers 8) vs
   purpose_sound key vs = record { each = λ p rest is. cc }
 
@@ -140,23 +137,22 @@ module _ (names : Names) (kinds_before : List ClassDecl) (natives servers : ℕ)
       }))))
 
   kind_sound : (said : KindText) (p : Purpose) → PurposeMeans names natives said p → (owns : Bool) (ws : List (List ℕ)) → Sound (kind owns p) ws (λ K rest. KindSays said ws K)
-  kind_sound source.plain purposes.Plain means owns ws =
+  kind_sound _ _ as_plain owns ws =
       let Q = λ (K : ClassKind) (rest : List (List ℕ)). KindSays source.plain ws K in
       next_sound Q (nothing_more (not owns)) _ ws (λ u rest r. giving_sound Q kinds.Plain rest (record { budget_said = None; words = (none_left (not owns) ws u rest r).0; means = tt }))
-  kind_sound source.session purposes.Session means owns ws =
+  kind_sound _ _ as_session owns ws =
       let Q = λ (K : ClassKind) (rest : List (List ℕ)). KindSays source.session ws K in
       next_sound Q (nothing_more (not owns)) _ ws (λ u rest r. giving_sound Q kinds.Session rest (record { budget_said = None; words = (none_left (not owns) ws u rest r).0; means = tt }))
-  kind_sound (source.active said) (purposes.Active p) means owns ws =
+  kind_sound _ _ (as_active said p means) owns ws =
       let Q = λ (K : ClassKind) (rest : List (List ℕ)). KindSays (source.active said) ws K in
       next_sound Q budget _ ws (λ n rest r.
       let b = (budget_sound ws).each n rest r in
       giving_sound Q (kinds.Active p n) rest (record { budget_said = Some b.w; words = b.words; means = (means, b.says) }))
-  kind_sound (source.server class most) (purposes.Server sessions of_class) means owns ws =
+  kind_sound _ _ (as_server class most sessions of_class numbered counted) owns ws =
       let Q = λ (K : ClassKind) (rest : List (List ℕ)). KindSays (source.server class most) ws K in
       next_sound Q budget _ ws (λ n rest r.
       let b = (budget_sound ws).each n rest r in
-      giving_sound Q (kinds.Server sessions of_class n) rest (record { budget_said = Some b.w; words = b.words; means = (means.0, means.1, b.says) }))
-  kind_sound said p means owns ws = absurd means
+      giving_sound Q (kinds.Server sessions of_class n) rest (record { budget_said = Some b.w; words = b.words; means = (numbered, counted, b.says) }))
 
   owns_says : (owns : Bool) (ws vs : List (List ℕ)) (list : List Thing) (rest : List (List ℕ)) → flag k.Own ws ≡ Ok (owns, vs) → fields (told names kinds_before) owns vs ≡ Ok (list, rest)
       → Part k.Own (IsList 8 (IsThing names)) [] ws list rest

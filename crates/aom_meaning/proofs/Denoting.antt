@@ -16,15 +16,16 @@ use Rattle.aom_syntax.specs.Reading.{◌>>=◌}
 use Rattle.aom_asm.specs.Body.{Program}
 use Rattle.aom_asm.specs.Denoted.{and_then, at_line, denoted, image_of, last_line_of, opened, read_program, read_rest, read_statements, scope_of}
 use Rattle.aom_asm.proofs.Images.{reads_well}
-use Rattle.aom_asm.proofs.Steps.{if_ok, ok_is, steps_then}
+use Rattle.aom_asm.proofs.Steps.{steps_then}
 use Rattle.aom_readback.specs.Naming.{heading_of}
 use Rattle.aom_readback.specs.Texts.{all_words}
-use Rattle.aom_readback.proofs.Following.{Goes}
+use Rattle.aom_ranges.proofs.Within.{ok_is, passed}
+use Rattle.aom_readback.proofs.Following.{Goes, first_of}
 use Rattle.aom_readback.proofs.Parts.{read_so_far, spelled}
 use Rattle.aom_readback.proofs.Wholes.{none_left}
 use Rattle.aom_meaning.specs.Denotes.{Denotes, names_of}
 use Rattle.aom_meaning.specs.Meaning.{ClassMeans, DeclaredOnce, HeaderMeans, MethodMeans, Names, Pairwise}
-use Rattle.aom_meaning.specs.Source.{ClassText, MethodText, Source, classes_of, declared_statements, header_words, methods_of, source_statements}
+use Rattle.aom_meaning.specs.Source.{ClassText, MethodText, Source, classes_of, declared_statements, methods_of, source_statements}
 use Rattle.aom_meaning.proofs.Headers.{header_reads}
 use Rattle.aom_meaning.proofs.Headings.{beside_others}
 use Rattle.aom_meaning.proofs.Parsed.{parsed, whole_of}
@@ -32,6 +33,7 @@ use Rattle.aom_meaning.proofs.Places.{looks_up, scoped}
 use Rattle.aom_meaning.proofs.Texts.{Placed, names_are, placed_once, text_names}
 use Rattle.aom_meaning.proofs.Wholes.{classes_placed, declarations_go, methods_placed}
 use Rattle.aom_meaning.proofs.Words.{LooksUp}
+use Rattle.aom_meaning.proofs.Pairs.{Pairs, pairs, no_pair, a_pair}
 
 -- ---- what a program says
 
@@ -56,13 +58,12 @@ record Others (names : Names) (kinds : List ClassDecl) (ts : List MethodText) (m
   count : length others ≡ length ms
   bytes : sum_by spelled others ≡ sum_by spelled ms
 
-other_methods : (names : Names) (kinds others : List ClassDecl) (ts : List MethodText) (ms : List Method) → Pairwise (MethodMeans names true kinds) ts ms → Others names others ts ms
-other_methods names kinds others [] [] means = record { others = []; means = tt; count = refl; bytes = refl }
-other_methods names kinds others (t ∷ ts) (m ∷ ms) means =
-    let one = means.0 in
+other_methods : (names : Names) (kinds others : List ClassDecl) (ts : List MethodText) (ms : List Method) → Pairs (MethodMeans names true kinds) ts ms → Others names others ts ms
+other_methods names kinds others _ _ no_pair = record { others = []; means = tt; count = refl; bytes = refl }
+other_methods names kinds others _ _ (a_pair t ts m ms one more) =
     let b = beside_others names kinds others t.heading (heading_of m) one.heading in
     let first : Method = whole_of (record { heading = b.heading; labels = []; code = m.code }) in
-    let later = other_methods names kinds others ts ms means.1 in
+    let later = other_methods names kinds others ts ms more in
     let count = later.count in
     let bytes = later.bytes in
     let before : sum_by spelled (m ∷ ms) ≡ spelled m + sum_by spelled ms = sum_by-cons spelled m ms in
@@ -73,7 +74,6 @@ other_methods names kinds others (t ∷ ts) (m ∷ ms) means =
       count = omega arith;
       bytes = omega arith;
     }
-other_methods names kinds others _ _ means = absurd means
 
 -- a program says much the same beside other classes
 record SaysBeside (names : Names) (kinds : List ClassDecl) (text : Source) (h : Header) (cs : List ClassDecl) : Type 0 where
@@ -82,7 +82,7 @@ record SaysBeside (names : Names) (kinds : List ClassDecl) (text : Source) (h : 
 
 says_beside : (names : Names) (kinds others : List ClassDecl) (text : Source) (h : Header) (cs : List ClassDecl) (ms : List Method) → Says names true kinds text h cs ms → SaysBeside names others text h cs
 says_beside names kinds others text h cs ms says =
-    let o = other_methods names kinds others (methods_of text.declarations) ms says.methods in
+    let o = other_methods names kinds others (methods_of text.declarations) ms (pairs (MethodMeans names true kinds) (methods_of text.declarations) ms says.methods) in
     let count = o.count in
     let bytes = o.bytes in
     let some = says.some_method in
@@ -106,18 +106,29 @@ says_beside names kinds others text h cs ms says =
 
 -- ---- what is meant is read
 
-class_count : (names : Names) (natives : ℕ) (ts : List ClassText) (cs : List ClassDecl) → Pairwise (ClassMeans names natives) ts cs → length (map (λ t. t.name) ts) ≡ length cs
-class_count names natives [] [] means = refl
-class_count names natives (t ∷ ts) (c ∷ cs) means = let rest = class_count names natives ts cs means.1 in omega arith
-class_count names natives _ _ means = absurd means
+class_count : (names : Names) (natives : ℕ) (ts : List ClassText) (cs : List ClassDecl) → Pairs (ClassMeans names natives) ts cs → length (map (λ t. t.name) ts) ≡ length cs
+class_count names natives _ _ no_pair = refl
+class_count names natives _ _ (a_pair t ts c cs here more) = let rest = class_count names natives ts cs more in omega arith
 
 module _ (last : ℕ) (text : Source) (b : Bool) (kinds : List ClassDecl) (h : Header) (cs : List ClassDecl) (ms : List Method) (says : Says (names_of text) b kinds text h cs ms) where
+  abbrev class_texts : List ClassText
+  class_texts = classes_of text.declarations
+
+  abbrev method_texts : List MethodText
+  method_texts = methods_of text.declarations
+
+  class_pairs : Pairs (ClassMeans (names_of text) h.natives) class_texts cs
+  class_pairs = pairs (ClassMeans (names_of text) h.natives) class_texts cs says.classes
+
+  method_pairs : Pairs (MethodMeans (names_of text) b kinds) method_texts ms
+  method_pairs = pairs (MethodMeans (names_of text) b kinds) method_texts ms says.methods
+
   abbrev whole : Program
   whole = read_so_far h cs ms None (24 + 28 * length cs + sum_by spelled ms)
 
   looks : LooksUp (names_of text) (scoped b (names_of text) kinds)
   looks =
-      let count = class_count (names_of text) h.natives (classes_of text.declarations) cs says.classes in
+      let count = class_count (names_of text) h.natives class_texts cs class_pairs in
       let few = says.few_classes in
       looks_up b (names_of text) kinds says.class_names (omega arith)
 
@@ -126,9 +137,9 @@ module _ (last : ℕ) (text : Source) (b : Bool) (kinds : List ClassDecl) (h : H
       let few_classes = says.few_classes in
       let few_methods = says.few_methods in
       let small = says.small in
-      declarations_go last (names_of text) h b kinds looks text.declarations [] cs [] ms 24 ss says.classes says.methods
-      (classes_placed (names_of text) h.natives (names_of text).classes says.class_names [] (classes_of text.declarations) cs says.classes refl)
-      (methods_placed (names_of text) b kinds (names_of text).methods says.method_names [] (methods_of text.declarations) ms says.methods refl)
+      declarations_go last (names_of text) h b kinds looks text.declarations [] cs [] ms 24 ss class_pairs method_pairs
+      (classes_placed (names_of text) h.natives (names_of text).classes says.class_names [] class_texts cs class_pairs refl)
+      (methods_placed (names_of text) b kinds (names_of text).methods says.method_names [] method_texts ms method_pairs refl)
       (omega arith) says.few_servers (omega arith) (omega arith) words
 
   closes : (ss : List Statement) → all_words ss ≡ [] → read_rest last (scoped b (names_of text) kinds) whole ss ≡ Ok whole
@@ -141,14 +152,13 @@ module _ (last : ℕ) (text : Source) (b : Bool) (kinds : List ClassDecl) (h : H
   rest_reads ss words = let g = goes ss words in g.reads ∙ closes g.rest g.words
 
   program_reads : (ss : List Statement) → all_words ss ≡ source_statements text → read_program last (scoped b (names_of text) kinds) ss ≡ Ok whole
-  program_reads [] words = absurd cc
-  program_reads (s ∷ ss) words =
+  program_reads ss words =
       let scope = scoped b (names_of text) kinds in
-      let here : s.words ≡ header_words text.header = cc in
-      let behind : all_words ss ≡ declared_statements text.declarations = cc in
-      ap (λ ws. and_then (at_line s.line (opened scope ws)) (λ p. read_rest last scope p ss)) here
-      ∙ ap (λ e. and_then (at_line s.line (e >>= λ x. Ok (read_so_far x.0 [] [] None 24))) (λ p. read_rest last scope p ss)) (header_reads looks text.header h says.header).reads
-      ∙ rest_reads ss behind
+      let f = first_of ss words in
+      ap (read_program last scope) f.is
+      ∙ ap (λ ws. and_then (at_line f.one.line (opened scope ws)) (λ p. read_rest last scope p f.rest)) f.here
+      ∙ ap (λ e. and_then (at_line f.one.line (e >>= λ x. Ok (read_so_far x.0 [] [] None 24))) (λ p. read_rest last scope p f.rest)) (header_reads looks text.header h says.header).reads
+      ∙ rest_reads f.rest f.behind
 
 -- by the names that the statements declare
 by_names : (last : ℕ) (text : Source) (ss : List Statement) → all_words ss ≡ source_statements text
@@ -193,7 +203,7 @@ module _ (text : List ℕ) (i : Image) where
 
   pub read_denotes : denoted text ≡ Ok i → Denotes text i
   read_denotes is =
-      let few = if_ok (nat_le (length text) (2 ^ 20)) (read_statements last ss) (record { line = 1; kind = LimitPassed }) i is in
+      let few = passed (nat_le (length text) (2 ^ 20)) (read_statements last ss) (record { line = 1; kind = LimitPassed }) i is in
       let s = steps_then (read_program last (scope_of false ss []) ss) (λ first. and_then (read_program last (scope_of true ss first.classes) ss) (λ p. Ok (image_of p))) i few.1 in
       let t = steps_then (read_program last (scope_of true ss s.first.classes) ss) (λ p. Ok (image_of p)) i s.second in
       let q = t.first in

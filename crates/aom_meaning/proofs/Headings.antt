@@ -1,8 +1,7 @@
 -- The statement that begins a method is read where its words mean a heading, and as that heading.
-use Rattle.std.proofs.Common.{◌≡◌, ℕ, ◌||◌, Bool, true, false, List, [], ◌∷◌, ◌++◌, replicate, Option, Some, None, Ok, Err, refl, sym, ap, subst, ◌∙◌}
+use Rattle.std.proofs.Common.{◌≡◌, ℕ, true, false, List, [], ◌∷◌, ◌++◌, replicate, Option, Some, None, Ok, refl, sym, ap, subst, ◌∙◌, append-nil}
 use Rattle.std.specs.Prelude.{if◌then◌else◌}
 use Rattle.std.specs.Str.{bytes_eq}
-use Rattle.aom_text.specs.declared.fault.AsmFaultKind.TheVariants.{BadShape}
 use Rattle.aom_image.specs.declared.class.ClassDecl.{ClassDecl}
 use Rattle.aom_image.specs.declared.class.ClassKind.{ClassKind}
 use Rattle.aom_image.specs.declared.class.ClassKind.TheVariants as class_kind
@@ -16,7 +15,7 @@ use Rattle.aom_image.specs.declared.method.Thing.{Thing}
 use Rattle.aom_image.specs.declared.method.Thing.TheVariants as owned
 use Rattle.aom_syntax.specs.Classes.{declared, flag, listed, thing, thing_of}
 use Rattle.aom_syntax.specs.Keywords.{keyword_text}
-use Rattle.aom_syntax.specs.Methods.{accepted, all_states, argument_of, flags_of, gives, heading, is_quiet_role, kind_of, optional_arguments, optional_class, optional_gives, optional_states, role, role_of, states_of, unsaid_gives, usual_after, usual_before, usual_gives, usual_words, promised}
+use Rattle.aom_syntax.specs.Methods.{accepted, all_states, argument_of, gives, heading, kind_of, optional_arguments, optional_class, optional_gives, optional_states, role, role_of, states_of, unsaid_gives, usual_after, usual_before, usual_gives, usual_words, promised}
 use Rattle.aom_syntax.specs.Names.{place_of}
 use Rattle.aom_syntax.specs.Operands.{class}
 use Rattle.aom_syntax.specs.Reading.{◌>>=◌, Reading, any_keyword, giving, next, nothing_more, seen}
@@ -25,6 +24,7 @@ use Rattle.aom_syntax.specs.declared.keyword.Keyword.TheVariants as k
 use Rattle.aom_syntax.specs.declared.method.Heading.{Heading}
 use Rattle.aom_syntax.specs.declared.scope.Scope.{Scope}
 use Rattle.aom_asm.proofs.Counting.{begins_with}
+use Rattle.aom_ranges.proofs.Headings.{stands_for}
 use Rattle.aom_ranges.proofs.Within.{ok_is, steps}
 use Rattle.aom_readback.proofs.Readings.{Takes, Whole, done, first, gives as gives_it, in_turn, last, only_two, sees, settle, takes_any_keyword}
 use Rattle.aom_meaning.specs.Meaning.{AreStates, GivesMeans, HeadingMeans, IsArgument, IsList, IsNumbered, IsThing, Names, SaidOr, SaidOrNone, states}
@@ -117,17 +117,8 @@ module _ (names : Names) (kinds : List ClassDecl) where
   abbrev nothing_said : Option Gives → Reading Gives
   nothing_said usual = seen (λ u. unsaid_gives usual) (nothing_more true)
 
-  stands_for : (usual : Option Gives) (g : Gives) → unsaid_gives usual ≡ Ok g → usual ≡ Some g
-  stands_for None g is = absurd cc
-  stands_for (Some u) g is = ap (λ x. Some x) (ok_is u g is)
-
   ended : (said : GivesText) (ws us : List (List ℕ)) → ws ≡ gives_words said ++ us → us ≡ [] → ws ≡ gives_words said
-  ended source.unsaid ws us e none = e ∙ none
-  ended source.nothing ws us e none = e ∙ ap (λ v. gives_words source.nothing ++ v) none
-  ended source.word ws us e none = e ∙ ap (λ v. gives_words source.word ++ v) none
-  ended (source.own w) ws us e none = e ∙ ap (λ v. gives_words (source.own w) ++ v) none
-  ended (source.maybe w) ws us e none = e ∙ ap (λ v. gives_words (source.maybe w) ++ v) none
-  ended (source.left w) ws us e none = e ∙ ap (λ v. gives_words (source.left w) ++ v) none
+  ended said ws us e none = e ∙ ap (λ v. gives_words said ++ v) none ∙ append-nil (gives_words said)
 
   gives_sound : (usual : Option Gives) (ws : List (List ℕ)) → Sound (optional_gives scope usual) ws (λ g rest. GivesSays usual ws g)
   gives_sound usual ws = go (take_it k.Gives ws)
@@ -205,11 +196,7 @@ module _ (names : Names) (kinds : List ClassDecl) where
 
 not_gives : (key : Keyword) (said : GivesText) → bytes_eq (keyword_text k.Gives) (keyword_text key) ≡ false → NotNext key (gives_words said)
 not_gives key source.unsaid apart = record { left = refl }
-not_gives key source.nothing apart = not_word key (keyword_text k.Gives) _ apart
-not_gives key source.word apart = not_word key (keyword_text k.Gives) _ apart
-not_gives key (source.own w) apart = not_word key (keyword_text k.Gives) _ apart
-not_gives key (source.maybe w) apart = not_word key (keyword_text k.Gives) _ apart
-not_gives key (source.left w) apart = not_word key (keyword_text k.Gives) _ apart
+not_gives key _ apart = not_word key (keyword_text k.Gives) _ apart
 
 takes_role : (key : Keyword) (r : Role) → role_of key ≡ Ok r → Takes role (keyword_text key ∷ []) r
 takes_role key r says = sees role_of (takes_any_keyword key) says
@@ -291,7 +278,7 @@ still_gives names usual other source.word result.Word means = means
 still_gives names usual other (source.own w) (result.Own t) means = means
 still_gives names usual other (source.maybe w) (result.Maybe t) means = means
 still_gives names usual other (source.left w) (result.Left c) means = means
-still_gives names usual other said g means = absurd means
+still_gives names usual other said g means = means
 
 -- before the classes are known, something stands for each result that is missing
 record Stands (usual : Option Gives) : Type 0 where
@@ -299,22 +286,13 @@ record Stands (usual : Option Gives) : Type 0 where
   is : usual ≡ Some gives
 
 served_stands : (kind : ClassKind) → Stands (accepted false kind)
-served_stands class_kind.Plain = record { gives = result.Nothing; is = refl }
-served_stands (class_kind.Active p budget) = record { gives = result.Nothing; is = refl }
 served_stands (class_kind.Server sessions session budget) = record { gives = result.Own (owned.Object session); is = refl }
-served_stands class_kind.Session = record { gives = result.Nothing; is = refl }
+served_stands _ = record { gives = result.Nothing; is = refl }
 
 gives_stands : (role : Role) (kind : ClassKind) → Stands (usual_gives false role kind)
-gives_stands roles.Do kind = record { gives = result.Nothing; is = refl }
-gives_stands roles.Main kind = record { gives = result.Nothing; is = refl }
-gives_stands roles.Construct kind = record { gives = result.Nothing; is = refl }
-gives_stands roles.Destruct kind = record { gives = result.Nothing; is = refl }
-gives_stands roles.Run kind = record { gives = result.Nothing; is = refl }
-gives_stands roles.Cancel kind = record { gives = result.Nothing; is = refl }
 gives_stands roles.Error kind = record { gives = result.Word; is = refl }
 gives_stands roles.Accept kind = served_stands kind
-gives_stands roles.Service kind = record { gives = result.Nothing; is = refl }
-gives_stands roles.Undo kind = record { gives = result.Nothing; is = refl }
+gives_stands _ kind = record { gives = result.Nothing; is = refl }
 
 -- a heading means a heading too where no class is known yet
 pub record Beside (names : Names) (kinds : List ClassDecl) (t : HeadingText) : Type 0 where

@@ -1,7 +1,7 @@
 -- A statement of a method's code is read where its words mean an instruction, and as that instruction.
 use Rattle.std.proofs.lemmas.Option.{same_Some}
 use Rattle.std.proofs.Common.{◌≡◌, ℕ, suc, ◌-◌, ◌==◌, ◌<◌, ◌≤◌, Bool, true, false, List, [], ◌∷◌, ◌++◌, length, take, drop, get_or, Option, Some, None, Ok, Err, refl, sym, ap, ◌∙◌, arith}
-use Rattle.aom_image.proofs.Given.{true_given}
+use Rattle.aom_image.proofs.Given.{true_given, some_given}
 use Rattle.std.specs.Prelude.{IfSome, if◌then◌else◌}
 use Rattle.std.specs.List.{list_all}
 use Rattle.std.specs.Str.{bytes_eq}
@@ -12,7 +12,7 @@ use Rattle.std.proofs.lemmas.List.Folds.{list_all-append}
 use Rattle.std.proofs.lemmas.Slice.Eq.{bytes_eq-Decides}
 use Rattle.aom_text.specs.Names.{is_name}
 use Rattle.aom_text.specs.Words.{is_plain}
-use Rattle.aom_text.specs.declared.fault.AsmFaultKind.TheVariants.{DoubleName, NotAscii}
+use Rattle.aom_text.specs.declared.fault.AsmFaultKind.TheVariants.{DoubleName}
 use Rattle.aom_image.specs.declared.class.ClassDecl.{ClassDecl}
 use Rattle.aom_instructions.specs.declared.instr.Instr.{Instr}
 use Rattle.aom_syntax.specs.Classes.{declared_at, is_at}
@@ -25,7 +25,7 @@ use Rattle.aom_syntax.specs.Words.{words_operands}
 use Rattle.aom_instructions.specs.declared.mnemonic.Mnemonic.{Mnemonic}
 use Rattle.aom_asm.proofs.Counting.{found_passes}
 use Rattle.aom_ranges.proofs.Names.{at_place}
-use Rattle.aom_ranges.proofs.Within.{ok_is, passed, steps}
+use Rattle.aom_ranges.proofs.Within.{ok_is, passed, steps, saw_word}
 use Rattle.aom_readback.proofs.Readings.{Takes, Whole, first, in_turn, last, regroup, sees, takes_word}
 use Rattle.aom_readback.proofs.Statements.{label_cut}
 use Rattle.aom_readback.proofs.Tables.{mnemonic_is_no_label, mnemonic_is_plain, mnemonic_reads}
@@ -57,8 +57,7 @@ label_is (b ∷ bs) l is = true_given (λ c. (if c then Some (take (length (b �
 -- ---- what was read
 
 known_is : (w : List ℕ) (o : Option Mnemonic) (m : Mnemonic) → known_mnemonic w o ≡ Ok m → o ≡ Some m
-known_is w None m is = absurd cc
-known_is w (Some n) m is = ap Some (ok_is n m is)
+known_is w o m is = some_given (λ o. known_mnemonic w o ≡ Ok m) o is (λ e. cc) (λ n same e. same ∙ ap Some (ok_is n m e))
 
 module _ (place : ℕ) (labels : List (List ℕ)) where
   abbrev IsPlaced : Option (List ℕ) → Type 0
@@ -72,12 +71,6 @@ module _ (place : ℕ) (labels : List (List ℕ)) where
     words : ws ≡ label_words label ++ (w ∷ rest)
     is_named : IsNamed label
     is_placed : IsPlaced label
-
-  saw_word : (ws : List (List ℕ)) (w : List ℕ) (rest : List (List ℕ)) → word ws ≡ Ok (w, rest) → ws ≡ w ∷ rest
-  saw_word [] w rest is = absurd cc
-  saw_word (v ∷ vs) w rest is =
-      let i = passed (list_all is_plain v) (Ok (v, vs)) NotAscii (w, rest) is in
-      ap (λ p. p.0 ∷ p.1) (ok_is (v, vs) (w, rest) i.1)
 
   past : (ws : List (List ℕ)) (v : List ℕ) (vs : List (List ℕ)) (o : Option (List ℕ)) (w : List ℕ) (rest : List (List ℕ)) → ws ≡ v ∷ vs → label_of v ≡ o
       → skip_label place labels v o vs ≡ Ok (w, rest) → Labelled ws w rest

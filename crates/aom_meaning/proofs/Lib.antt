@@ -13,3 +13,4 @@ pub mod Texts
 pub mod Wholes
 pub mod Parsed
 pub mod Denoting
+pub mod Pairs

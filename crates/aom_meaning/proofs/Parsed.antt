@@ -22,11 +22,11 @@ use Rattle.aom_syntax.specs.declared.keyword.Keyword.TheVariants as k
 use Rattle.aom_syntax.specs.declared.method.Heading.{Heading}
 use Rattle.aom_syntax.specs.declared.scope.Scope.{Scope}
 use Rattle.aom_asm.specs.Body.{Body, Program}
-use Rattle.aom_asm.specs.Denoted.{at_line, closed, declaration, grown, method_of, opened, read_program, read_rest, step, with_class, with_heading, with_instruction, with_method}
+use Rattle.aom_asm.specs.Denoted.{at_line, closed, declaration, grown, method_of, read_program, read_rest, step, with_class, with_heading, with_instruction, with_method}
 use Rattle.aom_asm.specs.TextNames.{labels_of as labels_until}
 use Rattle.aom_asm.proofs.Counting.{begins_with}
-use Rattle.aom_asm.proofs.Steps.{if_not_ok, if_ok, no_ok, ok_is, said, steps_then}
-use Rattle.aom_ranges.proofs.Within.{steps}
+use Rattle.aom_asm.proofs.Steps.{Started, no_ok, program_starts, said, started, steps_then}
+use Rattle.aom_ranges.proofs.Within.{kept, ok_is, passed, steps}
 use Rattle.aom_readback.specs.Texts.{all_words}
 use Rattle.aom_readback.proofs.Parts.{read_so_far}
 use Rattle.aom_meaning.specs.Meaning.{ClassMeans, HeaderMeans, InstructionMeans, MethodMeans, Names, Pairwise, labels_of}
@@ -63,7 +63,7 @@ module _ (last : ℕ) (names : Names) (kinds : List ClassDecl) where
       → ClassStep h cs ms ws q
   class_taken h cs ms size ws q is =
       let servers = count_by is_server cs in
-      let i = if_ok (nat_lt (length cs) 256) (class_statement scope h.natives (length cs) servers ws >>= λ c. grown 28 size >>= λ n. Ok (read_so_far h (cs ++ c.0 ∷ []) ms None n)) LimitPassed q is in
+      let i = passed (nat_lt (length cs) 256) (class_statement scope h.natives (length cs) servers ws >>= λ c. grown 28 size >>= λ n. Ok (read_so_far h (cs ++ c.0 ∷ []) ms None n)) LimitPassed q is in
       let s = steps (class_statement scope h.natives (length cs) servers ws) (λ c. grown 28 size >>= λ n. Ok (read_so_far h (cs ++ c.0 ∷ []) ms None n)) q i.1 in
       let t = steps (grown 28 size) (λ n. Ok (read_so_far h (cs ++ s.first.0 ∷ []) ms None n)) q s.second in
       record {
@@ -83,7 +83,7 @@ module _ (last : ℕ) (names : Names) (kinds : List ClassDecl) where
       → with_heading scope ss (read_so_far h cs ms None size) ws ≡ Ok q → HeadingStep h cs ms ss ws q
   heading_taken h cs ms size ss ws q is =
       let body : Heading → Option Body = λ m. Some (record { heading = m; labels = labels_until [] ss; code = [] }) in
-      let i = if_ok (nat_lt (length ms) 1024) (heading scope (length ms) ws >>= λ m. grown 24 size >>= λ n. Ok (read_so_far h cs ms (body m.0) n)) LimitPassed q is in
+      let i = passed (nat_lt (length ms) 1024) (heading scope (length ms) ws >>= λ m. grown 24 size >>= λ n. Ok (read_so_far h cs ms (body m.0) n)) LimitPassed q is in
       let s = steps (heading scope (length ms) ws) (λ m. grown 24 size >>= λ n. Ok (read_so_far h cs ms (body m.0) n)) q i.1 in
       let t = steps (grown 24 size) (λ n. Ok (read_so_far h cs ms (body s.first.0) n)) q s.second in
       record {
@@ -106,7 +106,7 @@ module _ (last : ℕ) (names : Names) (kinds : List ClassDecl) where
       let added : Instr → Body = λ i. with_code b (b.code ++ i ∷ []) in
       let s = steps (with_instruction scope b ws) (λ c. grown 8 size >>= λ n. Ok (read_so_far h cs ms (Some c) n)) q is in
       let t = steps (grown 8 size) (λ n. Ok (read_so_far h cs ms (Some s.first) n)) q s.second in
-      let i = if_ok (nat_lt (length b.code) 1024) (instruction scope b.labels (length b.code) ws >>= λ i. Ok (added i.0)) LimitPassed s.first s.read in
+      let i = passed (nat_lt (length b.code) 1024) (instruction scope b.labels (length b.code) ws >>= λ i. Ok (added i.0)) LimitPassed s.first s.read in
       let u = steps (instruction scope b.labels (length b.code) ws) (λ i. Ok (added i.0)) s.first i.1 in
       record {
         instr = u.first.0;
@@ -126,7 +126,7 @@ module _ (last : ℕ) (names : Names) (kinds : List ClassDecl) where
   end_taken h cs ms size b ws q is =
       let s = steps (method_of b) (λ m. nothing_more false ws >>= λ u. Ok (read_so_far h cs (ms ++ m ∷ []) None size)) q is in
       let t = steps (nothing_more false ws) (λ u. Ok (read_so_far h cs (ms ++ s.first ∷ []) None size)) q s.second in
-      let i = if_not_ok (length b.code == 0) (Ok (whole_of b)) LimitPassed s.first s.read in
+      let i = kept (length b.code == 0) (Ok (whole_of b)) LimitPassed s.first s.read in
       let some : length b.code ≡ 0 → ⊥ = eqb-false (length b.code) 0 i.0 in
       record {
         some = omega (arith, some);
@@ -177,7 +177,7 @@ module _ (last : ℕ) (names : Names) (kinds : List ClassDecl) where
   nothing_after : AllAfter []
   nothing_after None h cs ms size q few is =
       let p = read_so_far h cs ms None size in
-      let i = if_not_ok (length ms == 0) (Ok p) LimitPassed q (said last (closed p) q is) in
+      let i = kept (length ms == 0) (Ok p) LimitPassed q (said last (closed p) q is) in
       let same : q ≡ p = sym (ok_is p q i.1) in
       record {
         declarations = [];
@@ -328,15 +328,13 @@ module _ (last : ℕ) (names : Names) (kinds : List ClassDecl) where
     pub class_places : Placed names.classes 0 (map (λ t. t.name) (classes_of text.declarations))
     pub method_places : Placed names.methods 0 (map (λ t. t.heading.name) (methods_of text.declarations))
 
-  pub parsed : (ss : List Statement) (q : Program) → read_program last scope ss ≡ Ok q → Parsed ss q
-  parsed [] q is = absurd (no_ok _ _ is)
-  parsed (s ∷ ss) q is =
-      let t = steps_then (at_line s.line (opened scope s.words)) (λ p. read_rest last scope p ss) q is in
-      let u = steps (image_statement scope s.words) (λ h. Ok (read_so_far h.0 [] [] None 24)) t.first (said s.line (opened scope s.words) t.first t.read) in
+  by_first : (ss : List Statement) (q : Program) → Started last scope q ss → Parsed ss q
+  by_first _ q (started s ss p starts rest) =
+      let u = steps (image_statement scope s.words) (λ h. Ok (read_so_far h.0 [] [] None 24)) p starts in
       let h = u.first.0 in
       let says = (header_sound names kinds s.words).each h u.first.1 u.read in
-      let same : read_so_far h [] [] None 24 ≡ t.first = ok_is (read_so_far h [] [] None 24) t.first u.second in
-      let later = all_after ss None h [] [] 24 q tt (ap (λ p. read_rest last scope p ss) same ∙ t.second) in
+      let same : read_so_far h [] [] None 24 ≡ p = ok_is (read_so_far h [] [] None 24) p u.second in
+      let later = all_after ss None h [] [] 24 q tt (ap (λ p. read_rest last scope p ss) same ∙ rest) in
       record {
         text = record { header = says.said; declarations = later.declarations };
         words = ap (λ ws. ws ∷ all_words ss) says.words ∙ ap (λ r. header_words says.said ∷ r) later.words;
@@ -347,3 +345,6 @@ module _ (last : ℕ) (names : Names) (kinds : List ClassDecl) where
         class_places = later.class_places;
         method_places = later.method_places;
       }
+
+  pub parsed : (ss : List Statement) (q : Program) → read_program last scope ss ≡ Ok q → Parsed ss q
+  parsed ss q is = by_first ss q (program_starts last scope ss q is)

@@ -9,16 +9,18 @@ use Rattle.std.proofs.lemmas.Slice.Eq.{bytes_eq-Decides}
 use Rattle.aom_text.specs.Names.{is_name}
 use Rattle.aom_text.specs.Words.{is_plain}
 use Rattle.aom_text.specs.declared.fault.AsmFaultKind.{AsmFaultKind}
-use Rattle.aom_text.specs.declared.fault.AsmFaultKind.TheVariants.{BadShape, NotAscii, UnknownName}
+use Rattle.aom_text.specs.declared.fault.AsmFaultKind.TheVariants.{BadShape, UnknownName}
 use Rattle.aom_syntax.specs.Keywords.{keyword_text, strange}
 use Rattle.aom_syntax.specs.Names.{place_of, referred}
 use Rattle.aom_syntax.specs.Operands.{used}
 use Rattle.aom_syntax.specs.Reading.{◌>>=◌, Reading, as_name, exactly, keyword, name, next, nothing_more, seen, took, word}
 use Rattle.aom_syntax.specs.declared.keyword.Keyword.{Keyword}
-use Rattle.aom_ranges.proofs.Within.{ok_is, passed, steps}
+use Rattle.aom_ranges.proofs.Within.{ok_is, passed, saw_word, steps}
 use Rattle.aom_readback.proofs.Readings.{Takes, Whole, reads_on, sees, takes_word, took_same}
 use Rattle.aom_meaning.specs.Meaning.{IsNumbered, SaidOr}
 use Rattle.aom_meaning.specs.Source.{part, mark}
+use Rattle.aom_image.proofs.Given.{some_given}
+use Rattle.aom_asm.proofs.Steps.{no_ok}
 
 -- ---- one word
 
@@ -29,17 +31,14 @@ pub record Saw {X : Type 0} (f : List ℕ → Result X AsmFaultKind) (ws : List 
   pub says : f w ≡ Ok x
 
 pub saw : {X : Type 0} (f : List ℕ → Result X AsmFaultKind) (ws : List (List ℕ)) (x : X) (rest : List (List ℕ)) → seen f word ws ≡ Ok (x, rest) → Saw f ws x rest
-saw f [] x rest is = absurd cc
-saw f (w ∷ ws) x rest is =
-    let s = steps (word (w ∷ ws)) (λ y. f y.0 >>= λ z. Ok (z, y.1)) (x, rest) is in
-    let i = passed (list_all is_plain w) (Ok (w, ws)) NotAscii s.first s.read in
-    let first : (w, ws) ≡ s.first = ok_is (w, ws) s.first i.1 in
+saw f ws x rest is =
+    let s = steps (word ws) (λ y. f y.0 >>= λ z. Ok (z, y.1)) (x, rest) is in
     let t = steps (f s.first.0) (λ z. Ok (z, s.first.1)) (x, rest) s.second in
     let last : (t.first, s.first.1) ≡ (x, rest) = ok_is (t.first, s.first.1) (x, rest) t.second in
     record {
-      w = w;
-      words = ap (λ p. w ∷ p.1) first ∙ ap (λ p. w ∷ p.1) last;
-      says = ap (λ p. f p.0) first ∙ t.read ∙ ap (λ p. Ok p.0) last;
+      w = s.first.0;
+      words = saw_word ws s.first.0 s.first.1 s.read ∙ ap (λ p. s.first.0 ∷ p.1) last;
+      says = t.read ∙ ap (λ p. Ok p.0) last;
     }
 
 -- the word that has to stand here
@@ -51,8 +50,7 @@ saw_keyword key ws u rest is =
 
 -- no word is left
 refuses : (b : Bool) (e f : AsmFaultKind) (x : Unit {0} × List (List ℕ)) → (if b then Err e else Err f) ≡ Ok x → ⊥
-refuses true e f x is = cc
-refuses false e f x is = cc
+refuses b e f x is = no_ok e x (passed b (Err e) f x is).1
 
 -- the two parts of what was read
 abbrev pub pair : {X : Type 0} → X → List (List ℕ) → X × List (List ℕ)
@@ -148,11 +146,10 @@ module _ (space : List (List ℕ)) where
       let at = position-Some (λ v. bytes_eq v w) space n [] is in
       slice_get-get_or space n [] at.0 ∙ ap Some ((bytes_eq-Decides (get_or space n []) w).0 at.1)
 
-  found : (limit n : ℕ) (w : List ℕ) (o : Option ℕ) → place_of w space ≡ o → referred true limit o ≡ Ok n → slice_get space n ≡ Some w
-  found limit n w None there is = absurd cc
-  found limit n w (Some m) there is =
-      let i = passed (nat_lt m limit) (Ok m) UnknownName n is in
-      placed w n (there ∙ ap Some (ok_is m n i.1))
+  found : (limit n : ℕ) (w : List ℕ) → referred true limit (place_of w space) ≡ Ok n → slice_get space n ≡ Some w
+  found limit n w is = some_given (λ o. referred true limit o ≡ Ok n) (place_of w space) is (λ e. cc) (λ m there e.
+      let i = passed (nat_lt m limit) (Ok m) UnknownName n e in
+      placed w n (there ∙ ap Some (ok_is m n i.1)))
 
   -- a name that is declared is read as its number
   pub record Used (ws : List (List ℕ)) (n : ℕ) (rest : List (List ℕ)) : Type 0 where
@@ -167,7 +164,7 @@ module _ (space : List (List ℕ)) where
   numbered limit w n is =
       let s = steps (as_name w) (λ v. referred true limit (place_of v space)) n is in
       let i = named w s.first s.read in
-      record { is_name = i.0; declared = found limit n w (place_of w space) refl (ap (λ v. referred true limit (place_of v space)) i.1 ∙ s.second) }
+      record { is_name = i.0; declared = found limit n w (ap (λ v. referred true limit (place_of v space)) i.1 ∙ s.second) }
 
   pub saw_used : (limit : ℕ) (ws : List (List ℕ)) (n : ℕ) (rest : List (List ℕ)) → used true limit space ws ≡ Ok (n, rest) → Used ws n rest
   saw_used limit ws n rest is =

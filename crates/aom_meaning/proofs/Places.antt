@@ -12,6 +12,7 @@ use Rattle.aom_syntax.specs.declared.scope.Scope.{Scope}
 use Rattle.aom_meaning.specs.Meaning.{DeclaredOnce, IsNumbered, Names}
 use Rattle.aom_meaning.proofs.Operands.{FindsMore}
 use Rattle.aom_meaning.proofs.Words.{LooksUp}
+use Rattle.aom_image.proofs.Given.{some_given, true_given}
 
 -- ---- one place for each name
 
@@ -52,12 +53,9 @@ looks_up b names kinds once few = record {
 
 -- what is found where names are told apart is found where they are not
 loosens : (b : Bool) (limit : ℕ) (o : Option ℕ) (n : ℕ) → referred true limit o ≡ Ok n → referred b limit o ≡ Ok n
-loosens b limit None n is = absurd cc
-loosens b limit (Some m) n is = go (nat_lt m limit) is
-  where
-    go : (c : Bool) → (if c then Ok m else nowhere true) ≡ Ok n → (if c then Ok m else nowhere b) ≡ Ok n
-    go true e = e
-    go false e = absurd cc
+loosens b limit o n is = some_given (λ o. referred true limit o ≡ Ok n) o is (λ e. cc) (λ m same e.
+    true_given (λ c. (if c then Ok m else nowhere true) ≡ Ok n) (nat_lt m limit) e (λ f. cc) (λ below f.
+    ap (referred b limit) same ∙ ap (λ c. if c then Ok m else nowhere b) below ∙ f))
 
 pub finds_more : (b : Bool) (limit : ℕ) (names : Names) (kinds before : List ClassDecl) (space : List (List ℕ)) → FindsMore limit (scoped true names before) (scoped b names kinds) space space
 finds_more b limit names kinds before space = record { finds = λ w n is. loosens b limit (place_of w space) n is }

@@ -1,8 +1,8 @@
 -- The statements of a program declare its names, and those of a method's code its labels.
-use Rattle.std.proofs.lemmas.Option.{same_Some, none-some}
+use Rattle.std.proofs.lemmas.Option.{same_Some, none-some, slice_get-map}
 use Rattle.std.proofs.lemmas.Bool.{false_from_ne_true}
-use Rattle.std.proofs.Common.{◌≡◌, ℕ, zero, suc, ◌+◌, Bool, true, false, List, [], ◌∷◌, ◌++◌, map, Option, Some, None, refl, sym, ap, ◌∙◌, append_assoc, append-nil, arith, slice_get}
-use Rattle.std.specs.Prelude.{IfSome, if◌then◌else◌}
+use Rattle.std.proofs.Common.{◌≡◌, ℕ, zero, suc, ◌+◌, Bool, true, false, List, [], ◌∷◌, ◌++◌, map, Option, Some, None, refl, sym, ap, ◌∙◌, append_assoc, append-nil, arith, slice_get, subst}
+use Rattle.std.specs.Prelude.{IfSome, if◌then◌else◌, option_map}
 use Rattle.std.specs.Str.{bytes_eq}
 use Rattle.std.proofs.lemmas.Slice.Eq.{bytes_eq-Decides}
 use Rattle.aom_text.specs.Names.{is_name}
@@ -27,6 +27,8 @@ use Rattle.aom_meaning.specs.Source as source
 use Rattle.aom_meaning.specs.Source.{Declaration, InstructionText, Source, classes_of, declaration_statements, declared_statements, end_words, header_words, instruction_words, label_words, methods_of, source_statements}
 use Rattle.aom_meaning.proofs.Pieces.{NotNext, not_word}
 use Rattle.aom_meaning.proofs.Places.{once_found}
+use Rattle.aom_readback.proofs.Following.{first_of}
+use Rattle.aom_image.proofs.Given.{some_given}
 
 -- ---- what an instruction does not begin with
 
@@ -127,62 +129,55 @@ has_label (Some l) n ws = ap label_or_none (label_cut l)
 
 pub labels_there : (code : List InstructionText) (left : List (List (List ℕ))) (labels : List (List ℕ)) (ss : List Statement)
     → all_words ss ≡ map instruction_words code ++ (end_words ∷ left) → labels_until labels ss ≡ labels ++ labels_of code
-labels_there [] left labels (s ∷ ss) words =
-    let here : s.words ≡ end_words = cc in
-    ap (λ ws. if is_end ws then labels else labels_until (labels ++ label_in ws ∷ []) ss) here ∙ sym (append-nil labels)
-labels_there (t ∷ ts) left labels (s ∷ ss) words =
-    let here : s.words ≡ instruction_words t = cc in
-    let behind : all_words ss ≡ map instruction_words ts ++ (end_words ∷ left) = cc in
-    ap (λ ws. if is_end ws then labels else labels_until (labels ++ label_in ws ∷ []) ss) here
-    ∙ ap (λ b. if b then labels else labels_until (labels ++ label_in (instruction_words t) ∷ []) ss) (no_end t)
-    ∙ ap (λ l. labels_until (labels ++ l ∷ []) ss) (has_label t.label t.mnemonic t.operands)
-    ∙ labels_there ts left (labels ++ label_or_none t.label ∷ []) ss behind
+labels_there [] left labels ss words =
+    let f = first_of ss words in
+    ap (labels_until labels) f.is ∙ ap (λ ws. if is_end ws then labels else labels_until (labels ++ label_in ws ∷ []) f.rest) f.here ∙ sym (append-nil labels)
+labels_there (t ∷ ts) left labels ss words =
+    let f = first_of ss words in
+    ap (labels_until labels) f.is ∙ ap (λ ws. if is_end ws then labels else labels_until (labels ++ label_in ws ∷ []) f.rest) f.here
+    ∙ ap (λ b. if b then labels else labels_until (labels ++ label_in (instruction_words t) ∷ []) f.rest) (no_end t)
+    ∙ ap (λ l. labels_until (labels ++ l ∷ []) f.rest) (has_label t.label t.mnemonic t.operands)
+    ∙ labels_there ts left (labels ++ label_or_none t.label ∷ []) f.rest f.behind
     ∙ append_assoc labels (label_or_none t.label ∷ []) (labels_of ts)
-labels_there _ left labels _ words = absurd cc
 
--- each label is found at the place of its instruction
+-- each element has what its place asks, from that place on
+abbrev pub EachAt : {X : Type 0} → (ℕ → X → Type 0) → ℕ → List X → Type 0
+EachAt P n [] = Unit {0}
+EachAt P n (x ∷ xs) = P n x × EachAt P (n + 1) xs
+
+nth_at : {X : Type 0} (P : ℕ → X → Type 0) (n : ℕ) (xs : List X) (i : ℕ) (x : X) → EachAt P n xs → slice_get xs i ≡ Some x → P (n + i) x
+nth_at P n [] i x each there = absurd cc
+nth_at P n (y ∷ ys) zero x each there =
+    let same : n ≡ n + 0 = omega arith in
+    subst (λ k. P k x) same (subst (P n) (same_Some y x there) each.0)
+nth_at P n (y ∷ ys) (suc i) x each there =
+    let same : (n + 1) + i ≡ n + suc i = omega arith in
+    subst (λ k. P k x) same (nth_at P (n + 1) ys i x each.1 there)
+
+-- a label is found at the place of its instruction
+abbrev LabelAt : List (List ℕ) → ℕ → InstructionText → Type 0
+LabelAt labels n t = IfSome t.label (λ l. place_of l labels ≡ Some n)
+
 abbrev pub LabelsPlaced : List (List ℕ) → ℕ → List InstructionText → Type 0
-LabelsPlaced labels n [] = Unit {0}
-LabelsPlaced labels n (t ∷ ts) = IfSome t.label (λ l. place_of l labels ≡ Some n) × LabelsPlaced labels (n + 1) ts
+LabelsPlaced labels n code = EachAt (LabelAt labels) n code
 
 -- each name is found at its place
 abbrev pub Placed : List (List ℕ) → ℕ → List (List ℕ) → Type 0
-Placed space n [] = Unit {0}
-Placed space n (w ∷ ws) = (place_of w space ≡ Some n) × Placed space (n + 1) ws
-
-nth_placed : (space : List (List ℕ)) (n : ℕ) (ws : List (List ℕ)) (i : ℕ) (w : List ℕ) → Placed space n ws → slice_get ws i ≡ Some w → place_of w space ≡ Some (n + i)
-nth_placed space n [] i w placed there = absurd cc
-nth_placed space n (v ∷ vs) zero w placed there =
-    let same : n ≡ n + 0 = omega arith in
-    ap (λ u. place_of u space) (sym (same_Some v w there)) ∙ placed.0 ∙ ap Some same
-nth_placed space n (v ∷ vs) (suc i) w placed there =
-    let same : (n + 1) + i ≡ n + suc i = omega arith in
-    nth_placed space (n + 1) vs i w placed.1 there ∙ ap Some same
+Placed space n ws = EachAt (λ k w. place_of w space ≡ Some k) n ws
 
 pub placed_once : (space : List (List ℕ)) → Placed space 0 space → DeclaredOnce space
 placed_once space placed = once_found space (record {
-  found = λ w n is. (let same : 0 + n ≡ n = omega arith in nth_placed space 0 space n w placed is.declared ∙ ap Some same);
+  found = λ w n is. (let same : 0 + n ≡ n = omega arith in nth_at (λ k w. place_of w space ≡ Some k) 0 space n w placed is.declared ∙ ap Some same);
 })
 
 name_of_label : (label : Option (List ℕ)) (w : List ℕ) → label_or_none label ≡ w → is_name w ≡ true → label ≡ Some w
 name_of_label None w same is = let clash : false ≡ true = ap is_name same ∙ is in cc
 name_of_label (Some l) w same is = ap Some same
 
-is_there : (labels : List (List ℕ)) (n : ℕ) (label : Option (List ℕ)) (w : List ℕ) → label ≡ Some w → IfSome label (λ l. place_of l labels ≡ Some n) → place_of w labels ≡ Some n
-is_there labels n None w same placed = absurd cc
-is_there labels n (Some l) w same placed = ap (λ u. place_of u labels) (sym (same_Some l w same)) ∙ placed
-
-nth_label : (labels : List (List ℕ)) (n : ℕ) (code : List InstructionText) (i : ℕ) (w : List ℕ) → LabelsPlaced labels n code → slice_get (labels_of code) i ≡ Some w → is_name w ≡ true
-    → place_of w labels ≡ Some (n + i)
-nth_label labels n [] i w placed there is = absurd cc
-nth_label labels n (t ∷ ts) zero w placed there is =
-    let same : n ≡ n + 0 = omega arith in
-    is_there labels n t.label w (name_of_label t.label w (same_Some (label_or_none t.label) w there) is) placed.0 ∙ ap Some same
-nth_label labels n (t ∷ ts) (suc i) w placed there is =
-    let same : (n + 1) + i ≡ n + suc i = omega arith in
-    nth_label labels (n + 1) ts i w placed.1 there is ∙ ap Some same
-
 pub labels_once : (code : List InstructionText) → LabelsPlaced (labels_of code) 0 code → DeclaredOnce (labels_of code)
 labels_once code placed = once_found (labels_of code) (record {
-  found = λ w n is. (let same : 0 + n ≡ n = omega arith in nth_label (labels_of code) 0 code n w placed is.declared is.is_name ∙ ap Some same);
+  found = λ w n is. (let same : 0 + n ≡ n = omega arith in some_given (λ o. option_map (λ t. label_or_none t.label) o ≡ Some w) (slice_get code n) (sym (slice_get-map (λ t. label_or_none t.label) code n) ∙ is.declared)
+      (λ e. cc) (λ t there e.
+      let named = name_of_label t.label w (same_Some (label_or_none t.label) w e) is.is_name in
+      subst (λ o. IfSome o (λ l. place_of l (labels_of code) ≡ Some (0 + n))) named (nth_at (LabelAt (labels_of code)) 0 code n t placed there)) ∙ ap Some same);
 })

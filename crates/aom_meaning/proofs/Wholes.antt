@@ -29,7 +29,7 @@ use Rattle.aom_readback.specs.Texts.{all_words}
 use Rattle.aom_readback.proofs.Following.{Goes, arrives, at_seam, goes_on, room, stays, steps}
 use Rattle.aom_readback.proofs.Parts.{few_before, read_so_far, spelled}
 use Rattle.aom_readback.proofs.Readings.{takes_any_keyword}
-use Rattle.aom_meaning.specs.Meaning.{ClassMeans, DeclaredOnce, HeadingMeans, InstructionMeans, MethodMeans, Names, Pairwise, labels_of}
+use Rattle.aom_meaning.specs.Meaning.{ClassMeans, DeclaredOnce, HeadingMeans, InstructionMeans, MethodMeans, Names, labels_of}
 use Rattle.aom_meaning.specs.Source as source
 use Rattle.aom_meaning.specs.Source.{ClassText, Declaration, InstructionText, MethodText, class_words, classes_of, declared_statements, end_words, heading_words, instruction_words, kind_words, methods_of, part, promise_words}
 use Rattle.aom_meaning.proofs.Classes.{class_reads}
@@ -38,6 +38,7 @@ use Rattle.aom_meaning.proofs.Instructions.{instruction_reads}
 use Rattle.aom_meaning.proofs.Places.{found_once, scoped}
 use Rattle.aom_meaning.proofs.Texts.{LabelsPlaced, Placed, labels_there, takes_no_end}
 use Rattle.aom_meaning.proofs.Words.{LooksUp}
+use Rattle.aom_meaning.proofs.Pairs.{Pairs, pairs, no_pair, a_pair}
 
 -- ---- what is declared once stands at its place
 
@@ -48,23 +49,21 @@ at_place : (space front : List (List ℕ)) (w : List ℕ) (ws : List (List ℕ))
 at_place space front w ws once whole is = found_once space w (length front) once (record { is_name = is; declared = ap (λ l. slice_get l (length front)) whole ∙ at_seam front w ws })
 
 pub classes_placed : (names : Names) (natives : ℕ) (space : List (List ℕ)) → DeclaredOnce space → (front : List (List ℕ)) (ts : List ClassText) (cs : List ClassDecl)
-    → Pairwise (ClassMeans names natives) ts cs → space ≡ front ++ map (λ t. t.name) ts → Placed space (length front) (map (λ t. t.name) ts)
-classes_placed names natives space once front [] cs means whole = tt
-classes_placed names natives space once front (t ∷ ts) [] means whole = absurd means
-classes_placed names natives space once front (t ∷ ts) (c ∷ cs) means whole = (
-  at_place space front t.name (map (λ t. t.name) ts) once whole means.0.name,
-  subst (λ n. Placed space n (map (λ t. t.name) ts)) (length_push front t.name) (classes_placed names natives space once (front ++ t.name ∷ []) ts cs means.1
+    → Pairs (ClassMeans names natives) ts cs → space ≡ front ++ map (λ t. t.name) ts → Placed space (length front) (map (λ t. t.name) ts)
+classes_placed names natives space once front _ _ no_pair whole = tt
+classes_placed names natives space once front _ _ (a_pair t ts c cs here more) whole = (
+  at_place space front t.name (map (λ t. t.name) ts) once whole here.name,
+  subst (λ n. Placed space n (map (λ t. t.name) ts)) (length_push front t.name) (classes_placed names natives space once (front ++ t.name ∷ []) ts cs more
       (whole ∙ regrouped front t.name (map (λ t. t.name) ts))),
 )
 
 pub methods_placed : (names : Names) (b : Bool) (kinds : List ClassDecl) (space : List (List ℕ)) → DeclaredOnce space → (front : List (List ℕ)) (ts : List MethodText) (ms : List Method)
-    → Pairwise (MethodMeans names b kinds) ts ms → space ≡ front ++ map (λ t. t.heading.name) ts → Placed space (length front) (map (λ t. t.heading.name) ts)
-methods_placed names b kinds space once front [] ms means whole = tt
-methods_placed names b kinds space once front (t ∷ ts) [] means whole = absurd means
-methods_placed names b kinds space once front (t ∷ ts) (m ∷ ms) means whole = (
-  at_place space front t.heading.name (map (λ t. t.heading.name) ts) once whole means.0.heading.name,
+    → Pairs (MethodMeans names b kinds) ts ms → space ≡ front ++ map (λ t. t.heading.name) ts → Placed space (length front) (map (λ t. t.heading.name) ts)
+methods_placed names b kinds space once front _ _ no_pair whole = tt
+methods_placed names b kinds space once front _ _ (a_pair t ts m ms here more) whole = (
+  at_place space front t.heading.name (map (λ t. t.heading.name) ts) once whole here.heading.name,
   subst (λ n. Placed space n (map (λ t. t.heading.name) ts)) (length_push front t.heading.name)
-      (methods_placed names b kinds space once (front ++ t.heading.name ∷ []) ts ms means.1 (whole ∙ regrouped front t.heading.name (map (λ t. t.heading.name) ts))),
+      (methods_placed names b kinds space once (front ++ t.heading.name ∷ []) ts ms more (whole ∙ regrouped front t.heading.name (map (λ t. t.heading.name) ts))),
 )
 
 one_label : (labels front : List (List ℕ)) (label : Option (List ℕ)) (rest : List (List ℕ)) → DeclaredOnce labels → labels ≡ front ++ label_or_none label ∷ rest
@@ -73,12 +72,11 @@ one_label labels front None rest once whole is = tt
 one_label labels front (Some l) rest once whole is = at_place labels front l rest once whole is
 
 labels_placed : (names : Names) (all labels : List (List ℕ)) → DeclaredOnce labels → (front : List (List ℕ)) (ts : List InstructionText) (is : List Instr)
-    → Pairwise (InstructionMeans names all) ts is → labels ≡ front ++ labels_of ts → LabelsPlaced labels (length front) ts
-labels_placed names all labels once front [] is means whole = tt
-labels_placed names all labels once front (t ∷ ts) [] means whole = absurd means
-labels_placed names all labels once front (t ∷ ts) (i ∷ is) means whole = (
-  one_label labels front t.label (labels_of ts) once whole means.0.label,
-  subst (λ n. LabelsPlaced labels n ts) (length_push front (label_or_none t.label)) (labels_placed names all labels once (front ++ label_or_none t.label ∷ []) ts is means.1
+    → Pairs (InstructionMeans names all) ts is → labels ≡ front ++ labels_of ts → LabelsPlaced labels (length front) ts
+labels_placed names all labels once front _ _ no_pair whole = tt
+labels_placed names all labels once front _ _ (a_pair t ts i is here more) whole = (
+  one_label labels front t.label (labels_of ts) once whole here.label,
+  subst (λ n. LabelsPlaced labels n ts) (length_push front (label_or_none t.label)) (labels_placed names all labels once (front ++ label_or_none t.label ∷ []) ts is more
       (whole ∙ regrouped front (label_or_none t.label) (labels_of ts))),
 )
 
@@ -145,21 +143,20 @@ module _ (last : ℕ) (names : Names) (h : Header) (b : Bool) (kinds : List Clas
         ap (λ (b : Bool). (if b then Err LimitPassed else Ok m) >>= λ m. nothing_more false [] >>= λ u. Ok (read_so_far h cs (ms ++ m ∷ []) None size)) (ne_eqb (length m.code) 0 (λ none. omega arith))
 
     code_goes : (ms : List Method) (t : MethodText) (m : Method) (done : List Instr) (ts : List InstructionText) (todo : List Instr) (size : ℕ) (left : List (List (List ℕ))) (ss : List Statement)
-        → length done + length todo ≤ 1024 → Pairwise (InstructionMeans names (labels_of t.code)) ts todo → LabelsPlaced (labels_of t.code) (length done) ts → size + 8 * length todo ≤ 2 ^ 20
+        → length done + length todo ≤ 1024 → Pairs (InstructionMeans names (labels_of t.code)) ts todo → LabelsPlaced (labels_of t.code) (length done) ts → size + 8 * length todo ≤ 2 ^ 20
         → all_words ss ≡ map instruction_words ts ++ left
         → Goes last scope (open_method ms t m done size) ss (open_method ms t m (done ++ todo) (size + 8 * length todo)) left
-    code_goes ms t m done [] [] size left ss few means placed enough words =
+    code_goes ms t m done _ _ size left ss few no_pair placed enough words =
         let same : size ≡ size + 8 * 0 = omega arith in
         stays ss (ap (λ l. open_method ms t m l size) (sym (append-nil done)) ∙ ap (λ n. open_method ms t m (done ++ []) n) same) words
-    code_goes ms t m done (one ∷ ts) (i ∷ todo) size left ss few means placed enough words =
+    code_goes ms t m done _ _ size left ss few (a_pair one ts i todo here more) placed enough words =
         let count : length (done ++ i ∷ []) ≡ length done + 1 = length_push done i in
         let summed : (size + 8) + 8 * length todo ≡ size + 8 * suc (length todo) = omega arith in
         goes_on
         (steps {q = open_method ms t m (done ++ i ∷ []) (size + 8)} {left = map instruction_words ts ++ left} ss words
-        (λ rest behind. code_step ms t m done one i size rest (omega arith) means.0 placed.0 (omega arith)))
+        (λ rest behind. code_step ms t m done one i size rest (omega arith) here placed.0 (omega arith)))
         (λ rest behind. arrives (ap (λ l. open_method ms t m l ((size + 8) + 8 * length todo)) (append_assoc done (i ∷ []) todo) ∙ ap (λ n. open_method ms t m (done ++ i ∷ todo) n) summed)
-        (code_goes ms t m (done ++ i ∷ []) ts todo (size + 8) left rest (omega arith) means.1 (subst (λ n. LabelsPlaced (labels_of t.code) n ts) (sym count) placed.1) (omega arith) behind))
-    code_goes ms t m done _ _ size left ss few means placed enough words = absurd means
+        (code_goes ms t m (done ++ i ∷ []) ts todo (size + 8) left rest (omega arith) more (subst (λ n. LabelsPlaced (labels_of t.code) n ts) (sym count) placed.1) (omega arith) behind))
 
     method_goes : (ms : List Method) (t : MethodText) (m : Method) (size : ℕ) (left : List (List (List ℕ))) (ss : List Statement) → length ms < 1024 → MethodMeans names b kinds t m
         → place_of t.heading.name names.methods ≡ Some (length ms) → size + spelled m ≤ 2 ^ 20
@@ -168,13 +165,14 @@ module _ (last : ℕ) (names : Names) (h : Header) (b : Bool) (kinds : List Clas
     method_goes ms t m size left ss few means placed enough words =
         let some = means.some in
         let short = means.few in
+        let code = pairs (InstructionMeans names (labels_of t.code)) t.code m.code means.code in
         let summed : (size + 24) + 8 * length m.code ≡ size + spelled m = omega arith in
         goes_on
         (steps {q = open_method ms t m [] (size + 24)} {left = map instruction_words t.code ++ (end_words ∷ left)} ss words
         (λ rest behind. heading_step ms t m size left rest few means.heading placed (omega arith) behind))
         (λ rest behind. goes_on
-        (code_goes ms t m [] t.code m.code (size + 24) (end_words ∷ left) rest (omega arith) means.code
-        (labels_placed names (labels_of t.code) (labels_of t.code) means.labels [] t.code m.code means.code refl) (omega arith) behind)
+        (code_goes ms t m [] t.code m.code (size + 24) (end_words ∷ left) rest (omega arith) code
+        (labels_placed names (labels_of t.code) (labels_of t.code) means.labels [] t.code m.code code refl) (omega arith) behind)
         (λ later others. arrives (ap (λ n. read_so_far h cs (ms ++ m ∷ []) None n) summed)
         (goes_on (steps {q = read_so_far h cs (ms ++ m ∷ []) None ((size + 24) + 8 * length m.code)} {left = left} later others
         (λ rest behind. end_step ms t m ((size + 24) + 8 * length m.code) rest some)) (λ rest behind. stays rest refl behind))))
@@ -182,36 +180,35 @@ module _ (last : ℕ) (names : Names) (h : Header) (b : Bool) (kinds : List Clas
   -- ---- declarations
 
   pub declarations_go : (ds : List Declaration) (cs todo : List ClassDecl) (ms left : List Method) (size : ℕ) (ss : List Statement)
-      → Pairwise (ClassMeans names h.natives) (classes_of ds) todo → Pairwise (MethodMeans names b kinds) (methods_of ds) left
+      → Pairs (ClassMeans names h.natives) (classes_of ds) todo → Pairs (MethodMeans names b kinds) (methods_of ds) left
       → Placed names.classes (length cs) (map (λ t. t.name) (classes_of ds)) → Placed names.methods (length ms) (map (λ t. t.heading.name) (methods_of ds))
       → length cs + length todo ≤ 256 → count_by is_server (cs ++ todo) ≤ 8 → length ms + length left ≤ 1024 → size + 28 * length todo + sum_by spelled left ≤ 2 ^ 20
       → all_words ss ≡ declared_statements ds
       → Goes last scope (read_so_far h cs ms None size) ss (read_so_far h (cs ++ todo) (ms ++ left) None (size + 28 * length todo + sum_by spelled left)) []
-  declarations_go [] cs [] ms [] size ss classes methods cp mp few servers short enough words =
+  declarations_go [] cs _ ms _ size ss no_pair no_pair cp mp few servers short enough words =
       let same : size ≡ size + 28 * 0 + sum_by spelled [] = omega arith in
       stays ss (ap (λ l. read_so_far h l ms None size) (sym (append-nil cs)) ∙ ap (λ l. read_so_far h (cs ++ []) l None size) (sym (append-nil ms)) ∙ ap
       (λ n. read_so_far h (cs ++ []) (ms ++ []) None n) same) words
-  declarations_go (source.class t ∷ ds) cs (c ∷ todo) ms left size ss classes methods cp mp few servers short enough words =
+  declarations_go (source.class t ∷ ds) cs _ ms left size ss (a_pair _ _ c todo here more) methods cp mp few servers short enough words =
       let count : length (cs ++ c ∷ []) ≡ length cs + 1 = length_push cs c in
       let again : (cs ++ c ∷ []) ++ todo ≡ cs ++ c ∷ todo = append_assoc cs (c ∷ []) todo in
       let sum = sum_by spelled left in
       let summed : (size + 28) + 28 * length todo + sum ≡ size + 28 * suc (length todo) + sum = omega arith in
       goes_on
       (steps {q = read_so_far h (cs ++ c ∷ []) ms None (size + 28)} {left = declared_statements ds} ss words
-      (λ rest behind. class_step cs ms t c size rest (omega arith) classes.0 cp.0 (few_before cs c todo servers) (omega arith)))
+      (λ rest behind. class_step cs ms t c size rest (omega arith) here cp.0 (few_before cs c todo servers) (omega arith)))
       (λ rest behind. arrives (ap (λ l. read_so_far h l (ms ++ left) None ((size + 28) + 28 * length todo + sum)) again ∙ ap (λ n. read_so_far h (cs ++ c ∷ todo) (ms ++ left) None n) summed)
-      (declarations_go ds (cs ++ c ∷ []) todo ms left (size + 28) rest classes.1 methods (subst (λ n. Placed names.classes n (map (λ t. t.name) (classes_of ds))) (sym count) cp.1) mp
+      (declarations_go ds (cs ++ c ∷ []) todo ms left (size + 28) rest more methods (subst (λ n. Placed names.classes n (map (λ t. t.name) (classes_of ds))) (sym count) cp.1) mp
       (omega arith) (subst (λ l. count_by is_server l ≤ 8) (sym again) servers) short (omega arith) behind))
-  declarations_go (source.method t ∷ ds) cs todo ms (m ∷ left) size ss classes methods cp mp few servers short enough words =
+  declarations_go (source.method t ∷ ds) cs todo ms _ size ss classes (a_pair _ _ m left here more) cp mp few servers short enough words =
       let count : length (ms ++ m ∷ []) ≡ length ms + 1 = length_push ms m in
       let again : (ms ++ m ∷ []) ++ left ≡ ms ++ m ∷ left = append_assoc ms (m ∷ []) left in
       let headed : sum_by spelled (m ∷ left) ≡ spelled m + sum_by spelled left = sum_by-cons spelled m left in
       let summed : (size + spelled m) + 28 * length todo + sum_by spelled left ≡ size + 28 * length todo + sum_by spelled (m ∷ left) = omega arith in
       goes_on
-      (method_goes cs ms t m size (declared_statements ds) ss (omega arith) methods.0 mp.0 (omega arith)
+      (method_goes cs ms t m size (declared_statements ds) ss (omega arith) here mp.0 (omega arith)
       (words ∙ ap (λ v. heading_words t.heading ∷ v) (append_assoc (map instruction_words t.code) (end_words ∷ []) (declared_statements ds))))
       (λ rest behind. arrives (ap (λ l. read_so_far h (cs ++ todo) l None ((size + spelled m) + 28 * length todo + sum_by spelled left)) again ∙ ap
       (λ n. read_so_far h (cs ++ todo) (ms ++ m ∷ left) None n) summed)
-      (declarations_go ds cs todo (ms ++ m ∷ []) left (size + spelled m) rest classes methods.1 cp (subst (λ n. Placed names.methods n (map (λ t. t.heading.name) (methods_of ds))) (sym count) mp.1)
+      (declarations_go ds cs todo (ms ++ m ∷ []) left (size + spelled m) rest classes more cp (subst (λ n. Placed names.methods n (map (λ t. t.heading.name) (methods_of ds))) (sym count) mp.1)
       few servers (omega arith) (omega arith) behind))
-  declarations_go _ cs _ ms _ size ss classes methods cp mp few servers short enough words = absurd (assumption tt)

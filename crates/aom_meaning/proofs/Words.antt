@@ -1,9 +1,9 @@
 -- What one word says is what is read of it: names, numbers, sets, things, arguments and lists, both ways.
-use Rattle.std.proofs.Common.{◌≡◌, ℕ, ◌+◌, ◌≤◌, ◌==◌, Bool, true, false, List, [], ◌∷◌, ◌++◌, length, Result, Ok, Err, refl, sym, ap, subst, ◌∙◌, append_assoc, append-nil, codes, arith, length-append}
+use Rattle.std.proofs.Common.{◌≡◌, ℕ, ◌+◌, ◌≤◌, ◌==◌, Bool, true, false, List, [], ◌∷◌, ◌++◌, length, Result, Ok, Err, sym, ap, subst, ◌∙◌, append_assoc, append-nil, codes, arith, length-append}
 use Rattle.std.specs.Prelude.{◌&&◌, if◌then◌else◌, nat_le, nat_lt, not}
 use Rattle.std.specs.List.{list_all, slice_split}
 use Rattle.std.specs.Str.{bytes_eq}
-use Rattle.std.proofs.lemmas.Bool.{and_parts, lt-ltb, false_from_ne_true}
+use Rattle.std.proofs.lemmas.Bool.{and_parts, lt-ltb, false_from_ne_true, not-true}
 use Rattle.std.proofs.lemmas.Slice.Eq.{bytes_eq-Decides}
 use Rattle.aom_text.specs.Names.{has_name_form, is_name, is_reserved}
 use Rattle.aom_text.specs.Words.{is_plain}
@@ -21,12 +21,13 @@ use Rattle.aom_syntax.specs.Operands.{class}
 use Rattle.aom_syntax.specs.Reading.{◌>>=◌, as_name, name}
 use Rattle.aom_syntax.specs.declared.scope.Scope.{Scope}
 use Rattle.aom_ranges.proofs.Lists.{listed_fits}
-use Rattle.aom_ranges.proofs.Within.{ok_is, passed, steps}
+use Rattle.aom_ranges.proofs.Within.{marked_or, ok_is, passed, steps}
 use Rattle.aom_readback.proofs.Lists.{plain_form}
 use Rattle.aom_readback.proofs.Readings.{Takes, sees}
 use Rattle.aom_meaning.specs.Meaning.{Elements, IsArgument, IsList, IsNumbered, IsThing, Names, Pairwise}
 use Rattle.aom_meaning.proofs.Ascii.{plain_list}
 use Rattle.aom_meaning.proofs.Pieces.{Reads, numbered, takes_seen}
+use Rattle.aom_meaning.proofs.Pairs.{Pairs, pairs, no_pair, a_pair}
 
 -- names that are told apart
 abbrev pub told : Names → List ClassDecl → Scope
@@ -58,34 +59,19 @@ module _ {names : Names} {scope : Scope} (looks : LooksUp names scope) where
 if_so : {X : Type 0} (b : Bool) (r s : X) → b ≡ true → (if b then r else s) ≡ r
 if_so b r s is = ap (λ b. if b then r else s) is
 
-message_or_class : (names : Names) (kinds : List ClassDecl) (w : List ℕ) (t : Thing) → thing_of (told names kinds) w ≡ Ok t → IsThing names w t
-message_or_class names kinds w t is = go (bytes_eq w (codes "msg")) refl is
-  where
-    go : (b : Bool) → bytes_eq w (codes "msg") ≡ b → (if b then Ok owned.Message else (class_of (told names kinds) w >>= λ c. Ok (owned.Object c))) ≡ Ok t → IsThing names w t
-    go true same e = subst (IsThing names w) (ok_is owned.Message t e) ((bytes_eq-Decides w (codes "msg")).0 same)
-    go false other e =
-        let s = steps (class_of (told names kinds) w) (λ c. Ok (owned.Object c)) t e in
-        subst (IsThing names w) (ok_is (owned.Object s.first) t s.second) (numbered names.classes 256 w s.first s.read)
-
 pub thing_means : (names : Names) (kinds : List ClassDecl) (w : List ℕ) (t : Thing) → thing_of (told names kinds) w ≡ Ok t → IsThing names w t
-thing_means = message_or_class
+thing_means names kinds w t is =
+    marked_or (IsThing names w) (bytes_eq w (codes "msg")) owned.Message (class_of (told names kinds) w) (λ c. owned.Object c) t
+    (λ same. (bytes_eq-Decides w (codes "msg")).0 same) (λ c said. numbered names.classes 256 w c said) is
 
 pub argument_means : (names : Names) (kinds : List ClassDecl) (w : List ℕ) (a : Argument) → argument_of (told names kinds) w ≡ Ok a → IsArgument names w a
-argument_means names kinds w a is = go (bytes_eq w (codes "word")) refl is
-  where
-    go : (b : Bool) → bytes_eq w (codes "word") ≡ b → (if b then Ok arg.Word else (thing_of (told names kinds) w >>= λ t. Ok (arg.Own t))) ≡ Ok a → IsArgument names w a
-    go true same e = subst (IsArgument names w) (ok_is arg.Word a e) ((bytes_eq-Decides w (codes "word")).0 same)
-    go false other e =
-        let s = steps (thing_of (told names kinds) w) (λ t. Ok (arg.Own t)) a e in
-        subst (IsArgument names w) (ok_is (arg.Own s.first) a s.second) (thing_means names kinds w s.first s.read)
+argument_means names kinds w a is =
+    marked_or (IsArgument names w) (bytes_eq w (codes "word")) arg.Word (thing_of (told names kinds) w) (λ t. arg.Own t) a
+    (λ same. (bytes_eq-Decides w (codes "word")).0 same) (thing_means names kinds w) is
 
 -- a name is no reserved word
-not_both : (b c : Bool) → (b && not c) ≡ true → c ≡ false
-not_both b false is = refl
-not_both _ _ is = absurd (grind arith)
-
 not_reserved : (w : List ℕ) → is_name w ≡ true → is_reserved w ≡ false
-not_reserved w is = not_both (has_name_form w && nat_le (length w) 32) (is_reserved w) is
+not_reserved w is = not-true (is_reserved w) (and_parts (has_name_form w && nat_le (length w) 32) (not (is_reserved w)) is).1
 
 no_message : (w : List ℕ) → is_name w ≡ true → bytes_eq w (codes "msg") ≡ false
 no_message w is = false_from_ne_true (bytes_eq w (codes "msg")) (λ same. (let clash : true ≡ false = sym (ap is_reserved ((bytes_eq-Decides w (codes "msg")).0 same)) ∙ not_reserved w is in cc))
@@ -142,18 +128,17 @@ module _ {X : Type 0} (most : ℕ) (one : List ℕ → Result X AsmFaultKind) (S
     }
 
   module _ (reads : (w : List ℕ) (x : X) → Says w x → Reads one w x) where
-    parts_read : (ps : List (List ℕ)) (front xs : List X) → length front + length xs ≤ most → Pairwise Says ps xs → elements most one front ps ≡ Ok (front ++ xs)
-    parts_read [] front [] few each = ap Ok (sym (append-nil front))
-    parts_read (p ∷ ps) front (x ∷ xs) few each =
+    parts_read : (ps : List (List ℕ)) (front xs : List X) → length front + length xs ≤ most → Pairs Says ps xs → elements most one front ps ≡ Ok (front ++ xs)
+    parts_read _ front _ few no_pair = ap Ok (sym (append-nil front))
+    parts_read _ front _ few (a_pair p ps x xs here more) =
         ap (λ b. if b then (one p >>= λ y. elements most one (front ++ y ∷ []) ps) else Err LimitPassed) (lt-ltb (length front) most (omega arith))
-        ∙ ap (λ e. e >>= λ y. elements most one (front ++ y ∷ []) ps) (reads p x each.0).says
-        ∙ parts_read ps (front ++ x ∷ []) xs (omega (arith, length-append front (x ∷ []))) each.1
+        ∙ ap (λ e. e >>= λ y. elements most one (front ++ y ∷ []) ps) (reads p x here).says
+        ∙ parts_read ps (front ++ x ∷ []) xs (omega (arith, length-append front (x ∷ []))) more
         ∙ ap Ok (append_assoc front (x ∷ []) xs)
-    parts_read _ front _ few each = absurd each
 
     whole_read : (w : List ℕ) (xs : List X) (b : Bool) → length xs ≤ most → Elements Says b w xs → (if b then Ok [] else elements most one [] (slice_split (λ b. b == 44) w)) ≡ Ok xs
     whole_read w xs true few none = ap Ok (sym none)
-    whole_read w xs false few each = parts_read (slice_split (λ b. b == 44) w) [] xs (omega arith) each
+    whole_read w xs false few each = parts_read (slice_split (λ b. b == 44) w) [] xs (omega arith) (pairs Says (slice_split (λ b. b == 44) w) xs each)
 
     pub list_reads : (w : List ℕ) (xs : List X) → IsList most Says w xs → Reads (listed most one) w xs
     list_reads w xs is = record { plain = plain_list Says (λ v x said. (reads v x said).plain) w xs is.elements; says = whole_read w xs (bytes_eq w (codes "-")) is.few is.elements }

@@ -1,8 +1,7 @@
 -- What one pass finds is the price: what a place costs in the body of the innermost loop round it, and what follows that loop, add up to what is found there.
-use Rattle.std.proofs.Common.{◌≡◌, ◌<◌, ◌≤◌, ◌+◌, ◌-◌, ◌*◌, ◌∙◌, ℕ, zero, suc, Bool, true, false, cond, List, [], ◌∷◌, length, Option, Some, None, inl, inr, ⊎_elim, refl, sym, ap, arith, subst}
+use Rattle.std.proofs.Common.{◌≡◌, ◌<◌, ◌≤◌, ◌+◌, ◌-◌, ◌*◌, ◌∙◌, ℕ, zero, suc, Bool, true, false, cond, List, [], ◌∷◌, length, Some, None, inl, inr, ⊎_elim, refl, sym, ap, arith, subst}
 use Rattle.aom_image.proofs.Given.{some_given}
 use Rattle.std.specs.Prelude.{IfSome, IsSome, max, slice_get}
-use Rattle.std.proofs.lemmas.Bool.{cases_lt}
 use Rattle.std.proofs.lemmas.Option.{slice_get_within, same_Some}
 use Rattle.aom_image.specs.Image.{Image}
 use Rattle.aom_image.specs.Views.{instr_at, method_at}
@@ -28,6 +27,9 @@ use Rattle.aom_prices.proofs.Paths.{GoesOn, Rounds, ends_or_goes, outside_cost, 
 use Rattle.aom_prices.proofs.Regions.{by_kind, here_is_inside, innermost, innermost_first, innermost_of_body, innermost_of_next, innermost_on, innermost_out, next_is_no_loop, no_next_here, no_way_back, one_end, out_of_both, past_is_outside}
 use Rattle.aom_prices.proofs.Ways.{IsReached, JumpsForward, Way, led_to, way_of}
 use Rattle.aom_prices.proofs.Ways.Way.{back, jump, on}
+use Rattle.aom_prices.proofs.Among.{by_flow, either_cond, either_max}
+use Rattle.aom_prices.proofs.Regions.{Past, passed}
+use Rattle.aom_prices.proofs.Regions.Past.{past_end}
 
 -- ---- the most over flows
 
@@ -36,45 +38,22 @@ by_past true P past near = past refl
 by_past false P past near = near refl
 
 pub within_most : (c : Prices) (m to : ℕ) (r : Region) (fs : List Flow) → AmongFlows to fs → is_past r to ≡ false → c.from m to ≤ most_within c m r fs
-within_most c m to r [] among near = absurd among
-within_most c m to r (f ∷ fs) among near = ⊎_elim
-    (λ (e : f.0 ≡ to). let this : cond (is_past r f.0) 0 (c.from m f.0) ≡ c.from m to = ap (λ x. cond (is_past r x) 0 (c.from m x)) e ∙ ap (λ b. cond b 0 (c.from m to)) near in omega (arith, this))
-    (λ (rest : AmongFlows to fs). omega (arith, within_most c m to r fs rest near))
-    among
-
--- some flow is the dearest, where there is one at all
-record Dearest (c : Prices) (m : ℕ) (r : Region) (fs : List Flow) : Type 0 where
-  pub to : ℕ
-  pub among : AmongFlows to fs
-  pub near : is_past r to ≡ false
-  pub is : c.from m to ≡ most_within c m r fs
-
-dearest : (c : Prices) (m : ℕ) (r : Region) (fs : List Flow) → 0 < most_within c m r fs → Dearest c m r fs
-dearest c m r [] some = absurd (omega (arith, some))
-dearest c m r (f ∷ fs) some = go (λ h. dearest c m r fs h)
+within_most c m to r fs among near = by_flow to (λ gs. c.from m to ≤ most_within c m r gs) (λ f gs e. omega (arith, this f.0 e)) (λ f gs le. omega (arith, le)) fs among
   where
-    later : (0 < most_within c m r fs → Dearest c m r fs) → most_within c m r (f ∷ fs) ≡ most_within c m r fs → Dearest c m r (f ∷ fs)
-    later rest e = let w = rest (omega (arith, e, some)) in record { to = w.to; among = inr w.among; near = w.near; is = w.is ∙ sym e }
+    this : (x : ℕ) → x ≡ to → cond (is_past r x) 0 (c.from m x) ≡ c.from m to
+    this x e = ap (λ y. cond (is_past r y) 0 (c.from m y)) e ∙ ap (λ b. cond b 0 (c.from m to)) near
 
-    past : (0 < most_within c m r fs → Dearest c m r fs) → is_past r f.0 ≡ true → Dearest c m r (f ∷ fs)
-    past rest e = later rest (let none : cond (is_past r f.0) 0 (c.from m f.0) ≡ 0 = ap (λ b. cond b 0 (c.from m f.0)) e in omega (arith, none))
-
-    near : (0 < most_within c m r fs → Dearest c m r fs) → is_past r f.0 ≡ false → Dearest c m r (f ∷ fs)
-    near rest e =
-        let this : cond (is_past r f.0) 0 (c.from m f.0) ≡ c.from m f.0 = ap (λ b. cond b 0 (c.from m f.0)) e in
-        ⊎_elim
-        (λ (lt : c.from m f.0 < most_within c m r fs). later rest (omega (arith, this, lt)))
-        (λ (ge : most_within c m r fs ≤ c.from m f.0). record { to = f.0; among = inl refl; near = e; is = omega (arith, this, ge) })
-        (cases_lt (c.from m f.0) (most_within c m r fs))
-
-    go : (0 < most_within c m r fs → Dearest c m r fs) → Dearest c m r (f ∷ fs)
-    go rest = by_past (is_past r f.0) (Dearest c m r (f ∷ fs)) (past rest) (near rest)
+-- what holds of 0 and of each flow in the region holds of the dearest
+most_one : (c : Prices) (m : ℕ) (r : Region) (P : ℕ → Type 0) → P 0 → (fs : List Flow) → ((to : ℕ) → AmongFlows to fs → is_past r to ≡ false → P (c.from m to)) → P (most_within c m r fs)
+most_one c m r P none [] one = none
+most_one c m r P none (f ∷ fs) one = either_max P (cond (is_past r f.0) 0 (c.from m f.0)) (most_within c m r fs)
+    (either_cond P (is_past r f.0) 0 (c.from m f.0) (λ past. none) (λ near. one f.0 (inl refl) near))
+    (most_one c m r P none fs (λ to among. one to (inr among)))
 
 -- ---- rounds
 
 all_rounds : (n b : ℕ) → 0 < n → (n - 1) * b + b ≡ n * b
-all_rounds zero b some = absurd (omega (arith, some))
-all_rounds (suc n) b some = let one : suc n - 1 ≡ n = omega arith in omega (arith, ap (λ x. x * b) one)
+all_rounds n b some = let e : n ≡ suc (n - 1) = omega (arith, some) in omega (arith, ap (λ x. x * b) e)
 
 rounds_more : (n a b : ℕ) → a ≤ b → n * a ≤ n * b
 rounds_more zero a b le = omega arith
@@ -82,12 +61,8 @@ rounds_more (suc n) a b le = omega (arith, rounds_more n a b le, le)
 
 -- ---- each place
 
-some_there : (x : Shape) (o : Option Shape) → o ≡ Some x → IsSome o
-some_there x None e = cc
-some_there x (Some y) e = refl
-
 pub reached_is_some : (t : Typing) (m place : ℕ) → IsReached t m place → IsSome (shape_at t m place)
-reached_is_some t m place reached = some_there reached.0 (shape_at t m place) reached.1
+reached_is_some t m place reached = subst (λ o. IsSome o) (sym reached.1) refl
 
 -- where a reached instruction goes on is reached
 pub leads_on : (p : Image) (t : Typing) (m : ℕ) → IsTyped p t → (place to : ℕ) (sh : Shape) (i : Instr) → Stands p t m place sh i → AmongFlows to (flows p m place sh i) → IsReached t m to
@@ -97,14 +72,18 @@ leads_on p t m typed place to sh i at among =
     led_to t m to (flows p m place sh passes.instr) passes.flows (subst (λ j. AmongFlows to (flows p m place sh j)) same among)
 
 -- an instruction that ends no round goes on at a later place
-pub way_forward : (p : Image) (t : Typing) (m : ℕ) → JumpsForward p m →
-    (place to : ℕ) (sh : Shape) (i : Instr) → Stands p t m place sh i → next_in (Some i) ≡ None → AmongFlows to (flows p m place sh i) → place < to
-way_forward p t m forward place to sh i at plain among = go to (way_of p m place to sh i among)
+pub goes_forward : (p : Image) (m : ℕ) → JumpsForward p m →
+    (place to : ℕ) (sh : Shape) (i : Instr) → instr_at p m place ≡ Some i → next_in (Some i) ≡ None → AmongFlows to (flows p m place sh i) → place < to
+goes_forward p m forward place to sh i stands plain among = go to (way_of p m place to sh i among)
   where
     go : (to : ℕ) → Way place i to → place < to
     go to on = omega arith
-    go to (jump j) = forward place to i at.instr j
+    go to (jump j) = forward place to i stands j
     go to (back b) = absurd (no_way_back i to plain b)
+
+pub way_forward : (p : Image) (t : Typing) (m : ℕ) → JumpsForward p m →
+    (place to : ℕ) (sh : Shape) (i : Instr) → Stands p t m place sh i → next_in (Some i) ≡ None → AmongFlows to (flows p m place sh i) → place < to
+way_forward p t m forward place to sh i at plain among = goes_forward p m forward place to sh i at.instr plain among
 
 -- the most that a place costs in a region, with what follows the region, is what is found there
 record Adds (p : Image) (t : Typing) (c : Prices) (a : Afters) (m : ℕ) (r : Region) (place : ℕ) : Type 0 where
@@ -125,12 +104,12 @@ module _ (p : Image) (t : Typing) (c : Prices) (a : Afters) (m : ℕ) (looped : 
             let inside = here_is_inside r place to w.inside lt near in
             later to r lt (leads_on p t m typed place to sh i at among) (innermost_on p looped m place to i r at.instr no_loop (way_of p m place to sh i among) w inside)
 
-        found : c.from m place ≡ own c sh i + max (after a m r) (most_within c m r (flows p m place sh i))
+        found : c.from m place ≡ own p m c sh i + max (after a m r) (most_within c m r (flows p m place sh i))
         found = (swept place).plain sh i r at no_loop no_next w
 
         plain_most : (cost : ℕ) → cost + after a m r ≡ c.from m place → (k : ℕ) → Costs p t c m r place k → k ≤ cost
         plain_most cost sum k path = ⊎_elim
-            (λ (e : k ≡ own c sh i). omega (arith, found, e, sum))
+            (λ (e : k ≡ own p m c sh i). omega (arith, found, e, sum))
             (λ (g : GoesOn p t c m r place k sh i). by_past (is_past r g.to) (k ≤ cost)
             (λ past. let nothing = outside_cost p t c m r g.to g.rest g.path (past_is_outside r g.to past) in omega (arith, found, sum, g.is, nothing))
             (λ near.
@@ -140,16 +119,19 @@ module _ (p : Image) (t : Typing) (c : Prices) (a : Afters) (m : ℕ) (looped : 
             (ends_or_goes p t c m r place k path sh i at no_loop w.inside)
 
         plain_adds : Adds p t c a m r place
-        plain_adds = ⊎_elim
-            (λ (lt : after a m r < most_within c m r (flows p m place sh i)).
-            let d = dearest c m r (flows p m place sh i) (omega (arith, lt)) in
-            let next = goes_on_in d.to d.among d.near in
-            let sum : own c sh i + next.cost + after a m r ≡ c.from m place = omega (arith, found, next.sum, d.is, lt) in
-            record { cost = own c sh i + next.cost; met = goes w.inside at no_loop no_next d.among next.met; sum = sum; most = plain_most (own c sh i + next.cost) sum })
-            (λ (ge : most_within c m r (flows p m place sh i) ≤ after a m r).
-            let sum : own c sh i + after a m r ≡ c.from m place = omega (arith, found, ge) in
-            record { cost = own c sh i; met = ends w.inside at no_loop; sum = sum; most = plain_most (own c sh i) sum })
-            (cases_lt (after a m r) (most_within c m r (flows p m place sh i)))
+        plain_adds = either_max (λ n. c.from m place ≡ own p m c sh i + n → Adds p t c a m r place) (after a m r) (most_within c m r (flows p m place sh i))
+            (λ is. stops (omega (arith, is)))
+            (most_one c m r (λ n. c.from m place ≡ own p m c sh i + n → Adds p t c a m r place) (λ is. stops (omega (arith, is, found))) (flows p m place sh i) on)
+            found
+          where
+            stops : own p m c sh i + after a m r ≡ c.from m place → Adds p t c a m r place
+            stops sum = record { cost = own p m c sh i; met = ends w.inside at no_loop; sum = sum; most = plain_most (own p m c sh i) sum }
+
+            on : (to : ℕ) → AmongFlows to (flows p m place sh i) → is_past r to ≡ false → c.from m place ≡ own p m c sh i + c.from m to → Adds p t c a m r place
+            on to among near is =
+                let next = goes_on_in to among near in
+                let sum : own p m c sh i + next.cost + after a m r ≡ c.from m place = omega (arith, is, next.sum) in
+                record { cost = own p m c sh i + next.cost; met = goes w.inside at no_loop no_next among next.met; sum = sum; most = plain_most (own p m c sh i + next.cost) sum }
 
       -- ---- a loop
       module _ (sh : Shape) (d n to : ℕ) (at : Stands p t m place sh (Loop d n)) (some : 0 < n) (body : Body p m place to d n) where
@@ -181,13 +163,12 @@ module _ (p : Image) (t : Typing) (c : Prices) (a : Afters) (m : ℕ) (looped : 
         follows = (swept to).afters place d n r body w
 
         out_of_region : (out : ℕ) → GoesOut p t m place to out → is_past r out ≡ true → c.from m out ≤ after a m r
-        out_of_region out g past = go r w past
+        out_of_region out g is = go r w (passed r out is)
           where
-            go : (s : Region) → IsInnermost p m place s → is_past s out ≡ true → c.from m out ≤ after a m s
-            go Whole v e = cc
-            go (Round f e) v past =
+            go : (s : Region) → IsInnermost p m place s → Past out s → c.from m out ≤ after a m s
+            go _ v (past_end f e after) =
                 let round_it = innermost p looped m f in
-                ((swept e).afters f v.body.0 v.body.1 round_it.0 v.body.2 round_it.1).out out (out_of_both p looped m t place to d n out f e body g v past)
+                ((swept e).afters f v.body.0 v.body.1 round_it.0 v.body.2 round_it.1).out out (out_of_both p looped m t place to d n out f e body g v after)
 
         loop_most : (cost : ℕ) → cost + after a m r ≡ c.from m place → (k : ℕ) → Costs p t c m r place k → k ≤ cost
         loop_most cost sum k path = go (rounds_of p t c m r place k path sh d n at w.inside)

@@ -17,6 +17,7 @@ use Rattle.aom_rules.proofs.Monotone.{flows_more}
 use Rattle.aom_prices.specs.Costs.{AmongFlows, ArePrices, Costs, GoesOut, Region, Whole}
 use Rattle.aom_prices.specs.Costs.Costs.{outside, ends, goes, loops, loops_in}
 use Rattle.aom_prices.specs.Prices.{Prices, Stands, kind_price, own, price}
+use Rattle.aom_prices.proofs.Among.{by_flow}
 
 -- what one typing reaches the other reaches too, with a state that says just as much
 pub record IsCovered (p : Image) (t d : Typing) : Type 0 where
@@ -33,21 +34,19 @@ register_is : (a b : Shape) (r : ℕ) → SaysNoMore a b → SaysNoMore b a → 
 register_is a b r more less = kind_is (register a r) (register b r) (more.registers r) (less.registers r)
 
 -- an instruction costs itself the same
-own_is : (c : Prices) (a b : Shape) (i : Instr) → SaysNoMore a b → SaysNoMore b a → own c a i ≡ own c b i
-own_is c a b (Push r) more less = ap (λ k. 1 + kind_price c k) (register_is a b r more less)
-own_is c a b (Delete r) more less = ap (λ k. 1 + kind_price c k) (register_is a b r more less)
-own_is c a b _ more less = refl
+own_is : (p : Image) (m : ℕ) (c : Prices) (a b : Shape) (i : Instr) → SaysNoMore a b → SaysNoMore b a → own p m c a i ≡ own p m c b i
+own_is p m c a b (Push r) more less = ap (λ k. 1 + kind_price c k) (register_is a b r more less)
+own_is p m c a b (Delete r) more less = ap (λ k. 1 + kind_price c k) (register_is a b r more less)
+own_is p m c a b _ more less = refl
 
 -- where the second list leads the first does
 leads : (to : ℕ) (xs ys : List Flow) → AllFollow xs ys → AmongFlows to ys → AmongFlows to xs
-leads to xs [] all among = absurd among
-leads to xs (y ∷ ys) all (inr among) = leads to xs ys all.1 among
-leads to xs (y ∷ ys) all (inl here) = go xs all.0
+leads to xs ys all among = by_flow to (λ zs. AllFollow xs zs → AmongFlows to xs) (λ y zs here each. go y here xs each.0) (λ y zs rest each. rest each.1) ys among all
   where
-    go : (xs : List Flow) → Follows xs y → AmongFlows to xs
-    go [] h = absurd h
-    go (x ∷ xs) (inl same) = inl (same.0 ∙ here)
-    go (x ∷ xs) (inr later) = inr (go xs later)
+    go : (y : Flow) → y.0 ≡ to → (xs : List Flow) → Follows xs y → AmongFlows to xs
+    go y here [] h = absurd h
+    go y here (x ∷ xs) (inl same) = inl (same.0 ∙ here)
+    go y here (x ∷ xs) (inr later) = inr (go y here xs later)
 
 module _ (p : Image) (t d : Typing) (c : Prices) (m : ℕ) (typed : IsTyped p d) (covered : IsCovered p t d) where
   -- there the rule applies
@@ -77,11 +76,11 @@ module _ (p : Image) (t d : Typing) (c : Prices) (m : ℕ) (typed : IsTyped p d)
   costs_there r place k (outside far) = outside far
   costs_there r place k (ends {sh = sh} {i = i} inside at l) =
       let w = covered.each m place sh i at in
-      subst (λ x. Costs p d c m r place x) (own_is c w.0 sh i w.2 w.3) (ends inside w.1 l)
+      subst (λ x. Costs p d c m r place x) (own_is p m c w.0 sh i w.2 w.3) (ends inside w.1 l)
   costs_there r place k (goes {to = to} {n = n} {sh = sh} {i = i} inside at l plain among rest) =
       let w = covered.each m place sh i at in
       let onward = goes inside w.1 l plain (among_there place to sh w.0 i w.1 w.2 among) (costs_there r to n rest) in
-      subst (λ x. Costs p d c m r place (x + n)) (own_is c w.0 sh i w.2 w.3) onward
+      subst (λ x. Costs p d c m r place (x + n)) (own_is p m c w.0 sh i w.2 w.3) onward
   costs_there r place k (loops {to = to} {b = b} {e = e} {out = out} inside at body round leaves rest) =
       let w = covered.each m place _ _ at in
       loops inside w.1 body (costs_there _ (suc place) b round) (out_there place to out leaves) (costs_there r out e rest)

@@ -1,5 +1,5 @@
 -- What one pass finds with each sum kept up to a limit is, up to the limit, what it finds with whole sums.
-use Rattle.std.proofs.Common.{◌≡◌, ◌<◌, ◌≤◌, ◌∙◌, ℕ, zero, suc, length, Option, Some, None, inl, ⊎_elim, refl, sym, ap, arith, subst}
+use Rattle.std.proofs.Common.{◌≡◌, ◌<◌, ◌≤◌, ◌∙◌, ℕ, zero, suc, length, Some, None, inl, ⊎_elim, refl, sym, ap, arith, subst}
 use Rattle.aom_image.proofs.Given.{some_given}
 use Rattle.std.specs.Prelude.{IsSome, max, min}
 use Rattle.std.proofs.lemmas.Bool.{cases_lt}
@@ -7,7 +7,6 @@ use Rattle.aom_image.specs.Image.{Image}
 use Rattle.aom_image.specs.Views.{instr_at, method_at}
 use Rattle.aom_instructions.specs.declared.instr.Instr.{Instr}
 use Rattle.aom_instructions.specs.declared.instr.Instr.TheVariants.{Loop, Next}
-use Rattle.aom_image.specs.declared.method.Method.{Method}
 use Rattle.aom_classes.proofs.Bodies.{linked_is_looped}
 use Rattle.aom_classes.specs.Bodies.{Body, IsLooped}
 use Rattle.aom_classes.specs.Loops.{loop_in, next_in}
@@ -28,6 +27,7 @@ use Rattle.aom_prices.proofs.Methods.{destructor_within, method_is_some, method_
 use Rattle.aom_prices.proofs.Regions.{by_kind, ends_after, innermost}
 use Rattle.aom_prices.proofs.Related.{destructor_related, most_related, own_related}
 use Rattle.aom_prices.proofs.Ways.{IsReached, JumpsForward}
+use Rattle.aom_prices.proofs.Among.{each_below}
 
 -- what follows a loop is no more, up to the limit, than what the other table says
 follow_below : (limit : ℕ) (p : Image) (t : Typing) (c e : Prices) (a b : Afters) (m from to : ℕ) (r : Region) → IsAfter p t c a m from to r → IsAfter p t e b m from to r →
@@ -43,10 +43,10 @@ module _
     (c e : Prices) (a b : Afters) (capped : IsSweptUpTo limit p t c a) (whole : IsSwept p t e b) where
   module _ (m : ℕ) (before : (k : ℕ) → k < m → Alike limit (price c k) (price e k)) where
     -- what an instruction costs itself
-    own_alike : (sh : Shape) (i : Instr) → ((k : ℕ) → paid_method p sh i ≡ Some k → k < m) → Alike limit (own c sh i) (own e sh i)
+    own_alike : (sh : Shape) (i : Instr) → ((k : ℕ) → paid_method p m sh i ≡ Some k → k < m) → Alike limit (own p m c sh i) (own p m e sh i)
     own_alike sh i below =
         own_related (λ x y. Alike limit x y) refl p c e (λ x y same. alike_plus limit 1 1 x y refl same)
-        (λ x same. omega (arith, capped.classes x, whole.classes x, same)) sh i (λ k paid. before k (below k paid))
+        (λ x same. omega (arith, capped.classes x, whole.classes x, same)) m sh i (λ k paid. before k (below k paid))
 
     -- ---- a place
 
@@ -99,7 +99,7 @@ module _
               let most = alike_max limit (after a m region.0) (after b m region.0)
               (most_within c m region.0 (flows p m k sh i)) (most_within e m region.0 (flows p m k sh i))
               (region_alike region.0 region.1) on in
-              let sums = alike_plus limit (own c sh i) (own e sh i)
+              let sums = alike_plus limit (own p m c sh i) (own p m e sh i)
               (max (after a m region.0) (most_within c m region.0 (flows p m k sh i)))
               (max (after b m region.0) (most_within e m region.0 (flows p m k sh i))) owned most in
               ap (λ x. min limit x) one ∙ (alike_kept limit _ ∙ (sums ∙ ap (λ x. min limit x) (sym other)))
@@ -159,14 +159,8 @@ module _
       let begins = typed.entry m some in
       (agrees_from m before (length d.code) (in_code p m d here)).from 0 (omega arith) (begins.0, begins.1))
 
-  all_alike : (n : ℕ) → n ≤ length p.methods → (k : ℕ) → k < n → Alike limit (price c k) (price e k)
-  all_alike zero le k lt = absurd (omega (arith, lt))
-  all_alike (suc n) le k lt = ⊎_elim
-      (λ (below : k < n). all_alike n (omega (arith, le)) k below)
-      (λ (ge : n ≤ k).
-      let same : n ≡ k = omega (arith, ge, lt) in
-      subst (λ x. Alike limit (price c x) (price e x)) same (method_alike n (method_is_some p n (omega (arith, le))) (λ j below. all_alike n (omega (arith, le)) j below)))
-      (cases_lt k n)
+  all_alike : (k : ℕ) → k < length p.methods → Alike limit (price c k) (price e k)
+  all_alike = each_below (λ j. Alike limit (price c j) (price e j)) (length p.methods) (λ j lt before. method_alike j (method_is_some p j lt) before)
 
   -- ---- a kept number is no more than the limit
 
@@ -224,4 +218,4 @@ law_up_to limit p t c a formed linked typed layered capped = record {
     exact = found_prices p t formed linked typed layered
 
     alike : (m : ℕ) → m < length p.methods → Alike limit (price c m) (price exact.prices m)
-    alike m lt = all_alike limit p t looped typed layered forward c exact.prices a exact.afters capped exact.swept (length p.methods) (omega arith) m lt
+    alike m lt = all_alike limit p t looped typed layered forward c exact.prices a exact.afters capped exact.swept m lt

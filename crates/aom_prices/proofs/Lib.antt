@@ -1,3 +1,4 @@
+pub mod Among
 pub mod Ways
 pub mod Regions
 pub mod At

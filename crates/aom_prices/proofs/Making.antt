@@ -1,7 +1,7 @@
 -- There is a table of prices: each method's is made from its last place down, and the image's by method.
 use Rattle.std.proofs.lemmas.Option.{same_Some}
 use Rattle.std.proofs.Common.{◌≡◌, ◌<◌, ◌≤◌, ◌+◌, ◌-◌, ◌*◌, ◌∙◌, ℕ, zero, suc, Bool, true, false, cond, length, Option, Some, None, inl, inr, ⊎_elim, refl, sym, ap, arith, subst}
-use Rattle.std.specs.Prelude.{◌≢◌, ◌==◌, ◌&&◌, IsSome, max}
+use Rattle.std.specs.Prelude.{◌≢◌, ◌==◌, ◌⊎◌, ◌&&◌, IsSome, max}
 use Rattle.std.proofs.lemmas.Bool.{cases_lt, eq-eqb, ne_eqb}
 use Rattle.aom_image.specs.Image.{Image}
 use Rattle.aom_image.specs.Views.{instr_at, instr_in, method_at}
@@ -29,9 +29,13 @@ use Rattle.aom_prices.proofs.Adding.{in_code, jumps_forward, law_is_price, way_f
 use Rattle.aom_prices.proofs.Methods.{method_within}
 use Rattle.aom_prices.proofs.Moving.{AreSameFrom, most_same, own_same, swept_same}
 use Rattle.aom_prices.proofs.Places.{loop_there, next_there, nothing_there, pays_after, plain_there}
-use Rattle.aom_prices.proofs.Outs.{body_out, exit_met, exit_most}
+use Rattle.aom_prices.proofs.Outs.{body_out, exit_most}
 use Rattle.aom_prices.proofs.Paying.{law_pays}
 use Rattle.aom_prices.proofs.Regions.{by_kind, innermost, innermost_of_body, one_end, one_innermost}
+use Rattle.aom_prices.proofs.Among.{below_next, either_max}
+use Rattle.aom_image.proofs.Given.{none_given, some_given}
+use Rattle.aom_prices.specs.Costs.{GoesOut}
+use Rattle.aom_prices.proofs.Outs.{exit_one}
 
 -- ---- numbers by method and place
 
@@ -159,7 +163,7 @@ module _ (p : Image) (t : Typing) (looped : IsLooped p) (typed : IsTyped p t) (l
         no_shape sh some = let clash : None ≡ Some sh = sym none ∙ some in cc
 
     found_there : Shape → Instr → Region → ℕ
-    found_there sh i r = own old sh i + max (after w.after m r) (most_within old m r (flows p m k sh i))
+    found_there sh i r = own p m old sh i + max (after w.after m r) (most_within old m r (flows p m k sh i))
 
     at_plain : (i : Instr) → instr_at p m k ≡ Some i → loop_in (Some i) ≡ None → next_in (Some i) ≡ None → (sh : Shape) → shape_at t m k ≡ Some sh → Made p t m k
     unfolding found_there
@@ -174,12 +178,12 @@ module _ (p : Image) (t : Typing) (looped : IsLooped p) (typed : IsTyped p t) (l
         table : Prices
         table = new v 0 w.after kept_others kept_loops
 
-        found : (s : Shape) (r : Region) → Stands p t m k s i → IsInnermost p m k r → table.from m k ≡ own table s i + max (after w.after m r) (most_within table m r (flows p m k s i))
+        found : (s : Shape) (r : Region) → Stands p t m k s i → IsInnermost p m k r → table.from m k ≡ own p m table s i + max (after w.after m r) (most_within table m r (flows p m k s i))
         found s r at inner =
             let one = same_Some sh s (sym shape ∙ at.shape) in
             let place = one_innermost p looped m k region.0 r region.1 inner in
             let same : v ≡ found_there s i r = ap (λ x. found_there x i region.0) one ∙ ap (λ x. found_there s i x) place in
-            let owned = own_same (λ n. n) p old table (classes_of p w.from w.round) (classes_of p (set w.from m k v) (set w.round m k 0)) s i
+            let owned = own_same (λ n. n) p old table (classes_of p w.from w.round) (classes_of p (set w.from m k v) (set w.round m k 0)) m s i
             (λ j paid. set_method w.from m k v j 0 (not_below j m (layered.each m k j s i at paid))) in
             let on = most_same p old table m r (flows p m k s i) (λ to among. set_place w.from m k v m to (not_same k to (way_forward p t m (forward m) k to s i at n among))) in
             omega (arith, set_here w.from m k v, same, owned, on)
@@ -204,16 +208,11 @@ module _ (p : Image) (t : Typing) (looped : IsLooped p) (typed : IsTyped p t) (l
             let rounds : (n - 1) * table.round m k ≡ (n - 1) * u = ap (λ x. (n - 1) * x) (set_here w.round m k u) in
             omega (arith, set_here w.from m k v, rounds, on)
 
-        some_shape : (o : Option Shape) → IsSome o → (sh : Shape) × (o ≡ Some sh)
-        some_shape None e = absurd cc
-        some_shape (Some sh) e = (sh, refl)
-
         round : IsSome (shape_at t m (suc k)) → table.from m (suc k) ≡ table.round m k + w.after m k
-        round reached =
+        round reached = some_given (λ o. IsSome o) (shape_at t m (suc k)) reached (λ s. cc) (λ sh shape s.
             let begins = looped.begins m k d n there in
-            let sh = some_shape (shape_at t m (suc k)) reached in
-            let paid = pays_after (λ n. n) p t looped typed old w.after m (suc k) (Round k begins.1) (λ x le. le) w.here (sh.0, sh.1) (innermost_of_body p looped m k begins.1 d n begins.2) in
-            omega (arith, on, set_here w.round m k u, paid)
+            let paid = pays_after (λ n. n) p t looped typed old w.after m (suc k) (Round k begins.1) (λ x le. le) w.here (sh, shape) (innermost_of_body p looped m k begins.1 d n begins.2) in
+            omega (arith, on, set_here w.round m k u, paid))
 
     module _ (d from n : ℕ) (there : instr_at p m k ≡ Some (Next d (suc from))) (body : Body p m from k d n) where
       region : (r : Region) × IsInnermost p m from r
@@ -260,13 +259,14 @@ module _ (p : Image) (t : Typing) (looped : IsLooped p) (typed : IsTyped p t) (l
           record {
             around = omega (arith, followed, around, same);
             out = λ to g. omega (arith, followed, on to g.outside, exit_most p t m from k (w.from m) to g);
-            met = ⊎_elim
-                (λ (lt : after w.after m region.0 < body_out p t m from k (w.from m) (suc k)).
-                let exit = exit_met p t m from k (w.from m) (omega (arith, lt)) in
-                inr (exit.0, exit.1, omega (arith, on exit.0 exit.1.outside, exit.2, followed, lt)))
-                (λ (ge : body_out p t m from k (w.from m) (suc k) ≤ after w.after m region.0). inl (omega (arith, followed, around, same, ge)))
-                (cases_lt (after w.after m region.0) (body_out p t m from k (w.from m) (suc k)));
+            met = either_max Met (after w.after m region.0) (body_out p t m from k (w.from m) (suc k))
+                (λ is. inl (omega (arith, is, around, same)))
+                (exit_one p t m from k (w.from m) Met (λ is. inl (omega (arith, is, followed, around, same))) (λ to g is. inr (to, g, omega (arith, on to g.outside, is))))
+                followed;
           }
+        where
+          Met : ℕ → Type 0
+          Met n = afters m from ≡ n → (afters m from ≡ after afters m r) ⊎ ((to : ℕ) × GoesOut p t m from k to × (table.from m to ≡ afters m from))
 
       at_next : Made p t m k
       at_next = lower (1 + follow) 0 afters next_others next_loops (next_there (λ n. n) p t table afters m k d from there (omega (arith, set_here w.from m k (1 + follow), followed)) is_after)
@@ -315,13 +315,12 @@ module _ (p : Image) (t : Typing) (looped : IsLooped p) (typed : IsTyped p t) (l
         here = λ place le. nothing_there (λ n. n) p t (prices_of p b.from b.round) b.after m place (none place le);
       })
 
-      past : (d : Method) → method_at p m ≡ Some d → (place : ℕ) → length d.code ≤ place → (o : Option Instr) → instr_at p m place ≡ o → o ≡ None
-      past d e place le None at = refl
-      past d e place le (Some i) at = absurd (omega (arith, le, in_code p m d e place i at))
+      past : (d : Method) → method_at p m ≡ Some d → (place : ℕ) → length d.code ≤ place → instr_at p m place ≡ None
+      past d e place le = none_given (λ o. instr_at p m place ≡ o) (instr_at p m place) refl (λ i at. omega (arith, le, in_code p m d e place i at)) (λ none at. none)
 
       go : (o : Option Method) → method_at p m ≡ o → Made p t m 0
       go None e = begin 0 (λ place le. no_method p m place e)
-      go (Some d) e = begin (length d.code) (λ place le. past d e place le (instr_at p m place) refl)
+      go (Some d) e = begin (length d.code) (λ place le. past d e place le)
 
   all_below : (m : ℕ) → Below p t m
   all_below zero = record { from = λ m x. 0; round = λ m x. 0; after = λ m x. 0; before = λ k place lt. absurd (omega (arith, lt)) }
@@ -331,10 +330,7 @@ module _ (p : Image) (t : Typing) (looped : IsLooped p) (typed : IsTyped p t) (l
         from = w.from;
         round = w.round;
         after = w.after;
-        before = λ k place lt. ⊎_elim
-            (λ (below : k < m). w.before k place below)
-            (λ (ge : m ≤ k). let same : m ≡ k = omega (arith, ge, lt) in subst (λ x. IsSweptAt (λ n. n) p t (prices_of p w.from w.round) w.after x place) same (w.here place (omega arith)))
-            (cases_lt k m);
+        before = λ k place lt. below_next (λ x. IsSweptAt (λ n. n) p t (prices_of p w.from w.round) w.after x place) m (λ j less. w.before j place less) (w.here place (omega arith)) k lt;
       }
 
 -- ---- the law

@@ -28,7 +28,7 @@ pub own_same :
     (keep : ℕ → ℕ) (p : Image) (c c' : Prices) →
     ((x : Thing) → c.destruction x ≡ keep (1 + destructor_price c (destructor_of p x))) →
     ((x : Thing) → c'.destruction x ≡ keep (1 + destructor_price c' (destructor_of p x))) →
-    (sh : Shape) (i : Instr) → ((k : ℕ) → paid_method p sh i ≡ Some k → price c' k ≡ price c k) → own c' sh i ≡ own c sh i
+    (m : ℕ) (sh : Shape) (i : Instr) → ((k : ℕ) → paid_method p m sh i ≡ Some k → price c' k ≡ price c k) → own p m c' sh i ≡ own p m c sh i
 own_same keep p c c' classes classes' =
     own_related (λ x y. x ≡ y) refl p c' c (λ x y e. ap (λ n. 1 + n) e) (λ x e. classes' x ∙ (ap (λ n. keep (1 + n)) e ∙ sym (classes x)))
 
@@ -56,10 +56,10 @@ module _
   after_same (Round f e) k later w = same.after f e w.body.0 w.body.1 (omega (arith, later, w.inside.1)) w.body.2
 
   plain_same : IsSweptAt keep p t c a m place → (sh : Shape) (i : Instr) (r : Region) → Stands p t m place sh i → loop_in (Some i) ≡ None → next_in (Some i) ≡ None → IsInnermost p m place r →
-      c'.from m place ≡ keep (own c' sh i + max (after a' m r) (most_within c' m r (flows p m place sh i)))
+      c'.from m place ≡ keep (own p m c' sh i + max (after a' m r) (most_within c' m r (flows p m place sh i)))
   plain_same swept sh i r at l n w =
       let here = same.from place (omega arith) in
-      let owned = own_same keep p c c' classes classes' sh i (λ k paid. same.before k (layered.each m place k sh i at paid)) in
+      let owned = own_same keep p c c' classes classes' m sh i (λ k paid. same.before k (layered.each m place k sh i at paid)) in
       let follows = after_same r place (omega arith) w in
       let on = most_same p c c' m r (flows p m place sh i) (λ to among. same.from to (let lt = way_forward p t m forward place to sh i at n among in omega (arith, lt))) in
       here ∙ (swept.plain sh i r at l n w ∙ ap keep (omega (arith, owned, follows, on)))

@@ -1,6 +1,6 @@
 -- What the paths from a place cost, by the instruction that stands there.
 use Rattle.std.proofs.lemmas.Option.{same_Some}
-use Rattle.std.proofs.Common.{◌≡◌, ◌+◌, ◌*◌, ◌∙◌, ℕ, suc, Some, None, inl, inr, refl, sym, ap, subst}
+use Rattle.std.proofs.Common.{⊎_elim, ◌≡◌, ◌+◌, ◌*◌, ◌∙◌, ℕ, suc, Some, None, inl, inr, refl, sym, subst}
 use Rattle.std.specs.Prelude.{◌⊎◌}
 use Rattle.aom_image.specs.Image.{Image}
 use Rattle.aom_instructions.specs.declared.instr.Instr.{Instr}
@@ -13,31 +13,12 @@ use Rattle.aom_rules.specs.Typing.{Typing}
 use Rattle.aom_prices.specs.Prices.{Prices, Stands, own}
 use Rattle.aom_prices.specs.Costs.{AmongFlows, Costs, GoesOut, Inside, Region, Round}
 use Rattle.aom_prices.specs.Costs.Costs.{outside, ends, goes, loops, loops_in}
-use Rattle.aom_prices.proofs.Regions.{no_loop_here}
 
 module _ (p : Image) (t : Typing) (c : Prices) (m : ℕ) where
-  -- a path from a place outside costs nothing
-  pub outside_cost : (r : Region) (place k : ℕ) → Costs p t c m r place k → (Inside r place → ⊥) → k ≡ 0
-  outside_cost r place k (outside out) far = refl
-  outside_cost r place k (ends inside it l) far = absurd (far inside)
-  outside_cost r place k (goes inside it l n among rest) far = absurd (far inside)
-  outside_cost r place k (loops inside it body round out rest) far = absurd (far inside)
-  outside_cost r place k (loops_in inside it body round) far = absurd (far inside)
-
-  same_shape : (place : ℕ) (sh sh' : Shape) (i i' : Instr) → Stands p t m place sh i → Stands p t m place sh' i' → sh ≡ sh'
-  same_shape place sh sh' i i' a b = same_Some sh sh' (sym a.shape ∙ b.shape)
-
   pub same_instr : (place : ℕ) (sh sh' : Shape) (i i' : Instr) → Stands p t m place sh i → Stands p t m place sh' i' → i ≡ i'
   same_instr place sh sh' i i' a b = same_Some i i' (sym a.instr ∙ b.instr)
 
-  own_same : (place : ℕ) (sh sh' : Shape) (i i' : Instr) → Stands p t m place sh i → Stands p t m place sh' i' → own c sh i ≡ own c sh' i'
-  own_same place sh sh' i i' a b = ap (λ s. own c s i) (same_shape place sh sh' i i' a b) ∙ ap (λ j. own c sh' j) (same_instr place sh sh' i i' a b)
-
-  among_same : (place to : ℕ) (sh sh' : Shape) (i i' : Instr) → Stands p t m place sh i → Stands p t m place sh' i' → AmongFlows to (flows p m place sh i) → AmongFlows to (flows p m place sh' i')
-  among_same place to sh sh' i i' a b among =
-      subst (λ j. AmongFlows to (flows p m place sh' j)) (same_instr place sh sh' i i' a b) (subst (λ s. AmongFlows to (flows p m place s i)) (same_shape place sh sh' i i' a b) among)
-
-  -- ---- from an instruction that begins no loop
+  -- ---- what a path does first
 
   -- the path goes on
   pub record GoesOn (r : Region) (place k : ℕ) (sh : Shape) (i : Instr) : Type 0 where
@@ -46,27 +27,9 @@ module _ (p : Image) (t : Typing) (c : Prices) (m : ℕ) where
     pub among : AmongFlows to (flows p m place sh i)
     pub plain : next_in (Some i) ≡ None
     pub path : Costs p t c m r to rest
-    pub is : k ≡ own c sh i + rest
+    pub is : k ≡ own p m c sh i + rest
 
-  pub ends_or_goes :
-      (r : Region) (place k : ℕ) → Costs p t c m r place k → (sh : Shape) (i : Instr) → Stands p t m place sh i → loop_in (Some i) ≡ None → Inside r place →
-      (k ≡ own c sh i) ⊎ GoesOn r place k sh i
-  ends_or_goes r place k (outside far) sh i at none inside = absurd (far inside)
-  ends_or_goes r place k (ends {sh = sh'} {i = i'} in_r it l) sh i at none inside = inl (own_same place sh' sh i' i it at)
-  ends_or_goes r place k (goes {to = to} {n = n} {sh = sh'} {i = i'} in_r it l plain among rest) sh i at none inside = inr (record {
-    to = to;
-    rest = n;
-    among = among_same place to sh' sh i' i it at among;
-    plain = subst (λ j. next_in (Some j) ≡ None) (same_instr place sh' sh i' i it at) plain;
-    path = rest;
-    is = ap (λ x. x + n) (own_same place sh' sh i' i it at);
-  })
-  ends_or_goes r place k (loops {d = d} {rounds = n} {sh = sh'} in_r it body round out rest) sh i at none inside = absurd (no_loop_here i d n none (same_instr place sh sh' i (Loop d n) at it))
-  ends_or_goes r place k (loops_in {d = d} {rounds = n} {sh = sh'} in_r it body round) sh i at none inside = absurd (no_loop_here i d n none (same_instr place sh sh' i (Loop d n) at it))
-
-  -- ---- from a loop
-
-  -- all its rounds, and what follows them
+  -- all rounds of a loop, and what follows them
   pub record Rounds (r : Region) (place k d n : ℕ) : Type 0 where
     pub to : ℕ
     pub body : Body p m place to d n
@@ -74,28 +37,49 @@ module _ (p : Image) (t : Typing) (c : Prices) (m : ℕ) where
     pub path : Costs p t c m (Round place to) (suc place) round
     pub rest : (k ≡ 1 + n * round) ⊎ ((out : ℕ) × (e : ℕ) × GoesOut p t m place to out × Costs p t c m r out e × (k ≡ 1 + n * round + e))
 
-  same_loop : (place d n d' n' : ℕ) (sh sh' : Shape) → Stands p t m place sh (Loop d n) → Stands p t m place sh' (Loop d' n') → (d ≡ d') × (n ≡ n')
-  same_loop place d n d' n' sh sh' a b = go (same_instr place sh sh' (Loop d n) (Loop d' n') a b)
-    where
-      depth : Loop d n ≡ Loop d' n' → d ≡ d'
-      depth e = cc
+  -- from a loop all its rounds, and from another instruction it ends or goes on
+  abbrev Steps : Region → (place k : ℕ) → Shape → Instr → Type 0
+  Steps r place k sh (Loop d n) = Rounds r place k d n
+  Steps r place k sh i = (k ≡ own p m c sh i) ⊎ GoesOn r place k sh i
 
-      rounds : Loop d n ≡ Loop d' n' → n ≡ n'
-      rounds e = cc
+  plain_steps : (r : Region) (place k : ℕ) (sh : Shape) (i : Instr) → loop_in (Some i) ≡ None →
+      (((k ≡ own p m c sh i) ⊎ GoesOn r place k sh i) → Steps r place k sh i) × (Steps r place k sh i → (k ≡ own p m c sh i) ⊎ GoesOn r place k sh i)
+  unfolding loop_in
+  plain_steps r place k sh (Loop d n) none = cc
+  plain_steps r place k sh i none = (λ s. s, λ s. s)
 
-      go : Loop d n ≡ Loop d' n' → (d ≡ d') × (n ≡ n')
-      go e = (depth e, rounds e)
+  -- one thing alone stands there
+  stepped : (r : Region) (place k : ℕ) (sh sh' : Shape) (i i' : Instr) → Stands p t m place sh i → Stands p t m place sh' i' → Steps r place k sh i → Steps r place k sh' i'
+  stepped r place k sh sh' i i' a b s =
+      subst (λ j. Steps r place k sh' j) (same_instr place sh sh' i i' a b) (subst (λ x. Steps r place k x i) (same_Some sh sh' (sym a.shape ∙ b.shape)) s)
 
-  body_same : (place to d n d' n' : ℕ) → (d ≡ d') × (n ≡ n') → Body p m place to d n → Body p m place to d' n'
-  body_same place to d n d' n' e body = subst (λ x. Body p m place to d' x) e.1 (subst (λ x. Body p m place to x n) e.0 body)
+  -- a path begins outside, or takes a step
+  begins : (r : Region) (place k : ℕ) → Costs p t c m r place k →
+      ((Inside r place → ⊥) × (k ≡ 0)) ⊎ (Inside r place × ((sh : Shape) (i : Instr) → Stands p t m place sh i → Steps r place k sh i))
+  begins r place k (outside far) = inl (far, refl)
+  begins r place k (ends {sh = sh} {i = i} inside it none) =
+      inr (inside, λ sh' i' at. stepped r place k sh sh' i i' it at ((plain_steps r place k sh i none).0 (inl refl)))
+  begins r place k (goes {to = to} {n = n} {sh = sh} {i = i} inside it none plain among rest) =
+      let on : GoesOn r place _ sh i = record { to = to; rest = n; among = among; plain = plain; path = rest; is = refl } in
+      inr (inside, λ sh' i' at. stepped r place k sh sh' i i' it at ((plain_steps r place k sh i none).0 (inr on)))
+  begins r place k (loops {to = to} {d = d} {rounds = n} {b = b} {e = e} {out = out} {sh = sh} inside it body round goes_out rest) =
+      let all : Rounds r place _ d n = record { to = to; body = body; round = b; path = round; rest = inr (out, e, goes_out, rest, refl) } in
+      inr (inside, λ sh' i' at. stepped r place k sh sh' (Loop d n) i' it at all)
+  begins r place k (loops_in {to = to} {d = d} {rounds = n} {b = b} {sh = sh} inside it body round) =
+      let all : Rounds r place _ d n = record { to = to; body = body; round = b; path = round; rest = inl refl } in
+      inr (inside, λ sh' i' at. stepped r place k sh sh' (Loop d n) i' it at all)
+
+  -- a path from a place outside costs nothing
+  pub outside_cost : (r : Region) (place k : ℕ) → Costs p t c m r place k → (Inside r place → ⊥) → k ≡ 0
+  outside_cost r place k path far = ⊎_elim (λ out. out.1) (λ within. absurd (far within.0)) (begins r place k path)
+
+  first_step : (r : Region) (place k : ℕ) → Costs p t c m r place k → (sh : Shape) (i : Instr) → Stands p t m place sh i → Inside r place → Steps r place k sh i
+  first_step r place k path sh i at inside = ⊎_elim (λ out. absurd (out.0 inside)) (λ within. within.1 sh i at) (begins r place k path)
+
+  pub ends_or_goes :
+      (r : Region) (place k : ℕ) → Costs p t c m r place k → (sh : Shape) (i : Instr) → Stands p t m place sh i → loop_in (Some i) ≡ None → Inside r place →
+      (k ≡ own p m c sh i) ⊎ GoesOn r place k sh i
+  ends_or_goes r place k path sh i at none inside = (plain_steps r place k sh i none).1 (first_step r place k path sh i at inside)
 
   pub rounds_of : (r : Region) (place k : ℕ) → Costs p t c m r place k → (sh : Shape) (d n : ℕ) → Stands p t m place sh (Loop d n) → Inside r place → Rounds r place k d n
-  rounds_of r place k (outside far) sh d n at inside = absurd (far inside)
-  rounds_of r place k (ends {sh = sh'} {i = i'} in_r it l) sh d n at inside = absurd (no_loop_here i' d n l (same_instr place sh' sh i' (Loop d n) it at))
-  rounds_of r place k (goes {sh = sh'} {i = i'} in_r it l plain among rest) sh d n at inside = absurd (no_loop_here i' d n l (same_instr place sh' sh i' (Loop d n) it at))
-  rounds_of r place k (loops {to = to} {d = d'} {rounds = n'} {b = b} {e = e} {out = out} {sh = sh'} in_r it body round goes_out rest) sh d n at inside =
-      let same = same_loop place d' n' d n sh' sh it at in
-      record { to = to; body = body_same place to d' n' d n same body; round = b; path = round; rest = inr (out, e, goes_out, rest, ap (λ x. 1 + x * b + e) same.1) }
-  rounds_of r place k (loops_in {to = to} {d = d'} {rounds = n'} {b = b} {sh = sh'} in_r it body round) sh d n at inside =
-      let same = same_loop place d' n' d n sh' sh it at in
-      record { to = to; body = body_same place to d' n' d n same body; round = b; path = round; rest = inl (ap (λ x. 1 + x * b) same.1) }
+  rounds_of r place k path sh d n at inside = first_step r place k path sh (Loop d n) at inside

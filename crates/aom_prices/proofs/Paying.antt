@@ -14,14 +14,15 @@ use Rattle.aom_rules.specs.Rules.{flows}
 use Rattle.aom_shape.specs.Shape.{Shape}
 use Rattle.aom_rules.specs.Typing.{IsTyped, Typing}
 use Rattle.aom_prices.specs.Prices.{AllPaid, IsPriced, Prices, Stands, own, price}
-use Rattle.aom_prices.specs.Costs.{AmongFlows, Region, Round, Whole, destructor_price}
+use Rattle.aom_prices.specs.Costs.{AmongFlows, Region, destructor_price}
 use Rattle.aom_prices.specs.Laws.{SweptPays}
 use Rattle.aom_prices.specs.Sweeping.{Afters, IsInnermost, IsSwept, after, is_past}
 use Rattle.aom_prices.proofs.At.{place_of}
 use Rattle.aom_prices.proofs.Adding.{by_past, leads_on, reached_is_some, within_most}
 use Rattle.aom_prices.proofs.Regions.{by_kind, innermost}
 use Rattle.aom_prices.proofs.Ways.{IsReached}
-use Rattle.std.proofs.lemmas.Bool.{ltb-true}
+use Rattle.aom_prices.proofs.Regions.{Past, passed}
+use Rattle.aom_prices.proofs.Regions.Past.{past_end}
 
 -- each flow is paid for that costs no more than what is left
 each_paid : (c : Prices) (m pays here : ℕ) (fs : List Flow) → ((to : ℕ) → AmongFlows to fs → pays + c.from m to ≤ here) → AllPaid c m pays here fs
@@ -35,23 +36,25 @@ module _ (p : Image) (t : Typing) (c : Prices) (a : Afters) (looped : IsLooped p
   -- what a region goes out to is paid for by what follows it
   out_paid : (m place to : ℕ) (sh : Shape) (i : Instr) (r : Region) → Stands p t m place sh i → AmongFlows to (flows p m place sh i) → IsInnermost p m place r →
       is_past r to ≡ true → c.from m to ≤ after a m r
-  out_paid m place to sh i Whole at among w past = cc
-  out_paid m place to sh i (Round f e) at among w past =
-      let round_it = innermost p looped m f in
-      ((place_of (λ n. n) p t c a swept m e).afters f w.body.0 w.body.1 round_it.0 w.body.2 round_it.1).out to
-      (record { place = place; inside = w.inside; shape = sh; instr = i; stands = at; flow = among; outside = ltb-true e to past })
-
-  flows_paid : (m place : ℕ) (sh : Shape) (i : Instr) → Stands p t m place sh i → loop_in (Some i) ≡ None → next_in (Some i) ≡ None → AllPaid c m (own c sh i) (c.from m place) (flows p m place sh i)
-  flows_paid m place sh i at l n = each_paid c m (own c sh i) (c.from m place) (flows p m place sh i) paid
+  out_paid m place to sh i r at among w is = go r w (passed r to is)
     where
-      paid_in : (r : Region) → IsInnermost p m place r → (to : ℕ) → AmongFlows to (flows p m place sh i) → own c sh i + c.from m to ≤ c.from m place
+      go : (s : Region) → IsInnermost p m place s → Past to s → c.from m to ≤ after a m s
+      go _ v (past_end f e after) =
+          let round_it = innermost p looped m f in
+          ((place_of (λ n. n) p t c a swept m e).afters f v.body.0 v.body.1 round_it.0 v.body.2 round_it.1).out to
+          (record { place = place; inside = v.inside; shape = sh; instr = i; stands = at; flow = among; outside = after })
+
+  flows_paid : (m place : ℕ) (sh : Shape) (i : Instr) → Stands p t m place sh i → loop_in (Some i) ≡ None → next_in (Some i) ≡ None → AllPaid c m (own p m c sh i) (c.from m place) (flows p m place sh i)
+  flows_paid m place sh i at l n = each_paid c m (own p m c sh i) (c.from m place) (flows p m place sh i) paid
+    where
+      paid_in : (r : Region) → IsInnermost p m place r → (to : ℕ) → AmongFlows to (flows p m place sh i) → own p m c sh i + c.from m to ≤ c.from m place
       paid_in r w to among =
           let found = (place_of (λ n. n) p t c a swept m place).plain sh i r at l n w in
-          by_past (is_past r to) (own c sh i + c.from m to ≤ c.from m place)
+          by_past (is_past r to) (own p m c sh i + c.from m to ≤ c.from m place)
           (λ past. omega (arith, found, out_paid m place to sh i r at among w past))
           (λ near. omega (arith, found, within_most c m to r (flows p m place sh i) among near))
 
-      paid : (to : ℕ) → AmongFlows to (flows p m place sh i) → own c sh i + c.from m to ≤ c.from m place
+      paid : (to : ℕ) → AmongFlows to (flows p m place sh i) → own p m c sh i + c.from m to ≤ c.from m place
       paid to among = let w = innermost p looped m place in paid_in w.0 w.1 to among
 
   -- a next and its loop
@@ -84,22 +87,22 @@ module _ (p : Image) (t : Typing) (c : Prices) (a : Afters) (looped : IsLooped p
       let e = ap (λ x. c.round m x) same in
       omega (arith, round_paid m place d (suc from) sh at, e)
 
-  ends_paid : (m place : ℕ) (sh : Shape) (i : Instr) → Stands p t m place sh i → own c sh i ≤ c.from m place
-  ends_paid m place sh i at = by_kind (own c sh i ≤ c.from m place) i plain loop next
+  ends_paid : (m place : ℕ) (sh : Shape) (i : Instr) → Stands p t m place sh i → own p m c sh i ≤ c.from m place
+  ends_paid m place sh i at = by_kind (own p m c sh i ≤ c.from m place) i plain loop next
     where
-      plain : loop_in (Some i) ≡ None → next_in (Some i) ≡ None → own c sh i ≤ c.from m place
+      plain : loop_in (Some i) ≡ None → next_in (Some i) ≡ None → own p m c sh i ≤ c.from m place
       plain l n = let w = innermost p looped m place in omega (arith, (place_of (λ n. n) p t c a swept m place).plain sh i w.0 at l n w.1)
 
-      loop : (d n : ℕ) → i ≡ Loop d n → own c sh i ≤ c.from m place
+      loop : (d n : ℕ) → i ≡ Loop d n → own p m c sh i ≤ c.from m place
       loop d n e =
           let found = (place_of (λ n. n) p t c a swept m place).loops d n sh (subst (λ j. Stands p t m place sh j) e at) in
-          let one = ap (λ j. own c sh j) e in
+          let one = ap (λ j. own p m c sh j) e in
           omega (arith, found, one)
 
-      next : (d to : ℕ) → i ≡ Next d to → own c sh i ≤ c.from m place
+      next : (d to : ℕ) → i ≡ Next d to → own p m c sh i ≤ c.from m place
       next d to e =
           let paid = on_paid m place d to sh (subst (λ j. Stands p t m place sh j) e at) in
-          let one = ap (λ j. own c sh j) e in
+          let one = ap (λ j. own p m c sh j) e in
           omega (arith, paid, one)
 
   destructors_paid : (x : Thing) (m : ℕ) → destructor_of p x ≡ Some m → 1 + price c m ≤ c.destruction x

@@ -37,12 +37,12 @@ module _ (keep : ℕ → ℕ) (p : Image) (t : Typing) (c : Prices) (a : Afters)
 
   -- an instruction that neither begins a loop nor ends a round
   pub plain_there : (i : Instr) → instr_at p m place ≡ Some i → loop_in (Some i) ≡ None → next_in (Some i) ≡ None →
-      ((sh : Shape) (r : Region) → Stands p t m place sh i → IsInnermost p m place r → c.from m place ≡ keep (own c sh i + max (after a m r) (most_within c m r (flows p m place sh i)))) →
+      ((sh : Shape) (r : Region) → Stands p t m place sh i → IsInnermost p m place r → c.from m place ≡ keep (own p m c sh i + max (after a m r) (most_within c m r (flows p m place sh i)))) →
       IsSweptAt keep p t c a m place
   plain_there i there no_loop no_next found = record {
     plain = λ sh j r at l n w.
         let same = instr_same (instr_at p m place) i j there at.instr in
-        subst (λ x. c.from m place ≡ keep (own c sh x + max (after a m r) (most_within c m r (flows p m place sh x)))) same (found sh r (record { shape = at.shape; instr = there }) w);
+        subst (λ x. c.from m place ≡ keep (own p m c sh x + max (after a m r) (most_within c m r (flows p m place sh x)))) same (found sh r (record { shape = at.shape; instr = there }) w);
     loops = λ d n sh at. absurd (no_loop_here i d n no_loop (instr_same (instr_at p m place) i (Loop d n) there at.instr));
     nexts = λ d from sh at. absurd (no_next_here i d (suc from) no_next (instr_same (instr_at p m place) i (Next d (suc from)) there at.instr));
     rounds = λ to d n body reached. absurd (no_loop_here i d n no_loop (instr_same (instr_at p m place) i (Loop d n) there body.begins));

@@ -30,11 +30,6 @@ unfolding back_of
 goes_back (Next d t) to e = let same : t ≡ to = cc in (d, ap (λ x. Next d x) same)
 goes_back i to e = cc
 
-pub no_way_back : (i : Instr) (to : ℕ) → next_in (Some i) ≡ None → back_of i ≡ Some to → ⊥
-unfolding next_in back_of
-no_way_back (Next d t) to none e = cc
-no_way_back i to none e = cc
-
 -- a loop goes on at its body
 loop_way : (place d n to : ℕ) → Way place (Loop d n) to → to ≡ suc place
 unfolding jump_of back_of
@@ -50,6 +45,9 @@ pub no_next_here : (i : Instr) (d to : ℕ) → next_in (Some i) ≡ None → i 
 unfolding next_in
 no_next_here i d to none e = let clash : next_in (Some (Next d to)) ≡ None = sym (ap (λ x. next_in (Some x)) e) ∙ none in cc
 
+pub no_way_back : (i : Instr) (to : ℕ) → next_in (Some i) ≡ None → back_of i ≡ Some to → ⊥
+no_way_back i to none e = let next = goes_back i to e in no_next_here i next.0 to none next.1
+
 pub not_both : (i : Instr) (d n e to : ℕ) → i ≡ Loop d n → i ≡ Next e to → ⊥
 not_both i d n e to a b = let clash : Loop d n ≡ Next e to = sym a ∙ b in cc
 
@@ -59,9 +57,19 @@ next_is_no_loop i d to e = ap (λ x. loop_in (Some x)) e
 
 -- ---- past a region
 
+-- a place past a region is past the end of a body
+pub data Past (to : ℕ) : Region → Type 0 where
+  past_end : (from end : ℕ) → end < to → Past to (Round from end)
+
+pub passed : (r : Region) (to : ℕ) → is_past r to ≡ true → Past to r
+passed Whole to is = cc
+passed (Round from end) to is = past_end from end (ltb-true end to is)
+
 pub past_is_outside : (r : Region) (to : ℕ) → is_past r to ≡ true → Inside r to → ⊥
-past_is_outside Whole to past inside = cc
-past_is_outside (Round from end) to past inside = omega (arith, ltb-true end to past, inside.1)
+past_is_outside r to is = go r (passed r to is)
+  where
+    go : (r : Region) → Past to r → Inside r to → ⊥
+    go _ (past_end from end after) inside = omega (arith, after, inside.1)
 
 pub here_is_inside : (r : Region) (place to : ℕ) → Inside r place → place < to → is_past r to ≡ false → Inside r to
 here_is_inside Whole place to inside later past = tt
@@ -133,27 +141,35 @@ module _ (p : Image) (looped : IsLooped p) (m : ℕ) where
     others = λ f e k l other inside. omega (arith, inside.0);
   }
 
+  -- a region in which a loop begins, or which begins after one, is a body
+  data Begun (from : ℕ) : Region → Type 0 where
+    begun : (first to : ℕ) → from ≤ first → Begun from (Round first to)
+
+  begun_there : (from : ℕ) (r : Region) → BeginsBefore from r → Begun from r
+  begun_there from Whole before = absurd before
+  begun_there from (Round first to) before = begun first to before
+
   -- that of a next's loop, at the next
   pub innermost_of_next : (place d from n : ℕ) (r : Region) → instr_at p m place ≡ Some (Next d (suc from)) → Body p m from place d n → IsInnermost p m place r → (end : ℕ) × (r ≡ Round from end)
-  innermost_of_next place d from n r at body w = go r w (w.others from place d n body (body.later, omega arith))
+  innermost_of_next place d from n r at body w = go r w (begun_there from r (w.others from place d n body (body.later, omega arith)))
     where
-      go : (s : Region) → IsInnermost p m place s → BeginsBefore from s → (end : ℕ) × (s ≡ Round from end)
-      go Whole v before = absurd before
-      go (Round f e) v before =
+      go : (s : Region) → IsInnermost p m place s → Begun from s → (end : ℕ) × (s ≡ Round from end)
+      go _ v (begun f e before) =
           let ends = nested from place d n f e v.body.0 v.body.1 body v.body.2 before v.inside.0 in
           (e, ap (λ x. Round x e) (first_same place e d v.body.0 from f at v.body.2.ends (omega (arith, ends, v.inside.1))))
 
   -- there is no other
-  pub one_innermost : (place : ℕ) (r s : Region) → IsInnermost p m place r → IsInnermost p m place s → r ≡ s
-  one_innermost place Whole Whole v w = refl
-  one_innermost place Whole (Round f e) v w = absurd (v.others f e w.body.0 w.body.1 w.body.2 w.inside)
-  one_innermost place (Round f e) Whole v w = absurd (w.others f e v.body.0 v.body.1 v.body.2 v.inside)
-  one_innermost place (Round f e) (Round g k) v w =
+  same_round : (place f e : ℕ) (s : Region) → IsInnermost p m place (Round f e) → IsInnermost p m place s → Begun f s → s ≡ Round f e
+  same_round place f e _ v w (begun g k above) =
       let below = v.others g k w.body.0 w.body.1 w.body.2 w.inside in
-      let above = w.others f e v.body.0 v.body.1 v.body.2 v.inside in
       let same : g ≡ f = omega (arith, below, above) in
       let end = one_end f e k v.body.0 v.body.1 w.body.0 w.body.1 v.body.2 (subst (λ x. Body p m x k w.body.0 w.body.1) same w.body.2) in
-      ap (λ x. Round f x) (sym end) ∙ ap (λ x. Round x k) (sym same)
+      ap (λ x. Round x k) same ∙ ap (λ x. Round f x) end
+
+  pub one_innermost : (place : ℕ) (r s : Region) → IsInnermost p m place r → IsInnermost p m place s → r ≡ s
+  one_innermost place Whole Whole v w = refl
+  one_innermost place (Round f e) s v w = sym (same_round place f e s v w (begun_there f s (w.others f e v.body.0 v.body.1 v.body.2 v.inside)))
+  one_innermost place r (Round f e) v w = same_round place f e r w v (begun_there f r (v.others f e w.body.0 w.body.1 w.body.2 w.inside))
 
   -- and it stays the same along a path that stays in it
   pub innermost_on : (place to : ℕ) (i : Instr) (r : Region) → instr_at p m place ≡ Some i → loop_in (Some i) ≡ None → Way place i to → IsInnermost p m place r → Inside r to → IsInnermost p m to r
@@ -198,7 +214,7 @@ module _ (p : Image) (looped : IsLooped p) (m : ℕ) where
     }
 
     -- what a body goes out to past the end of the body round it, that one goes out to as well
-    pub out_of_both : (from to d n out f e : ℕ) → Body p m from to d n → GoesOut p t m from to out → IsInnermost p m from (Round f e) → is_past (Round f e) out ≡ true → GoesOut p t m f e out
+    pub out_of_both : (from to d n out f e : ℕ) → Body p m from to d n → GoesOut p t m from to out → IsInnermost p m from (Round f e) → e < out → GoesOut p t m f e out
     out_of_both from to d n out f e body g w past =
         let ends = ends_before f e w.body.0 w.body.1 from to d n w.body.2 body w.inside in
         record {
@@ -208,7 +224,7 @@ module _ (p : Image) (looped : IsLooped p) (m : ℕ) where
           instr = g.instr;
           stands = g.stands;
           flow = g.flow;
-          outside = ltb-true e out past;
+          outside = past;
         }
 
   -- ---- there is an innermost body

@@ -2,8 +2,9 @@
 use Rattle.std.proofs.Common.{◌≡◌, ◌+◌, ℕ, Bool, true, false, cond, List, [], ◌∷◌, Option, Some, None, inl, inr, refl}
 use Rattle.std.specs.Prelude.{max}
 use Rattle.aom_image.specs.Image.{Image}
+use Rattle.aom_image.specs.Views.{method_class}
 use Rattle.aom_instructions.specs.declared.instr.Instr.{Instr}
-use Rattle.aom_instructions.specs.declared.instr.Instr.TheVariants.{Call, Delete, Push, PushOperation, Trap}
+use Rattle.aom_instructions.specs.declared.instr.Instr.TheVariants.{Call, Cancel, Delete, Push, PushOperation, Trap}
 use Rattle.aom_image.specs.declared.method.Thing.{Thing}
 use Rattle.aom_classes.specs.Roles.{destructor_of}
 use Rattle.aom_shape.specs.Kinds.{register}
@@ -11,7 +12,7 @@ use Rattle.aom_shape.specs.Needs.{Flow}
 use Rattle.aom_shape.specs.Shape.{Shape}
 use Rattle.aom_shape.specs.declared.kind.Kind.{Kind}
 use Rattle.aom_shape.specs.declared.kind.Kind.TheVariants.{Maybe, Null, Own, Unset, Word}
-use Rattle.aom_prices.specs.Prices.{Prices, kind_price, own, price}
+use Rattle.aom_prices.specs.Prices.{Prices, cancel_of, kind_price, own, perhaps_price, price}
 use Rattle.aom_prices.specs.Costs.{AmongFlows, Region, destructor_price}
 use Rattle.aom_prices.specs.Layers.{kind_destructor, paid_method}
 use Rattle.aom_prices.specs.Sweeping.{is_past, most_within}
@@ -34,14 +35,19 @@ module _ (R : ℕ → ℕ → Type 0) (none : R 0 0) (p : Image) (c d : Prices) 
     kind_related (Own x g) h = thing_related x h
     kind_related (Maybe x g) h = thing_related x h
 
+    perhaps_related : (o : Option ℕ) → ((k : ℕ) → o ≡ Some k → R (price c k) (price d k)) → R (perhaps_price c o) (perhaps_price d o)
+    perhaps_related None h = none
+    perhaps_related (Some k) h = h k refl
+
     -- what an instruction costs itself
-    pub own_related : (sh : Shape) (i : Instr) → ((k : ℕ) → paid_method p sh i ≡ Some k → R (price c k) (price d k)) → R (own c sh i) (own d sh i)
-    own_related sh (Call target k first x) h = more (price c k) (price d k) (h k refl)
-    own_related sh (Trap target k first x) h = more (price c k) (price d k) (h k refl)
-    own_related sh (Push r) h = more (kind_price c (register sh r)) (kind_price d (register sh r)) (kind_related (register sh r) h)
-    own_related sh (Delete r) h = more (kind_price c (register sh r)) (kind_price d (register sh r)) (kind_related (register sh r) h)
-    own_related sh (PushOperation r k) h = more (price c k) (price d k) (h k refl)
-    own_related sh i h = more 0 0 none
+    pub own_related : (m : ℕ) (sh : Shape) (i : Instr) → ((k : ℕ) → paid_method p m sh i ≡ Some k → R (price c k) (price d k)) → R (own p m c sh i) (own p m d sh i)
+    own_related m sh (Call target k first x) h = more (price c k) (price d k) (h k refl)
+    own_related m sh (Trap target k first x) h = more (price c k) (price d k) (h k refl)
+    own_related m sh (Push r) h = more (kind_price c (register sh r)) (kind_price d (register sh r)) (kind_related (register sh r) h)
+    own_related m sh (Delete r) h = more (kind_price c (register sh r)) (kind_price d (register sh r)) (kind_related (register sh r) h)
+    own_related m sh (PushOperation r k) h = more (price c k) (price d k) (h k refl)
+    own_related m sh Cancel h = more (perhaps_price c (cancel_of p (method_class p m))) (perhaps_price d (cancel_of p (method_class p m))) (perhaps_related (cancel_of p (method_class p m)) h)
+    own_related m sh i h = more 0 0 none
 
   -- the most over flows, where maxima are related
   module _ (maxima : (x y z w : ℕ) → R x y → R z w → R (max x z) (max y w)) (m : ℕ) (r : Region) where

@@ -1,7 +1,6 @@
 -- Two tables that say the prices say the same: method by method each path costs the same by both.
-use Rattle.std.proofs.Common.{◌≡◌, ◌<◌, ◌≤◌, ◌+◌, ℕ, zero, suc, length, ⊎_elim, refl, sym, arith, subst}
+use Rattle.std.proofs.Common.{◌≡◌, ◌<◌, ◌+◌, ℕ, suc, length, refl, sym, arith, subst}
 use Rattle.std.specs.Prelude.{IsSome}
-use Rattle.std.proofs.lemmas.Bool.{cases_lt}
 use Rattle.aom_image.specs.Image.{Image}
 use Rattle.aom_image.specs.Views.{method_at}
 use Rattle.aom_instructions.specs.declared.instr.Instr.{Instr}
@@ -16,9 +15,10 @@ use Rattle.aom_prices.specs.Layers.{PaysBefore}
 use Rattle.aom_prices.proofs.Methods.{destructor_within, method_is_some, method_there}
 use Rattle.aom_prices.proofs.Moving.{own_same}
 use Rattle.aom_prices.proofs.Related.{destructor_related}
+use Rattle.aom_prices.proofs.Among.{each_below}
 
 -- a path costs the same by a table that says the same of each instruction
-module _ (p : Image) (t : Typing) (c d : Prices) (m : ℕ) (same : (place : ℕ) (sh : Shape) (i : Instr) → Stands p t m place sh i → own c sh i ≡ own d sh i) where
+module _ (p : Image) (t : Typing) (c d : Prices) (m : ℕ) (same : (place : ℕ) (sh : Shape) (i : Instr) → Stands p t m place sh i → own p m c sh i ≡ own p m d sh i) where
   costs_same : (r : Region) (place k : ℕ) → Costs p t c m r place k → Costs p t d m r place k
   costs_same r place k (outside far) = outside far
   costs_same r place k (ends {sh = sh} {i = i} inside at l) = subst (λ x. Costs p t d m r place x) (sym (same place sh i at)) (ends inside at l)
@@ -37,20 +37,11 @@ module _ (p : Image) (t : Typing) (c d : Prices) (layered : PaysBefore p t) (are
       let down = one.most (price d m) (costs_same p t d c m owned Whole 0 (price d m) other.met) in
       omega (arith, up, down)
     where
-      owned : (place : ℕ) (sh : Shape) (i : Instr) → Stands p t m place sh i → own d sh i ≡ own c sh i
-      owned place sh i at = own_same (λ n. n) p c d are.classes also.classes sh i (λ k paid. before k (layered.each m place k sh i at paid))
-
-  all_same : (n : ℕ) → n ≤ length p.methods → (k : ℕ) → k < n → price d k ≡ price c k
-  all_same zero le k lt = absurd (omega (arith, lt))
-  all_same (suc n) le k lt = ⊎_elim
-      (λ (below : k < n). all_same n (omega (arith, le)) k below)
-      (λ (ge : n ≤ k).
-      let one : n ≡ k = omega (arith, ge, lt) in
-      subst (λ x. price d x ≡ price c x) one (method_same n (method_is_some p n (omega (arith, le))) (λ j below. all_same n (omega (arith, le)) j below)))
-      (cases_lt k n)
+      owned : (place : ℕ) (sh : Shape) (i : Instr) → Stands p t m place sh i → own p m d sh i ≡ own p m c sh i
+      owned place sh i at = own_same (λ n. n) p c d are.classes also.classes m sh i (λ k paid. before k (layered.each m place k sh i at paid))
 
   same_there : (k : ℕ) → k < length p.methods → price c k ≡ price d k
-  same_there k lt = sym (all_same (length p.methods) (omega arith) k lt)
+  same_there k lt = sym (each_below (λ j. price d j ≡ price c j) (length p.methods) (λ j less before. method_same j (method_is_some p j less) before) k lt)
 
 pub law_one : PricesAreOne
 law_one p t c d layered are also = record {

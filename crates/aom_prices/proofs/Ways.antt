@@ -1,5 +1,5 @@
 -- Where the flows of an instruction lead: to the next place, where it jumps, or where a next goes back, and each place is reached.
-use Rattle.std.proofs.Common.{◌≡◌, ◌<◌, ℕ, suc, List, [], ◌∷◌, Some, ⊎_elim, ap, subst}
+use Rattle.std.proofs.Common.{◌≡◌, ◌<◌, ℕ, suc, List, [], ◌∷◌, Some, ap, subst}
 use Rattle.aom_image.specs.Image.{Image}
 use Rattle.aom_image.specs.Views.{instr_at}
 use Rattle.aom_instructions.specs.declared.instr.Instr.{Instr}
@@ -9,14 +9,16 @@ use Rattle.aom_shape.specs.Needs.{Flow}
 use Rattle.aom_rules.specs.Objects.{flow_jump_empty, flow_jump_null}
 use Rattle.aom_rules.specs.Rules.{flows, ways_of}
 use Rattle.aom_shape.specs.Shape.{Shape}
-use Rattle.aom_rules.specs.Ways.{Ways, Ends, Goes_on, Goes_to, Branches, Goes_back, Branches_on_null, Branches_on_empty, flowing}
+use Rattle.aom_rules.specs.Ways.{Ways, Ends, Goes_on, Goes_to, Branches, Goes_back, Branches_on_null, Branches_on_empty, Branches_in, flowing}
 use Rattle.aom_rules.specs.Typing.{AllLead, Typing, shape_at}
 use Rattle.aom_shape.specs.declared.kind.Filling.{Filling}
 use Rattle.aom_shape.specs.declared.kind.Filling.TheVariants as fillings
 use Rattle.aom_shape.specs.declared.kind.Kind.{Kind}
 use Rattle.aom_shape.specs.declared.kind.Kind.TheVariants as kinds
+use Rattle.aom_rules.proofs.Branching.{by_states}
 use Rattle.aom_rules.proofs.Ways.{Leads, leads}
 use Rattle.aom_prices.specs.Costs.{AmongFlows}
+use Rattle.aom_prices.proofs.Among.{by_flow}
 
 -- the jumps of a method go forward
 abbrev pub JumpsForward : Image → ℕ → Type 0
@@ -58,11 +60,14 @@ all_ways p m pc sh i = by (ways_of p i) (leads p i)
     by (Goes_back to) lead = (back (ap (λ x. x.1) lead), (on, tt))
     by (Branches_on_null a to) lead = null_ways p m pc sh (register sh a) a to i (ap (λ x. x.1) lead)
     by (Branches_on_empty f to) lead = empty_ways p m pc sh (field sh f) f to i (ap (λ x. x.1) lead)
+    by (Branches_in there here to) lead =
+        let turned : Way pc i to = jump (ap (λ x. x.1) lead) in
+        by_states (λ fs. AllWays pc i fs) sh (suc pc) there here to tt (λ s. (on, tt)) (λ t. (turned, tt)) (λ s t. (on, (turned, tt)))
 
 way_among : (place to : ℕ) (i : Instr) (fs : List Flow) → AllWays place i fs → AmongFlows to fs → Way place i to
 unfolding AllWays
-way_among place to i [] ways among = absurd among
-way_among place to i (f ∷ fs) ways among = ⊎_elim (λ (e : f.0 ≡ to). subst (λ x. Way place i x) e ways.0) (λ rest. way_among place to i fs ways.1 rest) among
+way_among place to i fs ways among =
+    by_flow to (λ gs. AllWays place i gs → Way place i to) (λ f gs e all. subst (λ x. Way place i x) e all.0) (λ f gs rest all. rest all.1) fs among ways
 
 -- a flow is one of the ways
 pub way_of : (p : Image) (m place to : ℕ) (sh : Shape) (i : Instr) → AmongFlows to (flows p m place sh i) → Way place i to
@@ -73,5 +78,5 @@ abbrev pub IsReached : Typing → ℕ → ℕ → Type 0
 IsReached t m place = (sh : Shape) × (shape_at t m place ≡ Some sh)
 
 pub led_to : (t : Typing) (m to : ℕ) (fs : List Flow) → AllLead t m fs → AmongFlows to fs → IsReached t m to
-led_to t m to [] lead among = absurd among
-led_to t m to (f ∷ fs) lead among = ⊎_elim (λ (e : f.0 ≡ to). subst (λ x. IsReached t m x) e (lead.0.0, lead.0.1)) (λ rest. led_to t m to fs lead.1 rest) among
+led_to t m to fs lead among =
+    by_flow to (λ gs. AllLead t m gs → IsReached t m to) (λ f gs e all. subst (λ x. IsReached t m x) e (all.0.0, all.0.1)) (λ f gs rest all. rest all.1) fs among lead

@@ -1,20 +1,24 @@
 -- The cases come out as their tables say; and of the worked method each path from each place costs no more than is said, and one just that.
-use Rattle.std.proofs.lemmas.Option.{same_Some}
-use Rattle.std.proofs.Common.{◌≡◌, ◌<◌, ◌≤◌, ◌+◌, ◌*◌, ◌∙◌, ℕ, zero, suc, Some, None, inl, inr, ⊎_elim, refl, sym, arith, subst}
+use Rattle.std.proofs.Common.{◌≡◌, ◌≤◌, ◌+◌, ◌*◌, ◌∙◌, ℕ, zero, suc, Some, None, inl, inr, ⊎_elim, refl, sym, arith, subst}
 use Rattle.std.specs.Prelude.{◌⊎◌}
-use Rattle.aom_image.specs.Views.{instr_at, instr_in, method_at}
+use Rattle.aom_image.specs.Views.{class_in, instr_at, instr_in, method_at}
 use Rattle.aom_instructions.specs.declared.instr.Instr.{Instr}
 use Rattle.aom_instructions.specs.declared.instr.Instr.TheVariants.{Jump, JumpEqual, Loop, Next, Print, Return}
 use Rattle.aom_classes.specs.Bodies.{Body}
 use Rattle.aom_classes.specs.Loops.{loop_in, next_in}
+use Rattle.aom_classes.specs.Roles.{plays, role_number, role_of}
 use Rattle.aom_rules.specs.Rules.{flows}
-use Rattle.aom_shape.specs.Shape.{Shape}
 use Rattle.aom_prices.specs.Cases.{PricesBite, a_word, worked, worked_typing}
 use Rattle.aom_prices.specs.Costs.{AmongFlows, Costs, GoesOut, Inside, Region, Round, Whole}
 use Rattle.aom_prices.specs.Costs.Costs.{ends, goes, loops}
 use Rattle.aom_prices.specs.Prices.{Prices, Stands, own}
 use Rattle.aom_prices.proofs.Paths.{GoesOn, Rounds, ends_or_goes, outside_cost, rounds_of}
 use Rattle.aom_prices.proofs.Regions.{no_next_here}
+use Rattle.std.specs.Prelude.{◌==◌, cond}
+use Rattle.std.proofs.lemmas.Bool.{eqb-true}
+use Rattle.std.proofs.Common.{ap}
+use Rattle.aom_prices.proofs.Adding.{by_past}
+use Rattle.aom_prices.proofs.Outs.{body_out, exit_most, flows_out, place_out}
 
 abbrev There : ℕ → Instr → Type 0
 There place i = Stands worked worked_typing 0 place a_word i
@@ -85,31 +89,23 @@ outer_end to e = omega (arith, next_place to 0 1 e)
 
 -- ---- where the bodies go out
 
-known : (place out : ℕ) (sh : Shape) (i j : Instr) → instr_at worked 0 place ≡ Some i → instr_at worked 0 place ≡ Some j →
-    AmongFlows out (flows worked 0 place sh i) → AmongFlows out (flows worked 0 place sh j)
-known place out sh i j a b among = subst (λ x. AmongFlows out (flows worked 0 place sh x)) (same_Some i j (sym a ∙ b)) among
+-- only these two of the places past the end are flowed to
+unless : (a b out : ℕ) → ℕ
+unless a b out = cond (out == a) 0 (cond (out == b) 0 1)
 
--- a place to which it goes on is one of two, or not past the end
-of_one : (a end out : ℕ) → (a ≡ out) ⊎ ⊥ → a ≤ end → end < out → ⊥
-of_one a end out among le past = ⊎_elim (λ e. omega (arith, e, le, past)) (λ none. none) among
+one_of : (a b out : ℕ) → unless a b out ≤ 0 → (out ≡ a) ⊎ (out ≡ b)
+unfolding unless
+one_of a b out none = by_past (out == a) ((out ≡ a) ⊎ (out ≡ b)) (λ is. inl (eqb-true out a is)) (λ not_a.
+    by_past (out == b) ((out ≡ a) ⊎ (out ≡ b)) (λ is. inr (eqb-true out b is)) (λ not_b.
+    let one : unless a b out ≡ 1 = ap (λ x. cond x 0 (cond (out == b) 0 1)) not_a ∙ ap (λ x. cond x 0 1) not_b in absurd (omega (arith, one, none))))
 
-of_two : (a b end out : ℕ) → (a ≡ out) ⊎ ((b ≡ out) ⊎ ⊥) → a ≤ end → end < out → out ≡ b
-of_two a b end out among le past = ⊎_elim (λ e. absurd (omega (arith, e, le, past))) (λ rest. ⊎_elim (λ e. sym e) (λ none. absurd none) rest) among
+out_of_inner : (out : ℕ) → GoesOut worked worked_typing 0 1 4 out → (out ≡ 5) ⊎ (out ≡ 7)
+unfolding method_at instr_in body_out place_out flows_out unless
+out_of_inner out g = one_of 5 7 out (exit_most worked worked_typing 0 1 4 (unless 5 7) out g)
 
-out_of_inner : (out place : ℕ) (sh : Shape) (i : Instr) → instr_at worked 0 place ≡ Some i → 1 < place → place ≤ 4 → AmongFlows out (flows worked 0 place sh i) → 4 < out → (out ≡ 5) ⊎ (out ≡ 7)
-out_of_inner out (suc (suc zero)) sh i at low high among past = inr (of_two 3 7 4 out (known 2 out sh i (JumpEqual 0 0 7) at at_2.instr among) (omega arith) past)
-out_of_inner out (suc (suc (suc zero))) sh i at low high among past = absurd (of_one 4 4 out (known 3 out sh i (Print 0) at at_3.instr among) (omega arith) past)
-out_of_inner out (suc (suc (suc (suc zero)))) sh i at low high among past = inl (of_two 2 5 4 out (known 4 out sh i (Next 1 2) at at_4.instr among) (omega arith) past)
-out_of_inner out _ sh i at low high among past = absurd (omega arith)
-
-out_of_outer : (out place : ℕ) (sh : Shape) (i : Instr) → instr_at worked 0 place ≡ Some i → 0 < place → place ≤ 5 → AmongFlows out (flows worked 0 place sh i) → 5 < out → (out ≡ 6) ⊎ (out ≡ 7)
-out_of_outer out (suc zero) sh i at low high among past = absurd (of_one 2 5 out (known 1 out sh i (Loop 1 5) at at_1.instr among) (omega arith) past)
-out_of_outer out (suc (suc zero)) sh i at low high among past = inr (of_two 3 7 5 out (known 2 out sh i (JumpEqual 0 0 7) at at_2.instr among) (omega arith) past)
-out_of_outer out (suc (suc (suc zero))) sh i at low high among past = absurd (of_one 4 5 out (known 3 out sh i (Print 0) at at_3.instr among) (omega arith) past)
-out_of_outer out (suc (suc (suc (suc zero)))) sh i at low high among past =
-    let e = of_two 2 5 5 out (known 4 out sh i (Next 1 2) at at_4.instr among) (omega arith) past in absurd (omega (arith, e, past))
-out_of_outer out (suc (suc (suc (suc (suc zero))))) sh i at low high among past = inl (of_two 1 6 5 out (known 5 out sh i (Next 0 1) at at_5.instr among) (omega arith) past)
-out_of_outer out _ sh i at low high among past = absurd (omega arith)
+out_of_outer : (out : ℕ) → GoesOut worked worked_typing 0 0 5 out → (out ≡ 6) ⊎ (out ≡ 7)
+unfolding method_at instr_in body_out place_out flows_out unless
+out_of_outer out g = one_of 6 7 out (exit_most worked worked_typing 0 0 5 (unless 6 7) out g)
 
 -- ---- no path costs more
 
@@ -121,10 +117,10 @@ module _ (c : Prices) where
   Most r place n = (k : ℕ) → Path r place k → k ≤ n
 
   -- an instruction of cost 1 that goes on where paths cost so much at most
-  line : (r : Region) (place n : ℕ) (i : Instr) → There place i → loop_in (Some i) ≡ None → Inside r place → own c a_word i ≡ 1 →
+  line : (r : Region) (place n : ℕ) (i : Instr) → There place i → loop_in (Some i) ≡ None → Inside r place → own worked 0 c a_word i ≡ 1 →
       ((to : ℕ) → AmongFlows to (flows worked 0 place a_word i) → Most r to n) → Most r place (1 + n)
   line r place n i at none inside one all k path = ⊎_elim
-      (λ (e : k ≡ own c a_word i). omega (arith, e, one))
+      (λ (e : k ≡ own worked 0 c a_word i). omega (arith, e, one))
       (λ (g : GoesOn worked worked_typing c 0 r place k a_word i). omega (arith, g.is, one, all g.to g.among g.rest g.path))
       (ends_or_goes worked worked_typing c 0 r place k path a_word i at none inside)
 
@@ -205,7 +201,7 @@ module _ (c : Prices) where
       exits out g = ⊎_elim
           (λ (e : out ≡ 5). subst (λ x. Most (Round 0 5) x 1) (sym e) in_5)
           (λ (e : out ≡ 7). subst (λ x. Most (Round 0 5) x 1) (sym e) past_outer)
-          (out_of_inner out g.place g.shape g.instr g.stands.instr g.inside.0 g.inside.1 g.flow g.outside)
+          (out_of_inner out g)
 
   from_0 : Most Whole 0 55
   from_0 k path =
@@ -216,7 +212,7 @@ module _ (c : Prices) where
       exits out g = ⊎_elim
           (λ (e : out ≡ 6). subst (λ x. Most Whole x 3) (sym e) (λ k path. omega (arith, from_6 k path)))
           (λ (e : out ≡ 7). subst (λ x. Most Whole x 3) (sym e) from_7)
-          (out_of_outer out g.place g.shape g.instr g.stands.instr g.inside.0 g.inside.1 g.flow g.outside)
+          (out_of_outer out g)
 
   -- ---- and one costs just that
 
@@ -242,10 +238,13 @@ module _ (c : Prices) where
   worked_path = loops tt at_0 outer outer_round outer_exit exit_path
 
 pub law_bites : PricesBite
+unfolding method_at class_in role_of plays role_number
 law_bites = record {
   called = refl;
   destroyed = refl;
   others = refl;
+  cancelled = refl;
+  none_cancelled = refl;
   destructors = refl;
   worked = λ c. record { met = worked_path c; most = from_0 c };
 }

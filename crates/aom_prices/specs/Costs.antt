@@ -42,10 +42,10 @@ pub data Costs (p : Image) (t : Typing) (c : Prices) (m : ℕ) : Region → ℕ 
   -- a place outside counts where the path goes on
   outside : {r : Region} {place : ℕ} → (Inside r place → ⊥) → Costs p t c m r place 0
   -- a path may stop anywhere, and a next ends the round
-  ends : {r : Region} {place : ℕ} {sh : Shape} {i : Instr} → Inside r place → Stands p t m place sh i → loop_in (Some i) ≡ None → Costs p t c m r place (own c sh i)
+  ends : {r : Region} {place : ℕ} {sh : Shape} {i : Instr} → Inside r place → Stands p t m place sh i → loop_in (Some i) ≡ None → Costs p t c m r place (own p m c sh i)
   goes :
       {r : Region} {place to n : ℕ} {sh : Shape} {i : Instr} → Inside r place → Stands p t m place sh i → loop_in (Some i) ≡ None → next_in (Some i) ≡ None →
-      AmongFlows to (flows p m place sh i) → Costs p t c m r to n → Costs p t c m r place (own c sh i + n)
+      AmongFlows to (flows p m place sh i) → Costs p t c m r to n → Costs p t c m r place (own p m c sh i + n)
   -- all rounds of a loop, and what is after it
   loops :
       {r : Region} {place to d rounds b e out : ℕ} {sh : Shape} → Inside r place → Stands p t m place sh (Loop d rounds) → Body p m place to d rounds →

@@ -1,9 +1,9 @@
 -- That what is paid for comes before: the condition under which a table of prices is found method by method.
 use Rattle.std.specs.Prelude.{ℕ, ◌≡◌, ◌<◌, min, Option, Some, None, IsSome}
 use Rattle.aom_image.specs.Image.{Image}
-use Rattle.aom_image.specs.Views.{method_at}
+use Rattle.aom_image.specs.Views.{method_at, method_class}
 use Rattle.aom_instructions.specs.declared.instr.Instr.{Instr}
-use Rattle.aom_instructions.specs.declared.instr.Instr.TheVariants.{Call, Trap, Push, PushOperation, Delete}
+use Rattle.aom_instructions.specs.declared.instr.Instr.TheVariants.{Call, Cancel, Trap, Push, PushOperation, Delete}
 use Rattle.aom_image.specs.declared.method.Thing.{Thing}
 use Rattle.aom_classes.specs.Roles.{destructor_of}
 use Rattle.aom_shape.specs.Kinds.{register}
@@ -11,7 +11,7 @@ use Rattle.aom_shape.specs.Shape.{Shape}
 use Rattle.aom_rules.specs.Typing.{Typing}
 use Rattle.aom_shape.specs.declared.kind.Kind.{Kind}
 use Rattle.aom_shape.specs.declared.kind.Kind.TheVariants.{Unset, Word, Null, Own, Maybe}
-use Rattle.aom_prices.specs.Prices.{Prices, Stands, IsPriced, price}
+use Rattle.aom_prices.specs.Prices.{Prices, Stands, IsPriced, cancel_of, price}
 use Rattle.aom_prices.specs.Costs.{ArePrices}
 
 -- the destructor that runs as a register of that kind is destroyed
@@ -22,18 +22,19 @@ kind_destructor p Null = None
 kind_destructor p (Own t a) = destructor_of p t
 kind_destructor p (Maybe t a) = destructor_of p t
 
--- the method whose price an instruction pays
-abbrev pub paid_method : Image → Shape → Instr → Option ℕ
-paid_method p sh (Call target m first x) = Some m
-paid_method p sh (Trap target m first x) = Some m
-paid_method p sh (Push a) = kind_destructor p (register sh a)
-paid_method p sh (Delete a) = kind_destructor p (register sh a)
-paid_method p sh (PushOperation a m) = Some m
-paid_method p sh _ = None
+-- the method whose price an instruction of a method pays
+abbrev pub paid_method : Image → (m : ℕ) → Shape → Instr → Option ℕ
+paid_method p m sh (Call target k first x) = Some k
+paid_method p m sh (Trap target k first x) = Some k
+paid_method p m sh (Push a) = kind_destructor p (register sh a)
+paid_method p m sh (Delete a) = kind_destructor p (register sh a)
+paid_method p m sh (PushOperation a k) = Some k
+paid_method p m sh Cancel = cancel_of p (method_class p m)
+paid_method p m sh _ = None
 
 -- a method pays for methods before it alone
 pub record PaysBefore (p : Image) (t : Typing) : Type 0 where
-  pub each : (m place k : ℕ) (sh : Shape) (i : Instr) → Stands p t m place sh i → paid_method p sh i ≡ Some k → k < m
+  pub each : (m place k : ℕ) (sh : Shape) (i : Instr) → Stands p t m place sh i → paid_method p m sh i ≡ Some k → k < m
 
 -- there is a table of prices, and it pays for each move
 pub record HasPrices (p : Image) (t : Typing) : Type 0 where

@@ -1,12 +1,13 @@
 -- Tables of prices, and when a table pays for each move of a typing.
-use Rattle.std.specs.Prelude.{ℕ, suc, ◌+◌, ◌-◌, ◌*◌, ◌≡◌, ◌≤◌, true, List, [], ◌∷◌, Some, None}
+use Rattle.std.specs.Prelude.{ℕ, suc, ◌+◌, ◌-◌, ◌*◌, ◌≡◌, ◌≤◌, true, List, [], ◌∷◌, Option, Some, None}
 use Rattle.aom_image.specs.Image.{Image}
-use Rattle.aom_image.specs.Views.{instr_at}
+use Rattle.aom_image.specs.Views.{instr_at, method_class}
 use Rattle.aom_instructions.specs.declared.instr.Instr.{Instr}
-use Rattle.aom_instructions.specs.declared.instr.Instr.TheVariants.{Call, Trap, Push, PushOperation, Delete, Loop, Next}
+use Rattle.aom_instructions.specs.declared.instr.Instr.TheVariants.{Call, Cancel, Trap, Push, PushOperation, Delete, Loop, Next}
+use Rattle.aom_image.specs.declared.method.Role.TheVariants as roles
 use Rattle.aom_image.specs.declared.method.Thing.{Thing}
 use Rattle.aom_classes.specs.Loops.{loop_in, next_in}
-use Rattle.aom_classes.specs.Roles.{destructor_of}
+use Rattle.aom_classes.specs.Roles.{destructor_of, role_of}
 use Rattle.aom_shape.specs.Things.{stands_for}
 use Rattle.aom_shape.specs.Shape.{Shape}
 use Rattle.aom_shape.specs.Kinds.{register}
@@ -35,14 +36,25 @@ kind_price c Null = 0
 kind_price c (Own t a) = c.destruction t
 kind_price c (Maybe t a) = c.destruction t
 
--- what an instruction costs itself; what is pushed is paid for then, and costs nothing where it leaves the cleanup stack
-abbrev pub own : Prices → Shape → Instr → ℕ
-own c sh (Call target m first x) = 1 + price c m
-own c sh (Trap target m first x) = 1 + price c m
-own c sh (Push a) = 1 + kind_price c (register sh a)
-own c sh (Delete a) = 1 + kind_price c (register sh a)
-own c sh (PushOperation a m) = 1 + price c m
-own c sh _ = 1
+-- the method that cancels the request of an object of a class
+abbrev pub cancel_of : Image → Option ℕ → Option ℕ
+cancel_of p None = None
+cancel_of p (Some c) = role_of p c roles.Cancel
+
+-- a method, if there is one
+abbrev pub perhaps_price : Prices → Option ℕ → ℕ
+perhaps_price c None = 0
+perhaps_price c (Some m) = price c m
+
+-- what an instruction of a method costs itself; what is pushed is paid for then, and costs nothing where it leaves the cleanup stack
+abbrev pub own : Image → (m : ℕ) → Prices → Shape → Instr → ℕ
+own p m c sh (Call target k first x) = 1 + price c k
+own p m c sh (Trap target k first x) = 1 + price c k
+own p m c sh (Push a) = 1 + kind_price c (register sh a)
+own p m c sh (Delete a) = 1 + kind_price c (register sh a)
+own p m c sh (PushOperation a k) = 1 + price c k
+own p m c sh Cancel = 1 + perhaps_price c (cancel_of p (method_class p m))
+own p m c sh _ = 1
 
 -- it pays for going on at each of these places
 abbrev pub AllPaid : Prices → (m pays here : ℕ) → List Flow → Type 0
@@ -56,8 +68,8 @@ pub record Stands (p : Image) (t : Typing) (m place : ℕ) (sh : Shape) (i : Ins
 
 -- each reached place pays for what may follow it
 pub record IsPriced (p : Image) (t : Typing) (c : Prices) : Type 0 where
-  pub ends : (m place : ℕ) (sh : Shape) (i : Instr) → Stands p t m place sh i → own c sh i ≤ c.from m place
-  pub flows : (m place : ℕ) (sh : Shape) (i : Instr) → Stands p t m place sh i → loop_in (Some i) ≡ None → next_in (Some i) ≡ None → AllPaid c m (own c sh i) (c.from m place) (flows p m place sh i)
+  pub ends : (m place : ℕ) (sh : Shape) (i : Instr) → Stands p t m place sh i → own p m c sh i ≤ c.from m place
+  pub flows : (m place : ℕ) (sh : Shape) (i : Instr) → Stands p t m place sh i → loop_in (Some i) ≡ None → next_in (Some i) ≡ None → AllPaid c m (own p m c sh i) (c.from m place) (flows p m place sh i)
   -- a loop pays for all its rounds, the last of which is part of what follows
   pub loops : (m place d n : ℕ) (sh : Shape) → Stands p t m place sh (Loop d n) → 1 + (n - 1) * c.round m place + c.from m (suc place) ≤ c.from m place
   -- the last round goes on, and another begins for the price of a round

@@ -63,7 +63,7 @@ pub record IsAfter (p : Image) (t : Typing) (c : Prices) (a : Afters) (m from to
 pub record IsSweptFrom (keep : ℕ → ℕ) (p : Image) (t : Typing) (c : Prices) (a : Afters) (m down : ℕ) : Type 0 where
   pub plain :
       (place : ℕ) (sh : Shape) (i : Instr) (r : Region) → down ≤ place → Stands p t m place sh i → loop_in (Some i) ≡ None → next_in (Some i) ≡ None → IsInnermost p m place r →
-      c.from m place ≡ keep (own c sh i + max (after a m r) (most_within c m r (flows p m place sh i)))
+      c.from m place ≡ keep (own p m c sh i + max (after a m r) (most_within c m r (flows p m place sh i)))
   pub loops : (place d n : ℕ) (sh : Shape) → down ≤ place → Stands p t m place sh (Loop d n) → c.from m place ≡ keep (1 + (n - 1) * c.round m place + c.from m (suc place))
   pub nexts : (place d from : ℕ) (sh : Shape) → down ≤ place → Stands p t m place sh (Next d (suc from)) → c.from m place ≡ keep (1 + a m from)
   -- a round is what is found at the body's first place, less what follows the loop

@@ -10,7 +10,7 @@ use Rattle.aom_image.specs.declared.class.ClassKind.{ClassKind}
 use Rattle.aom_image.specs.declared.class.ClassKind.TheVariants as kinds
 use Rattle.aom_image.specs.declared.class.Provider.TheVariants as providers
 use Rattle.aom_image.specs.declared.method.Thing.{Thing}
-use Rattle.aom_syntax.specs.Reading.{Reading, any_keyword, failing, giving, keyword, next, nothing_more, number, optional_number, word}
+use Rattle.aom_syntax.specs.Reading.{any_keyword, failing, giving, keyword, next, nothing_more, number, optional_number, word}
 use Rattle.aom_syntax.specs.Operands.{class}
 use Rattle.aom_syntax.specs.Classes.{budget, class_statement, declared, fields, flag, kind, listed, provider, purpose, server, thing_of, class_parts}
 use Rattle.aom_syntax.specs.declared.class.Purpose.{Purpose}

@@ -1,6 +1,6 @@
 -- The beginning of a method that is read is in its range.
-use Rattle.std.proofs.Common.{◌≡◌, ℕ, ◌<◌, ◌≤◌, ◌||◌, Bool, true, false, List, length, replicate, All, Option, Some, None, Ok, slice_get, codes, subst, refl, arith}
-use Rattle.std.specs.Prelude.{IfSome, if◌then◌else◌}
+use Rattle.std.proofs.Common.{◌≡◌, ℕ, ◌<◌, ◌≤◌, ◌||◌, Bool, true, false, List, length, replicate, All, Option, Some, None, Ok, slice_get, codes, subst, refl, arith, ap, ◌∙◌}
+use Rattle.std.specs.Prelude.{IfSome}
 use Rattle.std.specs.Str.{bytes_eq}
 use Rattle.std.proofs.lemmas.List.{length-replicate}
 use Rattle.std.proofs.lemmas.List.Elements.{All-replicate}
@@ -16,7 +16,7 @@ use Rattle.aom_image.specs.declared.method.Gives.{Gives}
 use Rattle.aom_image.specs.declared.method.Gives.TheVariants as result
 use Rattle.aom_image.specs.declared.method.Role.{Role}
 use Rattle.aom_image.specs.declared.method.Role.TheVariants as roles
-use Rattle.aom_syntax.specs.Reading.{◌>>=◌, Reading, any_keyword, giving, next, nothing_more, seen, took, word}
+use Rattle.aom_syntax.specs.Reading.{any_keyword, giving, next, nothing_more, seen, took, word}
 use Rattle.aom_syntax.specs.Operands.{class}
 use Rattle.aom_syntax.specs.Classes.{declared, flag, listed, thing, thing_of}
 use Rattle.aom_syntax.specs.Methods.{accepted, all_states, argument_of, flags_of, gives, heading, is_quiet_role, kind_of, not_served, optional_arguments, optional_class, optional_gives, optional_states, role, unsaid_gives, usual_after, usual_before, usual_gives, usual_words, behind_class}
@@ -25,10 +25,11 @@ use Rattle.aom_syntax.specs.declared.keyword.Keyword.TheVariants as k
 use Rattle.aom_syntax.specs.declared.method.Heading.{Heading}
 use Rattle.aom_syntax.specs.declared.scope.Scope.{Scope}
 use Rattle.aom_ranges.specs.Ranges.{HeadingIsRead, IsSettled}
-use Rattle.aom_ranges.proofs.Within.{Within, after, either, failing_within, giving_within, next_within, ok_is, seen_within, steps}
+use Rattle.aom_ranges.proofs.Within.{Within, after, either, failing_within, giving_within, next_within, ok_is, seen_within, marked_or}
 use Rattle.aom_ranges.proofs.Names.{IsKnown, all_known, declared_below, used_below}
 use Rattle.aom_ranges.proofs.Lists.{ListFits, listed_fits, thing_fits, thing_within}
 use Rattle.aom_ranges.proofs.States.{AreStates, after_below, all_few, before_below, flags_below, states_within, words_few}
+use Rattle.aom_image.proofs.Given.{some_given}
 
 -- ---- what an accept gives
 
@@ -40,26 +41,19 @@ not_served_fits classes true = tt
 not_served_fits classes false = tt
 
 accepted_fits : (classes natives : ℕ) (known : Bool) (kind : ClassKind) → KindFits classes natives kind → MayGive classes (accepted known kind)
-accepted_fits classes natives known kinds.Plain fits = not_served_fits classes known
-accepted_fits classes natives known (kinds.Active p budget) fits = not_served_fits classes known
 accepted_fits classes natives known (kinds.Server sessions session budget) fits = fits.2
-accepted_fits classes natives known kinds.Session fits = not_served_fits classes known
+accepted_fits classes natives known _ fits = not_served_fits classes known
 
 usual_fits : (classes natives : ℕ) (known : Bool) (role : Role) (kind : ClassKind) → KindFits classes natives kind → MayGive classes (usual_gives known role kind)
-usual_fits classes natives known roles.Do kind fits = tt
-usual_fits classes natives known roles.Main kind fits = tt
-usual_fits classes natives known roles.Construct kind fits = tt
-usual_fits classes natives known roles.Destruct kind fits = tt
-usual_fits classes natives known roles.Run kind fits = tt
-usual_fits classes natives known roles.Cancel kind fits = tt
-usual_fits classes natives known roles.Error kind fits = tt
 usual_fits classes natives known roles.Accept kind fits = accepted_fits classes natives known kind fits
-usual_fits classes natives known roles.Service kind fits = tt
-usual_fits classes natives known roles.Undo kind fits = tt
+usual_fits classes natives known _ kind fits = tt
+
+-- what is not said is what stands for it
+pub stands_for : (usual : Option Gives) (g : Gives) → unsaid_gives usual ≡ Ok g → usual ≡ Some g
+stands_for usual g is = some_given (λ o. unsaid_gives o ≡ Ok g) usual is (λ e. cc) (λ u same e. same ∙ ap Some (ok_is u g e))
 
 unsaid_fits : (classes : ℕ) (usual : Option Gives) (g : Gives) → MayGive classes usual → unsaid_gives usual ≡ Ok g → GivesFits classes g
-unsaid_fits classes None g fits is = absurd cc
-unsaid_fits classes (Some u) g fits is = subst (GivesFits classes) (ok_is u g is) fits
+unsaid_fits classes usual g fits is = subst (MayGive classes) (stands_for usual g is) fits
 
 -- a class among those that were read before
 kind_fits : (classes natives : ℕ) (decls : List ClassDecl) (class : Option ℕ) → All (ClassFits classes natives) decls → KindFits classes natives (kind_of decls class)
@@ -92,13 +86,8 @@ module _ (scope : Scope) (known : IsKnown scope.is_strict (length scope.classes)
       (giving_within IsClass None tt)
 
   argument_fits : (w : List ℕ) (a : Argument) → argument_of scope w ≡ Ok a → IsArgument a
-  argument_fits w a is = go (bytes_eq w (codes "word")) is
-    where
-      go : (b : Bool) → (if b then Ok arg.Word else (thing_of scope w >>= λ t. Ok (arg.Own t))) ≡ Ok a → IsArgument a
-      go true e = subst IsArgument (ok_is arg.Word a e) tt
-      go false e =
-          let s = steps (thing_of scope w) (λ t. Ok (arg.Own t)) a e in
-          subst IsArgument (ok_is (arg.Own s.first) a s.second) (thing_fits scope known w s.first s.read)
+  argument_fits w a is =
+      marked_or IsArgument (bytes_eq w (codes "word")) arg.Word (thing_of scope w) (λ t. arg.Own t) a (λ same. tt) (thing_fits scope known w) is
 
   arguments_within : (usual : ℕ) → usual ≤ 6 → Within AreArguments (optional_arguments scope usual)
   arguments_within usual few =

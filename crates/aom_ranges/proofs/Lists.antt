@@ -15,7 +15,7 @@ use Rattle.aom_syntax.specs.Names.{place_of, referred}
 use Rattle.aom_syntax.specs.Reading.{◌>>=◌, as_name, word}
 use Rattle.aom_syntax.specs.Classes.{class_of, elements, listed, thing, thing_of}
 use Rattle.aom_syntax.specs.declared.scope.Scope.{Scope}
-use Rattle.aom_ranges.proofs.Within.{Within, ok_is, passed, seen_within, steps}
+use Rattle.aom_ranges.proofs.Within.{Within, ok_is, passed, seen_within, steps, marked_or}
 use Rattle.aom_ranges.proofs.Names.{IsKnown, referred_below}
 
 -- so few elements, and each in its range
@@ -53,13 +53,8 @@ module _ (scope : Scope) (known : IsKnown scope.is_strict (length scope.classes)
       referred_below scope.is_strict 256 scope.classes known s.first c s.second
 
   pub thing_fits : (w : List ℕ) (t : Thing) → thing_of scope w ≡ Ok t → ThingFits (length scope.classes) t
-  thing_fits w t is = go (bytes_eq w (codes "msg")) is
-    where
-      go : (b : Bool) → (if b then Ok owned.Message else (class_of scope w >>= λ c. Ok (owned.Object c))) ≡ Ok t → ThingFits (length scope.classes) t
-      go true e = subst (ThingFits (length scope.classes)) (ok_is owned.Message t e) tt
-      go false e =
-          let s = steps (class_of scope w) (λ c. Ok (owned.Object c)) t e in
-          subst (ThingFits (length scope.classes)) (ok_is (owned.Object s.first) t s.second) (class_below w s.first s.read)
+  thing_fits w t is =
+      marked_or (ThingFits (length scope.classes)) (bytes_eq w (codes "msg")) owned.Message (class_of scope w) (λ c. owned.Object c) t (λ same. tt) (class_below w) is
 
   pub thing_within : Within (ThingFits (length scope.classes)) (thing scope)
   thing_within = seen_within (ThingFits (length scope.classes)) (thing_of scope) word thing_fits

@@ -1,6 +1,6 @@
 -- Numbers that are read are in their ranges.
 use Rattle.std.proofs.lemmas.Option.{cond_some}
-use Rattle.std.proofs.Common.{◌≡◌, refl, subst, arith, ℕ, zero, suc, ℤ, pos, neg_ℤ, ◌≤◌, ◌^◌, ◌&&◌, ◌||◌, ◌==◌, not, nat_le, nat_lt, Bool, true, false, FitsSigned, w32, Option, Some, None, Result, Ok, Err}
+use Rattle.std.proofs.Common.{◌≡◌, subst, arith, ℕ, zero, suc, ℤ, pos, neg_ℤ, ◌≤◌, ◌^◌, ◌&&◌, ◌||◌, ◌==◌, not, nat_le, nat_lt, Bool, true, false, FitsSigned, w32, Option, Some, None, Result, Ok, Err, ap, ◌∙◌}
 use Rattle.std.specs.Prelude.{if◌then◌else◌}
 use Rattle.std.proofs.lemmas.Bool.{and_parts, leb-true, ltb-true}
 use Rattle.aom_text.specs.declared.fault.AsmFaultKind.{AsmFaultKind}
@@ -10,11 +10,11 @@ use Rattle.aom_text.specs.Numbers.{number_of, number_within, number_signed}
 use Rattle.aom_syntax.specs.Reading.{giving, in_range, number, number_in, optional_number, took, word}
 use Rattle.aom_syntax.specs.Operands.{signed, signed_of}
 use Rattle.aom_syntax.specs.declared.keyword.Keyword.{Keyword}
-use Rattle.aom_ranges.proofs.Within.{Within, either, giving_within, seen_within}
+use Rattle.aom_ranges.proofs.Within.{Within, either, giving_within, seen_within, ok_is}
+use Rattle.aom_image.proofs.Given.{some_given}
 
 in_range_is : {X : Type 0} (o : Option X) (x : X) → in_range o ≡ Ok x → o ≡ Some x
-in_range_is None x is = absurd cc
-in_range_is (Some y) x is = cc
+in_range_is o x is = some_given (λ o. in_range o ≡ Ok x) o is (λ e. cc) (λ y same e. same ∙ ap Some (ok_is y x e))
 
 -- a number between two
 pub record Between (low high n : ℕ) : Type 0 where
@@ -31,12 +31,10 @@ between low high n x is =
 pub in_range_between : (low high : ℕ) (n : Number) (x : ℕ) → in_range (number_within low high n) ≡ Ok x → Between low high x
 in_range_between low high n x is = between low high n x (in_range_is _ x is)
 
-said_between : (low high : ℕ) (o : Option Number) (x : ℕ) → ◌≡◌ {A = Result ℕ AsmFaultKind} (elim o [ None ↦ Err BadNumber | Some n ↦ in_range (number_within low high n) ]) (Ok x) → Between low high x
-said_between low high None x is = absurd cc
-said_between low high (Some n) x is = in_range_between low high n x is
-
 pub number_between : (low high : ℕ) → Within (Between low high) (number low high)
-number_between low high = seen_within (Between low high) (number_in low high) word (λ w x is. said_between low high (number_of w) x is)
+number_between low high = seen_within (Between low high) (number_in low high) word (λ w x is.
+    some_given (λ o. ◌≡◌ {A = Result ℕ AsmFaultKind} (elim o [ None ↦ Err BadNumber | Some n ↦ in_range (number_within low high n) ]) (Ok x)) (number_of w) is (λ e. cc)
+    (λ n there e. in_range_between low high n x e))
 
 -- a number that may be missing
 pub optional_between : (key : Keyword) (high : ℕ) → Within (Between 0 high) (optional_number key high)
@@ -65,8 +63,7 @@ signed_fits true size z is = below_zero size z is
 signed_fits false size z is = from_zero size z is
 
 signed_is : (o : Option Number) (z : ℤ) → signed_of o ≡ Ok z → FitsSigned w32 z
-signed_is None z is = absurd cc
-signed_is (Some n) z is = signed_fits n.is_negative n.size z (in_range_is (number_signed n) z is)
+signed_is o z is = some_given (λ o. signed_of o ≡ Ok z) o is (λ e. cc) (λ n same e. signed_fits n.is_negative n.size z (in_range_is (number_signed n) z e))
 
 pub signed_within : Within (FitsSigned w32) signed
 signed_within = seen_within (FitsSigned w32) (λ w. signed_of (number_of w)) word (λ w z is. signed_is (number_of w) z is)

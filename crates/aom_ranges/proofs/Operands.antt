@@ -1,30 +1,25 @@
 -- Registers, fields, words, targets, depths and rounds that are read are in their ranges.
-use Rattle.std.proofs.Common.{◌≡◌, subst, arith, ℕ, ◌≤◌, ◌<◌, ◌^◌, ◌==◌, Bool, true, false, List, [], ◌∷◌, Option, Some, None, Result, Ok, Err, codes}
+use Rattle.std.proofs.Common.{◌≡◌, subst, arith, ℕ, ◌≤◌, ◌<◌, ◌^◌, ◌==◌, Bool, true, false, List, [], ◌∷◌, Option, Ok, codes}
 use Rattle.std.specs.Prelude.{if◌then◌else◌}
 use Rattle.std.specs.Str.{bytes_eq}
-use Rattle.aom_text.specs.declared.fault.AsmFaultKind.{AsmFaultKind}
 use Rattle.aom_text.specs.declared.fault.AsmFaultKind.TheVariants.{BadShape}
 use Rattle.aom_text.specs.declared.number.Number.{Number}
 use Rattle.aom_text.specs.Numbers.{number_of}
 use Rattle.aom_instructions.specs.Operands.{IsDepth, IsField, IsRegister, IsWord, TargetFits}
 use Rattle.aom_instructions.specs.declared.instr.Target.{Target}
 use Rattle.aom_instructions.specs.declared.instr.Target.TheVariants as targets
-use Rattle.aom_syntax.specs.Reading.{◌>>=◌, giving, next, word}
+use Rattle.aom_syntax.specs.Reading.{◌>>=◌, word}
 use Rattle.aom_syntax.specs.Operands.{depth, field, index_of, indexed, last_register, register, rounds, target, target_of, word_field}
 use Rattle.aom_ranges.proofs.Numbers.{Between, in_range_between, number_between}
-use Rattle.aom_ranges.proofs.Within.{Within, giving_within, next_within, ok_is, passed, seen_within, steps, value_is, weaker}
-
-not_negative : (b : Bool) (r : Result ℕ AsmFaultKind) (x : ℕ) → (if b then Err BadShape else r) ≡ Ok x → r ≡ Ok x
-not_negative true r x is = absurd cc
-not_negative false r x is = is
+use Rattle.aom_ranges.proofs.Within.{Within, ok_is, passed, seen_within, value_is, weaker, kept, made_of}
+use Rattle.aom_image.proofs.Given.{some_given, cons_given}
 
 index_most : (highest : ℕ) (o : Option Number) (x : ℕ) → index_of highest o ≡ Ok x → x ≤ highest
-index_most highest None x is = absurd cc
-index_most highest (Some n) x is = (in_range_between 0 highest n x (not_negative n.is_negative _ x is)).most
+index_most highest o x is = some_given (λ o. index_of highest o ≡ Ok x) o is (λ e. cc) (λ n same e. (in_range_between 0 highest n x (kept n.is_negative _ BadShape x e).1).most)
 
 indexed_most : (letter highest : ℕ) (w : List ℕ) (x : ℕ) → indexed letter highest w ≡ Ok x → x ≤ highest
-indexed_most letter highest [] x is = absurd cc
-indexed_most letter highest (b ∷ bs) x is = index_most highest (number_of bs) x (passed (b == letter) (index_of highest (number_of bs)) BadShape x is).1
+indexed_most letter highest w x is = cons_given (λ w. indexed letter highest w ≡ Ok x) w is (λ e. cc) (λ b bs same e.
+    index_most highest (number_of bs) x (passed (b == letter) (index_of highest (number_of bs)) BadShape x e).1)
 
 register_most : (highest : ℕ) → Within (λ n. n ≤ highest) (register highest)
 register_most highest = seen_within (λ n. n ≤ highest) (indexed 114 highest) word (indexed_most 114 highest)
@@ -50,8 +45,7 @@ last_within = weaker (λ n. n ≤ 15) IsRegister (last_register 15) (λ n most. 
 module _ (w : List ℕ) (t : Target) where
   numbered : (letter highest : ℕ) (make : ℕ → Target) → ((n : ℕ) → n ≤ highest → TargetFits (make n)) → (indexed letter highest w >>= λ n. Ok (make n)) ≡ Ok t → TargetFits t
   numbered letter highest make fits is =
-      let s = steps (indexed letter highest w) (λ n. Ok (make n)) t is in
-      subst TargetFits (ok_is (make s.first) t s.second) (fits s.first (indexed_most letter highest w s.first s.read))
+      made_of TargetFits (indexed letter highest w) make t (λ n said. fits n (indexed_most letter highest w n said)) is
 
   by_letter : (is_self is_register is_field : Bool)
       → (if is_self then Ok targets.This else if is_register then (indexed 114 15 w >>= λ n. Ok (targets.Register n)) else if is_field then (indexed 102 7 w >>= λ n. Ok (targets.Field n)) else (indexed 99 15 w >>= λ n. Ok (targets.Entry n))) ≡ Ok t
@@ -62,8 +56,8 @@ module _ (w : List ℕ) (t : Target) where
   by_letter false false false is = numbered 99 15 (λ n. targets.Entry n) (λ n most. omega (arith, most)) is
 
 target_fits : (w : List ℕ) (t : Target) → target_of w ≡ Ok t → TargetFits t
-target_fits [] t is = absurd cc
-target_fits (b ∷ bs) t is = by_letter (b ∷ bs) t (bytes_eq (b ∷ bs) (codes "self")) (b == 114) (b == 102) is
+target_fits w t is = cons_given (λ w. target_of w ≡ Ok t) w is (λ e. cc) (λ b bs same e.
+    by_letter (b ∷ bs) t (bytes_eq (b ∷ bs) (codes "self")) (b == 114) (b == 102) e)
 
 pub target_within : Within TargetFits target
 target_within = seen_within TargetFits target_of word target_fits

@@ -58,9 +58,7 @@ states_within key usual below =
 
 pub all_few : (kind : ClassKind) → all_states kind ≤ 11
 all_few kinds.Plain = omega arith
-all_few (kinds.Active p budget) = omega arith
-all_few (kinds.Server sessions session budget) = omega arith
-all_few kinds.Session = omega arith
+all_few _ = omega arith
 
 some_most : (states all : ℕ) → some_of states all ≤ states
 some_most states all = go (all == 0)
@@ -70,28 +68,12 @@ some_most states all = go (all == 0)
     go false = omega arith
 
 pub before_below : (role : Role) (all : ℕ) → all ≤ 11 → usual_before role all < 64
-before_below roles.Do all few = omega arith
-before_below roles.Main all few = omega arith
 before_below roles.Construct all few = omega (arith, some_most 1 all)
-before_below roles.Destruct all few = omega arith
-before_below roles.Run all few = omega arith
-before_below roles.Cancel all few = omega arith
-before_below roles.Error all few = omega arith
-before_below roles.Accept all few = omega arith
-before_below roles.Service all few = omega arith
-before_below roles.Undo all few = omega arith
+before_below _ all few = omega arith
 
 pub after_below : (role : Role) (all : ℕ) → all ≤ 11 → usual_after role all < 64
-after_below roles.Do all few = omega arith
-after_below roles.Main all few = omega arith
-after_below roles.Construct all few = omega arith
 after_below roles.Destruct all few = omega (arith, some_most 3 all)
-after_below roles.Run all few = omega arith
-after_below roles.Cancel all few = omega arith
-after_below roles.Error all few = omega arith
-after_below roles.Accept all few = omega arith
-after_below roles.Service all few = omega arith
-after_below roles.Undo all few = omega arith
+after_below _ all few = omega arith
 
 -- ---- flags and words
 
@@ -103,12 +85,4 @@ flags_below false false = omega arith
 
 pub words_few : (role : Role) → usual_words role ≤ 6
 words_few roles.Do = omega arith
-words_few roles.Main = omega arith
-words_few roles.Construct = omega arith
-words_few roles.Destruct = omega arith
-words_few roles.Run = omega arith
-words_few roles.Cancel = omega arith
-words_few roles.Error = omega arith
-words_few roles.Accept = omega arith
-words_few roles.Service = omega arith
-words_few roles.Undo = omega arith
+words_few _ = omega arith

@@ -1,13 +1,13 @@
 -- What holds of whatever a reading gives.
-use Rattle.std.proofs.Common.{◌≡◌, refl, ap, subst, ℕ, Bool, true, false, List, Result, Ok, Err}
+use Rattle.std.proofs.Common.{◌≡◌, refl, ap, subst, ℕ, Bool, true, false, List, Result, Ok, Err, [], ◌∷◌}
 use Rattle.std.specs.Prelude.{if◌then◌else◌}
 use Rattle.aom_text.specs.declared.fault.AsmFaultKind.{AsmFaultKind}
-use Rattle.aom_syntax.specs.Reading.{◌>>=◌, Reading, next, seen, giving, failing}
+use Rattle.aom_syntax.specs.Reading.{◌>>=◌, Reading, next, seen, giving, failing, word}
+use Rattle.std.specs.List.{list_all}
+use Rattle.aom_text.specs.Words.{is_plain}
+use Rattle.aom_text.specs.declared.fault.AsmFaultKind.TheVariants.{NotAscii}
 
-abbrev given : {X : Type 0} → X → Result X AsmFaultKind
-given x = Ok x
-
-pub ok_is : {X : Type 0} (x y : X) → given x ≡ given y → x ≡ y
+pub ok_is : {X E : Type 0} (x y : X) → ◌≡◌ {A = Result X E} (Ok x) (Ok y) → x ≡ y
 ok_is x y is = cc
 
 -- the two steps of what was read
@@ -20,10 +20,30 @@ pub steps : {A B : Type 0} (r : Result A AsmFaultKind) (f : A → Result B AsmFa
 steps (Ok x) f y is = record { first = x; read = refl; second = is }
 steps (Err e) f y is = absurd cc
 
--- what was read passed a test
-pub passed : {X : Type 0} (b : Bool) (r : Result X AsmFaultKind) (e : AsmFaultKind) (x : X) → (if b then r else Err e) ≡ Ok x → (b ≡ true) × (r ≡ Ok x)
+-- what holds of all that is made of what is read holds of what was made
+pub made_of : {A B : Type 0} (P : B → Type 0) (r : Result A AsmFaultKind) (make : A → B) (y : B) → ((x : A) → r ≡ Ok x → P (make x))
+    → (r >>= λ x. Ok (make x)) ≡ Ok y → P y
+made_of P r make y holds is = let s = steps r (λ x. Ok (make x)) y is in subst P (ok_is (make s.first) y s.second) (holds s.first s.read)
+
+-- so where a word of its own stands for a value
+pub marked_or : {A B : Type 0} (P : B → Type 0) (b : Bool) (mark : B) (r : Result A AsmFaultKind) (make : A → B) (y : B) → (b ≡ true → P mark)
+    → ((x : A) → r ≡ Ok x → P (make x)) → (if b then Ok mark else (r >>= λ x. Ok (make x))) ≡ Ok y → P y
+marked_or P true mark r make y own holds is = subst P (ok_is mark y is) (own refl)
+marked_or P false mark r make y own holds is = made_of P r make y holds is
+
+-- what was read passed a test, or failed one
+pub passed : {X E : Type 0} (b : Bool) (r : Result X E) (e : E) (x : X) → (if b then r else Err e) ≡ Ok x → (b ≡ true) × (r ≡ Ok x)
 passed true r e x is = (refl, is)
 passed false r e x is = absurd cc
+
+pub kept : {X E : Type 0} (b : Bool) (r : Result X E) (e : E) (x : X) → (if b then Err e else r) ≡ Ok x → (b ≡ false) × (r ≡ Ok x)
+kept true r e x is = absurd cc
+kept false r e x is = (refl, is)
+
+-- the word that was read
+pub saw_word : (ws : List (List ℕ)) (w : List ℕ) (rest : List (List ℕ)) → word ws ≡ Ok (w, rest) → ws ≡ w ∷ rest
+saw_word [] w rest is = absurd cc
+saw_word (v ∷ vs) w rest is = ap (λ p. p.0 ∷ p.1) (ok_is (v, vs) (w, rest) (passed (list_all is_plain v) (Ok (v, vs)) NotAscii (w, rest) is).1)
 
 -- whatever is read has that property
 pub record Within {X : Type 0} (P : X → Type 0) (r : Reading X) : Type 0 where
@@ -39,11 +59,8 @@ anything r = record { each = λ ws x rest is. tt }
 pub giving_within : {X : Type 0} (P : X → Type 0) (x : X) → P x → Within P (giving x)
 giving_within P x p = record { each = λ ws y rest is. value_is P x y ws rest is p }
 
-refused : {X : Type 0} (e : AsmFaultKind) (y : X) (rest : List (List ℕ)) → Err e ≡ giving y rest → ⊥
-refused e y rest is = cc
-
 pub failing_within : {X : Type 0} (P : X → Type 0) (e : AsmFaultKind) → Within P (failing e)
-failing_within P e = record { each = λ ws y rest is. absurd (refused e y rest is) }
+failing_within P e = record { each = λ ws y rest is. cc }
 
 pub next_within : {A B : Type 0} (P : A → Type 0) (Q : B → Type 0) (a : Reading A) (b : A → Reading B) → Within P a → ((x : A) → P x → Within Q (b x)) → Within Q (next a b)
 next_within P Q a b wa wb = record {

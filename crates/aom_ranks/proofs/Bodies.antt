@@ -1,5 +1,5 @@
 -- The bodies of loops round a place.
-use Rattle.std.proofs.Common.{◌≡◌, ◌<◌, ◌≤◌, ◌∙◌, ℕ, zero, suc, Bool, true, false, List, [], ◌∷◌, length, drop, Option, Some, None, slice_get, inl, inr, ⊎_elim, refl, ap, arith, subst}
+use Rattle.std.proofs.Common.{◌≡◌, ◌<◌, ◌≤◌, ◌∙◌, ℕ, zero, suc, Bool, true, false, List, [], ◌∷◌, length, drop, Some, None, slice_get, inl, inr, ⊎_elim, refl, ap, arith, subst}
 use Rattle.std.specs.Prelude.{◌≢◌, ◌&&◌, ◌||◌, ◌==◌, nat_lt}
 use Rattle.std.specs.List.{list_any}
 use Rattle.std.proofs.lemmas.Bool.{eqb-true, eq-eqb, ltb-true, lt-ltb}
@@ -11,6 +11,7 @@ use Rattle.aom_classes.specs.Scanning.{Enters}
 use Rattle.aom_classes.proofs.Nesting.{ClosedBefore, Scanned, scanned_none, scanned_more, must_pass}
 use Rattle.aom_classes.proofs.Each.{both as both_true}
 use Rattle.aom_ranks.specs.Within.{is_end_of, is_in_body}
+use Rattle.aom_classes.proofs.LoopPlaces.{next_there}
 
 -- ---- searching from a place on
 
@@ -23,8 +24,6 @@ pub record Found (test : Instr → Bool) (code : List Instr) (place : ℕ) : Typ
   pub passes : test instr ≡ true
 
 pub found : (test : Instr → Bool) (code : List Instr) (place : ℕ) → list_any test (drop place code) ≡ true → Found test code place
-found test [] zero e = cc
-found test [] (suc k) e = cc
 found test (x ∷ xs) zero e = here (test x) refl (λ h. found test xs zero h) e
   where
     here : (b : Bool) → test x ≡ b → (list_any test xs ≡ true → Found test xs zero) → (b || list_any test xs) ≡ true → Found test (x ∷ xs) zero
@@ -35,6 +34,8 @@ found test (x ∷ xs) zero e = here (test x) refl (λ h. found test xs zero h) e
 found test (x ∷ xs) (suc k) e =
     let w = found test xs k e in
     record { at = suc w.at; from = omega (arith, w.from); instr = w.instr; stands = w.stands; passes = w.passes }
+found test [] zero e = cc
+found test [] (suc k) e = cc
 
 or_right : (a : Bool) → (a || true) ≡ true
 or_right true = refl
@@ -50,22 +51,17 @@ finds test _ _ q x le s e = absurd (first_of (cc, omega arith))
 
 ends_so : (number back : ℕ) (i : Instr) → is_end_of number back i ≡ true → next_in (Some i) ≡ Some (record { number = number; back = back })
 unfolding next_in
-ends_so number back (Next d t) e = both (d == number) (t == back) refl refl e
-  where
-    ending : ℕ → ℕ → Option Ending
-    ending n k = Some (record { number = n; back = k })
-
-    both : (a b : Bool) → (d == number) ≡ a → (t == back) ≡ b → (a && b) ≡ true → ending d t ≡ ending number back
-    both true true n k e = ap (λ x. ending x t) (eqb-true d number n) ∙ ap (λ x. ending number x) (eqb-true t back k)
-    both _ _ n k e = cc
+ends_so number back (Next d t) e =
+    let parts = both_true (d == number) (t == back) e in
+    let same : d ≡ number = eqb-true d number parts.0 in
+    let alike : t ≡ back = eqb-true t back parts.1 in
+    rw (same, alike) refl
 ends_so number back i e = cc
 
 so_ends : (number back : ℕ) (i : Instr) → next_in (Some i) ≡ Some (record { number = number; back = back }) → is_end_of number back i ≡ true
-unfolding next_in
-so_ends number back (Next d t) e =
-    let same = same_Some (record { number = d; back = t }) (record { number = number; back = back }) e in
-    ap (λ b. b && (t == back)) (eq-eqb d number (ap (λ (x : Ending). x.number) same)) ∙ eq-eqb t back (ap (λ (x : Ending). x.back) same)
-so_ends number back i e = cc
+so_ends number back i e =
+    ap (is_end_of number back) (same_Some i (Next number back) (next_there (Some i) number back e))
+    ∙ ap (λ b. b && (back == back)) (eq-eqb number number refl) ∙ eq-eqb back back refl
 
 -- ---- a place within a body
 

@@ -13,7 +13,8 @@ use Rattle.aom_classes.specs.Jumps.{JumpsWell, jump_of}
 use Rattle.aom_classes.specs.Linked.{IsLinked}
 use Rattle.aom_classes.specs.Loops.{LoopsNest, loop_in}
 use Rattle.aom_classes.proofs.Facts.{at_place}
-use Rattle.aom_rules.specs.Calls.{rule_arguments, rule_target, is_construct}
+use Rattle.aom_rules.specs.Calls.{rule_arguments, rule_target}
+use Rattle.aom_rules.specs.Requests.{is_construct}
 use Rattle.aom_shape.specs.Needs.{AllTrue, only_if}
 use Rattle.aom_rules.specs.Rules.{rule_needs}
 use Rattle.aom_shape.specs.Shape.{Shape}
@@ -22,7 +23,7 @@ use Rattle.aom_sound.proofs.Finishing.{all_parts}
 use Rattle.aom_sound.proofs.Fitting.{straight_by}
 use Rattle.aom_sound.specs.Calls.{below_top, passed_cells, returned}
 use Rattle.aom_sound.specs.Cleanup.{to_trap, top_place}
-use Rattle.aom_sound.specs.Effects.{Calls, Carried, Counts, Destroys, Destroys_last, Effect, Goes_on, In_field, In_register, Jumps, Leaves, Made, Operates, Popped, Popped_operation, Pushed, Pushed_operation, Repeats, Returns, Same, Sets_trap, Spot, Update, Written, applied, cells_after, items_after, spot_place, with_words}
+use Rattle.aom_sound.specs.Effects.{Calls, Carried, Counts, Destroys, Destroys_last, Effect, Goes_on, In_field, In_register, Jumps, Leaves, Made, Operates, Popped, Popped_operation, Pushed, Pushed_operation, Repeats, Requested, Returns, Same, Sets_trap, Spot, Update, Written, applied, cells_after, items_after, spot_place, with_words}
 use Rattle.aom_sound.specs.Leaves.{LeavesWith}
 use Rattle.aom_sound.specs.Moves.{makes}
 use Rattle.aom_sound.specs.Objects.{no_words}
@@ -35,9 +36,11 @@ use Rattle.aom_ranks.specs.Ranks.{cell_rank, frame_rank, is_going, left_in, oper
 use Rattle.aom_ranks.specs.Within.{left}
 use Rattle.aom_ranks.proofs.Levels.{begun_paid, called_before, called_lower, cell_paid, cell_some, cell_two, loud_leaver, price_some, run_paid, trapped_before, undo_paid}
 use Rattle.aom_ranks.proofs.Places.{back, enters, jumps, leaves, straight_on}
-use Rattle.aom_ranks.proofs.Standing.{field_stands, operations_below, standing_goes, standing_moved, standing_new, standing_passes, standing_stored}
+use Rattle.aom_ranks.proofs.Standing.{field_stands, operations_below, standing_asked, standing_goes, standing_moved, standing_new, standing_passes, standing_stored}
 use Rattle.aom_ranks.proofs.Worths.{passed_less, to_trap_less}
 use Rattle.aom_ranks.proofs.Sums.{one_less, one_more, scaled, scaled_le}
+use Rattle.aom_image.proofs.Given.{false_given}
+use Rattle.std.proofs.lemmas.Bool.{true≢false}
 
 -- ---- an instruction
 
@@ -87,15 +90,11 @@ module _ (p : Image) (linked : IsLinked p) (c : Choice) (s : State) (fr : Frame)
   unfolding loop_in
   traps target m first x stands loud =
       let less = paid fr.counters (suc fr.place) (straight (Trap target m first x) stands refl) in
-      let lower = called_lower p fr.method m (trapped_before p linked fr.method fr.place d target m first x declared_there stands) (λ q. never (is_quiet p fr.method) q loud) in
+      let lower = called_lower p fr.method m (trapped_before p linked fr.method fr.place d target m first x declared_there stands) (λ q. absurd (true≢false (sym q ∙ loud))) in
       let run = run_paid p m _ lower in
       let passed = passed_less standing standing_passes p fr ts s (length (Trapped ∷ Run fr ∷ ts)) (arguments_of p m) first 0 s.cells in
       let cells = scaled_le (standing (passed_cells p fr ts s (length (Trapped ∷ Run fr ∷ ts)) (arguments_of p m) first 0 s.cells) + operations s.items) (standing s.cells + operations s.items) (cell_rank p) (omega (arith, passed)) in
       omega (arith, less, run, cells)
-    where
-      never : (b : Bool) → b ≡ true → b ≡ false → is_quiet p m ≡ true
-      never true q l = cc
-      never false q l = cc
 
   -- ---- the cleanup stack, and leaves
 
@@ -128,6 +127,7 @@ module _ (p : Image) (linked : IsLinked p) (c : Choice) (s : State) (fr : Frame)
   more (Carried from to) = omega (arith, standing_moved (spot_place p fr ts s from) (spot_place p fr ts s to) s.cells (spot_stands from))
   more (Made name x a) = omega (arith, standing_new name (An_object_of x) (no_words p x) (here fr ts s a) s.cells)
   more (Written w v) = omega (arith, standing_stored s.cells fr.home w v)
+  more (Requested r) = omega (arith, standing_asked s.cells fr.home r)
   more (Pushed a) = omega (arith, standing_moved (here fr ts s a) (Entry (length s.items)) s.cells refl)
   more (Pushed_operation m w) = omega arith
   more (Popped a) = omega (arith, standing_moved (top_place s.items) (here fr ts s a) s.cells refl, operations_below s.items)
@@ -136,8 +136,7 @@ module _ (p : Image) (linked : IsLinked p) (c : Choice) (s : State) (fr : Frame)
   -- ---- the effects
 
   loud_by : (b : Bool) → not b ≡ true → b ≡ false
-  loud_by true e = cc
-  loud_by false e = refl
+  loud_by b e = false_given (λ x. not x ≡ true) b e (λ quiet. cc) (λ loud f. loud)
 
   module _ (sh : Shape) where
     abbrev Ruled : Instr → Type 0
@@ -163,6 +162,7 @@ module _ (p : Image) (linked : IsLinked p) (c : Choice) (s : State) (fr : Frame)
     goes_after i stands plain r Same f = on i stands plain (count_after Same) (omega arith)
     goes_after i stands plain r (Carried from to) f = on i stands plain (count_after (Carried from to)) (omega (arith, standing_moved (spot_place p fr ts s from) (spot_place p fr ts s to) s.cells (spot_stands from)))
     goes_after i stands plain r (Written w v) f = on i stands plain (count_after (Written w v)) (omega (arith, standing_stored s.cells fr.home w v))
+    goes_after i stands plain r (Requested q) f = on i stands plain (count_after (Requested q)) (omega (arith, standing_asked s.cells fr.home q))
     goes_after i stands plain r (Popped a) f = on i stands plain (count_after (Popped a)) (omega (arith, standing_moved (top_place s.items) (here fr ts s a) s.cells refl, operations_below s.items))
     goes_after i stands plain r Popped_operation f = on i stands plain (count_after Popped_operation) (omega (arith, operations_below s.items))
 
@@ -214,7 +214,7 @@ module _ (p : Image) (linked : IsLinked p) (c : Choice) (s : State) (fr : Frame)
     called_quiet target m first x r =
         let parts = all_parts (rule_target p fr.method sh target (method_class p m) (is_construct (method_role p m)) first (length (arguments_of p m))) _ r in
         let others = all_parts (rule_arguments p sh (arguments_of p m) first) _ parts.1 in
-        others.1.0
+        others.1.1.0
 
     pub falls :
         AllUndo p s.items → (i : Instr) → slice_get d.code fr.place ≡ Some i → Ruled i → (e : Effect) → Fits p c fr ts s i e →

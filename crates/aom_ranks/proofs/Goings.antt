@@ -1,6 +1,6 @@
 -- The cells that go are as many as the destructions at hand.
 use Rattle.std.proofs.Common.{◌≡◌, ◌≤◌, ◌+◌, ◌∙◌, ℕ, suc, Bool, true, false, cond, List, [], ◌∷◌, length, Option, Some, None, refl, sym, ap, arith, subst}
-use Rattle.aom_image.proofs.Given.{false_given}
+use Rattle.aom_image.proofs.Given.{false_given, none_given}
 use Rattle.std.specs.Prelude.{◌==◌, ◌&&◌, ◌||◌}
 use Rattle.std.proofs.lemmas.Bool.{eqb-true, ne_eqb}
 use Rattle.aom_image.specs.Image.{Image}
@@ -9,7 +9,7 @@ use Rattle.aom_shape.specs.declared.kind.Age.TheVariants.{Ready}
 use Rattle.aom_shape.specs.declared.kind.Kind.TheVariants.{Null, Own}
 use Rattle.aom_sound.proofs.Maps.{held_without, same_place-true, same_place_refl, tidy_without}
 use Rattle.aom_sound.specs.Claims.{Dispatching, Dying, Layer, Mark, Unwinding, Method, claim, declared, tasks_of}
-use Rattle.aom_sound.specs.Places.{Cell, Elsewhere, Entry, Field, Going, Object, Place, Register, Tidy, held, same_place, without}
+use Rattle.aom_sound.specs.Places.{Cell, Elsewhere, Entry, Field, Going, Object, Place, Register, Sight, Tidy, held, same_place, seen, without}
 use Rattle.aom_sound.specs.State.{State}
 use Rattle.aom_sound.specs.WellTyped.{Back, Caught, Fits, Gone, Now, Returns, Stack, WellTyped, Leaves}
 use Rattle.aom_ranks.specs.Ranks.{destructions, is_going, standing}
@@ -120,12 +120,11 @@ claims_none p cs (Unwinding code es ∷ ls) k e = claims_none p cs ls k e
 claims_none p cs (Dispatching d ∷ ls) k e = claims_none p cs ls k e
 claims_none p cs (Dying o ∷ ls) k e = let ih : (goes_at ls k ≡ false → claim p (declared p cs) ls (Going k) ≡ Null) = λ h. claims_none p cs ls k h in false_given (λ b. (b || goes_at ls k) ≡ false) (length (tasks_of ls) == k) e (λ e. cc) (λ s e. ap (λ b. cond b (Own o.thing Ready) (claim p (declared p cs) ls (Going k))) s ∙ ih e)
 
-nothing_of_null : (p : Image) (h : Place → Option Object) (o : Option Object) → Fits p h o Null → o ≡ None
-nothing_of_null p h None f = refl
-nothing_of_null p h (Some o) f = absurd f
+nothing_of_null : (p : Image) (h : Sight) (o : Option Object) → Fits p h o Null → o ≡ None
+nothing_of_null p h o f = none_given (λ x. Fits p h x Null) o f (λ x fits. fits) (λ none fits. none)
 
 pub cells_stand_or_go : (p : Image) (t : Typing) (s : State) → WellTyped p t s → standing s.cells + destructions s.tasks ≡ length s.cells
 cells_stand_or_go p t s w =
     subst (λ ts. standing s.cells + destructions ts ≡ length s.cells) (sym w.tasks)
     (counted_cells w.layers s.cells w.good.tidy (stack_held p t s.cells Now w.layers w.good.stack)
-    (λ k e. nothing_of_null p (held s.cells) (held s.cells (Going k)) (subst (λ x. Fits p (held s.cells) (held s.cells (Going k)) x) (claims_none p s.cells w.layers k e) (w.good.fits (Going k)))))
+    (λ k e. nothing_of_null p (seen s.cells) (held s.cells (Going k)) (subst (λ x. Fits p (seen s.cells) (held s.cells (Going k)) x) (claims_none p s.cells w.layers k e) (w.good.fits (Going k)))))

@@ -1,23 +1,19 @@
 -- What a run of a method costs those that begin it.
-use Rattle.std.proofs.Common.{◌≡◌, ◌<◌, ◌≤◌, ◌+◌, ◌*◌, ◌^◌, ◌∙◌, ℕ, zero, suc, Bool, true, false, cond, List, [], ◌∷◌, length, Option, Some, None, slice_get, refl, ap, arith, subst}
-use Rattle.std.specs.Prelude.{All, IsSome, get_or, position}
+use Rattle.std.proofs.Common.{◌≡◌, ◌<◌, ◌≤◌, ◌+◌, ◌*◌, ◌^◌, ◌∙◌, ℕ, suc, Bool, true, false, cond, List, [], length, Option, Some, None, slice_get, refl, ap, arith, subst}
+use Rattle.std.specs.Prelude.{All, IsSome, position}
 use Rattle.std.proofs.lemmas.List.Elements.{All-get_or}
-use Rattle.std.proofs.lemmas.List.Quantifiers.{position-Some}
-use Rattle.std.proofs.lemmas.Option.{slice_get_within, slice_get-get_or, get_or_from_slice_get}
+use Rattle.std.proofs.lemmas.Option.{slice_get_within, get_or_from_slice_get}
 use Rattle.aom_image.specs.Image.{Image}
 use Rattle.aom_image.specs.Views.{is_quiet, leaves, leaves_in, method_at, quiet_in}
 use Rattle.aom_instructions.specs.declared.instr.Instr.TheVariants.{Call, Trap}
 use Rattle.aom_instructions.specs.declared.instr.Target.{Target}
 use Rattle.aom_image.specs.declared.method.Method.{Method}
-use Rattle.aom_image.specs.declared.method.Role.{Role}
 use Rattle.aom_image.specs.declared.method.Role.TheVariants.{Destruct}
 use Rattle.aom_image.specs.declared.method.Thing.{Thing}
-use Rattle.aom_image.specs.declared.method.Thing.TheVariants.{Object as An_object_of, Message}
 use Rattle.aom_classes.specs.Calls.{CallsOrdered, RunsBelow}
 use Rattle.aom_classes.specs.Linked.{IsLinked}
-use Rattle.aom_classes.specs.Roles.{destructor_of, is_class, is_main, main_of, plays, role_number, role_of, same_role}
+use Rattle.aom_classes.specs.Roles.{destructor_of, is_main, main_of, role_of}
 use Rattle.aom_roles.specs.Shapes.{FlagsFit, HasShape, IsShaped, kind_of, may_leave, is_quiet as quiet_bit}
-use Rattle.aom_classes.proofs.Each.{both}
 use Rattle.aom_classes.proofs.Facts.{at_place}
 use Rattle.aom_sound.specs.Destruction.{begun, begun_by}
 use Rattle.aom_sound.specs.Places.{Object}
@@ -26,15 +22,16 @@ use Rattle.aom_sound.specs.WellTyped.{IsUndo}
 use Rattle.aom_ranks.specs.Ranks.{all_left, base, cell_rank, left_in, level, price, tasks_rank, waiting_rank}
 use Rattle.aom_ranks.specs.Within.{left}
 use Rattle.aom_ranks.proofs.Sums.{pow_less, pow_more, pow_some, pow_step, pow_twice, whole_run}
+use Rattle.aom_image.proofs.Given.{cons_given, some_given}
+use Rattle.aom_classes.proofs.Playing.{destroyed, role_found}
+use Rattle.aom_ranks.proofs.Sums.{one_of_all}
 
 -- what holds of each element holds of one
 pub all_at : {X : Type 0} (P : X → Type 0) (xs : List X) (k : ℕ) (x : X) → All P xs → slice_get xs k ≡ Some x → P x
 all_at P xs k x h e = subst P (get_or_from_slice_get xs k x x e) (All-get_or P xs k x (slice_get_within xs k x e) h)
 
 left_below : (ms : List Method) (k : ℕ) (m : Method) → slice_get ms k ≡ Some m → left m.code [] 0 ≤ all_left ms
-left_below [] k m e = cc
-left_below (x ∷ ms) zero m e = let same : x ≡ m = cc in let is : left x.code [] 0 ≡ left m.code [] 0 = ap (λ (y : Method). left y.code [] 0) same in omega (arith, is)
-left_below (x ∷ ms) (suc k) m e = omega (arith, left_below ms k m e)
+left_below ms k m e = one_of_all (λ (x : Method). left x.code [] 0) all_left (λ x xs. refl) ms k m e
 
 left_at_begin : (p : Image) (m : ℕ) → left_in (method_at p m) [] 0 ≤ all_left p.methods
 unfolding method_at
@@ -72,25 +69,18 @@ called_lower p m m' below quiet = go (is_quiet p m) (is_quiet p m') quiet
 pub cell_two : (p : Image) → IsLinked p → 2 ≤ cell_rank p
 unfolding main_of
 cell_two p linked =
-    let some : 1 ≤ length p.methods = go p.methods linked.main in
+    let some : 1 ≤ length p.methods = cons_given (λ ms. IsSome (position is_main ms)) p.methods linked.main (λ none. cc) (λ m ms is found. omega (arith, ap length is)) in
     omega (arith, pow_less (all_left p.methods) 0 (length p.methods) (omega (arith, some)), pow_some (all_left p.methods) 0)
-  where
-    go : (ms : List Method) → IsSome (position is_main ms) → 1 ≤ length ms
-    go [] e = cc
-    go (m ∷ ms) e = omega arith
 
 -- a method that may leave is not quiet
 pub loud_leaver : (p : Image) → IsLinked p → (m : ℕ) → leaves p m ≡ true → is_quiet p m ≡ false
 unfolding leaves_in quiet_in method_at
-loud_leaver p linked m = go (slice_get p.methods m) refl
+loud_leaver p linked m e = some_given (λ o. leaves_in o ≡ true) (slice_get p.methods m) e (λ none. cc) (λ d there may.
+    let shaped : IsShaped p d = all_at (IsShaped p) p.methods m d linked.shapes there in ap quiet_in there ∙ flag d shaped.flags (quiet_bit d) refl may)
   where
     flag : (d : Method) → FlagsFit d → (b : Bool) → quiet_bit d ≡ b → may_leave d ≡ true → b ≡ false
     flag d fits true q e = let never = fits.quiet q in cc
     flag d fits false q e = refl
-
-    go : (o : Option Method) → slice_get p.methods m ≡ o → leaves_in o ≡ true → quiet_in o ≡ false
-    go None there e = cc
-    go (Some d) there e = let shaped : IsShaped p d = all_at (IsShaped p) p.methods m d linked.shapes there in flag d shaped.flags (quiet_bit d) refl e
 
 -- a move of a method that is not quiet pays for a cell
 pub cell_paid : (p : Image) (m : ℕ) → is_quiet p m ≡ false → cell_rank p + cell_rank p ≤ price p m
@@ -102,38 +92,26 @@ cell_paid p m loud =
 
 -- ---- destructors
 
-is_destruct : (r : Role) → same_role r Destruct ≡ true → r ≡ Destruct
-unfolding role_number
-is_destruct Destruct e = refl
-is_destruct _ e = cc
-
 record IsQuietThere (p : Image) (m : ℕ) : Type 0 where
   within : m < length p.methods
   quiet : is_quiet p m ≡ true
 
 -- a destructor is a quiet method of the image
 quiet_destructor : (p : Image) → IsLinked p → (c m : ℕ) → role_of p c Destruct ≡ Some m → IsQuietThere p m
-unfolding role_of plays method_at quiet_in
-quiet_destructor p linked c m e = go p.methods refl e
-  where
-    go : (ms : List Method) → p.methods ≡ ms → position (plays c Destruct) ms ≡ Some m → IsQuietThere p m
-    go [] same e = cc
-    go (x ∷ ms) same e =
-        let w = position-Some (plays c Destruct) (x ∷ ms) m x e in
-        let d = get_or (x ∷ ms) m x in
-        let there : slice_get p.methods m ≡ Some d = ap (λ l. slice_get l m) same ∙ slice_get-get_or (x ∷ ms) m x w.0 in
-        let role : d.role ≡ Destruct = is_destruct d.role (both (is_class c d.class) (same_role d.role Destruct) w.1).1 in
-        let shaped : IsShaped p d = all_at (IsShaped p) p.methods m d linked.shapes there in
-        let shape : HasShape Destruct (kind_of p d.class) d = subst (λ r. HasShape r (kind_of p d.class) d) role shaped.role in
-        record { within = slice_get_within p.methods m d there; quiet = ap quiet_in there ∙ shape.flags }
+unfolding method_at quiet_in
+quiet_destructor p linked c m e =
+    let w = role_found p c m Destruct e in
+    let d = w.0 in
+    let shaped : IsShaped p d = all_at (IsShaped p) p.methods m d linked.shapes w.1 in
+    let shape : HasShape Destruct (kind_of p d.class) d = subst (λ r. HasShape r (kind_of p d.class) d) w.3 shaped.role in
+    record { within = slice_get_within p.methods m d w.1; quiet = ap quiet_in w.1 ∙ shape.flags }
 
 -- a destruction that begins is paid by its cell, with one left
 pub begun_paid : (p : Image) → IsLinked p → (o : Object) (height : ℕ) (below : List Task) → tasks_rank p (begun p o height below) + 1 ≤ cell_rank p + waiting_rank p below
 begun_paid p linked o height below = go (destructor_of p o.thing) (of_thing o.thing)
   where
     of_thing : (t : Thing) (m : ℕ) → destructor_of p t ≡ Some m → IsQuietThere p m
-    of_thing (An_object_of c) m e = quiet_destructor p linked c m e
-    of_thing Message m e = cc
+    of_thing x m e = let w = destroyed p x m e in quiet_destructor p linked w.0 m w.2
 
     go : (d : Option ℕ) → ((m : ℕ) → d ≡ Some m → IsQuietThere p m) → tasks_rank p (begun_by d o height below) + 1 ≤ cell_rank p + waiting_rank p below
     go None h = omega (arith, cell_two p linked)
@@ -163,10 +141,5 @@ pub undo_paid : (p : Image) (m : ℕ) → IsUndo p m → left_in (method_at p m)
 unfolding method_at
 undo_paid p m undo =
     let is : level p m ≡ m = ap (λ b. cond b m (suc (length p.methods) + m)) undo.quiet in
-    let within : m < length p.methods = within_methods p.methods m undo.there in
+    let within : m < length p.methods = some_given (λ o. IsSome o) (slice_get p.methods m) undo.there (λ none. cc) (λ d is some. slice_get_within p.methods m d is) in
     run_paid p m (length p.methods) (omega (arith, is, within))
-  where
-    within_methods : (ms : List Method) (k : ℕ) → IsSome (slice_get ms k) → k < length ms
-    within_methods [] k e = cc
-    within_methods (x ∷ ms) zero e = omega arith
-    within_methods (x ∷ ms) (suc k) e = omega (arith, within_methods ms k e)

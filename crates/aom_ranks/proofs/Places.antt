@@ -1,5 +1,5 @@
 -- What is left of a method falls with each of its moves.
-use Rattle.std.proofs.Common.{◌≡◌, ◌<◌, ◌≤◌, ◌+◌, ◌-◌, ◌*◌, ◌^◌, ◌∙◌, ℕ, zero, suc, List, ◌∷◌, length, Some, None, slice_get, ap, arith}
+use Rattle.std.proofs.Common.{◌≡◌, ◌<◌, ◌≤◌, ◌+◌, ◌-◌, ◌*◌, ◌^◌, ◌∙◌, ℕ, refl, suc, List, length, Some, None, slice_get, ap, arith}
 use Rattle.std.proofs.lemmas.Option.{slice_get_within}
 use Rattle.aom_instructions.specs.declared.instr.Instr.{Instr}
 use Rattle.aom_instructions.specs.declared.instr.Instr.TheVariants.{Loop, Next}
@@ -10,6 +10,7 @@ use Rattle.aom_shape.specs.Tables.{at, put_at}
 use Rattle.aom_ranks.specs.Within.{all_rounds, left, rounds_of, rounds_weight, weight}
 use Rattle.aom_ranks.proofs.Rounds as rounds
 use Rattle.aom_ranks.proofs.Sums.{pow_less, pow_some, pow_step, scaled, scaled_le}
+use Rattle.aom_ranks.proofs.Sums.{one_of_all}
 
 -- ---- weights
 
@@ -20,9 +21,7 @@ weight_less : (code : List Instr) (k to : ℕ) → k < length code → k < to �
 weight_less code k to within later = pow_less (all_rounds code) (length code - to) (length code - k) (omega (arith, within, later))
 
 rounds_less : (code : List Instr) (k : ℕ) (d n : ℕ) → slice_get code k ≡ Some (Loop d n) → n ≤ all_rounds code
-rounds_less (x ∷ xs) zero d n e = let same : x ≡ Loop d n = cc in let is : rounds_of x ≡ n = ap rounds_of same in omega (arith, is)
-rounds_less (x ∷ xs) (suc k) d n e = omega (arith, rounds_less xs k d n e)
-rounds_less _ _ d n e = cc
+rounds_less code k d n e = one_of_all rounds_of all_rounds (λ x xs. refl) code k (Loop d n) e
 
 -- a loop's place weighs more than its body does for all rounds
 weight_loop : (code : List Instr) (k n : ℕ) → k < length code → n ≤ all_rounds code → weight code (suc k) + n * weight code (suc k) < weight code k

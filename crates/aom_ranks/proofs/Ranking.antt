@@ -36,6 +36,7 @@ use Rattle.aom_ranks.proofs.Levels.{begun_paid, price_some, undo_paid}
 use Rattle.aom_ranks.proofs.Standing.{operations_below, standing_goes, standing_passes, standing_without}
 use Rattle.aom_ranks.proofs.Sums.{one_less, scaled_le}
 use Rattle.aom_ranks.proofs.Worths.{resumed_alike, returned_less, told_alike}
+use Rattle.aom_sound.proofs.Layers.{method_layer}
 
 -- ---- a return
 
@@ -75,11 +76,7 @@ module _ (p : Image) (t : Typing) (linked : IsLinked p) (typed : IsTyped p t) (c
       (λ g a stands. returns p t (counted p s) fr sh ls good.stack (ends p linked c (counted p s) fr (tasks_of ls) m.0 m.1 a stands) g a)
 
   acts : (ls : List Layer) → Good p t s.cells ls → (fr : Frame) (ts : List Task) → tasks_of ls ≡ Run fr ∷ ts → ActsLower fr ts
-  acts (Method fr' sh ∷ ls) good fr ts at =
-      let same : fr' ≡ fr = cc in
-      let below : tasks_of ls ≡ ts = cc in
-      subst (λ f. ActsLower f ts) same (subst (λ l. ActsLower fr' l) below (acts_there fr' sh ls good))
-  acts _ good fr ts at = cc
+  acts ls good fr ts at = method_layer (Good p t s.cells) fr ts ls at good (λ sh below under there. subst (ActsLower fr) under (acts_there fr sh below there))
 
   -- a cell goes
   vanishes : (ts : List Task) → rank p (record (counted p s) { cells = without (Going (length ts)) s.cells; tasks = resumed ts }) < total (Destroy ∷ ts)
@@ -134,9 +131,8 @@ module _ (p : Image) (t : Typing) (linked : IsLinked p) (typed : IsTyped p t) (c
 
   -- something that moves is at hand
   not_still : (ls : List Layer) → Good p t s.cells ls → (task : Task) (tasks : List Task) → tasks_of ls ≡ task ∷ tasks → IsStill (tasks_of ls) → ⊥
-  not_still [] good task tasks e still = cc
   not_still (Mark gv ∷ ls) good task tasks e still = good.stack.0
-  not_still _ good task tasks e still = still
+  not_still _ good task tasks e still = first_of (assumption tt, cc)
 
   lowers : IsBusy s → (u : State) → Move p c s u → rank p u < rank p s
   lowers busy u (Rests still same) = absurd (not_still w.layers w.good busy.0 busy.1 (sym w.tasks ∙ busy.2) (subst IsStill w.tasks still))

@@ -14,6 +14,7 @@ use Rattle.aom_sound.proofs.Maps.{at-put_at}
 use Rattle.aom_ranks.specs.Within.{is_in_body, loops_worth, total, worth_at}
 use Rattle.aom_ranks.proofs.Sums.{total_but, total_le}
 use Rattle.aom_ranks.proofs.Bodies.{IsIn, body_in, in_body, other_number}
+use Rattle.aom_classes.proofs.LoopPlaces.{loop_there, next_there}
 
 -- ---- the bodies round a place
 
@@ -33,32 +34,14 @@ from_here code k p d none w = record {
 begins_there : (code : List Instr) (p d : ℕ) → loop_at code p ≡ Some d → IfSome (slice_get code p) (λ i. begins_loop i ≡ true)
 unfolding loop_in begins_loop
 begins_there code p d e =
-    elim (slice_get code p) as (λ o. loop_in o ≡ Some d → IfSome o (λ i. begins_loop i ≡ true)) [
-      | None ↦ λ h. tt
-      | Some i ↦ λ h. begins i h
-    ] e
-  where
-    begins : (i : Instr) → loop_in (Some i) ≡ Some d → begins_loop i ≡ true
-    begins (Loop c n) h = refl
-    begins i h = cc
+    subst (λ o. IfSome o (λ i. begins_loop i ≡ true)) (sym (loop_there (slice_get code p) d e).1) refl
 
 abbrev ending : ℕ → ℕ → Ending
 ending n t = record { number = n; back = t }
 
 goes_back : (code : List Instr) (q d t : ℕ) → next_at code q ≡ Some (record { number = d; back = t }) → IfSome (slice_get code q) (λ i. back_of i ≡ Some t)
 unfolding next_in back_of
-goes_back code q d t e =
-    elim (slice_get code q) as (λ o. next_in o ≡ Some (record { number = d; back = t }) → IfSome o (λ i. back_of i ≡ Some t)) [
-      | None ↦ λ h. tt
-      | Some i ↦ λ h. back i h
-    ] e
-  where
-    back_is : (c u : ℕ) → Some (ending c u) ≡ Some (ending d t) → u ≡ t
-    back_is c u h = ap (λ (e : Ending). e.back) (same_Some (ending c u) (ending d t) h)
-
-    back : (i : Instr) → next_in (Some i) ≡ Some (record { number = d; back = t }) → back_of i ≡ Some t
-    back (Next c u) h = ap (λ x. Some x) (back_is c u h)
-    back i h = cc
+goes_back code q d t e = subst (λ o. IfSome o (λ i. back_of i ≡ Some t)) (sym (next_there (slice_get code q) d t e)) refl
 
 as_body : (code : List Instr) (d p q : ℕ) → Closes code d p q → Body code p q
 as_body code d p q c = record { begins = begins_there code p d c.begins; later = c.later; back = goes_back code q d (suc p) c.ends }
@@ -191,11 +174,7 @@ module _ (code : List Instr) (worth : ℕ → ℕ → ℕ) (grows : (p a b : ℕ
     -- the loop at r has its number, and those round it have others
     other_loop : (c p : ℕ) → IsIn code c p r → c ≢ d
     unfolding loop_in
-    other_loop c p inside = by_loop (slice_get code r) refl it.begins
-      where
-        by_loop : (o : Option Instr) → slice_get code r ≡ o → loop_in o ≡ Some d → c ≢ d
-        by_loop (Some (Loop a x)) e h = let same : a ≡ d = cc in subst (λ y. c ≢ y) same (other_number code c a p r x nest inside e)
-        by_loop _ e h = cc
+    other_loop c p inside = let loop = loop_there (slice_get code r) d it.begins in other_number code c d p r loop.0 nest inside loop.1
 
     around : (p : ℕ) → p ≢ r → (c : ℕ) → IsIn code c p (suc r) → IsIn code c p k × (at 0 (put_at 0 cs d n) c ≤ at 0 cs c)
     around p other c w =

@@ -1,7 +1,8 @@
 -- How many cells stand, after each change of the cells.
-use Rattle.std.proofs.Common.{◌≡◌, ◌≤◌, ◌∙◌, ℕ, ℤ, suc, Bool, true, false, cond, List, [], ◌∷◌, Some, refl, ap, arith}
+use Rattle.std.proofs.Common.{◌≡◌, ◌≤◌, ◌∙◌, ℕ, ℤ, suc, Bool, true, false, cond, List, [], ◌∷◌, Option, Some, refl, ap, arith}
 use Rattle.aom_image.specs.declared.method.Thing.{Thing}
-use Rattle.aom_sound.specs.Places.{Cell, Going, Object, Place, Register, held, moved, same_place, set_word_field, with_new, without}
+use Rattle.aom_sound.specs.Enlisted.{rerequested}
+use Rattle.aom_sound.specs.Places.{Cell, Going, Object, Place, Register, Request, held, moved, same_place, set_request, set_word_field, with_new, without}
 use Rattle.aom_sound.specs.State.{AtRoot, Home, Inside, Item, An_object, An_operation, A_mark, Static, field_place}
 use Rattle.aom_sound.specs.Calls.{below_top}
 use Rattle.aom_sound.specs.Words.{stored}
@@ -66,6 +67,15 @@ pub standing_stored : (cs : List Cell) (h : Home) (w : ℕ) (v : ℤ) → standi
 standing_stored cs Static w v = refl
 standing_stored cs AtRoot w v = refl
 standing_stored cs (Inside o from) w v = written_same o.name w v cs
+
+asked_same : (n : ℕ) (r : Option Request) (cs : List Cell) → standing (set_request n r cs) ≡ standing cs
+asked_same n r [] = refl
+asked_same n r (c ∷ cs) = ap (λ x. cond (is_going c.owner) x (suc x)) (asked_same n r cs)
+
+pub standing_asked : (cs : List Cell) (h : Home) (r : Option Request) → standing (rerequested cs h r) ≡ standing cs
+standing_asked cs Static r = refl
+standing_asked cs AtRoot r = refl
+standing_asked cs (Inside o from) r = asked_same o.name r cs
 
 pub field_stands : (h : Home) (f : ℕ) → is_going (field_place h f) ≡ false
 field_stands Static f = refl

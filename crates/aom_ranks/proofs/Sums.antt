@@ -4,6 +4,8 @@ use Rattle.std.specs.Prelude.{◌≢◌}
 use Rattle.std.proofs.Math.Nat.{pow-succ', pow-zero, mul-le-mul_right}
 use Rattle.std.proofs.lemmas.Bool.{cases_lt}
 use Rattle.aom_ranks.specs.Within.{total}
+use Rattle.std.proofs.Common.{List, ◌∷◌, Some, ap, slice_get}
+use Rattle.std.proofs.lemmas.Option.{same_Some}
 
 pub total_le : (f g : ℕ → ℕ) (n : ℕ) → ((j : ℕ) → f j ≤ g j) → total f n ≤ total g n
 total_le f g zero h = omega arith
@@ -69,3 +71,9 @@ one_less m x c le = scaled m x c (omega (arith, le))
 -- a whole run of a method, and two
 pub whole_run : (x a c : ℕ) → x ≤ a → 1 ≤ c → x * c + 2 ≤ (a + 2) * c
 whole_run x a c le some = let more = scaled_le x a c le in grind (arith, more, some)
+
+-- what one element counts is no more than what all count
+pub one_of_all : {X : Type 0} (f : X → ℕ) (whole : List X → ℕ) → ((x : X) (xs : List X) → whole (x ∷ xs) ≡ f x + whole xs) → (xs : List X) (k : ℕ) (x : X) → slice_get xs k ≡ Some x → f x ≤ whole xs
+one_of_all f whole more (y ∷ xs) zero x e = omega (arith, more y xs, ap f (same_Some y x e))
+one_of_all f whole more (y ∷ xs) (suc k) x e = omega (arith, more y xs, one_of_all f whole more xs k x e)
+one_of_all f whole more _ _ x e = cc

@@ -9,6 +9,18 @@ use Rattle.aom_asm.specs.Body.{Program}
 use Rattle.aom_asm.specs.Denoted.{and_then, at_line, grown, read_rest, step}
 use Rattle.aom_readback.specs.Texts.{all_words}
 
+-- the first of the statements whose words begin so, and those behind it
+pub record First (ss : List Statement) (ws : List (List ℕ)) (left : List (List (List ℕ))) : Type 0 where
+  pub one : Statement
+  pub rest : List Statement
+  pub is : ss ≡ one ∷ rest
+  pub here : one.words ≡ ws
+  pub behind : all_words rest ≡ left
+
+pub first_of : {ws : List (List ℕ)} {left : List (List (List ℕ))} (ss : List Statement) → all_words ss ≡ ws ∷ left → First ss ws left
+first_of [] words = absurd cc
+first_of (s ∷ ss) words = record { one = s; rest = ss; is = refl; here = cc; behind = cc }
+
 -- reading statements from a program on is reading the others, which have those words, from another program on
 pub record Goes (last : ℕ) (scope : Scope) (p : Program) (ss : List Statement) (q : Program) (left : List (List (List ℕ))) : Type 0 where
   pub rest : List Statement
@@ -22,14 +34,13 @@ module _ {last : ℕ} {scope : Scope} where
 
   -- one statement is read
   pub steps : {p q : Program} {ws : List (List ℕ)} {left : List (List (List ℕ))} (ss : List Statement) → all_words ss ≡ ws ∷ left → ((rest : List Statement) → all_words rest ≡ left → step scope rest p ws ≡ Ok q) → Goes last scope p ss q left
-  steps [] words read = absurd cc
-  steps {p = p} {q = q} {ws = ws} {left = left} (s ∷ ss) words read =
-      let here : s.words ≡ ws = cc in
-      let behind : all_words ss ≡ left = cc in
+  steps {p = p} {q = q} ss words read =
+      let f = first_of ss words in
       record {
-        rest = ss;
-        words = behind;
-        reads = ap (λ r. and_then (at_line s.line r) (λ q. read_rest last scope q ss)) (ap (step scope ss p) here ∙ read ss behind);
+        rest = f.rest;
+        words = f.behind;
+        reads = ap (λ l. read_rest last scope p l) f.is
+            ∙ ap (λ r. and_then (at_line f.one.line r) (λ q. read_rest last scope q f.rest)) (ap (step scope f.rest p) f.here ∙ read f.rest f.behind);
       }
 
   -- and more is read behind it

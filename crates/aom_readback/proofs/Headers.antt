@@ -5,7 +5,6 @@ use Rattle.aom_image.specs.WellFormed.{HeaderFits}
 use Rattle.aom_image.specs.declared.image.Header.{Header}
 use Rattle.aom_text.specs.Words.{others_of}
 use Rattle.aom_syntax.specs.Headers.{image_statement, optional_root, limits_and_root}
-use Rattle.aom_syntax.specs.Reading.{Reading, giving, keyword, next, number, optional_number}
 use Rattle.aom_syntax.specs.declared.keyword.Keyword.TheVariants as k
 use Rattle.aom_syntax.specs.declared.scope.Scope.{Scope}
 use Rattle.aom_listing.specs.Headers.{header_words, root_words}

@@ -1,5 +1,5 @@
 -- Each instruction reads back, by the kinds of its operands.
-use Rattle.std.proofs.Common.{◌≡◌, ℕ, ◌<◌, List, [], ◌∷◌, ◌++◌, refl, ap, ◌∙◌, arith, Some, Result, Ok, IfSome}
+use Rattle.std.proofs.Common.{◌≡◌, ℕ, ◌<◌, List, ◌∷◌, refl, ap, ◌∙◌, arith, Some, Ok}
 use Rattle.aom_instructions.proofs.Again.{parts_make_again}
 use Rattle.aom_instructions.specs.Mnemonics.{mnemonic_text}
 use Rattle.aom_instructions.specs.Operands.{LargeFits, OperandsFit, SmallFits}
@@ -23,7 +23,7 @@ use Rattle.aom_instructions.specs.declared.operand.Small.{Small}
 use Rattle.aom_instructions.specs.declared.operand.Small.TheVariants as small
 use Rattle.aom_syntax.specs.Names.{place_of}
 use Rattle.aom_syntax.specs.Reading.{◌>>=◌, Reading, giving, next}
-use Rattle.aom_syntax.specs.Words.{in_order, large_operand, operands_read, small_operand, words_operands}
+use Rattle.aom_syntax.specs.Words.{in_order, large_operand, small_operand, words_operands}
 use Rattle.aom_syntax.specs.declared.scope.Scope.{Scope}
 use Rattle.aom_listing.specs.Operands.{label_name}
 use Rattle.aom_listing.specs.Words.{in_text, large_words, small_words, words_statement}

@@ -6,7 +6,7 @@ use Rattle.std.specs.Int.{w32}
 use Rattle.std.specs.Str.{bytes_eq}
 use Rattle.std.specs.List.{list_all, position}
 use Rattle.std.proofs.lemmas.Bool.{and_parts, le-leb, lt-ltb, false_from_ne_true}
-use Rattle.std.proofs.lemmas.Fmt.{decimal_injective, decimal_nonempty, length-decimal-le}
+use Rattle.std.proofs.lemmas.Fmt.{decimal_injective, length-decimal-le}
 use Rattle.std.proofs.lemmas.List.Sums.{position_or_len_is}
 use Rattle.std.proofs.lemmas.Slice.Eq.{bytes_eq-Decides}
 use Rattle.std.proofs.lemmas.Grind.{common_steps}
@@ -53,9 +53,9 @@ and_false true = refl
 and_false false = refl
 
 -- a word of digits behind a letter is no reserved word
-unreserved : (letter : ℕ) (ds : List ℕ) → 0 < length ds → list_all is_digit ds ≡ true → is_reserved (letter ∷ ds) ≡ false
-unreserved letter [] some digits = absurd (omega arith)
-unreserved letter (d ∷ ds) some digits =
+unreserved : (letter : ℕ) (ds : List ℕ) → list_all is_digit ds ≡ true → is_reserved (letter ∷ ds) ≡ false
+unreserved letter [] digits = simp and_false
+unreserved letter (d ∷ ds) digits =
     let small : d ≤ 57 = grind (arith, common_steps) in
     let no_s : (d == 115) ≡ false = grind (arith, common_steps) in
     let no_o : (d == 111) ≡ false = grind (arith, common_steps) in
@@ -66,7 +66,7 @@ pub name_lettered : (letter n : ℕ) → is_letter letter ≡ true → n < 2 ^ 3
 name_lettered letter n is small =
     let form : list_all is_name_byte (decimal n) ≡ true = all_of is_digit is_name_byte digit_is_name_byte (decimal n) (all_digits n (omega arith)) in
     let few : nat_le (length (lettered letter n)) 32 ≡ true = le-leb _ _ (omega (arith, length-decimal-le 10 n (omega arith) (omega arith) (omega arith))) in
-    let free = unreserved letter (decimal n) (decimal_nonempty n (omega arith)) (all_digits n (omega arith)) in
+    let free = unreserved letter (decimal n) (all_digits n (omega arith)) in
     rw (is, form, few, free)
 
 -- ---- places

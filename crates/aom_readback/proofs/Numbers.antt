@@ -1,5 +1,5 @@
 -- Numbers in decimal digits read back.
-use Rattle.std.proofs.Common.{◌≡◌, ℕ, ℤ, pos, negsuc, suc, min, ◌<◌, ◌≤◌, ◌^◌, ◌==◌, Bool, true, false, nat_lt, nat_le, List, [], ◌∷◌, length, Some, ◌∙◌, arith, rules}
+use Rattle.std.proofs.Common.{◌≡◌, ℕ, ℤ, pos, negsuc, suc, min, ◌<◌, ◌≤◌, ◌^◌, ◌==◌, Bool, true, false, nat_lt, nat_le, List, [], ◌∷◌, length, Some, ◌∙◌, arith, rules, refl}
 use Rattle.std.specs.Fmt.{decimal, signed_decimal}
 use Rattle.std.specs.Prelude.{FitsSigned}
 use Rattle.std.specs.Int.{w32}
@@ -30,14 +30,14 @@ pub number_from_decimal : (b : Bool) (n : ℕ) → n < 2 ^ 40 → number_from b 
 number_from_decimal b n small = of_digits b (decimal n) n (decimal_nonempty n (omega arith)) (all_digits n (omega arith)) (size_of_decimal n (omega arith)) small
 
 -- digits begin with no minus
-no_minus : (ds : List ℕ) → 0 < length ds → list_all is_digit ds ≡ true → number_of ds ≡ number_from false ds
-no_minus [] some digits = absurd (omega arith)
-no_minus (d ∷ ds) some digits =
+no_minus : (ds : List ℕ) → list_all is_digit ds ≡ true → number_of ds ≡ number_from false ds
+no_minus [] digits = refl
+no_minus (d ∷ ds) digits =
     let other : (d == 45) ≡ false = grind (arith, common_steps) in
     rw other
 
 pub number_of_decimal : (n : ℕ) → n < 2 ^ 40 → number_of (decimal n) ≡ Some (record { is_negative = false; size = n })
-number_of_decimal n small = no_minus (decimal n) (decimal_nonempty n (omega arith)) (all_digits n (omega arith)) ∙ number_from_decimal false n small
+number_of_decimal n small = no_minus (decimal n) (all_digits n (omega arith)) ∙ number_from_decimal false n small
 
 -- ---- ranges
 

@@ -5,7 +5,7 @@ use Rattle.std.specs.Int.{w32}
 use Rattle.std.specs.Fmt.{signed_decimal}
 use Rattle.std.specs.List.{list_all}
 use Rattle.aom_text.specs.Words.{is_plain}
-use Rattle.aom_instructions.specs.Operands.{IsDepth, IsField, IsRegister, IsWord, TargetFits}
+use Rattle.aom_instructions.specs.Operands.{IsDepth, IsField, IsWord, TargetFits}
 use Rattle.aom_instructions.specs.declared.instr.Target.{Target}
 use Rattle.aom_instructions.specs.declared.instr.Target.TheVariants as targets
 use Rattle.aom_syntax.specs.Names.{place_of}

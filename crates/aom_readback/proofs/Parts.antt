@@ -34,7 +34,7 @@ use Rattle.aom_asm.specs.TextNames.{is_end, label_in, labels_of, label_or_none a
 use Rattle.aom_readback.specs.Naming.{HasNames, code_labels, heading_of, label_or_none, labels_from}
 use Rattle.aom_readback.specs.Texts.{SaysQuiet, all_words}
 use Rattle.aom_readback.proofs.Classes.{class_statement_reads}
-use Rattle.aom_readback.proofs.Following.{Goes, arrives, at_seam, goes_on, room, stays, steps}
+use Rattle.aom_readback.proofs.Following.{Goes, arrives, at_seam, goes_on, room, stays, steps, first_of}
 use Rattle.aom_readback.proofs.Methods.{heading_reads}
 use Rattle.aom_readback.proofs.Readings.{takes_any_keyword}
 use Rattle.aom_readback.proofs.Statements.{instruction_reads, label_cut}
@@ -67,19 +67,17 @@ has_its_label false place i = plain_has_no_label i
 
 -- the labels up to the end of a method are those of its code
 labels_there : (code : List Instr) (place : ℕ) (is : List Instr) (labels : List (List ℕ)) (left : List (List (List ℕ))) (ss : List Statement) → all_words ss ≡ instr_statements code place is ++ end_words ∷ left → labels_of labels ss ≡ labels ++ labels_from code place is
-labels_there code place [] labels left (s ∷ ss) words =
-    let here : s.words ≡ end_words = cc in
-    ap (λ ws. if is_end ws then labels else labels_of (labels ++ label_in ws ∷ []) ss) here ∙ sym (append-nil labels)
-labels_there code place (i ∷ is) labels left (s ∷ ss) words =
-    let here : s.words ≡ instr_words code place i = cc in
-    let behind : all_words ss ≡ instr_statements code (place + 1) is ++ end_words ∷ left = cc in
+labels_there code place [] labels left ss words =
+    let f = first_of ss words in
+    ap (labels_of labels) f.is ∙ ap (λ ws. if is_end ws then labels else labels_of (labels ++ label_in ws ∷ []) f.rest) f.here ∙ sym (append-nil labels)
+labels_there code place (i ∷ is) labels left ss words =
+    let f = first_of ss words in
     let jumped = is_target code place in
-    ap (λ ws. if is_end ws then labels else labels_of (labels ++ label_in ws ∷ []) ss) here
-    ∙ ap (λ b. if b then labels else labels_of (labels ++ label_in (instr_words code place i) ∷ []) ss) (is_no_end jumped place i)
-    ∙ ap (λ l. labels_of (labels ++ l ∷ []) ss) (has_its_label jumped place i)
-    ∙ labels_there code (place + 1) is (labels ++ label_or_none jumped place ∷ []) left ss behind
+    ap (labels_of labels) f.is ∙ ap (λ ws. if is_end ws then labels else labels_of (labels ++ label_in ws ∷ []) f.rest) f.here
+    ∙ ap (λ b. if b then labels else labels_of (labels ++ label_in (instr_words code place i) ∷ []) f.rest) (is_no_end jumped place i)
+    ∙ ap (λ l. labels_of (labels ++ l ∷ []) f.rest) (has_its_label jumped place i)
+    ∙ labels_there code (place + 1) is (labels ++ label_or_none jumped place ∷ []) left f.rest f.behind
     ∙ append_assoc labels (label_or_none jumped place ∷ []) (labels_from code (place + 1) is)
-labels_there code place _ labels left _ words = absurd cc
 
 -- ---- programs
 

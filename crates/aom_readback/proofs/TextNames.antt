@@ -21,7 +21,7 @@ use Rattle.aom_readback.proofs.Names.{lettered, place_found}
 
 -- ---- names by number
 
-length_names : {X : Type 0} (name : ℕ → List ℕ) (n : ℕ) (xs : List X) → length (names_from name n xs) ≡ length xs
+pub length_names : {X : Type 0} (name : ℕ → List ℕ) (n : ℕ) (xs : List X) → length (names_from name n xs) ≡ length xs
 length_names name n [] = refl
 length_names name n (x ∷ xs) = ap suc (length_names name (n + 1) xs)
 
@@ -32,11 +32,14 @@ name_there name n (x ∷ xs) (suc j) within =
     let next : (n + 1) + j ≡ n + suc j = omega arith in
     name_there name (n + 1) xs j (omega arith) ∙ ap name next
 
+pub name_at : {X : Type 0} (name : ℕ → List ℕ) (xs : List X) (j : ℕ) → j < length xs → get_or (names_from name 0 xs) j [] ≡ name j
+name_at name xs j within = let same : 0 + j ≡ j = omega arith in name_there name 0 xs j within ∙ ap name same
+
 numbered : {X : Type 0} (letter : ℕ) (xs : List X) (j : ℕ) → length xs ≤ 1024 → j < length xs → place_of (lettered letter j) (names_from (lettered letter) 0 xs) ≡ Some j
 numbered letter xs j few within =
-    let at : (l : ℕ) → l < length xs → get_or (names_from (lettered letter) 0 xs) l [] ≡ lettered letter l = λ l less. (let same : 0 + l ≡ l = omega arith in name_there (lettered letter) 0 xs l less ∙ ap (lettered letter) same) in
     let long : j < length (names_from (lettered letter) 0 xs) = omega (arith, length_names (lettered letter) 0 xs) in
-    place_found letter j (names_from (lettered letter) 0 xs) (omega arith) long (at j within) (λ l less. inl (at l (omega arith)))
+    place_found letter j (names_from (lettered letter) 0 xs) (omega arith) long (name_at (lettered letter) xs j within)
+    (λ l less. inl (name_at (lettered letter) xs l (omega arith)))
 
 -- ---- what statements declare, by their words
 

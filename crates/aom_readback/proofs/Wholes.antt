@@ -9,13 +9,12 @@ use Rattle.aom_image.specs.Image.{Image}
 use Rattle.aom_image.specs.WellFormed.{WellFormed}
 use Rattle.aom_syntax.specs.Reading.{◌>>=◌}
 use Rattle.aom_syntax.specs.declared.scope.Scope.{Scope}
-use Rattle.aom_listing.specs.Headers.{header_words}
 use Rattle.aom_listing.specs.Listing.{classes_statements, listing, methods_statements}
 use Rattle.aom_asm.specs.Body.{Program}
 use Rattle.aom_asm.specs.Denoted.{and_then, at_line, image_of, opened, read_program, read_rest, read_statements, scope_of}
 use Rattle.aom_readback.specs.Naming.{HasNames}
 use Rattle.aom_readback.specs.Texts.{AllSayQuiet, all_words}
-use Rattle.aom_readback.proofs.Following.{Goes, goes_on}
+use Rattle.aom_readback.proofs.Following.{Goes, goes_on, first_of}
 use Rattle.aom_readback.proofs.Headers.{header_reads}
 use Rattle.aom_readback.proofs.Parts.{classes_go, methods_go, read_so_far, spelled}
 use Rattle.aom_readback.proofs.TextNames.{has_names}
@@ -56,13 +55,12 @@ module _ (last : ℕ) (i : Image) (formed : WellFormed i) (quiet : AllSayQuiet i
   rest_reads ss words = let goes = parts_go ss words in goes.reads ∙ closes goes.rest goes.words
 
   program_reads : (ss : List Statement) → all_words ss ≡ listing i → read_program last scope ss ≡ Ok (all_read i)
-  program_reads [] words = absurd cc
-  program_reads (s ∷ ss) words =
-      let here : s.words ≡ header_words i.header = cc in
-      let behind : all_words ss ≡ classes_statements 0 i.classes ++ methods_statements 0 i.methods = cc in
-      ap (λ ws. and_then (at_line s.line (opened scope ws)) (λ p. read_rest last scope p ss)) here
-      ∙ ap (λ e. and_then (at_line s.line (e >>= λ x. Ok (read_so_far x.0 [] [] None 24))) (λ p. read_rest last scope p ss)) (header_reads names i.header formed.header)
-      ∙ rest_reads ss behind
+  program_reads ss words =
+      let f = first_of ss words in
+      ap (read_program last scope) f.is
+      ∙ ap (λ ws. and_then (at_line f.one.line (opened scope ws)) (λ p. read_rest last scope p f.rest)) f.here
+      ∙ ap (λ e. and_then (at_line f.one.line (e >>= λ x. Ok (read_so_far x.0 [] [] None 24))) (λ p. read_rest last scope p f.rest)) (header_reads names i.header formed.header)
+      ∙ rest_reads f.rest f.behind
 
 -- ---- both readings
 

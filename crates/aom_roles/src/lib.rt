@@ -11,4 +11,4 @@ mod states;
 
 pub use class_order::{classes_are_ordered, sessions_at};
 pub use roles::same_role;
-pub use shapes::{all_are_shaped, gives_nothing, gives_of};
+pub use shapes::{all_are_shaped, gives_nothing, gives_of, resting_states};

@@ -3,6 +3,7 @@ ghost use Rattle.std.specs.Prelude.{◌≡◌, ◌↔◌, ◌||◌, IsTrue, All}
 ghost use Rattle.std.specs.List.{list_all};
 ghost use Rattle.aom_image.specs.Views.{gives_of, method_role};
 ghost use Rattle.aom_roles.specs.Roles.{role_number};
+ghost use Rattle.aom_roles.specs.States.{states_of};
 ghost use Rattle.aom_roles.specs.Shapes.{may_leave, is_quiet, is_word, TakesWords, gives_nothing, gives_word, gives_left, is_object, gives_object, is_active_in, kind_of, StandsStill, DoesActive, DoesServer, IsDo, IsMain, IsConstruct, IsDestruct, IsRun, IsCancel, IsError, IsAccept, IsService, IsUndo, HasShape, FlagsFit, is_role, has_role, IsTrapped, NamesRoles, IsShaped, AllShaped};
 
 use crate::class_order::{is_session_in, kind_at, sessions_in};
@@ -104,6 +105,13 @@ fn kind_of(image: &Image, class: Option<ClassNumber>) -> Option<ClassKind>
         Some(class) => kind_at(image, class),
         None => None,
     }
+}
+
+/// The states in which the object of a method of that class may be while nothing works on it. None where it has no class.
+pub fn resting_states(image: &Image, class: Option<ClassNumber>) -> States
+    ensures { result.0 ≡ states_of (kind_of image.now class) }
+{
+    states_of(kind_of(image, class))
 }
 
 fn stands_still(method: &Method) -> bool

@@ -1,11 +1,14 @@
 -- What a call or a trap asks and leaves, by the declaration of the called method: its parts decide in turn.
-use Rattle.std.proofs.Common.{◌≡◌, ℕ, true, false, cond, List, [], ◌∷◌, ◌++◌, length, Some, Result, Ok, Err, refl, ap, sym, ◌∙◌}
+use Rattle.std.proofs.Common.{◌≡◌, ℕ, true, false, not, cond, List, [], ◌∷◌, ◌++◌, length, Option, Some, Result, Ok, Err, refl, ap, sym, ◌∙◌}
 use Rattle.std.proofs.lemmas.List.{append_assoc}
 use Rattle.aom_image.specs.Image.{Image}
-use Rattle.aom_image.specs.Views.{method_at, is_quiet}
+use Rattle.aom_image.specs.Views.{arguments_of, method_at, method_class, method_role, is_quiet}
 use Rattle.aom_instructions.specs.declared.instr.Target.{Target}
+use Rattle.aom_image.specs.declared.method.Argument.{Argument}
 use Rattle.aom_image.specs.declared.method.Method.{Method}
-use Rattle.aom_rules.specs.Calls.{is_construct, brought, caught, while_called, rule_given, rule_target, rule_arguments, rule_moved, rule_call, flow_call, rule_trapped, rule_trap, flow_trap}
+use Rattle.aom_image.specs.declared.method.Role.{Role}
+use Rattle.aom_rules.specs.Calls.{brought, caught, while_called, rule_given, rule_target, rule_arguments, rule_moved, rule_call, flow_call, rule_trapped, rule_trap, flow_trap}
+use Rattle.aom_rules.specs.Requests.{is_construct, resting}
 use Rattle.aom_rules.proofs.Growing.{arguments_leave}
 use Rattle.aom_shape.specs.Arguments.{arguments_moved}
 use Rattle.aom_shape.specs.Needs.{Need, Flow, judged, tested, to_next}
@@ -13,7 +16,7 @@ use Rattle.aom_shape.specs.Shape.{Shape}
 use Rattle.aom_shape.specs.declared.why.Why.{Why}
 use Rattle.aom_shape.specs.declared.why.Why.TheVariants.{QuietBroken}
 use Rattle.aom_shape.proofs.Judging.{failed_first, passed_first, all_failed, all_passed}
-use Rattle.aom_shape.proofs.Views.{class_there, role_there, gives_there, arguments_there}
+use Rattle.aom_shape.proofs.Views.{after_there, class_there, role_there, gives_there, arguments_there}
 
 -- what passes is what was to pass
 passed_is : {A : Type 0} (xs : List Need) (a z : A) → judged xs a ≡ Ok z → a ≡ z
@@ -72,30 +75,39 @@ module _ (p : Image) (m : ℕ) (pc : ℕ) (sh : Shape) (target : Target) (m' : �
   abbrev after : Shape
   after = arguments_moved d.arguments first sh
 
-  abbrev lasting : Shape → Shape
-  lasting s = while_called target d.class s
+  abbrev lasting : ℕ → Shape → Shape
+  lasting ended s = while_called target d.class ended s
+
+  -- what is asked, by what is declared of the called method
+  abbrev asks : (Shape → List Need) → Option ℕ → Option Role → List Argument → List Need
+  asks rest class role xs =
+      rule_target p m sh target class (is_construct role) first (length xs)
+      ++ (rule_arguments p sh xs first
+      ++ rest (arguments_moved xs first sh))
+
+  asked : (rest : Shape → List Need) → asks rest (method_class p m') (method_role p m') (arguments_of p m') ≡ needs ++ rest after
+  asked rest =
+      ap (λ class. asks rest class (method_role p m') (arguments_of p m')) (class_there p m' d there)
+      ∙ ap (λ role. asks rest d.class role (arguments_of p m')) (role_there p m' d there)
+      ∙ ap (λ xs. asks rest d.class (Some d.role) xs) (arguments_there p m' d there)
+      ∙ sym (append_assoc (of_target p m sh target first d) (of_arguments p m sh target first d) (rest after))
 
   -- ---- calls
 
   abbrev of_moved : Shape → List Need
-  of_moved s = rule_moved p m s m' c
+  of_moved s = rule_moved p m s target m' c
 
   abbrev left_by_call : Shape → List Flow
-  left_by_call s = to_next pc (brought d.gives c (lasting s))
+  left_by_call s = to_next pc (brought d.gives c (lasting d.after.0 s))
 
   abbrev call_answer : Result (List Flow) Why
   call_answer = judged (rule_call p m pc sh target m' first c) (flow_call p m pc sh target m' first c)
 
-  call_asks : rule_call p m pc sh target m' first c ≡ needs ++ of_moved after
-  call_asks =
-      rw (class_there p m' d there, role_there p m' d there, arguments_there p m' d there)
-      (sym (append_assoc (of_target p m sh target first d) (of_arguments p m sh target first d) (of_moved after)))
-
   call_leaves : flow_call p m pc sh target m' first c ≡ left_by_call after
-  call_leaves = rw (gives_there p m' d there, class_there p m' d there, arguments_there p m' d there) refl
+  call_leaves = rw (gives_there p m' d there, class_there p m' d there, arguments_there p m' d there, after_there p m' d there) refl
 
   call_is : call_answer ≡ judged (needs ++ of_moved after) (left_by_call after)
-  call_is = ap (λ ns. judged ns (flow_call p m pc sh target m' first c)) call_asks ∙ ap (λ fs. judged (needs ++ of_moved after) fs) call_leaves
+  call_is = ap (λ ns. judged ns (flow_call p m pc sh target m' first c)) (asked of_moved) ∙ ap (λ fs. judged (needs ++ of_moved after) fs) call_leaves
 
   pub call_refused : (w : Why) → judged needs after ≡ Err w → call_answer ≡ Err w
   call_refused w e = call_is ∙ refused_so p m sh target first d of_moved left_by_call w e
@@ -109,10 +121,10 @@ module _ (p : Image) (m : ℕ) (pc : ℕ) (sh : Shape) (target : Target) (m' : �
   -- ---- traps
 
   abbrev of_trapped : Shape → List Need
-  of_trapped s = rule_trapped p m pc sh s m' c
+  of_trapped s = rule_trapped p m pc sh s target m' c
 
   abbrev left_by_trap : Shape → List Flow
-  left_by_trap s = to_next pc (caught d.gives c (lasting s))
+  left_by_trap s = to_next pc (caught d.gives c (lasting (resting p d.class) s))
 
   abbrev trap_answer : Result (List Flow) Why
   trap_answer = judged (rule_trap p m pc sh target m' first c) (flow_trap p m pc sh target m' first c)
@@ -120,8 +132,8 @@ module _ (p : Image) (m : ℕ) (pc : ℕ) (sh : Shape) (target : Target) (m' : �
   module _ (loud : is_quiet p m ≡ false) where
     trap_asks : rule_trap p m pc sh target m' first c ≡ (true, QuietBroken) ∷ (needs ++ of_trapped after)
     trap_asks =
-        rw (loud, class_there p m' d there, role_there p m' d there, arguments_there p m' d there)
-        (ap (λ (ns : List Need). (true, QuietBroken) ∷ ns) (sym (append_assoc (of_target p m sh target first d) (of_arguments p m sh target first d) (of_trapped after))))
+        ap (λ quiet. (not quiet, QuietBroken) ∷ asks of_trapped (method_class p m') (method_role p m') (arguments_of p m')) loud
+        ∙ ap (λ (ns : List Need). (true, QuietBroken) ∷ ns) (asked of_trapped)
 
     trap_leaves : flow_trap p m pc sh target m' first c ≡ left_by_trap after
     trap_leaves = rw (gives_there p m' d there, class_there p m' d there, arguments_there p m' d there) refl

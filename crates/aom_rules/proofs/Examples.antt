@@ -14,9 +14,11 @@ use Rattle.aom_image.specs.declared.method.Role.{Role}
 use Rattle.aom_image.specs.declared.method.Role.TheVariants.{Main, Do, Construct, Destruct}
 use Rattle.aom_image.specs.declared.method.Thing.TheVariants.{Object}
 use Rattle.aom_rules.specs.Rules.{rule}
+use Rattle.aom_shape.specs.Arguments.{after_in}
 use Rattle.aom_shape.specs.Shape.{Shape}
 use Rattle.aom_shape.specs.Things.{words_in}
 use Rattle.aom_shape.specs.declared.kind.Age.TheVariants.{Fresh, Ready}
+use Rattle.aom_shape.specs.declared.kind.Delivery.TheVariants.{Here}
 use Rattle.aom_shape.specs.declared.kind.Entry.{Entry}
 use Rattle.aom_shape.specs.declared.kind.Entry.TheVariants.{Object as An_object, Operation}
 use Rattle.aom_shape.specs.declared.kind.Filling.{Filling}
@@ -42,7 +44,7 @@ with_method class role flags gives = record {
 
 -- a state of two registers and a field
 state : Kind → Kind → Filling → Shape
-state first second filling = record { registers = first ∷ second ∷ []; fields = filling ∷ []; entries = [] }
+state first second filling = record { registers = first ∷ second ∷ []; fields = filling ∷ []; entries = []; states = 0; delivery = Here }
 
 const_over_an_owner : rule (with_method None Main 0 Nothing) 0 0 (state (Own (Object 0) Ready) Unset Empty) (Const 0 (pos 5)) ≡ Err RegisterKind
 unfolding with_method state
@@ -168,7 +170,7 @@ construct_with_an_argument = refl
 
 -- a state of two registers and cleanup entries
 stacked : Kind → Kind → List Entry → Shape
-stacked first second entries = record { registers = first ∷ second ∷ []; fields = Empty ∷ []; entries = entries }
+stacked first second entries = record { registers = first ∷ second ∷ []; fields = Empty ∷ []; entries = entries; states = 0; delivery = Here }
 
 push_with_another_owner : rule (with_method None Do 1 Nothing) 0 0 (stacked (Own (Object 0) Ready) (Own (Object 0) Ready) []) (Push 0) ≡ Err OwnedAtLeave
 unfolding with_method stacked method_at leaves_in
@@ -252,7 +254,7 @@ unfolding called_by stacked method_at arguments_in role_in class_in quiet_in giv
 left_to_the_caller = refl
 
 left_at_return : rule (with_method None Do 1 (Left 0)) 0 0 (stacked Word Unset (An_object 0 Ready ∷ [])) (Return 0) ≡ Ok []
-unfolding with_method stacked method_at gives_in quiet_in role_in class_in
+unfolding with_method stacked method_at gives_in quiet_in role_in class_in after_in
 left_at_return = refl
 
 constructed_on_the_stack : rule (called_by (Some 0) Construct 1 [] Nothing None 1) 1 0 (stacked Unset Unset (An_object 0 Fresh ∷ [])) (Call (On_entry 0) 0 0 0) ≡ Ok ((1, stacked Unset Unset (An_object 0 Ready ∷ [])) ∷ [])

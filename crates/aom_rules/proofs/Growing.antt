@@ -9,20 +9,22 @@ use Rattle.aom_image.specs.declared.method.Argument.{Argument}
 use Rattle.aom_image.specs.declared.method.Argument.TheVariants.{Word as A_word_argument, Own as An_own_argument}
 use Rattle.aom_image.specs.declared.method.Gives.{Gives}
 use Rattle.aom_image.specs.declared.method.Gives.TheVariants.{Nothing, Word as A_word, Own as An_own, Maybe as A_maybe, Left}
-use Rattle.aom_rules.specs.Calls.{brought, caught, while_called, fields_worked, lasting}
+use Rattle.aom_rules.specs.Calls.{brought, caught, while_called, worked_on, lasting}
+use Rattle.aom_rules.specs.Requests.{resting}
 use Rattle.aom_shape.specs.Entries.{readied_at, without_top}
-use Rattle.aom_shape.specs.Arguments.{argument_moved, arguments_moved}
+use Rattle.aom_shape.specs.Arguments.{after_of, argument_moved, arguments_moved}
 use Rattle.aom_shape.specs.Kinds.{register, field}
 use Rattle.aom_rules.specs.Laws.{HaveAtMost}
 use Rattle.aom_rules.specs.Objects.{flow_jump_null, flow_jump_empty}
 use Rattle.aom_rules.specs.Rules.{flows, ways_of}
 use Rattle.aom_shape.specs.Shape.{Shape}
-use Rattle.aom_rules.specs.Ways.{As_before, Branches, Branches_on_empty, Branches_on_null, Called, Caught, Dropped, Ends, Filled, Goes_back, Goes_on, Goes_to, Holding, Moved, News, Popped, Pushed, Pushed_operation, Taken, Ways, after, flowing}
+use Rattle.aom_rules.specs.Ways.{As_before, Branches, Branches_in, Branches_on_empty, Branches_on_null, Called, Caught, Dropped, Ends, Filled, Goes_back, Goes_on, Goes_to, Holding, Left_in, Moved, News, Popped, Pushed, Pushed_operation, Taken, Ways, after, flowing}
 use Rattle.aom_shape.specs.declared.kind.Entry.{Entry}
 use Rattle.aom_shape.specs.declared.kind.Filling.{Filling}
 use Rattle.aom_shape.specs.declared.kind.Filling.TheVariants.{Empty, Full, Perhaps}
 use Rattle.aom_shape.specs.declared.kind.Kind.{Kind}
 use Rattle.aom_shape.specs.declared.kind.Kind.TheVariants.{Unset, Word, Null, Own, Maybe}
+use Rattle.aom_rules.proofs.Branching.{by_states}
 
 top_gone : (es : List Entry) → length (without_top es) ≤ suc (length es)
 top_gone [] = omega arith
@@ -41,15 +43,15 @@ pub arguments_leave : (xs : List Argument) (first : ℕ) (sh : Shape) → (argum
 arguments_leave [] first sh = refl
 arguments_leave (x ∷ xs) first sh = arguments_leave xs (suc first) (argument_moved x first sh) ∙ argument_leaves x first sh
 
-worked_leaves : (class : Option ℕ) (sh : Shape) → (fields_worked class sh).entries ≡ sh.entries
-worked_leaves None sh = refl
-worked_leaves (Some c) sh = refl
+worked_leaves : (class : Option ℕ) (ended : ℕ) (sh : Shape) → (worked_on class ended sh).entries ≡ sh.entries
+worked_leaves None ended sh = refl
+worked_leaves (Some c) ended sh = refl
 
-call_leaves : (target : Target) (class : Option ℕ) (sh : Shape) → length (while_called target class sh).entries ≡ length sh.entries
-call_leaves This class sh = ap (λ (es : List Entry). length es) (worked_leaves class sh)
-call_leaves (Register r) class sh = refl
-call_leaves (Field f) class sh = refl
-call_leaves (On_entry k) class sh = as_many sh.entries k
+call_leaves : (target : Target) (class : Option ℕ) (ended : ℕ) (sh : Shape) → length (while_called target class ended sh).entries ≡ length sh.entries
+call_leaves This class ended sh = ap (λ (es : List Entry). length es) (worked_leaves class ended sh)
+call_leaves (Register r) class ended sh = refl
+call_leaves (Field f) class ended sh = refl
+call_leaves (On_entry k) class ended sh = as_many sh.entries k
 
 brings_one : (g : Gives) (c : ℕ) (sh : Shape) → length (brought g c sh).entries ≤ suc (length sh.entries)
 brings_one Nothing c sh = omega arith
@@ -66,8 +68,8 @@ catches_none (A_maybe t) c sh = refl
 catches_none (Left x) c sh = refl
 
 -- the state while a call lasts has as many entries as the one before it
-pub lasting_has : (target : Target) (class : Option ℕ) (xs : List Argument) (first : ℕ) (sh : Shape) → length (while_called target class (arguments_moved xs first sh)).entries ≡ length sh.entries
-lasting_has target class xs first sh = call_leaves target class (arguments_moved xs first sh) ∙ ap (λ (es : List Entry). length es) (arguments_leave xs first sh)
+pub lasting_has : (target : Target) (class : Option ℕ) (ended : ℕ) (xs : List Argument) (first : ℕ) (sh : Shape) → length (while_called target class ended (arguments_moved xs first sh)).entries ≡ length sh.entries
+lasting_has target class ended xs first sh = call_leaves target class ended (arguments_moved xs first sh) ∙ ap (λ (es : List Entry). length es) (arguments_leave xs first sh)
 
 jump_null_leaves : (p : Image) (m pc : ℕ) (sh : Shape) (k : Kind) (r to : ℕ) → HaveAtMost (suc (length sh.entries)) (flow_jump_null p m pc sh k r to)
 jump_null_leaves p m pc sh Unset r to = tt
@@ -93,9 +95,11 @@ module _ (p : Image) (m pc : ℕ) (sh : Shape) where
   after_has (Popped r) = top_gone sh.entries
   after_has Dropped = top_gone sh.entries
   after_has (Called target m' first c) =
-      omega (arith, brings_one (gives_of p m') c (lasting p m pc sh target m' first), lasting_has target (method_class p m') (arguments_of p m') first sh)
+      omega (arith, brings_one (gives_of p m') c (lasting p m pc sh target m' first (after_of p m')), lasting_has target (method_class p m') (after_of p m') (arguments_of p m') first sh)
   after_has (Caught target m' first c) =
-      rw (catches_none (gives_of p m') c (lasting p m pc sh target m' first)) (omega (arith, lasting_has target (method_class p m') (arguments_of p m') first sh))
+      let rested = resting p (method_class p m') in
+      rw (catches_none (gives_of p m') c (lasting p m pc sh target m' first rested)) (omega (arith, lasting_has target (method_class p m') rested (arguments_of p m') first sh))
+  after_has (Left_in states) = omega arith
 
   ways_have : (ways : Ways) → HaveAtMost (suc (length sh.entries)) (flowing p m pc sh ways)
   ways_have Ends = tt
@@ -105,6 +109,7 @@ module _ (p : Image) (m pc : ℕ) (sh : Shape) where
   ways_have (Goes_back to) = (omega arith, (omega arith, tt))
   ways_have (Branches_on_null r to) = jump_null_leaves p m pc sh (register sh r) r to
   ways_have (Branches_on_empty f to) = jump_empty_leaves p m pc sh (field sh f) f to
+  ways_have (Branches_in there here to) = by_states (λ flows. HaveAtMost (suc (length sh.entries)) flows) sh (suc pc) there here to tt (λ s. (omega arith, tt)) (λ s. (omega arith, tt)) (λ s t. (omega arith, (omega arith, tt)))
 
 pub at_most_one_more : (p : Image) (m pc : ℕ) (sh : Shape) (i : Instr) → HaveAtMost (suc (length sh.entries)) (flows p m pc sh i)
 at_most_one_more p m pc sh i = ways_have p m pc sh (ways_of p i)

@@ -1,3 +1,4 @@
+pub mod Resting
 pub mod Returning
 pub mod Arguments
 pub mod Calling
@@ -5,5 +6,7 @@ pub mod Callees
 pub mod Telling
 pub mod Ways
 pub mod Monotone
+pub mod Branching
 pub mod Growing
 pub mod Examples
+pub mod RequestExamples

@@ -1,10 +1,11 @@
 -- The rules are monotone: each instruction's needs and flows, from a state to one that says more.
-use Rattle.std.proofs.Common.{arith, ◌≡◌, ℕ, suc, Bool, true, false, cond, ◌==◌, List, [], ◌∷◌, ◌++◌, length, Option, Some, None, inl, inr, refl, ap, ◌∙◌}
+use Rattle.std.proofs.Common.{arith, ◌≡◌, ◌≤◌, ℕ, zero, suc, Bool, true, false, not, IsTrue, sym, cond, ◌==◌, List, [], ◌∷◌, ◌++◌, length, Option, Some, None, inl, inr, refl, ap, ◌∙◌}
 use Rattle.std.proofs.lemmas.Bool.{false≢true, eqb-true}
+use Rattle.std.specs.Prelude.{bit_and, bit_or}
 use Rattle.aom_image.specs.Image.{Image}
-use Rattle.aom_image.specs.Views.{arguments_of, gives_of, fields_of, leaves, method_class, method_role}
+use Rattle.aom_image.specs.Views.{arguments_of, gives_of, fields_of, has, leaves, method_class, method_role}
 use Rattle.aom_instructions.specs.declared.instr.Instr.{Instr}
-use Rattle.aom_instructions.specs.declared.instr.Instr.TheVariants.{Const, Copy, Move, Add, Sub, Mul, And, Or, Xor, JumpEqual, JumpLess, JumpNull, JumpEmpty, Print, Load, Store, Take, Put, New, NewOrLeave, Delete, Push, PushOperation, Pop, Call, Trap, Return, Leave, LeaveIf}
+use Rattle.aom_instructions.specs.declared.instr.Instr.TheVariants.{Const, Copy, Move, Add, Sub, Mul, And, Or, Xor, JumpEqual, JumpLess, JumpNull, JumpEmpty, Print, Load, Store, Take, Put, New, NewOrLeave, Delete, Push, PushOperation, Pop, Call, Trap, Return, Leave, LeaveIf, Enlist, Issue, SetActive, Abort, Status}
 use Rattle.aom_instructions.specs.declared.instr.Target.{Target}
 use Rattle.aom_instructions.specs.declared.instr.Target.TheVariants.{This, Register, Field, Entry as On_entry}
 use Rattle.aom_image.specs.declared.method.Argument.{Argument}
@@ -12,13 +13,15 @@ use Rattle.aom_image.specs.declared.method.Argument.TheVariants.{Word as A_word_
 use Rattle.aom_image.specs.declared.method.Gives.{Gives}
 use Rattle.aom_image.specs.declared.method.Gives.TheVariants.{Nothing, Word as A_word, Own as An_own, Maybe as A_maybe, Left}
 use Rattle.aom_image.specs.declared.method.Thing.TheVariants.{Object}
-use Rattle.aom_rules.specs.Calls.{is_construct, is_destructor, is_target, age_need, awaits, brought, caught, fields_worked, while_called, argument_needs, each_argument, rule_target, rule_arguments, rule_moved, rule_trapped, fields_done, rule_result, result_moved, lasting}
+use Rattle.aom_roles.specs.States.{active, cancel_done, cancel_open, idle, issued, unlisted}
+use Rattle.aom_rules.specs.Requests.{begins_here, flow_in, flow_narrowed, is_cancel, is_construct, is_service, may_begin, resting, unissued}
+use Rattle.aom_rules.specs.Calls.{is_destructor, is_target, age_need, awaits, brought, caught, worked_on, while_called, argument_needs, each_argument, rule_target, rule_arguments, rule_moved, rule_trapped, fields_done, rule_ended, rule_left, rule_result, result_moved, lasting}
 use Rattle.aom_shape.specs.Entries.{readied_at, without_top, with_entry, without_entry}
-use Rattle.aom_shape.specs.Arguments.{argument_moved, arguments_moved}
+use Rattle.aom_shape.specs.Arguments.{after_of, argument_moved, arguments_moved, before_of}
 use Rattle.aom_rules.specs.Cleanup.{owns_object, entry_of, leave_point, top_kind}
-use Rattle.aom_shape.specs.Kinds.{register, field, set_register, set_field, filled, filling_of, is_object_or_null, none_owns, readied}
-use Rattle.aom_rules.specs.Laws.{AllFollow}
-use Rattle.aom_shape.specs.Needs.{Need, AllTrue, only_if}
+use Rattle.aom_shape.specs.Kinds.{register, field, set_register, set_field, filled, filling_of, is_here, is_object_or_null, none_owns, readied}
+use Rattle.aom_rules.specs.Laws.{AllFollow, Follows}
+use Rattle.aom_shape.specs.Needs.{Flow, Need, AllTrue, only_if}
 use Rattle.aom_rules.specs.Objects.{flow_jump_null, flow_jump_empty}
 use Rattle.aom_rules.specs.Words.{rule_copy, rule_combine, rule_compare}
 use Rattle.aom_shape.specs.Order.{Weaker, WeakerFilling, SaysNoMore}
@@ -26,7 +29,7 @@ use Rattle.aom_shape.specs.Order.Weaker.{alike, unset_word, unset_null, maybe_nu
 use Rattle.aom_shape.specs.Order.WeakerFilling.{alike_filling, perhaps_empty, perhaps_full}
 use Rattle.aom_rules.specs.Rules.{rule_needs, flows, ways_of}
 use Rattle.aom_shape.specs.Shape.{Shape}
-use Rattle.aom_rules.specs.Ways.{As_before, Branches, Branches_on_empty, Branches_on_null, Called, Caught, Dropped, Ends, Filled, Goes_back, Goes_on, Goes_to, Holding, Moved, News, Popped, Pushed, Pushed_operation, Taken, Ways, after, flowing}
+use Rattle.aom_rules.specs.Ways.{As_before, Branches, Branches_in, Branches_on_empty, Branches_on_null, Called, Caught, Dropped, Ends, Filled, Goes_back, Goes_on, Goes_to, Holding, Left_in, Moved, News, Popped, Pushed, Pushed_operation, Taken, Ways, after, flowing}
 use Rattle.aom_shape.specs.Things.{Holder, Nobody, Program, Member, field_thing, holder_of}
 use Rattle.aom_shape.specs.declared.kind.Age.TheVariants.{Ready}
 use Rattle.aom_shape.specs.declared.kind.Entry.{Entry}
@@ -35,9 +38,9 @@ use Rattle.aom_shape.specs.declared.kind.Kind.{Kind}
 use Rattle.aom_shape.specs.declared.kind.Kind.TheVariants.{Unset, Word, Null, Own, Maybe}
 use Rattle.aom_shape.specs.declared.kind.Filling.{Filling}
 use Rattle.aom_shape.specs.declared.kind.Filling.TheVariants.{Empty, Full, Perhaps}
-use Rattle.aom_rules.proofs.Returning.{left_needs}
 use Rattle.aom_rules.proofs.Ways.{Allows, allows}
 use Rattle.aom_shape.proofs.Lists.{at_put}
+use Rattle.aom_shape.proofs.Sets.{has_along, has_itself, has_shared, larger}
 use Rattle.aom_rules.proofs.Telling.{fresh_more, readied_more, word_more, unowning_more, object_or_null_more, destroyed_more, ready_more, own_more, may_be_more, declared_more, empty_more, filled_more, filling_more, none_owns_more, all_empty_more}
 
 -- two states with a register written alike
@@ -46,6 +49,8 @@ register_more a b i k l h w = record {
   registers = λ j. rw (at_put Unset a.registers i j k, at_put Unset b.registers i j l) (either j (i == j));
   fields = h.fields;
   entries = h.entries;
+  states = h.states;
+  delivery = h.delivery;
 }
   where
     either : (j : ℕ) (c : Bool) → Weaker (cond c k (register a j)) (cond c l (register b j))
@@ -57,6 +62,8 @@ field_more a b i x y h w = record {
   registers = h.registers;
   fields = λ j. rw (at_put Perhaps a.fields i j x, at_put Perhaps b.fields i j y) (either j (i == j));
   entries = h.entries;
+  states = h.states;
+  delivery = h.delivery;
 }
   where
     either : (j : ℕ) (c : Bool) → WeakerFilling (cond c x (field a j)) (cond c y (field b j))
@@ -69,6 +76,8 @@ register_told a b i k h w = record {
   registers = λ j. rw (at_put Unset a.registers i j k) (go j (i == j) refl);
   fields = h.fields;
   entries = h.entries;
+  states = h.states;
+  delivery = h.delivery;
 }
   where
     go : (j : ℕ) (c : Bool) → (i == j) ≡ c → Weaker (cond c k (register a j)) (register b j)
@@ -81,6 +90,8 @@ field_told a b i x h w = record {
   registers = h.registers;
   fields = λ j. rw (at_put Perhaps a.fields i j x) (go j (i == j) refl);
   entries = h.entries;
+  states = h.states;
+  delivery = h.delivery;
 }
   where
     go : (j : ℕ) (c : Bool) → (i == j) ≡ c → WeakerFilling (cond c x (field a j)) (field b j)
@@ -184,14 +195,36 @@ only_if_more : (asked x y : Bool) → (x ≡ true → y ≡ true) → only_if as
 only_if_more true x y f h = f h
 only_if_more false x y f h = h
 
-moved_needs_more : (p : Image) (m : ℕ) (a b : Shape) (m' c : ℕ) → SaysNoMore a b → AllTrue (rule_moved p m a m' c) → AllTrue (rule_moved p m b m' c)
-moved_needs_more p m a b m' c h n = (
-  n.0,
-  (
-    awaits_more (gives_of p m') (register a c) (register b c) (h.registers c) n.1.0,
-    (n.1.1.0, (only_if_more (leaves p m') (none_owns a.registers) (none_owns b.registers) (none_owns_more a.registers b.registers h.registers) n.1.1.1.0, tt)),
-  ),
-)
+-- fewer request states, and the same message
+has_not_more : (s t x : ℕ) → IsTrue (has s t) → not (has s x) ≡ true → not (has t x) ≡ true
+has_not_more s t x h n = go (has t x) refl
+  where
+    go : (b : Bool) → has t x ≡ b → not b ≡ true
+    go false e = refl
+    go true e = absurd (false≢true (ap not (sym (has_along s t x h e)) ∙ n))
+
+begins_more : (p : Image) (m' : ℕ) (target : Target) (s t : ℕ) → IsTrue (has s t) → may_begin p m' target s ≡ true → may_begin p m' target t ≡ true
+begins_more p m' This s t h n = here (method_class p m') n
+  where
+    here : (class : Option ℕ) → begins_here p m' class s ≡ true → begins_here p m' class t ≡ true
+    here None n = refl
+    here (Some c) n = has_along (before_of p m') s t n h
+begins_more p m' (Register r) s t h n = n
+begins_more p m' (Field f) s t h n = n
+begins_more p m' (On_entry k) s t h n = n
+
+here_more : (a b : Shape) → SaysNoMore a b → is_here a.delivery ≡ true → is_here b.delivery ≡ true
+here_more a b h n = ap is_here (sym h.delivery) ∙ n
+
+moved_needs_more : (p : Image) (m : ℕ) (a b : Shape) (target : Target) (m' c : ℕ) → SaysNoMore a b → AllTrue (rule_moved p m a target m' c) → AllTrue (rule_moved p m b target m' c)
+moved_needs_more p m a b target m' c h n =
+    let leave = n.1.1.1 in
+    let unowned = only_if_more (leaves p m') (none_owns a.registers) (none_owns b.registers) (none_owns_more a.registers b.registers h.registers) leave.1.0 in
+    let still = only_if_more (leaves p m') (unissued a.states) (unissued b.states) (has_not_more a.states b.states issued h.states) leave.1.1.0 in
+    let untaken = only_if_more (leaves p m') (is_here a.delivery) (is_here b.delivery) (here_more a b h) leave.1.1.1.0 in (
+      begins_more p m' target a.states b.states h.states n.0,
+      (n.1.0, (awaits_more (gives_of p m') (register a c) (register b c) (h.registers c) n.1.1.0, (leave.0, (unowned, (still, (untaken, tt)))))),
+    )
 
 call_more : (p : Image) (m pc : ℕ) (a b : Shape) (target : Target) (m' first c : ℕ) → SaysNoMore a b → AllTrue (rule_needs p m pc a (Call target m' first c)) → AllTrue (rule_needs p m pc b (Call target m' first c))
 call_more p m pc a b target m' first c h n =
@@ -200,19 +233,25 @@ call_more p m pc a b target m' first c h n =
     let constructs = is_construct (method_role p m') in
     let one = rule_target p m a target class constructs first (length xs) in
     let two = rule_arguments p a xs first in
-    let three = rule_moved p m (arguments_moved xs first a) m' c in
+    let three = rule_moved p m (arguments_moved xs first a) target m' c in
     let rest = all_true_rest one (two ++ three) n in
     let args = all_true_first two three rest in
-    all_true_both (rule_target p m b target class constructs first (length xs)) (rule_arguments p b xs first ++ rule_moved p m (arguments_moved xs first b) m' c) (called_on_more p m a b target class constructs first (length xs) h (all_true_first one (two ++ three) n))
-    (all_true_both (rule_arguments p b xs first) (rule_moved p m (arguments_moved xs first b) m' c) (args.0, arguments_more p a b xs first h args.1)
-    (moved_needs_more p m (arguments_moved xs first a) (arguments_moved xs first b) m' c (arguments_moved_more xs first a b h) (all_true_rest two three rest)))
+    all_true_both (rule_target p m b target class constructs first (length xs)) (rule_arguments p b xs first ++ rule_moved p m (arguments_moved xs first b) target m' c) (called_on_more p m a b target class constructs first (length xs) h (all_true_first one (two ++ three) n))
+    (all_true_both (rule_arguments p b xs first) (rule_moved p m (arguments_moved xs first b) target m' c) (args.0, arguments_more p a b xs first h args.1)
+    (moved_needs_more p m (arguments_moved xs first a) (arguments_moved xs first b) target m' c (arguments_moved_more xs first a b h) (all_true_rest two three rest)))
 
 -- one entry more, or one less
 entry_more : (d e : Entry) (a b : Shape) → SaysNoMore a b → d ≡ e → SaysNoMore (with_entry d a) (with_entry e b)
-entry_more d e a b h same = record { registers = h.registers; fields = h.fields; entries = ap (λ (x : Entry). x ∷ a.entries) same ∙ ap (λ (xs : List Entry). e ∷ xs) h.entries }
+entry_more d e a b h same = record {
+  registers = h.registers;
+  fields = h.fields;
+  entries = ap (λ (x : Entry). x ∷ a.entries) same ∙ ap (λ (xs : List Entry). e ∷ xs) h.entries;
+  states = h.states;
+  delivery = h.delivery;
+}
 
 entry_less : (a b : Shape) → SaysNoMore a b → SaysNoMore (without_entry a) (without_entry b)
-entry_less a b h = record { registers = h.registers; fields = h.fields; entries = ap without_top h.entries }
+entry_less a b h = record { registers = h.registers; fields = h.fields; entries = ap without_top h.entries; states = h.states; delivery = h.delivery }
 
 -- what a call leaves
 brought_more : (g : Gives) (c : ℕ) (a b : Shape) → SaysNoMore a b → SaysNoMore (brought g c a) (brought g c b)
@@ -222,21 +261,24 @@ brought_more (An_own t) c a b h = register_more a b c (Own t Ready) (Own t Ready
 brought_more (A_maybe t) c a b h = register_more a b c (Maybe t Ready) (Maybe t Ready) h alike
 brought_more (Left x) c a b h = entry_more (An_object x Ready) (An_object x Ready) a b h refl
 
-worked_more : (class : Option ℕ) (a b : Shape) → SaysNoMore a b → SaysNoMore (fields_worked class a) (fields_worked class b)
-worked_more None a b h = h
-worked_more (Some c) a b h = record { registers = h.registers; fields = λ i. alike_filling; entries = h.entries }
+worked_more : (class : Option ℕ) (ended : ℕ) (a b : Shape) → SaysNoMore a b → SaysNoMore (worked_on class ended a) (worked_on class ended b)
+worked_more None ended a b h = h
+worked_more (Some c) ended a b h = record { registers = h.registers; fields = λ i. alike_filling; entries = h.entries; states = has_itself ended; delivery = h.delivery }
 
-called_more : (target : Target) (class : Option ℕ) (a b : Shape) → SaysNoMore a b → SaysNoMore (while_called target class a) (while_called target class b)
-called_more This class a b h = worked_more class a b h
-called_more (Register r) class a b h = register_more a b r (readied (register a r)) (readied (register b r)) h (readied_more (register a r) (register b r) (h.registers r))
-called_more (Field f) class a b h = h
-called_more (On_entry k) class a b h = record { registers = h.registers; fields = h.fields; entries = ap (λ es. readied_at es k) h.entries }
+called_more : (target : Target) (class : Option ℕ) (ended : ℕ) (a b : Shape) → SaysNoMore a b → SaysNoMore (while_called target class ended a) (while_called target class ended b)
+called_more This class ended a b h = worked_more class ended a b h
+called_more (Register r) class ended a b h = register_more a b r (readied (register a r)) (readied (register b r)) h (readied_more (register a r) (register b r) (h.registers r))
+called_more (Field f) class ended a b h = h
+called_more (On_entry k) class ended a b h = record { registers = h.registers; fields = h.fields; entries = ap (λ es. readied_at es k) h.entries; states = h.states; delivery = h.delivery }
 
 -- what a trap asks and leaves
-trapped_more : (p : Image) (m pc : ℕ) (x y a b : Shape) (m' c : ℕ) → SaysNoMore a b → AllTrue (rule_trapped p m pc x a m' c) → AllTrue (rule_trapped p m pc y b m' c)
-trapped_more p m pc x y a b m' c h n = (
-  awaits_more (gives_of p m') (register a c) (register b c) (h.registers c) n.0,
-  (unowning_more (register a (suc c)) (register b (suc c)) (h.registers (suc c)) n.1.0, tt),
+trapped_more : (p : Image) (m pc : ℕ) (x y a b : Shape) (target : Target) (m' c : ℕ) → SaysNoMore a b → AllTrue (rule_trapped p m pc x a target m' c) → AllTrue (rule_trapped p m pc y b target m' c)
+trapped_more p m pc x y a b target m' c h n = (
+  begins_more p m' target a.states b.states h.states n.0,
+  (
+    awaits_more (gives_of p m') (register a c) (register b c) (h.registers c) n.1.0,
+    (unowning_more (register a (suc c)) (register b (suc c)) (h.registers (suc c)) n.1.1.0, tt),
+  ),
 )
 
 trap_more : (p : Image) (m pc : ℕ) (a b : Shape) (target : Target) (m' first c : ℕ) → SaysNoMore a b → AllTrue (rule_needs p m pc a (Trap target m' first c)) → AllTrue (rule_needs p m pc b (Trap target m' first c))
@@ -246,13 +288,13 @@ trap_more p m pc a b target m' first c h n =
     let constructs = is_construct (method_role p m') in
     let one = rule_target p m a target class constructs first (length xs) in
     let two = rule_arguments p a xs first in
-    let three = rule_trapped p m pc a (arguments_moved xs first a) m' c in
+    let three = rule_trapped p m pc a (arguments_moved xs first a) target m' c in
     let rest = all_true_rest one (two ++ three) n.1 in
     let args = all_true_first two three rest in (
       n.0,
-      all_true_both (rule_target p m b target class constructs first (length xs)) (rule_arguments p b xs first ++ rule_trapped p m pc b (arguments_moved xs first b) m' c) (called_on_more p m a b target class constructs first (length xs) h (all_true_first one (two ++ three) n.1))
-          (all_true_both (rule_arguments p b xs first) (rule_trapped p m pc b (arguments_moved xs first b) m' c) (args.0, arguments_more p a b xs first h args.1)
-          (trapped_more p m pc a b (arguments_moved xs first a) (arguments_moved xs first b) m' c (arguments_moved_more xs first a b h) (all_true_rest two three rest))),
+      all_true_both (rule_target p m b target class constructs first (length xs)) (rule_arguments p b xs first ++ rule_trapped p m pc b (arguments_moved xs first b) target m' c) (called_on_more p m a b target class constructs first (length xs) h (all_true_first one (two ++ three) n.1))
+          (all_true_both (rule_arguments p b xs first) (rule_trapped p m pc b (arguments_moved xs first b) target m' c) (args.0, arguments_more p a b xs first h args.1)
+          (trapped_more p m pc a b (arguments_moved xs first a) (arguments_moved xs first b) target m' c (arguments_moved_more xs first a b h) (all_true_rest two three rest))),
     )
 
 caught_more : (g : Gives) (c : ℕ) (a b : Shape) → SaysNoMore a b → SaysNoMore (caught g c a) (caught g c b)
@@ -264,7 +306,7 @@ caught_more (Left x) c a b h = register_more a b (suc c) Word Word h alike
 
 -- where a method may leave
 leave_more : (p : Image) (m pc : ℕ) (x y a b : Shape) → SaysNoMore a b → AllTrue (leave_point p m pc x a) → AllTrue (leave_point p m pc y b)
-leave_more p m pc x y a b h n = (n.0, (none_owns_more a.registers b.registers h.registers n.1.0, tt))
+leave_more p m pc x y a b h n = (n.0, (none_owns_more a.registers b.registers h.registers n.1.0, (has_not_more a.states b.states issued h.states n.1.1.0, (here_more a b h n.1.1.1.0, tt))))
 
 -- what is pushed is the same
 owns_more : (k l : Kind) → Weaker k l → owns_object k ≡ true → owns_object l ≡ true
@@ -277,6 +319,34 @@ pushed_more k l unset_word h = refl
 pushed_more k l unset_null h = refl
 pushed_more k l (maybe_null {t = t} {a = age}) h = refl
 pushed_more k l (maybe_own {t = t} {a = age}) h = absurd (false≢true h)
+
+-- what a return leaves
+left_more : (p : Image) (m pc : ℕ) (a b : Shape) (r : ℕ) → SaysNoMore a b → AllTrue (rule_left p m pc a r) → AllTrue (rule_left p m pc b r)
+left_more p m pc a b r h n =
+    let g = gives_of p m in
+    (rw (← h.entries) n.0, (none_owns_more (result_moved p m pc a g r).registers (result_moved p m pc b g r).registers (moved_more p m pc a b g r h).registers n.1.0, tt))
+
+ended_more : (p : Image) (m pc : ℕ) (a b : Shape) → SaysNoMore a b → AllTrue (rule_ended p m pc a) → AllTrue (rule_ended p m pc b)
+ended_more p m pc a b h n =
+    let cancels = is_cancel (method_role p m) in
+    let serves = is_service (method_role p m) in
+    let destroys = is_destructor p m in
+    let rest = n.1.1.1 in (
+      has_not_more a.states b.states issued h.states n.0,
+      (
+        only_if_more cancels (has cancel_done a.states) (has cancel_done b.states) (λ done. has_along cancel_done a.states b.states done h.states) n.1.0,
+        (
+          only_if_more destroys (not (has a.states active)) (not (has b.states active)) (has_not_more a.states b.states active h.states) n.1.1.0,
+          (
+            done_more p destroys (holder_of p m) a b h rest.0,
+            (
+              has_along (after_of p m) a.states b.states rest.1.0 h.states,
+              (only_if_more serves (not (is_here a.delivery)) (not (is_here b.delivery)) (λ taken. ap (λ d. not (is_here d)) (sym h.delivery) ∙ taken) rest.1.1.0, tt),
+            ),
+          ),
+        ),
+      ),
+    )
 
 pub needs_more : (p : Image) (m pc : ℕ) (a b : Shape) (i : Instr) → SaysNoMore a b → AllTrue (rule_needs p m pc a i) → AllTrue (rule_needs p m pc b i)
 needs_more p m pc a b (Const r w) h n = (unowning_more (register a r) (register b r) (h.registers r) n.0, tt)
@@ -315,16 +385,25 @@ needs_more p m pc a b (Leave r) h n = (word_more (register a r) (register b r) (
 needs_more p m pc a b (LeaveIf r) h n = (word_more (register a r) (register b r) (h.registers r) n.0, leave_more p m pc a b a b h n.1)
 needs_more p m pc a b (Return r) h n =
     let g = gives_of p m in
-    let first = all_true_first (rule_result p m pc a g r) (left_needs p m pc a r) n in
-    let rest = all_true_rest (rule_result p m pc a g r) (left_needs p m pc a r) n in
-    all_true_both (rule_result p m pc b g r) (left_needs p m pc b r) (result_more p m pc a b g r h first) (
-      rw (← h.entries) rest.0,
-      (
-        none_owns_more (result_moved p m pc a g r).registers (result_moved p m pc b g r).registers (moved_more p m pc a b g r h).registers rest.1.0,
-        (done_more p (is_destructor p m) (holder_of p m) a b h rest.1.1.0, tt),
-      ),
-    )
--- of the entries alone, or of nothing, or never met
+    let of_result = rule_result p m pc a g r in
+    let after_result = rule_left p m pc a r ++ rule_ended p m pc a in
+    let rest = all_true_rest of_result after_result n in
+    let ended = all_true_rest (rule_left p m pc a r) (rule_ended p m pc a) rest in
+    let left = all_true_first (rule_left p m pc a r) (rule_ended p m pc a) rest in
+    all_true_both (rule_result p m pc b g r) (rule_left p m pc b r ++ rule_ended p m pc b) (result_more p m pc a b g r h (all_true_first of_result after_result n))
+    (all_true_both (rule_left p m pc b r) (rule_ended p m pc b) (left_more p m pc a b r h left) (ended_more p m pc a b h ended))
+needs_more p m pc a b (Enlist priority) h n = (n.0, (has_along unlisted a.states b.states n.1.0 h.states, tt))
+needs_more p m pc a b (Issue r s) h n = (
+  word_more (register a r) (register b r) (h.registers r) n.0,
+  (
+    word_more (register a s) (register b s) (h.registers s) n.1.0,
+    (n.1.1.0, (has_not_more a.states b.states unlisted h.states n.1.1.1.0, (has_along idle a.states b.states n.1.1.1.1.0 h.states, tt))),
+  ),
+)
+needs_more p m pc a b SetActive h n = (n.0, (has_along issued a.states b.states n.1.0 h.states, tt))
+needs_more p m pc a b Abort h n = (n.0, (has_along (bit_or cancel_open cancel_done) a.states b.states n.1.0 h.states, tt))
+needs_more p m pc a b (Status r) h n = (n.0, (unowning_more (register a r) (register b r) (h.registers r) n.1.0, tt))
+-- of the entries or of the method alone, or of nothing, or never met
 needs_more p m pc a b _ h n = grind (arith, n, h.entries)
 
 same_jump : (p : Image) (m pc : ℕ) (a b : Shape) (r to : ℕ) → SaysNoMore a b → (k : Kind) → AllFollow (flow_jump_null p m pc a k r to) (flow_jump_null p m pc b k r to)
@@ -354,11 +433,52 @@ empty_jump_more p m pc a b f to h x y perhaps_full e = (inl (refl, field_told a 
 both_ways_more : (x y : ℕ) (a b : Shape) → SaysNoMore a b → AllFollow ((x, a) ∷ (y, a) ∷ []) ((x, b) ∷ (y, b) ∷ [])
 both_ways_more x y a b h = (inl (refl, h), (inr (inl (refl, h)), tt))
 
+-- two states with fewer request states in the second
+states_more : (a b : Shape) (s t : ℕ) → SaysNoMore a b → IsTrue (has s t) → SaysNoMore (record a { states = s }) (record b { states = t })
+states_more a b s t h fewer = record { registers = h.registers; fields = h.fields; entries = h.entries; states = fewer; delivery = h.delivery }
+
+none_left : (t : ℕ) → t ≤ 0 → (t == 0) ≡ true
+none_left zero h = refl
+none_left (suc t) h = absurd (first_of (cc, omega (arith, h)))
+
+in_more : (a b : Shape) (place s t : ℕ) → SaysNoMore a b → IsTrue (has s t) → AllFollow (flow_in a place s) (flow_in b place t)
+in_more a b place s t h fewer = go (s == 0) (t == 0) refl refl
+  where
+    go : (x y : Bool) → (s == 0) ≡ x → (t == 0) ≡ y → AllFollow (cond x [] ((place, record a { states = s }) ∷ [])) (cond y [] ((place, record b { states = t }) ∷ []))
+    go x true e f = tt
+    go false false e f = (inl (refl, states_more a b s t h fewer), tt)
+    go true false e f = absurd (false≢true (sym f ∙ none_left t (omega (arith, eqb-true s 0 e, larger s t fewer))))
+
+narrowed_more : (a b : Shape) (place states : ℕ) → SaysNoMore a b → AllFollow (flow_narrowed a place states) (flow_narrowed b place states)
+narrowed_more a b place states h = in_more a b place (bit_and a.states states) (bit_and b.states states) h (has_shared a.states b.states states h.states)
+
+-- what follows a part of some flows follows them all
+follows_first : (xs ys : List Flow) (flow : Flow) → Follows xs flow → Follows (xs ++ ys) flow
+follows_first (x ∷ xs) ys flow (inl here) = inl here
+follows_first (x ∷ xs) ys flow (inr rest) = inr (follows_first xs ys flow rest)
+follows_first [] ys flow h = absurd h
+
+follows_second : (xs ys : List Flow) (flow : Flow) → Follows ys flow → Follows (xs ++ ys) flow
+follows_second [] ys flow h = h
+follows_second (x ∷ xs) ys flow h = inr (follows_second xs ys flow h)
+
+second_follow : (xs ys vs : List Flow) → AllFollow ys vs → AllFollow (xs ++ ys) vs
+second_follow xs ys [] h = tt
+second_follow xs ys (v ∷ vs) h = (follows_second xs ys v h.0, second_follow xs ys vs h.1)
+
+both_follow : (xs ys us vs : List Flow) → AllFollow xs us → AllFollow ys vs → AllFollow (xs ++ ys) (us ++ vs)
+both_follow xs ys [] vs h k = second_follow xs ys vs k
+both_follow xs ys (u ∷ us) vs h k = (follows_first xs ys u h.0, both_follow xs ys us vs h.1 k)
+
+branches_more : (a b : Shape) (next there here to : ℕ) → SaysNoMore a b → AllFollow (flow_narrowed a next here ++ flow_narrowed a to there) (flow_narrowed b next here ++ flow_narrowed b to there)
+branches_more a b next there here to h =
+    both_follow (flow_narrowed a next here) (flow_narrowed a to there) (flow_narrowed b next here) (flow_narrowed b to there) (narrowed_more a b next here h) (narrowed_more a b to there h)
+
 module _ (p : Image) (m pc : ℕ) (a b : Shape) (h : SaysNoMore a b) where
-  lasting_more : (target : Target) (m' first : ℕ) → SaysNoMore (lasting p m pc a target m' first) (lasting p m pc b target m' first)
-  lasting_more target m' first =
+  lasting_more : (target : Target) (m' first ended : ℕ) → SaysNoMore (lasting p m pc a target m' first ended) (lasting p m pc b target m' first ended)
+  lasting_more target m' first ended =
       let xs = arguments_of p m' in
-      called_more target (method_class p m') (arguments_moved xs first a) (arguments_moved xs first b) (arguments_moved_more xs first a b h)
+      called_more target (method_class p m') ended (arguments_moved xs first a) (arguments_moved xs first b) (arguments_moved_more xs first a b h)
 
   after_more : (news : News) → Allows a (Goes_on news) → SaysNoMore (after p m pc a news) (after p m pc b news)
   after_more As_before n = h
@@ -377,8 +497,13 @@ module _ (p : Image) (m pc : ℕ) (a b : Shape) (h : SaysNoMore a b) where
       let same : Weaker (top_kind a.entries) (top_kind b.entries) = rw (← h.entries) alike in
       register_more (without_entry a) (without_entry b) r (top_kind a.entries) (top_kind b.entries) (entry_less a b h) same
   after_more Dropped n = entry_less a b h
-  after_more (Called target m' first c) n = brought_more (gives_of p m') c (lasting p m pc a target m' first) (lasting p m pc b target m' first) (lasting_more target m' first)
-  after_more (Caught target m' first c) n = caught_more (gives_of p m') c (lasting p m pc a target m' first) (lasting p m pc b target m' first) (lasting_more target m' first)
+  after_more (Called target m' first c) n =
+      let ended = after_of p m' in
+      brought_more (gives_of p m') c (lasting p m pc a target m' first ended) (lasting p m pc b target m' first ended) (lasting_more target m' first ended)
+  after_more (Caught target m' first c) n =
+      let ended = resting p (method_class p m') in
+      caught_more (gives_of p m') c (lasting p m pc a target m' first ended) (lasting p m pc b target m' first ended) (lasting_more target m' first ended)
+  after_more (Left_in states) n = states_more a b states states h (has_itself states)
 
   ways_more : (ways : Ways) → Allows a ways → AllFollow (flowing p m pc a ways) (flowing p m pc b ways)
   ways_more Ends n = tt
@@ -388,6 +513,7 @@ module _ (p : Image) (m pc : ℕ) (a b : Shape) (h : SaysNoMore a b) where
   ways_more (Goes_back to) n = both_ways_more to (suc pc) a b h
   ways_more (Branches_on_null r to) n = jump_more p m pc a b r to h (register a r) (register b r) (h.registers r) refl n
   ways_more (Branches_on_empty f to) n = empty_jump_more p m pc a b f to h (field a f) (field b f) (h.fields f) refl
+  ways_more (Branches_in there here to) n = branches_more a b (suc pc) there here to h
 
 pub flows_more : (p : Image) (m pc : ℕ) (a b : Shape) (i : Instr) → SaysNoMore a b → AllTrue (rule_needs p m pc a i) → AllFollow (flows p m pc a i) (flows p m pc b i)
 flows_more p m pc a b i h n = ways_more p m pc a b h (ways_of p i) (allows p m pc a i n)

@@ -9,7 +9,7 @@ use Rattle.aom_shape.specs.Kinds.{is_object_or_null, register}
 use Rattle.aom_shape.specs.Needs.{AllTrue}
 use Rattle.aom_rules.specs.Rules.{rule_needs, ways_of}
 use Rattle.aom_shape.specs.Shape.{Shape}
-use Rattle.aom_rules.specs.Ways.{Branches, Branches_on_empty, Branches_on_null, Ends, Goes_back, Goes_on, Goes_to, Pushed, Ways}
+use Rattle.aom_rules.specs.Ways.{Branches, Branches_in, Branches_on_empty, Branches_on_null, Ends, Goes_back, Goes_on, Goes_to, Pushed, Ways}
 
 abbrev pub turning : Bool → Option ℕ → Bool × Option ℕ
 turning on to = (on, to)
@@ -23,6 +23,7 @@ Leads i (Branches to) = turning (goes_on i) (jump_of i) ≡ turning true (Some t
 Leads i (Goes_back to) = turning (goes_on i) (back_of i) ≡ turning true (Some to)
 Leads i (Branches_on_null a to) = turning (goes_on i) (jump_of i) ≡ turning true (Some to)
 Leads i (Branches_on_empty f to) = turning (goes_on i) (jump_of i) ≡ turning true (Some to)
+Leads i (Branches_in there here to) = turning (goes_on i) (jump_of i) ≡ turning true (Some to)
 
 pub leads : (p : Image) (i : Instr) → Leads i (ways_of p i)
 unfolding goes_on jump_of back_of

@@ -1,7 +1,7 @@
 -- The rules of calls, of returns and of stop.
 use Rattle.std.specs.Prelude.{ℕ, suc, ◌+◌, ◌≤◌, Bool, true, false, not, ◌&&◌, ◌==◌, nat_le, nat_lt, List, [], ◌∷◌, ◌++◌, length, replicate, IsSome, Option, Some, None}
 use Rattle.aom_image.specs.Image.{Image}
-use Rattle.aom_image.specs.Views.{arguments_of, fields_of, gives_of, is_quiet, leaves, method_at, method_class, method_role}
+use Rattle.aom_image.specs.Views.{arguments_of, fields_of, gives_of, has, is_quiet, leaves, method_at, method_class, method_role}
 use Rattle.aom_instructions.specs.declared.instr.Instr.{Instr}
 use Rattle.aom_instructions.specs.declared.instr.Instr.TheVariants.{Call, Trap, PushOperation}
 use Rattle.aom_instructions.specs.declared.instr.Target.{Target}
@@ -12,13 +12,15 @@ use Rattle.aom_image.specs.declared.method.Gives.{Gives}
 use Rattle.aom_image.specs.declared.method.Gives.TheVariants.{Nothing, Word as A_word, Own as An_own, Maybe as A_maybe, Left}
 use Rattle.aom_image.specs.declared.method.Method.{Method}
 use Rattle.aom_image.specs.declared.method.Role.{Role}
-use Rattle.aom_image.specs.declared.method.Role.TheVariants.{Construct, Destruct}
+use Rattle.aom_image.specs.declared.method.Role.TheVariants.{Destruct}
 use Rattle.aom_image.specs.declared.method.Thing.TheVariants.{Object}
+use Rattle.aom_roles.specs.States.{active, cancel_done}
+use Rattle.aom_rules.specs.Requests.{is_cancel, is_construct, is_service, may_begin, resting, unissued}
 use Rattle.aom_shape.specs.Things.{Holder, Nobody, Program, Member, field_thing, stands_for, holder_of}
 use Rattle.aom_shape.specs.Shape.{Shape}
-use Rattle.aom_shape.specs.Kinds.{all_empty, is_own_for, entry_kind, register, field, set_register, filled, is_word, is_unowning, is_fresh_kind, is_ready_kind, readied, may_be, none_owns, no_entry}
+use Rattle.aom_shape.specs.Kinds.{all_empty, is_own_for, entry_kind, register, field, set_register, filled, is_word, is_unowning, is_fresh_kind, is_here, is_ready_kind, readied, may_be, none_owns, no_entry}
 use Rattle.aom_shape.specs.Entries.{readied_at, with_entry}
-use Rattle.aom_shape.specs.Arguments.{arguments_moved}
+use Rattle.aom_shape.specs.Arguments.{after_of, arguments_moved}
 use Rattle.aom_shape.specs.Tables.{at}
 use Rattle.aom_shape.specs.Needs.{Need, Flow, only_if, to_next}
 use Rattle.aom_shape.specs.declared.kind.Age.TheVariants.{Ready}
@@ -28,13 +30,9 @@ use Rattle.aom_shape.specs.declared.kind.Filling.{Filling}
 use Rattle.aom_shape.specs.declared.kind.Filling.TheVariants.{Perhaps}
 use Rattle.aom_shape.specs.declared.kind.Kind.{Kind}
 use Rattle.aom_shape.specs.declared.kind.Kind.TheVariants.{Word, Null, Own, Maybe}
-use Rattle.aom_shape.specs.declared.why.Why.TheVariants.{RegisterKind, OwnedAtLeave, OwnedAtReturn, CleanupAtReturn, PopEmpty, LeaveNotAllowed, FieldsLeft, NotFresh, StillFresh, QuietBroken}
+use Rattle.aom_shape.specs.declared.why.Why.TheVariants.{RegisterKind, OwnedAtLeave, OwnedAtReturn, CleanupAtReturn, PopEmpty, LeaveNotAllowed, FieldsLeft, NotFresh, StillFresh, IssuedAtLeave, IssuedAtReturn, StillActive, NotCancelled, MessageAtLeave, MessageAtReturn, EntryState, QuietBroken}
 
 -- ---- calls
-
-abbrev pub is_construct : Option Role → Bool
-is_construct (Some Construct) = true
-is_construct _ = false
 
 -- a method of the first class may call one of the second class on its own object, and any method a static one
 abbrev pub stands_here : Image → Option ℕ → Option ℕ → Bool
@@ -86,17 +84,17 @@ caught (A_maybe t) c sh = set_register (set_register sh c (Maybe t Ready)) (suc 
 -- no method that leaves an object is called under a trap
 caught (Left x) c sh = set_register sh (suc c) Word
 
--- what is known of one's own fields once a method of that class has worked on them; a static method works on none
-abbrev pub fields_worked : Option ℕ → Shape → Shape
-fields_worked None sh = sh
-fields_worked (Some c) sh = record sh { fields = replicate 8 Perhaps }
+-- what is known of one's own object once a method of that class has worked on it and left it in one of these states; a static method works on none
+abbrev pub worked_on : Option ℕ → ℕ → Shape → Shape
+worked_on None ended sh = sh
+worked_on (Some c) ended sh = record sh { fields = replicate 8 Perhaps; states = ended }
 
--- while the call of a method of that class lasts: what a register is called on will be ready
-abbrev pub while_called : Target → Option ℕ → Shape → Shape
-while_called This class sh = fields_worked class sh
-while_called (Register r) class sh = set_register sh r (readied (register sh r))
-while_called (Field f) class sh = sh
-while_called (On_entry k) class sh = record sh { entries = readied_at sh.entries k }
+-- while the call of a method of that class lasts, which ends in these states: what a register is called on will be ready
+abbrev pub while_called : Target → Option ℕ → ℕ → Shape → Shape
+while_called This class ended sh = worked_on class ended sh
+while_called (Register r) class ended sh = set_register sh r (readied (register sh r))
+while_called (Field f) class ended sh = sh
+while_called (On_entry k) class ended sh = record sh { entries = readied_at sh.entries k }
 
 -- an argument is a word, or a ready object or a message that may stand for the declared thing
 abbrev pub argument_needs : Image → Argument → Kind → List Need
@@ -131,13 +129,16 @@ module _ (p : Image) (m : ℕ) (sh : Shape) where
       ∷ age_need constructs (entry_kind (at Operation sh.entries k))
       ∷ []
 
-  -- what is asked once the arguments have moved: a quiet method calls quiet ones, the result has a register, and where the called method may leave, this one may, and owns nothing
-  abbrev pub rule_moved : ℕ → ℕ → List Need
-  rule_moved m' c =
-      (only_if (is_quiet p m) (is_quiet p m'), QuietBroken)
+  -- what is asked once the arguments have moved: the method may begin, a quiet method calls quiet ones, the result has a register, and where the called method may leave, this one may, and nothing is lost by that
+  abbrev pub rule_moved : Target → ℕ → ℕ → List Need
+  rule_moved target m' c =
+      (may_begin p m' target sh.states, EntryState)
+      ∷ (only_if (is_quiet p m) (is_quiet p m'), QuietBroken)
       ∷ (awaits (gives_of p m') (register sh c), RegisterKind)
       ∷ (only_if (leaves p m') (leaves p m), LeaveNotAllowed)
       ∷ (only_if (leaves p m') (none_owns sh.registers), OwnedAtLeave)
+      ∷ (only_if (leaves p m') (unissued sh.states), IssuedAtLeave)
+      ∷ (only_if (leaves p m') (is_here sh.delivery), MessageAtLeave)
       ∷ []
 
 -- what is asked of what a method so declared is called on, and of its arguments
@@ -163,28 +164,40 @@ module _ (p : Image) (m : ℕ) (pc : ℕ) (sh : Shape) where
   rule_call target m' first c =
       rule_target p m sh target (method_class p m') (is_construct (method_role p m')) first (length (arguments_of p m'))
       ++ (rule_arguments p sh (arguments_of p m') first
-      ++ rule_moved p m (arguments_moved (arguments_of p m') first sh) m' c)
+      ++ rule_moved p m (arguments_moved (arguments_of p m') first sh) target m' c)
 
-  -- the state while the call lasts
-  abbrev pub lasting : Target → ℕ → ℕ → Shape
-  lasting target m' first = while_called target (method_class p m') (arguments_moved (arguments_of p m') first sh)
+  -- the state while the call lasts, which ends in these states
+  abbrev pub lasting : Target → ℕ → ℕ → ℕ → Shape
+  lasting target m' first ended = while_called target (method_class p m') ended (arguments_moved (arguments_of p m') first sh)
+
+  -- the state after it
+  abbrev pub called : Target → ℕ → ℕ → ℕ → Shape
+  called target m' first c = brought (gives_of p m') c (lasting target m' first (after_of p m'))
 
   abbrev pub flow_call : Target → ℕ → ℕ → ℕ → List Flow
-  flow_call target m' first c = to_next pc (brought (gives_of p m') c (lasting target m' first))
+  flow_call target m' first c = to_next pc (called target m' first c)
 
   -- under a trap nothing leaves on, and the code has a register too
-  abbrev pub rule_trapped : Shape → ℕ → ℕ → List Need
-  rule_trapped moved m' c = (awaits (gives_of p m') (register moved c), RegisterKind) ∷ (is_unowning (register moved (suc c)), RegisterKind) ∷ []
+  abbrev pub rule_trapped : Shape → Target → ℕ → ℕ → List Need
+  rule_trapped moved target m' c =
+      (may_begin p m' target moved.states, EntryState)
+      ∷ (awaits (gives_of p m') (register moved c), RegisterKind)
+      ∷ (is_unowning (register moved (suc c)), RegisterKind)
+      ∷ []
 
   abbrev pub rule_trap : Target → ℕ → ℕ → ℕ → List Need
   rule_trap target m' first c =
       (not (is_quiet p m), QuietBroken)
       ∷ (rule_target p m sh target (method_class p m') (is_construct (method_role p m')) first (length (arguments_of p m'))
       ++ (rule_arguments p sh (arguments_of p m') first
-      ++ rule_trapped (arguments_moved (arguments_of p m') first sh) m' c))
+      ++ rule_trapped (arguments_moved (arguments_of p m') first sh) target m' c))
+
+  -- the state after a trap: a leave may have come at any place of the method
+  abbrev pub trapped : Target → ℕ → ℕ → ℕ → Shape
+  trapped target m' first c = caught (gives_of p m') c (lasting target m' first (resting p (method_class p m')))
 
   abbrev pub flow_trap : Target → ℕ → ℕ → ℕ → List Flow
-  flow_trap target m' first c = to_next pc (caught (gives_of p m') c (lasting target m' first))
+  flow_trap target m' first c = to_next pc (trapped target m' first c)
 
 -- ---- returns
 
@@ -231,10 +244,20 @@ module _ (p : Image) (m : ℕ) (pc : ℕ) (sh : Shape) where
   result_moved (A_maybe t) a = set_register sh a Null
   result_moved (Left c) a = sh
 
-  abbrev pub rule_return : ℕ → List Need
-  rule_return a =
-      rule_result (gives_of p m) a
-      ++ ((entries_done p (gives_of p m) sh.entries, CleanupAtReturn)
-      ∷ (none_owns (result_moved (gives_of p m) a).registers, OwnedAtReturn)
+  -- what may be left on the cleanup stack and in the registers
+  abbrev pub rule_left : ℕ → List Need
+  rule_left a = (entries_done p (gives_of p m) sh.entries, CleanupAtReturn) ∷ (none_owns (result_moved (gives_of p m) a).registers, OwnedAtReturn) ∷ []
+
+  -- how the object and the message are left
+  abbrev pub rule_ended : List Need
+  rule_ended =
+      (unissued sh.states, IssuedAtReturn)
+      ∷ (only_if (is_cancel (method_role p m)) (has cancel_done sh.states), NotCancelled)
+      ∷ (only_if (is_destructor p m) (not (has sh.states active)), StillActive)
       ∷ (fields_done p (is_destructor p m) (holder_of p m) sh.fields, FieldsLeft)
-      ∷ [])
+      ∷ (has (after_of p m) sh.states, EntryState)
+      ∷ (only_if (is_service (method_role p m)) (not (is_here sh.delivery)), MessageAtReturn)
+      ∷ []
+
+  abbrev pub rule_return : ℕ → List Need
+  rule_return a = rule_result (gives_of p m) a ++ (rule_left a ++ rule_ended)

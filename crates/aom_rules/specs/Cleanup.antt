@@ -6,14 +6,15 @@ use Rattle.aom_image.specs.declared.method.Thing.{Thing}
 use Rattle.aom_image.specs.declared.method.Thing.TheVariants.{Object, Message}
 use Rattle.aom_shape.specs.Shape.{Shape}
 use Rattle.aom_shape.specs.Entries.{is_object_entry, with_entry, without_entry}
-use Rattle.aom_shape.specs.Kinds.{register, set_register, entry_kind, is_object, is_unowning, is_word, none_owns, no_entry}
+use Rattle.aom_shape.specs.Kinds.{register, set_register, entry_kind, is_here, is_object, is_unowning, is_word, none_owns, no_entry}
+use Rattle.aom_rules.specs.Requests.{unissued}
 use Rattle.aom_shape.specs.Needs.{Need}
 use Rattle.aom_shape.specs.declared.kind.Age.{Age}
 use Rattle.aom_shape.specs.declared.kind.Kind.{Kind}
 use Rattle.aom_shape.specs.declared.kind.Kind.TheVariants.{Unset, Word, Null, Own, Maybe}
 use Rattle.aom_shape.specs.declared.kind.Entry.{Entry}
 use Rattle.aom_shape.specs.declared.kind.Entry.TheVariants.{Object as An_object, Operation}
-use Rattle.aom_shape.specs.declared.why.Why.TheVariants.{RegisterKind, OwnedAtLeave, PopEmpty, LeaveNotAllowed, QuietBroken}
+use Rattle.aom_shape.specs.declared.why.Why.TheVariants.{RegisterKind, OwnedAtLeave, PopEmpty, LeaveNotAllowed, IssuedAtLeave, MessageAtLeave, QuietBroken}
 
 -- it owns an object, which is no message
 abbrev pub owns_object : Kind → Bool
@@ -49,9 +50,14 @@ top_kind [] = Null
 top_kind (e ∷ es) = entry_kind e
 
 module _ (p : Image) (m : ℕ) (pc : ℕ) (sh : Shape) where
-  -- where a method may leave in that state: it is one that may, and no register owns
+  -- where a method may leave in that state: it is one that may, no register owns, no request waits to be set active, and the message is not taken
   abbrev pub leave_point : Shape → List Need
-  leave_point left = (leaves p m, LeaveNotAllowed) ∷ (none_owns left.registers, OwnedAtLeave) ∷ []
+  leave_point left =
+      (leaves p m, LeaveNotAllowed)
+      ∷ (none_owns left.registers, OwnedAtLeave)
+      ∷ (unissued left.states, IssuedAtLeave)
+      ∷ (is_here left.delivery, MessageAtLeave)
+      ∷ []
 
   abbrev pub rule_new_or_leave : ℕ → List Need
   rule_new_or_leave a = (is_unowning (register sh a), RegisterKind) ∷ (not (is_quiet p m), QuietBroken) ∷ leave_point sh

@@ -1,14 +1,14 @@
 -- The ways on from an instruction: a few kinds, whatever the instruction is.
-use Rattle.std.specs.Prelude.{ℕ, List, []}
+use Rattle.std.specs.Prelude.{ℕ, suc, List, [], ◌++◌}
 use Rattle.aom_image.specs.Image.{Image}
-use Rattle.aom_image.specs.Views.{gives_of}
 use Rattle.aom_instructions.specs.declared.instr.Target.{Target}
-use Rattle.aom_rules.specs.Calls.{brought, caught, lasting}
+use Rattle.aom_rules.specs.Calls.{called, trapped}
 use Rattle.aom_rules.specs.Cleanup.{after_pop, after_push}
 use Rattle.aom_shape.specs.Entries.{with_entry, without_entry}
 use Rattle.aom_shape.specs.Kinds.{field, register, set_register}
 use Rattle.aom_shape.specs.Needs.{Flow, to_next}
 use Rattle.aom_rules.specs.Objects.{after_move, after_put, after_take, flow_jump_empty, flow_jump_null}
+use Rattle.aom_rules.specs.Requests.{flow_narrowed}
 use Rattle.aom_shape.specs.Shape.{Shape}
 use Rattle.aom_rules.specs.Words.{flow_compare, flow_jump, flow_next}
 use Rattle.aom_shape.specs.declared.kind.Entry.TheVariants.{Operation}
@@ -29,6 +29,8 @@ pub data News : Type 0 where
   Dropped : News
   Called : Target → (method first result : ℕ) → News
   Caught : Target → (method first result : ℕ) → News
+  -- the object's request is in that state
+  Left_in : (states : ℕ) → News
 
 -- where a run may go on
 pub data Ways : Type 0 where
@@ -41,6 +43,8 @@ pub data Ways : Type 0 where
   Goes_back : (to : ℕ) → Ways
   Branches_on_null : (register to : ℕ) → Ways
   Branches_on_empty : (field to : ℕ) → Ways
+  -- to that place in some of the states in which the object may be, to the next place in others; a way for which no state is left is none
+  Branches_in : (there here to : ℕ) → Ways
 
 module _ (p : Image) (m : ℕ) (pc : ℕ) (sh : Shape) where
   abbrev pub after : News → Shape
@@ -53,8 +57,9 @@ module _ (p : Image) (m : ℕ) (pc : ℕ) (sh : Shape) where
   after Pushed_operation = with_entry Operation sh
   after (Popped a) = after_pop p m pc sh a
   after Dropped = without_entry sh
-  after (Called target called first c) = brought (gives_of p called) c (lasting p m pc sh target called first)
-  after (Caught target called first c) = caught (gives_of p called) c (lasting p m pc sh target called first)
+  after (Called target m' first c) = called p m pc sh target m' first c
+  after (Caught target m' first c) = trapped p m pc sh target m' first c
+  after (Left_in states) = record sh { states = states }
 
   abbrev pub flowing : Ways → List Flow
   flowing Ends = []
@@ -64,3 +69,4 @@ module _ (p : Image) (m : ℕ) (pc : ℕ) (sh : Shape) where
   flowing (Goes_back to) = flow_next pc sh to
   flowing (Branches_on_null a to) = flow_jump_null p m pc sh (register sh a) a to
   flowing (Branches_on_empty f to) = flow_jump_empty p m pc sh (field sh f) f to
+  flowing (Branches_in there here to) = flow_narrowed sh (suc pc) here ++ flow_narrowed sh to there

@@ -3,27 +3,28 @@ ghost use Rattle.std.specs.Prelude.{◌≡◌, ◌≤◌, ◌+◌, List, [], ◌
 ghost use Rattle.aom_image.specs.Views.{gives_of, method_at};
 ghost use Rattle.aom_instructions.specs.declared.instr.Instr.TheVariants.{Call as A_call, Return, Stop, Trap};
 ghost use Rattle.aom_image.specs.declared.method.Thing.TheVariants.{Object};
-ghost use Rattle.aom_rules.specs.Calls.{is_construct, stands_here, is_target, age_need, object_needs, is_among, awaits, brought, while_called, argument_needs, rule_arguments, rule_given, rule_target, rule_moved, caught, leaves_one, entries_done, is_destruct, is_destructor, fields_done, rule_result, result_moved};
+ghost use Rattle.aom_rules.specs.Calls.{stands_here, is_target, age_need, object_needs, is_among, awaits, brought, while_called, argument_needs, rule_arguments, rule_given, rule_target, rule_moved, caught, leaves_one, entries_done, rule_result, result_moved};
+ghost use Rattle.aom_rules.specs.Requests.{is_construct, may_begin};
 ghost use Rattle.aom_rules.specs.Site.{Tells};
 ghost use Rattle.aom_shape.specs.Arguments.{arguments_moved};
 ghost use Rattle.aom_shape.specs.Changes.{next_shape};
 ghost use Rattle.aom_shape.specs.Kinds.{is_own_for, entry_kind, is_ready_kind, is_unowning, register};
 ghost use Rattle.aom_shape.specs.Needs.{judged, tested};
 ghost use Rattle.aom_shape.specs.Tables.{at};
-ghost use Rattle.aom_shape.specs.Things.{holder_by, holder_of};
 ghost use Rattle.aom_shape.specs.declared.flow.Last.TheVariants.{Same};
 ghost use Rattle.aom_shape.specs.declared.kind.Entry.{Entry as EntryData};
 ghost use Rattle.aom_shape.specs.declared.kind.Entry.TheVariants.{Operation};
-ghost use Rattle.aom_shape.specs.declared.why.Why.TheVariants.{RegisterKind, PopEmpty};
+ghost use Rattle.aom_shape.specs.declared.why.Why.TheVariants.{EntryState, RegisterKind, PopEmpty};
 
+use crate::requests::{is_construct, may_begin, resting, unissued};
 use crate::site::{Site, gives, is_quiet, leaves};
 use aom_classes::Linked;
 use aom_image::{
-    Argument, ClassNumber, EntryDepth, Gives, Method, MethodNumber, Register, Role, Target, Thing,
+    Argument, ClassNumber, EntryDepth, Gives, Method, MethodNumber, Register, States, Target, Thing,
 };
 use aom_shape::{
-    Age, Entry, Flow, Kind, Next, Shape, Why, class_fields, is_own_for, judge, judge_all, may_be,
-    only_if, stands_for,
+    Age, Entry, Flow, Kind, Next, Shape, Why, is_own_for, judge, judge_all, may_be, only_if,
+    stands_for,
 };
 
 /// A call, as its instruction says it.
@@ -46,12 +47,6 @@ impl Call {
             result: into,
         }
     }
-}
-
-fn is_construct(role: Role) -> bool
-    ensures { result ≡ is_construct (Some role) }
-{
-    matches!(role, Role::Construct)
 }
 
 /// A method of the first class may call one of the second class on its own object, and any method a static one.
@@ -155,15 +150,20 @@ fn awaits(gives: Gives, kind: Kind) -> bool
     }
 }
 
-/// The state while a call of a method of that class lasts.
-fn while_called(target: Target, class: Option<ClassNumber>, shape: &Shape<'_>) -> Next
-    ensures value { next_shape shape.now.entries result ≡ while_called target class shape.now }
+/// The state while a call of a method of that class lasts, which ends in these states.
+fn while_called(
+    target: Target,
+    class: Option<ClassNumber>,
+    ended: States,
+    shape: &Shape<'_>,
+) -> Next
+    ensures value { next_shape shape.now.entries result ≡ while_called target class ended.0 shape.now }
     ensures same { result.change.last ≡ Same }
 {
     match target {
         Target::This => match class {
             None => Next::of(shape),
-            Some(_) => Next::of(&shape.with_fields_unknown()),
+            Some(_) => Next::of(&shape.with_fields_unknown().with_states(ended)),
         },
         Target::Register(register) => {
             Next::of(&shape.with_register(register, shape.register(register).readied()))
@@ -192,11 +192,13 @@ fn brought(gives: Gives, c: Register, lasting: Next) -> Next
 fn judge_trapped(linked: &Linked, moved: &Shape<'_>, call: &Call) -> Result<(), Why>
     requires callee { IsSome (method_at linked.now call.now.method) }
     requires code { call.now.result ≤ 14 }
-    ensures { result ≡ tested ((awaits (gives_of linked.now call.now.method) (register moved.now call.now.result), RegisterKind) ∷ (is_unowning (register moved.now (suc call.now.result)), RegisterKind) ∷ []) }
+    ensures { result ≡ tested ((may_begin linked.now call.now.method call.now.target moved.now.states, EntryState) ∷ (awaits (gives_of linked.now call.now.method) (register moved.now call.now.result), RegisterKind) ∷ (is_unowning (register moved.now (suc call.now.result)), RegisterKind) ∷ []) }
 {
+    let begins = may_begin(linked, call.method, call.target, moved.states());
     let gives = gives(linked, call.method);
     let code = moved.kind_at(call.result.number() as usize + 1);
     let needs = [
+        (begins, Why::EntryState),
         (
             awaits(gives, moved.register(call.result)),
             Why::RegisterKind,
@@ -236,19 +238,6 @@ fn leaves_one(linked: &Linked, class: ClassNumber, shape: &Shape<'_>) -> bool
     match shape.entry(0) {
         None => false,
         Some(last) => is_left(linked, class, &last) && shape.height() == 1,
-    }
-}
-
-/// Whether the fields may be left as they are, by the role and the class of the method: a destructor leaves them null.
-fn done_by(linked: &Linked, role: Role, class: Option<ClassNumber>, shape: &Shape<'_>) -> bool
-    ensures { result ≡ fields_done linked.now (is_destruct (Some role)) (holder_by (Some role) class) shape.now.fields }
-{
-    match role {
-        Role::Destruct => match class {
-            None => true,
-            Some(class) => shape.are_empty(class_fields(linked, class)),
-        },
-        _ => true,
     }
 }
 
@@ -316,12 +305,14 @@ impl<'a> Site<'a> {
     /// What is asked once the arguments have moved.
     fn judge_moved(&self, moved: &Shape<'_>, call: &Call) -> Result<(), Why>
         requires { IsSome (method_at self.now.image call.now.method) }
-        ensures { result ≡ tested (rule_moved self.now.image self.now.method moved.now call.now.method call.now.result) }
+        ensures { result ≡ tested (rule_moved self.now.image self.now.method moved.now call.now.target call.now.method call.now.result) }
     {
+        let begins = may_begin(self.linked, call.method, call.target, moved.states());
         let gives = gives(self.linked, call.method);
         let may_leave = leaves(self.linked, call.method);
         let quiet = is_quiet(self.linked, self.method);
         let needs = [
+            (begins, Why::EntryState),
             (
                 only_if(quiet, is_quiet(self.linked, call.method)),
                 Why::QuietBroken,
@@ -335,6 +326,14 @@ impl<'a> Site<'a> {
                 Why::LeaveNotAllowed,
             ),
             (only_if(may_leave, moved.none_owns()), Why::OwnedAtLeave),
+            (
+                only_if(may_leave, unissued(moved.states())),
+                Why::IssuedAtLeave,
+            ),
+            (
+                only_if(may_leave, moved.delivery().is_here()),
+                Why::MessageAtLeave,
+            ),
         ];
         judge_all(&needs)
     }
@@ -346,7 +345,7 @@ impl<'a> Site<'a> {
         let callee = self.linked.method(call.method);
         let moved = self.given(call, callee)?;
         self.judge_moved(&moved, call)?;
-        let lasting = while_called(call.target, callee.class, &moved);
+        let lasting = while_called(call.target, callee.class, callee.after, &moved);
         Ok(self.on(brought(callee.gives, call.result, lasting)))
     }
 
@@ -361,7 +360,8 @@ impl<'a> Site<'a> {
         let callee = self.linked.method(call.method);
         let moved = self.given(call, callee)?;
         judge_trapped(self.linked, &moved, call)?;
-        let lasting = while_called(call.target, callee.class, &moved);
+        let rested = resting(self.linked, callee.class);
+        let lasting = while_called(call.target, callee.class, rested, &moved);
         Ok(self.on(caught(callee.gives, call.result, lasting)))
     }
 
@@ -375,15 +375,6 @@ impl<'a> Site<'a> {
             }
             Gives::Left(class) => leaves_one(self.linked, class, self.shape),
         }
-    }
-
-    /// Whether the fields may be left as they are at a return.
-    #[tactic(auto, using(aom_shape::proofs::Views::holder_there, aom_shape::proofs::Views::role_there))]
-    fn fields_done(&self) -> bool
-        ensures { result ≡ fields_done self.now.image (is_destructor self.now.image self.now.method) (holder_of self.now.image self.now.method) self.now.shape.fields }
-    {
-        let declared = self.linked.method(self.method);
-        done_by(self.linked, declared.role, declared.class, self.shape)
     }
 
     /// What is asked of the register of the result.
@@ -424,9 +415,9 @@ impl<'a> Site<'a> {
         let needs = [
             (self.entries_done(), Why::CleanupAtReturn),
             (left.none_owns(), Why::OwnedAtReturn),
-            (self.fields_done(), Why::FieldsLeft),
         ];
-        judge(&needs, Flow::none())
+        judge_all(&needs)?;
+        judge(&self.ended(), Flow::none())
     }
 
     pub(crate) fn rule_stop(&self) -> Result<Flow, Why>

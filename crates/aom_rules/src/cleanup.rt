@@ -75,19 +75,21 @@ impl Site<'_> {
     fn judge_leave(&self, need: (bool, Why), left: &Shape<'_>, flow: Flow) -> Result<Flow, Why>
         ensures { (es : List EntryData) → told es result ≡ judged (need ∷ leave_point self.now.image self.now.method self.now.place self.now.shape left.now) (ways_from es flow) }
     {
-        let [may_leave, unowned] = self.leave_point(left);
-        judge(&[need, may_leave, unowned], flow)
+        let [may_leave, unowned, unissued, here] = self.leave_point(left);
+        judge(&[need, may_leave, unowned, unissued, here], flow)
     }
 
     pub(crate) fn rule_new_or_leave(&self, a: Register, class: ClassNumber) -> Result<Flow, Why>
         ensures { Tells self.now (NewOrLeave a class) result }
     {
-        let [may_leave, unowned] = self.leave_point(self.shape);
+        let [may_leave, unowned, unissued, here] = self.leave_point(self.shape);
         let needs = [
             self.needs_unowning(a),
             self.needs_loud(),
             may_leave,
             unowned,
+            unissued,
+            here,
         ];
         let made = Kind::Own(Thing::Object(class), self.new_age(class));
         judge(&needs, self.next(&self.shape.with_register(a, made)))

@@ -6,13 +6,16 @@
 //! of the machine, of sweeps or of prices.
 #![tactic(auto)]
 
+mod active;
 mod calls;
 mod cleanup;
 mod laws;
 mod objects;
+mod requests;
 mod rules;
 mod site;
 mod words;
 
+pub use active::{enlisted, inactive, outstanding};
 pub use laws::rules_are_monotone;
 pub use rules::rule;

@@ -82,14 +82,14 @@ pub fn rule(
         Instr::LeaveIf(a) => site.rule_leave_if(a),
         Instr::Return(a) => site.rule_return(a),
         Instr::Stop => site.rule_stop(),
-        Instr::JumpActive(_)
-        | Instr::JumpAdded(_)
-        | Instr::Enlist(_)
-        | Instr::Issue(_, _)
-        | Instr::SetActive
-        | Instr::Cancel
-        | Instr::Abort
-        | Instr::Status(_)
+        Instr::JumpActive(to) => site.rule_jump_active(to),
+        Instr::JumpAdded(to) => site.rule_jump_added(to),
+        Instr::Enlist(_) => site.rule_enlist(),
+        Instr::Issue(a, b) => site.rule_issue(a, b),
+        Instr::SetActive => site.rule_set_active(),
+        Instr::Abort => site.rule_abort(),
+        Instr::Status(a) => site.rule_status(a),
+        Instr::Cancel
         | Instr::Connect(_)
         | Instr::Ask(_, _, _)
         | Instr::Close

@@ -1,13 +1,15 @@
 //! Where a rule is applied, and the needs that many rules share.
 ghost use Rattle.std.specs.Prelude.{◌≡◌, ◌<◌, ◌^◌, List, [], ◌∷◌, IsSome, is_some, not, suc};
 ghost use Rattle.aom_image.specs.Views.{gives_of, is_quiet, leaves, method_at};
+ghost use Rattle.aom_rules.specs.Cleanup.{leave_point};
 ghost use Rattle.aom_shape.specs.Changes.{next_shape, ways_from};
-ghost use Rattle.aom_shape.specs.Kinds.{is_object_or_null, is_ready_kind, is_unowning, is_word, no_entry, none_owns, register};
+ghost use Rattle.aom_shape.specs.Kinds.{is_object_or_null, is_ready_kind, is_unowning, is_word, no_entry, register};
 ghost use Rattle.aom_shape.specs.Needs.{to_next};
 ghost use Rattle.aom_shape.specs.Things.{field_thing, holder_of};
 ghost use Rattle.aom_shape.specs.declared.kind.Entry.{Entry as EntryData};
-ghost use Rattle.aom_shape.specs.declared.why.Why.TheVariants.{LeaveNotAllowed, OwnedAtLeave, PopEmpty, QuietBroken, RegisterKind, StillFresh};
+ghost use Rattle.aom_shape.specs.declared.why.Why.TheVariants.{PopEmpty, QuietBroken, RegisterKind, StillFresh};
 
+use crate::requests::unissued;
 use aom_classes::Linked;
 use aom_image::{FieldIndex, Gives, MethodFlags, MethodNumber, Place, Register, Thing};
 use aom_shape::{Flow, Next, Shape, Why, field_thing};
@@ -138,13 +140,16 @@ impl Site<'_> {
         (!is_quiet(self.linked, self.method), Why::QuietBroken)
     }
 
-    /// What is asked where the method may leave in that state: it is one that may, and no register owns.
-    pub(crate) fn leave_point(&self, left: &Shape<'_>) -> [(bool, Why); 2]
-        ensures { result ≡ (leaves self.now.image self.now.method, LeaveNotAllowed) ∷ (none_owns left.now.registers, OwnedAtLeave) ∷ [] }
+    /// What is asked where the method may leave in that state: it is one that may, no register owns, no request waits to be
+    /// set active, and the message in service is not taken.
+    pub(crate) fn leave_point(&self, left: &Shape<'_>) -> [(bool, Why); 4]
+        ensures { result ≡ leave_point self.now.image self.now.method self.now.place self.now.shape left.now }
     {
         [
             (leaves(self.linked, self.method), Why::LeaveNotAllowed),
             (left.none_owns(), Why::OwnedAtLeave),
+            (unissued(left.states()), Why::IssuedAtLeave),
+            (left.delivery().is_here(), Why::MessageAtLeave),
         ]
     }
 }

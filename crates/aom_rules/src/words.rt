@@ -13,7 +13,7 @@ use aom_shape::{Flow, Kind, Why, judge, word_count};
 
 impl Site<'_> {
     /// A word comes into the register.
-    fn with_word(&self, a: Register) -> Flow
+    pub(crate) fn with_word(&self, a: Register) -> Flow
         ensures { ways_from self.now.shape.entries result ≡ flow_word self.now.place self.now.shape a }
     {
         self.next(&self.shape.with_register(a, Kind::Word))

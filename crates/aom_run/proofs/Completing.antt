@@ -5,7 +5,7 @@ use Rattle.aom_image.specs.Image.{Image}
 use Rattle.aom_classes.specs.Linked.{IsLinked}
 use Rattle.aom_rules.specs.Typing.{Typing, IsTyped}
 use Rattle.aom_sound.specs.Places.{Cell, named}
-use Rattle.aom_sound.specs.State.{Task, State, Choice, Outcome, Goes, IsStuck}
+use Rattle.aom_sound.specs.State.{Task, State, Choice}
 use Rattle.aom_sound.specs.Moves.{step, written, is_refused, IsOpen}
 use Rattle.aom_sound.specs.WellTyped.{WellTyped, Keeps}
 use Rattle.aom_sound.specs.World.{boot_state, Reaches, moves, waits, Run_of, IsBusy, waiting, Outside}
@@ -14,6 +14,7 @@ use Rattle.aom_transcript.specs.declared.line.Ending.{Ending}
 use Rattle.aom_transcript.specs.declared.line.Ending.TheVariants.{Waiting}
 use Rattle.aom_ranks.specs.Ranks.{rank}
 use Rattle.aom_ranks.proofs.Ranking.{moves_lower_ranks}
+use Rattle.aom_ranks.proofs.Arriving.{leads_on}
 
 -- a number above all names
 top : List Cell → ℕ
@@ -52,16 +53,12 @@ module _ (p : Image) (t : Typing) (outside : Outside) (linked : IsLinked p) (is_
   further : (lines now : List Line) → Completed p outside (lines ++ now) → Completed p outside lines
   further lines now c = record { more = now ++ c.more; last = c.last; ending = c.ending; run = subst (λ ls. Run_of p outside ls c.last c.ending) (append_assoc lines now c.more) c.run }
 
-  goes_of : (o : Outcome) → Keeps p t o → (u : State) × (o ≡ Goes u) × WellTyped p t u
-  goes_of (Goes u) k = (u, refl, k)
-  goes_of (IsStuck kind) k = absurd k
-
   -- a run that can be brought to an end from each state of lower rank
   by_move : (lines : List Line) (s : State) → Reaches p outside (boot_state p) lines s → WellTyped p t s → IsBusy s
       → ((now : List Line) (u : State) → rank p u < rank p s → Reaches p outside (boot_state p) (lines ++ now) u → WellTyped p t u → Completed p outside (lines ++ now)) → Completed p outside lines
   by_move lines s r typed busy again =
       let free = is_open s in
-      let then_is = goes_of (step p (choice s) s) (keeps (choice s) s typed free.name) in
+      let then_is = leads_on p t (step p (choice s) s) (keeps (choice s) s typed free.name) in
       let lower = moves_lower_ranks p t linked is_typed (choice s) s then_is.0 typed busy then_is.1 in
       further lines (written p s) (again (written p s) then_is.0 lower (moves (choice s) r busy free then_is.1) then_is.2)
 

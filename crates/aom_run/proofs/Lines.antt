@@ -1,9 +1,12 @@
 -- What lines denote, by the lines that are read and the next one.
-use Rattle.std.proofs.Common.{◌≡◌, ◌⊎◌, ◌∙◌, ℕ, ◌+◌, ◌≤◌, nat_le, Bool, true, false, List, [], ◌∷◌, ◌++◌, length, length-append, append-nil, append_assoc, None, Result, Ok, Err, inl, inr, refl, sym, ap, arith, rules, tests}
+use Rattle.std.proofs.Common.{◌≡◌, ◌⊎◌, ◌∙◌, ℕ, ◌+◌, ◌≤◌, nat_le, List, [], ◌∷◌, ◌++◌, length, length-append, append-nil, append_assoc, None, Result, Ok, Err, inl, inr, refl, sym, ap, arith, rules, tests}
 use Rattle.std.proofs.lemmas.Grind.{flat_map-append}
 use Rattle.aom_run.specs.declared.fault.ScriptFaultKind.{ScriptFaultKind}
 use Rattle.aom_run.specs.declared.line.ScriptLine.{ScriptLine}
 use Rattle.aom_run.specs.Script.{Script, line_says, fault_after, fault_of, refused_by, refused_in, in_line, faults_from, unless, denoted_by, Adds, LinesWantMemory}
+use Rattle.aom_image.proofs.Given.{true_given}
+use Rattle.std.specs.Prelude.{cond, Some}
+use Rattle.aom_run.specs.declared.fault.ScriptFaultKind.TheVariants.{LimitPassed}
 
 -- the faults of lines and of those after them
 faults_append : (n : ℕ) (xs ys : List (List ℕ)) → faults_from n (xs ++ ys) ≡ faults_from n xs ++ faults_from (n + length xs) ys
@@ -68,14 +71,7 @@ stops lines later line count script new kind s (inr wants) =
 
 -- no line has a number above the limit
 few_after : (number : ℕ) (said : Result ScriptLine ScriptFaultKind) → fault_after number said ≡ None → number ≤ 65536
-few_after number (Ok said) is = within (nat_le number 65536) refl is
-  where
-    within : (t : Bool) → nat_le number 65536 ≡ t → fault_after number (Ok said) ≡ None → number ≤ 65536
-    within true e is = search (rules, tests, e)
-    within false e is = absurd (apart e is)
-      where
-        apart : nat_le number 65536 ≡ false → fault_after number (Ok said) ≡ None → ⊥
-        apart e is = cc
+few_after number (Ok said) is = true_given (λ b. cond b None (Some LimitPassed) ≡ None) (nat_le number 65536) is (λ past. cc) (λ few none. search (rules, tests, few))
 few_after number (Err kind) is = absurd cc
 
 pub few : (number : ℕ) (line : List ℕ) (old new : Script) → Adds number line old new (Ok tt) → number ≤ 65536

@@ -1,9 +1,9 @@
 -- A step of the machine is moves of a run, and steps one after another fill a turn.
-use Rattle.std.proofs.Common.{◌≡◌, ℕ, List, [], ◌∷◌, ◌++◌, refl, sym, ap, subst, ◌∙◌, append-nil, append_assoc}
+use Rattle.std.proofs.Common.{◌≡◌, List, [], ◌++◌, sym, ap, subst, ◌∙◌, append-nil, append_assoc}
 use Rattle.aom_image.proofs.Given.{cons_given}
 use Rattle.aom_image.specs.Image.{Image}
 use Rattle.aom_sound.specs.Moves.{written}
-use Rattle.aom_sound.specs.State.{State, Task}
+use Rattle.aom_sound.specs.State.{State}
 use Rattle.aom_sound.specs.World.{Reaches, begins, moves as moved, waits as waited, IsBusy, Outside}
 use Rattle.aom_transcript.specs.declared.line.Line.{Line}
 use Rattle.aom_lines.specs.Turn.{Turn}

@@ -1,5 +1,5 @@
 -- A run, some steps of the machine after others.
-use Rattle.std.proofs.Common.{◌≡◌, ℕ, suc, min, ◌+◌, Bool, true, List, [], ◌∷◌, ◌++◌, Option, Some, None, length, take, refl, sym, ap, subst, ◌∙◌, append_assoc, arith}
+use Rattle.std.proofs.Common.{◌≡◌, ℕ, suc, min, ◌+◌, Bool, true, List, [], ◌++◌, Option, Some, length, take, refl, sym, ap, subst, ◌∙◌, append_assoc, arith}
 use Rattle.aom_image.specs.Image.{Image}
 use Rattle.aom_sound.specs.State.{State, Task}
 use Rattle.aom_sound.specs.World.{boot_state, Reaches, begins, waits as waited, waiting, Outside}
@@ -101,11 +101,8 @@ same_outcome endings.Waiting endings.Waiting is = refl
 same_outcome (endings.MainLeft n) (endings.MainLeft k) is = cc
 same_outcome _ _ is = absurd cc
 
-ended_same : (a b : Ending) → progresses.Ended a ≡ progresses.Ended b → a ≡ b
-ended_same a b is = cc
-
 ended_by : (ended : Option Ending) (tasks : List Task) (ending : Ending) → progress_by ended tasks ≡ progresses.Ended ending → ended ≡ Some ending
-ended_by (Some e) tasks ending is = ap (λ x. Some x) (ended_same e ending is)
+ended_by (Some e) tasks ending is = let same : e ≡ ending = cc in ap (λ x. Some x) same
 ended_by _ _ ending is = absurd (grind arith)
 
 module _ (p : Image) (outside : Outside) (before mid now : Option (List ℕ)) (told : List Line) (progress : Progress) (new : Machine) (n : Next p outside before mid told progress new) where

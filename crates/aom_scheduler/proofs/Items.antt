@@ -1,14 +1,24 @@
 -- Items in an order, each with a number of its own: where each stands, and what an insertion and a removal leave.
-use Rattle.std.proofs.Common.{◌≡◌, ◌≢◌, ◌<◌, ◌≤◌, ◌+◌, ◌==◌, ℕ, zero, suc, Bool, true, false, not, cond, List, [], ◌∷◌, Some, None, length, take, get_or, refl, sym, ap, ◌∙◌, subst, inl, inr, arith}
-use Rattle.std.specs.Prelude.{All, AllPairs, insert, remove, option_map, map, IsSome}
-use Rattle.std.proofs.lemmas.Bool.{cases_Bool, eqb-true, eq-eqb, eqb-false, ne_eqb, cases_eq, not-true, false≢true, cond-true, cond-false}
+use Rattle.std.proofs.Common.{◌≡◌, ◌≢◌, ◌<◌, ◌≤◌, ◌+◌, ◌==◌, ℕ, zero, suc, Bool, true, false, not, cond, List, [], ◌∷◌, Some, None, length, take, get_or, refl, sym, ap, ◌∙◌, subst, inl, inr, arith, Option, ◌++◌, drop}
+use Rattle.std.specs.Prelude.{All, AllPairs, insert, remove, option_map, map, IsSome, IsNone}
+use Rattle.std.proofs.lemmas.Bool.{cases_Bool, eqb-true, eq-eqb, eqb-false, ne_eqb, cases_eq, not-true, false≢true, cond-true, cond-false, true≢false}
 use Rattle.std.proofs.lemmas.List.Elements.{All-cons, All-head, All-tail, All-nil, All-weaker, All-filter, All-map, filter_passes}
 use Rattle.std.proofs.lemmas.List.Edits.{length-remove}
-use Rattle.std.proofs.lemmas.List.{get_or-map, length-map}
+use Rattle.std.proofs.lemmas.List.{get_or-map, length-map, length-take, length-take-le, take-append-drop}
 use Rattle.std.specs.List.Sorted.{IsPartitionPoint, IsPartitionedBy}
 use Rattle.std.proofs.lemmas.List.Kept.{AllPairs-cons, AllPairs-filter}
-use Rattle.std.proofs.lemmas.Option.{none-some, same_Some}
 use Rattle.aom_scheduler.specs.Order.{placed, without, place_of, IsOrdered}
+use Rattle.std.proofs.Math.Seq.{take-nil, take-append_seam}
+
+module _ {A : Type 0} where
+  -- what an option holds that holds something
+  pub some_is : (o : Option A) → IsSome o → (x : A) × (o ≡ Some x)
+  some_is None some = absurd (false≢true some)
+  some_is (Some x) some = (x, refl)
+
+  pub none_is : (o : Option A) → IsNone o → o ≡ None
+  none_is None is = refl
+  none_is (Some x) is = absurd (true≢false is)
 
 module _ {A : Type 0} (R : A → A → Type 0) where
   -- what comes first is related to each that follows, and these to each other
@@ -61,21 +71,20 @@ module _ {A : Type 0} (before : A → A → Bool) where
       ]
 
   -- it is placed where all before may stand before it, and the next may not
-  pub placed-at : (x : A) (xs : List A) (i : ℕ) → i ≤ length xs → ((k : ℕ) → k < i → before (get_or xs k x) x ≡ true)
+  pub placed-at : (x : A) (xs : List A) (i : ℕ) → ((k : ℕ) → k < i → before (get_or xs k x) x ≡ true)
       → (i < length xs → before (get_or xs i x) x ≡ false) → insert xs i x ≡ placed before x xs
-  placed-at x [] zero within up down = refl
-  placed-at x [] (suc i) within up down = absurd (omega arith)
-  placed-at x (y ∷ ys) zero within up down = sym (cond-false _ _ _ (down (omega arith)))
-  placed-at x (y ∷ ys) (suc i) within up down =
-      ap (λ zs. y ∷ zs) (placed-at x ys i (omega arith) (λ k less. up (suc k) (omega arith)) (λ less. down (omega arith))) ∙ sym
+  placed-at x [] zero up down = refl
+  placed-at x [] (suc i) up down = refl
+  placed-at x (y ∷ ys) zero up down = sym (cond-false _ _ _ (down (omega arith)))
+  placed-at x (y ∷ ys) (suc i) up down =
+      ap (λ zs. y ∷ zs) (placed-at x ys i (λ k less. up (suc k) (omega arith)) (λ less. down (omega arith))) ∙ sym
       (cond-true _ _ _ (up 0 (omega arith)))
 
 module _ {A : Type 0} (number : A → ℕ) where
   -- the item of this number stands there, and none before it has the number
-  abbrev pub IsAt : ℕ → List A → ℕ → Type 0
-  IsAt id [] i = ⊥
-  IsAt id (x ∷ xs) zero = number x ≡ id
-  IsAt id (x ∷ xs) (suc i) = (number x ≢ id) × IsAt id xs i
+  pub data IsAt (id : ℕ) : List A → ℕ → Type 0 where
+    at_head : (x : A) (xs : List A) → number x ≡ id → IsAt id (x ∷ xs) zero
+    in_tail : {i : ℕ} (x : A) (xs : List A) → number x ≢ id → IsAt id xs i → IsAt id (x ∷ xs) (suc i)
 
   -- no item has the number
   abbrev pub IsAbsent : ℕ → List A → Type 0
@@ -104,61 +113,56 @@ module _ {A : Type 0} (number : A → ℕ) where
   place-later id x xs other = cond-false _ _ _ (ne_eqb _ _ other)
 
   pub at-place : (id : ℕ) (xs : List A) (i : ℕ) → IsAt id xs i → place_of number id xs ≡ Some i
-  at-place id [] i at = absurd at
-  at-place id (x ∷ xs) zero at = place-here id x xs at
-  at-place id (x ∷ xs) (suc i) at = place-later id x xs at.0 ∙ ap (option_map suc) (at-place id xs i at.1)
+  at-place id _ _ (at_head x xs same) = place-here id x xs same
+  at-place id _ _ (in_tail x xs other at) = place-later id x xs other ∙ ap (option_map suc) (at-place id xs _ at)
 
   pub absent-place : (id : ℕ) (xs : List A) → IsAbsent id xs → place_of number id xs ≡ None
   absent-place id [] absent = refl
   absent-place id (x ∷ xs) absent = place-later id x xs (absent-head id x xs absent) ∙ ap (option_map suc) (absent-place id xs (absent-tail id x xs absent))
 
-  -- an item of the number stands somewhere, or nowhere
-  pub data Found (id : ℕ) (xs : List A) : Type 0 where
-    there : (i : ℕ) → IsAt id xs i → Found id xs
-    nowhere : IsAbsent id xs → Found id xs
+  -- an item of the number stands where its place says, or nowhere
+  pub data Found (id : ℕ) (xs : List A) : Option ℕ → Type 0 where
+    there : (i : ℕ) → IsAt id xs i → Found id xs (Some i)
+    nowhere : IsAbsent id xs → Found id xs None
 
-  pub find_it : (id : ℕ) (xs : List A) → Found id xs
+  pub find_it : (id : ℕ) (xs : List A) → Found id xs (place_of number id xs)
   find_it id [] = nowhere (All-nil (λ x. number x ≢ id))
   find_it id (x ∷ xs) =
       elim (cases_Bool (number x == id)) [
-        | inl e ↦ there 0 (eqb-true _ _ e)
-        | inr e ↦ later id x xs (eqb-false _ _ e) (find_it id xs)
+        | inl e ↦ subst (Found id (x ∷ xs)) (sym (cond-true _ _ _ e)) (there 0 (at_head x xs (eqb-true _ _ e)))
+        | inr e ↦ subst (Found id (x ∷ xs)) (sym (cond-false _ _ _ e)) (later id x xs (eqb-false _ _ e) (place_of number id xs) (find_it id xs))
       ]
     where
-      later : (id : ℕ) (x : A) (xs : List A) → number x ≢ id → Found id xs → Found id (x ∷ xs)
-      later id x xs other (there i at) = there (suc i) (other, at)
-      later id x xs other (nowhere absent) = nowhere (All-cons (λ y. number y ≢ id) x xs other absent)
+      later : (id : ℕ) (x : A) (xs : List A) → number x ≢ id → (o : Option ℕ) → Found id xs o → Found id (x ∷ xs) (option_map suc o)
+      later id x xs other _ (there i at) = there (suc i) (in_tail x xs other at)
+      later id x xs other _ (nowhere absent) = nowhere (All-cons (λ y. number y ≢ id) x xs other absent)
+
+  found-at : (id : ℕ) (xs : List A) (i : ℕ) → Found id xs (Some i) → IsAt id xs i
+  found-at id xs _ (there i at) = at
+
+  found-absent : (id : ℕ) (xs : List A) → Found id xs None → IsAbsent id xs
+  found-absent id xs (nowhere absent) = absent
 
   pub place-at : (id : ℕ) (xs : List A) (i : ℕ) → place_of number id xs ≡ Some i → IsAt id xs i
-  place-at id xs i e = by_found (find_it id xs)
-    where
-      by_found : Found id xs → IsAt id xs i
-      by_found (there j at) = subst (IsAt id xs) (same_Some j i (sym (at-place id xs j at) ∙ e)) at
-      by_found (nowhere absent) = absurd (none-some i (sym (absent-place id xs absent) ∙ e))
+  place-at id xs i e = found-at id xs i (subst (Found id xs) e (find_it id xs))
 
   pub place-absent : (id : ℕ) (xs : List A) → place_of number id xs ≡ None → IsAbsent id xs
-  place-absent id xs e = by_found (find_it id xs)
-    where
-      by_found : Found id xs → IsAbsent id xs
-      by_found (there j at) = absurd (none-some j (sym e ∙ at-place id xs j at))
-      by_found (nowhere absent) = absent
+  place-absent id xs e = found-absent id xs (subst (Found id xs) e (find_it id xs))
 
   pub at-within : (id : ℕ) (xs : List A) (i : ℕ) → IsAt id xs i → i < length xs
-  at-within id [] i at = absurd at
-  at-within id (x ∷ xs) zero at = omega arith
-  at-within id (x ∷ xs) (suc i) at = omega (arith, at-within id xs i at.1)
+  at-within id _ _ (at_head x xs same) = omega arith
+  at-within id _ _ (in_tail x xs other at) = omega (arith, at-within id xs _ at)
 
   pub at-number : (id : ℕ) (xs : List A) (i : ℕ) (d : A) → IsAt id xs i → number (get_or xs i d) ≡ id
-  at-number id [] i d at = absurd at
-  at-number id (x ∷ xs) zero d at = at
-  at-number id (x ∷ xs) (suc i) d at = at-number id xs i d at.1
+  at-number id _ _ d (at_head x xs same) = same
+  at-number id _ _ d (in_tail x xs other at) = at-number id xs _ d at
 
   -- where numbers are distinct, each item stands at its own place
   pub own-place : (xs : List A) (i : ℕ) (d : A) → AreDistinct xs → i < length xs → IsAt (number (get_or xs i d)) xs i
   own-place [] i d distinct within = absurd (omega arith)
-  own-place (x ∷ xs) zero d distinct within = refl
+  own-place (x ∷ xs) zero d distinct within = at_head x xs refl
   own-place (x ∷ xs) (suc i) d distinct within =
-      (distinct 0 (suc i) d (omega arith) within, own-place xs i d (distinct-tail x xs distinct) (omega arith))
+      in_tail x xs (distinct 0 (suc i) d (omega arith) within) (own-place xs i d (distinct-tail x xs distinct) (omega arith))
 
   kept : (id : ℕ) (x : A) (xs : List A) → number x ≢ id → without number id (x ∷ xs) ≡ x ∷ without number id xs
   kept id x xs other = cond-true (not (number x == id)) (x ∷ without number id xs) (without number id xs) (ap not (ne_eqb (number x) id other))
@@ -173,47 +177,47 @@ module _ {A : Type 0} (number : A → ℕ) where
       kept id x xs (absent-head id x xs absent) ∙ ap (λ ys. x ∷ ys) (without-absent id xs (absent-tail id x xs absent))
 
   pub without-at : (id : ℕ) (xs : List A) (i : ℕ) → AreDistinct xs → IsAt id xs i → remove xs i ≡ without number id xs
-  without-at id [] i distinct at = absurd at
-  without-at id (x ∷ xs) zero distinct at =
-      sym (gone id x xs at ∙ without-absent id xs (subst (λ n. IsAbsent n xs) at (distinct-head x xs distinct)))
-  without-at id (x ∷ xs) (suc i) distinct at = ap (λ ys. x ∷ ys) (without-at id xs i (distinct-tail x xs distinct) at.1) ∙ sym (kept id x xs at.0)
+  without-at id _ _ distinct (at_head x xs same) =
+      sym (gone id x xs same ∙ without-absent id xs (subst (λ n. IsAbsent n xs) same (distinct-head x xs distinct)))
+  without-at id _ _ distinct (in_tail x xs other at) =
+      ap (λ ys. x ∷ ys) (without-at id xs _ (distinct-tail x xs distinct) at) ∙ sym (kept id x xs other)
 
 module _ {A : Type 0} (number : A → ℕ) where
-  -- places in the first few items are places in all
-  pub at-take : (id : ℕ) (xs : List A) (n i : ℕ) → i < n → IsAt number id xs i → IsAt number id (take n xs) i
-  at-take id [] n i less at = absurd at
-  at-take id (x ∷ xs) zero i less at = absurd (omega arith)
-  at-take id (x ∷ xs) (suc n) zero less at = at
-  at-take id (x ∷ xs) (suc n) (suc i) less at = (at.0, at-take id xs n i (omega arith) at.1)
+  -- a place in the first few items is one in all
+  at-take : (id : ℕ) (xs : List A) (i : ℕ) → IsAt number id xs i → IsAt number id (take (suc i) xs) i
+  at-take id _ _ (at_head x xs same) = at_head x [] same
+  at-take id _ _ (in_tail {i = i} x xs other at) = in_tail x (take (suc i) xs) other (at-take id xs i at)
+
+  at-longer : (id : ℕ) (xs more : List A) (i : ℕ) → IsAt number id xs i → IsAt number id (xs ++ more) i
+  at-longer id _ more _ (at_head x xs same) = at_head x (xs ++ more) same
+  at-longer id _ more _ (in_tail x xs other at) = in_tail x (xs ++ more) other (at-longer id xs more _ at)
 
   pub at-from_take : (id : ℕ) (xs : List A) (n i : ℕ) → IsAt number id (take n xs) i → (i < n) × IsAt number id xs i
-  at-from_take id [] zero i at = absurd at
-  at-from_take id [] (suc n) i at = absurd at
-  at-from_take id (x ∷ xs) zero i at = absurd at
-  at-from_take id (x ∷ xs) (suc n) zero at = (omega arith, at)
-  at-from_take id (x ∷ xs) (suc n) (suc i) at = let more = at-from_take id xs n i at.1 in (omega (arith, more.0), (at.0, more.1))
+  at-from_take id xs n i at = (
+    omega (arith, at-within number id (take n xs) i at, length-take n xs),
+    subst (λ ys. IsAt number id ys i) (take-append-drop n xs) (at-longer id (take n xs) (drop n xs) i at),
+  )
 
   -- one item more of another number
-  pub place-take_other : (id : ℕ) (xs : List A) (i : ℕ) (d : A) → i < length xs → number (get_or xs i d) ≢ id
+  pub place-take_other : (id : ℕ) (xs : List A) (i : ℕ) (d : A) → number (get_or xs i d) ≢ id
       → place_of number id (take (suc i) xs) ≡ place_of number id (take i xs)
-  place-take_other id [] i d within other = absurd (omega arith)
-  place-take_other id (x ∷ xs) zero d within other = place-later number id x [] other
-  place-take_other id (x ∷ xs) (suc i) d within other = ap (λ o. cond (number x == id) (Some 0) (option_map suc o))
-      (place-take_other id xs i d (omega arith) other)
+  place-take_other id [] i d other = ap (place_of number id) (sym (take-nil i))
+  place-take_other id (x ∷ xs) zero d other = place-later number id x [] other
+  place-take_other id (x ∷ xs) (suc i) d other = ap (λ o. cond (number x == id) (Some 0) (option_map suc o)) (place-take_other id xs i d other)
 
   pub place-take_same : (xs : List A) (i : ℕ) (d : A) → AreDistinct number xs → i < length xs
       → place_of number (number (get_or xs i d)) (take (suc i) xs) ≡ Some i
   place-take_same xs i d distinct within =
       let id = number (get_or xs i d) in
-      at-place number id (take (suc i) xs) i (at-take id xs (suc i) i (omega arith) (own-place number xs i d distinct within))
+      at-place number id (take (suc i) xs) i (at-take id xs i (own-place number xs i d distinct within))
 
   -- the items without one number are fewer by one at most
   length-without : (id : ℕ) (xs : List A) → AreDistinct number xs → length xs ≤ suc (length (without number id xs))
-  length-without id xs distinct = by_found (find_it number id xs)
+  length-without id xs distinct = by_found (place_of number id xs) (find_it number id xs)
     where
-      by_found : Found number id xs → length xs ≤ suc (length (without number id xs))
-      by_found (there i at) = omega (arith, length-remove xs i (at-within number id xs i at), ap length (without-at number id xs i distinct at))
-      by_found (nowhere absent) = omega (arith, ap length (without-absent number id xs absent))
+      by_found : (o : Option ℕ) → Found number id xs o → length xs ≤ suc (length (without number id xs))
+      by_found _ (there i at) = omega (arith, length-remove xs i (at-within number id xs i at), ap length (without-at number id xs i distinct at))
+      by_found _ (nowhere absent) = omega (arith, ap length (without-absent number id xs absent))
 
   -- items of distinct numbers below the limit are no more than it
   pub few : (limit : ℕ) (xs : List A) → All (λ x. number x < limit) xs → AreDistinct number xs → length xs ≤ limit
@@ -239,7 +243,7 @@ module _ {A : Type 0} (before : A → A → Bool) where
   -- where a search for the place of an item ends
   pub placed-point : (x : A) (xs : List A) (i : ℕ) → i ≤ length xs → IsPartitionPoint (λ y. before y x ≡ true) (λ y. before y x ≡ false) xs i
       → insert xs i x ≡ placed before x xs
-  placed-point x xs i within point = placed-at before x xs i within (λ k less. point.0 k x (omega arith) less) (λ less. point.1 i x (omega arith) less)
+  placed-point x xs i within point = placed-at before x xs i (λ k less. point.0 k x (omega arith) less) (λ less. point.1 i x (omega arith) less)
 
   pub searchable : IsRanking before → (x : A) (xs : List A) → AllPairs (λ y z. before y z ≡ true) xs → IsPartitionedBy (λ y. before y x) xs
   searchable r x xs sorted = λ i j d le within h.
@@ -261,15 +265,10 @@ module _ {A : Type 0} (before : A → A → Bool) where
 
 module _ {A : Type 0} where
   pub take-insert : (xs : List A) (i : ℕ) (x : A) → i ≤ length xs → take i (insert xs i x) ≡ take i xs
-  take-insert [] zero x within = refl
-  take-insert [] (suc i) x within = absurd (omega arith)
-  take-insert (y ∷ ys) zero x within = refl
-  take-insert (y ∷ ys) (suc i) x within = ap (λ zs. y ∷ zs) (take-insert ys i x (omega arith))
+  take-insert xs i x within = ap (λ k. take k (insert xs i x)) (sym (length-take-le i xs within)) ∙ take-append_seam (take i xs) (x ∷ drop i xs)
 
   pub take-remove : (xs : List A) (i : ℕ) → i < length xs → take i (remove xs i) ≡ take i xs
-  take-remove [] i within = absurd (omega arith)
-  take-remove (y ∷ ys) zero within = refl
-  take-remove (y ∷ ys) (suc i) within = ap (λ zs. y ∷ zs) (take-remove ys i (omega arith))
+  take-remove xs i within = ap (λ k. take k (remove xs i)) (sym (length-take-le i xs (omega arith))) ∙ take-append_seam (take i xs) (drop (suc i) xs)
 
 module _ {A : Type 0} (number : A → ℕ) (before : A → A → Bool) where
   -- an order stays one with an item of a new number, and without any
@@ -311,11 +310,9 @@ module _ {A : Type 0} (number : A → ℕ) (before : A → A → Bool) where
 module _ {A : Type 0} (number : A → ℕ) where
   -- a walk to the item of a number: it ends, it goes on past others, and it ends there
   pub walk-within : (id : ℕ) (xs : List A) (at : ℕ) → IsSome (place_of number id xs) → ((p : ℕ) → place_of number id xs ≡ Some p → at ≤ p) → at < length xs
-  walk-within id xs at some later = by_found (find_it number id xs)
-    where
-      by_found : Found number id xs → at < length xs
-      by_found (there p found) = omega (arith, later p (at-place number id xs p found), at-within number id xs p found)
-      by_found (nowhere absent) = absurd (false≢true (subst IsSome (absent-place number id xs absent) some))
+  walk-within id xs at some later =
+      let stands = some_is (place_of number id xs) some in
+      omega (arith, later stands.0 stands.1, at-within number id xs stands.0 (place-at number id xs stands.0 stands.1))
 
   pub walk-on : (id : ℕ) (xs : List A) (at : ℕ) (d : A) → ((p : ℕ) → place_of number id xs ≡ Some p → at ≤ p) → number (get_or xs at d) ≢ id → (p : ℕ)
       → place_of number id xs ≡ Some p → at + 1 ≤ p

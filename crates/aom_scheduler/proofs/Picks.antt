@@ -52,9 +52,8 @@ pick-first (x ∷ xs) sorted =
 pub front-is : {B : Type 0} (now : B → ℕ) (ids : List ℕ) (n : ℕ) (o : Option B) → n ≡ length ids → IsSome o ↔ (0 < n)
     → IfSome o (λ x. now x ≡ get_or ids 0 (now x)) → option_map now o ≡ slice_get ids 0
 front-is now [] n None long some first = refl
-front-is now [] n (Some x) long some first = absurd (omega (arith, some.0 refl, long))
-front-is now (i ∷ is) n None long some first = absurd (false≢true (some.1 (omega (arith, long))))
 front-is now (i ∷ is) n (Some x) long some first = ap Some first
+front-is now _ n _ long some first = absurd (grind (arith, long, some.0, some.1))
 
 -- where there is no first, none is ready
 pub none-ready : (xs : List Entry) → IsNone (first_ready xs) → All (λ e. e.is_ready ≡ false) xs

@@ -1,7 +1,7 @@
 -- The list of places after each change: from what the renumbering ensures and from where items stand.
-use Rattle.std.proofs.Common.{◌≡◌, ◌≢◌, ◌<◌, ◌≤◌, ◌==◌, ℕ, zero, suc, ℤ, pos, Bool, true, false, cond, List, [], ◌∷◌, ◌++◌, Option, Some, None, length, take, drop, set, get_or, refl, sym, ap, ◌∙◌, subst, inl, inr, arith}
+use Rattle.std.proofs.Common.{◌≡◌, ◌≢◌, ◌<◌, ◌≤◌, ◌==◌, ℕ, suc, ℤ, pos, Bool, true, false, cond, List, [], ◌∷◌, ◌++◌, Option, Some, None, length, take, drop, set, get_or, refl, sym, ap, ◌∙◌, subst, inl, inr, arith}
 use Rattle.std.specs.Prelude.{remove, insert, int_le, not, option_map, IsNone, is_ok, Result, Ok, if◌then◌else◌}
-use Rattle.std.proofs.lemmas.Bool.{cases_Bool, cases_eq, eqb-true, eq-eqb, ne_eqb, cond-true, cond-false, true≢false}
+use Rattle.std.proofs.lemmas.Bool.{cases_Bool, cases_eq, eqb-true, eq-eqb, ne_eqb, cond-true, cond-false}
 use Rattle.std.proofs.lemmas.List.{get_or-set_same, get_or-set_other, length-set}
 use Rattle.std.proofs.lemmas.List.Elements.{All-cons}
 use Rattle.std.proofs.lemmas.Int.{ints}
@@ -12,7 +12,8 @@ use Rattle.aom_scheduler.specs.Order.{placed, without, place_of, IsOrdered}
 use Rattle.aom_scheduler.specs.Roster.{Roster, place, before, marked, marked_entry}
 use Rattle.aom_scheduler.specs.Places.{or_else, numbered, Knows, IsIndexed}
 use Rattle.aom_scheduler.specs.declared.entry.Entry.{Entry}
-use Rattle.aom_scheduler.proofs.Items.{IsAt, IsAbsent, AreDistinct, Found, there, nowhere, find_it, at-place, place-at, place-absent, absent-place, absent-head, absent-tail, at-from_take, place-take_other, place-take_same, at-within, at-number, IsRanking, All-from_placed, ordered-placed, ordered-without, ordered-map, take-insert, take-remove, without-at, distinct-tail, distinct-head, few, placed-point}
+use Rattle.aom_scheduler.proofs.Items.{IsAt, IsAbsent, AreDistinct, Found, there, nowhere, find_it, at-place, place-at, place-absent, absent-place, absent-head, absent-tail, at-from_take, place-take_other, place-take_same, at-within, at-number, IsRanking, All-from_placed, ordered-placed, ordered-without, ordered-map, take-insert, take-remove, without-at, distinct-tail, distinct-head, few, placed-point, at_head, in_tail, none_is}
+use Rattle.std.proofs.lemmas.Option.{same_Some}
 
 -- the number of an entry
 abbrev pub id_of : Entry → ℕ
@@ -47,7 +48,7 @@ numbered-more entries places start at e distinct within is small before_it id =
       | inr other ↦
           let apart : id_of (get_or entries at e) ≢ id = λ same. other (sym same ∙ ap id_of (sym is)) in
           get_or-set_other places e.id id (Some at) None other ∙ before_it id
-          ∙ sym (ap (λ o. or_else o (get_or start id None)) (place-take_other id_of id entries at e within apart))
+          ∙ sym (ap (λ o. or_else o (get_or start id None)) (place-take_other id_of id entries at e apart))
     ]
 
 -- at first those before the place are known
@@ -97,11 +98,8 @@ known-remove entries places at gone indexed here id i is =
     let stands = at-from_take id_of id entries at i front in
     let there_it : place_of id_of id entries ≡ Some i = at-place id_of id entries i stands.1 in
     let less : i < at = stands.0 in
-    let other : id ≢ gone = λ same. absurd (omega (arith, less, same_place i at (sym (subst (λ n. place_of id_of n entries ≡ Some i) same there_it) ∙ here))) in
+    let other : id ≢ gone = λ same. absurd (omega (arith, less, same_Some i at (sym (subst (λ n. place_of id_of n entries ≡ Some i) same there_it) ∙ here))) in
     get_or-set_other places gone id None None other ∙ indexed.stands id ∙ there_it
-  where
-    same_place : (a b : ℕ) → Some a ≡ Some b → a ≡ b
-    same_place a b e = cc
 
 -- what is indexed after an insertion
 pub indexed-insert : (entries after : List Entry) (places now : List (Option ℕ)) (e : Entry) → IsIndexed entries places → e.id < length places
@@ -111,15 +109,14 @@ indexed-insert entries after places now e indexed small new is same says =
     record {
       ordered = subst (λ n. IsOrdered id_of before n after) (sym same) (subst (IsOrdered id_of before (length places)) (sym is)
           (ordered-placed id_of before by_priority (length places) e entries small (place-absent id_of e.id entries new) indexed.ordered));
-      stands = λ id. says id ∙ settled id (find_it id_of id after);
+      stands = λ id. says id ∙ settled id (place_of id_of id after) (find_it id_of id after);
     }
   where
-    settled : (id : ℕ) → Found id_of id after → numbered id after places ≡ place_of id_of id after
-    settled id (there i at) = ap (λ o. or_else o (get_or places id None)) (at-place id_of id after i at) ∙ sym (at-place id_of id after i at)
-    settled id (nowhere absent) =
+    settled : (id : ℕ) (o : Option ℕ) → Found id_of id after o → or_else o (get_or places id None) ≡ o
+    settled id _ (there i at) = refl
+    settled id _ (nowhere absent) =
         let was : IsAbsent id_of id entries = All-from_placed before (λ x. id_of x ≢ id) e entries (subst (IsAbsent id_of id) is absent) in
-        ap (λ o. or_else o (get_or places id None)) (absent-place id_of id after absent)
-        ∙ indexed.stands id ∙ absent-place id_of id entries was ∙ sym (absent-place id_of id after absent)
+        indexed.stands id ∙ absent-place id_of id entries was
 
 -- after a removal
 pub indexed-remove : (entries after : List Entry) (places now : List (Option ℕ)) (gone : ℕ) → IsIndexed entries places → gone < length places
@@ -129,18 +126,17 @@ indexed-remove entries after places now gone indexed small is same says =
     record {
       ordered = subst (λ n. IsOrdered id_of before n after) (sym same) (subst (IsOrdered id_of before (length places)) (sym is)
           (ordered-without id_of before (length places) gone entries indexed.ordered));
-      stands = λ id. says id ∙ settled id (find_it id_of id after);
+      stands = λ id. says id ∙ settled id (place_of id_of id after) (find_it id_of id after);
     }
   where
-    settled : (id : ℕ) → Found id_of id after → numbered id after (set places gone None) ≡ place_of id_of id after
-    settled id (there i at) = ap (λ o. or_else o (get_or (set places gone None) id None)) (at-place id_of id after i at) ∙ sym (at-place id_of id after i at)
-    settled id (nowhere absent) =
-        let none : get_or (set places gone None) id None ≡ None = elim (cases_eq id gone) [
+    settled : (id : ℕ) (o : Option ℕ) → Found id_of id after o → or_else o (get_or (set places gone None) id None) ≡ o
+    settled id _ (there i at) = refl
+    settled id _ (nowhere absent) =
+        elim (cases_eq id gone) [
           | inl e ↦ subst (λ n. get_or (set places gone None) n None ≡ None) (sym e) (get_or-set_same places gone None None small)
           | inr other ↦ get_or-set_other places gone id None None other ∙ indexed.stands id ∙ absent-place id_of id entries
               (absent-without gone id entries other (subst (IsAbsent id_of id) is absent))
-        ] in
-        ap (λ o. or_else o (get_or (set places gone None) id None)) (absent-place id_of id after absent) ∙ none ∙ sym (absent-place id_of id after absent)
+        ]
 
 -- a mark keeps the object and its priority
 marked-id : (id : ℕ) (ready : Bool) (e : Entry) → id_of (marked_entry id ready e) ≡ id_of e
@@ -170,13 +166,12 @@ marked-absent id ready (x ∷ xs) absent =
 
 pub marked-at : (id : ℕ) (ready : Bool) (xs : List Entry) (i : ℕ) (d : Entry) → AreDistinct id_of xs → IsAt id_of id xs i
     → set xs i (record (get_or xs i d) { is_ready = ready }) ≡ marked id ready xs
-marked-at id ready [] i d distinct at = absurd at
-marked-at id ready (x ∷ xs) zero d distinct at =
-    sym (ap (λ y. y ∷ marked id ready xs) (cond-true (x.id == id) (record x { is_ready = ready }) x (eq-eqb (id_of x) id at))
-    ∙ ap (λ ys. record x { is_ready = ready } ∷ ys) (marked-absent id ready xs (subst (λ n. IsAbsent id_of n xs) at (distinct-head id_of x xs distinct))))
-marked-at id ready (x ∷ xs) (suc i) d distinct at =
-    ap (λ ys. x ∷ ys) (marked-at id ready xs i d (distinct-tail id_of x xs distinct) at.1)
-    ∙ sym (ap (λ y. y ∷ marked id ready xs) (cond-false (x.id == id) (record x { is_ready = ready }) x (ne_eqb (id_of x) id at.0)))
+marked-at id ready _ _ d distinct (at_head x xs same) =
+    sym (ap (λ y. y ∷ marked id ready xs) (cond-true (x.id == id) (record x { is_ready = ready }) x (eq-eqb (id_of x) id same))
+    ∙ ap (λ ys. record x { is_ready = ready } ∷ ys) (marked-absent id ready xs (subst (λ n. IsAbsent id_of n xs) same (distinct-head id_of x xs distinct))))
+marked-at id ready _ _ d distinct (in_tail x xs other at) =
+    ap (λ ys. x ∷ ys) (marked-at id ready xs _ d (distinct-tail id_of x xs distinct) at)
+    ∙ sym (ap (λ y. y ∷ marked id ready xs) (cond-false (x.id == id) (record x { is_ready = ready }) x (ne_eqb (id_of x) id other)))
 
 -- after a mark all stand where they stood
 pub indexed-mark : (entries : List Entry) (places : List (Option ℕ)) (id : ℕ) (ready : Bool) → IsIndexed entries places
@@ -201,10 +196,6 @@ pub record Insertion (entries : List Entry) (places : List (Option ℕ)) (at : �
   pub room : length entries < length places
   pub many : length (insert entries at e) ≤ length places
   pub known : Knows places (take at (insert entries at e))
-
-pub none_is : {X : Type 0} (o : Option X) → IsNone o → o ≡ None
-none_is None is = refl
-none_is (Some x) is = absurd (true≢false is)
 
 pub insertion : (entries : List Entry) (places : List (Option ℕ)) (at : ℕ) (e : Entry) → IsIndexed entries places → e.id < length places
     → IsNone (place_of id_of e.id entries)
@@ -231,18 +222,18 @@ pub written : {X : Type 0} (n : ℕ) (old new : List X) → n ≡ length new →
 written n old new is = ap (λ k. take k (new ++ drop (length new) old)) is ∙ take-append_seam new (drop (length new) old)
 
 -- the same from what the fields and a search among them say
-pub insertion-from : (roster : Roster) (entries shown : List Entry) (places : List (Option ℕ)) (at : ℕ) (e : Entry)
+pub insertion-from : {roster : Roster} {entries shown : List Entry} {places : List (Option ℕ)} (at : ℕ) (e : Entry)
     → record { entries = entries; limit = length places } ≡ roster → shown ≡ entries
     → IsIndexed entries places → e.id < roster.limit → IsNone (place e.id roster) → at ≤ length shown
     → IsPartitionPoint (λ f. before f e ≡ true) (λ f. before f e ≡ false) shown at → Insertion entries places at e
-insertion-from roster entries shown places at e view same indexed small new within point =
+insertion-from {entries = entries} {places = places} at e view same indexed small new within point =
     insertion entries places at e indexed (subst (λ r. e.id < r.limit) (sym view) small) (subst (λ r. IsNone (place e.id r)) (sym view) new)
     (subst (λ xs. at ≤ length xs) same within)
     (subst (λ xs. IsPartitionPoint (λ f. before f e ≡ true) (λ f. before f e ≡ false) xs at) same point)
 
 -- what a fallible insertion leaves where it succeeds
-pub when_ok : {X T E : Type 0} (r : Result T E) (t : T) (now x y : X) → r ≡ Ok t → now ≡ (if is_ok r then x else y) → now ≡ x
-when_ok r t now x y ok is = is ∙ ap (λ s. if is_ok s then x else y) ok
+pub when_ok : {X T E : Type 0} {r : Result T E} {t : T} {now x : X} (y : X) → r ≡ Ok t → now ≡ (if is_ok r then x else y) → now ≡ x
+when_ok {x = x} y ok is = is ∙ ap (λ s. if is_ok s then x else y) ok
 
 -- the places after the entry is put there and those behind it are numbered anew
 pub indexed-by_insertion : (entries shown : List Entry) (places lent now : List (Option ℕ)) (at : ℕ) (e : Entry) → Insertion entries places at e
@@ -271,6 +262,7 @@ marked-in entries id at ready e distinct found is =
 pub record Removal (entries : List Entry) (places : List (Option ℕ)) (at gone : ℕ) : Type 0 where
   pub indexed : IsIndexed entries places
   pub small : gone < length places
+  pub within : at < length entries
   pub is : remove entries at ≡ without id_of gone entries
   pub many : length (remove entries at) ≤ length places
   pub known : Knows (set places gone None) (take at (remove entries at))
@@ -283,6 +275,7 @@ removal entries places at gone indexed found =
     record {
       indexed = indexed;
       small = small;
+      within = within;
       is = without-at id_of gone entries at indexed.ordered.distinct found;
       many = omega (arith, length-remove entries at within, few id_of (length places) entries indexed.ordered.below indexed.ordered.distinct);
       known = known-remove entries places at gone indexed (at-place id_of gone entries at found);
@@ -290,6 +283,13 @@ removal entries places at gone indexed found =
   where
     d : Entry
     d = record { id = 0; priority = pos 0; is_ready = false }
+
+-- the same from what the fields say
+pub removal-from : {roster : Roster} {entries : List Entry} {places : List (Option ℕ)} {at : ℕ} {o : Option ℕ} (gone : ℕ)
+    → record { entries = entries; limit = length places } ≡ roster → o ≡ place gone roster → o ≡ Some at → IsIndexed entries places
+    → Removal entries places at gone
+removal-from {roster} {entries} {places} {at} {o} gone view is some indexed =
+    removal entries places at gone indexed (stands-in roster entries (length places) gone at o view is some)
 
 -- the places after the entry is gone and those behind it are numbered anew
 pub indexed-by_removal : (entries shown : List Entry) (places lent now : List (Option ℕ)) (at gone : ℕ) → Removal entries places at gone

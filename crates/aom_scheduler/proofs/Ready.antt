@@ -1,5 +1,5 @@
 -- Those that are ready, in order: what a mark, an insertion and a removal do to their list, and where a search among them ends.
-use Rattle.std.proofs.Common.{◌≡◌, ◌≢◌, ◌<◌, ◌≤◌, ◌+◌, ◌-◌, ◌==◌, ℕ, zero, suc, Bool, true, false, nat_lt, List, [], ◌∷◌, ◌++◌, Some, length, take, drop, get_or, refl, sym, ap, ◌∙◌, subst, inl, inr, arith}
+use Rattle.std.proofs.Common.{◌≡◌, ◌≢◌, ◌<◌, ◌≤◌, ◌+◌, ◌-◌, ◌==◌, ℕ, Bool, true, false, nat_lt, List, [], ◌∷◌, ◌++◌, Some, length, take, drop, get_or, refl, sym, ap, ◌∙◌, subst, inl, inr, arith}
 use Rattle.std.specs.Prelude.{All, remove, insert, map, filter, not, slice_get}
 use Rattle.std.proofs.lemmas.Bool.{cases_Bool, cases_lt, cases_eq, eq-eqb, ne_eqb, cond-true, cond-false, lt-ltb, le-ltb, false≢true}
 use Rattle.std.proofs.lemmas.List.{get_or-take, get_or-drop, get_or_append_left, get_or-append_right, map-append, take-append-drop, length-map, length-append, length-take-le, length-drop}
@@ -9,7 +9,7 @@ use Rattle.aom_scheduler.specs.Order.{placed, without, place_of}
 use Rattle.aom_scheduler.specs.Roster.{Roster, IsSound, before, marked, marked_entry, ready_ids, first_ready}
 use Rattle.aom_scheduler.specs.Places.{stands_before}
 use Rattle.aom_scheduler.specs.declared.entry.Entry.{Entry}
-use Rattle.aom_scheduler.proofs.Items.{IsAt, AreDistinct, own-place, at-place, distinct-head, distinct-tail, at-within, few}
+use Rattle.aom_scheduler.proofs.Items.{IsAt, AreDistinct, own-place, at-place, distinct-head, distinct-tail, at-within, few, at_head, in_tail, place-at}
 use Rattle.aom_scheduler.proofs.Places.{id_of, marked-absent}
 use Rattle.aom_scheduler.specs.Ready.{IsReadyAt, IsWaitingAt}
 use Rattle.std.proofs.lemmas.List.Edits.{length-insert}
@@ -70,22 +70,20 @@ with_ready x xs b = record x { is_ready = b } ∷ xs
 -- marked as it is
 pub marked-same : (id : ℕ) (xs : List Entry) (i : ℕ) (d : Entry) (ready : Bool) → AreDistinct id_of xs → IsAt id_of id xs i
     → (get_or xs i d).is_ready ≡ ready → marked id ready xs ≡ xs
-marked-same id [] i d ready distinct at is = absurd at
-marked-same id (x ∷ xs) zero d ready distinct at is =
-    marked-first id ready x xs distinct at ∙ ap (with_ready x xs) (sym is)
-marked-same id (x ∷ xs) (suc i) d ready distinct at is =
-    marked-later id ready x xs at.0 ∙ ap (λ ys. x ∷ ys) (marked-same id xs i d ready (distinct-tail id_of x xs distinct) at.1 is)
+marked-same id _ _ d ready distinct (at_head x xs same) is =
+    marked-first id ready x xs distinct same ∙ ap (with_ready x xs) (sym is)
+marked-same id _ _ d ready distinct (in_tail x xs other at) is =
+    marked-later id ready x xs other ∙ ap (λ ys. x ∷ ys) (marked-same id xs _ d ready (distinct-tail id_of x xs distinct) at is)
 
 -- one more is ready
 pub ready-more : (id : ℕ) (xs : List Entry) (i : ℕ) (d : Entry) → AreDistinct id_of xs → IsAt id_of id xs i → (get_or xs i d).is_ready ≡ false
     → insert (ready_ids xs) (length (ready_ids (take i xs))) id ≡ ready_ids (marked id true xs)
-ready-more id [] i d distinct at is = absurd at
-ready-more id (x ∷ xs) zero d distinct at is =
-    ap (λ ids. id ∷ ids) (ready-skipped x xs is) ∙ ap (λ n. n ∷ ready_ids xs) (sym at) ∙ sym (ready-first (record x { is_ready = true }) xs refl) ∙ sym
-    (ap ready_ids (marked-first id true x xs distinct at))
-ready-more id (x ∷ xs) (suc i) d distinct at is =
-    let rest = ready-more id xs i d (distinct-tail id_of x xs distinct) at.1 is in
-    let later = sym (ap ready_ids (marked-later id true x xs at.0)) in
+ready-more id _ _ d distinct (at_head x xs same) is =
+    ap (λ ids. id ∷ ids) (ready-skipped x xs is) ∙ ap (λ n. n ∷ ready_ids xs) (sym same) ∙ sym (ready-first (record x { is_ready = true }) xs refl) ∙ sym
+    (ap ready_ids (marked-first id true x xs distinct same))
+ready-more id _ _ d distinct (in_tail {i = i} x xs other at) is =
+    let rest = ready-more id xs i d (distinct-tail id_of x xs distinct) at is in
+    let later = sym (ap ready_ids (marked-later id true x xs other)) in
     elim (cases_Bool x.is_ready) [
       | inl is_so ↦
           ap (λ ids. insert ids (length (ready_ids (x ∷ take i xs))) id) (ready-first x xs is_so)
@@ -100,15 +98,14 @@ ready-more id (x ∷ xs) (suc i) d distinct at is =
 -- one fewer is ready
 pub ready-less : (id : ℕ) (xs : List Entry) (i : ℕ) (d : Entry) → AreDistinct id_of xs → IsAt id_of id xs i → (get_or xs i d).is_ready ≡ true
     → (remove (ready_ids xs) (length (ready_ids (take i xs))) ≡ ready_ids (marked id false xs)) × (length (ready_ids (take i xs)) < length (ready_ids xs))
-ready-less id [] i d distinct at is = absurd at
-ready-less id (x ∷ xs) zero d distinct at is = (
+ready-less id _ _ d distinct (at_head x xs same) is = (
   ap (λ ids. remove ids 0) (ready-first x xs is) ∙ sym (ready-skipped (record x { is_ready = false }) xs refl) ∙ sym
-      (ap ready_ids (marked-first id false x xs distinct at)),
+      (ap ready_ids (marked-first id false x xs distinct same)),
   omega (arith, ap length (ready-first x xs is)),
 )
-ready-less id (x ∷ xs) (suc i) d distinct at is =
-    let rest = ready-less id xs i d (distinct-tail id_of x xs distinct) at.1 is in
-    let later = sym (ap ready_ids (marked-later id false x xs at.0)) in
+ready-less id _ _ d distinct (in_tail {i = i} x xs other at) is =
+    let rest = ready-less id xs i d (distinct-tail id_of x xs distinct) at is in
+    let later = sym (ap ready_ids (marked-later id false x xs other)) in
     elim (cases_Bool x.is_ready) [
       | inl is_so ↦ (
         ap (λ ids. remove ids (length (ready_ids (x ∷ take i xs)))) (ready-first x xs is_so)
@@ -239,16 +236,25 @@ first-is (x ∷ xs) = elim (cases_Bool x.is_ready) [
   | inr is_not ↦ cond-false x.is_ready (Some x.id) (first_ready xs) is_not ∙ first-is xs ∙ sym (ap (λ ids. slice_get ids 0) (ready-skipped x xs is_not))
 ]
 
--- what the search among the ready found, by whether the object is ready
-pub ready-at : (r : Roster) (ids : List ℕ) (id place at : ℕ) (d : Entry) → IsSound r → ids ≡ ready_ids r.entries → IsAt id_of id r.entries place
+-- a search among the ready for an object's place ends there
+pub stands-among : (r : Roster) (ids : List ℕ) (id place at : ℕ) → IsSound r → ids ≡ ready_ids r.entries → place_of id_of id r.entries ≡ Some place
     → at ≤ length ids
-    → IsPartitionPoint (λ n. is_in_front r.entries place n ≡ true) (λ n. is_in_front r.entries place n ≡ false) ids
-    at → (get_or r.entries place d).is_ready ≡ true → IsReadyAt r id at
-ready-at r ids id place at d sound is found within point ready =
-    let le : place ≤ length r.entries = omega (arith, at-within id_of id r.entries place found) in
-    let here : at ≡ length (ready_ids (take place r.entries)) =
-    point-ready r.entries place at sound.distinct le (subst (λ ns. at ≤ length ns) is within)
-    (subst (λ ns. IsPartitionPoint (λ n. is_in_front r.entries place n ≡ true) (λ n. is_in_front r.entries place n ≡ false) ns at) is point) in
+    → (IsPartitionedBy (is_in_front r.entries place) ids
+    → IsPartitionPoint (λ n. is_in_front r.entries place n ≡ true) (λ n. is_in_front r.entries place n ≡ false) ids at)
+    → IsAt id_of id r.entries place × (at ≡ length (ready_ids (take place r.entries)))
+stands-among r ids id place at sound is stands within point =
+    let found = place-at id_of id r.entries place stands in
+    let inside : place ≤ length r.entries = omega (arith, at-within id_of id r.entries place found) in
+    let parted = subst (IsPartitionedBy (is_in_front r.entries place)) (sym is) (searchable-ready r.entries place sound.distinct inside) in (
+      found,
+      point-ready r.entries place at sound.distinct inside (subst (λ ns. at ≤ length ns) is within)
+          (subst (λ ns. IsPartitionPoint (λ n. is_in_front r.entries place n ≡ true) (λ n. is_in_front r.entries place n ≡ false) ns at) is (point parted)),
+    )
+
+-- an object that stands there is ready
+pub ready-at : (r : Roster) (id place at : ℕ) (d : Entry) → IsSound r → IsAt id_of id r.entries place → at ≡ length (ready_ids (take place r.entries))
+    → (get_or r.entries place d).is_ready ≡ true → IsReadyAt r id at
+ready-at r id place at d sound found here ready =
     let fewer = ready-less id r.entries place d sound.distinct found ready in
     record {
       within = subst (λ n. n < length (ready_ids r.entries)) (sym here) fewer.1;
@@ -256,16 +262,12 @@ ready-at r ids id place at d sound is found within point ready =
       same = marked-same id r.entries place d true sound.distinct found ready;
     }
 
-pub waiting-at : (r : Roster) (ids : List ℕ) (id place at : ℕ) (d : Entry) → IsSound r → ids ≡ ready_ids r.entries → IsAt id_of id r.entries place
-    → at ≤ length ids
-    → IsPartitionPoint (λ n. is_in_front r.entries place n ≡ true) (λ n. is_in_front r.entries place n ≡ false) ids
-    at → (get_or r.entries place d).is_ready ≡ false → IsWaitingAt r id at
-waiting-at r ids id place at d sound is found within point waits =
-    let le : place ≤ length r.entries = omega (arith, at-within id_of id r.entries place found) in
-    let inside : at ≤ length (ready_ids r.entries) = subst (λ ns. at ≤ length ns) is within in
-    let here : at ≡ length (ready_ids (take place r.entries)) =
-    point-ready r.entries place at sound.distinct le inside (subst (λ ns. IsPartitionPoint (λ n. is_in_front r.entries place n ≡ true)
-    (λ n. is_in_front r.entries place n ≡ false) ns at) is point) in
+-- or it waits
+pub waiting-at : (r : Roster) (id place at : ℕ) (d : Entry) → IsSound r → IsAt id_of id r.entries place → at ≡ length (ready_ids (take place r.entries))
+    → (get_or r.entries place d).is_ready ≡ false → IsWaitingAt r id at
+waiting-at r id place at d sound found here waits =
+    let inside : at ≤ length (ready_ids r.entries) =
+    omega (arith, here, ap length (halves r.entries place), length-append (ready_ids (take place r.entries)) (ready_ids (drop place r.entries))) in
     let more : insert (ready_ids r.entries) at id ≡ ready_ids (marked id true r.entries) = ap (λ n. insert (ready_ids r.entries) n id) here ∙ ready-more id
     r.entries place d sound.distinct found waits in
     record {

@@ -1,7 +1,7 @@
 -- The list of due times after each change of the timers.
-use Rattle.std.proofs.Common.{◌≡◌, ◌≢◌, ◌<◌, ◌≤◌, ◌==◌, ℕ, zero, suc, true, false, cond, List, [], ◌∷◌, Option, Some, None, length, set, get_or, refl, sym, ap, ◌∙◌, subst, inl, inr, arith}
-use Rattle.std.specs.Prelude.{AllPairs, remove, insert, not, IsNone, Result, Ok, Err, OnErr, OnOk, IsOk, IsSome, OnSome, nat_lt}
-use Rattle.std.proofs.lemmas.Bool.{cases_Bool, cases_eq, eq-eqb, ne_eqb, cond-true, cond-false, leb-true, leb-false, le-leb, ltb-true, lt-ltb, cases_lt, false≢true}
+use Rattle.std.proofs.Common.{◌≡◌, ◌≢◌, ◌<◌, ◌≤◌, ◌==◌, ℕ, true, false, cond, List, [], ◌∷◌, Option, Some, None, length, set, get_or, refl, sym, ap, ◌∙◌, subst, inl, inr, arith}
+use Rattle.std.specs.Prelude.{AllPairs, remove, insert, not, IsNone, Result, Ok, Err, OnErr, IsOk, IsSome, OnSome, nat_lt, is_some}
+use Rattle.std.proofs.lemmas.Bool.{cases_Bool, cases_eq, eq-eqb, ne_eqb, cond-true, cond-false, leb-true, leb-false, le-leb, ltb-true, lt-ltb, cases_lt}
 use Rattle.std.proofs.lemmas.List.{get_or-set_same, get_or-set_other, length-set}
 use Rattle.std.proofs.lemmas.List.Edits.{length-insert}
 use Rattle.std.specs.List.Sorted.{IsPartitionPoint, IsPartitionedBy}
@@ -9,9 +9,8 @@ use Rattle.aom_scheduler.specs.Order.{placed, without, place_of, IsOrdered}
 use Rattle.aom_scheduler.specs.Pending.{Pending, no_later, due_of}
 use Rattle.aom_scheduler.specs.Dues.{IsTimed}
 use Rattle.aom_scheduler.specs.declared.timer.Timer.{Timer}
-use Rattle.aom_scheduler.proofs.Items.{IsAt, IsAbsent, Found, there, nowhere, find_it, at-place, place-at, absent-head, absent-tail, at-within, at-number, IsRanking, ordered-placed, ordered-without, without-at, few, placed-point}
-use Rattle.aom_scheduler.proofs.Places.{none_is}
-use Rattle.std.proofs.lemmas.Option.{none-some, same_Some}
+use Rattle.aom_scheduler.proofs.Items.{IsAt, IsAbsent, Found, there, nowhere, find_it, place-at, absent-head, absent-tail, at-within, at-number, IsRanking, ordered-placed, ordered-without, without-at, few, placed-point, at_head, in_tail, none_is, some_is, place-absent}
+use Rattle.std.proofs.lemmas.Option.{same_Some}
 
 -- the number of a timer
 abbrev pub id_of : Timer → ℕ
@@ -36,20 +35,25 @@ due-absent id [] absent = refl
 due-absent id (t ∷ ts) absent = due-later id t ts (absent-head id_of id t ts absent) ∙ due-absent id ts (absent-tail id_of id t ts absent)
 
 pub due-at : (id : ℕ) (ts : List Timer) (i : ℕ) (d : Timer) → IsAt id_of id ts i → due_of id ts ≡ Some (get_or ts i d).due
-due-at id [] i d at = absurd at
-due-at id (t ∷ ts) zero d at = due-here id t ts at
-due-at id (t ∷ ts) (suc i) d at = due-later id t ts at.0 ∙ due-at id ts i d at.1
+due-at id _ _ d (at_head t ts same) = due-here id t ts same
+due-at id _ _ d (in_tail t ts other at) = due-later id t ts other ∙ due-at id ts _ d at
 
 abbrev blank : ℕ → Timer
 blank id = record { id = id; due = 0 }
 
--- an object without a timer is absent
-pub absent-due : (id : ℕ) (ts : List Timer) → due_of id ts ≡ None → IsAbsent id_of id ts
-absent-due id ts none = by_found (find_it id_of id ts)
+-- an object has a timer exactly if it stands somewhere
+set-stands : (id : ℕ) (ts : List Timer) → is_some (due_of id ts) ≡ is_some (place_of id_of id ts)
+set-stands id ts = by_found (place_of id_of id ts) (find_it id_of id ts)
   where
-    by_found : Found id_of id ts → IsAbsent id_of id ts
-    by_found (there i at) = absurd (none-some (get_or ts i (blank id)).due (sym none ∙ due-at id ts i (blank id) at))
-    by_found (nowhere absent) = absent
+    by_found : (o : Option ℕ) → Found id_of id ts o → is_some (due_of id ts) ≡ is_some o
+    by_found _ (there i at) = ap is_some (due-at id ts i (blank id) at)
+    by_found _ (nowhere absent) = ap is_some (due-absent id ts absent)
+
+pub absent-due : (id : ℕ) (ts : List Timer) → IsNone (due_of id ts) → IsAbsent id_of id ts
+absent-due id ts none = place-absent id_of id ts (none_is (place_of id_of id ts) (sym (set-stands id ts) ∙ none))
+
+pub stands-if_set : (id : ℕ) (ts : List Timer) → IsSome (due_of id ts) → IsSome (place_of id_of id ts)
+stands-if_set id ts some = sym (set-stands id ts) ∙ some
 
 -- a timer that is placed is the object's, and those of others stay
 due-placed_same : (t : Timer) (ts : List Timer) → IsAbsent id_of t.id ts → due_of t.id (placed no_later t ts) ≡ Some t.due
@@ -103,7 +107,7 @@ pub setting : (timers : List Timer) (dues : List (Option ℕ)) (at : ℕ) (t : T
     → IsPartitionPoint (λ u. no_later u t ≡ true) (λ u. no_later u t ≡ false) timers at → Setting timers dues at t
 setting timers dues at t timed small unset within point =
     let is : insert timers at t ≡ placed no_later t timers = placed-point no_later t timers at within point in
-    let absent = absent-due t.id timers (none_is (due_of t.id timers) unset) in
+    let absent = absent-due t.id timers unset in
     let ordered : IsOrdered id_of no_later (length dues) (insert timers at t) = subst (IsOrdered id_of no_later (length dues)) (sym is)
     (ordered-placed id_of no_later by_due (length dues) t timers small absent timed.ordered) in
     record {
@@ -120,10 +124,18 @@ setting timers dues at t timed small unset within point =
       };
     }
 
+-- the same from what the fields say
+pub setting-from : {pending : Pending} {timers : List Timer} {dues : List (Option ℕ)} (at : ℕ) (t : Timer)
+    → record { timers = timers; limit = length dues } ≡ pending → IsTimed timers dues → t.id < pending.limit → IsNone (due_of t.id pending.timers)
+    → at ≤ length timers → IsPartitionPoint (λ u. no_later u t ≡ true) (λ u. no_later u t ≡ false) timers at → Setting timers dues at t
+setting-from {timers = timers} {dues = dues} at t view timed small unset =
+    setting timers dues at t timed (subst (λ p. t.id < p.limit) (sym view) small) (subst (λ p. IsNone (due_of t.id p.timers)) (sym view) unset)
+
 -- what holds when the timer at a place goes
 pub record Ending (timers : List Timer) (dues : List (Option ℕ)) (at gone : ℕ) : Type 0 where
   pub is : remove timers at ≡ without id_of gone timers
   pub small : gone < length dues
+  pub within : at < length timers
   pub timed : IsTimed (remove timers at) (set dues gone None)
 
 pub ending : (timers : List Timer) (dues : List (Option ℕ)) (at gone : ℕ) → IsTimed timers dues → IsAt id_of gone timers at → Ending timers dues at gone
@@ -135,6 +147,7 @@ ending timers dues at gone timed found =
     record {
       is = is;
       small = small;
+      within = within;
       timed = record {
         ordered = subst (λ n. IsOrdered id_of no_later n (remove timers at)) (sym (length-set dues gone None))
             (subst (IsOrdered id_of no_later (length dues)) (sym is) (ordered-without id_of no_later (length dues) gone timers timed.ordered));
@@ -146,6 +159,13 @@ ending timers dues at gone timed found =
       };
     }
 
+-- the same from what the fields say
+pub ending-from : {pending : Pending} {timers : List Timer} {dues : List (Option ℕ)} {at : ℕ} (gone : ℕ)
+    → record { timers = timers; limit = length dues } ≡ pending → IsTimed timers dues → place_of id_of gone pending.timers ≡ Some at
+    → Ending timers dues at gone
+ending-from {timers = timers} {dues = dues} {at = at} gone view timed stands =
+    ending timers dues at gone timed (place-at id_of gone timers at (ap (λ p. place_of id_of gone p.timers) view ∙ stands))
+
 -- lists of timers and limits that are the same
 pub same_pending : (ts us : List Timer) (m n : ℕ) → ts ≡ us → m ≡ n → ◌≡◌ {A = Pending} (record { timers = ts; limit = m }) (record { timers = us; limit = n })
 same_pending ts us m n p q = cc
@@ -155,21 +175,10 @@ pub ok_by_room : {X E : Type 0} (r : Result X E) (len cap : ℕ) → OnErr r (ca
 ok_by_room (Ok x) len cap full room = refl
 ok_by_room (Err e) len cap full room = absurd (omega (arith, full))
 
-pub on_ok : {X E P : Type 0} (r : Result X E) (x : X) → r ≡ Ok x → OnOk r P → P
-on_ok {P = P} r x is p = subst (λ s. OnOk s P) is p
-
 -- the timer in front stands first
 pub front-at : (ts : List Timer) (t : Timer) → 0 < length ts → t ≡ get_or ts 0 t → IsAt id_of t.id ts 0
 front-at [] t some is = absurd (omega (arith, some))
-front-at (u ∷ us) t some is = ap id_of (sym is)
-
--- an object with a timer stands somewhere, and where its timer is due then
-pub stands-if_set : (id : ℕ) (ts : List Timer) → IsSome (due_of id ts) → IsSome (place_of id_of id ts)
-stands-if_set id ts some = by_found (find_it id_of id ts)
-  where
-    by_found : Found id_of id ts → IsSome (place_of id_of id ts)
-    by_found (there i at) = subst IsSome (sym (at-place id_of id ts i at)) refl
-    by_found (nowhere absent) = absurd (false≢true (subst IsSome (due-absent id ts absent) some))
+front-at (u ∷ us) t some is = at_head u us (ap id_of (sym is))
 
 -- a search for those that are due earlier is one in an order, and ends no later than at the object's
 pub searchable-early : (due : ℕ) (ts : List Timer) → AllPairs (λ t u. no_later t u ≡ true) ts → IsPartitionedBy (λ t. nat_lt t.due due) ts
@@ -198,5 +207,4 @@ early-ends id due start ts point is at stands =
 
 -- what a removal says where there was something to remove
 pub on_some : {X P : Type 0} (o : Option X) → IsSome o → OnSome o P → P
-on_some None some p = absurd (false≢true some)
-on_some (Some x) some p = p
+on_some {P = P} o some p = let held = some_is o some in subst (λ s. OnSome s P) held.1 p

@@ -7,9 +7,11 @@ use Rattle.aom_shape.specs.Things.{same_thing}
 use Rattle.aom_shape.specs.Order.{Weaker, WeakerFilling}
 use Rattle.aom_shape.specs.Order.Weaker.{alike, unset_word, unset_null, maybe_null, maybe_own}
 use Rattle.aom_shape.specs.Order.WeakerFilling.{alike_filling, perhaps_empty, perhaps_full}
-use Rattle.aom_shape.specs.Tests.{same_age, no_more, no_more_filling}
+use Rattle.aom_shape.specs.Tests.{same_age, same_delivery, no_more, no_more_filling}
 use Rattle.aom_shape.specs.declared.kind.Age.{Age}
 use Rattle.aom_shape.specs.declared.kind.Age.TheVariants.{Fresh, Ready}
+use Rattle.aom_shape.specs.declared.kind.Delivery.{Delivery}
+use Rattle.aom_shape.specs.declared.kind.Delivery.TheVariants.{Here, Gone}
 use Rattle.aom_shape.specs.declared.kind.Kind.{Kind}
 use Rattle.aom_shape.specs.declared.kind.Kind.TheVariants.{Unset, Word, Null, Own, Maybe}
 use Rattle.aom_shape.specs.declared.kind.Filling.{Filling}
@@ -32,6 +34,15 @@ age_is _ _ h = cc
 pub age_self : (a : Age) → same_age a a ≡ true
 age_self Fresh = refl
 age_self Ready = refl
+
+pub delivery_is : (a b : Delivery) → same_delivery a b ≡ true → a ≡ b
+delivery_is Here Here h = refl
+delivery_is Gone Gone h = refl
+delivery_is _ _ h = cc
+
+pub delivery_self : (a : Delivery) → same_delivery a a ≡ true
+delivery_self Here = refl
+delivery_self Gone = refl
 
 pub object_self : (t : Thing) (a : Age) → (same_thing t t && same_age a a) ≡ true
 object_self t a = rw (thing_self t, age_self a)

@@ -1,3 +1,4 @@
+pub mod Sets
 pub mod Lists
 pub mod Piling
 pub mod Views

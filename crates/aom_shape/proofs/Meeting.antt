@@ -1,24 +1,27 @@
 -- The meet of two states, kind by kind and filling by filling.
 use Rattle.std.proofs.Common.{◌≡◌, ◌≢◌, ℕ, ◌+◌, ◌<◌, Bool, true, false, cond, List, length, slice_index_or, slice_set, Some, None, inl, inr, refl, sym, ◌∙◌, arith}
 use Rattle.std.proofs.lemmas.List.{length-set}
+use Rattle.std.proofs.lemmas.Bool.{false≢true}
 use Rattle.std.proofs.lemmas.Bool.Decides.{eqb_tells, leb_tells}
+use Rattle.std.specs.Prelude.{bit_or}
 use Rattle.aom_image.specs.declared.method.Thing.{Thing}
 use Rattle.aom_shape.specs.declared.kind.Age.{Age}
 use Rattle.aom_shape.specs.Kinds.{register, field}
 use Rattle.aom_shape.specs.Meet.{Met, Unmet, MetFillings, IsMeet, NoMeet, WhyNoMeet}
-use Rattle.aom_shape.specs.Meet.WhyNoMeet.{by_registers, by_entries}
+use Rattle.aom_shape.specs.Meet.WhyNoMeet.{by_delivery, by_entries, by_registers}
 use Rattle.aom_shape.specs.Order.{Weaker, WeakerFilling}
 use Rattle.aom_shape.specs.Order.Weaker.{alike, unset_word, unset_null, maybe_null, maybe_own}
 use Rattle.aom_shape.specs.Order.WeakerFilling.{alike_filling, perhaps_empty, perhaps_full}
 use Rattle.aom_shape.specs.Shape.{Shape}
 use Rattle.aom_shape.specs.Tables.{at}
-use Rattle.aom_shape.specs.Tests.{no_more, apart, meet_kind, no_more_filling, meet_filling}
+use Rattle.aom_shape.specs.Tests.{no_more, apart, meet_kind, no_more_filling, meet_filling, same_delivery}
 use Rattle.aom_shape.specs.declared.kind.Kind.{Kind}
 use Rattle.aom_shape.specs.declared.kind.Kind.TheVariants.{Unset, Word, Null, Own, Maybe}
 use Rattle.aom_shape.specs.declared.kind.Filling.{Filling}
 use Rattle.aom_shape.specs.declared.kind.Filling.TheVariants.{Empty, Full, Perhaps}
-use Rattle.aom_shape.specs.declared.why.Why.TheVariants.{RegisterKind, CleanupAtReturn}
-use Rattle.aom_shape.proofs.Deciding.{weaker_tests, weaker_tested, same_own, object_self, fillings_test}
+use Rattle.aom_shape.specs.declared.why.Why.TheVariants.{RegisterKind, CleanupAtReturn, MessageAtReturn}
+use Rattle.aom_shape.proofs.Sets.{has_both, has_first, has_second}
+use Rattle.aom_shape.proofs.Deciding.{delivery_self, weaker_tests, weaker_tested, same_own, object_self, fillings_test}
 use Rattle.aom_shape.proofs.Lists.{at_within, at_set_here, at_set_other, at_past}
 
 -- the meet of two kinds says no more than either, and what says no more than both says no more than it
@@ -181,17 +184,19 @@ fillings_everywhere a b m la lb h i =
     ]
 
 -- a state of the meets is the meet
-pub met : (a b m : Shape) → length a.registers ≡ 16 → length b.registers ≡ 16 → length a.fields ≡ 8 → length b.fields ≡ 8 → Met a.registers b.registers m.registers 16 → MetFillings a.fields b.fields m.fields 8 → m.entries ≡ a.entries → m.entries ≡ b.entries → IsMeet m a b
-met a b m la lb fa fb registers fields first second =
+pub met : (a b m : Shape) → length a.registers ≡ 16 → length b.registers ≡ 16 → length a.fields ≡ 8 → length b.fields ≡ 8 → Met a.registers b.registers m.registers 16 → MetFillings a.fields b.fields m.fields 8 → m.entries ≡ a.entries → m.entries ≡ b.entries → m.states ≡ bit_or a.states b.states → m.delivery ≡ a.delivery → m.delivery ≡ b.delivery → IsMeet m a b
+met a b m la lb fa fb registers fields first second states delivered other =
     let kinds = met_everywhere a.registers b.registers m.registers la lb registers in
     let fillings = fillings_everywhere a.fields b.fields m.fields fa fb fields in
     record {
-      first = record { registers = λ i. (kinds i).first; fields = λ i. rw (fillings i) (filling_first (field a i) (field b i)); entries = first };
-      second = record { registers = λ i. (kinds i).second; fields = λ i. rw (fillings i) (filling_second (field a i) (field b i)); entries = second };
+      first = record { registers = λ i. (kinds i).first; fields = λ i. rw (fillings i) (filling_first (field a i) (field b i)); entries = first; states = rw states (has_first a.states b.states); delivery = delivered };
+      second = record { registers = λ i. (kinds i).second; fields = λ i. rw (fillings i) (filling_second (field a i) (field b i)); entries = second; states = rw states (has_second a.states b.states); delivery = other };
       strongest = λ n h k. record {
         registers = λ i. (kinds i).strongest (register n i) (h.registers i) (k.registers i);
         fields = λ i. rw (fillings i) (filling_strongest (field a i) (field b i) (field n i) (h.fields i) (k.fields i));
         entries = h.entries ∙ sym first;
+        states = rw states (has_both n.states a.states b.states h.states k.states);
+        delivery = h.delivery ∙ sym delivered;
       };
     }
 
@@ -212,3 +217,9 @@ kinds_meet a b m la lb h missing =
 -- and where their entries differ nothing does either
 pub parted : (a b : Shape) → ¬ Unmet a.registers b.registers → a.entries ≢ b.entries → NoMeet a b × WhyNoMeet a b CleanupAtReturn
 parted a b meet differ = (record { none = λ n k l. differ (sym k.entries ∙ l.entries) }, by_entries meet differ)
+
+-- and where the message is gone in one alone
+pub not_together : (a b : Shape) → ¬ Unmet a.registers b.registers → a.entries ≡ b.entries → same_delivery a.delivery b.delivery ≡ false → NoMeet a b × WhyNoMeet a b MessageAtReturn
+not_together a b meet same refused =
+    let differ : a.delivery ≢ b.delivery = λ e. false≢true (sym refused ∙ rw (← e) (delivery_self a.delivery)) in
+    (record { none = λ n k l. differ (sym k.delivery ∙ l.delivery) }, by_delivery meet same differ)

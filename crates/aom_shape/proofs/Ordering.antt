@@ -1,29 +1,33 @@
 -- The tests on lists decide the order between states.
 use Rattle.std.proofs.Common.{◌≡◌, ◌≢◌, ℕ, zero, suc, Bool, true, false, ◌&&◌, ◌==◌, List, [], ◌∷◌, length, ◌↔◌, ◌⊎◌, IsTrue, refl, sym, ap, ◌∙◌, arith}
 use Rattle.std.proofs.lemmas.Bool.{eqb-true, eq-eqb, false≢true, and_parts}
+use Rattle.aom_image.specs.Views.{has}
 use Rattle.aom_shape.specs.Kinds.{register, field}
 use Rattle.aom_shape.specs.Order.{Weaker, WeakerFilling, SaysNoMore}
 use Rattle.aom_shape.specs.Order.Weaker.{alike}
 use Rattle.aom_shape.specs.Order.WeakerFilling.{alike_filling}
 use Rattle.aom_shape.specs.Shape.{Shape}
 use Rattle.aom_shape.specs.Tables.{at}
-use Rattle.aom_shape.specs.Tests.{no_more, all_no_more, no_more_filling, all_no_more_fillings, same_age, same_entry, same_entries}
+use Rattle.aom_shape.specs.Tests.{no_more, all_no_more, no_more_filling, all_no_more_fillings, same_age, same_delivery, same_entry, same_entries}
 use Rattle.aom_shape.specs.declared.kind.Entry.{Entry}
 use Rattle.aom_shape.specs.declared.kind.Entry.TheVariants.{Object as An_object, Operation}
 use Rattle.aom_shape.specs.declared.kind.Kind.{Kind}
 use Rattle.aom_shape.specs.declared.kind.Kind.TheVariants.{Unset}
 use Rattle.aom_shape.specs.declared.kind.Filling.{Filling}
 use Rattle.aom_shape.specs.declared.kind.Filling.TheVariants.{Perhaps}
-use Rattle.aom_shape.proofs.Deciding.{age_is, age_self, weaker_tests, weaker_tested, weaker_along, fillings_test, fillings_tested, fillings_along}
+use Rattle.aom_shape.proofs.Sets.{has_along, has_itself}
+use Rattle.aom_shape.proofs.Deciding.{age_is, age_self, delivery_is, delivery_self, weaker_tests, weaker_tested, weaker_along, fillings_test, fillings_tested, fillings_along}
 
 pub reflexive : (a : Shape) → SaysNoMore a a
-reflexive a = record { registers = λ i. alike; fields = λ i. alike_filling; entries = refl }
+reflexive a = record { registers = λ i. alike; fields = λ i. alike_filling; entries = refl; states = has_itself a.states; delivery = refl }
 
 pub transitive : (a b c : Shape) → SaysNoMore a b → SaysNoMore b c → SaysNoMore a c
 transitive a b c h k = record {
   registers = λ i. weaker_along (register a i) (register b i) (register c i) (h.registers i) (k.registers i);
   fields = λ i. fillings_along (field a i) (field b i) (field c i) (h.fields i) (k.fields i);
   entries = h.entries ∙ k.entries;
+  states = has_along a.states b.states c.states h.states k.states;
+  delivery = h.delivery ∙ k.delivery;
 }
 
 kinds_hold : (xs ys : List Kind) → length xs ≡ length ys → all_no_more xs ys ≡ true → (i : ℕ) → Weaker (at Unset xs i) (at Unset ys i)
@@ -48,20 +52,34 @@ fillings_all_test [] ys h = refl
 fillings_all_test (x ∷ xs) [] h = refl
 fillings_all_test (x ∷ xs) (y ∷ ys) h = rw (fillings_test x y (h 0), fillings_all_test xs ys (λ i. h (suc i)))
 
--- both lists pass exactly where the first state says no more
-pub decided : (a b : Shape) → length a.registers ≡ length b.registers → length a.fields ≡ length b.fields → a.entries ≡ b.entries → IsTrue (all_no_more a.registers b.registers && all_no_more_fillings a.fields b.fields) ↔ SaysNoMore a b
-decided a b r f e = (
-  λ h. let pair = and_parts (all_no_more a.registers b.registers) (all_no_more_fillings a.fields b.fields) h in record {
-    registers = kinds_hold a.registers b.registers r pair.0;
-    fields = fillings_hold a.fields b.fields f pair.1;
-    entries = e;
-  },
+-- the test on request states and the message
+abbrev requests_test : Shape → Shape → Bool
+requests_test a b = has a.states b.states && same_delivery a.delivery b.delivery
+
+-- where they and the entries are well, both lists pass exactly where the first state says no more
+decided : (a b : Shape) → length a.registers ≡ length b.registers → length a.fields ≡ length b.fields → a.entries ≡ b.entries → requests_test a b ≡ true → IsTrue (all_no_more a.registers b.registers && all_no_more_fillings a.fields b.fields) ↔ SaysNoMore a b
+decided a b r f e q = (
+  λ h. let requests = and_parts (has a.states b.states) (same_delivery a.delivery b.delivery) q in
+      let pair = and_parts (all_no_more a.registers b.registers) (all_no_more_fillings a.fields b.fields) h in record {
+        registers = kinds_hold a.registers b.registers r pair.0;
+        fields = fillings_hold a.fields b.fields f pair.1;
+        entries = e;
+        states = requests.0;
+        delivery = delivery_is a.delivery b.delivery requests.1;
+      },
   λ h. rw (kinds_test a.registers b.registers h.registers, fillings_all_test a.fields b.fields h.fields),
 )
 
 -- the same for what the two tests answer one after the other
-pub decided_by : (a b : Shape) (r : Bool) → length a.registers ≡ length b.registers → length a.fields ≡ length b.fields → a.entries ≡ b.entries → r ≡ (all_no_more a.registers b.registers && all_no_more_fillings a.fields b.fields) → IsTrue r ↔ SaysNoMore a b
-decided_by a b r k f e h = rw h (decided a b k f e)
+pub decided_by : (a b : Shape) (r : Bool) → length a.registers ≡ length b.registers → length a.fields ≡ length b.fields → a.entries ≡ b.entries → requests_test a b ≡ true → r ≡ (all_no_more a.registers b.registers && all_no_more_fillings a.fields b.fields) → IsTrue r ↔ SaysNoMore a b
+decided_by a b r k f e q h = rw h (decided a b k f e q)
+
+-- neither says no more where their request states or messages do not allow it
+pub requests_decide : (a b : Shape) (r : Bool) → r ≡ false → requests_test a b ≡ false → IsTrue r ↔ SaysNoMore a b
+requests_decide a b r f refused = (
+  λ t. absurd (false≢true (sym f ∙ t)),
+  λ h. absurd (false≢true (sym refused ∙ rw (h.states, ← h.delivery, delivery_self a.delivery) refl)),
+)
 
 -- neither of two states says no more where their entries differ
 pub undecided : (a b : Shape) (r : Bool) → r ≡ false → a.entries ≢ b.entries → IsTrue r ↔ SaysNoMore a b

@@ -12,14 +12,17 @@ use Rattle.aom_shape.specs.Kinds.{register}
 use Rattle.aom_shape.specs.Order.{WeakerFilling, SaysNoMore}
 use Rattle.aom_shape.specs.Order.Weaker.{alike}
 use Rattle.aom_shape.specs.Order.WeakerFilling.{alike_filling}
-use Rattle.aom_shape.specs.Shape.{Shape}
+use Rattle.aom_shape.specs.Changes.{known_with}
+use Rattle.aom_shape.specs.Shape.{Known, Shape}
 use Rattle.aom_shape.specs.Tables.{at}
-use Rattle.aom_shape.specs.Arguments.{argument_kind, entry_fields, entry_shape}
+use Rattle.aom_shape.specs.Arguments.{argument_kind, before_of, entry_fields, entry_shape}
+use Rattle.aom_shape.specs.declared.kind.Delivery.TheVariants.{Here}
 use Rattle.aom_shape.specs.declared.kind.Filling.{Filling}
 use Rattle.aom_shape.specs.declared.kind.Filling.TheVariants.{Perhaps}
 use Rattle.aom_shape.specs.declared.kind.Kind.{Kind}
 use Rattle.aom_shape.specs.declared.kind.Kind.TheVariants.{Unset}
-use Rattle.aom_shape.proofs.Views.{arguments_there, role_there}
+use Rattle.aom_shape.proofs.Sets.{has_itself}
+use Rattle.aom_shape.proofs.Views.{arguments_there, before_there, role_there}
 use Rattle.aom_shape.proofs.Lists.{at_set_here, at_set_other}
 
 -- the first arguments stand in their registers
@@ -66,20 +69,23 @@ all_placed arguments kinds n h ended k =
     ]
 
 -- two states that have the same everywhere say the same
-pub says_the_same : (a b : Shape) → ((i : ℕ) → register a i ≡ register b i) → a.fields ≡ b.fields → a.entries ≡ b.entries → SaysNoMore a b
-says_the_same a b registers fields entries = record {
+pub says_the_same : (a b : Shape) → ((i : ℕ) → register a i ≡ register b i) → a.fields ≡ b.fields → a.entries ≡ b.entries → a.states ≡ b.states → a.delivery ≡ b.delivery → SaysNoMore a b
+says_the_same a b registers fields entries states delivery = record {
   registers = λ i. rw (registers i) alike;
   fields = λ i. let P : List Filling → Type 0 = λ fs. WeakerFilling (at Perhaps a.fields i) (at Perhaps fs i) in subst P fields alike_filling;
   entries = entries;
+  states = rw states (has_itself b.states);
+  delivery = delivery;
 }
 
--- the registers and fields that a method begins with
-pub begun : (p : Image) (m : ℕ) (d : Method) (kinds : List Kind) (fillings : List Filling) → method_at p m ≡ Some d → ((k : ℕ) → at Unset kinds k ≡ at Unset (map argument_kind d.arguments) k) → fillings ≡ entry_fields (Some d.role) → SaysNoMore (record { registers = kinds; fields = fillings; entries = [] }) (entry_shape p m) × SaysNoMore (entry_shape p m) (record { registers = kinds; fields = fillings; entries = [] })
-begun p m d kinds fillings e registers fields =
-    let same : (k : ℕ) → at Unset kinds k ≡ at Unset (map argument_kind (arguments_of p m)) k = λ k. rw (arguments_there p m d e) (registers k) in
-    let fields_same : fillings ≡ entry_fields (method_role p m) = rw (role_there p m d e) fields in (
-      says_the_same (record { registers = kinds; fields = fillings; entries = [] }) (entry_shape p m) same fields_same refl,
-      says_the_same (entry_shape p m) (record { registers = kinds; fields = fillings; entries = [] }) (λ k. sym (same k)) (sym fields_same) refl,
+-- what a method begins with
+pub begun : (p : Image) (m : ℕ) (d : Method) (known : Known) → method_at p m ≡ Some d → ((k : ℕ) → at Unset known.registers k ≡ at Unset (map argument_kind d.arguments) k) → known.fields ≡ entry_fields (Some d.role) → known.states ≡ d.before.0 → known.delivery ≡ Here → SaysNoMore (known_with known []) (entry_shape p m) × SaysNoMore (entry_shape p m) (known_with known [])
+begun p m d known e registers fields states here =
+    let same : (k : ℕ) → at Unset known.registers k ≡ at Unset (map argument_kind (arguments_of p m)) k = λ k. rw (arguments_there p m d e) (registers k) in
+    let fields_same : known.fields ≡ entry_fields (method_role p m) = rw (role_there p m d e) fields in
+    let states_same : known.states ≡ before_of p m = rw (before_there p m d e) states in (
+      says_the_same (known_with known []) (entry_shape p m) same fields_same refl states_same here,
+      says_the_same (entry_shape p m) (known_with known []) (λ k. sym (same k)) (sym fields_same) refl (sym states_same) (sym here),
     )
 
 -- a method takes six arguments at most

@@ -5,6 +5,7 @@ use Rattle.aom_image.specs.Image.{Image}
 use Rattle.aom_image.specs.Views.{method_at, gives_of, gives_in, is_quiet, quiet_in, leaves, leaves_in, has, method_role, role_in, method_class, class_in, arguments_of, arguments_in, class_at, fields_of, fields_in}
 use Rattle.aom_image.specs.declared.class.ClassDecl.{ClassDecl}
 use Rattle.aom_image.specs.declared.method.Method.{Method}
+use Rattle.aom_shape.specs.Arguments.{after_in, after_of, before_in, before_of}
 use Rattle.aom_shape.specs.Things.{holder_of, holder_by, words_of, words_in}
 
 pub gives_there : (p : Image) (m : ℕ) (d : Method) → method_at p m ≡ Some d → gives_of p m ≡ d.gives
@@ -34,6 +35,14 @@ holder_there p m d e = ap (λ o. holder_by (role_in o) (class_in o)) e
 pub arguments_there : (p : Image) (m : ℕ) (d : Method) → method_at p m ≡ Some d → arguments_of p m ≡ d.arguments
 unfolding arguments_in
 arguments_there p m d e = ap arguments_in e
+
+pub before_there : (p : Image) (m : ℕ) (d : Method) → method_at p m ≡ Some d → before_of p m ≡ d.before.0
+unfolding before_in
+before_there p m d e = ap before_in e
+
+pub after_there : (p : Image) (m : ℕ) (d : Method) → method_at p m ≡ Some d → after_of p m ≡ d.after.0
+unfolding after_in
+after_there p m d e = ap after_in e
 
 -- a class that the list has, and one that it has not
 class_none : (p : Image) (c i : ℕ) (xs : List ClassDecl) → xs ≡ p.classes → i ≡ c → length xs ≤ i → class_at p c ≡ None

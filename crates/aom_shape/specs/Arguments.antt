@@ -1,14 +1,16 @@
 -- The arguments of a method: as they leave their registers, and what is known of them as it begins.
-use Rattle.std.specs.Prelude.{ℕ, suc, List, [], ◌∷◌, replicate, Option, Some, map}
+use Rattle.std.specs.Prelude.{ℕ, suc, List, [], ◌∷◌, replicate, Option, Some, None, map}
 use Rattle.aom_image.specs.Image.{Image}
-use Rattle.aom_image.specs.Views.{arguments_of, method_role}
+use Rattle.aom_image.specs.Views.{arguments_of, method_at, method_role}
 use Rattle.aom_image.specs.declared.method.Argument.{Argument}
 use Rattle.aom_image.specs.declared.method.Argument.TheVariants.{Word as A_word, Own as An_own}
+use Rattle.aom_image.specs.declared.method.Method.{Method}
 use Rattle.aom_image.specs.declared.method.Role.{Role}
 use Rattle.aom_image.specs.declared.method.Role.TheVariants.{Construct, Main}
 use Rattle.aom_shape.specs.Shape.{Shape}
 use Rattle.aom_shape.specs.Kinds.{set_register}
 use Rattle.aom_shape.specs.declared.kind.Age.TheVariants.{Ready}
+use Rattle.aom_shape.specs.declared.kind.Delivery.TheVariants.{Here}
 use Rattle.aom_shape.specs.declared.kind.Filling.{Filling}
 use Rattle.aom_shape.specs.declared.kind.Filling.TheVariants.{Perhaps, Empty}
 use Rattle.aom_shape.specs.declared.kind.Kind.{Kind}
@@ -34,6 +36,27 @@ entry_fields (Some Main) = replicate 8 Empty
 entry_fields (Some Construct) = replicate 8 Empty
 entry_fields _ = replicate 8 Perhaps
 
+-- the request states in which the object of a method may be as it begins, and as it ends
+unfoldable pub before_in : Option Method → ℕ
+before_in None = 0
+before_in (Some d) = d.before.0
+
+unfoldable pub after_in : Option Method → ℕ
+after_in None = 0
+after_in (Some d) = d.after.0
+
+abbrev pub before_of : Image → ℕ → ℕ
+before_of p m = before_in (method_at p m)
+
+abbrev pub after_of : Image → ℕ → ℕ
+after_of p m = after_in (method_at p m)
+
 -- what is known as a method begins
 abbrev pub entry_shape : Image → ℕ → Shape
-entry_shape p m = record { registers = map argument_kind (arguments_of p m); fields = entry_fields (method_role p m); entries = [] }
+entry_shape p m = record {
+  registers = map argument_kind (arguments_of p m);
+  fields = entry_fields (method_role p m);
+  entries = [];
+  states = before_of p m;
+  delivery = Here;
+}

@@ -15,9 +15,9 @@ use Rattle.aom_shape.specs.declared.piles.Node.{Node}
 use Rattle.aom_shape.specs.declared.shape.Kept.{Kept}
 use Rattle.aom_shape.specs.declared.why.Why.{Why}
 
--- a state, from what is known of registers and fields and from its entries
+-- a state, from what is known apart from its entries, and from those
 abbrev pub known_with : Known → List Entry → Shape
-known_with known es = record { registers = known.registers; fields = known.fields; entries = es }
+known_with known es = record { registers = known.registers; fields = known.fields; entries = es; states = known.states; delivery = known.delivery }
 
 abbrev pub kept_shape : List Node → Kept → Shape
 kept_shape nodes kept = known_with kept.known (entries_of nodes kept.pile)

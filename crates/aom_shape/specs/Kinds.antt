@@ -12,6 +12,8 @@ use Rattle.aom_shape.specs.declared.kind.Kind.{Kind}
 use Rattle.aom_shape.specs.declared.kind.Kind.TheVariants.{Unset, Word, Null, Own, Maybe}
 use Rattle.aom_shape.specs.declared.kind.Filling.{Filling}
 use Rattle.aom_shape.specs.declared.kind.Filling.TheVariants.{Empty, Full, Perhaps}
+use Rattle.aom_shape.specs.declared.kind.Delivery.{Delivery}
+use Rattle.aom_shape.specs.declared.kind.Delivery.TheVariants.{Here, Gone}
 use Rattle.aom_shape.specs.declared.kind.Entry.{Entry}
 use Rattle.aom_shape.specs.declared.kind.Entry.TheVariants.{Object as An_object, Operation}
 
@@ -50,6 +52,11 @@ abbrev pub is_empty : Filling → Bool
 is_empty Empty = true
 is_empty Full = false
 is_empty Perhaps = false
+
+-- nothing has taken the message
+abbrev pub is_here : Delivery → Bool
+is_here Here = true
+is_here Gone = false
 
 abbrev pub is_ready : Age → Bool
 is_ready Fresh = false

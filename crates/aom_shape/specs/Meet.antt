@@ -9,7 +9,7 @@ use Rattle.aom_shape.specs.declared.kind.Filling.TheVariants.{Perhaps}
 use Rattle.aom_shape.specs.declared.kind.Kind.{Kind}
 use Rattle.aom_shape.specs.declared.kind.Kind.TheVariants.{Unset}
 use Rattle.aom_shape.specs.declared.why.Why.{Why}
-use Rattle.aom_shape.specs.declared.why.Why.TheVariants.{RegisterKind, CleanupAtReturn}
+use Rattle.aom_shape.specs.declared.why.Why.TheVariants.{RegisterKind, CleanupAtReturn, MessageAtReturn}
 
 pub record IsMeet (m a b : Shape) : Type 0 where
   pub first : SaysNoMore m a
@@ -30,10 +30,11 @@ pub record Unmet (a b : List Kind) : Type 0 where
   pub place : ℕ
   pub none : meet_kind (at Unset a place) (at Unset b place) ≡ None
 
--- why two states have no meet: two registers have none, and if each two have one the entries differ
+-- why two states have no meet: two registers have none, and if each two have one the entries differ, or else what became of the message
 pub data WhyNoMeet (a b : Shape) : Why → Type 0 where
   by_registers : Unmet a.registers b.registers → WhyNoMeet a b RegisterKind
   by_entries : ¬ Unmet a.registers b.registers → a.entries ≢ b.entries → WhyNoMeet a b CleanupAtReturn
+  by_delivery : ¬ Unmet a.registers b.registers → a.entries ≡ b.entries → a.delivery ≢ b.delivery → WhyNoMeet a b MessageAtReturn
 
 -- the same as `Met`, of fillings
 pub record MetFillings (a b m : List Filling) (n : ℕ) : Type 0 where

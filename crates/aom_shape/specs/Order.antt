@@ -1,5 +1,6 @@
 -- When one abstract state says no more than another.
-use Rattle.std.specs.Prelude.{ℕ, ◌≡◌}
+use Rattle.std.specs.Prelude.{ℕ, ◌≡◌, IsTrue}
+use Rattle.aom_image.specs.Views.{has}
 use Rattle.aom_image.specs.declared.method.Thing.{Thing}
 use Rattle.aom_shape.specs.Shape.{Shape}
 use Rattle.aom_shape.specs.Kinds.{register, field}
@@ -26,3 +27,6 @@ pub record SaysNoMore (a b : Shape) : Type 0 where
   pub registers : (i : ℕ) → Weaker (register a i) (register b i)
   pub fields : (i : ℕ) → WeakerFilling (field a i) (field b i)
   pub entries : a.entries ≡ b.entries
+  -- each state that the second may be in is one of the first
+  pub states : IsTrue (has a.states b.states)
+  pub delivery : a.delivery ≡ b.delivery

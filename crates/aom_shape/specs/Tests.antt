@@ -1,10 +1,12 @@
 -- Tests for the order between kinds and between fillings, what two of them have in common, and whether entries are the same.
-use Rattle.std.specs.Prelude.{Bool, true, false, cond, ◌&&◌, ◌||◌, ◌==◌, List, [], ◌∷◌, Option, Some, None}
+use Rattle.std.specs.Prelude.{Bool, true, false, not, cond, ◌&&◌, ◌||◌, ◌==◌, List, [], ◌∷◌, Option, Some, None}
 use Rattle.aom_image.specs.declared.method.Thing.{Thing}
 use Rattle.aom_shape.specs.Things.{same_thing}
-use Rattle.aom_shape.specs.Kinds.{is_empty, is_word}
+use Rattle.aom_shape.specs.Kinds.{is_empty, is_here, is_word}
 use Rattle.aom_shape.specs.declared.kind.Age.{Age}
 use Rattle.aom_shape.specs.declared.kind.Age.TheVariants.{Fresh, Ready}
+use Rattle.aom_shape.specs.declared.kind.Delivery.{Delivery}
+use Rattle.aom_shape.specs.declared.kind.Delivery.TheVariants.{Here, Gone}
 use Rattle.aom_shape.specs.declared.kind.Kind.{Kind}
 use Rattle.aom_shape.specs.declared.kind.Kind.TheVariants.{Unset, Word, Null, Own, Maybe}
 use Rattle.aom_shape.specs.declared.kind.Entry.{Entry}
@@ -17,6 +19,10 @@ same_age Fresh Fresh = true
 same_age Fresh Ready = false
 same_age Ready Fresh = false
 same_age Ready Ready = true
+
+abbrev pub same_delivery : Delivery → Delivery → Bool
+same_delivery Here d = is_here d
+same_delivery Gone d = not (is_here d)
 
 abbrev pub is_unset : Kind → Bool
 is_unset Unset = true

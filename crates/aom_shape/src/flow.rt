@@ -33,7 +33,7 @@ pub struct Next {
     pub change: Change,
 }
 
-/// A place where a run may go on, and what is known there of registers and fields.
+/// A place where a run may go on, and what is known there apart from the cleanup entries.
 #[derive(Clone, Copy)]
 pub struct Way {
     pub to: usize,

@@ -1,8 +1,8 @@
 //! What is known of one place.
 ghost use Rattle.std.specs.Prelude.{◌≡◌};
-ghost use Rattle.aom_shape.specs.Kinds.{is_empty, is_ready, is_word, is_unowning, is_object_or_null, may_be_destroyed, is_ready_kind, is_fresh_kind, readied, filled, filling_of, entry_kind};
+ghost use Rattle.aom_shape.specs.Kinds.{is_empty, is_here, is_ready, is_word, is_unowning, is_object_or_null, may_be_destroyed, is_ready_kind, is_fresh_kind, readied, filled, filling_of, entry_kind};
 ghost use Rattle.aom_shape.specs.Entries.{readied_entry, is_object_entry};
-ghost use Rattle.aom_shape.specs.Tests.{same_age, is_unset, may_be_null, may_own, may_be_same, no_more, no_more_filling, meet_kind, apart, meet_filling, same_entry};
+ghost use Rattle.aom_shape.specs.Tests.{same_age, same_delivery, is_unset, may_be_null, may_own, may_be_same, no_more, no_more_filling, meet_kind, apart, meet_filling, same_entry};
 
 use crate::things::{is_object, same_thing};
 use aom_image::{ClassNumber, Thing};
@@ -31,6 +31,34 @@ impl Age {
         match self {
             Age::Fresh => !other.is_ready(),
             Age::Ready => other.is_ready(),
+        }
+    }
+}
+
+/// What became of the message that a service method is called with.
+#[derive(Clone, Copy, PartialEq, Eq, Debug)]
+pub enum Delivery {
+    /// Nothing has taken it. Methods of other roles, which have none, stay here.
+    Here,
+    Gone,
+}
+
+impl Delivery {
+    pub fn is_here(self) -> bool
+        ensures { result ≡ is_here self }
+    {
+        match self {
+            Delivery::Here => true,
+            Delivery::Gone => false,
+        }
+    }
+
+    pub fn is_same(self, other: Delivery) -> bool
+        ensures { result ≡ same_delivery self other }
+    {
+        match self {
+            Delivery::Here => other.is_here(),
+            Delivery::Gone => !other.is_here(),
         }
     }
 }

@@ -1,24 +1,28 @@
-//! What is known of registers and fields.
+//! What is known at a place, apart from the cleanup entries.
 ghost use Rattle.std.specs.Prelude.{◌≡◌, ◌≤◌, ◌<◌, ℕ, IsSome, Some, [], length, map, replicate};
 ghost use Rattle.aom_image.specs.Views.{method_at};
 ghost use Rattle.aom_shape.specs.Kinds.{all_empty, none_owns};
 ghost use Rattle.aom_shape.specs.Changes.{known_with};
 ghost use Rattle.aom_shape.specs.Order.{SaysNoMore};
 ghost use Rattle.aom_shape.specs.Tables.{at, put_at};
-ghost use Rattle.aom_shape.specs.Arguments.{argument_kind, entry_fields, entry_shape};
+ghost use Rattle.aom_shape.specs.Arguments.{argument_kind, before_of, entry_fields, entry_shape};
+ghost use Rattle.aom_shape.specs.declared.kind.Delivery.TheVariants.{Here};
 ghost use Rattle.aom_shape.specs.declared.kind.Filling.TheVariants.{Perhaps};
 ghost use Rattle.aom_shape.specs.declared.kind.Kind.TheVariants.{Unset};
 
-use crate::{Age, Filling, Kind};
+use crate::{Age, Delivery, Filling, Kind};
 use aom_classes::Linked;
-use aom_image::{Argument, FieldIndex, MethodNumber, Role, Thing};
+use aom_image::{Argument, FieldIndex, MethodNumber, Role, States, Thing};
 use std::marker::Model;
 
-/// What is known of the registers, and of the fields of a method's object.
+/// What is known of the registers, of the fields and the request states of a method's object, and of the message in service.
 #[derive(Clone, Copy)]
 pub struct Known {
     pub registers: [Kind; 16],
     pub fields: [Filling; 8],
+    /// The states in which the object may be.
+    pub states: States,
+    pub delivery: Delivery,
 }
 
 impl Model for Known {
@@ -27,21 +31,23 @@ impl Model for Known {
 
     ghost Value = { KnownRecord };
 
-    ghost view = { λ k. record { registers = k.registers; fields = k.fields } };
+    ghost view = { λ k. record { registers = k.registers; fields = k.fields; states = k.states.0; delivery = k.delivery } };
 
     ghost invariant = { λ k. (length k.registers ≡ 16) × (length k.fields ≡ 8) };
 
-    ghost inverse = { λ v. record { registers = v.registers; fields = v.fields } };
+    ghost inverse = { λ v. record { registers = v.registers; fields = v.fields; states = record { 0 = v.states }; delivery = v.delivery } };
 }
 
 impl Known {
-    /// Nothing is known of any register or field.
+    /// Nothing is known of any register or field. There are no request states, and no message is taken.
     pub fn unset() -> Known
-        ensures { result ≡ record { registers = replicate 16 Unset; fields = replicate 8 Perhaps } }
+        ensures { result ≡ record { registers = replicate 16 Unset; fields = replicate 8 Perhaps; states = 0; delivery = Here } }
     {
         Known {
             registers: [Kind::Unset; 16],
             fields: [Filling::Perhaps; 8],
+            states: States::NONE,
+            delivery: Delivery::Here,
         }
     }
 
@@ -56,6 +62,8 @@ impl Known {
         Known {
             registers: argument_kinds(declared.arguments.as_slice()),
             fields: entry_fields(declared.role),
+            states: declared.before,
+            delivery: Delivery::Here,
         }
     }
 
@@ -97,6 +105,27 @@ impl Known {
     {
         self.fields = [Filling::Perhaps; 8];
         self
+    }
+
+    /// The request states in which the object may be.
+    pub fn states(&self) -> States
+        ensures { result.0 ≡ self.now.states }
+    {
+        self.states
+    }
+
+    /// The same with other request states.
+    pub fn with_states(mut self, states: States) -> Known
+        ensures { result ≡ record self { states = states.0 } }
+    {
+        self.states = states;
+        self
+    }
+
+    pub fn delivery(&self) -> Delivery
+        ensures { result ≡ self.now.delivery }
+    {
+        self.delivery
     }
 
     /// No register owns, and none perhaps owns.

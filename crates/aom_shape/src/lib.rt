@@ -1,7 +1,8 @@
 //! Abstract states of a method, and the order between them.
 //!
-//! A state says what is known of registers, fields and cleanup entries at a place. `weaker` is the order, and `meet` is the strongest state that
-//! says no more than either, or a Why where there is none. `Flow` is what a rule answers: where a run may go on, and what is known there.
+//! A state says what is known of registers, fields, cleanup entries, request states and the message in service at a place.
+//! `weaker` is the order, and `meet` is the strongest state that says no more than either, or a Why where there is none.
+//! `Flow` is what a rule answers: where a run may go on, and what is known there.
 //! What a declared thing may hold (`may_be`, `field_thing`, ..) is told here too, for the rules and for the laws. No call but `Piles::changed`
 //! takes memory, and nothing knows of instructions, of sweeps or of prices.
 #![tactic(auto)]
@@ -17,7 +18,7 @@ mod things;
 mod why;
 
 pub use flow::{Change, Flow, Last, Next, Way, judge, judge_all, only_if};
-pub use kind::{Age, Entry, Filling, Kind};
+pub use kind::{Age, Delivery, Entry, Filling, Kind};
 pub use known::Known;
 pub use laws::order_is_one;
 pub use order::{meet, weaker};

@@ -1,12 +1,14 @@
 //! The order between abstract states.
-ghost use Rattle.std.specs.Prelude.{◌≡◌, ◌↔◌, List, IsTrue, IfOk, IfErr, IfSome, None};
+ghost use Rattle.std.specs.Prelude.{◌≡◌, ◌<◌, ◌&&◌, ◌↔◌, List, IsTrue, IfOk, IfErr, IfSome, None};
+ghost use Rattle.aom_image.specs.Views.{has};
 ghost use Rattle.aom_shape.specs.Changes.{known_with};
 ghost use Rattle.aom_shape.specs.Meet.{Met, Unmet, MetFillings, IsMeet, NoMeet, WhyNoMeet};
 ghost use Rattle.aom_shape.specs.Order.{SaysNoMore};
-ghost use Rattle.aom_shape.specs.Tests.{all_no_more, all_no_more_fillings};
+ghost use Rattle.aom_shape.specs.Tests.{all_no_more, all_no_more_fillings, same_delivery};
 ghost use Rattle.aom_shape.specs.declared.kind.Entry.{Entry};
 
 use crate::{Filling, Kind, Known, Shape, Why};
+use bitflags::Flags;
 
 fn kinds_say_no_more(a: &[Kind], b: &[Kind]) -> bool
     ensures { result ≡ all_no_more a.now b.now }
@@ -30,9 +32,19 @@ fn fillings_say_no_more(a: &[Filling], b: &[Filling]) -> bool
     true
 }
 
+/// The first may be in each state in which the second may be, and the same became of the message.
+fn requests_say_no_more(a: &Known, b: &Known) -> bool
+    ensures { result ≡ (has a.now.states b.now.states && same_delivery a.now.delivery b.now.delivery) }
+{
+    a.states().contains(b.states()) && a.delivery().is_same(b.delivery())
+}
+
 fn known_says_no_more(a: &Known, b: &Known) -> bool
     ensures { (xs ys : List Entry) → xs ≡ ys → IsTrue result ↔ SaysNoMore (known_with a.now xs) (known_with b.now ys) }
 {
+    if !requests_say_no_more(a, b) {
+        return false;
+    }
     kinds_say_no_more(&a.registers, &b.registers) && fillings_say_no_more(&a.fields, &b.fields)
 }
 
@@ -67,21 +79,31 @@ fn meet_fillings(a: &[Filling; 8], b: &[Filling; 8]) -> [Filling; 8]
     fillings
 }
 
-/// The meet of what is known of registers and fields, if there is one.
+/// The meet of what is known apart from the cleanup entries, if the registers have one. What became of the message is taken
+/// from the first.
 fn meet_known(a: &Known, b: &Known) -> Option<Known>
-    ensures some { IfSome result (λ m. (xs ys : List Entry) → xs ≡ ys → IsMeet (known_with m xs) (known_with a.now xs) (known_with b.now ys)) }
+    ensures some { IfSome result (λ m. (xs ys : List Entry) → xs ≡ ys → a.now.delivery ≡ b.now.delivery → IsMeet (known_with m xs) (known_with a.now xs) (known_with b.now ys)) }
     ensures met { IfSome result (λ m. ¬ Unmet a.now.registers b.now.registers) }
     ensures none { result ≡ None → Unmet a.now.registers b.now.registers }
+    ensures byte { IfSome result (λ m. m.states < 256) }
 {
     let registers = meet_kinds(&a.registers, &b.registers)?;
     let fields = meet_fillings(&a.fields, &b.fields);
-    Some(Known { registers, fields })
+    let states = a.states().union(b.states());
+    Some(Known {
+        registers,
+        fields,
+        states,
+        delivery: a.delivery(),
+    })
 }
 
 /// The strongest state that says no more than either. A Why where nothing says no more than both: `RegisterKind` where
-/// two registers have nothing in common, and else `CleanupAtReturn`, where the cleanup entries differ.
+/// two registers have nothing in common, else `CleanupAtReturn` where the cleanup entries differ, and else `MessageAtReturn`,
+/// where the message is here in one and gone in the other.
 pub fn meet<'a>(a: &Shape<'a>, b: &Shape<'_>) -> Result<Shape<'a>, Why>
     ensures ok { IfOk result (λ m. IsMeet m a.now b.now) }
+    ensures byte { IfOk result (λ m. m.states < 256) }
     ensures err { IfErr result (λ why. NoMeet a.now b.now × WhyNoMeet a.now b.now why) }
 {
     let Some(known) = meet_known(&a.known, &b.known) else {
@@ -89,6 +111,9 @@ pub fn meet<'a>(a: &Shape<'a>, b: &Shape<'_>) -> Result<Shape<'a>, Why>
     };
     if !a.has_same_entries(b) {
         return Err(Why::CleanupAtReturn);
+    }
+    if !a.delivery().is_same(b.delivery()) {
+        return Err(Why::MessageAtReturn);
     }
     Ok(a.with_known(known))
 }

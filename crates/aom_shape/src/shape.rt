@@ -6,8 +6,8 @@ ghost use Rattle.aom_shape.specs.Changes.{kept_shape, known_with};
 ghost use Rattle.aom_shape.specs.declared.kind.Filling.TheVariants.{Perhaps};
 
 use crate::piles::{Node, Pile, Piles, are_same, entry_at};
-use crate::{Entry, Filling, Kind, Known};
-use aom_image::{Argument, FieldIndex, Register, Thing};
+use crate::{Delivery, Entry, Filling, Kind, Known};
+use aom_image::{Argument, FieldIndex, Register, States, Thing};
 use std::marker::Model;
 
 /// A state that is kept: its cleanup entries stand among those of its method.
@@ -17,8 +17,8 @@ pub struct Kept {
     pub pile: Pile,
 }
 
-/// What is known where a method stands: its registers, the fields of its object, and the cleanup entries that it has
-/// pushed.
+/// What is known where a method stands: its registers, the fields and the request states of its object, the message in service,
+/// and the cleanup entries that it has pushed.
 #[derive(Drop)]
 pub struct Shape<'a> {
     pub known: Known,
@@ -32,7 +32,7 @@ impl<'a> Model for Shape<'a> {
 
     ghost Value = { ShapeRecord };
 
-    ghost view = { λ s. record { registers = s.known.registers; fields = s.known.fields; entries = entries_of s.nodes.now s.pile } };
+    ghost view = { λ s. record { registers = s.known.registers; fields = s.known.fields; entries = entries_of s.nodes.now s.pile; states = s.known.states; delivery = s.known.delivery } };
 }
 
 impl Kept {
@@ -49,7 +49,7 @@ impl Kept {
 }
 
 impl<'a> Shape<'a> {
-    /// The same with something else known of registers and fields.
+    /// The same with something else known, apart from the cleanup entries.
     pub fn with_known(&self, known: Known) -> Shape<'a>
         ensures { result ≡ known_with known self.now.entries }
     {
@@ -66,7 +66,7 @@ impl<'a> Shape<'a> {
         self.with_known(self.known)
     }
 
-    /// What is known of registers and fields.
+    /// What is known apart from the cleanup entries.
     pub fn known(&self) -> Known
         ensures { known_with result self.now.entries ≡ self.now }
     {
@@ -144,6 +144,27 @@ impl<'a> Shape<'a> {
         ensures { result ≡ set_field self.now number filling }
     {
         self.with_known(self.known.with_field(number, filling))
+    }
+
+    /// The request states in which the object may be.
+    pub fn states(&self) -> States
+        ensures { result.0 ≡ self.now.states }
+    {
+        self.known.states()
+    }
+
+    /// The same with other request states.
+    pub fn with_states(&self, states: States) -> Shape<'a>
+        ensures { result ≡ record self.now { states = states.0 } }
+    {
+        self.with_known(self.known.with_states(states))
+    }
+
+    /// What became of the message in service.
+    pub fn delivery(&self) -> Delivery
+        ensures { result ≡ self.now.delivery }
+    {
+        self.known.delivery()
     }
 
     /// No register owns, and none perhaps owns.

@@ -14,7 +14,7 @@ use Rattle.aom_sound.proofs.Straight.{Fitted, next_unowning, settle, stepped, wr
 use Rattle.aom_sound.specs.Calls.{called, result_register}
 use Rattle.aom_sound.specs.Claims.{Dispatching, Layer, Mark, Method, Unwinding, claim, declared, forms, items_of, objects, tasks_of}
 use Rattle.aom_sound.specs.Cleanup.{arrived, code_told}
-use Rattle.aom_sound.specs.Places.{Cell, Elsewhere, Entry, Field, Going, Place, Register, Root, held}
+use Rattle.aom_sound.specs.Places.{Cell, Elsewhere, Entry, Field, Going, Place, Register, Root, held, seen}
 use Rattle.aom_sound.specs.State.{Dispatch, Frame, Item, Main_left, Of_main, State, Static, next, set_word}
 use Rattle.aom_sound.specs.WellTyped.{AllUndo, Awaits, Caught, Fits, Good, Keeps, Stack}
 
@@ -60,14 +60,14 @@ module _ (p : Image) (t : Typing) (s : State) (code : ℤ) (items : List Item) w
       let i = instr_at p fr.method fr.place in
       let c = result_register i in
       let fr' = code_told (called p i) c code fr in
-      let f : Fitted p t s.cells fr sh ls = record { fits = fits; tidy = good.tidy; frames = below.1; housed = below.2; apart = below.3; stack = below.4 } in
+      let f : Fitted p t s.cells fr sh ls = record { fits = fits; suits = good.suits; tidy = good.tidy; frames = below.1; housed = below.2; apart = below.3; stack = below.4 } in
       let g : Fitted p t s.cells fr' (caught gv c sh) ls =
       subst (λ g. Fitted p t s.cells (code_told g c code fr) (caught gv c sh) ls) (sym below.0.0) (told_fitted p t s.cells fr sh ls code gv c f below.0.1 below.0.2) in
       let leads : Leads t fr'.method (suc fr'.place) (caught gv c sh) = subst (λ m. Leads t m.method (suc m.place) (caught gv c sh)) (sym (told_same (called p i) c code fr)) below.0.3 in
       let e = settle p t s.cells (next fr') (caught gv c sh) ls (stepped p t s.cells fr' (caught gv c sh) ls g) leads in
       record { layers = Method (next fr') e.0 ∷ ls; tasks = refl; items = same ∙ ap (λ es. objects es (items_of ls)) (sym (e.2 ∙ same_entries gv c sh)); undos = undos; good = e.1 }
     where
-      fits : (r : Place) → Fits p (held s.cells) (held s.cells r) (claim p (declared p s.cells) (Method fr sh ∷ ls) r)
+      fits : (r : Place) → Fits p (seen s.cells) (held s.cells r) (claim p (declared p s.cells) (Method fr sh ∷ ls) r)
       fits (Register f i) = good.fits (Register f i)
       fits (Entry k) = good.fits (Entry k)
       fits (Field n f) = good.fits (Field n f)
@@ -81,10 +81,10 @@ module _ (p : Image) (t : Typing) (s : State) (code : ℤ) (items : List Item) w
     tasks = refl;
     items = same;
     undos = undos;
-    good = record { stack = (tt, good.stack.1.1.1); fits = fits; tidy = good.tidy };
+    good = record { stack = (tt, good.stack.1.1.1); fits = fits; suits = good.suits; tidy = good.tidy };
   }
     where
-      fits : (r : Place) → Fits p (held s.cells) (held s.cells r) (claim p (declared p s.cells) (Dispatching (Main_left code) ∷ ls) r)
+      fits : (r : Place) → Fits p (seen s.cells) (held s.cells r) (claim p (declared p s.cells) (Dispatching (Main_left code) ∷ ls) r)
       fits (Register f i) = good.fits (Register f i)
       fits (Entry k) = good.fits (Entry k)
       fits (Field n f) = good.fits (Field n f)

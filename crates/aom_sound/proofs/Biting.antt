@@ -2,11 +2,14 @@
 use Rattle.std.proofs.Common.{refl}
 use Rattle.aom_image.specs.Views.{arguments_in, class_at, class_in, fields_in, gives_in, instr_in, method_at, role_in}
 use Rattle.aom_instructions.specs.declared.instr.Instr.TheVariants.{Call, Trap}
+use Rattle.aom_roles.specs.Classes.{kind_in}
+use Rattle.aom_roles.specs.Shapes.{kind_of}
 use Rattle.aom_shape.specs.Things.{words_in}
 use Rattle.aom_sound.specs.Cases.Calls.{CallBites, CallsBite}
 use Rattle.aom_sound.specs.Cases.Cleanup.{CleanupBites}
 use Rattle.aom_sound.specs.Cases.Moves.{MovesBite}
 use Rattle.aom_sound.specs.Cases.Objects.{ObjectsBite}
+use Rattle.aom_sound.specs.Cases.Requests.{RequestsBite}
 use Rattle.aom_sound.specs.Cases.Returns.{ReturnsBite}
 use Rattle.aom_sound.specs.Cases.Words.{WordsBite}
 
@@ -37,6 +40,10 @@ returns_bite = record { given = refl; level = refl; left = refl; owners = refl; 
 pub cleanup_bites : CleanupBites
 unfolding class_at class_in fields_in gives_in instr_in method_at role_in words_in
 cleanup_bites = record { leaves = refl; leave = refl; leave_if = refl; news = refl; refused_new = refl; pushes = refl; operations = refl; pops = refl }
+
+pub requests_bite : RequestsBite
+unfolding class_at gives_in instr_in kind_in kind_of method_at
+requests_bite = record { reading = refl; enlisting = refl; issuing = refl; waiting = refl; aborting = refl }
 
 pub moves_bite : MovesBite
 unfolding class_at class_in fields_in gives_in instr_in method_at role_in

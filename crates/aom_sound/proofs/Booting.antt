@@ -20,7 +20,7 @@ use Rattle.aom_shape.specs.declared.kind.Kind.TheVariants.{Null, Unset}
 use Rattle.aom_sound.proofs.Destroying.{entry_registers, unset_only}
 use Rattle.aom_sound.specs.Claims.{Dispatching, Layer, Mark, Mark_form, Method, claim, declared, entry_claim, forms, objects, tasks_of}
 use Rattle.aom_sound.specs.Laws.{IsWired}
-use Rattle.aom_sound.specs.Places.{Elsewhere, Entry, Field, Going, Object, Place, Register, Root, held}
+use Rattle.aom_sound.specs.Places.{Elsewhere, Entry, Field, Going, Place, Register, Root, Sight, seen}
 use Rattle.aom_sound.specs.State.{A_mark, AtRoot, Frame, Of_main, State, frame_of}
 use Rattle.aom_sound.specs.WellTyped.{AllUndo, Fits, Good, WellTyped, WordFits}
 use Rattle.aom_sound.specs.World.{boot_state, main_tasks}
@@ -29,7 +29,7 @@ abbrev begins : ℕ → Frame
 begins m = frame_of m AtRoot 1
 
 -- main's root is null as it begins
-root_null : (p : Image) (h : Place → Option Object) (x : Option Thing) (y z : Filling) → WeakerFilling y z → is_empty z ≡ true → Fits p h None (filled x y)
+root_null : (p : Image) (h : Sight) (x : Option Thing) (y z : Filling) → WeakerFilling y z → is_empty z ≡ true → Fits p h None (filled x y)
 root_null p h (Some x) Full z alike_filling e = cc
 root_null p h _ _ z w e = tt
 
@@ -40,15 +40,15 @@ module _ (p : Image) (m : ℕ) (after : Shape) (w : SaysNoMore after (entry_shap
   abbrev layers : List Layer
   layers = Method (begins m) after ∷ Mark Nothing ∷ Dispatching Of_main ∷ []
 
-  fits : (r : Place) → Fits p (held []) None (claim p (declared p []) (Method (begins m) after ∷ Mark Nothing ∷ Dispatching Of_main ∷ []) r)
+  fits : (r : Place) → Fits p (seen []) None (claim p (declared p []) (Method (begins m) after ∷ Mark Nothing ∷ Dispatching Of_main ∷ []) r)
   fits (Register f i) = go (length (tasks_of (Mark Nothing ∷ Dispatching Of_main ∷ [])) == f)
     where
-      go : (b : Bool) → Fits p (held []) None (cond b (register after i) Null)
-      go true = subst (λ k. Fits p (held []) None k) (sym (unset i)) tt
+      go : (b : Bool) → Fits p (seen []) None (cond b (register after i) Null)
+      go true = subst (λ k. Fits p (seen []) None k) (sym (unset i)) tt
       go false = tt
-  fits (Entry k) = subst (λ es. Fits p (held []) None (entry_claim es (Mark_form ∷ []) k Null)) (sym w.entries) tt
+  fits (Entry k) = subst (λ es. Fits p (seen []) None (entry_claim es (Mark_form ∷ []) k Null)) (sym w.entries) tt
   fits (Field n f) = tt
-  fits (Elsewhere Root) = root_null p (held []) (field_thing p Program 0) (field after 0) (field (entry_shape p m) 0) (w.fields 0) (ap (λ r. is_empty (at Perhaps (entry_fields r) 0)) role)
+  fits (Elsewhere Root) = root_null p (seen []) (field_thing p Program 0) (field after 0) (field (entry_shape p m) 0) (w.fields 0) (ap (λ r. is_empty (at Perhaps (entry_fields r) 0)) role)
   fits (Going k) = tt
 
   pub good : (t : Typing) → shape_at t m 0 ≡ Some after → gives_of p m ≡ Nothing → Good p t [] (Method (begins m) after ∷ Mark Nothing ∷ Dispatching Of_main ∷ [])
@@ -61,6 +61,7 @@ module _ (p : Image) (m : ℕ) (after : Shape) (w : SaysNoMore after (entry_shap
       ((gives, tt), (refl, refl)),
     );
     fits = fits;
+    suits = λ o lives. cc;
     tidy = tt;
   }
 

@@ -9,6 +9,7 @@ use Rattle.aom_image.specs.declared.method.Argument.TheVariants.{Own as Takes_ow
 use Rattle.aom_image.specs.declared.method.Role.{Role}
 use Rattle.aom_image.specs.declared.method.Role.TheVariants.{Construct, Do, Main}
 use Rattle.aom_image.specs.declared.method.Thing.{Thing}
+use Rattle.aom_image.specs.declared.method.Thing.TheVariants.{Object as An_object_of}
 use Rattle.aom_shape.specs.Arguments.{arguments_moved}
 use Rattle.aom_rules.specs.Calls.{is_among}
 use Rattle.aom_shape.specs.Kinds.{is_own_for, filled, is_ready_kind, is_unowning, none_owns, register, set_register}
@@ -27,9 +28,16 @@ use Rattle.aom_sound.proofs.Maps.{at-put_at, held_moved}
 use Rattle.aom_sound.proofs.Passing.{lower, upper}
 use Rattle.aom_sound.specs.Calls.{passed_cells}
 use Rattle.aom_sound.specs.Claims.{Layer, Method, items_of, tasks_of}
-use Rattle.aom_sound.specs.Places.{Cell, Elsewhere, Entry, Field, Going, Object, Place, Register, Root, held, moved, same_place}
+use Rattle.aom_sound.specs.Places.{Cell, Elsewhere, Entry, Field, Going, Object, Place, Register, Root, Sight, held, moved, same_place}
 use Rattle.aom_sound.specs.State.{Frame, Home, Inside, State, home_holder, thing_holder}
 use Rattle.aom_sound.specs.WellTyped.{Fits, IsBelow}
+use Rattle.aom_sound.specs.Requests.{thing_kind}
+use Rattle.aom_roles.specs.Shapes.{kind_of}
+
+-- the kind of class of what a member is
+pub member_kind : (p : Image) (x : Thing) (k : ℕ) → thing_holder x ≡ Member k → thing_kind p x ≡ kind_of p (Some k)
+member_kind p (An_object_of c) k e = let same : c ≡ k = cc in ap (λ c. kind_of p (Some c)) same
+member_kind p _ k e = cc
 
 -- what a test that is asked for says
 pub only_then : (a b : Bool) → only_if a b ≡ true → a ≡ true → b ≡ true
@@ -53,6 +61,11 @@ pub moved_entries : (xs : List Argument) (first : ℕ) (sh : Shape) → (argumen
 moved_entries [] first sh = refl
 moved_entries (Takes_word ∷ xs) first sh = moved_entries xs (suc first) sh
 moved_entries (Takes_own t ∷ xs) first sh = moved_entries xs (suc first) (set_register sh first Null)
+
+pub moved_states : (xs : List Argument) (first : ℕ) (sh : Shape) → (arguments_moved xs first sh).states ≡ sh.states
+moved_states [] first sh = refl
+moved_states (Takes_word ∷ xs) first sh = moved_states xs (suc first) sh
+moved_states (Takes_own t ∷ xs) first sh = moved_states xs (suc first) (set_register sh first Null)
 
 pub moved_register : (xs : List Argument) (first : ℕ) (sh : Shape) (r : ℕ) → (r < first) ⊎ ((first + length xs) ≤ r) → register (arguments_moved xs first sh) r ≡ register sh r
 moved_register [] first sh r h = refl
@@ -93,7 +106,7 @@ pub own_for : (p : Image) (t : Thing) (k : Kind) → is_own_for p t k ≡ true �
 own_for p t (Own x a) e = (x, a, refl, e)
 own_for p t _ e = cc
 
-pub held_own : (p : Image) (h : Place → Option Object) (o : Option Object) (x : Thing) (a : Age) → Fits p h o (Own x a) → (y : Object) × (o ≡ Some y) × (stands_for p y.thing x ≡ true)
+pub held_own : (p : Image) (h : Sight) (o : Option Object) (x : Thing) (a : Age) → Fits p h o (Own x a) → (y : Object) × (o ≡ Some y) × (stands_for p y.thing x ≡ true)
 held_own p h None x a f = absurd f
 held_own p h (Some y) x a f = (y, refl, f.0)
 
@@ -104,7 +117,7 @@ filled_ready (Some x) Full = refl
 filled_ready (Some x) Perhaps = refl
 
 -- a field of a fresh object
-pub fits_fresh : (p : Image) (h : Place → Option Object) (x : Option Thing) (n f : ℕ) → Fits p h None (filled x (at Perhaps (replicate n Empty) f))
+pub fits_fresh : (p : Image) (h : Sight) (x : Option Thing) (n f : ℕ) → Fits p h None (filled x (at Perhaps (replicate n Empty) f))
 fits_fresh p h (Some x) (suc n) (suc f) = fits_fresh p h (Some x) n f
 fits_fresh p h _ _ _ = tt
 

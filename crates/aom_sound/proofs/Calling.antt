@@ -1,9 +1,9 @@
 -- A method is called, plainly or under a trap: on its caller's own object, on what a register, a field or a cleanup entry owns, or on nothing.
-use Rattle.std.proofs.Common.{Bool, List, None, Option, Some, [], ap, arith, cond, false, inl, inr, length, refl, subst, suc, sym, true, ℕ, ℤ, ◌&&◌, ◌+◌, ◌-◌, ◌<◌, ◌==◌, ◌∙◌, ◌∷◌, ◌≡◌, ◌≤◌}
+use Rattle.std.proofs.Common.{Bool, IsTrue, List, None, Option, Some, [], ap, arith, cond, false, inl, inr, length, refl, subst, suc, sym, true, ℕ, ℤ, ◌&&◌, ◌+◌, ◌-◌, ◌<◌, ◌==◌, ◌∙◌, ◌∷◌, ◌≡◌, ◌≤◌}
 use Rattle.std.proofs.lemmas.Bool.{eq-eqb, eqb-true, ltb-true, ne_eqb, true≢false}
 use Rattle.std.specs.Prelude.{is_none, is_some, map, not, replicate, ◌⊎◌}
 use Rattle.aom_image.specs.Image.{Image}
-use Rattle.aom_image.specs.Views.{arguments_of, gives_of, instr_at, leaves, method_class, method_role}
+use Rattle.aom_image.specs.Views.{arguments_of, gives_of, has, instr_at, leaves, method_class, method_role}
 use Rattle.aom_instructions.specs.declared.instr.Instr.TheVariants.{Call, Trap}
 use Rattle.aom_instructions.specs.declared.instr.Target.{Target}
 use Rattle.aom_instructions.specs.declared.instr.Target.TheVariants.{Entry as On_entry, Field as On_field, Register as On_register, This}
@@ -13,11 +13,12 @@ use Rattle.aom_image.specs.declared.method.Gives.TheVariants.{Left, Nothing}
 use Rattle.aom_image.specs.declared.method.Role.TheVariants.{Construct, Do}
 use Rattle.aom_image.specs.declared.method.Thing.{Thing}
 use Rattle.aom_image.specs.declared.method.Thing.TheVariants.{Object as An_object_of}
-use Rattle.aom_rules.specs.Calls.{age_need, awaits, brought, caught, each_argument, is_among, is_construct, is_target, rule_target, stands_here, while_called}
-use Rattle.aom_shape.specs.Arguments.{arguments_moved, argument_kind, entry_fields, entry_shape}
+use Rattle.aom_rules.specs.Calls.{age_need, awaits, brought, caught, each_argument, is_among, is_target, rule_target, stands_here, while_called}
+use Rattle.aom_rules.specs.Requests.{begins_here, begins_there, is_construct, may_begin, resting, unissued}
+use Rattle.aom_shape.specs.Arguments.{after_of, argument_kind, arguments_moved, before_of, entry_fields, entry_shape}
 use Rattle.aom_shape.specs.Kinds.{is_own_for, entry_kind, field, filled, is_fresh_kind, is_object_or_null, is_ready_kind, is_unowning, readied, register, set_register}
 use Rattle.aom_shape.specs.Entries.{readied_at}
-use Rattle.aom_shape.specs.Needs.{AllTrue}
+use Rattle.aom_shape.specs.Needs.{AllTrue, only_if}
 use Rattle.aom_shape.specs.Order.{SaysNoMore, Weaker, WeakerFilling, alike, alike_filling, perhaps_empty, perhaps_full}
 use Rattle.aom_shape.specs.Shape.{Shape}
 use Rattle.aom_shape.specs.Tables.{at}
@@ -30,7 +31,7 @@ use Rattle.aom_shape.specs.declared.kind.Filling.{Filling}
 use Rattle.aom_shape.specs.declared.kind.Filling.TheVariants.{Empty, Full, Perhaps}
 use Rattle.aom_shape.specs.declared.kind.Kind.{Kind}
 use Rattle.aom_shape.specs.declared.kind.Kind.TheVariants.{Null, Own, Unset}
-use Rattle.aom_sound.proofs.Claimed.{Outside, claim_from, claim_register_above, claim_unclaimed, claim_weaker, filled_weaker, fits_weaker, layer_rel, mark_claims, outside_differs, word_fits_weaker}
+use Rattle.aom_sound.proofs.Claimed.{Outside, OwnsNoMore, claim_from, claim_register_above, claim_unclaimed, claim_weaker, filled_weaker, fits_weaker, layer_rel, mark_claims, outside_differs, word_fits_weaker}
 use Rattle.aom_sound.proofs.Destroying.{Untouched, at_alike, eqb_comm, other_name, untouched, untouched_method}
 use Rattle.aom_sound.proofs.Finishing.{all_join, all_parts, none_owns_at}
 use Rattle.aom_sound.proofs.Items.{entry_claimed, entry_owns, entry_there, length_each, length_forms, readied_claim, readied_items}
@@ -43,10 +44,15 @@ use Rattle.aom_sound.specs.Calls.{called, entry_place, given_cells, home_at, nee
 use Rattle.aom_sound.specs.Claims.{Layer, Mark, Mark_form, Method, claim, declared, declared_field, entry_claim, forms, home_claim, items_of, layer_claim, objects, root_claim, tasks_of}
 use Rattle.aom_sound.specs.Laws.{IsCalled, IsWired}
 use Rattle.aom_sound.specs.Moves.{does}
-use Rattle.aom_sound.specs.Places.{Cell, Elsewhere, Entry, Field, Going, Object, Place, Register, Root, held, named, same_place}
+use Rattle.aom_sound.specs.Places.{Cell, Elsewhere, Entry, Field, Going, Object, Place, Register, Root, held, named, requested, same_place, seen}
 use Rattle.aom_sound.specs.State.{AtRoot, Choice, Frame, Home, Inside, Run, State, Static, WrongKind, field_place, frame_of, home_holder, thing_holder, word}
-use Rattle.aom_sound.specs.WellTyped.{AllUndo, Awaits, Back, Caught, Fits, Good, Holds, IsApart, IsBelow, IsHoused, IsNoFieldOf, NotIn, Returns, Stack, Stands, Unclaimed, WellTyped, WordFits, WorksOn, by_field}
-use Rattle.aom_sound.proofs.Callees.{apart_from, below_more, filled_ready, fits_fresh, held_own, holder_called, holder_member, holder_static, home_member, moved_entries, moved_register, none_owns_each, only_then, own_for, passed_elsewhere}
+use Rattle.aom_sound.specs.WellTyped.{AllUndo, Awaits, Back, Caught, EndsWell, Fits, Good, Holds, IsApart, IsBelow, IsHoused, IsNoFieldOf, NotIn, Returns, Stack, Stands, Unclaimed, WellTyped, WordFits, WorksOn, by_field}
+use Rattle.aom_sound.proofs.Callees.{apart_from, below_more, filled_ready, fits_fresh, held_own, holder_called, holder_member, holder_static, home_member, member_kind, moved_entries, moved_register, none_owns_each, only_then, own_for, passed_elsewhere}
+use Rattle.aom_sound.specs.Requests.{AllSuit, Suits, Unworked, rests_in, states_claim, thing_kind, works_at}
+use Rattle.aom_roles.specs.Shapes.{kind_of}
+use Rattle.aom_shape.proofs.Sets.{has_itself}
+use Rattle.aom_sound.proofs.Suiting.{same_object, suits_first, suits_less, unworked_rests}
+use Rattle.aom_roles.specs.States.{first_of, states_of}
 
 module _ (p : Image) (t : Typing) (wired : IsWired p) (typed : IsTyped p t) (c : Choice) (s : State) (fr : Frame) (sh : Shape) (ls : List Layer) (at_hand : At p t s fr sh ls) (m first depth height : ℕ) (deep : length (tasks_of ls) < depth) (is_called : IsCalled p m) where
   abbrev xs : List Argument
@@ -71,11 +77,21 @@ module _ (p : Image) (t : Typing) (wired : IsWired p) (typed : IsTyped p t) (c :
   abbrev FieldsBegin : Home → Type 0
   FieldsBegin Static = Unit {0}
   FieldsBegin AtRoot = ⊥
-  FieldsBegin (Inside o from) = (f : ℕ) → Fits p (held cs) (held cs (Field o.name f)) (filled (field_thing p (thing_holder o.thing) f) (field (entry_shape p m) f))
+  FieldsBegin (Inside o from) = (f : ℕ) → Fits p (seen cs) (held cs (Field o.name f)) (filled (field_thing p (thing_holder o.thing) f) (field (entry_shape p m) f))
+
+  -- the object that it works on is in one of the states in which it begins
+  abbrev BeginsWell : Home → Type 0
+  BeginsWell Static = Unit {0}
+  BeginsWell AtRoot = Unit {0}
+  BeginsWell (Inside o from) = Suits (thing_kind p o.thing) (before_of p m) (requested cs o.name) × (thing_kind p o.thing ≡ kind_of p (method_class p m))
+
+  kind_begun : (home : Home) → BeginsWell home → (o : Object) (from : Place) → home ≡ Inside o from → thing_kind p o.thing ≡ kind_of p (method_class p m)
+  kind_begun (Inside x q) b o from e = let same : x ≡ o = cc in subst (λ y. thing_kind p y.thing ≡ kind_of p (method_class p m)) same b.1
+  kind_begun _ b o from e = cc
 
   -- the caller while the call lasts, and the home of the method called
-  record Entering (home : Home) (sh' : Shape) : Type 0 where
-    fits : (r : Place) → Fits p (held cs) (held cs r) (filling p t fr ls depth deep (declared p cs) regs sh' r)
+  record Entering (ended : ℕ) (home : Home) (sh' : Shape) : Type 0 where
+    fits : (r : Place) → Fits p (seen cs) (held cs r) (filling p t fr ls depth deep (declared p cs) regs sh' r)
     words : (i : ℕ) → WordFits (word fr i) (register sh' i)
     housed : IsHoused p cs (Method fr sh' ∷ ls) home
     apart : IsApart p home (Method fr sh' ∷ ls)
@@ -83,6 +99,10 @@ module _ (p : Image) (t : Typing) (wired : IsWired p) (typed : IsTyped p t) (c :
     owning : (i : ℕ) → is_unowning (register sh' i) ≡ is_unowning (register after_arguments i)
     items : objects sh'.entries (items_of ls) ≡ objects sh.entries (items_of ls)
     fields : FieldsBegin home
+    suits : (x : Object) → named cs x.name ≡ Some x → works_at x.name home ≡ false → Suits (thing_kind p x.thing) (states_claim p x (Method fr sh' ∷ ls)) (requested cs x.name)
+    begun : BeginsWell home
+    -- the caller's own object will be in one of these states
+    settles : (o : Object) (from : Place) → home ≡ Inside o from → works_at o.name fr.home ≡ true → sh'.states ≡ ended
 
   module _ (passed : Passed p t fr ls depth deep cs after_arguments regs ws) where
     -- what is claimed with the called method over its caller
@@ -90,40 +110,51 @@ module _ (p : Image) (t : Typing) (wired : IsWired p) (typed : IsTyped p t) (c :
     claims_over home after sh' r = layer_claim p (Method (callee home) after) depth [] r (claim p (declared p cs) (Method fr sh' ∷ ls) r)
 
     -- the first state of the called method over its caller
-    begins : (home : Home) (sh' : Shape) → Entering home sh' → (after : Shape) → SaysNoMore after (entry_shape p m) → (r : Place) → Fits p (held cs) (held cs r) (claims_over home after sh' r)
+    begins : {ended : ℕ} (home : Home) (sh' : Shape) → Entering ended home sh' → (after : Shape) → SaysNoMore after (entry_shape p m) → (r : Place) → Fits p (seen cs) (held cs r) (claims_over home after sh' r)
     begins home sh' e after w (Register f i) = go (depth == f) (e.fits (Register f i))
       where
-        go : (b : Bool) → Fits p (held cs) (held cs (Register f i)) (cond b (at Unset regs i) (claim p (declared p cs) (Method fr sh' ∷ ls) (Register f i))) → Fits p (held cs) (held cs (Register f i)) (cond b (register after i) (claim p (declared p cs) (Method fr sh' ∷ ls) (Register f i)))
-        go true h = fits_weaker p (held cs) (held cs (Register f i)) (w.registers i) h
+        go : (b : Bool) → Fits p (seen cs) (held cs (Register f i)) (cond b (at Unset regs i) (claim p (declared p cs) (Method fr sh' ∷ ls) (Register f i))) → Fits p (seen cs) (held cs (Register f i)) (cond b (register after i) (claim p (declared p cs) (Method fr sh' ∷ ls) (Register f i)))
+        go true h = fits_weaker p (seen cs) (held cs (Register f i)) (w.registers i) h
         go false h = h
-    begins home sh' e after w (Entry k) = subst (λ es. Fits p (held cs) (held cs (Entry k)) (claims_over Static (record after { entries = es }) sh' (Entry k))) (sym w.entries) (e.fits (Entry k))
+    begins home sh' e after w (Entry k) = subst (λ es. Fits p (seen cs) (held cs (Entry k)) (claims_over Static (record after { entries = es }) sh' (Entry k))) (sym w.entries) (e.fits (Entry k))
     begins home sh' e after w (Field n f) = go home e.fields
       where
-        go : (home : Home) → FieldsBegin home → Fits p (held cs) (held cs (Field n f)) (home_claim p home after n f (claim p (declared p cs) (Method fr sh' ∷ ls) (Field n f)))
+        go : (home : Home) → FieldsBegin home → Fits p (seen cs) (held cs (Field n f)) (home_claim p home after n f (claim p (declared p cs) (Method fr sh' ∷ ls) (Field n f)))
         go Static b = e.fits (Field n f)
         go AtRoot b = absurd b
         go (Inside o from) b = inside (o.name == n) refl
           where
-            inside : (x : Bool) → (o.name == n) ≡ x → Fits p (held cs) (held cs (Field n f)) (cond x (filled (field_thing p (thing_holder o.thing) f) (field after f)) (claim p (declared p cs) (Method fr sh' ∷ ls) (Field n f)))
-            inside true same = subst (λ m. Fits p (held cs) (held cs (Field m f)) (filled (field_thing p (thing_holder o.thing) f) (field after f))) (eqb-true o.name n same)
-                (fits_weaker p (held cs) (held cs (Field o.name f)) (filled_weaker (field_thing p (thing_holder o.thing) f) (w.fields f)) (b f))
+            inside : (x : Bool) → (o.name == n) ≡ x → Fits p (seen cs) (held cs (Field n f)) (cond x (filled (field_thing p (thing_holder o.thing) f) (field after f)) (claim p (declared p cs) (Method fr sh' ∷ ls) (Field n f)))
+            inside true same = subst (λ m. Fits p (seen cs) (held cs (Field m f)) (filled (field_thing p (thing_holder o.thing) f) (field after f))) (eqb-true o.name n same)
+                (fits_weaker p (seen cs) (held cs (Field o.name f)) (filled_weaker (field_thing p (thing_holder o.thing) f) (w.fields f)) (b f))
             inside false other = e.fits (Field n f)
     begins home sh' e after w (Elsewhere Root) = go home e.fields
       where
-        go : (home : Home) → FieldsBegin home → Fits p (held cs) (held cs (Elsewhere Root)) (claims_over home after sh' (Elsewhere Root))
+        go : (home : Home) → FieldsBegin home → Fits p (seen cs) (held cs (Elsewhere Root)) (claims_over home after sh' (Elsewhere Root))
         go Static b = e.fits (Elsewhere Root)
         go AtRoot b = absurd b
         go (Inside o from) b = e.fits (Elsewhere Root)
     begins home sh' e after w (Going k) = e.fits (Going k)
 
+    -- all other objects are as they were
+    begun_suits : (home : Home) (over : List Layer) (after : Shape) → IsTrue (has after.states (before_of p m)) → IsHoused p cs over home → BeginsWell home → ((x : Object) → named cs x.name ≡ Some x → works_at x.name home ≡ false → Suits (thing_kind p x.thing) (states_claim p x over) (requested cs x.name)) → AllSuit p cs (Method (callee home) after ∷ over)
+    begun_suits Static over after w h b s x lives = s x lives refl
+    begun_suits AtRoot over after w h b s x lives = s x lives refl
+    begun_suits (Inside o from) over after w h b s x lives = inner (o.name == x.name) refl
+      where
+        inner : (y : Bool) → (o.name == x.name) ≡ y → Suits (thing_kind p x.thing) (cond y after.states (states_claim p x over)) (requested cs x.name)
+        inner true e = subst (λ z. Suits (thing_kind p z.thing) after.states (requested cs z.name)) (same_object cs o x h.lives lives e) (suits_less (thing_kind p o.thing) after.states (before_of p m) (requested cs o.name) w b.0)
+        inner false e = s x lives e
+
     -- so it is entered, over these layers, which claim what the caller claims
-    enter : (home : Home) (sh' : Shape) (over : List Layer) → Entering home sh' → length (tasks_of over) ≡ depth → length (items_of over) ≡ height → ((d : Place → Kind) (r : Place) → claim p d over r ≡ claim p d (Method fr sh' ∷ ls) r) → IsHoused p cs over home → IsApart p home over → Stack p t cs (Returns m home) over → (s' : State) → s'.cells ≡ cs → s'.tasks ≡ Run (callee home) ∷ tasks_of over → forms s'.items ≡ items_of over → AllUndo p s'.items → WellTyped p t s'
-    enter home sh' over e at_depth high same housed apart stack s' cells tasks items undos =
+    enter : {ended : ℕ} (home : Home) (sh' : Shape) (over : List Layer) → Entering ended home sh' → length (tasks_of over) ≡ depth → length (items_of over) ≡ height → ((d : Place → Kind) (r : Place) → claim p d over r ≡ claim p d (Method fr sh' ∷ ls) r) → ((o : Object) → states_claim p o over ≡ states_claim p o (Method fr sh' ∷ ls)) → IsHoused p cs over home → IsApart p home over → Stack p t cs (Returns m home) over → (s' : State) → s'.cells ≡ cs → s'.tasks ≡ Run (callee home) ∷ tasks_of over → forms s'.items ≡ items_of over → AllUndo p s'.items → WellTyped p t s'
+    enter home sh' over e at_depth high same same_states housed apart stack s' cells tasks items undos =
         let leads = typed.entry m is_called.there in
         let w = leads.2 in
         let good : Good p t cs (Method (callee home) leads.0 ∷ over) = record {
           stack = (leads.1, record { words = λ i. word_fits_weaker (at None ws i) (w.registers i) (passed.given i); holder = e.holder; height = sym high }, housed, apart, stack);
-          fits = λ r. subst (λ k. Fits p (held cs) (held cs r) k) (sym (as_begun leads.0 w r)) (begins home sh' e leads.0 w r);
+          fits = λ r. subst (λ k. Fits p (seen cs) (held cs r) k) (sym (as_begun leads.0 w r)) (begins home sh' e leads.0 w r);
+          suits = begun_suits home over leads.0 w.states housed e.begun (λ x lives other. subst (λ k. Suits (thing_kind p x.thing) k (requested cs x.name)) (sym (same_states x)) (e.suits x lives other));
           tidy = passed.tidy;
         } in
         record {
@@ -142,33 +173,36 @@ module _ (p : Image) (t : Typing) (wired : IsWired p) (typed : IsTyped p t) (c :
         as_begun after w (Going k) = same (declared p cs) (Going k)
 
     -- the caller below, while the call lasts
-    caller : (home : Home) (sh' : Shape) (back : Back) → Entering home sh' → Stands p t back fr sh' → Stack p t cs back (Method fr sh' ∷ ls)
+    caller : {ended : ℕ} (home : Home) (sh' : Shape) (back : Back) → Entering ended home sh' → Stands p t back fr sh' → Stack p t cs back (Method fr sh' ∷ ls)
     caller home sh' back e stands = (stands, record { words = e.words; holder = at_hand.good.stack.1.holder; height = at_hand.good.stack.1.height }, passed.housed, at_hand.good.stack.3, passed.stack)
 
     -- the cleanup stack is as it was
-    same_high : (home : Home) (sh' : Shape) → Entering home sh' → forms s.items ≡ items_of (Method fr sh' ∷ ls)
+    same_high : {ended : ℕ} (home : Home) (sh' : Shape) → Entering ended home sh' → forms s.items ≡ items_of (Method fr sh' ∷ ls)
     same_high home sh' e = at_hand.items ∙ sym e.items
 
     -- the fields of an object that is not under construction
-    do_fields : (o : Object) (from : Place) (sh' : Shape) → ((r : Place) → Fits p (held cs) (held cs r) (filling p t fr ls depth deep (declared p cs) regs sh' r)) → named cs o.name ≡ Some o → IsApart p (Inside o from) (Method fr sh' ∷ ls) → method_role p m ≡ Some Do → FieldsBegin (Inside o from)
+    do_fields : (o : Object) (from : Place) (sh' : Shape) → ((r : Place) → Fits p (seen cs) (held cs r) (filling p t fr ls depth deep (declared p cs) regs sh' r)) → named cs o.name ≡ Some o → IsApart p (Inside o from) (Method fr sh' ∷ ls) → method_role p m ≡ Some Do → FieldsBegin (Inside o from)
     do_fields o from sh' fits lives apart role f =
         let x = field_thing p (thing_holder o.thing) f in
         let claims = claim_unclaimed p (declared p cs) (Method fr sh' ∷ ls) o.name f (λ f. filled (field_thing p (thing_holder o.thing) f) Perhaps) apart.2 (ap (λ y. declared_field p y f) lives) in
-        subst (λ y. Fits p (held cs) (held cs (Field o.name f)) (filled x y)) (sym (ap (λ r. at Perhaps (entry_fields r) f) role ∙ at_alike 8 Perhaps f))
-        (subst (λ k. Fits p (held cs) (held cs (Field o.name f)) k) claims (fits (Field o.name f)))
+        subst (λ y. Fits p (seen cs) (held cs (Field o.name f)) (filled x y)) (sym (ap (λ r. at Perhaps (entry_fields r) f) role ∙ at_alike 8 Perhaps f))
+        (subst (λ k. Fits p (seen cs) (held cs (Field o.name f)) k) claims (fits (Field o.name f)))
 
     construct_fields : (o : Object) (from : Place) → ((f : ℕ) → held cs (Field o.name f) ≡ None) → method_role p m ≡ Some Construct → FieldsBegin (Inside o from)
     construct_fields o from null role f =
-        subst (λ y. Fits p (held cs) (held cs (Field o.name f)) (filled (field_thing p (thing_holder o.thing) f) y)) (sym (ap (λ r. at Perhaps (entry_fields r) f) role))
-        (subst (λ y. Fits p (held cs) y (filled (field_thing p (thing_holder o.thing) f) (at Perhaps (replicate 8 Empty) f))) (sym (null f)) (fits_fresh p (held cs) (field_thing p (thing_holder o.thing) f) 8 f))
+        subst (λ y. Fits p (seen cs) (held cs (Field o.name f)) (filled (field_thing p (thing_holder o.thing) f) y)) (sym (ap (λ r. at Perhaps (entry_fields r) f) role))
+        (subst (λ y. Fits p (seen cs) y (filled (field_thing p (thing_holder o.thing) f) (at Perhaps (replicate 8 Empty) f))) (sym (null f)) (fits_fresh p (seen cs) (field_thing p (thing_holder o.thing) f) 8 f))
 
     -- what a target asks, and how the method begins
-    abbrev Answer : Target → Type 0
-    Answer target = AllTrue (needs_target p fr (tasks_of ls) s target (method_class p m) first (length xs)) × Entering (target_home p fr (tasks_of ls) s target (method_class p m)) (while_called target (method_class p m) after_arguments)
+    abbrev Answer : ℕ → Target → Type 0
+    Answer ended target = AllTrue (needs_target p fr (tasks_of ls) s target (method_class p m) first (length xs)) × Entering ended (target_home p fr (tasks_of ls) s target (method_class p m)) (while_called target (method_class p m) ended after_arguments)
 
     -- a static method
-    on_nothing : method_class p m ≡ None → Entering Static after_arguments
-    on_nothing e = record {
+    on_nothing : (ended : ℕ) → method_class p m ≡ None → Entering ended Static after_arguments
+    on_nothing ended e = record {
+      suits = λ x lives other. passed.suits x lives;
+      begun = tt;
+      settles = λ o from e w. cc;
       fits = passed.fits;
       words = passed.words;
       housed = tt;
@@ -179,11 +213,29 @@ module _ (p : Image) (t : Typing) (wired : IsWired p) (typed : IsTyped p t) (c :
       fields = tt;
     }
 
-    abbrev worked : Shape
-    worked = record after_arguments { fields = replicate 8 Perhaps }
+    -- how it begins on an object on which no layer works
+    well_begun :
+        (o : Object) → named cs o.name ≡ Some o → Unworked o.name (Method fr after_arguments ∷ ls) → thing_kind p o.thing ≡ kind_of p (method_class p m) → begins_there p m ≡ true →
+        (method_role p m ≡ Some Do) ⊎ ((method_role p m ≡ Some Construct) × (requested cs o.name ≡ None)) → BeginsWell (Inside o (Elsewhere Root))
+    well_begun o lives u kind may (inl role) =
+        let does_so : IsTrue (has (before_of p m) (resting p (method_class p m))) = ap (λ r. only_if (not (is_construct r)) (has (before_of p m) (resting p (method_class p m)))) (sym role) ∙ may in
+        let rests = subst (λ k. Suits (thing_kind p o.thing) k (requested cs o.name)) (unworked_rests p o (Method fr after_arguments ∷ ls) u) (passed.suits o lives) in
+        (suits_less (thing_kind p o.thing) (before_of p m) (rests_in p o) (requested cs o.name) (subst (λ k. IsTrue (has (before_of p m) (states_of k))) (sym kind) does_so) rests, kind)
+    well_begun o lives u kind may (inr w) =
+        (subst (λ k. Suits (thing_kind p o.thing) k (requested cs o.name)) (ap first_of kind ∙ sym (is_called.begins w.0)) (suits_first (thing_kind p o.thing) (requested cs o.name) w.1), kind)
 
-    opened : SaysNoMore worked after_arguments
-    opened = record { registers = λ i. alike; fields = λ i. subst (λ x. WeakerFilling x (field after_arguments i)) (sym (at_alike 8 Perhaps i)) (any (field after_arguments i)); entries = refl }
+    target_kind : (y : ℕ) (x : Object) (z : Thing) → method_class p m ≡ Some y → stands_for p x.thing z ≡ true → stands_for p z (An_object_of y) ≡ true → thing_kind p x.thing ≡ kind_of p (method_class p m)
+    target_kind y x z class a b = ap (thing_kind p) (stands_same p x.thing (An_object_of y) (stands_along p x.thing z (An_object_of y) a b)) ∙ ap (kind_of p) (sym class)
+
+    -- it is not the caller's own
+    settles_not : (ended : ℕ) (sh' : Shape) (o : Object) (q : Place) → works_at o.name fr.home ≡ false → (x : Object) (from : Place) → Inside o q ≡ Inside x from → works_at x.name fr.home ≡ true → sh'.states ≡ ended
+    settles_not ended sh' o q off x from e w = let same : o ≡ x = cc in absurd (true≢false (sym w ∙ ap (λ y. works_at y.name fr.home) (sym same) ∙ off))
+
+    abbrev worked : ℕ → Shape
+    worked ended = record after_arguments { fields = replicate 8 Perhaps; states = ended }
+
+    opened : (ended : ℕ) → OwnsNoMore (worked ended) after_arguments
+    opened ended = record { registers = λ i. alike; fields = λ i. subst (λ x. WeakerFilling x (field after_arguments i)) (sym (at_alike 8 Perhaps i)) (any (field after_arguments i)); entries = refl }
       where
         any : (x : Filling) → WeakerFilling Perhaps x
         any Empty = perhaps_empty
@@ -191,28 +243,43 @@ module _ (p : Image) (t : Typing) (wired : IsWired p) (typed : IsTyped p t) (c :
         any Perhaps = alike_filling
 
     -- a method of the caller's own object
-    on_own : (k : ℕ) (o : Object) (from : Place) → fr.home ≡ Inside o from → thing_holder o.thing ≡ Member k → method_class p m ≡ Some k → method_role p m ≡ Some Do → Entering (Inside o from) worked
-    on_own k o from eh member class role =
+    on_own : (ended : ℕ) (k : ℕ) (o : Object) (from : Place) → fr.home ≡ Inside o from → thing_holder o.thing ≡ Member k → method_class p m ≡ Some k → method_role p m ≡ Some Do → IsTrue (has (before_of p m) after_arguments.states) → Entering ended (Inside o from) (worked ended)
+    on_own ended k o from eh member class role before =
         let holds : Holds p cs ls o from = subst (λ h. IsHoused p cs ls h) eh passed.housed in
         let apart : IsApart p (Inside o from) ls = subst (λ h. IsApart p h ls) eh at_hand.good.stack.3 in
-        let apart' : IsApart p (Inside o from) (Method fr worked ∷ ls) = (apart.0, (subst (λ h. NotIn o.name h) (sym eh) apart.0, apart.1), own_fields) in
-        let fits : (r : Place) → Fits p (held cs) (held cs r) (filling p t fr ls depth deep (declared p cs) regs worked r) =
-        λ r. fits_weaker p (held cs) (held cs r) (layer_rel Weaker (λ k. alike) p (Method taker (taken regs)) depth [] r _ _ (claim_weaker p (declared p cs) fr worked after_arguments ls r opened)) (passed.fits r) in
+        let apart' : IsApart p (Inside o from) (Method fr (worked ended) ∷ ls) = (apart.0, (subst (λ h. NotIn o.name h) (sym eh) apart.0, apart.1), own_fields, inl own_home_works) in
+        let fits : (r : Place) → Fits p (seen cs) (held cs r) (filling p t fr ls depth deep (declared p cs) regs (worked ended) r) =
+        λ r. fits_weaker p (seen cs) (held cs r) (layer_rel Weaker (λ k. alike) p (Method taker (taken regs)) depth [] r _ _ (claim_weaker p (declared p cs) fr (worked ended) after_arguments ls r (opened ended))) (passed.fits r) in
         record {
           fits = fits;
           words = passed.words;
-          housed = record { there = holds.there; lives = holds.lives; below = below_more from fr worked ls holds.below; ready = ap is_ready_kind (claim_from p (λ r. Null) fr o from worked ls eh apart.0 holds.below) ∙ holds.ready };
+          housed = record { there = holds.there; lives = holds.lives; below = below_more from fr (worked ended) ls holds.below; ready = ap is_ready_kind (claim_from p (λ r. Null) fr o from (worked ended) ls eh apart.0 holds.below) ∙ holds.ready };
           apart = apart';
           holder = member ∙ sym (ap (λ c. holder_by (method_role p m) c) class ∙ holder_called (method_role p m) k is_called.role);
           owning = λ i. refl;
           items = ap (λ es. objects es (items_of ls)) (moved_entries xs first sh);
-          fields = do_fields o from worked fits holds.lives apart' role;
+          fields = do_fields o from (worked ended) fits holds.lives apart' role;
+          suits = other_suits;
+          begun = (suits_less (thing_kind p o.thing) (before_of p m) after_arguments.states (requested cs o.name) before (own_suits holds.lives), member_kind p o.thing k member ∙ ap (kind_of p) (sym class));
+          settles = λ x q e w. refl;
         }
       where
-        own_fields : Unclaimed p (λ f. filled (field_thing p (thing_holder o.thing) f) Perhaps) o.name (Method fr worked ∷ ls)
+        own_home_works : works_at o.name fr.home ≡ true
+        own_home_works = ap (λ h. works_at o.name h) eh ∙ eq-eqb o.name _ refl
+
+        own_suits : named cs o.name ≡ Some o → Suits (thing_kind p o.thing) after_arguments.states (requested cs o.name)
+        own_suits lives = subst (λ b. Suits (thing_kind p o.thing) (cond b after_arguments.states (states_claim p o ls)) (requested cs o.name)) own_home_works (passed.suits o lives)
+
+        other_suits : (x : Object) → named cs x.name ≡ Some x → works_at x.name (Inside o from) ≡ false → Suits (thing_kind p x.thing) (states_claim p x (Method fr (worked ended) ∷ ls)) (requested cs x.name)
+        other_suits x lives e =
+            let off : works_at x.name fr.home ≡ false = ap (λ h. works_at x.name h) eh ∙ e in
+            subst (λ b. Suits (thing_kind p x.thing) (cond b ended (states_claim p x ls)) (requested cs x.name)) (sym off)
+            (subst (λ b. Suits (thing_kind p x.thing) (cond b after_arguments.states (states_claim p x ls)) (requested cs x.name)) off (passed.suits x lives))
+
+        own_fields : Unclaimed p (λ f. filled (field_thing p (thing_holder o.thing) f) Perhaps) o.name (Method fr (worked ended) ∷ ls)
         own_fields f =
-            ap (λ h. home_claim p h worked o.name f (claim p (by_field (λ f. filled (field_thing p (thing_holder o.thing) f) Perhaps)) ls (Field o.name f))) eh
-            ∙ ap (λ b. cond b (filled (field_thing p (thing_holder o.thing) f) (field worked f)) (claim p (by_field (λ f. filled (field_thing p (thing_holder o.thing) f) Perhaps)) ls (Field o.name f))) (eq-eqb o.name _ refl)
+            ap (λ h. home_claim p h (worked ended) o.name f (claim p (by_field (λ f. filled (field_thing p (thing_holder o.thing) f) Perhaps)) ls (Field o.name f))) eh
+            ∙ ap (λ b. cond b (filled (field_thing p (thing_holder o.thing) f) (field (worked ended) f)) (claim p (by_field (λ f. filled (field_thing p (thing_holder o.thing) f) Perhaps)) ls (Field o.name f))) (eq-eqb o.name _ refl)
             ∙ ap (λ x. filled (field_thing p (thing_holder o.thing) f) x) (at_alike 8 Perhaps f)
 
     -- where an object stood before the arguments were passed, it stands after
@@ -220,7 +287,7 @@ module _ (p : Image) (t : Typing) (wired : IsWired p) (typed : IsTyped p t) (c :
     stays_at q o lo up there = passed_elsewhere p s fr ls depth deep t xs first 0 s.cells q (λ i le. above i) lo up ∙ there
       where
         above : (i : ℕ) → held s.cells (upper p t fr ls depth deep i) ≡ None
-        above i = fits_unowning p (held s.cells) _ Null refl (subst (λ k. Fits p (held s.cells) (held s.cells (upper p t fr ls depth deep i)) k) (claim_register_above p s.cells (Method fr sh ∷ ls) depth i (omega arith)) (at_hand.good.fits (upper p t fr ls depth deep i)))
+        above i = fits_unowning p (seen s.cells) _ Null refl (subst (λ k. Fits p (seen s.cells) (held s.cells (upper p t fr ls depth deep i)) k) (claim_register_above p s.cells (Method fr sh ∷ ls) depth i (omega arith)) (at_hand.good.fits (upper p t fr ls depth deep i)))
 
     -- what is known of an object on which a method of that class may work
     target_met : (y : ℕ) (o : Option Object) (x : Object) (z : Thing) → o ≡ Some x → stands_for p x.thing z ≡ true → stands_for p z (An_object_of y) ≡ true → AllTrue (needs_target_object p (Some y) o)
@@ -266,10 +333,13 @@ module _ (p : Image) (t : Typing) (wired : IsWired p) (typed : IsTyped p t) (c :
       above i = ap (λ b. b && (i == r)) (ne_eqb depth (length (tasks_of ls)) (λ e. absurd (omega arith)))
 
       owned : (o : Object) × (held s.cells q ≡ Some o) × (stands_for p o.thing z ≡ true)
-      owned = held_own p (held s.cells) (held s.cells q) z a (subst (λ k. Fits p (held s.cells) (held s.cells q) k) kind (kind_fits p t c s fr sh ls at_hand r))
+      owned = held_own p (seen s.cells) (held s.cells q) z a (subst (λ k. Fits p (seen s.cells) (held s.cells q) k) kind (kind_fits p t c s fr sh ls at_hand r))
 
-      on_register : method_role p m ≡ Some Do ⊎ ((method_role p m ≡ Some Construct) × (a ≡ Fresh)) → Entering (Inside owned.0 q) readied_shape
-      on_register ages = record {
+      on_register : (ended : ℕ) → begins_there p m ≡ true → method_role p m ≡ Some Do ⊎ ((method_role p m ≡ Some Construct) × (a ≡ Fresh)) → Entering ended (Inside owned.0 q) readied_shape
+      on_register ended may ages = record {
+        suits = λ x lives other. passed.suits x lives;
+        begun = well_begun owned.0 lives u.unworked (target_kind y owned.0 z class owned.2 for) may (fresh_one ages);
+        settles = settles_not ended readied_shape owned.0 q u.unworked.0;
         fits = fits;
         words = words_kept fr.words after_arguments r (readied (register after_arguments r)) passed.words (subst (λ k. WordFits (word fr r) k) (sym now_ready) (subst (λ k. WordFits (word fr r) k) same_kind (passed.words r)));
         housed = record { there = there; lives = lives; below = omega arith; ready = ap is_ready_kind (claim_register p (λ x. Null) fr readied_shape ls r ∙ at_r ∙ now_ready) };
@@ -289,17 +359,17 @@ module _ (p : Image) (t : Typing) (wired : IsWired p) (typed : IsTyped p t) (c :
           at_r : register readied_shape r ≡ readied (register after_arguments r)
           at_r = at-put_at Unset after_arguments.registers r r (readied (register after_arguments r)) ∙ ap (λ b. cond b (readied (register after_arguments r)) (register after_arguments r)) (eq-eqb r _ refl)
 
-          here_fits : Fits p (held cs) (Some owned.0) (Own z a)
-          here_fits = subst (λ o. Fits p (held cs) o (Own z a)) there (subst (λ k. Fits p (held cs) (held cs q) k) (below_taker ∙ same_kind) (passed.fits q))
+          here_fits : Fits p (seen cs) (Some owned.0) (Own z a)
+          here_fits = subst (λ o. Fits p (seen cs) o (Own z a)) there (subst (λ k. Fits p (seen cs) (held cs q) k) (below_taker ∙ same_kind) (passed.fits q))
             where
               below_taker : filling p t fr ls depth deep (declared p cs) regs after_arguments q ≡ register after_arguments r
               below_taker = ap (λ b. cond b (at Unset regs r) (claim p (declared p cs) (Method fr after_arguments ∷ ls) q)) (ne_eqb depth (length (tasks_of ls)) (λ e. absurd (omega arith))) ∙ claim_register p (declared p cs) fr after_arguments ls r
 
-          fits : (x : Place) → Fits p (held cs) (held cs x) (filling p t fr ls depth deep (declared p cs) regs readied_shape x)
-          fits x = subst (λ k. Fits p (held cs) (held cs x) k) (sym (under p t fr ls depth deep (declared p cs) after_arguments regs r (readied (register after_arguments r)) x)) (go (same_place q x) refl)
+          fits : (x : Place) → Fits p (seen cs) (held cs x) (filling p t fr ls depth deep (declared p cs) regs readied_shape x)
+          fits x = subst (λ k. Fits p (seen cs) (held cs x) k) (sym (under p t fr ls depth deep (declared p cs) after_arguments regs r (readied (register after_arguments r)) x)) (go (same_place q x) refl)
             where
-              go : (b : Bool) → same_place q x ≡ b → Fits p (held cs) (held cs x) (cond b (readied (register after_arguments r)) (filling p t fr ls depth deep (declared p cs) regs after_arguments x))
-              go true e = subst (λ k. Fits p (held cs) (held cs x) k) (sym now_ready) (subst (λ w. Fits p (held cs) w (Own z Ready)) (sym (ap (λ w. held cs w) (sym (same_place-true q x e)) ∙ there)) (owned.2, tt))
+              go : (b : Bool) → same_place q x ≡ b → Fits p (seen cs) (held cs x) (cond b (readied (register after_arguments r)) (filling p t fr ls depth deep (declared p cs) regs after_arguments x))
+              go true e = subst (λ k. Fits p (seen cs) (held cs x) k) (sym now_ready) (subst (λ w. Fits p (seen cs) w (Own z Ready)) (sym (ap (λ w. held cs w) (sym (same_place-true q x e)) ∙ there)) (owned.2, tt))
               go false e = passed.fits x
 
           u : Untouched p (λ f. filled (field_thing p (thing_holder owned.0.thing) f) Perhaps) owned.0.name (Method fr readied_shape ∷ ls)
@@ -307,7 +377,7 @@ module _ (p : Image) (t : Typing) (wired : IsWired p) (typed : IsTyped p t) (c :
               (untouched p t cs q owned.0 passed.tidy there (λ f. filled (field_thing p (thing_holder owned.0.thing) f) Perhaps) ls (Returns fr.method fr.home) (omega arith) passed.stack)
 
           apart_so : IsApart p (Inside owned.0 q) (Method fr readied_shape ∷ ls)
-          apart_so = (tt, u.none_in, u.unclaimed)
+          apart_so = (tt, u.none_in, u.unclaimed, inr u.unworked)
 
           owning : (i : ℕ) → is_unowning (register readied_shape i) ≡ is_unowning (register after_arguments i)
           owning i = ap is_unowning (at-put_at Unset after_arguments.registers r i (readied (register after_arguments r))) ∙ go (r == i) refl
@@ -316,9 +386,13 @@ module _ (p : Image) (t : Typing) (wired : IsWired p) (typed : IsTyped p t) (c :
               go true e = ap is_unowning now_ready ∙ sym (ap (λ j. is_unowning (register after_arguments j)) (sym (eqb-true r i e)) ∙ ap is_unowning same_kind)
               go false e = refl
 
+          fresh_one : method_role p m ≡ Some Do ⊎ ((method_role p m ≡ Some Construct) × (a ≡ Fresh)) → (method_role p m ≡ Some Do) ⊎ ((method_role p m ≡ Some Construct) × (requested cs owned.0.name ≡ None))
+          fresh_one (inl role) = inl role
+          fresh_one (inr w) = inr (w.0, (subst (λ a. Fits p (seen cs) (Some owned.0) (Own z a)) w.1 here_fits).1.1)
+
           begun : method_role p m ≡ Some Do ⊎ ((method_role p m ≡ Some Construct) × (a ≡ Fresh)) → FieldsBegin (Inside owned.0 q)
           begun (inl role) = do_fields owned.0 q readied_shape fits lives apart_so role
-          begun (inr w) = construct_fields owned.0 q (subst (λ a. Fits p (held cs) (Some owned.0) (Own z a)) w.1 here_fits).1 w.0
+          begun (inr w) = construct_fields owned.0 q (subst (λ a. Fits p (seen cs) (Some owned.0) (Own z a)) w.1 here_fits).1.0 w.0
 
     -- what a field owns
     module _ (f y : ℕ) (class : method_class p m ≡ Some y) (z : Thing) (a : Age) (kind : filled (field_thing p (home_holder fr.home) f) (field sh f) ≡ Own z a) (for : stands_for p z (An_object_of y) ≡ true) (some : is_some (field_thing p (home_holder fr.home) f) ≡ true) (role : method_role p m ≡ Some Do) where
@@ -331,10 +405,13 @@ module _ (p : Image) (t : Typing) (wired : IsWired p) (typed : IsTyped p t) (c :
       aside_field (Inside o from) i j = refl
 
       kept_in : (o : Object) × (held s.cells spot ≡ Some o) × (stands_for p o.thing z ≡ true)
-      kept_in = held_own p (held s.cells) (held s.cells spot) z a (subst (λ k. Fits p (held s.cells) (held s.cells spot) k) kind (field_fits p t c s fr sh ls at_hand f some))
+      kept_in = held_own p (seen s.cells) (held s.cells spot) z a (subst (λ k. Fits p (seen s.cells) (held s.cells spot) k) kind (field_fits p t c s fr sh ls at_hand f some))
 
-      on_field : Entering (Inside kept_in.0 spot) after_arguments
-      on_field = record {
+      on_field : (ended : ℕ) → begins_there p m ≡ true → Entering ended (Inside kept_in.0 spot) after_arguments
+      on_field ended may = record {
+        suits = λ x lives other. passed.suits x lives;
+        begun = well_begun kept_in.0 lives u.unworked (target_kind y kept_in.0 z class kept_in.2 for) may (inl role);
+        settles = settles_not ended after_arguments kept_in.0 spot u.unworked.0;
         fits = passed.fits;
         words = passed.words;
         housed = record { there = there; lives = lives; below = below fr.home refl; ready = ap is_ready_kind (claim_field p (λ x. Null) fr after_arguments ls fr.home f refl some) ∙ filled_ready _ _ };
@@ -371,7 +448,7 @@ module _ (p : Image) (t : Typing) (wired : IsWired p) (typed : IsTyped p t) (c :
               eqb_comm kept_in.0.name x.name ∙ other_name p t cs spot kept_in.0 passed.tidy there from x holds.there (outside_differs spot from ls outside (field_not_from p t c s fr sh ls at_hand fr.home f refl x from e) holds.below)
 
           apart_so : IsApart p (Inside kept_in.0 spot) (Method fr after_arguments ∷ ls)
-          apart_so = (no_field_of fr.home refl, u.none_in, u.unclaimed)
+          apart_so = (no_field_of fr.home refl, u.none_in, u.unclaimed, inr u.unworked)
 
     -- a construct method works on a fresh one
     ages : (k : Kind) (z : Thing) (a : Age) → k ≡ Own z a → (method_role p m ≡ Some Do) ⊎ ((method_role p m ≡ Some Construct) × (is_fresh_kind k ≡ true)) → (method_role p m ≡ Some Do) ⊎ ((method_role p m ≡ Some Construct) × (a ≡ Fresh))
@@ -412,10 +489,13 @@ module _ (p : Image) (t : Typing) (wired : IsWired p) (typed : IsTyped p t) (c :
           ∙ ap (λ es. cond (index == j) (Own z Ready) (entry_claim es (items_of ls) j (claim p d ls (Entry j)))) (sym same_entries)
 
       piled : (o : Object) × (held s.cells pile ≡ Some o) × (stands_for p o.thing z ≡ true)
-      piled = held_own p (held s.cells) (held s.cells pile) z a (subst (λ k. Fits p (held s.cells) (held s.cells pile) k) (claimed (declared p s.cells) ∙ kind) (at_hand.good.fits pile))
+      piled = held_own p (seen s.cells) (held s.cells pile) z a (subst (λ k. Fits p (seen s.cells) (held s.cells pile) k) (claimed (declared p s.cells) ∙ kind) (at_hand.good.fits pile))
 
-      on_entry : method_role p m ≡ Some Do ⊎ ((method_role p m ≡ Some Construct) × (a ≡ Fresh)) → Entering (Inside piled.0 pile) readied_pile
-      on_entry ages = record {
+      on_entry : (ended : ℕ) → begins_there p m ≡ true → method_role p m ≡ Some Do ⊎ ((method_role p m ≡ Some Construct) × (a ≡ Fresh)) → Entering ended (Inside piled.0 pile) readied_pile
+      on_entry ended may ages = record {
+        suits = λ x lives other. passed.suits x lives;
+        begun = well_begun piled.0 lives u.unworked (target_kind y piled.0 z class piled.2 for) may (fresh_one ages);
+        settles = settles_not ended readied_pile piled.0 pile u.unworked.0;
         fits = fits;
         words = passed.words;
         housed = record { there = there; lives = lives; below = omega (arith, high, within, length_each sh.entries (items_of ls), ap length same_items); ready = ap is_ready_kind (anew (λ x. Null) index ∙ ap (λ b. cond b (Own z Ready) (claim p (λ x. Null) (Method fr after_arguments ∷ ls) pile)) (eq-eqb index _ refl)) };
@@ -435,24 +515,24 @@ module _ (p : Image) (t : Typing) (wired : IsWired p) (typed : IsTyped p t) (c :
           lives : named cs piled.0.name ≡ Some piled.0
           lives = held_lives cs pile piled.0 passed.tidy there
 
-          here_fits : Fits p (held cs) (Some piled.0) (Own z a)
-          here_fits = subst (λ o. Fits p (held cs) o (Own z a)) there
-              (subst (λ k. Fits p (held cs) (held cs pile) k) (ap (λ es. entry_claim es (items_of ls) index (claim p (declared p cs) ls pile)) same_entries ∙ claimed (declared p cs) ∙ kind) (passed.fits pile))
+          here_fits : Fits p (seen cs) (Some piled.0) (Own z a)
+          here_fits = subst (λ o. Fits p (seen cs) o (Own z a)) there
+              (subst (λ k. Fits p (seen cs) (held cs pile) k) (ap (λ es. entry_claim es (items_of ls) index (claim p (declared p cs) ls pile)) same_entries ∙ claimed (declared p cs) ∙ kind) (passed.fits pile))
 
-          fits : (x : Place) → Fits p (held cs) (held cs x) (filling p t fr ls depth deep (declared p cs) regs readied_pile x)
+          fits : (x : Place) → Fits p (seen cs) (held cs x) (filling p t fr ls depth deep (declared p cs) regs readied_pile x)
           fits (Register f i) = passed.fits (Register f i)
-          fits (Entry j) = subst (λ k. Fits p (held cs) (held cs (Entry j)) k) (sym (anew (declared p cs) j)) (go (index == j) refl)
+          fits (Entry j) = subst (λ k. Fits p (seen cs) (held cs (Entry j)) k) (sym (anew (declared p cs) j)) (go (index == j) refl)
             where
-              go : (b : Bool) → (index == j) ≡ b → Fits p (held cs) (held cs (Entry j)) (cond b (Own z Ready) (claim p (declared p cs) (Method fr after_arguments ∷ ls) (Entry j)))
-              go true e = subst (λ w. Fits p (held cs) w (Own z Ready)) (sym (ap (λ n. held cs (Entry n)) (sym (eqb-true index j e)) ∙ there)) (piled.2, tt)
+              go : (b : Bool) → (index == j) ≡ b → Fits p (seen cs) (held cs (Entry j)) (cond b (Own z Ready) (claim p (declared p cs) (Method fr after_arguments ∷ ls) (Entry j)))
+              go true e = subst (λ w. Fits p (seen cs) w (Own z Ready)) (sym (ap (λ n. held cs (Entry n)) (sym (eqb-true index j e)) ∙ there)) (piled.2, tt)
               go false e = passed.fits (Entry j)
-          fits (Field n f) = subst (λ k. Fits p (held cs) (held cs (Field n f)) k) (go fr.home) (passed.fits (Field n f))
+          fits (Field n f) = subst (λ k. Fits p (seen cs) (held cs (Field n f)) k) (go fr.home) (passed.fits (Field n f))
             where
               go : (h : Home) → home_claim p h after_arguments n f (claim p (declared p cs) ls (Field n f)) ≡ home_claim p h readied_pile n f (claim p (declared p cs) ls (Field n f))
               go Static = refl
               go AtRoot = refl
               go (Inside o from) = refl
-          fits (Elsewhere Root) = subst (λ k. Fits p (held cs) (held cs (Elsewhere Root)) k) (go fr.home) (passed.fits (Elsewhere Root))
+          fits (Elsewhere Root) = subst (λ k. Fits p (seen cs) (held cs (Elsewhere Root)) k) (go fr.home) (passed.fits (Elsewhere Root))
             where
               go : (h : Home) → root_claim p h after_arguments (claim p (declared p cs) ls (Elsewhere Root)) ≡ root_claim p h readied_pile (claim p (declared p cs) ls (Elsewhere Root))
               go Static = refl
@@ -465,23 +545,27 @@ module _ (p : Image) (t : Typing) (wired : IsWired p) (typed : IsTyped p t) (c :
               (untouched p t cs pile piled.0 passed.tidy there (λ f. filled (field_thing p (thing_holder piled.0.thing) f) Perhaps) ls (Returns fr.method fr.home) deeper passed.stack)
 
           apart_so : IsApart p (Inside piled.0 pile) (Method fr readied_pile ∷ ls)
-          apart_so = (tt, u.none_in, u.unclaimed)
+          apart_so = (tt, u.none_in, u.unclaimed, inr u.unworked)
+
+          fresh_one : method_role p m ≡ Some Do ⊎ ((method_role p m ≡ Some Construct) × (a ≡ Fresh)) → (method_role p m ≡ Some Do) ⊎ ((method_role p m ≡ Some Construct) × (requested cs piled.0.name ≡ None))
+          fresh_one (inl role) = inl role
+          fresh_one (inr w) = inr (w.0, (subst (λ a. Fits p (seen cs) (Some piled.0) (Own z a)) w.1 here_fits).1.1)
 
           begun : method_role p m ≡ Some Do ⊎ ((method_role p m ≡ Some Construct) × (a ≡ Fresh)) → FieldsBegin (Inside piled.0 pile)
           begun (inl role) = do_fields piled.0 pile readied_pile fits lives apart_so role
-          begun (inr w) = construct_fields piled.0 pile (subst (λ a. Fits p (held cs) (Some piled.0) (Own z a)) w.1 here_fits).1 w.0
+          begun (inr w) = construct_fields piled.0 pile (subst (λ a. Fits p (seen cs) (Some piled.0) (Own z a)) w.1 here_fits).1.0 w.0
 
     -- what a place owns is what the method works on
-    at_home : (q : Place) (o : Object) (sh' : Shape) → held s.cells q ≡ Some o → Entering (Inside o q) sh' → Entering (home_at (held s.cells q) q) sh'
-    at_home q o sh' there g = subst (λ x. Entering (home_at x q) sh') (sym there) g
+    at_home : {ended : ℕ} (q : Place) (o : Object) (sh' : Shape) → held s.cells q ≡ Some o → Entering ended (Inside o q) sh' → Entering ended (home_at (held s.cells q) q) sh'
+    at_home {ended = ended} q o sh' there g = subst (λ x. Entering ended (home_at x q) sh') (sym there) g
 
     -- each kind of target
-    on_this : (k : Option ℕ) → method_class p m ≡ k → AllTrue (rule_target p fr.method sh This (method_class p m) (is_construct (method_role p m)) first (length xs)) → Answer This
-    on_this None e n = (
+    on_this : (ended : ℕ) (k : Option ℕ) → method_class p m ≡ k → AllTrue (rule_target p fr.method sh This (method_class p m) (is_construct (method_role p m)) first (length xs)) → may_begin p m This after_arguments.states ≡ true → Answer ended This
+    on_this ended None e n may = (
       (ap (λ k. works_on p k (home_holder fr.home)) e, tt),
-      subst (λ k. Entering (own_home k fr.home) (while_called This k after_arguments)) (sym e) (on_nothing e),
+      subst (λ k. Entering ended (own_home k fr.home) (while_called This k ended after_arguments)) (sym e) (on_nothing ended e),
     )
-    on_this (Some k) e n = go (method_class p fr.method) refl
+    on_this ended (Some k) e n may = go (method_class p fr.method) refl
       where
         -- the caller works on an object of that class
         does_not_construct : method_role p m ≡ Some Do
@@ -491,7 +575,7 @@ module _ (p : Image) (t : Typing) (wired : IsWired p) (typed : IsTyped p t) (c :
             of (inl r) = r
             of (inr r) = absurd (true≢false (sym n.1.0 ∙ ap (λ x. not (is_construct x)) r))
 
-        go : (own : Option ℕ) → method_class p fr.method ≡ own → Answer This
+        go : (own : Option ℕ) → method_class p fr.method ≡ own → Answer ended This
         go None f = let clash : false ≡ true = sym (ap (λ x. stands_here p x (method_class p m)) f ∙ ap (λ x. stands_here p None x) e) ∙ n.0 in cc
         go (Some y) f =
             let stands : stands_for p (An_object_of y) (An_object_of k) ≡ true = sym (ap (λ x. stands_here p x (method_class p m)) f ∙ ap (λ x. stands_here p (Some y) x) e) ∙ n.0 in
@@ -499,13 +583,13 @@ module _ (p : Image) (t : Typing) (wired : IsWired p) (typed : IsTyped p t) (c :
             let holder : home_holder fr.home ≡ Member y = at_hand.good.stack.1.holder ∙ ap (λ x. holder_by (method_role p fr.method) x) f ∙ holder_member (method_role p fr.method) y (λ r. let clash : Some y ≡ None = sym f ∙ wired.static_main fr.method r in cc) in
             let w = home_member fr.home y holder in (
               (ap (λ k. works_on p k (home_holder fr.home)) e ∙ ap (λ h. works_on p (Some k) h) holder ∙ stands, tt),
-              subst (λ x. Entering (own_home x fr.home) (while_called This x after_arguments)) (sym e)
-                  (subst (λ h. Entering h worked) (sym w.2) (on_own k w.0 w.1 w.2 (w.3 ∙ ap thing_holder same) e does_not_construct)),
+              subst (λ x. Entering ended (own_home x fr.home) (while_called This x ended after_arguments)) (sym e)
+                  (subst (λ h. Entering ended h (worked ended)) (sym w.2) (on_own ended k w.0 w.1 w.2 (w.3 ∙ ap thing_holder same) e does_not_construct (ap (λ c. begins_here p m c after_arguments.states) (sym e) ∙ may))),
             )
 
-    on_owned : (r : ℕ) (k : Option ℕ) → method_class p m ≡ k → AllTrue (rule_target p fr.method sh (On_register r) (method_class p m) (is_construct (method_role p m)) first (length xs)) → Answer (On_register r)
-    on_owned r None e n = let clash : false ≡ true = sym (ap (λ x. is_target p x (register sh r)) e) ∙ n.0 in cc
-    on_owned r (Some y) e n =
+    on_owned : (ended r : ℕ) (k : Option ℕ) → method_class p m ≡ k → AllTrue (rule_target p fr.method sh (On_register r) (method_class p m) (is_construct (method_role p m)) first (length xs)) → begins_there p m ≡ true → Answer ended (On_register r)
+    on_owned ended r None e n may = let clash : false ≡ true = sym (ap (λ x. is_target p x (register sh r)) e) ∙ n.0 in cc
+    on_owned ended r (Some y) e n may =
         let w = own_for p (An_object_of y) (register sh r) (sym (ap (λ x. is_target p x (register sh r)) e) ∙ n.0) in
         let aside = apart_from first (length xs) r n.1.0 in
         let x = owned r y e w.0 w.1 w.2 w.3 aside in (
@@ -513,13 +597,13 @@ module _ (p : Image) (t : Typing) (wired : IsWired p) (typed : IsTyped p t) (c :
             ap is_none (word_of_object (word fr r) (register sh r) (ap is_object_or_null w.2) (at_hand.good.stack.1.words r)),
             all_join (needs_target_object p (method_class p m) (held s.cells (top ls r))) ((not (is_among first (length xs) r), WrongKind) ∷ []) (subst (λ k. AllTrue (needs_target_object p k (held s.cells (top ls r)))) (sym e) (target_met y (held s.cells (top ls r)) x.0 w.0 x.1 x.2 w.3)) (n.1.0, tt),
           ),
-          at_home (top ls r) x.0 (while_called (On_register r) (method_class p m) after_arguments) x.1
-              (on_register r y e w.0 w.1 w.2 w.3 aside (ages (register sh r) w.0 w.1 w.2 (age_of (register sh r) n.1.1))),
+          at_home (top ls r) x.0 (while_called (On_register r) (method_class p m) ended after_arguments) x.1
+              (on_register r y e w.0 w.1 w.2 w.3 aside ended may (ages (register sh r) w.0 w.1 w.2 (age_of (register sh r) n.1.1))),
         )
 
-    on_kept : (f : ℕ) (k : Option ℕ) → method_class p m ≡ k → AllTrue (rule_target p fr.method sh (On_field f) (method_class p m) (is_construct (method_role p m)) first (length xs)) → Answer (On_field f)
-    on_kept f None e n = let clash : false ≡ true = sym (ap (λ x. is_target p x (filled (field_thing p (holder_of p fr.method) f) (field sh f))) e) ∙ n.0 in cc
-    on_kept f (Some y) e n =
+    on_kept : (ended f : ℕ) (k : Option ℕ) → method_class p m ≡ k → AllTrue (rule_target p fr.method sh (On_field f) (method_class p m) (is_construct (method_role p m)) first (length xs)) → begins_there p m ≡ true → Answer ended (On_field f)
+    on_kept ended f None e n may = let clash : false ≡ true = sym (ap (λ x. is_target p x (filled (field_thing p (holder_of p fr.method) f) (field sh f))) e) ∙ n.0 in cc
+    on_kept ended f (Some y) e n may =
         let kind : Kind = filled (field_thing p (home_holder fr.home) f) (field sh f) in
         let same : kind ≡ filled (field_thing p (holder_of p fr.method) f) (field sh f) = ap (λ h. filled (field_thing p h f) (field sh f)) at_hand.good.stack.1.holder in
         let w = own_for p (An_object_of y) kind (ap (λ k. is_own_for p (An_object_of y) k) same ∙ sym (ap (λ x. is_target p x (filled (field_thing p (holder_of p fr.method) f) (field sh f))) e) ∙ n.0) in
@@ -527,7 +611,7 @@ module _ (p : Image) (t : Typing) (wired : IsWired p) (typed : IsTyped p t) (c :
         let does_so = ready (field_thing p (holder_of p fr.method) f) (field sh f) (age_of (filled (field_thing p (holder_of p fr.method) f) (field sh f)) n.1) in
         let x = kept_in f y e w.0 w.1 w.2 w.3 there does_so in (
           (there, subst (λ k. AllTrue (needs_target_object p k (held s.cells (field_place fr.home f)))) (sym e) (target_met y (held s.cells (field_place fr.home f)) x.0 w.0 x.1 x.2 w.3)),
-          at_home (field_place fr.home f) x.0 after_arguments x.1 (on_field f y e w.0 w.1 w.2 w.3 there does_so),
+          at_home (field_place fr.home f) x.0 after_arguments x.1 (on_field f y e w.0 w.1 w.2 w.3 there does_so ended may),
         )
       where
         something : (x : Option Thing) (y : Filling) (z : Thing) (a : Age) → filled x y ≡ Own z a → is_some x ≡ true
@@ -542,9 +626,9 @@ module _ (p : Image) (t : Typing) (wired : IsWired p) (typed : IsTyped p t) (c :
         ready (Some x) Full (inr w) = let clash : false ≡ true = w.1 in cc
         ready (Some x) Perhaps (inr w) = let clash : false ≡ true = w.1 in cc
 
-    on_pushed : (k : ℕ) (c : Option ℕ) → method_class p m ≡ c → AllTrue (rule_target p fr.method sh (On_entry k) (method_class p m) (is_construct (method_role p m)) first (length xs)) → Answer (On_entry k)
-    on_pushed k None e n = let clash : false ≡ true = sym (ap (λ x. is_target p x (entry_kind (at Pushed_operation sh.entries k))) e) ∙ n.1.0 in cc
-    on_pushed k (Some y) e n =
+    on_pushed : (ended k : ℕ) (c : Option ℕ) → method_class p m ≡ c → AllTrue (rule_target p fr.method sh (On_entry k) (method_class p m) (is_construct (method_role p m)) first (length xs)) → begins_there p m ≡ true → Answer ended (On_entry k)
+    on_pushed ended k None e n may = let clash : false ≡ true = sym (ap (λ x. is_target p x (entry_kind (at Pushed_operation sh.entries k))) e) ∙ n.1.0 in cc
+    on_pushed ended k (Some y) e n may =
         let kind : Kind = entry_kind (at Pushed_operation sh.entries k) in
         let within : k < length sh.entries = ltb-true k (length sh.entries) n.0 in
         let w = own_for p (An_object_of y) kind (sym (ap (λ x. is_target p x kind) e) ∙ n.1.0) in
@@ -556,18 +640,18 @@ module _ (p : Image) (t : Typing) (wired : IsWired p) (typed : IsTyped p t) (c :
               subst (λ k'. AllTrue (needs_target_object p k' (held s.cells (entry_place s.items k)))) (sym e) (target_met y (held s.cells (entry_place s.items k)) x.0 w.0 x.1 x.2 w.3),
             ),
           ),
-          at_home (entry_place s.items k) x.0 (while_called (On_entry k) (method_class p m) after_arguments) x.1 (on_entry k y e w.0 w.1 within w.2 w.3 (ages kind w.0 w.1 w.2 (age_of kind n.1.1))),
+          at_home (entry_place s.items k) x.0 (while_called (On_entry k) (method_class p m) ended after_arguments) x.1 (on_entry k y e w.0 w.1 within w.2 w.3 ended may (ages kind w.0 w.1 w.2 (age_of kind n.1.1))),
         )
 
-    answer : (target : Target) → AllTrue (rule_target p fr.method sh target (method_class p m) (is_construct (method_role p m)) first (length xs)) → Answer target
-    answer This n = on_this (method_class p m) refl n
-    answer (On_register r) n = on_owned r (method_class p m) refl n
-    answer (On_field f) n = on_kept f (method_class p m) refl n
-    answer (On_entry k) n = on_pushed k (method_class p m) refl n
+    answer : (ended : ℕ) (target : Target) → AllTrue (rule_target p fr.method sh target (method_class p m) (is_construct (method_role p m)) first (length xs)) → may_begin p m target after_arguments.states ≡ true → Answer ended target
+    answer ended This n may = on_this ended (method_class p m) refl n may
+    answer ended (On_register r) n may = on_owned ended r (method_class p m) refl n may
+    answer ended (On_field f) n may = on_kept ended f (method_class p m) refl n may
+    answer ended (On_entry k) n may = on_pushed ended k (method_class p m) refl n may
 
     -- what the result comes to owns nothing
     result_free : (x : ℕ) → is_unowning (register after_arguments x) ≡ true → is_none (held cs (top ls x)) ≡ true
-    result_free x u = ap is_none (fits_unowning p (held cs) _ (register after_arguments x) u (subst (λ k. Fits p (held cs) (held cs (top ls x)) k)
+    result_free x u = ap is_none (fits_unowning p (seen cs) _ (register after_arguments x) u (subst (λ k. Fits p (seen cs) (held cs (top ls x)) k)
         (ap (λ b. cond b (at Unset regs x) (claim p (declared p cs) (Method fr after_arguments ∷ ls) (top ls x))) (ne_eqb depth (length (tasks_of ls)) (λ e. absurd (omega arith))) ∙ claim_register p (declared p cs) fr after_arguments ls x)
         (passed.fits (top ls x))))
 
@@ -581,30 +665,51 @@ module _ (p : Image) (t : Typing) (wired : IsWired p) (typed : IsTyped p t) (c :
     awaited (Left y) x sh' same a = tt
     awaited _ x sh' same a = same x ∙ a
 
+-- what the caller finds its own object in is no issued request, where neither before nor at the end there is one
+called_unissued : (target : Target) (class : Option ℕ) (ended : ℕ) (sh : Shape) → unissued sh.states ≡ true → unissued ended ≡ true → unissued (while_called target class ended sh).states ≡ true
+called_unissued This (Some c) ended sh u e = e
+called_unissued This None ended sh u e = u
+called_unissued _ class ended sh u e = u
+
+-- under a trap it rests
+rests_under :
+    (p : Image) (m : ℕ) (fr : Frame) (sh : Shape) (home : Home) → ((o : Object) (from : Place) → home ≡ Inside o from → thing_kind p o.thing ≡ kind_of p (method_class p m)) →
+    ((o : Object) (from : Place) → home ≡ Inside o from → works_at o.name fr.home ≡ true → sh.states ≡ resting p (method_class p m)) →
+    (o : Object) (from : Place) → home ≡ Inside o from → works_at o.name fr.home ≡ true → IsTrue (has sh.states (rests_in p o))
+rests_under p m fr sh home kind settles o from e w = subst (λ k. IsTrue (has sh.states k)) (settles o from e w ∙ ap states_of (sym (kind o from e))) (has_itself sh.states)
+
+ends_well : (p : Image) (m : ℕ) (fr : Frame) (sh : Shape) (home : Home) → ((o : Object) (from : Place) → home ≡ Inside o from → works_at o.name fr.home ≡ true → sh.states ≡ after_of p m) → EndsWell p m home fr sh
+ends_well p m fr sh Static e = tt
+ends_well p m fr sh AtRoot e = tt
+ends_well p m fr sh (Inside o from) e = λ w. subst (λ k. IsTrue (has k (after_of p m))) (sym (e o from refl w)) (has_itself (after_of p m))
+
 module _ (p : Image) (t : Typing) (wired : IsWired p) (typed : IsTyped p t) (c : Choice) (s : State) (fr : Frame) (sh : Shape) (ls : List Layer) (at_hand : At p t s fr sh ls) where
   pub law_call : (target : Target) (m first x : ℕ) → instr_at p fr.method fr.place ≡ Some (Call target m first x) → Law p t c s fr sh ls at_hand (Call target m first x)
   law_call target m first x here n leads =
+      let ended = after_of p m in
       let called_so = wired.called fr.method fr.place target m first x here in
       let parts = all_parts (rule_target p fr.method sh target (method_class p m) (is_construct (method_role p m)) first (length (arguments_of p m))) _ n in
       let more = all_parts (each_argument p sh (arguments_of p m) first) _ parts.1.1 in
       let deep : length (tasks_of ls) < suc (length (tasks_of ls)) = omega arith in
       let passed = all_passed p t fr ls depth deep s (arguments_of p m) first 0 s.cells sh [] [] refl more.0 (none_passed p t fr ls depth deep s.cells sh at_hand.good) in
-      let a = answer p t wired typed c s fr sh ls at_hand m first depth height deep called_so passed target parts.0 in
-      let sh' = while_called target (method_class p m) (arguments_moved (arguments_of p m) first sh) in
+      let a = answer p t wired typed c s fr sh ls at_hand m first depth height deep called_so passed ended target parts.0 more.1.0 in
+      let sh' = while_called target (method_class p m) ended (arguments_moved (arguments_of p m) first sh) in
       let at_x : result_register (instr_at p fr.method fr.place) ≡ x = ap result_register here in
       let home = target_home p fr (tasks_of ls) s target (method_class p m) in
       let stands : Stands p t (Returns m home) fr sh' = (
         λ l. (
-          only_then (leaves p m) (leaves p fr.method) more.1.1.1.0 l,
-          none_owns_each sh'.registers (λ i. a.1.owning i ∙ none_owns_at (arguments_moved (arguments_of p m) first sh).registers i (only_then (leaves p m) _ more.1.1.1.1.0 l)),
+          only_then (leaves p m) (leaves p fr.method) more.1.1.1.1.0 l,
+          none_owns_each sh'.registers (λ i. a.1.owning i ∙ none_owns_at (arguments_moved (arguments_of p m) first sh).registers i (only_then (leaves p m) _ more.1.1.1.1.1.0 l)),
+          called_unissued target (method_class p m) ended (arguments_moved (arguments_of p m) first sh) (only_then (leaves p m) _ more.1.1.1.1.1.1.0 l) called_so.ends,
         ),
-        subst (λ y. Awaits (gives_of p m) y sh') (sym at_x) (awaited p t wired typed c s fr sh ls at_hand m first depth height deep called_so passed (gives_of p m) x sh' a.1.owning more.1.1.0),
+        subst (λ y. Awaits (gives_of p m) y sh') (sym at_x) (awaited p t wired typed c s fr sh ls at_hand m first depth height deep called_so passed (gives_of p m) x sh' a.1.owning more.1.1.1.0),
         subst (λ y. Leads t fr.method (suc fr.place) (brought (gives_of p m) y sh')) (sym at_x) leads.0,
+        ends_well p m fr sh' home a.1.settles,
       ) in
       let high = same_high p t wired typed c s fr sh ls at_hand m first depth height deep called_so passed home sh' a.1 in (
         all_join (needs_target p fr (tasks_of ls) s target (method_class p m) first (length (arguments_of p m))) _ a.0
-            (parts.1.0, all_join (needs_each p fr (tasks_of ls) s (arguments_of p m) first) _ (each_met p t c s fr sh ls at_hand (arguments_of p m) first more.0) (result_met p t wired typed c s fr sh ls at_hand m first depth height deep called_so passed (gives_of p m) x more.1.1.0)),
-        enter p t wired typed c s fr sh ls at_hand m first depth height deep called_so passed home sh' (Method fr sh' ∷ ls) a.1 refl (ap length (sym high) ∙ length_forms s.items) (λ d r. refl) a.1.housed a.1.apart (caller p t wired typed c s fr sh ls at_hand m first depth height deep called_so passed home sh' (Returns m home) a.1 stands) (does p c fr (tasks_of ls) s (Call target m first x)) refl refl high at_hand.undos,
+            (parts.1.0, all_join (needs_each p fr (tasks_of ls) s (arguments_of p m) first) _ (each_met p t c s fr sh ls at_hand (arguments_of p m) first more.0) (result_met p t wired typed c s fr sh ls at_hand m first depth height deep called_so passed (gives_of p m) x more.1.1.1.0)),
+        enter p t wired typed c s fr sh ls at_hand m first depth height deep called_so passed home sh' (Method fr sh' ∷ ls) a.1 refl (ap length (sym high) ∙ length_forms s.items) (λ d r. refl) (λ o. refl) a.1.housed a.1.apart (caller p t wired typed c s fr sh ls at_hand m first depth height deep called_so passed home sh' (Returns m home) a.1 stands) (does p c fr (tasks_of ls) s (Call target m first x)) refl refl high at_hand.undos,
       )
     where
       depth : ℕ
@@ -624,42 +729,51 @@ housed_mark p _ Static gv ls h = h
 housed_mark p _ AtRoot gv ls h = h
 housed_mark p _ (Inside o from) gv ls h = record { there = h.there; lives = h.lives; below = below_mark from gv ls h.below; ready = ap is_ready_kind (mark_claims p (λ r. Null) gv ls from) ∙ h.ready }
 
-apart_mark : (p : Image) (home : Home) (gv : Gives) (fr : Frame) (sh : Shape) (ls : List Layer) → IsApart p home (Method fr sh ∷ ls) → IsApart p home (Mark gv ∷ Method fr sh ∷ ls)
-apart_mark p Static gv fr sh ls a = a
-apart_mark p AtRoot gv fr sh ls a = a
-apart_mark p (Inside o from) gv fr sh ls a = a
+apart_mark : (p : Image) (home : Home) (gv : Gives) (fr : Frame) (sh : Shape) (ls : List Layer) → IsApart p home (Method fr sh ∷ ls) → ((o : Object) (from : Place) → home ≡ Inside o from → works_at o.name fr.home ≡ true → IsTrue (has sh.states (rests_in p o))) → IsApart p home (Mark gv ∷ Method fr sh ∷ ls)
+apart_mark p Static gv fr sh ls a r = a
+apart_mark p AtRoot gv fr sh ls a r = a
+apart_mark p (Inside o from) gv fr sh ls a r = (
+  a.0,
+  a.1,
+  a.2,
+  elim a.3 [
+    | inl w ↦ inl (w, r o from refl w)
+    | inr u ↦ inr u
+  ],
+)
 
 module _ (p : Image) (t : Typing) (wired : IsWired p) (typed : IsTyped p t) (c : Choice) (s : State) (fr : Frame) (sh : Shape) (ls : List Layer) (at_hand : At p t s fr sh ls) where
   pub law_trap : (target : Target) (m first x : ℕ) → instr_at p fr.method fr.place ≡ Some (Trap target m first x) → Law p t c s fr sh ls at_hand (Trap target m first x)
   law_trap target m first x here n leads =
+      let ended = resting p (method_class p m) in
       let trapped = wired.trapped fr.method fr.place target m first x here in
-      let called_so : IsCalled p m = record { there = trapped.there; role = inl trapped.role } in
+      let called_so : IsCalled p m = record { there = trapped.there; role = inl trapped.role; ends = trapped.ends; begins = λ e. let clash : Some Do ≡ Some Construct = sym trapped.role ∙ e in cc } in
       let parts = all_parts (rule_target p fr.method sh target (method_class p m) (is_construct (method_role p m)) first (length (arguments_of p m))) _ n.1 in
       let more = all_parts (each_argument p sh (arguments_of p m) first) _ parts.1.1 in
       let deep : length (tasks_of ls) < suc (suc (length (tasks_of ls))) = omega arith in
       let passed = all_passed p t fr ls depth deep s (arguments_of p m) first 0 s.cells sh [] [] refl more.0 (none_passed p t fr ls depth deep s.cells sh at_hand.good) in
-      let a = answer p t wired typed c s fr sh ls at_hand m first depth height deep called_so passed target parts.0 in
-      let sh' = while_called target (method_class p m) (arguments_moved (arguments_of p m) first sh) in
+      let a = answer p t wired typed c s fr sh ls at_hand m first depth height deep called_so passed ended target parts.0 more.1.0 in
+      let sh' = while_called target (method_class p m) ended (arguments_moved (arguments_of p m) first sh) in
       let gv = gives_of p m in
       let at_x : result_register (instr_at p fr.method fr.place) ≡ x = ap result_register here in
       let home = target_home p fr (tasks_of ls) s target (method_class p m) in
       let over = Mark gv ∷ Method fr sh' ∷ ls in
       let stands : Stands p t (Caught gv) fr sh' = (
         ap (λ i. called p i) here,
-        subst (λ y. is_unowning (register sh' (suc y)) ≡ true) (sym at_x) (a.1.owning (suc x) ∙ more.1.1.0),
-        subst (λ y. Awaits gv y sh') (sym at_x) (awaited p t wired typed c s fr sh ls at_hand m first depth height deep called_so passed gv x sh' a.1.owning more.1.0),
+        subst (λ y. is_unowning (register sh' (suc y)) ≡ true) (sym at_x) (a.1.owning (suc x) ∙ more.1.1.1.0),
+        subst (λ y. Awaits gv y sh') (sym at_x) (awaited p t wired typed c s fr sh ls at_hand m first depth height deep called_so passed gv x sh' a.1.owning more.1.1.0),
         subst (λ y. Leads t fr.method (suc fr.place) (caught gv y sh')) (sym at_x) leads.0,
       ) in
       let high = same_high p t wired typed c s fr sh ls at_hand m first depth height deep called_so passed home sh' a.1 in
       let below = caller p t wired typed c s fr sh ls at_hand m first depth height deep called_so passed home sh' (Caught gv) a.1 stands in
-      let free = result_free p t wired typed c s fr sh ls at_hand m first depth height deep called_so passed (suc x) more.1.1.0 in (
+      let free = result_free p t wired typed c s fr sh ls at_hand m first depth height deep called_so passed (suc x) more.1.1.1.0 in (
         all_join (needs_target p fr (tasks_of ls) s target (method_class p m) first (length (arguments_of p m))) _ a.0 (
           parts.1.0,
           all_join (needs_each p fr (tasks_of ls) s (arguments_of p m) first) _ (each_met p t c s fr sh ls at_hand (arguments_of p m) first more.0)
-              (all_join (needs_result p fr (tasks_of ls) s gv (given_cells p fr (tasks_of ls) s (over_trap p fr (tasks_of ls) s) m first) x) _ (result_met p t wired typed c s fr sh ls at_hand m first depth height deep called_so passed gv x more.1.0) (free, tt)),
+              (all_join (needs_result p fr (tasks_of ls) s gv (given_cells p fr (tasks_of ls) s (over_trap p fr (tasks_of ls) s) m first) x) _ (result_met p t wired typed c s fr sh ls at_hand m first depth height deep called_so passed gv x more.1.1.0) (free, tt)),
         ),
-        enter p t wired typed c s fr sh ls at_hand m first depth height deep called_so passed home sh' over a.1 refl (ap suc (ap length (sym high) ∙ length_forms s.items)) (λ d r. mark_claims p d gv (Method fr sh' ∷ ls) r)
-            (housed_mark p (given_cells p fr (tasks_of ls) s (over_trap p fr (tasks_of ls) s) m first) home gv (Method fr sh' ∷ ls) a.1.housed) (apart_mark p home gv fr sh' ls a.1.apart)
+        enter p t wired typed c s fr sh ls at_hand m first depth height deep called_so passed home sh' over a.1 refl (ap suc (ap length (sym high) ∙ length_forms s.items)) (λ d r. mark_claims p d gv (Method fr sh' ∷ ls) r) (λ o. refl)
+            (housed_mark p (given_cells p fr (tasks_of ls) s (over_trap p fr (tasks_of ls) s) m first) home gv (Method fr sh' ∷ ls) a.1.housed) (apart_mark p home gv fr sh' ls a.1.apart (rests_under p m fr sh' home (kind_begun p t wired typed c s fr sh ls at_hand m first depth height deep called_so home a.1.begun) a.1.settles))
             ((refl, trapped.gives), below) (does p c fr (tasks_of ls) s (Trap target m first x)) refl refl (ap (λ fs. Mark_form ∷ fs) high) at_hand.undos,
       )
     where

@@ -30,7 +30,7 @@ use Rattle.aom_sound.specs.Laws.{IsWired}
 use Rattle.aom_sound.specs.Leaves.{AreEntries, AreMethods, Arrives, ArrivesAt, Begins, HasMoved, HasNoResult, HasPushed, Hears, IsBegun, IsDestroyed, IsLeaving, IsOver, LeavesWith}
 use Rattle.aom_sound.specs.Steps.{Fits as MayHave}
 use Rattle.aom_sound.specs.Moves.{announcement, counted, does, main_left, needs, step, step_instr, step_task, written_task}
-use Rattle.aom_sound.specs.Places.{Cell, Entry, Going, Object, Register, held, moved, named, same_place, Place}
+use Rattle.aom_sound.specs.Places.{Cell, Entry, Going, Object, Place, Register, held, moved, named, same_place, seen}
 use Rattle.aom_sound.specs.State.{A_mark, An_object, An_operation, Choice, Dispatch, Dispatched, Frame, Goes, Inside, IsStuck, Item, Main_left, NullOrDead, Of_main, Of_root, Run, State, Task, Trapped, Unwind, frame_of, next, set_word, word}
 use Rattle.aom_sound.specs.WellTyped.{AllUndo, Awaits, EndsDispatch, Fits, Good, Keeps, Leaves, Now, Stack, WellTyped}
 use Rattle.aom_sound.specs.Effects.{Leaves, Update, applied}
@@ -100,8 +100,8 @@ has_moved cs q g o there free apart = record {
 none_pushed_yet : (p : Image) (t : Typing) (s : State) → WellTyped p t s → held s.cells (Entry (length s.items)) ≡ None
 none_pushed_yet p t s w =
     let high : length (items_of w.layers) ≡ length s.items = ap length (sym w.items) ∙ length_forms s.items in
-    fits_unowning p (held s.cells) _ Null refl
-    (subst (λ k. Fits p (held s.cells) (held s.cells (Entry (length s.items))) k) (claim_entry_above p s.cells w.layers (length s.items) (omega (arith, high))) (w.good.fits (Entry (length s.items))))
+    fits_unowning p (seen s.cells) _ Null refl
+    (subst (λ k. Fits p (seen s.cells) (held s.cells (Entry (length s.items))) k) (claim_entry_above p s.cells w.layers (length s.items) (omega (arith, high))) (w.good.fits (Entry (length s.items))))
 
 -- the innermost trap, and the methods over it
 pub record Trapping (ts : List Task) : Type 0 where
@@ -175,8 +175,8 @@ begins p t wired typed c s u w unused fr ts i code at there h e =
 none_on_its_way : (p : Image) (t : Typing) (s : State) → WellTyped p t s → (ts : List Task) → s.tasks ≡ ts → held s.cells (Going (length ts)) ≡ None
 none_on_its_way p t s w ts at =
     let deep : length (tasks_of w.layers) ≡ length ts = ap length (sym w.tasks ∙ at) in
-    fits_unowning p (held s.cells) _ Null refl
-    (subst (λ k. Fits p (held s.cells) (held s.cells (Going (length ts))) k) (claim_going_above p s.cells w.layers (length ts) (omega (arith, deep))) (w.good.fits (Going (length ts))))
+    fits_unowning p (seen s.cells) _ Null refl
+    (subst (λ k. Fits p (seen s.cells) (held s.cells (Going (length ts))) k) (claim_going_above p s.cells w.layers (length ts) (omega (arith, deep))) (w.good.fits (Going (length ts))))
 
 destroyed_over : (d : Option ℕ) (o : Object) (height : ℕ) (under : List Task) → IsDestroyed d o under (begun_by d o height under)
 destroyed_over None o height under = refl
@@ -287,7 +287,7 @@ module _ (p : Image) (t : Typing) (s u : State) (code : ℤ) (items : List Item)
   at_method fr sh ls gv es good = let i = instr_at p fr.method fr.place in ((next (code_told (called p i) (result_register i) code fr), refl, λ target m first c there. by_trap target m first c there), refl, refl)
     where
       free : (r : ℕ) → is_unowning (register sh r) ≡ true → held s.cells (Register (length (tasks_of ls)) r) ≡ None
-      free r unowning = fits_unowning p (held s.cells) _ (register sh r) unowning (subst (λ k. Fits p (held s.cells) (held s.cells (Register (length (tasks_of ls)) r)) k) (claim_register p (declared p s.cells) fr sh ls r) (good.fits (Register (length (tasks_of ls)) r)))
+      free r unowning = fits_unowning p (seen s.cells) _ (register sh r) unowning (subst (λ k. Fits p (seen s.cells) (held s.cells (Register (length (tasks_of ls)) r)) k) (claim_register p (declared p s.cells) fr sh ls r) (good.fits (Register (length (tasks_of ls)) r)))
 
       waits : (called p (instr_at p fr.method fr.place) ≡ gv) × (is_unowning (register sh (suc (result_register (instr_at p fr.method fr.place)))) ≡ true) × Awaits gv (result_register (instr_at p fr.method fr.place)) sh
       waits = (good.stack.1.1.0.0, good.stack.1.1.0.1, good.stack.1.1.0.2)

@@ -19,9 +19,9 @@ use Rattle.aom_shape.specs.declared.kind.Kind.{Kind}
 use Rattle.aom_shape.specs.declared.kind.Kind.TheVariants.{Maybe, Null, Own, Unset}
 use Rattle.aom_sound.proofs.Maps.{at-put_at, held_moved, named_moved, same_place-true, same_place_refl, transfer}
 use Rattle.aom_sound.specs.Claims.{Dispatching, Dying, Form, Layer, Mark, Method, Unwinding, claim, declared, declared_field, entries_of, entry_claim, home_claim, items_of, layer_claim, objects, root_claim, tasks_of}
-use Rattle.aom_sound.specs.Places.{Cell, Elsewhere, Entry, Field, Going, Object, Place, Register, Root, changed, held, moved, named, same_place}
+use Rattle.aom_sound.specs.Places.{Cell, Elsewhere, Entry, Field, Going, Object, Place, Register, Root, Sight, changed, held, moved, named, same_place}
 use Rattle.aom_sound.specs.State.{AtRoot, Frame, Home, Inside, Main_left, Of_main, Of_root, Static, field_place, home_holder, thing_holder}
-use Rattle.aom_sound.specs.WellTyped.{Back, Caught, Fits, Gone, Holds, IsBelow, IsHoused, IsNoFieldOf, Leaves, NoneFrom, NoneIn, NotFrom, NotIn, Returns, Stack, Unclaimed, WordFits, by_field}
+use Rattle.aom_sound.specs.WellTyped.{Back, Caught, Fits, Gone, HasAge, Holds, IsBelow, IsHoused, IsNoFieldOf, Leaves, NoneFrom, NoneIn, NotFrom, NotIn, Returns, Stack, Unclaimed, WordFits, by_field}
 use mathlib.Core.Path.{fun_ext}
 
 -- a frame counts for the claims by its home alone
@@ -106,8 +106,17 @@ filled_weaker (Some c) perhaps_empty = maybe_null
 filled_weaker (Some c) perhaps_full = maybe_own
 filled_weaker _ _ = alike
 
--- what says no more claims no more
-pub claim_weaker : (p : Image) (d : Place → Kind) (fr : Frame) (a b : Shape) (ls : List Layer) (r : Place) → SaysNoMore a b → Weaker (claim p d (Method fr a ∷ ls) r) (claim p d (Method fr b ∷ ls) r)
+-- of what places own the first state says no more than the second
+pub record OwnsNoMore (a b : Shape) : Type 0 where
+  pub registers : (i : ℕ) → Weaker (register a i) (register b i)
+  pub fields : (i : ℕ) → WeakerFilling (field a i) (field b i)
+  pub entries : a.entries ≡ b.entries
+
+pub owns_no_more : (a b : Shape) → SaysNoMore a b → OwnsNoMore a b
+owns_no_more a b w = record { registers = w.registers; fields = w.fields; entries = w.entries }
+
+-- then it claims no more
+pub claim_weaker : (p : Image) (d : Place → Kind) (fr : Frame) (a b : Shape) (ls : List Layer) (r : Place) → OwnsNoMore a b → Weaker (claim p d (Method fr a ∷ ls) r) (claim p d (Method fr b ∷ ls) r)
 claim_weaker p d fr a b ls (Register f i) w = go (length (tasks_of ls) == f)
   where
     go : (x : Bool) → Weaker (cond x (register a i) (claim p d ls (Register f i))) (cond x (register b i) (claim p d ls (Register f i)))
@@ -132,7 +141,7 @@ claim_weaker p d fr a b ls (Elsewhere Root) w = go fr.home
     go (Inside o from) = alike
 claim_weaker p d fr a b ls (Going k) w = alike
 
-pub fits_weaker : (p : Image) (h : Place → Option Object) (o : Option Object) {a b : Kind} → Weaker a b → Fits p h o b → Fits p h o a
+pub fits_weaker : (p : Image) (h : Sight) (o : Option Object) {a b : Kind} → Weaker a b → Fits p h o b → Fits p h o a
 fits_weaker p h o alike f = f
 fits_weaker p h (Some o) maybe_own f = f
 fits_weaker p h (Some o) _ f = absurd f
@@ -143,34 +152,38 @@ word_fits_weaker w unset_word f = tt
 word_fits_weaker w unset_null f = tt
 word_fits_weaker w _ f = f
 
--- fresh cells stay fresh where no field of theirs is filled
-pub fits_age : (p : Image) (h h' : Place → Option Object) (o : Option Object) (k : Kind) → ((x : Object) → o ≡ Some x → is_ready_kind k ≡ false → (f : ℕ) → h (Field x.name f) ≡ None → h' (Field x.name f) ≡ None) → Fits p h o k → Fits p h' o k
-fits_age p h h' (Some o) (Own c Fresh) g f = (f.0, λ i. g o refl refl i (f.1 i))
-fits_age p h h' (Some o) (Maybe c Fresh) g f = (f.0, λ i. g o refl refl i (f.1 i))
+-- fresh cells stay fresh where no field of theirs is filled, and none is enlisted
+pub fits_age : (p : Image) (h h' : Sight) (o : Option Object) (k : Kind) → ((x : Object) → o ≡ Some x → is_ready_kind k ≡ false → HasAge h x Fresh → HasAge h' x Fresh) → Fits p h o k → Fits p h' o k
+fits_age p h h' (Some o) (Own c Fresh) g f = (f.0, g o refl refl f.1)
+fits_age p h h' (Some o) (Maybe c Fresh) g f = (f.0, g o refl refl f.1)
 fits_age p h h' _ _ g f = f
 
 -- a thing and its claim move together
 pub keep_fits :
-    (image : Image) (h h' : Place → Option Object) (k k' : Place → Kind) (p q : Place) →
-    ((r : Place) → h' r ≡ transfer p q h r) →
+    (image : Image) (h h' : Sight) (k k' : Place → Kind) (p q : Place) →
+    ((r : Place) → h'.holds r ≡ transfer p q h.holds r) →
+    ((n : ℕ) → h'.requests n ≡ h.requests n) →
     ((r : Place) → k' r ≡ changed (changed k p Null) q (k p) r) →
-    ((r : Place) (x : Object) → h r ≡ Some x → is_ready_kind (k r) ≡ false → (f : ℕ) → same_place q (Field x.name f) ≡ false) →
-    ((r : Place) → Fits image h (h r) (k r)) →
-    (r : Place) → Fits image h' (h' r) (k' r)
-keep_fits image h h' k k' p q eh ek apart fits r =
-    subst (λ x. Fits image h' x (k' r)) (sym (eh r)) (subst (λ x. Fits image h' (transfer p q h r) x) (sym (ek r)) (go (same_place q r) (same_place p r)))
+    ((r : Place) (x : Object) → h.holds r ≡ Some x → is_ready_kind (k r) ≡ false → (f : ℕ) → same_place q (Field x.name f) ≡ false) →
+    ((r : Place) → Fits image h (h.holds r) (k r)) →
+    (r : Place) → Fits image h' (h'.holds r) (k' r)
+keep_fits image h h' k k' p q eh requests ek apart fits r =
+    subst (λ x. Fits image h' x (k' r)) (sym (eh r)) (subst (λ x. Fits image h' (transfer p q h.holds r) x) (sym (ek r)) (go (same_place q r) (same_place p r)))
   where
-    stays : (s : Place) (x : Object) → h s ≡ Some x → is_ready_kind (k s) ≡ false → (f : ℕ) → h (Field x.name f) ≡ None → h' (Field x.name f) ≡ None
-    stays s x e fresh f n = eh (Field x.name f) ∙ ap (λ b. cond b (h p) (cond (same_place p (Field x.name f)) None (h (Field x.name f)))) (apart s x e fresh f) ∙ ap (λ v. cond (same_place p (Field x.name f)) None v) n ∙ both (same_place p (Field x.name f))
+    null : (s : Place) (x : Object) → h.holds s ≡ Some x → is_ready_kind (k s) ≡ false → (f : ℕ) → h.holds (Field x.name f) ≡ None → h'.holds (Field x.name f) ≡ None
+    null s x e fresh f n = eh (Field x.name f) ∙ ap (λ b. cond b (h.holds p) (cond (same_place p (Field x.name f)) None (h.holds (Field x.name f)))) (apart s x e fresh f) ∙ ap (λ v. cond (same_place p (Field x.name f)) None v) n ∙ both (same_place p (Field x.name f))
       where
         both : (b : Bool) → ◌≡◌ {A = Option Object} (cond b None None) None
         both true = refl
         both false = refl
 
-    go : (b c : Bool) → Fits image h' (cond b (h p) (cond c None (h r))) (cond b (k p) (cond c Null (k r)))
-    go true c = fits_age image h h' (h p) (k p) (stays p) (fits p)
+    stays : (s : Place) (x : Object) → h.holds s ≡ Some x → is_ready_kind (k s) ≡ false → HasAge h x Fresh → HasAge h' x Fresh
+    stays s x e fresh age = (λ f. null s x e fresh f (age.0 f), requests x.name ∙ age.1)
+
+    go : (b c : Bool) → Fits image h' (cond b (h.holds p) (cond c None (h.holds r))) (cond b (k p) (cond c Null (k r)))
+    go true c = fits_age image h h' (h.holds p) (k p) (stays p) (fits p)
     go false true = tt
-    go false false = fits_age image h h' (h r) (k r) (stays r) (fits r)
+    go false false = fits_age image h h' (h.holds r) (k r) (stays r) (fits r)
 
 -- above the layers nothing is claimed
 entries_above : (es : List Pushed) (items : List Form) (k : ℕ) (below : Kind) → length (objects es items) ≤ k → entry_claim es items k below ≡ below

@@ -9,7 +9,8 @@ use Rattle.aom_instructions.specs.declared.instr.Instr.{Instr}
 use Rattle.aom_instructions.specs.declared.instr.Instr.TheVariants.{Call}
 use Rattle.aom_instructions.specs.declared.instr.Target.{Target}
 use Rattle.aom_image.specs.declared.method.Gives.{Gives}
-use Rattle.aom_rules.specs.Calls.{each_argument, is_construct, rule_target}
+use Rattle.aom_rules.specs.Calls.{each_argument, rule_target}
+use Rattle.aom_rules.specs.Requests.{is_construct}
 use Rattle.aom_shape.specs.Kinds.{no_entry}
 use Rattle.aom_shape.specs.Needs.{AllTrue}
 use Rattle.aom_rules.specs.Rules.{rule_needs}
@@ -108,7 +109,7 @@ module _ (p : Image) (wired : IsWired p) (c : Choice) (fr : Frame) (sh : Shape) 
   call_quiet target m first x r =
       let parts = all_parts (rule_target p fr.method sh target (method_class p m) (is_construct (method_role p m)) first (length (arguments_of p m))) _ r in
       let more = all_parts (each_argument p sh (arguments_of p m) first) _ parts.1.1 in
-      only_then (is_quiet p fr.method) (is_quiet p m) more.1.0 h.0
+      only_then (is_quiet p fr.method) (is_quiet p m) more.1.1.0 h.0
 
   acts_kept : (i : Instr) (e : Effect) → Ruled i → Fits p c fr ts s i e → Kept (applied p fr ts s e)
   acts_kept i (Goes_on ch) r f = (h, same_items i ch.update r f.1)

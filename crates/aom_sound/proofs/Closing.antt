@@ -13,13 +13,14 @@ use Rattle.aom_sound.proofs.Straight.{fits_unowning}
 use Rattle.aom_sound.specs.Claims.{Dispatching, Layer, claim, declared, forms, items_of, tasks_of}
 use Rattle.aom_sound.specs.Laws.{IsWired}
 use Rattle.aom_sound.specs.Moves.{closed, dispatch_ends, main_ends, main_left, over, uprooted}
-use Rattle.aom_sound.specs.Places.{Elsewhere, Entry, Field, Going, Object, Place, Register, Root, changed, held, moved}
+use Rattle.aom_sound.specs.Places.{Elsewhere, Entry, Field, Going, Object, Place, Register, Root, changed, held, moved, seen}
 use Rattle.aom_sound.specs.State.{Dispatch, Item, Main_left, Of_main, Of_root, State}
 use Rattle.aom_sound.specs.WellTyped.{AllUndo, Fits, Good, WellTyped}
+use Rattle.aom_sound.proofs.Suiting.{all_moved}
 
 -- what holds of the root once it is gone
 pub root_gone : (p : Image) (t : Typing) (s : State) (ls : List Layer) → Good p t s.cells (Dispatching Of_root ∷ ls) → held s.cells (Elsewhere Root) ≡ None
-root_gone p t s ls good = fits_unowning p (held s.cells) _ Null refl (good.fits (Elsewhere Root))
+root_gone p t s ls good = fits_unowning p (seen s.cells) _ Null refl (good.fits (Elsewhere Root))
 
 no_items : (items : List Item) → forms items ≡ [] → items ≡ []
 no_items [] e = refl
@@ -28,19 +29,19 @@ no_items (i ∷ items) e = cc
 module _ (p : Image) (t : Typing) (s : State) where
   -- with nothing at hand
   idle : (s' : State) (d : Dispatch) → s'.cells ≡ s.cells → s'.tasks ≡ [] → s'.items ≡ [] → Good p t s.cells (Dispatching d ∷ []) → WellTyped p t s'
-  idle s' d cells tasks items good = record { layers = []; tasks = tasks; items = ap forms items; undos = subst (λ is. AllUndo p is) (sym items) tt; good = subst (λ cs. Good p t cs []) (sym cells) (record { stack = refl; fits = fits d good; tidy = good.tidy }) }
+  idle s' d cells tasks items good = record { layers = []; tasks = tasks; items = ap forms items; undos = subst (λ is. AllUndo p is) (sym items) tt; good = subst (λ cs. Good p t cs []) (sym cells) (record { stack = refl; fits = fits d good; suits = good.suits; tidy = good.tidy }) }
     where
-      nothing : (x : Option Thing) → Fits p (held s.cells) None (filled x Perhaps)
+      nothing : (x : Option Thing) → Fits p (seen s.cells) None (filled x Perhaps)
       nothing None = tt
       nothing (Some x) = tt
 
-      fits : (d : Dispatch) → Good p t s.cells (Dispatching d ∷ []) → (r : Place) → Fits p (held s.cells) (held s.cells r) (declared p s.cells r)
+      fits : (d : Dispatch) → Good p t s.cells (Dispatching d ∷ []) → (r : Place) → Fits p (seen s.cells) (held s.cells r) (declared p s.cells r)
       fits d good (Register f i) = good.fits (Register f i)
       fits d good (Entry k) = good.fits (Entry k)
       fits d good (Field n f) = good.fits (Field n f)
       fits Of_main good (Elsewhere Root) = good.fits (Elsewhere Root)
       fits (Main_left code) good (Elsewhere Root) = good.fits (Elsewhere Root)
-      fits Of_root good (Elsewhere Root) = subst (λ o. Fits p (held s.cells) o (filled (field_thing p Program 0) Perhaps)) (sym (root_gone p t s [] good)) (nothing (field_thing p Program 0))
+      fits Of_root good (Elsewhere Root) = subst (λ o. Fits p (seen s.cells) o (filled (field_thing p Program 0) Perhaps)) (sym (root_gone p t s [] good)) (nothing (field_thing p Program 0))
       fits d good (Going k) = good.fits (Going k)
 
   -- the root goes
@@ -57,7 +58,8 @@ module _ (p : Image) (t : Typing) (s : State) where
       (tt, refl)
       (goes_there p t s.cells o q before below good.fits there (omega arith) claims)
       (named_moved s.cells q g o.name ∙ held_lives s.cells q o good.tidy there)
-      (record { some = λ x. x; unclaimed = λ f. refl; none_in = tt })
+      (record { some = λ x. x; unclaimed = λ f. refl; none_in = tt; unworked = tt })
+      (all_moved p s.cells q g below good.suits)
       (uprooted p o s) (length s.items) (ap length items) refl refl (ap forms items) (subst (λ is. AllUndo p is) (sym items) tt)
     where
       claims : (r : Place) → claim p (declared p s.cells) (Dispatching Of_root ∷ []) r ≡ changed (claim p (declared p s.cells) (Dispatching Of_main ∷ [])) (Elsewhere Root) Null r

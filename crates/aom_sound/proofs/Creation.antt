@@ -1,5 +1,5 @@
 -- The law of a new cell.
-use Rattle.std.proofs.Common.{Bool, List, None, Option, Some, [], ap, arith, cond, false, length, refl, subst, sym, true, ℕ, ℤ, ◌==◌, ◌∙◌, ◌∷◌, ◌≡◌, ◌≤◌}
+use Rattle.std.proofs.Common.{Bool, List, None, Option, Some, [], ap, arith, cond, eq-eqb, false, length, refl, subst, sym, true, ℕ, ℤ, ◌==◌, ◌∙◌, ◌∷◌, ◌≡◌, ◌≤◌}
 use Rattle.std.proofs.lemmas.Bool.{eqb-true, ne_eqb}
 use Rattle.std.specs.Prelude.{is_none}
 use Rattle.aom_image.specs.Image.{Image}
@@ -23,9 +23,11 @@ use Rattle.aom_sound.proofs.Things.{stands_itself}
 use Rattle.aom_sound.specs.Claims.{Dispatching, Dying, Layer, Mark, Method, Unwinding, claim, declared, declared_field, home_claim, tasks_of}
 use Rattle.aom_sound.specs.Effects.{applied, makes_unless, sets}
 use Rattle.aom_sound.specs.Objects.{no_words}
-use Rattle.aom_sound.specs.Places.{Cell, Field, Object, Place, Register, held, named, same_place, with_new}
+use Rattle.aom_sound.specs.Places.{Cell, Field, Object, Place, Register, Request, Sight, held, named, requested, same_place, seen, with_new}
 use Rattle.aom_sound.specs.State.{AtRoot, Choice, Frame, Home, Inside, State, Static, next, set_word, thing_holder, word}
 use Rattle.aom_sound.specs.WellTyped.{Back, Fits, HasAge, IsHoused, Returns, Stack, WellTyped, WordFits}
+use Rattle.aom_sound.specs.Requests.{AllSuit, Suits, Unworked, states_claim, thing_kind, works_at}
+use Rattle.aom_sound.proofs.Suiting.{suits_new, unworked_rests}
 
 -- nothing but a new cell's fields is declared anew
 declared_new : (p : Image) (cs : List Cell) (n : ℕ) (x : Thing) (ws : List ℤ) (owner : Place) → named cs n ≡ None → (r : Place) → Weaker (declared p (with_new n x ws owner cs) r) (declared p cs r)
@@ -61,17 +63,38 @@ stack_new p t cs n x ws f i (Dispatching w ∷ ls) back e out s = s
 stack_new p t cs n x ws f i (Unwinding code es ∷ ls) back e out s = (s.0, stack_new p t cs n x ws f i ls _ e (omega arith) s.1)
 stack_new p t cs n x ws f i (Dying o ∷ ls) back e out s = ((lives_new cs n x ws (Register f i) o e s.0.0, s.0.1), s.1, stack_new p t cs n x ws f i ls _ e (omega arith) s.2)
 
+-- no layer works on a cell that is not there
+module _ (p : Image) (cs : List Cell) (o : Object) where
+  unworked_home : (ls : List Layer) (home : Home) → IsHoused p cs ls home → named cs o.name ≡ None → works_at o.name home ≡ false
+  unworked_home ls Static h e = refl
+  unworked_home ls AtRoot h e = refl
+  unworked_home ls (Inside x from) h e = ne_eqb x.name o.name (λ same. let l = h.lives in let clash : Some x ≡ None = sym l ∙ ap (λ m. named cs m) same ∙ e in cc)
+
+  unworked_unnamed : (t : Typing) (ls : List Layer) (back : Back) → Stack p t cs back ls → named cs o.name ≡ None → Unworked o.name ls
+  unworked_unnamed t [] back s e = tt
+  unworked_unnamed t (Method fr sh ∷ ls) back s e = (unworked_home ls fr.home s.2 e, unworked_unnamed t ls _ s.4 e)
+  unworked_unnamed t (Mark gv ∷ ls) back s e = unworked_unnamed t ls _ s.1 e
+  unworked_unnamed t (Dying x ∷ ls) back s e = (ne_eqb x.name o.name (λ same. let l = s.0.0 in let clash : Some x ≡ None = sym l ∙ ap (λ m. named cs m) same ∙ e in cc), unworked_unnamed t ls _ s.2 e)
+  unworked_unnamed t (Unwinding code es ∷ ls) back s e = unworked_unnamed t ls _ s.1 e
+  unworked_unnamed t (Dispatching d ∷ ls) back s e = subst (λ l. Unworked o.name l) (sym s.1) tt
+
+-- what had no request has none beside a new cell
+unasked : (b : Bool) (r : Option Request) → r ≡ None → cond b None r ≡ None
+unasked true r e = refl
+unasked false r e = e
+
 -- a new cell in a register of the top method
 pub create :
     (p : Image) (t : Typing) (cs : List Cell) (fr : Frame) (sh : Shape) (ls : List Layer) (n : ℕ) (x : Thing) (ws : List ℤ) (a : ℕ) (k : Kind) →
     Fitted p t cs fr sh ls →
     named cs n ≡ None →
     held cs (top ls a) ≡ None →
-    ((h : Place → Option Object) → ((f : ℕ) → h (Field n f) ≡ None) → Fits p h (Some (record { name = n; thing = x })) k) →
+    ((h : Sight) → ((f : ℕ) → h.holds (Field n f) ≡ None) → h.requests n ≡ None → Fits p h (Some (record { name = n; thing = x })) k) →
     WordFits None k →
     Fitted p t (with_new n x ws (top ls a) cs) (next (set_word fr a None)) (set_register sh a k) ls
 create p t cs fr sh ls n x ws a k g e free new word = record {
   fits = fits;
+  suits = suits;
   tidy = (free, e, g.tidy);
   frames = record { words = words_set fr.words sh a None k g.frames.words word; holder = g.frames.holder; height = g.frames.height };
   housed = holds_new p cs n x ws (top ls a) ls fr.home e (omega arith) (λ o from e. tt) g.housed;
@@ -86,7 +109,7 @@ create p t cs fr sh ls n x ws a k g e free new word = record {
     back = Returns fr.method fr.home
 
     no_field : (f : ℕ) → held cs (Field n f) ≡ None
-    no_field f = fits_unowning p (held cs) _ Null refl (subst (λ k. Fits p (held cs) (held cs (Field n f)) k) (unclaimed ∙ ap (λ o. declared_field p o f) e) (g.fits (Field n f)))
+    no_field f = fits_unowning p (seen cs) _ Null refl (subst (λ k. Fits p (seen cs) (held cs (Field n f)) k) (unclaimed ∙ ap (λ o. declared_field p o f) e) (g.fits (Field n f)))
       where
         own : (h : Home) → IsHoused p cs ls h → home_claim p h sh n f (claim p (declared p cs) ls (Field n f)) ≡ claim p (declared p cs) ls (Field n f)
         own Static h = refl
@@ -96,14 +119,27 @@ create p t cs fr sh ls n x ws a k g e free new word = record {
         unclaimed : claim p (declared p cs) (Method fr sh ∷ ls) (Field n f) ≡ declared p cs (Field n f)
         unclaimed = own fr.home g.housed ∙ claim_unnamed p t cs (declared p cs) ls back n f g.stack e
 
-    fits : (r : Place) → Fits p (held cs') (held cs' r) (claim p (declared p cs') (Method (next (set_word fr a None)) (set_register sh a k) ∷ ls) r)
-    fits r = subst (λ k. Fits p (held cs') (held cs' r) k) (sym (claim_frame p (declared p cs') fr (next (set_word fr a None)) (set_register sh a k) ls r refl ∙ claim-set_register p (declared p cs') fr sh ls a k r)) (go (same_place (top ls a) r))
+    no_request : requested cs' n ≡ None
+    no_request = ap (λ b. cond b None (requested cs n)) (eq-eqb n n refl)
+
+    fits : (r : Place) → Fits p (seen cs') (held cs' r) (claim p (declared p cs') (Method (next (set_word fr a None)) (set_register sh a k) ∷ ls) r)
+    fits r = subst (λ k. Fits p (seen cs') (held cs' r) k) (sym (claim_frame p (declared p cs') fr (next (set_word fr a None)) (set_register sh a k) ls r refl ∙ claim-set_register p (declared p cs') fr sh ls a k r)) (go (same_place (top ls a) r))
       where
-        go : (b : Bool) → Fits p (held cs') (cond b (Some (record { name = n; thing = x })) (held cs r)) (cond b k (claim p (declared p cs') (Method fr sh ∷ ls) r))
-        go true = new (held cs') no_field
-        go false = fits_weaker p (held cs') (held cs r)
+        go : (b : Bool) → Fits p (seen cs') (cond b (Some (record { name = n; thing = x })) (held cs r)) (cond b k (claim p (declared p cs') (Method fr sh ∷ ls) r))
+        go true = new (seen cs') no_field no_request
+        go false = fits_weaker p (seen cs') (held cs r)
             (claim_rel Weaker (λ k. alike) p (declared p cs') (declared p cs) (Method fr sh ∷ ls) r (declared_new p cs n x ws (top ls a) e r))
-            (fits_age p (held cs) (held cs') (held cs r) _ (λ y e' fresh f nf. nf) (g.fits r))
+            (fits_age p (seen cs) (seen cs') (held cs r) _ (λ y e' fresh age. (age.0, unasked (n == y.name) (requested cs y.name) age.1)) (g.fits r))
+
+    -- no layer works on what was not there
+    suits : AllSuit p cs' (Method (next (set_word fr a None)) (set_register sh a k) ∷ ls)
+    suits o lives = go (n == o.name) refl lives
+      where
+        go : (b : Bool) → (n == o.name) ≡ b → cond b (Some (record { name = n; thing = x })) (named cs o.name) ≡ Some o → Suits (thing_kind p o.thing) (states_claim p o (Method fr sh ∷ ls)) (cond b None (requested cs o.name))
+        go true same here =
+            let unnamed : named cs o.name ≡ None = ap (λ m. named cs m) (sym (eqb-true n o.name same)) ∙ e in
+            subst (λ k. Suits (thing_kind p o.thing) k None) (sym (unworked_rests p o (Method fr sh ∷ ls) (unworked_home p cs o ls fr.home g.housed unnamed, unworked_unnamed p cs o t ls back g.stack unnamed))) (suits_new (thing_kind p o.thing))
+        go false other here = g.suits o here
 
 module _ (p : Image) (t : Typing) (c : Choice) (s : State) (fr : Frame) (sh : Shape) (ls : List Layer) (at_hand : At p t s fr sh ls) where
   d : Place → Kind
@@ -113,9 +149,9 @@ module _ (p : Image) (t : Typing) (c : Choice) (s : State) (fr : Frame) (sh : Sh
   abbrev pub IsUnused : Type 0
   IsUnused = named s.cells c.name ≡ None
 
-  pub age_fits : (h : Place → Option Object) (a : Age) (o : Object) → ((f : ℕ) → h (Field o.name f) ≡ None) → HasAge h o a
-  age_fits h Fresh o n = n
-  age_fits h Ready o n = tt
+  pub age_fits : (h : Sight) (a : Age) (o : Object) → ((f : ℕ) → h.holds (Field o.name f) ≡ None) → h.requests o.name ≡ None → HasAge h o a
+  age_fits h Fresh o n u = (n, u)
+  age_fits h Ready o n u = tt
 
   pub law_new : (a x : ℕ) → IsUnused → Law p t c s fr sh ls at_hand (New a x)
   law_new a x unused n leads = ((ap is_none free, tt), go c.refused)
@@ -130,11 +166,11 @@ module _ (p : Image) (t : Typing) (c : Choice) (s : State) (fr : Frame) (sh : Sh
       free = free_register p t c s fr sh ls at_hand a n.0
 
       refuses : Fitted p t s.cells fr' (set_register sh a k) ls
-      refuses = relabel p t s.cells fr fr' sh (set_register sh a k) ls (top ls a) k (fitted p t s.cells fr sh ls at_hand.good) refl refl refl
-          (subst (λ o. Fits p (held s.cells) o k) (sym free) tt) (λ r. claim-set_register p (declared p s.cells) fr sh ls a k r) (words_set fr.words sh a None k at_hand.good.stack.1.words refl)
+      refuses = relabel p t s.cells fr fr' sh (set_register sh a k) ls (top ls a) k (fitted p t s.cells fr sh ls at_hand.good) refl refl refl refl
+          (subst (λ o. Fits p (seen s.cells) o k) (sym free) tt) (λ r. claim-set_register p (declared p s.cells) fr sh ls a k r) (words_set fr.words sh a None k at_hand.good.stack.1.words refl)
 
       makes : Fitted p t (with_new c.name (An_object_of x) (no_words p x) (top ls a) s.cells) fr' (set_register sh a k) ls
-      makes = create p t s.cells fr sh ls c.name (An_object_of x) (no_words p x) a k (fitted p t s.cells fr sh ls at_hand.good) unused free (λ h nf. (stands_itself p (An_object_of x), age_fits h (new_age p x) (record { name = c.name; thing = An_object_of x }) nf)) refl
+      makes = create p t s.cells fr sh ls c.name (An_object_of x) (no_words p x) a k (fitted p t s.cells fr sh ls at_hand.good) unused free (λ h nf u. (stands_itself p (An_object_of x), age_fits h (new_age p x) (record { name = c.name; thing = An_object_of x }) nf u)) refl
 
       go : (b : Bool) → WellTyped p t (applied p fr (tasks_of ls) s (sets fr a None (makes_unless b c.name x a)))
       go true = well p t c s fr sh ls at_hand _ fr' (set_register sh a k) refl at_hand.items at_hand.undos (settle p t _ fr' (set_register sh a k) ls refuses leads.0)

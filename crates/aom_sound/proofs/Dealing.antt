@@ -30,9 +30,11 @@ use Rattle.aom_sound.specs.Cleanup.{dealt_with, destroyed, operation_frame, top_
 use Rattle.aom_sound.specs.Destruction.{begun}
 use Rattle.aom_sound.specs.Effects.{applied, deals as deals_effect}
 use Rattle.aom_sound.specs.Laws.{IsWired}
-use Rattle.aom_sound.specs.Places.{Elsewhere, Entry, Field, Going, Object, Place, Register, Root, Tidy, changed, held, moved, same_place}
+use Rattle.aom_sound.specs.Places.{Elsewhere, Entry, Field, Going, Object, Place, Register, Root, Tidy, changed, held, moved, same_place, seen}
 use Rattle.aom_sound.specs.State.{An_object, An_operation, Frame, Item, Run, State, Static, Task, thing_holder, word}
 use Rattle.aom_sound.specs.WellTyped.{AllUndo, Fits, Gone, IsUndo, Returns, Stack, WellTyped, WordFits}
+use Rattle.aom_sound.proofs.Suiting.{all_moved}
+use Rattle.aom_sound.specs.Requests.{AllSuit}
 
 -- without the last entry the layers claim nothing of its place, and else the same
 pub less_claims : (f g : Place → Kind) (q : Place) (k : Kind) → ((r : Place) → f r ≡ changed g q k r) → g q ≡ Null → (r : Place) → g r ≡ changed f q Null r
@@ -44,9 +46,10 @@ less_claims f g q k more free r = go (same_place q r) refl
 
 -- the layers with the last entry, and those below it, over which it is dealt with
 pub record Dealing (p : Image) (t : Typing) (s : State) (e : Pushed) (before below : List Layer) : Type 0 where
-  pub fits : (r : Place) → Fits p (held s.cells) (held s.cells r) (claim p (declared p s.cells) before r)
+  pub fits : (r : Place) → Fits p (seen s.cells) (held s.cells r) (claim p (declared p s.cells) before r)
   pub claims : (r : Place) → claim p (declared p s.cells) before r ≡ changed (claim p (declared p s.cells) below) (Entry (length (items_of below))) (entry_kind e) r
   pub deep : length (tasks_of before) ≡ length (tasks_of below)
+  pub suits : AllSuit p s.cells below
   pub tidy : Tidy s.cells
   pub items : forms s.items ≡ entry_form e ∷ items_of below
   pub undos : AllUndo p s.items
@@ -62,8 +65,8 @@ module _ (p : Image) (t : Typing) (wired : IsWired p) (typed : IsTyped p t) (s :
   less = less_claims (claim p (declared p s.cells) before) (claim p (declared p s.cells) below) q (entry_kind e) d.claims (claim_entry_above p s.cells below (length (items_of below)) (omega arith))
 
   -- what the entry's place holds is as the entry says
-  entry_fits : Fits p (held s.cells) (held s.cells (Entry (length (items_of below)))) (entry_kind e)
-  entry_fits = subst (λ k. Fits p (held s.cells) (held s.cells q) k) (d.claims q ∙ ap (λ b. cond b (entry_kind e) (claim p (declared p s.cells) below q)) (same_place_refl q)) (d.fits q)
+  entry_fits : Fits p (seen s.cells) (held s.cells (Entry (length (items_of below)))) (entry_kind e)
+  entry_fits = subst (λ k. Fits p (seen s.cells) (held s.cells q) k) (d.claims q ∙ ap (λ b. cond b (entry_kind e) (claim p (declared p s.cells) below q)) (same_place_refl q)) (d.fits q)
 
   -- the object of an entry goes
   object_goes : (o : Object) (items : List Item) → forms items ≡ items_of below → AllUndo p items → held s.cells (Entry (length (items_of below))) ≡ Some o → WellTyped p t (destroyed p (Some o) items (tasks_of below) s)
@@ -80,6 +83,7 @@ module _ (p : Image) (t : Typing) (wired : IsWired p) (typed : IsTyped p t) (s :
       (goes_there p t s.cells o q before below d.fits there deep less)
       (named_moved s.cells q g o.name ∙ held_lives s.cells q o d.tidy there)
       (untouched p t s.cells q o d.tidy there k below Gone (omega arith) d.under_object)
+      (all_moved p s.cells q g below d.suits)
       (destroyed p (Some o) items (tasks_of below) s) (length items) high (ap (λ n. moved (Entry n) g s.cells) high) refl same undos
 
   module _ (m : ℕ) (w : ℤ) (undo : IsUndo p m) (operation : entry_kind e ≡ Null) where
@@ -87,7 +91,7 @@ module _ (p : Image) (t : Typing) (wired : IsWired p) (typed : IsTyped p t) (s :
     begins_with : (i : ℕ) → register (entry_shape p m) i ≡ at Unset (Word ∷ []) i
     begins_with i = ap (λ xs. register (record (entry_shape p m) { registers = map argument_kind xs }) i) undo.arguments
 
-    none_yet : (i : ℕ) → Fits p (held s.cells) None (at Unset (Word ∷ []) i)
+    none_yet : (i : ℕ) → Fits p (seen s.cells) None (at Unset (Word ∷ []) i)
     none_yet zero = tt
     none_yet (suc i) = tt
 
@@ -96,23 +100,23 @@ module _ (p : Image) (t : Typing) (wired : IsWired p) (typed : IsTyped p t) (s :
     its_word (suc i) = tt
 
     -- the entry's claim was none
-    fits_below : (r : Place) → Fits p (held s.cells) (held s.cells r) (claim p (declared p s.cells) below r)
-    fits_below r = subst (λ k. Fits p (held s.cells) (held s.cells r) k) (sym (less r ∙ go (same_place q r) refl)) (d.fits r)
+    fits_below : (r : Place) → Fits p (seen s.cells) (held s.cells r) (claim p (declared p s.cells) below r)
+    fits_below r = subst (λ k. Fits p (seen s.cells) (held s.cells r) k) (sym (less r ∙ go (same_place q r) refl)) (d.fits r)
       where
         go : (b : Bool) → same_place q r ≡ b → cond b Null (claim p (declared p s.cells) before r) ≡ claim p (declared p s.cells) before r
         go true h = sym (d.claims r ∙ ap (λ b. cond b (entry_kind e) (claim p (declared p s.cells) below r)) h ∙ operation)
         go false h = refl
 
-    runs_fitting : (height : ℕ) (after : Shape) → SaysNoMore after (entry_shape p m) → (r : Place) → Fits p (held s.cells) (held s.cells r) (claim p (declared p s.cells) (Method (operation_frame m w height) after ∷ below) r)
+    runs_fitting : (height : ℕ) (after : Shape) → SaysNoMore after (entry_shape p m) → (r : Place) → Fits p (seen s.cells) (held s.cells r) (claim p (declared p s.cells) (Method (operation_frame m w height) after ∷ below) r)
     runs_fitting height after says (Register f i) = go (length (tasks_of below) == f) refl
       where
-        go : (b : Bool) → (length (tasks_of below) == f) ≡ b → Fits p (held s.cells) (held s.cells (Register f i)) (cond b (register after i) (claim p (declared p s.cells) below (Register f i)))
+        go : (b : Bool) → (length (tasks_of below) == f) ≡ b → Fits p (seen s.cells) (held s.cells (Register f i)) (cond b (register after i) (claim p (declared p s.cells) below (Register f i)))
         go true h =
-            let above = subst (λ k. Fits p (held s.cells) (held s.cells (Register f i)) k) (claim_register_above p s.cells below f i (omega (arith, eqb-true _ _ h))) (fits_below (Register f i)) in
-            subst (λ x. Fits p (held s.cells) x (register after i)) (sym (fits_unowning p (held s.cells) _ Null refl above))
-            (fits_weaker p (held s.cells) None (says.registers i) (subst (λ k. Fits p (held s.cells) None k) (sym (begins_with i)) (none_yet i)))
+            let above = subst (λ k. Fits p (seen s.cells) (held s.cells (Register f i)) k) (claim_register_above p s.cells below f i (omega (arith, eqb-true _ _ h))) (fits_below (Register f i)) in
+            subst (λ x. Fits p (seen s.cells) x (register after i)) (sym (fits_unowning p (seen s.cells) _ Null refl above))
+            (fits_weaker p (seen s.cells) None (says.registers i) (subst (λ k. Fits p (seen s.cells) None k) (sym (begins_with i)) (none_yet i)))
         go false h = fits_below (Register f i)
-    runs_fitting height after says (Entry k) = subst (λ es. Fits p (held s.cells) (held s.cells (Entry k)) (entry_claim es (items_of below) k (claim p (declared p s.cells) below (Entry k)))) (sym says.entries) (fits_below (Entry k))
+    runs_fitting height after says (Entry k) = subst (λ es. Fits p (seen s.cells) (held s.cells (Entry k)) (entry_claim es (items_of below) k (claim p (declared p s.cells) below (Entry k)))) (sym says.entries) (fits_below (Entry k))
     runs_fitting height after says (Field n f) = fits_below (Field n f)
     runs_fitting height after says (Elsewhere Root) = fits_below (Elsewhere Root)
     runs_fitting height after says (Going k) = fits_below (Going k)
@@ -140,6 +144,7 @@ module _ (p : Image) (t : Typing) (wired : IsWired p) (typed : IsTyped p t) (s :
               d.under_operation m undo,
             );
             fits = runs_fitting (length items) leads.0 says;
+            suits = d.suits;
             tidy = d.tidy;
           };
         }
@@ -163,7 +168,7 @@ deals p t wired typed s e before below d = go e s.items d d.items d.undos
     Goal : List Item → Type 0
     Goal items = (top_is_whole s.cells items ≡ true) × WellTyped p t (dealt_with p items (tasks_of below) s)
 
-    whole : (o : Option Object) (c : ℕ) (a : Age) → Fits p (held s.cells) o (Own (An_object_of c) a) → (x : Object) × (o ≡ Some x)
+    whole : (o : Option Object) (c : ℕ) (a : Age) → Fits p (seen s.cells) o (Own (An_object_of c) a) → (x : Object) × (o ≡ Some x)
     whole None c a f = absurd f
     whole (Some x) c a f = (x, refl)
 

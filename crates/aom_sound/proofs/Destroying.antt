@@ -16,7 +16,7 @@ use Rattle.aom_shape.specs.Shape.{Shape}
 use Rattle.aom_shape.specs.Tables.{at}
 use Rattle.aom_shape.specs.Things.{field_thing, holder_by, holder_of}
 use Rattle.aom_rules.specs.Typing.{IsTyped, Typing}
-use Rattle.aom_shape.specs.Arguments.{argument_kind, entry_fields, entry_shape}
+use Rattle.aom_shape.specs.Arguments.{after_of, argument_kind, before_of, entry_fields, entry_shape}
 use Rattle.aom_shape.specs.declared.kind.Age.TheVariants.{Ready}
 use Rattle.aom_shape.specs.declared.kind.Filling.{Filling}
 use Rattle.aom_shape.specs.declared.kind.Filling.TheVariants.{Perhaps}
@@ -24,7 +24,7 @@ use Rattle.aom_shape.specs.declared.kind.Kind.{Kind}
 use Rattle.aom_shape.specs.declared.kind.Kind.TheVariants.{Maybe, Null, Own, Unset}
 use Rattle.aom_sound.proofs.Claimed.{NoFieldHere, Outside, claim-set_register, claim_frame, claim_going_above, claim_register_above, claim_unclaimed, declared_moved, going_differs, keep_fits, no_field_here, outside_differs, outside_less, stack_moved}
 use Rattle.aom_sound.proofs.Items.{length_forms}
-use Rattle.aom_sound.proofs.Maps.{held_lives, held_moved, named_moved, one_place, same_place-true, same_place_refl, tidy_moved}
+use Rattle.aom_sound.proofs.Maps.{held_lives, held_moved, named_moved, one_place, requested_moved, same_place-true, same_place_refl, tidy_moved}
 use Rattle.aom_sound.proofs.Straight.{At, Law, fits_unowning, fitted, housed_relocated, kind_fits, no_word, relabel, settle, top, well, words_set}
 use Rattle.aom_sound.proofs.Things.{stands_itself, stands_same}
 use Rattle.aom_sound.specs.Claims.{Dispatching, Dying, Layer, Mark, Method, Unwinding, claim, declared, declared_field, entry_claim, forms, home_claim, items_of, objects, tasks_of}
@@ -33,15 +33,20 @@ use Rattle.aom_sound.specs.Destruction.{begun, begun_by}
 use Rattle.aom_sound.specs.Laws.{IsWired}
 use Rattle.aom_sound.specs.Effects.{applied, deletes}
 use Rattle.aom_sound.specs.Objects.{is_no_message}
-use Rattle.aom_sound.specs.Places.{Cell, Elsewhere, Entry, Field, Going, Object, Place, Register, Root, Tidy, changed, held, moved, named, same_place}
+use Rattle.aom_sound.specs.Places.{Cell, Elsewhere, Entry, Field, Going, Object, Place, Register, Root, Sight, Tidy, changed, held, moved, named, requested, same_place, seen}
 use Rattle.aom_sound.specs.State.{AtRoot, Choice, Frame, Home, Inside, Run, State, Static, frame_of, next, set_word, thing_holder, word}
 use Rattle.aom_sound.specs.WellTyped.{AllUndo, Back, Caught, Fits, Gone, Good, IsBelow, IsHoused, IsNoFieldOf, Leaves, NoneIn, NotIn, Returns, SomeIn, Stack, Unclaimed, WellTyped, WordFits, WorksOn}
+use Rattle.aom_roles.specs.Shapes.{kind_of}
+use Rattle.aom_sound.proofs.Suiting.{all_moved, same_object, suits_less, unworked_rests}
+use Rattle.aom_sound.specs.Requests.{AllSuit, Suits, Unworked, states_claim, thing_kind, works_at}
+use Rattle.aom_roles.specs.States.{last_of, states_of}
 
 -- no layer works on that cell, or claims anything of its fields but what is declared
 pub record Untouched (p : Image) (k : ℕ → Kind) (n : ℕ) (ls : List Layer) : Type 0 where
   pub some : SomeIn n ls → ⊥
   pub unclaimed : Unclaimed p k n ls
   pub none_in : NoneIn n ls
+  pub unworked : Unworked n ls
 
 pub eqb_comm : (a b : ℕ) → (a == b) ≡ (b == a)
 eqb_comm a b = elim (cases_Bool (a == b)) as (λ x. (a == b) ≡ (b == a)) [
@@ -57,7 +62,7 @@ module _ (p : Image) (t : Typing) (cs : List Cell) (q : Place) (o : Object) (tid
   untouched_method k fr sh ls aside out housed u = go housed
     where
       Result : Home → Type 0
-      Result home = (WorksOn o.name home → ⊥) × ((f : ℕ) → home_claim p home sh o.name f (k f) ≡ k f) × NotIn o.name home
+      Result home = (WorksOn o.name home → ⊥) × ((f : ℕ) → home_claim p home sh o.name f (k f) ≡ k f) × NotIn o.name home × (works_at o.name home ≡ false)
 
       not_in : (from : Place) → IsBelow from ls → IsNoFieldOf o.name from
       not_in (Register f i) b = tt
@@ -67,32 +72,33 @@ module _ (p : Image) (t : Typing) (cs : List Cell) (q : Place) (o : Object) (tid
       not_in (Going j) b = tt
 
       of : (home : Home) → fr.home ≡ home → IsHoused p cs ls home → Result home
-      of Static same h = (λ x. x, λ f. refl, tt)
-      of AtRoot same h = (λ x. x, λ f. refl, tt)
+      of Static same h = (λ x. x, λ f. refl, tt, refl)
+      of AtRoot same h = (λ x. x, λ f. refl, tt, refl)
       of (Inside x from) same h =
           let e = other_name from x h.there (outside_differs q from ls out (aside x from same) h.below) in
-          (λ same. true≢false (sym (eq-eqb x.name o.name same) ∙ e), λ f. ap (λ b. cond b (filled (field_thing p (thing_holder x.thing) f) (field sh f)) (k f)) e, not_in from h.below)
+          (λ same. true≢false (sym (eq-eqb x.name o.name same) ∙ e), λ f. ap (λ b. cond b (filled (field_thing p (thing_holder x.thing) f) (field sh f)) (k f)) e, not_in from h.below, e)
 
       go : IsHoused p cs ls fr.home → Untouched p k o.name (Method fr sh ∷ ls)
       go h = let r = of fr.home refl h in record {
         some = λ s. ⊎_elim r.0 u.some s;
         unclaimed = λ f. ap (λ x. home_claim p fr.home sh o.name f x) (u.unclaimed f) ∙ r.1 f;
         none_in = (r.2, u.none_in);
+        unworked = (r.3, u.unworked);
       }
 
   pub untouched : (k : ℕ → Kind) (ls : List Layer) (back : Back) → Outside q ls → Stack p t cs back ls → Untouched p k o.name ls
-  untouched k [] back out s = record { some = λ x. x; unclaimed = λ f. refl; none_in = tt }
+  untouched k [] back out s = record { some = λ x. x; unclaimed = λ f. refl; none_in = tt; unworked = tt }
   untouched k (Method fr sh ∷ ls) back out s = untouched_method k fr sh ls (λ x from e. no_field_here q fr x from sh ls e out) (outside_less q (Method fr sh) ls out) s.2 (untouched k ls (Returns fr.method fr.home) (outside_less q (Method fr sh) ls out) s.4)
   untouched k (Mark gv ∷ ls) back out s =
       let u = untouched k ls (Caught gv) (outside_less q (Mark gv) ls out) s.1 in
-      record { some = u.some; unclaimed = u.unclaimed; none_in = u.none_in }
+      record { some = u.some; unclaimed = u.unclaimed; none_in = u.none_in; unworked = u.unworked }
   untouched k (Dying x ∷ ls) back out s =
       let u = untouched k ls Gone (outside_less q (Dying x) ls out) s.2 in
-      record { some = u.some; unclaimed = λ f. ap (λ y. cond (x.name == o.name) Null y) (u.unclaimed f) ∙ ap (λ b. cond b Null (k f)) (other_name (Going (length (tasks_of ls))) x s.0.1 (going_differs q x ls out)); none_in = u.none_in }
-  untouched k (Dispatching w ∷ ls) back out s = subst (λ l. Untouched p k o.name (Dispatching w ∷ l)) (sym s.1) (record { some = λ x. x; unclaimed = λ f. refl; none_in = tt })
+      record { some = u.some; unclaimed = λ f. ap (λ y. cond (x.name == o.name) Null y) (u.unclaimed f) ∙ ap (λ b. cond b Null (k f)) (other_name (Going (length (tasks_of ls))) x s.0.1 (going_differs q x ls out)); none_in = u.none_in; unworked = (other_name (Going (length (tasks_of ls))) x s.0.1 (going_differs q x ls out), u.unworked) }
+  untouched k (Dispatching w ∷ ls) back out s = subst (λ l. Untouched p k o.name (Dispatching w ∷ l)) (sym s.1) (record { some = λ x. x; unclaimed = λ f. refl; none_in = tt; unworked = tt })
   untouched k (Unwinding code es ∷ ls) back out s =
       let u = untouched k ls Leaves (outside_less q (Unwinding code es) ls out) s.1 in
-      record { some = u.some; unclaimed = u.unclaimed; none_in = u.none_in }
+      record { some = u.some; unclaimed = u.unclaimed; none_in = u.none_in; unworked = u.unworked }
 
 -- what the link has found of a thing's destructor
 pub record Destroys (p : Image) (x : Thing) (m : ℕ) : Type 0 where
@@ -103,6 +109,8 @@ pub record Destroys (p : Image) (x : Thing) (m : ℕ) : Type 0 where
   pub quiet : is_quiet p m ≡ true
   pub gives : gives_of p m ≡ Nothing
   pub arguments : arguments_of p m ≡ []
+  pub begins : before_of p m ≡ states_of (thing_kind p x)
+  pub ends : after_of p m ≡ last_of (thing_kind p x)
 
 pub destroys : (p : Image) → IsWired p → (x : Thing) (m : ℕ) → destructor_of p x ≡ Some m → Destroys p x m
 destroys p wired (An_object_of c) m e =
@@ -115,8 +123,16 @@ destroys p wired (An_object_of c) m e =
       quiet = w.4;
       gives = w.5;
       arguments = w.6;
+      begins = (wired.destructs c m e).0;
+      ends = (wired.destructs c m e).1;
     }
 destroys p wired Message m e = cc
+
+-- what has no destructor may rest as it goes
+undestructed : (p : Image) → IsWired p → (x : Thing) → destructor_of p x ≡ None → last_of (thing_kind p x) ≡ states_of (thing_kind p x)
+unfolding kind_of last_of states_of
+undestructed p wired (An_object_of c) e = wired.undestructed c e
+undestructed p wired Message e = refl
 
 no_fields_declared : (p : Image) → IsWired p → (x : Thing) → destructor_of p x ≡ None → (f : ℕ) → field_thing p (thing_holder x) f ≡ None
 no_fields_declared p wired (An_object_of c) e f = wired.no_destructor c e f
@@ -138,7 +154,7 @@ destruct_fields p m e f = ap (λ r. at Perhaps (entry_fields r) f) e ∙ at_alik
 abbrev Dies : Image → List Cell → Object → List Layer → Place → Kind
 Dies p cs o ls = changed (claim p (declared p cs) ls) (Going (length (tasks_of ls))) (Own o.thing Ready)
 
-null_of : (p : Image) (h : Place → Option Object) (x : Option Object) (k : Kind) → k ≡ Null → Fits p h x k → Fits p h x Null
+null_of : (p : Image) (h : Sight) (x : Option Object) (k : Kind) → k ≡ Null → Fits p h x k → Fits p h x Null
 null_of p h x k e f = subst (λ k. Fits p h x k) e f
 
 pub unset_only : {k : Kind} → Weaker k Unset → k ≡ Unset
@@ -148,54 +164,76 @@ pub perhaps_only : {x : Filling} → WeakerFilling x Perhaps → x ≡ Perhaps
 perhaps_only alike_filling = refl
 
 module _ (p : Image) (t : Typing) (linked : IsWired p) (typed : IsTyped p t) (cs : List Cell) (o : Object) (ls : List Layer)
-    (fits : (r : Place) → Fits p (held cs) (held cs r) (Dies p cs o ls r))
+    (fits : (r : Place) → Fits p (seen cs) (held cs r) (Dies p cs o ls r))
     (tidy : Tidy cs)
     (stack : Stack p t cs Gone ls)
     (there : held cs (Going (length (tasks_of ls))) ≡ Some o)
     (lives : named cs o.name ≡ Some o)
-    (apart : Untouched p (λ f. filled (field_thing p (thing_holder o.thing) f) Perhaps) o.name ls) where
+    (apart : Untouched p (λ f. filled (field_thing p (thing_holder o.thing) f) Perhaps) o.name ls)
+    (suits : AllSuit p cs ls) where
   fields_claim : (f : ℕ) → claim p (declared p cs) ls (Field o.name f) ≡ filled (field_thing p (thing_holder o.thing) f) Perhaps
   fields_claim f = claim_unclaimed p (declared p cs) ls o.name f (λ f. filled (field_thing p (thing_holder o.thing) f) Perhaps) apart.unclaimed (ap (λ x. declared_field p x f) lives)
 
-  fields_fit : (n f : ℕ) → (o.name == n) ≡ true → Fits p (held cs) (held cs (Field n f)) (filled (field_thing p (thing_holder o.thing) f) Perhaps)
-  fields_fit n f e = subst (λ m. Fits p (held cs) (held cs (Field m f)) (filled (field_thing p (thing_holder o.thing) f) Perhaps)) (eqb-true o.name n e) (subst (λ k. Fits p (held cs) (held cs (Field o.name f)) k) (fields_claim f) (fits (Field o.name f)))
+  fields_fit : (n f : ℕ) → (o.name == n) ≡ true → Fits p (seen cs) (held cs (Field n f)) (filled (field_thing p (thing_holder o.thing) f) Perhaps)
+  fields_fit n f e = subst (λ m. Fits p (seen cs) (held cs (Field m f)) (filled (field_thing p (thing_holder o.thing) f) Perhaps)) (eqb-true o.name n e) (subst (λ k. Fits p (seen cs) (held cs (Field o.name f)) k) (fields_claim f) (fits (Field o.name f)))
 
   -- with no destructor
-  bare : destructor_of p o.thing ≡ None → (r : Place) → Fits p (held cs) (held cs r) (claim p (declared p cs) (Dying o ∷ ls) r)
+  bare : destructor_of p o.thing ≡ None → (r : Place) → Fits p (seen cs) (held cs r) (claim p (declared p cs) (Dying o ∷ ls) r)
   bare none (Register f i) = fits (Register f i)
   bare none (Entry k) = fits (Entry k)
   bare none (Field n f) = go (o.name == n) refl
     where
-      go : (b : Bool) → (o.name == n) ≡ b → Fits p (held cs) (held cs (Field n f)) (cond b Null (claim p (declared p cs) ls (Field n f)))
-      go true e = subst (λ x. Fits p (held cs) (held cs (Field n f)) (filled x Perhaps)) (no_fields_declared p linked o.thing none f) (fields_fit n f e)
+      go : (b : Bool) → (o.name == n) ≡ b → Fits p (seen cs) (held cs (Field n f)) (cond b Null (claim p (declared p cs) ls (Field n f)))
+      go true e = subst (λ x. Fits p (seen cs) (held cs (Field n f)) (filled x Perhaps)) (no_fields_declared p linked o.thing none f) (fields_fit n f e)
       go false e = fits (Field n f)
   bare none (Elsewhere Root) = fits (Elsewhere Root)
-  bare none (Going k) = subst (λ b. Fits p (held cs) (held cs (Going k)) (cond b (Own o.thing Ready) (claim p (declared p cs) ls (Going k)))) (tail (length (tasks_of ls) == k)) (fits (Going k))
+  bare none (Going k) = subst (λ b. Fits p (seen cs) (held cs (Going k)) (cond b (Own o.thing Ready) (claim p (declared p cs) ls (Going k)))) (tail (length (tasks_of ls) == k)) (fits (Going k))
     where
       tail : (b : Bool) → (b && true) ≡ b
       tail true = refl
       tail false = refl
 
   -- with one
-  clothed : (m height : ℕ) (after : Shape) → Destroys p o.thing m → SaysNoMore after (entry_shape p m) → (r : Place) → Fits p (held cs) (held cs r) (claim p (declared p cs) (Method (frame_of m (Inside o (Going (length (tasks_of ls)))) height) after ∷ Dying o ∷ ls) r)
+  clothed : (m height : ℕ) (after : Shape) → Destroys p o.thing m → SaysNoMore after (entry_shape p m) → (r : Place) → Fits p (seen cs) (held cs r) (claim p (declared p cs) (Method (frame_of m (Inside o (Going (length (tasks_of ls)))) height) after ∷ Dying o ∷ ls) r)
   clothed m height after is w (Register f i) = go (length (tasks_of (Dying o ∷ ls)) == f) refl
     where
-      go : (b : Bool) → (length (tasks_of (Dying o ∷ ls)) == f) ≡ b → Fits p (held cs) (held cs (Register f i)) (cond b (register after i) (claim p (declared p cs) ls (Register f i)))
-      go true e = subst (λ k. Fits p (held cs) (held cs (Register f i)) k) (sym (unset_only (subst (λ k. Weaker (register after i) k) (entry_registers p m is.arguments i) (w.registers i))))
-          (subst (λ x. Fits p (held cs) x Unset) (sym (fits_unowning p (held cs) _ Null refl (null_of p (held cs) _ _ (claim_register_above p cs ls f i (omega (arith, eqb-true _ _ e))) (fits (Register f i))))) tt)
+      go : (b : Bool) → (length (tasks_of (Dying o ∷ ls)) == f) ≡ b → Fits p (seen cs) (held cs (Register f i)) (cond b (register after i) (claim p (declared p cs) ls (Register f i)))
+      go true e = subst (λ k. Fits p (seen cs) (held cs (Register f i)) k) (sym (unset_only (subst (λ k. Weaker (register after i) k) (entry_registers p m is.arguments i) (w.registers i))))
+          (subst (λ x. Fits p (seen cs) x Unset) (sym (fits_unowning p (seen cs) _ Null refl (null_of p (seen cs) _ _ (claim_register_above p cs ls f i (omega (arith, eqb-true _ _ e))) (fits (Register f i))))) tt)
       go false e = fits (Register f i)
-  clothed m height after is w (Entry k) = subst (λ es. Fits p (held cs) (held cs (Entry k)) (entry_claim es (items_of ls) k (claim p (declared p cs) ls (Entry k)))) (sym w.entries) (fits (Entry k))
+  clothed m height after is w (Entry k) = subst (λ es. Fits p (seen cs) (held cs (Entry k)) (entry_claim es (items_of ls) k (claim p (declared p cs) ls (Entry k)))) (sym w.entries) (fits (Entry k))
   clothed m height after is w (Field n f) = go (o.name == n) refl
     where
-      go : (b : Bool) → (o.name == n) ≡ b → Fits p (held cs) (held cs (Field n f)) (cond b (filled (field_thing p (thing_holder o.thing) f) (field after f)) (cond b Null (claim p (declared p cs) ls (Field n f))))
-      go true e = subst (λ x. Fits p (held cs) (held cs (Field n f)) (filled (field_thing p (thing_holder o.thing) f) x)) (sym (perhaps_only (subst (λ x. WeakerFilling (field after f) x) (destruct_fields p m is.role f) (w.fields f)))) (fields_fit n f e)
+      go : (b : Bool) → (o.name == n) ≡ b → Fits p (seen cs) (held cs (Field n f)) (cond b (filled (field_thing p (thing_holder o.thing) f) (field after f)) (cond b Null (claim p (declared p cs) ls (Field n f))))
+      go true e = subst (λ x. Fits p (seen cs) (held cs (Field n f)) (filled (field_thing p (thing_holder o.thing) f) x)) (sym (perhaps_only (subst (λ x. WeakerFilling (field after f) x) (destruct_fields p m is.role f) (w.fields f)))) (fields_fit n f e)
       go false e = fits (Field n f)
   clothed m height after is w (Elsewhere Root) = fits (Elsewhere Root)
-  clothed m height after is w (Going k) = subst (λ b. Fits p (held cs) (held cs (Going k)) (cond b (Own o.thing Ready) (claim p (declared p cs) ls (Going k)))) (tail (length (tasks_of ls) == k)) (fits (Going k))
+  clothed m height after is w (Going k) = subst (λ b. Fits p (seen cs) (held cs (Going k)) (cond b (Own o.thing Ready) (claim p (declared p cs) ls (Going k)))) (tail (length (tasks_of ls) == k)) (fits (Going k))
     where
       tail : (b : Bool) → (b && true) ≡ b
       tail true = refl
       tail false = refl
+
+  -- the object rests as it begins to go, and all others are as they were
+  rested : Suits (thing_kind p o.thing) (states_of (thing_kind p o.thing)) (requested cs o.name)
+  rested = subst (λ k. Suits (thing_kind p o.thing) k (requested cs o.name)) (unworked_rests p o ls apart.unworked) (suits o lives)
+
+  going_suits : (states : ℕ) → Suits (thing_kind p o.thing) states (requested cs o.name) → (x : Object) → named cs x.name ≡ Some x → (b : Bool) → (o.name == x.name) ≡ b → (other : ℕ) → (b ≡ false → other ≡ states_claim p x ls) → Suits (thing_kind p x.thing) (cond b states other) (requested cs x.name)
+  going_suits states s x there true e other so = subst (λ y. Suits (thing_kind p y.thing) states (requested cs y.name)) (same_object cs o x lives there e) s
+  going_suits states s x there false e other so = subst (λ k. Suits (thing_kind p x.thing) k (requested cs x.name)) (sym (so refl)) (suits x there)
+
+  bare_suits : destructor_of p o.thing ≡ None → AllSuit p cs (Dying o ∷ ls)
+  bare_suits none x there = subst (λ k. Suits (thing_kind p x.thing) k (requested cs x.name)) (at_name (o.name == x.name) refl)
+      (going_suits (last_of (thing_kind p o.thing)) (subst (λ k. Suits (thing_kind p o.thing) k (requested cs o.name)) (sym (undestructed p linked o.thing none)) rested) x there (o.name == x.name) refl (states_claim p x ls) (λ e. refl))
+    where
+      at_name : (b : Bool) → (o.name == x.name) ≡ b → cond b (last_of (thing_kind p o.thing)) (states_claim p x ls) ≡ cond b (last_of (thing_kind p x.thing)) (states_claim p x ls)
+      at_name true e = ap (λ (y : Object). last_of (thing_kind p y.thing)) (same_object cs o x lives there e)
+      at_name false e = refl
+
+  clothed_suits : (m height : ℕ) (after : Shape) → Destroys p o.thing m → SaysNoMore after (entry_shape p m) → AllSuit p cs (Method (frame_of m (Inside o (Going (length (tasks_of ls)))) height) after ∷ Dying o ∷ ls)
+  clothed_suits m height after is w x there =
+      going_suits after.states (suits_less (thing_kind p o.thing) after.states (before_of p m) (requested cs o.name) w.states (subst (λ k. Suits (thing_kind p o.thing) k (requested cs o.name)) (sym is.begins) rested)) x there (o.name == x.name) refl
+      (cond (o.name == x.name) (last_of (thing_kind p x.thing)) (states_claim p x ls)) (λ e. ap (λ b. cond b (last_of (thing_kind p x.thing)) (states_claim p x ls)) e)
 
   -- so a destruction begins
   pub begin : (s : State) (height : ℕ) → height ≡ length (items_of ls) → s.cells ≡ cs → s.tasks ≡ begun p o height (tasks_of ls) → forms s.items ≡ items_of ls → AllUndo p s.items → WellTyped p t s
@@ -207,7 +245,7 @@ module _ (p : Image) (t : Typing) (linked : IsWired p) (typed : IsTyped p t) (cs
         tasks = tasks;
         items = items;
         undos = undos;
-        good = subst (λ cs. Good p t cs (Dying o ∷ ls)) (sym cells) (record { stack = ((lives, there), tt, stack); fits = bare e; tidy = tidy });
+        good = subst (λ cs. Good p t cs (Dying o ∷ ls)) (sym cells) (record { stack = ((lives, there), tt, stack); fits = bare e; suits = bare_suits e; tidy = tidy });
       }
       go (Some m) e tasks =
           let d = destroys p linked o.thing m e in
@@ -219,10 +257,11 @@ module _ (p : Image) (t : Typing) (linked : IsWired p) (typed : IsTyped p t) (cs
               leads.1,
               record { words = λ i. subst (λ k. WordFits None k) (sym (unset_only (subst (λ k. Weaker (register leads.0 i) k) (entry_registers p m d.arguments i) (w.registers i)))) tt; holder = sym d.holder; height = high },
               record { there = there; lives = lives; below = omega arith; ready = ap (λ b. is_ready_kind (cond b (Own o.thing Ready) (claim p (λ x. Null) ls (Going (length (tasks_of ls)))))) (eq-eqb (length (tasks_of ls)) _ refl) },
-              (tt, apart.none_in, apart.unclaimed),
-              ((lives, there), (d.stays, refl, ap is_destruct d.role, d.gives), stack),
+              (tt, apart.none_in, apart.unclaimed, apart.unworked),
+              ((lives, there), (d.stays, refl, ap is_destruct d.role, d.gives, d.ends), stack),
             );
             fits = clothed m height leads.0 d w;
+            suits = clothed_suits m height leads.0 d w;
             tidy = tidy;
           } in
           record {
@@ -235,21 +274,21 @@ module _ (p : Image) (t : Typing) (linked : IsWired p) (typed : IsTyped p t) (cs
 
 -- a thing goes from q to the place of its destruction
 module _ (p : Image) (t : Typing) (cs : List Cell) (o : Object) (q : Place) (ls ls' : List Layer)
-    (fits : (r : Place) → Fits p (held cs) (held cs r) (claim p (declared p cs) ls r))
+    (fits : (r : Place) → Fits p (seen cs) (held cs r) (claim p (declared p cs) ls r))
     (there : held cs q ≡ Some o)
     (same : length (tasks_of ls) ≤ length (tasks_of ls'))
     (claims : (r : Place) → claim p (declared p cs) ls' r ≡ changed (claim p (declared p cs) ls) q Null r) where
   pub no_going : held cs (Going (length (tasks_of ls'))) ≡ None
-  no_going = fits_unowning p (held cs) _ Null refl (subst (λ k. Fits p (held cs) (held cs (Going (length (tasks_of ls')))) k) (claim_going_above p cs ls (length (tasks_of ls')) same) (fits (Going (length (tasks_of ls')))))
+  no_going = fits_unowning p (seen cs) _ Null refl (subst (λ k. Fits p (seen cs) (held cs (Going (length (tasks_of ls')))) k) (claim_going_above p cs ls (length (tasks_of ls')) same) (fits (Going (length (tasks_of ls')))))
 
   pub goes_there : held (moved q (Going (length (tasks_of ls'))) cs) (Going (length (tasks_of ls'))) ≡ Some o
   goes_there = held_moved cs q (Going (length (tasks_of ls'))) (Going (length (tasks_of ls'))) no_going
       ∙ ap (λ b. cond b (held cs q) (cond (same_place q (Going (length (tasks_of ls')))) None (held cs (Going (length (tasks_of ls')))))) (same_place_refl (Going (length (tasks_of ls')))) ∙ there
 
-  pub goes_fitting : (r : Place) → Fits p (held (moved q (Going (length (tasks_of ls'))) cs)) (held (moved q (Going (length (tasks_of ls'))) cs) r) (Dies p (moved q (Going (length (tasks_of ls'))) cs) o ls' r)
+  pub goes_fitting : (r : Place) → Fits p (seen (moved q (Going (length (tasks_of ls'))) cs)) (held (moved q (Going (length (tasks_of ls'))) cs) r) (Dies p (moved q (Going (length (tasks_of ls'))) cs) o ls' r)
   goes_fitting r =
-      subst (λ d. Fits p (held cs') (held cs' r) (cond (same_place g r) (Own o.thing Ready) (claim p d ls' r))) (sym (declared_moved p cs q g))
-      (go (same_place g r) refl (keep_fits p (held cs) (held cs') (claim p (declared p cs) ls) (changed (changed (claim p (declared p cs) ls) q Null) g (claim p (declared p cs) ls q)) q g (λ r. held_moved cs q g r no_going) (λ r. refl) (λ r x e k f. refl) fits r))
+      subst (λ d. Fits p (seen cs') (held cs' r) (cond (same_place g r) (Own o.thing Ready) (claim p d ls' r))) (sym (declared_moved p cs q g))
+      (go (same_place g r) refl (keep_fits p (seen cs) (seen cs') (claim p (declared p cs) ls) (changed (changed (claim p (declared p cs) ls) q Null) g (claim p (declared p cs) ls q)) q g (λ r. held_moved cs q g r no_going) (requested_moved cs q g) (λ r. refl) (λ r x e k f. refl) fits r))
     where
       g : Place
       g = Going (length (tasks_of ls'))
@@ -257,9 +296,9 @@ module _ (p : Image) (t : Typing) (cs : List Cell) (o : Object) (q : Place) (ls 
       cs' : List Cell
       cs' = moved q g cs
 
-      go : (b : Bool) → same_place g r ≡ b → Fits p (held cs') (held cs' r) (cond b (claim p (declared p cs) ls q) (changed (claim p (declared p cs) ls) q Null r)) → Fits p (held cs') (held cs' r) (cond b (Own o.thing Ready) (claim p (declared p cs) ls' r))
-      go true e f = subst (λ x. Fits p (held cs') (held cs' x) (Own o.thing Ready)) (same_place-true g r e) (subst (λ x. Fits p (held cs') x (Own o.thing Ready)) (sym goes_there) (stands_itself p o.thing, tt))
-      go false e f = subst (λ k. Fits p (held cs') (held cs' r) k) (sym (claims r)) f
+      go : (b : Bool) → same_place g r ≡ b → Fits p (seen cs') (held cs' r) (cond b (claim p (declared p cs) ls q) (changed (claim p (declared p cs) ls) q Null r)) → Fits p (seen cs') (held cs' r) (cond b (Own o.thing Ready) (claim p (declared p cs) ls' r))
+      go true e f = subst (λ x. Fits p (seen cs') (held cs' x) (Own o.thing Ready)) (same_place-true g r e) (subst (λ x. Fits p (seen cs') x (Own o.thing Ready)) (sym goes_there) (stands_itself p o.thing, tt))
+      go false e f = subst (λ k. Fits p (seen cs') (held cs' r) k) (sym (claims r)) f
 
 module _ (p : Image) (t : Typing) (c : Choice) (s : State) (fr : Frame) (sh : Shape) (ls : List Layer) (at_hand : At p t s fr sh ls) where
   pub law_delete : IsWired p → IsTyped p t → (a : ℕ) → Law p t c s fr sh ls at_hand (Delete a)
@@ -271,7 +310,7 @@ module _ (p : Image) (t : Typing) (c : Choice) (s : State) (fr : Frame) (sh : Sh
       destroyed_object (Maybe x a) e = refl
       destroyed_object _ e = cc
 
-      no_message : (o : Option Object) (k : Kind) → may_be_destroyed k ≡ true → Fits p (held s.cells) o k → is_no_message o ≡ true
+      no_message : (o : Option Object) (k : Kind) → may_be_destroyed k ≡ true → Fits p (seen s.cells) o k → is_no_message o ≡ true
       no_message None k e f = refl
       no_message (Some o) (Own x a) e f = ap is_object (stands_same p o.thing x f.0) ∙ e
       no_message (Some o) (Maybe x a) e f = ap is_object (stands_same p o.thing x f.0) ∙ e
@@ -297,7 +336,7 @@ module _ (p : Image) (t : Typing) (c : Choice) (s : State) (fr : Frame) (sh : Sh
 
       go : (x : Option Object) → held s.cells (top ls a) ≡ x → WellTyped p t (applied p fr (tasks_of ls) s (deletes fr x a))
       go None e = well p t c s fr sh ls at_hand (applied p fr (tasks_of ls) s (deletes fr None a)) (next fr') sh' refl at_hand.items at_hand.undos
-          (settle p t cs (next fr') sh' ls (relabel p t cs fr (next fr') sh sh' ls (top ls a) Null (fitted p t cs fr sh ls at_hand.good) refl refl refl (subst (λ o. Fits p (held cs) o Null) (sym e) tt) (λ r. claim-set_register p (declared p cs) fr sh ls a Null r) words) leads.0)
+          (settle p t cs (next fr') sh' ls (relabel p t cs fr (next fr') sh sh' ls (top ls a) Null (fitted p t cs fr sh ls at_hand.good) refl refl refl refl (subst (λ o. Fits p (seen cs) o Null) (sym e) tt) (λ r. claim-set_register p (declared p cs) fr sh ls a Null r) words) leads.0)
       go (Some o) e =
           let q = top ls a in
           let g = Going (length (Run fr ∷ tasks_of ls)) in
@@ -313,4 +352,5 @@ module _ (p : Image) (t : Typing) (c : Choice) (s : State) (fr : Frame) (sh : Sh
           (goes_there p t cs o q before below at_hand.good.fits e (omega arith) claims)
           (named_moved cs q g o.name ∙ held_lives cs q o at_hand.good.tidy e)
           (untouched_method p t cs q o at_hand.good.tidy e k fr' sh' ls (λ x from e. tt) (omega arith) at_hand.good.stack.2 (untouched p t cs q o at_hand.good.tidy e k ls _ (omega arith) at_hand.good.stack.4))
+          (all_moved p cs q g below at_hand.good.suits)
           (applied p fr (tasks_of ls) s (deletes fr (Some o) a)) (length s.items) (sym (length_forms s.items) ∙ ap length at_hand.items) refl refl at_hand.items at_hand.undos

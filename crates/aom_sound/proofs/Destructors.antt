@@ -1,9 +1,9 @@
 -- A destructor returns: its cell goes next.
-use Rattle.std.proofs.Common.{Bool, List, None, Option, Some, [], ap, arith, cond, false, length, refl, subst, suc, sym, true, zero, ℕ, ◌==◌, ◌∙◌, ◌∷◌, ◌≡◌}
+use Rattle.std.proofs.Common.{Bool, IsTrue, List, None, Option, Some, [], ap, arith, cond, false, length, refl, subst, suc, sym, true, zero, ℕ, ◌==◌, ◌∙◌, ◌∷◌, ◌≡◌}
 use Rattle.std.proofs.lemmas.Bool.{and_parts, eqb-true}
 use Rattle.std.specs.Prelude.{slice_get}
 use Rattle.aom_image.specs.Image.{Image}
-use Rattle.aom_image.specs.Views.{fields_of}
+use Rattle.aom_image.specs.Views.{fields_of, has}
 use Rattle.aom_instructions.specs.declared.instr.Instr.TheVariants.{Return}
 use Rattle.aom_image.specs.declared.method.Thing.{Thing}
 use Rattle.aom_image.specs.declared.method.Thing.TheVariants.{Message, Object as An_object_of}
@@ -23,9 +23,13 @@ use Rattle.aom_sound.proofs.Going.{no_fields, nothing_in}
 use Rattle.aom_sound.proofs.Straight.{At, Law, fits_unowning}
 use Rattle.aom_sound.specs.Calls.{is_emptied, result_needs}
 use Rattle.aom_sound.specs.Claims.{Dying, Layer, claim, declared, entry_claim, home_claim, items_of, root_claim, tasks_of}
-use Rattle.aom_sound.specs.Places.{Elsewhere, Entry, Field, Going, Object, Place, Register, Root, held}
+use Rattle.aom_sound.specs.Places.{Elsewhere, Entry, Field, Going, Object, Place, Register, Root, held, requested, seen}
 use Rattle.aom_sound.specs.State.{Choice, Frame, Inside, State, home_holder, thing_holder}
 use Rattle.aom_sound.specs.WellTyped.{Fits, Good}
+use Rattle.aom_shape.specs.Arguments.{after_of}
+use Rattle.aom_roles.specs.States.{last_of}
+use Rattle.aom_sound.specs.Requests.{AllSuit, Suits, states_claim, thing_kind, works_at}
+use Rattle.aom_sound.proofs.Suiting.{same_object, suits_less}
 
 empty_at : (ts : List Thing) (xs : List Filling) (f : ℕ) (y : Thing) → all_empty ts xs ≡ true → slice_get ts f ≡ Some y → is_empty (at Perhaps xs f) ≡ true
 empty_at [] xs f y e h = let clash : slice_get {X = Thing} [] f ≡ Some y = h in cc
@@ -40,31 +44,41 @@ empty_field p Message xs f y done e = cc
 
 module _ (p : Image) (t : Typing) (c : Choice) (s : State) (fr : Frame) (sh : Shape) (o : Object) (ls : List Layer) (at_hand : At p t s fr sh (Dying o ∷ ls)) where
   -- what the rule says of the fields, as the claim of the cell that goes
-  null_field : (f : ℕ) (x : Option Object) → fields_done p true (thing_holder o.thing) sh.fields ≡ true → Fits p (held s.cells) x (filled (field_thing p (thing_holder o.thing) f) (field sh f)) → Fits p (held s.cells) x Null
+  null_field : (f : ℕ) (x : Option Object) → fields_done p true (thing_holder o.thing) sh.fields ≡ true → Fits p (seen s.cells) x (filled (field_thing p (thing_holder o.thing) f) (field sh f)) → Fits p (seen s.cells) x Null
   null_field f x done h = go (field_thing p (thing_holder o.thing) f) refl h
     where
-      go : (k : Option Thing) → field_thing p (thing_holder o.thing) f ≡ k → Fits p (held s.cells) x (filled k (field sh f)) → Fits p (held s.cells) x Null
+      go : (k : Option Thing) → field_thing p (thing_holder o.thing) f ≡ k → Fits p (seen s.cells) x (filled k (field sh f)) → Fits p (seen s.cells) x Null
       go None e h = h
       go (Some y) e h = empty (field sh f) (empty_field p o.thing sh.fields f y done e) h
         where
-          empty : (z : Filling) → is_empty z ≡ true → Fits p (held s.cells) x (filled (Some y) z) → Fits p (held s.cells) x Null
+          empty : (z : Filling) → is_empty z ≡ true → Fits p (seen s.cells) x (filled (Some y) z) → Fits p (seen s.cells) x Null
           empty Empty e h = h
           empty _ e h = cc
 
-  fits_dying : fr.home ≡ Inside o (Going (length (tasks_of ls))) → no_entry sh.entries ≡ true → none_owns sh.registers ≡ true → fields_done p true (thing_holder o.thing) sh.fields ≡ true → (r : Place) → Fits p (held s.cells) (held s.cells r) (claim p (declared p s.cells) (Dying o ∷ ls) r)
+  fits_dying : fr.home ≡ Inside o (Going (length (tasks_of ls))) → no_entry sh.entries ≡ true → none_owns sh.registers ≡ true → fields_done p true (thing_holder o.thing) sh.fields ≡ true → (r : Place) → Fits p (seen s.cells) (held s.cells r) (claim p (declared p s.cells) (Dying o ∷ ls) r)
   fits_dying eh e n done (Register f i) = go (length (tasks_of (Dying o ∷ ls)) == f) refl (at_hand.good.fits (Register f i))
     where
-      go : (b : Bool) → (length (tasks_of (Dying o ∷ ls)) == f) ≡ b → Fits p (held s.cells) (held s.cells (Register f i)) (cond b (register sh i) (claim p (declared p s.cells) ls (Register f i))) → Fits p (held s.cells) (held s.cells (Register f i)) (claim p (declared p s.cells) ls (Register f i))
-      go true e h = subst (λ k. Fits p (held s.cells) (held s.cells (Register f i)) k) (sym (claim_register_above p s.cells ls f i (omega (arith, eqb-true _ _ e)))) (subst (λ x. Fits p (held s.cells) x Null) (sym (fits_unowning p (held s.cells) _ (register sh i) (none_owns_at sh.registers i n) h)) tt)
+      go : (b : Bool) → (length (tasks_of (Dying o ∷ ls)) == f) ≡ b → Fits p (seen s.cells) (held s.cells (Register f i)) (cond b (register sh i) (claim p (declared p s.cells) ls (Register f i))) → Fits p (seen s.cells) (held s.cells (Register f i)) (claim p (declared p s.cells) ls (Register f i))
+      go true e h = subst (λ k. Fits p (seen s.cells) (held s.cells (Register f i)) k) (sym (claim_register_above p s.cells ls f i (omega (arith, eqb-true _ _ e)))) (subst (λ x. Fits p (seen s.cells) x Null) (sym (fits_unowning p (seen s.cells) _ (register sh i) (none_owns_at sh.registers i n) h)) tt)
       go false e h = h
-  fits_dying eh e n done (Entry k) = subst (λ es. Fits p (held s.cells) (held s.cells (Entry k)) (entry_claim es (items_of ls) k (claim p (declared p s.cells) ls (Entry k)))) (no_entries sh.entries e) (at_hand.good.fits (Entry k))
-  fits_dying eh e n done (Field m f) = go (o.name == m) (subst (λ h. Fits p (held s.cells) (held s.cells (Field m f)) (home_claim p h sh m f (cond (o.name == m) Null (claim p (declared p s.cells) ls (Field m f))))) eh (at_hand.good.fits (Field m f)))
+  fits_dying eh e n done (Entry k) = subst (λ es. Fits p (seen s.cells) (held s.cells (Entry k)) (entry_claim es (items_of ls) k (claim p (declared p s.cells) ls (Entry k)))) (no_entries sh.entries e) (at_hand.good.fits (Entry k))
+  fits_dying eh e n done (Field m f) = go (o.name == m) (subst (λ h. Fits p (seen s.cells) (held s.cells (Field m f)) (home_claim p h sh m f (cond (o.name == m) Null (claim p (declared p s.cells) ls (Field m f))))) eh (at_hand.good.fits (Field m f)))
     where
-      go : (b : Bool) → Fits p (held s.cells) (held s.cells (Field m f)) (cond b (filled (field_thing p (thing_holder o.thing) f) (field sh f)) (cond b Null (claim p (declared p s.cells) ls (Field m f)))) → Fits p (held s.cells) (held s.cells (Field m f)) (cond b Null (claim p (declared p s.cells) ls (Field m f)))
+      go : (b : Bool) → Fits p (seen s.cells) (held s.cells (Field m f)) (cond b (filled (field_thing p (thing_holder o.thing) f) (field sh f)) (cond b Null (claim p (declared p s.cells) ls (Field m f)))) → Fits p (seen s.cells) (held s.cells (Field m f)) (cond b Null (claim p (declared p s.cells) ls (Field m f)))
       go true h = null_field f (held s.cells (Field m f)) done h
       go false h = h
-  fits_dying eh e n done (Elsewhere Root) = subst (λ h. Fits p (held s.cells) (held s.cells (Elsewhere Root)) (root_claim p h sh (claim p (declared p s.cells) ls (Elsewhere Root)))) eh (at_hand.good.fits (Elsewhere Root))
+  fits_dying eh e n done (Elsewhere Root) = subst (λ h. Fits p (seen s.cells) (held s.cells (Elsewhere Root)) (root_claim p h sh (claim p (declared p s.cells) ls (Elsewhere Root)))) eh (at_hand.good.fits (Elsewhere Root))
   fits_dying eh e n done (Going k) = at_hand.good.fits (Going k)
+
+  -- the object is in a state in which it may go
+  suits_dying : fr.home ≡ Inside o (Going (length (tasks_of ls))) → after_of p fr.method ≡ last_of (thing_kind p o.thing) → IsTrue (has (after_of p fr.method) sh.states) → AllSuit p s.cells (Dying o ∷ ls)
+  suits_dying eh last ends x lives = go (o.name == x.name) refl (subst (λ h. Suits (thing_kind p x.thing) (cond (works_at x.name h) sh.states (cond (o.name == x.name) (last_of (thing_kind p x.thing)) (states_claim p x ls))) (requested s.cells x.name)) eh (at_hand.good.suits x lives))
+    where
+      go : (b : Bool) → (o.name == x.name) ≡ b → Suits (thing_kind p x.thing) (cond b sh.states (cond b (last_of (thing_kind p x.thing)) (states_claim p x ls))) (requested s.cells x.name) → Suits (thing_kind p x.thing) (cond b (last_of (thing_kind p x.thing)) (states_claim p x ls)) (requested s.cells x.name)
+      go true same h =
+          let one = same_object s.cells o x at_hand.good.stack.4.0.0 lives same in
+          suits_less (thing_kind p x.thing) (last_of (thing_kind p x.thing)) sh.states (requested s.cells x.name) (subst (λ k. IsTrue (has k sh.states)) (last ∙ ap (λ (y : Object). last_of (thing_kind p y.thing)) one) ends) h
+      go false other h = h
 
   pub law_destructor : (a : ℕ) → Law p t c s fr sh (Dying o ∷ ls) at_hand (Return a)
   law_destructor a n leads =
@@ -77,6 +91,7 @@ module _ (p : Image) (t : Typing) (c : Choice) (s : State) (fr : Frame) (sh : Sh
       let good : Good p t s.cells (Dying o ∷ ls) = record {
         stack = (at_hand.good.stack.4.0, tt, at_hand.good.stack.4.2);
         fits = fits_dying above.1 entries free done;
+        suits = suits_dying above.1 above.4 r.ends;
         tidy = at_hand.good.tidy;
       } in (
         return_needs p t c s fr sh (Dying o ∷ ls) at_hand a r

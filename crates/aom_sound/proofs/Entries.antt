@@ -33,7 +33,7 @@ use Rattle.aom_sound.specs.Cleanup.{leave_needs, no_memory, pushed_cells, top_pl
 use Rattle.aom_sound.specs.Laws.{IsWired}
 use Rattle.aom_sound.specs.Moves.{does, needs}
 use Rattle.aom_sound.specs.Objects.{is_no_message, no_words}
-use Rattle.aom_sound.specs.Places.{Cell, Entry, Object, Place, changed, held, moved, same_place, with_new}
+use Rattle.aom_sound.specs.Places.{Cell, Entry, Object, Place, Sight, changed, held, moved, same_place, seen, with_new}
 use Rattle.aom_sound.specs.State.{An_object, An_operation, Choice, Frame, Item, Run, State, Static, next, set_word}
 use Rattle.aom_sound.specs.WellTyped.{AllUndo, Awaits, Fits, Gone, IsUndo, Returns, Stack, WellTyped}
 use Rattle.aom_sound.specs.Effects.{Made, Pushed as Object_pushed, Pushed_operation as Operation_pushed, Same, applied, sets, unless_refused, updates}
@@ -54,7 +54,7 @@ owned_or_null (Own t a) e = refl
 owned_or_null _ e = cc
 
 -- such a place holds an object, and no message
-owned_met : (p : Image) (h : Place → Option Object) (o : Option Object) (k : Kind) → owns_object k ≡ true → Fits p h o k → (is_some o ≡ true) × (is_no_message o ≡ true)
+owned_met : (p : Image) (h : Sight) (o : Option Object) (k : Kind) → owns_object k ≡ true → Fits p h o k → (is_some o ≡ true) × (is_no_message o ≡ true)
 owned_met p h (Some o) (Own t a) e f = (refl, ap is_object (stands_same p o.thing t f.0) ∙ e)
 owned_met p h _ _ e f = absurd (grind arith)
 
@@ -115,7 +115,7 @@ module _ (p : Image) (t : Typing) (c : Choice) (s : State) (fr : Frame) (sh : Sh
   next_place = ap Entry (sym height)
 
   no_entry_yet : held s.cells (Entry (length s.items)) ≡ None
-  no_entry_yet = fits_unowning p (held s.cells) _ Null refl (subst (λ k. Fits p (held s.cells) (held s.cells (Entry (length s.items))) k) (claim_entry_above p s.cells (Method fr sh ∷ ls) (length s.items) (omega (arith, height))) (at_hand.good.fits (Entry (length s.items))))
+  no_entry_yet = fits_unowning p (seen s.cells) _ Null refl (subst (λ k. Fits p (seen s.cells) (held s.cells (Entry (length s.items))) k) (claim_entry_above p s.cells (Method fr sh ∷ ls) (length s.items) (omega (arith, height))) (at_hand.good.fits (Entry (length s.items))))
 
   -- ---- a push
 
@@ -135,7 +135,7 @@ module _ (p : Image) (t : Typing) (c : Choice) (s : State) (fr : Frame) (sh : Sh
       ∙ ap (λ x. cond (same_place q r) k x) (claim-set_register p d fr sh ls a Null r)
       ∙ ap (λ x. changed (changed (claim p d (Method fr sh ∷ ls)) (top ls a) Null) q x r) (sym (claim_register p d fr sh ls a)) in
       relocate p t s.cells fr (next (set_word fr a None)) sh (pushed_shape a) ls (top ls a) q
-      g refl refl refl no_entry_yet (omega arith) (omega (arith, height, length_objects sh.entries (items_of ls)))
+      g refl refl refl refl no_entry_yet (omega arith) (omega (arith, height, length_objects sh.entries (items_of ls)))
       (λ o from e. (tt, tt)) (λ r x e k f. refl) claims
       (words_set fr.words sh a None Null at_hand.good.stack.1.words refl)
 
@@ -155,7 +155,7 @@ module _ (p : Image) (t : Typing) (c : Choice) (s : State) (fr : Frame) (sh : Sh
       cells = pushed_cells fr (tasks_of ls) s a
 
       met : (is_some (held s.cells (top ls a)) ≡ true) × (is_no_message (held s.cells (top ls a)) ≡ true)
-      met = owned_met p (held s.cells) (held s.cells (top ls a)) (register sh a) n.0 (kind_fits p t c s fr sh ls at_hand a)
+      met = owned_met p (seen s.cells) (held s.cells (top ls a)) (register sh a) n.0 (kind_fits p t c s fr sh ls at_hand a)
 
       there : Fitted p t (pushed_cells fr (tasks_of ls) s a) (next (set_word fr a None)) (pushed_shape a) ls
       there = push_fitted a n.0
@@ -168,14 +168,14 @@ module _ (p : Image) (t : Typing) (c : Choice) (s : State) (fr : Frame) (sh : Sh
       needed false = tt
 
       goes : (b : Bool) → WellTyped p t (applied p fr (tasks_of ls) s (unless_refused b (Object_pushed a) (sets fr a None (Object_pushed a))))
-      goes true = leave_keeps p t (record s { cells = cells; items = An_object ∷ s.items }) no_memory fr' (pushed_shape a) ls items at_hand.undos there n.1.0 n.1.1.0
+      goes true = leave_keeps p t (record s { cells = cells; items = An_object ∷ s.items }) no_memory fr' (pushed_shape a) ls items at_hand.undos there n.1.0 n.1.1.0 n.1.1.1.0
       goes false = well p t c s fr sh ls at_hand _ fr' (pushed_shape a) refl items at_hand.undos (settle p t cells fr' (pushed_shape a) ls there leads.0)
 
   -- ---- the push of an operation
 
   operation_fitted : Fitted p t s.cells (next fr) (with_entry Pushed_operation sh) ls
-  operation_fitted = relabel p t s.cells fr (next fr) sh (with_entry Pushed_operation sh) ls (Entry (length s.items)) Null g refl refl refl
-      (subst (λ o. Fits p (held s.cells) o Null) (sym no_entry_yet) tt)
+  operation_fitted = relabel p t s.cells fr (next fr) sh (with_entry Pushed_operation sh) ls (Entry (length s.items)) Null g refl refl refl refl
+      (subst (λ o. Fits p (seen s.cells) o Null) (sym no_entry_yet) tt)
       (λ r. claim_push p (declared p s.cells) fr sh ls Pushed_operation r ∙ ap (λ q. changed (claim p (declared p s.cells) (Method fr sh ∷ ls)) q Null r) next_place)
       at_hand.good.stack.1.words
 
@@ -199,7 +199,7 @@ module _ (p : Image) (t : Typing) (c : Choice) (s : State) (fr : Frame) (sh : Sh
       needed false = tt
 
       goes : (b : Bool) → WellTyped p t (applied p fr (tasks_of ls) s (unless_refused b (Operation_pushed m (read fr (tasks_of ls) s a)) (updates fr (Operation_pushed m (read fr (tasks_of ls) s a)))))
-      goes true = leave_keeps p t (record s { items = An_operation m (read fr (tasks_of ls) s a) ∷ s.items }) no_memory (next fr) with_operation ls items undos operation_fitted n.1.0 n.1.1.0
+      goes true = leave_keeps p t (record s { items = An_operation m (read fr (tasks_of ls) s a) ∷ s.items }) no_memory (next fr) with_operation ls items undos operation_fitted n.1.0 n.1.1.0 n.1.1.1.0
       goes false = well p t c s fr sh ls at_hand _ (next fr) with_operation refl items undos (settle p t s.cells (next fr) with_operation ls operation_fitted leads.0)
 
   -- ---- a pop
@@ -225,7 +225,7 @@ module _ (p : Image) (t : Typing) (c : Choice) (s : State) (fr : Frame) (sh : Sh
           claim-set_register p d fr (record sh { entries = es }) ls a k r
           ∙ ap (λ y. cond (same_place (top ls a) r) k y) (entry_less p s.cells fr sh ls x es e rest known r)
           ∙ ap (λ y. changed (changed (claim p d (Method fr sh ∷ ls)) q Null) (top ls a) y r) (sym (entry_here p s.cells fr sh ls x es e rest known)) in
-          let there = relocate p t s.cells fr fr' sh sh' ls q (top ls a) g refl refl refl free (omega (arith, high, length_objects es (items_of ls))) (omega arith)
+          let there = relocate p t s.cells fr fr' sh sh' ls q (top ls a) g refl refl refl refl free (omega (arith, high, length_objects es (items_of ls))) (omega arith)
           (λ o from e. (tt, tt)) (λ r x e k f. refl) claims
           (words_set fr.words sh a None k at_hand.good.stack.1.words (no_word_fits k (entry_object x))) in
           let lead : Leads t fr.method (suc fr.place) sh' = subst (λ es. Leads t fr.method (suc fr.place) (set_register (record sh { entries = without_top es }) a (top_kind es))) e leads.0 in
@@ -251,8 +251,8 @@ module _ (p : Image) (t : Typing) (c : Choice) (s : State) (fr : Frame) (sh : Sh
           let op = top_operation p s.items (objects es (items_of ls)) (at_hand.items ∙ ap (λ es. objects es (items_of ls)) e) at_hand.undos in
           let q = Entry (length op.rest) in
           let sh' = record sh { entries = es } in
-          let nothing : Fits p (held s.cells) (held s.cells q) Null = subst (λ k. Fits p (held s.cells) (held s.cells q) k) (entry_here p s.cells fr sh ls Pushed_operation es e op.rest op.known) (at_hand.good.fits q) in
-          let there = relabel p t s.cells fr (next fr) sh sh' ls q Null g refl refl refl nothing (entry_less p s.cells fr sh ls Pushed_operation es e op.rest op.known) at_hand.good.stack.1.words in
+          let nothing : Fits p (seen s.cells) (held s.cells q) Null = subst (λ k. Fits p (seen s.cells) (held s.cells q) k) (entry_here p s.cells fr sh ls Pushed_operation es e op.rest op.known) (at_hand.good.fits q) in
+          let there = relabel p t s.cells fr (next fr) sh sh' ls q Null g refl refl refl refl nothing (entry_less p s.cells fr sh ls Pushed_operation es e op.rest op.known) at_hand.good.stack.1.words in
           let lead : Leads t fr.method (suc fr.place) sh' = subst (λ es. Leads t fr.method (suc fr.place) (record sh { entries = without_top es })) e leads.0 in (
             (ap tops_entry op.is, (ap tops_operation op.is, tt)),
             subst (λ i. WellTyped p t (record s { tasks = Run (next fr) ∷ tasks_of ls; items = below_top i })) (sym op.is)
@@ -281,6 +281,7 @@ module _ (p : Image) (t : Typing) (c : Choice) (s : State) (fr : Frame) (sh : Sh
               λ may. absurd (true≢false (sym may ∙ is.leaves)),
               subst (λ gives. Awaits gives r less) (sym is.gives) tt,
               subst (λ gives. Leads t fr.method (suc fr.place) (brought gives r less)) (sym is.gives) (lead x es e),
+              tt,
             ),
             below.1,
             below.2,
@@ -304,6 +305,7 @@ module _ (p : Image) (t : Typing) (c : Choice) (s : State) (fr : Frame) (sh : Sh
             fits = at_hand.good.fits;
             claims = λ r. ap (λ es. claim p (declared p s.cells) (Method fr (record sh { entries = es }) ∷ ls) r) e ∙ claim_push p (declared p s.cells) fr less ls x r;
             deep = refl;
+            suits = at_hand.good.suits;
             tidy = at_hand.good.tidy;
             items = known x es e;
             undos = at_hand.undos;
@@ -333,12 +335,12 @@ module _ (p : Image) (t : Typing) (c : Choice) (s : State) (fr : Frame) (sh : Sh
 
       makes : Fitted p t cells fr' (set_register sh a k) ls
       makes = create p t s.cells fr sh ls c.name (An_object_of x) (no_words p x) a k g unused free
-          (λ h nf. (stands_itself p (An_object_of x), age_fits p t c s fr sh ls at_hand h (new_age p x) (record { name = c.name; thing = An_object_of x }) nf)) refl
+          (λ h nf u. (stands_itself p (An_object_of x), age_fits p t c s fr sh ls at_hand h (new_age p x) (record { name = c.name; thing = An_object_of x }) nf u)) refl
 
       needed : (b : Bool) → AllTrue (cond b (leave_needs s.cells (Run fr ∷ tasks_of ls)) [])
       needed true = leave_is_met p t s.cells fr fr sh ls g n.1.1.0 n.1.1.1.0
       needed false = tt
 
       goes : (b : Bool) → WellTyped p t (applied p fr (tasks_of ls) s (unless_refused b Same (sets fr a None (Made c.name x a))))
-      goes true = leave_keeps p t s no_memory fr sh ls at_hand.items at_hand.undos g n.1.1.0 n.1.1.1.0
+      goes true = leave_keeps p t s no_memory fr sh ls at_hand.items at_hand.undos g n.1.1.0 n.1.1.1.0 n.1.1.1.1.0
       goes false = well p t c s fr sh ls at_hand _ fr' (set_register sh a k) refl at_hand.items at_hand.undos (settle p t cells fr' (set_register sh a k) ls makes leads.0)

@@ -1,15 +1,15 @@
 -- A method is about to return: nothing but its result is owned, its entries are gone, and the layers below claim the rest.
-use Rattle.std.proofs.Common.{Bool, List, None, Option, Some, [], ap, arith, cond, false, inl, inr, length, refl, subst, suc, sym, true, zero, ℕ, ◌&&◌, ◌==◌, ◌∙◌, ◌∷◌, ◌≡◌}
+use Rattle.std.proofs.Common.{Bool, IsTrue, List, None, Option, Some, [], ap, arith, cond, false, inl, inr, length, refl, subst, suc, sym, true, zero, ℕ, ◌&&◌, ◌++◌, ◌==◌, ◌∙◌, ◌∷◌, ◌≡◌}
 use Rattle.std.proofs.lemmas.Bool.{and_from, and_parts, cases_Bool, eq-eqb, eqb-true, true≢false}
 use Rattle.std.specs.Prelude.{is_some, not, ◌++◌}
 use Rattle.aom_image.specs.Image.{Image}
-use Rattle.aom_image.specs.Views.{gives_of}
+use Rattle.aom_image.specs.Views.{gives_of, has}
 use Rattle.aom_instructions.specs.declared.instr.Instr.TheVariants.{Return}
 use Rattle.aom_image.specs.declared.method.Gives.{Gives}
 use Rattle.aom_image.specs.declared.method.Gives.TheVariants.{Left, Maybe as A_maybe, Nothing, Own as An_own}
 use Rattle.aom_image.specs.declared.method.Thing.{Thing}
 use Rattle.aom_image.specs.declared.method.Thing.TheVariants.{Object as An_object_of}
-use Rattle.aom_rules.specs.Calls.{entries_done, fields_done, is_destructor, leaves_one, result_moved, rule_result}
+use Rattle.aom_rules.specs.Calls.{entries_done, fields_done, is_destructor, leaves_one, result_moved, rule_ended, rule_left, rule_result}
 use Rattle.aom_shape.specs.Kinds.{is_own_for, field, filled, is_ready_kind, is_unowning, no_entry, none_owns, register, set_register}
 use Rattle.aom_shape.specs.Needs.{AllTrue}
 use Rattle.aom_rules.specs.Rules.{rule_needs}
@@ -35,9 +35,11 @@ use Rattle.aom_sound.specs.Calls.{end_needs, is_level, is_register_but, leaves_o
 use Rattle.aom_sound.specs.Claims.{Dispatching, Dying, Layer, Mark, Method, Object_form, Unwinding, claim, declared, declared_field, entry_claim, forms, home_claim, items_of, objects, root_claim, tasks_of}
 use Rattle.aom_sound.specs.Moves.{needs}
 use Rattle.aom_sound.specs.Objects.{is_thing}
-use Rattle.aom_sound.specs.Places.{Cell, Elsewhere, Entry, Field, Going, Object, Place, Register, Root, held, same_place}
+use Rattle.aom_sound.specs.Places.{Cell, Elsewhere, Entry, Field, Going, Object, Place, Register, Root, Sight, held, same_place, seen}
 use Rattle.aom_sound.specs.State.{An_object, AtRoot, Choice, Frame, Home, Inside, Item, Main_left, Of_main, Of_root, State, Static, thing_holder}
 use Rattle.aom_sound.specs.WellTyped.{Fits, IsApart, IsHoused, NotAtRoot, RootUnclaimed, Unclaimed, past_going}
+use Rattle.aom_rules.specs.Requests.{unissued}
+use Rattle.aom_shape.specs.Arguments.{after_of}
 
 pub none_owns_at : (ks : List Kind) (i : ℕ) → none_owns ks ≡ true → is_unowning (at Unset ks i) ≡ true
 none_owns_at [] i e = refl
@@ -91,7 +93,7 @@ none_owns_from (c ∷ cs) d spared h = and_from _ _ (go spared c.owner h) (none_
     go (Some a) (Elsewhere o) h = refl
 
 -- what holds of a field holds when nothing is known of it
-pub perhaps_fits : (p : Image) (h : Place → Option Object) (o : Option Object) (x : Option Thing) (y : Filling) → Fits p h o (filled x y) → Fits p h o (filled x Perhaps)
+pub perhaps_fits : (p : Image) (h : Sight) (o : Option Object) (x : Option Thing) (y : Filling) → Fits p h o (filled x y) → Fits p h o (filled x Perhaps)
 perhaps_fits p h o None y g = g
 perhaps_fits p h o (Some x) Empty g = subst (λ o. Fits p h o (Maybe x Ready)) (sym (fits_unowning p h o Null refl g)) tt
 perhaps_fits p h o (Some x) Full g = full o g
@@ -117,7 +119,7 @@ claim_root p d (Dispatching (Main_left code) ∷ ls) u = claim_root p d ls u
 claim_root p d (Dispatching Of_root ∷ ls) u = absurd u
 
 -- a method ends
-pub ended : (p : Image) (cs : List Cell) (fr : Frame) (sh : Shape) (ls : List Layer) → IsHoused p cs ls fr.home → IsApart p fr.home ls → past_going ls ≡ ls → no_entry sh.entries ≡ true → none_owns sh.registers ≡ true → (r : Place) (h : Place → Option Object) (o : Option Object) → Fits p h o (claim p (declared p cs) (Method fr sh ∷ ls) r) → Fits p h o (claim p (declared p cs) ls r)
+pub ended : (p : Image) (cs : List Cell) (fr : Frame) (sh : Shape) (ls : List Layer) → IsHoused p cs ls fr.home → IsApart p fr.home ls → past_going ls ≡ ls → no_entry sh.entries ≡ true → none_owns sh.registers ≡ true → (r : Place) (h : Sight) (o : Option Object) → Fits p h o (claim p (declared p cs) (Method fr sh ∷ ls) r) → Fits p h o (claim p (declared p cs) ls r)
 ended p cs fr sh ls housed apart at_top e n (Register f i) h o fits = go (length (tasks_of ls) == f) refl fits
   where
     go : (b : Bool) → (length (tasks_of ls) == f) ≡ b → Fits p h o (cond b (register sh i) (claim p (declared p cs) ls (Register f i))) → Fits p h o (claim p (declared p cs) ls (Register f i))
@@ -152,11 +154,14 @@ pub record Returnable (p : Image) (fr : Frame) (sh : Shape) (a : ℕ) : Type 0 w
   pub entries : entries_done p (gives_of p fr.method) sh.entries ≡ true
   pub free : none_owns (result_moved p fr.method fr.place sh (gives_of p fr.method) a).registers ≡ true
   pub fields : fields_done p (is_destructor p fr.method) (holder_of p fr.method) sh.fields ≡ true
+  pub settled : unissued sh.states ≡ true
+  pub ends : IsTrue (has (after_of p fr.method) sh.states)
 
 pub returnable : (p : Image) (fr : Frame) (sh : Shape) (a : ℕ) → AllTrue (rule_needs p fr.method fr.place sh (Return a)) → Returnable p fr sh a
 returnable p fr sh a n =
-    let parts = all_parts (rule_result p fr.method fr.place sh (gives_of p fr.method) a) _ n in
-    record { result = parts.0; entries = parts.1.0; free = parts.1.1.0; fields = parts.1.1.1.0 }
+    let parts = all_parts (rule_result p fr.method fr.place sh (gives_of p fr.method) a) (rule_left p fr.method fr.place sh a ++ rule_ended p fr.method fr.place sh) n in
+    let left = all_parts (rule_left p fr.method fr.place sh a) (rule_ended p fr.method fr.place sh) parts.1 in
+    record { result = parts.0; entries = left.0.0; free = left.0.1.0; fields = left.1.1.1.1.0; settled = left.1.0; ends = left.1.1.1.1.1.0 }
 
 -- a method that gives nothing leaves no entry
 pub none_left : (p : Image) (fr : Frame) (sh : Shape) (a : ℕ) → gives_of p fr.method ≡ Nothing → Returnable p fr sh a → no_entry sh.entries ≡ true
@@ -183,8 +188,8 @@ module _ (p : Image) (t : Typing) (c : Choice) (s : State) (fr : Frame) (sh : Sh
   same_height e = eq-eqb _ _ (sym (length_forms s.items) ∙ ap length (same_items e) ∙ sym at_hand.good.stack.1.height)
 
   -- the object that is left is owned by the last entry
-  pub left_held : (x : ℕ) → leaves_one p x sh.entries ≡ true → Fits p (held s.cells) (held s.cells (Entry (length (items_of ls)))) (Own (An_object_of x) Ready)
-  left_held x e = subst (λ k. Fits p (held s.cells) (held s.cells (Entry (length (items_of ls)))) k) claims (at_hand.good.fits (Entry (length (items_of ls))))
+  pub left_held : (x : ℕ) → leaves_one p x sh.entries ≡ true → Fits p (seen s.cells) (held s.cells (Entry (length (items_of ls)))) (Own (An_object_of x) Ready)
+  left_held x e = subst (λ k. Fits p (seen s.cells) (held s.cells (Entry (length (items_of ls)))) k) claims (at_hand.good.fits (Entry (length (items_of ls))))
     where
       below : Kind
       below = claim p (declared p s.cells) ls (Entry (length (items_of ls)))
@@ -196,7 +201,7 @@ module _ (p : Image) (t : Typing) (c : Choice) (s : State) (fr : Frame) (sh : Sh
   one_left : (x : ℕ) → leaves_one p x sh.entries ≡ true → leaves_object p fr (tasks_of ls) s x s.items ≡ true
   one_left x e = go s.items (at_hand.items ∙ ap (λ es. objects es (items_of ls)) (left_alone p x sh.entries e))
     where
-      there : (o : Option Object) → Fits p (held s.cells) o (Own (An_object_of x) Ready) → (is_some o && is_thing p (An_object_of x) o) ≡ true
+      there : (o : Option Object) → Fits p (seen s.cells) o (Own (An_object_of x) Ready) → (is_some o && is_thing p (An_object_of x) o) ≡ true
       there None f = absurd f
       there (Some o) f = f.0
 
@@ -207,7 +212,7 @@ module _ (p : Image) (t : Typing) (c : Choice) (s : State) (fr : Frame) (sh : Sh
           let place : Place = Entry (length items) in
           and_from (length items == fr.height) (is_some (held s.cells place) && is_thing p (An_object_of x) (held s.cells place))
           (eq-eqb _ _ (high ∙ sym at_hand.good.stack.1.height))
-          (there (held s.cells place) (subst (λ n. Fits p (held s.cells) (held s.cells (Entry n)) (Own (An_object_of x) Ready)) (sym high) (left_held x e)))
+          (there (held s.cells place) (subst (λ n. Fits p (seen s.cells) (held s.cells (Entry n)) (Own (An_object_of x) Ready)) (sym high) (left_held x e)))
       go _ f = cc
 
   -- the cleanup stack is level

@@ -8,7 +8,7 @@ use Rattle.aom_instructions.specs.Operands.{IsRegister}
 use Rattle.aom_image.specs.Views.{arguments_of, method_class}
 use Rattle.aom_instructions.specs.Fits.{InstrFits}
 use Rattle.aom_instructions.specs.declared.instr.Instr.{Instr}
-use Rattle.aom_instructions.specs.declared.instr.Instr.TheVariants.{Call, Delete, Jump, JumpEmpty, JumpEqual, JumpLess, JumpNull, Leave, LeaveIf, Loop, Move, New, NewOrLeave, Next, Pop, PopDelete, PopOperation, Push, PushOperation, Return, Take, Trap}
+use Rattle.aom_instructions.specs.declared.instr.Instr.TheVariants.{Call, Delete, Jump, JumpActive, JumpAdded, JumpEmpty, JumpEqual, JumpLess, JumpNull, Leave, LeaveIf, Loop, Move, New, NewOrLeave, Next, Pop, PopDelete, PopOperation, Push, PushOperation, Return, Take, Trap}
 use Rattle.aom_instructions.specs.declared.instr.Target.{Target}
 use Rattle.aom_instructions.specs.declared.limits.Limits.{Limits}
 use Rattle.aom_classes.specs.Jumps.{jump_of}
@@ -18,6 +18,7 @@ use Rattle.aom_sound.proofs.Finishing.{all_parts}
 use Rattle.aom_sound.specs.Calls.{below_top, needs_entering, needs_target}
 use Rattle.aom_sound.specs.Cleanup.{has_trap, is_negative, leave_needs, no_memory, top_is_whole, top_place, tops_entry, tops_object, tops_operation}
 use Rattle.aom_sound.specs.Effects.{Calls, Carried, Destroys, Destroys_last, Effect, Goes_on, In_field, In_register, Leaves, Made, Operates, Popped, Pushed, Pushed_operation, Same, Sets_trap, Spot, Update, deals, deletes, effect, jumps_if, jumps_unless, makes_unless, round, sets, updates}
+use Rattle.aom_sound.specs.Enlisted.{in_phase, is_busy, own_request}
 use Rattle.aom_sound.specs.Leaves.{LeavesWith}
 use Rattle.aom_sound.specs.Moves.{needs}
 use Rattle.aom_sound.specs.Places.{Cell, Object, held}
@@ -134,6 +135,8 @@ module _ (p : Image) (c : Choice) (fr : Frame) (ts : List Task) (s : State) wher
       let code = read fr ts s a in
       let b = is_negative p c fr ts s code in
       either (LeaveIf a) b code Same _ (λ e. ((may_leave b s.cells n.1 e, (read_word (word fr a) n.0, e), tt), λ l f. tt)) ((refl, tt), λ l f. tt)
+  fits (JumpActive to) n = branches (JumpActive to) (in_phase is_busy (own_request s.cells fr.home)) to refl refl
+  fits (JumpAdded to) n = branches (JumpAdded to) (is_some (own_request s.cells fr.home)) to refl refl
   fits (Return a) n = ((refl, refl), λ l f. tt)
   -- the others go on
   fits _ n = ((refl, tt), λ l f. tt)

@@ -8,13 +8,15 @@ use Rattle.aom_shape.specs.declared.kind.Age.TheVariants.{Ready}
 use Rattle.aom_shape.specs.declared.kind.Kind.TheVariants.{Null, Own}
 use Rattle.aom_sound.proofs.Claimed.{NoFieldHere, Outside, claim_frame, claim_going_above, claim_rel, claim_unclaimed, fits_age, going_differs, outside_differs, outside_less}
 use Rattle.aom_sound.proofs.Destroying.{Untouched, other_name, untouched}
-use Rattle.aom_sound.proofs.Maps.{front_free, held_without, named_without, same_place-true, tidy_without, unnamed}
+use Rattle.aom_sound.proofs.Maps.{front_free, held_without, named_without, requested_without, same_place-true, tidy_without, unnamed, unrequested}
 use Rattle.aom_sound.proofs.Straight.{Fitted, fits_unowning, settle}
 use Rattle.aom_sound.specs.Claims.{Dispatching, Dying, Layer, Mark, Method, Unwinding, claim, declared, declared_field, forms, items_of, objects, tasks_of}
 use Rattle.aom_sound.specs.Destruction.{gone, is_field_of, owns_nothing}
-use Rattle.aom_sound.specs.Places.{Cell, Elsewhere, Entry, Field, Going, Object, Place, Register, Root, Tidy, held, same_place, without}
+use Rattle.aom_sound.specs.Places.{Cell, Elsewhere, Entry, Field, Going, Object, Place, Register, Root, Tidy, held, named, requested, same_place, seen, without}
 use Rattle.aom_sound.specs.State.{AtRoot, Home, Inside, IsStuck, Of_root, Orphan, State, Static, guarded, next, resumed}
 use Rattle.aom_sound.specs.WellTyped.{AllUndo, Back, Caught, Fits, Gone, Good, Holds, IsHoused, Keeps, Leaves, Now, Returns, Stack, WellTyped}
+use Rattle.aom_sound.specs.Requests.{AllSuit, Suits, states_claim, thing_kind}
+use Rattle.aom_roles.specs.States.{last_of}
 
 -- the fields of a cell that goes are null, so nothing is owned by it
 pub nothing_in : (cs : List Cell) (n : ℕ) → ((f : ℕ) → held cs (Field n f) ≡ None) → owns_nothing cs n ≡ true
@@ -69,10 +71,10 @@ module _ (p : Image) (t : Typing) (cs : List Cell) (o : Object) (ls : List Layer
   at_hand = Going (length (tasks_of ls))
 
   pub no_fields : (f : ℕ) → held cs (Field o.name f) ≡ None
-  no_fields f = fits_unowning p (held cs) _ Null refl (subst (λ b. Fits p (held cs) (held cs (Field o.name f)) (cond b Null (claim p (declared p cs) ls (Field o.name f)))) (eq-eqb o.name _ refl) (good.fits (Field o.name f)))
+  no_fields f = fits_unowning p (seen cs) _ Null refl (subst (λ b. Fits p (seen cs) (held cs (Field o.name f)) (cond b Null (claim p (declared p cs) ls (Field o.name f)))) (eq-eqb o.name _ refl) (good.fits (Field o.name f)))
 
-  fits_after : (r : Place) → Fits p (held (without (Going (length (tasks_of ls))) cs)) (held (without (Going (length (tasks_of ls))) cs) r) (claim p (declared p (without (Going (length (tasks_of ls))) cs)) ls r)
-  fits_after r = subst (λ x. Fits p (held cs') x (claim p (declared p cs') ls r)) (sym (held_without cs g r)) (go (same_place g r) refl)
+  fits_after : (r : Place) → Fits p (seen (without (Going (length (tasks_of ls))) cs)) (held (without (Going (length (tasks_of ls))) cs) r) (claim p (declared p (without (Going (length (tasks_of ls))) cs)) ls r)
+  fits_after r = subst (λ x. Fits p (seen cs') x (claim p (declared p cs') ls r)) (sym (held_without cs g r)) (go (same_place g r) refl)
     where
       g : Place
       g = Going (length (tasks_of ls))
@@ -97,21 +99,21 @@ module _ (p : Image) (t : Typing) (cs : List Cell) (o : Object) (ls : List Layer
       same_declared (Elsewhere Root) h = refl
       same_declared (Going k) h = refl
 
-      keep : (r : Place) → claim p (declared p cs) (Dying o ∷ ls) r ≡ claim p (declared p cs) ls r → ((n f : ℕ) → r ≡ Field n f → (o.name == n) ≡ false) → Fits p (held cs') (held cs r) (claim p (declared p cs') ls r)
-      keep r e h = fits_age p (held cs) (held cs') (held cs r) _ (λ x e' fresh f nf. fewer (Field x.name f) nf)
-          (subst (λ k. Fits p (held cs) (held cs r) k) (e ∙ claim_rel (λ x y. x ≡ y) (λ k. refl) p (declared p cs) (declared p cs') ls r (same_declared r h)) (good.fits r))
+      keep : (r : Place) → claim p (declared p cs) (Dying o ∷ ls) r ≡ claim p (declared p cs) ls r → ((n f : ℕ) → r ≡ Field n f → (o.name == n) ≡ false) → Fits p (seen cs') (held cs r) (claim p (declared p cs') ls r)
+      keep r e h = fits_age p (seen cs) (seen cs') (held cs r) _ (λ x e' fresh age. (λ f. fewer (Field x.name f) (age.0 f), unrequested cs g x.name good.tidy age.1))
+          (subst (λ k. Fits p (seen cs) (held cs r) k) (e ∙ claim_rel (λ x y. x ≡ y) (λ k. refl) p (declared p cs) (declared p cs') ls r (same_declared r h)) (good.fits r))
 
-      others : (r : Place) → same_place g r ≡ false → Fits p (held cs') (held cs r) (claim p (declared p cs') ls r)
+      others : (r : Place) → same_place g r ≡ false → Fits p (seen cs') (held cs r) (claim p (declared p cs') ls r)
       others (Register f i) e = keep (Register f i) refl (λ n m e. cc)
       others (Entry k) e = keep (Entry k) refl (λ n m e. cc)
       others (Field n f) e = fields (o.name == n) refl
         where
-          fields : (b : Bool) → (o.name == n) ≡ b → Fits p (held cs') (held cs (Field n f)) (claim p (declared p cs') ls (Field n f))
+          fields : (b : Bool) → (o.name == n) ≡ b → Fits p (seen cs') (held cs (Field n f)) (claim p (declared p cs') ls (Field n f))
           fields true d =
               let same = eqb-true o.name n d in
               let gone = ap (λ m. held cs (Field m f)) (sym same) ∙ no_fields f in
               let null = ap (λ m. claim p (declared p cs') ls (Field m f)) (sym same) ∙ claim_unclaimed p (declared p cs') ls o.name f (λ f. Null) u.unclaimed (ap (λ x. declared_field p x f) (unnamed cs g o good.tidy good.stack.0.1)) in
-              subst (λ x. Fits p (held cs') x (claim p (declared p cs') ls (Field n f))) (sym gone) (subst (λ k. Fits p (held cs') None k) (sym null) tt)
+              subst (λ x. Fits p (seen cs') x (claim p (declared p cs') ls (Field n f))) (sym gone) (subst (λ k. Fits p (seen cs') None k) (sym null) tt)
           fields false d = keep (Field n f) (ap (λ b. cond b Null (claim p (declared p cs) ls (Field n f))) d) (λ m h e. let same : n ≡ m = cc in subst (λ m. (o.name == m) ≡ false) same d)
       others (Elsewhere Root) e = keep (Elsewhere Root) refl (λ n m e. cc)
       others (Going k) e = keep (Going k) (ap (λ b. cond b (Own o.thing Ready) (claim p (declared p cs) ls (Going k))) (tail (length (tasks_of ls) == k) e)) (λ n m e. cc)
@@ -120,16 +122,33 @@ module _ (p : Image) (t : Typing) (cs : List Cell) (o : Object) (ls : List Layer
           tail true e = e
           tail false e = refl
 
-      go : (b : Bool) → same_place g r ≡ b → Fits p (held cs') (cond b None (held cs r)) (claim p (declared p cs') ls r)
-      go true e = subst (λ k. Fits p (held cs') None k) (sym (ap (λ q. claim p (declared p cs') ls q) (sym (same_place-true g r e)) ∙ claim_going_above p cs' ls (length (tasks_of ls)) (omega arith))) tt
+      go : (b : Bool) → same_place g r ≡ b → Fits p (seen cs') (cond b None (held cs r)) (claim p (declared p cs') ls r)
+      go true e = subst (λ k. Fits p (seen cs') None k) (sym (ap (λ q. claim p (declared p cs') ls q) (sym (same_place-true g r e)) ∙ claim_going_above p cs' ls (length (tasks_of ls)) (omega arith))) tt
       go false e = others r e
 
+  -- what is left is another object
+  suits_after : AllSuit p (without (Going (length (tasks_of ls))) cs) ls
+  suits_after x lives = go (o.name == x.name) refl
+    where
+      g : Place
+      g = Going (length (tasks_of ls))
+
+      go : (b : Bool) → (o.name == x.name) ≡ b → Suits (thing_kind p x.thing) (states_claim p x ls) (requested (without g cs) x.name)
+      go true same =
+          let gone : named (without g cs) x.name ≡ None = ap (λ n. named (without g cs) n) (sym (eqb-true o.name x.name same)) ∙ unnamed cs g o good.tidy good.stack.0.1 in
+          let clash : Some x ≡ None = sym lives ∙ gone in cc
+      go false other =
+          let there = sym (named_without cs g o x.name good.tidy good.stack.0.1 other) ∙ lives in
+          subst (λ r. Suits (thing_kind p x.thing) (states_claim p x ls) r) (sym (requested_without cs g o x.name good.tidy good.stack.0.1 other))
+          (subst (λ b. Suits (thing_kind p x.thing) (cond b (last_of (thing_kind p x.thing)) (states_claim p x ls)) (requested cs x.name)) other (good.suits x there))
+
 -- the method below goes on, or the run is at its end
-goes_on : (p : Image) (t : Typing) (s : State) (ls : List Layer) → Stack p t s.cells Gone ls → ((r : Place) → Fits p (held s.cells) (held s.cells r) (claim p (declared p s.cells) ls r)) → Tidy s.cells → s.tasks ≡ resumed (tasks_of ls) → forms s.items ≡ items_of ls → AllUndo p s.items → WellTyped p t s
-goes_on p t s [] stack fits tidy tasks items undos = let clash : Gone ≡ Now = stack in cc
-goes_on p t s (Method fr sh ∷ ls) stack fits tidy tasks items undos =
+goes_on : (p : Image) (t : Typing) (s : State) (ls : List Layer) → Stack p t s.cells Gone ls → ((r : Place) → Fits p (seen s.cells) (held s.cells r) (claim p (declared p s.cells) ls r)) → AllSuit p s.cells ls → Tidy s.cells → s.tasks ≡ resumed (tasks_of ls) → forms s.items ≡ items_of ls → AllUndo p s.items → WellTyped p t s
+goes_on p t s [] stack fits suits tidy tasks items undos = let clash : Gone ≡ Now = stack in cc
+goes_on p t s (Method fr sh ∷ ls) stack fits suits tidy tasks items undos =
     let f : Fitted p t s.cells (next fr) sh ls = record {
-      fits = λ r. subst (λ k. Fits p (held s.cells) (held s.cells r) k) (sym (claim_frame p (declared p s.cells) fr (next fr) sh ls r refl)) (fits r);
+      fits = λ r. subst (λ k. Fits p (seen s.cells) (held s.cells r) k) (sym (claim_frame p (declared p s.cells) fr (next fr) sh ls r refl)) (fits r);
+      suits = suits;
       tidy = tidy;
       frames = record { words = stack.1.words; holder = stack.1.holder; height = stack.1.height };
       housed = stack.2;
@@ -138,10 +157,10 @@ goes_on p t s (Method fr sh ∷ ls) stack fits tidy tasks items undos =
     } in
     let g = settle p t s.cells (next fr) sh ls f stack.0 in
     record { layers = Method (next fr) g.0 ∷ ls; tasks = tasks; items = items ∙ ap (λ es. objects es (items_of ls)) (sym g.2); undos = undos; good = g.1 }
-goes_on p t s (Unwinding code es ∷ ls) stack fits tidy tasks items undos = record { layers = Unwinding code es ∷ ls; tasks = tasks; items = items; undos = undos; good = record { stack = (tt, stack.1); fits = fits; tidy = tidy } }
-goes_on p t s (Dispatching Of_root ∷ ls) stack fits tidy tasks items undos = record { layers = Dispatching Of_root ∷ ls; tasks = tasks; items = items; undos = undos; good = record { stack = (tt, stack.1); fits = fits; tidy = tidy } }
-goes_on p t s (Dying o ∷ ls) stack fits tidy tasks items undos = record { layers = Dying o ∷ ls; tasks = tasks; items = items; undos = undos; good = record { stack = (stack.0, tt, stack.2); fits = fits; tidy = tidy } }
-goes_on p t s _ stack fits tidy tasks items undos = absurd (assumption tt)
+goes_on p t s (Unwinding code es ∷ ls) stack fits suits tidy tasks items undos = record { layers = Unwinding code es ∷ ls; tasks = tasks; items = items; undos = undos; good = record { stack = (tt, stack.1); fits = fits; suits = suits; tidy = tidy } }
+goes_on p t s (Dispatching Of_root ∷ ls) stack fits suits tidy tasks items undos = record { layers = Dispatching Of_root ∷ ls; tasks = tasks; items = items; undos = undos; good = record { stack = (tt, stack.1); fits = fits; suits = suits; tidy = tidy } }
+goes_on p t s (Dying o ∷ ls) stack fits suits tidy tasks items undos = record { layers = Dying o ∷ ls; tasks = tasks; items = items; undos = undos; good = record { stack = (stack.0, tt, stack.2); fits = fits; suits = suits; tidy = tidy } }
+goes_on p t s _ stack fits suits tidy tasks items undos = absurd (assumption tt)
 
 pub going_keeps : (p : Image) (t : Typing) (s : State) (o : Object) (ls : List Layer) → Good p t s.cells (Dying o ∷ ls) → forms s.items ≡ items_of ls → AllUndo p s.items → Keeps p t (gone (held s.cells (Going (length (tasks_of ls)))) (tasks_of ls) s)
 going_keeps p t s o ls good items undos =
@@ -151,5 +170,6 @@ going_keeps p t s o ls good items undos =
     (goes_on p t (record s { cells = without g s.cells; tasks = resumed (tasks_of ls) }) ls
     (stack_without p t s.cells g o good.tidy good.stack.0.1 ls Gone (omega arith) (λ from. tt) good.stack.2)
     (fits_after p t s.cells o ls good)
+    (suits_after p t s.cells o ls good)
     (tidy_without s.cells g good.tidy)
     refl items undos))

@@ -14,10 +14,11 @@ use Rattle.aom_sound.proofs.Guarded.{goes_same, guarded_goes, guarded_met}
 use Rattle.aom_sound.specs.Calls.{passed_cells, result_cells, result_register, returned}
 use Rattle.aom_sound.specs.Cleanup.{arrived, dealt_with, destroyed, top_is_whole, top_place, unwound}
 use Rattle.aom_sound.specs.Destruction.{gone, owns_nothing}
-use Rattle.aom_sound.specs.Effects.{Calls, Carried, Destroys, Destroys_last, Effect, Goes_on, In_field, In_register, Leaves, Made, Popped, Pushed, Returns, Sets_trap, Spot, Update, Written, applied, cells_after, effect, spot_place}
+use Rattle.aom_sound.specs.Effects.{Calls, Carried, Destroys, Destroys_last, Effect, Goes_on, In_field, In_register, Leaves, Made, Popped, Pushed, Requested, Returns, Sets_trap, Spot, Update, Written, applied, cells_after, effect, spot_place}
+use Rattle.aom_sound.specs.Enlisted.{rerequested}
 use Rattle.aom_sound.specs.Laws.{IsWired, RegistersKeep}
 use Rattle.aom_sound.specs.Moves.{counted, dispatch_ends, does, main_ends, needs, step, step_instr, step_task}
-use Rattle.aom_sound.specs.Places.{Cell, Elsewhere, Entry, Going, Object, Place, Register, Root, held, moved, same_place, set_word_field, without}
+use Rattle.aom_sound.specs.Places.{Cell, Elsewhere, Entry, Going, Object, Place, Register, Request, Root, held, moved, same_place, set_request, set_word_field, without}
 use Rattle.aom_sound.specs.Registers.{AllInRange, IsInRange}
 use Rattle.aom_sound.specs.State.{A_mark, An_object, An_operation, AtRoot, Choice, Destroy, Dispatch, Dispatched, Frame, Goes, Home, Inside, IsStuck, Item, Main_left, NullOrDead, Of_main, Of_root, Orphan, Run, State, Static, Task, Trapped, Unwind, field_place, resumed}
 use Rattle.aom_sound.specs.Words.{here, stored}
@@ -41,6 +42,10 @@ end_in_range p (c ∷ cs) all = go (same_place c.owner p) (end_in_range p cs all
 write_in_range : (n w : ℕ) (v : ℤ) (cs : List Cell) → AllInRange cs → AllInRange (set_word_field n w v cs)
 write_in_range n w v [] all = tt
 write_in_range n w v (c ∷ cs) all = (all.0, write_in_range n w v cs all.1)
+
+asks_in_range : (n : ℕ) (r : Option Request) (cs : List Cell) → AllInRange cs → AllInRange (set_request n r cs)
+asks_in_range n r [] all = tt
+asks_in_range n r (c ∷ cs) all = (all.0, asks_in_range n r cs all.1)
 
 field_in_range : (home : Home) (f : ℕ) → IsInRange (field_place home f)
 field_in_range Static f = tt
@@ -77,10 +82,16 @@ module _ (p : Image) (wired : IsWired p) (fr : Frame) (ts : List Task) (s : Stat
   store_in_range AtRoot w v = all
   store_in_range (Inside o from) w v = write_in_range o.name w v s.cells all
 
+  request_in_range : (home : Home) (r : Option Request) → AllInRange (rerequested s.cells home r)
+  request_in_range Static r = all
+  request_in_range AtRoot r = all
+  request_in_range (Inside o from) r = asks_in_range o.name r s.cells all
+
   update_in_range : (u : Update) → UpdateFits p u → AllInRange (cells_after p fr ts s u)
   update_in_range (Carried from to) fits = move_in_range (spot_place p fr ts s from) (spot_place p fr ts s to) s.cells (spot_in_range to fits) all
   update_in_range (Made name class a) fits = (fits, all)
   update_in_range (Written w v) fits = store_in_range fr.home w v
+  update_in_range (Requested r) fits = request_in_range fr.home r
   update_in_range (Pushed a) fits = move_in_range (here fr ts s a) (Entry (length s.items)) s.cells tt all
   update_in_range (Popped a) fits = move_in_range (top_place s.items) (here fr ts s a) s.cells fits all
   update_in_range _ fits = all

@@ -9,22 +9,22 @@ use Rattle.aom_shape.specs.Kinds.{field, filled, is_object_or_null, register, se
 use Rattle.aom_rules.specs.Objects.{flow_jump_empty, flow_jump_null}
 use Rattle.aom_shape.specs.Shape.{Shape}
 use Rattle.aom_shape.specs.Tables.{at}
-use Rattle.aom_shape.specs.Things.{field_thing, holder_of}
+use Rattle.aom_shape.specs.Things.{field_thing}
 use Rattle.aom_rules.specs.Typing.{AllLead, Leads, Typing}
 use Rattle.aom_rules.specs.Words.{flow_compare}
 use Rattle.aom_shape.specs.declared.kind.Filling.{Filling}
 use Rattle.aom_shape.specs.declared.kind.Filling.TheVariants.{Empty, Full, Perhaps}
 use Rattle.aom_shape.specs.declared.kind.Kind.{Kind}
 use Rattle.aom_shape.specs.declared.kind.Kind.TheVariants.{Maybe, Null, Own, Unset, Word}
-use Rattle.aom_sound.proofs.Claimed.{claim-set_field, claim-set_register, claim_frame}
+use Rattle.aom_sound.proofs.Claimed.{claim-set_field, claim-set_register}
 use Rattle.aom_sound.proofs.Maps.{at-put_at}
-use Rattle.aom_sound.proofs.Straight.{At, Fitted, Law, field_fits, fitted, kind_fits, no_word, relabel, settle, stepped, top, well}
+use Rattle.aom_sound.proofs.Straight.{At, Fitted, Law, field_fits, fitted, kind_fits, no_word, reframed, relabel, settle, stepped, top, well}
 use Rattle.aom_sound.specs.Claims.{Layer, declared, forms, items_of, objects, tasks_of}
 use Rattle.aom_sound.specs.Effects.{applied, jumps_if, jumps_unless, round}
 use Rattle.aom_sound.specs.Moves.{does}
-use Rattle.aom_sound.specs.Places.{Object, Place, held}
+use Rattle.aom_sound.specs.Places.{Object, Place, held, seen}
 use Rattle.aom_sound.specs.State.{Choice, Frame, Run, State, counter, field_place, home_holder, next, set_counter, to_place, word}
-use Rattle.aom_sound.specs.WellTyped.{Fits, IsApart, IsHoused, Returns, Stack, WellTyped, WordFits}
+use Rattle.aom_sound.specs.WellTyped.{Fits, WellTyped, WordFits}
 
 pub words_kept : (words : List (Option ℤ)) (sh : Shape) (a : ℕ) (k : Kind) → ((i : ℕ) → WordFits (at None words i) (register sh i)) → WordFits (at None words a) k → (i : ℕ) → WordFits (at None words i) (register (set_register sh a k) i)
 words_kept words sh a k h w i = subst (λ x. WordFits (at None words i) x) (sym (at-put_at Unset sh.registers a i k)) (go (a == i) refl)
@@ -39,14 +39,7 @@ module _ (p : Image) (t : Typing) (c : Choice) (s : State) (fr : Frame) (sh : Sh
 
   -- the frame stands elsewhere
   placed : (fr' : Frame) → fr'.home ≡ fr.home → fr'.method ≡ fr.method → fr'.height ≡ fr.height → fr'.words ≡ fr.words → Fitted p t s.cells fr' sh ls
-  placed fr' eh em eg ew = record {
-    fits = λ r. subst (λ k. Fits p (held s.cells) (held s.cells r) k) (sym (claim_frame p (declared p s.cells) fr fr' sh ls r eh)) (g.fits r);
-    tidy = g.tidy;
-    frames = record { words = λ i. subst (λ ws. WordFits (at None ws i) (register sh i)) (sym ew) (g.frames.words i); holder = ap home_holder eh ∙ g.frames.holder ∙ ap (λ m. holder_of p m) (sym em); height = eg ∙ g.frames.height };
-    housed = subst (λ h. IsHoused p s.cells ls h) (sym eh) g.housed;
-    apart = subst (λ h. IsApart p h ls) (sym eh) g.apart;
-    stack = subst (λ m. Stack p t s.cells (Returns m fr'.home) ls) (sym em) (subst (λ h. Stack p t s.cells (Returns fr.method h) ls) (sym eh) g.stack);
-  }
+  placed fr' eh em eg ew = reframed p t s.cells fr fr' sh ls eh em eg ew g
 
   -- two flows: what the jump has learned of the register is claimed on each
   pub law_jump_null : (a to : ℕ) → Law p t c s fr sh ls at_hand (JumpNull a to)
@@ -55,21 +48,21 @@ module _ (p : Image) (t : Typing) (c : Choice) (s : State) (fr : Frame) (sh : Sh
       none : word fr a ≡ None
       none = no_word p t c s fr sh ls at_hand a n.0
 
-      learned : (fr' : Frame) (k : Kind) → fr'.home ≡ fr.home → fr'.method ≡ fr.method → fr'.height ≡ fr.height → fr'.words ≡ fr.words → Fits p (held s.cells) (held s.cells (top ls a)) k → WordFits None k → Fitted p t s.cells fr' (set_register sh a k) ls
-      learned fr' k eh em eg ew new w = relabel p t s.cells fr fr' sh (set_register sh a k) ls (top ls a) k g eh em eg new (λ r. claim-set_register p (declared p s.cells) fr sh ls a k r)
+      learned : (fr' : Frame) (k : Kind) → fr'.home ≡ fr.home → fr'.method ≡ fr.method → fr'.height ≡ fr.height → fr'.words ≡ fr.words → Fits p (seen s.cells) (held s.cells (top ls a)) k → WordFits None k → Fitted p t s.cells fr' (set_register sh a k) ls
+      learned fr' k eh em eg ew new w = relabel p t s.cells fr fr' sh (set_register sh a k) ls (top ls a) k g eh em eg refl new (λ r. claim-set_register p (declared p s.cells) fr sh ls a k r)
           (λ i. subst (λ ws. WordFits (at None ws i) (register (set_register sh a k) i)) (sym ew) (words_kept fr.words sh a k at_hand.good.stack.1.words (subst (λ x. WordFits x k) (sym none) w) i))
 
       go :
           (k : Kind) (o : Option Object) → register sh a ≡ k → held s.cells (top ls a) ≡ o → AllLead t fr.method (flow_jump_null p fr.method fr.place sh k a to) →
-          Fits p (held s.cells) (held s.cells (top ls a)) (register sh a) → WellTyped p t (applied p fr (tasks_of ls) s (jumps_unless fr o to))
+          Fits p (seen s.cells) (held s.cells (top ls a)) (register sh a) → WellTyped p t (applied p fr (tasks_of ls) s (jumps_unless fr o to))
       go Unset o ek eo leads f = let e : is_object_or_null Unset ≡ true = ap is_object_or_null (sym ek) ∙ n.0 in cc
       go Word o ek eo leads f = let e : is_object_or_null Word ≡ true = ap is_object_or_null (sym ek) ∙ n.0 in cc
       go Null None ek eo leads f = well p t c s fr sh ls at_hand _ (to_place fr to) sh refl at_hand.items at_hand.undos (settle p t s.cells (to_place fr to) sh ls (placed (to_place fr to) refl refl refl refl) leads.0)
-      go Null (Some o) ek eo leads f = absurd (subst (λ x. Fits p (held s.cells) x Null) eo (subst (λ k. Fits p (held s.cells) (held s.cells (top ls a)) k) ek f))
-      go (Own x y) None ek eo leads f = absurd (subst (λ o. Fits p (held s.cells) o (Own x y)) eo (subst (λ k. Fits p (held s.cells) (held s.cells (top ls a)) k) ek f))
+      go Null (Some o) ek eo leads f = absurd (subst (λ x. Fits p (seen s.cells) x Null) eo (subst (λ k. Fits p (seen s.cells) (held s.cells (top ls a)) k) ek f))
+      go (Own x y) None ek eo leads f = absurd (subst (λ o. Fits p (seen s.cells) o (Own x y)) eo (subst (λ k. Fits p (seen s.cells) (held s.cells (top ls a)) k) ek f))
       go (Own x y) (Some o) ek eo leads f = well p t c s fr sh ls at_hand _ (next fr) sh refl at_hand.items at_hand.undos (settle p t s.cells (next fr) sh ls (placed (next fr) refl refl refl refl) leads.0)
-      go (Maybe x y) None ek eo leads f = well p t c s fr sh ls at_hand _ (to_place fr to) (set_register sh a Null) refl at_hand.items at_hand.undos (settle p t s.cells (to_place fr to) (set_register sh a Null) ls (learned (to_place fr to) Null refl refl refl refl (subst (λ o. Fits p (held s.cells) o Null) (sym eo) tt) refl) leads.1.0)
-      go (Maybe x y) (Some o) ek eo leads f = well p t c s fr sh ls at_hand _ (next fr) (set_register sh a (Own x y)) refl at_hand.items at_hand.undos (settle p t s.cells (next fr) (set_register sh a (Own x y)) ls (learned (next fr) (Own x y) refl refl refl refl (subst (λ z. Fits p (held s.cells) z (Own x y)) (sym eo) (subst (λ z. Fits p (held s.cells) z (Maybe x y)) eo (subst (λ k. Fits p (held s.cells) (held s.cells (top ls a)) k) ek f))) refl) leads.0)
+      go (Maybe x y) None ek eo leads f = well p t c s fr sh ls at_hand _ (to_place fr to) (set_register sh a Null) refl at_hand.items at_hand.undos (settle p t s.cells (to_place fr to) (set_register sh a Null) ls (learned (to_place fr to) Null refl refl refl refl (subst (λ o. Fits p (seen s.cells) o Null) (sym eo) tt) refl) leads.1.0)
+      go (Maybe x y) (Some o) ek eo leads f = well p t c s fr sh ls at_hand _ (next fr) (set_register sh a (Own x y)) refl at_hand.items at_hand.undos (settle p t s.cells (next fr) (set_register sh a (Own x y)) ls (learned (next fr) (Own x y) refl refl refl refl (subst (λ z. Fits p (seen s.cells) z (Own x y)) (sym eo) (subst (λ z. Fits p (seen s.cells) z (Maybe x y)) eo (subst (λ k. Fits p (seen s.cells) (held s.cells (top ls a)) k) ek f))) refl) leads.0)
 
   pub law_jump : (to : ℕ) → Law p t c s fr sh ls at_hand (Jump to)
   law_jump to n leads = (tt, well p t c s fr sh ls at_hand (does p c fr (tasks_of ls) s (Jump to)) (to_place fr to) sh refl at_hand.items at_hand.undos (settle p t s.cells (to_place fr to) sh ls (placed (to_place fr to) refl refl refl refl) leads.0))
@@ -80,19 +73,19 @@ module _ (p : Image) (t : Typing) (c : Choice) (s : State) (fr : Frame) (sh : Sh
   goes_either to leads false = well p t c s fr sh ls at_hand _ (next fr) sh refl at_hand.items at_hand.undos (settle p t s.cells (next fr) sh ls (stepped p t s.cells fr sh ls g) leads.0)
 
   -- what the jump learns of a field
-  holds_nothing : (x : Option Thing) → Fits p (held s.cells) None (filled x Empty)
+  holds_nothing : (x : Option Thing) → Fits p (seen s.cells) None (filled x Empty)
   holds_nothing None = tt
   holds_nothing (Some x) = tt
 
-  holds_something : (x : Option Thing) (o : Object) → is_some x ≡ true → Fits p (held s.cells) (Some o) (filled x Perhaps) → Fits p (held s.cells) (Some o) (filled x Full)
+  holds_something : (x : Option Thing) (o : Object) → is_some x ≡ true → Fits p (seen s.cells) (Some o) (filled x Perhaps) → Fits p (seen s.cells) (Some o) (filled x Full)
   holds_something None o some f = cc
   holds_something (Some x) o some f = f
 
-  pub not_empty : (x : Option Thing) (o : Object) → Fits p (held s.cells) (Some o) (filled x Empty) → ⊥
+  pub not_empty : (x : Option Thing) (o : Object) → Fits p (seen s.cells) (Some o) (filled x Empty) → ⊥
   not_empty None o f = f
   not_empty (Some x) o f = f
 
-  pub not_full : (x : Option Thing) → is_some x ≡ true → Fits p (held s.cells) None (filled x Full) → ⊥
+  pub not_full : (x : Option Thing) → is_some x ≡ true → Fits p (seen s.cells) None (filled x Full) → ⊥
   not_full None some f = cc
   not_full (Some x) some f = f
 
@@ -112,21 +105,21 @@ module _ (p : Image) (t : Typing) (c : Choice) (s : State) (fr : Frame) (sh : Sh
       stays : (fr' : Frame) → fr'.home ≡ fr.home → fr'.method ≡ fr.method → fr'.height ≡ fr.height → fr'.words ≡ fr.words → forms s.items ≡ objects sh.entries (items_of ls) → Leads t fr'.method fr'.place sh → WellTyped p t (record s { tasks = Run fr' ∷ tasks_of ls })
       stays fr' eh em eg ew items leads = well p t c s fr sh ls at_hand _ fr' sh refl items at_hand.undos (settle p t s.cells fr' sh ls (placed fr' eh em eg ew) leads)
 
-      learns : (fr' : Frame) (y : Filling) (o : Option Object) → held s.cells q ≡ o → fr'.home ≡ fr.home → fr'.method ≡ fr.method → fr'.height ≡ fr.height → fr'.words ≡ fr.words → Fits p (held s.cells) o (filled x y) → Leads t fr'.method fr'.place (set_field sh f y) → WellTyped p t (record s { tasks = Run fr' ∷ tasks_of ls })
+      learns : (fr' : Frame) (y : Filling) (o : Option Object) → held s.cells q ≡ o → fr'.home ≡ fr.home → fr'.method ≡ fr.method → fr'.height ≡ fr.height → fr'.words ≡ fr.words → Fits p (seen s.cells) o (filled x y) → Leads t fr'.method fr'.place (set_field sh f y) → WellTyped p t (record s { tasks = Run fr' ∷ tasks_of ls })
       learns fr' y o e eh em eg ew new leads = well p t c s fr sh ls at_hand _ fr' (set_field sh f y) refl at_hand.items at_hand.undos (settle p t s.cells fr' (set_field sh f y) ls
-          (relabel p t s.cells fr fr' sh (set_field sh f y) ls q (filled x y) g eh em eg (subst (λ o. Fits p (held s.cells) o (filled x y)) (sym e) new)
+          (relabel p t s.cells fr fr' sh (set_field sh f y) ls q (filled x y) g eh em eg refl (subst (λ o. Fits p (seen s.cells) o (filled x y)) (sym e) new)
           (λ r. claim-set_field p (declared p s.cells) fr fr.home sh ls f y (filled x y) r refl some refl)
           (λ i. subst (λ ws. WordFits (at None ws i) (register sh i)) (sym ew) (at_hand.good.stack.1.words i))) leads)
 
       go :
-          (y : Filling) (o : Option Object) → held s.cells q ≡ o → AllLead t fr.method (flow_jump_empty p fr.method fr.place sh y f to) → Fits p (held s.cells) (held s.cells q) (filled x y) →
+          (y : Filling) (o : Option Object) → held s.cells q ≡ o → AllLead t fr.method (flow_jump_empty p fr.method fr.place sh y f to) → Fits p (seen s.cells) (held s.cells q) (filled x y) →
           WellTyped p t (applied p fr (tasks_of ls) s (jumps_unless fr o to))
       go Empty None e leads fit = stays (to_place fr to) refl refl refl refl at_hand.items leads.0
-      go Empty (Some o) e leads fit = absurd (not_empty x o (subst (λ z. Fits p (held s.cells) z (filled x Empty)) e fit))
-      go Full None e leads fit = absurd (not_full x some (subst (λ z. Fits p (held s.cells) z (filled x Full)) e fit))
+      go Empty (Some o) e leads fit = absurd (not_empty x o (subst (λ z. Fits p (seen s.cells) z (filled x Empty)) e fit))
+      go Full None e leads fit = absurd (not_full x some (subst (λ z. Fits p (seen s.cells) z (filled x Full)) e fit))
       go Full (Some o) e leads fit = stays (next fr) refl refl refl refl at_hand.items leads.0
       go Perhaps None e leads fit = learns (to_place fr to) Empty None e refl refl refl refl (holds_nothing x) leads.1.0
-      go Perhaps (Some o) e leads fit = learns (next fr) Full (Some o) e refl refl refl refl (holds_something x o some (subst (λ z. Fits p (held s.cells) z (filled x Perhaps)) e fit)) leads.0
+      go Perhaps (Some o) e leads fit = learns (next fr) Full (Some o) e refl refl refl refl (holds_something x o some (subst (λ z. Fits p (seen s.cells) z (filled x Perhaps)) e fit)) leads.0
 
   -- a frame's counters are no concern of the typing
   pub law_loop : (depth rounds : ℕ) → Law p t c s fr sh ls at_hand (Loop depth rounds)

@@ -1,5 +1,5 @@
 -- A leave from a well-typed state: there is a trap, no register over it owns, and what is left to unwind is well typed.
-use Rattle.std.proofs.Common.{Bool, List, None, Option, [], ap, append-nil, append_assoc, arith, cond, false, length, refl, subst, sym, true, ℕ, ℤ, ◌<◌, ◌==◌, ◌∙◌, ◌∷◌, ◌≡◌}
+use Rattle.std.proofs.Common.{Bool, List, None, Option, Some, [], ap, append-nil, append_assoc, arith, cond, false, inl, inr, length, refl, subst, sym, true, ℕ, ℤ, ◌<◌, ◌==◌, ◌∙◌, ◌∷◌, ◌≡◌}
 use Rattle.std.proofs.lemmas.Bool.{and_from, ne_eqb, true≢false}
 use Rattle.std.specs.Prelude.{◌++◌}
 use Rattle.aom_image.specs.Image.{Image}
@@ -18,11 +18,15 @@ use Rattle.aom_sound.proofs.Words.{has_word}
 use Rattle.aom_sound.specs.Calls.{none_owns_but}
 use Rattle.aom_sound.specs.Claims.{Dispatching, Dying, Form, Layer, Mark, Method, Unwinding, claim, declared, entry_claim, entry_form, forms, home_claim, items_of, objects, root_claim, tasks_of}
 use Rattle.aom_sound.specs.Cleanup.{above_trap_is_free, has_trap, is_negative, leave_needs, to_trap}
-use Rattle.aom_sound.specs.Places.{Cell, Elsewhere, Entry, Field, Going, Object, Place, Register, Root, held}
+use Rattle.aom_sound.specs.Places.{Cell, Elsewhere, Entry, Field, Going, Object, Place, Register, Request, Root, Sight, held, named, requested, seen}
 use Rattle.aom_sound.specs.State.{AtRoot, Choice, Dispatch, Frame, Home, Inside, Of_main, Run, State, Static, Unwind, next}
 use Rattle.aom_sound.specs.WellTyped.{AllUndo, EndsDispatch, Fits, IsApart, IsHoused, Leaves, Returns, Stack, WellTyped, past_going}
 use Rattle.aom_sound.specs.Effects.{Leaves, Same, applied, updates}
 use Rattle.aom_sound.specs.Words.{read}
+use Rattle.aom_rules.specs.Requests.{unissued}
+use Rattle.aom_sound.specs.Requests.{AllSuit, Joins, Suits, Unworked, rests_in, states_claim, thing_kind, works_at}
+use Rattle.aom_sound.proofs.Suiting.{rejoins_trap, rests_there, same_object, suits_rests}
+use Rattle.aom_image.specs.declared.class.ClassKind.{ClassKind}
 
 -- the entries of the methods over the innermost trap, the last first
 abbrev pub entries_over : List Layer → List Pushed
@@ -78,7 +82,7 @@ not_going p t cs (Dying o ∷ ls) m home e s = absurd (true≢false (sym e ∙ s
 not_going p t cs _ m home e s = refl
 
 -- a method ends by a leave, and its entries are still there
-ended_by_leave : (p : Image) (cs : List Cell) (fr : Frame) (sh : Shape) (ls : List Layer) (code : ℤ) → IsHoused p cs ls fr.home → IsApart p fr.home ls → past_going ls ≡ ls → none_owns sh.registers ≡ true → (r : Place) (h : Place → Option Object) (o : Option Object) → Fits p h o (claim p (declared p cs) (Method fr sh ∷ ls) r) → Fits p h o (claim p (declared p cs) (Unwinding code sh.entries ∷ ls) r)
+ended_by_leave : (p : Image) (cs : List Cell) (fr : Frame) (sh : Shape) (ls : List Layer) (code : ℤ) → IsHoused p cs ls fr.home → IsApart p fr.home ls → past_going ls ≡ ls → none_owns sh.registers ≡ true → (r : Place) (h : Sight) (o : Option Object) → Fits p h o (claim p (declared p cs) (Method fr sh ∷ ls) r) → Fits p h o (claim p (declared p cs) (Unwinding code sh.entries ∷ ls) r)
 ended_by_leave p cs fr sh ls code housed apart at_top n r h o fits = go r fits
   where
     bare : Shape
@@ -102,7 +106,7 @@ ended_by_leave p cs fr sh ls code housed apart at_top n r h o fits = go r fits
     go (Going k) fits = fits
 
 -- all methods over the trap end so
-all_ended : (p : Image) (t : Typing) (cs : List Cell) (code : ℤ) (ls : List Layer) (es : List Pushed) (m : ℕ) (home : Home) → leaves p m ≡ true → Stack p t cs (Returns m home) ls → (r : Place) (h : Place → Option Object) (o : Option Object) → Fits p h o (claim p (declared p cs) (Unwinding code es ∷ ls) r) → Fits p h o (claim p (declared p cs) (Unwinding code (es ++ entries_over ls) ∷ from_trap ls) r)
+all_ended : (p : Image) (t : Typing) (cs : List Cell) (code : ℤ) (ls : List Layer) (es : List Pushed) (m : ℕ) (home : Home) → leaves p m ≡ true → Stack p t cs (Returns m home) ls → (r : Place) (h : Sight) (o : Option Object) → Fits p h o (claim p (declared p cs) (Unwinding code es ∷ ls) r) → Fits p h o (claim p (declared p cs) (Unwinding code (es ++ entries_over ls) ∷ from_trap ls) r)
 all_ended p t cs code (Method fr sh ∷ ls) es m home e s r h o fits =
     let may = s.0.0 e in
     let d = declared p cs in
@@ -120,15 +124,58 @@ stack_from_trap p t cs (Mark gv ∷ ls) m home e s = (tt, s.1)
 stack_from_trap p t cs (Dispatching d ∷ ls) m home e s = no_end p d m home s.0
 stack_from_trap p t cs _ m home e s = absurd (first_of (assumption tt, cc))
 
+-- all that these methods worked on may rest, and suits what stands from the trap on
+unworked_from_trap : (n : ℕ) (ls : List Layer) → Unworked n ls → Unworked n (from_trap ls)
+unworked_from_trap n (Method fr sh ∷ ls) u = unworked_from_trap n ls u.1
+unworked_from_trap n [] u = u
+unworked_from_trap n (l ∷ ls) u = u
+
+-- the home of a method that works on the object
+on_it : (p : Image) (cs : List Cell) (ls : List Layer) (x : Object) (home : Home) → named cs x.name ≡ Some x → works_at x.name home ≡ true → IsHoused p cs ls home → IsApart p home ls → Joins p x ls
+on_it p cs ls x (Inside o from) lives w h a = subst (λ y. Joins p y ls) (same_object cs o x h.lives lives w) a.3
+on_it p cs ls x _ lives w h a = cc
+
+module _ (p : Image) (t : Typing) (cs : List Cell) (x : Object) (lives : named cs x.name ≡ Some x) where
+  abbrev k : Option ClassKind
+  k = thing_kind p x.thing
+
+  abbrev r : Option Request
+  r = requested cs x.name
+
+  rested_left : (ls : List Layer) (m : ℕ) (home : Home) → leaves p m ≡ true → Stack p t cs (Returns m home) ls → Joins p x ls → Suits k (rests_in p x) r → Suits k (states_claim p x (from_trap ls)) r
+  rested_left (Method fr sh ∷ ls) m home e s (inl w) rests = rested_left ls fr.method fr.home (s.0.0 e).0 s.4 (on_it p cs ls x fr.home lives w s.2 s.3) rests
+  rested_left (Method fr sh ∷ ls) m home e s (inr u) rests = rests_there p x (from_trap ls) r (unworked_from_trap x.name ls u.1) rests
+  rested_left (Mark gv ∷ Method fr sh ∷ ls) m home e s j rests = rejoins_trap p x gv fr sh ls r j rests
+  rested_left (Mark gv ∷ []) m home e s j rests = rests
+  rested_left (Mark gv ∷ l ∷ ls) m home e s j rests = rests_there p x (Mark gv ∷ l ∷ ls) r j rests
+  rested_left (Dispatching d ∷ ls) m home e s j rests = no_end p d m home s.0
+  rested_left _ m home e s j rests = absurd (first_of (assumption tt, cc))
+
+  suits_left : (ls : List Layer) (m : ℕ) (home : Home) → leaves p m ≡ true → Stack p t cs (Returns m home) ls → Suits k (states_claim p x ls) r → Suits k (states_claim p x (from_trap ls)) r
+  suits_left (Method fr sh ∷ ls) m home e s h = go (works_at x.name fr.home) refl h (λ h. suits_left ls fr.method fr.home (s.0.0 e).0 s.4 h)
+    where
+      go : (b : Bool) → works_at x.name fr.home ≡ b → Suits k (cond b sh.states (states_claim p x ls)) r → (Suits k (states_claim p x ls) r → Suits k (states_claim p x (from_trap ls)) r) → Suits k (states_claim p x (from_trap ls)) r
+      go true w h rest = let may = s.0.0 e in rested_left ls fr.method fr.home may.0 s.4 (on_it p cs ls x fr.home lives w s.2 s.3) (suits_rests k sh.states r may.2 h)
+      go false w h rest = rest h
+  suits_left _ m home e s h = h
+
+-- so it is with all objects
+all_left : (p : Image) (t : Typing) (cs : List Cell) (code : ℤ) (es : List Pushed) (fr : Frame) (sh : Shape) (ls : List Layer) → Fitted p t cs fr sh ls → leaves p fr.method ≡ true → unissued sh.states ≡ true → AllSuit p cs (Unwinding code es ∷ from_trap ls)
+all_left p t cs code es fr sh ls g may u x lives = go (works_at x.name fr.home) refl (g.suits x lives)
+  where
+    go : (b : Bool) → works_at x.name fr.home ≡ b → Suits (thing_kind p x.thing) (cond b sh.states (states_claim p x ls)) (requested cs x.name) → Suits (thing_kind p x.thing) (states_claim p x (from_trap ls)) (requested cs x.name)
+    go true w h = rested_left p t cs x lives ls fr.method fr.home may g.stack (on_it p cs ls x fr.home lives w g.housed g.apart) (suits_rests (thing_kind p x.thing) sh.states (requested cs x.name) u h)
+    go false w h = suits_left p t cs x lives ls fr.method fr.home may g.stack h
+
 -- what the registers of the layers hold is as claimed
 abbrev RegistersFit : Image → List Cell → List Layer → Type 0
-RegistersFit p cs ls = (f i : ℕ) → f < length (tasks_of ls) → Fits p (held cs) (held cs (Register f i)) (claim p (declared p cs) ls (Register f i))
+RegistersFit p cs ls = (f i : ℕ) → f < length (tasks_of ls) → Fits p (seen cs) (held cs (Register f i)) (claim p (declared p cs) ls (Register f i))
 
 registers_below : (p : Image) (cs : List Cell) (fr : Frame) (sh : Shape) (ls : List Layer) → RegistersFit p cs (Method fr sh ∷ ls) → RegistersFit p cs ls
-registers_below p cs fr sh ls h f i lt = subst (λ k. Fits p (held cs) (held cs (Register f i)) k) (ap (λ b. cond b (register sh i) (claim p (declared p cs) ls (Register f i))) (ne_eqb (length (tasks_of ls)) f (λ e. absurd (omega arith)))) (h f i (omega arith))
+registers_below p cs fr sh ls h f i lt = subst (λ k. Fits p (seen cs) (held cs (Register f i)) k) (ap (λ b. cond b (register sh i) (claim p (declared p cs) ls (Register f i))) (ne_eqb (length (tasks_of ls)) f (λ e. absurd (omega arith)))) (h f i (omega arith))
 
 frame_is_free : (p : Image) (cs : List Cell) (fr : Frame) (sh : Shape) (ls : List Layer) → RegistersFit p cs (Method fr sh ∷ ls) → none_owns sh.registers ≡ true → none_owns_but cs (length (tasks_of ls)) None ≡ true
-frame_is_free p cs fr sh ls h n = none_owns_from cs (length (tasks_of ls)) None (λ i e. fits_unowning p (held cs) _ (register sh i) (none_owns_at sh.registers i n) (subst (λ k. Fits p (held cs) (held cs (Register (length (tasks_of ls)) i)) k) (claim_register p (declared p cs) fr sh ls i) (h (length (tasks_of ls)) i (omega arith))))
+frame_is_free p cs fr sh ls h n = none_owns_from cs (length (tasks_of ls)) None (λ i e. fits_unowning p (seen cs) _ (register sh i) (none_owns_at sh.registers i n) (subst (λ k. Fits p (seen cs) (held cs (Register (length (tasks_of ls)) i)) k) (claim_register p (declared p cs) fr sh ls i) (h (length (tasks_of ls)) i (omega arith))))
 
 -- under a method that may leave there is a trap, and the registers up to it own nothing
 below_leaving : (p : Image) (t : Typing) (cs : List Cell) (ls : List Layer) (m : ℕ) (home : Home) → leaves p m ≡ true → Stack p t cs (Returns m home) ls → RegistersFit p cs ls → (has_trap (tasks_of ls) ≡ true) × (above_trap_is_free cs (tasks_of ls) ≡ true)
@@ -152,16 +199,17 @@ pub trap_is_there : (p : Image) (t : Typing) (cs : List Cell) (fr : Frame) (sh :
 trap_is_there p t cs fr sh ls g may n = (leave_is_met p t cs fr fr sh ls g may n).0
 
 -- a leave from such a state is well typed
-pub leave_keeps : (p : Image) (t : Typing) (s : State) (code : ℤ) (fr : Frame) (sh : Shape) (ls : List Layer) → forms s.items ≡ objects sh.entries (items_of ls) → AllUndo p s.items → Fitted p t s.cells fr sh ls → leaves p fr.method ≡ true → none_owns sh.registers ≡ true → WellTyped p t (record s { tasks = Unwind code ∷ to_trap (tasks_of ls) })
-leave_keeps p t s code fr sh ls items undos g may n = record {
+pub leave_keeps : (p : Image) (t : Typing) (s : State) (code : ℤ) (fr : Frame) (sh : Shape) (ls : List Layer) → forms s.items ≡ objects sh.entries (items_of ls) → AllUndo p s.items → Fitted p t s.cells fr sh ls → leaves p fr.method ≡ true → none_owns sh.registers ≡ true → unissued sh.states ≡ true → WellTyped p t (record s { tasks = Unwind code ∷ to_trap (tasks_of ls) })
+leave_keeps p t s code fr sh ls items undos g may n u = record {
   layers = Unwinding code (sh.entries ++ entries_over ls) ∷ from_trap ls;
   tasks = ap (λ ts. Unwind code ∷ ts) (tasks_from_trap ls);
   items = items ∙ ap (λ i. objects sh.entries i) (items_from_trap ls) ∙ sym (objects_append sh.entries (entries_over ls) (items_of (from_trap ls)));
   undos = undos;
   good = record {
     stack = (tt, stack_from_trap p t s.cells ls fr.method fr.home may g.stack);
-    fits = λ r. all_ended p t s.cells code ls sh.entries fr.method fr.home may g.stack r (held s.cells) (held s.cells r)
-        (ended_by_leave p s.cells fr sh ls code g.housed g.apart (not_going p t s.cells ls _ _ may g.stack) n r (held s.cells) (held s.cells r) (g.fits r));
+    fits = λ r. all_ended p t s.cells code ls sh.entries fr.method fr.home may g.stack r (seen s.cells) (held s.cells r)
+        (ended_by_leave p s.cells fr sh ls code g.housed g.apart (not_going p t s.cells ls _ _ may g.stack) n r (seen s.cells) (held s.cells r) (g.fits r));
+    suits = all_left p t s.cells code (sh.entries ++ entries_over ls) fr sh ls g may u;
     tidy = g.tidy;
   };
 }
@@ -171,11 +219,11 @@ module _ (p : Image) (t : Typing) (c : Choice) (s : State) (fr : Frame) (sh : Sh
   met : leaves p fr.method ≡ true → none_owns sh.registers ≡ true → AllTrue (leave_needs s.cells (Run fr ∷ tasks_of ls))
   met may n = leave_is_met p t s.cells fr fr sh ls (fitted p t s.cells fr sh ls at_hand.good) may n
 
-  leaves_here : (code : ℤ) → leaves p fr.method ≡ true → none_owns sh.registers ≡ true → WellTyped p t (applied p fr (tasks_of ls) s (Leaves code Same))
-  leaves_here code may n = leave_keeps p t s code fr sh ls at_hand.items at_hand.undos (fitted p t s.cells fr sh ls at_hand.good) may n
+  leaves_here : (code : ℤ) → leaves p fr.method ≡ true → none_owns sh.registers ≡ true → unissued sh.states ≡ true → WellTyped p t (applied p fr (tasks_of ls) s (Leaves code Same))
+  leaves_here code may n u = leave_keeps p t s code fr sh ls at_hand.items at_hand.undos (fitted p t s.cells fr sh ls at_hand.good) may n u
 
   pub law_leave : (a : ℕ) → Law p t c s fr sh ls at_hand (Leave a)
-  law_leave a n leads = ((has_word p t c s fr sh ls at_hand a n.0, met n.1.0 n.1.1.0), leaves_here (read fr (tasks_of ls) s a) n.1.0 n.1.1.0)
+  law_leave a n leads = ((has_word p t c s fr sh ls at_hand a n.0, met n.1.0 n.1.1.0), leaves_here (read fr (tasks_of ls) s a) n.1.0 n.1.1.0 n.1.1.1.0)
 
   -- with a negative word only
   pub law_leave_if : (a : ℕ) → Law p t c s fr sh ls at_hand (LeaveIf a)
@@ -189,5 +237,5 @@ module _ (p : Image) (t : Typing) (c : Choice) (s : State) (fr : Frame) (sh : Sh
       needed false = tt
 
       goes : (b : Bool) → WellTyped p t (applied p fr (tasks_of ls) s (cond b (Leaves w Same) (updates fr Same)))
-      goes true = leaves_here w n.1.0 n.1.1.0
+      goes true = leaves_here w n.1.0 n.1.1.0 n.1.1.1.0
       goes false = well p t c s fr sh ls at_hand (applied p fr (tasks_of ls) s (updates fr Same)) (next fr) sh refl at_hand.items at_hand.undos (settle p t s.cells (next fr) sh ls (stepped p t s.cells fr sh ls (fitted p t s.cells fr sh ls at_hand.good)) leads.0)

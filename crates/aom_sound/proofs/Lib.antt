@@ -12,6 +12,7 @@ pub mod Straight
 pub mod Jumps
 pub mod Storing
 pub mod Words
+pub mod Requesting
 pub mod Moves
 pub mod Creation
 pub mod Destroying
@@ -45,3 +46,4 @@ pub mod Trapping
 pub mod Owning
 pub mod Biting
 pub mod Layers
+pub mod Suiting

@@ -3,7 +3,7 @@ use Rattle.std.proofs.lemmas.Option.{none-some}
 use Rattle.std.proofs.Common.{Bool, List, None, Option, Some, [], ap, cond, false, refl, subst, suc, sym, true, zero, ℕ, ◌==◌, ◌∙◌, ◌∷◌, ◌≡◌}
 use Rattle.std.proofs.lemmas.Bool.{and_from, and_parts, eq-eqb, eqb-true, false≢true, ne_eqb, true≢false}
 use Rattle.aom_shape.specs.Tables.{at, put_at}
-use Rattle.aom_sound.specs.Places.{Cell, Elsewhere, Entry, Field, Going, Object, Other, Place, Register, Root, Tidy, changed, held, moved, named, place_inner, place_kind, place_outer, same_place, without}
+use Rattle.aom_sound.specs.Places.{Cell, Elsewhere, Entry, Field, Going, Object, Other, Place, Register, Root, Tidy, changed, held, moved, named, place_inner, place_kind, place_outer, requested, same_place, without}
 use lib.Dec.{eqb-suc-suc, eqb-suc-zero, eqb-zero-suc}
 
 -- equal numbers, equal places
@@ -90,6 +90,10 @@ pub named_moved : (cs : List Cell) (p q : Place) (n : ℕ) → named (moved p q 
 named_moved [] p q n = refl
 named_moved (c ∷ cs) p q n = ap (λ x. cond (c.object.name == n) (Some c.object) x) (named_moved cs p q n)
 
+pub requested_moved : (cs : List Cell) (p q : Place) (n : ℕ) → requested (moved p q cs) n ≡ requested cs n
+requested_moved [] p q n = refl
+requested_moved (c ∷ cs) p q n = ap (λ x. cond (c.object.name == n) c.request x) (requested_moved cs p q n)
+
 pub tidy_moved : (cs : List Cell) (p q : Place) → held cs q ≡ None → Tidy cs → Tidy (moved p q cs)
 tidy_moved [] p q free t = tt
 tidy_moved (c ∷ cs) p q free t =
@@ -172,6 +176,17 @@ named_without (c ∷ cs) g o n t e d = go (same_place c.owner g) refl (named_wit
         ∙ ap (λ b. cond b (Some c.object) (named cs n)) (sym (ap (λ x. x.name == n) same ∙ d))
     go false f ih e = ap (λ x. cond (c.object.name == n) (Some c.object) x) (ih e d)
 
+pub requested_without : (cs : List Cell) (g : Place) (o : Object) (n : ℕ) → Tidy cs → held cs g ≡ Some o → (o.name == n) ≡ false → requested (without g cs) n ≡ requested cs n
+requested_without [] g o n t e d = refl
+requested_without (c ∷ cs) g o n t e d = go (same_place c.owner g) refl (requested_without cs g o n t.2) e
+  where
+    go : (x : Bool) → same_place c.owner g ≡ x → (held cs g ≡ Some o → (o.name == n) ≡ false → requested (without g cs) n ≡ requested cs n) → cond x (Some c.object) (held cs g) ≡ Some o → requested (cond x (without g cs) (c ∷ without g cs)) n ≡ cond (c.object.name == n) c.request (requested cs n)
+    go true f ih e =
+        let same : c.object ≡ o = cc in
+        ap (λ l. requested l n) (without_none cs g (ap (λ q. held cs q) (sym (same_place-true c.owner g f)) ∙ t.0))
+        ∙ ap (λ b. cond b c.request (requested cs n)) (sym (ap (λ x. x.name == n) same ∙ d))
+    go false f ih e = ap (λ x. cond (c.object.name == n) c.request x) (ih e d)
+
 named_gone : (cs : List Cell) (g : Place) (n : ℕ) → named cs n ≡ None → named (without g cs) n ≡ None
 named_gone [] g n e = refl
 named_gone (c ∷ cs) g n e = let f = front_free _ _ _ e in go (same_place c.owner g) f.0 (named_gone cs g n f.1)
@@ -188,6 +203,22 @@ unnamed (c ∷ cs) g o t e = go (same_place c.owner g) refl (unnamed cs g o t.2)
     go : (x : Bool) → same_place c.owner g ≡ x → (held cs g ≡ Some o → named (without g cs) o.name ≡ None) → cond x (Some c.object) (held cs g) ≡ Some o → named (cond x (without g cs) (c ∷ without g cs)) o.name ≡ None
     go true f ih e = let same : c.object ≡ o = cc in named_gone cs g o.name (ap (λ x. named cs x.name) (sym same) ∙ t.1)
     go false f ih e = ap (λ b. cond b (Some c.object) (named (without g cs) o.name)) (ne_eqb c.object.name o.name (λ s. held_named cs g o e (ap (λ k. named cs k) (sym s) ∙ t.1))) ∙ ih e
+
+-- what is not there has no request
+requested_unnamed : (cs : List Cell) (n : ℕ) → named cs n ≡ None → requested cs n ≡ None
+requested_unnamed [] n e = refl
+requested_unnamed (c ∷ cs) n e = let f = front_free _ _ _ e in ap (λ b. cond b c.request (requested cs n)) f.0 ∙ requested_unnamed cs n f.1
+
+-- what had no request has none where another cell is gone
+pub unrequested : (cs : List Cell) (g : Place) (n : ℕ) → Tidy cs → requested cs n ≡ None → requested (without g cs) n ≡ None
+unrequested [] g n t e = refl
+unrequested (c ∷ cs) g n t e = go (same_place c.owner g) (c.object.name == n) refl (unrequested cs g n t.2) e
+  where
+    go : (x b : Bool) → (c.object.name == n) ≡ b → (requested cs n ≡ None → requested (without g cs) n ≡ None) → cond b c.request (requested cs n) ≡ None → requested (cond x (without g cs) (c ∷ without g cs)) n ≡ None
+    go true true f ih e = requested_unnamed (without g cs) n (named_gone cs g n (ap (λ k. named cs k) (sym (eqb-true _ _ f)) ∙ t.1))
+    go true false f ih e = ih e
+    go false true f ih e = ap (λ b. cond b c.request (requested (without g cs) n)) f ∙ e
+    go false false f ih e = ap (λ b. cond b c.request (requested (without g cs) n)) f ∙ ih e
 
 pub tidy_without : (cs : List Cell) (g : Place) → Tidy cs → Tidy (without g cs)
 tidy_without [] g t = tt

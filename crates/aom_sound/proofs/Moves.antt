@@ -17,7 +17,7 @@ use Rattle.aom_sound.proofs.Straight.{At, Fitted, Law, claim_field, claim_regist
 use Rattle.aom_sound.specs.Claims.{Layer, Method, claim, declared, tasks_of}
 use Rattle.aom_sound.specs.Moves.{does}
 use Rattle.aom_sound.specs.Objects.{is_declared_thing}
-use Rattle.aom_sound.specs.Places.{Place, changed, held, moved, same_place}
+use Rattle.aom_sound.specs.Places.{Place, changed, held, moved, same_place, seen}
 use Rattle.aom_sound.specs.State.{Choice, Frame, State, field_place, home_holder, next, set_word, word}
 use Rattle.aom_sound.specs.WellTyped.{WordFits}
 
@@ -35,7 +35,7 @@ module _ (p : Image) (t : Typing) (c : Choice) (s : State) (fr : Frame) (sh : Sh
       ∙ ap (λ x. cond (same_place (top ls a) r) (register sh b) x) (claim-set_register p (declared p s.cells) fr sh ls b Null r)
       ∙ ap (λ x. changed (changed (claim p (declared p s.cells) (Method fr sh ∷ ls)) (top ls b) Null) (top ls a) x r) (sym (claim_register p (declared p s.cells) fr sh ls b)) in
       let h = relocate p t s.cells fr (next (set_word fr a None)) sh (set_register (set_register sh b Null) a (register sh b)) ls (top ls b) (top ls a)
-      (fitted p t s.cells fr sh ls at_hand.good) refl refl refl free (omega arith) (omega arith)
+      (fitted p t s.cells fr sh ls at_hand.good) refl refl refl refl free (omega arith) (omega arith)
       (λ o from e. (tt, tt))
       (λ r x e k f. refl) claims
       (words_set fr.words (set_register sh b Null) a None (register sh b) (words_null fr.words sh b at_hand.good.stack.1.words no) (no_word_fits (register sh b) n.0)) in
@@ -75,7 +75,7 @@ module _ (p : Image) (t : Typing) (c : Choice) (s : State) (fr : Frame) (sh : Sh
       some = may_be_some p t c s fr sh ls at_hand _ k may
 
       free : held s.cells (field_place fr.home f) ≡ None
-      free = fits_unowning p (held s.cells) _ _ (empties p t c s fr sh ls at_hand _ (field sh f) n.1.1.0) (field_fits p t c s fr sh ls at_hand f some)
+      free = fits_unowning p (seen s.cells) _ _ (empties p t c s fr sh ls at_hand _ (field sh f) n.1.1.0) (field_fits p t c s fr sh ls at_hand f some)
 
       no : word fr b ≡ None
       no = no_word p t c s fr sh ls at_hand b (declared_object p t c s fr sh ls at_hand _ k n.0)
@@ -88,7 +88,7 @@ module _ (p : Image) (t : Typing) (c : Choice) (s : State) (fr : Frame) (sh : Sh
 
       goes : Fitted p t (moved (top ls b) (field_place fr.home f) s.cells) (next fr) (set_field (set_register sh b Null) f (filling_of k)) ls
       goes = relocate p t s.cells fr (next fr) sh (set_field (set_register sh b Null) f (filling_of k)) ls (top ls b) q
-          (fitted p t s.cells fr sh ls at_hand.good) refl refl refl free (omega arith) (field_outside p t c s fr sh ls at_hand fr.home f refl some)
+          (fitted p t s.cells fr sh ls at_hand.good) refl refl refl refl free (omega arith) (field_outside p t c s fr sh ls at_hand fr.home f refl some)
           (λ o from e. (tt, field_not_from p t c s fr sh ls at_hand fr.home f refl o from e))
           (this_is_ready p t c s fr sh ls at_hand fr.home f refl) claims
           (words_null fr.words sh b at_hand.good.stack.1.words no)
@@ -131,7 +131,7 @@ module _ (p : Image) (t : Typing) (c : Choice) (s : State) (fr : Frame) (sh : Sh
 
       goes : Fitted p t (moved (field_place fr.home f) (top ls a) s.cells) (next (set_word fr a None)) (set_register (set_field sh f Empty) a k) ls
       goes = relocate p t s.cells fr (next (set_word fr a None)) sh (set_register (set_field sh f Empty) a k) ls q (top ls a)
-          (fitted p t s.cells fr sh ls at_hand.good) refl refl refl free (field_outside p t c s fr sh ls at_hand fr.home f refl some) (omega arith)
+          (fitted p t s.cells fr sh ls at_hand.good) refl refl refl refl free (field_outside p t c s fr sh ls at_hand fr.home f refl some) (omega arith)
           (λ o from e. (field_not_from p t c s fr sh ls at_hand fr.home f refl o from e, tt))
           (λ r x e k f. refl) claims
           (words_set fr.words (set_field sh f Empty) a None k at_hand.good.stack.1.words (no_word_in _ (field sh f)))

@@ -25,7 +25,7 @@ use Rattle.aom_sound.proofs.Things.{stands_same}
 use Rattle.aom_sound.specs.Claims.{Dispatching, Dying, Layer, Mark, Mark_form, Method, Object_form, Unwinding, claim, declared, declared_field, entry_claim, entry_form, form, forms, home_claim, items_of, objects, root_claim, task_of, tasks_of}
 use Rattle.aom_sound.specs.Laws.{EndsEmpty, EndsOwned, IsWired}
 use Rattle.aom_sound.specs.Owned.{AllOwned, Ends, HasRegisters, IsObjects, Lives, NoneGoes, Owned, at_entry, at_register, at_root, by_cell, over}
-use Rattle.aom_sound.specs.Places.{Cell, Elsewhere, Entry, Field, Going, Object, Place, Register, Root, Tidy, held, named, same_place}
+use Rattle.aom_sound.specs.Places.{Cell, Elsewhere, Entry, Field, Going, Object, Place, Register, Root, Sight, Tidy, held, named, same_place, seen}
 use Rattle.aom_sound.specs.Registers.{AllInRange, IsInRange}
 use Rattle.aom_sound.specs.State.{An_object, AtRoot, Home, Inside, Item, Main_left, Of_main, Of_root, Run, State, Static, thing_holder}
 use Rattle.aom_sound.specs.WellTyped.{Back, Caught, Fits, Gone, IsHoused, Leaves, Now, Returns, Stack, WellTyped}
@@ -38,7 +38,7 @@ HasThing Null x = ⊥
 HasThing (Own c a) x = x ≡ c
 HasThing (Maybe c a) x = x ≡ c
 
-fits_thing : (p : Image) (h : Place → Option Object) (o : Object) (k : Kind) → Fits p h (Some o) k → HasThing k o.thing
+fits_thing : (p : Image) (h : Sight) (o : Object) (k : Kind) → Fits p h (Some o) k → HasThing k o.thing
 fits_thing p h o (Own c a) f = stands_same p o.thing c f.0
 fits_thing p h o (Maybe c a) f = stands_same p o.thing c f.0
 fits_thing p h o _ f = f
@@ -223,7 +223,7 @@ declaring p Message y f e = cc
 
 module _ (p : Image) (t : Typing) (wired : IsWired p) (s : State) (w : WellTyped p t s) (clear : NoneGoes s.tasks) where
   kind_at : (q : Place) (o : Object) → held s.cells q ≡ Some o → HasThing (claim p (declared p s.cells) w.layers q) o.thing
-  kind_at q o e = fits_thing p (held s.cells) o _ (subst (λ x. Fits p (held s.cells) x (claim p (declared p s.cells) w.layers q)) e (w.good.fits q))
+  kind_at q o e = fits_thing p (seen s.cells) o _ (subst (λ x. Fits p (seen s.cells) x (claim p (declared p s.cells) w.layers q)) e (w.good.fits q))
 
   -- nothing is owned by a destruction
   unowned_going : (k : ℕ) (o : Object) → held s.cells (Going k) ≡ Some o → ⊥
@@ -281,8 +281,8 @@ layers_none (l ∷ ls) e = cc
 module _ (p : Image) (t : Typing) (s : State) (w : WellTyped p t s) (idle : s.tasks ≡ []) (rootless : held s.cells (Elsewhere Root) ≡ None) where
   unheld : (q : Place) (o : Object) → declared p s.cells q ≡ Null → held s.cells q ≡ Some o → ⊥
   unheld q o null e =
-      let f : Fits p (held s.cells) (held s.cells q) Null = subst (λ k. Fits p (held s.cells) (held s.cells q) k) (ap (λ l. claim p (declared p s.cells) l q) (layers_none w.layers (sym w.tasks ∙ idle)) ∙ null) (w.good.fits q) in
-      subst (λ x. Fits p (held s.cells) x Null) e f
+      let f : Fits p (seen s.cells) (held s.cells q) Null = subst (λ k. Fits p (seen s.cells) (held s.cells q) k) (ap (λ l. claim p (declared p s.cells) l q) (layers_none w.layers (sym w.tasks ∙ idle)) ∙ null) (w.good.fits q) in
+      subst (λ x. Fits p (seen s.cells) x Null) e f
 
   nowhere : (q : Place) (o : Object) → Ends s q → held s.cells q ≡ Some o → ⊥
   nowhere q o (at_register {f = f} {i = i}) e = unheld (Register f i) o refl e

@@ -12,19 +12,22 @@ use Rattle.aom_shape.specs.Needs.{AllTrue}
 use Rattle.aom_shape.specs.Shape.{Shape}
 use Rattle.aom_shape.specs.Tables.{at, put_at}
 use Rattle.aom_rules.specs.Typing.{Typing}
+use Rattle.aom_shape.specs.declared.kind.Delivery.TheVariants.{Here}
 use Rattle.aom_shape.specs.declared.kind.Age.TheVariants.{Ready}
 use Rattle.aom_shape.specs.declared.kind.Kind.{Kind}
 use Rattle.aom_shape.specs.declared.kind.Kind.TheVariants.{Null, Own, Unset, Word}
 use Rattle.aom_sound.proofs.Claimed.{claim-set_register, claim_register_above, declared_moved, keep_fits, stack_moved}
 use Rattle.aom_sound.proofs.Finishing.{all_join, all_parts}
-use Rattle.aom_sound.proofs.Maps.{at-put_at, held_moved, same_place-true, tidy_moved}
+use Rattle.aom_sound.proofs.Maps.{at-put_at, held_moved, requested_moved, same_place-true, tidy_moved}
 use Rattle.aom_sound.proofs.Returning.{held_thing, may_own, word_is}
 use Rattle.aom_sound.proofs.Straight.{At, claim_register, fits_unowning, housed_relocated, kind_fits, no_word_fits, word_of_object, words_null, words_set}
 use Rattle.aom_sound.specs.Calls.{needs_each, passed_cells, passed_words}
 use Rattle.aom_sound.specs.Claims.{Layer, Method, claim, declared, layer_claim, tasks_of}
-use Rattle.aom_sound.specs.Places.{Cell, Elsewhere, Entry, Field, Going, Place, Register, Root, Tidy, changed, held, moved, same_place}
+use Rattle.aom_sound.specs.Places.{Cell, Elsewhere, Entry, Field, Going, Place, Register, Root, Tidy, changed, held, moved, same_place, seen}
 use Rattle.aom_sound.specs.State.{Choice, Frame, State, Static, frame_of, word}
 use Rattle.aom_sound.specs.WellTyped.{Fits, Good, IsHoused, Returns, Stack, WordFits}
+use Rattle.aom_sound.proofs.Suiting.{all_moved}
+use Rattle.aom_sound.specs.Requests.{AllSuit}
 
 -- a list written at its end, and read there
 put_at_end : {A : Type 0} (d : A) (xs : List A) (v : A) → put_at d xs (length xs) v ≡ xs ++ v ∷ []
@@ -41,7 +44,7 @@ length_more (x ∷ xs) v = ap suc (length_more xs v)
 
 -- the registers that the method called has so far, and nothing else of it
 abbrev pub taken : List Kind → Shape
-taken regs = record { registers = regs; fields = []; entries = [] }
+taken regs = record { registers = regs; fields = []; entries = []; states = 0; delivery = Here }
 
 abbrev pub taker : Frame
 taker = frame_of 0 Static 0
@@ -60,7 +63,8 @@ module _ (p : Image) (t : Typing) (fr : Frame) (ls : List Layer) (depth : ℕ) (
 
   -- these registers are filled, and the caller is as that state says
   pub record Passed (cs : List Cell) (sh : Shape) (regs : List Kind) (ws : List (Option ℤ)) : Type 0 where
-    pub fits : (r : Place) → Fits p (held cs) (held cs r) (filling (declared p cs) regs sh r)
+    pub fits : (r : Place) → Fits p (seen cs) (held cs r) (filling (declared p cs) regs sh r)
+    pub suits : AllSuit p cs (Method fr sh ∷ ls)
     pub tidy : Tidy cs
     pub words : (i : ℕ) → WordFits (word fr i) (register sh i)
     pub given : (i : ℕ) → WordFits (at None ws i) (at Unset regs i)
@@ -70,13 +74,13 @@ module _ (p : Image) (t : Typing) (fr : Frame) (ls : List Layer) (depth : ℕ) (
 
   -- at first none is
   pub none_passed : (cs : List Cell) (sh : Shape) → Good p t cs (Method fr sh ∷ ls) → Passed cs sh [] []
-  none_passed cs sh g = record { fits = fits; tidy = g.tidy; words = g.stack.1.words; given = λ i. tt; housed = g.stack.2; stack = g.stack.4; even = refl }
+  none_passed cs sh g = record { fits = fits; suits = g.suits; tidy = g.tidy; words = g.stack.1.words; given = λ i. tt; housed = g.stack.2; stack = g.stack.4; even = refl }
     where
-      fits : (r : Place) → Fits p (held cs) (held cs r) (filling (declared p cs) [] sh r)
+      fits : (r : Place) → Fits p (seen cs) (held cs r) (filling (declared p cs) [] sh r)
       fits (Register f i) = go (depth == f) refl
         where
-          go : (b : Bool) → (depth == f) ≡ b → Fits p (held cs) (held cs (Register f i)) (cond b Unset (claim p (declared p cs) (Method fr sh ∷ ls) (Register f i)))
-          go true e = subst (λ o. Fits p (held cs) o Unset) (sym (fits_unowning p (held cs) _ Null refl (subst (λ k. Fits p (held cs) (held cs (Register f i)) k) (claim_register_above p cs (Method fr sh ∷ ls) f i (omega (arith, eqb-true _ _ e))) (g.fits (Register f i))))) tt
+          go : (b : Bool) → (depth == f) ≡ b → Fits p (seen cs) (held cs (Register f i)) (cond b Unset (claim p (declared p cs) (Method fr sh ∷ ls) (Register f i)))
+          go true e = subst (λ o. Fits p (seen cs) o Unset) (sym (fits_unowning p (seen cs) _ Null refl (subst (λ k. Fits p (seen cs) (held cs (Register f i)) k) (claim_register_above p cs (Method fr sh ∷ ls) f i (omega (arith, eqb-true _ _ e))) (g.fits (Register f i))))) tt
           go false e = g.fits (Register f i)
       fits (Entry k) = g.fits (Entry k)
       fits (Field n f) = g.fits (Field n f)
@@ -86,7 +90,7 @@ module _ (p : Image) (t : Typing) (fr : Frame) (ls : List Layer) (depth : ℕ) (
   -- the next register of the method called owns nothing
   next_free : (cs : List Cell) (sh : Shape) (regs : List Kind) (ws : List (Option ℤ)) → Passed cs sh regs ws → held cs (upper (length regs)) ≡ None
   next_free cs sh regs ws g =
-      fits_unowning p (held cs) _ Unset refl (subst (λ k. Fits p (held cs) (held cs (upper (length regs))) k) (ap (λ b. cond b (at Unset regs (length regs)) (claim p (declared p cs) (Method fr sh ∷ ls) (upper (length regs)))) (eq-eqb depth _ refl) ∙ at_end Unset regs) (g.fits (upper (length regs))))
+      fits_unowning p (seen cs) _ Unset refl (subst (λ k. Fits p (seen cs) (held cs (upper (length regs))) k) (ap (λ b. cond b (at Unset regs (length regs)) (claim p (declared p cs) (Method fr sh ∷ ls) (upper (length regs)))) (eq-eqb depth _ refl) ∙ at_end Unset regs) (g.fits (upper (length regs))))
 
   -- a register of the caller is claimed anew below the method called
   pub under : (d : Place → Kind) (sh : Shape) (regs : List Kind) (a : ℕ) (v : Kind) (r : Place) → filling d regs (set_register sh a v) r ≡ changed (filling d regs sh) (lower a) v r
@@ -127,7 +131,8 @@ module _ (p : Image) (t : Typing) (fr : Frame) (ls : List Layer) (depth : ℕ) (
   -- a word is copied
   word_passed : (cs : List Cell) (sh : Shape) (regs : List Kind) (ws : List (Option ℤ)) (w : Option ℤ) → WordFits w Word → Passed cs sh regs ws → Passed cs sh (regs ++ Word ∷ []) (ws ++ w ∷ [])
   word_passed cs sh regs ws w new g = record {
-    fits = λ r. subst (λ k. Fits p (held cs) (held cs r) k) (sym (over (declared p cs) sh regs Word r)) (go r (same_place (upper (length regs)) r) refl);
+    fits = λ r. subst (λ k. Fits p (seen cs) (held cs r) k) (sym (over (declared p cs) sh regs Word r)) (go r (same_place (upper (length regs)) r) refl);
+    suits = g.suits;
     tidy = g.tidy;
     words = g.words;
     given = given_more regs ws Word w g.even g.given new;
@@ -136,15 +141,16 @@ module _ (p : Image) (t : Typing) (fr : Frame) (ls : List Layer) (depth : ℕ) (
     even = even_more regs ws Word w g.even;
   }
     where
-      go : (r : Place) (b : Bool) → same_place (upper (length regs)) r ≡ b → Fits p (held cs) (held cs r) (cond b Word (filling (declared p cs) regs sh r))
-      go r true e = subst (λ o. Fits p (held cs) o Word) (sym (ap (λ q. held cs q) (sym (same_place-true (upper (length regs)) r e)) ∙ next_free cs sh regs ws g)) tt
+      go : (r : Place) (b : Bool) → same_place (upper (length regs)) r ≡ b → Fits p (seen cs) (held cs r) (cond b Word (filling (declared p cs) regs sh r))
+      go r true e = subst (λ o. Fits p (seen cs) o Word) (sym (ap (λ q. held cs q) (sym (same_place-true (upper (length regs)) r e)) ∙ next_free cs sh regs ws g)) tt
       go r false e = g.fits r
 
   -- an object moves
   object_passed : (cs : List Cell) (sh : Shape) (regs : List Kind) (ws : List (Option ℤ)) (a : ℕ) (k : Kind) → register sh a ≡ k → is_object_or_null k ≡ true → Passed cs sh regs ws → Passed (moved (lower a) (upper (length regs)) cs) (set_register sh a Null) (regs ++ k ∷ []) (ws ++ None ∷ [])
   object_passed cs sh regs ws a k here object g = record {
-    fits = λ r. subst (λ d. Fits p (held cs') (held cs' r) (filling d (regs ++ k ∷ []) (set_register sh a Null) r)) (sym (declared_moved p cs q to))
-        (keep_fits p (held cs) (held cs') before (filling (declared p cs) (regs ++ k ∷ []) (set_register sh a Null)) q to (λ r. held_moved cs q to r free) claims (λ r x e f j. refl) g.fits r);
+    fits = λ r. subst (λ d. Fits p (seen cs') (held cs' r) (filling d (regs ++ k ∷ []) (set_register sh a Null) r)) (sym (declared_moved p cs q to))
+        (keep_fits p (seen cs) (seen cs') before (filling (declared p cs) (regs ++ k ∷ []) (set_register sh a Null)) q to (λ r. held_moved cs q to r free) (requested_moved cs q to) claims (λ r x e f j. refl) g.fits r);
+    suits = all_moved p cs q to (Method fr sh ∷ ls) g.suits;
     tidy = tidy_moved cs q to free g.tidy;
     words = words_null fr.words sh a g.words (word_of_object (word fr a) (register sh a) (ap is_object_or_null here ∙ object) (g.words a));
     given = given_more regs ws k None g.even g.given (no_word_fits k object);
@@ -210,5 +216,5 @@ module _ (p : Image) (t : Typing) (c : Choice) (s : State) (fr : Frame) (sh : Sh
   each_met (Takes_word ∷ xs) first n = ((word_is p s (word fr first) (register sh first) n.0 (at_hand.good.stack.1.words first)).0, each_met xs (suc first) n.1)
   each_met (Takes_own x ∷ xs) first n =
       let k = may_own p s x (register sh first) n.0 n.1.0 in
-      let h = held_thing p s x (held s.cells (Register (length (tasks_of ls)) first)) (subst (λ k. Fits p (held s.cells) (held s.cells (Register (length (tasks_of ls)) first)) k) k (kind_fits p t c s fr sh ls at_hand first)) in
+      let h = held_thing p s x (held s.cells (Register (length (tasks_of ls)) first)) (subst (λ k. Fits p (seen s.cells) (held s.cells (Register (length (tasks_of ls)) first)) k) k (kind_fits p t c s fr sh ls at_hand first)) in
       (ap is_none (word_of_object (word fr first) (register sh first) (ap is_object_or_null k) (at_hand.good.stack.1.words first)), (h.0, (h.1, each_met xs (suc first) n.1.1)))

@@ -9,7 +9,8 @@ use Rattle.aom_image.specs.Views.{arguments_of, is_quiet, method_class, method_r
 use Rattle.aom_instructions.specs.declared.instr.Instr.{Instr}
 use Rattle.aom_instructions.specs.declared.instr.Instr.TheVariants.{Call, Trap}
 use Rattle.aom_instructions.specs.declared.instr.Target.{Target}
-use Rattle.aom_rules.specs.Calls.{each_argument, is_construct, rule_target}
+use Rattle.aom_rules.specs.Calls.{each_argument, rule_target}
+use Rattle.aom_rules.specs.Requests.{is_construct}
 use Rattle.aom_shape.specs.Needs.{AllTrue}
 use Rattle.aom_rules.specs.Rules.{rule_needs}
 use Rattle.aom_shape.specs.Shape.{Shape}
@@ -49,7 +50,7 @@ module _ (p : Image) (t : Typing) (wired : IsWired p) (typed : IsTyped p t) (c :
       let r = ruled fr ts (Call target m first x) a in
       let parts = all_parts (rule_target p fr.method r.0 target (method_class p m) (is_construct (method_role p m)) first (length (arguments_of p m))) _ r.1 in
       let more = all_parts (each_argument p r.0 (arguments_of p m) first) _ parts.1.1 in
-      only_then (is_quiet p fr.method) (is_quiet p m) more.1.0 (a.runs clearing)
+      only_then (is_quiet p fr.method) (is_quiet p m) more.1.1.0 (a.runs clearing)
 
   -- no quiet method sets a trap
   not_clearing : (fr : Frame) (ts : List Task) (target : Target) (m first x : ℕ) → Acting p c (calm p) s fr ts (Trap target m first x) → is_clearing ts ≡ false

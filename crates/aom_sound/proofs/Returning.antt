@@ -12,7 +12,7 @@ use Rattle.aom_rules.specs.Calls.{brought, caught, entries_done, leaves_one, res
 use Rattle.aom_shape.specs.Kinds.{is_own_for, entry_kind, is_object_or_null, is_ready_kind, is_unowning, is_word, may_be, no_entry, none_owns, register, set_register}
 use Rattle.aom_shape.specs.Entries.{with_entry}
 use Rattle.aom_shape.specs.Needs.{AllTrue}
-use Rattle.aom_shape.specs.Order.{SaysNoMore, Weaker, alike, alike_filling, maybe_null, maybe_own}
+use Rattle.aom_shape.specs.Order.{Weaker, alike, alike_filling, maybe_null, maybe_own}
 use Rattle.aom_shape.specs.Shape.{Shape}
 use Rattle.aom_rules.specs.Typing.{Leads, Typing}
 use Rattle.aom_shape.specs.declared.kind.Age.TheVariants.{Ready}
@@ -20,22 +20,26 @@ use Rattle.aom_shape.specs.declared.kind.Entry.{Entry as Pushed}
 use Rattle.aom_shape.specs.declared.kind.Entry.TheVariants.{Object as Pushed_object}
 use Rattle.aom_shape.specs.declared.kind.Kind.{Kind}
 use Rattle.aom_shape.specs.declared.kind.Kind.TheVariants.{Maybe, Null, Own, Unset, Word}
-use Rattle.aom_sound.proofs.Claimed.{claim-set_register, claim_frame, claim_push, claim_register_above, claim_weaker, declared_moved, fits_weaker, keep_fits, mark_claims, stack_moved, word_fits_weaker}
-use Rattle.aom_sound.proofs.Finishing.{ended, left_alone, left_held, none_left, return_needs, returnable, same_items}
+use Rattle.aom_sound.proofs.Claimed.{OwnsNoMore, claim-set_register, claim_frame, claim_push, claim_register_above, claim_weaker, declared_moved, fits_weaker, keep_fits, mark_claims, stack_moved, word_fits_weaker}
+use Rattle.aom_sound.proofs.Finishing.{Returnable, ended, left_alone, left_held, none_left, return_needs, returnable, same_items}
 use Rattle.aom_sound.proofs.Items.{forms_below, mark_on_top, undos_below}
-use Rattle.aom_sound.proofs.Maps.{at-put_at, held_moved, same_place-true, same_place_refl, tidy_moved}
+use Rattle.aom_sound.proofs.Maps.{at-put_at, held_moved, requested_moved, same_place-true, same_place_refl, tidy_moved}
 use Rattle.aom_sound.proofs.Straight.{At, Fitted, Law, claim_register, fits_unowning, housed_relocated, next_unowning, no_word_fits, register_fits, settle, stepped, top, word_of_object, words_set, write, may_be_object}
 use Rattle.aom_sound.proofs.Things.{stands_same}
 use Rattle.aom_sound.specs.Calls.{below_top, received, result_cells, result_needs, result_register}
 use Rattle.aom_sound.specs.Claims.{Dispatching, Layer, Mark, Mark_form, Method, Unwinding, claim, declared, forms, items_of, objects, tasks_of}
 use Rattle.aom_sound.specs.Objects.{is_thing}
-use Rattle.aom_sound.specs.Places.{Cell, Entry, Object, Place, changed, held, moved, same_place}
-use Rattle.aom_sound.specs.State.{Choice, Dispatch, Frame, Main_left, Of_main, Of_root, Run, State, next, set_word, word}
-use Rattle.aom_sound.specs.WellTyped.{Awaits, Back, Caught, EndsDispatch, Fits, LeavesNone, Now, Returns, Stack, WellTyped, WordFits, past_going}
+use Rattle.aom_sound.specs.Places.{Cell, Entry, Object, Place, Sight, changed, held, moved, requested, same_place, seen}
+use Rattle.aom_sound.specs.State.{Choice, Dispatch, Frame, Inside, Main_left, Of_main, Of_root, Run, State, next, set_word, word}
+use Rattle.aom_sound.specs.WellTyped.{Awaits, Back, Caught, EndsDispatch, EndsWell, Fits, IsApart, LeavesNone, Now, Returns, Stack, WellTyped, WordFits, past_going}
+use Rattle.aom_sound.proofs.Suiting.{all_moved, all_returned, rejoins_caller, rejoins_trap, rests_there, suits_rests}
+use Rattle.aom_sound.specs.Requests.{AllSuit, thing_kind}
+use Rattle.aom_shape.specs.Arguments.{after_of}
 
 loosen : (p : Image) (t : Typing) (cs : List Cell) (fr : Frame) (sh : Shape) (ls : List Layer) (c : ℕ) (k v : Kind) → Weaker v k → Fitted p t cs fr (set_register sh c k) ls → Fitted p t cs fr (set_register sh c v) ls
 loosen p t cs fr sh ls c k v w g = record {
-  fits = λ r. fits_weaker p (held cs) (held cs r) (claim_weaker p (declared p cs) fr (set_register sh c v) (set_register sh c k) ls r says) (g.fits r);
+  fits = λ r. fits_weaker p (seen cs) (held cs r) (claim_weaker p (declared p cs) fr (set_register sh c v) (set_register sh c k) ls r says) (g.fits r);
+  suits = g.suits;
   tidy = g.tidy;
   frames = record { words = λ i. word_fits_weaker (word fr i) (says.registers i) (g.frames.words i); holder = g.frames.holder; height = g.frames.height };
   housed = g.housed;
@@ -43,7 +47,7 @@ loosen p t cs fr sh ls c k v w g = record {
   stack = g.stack;
 }
   where
-    says : SaysNoMore (set_register sh c v) (set_register sh c k)
+    says : OwnsNoMore (set_register sh c v) (set_register sh c k)
     says = record {
       registers = λ i. subst (λ x. Weaker x (register (set_register sh c k) i)) (sym (at-put_at Unset sh.registers c i v)) (subst (λ x. Weaker (cond (c == i) v (register sh i)) x) (sym (at-put_at Unset sh.registers c i k)) (go (c == i) (register sh i)));
       fields = λ i. alike_filling;
@@ -58,12 +62,14 @@ module _ (p : Image) (t : Typing) (c : Choice) (s : State) (fr fr2 : Frame) (sh 
     (caller : Stack p t s.cells back (Method fr2 sh2 ∷ ls))
     (same_claims : (d : Place → Kind) (r : Place) → claim p d below r ≡ claim p d (Method fr2 sh2 ∷ ls) r)
     (deeper : length (tasks_of ls) < length (tasks_of below))
-    (at_top : past_going below ≡ below) where
+    (at_top : past_going below ≡ below)
+    (suits : AllSuit p s.cells (Method fr2 sh2 ∷ ls)) where
   -- with no result in cells
   pub plain : no_entry sh.entries ≡ true → none_owns sh.registers ≡ true → Fitted p t s.cells fr2 sh2 ls
   plain e n = let g = at_hand.good in record {
-    fits = λ r. subst (λ k. Fits p (held s.cells) (held s.cells r) k) (same_claims (declared p s.cells) r)
-        (ended p s.cells fr sh below g.stack.2 g.stack.3 at_top e n r (held s.cells) (held s.cells r) (g.fits r));
+    fits = λ r. subst (λ k. Fits p (seen s.cells) (held s.cells r) k) (same_claims (declared p s.cells) r)
+        (ended p s.cells fr sh below g.stack.2 g.stack.3 at_top e n r (seen s.cells) (held s.cells r) (g.fits r));
+    suits = suits;
     tidy = g.tidy;
     frames = caller.1;
     housed = caller.2;
@@ -74,7 +80,8 @@ module _ (p : Image) (t : Typing) (c : Choice) (s : State) (fr fr2 : Frame) (sh 
   -- the object that is left is the caller's last entry
   pub pushed : (x : ℕ) → below ≡ Method fr2 sh2 ∷ ls → leaves_one p x sh.entries ≡ true → none_owns sh.registers ≡ true → Fitted p t s.cells fr2 (with_entry (Pushed_object x Ready) sh2) ls
   pushed x over e n = record {
-    fits = λ r. subst (λ k. Fits p (held s.cells) (held s.cells r) k) (sym (claim_push p (declared p s.cells) fr2 sh2 ls entry r)) (go r (same_place spot r) refl);
+    fits = λ r. subst (λ k. Fits p (seen s.cells) (held s.cells r) k) (sym (claim_push p (declared p s.cells) fr2 sh2 ls entry r)) (go r (same_place spot r) refl);
+    suits = suits;
     tidy = at_hand.good.tidy;
     frames = record { words = caller.1.words; holder = caller.1.holder; height = caller.1.height };
     housed = caller.2;
@@ -97,11 +104,11 @@ module _ (p : Image) (t : Typing) (c : Choice) (s : State) (fr fr2 : Frame) (sh 
           ∙ claim_push p (declared p s.cells) fr bare below entry r
           ∙ ap (λ b. cond b (entry_kind entry) (claim p (declared p s.cells) (Method fr bare ∷ below) r)) (ap (λ l. same_place (Entry (length (items_of l))) r) over ∙ f)
 
-      go : (r : Place) (b : Bool) → same_place spot r ≡ b → Fits p (held s.cells) (held s.cells r) (cond b (entry_kind entry) (claim p (declared p s.cells) (Method fr2 sh2 ∷ ls) r))
-      go r true f = subst (λ y. Fits p (held s.cells) (held s.cells y) (entry_kind entry)) (ap (λ l. Entry (length (items_of l))) over ∙ same_place-true spot r f) (left_held p t c s fr sh below at_hand x e)
-      go r false f = subst (λ k. Fits p (held s.cells) (held s.cells r) k) (same_claims (declared p s.cells) r)
-          (ended p s.cells fr bare below at_hand.good.stack.2 at_hand.good.stack.3 at_top refl n r (held s.cells) (held s.cells r)
-          (subst (λ k. Fits p (held s.cells) (held s.cells r) k) (without r f) (at_hand.good.fits r)))
+      go : (r : Place) (b : Bool) → same_place spot r ≡ b → Fits p (seen s.cells) (held s.cells r) (cond b (entry_kind entry) (claim p (declared p s.cells) (Method fr2 sh2 ∷ ls) r))
+      go r true f = subst (λ y. Fits p (seen s.cells) (held s.cells y) (entry_kind entry)) (ap (λ l. Entry (length (items_of l))) over ∙ same_place-true spot r f) (left_held p t c s fr sh below at_hand x e)
+      go r false f = subst (λ k. Fits p (seen s.cells) (held s.cells r) k) (same_claims (declared p s.cells) r)
+          (ended p s.cells fr bare below at_hand.good.stack.2 at_hand.good.stack.3 at_top refl n r (seen s.cells) (held s.cells r)
+          (subst (λ k. Fits p (seen s.cells) (held s.cells r) k) (without r f) (at_hand.good.fits r)))
 
   -- the result goes to its register
   pub carried : (a x : ℕ) → no_entry sh.entries ≡ true → none_owns (set_register sh a Null).registers ≡ true → is_unowning (register sh2 x) ≡ true → is_object_or_null (register sh a) ≡ true → Fitted p t (moved (top below a) (top ls x) s.cells) (set_word fr2 x None) (set_register sh2 x (register sh a)) ls
@@ -109,9 +116,10 @@ module _ (p : Image) (t : Typing) (c : Choice) (s : State) (fr fr2 : Frame) (sh 
       let g = at_hand.good in
       let free = fits_unowning p h _ (register sh2 x) u caller_fits in
       record {
-        fits = λ r. subst (λ d. Fits p (held cs') (held cs' r) (claim p d (Method (set_word fr2 x None) (set_register sh2 x k) ∷ ls) r)) (sym (declared_moved p cs q to))
-            (subst (λ k. Fits p (held cs') (held cs' r) k) (sym (claim_frame p d fr2 (set_word fr2 x None) (set_register sh2 x k) ls r refl))
-            (keep_fits p h (held cs') (changed (claim p d (Method fr2 sh2 ∷ ls)) q k) (claim p d (Method fr2 (set_register sh2 x k) ∷ ls)) q to (λ r. held_moved cs q to r free) same (λ r x e k f. refl) fits_aside r));
+        fits = λ r. subst (λ d. Fits p (seen cs') (held cs' r) (claim p d (Method (set_word fr2 x None) (set_register sh2 x k) ∷ ls) r)) (sym (declared_moved p cs q to))
+            (subst (λ k. Fits p (seen cs') (held cs' r) k) (sym (claim_frame p d fr2 (set_word fr2 x None) (set_register sh2 x k) ls r refl))
+            (keep_fits p h (seen cs') (changed (claim p d (Method fr2 sh2 ∷ ls)) q k) (claim p d (Method fr2 (set_register sh2 x k) ∷ ls)) q to (λ r. held_moved cs q to r free) (requested_moved cs q to) same (λ r x e k f. refl) fits_aside r));
+        suits = all_moved p cs q to (Method fr2 sh2 ∷ ls) suits;
         tidy = tidy_moved cs q to free g.tidy;
         frames = record { words = words_set fr2.words sh2 x None k caller.1.words (no_word_fits k obj); holder = caller.1.holder; height = caller.1.height };
         housed = housed_relocated p cs q to ls fr2.home free (omega arith) (omega arith) (λ o from e. (tt, tt)) caller.2;
@@ -122,8 +130,8 @@ module _ (p : Image) (t : Typing) (c : Choice) (s : State) (fr fr2 : Frame) (sh 
       cs : List Cell
       cs = s.cells
 
-      h : Place → Option Object
-      h = held s.cells
+      h : Sight
+      h = seen s.cells
 
       d : Place → Kind
       d = declared p s.cells
@@ -140,20 +148,20 @@ module _ (p : Image) (t : Typing) (c : Choice) (s : State) (fr fr2 : Frame) (sh 
       cs' : List Cell
       cs' = moved q to s.cells
 
-      caller_fits : Fits p (held s.cells) (held s.cells (top ls x)) (register sh2 x)
-      caller_fits = subst (λ k. Fits p (held s.cells) (held s.cells (top ls x)) k)
+      caller_fits : Fits p (seen s.cells) (held s.cells (top ls x)) (register sh2 x)
+      caller_fits = subst (λ k. Fits p (seen s.cells) (held s.cells (top ls x)) k)
           (ap (λ b. cond b (register sh x) (claim p d below (top ls x))) (ne_eqb (length (tasks_of below)) (length (tasks_of ls)) (λ e. absurd (omega arith))) ∙ same_claims d (top ls x) ∙ claim_register p d fr2 sh2 ls x)
           (at_hand.good.fits (top ls x))
 
-      fits_aside : (r : Place) → Fits p (held s.cells) (held s.cells r) (changed (claim p (declared p s.cells) (Method fr2 sh2 ∷ ls)) q k r)
+      fits_aside : (r : Place) → Fits p (seen s.cells) (held s.cells r) (changed (claim p (declared p s.cells) (Method fr2 sh2 ∷ ls)) q k r)
       fits_aside r = go (same_place q r) refl
         where
-          go : (b : Bool) → same_place q r ≡ b → Fits p (held s.cells) (held s.cells r) (cond b k (claim p (declared p s.cells) (Method fr2 sh2 ∷ ls) r))
-          go true e = subst (λ y. Fits p (held s.cells) (held s.cells y) k) (same_place-true q r e) (register_fits p s.cells fr sh below at_hand.good.fits a)
+          go : (b : Bool) → same_place q r ≡ b → Fits p (seen s.cells) (held s.cells r) (cond b k (claim p (declared p s.cells) (Method fr2 sh2 ∷ ls) r))
+          go true e = subst (λ y. Fits p (seen s.cells) (held s.cells y) k) (same_place-true q r e) (register_fits p s.cells fr sh below at_hand.good.fits a)
           go false f =
-              subst (λ k. Fits p (held s.cells) (held s.cells r) k) (same_claims (declared p s.cells) r)
-              (ended p s.cells fr (set_register sh a Null) below at_hand.good.stack.2 at_hand.good.stack.3 at_top e n r (held s.cells) (held s.cells r)
-              (subst (λ k. Fits p (held s.cells) (held s.cells r) k) (sym (claim-set_register p (declared p s.cells) fr sh below a Null r ∙ ap (λ b. cond b Null (claim p (declared p s.cells) (Method fr sh ∷ below) r)) f)) (at_hand.good.fits r)))
+              subst (λ k. Fits p (seen s.cells) (held s.cells r) k) (same_claims (declared p s.cells) r)
+              (ended p s.cells fr (set_register sh a Null) below at_hand.good.stack.2 at_hand.good.stack.3 at_top e n r (seen s.cells) (held s.cells r)
+              (subst (λ k. Fits p (seen s.cells) (held s.cells r) k) (sym (claim-set_register p (declared p s.cells) fr sh below a Null r ∙ ap (λ b. cond b Null (claim p (declared p s.cells) (Method fr sh ∷ below) r)) f)) (at_hand.good.fits r)))
 
       same : (r : Place) → claim p d (Method fr2 (set_register sh2 x k) ∷ ls) r ≡ changed (changed (changed (claim p d (Method fr2 sh2 ∷ ls)) q k) q Null) to (changed (claim p d (Method fr2 sh2 ∷ ls)) q k q) r
       same r = claim-set_register p d fr2 sh2 ls x k r ∙ go (same_place to r) (same_place q r) refl
@@ -179,11 +187,11 @@ module _ (p : Image) (s : State) where
   word_is (Some w) Word e f = (refl, tt)
   word_is _ _ e f = absurd (grind arith)
 
-  pub held_thing : (x : Thing) (o : Option Object) → Fits p (held s.cells) o (Own x Ready) → (is_some o ≡ true) × (is_thing p x o ≡ true)
+  pub held_thing : (x : Thing) (o : Option Object) → Fits p (seen s.cells) o (Own x Ready) → (is_some o ≡ true) × (is_thing p x o ≡ true)
   held_thing x None f = absurd f
   held_thing x (Some o) f = (refl, f.0)
 
-  pub held_maybe : (x : Thing) (o : Option Object) → Fits p (held s.cells) o (Maybe x Ready) → is_thing p x o ≡ true
+  pub held_maybe : (x : Thing) (o : Option Object) → Fits p (seen s.cells) o (Maybe x Ready) → is_thing p x o ≡ true
   held_maybe x None f = refl
   held_maybe x (Some o) f = f.0
 
@@ -200,6 +208,15 @@ module _ (p : Image) (t : Typing) (c : Choice) (s : State) (fr fr2 : Frame) (sh 
       let w = go (gives_of p fr.method) r.result r.entries r.free at_hand.good.stack.4.0.1 at_hand.good.stack.4.0.2 in
       (return_needs p t c s fr sh below at_hand a r w.0 tt, w.1)
     where
+      ended_so : Returnable p fr sh a
+      ended_so = returnable p fr sh a n
+
+      suits : AllSuit p s.cells (Method fr2 sh2 ∷ ls)
+      suits = all_returned p t s.cells fr sh below at_hand.good.suits at_hand.good.stack.2 (λ o from e h.
+          let apart : IsApart p (Inside o from) below = subst (λ h. IsApart p h below) e at_hand.good.stack.3 in
+          let well : EndsWell p fr.method (Inside o from) fr2 sh2 = subst (λ h. EndsWell p fr.method h fr2 sh2) e at_hand.good.stack.4.0.3 in
+          rejoins_caller p o fr2 sh2 sh ls (after_of p fr.method) (requested s.cells o.name) apart.3 well ended_so.ends ended_so.settled h)
+
       x : ℕ
       x = result_register (instr_at p fr2.method fr2.place)
 
@@ -215,22 +232,22 @@ module _ (p : Image) (t : Typing) (c : Choice) (s : State) (fr fr2 : Frame) (sh 
       Goal g = AllTrue (result_needs p fr (tasks_of below) s g a) × WellTyped p t (record s { cells = result_cells p fr (tasks_of below) s g a x (tasks_of ls); tasks = Run (next (received p fr (tasks_of below) s g a x fr2)) ∷ tasks_of ls })
 
       go : (g : Gives) → AllTrue (rule_result p fr.method fr.place sh g a) → entries_done p g sh.entries ≡ true → none_owns (result_moved p fr.method fr.place sh g a).registers ≡ true → Awaits g x sh2 → Leads t fr2.method (suc fr2.place) (brought g x sh2) → Goal g
-      go Nothing r e n w leads = (tt, finish s.cells fr2 sh2 refl refl (items e) (plain p t c s fr fr2 sh sh2 ls below at_hand (Returns fr.method fr.home) at_hand.good.stack.4 (λ d r. refl) (omega arith) refl e n) leads)
+      go Nothing r e n w leads = (tt, finish s.cells fr2 sh2 refl refl (items e) (plain p t c s fr fr2 sh sh2 ls below at_hand (Returns fr.method fr.home) at_hand.good.stack.4 (λ d r. refl) (omega arith) refl suits e n) leads)
       go A_word r e n w leads =
           let i = word_is p s (word fr a) (register sh a) r.0 (at_hand.good.stack.1.words a) in
-          ((i.0, tt), finish s.cells (set_word fr2 x (word fr a)) (set_register sh2 x Word) refl refl (items e) (write p t s.cells fr2 sh2 ls x (word fr a) Word (plain p t c s fr fr2 sh sh2 ls below at_hand (Returns fr.method fr.home) at_hand.good.stack.4 (λ d r. refl) (omega arith) refl e n) w (λ h. tt) i.1) leads)
+          ((i.0, tt), finish s.cells (set_word fr2 x (word fr a)) (set_register sh2 x Word) refl refl (items e) (write p t s.cells fr2 sh2 ls x (word fr a) Word (plain p t c s fr fr2 sh sh2 ls below at_hand (Returns fr.method fr.home) at_hand.good.stack.4 (λ d r. refl) (omega arith) refl suits e n) w (λ h. tt) i.1) leads)
       go (An_own y) r e n w leads =
           let k = may_own p s y (register sh a) r.0 r.1.0 in
-          let f = carried p t c s fr fr2 sh sh2 ls below at_hand (Returns fr.method fr.home) at_hand.good.stack.4 (λ d r. refl) (omega arith) refl a x e n w (ap is_object_or_null k) in
-          let h = held_thing p s y (held s.cells (top below a)) (subst (λ k. Fits p (held s.cells) (held s.cells (top below a)) k) k (register_fits p s.cells fr sh below at_hand.good.fits a)) in
+          let f = carried p t c s fr fr2 sh sh2 ls below at_hand (Returns fr.method fr.home) at_hand.good.stack.4 (λ d r. refl) (omega arith) refl suits a x e n w (ap is_object_or_null k) in
+          let h = held_thing p s y (held s.cells (top below a)) (subst (λ k. Fits p (seen s.cells) (held s.cells (top below a)) k) k (register_fits p s.cells fr sh below at_hand.good.fits a)) in
           ((ap is_none (word_of_object (word fr a) (register sh a) (ap is_object_or_null k) (at_hand.good.stack.1.words a)), (h.0, (h.1, tt))), finish (moved (top below a) (top ls x) s.cells) (set_word fr2 x None) (set_register sh2 x (Own y Ready)) refl refl (items e) (subst (λ k. Fitted p t (moved (top below a) (top ls x) s.cells) (set_word fr2 x None) (set_register sh2 x k) ls) k f) leads)
       go (A_maybe y) r e n w leads =
           let obj : is_object_or_null (register sh a) ≡ true = object_of p s y (register sh a) r.0 in
-          let f = carried p t c s fr fr2 sh sh2 ls below at_hand (Returns fr.method fr.home) at_hand.good.stack.4 (λ d r. refl) (omega arith) refl a x e n w obj in
+          let f = carried p t c s fr fr2 sh sh2 ls below at_hand (Returns fr.method fr.home) at_hand.good.stack.4 (λ d r. refl) (omega arith) refl suits a x e n w obj in
           let weak = may_hold p s y (register sh a) r.0 r.1.0 in
-          let h = held_maybe p s y (held s.cells (top below a)) (fits_weaker p (held s.cells) (held s.cells (top below a)) weak (register_fits p s.cells fr sh below at_hand.good.fits a)) in
+          let h = held_maybe p s y (held s.cells (top below a)) (fits_weaker p (seen s.cells) (held s.cells (top below a)) weak (register_fits p s.cells fr sh below at_hand.good.fits a)) in
           ((ap is_none (word_of_object (word fr a) (register sh a) obj (at_hand.good.stack.1.words a)), (h, tt)), finish (moved (top below a) (top ls x) s.cells) (set_word fr2 x None) (set_register sh2 x (Maybe y Ready)) refl refl (items e) (loosen p t (moved (top below a) (top ls x) s.cells) (set_word fr2 x None) sh2 ls x (register sh a) (Maybe y Ready) weak f) leads)
-      go (Left y) r e n w leads = (tt, finish s.cells fr2 (with_entry (Pushed_object y Ready) sh2) refl refl (at_hand.items ∙ ap (λ es. objects es (items_of below)) (left_alone p y sh.entries e)) (pushed p t c s fr fr2 sh sh2 ls below at_hand (Returns fr.method fr.home) at_hand.good.stack.4 (λ d r. refl) (omega arith) refl y refl e n) leads)
+      go (Left y) r e n w leads = (tt, finish s.cells fr2 (with_entry (Pushed_object y Ready) sh2) refl refl (at_hand.items ∙ ap (λ es. objects es (items_of below)) (left_alone p y sh.entries e)) (pushed p t c s fr fr2 sh sh2 ls below at_hand (Returns fr.method fr.home) at_hand.good.stack.4 (λ d r. refl) (omega arith) refl suits y refl e n) leads)
 
 -- the same through a trap: an object is maybe there, and the code is 0
 module _ (p : Image) (t : Typing) (c : Choice) (s : State) (fr fr2 : Frame) (sh sh2 : Shape) (gv : Gives) (ls : List Layer) (at_hand : At p t s fr sh (Mark gv ∷ Method fr2 sh2 ∷ ls)) where
@@ -260,6 +277,11 @@ module _ (p : Image) (t : Typing) (c : Choice) (s : State) (fr fr2 : Frame) (sh 
       caller : Stack p t s.cells (Caught gv) (Method fr2 sh2 ∷ ls)
       caller = at_hand.good.stack.4.1
 
+      suits : AllSuit p s.cells (Method fr2 sh2 ∷ ls)
+      suits = all_returned p t s.cells fr sh marked at_hand.good.suits at_hand.good.stack.2 (λ o from e h.
+          let apart : IsApart p (Inside o from) marked = subst (λ h. IsApart p h marked) e at_hand.good.stack.3 in
+          rejoins_trap p o gv fr2 sh2 ls (requested s.cells o.name) apart.3 (suits_rests (thing_kind p o.thing) sh.states (requested s.cells o.name) (returnable p fr sh a n).settled h))
+
       items : no_entry sh.entries ≡ true → forms (below_top s.items) ≡ objects sh2.entries (items_of ls)
       items e = forms_below s.items Mark_form _ (same_items p t c s fr sh marked at_hand e)
 
@@ -282,21 +304,21 @@ module _ (p : Image) (t : Typing) (c : Choice) (s : State) (fr fr2 : Frame) (sh 
       Goal g = AllTrue (result_needs p fr (tasks_of marked) s g a) × WellTyped p t (record s { cells = result_cells p fr (tasks_of marked) s g a x (tasks_of ls); tasks = Run (next (set_word (received p fr (tasks_of marked) s g a x fr2) (suc x) (Some (pos 0)))) ∷ tasks_of ls; items = below_top s.items })
 
       go : (g : Gives) → LeavesNone g → AllTrue (rule_result p fr.method fr.place sh g a) → entries_done p g sh.entries ≡ true → none_owns (result_moved p fr.method fr.place sh g a).registers ≡ true → is_unowning (register sh2 (suc x)) ≡ true → Awaits g x sh2 → Leads t fr2.method (suc fr2.place) (caught g x sh2) → Goal g
-      go Nothing none r e n u w leads = (tt, finish s.cells fr2 sh2 refl refl (items e) u (plain p t c s fr fr2 sh sh2 ls marked at_hand (Caught gv) caller (λ d r. mark_claims p d gv (Method fr2 sh2 ∷ ls) r) (omega arith) refl e n) leads)
+      go Nothing none r e n u w leads = (tt, finish s.cells fr2 sh2 refl refl (items e) u (plain p t c s fr fr2 sh sh2 ls marked at_hand (Caught gv) caller (λ d r. mark_claims p d gv (Method fr2 sh2 ∷ ls) r) (omega arith) refl suits e n) leads)
       go A_word none r e n u w leads =
           let i = word_is p s (word fr a) (register sh a) r.0 (at_hand.good.stack.1.words a) in
-          ((i.0, tt), finish s.cells (set_word fr2 x (word fr a)) (set_register sh2 x Word) refl refl (items e) (next_unowning sh2.registers x Word u) (write p t s.cells fr2 sh2 ls x (word fr a) Word (plain p t c s fr fr2 sh sh2 ls marked at_hand (Caught gv) caller (λ d r. mark_claims p d gv (Method fr2 sh2 ∷ ls) r) (omega arith) refl e n) w (λ h. tt) i.1) leads)
+          ((i.0, tt), finish s.cells (set_word fr2 x (word fr a)) (set_register sh2 x Word) refl refl (items e) (next_unowning sh2.registers x Word u) (write p t s.cells fr2 sh2 ls x (word fr a) Word (plain p t c s fr fr2 sh sh2 ls marked at_hand (Caught gv) caller (λ d r. mark_claims p d gv (Method fr2 sh2 ∷ ls) r) (omega arith) refl suits e n) w (λ h. tt) i.1) leads)
       go (An_own y) none r e n u w leads =
           let k = may_own p s y (register sh a) r.0 r.1.0 in
-          let f = carried p t c s fr fr2 sh sh2 ls marked at_hand (Caught gv) caller (λ d r. mark_claims p d gv (Method fr2 sh2 ∷ ls) r) (omega arith) refl a x e n w (ap is_object_or_null k) in
-          let h = held_thing p s y (held s.cells (top marked a)) (subst (λ k. Fits p (held s.cells) (held s.cells (top marked a)) k) k (register_fits p s.cells fr sh marked at_hand.good.fits a)) in
+          let f = carried p t c s fr fr2 sh sh2 ls marked at_hand (Caught gv) caller (λ d r. mark_claims p d gv (Method fr2 sh2 ∷ ls) r) (omega arith) refl suits a x e n w (ap is_object_or_null k) in
+          let h = held_thing p s y (held s.cells (top marked a)) (subst (λ k. Fits p (seen s.cells) (held s.cells (top marked a)) k) k (register_fits p s.cells fr sh marked at_hand.good.fits a)) in
           let weak : Weaker (Maybe y Ready) (register sh a) = subst (λ k. Weaker (Maybe y Ready) k) (sym k) maybe_own in
           ((ap is_none (word_of_object (word fr a) (register sh a) (ap is_object_or_null k) (at_hand.good.stack.1.words a)), (h.0, (h.1, tt))), finish (moved (top marked a) (top ls x) s.cells) (set_word fr2 x None) (set_register sh2 x (Maybe y Ready)) refl refl (items e) (next_unowning sh2.registers x (Maybe y Ready) u) (loosen p t (moved (top marked a) (top ls x) s.cells) (set_word fr2 x None) sh2 ls x (register sh a) (Maybe y Ready) weak f) leads)
       go (A_maybe y) none r e n u w leads =
           let obj : is_object_or_null (register sh a) ≡ true = object_of p s y (register sh a) r.0 in
-          let f = carried p t c s fr fr2 sh sh2 ls marked at_hand (Caught gv) caller (λ d r. mark_claims p d gv (Method fr2 sh2 ∷ ls) r) (omega arith) refl a x e n w obj in
+          let f = carried p t c s fr fr2 sh sh2 ls marked at_hand (Caught gv) caller (λ d r. mark_claims p d gv (Method fr2 sh2 ∷ ls) r) (omega arith) refl suits a x e n w obj in
           let weak = may_hold p s y (register sh a) r.0 r.1.0 in
-          let h = held_maybe p s y (held s.cells (top marked a)) (fits_weaker p (held s.cells) (held s.cells (top marked a)) weak (register_fits p s.cells fr sh marked at_hand.good.fits a)) in
+          let h = held_maybe p s y (held s.cells (top marked a)) (fits_weaker p (seen s.cells) (held s.cells (top marked a)) weak (register_fits p s.cells fr sh marked at_hand.good.fits a)) in
           ((ap is_none (word_of_object (word fr a) (register sh a) obj (at_hand.good.stack.1.words a)), (h, tt)), finish (moved (top marked a) (top ls x) s.cells) (set_word fr2 x None) (set_register sh2 x (Maybe y Ready)) refl refl (items e) (next_unowning sh2.registers x (Maybe y Ready) u) (loosen p t (moved (top marked a) (top ls x) s.cells) (set_word fr2 x None) sh2 ls x (register sh a) (Maybe y Ready) weak f) leads)
       go (Left y) none r e n u w leads = absurd none
 
@@ -329,7 +351,10 @@ module _ (p : Image) (t : Typing) (c : Choice) (s : State) (fr : Frame) (sh : Sh
           undos = undos_below p s.items at_hand.undos;
           good = record {
             stack = (ends w, below.1);
-            fits = λ q. subst (λ k. Fits p (held s.cells) (held s.cells q) k) (mark_claims p (declared p s.cells) gv (Dispatching w ∷ ls) q) (ended p s.cells fr sh dispatched at_hand.good.stack.2 at_hand.good.stack.3 refl entries free q (held s.cells) (held s.cells q) (at_hand.good.fits q));
+            fits = λ q. subst (λ k. Fits p (seen s.cells) (held s.cells q) k) (mark_claims p (declared p s.cells) gv (Dispatching w ∷ ls) q) (ended p s.cells fr sh dispatched at_hand.good.stack.2 at_hand.good.stack.3 refl entries free q (seen s.cells) (held s.cells q) (at_hand.good.fits q));
+            suits = all_returned p t s.cells fr sh dispatched at_hand.good.suits at_hand.good.stack.2 (λ o from e h.
+                let apart : IsApart p (Inside o from) dispatched = subst (λ h. IsApart p h dispatched) e at_hand.good.stack.3 in
+                rests_there p o dispatched (requested s.cells o.name) apart.3 (suits_rests (thing_kind p o.thing) sh.states (requested s.cells o.name) r.settled h));
             tidy = at_hand.good.tidy;
           };
         },
@@ -352,7 +377,10 @@ module _ (p : Image) (t : Typing) (c : Choice) (s : State) (fr : Frame) (sh : Sh
           undos = at_hand.undos;
           good = record {
             stack = (tt, at_hand.good.stack.4.1);
-            fits = λ q. ended p s.cells fr sh below at_hand.good.stack.2 at_hand.good.stack.3 refl entries free q (held s.cells) (held s.cells q) (at_hand.good.fits q);
+            fits = λ q. ended p s.cells fr sh below at_hand.good.stack.2 at_hand.good.stack.3 refl entries free q (seen s.cells) (held s.cells q) (at_hand.good.fits q);
+            suits = all_returned p t s.cells fr sh below at_hand.good.suits at_hand.good.stack.2 (λ o from e h.
+                let apart : IsApart p (Inside o from) below = subst (λ h. IsApart p h below) e at_hand.good.stack.3 in
+                rests_there p o below (requested s.cells o.name) apart.3 (suits_rests (thing_kind p o.thing) sh.states (requested s.cells o.name) r.settled h));
             tidy = at_hand.good.tidy;
           };
         },

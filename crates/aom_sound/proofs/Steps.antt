@@ -6,7 +6,7 @@ use Rattle.std.specs.Prelude.{int_lt}
 use Rattle.aom_image.specs.Image.{Image}
 use Rattle.aom_image.specs.Views.{instr_at}
 use Rattle.aom_instructions.specs.declared.instr.Instr.{Instr}
-use Rattle.aom_instructions.specs.declared.instr.Instr.TheVariants.{Add, And, Call, Const, Copy, Delete, Jump, JumpEmpty, JumpEqual, JumpLess, JumpNull, Leave, LeaveIf, Load, Loop, Move, Mul, New, NewOrLeave, Next, Or, Pop, PopDelete, PopOperation, Print, Push, PushOperation, Put, Return, Stop, Store, Sub, Take, Trap, Xor}
+use Rattle.aom_instructions.specs.declared.instr.Instr.TheVariants.{Abort, Add, And, Call, Const, Copy, Delete, Enlist, Issue, Jump, JumpActive, JumpAdded, JumpEmpty, JumpEqual, JumpLess, JumpNull, Leave, LeaveIf, Load, Loop, Move, Mul, New, NewOrLeave, Next, Or, Pop, PopDelete, PopOperation, Print, Push, PushOperation, Put, Return, SetActive, Status, Stop, Store, Sub, Take, Trap, Xor}
 use Rattle.aom_shape.specs.Needs.{AllTrue}
 use Rattle.aom_shape.specs.Shape.{Shape}
 use Rattle.aom_rules.specs.Typing.{IsTyped, Typing}
@@ -21,6 +21,7 @@ use Rattle.aom_sound.proofs.Jumps.{law_jump, law_jump_empty, law_jump_null, law_
 use Rattle.aom_sound.proofs.Words.{law_binary, law_compare, law_const, law_copy, law_load, law_print, law_store}
 use Rattle.aom_sound.proofs.Leaving.{law_leave, law_leave_if}
 use Rattle.aom_sound.proofs.Moves.{law_move, law_put, law_take}
+use Rattle.aom_sound.proofs.Requesting.{law_abort, law_enlist, law_issue, law_jump_active, law_jump_added, law_set_active, law_status, main_of_none}
 use Rattle.aom_sound.proofs.Returning.{law_return, law_return_caught, law_return_dispatch, law_return_unwound}
 use Rattle.aom_sound.proofs.Straight.{At, Law, fitted, settle, stepped, well}
 use Rattle.aom_sound.proofs.Unwinding.{unwinds}
@@ -78,6 +79,13 @@ module _ (p : Image) (t : Typing) (wired : IsWired p) (typed : IsTyped p t) (c :
   law (Leave a) here back = law_leave p t c s fr sh ls at_hand a
   law (LeaveIf a) here back = law_leave_if p t c s fr sh ls at_hand a
   law Stop here back = law_stop
+  law (JumpActive to) here back = law_jump_active p t (main_of_none p wired) c s fr sh ls at_hand to
+  law (JumpAdded to) here back = law_jump_added p t (main_of_none p wired) c s fr sh ls at_hand to
+  law (Enlist priority) here back = law_enlist p t (main_of_none p wired) c s fr sh ls at_hand priority
+  law (Issue a b) here back = law_issue p t (main_of_none p wired) c s fr sh ls at_hand a b
+  law SetActive here back = law_set_active p t (main_of_none p wired) c s fr sh ls at_hand
+  law Abort here back = law_abort p t (main_of_none p wired) c s fr sh ls at_hand
+  law (Status a) here back = law_status p t (main_of_none p wired) c s fr sh ls at_hand a
   law _ here back = λ n l. cc
 
 -- a method returns to what stands below it

@@ -1,21 +1,23 @@
--- The words of a cell count for no place: where they alone change, all that is claimed holds on.
-use Rattle.std.proofs.Common.{List, Some, [], ap, cond, refl, subst, sym, ℕ, ℤ, ◌==◌, ◌∙◌, ◌∷◌, ◌≡◌}
+-- The words of a cell count for no place, and its request for the age of objects alone: where these change, what is claimed holds on.
+use Rattle.std.proofs.Common.{false, List, Some, [], ap, cond, refl, subst, sym, ℕ, ℤ, ◌==◌, ◌∙◌, ◌∷◌, ◌≡◌}
 use Rattle.aom_image.specs.Image.{Image}
+use Rattle.aom_shape.specs.Kinds.{is_ready_kind}
 use Rattle.aom_shape.specs.Shape.{Shape}
 use Rattle.aom_rules.specs.Typing.{Typing}
 use Rattle.aom_sound.proofs.Claimed.{claim_rel, fits_age}
 use Rattle.aom_sound.proofs.Straight.{Fitted}
 use Rattle.aom_sound.specs.Claims.{Dispatching, Dying, Layer, Mark, Method, Unwinding, claim, declared, declared_field}
-use Rattle.aom_sound.specs.Places.{Cell, Field, Place, Tidy, held, named, same_place, set_word_field}
+use Rattle.aom_sound.specs.Places.{Cell, Field, Object, Place, Tidy, held, named, requested, same_place, seen, set_word_field}
 use Rattle.aom_sound.specs.State.{AtRoot, Frame, Home, Inside, Static}
 use Rattle.aom_sound.specs.WellTyped.{Back, Fits, IsHoused, Stack}
 use Rattle.aom_sound.specs.Words.{stored}
+use Rattle.aom_sound.specs.Requests.{Suits, states_claim, thing_kind}
 
 -- the same cells in the same places
-record Alike (cs cs' : List Cell) : Type 0 where
-  held_so : (r : Place) → held cs' r ≡ held cs r
-  named_so : (n : ℕ) → named cs' n ≡ named cs n
-  tidy : Tidy cs → Tidy cs'
+pub record Alike (cs cs' : List Cell) : Type 0 where
+  pub held_so : (r : Place) → held cs' r ≡ held cs r
+  pub named_so : (n : ℕ) → named cs' n ≡ named cs n
+  pub tidy : Tidy cs → Tidy cs'
 
 pub held_set_word : (cs : List Cell) (n w : ℕ) (v : ℤ) (r : Place) → held (set_word_field n w v cs) r ≡ held cs r
 held_set_word [] n w v r = refl
@@ -25,26 +27,38 @@ pub named_set_word : (cs : List Cell) (n w : ℕ) (v : ℤ) (m : ℕ) → named 
 named_set_word [] n w v m = refl
 named_set_word (c ∷ cs) n w v m = ap (λ x. cond (c.object.name == m) (Some c.object) x) (named_set_word cs n w v m)
 
+requested_set_word : (cs : List Cell) (n w : ℕ) (v : ℤ) (m : ℕ) → requested (set_word_field n w v cs) m ≡ requested cs m
+requested_set_word [] n w v m = refl
+requested_set_word (c ∷ cs) n w v m = ap (λ x. cond (c.object.name == m) c.request x) (requested_set_word cs n w v m)
+
 tidy_set_word : (cs : List Cell) (n w : ℕ) (v : ℤ) → Tidy cs → Tidy (set_word_field n w v cs)
 tidy_set_word [] n w v t = tt
 tidy_set_word (c ∷ cs) n w v t = (held_set_word cs n w v c.owner ∙ t.0, named_set_word cs n w v c.object.name ∙ t.1, tidy_set_word cs n w v t.2)
 
+pub alike_itself : (cs : List Cell) → Alike cs cs
+alike_itself cs = record { held_so = λ r. refl; named_so = λ n. refl; tidy = λ t. t }
+
 stored_alike : (cs : List Cell) (home : Home) (w : ℕ) (v : ℤ) → Alike cs (stored cs home w v)
-stored_alike cs Static w v = record { held_so = λ r. refl; named_so = λ n. refl; tidy = λ t. t }
-stored_alike cs AtRoot w v = record { held_so = λ r. refl; named_so = λ n. refl; tidy = λ t. t }
+stored_alike cs Static w v = alike_itself cs
+stored_alike cs AtRoot w v = alike_itself cs
 stored_alike cs (Inside o from) w v = record { held_so = held_set_word cs o.name w v; named_so = named_set_word cs o.name w v; tidy = tidy_set_word cs o.name w v }
+
+stored_requests : (cs : List Cell) (home : Home) (w : ℕ) (v : ℤ) (n : ℕ) → requested (stored cs home w v) n ≡ requested cs n
+stored_requests cs Static w v n = refl
+stored_requests cs AtRoot w v n = refl
+stored_requests cs (Inside o from) w v n = requested_set_word cs o.name w v n
 
 module _ (p : Image) (t : Typing) (cs cs' : List Cell) (alike : Alike cs cs') where
   declared_alike : (r : Place) → declared p cs' r ≡ declared p cs r
   declared_alike (Field n f) = ap (λ o. declared_field p o f) (alike.named_so n)
   declared_alike _ = refl
 
-  housed_alike : (ls : List Layer) (home : Home) → IsHoused p cs ls home → IsHoused p cs' ls home
+  pub housed_alike : (ls : List Layer) (home : Home) → IsHoused p cs ls home → IsHoused p cs' ls home
   housed_alike ls Static h = h
   housed_alike ls AtRoot h = h
   housed_alike ls (Inside o from) h = record { there = alike.held_so from ∙ h.there; lives = alike.named_so o.name ∙ h.lives; below = h.below; ready = h.ready }
 
-  stack_alike : (ls : List Layer) (back : Back) → Stack p t cs back ls → Stack p t cs' back ls
+  pub stack_alike : (ls : List Layer) (back : Back) → Stack p t cs back ls → Stack p t cs' back ls
   stack_alike [] back s = s
   stack_alike (Method fr sh ∷ ls) back s = (s.0, s.1, housed_alike ls fr.home s.2, s.3, stack_alike ls _ s.4)
   stack_alike (Mark gv ∷ ls) back s = (s.0, stack_alike ls _ s.1)
@@ -52,18 +66,23 @@ module _ (p : Image) (t : Typing) (cs cs' : List Cell) (alike : Alike cs cs') wh
   stack_alike (Dispatching d ∷ ls) back s = s
   stack_alike (Unwinding code es ∷ ls) back s = (s.0, stack_alike ls _ s.1)
 
-  fits_alike : (ls : List Layer) (r : Place) → Fits p (held cs) (held cs r) (claim p (declared p cs) ls r) → Fits p (held cs') (held cs' r) (claim p (declared p cs') ls r)
-  fits_alike ls r f =
-      subst (λ k. Fits p (held cs') (held cs' r) k) (sym (claim_rel (λ x y. x ≡ y) (λ k. refl) p (declared p cs') (declared p cs) ls r (declared_alike r)))
-      (subst (λ o. Fits p (held cs') o (claim p (declared p cs) ls r)) (sym (alike.held_so r)) (fits_age p (held cs) (held cs') (held cs r) _ (λ x e fresh f nf. alike.held_so _ ∙ nf) f))
+  -- where what is claimed to be fresh has the request that it had
+  pub fits_alike :
+      (ls : List Layer) (r : Place) → ((x : Object) → held cs r ≡ Some x → is_ready_kind (claim p (declared p cs) ls r) ≡ false → requested cs' x.name ≡ requested cs x.name) →
+      Fits p (seen cs) (held cs r) (claim p (declared p cs) ls r) → Fits p (seen cs') (held cs' r) (claim p (declared p cs') ls r)
+  fits_alike ls r requests f =
+      subst (λ k. Fits p (seen cs') (held cs' r) k) (sym (claim_rel (λ x y. x ≡ y) (λ k. refl) p (declared p cs') (declared p cs) ls r (declared_alike r)))
+      (subst (λ o. Fits p (seen cs') o (claim p (declared p cs) ls r)) (sym (alike.held_so r)) (fits_age p (seen cs) (seen cs') (held cs r) _ (λ x e fresh age. (λ f. alike.held_so _ ∙ age.0 f, requests x e fresh ∙ age.1)) f))
 
 -- a word is stored
 pub stored_fitted : (p : Image) (t : Typing) (cs : List Cell) (home : Home) (w : ℕ) (v : ℤ) (fr : Frame) (sh : Shape) (ls : List Layer) → Fitted p t cs fr sh ls → Fitted p t (stored cs home w v) fr sh ls
 stored_fitted p t cs home w v fr sh ls g =
     let alike = stored_alike cs home w v in
+    let requests = stored_requests cs home w v in
     let cs' = stored cs home w v in
     record {
-      fits = λ r. fits_alike p t cs cs' alike (Method fr sh ∷ ls) r (g.fits r);
+      fits = λ r. fits_alike p t cs cs' alike (Method fr sh ∷ ls) r (λ x e fresh. requests x.name) (g.fits r);
+      suits = λ o lives. subst (λ r. Suits (thing_kind p o.thing) (states_claim p o (Method fr sh ∷ ls)) r) (sym (requests o.name)) (g.suits o (sym (alike.named_so o.name) ∙ lives));
       tidy = alike.tidy g.tidy;
       frames = g.frames;
       housed = housed_alike p t cs cs' alike ls fr.home g.housed;

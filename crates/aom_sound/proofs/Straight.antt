@@ -17,15 +17,17 @@ use Rattle.aom_shape.specs.declared.kind.Filling.{Filling}
 use Rattle.aom_shape.specs.declared.kind.Filling.TheVariants.{Empty}
 use Rattle.aom_shape.specs.declared.kind.Kind.{Kind}
 use Rattle.aom_shape.specs.declared.kind.Kind.TheVariants.{Maybe, Null, Own, Unset, Word}
-use Rattle.aom_sound.proofs.Claimed.{NoFieldHere, Outside, claim-set_register, claim_frame, claim_from, claim_ready, claim_weaker, declared_moved, fits_weaker, holds_moved, keep_fits, outside_differs, stack_moved, word_fits_weaker}
-use Rattle.aom_sound.proofs.Maps.{at-put_at, held_moved, one_place, same_place-true, tidy_moved}
+use Rattle.aom_sound.proofs.Claimed.{NoFieldHere, Outside, claim-set_register, claim_frame, claim_from, claim_ready, claim_weaker, declared_moved, fits_weaker, holds_moved, keep_fits, outside_differs, owns_no_more, stack_moved, word_fits_weaker}
+use Rattle.aom_sound.proofs.Maps.{at-put_at, held_moved, one_place, requested_moved, same_place-true, tidy_moved}
 use Rattle.aom_sound.proofs.Things.{stands_along, stands_same}
 use Rattle.aom_sound.specs.Claims.{Layer, Method, claim, declared, forms, home_claim, items_of, objects, root_claim, tasks_of}
 use Rattle.aom_sound.specs.Moves.{does, needs}
 use Rattle.aom_sound.specs.Objects.{is_declared_thing, is_thing}
-use Rattle.aom_sound.specs.Places.{Cell, Elsewhere, Field, Object, Place, Register, Root, Tidy, changed, held, moved, same_place}
+use Rattle.aom_sound.specs.Places.{Cell, Elsewhere, Field, Object, Place, Register, Root, Sight, Tidy, changed, held, moved, requested, same_place, seen}
 use Rattle.aom_sound.specs.State.{AtRoot, Choice, Frame, Home, Inside, Run, State, Static, field_place, home_holder, next, set_word, thing_holder, word}
 use Rattle.aom_sound.specs.WellTyped.{AllUndo, Fits, Frames, Good, Holds, IsApart, IsHoused, IsNoFieldOf, Returns, Stack, WellTyped, WordFits}
+use Rattle.aom_sound.proofs.Suiting.{all_moved, claims_less}
+use Rattle.aom_sound.specs.Requests.{AllSuit, Suits, states_claim, thing_kind, works_at}
 
 -- a state whose top task is a method
 pub record At (p : Image) (t : Typing) (s : State) (fr : Frame) (sh : Shape) (ls : List Layer) : Type 0 where
@@ -35,11 +37,11 @@ pub record At (p : Image) (t : Typing) (s : State) (fr : Frame) (sh : Shape) (ls
   pub good : Good p t s.cells (Method fr sh ∷ ls)
 
 -- what a register is, on either side
-pub register_fits : (p : Image) (cs : List Cell) (fr : Frame) (sh : Shape) (ls : List Layer) → ((r : Place) → Fits p (held cs) (held cs r) (claim p (declared p cs) (Method fr sh ∷ ls) r)) → (i : ℕ) → Fits p (held cs) (held cs (Register (length (tasks_of ls)) i)) (register sh i)
+pub register_fits : (p : Image) (cs : List Cell) (fr : Frame) (sh : Shape) (ls : List Layer) → ((r : Place) → Fits p (seen cs) (held cs r) (claim p (declared p cs) (Method fr sh ∷ ls) r)) → (i : ℕ) → Fits p (seen cs) (held cs (Register (length (tasks_of ls)) i)) (register sh i)
 register_fits p cs fr sh ls fits i =
-    subst (λ b. Fits p (held cs) (held cs (Register (length (tasks_of ls)) i)) (cond b (register sh i) (claim p (declared p cs) ls (Register (length (tasks_of ls)) i)))) (eq-eqb (length (tasks_of ls)) _ refl) (fits (Register (length (tasks_of ls)) i))
+    subst (λ b. Fits p (seen cs) (held cs (Register (length (tasks_of ls)) i)) (cond b (register sh i) (claim p (declared p cs) ls (Register (length (tasks_of ls)) i)))) (eq-eqb (length (tasks_of ls)) _ refl) (fits (Register (length (tasks_of ls)) i))
 
-pub fits_unowning : (p : Image) (h : Place → Option Object) (o : Option Object) (k : Kind) → is_unowning k ≡ true → Fits p h o k → o ≡ None
+pub fits_unowning : (p : Image) (h : Sight) (o : Option Object) (k : Kind) → is_unowning k ≡ true → Fits p h o k → o ≡ None
 fits_unowning p h None k u f = refl
 fits_unowning p h _ _ u f = absurd (grind arith)
 
@@ -55,7 +57,8 @@ word_of_object w _ e f = f
 
 -- the cells are as the layers claim, where the top method may be in the middle of its instruction
 pub record Fitted (p : Image) (t : Typing) (cs : List Cell) (fr : Frame) (sh : Shape) (ls : List Layer) : Type 0 where
-  pub fits : (r : Place) → Fits p (held cs) (held cs r) (claim p (declared p cs) (Method fr sh ∷ ls) r)
+  pub fits : (r : Place) → Fits p (seen cs) (held cs r) (claim p (declared p cs) (Method fr sh ∷ ls) r)
+  pub suits : AllSuit p cs (Method fr sh ∷ ls)
   pub tidy : Tidy cs
   pub frames : Frames p ls fr sh
   pub housed : IsHoused p cs ls fr.home
@@ -63,7 +66,7 @@ pub record Fitted (p : Image) (t : Typing) (cs : List Cell) (fr : Frame) (sh : S
   pub stack : Stack p t cs (Returns fr.method fr.home) ls
 
 pub fitted : (p : Image) (t : Typing) (cs : List Cell) (fr : Frame) (sh : Shape) (ls : List Layer) → Good p t cs (Method fr sh ∷ ls) → Fitted p t cs fr sh ls
-fitted p t cs fr sh ls g = record { fits = g.fits; tidy = g.tidy; frames = g.stack.1; housed = g.stack.2; apart = g.stack.3; stack = g.stack.4 }
+fitted p t cs fr sh ls g = record { fits = g.fits; suits = g.suits; tidy = g.tidy; frames = g.stack.1; housed = g.stack.2; apart = g.stack.3; stack = g.stack.4 }
 
 -- the state that the typing has at the next place takes the flow's place
 pub settle : (p : Image) (t : Typing) (cs : List Cell) (fr : Frame) (sh : Shape) (ls : List Layer) → Fitted p t cs fr sh ls → Leads t fr.method fr.place sh → (after : Shape) × Good p t cs (Method fr after ∷ ls) × (after.entries ≡ sh.entries)
@@ -72,7 +75,8 @@ settle p t cs fr sh ls g leads =
       leads.0,
       record {
         stack = (leads.1, record { words = λ i. word_fits_weaker (word fr i) (w.registers i) (g.frames.words i); holder = g.frames.holder; height = g.frames.height }, g.housed, g.apart, g.stack);
-        fits = λ r. fits_weaker p (held cs) (held cs r) (claim_weaker p (declared p cs) fr leads.0 sh ls r w) (g.fits r);
+        fits = λ r. fits_weaker p (seen cs) (held cs r) (claim_weaker p (declared p cs) fr leads.0 sh ls r (owns_no_more leads.0 sh w)) (g.fits r);
+        suits = λ o lives. claims_less p o fr leads.0 sh ls (requested cs o.name) w.states (g.suits o lives);
         tidy = g.tidy;
       },
       w.entries,
@@ -85,11 +89,15 @@ housed_relocated p cs a b ls (Inside o from) free oa ob n h =
     let m = n o from refl in
     holds_moved p cs a b ls o from free (outside_differs a from ls oa m.0 h.below) (outside_differs b from ls ob m.1 h.below) h
 
+-- the home and the states alone count for requests
+pub same_suits : (p : Image) (cs : List Cell) (fr fr' : Frame) (sh sh' : Shape) (ls : List Layer) → fr'.home ≡ fr.home → sh'.states ≡ sh.states → AllSuit p cs (Method fr sh ∷ ls) → AllSuit p cs (Method fr' sh' ∷ ls)
+same_suits p cs fr fr' sh sh' ls eh es s o lives = subst (λ k. Suits (thing_kind p o.thing) k (requested cs o.name)) (sym (ap (λ h. cond (works_at o.name h) sh'.states (states_claim p o ls)) eh ∙ ap (λ k. cond (works_at o.name fr.home) k (states_claim p o ls)) es)) (s o lives)
+
 -- a thing moves from one local place to another, with its claim
 pub relocate :
     (p : Image) (t : Typing) (cs : List Cell) (fr fr' : Frame) (sh sh' : Shape) (ls : List Layer) (a b : Place) →
     Fitted p t cs fr sh ls →
-    fr'.home ≡ fr.home → fr'.method ≡ fr.method → fr'.height ≡ fr.height →
+    fr'.home ≡ fr.home → fr'.method ≡ fr.method → fr'.height ≡ fr.height → sh'.states ≡ sh.states →
     held cs b ≡ None →
     Outside a ls → Outside b ls →
     ((o : Object) (from : Place) → fr'.home ≡ Inside o from → NoFieldHere a from × NoFieldHere b from) →
@@ -97,13 +105,14 @@ pub relocate :
     ((r : Place) → claim p (declared p cs) (Method fr sh' ∷ ls) r ≡ changed (changed (claim p (declared p cs) (Method fr sh ∷ ls)) a Null) b (claim p (declared p cs) (Method fr sh ∷ ls) a) r) →
     ((i : ℕ) → WordFits (word fr' i) (register sh' i)) →
     Fitted p t (moved a b cs) fr' sh' ls
-relocate p t cs fr fr' sh sh' ls a b g eh em eg free oa ob nf fresh claims words =
+relocate p t cs fr fr' sh sh' ls a b g eh em eg es free oa ob nf fresh claims words =
     let cs' = moved a b cs in
     let d = declared p cs in
-    let fits : (r : Place) → Fits p (held cs') (held cs' r) (claim p d (Method fr sh' ∷ ls) r) =
-    keep_fits p (held cs) (held cs') (claim p d (Method fr sh ∷ ls)) (claim p d (Method fr sh' ∷ ls)) a b (λ r. held_moved cs a b r free) claims fresh g.fits in
+    let fits : (r : Place) → Fits p (seen cs') (held cs' r) (claim p d (Method fr sh' ∷ ls) r) =
+    keep_fits p (seen cs) (seen cs') (claim p d (Method fr sh ∷ ls)) (claim p d (Method fr sh' ∷ ls)) a b (λ r. held_moved cs a b r free) (requested_moved cs a b) claims fresh g.fits in
     record {
-      fits = λ r. subst (λ k. Fits p (held cs') (held cs' r) k) (ap (λ e. claim p e (Method fr sh' ∷ ls) r) (sym (declared_moved p cs a b)) ∙ sym (claim_frame p (declared p cs') fr fr' sh' ls r eh)) (fits r);
+      fits = λ r. subst (λ k. Fits p (seen cs') (held cs' r) k) (ap (λ e. claim p e (Method fr sh' ∷ ls) r) (sym (declared_moved p cs a b)) ∙ sym (claim_frame p (declared p cs') fr fr' sh' ls r eh)) (fits r);
+      suits = same_suits p (moved a b cs) fr fr' sh sh' ls eh es (all_moved p cs a b (Method fr sh ∷ ls) g.suits);
       tidy = tidy_moved cs a b free g.tidy;
       frames = record { words = words; holder = ap home_holder eh ∙ g.frames.holder ∙ ap (λ m. holder_of p m) (sym em); height = eg ∙ g.frames.height };
       housed = housed_relocated p cs a b ls fr'.home free oa ob nf (subst (λ h. IsHoused p cs ls h) (sym eh) g.housed);
@@ -115,13 +124,14 @@ relocate p t cs fr fr' sh sh' ls a b g eh em eg free oa ob nf fresh claims words
 pub relabel :
     (p : Image) (t : Typing) (cs : List Cell) (fr fr' : Frame) (sh sh' : Shape) (ls : List Layer) (a : Place) (v : Kind) →
     Fitted p t cs fr sh ls →
-    fr'.home ≡ fr.home → fr'.method ≡ fr.method → fr'.height ≡ fr.height →
-    Fits p (held cs) (held cs a) v →
+    fr'.home ≡ fr.home → fr'.method ≡ fr.method → fr'.height ≡ fr.height → sh'.states ≡ sh.states →
+    Fits p (seen cs) (held cs a) v →
     ((r : Place) → claim p (declared p cs) (Method fr sh' ∷ ls) r ≡ changed (claim p (declared p cs) (Method fr sh ∷ ls)) a v r) →
     ((i : ℕ) → WordFits (word fr' i) (register sh' i)) →
     Fitted p t cs fr' sh' ls
-relabel p t cs fr fr' sh sh' ls a v g eh em eg new claims words = record {
-  fits = λ r. subst (λ k. Fits p (held cs) (held cs r) k) (sym (claim_frame p (declared p cs) fr fr' sh' ls r eh ∙ claims r)) (go r (same_place a r) refl);
+relabel p t cs fr fr' sh sh' ls a v g eh em eg es new claims words = record {
+  fits = λ r. subst (λ k. Fits p (seen cs) (held cs r) k) (sym (claim_frame p (declared p cs) fr fr' sh' ls r eh ∙ claims r)) (go r (same_place a r) refl);
+  suits = same_suits p cs fr fr' sh sh' ls eh es g.suits;
   tidy = g.tidy;
   frames = record { words = words; holder = ap home_holder eh ∙ g.frames.holder ∙ ap (λ m. holder_of p m) (sym em); height = eg ∙ g.frames.height };
   housed = subst (λ h. IsHoused p cs ls h) (sym eh) g.housed;
@@ -129,8 +139,8 @@ relabel p t cs fr fr' sh sh' ls a v g eh em eg new claims words = record {
   stack = subst (λ m. Stack p t cs (Returns m fr'.home) ls) (sym em) (subst (λ h. Stack p t cs (Returns fr.method h) ls) (sym eh) g.stack);
 }
   where
-    go : (r : Place) (b : Bool) → same_place a r ≡ b → Fits p (held cs) (held cs r) (cond b v (claim p (declared p cs) (Method fr sh ∷ ls) r))
-    go r true e = subst (λ q. Fits p (held cs) (held cs q) v) (same_place-true a r e) new
+    go : (r : Place) (b : Bool) → same_place a r ≡ b → Fits p (seen cs) (held cs r) (cond b v (claim p (declared p cs) (Method fr sh ∷ ls) r))
+    go r true e = subst (λ q. Fits p (seen cs) (held cs q) v) (same_place-true a r e) new
     go r false e = g.fits r
 
 pub claim_register : (p : Image) (d : Place → Kind) (fr : Frame) (sh : Shape) (ls : List Layer) (i : ℕ) → claim p d (Method fr sh ∷ ls) (Register (length (tasks_of ls)) i) ≡ register sh i
@@ -167,10 +177,25 @@ no_word_fits _ e = refl
 abbrev pub top : List Layer → ℕ → Place
 top ls i = Register (length (tasks_of ls)) i
 
+-- the frame stands elsewhere, or has other counters
+pub reframed :
+    (p : Image) (t : Typing) (cs : List Cell) (fr fr' : Frame) (sh : Shape) (ls : List Layer) → fr'.home ≡ fr.home → fr'.method ≡ fr.method → fr'.height ≡ fr.height → fr'.words ≡ fr.words →
+    Fitted p t cs fr sh ls → Fitted p t cs fr' sh ls
+reframed p t cs fr fr' sh ls eh em eg ew g = record {
+  fits = λ r. subst (λ k. Fits p (seen cs) (held cs r) k) (sym (claim_frame p (declared p cs) fr fr' sh ls r eh)) (g.fits r);
+  suits = same_suits p cs fr fr' sh sh ls eh refl g.suits;
+  tidy = g.tidy;
+  frames = record { words = λ i. subst (λ ws. WordFits (at None ws i) (register sh i)) (sym ew) (g.frames.words i); holder = ap home_holder eh ∙ g.frames.holder ∙ ap (λ m. holder_of p m) (sym em); height = eg ∙ g.frames.height };
+  housed = subst (λ h. IsHoused p cs ls h) (sym eh) g.housed;
+  apart = subst (λ h. IsApart p h ls) (sym eh) g.apart;
+  stack = subst (λ m. Stack p t cs (Returns m fr'.home) ls) (sym em) (subst (λ h. Stack p t cs (Returns fr.method h) ls) (sym eh) g.stack);
+}
+
 -- the place alone differs
 pub stepped : (p : Image) (t : Typing) (cs : List Cell) (fr : Frame) (sh : Shape) (ls : List Layer) → Fitted p t cs fr sh ls → Fitted p t cs (next fr) sh ls
 stepped p t cs fr sh ls g = record {
-  fits = λ r. subst (λ k. Fits p (held cs) (held cs r) k) (sym (claim_frame p (declared p cs) fr (next fr) sh ls r refl)) (g.fits r);
+  fits = λ r. subst (λ k. Fits p (seen cs) (held cs r) k) (sym (claim_frame p (declared p cs) fr (next fr) sh ls r refl)) (g.fits r);
+  suits = g.suits;
   tidy = g.tidy;
   frames = record { words = g.frames.words; holder = g.frames.holder; height = g.frames.height };
   housed = g.housed;
@@ -181,12 +206,12 @@ stepped p t cs fr sh ls g = record {
 -- a register that owns nothing is written
 pub write :
     (p : Image) (t : Typing) (cs : List Cell) (fr : Frame) (sh : Shape) (ls : List Layer) (a : ℕ) (w : Option ℤ) (k : Kind) →
-    Fitted p t cs fr sh ls → is_unowning (register sh a) ≡ true → ((h : Place → Option Object) → Fits p h None k) → WordFits w k →
+    Fitted p t cs fr sh ls → is_unowning (register sh a) ≡ true → ((h : Sight) → Fits p h None k) → WordFits w k →
     Fitted p t cs (set_word fr a w) (set_register sh a k) ls
 write p t cs fr sh ls a w k g u new word =
-    let free = fits_unowning p (held cs) _ (register sh a) u (register_fits p cs fr sh ls g.fits a) in
-    relabel p t cs fr (set_word fr a w) sh (set_register sh a k) ls (top ls a) k g refl refl refl
-    (subst (λ o. Fits p (held cs) o k) (sym free) (new (held cs))) (λ r. claim-set_register p (declared p cs) fr sh ls a k r) (words_set fr.words sh a w k g.frames.words word)
+    let free = fits_unowning p (seen cs) _ (register sh a) u (register_fits p cs fr sh ls g.fits a) in
+    relabel p t cs fr (set_word fr a w) sh (set_register sh a k) ls (top ls a) k g refl refl refl refl
+    (subst (λ o. Fits p (seen cs) o k) (sym free) (new (seen cs))) (λ r. claim-set_register p (declared p cs) fr sh ls a k r) (words_set fr.words sh a w k g.frames.words word)
 
 -- a field of what the frame works on
 pub claim_field : (p : Image) (d : Place → Kind) (fr : Frame) (sh : Shape) (ls : List Layer) (home : Home) (f : ℕ) → fr.home ≡ home → is_some (field_thing p (home_holder home) f) ≡ true → claim p d (Method fr sh ∷ ls) (field_place home f) ≡ filled (field_thing p (home_holder home) f) (field sh f)
@@ -196,7 +221,7 @@ claim_field p d fr sh ls _ _ e some = cc
 
 module _ (p : Image) (t : Typing) (c : Choice) (s : State) (fr : Frame) (sh : Shape) (ls : List Layer) (at_hand : At p t s fr sh ls) where
   pub free_register : (a : ℕ) → is_unowning (register sh a) ≡ true → held s.cells (Register (length (tasks_of ls)) a) ≡ None
-  free_register a u = fits_unowning p (held s.cells) _ (register sh a) u (register_fits p s.cells fr sh ls at_hand.good.fits a)
+  free_register a u = fits_unowning p (seen s.cells) _ (register sh a) u (register_fits p s.cells fr sh ls at_hand.good.fits a)
 
   pub no_word : (b : ℕ) → is_object_or_null (register sh b) ≡ true → word fr b ≡ None
   no_word b e = word_of_object (word fr b) (register sh b) e (at_hand.good.stack.1.words b)
@@ -214,8 +239,8 @@ module _ (p : Image) (t : Typing) (c : Choice) (s : State) (fr : Frame) (sh : Sh
     good = g.1;
   }
 
-  pub field_fits : (f : ℕ) → is_some (field_thing p (home_holder fr.home) f) ≡ true → Fits p (held s.cells) (held s.cells (field_place fr.home f)) (filled (field_thing p (home_holder fr.home) f) (field sh f))
-  field_fits f some = subst (λ k. Fits p (held s.cells) (held s.cells (field_place fr.home f)) k) (claim_field p (declared p s.cells) fr sh ls fr.home f refl some) (at_hand.good.fits (field_place fr.home f))
+  pub field_fits : (f : ℕ) → is_some (field_thing p (home_holder fr.home) f) ≡ true → Fits p (seen s.cells) (held s.cells (field_place fr.home f)) (filled (field_thing p (home_holder fr.home) f) (field sh f))
+  field_fits f some = subst (λ k. Fits p (seen s.cells) (held s.cells (field_place fr.home f)) k) (claim_field p (declared p s.cells) fr sh ls fr.home f refl some) (at_hand.good.fits (field_place fr.home f))
 
   pub field_outside : (home : Home) (f : ℕ) → fr.home ≡ home → is_some (field_thing p (home_holder home) f) ≡ true → Outside (field_place home f) ls
   field_outside Static f e some = cc
@@ -229,16 +254,16 @@ module _ (p : Image) (t : Typing) (c : Choice) (s : State) (fr : Frame) (sh : Sh
       subst (λ r. IsNoFieldOf x.name r) same apart.0
   field_not_from _ f e o from e' = cc
 
-  pub kind_fits : (b : ℕ) → Fits p (held s.cells) (held s.cells (top ls b)) (register sh b)
+  pub kind_fits : (b : ℕ) → Fits p (seen s.cells) (held s.cells (top ls b)) (register sh b)
   kind_fits b = register_fits p s.cells fr sh ls at_hand.good.fits b
 
-  pub thing_ok : (x : Thing) (o : Option Object) (k : Kind) → may_be p x k ≡ true → Fits p (held s.cells) o k → is_thing p x o ≡ true
+  pub thing_ok : (x : Thing) (o : Option Object) (k : Kind) → may_be p x k ≡ true → Fits p (seen s.cells) o k → is_thing p x o ≡ true
   thing_ok x None k e f = refl
   thing_ok x (Some o) (Own y a) e f = stands_along p o.thing y x f.0 e
   thing_ok x (Some o) (Maybe y a) e f = stands_along p o.thing y x f.0 e
   thing_ok x _ _ e f = absurd f
 
-  pub declared_ok : (x : Option Thing) (o : Option Object) (k : Kind) → may_be_declared p x k ≡ true → Fits p (held s.cells) o k → is_declared_thing p x o ≡ true
+  pub declared_ok : (x : Option Thing) (o : Option Object) (k : Kind) → may_be_declared p x k ≡ true → Fits p (seen s.cells) o k → is_declared_thing p x o ≡ true
   declared_ok None o k e f = cc
   declared_ok (Some x) o k e f = thing_ok x o k e f
 

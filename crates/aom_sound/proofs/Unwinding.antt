@@ -32,6 +32,7 @@ module _ (p : Image) (t : Typing) (wired : IsWired p) (typed : IsTyped p t) (s :
         fits = good.fits;
         claims = λ r. claim_unwinding p (declared p s.cells) code e es ls r;
         deep = refl;
+        suits = good.suits;
         tidy = good.tidy;
         items = same;
         undos = undos;

@@ -1,11 +1,12 @@
 -- What a linked image gives the laws: main and the destructors are as they must be, what is called does or constructs, and what is owned is of a class before its owner's.
 use Rattle.std.proofs.lemmas.List.{nil_from_length}
-use Rattle.std.proofs.Common.{Bool, IfSome, IsSome, IsTrue, List, None, Option, Some, [], ap, arith, false, inl, inr, length, refl, slice_get, subst, suc, true, zero, ℕ, ◌<◌, ◌∙◌, ◌∷◌, ◌≡◌}
+use Rattle.std.proofs.lemmas.Bool.{cases_Bool, true≢false}
+use Rattle.std.proofs.Common.{Bool, IfSome, IsSome, IsTrue, List, None, Option, Some, [], ap, arith, false, inl, inr, length, refl, slice_get, subst, suc, sym, true, zero, ℕ, ◌<◌, ◌∙◌, ◌∷◌, ◌≡◌}
 use Rattle.aom_image.proofs.Given.{some_given}
-use Rattle.std.specs.Prelude.{is_none, ◌||◌, ◌⊎◌}
+use Rattle.std.specs.Prelude.{is_none, not, ◌||◌, ◌⊎◌}
 use Rattle.std.proofs.lemmas.Option.{slice_get_within}
 use Rattle.aom_image.specs.Image.{Image}
-use Rattle.aom_image.specs.Views.{arguments_in, arguments_of, class_at, class_in, fields_in, gives_in, gives_of, instr_at, is_quiet, leaves, leaves_in, method_at, method_class, method_role, quiet_in, role_in}
+use Rattle.aom_image.specs.Views.{arguments_in, arguments_of, class_at, class_in, fields_in, gives_in, gives_of, has, instr_at, is_quiet, leaves, leaves_in, method_at, method_class, method_role, quiet_in, role_in}
 use Rattle.aom_instructions.specs.Fits.{InstrFits, limits}
 use Rattle.aom_image.specs.WellFormed.{MethodFits, WellFormed}
 use Rattle.aom_image.specs.declared.class.ClassDecl.{ClassDecl}
@@ -20,9 +21,9 @@ use Rattle.aom_image.specs.declared.method.Role.{Role}
 use Rattle.aom_image.specs.declared.method.Role.TheVariants.{Construct, Destruct, Do, Main, Undo}
 use Rattle.aom_image.specs.declared.method.Thing.TheVariants.{Object as An_object_of}
 use Rattle.aom_roles.specs.Classes.{ClassOrdered, OwnsBefore, kind_in}
-use Rattle.aom_roles.specs.Shapes.{HasShape, IsDestruct, IsMain, IsShaped, IsTrapped as ShapedTrapped, IsUndo as ShapedUndo, NamesRoles, gives_left, gives_nothing, is_role, is_word, kind_of}
+use Rattle.aom_roles.specs.Shapes.{HasShape, IsConstruct, IsDestruct, IsDo, IsMain, IsShaped, IsTrapped as ShapedTrapped, IsUndo as ShapedUndo, NamesRoles, gives_left, gives_nothing, is_role, is_word, kind_of}
 use Rattle.aom_classes.specs.Linked.{IsLinked}
-use Rattle.aom_classes.specs.Needs.{NeedsMet}
+use Rattle.aom_classes.specs.Needs.{KindNeeds, NeedsMet}
 use Rattle.aom_classes.specs.Roles.{main_of, role_of, same_role}
 use Rattle.aom_classes.proofs.Facts.{all_there, at_place, of_method}
 use Rattle.aom_classes.proofs.Playing.{main_found, role_found, same_roles}
@@ -32,6 +33,12 @@ use Rattle.aom_sound.specs.WellTyped.{IsUndo, LeavesNone}
 use Rattle.aom_image.specs.declared.method.Argument.{Argument}
 use Rattle.aom_image.specs.declared.method.Argument.TheVariants.{Word as Takes_word}
 use Rattle.std.specs.List.{list_all}
+use Rattle.aom_roles.specs.States.{active_states, first_of, issued, last_of, server_states, states_of}
+use Rattle.aom_rules.specs.Requests.{own_kind, unissued}
+use Rattle.aom_shape.specs.Arguments.{after_in, after_of, before_in, before_of}
+use Rattle.aom_image.specs.declared.class.ClassKind.{ClassKind}
+use Rattle.aom_image.specs.declared.class.ClassKind.TheVariants.{Active as An_active, Plain, Server as A_server, Session}
+use Rattle.aom_shape.proofs.Sets.{has_along}
 
 nothing_given : (g : Gives) → gives_nothing g ≡ true → g ≡ Nothing
 unfolding gives_nothing
@@ -52,6 +59,10 @@ one_of : (a b : Bool) → IsTrue (a || b) → IsTrue a ⊎ IsTrue b
 one_of true b h = inl refl
 one_of false b h = inr h
 
+or_left : (a b : Bool) → IsTrue a → IsTrue (a || b)
+or_left true b h = refl
+or_left false b h = cc
+
 -- a method of no kind of class is of no class
 of_none : (p : Image) (c : Option ℕ) → IfSome c (λ k. k < length p.classes) → is_none (kind_of p c) ≡ true → c ≡ None
 unfolding kind_of kind_in class_at
@@ -66,6 +77,22 @@ of_none p (Some c) within e = go (slice_get p.classes c) refl e
         past (x ∷ xs) zero h f = cc
         past (x ∷ xs) (suc k) h f = past xs k (omega (arith, h)) f
     go (Some d) f e = cc
+
+-- main works on no object
+pub main_of_none : (p : Image) → IsLinked p → (m : ℕ) → method_role p m ≡ Some Main → own_kind p m ≡ None
+unfolding class_in role_in method_at kind_of
+main_of_none p linked m e = go (method_at p m) refl e
+  where
+    none : (k : Option ClassKind) → IsTrue (is_none k) → k ≡ None
+    none None e = refl
+    none (Some k) e = cc
+
+    go : (o : Option Method_declared) → method_at p m ≡ o → role_in o ≡ Some Main → kind_of p (class_in o) ≡ None
+    go None f e = refl
+    go (Some d) f e =
+        let role : d.role ≡ Main = cc in
+        let s : IsMain (kind_of p d.class) d = subst (λ x. HasShape x (kind_of p d.class) d) role (all_there (IsShaped p) p.methods m d linked.shapes f).role in
+        none (kind_of p d.class) s.of
 
 module _ (p : Image) (formed : WellFormed p) (linked : IsLinked p) where
   shaped : (m : ℕ) (d : Method_declared) → method_at p m ≡ Some d → IsShaped p d
@@ -121,6 +148,57 @@ module _ (p : Image) (formed : WellFormed p) (linked : IsLinked p) where
       let l = limits (length p.classes) (length p.methods) (length w.0.code) in
       (l, all_there (InstrFits l) w.0.code place i fits.code w.2)
 
+  -- what may be called ends with no request issued
+  unissued_part : (whole set : ℕ) → unissued whole ≡ true → IsTrue (has whole set) → unissued set ≡ true
+  unissued_part whole set u h = elim (cases_Bool (has set issued)) as (λ x. not (has set issued) ≡ true) [
+    | inl e ↦ absurd (true≢false (sym u ∙ ap not (has_along whole set issued h e)))
+    | inr e ↦ ap not e
+  ]
+
+  do_ends : (k : Option ClassKind) (d : Method_declared) → IsDo k d → unissued d.after.0 ≡ true
+  do_ends (Some (An_active v b)) d s = ap not s.settled
+  do_ends (Some (A_server most x b)) d s = unissued_part server_states d.after.0 refl s.ends.within
+  do_ends None d s = ap unissued s.ends
+  do_ends (Some Plain) d s = ap unissued s.ends
+  do_ends (Some Session) d s = ap unissued s.ends
+
+  construct_ends : (k : Option ClassKind) (d : Method_declared) → IsConstruct k d → unissued d.after.0 ≡ true
+  unfolding states_of
+  construct_ends (Some (An_active v b)) d s = unissued_part active_states d.after.0 refl s.ends.within
+  construct_ends (Some (A_server most x b)) d s = unissued_part server_states d.after.0 refl s.ends.within
+  construct_ends k d s = unissued_part (states_of k) d.after.0 refl s.ends.within
+
+  ends_unissued : (m : ℕ) (d : Method_declared) → method_at p m ≡ Some d → IsTrue (same_role d.role Do || same_role d.role Construct) → unissued (after_of p m) ≡ true
+  unfolding after_in
+  ends_unissued m d e names = ap (λ o. unissued (after_in o)) e ∙ elim (one_of (same_role d.role Do) (same_role d.role Construct) names) as (λ x. unissued d.after.0 ≡ true) [
+    | inl h ↦ do_ends (kind_of p d.class) d (of_role m d Do e (same_roles d.role Do h))
+    | inr h ↦ construct_ends (kind_of p d.class) d (of_role m d Construct e (same_roles d.role Construct h))
+  ]
+
+  construct_begins : (m : ℕ) (d : Method_declared) → method_at p m ≡ Some d → d.role ≡ Construct → before_of p m ≡ first_of (kind_of p (method_class p m))
+  unfolding before_in class_in
+  construct_begins m d e role = let s : IsConstruct (kind_of p d.class) d = of_role m d Construct e role in ap before_in e ∙ s.begins ∙ sym (ap (λ o. first_of (kind_of p (class_in o))) e)
+
+  destruct_states : (c m : ℕ) → role_of p c Destruct ≡ Some m → (before_of p m ≡ states_of (kind_of p (Some c))) × (after_of p m ≡ last_of (kind_of p (Some c)))
+  unfolding before_in after_in
+  destruct_states c m e =
+      let d = role_found p c m Destruct e in
+      let s : IsDestruct (kind_of p d.0.class) d.0 = of_role m d.0 Destruct d.1 d.3 in
+      (ap before_in d.1 ∙ s.begins ∙ ap (λ k. states_of (kind_of p k)) d.2, ap after_in d.1 ∙ s.ends ∙ ap (λ k. last_of (kind_of p k)) d.2)
+
+  -- only a class of active objects has to have a destructor for its requests
+  none_destructs : (c : ℕ) → role_of p c Destruct ≡ None → last_of (kind_of p (Some c)) ≡ states_of (kind_of p (Some c))
+  unfolding kind_of kind_in class_at last_of states_of
+  none_destructs c none = go (class_at p c) refl
+    where
+      of_kind : (d : ClassDecl) → class_at p c ≡ Some d → (k : ClassKind) → d.kind ≡ k → last_of (Some k) ≡ states_of (Some k)
+      of_kind d e (An_active v b) same = let needs = subst (λ k. KindNeeds p c k) same (at_place (NeedsMet p) p.classes c d linked.needs e).kind in let clash : IsSome {T = ℕ} None = subst (λ (o : Option ℕ). IsSome o) none needs.destruct in cc
+      of_kind d e _ same = refl
+
+      go : (o : Option ClassDecl) → class_at p c ≡ o → last_of (kind_in o) ≡ states_of (kind_in o)
+      go None e = refl
+      go (Some d) e = of_kind d e d.kind refl
+
   called_is : (m place : ℕ) (target : Target) (m' first c : ℕ) → instr_at p m place ≡ Some (Call target m' first c) → IsCalled p m'
   unfolding role_in is_role
   called_is m place target m' first c e =
@@ -132,6 +210,8 @@ module _ (p : Image) (formed : WellFormed p) (linked : IsLinked p) where
       go None f names = cc
       go (Some d) f names = record {
         there = rw f refl;
+        ends = ends_unissued m' d f names;
+        begins = λ e. construct_begins m' d f (let same : Some d.role ≡ Some Construct = sym (ap role_in f) ∙ e in cc);
         role = elim (one_of (same_role d.role Do) (same_role d.role Construct) names) [
           | inl h ↦ inl (ap role_in f ∙ ap (λ r. Some r) (same_roles d.role Do h))
           | inr h ↦ inr (ap role_in f ∙ ap (λ r. Some r) (same_roles d.role Construct h))
@@ -143,7 +223,7 @@ module _ (p : Image) (formed : WellFormed p) (linked : IsLinked p) where
   trapped_is m place target m' first c e =
       let w = of_method p m place (Trap target m' first c) e in
       let names : ShapedTrapped p m' = all_there (NamesRoles p) w.0.code place (Trap target m' first c) (shaped m w.0 w.1).code w.2 in
-      let gives : LeavesNone (gives_of p m') = leaves_none (gives_of p m') names.gives in some_given (λ o. IsTrue (is_role Do (role_in o))) (method_at p m') names.role (λ names. cc) (λ d f names. record { there = rw f refl; role = ap role_in f ∙ ap (λ r. Some r) (same_roles d.role Do names); gives = gives })
+      let gives : LeavesNone (gives_of p m') = leaves_none (gives_of p m') names.gives in some_given (λ o. IsTrue (is_role Do (role_in o))) (method_at p m') names.role (λ names. cc) (λ d f names. record { there = rw f refl; ends = ends_unissued m' d f (or_left (same_role d.role Do) (same_role d.role Construct) names); role = ap role_in f ∙ ap (λ r. Some r) (same_roles d.role Do names); gives = gives })
 
   pushed_is : (m place a m' : ℕ) → instr_at p m place ≡ Some (PushOperation a m') → IsUndo p m'
   unfolding role_in is_role class_in leaves_in quiet_in gives_in arguments_in method_at
@@ -196,6 +276,8 @@ linked_is_wired p formed linked = record {
   called = called_is p formed linked;
   trapped = trapped_is p formed linked;
   pushed = pushed_is p formed linked;
+  destructs = destruct_states p formed linked;
+  undestructed = none_destructs p formed linked;
   no_destructor = owns_none p formed linked;
   ordered = owned_before p formed linked;
 }

@@ -1,6 +1,7 @@
 -- For each need of the machine a closed state that fails it, with the kind of stuck state that it comes to.
 pub mod Building
 pub mod Words
+pub mod Requests
 pub mod Objects
 pub mod Calls
 pub mod Returns

@@ -14,6 +14,10 @@ use Rattle.aom_image.specs.declared.method.Thing.TheVariants.{Object as An_objec
 use Rattle.aom_classes.specs.Linked.{IsLinked}
 use Rattle.aom_classes.specs.Roles.{role_of, main_of}
 use Rattle.aom_shape.specs.Things.{Member, field_thing}
+use Rattle.aom_shape.specs.Arguments.{after_of, before_of}
+use Rattle.aom_rules.specs.Requests.{unissued}
+use Rattle.aom_roles.specs.Shapes.{kind_of}
+use Rattle.aom_roles.specs.States.{first_of, last_of, states_of}
 use Rattle.aom_rules.specs.Typing.{Typing, IsTyped}
 use Rattle.aom_sound.specs.Places.{Elsewhere, Root, held, named}
 use Rattle.aom_sound.specs.State.{Dispatch, Frame, Task, Run, Destroy, Unwind, Dispatched, Item, A_mark, State, Choice, Goes}
@@ -29,11 +33,15 @@ use Rattle.aom_transcript.specs.declared.line.Ending.TheVariants.{Stopped}
 pub record IsCalled (p : Image) (m : ℕ) : Type 0 where
   pub there : IsSome (method_at p m)
   pub role : (method_role p m ≡ Some Do) ⊎ (method_role p m ≡ Some Construct)
+  -- no request is issued as it ends, and a construct begins with an object that is not enlisted
+  pub ends : unissued (after_of p m) ≡ true
+  pub begins : method_role p m ≡ Some Construct → before_of p m ≡ first_of (kind_of p (method_class p m))
 
 -- a method that is called under a trap does, and leaves no object on the cleanup stack
 pub record IsTrapped (p : Image) (m : ℕ) : Type 0 where
   pub there : IsSome (method_at p m)
   pub role : method_role p m ≡ Some Do
+  pub ends : unissued (after_of p m) ≡ true
   pub gives : LeavesNone (gives_of p m)
 
 -- what linking has found, as far as the laws use it
@@ -41,6 +49,9 @@ pub record IsWired (p : Image) : Type 0 where
   pub has_main : IsSome (main_of p)
   pub main : (m : ℕ) → main_of p ≡ Some m → (IsSome (method_at p m)) × (method_role p m ≡ Some Main) × (gives_of p m ≡ Nothing) × (arguments_of p m ≡ [])
   pub destructor : (c m : ℕ) → role_of p c Destruct ≡ Some m → (IsSome (method_at p m)) × (method_role p m ≡ Some Destruct) × (method_class p m ≡ Some c) × (leaves p m ≡ false) × (is_quiet p m ≡ true) × (gives_of p m ≡ Nothing) × (arguments_of p m ≡ [])
+  -- a destructor begins in any state in which its object may rest, and an object that has none may rest as one ends
+  pub destructs : (c m : ℕ) → role_of p c Destruct ≡ Some m → (before_of p m ≡ states_of (kind_of p (Some c))) × (after_of p m ≡ last_of (kind_of p (Some c)))
+  pub undestructed : (c : ℕ) → role_of p c Destruct ≡ None → last_of (kind_of p (Some c)) ≡ states_of (kind_of p (Some c))
   pub static_main : (m : ℕ) → method_role p m ≡ Some Main → method_class p m ≡ None
   -- the operands of each instruction are in their ranges
   pub operands : (m place : ℕ) (i : Instr) → instr_at p m place ≡ Some i → (l : Limits) × InstrFits l i

@@ -5,6 +5,7 @@ pub mod Words
 pub mod Objects
 pub mod Calls
 pub mod Cleanup
+pub mod Enlisted
 pub mod Effects
 pub mod Moves
 pub mod Tasks
@@ -12,6 +13,7 @@ pub mod Claims
 pub mod WellTyped
 pub mod Owned
 pub mod Registers
+pub mod Requests
 pub mod World
 pub mod Loops
 pub mod Laws

@@ -48,9 +48,37 @@ pub record Object : Type 0 where
   pub name : ℕ
   pub thing : Thing
 
+-- how far the request of an enlisted object has come
+pub data Phase : Type 0 where
+  -- none is made
+  Idle : Phase
+  -- one is made, and the object does not wait for it yet
+  Issued : Phase
+  Active : Phase
+  -- it is being cancelled, and may still be completed
+  Cancelling : Phase
+  -- it is being cancelled, and is completed
+  Aborted : Phase
+
+-- a timer that runs: when it is due, and how many were begun before it
+pub record Timer : Type 0 where
+  pub due : ℕ
+  pub order : ℕ
+
+-- of an enlisted object: how many were enlisted before it, its priority, and its request
+pub record Request : Type 0 where
+  pub order : ℕ
+  pub priority : ℤ
+  pub phase : Phase
+  pub status : ℤ
+  -- none where it waits for no time
+  pub timer : Option Timer
+
 pub record Cell : Type 0 where
   pub object : Object
   pub words : List ℤ
+  -- none where the object is not enlisted
+  pub request : Option Request
   pub owner : Place
 
 -- what a place holds: the cell that it owns
@@ -63,6 +91,19 @@ abbrev pub named : List Cell → ℕ → Option Object
 named [] n = None
 named (c ∷ cs) n = cond (c.object.name == n) (Some c.object) (named cs n)
 
+-- the request of the cell of that name
+abbrev pub requested : List Cell → ℕ → Option Request
+requested [] n = None
+requested (c ∷ cs) n = cond (c.object.name == n) c.request (requested cs n)
+
+-- what the cells show: what each place holds, and the request of each name
+pub record Sight : Type 0 where
+  pub holds : Place → Option Object
+  pub requests : ℕ → Option Request
+
+abbrev pub seen : List Cell → Sight
+seen cs = record { holds = held cs; requests = requested cs }
+
 -- whatever p owns is owned by q from then on
 abbrev pub moved : Place → Place → List Cell → List Cell
 moved p q [] = []
@@ -73,9 +114,9 @@ abbrev pub without : Place → List Cell → List Cell
 without p [] = []
 without p (c ∷ cs) = cond (same_place c.owner p) (without p cs) (c ∷ without p cs)
 
--- one more cell, with these words
+-- one more cell, with these words, which is not enlisted
 abbrev pub with_new : ℕ → Thing → List ℤ → Place → List Cell → List Cell
-with_new name thing words owner cs = record { object = record { name = name; thing = thing }; words = words; owner = owner } ∷ cs
+with_new name thing words owner cs = record { object = record { name = name; thing = thing }; words = words; request = None; owner = owner } ∷ cs
 
 -- a word of the cell of that name
 abbrev pub word_field : List Cell → ℕ → ℕ → ℤ
@@ -91,6 +132,11 @@ set_word_field n w v (c ∷ cs) = record c { words = cond (c.object.name == n) (
 abbrev pub Tidy : List Cell → Type 0
 Tidy [] = Unit {0}
 Tidy (c ∷ cs) = (held cs c.owner ≡ None) × (named cs c.object.name ≡ None) × Tidy cs
+
+-- the cell of that name has another request
+abbrev pub set_request : ℕ → Option Request → List Cell → List Cell
+set_request n r [] = []
+set_request n r (c ∷ cs) = record c { request = cond (c.object.name == n) r c.request } ∷ set_request n r cs
 
 -- a function of places with one value changed
 abbrev pub changed : {A : Type 0} → (Place → A) → Place → A → Place → A

@@ -1,7 +1,7 @@
 -- The well-typed states: what the typing says of the methods at hand holds of the cells and their owners.
-use Rattle.std.specs.Prelude.{ℕ, suc, true, false, ◌==◌, ◌≡◌, ◌⊎◌, ◌<◌, ℤ, length, IsSome, List, [], ◌∷◌, Option, Some, None}
+use Rattle.std.specs.Prelude.{IsSome, IsTrue, List, None, Option, Some, [], false, length, suc, true, ℕ, ℤ, ◌<◌, ◌==◌, ◌∷◌, ◌≡◌, ◌⊎◌}
 use Rattle.aom_image.specs.Image.{Image}
-use Rattle.aom_image.specs.Views.{instr_at, method_at, method_role, method_class, arguments_of, is_quiet, leaves, gives_of}
+use Rattle.aom_image.specs.Views.{has, instr_at, method_at, method_role, method_class, arguments_of, is_quiet, leaves, gives_of}
 use Rattle.aom_image.specs.declared.method.Argument.TheVariants.{Word as Takes_word}
 use Rattle.aom_image.specs.declared.method.Role.TheVariants.{Undo}
 use Rattle.aom_image.specs.declared.method.Gives.{Gives}
@@ -11,23 +11,27 @@ use Rattle.aom_shape.specs.Shape.{Shape}
 use Rattle.aom_shape.specs.Kinds.{register, filled, is_unowning, is_ready_kind, none_owns}
 use Rattle.aom_rules.specs.Typing.{Typing, shape_at, Leads}
 use Rattle.aom_rules.specs.Calls.{brought, caught, is_destructor}
+use Rattle.aom_rules.specs.Requests.{unissued}
+use Rattle.aom_shape.specs.Arguments.{after_of}
+use Rattle.aom_roles.specs.States.{last_of}
 use Rattle.aom_shape.specs.declared.kind.Age.{Age}
 use Rattle.aom_shape.specs.declared.kind.Age.TheVariants.{Fresh, Ready}
 use Rattle.aom_shape.specs.declared.kind.Filling.TheVariants.{Perhaps}
 use Rattle.aom_shape.specs.declared.kind.Kind.{Kind}
 use Rattle.aom_shape.specs.declared.kind.Kind.TheVariants.{Unset, Word, Null, Own, Maybe}
-use Rattle.aom_sound.specs.Places.{Place, Register, Entry, Field, Going, Elsewhere, Root, same_place, Object, Cell, held, named, Tidy}
+use Rattle.aom_sound.specs.Places.{Cell, Elsewhere, Entry, Field, Going, Object, Place, Register, Root, Sight, Tidy, held, named, same_place, seen}
 use Rattle.aom_sound.specs.State.{Home, Static, AtRoot, Inside, Frame, Dispatch, Of_main, Main_left, Of_root, Item, An_object, An_operation, A_mark, word, State, Outcome, Goes, IsStuck, home_holder, thing_holder}
 use Rattle.aom_sound.specs.Calls.{result_register, called}
+use Rattle.aom_sound.specs.Requests.{AllSuit, Joins, thing_kind, works_at}
 use Rattle.aom_sound.specs.Claims.{Layer, Method, Mark, Dying, Unwinding, Dispatching, tasks_of, forms, items_of, claim, declared}
 
--- fresh: all fields are null
-abbrev pub HasAge : (Place → Option Object) → Object → Age → Type 0
-HasAge h o Fresh = (f : ℕ) → h (Field o.name f) ≡ None
+-- fresh: all fields are null, and the object is not enlisted
+abbrev pub HasAge : Sight → Object → Age → Type 0
+HasAge h o Fresh = ((f : ℕ) → h.holds (Field o.name f) ≡ None) × (h.requests o.name ≡ None)
 HasAge h o Ready = Unit {0}
 
 -- a kind holds of what a place holds
-abbrev pub Fits : Image → (Place → Option Object) → Option Object → Kind → Type 0
+abbrev pub Fits : Image → Sight → Option Object → Kind → Type 0
 Fits p h None Unset = Unit {0}
 Fits p h None Word = Unit {0}
 Fits p h None Null = Unit {0}
@@ -70,13 +74,20 @@ Awaits (An_own t) c sh = is_unowning (register sh c) ≡ true
 Awaits (A_maybe t) c sh = is_unowning (register sh c) ≡ true
 Awaits (Left x) c sh = Unit {0}
 
+-- where the method works on what the caller works on, the caller finds it in one of the states in which the method ends
+abbrev pub EndsWell : Image → ℕ → Home → Frame → Shape → Type 0
+EndsWell p m Static fr sh = Unit {0}
+EndsWell p m AtRoot fr sh = Unit {0}
+EndsWell p m (Inside o from) fr sh = works_at o.name fr.home ≡ true → IsTrue (has sh.states (after_of p m))
+
 -- the typing has that state where the frame stands, or where it goes on once the task above is over
 abbrev pub Stands : Image → Typing → Back → Frame → Shape → Type 0
 Stands p t Now fr sh = shape_at t fr.method fr.place ≡ Some sh
 Stands p t (Returns m home) fr sh =
-    (leaves p m ≡ true → (leaves p fr.method ≡ true) × (none_owns sh.registers ≡ true))
+    (leaves p m ≡ true → (leaves p fr.method ≡ true) × (none_owns sh.registers ≡ true) × (unissued sh.states ≡ true))
     × Awaits (gives_of p m) (result_register (instr_at p fr.method fr.place)) sh
     × Leads t fr.method (suc fr.place) (brought (gives_of p m) (result_register (instr_at p fr.method fr.place)) sh)
+    × EndsWell p m home fr sh
 Stands p t (Caught g) fr sh =
     (called p (instr_at p fr.method fr.place) ≡ g)
     × (is_unowning (register sh (suc (result_register (instr_at p fr.method fr.place)))) ≡ true)
@@ -165,6 +176,7 @@ IsApart p (Inside o from) ls =
     IsNoFieldOf o.name from
     × NoneIn o.name ls
     × Unclaimed p (λ f. filled (field_thing p (thing_holder o.thing) f) Perhaps) o.name (past_going ls)
+    × Joins p o ls
 
 -- some layer's method works on that cell
 abbrev pub WorksOn : ℕ → Home → Type 0
@@ -218,7 +230,8 @@ Catches p Leaves g = Unit {0}
 -- right above a cell that goes stands its destructor
 abbrev pub IsDestructorOf : Image → ℕ → Object → Back → Type 0
 IsDestructorOf p depth o Now = Unit {0}
-IsDestructorOf p depth o (Returns m home) = (leaves p m ≡ false) × (home ≡ Inside o (Going depth)) × (is_destructor p m ≡ true) × (gives_of p m ≡ Nothing)
+IsDestructorOf p depth o (Returns m home) =
+    (leaves p m ≡ false) × (home ≡ Inside o (Going depth)) × (is_destructor p m ≡ true) × (gives_of p m ≡ Nothing) × (after_of p m ≡ last_of (thing_kind p o.thing))
 IsDestructorOf p depth o (Caught g) = ⊥
 IsDestructorOf p depth o Gone = ⊥
 IsDestructorOf p depth o Leaves = ⊥
@@ -268,7 +281,8 @@ Stack p t cs back (Dispatching d ∷ ls) = EndsDispatch p d back × (ls ≡ [])
 -- a well-typed state, by its layers
 pub record Good (p : Image) (t : Typing) (cs : List Cell) (ls : List Layer) : Type 0 where
   pub stack : Stack p t cs Now ls
-  pub fits : (r : Place) → Fits p (held cs) (held cs r) (claim p (declared p cs) ls r)
+  pub fits : (r : Place) → Fits p (seen cs) (held cs r) (claim p (declared p cs) ls r)
+  pub suits : AllSuit p cs ls
   pub tidy : Tidy cs
 
 -- what an operation runs: a static method of that role, which takes a word

@@ -11,6 +11,7 @@ ghost use Rattle.aom_sound.specs.Cases.Objects.{ObjectsBite};
 ghost use Rattle.aom_sound.specs.Cases.Calls.{CallsBite};
 ghost use Rattle.aom_sound.specs.Cases.Returns.{ReturnsBite};
 ghost use Rattle.aom_sound.specs.Cases.Cleanup.{CleanupBites};
+ghost use Rattle.aom_sound.specs.Cases.Requests.{RequestsBite};
 ghost use Rattle.aom_sound.specs.Cases.Moves.{MovesBite};
 ghost use Rattle.aom_sound.specs.Cases.Owners.{OwnersBite};
 
@@ -132,6 +133,11 @@ pub fn returns_bite()
 /// Each need of an instruction on the cleanup stack, or of a leave, bites.
 pub fn cleanup_bites()
     ensures { CleanupBites }
+{}
+
+/// Each need of an instruction on the request of an object bites.
+pub fn requests_bite()
+    ensures { RequestsBite }
 {}
 
 /// Each need of the moves that are no instruction bites.

@@ -1,15 +1,19 @@
 -- What the price of each instruction's place covers: that of the place at which its method goes on, and what begins or is pushed.
-use Rattle.std.proofs.Common.{◌≡◌, ◌≤◌, ◌+◌, ◌-◌, ◌∙◌, ℕ, ℤ, zero, suc, Bool, true, false, cond, List, ◌∷◌, Option, Some, None, refl, ap, arith}
+use Rattle.std.proofs.Common.{◌≡◌, ◌≤◌, ◌+◌, ◌-◌, ◌∙◌, ℕ, ℤ, zero, suc, Bool, true, false, cond, List, [], ◌∷◌, ◌++◌, ◌==◌, Option, Some, None, refl, ap, subst, arith}
 use Rattle.std.specs.Ordering.{int_eq}
-use Rattle.std.specs.Prelude.{int_lt, is_some}
+use Rattle.std.specs.Prelude.{bit_and, int_lt, is_some}
 use Rattle.aom_image.specs.Image.{Image}
 use Rattle.aom_instructions.specs.declared.instr.Instr.{Instr}
-use Rattle.aom_instructions.specs.declared.instr.Instr.TheVariants.{JumpEmpty, JumpEqual, JumpLess, JumpNull, Leave, Loop, New, Next, Return}
+use Rattle.aom_instructions.specs.declared.instr.Instr.TheVariants.{JumpActive, JumpAdded, JumpEmpty, JumpEqual, JumpLess, JumpNull, Leave, Loop, New, Next, Return}
+use Rattle.aom_image.specs.Views.{method_role}
+use Rattle.aom_image.specs.declared.method.Role.TheVariants.{Main}
 use Rattle.aom_image.specs.declared.method.Thing.{Thing}
 use Rattle.aom_classes.specs.Loops.{loop_in, next_in}
 use Rattle.aom_shape.specs.Kinds.{field, filled, is_object_or_null, register}
-use Rattle.aom_shape.specs.Needs.{AllTrue}
+use Rattle.aom_roles.specs.States.{unlisted}
+use Rattle.aom_shape.specs.Needs.{AllTrue, Flow}
 use Rattle.aom_rules.specs.Objects.{flow_jump_empty, flow_jump_null}
+use Rattle.aom_rules.specs.Requests.{enlisted, flow_narrowed, inactive, outstanding, own_kind}
 use Rattle.aom_rules.specs.Rules.{flows, rule_needs}
 use Rattle.aom_shape.specs.Shape.{Shape}
 use Rattle.aom_shape.specs.Things.{field_thing}
@@ -17,12 +21,14 @@ use Rattle.aom_rules.specs.Typing.{Typing}
 use Rattle.aom_shape.specs.declared.kind.Filling.{Filling}
 use Rattle.aom_shape.specs.declared.kind.Filling.TheVariants.{Empty, Full, Perhaps}
 use Rattle.aom_shape.specs.declared.kind.Kind.{Kind}
-use Rattle.aom_shape.specs.declared.kind.Kind.TheVariants.{Unset, Word, Null, Own, Maybe}
+use Rattle.aom_shape.specs.declared.kind.Kind.TheVariants.{Null, Own, Maybe}
 use Rattle.aom_sound.proofs.Jumps.{not_empty, not_full}
+use Rattle.aom_sound.proofs.Requesting.{active_listed, busy_in, free_in, listed_in, some_left, unlisted_in}
 use Rattle.aom_sound.proofs.Straight.{At, field_fits, kind_fits}
 use Rattle.aom_sound.specs.Claims.{Layer, tasks_of}
 use Rattle.aom_sound.specs.Effects.{Calls, Counts, Destroys, Destroys_last, Effect, Goes_on, Jumps, Leaves, Operates, Pushed, Pushed_operation, Repeats, Returns, Sets_trap, Update, deals, deletes, effect, jumps_if, jumps_unless, makes_unless, round}
-use Rattle.aom_sound.specs.Places.{Object, held}
+use Rattle.aom_sound.specs.Enlisted.{in_phase, is_busy, own_request}
+use Rattle.aom_sound.specs.Places.{Object, held, seen}
 use Rattle.aom_sound.specs.State.{An_object, An_operation, Choice, Frame, Item, State, Task, counter, field_place, home_holder}
 use Rattle.aom_sound.specs.WellTyped.{Fits}
 use Rattle.aom_sound.specs.Words.{here, read}
@@ -74,7 +80,7 @@ module _ (c : Prices) (fr : Frame) (sh : Shape) where
   dealing (An_operation m w ∷ items) o pays = pays
   dealing _ o pays = pays
 
-module _ (p : Image) (t : Typing) (c : Prices) (priced : IsPriced p t c) (ch : Choice) (s : State) (fr : Frame) (sh : Shape) (ls : List Layer) (at_hand : At p t s fr sh ls) where
+module _ (p : Image) (t : Typing) (c : Prices) (main_none : (m : ℕ) → method_role p m ≡ Some Main → own_kind p m ≡ None) (priced : IsPriced p t c) (ch : Choice) (s : State) (fr : Frame) (sh : Shape) (ls : List Layer) (at_hand : At p t s fr sh ls) where
   abbrev ts : List Task
   ts = tasks_of ls
 
@@ -82,19 +88,16 @@ module _ (p : Image) (t : Typing) (c : Prices) (priced : IsPriced p t c) (ch : C
 
   on_null :
       (a to : ℕ) (k : Kind) (o : Option Object) → is_object_or_null k ≡ true → AllPaid c fr.method 1 (c.from fr.method fr.place) (flow_jump_null p fr.method fr.place sh k a to) →
-      Fits p (held s.cells) o k → Covers c fr sh (jumps_unless fr o to)
-  on_null a to Unset o need pays fits = cc
-  on_null a to Word o need pays fits = cc
+      Fits p (seen s.cells) o k → Covers c fr sh (jumps_unless fr o to)
   on_null a to Null None need pays fits = pays.0
-  on_null a to Null (Some o) need pays fits = absurd fits
-  on_null a to (Own x y) None need pays fits = absurd fits
   on_null a to (Own x y) (Some o) need pays fits = pays.0
   on_null a to (Maybe x y) None need pays fits = pays.1.0
   on_null a to (Maybe x y) (Some o) need pays fits = pays.0
+  on_null a to _ o need pays fits = absurd (first_of (assumption tt, cc))
 
   on_empty :
       (f to : ℕ) (x : Option Thing) → is_some x ≡ true → (y : Filling) (o : Option Object) → AllPaid c fr.method 1 (c.from fr.method fr.place) (flow_jump_empty p fr.method fr.place sh y f to) →
-      Fits p (held s.cells) o (filled x y) → Covers c fr sh (jumps_unless fr o to)
+      Fits p (seen s.cells) o (filled x y) → Covers c fr sh (jumps_unless fr o to)
   on_empty f to x some Empty None pays fits = pays.0
   on_empty f to x some Empty (Some o) pays fits = absurd (not_empty p t ch s fr sh ls at_hand x o fits)
   on_empty f to x some Full None pays fits = absurd (not_full p t ch s fr sh ls at_hand x some fits)
@@ -102,15 +105,36 @@ module _ (p : Image) (t : Typing) (c : Prices) (priced : IsPriced p t c) (ch : C
   on_empty f to x some Perhaps None pays fits = pays.1.0
   on_empty f to x some Perhaps (Some o) pays fits = pays.0
 
+  -- ---- jumps on the state of a request
+
+  paid_first : (n here : ℕ) (xs ys : List Flow) → AllPaid c fr.method n here (xs ++ ys) → AllPaid c fr.method n here xs
+  paid_first n here [] ys pays = tt
+  paid_first n here (x ∷ xs) ys pays = (pays.0, paid_first n here xs ys pays.1)
+
+  paid_rest : (n here : ℕ) (xs ys : List Flow) → AllPaid c fr.method n here (xs ++ ys) → AllPaid c fr.method n here ys
+  paid_rest n here [] ys pays = pays
+  paid_rest n here (x ∷ xs) ys pays = paid_rest n here xs ys pays.1
+
+  narrowed_paid : (place x : ℕ) → (bit_and sh.states x == 0) ≡ false → AllPaid c fr.method 1 (c.from fr.method fr.place) (flow_narrowed sh place x) → Affords c fr sh 1 place
+  narrowed_paid place x left pays = (subst (λ b. AllPaid c fr.method 1 (c.from fr.method fr.place) (cond b [] ((place, record sh { states = bit_and sh.states x }) ∷ []))) left pays).0
+
+  on_states :
+      (there here to : ℕ) (b : Bool) → (b ≡ true → (bit_and sh.states there == 0) ≡ false) → (b ≡ false → (bit_and sh.states here == 0) ≡ false) →
+      AllPaid c fr.method 1 (c.from fr.method fr.place) (flow_narrowed sh (suc fr.place) here ++ flow_narrowed sh to there) → Covers c fr sh (jumps_if fr b to)
+  on_states there here to true some_there some_here pays =
+      narrowed_paid to there (some_there refl) (paid_rest 1 (c.from fr.method fr.place) (flow_narrowed sh (suc fr.place) here) (flow_narrowed sh to there) pays)
+  on_states there here to false some_there some_here pays =
+      narrowed_paid (suc fr.place) here (some_here refl) (paid_first 1 (c.from fr.method fr.place) (flow_narrowed sh (suc fr.place) here) (flow_narrowed sh to there) pays)
+
   -- ---- every instruction
 
   abbrev Standing : Instr → Type 0
   Standing i = Stands p t fr.method fr.place sh i
 
-  paid : (i : Instr) → Standing i → loop_in (Some i) ≡ None → next_in (Some i) ≡ None → AllPaid c fr.method (own c sh i) (c.from fr.method fr.place) (flows p fr.method fr.place sh i)
+  paid : (i : Instr) → Standing i → loop_in (Some i) ≡ None → next_in (Some i) ≡ None → AllPaid c fr.method (own p fr.method c sh i) (c.from fr.method fr.place) (flows p fr.method fr.place sh i)
   paid i it straight no_next = priced.flows fr.method fr.place sh i it straight no_next
 
-  some : (i : Instr) → Standing i → own c sh i ≤ c.from fr.method fr.place
+  some : (i : Instr) → Standing i → own p fr.method c sh i ≤ c.from fr.method fr.place
   some i it = priced.ends fr.method fr.place sh i it
 
   pub covers : (i : Instr) → Standing i → AllTrue (rule_needs p fr.method fr.place sh i) → Covers c fr sh (effect p ch fr ts s i)
@@ -121,6 +145,15 @@ module _ (p : Image) (t : Typing) (c : Prices) (priced : IsPriced p t c) (ch : C
   covers (JumpEmpty f to) it rule =
       let some : is_some (field_thing p (home_holder fr.home) f) ≡ true = ap (λ h. is_some (field_thing p h f)) at_hand.good.stack.1.holder ∙ rule.0 in
       on_empty f to (field_thing p (home_holder fr.home) f) some (field sh f) (held s.cells (field_place fr.home f)) (paid (JumpEmpty f to) it refl refl) (field_fits p t ch s fr sh ls at_hand f some)
+  covers (JumpActive to) it rule =
+      let listed = active_listed (own_kind p fr.method) rule.0 in
+      let r = own_request s.cells fr.home in
+      let left = some_left p t main_none ch s fr sh ls at_hand listed in
+      on_states outstanding inactive to (in_phase is_busy r) (λ e. left outstanding (busy_in r e)) (λ e. left inactive (free_in r e)) (paid (JumpActive to) it refl refl)
+  covers (JumpAdded to) it rule =
+      let r = own_request s.cells fr.home in
+      let left = some_left p t main_none ch s fr sh ls at_hand rule.0 in
+      on_states enlisted unlisted to (is_some r) (λ e. left enlisted (listed_in r e)) (λ e. left unlisted (unlisted_in r e)) (paid (JumpAdded to) it refl refl)
   covers (Loop depth rounds) it rule = tt
   covers (Next depth to) it rule = rounding c fr sh (counter fr depth - 1) depth to
   covers (New a x) it rule = made ch.refused (paid (New a x) it refl refl).0

@@ -12,7 +12,7 @@ use Rattle.aom_image.specs.declared.method.Method.{Method}
 use Rattle.aom_image.specs.declared.method.Role.{Role}
 use Rattle.aom_image.specs.declared.method.Role.TheVariants.{Destruct, Main}
 use Rattle.aom_image.specs.declared.method.Thing.{Thing}
-use Rattle.aom_image.specs.declared.method.Thing.TheVariants.{Message, Object}
+use Rattle.aom_image.specs.declared.method.Thing.TheVariants.{Object}
 use Rattle.aom_roles.specs.Roles.{role_number}
 use Rattle.aom_classes.specs.Loops.{loop_in, next_in}
 use Rattle.aom_classes.specs.Roles.{destructor_of, main_of, plays, role_of}
@@ -22,7 +22,8 @@ use Rattle.aom_rules.specs.Rules.{flows}
 use Rattle.aom_shape.specs.Shape.{Shape}
 use Rattle.aom_shape.specs.Tables.{at}
 use Rattle.aom_rules.specs.Typing.{IsTyped, Leads, Passes, Typing, shape_at}
-use Rattle.aom_shape.specs.Arguments.{entry_shape}
+use Rattle.aom_shape.specs.Arguments.{after_in, before_in, entry_shape}
+use Rattle.aom_shape.specs.declared.kind.Delivery.TheVariants.{Here}
 use Rattle.aom_shape.specs.declared.kind.Age.TheVariants.{Ready}
 use Rattle.aom_shape.specs.declared.kind.Filling.{Filling}
 use Rattle.aom_shape.specs.declared.kind.Filling.TheVariants.{Empty, Perhaps}
@@ -35,6 +36,7 @@ use Rattle.aom_transcript.specs.declared.line.Ending.{Ending}
 use Rattle.aom_transcript.specs.declared.line.Ending.TheVariants.{Stopped}
 use Rattle.aom_prices.specs.Prices.{AllPaid, Prices, Stands, own, price}
 use Rattle.aom_prices.specs.Dispatches.{IsAffordable, main_price}
+use Rattle.aom_classes.proofs.Playing.{destroyed}
 
 -- ---- the image: main makes an object and deletes it, in three rounds
 
@@ -51,7 +53,7 @@ image = record {
 
 -- a state that knows a register alone
 abbrev holding : Kind → Shape
-holding kind = record { registers = kind ∷ []; fields = []; entries = [] }
+holding kind = record { registers = kind ∷ []; fields = []; entries = []; states = 0; delivery = Here }
 
 abbrev made : Kind
 made = Maybe (Object 0) Ready
@@ -103,10 +105,10 @@ module _ (P : ℕ → ℕ → Shape → Instr → Type 0)
 -- ---- the table pays
 
 abbrev Ends : ℕ → ℕ → Shape → Instr → Type 0
-Ends m place sh i = own table sh i ≤ table.from m place
+Ends m place sh i = own image m table sh i ≤ table.from m place
 
 abbrev Flows : ℕ → ℕ → Shape → Instr → Type 0
-Flows m place sh i = loop_in (Some i) ≡ None → next_in (Some i) ≡ None → AllPaid table m (own table sh i) (table.from m place) (flows image m place sh i)
+Flows m place sh i = loop_in (Some i) ≡ None → next_in (Some i) ≡ None → AllPaid table m (own image m table sh i) (table.from m place) (flows image m place sh i)
 
 flows_pay : (m place : ℕ) (sh : Shape) (i : Instr) → Stands image typing m place sh i → Flows m place sh i
 unfolding loop_in next_in
@@ -136,16 +138,15 @@ rounds_pay = at_each Rounds (λ d x e. cc) (λ d x e. cc) (λ d x e. cc) (λ d x
 -- the one destructor is method 0
 destructors_pay : (x : Thing) (m : ℕ) → destructor_of image x ≡ Some m → 1 + price table m ≤ 2
 unfolding method_at
-destructors_pay Message m e = cc
-destructors_pay (Object class) m e = of_method m (role_found image class m Destruct e)
+destructors_pay x m e = let there = destroyed image x m e in of_method m there.0 (role_found image there.0 m Destruct there.2)
   where
-    of_method : (m : ℕ) → (d : Method) × (method_at image m ≡ Some d) × (d.class ≡ Some class) × (d.role ≡ Destruct) → 1 + price table m ≤ 2
-    of_method zero w = omega arith
-    of_method (suc zero) w =
+    of_method : (m class : ℕ) → (d : Method) × (method_at image m ≡ Some d) × (d.class ≡ Some class) × (d.role ≡ Destruct) → 1 + price table m ≤ 2
+    of_method zero class w = omega arith
+    of_method (suc zero) class w =
         let role : Main ≡ w.0.role = ap (λ (d : Method). d.role) (same_Some _ w.0 w.1) in
         let clash : Main ≡ Destruct = role ∙ w.3 in
         absurd (cc)
-    of_method (suc (suc m)) w = let e : None ≡ Some w.0 = w.1 in cc
+    of_method (suc (suc m)) class w = let e : None ≡ Some w.0 = w.1 in cc
 
 main_costs_18 : main_price image table ≡ 18
 unfolding main_of role_number
@@ -169,14 +170,14 @@ affordable = record {
 -- ---- and the typing is one
 
 one_register : (k l : Kind) → Weaker k l → SaysNoMore (holding k) (holding l)
-one_register k l w = record { registers = each; fields = λ i. alike_filling; entries = refl }
+one_register k l w = record { registers = each; fields = λ i. alike_filling; entries = refl; states = refl; delivery = refl }
   where
     each : (i : ℕ) → Weaker (at Unset (k ∷ []) i) (at Unset (l ∷ []) i)
     each zero = w
     each (suc i) = alike
 
-entered : (x : Filling) → WeakerFilling Perhaps x → SaysNoMore (holding Unset) (record { registers = []; fields = replicate 8 x; entries = [] })
-entered x w = record { registers = unset; fields = λ i. each 8 i; entries = refl }
+entered : (x : Filling) → WeakerFilling Perhaps x → SaysNoMore (holding Unset) (record { registers = []; fields = replicate 8 x; entries = []; states = 0; delivery = Here })
+entered x w = record { registers = unset; fields = λ i. each 8 i; entries = refl; states = refl; delivery = refl }
   where
     unset : (i : ℕ) → Weaker (at Unset (Unset ∷ []) i) Unset
     unset zero = alike
@@ -191,19 +192,19 @@ abbrev Passing : ℕ → ℕ → Shape → Instr → Type 0
 Passing m place sh i = Passes image typing m place sh
 
 passing : (m place : ℕ) (sh : Shape) → shape_at typing m place ≡ Some sh → Passes image typing m place sh
-unfolding method_at instr_in gives_in quiet_in role_in class_in class_at fields_in role_of plays role_number
+unfolding method_at instr_in gives_in quiet_in role_in class_in class_at fields_in role_of plays role_number after_in
 passing m place sh e = (there Passing
-    (record { instr = Return 0; stands = refl; needs = (refl, (refl, (refl, (refl, tt)))); flows = tt })
+    (record { instr = Return 0; stands = refl; needs = (refl, (refl, (refl, (refl, (refl, (refl, (refl, (refl, (refl, tt))))))))); flows = tt })
     (record { instr = Loop 0 3; stands = refl; needs = tt; flows = ((_, refl, one_register Unset Unset alike), tt) })
     (record { instr = New 0 0; stands = refl; needs = (refl, (refl, tt)); flows = ((_, refl, one_register made made alike), tt) })
     (record { instr = Delete 0; stands = refl; needs = (refl, tt); flows = ((_, refl, one_register Null Null alike), tt) })
     (record { instr = Next 0 1; stands = refl; needs = tt; flows = ((_, refl, one_register Unset Null unset_null), ((_, refl, one_register Null Null alike), tt)) })
     (record { instr = Stop; stands = refl; needs = tt; flows = ((_, refl, one_register Null Null alike), tt) })
-    (record { instr = Return 0; stands = refl; needs = (refl, (refl, (refl, (refl, tt)))); flows = tt })
+    (record { instr = Return 0; stands = refl; needs = (refl, (refl, (refl, (refl, (refl, (refl, (refl, (refl, (refl, tt))))))))); flows = tt })
     m place sh e).2
 
 enters_method : (m : ℕ) → IsSome (method_at image m) → Leads typing m 0 (entry_shape image m)
-unfolding method_at arguments_in role_in
+unfolding method_at arguments_in role_in before_in
 enters_method zero some = (_, refl, entered Perhaps alike_filling)
 enters_method (suc zero) some = (_, refl, entered Empty perhaps_empty)
 enters_method (suc (suc m)) some = cc

@@ -24,8 +24,8 @@ use Rattle.aom_sound.specs.Calls.{below_top}
 use Rattle.aom_sound.specs.Claims.{Layer, tasks_of}
 use Rattle.aom_sound.specs.Cleanup.{top_place}
 use Rattle.aom_sound.specs.Destruction.{begun, begun_by}
-use Rattle.aom_sound.specs.Effects.{Calls, Carried, Counts, Destroys, Destroys_last, Effect, Goes_on, In_field, In_register, Jumps, Leaves, Made, Operates, Popped, Popped_operation, Pushed, Pushed_operation, Repeats, Returns, Same, Sets_trap, Spot, Update, Written, applied, cells_after, items_after, spot_place, with_words}
-use Rattle.aom_sound.specs.Places.{Entry, Going, Object, Place, held}
+use Rattle.aom_sound.specs.Effects.{Calls, Carried, Counts, Destroys, Destroys_last, Effect, Goes_on, In_field, In_register, Jumps, Leaves, Made, Operates, Popped, Popped_operation, Pushed, Pushed_operation, Repeats, Requested, Returns, Same, Sets_trap, Spot, Update, Written, applied, cells_after, items_after, spot_place, with_words}
+use Rattle.aom_sound.specs.Places.{Entry, Going, Object, Sight, held, seen}
 use Rattle.aom_sound.specs.State.{An_object, An_operation, Choice, Frame, Run, State, Task, Trapped, counter}
 use Rattle.aom_sound.specs.Steps.{Fits, Sets}
 use Rattle.aom_sound.specs.WellTyped.{Fits as Holds_of}
@@ -37,7 +37,7 @@ use Rattle.aom_ranks.proofs.Worths.{passed_less, returned_less, to_trap_less}
 use Rattle.aom_prices.specs.Prices.{IsPriced, Prices, Stands, kind_price, price}
 use Rattle.aom_steps.specs.Left.{is_entry, left, left_worths, method_left, objects_left, operations_left, rounds_left, rounds_price, tasks_left, waiting_left}
 use Rattle.aom_steps.proofs.Covering.{Affords, Covers, pushes}
-use Rattle.aom_steps.proofs.Pushed.{enters_stack, field_no_entry, leaves_entry, moved_less, none_moves, operations_below, register_passes, stored_same}
+use Rattle.aom_steps.proofs.Pushed.{enters_stack, field_no_entry, leaves_entry, moved_less, none_moves, operations_below, register_passes, rerequested_same, stored_same}
 
 -- ---- what begins, and what ends
 
@@ -69,7 +69,7 @@ begun_left p t c priced o height below = go (destructor_of p o.thing) refl
     go (Some m) e = omega (arith, priced.destructors o.thing m e, fresh_rounds c m (method_at p m))
 
 -- a register's kind pays for what it owns
-kind_pays : (p : Image) (t : Typing) (c : Prices) → IsPriced p t c → (h : Place → Option Object) (o : Object) (k : Kind) → Holds_of p h (Some o) k → c.destruction o.thing ≤ kind_price c k
+kind_pays : (p : Image) (t : Typing) (c : Prices) → IsPriced p t c → (h : Sight) (o : Object) (k : Kind) → Holds_of p h (Some o) k → c.destruction o.thing ≤ kind_price c k
 kind_pays p t c priced h o (Own x a) f = priced.stands_in o.thing x f.0
 kind_pays p t c priced h o (Maybe x a) f = priced.stands_in o.thing x f.0
 kind_pays p t c priced h o _ f = absurd f
@@ -131,12 +131,13 @@ module _ (p : Image) (t : Typing) (c : Prices) (linked : IsLinked p) (priced : I
   after (Carried from to) = omega (arith, moved_less c (spot_place p fr ts s from) (spot_place p fr ts s to) s.cells (spot_no_entry to))
   after (Made name x a) = omega arith
   after (Written w v) = omega (arith, stored_same c s.cells fr.home w v)
+  after (Requested r) = omega (arith, rerequested_same c s.cells fr.home r)
   after (Pushed a) = of_object (held s.cells (here fr ts s a)) refl
     where
       of_object : (o : Option Object) → held s.cells (here fr ts s a) ≡ o → objects_left c (cells_after p fr ts s (Pushed a)) + operations_left c s.items ≤ kind_price c (register sh a) + pushed
       of_object None e = omega (arith, none_moves c (here fr ts s a) (Entry (length s.items)) s.cells e)
       of_object (Some o) e =
-          let pays = kind_pays p t c priced (held s.cells) o (register sh a) (subst (λ y. Holds_of p (held s.cells) y (register sh a)) e (kind_fits p t ch s fr sh ls at_hand a)) in
+          let pays = kind_pays p t c priced (seen s.cells) o (register sh a) (subst (λ y. Holds_of p (seen s.cells) y (register sh a)) e (kind_fits p t ch s fr sh ls at_hand a)) in
           omega (arith, pays, enters_stack c (here fr ts s a) (Entry (length s.items)) o s.cells at_hand.good.tidy e)
   after (Pushed_operation m w) = omega arith
   after (Popped a) = omega (arith, moved_less c (top_place s.items) (here fr ts s a) s.cells refl, operations_below c s.items)
@@ -200,7 +201,7 @@ module _ (p : Image) (t : Typing) (c : Prices) (linked : IsLinked p) (priced : I
   destroys i stands plain o a words owned pays =
       let less = straight i stands plain (1 + kind_price c (register sh a)) pays in
       let destruction = begun_left p t c priced o (length s.items) (Run (with_words fr words) ∷ ts) in
-      let kind = kind_pays p t c priced (held s.cells) o (register sh a) (subst (λ y. Holds_of p (held s.cells) y (register sh a)) owned (kind_fits p t ch s fr sh ls at_hand a)) in
+      let kind = kind_pays p t c priced (seen s.cells) o (register sh a) (subst (λ y. Holds_of p (seen s.cells) y (register sh a)) owned (kind_fits p t ch s fr sh ls at_hand a)) in
       omega (arith, less, destruction, kind, moved_less c (here fr ts s a) (Going (length (Run fr ∷ ts))) s.cells refl)
 
   destroys_last :

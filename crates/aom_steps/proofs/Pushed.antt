@@ -1,12 +1,14 @@
 -- What the objects and operations on the cleanup stack may still cost, after each change of the cells and of the items.
-use Rattle.std.proofs.Common.{◌≡◌, ◌≤◌, ◌+◌, ◌∙◌, ℕ, ℤ, Bool, true, false, cond, List, [], ◌∷◌, Some, None, refl, ap, arith, subst}
-use Rattle.aom_sound.specs.Places.{Cell, Object, Place, Register, Tidy, held, moved, same_place, set_word_field, without}
+use Rattle.std.proofs.Common.{◌≡◌, ◌≤◌, ◌+◌, ◌∙◌, ℕ, ℤ, Bool, true, false, cond, List, [], ◌∷◌, Option, Some, None, refl, ap, arith, subst}
+use Rattle.aom_sound.specs.Enlisted.{rerequested}
+use Rattle.aom_sound.specs.Places.{Cell, Object, Place, Register, Request, Tidy, held, moved, same_place, set_request, set_word_field, without}
 use Rattle.aom_sound.specs.State.{AtRoot, Home, Inside, Item, An_object, An_operation, A_mark, Static, field_place}
 use Rattle.aom_sound.specs.Calls.{below_top}
 use Rattle.aom_sound.specs.Words.{stored}
 use Rattle.aom_sound.proofs.Maps.{same_place-true}
 use Rattle.aom_prices.specs.Prices.{Prices}
 use Rattle.aom_steps.specs.Left.{due, is_entry, objects_left, operations_left}
+use Rattle.aom_image.proofs.Given.{false_given}
 
 pub field_no_entry : (h : Home) (f : ℕ) → is_entry (field_place h f) ≡ false
 field_no_entry Static f = refl
@@ -62,13 +64,8 @@ module _ (c : Prices) where
   -- nothing moves where nothing is held
   pub none_moves : (from to : Place) (cs : List Cell) → held cs from ≡ None → objects_left c (moved from to cs) ≤ objects_left c cs
   none_moves from to [] e = omega arith
-  none_moves from to (x ∷ cs) e = go (same_place x.owner from) (none_moves from to cs) e
-    where
-      go :
-          (b : Bool) → (held cs from ≡ None → objects_left c (moved from to cs) ≤ objects_left c cs) → cond b (Some x.object) (held cs from) ≡ None →
-          due c (cond b to x.owner) x.object + objects_left c (moved from to cs) ≤ due c x.owner x.object + objects_left c cs
-      go true more e = cc
-      go false more e = omega (arith, more e)
+  none_moves from to (x ∷ cs) e = false_given (λ b. cond b (Some x.object) (held cs from) ≡ None) (same_place x.owner from) e (λ moves. cc) (λ stays rest.
+      omega (arith, ap (λ b. due c (cond b to x.owner) x.object) stays, none_moves from to cs rest))
 
   -- what is there comes to the cleanup stack
   pub enters_stack : (from to : Place) (o : Object) (cs : List Cell) → Tidy cs → held cs from ≡ Some o → objects_left c (moved from to cs) ≤ objects_left c cs + c.destruction o.thing
@@ -102,6 +99,15 @@ module _ (c : Prices) where
   stored_same cs Static w v = refl
   stored_same cs AtRoot w v = refl
   stored_same cs (Inside o from) w v = written_same o.name w v cs
+
+  asked_same : (n : ℕ) (r : Option Request) (cs : List Cell) → objects_left c (set_request n r cs) ≡ objects_left c cs
+  asked_same n r [] = refl
+  asked_same n r (x ∷ cs) = ap (λ y. due c x.owner x.object + y) (asked_same n r cs)
+
+  pub rerequested_same : (cs : List Cell) (h : Home) (r : Option Request) → objects_left c (rerequested cs h r) ≡ objects_left c cs
+  rerequested_same cs Static r = refl
+  rerequested_same cs AtRoot r = refl
+  rerequested_same cs (Inside o from) r = asked_same o.name r cs
 
   -- ---- items
 

@@ -30,7 +30,7 @@ use Rattle.aom_sound.specs.Destruction.{begun}
 use Rattle.aom_sound.specs.Effects.{effect}
 use Rattle.aom_sound.specs.Laws.{IsWired}
 use Rattle.aom_sound.specs.Moves.{counted, dispatch_ends, is_counted, main_ends, step, step_instr, step_task}
-use Rattle.aom_sound.specs.Places.{Elsewhere, Entry, Going, Object, Root, held, moved}
+use Rattle.aom_sound.specs.Places.{Elsewhere, Entry, Going, Object, Root, held, moved, seen}
 use Rattle.aom_sound.specs.State.{An_object, Choice, Destroy, Dispatch, Dispatched, Frame, Goes, Item, Main_left, Of_main, Of_root, Outcome, Run, State, Task, Trapped, Unwind, raised}
 use Rattle.aom_sound.specs.Steps.{Acts, Arrives, Clears, Comes_out, Ends, Move, Rests, Undoes, Vanishes, IsStill}
 use Rattle.aom_sound.specs.WellTyped.{Fits, Good, Keeps, WellTyped}
@@ -46,6 +46,9 @@ use Rattle.aom_steps.proofs.Covering.{covers}
 use Rattle.aom_steps.proofs.Paying.{begun_left, fresh_rounds, pays}
 use Rattle.aom_steps.proofs.Pushed.{leaves_entry, moved_less, without_less}
 use Rattle.aom_sound.proofs.Layers.{method_layer}
+use Rattle.aom_sound.proofs.Wiring.{main_of_none}
+use Rattle.aom_image.proofs.Given.{some_given}
+use Rattle.aom_sound.proofs.Layers.{dispatch_layer}
 
 -- ---- every move
 
@@ -70,7 +73,7 @@ module _ (p : Image) (t : Typing) (c : Prices) (linked : IsLinked p) (typed : Is
       let it : Stands p t fr.method fr.place sh i = record { shape = good.stack.0; instr = there } in
       let at_hand : At p t (counted p s) fr sh ls = record { tasks = tasks; items = items; undos = w.undos; good = good } in
       let a = acted p ch (counted p s) u fr ts i (subst (λ o. step_instr p ch fr ts (counted p s) o ≡ Goes u) there goes) in
-      let covered = covers p t c priced ch (counted p s) fr sh ls at_hand i it rule in
+      let covered = covers p t c (main_of_none p linked) priced ch (counted p s) fr sh ls at_hand i it rule in
       subst (λ x. 1 + left p c x ≤ all_left (Run fr ∷ ts)) (sym a.2) (pays p t c linked priced ch (counted p s) fr sh ls at_hand m.0 m.1 i m.2 it (effect p ch fr ts (counted p s) i) a.1 covered)
 
   acts : (ls : List Layer) → s.tasks ≡ tasks_of ls → forms s.items ≡ items_of ls → Good p t s.cells ls → (fr : Frame) (ts : List Task) → tasks_of ls ≡ Run fr ∷ ts → ActsPay fr ts
@@ -101,12 +104,12 @@ module _ (p : Image) (t : Typing) (c : Prices) (linked : IsLinked p) (typed : Is
   ended_less code Of_root = omega arith
 
   -- the root is of its declared class
-  root_pays : (o : Object) (root : Option ℕ) → Fits p (held s.cells) (Some o) (filled (root_thing root 0) Perhaps) → c.destruction o.thing ≤ root_price c root
-  root_pays o None f = absurd f
-  root_pays o (Some x) f = priced.stands_in o.thing (An_object_of x) f.0
+  root_pays : (o : Object) (root : Option ℕ) → Fits p (seen s.cells) (Some o) (filled (root_thing root 0) Perhaps) → c.destruction o.thing ≤ root_price c root
+  root_pays o root f = some_given (λ r. Fits p (seen s.cells) (Some o) (filled (root_thing r 0) Perhaps)) root f (λ none. none) (λ x is fits.
+      omega (arith, ap (λ r. root_price c r) is, priced.stands_in o.thing (An_object_of x) fits.0))
 
   of_main :
-      (ts : List Task) (b : Bool) (o : Option Object) → Fits p (held s.cells) o (filled (root_thing p.header.root 0) Perhaps) →
+      (ts : List Task) (b : Bool) (o : Option Object) → Fits p (seen s.cells) o (filled (root_thing p.header.root 0) Perhaps) →
       left p c (main_ends p b o (counted p s)) ≤ all_left (Dispatched Of_main ∷ ts)
   of_main ts true (Some o) f =
       let destruction = begun_left p t c priced o (length s.items) (Dispatched Of_root ∷ []) in
@@ -117,9 +120,8 @@ module _ (p : Image) (t : Typing) (c : Prices) (linked : IsLinked p) (typed : Is
   of_dispatch : (ls : List Layer) → Good p t s.cells ls → (d : Dispatch) (ts : List Task) → tasks_of ls ≡ Dispatched d ∷ ts → left p c (dispatch_ends p d (counted p s)) ≤ all_left (Dispatched d ∷ ts)
   of_dispatch ls good (Main_left code) ts at = omega arith
   of_dispatch ls good Of_root ts at = omega arith
-  of_dispatch (Dispatching Of_main ∷ []) good Of_main ts at = of_main ts s.rest.stopped (held s.cells (Elsewhere Root)) (good.fits (Elsewhere Root))
-  of_dispatch (Dispatching Of_main ∷ l ∷ ls) good Of_main ts at = let e = good.stack.1 in absurd (cc)
-  of_dispatch _ good Of_main ts at = cc
+  of_dispatch ls good Of_main ts at = dispatch_layer (Good p t s.cells) Of_main ts ls at good (λ below under last.
+      let alone = subst (λ b. Good p t s.cells (Dispatching Of_main ∷ b)) last.stack.1 last in of_main ts s.rest.stopped (held s.cells (Elsewhere Root)) (alone.fits (Elsewhere Root)))
 
   -- ---- the kinds of moves
 

@@ -23,6 +23,10 @@ ending_text (MainLeft code) = codes "left " ++ signed_decimal code
 abbrev pub end_text : Ending → ℕ → List ℕ
 end_text ending cells = codes "end " ++ ending_text ending ++ codes " cells " ++ decimal cells
 
+-- how a run ended in which the request of that number was refused too
+abbrev pub tried_text : ℕ → Ending → ℕ → List ℕ
+tried_text number ending cells = codes "refuse " ++ decimal number ++ codes " " ++ end_text ending cells
+
 -- a text and its line feed
 abbrev pub ended : List ℕ → List ℕ
 ended text = text ++ 10 ∷ []

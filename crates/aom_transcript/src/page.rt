@@ -1,7 +1,7 @@
 //! The text of lines, in a buffer of its own.
 ghost use Rattle.std.specs.Prelude.{◌≡◌, ◌+◌, ◌≤◌, ◌↔◌, IsTrue, [], ◌∷◌, ◌++◌, length, decimal, codes};
 ghost use Rattle.std.specs.Fmt.{signed_decimal};
-ghost use Rattle.aom_transcript.specs.Text.{line_text, end_text, ending_text, ended};
+ghost use Rattle.aom_transcript.specs.Text.{line_text, end_text, ending_text, ended, tried_text};
 
 use crate::{Ending, Line};
 use arrayvec::ArrayVec;
@@ -67,6 +67,17 @@ impl Page {
         self.add(b" cells ");
         self.add_number(cells as u64);
         self.add(b"\n");
+    }
+
+    /// Adds how a run ended in which the request of that number was refused too.
+    pub fn add_tried(&mut self, number: u64, ending: Ending, cells: usize)
+        requires { length self.old + 96 ≤ 4096 }
+        ensures { self.new ≡ self.old ++ ended (tried_text number ending cells) }
+    {
+        self.add(b"refuse ");
+        self.add_number(number);
+        self.add(b" ");
+        self.add_end(ending, cells);
     }
 
     pub fn as_bytes(&self) -> &[u8]

@@ -1,6 +1,6 @@
 -- Where a step changes no place that the sweep has come to, what was found of these places stands.
-use Rattle.std.proofs.Common.{◌≡◌, ◌∙◌, ℕ, ◌<◌, Bool, true, false, List, Option, Some, None, slice_set, inl, inr, refl, ap, arith}
-use Rattle.std.specs.Prelude.{◌⊎◌, ◌||◌, not}
+use Rattle.std.proofs.Common.{◌≡◌, ◌∙◌, ℕ, ◌<◌, Bool, false, List, Option, Some, None, slice_set, inl, inr, refl, ap, arith}
+use Rattle.std.specs.Prelude.{◌⊎◌, ◌||◌}
 use Rattle.aom_image.specs.Image.{Image}
 use Rattle.aom_shape.specs.Changes.{kept_shape}
 use Rattle.aom_shape.specs.Tables.{at}
@@ -12,7 +12,7 @@ use Rattle.aom_verify.specs.Shapes.{Shapes}
 use Rattle.aom_verify.specs.States.{shapes_of}
 use Rattle.aom_verify.specs.Sweep.{AppliesAt, IsAhead, IsBelow, SameBut, SameUpTo}
 use Rattle.aom_verify.specs.declared.change.Change.{Change}
-use Rattle.aom_verify.specs.declared.change.Change.TheVariants.{Nothing, Fell, Reached}
+use Rattle.aom_verify.specs.declared.change.Change.TheVariants.{Nothing}
 use Rattle.aom_verify.specs.declared.change.Step.{Step}
 use Rattle.aom_verify.proofs.Joining.{all_met_below}
 use Rattle.aom_verify.proofs.Keeping.{set_shapes}

@@ -1,5 +1,5 @@
 -- A state that says strictly less has a lower rank, and changes of lists of states add up.
-use Rattle.std.proofs.Common.{◌≡◌, ◌≢◌, ℕ, zero, suc, ◌<◌, ◌≤◌, List, [], ◌∷◌, sym, ◌∙◌, arith}
+use Rattle.std.proofs.Common.{◌≡◌, ◌≢◌, ℕ, zero, suc, ◌<◌, ◌≤◌, List, [], ◌∷◌, IsTrue, sym, ◌∙◌, arith}
 use Rattle.std.specs.List.{sum_by}
 use Rattle.std.proofs.lemmas.List.Sums.{sum_by-cons}
 use Rattle.aom_shape.specs.Order.{Weaker, WeakerFilling, SaysNoMore}
@@ -7,11 +7,13 @@ use Rattle.aom_shape.specs.Order.Weaker.{alike, unset_word, unset_null, maybe_nu
 use Rattle.aom_shape.specs.Order.WeakerFilling.{alike_filling, perhaps_empty, perhaps_full}
 use Rattle.aom_shape.specs.Shape.{Shape}
 use Rattle.aom_shape.specs.Tables.{at}
+use Rattle.aom_image.specs.Views.{has}
+use Rattle.aom_shape.proofs.Sets.{has_itself, larger}
 use Rattle.aom_shape.specs.declared.kind.Filling.{Filling}
 use Rattle.aom_shape.specs.declared.kind.Filling.TheVariants.{Perhaps}
 use Rattle.aom_shape.specs.declared.kind.Kind.{Kind}
 use Rattle.aom_shape.specs.declared.kind.Kind.TheVariants.{Unset}
-use Rattle.aom_verify.specs.Change.{kind_rank, filling_rank, shape_rank, IsChange, then}
+use Rattle.aom_verify.specs.Change.{kind_rank, filling_rank, states_rank, shape_rank, IsChange, then}
 use Rattle.aom_verify.specs.Shapes.{Shapes}
 use Rattle.aom_verify.specs.declared.change.Change.{Change}
 use Rattle.aom_verify.specs.declared.change.Change.TheVariants.{Nothing, Fell, Reached}
@@ -66,17 +68,29 @@ fillings_stay (x ∷ xs) [] h e (suc i) = fillings_stay xs [] (λ i. h (suc i)) 
 fillings_stay (x ∷ xs) (y ∷ ys) h e zero = filling_stays x y (h 0) (omega (arith, sum_by-cons filling_rank x xs, sum_by-cons filling_rank y ys, filling_falls x y (h 0), fillings_fall xs ys (λ i. h (suc i))))
 fillings_stay (x ∷ xs) (y ∷ ys) h e (suc i) = fillings_stay xs ys (λ i. h (suc i)) (omega (arith, sum_by-cons filling_rank x xs, sum_by-cons filling_rank y ys, filling_falls x y (h 0), fillings_fall xs ys (λ i. h (suc i)))) i
 
+-- a set that has another is that one, or falls less often
+states_fall : (a b : ℕ) → IsTrue (has a b) → states_rank a ≤ states_rank b
+states_fall a b h = omega (arith, larger a b h)
+
+states_stay : (a b : ℕ) → a < 256 → IsTrue (has a b) → states_rank a ≡ states_rank b → IsTrue (has b a)
+states_stay a b byte h e =
+    let same : a ≡ b = omega (arith, larger a b h) in
+    rw (← same) (has_itself a)
+
 -- a state that says strictly less
-pub shape_falls : (a b : Shape) → SaysNoMore a b → ¬ SaysNoMore b a → shape_rank a < shape_rank b
-shape_falls a b h refused =
+pub shape_falls : (a b : Shape) → a.states < 256 → SaysNoMore a b → ¬ SaysNoMore b a → shape_rank a < shape_rank b
+shape_falls a b byte h refused =
     let registers = kinds_fall a.registers b.registers h.registers in
     let fields = fillings_fall a.fields b.fields h.fields in
+    let states = states_fall a.states b.states h.states in
     let differ : shape_rank a ≢ shape_rank b = λ e. refused (record {
       registers = kinds_stay a.registers b.registers h.registers (omega arith);
       fields = fillings_stay a.fields b.fields h.fields (omega arith);
       entries = sym h.entries;
+      states = states_stay a.states b.states byte h.states (omega arith);
+      delivery = sym h.delivery;
     }) in
-    omega (arith, registers, fields, differ)
+    omega (arith, registers, fields, states, differ)
 
 -- two changes add up
 pub changes_add : (a b c : Shapes) (x y : Change) → IsChange a b x → IsChange b c y → IsChange a c (then x y)

@@ -20,6 +20,7 @@ use Rattle.aom_verify.specs.declared.change.Change.TheVariants.{Nothing, Fell, R
 use Rattle.aom_verify.specs.declared.states.Fault.TheVariants.{At}
 use Rattle.aom_verify.proofs.Few.{few_at_first, few_first, few_lower}
 use Rattle.aom_verify.proofs.Joining.{joins_first, joins_none, joins_lower, cannot_join, join_fails}
+use Rattle.std.proofs.lemmas.Option.{none-some}
 
 -- ---- lists
 
@@ -104,13 +105,13 @@ module _ (nodes : List Node) (kept : List (Option Kept)) (to : ℕ) (new : Kept)
       let less : Kept = record { known = known; pile = there.pile } in
       record {
         stand = stands_set nodes kept to less within h.stand (h.stand to there e);
-        few = rw (set_shapes nodes kept to (Some less)) (few_lower _ to _ _ _ h.few inside (filled there e) low.1);
+        few = rw (set_shapes nodes kept to (Some less)) (few_lower _ to _ _ _ h.few inside (filled there e) low.1.0);
       }
 
   pub lower_joined : (there : Kept) (known : Known) → at None kept to ≡ Some there → Lowers nodes there new (Some known) → Joins (shapes_of nodes kept) (shapes_of nodes (slice_set kept to (Some (record { known = known; pile = there.pile })))) ((to, kept_shape nodes new) ∷ []) Fell
   lower_joined there known e low =
       let less : Kept = record { known = known; pile = there.pile } in
-      rw (set_shapes nodes kept to (Some less)) (joins_lower _ to _ _ _ inside (filled there e) low.0 low.1)
+      rw (set_shapes nodes kept to (Some less)) (joins_lower _ to _ _ _ inside (filled there e) low.0 low.1.0 low.1.1)
 
   pub never_joined : (there : Kept) (why : Why) → at None kept to ≡ Some there → NoMeet (kept_shape nodes there) (kept_shape nodes new) → WhyNoMeet (kept_shape nodes there) (kept_shape nodes new) why → JoinStops (shapes_of nodes kept) ((to, kept_shape nodes new) ∷ []) (At to why)
   never_joined there why e none reason = (cannot_join _ to _ _ (filled there e) none, inside, join_fails _ to _ _ why (filled there e) none reason)
@@ -120,12 +121,13 @@ module _ (nodes : List Node) (kept : List (Option Kept)) (to : ℕ) (new : Kept)
 pub first_shapes_are : (nodes : List Node) (n : ℕ) (k : Kept) → shapes_of nodes (slice_set (replicate n None) 0 (Some k)) ≡ slice_set (replicate n None) 0 (Some (kept_shape nodes k))
 first_shapes_are nodes n k = set_shapes nodes (replicate n None) 0 (Some k) ∙ ap (λ (s : Shapes). slice_set s 0 (Some (kept_shape nodes k))) (none_shapes nodes n)
 
-none_reached : (n pc : ℕ) (k : Kept) → at {A = Option Kept} None (replicate n None) pc ≡ Some k → ⊥
-none_reached (suc n) (suc pc) k e = none_reached n pc k e
-none_reached _ pc k e = cc
+pub none_reached : {A : Type 0} (n pc : ℕ) → at {A = Option A} None (replicate n None) pc ≡ None
+none_reached zero pc = refl
+none_reached (suc n) zero = refl
+none_reached (suc n) (suc pc) = none_reached n pc
 
 pub kept_at_first : (nodes : List Node) (n : ℕ) (new : Kept) → 0 < n → Stands nodes new.pile → (kept_shape nodes new).entries ≡ [] → AreKept nodes (slice_set (replicate n None) 0 (Some new))
 kept_at_first nodes n new some stands none = record {
-  stand = stands_set nodes (replicate n None) 0 new (omega (arith, some, length-replicate {A = Option Kept} n None)) (λ pc k e. absurd (none_reached n pc k e)) stands;
+  stand = stands_set nodes (replicate n None) 0 new (omega (arith, some, length-replicate {A = Option Kept} n None)) (λ pc k e. absurd (none-some k (sym (none_reached n pc) ∙ e))) stands;
   few = rw (first_shapes_are nodes n new) (few_at_first n (kept_shape nodes new) some none);
 }

@@ -1,5 +1,5 @@
 -- Visits add up to a sweep, and sweeps to the states that they find.
-use Rattle.std.proofs.Common.{◌≡◌, ℕ, zero, suc, ◌<◌, ◌+◌, false, length, Option, Some, None, replicate, slice_set, inl, inr, refl, ◌∙◌, arith}
+use Rattle.std.proofs.Common.{◌≡◌, ℕ, ◌<◌, ◌+◌, false, length, Option, Some, None, replicate, slice_set, inl, inr, refl, ◌∙◌, arith}
 use Rattle.std.proofs.lemmas.Bool.Decides.{eqb_tells, leb_tells}
 use Rattle.std.proofs.lemmas.List.{length-set, length-replicate}
 use Rattle.aom_image.specs.Image.{Image}
@@ -8,7 +8,7 @@ use Rattle.aom_shape.specs.Shape.{Shape}
 use Rattle.aom_shape.specs.Tables.{at}
 use Rattle.aom_shape.specs.Arguments.{entry_shape}
 use Rattle.aom_shape.specs.declared.why.Why.{Why}
-use Rattle.aom_shape.proofs.Lists.{at_set_other, at_past}
+use Rattle.aom_shape.proofs.Lists.{at_set_here, at_set_other, at_past}
 use Rattle.aom_verify.specs.Arrivals.{AllArrive, StatesFail}
 use Rattle.aom_verify.specs.Arrivals.Arrives.{begins}
 use Rattle.aom_verify.specs.Change.{step_then}
@@ -20,6 +20,7 @@ use Rattle.aom_verify.specs.declared.change.Step.{Step}
 use Rattle.aom_verify.proofs.Ahead.{applies_still, then_first, then_last, then_nothing}
 use Rattle.aom_verify.proofs.Ordering.{meets_more, below_self, below_along}
 use Rattle.aom_verify.proofs.Falling.{changes_add}
+use Rattle.aom_verify.proofs.Keeping.{none_reached}
 
 pub spans_kept : (p : Image) (m : ℕ) (s new : Shapes) → Spans p m s → length new ≡ length s → Spans p m new
 spans_kept p m s new h e = record { method = h.method; is = h.is; size = e ∙ h.size }
@@ -64,14 +65,8 @@ first_shapes places entry = slice_set (replicate places None) 0 (Some entry)
 pub first_count : (places : ℕ) (entry : Shape) → length (first_shapes places entry) ≡ places
 first_count places entry = length-set (replicate places None) 0 (Some entry) ∙ length-replicate places None
 
-none_elsewhere : (n : ℕ) (pc : ℕ) → at {A = Option Shape} None (replicate n None) pc ≡ None
-none_elsewhere zero pc = refl
-none_elsewhere (suc n) zero = refl
-none_elsewhere (suc n) (suc pc) = none_elsewhere n pc
-
 entry_stands : (places : ℕ) (entry : Shape) → 0 < places → at None (first_shapes places entry) 0 ≡ Some entry
-entry_stands zero entry h = absurd (omega arith)
-entry_stands (suc n) entry h = refl
+entry_stands places entry h = at_set_here None (replicate places None) 0 (Some entry) (omega (arith, h, length-replicate {A = Option Shape} places None))
 
 pub typing_below_first : (p : Image) (m : ℕ) (t : Shapes) (places : ℕ) (entry : Shape) → 0 < places → SaysNoMore (entry_shape p m) entry → IsMethodTyped p m t → IsBelow t (first_shapes places entry)
 typing_below_first p m t places entry some no_less typed = record {
@@ -81,7 +76,7 @@ typing_below_first p m t places entry some no_less typed = record {
         rw (w.1, ← same) (meets_more t 0 (entry_shape p m) entry typed.entry no_less)
     | inr w ↦
         let other = at_set_other None (replicate places None) 0 pc (Some entry) w.1 in
-        let missing = none_elsewhere places pc in
+        let missing = none_reached {A = Shape} places pc in
         absurd cc
   ];
 }
@@ -94,7 +89,7 @@ first_arrives p m places entry some no_more no_less = λ pc sh e. elim (eqb_tell
       rw (w.1, ← same) (begins no_more no_less)
   | inr w ↦
       let other = at_set_other None (replicate places None) 0 pc (Some entry) w.1 in
-      let missing = none_elsewhere places pc in
+      let missing = none_reached {A = Shape} places pc in
       absurd cc
 ]
 

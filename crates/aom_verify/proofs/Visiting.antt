@@ -1,8 +1,7 @@
 -- A visit of one place: what it changes, and that no typing is lost.
-use Rattle.std.proofs.Common.{◌≡◌, ℕ, zero, suc, ◌<◌, false, List, [], ◌∷◌, length, Some, None, IsSome, slice_get, inl, inr, refl, arith}
+use Rattle.std.proofs.Common.{◌≡◌, ℕ, ◌<◌, false, List, [], ◌∷◌, length, Some, None, IsSome, inl, inr, refl, arith}
 use Rattle.aom_image.specs.Image.{Image}
 use Rattle.aom_image.specs.Views.{instr_at, instr_in}
-use Rattle.aom_instructions.specs.declared.instr.Instr.{Instr}
 use Rattle.aom_shape.specs.Needs.{Flow}
 use Rattle.aom_shape.specs.Order.{SaysNoMore}
 use Rattle.aom_rules.specs.Rules.{flows}
@@ -20,18 +19,15 @@ use Rattle.aom_verify.specs.declared.change.Step.{Step}
 use Rattle.aom_verify.proofs.Ahead.{nothing_ahead}
 use Rattle.aom_verify.proofs.Ordering.{below_self}
 use Rattle.aom_verify.proofs.Following.{follow_met}
+use Rattle.std.proofs.lemmas.Option.{slice_get_cases}
+use Rattle.std.proofs.Common.{⊎_elim, subst, sym}
 
 -- each place below the count has an instruction
 pub has_instr : (p : Image) (m : ℕ) (s : Shapes) (pc : ℕ) → Spans p m s → pc < length s → IsSome (instr_at p m pc)
 unfolding instr_in
 has_instr p m s pc h below =
     let within : pc < length h.method.code = rw h.size at below in
-    rw (h.is) (is_there h.method.code pc within)
-  where
-    is_there : (code : List Instr) (k : ℕ) → k < length code → IsSome (slice_get code k)
-    is_there [] k h = absurd (omega arith)
-    is_there (x ∷ xs) zero h = refl
-    is_there (x ∷ xs) (suc k) h = is_there xs k (omega arith)
+    rw (h.is) (⊎_elim (λ there. subst (λ o. IsSome o) (sym there.2) refl) (λ past. absurd (omega (arith, past.0, within))) (slice_get_cases h.method.code pc).1)
 
 pub within_shapes : (p : Image) (m : ℕ) (s : Shapes) (ways : List Flow) → Spans p m s → WithinMethod p m ways → AllWithin (length s) ways
 within_shapes p m s ways h w = rw h.size (w.each h.method h.is)

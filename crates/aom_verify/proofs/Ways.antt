@@ -14,12 +14,13 @@ use Rattle.aom_shape.specs.Needs.{Need, Flow, AllTrue, judged}
 use Rattle.aom_rules.specs.Objects.{flow_jump_null, flow_jump_empty}
 use Rattle.aom_rules.specs.Rules.{rule_needs, flows, rule, ways_of}
 use Rattle.aom_shape.specs.Shape.{Shape}
-use Rattle.aom_rules.specs.Ways.{Ways, Ends, Goes_on, Goes_to, Branches, Goes_back, Branches_on_null, Branches_on_empty, flowing}
+use Rattle.aom_rules.specs.Ways.{Ways, Ends, Goes_on, Goes_to, Branches, Goes_back, Branches_on_null, Branches_on_empty, Branches_in, flowing}
 use Rattle.aom_shape.specs.declared.kind.Filling.{Filling}
 use Rattle.aom_shape.specs.declared.kind.Filling.TheVariants as fillings
 use Rattle.aom_shape.specs.declared.kind.Kind.{Kind}
 use Rattle.aom_shape.specs.declared.kind.Kind.TheVariants as kinds
 use Rattle.aom_shape.specs.declared.why.Why.{Why}
+use Rattle.aom_rules.proofs.Branching.{by_states}
 use Rattle.aom_rules.proofs.Ways.{Leads, leads}
 use Rattle.aom_verify.specs.Sweep.{AllWithin, Flows, Fails, WithinMethod}
 
@@ -78,6 +79,10 @@ flows_within p m n pc sh i h back = within (ways_of p i) (leads p i)
     within (Goes_back to) lead = (subst (λ o. IfSome o (λ t. t < n)) (ap (λ x. x.1) lead) back, (h.ends (ap (λ x. x.0) lead), tt))
     within (Branches_on_null a to) lead = null_within p m n pc sh (register sh a) a to (jumps to (ap (λ x. x.1) lead)) (h.ends (ap (λ x. x.0) lead))
     within (Branches_on_empty f to) lead = empty_within p m n pc sh (field sh f) f to (jumps to (ap (λ x. x.1) lead)) (h.ends (ap (λ x. x.0) lead))
+    within (Branches_in there here to) lead =
+        let on = h.ends (ap (λ x. x.0) lead) in
+        let turned = jumps to (ap (λ x. x.1) lead) in
+        by_states (λ fs. AllWithin n fs) sh (suc pc) there here to tt (λ s. (on, tt)) (λ t. (turned, tt)) (λ s t. (on, (turned, tt)))
 
 nest_of : (p : Image) (m : ℕ) (d : Method) → IsLinked p → method_at p m ≡ Some d → LoopsNest d.code
 unfolding method_at

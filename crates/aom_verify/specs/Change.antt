@@ -1,5 +1,5 @@
 -- What a sweep changes, and why that ends: places are reached, or states fall.
-use Rattle.std.specs.Prelude.{ℕ, ◌≡◌, ◌<◌, ◌+◌, ◌||◌, Option, Some, None}
+use Rattle.std.specs.Prelude.{ℕ, ◌≡◌, ◌<◌, ◌+◌, ◌-◌, ◌||◌, Option, Some, None}
 use Rattle.std.specs.List.{sum_by}
 use Rattle.aom_shape.specs.Shape.{Shape}
 use Rattle.aom_shape.specs.declared.kind.Filling.{Filling}
@@ -24,8 +24,12 @@ filling_rank Empty = 1
 filling_rank Full = 1
 filling_rank Perhaps = 0
 
+-- a set of request states falls as states come to it; it is a byte
+abbrev pub states_rank : ℕ → ℕ
+states_rank states = 256 - states
+
 abbrev pub shape_rank : Shape → ℕ
-shape_rank sh = sum_by kind_rank sh.registers + sum_by filling_rank sh.fields
+shape_rank sh = sum_by kind_rank sh.registers + sum_by filling_rank sh.fields + states_rank sh.states
 
 abbrev pub place_rank : Option Shape → ℕ
 place_rank None = 0

@@ -1,5 +1,5 @@
 -- How the states of a method are kept.
-use Rattle.std.specs.Prelude.{ℕ, ◌≡◌, List, [], ◌∷◌, Option, Some, None}
+use Rattle.std.specs.Prelude.{ℕ, ◌≡◌, List, [], ◌∷◌, Option, Some, None, ◌<◌}
 use Rattle.aom_shape.specs.Changes.{kept_shape, known_with}
 use Rattle.aom_shape.specs.Meet.{IsMeet}
 use Rattle.aom_shape.specs.Order.{SaysNoMore}
@@ -37,4 +37,4 @@ pub record AreKept (nodes : List Node) (places : List (Option Kept)) : Type 0 wh
 abbrev pub Lowers : List Node → Kept → Kept → Option Known → Type 0
 Lowers nodes there new None = SaysNoMore (kept_shape nodes there) (kept_shape nodes new)
 Lowers nodes there new (Some known) =
-    (¬ SaysNoMore (kept_shape nodes there) (kept_shape nodes new)) × IsMeet (known_with known (entries_of nodes there.pile)) (kept_shape nodes there) (kept_shape nodes new)
+    (¬ SaysNoMore (kept_shape nodes there) (kept_shape nodes new)) × (IsMeet (known_with known (entries_of nodes there.pile)) (kept_shape nodes there) (kept_shape nodes new) × (known.states < 256))

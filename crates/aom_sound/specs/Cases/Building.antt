@@ -2,7 +2,8 @@
 use Rattle.std.specs.Prelude.{ℕ, ◌+◌, ℤ, pos, Bool, true, false, cond, ◌&&◌, ◌==◌, ◌≡◌, map, List, [], ◌∷◌, Option, Some, None}
 use Rattle.aom_image.specs.Image.{Image}
 use Rattle.aom_image.specs.declared.class.ClassDecl.{ClassDecl}
-use Rattle.aom_image.specs.declared.class.ClassKind.TheVariants.{Plain}
+use Rattle.aom_image.specs.declared.class.ClassKind.TheVariants.{Active, Plain, Server}
+use Rattle.aom_image.specs.declared.class.Provider.TheVariants.{Own}
 use Rattle.aom_instructions.specs.declared.instr.Instr.{Instr}
 use Rattle.aom_image.specs.declared.method.Argument.{Argument}
 use Rattle.aom_image.specs.declared.method.Gives.{Gives}
@@ -24,8 +25,20 @@ leaf = An_object_of 0
 abbrev pub pair : Thing
 pair = An_object_of 1
 
+-- one of active objects, and one of servers
+abbrev pub waiter : Thing
+waiter = An_object_of 2
+
+abbrev pub keeper : Thing
+keeper = An_object_of 3
+
 abbrev pub small_classes : List ClassDecl
-small_classes = record { kind = Plain; words = 0; fields = [] } ∷ record { kind = Plain; words = 1; fields = leaf ∷ Message ∷ [] } ∷ []
+small_classes =
+    record { kind = Plain; words = 0; fields = [] }
+    ∷ record { kind = Plain; words = 1; fields = leaf ∷ Message ∷ [] }
+    ∷ record { kind = Active Own 1; words = 0; fields = [] }
+    ∷ record { kind = Server 1 0 1; words = 0; fields = [] }
+    ∷ []
 
 abbrev pub a_method : Option ℕ → List Argument → Gives → List Instr → Method
 a_method class arguments gives code =
@@ -55,7 +68,7 @@ abbrev pub seven : Option ℤ
 seven = Some (pos 7)
 
 abbrev pub a_cell : ℕ → Thing → Place → Cell
-a_cell name thing owner = record { object = record { name = name; thing = thing }; words = []; owner = owner }
+a_cell name thing owner = record { object = record { name = name; thing = thing }; words = []; request = None; owner = owner }
 
 -- main's dispatch under its trap
 abbrev pub at_bottom : List Task

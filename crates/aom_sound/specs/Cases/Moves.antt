@@ -1,7 +1,7 @@
 -- The needs of the moves that are no instruction, and of the place where a method stands.
 use Rattle.std.specs.Prelude.{pos, Bool, false, List, [], ◌∷◌, ◌≡◌, map, None}
 use Rattle.aom_image.specs.Image.{Image}
-use Rattle.aom_instructions.specs.declared.instr.Instr.TheVariants.{Stop, JumpActive, JumpAdded, Enlist, Issue, SetActive, Cancel, Abort, Status, Connect, Ask, Close, TakeMessage, Reply}
+use Rattle.aom_instructions.specs.declared.instr.Instr.TheVariants.{Stop, Cancel, Connect, Ask, Close, TakeMessage, Reply}
 use Rattle.aom_image.specs.declared.method.Gives.TheVariants.{Nothing}
 use Rattle.aom_image.specs.declared.method.Thing.TheVariants.{Message}
 use Rattle.aom_sound.specs.Places.{Entry, Field, Going}
@@ -89,14 +89,7 @@ standing_cases =
 abbrev pub later_cases : List Case
 later_cases =
     map (λ i. fails i (WrongKind ∷ [])) (
-    JumpActive 0
-    ∷ JumpAdded 0
-    ∷ Enlist (pos 0)
-    ∷ Issue 0 1
-    ∷ SetActive
-    ∷ Cancel
-    ∷ Abort
-    ∷ Status 0
+    Cancel
     ∷ Connect 0
     ∷ Ask 0 1 2
     ∷ Close

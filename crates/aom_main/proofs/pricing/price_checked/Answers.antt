@@ -1,5 +1,5 @@
 -- What was found of the checked image is written, behind the word of an accepted one, if it is one.
-use Rattle.std.proofs.Common.{◌≡◌, ◌∙◌, ◌++◌, ap}
+use Rattle.std.proofs.Common.{◌∙◌, ◌++◌, ap}
 use Rattle.aom_image.specs.Image.{Image}
 use Rattle.aom_figures.specs.Text.{figures_text}
 use Rattle.aom_main.specs.Headline.{accepted_text}

@@ -11,3 +11,6 @@ returns-in-Next c = rw (c.instr_at-instr.ensures.value, c.in-Next.is) (c.rule_ne
 
 pub returns-in-PushOperation : goal.returns-in-PushOperation
 returns-in-PushOperation c = rw (c.instr_at-instr.ensures.value, c.in-PushOperation.is) (c.rule_push_operation.ensures c.in-PushOperation.field-1)
+
+pub returns-in-Enlist : goal.returns-in-Enlist
+returns-in-Enlist c = rw (c.instr_at-instr.ensures.value, c.in-Enlist.is) (c.rule_enlist.ensures c.in-Enlist.field-0)

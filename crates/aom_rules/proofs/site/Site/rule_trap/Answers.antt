@@ -2,6 +2,7 @@ use Rattle.std.proofs.Common.{◌≡◌, false, Some, sym, ◌∙◌}
 use Rattle.std.proofs.lemmas.Result.{err_from_is_err_and}
 use Rattle.aom_image.specs.Views.{is_quiet, method_at}
 use Rattle.aom_rules.specs.Calls.{while_called}
+use Rattle.aom_rules.specs.Requests.{resting}
 use Rattle.aom_rules.proofs.Calling.{entries_kept, trap_refused, trap_moved_refused, trap_met}
 use Rattle.aom_shape.specs.Changes.{next_shape}
 use Rattle.aom_rules.proofs.site.Site.rule_trap.Goals as goal
@@ -32,6 +33,7 @@ returns c =
     let loud : is_quiet site.image site.method ≡ false = rw (← c.self.view_is) (sym c.is_quiet.ensures ∙ c.if-is_quiet.false) in
     let given = sym c.given.ensures ∙ c.in_ok-moved.was in
     let same = entries_kept site.image site.method site.shape call.target call.first c.method-callee.result.now c.in_ok-moved.moved given in
-    let lasting : next_shape site.shape.entries c.while_called-lasting.result ≡ while_called call.target c.method-callee.result.now.class c.in_ok-moved.moved = rw same c.while_called-lasting.ensures.value in
+    let rested : c.resting-rested.result.0 ≡ resting site.image c.method-callee.result.now.class = rw (← c.self.view_is) c.resting-rested.ensures in
+    let lasting : next_shape site.shape.entries c.while_called-lasting.result ≡ while_called call.target c.method-callee.result.now.class (resting site.image c.method-callee.result.now.class) c.in_ok-moved.moved = rw (same, ← rested) c.while_called-lasting.ensures.value in
     rw (c.on.ensures site.shape.entries, c.caught.ensures site.shape.entries, lasting)
     (sym (trap_met site.image site.method site.place site.shape call.target call.method call.first call.result c.method-callee.result.now there loud c.in_ok-moved.moved _ given (rw (← c.self.view_is) (sym c.judge_trapped.ensures ∙ c.in_ok-judge_trapped.was))))

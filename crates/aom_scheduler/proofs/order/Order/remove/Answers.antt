@@ -1,56 +1,41 @@
-use Rattle.std.proofs.Common.{◌≡◌, ◌≤◌, ◌++◌, None, take, drop, length, sym, subst, ap, ◌∙◌, arith}
+use Rattle.std.proofs.Common.{◌≡◌, ◌≤◌, None, take, length, sym, subst, ap, ◌∙◌, arith}
 use Rattle.std.specs.Prelude.{remove, vec_capacity, slice_set}
 use Rattle.std.proofs.lemmas.List.{length-set}
 use Rattle.aom_scheduler.specs.Order.{without}
 use Rattle.aom_scheduler.specs.Places.{Knows, IsIndexed}
-use Rattle.aom_scheduler.proofs.Items.{at-within}
-use Rattle.aom_scheduler.proofs.Places.{removal, indexed-by_removal, stands-in, written, same_roster, id_of}
+use Rattle.aom_scheduler.proofs.Places.{indexed-by_removal, written, same_roster, id_of, removal-from}
 use Rattle.aom_scheduler.proofs.order.Order.remove.Goals as goal
 
 pub remove-requires : goal.remove-requires
 remove-requires c =
-    let entries = c.self.inside.entries.items in
-    let found = stands-in c.args.self.now entries _ c.args.id c.in-Some.at c.place.result c.self.view_is c.place.ensures c.in-Some.is in
-    omega (arith, at-within id_of c.args.id entries c.in-Some.at found)
+    let made = removal-from c.args.id c.self.view_is c.place.ensures c.in-Some.is c.self.invariant.0 in
+    omega (arith, made.within)
 
 pub renumber-requires-clause-few : goal.renumber-requires-clause-few
 renumber-requires-clause-few c =
-    let entries = c.self.inside.entries.items in
-    let found = stands-in c.args.self.now entries _ c.args.id c.in-Some.at c.place.result c.self.view_is c.place.ensures c.in-Some.is in
-    let places = c.self.inside.places.items in
-    let made = removal entries places c.in-Some.at c.args.id c.self.invariant.0 found in
-    let shown : c.deref.result.now ≡ remove entries c.in-Some.at = c.deref.ensures.value ∙ c.remove.ensures.items in
-    let lent : c.deref_mut.result.now ≡ slice_set places c.args.id None = c.deref_mut.ensures.value ∙ ap (λ n. slice_set places n None)
-    c.number.ensures.value in
+    let made = removal-from c.args.id c.self.view_is c.place.ensures c.in-Some.is c.self.invariant.0 in
+    let shown = c.deref.ensures.value ∙ c.remove.ensures.items in
     omega (arith, ap length shown, made.many, c.self.invariant.1)
 
 pub renumber-requires-clause-known : goal.renumber-requires-clause-known
 renumber-requires-clause-known c =
-    let entries = c.self.inside.entries.items in
-    let found = stands-in c.args.self.now entries _ c.args.id c.in-Some.at c.place.result c.self.view_is c.place.ensures c.in-Some.is in
-    let places = c.self.inside.places.items in
-    let made = removal entries places c.in-Some.at c.args.id c.self.invariant.0 found in
-    let shown : c.deref.result.now ≡ remove entries c.in-Some.at = c.deref.ensures.value ∙ c.remove.ensures.items in
-    let lent : c.deref_mut.result.now ≡ slice_set places c.args.id None = c.deref_mut.ensures.value ∙ ap (λ n. slice_set places n None)
-    c.number.ensures.value in
+    let made = removal-from c.args.id c.self.view_is c.place.ensures c.in-Some.is c.self.invariant.0 in
+    let shown = c.deref.ensures.value ∙ c.remove.ensures.items in
+    let lent = c.deref_mut.ensures.value ∙ ap (λ n. slice_set c.self.inside.places.items n None) c.number.ensures.value in
     subst (λ xs. Knows c.deref_mut.result.now (take c.in-Some.at xs)) (sym shown)
-    (subst (λ ps. Knows ps (take c.in-Some.at (remove entries c.in-Some.at))) (sym lent) made.known)
+    (subst (λ ps. Knows ps (take c.in-Some.at (remove c.self.inside.entries.items c.in-Some.at))) (sym lent) made.known)
 
 pub invariant_of-self : goal.invariant_of-self
 invariant_of-self c =
-    let entries = c.self.inside.entries.items in
-    let found = stands-in c.args.self.now entries _ c.args.id c.in-Some.at c.place.result c.self.view_is c.place.ensures c.in-Some.is in
+    let made = removal-from c.args.id c.self.view_is c.place.ensures c.in-Some.is c.self.invariant.0 in
+    let shown = c.deref.ensures.value ∙ c.remove.ensures.items in
+    let lent = c.deref_mut.ensures.value ∙ ap (λ n. slice_set c.self.inside.places.items n None) c.number.ensures.value in
     let places = c.self.inside.places.items in
-    let made = removal entries places c.in-Some.at c.args.id c.self.invariant.0 found in
-    let shown : c.deref.result.now ≡ remove entries c.in-Some.at = c.deref.ensures.value ∙ c.remove.ensures.items in
-    let lent : c.deref_mut.result.now ≡ slice_set places c.args.id None = c.deref_mut.ensures.value ∙ ap (λ n. slice_set places n None)
-    c.number.ensures.value in
     let now = c.renumber.new.places in
-    let wiped = slice_set places c.number.result None in
-    let over : take c.self.inside.places.len (now ++ drop (length now) wiped) ≡ now = written c.self.inside.places.len wiped now
+    let over = written c.self.inside.places.len (slice_set places c.number.result None) now
     (omega (arith, c.deref_mut.ensures.len, c.renumber.ensures.length)) in
-    let long : length now ≡ length places = omega (arith, c.renumber.ensures.length, ap length lent, length-set places c.args.id None) in
-    let indexed = indexed-by_removal entries c.deref.result.now places c.deref_mut.result.now now c.in-Some.at c.args.id made shown lent
+    let long : length now ≡ length places = c.renumber.ensures.length ∙ ap length lent ∙ length-set places c.args.id None in
+    let indexed = indexed-by_removal c.self.inside.entries.items c.deref.result.now places c.deref_mut.result.now now c.in-Some.at c.args.id made shown lent
     c.renumber.ensures.length c.renumber.ensures.numbered in
     subst (λ ps. IsIndexed c.remove.new.self.items ps × (length ps ≤ 4096) × (length ps ≤ vec_capacity c.remove.new.self)) (sym over) (
       subst (λ xs. IsIndexed xs now) c.deref.ensures.value indexed,
@@ -61,17 +46,10 @@ invariant_of-self c =
 
 pub returns-in-Some : goal.returns-in-Some
 returns-in-Some c =
-    let entries = c.self.inside.entries.items in
-    let found = stands-in c.args.self.now entries _ c.args.id c.in-Some.at c.place.result c.self.view_is c.place.ensures c.in-Some.is in
+    let made = removal-from c.args.id c.self.view_is c.place.ensures c.in-Some.is c.self.invariant.0 in
     let places = c.self.inside.places.items in
-    let made = removal entries places c.in-Some.at c.args.id c.self.invariant.0 found in
-    let shown : c.deref.result.now ≡ remove entries c.in-Some.at = c.deref.ensures.value ∙ c.remove.ensures.items in
-    let lent : c.deref_mut.result.now ≡ slice_set places c.args.id None = c.deref_mut.ensures.value ∙ ap (λ n. slice_set places n None)
-    c.number.ensures.value in
-    let now = c.renumber.new.places in
     let wiped = slice_set places c.number.result None in
-    let over : take c.self.inside.places.len (now ++ drop (length now) wiped) ≡ now = written c.self.inside.places.len wiped now
-    (omega (arith, c.deref_mut.ensures.len, c.renumber.ensures.length)) in
-    let long : length now ≡ length places = omega (arith, c.renumber.ensures.length, ap length lent, length-set places c.args.id None) in
+    let over = written c.self.inside.places.len wiped c.renumber.new.places (omega (arith, c.deref_mut.ensures.len, c.renumber.ensures.length)) in
     same_roster _ _ _ _ (c.remove.ensures.items ∙ made.is ∙ ap (λ r. without id_of c.args.id r.entries) c.self.view_is)
-    (ap length over ∙ long ∙ ap (λ r. r.limit) c.self.view_is)
+    (ap length over ∙ c.renumber.ensures.length ∙ ap length c.deref_mut.ensures.value ∙ length-set places c.number.result None
+    ∙ ap (λ r. r.limit) c.self.view_is)

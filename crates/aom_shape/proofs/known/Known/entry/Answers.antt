@@ -1,4 +1,4 @@
-use Rattle.std.proofs.Common.{arith}
+use Rattle.std.proofs.Common.{refl, arith}
 use Rattle.aom_shape.proofs.Starting.{few_arguments, begun}
 use Rattle.aom_shape.proofs.known.Known.entry.Goals as goal
 
@@ -10,8 +10,8 @@ argument_kinds-requires c =
 
 pub returns-clause-no_more : goal.returns-clause-no_more
 returns-clause-no_more c =
-    (begun c.args.linked.now c.args.method c.method-declared.result.now c.argument_kinds.result c.entry_fields.result c.method-declared.ensures (rw c.as_slice.ensures at c.argument_kinds.ensures) c.entry_fields.ensures).0
+    (begun c.args.linked.now c.args.method c.method-declared.result.now _ c.method-declared.ensures (rw c.as_slice.ensures at c.argument_kinds.ensures) c.entry_fields.ensures refl refl).0
 
 pub returns-clause-no_less : goal.returns-clause-no_less
 returns-clause-no_less c =
-    (begun c.args.linked.now c.args.method c.method-declared.result.now c.argument_kinds.result c.entry_fields.result c.method-declared.ensures (rw c.as_slice.ensures at c.argument_kinds.ensures) c.entry_fields.ensures).1
+    (begun c.args.linked.now c.args.method c.method-declared.result.now _ c.method-declared.ensures (rw c.as_slice.ensures at c.argument_kinds.ensures) c.entry_fields.ensures refl refl).1

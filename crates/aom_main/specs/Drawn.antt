@@ -1,0 +1,46 @@
+-- What `dot` promises of its sinks and its status, from bytes to bytes.
+use Rattle.std.specs.Prelude.{ℕ, ◌≡◌, ◌⊎◌, true, List}
+use Rattle.aom_image.specs.Image.{Image}
+use Rattle.aom_classes.specs.Admitted.{IsAdmitted}
+use Rattle.aom_classes.specs.Linked.{IsLinked}
+use Rattle.aom_rules.specs.Typing.{Typing, IsTyped}
+use Rattle.aom_budget.specs.Figures.{Figures, AreFigures}
+use Rattle.aom_dot.specs.Dot.{dot_text}
+use Rattle.aom_run.specs.Runs.{after}
+use Rattle.aom_main.specs.declared.status.ExitStatus.{ExitStatus}
+use Rattle.aom_main.specs.declared.status.ExitStatus.TheVariants.{Done, ImageRefused, Fault as Faulty}
+use Rattle.aom_main.specs.declared.faults.Fault.TheVariants.{Write}
+use Rattle.aom_main.specs.Acceptable.{IsSpelled}
+use Rattle.aom_main.specs.Headline.{Sent, IsSilent, Says, Tells, ImageWantsMemory}
+use Rattle.aom_main.specs.Prices.{IsUnpriced}
+
+-- the text is the graph of an image with its figures
+pub record IsGraph (p : Image) (text : List ℕ) : Type 0 where
+  pub figures : Figures
+  pub are : AreFigures p figures
+  pub drawn : text ≡ dot_text p figures
+
+-- the bytes are an image of which its budgets and its limits alone are left to look at, and the text is its graph
+pub record IsDrawn (bytes text : List ℕ) : Type 0 where
+  pub image : Image
+  pub spelled : IsSpelled bytes image
+  pub admitted : IsAdmitted image
+  pub linked : IsLinked image
+  pub typing : Typing
+  pub typed : IsTyped image typing
+  pub graph : IsGraph image text
+
+-- the output failed at the graph of an image
+pub record DotBreaks (bytes : List ℕ) (out errors : Sent) : Type 0 where
+  pub text : List ℕ
+  pub drawn : IsDrawn bytes text
+  pub failed : out.failed ≡ true
+  pub says : Says text out
+  pub tells : Tells Write errors
+
+-- what each status says of a call of `dot`: an image is refused for what stands before its budgets alone
+abbrev pub DotAnswers : List ℕ → Sent → Sent → ExitStatus → Type 0
+DotAnswers bytes out errors Done = (text : List ℕ) × IsDrawn bytes text × (out.now ≡ after out.before text) × IsSilent errors
+DotAnswers bytes out errors ImageRefused = IsUnpriced bytes out errors
+DotAnswers bytes out errors Faulty = ImageWantsMemory out errors ⊎ DotBreaks bytes out errors
+DotAnswers bytes out errors _ = ⊥

@@ -1,0 +1,201 @@
+//! Runs of an image in which one more allocation request is refused, each by its last line.
+ghost use Rattle.std.specs.Prelude.{ℕ, ◌≡◌, ◌≤◌, ◌<◌, ◌^◌, ◌++◌, ◌∷◌, [], List, IfOk, IfErr, Ok};
+ghost use Rattle.aom_sound.specs.World.{refusing};
+ghost use Rattle.aom_run.specs.Outcomes.{outcome_of};
+ghost use Rattle.aom_run.specs.Script.{denoted};
+ghost use Rattle.aom_run.specs.declared.outcome.Outcome.TheVariants.{WriteFault};
+ghost use Rattle.aom_main.specs.Acceptable.{IsSpelled};
+ghost use Rattle.aom_main.specs.Explored.{AcceptedExplores, Begun, ExploreAnswers, Explored, IsLast, Tried};
+ghost use Rattle.aom_main.specs.Headline.{Says};
+
+use crate::accepting::accept_bytes;
+use crate::running::runs_well;
+use crate::{ExitStatus, Fault, tell};
+use aom_budget::Accepted;
+use aom_exec::Machine;
+use aom_lines::Turn;
+use aom_run::{Outcome, Script, Sink, read_script, run, write_text};
+use aom_transcript::{Ending, Page};
+use std::alloc::{AllocError, Global};
+
+/// The numbers of allocation requests that are tried, both ends among them. A run's first request has number 1.
+#[derive(Clone, Copy)]
+pub struct Part {
+    pub first: u32,
+    pub last: u32,
+}
+
+/// How a run ended, how many cells were left, and how many allocation requests it made.
+#[derive(Clone, Copy)]
+struct Last {
+    ending: Ending,
+    cells: usize,
+    requests: u64,
+}
+
+/// A sink for transcripts that nobody reads.
+#[derive(Drop)]
+struct Nowhere;
+
+impl Sink for Nowhere {
+    ghost use Rattle.std.specs.Prelude.{None, false};
+
+    ghost out = { λ _. None };
+
+    ghost failed = { λ _. false };
+
+    fn put(&mut self, bytes: &[u8]) -> usize {
+        bytes.len()
+    }
+
+    fn has_failed(&self) -> bool {
+        false
+    }
+}
+
+fn ending_of(outcome: Outcome) -> Ending
+    requires { outcome ≡ WriteFault → ⊥ }
+    ensures { outcome ≡ outcome_of result }
+{
+    match outcome {
+        Outcome::Stopped => Ending::Stopped,
+        Outcome::Waiting => Ending::Waiting,
+        Outcome::MainLeft(code) => Ending::MainLeft(code),
+        Outcome::WriteFault => unreachable!(),
+    }
+}
+
+/// Runs an accepted image to its end where those requests are refused, and writes nothing.
+fn last_of(
+    alloc: Global,
+    accepted: &Accepted,
+    script: &Script,
+    refused: Vec<u32>,
+    limit: u32,
+) -> Result<Last, Fault>
+    requires limit { (1 ≤ limit) × (limit ≤ 1000000000) }
+    ensures ok { IfOk result (λ last. IsLast accepted.now (refusing refused.items) last) }
+    ensures err { IfErr result (λ fault. fault ≡ Fault.Memory) }
+{
+    let mut turn = Turn::new(alloc, accepted, refused)?;
+    let mut machine = Machine::boot(alloc, accepted)?;
+    let outcome = run(&mut machine, script, &mut turn, limit, &mut Nowhere);
+    Ok(Last {
+        ending: ending_of(outcome),
+        cells: machine.count(),
+        requests: machine.requests(),
+    })
+}
+
+/// Runs an accepted image with the request of that number refused too, and writes how that ended.
+fn try_one<W: Sink>(
+    alloc: Global,
+    accepted: &Accepted,
+    script: &Script,
+    limit: u32,
+    number: u32,
+    out: &mut W,
+) -> Result<(), Fault>
+    requires limit { (1 ≤ limit) × (limit ≤ 1000000000) }
+    ensures ok { IfOk result (λ _. (line : List ℕ) × Tried accepted.now script.now number line × Says line (record { before = W.out out.old; now = W.out out.new; failed = W.failed out.new })) }
+    ensures err { IfErr result (λ fault. (fault ≡ Fault.Memory) × (W.out out.new ≡ W.out out.old) × (W.failed out.new ≡ W.failed out.old)) }
+{
+    let mut refused = Vec::from_slice(alloc, script.refused())?;
+    if let Err(failed) = refused.push(number) {
+        return Err(AllocError::from(failed).into());
+    }
+    let last = last_of(alloc, accepted, script, refused, limit)?;
+    let mut page = Page::new();
+    page.add_tried(number as u64, last.ending, last.cells);
+    write_text(out, page.as_bytes());
+    Ok(())
+}
+
+/// Runs an accepted image once, and then once for each of its allocation requests within the part, with that one refused
+/// too. It writes a line for each, and stops where the sink fails.
+fn explore<W: Sink>(
+    alloc: Global,
+    accepted: &Accepted,
+    script: &Script,
+    limit: u32,
+    part: Part,
+    out: &mut W,
+) -> Result<(), Fault>
+    requires limit { (1 ≤ limit) × (limit ≤ 1000000000) }
+    ensures ok { IfOk result (λ _. Explored accepted.now script.now part (record { before = W.out out.old; now = W.out out.new; failed = W.failed out.new })) }
+    ensures err { IfErr result (λ fault. (fault ≡ Fault.Memory) × ((count : ℕ) × Begun accepted.now script.now part.first count (record { before = W.out out.old; now = W.out out.new; failed = W.failed out.new }))) }
+{
+    let own = Vec::from_slice(alloc, script.refused())?;
+    let plain = last_of(alloc, accepted, script, own, limit)?;
+    let last = plain.requests.min(part.last as u64);
+    let mut number = part.first as u64;
+    while number <= last && !out.has_failed() {
+        try_one(alloc, accepted, script, limit, number as u32, out)?;
+        number += 1;
+    }
+    Ok(())
+}
+
+/// Runs an image under a script, once for each of its allocation requests within the part, with that one refused too, and
+/// writes how each of these runs ended. The image is looked at before the script.
+pub fn explore_bytes<W: Sink, E: Sink>(
+    alloc: Global,
+    image: &[u8],
+    script: &[u8],
+    limit: u32,
+    part: Part,
+    out: &mut W,
+    errors: &mut E,
+) -> ExitStatus
+    requires limit { (1 ≤ limit) × (limit ≤ 1000000000) }
+    ensures { ExploreAnswers image.now script.now part (record { before = W.out out.old; now = W.out out.new; failed = W.failed out.new }) (record { before = E.out errors.old; now = E.out errors.new; failed = E.failed errors.new }) result }
+{
+    match accept_bytes(alloc, image) {
+        Ok(accepted) => explore_text(alloc, &accepted, script, limit, part, out, errors),
+        Err(refusal) => tell(&refusal, errors),
+    }
+}
+
+/// Explores an accepted image under the script that a text is.
+fn explore_text<W: Sink, E: Sink>(
+    alloc: Global,
+    accepted: &Accepted,
+    text: &[u8],
+    limit: u32,
+    part: Part,
+    out: &mut W,
+    errors: &mut E,
+) -> ExitStatus
+    requires limit { (1 ≤ limit) × (limit ≤ 1000000000) }
+    ensures { (bytes : List ℕ) → IsSpelled bytes accepted.now → AcceptedExplores bytes text.now part (record { before = W.out out.old; now = W.out out.new; failed = W.failed out.new }) (record { before = E.out errors.old; now = E.out errors.new; failed = E.failed errors.new }) result }
+{
+    accepted.facts();
+    match read_script(alloc, text) {
+        Ok(script) => explore_script(alloc, accepted, &script, limit, part, out, errors),
+        Err(fault) => tell(&Fault::from(fault), errors),
+    }
+}
+
+/// Explores an accepted image under a script.
+fn explore_script<W: Sink, E: Sink>(
+    alloc: Global,
+    accepted: &Accepted,
+    script: &Script,
+    limit: u32,
+    part: Part,
+    out: &mut W,
+    errors: &mut E,
+) -> ExitStatus
+    requires limit { (1 ≤ limit) × (limit ≤ 1000000000) }
+    ensures { (bytes text : List ℕ) → IsSpelled bytes accepted.now → denoted text ≡ Ok script.now → AcceptedExplores bytes text part (record { before = W.out out.old; now = W.out out.new; failed = W.failed out.new }) (record { before = E.out errors.old; now = E.out errors.new; failed = E.failed errors.new }) result }
+{
+    accepted.facts();
+    runs_well(accepted);
+    if let Err(fault) = explore(alloc, accepted, script, limit, part, out) {
+        return tell(&fault, errors);
+    }
+    if out.has_failed() {
+        return tell(&Fault::Write, errors);
+    }
+    ExitStatus::Done
+}

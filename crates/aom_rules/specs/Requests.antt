@@ -1,0 +1,118 @@
+-- What rules say of request states and of the message of a service, and the rules of instructions on requests.
+use Rattle.std.specs.Prelude.{ℕ, Bool, true, false, not, cond, ◌==◌, List, [], ◌∷◌, Option, Some, None, bit_and, bit_or}
+use Rattle.aom_image.specs.Image.{Image}
+use Rattle.aom_image.specs.Views.{has, method_class, method_role}
+use Rattle.aom_image.specs.declared.class.ClassKind.{ClassKind}
+use Rattle.aom_image.specs.declared.class.ClassKind.TheVariants.{Active, Server}
+use Rattle.aom_image.specs.declared.method.Role.{Role}
+use Rattle.aom_image.specs.declared.method.Role.TheVariants.{Cancel, Construct, Service}
+use Rattle.aom_instructions.specs.declared.instr.Target.{Target}
+use Rattle.aom_instructions.specs.declared.instr.Target.TheVariants.{This, Register, Field, Entry as On_entry}
+use Rattle.aom_roles.specs.Shapes.{kind_of}
+use Rattle.aom_roles.specs.States.{unlisted, idle, issued, active, cancel_open, cancel_done, server_states, states_of}
+use Rattle.aom_shape.specs.Arguments.{before_of}
+use Rattle.aom_shape.specs.Kinds.{register, is_unowning, is_word}
+use Rattle.aom_shape.specs.Needs.{Flow, Need, only_if}
+use Rattle.aom_shape.specs.Shape.{Shape}
+use Rattle.aom_shape.specs.declared.why.Why.TheVariants.{EntryState, NotAdded, NotIdle, NotIssued, RegisterKind}
+
+abbrev pub is_construct : Option Role → Bool
+is_construct (Some Construct) = true
+is_construct _ = false
+
+abbrev pub is_cancel : Option Role → Bool
+is_cancel (Some Cancel) = true
+is_cancel _ = false
+
+abbrev pub is_service : Option Role → Bool
+is_service (Some Service) = true
+is_service _ = false
+
+-- the object has no request that is not set active
+abbrev pub unissued : ℕ → Bool
+unissued states = not (has states issued)
+
+-- the states in which an object of a class may be while nothing works on it
+abbrev pub resting : Image → Option ℕ → ℕ
+resting p class = states_of (kind_of p class)
+
+module _ (p : Image) (m' : ℕ) where
+  -- a method of that class begins in each state in which the caller's object may be; a static one asks nothing
+  abbrev pub begins_here : Option ℕ → ℕ → Bool
+  begins_here None states = true
+  begins_here (Some c) states = has (before_of p m') states
+
+  -- it begins in each state in which another object may be; one that is constructed is in its first
+  abbrev pub begins_there : Bool
+  begins_there = only_if (not (is_construct (method_role p m'))) (has (before_of p m') (resting p (method_class p m')))
+
+  abbrev pub may_begin : Target → ℕ → Bool
+  may_begin This states = begins_here (method_class p m') states
+  may_begin (Register r) states = begins_there
+  may_begin (Field f) states = begins_there
+  may_begin (On_entry k) states = begins_there
+
+-- ---- instructions on the request of the method's own object
+
+-- objects of a class of active objects
+abbrev pub is_active_kind : Option ClassKind → Bool
+is_active_kind (Some (Active provider budget)) = true
+is_active_kind _ = false
+
+-- objects of a class whose objects are enlisted
+abbrev pub is_listed_kind : Option ClassKind → Bool
+is_listed_kind (Some (Active provider budget)) = true
+is_listed_kind (Some (Server most session budget)) = true
+is_listed_kind _ = false
+
+-- the kind of class that a method is of
+abbrev pub own_kind : Image → ℕ → Option ClassKind
+own_kind p m = kind_of p (method_class p m)
+
+-- the request is active, or was so as its cancel began
+abbrev pub outstanding : ℕ
+outstanding = bit_or active (bit_or cancel_open cancel_done)
+
+-- the request is not active
+abbrev pub inactive : ℕ
+inactive = bit_or server_states issued
+
+-- the object is enlisted
+abbrev pub enlisted : ℕ
+enlisted = bit_or (bit_or idle issued) outstanding
+
+-- to a place with the object in these states, and nowhere where there are none
+abbrev pub flow_in : Shape → ℕ → ℕ → List Flow
+flow_in sh place states = cond (states == 0) [] ((place, record sh { states = states }) ∷ [])
+
+-- to a place in those of these states in which the object may be
+abbrev pub flow_narrowed : Shape → ℕ → ℕ → List Flow
+flow_narrowed sh place states = flow_in sh place (bit_and sh.states states)
+
+module _ (p : Image) (m : ℕ) (sh : Shape) where
+  abbrev pub rule_status : ℕ → List Need
+  rule_status a = (is_active_kind (own_kind p m), RegisterKind) ∷ (is_unowning (register sh a), RegisterKind) ∷ []
+
+  abbrev pub rule_jump_active : List Need
+  rule_jump_active = (is_active_kind (own_kind p m), RegisterKind) ∷ []
+
+  abbrev pub rule_jump_added : List Need
+  rule_jump_added = (is_listed_kind (own_kind p m), RegisterKind) ∷ []
+
+  abbrev pub rule_enlist : List Need
+  rule_enlist = (is_listed_kind (own_kind p m), RegisterKind) ∷ (has unlisted sh.states, NotAdded) ∷ []
+
+  abbrev pub rule_issue : ℕ → ℕ → List Need
+  rule_issue a b =
+      (is_word (register sh a), RegisterKind)
+      ∷ (is_word (register sh b), RegisterKind)
+      ∷ (is_active_kind (own_kind p m), RegisterKind)
+      ∷ (not (has sh.states unlisted), NotAdded)
+      ∷ (has idle sh.states, NotIdle)
+      ∷ []
+
+  abbrev pub rule_set_active : List Need
+  rule_set_active = (is_active_kind (own_kind p m), RegisterKind) ∷ (has issued sh.states, NotIssued) ∷ []
+
+  abbrev pub rule_abort : List Need
+  rule_abort = (is_active_kind (own_kind p m), RegisterKind) ∷ (has (bit_or cancel_open cancel_done) sh.states, EntryState) ∷ []

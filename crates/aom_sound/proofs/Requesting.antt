@@ -1,0 +1,444 @@
+-- The laws of the instructions on the request of what a method works on: it changes as what is known of it does, and no claim looks at another.
+use Rattle.std.proofs.Common.{Bool, IsTrue, List, None, Option, Some, [], ap, cond, false, refl, subst, suc, sym, true, ℕ, ℤ, ◌&&◌, ◌++◌, ◌==◌, ◌∙◌, ◌∷◌, ◌≡◌}
+use Rattle.std.proofs.lemmas.Bool.{eq-eqb, eqb-true, true≢false}
+use Rattle.std.proofs.lemmas.Nat.{and_assoc}
+use Rattle.std.specs.Prelude.{bit_and, bit_or, is_none, is_some, not}
+use Rattle.aom_image.specs.Image.{Image}
+use Rattle.aom_image.specs.Views.{has, method_class, method_role}
+use Rattle.aom_image.specs.declared.class.ClassKind.{ClassKind}
+use Rattle.aom_image.specs.declared.class.ClassKind.TheVariants.{Active as An_active, Server as A_server}
+use Rattle.aom_image.specs.declared.class.Provider.{Provider}
+use Rattle.aom_image.specs.declared.class.Provider.TheVariants.{Own, Timer as A_timer, Native}
+use Rattle.aom_image.specs.declared.method.Role.TheVariants.{Main}
+use Rattle.aom_instructions.specs.declared.instr.Instr.TheVariants.{Abort, Enlist, Issue, JumpActive, JumpAdded, SetActive, Status}
+use Rattle.aom_roles.specs.Shapes.{kind_of}
+use Rattle.aom_roles.specs.States.{cancel_done, cancel_open, idle, issued, active, unlisted}
+use Rattle.aom_rules.specs.Requests.{enlisted, flow_narrowed, inactive, is_active_kind, is_listed_kind, outstanding, own_kind}
+use Rattle.aom_rules.specs.Typing.{AllLead, Leads, Typing}
+use Rattle.aom_shape.proofs.Sets.{has_along}
+use Rattle.aom_shape.specs.Kinds.{is_ready_kind}
+use Rattle.aom_shape.specs.Needs.{Flow}
+use Rattle.aom_shape.specs.Shape.{Shape}
+use Rattle.aom_shape.specs.declared.kind.Kind.{Kind}
+use Rattle.aom_shape.specs.Things.{holder_by, holder_of}
+use Rattle.aom_sound.proofs.Callees.{holder_member, home_member, member_kind}
+use Rattle.aom_sound.proofs.Storing.{Alike, alike_itself, fits_alike, housed_alike, stack_alike}
+use Rattle.aom_sound.proofs.Straight.{At, Fitted, Law, fitted, reframed, settle, stepped, this_is_ready, well}
+use Rattle.aom_sound.proofs.Suiting.{same_object}
+use Rattle.aom_sound.proofs.Words.{has_word, unowned, writes_word}
+use Rattle.aom_sound.specs.Claims.{Layer, Method, claim, declared, home_claim, root_claim, tasks_of}
+use Rattle.aom_sound.specs.Effects.{Requested, applied, jumps_if, updates}
+use Rattle.aom_sound.specs.Enlisted.{first_request, home_kind, in_phase, is_active, is_busy, is_idle, is_issued, issued_by, issued_of, next_timer, on_request, own_request, rerequested, status_of, waits}
+use Rattle.aom_sound.specs.Laws.{IsWired}
+use Rattle.aom_sound.specs.Places.{Aborted, Active, Cancelling, Cell, Elsewhere, Entry, Field, Going, Idle, Issued, Object, Phase, Place, Register, Request, Root, Tidy, held, named, requested, same_place, seen, set_request}
+use Rattle.aom_sound.specs.Requests.{Suits, phase_state, state_of, states_claim, thing_kind, uncancelled, works_at}
+use Rattle.aom_sound.specs.State.{AtRoot, Choice, Frame, Home, Inside, Run, State, Static, field_place, home_holder, next, to_place}
+use Rattle.aom_sound.specs.WellTyped.{Fits, IsHoused, WellTyped}
+use Rattle.aom_sound.specs.Words.{read}
+
+-- ---- the cells with another request of one of them
+
+held_asked : (cs : List Cell) (n : ℕ) (r : Option Request) (q : Place) → held (set_request n r cs) q ≡ held cs q
+held_asked [] n r q = refl
+held_asked (c ∷ cs) n r q = ap (λ x. cond (same_place c.owner q) (Some c.object) x) (held_asked cs n r q)
+
+named_asked : (cs : List Cell) (n : ℕ) (r : Option Request) (m : ℕ) → named (set_request n r cs) m ≡ named cs m
+named_asked [] n r m = refl
+named_asked (c ∷ cs) n r m = ap (λ x. cond (c.object.name == m) (Some c.object) x) (named_asked cs n r m)
+
+tidy_asked : (cs : List Cell) (n : ℕ) (r : Option Request) → Tidy cs → Tidy (set_request n r cs)
+tidy_asked [] n r t = tt
+tidy_asked (c ∷ cs) n r t = (held_asked cs n r c.owner ∙ t.0, named_asked cs n r c.object.name ∙ t.1, tidy_asked cs n r t.2)
+
+requested_here : (cs : List Cell) (n : ℕ) (r : Option Request) (o : Object) → named cs n ≡ Some o → requested (set_request n r cs) n ≡ r
+requested_here [] n r o e = cc
+requested_here (c ∷ cs) n r o e = go (c.object.name == n) e (requested_here cs n r o)
+  where
+    go : (b : Bool) → cond b (Some c.object) (named cs n) ≡ Some o → (named cs n ≡ Some o → requested (set_request n r cs) n ≡ r) → cond b (cond b r c.request) (requested (set_request n r cs) n) ≡ r
+    go true e rest = refl
+    go false e rest = rest e
+
+requested_there : (cs : List Cell) (n m : ℕ) (r : Option Request) → (n == m) ≡ false → requested (set_request n r cs) m ≡ requested cs m
+requested_there [] n m r other = refl
+requested_there (c ∷ cs) n m r other = go (c.object.name == m) (c.object.name == n) refl refl (requested_there cs n m r other)
+  where
+    go :
+        (x y : Bool) → (c.object.name == m) ≡ x → (c.object.name == n) ≡ y → requested (set_request n r cs) m ≡ requested cs m →
+        cond x (cond y r c.request) (requested (set_request n r cs) m) ≡ cond x c.request (requested cs m)
+    go false y em en rest = rest
+    go true false em en rest = refl
+    go true true em en rest = absurd (true≢false (sym (eq-eqb n m (sym (eqb-true c.object.name n en) ∙ eqb-true c.object.name m em)) ∙ other))
+
+pub rerequested_alike : (cs : List Cell) (home : Home) (r : Option Request) → Alike cs (rerequested cs home r)
+rerequested_alike cs Static r = alike_itself cs
+rerequested_alike cs AtRoot r = alike_itself cs
+rerequested_alike cs (Inside o from) r = record { held_so = held_asked cs o.name r; named_so = named_asked cs o.name r; tidy = tidy_asked cs o.name r }
+
+-- ---- what is known of a request
+
+-- the states count for no place
+claim_states : (p : Image) (d : Place → Kind) (fr : Frame) (sh : Shape) (ls : List Layer) (states : ℕ) (r : Place) → claim p d (Method fr (record sh { states = states }) ∷ ls) r ≡ claim p d (Method fr sh ∷ ls) r
+claim_states p d fr sh ls states (Register f i) = refl
+claim_states p d fr sh ls states (Entry k) = refl
+claim_states p d fr sh ls states (Field n f) = go fr.home
+  where
+    go : (h : Home) → home_claim p h (record sh { states = states }) n f (claim p d ls (Field n f)) ≡ home_claim p h sh n f (claim p d ls (Field n f))
+    go Static = refl
+    go AtRoot = refl
+    go (Inside o from) = refl
+claim_states p d fr sh ls states (Going k) = refl
+claim_states p d fr sh ls states (Elsewhere Root) = go fr.home
+  where
+    go : (h : Home) → root_claim p h (record sh { states = states }) (claim p d ls (Elsewhere Root)) ≡ root_claim p h sh (claim p d ls (Elsewhere Root))
+    go Static = refl
+    go AtRoot = refl
+    go (Inside o from) = refl
+
+-- the object that a method works on has another request perhaps, and is in these states
+restated :
+    (p : Image) (t : Typing) (cs cs' : List Cell) (fr : Frame) (sh : Shape) (ls : List Layer) (o : Object) (from : Place) (states : ℕ) →
+    fr.home ≡ Inside o from → named cs o.name ≡ Some o → Alike cs cs' →
+    ((m : ℕ) → (o.name == m) ≡ false → requested cs' m ≡ requested cs m) →
+    ((q : Place) (x : Object) → held cs q ≡ Some x → is_ready_kind (claim p (declared p cs) (Method fr sh ∷ ls) q) ≡ false → (o.name == x.name) ≡ false) →
+    Suits (thing_kind p o.thing) states (requested cs' o.name) →
+    Fitted p t cs fr sh ls → Fitted p t cs' fr (record sh { states = states }) ls
+restated p t cs cs' fr sh ls o from states home lives alike others ready suit g = record {
+  fits = λ q. subst (λ k. Fits p (seen cs') (held cs' q) k) (sym (claim_states p (declared p cs') fr sh ls states q)) (fits_alike p t cs cs' alike (Method fr sh ∷ ls) q (λ x e fresh. others x.name (ready q x e fresh)) (g.fits q));
+  suits = λ x here. subst (λ h. Suits (thing_kind p x.thing) (cond (works_at x.name h) states (states_claim p x ls)) (requested cs' x.name)) (sym home) (known x here (o.name == x.name) refl);
+  tidy = alike.tidy g.tidy;
+  frames = record { words = g.frames.words; holder = g.frames.holder; height = g.frames.height };
+  housed = housed_alike p t cs cs' alike ls fr.home g.housed;
+  apart = g.apart;
+  stack = stack_alike p t cs cs' alike ls _ g.stack;
+}
+  where
+    known : (x : Object) → named cs' x.name ≡ Some x → (b : Bool) → (o.name == x.name) ≡ b → Suits (thing_kind p x.thing) (cond b states (states_claim p x ls)) (requested cs' x.name)
+    known x here true e = subst (λ y. Suits (thing_kind p y.thing) states (requested cs' y.name)) (same_object cs o x lives (sym (alike.named_so x.name) ∙ here) e) suit
+    known x here false e =
+        let before = subst (λ h. Suits (thing_kind p x.thing) (cond (works_at x.name h) sh.states (states_claim p x ls)) (requested cs x.name)) home (g.suits x (sym (alike.named_so x.name) ∙ here)) in
+        subst (λ r. Suits (thing_kind p x.thing) (states_claim p x ls) r) (sym (others x.name e))
+        (subst (λ b. Suits (thing_kind p x.thing) (cond b sh.states (states_claim p x ls)) (requested cs x.name)) e before)
+
+-- an object that may be enlisted is in one of the states in which it is known to be
+suits_in : (k : Option ClassKind) (states : ℕ) (r : Option Request) → is_listed_kind k ≡ true → Suits k states r → IsTrue (has states (state_of r))
+suits_in (Some (An_active v b)) states r e s = s.0
+suits_in (Some (A_server m x b)) states r e s = s.0
+suits_in _ states r e s = cc
+
+-- and in these, where it is in one of them
+suits_within : (k : Option ClassKind) (a b : ℕ) (r : Option Request) → is_listed_kind k ≡ true → IsTrue (has b (state_of r)) → Suits k a r → Suits k b r
+suits_within (Some (An_active v x)) a b r e h s = (h, s.1)
+suits_within (Some (A_server m x y)) a b r e h s = (h, s.1)
+suits_within _ a b r e h s = cc
+
+pub active_listed : (k : Option ClassKind) → is_active_kind k ≡ true → is_listed_kind k ≡ true
+active_listed (Some (An_active v b)) e = refl
+active_listed _ e = cc
+
+-- the state of a request is one, and in the set that its phase is tested for
+pub busy_in : (r : Option Request) → in_phase is_busy r ≡ true → IsTrue (has outstanding (state_of r))
+busy_in None e = cc
+busy_in (Some r) e = go r.phase e
+  where
+    go : (q : Phase) → is_busy q ≡ true → IsTrue (has outstanding (phase_state q))
+    go Active e = refl
+    go Cancelling e = refl
+    go Aborted e = refl
+    go _ e = cc
+
+pub free_in : (r : Option Request) → in_phase is_busy r ≡ false → IsTrue (has inactive (state_of r))
+free_in None e = refl
+free_in (Some r) e = go r.phase e
+  where
+    go : (q : Phase) → is_busy q ≡ false → IsTrue (has inactive (phase_state q))
+    go Idle e = refl
+    go Issued e = refl
+    go _ e = cc
+
+pub listed_in : (r : Option Request) → is_some r ≡ true → IsTrue (has enlisted (state_of r))
+listed_in None e = cc
+listed_in (Some r) e = go r.phase
+  where
+    go : (q : Phase) → IsTrue (has enlisted (phase_state q))
+    go Idle = refl
+    go Issued = refl
+    go Active = refl
+    go Cancelling = refl
+    go Aborted = refl
+
+pub unlisted_in : (r : Option Request) → is_some r ≡ false → IsTrue (has unlisted (state_of r))
+unlisted_in None e = refl
+unlisted_in (Some r) e = cc
+
+no_state_is_none : (r : Option Request) → has 0 (state_of r) ≡ false
+no_state_is_none None = refl
+no_state_is_none (Some r) = go r.phase
+  where
+    go : (q : Phase) → has 0 (phase_state q) ≡ false
+    go Idle = refl
+    go Issued = refl
+    go Active = refl
+    go Cancelling = refl
+    go Aborted = refl
+
+-- what is known to be in one state is
+only_unlisted : (r : Option Request) → IsTrue (has unlisted (state_of r)) → r ≡ None
+only_unlisted None h = refl
+only_unlisted (Some r) h = absurd (go r.phase h)
+  where
+    go : (q : Phase) → IsTrue (has unlisted (phase_state q)) → ⊥
+    go Idle h = cc
+    go Issued h = cc
+    go Active h = cc
+    go Cancelling h = cc
+    go Aborted h = cc
+
+only_idle : (r : Option Request) → IsTrue (has idle (state_of r)) → (is_some r ≡ true) × (in_phase is_idle r ≡ true)
+only_idle None h = cc
+only_idle (Some r) h = (refl, go r.phase h)
+  where
+    go : (q : Phase) → IsTrue (has idle (phase_state q)) → is_idle q ≡ true
+    go Idle h = refl
+    go Issued h = cc
+    go Active h = cc
+    go Cancelling h = cc
+    go Aborted h = cc
+
+only_issued : (r : Option Request) → IsTrue (has issued (state_of r)) → (is_some r ≡ true) × (not (in_phase is_active r) ≡ true) × (in_phase is_issued r ≡ true)
+only_issued None h = cc
+only_issued (Some r) h = let found = go r.phase h in (refl, found.0, found.1)
+  where
+    go : (q : Phase) → IsTrue (has issued (phase_state q)) → (not (is_active q) ≡ true) × (is_issued q ≡ true)
+    go Issued h = (refl, refl)
+    go Idle h = cc
+    go Active h = cc
+    go Cancelling h = cc
+    go Aborted h = cc
+
+-- no request is being cancelled so far
+none_cancelled : (r : Option Request) → IsTrue (has (bit_or cancel_open cancel_done) (state_of r)) → IsTrue (has uncancelled (state_of r)) → ⊥
+none_cancelled None h g = cc
+none_cancelled (Some r) h g = go r.phase h g
+  where
+    go : (q : Phase) → IsTrue (has (bit_or cancel_open cancel_done) (phase_state q)) → IsTrue (has uncancelled (phase_state q)) → ⊥
+    go Idle h g = cc
+    go Issued h g = cc
+    go Active h g = cc
+    go Cancelling h g = cc
+    go Aborted h g = cc
+
+uncancelled_of : (k : Option ClassKind) (states : ℕ) (r : Option Request) → is_active_kind k ≡ true → Suits k states r → IsTrue (has uncancelled (state_of r))
+uncancelled_of (Some (An_active v b)) states r e s = s.1
+uncancelled_of _ states r e s = cc
+
+-- an object that is enlisted is idle, one with a request made is issued, and one that waits is active
+suits_idle : (k : Option ClassKind) (r : Request) → is_listed_kind k ≡ true → r.phase ≡ Idle → Suits k idle (Some r)
+suits_idle (Some (An_active v b)) r l e = subst (λ q. IsTrue (has idle (phase_state q)) × IsTrue (has uncancelled (phase_state q))) (sym e) (refl, refl)
+suits_idle (Some (A_server m x b)) r l e = subst (λ q. IsTrue (has idle (phase_state q)) × IsTrue (has (bit_or unlisted idle) (phase_state q))) (sym e) (refl, refl)
+suits_idle _ r l e = cc
+
+suits_issued : (k : Option ClassKind) (clock order : ℕ) (a : ℤ) (r : Option Request) → is_active_kind k ≡ true → is_some r ≡ true → Suits k issued (on_request (issued_of k clock order a) r)
+suits_issued (Some (An_active v b)) clock order a (Some r) e some = go v
+  where
+    go : (v : Provider) → IsTrue (has issued (phase_state (issued_by v clock order a r).phase)) × IsTrue (has uncancelled (phase_state (issued_by v clock order a r).phase))
+    go Own = (refl, refl)
+    go A_timer = (refl, refl)
+    go (Native n) = (refl, refl)
+suits_issued _ clock order a _ e some = cc
+
+suits_active : (k : Option ClassKind) (r : Option Request) → is_active_kind k ≡ true → is_some r ≡ true → Suits k active (on_request waits r)
+suits_active (Some (An_active v b)) (Some r) e some = (refl, refl)
+suits_active _ _ e some = cc
+
+-- what is in each of two sets is in what they share
+has_common : (a b k : ℕ) → IsTrue (has a k) → IsTrue (has b k) → IsTrue (has (bit_and a b) k)
+has_common a b k h g = eq-eqb (bit_and (bit_and a b) k) k (and_assoc k a b ∙ ap (bit_and a) (eqb-true (bit_and b k) k g) ∙ eqb-true (bit_and a k) k h)
+
+-- ---- the flows
+
+lead_first : (t : Typing) (m : ℕ) (xs ys : List Flow) → AllLead t m (xs ++ ys) → AllLead t m xs
+lead_first t m [] ys l = tt
+lead_first t m (x ∷ xs) ys l = (l.0, lead_first t m xs ys l.1)
+
+lead_rest : (t : Typing) (m : ℕ) (xs ys : List Flow) → AllLead t m (xs ++ ys) → AllLead t m ys
+lead_rest t m [] ys l = l
+lead_rest t m (x ∷ xs) ys l = lead_rest t m xs ys l.1
+
+-- a set that has a state is not empty
+not_empty_by : (n k : ℕ) → IsTrue (has n k) → has 0 k ≡ false → (n == 0) ≡ false
+not_empty_by n k h none = go (n == 0) refl
+  where
+    go : (b : Bool) → (n == 0) ≡ b → b ≡ false
+    go true e = absurd (true≢false (sym (subst (λ x. IsTrue (has x k)) (eqb-true n 0 e) h) ∙ none))
+    go false e = refl
+
+-- a way is there where the object is in one of its states
+narrowed_leads : (t : Typing) (m place x : ℕ) (sh : Shape) → (bit_and sh.states x == 0) ≡ false → AllLead t m (flow_narrowed sh place x) → Leads t m place (record sh { states = bit_and sh.states x })
+narrowed_leads t m place x sh some l = (subst (λ b. AllLead t m (cond b [] ((place, record sh { states = bit_and sh.states x }) ∷ []))) some l).0
+
+-- ---- the laws
+
+unlisted_none : (k : Option ClassKind) → is_listed_kind k ≡ true → k ≡ None → ⊥
+unlisted_none None l e = cc
+unlisted_none (Some k) l e = cc
+
+-- main is of no class
+pub main_of_none : (p : Image) → IsWired p → (m : ℕ) → method_role p m ≡ Some Main → own_kind p m ≡ None
+unfolding kind_of
+main_of_none p wired m e = ap (λ c. kind_of p c) (wired.static_main m e)
+
+-- what a method works on, by the class that it is of
+of_class :
+    (p : Image) → ((m : ℕ) → method_role p m ≡ Some Main → own_kind p m ≡ None) → (fr : Frame) → home_holder fr.home ≡ holder_of p fr.method → is_listed_kind (own_kind p fr.method) ≡ true →
+    (o : Object) × (from : Place) × (fr.home ≡ Inside o from) × (thing_kind p o.thing ≡ own_kind p fr.method)
+unfolding kind_of
+of_class p main_none fr holder listed = go (method_class p fr.method) refl listed
+  where
+    go : (class : Option ℕ) → method_class p fr.method ≡ class → is_listed_kind (kind_of p class) ≡ true → (o : Object) × (from : Place) × (fr.home ≡ Inside o from) × (thing_kind p o.thing ≡ own_kind p fr.method)
+    go None e l = cc
+    go (Some c) e l =
+        let no_main : method_role p fr.method ≡ Some Main → ⊥ = λ main. unlisted_none (own_kind p fr.method) listed (main_none fr.method main) in
+        let member = holder ∙ ap (λ x. holder_by (method_role p fr.method) x) e ∙ holder_member (method_role p fr.method) c no_main in
+        let found = home_member fr.home c member in
+        (found.0, found.1, found.2, member_kind p found.0.thing c found.3 ∙ ap (λ x. kind_of p x) (sym e))
+
+module _ (p : Image) (t : Typing) (main_none : (m : ℕ) → method_role p m ≡ Some Main → own_kind p m ≡ None) (c : Choice) (s : State) (fr : Frame) (sh : Shape) (ls : List Layer) (at_hand : At p t s fr sh ls) where
+  -- its object is one of the cells, and what is known of its request holds
+  record OfObject : Type 0 where
+    object : Object
+    from : Place
+    home : fr.home ≡ Inside object from
+    kind : thing_kind p object.thing ≡ own_kind p fr.method
+    lives : named s.cells object.name ≡ Some object
+    suits : Suits (own_kind p fr.method) sh.states (own_request s.cells fr.home)
+
+  abbrev own : Option Request
+  own = own_request s.cells fr.home
+
+  of_object : is_listed_kind (own_kind p fr.method) ≡ true → OfObject
+  of_object listed =
+      let found = of_class p main_none fr at_hand.good.stack.1.holder listed in
+      let o = found.0 in
+      let holds : IsHoused p s.cells ls (Inside o found.1) = subst (λ h. IsHoused p s.cells ls h) found.2 at_hand.good.stack.2 in
+      let here = subst (λ h. Suits (thing_kind p o.thing) (cond (works_at o.name h) sh.states (states_claim p o ls)) (requested s.cells o.name)) found.2 (at_hand.good.suits o holds.lives) in
+      let known = subst (λ b. Suits (thing_kind p o.thing) (cond b sh.states (states_claim p o ls)) (requested s.cells o.name)) (eq-eqb o.name o.name refl) here in
+      record {
+        object = o;
+        from = found.1;
+        home = found.2;
+        kind = found.3;
+        lives = holds.lives;
+        suits = subst (λ k. Suits k sh.states own) found.3 (subst (λ h. Suits (thing_kind p o.thing) sh.states (own_request s.cells h)) (sym found.2) known);
+      }
+
+  active_home : is_active_kind (own_kind p fr.method) ≡ true → is_active_kind (home_kind p fr.home) ≡ true
+  active_home a = let it = of_object (active_listed (own_kind p fr.method) a) in ap (λ h. is_active_kind (home_kind p h)) it.home ∙ ap is_active_kind it.kind ∙ a
+
+  listed_home : is_listed_kind (own_kind p fr.method) ≡ true → is_listed_kind (home_kind p fr.home) ≡ true
+  listed_home l = let it = of_object l in ap (λ h. is_listed_kind (home_kind p h)) it.home ∙ ap is_listed_kind it.kind ∙ l
+
+  home_is_own : is_listed_kind (own_kind p fr.method) ≡ true → home_kind p fr.home ≡ own_kind p fr.method
+  home_is_own l = let it = of_object l in ap (λ h. home_kind p h) it.home ∙ it.kind
+
+  -- no place claims the object to be fresh
+  nowhere_fresh : (it : OfObject) (q : Place) (x : Object) → held s.cells q ≡ Some x → is_ready_kind (claim p (declared p s.cells) (Method fr sh ∷ ls) q) ≡ false → (it.object.name == x.name) ≡ false
+  nowhere_fresh it q x e fresh = go (it.object.name == x.name) refl (this_is_ready p t c s fr sh ls at_hand (Inside it.object it.from) 0 it.home q x e fresh 0)
+    where
+      go : (b : Bool) → (it.object.name == x.name) ≡ b → same_place (field_place (Inside it.object it.from) 0) (Field x.name 0) ≡ false → b ≡ false
+      go false e h = refl
+      go true e h = sym (ap (λ b. b && true) e) ∙ h
+
+  -- it has that request, and is known to be in these states
+  asked : (listed : is_listed_kind (own_kind p fr.method) ≡ true) (states : ℕ) (r : Option Request) → Suits (own_kind p fr.method) states r → Fitted p t (rerequested s.cells fr.home r) fr (record sh { states = states }) ls
+  asked listed states r suit =
+      let it = of_object listed in
+      let others : (m : ℕ) → (it.object.name == m) ≡ false → requested (rerequested s.cells fr.home r) m ≡ requested s.cells m = λ m other.
+      subst (λ h. requested (rerequested s.cells h r) m ≡ requested s.cells m) (sym it.home) (requested_there s.cells it.object.name m r other) in
+      let here : requested (rerequested s.cells fr.home r) it.object.name ≡ r = subst (λ h. requested (rerequested s.cells h r) it.object.name ≡ r) (sym it.home) (requested_here s.cells it.object.name r it.object it.lives) in
+      restated p t s.cells (rerequested s.cells fr.home r) fr sh ls it.object it.from states it.home it.lives (rerequested_alike s.cells fr.home r) others (nowhere_fresh it)
+      (subst (λ k. Suits k states (requested (rerequested s.cells fr.home r) it.object.name)) (sym it.kind) (subst (λ x. Suits (own_kind p fr.method) states x) (sym here) suit))
+      (fitted p t s.cells fr sh ls at_hand.good)
+
+  -- it is known to be in fewer states
+  learned : (listed : is_listed_kind (own_kind p fr.method) ≡ true) (states : ℕ) → IsTrue (has states (state_of own)) → Fitted p t s.cells fr (record sh { states = states }) ls
+  learned listed states h =
+      let it = of_object listed in
+      let suit = suits_within (own_kind p fr.method) sh.states states own listed h it.suits in
+      restated p t s.cells s.cells fr sh ls it.object it.from states it.home it.lives (alike_itself s.cells) (λ m other. refl) (nowhere_fresh it)
+      (subst (λ k. Suits k states (requested s.cells it.object.name)) (sym it.kind) (subst (λ h. Suits (own_kind p fr.method) states (own_request s.cells h)) it.home suit))
+      (fitted p t s.cells fr sh ls at_hand.good)
+
+  pub law_status : (a : ℕ) → Law p t c s fr sh ls at_hand (Status a)
+  law_status a n leads = ((active_home n.0, (unowned p t c s fr sh ls at_hand a n.1.0, tt)), writes_word p t c s fr sh ls at_hand a (status_of own) n.1.0 leads)
+
+  -- it is in one of the states that are left of these
+  within : (listed : is_listed_kind (own_kind p fr.method) ≡ true) (x : ℕ) → IsTrue (has x (state_of own)) → IsTrue (has (bit_and sh.states x) (state_of own))
+  within listed x h = has_common sh.states x (state_of own) (suits_in (own_kind p fr.method) sh.states own listed (of_object listed).suits) h
+
+  pub some_left : (listed : is_listed_kind (own_kind p fr.method) ≡ true) (x : ℕ) → IsTrue (has x (state_of own)) → (bit_and sh.states x == 0) ≡ false
+  some_left listed x h = not_empty_by (bit_and sh.states x) (state_of own) (within listed x h) (no_state_is_none own)
+
+  -- a jump by the state of the request: what is learned of it is known at either place
+  goes_by :
+      (listed : is_listed_kind (own_kind p fr.method) ≡ true) (there here to : ℕ) (b : Bool) →
+      (b ≡ true → IsTrue (has there (state_of own))) → (b ≡ false → IsTrue (has here (state_of own))) →
+      AllLead t fr.method (flow_narrowed sh (suc fr.place) here ++ flow_narrowed sh to there) →
+      WellTyped p t (applied p fr (tasks_of ls) s (jumps_if fr b to))
+  goes_by listed there here to b if_there if_here leads = go b refl
+    where
+      goes : (fr' : Frame) (place x : ℕ) → fr'.home ≡ fr.home → fr'.method ≡ fr.method → fr'.height ≡ fr.height → fr'.words ≡ fr.words → fr'.place ≡ place → IsTrue (has x (state_of own)) → AllLead t fr.method (flow_narrowed sh place x) → WellTyped p t (record s { tasks = Run fr' ∷ tasks_of ls })
+      goes fr' place x eh em eg ew ep h l =
+          let sh' : Shape = record sh { states = bit_and sh.states x } in
+          let goes_on = narrowed_leads t fr.method place x sh (some_left listed x h) l in
+          well p t c s fr sh ls at_hand _ fr' sh' refl at_hand.items at_hand.undos
+          (settle p t s.cells fr' sh' ls (reframed p t s.cells fr fr' sh' ls eh em eg ew (learned listed (bit_and sh.states x) (within listed x h))) (subst (λ m. Leads t m fr'.place sh') (sym em) (subst (λ q. Leads t fr.method q sh') (sym ep) goes_on)))
+
+      go : (x : Bool) → b ≡ x → WellTyped p t (applied p fr (tasks_of ls) s (jumps_if fr x to))
+      go true e = goes (to_place fr to) to there refl refl refl refl refl (if_there e) (lead_rest t fr.method (flow_narrowed sh (suc fr.place) here) (flow_narrowed sh to there) leads)
+      go false e = goes (next fr) (suc fr.place) here refl refl refl refl refl (if_here e) (lead_first t fr.method (flow_narrowed sh (suc fr.place) here) (flow_narrowed sh to there) leads)
+
+  pub law_jump_active : (to : ℕ) → Law p t c s fr sh ls at_hand (JumpActive to)
+  law_jump_active to n leads = ((active_home n.0, tt), goes_by (active_listed (own_kind p fr.method) n.0) outstanding inactive to (in_phase is_busy own) (busy_in own) (free_in own) leads)
+
+  pub law_jump_added : (to : ℕ) → Law p t c s fr sh ls at_hand (JumpAdded to)
+  law_jump_added to n leads = ((listed_home n.0, tt), goes_by n.0 enlisted unlisted to (is_some own) (listed_in own) (unlisted_in own) leads)
+
+  -- the object's request is another, and the method goes on
+  asks : (listed : is_listed_kind (own_kind p fr.method) ≡ true) (states : ℕ) (r : Option Request) → Suits (own_kind p fr.method) states r → Leads t fr.method (suc fr.place) (record sh { states = states }) → WellTyped p t (applied p fr (tasks_of ls) s (updates fr (Requested r)))
+  asks listed states r suit leads =
+      let cs = rerequested s.cells fr.home r in
+      let sh' : Shape = record sh { states = states } in
+      well p t c s fr sh ls at_hand (applied p fr (tasks_of ls) s (updates fr (Requested r))) (next fr) sh' refl at_hand.items at_hand.undos (settle p t cs (next fr) sh' ls (stepped p t cs fr sh' ls (asked listed states r suit)) leads)
+
+  pub law_enlist : (priority : ℤ) → Law p t c s fr sh ls at_hand (Enlist priority)
+  law_enlist priority n leads =
+      let it = of_object n.0 in
+      let none = only_unlisted own (has_along unlisted sh.states (state_of own) n.1.0 (suits_in (own_kind p fr.method) sh.states own n.0 it.suits)) in
+      ((listed_home n.0, (ap is_none none, tt)), asks n.0 idle (Some (first_request s.cells priority)) (suits_idle (own_kind p fr.method) (first_request s.cells priority) n.0 refl) leads.0)
+
+  pub law_issue : (a b : ℕ) → Law p t c s fr sh ls at_hand (Issue a b)
+  law_issue a b n leads =
+      let active = n.1.1.0 in
+      let listed = active_listed (own_kind p fr.method) active in
+      let it = of_object listed in
+      let free = only_idle own (has_along idle sh.states (state_of own) n.1.1.1.1.0 (suits_in (own_kind p fr.method) sh.states own listed it.suits)) in
+      let code = read fr (tasks_of ls) s a in
+      let order = next_timer s.cells in
+      let suit = subst (λ k. Suits (own_kind p fr.method) issued (on_request (issued_of k s.rest.clock order code) own)) (sym (home_is_own listed)) (suits_issued (own_kind p fr.method) s.rest.clock order code own active free.0) in (
+        (has_word p t c s fr sh ls at_hand a n.0, (has_word p t c s fr sh ls at_hand b n.1.0, (active_home active, (free.0, (free.1, tt))))),
+        asks listed issued (on_request (issued_of (home_kind p fr.home) s.rest.clock order code) own) suit leads.0,
+      )
+
+  pub law_set_active : Law p t c s fr sh ls at_hand SetActive
+  law_set_active n leads =
+      let listed = active_listed (own_kind p fr.method) n.0 in
+      let it = of_object listed in
+      let made = only_issued own (has_along issued sh.states (state_of own) n.1.0 (suits_in (own_kind p fr.method) sh.states own listed it.suits)) in
+      ((active_home n.0, (made.0, (made.1, (made.2, tt)))), asks listed active (on_request waits own) (suits_active (own_kind p fr.method) own n.0 made.0) leads.0)
+
+  pub law_abort : Law p t c s fr sh ls at_hand Abort
+  law_abort n leads =
+      let listed = active_listed (own_kind p fr.method) n.0 in
+      let it = of_object listed in
+      let within = has_along (bit_or cancel_open cancel_done) sh.states (state_of own) n.1.0 (suits_in (own_kind p fr.method) sh.states own listed it.suits) in
+      absurd (none_cancelled own within (uncancelled_of (own_kind p fr.method) sh.states own n.0 it.suits))
