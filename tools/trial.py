@@ -9,23 +9,34 @@ from edit_files import edit_faults, edit_files, read_edit
 from house import KEPT, make_room, run_rt, tells_errors
 from keeping import Keeping
 from lanes import Lanes
+from verdicts import Verdicts
 
 
 class Trial:
-    """A run over the edits of some crates of a clean copy. Rooms are made and dropped in the given folder."""
+    """A run over the edits of some crates of a clean copy. Rooms are made and dropped in the given folder; what earlier runs here saw refused is not tried again."""
 
-    def __init__(self, house, names, lanes, place, say):
+    def __init__(self, house, names, lanes, place, say, verdicts=None):
         self.house, self.place, self.say = house, place, say
+        self.verdicts = verdicts or Verdicts(house, None)
         self.lanes = Lanes(lanes, say)
         self.passed, self.failed = [], []
         self.seconds, self.checks = {"batches": 0.0, "alone": 0.0}, {"batches": 0, "alone": 0}
         self.lock = threading.Lock()
         self.names = [it for it in names if any(edit_files(house.folder(it)))]
-        self.kept = Keeping(house, self.names, self.lanes, place, self.add_edits, self.give_up)
+        self.known = {it: self.known_of(it) for it in self.names}
+        wanted = [it for it in self.names if len(self.known[it]) < len(edit_files(house.folder(it))[0])]
+        self.kept = Keeping(house, wanted, self.lanes, place, self.add_edits, self.give_up)
+
+    def known_of(self, name):
+        """The edits of a crate that an earlier run saw refused, as it and they stand."""
+        return [it for it in edit_files(self.house.folder(name))[0] if self.verdicts.is_refused(name, it)]
 
     def run(self):
         for name, it, fault in edit_faults(self.house, self.names):
             self.tell(name, it, False, f"BAD EDIT: {fault}")
+        for name in self.names:
+            for it in self.known[name]:
+                self.tell(name, it, True, "refused, as it must be (by an earlier run here, of the same texts)")
         self.kept.start()
         self.lanes.run()
         return not self.failed
@@ -38,6 +49,10 @@ class Trial:
         with self.lock:
             (self.passed if well else self.failed).append(f"{name}/{edit}")
             self.say(f"must-fail {name}/{edit}: {text}")
+
+    def tell_refused(self, name, edit, text):
+        self.verdicts.keep_refused(name, edit)
+        self.tell(name, edit, True, f"refused, as it must be{text}")
 
     def checked(self, kind, folder, *words):
         """A check in a room, with its time."""
@@ -52,8 +67,12 @@ class Trial:
         """No edit of a crate that is not proved can be tried, nor of one above it."""
         for it in self.names:
             if it == name or name in self.house.stack_of(it):
-                for edit in edit_files(self.house.folder(it))[0]:
+                for edit in self.left_of(it):
                     self.tell(it, edit, False, f"NOT TRIED: {name} is not proved: {lines[0][:200]}")
+
+    def left_of(self, name):
+        """The edits of a crate that are to be tried."""
+        return [it for it in edit_files(self.house.folder(name))[0] if it not in self.known[name]]
 
     # the edits
 
@@ -61,7 +80,7 @@ class Trial:
         if name not in self.names:
             return
         folder = self.house.folder(name)
-        edits = [read_edit(folder, it) for it in edit_files(folder)[0]]
+        edits = [read_edit(folder, it) for it in self.left_of(name)]
         together, alone = plan(name, folder, [it for it in edits if not it.fault])
         for batch in together:
             self.add_batch(name, batch)
@@ -91,7 +110,7 @@ class Trial:
         status, lines = self.check_with("batches", name, texts)
         refused = shown(name, batch, status, lines)
         for edit in sorted(refused):
-            self.tell(name, edit, True, "refused, as it must be (shown in a batch, by a goal of its own)")
+            self.tell_refused(name, edit, " (shown in a batch, by a goal of its own)")
         left = [it for it in batch if it[0].name not in refused]
         if refused or len(left) < 4:
             for edit, _ in left:
@@ -109,7 +128,7 @@ class Trial:
         if bad:
             self.tell(name, edit.name, False, f"BAD EDIT: the prover cannot read the edited text, so no contract was tried: {bad[:200]}")
         elif status == 1 and any(it.startswith("logic=not-proved") for it in lines):
-            self.tell(name, edit.name, True, f"refused, as it must be: {told[:160]}")
+            self.tell_refused(name, edit.name, f": {told[:160]}")
         elif status == 0:
             self.tell(name, edit.name, False, "NOT REFUSED: the crate is still proved with this edit")
         else:
