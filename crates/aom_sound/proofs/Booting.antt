@@ -12,6 +12,7 @@ use Rattle.aom_shape.specs.Order.{SaysNoMore, Weaker, WeakerFilling, alike_filli
 use Rattle.aom_shape.specs.Shape.{Shape}
 use Rattle.aom_shape.specs.Tables.{at}
 use Rattle.aom_shape.specs.Things.{Program, field_thing, holder_by}
+use Rattle.aom_rules.specs.Requests.{is_cancel}
 use Rattle.aom_rules.specs.Typing.{IsTyped, Typing, shape_at}
 use Rattle.aom_shape.specs.Arguments.{entry_fields, entry_shape}
 use Rattle.aom_shape.specs.declared.kind.Filling.{Filling}
@@ -55,10 +56,10 @@ module _ (p : Image) (m : ℕ) (after : Shape) (w : SaysNoMore after (entry_shap
   good t stands gives = record {
     stack = (
       stands,
-      record { words = λ i. subst (λ k. WordFits None k) (sym (unset i)) tt; holder = sym (ap (λ r. holder_by r (method_class p m)) role); height = refl },
+      record { words = λ i. subst (λ k. WordFits None k) (sym (unset i)) tt; holder = sym (ap (λ r. holder_by r (method_class p m)) role); height = refl; alone = λ e. tt },
       tt,
       (tt, tt),
-      ((gives, tt), (refl, refl)),
+      ((gives, tt, ap is_cancel role), (refl, refl)),
     );
     fits = fits;
     suits = λ o lives. cc;

@@ -3,7 +3,7 @@ use Rattle.std.proofs.Common.{Bool, IsTrue, List, None, Option, Some, [], ap, ar
 use Rattle.std.proofs.lemmas.Bool.{eq-eqb, eqb-true, ltb-true, ne_eqb, true≢false}
 use Rattle.std.specs.Prelude.{is_none, is_some, map, not, replicate, ◌⊎◌}
 use Rattle.aom_image.specs.Image.{Image}
-use Rattle.aom_image.specs.Views.{arguments_of, gives_of, has, instr_at, leaves, method_class, method_role}
+use Rattle.aom_image.specs.Views.{arguments_of, gives_of, has, instr_at, is_quiet, leaves, method_class, method_role}
 use Rattle.aom_instructions.specs.declared.instr.Instr.TheVariants.{Call, Trap}
 use Rattle.aom_instructions.specs.declared.instr.Target.{Target}
 use Rattle.aom_instructions.specs.declared.instr.Target.TheVariants.{Entry as On_entry, Field as On_field, Register as On_register, This}
@@ -14,7 +14,7 @@ use Rattle.aom_image.specs.declared.method.Role.TheVariants.{Construct, Do}
 use Rattle.aom_image.specs.declared.method.Thing.{Thing}
 use Rattle.aom_image.specs.declared.method.Thing.TheVariants.{Object as An_object_of}
 use Rattle.aom_rules.specs.Calls.{age_need, awaits, brought, caught, each_argument, is_among, is_target, rule_target, stands_here, while_called}
-use Rattle.aom_rules.specs.Requests.{begins_here, begins_there, is_construct, may_begin, resting, unissued}
+use Rattle.aom_rules.specs.Requests.{begins_here, begins_there, is_cancel, is_construct, may_begin, resting, unissued}
 use Rattle.aom_shape.specs.Arguments.{after_of, argument_kind, arguments_moved, before_of, entry_fields, entry_shape}
 use Rattle.aom_shape.specs.Kinds.{is_own_for, entry_kind, field, filled, is_fresh_kind, is_object_or_null, is_ready_kind, is_unowning, readied, register, set_register}
 use Rattle.aom_shape.specs.Entries.{readied_at}
@@ -48,11 +48,11 @@ use Rattle.aom_sound.specs.Places.{Cell, Elsewhere, Entry, Field, Going, Object,
 use Rattle.aom_sound.specs.State.{AtRoot, Choice, Frame, Home, Inside, Run, State, Static, WrongKind, field_place, frame_of, home_holder, thing_holder, word}
 use Rattle.aom_sound.specs.WellTyped.{AllUndo, Awaits, Back, Caught, EndsWell, Fits, Good, Holds, IsApart, IsBelow, IsHoused, IsNoFieldOf, NotIn, Returns, Stack, Stands, Unclaimed, WellTyped, WordFits, WorksOn, by_field}
 use Rattle.aom_sound.proofs.Callees.{apart_from, below_more, filled_ready, fits_fresh, held_own, holder_called, holder_member, holder_static, home_member, member_kind, moved_entries, moved_register, none_owns_each, only_then, own_for, passed_elsewhere}
-use Rattle.aom_sound.specs.Requests.{AllSuit, Suits, Unworked, rests_in, states_claim, thing_kind, works_at}
+use Rattle.aom_sound.specs.Requests.{AllSuit, Known, Suits, Unworked, known_at, resting_in, rests_in, states_claim, thing_kind, works_at}
 use Rattle.aom_roles.specs.Shapes.{kind_of}
 use Rattle.aom_shape.proofs.Sets.{has_itself}
-use Rattle.aom_sound.proofs.Suiting.{same_object, suits_first, suits_less, unworked_rests}
-use Rattle.aom_roles.specs.States.{first_of, states_of}
+use Rattle.aom_sound.proofs.Suiting.{known_plain, same_object, suits_first, suits_less, unworked_rests}
+use Rattle.aom_roles.specs.States.{first_of, idle, states_of}
 
 module _ (p : Image) (t : Typing) (wired : IsWired p) (typed : IsTyped p t) (c : Choice) (s : State) (fr : Frame) (sh : Shape) (ls : List Layer) (at_hand : At p t s fr sh ls) (m first depth height : ℕ) (deep : length (tasks_of ls) < depth) (is_called : IsCalled p m) where
   abbrev xs : List Argument
@@ -79,15 +79,27 @@ module _ (p : Image) (t : Typing) (wired : IsWired p) (typed : IsTyped p t) (c :
   FieldsBegin AtRoot = ⊥
   FieldsBegin (Inside o from) = (f : ℕ) → Fits p (seen cs) (held cs (Field o.name f)) (filled (field_thing p (thing_holder o.thing) f) (field (entry_shape p m) f))
 
-  -- the object that it works on is in one of the states in which it begins
-  abbrev BeginsWell : Home → Type 0
-  BeginsWell Static = Unit {0}
-  BeginsWell AtRoot = Unit {0}
-  BeginsWell (Inside o from) = Suits (thing_kind p o.thing) (before_of p m) (requested cs o.name) × (thing_kind p o.thing ≡ kind_of p (method_class p m))
+  -- what is known of the object that it works on as it begins, over its caller in that state
+  abbrev known_there : Object → Shape → ℕ → Known
+  known_there o sh' states = record { states = states; cancelled = (states_claim p o (Method fr sh' ∷ ls)).cancelled }
 
-  kind_begun : (home : Home) → BeginsWell home → (o : Object) (from : Place) → home ≡ Inside o from → thing_kind p o.thing ≡ kind_of p (method_class p m)
-  kind_begun (Inside x q) b o from e = let same : x ≡ o = cc in subst (λ y. thing_kind p y.thing ≡ kind_of p (method_class p m)) same b.1
-  kind_begun _ b o from e = cc
+  -- it is in one of the states in which it begins
+  abbrev BeginsWell : Home → Shape → Type 0
+  BeginsWell Static sh' = Unit {0}
+  BeginsWell AtRoot sh' = Unit {0}
+  BeginsWell (Inside o from) sh' = Suits (thing_kind p o.thing) (known_there o sh' (before_of p m)) (requested cs o.name) × (thing_kind p o.thing ≡ kind_of p (method_class p m))
+
+  -- it does not cancel
+  cancels_not : is_cancel (method_role p m) ≡ false
+  cancels_not = go is_called.role
+    where
+      go : (method_role p m ≡ Some Do) ⊎ (method_role p m ≡ Some Construct) → is_cancel (method_role p m) ≡ false
+      go (inl e) = ap is_cancel e
+      go (inr e) = ap is_cancel e
+
+  kind_begun : (home : Home) (sh' : Shape) → BeginsWell home sh' → (o : Object) (from : Place) → home ≡ Inside o from → thing_kind p o.thing ≡ kind_of p (method_class p m)
+  kind_begun (Inside x q) sh' b o from e = let same : x ≡ o = cc in subst (λ y. thing_kind p y.thing ≡ kind_of p (method_class p m)) same b.1
+  kind_begun _ sh' b o from e = cc
 
   -- the caller while the call lasts, and the home of the method called
   record Entering (ended : ℕ) (home : Home) (sh' : Shape) : Type 0 where
@@ -100,7 +112,7 @@ module _ (p : Image) (t : Typing) (wired : IsWired p) (typed : IsTyped p t) (c :
     items : objects sh'.entries (items_of ls) ≡ objects sh.entries (items_of ls)
     fields : FieldsBegin home
     suits : (x : Object) → named cs x.name ≡ Some x → works_at x.name home ≡ false → Suits (thing_kind p x.thing) (states_claim p x (Method fr sh' ∷ ls)) (requested cs x.name)
-    begun : BeginsWell home
+    begun : BeginsWell home sh'
     -- the caller's own object will be in one of these states
     settles : (o : Object) (from : Place) → home ≡ Inside o from → works_at o.name fr.home ≡ true → sh'.states ≡ ended
 
@@ -137,13 +149,18 @@ module _ (p : Image) (t : Typing) (wired : IsWired p) (typed : IsTyped p t) (c :
     begins home sh' e after w (Going k) = e.fits (Going k)
 
     -- all other objects are as they were
-    begun_suits : (home : Home) (over : List Layer) (after : Shape) → IsTrue (has after.states (before_of p m)) → IsHoused p cs over home → BeginsWell home → ((x : Object) → named cs x.name ≡ Some x → works_at x.name home ≡ false → Suits (thing_kind p x.thing) (states_claim p x over) (requested cs x.name)) → AllSuit p cs (Method (callee home) after ∷ over)
-    begun_suits Static over after w h b s x lives = s x lives refl
-    begun_suits AtRoot over after w h b s x lives = s x lives refl
-    begun_suits (Inside o from) over after w h b s x lives = inner (o.name == x.name) refl
+    begun_suits : (home : Home) (sh' : Shape) (over : List Layer) (after : Shape) → IsTrue (has after.states (before_of p m)) → IsHoused p cs over home → ((o : Object) → states_claim p o over ≡ states_claim p o (Method fr sh' ∷ ls)) → BeginsWell home sh' → ((x : Object) → named cs x.name ≡ Some x → works_at x.name home ≡ false → Suits (thing_kind p x.thing) (states_claim p x over) (requested cs x.name)) → AllSuit p cs (Method (callee home) after ∷ over)
+    begun_suits Static sh' over after w h same b s x lives = s x lives refl
+    begun_suits AtRoot sh' over after w h same b s x lives = s x lives refl
+    begun_suits (Inside o from) sh' over after w h same b s x lives = inner (o.name == x.name) refl
       where
-        inner : (y : Bool) → (o.name == x.name) ≡ y → Suits (thing_kind p x.thing) (cond y after.states (states_claim p x over)) (requested cs x.name)
-        inner true e = subst (λ z. Suits (thing_kind p z.thing) after.states (requested cs z.name)) (same_object cs o x h.lives lives e) (suits_less (thing_kind p o.thing) after.states (before_of p m) (requested cs o.name) w b.0)
+        own : Suits (thing_kind p o.thing) (known_at p (callee (Inside o from)) after.states (states_claim p o over)) (requested cs o.name)
+        own = subst (λ k. Suits (thing_kind p o.thing) k (requested cs o.name)) (sym (known_plain p (callee (Inside o from)) after.states (states_claim p o over) cancels_not))
+            (suits_less (thing_kind p o.thing) after.states (before_of p m) _ (requested cs o.name) w
+            (subst (λ (k : Known). Suits (thing_kind p o.thing) (record { states = before_of p m; cancelled = k.cancelled }) (requested cs o.name)) (sym (same o)) b.0))
+
+        inner : (y : Bool) → (o.name == x.name) ≡ y → Suits (thing_kind p x.thing) (cond y (known_at p (callee (Inside o from)) after.states (states_claim p x over)) (states_claim p x over)) (requested cs x.name)
+        inner true e = subst (λ z. Suits (thing_kind p z.thing) (known_at p (callee (Inside o from)) after.states (states_claim p z over)) (requested cs z.name)) (same_object cs o x h.lives lives e) own
         inner false e = s x lives e
 
     -- so it is entered, over these layers, which claim what the caller claims
@@ -152,9 +169,9 @@ module _ (p : Image) (t : Typing) (wired : IsWired p) (typed : IsTyped p t) (c :
         let leads = typed.entry m is_called.there in
         let w = leads.2 in
         let good : Good p t cs (Method (callee home) leads.0 ∷ over) = record {
-          stack = (leads.1, record { words = λ i. word_fits_weaker (at None ws i) (w.registers i) (passed.given i); holder = e.holder; height = sym high }, housed, apart, stack);
+          stack = (leads.1, record { words = λ i. word_fits_weaker (at None ws i) (w.registers i) (passed.given i); holder = e.holder; height = sym high; alone = λ cancels. absurd (true≢false (sym cancels ∙ cancels_not)) }, housed, apart, stack);
           fits = λ r. subst (λ k. Fits p (seen cs) (held cs r) k) (sym (as_begun leads.0 w r)) (begins home sh' e leads.0 w r);
-          suits = begun_suits home over leads.0 w.states housed e.begun (λ x lives other. subst (λ k. Suits (thing_kind p x.thing) k (requested cs x.name)) (sym (same_states x)) (e.suits x lives other));
+          suits = begun_suits home sh' over leads.0 w.states housed same_states e.begun (λ x lives other. subst (λ k. Suits (thing_kind p x.thing) k (requested cs x.name)) (sym (same_states x)) (e.suits x lives other));
           tidy = passed.tidy;
         } in
         record {
@@ -174,7 +191,7 @@ module _ (p : Image) (t : Typing) (wired : IsWired p) (typed : IsTyped p t) (c :
 
     -- the caller below, while the call lasts
     caller : {ended : ℕ} (home : Home) (sh' : Shape) (back : Back) → Entering ended home sh' → Stands p t back fr sh' → Stack p t cs back (Method fr sh' ∷ ls)
-    caller home sh' back e stands = (stands, record { words = e.words; holder = at_hand.good.stack.1.holder; height = at_hand.good.stack.1.height }, passed.housed, at_hand.good.stack.3, passed.stack)
+    caller home sh' back e stands = (stands, record { words = e.words; holder = at_hand.good.stack.1.holder; height = at_hand.good.stack.1.height; alone = at_hand.good.stack.1.alone }, passed.housed, at_hand.good.stack.3, passed.stack)
 
     -- the cleanup stack is as it was
     same_high : {ended : ℕ} (home : Home) (sh' : Shape) → Entering ended home sh' → forms s.items ≡ items_of (Method fr sh' ∷ ls)
@@ -215,14 +232,16 @@ module _ (p : Image) (t : Typing) (wired : IsWired p) (typed : IsTyped p t) (c :
 
     -- how it begins on an object on which no layer works
     well_begun :
-        (o : Object) → named cs o.name ≡ Some o → Unworked o.name (Method fr after_arguments ∷ ls) → thing_kind p o.thing ≡ kind_of p (method_class p m) → begins_there p m ≡ true →
-        (method_role p m ≡ Some Do) ⊎ ((method_role p m ≡ Some Construct) × (requested cs o.name ≡ None)) → BeginsWell (Inside o (Elsewhere Root))
-    well_begun o lives u kind may (inl role) =
-        let does_so : IsTrue (has (before_of p m) (resting p (method_class p m))) = ap (λ r. only_if (not (is_construct r)) (has (before_of p m) (resting p (method_class p m)))) (sym role) ∙ may in
-        let rests = subst (λ k. Suits (thing_kind p o.thing) k (requested cs o.name)) (unworked_rests p o (Method fr after_arguments ∷ ls) u) (passed.suits o lives) in
-        (suits_less (thing_kind p o.thing) (before_of p m) (rests_in p o) (requested cs o.name) (subst (λ k. IsTrue (has (before_of p m) (states_of k))) (sym kind) does_so) rests, kind)
-    well_begun o lives u kind may (inr w) =
-        (subst (λ k. Suits (thing_kind p o.thing) k (requested cs o.name)) (ap first_of kind ∙ sym (is_called.begins w.0)) (suits_first (thing_kind p o.thing) (requested cs o.name) w.1), kind)
+        (o : Object) (sh' : Shape) → named cs o.name ≡ Some o → Unworked o.name (Method fr sh' ∷ ls) → thing_kind p o.thing ≡ kind_of p (method_class p m) → begins_there p m ≡ true →
+        (method_role p m ≡ Some Do) ⊎ ((method_role p m ≡ Some Construct) × (requested cs o.name ≡ None)) → BeginsWell (Inside o (Elsewhere Root)) sh'
+    well_begun o sh' lives u kind may role = (subst (λ (k : Known). Suits (thing_kind p o.thing) (record { states = before_of p m; cancelled = k.cancelled }) (requested cs o.name)) (sym (unworked_rests p o (Method fr sh' ∷ ls) u)) (begun role), kind)
+      where
+        begun : (method_role p m ≡ Some Do) ⊎ ((method_role p m ≡ Some Construct) × (requested cs o.name ≡ None)) → Suits (thing_kind p o.thing) (resting_in (before_of p m)) (requested cs o.name)
+        begun (inl role) =
+            let does_so : IsTrue (has (before_of p m) (resting p (method_class p m))) = ap (λ r. only_if (not (is_construct r)) (has (before_of p m) (resting p (method_class p m)))) (sym role) ∙ may in
+            let rests = subst (λ k. Suits (thing_kind p o.thing) k (requested cs o.name)) (unworked_rests p o (Method fr after_arguments ∷ ls) (u.0, u.1)) (passed.suits o lives) in
+            suits_less (thing_kind p o.thing) (before_of p m) (rests_in p o) false (requested cs o.name) (subst (λ k. IsTrue (has (before_of p m) (states_of k))) (sym kind) does_so) rests
+        begun (inr w) = subst (λ n. Suits (thing_kind p o.thing) (resting_in n) (requested cs o.name)) (ap first_of kind ∙ sym (is_called.begins w.0)) (suits_first (thing_kind p o.thing) (requested cs o.name) w.1)
 
     target_kind : (y : ℕ) (x : Object) (z : Thing) → method_class p m ≡ Some y → stands_for p x.thing z ≡ true → stands_for p z (An_object_of y) ≡ true → thing_kind p x.thing ≡ kind_of p (method_class p m)
     target_kind y x z class a b = ap (thing_kind p) (stands_same p x.thing (An_object_of y) (stands_along p x.thing z (An_object_of y) a b)) ∙ ap (kind_of p) (sym class)
@@ -260,21 +279,28 @@ module _ (p : Image) (t : Typing) (wired : IsWired p) (typed : IsTyped p t) (c :
           items = ap (λ es. objects es (items_of ls)) (moved_entries xs first sh);
           fields = do_fields o from (worked ended) fits holds.lives apart' role;
           suits = other_suits;
-          begun = (suits_less (thing_kind p o.thing) (before_of p m) after_arguments.states (requested cs o.name) before (own_suits holds.lives), member_kind p o.thing k member ∙ ap (kind_of p) (sym class));
+          begun = (own_begun holds.lives, member_kind p o.thing k member ∙ ap (kind_of p) (sym class));
           settles = λ x q e w. refl;
         }
       where
         own_home_works : works_at o.name fr.home ≡ true
         own_home_works = ap (λ h. works_at o.name h) eh ∙ eq-eqb o.name _ refl
 
-        own_suits : named cs o.name ≡ Some o → Suits (thing_kind p o.thing) after_arguments.states (requested cs o.name)
-        own_suits lives = subst (λ b. Suits (thing_kind p o.thing) (cond b after_arguments.states (states_claim p o ls)) (requested cs o.name)) own_home_works (passed.suits o lives)
+        below : Object → Known
+        below x = states_claim p x ls
+
+        own_begun : named cs o.name ≡ Some o → Suits (thing_kind p o.thing) (known_there o (worked ended) (before_of p m)) (requested cs o.name)
+        own_begun lives = go (works_at o.name fr.home) own_home_works (passed.suits o lives)
+          where
+            go : (b : Bool) → b ≡ true → Suits (thing_kind p o.thing) (cond b (known_at p fr after_arguments.states (below o)) (below o)) (requested cs o.name) → Suits (thing_kind p o.thing) (record { states = before_of p m; cancelled = (cond b (known_at p fr ended (below o)) (below o)).cancelled }) (requested cs o.name)
+            go true e h = suits_less (thing_kind p o.thing) (before_of p m) after_arguments.states _ (requested cs o.name) before h
+            go false e h = cc
 
         other_suits : (x : Object) → named cs x.name ≡ Some x → works_at x.name (Inside o from) ≡ false → Suits (thing_kind p x.thing) (states_claim p x (Method fr (worked ended) ∷ ls)) (requested cs x.name)
         other_suits x lives e =
             let off : works_at x.name fr.home ≡ false = ap (λ h. works_at x.name h) eh ∙ e in
-            subst (λ b. Suits (thing_kind p x.thing) (cond b ended (states_claim p x ls)) (requested cs x.name)) (sym off)
-            (subst (λ b. Suits (thing_kind p x.thing) (cond b after_arguments.states (states_claim p x ls)) (requested cs x.name)) off (passed.suits x lives))
+            subst (λ b. Suits (thing_kind p x.thing) (cond b (known_at p fr ended (below x)) (below x)) (requested cs x.name)) (sym off)
+            (subst (λ b. Suits (thing_kind p x.thing) (cond b (known_at p fr after_arguments.states (below x)) (below x)) (requested cs x.name)) off (passed.suits x lives))
 
         own_fields : Unclaimed p (λ f. filled (field_thing p (thing_holder o.thing) f) Perhaps) o.name (Method fr (worked ended) ∷ ls)
         own_fields f =
@@ -338,7 +364,7 @@ module _ (p : Image) (t : Typing) (wired : IsWired p) (typed : IsTyped p t) (c :
       on_register : (ended : ℕ) → begins_there p m ≡ true → method_role p m ≡ Some Do ⊎ ((method_role p m ≡ Some Construct) × (a ≡ Fresh)) → Entering ended (Inside owned.0 q) readied_shape
       on_register ended may ages = record {
         suits = λ x lives other. passed.suits x lives;
-        begun = well_begun owned.0 lives u.unworked (target_kind y owned.0 z class owned.2 for) may (fresh_one ages);
+        begun = well_begun owned.0 readied_shape lives u.unworked (target_kind y owned.0 z class owned.2 for) may (fresh_one ages);
         settles = settles_not ended readied_shape owned.0 q u.unworked.0;
         fits = fits;
         words = words_kept fr.words after_arguments r (readied (register after_arguments r)) passed.words (subst (λ k. WordFits (word fr r) k) (sym now_ready) (subst (λ k. WordFits (word fr r) k) same_kind (passed.words r)));
@@ -410,7 +436,7 @@ module _ (p : Image) (t : Typing) (wired : IsWired p) (typed : IsTyped p t) (c :
       on_field : (ended : ℕ) → begins_there p m ≡ true → Entering ended (Inside kept_in.0 spot) after_arguments
       on_field ended may = record {
         suits = λ x lives other. passed.suits x lives;
-        begun = well_begun kept_in.0 lives u.unworked (target_kind y kept_in.0 z class kept_in.2 for) may (inl role);
+        begun = well_begun kept_in.0 after_arguments lives u.unworked (target_kind y kept_in.0 z class kept_in.2 for) may (inl role);
         settles = settles_not ended after_arguments kept_in.0 spot u.unworked.0;
         fits = passed.fits;
         words = passed.words;
@@ -494,7 +520,7 @@ module _ (p : Image) (t : Typing) (wired : IsWired p) (typed : IsTyped p t) (c :
       on_entry : (ended : ℕ) → begins_there p m ≡ true → method_role p m ≡ Some Do ⊎ ((method_role p m ≡ Some Construct) × (a ≡ Fresh)) → Entering ended (Inside piled.0 pile) readied_pile
       on_entry ended may ages = record {
         suits = λ x lives other. passed.suits x lives;
-        begun = well_begun piled.0 lives u.unworked (target_kind y piled.0 z class piled.2 for) may (fresh_one ages);
+        begun = well_begun piled.0 readied_pile lives u.unworked (target_kind y piled.0 z class piled.2 for) may (fresh_one ages);
         settles = settles_not ended readied_pile piled.0 pile u.unworked.0;
         fits = fits;
         words = passed.words;
@@ -678,10 +704,14 @@ rests_under :
     (o : Object) (from : Place) → home ≡ Inside o from → works_at o.name fr.home ≡ true → IsTrue (has sh.states (rests_in p o))
 rests_under p m fr sh home kind settles o from e w = subst (λ k. IsTrue (has sh.states k)) (settles o from e w ∙ ap states_of (sym (kind o from e))) (has_itself sh.states)
 
-ends_well : (p : Image) (m : ℕ) (fr : Frame) (sh : Shape) (home : Home) → ((o : Object) (from : Place) → home ≡ Inside o from → works_at o.name fr.home ≡ true → sh.states ≡ after_of p m) → EndsWell p m home fr sh
-ends_well p m fr sh Static e = tt
-ends_well p m fr sh AtRoot e = tt
-ends_well p m fr sh (Inside o from) e = λ w. subst (λ k. IsTrue (has k (after_of p m))) (sym (e o from refl w)) (has_itself (after_of p m))
+ends_well : (p : Image) (m : ℕ) (fr : Frame) (sh : Shape) (home : Home) → is_cancel (method_role p m) ≡ false → ((o : Object) (from : Place) → home ≡ Inside o from → works_at o.name fr.home ≡ true → sh.states ≡ after_of p m) → EndsWell p m home fr sh
+ends_well p m fr sh Static plain e = tt
+ends_well p m fr sh AtRoot plain e = tt
+ends_well p m fr sh (Inside o from) plain e = λ w. subst (λ n. IsTrue (has sh.states n)) (sym (ap (λ b. cond b idle (after_of p m)) plain)) (subst (λ k. IsTrue (has k (after_of p m))) (sym (e o from refl w)) (has_itself (after_of p m)))
+
+not_then : (b : Bool) → not b ≡ true → b ≡ false
+not_then true e = cc
+not_then false e = refl
 
 module _ (p : Image) (t : Typing) (wired : IsWired p) (typed : IsTyped p t) (c : Choice) (s : State) (fr : Frame) (sh : Shape) (ls : List Layer) (at_hand : At p t s fr sh ls) where
   pub law_call : (target : Target) (m first x : ℕ) → instr_at p fr.method fr.place ≡ Some (Call target m first x) → Law p t c s fr sh ls at_hand (Call target m first x)
@@ -704,7 +734,8 @@ module _ (p : Image) (t : Typing) (wired : IsWired p) (typed : IsTyped p t) (c :
         ),
         subst (λ y. Awaits (gives_of p m) y sh') (sym at_x) (awaited p t wired typed c s fr sh ls at_hand m first depth height deep called_so passed (gives_of p m) x sh' a.1.owning more.1.1.1.0),
         subst (λ y. Leads t fr.method (suc fr.place) (brought (gives_of p m) y sh')) (sym at_x) leads.0,
-        ends_well p m fr sh' home a.1.settles,
+        ends_well p m fr sh' home (cancels_not p t wired typed c s fr sh ls at_hand m first depth height deep called_so) a.1.settles,
+        λ q. only_then (is_quiet p fr.method) (is_quiet p m) more.1.1.0 q,
       ) in
       let high = same_high p t wired typed c s fr sh ls at_hand m first depth height deep called_so passed home sh' a.1 in (
         all_join (needs_target p fr (tasks_of ls) s target (method_class p m) first (length (arguments_of p m))) _ a.0
@@ -763,6 +794,7 @@ module _ (p : Image) (t : Typing) (wired : IsWired p) (typed : IsTyped p t) (c :
         subst (λ y. is_unowning (register sh' (suc y)) ≡ true) (sym at_x) (a.1.owning (suc x) ∙ more.1.1.1.0),
         subst (λ y. Awaits gv y sh') (sym at_x) (awaited p t wired typed c s fr sh ls at_hand m first depth height deep called_so passed gv x sh' a.1.owning more.1.1.0),
         subst (λ y. Leads t fr.method (suc fr.place) (caught gv y sh')) (sym at_x) leads.0,
+        not_then (is_quiet p fr.method) n.0,
       ) in
       let high = same_high p t wired typed c s fr sh ls at_hand m first depth height deep called_so passed home sh' a.1 in
       let below = caller p t wired typed c s fr sh ls at_hand m first depth height deep called_so passed home sh' (Caught gv) a.1 stands in
@@ -773,8 +805,8 @@ module _ (p : Image) (t : Typing) (wired : IsWired p) (typed : IsTyped p t) (c :
               (all_join (needs_result p fr (tasks_of ls) s gv (given_cells p fr (tasks_of ls) s (over_trap p fr (tasks_of ls) s) m first) x) _ (result_met p t wired typed c s fr sh ls at_hand m first depth height deep called_so passed gv x more.1.1.0) (free, tt)),
         ),
         enter p t wired typed c s fr sh ls at_hand m first depth height deep called_so passed home sh' over a.1 refl (ap suc (ap length (sym high) ∙ length_forms s.items)) (λ d r. mark_claims p d gv (Method fr sh' ∷ ls) r) (λ o. refl)
-            (housed_mark p (given_cells p fr (tasks_of ls) s (over_trap p fr (tasks_of ls) s) m first) home gv (Method fr sh' ∷ ls) a.1.housed) (apart_mark p home gv fr sh' ls a.1.apart (rests_under p m fr sh' home (kind_begun p t wired typed c s fr sh ls at_hand m first depth height deep called_so home a.1.begun) a.1.settles))
-            ((refl, trapped.gives), below) (does p c fr (tasks_of ls) s (Trap target m first x)) refl refl (ap (λ fs. Mark_form ∷ fs) high) at_hand.undos,
+            (housed_mark p (given_cells p fr (tasks_of ls) s (over_trap p fr (tasks_of ls) s) m first) home gv (Method fr sh' ∷ ls) a.1.housed) (apart_mark p home gv fr sh' ls a.1.apart (rests_under p m fr sh' home (kind_begun p t wired typed c s fr sh ls at_hand m first depth height deep called_so home sh' a.1.begun) a.1.settles))
+            ((refl, trapped.gives, ap is_cancel trapped.role), below) (does p c fr (tasks_of ls) s (Trap target m first x)) refl refl (ap (λ fs. Mark_form ∷ fs) high) at_hand.undos,
       )
     where
       depth : ℕ

@@ -37,6 +37,7 @@ use Rattle.aom_sound.specs.Places.{Cell, Object}
 use Rattle.aom_sound.specs.State.{Choice, Destroy, Dispatched, Frame, Goes, Item, Run, State, Task, Trapped, Unwind, next, resumed}
 use Rattle.aom_sound.specs.Steps.{Acts, Arrives, Clears, Comes_out, Ends, Fits, FitsUpdate, Move, Rests, Undoes, Vanishes}
 use Rattle.aom_sound.specs.WellTyped.{Good, WellTyped}
+use Rattle.aom_sound.specs.Enlisted.{ended_cells}
 
 -- a leave that is begun over it finds no trap
 no_trap : (p : Image) (height : ℕ) (code : ℤ) (below ts : List Task) → IsOver p height code below ts → has_trap ts ≡ true → ⊥
@@ -88,10 +89,10 @@ module _ (p : Image) (wired : IsWired p) (c : Choice) (fr : Frame) (sh : Shape) 
   no_entry_there : not (no_entry sh.entries) ≡ true → ⊥
   no_entry_there e = true≢false (sym e ∙ ap (λ es. not (no_entry es)) bare)
 
-  return_kept : (g : Gives) (a : ℕ) (under : List Task) → IsOver p (length s.items) code below under → Kept (returned p fr ts s g a under)
+  return_kept : (g : Gives) (a : ℕ) (under : List Task) → IsOver p (length s.items) code below under → Kept (returned p fr ts (record s { cells = ended_cells p fr s.cells }) g a under)
   return_kept g a (Run caller ∷ under) w =
       let x = result_register (instr_at p caller.method caller.place) in
-      (subst (λ f. IsOver p (length s.items) code below (Run (next f) ∷ under)) (sym (receives p fr ts s g a x caller)) w, refl)
+      (subst (λ f. IsOver p (length s.items) code below (Run (next f) ∷ under)) (sym (receives p fr ts (record s { cells = ended_cells p fr s.cells }) g a x caller)) w, refl)
   return_kept g a (Destroy ∷ under) w = (w, refl)
   return_kept g a (Unwind x ∷ under) w = (w, refl)
   return_kept g a _ w = absurd (assumption tt)

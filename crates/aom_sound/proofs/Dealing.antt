@@ -138,7 +138,7 @@ module _ (p : Image) (t : Typing) (wired : IsWired p) (typed : IsTyped p t) (s :
           good = record {
             stack = (
               leads.1,
-              record { words = λ i. word_fits_weaker (word fr i) (says.registers i) (subst (λ k. WordFits (word fr i) k) (sym (begins_with i)) (its_word i)); holder = sym holder; height = sym (length_forms items) ∙ ap length same },
+              record { words = λ i. word_fits_weaker (word fr i) (says.registers i) (subst (λ k. WordFits (word fr i) k) (sym (begins_with i)) (its_word i)); holder = sym holder; height = sym (length_forms items) ∙ ap length same; alone = λ e. tt },
               tt,
               tt,
               d.under_operation m undo,

@@ -37,8 +37,9 @@ use Rattle.aom_sound.specs.Places.{Cell, Elsewhere, Entry, Field, Going, Object,
 use Rattle.aom_sound.specs.State.{AtRoot, Choice, Frame, Home, Inside, Run, State, Static, frame_of, next, set_word, thing_holder, word}
 use Rattle.aom_sound.specs.WellTyped.{AllUndo, Back, Caught, Fits, Gone, Good, IsBelow, IsHoused, IsNoFieldOf, Leaves, NoneIn, NotIn, Returns, SomeIn, Stack, Unclaimed, WellTyped, WordFits, WorksOn}
 use Rattle.aom_roles.specs.Shapes.{kind_of}
-use Rattle.aom_sound.proofs.Suiting.{all_moved, same_object, suits_less, unworked_rests}
-use Rattle.aom_sound.specs.Requests.{AllSuit, Suits, Unworked, states_claim, thing_kind, works_at}
+use Rattle.aom_sound.proofs.Suiting.{all_moved, known_plain, same_object, suits_less, unworked_rests}
+use Rattle.aom_sound.specs.Requests.{AllSuit, Known, Suits, Unworked, known_at, resting_in, states_claim, thing_kind, works_at}
+use Rattle.aom_rules.specs.Requests.{is_cancel}
 use Rattle.aom_roles.specs.States.{last_of, states_of}
 
 -- no layer works on that cell, or claims anything of its fields but what is declared
@@ -215,25 +216,33 @@ module _ (p : Image) (t : Typing) (linked : IsWired p) (typed : IsTyped p t) (cs
       tail false = refl
 
   -- the object rests as it begins to go, and all others are as they were
-  rested : Suits (thing_kind p o.thing) (states_of (thing_kind p o.thing)) (requested cs o.name)
+  rested : Suits (thing_kind p o.thing) (resting_in (states_of (thing_kind p o.thing))) (requested cs o.name)
   rested = subst (λ k. Suits (thing_kind p o.thing) k (requested cs o.name)) (unworked_rests p o ls apart.unworked) (suits o lives)
 
-  going_suits : (states : ℕ) → Suits (thing_kind p o.thing) states (requested cs o.name) → (x : Object) → named cs x.name ≡ Some x → (b : Bool) → (o.name == x.name) ≡ b → (other : ℕ) → (b ≡ false → other ≡ states_claim p x ls) → Suits (thing_kind p x.thing) (cond b states other) (requested cs x.name)
-  going_suits states s x there true e other so = subst (λ y. Suits (thing_kind p y.thing) states (requested cs y.name)) (same_object cs o x lives there e) s
-  going_suits states s x there false e other so = subst (λ k. Suits (thing_kind p x.thing) k (requested cs x.name)) (sym (so refl)) (suits x there)
-
   bare_suits : destructor_of p o.thing ≡ None → AllSuit p cs (Dying o ∷ ls)
-  bare_suits none x there = subst (λ k. Suits (thing_kind p x.thing) k (requested cs x.name)) (at_name (o.name == x.name) refl)
-      (going_suits (last_of (thing_kind p o.thing)) (subst (λ k. Suits (thing_kind p o.thing) k (requested cs o.name)) (sym (undestructed p linked o.thing none)) rested) x there (o.name == x.name) refl (states_claim p x ls) (λ e. refl))
+  bare_suits none x there = at_name (o.name == x.name) refl
     where
-      at_name : (b : Bool) → (o.name == x.name) ≡ b → cond b (last_of (thing_kind p o.thing)) (states_claim p x ls) ≡ cond b (last_of (thing_kind p x.thing)) (states_claim p x ls)
-      at_name true e = ap (λ (y : Object). last_of (thing_kind p y.thing)) (same_object cs o x lives there e)
-      at_name false e = refl
+      at_name : (b : Bool) → (o.name == x.name) ≡ b → Suits (thing_kind p x.thing) (cond b (resting_in (last_of (thing_kind p x.thing))) (states_claim p x ls)) (requested cs x.name)
+      at_name true e =
+          subst (λ y. Suits (thing_kind p y.thing) (resting_in (last_of (thing_kind p y.thing))) (requested cs y.name)) (same_object cs o x lives there e)
+          (subst (λ n. Suits (thing_kind p o.thing) (resting_in n) (requested cs o.name)) (sym (undestructed p linked o.thing none)) rested)
+      at_name false e = suits x there
 
   clothed_suits : (m height : ℕ) (after : Shape) → Destroys p o.thing m → SaysNoMore after (entry_shape p m) → AllSuit p cs (Method (frame_of m (Inside o (Going (length (tasks_of ls)))) height) after ∷ Dying o ∷ ls)
-  clothed_suits m height after is w x there =
-      going_suits after.states (suits_less (thing_kind p o.thing) after.states (before_of p m) (requested cs o.name) w.states (subst (λ k. Suits (thing_kind p o.thing) k (requested cs o.name)) (sym is.begins) rested)) x there (o.name == x.name) refl
-      (cond (o.name == x.name) (last_of (thing_kind p x.thing)) (states_claim p x ls)) (λ e. ap (λ b. cond b (last_of (thing_kind p x.thing)) (states_claim p x ls)) e)
+  clothed_suits m height after is w x there = at_name (o.name == x.name) refl
+    where
+      fr : Frame
+      fr = frame_of m (Inside o (Going (length (tasks_of ls)))) height
+
+      below : Bool → Known
+      below b = cond b (resting_in (last_of (thing_kind p x.thing))) (states_claim p x ls)
+
+      at_name : (b : Bool) → (o.name == x.name) ≡ b → Suits (thing_kind p x.thing) (cond b (known_at p fr after.states (below b)) (below b)) (requested cs x.name)
+      at_name true e =
+          subst (λ y. Suits (thing_kind p y.thing) (known_at p fr after.states (resting_in (last_of (thing_kind p y.thing)))) (requested cs y.name)) (same_object cs o x lives there e)
+          (subst (λ k. Suits (thing_kind p o.thing) k (requested cs o.name)) (sym (known_plain p fr after.states (resting_in (last_of (thing_kind p o.thing))) (ap is_cancel is.role)))
+          (suits_less (thing_kind p o.thing) after.states (before_of p m) false (requested cs o.name) w.states (subst (λ n. Suits (thing_kind p o.thing) (resting_in n) (requested cs o.name)) (sym is.begins) rested)))
+      at_name false e = suits x there
 
   -- so a destruction begins
   pub begin : (s : State) (height : ℕ) → height ≡ length (items_of ls) → s.cells ≡ cs → s.tasks ≡ begun p o height (tasks_of ls) → forms s.items ≡ items_of ls → AllUndo p s.items → WellTyped p t s
@@ -255,10 +264,10 @@ module _ (p : Image) (t : Typing) (linked : IsWired p) (typed : IsTyped p t) (cs
           let good : Good p t cs (Method fr leads.0 ∷ Dying o ∷ ls) = record {
             stack = (
               leads.1,
-              record { words = λ i. subst (λ k. WordFits None k) (sym (unset_only (subst (λ k. Weaker (register leads.0 i) k) (entry_registers p m d.arguments i) (w.registers i)))) tt; holder = sym d.holder; height = high },
+              record { words = λ i. subst (λ k. WordFits None k) (sym (unset_only (subst (λ k. Weaker (register leads.0 i) k) (entry_registers p m d.arguments i) (w.registers i)))) tt; holder = sym d.holder; height = high; alone = λ e. absurd (true≢false (sym e ∙ ap is_cancel d.role)) },
               record { there = there; lives = lives; below = omega arith; ready = ap (λ b. is_ready_kind (cond b (Own o.thing Ready) (claim p (λ x. Null) ls (Going (length (tasks_of ls)))))) (eq-eqb (length (tasks_of ls)) _ refl) },
               (tt, apart.none_in, apart.unclaimed, apart.unworked),
-              ((lives, there), (d.stays, refl, ap is_destruct d.role, d.gives, d.ends), stack),
+              ((lives, there), (d.stays, refl, ap is_destruct d.role, d.gives, d.ends, d.quiet), stack),
             );
             fits = clothed m height leads.0 d w;
             suits = clothed_suits m height leads.0 d w;
@@ -348,7 +357,7 @@ module _ (p : Image) (t : Typing) (c : Choice) (s : State) (fr : Frame) (sh : Sh
           begin p t linked typed (moved q g cs) o below
           (goes_fitting p t cs o q before below at_hand.good.fits e (omega arith) claims)
           (tidy_moved cs q g free at_hand.good.tidy)
-          (leads.0, record { words = words; holder = at_hand.good.stack.1.holder; height = at_hand.good.stack.1.height }, housed, at_hand.good.stack.3, stack_moved p t cs q g ls _ free (omega arith) (omega arith) at_hand.good.stack.4)
+          (leads.0, record { words = words; holder = at_hand.good.stack.1.holder; height = at_hand.good.stack.1.height; alone = at_hand.good.stack.1.alone }, housed, at_hand.good.stack.3, stack_moved p t cs q g ls _ free (omega arith) (omega arith) at_hand.good.stack.4)
           (goes_there p t cs o q before below at_hand.good.fits e (omega arith) claims)
           (named_moved cs q g o.name ∙ held_lives cs q o at_hand.good.tidy e)
           (untouched_method p t cs q o at_hand.good.tidy e k fr' sh' ls (λ x from e. tt) (omega arith) at_hand.good.stack.2 (untouched p t cs q o at_hand.good.tidy e k ls _ (omega arith) at_hand.good.stack.4))

@@ -3,12 +3,15 @@ use Rattle.std.proofs.Common.{Bool, IsTrue, List, None, Option, Some, [], ap, ar
 use Rattle.std.proofs.lemmas.Bool.{and_parts, eqb-true}
 use Rattle.std.specs.Prelude.{slice_get}
 use Rattle.aom_image.specs.Image.{Image}
-use Rattle.aom_image.specs.Views.{fields_of, has}
+use Rattle.aom_image.specs.Views.{fields_of, has, method_role}
 use Rattle.aom_instructions.specs.declared.instr.Instr.TheVariants.{Return}
 use Rattle.aom_image.specs.declared.method.Thing.{Thing}
 use Rattle.aom_image.specs.declared.method.Thing.TheVariants.{Message, Object as An_object_of}
 use Rattle.aom_shape.specs.Kinds.{all_empty, field, filled, is_empty, no_entry, none_owns, register}
-use Rattle.aom_rules.specs.Calls.{fields_done, result_moved}
+use Rattle.aom_rules.specs.Calls.{fields_done, is_destruct, result_moved}
+use Rattle.aom_rules.specs.Requests.{is_cancel}
+use Rattle.aom_image.specs.declared.method.Role.{Role}
+use Rattle.aom_image.specs.declared.method.Role.TheVariants.{Destruct}
 use Rattle.aom_shape.specs.Needs.{AllTrue}
 use Rattle.aom_shape.specs.Shape.{Shape}
 use Rattle.aom_shape.specs.Tables.{at}
@@ -18,7 +21,7 @@ use Rattle.aom_shape.specs.declared.kind.Filling.{Filling}
 use Rattle.aom_shape.specs.declared.kind.Filling.TheVariants.{Empty, Perhaps}
 use Rattle.aom_shape.specs.declared.kind.Kind.TheVariants.{Null}
 use Rattle.aom_sound.proofs.Claimed.{claim_register_above}
-use Rattle.aom_sound.proofs.Finishing.{no_entries, none_left, none_owns_at, return_needs, returnable, same_items}
+use Rattle.aom_sound.proofs.Finishing.{ended_plainly, no_entries, none_left, none_owns_at, return_needs, returnable, same_items}
 use Rattle.aom_sound.proofs.Going.{no_fields, nothing_in}
 use Rattle.aom_sound.proofs.Straight.{At, Law, fits_unowning}
 use Rattle.aom_sound.specs.Calls.{is_emptied, result_needs}
@@ -28,8 +31,8 @@ use Rattle.aom_sound.specs.State.{Choice, Frame, Inside, State, home_holder, thi
 use Rattle.aom_sound.specs.WellTyped.{Fits, Good}
 use Rattle.aom_shape.specs.Arguments.{after_of}
 use Rattle.aom_roles.specs.States.{last_of}
-use Rattle.aom_sound.specs.Requests.{AllSuit, Suits, states_claim, thing_kind, works_at}
-use Rattle.aom_sound.proofs.Suiting.{same_object, suits_less}
+use Rattle.aom_sound.specs.Requests.{AllSuit, Known, Suits, known_at, resting_in, states_claim, thing_kind, works_at}
+use Rattle.aom_sound.proofs.Suiting.{known_plain, same_object, suits_less}
 
 empty_at : (ts : List Thing) (xs : List Filling) (f : ℕ) (y : Thing) → all_empty ts xs ≡ true → slice_get ts f ≡ Some y → is_empty (at Perhaps xs f) ≡ true
 empty_at [] xs f y e h = let clash : slice_get {X = Thing} [] f ≡ Some y = h in cc
@@ -71,14 +74,23 @@ module _ (p : Image) (t : Typing) (c : Choice) (s : State) (fr : Frame) (sh : Sh
   fits_dying eh e n done (Going k) = at_hand.good.fits (Going k)
 
   -- the object is in a state in which it may go
-  suits_dying : fr.home ≡ Inside o (Going (length (tasks_of ls))) → after_of p fr.method ≡ last_of (thing_kind p o.thing) → IsTrue (has (after_of p fr.method) sh.states) → AllSuit p s.cells (Dying o ∷ ls)
-  suits_dying eh last ends x lives = go (o.name == x.name) refl (subst (λ h. Suits (thing_kind p x.thing) (cond (works_at x.name h) sh.states (cond (o.name == x.name) (last_of (thing_kind p x.thing)) (states_claim p x ls))) (requested s.cells x.name)) eh (at_hand.good.suits x lives))
+  suits_dying : fr.home ≡ Inside o (Going (length (tasks_of ls))) → is_cancel (method_role p fr.method) ≡ false → after_of p fr.method ≡ last_of (thing_kind p o.thing) → IsTrue (has (after_of p fr.method) sh.states) → AllSuit p s.cells (Dying o ∷ ls)
+  suits_dying eh plain last ends x lives = go (o.name == x.name) refl (subst (λ h. Suits (thing_kind p x.thing) (cond (works_at x.name h) (known_at p fr sh.states (below (o.name == x.name))) (below (o.name == x.name))) (requested s.cells x.name)) eh (at_hand.good.suits x lives))
     where
-      go : (b : Bool) → (o.name == x.name) ≡ b → Suits (thing_kind p x.thing) (cond b sh.states (cond b (last_of (thing_kind p x.thing)) (states_claim p x ls))) (requested s.cells x.name) → Suits (thing_kind p x.thing) (cond b (last_of (thing_kind p x.thing)) (states_claim p x ls)) (requested s.cells x.name)
+      below : Bool → Known
+      below b = cond b (resting_in (last_of (thing_kind p x.thing))) (states_claim p x ls)
+
+      go : (b : Bool) → (o.name == x.name) ≡ b → Suits (thing_kind p x.thing) (cond b (known_at p fr sh.states (below b)) (below b)) (requested s.cells x.name) → Suits (thing_kind p x.thing) (below b) (requested s.cells x.name)
       go true same h =
           let one = same_object s.cells o x at_hand.good.stack.4.0.0 lives same in
-          suits_less (thing_kind p x.thing) (last_of (thing_kind p x.thing)) sh.states (requested s.cells x.name) (subst (λ k. IsTrue (has k sh.states)) (last ∙ ap (λ (y : Object). last_of (thing_kind p y.thing)) one) ends) h
+          suits_less (thing_kind p x.thing) (last_of (thing_kind p x.thing)) sh.states false (requested s.cells x.name) (subst (λ k. IsTrue (has k sh.states)) (last ∙ ap (λ (y : Object). last_of (thing_kind p y.thing)) one) ends)
+          (subst (λ k. Suits (thing_kind p x.thing) k (requested s.cells x.name)) (known_plain p fr sh.states (resting_in (last_of (thing_kind p x.thing))) plain) h)
       go false other h = h
+
+  -- what destructs does not cancel
+  destructs_only : (r : Option Role) → is_destruct r ≡ true → is_cancel r ≡ false
+  destructs_only (Some Destruct) e = refl
+  destructs_only _ e = cc
 
   pub law_destructor : (a : ℕ) → Law p t c s fr sh (Dying o ∷ ls) at_hand (Return a)
   law_destructor a n leads =
@@ -88,14 +100,15 @@ module _ (p : Image) (t : Typing) (c : Choice) (s : State) (fr : Frame) (sh : Sh
       let done : fields_done p true (thing_holder o.thing) sh.fields ≡ true = ap (λ k. fields_done p true k sh.fields) (sym holder) ∙ ap (λ b. fields_done p b (holder_of p fr.method) sh.fields) (sym above.2) ∙ r.fields in
       let free : none_owns sh.registers ≡ true = ap (λ g. none_owns (result_moved p fr.method fr.place sh g a).registers) (sym above.3) ∙ r.free in
       let entries : no_entry sh.entries ≡ true = none_left p fr sh a above.3 r in
+      let plain = destructs_only (method_role p fr.method) above.2 in
       let good : Good p t s.cells (Dying o ∷ ls) = record {
         stack = (at_hand.good.stack.4.0, tt, at_hand.good.stack.4.2);
         fits = fits_dying above.1 entries free done;
-        suits = suits_dying above.1 above.4 r.ends;
+        suits = suits_dying above.1 plain above.4 r.ends;
         tidy = at_hand.good.tidy;
       } in (
         return_needs p t c s fr sh (Dying o ∷ ls) at_hand a r
             (subst (λ g. AllTrue (result_needs p fr (tasks_of (Dying o ∷ ls)) s g a)) (sym above.3) tt)
             (ap (λ h. is_emptied s.cells h) above.1 ∙ nothing_in s.cells o.name (no_fields p t s.cells o ls good), tt),
-        record { layers = Dying o ∷ ls; tasks = refl; items = same_items p t c s fr sh (Dying o ∷ ls) at_hand entries; undos = at_hand.undos; good = good },
+        ended_plainly p t c s fr sh (Dying o ∷ ls) at_hand a r plain (record { layers = Dying o ∷ ls; tasks = refl; items = same_items p t c s fr sh (Dying o ∷ ls) at_hand entries; undos = at_hand.undos; good = good }),
       )

@@ -139,8 +139,8 @@ module _ (p : Image) (t : Typing) (c : Choice) (s : State) (fr : Frame) (sh : Sh
       (λ o from e. (tt, tt)) (λ r x e k f. refl) claims
       (words_set fr.words sh a None Null at_hand.good.stack.1.words refl)
 
-  pub law_push : (a : ℕ) → Law p t c s fr sh ls at_hand (Push a)
-  law_push a n leads = (
+  pub law_push : IsWired p → (a : ℕ) → Law p t c s fr sh ls at_hand (Push a)
+  law_push wired a n leads = (
     (
       ap is_none (no_word p t c s fr sh ls at_hand a (owned_or_null (register sh a) n.0)),
       (met.0, (met.1, (trap_is_there p t cells fr' (pushed_shape a) ls there n.1.0 n.1.1.0, needed c.refused))),
@@ -168,7 +168,7 @@ module _ (p : Image) (t : Typing) (c : Choice) (s : State) (fr : Frame) (sh : Sh
       needed false = tt
 
       goes : (b : Bool) → WellTyped p t (applied p fr (tasks_of ls) s (unless_refused b (Object_pushed a) (sets fr a None (Object_pushed a))))
-      goes true = leave_keeps p t (record s { cells = cells; items = An_object ∷ s.items }) no_memory fr' (pushed_shape a) ls items at_hand.undos there n.1.0 n.1.1.0 n.1.1.1.0
+      goes true = leave_keeps p t wired (record s { cells = cells; items = An_object ∷ s.items }) no_memory fr' (pushed_shape a) ls items at_hand.undos there n.1.0 n.1.1.0 n.1.1.1.0
       goes false = well p t c s fr sh ls at_hand _ fr' (pushed_shape a) refl items at_hand.undos (settle p t cells fr' (pushed_shape a) ls there leads.0)
 
   -- ---- the push of an operation
@@ -199,7 +199,7 @@ module _ (p : Image) (t : Typing) (c : Choice) (s : State) (fr : Frame) (sh : Sh
       needed false = tt
 
       goes : (b : Bool) → WellTyped p t (applied p fr (tasks_of ls) s (unless_refused b (Operation_pushed m (read fr (tasks_of ls) s a)) (updates fr (Operation_pushed m (read fr (tasks_of ls) s a)))))
-      goes true = leave_keeps p t (record s { items = An_operation m (read fr (tasks_of ls) s a) ∷ s.items }) no_memory (next fr) with_operation ls items undos operation_fitted n.1.0 n.1.1.0 n.1.1.1.0
+      goes true = leave_keeps p t wired (record s { items = An_operation m (read fr (tasks_of ls) s a) ∷ s.items }) no_memory (next fr) with_operation ls items undos operation_fitted n.1.0 n.1.1.0 n.1.1.1.0
       goes false = well p t c s fr sh ls at_hand _ (next fr) with_operation refl items undos (settle p t s.cells (next fr) with_operation ls operation_fitted leads.0)
 
   -- ---- a pop
@@ -269,7 +269,7 @@ module _ (p : Image) (t : Typing) (c : Choice) (s : State) (fr : Frame) (sh : Sh
 
       -- the method waits
       waits : (x : Pushed) (es : List Pushed) → sh.entries ≡ x ∷ es → Stack p t s.cells Gone (Method fr (record sh { entries = es }) ∷ ls)
-      waits x es e = (lead x es e, record { words = at_hand.good.stack.1.words; holder = at_hand.good.stack.1.holder; height = at_hand.good.stack.1.height }, at_hand.good.stack.2, at_hand.good.stack.3, at_hand.good.stack.4)
+      waits x es e = (lead x es e, record { words = at_hand.good.stack.1.words; holder = at_hand.good.stack.1.holder; height = at_hand.good.stack.1.height; alone = at_hand.good.stack.1.alone }, at_hand.good.stack.2, at_hand.good.stack.3, at_hand.good.stack.4)
 
       -- for a method that gives nothing and does not leave
       awaits : (x : Pushed) (es : List Pushed) → sh.entries ≡ x ∷ es → (m : ℕ) → IsUndo p m → Stack p t s.cells (Returns m Static) (Method fr (record sh { entries = es }) ∷ ls)
@@ -282,6 +282,7 @@ module _ (p : Image) (t : Typing) (c : Choice) (s : State) (fr : Frame) (sh : Sh
               subst (λ gives. Awaits gives r less) (sym is.gives) tt,
               subst (λ gives. Leads t fr.method (suc fr.place) (brought gives r less)) (sym is.gives) (lead x es e),
               tt,
+              λ q. is.quiet,
             ),
             below.1,
             below.2,
@@ -318,8 +319,8 @@ module _ (p : Image) (t : Typing) (c : Choice) (s : State) (fr : Frame) (sh : Sh
 
   -- ---- a new cell, or a leave
 
-  pub law_new_or_leave : (a x : ℕ) → IsUnused p t c s fr sh ls at_hand → Law p t c s fr sh ls at_hand (NewOrLeave a x)
-  law_new_or_leave a x unused n leads = ((ap is_none free, needed c.refused), goes c.refused)
+  pub law_new_or_leave : IsWired p → (a x : ℕ) → IsUnused p t c s fr sh ls at_hand → Law p t c s fr sh ls at_hand (NewOrLeave a x)
+  law_new_or_leave wired a x unused n leads = ((ap is_none free, needed c.refused), goes c.refused)
     where
       k : Kind
       k = Own (An_object_of x) (new_age p x)
@@ -342,5 +343,5 @@ module _ (p : Image) (t : Typing) (c : Choice) (s : State) (fr : Frame) (sh : Sh
       needed false = tt
 
       goes : (b : Bool) → WellTyped p t (applied p fr (tasks_of ls) s (unless_refused b Same (sets fr a None (Made c.name x a))))
-      goes true = leave_keeps p t s no_memory fr sh ls at_hand.items at_hand.undos g n.1.1.0 n.1.1.1.0 n.1.1.1.1.0
+      goes true = leave_keeps p t wired s no_memory fr sh ls at_hand.items at_hand.undos g n.1.1.0 n.1.1.1.0 n.1.1.1.1.0
       goes false = well p t c s fr sh ls at_hand _ fr' (set_register sh a k) refl at_hand.items at_hand.undos (settle p t cells fr' (set_register sh a k) ls makes leads.0)

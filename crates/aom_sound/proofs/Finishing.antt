@@ -3,7 +3,7 @@ use Rattle.std.proofs.Common.{Bool, IsTrue, List, None, Option, Some, [], ap, ar
 use Rattle.std.proofs.lemmas.Bool.{and_from, and_parts, cases_Bool, eq-eqb, eqb-true, true≢false}
 use Rattle.std.specs.Prelude.{is_some, not, ◌++◌}
 use Rattle.aom_image.specs.Image.{Image}
-use Rattle.aom_image.specs.Views.{gives_of, has}
+use Rattle.aom_image.specs.Views.{gives_of, has, method_role}
 use Rattle.aom_instructions.specs.declared.instr.Instr.TheVariants.{Return}
 use Rattle.aom_image.specs.declared.method.Gives.{Gives}
 use Rattle.aom_image.specs.declared.method.Gives.TheVariants.{Left, Maybe as A_maybe, Nothing, Own as An_own}
@@ -11,7 +11,7 @@ use Rattle.aom_image.specs.declared.method.Thing.{Thing}
 use Rattle.aom_image.specs.declared.method.Thing.TheVariants.{Object as An_object_of}
 use Rattle.aom_rules.specs.Calls.{entries_done, fields_done, is_destructor, leaves_one, result_moved, rule_ended, rule_left, rule_result}
 use Rattle.aom_shape.specs.Kinds.{is_own_for, field, filled, is_ready_kind, is_unowning, no_entry, none_owns, register, set_register}
-use Rattle.aom_shape.specs.Needs.{AllTrue}
+use Rattle.aom_shape.specs.Needs.{AllTrue, only_if}
 use Rattle.aom_rules.specs.Rules.{rule_needs}
 use Rattle.aom_shape.specs.Shape.{Shape}
 use Rattle.aom_shape.specs.Tables.{at}
@@ -31,15 +31,20 @@ use Rattle.aom_sound.proofs.Items.{length_forms}
 use Rattle.aom_sound.proofs.Maps.{at-put_at, front_free}
 use Rattle.aom_sound.proofs.Things.{stands_same}
 use Rattle.aom_sound.proofs.Straight.{At, fits_unowning, free_register, top}
-use Rattle.aom_sound.specs.Calls.{end_needs, is_level, is_register_but, leaves_object, none_owns_but, result_needs, result_source}
+use Rattle.aom_sound.specs.Calls.{end_needs, is_level, is_register_but, leaves_object, none_owns_but, result_needs, result_source, returned}
 use Rattle.aom_sound.specs.Claims.{Dispatching, Dying, Layer, Mark, Method, Object_form, Unwinding, claim, declared, declared_field, entry_claim, forms, home_claim, items_of, objects, root_claim, tasks_of}
-use Rattle.aom_sound.specs.Moves.{needs}
+use Rattle.aom_sound.specs.Moves.{does, needs}
 use Rattle.aom_sound.specs.Objects.{is_thing}
-use Rattle.aom_sound.specs.Places.{Cell, Elsewhere, Entry, Field, Going, Object, Place, Register, Root, Sight, held, same_place, seen}
+use Rattle.aom_sound.specs.Places.{Cell, Elsewhere, Entry, Field, Going, Object, Place, Register, Root, Sight, held, requested, same_place, seen}
 use Rattle.aom_sound.specs.State.{An_object, AtRoot, Choice, Frame, Home, Inside, Item, Main_left, Of_main, Of_root, State, Static, thing_holder}
-use Rattle.aom_sound.specs.WellTyped.{Fits, IsApart, IsHoused, NotAtRoot, RootUnclaimed, Unclaimed, past_going}
-use Rattle.aom_rules.specs.Requests.{unissued}
+use Rattle.aom_sound.specs.WellTyped.{Fits, IsApart, IsHoused, NotAtRoot, RootUnclaimed, Unclaimed, WellTyped, past_going}
+use Rattle.aom_rules.specs.Requests.{is_cancel, unissued}
 use Rattle.aom_shape.specs.Arguments.{after_of}
+use Rattle.aom_sound.specs.Enlisted.{cancelled, hangs, on_request, own_request, pending, rerequested, status_of}
+use Rattle.aom_roles.specs.States.{cancel_done}
+use Rattle.std.specs.Ordering.{int_eq}
+use Rattle.aom_sound.specs.Requests.{Known, Suits, known_at, states_claim, thing_kind, works_at}
+use Rattle.aom_sound.proofs.Suiting.{completed}
 
 pub none_owns_at : (ks : List Kind) (i : ℕ) → none_owns ks ≡ true → is_unowning (at Unset ks i) ≡ true
 none_owns_at [] i e = refl
@@ -155,13 +160,14 @@ pub record Returnable (p : Image) (fr : Frame) (sh : Shape) (a : ℕ) : Type 0 w
   pub free : none_owns (result_moved p fr.method fr.place sh (gives_of p fr.method) a).registers ≡ true
   pub fields : fields_done p (is_destructor p fr.method) (holder_of p fr.method) sh.fields ≡ true
   pub settled : unissued sh.states ≡ true
+  pub cancels : only_if (is_cancel (method_role p fr.method)) (has cancel_done sh.states) ≡ true
   pub ends : IsTrue (has (after_of p fr.method) sh.states)
 
 pub returnable : (p : Image) (fr : Frame) (sh : Shape) (a : ℕ) → AllTrue (rule_needs p fr.method fr.place sh (Return a)) → Returnable p fr sh a
 returnable p fr sh a n =
     let parts = all_parts (rule_result p fr.method fr.place sh (gives_of p fr.method) a) (rule_left p fr.method fr.place sh a ++ rule_ended p fr.method fr.place sh) n in
     let left = all_parts (rule_left p fr.method fr.place sh a) (rule_ended p fr.method fr.place sh) parts.1 in
-    record { result = parts.0; entries = left.0.0; free = left.0.1.0; fields = left.1.1.1.1.0; settled = left.1.0; ends = left.1.1.1.1.1.0 }
+    record { result = parts.0; entries = left.0.0; free = left.0.1.0; fields = left.1.1.1.1.0; settled = left.1.0; cancels = left.1.1.0; ends = left.1.1.1.1.1.0 }
 
 -- a method that gives nothing leaves no entry
 pub none_left : (p : Image) (fr : Frame) (sh : Shape) (a : ℕ) → gives_of p fr.method ≡ Nothing → Returnable p fr sh a → no_entry sh.entries ≡ true
@@ -232,10 +238,36 @@ module _ (p : Image) (t : Typing) (c : Choice) (s : State) (fr : Frame) (sh : Sh
       unmoved i n other = sym (ap is_unowning (at-put_at Unset sh.registers a i Null ∙ ap (λ b. cond b Null (register sh i)) (eqb_comm a i ∙ other))) ∙ none_owns_at (set_register sh a Null).registers i n
   spared _ n i other = free_register p t c s fr sh ls at_hand i (none_owns_at sh.registers i n)
 
+  -- a method that cancels does not hang
+  answered : not (hangs p fr (tasks_of ls) s) ≡ true
+  answered = go (is_cancel (method_role p fr.method)) refl
+    where
+      own : (home : Home) → fr.home ≡ home → IsTrue (has cancel_done sh.states) → int_eq (status_of (own_request s.cells home)) pending ≡ false
+      own Static e h = refl
+      own AtRoot e h = refl
+      own (Inside o from) e h =
+          let holds : IsHoused p s.cells ls (Inside o from) = subst (λ h. IsHoused p s.cells ls h) e at_hand.good.stack.2 in
+          let below : Known = states_claim p o ls in
+          let here = subst (λ h. Suits (thing_kind p o.thing) (cond (works_at o.name h) (known_at p fr sh.states below) below) (requested s.cells o.name)) e (at_hand.good.suits o holds.lives) in
+          completed (thing_kind p o.thing) (known_at p fr sh.states below) (requested s.cells o.name) h
+          (subst (λ b. Suits (thing_kind p o.thing) (cond b (known_at p fr sh.states below) below) (requested s.cells o.name)) (eq-eqb o.name o.name refl) here)
+
+      go : (b : Bool) → is_cancel (method_role p fr.method) ≡ b → not (b && int_eq (status_of (own_request s.cells fr.home)) pending) ≡ true
+      go false e = refl
+      go true e = ap not (own fr.home refl (ap (λ b. only_if b (has cancel_done sh.states)) (sym e) ∙ r.cancels))
+
+  -- the state after a return, with these cells as it begins
+  abbrev pub after_return : List Cell → State
+  after_return cs = returned p fr (tasks_of ls) (record s { cells = cs }) (gives_of p fr.method) a (tasks_of ls)
+
+  -- the end of a method that does not cancel changes no request
+  pub ended_plainly : is_cancel (method_role p fr.method) ≡ false → WellTyped p t (after_return s.cells) → WellTyped p t (does p c fr (tasks_of ls) s (Return a))
+  ended_plainly e w = subst (λ cs. WellTyped p t (after_return cs)) (sym (ap (λ b. cond b (rerequested s.cells fr.home (on_request cancelled (own_request s.cells fr.home))) s.cells) e)) w
+
   -- the needs of a return, from those of its result and of what it returns to
   pub return_needs : AllTrue (result_needs p fr (tasks_of ls) s (gives_of p fr.method) a) → AllTrue (end_needs p fr (tasks_of ls) s (tasks_of ls)) → AllTrue (needs p c fr (tasks_of ls) s (Return a))
   return_needs result end =
       all_join (result_needs p fr (tasks_of ls) s (gives_of p fr.method) a) _ result (
         level p t c s fr sh ls at_hand (gives_of p fr.method) r.entries,
-        (none_owns_from s.cells (length (tasks_of ls)) (result_source (gives_of p fr.method) a) (spared (gives_of p fr.method) r.free), end),
+        (none_owns_from s.cells (length (tasks_of ls)) (result_source (gives_of p fr.method) a) (spared (gives_of p fr.method) r.free), (answered, end)),
       )

@@ -15,7 +15,7 @@ use Rattle.aom_sound.specs.Destruction.{gone, is_field_of, owns_nothing}
 use Rattle.aom_sound.specs.Places.{Cell, Elsewhere, Entry, Field, Going, Object, Place, Register, Root, Tidy, held, named, requested, same_place, seen, without}
 use Rattle.aom_sound.specs.State.{AtRoot, Home, Inside, IsStuck, Of_root, Orphan, State, Static, guarded, next, resumed}
 use Rattle.aom_sound.specs.WellTyped.{AllUndo, Back, Caught, Fits, Gone, Good, Holds, IsHoused, Keeps, Leaves, Now, Returns, Stack, WellTyped}
-use Rattle.aom_sound.specs.Requests.{AllSuit, Suits, states_claim, thing_kind}
+use Rattle.aom_sound.specs.Requests.{AllSuit, Suits, resting_in, states_claim, thing_kind}
 use Rattle.aom_roles.specs.States.{last_of}
 
 -- the fields of a cell that goes are null, so nothing is owned by it
@@ -140,7 +140,7 @@ module _ (p : Image) (t : Typing) (cs : List Cell) (o : Object) (ls : List Layer
       go false other =
           let there = sym (named_without cs g o x.name good.tidy good.stack.0.1 other) ∙ lives in
           subst (λ r. Suits (thing_kind p x.thing) (states_claim p x ls) r) (sym (requested_without cs g o x.name good.tidy good.stack.0.1 other))
-          (subst (λ b. Suits (thing_kind p x.thing) (cond b (last_of (thing_kind p x.thing)) (states_claim p x ls)) (requested cs x.name)) other (good.suits x there))
+          (subst (λ b. Suits (thing_kind p x.thing) (cond b (resting_in (last_of (thing_kind p x.thing))) (states_claim p x ls)) (requested cs x.name)) other (good.suits x there))
 
 -- the method below goes on, or the run is at its end
 goes_on : (p : Image) (t : Typing) (s : State) (ls : List Layer) → Stack p t s.cells Gone ls → ((r : Place) → Fits p (seen s.cells) (held s.cells r) (claim p (declared p s.cells) ls r)) → AllSuit p s.cells ls → Tidy s.cells → s.tasks ≡ resumed (tasks_of ls) → forms s.items ≡ items_of ls → AllUndo p s.items → WellTyped p t s
@@ -150,7 +150,7 @@ goes_on p t s (Method fr sh ∷ ls) stack fits suits tidy tasks items undos =
       fits = λ r. subst (λ k. Fits p (seen s.cells) (held s.cells r) k) (sym (claim_frame p (declared p s.cells) fr (next fr) sh ls r refl)) (fits r);
       suits = suits;
       tidy = tidy;
-      frames = record { words = stack.1.words; holder = stack.1.holder; height = stack.1.height };
+      frames = record { words = stack.1.words; holder = stack.1.holder; height = stack.1.height; alone = stack.1.alone };
       housed = stack.2;
       apart = stack.3;
       stack = stack.4;

@@ -2,7 +2,7 @@
 use Rattle.std.proofs.Common.{Bool, List, None, Option, Some, [], arith, cond, false, length, refl, subst, suc, true, ℕ, ℤ, ◌+◌, ◌∷◌, ◌≡◌, ◌≤◌}
 use Rattle.aom_image.specs.Image.{Image}
 use Rattle.aom_instructions.specs.Operands.{IsRegister}
-use Rattle.aom_image.specs.Views.{arguments_of, instr_at}
+use Rattle.aom_image.specs.Views.{arguments_of, instr_at, method_role}
 use Rattle.aom_instructions.specs.declared.instr.Instr.{Instr}
 use Rattle.aom_instructions.specs.declared.instr.Instr.TheVariants.{Call, Trap}
 use Rattle.aom_image.specs.declared.method.Argument.{Argument}
@@ -15,13 +15,14 @@ use Rattle.aom_sound.specs.Calls.{passed_cells, result_cells, result_register, r
 use Rattle.aom_sound.specs.Cleanup.{arrived, dealt_with, destroyed, top_is_whole, top_place, unwound}
 use Rattle.aom_sound.specs.Destruction.{gone, owns_nothing}
 use Rattle.aom_sound.specs.Effects.{Calls, Carried, Destroys, Destroys_last, Effect, Goes_on, In_field, In_register, Leaves, Made, Popped, Pushed, Requested, Returns, Sets_trap, Spot, Update, Written, applied, cells_after, effect, spot_place}
-use Rattle.aom_sound.specs.Enlisted.{rerequested}
+use Rattle.aom_sound.specs.Enlisted.{cancelled, ended_cells, on_request, own_request, rerequested}
 use Rattle.aom_sound.specs.Laws.{IsWired, RegistersKeep}
 use Rattle.aom_sound.specs.Moves.{counted, dispatch_ends, does, main_ends, needs, step, step_instr, step_task}
 use Rattle.aom_sound.specs.Places.{Cell, Elsewhere, Entry, Going, Object, Place, Register, Request, Root, held, moved, same_place, set_request, set_word_field, without}
 use Rattle.aom_sound.specs.Registers.{AllInRange, IsInRange}
 use Rattle.aom_sound.specs.State.{A_mark, An_object, An_operation, AtRoot, Choice, Destroy, Dispatch, Dispatched, Frame, Goes, Home, Inside, IsStuck, Item, Main_left, NullOrDead, Of_main, Of_root, Orphan, Run, State, Static, Task, Trapped, Unwind, field_place, resumed}
 use Rattle.aom_sound.specs.Words.{here, stored}
+use Rattle.aom_rules.specs.Requests.{is_cancel}
 
 move_in_range : (p q : Place) (cs : List Cell) → IsInRange q → AllInRange cs → AllInRange (moved p q cs)
 move_in_range p q [] fits all = tt
@@ -116,12 +117,24 @@ module _ (p : Image) (wired : IsWired p) (fr : Frame) (ts : List Task) (s : Stat
   return_in_range g a (Trapped ∷ _) = all
   return_in_range g a _ = all
 
+  -- the request of what a method worked on counts for none
+  ended_in_range : AllInRange (ended_cells p fr s.cells)
+  ended_in_range = go (is_cancel (method_role p fr.method))
+    where
+      r : Option Request
+      r = on_request cancelled (own_request s.cells fr.home)
+
+      go : (b : Bool) → AllInRange (cond b (rerequested s.cells fr.home r) s.cells)
+      go true = request_in_range fr.home r
+      go false = all
+
+module _ (p : Image) (wired : IsWired p) (fr : Frame) (ts : List Task) (s : State) (all : AllInRange s.cells) where
   apply_in_range : (e : Effect) → EffectFits p e → AllInRange (applied p fr ts s e).cells
-  apply_in_range (Goes_on ch) fits = update_in_range ch.update fits
-  apply_in_range (Leaves code u) fits = update_in_range u fits
-  apply_in_range (Calls target m first) fits = pass_in_range (suc (length ts)) (arguments_of p m) first 0 s.cells (omega arith) all
-  apply_in_range (Sets_trap target m first) fits = pass_in_range (suc (suc (length ts))) (arguments_of p m) first 0 s.cells (omega arith) all
-  apply_in_range (Returns g a) fits = return_in_range g a ts
+  apply_in_range (Goes_on ch) fits = update_in_range p wired fr ts s all ch.update fits
+  apply_in_range (Leaves code u) fits = update_in_range p wired fr ts s all u fits
+  apply_in_range (Calls target m first) fits = pass_in_range p wired fr ts s all (suc (length ts)) (arguments_of p m) first 0 s.cells (omega arith) all
+  apply_in_range (Sets_trap target m first) fits = pass_in_range p wired fr ts s all (suc (suc (length ts))) (arguments_of p m) first 0 s.cells (omega arith) all
+  apply_in_range (Returns g a) fits = return_in_range p wired fr ts (record s { cells = ended_cells p fr s.cells }) (ended_in_range p wired fr ts s all) g a ts
   apply_in_range (Destroys o a words) fits = move_in_range (here fr ts s a) (Going (suc (length ts))) s.cells tt all
   apply_in_range (Destroys_last o) fits = move_in_range (top_place s.items) (Going (suc (length ts))) s.cells tt all
   apply_in_range _ fits = all

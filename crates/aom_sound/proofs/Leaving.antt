@@ -1,9 +1,9 @@
 -- A leave from a well-typed state: there is a trap, no register over it owns, and what is left to unwind is well typed.
 use Rattle.std.proofs.Common.{Bool, List, None, Option, Some, [], ap, append-nil, append_assoc, arith, cond, false, inl, inr, length, refl, subst, sym, true, ℕ, ℤ, ◌<◌, ◌==◌, ◌∙◌, ◌∷◌, ◌≡◌}
 use Rattle.std.proofs.lemmas.Bool.{and_from, ne_eqb, true≢false}
-use Rattle.std.specs.Prelude.{◌++◌}
+use Rattle.std.specs.Prelude.{◌++◌, ◌||◌}
 use Rattle.aom_image.specs.Image.{Image}
-use Rattle.aom_image.specs.Views.{leaves}
+use Rattle.aom_image.specs.Views.{is_quiet, leaves, method_role}
 use Rattle.aom_instructions.specs.declared.instr.Instr.TheVariants.{Leave, LeaveIf}
 use Rattle.aom_shape.specs.Kinds.{entry_kind, none_owns, register}
 use Rattle.aom_shape.specs.Needs.{AllTrue}
@@ -23,10 +23,13 @@ use Rattle.aom_sound.specs.State.{AtRoot, Choice, Dispatch, Frame, Home, Inside,
 use Rattle.aom_sound.specs.WellTyped.{AllUndo, EndsDispatch, Fits, IsApart, IsHoused, Leaves, Returns, Stack, WellTyped, past_going}
 use Rattle.aom_sound.specs.Effects.{Leaves, Same, applied, updates}
 use Rattle.aom_sound.specs.Words.{read}
-use Rattle.aom_rules.specs.Requests.{unissued}
-use Rattle.aom_sound.specs.Requests.{AllSuit, Joins, Suits, Unworked, rests_in, states_claim, thing_kind, works_at}
-use Rattle.aom_sound.proofs.Suiting.{rejoins_trap, rests_there, same_object, suits_rests}
+use Rattle.aom_rules.specs.Requests.{is_cancel, unissued}
+use Rattle.aom_sound.specs.Requests.{AllSuit, Joins, Known, Suits, Unworked, known_at, resting_in, rests_in, states_claim, thing_kind, works_at}
+use Rattle.aom_sound.proofs.Suiting.{known_plain, rejoins_trap, rests_there, rests_unissued, same_object, suits_rests}
 use Rattle.aom_image.specs.declared.class.ClassKind.{ClassKind}
+use Rattle.aom_sound.specs.Laws.{IsWired}
+use Rattle.aom_image.specs.declared.method.Role.{Role}
+use Rattle.aom_image.specs.declared.method.Role.TheVariants.{Cancel}
 
 -- the entries of the methods over the innermost trap, the last first
 abbrev pub entries_over : List Layer → List Pushed
@@ -135,37 +138,94 @@ on_it : (p : Image) (cs : List Cell) (ls : List Layer) (x : Object) (home : Home
 on_it p cs ls x (Inside o from) lives w h a = subst (λ y. Joins p y ls) (same_object cs o x h.lives lives w) a.3
 on_it p cs ls x _ lives w h a = cc
 
-module _ (p : Image) (t : Typing) (cs : List Cell) (x : Object) (lives : named cs x.name ≡ Some x) where
+-- what is below a frame that is not quiet is not quiet either
+still_loud : (a b : Bool) → (a ≡ true → b ≡ true) → b ≡ false → a ≡ false
+still_loud true b h e = absurd (true≢false (sym (h refl) ∙ e))
+still_loud false b h e = refl
+
+module _ (p : Image) (t : Typing) (wired : IsWired p) (cs : List Cell) (x : Object) where
   abbrev k : Option ClassKind
   k = thing_kind p x.thing
 
   abbrev r : Option Request
   r = requested cs x.name
 
-  rested_left : (ls : List Layer) (m : ℕ) (home : Home) → leaves p m ≡ true → Stack p t cs (Returns m home) ls → Joins p x ls → Suits k (rests_in p x) r → Suits k (states_claim p x (from_trap ls)) r
-  rested_left (Method fr sh ∷ ls) m home e s (inl w) rests = rested_left ls fr.method fr.home (s.0.0 e).0 s.4 (on_it p cs ls x fr.home lives w s.2 s.3) rests
-  rested_left (Method fr sh ∷ ls) m home e s (inr u) rests = rests_there p x (from_trap ls) r (unworked_from_trap x.name ls u.1) rests
-  rested_left (Mark gv ∷ Method fr sh ∷ ls) m home e s j rests = rejoins_trap p x gv fr sh ls r j rests
-  rested_left (Mark gv ∷ []) m home e s j rests = rests
-  rested_left (Mark gv ∷ l ∷ ls) m home e s j rests = rests_there p x (Mark gv ∷ l ∷ ls) r j rests
-  rested_left (Dispatching d ∷ ls) m home e s j rests = no_end p d m home s.0
-  rested_left _ m home e s j rests = absurd (first_of (assumption tt, cc))
-
-  suits_left : (ls : List Layer) (m : ℕ) (home : Home) → leaves p m ≡ true → Stack p t cs (Returns m home) ls → Suits k (states_claim p x ls) r → Suits k (states_claim p x (from_trap ls)) r
-  suits_left (Method fr sh ∷ ls) m home e s h = go (works_at x.name fr.home) refl h (λ h. suits_left ls fr.method fr.home (s.0.0 e).0 s.4 h)
+  loud_cancels : (m : ℕ) → is_quiet p m ≡ false → is_cancel (method_role p m) ≡ false
+  loud_cancels m loud = go (method_role p m) refl
     where
-      go : (b : Bool) → works_at x.name fr.home ≡ b → Suits k (cond b sh.states (states_claim p x ls)) r → (Suits k (states_claim p x ls) r → Suits k (states_claim p x (from_trap ls)) r) → Suits k (states_claim p x (from_trap ls)) r
-      go true w h rest = let may = s.0.0 e in rested_left ls fr.method fr.home may.0 s.4 (on_it p cs ls x fr.home lives w s.2 s.3) (suits_rests k sh.states r may.2 h)
-      go false w h rest = rest h
-  suits_left _ m home e s h = h
+      go : (role : Option Role) → method_role p m ≡ role → is_cancel role ≡ false
+      go (Some Cancel) e = absurd (true≢false (sym (wired.cancels m e).0 ∙ loud))
+      go _ e = refl
+
+  -- nor does it cancel
+  pub known_loud : (fr : Frame) (sh : Shape) (ls : List Layer) → is_quiet p fr.method ≡ false → (states_claim p x ls).cancelled ≡ false → (states_claim p x (Method fr sh ∷ ls)).cancelled ≡ false
+  known_loud fr sh ls loud none = go (works_at x.name fr.home)
+    where
+      below : Known
+      below = states_claim p x ls
+
+      go : (b : Bool) → (cond b (known_at p fr sh.states below) below).cancelled ≡ false
+      go true = ap (λ c. c || below.cancelled) (loud_cancels fr.method loud) ∙ none
+      go false = none
+
+  -- so no method cancels below one that is not quiet
+  pub none_cancels : (ls : List Layer) (m : ℕ) (home : Home) → is_quiet p m ≡ false → Stack p t cs (Returns m home) ls → (states_claim p x ls).cancelled ≡ false
+  none_cancels (Method fr sh ∷ ls) m home loud s =
+      let too = still_loud (is_quiet p fr.method) (is_quiet p m) s.0.4 loud in
+      known_loud fr sh ls too (none_cancels ls fr.method fr.home too s.4)
+  none_cancels (Mark gv ∷ Method fr sh ∷ ls) m home loud s = known_loud fr sh ls s.1.0.4 (none_cancels ls fr.method fr.home s.1.0.4 s.1.4)
+  none_cancels (Mark gv ∷ Dispatching d ∷ ls) m home loud s = ap (λ l. (states_claim p x l).cancelled) s.1.1
+  none_cancels (Mark gv ∷ []) m home loud s = refl
+  none_cancels (Dying o ∷ ls) m home loud s = absurd (true≢false (sym s.1.5 ∙ loud))
+  none_cancels (Unwinding code es ∷ ls) m home loud s = absurd (true≢false (sym s.0.3 ∙ loud))
+  none_cancels (Dispatching d ∷ ls) m home loud s = no_end p d m home s.0
+  none_cancels [] m home loud s = refl
+  none_cancels _ m home loud s = absurd (first_of (assumption tt, cc))
+
+  -- what a method that may leave works on is not being cancelled
+  known_leaving : (fr : Frame) (states : ℕ) (ls : List Layer) → leaves p fr.method ≡ true → Stack p t cs (Returns fr.method fr.home) ls → known_at p fr states (states_claim p x ls) ≡ resting_in states
+  known_leaving fr states ls may s =
+      let loud = wired.quiets fr.method may in
+      known_plain p fr states (states_claim p x ls) (loud_cancels fr.method loud) ∙ ap (λ (b : Bool). record { states = states; cancelled = b }) (none_cancels ls fr.method fr.home loud s)
+
+  module _ (lives : named cs x.name ≡ Some x) where
+    rested_left : (ls : List Layer) (m : ℕ) (home : Home) → leaves p m ≡ true → Stack p t cs (Returns m home) ls → Joins p x ls → Suits k (resting_in (rests_in p x)) r → Suits k (states_claim p x (from_trap ls)) r
+    rested_left (Method fr sh ∷ ls) m home e s (inl w) rests = rested_left ls fr.method fr.home (s.0.0 e).0 s.4 (on_it p cs ls x fr.home lives w s.2 s.3) rests
+    rested_left (Method fr sh ∷ ls) m home e s (inr u) rests = rests_there p x (from_trap ls) r (unworked_from_trap x.name ls u.1) rests
+    rested_left (Mark gv ∷ Method fr sh ∷ ls) m home e s j rests =
+        rejoins_trap p x gv fr sh ls (rests_in p x) r j (rests_unissued k) (known_loud fr sh ls s.1.0.4 (none_cancels ls fr.method fr.home s.1.0.4 s.1.4)) rests
+    rested_left (Mark gv ∷ []) m home e s j rests = rests
+    rested_left (Mark gv ∷ l ∷ ls) m home e s j rests = rests_there p x (Mark gv ∷ l ∷ ls) r j rests
+    rested_left (Dispatching d ∷ ls) m home e s j rests = no_end p d m home s.0
+    rested_left _ m home e s j rests = absurd (first_of (assumption tt, cc))
+
+    -- the object that a method which may leave works on
+    works_left : (fr : Frame) (sh : Shape) (ls : List Layer) → leaves p fr.method ≡ true → unissued sh.states ≡ true → IsHoused p cs ls fr.home → IsApart p fr.home ls → Stack p t cs (Returns fr.method fr.home) ls → works_at x.name fr.home ≡ true → Suits k (known_at p fr sh.states (states_claim p x ls)) r → Suits k (states_claim p x (from_trap ls)) r
+    works_left fr sh ls may u housed apart s w h =
+        rested_left ls fr.method fr.home may s (on_it p cs ls x fr.home lives w housed apart)
+        (suits_rests k sh.states r u (subst (λ n. Suits k n r) (known_leaving fr sh.states ls may s) h))
+
+    suits_left : (ls : List Layer) (m : ℕ) (home : Home) → leaves p m ≡ true → Stack p t cs (Returns m home) ls → Suits k (states_claim p x ls) r → Suits k (states_claim p x (from_trap ls)) r
+    suits_left (Method fr sh ∷ ls) m home e s h = go (works_at x.name fr.home) refl h (λ h. suits_left ls fr.method fr.home (s.0.0 e).0 s.4 h)
+      where
+        below : Known
+        below = states_claim p x ls
+
+        go : (b : Bool) → works_at x.name fr.home ≡ b → Suits k (cond b (known_at p fr sh.states below) below) r → (Suits k below r → Suits k (states_claim p x (from_trap ls)) r) → Suits k (states_claim p x (from_trap ls)) r
+        go true w h rest = let may = s.0.0 e in works_left fr sh ls may.0 may.2 s.2 s.3 s.4 w h
+        go false w h rest = rest h
+    suits_left _ m home e s h = h
 
 -- so it is with all objects
-all_left : (p : Image) (t : Typing) (cs : List Cell) (code : ℤ) (es : List Pushed) (fr : Frame) (sh : Shape) (ls : List Layer) → Fitted p t cs fr sh ls → leaves p fr.method ≡ true → unissued sh.states ≡ true → AllSuit p cs (Unwinding code es ∷ from_trap ls)
-all_left p t cs code es fr sh ls g may u x lives = go (works_at x.name fr.home) refl (g.suits x lives)
+all_left : (p : Image) (t : Typing) (wired : IsWired p) (cs : List Cell) (code : ℤ) (es : List Pushed) (fr : Frame) (sh : Shape) (ls : List Layer) → Fitted p t cs fr sh ls → leaves p fr.method ≡ true → unissued sh.states ≡ true → AllSuit p cs (Unwinding code es ∷ from_trap ls)
+all_left p t wired cs code es fr sh ls g may u x lives = go (works_at x.name fr.home) refl (g.suits x lives)
   where
-    go : (b : Bool) → works_at x.name fr.home ≡ b → Suits (thing_kind p x.thing) (cond b sh.states (states_claim p x ls)) (requested cs x.name) → Suits (thing_kind p x.thing) (states_claim p x (from_trap ls)) (requested cs x.name)
-    go true w h = rested_left p t cs x lives ls fr.method fr.home may g.stack (on_it p cs ls x fr.home lives w g.housed g.apart) (suits_rests (thing_kind p x.thing) sh.states (requested cs x.name) u h)
-    go false w h = suits_left p t cs x lives ls fr.method fr.home may g.stack h
+    below : Known
+    below = states_claim p x ls
+
+    go : (b : Bool) → works_at x.name fr.home ≡ b → Suits (thing_kind p x.thing) (cond b (known_at p fr sh.states below) below) (requested cs x.name) → Suits (thing_kind p x.thing) (states_claim p x (from_trap ls)) (requested cs x.name)
+    go true w h = works_left p t wired cs x lives fr sh ls may u g.housed g.apart g.stack w h
+    go false w h = suits_left p t wired cs x lives ls fr.method fr.home may g.stack h
 
 -- what the registers of the layers hold is as claimed
 abbrev RegistersFit : Image → List Cell → List Layer → Type 0
@@ -199,8 +259,8 @@ pub trap_is_there : (p : Image) (t : Typing) (cs : List Cell) (fr : Frame) (sh :
 trap_is_there p t cs fr sh ls g may n = (leave_is_met p t cs fr fr sh ls g may n).0
 
 -- a leave from such a state is well typed
-pub leave_keeps : (p : Image) (t : Typing) (s : State) (code : ℤ) (fr : Frame) (sh : Shape) (ls : List Layer) → forms s.items ≡ objects sh.entries (items_of ls) → AllUndo p s.items → Fitted p t s.cells fr sh ls → leaves p fr.method ≡ true → none_owns sh.registers ≡ true → unissued sh.states ≡ true → WellTyped p t (record s { tasks = Unwind code ∷ to_trap (tasks_of ls) })
-leave_keeps p t s code fr sh ls items undos g may n u = record {
+pub leave_keeps : (p : Image) (t : Typing) → IsWired p → (s : State) (code : ℤ) (fr : Frame) (sh : Shape) (ls : List Layer) → forms s.items ≡ objects sh.entries (items_of ls) → AllUndo p s.items → Fitted p t s.cells fr sh ls → leaves p fr.method ≡ true → none_owns sh.registers ≡ true → unissued sh.states ≡ true → WellTyped p t (record s { tasks = Unwind code ∷ to_trap (tasks_of ls) })
+leave_keeps p t wired s code fr sh ls items undos g may n u = record {
   layers = Unwinding code (sh.entries ++ entries_over ls) ∷ from_trap ls;
   tasks = ap (λ ts. Unwind code ∷ ts) (tasks_from_trap ls);
   items = items ∙ ap (λ i. objects sh.entries i) (items_from_trap ls) ∙ sym (objects_append sh.entries (entries_over ls) (items_of (from_trap ls)));
@@ -209,18 +269,18 @@ leave_keeps p t s code fr sh ls items undos g may n u = record {
     stack = (tt, stack_from_trap p t s.cells ls fr.method fr.home may g.stack);
     fits = λ r. all_ended p t s.cells code ls sh.entries fr.method fr.home may g.stack r (seen s.cells) (held s.cells r)
         (ended_by_leave p s.cells fr sh ls code g.housed g.apart (not_going p t s.cells ls _ _ may g.stack) n r (seen s.cells) (held s.cells r) (g.fits r));
-    suits = all_left p t s.cells code (sh.entries ++ entries_over ls) fr sh ls g may u;
+    suits = all_left p t wired s.cells code (sh.entries ++ entries_over ls) fr sh ls g may u;
     tidy = g.tidy;
   };
 }
 
-module _ (p : Image) (t : Typing) (c : Choice) (s : State) (fr : Frame) (sh : Shape) (ls : List Layer) (at_hand : At p t s fr sh ls) where
+module _ (p : Image) (t : Typing) (wired : IsWired p) (c : Choice) (s : State) (fr : Frame) (sh : Shape) (ls : List Layer) (at_hand : At p t s fr sh ls) where
   -- from where the method stands
   met : leaves p fr.method ≡ true → none_owns sh.registers ≡ true → AllTrue (leave_needs s.cells (Run fr ∷ tasks_of ls))
   met may n = leave_is_met p t s.cells fr fr sh ls (fitted p t s.cells fr sh ls at_hand.good) may n
 
   leaves_here : (code : ℤ) → leaves p fr.method ≡ true → none_owns sh.registers ≡ true → unissued sh.states ≡ true → WellTyped p t (applied p fr (tasks_of ls) s (Leaves code Same))
-  leaves_here code may n u = leave_keeps p t s code fr sh ls at_hand.items at_hand.undos (fitted p t s.cells fr sh ls at_hand.good) may n u
+  leaves_here code may n u = leave_keeps p t wired s code fr sh ls at_hand.items at_hand.undos (fitted p t s.cells fr sh ls at_hand.good) may n u
 
   pub law_leave : (a : ℕ) → Law p t c s fr sh ls at_hand (Leave a)
   law_leave a n leads = ((has_word p t c s fr sh ls at_hand a n.0, met n.1.0 n.1.1.0), leaves_here (read fr (tasks_of ls) s a) n.1.0 n.1.1.0 n.1.1.1.0)

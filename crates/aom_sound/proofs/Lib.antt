@@ -23,6 +23,7 @@ pub mod Returning
 pub mod Closing
 pub mod Passing
 pub mod Callees
+pub mod Cancelled
 pub mod Calling
 pub mod Leaving
 pub mod Dealing

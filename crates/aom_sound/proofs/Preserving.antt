@@ -21,6 +21,7 @@ use Rattle.aom_sound.specs.Places.{Elsewhere, Going, Object, Root, held}
 use Rattle.aom_sound.specs.State.{A_mark, An_operation, Choice, Destroy, Dispatch, Dispatched, Frame, Goes, Inside, Item, Main_left, Of_main, Of_root, Run, State, Task, Trapped, Unwind, counter, frame_of, next, resumed, set_counter, set_word, to_place}
 use Rattle.aom_sound.specs.Steps.{Acts, Arrives, Clears, Comes_out, Ends, Fits, IsStraight, Move, Rests, Sets, Undoes, Vanishes}
 use Rattle.aom_sound.specs.Tasks.{Below, Holds, TaskLaw}
+use Rattle.aom_sound.specs.Enlisted.{ended_cells}
 
 -- an instruction is at hand, with its needs met
 pub record Acting (p : Image) (c : Choice) (l : TaskLaw) (s : State) (fr : Frame) (ts : List Task) (i : Instr) : Type 0 where
@@ -128,7 +129,7 @@ module _ (p : Image) (c : Choice) (l : TaskLaw) (s : State) (k : Kept p c l s) w
         let a' = another i _ f.1 a in
         let w = k.traps fr ts target m first f.0 a' in
         (w.0, (w.1, (k.waits fr ts _ a' refl fr.words, h.1)))
-    acts i (Returns g x) a f = returns fr ts (counted p s) g x ts (subst (λ ts. Holds l ts) (sym at_hand) h) h.1
+    acts i (Returns g x) a f = returns fr ts (record (counted p s) { cells = ended_cells p fr s.cells }) g x ts (subst (λ ts. Holds l ts) (sym at_hand) h) h.1
     acts i (Leaves code u) a f = lands code ts f.0 h.1
     acts i (Destroys o x words) a f = begins_over o (length s.items) (Run (with_words fr words) ∷ ts) (k.waits fr ts _ (another i _ f.0 a) refl words, h.1)
     acts i (Destroys_last o) a f = begins_over o (length (below_top s.items)) (Run fr ∷ ts) (k.waits fr ts _ (another i _ f.0 a) refl fr.words, h.1)

@@ -22,57 +22,20 @@ use Rattle.aom_shape.specs.Shape.{Shape}
 use Rattle.aom_shape.specs.declared.kind.Kind.{Kind}
 use Rattle.aom_shape.specs.Things.{holder_by, holder_of}
 use Rattle.aom_sound.proofs.Callees.{holder_member, home_member, member_kind}
-use Rattle.aom_sound.proofs.Storing.{Alike, alike_itself, fits_alike, housed_alike, stack_alike}
+use Rattle.aom_sound.proofs.Storing.{Alike, alike_itself, fits_alike, housed_alike, requested_here, requested_there, rerequested_alike, stack_alike}
 use Rattle.aom_sound.proofs.Straight.{At, Fitted, Law, fitted, reframed, settle, stepped, this_is_ready, well}
 use Rattle.aom_sound.proofs.Suiting.{same_object}
 use Rattle.aom_sound.proofs.Words.{has_word, unowned, writes_word}
 use Rattle.aom_sound.specs.Claims.{Layer, Method, claim, declared, home_claim, root_claim, tasks_of}
 use Rattle.aom_sound.specs.Effects.{Requested, applied, jumps_if, updates}
-use Rattle.aom_sound.specs.Enlisted.{first_request, home_kind, in_phase, is_active, is_busy, is_idle, is_issued, issued_by, issued_of, next_timer, on_request, own_request, rerequested, status_of, waits}
+use Rattle.aom_sound.specs.Enlisted.{aborted, cancelled_code, first_request, home_kind, in_phase, is_active, is_busy, is_cancelling, is_idle, is_issued, issued_by, issued_of, next_timer, on_request, own_request, pending, rerequested, status_of, waits}
 use Rattle.aom_sound.specs.Laws.{IsWired}
 use Rattle.aom_sound.specs.Places.{Aborted, Active, Cancelling, Cell, Elsewhere, Entry, Field, Going, Idle, Issued, Object, Phase, Place, Register, Request, Root, Tidy, held, named, requested, same_place, seen, set_request}
-use Rattle.aom_sound.specs.Requests.{Suits, phase_state, state_of, states_claim, thing_kind, uncancelled, works_at}
+use Rattle.aom_sound.specs.Requests.{Known, Suits, known_at, phase_state, state_of, states_claim, thing_kind, works_at}
 use Rattle.aom_sound.specs.State.{AtRoot, Choice, Frame, Home, Inside, Run, State, Static, field_place, home_holder, next, to_place}
 use Rattle.aom_sound.specs.WellTyped.{Fits, IsHoused, WellTyped}
 use Rattle.aom_sound.specs.Words.{read}
-
--- ---- the cells with another request of one of them
-
-held_asked : (cs : List Cell) (n : ℕ) (r : Option Request) (q : Place) → held (set_request n r cs) q ≡ held cs q
-held_asked [] n r q = refl
-held_asked (c ∷ cs) n r q = ap (λ x. cond (same_place c.owner q) (Some c.object) x) (held_asked cs n r q)
-
-named_asked : (cs : List Cell) (n : ℕ) (r : Option Request) (m : ℕ) → named (set_request n r cs) m ≡ named cs m
-named_asked [] n r m = refl
-named_asked (c ∷ cs) n r m = ap (λ x. cond (c.object.name == m) (Some c.object) x) (named_asked cs n r m)
-
-tidy_asked : (cs : List Cell) (n : ℕ) (r : Option Request) → Tidy cs → Tidy (set_request n r cs)
-tidy_asked [] n r t = tt
-tidy_asked (c ∷ cs) n r t = (held_asked cs n r c.owner ∙ t.0, named_asked cs n r c.object.name ∙ t.1, tidy_asked cs n r t.2)
-
-requested_here : (cs : List Cell) (n : ℕ) (r : Option Request) (o : Object) → named cs n ≡ Some o → requested (set_request n r cs) n ≡ r
-requested_here [] n r o e = cc
-requested_here (c ∷ cs) n r o e = go (c.object.name == n) e (requested_here cs n r o)
-  where
-    go : (b : Bool) → cond b (Some c.object) (named cs n) ≡ Some o → (named cs n ≡ Some o → requested (set_request n r cs) n ≡ r) → cond b (cond b r c.request) (requested (set_request n r cs) n) ≡ r
-    go true e rest = refl
-    go false e rest = rest e
-
-requested_there : (cs : List Cell) (n m : ℕ) (r : Option Request) → (n == m) ≡ false → requested (set_request n r cs) m ≡ requested cs m
-requested_there [] n m r other = refl
-requested_there (c ∷ cs) n m r other = go (c.object.name == m) (c.object.name == n) refl refl (requested_there cs n m r other)
-  where
-    go :
-        (x y : Bool) → (c.object.name == m) ≡ x → (c.object.name == n) ≡ y → requested (set_request n r cs) m ≡ requested cs m →
-        cond x (cond y r c.request) (requested (set_request n r cs) m) ≡ cond x c.request (requested cs m)
-    go false y em en rest = rest
-    go true false em en rest = refl
-    go true true em en rest = absurd (true≢false (sym (eq-eqb n m (sym (eqb-true c.object.name n en) ∙ eqb-true c.object.name m em)) ∙ other))
-
-pub rerequested_alike : (cs : List Cell) (home : Home) (r : Option Request) → Alike cs (rerequested cs home r)
-rerequested_alike cs Static r = alike_itself cs
-rerequested_alike cs AtRoot r = alike_itself cs
-rerequested_alike cs (Inside o from) r = record { held_so = held_asked cs o.name r; named_so = named_asked cs o.name r; tidy = tidy_asked cs o.name r }
+use Rattle.std.specs.Ordering.{int_eq}
 
 -- ---- what is known of a request
 
@@ -100,36 +63,37 @@ restated :
     fr.home ≡ Inside o from → named cs o.name ≡ Some o → Alike cs cs' →
     ((m : ℕ) → (o.name == m) ≡ false → requested cs' m ≡ requested cs m) →
     ((q : Place) (x : Object) → held cs q ≡ Some x → is_ready_kind (claim p (declared p cs) (Method fr sh ∷ ls) q) ≡ false → (o.name == x.name) ≡ false) →
-    Suits (thing_kind p o.thing) states (requested cs' o.name) →
+    Suits (thing_kind p o.thing) (known_at p fr states (states_claim p o ls)) (requested cs' o.name) →
     Fitted p t cs fr sh ls → Fitted p t cs' fr (record sh { states = states }) ls
 restated p t cs cs' fr sh ls o from states home lives alike others ready suit g = record {
   fits = λ q. subst (λ k. Fits p (seen cs') (held cs' q) k) (sym (claim_states p (declared p cs') fr sh ls states q)) (fits_alike p t cs cs' alike (Method fr sh ∷ ls) q (λ x e fresh. others x.name (ready q x e fresh)) (g.fits q));
-  suits = λ x here. subst (λ h. Suits (thing_kind p x.thing) (cond (works_at x.name h) states (states_claim p x ls)) (requested cs' x.name)) (sym home) (known x here (o.name == x.name) refl);
+  suits = λ x here. subst (λ h. Suits (thing_kind p x.thing) (cond (works_at x.name h) (known_at p fr states (states_claim p x ls)) (states_claim p x ls)) (requested cs' x.name)) (sym home) (known x here (o.name == x.name) refl);
   tidy = alike.tidy g.tidy;
-  frames = record { words = g.frames.words; holder = g.frames.holder; height = g.frames.height };
+  frames = record { words = g.frames.words; holder = g.frames.holder; height = g.frames.height; alone = g.frames.alone };
   housed = housed_alike p t cs cs' alike ls fr.home g.housed;
   apart = g.apart;
   stack = stack_alike p t cs cs' alike ls _ g.stack;
 }
   where
-    known : (x : Object) → named cs' x.name ≡ Some x → (b : Bool) → (o.name == x.name) ≡ b → Suits (thing_kind p x.thing) (cond b states (states_claim p x ls)) (requested cs' x.name)
-    known x here true e = subst (λ y. Suits (thing_kind p y.thing) states (requested cs' y.name)) (same_object cs o x lives (sym (alike.named_so x.name) ∙ here) e) suit
+    known : (x : Object) → named cs' x.name ≡ Some x → (b : Bool) → (o.name == x.name) ≡ b → Suits (thing_kind p x.thing) (cond b (known_at p fr states (states_claim p x ls)) (states_claim p x ls)) (requested cs' x.name)
+    known x here true e = subst (λ y. Suits (thing_kind p y.thing) (known_at p fr states (states_claim p y ls)) (requested cs' y.name)) (same_object cs o x lives (sym (alike.named_so x.name) ∙ here) e) suit
     known x here false e =
-        let before = subst (λ h. Suits (thing_kind p x.thing) (cond (works_at x.name h) sh.states (states_claim p x ls)) (requested cs x.name)) home (g.suits x (sym (alike.named_so x.name) ∙ here)) in
-        subst (λ r. Suits (thing_kind p x.thing) (states_claim p x ls) r) (sym (others x.name e))
-        (subst (λ b. Suits (thing_kind p x.thing) (cond b sh.states (states_claim p x ls)) (requested cs x.name)) e before)
+        let below : Known = states_claim p x ls in
+        let before = subst (λ h. Suits (thing_kind p x.thing) (cond (works_at x.name h) (known_at p fr sh.states below) below) (requested cs x.name)) home (g.suits x (sym (alike.named_so x.name) ∙ here)) in
+        subst (λ r. Suits (thing_kind p x.thing) below r) (sym (others x.name e))
+        (subst (λ b. Suits (thing_kind p x.thing) (cond b (known_at p fr sh.states below) below) (requested cs x.name)) e before)
 
 -- an object that may be enlisted is in one of the states in which it is known to be
-suits_in : (k : Option ClassKind) (states : ℕ) (r : Option Request) → is_listed_kind k ≡ true → Suits k states r → IsTrue (has states (state_of r))
-suits_in (Some (An_active v b)) states r e s = s.0
-suits_in (Some (A_server m x b)) states r e s = s.0
-suits_in _ states r e s = cc
+suits_in : (k : Option ClassKind) (n : Known) (r : Option Request) → is_listed_kind k ≡ true → Suits k n r → IsTrue (has n.states (state_of r))
+suits_in (Some (An_active v b)) n r e s = s.0
+suits_in (Some (A_server m x b)) n r e s = s.0
+suits_in _ n r e s = cc
 
 -- and in these, where it is in one of them
-suits_within : (k : Option ClassKind) (a b : ℕ) (r : Option Request) → is_listed_kind k ≡ true → IsTrue (has b (state_of r)) → Suits k a r → Suits k b r
-suits_within (Some (An_active v x)) a b r e h s = (h, s.1)
-suits_within (Some (A_server m x y)) a b r e h s = (h, s.1)
-suits_within _ a b r e h s = cc
+suits_within : (k : Option ClassKind) (b : ℕ) (n : Known) (r : Option Request) → is_listed_kind k ≡ true → IsTrue (has b (state_of r)) → Suits k n r → Suits k (record { states = b; cancelled = n.cancelled }) r
+suits_within (Some (An_active v x)) b n r e h s = (h, s.1, s.2)
+suits_within (Some (A_server m x y)) b n r e h s = (h, s.1)
+suits_within _ b n r e h s = cc
 
 pub active_listed : (k : Option ClassKind) → is_active_kind k ≡ true → is_listed_kind k ≡ true
 active_listed (Some (An_active v b)) e = refl
@@ -215,40 +179,54 @@ only_issued (Some r) h = let found = go r.phase h in (refl, found.0, found.1)
     go Cancelling h = cc
     go Aborted h = cc
 
--- no request is being cancelled so far
-none_cancelled : (r : Option Request) → IsTrue (has (bit_or cancel_open cancel_done) (state_of r)) → IsTrue (has uncancelled (state_of r)) → ⊥
-none_cancelled None h g = cc
-none_cancelled (Some r) h g = go r.phase h g
+only_cancelled : (r : Option Request) → IsTrue (has (bit_or cancel_open cancel_done) (state_of r)) → in_phase is_cancelling r ≡ true
+only_cancelled None h = cc
+only_cancelled (Some r) h = go r.phase h
   where
-    go : (q : Phase) → IsTrue (has (bit_or cancel_open cancel_done) (phase_state q)) → IsTrue (has uncancelled (phase_state q)) → ⊥
-    go Idle h g = cc
-    go Issued h g = cc
-    go Active h g = cc
-    go Cancelling h g = cc
-    go Aborted h g = cc
+    go : (q : Phase) → IsTrue (has (bit_or cancel_open cancel_done) (phase_state q)) → is_cancelling q ≡ true
+    go Cancelling h = refl
+    go Aborted h = refl
+    go Idle h = cc
+    go Issued h = cc
+    go Active h = cc
 
-uncancelled_of : (k : Option ClassKind) (states : ℕ) (r : Option Request) → is_active_kind k ≡ true → Suits k states r → IsTrue (has uncancelled (state_of r))
-uncancelled_of (Some (An_active v b)) states r e s = s.1
-uncancelled_of _ states r e s = cc
+-- an object that is enlisted is idle, one with a request made is issued, one that waits is active, and what is aborted is answered; whether it is being cancelled stays as it was
+suits_enlisted : (k : Option ClassKind) (n : Known) (cs : List Cell) (priority : ℤ) → is_listed_kind k ≡ true → Suits k n None → Suits k (record { states = idle; cancelled = n.cancelled }) (Some (first_request cs priority))
+suits_enlisted (Some (An_active v b)) n cs priority l s = (refl, s.1, refl)
+suits_enlisted (Some (A_server m x b)) n cs priority l s = (refl, refl)
+suits_enlisted _ n cs priority l s = cc
 
--- an object that is enlisted is idle, one with a request made is issued, and one that waits is active
-suits_idle : (k : Option ClassKind) (r : Request) → is_listed_kind k ≡ true → r.phase ≡ Idle → Suits k idle (Some r)
-suits_idle (Some (An_active v b)) r l e = subst (λ q. IsTrue (has idle (phase_state q)) × IsTrue (has uncancelled (phase_state q))) (sym e) (refl, refl)
-suits_idle (Some (A_server m x b)) r l e = subst (λ q. IsTrue (has idle (phase_state q)) × IsTrue (has (bit_or unlisted idle) (phase_state q))) (sym e) (refl, refl)
-suits_idle _ r l e = cc
+idle_still : (q : Phase) → is_idle q ≡ true → is_cancelling q ≡ false
+idle_still Idle h = refl
+idle_still _ h = cc
 
-suits_issued : (k : Option ClassKind) (clock order : ℕ) (a : ℤ) (r : Option Request) → is_active_kind k ≡ true → is_some r ≡ true → Suits k issued (on_request (issued_of k clock order a) r)
-suits_issued (Some (An_active v b)) clock order a (Some r) e some = go v
+issued_still : (q : Phase) → is_issued q ≡ true → is_cancelling q ≡ false
+issued_still Issued h = refl
+issued_still _ h = cc
+
+suits_issued : (k : Option ClassKind) (n : Known) (clock order : ℕ) (a : ℤ) (r : Option Request) → is_active_kind k ≡ true → in_phase is_idle r ≡ true → Suits k n r → Suits k (record { states = issued; cancelled = n.cancelled }) (on_request (issued_of k clock order a) r)
+suits_issued (Some (An_active v b)) n clock order a (Some r) e free s = go v
   where
-    go : (v : Provider) → IsTrue (has issued (phase_state (issued_by v clock order a r).phase)) × IsTrue (has uncancelled (phase_state (issued_by v clock order a r).phase))
-    go Own = (refl, refl)
-    go A_timer = (refl, refl)
-    go (Native n) = (refl, refl)
-suits_issued _ clock order a _ e some = cc
+    still : false ≡ n.cancelled
+    still = sym (idle_still r.phase free) ∙ s.1
 
-suits_active : (k : Option ClassKind) (r : Option Request) → is_active_kind k ≡ true → is_some r ≡ true → Suits k active (on_request waits r)
-suits_active (Some (An_active v b)) (Some r) e some = (refl, refl)
-suits_active _ _ e some = cc
+    go : (v : Provider) → Suits (Some (An_active v b)) (record { states = issued; cancelled = n.cancelled }) (Some (issued_by v clock order a r))
+    go Own = (refl, still, refl)
+    go A_timer = (refl, still, refl)
+    go (Native m) = (refl, still, refl)
+suits_issued _ n clock order a _ e free s = cc
+
+suits_active : (k : Option ClassKind) (n : Known) (r : Option Request) → is_active_kind k ≡ true → in_phase is_issued r ≡ true → Suits k n r → Suits k (record { states = active; cancelled = n.cancelled }) (on_request waits r)
+suits_active (Some (An_active v b)) n (Some r) e made s = (refl, sym (issued_still r.phase made) ∙ s.1, refl)
+suits_active _ n _ e made s = cc
+
+suits_aborted : (k : Option ClassKind) (n : Known) (r : Option Request) → is_active_kind k ≡ true → in_phase is_cancelling r ≡ true → Suits k n r → Suits k (record { states = cancel_done; cancelled = n.cancelled }) (on_request aborted r)
+suits_aborted (Some (An_active v b)) n (Some r) e under s = (refl, sym under ∙ s.1, answered (int_eq r.status pending) refl)
+  where
+    answered : (b : Bool) → int_eq r.status pending ≡ b → int_eq (cond b cancelled_code r.status) pending ≡ false
+    answered true e = refl
+    answered false e = e
+suits_aborted _ n _ e under s = cc
 
 -- what is in each of two sets is in what they share
 has_common : (a b k : ℕ) → IsTrue (has a k) → IsTrue (has b k) → IsTrue (has (bit_and a b) k)
@@ -310,7 +288,7 @@ module _ (p : Image) (t : Typing) (main_none : (m : ℕ) → method_role p m ≡
     home : fr.home ≡ Inside object from
     kind : thing_kind p object.thing ≡ own_kind p fr.method
     lives : named s.cells object.name ≡ Some object
-    suits : Suits (own_kind p fr.method) sh.states (own_request s.cells fr.home)
+    suits : Suits (own_kind p fr.method) (known_at p fr sh.states (states_claim p object ls)) (own_request s.cells fr.home)
 
   abbrev own : Option Request
   own = own_request s.cells fr.home
@@ -320,16 +298,21 @@ module _ (p : Image) (t : Typing) (main_none : (m : ℕ) → method_role p m ≡
       let found = of_class p main_none fr at_hand.good.stack.1.holder listed in
       let o = found.0 in
       let holds : IsHoused p s.cells ls (Inside o found.1) = subst (λ h. IsHoused p s.cells ls h) found.2 at_hand.good.stack.2 in
-      let here = subst (λ h. Suits (thing_kind p o.thing) (cond (works_at o.name h) sh.states (states_claim p o ls)) (requested s.cells o.name)) found.2 (at_hand.good.suits o holds.lives) in
-      let known = subst (λ b. Suits (thing_kind p o.thing) (cond b sh.states (states_claim p o ls)) (requested s.cells o.name)) (eq-eqb o.name o.name refl) here in
+      let below : Known = states_claim p o ls in
+      let here = subst (λ h. Suits (thing_kind p o.thing) (cond (works_at o.name h) (known_at p fr sh.states below) below) (requested s.cells o.name)) found.2 (at_hand.good.suits o holds.lives) in
+      let known = subst (λ b. Suits (thing_kind p o.thing) (cond b (known_at p fr sh.states below) below) (requested s.cells o.name)) (eq-eqb o.name o.name refl) here in
       record {
         object = o;
         from = found.1;
         home = found.2;
         kind = found.3;
         lives = holds.lives;
-        suits = subst (λ k. Suits k sh.states own) found.3 (subst (λ h. Suits (thing_kind p o.thing) sh.states (own_request s.cells h)) (sym found.2) known);
+        suits = subst (λ k. Suits k (known_at p fr sh.states below) own) found.3 (subst (λ h. Suits (thing_kind p o.thing) (known_at p fr sh.states below) (own_request s.cells h)) (sym found.2) known);
       }
+
+  -- what is known of it, in these states
+  abbrev its : is_listed_kind (own_kind p fr.method) ≡ true → ℕ → Known
+  its listed states = known_at p fr states (states_claim p (of_object listed).object ls)
 
   active_home : is_active_kind (own_kind p fr.method) ≡ true → is_active_kind (home_kind p fr.home) ≡ true
   active_home a = let it = of_object (active_listed (own_kind p fr.method) a) in ap (λ h. is_active_kind (home_kind p h)) it.home ∙ ap is_active_kind it.kind ∙ a
@@ -349,23 +332,23 @@ module _ (p : Image) (t : Typing) (main_none : (m : ℕ) → method_role p m ≡
       go true e h = sym (ap (λ b. b && true) e) ∙ h
 
   -- it has that request, and is known to be in these states
-  asked : (listed : is_listed_kind (own_kind p fr.method) ≡ true) (states : ℕ) (r : Option Request) → Suits (own_kind p fr.method) states r → Fitted p t (rerequested s.cells fr.home r) fr (record sh { states = states }) ls
+  asked : (listed : is_listed_kind (own_kind p fr.method) ≡ true) (states : ℕ) (r : Option Request) → Suits (own_kind p fr.method) (its listed states) r → Fitted p t (rerequested s.cells fr.home r) fr (record sh { states = states }) ls
   asked listed states r suit =
       let it = of_object listed in
       let others : (m : ℕ) → (it.object.name == m) ≡ false → requested (rerequested s.cells fr.home r) m ≡ requested s.cells m = λ m other.
       subst (λ h. requested (rerequested s.cells h r) m ≡ requested s.cells m) (sym it.home) (requested_there s.cells it.object.name m r other) in
       let here : requested (rerequested s.cells fr.home r) it.object.name ≡ r = subst (λ h. requested (rerequested s.cells h r) it.object.name ≡ r) (sym it.home) (requested_here s.cells it.object.name r it.object it.lives) in
       restated p t s.cells (rerequested s.cells fr.home r) fr sh ls it.object it.from states it.home it.lives (rerequested_alike s.cells fr.home r) others (nowhere_fresh it)
-      (subst (λ k. Suits k states (requested (rerequested s.cells fr.home r) it.object.name)) (sym it.kind) (subst (λ x. Suits (own_kind p fr.method) states x) (sym here) suit))
+      (subst (λ k. Suits k (its listed states) (requested (rerequested s.cells fr.home r) it.object.name)) (sym it.kind) (subst (λ x. Suits (own_kind p fr.method) (its listed states) x) (sym here) suit))
       (fitted p t s.cells fr sh ls at_hand.good)
 
   -- it is known to be in fewer states
   learned : (listed : is_listed_kind (own_kind p fr.method) ≡ true) (states : ℕ) → IsTrue (has states (state_of own)) → Fitted p t s.cells fr (record sh { states = states }) ls
   learned listed states h =
       let it = of_object listed in
-      let suit = suits_within (own_kind p fr.method) sh.states states own listed h it.suits in
+      let suit = suits_within (own_kind p fr.method) states (its listed sh.states) own listed h it.suits in
       restated p t s.cells s.cells fr sh ls it.object it.from states it.home it.lives (alike_itself s.cells) (λ m other. refl) (nowhere_fresh it)
-      (subst (λ k. Suits k states (requested s.cells it.object.name)) (sym it.kind) (subst (λ h. Suits (own_kind p fr.method) states (own_request s.cells h)) it.home suit))
+      (subst (λ k. Suits k (its listed states) (requested s.cells it.object.name)) (sym it.kind) (subst (λ h. Suits (own_kind p fr.method) (its listed states) (own_request s.cells h)) it.home suit))
       (fitted p t s.cells fr sh ls at_hand.good)
 
   pub law_status : (a : ℕ) → Law p t c s fr sh ls at_hand (Status a)
@@ -373,7 +356,7 @@ module _ (p : Image) (t : Typing) (main_none : (m : ℕ) → method_role p m ≡
 
   -- it is in one of the states that are left of these
   within : (listed : is_listed_kind (own_kind p fr.method) ≡ true) (x : ℕ) → IsTrue (has x (state_of own)) → IsTrue (has (bit_and sh.states x) (state_of own))
-  within listed x h = has_common sh.states x (state_of own) (suits_in (own_kind p fr.method) sh.states own listed (of_object listed).suits) h
+  within listed x h = has_common sh.states x (state_of own) (suits_in (own_kind p fr.method) (its listed sh.states) own listed (of_object listed).suits) h
 
   pub some_left : (listed : is_listed_kind (own_kind p fr.method) ≡ true) (x : ℕ) → IsTrue (has x (state_of own)) → (bit_and sh.states x == 0) ≡ false
   some_left listed x h = not_empty_by (bit_and sh.states x) (state_of own) (within listed x h) (no_state_is_none own)
@@ -404,27 +387,32 @@ module _ (p : Image) (t : Typing) (main_none : (m : ℕ) → method_role p m ≡
   law_jump_added to n leads = ((listed_home n.0, tt), goes_by n.0 enlisted unlisted to (is_some own) (listed_in own) (unlisted_in own) leads)
 
   -- the object's request is another, and the method goes on
-  asks : (listed : is_listed_kind (own_kind p fr.method) ≡ true) (states : ℕ) (r : Option Request) → Suits (own_kind p fr.method) states r → Leads t fr.method (suc fr.place) (record sh { states = states }) → WellTyped p t (applied p fr (tasks_of ls) s (updates fr (Requested r)))
+  asks : (listed : is_listed_kind (own_kind p fr.method) ≡ true) (states : ℕ) (r : Option Request) → Suits (own_kind p fr.method) (its listed states) r → Leads t fr.method (suc fr.place) (record sh { states = states }) → WellTyped p t (applied p fr (tasks_of ls) s (updates fr (Requested r)))
   asks listed states r suit leads =
       let cs = rerequested s.cells fr.home r in
       let sh' : Shape = record sh { states = states } in
       well p t c s fr sh ls at_hand (applied p fr (tasks_of ls) s (updates fr (Requested r))) (next fr) sh' refl at_hand.items at_hand.undos (settle p t cs (next fr) sh' ls (stepped p t cs fr sh' ls (asked listed states r suit)) leads)
 
+  -- a state of the object that is one of these
+  in_state : (listed : is_listed_kind (own_kind p fr.method) ≡ true) (x : ℕ) → IsTrue (has x sh.states) → IsTrue (has x (state_of own))
+  in_state listed x h = has_along x sh.states (state_of own) h (suits_in (own_kind p fr.method) (its listed sh.states) own listed (of_object listed).suits)
+
   pub law_enlist : (priority : ℤ) → Law p t c s fr sh ls at_hand (Enlist priority)
   law_enlist priority n leads =
       let it = of_object n.0 in
-      let none = only_unlisted own (has_along unlisted sh.states (state_of own) n.1.0 (suits_in (own_kind p fr.method) sh.states own n.0 it.suits)) in
-      ((listed_home n.0, (ap is_none none, tt)), asks n.0 idle (Some (first_request s.cells priority)) (suits_idle (own_kind p fr.method) (first_request s.cells priority) n.0 refl) leads.0)
+      let none = only_unlisted own (in_state n.0 unlisted n.1.0) in
+      let suit = suits_enlisted (own_kind p fr.method) (its n.0 sh.states) s.cells priority n.0 (subst (λ r. Suits (own_kind p fr.method) (its n.0 sh.states) r) none it.suits) in
+      ((listed_home n.0, (ap is_none none, tt)), asks n.0 idle (Some (first_request s.cells priority)) suit leads.0)
 
   pub law_issue : (a b : ℕ) → Law p t c s fr sh ls at_hand (Issue a b)
   law_issue a b n leads =
       let active = n.1.1.0 in
       let listed = active_listed (own_kind p fr.method) active in
       let it = of_object listed in
-      let free = only_idle own (has_along idle sh.states (state_of own) n.1.1.1.1.0 (suits_in (own_kind p fr.method) sh.states own listed it.suits)) in
+      let free = only_idle own (in_state listed idle n.1.1.1.1.0) in
       let code = read fr (tasks_of ls) s a in
       let order = next_timer s.cells in
-      let suit = subst (λ k. Suits (own_kind p fr.method) issued (on_request (issued_of k s.rest.clock order code) own)) (sym (home_is_own listed)) (suits_issued (own_kind p fr.method) s.rest.clock order code own active free.0) in (
+      let suit = subst (λ k. Suits (own_kind p fr.method) (its listed issued) (on_request (issued_of k s.rest.clock order code) own)) (sym (home_is_own listed)) (suits_issued (own_kind p fr.method) (its listed sh.states) s.rest.clock order code own active free.1 it.suits) in (
         (has_word p t c s fr sh ls at_hand a n.0, (has_word p t c s fr sh ls at_hand b n.1.0, (active_home active, (free.0, (free.1, tt))))),
         asks listed issued (on_request (issued_of (home_kind p fr.home) s.rest.clock order code) own) suit leads.0,
       )
@@ -433,12 +421,12 @@ module _ (p : Image) (t : Typing) (main_none : (m : ℕ) → method_role p m ≡
   law_set_active n leads =
       let listed = active_listed (own_kind p fr.method) n.0 in
       let it = of_object listed in
-      let made = only_issued own (has_along issued sh.states (state_of own) n.1.0 (suits_in (own_kind p fr.method) sh.states own listed it.suits)) in
-      ((active_home n.0, (made.0, (made.1, (made.2, tt)))), asks listed active (on_request waits own) (suits_active (own_kind p fr.method) own n.0 made.0) leads.0)
+      let made = only_issued own (in_state listed issued n.1.0) in
+      ((active_home n.0, (made.0, (made.1, (made.2, tt)))), asks listed active (on_request waits own) (suits_active (own_kind p fr.method) (its listed sh.states) own n.0 made.2 it.suits) leads.0)
 
   pub law_abort : Law p t c s fr sh ls at_hand Abort
   law_abort n leads =
       let listed = active_listed (own_kind p fr.method) n.0 in
       let it = of_object listed in
-      let within = has_along (bit_or cancel_open cancel_done) sh.states (state_of own) n.1.0 (suits_in (own_kind p fr.method) sh.states own listed it.suits) in
-      absurd (none_cancelled own within (uncancelled_of (own_kind p fr.method) sh.states own n.0 it.suits))
+      let under = only_cancelled own (in_state listed (bit_or cancel_open cancel_done) n.1.0) in
+      ((active_home n.0, (under, tt)), asks listed cancel_done (on_request aborted own) (suits_aborted (own_kind p fr.method) (its listed sh.states) own n.0 under it.suits) leads.0)

@@ -8,6 +8,7 @@ use Rattle.aom_sound.specs.Effects.{Course, Effect, Goes_its_way, Goes_on, Retur
 use Rattle.aom_sound.specs.Moves.{counted, dispatch_ends}
 use Rattle.aom_sound.specs.State.{Choice, Destroy, Dispatch, Dispatched, Frame, Rest, Run, State, Task, Trapped, Unwind}
 use Rattle.aom_sound.specs.Steps.{Acts, Arrives, Clears, Comes_out, Ends, Move, Rests, Undoes, Vanishes}
+use Rattle.aom_sound.specs.Enlisted.{ended_cells}
 
 -- the rest after a move takes a course
 abbrev pub Takes : Image → State → State → Type 0
@@ -18,7 +19,7 @@ abbrev pub IsEnd : Image → State → State → Type 0
 IsEnd p s u = (d : Dispatch) × (ts : List Task) × (s.tasks ≡ Dispatched d ∷ ts) × (u ≡ dispatch_ends p d (counted p s))
 
 module _ (p : Image) (fr : Frame) (ts : List Task) (s : State) where
-  returned_rest : (g : Gives) (a : ℕ) (below : List Task) → (returned p fr ts s g a below).rest ≡ s.rest
+  returned_rest : (g : Gives) (a : ℕ) (below : List Task) → (returned p fr ts (record s { cells = ended_cells p fr s.cells }) g a below).rest ≡ s.rest
   returned_rest g a (Run caller ∷ below) = refl
   returned_rest g a (Trapped ∷ Run caller ∷ below) = refl
   returned_rest g a (Trapped ∷ Dispatched d ∷ below) = refl

@@ -1,9 +1,9 @@
 -- A method returns to the one that called it.
-use Rattle.std.proofs.Common.{Bool, List, None, Option, Some, [], ap, arith, cond, false, length, pos, refl, subst, suc, sym, true, ℕ, ℤ, ◌<◌, ◌==◌, ◌∙◌, ◌∷◌, ◌≡◌}
+use Rattle.std.proofs.Common.{Bool, IsTrue, List, None, Option, Some, [], ap, arith, cond, false, length, pos, refl, subst, suc, sym, true, ℕ, ℤ, ◌<◌, ◌==◌, ◌∙◌, ◌∷◌, ◌≡◌}
 use Rattle.std.proofs.lemmas.Bool.{ne_eqb}
 use Rattle.std.specs.Prelude.{is_none, is_some}
 use Rattle.aom_image.specs.Image.{Image}
-use Rattle.aom_image.specs.Views.{gives_of, instr_at}
+use Rattle.aom_image.specs.Views.{gives_of, has, instr_at, method_role}
 use Rattle.aom_instructions.specs.declared.instr.Instr.TheVariants.{Return}
 use Rattle.aom_image.specs.declared.method.Gives.{Gives}
 use Rattle.aom_image.specs.declared.method.Gives.TheVariants.{Left, Maybe as A_maybe, Nothing, Own as An_own, Word as A_word}
@@ -21,27 +21,34 @@ use Rattle.aom_shape.specs.declared.kind.Entry.TheVariants.{Object as Pushed_obj
 use Rattle.aom_shape.specs.declared.kind.Kind.{Kind}
 use Rattle.aom_shape.specs.declared.kind.Kind.TheVariants.{Maybe, Null, Own, Unset, Word}
 use Rattle.aom_sound.proofs.Claimed.{OwnsNoMore, claim-set_register, claim_frame, claim_push, claim_register_above, claim_weaker, declared_moved, fits_weaker, keep_fits, mark_claims, stack_moved, word_fits_weaker}
-use Rattle.aom_sound.proofs.Finishing.{Returnable, ended, left_alone, left_held, none_left, return_needs, returnable, same_items}
+use Rattle.aom_sound.proofs.Finishing.{Returnable, ended, ended_plainly, left_alone, left_held, none_left, return_needs, returnable, same_items}
 use Rattle.aom_sound.proofs.Items.{forms_below, mark_on_top, undos_below}
 use Rattle.aom_sound.proofs.Maps.{at-put_at, held_moved, requested_moved, same_place-true, same_place_refl, tidy_moved}
 use Rattle.aom_sound.proofs.Straight.{At, Fitted, Law, claim_register, fits_unowning, housed_relocated, next_unowning, no_word_fits, register_fits, settle, stepped, top, word_of_object, words_set, write, may_be_object}
 use Rattle.aom_sound.proofs.Things.{stands_same}
-use Rattle.aom_sound.specs.Calls.{below_top, received, result_cells, result_needs, result_register}
+use Rattle.aom_sound.specs.Calls.{below_top, received, result_cells, result_needs, result_register, returned}
 use Rattle.aom_sound.specs.Claims.{Dispatching, Layer, Mark, Mark_form, Method, Unwinding, claim, declared, forms, items_of, objects, tasks_of}
 use Rattle.aom_sound.specs.Objects.{is_thing}
 use Rattle.aom_sound.specs.Places.{Cell, Entry, Object, Place, Sight, changed, held, moved, requested, same_place, seen}
 use Rattle.aom_sound.specs.State.{Choice, Dispatch, Frame, Inside, Main_left, Of_main, Of_root, Run, State, next, set_word, word}
 use Rattle.aom_sound.specs.WellTyped.{Awaits, Back, Caught, EndsDispatch, EndsWell, Fits, IsApart, LeavesNone, Now, Returns, Stack, WellTyped, WordFits, past_going}
-use Rattle.aom_sound.proofs.Suiting.{all_moved, all_returned, rejoins_caller, rejoins_trap, rests_there, suits_rests}
-use Rattle.aom_sound.specs.Requests.{AllSuit, thing_kind}
+use Rattle.aom_sound.proofs.Suiting.{all_moved, all_returned, known_plain, known_resting, rejoins_caller, rejoins_trap, rests_there, suits_rests}
+use Rattle.aom_sound.specs.Requests.{AllSuit, Suits, states_claim, thing_kind}
 use Rattle.aom_shape.specs.Arguments.{after_of}
+use Rattle.aom_sound.proofs.Cancelled.{cancel_fitted, cells_then, role_cancels}
+use Rattle.aom_sound.proofs.Leaving.{known_loud, none_cancels}
+use Rattle.aom_rules.specs.Requests.{is_cancel}
+use Rattle.aom_roles.specs.States.{idle}
+use Rattle.aom_sound.specs.Moves.{does, needs}
+use Rattle.aom_sound.specs.Laws.{IsWired}
+use Rattle.aom_sound.specs.Enlisted.{ended_cells}
 
 loosen : (p : Image) (t : Typing) (cs : List Cell) (fr : Frame) (sh : Shape) (ls : List Layer) (c : ℕ) (k v : Kind) → Weaker v k → Fitted p t cs fr (set_register sh c k) ls → Fitted p t cs fr (set_register sh c v) ls
 loosen p t cs fr sh ls c k v w g = record {
   fits = λ r. fits_weaker p (seen cs) (held cs r) (claim_weaker p (declared p cs) fr (set_register sh c v) (set_register sh c k) ls r says) (g.fits r);
   suits = g.suits;
   tidy = g.tidy;
-  frames = record { words = λ i. word_fits_weaker (word fr i) (says.registers i) (g.frames.words i); holder = g.frames.holder; height = g.frames.height };
+  frames = record { words = λ i. word_fits_weaker (word fr i) (says.registers i) (g.frames.words i); holder = g.frames.holder; height = g.frames.height; alone = g.frames.alone };
   housed = g.housed;
   apart = g.apart;
   stack = g.stack;
@@ -83,7 +90,7 @@ module _ (p : Image) (t : Typing) (c : Choice) (s : State) (fr fr2 : Frame) (sh 
     fits = λ r. subst (λ k. Fits p (seen s.cells) (held s.cells r) k) (sym (claim_push p (declared p s.cells) fr2 sh2 ls entry r)) (go r (same_place spot r) refl);
     suits = suits;
     tidy = at_hand.good.tidy;
-    frames = record { words = caller.1.words; holder = caller.1.holder; height = caller.1.height };
+    frames = record { words = caller.1.words; holder = caller.1.holder; height = caller.1.height; alone = caller.1.alone };
     housed = caller.2;
     apart = caller.3;
     stack = caller.4;
@@ -121,7 +128,7 @@ module _ (p : Image) (t : Typing) (c : Choice) (s : State) (fr fr2 : Frame) (sh 
             (keep_fits p h (seen cs') (changed (claim p d (Method fr2 sh2 ∷ ls)) q k) (claim p d (Method fr2 (set_register sh2 x k) ∷ ls)) q to (λ r. held_moved cs q to r free) (requested_moved cs q to) same (λ r x e k f. refl) fits_aside r));
         suits = all_moved p cs q to (Method fr2 sh2 ∷ ls) suits;
         tidy = tidy_moved cs q to free g.tidy;
-        frames = record { words = words_set fr2.words sh2 x None k caller.1.words (no_word_fits k obj); holder = caller.1.holder; height = caller.1.height };
+        frames = record { words = words_set fr2.words sh2 x None k caller.1.words (no_word_fits k obj); holder = caller.1.holder; height = caller.1.height; alone = caller.1.alone };
         housed = housed_relocated p cs q to ls fr2.home free (omega arith) (omega arith) (λ o from e. (tt, tt)) caller.2;
         apart = caller.3;
         stack = stack_moved p t cs q to ls (Returns fr2.method fr2.home) free (omega arith) (omega arith) caller.4;
@@ -198,24 +205,22 @@ module _ (p : Image) (s : State) where
   pub object_of : (x : Thing) (k : Kind) → may_be p x k ≡ true → is_object_or_null k ≡ true
   object_of x k e = may_be_object p x k e
 
-module _ (p : Image) (t : Typing) (c : Choice) (s : State) (fr fr2 : Frame) (sh sh2 : Shape) (ls : List Layer) (at_hand : At p t s fr sh (Method fr2 sh2 ∷ ls)) where
+module _ (p : Image) (t : Typing) (wired : IsWired p) (c : Choice) (s : State) (fr fr2 : Frame) (sh sh2 : Shape) (ls : List Layer) (at_hand : At p t s fr sh (Method fr2 sh2 ∷ ls)) where
   abbrev pub below : List Layer
   below = Method fr2 sh2 ∷ ls
 
   pub law_return : (a : ℕ) → Law p t c s fr sh (Method fr2 sh2 ∷ ls) at_hand (Return a)
-  law_return a n leads =
-      let r = returnable p fr sh a n in
-      let w = go (gives_of p fr.method) r.result r.entries r.free at_hand.good.stack.4.0.1 at_hand.good.stack.4.0.2 in
-      (return_needs p t c s fr sh below at_hand a r w.0 tt, w.1)
+  law_return a n leads = by_role (is_cancel (method_role p fr.method)) refl
     where
       ended_so : Returnable p fr sh a
       ended_so = returnable p fr sh a n
 
-      suits : AllSuit p s.cells (Method fr2 sh2 ∷ ls)
-      suits = all_returned p t s.cells fr sh below at_hand.good.suits at_hand.good.stack.2 (λ o from e h.
+      suits : is_cancel (method_role p fr.method) ≡ false → AllSuit p s.cells (Method fr2 sh2 ∷ ls)
+      suits still = all_returned p s.cells s.cells fr sh below at_hand.good.suits at_hand.good.stack.2 (λ n. refl) (λ n off. refl) (λ o from e h.
           let apart : IsApart p (Inside o from) below = subst (λ h. IsApart p h below) e at_hand.good.stack.3 in
           let well : EndsWell p fr.method (Inside o from) fr2 sh2 = subst (λ h. EndsWell p fr.method h fr2 sh2) e at_hand.good.stack.4.0.3 in
-          rejoins_caller p o fr2 sh2 sh ls (after_of p fr.method) (requested s.cells o.name) apart.3 well ended_so.ends ended_so.settled h)
+          rejoins_caller p o fr2 sh2 sh.states ls (after_of p fr.method) (requested s.cells o.name) apart.3 (λ w. subst (λ n. IsTrue (has sh2.states n)) (ap (λ b. cond b idle (after_of p fr.method)) still) (well w)) ended_so.ends ended_so.settled
+          (subst (λ k. Suits (thing_kind p o.thing) k (requested s.cells o.name)) (known_plain p fr sh.states (states_claim p o below) still) h))
 
       x : ℕ
       x = result_register (instr_at p fr2.method fr2.place)
@@ -231,26 +236,46 @@ module _ (p : Image) (t : Typing) (c : Choice) (s : State) (fr fr2 : Frame) (sh 
       Goal : Gives → Type 0
       Goal g = AllTrue (result_needs p fr (tasks_of below) s g a) × WellTyped p t (record s { cells = result_cells p fr (tasks_of below) s g a x (tasks_of ls); tasks = Run (next (received p fr (tasks_of below) s g a x fr2)) ∷ tasks_of ls })
 
-      go : (g : Gives) → AllTrue (rule_result p fr.method fr.place sh g a) → entries_done p g sh.entries ≡ true → none_owns (result_moved p fr.method fr.place sh g a).registers ≡ true → Awaits g x sh2 → Leads t fr2.method (suc fr2.place) (brought g x sh2) → Goal g
-      go Nothing r e n w leads = (tt, finish s.cells fr2 sh2 refl refl (items e) (plain p t c s fr fr2 sh sh2 ls below at_hand (Returns fr.method fr.home) at_hand.good.stack.4 (λ d r. refl) (omega arith) refl suits e n) leads)
-      go A_word r e n w leads =
+      go : is_cancel (method_role p fr.method) ≡ false → (g : Gives) → AllTrue (rule_result p fr.method fr.place sh g a) → entries_done p g sh.entries ≡ true → none_owns (result_moved p fr.method fr.place sh g a).registers ≡ true → Awaits g x sh2 → Leads t fr2.method (suc fr2.place) (brought g x sh2) → Goal g
+      go still Nothing r e n w leads = (tt, finish s.cells fr2 sh2 refl refl (items e) (plain p t c s fr fr2 sh sh2 ls below at_hand (Returns fr.method fr.home) at_hand.good.stack.4 (λ d r. refl) (omega arith) refl (suits still) e n) leads)
+      go still A_word r e n w leads =
           let i = word_is p s (word fr a) (register sh a) r.0 (at_hand.good.stack.1.words a) in
-          ((i.0, tt), finish s.cells (set_word fr2 x (word fr a)) (set_register sh2 x Word) refl refl (items e) (write p t s.cells fr2 sh2 ls x (word fr a) Word (plain p t c s fr fr2 sh sh2 ls below at_hand (Returns fr.method fr.home) at_hand.good.stack.4 (λ d r. refl) (omega arith) refl suits e n) w (λ h. tt) i.1) leads)
-      go (An_own y) r e n w leads =
+          ((i.0, tt), finish s.cells (set_word fr2 x (word fr a)) (set_register sh2 x Word) refl refl (items e) (write p t s.cells fr2 sh2 ls x (word fr a) Word (plain p t c s fr fr2 sh sh2 ls below at_hand (Returns fr.method fr.home) at_hand.good.stack.4 (λ d r. refl) (omega arith) refl (suits still) e n) w (λ h. tt) i.1) leads)
+      go still (An_own y) r e n w leads =
           let k = may_own p s y (register sh a) r.0 r.1.0 in
-          let f = carried p t c s fr fr2 sh sh2 ls below at_hand (Returns fr.method fr.home) at_hand.good.stack.4 (λ d r. refl) (omega arith) refl suits a x e n w (ap is_object_or_null k) in
+          let f = carried p t c s fr fr2 sh sh2 ls below at_hand (Returns fr.method fr.home) at_hand.good.stack.4 (λ d r. refl) (omega arith) refl (suits still) a x e n w (ap is_object_or_null k) in
           let h = held_thing p s y (held s.cells (top below a)) (subst (λ k. Fits p (seen s.cells) (held s.cells (top below a)) k) k (register_fits p s.cells fr sh below at_hand.good.fits a)) in
           ((ap is_none (word_of_object (word fr a) (register sh a) (ap is_object_or_null k) (at_hand.good.stack.1.words a)), (h.0, (h.1, tt))), finish (moved (top below a) (top ls x) s.cells) (set_word fr2 x None) (set_register sh2 x (Own y Ready)) refl refl (items e) (subst (λ k. Fitted p t (moved (top below a) (top ls x) s.cells) (set_word fr2 x None) (set_register sh2 x k) ls) k f) leads)
-      go (A_maybe y) r e n w leads =
+      go still (A_maybe y) r e n w leads =
           let obj : is_object_or_null (register sh a) ≡ true = object_of p s y (register sh a) r.0 in
-          let f = carried p t c s fr fr2 sh sh2 ls below at_hand (Returns fr.method fr.home) at_hand.good.stack.4 (λ d r. refl) (omega arith) refl suits a x e n w obj in
+          let f = carried p t c s fr fr2 sh sh2 ls below at_hand (Returns fr.method fr.home) at_hand.good.stack.4 (λ d r. refl) (omega arith) refl (suits still) a x e n w obj in
           let weak = may_hold p s y (register sh a) r.0 r.1.0 in
           let h = held_maybe p s y (held s.cells (top below a)) (fits_weaker p (seen s.cells) (held s.cells (top below a)) weak (register_fits p s.cells fr sh below at_hand.good.fits a)) in
           ((ap is_none (word_of_object (word fr a) (register sh a) obj (at_hand.good.stack.1.words a)), (h, tt)), finish (moved (top below a) (top ls x) s.cells) (set_word fr2 x None) (set_register sh2 x (Maybe y Ready)) refl refl (items e) (loosen p t (moved (top below a) (top ls x) s.cells) (set_word fr2 x None) sh2 ls x (register sh a) (Maybe y Ready) weak f) leads)
-      go (Left y) r e n w leads = (tt, finish s.cells fr2 (with_entry (Pushed_object y Ready) sh2) refl refl (at_hand.items ∙ ap (λ es. objects es (items_of below)) (left_alone p y sh.entries e)) (pushed p t c s fr fr2 sh sh2 ls below at_hand (Returns fr.method fr.home) at_hand.good.stack.4 (λ d r. refl) (omega arith) refl suits y refl e n) leads)
+      go still (Left y) r e n w leads = (tt, finish s.cells fr2 (with_entry (Pushed_object y Ready) sh2) refl refl (at_hand.items ∙ ap (λ es. objects es (items_of below)) (left_alone p y sh.entries e)) (pushed p t c s fr fr2 sh sh2 ls below at_hand (Returns fr.method fr.home) at_hand.good.stack.4 (λ d r. refl) (omega arith) refl (suits still) y refl e n) leads)
+
+      -- one that cancels gives nothing
+      cancel_keeps : is_cancel (method_role p fr.method) ≡ true → AllTrue (needs p c fr (tasks_of below) s (Return a)) × WellTyped p t (does p c fr (tasks_of below) s (Return a))
+      cancel_keeps cancels =
+          let nothing = (wired.cancels fr.method (role_cancels (method_role p fr.method) cancels)).1 in
+          let entries = none_left p fr sh a nothing ended_so in
+          let free : none_owns sh.registers ≡ true = ap (λ g. none_owns (result_moved p fr.method fr.place sh g a).registers) (sym nothing) ∙ ended_so.free in
+          let leads : Leads t fr2.method (suc fr2.place) sh2 = subst (λ g. Leads t fr2.method (suc fr2.place) (brought g x sh2)) nothing at_hand.good.stack.4.0.2 in
+          let then = cells_then p t c s fr fr2 sh sh2 ls at_hand a ended_so cancels in
+          let fitted = cancel_fitted p t c s fr fr2 sh sh2 ls at_hand a ended_so cancels entries free in (
+            return_needs p t c s fr sh below at_hand a ended_so (subst (λ g. AllTrue (result_needs p fr (tasks_of below) s g a)) (sym nothing) tt) tt,
+            subst (λ g. WellTyped p t (returned p fr (tasks_of below) (record s { cells = ended_cells p fr s.cells }) g a (tasks_of below))) (sym nothing)
+                (subst (λ b. WellTyped p t (record s { cells = cond b then s.cells; tasks = Run (next fr2) ∷ tasks_of ls })) (sym cancels) (finish then fr2 sh2 refl refl (items entries) fitted leads)),
+          )
+
+      by_role : (b : Bool) → is_cancel (method_role p fr.method) ≡ b → AllTrue (needs p c fr (tasks_of below) s (Return a)) × WellTyped p t (does p c fr (tasks_of below) s (Return a))
+      by_role true cancels = cancel_keeps cancels
+      by_role false still =
+          let w = go still (gives_of p fr.method) ended_so.result ended_so.entries ended_so.free at_hand.good.stack.4.0.1 at_hand.good.stack.4.0.2 in
+          (return_needs p t c s fr sh below at_hand a ended_so w.0 tt, ended_plainly p t c s fr sh below at_hand a ended_so still w.1)
 
 -- the same through a trap: an object is maybe there, and the code is 0
-module _ (p : Image) (t : Typing) (c : Choice) (s : State) (fr fr2 : Frame) (sh sh2 : Shape) (gv : Gives) (ls : List Layer) (at_hand : At p t s fr sh (Mark gv ∷ Method fr2 sh2 ∷ ls)) where
+module _ (p : Image) (t : Typing) (wired : IsWired p) (c : Choice) (s : State) (fr fr2 : Frame) (sh sh2 : Shape) (gv : Gives) (ls : List Layer) (at_hand : At p t s fr sh (Mark gv ∷ Method fr2 sh2 ∷ ls)) where
   abbrev pub marked : List Layer
   marked = Mark gv ∷ Method fr2 sh2 ∷ ls
 
@@ -261,7 +286,7 @@ module _ (p : Image) (t : Typing) (c : Choice) (s : State) (fr fr2 : Frame) (sh 
       let r = returnable p fr sh a n in
       let w = go (gives_of p fr.method) (subst (λ g. LeavesNone g) (sym e) catches.1) r.result r.entries r.free caller.0.1 (subst (λ g. Awaits g x sh2) (sym e) caller.0.2) (subst (λ g. Leads t fr2.method (suc fr2.place) (caught g x sh2)) (sym e) caller.0.3) in
       let mark = mark_on_top s.items _ (same_items p t c s fr sh marked at_hand (entries_none (gives_of p fr.method) (subst (λ g. LeavesNone g) (sym e) catches.1) r.entries)) in
-      (return_needs p t c s fr sh marked at_hand a r w.0 (mark, tt), w.1)
+      (return_needs p t c s fr sh marked at_hand a r w.0 (mark, tt), ended_plainly p t c s fr sh marked at_hand a r catches.2 w.1)
     where
       -- what leaves no object has dealt with all its entries
       entries_none : (g : Gives) → LeavesNone g → entries_done p g sh.entries ≡ true → no_entry sh.entries ≡ true
@@ -278,9 +303,11 @@ module _ (p : Image) (t : Typing) (c : Choice) (s : State) (fr fr2 : Frame) (sh 
       caller = at_hand.good.stack.4.1
 
       suits : AllSuit p s.cells (Method fr2 sh2 ∷ ls)
-      suits = all_returned p t s.cells fr sh marked at_hand.good.suits at_hand.good.stack.2 (λ o from e h.
+      suits = all_returned p s.cells s.cells fr sh marked at_hand.good.suits at_hand.good.stack.2 (λ n. refl) (λ n off. refl) (λ o from e h.
           let apart : IsApart p (Inside o from) marked = subst (λ h. IsApart p h marked) e at_hand.good.stack.3 in
-          rejoins_trap p o gv fr2 sh2 ls (requested s.cells o.name) apart.3 (suits_rests (thing_kind p o.thing) sh.states (requested s.cells o.name) (returnable p fr sh a n).settled h))
+          let none = known_loud p t wired s.cells o fr2 sh2 ls caller.0.4 (none_cancels p t wired s.cells o ls fr2.method fr2.home caller.0.4 caller.4) in
+          let known = known_plain p fr sh.states (states_claim p o marked) at_hand.good.stack.4.0.2 ∙ ap (λ (b : Bool). record { states = sh.states; cancelled = b }) none in
+          rejoins_trap p o gv fr2 sh2 ls sh.states (requested s.cells o.name) apart.3 (returnable p fr sh a n).settled none (subst (λ k. Suits (thing_kind p o.thing) k (requested s.cells o.name)) known h))
 
       items : no_entry sh.entries ≡ true → forms (below_top s.items) ≡ objects sh2.entries (items_of ls)
       items e = forms_below s.items Mark_form _ (same_items p t c s fr sh marked at_hand e)
@@ -344,7 +371,7 @@ module _ (p : Image) (t : Typing) (c : Choice) (s : State) (fr : Frame) (sh : Sh
       let entries : no_entry sh.entries ≡ true = none_left p fr sh a nothing r in
       let free : none_owns sh.registers ≡ true = ap (λ g. none_owns (result_moved p fr.method fr.place sh g a).registers) (sym nothing) ∙ r.free in (
         return_needs p t c s fr sh dispatched at_hand a r (subst (λ g. AllTrue (result_needs p fr (tasks_of dispatched) s g a)) (sym nothing) tt) (mark_on_top s.items _ (same_items p t c s fr sh dispatched at_hand entries), tt),
-        record {
+        ended_plainly p t c s fr sh dispatched at_hand a r at_hand.good.stack.4.0.2 (record {
           layers = Dispatching w ∷ ls;
           tasks = refl;
           items = forms_below s.items Mark_form _ (same_items p t c s fr sh dispatched at_hand entries);
@@ -352,12 +379,12 @@ module _ (p : Image) (t : Typing) (c : Choice) (s : State) (fr : Frame) (sh : Sh
           good = record {
             stack = (ends w, below.1);
             fits = λ q. subst (λ k. Fits p (seen s.cells) (held s.cells q) k) (mark_claims p (declared p s.cells) gv (Dispatching w ∷ ls) q) (ended p s.cells fr sh dispatched at_hand.good.stack.2 at_hand.good.stack.3 refl entries free q (seen s.cells) (held s.cells q) (at_hand.good.fits q));
-            suits = all_returned p t s.cells fr sh dispatched at_hand.good.suits at_hand.good.stack.2 (λ o from e h.
+            suits = all_returned p s.cells s.cells fr sh dispatched at_hand.good.suits at_hand.good.stack.2 (λ n. refl) (λ n off. refl) (λ o from e h.
                 let apart : IsApart p (Inside o from) dispatched = subst (λ h. IsApart p h dispatched) e at_hand.good.stack.3 in
-                rests_there p o dispatched (requested s.cells o.name) apart.3 (suits_rests (thing_kind p o.thing) sh.states (requested s.cells o.name) r.settled h));
+                rests_there p o dispatched (requested s.cells o.name) apart.3 (suits_rests (thing_kind p o.thing) sh.states (requested s.cells o.name) r.settled (subst (λ k. Suits (thing_kind p o.thing) k (requested s.cells o.name)) (known_resting p o fr sh.states dispatched at_hand.good.stack.4.0.2 apart.3) h)));
             tidy = at_hand.good.tidy;
           };
-        },
+        }),
       )
 
 -- over an unwinding an operation is over
@@ -370,7 +397,7 @@ module _ (p : Image) (t : Typing) (c : Choice) (s : State) (fr : Frame) (sh : Sh
       let entries : no_entry sh.entries ≡ true = none_left p fr sh a nothing r in
       let free : none_owns sh.registers ≡ true = ap (λ g. none_owns (result_moved p fr.method fr.place sh g a).registers) (sym nothing) ∙ r.free in (
         return_needs p t c s fr sh below at_hand a r (subst (λ g. AllTrue (result_needs p fr (tasks_of below) s g a)) (sym nothing) tt) tt,
-        record {
+        ended_plainly p t c s fr sh below at_hand a r at_hand.good.stack.4.0.2 (record {
           layers = Unwinding code es ∷ ls;
           tasks = refl;
           items = same_items p t c s fr sh below at_hand entries;
@@ -378,10 +405,10 @@ module _ (p : Image) (t : Typing) (c : Choice) (s : State) (fr : Frame) (sh : Sh
           good = record {
             stack = (tt, at_hand.good.stack.4.1);
             fits = λ q. ended p s.cells fr sh below at_hand.good.stack.2 at_hand.good.stack.3 refl entries free q (seen s.cells) (held s.cells q) (at_hand.good.fits q);
-            suits = all_returned p t s.cells fr sh below at_hand.good.suits at_hand.good.stack.2 (λ o from e h.
+            suits = all_returned p s.cells s.cells fr sh below at_hand.good.suits at_hand.good.stack.2 (λ n. refl) (λ n off. refl) (λ o from e h.
                 let apart : IsApart p (Inside o from) below = subst (λ h. IsApart p h below) e at_hand.good.stack.3 in
-                rests_there p o below (requested s.cells o.name) apart.3 (suits_rests (thing_kind p o.thing) sh.states (requested s.cells o.name) r.settled h));
+                rests_there p o below (requested s.cells o.name) apart.3 (suits_rests (thing_kind p o.thing) sh.states (requested s.cells o.name) r.settled (subst (λ k. Suits (thing_kind p o.thing) k (requested s.cells o.name)) (known_resting p o fr sh.states below at_hand.good.stack.4.0.2 apart.3) h)));
             tidy = at_hand.good.tidy;
           };
-        },
+        }),
       )

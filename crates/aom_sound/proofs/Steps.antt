@@ -70,14 +70,14 @@ module _ (p : Image) (t : Typing) (wired : IsWired p) (typed : IsTyped p t) (c :
   law (Call target m first x) here back = law_call p t wired typed c s fr sh ls at_hand target m first x here
   law (Return a) here back = back a
   law (Trap target m first x) here back = law_trap p t wired typed c s fr sh ls at_hand target m first x here
-  law (NewOrLeave a x) here back = law_new_or_leave p t c s fr sh ls at_hand a x unused
-  law (Push a) here back = law_push p t c s fr sh ls at_hand a
+  law (NewOrLeave a x) here back = law_new_or_leave p t c s fr sh ls at_hand wired a x unused
+  law (Push a) here back = law_push p t c s fr sh ls at_hand wired a
   law (PushOperation a m) here back = law_push_operation p t c s fr sh ls at_hand wired a m here
   law (Pop a) here back = law_pop p t c s fr sh ls at_hand a
   law PopOperation here back = law_pop_operation p t c s fr sh ls at_hand
   law PopDelete here back = law_pop_delete p t c s fr sh ls at_hand wired typed
-  law (Leave a) here back = law_leave p t c s fr sh ls at_hand a
-  law (LeaveIf a) here back = law_leave_if p t c s fr sh ls at_hand a
+  law (Leave a) here back = law_leave p t wired c s fr sh ls at_hand a
+  law (LeaveIf a) here back = law_leave_if p t wired c s fr sh ls at_hand a
   law Stop here back = law_stop
   law (JumpActive to) here back = law_jump_active p t (main_of_none p wired) c s fr sh ls at_hand to
   law (JumpAdded to) here back = law_jump_added p t (main_of_none p wired) c s fr sh ls at_hand to
@@ -89,21 +89,21 @@ module _ (p : Image) (t : Typing) (wired : IsWired p) (typed : IsTyped p t) (c :
   law _ here back = λ n l. cc
 
 -- a method returns to what stands below it
-returns : (p : Image) (t : Typing) (c : Choice) (s : State) (fr : Frame) (sh : Shape) (ls : List Layer) (at_hand : At p t s fr sh ls) (a : ℕ) → Law p t c s fr sh ls at_hand (Return a)
-returns p t c s fr sh [] h a = let clash : Returns fr.method fr.home ≡ Now = h.good.stack.4 in cc
-returns p t c s fr sh (Method fr2 sh2 ∷ ls) h a = law_return p t c s fr fr2 sh sh2 ls h a
-returns p t c s fr sh (Dying o ∷ ls) h a = law_destructor p t c s fr sh o ls h a
-returns p t c s fr sh (Unwinding code es ∷ ls) h a = law_return_unwound p t c s fr sh code es ls h a
-returns p t c s fr sh (Mark gv ∷ []) h a = let clash : Caught gv ≡ Now = h.good.stack.4.1 in cc
-returns p t c s fr sh (Mark gv ∷ Method fr2 sh2 ∷ ls) h a = law_return_caught p t c s fr fr2 sh sh2 gv ls h a
-returns p t c s fr sh (Mark gv ∷ Dispatching w ∷ ls) h a = law_return_dispatch p t c s fr sh gv w ls h a
-returns p t c s fr sh _ h a = absurd (grind (arith, h.good.stack.4))
+returns : (p : Image) (t : Typing) → IsWired p → (c : Choice) (s : State) (fr : Frame) (sh : Shape) (ls : List Layer) (at_hand : At p t s fr sh ls) (a : ℕ) → Law p t c s fr sh ls at_hand (Return a)
+returns p t wired c s fr sh [] h a = let clash : Returns fr.method fr.home ≡ Now = h.good.stack.4 in cc
+returns p t wired c s fr sh (Method fr2 sh2 ∷ ls) h a = law_return p t wired c s fr fr2 sh sh2 ls h a
+returns p t wired c s fr sh (Dying o ∷ ls) h a = law_destructor p t c s fr sh o ls h a
+returns p t wired c s fr sh (Unwinding code es ∷ ls) h a = law_return_unwound p t c s fr sh code es ls h a
+returns p t wired c s fr sh (Mark gv ∷ []) h a = let clash : Caught gv ≡ Now = h.good.stack.4.1 in cc
+returns p t wired c s fr sh (Mark gv ∷ Method fr2 sh2 ∷ ls) h a = law_return_caught p t wired c s fr fr2 sh sh2 gv ls h a
+returns p t wired c s fr sh (Mark gv ∷ Dispatching w ∷ ls) h a = law_return_dispatch p t c s fr sh gv w ls h a
+returns p t wired c s fr sh _ h a = absurd (grind (arith, h.good.stack.4))
 
 -- an instruction of a well-typed state
 pub instruction_keeps : (p : Image) (t : Typing) → IsWired p → IsTyped p t → (c : Choice) (s : State) (fr : Frame) (sh : Shape) (ls : List Layer) → At p t s fr sh ls → named s.cells c.name ≡ None → Keeps p t (step_instr p c fr (tasks_of ls) s (instr_at p fr.method fr.place))
 instruction_keeps p t wired typed c s fr sh ls at_hand unused =
     let x = typed.each fr.method fr.place sh at_hand.good.stack.0 in
-    let l = law p t wired typed c s fr sh ls at_hand unused x.instr x.stands (λ a. returns p t c s fr sh ls at_hand a) x.needs x.flows in
+    let l = law p t wired typed c s fr sh ls at_hand unused x.instr x.stands (λ a. returns p t wired c s fr sh ls at_hand a) x.needs x.flows in
     subst (λ i. Keeps p t (step_instr p c fr (tasks_of ls) s i)) (sym x.stands) (kept p t (needs p c fr (tasks_of ls) s x.instr) (does p c fr (tasks_of ls) s x.instr) l.0 l.1)
 
 -- the counts of a move are no concern of the typing

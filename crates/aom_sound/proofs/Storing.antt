@@ -1,5 +1,5 @@
 -- The words of a cell count for no place, and its request for the age of objects alone: where these change, what is claimed holds on.
-use Rattle.std.proofs.Common.{false, List, Some, [], ap, cond, refl, subst, sym, ℕ, ℤ, ◌==◌, ◌∙◌, ◌∷◌, ◌≡◌}
+use Rattle.std.proofs.Common.{Bool, List, None, Option, Some, [], ap, cond, false, refl, subst, sym, true, ℕ, ℤ, ◌==◌, ◌∙◌, ◌∷◌, ◌≡◌}
 use Rattle.aom_image.specs.Image.{Image}
 use Rattle.aom_shape.specs.Kinds.{is_ready_kind}
 use Rattle.aom_shape.specs.Shape.{Shape}
@@ -7,11 +7,13 @@ use Rattle.aom_rules.specs.Typing.{Typing}
 use Rattle.aom_sound.proofs.Claimed.{claim_rel, fits_age}
 use Rattle.aom_sound.proofs.Straight.{Fitted}
 use Rattle.aom_sound.specs.Claims.{Dispatching, Dying, Layer, Mark, Method, Unwinding, claim, declared, declared_field}
-use Rattle.aom_sound.specs.Places.{Cell, Field, Object, Place, Tidy, held, named, requested, same_place, seen, set_word_field}
+use Rattle.aom_sound.specs.Places.{Cell, Field, Object, Place, Request, Tidy, held, named, requested, same_place, seen, set_request, set_word_field}
 use Rattle.aom_sound.specs.State.{AtRoot, Frame, Home, Inside, Static}
 use Rattle.aom_sound.specs.WellTyped.{Back, Fits, IsHoused, Stack}
 use Rattle.aom_sound.specs.Words.{stored}
 use Rattle.aom_sound.specs.Requests.{Suits, states_claim, thing_kind}
+use Rattle.std.proofs.lemmas.Bool.{eq-eqb, eqb-true, true≢false}
+use Rattle.aom_sound.specs.Enlisted.{rerequested}
 
 -- the same cells in the same places
 pub record Alike (cs cs' : List Cell) : Type 0 where
@@ -47,6 +49,43 @@ stored_requests : (cs : List Cell) (home : Home) (w : ℕ) (v : ℤ) (n : ℕ) �
 stored_requests cs Static w v n = refl
 stored_requests cs AtRoot w v n = refl
 stored_requests cs (Inside o from) w v n = requested_set_word cs o.name w v n
+
+-- the cells with another request of one of them
+held_asked : (cs : List Cell) (n : ℕ) (r : Option Request) (q : Place) → held (set_request n r cs) q ≡ held cs q
+held_asked [] n r q = refl
+held_asked (c ∷ cs) n r q = ap (λ x. cond (same_place c.owner q) (Some c.object) x) (held_asked cs n r q)
+
+named_asked : (cs : List Cell) (n : ℕ) (r : Option Request) (m : ℕ) → named (set_request n r cs) m ≡ named cs m
+named_asked [] n r m = refl
+named_asked (c ∷ cs) n r m = ap (λ x. cond (c.object.name == m) (Some c.object) x) (named_asked cs n r m)
+
+tidy_asked : (cs : List Cell) (n : ℕ) (r : Option Request) → Tidy cs → Tidy (set_request n r cs)
+tidy_asked [] n r t = tt
+tidy_asked (c ∷ cs) n r t = (held_asked cs n r c.owner ∙ t.0, named_asked cs n r c.object.name ∙ t.1, tidy_asked cs n r t.2)
+
+pub requested_here : (cs : List Cell) (n : ℕ) (r : Option Request) (o : Object) → named cs n ≡ Some o → requested (set_request n r cs) n ≡ r
+requested_here [] n r o e = cc
+requested_here (c ∷ cs) n r o e = go (c.object.name == n) e (requested_here cs n r o)
+  where
+    go : (b : Bool) → cond b (Some c.object) (named cs n) ≡ Some o → (named cs n ≡ Some o → requested (set_request n r cs) n ≡ r) → cond b (cond b r c.request) (requested (set_request n r cs) n) ≡ r
+    go true e rest = refl
+    go false e rest = rest e
+
+pub requested_there : (cs : List Cell) (n m : ℕ) (r : Option Request) → (n == m) ≡ false → requested (set_request n r cs) m ≡ requested cs m
+requested_there [] n m r other = refl
+requested_there (c ∷ cs) n m r other = go (c.object.name == m) (c.object.name == n) refl refl (requested_there cs n m r other)
+  where
+    go :
+        (x y : Bool) → (c.object.name == m) ≡ x → (c.object.name == n) ≡ y → requested (set_request n r cs) m ≡ requested cs m →
+        cond x (cond y r c.request) (requested (set_request n r cs) m) ≡ cond x c.request (requested cs m)
+    go false y em en rest = rest
+    go true false em en rest = refl
+    go true true em en rest = absurd (true≢false (sym (eq-eqb n m (sym (eqb-true c.object.name n en) ∙ eqb-true c.object.name m em)) ∙ other))
+
+pub rerequested_alike : (cs : List Cell) (home : Home) (r : Option Request) → Alike cs (rerequested cs home r)
+rerequested_alike cs Static r = alike_itself cs
+rerequested_alike cs AtRoot r = alike_itself cs
+rerequested_alike cs (Inside o from) r = record { held_so = held_asked cs o.name r; named_so = named_asked cs o.name r; tidy = tidy_asked cs o.name r }
 
 module _ (p : Image) (t : Typing) (cs cs' : List Cell) (alike : Alike cs cs') where
   declared_alike : (r : Place) → declared p cs' r ≡ declared p cs r

@@ -1,7 +1,7 @@
 -- The laws of the instructions that stay in their method.
 use Rattle.std.proofs.Common.{Bool, List, None, Option, Some, ap, arith, cond, false, length, refl, subst, suc, sym, true, zero, ℕ, ℤ, ◌&&◌, ◌==◌, ◌∙◌, ◌∷◌, ◌≡◌}
 use Rattle.std.proofs.lemmas.Bool.{eq-eqb, eqb-true, ne_eqb, true≢false}
-use Rattle.std.specs.Prelude.{is_some}
+use Rattle.std.specs.Prelude.{is_some, ◌||◌}
 use Rattle.aom_image.specs.Image.{Image}
 use Rattle.aom_instructions.specs.declared.instr.Instr.{Instr}
 use Rattle.aom_image.specs.declared.method.Thing.{Thing}
@@ -25,9 +25,11 @@ use Rattle.aom_sound.specs.Moves.{does, needs}
 use Rattle.aom_sound.specs.Objects.{is_declared_thing, is_thing}
 use Rattle.aom_sound.specs.Places.{Cell, Elsewhere, Field, Object, Place, Register, Root, Sight, Tidy, changed, held, moved, requested, same_place, seen}
 use Rattle.aom_sound.specs.State.{AtRoot, Choice, Frame, Home, Inside, Run, State, Static, field_place, home_holder, next, set_word, thing_holder, word}
-use Rattle.aom_sound.specs.WellTyped.{AllUndo, Fits, Frames, Good, Holds, IsApart, IsHoused, IsNoFieldOf, Returns, Stack, WellTyped, WordFits}
+use Rattle.aom_sound.specs.WellTyped.{AllUndo, Fits, Frames, Good, Holds, IsAlone, IsApart, IsHoused, IsNoFieldOf, Returns, Stack, WellTyped, WordFits}
 use Rattle.aom_sound.proofs.Suiting.{all_moved, claims_less}
-use Rattle.aom_sound.specs.Requests.{AllSuit, Suits, states_claim, thing_kind, works_at}
+use Rattle.aom_sound.specs.Requests.{AllSuit, Known, Suits, known_at, states_claim, thing_kind, works_at}
+use Rattle.aom_image.specs.Views.{method_role}
+use Rattle.aom_rules.specs.Requests.{is_cancel}
 
 -- a state whose top task is a method
 pub record At (p : Image) (t : Typing) (s : State) (fr : Frame) (sh : Shape) (ls : List Layer) : Type 0 where
@@ -74,7 +76,7 @@ settle p t cs fr sh ls g leads =
     let w = leads.2 in (
       leads.0,
       record {
-        stack = (leads.1, record { words = λ i. word_fits_weaker (word fr i) (w.registers i) (g.frames.words i); holder = g.frames.holder; height = g.frames.height }, g.housed, g.apart, g.stack);
+        stack = (leads.1, record { words = λ i. word_fits_weaker (word fr i) (w.registers i) (g.frames.words i); holder = g.frames.holder; height = g.frames.height; alone = g.frames.alone }, g.housed, g.apart, g.stack);
         fits = λ r. fits_weaker p (seen cs) (held cs r) (claim_weaker p (declared p cs) fr leads.0 sh ls r (owns_no_more leads.0 sh w)) (g.fits r);
         suits = λ o lives. claims_less p o fr leads.0 sh ls (requested cs o.name) w.states (g.suits o lives);
         tidy = g.tidy;
@@ -89,9 +91,22 @@ housed_relocated p cs a b ls (Inside o from) free oa ob n h =
     let m = n o from refl in
     holds_moved p cs a b ls o from free (outside_differs a from ls oa m.0 h.below) (outside_differs b from ls ob m.1 h.below) h
 
--- the home and the states alone count for requests
-pub same_suits : (p : Image) (cs : List Cell) (fr fr' : Frame) (sh sh' : Shape) (ls : List Layer) → fr'.home ≡ fr.home → sh'.states ≡ sh.states → AllSuit p cs (Method fr sh ∷ ls) → AllSuit p cs (Method fr' sh' ∷ ls)
-same_suits p cs fr fr' sh sh' ls eh es s o lives = subst (λ k. Suits (thing_kind p o.thing) k (requested cs o.name)) (sym (ap (λ h. cond (works_at o.name h) sh'.states (states_claim p o ls)) eh ∙ ap (λ k. cond (works_at o.name fr.home) k (states_claim p o ls)) es)) (s o lives)
+-- a frame of the same method and home is as alone
+alone_too : (p : Image) (fr fr' : Frame) (ls : List Layer) → fr'.home ≡ fr.home → fr'.method ≡ fr.method → (is_cancel (method_role p fr.method) ≡ true → IsAlone p fr.home ls) → is_cancel (method_role p fr'.method) ≡ true → IsAlone p fr'.home ls
+alone_too p fr fr' ls eh em alone e = subst (λ h. IsAlone p h ls) (sym eh) (alone (ap (λ m. is_cancel (method_role p m)) (sym em) ∙ e))
+
+-- the home, the method and the states alone count for requests
+pub same_suits : (p : Image) (cs : List Cell) (fr fr' : Frame) (sh sh' : Shape) (ls : List Layer) → fr'.home ≡ fr.home → fr'.method ≡ fr.method → sh'.states ≡ sh.states → AllSuit p cs (Method fr sh ∷ ls) → AllSuit p cs (Method fr' sh' ∷ ls)
+same_suits p cs fr fr' sh sh' ls eh em es s o lives = subst (λ k. Suits (thing_kind p o.thing) k (requested cs o.name)) (sym same) (s o lives)
+  where
+    below : Known
+    below = states_claim p o ls
+
+    same : states_claim p o (Method fr' sh' ∷ ls) ≡ states_claim p o (Method fr sh ∷ ls)
+    same =
+        ap (λ h. cond (works_at o.name h) (known_at p fr' sh'.states below) below) eh
+        ∙ ap (λ m. cond (works_at o.name fr.home) (record { states = sh'.states; cancelled = is_cancel (method_role p m) || below.cancelled }) below) em
+        ∙ ap (λ k. cond (works_at o.name fr.home) (known_at p fr k below) below) es
 
 -- a thing moves from one local place to another, with its claim
 pub relocate :
@@ -112,9 +127,9 @@ relocate p t cs fr fr' sh sh' ls a b g eh em eg es free oa ob nf fresh claims wo
     keep_fits p (seen cs) (seen cs') (claim p d (Method fr sh ∷ ls)) (claim p d (Method fr sh' ∷ ls)) a b (λ r. held_moved cs a b r free) (requested_moved cs a b) claims fresh g.fits in
     record {
       fits = λ r. subst (λ k. Fits p (seen cs') (held cs' r) k) (ap (λ e. claim p e (Method fr sh' ∷ ls) r) (sym (declared_moved p cs a b)) ∙ sym (claim_frame p (declared p cs') fr fr' sh' ls r eh)) (fits r);
-      suits = same_suits p (moved a b cs) fr fr' sh sh' ls eh es (all_moved p cs a b (Method fr sh ∷ ls) g.suits);
+      suits = same_suits p (moved a b cs) fr fr' sh sh' ls eh em es (all_moved p cs a b (Method fr sh ∷ ls) g.suits);
       tidy = tidy_moved cs a b free g.tidy;
-      frames = record { words = words; holder = ap home_holder eh ∙ g.frames.holder ∙ ap (λ m. holder_of p m) (sym em); height = eg ∙ g.frames.height };
+      frames = record { words = words; holder = ap home_holder eh ∙ g.frames.holder ∙ ap (λ m. holder_of p m) (sym em); height = eg ∙ g.frames.height; alone = alone_too p fr fr' ls eh em g.frames.alone };
       housed = housed_relocated p cs a b ls fr'.home free oa ob nf (subst (λ h. IsHoused p cs ls h) (sym eh) g.housed);
       apart = subst (λ h. IsApart p h ls) (sym eh) g.apart;
       stack = subst (λ m. Stack p t cs' (Returns m fr'.home) ls) (sym em) (subst (λ h. Stack p t cs' (Returns fr.method h) ls) (sym eh) (stack_moved p t cs a b ls _ free oa ob g.stack));
@@ -131,9 +146,9 @@ pub relabel :
     Fitted p t cs fr' sh' ls
 relabel p t cs fr fr' sh sh' ls a v g eh em eg es new claims words = record {
   fits = λ r. subst (λ k. Fits p (seen cs) (held cs r) k) (sym (claim_frame p (declared p cs) fr fr' sh' ls r eh ∙ claims r)) (go r (same_place a r) refl);
-  suits = same_suits p cs fr fr' sh sh' ls eh es g.suits;
+  suits = same_suits p cs fr fr' sh sh' ls eh em es g.suits;
   tidy = g.tidy;
-  frames = record { words = words; holder = ap home_holder eh ∙ g.frames.holder ∙ ap (λ m. holder_of p m) (sym em); height = eg ∙ g.frames.height };
+  frames = record { words = words; holder = ap home_holder eh ∙ g.frames.holder ∙ ap (λ m. holder_of p m) (sym em); height = eg ∙ g.frames.height; alone = alone_too p fr fr' ls eh em g.frames.alone };
   housed = subst (λ h. IsHoused p cs ls h) (sym eh) g.housed;
   apart = subst (λ h. IsApart p h ls) (sym eh) g.apart;
   stack = subst (λ m. Stack p t cs (Returns m fr'.home) ls) (sym em) (subst (λ h. Stack p t cs (Returns fr.method h) ls) (sym eh) g.stack);
@@ -183,9 +198,9 @@ pub reframed :
     Fitted p t cs fr sh ls → Fitted p t cs fr' sh ls
 reframed p t cs fr fr' sh ls eh em eg ew g = record {
   fits = λ r. subst (λ k. Fits p (seen cs) (held cs r) k) (sym (claim_frame p (declared p cs) fr fr' sh ls r eh)) (g.fits r);
-  suits = same_suits p cs fr fr' sh sh ls eh refl g.suits;
+  suits = same_suits p cs fr fr' sh sh ls eh em refl g.suits;
   tidy = g.tidy;
-  frames = record { words = λ i. subst (λ ws. WordFits (at None ws i) (register sh i)) (sym ew) (g.frames.words i); holder = ap home_holder eh ∙ g.frames.holder ∙ ap (λ m. holder_of p m) (sym em); height = eg ∙ g.frames.height };
+  frames = record { words = λ i. subst (λ ws. WordFits (at None ws i) (register sh i)) (sym ew) (g.frames.words i); holder = ap home_holder eh ∙ g.frames.holder ∙ ap (λ m. holder_of p m) (sym em); height = eg ∙ g.frames.height; alone = alone_too p fr fr' ls eh em g.frames.alone };
   housed = subst (λ h. IsHoused p cs ls h) (sym eh) g.housed;
   apart = subst (λ h. IsApart p h ls) (sym eh) g.apart;
   stack = subst (λ m. Stack p t cs (Returns m fr'.home) ls) (sym em) (subst (λ h. Stack p t cs (Returns fr.method h) ls) (sym eh) g.stack);
@@ -197,7 +212,7 @@ stepped p t cs fr sh ls g = record {
   fits = λ r. subst (λ k. Fits p (seen cs) (held cs r) k) (sym (claim_frame p (declared p cs) fr (next fr) sh ls r refl)) (g.fits r);
   suits = g.suits;
   tidy = g.tidy;
-  frames = record { words = g.frames.words; holder = g.frames.holder; height = g.frames.height };
+  frames = record { words = g.frames.words; holder = g.frames.holder; height = g.frames.height; alone = g.frames.alone };
   housed = g.housed;
   apart = g.apart;
   stack = g.stack;

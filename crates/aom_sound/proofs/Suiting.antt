@@ -1,75 +1,87 @@
 -- How what is known of requests changes with the layers, and how it goes on to hold.
-use Rattle.std.proofs.Common.{Bool, IsTrue, List, None, Option, Some, [], ap, cond, false, inl, inr, refl, subst, sym, true, ℕ, ◌==◌, ◌∙◌, ◌∷◌, ◌≡◌}
+use Rattle.std.proofs.Common.{Bool, IsTrue, List, None, Option, Some, [], ap, cond, false, inl, inr, refl, subst, sym, true, ℕ, ℤ, ◌&&◌, ◌==◌, ◌∙◌, ◌∷◌, ◌≡◌}
 use Rattle.std.proofs.lemmas.Bool.{eqb-true, true≢false}
-use Rattle.std.specs.Prelude.{not}
+use Rattle.std.specs.Prelude.{not, ◌||◌}
 use Rattle.aom_image.specs.Image.{Image}
-use Rattle.aom_image.specs.Views.{has}
+use Rattle.aom_image.specs.Views.{has, method_role}
 use Rattle.aom_image.specs.declared.class.ClassKind.{ClassKind}
 use Rattle.aom_image.specs.declared.class.ClassKind.TheVariants.{Active as An_active, Server as A_server}
-use Rattle.aom_roles.specs.States.{active_states, first_of, last_of, states_of}
-use Rattle.aom_rules.specs.Requests.{unissued}
-use Rattle.aom_rules.specs.Typing.{Typing}
-use Rattle.aom_shape.proofs.Sets.{has_along}
+use Rattle.aom_roles.specs.States.{active_states, cancel_done, first_of, idle, last_of, server_states, states_of}
+use Rattle.aom_rules.specs.Requests.{is_cancel, unissued}
+use Rattle.aom_shape.proofs.Sets.{has_along, has_itself}
 use Rattle.aom_shape.specs.Shape.{Shape}
 use Rattle.aom_sound.proofs.Maps.{named_moved, requested_moved}
 use Rattle.aom_sound.specs.Claims.{Dispatching, Dying, Layer, Mark, Method, Unwinding}
 use Rattle.aom_sound.specs.Places.{Aborted, Active, Cancelling, Cell, Idle, Issued, Object, Phase, Place, Request, moved, named, requested}
-use Rattle.aom_sound.specs.Requests.{AllSuit, Joins, Suits, Unworked, phase_state, rests_in, state_of, states_claim, thing_kind, uncancelled, works_at}
+use Rattle.aom_sound.specs.Enlisted.{cancelled, in_phase, is_aborted, is_cancelling, is_unanswered, on_request, pending, status_of}
+use Rattle.std.specs.Ordering.{int_eq}
+use Rattle.aom_sound.specs.Requests.{AllSuit, Joins, Known, Suits, Unworked, known_at, phase_state, resting_in, rests_in, state_of, states_claim, thing_kind, works_at}
 use Rattle.aom_sound.specs.State.{AtRoot, Frame, Home, Inside, Static}
 use Rattle.aom_sound.specs.WellTyped.{IsHoused}
 use Rattle.aom_image.specs.declared.method.Gives.{Gives}
 
 -- a larger set
-pub suits_less : (k : Option ClassKind) (a b : ℕ) (r : Option Request) → IsTrue (has a b) → Suits k b r → Suits k a r
-suits_less (Some (An_active v b)) a b' r h s = (has_along a b' (state_of r) h s.0, s.1)
-suits_less (Some (A_server m x b)) a b' r h s = (has_along a b' (state_of r) h s.0, s.1)
-suits_less _ a b r h s = s
+pub suits_less : (k : Option ClassKind) (a b : ℕ) (c : Bool) (r : Option Request) → IsTrue (has a b) → Suits k (record { states = b; cancelled = c }) r → Suits k (record { states = a; cancelled = c }) r
+suits_less (Some (An_active v b)) a b' c r h s = (has_along a b' (state_of r) h s.0, s.1, s.2)
+suits_less (Some (A_server m x b)) a b' c r h s = (has_along a b' (state_of r) h s.0, s.1)
+suits_less _ a b c r h s = s
 
--- what is not issued may rest
-pub suits_rests : (k : Option ClassKind) (states : ℕ) (r : Option Request) → unissued states ≡ true → Suits k states r → Suits k (states_of k) r
+-- what is not issued, nor being cancelled, may rest
+pub suits_rests : (k : Option ClassKind) (states : ℕ) (r : Option Request) → unissued states ≡ true → Suits k (resting_in states) r → Suits k (resting_in (states_of k)) r
 unfolding states_of
-suits_rests (Some (An_active v b)) states r u s = (go r s.0 s.1, s.1)
+suits_rests (Some (An_active v b)) states r u s = (go r s.0 s.1, s.1, s.2)
   where
-    phase : (q : Phase) → IsTrue (has states (phase_state q)) → IsTrue (has uncancelled (phase_state q)) → IsTrue (has active_states (phase_state q))
+    phase : (q : Phase) → IsTrue (has states (phase_state q)) → is_cancelling q ≡ false → IsTrue (has active_states (phase_state q))
     phase Idle h g = refl
     phase Issued h g = absurd (true≢false (sym u ∙ ap not h))
     phase Active h g = refl
-    phase Cancelling h g = cc
-    phase Aborted h g = cc
+    phase _ h g = cc
 
-    go : (r : Option Request) → IsTrue (has states (state_of r)) → IsTrue (has uncancelled (state_of r)) → IsTrue (has active_states (state_of r))
+    go : (r : Option Request) → IsTrue (has states (state_of r)) → in_phase is_cancelling r ≡ false → IsTrue (has active_states (state_of r))
     go None h g = refl
     go (Some q) h g = phase q.phase h g
 suits_rests (Some (A_server m x b)) states r u s = (s.1, s.1)
 suits_rests _ states r u s = s
 
--- what is not enlisted may be under construction, and may rest
-pub suits_first : (k : Option ClassKind) (r : Option Request) → r ≡ None → Suits k (first_of k) r
-unfolding first_of states_of
-suits_first (Some (An_active v b)) r e = subst (λ r. IsTrue (has (first_of (Some (An_active v b))) (state_of r)) × IsTrue (has uncancelled (state_of r))) (sym e) (refl, refl)
-suits_first (Some (A_server m x b)) r e = subst (λ r. IsTrue (has (first_of (Some (A_server m x b))) (state_of r)) × IsTrue (has (states_of (Some (A_server m x b))) (state_of r))) (sym e) (refl, refl)
-suits_first _ r e = e
-
-pub suits_new : (k : Option ClassKind) → Suits k (states_of k) None
+pub rests_unissued : (k : Option ClassKind) → unissued (states_of k) ≡ true
 unfolding states_of
-suits_new (Some (An_active v b)) = (refl, refl)
+rests_unissued (Some (An_active v b)) = refl
+rests_unissued (Some (A_server m x b)) = refl
+rests_unissued _ = refl
+
+-- what is not enlisted may be under construction, and may rest
+pub suits_new : (k : Option ClassKind) → Suits k (resting_in (states_of k)) None
+unfolding states_of
+suits_new (Some (An_active v b)) = (refl, refl, refl)
 suits_new (Some (A_server m x b)) = (refl, refl)
 suits_new _ = refl
+
+begins_new : (k : Option ClassKind) → Suits k (resting_in (first_of k)) None
+unfolding first_of
+begins_new (Some (An_active v b)) = (refl, refl, refl)
+begins_new (Some (A_server m x b)) = (refl, refl)
+begins_new _ = refl
+
+pub suits_first : (k : Option ClassKind) (r : Option Request) → r ≡ None → Suits k (resting_in (first_of k)) r
+suits_first k r e = subst (λ r. Suits k (resting_in (first_of k)) r) (sym e) (begins_new k)
 
 -- a state that says no more
 pub claims_less : (p : Image) (o : Object) (fr : Frame) (a b : Shape) (ls : List Layer) (r : Option Request) → IsTrue (has a.states b.states) → Suits (thing_kind p o.thing) (states_claim p o (Method fr b ∷ ls)) r → Suits (thing_kind p o.thing) (states_claim p o (Method fr a ∷ ls)) r
 claims_less p o fr a b ls r h = go (works_at o.name fr.home)
   where
-    go : (x : Bool) → Suits (thing_kind p o.thing) (cond x b.states (states_claim p o ls)) r → Suits (thing_kind p o.thing) (cond x a.states (states_claim p o ls)) r
-    go true s = suits_less (thing_kind p o.thing) a.states b.states r h s
+    below : Known
+    below = states_claim p o ls
+
+    go : (x : Bool) → Suits (thing_kind p o.thing) (cond x (known_at p fr b.states below) below) r → Suits (thing_kind p o.thing) (cond x (known_at p fr a.states below) below) r
+    go true s = suits_less (thing_kind p o.thing) a.states b.states _ r h s
     go false s = s
 
 -- an object rests where no layer works on it
-pub unworked_rests : (p : Image) (o : Object) (ls : List Layer) → Unworked o.name ls → states_claim p o ls ≡ rests_in p o
+pub unworked_rests : (p : Image) (o : Object) (ls : List Layer) → Unworked o.name ls → states_claim p o ls ≡ resting_in (rests_in p o)
 unworked_rests p o [] u = refl
-unworked_rests p o (Method fr sh ∷ ls) u = ap (λ b. cond b sh.states (states_claim p o ls)) u.0 ∙ unworked_rests p o ls u.1
+unworked_rests p o (Method fr sh ∷ ls) u = ap (λ b. cond b (known_at p fr sh.states (states_claim p o ls)) (states_claim p o ls)) u.0 ∙ unworked_rests p o ls u.1
 unworked_rests p o (Mark gv ∷ ls) u = unworked_rests p o ls u
-unworked_rests p o (Dying x ∷ ls) u = ap (λ b. cond b (last_of (thing_kind p o.thing)) (states_claim p o ls)) u.0 ∙ unworked_rests p o ls u.1
+unworked_rests p o (Dying x ∷ ls) u = ap (λ b. cond b (resting_in (last_of (thing_kind p o.thing))) (states_claim p o ls)) u.0 ∙ unworked_rests p o ls u.1
 unworked_rests p o (Unwinding code es ∷ ls) u = unworked_rests p o ls u
 unworked_rests p o (Dispatching d ∷ ls) u = unworked_rests p o ls u
 
@@ -82,37 +94,105 @@ pub same_object : (cs : List Cell) (o x : Object) → named cs o.name ≡ Some o
 same_object cs o x a b e = let same : Some o ≡ Some x = sym a ∙ ap (λ n. named cs n) (eqb-true o.name x.name e) ∙ b in cc
 
 -- what rests suits where no layer works on it
-pub rests_there : (p : Image) (o : Object) (ls : List Layer) (r : Option Request) → Unworked o.name ls → Suits (thing_kind p o.thing) (rests_in p o) r → Suits (thing_kind p o.thing) (states_claim p o ls) r
+pub rests_there : (p : Image) (o : Object) (ls : List Layer) (r : Option Request) → Unworked o.name ls → Suits (thing_kind p o.thing) (resting_in (rests_in p o)) r → Suits (thing_kind p o.thing) (states_claim p o ls) r
 rests_there p o ls r u s = subst (λ k. Suits (thing_kind p o.thing) k r) (sym (unworked_rests p o ls u)) s
 
--- the object that a method worked on, by what stands below it
-pub rejoins_caller : (p : Image) (o : Object) (fr : Frame) (sh after : Shape) (ls : List Layer) (ends : ℕ) (r : Option Request) → Joins p o (Method fr sh ∷ ls) → (works_at o.name fr.home ≡ true → IsTrue (has sh.states ends)) → IsTrue (has ends after.states) → unissued after.states ≡ true → Suits (thing_kind p o.thing) after.states r → Suits (thing_kind p o.thing) (states_claim p o (Method fr sh ∷ ls)) r
-rejoins_caller p o fr sh after ls ends r (inl w) well within u s =
-    subst (λ b. Suits (thing_kind p o.thing) (cond b sh.states (states_claim p o ls)) r) (sym w) (suits_less (thing_kind p o.thing) sh.states after.states r (has_along sh.states ends after.states (well w) within) s)
-rejoins_caller p o fr sh after ls ends r (inr n) well within u s = rests_there p o (Method fr sh ∷ ls) r n (suits_rests (thing_kind p o.thing) after.states r u s)
+-- a method that does not cancel leaves what is known below it
+pub known_plain : (p : Image) (fr : Frame) (states : ℕ) (below : Known) → is_cancel (method_role p fr.method) ≡ false → known_at p fr states below ≡ record { states = states; cancelled = below.cancelled }
+known_plain p fr states below e = ap (λ (b : Bool). record { states = states; cancelled = b || below.cancelled }) e
 
-pub rejoins_trap : (p : Image) (o : Object) (gv : Gives) (fr : Frame) (sh : Shape) (ls : List Layer) (r : Option Request) → Joins p o (Mark gv ∷ Method fr sh ∷ ls) → Suits (thing_kind p o.thing) (rests_in p o) r → Suits (thing_kind p o.thing) (states_claim p o (Method fr sh ∷ ls)) r
-rejoins_trap p o gv fr sh ls r (inl w) s =
-    subst (λ b. Suits (thing_kind p o.thing) (cond b sh.states (states_claim p o ls)) r) (sym w.0) (suits_less (thing_kind p o.thing) sh.states (rests_in p o) r w.1 s)
-rejoins_trap p o gv fr sh ls r (inr n) s = rests_there p o (Method fr sh ∷ ls) r n s
+-- nor is an object being cancelled on which none works below it
+pub known_resting : (p : Image) (o : Object) (fr : Frame) (states : ℕ) (ls : List Layer) → is_cancel (method_role p fr.method) ≡ false → Unworked o.name ls → known_at p fr states (states_claim p o ls) ≡ resting_in states
+known_resting p o fr states ls e u = known_plain p fr states (states_claim p o ls) e ∙ ap (λ (k : Known). record { states = states; cancelled = k.cancelled }) (unworked_rests p o ls u)
+
+-- a method that cancels ends with its request completed
+done_only : (q : Phase) (status : ℤ) → IsTrue (has cancel_done (phase_state q)) → (is_aborted q && int_eq status pending) ≡ false → int_eq status pending ≡ false
+done_only Aborted status h u = u
+done_only Idle status h u = cc
+done_only Issued status h u = cc
+done_only Active status h u = cc
+done_only Cancelling status h u = cc
+
+served_only : (q : Phase) → IsTrue (has server_states (phase_state q)) → IsTrue (has cancel_done (phase_state q)) → ⊥
+served_only Idle h g = cc
+served_only Issued h g = cc
+served_only Active h g = cc
+served_only Cancelling h g = cc
+served_only Aborted h g = cc
+
+pub completed : (k : Option ClassKind) (n : Known) (r : Option Request) → IsTrue (has cancel_done n.states) → Suits k n r → int_eq (status_of r) pending ≡ false
+completed (Some (An_active v b)) n r h s = go r (has_along cancel_done n.states (state_of r) h s.0) s.2
+  where
+    go : (r : Option Request) → IsTrue (has cancel_done (state_of r)) → is_unanswered r ≡ false → int_eq (status_of r) pending ≡ false
+    go None h u = cc
+    go (Some q) h u = done_only q.phase q.status h u
+completed (Some (A_server m x b)) n r h s = go r s.1 (has_along cancel_done n.states (state_of r) h s.0)
+  where
+    go : (r : Option Request) → IsTrue (has server_states (state_of r)) → IsTrue (has cancel_done (state_of r)) → int_eq (status_of r) pending ≡ false
+    go None g h = refl
+    go (Some q) g h = absurd (served_only q.phase g h)
+completed _ n r h s = ap (λ r. int_eq (status_of r) pending) s
+
+-- and leaves its object idle
+pub cancel_ends : (k : Option ClassKind) (n : Known) (r : Option Request) → IsTrue (has cancel_done n.states) → Suits k n r → Suits k (resting_in idle) (on_request cancelled r)
+cancel_ends (Some (An_active v b)) n r h s = go r (has_along cancel_done n.states (state_of r) h s.0)
+  where
+    go : (r : Option Request) → IsTrue (has cancel_done (state_of r)) → Suits (Some (An_active v b)) (resting_in idle) (on_request cancelled r)
+    go None h = cc
+    go (Some q) h = (refl, refl, refl)
+cancel_ends (Some (A_server m x b)) n r h s = go r (has_along cancel_done n.states (state_of r) h s.0)
+  where
+    go : (r : Option Request) → IsTrue (has cancel_done (state_of r)) → Suits (Some (A_server m x b)) (resting_in idle) (on_request cancelled r)
+    go None h = cc
+    go (Some q) h = (refl, refl)
+cancel_ends _ n r h s = ap (λ r. on_request cancelled r) s
+
+-- the object that a method worked on, by what stands below it; one that cancelled has left it idle
+pub rejoins_caller : (p : Image) (o : Object) (fr : Frame) (sh : Shape) (states : ℕ) (ls : List Layer) (ends : ℕ) (r : Option Request) → Joins p o (Method fr sh ∷ ls) → (works_at o.name fr.home ≡ true → IsTrue (has sh.states ends)) → IsTrue (has ends states) → unissued states ≡ true → Suits (thing_kind p o.thing) (record { states = states; cancelled = (states_claim p o (Method fr sh ∷ ls)).cancelled }) r → Suits (thing_kind p o.thing) (states_claim p o (Method fr sh ∷ ls)) r
+rejoins_caller p o fr sh states ls ends r (inl w) well within u s = go (works_at o.name fr.home) w s
+  where
+    below : Known
+    below = states_claim p o ls
+
+    go : (b : Bool) → b ≡ true → Suits (thing_kind p o.thing) (record { states = states; cancelled = (cond b (known_at p fr sh.states below) below).cancelled }) r → Suits (thing_kind p o.thing) (cond b (known_at p fr sh.states below) below) r
+    go true e s = suits_less (thing_kind p o.thing) sh.states states _ r (has_along sh.states ends states (well w) within) s
+    go false e s = cc
+rejoins_caller p o fr sh states ls ends r (inr n) well within u s =
+    rests_there p o (Method fr sh ∷ ls) r n (suits_rests (thing_kind p o.thing) states r u (subst (λ (k : Known). Suits (thing_kind p o.thing) (record { states = states; cancelled = k.cancelled }) r) (unworked_rests p o (Method fr sh ∷ ls) n) s))
+
+pub rejoins_trap : (p : Image) (o : Object) (gv : Gives) (fr : Frame) (sh : Shape) (ls : List Layer) (states : ℕ) (r : Option Request) → Joins p o (Mark gv ∷ Method fr sh ∷ ls) → unissued states ≡ true → (states_claim p o (Method fr sh ∷ ls)).cancelled ≡ false → Suits (thing_kind p o.thing) (resting_in states) r → Suits (thing_kind p o.thing) (states_claim p o (Method fr sh ∷ ls)) r
+rejoins_trap p o gv fr sh ls states r (inl w) u none s =
+    rejoins_caller p o fr sh (rests_in p o) ls (rests_in p o) r (inl w.0) (λ e. w.1) (has_itself (rests_in p o)) (rests_unissued (thing_kind p o.thing))
+    (subst (λ (b : Bool). Suits (thing_kind p o.thing) (record { states = rests_in p o; cancelled = b }) r) (sym none) (suits_rests (thing_kind p o.thing) states r u s))
+rejoins_trap p o gv fr sh ls states r (inr n) u none s = rests_there p o (Method fr sh ∷ ls) r n (suits_rests (thing_kind p o.thing) states r u s)
 
 -- a method is over: all but the object that it worked on is as it was
 pub all_returned :
-    (p : Image) (t : Typing) (cs : List Cell) (fr : Frame) (sh : Shape) (below : List Layer) → AllSuit p cs (Method fr sh ∷ below) → IsHoused p cs below fr.home →
-    ((o : Object) (from : Place) → fr.home ≡ Inside o from → Suits (thing_kind p o.thing) sh.states (requested cs o.name) → Suits (thing_kind p o.thing) (states_claim p o below) (requested cs o.name)) →
-    AllSuit p cs below
-all_returned p t cs fr sh below s housed back x lives = go fr.home refl housed (s x lives)
+    (p : Image) (cs cs' : List Cell) (fr : Frame) (sh : Shape) (below : List Layer) → AllSuit p cs (Method fr sh ∷ below) → IsHoused p cs below fr.home →
+    ((n : ℕ) → named cs' n ≡ named cs n) → ((n : ℕ) → works_at n fr.home ≡ false → requested cs' n ≡ requested cs n) →
+    ((o : Object) (from : Place) → fr.home ≡ Inside o from → Suits (thing_kind p o.thing) (known_at p fr sh.states (states_claim p o below)) (requested cs o.name) → Suits (thing_kind p o.thing) (states_claim p o below) (requested cs' o.name)) →
+    AllSuit p cs' below
+all_returned p cs cs' fr sh below s housed same others back x lives' = go fr.home refl housed (others x.name) (s x lives)
   where
-    go : (h : Home) → fr.home ≡ h → IsHoused p cs below h → Suits (thing_kind p x.thing) (cond (works_at x.name h) sh.states (states_claim p x below)) (requested cs x.name) → Suits (thing_kind p x.thing) (states_claim p x below) (requested cs x.name)
-    go Static e h s = s
-    go AtRoot e h s = s
-    go (Inside o from) e h s = inner (o.name == x.name) refl s
+    lives : named cs x.name ≡ Some x
+    lives = sym (same x.name) ∙ lives'
+
+    below_it : Known
+    below_it = states_claim p x below
+
+    kept : (requested cs' x.name ≡ requested cs x.name) → Suits (thing_kind p x.thing) below_it (requested cs x.name) → Suits (thing_kind p x.thing) below_it (requested cs' x.name)
+    kept e s = subst (λ r. Suits (thing_kind p x.thing) below_it r) (sym e) s
+
+    go : (h : Home) → fr.home ≡ h → IsHoused p cs below h → (works_at x.name h ≡ false → requested cs' x.name ≡ requested cs x.name) → Suits (thing_kind p x.thing) (cond (works_at x.name h) (known_at p fr sh.states below_it) below_it) (requested cs x.name) → Suits (thing_kind p x.thing) below_it (requested cs' x.name)
+    go Static e h o s = kept (o refl) s
+    go AtRoot e h o s = kept (o refl) s
+    go (Inside o from) e h others s = inner (o.name == x.name) refl s
       where
-        inner : (b : Bool) → (o.name == x.name) ≡ b → Suits (thing_kind p x.thing) (cond b sh.states (states_claim p x below)) (requested cs x.name) → Suits (thing_kind p x.thing) (states_claim p x below) (requested cs x.name)
+        inner : (b : Bool) → (o.name == x.name) ≡ b → Suits (thing_kind p x.thing) (cond b (known_at p fr sh.states below_it) below_it) (requested cs x.name) → Suits (thing_kind p x.thing) below_it (requested cs' x.name)
         inner true same s =
             let one = same_object cs o x h.lives lives same in
-            subst (λ y. Suits (thing_kind p y.thing) (states_claim p y below) (requested cs y.name)) one (back o from e (subst (λ y. Suits (thing_kind p y.thing) sh.states (requested cs y.name)) (sym one) s))
-        inner false other s = s
+            subst (λ y. Suits (thing_kind p y.thing) (states_claim p y below) (requested cs' y.name)) one (back o from e (subst (λ y. Suits (thing_kind p y.thing) (known_at p fr sh.states (states_claim p y below)) (requested cs y.name)) (sym one) s))
+        inner false other s = kept (others other) s
 
 -- what works on an object works on its fields, on what it holds and on no other
 pub works_on_it : (n : ℕ) (o : Object) (from : Place) → works_at n (Inside o from) ≡ true → o.name ≡ n

@@ -35,6 +35,7 @@ use Rattle.aom_sound.specs.Traps.{ComesOff, GoesOnAfter, IsPast, IsTrapping, Tel
 use Rattle.aom_sound.specs.WellTyped.{Keeps, WellTyped}
 use Rattle.aom_sound.specs.World.{IsBetween, IsBusy, Reaches, begins, boot_state, moves, waiting, waits, Outside}
 use Rattle.aom_transcript.specs.declared.line.Line.{Line}
+use Rattle.aom_sound.specs.Enlisted.{ended_cells}
 
 -- ---- as many marks as traps
 
@@ -206,7 +207,7 @@ module _ (p : Image) (c : Choice) (s : State) (below : List Task) where
   acts fr ts i (Repeats d n to) at o = inl (with_task below ts _ o, inl refl)
   acts fr ts i (Calls target m first) at o = inl (with_task below (Run fr ∷ ts) _ (with_task below ts (Run fr) o), inl refl)
   acts fr ts i (Sets_trap target m first) at o = inl (with_task below (Trapped ∷ Run fr ∷ ts) _ (with_task below (Run fr ∷ ts) Trapped (with_task below ts (Run fr) o)), inr (inl (A_mark, refl)))
-  acts fr ts i (Returns g a) at o = return_there p c fr ts (counted p s) at below o g a ts refl o
+  acts fr ts i (Returns g a) at o = return_there p c fr ts (record (counted p s) { cells = ended_cells p fr s.cells }) at below o g a ts refl o
   acts fr ts i (Leaves code u) at o = inl (with_task below (to_trap ts) (Unwind code) (lands below ts o), near u s.items)
   acts fr ts i (Destroys x a words) at o = inl (begins_there p x (length s.items) below (Run (with_words fr words) ∷ ts) (with_task below ts _ o), inl refl)
   acts fr ts i (Destroys_last x) at o = inl (begins_there p x (length (below_top s.items)) below (Run fr ∷ ts) (with_task below ts _ o), near_top s.items)

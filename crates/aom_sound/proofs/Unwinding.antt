@@ -1,7 +1,8 @@
 -- Each move of an unwinding keeps the typing: an object is destroyed, an operation runs, or the code arrives.
-use Rattle.std.proofs.Common.{Bool, List, [], cond, false, length, refl, subst, sym, true, ℤ, ◌&&◌, ◌==◌, ◌∷◌, ◌≡◌}
+use Rattle.std.proofs.Common.{Bool, List, [], ap, cond, false, length, refl, subst, sym, true, ℤ, ◌&&◌, ◌==◌, ◌∷◌, ◌≡◌}
 use Rattle.aom_image.specs.Image.{Image}
 use Rattle.aom_shape.specs.Kinds.{entry_kind}
+use Rattle.aom_rules.specs.Requests.{is_cancel}
 use Rattle.aom_rules.specs.Typing.{IsTyped, Typing}
 use Rattle.aom_shape.specs.declared.kind.Entry.{Entry as Pushed}
 use Rattle.aom_shape.specs.declared.kind.Kind.{Kind}
@@ -37,7 +38,7 @@ module _ (p : Image) (t : Typing) (wired : IsWired p) (typed : IsTyped p t) (s :
         items = same;
         undos = undos;
         under_object = (tt, good.stack.1);
-        under_operation = λ m undo. ((undo.leaves, undo.gives), good.stack.1);
+        under_operation = λ m undo. ((undo.leaves, undo.gives, ap is_cancel undo.role, undo.quiet), good.stack.1);
       } in
       let w = deals p t wired typed s e (Unwinding code (e ∷ es) ∷ ls) (Unwinding code es ∷ ls) d in
       go e s.items same w.0 w.1

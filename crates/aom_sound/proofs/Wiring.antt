@@ -18,10 +18,10 @@ use Rattle.aom_image.specs.declared.method.Gives.{Gives}
 use Rattle.aom_image.specs.declared.method.Gives.TheVariants.{Left, Nothing}
 use Rattle.aom_image.specs.declared.method.Method.{Method as Method_declared}
 use Rattle.aom_image.specs.declared.method.Role.{Role}
-use Rattle.aom_image.specs.declared.method.Role.TheVariants.{Construct, Destruct, Do, Main, Undo}
+use Rattle.aom_image.specs.declared.method.Role.TheVariants.{Cancel, Construct, Destruct, Do, Main, Undo}
 use Rattle.aom_image.specs.declared.method.Thing.TheVariants.{Object as An_object_of}
 use Rattle.aom_roles.specs.Classes.{ClassOrdered, OwnsBefore, kind_in}
-use Rattle.aom_roles.specs.Shapes.{HasShape, IsConstruct, IsDestruct, IsDo, IsMain, IsShaped, IsTrapped as ShapedTrapped, IsUndo as ShapedUndo, NamesRoles, gives_left, gives_nothing, is_role, is_word, kind_of}
+use Rattle.aom_roles.specs.Shapes.{HasShape, IsCancel, IsConstruct, IsDestruct, IsDo, IsMain, IsShaped, IsTrapped as ShapedTrapped, IsUndo as ShapedUndo, NamesRoles, gives_left, gives_nothing, is_role, is_word, kind_of}
 use Rattle.aom_classes.specs.Linked.{IsLinked}
 use Rattle.aom_classes.specs.Needs.{KindNeeds, NeedsMet}
 use Rattle.aom_classes.specs.Roles.{main_of, role_of, same_role}
@@ -139,6 +139,29 @@ module _ (p : Image) (formed : WellFormed p) (linked : IsLinked p) where
         ap gives_in d.1 ∙ nothing_given d.0.gives s.gives,
         ap arguments_in d.1 ∙ nil_from_length d.0.arguments s.takes.count,
       )
+
+  cancel_is : (m : ℕ) → method_role p m ≡ Some Cancel → (is_quiet p m ≡ true) × (gives_of p m ≡ Nothing)
+  unfolding role_in quiet_in gives_in
+  cancel_is m e = go (method_at p m) refl e
+    where
+      go : (o : Option Method_declared) → method_at p m ≡ o → role_in o ≡ Some Cancel → (quiet_in (method_at p m) ≡ true) × (gives_in (method_at p m) ≡ Nothing)
+      go None f e = cc
+      go (Some d) f e =
+          let role : d.role ≡ Cancel = cc in
+          let s : IsCancel (kind_of p d.class) d = of_role m d Cancel f role in
+          (ap quiet_in f ∙ s.flags, ap gives_in f ∙ nothing_given d.gives s.gives)
+
+  -- what may leave is not quiet
+  loud : (m : ℕ) → leaves p m ≡ true → is_quiet p m ≡ false
+  unfolding leaves_in quiet_in
+  loud m e = go (method_at p m) refl e
+    where
+      go : (o : Option Method_declared) → method_at p m ≡ o → leaves_in o ≡ true → quiet_in (method_at p m) ≡ false
+      go None f e = cc
+      go (Some d) f e = ap quiet_in f ∙ (elim (cases_Bool (quiet_in (Some d))) as (λ x. quiet_in (Some d) ≡ false) [
+        | inl q ↦ absurd (true≢false (sym e ∙ (shaped m d f).flags.quiet q))
+        | inr q ↦ q
+      ])
 
   operands_fit : (m place : ℕ) (i : Instr) → instr_at p m place ≡ Some i → (l : Limits) × InstrFits l i
   unfolding method_at
@@ -273,6 +296,8 @@ linked_is_wired p formed linked = record {
   destructor = destructor_is p formed linked;
   static_main = static_main p formed linked;
   operands = operands_fit p formed linked;
+  cancels = cancel_is p formed linked;
+  quiets = loud p formed linked;
   called = called_is p formed linked;
   trapped = trapped_is p formed linked;
   pushed = pushed_is p formed linked;

@@ -17,6 +17,7 @@ use Rattle.aom_shape.specs.Things.{Holder, Nobody, Program, Member, field_thing,
 use Rattle.aom_sound.specs.Places.{Object, Place, Register, Entry, Field, Going, Elsewhere, Cell, held, moved}
 use Rattle.aom_sound.specs.State.{Home, Static, AtRoot, Inside, Frame, Task, Run, Trapped, Destroy, Unwind, Dispatched, Item, An_object, An_operation, A_mark, State, Need, Unbalanced, PopUnder, Orphan, NullOrDead, WrongKind, word, set_word, next, field_place, home_holder, frame_of}
 use Rattle.aom_sound.specs.Destruction.{owns_nothing}
+use Rattle.aom_sound.specs.Enlisted.{needs_cancelled}
 use Rattle.aom_sound.specs.Words.{here, needs_word}
 use Rattle.aom_sound.specs.Objects.{is_thing}
 
@@ -261,6 +262,7 @@ module _ (p : Image) (fr : Frame) (ts : List Task) (s : State) where
       result_needs (gives_of p fr.method) a
       ++ ((is_level (gives_of p fr.method), Unbalanced)
       ∷ (none_owns_but s.cells (length ts) (result_source (gives_of p fr.method) a), Orphan)
+      ∷ needs_cancelled p fr ts s
       ∷ end_needs ts)
 
   -- to the method that called, through its trap, to a destruction, to an unwinding, or to the dispatch

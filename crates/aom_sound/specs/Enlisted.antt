@@ -1,7 +1,8 @@
 -- Instructions on the request of what a method works on.
-use Rattle.std.specs.Prelude.{ℕ, suc, ◌+◌, ◌-◌, ◌^◌, min, max, ℤ, pos, negsuc, Bool, true, false, cond, not, List, [], ◌∷◌, Option, Some, None, is_none, is_some}
+use Rattle.std.specs.Prelude.{ℕ, suc, ◌+◌, ◌-◌, ◌^◌, min, max, ℤ, pos, negsuc, Bool, true, false, ◌&&◌, cond, not, List, [], ◌∷◌, Option, Some, None, is_none, is_some}
 use Rattle.std.specs.Ordering.{int_eq}
 use Rattle.aom_image.specs.Image.{Image}
+use Rattle.aom_image.specs.Views.{method_role}
 use Rattle.aom_image.specs.declared.class.ClassKind.{ClassKind}
 use Rattle.aom_image.specs.declared.class.ClassKind.TheVariants.{Active as An_active}
 use Rattle.aom_image.specs.declared.class.Provider.{Provider}
@@ -9,9 +10,9 @@ use Rattle.aom_image.specs.declared.class.Provider.TheVariants.{Own, Timer as A_
 use Rattle.aom_image.specs.declared.method.Thing.{Thing}
 use Rattle.aom_image.specs.declared.method.Thing.TheVariants.{Object as An_object_of, Message}
 use Rattle.aom_roles.specs.Shapes.{kind_of}
-use Rattle.aom_rules.specs.Requests.{is_active_kind, is_listed_kind}
+use Rattle.aom_rules.specs.Requests.{is_active_kind, is_cancel, is_listed_kind}
 use Rattle.aom_sound.specs.Places.{Cell, Phase, Idle, Issued, Active, Cancelling, Aborted, Request, Timer, requested, set_request}
-use Rattle.aom_sound.specs.State.{AddedWrong, AlreadyActive, Frame, Home, Static, AtRoot, Inside, Need, RequestOverlap, State, Task, WrongKind}
+use Rattle.aom_sound.specs.State.{AddedWrong, AlreadyActive, CancelHang, Frame, Home, Static, AtRoot, Inside, Need, RequestOverlap, State, Task, WrongKind}
 use Rattle.aom_sound.specs.Words.{needs_word, needs_written}
 
 -- the kind of class of a thing
@@ -73,11 +74,20 @@ abbrev pub is_active : Phase → Bool
 is_active Active = true
 is_active _ = false
 
+abbrev pub is_aborted : Phase → Bool
+is_aborted Aborted = true
+is_aborted _ = false
+
 -- being cancelled
 abbrev pub is_cancelling : Phase → Bool
 is_cancelling Cancelling = true
 is_cancelling Aborted = true
 is_cancelling _ = false
+
+-- it is aborted and has no code
+abbrev pub is_unanswered : Option Request → Bool
+is_unanswered None = false
+is_unanswered (Some r) = is_aborted r.phase && int_eq r.status pending
 
 -- waiting, or being cancelled
 abbrev pub is_busy : Phase → Bool
@@ -140,9 +150,19 @@ on_request f (Some r) = Some (f r)
 abbrev pub waits : Request → Request
 waits r = record r { phase = Active }
 
+-- its cancel is over: the one signal of a request that is cancelled is taken
+abbrev pub cancelled : Request → Request
+cancelled r = record r { phase = Idle }
+
 -- a request that is still pending is completed as cancelled, and its timer goes
 abbrev pub aborted : Request → Request
 aborted r = record r { phase = Aborted; status = cond (int_eq r.status pending) cancelled_code r.status; timer = None }
+
+-- ---- the end of a method that cancels
+
+-- the cells once the method of a frame is over
+abbrev pub ended_cells : Image → Frame → List Cell → List Cell
+ended_cells p fr cs = cond (is_cancel (method_role p fr.method)) (rerequested cs fr.home (on_request cancelled (own_request cs fr.home))) cs
 
 -- ---- the needs
 
@@ -180,6 +200,14 @@ module _ (p : Image) (fr : Frame) (ts : List Task) (s : State) where
   -- one is made, and not waited for yet
   abbrev pub needs_set_active : List Need
   needs_set_active = needs_active ∷ needs_added ∷ (not (in_phase is_active own), AlreadyActive) ∷ (in_phase is_issued own, RequestOverlap) ∷ []
+
+  -- the method cancels, and the request is still pending
+  abbrev pub hangs : Bool
+  hangs = is_cancel (method_role p fr.method) && int_eq (status_of own) pending
+
+  -- a method that cancels has its request completed as it ends
+  abbrev pub needs_cancelled : Need
+  needs_cancelled = (not hangs, CancelHang)
 
   abbrev pub needs_abort : List Need
   needs_abort = needs_active ∷ (in_phase is_cancelling own, WrongKind) ∷ []

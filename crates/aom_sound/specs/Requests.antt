@@ -1,14 +1,17 @@
 -- What is known of the request of each object, from the methods at hand and their abstract states.
-use Rattle.std.specs.Prelude.{ℕ, Bool, true, false, cond, ◌==◌, ◌≡◌, ◌⊎◌, IsTrue, bit_or, List, [], ◌∷◌, Option, Some, None}
+use Rattle.std.specs.Prelude.{ℕ, ℤ, Bool, true, false, cond, not, ◌||◌, ◌==◌, ◌≡◌, ◌⊎◌, IsTrue, List, [], ◌∷◌, Option, Some, None}
 use Rattle.aom_image.specs.Image.{Image}
-use Rattle.aom_image.specs.Views.{has}
+use Rattle.aom_image.specs.Views.{has, method_role}
 use Rattle.aom_image.specs.declared.class.ClassKind.{ClassKind}
 use Rattle.aom_image.specs.declared.class.ClassKind.TheVariants.{Active as An_active, Server as A_server}
-use Rattle.aom_roles.specs.States.{unlisted, idle, issued, active, cancel_open, cancel_done, server_states, active_states, states_of, last_of}
+use Rattle.aom_roles.specs.States.{unlisted, idle, issued, active, cancel_open, cancel_done, server_states, states_of, last_of}
+use Rattle.aom_rules.specs.Requests.{is_cancel}
+use Rattle.aom_shape.specs.Shape.{Shape}
 use Rattle.aom_sound.specs.Claims.{Layer, Method, Mark, Dying, Unwinding, Dispatching}
 pub use Rattle.aom_sound.specs.Enlisted.{thing_kind}
+use Rattle.aom_sound.specs.Enlisted.{in_phase, is_cancelling, is_unanswered}
 use Rattle.aom_sound.specs.Places.{Object, Cell, Phase, Idle, Issued, Active, Cancelling, Aborted, Request, named, requested}
-use Rattle.aom_sound.specs.State.{Home, Static, AtRoot, Inside}
+use Rattle.aom_sound.specs.State.{Frame, Home, Static, AtRoot, Inside}
 
 -- the state that a request is in, as a set
 abbrev pub phase_state : Phase → ℕ
@@ -22,15 +25,20 @@ abbrev pub state_of : Option Request → ℕ
 state_of None = unlisted
 state_of (Some r) = phase_state r.phase
 
--- the states of an active object while none is cancelled
-abbrev pub uncancelled : ℕ
-uncancelled = bit_or active_states issued
+-- what is known of the request of an object: the states in which it may be, and whether it is being cancelled
+pub record Known : Type 0 where
+  pub states : ℕ
+  pub cancelled : Bool
 
--- an object that may be enlisted is in one of these states, and in one that its class has; no other is enlisted
-abbrev pub Suits : Option ClassKind → ℕ → Option Request → Type 0
-Suits (Some (An_active provider budget)) states r = IsTrue (has states (state_of r)) × IsTrue (has uncancelled (state_of r))
-Suits (Some (A_server most session budget)) states r = IsTrue (has states (state_of r)) × IsTrue (has server_states (state_of r))
-Suits _ states r = r ≡ None
+-- while it is not
+abbrev pub resting_in : ℕ → Known
+resting_in states = record { states = states; cancelled = false }
+
+-- an object that may be enlisted is as it is known to be, and what is aborted has its code; an object of another class is not enlisted
+abbrev pub Suits : Option ClassKind → Known → Option Request → Type 0
+Suits (Some (An_active provider budget)) k r = IsTrue (has k.states (state_of r)) × (in_phase is_cancelling r ≡ k.cancelled) × (is_unanswered r ≡ false)
+Suits (Some (A_server most session budget)) k r = IsTrue (has k.states (state_of r)) × IsTrue (has server_states (state_of r))
+Suits _ k r = r ≡ None
 
 -- a method with that home works on the cell of that name
 abbrev pub works_at : ℕ → Home → Bool
@@ -38,17 +46,21 @@ works_at n Static = false
 works_at n AtRoot = false
 works_at n (Inside x from) = x.name == n
 
+-- by a method that works on the object, where this is known below it
+abbrev pub known_at : Image → Frame → ℕ → Known → Known
+known_at p fr states below = record { states = states; cancelled = is_cancel (method_role p fr.method) || below.cancelled }
+
 module _ (p : Image) (o : Object) where
   -- the states in which the object may rest
   abbrev pub rests_in : ℕ
   rests_in = states_of (thing_kind p o.thing)
 
-  -- it is in one of these, by the first layer that works on it
-  abbrev pub states_claim : List Layer → ℕ
-  states_claim [] = rests_in
-  states_claim (Method fr sh ∷ ls) = cond (works_at o.name fr.home) sh.states (states_claim ls)
+  -- it is in one of the states of the first layer that works on it, and being cancelled while a method that cancels does
+  abbrev pub states_claim : List Layer → Known
+  states_claim [] = resting_in rests_in
+  states_claim (Method fr sh ∷ ls) = cond (works_at o.name fr.home) (known_at p fr sh.states (states_claim ls)) (states_claim ls)
   states_claim (Mark gv ∷ ls) = states_claim ls
-  states_claim (Dying x ∷ ls) = cond (x.name == o.name) (last_of (thing_kind p o.thing)) (states_claim ls)
+  states_claim (Dying x ∷ ls) = cond (x.name == o.name) (resting_in (last_of (thing_kind p o.thing))) (states_claim ls)
   states_claim (Unwinding code es ∷ ls) = states_claim ls
   states_claim (Dispatching d ∷ ls) = states_claim ls
 

@@ -1,5 +1,5 @@
 -- The well-typed states: what the typing says of the methods at hand holds of the cells and their owners.
-use Rattle.std.specs.Prelude.{IsSome, IsTrue, List, None, Option, Some, [], false, length, suc, true, ℕ, ℤ, ◌<◌, ◌==◌, ◌∷◌, ◌≡◌, ◌⊎◌}
+use Rattle.std.specs.Prelude.{IsSome, cond, IsTrue, List, None, Option, Some, [], false, length, suc, true, ℕ, ℤ, ◌<◌, ◌==◌, ◌∷◌, ◌≡◌, ◌⊎◌}
 use Rattle.aom_image.specs.Image.{Image}
 use Rattle.aom_image.specs.Views.{has, instr_at, method_at, method_role, method_class, arguments_of, is_quiet, leaves, gives_of}
 use Rattle.aom_image.specs.declared.method.Argument.TheVariants.{Word as Takes_word}
@@ -11,9 +11,9 @@ use Rattle.aom_shape.specs.Shape.{Shape}
 use Rattle.aom_shape.specs.Kinds.{register, filled, is_unowning, is_ready_kind, none_owns}
 use Rattle.aom_rules.specs.Typing.{Typing, shape_at, Leads}
 use Rattle.aom_rules.specs.Calls.{brought, caught, is_destructor}
-use Rattle.aom_rules.specs.Requests.{unissued}
+use Rattle.aom_rules.specs.Requests.{is_cancel, unissued}
 use Rattle.aom_shape.specs.Arguments.{after_of}
-use Rattle.aom_roles.specs.States.{last_of}
+use Rattle.aom_roles.specs.States.{idle, last_of}
 use Rattle.aom_shape.specs.declared.kind.Age.{Age}
 use Rattle.aom_shape.specs.declared.kind.Age.TheVariants.{Fresh, Ready}
 use Rattle.aom_shape.specs.declared.kind.Filling.TheVariants.{Perhaps}
@@ -22,7 +22,7 @@ use Rattle.aom_shape.specs.declared.kind.Kind.TheVariants.{Unset, Word, Null, Ow
 use Rattle.aom_sound.specs.Places.{Cell, Elsewhere, Entry, Field, Going, Object, Place, Register, Root, Sight, Tidy, held, named, same_place, seen}
 use Rattle.aom_sound.specs.State.{Home, Static, AtRoot, Inside, Frame, Dispatch, Of_main, Main_left, Of_root, Item, An_object, An_operation, A_mark, word, State, Outcome, Goes, IsStuck, home_holder, thing_holder}
 use Rattle.aom_sound.specs.Calls.{result_register, called}
-use Rattle.aom_sound.specs.Requests.{AllSuit, Joins, thing_kind, works_at}
+use Rattle.aom_sound.specs.Requests.{AllSuit, Joins, states_claim, thing_kind, works_at}
 use Rattle.aom_sound.specs.Claims.{Layer, Method, Mark, Dying, Unwinding, Dispatching, tasks_of, forms, items_of, claim, declared}
 
 -- fresh: all fields are null, and the object is not enlisted
@@ -60,11 +60,18 @@ pub data Back : Type 0 where
   Gone : Back
   Leaves : Back
 
+-- below a method that cancels none cancels the same object
+abbrev pub IsAlone : Image → Home → List Layer → Type 0
+IsAlone p Static ls = Unit {0}
+IsAlone p AtRoot ls = Unit {0}
+IsAlone p (Inside o from) ls = (states_claim p o ls).cancelled ≡ false
+
 -- the frame's registers are as the state says, and its home and its height are its own
 pub record Frames (p : Image) (ls : List Layer) (fr : Frame) (sh : Shape) : Type 0 where
   pub words : (i : ℕ) → WordFits (word fr i) (register sh i)
   pub holder : home_holder fr.home ≡ holder_of p fr.method
   pub height : fr.height ≡ length (items_of ls)
+  pub alone : is_cancel (method_role p fr.method) ≡ true → IsAlone p fr.home ls
 
 -- what the result goes to owns nothing while the call lasts
 abbrev pub Awaits : Gives → ℕ → Shape → Type 0
@@ -74,11 +81,15 @@ Awaits (An_own t) c sh = is_unowning (register sh c) ≡ true
 Awaits (A_maybe t) c sh = is_unowning (register sh c) ≡ true
 Awaits (Left x) c sh = Unit {0}
 
--- where the method works on what the caller works on, the caller finds it in one of the states in which the method ends
+-- the states in which a method leaves its object: one that cancels leaves it idle
+abbrev pub left_in : Image → ℕ → ℕ
+left_in p m = cond (is_cancel (method_role p m)) idle (after_of p m)
+
+-- where the method works on what the caller works on, the caller finds it in one of the states in which the method leaves it
 abbrev pub EndsWell : Image → ℕ → Home → Frame → Shape → Type 0
 EndsWell p m Static fr sh = Unit {0}
 EndsWell p m AtRoot fr sh = Unit {0}
-EndsWell p m (Inside o from) fr sh = works_at o.name fr.home ≡ true → IsTrue (has sh.states (after_of p m))
+EndsWell p m (Inside o from) fr sh = works_at o.name fr.home ≡ true → IsTrue (has sh.states (left_in p m))
 
 -- the typing has that state where the frame stands, or where it goes on once the task above is over
 abbrev pub Stands : Image → Typing → Back → Frame → Shape → Type 0
@@ -88,11 +99,13 @@ Stands p t (Returns m home) fr sh =
     × Awaits (gives_of p m) (result_register (instr_at p fr.method fr.place)) sh
     × Leads t fr.method (suc fr.place) (brought (gives_of p m) (result_register (instr_at p fr.method fr.place)) sh)
     × EndsWell p m home fr sh
+    × (is_quiet p fr.method ≡ true → is_quiet p m ≡ true)
 Stands p t (Caught g) fr sh =
     (called p (instr_at p fr.method fr.place) ≡ g)
     × (is_unowning (register sh (suc (result_register (instr_at p fr.method fr.place)))) ≡ true)
     × Awaits g (result_register (instr_at p fr.method fr.place)) sh
     × Leads t fr.method (suc fr.place) (caught g (result_register (instr_at p fr.method fr.place)) sh)
+    × (is_quiet p fr.method ≡ false)
 Stands p t Gone fr sh = Leads t fr.method (suc fr.place) sh
 Stands p t Leaves fr sh = ⊥
 
@@ -222,7 +235,7 @@ LeavesNone (Left x) = ⊥
 
 abbrev pub Catches : Image → Back → Gives → Type 0
 Catches p Now g = ⊥
-Catches p (Returns m home) g = (gives_of p m ≡ g) × LeavesNone g
+Catches p (Returns m home) g = (gives_of p m ≡ g) × LeavesNone g × (is_cancel (method_role p m) ≡ false)
 Catches p (Caught g') g = ⊥
 Catches p Gone g = ⊥
 Catches p Leaves g = Unit {0}
@@ -231,7 +244,7 @@ Catches p Leaves g = Unit {0}
 abbrev pub IsDestructorOf : Image → ℕ → Object → Back → Type 0
 IsDestructorOf p depth o Now = Unit {0}
 IsDestructorOf p depth o (Returns m home) =
-    (leaves p m ≡ false) × (home ≡ Inside o (Going depth)) × (is_destructor p m ≡ true) × (gives_of p m ≡ Nothing) × (after_of p m ≡ last_of (thing_kind p o.thing))
+    (leaves p m ≡ false) × (home ≡ Inside o (Going depth)) × (is_destructor p m ≡ true) × (gives_of p m ≡ Nothing) × (after_of p m ≡ last_of (thing_kind p o.thing)) × (is_quiet p m ≡ true)
 IsDestructorOf p depth o (Caught g) = ⊥
 IsDestructorOf p depth o Gone = ⊥
 IsDestructorOf p depth o Leaves = ⊥
@@ -239,7 +252,7 @@ IsDestructorOf p depth o Leaves = ⊥
 -- over an unwinding a cell goes, or an operation runs
 abbrev pub IsUnwound : Image → Back → Type 0
 IsUnwound p Now = Unit {0}
-IsUnwound p (Returns m home) = (leaves p m ≡ false) × (gives_of p m ≡ Nothing)
+IsUnwound p (Returns m home) = (leaves p m ≡ false) × (gives_of p m ≡ Nothing) × (is_cancel (method_role p m) ≡ false) × (is_quiet p m ≡ true)
 IsUnwound p (Caught g) = ⊥
 IsUnwound p Gone = Unit {0}
 IsUnwound p Leaves = ⊥
