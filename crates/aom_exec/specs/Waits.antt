@@ -5,14 +5,14 @@ use Rattle.aom_image.specs.Views.{arguments_of, instr_at, method_class}
 use Rattle.aom_instructions.specs.declared.instr.Instr.{Instr}
 use Rattle.aom_shape.specs.Arguments.{after_of, arguments_moved}
 use Rattle.aom_rules.specs.Calls.{while_called}
-use Rattle.aom_rules.specs.Requests.{resting}
+use Rattle.aom_rules.specs.Requests.{after_cancel, resting}
 use Rattle.aom_shape.specs.Entries.{without_entry}
 use Rattle.aom_shape.specs.Kinds.{register, set_register}
 use Rattle.aom_rules.specs.Rules.{ways_of}
 use Rattle.aom_shape.specs.Shape.{Shape}
 use Rattle.aom_shape.specs.Things.{stands_for}
 use Rattle.aom_rules.specs.Typing.{Typing, shape_at}
-use Rattle.aom_rules.specs.Ways.{As_before, Branches, Branches_in, Branches_on_empty, Branches_on_null, Called, Caught, Dropped, Ends, Filled, Goes_back, Goes_on, Goes_to, Holding, Left_in, Moved, News, Popped, Pushed, Pushed_operation, Taken, Ways}
+use Rattle.aom_rules.specs.Ways.{As_before, Branches, Branches_in, Branches_on_empty, Branches_on_null, Called, Cancelled, Caught, Dropped, Ends, Filled, Goes_back, Goes_on, Goes_to, Holding, Left_in, Moved, News, Popped, Pushed, Pushed_operation, Taken, Ways}
 use Rattle.aom_shape.specs.declared.kind.Kind.{Kind}
 use Rattle.aom_shape.specs.declared.kind.Kind.TheVariants.{Maybe, Null, Own, Unset, Word}
 use Rattle.aom_sound.specs.Places.{Cell, Object, Register, held}
@@ -42,6 +42,7 @@ waiting_for p (Pushed a) sh = sh
 waiting_for p Pushed_operation sh = sh
 waiting_for p (Popped a) sh = sh
 waiting_for p (Left_in states) sh = sh
+waiting_for p Cancelled sh = after_cancel sh
 
 abbrev pub waiting_by : Image → Ways → Shape → Shape
 waiting_by p (Goes_on news) sh = waiting_for p news sh

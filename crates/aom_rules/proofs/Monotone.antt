@@ -5,7 +5,7 @@ use Rattle.std.specs.Prelude.{bit_and, bit_or}
 use Rattle.aom_image.specs.Image.{Image}
 use Rattle.aom_image.specs.Views.{arguments_of, gives_of, fields_of, has, leaves, method_class, method_role}
 use Rattle.aom_instructions.specs.declared.instr.Instr.{Instr}
-use Rattle.aom_instructions.specs.declared.instr.Instr.TheVariants.{Const, Copy, Move, Add, Sub, Mul, And, Or, Xor, JumpEqual, JumpLess, JumpNull, JumpEmpty, Print, Load, Store, Take, Put, New, NewOrLeave, Delete, Push, PushOperation, Pop, Call, Trap, Return, Leave, LeaveIf, Enlist, Issue, SetActive, Abort, Status}
+use Rattle.aom_instructions.specs.declared.instr.Instr.TheVariants.{Const, Copy, Move, Add, Sub, Mul, And, Or, Xor, JumpEqual, JumpLess, JumpNull, JumpEmpty, Print, Load, Store, Take, Put, New, NewOrLeave, Delete, Push, PushOperation, Pop, Call, Trap, Return, Leave, LeaveIf, Enlist, Issue, SetActive, Cancel, Abort, Status}
 use Rattle.aom_instructions.specs.declared.instr.Target.{Target}
 use Rattle.aom_instructions.specs.declared.instr.Target.TheVariants.{This, Register, Field, Entry as On_entry}
 use Rattle.aom_image.specs.declared.method.Argument.{Argument}
@@ -13,8 +13,8 @@ use Rattle.aom_image.specs.declared.method.Argument.TheVariants.{Word as A_word_
 use Rattle.aom_image.specs.declared.method.Gives.{Gives}
 use Rattle.aom_image.specs.declared.method.Gives.TheVariants.{Nothing, Word as A_word, Own as An_own, Maybe as A_maybe, Left}
 use Rattle.aom_image.specs.declared.method.Thing.TheVariants.{Object}
-use Rattle.aom_roles.specs.States.{active, cancel_done, cancel_open, idle, issued, unlisted}
-use Rattle.aom_rules.specs.Requests.{begins_here, flow_in, flow_narrowed, is_cancel, is_construct, is_service, may_begin, resting, unissued}
+use Rattle.aom_roles.specs.States.{active, active_states, cancel_done, cancel_open, idle, issued, server_states, unlisted}
+use Rattle.aom_rules.specs.Requests.{begins_here, flow_in, flow_narrowed, is_cancel, is_construct, is_service, may_begin, once_cancelled, resting, unissued}
 use Rattle.aom_rules.specs.Calls.{is_destructor, is_target, age_need, awaits, brought, caught, worked_on, while_called, argument_needs, each_argument, rule_target, rule_arguments, rule_moved, rule_trapped, fields_done, rule_ended, rule_left, rule_result, result_moved, lasting}
 use Rattle.aom_shape.specs.Entries.{readied_at, without_top, with_entry, without_entry}
 use Rattle.aom_shape.specs.Arguments.{after_of, argument_moved, arguments_moved, before_of}
@@ -29,7 +29,7 @@ use Rattle.aom_shape.specs.Order.Weaker.{alike, unset_word, unset_null, maybe_nu
 use Rattle.aom_shape.specs.Order.WeakerFilling.{alike_filling, perhaps_empty, perhaps_full}
 use Rattle.aom_rules.specs.Rules.{rule_needs, flows, ways_of}
 use Rattle.aom_shape.specs.Shape.{Shape}
-use Rattle.aom_rules.specs.Ways.{As_before, Branches, Branches_in, Branches_on_empty, Branches_on_null, Called, Caught, Dropped, Ends, Filled, Goes_back, Goes_on, Goes_to, Holding, Left_in, Moved, News, Popped, Pushed, Pushed_operation, Taken, Ways, after, flowing}
+use Rattle.aom_rules.specs.Ways.{As_before, Branches, Branches_in, Branches_on_empty, Branches_on_null, Called, Cancelled, Caught, Dropped, Ends, Filled, Goes_back, Goes_on, Goes_to, Holding, Left_in, Moved, News, Popped, Pushed, Pushed_operation, Taken, Ways, after, flowing}
 use Rattle.aom_shape.specs.Things.{Holder, Nobody, Program, Member, field_thing, holder_of}
 use Rattle.aom_shape.specs.declared.kind.Age.TheVariants.{Ready}
 use Rattle.aom_shape.specs.declared.kind.Entry.{Entry}
@@ -40,7 +40,7 @@ use Rattle.aom_shape.specs.declared.kind.Filling.{Filling}
 use Rattle.aom_shape.specs.declared.kind.Filling.TheVariants.{Empty, Full, Perhaps}
 use Rattle.aom_rules.proofs.Ways.{Allows, allows}
 use Rattle.aom_shape.proofs.Lists.{at_put}
-use Rattle.aom_shape.proofs.Sets.{has_along, has_itself, has_shared, larger}
+use Rattle.aom_shape.proofs.Sets.{has_along, has_both, has_first, has_itself, has_second, has_shared, larger}
 use Rattle.aom_rules.proofs.Telling.{fresh_more, readied_more, word_more, unowning_more, object_or_null_more, destroyed_more, ready_more, own_more, may_be_more, declared_more, empty_more, filled_more, filling_more, none_owns_more, all_empty_more}
 
 -- two states with a register written alike
@@ -401,6 +401,7 @@ needs_more p m pc a b (Issue r s) h n = (
   ),
 )
 needs_more p m pc a b SetActive h n = (n.0, (has_along issued a.states b.states n.1.0 h.states, tt))
+needs_more p m pc a b Cancel h n = (n.0, (has_along active_states a.states b.states n.1.0 h.states, tt))
 needs_more p m pc a b Abort h n = (n.0, (has_along (bit_or cancel_open cancel_done) a.states b.states n.1.0 h.states, tt))
 needs_more p m pc a b (Status r) h n = (n.0, (unowning_more (register a r) (register b r) (h.registers r) n.1.0, tt))
 -- of the entries or of the method alone, or of nothing, or never met
@@ -436,6 +437,28 @@ both_ways_more x y a b h = (inl (refl, h), (inr (inl (refl, h)), tt))
 -- two states with fewer request states in the second
 states_more : (a b : Shape) (s t : ℕ) → SaysNoMore a b → IsTrue (has s t) → SaysNoMore (record a { states = s }) (record b { states = t })
 states_more a b s t h fewer = record { registers = h.registers; fields = h.fields; entries = h.entries; states = fewer; delivery = h.delivery }
+
+-- a request that may be in fewer states is in fewer once it is cancelled
+cancelled_more : (s t : ℕ) → IsTrue (has s t) → IsTrue (has (once_cancelled s) (once_cancelled t))
+cancelled_more s t h = go (has s active) (has t active) refl refl
+  where
+    x : ℕ
+    x = bit_and s server_states
+
+    y : ℕ
+    y = bit_and t server_states
+
+    rest : IsTrue (has x y)
+    rest = has_shared s t server_states h
+
+    wider : IsTrue (has (bit_or x idle) y)
+    wider = has_along (bit_or x idle) x y (has_first x idle) rest
+
+    go : (c d : Bool) → has s active ≡ c → has t active ≡ d → IsTrue (has (cond c (bit_or x idle) x) (cond d (bit_or y idle) y))
+    go true true e f = has_both (bit_or x idle) y idle wider (has_second x idle)
+    go true false e f = wider
+    go false false e f = rest
+    go false true e f = absurd (false≢true (sym e ∙ has_along s t active h f))
 
 none_left : (t : ℕ) → t ≤ 0 → (t == 0) ≡ true
 none_left zero h = refl
@@ -504,6 +527,7 @@ module _ (p : Image) (m pc : ℕ) (a b : Shape) (h : SaysNoMore a b) where
       let ended = resting p (method_class p m') in
       caught_more (gives_of p m') c (lasting p m pc a target m' first ended) (lasting p m pc b target m' first ended) (lasting_more target m' first ended)
   after_more (Left_in states) n = states_more a b states states h (has_itself states)
+  after_more Cancelled n = record { registers = h.registers; fields = λ i. alike_filling; entries = h.entries; states = cancelled_more a.states b.states h.states; delivery = h.delivery }
 
   ways_more : (ways : Ways) → Allows a ways → AllFollow (flowing p m pc a ways) (flowing p m pc b ways)
   ways_more Ends n = tt

@@ -10,7 +10,7 @@ use Rattle.aom_image.specs.declared.method.Method.{Method}
 use Rattle.aom_image.specs.declared.method.Role.{Role}
 use Rattle.aom_image.specs.declared.method.Role.TheVariants.{Cancel, Construct, Destruct, Do, Service}
 use Rattle.aom_image.specs.declared.method.Thing.TheVariants.{Object}
-use Rattle.aom_instructions.specs.declared.instr.Instr.TheVariants.{Abort, Call, Enlist, Issue, JumpActive, JumpAdded, Leave, Return, SetActive, Status, Trap}
+use Rattle.aom_instructions.specs.declared.instr.Instr.TheVariants.{Abort, Call, Cancel as Cancels, Enlist, Issue, JumpActive, JumpAdded, Leave, Return, SetActive, Status, Trap}
 use Rattle.aom_instructions.specs.declared.instr.Target.TheVariants.{This, Register}
 use Rattle.aom_roles.specs.Classes.{kind_in}
 use Rattle.aom_roles.specs.Shapes.{kind_of}
@@ -21,7 +21,7 @@ use Rattle.aom_shape.specs.Shape.{Shape}
 use Rattle.aom_shape.specs.declared.kind.Age.TheVariants.{Fresh, Ready}
 use Rattle.aom_shape.specs.declared.kind.Delivery.{Delivery}
 use Rattle.aom_shape.specs.declared.kind.Delivery.TheVariants.{Here, Gone}
-use Rattle.aom_shape.specs.declared.kind.Filling.TheVariants.{Perhaps}
+use Rattle.aom_shape.specs.declared.kind.Filling.TheVariants.{Empty, Perhaps}
 use Rattle.aom_shape.specs.declared.kind.Kind.{Kind}
 use Rattle.aom_shape.specs.declared.kind.Kind.TheVariants.{Word, Unset, Own}
 use Rattle.aom_shape.specs.declared.why.Why.TheVariants.{IssuedAtLeave, IssuedAtReturn, StillActive, NotCancelled, MessageAtLeave, MessageAtReturn, EntryState, NotAdded, NotIdle, NotIssued, RegisterKind}
@@ -206,6 +206,31 @@ aborted_outside_a_cancel = refl
 aborted_in_a_cancel : rule (alone (method Cancel (Some 0) 2 16 32)) 0 0 (state Unset 16 Here) Abort ≡ Ok ((1, state Unset 32 Here) ∷ [])
 unfolding alone running active_do method state classes method_at class_at class_in kind_of kind_in
 aborted_in_a_cancel = refl
+
+cancelled_while_issued : rule (alone (active_do 11 11)) 0 0 (state Unset 6 Here) Cancels ≡ Err NotIdle
+unfolding alone running active_do method state classes method_at class_at class_in kind_of kind_in
+cancelled_while_issued = refl
+
+cancelled_in_a_cancel : rule (alone (method Cancel (Some 0) 2 16 32)) 0 0 (state Unset 16 Here) Cancels ≡ Err NotIdle
+unfolding alone running active_do method state classes method_at class_at class_in kind_of kind_in
+cancelled_in_a_cancel = refl
+
+cancelled_by_a_server : rule (alone (method Do (Some 3) 1 3 3)) 0 0 (state Unset 2 Here) Cancels ≡ Err RegisterKind
+unfolding alone running active_do method state classes method_at class_at class_in kind_of kind_in
+cancelled_by_a_server = refl
+
+-- what was active is idle, and nothing is known of the fields
+cancelled_in_any_state : rule (alone (active_do 11 11)) 0 0 (record (state Unset 11 Here) { fields = Empty ∷ [] }) Cancels ≡ Ok ((1, record (state Unset 3 Here) { fields = replicate 8 Perhaps }) ∷ [])
+unfolding alone running active_do method state classes method_at class_at class_in kind_of kind_in
+cancelled_in_any_state = refl
+
+cancelled_of_an_active : rule (alone (active_do 11 11)) 0 0 (state Unset 8 Here) Cancels ≡ Ok ((1, record (state Unset 2 Here) { fields = replicate 8 Perhaps }) ∷ [])
+unfolding alone running active_do method state classes method_at class_at class_in kind_of kind_in
+cancelled_of_an_active = refl
+
+cancelled_of_an_unlisted : rule (alone (active_do 11 11)) 0 0 (state Unset 1 Here) Cancels ≡ Ok ((1, record (state Unset 1 Here) { fields = replicate 8 Perhaps }) ∷ [])
+unfolding alone running active_do method state classes method_at class_at class_in kind_of kind_in
+cancelled_of_an_unlisted = refl
 
 -- ---- jumps by the request
 

@@ -1,5 +1,5 @@
 -- What rules say of request states and of the message of a service, and the rules of instructions on requests.
-use Rattle.std.specs.Prelude.{ℕ, Bool, true, false, not, cond, ◌==◌, List, [], ◌∷◌, Option, Some, None, bit_and, bit_or}
+use Rattle.std.specs.Prelude.{ℕ, Bool, true, false, not, cond, ◌==◌, List, [], ◌∷◌, Option, Some, None, bit_and, bit_or, replicate}
 use Rattle.aom_image.specs.Image.{Image}
 use Rattle.aom_image.specs.Views.{has, method_class, method_role}
 use Rattle.aom_image.specs.declared.class.ClassKind.{ClassKind}
@@ -9,11 +9,12 @@ use Rattle.aom_image.specs.declared.method.Role.TheVariants.{Cancel, Construct, 
 use Rattle.aom_instructions.specs.declared.instr.Target.{Target}
 use Rattle.aom_instructions.specs.declared.instr.Target.TheVariants.{This, Register, Field, Entry as On_entry}
 use Rattle.aom_roles.specs.Shapes.{kind_of}
-use Rattle.aom_roles.specs.States.{unlisted, idle, issued, active, cancel_open, cancel_done, server_states, states_of}
+use Rattle.aom_roles.specs.States.{unlisted, idle, issued, active, cancel_open, cancel_done, server_states, active_states, states_of}
 use Rattle.aom_shape.specs.Arguments.{before_of}
 use Rattle.aom_shape.specs.Kinds.{register, is_unowning, is_word}
 use Rattle.aom_shape.specs.Needs.{Flow, Need, only_if}
 use Rattle.aom_shape.specs.Shape.{Shape}
+use Rattle.aom_shape.specs.declared.kind.Filling.TheVariants.{Perhaps}
 use Rattle.aom_shape.specs.declared.why.Why.TheVariants.{EntryState, NotAdded, NotIdle, NotIssued, RegisterKind}
 
 abbrev pub is_construct : Option Role → Bool
@@ -81,6 +82,14 @@ inactive = bit_or server_states issued
 abbrev pub enlisted : ℕ
 enlisted = bit_or (bit_or idle issued) outstanding
 
+-- once the request is cancelled it is idle where it was active, and as it was where not
+abbrev pub once_cancelled : ℕ → ℕ
+once_cancelled states = cond (has states active) (bit_or (bit_and states server_states) idle) (bit_and states server_states)
+
+-- the method that cancels may have changed the fields
+abbrev pub after_cancel : Shape → Shape
+after_cancel sh = record sh { fields = replicate 8 Perhaps; states = once_cancelled sh.states }
+
 -- to a place with the object in these states, and nowhere where there are none
 abbrev pub flow_in : Shape → ℕ → ℕ → List Flow
 flow_in sh place states = cond (states == 0) [] ((place, record sh { states = states }) ∷ [])
@@ -113,6 +122,10 @@ module _ (p : Image) (m : ℕ) (sh : Shape) where
 
   abbrev pub rule_set_active : List Need
   rule_set_active = (is_active_kind (own_kind p m), RegisterKind) ∷ (has issued sh.states, NotIssued) ∷ []
+
+  -- no request is made that is not waited for, and none is being cancelled
+  abbrev pub rule_cancel : List Need
+  rule_cancel = (is_active_kind (own_kind p m), RegisterKind) ∷ (has active_states sh.states, NotIdle) ∷ []
 
   abbrev pub rule_abort : List Need
   rule_abort = (is_active_kind (own_kind p m), RegisterKind) ∷ (has (bit_or cancel_open cancel_done) sh.states, EntryState) ∷ []

@@ -3,7 +3,7 @@ use Rattle.std.specs.Prelude.{ℕ, false, List, [], ◌∷◌, Result}
 use Rattle.aom_image.specs.Image.{Image}
 use Rattle.aom_roles.specs.States.{unlisted, idle, issued, active, cancel_done}
 use Rattle.aom_instructions.specs.declared.instr.Instr.{Instr}
-use Rattle.aom_instructions.specs.declared.instr.Instr.TheVariants.{Const, Copy, Move, Add, Sub, Mul, And, Or, Xor, Jump, JumpEqual, JumpLess, JumpNull, JumpEmpty, JumpActive, JumpAdded, Loop, Next, Print, Load, Store, Take, Put, New, NewOrLeave, Delete, Push, PushOperation, Pop, PopOperation, PopDelete, Call, Trap, Return, Leave, LeaveIf, Enlist, Issue, SetActive, Abort, Status, Stop}
+use Rattle.aom_instructions.specs.declared.instr.Instr.TheVariants.{Const, Copy, Move, Add, Sub, Mul, And, Or, Xor, Jump, JumpEqual, JumpLess, JumpNull, JumpEmpty, JumpActive, JumpAdded, Loop, Next, Print, Load, Store, Take, Put, New, NewOrLeave, Delete, Push, PushOperation, Pop, PopOperation, PopDelete, Call, Trap, Return, Leave, LeaveIf, Enlist, Issue, SetActive, Cancel, Abort, Status, Stop}
 use Rattle.aom_image.specs.declared.method.Thing.TheVariants.{Object}
 use Rattle.aom_shape.specs.Shape.{Shape}
 use Rattle.aom_shape.specs.Needs.{Need, Flow, judged}
@@ -11,8 +11,8 @@ use Rattle.aom_rules.specs.Words.{rule_const, rule_copy, rule_combine, rule_comp
 use Rattle.aom_rules.specs.Objects.{new_age, rule_move, rule_jump_null, rule_jump_empty, rule_take, rule_put, rule_new, rule_delete}
 use Rattle.aom_rules.specs.Calls.{rule_call, rule_trap, rule_return}
 use Rattle.aom_rules.specs.Cleanup.{rule_new_or_leave, rule_push, rule_push_operation, rule_pop, rule_pop_operation, rule_pop_delete, rule_leave}
-use Rattle.aom_rules.specs.Requests.{enlisted, inactive, outstanding, rule_abort, rule_enlist, rule_issue, rule_jump_active, rule_jump_added, rule_set_active, rule_status}
-use Rattle.aom_rules.specs.Ways.{Ways, Ends, Goes_on, Goes_to, Branches, Goes_back, Branches_on_null, Branches_on_empty, Branches_in, As_before, Holding, Moved, Taken, Filled, Pushed, Pushed_operation, Popped, Dropped, Called, Caught, Left_in, flowing}
+use Rattle.aom_rules.specs.Requests.{enlisted, inactive, outstanding, rule_abort, rule_cancel, rule_enlist, rule_issue, rule_jump_active, rule_jump_added, rule_set_active, rule_status}
+use Rattle.aom_rules.specs.Ways.{Ways, Ends, Goes_on, Goes_to, Branches, Goes_back, Branches_on_null, Branches_on_empty, Branches_in, As_before, Holding, Moved, Taken, Filled, Pushed, Pushed_operation, Popped, Dropped, Called, Caught, Left_in, Cancelled, flowing}
 use Rattle.aom_shape.specs.declared.kind.Kind.TheVariants.{Word, Null, Own, Maybe}
 use Rattle.aom_shape.specs.declared.why.Why.{Why}
 use Rattle.aom_shape.specs.declared.why.Why.TheVariants.{RegisterKind}
@@ -58,6 +58,7 @@ ways_of p (JumpAdded to) = Branches_in enlisted unlisted to
 ways_of p (Enlist priority) = Goes_on (Left_in idle)
 ways_of p (Issue a b) = Goes_on (Left_in issued)
 ways_of p SetActive = Goes_on (Left_in active)
+ways_of p Cancel = Goes_on Cancelled
 ways_of p Abort = Goes_on (Left_in cancel_done)
 ways_of p (Status a) = Goes_on (Holding a Word)
 ways_of p Stop = Goes_on As_before
@@ -104,6 +105,7 @@ module _ (p : Image) (m : ℕ) (pc : ℕ) (sh : Shape) where
   rule_needs (Enlist priority) = rule_enlist p m sh
   rule_needs (Issue a b) = rule_issue p m sh a b
   rule_needs SetActive = rule_set_active p m sh
+  rule_needs Cancel = rule_cancel p m sh
   rule_needs Abort = rule_abort p m sh
   rule_needs (Status a) = rule_status p m sh a
   rule_needs Stop = []

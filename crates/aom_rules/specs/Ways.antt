@@ -8,7 +8,7 @@ use Rattle.aom_shape.specs.Entries.{with_entry, without_entry}
 use Rattle.aom_shape.specs.Kinds.{field, register, set_register}
 use Rattle.aom_shape.specs.Needs.{Flow, to_next}
 use Rattle.aom_rules.specs.Objects.{after_move, after_put, after_take, flow_jump_empty, flow_jump_null}
-use Rattle.aom_rules.specs.Requests.{flow_narrowed}
+use Rattle.aom_rules.specs.Requests.{after_cancel, flow_narrowed}
 use Rattle.aom_shape.specs.Shape.{Shape}
 use Rattle.aom_rules.specs.Words.{flow_compare, flow_jump, flow_next}
 use Rattle.aom_shape.specs.declared.kind.Entry.TheVariants.{Operation}
@@ -31,6 +31,8 @@ pub data News : Type 0 where
   Caught : Target → (method first result : ℕ) → News
   -- the object's request is in that state
   Left_in : (states : ℕ) → News
+  -- its request is cancelled
+  Cancelled : News
 
 -- where a run may go on
 pub data Ways : Type 0 where
@@ -60,6 +62,7 @@ module _ (p : Image) (m : ℕ) (pc : ℕ) (sh : Shape) where
   after (Called target m' first c) = called p m pc sh target m' first c
   after (Caught target m' first c) = trapped p m pc sh target m' first c
   after (Left_in states) = record sh { states = states }
+  after Cancelled = after_cancel sh
 
   abbrev pub flowing : Ways → List Flow
   flowing Ends = []

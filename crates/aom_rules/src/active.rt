@@ -1,14 +1,14 @@
 //! The rules of instructions on the request of the method's own object.
 ghost use Rattle.std.specs.Prelude.{◌≡◌, ◌++◌, ℤ, cond, not, suc};
 ghost use Rattle.aom_image.specs.Views.{has, method_class};
-ghost use Rattle.aom_instructions.specs.declared.instr.Instr.TheVariants.{Abort, Enlist, Issue, JumpActive, JumpAdded, SetActive, Status};
-ghost use Rattle.aom_roles.specs.States.{active, server_states, unlisted};
-ghost use Rattle.aom_rules.specs.Requests.{enlisted, flow_narrowed, inactive, is_active_kind, is_listed_kind, outstanding, own_kind, resting};
+ghost use Rattle.aom_instructions.specs.declared.instr.Instr.TheVariants.{Abort, Cancel, Enlist, Issue, JumpActive, JumpAdded, SetActive, Status};
+ghost use Rattle.aom_roles.specs.States.{active, active_states, server_states, unlisted};
+ghost use Rattle.aom_rules.specs.Requests.{after_cancel, enlisted, flow_narrowed, inactive, is_active_kind, is_listed_kind, once_cancelled, outstanding, own_kind, resting};
 ghost use Rattle.aom_rules.specs.Site.{Tells};
 ghost use Rattle.aom_shape.specs.Changes.{ways_from};
 ghost use Rattle.aom_shape.specs.Needs.{to_next};
 ghost use Rattle.aom_shape.specs.declared.why.Why.{Why as WhyData};
-ghost use Rattle.aom_shape.specs.declared.why.Why.TheVariants.{NotAdded, RegisterKind};
+ghost use Rattle.aom_shape.specs.declared.why.Why.TheVariants.{NotAdded, NotIdle, RegisterKind};
 
 use crate::requests::resting;
 use crate::site::Site;
@@ -21,6 +21,25 @@ fn server_states() -> States
     ensures { result.0 ≡ server_states }
 {
     States::UNLISTED.union(States::IDLE)
+}
+
+/// The states of an active object while nothing works on it.
+fn active_states() -> States
+    ensures { result.0 ≡ active_states }
+{
+    server_states().union(States::ACTIVE)
+}
+
+/// The states once the request is cancelled: it is idle where it was active, and as it was where not.
+fn once_cancelled(states: States) -> States
+    ensures { result.0 ≡ once_cancelled states.0 }
+{
+    let others = states.intersection(server_states());
+    if states.contains(States::ACTIVE) {
+        others.union(States::IDLE)
+    } else {
+        others
+    }
 }
 
 /// The request is active, or was so as its cancel began.
@@ -153,6 +172,18 @@ impl Site<'_> {
             self.needs_states(States::ISSUED, Why::NotIssued),
         ];
         judge(&needs, self.left_in(States::ACTIVE))
+    }
+
+    pub(crate) fn rule_cancel(&self) -> Result<Flow, Why>
+        ensures { Tells self.now Cancel result }
+    {
+        let needs = [
+            self.needs_active_kind(),
+            self.needs_states(active_states(), Why::NotIdle),
+        ];
+        let states = once_cancelled(self.shape.states());
+        let after = self.shape.with_fields_unknown().with_states(states);
+        judge(&needs, self.next(&after))
     }
 
     pub(crate) fn rule_abort(&self) -> Result<Flow, Why>

@@ -89,8 +89,8 @@ pub fn rule(
         Instr::SetActive => site.rule_set_active(),
         Instr::Abort => site.rule_abort(),
         Instr::Status(a) => site.rule_status(a),
-        Instr::Cancel
-        | Instr::Connect(_)
+        Instr::Cancel => site.rule_cancel(),
+        Instr::Connect(_)
         | Instr::Ask(_, _, _)
         | Instr::Close
         | Instr::TakeMessage(_)

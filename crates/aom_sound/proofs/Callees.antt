@@ -33,6 +33,9 @@ use Rattle.aom_sound.specs.State.{Frame, Home, Inside, State, home_holder, thing
 use Rattle.aom_sound.specs.WellTyped.{Fits, IsBelow}
 use Rattle.aom_sound.specs.Requests.{thing_kind}
 use Rattle.aom_roles.specs.Shapes.{kind_of}
+use Rattle.aom_sound.specs.Enlisted.{cancel_method, cancel_of}
+use Rattle.aom_sound.specs.Laws.{IsWired}
+use Rattle.aom_image.specs.Views.{is_quiet}
 
 -- the kind of class of what a member is
 pub member_kind : (p : Image) (x : Thing) (k : ℕ) → thing_holder x ≡ Member k → thing_kind p x ≡ kind_of p (Some k)
@@ -148,3 +151,12 @@ module _ (p : Image) (s : State) (fr : Frame) (ls : List Layer) (depth : ℕ) (d
 
       lower_upper : (i : ℕ) → same_place (lower p t fr ls depth deep first) (upper p t fr ls depth deep i) ≡ false
       lower_upper i = ap (λ y. y && (first == i)) (ne_eqb (length (tasks_of ls)) depth (λ e. absurd (omega arith)))
+
+-- the method that cancels is quiet
+pub cancel_quiet : (p : Image) → IsWired p → (home : Home) (m : ℕ) → cancel_method p home ≡ Some m → is_quiet p m ≡ true
+cancel_quiet p wired (Inside o from) m e = of_thing o.thing e
+  where
+    of_thing : (x : Thing) → cancel_of p x ≡ Some m → is_quiet p m ≡ true
+    of_thing (An_object_of c) e = (wired.cancels m (wired.canceller c m e).1).0
+    of_thing _ e = cc
+cancel_quiet p wired _ m e = cc

@@ -17,7 +17,7 @@ use Rattle.aom_rules.specs.Rules.{rule_needs}
 use Rattle.aom_shape.specs.Shape.{Shape}
 use Rattle.aom_rules.specs.Typing.{IsTyped, Typing, shape_at}
 use Rattle.aom_shape.specs.declared.kind.Entry.{Entry as Pushed_entry}
-use Rattle.aom_sound.proofs.Callees.{only_then}
+use Rattle.aom_sound.proofs.Callees.{cancel_quiet, only_then}
 use Rattle.aom_sound.proofs.Claimed.{length_objects}
 use Rattle.aom_sound.proofs.Destroying.{destroys}
 use Rattle.aom_sound.proofs.Finishing.{all_parts}
@@ -29,7 +29,7 @@ use Rattle.aom_sound.specs.Claims.{Form, Layer, Method, forms, items_of, objects
 use Rattle.aom_sound.specs.Cleanup.{has_trap}
 use Rattle.aom_classes.specs.Roles.{destructor_of}
 use Rattle.aom_sound.specs.Destruction.{begun, begun_by}
-use Rattle.aom_sound.specs.Effects.{Calls, Counts, Destroys, Destroys_last, Effect, Goes_on, Jumps, Leaves, Operates, Popped, Popped_operation, Pushed, Pushed_operation, Repeats, Returns, Sets_trap, Update, applied, items_after, with_words}
+use Rattle.aom_sound.specs.Effects.{Calls, Cancels, Counts, Destroys, Destroys_last, Effect, Goes_on, Jumps, Leaves, Operates, Popped, Popped_operation, Pushed, Pushed_operation, Repeats, Returns, Sets_trap, Update, applied, items_after, with_words}
 use Rattle.aom_sound.specs.Laws.{IsWired}
 use Rattle.aom_sound.specs.Leaves.{IsLeaving, IsOver}
 use Rattle.aom_sound.specs.Moves.{counted, step}
@@ -118,6 +118,7 @@ module _ (p : Image) (wired : IsWired p) (c : Choice) (fr : Frame) (sh : Shape) 
   acts_kept i (Counts d n) r f = (h, refl)
   acts_kept i (Repeats d n to) r f = (h, refl)
   acts_kept i (Calls target m first) r f = ((call_quiet target m first f.0 (subst Ruled f.1 r), refl, h), refl)
+  acts_kept i (Cancels m) r f = ((cancel_quiet p wired fr.home m f.1, refl, h), refl)
   -- no quiet method sets a trap
   acts_kept i (Sets_trap target m first) r f = absurd (true≢false (sym (subst Ruled f.1 r).0 ∙ ap not h.0))
   acts_kept i (Returns g a) r f = return_kept g a ts h.2

@@ -8,7 +8,7 @@ use Rattle.aom_instructions.specs.Operands.{IsRegister}
 use Rattle.aom_image.specs.Views.{arguments_of, method_class}
 use Rattle.aom_instructions.specs.Fits.{InstrFits}
 use Rattle.aom_instructions.specs.declared.instr.Instr.{Instr}
-use Rattle.aom_instructions.specs.declared.instr.Instr.TheVariants.{Call, Delete, Jump, JumpActive, JumpAdded, JumpEmpty, JumpEqual, JumpLess, JumpNull, Leave, LeaveIf, Loop, Move, New, NewOrLeave, Next, Pop, PopDelete, PopOperation, Push, PushOperation, Return, Take, Trap}
+use Rattle.aom_instructions.specs.declared.instr.Instr.TheVariants.{Call, Cancel, Delete, Jump, JumpActive, JumpAdded, JumpEmpty, JumpEqual, JumpLess, JumpNull, Leave, LeaveIf, Loop, Move, New, NewOrLeave, Next, Pop, PopDelete, PopOperation, Push, PushOperation, Return, Take, Trap}
 use Rattle.aom_instructions.specs.declared.instr.Target.{Target}
 use Rattle.aom_instructions.specs.declared.limits.Limits.{Limits}
 use Rattle.aom_classes.specs.Jumps.{jump_of}
@@ -17,8 +17,8 @@ use Rattle.aom_shape.specs.Needs.{AllTrue}
 use Rattle.aom_sound.proofs.Finishing.{all_parts}
 use Rattle.aom_sound.specs.Calls.{below_top, needs_entering, needs_target}
 use Rattle.aom_sound.specs.Cleanup.{has_trap, is_negative, leave_needs, no_memory, top_is_whole, top_place, tops_entry, tops_object, tops_operation}
-use Rattle.aom_sound.specs.Effects.{Calls, Carried, Destroys, Destroys_last, Effect, Goes_on, In_field, In_register, Leaves, Made, Operates, Popped, Pushed, Pushed_operation, Same, Sets_trap, Spot, Update, deals, deletes, effect, jumps_if, jumps_unless, makes_unless, round, sets, updates}
-use Rattle.aom_sound.specs.Enlisted.{in_phase, is_busy, own_request}
+use Rattle.aom_sound.specs.Effects.{Calls, Cancels, Carried, Destroys, Destroys_last, Effect, Goes_on, In_field, In_register, Leaves, Made, Operates, Popped, Pushed, Pushed_operation, Same, Sets_trap, Spot, Update, cancels_if, deals, deletes, effect, jumps_if, jumps_unless, makes_unless, round, sets, updates}
+use Rattle.aom_sound.specs.Enlisted.{cancel_method, in_phase, is_active, is_busy, own_request}
 use Rattle.aom_sound.specs.Leaves.{LeavesWith}
 use Rattle.aom_sound.specs.Moves.{needs}
 use Rattle.aom_sound.specs.Places.{Cell, Object, held}
@@ -108,6 +108,12 @@ module _ (p : Image) (c : Choice) (fr : Frame) (ts : List Task) (s : State) wher
       let within = leb-true (first + length (arguments_of p m)) 16 met.0 in
       omega arith
 
+  cancels_by : (b : Bool) (m : Option ℕ) → cancel_method p fr.home ≡ m → May Cancel (cancels_if fr b m)
+  unfolding loop_in
+  cancels_by true (Some m) e = ((refl, e), λ l f. tt)
+  cancels_by true None e = ((refl, tt), λ l f. tt)
+  cancels_by false m e = ((refl, tt), λ l f. tt)
+
   pub fits : (i : Instr) → AllTrue (needs p c fr ts s i) → May i (effect p c fr ts s i)
   unfolding jump_of loop_in
   fits (Jump to) n = (refl, λ l f. tt)
@@ -137,6 +143,7 @@ module _ (p : Image) (c : Choice) (fr : Frame) (ts : List Task) (s : State) wher
       either (LeaveIf a) b code Same _ (λ e. ((may_leave b s.cells n.1 e, (read_word (word fr a) n.0, e), tt), λ l f. tt)) ((refl, tt), λ l f. tt)
   fits (JumpActive to) n = branches (JumpActive to) (in_phase is_busy (own_request s.cells fr.home)) to refl refl
   fits (JumpAdded to) n = branches (JumpAdded to) (is_some (own_request s.cells fr.home)) to refl refl
+  fits Cancel n = cancels_by (in_phase is_active (own_request s.cells fr.home)) (cancel_method p fr.home) refl
   fits (Return a) n = ((refl, refl), λ l f. tt)
   -- the others go on
   fits _ n = ((refl, tt), λ l f. tt)
@@ -168,6 +175,7 @@ module _ (p : Image) (c : Choice) (fr : Frame) (ts : List Task) (s : State) wher
   -- no loop begins at an instruction that calls or leaves, or lets an object or an operation go
   abbrev pub StraightBy : Instr → Effect → Type 0
   StraightBy i (Calls target m first) = IsStraight i
+  StraightBy i (Cancels m) = IsStraight i
   StraightBy i (Sets_trap target m first) = IsStraight i
   StraightBy i (Leaves code u) = IsStraight i
   StraightBy i (Destroys o a words) = IsStraight i
@@ -183,6 +191,7 @@ module _ (p : Image) (c : Choice) (fr : Frame) (ts : List Task) (s : State) wher
   pub straight_by : (i : Instr) (e : Effect) → Fits p c fr ts s i e → StraightBy i e
   unfolding loop_in
   straight_by i (Calls target m first) f = subst IsStraight (sym f.1) refl
+  straight_by i (Cancels m) f = subst IsStraight (sym f.0) refl
   straight_by i (Sets_trap target m first) f = subst IsStraight (sym f.1) refl
   straight_by i (Leaves code u) f = leaver_straight i code f.1
   straight_by i (Destroys o a words) f = subst IsStraight (sym f.0) refl

@@ -14,8 +14,8 @@ use Rattle.aom_sound.proofs.Guarded.{goes_same, guarded_goes, guarded_met}
 use Rattle.aom_sound.specs.Calls.{passed_cells, result_cells, result_register, returned}
 use Rattle.aom_sound.specs.Cleanup.{arrived, dealt_with, destroyed, top_is_whole, top_place, unwound}
 use Rattle.aom_sound.specs.Destruction.{gone, owns_nothing}
-use Rattle.aom_sound.specs.Effects.{Calls, Carried, Destroys, Destroys_last, Effect, Goes_on, In_field, In_register, Leaves, Made, Popped, Pushed, Requested, Returns, Sets_trap, Spot, Update, Written, applied, cells_after, effect, spot_place}
-use Rattle.aom_sound.specs.Enlisted.{cancelled, ended_cells, on_request, own_request, rerequested}
+use Rattle.aom_sound.specs.Effects.{Calls, Cancels, Carried, Destroys, Destroys_last, Effect, Goes_on, In_field, In_register, Leaves, Made, Popped, Pushed, Requested, Returns, Sets_trap, Spot, Update, Written, applied, cells_after, effect, spot_place}
+use Rattle.aom_sound.specs.Enlisted.{cancelled, cancelling, ended_cells, on_request, own_request, rerequested}
 use Rattle.aom_sound.specs.Laws.{IsWired, RegistersKeep}
 use Rattle.aom_sound.specs.Moves.{counted, dispatch_ends, does, main_ends, needs, step, step_instr, step_task}
 use Rattle.aom_sound.specs.Places.{Cell, Elsewhere, Entry, Going, Object, Place, Register, Request, Root, held, moved, same_place, set_request, set_word_field, without}
@@ -134,6 +134,7 @@ module _ (p : Image) (wired : IsWired p) (fr : Frame) (ts : List Task) (s : Stat
   apply_in_range (Leaves code u) fits = update_in_range p wired fr ts s all u fits
   apply_in_range (Calls target m first) fits = pass_in_range p wired fr ts s all (suc (length ts)) (arguments_of p m) first 0 s.cells (omega arith) all
   apply_in_range (Sets_trap target m first) fits = pass_in_range p wired fr ts s all (suc (suc (length ts))) (arguments_of p m) first 0 s.cells (omega arith) all
+  apply_in_range (Cancels m) fits = request_in_range p wired fr ts s all fr.home (on_request cancelling (own_request s.cells fr.home))
   apply_in_range (Returns g a) fits = return_in_range p wired fr ts (record s { cells = ended_cells p fr s.cells }) (ended_in_range p wired fr ts s all) g a ts
   apply_in_range (Destroys o a words) fits = move_in_range (here fr ts s a) (Going (suc (length ts))) s.cells tt all
   apply_in_range (Destroys_last o) fits = move_in_range (top_place s.items) (Going (suc (length ts))) s.cells tt all

@@ -13,6 +13,7 @@ pub mod Jumps
 pub mod Storing
 pub mod Words
 pub mod Requesting
+pub mod Cancelling
 pub mod Moves
 pub mod Creation
 pub mod Destroying

@@ -145,6 +145,7 @@ module _ (p : Image) (looped_so : IsLooped p) (c : Choice) (s : State) where
     waits = λ fr ts i a f words. goes_on p looped_so fr i a.there a.runs f;
     resumes = λ fr ts w words. w;
     calls = λ fr ts target m first x a. fresh p (entered p fr ts (counted p s) target m first (length s.items));
+    cancels = λ fr ts m a e. fresh p (frame_of m fr.home (length s.items));
     traps = λ fr ts target m first x a. (fresh p (entered p fr ts (counted p s) target m first (length (A_mark ∷ s.items))), tt);
     destructs = λ o m height ts e. fresh p (frame_of m (Inside o (Going (length ts))) height);
     undoes = λ m w items ts e. fresh p (operation_frame m w (length items));

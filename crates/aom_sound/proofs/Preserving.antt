@@ -3,7 +3,7 @@ use Rattle.std.proofs.Common.{Bool, List, None, Option, Some, [], ap, false, len
 use Rattle.aom_image.specs.Image.{Image}
 use Rattle.aom_image.specs.Views.{instr_at}
 use Rattle.aom_instructions.specs.declared.instr.Instr.{Instr}
-use Rattle.aom_instructions.specs.declared.instr.Instr.TheVariants.{Call, Next, Trap}
+use Rattle.aom_instructions.specs.declared.instr.Instr.TheVariants.{Call, Cancel, Next, Trap}
 use Rattle.aom_instructions.specs.declared.instr.Target.{Target}
 use Rattle.aom_image.specs.declared.method.Gives.{Gives}
 use Rattle.aom_image.specs.declared.method.Gives.TheVariants.{Left, Maybe as A_maybe, Nothing, Own as An_own, Word as A_word}
@@ -15,13 +15,13 @@ use Rattle.aom_sound.specs.Calls.{below_top, called, entered, received, result_r
 use Rattle.aom_sound.specs.Cleanup.{code_told, has_trap, operation_frame, to_trap}
 use Rattle.aom_classes.specs.Roles.{destructor_of}
 use Rattle.aom_sound.specs.Destruction.{begun, begun_by}
-use Rattle.aom_sound.specs.Effects.{Calls, Counts, Destroys, Destroys_last, Effect, Goes_on, Jumps, Leaves, Operates, Repeats, Returns, Sets_trap, applied, with_words}
+use Rattle.aom_sound.specs.Effects.{Calls, Cancels, Counts, Destroys, Destroys_last, Effect, Goes_on, Jumps, Leaves, Operates, Repeats, Returns, Sets_trap, applied, with_words}
 use Rattle.aom_sound.specs.Moves.{counted, dispatch_ends, main_ends, needs, step}
 use Rattle.aom_sound.specs.Places.{Elsewhere, Going, Object, Root, held}
 use Rattle.aom_sound.specs.State.{A_mark, An_operation, Choice, Destroy, Dispatch, Dispatched, Frame, Goes, Inside, Item, Main_left, Of_main, Of_root, Run, State, Task, Trapped, Unwind, counter, frame_of, next, resumed, set_counter, set_word, to_place}
 use Rattle.aom_sound.specs.Steps.{Acts, Arrives, Clears, Comes_out, Ends, Fits, IsStraight, Move, Rests, Sets, Undoes, Vanishes}
 use Rattle.aom_sound.specs.Tasks.{Below, Holds, TaskLaw}
-use Rattle.aom_sound.specs.Enlisted.{ended_cells}
+use Rattle.aom_sound.specs.Enlisted.{cancel_method, ended_cells}
 
 -- an instruction is at hand, with its needs met
 pub record Acting (p : Image) (c : Choice) (l : TaskLaw) (s : State) (fr : Frame) (ts : List Task) (i : Instr) : Type 0 where
@@ -42,6 +42,7 @@ pub record Kept (p : Image) (c : Choice) (l : TaskLaw) (s : State) : Type 0 wher
   pub calls :
       (fr : Frame) (ts : List Task) (target : Target) (m first x : ℕ) → Acting p c l s fr ts (Call target m first x) →
       l.Runs (entered p fr ts (counted p s) target m first (length s.items)) (Run fr ∷ ts)
+  pub cancels : (fr : Frame) (ts : List Task) (m : ℕ) → Acting p c l s fr ts Cancel → cancel_method p fr.home ≡ Some m → l.Runs (frame_of m fr.home (length s.items)) (Run fr ∷ ts)
   pub traps :
       (fr : Frame) (ts : List Task) (target : Target) (m first x : ℕ) → Acting p c l s fr ts (Trap target m first x) →
       l.Runs (entered p fr ts (counted p s) target m first (length (A_mark ∷ s.items))) (Trapped ∷ Run fr ∷ ts) × l.Stands (Run fr ∷ ts)
@@ -125,6 +126,7 @@ module _ (p : Image) (c : Choice) (l : TaskLaw) (s : State) (k : Kept p c l s) w
     acts i (Calls target m first) a f =
         let a' = another i _ f.1 a in
         (k.calls fr ts target m first f.0 a', (k.waits fr ts _ a' refl fr.words, h.1))
+    acts i (Cancels m) a f = (k.cancels fr ts m (another i _ f.0 a) f.1, (k.waits fr ts _ (another i _ f.0 a) refl fr.words, h.1))
     acts i (Sets_trap target m first) a f =
         let a' = another i _ f.1 a in
         let w = k.traps fr ts target m first f.0 a' in

@@ -15,7 +15,7 @@ use Rattle.aom_shape.specs.Needs.{AllTrue}
 use Rattle.aom_rules.specs.Rules.{rule_needs}
 use Rattle.aom_shape.specs.Shape.{Shape}
 use Rattle.aom_rules.specs.Typing.{IsTyped, Typing, shape_at}
-use Rattle.aom_sound.proofs.Callees.{only_then}
+use Rattle.aom_sound.proofs.Callees.{cancel_quiet, only_then}
 use Rattle.aom_sound.proofs.Destroying.{destroys}
 use Rattle.aom_sound.proofs.Finishing.{all_parts}
 use Rattle.aom_sound.proofs.Owners.{owned}
@@ -69,6 +69,7 @@ module _ (p : Image) (t : Typing) (wired : IsWired p) (typed : IsTyped p t) (c :
     resumes = λ fr ts h words. h;
     calls = λ fr ts target m first x a. calls_quiet fr ts target m first x a;
     traps = λ fr ts target m first x a. let clear = not_clearing fr ts target m first x a in (λ clearing. absurd (true≢false (sym clearing ∙ clear)), clear);
+    cancels = λ fr ts m a e clearing. cancel_quiet p wired fr.home m e;
     destructs = λ o m height ts e clearing. (destroys p wired o.thing m e).quiet;
     undoes = λ m x items ts e clearing. undo_quiet m x items e;
     unwinds = λ code ts h. h;

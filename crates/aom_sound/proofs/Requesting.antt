@@ -84,7 +84,7 @@ restated p t cs cs' fr sh ls o from states home lives alike others ready suit g 
         (subst (λ b. Suits (thing_kind p x.thing) (cond b (known_at p fr sh.states below) below) (requested cs x.name)) e before)
 
 -- an object that may be enlisted is in one of the states in which it is known to be
-suits_in : (k : Option ClassKind) (n : Known) (r : Option Request) → is_listed_kind k ≡ true → Suits k n r → IsTrue (has n.states (state_of r))
+pub suits_in : (k : Option ClassKind) (n : Known) (r : Option Request) → is_listed_kind k ≡ true → Suits k n r → IsTrue (has n.states (state_of r))
 suits_in (Some (An_active v b)) n r e s = s.0
 suits_in (Some (A_server m x b)) n r e s = s.0
 suits_in _ n r e s = cc
@@ -229,7 +229,7 @@ suits_aborted (Some (An_active v b)) n (Some r) e under s = (refl, sym under ∙
 suits_aborted _ n _ e under s = cc
 
 -- what is in each of two sets is in what they share
-has_common : (a b k : ℕ) → IsTrue (has a k) → IsTrue (has b k) → IsTrue (has (bit_and a b) k)
+pub has_common : (a b k : ℕ) → IsTrue (has a k) → IsTrue (has b k) → IsTrue (has (bit_and a b) k)
 has_common a b k h g = eq-eqb (bit_and (bit_and a b) k) k (and_assoc k a b ∙ ap (bit_and a) (eqb-true (bit_and b k) k g) ∙ eqb-true (bit_and a k) k h)
 
 -- ---- the flows
@@ -282,18 +282,18 @@ of_class p main_none fr holder listed = go (method_class p fr.method) refl liste
 
 module _ (p : Image) (t : Typing) (main_none : (m : ℕ) → method_role p m ≡ Some Main → own_kind p m ≡ None) (c : Choice) (s : State) (fr : Frame) (sh : Shape) (ls : List Layer) (at_hand : At p t s fr sh ls) where
   -- its object is one of the cells, and what is known of its request holds
-  record OfObject : Type 0 where
-    object : Object
-    from : Place
-    home : fr.home ≡ Inside object from
-    kind : thing_kind p object.thing ≡ own_kind p fr.method
-    lives : named s.cells object.name ≡ Some object
-    suits : Suits (own_kind p fr.method) (known_at p fr sh.states (states_claim p object ls)) (own_request s.cells fr.home)
+  pub record OfObject : Type 0 where
+    pub object : Object
+    pub from : Place
+    pub home : fr.home ≡ Inside object from
+    pub kind : thing_kind p object.thing ≡ own_kind p fr.method
+    pub lives : named s.cells object.name ≡ Some object
+    pub suits : Suits (own_kind p fr.method) (known_at p fr sh.states (states_claim p object ls)) (own_request s.cells fr.home)
 
   abbrev own : Option Request
   own = own_request s.cells fr.home
 
-  of_object : is_listed_kind (own_kind p fr.method) ≡ true → OfObject
+  pub of_object : is_listed_kind (own_kind p fr.method) ≡ true → OfObject
   of_object listed =
       let found = of_class p main_none fr at_hand.good.stack.1.holder listed in
       let o = found.0 in
@@ -311,10 +311,10 @@ module _ (p : Image) (t : Typing) (main_none : (m : ℕ) → method_role p m ≡
       }
 
   -- what is known of it, in these states
-  abbrev its : is_listed_kind (own_kind p fr.method) ≡ true → ℕ → Known
+  abbrev pub its : is_listed_kind (own_kind p fr.method) ≡ true → ℕ → Known
   its listed states = known_at p fr states (states_claim p (of_object listed).object ls)
 
-  active_home : is_active_kind (own_kind p fr.method) ≡ true → is_active_kind (home_kind p fr.home) ≡ true
+  pub active_home : is_active_kind (own_kind p fr.method) ≡ true → is_active_kind (home_kind p fr.home) ≡ true
   active_home a = let it = of_object (active_listed (own_kind p fr.method) a) in ap (λ h. is_active_kind (home_kind p h)) it.home ∙ ap is_active_kind it.kind ∙ a
 
   listed_home : is_listed_kind (own_kind p fr.method) ≡ true → is_listed_kind (home_kind p fr.home) ≡ true
@@ -343,7 +343,7 @@ module _ (p : Image) (t : Typing) (main_none : (m : ℕ) → method_role p m ≡
       (fitted p t s.cells fr sh ls at_hand.good)
 
   -- it is known to be in fewer states
-  learned : (listed : is_listed_kind (own_kind p fr.method) ≡ true) (states : ℕ) → IsTrue (has states (state_of own)) → Fitted p t s.cells fr (record sh { states = states }) ls
+  pub learned : (listed : is_listed_kind (own_kind p fr.method) ≡ true) (states : ℕ) → IsTrue (has states (state_of own)) → Fitted p t s.cells fr (record sh { states = states }) ls
   learned listed states h =
       let it = of_object listed in
       let suit = suits_within (own_kind p fr.method) states (its listed sh.states) own listed h it.suits in
@@ -394,7 +394,7 @@ module _ (p : Image) (t : Typing) (main_none : (m : ℕ) → method_role p m ≡
       well p t c s fr sh ls at_hand (applied p fr (tasks_of ls) s (updates fr (Requested r))) (next fr) sh' refl at_hand.items at_hand.undos (settle p t cs (next fr) sh' ls (stepped p t cs fr sh' ls (asked listed states r suit)) leads)
 
   -- a state of the object that is one of these
-  in_state : (listed : is_listed_kind (own_kind p fr.method) ≡ true) (x : ℕ) → IsTrue (has x sh.states) → IsTrue (has x (state_of own))
+  pub in_state : (listed : is_listed_kind (own_kind p fr.method) ≡ true) (x : ℕ) → IsTrue (has x sh.states) → IsTrue (has x (state_of own))
   in_state listed x h = has_along x sh.states (state_of own) h (suits_in (own_kind p fr.method) (its listed sh.states) own listed (of_object listed).suits)
 
   pub law_enlist : (priority : ℤ) → Law p t c s fr sh ls at_hand (Enlist priority)

@@ -18,6 +18,7 @@ kept p c s = record {
   waits = λ fr ts i a f words. tt;
   resumes = λ fr ts w words. tt;
   calls = λ fr ts target m first x a. tt;
+  cancels = λ fr ts m a e. tt;
   traps = λ fr ts target m first x a. (tt, (target, m, first, x, a.there));
   destructs = λ o m height ts e. tt;
   undoes = λ m w items ts e. tt;

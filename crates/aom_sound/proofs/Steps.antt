@@ -6,7 +6,7 @@ use Rattle.std.specs.Prelude.{int_lt}
 use Rattle.aom_image.specs.Image.{Image}
 use Rattle.aom_image.specs.Views.{instr_at}
 use Rattle.aom_instructions.specs.declared.instr.Instr.{Instr}
-use Rattle.aom_instructions.specs.declared.instr.Instr.TheVariants.{Abort, Add, And, Call, Const, Copy, Delete, Enlist, Issue, Jump, JumpActive, JumpAdded, JumpEmpty, JumpEqual, JumpLess, JumpNull, Leave, LeaveIf, Load, Loop, Move, Mul, New, NewOrLeave, Next, Or, Pop, PopDelete, PopOperation, Print, Push, PushOperation, Put, Return, SetActive, Status, Stop, Store, Sub, Take, Trap, Xor}
+use Rattle.aom_instructions.specs.declared.instr.Instr.TheVariants.{Abort, Add, And, Call, Cancel, Const, Copy, Delete, Enlist, Issue, Jump, JumpActive, JumpAdded, JumpEmpty, JumpEqual, JumpLess, JumpNull, Leave, LeaveIf, Load, Loop, Move, Mul, New, NewOrLeave, Next, Or, Pop, PopDelete, PopOperation, Print, Push, PushOperation, Put, Return, SetActive, Status, Stop, Store, Sub, Take, Trap, Xor}
 use Rattle.aom_shape.specs.Needs.{AllTrue}
 use Rattle.aom_shape.specs.Shape.{Shape}
 use Rattle.aom_rules.specs.Typing.{IsTyped, Typing}
@@ -32,6 +32,7 @@ use Rattle.aom_sound.specs.Places.{named}
 use Rattle.aom_sound.specs.State.{Choice, Destroy, Dispatch, Dispatched, Frame, IsStuck, Need, Run, State, Task, Trapped, Unwind, guarded, next}
 use Rattle.aom_sound.specs.WellTyped.{Caught, Good, Keeps, Now, Returns, WellTyped}
 use Rattle.aom_sound.proofs.Layers.{dispatch_layer, going_layer, leave_layer, mark_layer, method_layer}
+use Rattle.aom_sound.proofs.Cancelling.{law_cancel}
 
 -- a state goes on where all needs are met
 kept : (p : Image) (t : Typing) (needs : List Need) (s : State) → AllTrue needs → WellTyped p t s → Keeps p t (guarded needs s)
@@ -84,6 +85,7 @@ module _ (p : Image) (t : Typing) (wired : IsWired p) (typed : IsTyped p t) (c :
   law (Enlist priority) here back = law_enlist p t (main_of_none p wired) c s fr sh ls at_hand priority
   law (Issue a b) here back = law_issue p t (main_of_none p wired) c s fr sh ls at_hand a b
   law SetActive here back = law_set_active p t (main_of_none p wired) c s fr sh ls at_hand
+  law Cancel here back = law_cancel p t wired typed c s fr sh ls at_hand
   law Abort here back = law_abort p t (main_of_none p wired) c s fr sh ls at_hand
   law (Status a) here back = law_status p t (main_of_none p wired) c s fr sh ls at_hand a
   law _ here back = λ n l. cc

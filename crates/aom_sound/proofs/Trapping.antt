@@ -25,7 +25,7 @@ use Rattle.aom_sound.specs.Claims.{Dispatching, Dying, Form, Layer, Mark, Mark_f
 use Rattle.aom_sound.specs.Cleanup.{code_told, ended_by, to_trap}
 use Rattle.aom_classes.specs.Roles.{destructor_of}
 use Rattle.aom_sound.specs.Destruction.{begun, begun_by}
-use Rattle.aom_sound.specs.Effects.{Calls, Counts, Destroys, Destroys_last, Effect, Goes_on, Jumps, Leaves, Operates, Popped, Popped_operation, Pushed, Pushed_operation, Repeats, Returns, Sets_trap, Update, applied, items_after, with_words}
+use Rattle.aom_sound.specs.Effects.{Calls, Cancels, Counts, Destroys, Destroys_last, Effect, Goes_on, Jumps, Leaves, Operates, Popped, Popped_operation, Pushed, Pushed_operation, Repeats, Returns, Sets_trap, Update, applied, items_after, with_words}
 use Rattle.aom_sound.specs.Laws.{IsWired}
 use Rattle.aom_sound.specs.Moves.{IsOpen, counted, does, needs, step, step_instr, step_task}
 use Rattle.aom_sound.specs.Places.{Object, named}
@@ -206,6 +206,7 @@ module _ (p : Image) (c : Choice) (s : State) (below : List Task) where
   acts fr ts i (Counts d n) at o = inl (with_task below ts _ o, inl refl)
   acts fr ts i (Repeats d n to) at o = inl (with_task below ts _ o, inl refl)
   acts fr ts i (Calls target m first) at o = inl (with_task below (Run fr ∷ ts) _ (with_task below ts (Run fr) o), inl refl)
+  acts fr ts i (Cancels m) at o = inl (with_task below (Run fr ∷ ts) _ (with_task below ts (Run fr) o), inl refl)
   acts fr ts i (Sets_trap target m first) at o = inl (with_task below (Trapped ∷ Run fr ∷ ts) _ (with_task below (Run fr ∷ ts) Trapped (with_task below ts (Run fr) o)), inr (inl (A_mark, refl)))
   acts fr ts i (Returns g a) at o = return_there p c fr ts (record (counted p s) { cells = ended_cells p fr s.cells }) at below o g a ts refl o
   acts fr ts i (Leaves code u) at o = inl (with_task below (to_trap ts) (Unwind code) (lands below ts o), near u s.items)

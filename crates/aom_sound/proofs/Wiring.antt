@@ -33,8 +33,8 @@ use Rattle.aom_sound.specs.WellTyped.{IsUndo, LeavesNone}
 use Rattle.aom_image.specs.declared.method.Argument.{Argument}
 use Rattle.aom_image.specs.declared.method.Argument.TheVariants.{Word as Takes_word}
 use Rattle.std.specs.List.{list_all}
-use Rattle.aom_roles.specs.States.{active_states, first_of, issued, last_of, server_states, states_of}
-use Rattle.aom_rules.specs.Requests.{own_kind, unissued}
+use Rattle.aom_roles.specs.States.{active_states, cancel_open, first_of, issued, last_of, server_states, states_of}
+use Rattle.aom_rules.specs.Requests.{is_active_kind, own_kind, unissued}
 use Rattle.aom_shape.specs.Arguments.{after_in, after_of, before_in, before_of}
 use Rattle.aom_image.specs.declared.class.ClassKind.{ClassKind}
 use Rattle.aom_image.specs.declared.class.ClassKind.TheVariants.{Active as An_active, Plain, Server as A_server, Session}
@@ -150,6 +150,30 @@ module _ (p : Image) (formed : WellFormed p) (linked : IsLinked p) where
           let role : d.role ≡ Cancel = cc in
           let s : IsCancel (kind_of p d.class) d = of_role m d Cancel f role in
           (ap quiet_in f ∙ s.flags, ap gives_in f ∙ nothing_given d.gives s.gives)
+
+  canceller_is : (c m : ℕ) → role_of p c Cancel ≡ Some m → (IsSome (method_at p m)) × (method_role p m ≡ Some Cancel) × (method_class p m ≡ Some c) × (arguments_of p m ≡ []) × (before_of p m ≡ cancel_open)
+  unfolding role_in class_in arguments_in before_in
+  canceller_is c m e =
+      let d = role_found p c m Cancel e in
+      let s : IsCancel (kind_of p d.0.class) d.0 = of_role m d.0 Cancel d.1 d.3 in
+      (rw d.1 refl, ap role_in d.1 ∙ ap (λ r. Some r) d.3, ap class_in d.1 ∙ d.2, ap arguments_in d.1 ∙ nil_from_length d.0.arguments s.takes.count, ap before_in d.1 ∙ s.begins)
+
+  -- a class of active objects needs one
+  has_canceller : (c : ℕ) → is_active_kind (kind_of p (Some c)) ≡ true → (m : ℕ) × (role_of p c Cancel ≡ Some m)
+  unfolding kind_of kind_in class_at
+  has_canceller c active = go (class_at p c) refl active
+    where
+      some : (o : Option ℕ) → IsSome o → (m : ℕ) × (o ≡ Some m)
+      some None h = cc
+      some (Some m) h = (m, refl)
+
+      of_kind : (d : ClassDecl) → class_at p c ≡ Some d → (k : ClassKind) → d.kind ≡ k → is_active_kind (Some k) ≡ true → (m : ℕ) × (role_of p c Cancel ≡ Some m)
+      of_kind d e (An_active v b) same h = let needs = subst (λ k. KindNeeds p c k) same (at_place (NeedsMet p) p.classes c d linked.needs e).kind in some (role_of p c Cancel) needs.cancel
+      of_kind d e _ same h = cc
+
+      go : (o : Option ClassDecl) → class_at p c ≡ o → is_active_kind (kind_in o) ≡ true → (m : ℕ) × (role_of p c Cancel ≡ Some m)
+      go None e h = cc
+      go (Some d) e h = of_kind d e d.kind refl h
 
   -- what may leave is not quiet
   loud : (m : ℕ) → leaves p m ≡ true → is_quiet p m ≡ false
@@ -296,6 +320,8 @@ linked_is_wired p formed linked = record {
   destructor = destructor_is p formed linked;
   static_main = static_main p formed linked;
   operands = operands_fit p formed linked;
+  cancel = has_canceller p formed linked;
+  canceller = canceller_is p formed linked;
   cancels = cancel_is p formed linked;
   quiets = loud p formed linked;
   called = called_is p formed linked;

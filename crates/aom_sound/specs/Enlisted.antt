@@ -9,6 +9,8 @@ use Rattle.aom_image.specs.declared.class.Provider.{Provider}
 use Rattle.aom_image.specs.declared.class.Provider.TheVariants.{Own, Timer as A_timer, Native}
 use Rattle.aom_image.specs.declared.method.Thing.{Thing}
 use Rattle.aom_image.specs.declared.method.Thing.TheVariants.{Object as An_object_of, Message}
+use Rattle.aom_classes.specs.Roles.{role_of}
+use Rattle.aom_image.specs.declared.method.Role.TheVariants.{Cancel as Cancels}
 use Rattle.aom_roles.specs.Shapes.{kind_of}
 use Rattle.aom_rules.specs.Requests.{is_active_kind, is_cancel, is_listed_kind}
 use Rattle.aom_sound.specs.Places.{Cell, Phase, Idle, Issued, Active, Cancelling, Aborted, Request, Timer, requested, set_request}
@@ -89,6 +91,12 @@ abbrev pub is_unanswered : Option Request → Bool
 is_unanswered None = false
 is_unanswered (Some r) = is_aborted r.phase && int_eq r.status pending
 
+-- a request is made that is not waited for, or it is being cancelled
+abbrev pub is_unsettled : Phase → Bool
+is_unsettled Idle = false
+is_unsettled Active = false
+is_unsettled _ = true
+
 -- waiting, or being cancelled
 abbrev pub is_busy : Phase → Bool
 is_busy Idle = false
@@ -150,7 +158,11 @@ on_request f (Some r) = Some (f r)
 abbrev pub waits : Request → Request
 waits r = record r { phase = Active }
 
--- its cancel is over: the one signal of a request that is cancelled is taken
+-- its cancel begins
+abbrev pub cancelling : Request → Request
+cancelling r = record r { phase = Cancelling }
+
+-- and is over: the one signal of a request that is cancelled is taken
 abbrev pub cancelled : Request → Request
 cancelled r = record r { phase = Idle }
 
@@ -158,7 +170,21 @@ cancelled r = record r { phase = Idle }
 abbrev pub aborted : Request → Request
 aborted r = record r { phase = Aborted; status = cond (int_eq r.status pending) cancelled_code r.status; timer = None }
 
--- ---- the end of a method that cancels
+-- ---- the method that cancels
+
+-- for what a frame works on
+abbrev pub cancel_of : Image → Thing → Option ℕ
+cancel_of p (An_object_of c) = role_of p c Cancels
+cancel_of p Message = None
+
+abbrev pub cancel_method : Image → Home → Option ℕ
+cancel_method p Static = None
+cancel_method p AtRoot = None
+cancel_method p (Inside o from) = cancel_of p o.thing
+
+-- the cells as it begins
+abbrev pub begun_cells : Frame → List Cell → List Cell
+begun_cells fr cs = rerequested cs fr.home (on_request cancelling (own_request cs fr.home))
 
 -- the cells once the method of a frame is over
 abbrev pub ended_cells : Image → Frame → List Cell → List Cell
@@ -208,6 +234,10 @@ module _ (p : Image) (fr : Frame) (ts : List Task) (s : State) where
   -- a method that cancels has its request completed as it ends
   abbrev pub needs_cancelled : Need
   needs_cancelled = (not hangs, CancelHang)
+
+  -- no request is made that is not waited for, and none is being cancelled
+  abbrev pub needs_cancel : List Need
+  needs_cancel = needs_active ∷ (not (in_phase is_unsettled own), RequestOverlap) ∷ []
 
   abbrev pub needs_abort : List Need
   needs_abort = needs_active ∷ (in_phase is_cancelling own, WrongKind) ∷ []

@@ -15,9 +15,9 @@ use Rattle.aom_classes.specs.Linked.{IsLinked}
 use Rattle.aom_classes.specs.Roles.{role_of, main_of}
 use Rattle.aom_shape.specs.Things.{Member, field_thing}
 use Rattle.aom_shape.specs.Arguments.{after_of, before_of}
-use Rattle.aom_rules.specs.Requests.{unissued}
+use Rattle.aom_rules.specs.Requests.{is_active_kind, unissued}
 use Rattle.aom_roles.specs.Shapes.{kind_of}
-use Rattle.aom_roles.specs.States.{first_of, last_of, states_of}
+use Rattle.aom_roles.specs.States.{cancel_open, first_of, last_of, states_of}
 use Rattle.aom_rules.specs.Typing.{Typing, IsTyped}
 use Rattle.aom_sound.specs.Places.{Elsewhere, Root, held, named}
 use Rattle.aom_sound.specs.State.{Dispatch, Frame, Task, Run, Destroy, Unwind, Dispatched, Item, A_mark, State, Choice, Goes}
@@ -49,6 +49,9 @@ pub record IsWired (p : Image) : Type 0 where
   pub has_main : IsSome (main_of p)
   pub main : (m : ℕ) → main_of p ≡ Some m → (IsSome (method_at p m)) × (method_role p m ≡ Some Main) × (gives_of p m ≡ Nothing) × (arguments_of p m ≡ [])
   pub destructor : (c m : ℕ) → role_of p c Destruct ≡ Some m → (IsSome (method_at p m)) × (method_role p m ≡ Some Destruct) × (method_class p m ≡ Some c) × (leaves p m ≡ false) × (is_quiet p m ≡ true) × (gives_of p m ≡ Nothing) × (arguments_of p m ≡ [])
+  -- a class of active objects has a method that cancels, which begins with its object being cancelled
+  pub cancel : (c : ℕ) → is_active_kind (kind_of p (Some c)) ≡ true → (m : ℕ) × (role_of p c Cancel ≡ Some m)
+  pub canceller : (c m : ℕ) → role_of p c Cancel ≡ Some m → (IsSome (method_at p m)) × (method_role p m ≡ Some Cancel) × (method_class p m ≡ Some c) × (arguments_of p m ≡ []) × (before_of p m ≡ cancel_open)
   -- a method that cancels is quiet and gives nothing, and what is quiet does not leave
   pub cancels : (m : ℕ) → method_role p m ≡ Some Cancel → (is_quiet p m ≡ true) × (gives_of p m ≡ Nothing)
   pub quiets : (m : ℕ) → leaves p m ≡ true → is_quiet p m ≡ false

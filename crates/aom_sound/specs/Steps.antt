@@ -3,7 +3,7 @@ use Rattle.std.specs.Prelude.{ℕ, suc, ◌-◌, ◌≡◌, ◌⊎◌, ℤ, true
 use Rattle.aom_image.specs.Image.{Image}
 use Rattle.aom_image.specs.Views.{gives_of, instr_at}
 use Rattle.aom_instructions.specs.declared.instr.Instr.{Instr}
-use Rattle.aom_instructions.specs.declared.instr.Instr.TheVariants.{Call, Delete, Loop, Next, Pop, PopDelete, PopOperation, Push, PushOperation, Return, Trap}
+use Rattle.aom_instructions.specs.declared.instr.Instr.TheVariants.{Call, Delete, Loop, Next, Pop, PopDelete, PopOperation, Push, PushOperation, Return, Trap, Cancel}
 use Rattle.aom_classes.specs.Jumps.{jump_of}
 use Rattle.aom_classes.specs.Loops.{loop_in}
 use Rattle.aom_shape.specs.Needs.{AllTrue}
@@ -15,7 +15,8 @@ use Rattle.aom_sound.specs.Calls.{below_top, called, result_register}
 use Rattle.aom_sound.specs.Cleanup.{code_told, ended_by, has_trap, operation_frame, top_place}
 use Rattle.aom_sound.specs.Moves.{counted, dispatch_ends, makes, needs, step}
 use Rattle.aom_sound.specs.Leaves.{LeavesWith}
-use Rattle.aom_sound.specs.Effects.{Update, Same, Carried, Made, Written, Requested, Pushed, Pushed_operation, Popped, Popped_operation, Effect, Goes_on, Jumps, Counts, Repeats, Calls, Sets_trap, Returns, Leaves, Destroys, Destroys_last, Operates, applied}
+use Rattle.aom_sound.specs.Effects.{Update, Same, Carried, Made, Written, Requested, Pushed, Pushed_operation, Popped, Popped_operation, Effect, Goes_on, Jumps, Counts, Repeats, Calls, Cancels, Sets_trap, Returns, Leaves, Destroys, Destroys_last, Operates, applied}
+use Rattle.aom_sound.specs.Enlisted.{cancel_method}
 
 -- ---- which instruction may have an effect
 
@@ -46,6 +47,7 @@ Fits p c fr ts s i (Counts d n) = Sets i d n
 Fits p c fr ts s i (Repeats d n to) = (i ≡ Next d to) × (k : ℕ) × (n ≡ suc k) × (counter fr d - 1 ≡ n)
 Fits p c fr ts s i (Calls target m first) = (x : ℕ) × (i ≡ Call target m first x)
 Fits p c fr ts s i (Sets_trap target m first) = (x : ℕ) × (i ≡ Trap target m first x)
+Fits p c fr ts s i (Cancels m) = (i ≡ Cancel) × (cancel_method p fr.home ≡ Some m)
 Fits p c fr ts s i (Returns g a) = (i ≡ Return a) × (g ≡ gives_of p fr.method)
 Fits p c fr ts s i (Leaves code u) = (has_trap ts ≡ true) × LeavesWith c fr i code × FitsUpdate ts s.items i u
 Fits p c fr ts s i (Destroys o a words) = (i ≡ Delete a) × (held s.cells (here fr ts s a) ≡ Some o)

@@ -1,0 +1,380 @@
+-- The law of `cancel`: a request that is not active is left alone, and over the method that cancels the caller waits with its object idle.
+use Rattle.std.proofs.Common.{Bool, IsTrue, List, None, Option, Some, [], ap, arith, cond, false, inl, length, refl, replicate, subst, suc, sym, true, ℕ, ◌==◌, ◌∙◌, ◌∷◌, ◌≡◌}
+use Rattle.std.proofs.lemmas.Bool.{eq-eqb, eqb-true, ne_eqb, true≢false}
+use Rattle.std.specs.Prelude.{bit_and, bit_or, not, ◌||◌}
+use Rattle.aom_classes.specs.Roles.{role_of}
+use Rattle.aom_image.specs.Image.{Image}
+use Rattle.aom_image.specs.Views.{gives_of, has, instr_at, is_quiet, leaves, method_class, method_role}
+use Rattle.aom_image.specs.declared.class.ClassKind.{ClassKind}
+use Rattle.aom_image.specs.declared.class.ClassKind.TheVariants.{Active as An_active}
+use Rattle.aom_image.specs.declared.method.Role.TheVariants.{Cancel as Cancel_role}
+use Rattle.aom_image.specs.declared.method.Thing.{Thing}
+use Rattle.aom_image.specs.declared.method.Thing.TheVariants.{Object as An_object_of}
+use Rattle.aom_instructions.specs.declared.instr.Instr.TheVariants.{Cancel}
+use Rattle.aom_roles.specs.Shapes.{kind_of}
+use Rattle.aom_roles.specs.States.{active, active_states, cancel_open, idle, server_states}
+use Rattle.aom_rules.specs.Calls.{brought}
+use Rattle.aom_rules.specs.Requests.{after_cancel, is_active_kind, is_cancel, once_cancelled, own_kind}
+use Rattle.aom_rules.specs.Typing.{IsTyped, Leads, Typing}
+use Rattle.aom_shape.proofs.Ordering.{transitive}
+use Rattle.aom_shape.proofs.Sets.{has_along, has_first, has_itself, has_second}
+use Rattle.aom_shape.specs.Arguments.{after_of, before_of, entry_fields, entry_shape}
+use Rattle.aom_shape.specs.Kinds.{field, filled, is_ready_kind, register}
+use Rattle.aom_shape.specs.Order.{SaysNoMore, Weaker, WeakerFilling, alike, alike_filling, perhaps_empty, perhaps_full}
+use Rattle.aom_shape.specs.Shape.{Shape}
+use Rattle.aom_shape.specs.Tables.{at}
+use Rattle.aom_shape.specs.Things.{Member, field_thing, holder_by, holder_of}
+use Rattle.aom_shape.specs.declared.kind.Filling.{Filling}
+use Rattle.aom_shape.specs.declared.kind.Filling.TheVariants.{Empty, Full, Perhaps}
+use Rattle.aom_shape.specs.declared.kind.Kind.{Kind}
+use Rattle.aom_shape.specs.declared.kind.Kind.TheVariants.{Null, Unset}
+use Rattle.aom_sound.proofs.Callees.{below_more}
+use Rattle.aom_sound.proofs.Claimed.{OwnsNoMore, claim_from, claim_ready, claim_register_above, claim_weaker, fits_weaker}
+use Rattle.aom_sound.proofs.Destroying.{at_alike, entry_registers, perhaps_only, unset_only}
+use Rattle.aom_sound.proofs.Items.{length_forms}
+use Rattle.aom_sound.proofs.Maps.{one_place}
+use Rattle.aom_sound.proofs.Requesting.{OfObject, active_home, active_listed, has_common, in_state, its, learned, main_of_none, of_object, suits_in}
+use Rattle.aom_sound.proofs.Storing.{Alike, fits_alike, housed_alike, requested_here, requested_there, rerequested_alike, stack_alike}
+use Rattle.aom_sound.proofs.Straight.{At, Law, fits_unowning, settle, stepped, well}
+use Rattle.aom_sound.proofs.Suiting.{same_object}
+use Rattle.aom_sound.specs.Claims.{Layer, Method, claim, declared, entry_claim, home_claim, items_of, objects, root_claim, tasks_of}
+use Rattle.aom_sound.specs.Calls.{result_register}
+use Rattle.aom_sound.specs.Effects.{applied, cancels_if}
+use Rattle.aom_sound.specs.Enlisted.{begun_cells, cancel_method, cancel_of, cancelling, in_phase, is_active, is_cancelling, is_unsettled, on_request, own_request, rerequested}
+use Rattle.aom_sound.specs.Laws.{IsWired}
+use Rattle.aom_sound.specs.Places.{Active, Aborted, Cancelling, Cell, Elsewhere, Entry, Field, Going, Idle, Issued, Object, Phase, Place, Register, Request, Root, held, named, requested, seen}
+use Rattle.aom_sound.specs.Requests.{AllSuit, Known, Suits, known_at, phase_state, state_of, states_claim, thing_kind, works_at}
+use Rattle.aom_sound.specs.State.{Choice, Frame, Home, Inside, State, frame_of, home_holder, next, thing_holder}
+use Rattle.aom_sound.specs.WellTyped.{Awaits, EndsWell, Fits, Good, Holds, IsAlone, IsApart, IsHoused, NotIn, Returns, Stack, Stands, Unclaimed, WellTyped, WordFits, by_field}
+
+-- ---- what is known of a request
+
+-- what is in one of these states is settled
+settled_only : (r : Option Request) → IsTrue (has active_states (state_of r)) → not (in_phase is_unsettled r) ≡ true
+settled_only None h = refl
+settled_only (Some r) h = go r.phase h
+  where
+    go : (q : Phase) → IsTrue (has active_states (phase_state q)) → not (is_unsettled q) ≡ true
+    go Idle h = refl
+    go Active h = refl
+    go Issued h = cc
+    go Cancelling h = cc
+    go Aborted h = cc
+
+-- and what is not active is in one of a server's
+rests_only : (r : Option Request) → IsTrue (has active_states (state_of r)) → in_phase is_active r ≡ false → IsTrue (has server_states (state_of r))
+rests_only None h e = refl
+rests_only (Some r) h e = go r.phase h e
+  where
+    go : (q : Phase) → IsTrue (has active_states (phase_state q)) → is_active q ≡ false → IsTrue (has server_states (phase_state q))
+    go Idle h e = refl
+    go Active h e = cc
+    go Issued h e = cc
+    go Cancelling h e = cc
+    go Aborted h e = cc
+
+active_state : (r : Option Request) → in_phase is_active r ≡ true → state_of r ≡ active
+active_state None e = cc
+active_state (Some r) e = go r.phase e
+  where
+    go : (q : Phase) → is_active q ≡ true → phase_state q ≡ active
+    go Active e = refl
+    go _ e = cc
+
+active_still : (q : Phase) → is_active q ≡ true → is_cancelling q ≡ false
+active_still Active e = refl
+active_still _ e = cc
+
+-- what is active is not being cancelled
+uncancelled : (k : Option ClassKind) (n : Known) (r : Option Request) → is_active_kind k ≡ true → in_phase is_active r ≡ true → Suits k n r → n.cancelled ≡ false
+uncancelled (Some (An_active v b)) n (Some r) e a s = sym s.1 ∙ active_still r.phase a
+uncancelled _ n _ e a s = cc
+
+-- and is so once its cancel begins
+suits_cancelling : (k : Option ClassKind) (states : ℕ) (r : Option Request) → is_active_kind k ≡ true → in_phase is_active r ≡ true → IsTrue (has states cancel_open) → Suits k (record { states = states; cancelled = true }) (on_request cancelling r)
+suits_cancelling (Some (An_active v b)) states (Some r) e a h = (h, refl, refl)
+suits_cancelling _ states _ e a h = cc
+
+-- a state that is not active stays once it is cancelled, and an active one is idle
+stays_cancelled : (states k : ℕ) → IsTrue (has (bit_and states server_states) k) → IsTrue (has (once_cancelled states) k)
+stays_cancelled states k h = go (has states active)
+  where
+    x : ℕ
+    x = bit_and states server_states
+
+    go : (b : Bool) → IsTrue (has (cond b (bit_or x idle) x) k)
+    go true = has_along (bit_or x idle) x k (has_first x idle) h
+    go false = h
+
+idle_cancelled : (states : ℕ) → IsTrue (has states active) → IsTrue (has (once_cancelled states) idle)
+idle_cancelled states h = subst (λ b. IsTrue (has (cond b (bit_or (bit_and states server_states) idle) (bit_and states server_states)) idle)) (sym h) (has_second (bit_and states server_states) idle)
+
+-- nothing is known of the fields
+unknown : (x : Filling) → WeakerFilling Perhaps x
+unknown Empty = perhaps_empty
+unknown Full = perhaps_full
+unknown Perhaps = alike_filling
+
+unknown_at : (i : ℕ) (x : Filling) → WeakerFilling (at Perhaps (replicate 8 Perhaps) i) x
+unknown_at i x = subst (λ y. WeakerFilling y x) (sym (at_alike 8 Perhaps i)) (unknown x)
+
+-- the class of what is cancelled
+cancelled_class : (p : Image) (x : Thing) (m : ℕ) → cancel_of p x ≡ Some m → (c : ℕ) × (x ≡ An_object_of c) × (role_of p c Cancel_role ≡ Some m)
+cancelled_class p (An_object_of c) m e = (c, refl, e)
+cancelled_class p _ m e = cc
+
+-- a class of active objects has a method that cancels
+has_cancel : (p : Image) → IsWired p → (x : Thing) → is_active_kind (thing_kind p x) ≡ true → cancel_of p x ≡ None → ⊥
+unfolding kind_of
+has_cancel p wired (An_object_of c) a e = let found = wired.cancel c a in let clash : Some found.0 ≡ None = sym found.1 ∙ e in cc
+has_cancel p wired _ a e = cc
+
+module _ (p : Image) (t : Typing) (wired : IsWired p) (typed : IsTyped p t) (c : Choice) (s : State) (fr : Frame) (sh : Shape) (ls : List Layer) (at_hand : At p t s fr sh ls) (is_kind : is_active_kind (own_kind p fr.method) ≡ true) (leads : Leads t fr.method (suc fr.place) (after_cancel sh)) where
+  abbrev it : OfObject p t (main_of_none p wired) c s fr sh ls at_hand
+  it = of_object p t (main_of_none p wired) c s fr sh ls at_hand (active_listed (own_kind p fr.method) is_kind)
+
+  abbrev request : Option Request
+  request = own_request s.cells fr.home
+
+  -- a request that is not active is left alone
+  stays : IsTrue (has active_states (state_of request)) → in_phase is_active request ≡ false → WellTyped p t (applied p fr (tasks_of ls) s (cancels_if fr false None))
+  stays within inactive =
+      let listed = active_listed (own_kind p fr.method) is_kind in
+      let states = once_cancelled sh.states in
+      let sh' : Shape = record sh { states = states } in
+      let here = suits_in (own_kind p fr.method) (its p t (main_of_none p wired) c s fr sh ls at_hand listed sh.states) request listed it.suits in
+      let known = stays_cancelled sh.states (state_of request) (has_common sh.states server_states (state_of request) here (rests_only request within inactive)) in
+      let less : SaysNoMore (after_cancel sh) sh' = record { registers = λ i. alike; fields = λ i. unknown_at i (field sh i); entries = refl; states = has_itself states; delivery = refl } in
+      well p t c s fr sh ls at_hand _ (next fr) sh' refl at_hand.items at_hand.undos
+      (settle p t s.cells (next fr) sh' ls (stepped p t s.cells fr sh' ls (learned p t (main_of_none p wired) c s fr sh ls at_hand listed states known)) (leads.0, leads.1, transitive leads.0 (after_cancel sh) sh' leads.2 less))
+
+  -- the method that cancels begins
+  module _ (m : ℕ) (is_active_now : in_phase is_active request ≡ true) (its_method : cancel_of p it.object.thing ≡ Some m) where
+    abbrev o : Object
+    o = it.object
+
+    abbrev cs' : List Cell
+    cs' = begun_cells fr s.cells
+
+    abbrev sh' : Shape
+    sh' = record sh { fields = replicate 8 Perhaps; states = idle }
+
+    abbrev over : List Layer
+    over = Method fr sh' ∷ ls
+
+    abbrev fr' : Frame
+    fr' = frame_of m fr.home (length s.items)
+
+    class : (c : ℕ) × (o.thing ≡ An_object_of c) × (role_of p c Cancel_role ≡ Some m)
+    class = cancelled_class p o.thing m its_method
+
+    abbrev role : method_role p m ≡ Some Cancel_role
+    role = (wired.canceller class.0 m class.2).1
+
+    abbrev is_so : is_cancel (method_role p m) ≡ true
+    is_so = ap is_cancel role
+
+    abbrev begins : Leads t m 0 (entry_shape p m)
+    begins = typed.entry m (wired.canceller class.0 m class.2).0
+
+    holds : Holds p s.cells ls o it.from
+    holds = subst (λ h. IsHoused p s.cells ls h) it.home at_hand.good.stack.2
+
+    apart : IsApart p (Inside o it.from) ls
+    apart = subst (λ h. IsApart p h ls) it.home at_hand.good.stack.3
+
+    same_cells : Alike s.cells cs'
+    same_cells = rerequested_alike s.cells fr.home (on_request cancelling request)
+
+    here : requested cs' o.name ≡ on_request cancelling request
+    here = subst (λ h. requested (rerequested s.cells h (on_request cancelling request)) o.name ≡ on_request cancelling request) (sym it.home) (requested_here s.cells o.name (on_request cancelling request) o it.lives)
+
+    others : (n : ℕ) → (o.name == n) ≡ false → requested cs' n ≡ requested s.cells n
+    others n other = subst (λ h. requested (rerequested s.cells h (on_request cancelling request)) n ≡ requested s.cells n) (sym it.home) (requested_there s.cells o.name n (on_request cancelling request) other)
+
+    -- no place claims the object to be fresh
+    unready : (q : Place) (x : Object) → held s.cells q ≡ Some x → is_ready_kind (claim p (declared p s.cells) over q) ≡ false → (o.name == x.name) ≡ false
+    unready q x at fresh = ne_eqb o.name x.name (λ n.
+        let same : it.from ≡ q = one_place s.cells it.from q o x at_hand.good.tidy holds.there at n in
+        let ready = ap is_ready_kind (claim_from p (declared p s.cells) fr o it.from sh' ls it.home apart.0 holds.below) ∙ claim_ready p s.cells ls it.from holds.ready in
+        true≢false (sym ready ∙ ap (λ q. is_ready_kind (claim p (declared p s.cells) over q)) same ∙ fresh))
+
+    opened : OwnsNoMore sh' sh
+    opened = record { registers = λ i. alike; fields = λ i. unknown_at i (field sh i); entries = refl }
+
+    base : (q : Place) → Fits p (seen cs') (held cs' q) (claim p (declared p cs') over q)
+    base q = fits_alike p t s.cells cs' same_cells over q (λ x at fresh. others x.name (unready q x at fresh)) (fits_weaker p (seen s.cells) (held s.cells q) (claim_weaker p (declared p s.cells) fr sh' sh ls q opened) (at_hand.good.fits q))
+
+    unset : (i : ℕ) → register begins.0 i ≡ Unset
+    unset i = unset_only (subst (λ k. Weaker (register begins.0 i) k) (entry_registers p m (wired.canceller class.0 m class.2).3 i) (begins.2.registers i))
+
+    unfilled : (f : ℕ) → field begins.0 f ≡ Perhaps
+    unfilled f = perhaps_only (subst (λ x. WeakerFilling (field begins.0 f) x) (ap (λ r. at Perhaps (entry_fields r) f) role ∙ at_alike 8 Perhaps f) (begins.2.fields f))
+
+    fits : (q : Place) → Fits p (seen cs') (held cs' q) (claim p (declared p cs') (Method fr' begins.0 ∷ over) q)
+    fits (Register f i) = go (length (tasks_of over) == f) refl (base (Register f i))
+      where
+        go : (b : Bool) → (length (tasks_of over) == f) ≡ b → Fits p (seen cs') (held cs' (Register f i)) (claim p (declared p cs') over (Register f i)) → Fits p (seen cs') (held cs' (Register f i)) (cond b (register begins.0 i) (claim p (declared p cs') over (Register f i)))
+        go true e h =
+            let none = fits_unowning p (seen cs') (held cs' (Register f i)) Null refl (subst (λ k. Fits p (seen cs') (held cs' (Register f i)) k) (claim_register_above p cs' over f i (omega (arith, eqb-true _ _ e))) h) in
+            subst (λ k. Fits p (seen cs') (held cs' (Register f i)) k) (sym (unset i)) (subst (λ x. Fits p (seen cs') x Unset) (sym none) tt)
+        go false e h = h
+    fits (Entry k) = subst (λ es. Fits p (seen cs') (held cs' (Entry k)) (entry_claim es (items_of over) k (claim p (declared p cs') over (Entry k)))) (sym begins.2.entries) (base (Entry k))
+    fits (Field n f) = subst (λ h. Fits p (seen cs') (held cs' (Field n f)) (home_claim p h begins.0 n f (claim p (declared p cs') over (Field n f)))) (sym it.home) (go (o.name == n) refl)
+      where
+        thing : Option Thing
+        thing = field_thing p (thing_holder o.thing) f
+
+        own_field : claim p (declared p cs') over (Field o.name f) ≡ filled thing Perhaps
+        own_field =
+            ap (λ h. home_claim p h sh' o.name f (claim p (declared p cs') ls (Field o.name f))) it.home
+            ∙ ap (λ b. cond b (filled thing (field sh' f)) (claim p (declared p cs') ls (Field o.name f))) (eq-eqb o.name o.name refl)
+            ∙ ap (λ x. filled thing x) (at_alike 8 Perhaps f)
+
+        go : (b : Bool) → (o.name == n) ≡ b → Fits p (seen cs') (held cs' (Field n f)) (cond b (filled thing (field begins.0 f)) (claim p (declared p cs') over (Field n f)))
+        go true e =
+            subst (λ n. Fits p (seen cs') (held cs' (Field n f)) (filled thing (field begins.0 f))) (eqb-true o.name n e)
+            (subst (λ x. Fits p (seen cs') (held cs' (Field o.name f)) (filled thing x)) (sym (unfilled f)) (subst (λ k. Fits p (seen cs') (held cs' (Field o.name f)) k) own_field (base (Field o.name f))))
+        go false e = base (Field n f)
+    fits (Elsewhere Root) = subst (λ h. Fits p (seen cs') (held cs' (Elsewhere Root)) (root_claim p h begins.0 (claim p (declared p cs') over (Elsewhere Root)))) (sym it.home) (base (Elsewhere Root))
+    fits (Going k) = base (Going k)
+
+    -- nothing cancels the object below
+    alone : (states_claim p o over).cancelled ≡ false
+    alone = go (works_at o.name fr.home)
+      where
+        below : Known
+        below = states_claim p o ls
+
+        none : (known_at p fr idle below).cancelled ≡ false
+        none = uncancelled (own_kind p fr.method) (known_at p fr sh.states below) request is_kind is_active_now it.suits
+
+        rest : (x y : Bool) → (x || y) ≡ false → y ≡ false
+        rest true y e = cc
+        rest false y e = e
+
+        go : (b : Bool) → (cond b (known_at p fr idle below) below).cancelled ≡ false
+        go true = none
+        go false = rest (is_cancel (method_role p fr.method)) below.cancelled none
+
+    suits : AllSuit p cs' (Method fr' begins.0 ∷ over)
+    suits x lives = subst (λ h. Suits (thing_kind p x.thing) (claims h) (requested cs' x.name)) (sym it.home) (go (o.name == x.name) refl)
+      where
+        upper : Object → Bool → Known
+        upper y b = cond b (known_at p fr idle (states_claim p y ls)) (states_claim p y ls)
+
+        claims : Home → Known
+        claims h = cond (works_at x.name h) (known_at p fr' begins.0.states (upper x (works_at x.name h))) (upper x (works_at x.name h))
+
+        begun : IsTrue (has begins.0.states cancel_open)
+        begun = subst (λ n. IsTrue (has begins.0.states n)) (wired.canceller class.0 m class.2).4 begins.2.states
+
+        own_now : Suits (thing_kind p o.thing) (known_at p fr' begins.0.states (upper o true)) (requested cs' o.name)
+        own_now =
+            subst (λ k. Suits k (known_at p fr' begins.0.states (upper o true)) (requested cs' o.name)) (sym it.kind)
+            (subst (λ b. Suits (own_kind p fr.method) (record { states = begins.0.states; cancelled = b || (upper o true).cancelled }) (requested cs' o.name)) (sym is_so)
+            (subst (λ r. Suits (own_kind p fr.method) (record { states = begins.0.states; cancelled = true }) r) (sym here) (suits_cancelling (own_kind p fr.method) begins.0.states request is_kind is_active_now begun)))
+
+        go : (b : Bool) → (o.name == x.name) ≡ b → Suits (thing_kind p x.thing) (cond b (known_at p fr' begins.0.states (upper x b)) (upper x b)) (requested cs' x.name)
+        go true e = subst (λ y. Suits (thing_kind p y.thing) (known_at p fr' begins.0.states (upper y true)) (requested cs' y.name)) (same_object s.cells o x it.lives (sym (same_cells.named_so x.name) ∙ lives) e) own_now
+        go false e =
+            let below : Known = states_claim p x ls in
+            let before = subst (λ h. Suits (thing_kind p x.thing) (cond (works_at x.name h) (known_at p fr sh.states below) below) (requested s.cells x.name)) it.home (at_hand.good.suits x (sym (same_cells.named_so x.name) ∙ lives)) in
+            subst (λ r. Suits (thing_kind p x.thing) below r) (sym (others x.name e)) (subst (λ b. Suits (thing_kind p x.thing) (cond b (known_at p fr sh.states below) below) (requested s.cells x.name)) e before)
+
+    -- the caller waits, and finds its object idle
+    stands : Stands p t (Returns m fr.home) fr sh'
+    stands =
+        let quiet = wired.cancels m role in
+        let r = result_register (instr_at p fr.method fr.place) in
+        let was : IsTrue (has sh.states active) = subst (λ n. IsTrue (has sh.states n)) (active_state request is_active_now) (suits_in (own_kind p fr.method) (known_at p fr sh.states (states_claim p o ls)) request (active_listed (own_kind p fr.method) is_kind) it.suits) in
+        let less : SaysNoMore (after_cancel sh) sh' = record { registers = λ i. alike; fields = λ i. alike_filling; entries = refl; states = idle_cancelled sh.states was; delivery = refl } in
+        let on : Leads t fr.method (suc fr.place) sh' = (leads.0, leads.1, transitive leads.0 (after_cancel sh) sh' leads.2 less) in (
+          λ may. absurd (true≢false (sym quiet.0 ∙ wired.quiets m may)),
+          subst (λ g. Awaits g r sh') (sym quiet.1) tt,
+          subst (λ g. Leads t fr.method (suc fr.place) (brought g r sh')) (sym quiet.1) on,
+          subst (λ h. EndsWell p m h fr sh') (sym it.home) (λ w. subst (λ b. IsTrue (has idle (cond b idle (after_of p m)))) (sym is_so) (has_itself idle)),
+          λ q. quiet.0,
+        )
+
+    housed : IsHoused p cs' over fr.home
+    housed = subst (λ h. IsHoused p cs' over h) (sym it.home) (record {
+      there = same_cells.held_so it.from ∙ holds.there;
+      lives = same_cells.named_so o.name ∙ holds.lives;
+      below = below_more it.from fr sh' ls holds.below;
+      ready = ap is_ready_kind (claim_from p (λ r. Null) fr o it.from sh' ls it.home apart.0 holds.below) ∙ holds.ready;
+    })
+
+    apart_over : IsApart p fr.home over
+    apart_over = subst (λ h. IsApart p h over) (sym it.home) (apart.0, (subst (λ h. NotIn o.name h) (sym it.home) apart.0, apart.1), own_fields, inl (ap (λ h. works_at o.name h) it.home ∙ eq-eqb o.name o.name refl))
+      where
+        own_fields : Unclaimed p (λ f. filled (field_thing p (thing_holder o.thing) f) Perhaps) o.name over
+        own_fields f =
+            let below = claim p (by_field (λ f. filled (field_thing p (thing_holder o.thing) f) Perhaps)) ls (Field o.name f) in
+            ap (λ h. home_claim p h sh' o.name f below) it.home
+            ∙ ap (λ b. cond b (filled (field_thing p (thing_holder o.thing) f) (field sh' f)) below) (eq-eqb o.name o.name refl)
+            ∙ ap (λ x. filled (field_thing p (thing_holder o.thing) f) x) (at_alike 8 Perhaps f)
+
+    holder : home_holder fr.home ≡ holder_of p m
+    holder =
+        let found = wired.canceller class.0 m class.2 in
+        ap home_holder it.home ∙ ap thing_holder class.1 ∙ sym (ap (λ r. holder_by r (method_class p m)) found.1 ∙ ap (λ c. holder_by (Some Cancel_role) c) found.2)
+
+    caller : Stack p t cs' (Returns m fr.home) over
+    caller = (
+      stands,
+      record { words = at_hand.good.stack.1.words; holder = at_hand.good.stack.1.holder; height = at_hand.good.stack.1.height; alone = at_hand.good.stack.1.alone },
+      housed_alike p t s.cells cs' same_cells ls fr.home at_hand.good.stack.2,
+      at_hand.good.stack.3,
+      stack_alike p t s.cells cs' same_cells ls _ at_hand.good.stack.4,
+    )
+
+    good : Good p t cs' (Method fr' begins.0 ∷ over)
+    good = record {
+      stack = (
+        begins.1,
+        record {
+          words = λ i. subst (λ k. WordFits None k) (sym (unset i)) tt;
+          holder = holder;
+          height = sym (length_forms s.items) ∙ ap length at_hand.items;
+          alone = λ cancels. subst (λ h. IsAlone p h over) (sym it.home) alone;
+        },
+        housed,
+        apart_over,
+        caller,
+      );
+      fits = fits;
+      suits = suits;
+      tidy = same_cells.tidy at_hand.good.tidy;
+    }
+
+    begun_well : WellTyped p t (applied p fr (tasks_of ls) s (cancels_if fr true (Some m)))
+    begun_well = record {
+      layers = Method fr' begins.0 ∷ over;
+      tasks = refl;
+      items = at_hand.items ∙ ap (λ es. objects es (items_of over)) (sym begins.2.entries);
+      undos = at_hand.undos;
+      good = good;
+    }
+
+module _ (p : Image) (t : Typing) (wired : IsWired p) (typed : IsTyped p t) (c : Choice) (s : State) (fr : Frame) (sh : Shape) (ls : List Layer) (at_hand : At p t s fr sh ls) where
+  pub law_cancel : Law p t c s fr sh ls at_hand Cancel
+  law_cancel n leads = ((active_home p t (main_of_none p wired) c s fr sh ls at_hand n.0, (settled_only request within, tt)), go (in_phase is_active request) (cancel_method p fr.home) refl refl)
+    where
+      request : Option Request
+      request = own_request s.cells fr.home
+
+      it : OfObject p t (main_of_none p wired) c s fr sh ls at_hand
+      it = of_object p t (main_of_none p wired) c s fr sh ls at_hand (active_listed (own_kind p fr.method) n.0)
+
+      within : IsTrue (has active_states (state_of request))
+      within = in_state p t (main_of_none p wired) c s fr sh ls at_hand (active_listed (own_kind p fr.method) n.0) active_states n.1.0
+
+      its_method : (x : Option ℕ) → cancel_method p fr.home ≡ x → cancel_of p it.object.thing ≡ x
+      its_method x e = sym (ap (λ h. cancel_method p h) it.home) ∙ e
+
+      go : (b : Bool) (m : Option ℕ) → in_phase is_active request ≡ b → cancel_method p fr.home ≡ m → WellTyped p t (applied p fr (tasks_of ls) s (cancels_if fr b m))
+      go true (Some m) a e = begun_well p t wired typed c s fr sh ls at_hand n.0 leads.0 m a (its_method (Some m) e)
+      go true None a e = absurd (has_cancel p wired it.object.thing (ap is_active_kind it.kind ∙ n.0) (its_method None e))
+      go false (Some m) a e = stays p t wired typed c s fr sh ls at_hand n.0 leads.0 within a
+      go false None a e = stays p t wired typed c s fr sh ls at_hand n.0 leads.0 within a
