@@ -35,7 +35,7 @@ calls_bite = record { calls = call_bites; traps = trap_bites; codes = refl }
 
 pub returns_bite : ReturnsBite
 unfolding class_at fields_in gives_in instr_in method_at role_in
-returns_bite = record { given = refl; level = refl; left = refl; owners = refl; waiting = refl }
+returns_bite = record { given = refl; level = refl; left = refl; owners = refl; waiting = refl; hanging = refl }
 
 pub cleanup_bites : CleanupBites
 unfolding class_at class_in fields_in gives_in instr_in method_at role_in words_in
@@ -43,7 +43,7 @@ cleanup_bites = record { leaves = refl; leave = refl; leave_if = refl; news = re
 
 pub requests_bite : RequestsBite
 unfolding class_at gives_in instr_in kind_in kind_of method_at
-requests_bite = record { reading = refl; enlisting = refl; issuing = refl; waiting = refl; aborting = refl }
+requests_bite = record { reading = refl; enlisting = refl; issuing = refl; waiting = refl; cancelling = refl; aborting = refl }
 
 pub moves_bite : MovesBite
 unfolding class_at class_in fields_in gives_in instr_in method_at role_in

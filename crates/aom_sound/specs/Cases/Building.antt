@@ -9,6 +9,7 @@ use Rattle.aom_image.specs.declared.method.Argument.{Argument}
 use Rattle.aom_image.specs.declared.method.Gives.{Gives}
 use Rattle.aom_image.specs.declared.method.Gives.TheVariants.{Nothing}
 use Rattle.aom_image.specs.declared.method.Method.{Method}
+use Rattle.aom_image.specs.declared.method.Role.{Role}
 use Rattle.aom_image.specs.declared.method.Role.TheVariants.{Do}
 use Rattle.aom_image.specs.declared.method.Thing.{Thing}
 use Rattle.aom_image.specs.declared.method.Thing.TheVariants.{Object as An_object_of, Message}
@@ -106,6 +107,7 @@ pub record Case : Type 0 where
   pub items : List Item
   -- whether its request is refused
   pub refused : Bool
+  pub role : Role
   -- what the method gives
   pub gives : Gives
   -- the method that it calls
@@ -123,13 +125,14 @@ fails instr kinds =
       cells = [];
       items = A_mark ∷ [];
       refused = false;
+      role = Do;
       gives = Nothing;
       called = a_method None [] Nothing [];
       unmet = kinds;
     }
 
 abbrev pub image_of : Case → Image
-image_of c = small_image (a_method None [] c.gives (c.instr ∷ [])) c.called
+image_of c = small_image (record (a_method None [] c.gives (c.instr ∷ [])) { role = c.role }) c.called
 
 abbrev pub frame_at : Case → Frame
 frame_at c = record (frame_of 0 c.home 1) { words = c.words }

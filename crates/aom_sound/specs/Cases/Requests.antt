@@ -1,7 +1,7 @@
 -- The needs of instructions on the request of what a method works on.
 use Rattle.std.specs.Prelude.{pos, List, [], ◌∷◌, ◌++◌, None, Some}
 use Rattle.aom_instructions.specs.declared.instr.Instr.{Instr}
-use Rattle.aom_instructions.specs.declared.instr.Instr.TheVariants.{JumpActive, JumpAdded, Enlist, Issue, SetActive, Abort, Status}
+use Rattle.aom_instructions.specs.declared.instr.Instr.TheVariants.{JumpActive, JumpAdded, Enlist, Issue, SetActive, Cancel, Abort, Status}
 use Rattle.aom_sound.specs.Places.{Cell, Phase, Idle, Issued, Active, Cancelling, Aborted, Elsewhere, Root}
 use Rattle.aom_sound.specs.State.{AtRoot, Stuck, AddedWrong, AlreadyActive, Orphan, RequestOverlap, WrongKind}
 use Rattle.aom_sound.specs.Cases.Building.{leaf, pair, waiter, keeper, seven, a_cell, mine, inside, Case, fails, AllBite}
@@ -69,6 +69,17 @@ set_active_cases =
     ∷ listed_case SetActive Aborted (RequestOverlap ∷ [])
     ∷ elsewhere_cases SetActive (WrongKind ∷ AddedWrong ∷ RequestOverlap ∷ [])
 
+-- what is idle, or not enlisted, is left alone
+abbrev pub cancel_cases : List Case
+cancel_cases =
+    unlisted_case Cancel []
+    ∷ listed_case Cancel Idle []
+    ∷ listed_case Cancel Active []
+    ∷ listed_case Cancel Issued (RequestOverlap ∷ [])
+    ∷ listed_case Cancel Cancelling (RequestOverlap ∷ [])
+    ∷ listed_case Cancel Aborted (RequestOverlap ∷ [])
+    ∷ elsewhere_cases Cancel (WrongKind ∷ [])
+
 abbrev pub abort_cases : List Case
 abort_cases =
     listed_case Abort Cancelling []
@@ -85,4 +96,5 @@ pub record RequestsBite : Type 0 where
   pub enlisting : AllBite enlist_cases
   pub issuing : AllBite issue_cases
   pub waiting : AllBite set_active_cases
+  pub cancelling : AllBite cancel_cases
   pub aborting : AllBite abort_cases

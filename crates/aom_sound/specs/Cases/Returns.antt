@@ -1,12 +1,15 @@
 -- The needs of a return: of the result, of the cleanup stack, of the registers, and of what waits for it.
-use Rattle.std.specs.Prelude.{ℕ, pos, List, [], ◌∷◌, ◌++◌}
+use Rattle.std.specs.Prelude.{ℕ, ℤ, pos, List, [], ◌∷◌, ◌++◌, None, Some}
 use Rattle.aom_instructions.specs.declared.instr.Instr.TheVariants.{Return}
 use Rattle.aom_image.specs.declared.method.Gives.{Gives}
 use Rattle.aom_image.specs.declared.method.Gives.TheVariants.{Nothing, Word as A_word, Own as An_own, Maybe as A_maybe, Left}
 use Rattle.aom_image.specs.declared.method.Thing.TheVariants.{Message}
-use Rattle.aom_sound.specs.Places.{Place, Register, Entry, Field}
-use Rattle.aom_sound.specs.State.{Static, frame_of, Task, Run, Trapped, Destroy, Unwind, Dispatched, Of_main, An_object, An_operation, A_mark, Stuck, Unbalanced, Orphan, NullOrDead, WrongKind}
-use Rattle.aom_sound.specs.Cases.Building.{leaf, pair, seven, a_cell, at_bottom, mine, inside, Case, fails, AllBite}
+use Rattle.aom_image.specs.declared.method.Role.{Role}
+use Rattle.aom_image.specs.declared.method.Role.TheVariants.{Cancel, Do}
+use Rattle.aom_sound.specs.Enlisted.{cancelled_code, pending}
+use Rattle.aom_sound.specs.Places.{Aborted, Active, Cancelling, Elsewhere, Entry, Field, Phase, Place, Register, Root}
+use Rattle.aom_sound.specs.State.{Static, frame_of, Task, Run, Trapped, Destroy, Unwind, Dispatched, Of_main, An_object, An_operation, A_mark, Stuck, CancelHang, Unbalanced, Orphan, NullOrDead, WrongKind}
+use Rattle.aom_sound.specs.Cases.Building.{leaf, pair, waiter, seven, a_cell, at_bottom, mine, inside, Case, fails, AllBite}
 
 -- a method that waits for another
 abbrev pub waits : Task
@@ -105,6 +108,29 @@ waiting_cases =
     ∷ record (ends_over (Destroy ∷ at_bottom) []) { home = inside pair; cells = a_cell 1 leaf (Field 5 0) ∷ [] }
     ∷ []
 
+-- a method of that role returns, and the request of what it works on is so far, with that status
+abbrev pub asked : Role → Phase → ℤ → List Stuck → Case
+asked role phase status kinds =
+    record (gives_back Nothing kinds) {
+      role = role;
+      home = inside waiter;
+      cells = record (a_cell 9 waiter (Elsewhere Root)) { request = Some (record { order = 0; priority = pos 0; phase = phase; status = status; timer = None }) } ∷ [];
+    }
+
+-- a method that cancels has its request completed
+abbrev pub hanging_cases : List Case
+hanging_cases =
+    asked Cancel Cancelling pending (CancelHang ∷ [])
+    ∷ asked Cancel Active pending (CancelHang ∷ [])
+    ∷ asked Cancel Aborted cancelled_code []
+    ∷ asked Cancel Cancelling (pos 0) []
+    ∷ asked Do Cancelling pending []
+    ∷ record (asked Cancel Cancelling pending []) { cells = a_cell 9 waiter (Elsewhere Root) ∷ [] }
+    -- the cleanup stack is asked for first, and what waits for it last
+    ∷ record (asked Cancel Cancelling pending (Unbalanced ∷ CancelHang ∷ [])) { items = [] }
+    ∷ record (asked Cancel Cancelling pending (CancelHang ∷ Unbalanced ∷ [])) { below = [] }
+    ∷ []
+
 -- each need of a return bites
 pub record ReturnsBite : Type 0 where
   pub given : AllBite given_cases
@@ -118,3 +144,4 @@ pub record ReturnsBite : Type 0 where
   pub left : AllBite left_cases
   pub owners : AllBite owner_cases
   pub waiting : AllBite waiting_cases
+  pub hanging : AllBite hanging_cases
