@@ -2,9 +2,9 @@
 use Rattle.std.proofs.Common.{Bool, List, None, Option, Some, [], ap, cond, false, length, refl, suc, true, zero, ℕ, ℤ, ◌-◌, ◌∙◌, ◌∷◌, ◌≡◌}
 use Rattle.std.specs.Prelude.{is_some, option_map}
 use Rattle.aom_image.specs.Image.{Image}
-use Rattle.aom_image.specs.Views.{instr_at, method_class}
+use Rattle.aom_image.specs.Views.{instr_at, method_class, method_role}
 use Rattle.aom_instructions.specs.declared.instr.Instr.{Instr}
-use Rattle.aom_instructions.specs.declared.instr.Instr.TheVariants.{Abort, Add, And, Call, Const, Copy, Delete, Enlist, Issue, JumpActive, JumpAdded, JumpEmpty, JumpNull, Load, Move, Mul, New, NewOrLeave, Next, Or, Pop, Push, PushOperation, Put, Return, SetActive, Status, Store, Sub, Take, Trap, Xor}
+use Rattle.aom_instructions.specs.declared.instr.Instr.TheVariants.{Abort, Add, And, Call, Cancel, Const, Copy, Delete, Enlist, Issue, JumpActive, JumpAdded, JumpEmpty, JumpNull, Load, Move, Mul, New, NewOrLeave, Next, Or, Pop, Push, PushOperation, Put, Return, SetActive, Status, Store, Sub, Take, Trap, Xor}
 use Rattle.aom_instructions.specs.declared.instr.Target.{Target}
 use Rattle.aom_instructions.specs.declared.instr.Target.TheVariants.{Entry as On_entry, Field as On_field, Register as On_register, This}
 use Rattle.aom_image.specs.declared.method.Gives.{Gives}
@@ -13,8 +13,8 @@ use Rattle.aom_sound.specs.Calls.{below_top, entry_place, home_at, own_home, rec
 use Rattle.aom_sound.specs.Cleanup.{code_told, dealt_with, destroyed, to_trap, top_place}
 use Rattle.aom_classes.specs.Roles.{destructor_of}
 use Rattle.aom_sound.specs.Destruction.{begun, begun_by}
-use Rattle.aom_sound.specs.Effects.{Calls, Carried, Destroys, Destroys_last, Effect, Goes_on, In_field, In_register, Jumps, Leaves, Made, Popped, Popped_operation, Pushed, Pushed_operation, Requested, Returns, Same, Sets_trap, Spot, Update, Written, applied, cells_after, deals, deletes, effect, items_after, jumps_if, jumps_unless, makes_unless, round, sets, spot_place, updates, with_words, writes}
-use Rattle.aom_sound.specs.Enlisted.{in_phase, is_busy, own_request, rerequested}
+use Rattle.aom_sound.specs.Effects.{Calls, Cancels, Carried, Destroys, Destroys_last, Effect, Goes_on, In_field, In_register, Jumps, Leaves, Made, Popped, Popped_operation, Pushed, Pushed_operation, Requested, Returns, Same, Sets_trap, Spot, Update, Written, applied, cancels_if, cells_after, deals, deletes, effect, items_after, jumps_if, jumps_unless, makes_unless, round, sets, spot_place, updates, with_words, writes}
+use Rattle.aom_sound.specs.Enlisted.{cancel_method, cancelled, cancelling, ended_cells, in_phase, is_active, is_busy, on_request, own_request, rerequested}
 use Rattle.aom_sound.specs.Moves.{does, needs}
 use Rattle.aom_sound.specs.Places.{Cell, Entry, Going, Object, Place, Register, Request, held, moved}
 use Rattle.aom_sound.specs.State.{A_mark, An_object, An_operation, AtRoot, Choice, Destroy, Dispatched, Frame, Home, Inside, Item, Run, State, Static, Task, Trapped, Unwind, counter, field_place}
@@ -22,6 +22,7 @@ use Rattle.aom_sound.specs.Words.{loaded, stored}
 use Rattle.aom_determined.proofs.Cells.{held_renamed, moved_renamed, order_kept, set_request_renamed, set_word_field_renamed, tasks_counted, timer_kept, word_field_kept}
 use Rattle.aom_determined.proofs.Needs.{call_kept, field_renamed, free_at, given_renamed, held_field, holder_kept, kind_kept, leave_kept, message_at, own_request_kept, push_kept, pushed_renamed, put_kept, refusal_kept, register_renamed, return_kept, trap_kept, under_trap_kept, whole_kept}
 use Rattle.aom_determined.specs.Names.{IsOneToOne, renamed, renamed_cells, renamed_choice, renamed_frame, renamed_home, renamed_object, renamed_place, renamed_tasks}
+use Rattle.aom_rules.specs.Requests.{is_cancel}
 
 -- ---- an effect under other names: a new cell and one that goes have names
 
@@ -116,6 +117,41 @@ module _ (names : ℕ → ℕ) where
   told_renamed (Left x) a code fr = refl
 
 module _ (names : ℕ → ℕ) (one_to_one : IsOneToOne names) (p : Image) (c : Choice) (fr : Frame) (ts : List Task) (s : State) where
+  -- whatever a register has moves to a place
+  from_register : (a : ℕ) (q : Place) → moved (Register (length (renamed_tasks names ts)) a) (renamed_place names q) (renamed_cells names s.cells) ≡ renamed_cells names (moved (Register (length ts) a) q s.cells)
+  from_register a q =
+      ap (λ n. moved (Register n a) (renamed_place names q) (renamed_cells names s.cells)) (tasks_counted names ts)
+      ∙ moved_renamed names one_to_one (Register (length ts) a) q s.cells
+
+  -- ---- returns
+
+  result_cells_renamed : (g : Gives) (a b : ℕ) (below : List Task) → result_cells p (renamed_frame names fr) (renamed_tasks names ts) (renamed names s) g a b (renamed_tasks names below) ≡ renamed_cells names (result_cells p fr ts s g a b below)
+  result_cells_renamed Nothing a b below = refl
+  result_cells_renamed A_word a b below = refl
+  result_cells_renamed (An_own t) a b below = rw (tasks_counted names below, from_register a (Register (length below) b))
+  result_cells_renamed (A_maybe t) a b below = rw (tasks_counted names below, from_register a (Register (length below) b))
+  result_cells_renamed (Left x) a b below = refl
+
+  returned_renamed : (g : Gives) (a : ℕ) (over : List Task) → returned p (renamed_frame names fr) (renamed_tasks names ts) (renamed names s) g a (renamed_tasks names over) ≡ renamed names (returned p fr ts s g a over)
+  returned_renamed g a (Run caller ∷ below) =
+      let b = result_register (instr_at p caller.method caller.place) in
+      rw (result_cells_renamed g a b below, received_renamed names p fr ts s g a b caller)
+  returned_renamed g a (Trapped ∷ Run caller ∷ below) =
+      let b = result_register (instr_at p caller.method caller.place) in
+      rw (result_cells_renamed g a b below, received_renamed names p fr ts s g a b caller)
+  returned_renamed g a _ = refl
+
+  -- the cells as a return begins
+  ended_renamed : ended_cells p (renamed_frame names fr) (renamed_cells names s.cells) ≡ renamed_cells names (ended_cells p fr s.cells)
+  ended_renamed = go (is_cancel (method_role p fr.method))
+    where
+      go :
+          (b : Bool) → cond b (rerequested (renamed_cells names s.cells) (renamed_home names fr.home) (on_request cancelled (own_request (renamed_cells names s.cells) (renamed_home names fr.home)))) (renamed_cells names s.cells)
+          ≡ renamed_cells names (cond b (rerequested s.cells fr.home (on_request cancelled (own_request s.cells fr.home))) s.cells)
+      go true = rw (own_request_kept names one_to_one s.cells fr.home, rerequested_renamed names one_to_one s.cells fr.home (on_request cancelled (own_request s.cells fr.home)))
+      go false = refl
+
+module _ (names : ℕ → ℕ) (one_to_one : IsOneToOne names) (p : Image) (c : Choice) (fr : Frame) (ts : List Task) (s : State) where
   abbrev fr' : Frame
   fr' = renamed_frame names fr
 
@@ -128,13 +164,7 @@ module _ (names : ℕ → ℕ) (one_to_one : IsOneToOne names) (p : Image) (c : 
   abbrev c' : Choice
   c' = renamed_choice names c
 
-  -- whatever a register has moves to a place
-  from_register : (a : ℕ) (q : Place) → moved (Register (length ts') a) (renamed_place names q) s'.cells ≡ renamed_cells names (moved (Register (length ts) a) q s.cells)
-  from_register a q =
-      ap (λ n. moved (Register n a) (renamed_place names q) s'.cells) (tasks_counted names ts)
-      ∙ moved_renamed names one_to_one (Register (length ts) a) q s.cells
-
-  -- ---- calls and returns
+  -- ---- calls
 
   target_renamed : (target : Target) (class : Option ℕ) → target_home p fr' ts' s' target class ≡ renamed_home names (target_home p fr ts s target class)
   target_renamed This class = own_home_renamed names class fr.home
@@ -149,22 +179,6 @@ module _ (names : ℕ → ℕ) (one_to_one : IsOneToOne names) (p : Image) (c : 
   target_renamed (On_entry k) class =
       ap (λ o. home_at o (entry_place s.items k)) (held_renamed names one_to_one s.cells (entry_place s.items k))
       ∙ home_at_renamed names (held s.cells (entry_place s.items k)) (entry_place s.items k)
-
-  result_cells_renamed : (g : Gives) (a b : ℕ) (below : List Task) → result_cells p fr' ts' s' g a b (renamed_tasks names below) ≡ renamed_cells names (result_cells p fr ts s g a b below)
-  result_cells_renamed Nothing a b below = refl
-  result_cells_renamed A_word a b below = refl
-  result_cells_renamed (An_own t) a b below = rw (tasks_counted names below, from_register a (Register (length below) b))
-  result_cells_renamed (A_maybe t) a b below = rw (tasks_counted names below, from_register a (Register (length below) b))
-  result_cells_renamed (Left x) a b below = refl
-
-  returned_renamed : (g : Gives) (a : ℕ) (over : List Task) → returned p fr' ts' s' g a (renamed_tasks names over) ≡ renamed names (returned p fr ts s g a over)
-  returned_renamed g a (Run caller ∷ below) =
-      let b = result_register (instr_at p caller.method caller.place) in
-      rw (result_cells_renamed g a b below, received_renamed names p fr ts s g a b caller)
-  returned_renamed g a (Trapped ∷ Run caller ∷ below) =
-      let b = result_register (instr_at p caller.method caller.place) in
-      rw (result_cells_renamed g a b below, received_renamed names p fr ts s g a b caller)
-  returned_renamed g a _ = refl
 
   -- ---- what an effect does
 
@@ -191,7 +205,10 @@ module _ (names : ℕ → ℕ) (one_to_one : IsOneToOne names) (p : Image) (c : 
   applied_renamed (Goes_on ch) = rw (cells_renamed ch.update, items_kept ch.update s.items)
   applied_renamed (Calls target m first) = rw (given_renamed names one_to_one p c fr ts s (Run fr ∷ ts) m first, target_renamed target (method_class p m))
   applied_renamed (Sets_trap target m first) = rw (given_renamed names one_to_one p c fr ts s (Trapped ∷ Run fr ∷ ts) m first, target_renamed target (method_class p m))
-  applied_renamed (Returns g a) = returned_renamed g a ts
+  applied_renamed (Cancels m) = rw (own_request_kept names one_to_one s.cells fr.home, rerequested_renamed names one_to_one s.cells fr.home (on_request cancelling (own_request s.cells fr.home)))
+  applied_renamed (Returns g a) =
+      ap (λ cs. returned p fr' ts' (record s' { cells = cs }) g a ts') (ended_renamed names one_to_one p c fr ts s)
+      ∙ returned_renamed names one_to_one p c fr ts (record s { cells = ended_cells p fr s.cells }) g a ts
   applied_renamed (Leaves code u) = rw (cells_renamed u, items_kept u s.items, to_trap_renamed names ts)
   applied_renamed (Destroys o a words) =
       rw (
@@ -241,6 +258,23 @@ module _ (names : ℕ → ℕ) (one_to_one : IsOneToOne names) (p : Image) (c : 
       ap (λ r. jumps_if fr' (test r) to) (own_request_kept names one_to_one s.cells fr.home)
       ∙ either_renamed (test (own_request s.cells fr.home)) (Jumps to) (updates fr Same) (Jumps to) (updates fr' Same) refl refl
 
+  -- a request that is active is cancelled
+  cancel_kept : (h : Home) → cancel_method p (renamed_home names h) ≡ cancel_method p h
+  cancel_kept Static = refl
+  cancel_kept AtRoot = refl
+  cancel_kept (Inside o from) = refl
+
+  cancels_renamed : (b : Bool) (m : Option ℕ) → cancels_if fr' b m ≡ renamed_effect names (cancels_if fr b m)
+  cancels_renamed true (Some m) = refl
+  cancels_renamed true None = refl
+  cancels_renamed false m = refl
+
+  cancel_renamed : cancels_if fr' (in_phase is_active (own_request s'.cells fr'.home)) (cancel_method p fr'.home) ≡ renamed_effect names (cancels_if fr (in_phase is_active (own_request s.cells fr.home)) (cancel_method p fr.home))
+  cancel_renamed =
+      ap (λ r. cancels_if fr' (in_phase is_active r) (cancel_method p fr'.home)) (own_request_kept names one_to_one s.cells fr.home)
+      ∙ ap (λ m. cancels_if fr' (in_phase is_active (own_request s.cells fr.home)) m) (cancel_kept fr.home)
+      ∙ cancels_renamed (in_phase is_active (own_request s.cells fr.home)) (cancel_method p fr.home)
+
   -- the last item is dealt with
   dealt_alike : deals fr' s.items (held s'.cells (top_place s.items)) ≡ renamed_effect names (deals fr s.items (held s.cells (top_place s.items)))
   dealt_alike = ap (deals fr' s.items) (held_renamed names one_to_one s.cells (top_place s.items)) ∙ deals_renamed s.items (held s.cells (top_place s.items))
@@ -257,6 +291,7 @@ module _ (names : ℕ → ℕ) (one_to_one : IsOneToOne names) (p : Image) (c : 
   effect_renamed (Enlist priority) = rw (order_kept names s.cells)
   effect_renamed (Issue a b) = rw (kind_kept names p fr.home, timer_kept names s.cells, own_request_kept names one_to_one s.cells fr.home)
   effect_renamed SetActive = rw (own_request_kept names one_to_one s.cells fr.home)
+  effect_renamed Cancel = cancel_renamed
   effect_renamed Abort = rw (own_request_kept names one_to_one s.cells fr.home)
   effect_renamed (Status a) = rw (own_request_kept names one_to_one s.cells fr.home)
   effect_renamed _ = first_of (cc, search (either_renamed), search (dealt_alike))
@@ -291,6 +326,7 @@ module _ (names : ℕ → ℕ) (one_to_one : IsOneToOne names) (p : Image) (c : 
   needs_kept (Enlist priority) = rw (kind_kept names p fr.home, own_request_kept names one_to_one s.cells fr.home)
   needs_kept (Issue a b) = rw (kind_kept names p fr.home, own_request_kept names one_to_one s.cells fr.home)
   needs_kept SetActive = rw (kind_kept names p fr.home, own_request_kept names one_to_one s.cells fr.home)
+  needs_kept Cancel = rw (kind_kept names p fr.home, own_request_kept names one_to_one s.cells fr.home)
   needs_kept Abort = rw (kind_kept names p fr.home, own_request_kept names one_to_one s.cells fr.home)
   needs_kept (Status a) = rw (kind_kept names p fr.home, free_at names one_to_one s.cells ts a)
   needs_kept (Return a) = return_kept names one_to_one p c fr ts s a

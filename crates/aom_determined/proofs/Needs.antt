@@ -248,6 +248,7 @@ module _ (names : ℕ → ℕ) (one_to_one : IsOneToOne names) (p : Image) (c : 
     level_kept (gives_of p fr.method),
     tasks_counted names ts,
     none_owns_kept names s.cells (length ts) (result_source (gives_of p fr.method) a),
+    own_request_kept names one_to_one s.cells fr.home,
     end_kept ts,
   )
 

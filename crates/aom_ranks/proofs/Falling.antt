@@ -4,7 +4,7 @@ use Rattle.std.specs.Prelude.{not}
 use Rattle.aom_image.specs.Image.{Image}
 use Rattle.aom_image.specs.Views.{arguments_of, is_quiet, method_at, method_class, method_role}
 use Rattle.aom_instructions.specs.declared.instr.Instr.{Instr}
-use Rattle.aom_instructions.specs.declared.instr.Instr.TheVariants.{Call, New, NewOrLeave, Next, Return, Trap}
+use Rattle.aom_instructions.specs.declared.instr.Instr.TheVariants.{Call, Cancel, New, NewOrLeave, Next, Return, Trap}
 use Rattle.aom_instructions.specs.declared.instr.Target.{Target}
 use Rattle.aom_image.specs.declared.method.Gives.{Gives}
 use Rattle.aom_image.specs.declared.method.Method.{Method as Method_declared}
@@ -23,7 +23,7 @@ use Rattle.aom_sound.proofs.Finishing.{all_parts}
 use Rattle.aom_sound.proofs.Fitting.{straight_by}
 use Rattle.aom_sound.specs.Calls.{below_top, passed_cells, returned}
 use Rattle.aom_sound.specs.Cleanup.{to_trap, top_place}
-use Rattle.aom_sound.specs.Effects.{Calls, Carried, Counts, Destroys, Destroys_last, Effect, Goes_on, In_field, In_register, Jumps, Leaves, Made, Operates, Popped, Popped_operation, Pushed, Pushed_operation, Repeats, Requested, Returns, Same, Sets_trap, Spot, Update, Written, applied, cells_after, items_after, spot_place, with_words}
+use Rattle.aom_sound.specs.Effects.{Calls, Cancels, Carried, Counts, Destroys, Destroys_last, Effect, Goes_on, In_field, In_register, Jumps, Leaves, Made, Operates, Popped, Popped_operation, Pushed, Pushed_operation, Repeats, Requested, Returns, Same, Sets_trap, Spot, Update, Written, applied, cells_after, items_after, spot_place, with_words}
 use Rattle.aom_sound.specs.Leaves.{LeavesWith}
 use Rattle.aom_sound.specs.Moves.{makes}
 use Rattle.aom_sound.specs.Objects.{no_words}
@@ -41,6 +41,7 @@ use Rattle.aom_ranks.proofs.Worths.{passed_less, to_trap_less}
 use Rattle.aom_ranks.proofs.Sums.{one_less, one_more, scaled, scaled_le}
 use Rattle.aom_image.proofs.Given.{false_given}
 use Rattle.std.proofs.lemmas.Bool.{true≢false}
+use Rattle.aom_sound.specs.Enlisted.{begun_cells, cancel_method, cancelling, ended_cells, on_request, own_request}
 
 -- ---- an instruction
 
@@ -84,6 +85,16 @@ module _ (p : Image) (linked : IsLinked p) (c : Choice) (s : State) (fr : Frame)
       let run = run_paid p m _ lower in
       let passed = passed_less standing standing_passes p fr ts s (length (Run fr ∷ ts)) (arguments_of p m) first 0 s.cells in
       let cells = scaled_le (standing (passed_cells p fr ts s (length (Run fr ∷ ts)) (arguments_of p m) first 0 s.cells) + operations s.items) (standing s.cells + operations s.items) (cell_rank p) (omega (arith, passed)) in
+      omega (arith, less, run, cells)
+
+  cancels : (m : ℕ) → slice_get d.code fr.place ≡ Some Cancel → (m < fr.method) × (is_quiet p m ≡ true) → rank p (applied p fr ts s (Cancels m)) < before
+  unfolding loop_in
+  cancels m stands below =
+      let less = paid fr.counters (suc fr.place) (straight Cancel stands refl) in
+      let lower = called_lower p fr.method m below.0 (λ q. below.1) in
+      let run = run_paid p m _ lower in
+      let same = standing_asked s.cells fr.home (on_request cancelling (own_request s.cells fr.home)) in
+      let cells = scaled_le (standing (begun_cells fr s.cells) + operations s.items) (standing s.cells + operations s.items) (cell_rank p) (omega (arith, same)) in
       omega (arith, less, run, cells)
 
   traps : (target : Target) (m first x : ℕ) → slice_get d.code fr.place ≡ Some (Trap target m first x) → is_quiet p fr.method ≡ false → rank p (applied p fr ts s (Sets_trap target m first)) < before
@@ -218,15 +229,17 @@ module _ (p : Image) (linked : IsLinked p) (c : Choice) (s : State) (fr : Frame)
 
     pub falls :
         AllUndo p s.items → (i : Instr) → slice_get d.code fr.place ≡ Some i → Ruled i → (e : Effect) → Fits p c fr ts s i e →
-        ((g : Gives) (a : ℕ) → slice_get d.code fr.place ≡ Some (Return a) → rank p (returned p fr ts s g a ts) < before) → rank p (applied p fr ts s e) < before
-    falls undos i stands r (Goes_on ch) f returns = goes_after i stands f.0 r ch.update f.1
-    falls undos i stands r (Jumps to) f returns = to_jump i stands to f
-    falls undos i stands r (Counts depth n) f returns = counts i stands depth n f
-    falls undos i stands r (Repeats depth n to) f returns = subst (λ k. rank p (applied p fr ts s (Repeats depth k to)) < before) (sym f.2) (repeats depth to f.1 (stands ∙ ap (λ x. Some x) f.0) (f.3 ∙ f.2))
-    falls undos i stands r (Calls target m first) f returns = calls target m first f.0 (stands ∙ ap (λ x. Some x) f.1) (called_quiet target m first f.0 (subst Ruled f.1 r))
-    falls undos i stands r (Sets_trap target m first) f returns = traps target m first f.0 (stands ∙ ap (λ x. Some x) f.1) (loud_by (is_quiet p fr.method) (subst Ruled f.1 r).0)
-    falls undos i stands r (Returns g a) f returns = returns g a (stands ∙ ap (λ x. Some x) f.0)
-    falls undos i stands r (Leaves code u) f returns = leaves_on i stands (straight_by p c fr ts s i (Leaves code u) f) (loud_leaving i code f.1 r) (count_after u) (more u)
-    falls undos i stands r (Destroys o a words) f returns = deletes i stands (straight_by p c fr ts s i (Destroys o a words) f) o a words f.1
-    falls undos i stands r (Destroys_last o) f returns = deletes_last i stands (straight_by p c fr ts s i (Destroys_last o) f) o f.1 f.2
-    falls undos i stands r (Operates m w) f returns = operates i stands (straight_by p c fr ts s i (Operates m w) f) m w undos f.1
+        ((g : Gives) (a : ℕ) → slice_get d.code fr.place ≡ Some (Return a) → rank p (returned p fr ts (record s { cells = ended_cells p fr s.cells }) g a ts) < before) →
+        ((m : ℕ) → slice_get d.code fr.place ≡ Some Cancel → cancel_method p fr.home ≡ Some m → (m < fr.method) × (is_quiet p m ≡ true)) → rank p (applied p fr ts s e) < before
+    falls undos i stands r (Goes_on ch) f returns lower = goes_after i stands f.0 r ch.update f.1
+    falls undos i stands r (Jumps to) f returns lower = to_jump i stands to f
+    falls undos i stands r (Counts depth n) f returns lower = counts i stands depth n f
+    falls undos i stands r (Repeats depth n to) f returns lower = subst (λ k. rank p (applied p fr ts s (Repeats depth k to)) < before) (sym f.2) (repeats depth to f.1 (stands ∙ ap (λ x. Some x) f.0) (f.3 ∙ f.2))
+    falls undos i stands r (Calls target m first) f returns lower = calls target m first f.0 (stands ∙ ap (λ x. Some x) f.1) (called_quiet target m first f.0 (subst Ruled f.1 r))
+    falls undos i stands r (Cancels m) f returns lower = let here = stands ∙ ap (λ x. Some x) f.0 in cancels m here (lower m here f.1)
+    falls undos i stands r (Sets_trap target m first) f returns lower = traps target m first f.0 (stands ∙ ap (λ x. Some x) f.1) (loud_by (is_quiet p fr.method) (subst Ruled f.1 r).0)
+    falls undos i stands r (Returns g a) f returns lower = returns g a (stands ∙ ap (λ x. Some x) f.0)
+    falls undos i stands r (Leaves code u) f returns lower = leaves_on i stands (straight_by p c fr ts s i (Leaves code u) f) (loud_leaving i code f.1 r) (count_after u) (more u)
+    falls undos i stands r (Destroys o a words) f returns lower = deletes i stands (straight_by p c fr ts s i (Destroys o a words) f) o a words f.1
+    falls undos i stands r (Destroys_last o) f returns lower = deletes_last i stands (straight_by p c fr ts s i (Destroys_last o) f) o f.1 f.2
+    falls undos i stands r (Operates m w) f returns lower = operates i stands (straight_by p c fr ts s i (Operates m w) f) m w undos f.1

@@ -1,18 +1,18 @@
 -- What a run of a method costs those that begin it.
-use Rattle.std.proofs.Common.{◌≡◌, ◌<◌, ◌≤◌, ◌+◌, ◌*◌, ◌^◌, ◌∙◌, ℕ, suc, Bool, true, false, cond, List, [], length, Option, Some, None, slice_get, refl, ap, arith, subst}
+use Rattle.std.proofs.Common.{Bool, IfSome, IsTrue, List, None, Option, Some, [], ap, arith, cond, false, length, refl, slice_get, subst, suc, true, ℕ, ◌*◌, ◌+◌, ◌<◌, ◌^◌, ◌∙◌, ◌≡◌, ◌≤◌}
 use Rattle.std.specs.Prelude.{All, IsSome, position}
 use Rattle.std.proofs.lemmas.List.Elements.{All-get_or}
 use Rattle.std.proofs.lemmas.Option.{slice_get_within, get_or_from_slice_get}
 use Rattle.aom_image.specs.Image.{Image}
 use Rattle.aom_image.specs.Views.{is_quiet, leaves, leaves_in, method_at, quiet_in}
-use Rattle.aom_instructions.specs.declared.instr.Instr.TheVariants.{Call, Trap}
+use Rattle.aom_instructions.specs.declared.instr.Instr.TheVariants.{Call, Cancel, Trap}
 use Rattle.aom_instructions.specs.declared.instr.Target.{Target}
 use Rattle.aom_image.specs.declared.method.Method.{Method}
-use Rattle.aom_image.specs.declared.method.Role.TheVariants.{Destruct}
+use Rattle.aom_image.specs.declared.method.Role.TheVariants.{Cancel as Cancel_role, Destruct}
 use Rattle.aom_image.specs.declared.method.Thing.{Thing}
-use Rattle.aom_classes.specs.Calls.{CallsOrdered, RunsBelow}
+use Rattle.aom_classes.specs.Calls.{AllBelow, CallsOrdered, RunsBelow}
 use Rattle.aom_classes.specs.Linked.{IsLinked}
-use Rattle.aom_classes.specs.Roles.{destructor_of, is_main, main_of, role_of}
+use Rattle.aom_classes.specs.Roles.{destructor_of, is_main, main_of, plays, role_of}
 use Rattle.aom_roles.specs.Shapes.{FlagsFit, HasShape, IsShaped, kind_of, may_leave, is_quiet as quiet_bit}
 use Rattle.aom_classes.proofs.Facts.{at_place}
 use Rattle.aom_sound.specs.Destruction.{begun, begun_by}
@@ -23,7 +23,7 @@ use Rattle.aom_ranks.specs.Ranks.{all_left, base, cell_rank, left_in, level, pri
 use Rattle.aom_ranks.specs.Within.{left}
 use Rattle.aom_ranks.proofs.Sums.{pow_less, pow_more, pow_some, pow_step, pow_twice, whole_run}
 use Rattle.aom_image.proofs.Given.{cons_given, some_given}
-use Rattle.aom_classes.proofs.Playing.{destroyed, role_found}
+use Rattle.aom_classes.proofs.Playing.{destroyed, found, role_found}
 use Rattle.aom_ranks.proofs.Sums.{one_of_all}
 
 -- what holds of each element holds of one
@@ -143,3 +143,26 @@ undo_paid p m undo =
     let is : level p m ≡ m = ap (λ b. cond b m (suc (length p.methods) + m)) undo.quiet in
     let within : m < length p.methods = some_given (λ o. IsSome o) (slice_get p.methods m) undo.there (λ none. cc) (λ d is some. slice_get_within p.methods m d is) in
     run_paid p m (length p.methods) (omega (arith, is, within))
+
+-- ---- methods that cancel
+
+-- one is a quiet method of the image
+pub quiet_canceller : (p : Image) → IsLinked p → (c m : ℕ) → role_of p c Cancel_role ≡ Some m → is_quiet p m ≡ true
+unfolding method_at quiet_in
+quiet_canceller p linked c m e =
+    let w = role_found p c m Cancel_role e in
+    let d = w.0 in
+    let shaped : IsShaped p d = all_at (IsShaped p) p.methods m d linked.shapes w.1 in
+    let shape : HasShape Cancel_role (kind_of p d.class) d = subst (λ r. HasShape r (kind_of p d.class) d) w.3 shaped.role in
+    ap quiet_in w.1 ∙ shape.flags
+
+-- and comes before what cancels by it
+pub canceller_before : (p : Image) → IsLinked p → (m place : ℕ) (d : Method) (c m' : ℕ) → method_at p m ≡ Some d → slice_get d.code place ≡ Some Cancel → d.class ≡ Some c → role_of p c Cancel_role ≡ Some m' → m' < m
+unfolding method_at role_of
+canceller_before p linked m place d c m' is stands class e =
+    let ordered : CallsOrdered p m d = at_place (CallsOrdered p) p.methods m d linked.calls is in
+    let runs : RunsBelow p m d.class Cancel = all_at (RunsBelow p m d.class) d.code place Cancel ordered.code stands in
+    let below : AllBelow p.methods m c Cancel_role = subst (λ o. IfSome o (λ c. AllBelow p.methods m c Cancel_role)) class runs in
+    let w = found (plays c Cancel_role) p.methods m' e in
+    let here : IfSome (Some w.0) (λ d. IsTrue (plays c Cancel_role d) → m' < m) = subst (λ o. IfSome o (λ d. IsTrue (plays c Cancel_role d) → m' < m)) w.1 (below m') in
+    here w.2

@@ -2,9 +2,9 @@
 use Rattle.std.proofs.lemmas.Option.{same_Some}
 use Rattle.std.proofs.Common.{◌≡◌, ◌<◌, ◌≤◌, ◌+◌, ◌*◌, ◌∙◌, ℕ, ℤ, suc, Bool, true, false, List, [], ◌∷◌, length, Option, Some, None, slice_get, refl, sym, ap, arith, subst}
 use Rattle.aom_image.specs.Image.{Image}
-use Rattle.aom_image.specs.Views.{instr_at, method_at}
+use Rattle.aom_image.specs.Views.{class_in, instr_at, is_quiet, method_at, method_class, method_role}
 use Rattle.aom_instructions.specs.declared.instr.Instr.{Instr}
-use Rattle.aom_instructions.specs.declared.instr.Instr.TheVariants.{Return}
+use Rattle.aom_instructions.specs.declared.instr.Instr.TheVariants.{Cancel, Return}
 use Rattle.aom_image.specs.declared.method.Gives.{Gives}
 use Rattle.aom_image.specs.declared.method.Method.{Method as Method_declared}
 use Rattle.aom_classes.specs.Linked.{IsLinked}
@@ -27,16 +27,22 @@ use Rattle.aom_ranks.specs.Laws.{Moves, no_move, one_move}
 use Rattle.aom_sound.specs.WellTyped.{Keeps}
 use Rattle.aom_sound.specs.Moves.{counted, dispatch_ends, main_ends, step}
 use Rattle.aom_sound.specs.Places.{Elsewhere, Entry, Going, Object, Root, held, moved, without}
-use Rattle.aom_sound.specs.State.{An_object, An_operation, A_mark, Choice, Destroy, Dispatch, Dispatched, Frame, Goes, Item, Main_left, Of_main, Of_root, Outcome, Run, State, Task, Trapped, Unwind, resumed}
+use Rattle.aom_sound.specs.State.{A_mark, An_object, An_operation, Choice, Destroy, Dispatch, Dispatched, Frame, Goes, Home, Inside, Item, Main_left, Of_main, Of_root, Outcome, Run, State, Task, Trapped, Unwind, home_holder, resumed, thing_holder}
 use Rattle.aom_sound.specs.WellTyped.{AllUndo, Good, Now, Stack, WellTyped}
 use Rattle.aom_sound.specs.World.{IsBusy}
 use Rattle.aom_ranks.specs.Ranks.{cell_rank, end_rank, frame_rank, operations, rank, rank_worths, standing, tasks_rank}
 use Rattle.aom_ranks.proofs.Falling.{falls, paid, straight}
-use Rattle.aom_ranks.proofs.Levels.{begun_paid, price_some, undo_paid}
-use Rattle.aom_ranks.proofs.Standing.{operations_below, standing_goes, standing_passes, standing_without}
+use Rattle.aom_ranks.proofs.Levels.{begun_paid, canceller_before, price_some, quiet_canceller, undo_paid}
+use Rattle.aom_ranks.proofs.Standing.{operations_below, standing_asked, standing_goes, standing_passes, standing_without}
 use Rattle.aom_ranks.proofs.Sums.{one_less, scaled_le}
 use Rattle.aom_ranks.proofs.Worths.{resumed_alike, returned_less, told_alike}
 use Rattle.aom_sound.proofs.Layers.{method_layer}
+use Rattle.aom_sound.specs.Enlisted.{cancel_method, cancel_of, ended_cells}
+use Rattle.aom_shape.specs.Things.{Member, holder_by, holder_of}
+use Rattle.aom_image.specs.declared.method.Role.{Role}
+use Rattle.aom_image.specs.declared.method.Role.TheVariants.{Main}
+use Rattle.aom_image.specs.declared.method.Thing.{Thing}
+use Rattle.aom_image.specs.declared.method.Thing.TheVariants.{Object as An_object_of}
 
 -- ---- a return
 
@@ -50,12 +56,37 @@ ends p linked c s fr ts d declared_there a stands =
 -- to what stands below
 returns :
     (p : Image) (t : Typing) (s : State) (fr : Frame) (sh : Shape) (ls : List Layer) → Stack p t s.cells Now (Method fr sh ∷ ls) → 1 ≤ frame_rank p fr → (g : Gives) (a : ℕ) →
-    rank p (returned p fr (tasks_of ls) s g a (tasks_of ls)) < tasks_rank p (Run fr ∷ tasks_of ls) + (standing s.cells + operations s.items) * cell_rank p
+    rank p (returned p fr (tasks_of ls) (record s { cells = ended_cells p fr s.cells }) g a (tasks_of ls)) < tasks_rank p (Run fr ∷ tasks_of ls) + (standing s.cells + operations s.items) * cell_rank p
 returns p t s fr sh ls h some g a =
-    let u = returned p fr (tasks_of ls) s g a (tasks_of ls) in
-    let less = returned_less (rank_worths p) standing operations standing_passes operations_below p t s fr sh g a ls h in
+    let u = returned p fr (tasks_of ls) (record s { cells = ended_cells p fr s.cells }) g a (tasks_of ls) in
+    let less = returned_less (rank_worths p) standing operations standing_passes operations_below standing_asked p t s fr sh g a ls h in
     let cells = scaled_le (standing u.cells + operations u.items) (standing s.cells + operations s.items) (cell_rank p) less.1 in
     omega (arith, some, less.0, cells)
+
+-- ---- a cancel
+
+-- the class of what a method works on is the method's
+class_of_member : (r : Option Role) (class : Option ℕ) (c : ℕ) → Member c ≡ holder_by r class → class ≡ Some c
+class_of_member (Some Main) class c e = cc
+class_of_member _ None c e = cc
+class_of_member _ (Some k) c e = cc
+
+-- the method that cancels is quiet, and comes before
+cancels_below :
+    (p : Image) → IsLinked p → (fr : Frame) (d : Method_declared) → method_at p fr.method ≡ Some d → home_holder fr.home ≡ holder_of p fr.method → (m : ℕ) → slice_get d.code fr.place ≡ Some Cancel → cancel_method p fr.home ≡ Some m →
+    (m < fr.method) × (is_quiet p m ≡ true)
+unfolding class_in
+cancels_below p linked fr d there holder m stands e = go fr.home holder e
+  where
+    of_thing : (x : Thing) → thing_holder x ≡ holder_of p fr.method → cancel_of p x ≡ Some m → (m < fr.method) × (is_quiet p m ≡ true)
+    of_thing (An_object_of c) h e =
+        let class : d.class ≡ Some c = sym (ap class_in there) ∙ class_of_member (method_role p fr.method) (method_class p fr.method) c h in
+        (canceller_before p linked fr.method fr.place d c m there stands class e, quiet_canceller p linked c m e)
+    of_thing _ h e = cc
+
+    go : (h : Home) → home_holder h ≡ holder_of p fr.method → cancel_method p h ≡ Some m → (m < fr.method) × (is_quiet p m ≡ true)
+    go (Inside o from) h e = of_thing o.thing h e
+    go _ h e = cc
 
 -- ---- every move
 
@@ -73,7 +104,7 @@ module _ (p : Image) (t : Typing) (linked : IsLinked p) (typed : IsTyped p t) (c
       let m = of_method p fr.method fr.place i there in
       let is : x.instr ≡ i = same_Some x.instr i (sym x.stands ∙ there) in
       falls p linked c (counted p s) fr (tasks_of ls) m.0 m.1 sh w.undos i m.2 (subst (λ j. AllTrue (rule_needs p fr.method fr.place sh j)) is x.needs) e fits
-      (λ g a stands. returns p t (counted p s) fr sh ls good.stack (ends p linked c (counted p s) fr (tasks_of ls) m.0 m.1 a stands) g a)
+      (λ g a stands. returns p t (counted p s) fr sh ls good.stack (ends p linked c (counted p s) fr (tasks_of ls) m.0 m.1 a stands) g a) (λ k stands e. cancels_below p linked fr m.0 m.1 good.stack.1.holder k stands e)
 
   acts : (ls : List Layer) → Good p t s.cells ls → (fr : Frame) (ts : List Task) → tasks_of ls ≡ Run fr ∷ ts → ActsLower fr ts
   acts ls good fr ts at = method_layer (Good p t s.cells) fr ts ls at good (λ sh below under there. subst (ActsLower fr) under (acts_there fr sh below there))

@@ -1,7 +1,7 @@
 -- What the tasks come to after a leave, a return, an arrival and the going of a cell; and what of the cells is only passed on.
-use Rattle.std.proofs.Common.{◌≡◌, ◌≤◌, ◌+◌, ℕ, ℤ, suc, List, [], ◌∷◌, length, refl, arith}
+use Rattle.std.proofs.Common.{Bool, List, Option, [], arith, cond, false, length, refl, suc, true, ℕ, ℤ, ◌+◌, ◌∷◌, ◌≡◌, ◌≤◌}
 use Rattle.aom_image.specs.Image.{Image}
-use Rattle.aom_image.specs.Views.{instr_at}
+use Rattle.aom_image.specs.Views.{instr_at, method_role}
 use Rattle.aom_image.specs.declared.method.Argument.{Argument}
 use Rattle.aom_image.specs.declared.method.Argument.TheVariants.{Word as Takes_word, Own as Takes_own}
 use Rattle.aom_image.specs.declared.method.Gives.{Gives}
@@ -11,10 +11,12 @@ use Rattle.aom_rules.specs.Typing.{Typing}
 use Rattle.aom_sound.specs.Calls.{below_top, passed_cells, received, result_cells, result_register, returned}
 use Rattle.aom_sound.specs.Claims.{Dispatching, Dying, Layer, Mark, Method, Unwinding, tasks_of}
 use Rattle.aom_sound.specs.Cleanup.{code_told, to_trap}
-use Rattle.aom_sound.specs.Places.{Cell, Register, moved}
-use Rattle.aom_sound.specs.State.{Destroy, Dispatched, Frame, Item, Run, State, Task, Trapped, Unwind, next, resumed}
+use Rattle.aom_sound.specs.Places.{Cell, Register, Request, moved}
+use Rattle.aom_sound.specs.State.{Destroy, Dispatched, Frame, Home, Item, Run, State, Task, Trapped, Unwind, next, resumed}
 use Rattle.aom_sound.specs.WellTyped.{Caught, Now, Returns, Stack}
 use Rattle.aom_ranks.specs.Worths.{Worths, tasks_worth, waiting_worth}
+use Rattle.aom_sound.specs.Enlisted.{cancelled, ended_cells, on_request, own_request, rerequested}
+use Rattle.aom_rules.specs.Requests.{is_cancel}
 
 -- ---- cells that are only passed on
 
@@ -77,9 +79,24 @@ module _ (w : Worths) where
   -- a return to what stands below
   module _ (f : List Cell → ℕ) (g : List Item → ℕ)
       (passes : (d i e j : ℕ) (cs : List Cell) → f (moved (Register d i) (Register e j) cs) ≤ f cs) (below : (items : List Item) → g (below_top items) ≤ g items)
+      (asks : (cs : List Cell) (h : Home) (r : Option Request) → f (rerequested cs h r) ≡ f cs)
       (p : Image) (t : Typing) (s : State) (fr : Frame) (sh : Shape) (gives : Gives) (a : ℕ) where
+    -- the state as the method ends
+    abbrev pub ended : State
+    ended = record s { cells = ended_cells p fr s.cells }
+
+    ended_less : f (ended_cells p fr s.cells) ≤ f s.cells
+    ended_less = go (is_cancel (method_role p fr.method))
+      where
+        r : Option Request
+        r = on_request cancelled (own_request s.cells fr.home)
+
+        go : (b : Bool) → f (cond b (rerequested s.cells fr.home r) s.cells) ≤ f s.cells
+        go true = omega (arith, asks s.cells fr.home r)
+        go false = omega arith
+
     abbrev pub after : List Layer → State
-    after ls = returned p fr (tasks_of ls) s gives a (tasks_of ls)
+    after ls = returned p fr (tasks_of ls) ended gives a (tasks_of ls)
 
     abbrev pub Less : List Layer → Type 0
     Less ls = (tasks_worth w (after ls).tasks ≤ waiting_worth w (tasks_of ls)) × (f (after ls).cells + g (after ls).items ≤ f s.cells + g s.items)
@@ -89,13 +106,13 @@ module _ (w : Worths) where
     returned_less (Method caller sh2 ∷ ls) h =
         let x = result_register (instr_at p caller.method caller.place) in
         let below = Run caller ∷ tasks_of ls in
-        (omega (arith, received_alike p fr below s gives a x caller (tasks_of ls)), omega (arith, result_less f passes p fr below s gives a x (tasks_of ls)))
-    returned_less (Dying o ∷ ls) h = (omega arith, omega arith)
-    returned_less (Unwinding code es ∷ ls) h = (omega arith, omega arith)
+        (omega (arith, received_alike p fr below ended gives a x caller (tasks_of ls)), omega (arith, result_less f passes p fr below ended gives a x (tasks_of ls), ended_less))
+    returned_less (Dying o ∷ ls) h = (omega arith, omega (arith, ended_less))
+    returned_less (Unwinding code es ∷ ls) h = (omega arith, omega (arith, ended_less))
     returned_less (Mark gv ∷ []) h = let e : Caught gv ≡ Now = h.4.1 in absurd (cc)
     returned_less (Mark gv ∷ Method caller sh2 ∷ ls) h =
         let x = result_register (instr_at p caller.method caller.place) in
         let over = Trapped ∷ Run caller ∷ tasks_of ls in
-        (omega (arith, received_alike p fr over s gives a x caller (tasks_of ls)), omega (arith, result_less f passes p fr over s gives a x (tasks_of ls), below s.items))
-    returned_less (Mark gv ∷ Dispatching d ∷ ls) h = (omega arith, omega (arith, below s.items))
+        (omega (arith, received_alike p fr over ended gives a x caller (tasks_of ls)), omega (arith, result_less f passes p fr over ended gives a x (tasks_of ls), ended_less, below s.items))
+    returned_less (Mark gv ∷ Dispatching d ∷ ls) h = (omega arith, omega (arith, ended_less, below s.items))
     returned_less _ h = absurd (grind arith)

@@ -4,8 +4,8 @@ use Rattle.std.specs.Ordering.{int_eq}
 use Rattle.std.specs.Prelude.{bit_and, int_lt, is_some}
 use Rattle.aom_image.specs.Image.{Image}
 use Rattle.aom_instructions.specs.declared.instr.Instr.{Instr}
-use Rattle.aom_instructions.specs.declared.instr.Instr.TheVariants.{JumpActive, JumpAdded, JumpEmpty, JumpEqual, JumpLess, JumpNull, Leave, Loop, New, Next, Return}
-use Rattle.aom_image.specs.Views.{method_role}
+use Rattle.aom_instructions.specs.declared.instr.Instr.TheVariants.{Cancel, JumpActive, JumpAdded, JumpEmpty, JumpEqual, JumpLess, JumpNull, Leave, Loop, New, Next, Return}
+use Rattle.aom_image.specs.Views.{method_class, method_role}
 use Rattle.aom_image.specs.declared.method.Role.TheVariants.{Main}
 use Rattle.aom_image.specs.declared.method.Thing.{Thing}
 use Rattle.aom_classes.specs.Loops.{loop_in, next_in}
@@ -16,7 +16,7 @@ use Rattle.aom_rules.specs.Objects.{flow_jump_empty, flow_jump_null}
 use Rattle.aom_rules.specs.Requests.{enlisted, flow_narrowed, inactive, outstanding, own_kind}
 use Rattle.aom_rules.specs.Rules.{flows, rule_needs}
 use Rattle.aom_shape.specs.Shape.{Shape}
-use Rattle.aom_shape.specs.Things.{field_thing}
+use Rattle.aom_shape.specs.Things.{Member, field_thing, holder_by, holder_of}
 use Rattle.aom_rules.specs.Typing.{Typing}
 use Rattle.aom_shape.specs.declared.kind.Filling.{Filling}
 use Rattle.aom_shape.specs.declared.kind.Filling.TheVariants.{Empty, Full, Perhaps}
@@ -26,13 +26,15 @@ use Rattle.aom_sound.proofs.Jumps.{not_empty, not_full}
 use Rattle.aom_sound.proofs.Requesting.{active_listed, busy_in, free_in, listed_in, some_left, unlisted_in}
 use Rattle.aom_sound.proofs.Straight.{At, field_fits, kind_fits}
 use Rattle.aom_sound.specs.Claims.{Layer, tasks_of}
-use Rattle.aom_sound.specs.Effects.{Calls, Counts, Destroys, Destroys_last, Effect, Goes_on, Jumps, Leaves, Operates, Pushed, Pushed_operation, Repeats, Returns, Sets_trap, Update, deals, deletes, effect, jumps_if, jumps_unless, makes_unless, round}
-use Rattle.aom_sound.specs.Enlisted.{in_phase, is_busy, own_request}
+use Rattle.aom_sound.specs.Effects.{Calls, Cancels, Counts, Destroys, Destroys_last, Effect, Goes_on, Jumps, Leaves, Operates, Pushed, Pushed_operation, Repeats, Returns, Sets_trap, Update, cancels_if, deals, deletes, effect, jumps_if, jumps_unless, makes_unless, round}
+use Rattle.aom_sound.specs.Enlisted.{cancel_method, cancel_of as cancel_for, in_phase, is_active, is_busy, own_request}
 use Rattle.aom_sound.specs.Places.{Object, held, seen}
-use Rattle.aom_sound.specs.State.{An_object, An_operation, Choice, Frame, Item, State, Task, counter, field_place, home_holder}
+use Rattle.aom_sound.specs.State.{An_object, An_operation, Choice, Frame, Home, Inside, Item, State, Task, counter, field_place, home_holder, thing_holder}
 use Rattle.aom_sound.specs.WellTyped.{Fits}
 use Rattle.aom_sound.specs.Words.{here, read}
-use Rattle.aom_prices.specs.Prices.{AllPaid, IsPriced, Prices, Stands, kind_price, own, price}
+use Rattle.aom_prices.specs.Prices.{AllPaid, IsPriced, Prices, Stands, cancel_of, kind_price, own, perhaps_price, price}
+use Rattle.aom_image.specs.declared.method.Role.{Role}
+use Rattle.aom_image.specs.declared.method.Thing.TheVariants.{Object as An_object_of}
 
 module _ (c : Prices) (fr : Frame) (sh : Shape) where
   -- at its place the method has so much for what comes at once, and the price of the place at which it goes on
@@ -52,6 +54,7 @@ module _ (c : Prices) (fr : Frame) (sh : Shape) where
   Covers (Counts depth n) = Unit {0}
   Covers (Repeats depth n to) = Unit {0}
   Covers (Calls target m first) = Affords (1 + price c m) (suc fr.place)
+  Covers (Cancels m) = Affords (1 + price c m) (suc fr.place)
   Covers (Sets_trap target m first) = Affords (1 + price c m) (suc fr.place)
   Covers (Returns g a) = 1 ≤ c.from fr.method fr.place
   Covers (Leaves code u) = 1 + pushes u ≤ c.from fr.method fr.place
@@ -126,6 +129,31 @@ module _ (p : Image) (t : Typing) (c : Prices) (main_none : (m : ℕ) → method
   on_states there here to false some_there some_here pays =
       narrowed_paid (suc fr.place) here (some_here refl) (paid_first 1 (c.from fr.method fr.place) (flow_narrowed sh (suc fr.place) here) (flow_narrowed sh to there) pays)
 
+  -- ---- a cancel
+
+  -- the class of what a method works on is the method's
+  class_of_member : (r : Option Role) (class : Option ℕ) (k : ℕ) → Member k ≡ holder_by r class → class ≡ Some k
+  class_of_member (Some Main) class k e = cc
+  class_of_member _ None k e = cc
+  class_of_member _ (Some x) k e = cc
+
+  -- the method that cancels is the one that the price counts
+  same_cancel : (m : ℕ) → cancel_method p fr.home ≡ Some m → cancel_of p (method_class p fr.method) ≡ Some m
+  same_cancel m e = go fr.home at_hand.good.stack.1.holder e
+    where
+      of_thing : (x : Thing) → thing_holder x ≡ holder_of p fr.method → cancel_for p x ≡ Some m → cancel_of p (method_class p fr.method) ≡ Some m
+      of_thing (An_object_of k) h e = ap (λ o. cancel_of p o) (class_of_member (method_role p fr.method) (method_class p fr.method) k h) ∙ e
+      of_thing _ h e = cc
+
+      go : (h : Home) → home_holder h ≡ holder_of p fr.method → cancel_method p h ≡ Some m → cancel_of p (method_class p fr.method) ≡ Some m
+      go (Inside o from) h e = of_thing o.thing h e
+      go _ h e = cc
+
+  on_cancel : (b : Bool) (x : Option ℕ) → cancel_method p fr.home ≡ x → 1 + perhaps_price c (cancel_of p (method_class p fr.method)) + c.from fr.method (suc fr.place) ≤ c.from fr.method fr.place → Covers c fr sh (cancels_if fr b x)
+  on_cancel true (Some m) e pays = omega (arith, pays, ap (λ o. perhaps_price c o) (same_cancel m e))
+  on_cancel true None e pays = omega (arith, pays)
+  on_cancel false x e pays = omega (arith, pays)
+
   -- ---- every instruction
 
   abbrev Standing : Instr → Type 0
@@ -161,6 +189,7 @@ module _ (p : Image) (t : Typing) (c : Prices) (main_none : (m : ℕ) → method
       made : (b : Bool) → Affords c fr sh 1 (suc fr.place) → Affords c fr sh (1 + pushes c fr sh (makes_unless b ch.name x a)) (suc fr.place)
       made true pays = pays
       made false pays = pays
+  covers Cancel it rule = on_cancel (in_phase is_active (own_request s.cells fr.home)) (cancel_method p fr.home) refl (paid Cancel it refl refl).0
   covers (Leave a) it rule = some (Leave a) it
   covers (Return a) it rule = some (Return a) it
   covers i it rule = first_of (assumption (paid i it refl refl), search (either c fr sh, some i it, paid i it refl refl), search (deleting c fr sh, paid i it refl refl), search (dealing c fr sh, paid i it refl refl), grind (arith, rule))

@@ -24,7 +24,7 @@ use Rattle.aom_sound.specs.Calls.{below_top}
 use Rattle.aom_sound.specs.Claims.{Layer, tasks_of}
 use Rattle.aom_sound.specs.Cleanup.{top_place}
 use Rattle.aom_sound.specs.Destruction.{begun, begun_by}
-use Rattle.aom_sound.specs.Effects.{Calls, Carried, Counts, Destroys, Destroys_last, Effect, Goes_on, In_field, In_register, Jumps, Leaves, Made, Operates, Popped, Popped_operation, Pushed, Pushed_operation, Repeats, Requested, Returns, Same, Sets_trap, Spot, Update, Written, applied, cells_after, items_after, spot_place, with_words}
+use Rattle.aom_sound.specs.Effects.{Calls, Cancels, Carried, Counts, Destroys, Destroys_last, Effect, Goes_on, In_field, In_register, Jumps, Leaves, Made, Operates, Popped, Popped_operation, Pushed, Pushed_operation, Repeats, Requested, Returns, Same, Sets_trap, Spot, Update, Written, applied, cells_after, items_after, spot_place, with_words}
 use Rattle.aom_sound.specs.Places.{Entry, Going, Object, Sight, held, seen}
 use Rattle.aom_sound.specs.State.{An_object, An_operation, Choice, Frame, Run, State, Task, Trapped, counter}
 use Rattle.aom_sound.specs.Steps.{Fits, Sets}
@@ -38,6 +38,7 @@ use Rattle.aom_prices.specs.Prices.{IsPriced, Prices, Stands, kind_price, price}
 use Rattle.aom_steps.specs.Left.{is_entry, left, left_worths, method_left, objects_left, operations_left, rounds_left, rounds_price, tasks_left, waiting_left}
 use Rattle.aom_steps.proofs.Covering.{Affords, Covers, pushes}
 use Rattle.aom_steps.proofs.Pushed.{enters_stack, field_no_entry, leaves_entry, moved_less, none_moves, operations_below, register_passes, rerequested_same, stored_same}
+use Rattle.aom_sound.specs.Enlisted.{cancelling, on_request, own_request}
 
 -- ---- what begins, and what ends
 
@@ -188,6 +189,11 @@ module _ (p : Image) (t : Typing) (c : Prices) (linked : IsLinked p) (priced : I
       let less = straight i stands plain (1 + price c m) pays in
       omega (arith, less, passed_less (objects_left c) (register_passes c) p fr ts s (length (Run fr ∷ ts)) (arguments_of p m) first 0 s.cells, fresh_rounds c m (method_at p m))
 
+  cancels : (i : Instr) → slice_get d.code fr.place ≡ Some i → loop_in (Some i) ≡ None → (m : ℕ) → Affords c fr sh (1 + price c m) (suc fr.place) → Pays (Cancels m)
+  cancels i stands plain m pays =
+      let less = straight i stands plain (1 + price c m) pays in
+      omega (arith, less, rerequested_same c s.cells fr.home (on_request cancelling (own_request s.cells fr.home)), fresh_rounds c m (method_at p m))
+
   traps : (i : Instr) → slice_get d.code fr.place ≡ Some i → loop_in (Some i) ≡ None → (target : Target) (m first : ℕ) → Affords c fr sh (1 + price c m) (suc fr.place) → Pays (Sets_trap target m first)
   traps i stands plain target m first pays =
       let less = straight i stands plain (1 + price c m) pays in
@@ -222,7 +228,7 @@ module _ (p : Image) (t : Typing) (c : Prices) (linked : IsLinked p) (priced : I
   -- what the method could still cost is dropped
   returns : (g : Gives) (a : ℕ) → 1 ≤ c.from fr.method fr.place → Pays (Returns g a)
   returns g a some =
-      let less = returned_less (left_worths p c) (objects_left c) (operations_left c) (register_passes c) (operations_below c) p t s fr sh g a ls at_hand.good.stack in
+      let less = returned_less (left_worths p c) (objects_left c) (operations_left c) (register_passes c) (operations_below c) (rerequested_same c) p t s fr sh g a ls at_hand.good.stack in
       omega (arith, some, less.0, less.1)
 
   pub pays : (i : Instr) → slice_get d.code fr.place ≡ Some i → Stands p t fr.method fr.place sh i → (e : Effect) → Fits p ch fr ts s i e → Covers c fr sh e → Pays e
@@ -234,6 +240,7 @@ module _ (p : Image) (t : Typing) (c : Prices) (linked : IsLinked p) (priced : I
   pays i stands it (Repeats depth n to) f covered =
       subst (λ k. Pays (Repeats depth k to)) (sym f.2) (again depth to f.1 (stands ∙ ap (λ x. Some x) f.0) (subst (λ x. Stands p t fr.method fr.place sh x) f.0 it) (f.3 ∙ f.2))
   pays i stands it (Calls target m first) f covered = calls i stands (straight_by p ch fr ts s i (Calls target m first) f) target m first covered
+  pays i stands it (Cancels m) f covered = cancels i stands (straight_by p ch fr ts s i (Cancels m) f) m covered
   pays i stands it (Sets_trap target m first) f covered = traps i stands (straight_by p ch fr ts s i (Sets_trap target m first) f) target m first covered
   pays i stands it (Returns g a) f covered = returns g a covered
   pays i stands it (Leaves code u) f covered = omega (arith, covered, after u, to_trap_less (left_worths p c) ts)
