@@ -1,10 +1,10 @@
 -- A method returns: to the method that called it, to the going of its cell, or through the trap of its dispatch.
-use Rattle.std.proofs.Common.{suc, ◌≡◌, ◌==◌, ◌&&◌, ℕ, ℤ, ◌<◌, ◌≤◌, Bool, true, false, cond, length, List, [], ◌∷◌, Option, Some, None, pos, slice_index_or, slice_set, refl, sym, ap, ◌∙◌, subst, arith}
+use Rattle.std.proofs.Common.{Bool, IfSome, IsTrue, List, None, Option, Some, [], ap, arith, cond, false, length, pos, refl, slice_get, slice_index_or, slice_set, subst, suc, sym, true, ℕ, ℤ, ◌&&◌, ◌<◌, ◌==◌, ◌∙◌, ◌∷◌, ◌≡◌, ◌≤◌}
 use Rattle.std.proofs.lemmas.Bool.{OnTrue_at, eq-eqb, eqb-true, ne_eqb}
 use Rattle.std.proofs.lemmas.List.{length-set}
 use Rattle.aom_image.specs.Image.{Image}
-use Rattle.aom_image.specs.Views.{gives_in, gives_of, instr_at, method_at}
-use Rattle.aom_image.specs.declared.method.Method.{Method as Method_decl}
+use Rattle.aom_image.specs.Views.{gives_in, gives_of, instr_at, method_at, method_role, role_in}
+use Rattle.aom_image.specs.declared.method.Method.{Method as Method_decl, Method as Method_declared}
 use Rattle.aom_instructions.specs.declared.instr.Instr.TheVariants.{Return}
 use Rattle.aom_image.specs.declared.method.Gives.{Gives}
 use Rattle.aom_image.specs.declared.method.Gives.TheVariants.{Left, Maybe as A_maybe, Nothing, Own as An_own, Word as A_word}
@@ -19,7 +19,7 @@ use Rattle.aom_sound.proofs.View.{under_dispatch}
 use Rattle.aom_sound.specs.Calls.{below_top, needs_return, result_needs, result_register, returned}
 use Rattle.aom_sound.specs.Claims.{Method, Mark, tasks_of, claim, declared}
 use Rattle.aom_sound.specs.Places.{Cell, Elsewhere, Entry, Field, Going, Object, Place, Register, changed, held, moved, same_place, seen}
-use Rattle.aom_sound.specs.State.{Frame, Dispatch, next, set_word, word, Task, Run, Trapped, Destroy, Dispatched, State, Unwind}
+use Rattle.aom_sound.specs.State.{Choice, Destroy, Dispatch, Dispatched, Frame, Run, State, Task, Trapped, Unwind, next, set_word, word}
 use Rattle.aom_sound.specs.WellTyped.{Awaits, Fits, Good, WellTyped, WordFits}
 use Rattle.aom_sound.proofs.Claimed.{claim_register_above}
 use Rattle.aom_sound.proofs.Finishing.{all_parts}
@@ -50,6 +50,14 @@ use Rattle.aom_image.proofs.Given.{none_given}
 use Rattle.aom_exec.proofs.Alike.{A_catcher, A_going, A_last_trap, A_leave, A_method, Alike, Tops, alike, both_end, both_go, both_run, both_trapped, both_unwind, catcher_on_top, going_on_top, last_trap_on_top, leave_on_top, method_on_top, tops}
 use Rattle.aom_exec.proofs.Values.{at_depth, cases, going_past, kept, none_alike, register_past, value_kept, value_written, word_next, word_past, word_written, writes}
 use Rattle.aom_exec.proofs.WordActs.{plain_at}
+use Rattle.aom_sound.specs.Enlisted.{cancelled, ended_cells, on_request, own_request, rerequested}
+use Rattle.aom_classes.specs.Admitted.{IsAdmitted, admits_argument, admits_instr, admits_method, admits_result, admits_role, stays}
+use Rattle.aom_image.specs.declared.method.Role.{Role}
+use Rattle.aom_image.specs.declared.method.Role.TheVariants.{Cancel}
+use Rattle.aom_rules.specs.Requests.{is_cancel}
+use Rattle.std.specs.List.{list_all}
+use Rattle.aom_classes.proofs.Each.{all_five}
+use Rattle.aom_sound.specs.Moves.{does}
 
 -- what a method gives back
 pub gives_here : (p : Image) (k : ℕ) (d : Method_decl) → method_at p k ≡ Some d → gives_of p k ≡ d.gives
@@ -366,18 +374,41 @@ module _ (p : Image) (m : Parts) (h : At_hand p m) (f : Held_frame) (a : ℕ) wh
     through (A_maybe t) met same typed = lands_coded true g ms caller ts top small_too es marked coded _ _ _ (code_alone _ (set_word caller z None) _ typed) (lands_object true g ms caller ts top small_too (λ i. none_above p h.typing _ _ i typed (omega arith)) (awaited_trapped p h.typing s fr caller ts h.typed tasks (sym same)) (no_word _ met.0))
     through (Left t) met same typed = lands_coded true g ms caller ts top small_too es marked coded _ _ _ (code_alone _ caller _ typed) (lands_bare true g ms caller ts top small_too (λ i. none_above p h.typing _ _ i typed (omega arith)))
 
+-- no image that is admitted has a method that cancels
+cancels_never : (p : Image) → IsAdmitted p → (m : ℕ) → is_cancel (method_role p m) ≡ false
+unfolding method_at role_in admits_method admits_role
+cancels_never p a m = go (slice_get p.methods m) (a.methods m)
+  where
+    role : (r : Role) → IsTrue (admits_role r) → is_cancel (Some r) ≡ false
+    role Cancel h = cc
+    role _ h = refl
+
+    go : (o : Option Method_declared) → IfSome o (λ d. IsTrue (admits_method d)) → is_cancel (role_in o) ≡ false
+    go None h = refl
+    go (Some d) h = role d.role (all_five (admits_role d.role) (stays d) (list_all admits_argument d.arguments) (admits_result d.gives) (list_all admits_instr d.code) h).0
+
 module _ (p : Image) (m : Parts) (refused : List ℕ) (a : ℕ) where
   -- the needs of the result, of those of the return
   of_result : (h : At_hand p m) → AllTrue (needs_return p h.frame h.below h.state a) → AllTrue (result_needs p h.frame h.below h.state (gives_of p h.frame.method) a)
   of_result h needs = (all_parts (result_needs p h.frame h.below h.state (gives_of p h.frame.method) a) _ needs).0
 
+  -- so far no method cancels, so a return changes no request
+  by_end :
+      (h : At_hand p m) (c : Choice) (M : Parts) → WellTyped p h.typing (does p c h.frame h.below (requested (Return a) h.state) (Return a)) →
+      (WellTyped p h.typing (returned p h.frame h.below (requested (Return a) h.state) (gives_of p h.frame.method) a h.below) → Agrees p M (returned p h.frame h.below (requested (Return a) h.state) (gives_of p h.frame.method) a h.below)) →
+      Agrees p M (does p c h.frame h.below (requested (Return a) h.state) (Return a))
+  by_end h c M typed agrees =
+      let after : List Cell → State = λ cs. returned p h.frame h.below (record (requested (Return a) h.state) { cells = cs }) (gives_of p h.frame.method) a h.below in
+      let same : ended_cells p h.frame h.state.cells ≡ h.state.cells = ap (λ b. cond b (rerequested h.state.cells h.frame.home (on_request cancelled (own_request h.state.cells h.frame.home))) h.state.cells) (cancels_never p h.admitted h.frame.method) in
+      subst (λ cs. Agrees p M (after cs)) (sym same) (agrees (subst (λ cs. WellTyped p h.typing (after cs)) same typed))
+
   pub return_to_method : (x : ℕ) → Runs (below_first m.stack.tasks) → x < 16 → x ≡ result_register (instr_at p (method_here (below_first m.stack.tasks)) (place_here (below_first m.stack.tasks)))
       → DoesIn p refused (Return a) m (acts.next (resulted (gives_of p (method_here m.stack.tasks)) x (register_here m.stack.tasks a) (with_tasks (below_first m.stack.tasks) m)))
   return_to_method x runs small is h here =
-      plain_at p m _ refused (Return a) refl h (λ c needs typed. by_top p m h
+      plain_at p m _ refused (Return a) refl h (λ c needs typed. by_end h c _ typed (λ typed. by_top p m h
       (λ us. Runs (below_first us) → x ≡ result_register (instr_at p (method_here (below_first us)) (place_here (below_first us))) → Agrees p (acts.next (resulted (gives_of p (method_here us)) x (register_here us a) (with_tasks (below_first us) m))) (returned p h.frame h.below (requested (Return a) h.state) (gives_of p h.frame.method) a h.below))
       (λ f ms top runs is. go f ms h.below h.top top (tops A_method ms runs) (alike ms h.below top.below) is (of_result h needs) typed)
-      runs is)
+      runs is))
     where
       go : (f : Held_frame) (ms : List Held_task) (ts : List Task) → h.state.tasks ≡ Run h.frame ∷ ts → Top m h.state h.frame ts f ms → Tops A_method ms → Alike ms ts → x ≡ result_register (instr_at p (method_here ms) (place_here ms))
           → AllTrue (result_needs p h.frame ts h.state (gives_of p h.frame.method) a) → WellTyped p h.typing (returned p h.frame ts h.state (gives_of p h.frame.method) a ts)
@@ -392,10 +423,10 @@ module _ (p : Image) (m : Parts) (refused : List ℕ) (a : ℕ) where
       → x ≡ result_register (instr_at p (method_here (below_first (below_first m.stack.tasks))) (place_here (below_first (below_first m.stack.tasks))))
       → DoesIn p refused (Return a) m (acts.next (acts.set_register (suc x) 0 (resulted (gives_of p (method_here m.stack.tasks)) x (register_here m.stack.tasks a) (record (with_tasks (below_first (below_first m.stack.tasks)) m) { entries = es }))))
   return_through es x trapped runs marked small is h here =
-      plain_at p m _ refused (Return a) refl h (λ c needs typed. by_top p m h
+      plain_at p m _ refused (Return a) refl h (λ c needs typed. by_end h c _ typed (λ typed. by_top p m h
       (λ us. IsTrapped (below_first us) → Runs (below_first (below_first us)) → x ≡ result_register (instr_at p (method_here (below_first (below_first us))) (place_here (below_first (below_first us)))) → Agrees p (acts.next (acts.set_register (suc x) 0 (resulted (gives_of p (method_here us)) x (register_here us a) (record (with_tasks (below_first (below_first us)) m) { entries = es })))) (returned p h.frame h.below (requested (Return a) h.state) (gives_of p h.frame.method) a h.below))
       (λ f ms top trapped runs is. go f ms h.below h.top top (tops A_catcher ms (trapped, runs)) (alike ms h.below top.below) is (of_result h needs) typed)
-      trapped runs is)
+      trapped runs is))
     where
       go : (f : Held_frame) (ms : List Held_task) (ts : List Task) → h.state.tasks ≡ Run h.frame ∷ ts → Top m h.state h.frame ts f ms → Tops A_catcher ms → Alike ms ts → x ≡ result_register (instr_at p (method_here (below_first ms)) (place_here (below_first ms)))
           → AllTrue (result_needs p h.frame ts h.state (gives_of p h.frame.method) a) → WellTyped p h.typing (returned p h.frame ts h.state (gives_of p h.frame.method) a ts)
@@ -408,10 +439,10 @@ module _ (p : Image) (m : Parts) (refused : List ℕ) (a : ℕ) where
 
   pub return_to_going : IsDestroying (below_first m.stack.tasks) → DoesIn p refused (Return a) m (with_tasks (below_first m.stack.tasks) m)
   return_to_going destroying h here =
-      plain_at p m _ refused (Return a) refl h (λ c needs typed. by_top p m h
+      plain_at p m _ refused (Return a) refl h (λ c needs typed. by_end h c _ typed (λ typed. by_top p m h
       (λ us. IsDestroying (below_first us) → Agrees p (with_tasks (below_first us) m) (returned p h.frame h.below (requested (Return a) h.state) (gives_of p h.frame.method) a h.below))
       (λ f ms top destroying. go f ms h.below top (tops A_going ms destroying) (alike ms h.below top.below) typed)
-      destroying)
+      destroying))
     where
       go : (f : Held_frame) (ms : List Held_task) (ts : List Task) → Top m h.state h.frame ts f ms → Tops A_going ms → Alike ms ts → WellTyped p h.typing (returned p h.frame ts h.state (gives_of p h.frame.method) a ts) → Agrees p (with_tasks ms m) (returned p h.frame ts h.state (gives_of p h.frame.method) a ts)
       go f _ _ top (going_on_top x ms) (both_go _ _ ts _ _) typed = to_waiting p m h f a (Destroys x ∷ ms) (Destroy ∷ ts) top typed
@@ -419,10 +450,10 @@ module _ (p : Image) (m : Parts) (refused : List ℕ) (a : ℕ) where
   pub return_to_end : (es : Held_items) → IsEnding (below_first (below_first m.stack.tasks)) → IsTrapped (below_first m.stack.tasks) → m.entries ≡ record es { items = Is_mark ∷ es.items }
       → DoesIn p refused (Return a) m (record m { stack = record m.stack { tasks = below_first (below_first m.stack.tasks) }; entries = es })
   return_to_end es ending trapped marked h here =
-      plain_at p m _ refused (Return a) refl h (λ c needs typed. by_top p m h
+      plain_at p m _ refused (Return a) refl h (λ c needs typed. by_end h c _ typed (λ typed. by_top p m h
       (λ us. IsEnding (below_first (below_first us)) → IsTrapped (below_first us) → Agrees p (record m { stack = record m.stack { tasks = below_first (below_first us) }; entries = es }) (returned p h.frame h.below (requested (Return a) h.state) (gives_of p h.frame.method) a h.below))
       (λ f ms top ending trapped. go ms h.below (tops A_last_trap ms (trapped, ending)) (alike ms h.below top.below) typed)
-      ending trapped)
+      ending trapped))
     where
       ends : Held_dispatch → List Held_task → Parts
       ends x ms = record m { stack = record m.stack { tasks = Ends x ∷ ms }; entries = es }
@@ -440,10 +471,10 @@ module _ (p : Image) (m : Parts) (refused : List ℕ) (a : ℕ) where
 
   pub return_to_unwinding : IsUnwinding (below_first m.stack.tasks) → DoesIn p refused (Return a) m (with_tasks (below_first m.stack.tasks) m)
   return_to_unwinding unwinding h here =
-      plain_at p m _ refused (Return a) refl h (λ c needs typed. by_top p m h
+      plain_at p m _ refused (Return a) refl h (λ c needs typed. by_end h c _ typed (λ typed. by_top p m h
       (λ us. IsUnwinding (below_first us) → Agrees p (with_tasks (below_first us) m) (returned p h.frame h.below (requested (Return a) h.state) (gives_of p h.frame.method) a h.below))
       (λ f ms top unwinding. go f ms h.below top (tops A_leave ms unwinding) (alike ms h.below top.below) typed)
-      unwinding)
+      unwinding))
     where
       go : (f : Held_frame) (ms : List Held_task) (ts : List Task) → Top m h.state h.frame ts f ms → Tops A_leave ms → Alike ms ts → WellTyped p h.typing (returned p h.frame ts h.state (gives_of p h.frame.method) a ts) → Agrees p (with_tasks ms m) (returned p h.frame ts h.state (gives_of p h.frame.method) a ts)
       go f _ _ top (leave_on_top code ms) (both_unwind _ c _ ts _ _ _) typed = to_waiting p m h f a (Unwinds code ∷ ms) (Unwind c ∷ ts) top typed

@@ -1,12 +1,12 @@
 -- Each instruction keeps the room that a run needs.
 use Rattle.std.proofs.Common.{Bool, List, None, Option, Some, [], ap, arith, cond, false, inl, length, refl, subst, suc, sym, true, ℕ, ℤ, pos, ◌&&◌, ◌==◌, ◌+◌, ◌++◌, ◌-◌, ◌<◌, ◌∙◌, ◌∷◌, ◌≡◌, ◌≤◌}
-use Rattle.aom_image.proofs.Given.{some_given}
+use Rattle.aom_image.proofs.Given.{false_given, some_given}
 use Rattle.std.proofs.lemmas.Bool.{ne_eqb, true≢false}
 use Rattle.std.specs.Prelude.{is_some, not, ◌||◌}
 use Rattle.aom_image.specs.Image.{Image}
 use Rattle.aom_image.specs.Views.{arguments_of, instr_at, is_quiet, leaves, method_class, method_role}
 use Rattle.aom_instructions.specs.declared.instr.Instr.{Instr}
-use Rattle.aom_instructions.specs.declared.instr.Instr.TheVariants.{Call, Delete, Push, PushOperation, Trap}
+use Rattle.aom_instructions.specs.declared.instr.Instr.TheVariants.{Call, Cancel, Delete, Push, PushOperation, Trap}
 use Rattle.aom_instructions.specs.declared.instr.Target.{Target}
 use Rattle.aom_image.specs.declared.method.Argument.{Argument}
 use Rattle.aom_image.specs.declared.method.Argument.TheVariants.{Own as Takes_own, Word as Takes_word}
@@ -38,15 +38,14 @@ use Rattle.aom_sound.proofs.Destroying.{destroys}
 use Rattle.aom_sound.proofs.Finishing.{all_parts}
 use Rattle.aom_sound.proofs.Items.{length_forms}
 use Rattle.aom_sound.proofs.Maps.{held_moved, same_place_refl}
-use Rattle.aom_sound.proofs.Requesting.{rerequested_alike}
-use Rattle.aom_sound.proofs.Storing.{held_set_word}
+use Rattle.aom_sound.proofs.Storing.{ended_alike, held_set_word, rerequested_alike}
 use Rattle.aom_sound.proofs.Things.{stands_same}
 use Rattle.aom_sound.specs.Calls.{below_top, entered, given_cells, over_caller, over_trap, passed_cells, received, result_cells, result_register, returned}
 use Rattle.aom_sound.specs.Claims.{objects}
 use Rattle.aom_sound.specs.Cleanup.{operation_frame, top_place}
 use Rattle.aom_classes.specs.Roles.{destructor_of}
 use Rattle.aom_sound.specs.Destruction.{begun, begun_by}
-use Rattle.aom_sound.specs.Effects.{Calls, Carried, Counts, Destroys, Destroys_last, Effect, Goes_on, In_field, In_register, Jumps, Leaves, Made, Operates, Popped, Popped_operation, Pushed, Pushed_operation, Repeats, Requested, Returns, Same, Sets_trap, Spot, Update, Written, applied, cells_after, items_after, spot_place, with_words}
+use Rattle.aom_sound.specs.Effects.{Calls, Cancels, Carried, Counts, Destroys, Destroys_last, Effect, Goes_on, In_field, In_register, Jumps, Leaves, Made, Operates, Popped, Popped_operation, Pushed, Pushed_operation, Repeats, Requested, Returns, Same, Sets_trap, Spot, Update, Written, applied, cells_after, items_after, spot_place, with_words}
 use Rattle.aom_sound.specs.Laws.{IsWired}
 use Rattle.aom_sound.specs.Steps.{Fits as May, FitsUpdate}
 use Rattle.aom_sound.specs.Places.{Cell, Entry, Going, Object, Register, Sight, held, moved, same_place, seen}
@@ -56,6 +55,8 @@ use Rattle.aom_sound.specs.Words.{here, stored}
 use Rattle.aom_exec.specs.Room.{IsUnder, below_height, destructor_in, entries_in, may_push}
 use Rattle.aom_exec.proofs.Depths.{AllLow, Roomy, SameEntries, begins, dropped, held_apart, item_pushed, lower, off_to_trap, popped, popped_top, recelled, top_under}
 use Rattle.aom_exec.proofs.Heights.{LowUnder, Stands_here, own_entries}
+use Rattle.aom_sound.specs.Enlisted.{begun_cells, cancel_method, cancelling, ended_cells, on_request, own_request}
+use Rattle.aom_sound.proofs.Callees.{cancel_class, cancel_quiet}
 
 -- the destructor of an object is that of the class which its register's kind tells
 destructor_among : (p : Image) (h : Sight) (o : Object) (k : Kind) (m : ℕ) → Fits p h (Some o) k → destructor_of p o.thing ≡ Some m → Among m (destructors p (object_class k))
@@ -253,20 +254,43 @@ module _ (p : Image) (t : Typing) (depth heights : ℕ → ℕ) (tables : Tables
         go [] le = lower (fr.height - 1) 0 below (omega (arith, le)) low
         go (i ∷ items) le = lower (fr.height - 1) (length items) below (omega (arith, le)) low
 
-    return_room : (g : Gives) (a : ℕ) (below : List Task) → LowUnder fr.height below → Roomy p depth heights s.cells s.items below → R (returned p fr ts s g a below)
+    -- the state as the method ends
+    abbrev over : State
+    over = record s { cells = ended_cells p fr s.cells }
+
+    ended_same : SameEntries s.cells over.cells (length s.items)
+    ended_same k lt = (ended_alike p fr s.cells).held_so (Entry k)
+
+    return_room : (g : Gives) (a : ℕ) (below : List Task) → LowUnder fr.height below → Roomy p depth heights s.cells s.items below → R (returned p fr ts over g a below)
     return_room g a (Run caller ∷ below) low v =
         let x = result_register (instr_at p caller.method caller.place) in
-        let cells' = result_cells p fr ts s g a x below in
-        goes_back cells' s.items g a x caller below (recelled p depth heights s.cells cells' s.items (Run caller ∷ below) (result_same p fr ts s g a x below (length s.items)) v)
+        let cells' = result_cells p fr ts over g a x below in
+        let v' = recelled p depth heights s.cells over.cells s.items (Run caller ∷ below) ended_same v in
+        goes_back cells' s.items g a x caller below (recelled p depth heights over.cells cells' s.items (Run caller ∷ below) (result_same p fr ts over g a x below (length s.items)) v')
     return_room g a (Trapped ∷ Run caller ∷ below) low v =
         let x = result_register (instr_at p caller.method caller.place) in
-        let cells' = result_cells p fr ts s g a x below in
+        let cells' = result_cells p fr ts over g a x below in
+        let v' = recelled p depth heights s.cells over.cells s.items (Run caller ∷ below) ended_same v in
         goes_back_trapped cells' (below_top s.items) g a x caller below (Some (pos 0))
-        (popped_top p depth heights cells' s.items (Run caller ∷ below) (low_top (Run caller ∷ below) low) (recelled p depth heights s.cells cells' s.items (Run caller ∷ below) (result_same p fr ts s g a x below (length s.items)) v))
-    return_room g a (Trapped ∷ Dispatched d ∷ below) low v = popped_top p depth heights s.cells s.items (Dispatched d ∷ below) (low_top (Dispatched d ∷ below) low) v
-    return_room g a (Destroy ∷ below) low v = v
-    return_room g a (Unwind code ∷ below) low v = v
-    return_room g a _ low v = given
+        (popped_top p depth heights cells' s.items (Run caller ∷ below) (low_top (Run caller ∷ below) low) (recelled p depth heights over.cells cells' s.items (Run caller ∷ below) (result_same p fr ts over g a x below (length s.items)) v'))
+    return_room g a (Trapped ∷ Dispatched d ∷ below) low v = popped_top p depth heights over.cells s.items (Dispatched d ∷ below) (low_top (Dispatched d ∷ below) low) (recelled p depth heights s.cells over.cells s.items (Dispatched d ∷ below) ended_same v)
+    return_room g a (Destroy ∷ below) low v = recelled p depth heights s.cells over.cells s.items (Destroy ∷ below) ended_same v
+    return_room g a (Unwind code ∷ below) low v = recelled p depth heights s.cells over.cells s.items (Unwind code ∷ below) ended_same v
+    return_room g a _ low v = recelled p depth heights s.cells over.cells s.items s.tasks ended_same given
+
+    -- ---- cancels
+
+    -- the method that cancels is quiet, and comes to no entries
+    cancel_room : (m : ℕ) → instr_at p fr.method fr.place ≡ Some Cancel → cancel_method p fr.home ≡ Some m → R (applied p fr ts s (Cancels m))
+    cancel_room m stands e =
+        let found = cancel_class p fr.home fr.method m h.holder e in
+        let quiet = cancel_quiet p tables.wired fr.home m e in
+        let stays : leaves p m ≡ false = false_given (λ b. b ≡ true → is_quiet p m ≡ false) (leaves p m) (tables.wired.quiets m) (λ loud. absurd (true≢false (sym quiet ∙ loud refl))) (λ stays loud. stays) in
+        let among : Among m (listed (budget.cancel_of p (method_class p fr.method))) = subst (λ o. Among m (listed o)) (sym (ap (λ o. budget.cancel_of p o) found.1 ∙ found.2)) (inl refl) in
+        begins p depth heights (begun_cells fr s.cells) s.items (frame_of m fr.home (length s.items)) (Run fr ∷ ts) refl
+        (may_call fr h.shape h.there Cancel m stands among)
+        (λ may. absurd (pushes_none (is_quiet p m) (leaves p m) quiet stays may))
+        (moves (begun_cells fr s.cells) (λ k lt. (rerequested_alike s.cells fr.home (on_request cancelling (own_request s.cells fr.home))).held_so (Entry k)))
 
     -- ---- the cleanup stack
 
@@ -366,6 +390,7 @@ module _ (p : Image) (t : Typing) (depth heights : ℕ → ℕ) (tables : Tables
     acts_room i stands r n (Counts d rounds) f = w
     acts_room i stands r n (Repeats d rounds to) f = w
     acts_room i stands r n (Calls target m first) f = call_room target m first f.0 (stands_as i _ stands f.1) (subst Ruled f.1 r)
+    acts_room i stands r n (Cancels m) f = cancel_room m (stands_as i _ stands f.0) f.1
     acts_room i stands r n (Sets_trap target m first) f = trap_room target m first f.0 (stands_as i _ stands f.1) (subst Ruled f.1 r).0
     acts_room i stands r n (Returns g a) f = return_room g a ts h.low_under (dropped p depth heights s.cells s.items fr ts w)
     acts_room i stands r n (Leaves code u) f =

@@ -4,7 +4,7 @@ use Rattle.std.proofs.lemmas.Bool.{eq-eqb, eqb-true, ne_eqb}
 use Rattle.aom_image.specs.Image.{Image}
 use Rattle.aom_image.specs.Views.{arguments_of, instr_at, method_class}
 use Rattle.aom_instructions.specs.declared.instr.Instr.{Instr}
-use Rattle.aom_instructions.specs.declared.instr.Instr.TheVariants.{Delete}
+use Rattle.aom_instructions.specs.declared.instr.Instr.TheVariants.{Cancel, Delete}
 use Rattle.aom_instructions.specs.declared.instr.Target.{Target}
 use Rattle.aom_instructions.specs.declared.instr.Target.TheVariants.{Entry as On_entry, Field as On_field, Register as On_register, This}
 use Rattle.aom_image.specs.declared.method.Argument.{Argument}
@@ -28,14 +28,13 @@ use Rattle.aom_sound.proofs.Finishing.{all_parts}
 use Rattle.aom_sound.proofs.Guarded.{guarded_goes, guarded_met}
 use Rattle.aom_sound.proofs.Maps.{at-put_at, held_without, same_place-true}
 use Rattle.aom_sound.proofs.Moving.{steps_are_moves}
-use Rattle.aom_sound.proofs.Requesting.{rerequested_alike}
-use Rattle.aom_sound.proofs.Storing.{held_set_word}
+use Rattle.aom_sound.proofs.Storing.{ended_alike, held_set_word, rerequested_alike}
 use Rattle.aom_sound.proofs.Straight.{register_fits}
 use Rattle.aom_sound.specs.Calls.{needs_each, needs_entering, needs_target, passed_cells, result_cells, returned}
 use Rattle.aom_sound.specs.Cleanup.{to_trap, top_place}
 use Rattle.aom_sound.specs.Destruction.{begun_by}
 use Rattle.aom_classes.specs.Roles.{destructor_of}
-use Rattle.aom_sound.specs.Effects.{Calls, Carried, Counts, Destroys, Destroys_last, Effect, Goes_on, In_field, In_register, Jumps, Leaves, Made, Operates, Popped, Pushed, Repeats, Requested, Returns, Sets_trap, Spot, Update, Written, applied, cells_after, deletes, spot_place, with_words}
+use Rattle.aom_sound.specs.Effects.{Calls, Cancels, Carried, Counts, Destroys, Destroys_last, Effect, Goes_on, In_field, In_register, Jumps, Leaves, Made, Operates, Popped, Pushed, Repeats, Requested, Returns, Sets_trap, Spot, Update, Written, applied, cells_after, deletes, spot_place, with_words}
 use Rattle.aom_sound.specs.Moves.{counted, dispatch_ends, does, main_ends, needs, step}
 use Rattle.aom_sound.specs.Places.{Cell, Elsewhere, Entry, Going, Object, Place, Register, Root, Sight, held, moved, same_place, seen, without}
 use Rattle.aom_sound.specs.State.{AtRoot, Choice, Destroy, Dispatch, Dispatched, Frame, Goes, Home, Inside, Main_left, Need, Of_main, Of_root, Run, State, Static, Task, Trapped, Unwind, field_place, guarded, resumed, word}
@@ -49,6 +48,7 @@ use Rattle.aom_exec.specs.Waits.{AllWait, KindSays, OthersWait, Waits, while_wai
 use Rattle.aom_exec.proofs.Depths.{held_apart}
 use Rattle.aom_exec.proofs.Standing.{no_word}
 use Rattle.aom_exec.proofs.Stepping.{at_step, step_of_instr}
+use Rattle.aom_sound.specs.Enlisted.{begun_cells, cancelling, ended_cells, on_request, own_request}
 
 -- ---- kinds
 
@@ -254,21 +254,28 @@ module _ (p : Image) (t : Typing) (c : Choice) (s : State) (fr : Frame) (ts : Li
         still_wait p t s.cells cs ts (passed_same p fr ts s depth xs first 0 s.cells deep) w,
       )
 
-  returns : (g : Gives) (a : ℕ) (us : List Task) → us ≡ ts → W (returned p fr ts s g a us)
-  returns g a (Run caller ∷ below) e = still_wait p t s.cells _ below (result_same p fr ts s g a _ below (let n = ap length e in omega (arith, n))) (subst (AllWait p t s.cells) (sym e) w).1
-  returns g a (Trapped ∷ Run caller ∷ below) e = still_wait p t s.cells _ below (result_same p fr ts s g a _ below (let n = ap length e in omega (arith, n))) (subst (AllWait p t s.cells) (sym e) w).1
-  returns g a (Trapped ∷ Dispatched d ∷ below) e = subst (AllWait p t s.cells) (sym e) w
-  returns g a (Destroy ∷ below) e = subst (AllWait p t s.cells) (sym e) w
-  returns g a (Unwind code ∷ below) e = subst (AllWait p t s.cells) (sym e) w
+  -- the state as a method ends
+  abbrev over : State
+  over = record s { cells = ended_cells p fr s.cells }
+
+  ended_w : AllWait p t over.cells ts
+  ended_w = still_wait p t s.cells over.cells ts (λ d j lt. (ended_alike p fr s.cells).held_so (Register d j)) w
+
+  returns : (g : Gives) (a : ℕ) (us : List Task) → us ≡ ts → W (returned p fr ts over g a us)
+  returns g a (Run caller ∷ below) e = still_wait p t over.cells _ below (result_same p fr ts over g a _ below (let n = ap length e in omega (arith, n))) (subst (AllWait p t over.cells) (sym e) ended_w).1
+  returns g a (Trapped ∷ Run caller ∷ below) e = still_wait p t over.cells _ below (result_same p fr ts over g a _ below (let n = ap length e in omega (arith, n))) (subst (AllWait p t over.cells) (sym e) ended_w).1
+  returns g a (Trapped ∷ Dispatched d ∷ below) e = subst (AllWait p t over.cells) (sym e) ended_w
+  returns g a (Destroy ∷ below) e = subst (AllWait p t over.cells) (sym e) ended_w
+  returns g a (Unwind code ∷ below) e = subst (AllWait p t over.cells) (sym e) ended_w
   returns g a [] e = stays
     where
-      stays : W s
-      stays = subst (OthersWait p t s.cells) (sym at_hand) w
-  returns g a (Dispatched d ∷ below) e = subst (OthersWait p t s.cells) (sym at_hand) w
-  returns g a (Trapped ∷ []) e = subst (OthersWait p t s.cells) (sym at_hand) w
-  returns g a (Trapped ∷ Trapped ∷ below) e = subst (OthersWait p t s.cells) (sym at_hand) w
-  returns g a (Trapped ∷ Destroy ∷ below) e = subst (OthersWait p t s.cells) (sym at_hand) w
-  returns g a (Trapped ∷ Unwind code ∷ below) e = subst (OthersWait p t s.cells) (sym at_hand) w
+      stays : W over
+      stays = subst (OthersWait p t over.cells) (sym at_hand) ended_w
+  returns g a (Dispatched d ∷ below) e = subst (OthersWait p t over.cells) (sym at_hand) ended_w
+  returns g a (Trapped ∷ []) e = subst (OthersWait p t over.cells) (sym at_hand) ended_w
+  returns g a (Trapped ∷ Trapped ∷ below) e = subst (OthersWait p t over.cells) (sym at_hand) ended_w
+  returns g a (Trapped ∷ Destroy ∷ below) e = subst (OthersWait p t over.cells) (sym at_hand) ended_w
+  returns g a (Trapped ∷ Unwind code ∷ below) e = subst (OthersWait p t over.cells) (sym at_hand) ended_w
 
   -- the object of a register goes
   deletes_wait : (o : Object) (a : ℕ) → i ≡ Delete a → W (applied p fr ts s (Destroys o a (put_at None fr.words a None)))
@@ -303,6 +310,16 @@ module _ (p : Image) (t : Typing) (c : Choice) (s : State) (fr : Frame) (ts : Li
     still_wait p t s.cells cs ts (λ d j lt. same d j) w,
   )
 
+  -- and so they do while the method that cancels runs
+  cancels : i ≡ Cancel → AllWait p t (begun_cells fr s.cells) (Run fr ∷ ts)
+  cancels is =
+      let cs = begun_cells fr s.cells in
+      let same = (rerequested_alike s.cells fr.home (on_request cancelling (own_request s.cells fr.home))).held_so in (
+        begins cs (λ j. subst (λ i. KindSays p (register (while_waiting p (Some i) h.shape) j) (word fr j) (held cs (Register (length ts) j))) (sym is)
+            (subst (λ o. KindSays p (register h.shape j) (word fr j) o) (sym (same (Register (length ts) j))) (h.says j))),
+        still_wait p t s.cells cs ts (λ d j lt. same (Register d j)) w,
+      )
+
   -- by its effect; with what words a method waits for an object that goes is told by the instruction
   acts_wait : (e : Effect) → ((o : Object) (a : ℕ) (words : List (Option ℤ)) → e ≡ Destroys o a words → W (applied p fr ts s e)) → May p c fr ts s i e → W (applied p fr ts s e)
   acts_wait (Goes_on ch) deleted fits = still_wait p t s.cells _ ts (updated_same p fr ts s ch.update) w
@@ -311,6 +328,7 @@ module _ (p : Image) (t : Typing) (c : Choice) (s : State) (fr : Frame) (ts : Li
   acts_wait (Repeats d n to) deleted fits = w
   acts_wait (Calls target m first) deleted fits =
       calls (suc (length ts)) m first (after_of p m) target _ (omega arith) (subst (λ j. AllTrue (needs p c fr ts s j)) fits.1 met) (λ sh. ap (λ j. while_waiting p (Some j) sh) fits.1)
+  acts_wait (Cancels m) deleted fits = cancels fits.0
   acts_wait (Sets_trap target m first) deleted fits =
       calls (suc (suc (length ts))) m first (resting p (method_class p m)) target _ (omega arith) (subst (λ j. AllTrue (needs p c fr ts s j)) fits.1 met) (λ sh. ap (λ j. while_waiting p (Some j) sh) fits.1)
   acts_wait (Returns g a) deleted fits = returns g a ts refl

@@ -43,6 +43,7 @@ use Rattle.aom_image.specs.declared.method.Role.{Role}
 use Rattle.aom_image.specs.declared.method.Role.TheVariants.{Main}
 use Rattle.aom_image.specs.declared.method.Thing.{Thing}
 use Rattle.aom_image.specs.declared.method.Thing.TheVariants.{Object as An_object_of}
+use Rattle.aom_sound.proofs.Callees.{cancel_class}
 
 -- ---- a return
 
@@ -65,28 +66,14 @@ returns p t s fr sh ls h some g a =
 
 -- ---- a cancel
 
--- the class of what a method works on is the method's
-class_of_member : (r : Option Role) (class : Option ℕ) (c : ℕ) → Member c ≡ holder_by r class → class ≡ Some c
-class_of_member (Some Main) class c e = cc
-class_of_member _ None c e = cc
-class_of_member _ (Some k) c e = cc
-
 -- the method that cancels is quiet, and comes before
 cancels_below :
     (p : Image) → IsLinked p → (fr : Frame) (d : Method_declared) → method_at p fr.method ≡ Some d → home_holder fr.home ≡ holder_of p fr.method → (m : ℕ) → slice_get d.code fr.place ≡ Some Cancel → cancel_method p fr.home ≡ Some m →
     (m < fr.method) × (is_quiet p m ≡ true)
 unfolding class_in
-cancels_below p linked fr d there holder m stands e = go fr.home holder e
-  where
-    of_thing : (x : Thing) → thing_holder x ≡ holder_of p fr.method → cancel_of p x ≡ Some m → (m < fr.method) × (is_quiet p m ≡ true)
-    of_thing (An_object_of c) h e =
-        let class : d.class ≡ Some c = sym (ap class_in there) ∙ class_of_member (method_role p fr.method) (method_class p fr.method) c h in
-        (canceller_before p linked fr.method fr.place d c m there stands class e, quiet_canceller p linked c m e)
-    of_thing _ h e = cc
-
-    go : (h : Home) → home_holder h ≡ holder_of p fr.method → cancel_method p h ≡ Some m → (m < fr.method) × (is_quiet p m ≡ true)
-    go (Inside o from) h e = of_thing o.thing h e
-    go _ h e = cc
+cancels_below p linked fr d there holder m stands e =
+    let found = cancel_class p fr.home fr.method m holder e in
+    (canceller_before p linked fr.method fr.place d found.0 m there stands (sym (ap class_in there) ∙ found.1) found.2, quiet_canceller p linked found.0 m found.2)
 
 -- ---- every move
 

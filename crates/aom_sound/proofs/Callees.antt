@@ -7,7 +7,7 @@ use Rattle.aom_image.specs.Image.{Image}
 use Rattle.aom_image.specs.declared.method.Argument.{Argument}
 use Rattle.aom_image.specs.declared.method.Argument.TheVariants.{Own as Takes_own, Word as Takes_word}
 use Rattle.aom_image.specs.declared.method.Role.{Role}
-use Rattle.aom_image.specs.declared.method.Role.TheVariants.{Construct, Do, Main}
+use Rattle.aom_image.specs.declared.method.Role.TheVariants.{Cancel, Construct, Do, Main}
 use Rattle.aom_image.specs.declared.method.Thing.{Thing}
 use Rattle.aom_image.specs.declared.method.Thing.TheVariants.{Object as An_object_of}
 use Rattle.aom_shape.specs.Arguments.{arguments_moved}
@@ -16,7 +16,7 @@ use Rattle.aom_shape.specs.Kinds.{is_own_for, filled, is_ready_kind, is_unowning
 use Rattle.aom_shape.specs.Needs.{only_if}
 use Rattle.aom_shape.specs.Shape.{Shape}
 use Rattle.aom_shape.specs.Tables.{at}
-use Rattle.aom_shape.specs.Things.{Member, Nobody, holder_by, stands_for}
+use Rattle.aom_shape.specs.Things.{Member, Nobody, holder_by, holder_of, stands_for}
 use Rattle.aom_rules.specs.Typing.{Typing}
 use Rattle.aom_shape.specs.declared.kind.Age.{Age}
 use Rattle.aom_shape.specs.declared.kind.Filling.{Filling}
@@ -35,7 +35,8 @@ use Rattle.aom_sound.specs.Requests.{thing_kind}
 use Rattle.aom_roles.specs.Shapes.{kind_of}
 use Rattle.aom_sound.specs.Enlisted.{cancel_method, cancel_of}
 use Rattle.aom_sound.specs.Laws.{IsWired}
-use Rattle.aom_image.specs.Views.{is_quiet}
+use Rattle.aom_image.specs.Views.{is_quiet, method_class, method_role}
+use Rattle.aom_classes.specs.Roles.{role_of}
 
 -- the kind of class of what a member is
 pub member_kind : (p : Image) (x : Thing) (k : ℕ) → thing_holder x ≡ Member k → thing_kind p x ≡ kind_of p (Some k)
@@ -160,3 +161,17 @@ cancel_quiet p wired (Inside o from) m e = of_thing o.thing e
     of_thing (An_object_of c) e = (wired.cancels m (wired.canceller c m e).1).0
     of_thing _ e = cc
 cancel_quiet p wired _ m e = cc
+
+-- what a method works on is of the method's class, and so is the method that cancels for it
+class_of_member : (r : Option Role) (class : Option ℕ) (c : ℕ) → Member c ≡ holder_by r class → class ≡ Some c
+class_of_member (Some Main) class c e = cc
+class_of_member _ None c e = cc
+class_of_member _ (Some k) c e = cc
+
+pub cancel_class : (p : Image) (h : Home) (m k : ℕ) → home_holder h ≡ holder_of p m → cancel_method p h ≡ Some k → (c : ℕ) × (method_class p m ≡ Some c) × (role_of p c Cancel ≡ Some k)
+cancel_class p (Inside o from) m k h e = of_thing o.thing h e
+  where
+    of_thing : (x : Thing) → thing_holder x ≡ holder_of p m → cancel_of p x ≡ Some k → (c : ℕ) × (method_class p m ≡ Some c) × (role_of p c Cancel ≡ Some k)
+    of_thing (An_object_of c) h e = (c, class_of_member (method_role p m) (method_class p m) c h, e)
+    of_thing _ h e = cc
+cancel_class p _ m k h e = cc

@@ -13,7 +13,9 @@ use Rattle.aom_sound.specs.WellTyped.{Back, Fits, IsHoused, Stack}
 use Rattle.aom_sound.specs.Words.{stored}
 use Rattle.aom_sound.specs.Requests.{Suits, states_claim, thing_kind}
 use Rattle.std.proofs.lemmas.Bool.{eq-eqb, eqb-true, true≢false}
-use Rattle.aom_sound.specs.Enlisted.{rerequested}
+use Rattle.aom_sound.specs.Enlisted.{cancelled, ended_cells, on_request, own_request, rerequested}
+use Rattle.aom_rules.specs.Requests.{is_cancel}
+use Rattle.aom_image.specs.Views.{method_role}
 
 -- the same cells in the same places
 pub record Alike (cs cs' : List Cell) : Type 0 where
@@ -86,6 +88,17 @@ pub rerequested_alike : (cs : List Cell) (home : Home) (r : Option Request) → 
 rerequested_alike cs Static r = alike_itself cs
 rerequested_alike cs AtRoot r = alike_itself cs
 rerequested_alike cs (Inside o from) r = record { held_so = held_asked cs o.name r; named_so = named_asked cs o.name r; tidy = tidy_asked cs o.name r }
+
+-- and the cells once a method is over
+pub ended_alike : (p : Image) (fr : Frame) (cs : List Cell) → Alike cs (ended_cells p fr cs)
+ended_alike p fr cs = go (is_cancel (method_role p fr.method))
+  where
+    r : Option Request
+    r = on_request cancelled (own_request cs fr.home)
+
+    go : (b : Bool) → Alike cs (cond b (rerequested cs fr.home r) cs)
+    go true = rerequested_alike cs fr.home r
+    go false = alike_itself cs
 
 module _ (p : Image) (t : Typing) (cs cs' : List Cell) (alike : Alike cs cs') where
   declared_alike : (r : Place) → declared p cs' r ≡ declared p cs r

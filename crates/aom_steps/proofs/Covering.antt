@@ -35,6 +35,7 @@ use Rattle.aom_sound.specs.Words.{here, read}
 use Rattle.aom_prices.specs.Prices.{AllPaid, IsPriced, Prices, Stands, cancel_of, kind_price, own, perhaps_price, price}
 use Rattle.aom_image.specs.declared.method.Role.{Role}
 use Rattle.aom_image.specs.declared.method.Thing.TheVariants.{Object as An_object_of}
+use Rattle.aom_sound.proofs.Callees.{cancel_class}
 
 module _ (c : Prices) (fr : Frame) (sh : Shape) where
   -- at its place the method has so much for what comes at once, and the price of the place at which it goes on
@@ -131,23 +132,9 @@ module _ (p : Image) (t : Typing) (c : Prices) (main_none : (m : ℕ) → method
 
   -- ---- a cancel
 
-  -- the class of what a method works on is the method's
-  class_of_member : (r : Option Role) (class : Option ℕ) (k : ℕ) → Member k ≡ holder_by r class → class ≡ Some k
-  class_of_member (Some Main) class k e = cc
-  class_of_member _ None k e = cc
-  class_of_member _ (Some x) k e = cc
-
   -- the method that cancels is the one that the price counts
   same_cancel : (m : ℕ) → cancel_method p fr.home ≡ Some m → cancel_of p (method_class p fr.method) ≡ Some m
-  same_cancel m e = go fr.home at_hand.good.stack.1.holder e
-    where
-      of_thing : (x : Thing) → thing_holder x ≡ holder_of p fr.method → cancel_for p x ≡ Some m → cancel_of p (method_class p fr.method) ≡ Some m
-      of_thing (An_object_of k) h e = ap (λ o. cancel_of p o) (class_of_member (method_role p fr.method) (method_class p fr.method) k h) ∙ e
-      of_thing _ h e = cc
-
-      go : (h : Home) → home_holder h ≡ holder_of p fr.method → cancel_method p h ≡ Some m → cancel_of p (method_class p fr.method) ≡ Some m
-      go (Inside o from) h e = of_thing o.thing h e
-      go _ h e = cc
+  same_cancel m e = let found = cancel_class p fr.home fr.method m at_hand.good.stack.1.holder e in ap (λ o. cancel_of p o) found.1 ∙ found.2
 
   on_cancel : (b : Bool) (x : Option ℕ) → cancel_method p fr.home ≡ x → 1 + perhaps_price c (cancel_of p (method_class p fr.method)) + c.from fr.method (suc fr.place) ≤ c.from fr.method fr.place → Covers c fr sh (cancels_if fr b x)
   on_cancel true (Some m) e pays = omega (arith, pays, ap (λ o. perhaps_price c o) (same_cancel m e))
