@@ -1,8 +1,7 @@
 -- What a run of a method costs those that begin it.
 use Rattle.std.proofs.Common.{◌≡◌, ◌<◌, ◌≤◌, ◌+◌, ◌*◌, ◌^◌, ◌∙◌, ℕ, suc, Bool, true, false, cond, List, [], length, Option, Some, None, slice_get, refl, ap, arith, subst}
-use Rattle.std.specs.Prelude.{All, IsSome, position}
-use Rattle.std.proofs.lemmas.List.Elements.{All-get_or}
-use Rattle.std.proofs.lemmas.Option.{slice_get_within, get_or_from_slice_get}
+use Rattle.std.specs.Prelude.{IsSome, position}
+use Rattle.std.proofs.lemmas.Option.{slice_get_within}
 use Rattle.aom_image.specs.Image.{Image}
 use Rattle.aom_image.specs.Views.{is_quiet, leaves, leaves_in, method_at, quiet_in}
 use Rattle.aom_instructions.specs.declared.instr.Instr.TheVariants.{Call, Trap}

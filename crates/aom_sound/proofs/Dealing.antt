@@ -1,6 +1,6 @@
 -- The last item of the cleanup stack is dealt with: its object is destroyed, or its operation runs, over the layers below it.
 use Rattle.std.proofs.Common.{Bool, List, None, Option, Some, [], ap, arith, cond, false, length, map, refl, subst, suc, sym, true, zero, ℕ, ℤ, ◌==◌, ◌∙◌, ◌∷◌, ◌≡◌, ◌≤◌}
-use Rattle.std.proofs.lemmas.Bool.{eqb-true, true≢false}
+use Rattle.std.proofs.lemmas.Bool.{eqb-true}
 use Rattle.std.specs.Prelude.{is_some}
 use Rattle.aom_image.specs.Image.{Image}
 use Rattle.aom_image.specs.Views.{method_class}

@@ -1,6 +1,6 @@
 -- Each instruction may have its effect, and the registers that the effect names are among those of a method.
 use Rattle.std.proofs.Common.{Bool, List, None, Option, Some, [], ap, cond, false, inl, inr, length, refl, subst, suc, sym, true, zero, ℕ, ℤ, negsuc, pos, arith, ◌+◌, ◌-◌, ◌∙◌, ◌∷◌, ◌≡◌, ◌≤◌}
-use Rattle.std.proofs.lemmas.Bool.{leb-true, true≢false}
+use Rattle.std.proofs.lemmas.Bool.{leb-true}
 use Rattle.std.specs.Ordering.{int_eq}
 use Rattle.std.specs.Prelude.{int_lt, is_some}
 use Rattle.aom_image.specs.Image.{Image}
