@@ -8,7 +8,7 @@ use Rattle.aom_classes.specs.Loops.{Closes, ClosesSome, Ending, LoopsNest, next_
 use Rattle.aom_classes.proofs.Nesting.{ClosedBefore, Scanned, loop_within, must_pass, scanned_more, scanned_none}
 
 -- the scan comes to each place
-scanned_at : (code : List Instr) (i : ℕ) → LoopsNest code → i ≤ length code → (s : List ℕ) × Scanned code i s
+pub scanned_at : (code : List Instr) (i : ℕ) → LoopsNest code → i ≤ length code → (s : List ℕ) × Scanned code i s
 scanned_at code zero nest le = ([], scanned_none code)
 scanned_at code (suc i) nest le =
     let w = scanned_at code i nest (omega (arith, le)) in

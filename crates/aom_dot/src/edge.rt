@@ -2,7 +2,7 @@
 ghost use Rattle.std.specs.Prelude.{◌≡◌, ◌++◌, OnOk};
 ghost use Rattle.aom_dot.specs.Edges.{arrow, edge_of, edge_line, edge_text, code_text, kind_text};
 
-use crate::writer::Writer;
+use aom_figures::Writer;
 use aom_image::{Instr, MethodNumber};
 use std::alloc::AllocError;
 
@@ -44,49 +44,51 @@ impl Edge {
     }
 }
 
-impl Writer {
-    fn kind(&mut self, kind: EdgeKind) -> Result<(), AllocError>
-        ensures { OnOk result (self.new ≡ self.old ++ kind_text kind) }
-    {
-        match kind {
-            EdgeKind::Call => self.words(b" [key=call"),
-            EdgeKind::Trap => self.words(b" [key=trap style=dashed"),
-            EdgeKind::Operation => self.words(b" [key=operation style=dotted"),
-        }
+fn put_kind(out: &mut Writer, kind: EdgeKind) -> Result<(), AllocError>
+    ensures { OnOk result (out.new ≡ out.old ++ kind_text kind) }
+{
+    match kind {
+        EdgeKind::Call => out.words(b" [key=call"),
+        EdgeKind::Trap => out.words(b" [key=trap style=dashed"),
+        EdgeKind::Operation => out.words(b" [key=operation style=dotted"),
     }
+}
 
-    /// An edge without its end.
-    pub(crate) fn arrow(&mut self, from: MethodNumber, edge: Edge) -> Result<(), AllocError>
-        ensures { OnOk result (self.new ≡ self.old ++ arrow from edge) }
-    {
-        self.count(b"m", u64::from(from.number()))?;
-        self.count(b" -> m", u64::from(edge.to.number()))?;
-        self.kind(edge.kind)
-    }
+/// An edge without its end.
+pub(crate) fn put_arrow(out: &mut Writer, from: MethodNumber, edge: Edge) -> Result<(), AllocError>
+    ensures { OnOk result (out.new ≡ out.old ++ arrow from edge) }
+{
+    out.count(b"m", u64::from(from.number()))?;
+    out.count(b" -> m", u64::from(edge.to.number()))?;
+    put_kind(out, edge.kind)
+}
 
-    fn edge(&mut self, from: MethodNumber, edge: Edge) -> Result<(), AllocError>
-        ensures { OnOk result (self.new ≡ self.old ++ edge_line from edge) }
-    {
-        self.arrow(from, edge)?;
-        self.words(b"]\n")
-    }
+fn put_edge(out: &mut Writer, from: MethodNumber, edge: Edge) -> Result<(), AllocError>
+    ensures { OnOk result (out.new ≡ out.old ++ edge_line from edge) }
+{
+    put_arrow(out, from, edge)?;
+    out.words(b"]\n")
+}
 
-    fn instruction(&mut self, from: MethodNumber, instr: Instr) -> Result<(), AllocError>
-        ensures { OnOk result (self.new ≡ self.old ++ edge_text from (edge_of instr)) }
-    {
-        match Edge::of(instr) {
-            Some(edge) => self.edge(from, edge),
-            None => Ok(()),
-        }
+fn put_instruction(out: &mut Writer, from: MethodNumber, instr: Instr) -> Result<(), AllocError>
+    ensures { OnOk result (out.new ≡ out.old ++ edge_text from (edge_of instr)) }
+{
+    match Edge::of(instr) {
+        Some(edge) => put_edge(out, from, edge),
+        None => Ok(()),
     }
+}
 
-    /// The edges of a method's code.
-    pub(crate) fn code(&mut self, from: MethodNumber, code: &[Instr]) -> Result<(), AllocError>
-        ensures { OnOk result (self.new ≡ self.old ++ code_text from code.now) }
-    {
-        for instr in code {
-            self.instruction(from, *instr)?;
-        }
-        Ok(())
+/// The edges of a method's code.
+pub(crate) fn put_code(
+    out: &mut Writer,
+    from: MethodNumber,
+    code: &[Instr],
+) -> Result<(), AllocError>
+    ensures { OnOk result (out.new ≡ out.old ++ code_text from code.now) }
+{
+    for instr in code {
+        put_instruction(out, from, *instr)?;
     }
+    Ok(())
 }

@@ -11,6 +11,5 @@ mod graph;
 mod method;
 mod over;
 mod way;
-mod writer;
 
 pub use graph::dot_text;

@@ -2,10 +2,9 @@
 ghost use Rattle.std.specs.Prelude.{◌≡◌, ◌++◌, OnOk};
 ghost use Rattle.aom_dot.specs.Over.{color_text, class_is_over, main_is_over, method_is_over, is_over};
 
-use crate::writer::Writer;
 use aom_budget::Figures;
 use aom_classes::Linked;
-use aom_figures::{declared, kind_price};
+use aom_figures::{Writer, declared, kind_price};
 use aom_image::{ClassDecl, ClassNumber, MethodNumber};
 use std::alloc::AllocError;
 
@@ -49,38 +48,36 @@ fn method_is_over(linked: &Linked, figures: &Figures, method: MethodNumber) -> b
         || main_is_over(linked, figures, method)
 }
 
-impl Writer {
-    #[tactic(auto, unfolding(crate::specs::Over::color_text))]
-    fn color(&mut self, is_over: bool) -> Result<(), AllocError>
-        ensures { OnOk result (self.new ≡ self.old ++ color_text is_over) }
-    {
-        if is_over {
-            self.words(b" color=red")
-        } else {
-            Ok(())
-        }
+#[tactic(auto, unfolding(crate::specs::Over::color_text))]
+fn put_color(out: &mut Writer, is_over: bool) -> Result<(), AllocError>
+    ensures { OnOk result (out.new ≡ out.old ++ color_text is_over) }
+{
+    if is_over {
+        out.words(b" color=red")
+    } else {
+        Ok(())
     }
+}
 
-    pub(crate) fn class_color(
-        &mut self,
-        linked: &Linked,
-        figures: &Figures,
-        class: ClassNumber,
-        declaration: &ClassDecl,
-    ) -> Result<(), AllocError>
-        ensures { OnOk result (self.new ≡ self.old ++ color_text (class_is_over linked.now figures.now.prices class declaration.now.kind)) }
-    {
-        self.color(class_is_over(linked, figures, class, declaration))
-    }
+pub(crate) fn put_class_color(
+    out: &mut Writer,
+    linked: &Linked,
+    figures: &Figures,
+    class: ClassNumber,
+    declaration: &ClassDecl,
+) -> Result<(), AllocError>
+    ensures { OnOk result (out.new ≡ out.old ++ color_text (class_is_over linked.now figures.now.prices class declaration.now.kind)) }
+{
+    put_color(out, class_is_over(linked, figures, class, declaration))
+}
 
-    pub(crate) fn method_color(
-        &mut self,
-        linked: &Linked,
-        figures: &Figures,
-        method: MethodNumber,
-    ) -> Result<(), AllocError>
-        ensures { OnOk result (self.new ≡ self.old ++ color_text (method_is_over linked.now figures.now method)) }
-    {
-        self.color(method_is_over(linked, figures, method))
-    }
+pub(crate) fn put_method_color(
+    out: &mut Writer,
+    linked: &Linked,
+    figures: &Figures,
+    method: MethodNumber,
+) -> Result<(), AllocError>
+    ensures { OnOk result (out.new ≡ out.old ++ color_text (method_is_over linked.now figures.now method)) }
+{
+    put_color(out, method_is_over(linked, figures, method))
 }

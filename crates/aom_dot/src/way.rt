@@ -3,10 +3,10 @@ ghost use Rattle.std.specs.Prelude.{◌≡◌, ◌++◌, None, OnOk};
 ghost use Rattle.aom_classes.specs.Roles.{main_of};
 ghost use Rattle.aom_dot.specs.Way.{bold_line, dearer, dearer_one, dearest, dearest_of, is_dearer, way_of};
 
-use crate::edge::Edge;
-use crate::writer::Writer;
+use crate::edge::{Edge, put_arrow};
 use aom_budget::Figures;
 use aom_classes::Linked;
+use aom_figures::Writer;
 use aom_image::{Instr, MethodNumber};
 use std::alloc::AllocError;
 
@@ -66,30 +66,32 @@ fn dearest_of(linked: &Linked, figures: &Figures, method: MethodNumber) -> Optio
     }
 }
 
-impl Writer {
-    fn bold(&mut self, from: MethodNumber, edge: Edge) -> Result<(), AllocError>
-        ensures { OnOk result (self.new ≡ self.old ++ bold_line from edge) }
-    {
-        self.arrow(from, edge)?;
-        self.words(b" penwidth=3]\n")
-    }
+fn put_bold(out: &mut Writer, from: MethodNumber, edge: Edge) -> Result<(), AllocError>
+    ensures { OnOk result (out.new ≡ out.old ++ bold_line from edge) }
+{
+    put_arrow(out, from, edge)?;
+    out.words(b" penwidth=3]\n")
+}
 
-    /// The way from main on. It has at most as many edges as there are methods.
-    pub(crate) fn way(&mut self, linked: &Linked, figures: &Figures) -> Result<(), AllocError>
-        ensures { OnOk result (self.new ≡ self.old ++ way_of linked.now figures.now.prices (main_of linked.now)) }
-    {
-        let mut at = linked.main();
-        let count = linked.image().methods().len();
-        for _ in 0..count {
-            match dearest_of(linked, figures, at) {
-                Some(edge) => {
-                    let to = edge.to;
-                    self.bold(at, edge)?;
-                    at = to;
-                }
-                None => return Ok(()),
+/// The way from main on. It has at most as many edges as there are methods.
+pub(crate) fn put_way(
+    out: &mut Writer,
+    linked: &Linked,
+    figures: &Figures,
+) -> Result<(), AllocError>
+    ensures { OnOk result (out.new ≡ out.old ++ way_of linked.now figures.now.prices (main_of linked.now)) }
+{
+    let mut at = linked.main();
+    let count = linked.image().methods().len();
+    for _ in 0..count {
+        match dearest_of(linked, figures, at) {
+            Some(edge) => {
+                let to = edge.to;
+                put_bold(out, at, edge)?;
+                at = to;
             }
+            None => return Ok(()),
         }
-        Ok(())
     }
+    Ok(())
 }

@@ -23,6 +23,7 @@ use Rattle.aom_prices.specs.Dispatches.{IsAffordable}
 use Rattle.aom_prices.specs.Prices.{Prices}
 use Rattle.aom_steps.specs.Laws.{BootWithin, MovesPay}
 use Rattle.aom_sound.proofs.Standing.{boot as boots_at_traps}
+use Rattle.aom_sound.proofs.Maps.{cond_same}
 use Rattle.aom_exec.specs.declared.parts.Parts.{Parts}
 use Rattle.aom_exec.specs.Boot.{Booted}
 use Rattle.aom_exec.specs.Places.{register_in, going_in, value}
@@ -34,15 +35,11 @@ use Rattle.aom_exec.proofs.Standing.{begun_frame, begun_registers}
 use Rattle.aom_exec.proofs.Waiting.{none_waits}
 use Rattle.aom_exec.specs.Steps.{Sound, StandsFor}
 
-same_cond : {A : Type 0} (b : Bool) (x : A) → cond b x x ≡ x
-same_cond true x = refl
-same_cond false x = refl
-
 -- three tasks, none of which has anything there
 all_none : {A : Type 0} (a b c : Bool) (x y : A) → x ≡ y → cond a x (cond b y (cond c y y)) ≡ y
 all_none true b c x y e = e
 all_none false true c x y e = refl
-all_none false false c x y e = same_cond c y
+all_none false false c x y e = cond_same c y
 
 boot_tasks : (p : Image) (main : ℕ) → main_of p ≡ Some main → main_tasks (main_of p) ≡ Run (frame_of main AtRoot 1) ∷ Trapped ∷ Dispatched Of_main ∷ []
 boot_tasks p main e = ap main_tasks e

@@ -1,5 +1,5 @@
 -- `stop`, and how a dispatch comes to its end.
-use Rattle.std.proofs.Common.{◌≡◌, ◌==◌, ◌≤◌, ℕ, ℤ, Bool, true, false, cond, List, [], ◌∷◌, Option, None, refl, sym, ap, ◌∙◌, subst}
+use Rattle.std.proofs.Common.{◌≡◌, ◌==◌, ◌≤◌, ℕ, ℤ, true, List, [], ◌∷◌, Option, None, refl, sym, ap, ◌∙◌, subst}
 use Rattle.aom_image.specs.Image.{Image}
 use Rattle.aom_instructions.specs.declared.instr.Instr.TheVariants.{Stop}
 use Rattle.aom_shape.specs.declared.kind.Kind.TheVariants.{Null}
@@ -24,6 +24,7 @@ use Rattle.aom_exec.proofs.Entries.{mark_shows_none, unmarked}
 use Rattle.aom_exec.proofs.GoingOn.{goes_on_as}
 use Rattle.aom_exec.proofs.WordActs.{plain_does}
 use Rattle.aom_sound.proofs.Straight.{fits_unowning}
+use Rattle.aom_sound.proofs.Maps.{cond_same}
 
 pub stop_does : (m : Parts) (refused : List ℕ) → Does refused Stop m (acts.next (record m { rest = record m.rest { stopped = true } }))
 stop_does m refused = plain_does m (acts.next (record m { rest = record m.rest { stopped = true } })) refused Stop refl (λ p h c met.
@@ -50,10 +51,6 @@ closing p t s d typed e = dispatch_layer (Good p t s.cells) d [] typed.layers (s
       goings = λ k. fits_null p (seen s.cells) _ (alone.fits (Going k));
     })
 
-same_cond : {A : Type 0} (b : Bool) (x : A) → cond b x x ≡ x
-same_cond true x = refl
-same_cond false x = refl
-
 pub shows_null : (n : ℕ) (w : Option ℤ) (o : Option Object) → n ≡ null → w ≡ None → o ≡ None → Shows n w o
 shows_null n w o e f g = subst (λ w. Shows n w o) (sym f) (subst (λ o. Shows n None o) (sym g) e)
 
@@ -72,8 +69,8 @@ ended p m es s x d agrees marked same shut = record {
 }
   where
     values : (r : Place) → Shows (value_in (Ends x ∷ []) m.cells es.items m.root r) (word_at (Dispatched d ∷ []) r) (held s.cells r)
-    values (Register k i) = shows_null _ _ _ (same_cond (0 == k) null) (same_cond (0 == k) None) (shut.registers k i)
+    values (Register k i) = shows_null _ _ _ (cond_same (0 == k) null) (cond_same (0 == k) None) (shut.registers k i)
     values (Entry k) = shows_null _ _ _ (sym (mark_shows_none es.items k) ∙ ap (λ (e : Held_items). entry_in e.items k) (sym marked) ∙ agrees.values (Entry k) ∙ ap number (shut.entries k)) refl (shut.entries k)
     values (Field n f) = agrees.values (Field n f)
-    values (Going k) = shows_null _ _ _ (same_cond (0 == k) null) refl (shut.goings k)
+    values (Going k) = shows_null _ _ _ (cond_same (0 == k) null) refl (shut.goings k)
     values (Elsewhere o) = agrees.values (Elsewhere o)

@@ -23,8 +23,7 @@ pub fn result_of(instr: Instr) -> u8
     ensures in_range { result < 16 }
 {
     match instr {
-        Instr::Call(_, _, _, to) => to.number(),
-        Instr::Trap(_, _, _, to) => to.number(),
+        Instr::Call(_, _, _, to) | Instr::Trap(_, _, _, to) => to.number(),
         _ => 0,
     }
 }

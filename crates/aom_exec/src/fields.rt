@@ -88,7 +88,7 @@ impl Parts {
         ensures { (refused : List ℕ) → Does refused (JumpEmpty field place) self.old self.new }
     {
         if self.field(field) == NULL {
-            self.jump(place.number() as usize);
+            self.stack.set_place(place.number() as usize);
         } else {
             self.next();
         }

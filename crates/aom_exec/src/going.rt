@@ -45,8 +45,7 @@ impl Parts {
         requires { IsNext linked.now (Delete from) self.old }
         ensures { (refused : List ℕ) → DoesIn linked.now refused (Delete from) self.old self.new }
     {
-        let number = self.register(from);
-        self.set_register(from, NULL);
+        let number = self.take_register(from);
         if number == NULL {
             self.next();
         } else {

@@ -78,13 +78,7 @@ impl Rest {
         self.announced = true;
     }
 
-    pub fn count_step(&mut self)
-        ensures { self.new ≡ record self.old { steps = raised self.old.steps } }
-    {
-        self.steps = self.steps.saturating_add(1);
-    }
-
-    /// So many steps at once.
+    /// Counts so many steps.
     pub fn count_steps(&mut self, count: u32)
         ensures { self.new ≡ record self.old { steps = raised_by count self.old.steps } }
     {

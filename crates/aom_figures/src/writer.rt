@@ -6,7 +6,7 @@ use std::alloc::{AllocError, Global};
 use std::marker::Model;
 
 #[derive(Drop)]
-pub(crate) struct Writer {
+pub struct Writer {
     text: Vec<u8>,
 }
 
@@ -19,7 +19,7 @@ impl Model for Writer {
 }
 
 impl Writer {
-    pub(crate) fn new(alloc: Global) -> Writer
+    pub fn new(alloc: Global) -> Writer
         ensures { result ≡ [] }
     {
         Writer {
@@ -27,20 +27,20 @@ impl Writer {
         }
     }
 
-    pub(crate) fn into_text(self) -> Vec<u8>
+    pub fn into_text(self) -> Vec<u8>
         ensures { result.items ≡ self }
     {
         self.text
     }
 
-    pub(crate) fn words(&mut self, words: &[u8]) -> Result<(), AllocError>
+    pub fn words(&mut self, words: &[u8]) -> Result<(), AllocError>
         ensures { OnOk result (self.new ≡ self.old ++ words.now) }
     {
         self.text.extend_from_slice(words)
     }
 
     /// Words, and a number behind them.
-    pub(crate) fn count(&mut self, words: &[u8], number: u64) -> Result<(), AllocError>
+    pub fn count(&mut self, words: &[u8], number: u64) -> Result<(), AllocError>
         ensures { OnOk result (self.new ≡ self.old ++ words.now ++ decimal number) }
     {
         let mut buffer = Buffer::new();

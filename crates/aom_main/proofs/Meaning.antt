@@ -23,14 +23,8 @@ means_nothing text fault is = record { meaningless = λ i d. no_ok fault i (sym 
 
 -- a fault is the text's first, unless it is that memory was wanting
 no_image_of : (text : List ℕ) (fault : AsmFault) (kind : AsmFaultKind) → (kind ≢ kinds.OutOfMemory → denoted text ≡ Err fault) → RefusesText text (of_asm_kind fault kind)
-no_image_of text fault kinds.NotAscii is = means_nothing text fault (is (λ e. cc))
-no_image_of text fault kinds.UnknownWord is = means_nothing text fault (is (λ e. cc))
-no_image_of text fault kinds.BadNumber is = means_nothing text fault (is (λ e. cc))
-no_image_of text fault kinds.UnknownName is = means_nothing text fault (is (λ e. cc))
-no_image_of text fault kinds.DoubleName is = means_nothing text fault (is (λ e. cc))
-no_image_of text fault kinds.BadShape is = means_nothing text fault (is (λ e. cc))
-no_image_of text fault kinds.LimitPassed is = means_nothing text fault (is (λ e. cc))
 no_image_of text fault kinds.OutOfMemory is = tt
+no_image_of text fault kind is = means_nothing text fault (is (λ e. cc))
 
 pub no_image : (text : List ℕ) (fault : AsmFault) → (fault.kind ≢ kinds.OutOfMemory → denoted text ≡ Err fault) → RefusesText text (of_asm fault)
 no_image text fault is = no_image_of text fault fault.kind is

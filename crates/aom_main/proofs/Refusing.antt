@@ -21,16 +21,8 @@ use Rattle.aom_main.specs.Acceptable.{IsSpelled, IsAcceptable, RefusesOrWants}
 
 -- bytes that are no image have a fault, unless it is that memory was wanting
 pub load_refused : (bytes : List ℕ) (fault : LoadFault) → (fault ≢ loads.OutOfMemory → first_fault bytes ≡ Some fault) → RefusesOrWants bytes (of_load fault)
-load_refused bytes loads.BadMagic is = is (λ e. cc)
-load_refused bytes loads.BadVersion is = is (λ e. cc)
-load_refused bytes loads.Truncated is = is (λ e. cc)
-load_refused bytes loads.Trailing is = is (λ e. cc)
-load_refused bytes loads.LimitPassed is = is (λ e. cc)
-load_refused bytes loads.BadOpcode is = is (λ e. cc)
-load_refused bytes loads.BadOperand is = is (λ e. cc)
-load_refused bytes loads.BadIndex is = is (λ e. cc)
-load_refused bytes loads.NotZero is = is (λ e. cc)
 load_refused bytes loads.OutOfMemory is = tt
+load_refused bytes fault is = is (λ e. cc)
 
 pub linked_memory : (p : Image) (fault : LinkFault) → RefusesOrWantsLink p fault → IsAcceptable p → of_link fault ≡ Memory
 unfolding RefusesOrWantsLink RefusesLink Fails
@@ -48,16 +40,8 @@ linked_memory p OutOfMemory refused a = refl
 -- a fault of linking is one on the way
 pub link_refused : (bytes : List ℕ) (p : Image) (fault : LinkFault) → IsSpelled bytes p → RefusesOrWantsLink p fault → RefusesOrWants bytes (of_link fault)
 unfolding RefusesOrWantsLink
-link_refused bytes p NotYet spelled refused = (p, spelled, refused)
-link_refused bytes p ClassOrder spelled refused = (p, spelled, refused)
-link_refused bytes p CallOrder spelled refused = (p, spelled, refused)
-link_refused bytes p MissingRole spelled refused = (p, spelled, refused)
-link_refused bytes p DoubleRole spelled refused = (p, spelled, refused)
-link_refused bytes p RoleShape spelled refused = (p, spelled, refused)
-link_refused bytes p BadJump spelled refused = (p, spelled, refused)
-link_refused bytes p BadLoop spelled refused = (p, spelled, refused)
-link_refused bytes p NoMain spelled refused = (p, spelled, refused)
 link_refused bytes p OutOfMemory spelled refused = tt
+link_refused bytes p fault spelled refused = (p, spelled, refused)
 
 -- a checked image that costs more than it declares, or whose methods may come to too many frames or cleanup entries
 has_typing : (p q : Image) → q ≡ p → (t : Typing) × IsStrongest q t → (t : Typing) × IsTyped p t

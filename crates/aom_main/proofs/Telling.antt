@@ -96,12 +96,8 @@ unbooted bytes text p script acceptable well spelled denotes fault out errors st
 
 -- a fault of the text is told as one
 told_so : (fault : ScriptFault) (kind : ScriptFaultKind) → IsOfText kind → of_script_kind fault kind ≡ faults.Script fault
-told_so fault kinds.NotAscii h = refl
-told_so fault kinds.BadLine h = refl
-told_so fault kinds.BadNumber h = refl
-told_so fault kinds.TimeBack h = refl
-told_so fault kinds.LimitPassed h = refl
 told_so fault kinds.OutOfMemory h = absurd h
+told_so fault kind h = refl
 
 -- what is told of a text that is no script, or that there was no memory for
 pub unscripted : (bytes text : List ℕ) (fault : ScriptFault) (line : Fault) (out errors : Sent) (status : ExitStatus) → Accepts bytes → RefusesOrWants text fault → IsSilent out

@@ -1,6 +1,7 @@
 -- There is a table of prices: each method's is made from its last place down, and the image's by method.
 use Rattle.std.proofs.lemmas.Option.{same_Some}
-use Rattle.std.proofs.Common.{◌≡◌, ◌<◌, ◌≤◌, ◌+◌, ◌-◌, ◌*◌, ◌∙◌, ℕ, zero, suc, Bool, true, false, cond, length, Option, Some, None, inl, inr, ⊎_elim, refl, sym, ap, arith, subst}
+use Rattle.std.proofs.Common.{◌≡◌, ◌<◌, ◌≤◌, ◌+◌, ◌-◌, ◌*◌, ◌∙◌, ℕ, zero, suc, cond, length, Option, Some, None, inl, inr, ⊎_elim, refl, sym, ap, arith, subst}
+use Rattle.std.proofs.Math.Bool.{and-false}
 use Rattle.std.specs.Prelude.{◌≢◌, ◌==◌, ◌⊎◌, ◌&&◌, IsSome, max}
 use Rattle.std.proofs.lemmas.Bool.{cases_lt, eq-eqb, ne_eqb}
 use Rattle.aom_image.specs.Image.{Image}
@@ -51,13 +52,9 @@ set_method : (f : ℕ → ℕ → ℕ) (m place v k x : ℕ) → k ≢ m → set
 unfolding set
 set_method f m place v k x other = ap (λ b. cond (b && (x == place)) v (f k x)) (ne_eqb k m other)
 
-and_false : (b : Bool) → (b && false) ≡ false
-and_false true = refl
-and_false false = refl
-
 set_place : (f : ℕ → ℕ → ℕ) (m place v k x : ℕ) → x ≢ place → set f m place v k x ≡ f k x
 unfolding set
-set_place f m place v k x other = ap (λ b. cond ((k == m) && b) v (f k x)) (ne_eqb x place other) ∙ ap (λ b. cond b v (f k x)) (and_false (k == m))
+set_place f m place v k x other = ap (λ b. cond ((k == m) && b) v (f k x)) (ne_eqb x place other) ∙ ap (λ b. cond b v (f k x)) (and-false (k == m))
 
 not_same : (x y : ℕ) → x < y → y ≢ x
 not_same x y lt e = omega (arith, lt, e)

@@ -1,14 +1,15 @@
 -- The bodies of loops round a place.
-use Rattle.std.proofs.Common.{◌≡◌, ◌<◌, ◌≤◌, ◌∙◌, ℕ, zero, suc, Bool, true, false, List, [], ◌∷◌, length, drop, Some, None, slice_get, inl, inr, ⊎_elim, refl, ap, arith, subst}
+use Rattle.std.proofs.Common.{◌≡◌, ◌<◌, ◌≤◌, ◌∙◌, ℕ, zero, suc, Bool, true, false, List, [], ◌∷◌, drop, Some, None, slice_get, ⊎_elim, refl, ap, arith}
 use Rattle.std.specs.Prelude.{◌≢◌, ◌&&◌, ◌||◌, ◌==◌, nat_lt}
 use Rattle.std.specs.List.{list_any}
 use Rattle.std.proofs.lemmas.Bool.{eqb-true, eq-eqb, ltb-true, lt-ltb}
-use Rattle.std.proofs.lemmas.Option.{slice_get_within, slice_get_cases, same_Some}
+use Rattle.std.proofs.lemmas.Option.{slice_get_within, same_Some}
 use Rattle.aom_instructions.specs.declared.instr.Instr.{Instr}
 use Rattle.aom_instructions.specs.declared.instr.Instr.TheVariants.{Loop, Next}
 use Rattle.aom_classes.specs.Loops.{loop_in, loop_at, Ending, next_in, next_at, Closes, LoopsNest}
 use Rattle.aom_classes.specs.Scanning.{Enters}
-use Rattle.aom_classes.proofs.Nesting.{ClosedBefore, Scanned, scanned_none, scanned_more, must_pass}
+use Rattle.aom_classes.proofs.Nested.{scanned_at}
+use Rattle.aom_classes.proofs.Nesting.{ClosedBefore, must_pass}
 use Rattle.aom_classes.proofs.Each.{both as both_true}
 use Rattle.aom_ranks.specs.Within.{is_end_of, is_in_body}
 use Rattle.aom_classes.proofs.LoopPlaces.{next_there}
@@ -101,23 +102,11 @@ body_in code number p place w =
 
 -- ---- the numbers of loops within each other
 
--- where loops nest, the scan goes through
-scanned : (code : List Instr) (i : ℕ) → LoopsNest code → i ≤ length code → (s : List ℕ) × Scanned code i s
-scanned code zero nest le = ([], scanned_none code)
-scanned code (suc i) nest le =
-    let w = scanned code i nest (omega (arith, le)) in
-    elim (slice_get_cases code i).1 as (λ _. (s : List ℕ) × Scanned code (suc i) s) [
-      | inl x ↦
-          let r = must_pass code i x.0 w.0 x.2 w.1 nest in
-          (r.0, subst (λ k. Scanned code k r.0) (omega arith) (scanned_more code i x.0 w.0 r.0 x.2 r.1 w.1))
-      | inr x ↦ absurd (omega (arith, le, x.0))
-    ]
-
 -- a loop within the body of another has another number
 pub other_number : (code : List Instr) (c d p r : ℕ) (n : ℕ) → LoopsNest code → IsIn code c p r → slice_get code r ≡ Some (Loop d n) → c ≢ d
 unfolding loop_in
 other_number code c d p r n nest w stands same =
-    let s = scanned code r nest (let h = slice_get_within code r _ stands in omega (arith, h)) in
+    let s = scanned_at code r nest (let h = slice_get_within code r _ stands in omega (arith, h)) in
     let passes = must_pass code r (Loop d n) s.0 stands s.1 nest in
     let open_still : slice_get s.0 c ≡ Some p = ⊎_elim
     (λ (o : slice_get s.0 c ≡ Some p). o)

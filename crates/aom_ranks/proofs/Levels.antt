@@ -1,8 +1,7 @@
 -- What a run of a method costs those that begin it.
 use Rattle.std.proofs.Common.{Bool, IfSome, IsTrue, List, None, Option, Some, [], ap, arith, cond, false, length, refl, slice_get, subst, suc, true, ℕ, ◌*◌, ◌+◌, ◌<◌, ◌^◌, ◌∙◌, ◌≡◌, ◌≤◌}
-use Rattle.std.specs.Prelude.{All, IsSome, position}
-use Rattle.std.proofs.lemmas.List.Elements.{All-get_or}
-use Rattle.std.proofs.lemmas.Option.{slice_get_within, get_or_from_slice_get}
+use Rattle.std.specs.Prelude.{IsSome, position}
+use Rattle.std.proofs.lemmas.Option.{slice_get_within}
 use Rattle.aom_image.specs.Image.{Image}
 use Rattle.aom_image.specs.Views.{is_quiet, leaves, leaves_in, method_at, quiet_in}
 use Rattle.aom_instructions.specs.declared.instr.Instr.TheVariants.{Call, Cancel, Trap}
@@ -14,7 +13,7 @@ use Rattle.aom_classes.specs.Calls.{AllBelow, CallsOrdered, RunsBelow}
 use Rattle.aom_classes.specs.Linked.{IsLinked}
 use Rattle.aom_classes.specs.Roles.{destructor_of, is_main, main_of, plays, role_of}
 use Rattle.aom_roles.specs.Shapes.{FlagsFit, HasShape, IsShaped, kind_of, may_leave, is_quiet as quiet_bit}
-use Rattle.aom_classes.proofs.Facts.{at_place}
+use Rattle.aom_classes.proofs.Facts.{all_there, at_place}
 use Rattle.aom_sound.specs.Destruction.{begun, begun_by}
 use Rattle.aom_sound.specs.Places.{Object}
 use Rattle.aom_sound.specs.State.{Task}
@@ -25,10 +24,6 @@ use Rattle.aom_ranks.proofs.Sums.{pow_less, pow_more, pow_some, pow_step, pow_tw
 use Rattle.aom_image.proofs.Given.{cons_given, some_given}
 use Rattle.aom_classes.proofs.Playing.{destroyed, found, role_found}
 use Rattle.aom_ranks.proofs.Sums.{one_of_all}
-
--- what holds of each element holds of one
-pub all_at : {X : Type 0} (P : X → Type 0) (xs : List X) (k : ℕ) (x : X) → All P xs → slice_get xs k ≡ Some x → P x
-all_at P xs k x h e = subst P (get_or_from_slice_get xs k x x e) (All-get_or P xs k x (slice_get_within xs k x e) h)
 
 left_below : (ms : List Method) (k : ℕ) (m : Method) → slice_get ms k ≡ Some m → left m.code [] 0 ≤ all_left ms
 left_below ms k m e = one_of_all (λ (x : Method). left x.code [] 0) all_left (λ x xs. refl) ms k m e
@@ -76,7 +71,7 @@ cell_two p linked =
 pub loud_leaver : (p : Image) → IsLinked p → (m : ℕ) → leaves p m ≡ true → is_quiet p m ≡ false
 unfolding leaves_in quiet_in method_at
 loud_leaver p linked m e = some_given (λ o. leaves_in o ≡ true) (slice_get p.methods m) e (λ none. cc) (λ d there may.
-    let shaped : IsShaped p d = all_at (IsShaped p) p.methods m d linked.shapes there in ap quiet_in there ∙ flag d shaped.flags (quiet_bit d) refl may)
+    let shaped : IsShaped p d = all_there (IsShaped p) p.methods m d linked.shapes there in ap quiet_in there ∙ flag d shaped.flags (quiet_bit d) refl may)
   where
     flag : (d : Method) → FlagsFit d → (b : Bool) → quiet_bit d ≡ b → may_leave d ≡ true → b ≡ false
     flag d fits true q e = let never = fits.quiet q in cc
@@ -102,7 +97,7 @@ unfolding method_at quiet_in
 quiet_destructor p linked c m e =
     let w = role_found p c m Destruct e in
     let d = w.0 in
-    let shaped : IsShaped p d = all_at (IsShaped p) p.methods m d linked.shapes w.1 in
+    let shaped : IsShaped p d = all_there (IsShaped p) p.methods m d linked.shapes w.1 in
     let shape : HasShape Destruct (kind_of p d.class) d = subst (λ r. HasShape r (kind_of p d.class) d) w.3 shaped.role in
     record { within = slice_get_within p.methods m d w.1; quiet = ap quiet_in w.1 ∙ shape.flags }
 
@@ -126,14 +121,14 @@ pub called_before : (p : Image) → IsLinked p → (m place : ℕ) (d : Method) 
 unfolding method_at
 called_before p linked m place d target m' first c is stands =
     let ordered : CallsOrdered p m d = at_place (CallsOrdered p) p.methods m d linked.calls is in
-    let runs : RunsBelow p m d.class (Call target m' first c) = all_at (RunsBelow p m d.class) d.code place (Call target m' first c) ordered.code stands in
+    let runs : RunsBelow p m d.class (Call target m' first c) = all_there (RunsBelow p m d.class) d.code place (Call target m' first c) ordered.code stands in
     runs.below
 
 pub trapped_before : (p : Image) → IsLinked p → (m place : ℕ) (d : Method) (target : Target) (m' first c : ℕ) → method_at p m ≡ Some d → slice_get d.code place ≡ Some (Trap target m' first c) → m' < m
 unfolding method_at
 trapped_before p linked m place d target m' first c is stands =
     let ordered : CallsOrdered p m d = at_place (CallsOrdered p) p.methods m d linked.calls is in
-    let runs : RunsBelow p m d.class (Trap target m' first c) = all_at (RunsBelow p m d.class) d.code place (Trap target m' first c) ordered.code stands in
+    let runs : RunsBelow p m d.class (Trap target m' first c) = all_there (RunsBelow p m d.class) d.code place (Trap target m' first c) ordered.code stands in
     runs.below
 
 -- an operation is paid by its item, with two left

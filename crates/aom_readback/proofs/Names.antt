@@ -1,5 +1,6 @@
 -- A letter and a number in decimal digits: a word, a name, and in a list of such names at the number's place.
-use Rattle.std.proofs.Common.{◌≡◌, ℕ, ℤ, pos, negsuc, suc, ◌<◌, ◌≤◌, ◌^◌, ◌==◌, ◌&&◌, ◌⊎◌, ⊎_elim, Bool, true, false, cond, nat_lt, nat_le, List, [], ◌∷◌, length, get_or, Some, None, refl, sym, ap, ◌∙◌, arith}
+use Rattle.std.proofs.Common.{◌≡◌, ℕ, ℤ, pos, negsuc, suc, ◌<◌, ◌≤◌, ◌^◌, ◌==◌, ◌⊎◌, ⊎_elim, Bool, true, false, cond, nat_lt, nat_le, List, [], ◌∷◌, length, get_or, Some, None, refl, sym, ap, ◌∙◌, arith}
+use Rattle.std.proofs.Math.Bool.{and-false}
 use Rattle.std.specs.Prelude.{FitsSigned}
 use Rattle.std.specs.Fmt.{decimal, signed_decimal}
 use Rattle.std.specs.Int.{w32}
@@ -48,19 +49,15 @@ plain_lettered letter n is small = rw (letter_is_plain letter is, plain_decimal 
 
 -- ---- names
 
-and_false : (b : Bool) → (b && false) ≡ false
-and_false true = refl
-and_false false = refl
-
 -- a word of digits behind a letter is no reserved word
 unreserved : (letter : ℕ) (ds : List ℕ) → list_all is_digit ds ≡ true → is_reserved (letter ∷ ds) ≡ false
-unreserved letter [] digits = simp and_false
+unreserved letter [] digits = simp and-false
 unreserved letter (d ∷ ds) digits =
     let small : d ≤ 57 = grind (arith, common_steps) in
     let no_s : (d == 115) ≡ false = grind (arith, common_steps) in
     let no_o : (d == 111) ≡ false = grind (arith, common_steps) in
     let no_e : (d == 101) ≡ false = grind (arith, common_steps) in
-    rw (no_s, no_o, no_e) (simp and_false)
+    rw (no_s, no_o, no_e) (simp and-false)
 
 pub name_lettered : (letter n : ℕ) → is_letter letter ≡ true → n < 2 ^ 32 → is_name (lettered letter n) ≡ true
 name_lettered letter n is small =

@@ -1,17 +1,14 @@
 -- Whether the fillings of the fields that a class declares are empty.
-use Rattle.std.proofs.Common.{◌≡◌, ◌<◌, Bool, true, false, ◌&&◌, List, [], ◌∷◌, length, refl, arith}
+use Rattle.std.proofs.Common.{◌≡◌, ◌<◌, true, false, List, [], ◌∷◌, length, refl, arith}
+use Rattle.std.proofs.Math.Bool.{and-false}
 use Rattle.aom_image.specs.declared.method.Thing.{Thing}
 use Rattle.aom_shape.specs.Kinds.{all_empty, is_empty}
 use Rattle.aom_shape.specs.declared.kind.Filling.{Filling}
 
-and_false : (b : Bool) → (b && false) ≡ false
-and_false true = refl
-and_false false = refl
-
 pub too_few : (ts : List Thing) (xs : List Filling) → length xs < length ts → all_empty ts xs ≡ false
 too_few [] xs h = absurd (omega arith)
 too_few (t ∷ ts) [] h = refl
-too_few (t ∷ ts) (x ∷ xs) h = rw (too_few ts xs (omega arith)) (and_false (is_empty x))
+too_few (t ∷ ts) (x ∷ xs) h = rw (too_few ts xs (omega arith)) (and-false (is_empty x))
 
 pub none_left : (ts : List Thing) (xs : List Filling) → length ts ≡ 0 → all_empty ts xs ≡ true
 none_left [] xs h = refl

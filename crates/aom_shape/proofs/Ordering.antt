@@ -1,5 +1,6 @@
 -- The tests on lists decide the order between states.
 use Rattle.std.proofs.Common.{◌≡◌, ◌≢◌, ℕ, zero, suc, Bool, true, false, ◌&&◌, ◌==◌, List, [], ◌∷◌, length, ◌↔◌, ◌⊎◌, IsTrue, refl, sym, ap, ◌∙◌, arith}
+use Rattle.std.proofs.Math.Bool.{and-false}
 use Rattle.std.proofs.lemmas.Bool.{eqb-true, eq-eqb, false≢true, and_parts}
 use Rattle.aom_image.specs.Views.{has}
 use Rattle.aom_shape.specs.Kinds.{register, field}
@@ -123,11 +124,7 @@ pub entries_differ : (xs ys : List Entry) → length xs ≢ length ys → same_e
 entries_differ [] [] h = absurd (h refl)
 entries_differ [] (y ∷ ys) h = refl
 entries_differ (x ∷ xs) [] h = refl
-entries_differ (x ∷ xs) (y ∷ ys) h = rw (entries_differ xs ys (λ e. h (ap suc e))) (and_false (same_entry x y))
-  where
-    and_false : (b : Bool) → (b && false) ≡ false
-    and_false true = refl
-    and_false false = refl
+entries_differ (x ∷ xs) (y ∷ ys) h = rw (entries_differ xs ys (λ e. h (ap suc e))) (and-false (same_entry x y))
 
 -- both have ended
 pub entries_ended : (xs ys : List Entry) → length xs ≡ length ys → (length xs ≡ 0) ⊎ (length ys ≡ 0) → same_entries xs ys ≡ true

@@ -24,15 +24,6 @@ impl Age {
             Age::Ready => true,
         }
     }
-
-    fn is_same(self, other: Age) -> bool
-        ensures { result ≡ same_age self other }
-    {
-        match self {
-            Age::Fresh => !other.is_ready(),
-            Age::Ready => other.is_ready(),
-        }
-    }
 }
 
 /// What became of the message that a service method is called with.
@@ -56,10 +47,7 @@ impl Delivery {
     pub fn is_same(self, other: Delivery) -> bool
         ensures { result ≡ same_delivery self other }
     {
-        match self {
-            Delivery::Here => other.is_here(),
-            Delivery::Gone => !other.is_here(),
-        }
+        self == other
     }
 }
 
@@ -180,7 +168,7 @@ impl Kind {
         match self {
             Kind::Unset | Kind::Word | Kind::Null => false,
             Kind::Own(own, stage) | Kind::Maybe(own, stage) => same_thing(own, thing)
-                && stage.is_same(age),
+                && stage == age,
         }
     }
 
@@ -189,7 +177,7 @@ impl Kind {
     {
         match self {
             Kind::Unset | Kind::Word | Kind::Null | Kind::Own(_, _) => false,
-            Kind::Maybe(own, stage) => same_thing(own, thing) && stage.is_same(age),
+            Kind::Maybe(own, stage) => same_thing(own, thing) && stage == age,
         }
     }
 
@@ -330,8 +318,7 @@ impl Entry {
     {
         match self {
             Entry::Object(class, age) => match other {
-                Entry::Object(number, stage) => class.number() == number.number()
-                    && age.is_same(stage),
+                Entry::Object(number, stage) => class.number() == number.number() && age == stage,
                 Entry::Operation => false,
             },
             Entry::Operation => !other.is_object(),

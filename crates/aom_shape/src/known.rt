@@ -98,52 +98,10 @@ impl Known {
         self.fields[index] = filling;
         self
     }
-
-    /// The same with nothing known of the fields.
-    pub fn with_fields_unknown(mut self) -> Known
-        ensures { result ≡ record self { fields = replicate 8 Perhaps } }
-    {
-        self.fields = [Filling::Perhaps; 8];
-        self
-    }
-
-    /// The request states in which the object may be.
-    pub fn states(&self) -> States
-        ensures { result.0 ≡ self.now.states }
-    {
-        self.states
-    }
-
-    /// The same with other request states.
-    pub fn with_states(mut self, states: States) -> Known
-        ensures { result ≡ record self { states = states.0 } }
-    {
-        self.states = states;
-        self
-    }
-
-    pub fn delivery(&self) -> Delivery
-        ensures { result ≡ self.now.delivery }
-    {
-        self.delivery
-    }
-
-    /// No register owns, and none perhaps owns.
-    pub fn none_owns(&self) -> bool
-        ensures { result ≡ none_owns self.now.registers }
-    {
-        none_owns(&self.registers)
-    }
-
-    /// The fields that a class declares are null.
-    pub fn are_empty(&self, declared: &[Thing]) -> bool
-        ensures { result ≡ all_empty declared.now self.now.fields }
-    {
-        all_empty(declared, &self.fields)
-    }
 }
 
-fn none_owns(kinds: &[Kind]) -> bool
+/// No register owns, and none perhaps owns.
+pub(crate) fn none_owns(kinds: &[Kind]) -> bool
     ensures { result ≡ none_owns kinds.now }
 {
     for kind in kinds {
@@ -154,7 +112,8 @@ fn none_owns(kinds: &[Kind]) -> bool
     true
 }
 
-fn all_empty(declared: &[Thing], fillings: &[Filling]) -> bool
+/// The fields that a class declares are null.
+pub(crate) fn all_empty(declared: &[Thing], fillings: &[Filling]) -> bool
     ensures { result ≡ all_empty declared.now fillings.now }
 {
     if fillings.len() < declared.len() {

@@ -36,7 +36,7 @@ fn fillings_say_no_more(a: &[Filling], b: &[Filling]) -> bool
 fn requests_say_no_more(a: &Known, b: &Known) -> bool
     ensures { result ≡ (has a.now.states b.now.states && same_delivery a.now.delivery b.now.delivery) }
 {
-    a.states().contains(b.states()) && a.delivery().is_same(b.delivery())
+    a.states.contains(b.states) && a.delivery.is_same(b.delivery)
 }
 
 fn known_says_no_more(a: &Known, b: &Known) -> bool
@@ -89,12 +89,12 @@ fn meet_known(a: &Known, b: &Known) -> Option<Known>
 {
     let registers = meet_kinds(&a.registers, &b.registers)?;
     let fields = meet_fillings(&a.fields, &b.fields);
-    let states = a.states().union(b.states());
+    let states = a.states.union(b.states);
     Some(Known {
         registers,
         fields,
         states,
-        delivery: a.delivery(),
+        delivery: a.delivery,
     })
 }
 

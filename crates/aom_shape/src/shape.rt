@@ -5,6 +5,7 @@ ghost use Rattle.aom_shape.specs.Arguments.{argument_moved, arguments_moved};
 ghost use Rattle.aom_shape.specs.Changes.{kept_shape, known_with};
 ghost use Rattle.aom_shape.specs.declared.kind.Filling.TheVariants.{Perhaps};
 
+use crate::known::{all_empty, none_owns};
 use crate::piles::{Node, Pile, Piles, are_same, entry_at};
 use crate::{Delivery, Entry, Filling, Kind, Known};
 use aom_image::{Argument, FieldIndex, Register, States, Thing};
@@ -136,7 +137,9 @@ impl<'a> Shape<'a> {
     pub fn with_fields_unknown(&self) -> Shape<'a>
         ensures { result ≡ record self.now { fields = replicate 8 Perhaps } }
     {
-        self.with_known(self.known.with_fields_unknown())
+        let mut known = self.known;
+        known.fields = [Filling::Perhaps; 8];
+        self.with_known(known)
     }
 
     /// The same with another filling of a field.
@@ -150,35 +153,37 @@ impl<'a> Shape<'a> {
     pub fn states(&self) -> States
         ensures { result.0 ≡ self.now.states }
     {
-        self.known.states()
+        self.known.states
     }
 
     /// The same with other request states.
     pub fn with_states(&self, states: States) -> Shape<'a>
         ensures { result ≡ record self.now { states = states.0 } }
     {
-        self.with_known(self.known.with_states(states))
+        let mut known = self.known;
+        known.states = states;
+        self.with_known(known)
     }
 
     /// What became of the message in service.
     pub fn delivery(&self) -> Delivery
         ensures { result ≡ self.now.delivery }
     {
-        self.known.delivery()
+        self.known.delivery
     }
 
     /// No register owns, and none perhaps owns.
     pub fn none_owns(&self) -> bool
         ensures { result ≡ none_owns self.now.registers }
     {
-        self.known.none_owns()
+        none_owns(&self.known.registers)
     }
 
     /// The fields that a class declares are null.
     pub fn are_empty(&self, declared: &[Thing]) -> bool
         ensures { result ≡ all_empty declared.now self.now.fields }
     {
-        self.known.are_empty(declared)
+        all_empty(declared, &self.known.fields)
     }
 
     /// How many cleanup entries there are.

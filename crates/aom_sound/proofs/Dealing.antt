@@ -1,6 +1,6 @@
 -- The last item of the cleanup stack is dealt with: its object is destroyed, or its operation runs, over the layers below it.
 use Rattle.std.proofs.Common.{Bool, List, None, Option, Some, [], ap, arith, cond, false, length, map, refl, subst, suc, sym, true, zero, ℕ, ℤ, ◌==◌, ◌∙◌, ◌∷◌, ◌≡◌, ◌≤◌}
-use Rattle.std.proofs.lemmas.Bool.{eqb-true, true≢false}
+use Rattle.std.proofs.lemmas.Bool.{eqb-true}
 use Rattle.std.specs.Prelude.{is_some}
 use Rattle.aom_image.specs.Image.{Image}
 use Rattle.aom_image.specs.Views.{method_class}
@@ -154,7 +154,6 @@ pub dealing :
     (p : Image) (fr : Frame) (ts : List Task) (s : State) (items : List Item) (o : Option Object) → s.items ≡ items → held s.cells (top_place items) ≡ o → tops_entry items ≡ true →
     top_is_whole s.cells items ≡ true
     → dealt_with p items (Run fr ∷ ts) s ≡ applied p fr ts s (deals_effect fr items o)
-dealing p fr ts s (An_object ∷ items) None at e there whole = absurd (true≢false (sym whole ∙ ap is_some e))
 dealing p fr ts s (An_object ∷ items) (Some o) at e there whole =
     ap (λ x. destroyed p x items (Run fr ∷ ts) s) e
     ∙ ap (λ l. record s { cells = moved (Entry (length l)) (Going (length (Run fr ∷ ts))) s.cells; tasks = begun p o (length l) (Run fr ∷ ts); items = l }) (sym (ap below_top at))

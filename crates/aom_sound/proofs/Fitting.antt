@@ -1,6 +1,6 @@
 -- Each instruction may have its effect, and the registers that the effect names are among those of a method.
 use Rattle.std.proofs.Common.{Bool, List, None, Option, Some, [], ap, cond, false, inl, inr, length, refl, subst, suc, sym, true, zero, ℕ, ℤ, negsuc, pos, arith, ◌+◌, ◌-◌, ◌∙◌, ◌∷◌, ◌≡◌, ◌≤◌}
-use Rattle.std.proofs.lemmas.Bool.{leb-true, true≢false}
+use Rattle.std.proofs.lemmas.Bool.{leb-true}
 use Rattle.std.specs.Ordering.{int_eq}
 use Rattle.std.specs.Prelude.{int_lt, is_some}
 use Rattle.aom_image.specs.Image.{Image}
@@ -96,7 +96,6 @@ module _ (p : Image) (c : Choice) (fr : Frame) (ts : List Task) (s : State) wher
   may_leave false cs n e = cc
 
   dealing : (items : List Item) (o : Option Object) → s.items ≡ items → held s.cells (top_place items) ≡ o → tops_entry items ≡ true → top_is_whole s.cells items ≡ true → May PopDelete (deals fr items o)
-  dealing (An_object ∷ items) None at e there whole = absurd (true≢false (sym whole ∙ ap is_some e))
   dealing (An_object ∷ items) (Some o) at e there whole = ((refl, at ∙ ap (λ l. An_object ∷ l) (sym (ap below_top at)), ap (λ l. held s.cells (top_place l)) at ∙ e), λ l f. tt)
   dealing (An_operation m w ∷ items) o at e there whole = ((refl, at ∙ ap (λ l. An_operation m w ∷ l) (sym (ap below_top at))), λ l f. tt)
   dealing _ o at e there whole = cc

@@ -52,7 +52,7 @@ same_place_comm p q = go (same_place p q) (same_place q p) refl refl
 pub same_place_along : (p q r : Place) → same_place p q ≡ true → same_place p r ≡ same_place q r
 same_place_along p q r e = ap (λ x. same_place x r) (same_place-true p q e)
 
-cond_same : {A : Type 0} (b : Bool) (x : A) → cond b x x ≡ x
+pub cond_same : {A : Type 0} (b : Bool) (x : A) → cond b x x ≡ x
 cond_same true x = refl
 cond_same false x = refl
 

@@ -6,11 +6,11 @@ use Rattle.aom_exec.proofs.parts.Parts.delete.Goals as goal
 
 pub begin-requires-clause-lives : goal.begin-requires-clause-lives
 begin-requires-clause-lives c =
-    rw (c.set_register.ensures.written, c.register-number.ensures.value)
-    (deletes_living c.args.linked.now c.args.self.now c.args.from c.requires (λ e. c.if-number.false (c.register-number.ensures.value ∙ e)))
+    rw (c.take_register-number.ensures.emptied, c.take_register-number.ensures.value)
+    (deletes_living c.args.linked.now c.args.self.now c.args.from c.requires (λ e. c.if-number.false (c.take_register-number.ensures.value ∙ e)))
 
 pub returns-then-number : goal.returns-then-number
-returns-then-number c = λ refused. rw (c.next.ensures, c.set_register.ensures.written) (delete_null_does c.args.self.now refused c.args.linked.now c.args.from c.register-number.ensures.in_range (sym c.register-number.ensures.value ∙ c.if-number.true))
+returns-then-number c = λ refused. rw (c.next.ensures, c.take_register-number.ensures.emptied) (delete_null_does c.args.self.now refused c.args.linked.now c.args.from c.take_register-number.ensures.in_range (sym c.take_register-number.ensures.value ∙ c.if-number.true))
 
 pub returns-else-number : goal.returns-else-number
-returns-else-number c = λ refused. rw (c.begin.ensures, c.set_register.ensures.written, c.register-number.ensures.value) (delete_does c.args.linked.now c.args.self.now refused c.args.from c.register-number.ensures.in_range (λ e. c.if-number.false (c.register-number.ensures.value ∙ e)))
+returns-else-number c = λ refused. rw (c.begin.ensures, c.take_register-number.ensures.emptied, c.take_register-number.ensures.value) (delete_does c.args.linked.now c.args.self.now refused c.args.from c.take_register-number.ensures.in_range (λ e. c.if-number.false (c.take_register-number.ensures.value ∙ e)))
