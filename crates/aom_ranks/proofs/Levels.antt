@@ -147,7 +147,7 @@ unfolding method_at quiet_in
 quiet_canceller p linked c m e =
     let w = role_found p c m Cancel_role e in
     let d = w.0 in
-    let shaped : IsShaped p d = all_at (IsShaped p) p.methods m d linked.shapes w.1 in
+    let shaped : IsShaped p d = all_there (IsShaped p) p.methods m d linked.shapes w.1 in
     let shape : HasShape Cancel_role (kind_of p d.class) d = subst (λ r. HasShape r (kind_of p d.class) d) w.3 shaped.role in
     ap quiet_in w.1 ∙ shape.flags
 
@@ -156,7 +156,7 @@ pub canceller_before : (p : Image) → IsLinked p → (m place : ℕ) (d : Metho
 unfolding method_at role_of
 canceller_before p linked m place d c m' is stands class e =
     let ordered : CallsOrdered p m d = at_place (CallsOrdered p) p.methods m d linked.calls is in
-    let runs : RunsBelow p m d.class Cancel = all_at (RunsBelow p m d.class) d.code place Cancel ordered.code stands in
+    let runs : RunsBelow p m d.class Cancel = all_there (RunsBelow p m d.class) d.code place Cancel ordered.code stands in
     let below : AllBelow p.methods m c Cancel_role = subst (λ o. IfSome o (λ c. AllBelow p.methods m c Cancel_role)) class runs in
     let w = found (plays c Cancel_role) p.methods m' e in
     let here : IfSome (Some w.0) (λ d. IsTrue (plays c Cancel_role d) → m' < m) = subst (λ o. IfSome o (λ d. IsTrue (plays c Cancel_role d) → m' < m)) w.1 (below m') in
