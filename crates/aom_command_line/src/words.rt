@@ -2,8 +2,8 @@
 ghost use Rattle.std.specs.Prelude.{◌≡◌, ◌≤◌, IfOk, IfErr, Some, false, true, codes};
 ghost use Rattle.std.specs.String.{string_bytes};
 ghost use Rattle.clap.specs.declared.builder.command.Command.TheViews.{out-Command as fields_of};
-ghost use Rattle.clap.specs.Words.{app_of, found_of, kind_of, one_of, rows_of, rule_of, subcommand_of, subcommand_rows_of, takes, with_rule, with_subcommand};
-ghost use Rattle.aom_command_line.specs.CommandLine.{asm_form, check_form, dis_form, dot_form, explore_form, run_form, form, file_rule, from_rule, limit_rule, native_rule, number_rule, prices_rule, to_rule, texts_of, word_of, Asks, AsksRun, Declines, DeclinesRun, IsFlag, IsNumberUpTo, KeepsLimit, Says};
+ghost use Rattle.clap.specs.Words.{app_of, found_of, kind_of, one_of, rows_of, rule_of, subcommand_of, subcommand_rows_of, takes, with_subcommand};
+ghost use Rattle.aom_command_line.specs.CommandLine.{asm_form, check_form, dis_form, dot_form, explore_form, run_form, form, file_rule, from_rule, limit_rule, native_rule, number_rule, prices_rule, to_rule, texts_of, with_files, word_of, Asks, AsksRun, Declines, DeclinesRun, IsFlag, IsNumberUpTo, KeepsLimit, Says};
 
 use clap::builder::ValueParser;
 use clap::error::ErrorKind;
@@ -172,7 +172,7 @@ fn explore_command<'a>(alloc: Global) -> Result<Command<'a>, AllocError>
 
 /// Adds the files of a run, and its natives.
 fn with_files<'a>(alloc: Global, command: Command<'a>) -> Result<Command<'a>, AllocError>
-    ensures form { IfOk result (λ c. app_of c ≡ with_rule (with_rule (with_rule (app_of command.entry) (file_rule (codes "IMAGE"))) (file_rule (codes "SCRIPT"))) native_rule) }
+    ensures form { IfOk result (λ c. app_of c ≡ with_files (app_of command.entry)) }
     ensures own { IfOk result (λ c. (fields_of c).has_globals ≡ (fields_of command.entry).has_globals) }
 {
     command
