@@ -3,8 +3,7 @@ use Rattle.std.proofs.Common.{Bool, IsTrue, List, None, Option, Some, [], ap, ar
 use Rattle.std.proofs.lemmas.Bool.{eq-eqb, eqb-true, ltb-true, ne_eqb, true≢false}
 use Rattle.std.specs.Prelude.{is_none, is_some, map, not, replicate, ◌⊎◌}
 use Rattle.aom_image.specs.Image.{Image}
-use Rattle.aom_image.specs.Views.{arguments_of, gives_of, has, instr_at, is_quiet, leaves, method_class, method_role}
-use Rattle.aom_instructions.specs.declared.instr.Instr.TheVariants.{Call, Trap}
+use Rattle.aom_image.specs.Views.{arguments_of, has, method_class, method_role}
 use Rattle.aom_instructions.specs.declared.instr.Target.{Target}
 use Rattle.aom_instructions.specs.declared.instr.Target.TheVariants.{Entry as On_entry, Field as On_field, Register as On_register, This}
 use Rattle.aom_image.specs.declared.method.Argument.{Argument}
@@ -13,9 +12,9 @@ use Rattle.aom_image.specs.declared.method.Gives.TheVariants.{Left, Nothing}
 use Rattle.aom_image.specs.declared.method.Role.TheVariants.{Construct, Do}
 use Rattle.aom_image.specs.declared.method.Thing.{Thing}
 use Rattle.aom_image.specs.declared.method.Thing.TheVariants.{Object as An_object_of}
-use Rattle.aom_rules.specs.Calls.{age_need, awaits, brought, caught, each_argument, is_among, is_target, rule_target, stands_here, while_called}
-use Rattle.aom_rules.specs.Requests.{begins_here, begins_there, is_cancel, is_construct, may_begin, resting, unissued}
-use Rattle.aom_shape.specs.Arguments.{after_of, argument_kind, arguments_moved, before_of, entry_fields, entry_shape}
+use Rattle.aom_rules.specs.Calls.{age_need, awaits, is_among, is_target, rule_target, stands_here, while_called}
+use Rattle.aom_rules.specs.Requests.{begins_here, begins_there, is_cancel, is_construct, may_begin, resting}
+use Rattle.aom_shape.specs.Arguments.{argument_kind, arguments_moved, before_of, entry_fields, entry_shape}
 use Rattle.aom_shape.specs.Kinds.{is_own_for, entry_kind, field, filled, is_fresh_kind, is_object_or_null, is_ready_kind, is_unowning, readied, register, set_register}
 use Rattle.aom_shape.specs.Entries.{readied_at}
 use Rattle.aom_shape.specs.Needs.{AllTrue, only_if}
@@ -23,7 +22,7 @@ use Rattle.aom_shape.specs.Order.{SaysNoMore, Weaker, WeakerFilling, alike, alik
 use Rattle.aom_shape.specs.Shape.{Shape}
 use Rattle.aom_shape.specs.Tables.{at}
 use Rattle.aom_shape.specs.Things.{Member, field_thing, holder_by, holder_of, stands_for}
-use Rattle.aom_rules.specs.Typing.{IsTyped, Leads, Typing}
+use Rattle.aom_rules.specs.Typing.{IsTyped, Typing}
 use Rattle.aom_shape.specs.declared.kind.Age.{Age}
 use Rattle.aom_shape.specs.declared.kind.Age.TheVariants.{Fresh, Ready}
 use Rattle.aom_shape.specs.declared.kind.Entry.TheVariants.{Operation as Pushed_operation}
@@ -31,28 +30,26 @@ use Rattle.aom_shape.specs.declared.kind.Filling.{Filling}
 use Rattle.aom_shape.specs.declared.kind.Filling.TheVariants.{Empty, Full, Perhaps}
 use Rattle.aom_shape.specs.declared.kind.Kind.{Kind}
 use Rattle.aom_shape.specs.declared.kind.Kind.TheVariants.{Null, Own, Unset}
-use Rattle.aom_sound.proofs.Claimed.{Outside, OwnsNoMore, claim_from, claim_register_above, claim_unclaimed, claim_weaker, filled_weaker, fits_weaker, layer_rel, mark_claims, outside_differs, word_fits_weaker}
+use Rattle.aom_sound.proofs.Claimed.{Outside, OwnsNoMore, claim_from, claim_register_above, claim_unclaimed, claim_weaker, filled_weaker, fits_weaker, layer_rel, outside_differs, word_fits_weaker}
 use Rattle.aom_sound.proofs.Destroying.{Untouched, at_alike, eqb_comm, other_name, untouched, untouched_method}
-use Rattle.aom_sound.proofs.Finishing.{all_join, all_parts, none_owns_at}
+use Rattle.aom_sound.proofs.Finishing.{all_join}
 use Rattle.aom_sound.proofs.Items.{entry_claimed, entry_owns, entry_there, length_each, length_forms, readied_claim, readied_items}
 use Rattle.aom_sound.proofs.Jumps.{words_kept}
 use Rattle.aom_sound.proofs.Maps.{at-put_at, held_lives, same_place-true}
-use Rattle.aom_sound.proofs.Passing.{Passed, all_passed, each_met, filling, lower, none_passed, taken, taker, under, upper}
-use Rattle.aom_sound.proofs.Straight.{At, Law, claim_field, claim_register, field_fits, field_not_from, field_outside, fits_unowning, kind_fits, top, word_of_object}
+use Rattle.aom_sound.proofs.Passing.{Passed, filling, lower, taken, taker, under, upper}
+use Rattle.aom_sound.proofs.Straight.{At, claim_field, claim_register, field_fits, field_not_from, field_outside, fits_unowning, kind_fits, top, word_of_object}
 use Rattle.aom_sound.proofs.Things.{stands_along, stands_same}
-use Rattle.aom_sound.specs.Calls.{called, entry_place, given_cells, home_at, needs_each, needs_result, needs_target, needs_target_object, over_trap, own_home, passed_cells, passed_words, result_register, target_home, works_on}
-use Rattle.aom_sound.specs.Claims.{Layer, Mark, Mark_form, Method, claim, declared, declared_field, entry_claim, forms, home_claim, items_of, layer_claim, objects, root_claim, tasks_of}
+use Rattle.aom_sound.specs.Calls.{entry_place, home_at, needs_result, needs_target, needs_target_object, own_home, passed_cells, passed_words, target_home, works_on}
+use Rattle.aom_sound.specs.Claims.{Layer, Method, claim, declared, declared_field, entry_claim, forms, home_claim, items_of, layer_claim, objects, root_claim, tasks_of}
 use Rattle.aom_sound.specs.Laws.{IsCalled, IsWired}
-use Rattle.aom_sound.specs.Moves.{does}
 use Rattle.aom_sound.specs.Places.{Cell, Elsewhere, Entry, Field, Going, Object, Place, Register, Root, held, named, requested, same_place, seen}
 use Rattle.aom_sound.specs.State.{AtRoot, Choice, Frame, Home, Inside, Run, State, Static, WrongKind, field_place, frame_of, home_holder, thing_holder, word}
-use Rattle.aom_sound.specs.WellTyped.{AllUndo, Awaits, Back, Caught, EndsWell, Fits, Good, Holds, IsApart, IsBelow, IsHoused, IsNoFieldOf, NotIn, Returns, Stack, Stands, Unclaimed, WellTyped, WordFits, WorksOn, by_field}
-use Rattle.aom_sound.proofs.Callees.{apart_from, below_more, filled_ready, fits_fresh, held_own, holder_called, holder_member, holder_static, home_member, member_kind, moved_entries, moved_register, none_owns_each, only_then, own_for, passed_elsewhere}
+use Rattle.aom_sound.specs.WellTyped.{AllUndo, Awaits, Back, Fits, Good, Holds, IsApart, IsBelow, IsHoused, IsNoFieldOf, NotIn, Returns, Stack, Stands, Unclaimed, WellTyped, WordFits, WorksOn, by_field}
+use Rattle.aom_sound.proofs.Callees.{apart_from, below_more, filled_ready, fits_fresh, held_own, holder_called, holder_member, holder_static, home_member, member_kind, moved_entries, moved_register, own_for, passed_elsewhere}
 use Rattle.aom_sound.specs.Requests.{AllSuit, Known, Suits, Unworked, known_at, resting_in, rests_in, states_claim, thing_kind, works_at}
 use Rattle.aom_roles.specs.Shapes.{kind_of}
-use Rattle.aom_shape.proofs.Sets.{has_itself}
 use Rattle.aom_sound.proofs.Suiting.{known_plain, same_object, suits_first, suits_less, unworked_rests}
-use Rattle.aom_roles.specs.States.{first_of, idle, states_of}
+use Rattle.aom_roles.specs.States.{first_of, states_of}
 
 module _ (p : Image) (t : Typing) (wired : IsWired p) (typed : IsTyped p t) (c : Choice) (s : State) (fr : Frame) (sh : Shape) (ls : List Layer) (at_hand : At p t s fr sh ls) (m first depth height : ℕ) (deep : length (tasks_of ls) < depth) (is_called : IsCalled p m) where
   abbrev xs : List Argument
@@ -90,31 +87,31 @@ module _ (p : Image) (t : Typing) (wired : IsWired p) (typed : IsTyped p t) (c :
   BeginsWell (Inside o from) sh' = Suits (thing_kind p o.thing) (known_there o sh' (before_of p m)) (requested cs o.name) × (thing_kind p o.thing ≡ kind_of p (method_class p m))
 
   -- it does not cancel
-  cancels_not : is_cancel (method_role p m) ≡ false
+  pub cancels_not : is_cancel (method_role p m) ≡ false
   cancels_not = go is_called.role
     where
       go : (method_role p m ≡ Some Do) ⊎ (method_role p m ≡ Some Construct) → is_cancel (method_role p m) ≡ false
       go (inl e) = ap is_cancel e
       go (inr e) = ap is_cancel e
 
-  kind_begun : (home : Home) (sh' : Shape) → BeginsWell home sh' → (o : Object) (from : Place) → home ≡ Inside o from → thing_kind p o.thing ≡ kind_of p (method_class p m)
+  pub kind_begun : (home : Home) (sh' : Shape) → BeginsWell home sh' → (o : Object) (from : Place) → home ≡ Inside o from → thing_kind p o.thing ≡ kind_of p (method_class p m)
   kind_begun (Inside x q) sh' b o from e = let same : x ≡ o = cc in subst (λ y. thing_kind p y.thing ≡ kind_of p (method_class p m)) same b.1
   kind_begun _ sh' b o from e = cc
 
   -- the caller while the call lasts, and the home of the method called
-  record Entering (ended : ℕ) (home : Home) (sh' : Shape) : Type 0 where
-    fits : (r : Place) → Fits p (seen cs) (held cs r) (filling p t fr ls depth deep (declared p cs) regs sh' r)
-    words : (i : ℕ) → WordFits (word fr i) (register sh' i)
-    housed : IsHoused p cs (Method fr sh' ∷ ls) home
-    apart : IsApart p home (Method fr sh' ∷ ls)
-    holder : home_holder home ≡ holder_of p m
-    owning : (i : ℕ) → is_unowning (register sh' i) ≡ is_unowning (register after_arguments i)
-    items : objects sh'.entries (items_of ls) ≡ objects sh.entries (items_of ls)
-    fields : FieldsBegin home
-    suits : (x : Object) → named cs x.name ≡ Some x → works_at x.name home ≡ false → Suits (thing_kind p x.thing) (states_claim p x (Method fr sh' ∷ ls)) (requested cs x.name)
-    begun : BeginsWell home sh'
+  pub record Entering (ended : ℕ) (home : Home) (sh' : Shape) : Type 0 where
+    pub fits : (r : Place) → Fits p (seen cs) (held cs r) (filling p t fr ls depth deep (declared p cs) regs sh' r)
+    pub words : (i : ℕ) → WordFits (word fr i) (register sh' i)
+    pub housed : IsHoused p cs (Method fr sh' ∷ ls) home
+    pub apart : IsApart p home (Method fr sh' ∷ ls)
+    pub holder : home_holder home ≡ holder_of p m
+    pub owning : (i : ℕ) → is_unowning (register sh' i) ≡ is_unowning (register after_arguments i)
+    pub items : objects sh'.entries (items_of ls) ≡ objects sh.entries (items_of ls)
+    pub fields : FieldsBegin home
+    pub suits : (x : Object) → named cs x.name ≡ Some x → works_at x.name home ≡ false → Suits (thing_kind p x.thing) (states_claim p x (Method fr sh' ∷ ls)) (requested cs x.name)
+    pub begun : BeginsWell home sh'
     -- the caller's own object will be in one of these states
-    settles : (o : Object) (from : Place) → home ≡ Inside o from → works_at o.name fr.home ≡ true → sh'.states ≡ ended
+    pub settles : (o : Object) (from : Place) → home ≡ Inside o from → works_at o.name fr.home ≡ true → sh'.states ≡ ended
 
   module _ (passed : Passed p t fr ls depth deep cs after_arguments regs ws) where
     -- what is claimed with the called method over its caller
@@ -164,7 +161,7 @@ module _ (p : Image) (t : Typing) (wired : IsWired p) (typed : IsTyped p t) (c :
         inner false e = s x lives e
 
     -- so it is entered, over these layers, which claim what the caller claims
-    enter : {ended : ℕ} (home : Home) (sh' : Shape) (over : List Layer) → Entering ended home sh' → length (tasks_of over) ≡ depth → length (items_of over) ≡ height → ((d : Place → Kind) (r : Place) → claim p d over r ≡ claim p d (Method fr sh' ∷ ls) r) → ((o : Object) → states_claim p o over ≡ states_claim p o (Method fr sh' ∷ ls)) → IsHoused p cs over home → IsApart p home over → Stack p t cs (Returns m home) over → (s' : State) → s'.cells ≡ cs → s'.tasks ≡ Run (callee home) ∷ tasks_of over → forms s'.items ≡ items_of over → AllUndo p s'.items → WellTyped p t s'
+    pub enter : {ended : ℕ} (home : Home) (sh' : Shape) (over : List Layer) → Entering ended home sh' → length (tasks_of over) ≡ depth → length (items_of over) ≡ height → ((d : Place → Kind) (r : Place) → claim p d over r ≡ claim p d (Method fr sh' ∷ ls) r) → ((o : Object) → states_claim p o over ≡ states_claim p o (Method fr sh' ∷ ls)) → IsHoused p cs over home → IsApart p home over → Stack p t cs (Returns m home) over → (s' : State) → s'.cells ≡ cs → s'.tasks ≡ Run (callee home) ∷ tasks_of over → forms s'.items ≡ items_of over → AllUndo p s'.items → WellTyped p t s'
     enter home sh' over e at_depth high same same_states housed apart stack s' cells tasks items undos =
         let leads = typed.entry m is_called.there in
         let w = leads.2 in
@@ -190,11 +187,11 @@ module _ (p : Image) (t : Typing) (wired : IsWired p) (typed : IsTyped p t) (c :
         as_begun after w (Going k) = same (declared p cs) (Going k)
 
     -- the caller below, while the call lasts
-    caller : {ended : ℕ} (home : Home) (sh' : Shape) (back : Back) → Entering ended home sh' → Stands p t back fr sh' → Stack p t cs back (Method fr sh' ∷ ls)
+    pub caller : {ended : ℕ} (home : Home) (sh' : Shape) (back : Back) → Entering ended home sh' → Stands p t back fr sh' → Stack p t cs back (Method fr sh' ∷ ls)
     caller home sh' back e stands = (stands, record { words = e.words; holder = at_hand.good.stack.1.holder; height = at_hand.good.stack.1.height; alone = at_hand.good.stack.1.alone }, passed.housed, at_hand.good.stack.3, passed.stack)
 
     -- the cleanup stack is as it was
-    same_high : {ended : ℕ} (home : Home) (sh' : Shape) → Entering ended home sh' → forms s.items ≡ items_of (Method fr sh' ∷ ls)
+    pub same_high : {ended : ℕ} (home : Home) (sh' : Shape) → Entering ended home sh' → forms s.items ≡ items_of (Method fr sh' ∷ ls)
     same_high home sh' e = at_hand.items ∙ sym e.items
 
     -- the fields of an object that is not under construction
@@ -669,148 +666,24 @@ module _ (p : Image) (t : Typing) (wired : IsWired p) (typed : IsTyped p t) (c :
           at_home (entry_place s.items k) x.0 (while_called (On_entry k) (method_class p m) ended after_arguments) x.1 (on_entry k y e w.0 w.1 within w.2 w.3 ended may (ages kind w.0 w.1 w.2 (age_of kind n.1.1))),
         )
 
-    answer : (ended : ℕ) (target : Target) → AllTrue (rule_target p fr.method sh target (method_class p m) (is_construct (method_role p m)) first (length xs)) → may_begin p m target after_arguments.states ≡ true → Answer ended target
+    pub answer : (ended : ℕ) (target : Target) → AllTrue (rule_target p fr.method sh target (method_class p m) (is_construct (method_role p m)) first (length xs)) → may_begin p m target after_arguments.states ≡ true → Answer ended target
     answer ended This n may = on_this ended (method_class p m) refl n may
     answer ended (On_register r) n may = on_owned ended r (method_class p m) refl n may
     answer ended (On_field f) n may = on_kept ended f (method_class p m) refl n may
     answer ended (On_entry k) n may = on_pushed ended k (method_class p m) refl n may
 
     -- what the result comes to owns nothing
-    result_free : (x : ℕ) → is_unowning (register after_arguments x) ≡ true → is_none (held cs (top ls x)) ≡ true
+    pub result_free : (x : ℕ) → is_unowning (register after_arguments x) ≡ true → is_none (held cs (top ls x)) ≡ true
     result_free x u = ap is_none (fits_unowning p (seen cs) _ (register after_arguments x) u (subst (λ k. Fits p (seen cs) (held cs (top ls x)) k)
         (ap (λ b. cond b (at Unset regs x) (claim p (declared p cs) (Method fr after_arguments ∷ ls) (top ls x))) (ne_eqb depth (length (tasks_of ls)) (λ e. absurd (omega arith))) ∙ claim_register p (declared p cs) fr after_arguments ls x)
         (passed.fits (top ls x))))
 
-    result_met : (g : Gives) (x : ℕ) → awaits g (register after_arguments x) ≡ true → AllTrue (needs_result p fr (tasks_of ls) s g cs x)
+    pub result_met : (g : Gives) (x : ℕ) → awaits g (register after_arguments x) ≡ true → AllTrue (needs_result p fr (tasks_of ls) s g cs x)
     result_met Nothing x a = tt
     result_met (Left y) x a = tt
     result_met _ x a = (result_free x a, tt)
 
-    awaited : (g : Gives) (x : ℕ) (sh' : Shape) → ((i : ℕ) → is_unowning (register sh' i) ≡ is_unowning (register after_arguments i)) → awaits g (register after_arguments x) ≡ true → Awaits g x sh'
+    pub awaited : (g : Gives) (x : ℕ) (sh' : Shape) → ((i : ℕ) → is_unowning (register sh' i) ≡ is_unowning (register after_arguments i)) → awaits g (register after_arguments x) ≡ true → Awaits g x sh'
     awaited Nothing x sh' same a = tt
     awaited (Left y) x sh' same a = tt
     awaited _ x sh' same a = same x ∙ a
-
--- what the caller finds its own object in is no issued request, where neither before nor at the end there is one
-called_unissued : (target : Target) (class : Option ℕ) (ended : ℕ) (sh : Shape) → unissued sh.states ≡ true → unissued ended ≡ true → unissued (while_called target class ended sh).states ≡ true
-called_unissued This (Some c) ended sh u e = e
-called_unissued This None ended sh u e = u
-called_unissued _ class ended sh u e = u
-
--- under a trap it rests
-rests_under :
-    (p : Image) (m : ℕ) (fr : Frame) (sh : Shape) (home : Home) → ((o : Object) (from : Place) → home ≡ Inside o from → thing_kind p o.thing ≡ kind_of p (method_class p m)) →
-    ((o : Object) (from : Place) → home ≡ Inside o from → works_at o.name fr.home ≡ true → sh.states ≡ resting p (method_class p m)) →
-    (o : Object) (from : Place) → home ≡ Inside o from → works_at o.name fr.home ≡ true → IsTrue (has sh.states (rests_in p o))
-rests_under p m fr sh home kind settles o from e w = subst (λ k. IsTrue (has sh.states k)) (settles o from e w ∙ ap states_of (sym (kind o from e))) (has_itself sh.states)
-
-ends_well : (p : Image) (m : ℕ) (fr : Frame) (sh : Shape) (home : Home) → is_cancel (method_role p m) ≡ false → ((o : Object) (from : Place) → home ≡ Inside o from → works_at o.name fr.home ≡ true → sh.states ≡ after_of p m) → EndsWell p m home fr sh
-ends_well p m fr sh Static plain e = tt
-ends_well p m fr sh AtRoot plain e = tt
-ends_well p m fr sh (Inside o from) plain e = λ w. subst (λ n. IsTrue (has sh.states n)) (sym (ap (λ b. cond b idle (after_of p m)) plain)) (subst (λ k. IsTrue (has k (after_of p m))) (sym (e o from refl w)) (has_itself (after_of p m)))
-
-not_then : (b : Bool) → not b ≡ true → b ≡ false
-not_then true e = cc
-not_then false e = refl
-
-module _ (p : Image) (t : Typing) (wired : IsWired p) (typed : IsTyped p t) (c : Choice) (s : State) (fr : Frame) (sh : Shape) (ls : List Layer) (at_hand : At p t s fr sh ls) where
-  pub law_call : (target : Target) (m first x : ℕ) → instr_at p fr.method fr.place ≡ Some (Call target m first x) → Law p t c s fr sh ls at_hand (Call target m first x)
-  law_call target m first x here n leads =
-      let ended = after_of p m in
-      let called_so = wired.called fr.method fr.place target m first x here in
-      let parts = all_parts (rule_target p fr.method sh target (method_class p m) (is_construct (method_role p m)) first (length (arguments_of p m))) _ n in
-      let more = all_parts (each_argument p sh (arguments_of p m) first) _ parts.1.1 in
-      let deep : length (tasks_of ls) < suc (length (tasks_of ls)) = omega arith in
-      let passed = all_passed p t fr ls depth deep s (arguments_of p m) first 0 s.cells sh [] [] refl more.0 (none_passed p t fr ls depth deep s.cells sh at_hand.good) in
-      let a = answer p t wired typed c s fr sh ls at_hand m first depth height deep called_so passed ended target parts.0 more.1.0 in
-      let sh' = while_called target (method_class p m) ended (arguments_moved (arguments_of p m) first sh) in
-      let at_x : result_register (instr_at p fr.method fr.place) ≡ x = ap result_register here in
-      let home = target_home p fr (tasks_of ls) s target (method_class p m) in
-      let stands : Stands p t (Returns m home) fr sh' = (
-        λ l. (
-          only_then (leaves p m) (leaves p fr.method) more.1.1.1.1.0 l,
-          none_owns_each sh'.registers (λ i. a.1.owning i ∙ none_owns_at (arguments_moved (arguments_of p m) first sh).registers i (only_then (leaves p m) _ more.1.1.1.1.1.0 l)),
-          called_unissued target (method_class p m) ended (arguments_moved (arguments_of p m) first sh) (only_then (leaves p m) _ more.1.1.1.1.1.1.0 l) called_so.ends,
-        ),
-        subst (λ y. Awaits (gives_of p m) y sh') (sym at_x) (awaited p t wired typed c s fr sh ls at_hand m first depth height deep called_so passed (gives_of p m) x sh' a.1.owning more.1.1.1.0),
-        subst (λ y. Leads t fr.method (suc fr.place) (brought (gives_of p m) y sh')) (sym at_x) leads.0,
-        ends_well p m fr sh' home (cancels_not p t wired typed c s fr sh ls at_hand m first depth height deep called_so) a.1.settles,
-        λ q. only_then (is_quiet p fr.method) (is_quiet p m) more.1.1.0 q,
-      ) in
-      let high = same_high p t wired typed c s fr sh ls at_hand m first depth height deep called_so passed home sh' a.1 in (
-        all_join (needs_target p fr (tasks_of ls) s target (method_class p m) first (length (arguments_of p m))) _ a.0
-            (parts.1.0, all_join (needs_each p fr (tasks_of ls) s (arguments_of p m) first) _ (each_met p t c s fr sh ls at_hand (arguments_of p m) first more.0) (result_met p t wired typed c s fr sh ls at_hand m first depth height deep called_so passed (gives_of p m) x more.1.1.1.0)),
-        enter p t wired typed c s fr sh ls at_hand m first depth height deep called_so passed home sh' (Method fr sh' ∷ ls) a.1 refl (ap length (sym high) ∙ length_forms s.items) (λ d r. refl) (λ o. refl) a.1.housed a.1.apart (caller p t wired typed c s fr sh ls at_hand m first depth height deep called_so passed home sh' (Returns m home) a.1 stands) (does p c fr (tasks_of ls) s (Call target m first x)) refl refl high at_hand.undos,
-      )
-    where
-      depth : ℕ
-      depth = suc (length (tasks_of ls))
-
-      height : ℕ
-      height = length s.items
-
--- over a trap's mark
-below_mark : (from : Place) (gv : Gives) (ls : List Layer) → IsBelow from ls → IsBelow from (Mark gv ∷ ls)
-below_mark (Field n f) gv ls b = b
-below_mark (Elsewhere w) gv ls b = tt
-below_mark _ gv ls b = omega arith
-
-housed_mark : (p : Image) (cs : List Cell) (home : Home) (gv : Gives) (ls : List Layer) → IsHoused p cs ls home → IsHoused p cs (Mark gv ∷ ls) home
-housed_mark p _ Static gv ls h = h
-housed_mark p _ AtRoot gv ls h = h
-housed_mark p _ (Inside o from) gv ls h = record { there = h.there; lives = h.lives; below = below_mark from gv ls h.below; ready = ap is_ready_kind (mark_claims p (λ r. Null) gv ls from) ∙ h.ready }
-
-apart_mark : (p : Image) (home : Home) (gv : Gives) (fr : Frame) (sh : Shape) (ls : List Layer) → IsApart p home (Method fr sh ∷ ls) → ((o : Object) (from : Place) → home ≡ Inside o from → works_at o.name fr.home ≡ true → IsTrue (has sh.states (rests_in p o))) → IsApart p home (Mark gv ∷ Method fr sh ∷ ls)
-apart_mark p Static gv fr sh ls a r = a
-apart_mark p AtRoot gv fr sh ls a r = a
-apart_mark p (Inside o from) gv fr sh ls a r = (
-  a.0,
-  a.1,
-  a.2,
-  elim a.3 [
-    | inl w ↦ inl (w, r o from refl w)
-    | inr u ↦ inr u
-  ],
-)
-
-module _ (p : Image) (t : Typing) (wired : IsWired p) (typed : IsTyped p t) (c : Choice) (s : State) (fr : Frame) (sh : Shape) (ls : List Layer) (at_hand : At p t s fr sh ls) where
-  pub law_trap : (target : Target) (m first x : ℕ) → instr_at p fr.method fr.place ≡ Some (Trap target m first x) → Law p t c s fr sh ls at_hand (Trap target m first x)
-  law_trap target m first x here n leads =
-      let ended = resting p (method_class p m) in
-      let trapped = wired.trapped fr.method fr.place target m first x here in
-      let called_so : IsCalled p m = record { there = trapped.there; role = inl trapped.role; ends = trapped.ends; begins = λ e. let clash : Some Do ≡ Some Construct = sym trapped.role ∙ e in cc } in
-      let parts = all_parts (rule_target p fr.method sh target (method_class p m) (is_construct (method_role p m)) first (length (arguments_of p m))) _ n.1 in
-      let more = all_parts (each_argument p sh (arguments_of p m) first) _ parts.1.1 in
-      let deep : length (tasks_of ls) < suc (suc (length (tasks_of ls))) = omega arith in
-      let passed = all_passed p t fr ls depth deep s (arguments_of p m) first 0 s.cells sh [] [] refl more.0 (none_passed p t fr ls depth deep s.cells sh at_hand.good) in
-      let a = answer p t wired typed c s fr sh ls at_hand m first depth height deep called_so passed ended target parts.0 more.1.0 in
-      let sh' = while_called target (method_class p m) ended (arguments_moved (arguments_of p m) first sh) in
-      let gv = gives_of p m in
-      let at_x : result_register (instr_at p fr.method fr.place) ≡ x = ap result_register here in
-      let home = target_home p fr (tasks_of ls) s target (method_class p m) in
-      let over = Mark gv ∷ Method fr sh' ∷ ls in
-      let stands : Stands p t (Caught gv) fr sh' = (
-        ap (λ i. called p i) here,
-        subst (λ y. is_unowning (register sh' (suc y)) ≡ true) (sym at_x) (a.1.owning (suc x) ∙ more.1.1.1.0),
-        subst (λ y. Awaits gv y sh') (sym at_x) (awaited p t wired typed c s fr sh ls at_hand m first depth height deep called_so passed gv x sh' a.1.owning more.1.1.0),
-        subst (λ y. Leads t fr.method (suc fr.place) (caught gv y sh')) (sym at_x) leads.0,
-        not_then (is_quiet p fr.method) n.0,
-      ) in
-      let high = same_high p t wired typed c s fr sh ls at_hand m first depth height deep called_so passed home sh' a.1 in
-      let below = caller p t wired typed c s fr sh ls at_hand m first depth height deep called_so passed home sh' (Caught gv) a.1 stands in
-      let free = result_free p t wired typed c s fr sh ls at_hand m first depth height deep called_so passed (suc x) more.1.1.1.0 in (
-        all_join (needs_target p fr (tasks_of ls) s target (method_class p m) first (length (arguments_of p m))) _ a.0 (
-          parts.1.0,
-          all_join (needs_each p fr (tasks_of ls) s (arguments_of p m) first) _ (each_met p t c s fr sh ls at_hand (arguments_of p m) first more.0)
-              (all_join (needs_result p fr (tasks_of ls) s gv (given_cells p fr (tasks_of ls) s (over_trap p fr (tasks_of ls) s) m first) x) _ (result_met p t wired typed c s fr sh ls at_hand m first depth height deep called_so passed gv x more.1.1.0) (free, tt)),
-        ),
-        enter p t wired typed c s fr sh ls at_hand m first depth height deep called_so passed home sh' over a.1 refl (ap suc (ap length (sym high) ∙ length_forms s.items)) (λ d r. mark_claims p d gv (Method fr sh' ∷ ls) r) (λ o. refl)
-            (housed_mark p (given_cells p fr (tasks_of ls) s (over_trap p fr (tasks_of ls) s) m first) home gv (Method fr sh' ∷ ls) a.1.housed) (apart_mark p home gv fr sh' ls a.1.apart (rests_under p m fr sh' home (kind_begun p t wired typed c s fr sh ls at_hand m first depth height deep called_so home sh' a.1.begun) a.1.settles))
-            ((refl, trapped.gives, ap is_cancel trapped.role), below) (does p c fr (tasks_of ls) s (Trap target m first x)) refl refl (ap (λ fs. Mark_form ∷ fs) high) at_hand.undos,
-      )
-    where
-      depth : ℕ
-      depth = suc (suc (length (tasks_of ls)))
-
-      height : ℕ
-      height = suc (length s.items)

@@ -1,10 +1,10 @@
 -- The law of `cancel`: a request that is not active is left alone, and over the method that cancels the caller waits with its object idle.
-use Rattle.std.proofs.Common.{Bool, IsTrue, List, None, Option, Some, [], ap, arith, cond, false, inl, length, refl, replicate, subst, suc, sym, true, ℕ, ◌==◌, ◌∙◌, ◌∷◌, ◌≡◌}
+use Rattle.std.proofs.Common.{Bool, IsTrue, List, None, Option, Some, ap, arith, cond, false, inl, length, refl, replicate, subst, suc, sym, true, ℕ, ◌==◌, ◌∙◌, ◌∷◌, ◌≡◌}
 use Rattle.std.proofs.lemmas.Bool.{eq-eqb, eqb-true, ne_eqb, true≢false}
 use Rattle.std.specs.Prelude.{bit_and, bit_or, not, ◌||◌}
 use Rattle.aom_classes.specs.Roles.{role_of}
 use Rattle.aom_image.specs.Image.{Image}
-use Rattle.aom_image.specs.Views.{gives_of, has, instr_at, is_quiet, leaves, method_class, method_role}
+use Rattle.aom_image.specs.Views.{has, instr_at, method_class, method_role}
 use Rattle.aom_image.specs.declared.class.ClassKind.{ClassKind}
 use Rattle.aom_image.specs.declared.class.ClassKind.TheVariants.{Active as An_active}
 use Rattle.aom_image.specs.declared.method.Role.TheVariants.{Cancel as Cancel_role}
@@ -18,15 +18,14 @@ use Rattle.aom_rules.specs.Requests.{after_cancel, is_active_kind, is_cancel, on
 use Rattle.aom_rules.specs.Typing.{IsTyped, Leads, Typing}
 use Rattle.aom_shape.proofs.Ordering.{transitive}
 use Rattle.aom_shape.proofs.Sets.{has_along, has_first, has_itself, has_second}
-use Rattle.aom_shape.specs.Arguments.{after_of, before_of, entry_fields, entry_shape}
+use Rattle.aom_shape.specs.Arguments.{after_of, entry_fields, entry_shape}
 use Rattle.aom_shape.specs.Kinds.{field, filled, is_ready_kind, register}
 use Rattle.aom_shape.specs.Order.{SaysNoMore, Weaker, WeakerFilling, alike, alike_filling, perhaps_empty, perhaps_full}
 use Rattle.aom_shape.specs.Shape.{Shape}
 use Rattle.aom_shape.specs.Tables.{at}
-use Rattle.aom_shape.specs.Things.{Member, field_thing, holder_by, holder_of}
+use Rattle.aom_shape.specs.Things.{field_thing, holder_by, holder_of}
 use Rattle.aom_shape.specs.declared.kind.Filling.{Filling}
 use Rattle.aom_shape.specs.declared.kind.Filling.TheVariants.{Empty, Full, Perhaps}
-use Rattle.aom_shape.specs.declared.kind.Kind.{Kind}
 use Rattle.aom_shape.specs.declared.kind.Kind.TheVariants.{Null, Unset}
 use Rattle.aom_sound.proofs.Callees.{below_more}
 use Rattle.aom_sound.proofs.Claimed.{OwnsNoMore, claim_from, claim_ready, claim_register_above, claim_weaker, fits_weaker}
@@ -42,7 +41,7 @@ use Rattle.aom_sound.specs.Calls.{result_register}
 use Rattle.aom_sound.specs.Effects.{applied, cancels_if}
 use Rattle.aom_sound.specs.Enlisted.{begun_cells, cancel_method, cancel_of, cancelling, in_phase, is_active, is_cancelling, is_unsettled, on_request, own_request, rerequested}
 use Rattle.aom_sound.specs.Laws.{IsWired}
-use Rattle.aom_sound.specs.Places.{Active, Aborted, Cancelling, Cell, Elsewhere, Entry, Field, Going, Idle, Issued, Object, Phase, Place, Register, Request, Root, held, named, requested, seen}
+use Rattle.aom_sound.specs.Places.{Active, Aborted, Cancelling, Cell, Elsewhere, Entry, Field, Going, Idle, Issued, Object, Phase, Place, Register, Request, Root, held, requested, seen}
 use Rattle.aom_sound.specs.Requests.{AllSuit, Known, Suits, known_at, phase_state, state_of, states_claim, thing_kind, works_at}
 use Rattle.aom_sound.specs.State.{Choice, Frame, Home, Inside, State, frame_of, home_holder, next, thing_holder}
 use Rattle.aom_sound.specs.WellTyped.{Awaits, EndsWell, Fits, Good, Holds, IsAlone, IsApart, IsHoused, NotIn, Returns, Stack, Stands, Unclaimed, WellTyped, WordFits, by_field}

@@ -26,6 +26,7 @@ pub mod Passing
 pub mod Callees
 pub mod Cancelled
 pub mod Calling
+pub mod CallLaws
 pub mod Leaving
 pub mod Dealing
 pub mod Entries

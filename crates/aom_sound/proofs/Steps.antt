@@ -10,7 +10,7 @@ use Rattle.aom_instructions.specs.declared.instr.Instr.TheVariants.{Abort, Add, 
 use Rattle.aom_shape.specs.Needs.{AllTrue}
 use Rattle.aom_shape.specs.Shape.{Shape}
 use Rattle.aom_rules.specs.Typing.{IsTyped, Typing}
-use Rattle.aom_sound.proofs.Calling.{law_call, law_trap}
+use Rattle.aom_sound.proofs.CallLaws.{law_call, law_trap}
 use Rattle.aom_sound.proofs.Creation.{law_new}
 use Rattle.aom_sound.proofs.Destroying.{law_delete}
 use Rattle.aom_sound.proofs.Destructors.{law_destructor}

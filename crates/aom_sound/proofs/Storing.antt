@@ -1,5 +1,5 @@
 -- The words of a cell count for no place, and its request for the age of objects alone: where these change, what is claimed holds on.
-use Rattle.std.proofs.Common.{Bool, List, None, Option, Some, [], ap, cond, false, refl, subst, sym, true, ℕ, ℤ, ◌==◌, ◌∙◌, ◌∷◌, ◌≡◌}
+use Rattle.std.proofs.Common.{Bool, List, Option, Some, [], ap, cond, false, refl, subst, sym, true, ℕ, ℤ, ◌==◌, ◌∙◌, ◌∷◌, ◌≡◌}
 use Rattle.aom_image.specs.Image.{Image}
 use Rattle.aom_shape.specs.Kinds.{is_ready_kind}
 use Rattle.aom_shape.specs.Shape.{Shape}
