@@ -15,7 +15,7 @@ use Rattle.aom_sound.specs.Calls.{called, result_register}
 use Rattle.aom_sound.specs.Claims.{Dispatching, Layer, Mark, Method, Unwinding, claim, declared, forms, items_of, objects, tasks_of}
 use Rattle.aom_sound.specs.Cleanup.{arrived, code_told}
 use Rattle.aom_sound.specs.Places.{Cell, Elsewhere, Entry, Field, Going, Place, Register, Root, held, seen}
-use Rattle.aom_sound.specs.State.{Dispatch, Frame, Item, Main_left, Of_main, State, Static, next, set_word}
+use Rattle.aom_sound.specs.State.{Dispatch, Frame, Item, Main_left, Object_left, Of_main, Of_object, Seat, State, Static, next, set_word}
 use Rattle.aom_sound.specs.WellTyped.{AllUndo, Awaits, Caught, Fits, Good, Keeps, Stack}
 
 same_entries : (g : Gives) (c : ℕ) (sh : Shape) → (caught g c sh).entries ≡ sh.entries
@@ -74,27 +74,41 @@ module _ (p : Image) (t : Typing) (s : State) (code : ℤ) (items : List Item) w
       fits (Elsewhere Root) = good.fits (Elsewhere Root)
       fits (Going k) = good.fits (Going k)
 
-  -- at main's dispatch, which ends with it
-  at_dispatch : (gv : Gives) (d : Dispatch) (ls : List Layer) → forms items ≡ items_of ls → AllUndo p items → Good p t s.cells (Unwinding code [] ∷ Mark gv ∷ Dispatching d ∷ ls) → Keeps p t (arrived p code (tasks_of (Mark gv ∷ Dispatching d ∷ ls)) items s)
-  at_dispatch gv Of_main ls same undos good = record {
-    layers = Dispatching (Main_left code) ∷ ls;
+  -- at a dispatch, which ends with it
+  at_dispatch : (gv : Gives) (d : Dispatch) (seats : List Seat) (ls : List Layer) → forms items ≡ items_of ls → AllUndo p items → Good p t s.cells (Unwinding code [] ∷ Mark gv ∷ Dispatching d seats ∷ ls) → Keeps p t (arrived p code (tasks_of (Mark gv ∷ Dispatching d seats ∷ ls)) items s)
+  at_dispatch gv Of_main seats ls same undos good = record {
+    layers = Dispatching (Main_left code) seats ∷ ls;
     tasks = refl;
     items = same;
     undos = undos;
-    good = record { stack = (tt, good.stack.1.1.1); fits = fits; suits = good.suits; tidy = good.tidy };
+    good = record { stack = (tt, good.stack.1.1.1, good.stack.1.1.2, good.stack.1.1.3); fits = fits; suits = good.suits; tidy = good.tidy };
   }
     where
-      fits : (r : Place) → Fits p (seen s.cells) (held s.cells r) (claim p (declared p s.cells) (Dispatching (Main_left code) ∷ ls) r)
+      fits : (r : Place) → Fits p (seen s.cells) (held s.cells r) (claim p (declared p s.cells) (Dispatching (Main_left code) seats ∷ ls) r)
       fits (Register f i) = good.fits (Register f i)
       fits (Entry k) = good.fits (Entry k)
       fits (Field n f) = good.fits (Field n f)
       fits (Elsewhere Root) = good.fits (Elsewhere Root)
       fits (Going k) = good.fits (Going k)
-  at_dispatch gv _ ls same undos good = absurd good.stack.1.1.0
+  at_dispatch gv (Of_object x) seats ls same undos good = record {
+    layers = Dispatching (Object_left x code) seats ∷ ls;
+    tasks = refl;
+    items = same;
+    undos = undos;
+    good = record { stack = (tt, good.stack.1.1.1, good.stack.1.1.2, good.stack.1.1.3); fits = fits; suits = good.suits; tidy = good.tidy };
+  }
+    where
+      fits : (r : Place) → Fits p (seen s.cells) (held s.cells r) (claim p (declared p s.cells) (Dispatching (Object_left x code) seats ∷ ls) r)
+      fits (Register f i) = good.fits (Register f i)
+      fits (Entry k) = good.fits (Entry k)
+      fits (Field n f) = good.fits (Field n f)
+      fits (Elsewhere Root) = good.fits (Elsewhere Root)
+      fits (Going k) = good.fits (Going k)
+  at_dispatch gv _ seats ls same undos good = absurd good.stack.1.1.0
 
   -- a trap stands over one of the two
   pub arrives : (gv : Gives) (ls : List Layer) → forms items ≡ items_of ls → AllUndo p items → Good p t s.cells (Unwinding code [] ∷ Mark gv ∷ ls) → Keeps p t (arrived p code (tasks_of (Mark gv ∷ ls)) items s)
   arrives gv [] same undos good = let clash : Stack p t s.cells (Caught gv) [] = good.stack.1.1 in cc
   arrives gv (Method fr sh ∷ ls) same undos good = at_method gv fr sh ls same undos good
-  arrives gv (Dispatching d ∷ ls) same undos good = at_dispatch gv d ls same undos good
+  arrives gv (Dispatching d seats ∷ ls) same undos good = at_dispatch gv d seats ls same undos good
   arrives gv _ same undos good = absurd (assumption tt)

@@ -39,10 +39,10 @@ module _ (p : Image) (m : ℕ) (after : Shape) (w : SaysNoMore after (entry_shap
   unset i = unset_only (subst (λ k. Weaker (register after i) k) (entry_registers p m arguments i) (w.registers i))
 
   abbrev layers : List Layer
-  layers = Method (begins m) after ∷ Mark Nothing ∷ Dispatching Of_main ∷ []
+  layers = Method (begins m) after ∷ Mark Nothing ∷ Dispatching Of_main [] ∷ []
 
-  fits : (r : Place) → Fits p (seen []) None (claim p (declared p []) (Method (begins m) after ∷ Mark Nothing ∷ Dispatching Of_main ∷ []) r)
-  fits (Register f i) = go (length (tasks_of (Mark Nothing ∷ Dispatching Of_main ∷ [])) == f)
+  fits : (r : Place) → Fits p (seen []) None (claim p (declared p []) (Method (begins m) after ∷ Mark Nothing ∷ Dispatching Of_main [] ∷ []) r)
+  fits (Register f i) = go (length (tasks_of (Mark Nothing ∷ Dispatching Of_main [] ∷ [])) == f)
     where
       go : (b : Bool) → Fits p (seen []) None (cond b (register after i) Null)
       go true = subst (λ k. Fits p (seen []) None k) (sym (unset i)) tt
@@ -52,14 +52,14 @@ module _ (p : Image) (m : ℕ) (after : Shape) (w : SaysNoMore after (entry_shap
   fits (Elsewhere Root) = root_null p (seen []) (field_thing p Program 0) (field after 0) (field (entry_shape p m) 0) (w.fields 0) (ap (λ r. is_empty (at Perhaps (entry_fields r) 0)) role)
   fits (Going k) = tt
 
-  pub good : (t : Typing) → shape_at t m 0 ≡ Some after → gives_of p m ≡ Nothing → Good p t [] (Method (begins m) after ∷ Mark Nothing ∷ Dispatching Of_main ∷ [])
+  pub good : (t : Typing) → shape_at t m 0 ≡ Some after → gives_of p m ≡ Nothing → Good p t [] (Method (begins m) after ∷ Mark Nothing ∷ Dispatching Of_main [] ∷ [])
   good t stands gives = record {
     stack = (
       stands,
       record { words = λ i. subst (λ k. WordFits None k) (sym (unset i)) tt; holder = sym (ap (λ r. holder_by r (method_class p m)) role); height = refl; alone = λ e. tt },
       tt,
-      (tt, tt),
-      ((gives, tt, ap is_cancel role), (refl, refl)),
+      ((refl, tt), (tt, tt)),
+      ((gives, tt, ap is_cancel role), (refl, refl, tt, refl)),
     );
     fits = fits;
     suits = λ o lives. cc;
@@ -71,7 +71,7 @@ booted : (p : Image) (t : Typing) → IsWired p → IsTyped p t → (m : ℕ) �
 booted p t wired typed m e s cells tasks items =
     let w = wired.main m e in
     let leads = typed.entry m w.0 in
-    let below = Mark Nothing ∷ Dispatching Of_main ∷ [] in
+    let below = Mark Nothing ∷ Dispatching Of_main [] ∷ [] in
     record {
       layers = Method (begins m) leads.0 ∷ below;
       tasks = tasks;

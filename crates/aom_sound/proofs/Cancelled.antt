@@ -16,7 +16,7 @@ use Rattle.aom_shape.specs.Shape.{Shape}
 use Rattle.aom_sound.proofs.Claimed.{claim_ready}
 use Rattle.aom_sound.proofs.Finishing.{Returnable, ended}
 use Rattle.aom_sound.proofs.Maps.{one_place}
-use Rattle.aom_sound.proofs.Storing.{Alike, fits_alike, housed_alike, requested_here, requested_there, rerequested_alike, stack_alike}
+use Rattle.aom_sound.proofs.Storing.{Alike, fits_alike, housed_alike, listed_still, on_some, requested_here, requested_there, rerequested_alike, stack_alike}
 use Rattle.aom_sound.proofs.Straight.{At, Fitted}
 use Rattle.aom_sound.proofs.Suiting.{all_returned, cancel_ends, rejoins_caller}
 use Rattle.aom_sound.specs.Claims.{Layer, Method, claim, declared}
@@ -90,5 +90,5 @@ module _ (p : Image) (t : Typing) (c : Choice) (s : State) (fr fr2 : Frame) (sh 
         frames = caller.1;
         housed = housed_alike p t s.cells cells_then alike ls fr2.home caller.2;
         apart = caller.3;
-        stack = stack_alike p t s.cells cells_then alike ls _ caller.4;
+        stack = stack_alike p t s.cells cells_then alike (listed_still s.cells fr.home (on_request cancelled (own_request s.cells fr.home)) (on_some cancelled (own_request s.cells fr.home))) ls _ caller.4;
       }

@@ -33,13 +33,13 @@ use Rattle.aom_sound.proofs.Destroying.{at_alike, entry_registers, perhaps_only,
 use Rattle.aom_sound.proofs.Items.{length_forms}
 use Rattle.aom_sound.proofs.Maps.{one_place}
 use Rattle.aom_sound.proofs.Requesting.{OfObject, active_home, active_listed, has_common, in_state, its, learned, main_of_none, of_object, suits_in}
-use Rattle.aom_sound.proofs.Storing.{Alike, fits_alike, housed_alike, requested_here, requested_there, rerequested_alike, stack_alike}
+use Rattle.aom_sound.proofs.Storing.{Alike, fits_alike, housed_alike, listed_still, on_some, requested_here, requested_there, rerequested_alike, stack_alike}
 use Rattle.aom_sound.proofs.Straight.{At, Law, fits_unowning, settle, stepped, well}
-use Rattle.aom_sound.proofs.Suiting.{same_object}
+use Rattle.aom_sound.proofs.Suiting.{timed_on, same_object}
 use Rattle.aom_sound.specs.Claims.{Layer, Method, claim, declared, entry_claim, home_claim, items_of, objects, root_claim, tasks_of}
 use Rattle.aom_sound.specs.Calls.{result_register}
 use Rattle.aom_sound.specs.Effects.{applied, cancels_if}
-use Rattle.aom_sound.specs.Enlisted.{begun_cells, cancel_method, cancel_of, cancelling, in_phase, is_active, is_cancelling, is_unsettled, on_request, own_request, rerequested}
+use Rattle.aom_sound.specs.Enlisted.{begun_cells, cancel_method, cancel_of, cancelling, in_phase, is_active, is_cancelling, is_unsettled, on_request, own_request, rerequested, is_idle}
 use Rattle.aom_sound.specs.Laws.{IsWired}
 use Rattle.aom_sound.specs.Places.{Active, Aborted, Cancelling, Cell, Elsewhere, Entry, Field, Going, Idle, Issued, Object, Phase, Place, Register, Request, Root, held, requested, seen}
 use Rattle.aom_sound.specs.Requests.{AllSuit, Known, Suits, known_at, phase_state, state_of, states_claim, thing_kind, works_at}
@@ -84,15 +84,19 @@ active_still : (q : Phase) → is_active q ≡ true → is_cancelling q ≡ fals
 active_still Active e = refl
 active_still _ e = cc
 
+active_made : (q : Phase) → is_active q ≡ true → is_idle q ≡ false
+active_made Active e = refl
+active_made _ e = cc
+
 -- what is active is not being cancelled
 uncancelled : (k : Option ClassKind) (n : Known) (r : Option Request) → is_active_kind k ≡ true → in_phase is_active r ≡ true → Suits k n r → n.cancelled ≡ false
 uncancelled (Some (An_active v b)) n (Some r) e a s = sym s.1 ∙ active_still r.phase a
 uncancelled _ n _ e a s = cc
 
 -- and is so once its cancel begins
-suits_cancelling : (k : Option ClassKind) (states : ℕ) (r : Option Request) → is_active_kind k ≡ true → in_phase is_active r ≡ true → IsTrue (has states cancel_open) → Suits k (record { states = states; cancelled = true }) (on_request cancelling r)
-suits_cancelling (Some (An_active v b)) states (Some r) e a h = (h, refl, refl)
-suits_cancelling _ states _ e a h = cc
+suits_cancelling : (k : Option ClassKind) (states : ℕ) (n : Known) (r : Option Request) → is_active_kind k ≡ true → in_phase is_active r ≡ true → IsTrue (has states cancel_open) → Suits k n r → Suits k (record { states = states; cancelled = true }) (on_request cancelling r)
+suits_cancelling (Some (An_active v b)) states n (Some r) e a h s = (h, refl, refl, timed_on v r Cancelling (active_made r.phase a) refl s.3)
+suits_cancelling _ states n _ e a h s = cc
 
 -- a state that is not active stays once it is cancelled, and an active one is idle
 stays_cancelled : (states k : ℕ) → IsTrue (has (bit_and states server_states) k) → IsTrue (has (once_cancelled states) k)
@@ -272,7 +276,7 @@ module _ (p : Image) (t : Typing) (wired : IsWired p) (typed : IsTyped p t) (c :
         own_now =
             subst (λ k. Suits k (known_at p fr' begins.0.states (upper o true)) (requested cs' o.name)) (sym it.kind)
             (subst (λ b. Suits (own_kind p fr.method) (record { states = begins.0.states; cancelled = b || (upper o true).cancelled }) (requested cs' o.name)) (sym is_so)
-            (subst (λ r. Suits (own_kind p fr.method) (record { states = begins.0.states; cancelled = true }) r) (sym here) (suits_cancelling (own_kind p fr.method) begins.0.states request is_kind is_active_now begun)))
+            (subst (λ r. Suits (own_kind p fr.method) (record { states = begins.0.states; cancelled = true }) r) (sym here) (suits_cancelling (own_kind p fr.method) begins.0.states (known_at p fr sh.states (states_claim p o ls)) request is_kind is_active_now begun it.suits)))
 
         go : (b : Bool) → (o.name == x.name) ≡ b → Suits (thing_kind p x.thing) (cond b (known_at p fr' begins.0.states (upper x b)) (upper x b)) (requested cs' x.name)
         go true e = subst (λ y. Suits (thing_kind p y.thing) (known_at p fr' begins.0.states (upper y true)) (requested cs' y.name)) (same_object s.cells o x it.lives (sym (same_cells.named_so x.name) ∙ lives) e) own_now
@@ -325,7 +329,7 @@ module _ (p : Image) (t : Typing) (wired : IsWired p) (typed : IsTyped p t) (c :
       record { words = at_hand.good.stack.1.words; holder = at_hand.good.stack.1.holder; height = at_hand.good.stack.1.height; alone = at_hand.good.stack.1.alone },
       housed_alike p t s.cells cs' same_cells ls fr.home at_hand.good.stack.2,
       at_hand.good.stack.3,
-      stack_alike p t s.cells cs' same_cells ls _ at_hand.good.stack.4,
+      stack_alike p t s.cells cs' same_cells (listed_still s.cells fr.home (on_request cancelling request) (on_some cancelling request)) ls _ at_hand.good.stack.4,
     )
 
     good : Good p t cs' (Method fr' begins.0 ∷ over)

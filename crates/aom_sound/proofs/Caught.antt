@@ -31,7 +31,7 @@ use Rattle.aom_sound.specs.Leaves.{AreEntries, AreMethods, Arrives, ArrivesAt, B
 use Rattle.aom_sound.specs.Steps.{Fits as MayHave}
 use Rattle.aom_sound.specs.Moves.{announcement, counted, does, main_left, needs, step, step_instr, step_task, written_task}
 use Rattle.aom_sound.specs.Places.{Cell, Entry, Going, Object, Place, Register, held, moved, named, same_place, seen}
-use Rattle.aom_sound.specs.State.{A_mark, An_object, An_operation, Choice, Dispatch, Dispatched, Frame, Goes, Inside, IsStuck, Item, Main_left, NullOrDead, Of_main, Of_root, Run, State, Task, Trapped, Unwind, frame_of, next, set_word, word}
+use Rattle.aom_sound.specs.State.{Answered, Asks, Object_left, Of_object, A_mark, An_object, An_operation, Choice, Dispatch, Dispatched, Frame, Goes, Inside, IsStuck, Item, Main_left, NullOrDead, Of_main, Of_root, Run, State, Task, Trapped, Unwind, frame_of, next, set_word, word}
 use Rattle.aom_sound.specs.WellTyped.{AllUndo, Awaits, EndsDispatch, Fits, Good, Keeps, Leaves, Now, Stack, WellTyped}
 use Rattle.aom_sound.specs.Effects.{Leaves, Update, applied}
 use Rattle.aom_sound.specs.Words.{word_or_zero}
@@ -59,6 +59,10 @@ no_dispatch : {A : Type 0} (p : Image) (d : Dispatch) → EndsDispatch p d Leave
 no_dispatch p Of_main e = absurd e
 no_dispatch p (Main_left x) e = absurd e
 no_dispatch p Of_root e = absurd e
+no_dispatch p (Of_object x) e = absurd e
+no_dispatch p (Object_left x c) e = absurd e
+no_dispatch p (Asks x) e = absurd e
+no_dispatch p (Answered x c) e = absurd e
 
 -- a leave on top has entries over the mark of its trap
 pub splits : (p : Image) (t : Typing) (s : State) → WellTyped p t s → (code : ℤ) (below : List Task) → s.tasks ≡ Unwind code ∷ below → (entries : List Item) × (items : List Item) × IsLeaving p code below entries items s
@@ -72,7 +76,7 @@ splits p t s w code below at =
     under es (Mark gv ∷ ls) f stack = split es (items_of ls) s.items f
     under es (Dying o ∷ ls) f stack = absurd stack.1
     under es (Unwinding x fs ∷ ls) f stack = absurd stack.0
-    under es (Dispatching d ∷ ls) f stack = no_dispatch p d stack.0
+    under es (Dispatching d seats ∷ ls) f stack = no_dispatch p d stack.0
 
     go : (ls : List Layer) → Unwind code ∷ below ≡ tasks_of ls → forms s.items ≡ items_of ls → Stack p t s.cells Now ls → (entries : List Item) × (items : List Item) × (s.items ≡ entries ++ (A_mark ∷ items)) × AreEntries entries
     go (Unwinding x es ∷ ls) e f stack = under es ls f stack.1
@@ -302,12 +306,13 @@ module _ (p : Image) (t : Typing) (s u : State) (code : ℤ) (items : List Item)
   below_trap [] gv es good e = cc
   below_trap (Method fr sh ∷ ls) gv es good e = subst (λ v. Arrived (Trapped ∷ Run fr ∷ tasks_of ls) v) (goes_same _ u e) (at_method fr sh ls gv es good)
   below_trap (Dying o ∷ ls) gv es good e = absurd good.stack.1.1.1
-  below_trap (Dispatching Of_main ∷ ls) gv es good e = subst (λ v. Arrived (Trapped ∷ Dispatched Of_main ∷ tasks_of ls) v) (goes_same _ u e) (refl, refl, refl)
+  below_trap (Dispatching Of_main seats ∷ ls) gv es good e = subst (λ v. Arrived (Trapped ∷ Dispatched Of_main ∷ tasks_of ls) v) (goes_same _ u e) (refl, refl, refl)
+  below_trap (Dispatching (Of_object x) seats ∷ ls) gv es good e = subst (λ v. Arrived (Trapped ∷ Dispatched (Of_object x) ∷ tasks_of ls) v) (goes_same _ u e) (refl, refl, refl)
   below_trap _ gv es good e = absurd good.stack.1.1.0
 
   below_leave : (ls : List Layer) (es : List Pushed) → Good p t s.cells (Unwinding code es ∷ ls) → arrived p code (tasks_of ls) items (counted p s) ≡ Goes u → Arrived (tasks_of ls) u
   below_leave (Mark gv ∷ ls) es good e = below_trap ls gv es good e
-  below_leave (Dispatching d ∷ ls) es good e = no_dispatch p d good.stack.1.0
+  below_leave (Dispatching d seats ∷ ls) es good e = no_dispatch p d good.stack.1.0
   below_leave [] es good e = cc
   below_leave _ es good e = absurd (assumption tt)
 

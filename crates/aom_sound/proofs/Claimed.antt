@@ -17,11 +17,12 @@ use Rattle.aom_shape.specs.declared.kind.Filling.{Filling}
 use Rattle.aom_shape.specs.declared.kind.Filling.TheVariants.{Perhaps}
 use Rattle.aom_shape.specs.declared.kind.Kind.{Kind}
 use Rattle.aom_shape.specs.declared.kind.Kind.TheVariants.{Maybe, Null, Own, Unset}
-use Rattle.aom_sound.proofs.Maps.{at-put_at, held_moved, named_moved, same_place-true, same_place_refl, transfer}
-use Rattle.aom_sound.specs.Claims.{Dispatching, Dying, Form, Layer, Mark, Method, Unwinding, claim, declared, declared_field, entries_of, entry_claim, home_claim, items_of, layer_claim, objects, root_claim, tasks_of}
+use Rattle.aom_sound.proofs.Seats.{NoFieldHere, NoSeatHere, first_kept, sits_kept}
+use Rattle.aom_sound.proofs.Maps.{at-put_at, held_moved, named_moved, requested_moved, same_place-true, same_place_refl, transfer}
+use Rattle.aom_sound.specs.Claims.{is_of_root, Dispatching, Dying, Form, Layer, Mark, Method, Unwinding, claim, declared, declared_field, entries_of, entry_claim, home_claim, items_of, layer_claim, objects, root_claim, tasks_of}
 use Rattle.aom_sound.specs.Places.{Cell, Elsewhere, Entry, Field, Going, Object, Place, Register, Root, Sight, changed, held, moved, named, same_place}
-use Rattle.aom_sound.specs.State.{AtRoot, Frame, Home, Inside, Main_left, Of_main, Of_root, Static, field_place, home_holder, thing_holder}
-use Rattle.aom_sound.specs.WellTyped.{Back, Caught, Fits, Gone, HasAge, Holds, IsBelow, IsHoused, IsNoFieldOf, Leaves, NoneFrom, NoneIn, NotFrom, NotIn, Returns, Stack, Unclaimed, WordFits, by_field}
+use Rattle.aom_sound.specs.State.{AtRoot, Dispatch, Frame, Home, Inside, Seat, Static, field_place, home_holder, thing_holder}
+use Rattle.aom_sound.specs.WellTyped.{Back, Caught, Fits, Gone, HasAge, Holds, IsBelow, IsHoused, IsNoFieldOf, Leaves, NoneFrom, NoneIn, NotFrom, NotIn, Returns, Stack, Unclaimed, WordFits, by_field, seat_of}
 use mathlib.Core.Path.{fun_ext}
 
 -- a frame counts for the claims by its home alone
@@ -200,7 +201,7 @@ pub claim_entry_above : (p : Image) (cs : List Cell) (ls : List Layer) (k : ℕ)
 claim_entry_above p cs [] k le = refl
 claim_entry_above p cs (Method fr sh ∷ ls) k le = entries_above sh.entries (items_of ls) k _ le ∙ claim_entry_above p cs ls k (omega (arith, length_objects sh.entries (items_of ls)))
 claim_entry_above p cs (Mark gv ∷ ls) k le = claim_entry_above p cs ls k (omega arith)
-claim_entry_above p cs (Dispatching w ∷ ls) k le = claim_entry_above p cs ls k (omega arith)
+claim_entry_above p cs (Dispatching w seats ∷ ls) k le = claim_entry_above p cs ls k (omega arith)
 claim_entry_above p cs (Dying o ∷ ls) k le = claim_entry_above p cs ls k le
 claim_entry_above p cs (Unwinding code es ∷ ls) k le = entries_above es (items_of ls) k _ le ∙ claim_entry_above p cs ls k (omega (arith, length_objects es (items_of ls)))
 
@@ -229,10 +230,12 @@ length_items _ ls = omega arith
 
 none_in_less : (n : ℕ) (l : Layer) (ls : List Layer) → NoneIn n (l ∷ ls) → NoneIn n ls
 none_in_less n (Method fr sh) ls h = h.1
+none_in_less n (Dispatching d seats) ls h = h.1
 none_in_less n _ ls h = h
 
 none_from_less : (q : Place) (l : Layer) (ls : List Layer) → NoneFrom q (l ∷ ls) → NoneFrom q ls
 none_from_less q (Method fr sh) ls h = h.1
+none_from_less q (Dispatching d seats) ls h = h.1
 none_from_less q _ ls h = h
 
 pub outside_less : (q : Place) (l : Layer) (ls : List Layer) → Outside q (l ∷ ls) → Outside q ls
@@ -242,13 +245,11 @@ outside_less (Field n f) l ls h = none_in_less n l ls h
 outside_less (Elsewhere w) l ls h = none_from_less (Elsewhere w) l ls h
 outside_less (Going k) l ls h = omega arith
 
--- what holds a method's cell is below the method
-abbrev pub NoFieldHere : Place → Place → Type 0
-NoFieldHere (Register f i) from = Unit {0}
-NoFieldHere (Entry k) from = Unit {0}
-NoFieldHere (Field n f) from = IsNoFieldOf n from
-NoFieldHere (Elsewhere w) from = same_place (Elsewhere w) from ≡ false
-NoFieldHere (Going k) from = Unit {0}
+-- then no seat is there
+pub no_seat_outside : (q : Place) (d : Dispatch) (seats : List Seat) (ls : List Layer) → Outside q (Dispatching d seats ∷ ls) → NoSeatHere q seats
+no_seat_outside (Field n f) d seats ls h = h.0
+no_seat_outside (Elsewhere w) d seats ls h = h.0
+no_seat_outside _ d seats ls h = tt
 
 -- no place is both
 outside_below : (q : Place) (ls : List Layer) → Outside q ls → NoFieldHere q q → IsBelow q ls → ⊥
@@ -298,7 +299,12 @@ stack_moved p t cs a b [] back free oa ob s = s
 stack_moved p t cs a b (Method fr sh ∷ ls) back free oa ob s =
     (s.0, s.1, housed_moved p cs a b fr sh ls fr.home refl free oa ob s.2, s.3, stack_moved p t cs a b ls _ free (outside_less a _ ls oa) (outside_less b _ ls ob) s.4)
 stack_moved p t cs a b (Mark gv ∷ ls) back free oa ob s = (s.0, stack_moved p t cs a b ls _ free (outside_less a (Mark gv) ls oa) (outside_less b (Mark gv) ls ob) s.1)
-stack_moved p t cs a b (Dispatching w ∷ ls) back free oa ob s = s
+stack_moved p t cs a b (Dispatching d seats ∷ ls) back free oa ob s = (
+  s.0,
+  s.1,
+  sits_kept cs (moved a b cs) a b seats (λ r o na nb there lives. (held_moved cs a b r free ∙ ap (λ x. cond x (held cs a) (cond (same_place a r) None (held cs r))) nb ∙ ap (λ x. cond x None (held cs r)) na ∙ there, named_moved cs a b o.name ∙ lives)) (no_seat_outside a d seats ls oa) (no_seat_outside b d seats ls ob) s.2,
+  first_kept cs (moved a b cs) a (seat_of d) seats (λ r o na there lives some. ap is_some (requested_moved cs a b o.name) ∙ some) (no_seat_outside a d seats ls oa) s.2 s.3,
+)
 stack_moved p t cs a b (Unwinding code es ∷ ls) back free oa ob s = (s.0, stack_moved p t cs a b ls _ free (outside_less a (Unwinding code es) ls oa) (outside_less b (Unwinding code es) ls ob) s.1)
 stack_moved p t cs a b (Dying o ∷ ls) back free oa ob s = ((named_moved cs a b o.name ∙ s.0.0, going_moved cs a b o ls free oa ob s.0.1), s.1, stack_moved p t cs a b ls _ free (outside_less a (Dying o) ls oa) (outside_less b (Dying o) ls ob) s.2)
 
@@ -338,25 +344,23 @@ root_rel R same p (Inside o from) sh x y h = h
 pub layer_rel : (R : Kind → Kind → Type 0) → ((k : Kind) → R k k) → (p : Image) (l : Layer) (depth : ℕ) (items : List Form) (r : Place) (x y : Kind) → R x y → R (layer_claim p l depth items r x) (layer_claim p l depth items r y)
 layer_rel R same p (Method fr sh) depth items (Register f i) x y h = cond_rel R same (depth == f) (register sh i) x y h
 layer_rel R same p (Mark gv) depth items (Register f i) x y h = h
-layer_rel R same p (Dispatching w) depth items (Register f i) x y h = h
+layer_rel R same p (Dispatching w seats) depth items (Register f i) x y h = h
 layer_rel R same p (Dying o) depth items (Register f i) x y h = h
 layer_rel R same p (Unwinding code es) depth items (Register f i) x y h = h
 layer_rel R same p l depth items (Entry k) x y h = entry_rel R same (entries_of l) items k x y h
 layer_rel R same p (Method fr sh) depth items (Field n f) x y h = home_rel R same p fr.home sh n f x y h
 layer_rel R same p (Mark gv) depth items (Field n f) x y h = h
-layer_rel R same p (Dispatching w) depth items (Field n f) x y h = h
+layer_rel R same p (Dispatching w seats) depth items (Field n f) x y h = h
 layer_rel R same p (Dying o) depth items (Field n f) x y h = cond_rel R same (o.name == n) Null x y h
 layer_rel R same p (Unwinding code es) depth items (Field n f) x y h = h
 layer_rel R same p (Method fr sh) depth items (Elsewhere Root) x y h = root_rel R same p fr.home sh x y h
 layer_rel R same p (Mark gv) depth items (Elsewhere Root) x y h = h
 layer_rel R same p (Dying o) depth items (Elsewhere Root) x y h = h
 layer_rel R same p (Unwinding code es) depth items (Elsewhere Root) x y h = h
-layer_rel R same p (Dispatching Of_main) depth items (Elsewhere Root) x y h = h
-layer_rel R same p (Dispatching (Main_left code)) depth items (Elsewhere Root) x y h = h
-layer_rel R same p (Dispatching Of_root) depth items (Elsewhere Root) x y h = same Null
+layer_rel R same p (Dispatching d seats) depth items (Elsewhere Root) x y h = cond_rel R same (is_of_root d) Null x y h
 layer_rel R same p (Method fr sh) depth items (Going k) x y h = h
 layer_rel R same p (Mark gv) depth items (Going k) x y h = h
-layer_rel R same p (Dispatching w) depth items (Going k) x y h = h
+layer_rel R same p (Dispatching w seats) depth items (Going k) x y h = h
 layer_rel R same p (Dying o) depth items (Going k) x y h = cond_rel R same (depth == k) (Own o.thing Ready) x y h
 layer_rel R same p (Unwinding code es) depth items (Going k) x y h = h
 
@@ -368,7 +372,7 @@ perhaps_ready : (t : Option Thing) → is_ready_kind (filled t Perhaps) ≡ true
 perhaps_ready None = refl
 perhaps_ready (Some t) = refl
 
-declared_ready : (p : Image) (cs : List Cell) (r : Place) → is_ready_kind (declared p cs r) ≡ true
+pub declared_ready : (p : Image) (cs : List Cell) (r : Place) → is_ready_kind (declared p cs r) ≡ true
 declared_ready p cs (Field n f) = go (named cs n)
   where
     go : (o : Option Object) → is_ready_kind (declared_field p o f) ≡ true
@@ -391,7 +395,7 @@ claim_unnamed p t cs d (Method fr sh ∷ ls) back n f s e = go fr.home s.2 ∙ c
     go AtRoot h = refl
     go (Inside o from) h = ap (λ b. cond b (filled (field_thing p (thing_holder o.thing) f) (field sh f)) (claim p d ls (Field n f))) (ne_eqb o.name n (λ same. let l = h.lives in let e' : Some o ≡ None = sym l ∙ ap (λ x. named cs x) same ∙ e in cc))
 claim_unnamed p t cs d (Mark gv ∷ ls) back n f s e = claim_unnamed p t cs d ls (Caught gv) n f s.1 e
-claim_unnamed p t cs d (Dispatching w ∷ ls) back n f s e = ap (λ l. claim p d l (Field n f)) s.1
+claim_unnamed p t cs d (Dispatching w seats ∷ ls) back n f s e = ap (λ l. claim p d l (Field n f)) s.1
 claim_unnamed p t cs d (Unwinding code es ∷ ls) back n f s e = claim_unnamed p t cs d ls Leaves n f s.1 e
 claim_unnamed p t cs d (Dying o ∷ ls) back n f s e =
     ap (λ b. cond b Null (claim p d ls (Field n f))) (ne_eqb o.name n (λ same. let l = s.0.0 in let e' : Some o ≡ None = sym l ∙ ap (λ x. named cs x) same ∙ e in cc))
@@ -402,7 +406,7 @@ pub claim_register_above : (p : Image) (cs : List Cell) (ls : List Layer) (f i :
 claim_register_above p cs [] f i le = refl
 claim_register_above p cs (Method fr sh ∷ ls) f i le = ap (λ b. cond b (register sh i) (claim p (declared p cs) ls (Register f i))) (ne_eqb (length (tasks_of ls)) f (λ e. absurd (omega arith))) ∙ claim_register_above p cs ls f i (omega arith)
 claim_register_above p cs (Mark gv ∷ ls) f i le = claim_register_above p cs ls f i (omega arith)
-claim_register_above p cs (Dispatching w ∷ ls) f i le = claim_register_above p cs ls f i (omega arith)
+claim_register_above p cs (Dispatching w seats ∷ ls) f i le = claim_register_above p cs ls f i (omega arith)
 claim_register_above p cs (Dying o ∷ ls) f i le = claim_register_above p cs ls f i (omega arith)
 claim_register_above p cs (Unwinding code es ∷ ls) f i le = claim_register_above p cs ls f i (omega arith)
 
@@ -414,7 +418,7 @@ pub claim_going_above : (p : Image) (cs : List Cell) (ls : List Layer) (k : ℕ)
 claim_going_above p cs [] k le = refl
 claim_going_above p cs (Method fr sh ∷ ls) k le = claim_going_above p cs ls k (omega arith)
 claim_going_above p cs (Mark gv ∷ ls) k le = claim_going_above p cs ls k (omega arith)
-claim_going_above p cs (Dispatching w ∷ ls) k le = claim_going_above p cs ls k (omega arith)
+claim_going_above p cs (Dispatching w seats ∷ ls) k le = claim_going_above p cs ls k (omega arith)
 claim_going_above p cs (Unwinding code es ∷ ls) k le = claim_going_above p cs ls k (omega arith)
 claim_going_above p cs (Dying o ∷ ls) k le = ap (λ b. cond b (Own o.thing Ready) (claim p (declared p cs) ls (Going k))) (ne_eqb (length (tasks_of ls)) k (λ e. absurd (omega arith))) ∙ claim_going_above p cs ls k (omega arith)
 

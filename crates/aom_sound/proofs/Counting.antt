@@ -1,14 +1,20 @@
 -- The steps are counted: what a move counts stays as it is, whatever the move does.
-use Rattle.std.proofs.Common.{Bool, List, None, Option, Some, ap, arith, cond, false, refl, true, ℕ, ⊎_elim, ◌+◌, ◌≤◌, ◌∙◌, ◌∷◌, ◌≡◌}
+use Rattle.std.specs.Prelude.{◌⊎◌, is_none}
+use Rattle.std.specs.Ordering.{int_eq}
+use Rattle.aom_image.specs.declared.method.Role.TheVariants.{Error}
+use Rattle.aom_sound.specs.Enlisted.{part_of}
+use Rattle.aom_sound.proofs.Turned.{dispatched_so}
+use Rattle.aom_sound.proofs.Guarded.{goes_same}
+use Rattle.std.proofs.Common.{Bool, List, None, Option, Some, ap, arith, cond, false, refl, true, ℕ, ◌+◌, ◌≤◌, ◌∙◌, ◌∷◌, ◌≡◌, inl, inr, sym, subst, pos, ℤ}
 use Rattle.aom_image.specs.Image.{Image}
 use Rattle.aom_sound.proofs.Moving.{steps_are_moves}
-use Rattle.aom_sound.proofs.Resting.{move_rest}
-use Rattle.aom_sound.specs.Counting.{StepsAreCounted, in_range, steps_of, taken}
+use Rattle.aom_sound.proofs.Resting.{move_rest, IsEnd, Takes}
+use Rattle.aom_sound.specs.Counting.{StepsAreCounted, ends_object, in_range, restarts, starts, steps_of, taken}
 use Rattle.aom_sound.specs.Effects.{Course, Goes_its_way, Stops, coursed}
-use Rattle.aom_sound.specs.Moves.{counted, dispatch_ends, is_counted, main_ends, step}
+use Rattle.aom_sound.specs.Moves.{answered, asking, counted, dispatch_ends, failed, handled, is_counted, main_ends, object_ends, step, step_task}
 use Rattle.aom_sound.specs.Places.{Elsewhere, Object, Root, held}
-use Rattle.aom_sound.specs.State.{Choice, Destroy, Dispatch, Goes, Main_left, Of_main, Of_root, Rest, Run, State, Task, raised}
-use Rattle.aom_sound.specs.World.{Reaches, begins, boot_state, moves, waits, Outside}
+use Rattle.aom_sound.specs.State.{Answered, Asks, Choice, Destroy, Dispatch, Dispatched, Goes, Main_left, Object_left, Of_main, Of_object, Of_root, Rest, Run, State, Task, raised}
+use Rattle.aom_sound.specs.World.{Completes, Cuts, Passes, Picks, Reaches, Strays, Turning, Waits, begins, boot_state, moves, turn, turned, turning, turns, Outside}
 use Rattle.aom_transcript.specs.declared.line.Line.{Line}
 
 course_steps : (x : Course) (r : Rest) → (coursed x r).steps ≡ r.steps
@@ -20,17 +26,44 @@ main_steps p true (Some o) s = refl
 main_steps p true None s = refl
 main_steps p false o s = refl
 
-end_steps : (p : Image) (d : Dispatch) (s : State) → (dispatch_ends p d s).rest.steps ≡ s.rest.steps
+object_steps : (p : Image) (s : State) → (object_ends p s).rest.steps ≡ 0
+object_steps p s = main_steps p s.rest.stopped (held s.cells (Elsewhere Root)) (handled s)
+
+answer_steps : (p : Image) (answer : ℤ) (s : State) → (answered p answer s).rest.steps ≡ 0
+answer_steps p answer s = go (int_eq answer (pos 0))
+  where
+    go : (b : Bool) → (cond b (object_ends p s) (failed answer s)).rest.steps ≡ 0
+    go true = object_steps p s
+    go false = refl
+
+end_steps : (p : Image) (d : Dispatch) (s : State) → (dispatch_ends p d s).rest.steps ≡ cond (ends_object p d) 0 s.rest.steps
 end_steps p Of_main s = main_steps p s.rest.stopped (held s.cells (Elsewhere Root)) s
 end_steps p (Main_left code) s = refl
 end_steps p Of_root s = refl
+end_steps p (Of_object x) s = object_steps p s
+end_steps p (Object_left x code) s = go (part_of p Error x.object.thing)
+  where
+    go : (m : Option ℕ) → (asking p m x code s).rest.steps ≡ cond (is_none m) 0 s.rest.steps
+    go None = answer_steps p code s
+    go (Some m) = refl
+end_steps p (Asks x) s = object_steps p s
+end_steps p (Answered x answer) s = answer_steps p answer s
 
 -- a move counts, and nothing else does
-pub move_steps : (p : Image) (c : Choice) (s u : State) → step p c s ≡ Goes u → u.rest.steps ≡ (counted p s).rest.steps
-move_steps p c s u e = ⊎_elim
-    (λ t. ap (λ (r : Rest). r.steps) t.1 ∙ course_steps t.0 (counted p s).rest)
-    (λ d. ap (λ (x : State). x.rest.steps) d.3 ∙ end_steps p d.0 (counted p s))
-    (move_rest p c s u (steps_are_moves p c s u e))
+pub move_steps : (p : Image) (c : Choice) (s u : State) → step p c s ≡ Goes u → u.rest.steps ≡ cond (restarts p s.tasks) 0 (counted p s).rest.steps
+move_steps p c s u e = go (move_rest p c s u (steps_are_moves p c s u e))
+  where
+    go : Takes p s u ⊎ IsEnd p s u → u.rest.steps ≡ cond (restarts p s.tasks) 0 (counted p s).rest.steps
+    go (inl t) = by_tasks s.tasks refl
+      where
+        plain : u.rest.steps ≡ (counted p s).rest.steps
+        plain = ap (λ (r : Rest). r.steps) t.1 ∙ course_steps t.0 (counted p s).rest
+
+        by_tasks : (ts : List Task) → s.tasks ≡ ts → u.rest.steps ≡ cond (restarts p ts) 0 (counted p s).rest.steps
+        by_tasks (Dispatched d ∷ ts) at =
+            ap (λ (x : State). x.rest.steps) (sym (goes_same (dispatch_ends p d (counted p s)) u (subst (λ l. step_task p c (counted p s) l ≡ Goes u) at e))) ∙ end_steps p d (counted p s)
+        by_tasks _ at = plain
+    go (inr d) = ap (λ (x : State). x.rest.steps) d.3 ∙ end_steps p d.0 (counted p s) ∙ sym (ap (λ ts. cond (restarts p ts) 0 (counted p s).rest.steps) d.2)
 
 counted_steps : (ts : List Task) (n : ℕ) → n ≡ in_range n → cond (is_counted ts) (raised n) n ≡ in_range (n + steps_of ts)
 counted_steps (Run fr ∷ ts) n e = refl
@@ -46,20 +79,37 @@ at_most_one (Run fr ∷ ts) = omega arith
 at_most_one (Destroy ∷ ts) = omega arith
 at_most_one _ = omega arith
 
-moves_count : (p : Image) (c : Choice) (s u : State) → s.rest.steps ≡ in_range s.rest.steps → step p c s ≡ Goes u → u.rest.steps ≡ in_range (s.rest.steps + steps_of s.tasks)
-moves_count p c s u within e = move_steps p c s u e ∙ counted_steps s.tasks s.rest.steps within
+moves_count : (p : Image) (c : Choice) (s u : State) → s.rest.steps ≡ in_range s.rest.steps → step p c s ≡ Goes u → u.rest.steps ≡ cond (restarts p s.tasks) 0 (in_range (s.rest.steps + steps_of s.tasks))
+moves_count p c s u within e = move_steps p c s u e ∙ ap (λ n. cond (restarts p s.tasks) 0 n) (counted_steps s.tasks s.rest.steps within)
+
+-- a turn counts anew where it dispatches an object
+turn_count : (p : Image) (outside : Outside) (s u : State) → turn p outside s ≡ Goes u → u.rest.steps ≡ cond (starts (turning outside s)) 0 s.rest.steps
+turn_count p outside s u e = go (turning outside s) e
+  where
+    go : (k : Turning) → turned p s k ≡ Goes u → u.rest.steps ≡ cond (starts k) 0 s.rest.steps
+    go (Picks x) e = ap (λ (v : State). v.rest.steps) (dispatched_so p s u x e).2
+    go Strays e = cc
+    go Cuts e = ap (λ (v : State). v.rest.steps) (sym (goes_same _ u e))
+    go (Completes o) e = ap (λ (v : State). v.rest.steps) (sym (goes_same _ u e))
+    go (Passes due) e = ap (λ (v : State). v.rest.steps) (sym (goes_same _ u e))
+    go Waits e = ap (λ (v : State). v.rest.steps) (sym (goes_same _ u e))
+
+anew : (b : Bool) (n : ℕ) → cond b 0 (in_range n) ≡ in_range (cond b 0 n)
+anew true n = refl
+anew false n = refl
 
 runs_count : (p : Image) (outside : Outside) {lines : List Line} {s : State} (reached : Reaches p outside (boot_state p) lines s) → s.rest.steps ≡ in_range (taken reached)
 runs_count p outside begins = refl
 runs_count p outside (moves {s = s} {u = u} c reached busy opened goes) =
     let so = runs_count p outside reached in
     let within : s.rest.steps ≡ in_range s.rest.steps = omega (arith, so) in
-    moves_count p c s u within goes ∙ ap (λ n. in_range (n + steps_of s.tasks)) so ∙ one_more (taken reached) (steps_of s.tasks) (at_most_one s.tasks)
-runs_count p outside (waits reached between) = runs_count p outside reached
+    moves_count p c s u within goes ∙ ap (λ n. cond (restarts p s.tasks) 0 n) (ap (λ n. in_range (n + steps_of s.tasks)) so ∙ one_more (taken reached) (steps_of s.tasks) (at_most_one s.tasks)) ∙ anew (restarts p s.tasks) (taken reached + steps_of s.tasks)
+runs_count p outside (turns {s = s} {u = u} reached between goes) = turn_count p outside s u goes ∙ ap (λ n. cond (starts (turning outside s)) 0 n) (runs_count p outside reached) ∙ anew (starts (turning outside s)) (taken reached)
 
 pub steps_are_counted : StepsAreCounted
 steps_are_counted = record {
   boot = λ p. refl;
   moves = moves_count;
+  turns = turn_count;
   runs = λ p outside lines s reached. runs_count p outside reached;
 }

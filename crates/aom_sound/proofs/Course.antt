@@ -1,4 +1,5 @@
 -- The course of a leave on a run: which entries it has dealt with, and that its code arrives.
+use Rattle.aom_sound.proofs.Turning.{turn_goes_on}
 use Rattle.std.proofs.Common.{List, [], ap, append-nil, append_assoc, inl, inr, length, refl, subst, sym, ℤ, ◌∙◌, ◌∷◌, ◌≡◌, ◌≢◌}
 use Rattle.std.specs.Prelude.{◌++◌, ◌⊎◌}
 use Rattle.aom_image.specs.Image.{Image}
@@ -12,7 +13,7 @@ use Rattle.aom_sound.specs.Leaves.{HasArrived, IsLeaving, IsOver, LeavesArrive, 
 use Rattle.aom_sound.specs.Moves.{IsOpen, step}
 use Rattle.aom_sound.specs.State.{A_mark, Choice, Destroy, Goes, Item, Run, State, Task, Unwind}
 use Rattle.aom_sound.specs.WellTyped.{Keeps, WellTyped}
-use Rattle.aom_sound.specs.World.{IsBetween, IsBusy, Reaches, begins, boot_state, moves, waiting, waits, Outside}
+use Rattle.aom_sound.specs.World.{IsBetween, IsBusy, Reaches, begins, boot_state, moves, turn, turns, Outside}
 use Rattle.aom_transcript.specs.declared.line.Line.{Line}
 
 pub leaves_move : LeavesMove
@@ -28,9 +29,7 @@ module _ (p : Image) (t : Typing) (outside : Outside) (wired : IsWired p) (typed
   pub well_on : (from : State) → WellTyped p t from → (lines : List Line) (s : State) → Reaches p outside from lines s → WellTyped p t s
   well_on from w _ _ begins = w
   well_on from w _ _ (moves {lines = lines} {s = s} {u = u} c before busy choice e) = subst (λ o. Keeps p t o) e (step_keeps p t wired typed c s (well_on from w lines s before) choice.name)
-  well_on from w _ _ (waits {lines = lines} {s = s} before between) =
-      let h = well_on from w lines s before in
-      record { layers = h.layers; tasks = h.tasks; items = h.items; undos = h.undos; good = h.good }
+  well_on from w _ _ (turns {lines = lines} {s = s} {u = u} before between e) = subst (λ o. Keeps p t o) e (turn_goes_on p t outside wired typed s (well_on from w lines s before) between)
 
   module _ (from : State) (well : WellTyped p t from) (code : ℤ) (below : List Task) (entries items : List Item) where
     abbrev Course : State → Type 0
@@ -43,8 +42,8 @@ module _ (p : Image) (t : Typing) (outside : Outside) (wired : IsWired p) (typed
         inl (record { dealt = h.dealt; rest = h.rest; all = h.all; course = works c h.course other e r.1; leaving = r.0 })
 
     -- the leave itself moves
-    turns : (s u : State) (c : Choice) → WellTyped p t s → (dealt rest : List Item) → entries ≡ dealt ++ rest → Unwinds p code below from dealt s → IsLeaving p code below rest items s → s.tasks ≡ Unwind code ∷ below → step p c s ≡ Goes u → Course u
-    turns s u c w dealt [] all course l at e = inr (record {
+    leave_moves : (s u : State) (c : Choice) → WellTyped p t s → (dealt rest : List Item) → entries ≡ dealt ++ rest → Unwinds p code below from dealt s → IsLeaving p code below rest items s → s.tasks ≡ Unwind code ∷ below → step p c s ≡ Goes u → Course u
+    leave_moves s u c w dealt [] all course l at e = inr (record {
       last = s;
       course = subst (λ is. Unwinds p code below from is s) (sym (all ∙ append-nil dealt)) course;
       choice = c;
@@ -54,7 +53,7 @@ module _ (p : Image) (t : Typing) (outside : Outside) (wired : IsWired p) (typed
       lines = [];
       reaches = begins;
     })
-    turns s u c w dealt (i ∷ rest) all course l at e =
+    leave_moves s u c w dealt (i ∷ rest) all course l at e =
         let r = deals_so p t wired c s u w code below i rest items l at e in
         inl (record {
           dealt = dealt ++ (i ∷ []);
@@ -70,21 +69,21 @@ module _ (p : Image) (t : Typing) (outside : Outside) (wired : IsWired p) (typed
         go : (ts : List Task) → s.tasks ≡ ts → IsOver p (length s.items) code below ts → Course u
         go (Run fr ∷ ts) at o = goes_on s u c w h (λ top. let clash : Run fr ∷ ts ≡ Unwind code ∷ below = sym at ∙ top in cc) e
         go (Destroy ∷ ts) at o = goes_on s u c w h (λ top. let clash : Destroy ∷ ts ≡ Unwind code ∷ below = sym at ∙ top in cc) e
-        go (Unwind x ∷ ts) at o = turns s u c w h.dealt h.rest h.all h.course h.leaving (at ∙ ap (λ y. Unwind y ∷ ts) o.0 ∙ ap (λ l. Unwind code ∷ l) o.1) e
+        go (Unwind x ∷ ts) at o = leave_moves s u c w h.dealt h.rest h.all h.course h.leaving (at ∙ ap (λ y. Unwind y ∷ ts) o.0 ∙ ap (λ l. Unwind code ∷ l) o.1) e
         go _ at o = absurd o
 
     moved_on : (lines : List Line) (s u : State) (c : Choice) → WellTyped p t s → IsBusy s → IsOpen p outside.refused c s → step p c s ≡ Goes u → Course s → Course u
     moved_on lines s u c w busy choice e (inl h) = still s u c w h e
     moved_on lines s u c w busy choice e (inr h) = inr (record { last = h.last; course = h.course; choice = h.choice; after = h.after; move = h.move; arrives = h.arrives; lines = _; reaches = moves c h.reaches busy choice e })
 
-    waited : (s : State) → IsBetween s → Course s → Course (waiting s)
-    waited s between (inl h) = absurd (subst (λ ts. IsOver p (length s.items) code below ts) between.idle h.leaving.over)
-    waited s between (inr h) = inr (record { last = h.last; course = h.course; choice = h.choice; after = h.after; move = h.move; arrives = h.arrives; lines = h.lines; reaches = waits h.reaches between })
+    turned : (s u : State) → IsBetween s → turn p outside s ≡ Goes u → Course s → Course u
+    turned s u between e (inl h) = absurd (subst (λ ts. IsOver p (length s.items) code below ts) between.idle h.leaving.over)
+    turned s u between e (inr h) = inr (record { last = h.last; course = h.course; choice = h.choice; after = h.after; move = h.move; arrives = h.arrives; lines = _; reaches = turns h.reaches between e })
 
     course_of : IsLeaving p code below entries items from → (lines : List Line) (s : State) → Reaches p outside from lines s → Course s
     course_of l _ _ begins = inl (record { dealt = []; rest = entries; all = refl; course = leaves; leaving = l })
     course_of l _ _ (moves {lines = lines} {s = s} {u = u} c before busy choice e) = moved_on lines s u c (well_on from well lines s before) busy choice e (course_of l lines s before)
-    course_of l _ _ (waits {lines = lines} {s = s} before between) = waited s between (course_of l lines s before)
+    course_of l _ _ (turns {lines = lines} {s = s} {u = u} before between e) = turned s u between e (course_of l lines s before)
 
 pub leaves_arrive : LeavesArrive
 leaves_arrive p t outside wired typed before s reached code below at =

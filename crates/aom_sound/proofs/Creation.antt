@@ -17,7 +17,8 @@ use Rattle.aom_shape.specs.declared.kind.Age.TheVariants.{Fresh, Ready}
 use Rattle.aom_shape.specs.declared.kind.Filling.TheVariants.{Perhaps}
 use Rattle.aom_shape.specs.declared.kind.Kind.{Kind}
 use Rattle.aom_shape.specs.declared.kind.Kind.TheVariants.{Maybe, Null}
-use Rattle.aom_sound.proofs.Claimed.{NoFieldHere, Outside, claim-set_register, claim_frame, claim_rel, claim_unnamed, fits_age, fits_weaker, outside_differs}
+use Rattle.std.specs.Prelude.{is_some}
+use Rattle.aom_sound.proofs.Claimed.{Outside, claim-set_register, claim_frame, claim_rel, claim_unnamed, fits_age, fits_weaker, outside_differs}
 use Rattle.aom_sound.proofs.Straight.{At, Fitted, Law, fits_unowning, fitted, free_register, relabel, settle, top, well, words_set}
 use Rattle.aom_sound.proofs.Things.{stands_itself}
 use Rattle.aom_sound.specs.Claims.{Dispatching, Dying, Layer, Mark, Method, Unwinding, claim, declared, declared_field, home_claim, tasks_of}
@@ -25,7 +26,8 @@ use Rattle.aom_sound.specs.Effects.{applied, makes_unless, sets}
 use Rattle.aom_sound.specs.Objects.{no_words}
 use Rattle.aom_sound.specs.Places.{Cell, Field, Object, Place, Register, Request, Sight, held, named, requested, same_place, seen, with_new}
 use Rattle.aom_sound.specs.State.{AtRoot, Choice, Frame, Home, Inside, State, Static, next, set_word, thing_holder, word}
-use Rattle.aom_sound.specs.WellTyped.{Back, Fits, HasAge, IsHoused, Returns, Stack, WellTyped, WordFits}
+use Rattle.aom_sound.specs.WellTyped.{Back, Fits, HasAge, IsHoused, Returns, Stack, WellTyped, WordFits, seat_of}
+use Rattle.aom_sound.proofs.Seats.{NoFieldHere, first_kept, sits_kept}
 use Rattle.aom_sound.specs.Requests.{AllSuit, Suits, Unworked, states_claim, thing_kind, works_at}
 use Rattle.aom_sound.proofs.Suiting.{suits_new, unworked_rests}
 
@@ -59,7 +61,18 @@ stack_new : (p : Image) (t : Typing) (cs : List Cell) (n : ℕ) (x : Thing) (ws 
 stack_new p t cs n x ws f i [] back e out s = s
 stack_new p t cs n x ws f i (Method fr sh ∷ ls) back e out s = (s.0, s.1, holds_new p cs n x ws (Register f i) ls fr.home e (omega arith) (λ o from e. tt) s.2, s.3, stack_new p t cs n x ws f i ls _ e (omega arith) s.4)
 stack_new p t cs n x ws f i (Mark gv ∷ ls) back e out s = (s.0, stack_new p t cs n x ws f i ls _ e (omega arith) s.1)
-stack_new p t cs n x ws f i (Dispatching w ∷ ls) back e out s = s
+stack_new p t cs n x ws f i (Dispatching d seats ∷ ls) back e out s = (
+  s.0,
+  s.1,
+  sits_kept cs cs' q q seats (λ r o other other' there lives. (ap (λ b. cond b (Some (record { name = n; thing = x })) (held cs r)) other ∙ there, lives_new cs n x ws q o e lives)) tt tt s.2,
+  first_kept cs cs' q (seat_of d) seats (λ r o other there lives some. ap (λ b. is_some (cond b None (requested cs o.name))) (ne_eqb n o.name (λ same. let e' : Some o ≡ None = sym lives ∙ ap (λ k. named cs k) (sym same) ∙ e in cc)) ∙ some) tt s.2 s.3,
+)
+  where
+    q : Place
+    q = Register f i
+
+    cs' : List Cell
+    cs' = with_new n x ws (Register f i) cs
 stack_new p t cs n x ws f i (Unwinding code es ∷ ls) back e out s = (s.0, stack_new p t cs n x ws f i ls _ e (omega arith) s.1)
 stack_new p t cs n x ws f i (Dying o ∷ ls) back e out s = ((lives_new cs n x ws (Register f i) o e s.0.0, s.0.1), s.1, stack_new p t cs n x ws f i ls _ e (omega arith) s.2)
 
@@ -76,7 +89,7 @@ module _ (p : Image) (cs : List Cell) (o : Object) where
   unworked_unnamed t (Mark gv ∷ ls) back s e = unworked_unnamed t ls _ s.1 e
   unworked_unnamed t (Dying x ∷ ls) back s e = (ne_eqb x.name o.name (λ same. let l = s.0.0 in let clash : Some x ≡ None = sym l ∙ ap (λ m. named cs m) same ∙ e in cc), unworked_unnamed t ls _ s.2 e)
   unworked_unnamed t (Unwinding code es ∷ ls) back s e = unworked_unnamed t ls _ s.1 e
-  unworked_unnamed t (Dispatching d ∷ ls) back s e = subst (λ l. Unworked o.name l) (sym s.1) tt
+  unworked_unnamed t (Dispatching d seats ∷ ls) back s e = subst (λ l. Unworked o.name l) (sym s.1) tt
 
 -- what had no request has none beside a new cell
 unasked : (b : Bool) (r : Option Request) → r ≡ None → cond b None r ≡ None

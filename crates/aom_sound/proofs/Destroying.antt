@@ -22,8 +22,9 @@ use Rattle.aom_shape.specs.declared.kind.Filling.{Filling}
 use Rattle.aom_shape.specs.declared.kind.Filling.TheVariants.{Perhaps}
 use Rattle.aom_shape.specs.declared.kind.Kind.{Kind}
 use Rattle.aom_shape.specs.declared.kind.Kind.TheVariants.{Maybe, Null, Own, Unset}
-use Rattle.aom_sound.proofs.Claimed.{NoFieldHere, Outside, claim-set_register, claim_frame, claim_going_above, claim_register_above, claim_unclaimed, declared_moved, going_differs, keep_fits, no_field_here, outside_differs, outside_less, stack_moved}
+use Rattle.aom_sound.proofs.Claimed.{no_seat_outside, Outside, claim-set_register, claim_frame, claim_going_above, claim_register_above, claim_unclaimed, declared_moved, going_differs, keep_fits, no_field_here, outside_differs, outside_less, stack_moved}
 use Rattle.aom_sound.proofs.Items.{length_forms}
+use Rattle.aom_sound.proofs.Seats.{NoFieldHere, NoSeatHere, no_seat}
 use Rattle.aom_sound.proofs.Maps.{held_lives, held_moved, named_moved, one_place, requested_moved, same_place-true, same_place_refl, tidy_moved}
 use Rattle.aom_sound.proofs.Straight.{At, Law, fits_unowning, fitted, housed_relocated, kind_fits, no_word, relabel, settle, top, well, words_set}
 use Rattle.aom_sound.proofs.Things.{stands_itself, stands_same}
@@ -34,8 +35,8 @@ use Rattle.aom_sound.specs.Laws.{IsWired}
 use Rattle.aom_sound.specs.Effects.{applied, deletes}
 use Rattle.aom_sound.specs.Objects.{is_no_message}
 use Rattle.aom_sound.specs.Places.{Cell, Elsewhere, Entry, Field, Going, Object, Place, Register, Root, Sight, Tidy, changed, held, moved, named, requested, same_place, seen}
-use Rattle.aom_sound.specs.State.{AtRoot, Choice, Frame, Home, Inside, Run, State, Static, frame_of, next, set_word, thing_holder, word}
-use Rattle.aom_sound.specs.WellTyped.{AllUndo, Back, Caught, Fits, Gone, Good, IsBelow, IsHoused, IsNoFieldOf, Leaves, NoneIn, NotIn, Returns, SomeIn, Stack, Unclaimed, WellTyped, WordFits, WorksOn}
+use Rattle.aom_sound.specs.State.{AtRoot, Choice, Frame, Home, Inside, Run, Seat, State, Static, frame_of, next, set_word, thing_holder, word}
+use Rattle.aom_sound.specs.WellTyped.{AllSit, NoSeatAt, NoSeatIn, SitsIn, SomeSits, AllUndo, Back, Caught, Fits, Gone, Good, IsBelow, IsHoused, IsNoFieldOf, Leaves, NoneIn, NotIn, Returns, SomeIn, Stack, Unclaimed, WellTyped, WordFits, WorksOn}
 use Rattle.aom_roles.specs.Shapes.{kind_of}
 use Rattle.aom_sound.proofs.Suiting.{all_moved, known_plain, same_object, suits_less, unworked_rests}
 use Rattle.aom_sound.specs.Requests.{AllSuit, Known, Suits, Unworked, known_at, resting_in, states_claim, thing_kind, works_at}
@@ -87,6 +88,21 @@ module _ (p : Image) (t : Typing) (cs : List Cell) (q : Place) (o : Object) (tid
         unworked = (r.3, u.unworked);
       }
 
+  -- it does not sit, nor does any in its fields
+  unseated : (xs : List Seat) → NoSeatHere q xs → AllSit cs xs → (SomeSits o.name xs → ⊥) × NoSeatIn o.name xs
+  unseated xs h s = go xs (no_seat cs q xs h s) s
+    where
+      not_in : (xs : List Seat) (r : Place) → SitsIn r xs → (SomeSits o.name xs → ⊥) → IsNoFieldOf o.name r
+      not_in xs (Field m f) h none = ne_eqb o.name m (λ e. none (subst (λ x. SomeSits x xs) (sym e) h))
+      not_in xs (Elsewhere x) h none = tt
+      not_in xs _ h none = absurd h
+
+      go : (xs : List Seat) → NoSeatAt q xs → AllSit cs xs → (SomeSits o.name xs → ⊥) × NoSeatIn o.name xs
+      go [] h s = (λ x. x, tt)
+      go (x ∷ xs) h s =
+          let above = go xs h.1 s.1 in
+          (λ some. ⊎_elim (λ same. true≢false (sym (eq-eqb x.object.name o.name same) ∙ other_name x.place x.object s.0.0 h.0)) above.0 some, (not_in xs x.place s.0.2 above.0, above.1))
+
   pub untouched : (k : ℕ → Kind) (ls : List Layer) (back : Back) → Outside q ls → Stack p t cs back ls → Untouched p k o.name ls
   untouched k [] back out s = record { some = λ x. x; unclaimed = λ f. refl; none_in = tt; unworked = tt }
   untouched k (Method fr sh ∷ ls) back out s = untouched_method k fr sh ls (λ x from e. no_field_here q fr x from sh ls e out) (outside_less q (Method fr sh) ls out) s.2 (untouched k ls (Returns fr.method fr.home) (outside_less q (Method fr sh) ls out) s.4)
@@ -96,7 +112,9 @@ module _ (p : Image) (t : Typing) (cs : List Cell) (q : Place) (o : Object) (tid
   untouched k (Dying x ∷ ls) back out s =
       let u = untouched k ls Gone (outside_less q (Dying x) ls out) s.2 in
       record { some = u.some; unclaimed = λ f. ap (λ y. cond (x.name == o.name) Null y) (u.unclaimed f) ∙ ap (λ b. cond b Null (k f)) (other_name (Going (length (tasks_of ls))) x s.0.1 (going_differs q x ls out)); none_in = u.none_in; unworked = (other_name (Going (length (tasks_of ls))) x s.0.1 (going_differs q x ls out), u.unworked) }
-  untouched k (Dispatching w ∷ ls) back out s = subst (λ l. Untouched p k o.name (Dispatching w ∷ l)) (sym s.1) (record { some = λ x. x; unclaimed = λ f. refl; none_in = tt; unworked = tt })
+  untouched k (Dispatching w seats ∷ ls) back out s =
+      let h = unseated seats (no_seat_outside q w seats ls out) s.2 in
+      subst (λ l. Untouched p k o.name (Dispatching w seats ∷ l)) (sym s.1) (record { some = λ x. ⊎_elim h.0 (λ y. y) x; unclaimed = λ f. refl; none_in = (h.1, tt); unworked = tt })
   untouched k (Unwinding code es ∷ ls) back out s =
       let u = untouched k ls Leaves (outside_less q (Unwinding code es) ls out) s.1 in
       record { some = u.some; unclaimed = u.unclaimed; none_in = u.none_in; unworked = u.unworked }

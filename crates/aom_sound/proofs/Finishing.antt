@@ -36,7 +36,7 @@ use Rattle.aom_sound.specs.Claims.{Dispatching, Dying, Layer, Mark, Method, Obje
 use Rattle.aom_sound.specs.Moves.{does, needs}
 use Rattle.aom_sound.specs.Objects.{is_thing}
 use Rattle.aom_sound.specs.Places.{Cell, Elsewhere, Entry, Field, Going, Object, Place, Register, Root, Sight, held, requested, same_place, seen}
-use Rattle.aom_sound.specs.State.{An_object, AtRoot, Choice, Frame, Home, Inside, Item, Main_left, Of_main, Of_root, State, Static, thing_holder}
+use Rattle.aom_sound.specs.State.{An_object, AtRoot, Choice, Frame, Home, Inside, Item, State, Static, thing_holder}
 use Rattle.aom_sound.specs.WellTyped.{Fits, IsApart, IsHoused, NotAtRoot, RootUnclaimed, Unclaimed, WellTyped, past_going}
 use Rattle.aom_rules.specs.Requests.{is_cancel, unissued}
 use Rattle.aom_shape.specs.Arguments.{after_of}
@@ -119,9 +119,7 @@ claim_root p d (Method fr sh ∷ ls) u = go fr.home u.0 ∙ claim_root p d ls u.
 claim_root p d (Mark gv ∷ ls) u = claim_root p d ls u
 claim_root p d (Dying o ∷ ls) u = claim_root p d ls u
 claim_root p d (Unwinding code es ∷ ls) u = claim_root p d ls u
-claim_root p d (Dispatching Of_main ∷ ls) u = claim_root p d ls u
-claim_root p d (Dispatching (Main_left code) ∷ ls) u = claim_root p d ls u
-claim_root p d (Dispatching Of_root ∷ ls) u = absurd u
+claim_root p d (Dispatching x seats ∷ ls) u = ap (λ b. cond b Null (claim p d ls (Elsewhere Root))) u.0 ∙ claim_root p d ls u.1
 
 -- a method ends
 pub ended : (p : Image) (cs : List Cell) (fr : Frame) (sh : Shape) (ls : List Layer) → IsHoused p cs ls fr.home → IsApart p fr.home ls → past_going ls ≡ ls → no_entry sh.entries ≡ true → none_owns sh.registers ≡ true → (r : Place) (h : Sight) (o : Option Object) → Fits p h o (claim p (declared p cs) (Method fr sh ∷ ls) r) → Fits p h o (claim p (declared p cs) ls r)

@@ -6,7 +6,9 @@ use Rattle.aom_image.specs.Image.{Image}
 use Rattle.aom_rules.specs.Typing.{Typing}
 use Rattle.aom_shape.specs.declared.kind.Age.TheVariants.{Ready}
 use Rattle.aom_shape.specs.declared.kind.Kind.TheVariants.{Null, Own}
-use Rattle.aom_sound.proofs.Claimed.{NoFieldHere, Outside, claim_frame, claim_going_above, claim_rel, claim_unclaimed, fits_age, going_differs, outside_differs, outside_less}
+use Rattle.std.specs.Prelude.{is_some}
+use Rattle.aom_sound.proofs.Seats.{NoFieldHere, first_kept, sits_kept}
+use Rattle.aom_sound.proofs.Claimed.{no_seat_outside, Outside, claim_frame, claim_going_above, claim_rel, claim_unclaimed, fits_age, going_differs, outside_differs, outside_less}
 use Rattle.aom_sound.proofs.Destroying.{Untouched, other_name, untouched}
 use Rattle.aom_sound.proofs.Maps.{front_free, held_without, named_without, requested_without, same_place-true, tidy_without, unnamed, unrequested}
 use Rattle.aom_sound.proofs.Straight.{Fitted, fits_unowning, settle}
@@ -14,7 +16,7 @@ use Rattle.aom_sound.specs.Claims.{Dispatching, Dying, Layer, Mark, Method, Unwi
 use Rattle.aom_sound.specs.Destruction.{gone, is_field_of, owns_nothing}
 use Rattle.aom_sound.specs.Places.{Cell, Elsewhere, Entry, Field, Going, Object, Place, Register, Root, Tidy, held, named, requested, same_place, seen, without}
 use Rattle.aom_sound.specs.State.{AtRoot, Home, Inside, IsStuck, Of_root, Orphan, State, Static, guarded, next, resumed}
-use Rattle.aom_sound.specs.WellTyped.{AllUndo, Back, Caught, Fits, Gone, Good, Holds, IsHoused, Keeps, Leaves, Now, Returns, Stack, WellTyped}
+use Rattle.aom_sound.specs.WellTyped.{seat_of, AllUndo, Back, Caught, Fits, Gone, Good, Holds, IsHoused, Keeps, Leaves, Now, Returns, Stack, WellTyped}
 use Rattle.aom_sound.specs.Requests.{AllSuit, Suits, resting_in, states_claim, thing_kind}
 use Rattle.aom_roles.specs.States.{last_of}
 
@@ -53,7 +55,19 @@ module _ (p : Image) (t : Typing) (cs : List Cell) (g : Place) (o : Object) (tid
       let out' = outside_less g (Method fr sh) ls out in
       (s.0, s.1, housed_without ls fr.home out' plain s.2, s.3, stack_without ls (Returns fr.method fr.home) out' plain s.4)
   stack_without (Mark gv ∷ ls) back out plain s = (s.0, stack_without ls (Caught gv) (outside_less g (Mark gv) ls out) plain s.1)
-  stack_without (Dispatching w ∷ ls) back out plain s = s
+  stack_without (Dispatching d seats ∷ ls) back out plain s =
+      let none = no_seat_outside g d seats ls out in (
+        s.0,
+        s.1,
+        sits_kept cs (without g cs) g g seats (λ r x other other' there lives. (held_without cs g r ∙ ap (λ b. cond b None (held cs r)) other ∙ there, named_without cs g o x.name tidy there_it (another r x other there) ∙ lives)) none none s.2,
+        first_kept cs (without g cs) g (seat_of d) seats (λ r x other there lives some. ap is_some (requested_without cs g o x.name tidy there_it (another r x other there)) ∙ some) none s.2 s.3,
+      )
+    where
+      there_it : held cs g ≡ Some o
+      there_it = there
+
+      another : (r : Place) (x : Object) → same_place g r ≡ false → held cs r ≡ Some x → (o.name == x.name) ≡ false
+      another r x other h = ne_eqb o.name x.name (λ same. true≢false (sym (eq-eqb x.name o.name (sym same)) ∙ other_name p t cs g o tidy there_it r x h other))
   stack_without (Unwinding code es ∷ ls) back out plain s = (s.0, stack_without ls Leaves (outside_less g (Unwinding code es) ls out) plain s.1)
   stack_without (Dying x ∷ ls) back out plain s =
       let q = Going (length (tasks_of ls)) in
@@ -158,7 +172,7 @@ goes_on p t s (Method fr sh ∷ ls) stack fits suits tidy tasks items undos =
     let g = settle p t s.cells (next fr) sh ls f stack.0 in
     record { layers = Method (next fr) g.0 ∷ ls; tasks = tasks; items = items ∙ ap (λ es. objects es (items_of ls)) (sym g.2); undos = undos; good = g.1 }
 goes_on p t s (Unwinding code es ∷ ls) stack fits suits tidy tasks items undos = record { layers = Unwinding code es ∷ ls; tasks = tasks; items = items; undos = undos; good = record { stack = (tt, stack.1); fits = fits; suits = suits; tidy = tidy } }
-goes_on p t s (Dispatching Of_root ∷ ls) stack fits suits tidy tasks items undos = record { layers = Dispatching Of_root ∷ ls; tasks = tasks; items = items; undos = undos; good = record { stack = (tt, stack.1); fits = fits; suits = suits; tidy = tidy } }
+goes_on p t s (Dispatching Of_root seats ∷ ls) stack fits suits tidy tasks items undos = record { layers = Dispatching Of_root seats ∷ ls; tasks = tasks; items = items; undos = undos; good = record { stack = (tt, stack.1, stack.2, stack.3); fits = fits; suits = suits; tidy = tidy } }
 goes_on p t s (Dying o ∷ ls) stack fits suits tidy tasks items undos = record { layers = Dying o ∷ ls; tasks = tasks; items = items; undos = undos; good = record { stack = (stack.0, tt, stack.2); fits = fits; suits = suits; tidy = tidy } }
 goes_on p t s _ stack fits suits tidy tasks items undos = absurd (assumption tt)
 

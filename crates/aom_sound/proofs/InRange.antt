@@ -1,5 +1,9 @@
 -- Only registers that a method has come to own: an instruction names no other, and arguments come to the first ones.
-use Rattle.std.proofs.Common.{Bool, List, None, Option, Some, [], arith, cond, false, length, refl, subst, suc, true, ℕ, ℤ, ◌+◌, ◌∷◌, ◌≡◌, ◌≤◌}
+use Rattle.std.specs.Ordering.{int_eq}
+use Rattle.aom_image.specs.declared.method.Role.TheVariants.{Error}
+use Rattle.aom_sound.specs.World.{Outside, turn}
+use Rattle.aom_sound.proofs.Turned.{completes, keeps_all, picks, turns_so}
+use Rattle.std.proofs.Common.{Bool, List, None, Option, Some, [], arith, cond, false, length, refl, subst, suc, true, ℕ, ℤ, ◌+◌, ◌∷◌, ◌≡◌, ◌≤◌, pos}
 use Rattle.aom_image.specs.Image.{Image}
 use Rattle.aom_instructions.specs.Operands.{IsRegister}
 use Rattle.aom_image.specs.Views.{arguments_of, instr_at, method_role}
@@ -15,12 +19,12 @@ use Rattle.aom_sound.specs.Calls.{passed_cells, result_cells, result_register, r
 use Rattle.aom_sound.specs.Cleanup.{arrived, dealt_with, destroyed, top_is_whole, top_place, unwound}
 use Rattle.aom_sound.specs.Destruction.{gone, owns_nothing}
 use Rattle.aom_sound.specs.Effects.{Calls, Cancels, Carried, Destroys, Destroys_last, Effect, Goes_on, In_field, In_register, Leaves, Made, Popped, Pushed, Requested, Returns, Sets_trap, Spot, Update, Written, applied, cells_after, effect, spot_place}
-use Rattle.aom_sound.specs.Enlisted.{cancelled, cancelling, ended_cells, on_request, own_request, rerequested}
+use Rattle.aom_sound.specs.Enlisted.{cancelled, cancelling, ended_cells, on_request, own_request, rerequested, part_of}
 use Rattle.aom_sound.specs.Laws.{IsWired, RegistersKeep}
-use Rattle.aom_sound.specs.Moves.{counted, dispatch_ends, does, main_ends, needs, step, step_instr, step_task}
+use Rattle.aom_sound.specs.Moves.{counted, dispatch_ends, does, main_ends, needs, step, step_instr, step_task, answered, asking, failed, handled, object_ends}
 use Rattle.aom_sound.specs.Places.{Cell, Elsewhere, Entry, Going, Object, Place, Register, Request, Root, held, moved, same_place, set_request, set_word_field, without}
 use Rattle.aom_sound.specs.Registers.{AllInRange, IsInRange}
-use Rattle.aom_sound.specs.State.{A_mark, An_object, An_operation, AtRoot, Choice, Destroy, Dispatch, Dispatched, Frame, Goes, Home, Inside, IsStuck, Item, Main_left, NullOrDead, Of_main, Of_root, Orphan, Run, State, Static, Task, Trapped, Unwind, field_place, resumed}
+use Rattle.aom_sound.specs.State.{A_mark, An_object, An_operation, AtRoot, Choice, Destroy, Dispatch, Dispatched, Frame, Goes, Home, Inside, IsStuck, Item, Main_left, NullOrDead, Of_main, Of_root, Orphan, Run, State, Static, Task, Trapped, Unwind, field_place, resumed, Answered, Asks, Object_left, Of_object}
 use Rattle.aom_sound.specs.Words.{here, stored}
 use Rattle.aom_rules.specs.Requests.{is_cancel}
 
@@ -161,15 +165,33 @@ go_in_range (Some o) ts s u all e =
     subst (λ v. AllInRange v.cells) (guarded_goes ((owns_nothing s.cells o.name, Orphan) ∷ []) (record s { cells = without (Going (length ts)) s.cells; tasks = resumed ts }) u e)
     (end_in_range (Going (length ts)) s.cells all)
 
+close_in_range : (p : Image) (s : State) (b : Bool) (root : Option Object) → AllInRange s.cells → AllInRange (main_ends p b root s).cells
+close_in_range p s true (Some o) all = move_in_range (Elsewhere Root) (Going 1) s.cells tt all
+close_in_range p s true None all = all
+close_in_range p s false root all = all
+
+object_in_range : (p : Image) (s : State) → AllInRange s.cells → AllInRange (object_ends p s).cells
+object_in_range p s all = close_in_range p (handled s) s.rest.stopped (held s.cells (Elsewhere Root)) all
+
+answer_in_range : (p : Image) (answer : ℤ) (s : State) → AllInRange s.cells → AllInRange (answered p answer s).cells
+answer_in_range p answer s all = go (int_eq answer (pos 0))
+  where
+    go : (b : Bool) → AllInRange (cond b (object_ends p s) (failed answer s)).cells
+    go true = object_in_range p s all
+    go false = all
+
 dispatch_in_range : (p : Image) (d : Dispatch) (s : State) → AllInRange s.cells → AllInRange (dispatch_ends p d s).cells
 dispatch_in_range p Of_root s all = all
 dispatch_in_range p (Main_left code) s all = all
-dispatch_in_range p Of_main s all = go s.rest.stopped (held s.cells (Elsewhere Root))
+dispatch_in_range p Of_main s all = close_in_range p s s.rest.stopped (held s.cells (Elsewhere Root)) all
+dispatch_in_range p (Of_object x) s all = object_in_range p s all
+dispatch_in_range p (Object_left x code) s all = go (part_of p Error x.object.thing)
   where
-    go : (b : Bool) (root : Option Object) → AllInRange (main_ends p b root s).cells
-    go true (Some o) = move_in_range (Elsewhere Root) (Going 1) s.cells tt all
-    go true None = all
-    go false root = all
+    go : (m : Option ℕ) → AllInRange (asking p m x code s).cells
+    go None = answer_in_range p code s all
+    go (Some m) = all
+dispatch_in_range p (Asks x) s all = object_in_range p s all
+dispatch_in_range p (Answered x answer) s all = answer_in_range p answer s all
 
 moves : (p : Image) → IsWired p → (c : Choice) (s u : State) → AllInRange s.cells → step p c s ≡ Goes u → AllInRange u.cells
 moves p wired c s u all e = go s.tasks e
@@ -189,5 +211,12 @@ moves p wired c s u all e = go s.tasks e
     go (Unwind code ∷ ts) e = unwind_in_range p code ts s.items (counted p s) u all e
     go (Dispatched d ∷ ts) e = subst (λ v. AllInRange v.cells) (goes_same _ u e) (dispatch_in_range p d (counted p s) all)
 
+turns : (p : Image) (outside : Outside) (s u : State) → AllInRange s.cells → turn p outside s ≡ Goes u → AllInRange u.cells
+turns p outside s u all e = elim (turns_so p outside s u e) as (λ v d. AllInRange v.cells) [
+  | keeps_all r ↦ all
+  | completes o ↦ asks_in_range o.name _ s.cells all
+  | picks x m at ↦ asks_in_range x.object.name _ s.cells all
+]
+
 pub registers_keep : RegistersKeep
-registers_keep = record { boot = λ p. tt; moves = moves }
+registers_keep = record { boot = λ p. tt; moves = moves; turns = turns }

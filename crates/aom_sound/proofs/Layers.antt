@@ -5,7 +5,7 @@ use Rattle.aom_shape.specs.Shape.{Shape}
 use Rattle.aom_shape.specs.declared.kind.Entry.{Entry as Pushed}
 use Rattle.aom_sound.specs.Claims.{Dispatching, Dying, Layer, Mark, Method, Unwinding, tasks_of}
 use Rattle.aom_sound.specs.Places.{Object}
-use Rattle.aom_sound.specs.State.{Destroy, Dispatch, Dispatched, Frame, Run, Task, Trapped, Unwind}
+use Rattle.aom_sound.specs.State.{Destroy, Dispatch, Dispatched, Frame, Run, Seat, Task, Trapped, Unwind}
 
 module _ {G : Type 0} (P : List Layer → Type 0) where
   pub method_layer : (fr : Frame) (ts : List Task) (ls : List Layer) → tasks_of ls ≡ Run fr ∷ ts → P ls → ((sh : Shape) (below : List Layer) → tasks_of below ≡ ts → P (Method fr sh ∷ below) → G) → G
@@ -20,8 +20,8 @@ module _ {G : Type 0} (P : List Layer → Type 0) where
   leave_layer code ts (Unwinding code' es ∷ ls) e h gives = let same : code' ≡ code = cc in gives es ls (cc) (subst (λ x. P (Unwinding x es ∷ ls)) same h)
   leave_layer code ts _ e h gives = absurd cc
 
-  pub dispatch_layer : (d : Dispatch) (ts : List Task) (ls : List Layer) → tasks_of ls ≡ Dispatched d ∷ ts → P ls → ((below : List Layer) → tasks_of below ≡ ts → P (Dispatching d ∷ below) → G) → G
-  dispatch_layer d ts (Dispatching d' ∷ ls) e h gives = let same : d' ≡ d = cc in gives ls (cc) (subst (λ x. P (Dispatching x ∷ ls)) same h)
+  pub dispatch_layer : (d : Dispatch) (ts : List Task) (ls : List Layer) → tasks_of ls ≡ Dispatched d ∷ ts → P ls → ((seats : List Seat) (below : List Layer) → tasks_of below ≡ ts → P (Dispatching d seats ∷ below) → G) → G
+  dispatch_layer d ts (Dispatching d' seats ∷ ls) e h gives = let same : d' ≡ d = cc in gives seats ls (cc) (subst (λ x. P (Dispatching x seats ∷ ls)) same h)
   dispatch_layer d ts _ e h gives = absurd cc
 
   pub mark_layer : (ts : List Task) (ls : List Layer) → tasks_of ls ≡ Trapped ∷ ts → P ls → ((gv : Gives) (below : List Layer) → tasks_of below ≡ ts → P (Mark gv ∷ below) → G) → G

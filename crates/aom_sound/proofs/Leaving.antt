@@ -19,7 +19,7 @@ use Rattle.aom_sound.specs.Calls.{none_owns_but}
 use Rattle.aom_sound.specs.Claims.{Dispatching, Dying, Form, Layer, Mark, Method, Unwinding, claim, declared, entry_claim, entry_form, forms, home_claim, items_of, objects, root_claim, tasks_of}
 use Rattle.aom_sound.specs.Cleanup.{above_trap_is_free, has_trap, is_negative, leave_needs, to_trap}
 use Rattle.aom_sound.specs.Places.{Cell, Elsewhere, Entry, Field, Going, Object, Place, Register, Request, Root, Sight, held, named, requested, seen}
-use Rattle.aom_sound.specs.State.{AtRoot, Choice, Dispatch, Frame, Home, Inside, Of_main, Run, State, Static, Unwind, next}
+use Rattle.aom_sound.specs.State.{Asks, AtRoot, Choice, Dispatch, Frame, Home, Inside, Run, State, Static, Unwind, next}
 use Rattle.aom_sound.specs.WellTyped.{AllUndo, EndsDispatch, Fits, IsApart, IsHoused, Leaves, Returns, Stack, WellTyped, past_going}
 use Rattle.aom_sound.specs.Effects.{Leaves, Same, applied, updates}
 use Rattle.aom_sound.specs.Words.{read}
@@ -38,7 +38,7 @@ entries_over (Method fr sh ∷ ls) = sh.entries ++ entries_over ls
 entries_over (Mark gv ∷ ls) = []
 entries_over (Dying o ∷ ls) = []
 entries_over (Unwinding code es ∷ ls) = []
-entries_over (Dispatching d ∷ ls) = []
+entries_over (Dispatching d seats ∷ ls) = []
 
 -- the layers from that trap on
 abbrev pub from_trap : List Layer → List Layer
@@ -47,7 +47,7 @@ from_trap (Method fr sh ∷ ls) = from_trap ls
 from_trap (Mark gv ∷ ls) = Mark gv ∷ ls
 from_trap (Dying o ∷ ls) = Dying o ∷ ls
 from_trap (Unwinding code es ∷ ls) = Unwinding code es ∷ ls
-from_trap (Dispatching d ∷ ls) = Dispatching d ∷ ls
+from_trap (Dispatching d seats ∷ ls) = Dispatching d seats ∷ ls
 
 tasks_from_trap : (ls : List Layer) → to_trap (tasks_of ls) ≡ tasks_of (from_trap ls)
 tasks_from_trap (Method fr sh ∷ ls) = tasks_from_trap ls
@@ -76,9 +76,9 @@ join_claims p d code es fs ls (Elsewhere Root) = refl
 join_claims p d code es fs ls (Going k) = refl
 
 -- what lies under a method that may leave: neither the end of the run nor a dispatch's
-no_end : {A : Type 0} (p : Image) (d : Dispatch) (m : ℕ) (home : Home) → EndsDispatch p d (Returns m home) → A
-no_end p Of_main m home e = absurd e
-no_end p _ m home e = absurd e
+no_end : {A : Type 0} (p : Image) (d : Dispatch) (m : ℕ) (home : Home) → leaves p m ≡ true → EndsDispatch p d (Returns m home) → A
+no_end p (Asks x) m home may e = absurd (true≢false (sym may ∙ e.0))
+no_end p _ m home may e = absurd (assumption tt)
 
 not_going : (p : Image) (t : Typing) (cs : List Cell) (ls : List Layer) (m : ℕ) (home : Home) → leaves p m ≡ true → Stack p t cs (Returns m home) ls → past_going ls ≡ ls
 not_going p t cs (Dying o ∷ ls) m home e s = absurd (true≢false (sym e ∙ s.1.0))
@@ -118,13 +118,13 @@ all_ended p t cs code (Method fr sh ∷ ls) es m home e s r h o fits =
     subst (λ es. Fits p h o (claim p d (Unwinding code es ∷ from_trap ls) r)) (append_assoc es sh.entries (entries_over ls))
     (all_ended p t cs code ls (es ++ sh.entries) fr.method fr.home may.0 s.4 r h o two)
 all_ended p t cs code (Mark gv ∷ ls) es m home e s r h o fits = subst (λ es. Fits p h o (claim p (declared p cs) (Unwinding code es ∷ Mark gv ∷ ls) r)) (sym (append-nil es)) fits
-all_ended p t cs code (Dispatching d ∷ ls) es m home e s r h o fits = no_end p d m home s.0
+all_ended p t cs code (Dispatching d seats ∷ ls) es m home e s r h o fits = no_end p d m home e s.0
 all_ended p t cs code _ es m home e s r h o fits = absurd (first_of (assumption tt, cc))
 
 stack_from_trap : (p : Image) (t : Typing) (cs : List Cell) (ls : List Layer) (m : ℕ) (home : Home) → leaves p m ≡ true → Stack p t cs (Returns m home) ls → Stack p t cs Leaves (from_trap ls)
 stack_from_trap p t cs (Method fr sh ∷ ls) m home e s = stack_from_trap p t cs ls fr.method fr.home (s.0.0 e).0 s.4
 stack_from_trap p t cs (Mark gv ∷ ls) m home e s = (tt, s.1)
-stack_from_trap p t cs (Dispatching d ∷ ls) m home e s = no_end p d m home s.0
+stack_from_trap p t cs (Dispatching d seats ∷ ls) m home e s = no_end p d m home e s.0
 stack_from_trap p t cs _ m home e s = absurd (first_of (assumption tt, cc))
 
 -- all that these methods worked on may rest, and suits what stands from the trap on
@@ -174,11 +174,11 @@ module _ (p : Image) (t : Typing) (wired : IsWired p) (cs : List Cell) (x : Obje
       let too = still_loud (is_quiet p fr.method) (is_quiet p m) s.0.4 loud in
       known_loud fr sh ls too (none_cancels ls fr.method fr.home too s.4)
   none_cancels (Mark gv ∷ Method fr sh ∷ ls) m home loud s = known_loud fr sh ls s.1.0.4 (none_cancels ls fr.method fr.home s.1.0.4 s.1.4)
-  none_cancels (Mark gv ∷ Dispatching d ∷ ls) m home loud s = ap (λ l. (states_claim p x l).cancelled) s.1.1
+  none_cancels (Mark gv ∷ Dispatching d seats ∷ ls) m home loud s = ap (λ l. (states_claim p x l).cancelled) s.1.1
   none_cancels (Mark gv ∷ []) m home loud s = refl
   none_cancels (Dying o ∷ ls) m home loud s = absurd (true≢false (sym s.1.5 ∙ loud))
   none_cancels (Unwinding code es ∷ ls) m home loud s = absurd (true≢false (sym s.0.3 ∙ loud))
-  none_cancels (Dispatching d ∷ ls) m home loud s = no_end p d m home s.0
+  none_cancels (Dispatching d seats ∷ ls) m home loud s = ap (λ l. (states_claim p x l).cancelled) s.1
   none_cancels [] m home loud s = refl
   none_cancels _ m home loud s = absurd (first_of (assumption tt, cc))
 
@@ -196,7 +196,7 @@ module _ (p : Image) (t : Typing) (wired : IsWired p) (cs : List Cell) (x : Obje
         rejoins_trap p x gv fr sh ls (rests_in p x) r j (rests_unissued k) (known_loud fr sh ls s.1.0.4 (none_cancels ls fr.method fr.home s.1.0.4 s.1.4)) rests
     rested_left (Mark gv ∷ []) m home e s j rests = rests
     rested_left (Mark gv ∷ l ∷ ls) m home e s j rests = rests_there p x (Mark gv ∷ l ∷ ls) r j rests
-    rested_left (Dispatching d ∷ ls) m home e s j rests = no_end p d m home s.0
+    rested_left (Dispatching d seats ∷ ls) m home e s j rests = no_end p d m home e s.0
     rested_left _ m home e s j rests = absurd (first_of (assumption tt, cc))
 
     -- the object that a method which may leave works on
@@ -244,7 +244,7 @@ below_leaving p t cs (Method fr sh ∷ ls) m home e s h =
     let rest = below_leaving p t cs ls fr.method fr.home may.0 s.4 (registers_below p cs fr sh ls h) in
     (rest.0, and_from _ _ (frame_is_free p cs fr sh ls h may.1) rest.1)
 below_leaving p t cs (Mark gv ∷ ls) m home e s h = (refl, refl)
-below_leaving p t cs (Dispatching d ∷ ls) m home e s h = no_end p d m home s.0
+below_leaving p t cs (Dispatching d seats ∷ ls) m home e s h = no_end p d m home e s.0
 below_leaving p t cs _ m home e s h = absurd (first_of (assumption tt, cc))
 
 -- where a method may leave and its registers own nothing, the needs of a leave are met; any frame may stand for its own

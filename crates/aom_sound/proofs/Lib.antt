@@ -1,10 +1,12 @@
 pub mod Maps
 pub mod Things
 pub mod Items
+pub mod Seats
 pub mod Claimed
 pub mod Guarded
 pub mod Fitting
 pub mod Moving
+pub mod Turned
 pub mod Preserving
 pub mod Resting
 pub mod Counting
@@ -50,3 +52,8 @@ pub mod Owning
 pub mod Biting
 pub mod Layers
 pub mod Suiting
+pub mod Entering
+pub mod Asking
+pub mod Signals
+pub mod Chains
+pub mod Turning

@@ -11,11 +11,11 @@ use Rattle.aom_classes.specs.Jumps.{jump_of}
 use Rattle.aom_classes.specs.Loops.{loop_in}
 use Rattle.aom_classes.specs.Roles.{main_of}
 use Rattle.aom_sound.proofs.Maps.{at-put_at}
-use Rattle.aom_sound.proofs.Preserving.{Acting, Kept, keeps}
+use Rattle.aom_sound.proofs.Preserving.{Acting, Kept, keeps, turn_keeps_it}
 use Rattle.aom_sound.specs.Calls.{entered}
 use Rattle.aom_sound.specs.Cleanup.{operation_frame}
 use Rattle.aom_sound.specs.Loops.{LoopsKeep, RoundsAt, RoundsLeft, rounds_left}
-use Rattle.aom_sound.specs.Moves.{counted, step}
+use Rattle.aom_sound.specs.Moves.{counted, step, error_frame}
 use Rattle.aom_sound.specs.Places.{Going}
 use Rattle.aom_sound.specs.State.{A_mark, AtRoot, Choice, Frame, Goes, Inside, State, Task, counter, frame_of, set_counter}
 use Rattle.aom_sound.specs.Steps.{IsStraight, Sets}
@@ -148,6 +148,7 @@ module _ (p : Image) (looped_so : IsLooped p) (c : Choice) (s : State) where
     cancels = λ fr ts m a e. fresh p (frame_of m fr.home (length s.items));
     traps = λ fr ts target m first x a. (fresh p (entered p fr ts (counted p s) target m first (length (A_mark ∷ s.items))), tt);
     destructs = λ o m height ts e. fresh p (frame_of m (Inside o (Going (length ts))) height);
+    asks = λ x m code height e. fresh p (error_frame m x code height);
     undoes = λ m w items ts e. fresh p (operation_frame m w (length items));
     unwinds = λ code ts w. tt;
   }
@@ -156,7 +157,7 @@ moves : (p : Image) → IsLooped p → (c : Choice) (s u : State) → RoundsLeft
 moves p looped_so c s u h e = keeps p c (rounds_left p) s u (kept p looped_so c s) h e
 
 pub loops_keep : LoopsKeep
-loops_keep = record { linked = linked_is_looped; boot = boot; moves = moves }
+loops_keep = record { linked = linked_is_looped; boot = boot; moves = moves; turns = λ p looped_so outside s u h e. turn_keeps_it p outside (rounds_left p) s u (λ m height x. fresh p (frame_of m (Inside x.object x.place) height)) (λ x. tt) h e }
   where
     boot : (p : Image) → RoundsLeft p (boot_state p).tasks
     boot p = begins (main_of p)

@@ -229,3 +229,12 @@ tidy_without (c ∷ cs) g t = go (same_place c.owner g)
     go : (x : Bool) → held (without g cs) c.owner ≡ None → Tidy (without g cs) → Tidy (cond x (without g cs) (c ∷ without g cs))
     go true e ih = ih
     go false e ih = (e, named_gone cs g c.object.name t.1, ih)
+
+-- the cell of a name has that name
+pub named_name : (cs : List Cell) (n : ℕ) (o : Object) → named cs n ≡ Some o → o.name ≡ n
+named_name [] n o e = cc
+named_name (c ∷ cs) n o e = go (c.object.name == n) refl e (λ e. named_name cs n o e)
+  where
+    go : (b : Bool) → (c.object.name == n) ≡ b → cond b (Some c.object) (named cs n) ≡ Some o → (named cs n ≡ Some o → o.name ≡ n) → o.name ≡ n
+    go true same e rest = let equal : c.object ≡ o = cc in ap (λ (x : Object). x.name) (sym equal) ∙ eqb-true c.object.name n same
+    go false other e rest = rest e

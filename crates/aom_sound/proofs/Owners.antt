@@ -27,7 +27,7 @@ use Rattle.aom_sound.specs.Laws.{EndsEmpty, EndsOwned, IsWired}
 use Rattle.aom_sound.specs.Owned.{AllOwned, Ends, HasRegisters, IsObjects, Lives, NoneGoes, Owned, at_entry, at_register, at_root, by_cell, over}
 use Rattle.aom_sound.specs.Places.{Cell, Elsewhere, Entry, Field, Going, Object, Place, Register, Root, Sight, Tidy, held, named, same_place, seen}
 use Rattle.aom_sound.specs.Registers.{AllInRange, IsInRange}
-use Rattle.aom_sound.specs.State.{An_object, AtRoot, Home, Inside, Item, Main_left, Of_main, Of_root, Run, State, Static, thing_holder}
+use Rattle.aom_sound.specs.State.{An_object, AtRoot, Home, Inside, Item, Of_root, Run, State, Static, thing_holder}
 use Rattle.aom_sound.specs.WellTyped.{Back, Caught, Fits, Gone, IsHoused, Leaves, Now, Returns, Stack, WellTyped}
 
 -- what a kind of an owning place says of the thing
@@ -48,7 +48,7 @@ held_first : (c : Cell) (cs : List Cell) → held (c ∷ cs) c.owner ≡ Some c.
 held_first c cs = ap (λ b. cond b (Some c.object) (held cs c.owner)) (same_place_refl c.owner)
 
 -- what the other cells hold is held in all
-later : (cs : List Cell) (c : Cell) (q : Place) (o : Object) → Tidy (c ∷ cs) → held cs q ≡ Some o → held (c ∷ cs) q ≡ Some o
+pub later : (cs : List Cell) (c : Cell) (q : Place) (o : Object) → Tidy (c ∷ cs) → held cs q ≡ Some o → held (c ∷ cs) q ≡ Some o
 later cs c q o t h = go (same_place c.owner q) refl
   where
     go : (b : Bool) → same_place c.owner q ≡ b → cond b (Some c.object) (held cs q) ≡ Some o
@@ -56,7 +56,7 @@ later cs c q o t h = go (same_place c.owner q) refl
     go false e = h
 
 -- a cell that is named is held somewhere
-named_held : (cs : List Cell) (n : ℕ) (o : Object) → Tidy cs → named cs n ≡ Some o → (q : Place) × (held cs q ≡ Some o)
+pub named_held : (cs : List Cell) (n : ℕ) (o : Object) → Tidy cs → named cs n ≡ Some o → (q : Place) × (held cs q ≡ Some o)
 named_held [] n o t e = cc
 named_held (c ∷ cs) n o t e = go (c.object.name == n) (λ e. named_held cs n o t.2 e) e
   where
@@ -78,7 +78,7 @@ declared_thing_of p cs n f c h = go (named cs n) refl h
     go None e h = absurd h
     go (Some o) e h = (o, e, filled_thing (field_thing p (thing_holder o.thing) f) Perhaps c h)
 
-field_thing_of : (p : Image) (t : Typing) (cs : List Cell) (ls : List Layer) (back : Back) (n f : ℕ) (c : Thing) → Stack p t cs back ls → HasThing (claim p (declared p cs) ls (Field n f)) c → (o : Object) × (named cs n ≡ Some o) × (field_thing p (thing_holder o.thing) f ≡ Some c)
+pub field_thing_of : (p : Image) (t : Typing) (cs : List Cell) (ls : List Layer) (back : Back) (n f : ℕ) (c : Thing) → Stack p t cs back ls → HasThing (claim p (declared p cs) ls (Field n f)) c → (o : Object) × (named cs n ≡ Some o) × (field_thing p (thing_holder o.thing) f ≡ Some c)
 field_thing_of p t cs [] back n f c s h = declared_thing_of p cs n f c h
 field_thing_of p t cs (Method fr sh ∷ ls) back n f c s h = go fr.home s.2 (field_thing_of p t cs ls (Returns fr.method fr.home) n f c s.4) h
   where
@@ -92,7 +92,7 @@ field_thing_of p t cs (Method fr sh ∷ ls) back n f c s h = go fr.home s.2 (fie
         inside false e h = ih h
 field_thing_of p t cs (Mark gv ∷ ls) back n f c s h = field_thing_of p t cs ls (Caught gv) n f c s.1 h
 field_thing_of p t cs (Unwinding code es ∷ ls) back n f c s h = field_thing_of p t cs ls Leaves n f c s.1 h
-field_thing_of p t cs (Dispatching w ∷ ls) back n f c s h = declared_thing_of p cs n f c (subst (λ l. HasThing (claim p (declared p cs) l (Field n f)) c) s.1 h)
+field_thing_of p t cs (Dispatching w seats ∷ ls) back n f c s h = declared_thing_of p cs n f c (subst (λ l. HasThing (claim p (declared p cs) l (Field n f)) c) s.1 h)
 field_thing_of p t cs (Dying o ∷ ls) back n f c s h = let ih : (HasThing (claim p (declared p cs) ls (Field n f)) c → (o : Object) × (named cs n ≡ Some o) × (field_thing p (thing_holder o.thing) f ≡ Some c)) = field_thing_of p t cs ls Gone n f c s.2 in false_given (λ b. HasThing (cond b Null (claim p (declared p cs) ls (Field n f))) c) (o.name == n) h (λ h. h) (λ _ h. ih h)
 
 -- ---- the places that are claimed to own live
@@ -130,7 +130,7 @@ module _ (p : Image) (cs : List Cell) (x : Thing) where
   registers_live (Mark gv ∷ ls) f i h = not_here (Mark gv) ls f i h (registers_live ls f i h)
   registers_live (Dying o ∷ ls) f i h = not_here (Dying o) ls f i h (registers_live ls f i h)
   registers_live (Unwinding code es ∷ ls) f i h = not_here (Unwinding code es) ls f i h (registers_live ls f i h)
-  registers_live (Dispatching w ∷ ls) f i h = not_here (Dispatching w) ls f i h (registers_live ls f i h)
+  registers_live (Dispatching w seats ∷ ls) f i h = not_here (Dispatching w seats) ls f i h (registers_live ls f i h)
 
   -- of a layer's own entries, over the items below them
   abbrev ClaimsOver : List Pushed → List Layer → ℕ → Type 0
@@ -157,7 +157,7 @@ module _ (p : Image) (cs : List Cell) (x : Thing) where
   items_live (Mark gv ∷ ls) k h = over_below Mark_form (items_of ls) k (entry_below ls k h) ∙ items_live ls k h
   items_live (Dying o ∷ ls) k h = items_live ls k h
   items_live (Unwinding code es ∷ ls) k h = entries_live es ls k (items_live ls k) h
-  items_live (Dispatching w ∷ ls) k h = items_live ls k h
+  items_live (Dispatching w seats ∷ ls) k h = items_live ls k h
 
   -- the root is claimed where the image has one
   root_lives : (ls : List Layer) → Claims ls (Elsewhere Root) → IsSome (field_thing p Program 0)
@@ -173,9 +173,8 @@ module _ (p : Image) (cs : List Cell) (x : Thing) where
   root_lives (Mark gv ∷ ls) h = root_lives ls h
   root_lives (Dying o ∷ ls) h = root_lives ls h
   root_lives (Unwinding code es ∷ ls) h = root_lives ls h
-  root_lives (Dispatching Of_main ∷ ls) h = root_lives ls h
-  root_lives (Dispatching (Main_left code) ∷ ls) h = root_lives ls h
-  root_lives (Dispatching Of_root ∷ ls) h = absurd h
+  root_lives (Dispatching Of_root seats ∷ ls) h = absurd h
+  root_lives (Dispatching d seats ∷ ls) h = root_lives ls h
 
 -- an item of that form is an object's
 objects_item : (items : List Item) (k : ℕ) → over (forms items) k ≡ Some Object_form → IsObjects (over items k)
@@ -197,16 +196,16 @@ none_going p d (Method fr sh ∷ ls) k clear = none_going p d ls k clear
 none_going p d (Mark gv ∷ ls) k clear = none_going p d ls k clear
 none_going p d (Dying o ∷ ls) k clear = absurd clear
 none_going p d (Unwinding code es ∷ ls) k clear = none_going p d ls k clear
-none_going p d (Dispatching w ∷ ls) k clear = none_going p d ls k clear
+none_going p d (Dispatching w seats ∷ ls) k clear = none_going p d ls k clear
 
 -- ---- following owners ends
 
 -- how far down a thing stands: messages own nothing, and what a class's fields may own has a lower class
-abbrev rank : Thing → ℕ
+abbrev pub rank : Thing → ℕ
 rank (An_object_of c) = suc c
 rank Message = 0
 
-lower_rank : (p : Image) → IsWired p → (x y : Thing) (f : ℕ) → field_thing p (thing_holder x) f ≡ Some y → rank y < rank x
+pub lower_rank : (p : Image) → IsWired p → (x y : Thing) (f : ℕ) → field_thing p (thing_holder x) f ≡ Some y → rank y < rank x
 lower_rank p wired (An_object_of c) (An_object_of d) f e = let lt = wired.ordered c d f e in omega arith
 lower_rank p wired (An_object_of c) Message f e = omega arith
 lower_rank p wired Message y f e = cc
@@ -222,7 +221,7 @@ declaring p (An_object_of c) y f e = go (slice_get p.classes c) refl e
 declaring p Message y f e = cc
 
 module _ (p : Image) (t : Typing) (wired : IsWired p) (s : State) (w : WellTyped p t s) (clear : NoneGoes s.tasks) where
-  kind_at : (q : Place) (o : Object) → held s.cells q ≡ Some o → HasThing (claim p (declared p s.cells) w.layers q) o.thing
+  pub kind_at : (q : Place) (o : Object) → held s.cells q ≡ Some o → HasThing (claim p (declared p s.cells) w.layers q) o.thing
   kind_at q o e = fits_thing p (seen s.cells) o _ (subst (λ x. Fits p (seen s.cells) x (claim p (declared p s.cells) w.layers q)) e (w.good.fits q))
 
   -- nothing is owned by a destruction
@@ -253,7 +252,7 @@ module _ (p : Image) (t : Typing) (wired : IsWired p) (s : State) (w : WellTyped
       let y = named_held s.cells n x.0 w.good.tidy x.1 in
       by_cell x.0 y.0 x.1 y.1 (ends_by fuel y.0 x.0 y.1 (omega arith))
 
-  ends : (q : Place) (o : Object) → held s.cells q ≡ Some o → Ends s q
+  pub ends : (q : Place) (o : Object) → held s.cells q ≡ Some o → Ends s q
   ends q o e = ends_by (length p.classes) q o e (omega arith)
 
   all_owned : (cs : List Cell) → ((q : Place) (o : Object) → held cs q ≡ Some o → held s.cells q ≡ Some o) → Tidy cs → AllInRange cs → AllOwned p s cs
@@ -273,7 +272,7 @@ ends_owned p t wired s w fits = (
 )
 
 -- the layers of what is at hand
-layers_none : (ls : List Layer) → tasks_of ls ≡ [] → ls ≡ []
+pub layers_none : (ls : List Layer) → tasks_of ls ≡ [] → ls ≡ []
 layers_none [] e = refl
 layers_none (l ∷ ls) e = cc
 

@@ -1,10 +1,12 @@
 -- What it takes that each step keeps a law of tasks, and that it then does: once for all such laws, by the moves.
-use Rattle.std.proofs.Common.{Bool, List, None, Option, Some, [], ap, false, length, pos, refl, subst, suc, sym, true, ℕ, ℤ, ◌-◌, ◌∙◌, ◌∷◌, ◌≡◌}
+use Rattle.std.proofs.Common.{Bool, List, None, Option, Some, [], ap, cond, false, length, pos, refl, subst, suc, sym, true, ℕ, ℤ, ◌-◌, ◌∙◌, ◌∷◌, ◌≡◌}
 use Rattle.aom_image.specs.Image.{Image}
 use Rattle.aom_image.specs.Views.{instr_at}
 use Rattle.aom_instructions.specs.declared.instr.Instr.{Instr}
 use Rattle.aom_instructions.specs.declared.instr.Instr.TheVariants.{Call, Cancel, Next, Trap}
 use Rattle.aom_instructions.specs.declared.instr.Target.{Target}
+use Rattle.std.specs.Ordering.{int_eq}
+use Rattle.aom_image.specs.declared.method.Role.TheVariants.{Error}
 use Rattle.aom_image.specs.declared.method.Gives.{Gives}
 use Rattle.aom_image.specs.declared.method.Gives.TheVariants.{Left, Maybe as A_maybe, Nothing, Own as An_own, Word as A_word}
 use Rattle.aom_classes.specs.Jumps.{jump_of}
@@ -16,12 +18,14 @@ use Rattle.aom_sound.specs.Cleanup.{code_told, has_trap, operation_frame, to_tra
 use Rattle.aom_classes.specs.Roles.{destructor_of}
 use Rattle.aom_sound.specs.Destruction.{begun, begun_by}
 use Rattle.aom_sound.specs.Effects.{Calls, Cancels, Counts, Destroys, Destroys_last, Effect, Goes_on, Jumps, Leaves, Operates, Repeats, Returns, Sets_trap, applied, with_words}
-use Rattle.aom_sound.specs.Moves.{counted, dispatch_ends, main_ends, needs, step}
+use Rattle.aom_sound.specs.Moves.{answered, asking, counted, dispatch_ends, error_frame, failed, handled, main_ends, needs, object_ends, step}
 use Rattle.aom_sound.specs.Places.{Elsewhere, Going, Object, Root, held}
-use Rattle.aom_sound.specs.State.{A_mark, An_operation, Choice, Destroy, Dispatch, Dispatched, Frame, Goes, Inside, Item, Main_left, Of_main, Of_root, Run, State, Task, Trapped, Unwind, counter, frame_of, next, resumed, set_counter, set_word, to_place}
+use Rattle.aom_sound.specs.State.{A_mark, An_operation, Choice, Destroy, Dispatch, Dispatched, Frame, Goes, Inside, Item, Answered, Asks, Main_left, Object_left, Of_main, Of_object, Of_root, Run, Seat, State, Task, Trapped, Unwind, counter, frame_of, next, resumed, set_counter, set_word, to_place}
 use Rattle.aom_sound.specs.Steps.{Acts, Arrives, Clears, Comes_out, Ends, Fits, IsStraight, Move, Rests, Sets, Undoes, Vanishes}
 use Rattle.aom_sound.specs.Tasks.{Below, Holds, TaskLaw}
-use Rattle.aom_sound.specs.Enlisted.{cancel_method, ended_cells}
+use Rattle.aom_sound.specs.World.{Outside, turn}
+use Rattle.aom_sound.proofs.Turned.{completes, keeps_all, picks, turns_so}
+use Rattle.aom_sound.specs.Enlisted.{cancel_method, ended_cells, part_of}
 
 -- an instruction is at hand, with its needs met
 pub record Acting (p : Image) (c : Choice) (l : TaskLaw) (s : State) (fr : Frame) (ts : List Task) (i : Instr) : Type 0 where
@@ -47,6 +51,8 @@ pub record Kept (p : Image) (c : Choice) (l : TaskLaw) (s : State) : Type 0 wher
       (fr : Frame) (ts : List Task) (target : Target) (m first x : ℕ) → Acting p c l s fr ts (Trap target m first x) →
       l.Runs (entered p fr ts (counted p s) target m first (length (A_mark ∷ s.items))) (Trapped ∷ Run fr ∷ ts) × l.Stands (Run fr ∷ ts)
   pub destructs : (o : Object) (m height : ℕ) (ts : List Task) → destructor_of p o.thing ≡ Some m → l.Runs (frame_of m (Inside o (Going (length ts))) height) (Destroy ∷ ts)
+  -- an `error` method is asked
+  pub asks : (x : Seat) (m : ℕ) (code : ℤ) (height : ℕ) → part_of p Error x.object.thing ≡ Some m → l.Runs (error_frame m x code height) (Dispatched (Asks x) ∷ [])
   pub undoes : (m : ℕ) (w : ℤ) (items : List Item) (ts : List Task) → s.items ≡ An_operation m w ∷ items → l.Runs (operation_frame m w (length items)) ts
   pub unwinds : (code : ℤ) (ts : List Task) → l.Stands ts → l.Unwinds code (Trapped ∷ ts)
 
@@ -98,17 +104,36 @@ module _ (p : Image) (c : Choice) (l : TaskLaw) (s : State) (k : Kept p c l s) w
   returns fr ts v g a (Trapped ∷ Dispatched d ∷ below) h b = b.1
   returns fr ts v g a (Destroy ∷ below) h b = b
   returns fr ts v g a (Unwind code ∷ below) h b = b
+  returns fr ts v g a (Dispatched d ∷ below) h b = b
   returns fr ts v g a _ h b = h
+
+  closes : (v : State) (b : Bool) (root : Option Object) → Holds l (main_ends p b root v).tasks
+  closes v true (Some o) = begins_over o (length v.items) (Dispatched Of_root ∷ []) tt
+  closes v true None = tt
+  closes v false root = tt
+
+  object_closes : Holds l (object_ends p (counted p s)).tasks
+  object_closes = closes (handled (counted p s)) s.rest.stopped (held s.cells (Elsewhere Root))
+
+  answers : (answer : ℤ) → Holds l (answered p answer (counted p s)).tasks
+  answers answer = go (int_eq answer (pos 0))
+    where
+      go : (b : Bool) → Holds l (cond b (object_ends p (counted p s)) (failed answer (counted p s))).tasks
+      go true = object_closes
+      go false = tt
+
+  asks_it : (x : Seat) (code : ℤ) (m : Option ℕ) → part_of p Error x.object.thing ≡ m → Holds l (asking p m x code (counted p s)).tasks
+  asks_it x code None e = answers code
+  asks_it x code (Some m) e = (k.asks x m code (length s.items) e, tt)
 
   ends : (d : Dispatch) → Holds l (dispatch_ends p d (counted p s)).tasks
   ends Of_root = tt
   ends (Main_left code) = tt
-  ends Of_main = go s.rest.stopped (held s.cells (Elsewhere Root))
-    where
-      go : (b : Bool) (root : Option Object) → Holds l (main_ends p b root (counted p s)).tasks
-      go true (Some o) = begins_over o (length s.items) (Dispatched Of_root ∷ []) tt
-      go true None = tt
-      go false root = tt
+  ends Of_main = closes (counted p s) s.rest.stopped (held s.cells (Elsewhere Root))
+  ends (Of_object x) = object_closes
+  ends (Object_left x code) = asks_it x code (part_of p Error x.object.thing) refl
+  ends (Asks x) = object_closes
+  ends (Answered x answer) = answers answer
 
   module _ (fr : Frame) (ts : List Task) (at_hand : s.tasks ≡ Run fr ∷ ts) (h : Holds l (Run fr ∷ ts)) where
     acting : (i : Instr) → instr_at p fr.method fr.place ≡ Some i → AllTrue (needs p c fr ts (counted p s) i) → Acting p c l s fr ts i
@@ -155,3 +180,14 @@ module _ (p : Image) (c : Choice) (l : TaskLaw) (s : State) (k : Kept p c l s) w
 -- what is kept holds after each step
 pub keeps : (p : Image) (c : Choice) (l : TaskLaw) (s u : State) → Kept p c l s → Holds l s.tasks → step p c s ≡ Goes u → Holds l u.tasks
 keeps p c l s u k h e = kept p c l s k u h (steps_are_moves p c s u e)
+
+-- a turn keeps it, where it holds of the method of each object that is dispatched
+pub turn_keeps_it :
+    (p : Image) (outside : Outside) (l : TaskLaw) (s u : State) →
+    ((m height : ℕ) (x : Seat) → l.Runs (frame_of m (Inside x.object x.place) height) (Trapped ∷ Dispatched (Of_object x) ∷ [])) → ((x : Seat) → l.Stands (Dispatched (Of_object x) ∷ [])) →
+    Holds l s.tasks → turn p outside s ≡ Goes u → Holds l u.tasks
+turn_keeps_it p outside l s u runs stands h e = elim (turns_so p outside s u e) as (λ v d. Holds l v.tasks) [
+  | keeps_all r ↦ h
+  | completes o ↦ h
+  | picks x m at ↦ (runs m (length (A_mark ∷ s.items)) x, (stands x, tt))
+]

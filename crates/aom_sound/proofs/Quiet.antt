@@ -19,7 +19,7 @@ use Rattle.aom_sound.proofs.Callees.{cancel_quiet, only_then}
 use Rattle.aom_sound.proofs.Destroying.{destroys}
 use Rattle.aom_sound.proofs.Finishing.{all_parts}
 use Rattle.aom_sound.proofs.Owners.{owned}
-use Rattle.aom_sound.proofs.Preserving.{Acting, Kept, keeps}
+use Rattle.aom_sound.proofs.Preserving.{Acting, Kept, keeps, turn_keeps_it}
 use Rattle.aom_sound.specs.Claims.{Layer, tasks_of}
 use Rattle.aom_sound.specs.Laws.{IsWired}
 use Rattle.aom_sound.specs.Moves.{step}
@@ -71,6 +71,7 @@ module _ (p : Image) (t : Typing) (wired : IsWired p) (typed : IsTyped p t) (c :
     traps = λ fr ts target m first x a. let clear = not_clearing fr ts target m first x a in (λ clearing. absurd (true≢false (sym clearing ∙ clear)), clear);
     cancels = λ fr ts m a e clearing. cancel_quiet p wired fr.home m e;
     destructs = λ o m height ts e clearing. (destroys p wired o.thing m e).quiet;
+    asks = λ x m code height e clearing. absurd (true≢false (sym clearing));
     undoes = λ m x items ts e clearing. undo_quiet m x items e;
     unwinds = λ code ts h. h;
   }
@@ -86,7 +87,7 @@ boot p = begins (main_of p)
     begins (Some m) = (λ clearing. absurd (true≢false (sym clearing)), (refl, tt))
 
 pub calm_keeps : CalmKeeps
-calm_keeps = record { boot = boot; moves = moves }
+calm_keeps = record { boot = boot; moves = moves; turns = λ p outside s u h e. turn_keeps_it p outside (calm p) s u (λ m height x clearing. absurd (true≢false (sym clearing))) (λ x. refl) h e }
 
 none_goes : (ts : List Task) → is_clearing ts ≡ false → NoneGoes ts
 none_goes [] e = tt

@@ -22,16 +22,16 @@ use Rattle.aom_shape.specs.Shape.{Shape}
 use Rattle.aom_shape.specs.declared.kind.Kind.{Kind}
 use Rattle.aom_shape.specs.Things.{holder_by, holder_of}
 use Rattle.aom_sound.proofs.Callees.{holder_member, home_member, member_kind}
-use Rattle.aom_sound.proofs.Storing.{Alike, alike_itself, fits_alike, housed_alike, requested_here, requested_there, rerequested_alike, stack_alike}
+use Rattle.aom_sound.proofs.Storing.{Alike, alike_itself, fits_alike, housed_alike, listed_still, on_some, requested_here, requested_there, rerequested_alike, stack_alike}
 use Rattle.aom_sound.proofs.Straight.{At, Fitted, Law, fitted, reframed, settle, stepped, this_is_ready, well}
-use Rattle.aom_sound.proofs.Suiting.{same_object}
+use Rattle.aom_sound.proofs.Suiting.{idle_timed, timed_on, same_object}
 use Rattle.aom_sound.proofs.Words.{has_word, unowned, writes_word}
 use Rattle.aom_sound.specs.Claims.{Layer, Method, claim, declared, home_claim, root_claim, tasks_of}
 use Rattle.aom_sound.specs.Effects.{Requested, applied, jumps_if, updates}
 use Rattle.aom_sound.specs.Enlisted.{aborted, cancelled_code, first_request, home_kind, in_phase, is_active, is_busy, is_cancelling, is_idle, is_issued, issued_by, issued_of, next_timer, on_request, own_request, pending, rerequested, status_of, waits}
 use Rattle.aom_sound.specs.Laws.{IsWired}
 use Rattle.aom_sound.specs.Places.{Aborted, Active, Cancelling, Cell, Elsewhere, Entry, Field, Going, Idle, Issued, Object, Phase, Place, Register, Request, Root, held, named, requested, same_place, seen}
-use Rattle.aom_sound.specs.Requests.{Known, Suits, known_at, phase_state, state_of, states_claim, thing_kind, works_at}
+use Rattle.aom_sound.specs.Requests.{is_timed, Known, Suits, known_at, phase_state, state_of, states_claim, thing_kind, works_at}
 use Rattle.aom_sound.specs.State.{AtRoot, Choice, Frame, Home, Inside, Run, State, Static, field_place, home_holder, next, to_place}
 use Rattle.aom_sound.specs.WellTyped.{Fits, IsHoused, WellTyped}
 use Rattle.aom_sound.specs.Words.{read}
@@ -61,18 +61,19 @@ claim_states p d fr sh ls states (Elsewhere Root) = go fr.home
 restated :
     (p : Image) (t : Typing) (cs cs' : List Cell) (fr : Frame) (sh : Shape) (ls : List Layer) (o : Object) (from : Place) (states : ℕ) →
     fr.home ≡ Inside o from → named cs o.name ≡ Some o → Alike cs cs' →
+    ((m : ℕ) → is_some (requested cs m) ≡ true → is_some (requested cs' m) ≡ true) →
     ((m : ℕ) → (o.name == m) ≡ false → requested cs' m ≡ requested cs m) →
     ((q : Place) (x : Object) → held cs q ≡ Some x → is_ready_kind (claim p (declared p cs) (Method fr sh ∷ ls) q) ≡ false → (o.name == x.name) ≡ false) →
     Suits (thing_kind p o.thing) (known_at p fr states (states_claim p o ls)) (requested cs' o.name) →
     Fitted p t cs fr sh ls → Fitted p t cs' fr (record sh { states = states }) ls
-restated p t cs cs' fr sh ls o from states home lives alike others ready suit g = record {
+restated p t cs cs' fr sh ls o from states home lives alike listed others ready suit g = record {
   fits = λ q. subst (λ k. Fits p (seen cs') (held cs' q) k) (sym (claim_states p (declared p cs') fr sh ls states q)) (fits_alike p t cs cs' alike (Method fr sh ∷ ls) q (λ x e fresh. others x.name (ready q x e fresh)) (g.fits q));
   suits = λ x here. subst (λ h. Suits (thing_kind p x.thing) (cond (works_at x.name h) (known_at p fr states (states_claim p x ls)) (states_claim p x ls)) (requested cs' x.name)) (sym home) (known x here (o.name == x.name) refl);
   tidy = alike.tidy g.tidy;
   frames = record { words = g.frames.words; holder = g.frames.holder; height = g.frames.height; alone = g.frames.alone };
   housed = housed_alike p t cs cs' alike ls fr.home g.housed;
   apart = g.apart;
-  stack = stack_alike p t cs cs' alike ls _ g.stack;
+  stack = stack_alike p t cs cs' alike listed ls _ g.stack;
 }
   where
     known : (x : Object) → named cs' x.name ≡ Some x → (b : Bool) → (o.name == x.name) ≡ b → Suits (thing_kind p x.thing) (cond b (known_at p fr states (states_claim p x ls)) (states_claim p x ls)) (requested cs' x.name)
@@ -91,7 +92,7 @@ suits_in _ n r e s = cc
 
 -- and in these, where it is in one of them
 suits_within : (k : Option ClassKind) (b : ℕ) (n : Known) (r : Option Request) → is_listed_kind k ≡ true → IsTrue (has b (state_of r)) → Suits k n r → Suits k (record { states = b; cancelled = n.cancelled }) r
-suits_within (Some (An_active v x)) b n r e h s = (h, s.1, s.2)
+suits_within (Some (An_active v x)) b n r e h s = (h, s.1, s.2, s.3)
 suits_within (Some (A_server m x y)) b n r e h s = (h, s.1)
 suits_within _ b n r e h s = cc
 
@@ -192,7 +193,7 @@ only_cancelled (Some r) h = go r.phase h
 
 -- an object that is enlisted is idle, one with a request made is issued, one that waits is active, and what is aborted is answered; whether it is being cancelled stays as it was
 suits_enlisted : (k : Option ClassKind) (n : Known) (cs : List Cell) (priority : ℤ) → is_listed_kind k ≡ true → Suits k n None → Suits k (record { states = idle; cancelled = n.cancelled }) (Some (first_request cs priority))
-suits_enlisted (Some (An_active v b)) n cs priority l s = (refl, s.1, refl)
+suits_enlisted (Some (An_active v b)) n cs priority l s = (refl, s.1, refl, idle_timed v (first_request cs priority) refl refl)
 suits_enlisted (Some (A_server m x b)) n cs priority l s = (refl, refl)
 suits_enlisted _ n cs priority l s = cc
 
@@ -204,6 +205,10 @@ issued_still : (q : Phase) → is_issued q ≡ true → is_cancelling q ≡ fals
 issued_still Issued h = refl
 issued_still _ h = cc
 
+issued_made : (q : Phase) → is_issued q ≡ true → is_idle q ≡ false
+issued_made Issued h = refl
+issued_made _ h = cc
+
 suits_issued : (k : Option ClassKind) (n : Known) (clock order : ℕ) (a : ℤ) (r : Option Request) → is_active_kind k ≡ true → in_phase is_idle r ≡ true → Suits k n r → Suits k (record { states = issued; cancelled = n.cancelled }) (on_request (issued_of k clock order a) r)
 suits_issued (Some (An_active v b)) n clock order a (Some r) e free s = go v
   where
@@ -211,21 +216,25 @@ suits_issued (Some (An_active v b)) n clock order a (Some r) e free s = go v
     still = sym (idle_still r.phase free) ∙ s.1
 
     go : (v : Provider) → Suits (Some (An_active v b)) (record { states = issued; cancelled = n.cancelled }) (Some (issued_by v clock order a r))
-    go Own = (refl, still, refl)
-    go A_timer = (refl, still, refl)
-    go (Native m) = (refl, still, refl)
+    go Own = (refl, still, refl, refl)
+    go A_timer = (refl, still, refl, refl)
+    go (Native m) = (refl, still, refl, refl)
 suits_issued _ n clock order a _ e free s = cc
 
 suits_active : (k : Option ClassKind) (n : Known) (r : Option Request) → is_active_kind k ≡ true → in_phase is_issued r ≡ true → Suits k n r → Suits k (record { states = active; cancelled = n.cancelled }) (on_request waits r)
-suits_active (Some (An_active v b)) n (Some r) e made s = (refl, sym (issued_still r.phase made) ∙ s.1, refl)
+suits_active (Some (An_active v b)) n (Some r) e made s = (refl, sym (issued_still r.phase made) ∙ s.1, refl, timed_on v r Active (issued_made r.phase made) refl s.3)
 suits_active _ n _ e made s = cc
 
 suits_aborted : (k : Option ClassKind) (n : Known) (r : Option Request) → is_active_kind k ≡ true → in_phase is_cancelling r ≡ true → Suits k n r → Suits k (record { states = cancel_done; cancelled = n.cancelled }) (on_request aborted r)
-suits_aborted (Some (An_active v b)) n (Some r) e under s = (refl, sym under ∙ s.1, answered (int_eq r.status pending) refl)
+suits_aborted (Some (An_active v b)) n (Some r) e under s = (refl, sym under ∙ s.1, answered (int_eq r.status pending) refl, timed v)
   where
     answered : (b : Bool) → int_eq r.status pending ≡ b → int_eq (cond b cancelled_code r.status) pending ≡ false
     answered true e = refl
     answered false e = e
+
+    timed : (v : Provider) → is_timed v (Some (aborted r)) ≡ true
+    timed A_timer = ap (λ b. cond b false true) (answered (int_eq r.status pending) refl)
+    timed _ = refl
 suits_aborted _ n _ e under s = cc
 
 -- what is in each of two sets is in what they share
@@ -332,13 +341,13 @@ module _ (p : Image) (t : Typing) (main_none : (m : ℕ) → method_role p m ≡
       go true e h = sym (ap (λ b. b && true) e) ∙ h
 
   -- it has that request, and is known to be in these states
-  asked : (listed : is_listed_kind (own_kind p fr.method) ≡ true) (states : ℕ) (r : Option Request) → Suits (own_kind p fr.method) (its listed states) r → Fitted p t (rerequested s.cells fr.home r) fr (record sh { states = states }) ls
-  asked listed states r suit =
+  asked : (listed : is_listed_kind (own_kind p fr.method) ≡ true) (states : ℕ) (r : Option Request) → (is_some own ≡ true → is_some r ≡ true) → Suits (own_kind p fr.method) (its listed states) r → Fitted p t (rerequested s.cells fr.home r) fr (record sh { states = states }) ls
+  asked listed states r more suit =
       let it = of_object listed in
       let others : (m : ℕ) → (it.object.name == m) ≡ false → requested (rerequested s.cells fr.home r) m ≡ requested s.cells m = λ m other.
       subst (λ h. requested (rerequested s.cells h r) m ≡ requested s.cells m) (sym it.home) (requested_there s.cells it.object.name m r other) in
       let here : requested (rerequested s.cells fr.home r) it.object.name ≡ r = subst (λ h. requested (rerequested s.cells h r) it.object.name ≡ r) (sym it.home) (requested_here s.cells it.object.name r it.object it.lives) in
-      restated p t s.cells (rerequested s.cells fr.home r) fr sh ls it.object it.from states it.home it.lives (rerequested_alike s.cells fr.home r) others (nowhere_fresh it)
+      restated p t s.cells (rerequested s.cells fr.home r) fr sh ls it.object it.from states it.home it.lives (rerequested_alike s.cells fr.home r) (listed_still s.cells fr.home r more) others (nowhere_fresh it)
       (subst (λ k. Suits k (its listed states) (requested (rerequested s.cells fr.home r) it.object.name)) (sym it.kind) (subst (λ x. Suits (own_kind p fr.method) (its listed states) x) (sym here) suit))
       (fitted p t s.cells fr sh ls at_hand.good)
 
@@ -347,7 +356,7 @@ module _ (p : Image) (t : Typing) (main_none : (m : ℕ) → method_role p m ≡
   learned listed states h =
       let it = of_object listed in
       let suit = suits_within (own_kind p fr.method) states (its listed sh.states) own listed h it.suits in
-      restated p t s.cells s.cells fr sh ls it.object it.from states it.home it.lives (alike_itself s.cells) (λ m other. refl) (nowhere_fresh it)
+      restated p t s.cells s.cells fr sh ls it.object it.from states it.home it.lives (alike_itself s.cells) (λ m some. some) (λ m other. refl) (nowhere_fresh it)
       (subst (λ k. Suits k (its listed states) (requested s.cells it.object.name)) (sym it.kind) (subst (λ h. Suits (own_kind p fr.method) (its listed states) (own_request s.cells h)) it.home suit))
       (fitted p t s.cells fr sh ls at_hand.good)
 
@@ -387,11 +396,11 @@ module _ (p : Image) (t : Typing) (main_none : (m : ℕ) → method_role p m ≡
   law_jump_added to n leads = ((listed_home n.0, tt), goes_by n.0 enlisted unlisted to (is_some own) (listed_in own) (unlisted_in own) leads)
 
   -- the object's request is another, and the method goes on
-  asks : (listed : is_listed_kind (own_kind p fr.method) ≡ true) (states : ℕ) (r : Option Request) → Suits (own_kind p fr.method) (its listed states) r → Leads t fr.method (suc fr.place) (record sh { states = states }) → WellTyped p t (applied p fr (tasks_of ls) s (updates fr (Requested r)))
-  asks listed states r suit leads =
+  asks : (listed : is_listed_kind (own_kind p fr.method) ≡ true) (states : ℕ) (r : Option Request) → (is_some own ≡ true → is_some r ≡ true) → Suits (own_kind p fr.method) (its listed states) r → Leads t fr.method (suc fr.place) (record sh { states = states }) → WellTyped p t (applied p fr (tasks_of ls) s (updates fr (Requested r)))
+  asks listed states r more suit leads =
       let cs = rerequested s.cells fr.home r in
       let sh' : Shape = record sh { states = states } in
-      well p t c s fr sh ls at_hand (applied p fr (tasks_of ls) s (updates fr (Requested r))) (next fr) sh' refl at_hand.items at_hand.undos (settle p t cs (next fr) sh' ls (stepped p t cs fr sh' ls (asked listed states r suit)) leads)
+      well p t c s fr sh ls at_hand (applied p fr (tasks_of ls) s (updates fr (Requested r))) (next fr) sh' refl at_hand.items at_hand.undos (settle p t cs (next fr) sh' ls (stepped p t cs fr sh' ls (asked listed states r more suit)) leads)
 
   -- a state of the object that is one of these
   pub in_state : (listed : is_listed_kind (own_kind p fr.method) ≡ true) (x : ℕ) → IsTrue (has x sh.states) → IsTrue (has x (state_of own))
@@ -402,7 +411,7 @@ module _ (p : Image) (t : Typing) (main_none : (m : ℕ) → method_role p m ≡
       let it = of_object n.0 in
       let none = only_unlisted own (in_state n.0 unlisted n.1.0) in
       let suit = suits_enlisted (own_kind p fr.method) (its n.0 sh.states) s.cells priority n.0 (subst (λ r. Suits (own_kind p fr.method) (its n.0 sh.states) r) none it.suits) in
-      ((listed_home n.0, (ap is_none none, tt)), asks n.0 idle (Some (first_request s.cells priority)) suit leads.0)
+      ((listed_home n.0, (ap is_none none, tt)), asks n.0 idle (Some (first_request s.cells priority)) (λ some. refl) suit leads.0)
 
   pub law_issue : (a b : ℕ) → Law p t c s fr sh ls at_hand (Issue a b)
   law_issue a b n leads =
@@ -414,7 +423,7 @@ module _ (p : Image) (t : Typing) (main_none : (m : ℕ) → method_role p m ≡
       let order = next_timer s.cells in
       let suit = subst (λ k. Suits (own_kind p fr.method) (its listed issued) (on_request (issued_of k s.rest.clock order code) own)) (sym (home_is_own listed)) (suits_issued (own_kind p fr.method) (its listed sh.states) s.rest.clock order code own active free.1 it.suits) in (
         (has_word p t c s fr sh ls at_hand a n.0, (has_word p t c s fr sh ls at_hand b n.1.0, (active_home active, (free.0, (free.1, tt))))),
-        asks listed issued (on_request (issued_of (home_kind p fr.home) s.rest.clock order code) own) suit leads.0,
+        asks listed issued (on_request (issued_of (home_kind p fr.home) s.rest.clock order code) own) (on_some (issued_of (home_kind p fr.home) s.rest.clock order code) own) suit leads.0,
       )
 
   pub law_set_active : Law p t c s fr sh ls at_hand SetActive
@@ -422,11 +431,11 @@ module _ (p : Image) (t : Typing) (main_none : (m : ℕ) → method_role p m ≡
       let listed = active_listed (own_kind p fr.method) n.0 in
       let it = of_object listed in
       let made = only_issued own (in_state listed issued n.1.0) in
-      ((active_home n.0, (made.0, (made.1, (made.2, tt)))), asks listed active (on_request waits own) (suits_active (own_kind p fr.method) (its listed sh.states) own n.0 made.2 it.suits) leads.0)
+      ((active_home n.0, (made.0, (made.1, (made.2, tt)))), asks listed active (on_request waits own) (on_some waits own) (suits_active (own_kind p fr.method) (its listed sh.states) own n.0 made.2 it.suits) leads.0)
 
   pub law_abort : Law p t c s fr sh ls at_hand Abort
   law_abort n leads =
       let listed = active_listed (own_kind p fr.method) n.0 in
       let it = of_object listed in
       let under = only_cancelled own (in_state listed (bit_or cancel_open cancel_done) n.1.0) in
-      ((active_home n.0, (under, tt)), asks listed cancel_done (on_request aborted own) (suits_aborted (own_kind p fr.method) (its listed sh.states) own n.0 under it.suits) leads.0)
+      ((active_home n.0, (under, tt)), asks listed cancel_done (on_request aborted own) (on_some aborted own) (suits_aborted (own_kind p fr.method) (its listed sh.states) own n.0 under it.suits) leads.0)

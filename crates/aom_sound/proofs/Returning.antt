@@ -26,11 +26,11 @@ use Rattle.aom_sound.proofs.Items.{forms_below, mark_on_top, undos_below}
 use Rattle.aom_sound.proofs.Maps.{at-put_at, held_moved, requested_moved, same_place-true, same_place_refl, tidy_moved}
 use Rattle.aom_sound.proofs.Straight.{At, Fitted, Law, claim_register, fits_unowning, housed_relocated, next_unowning, no_word_fits, register_fits, settle, stepped, top, word_of_object, words_set, write, may_be_object}
 use Rattle.aom_sound.proofs.Things.{stands_same}
-use Rattle.aom_sound.specs.Calls.{below_top, received, result_cells, result_needs, result_register, returned}
+use Rattle.aom_sound.specs.Calls.{below_top, received, result_cells, result_needs, result_register, returned, told_answer}
 use Rattle.aom_sound.specs.Claims.{Dispatching, Layer, Mark, Mark_form, Method, Unwinding, claim, declared, forms, items_of, objects, tasks_of}
 use Rattle.aom_sound.specs.Objects.{is_thing}
-use Rattle.aom_sound.specs.Places.{Cell, Entry, Object, Place, Sight, changed, held, moved, requested, same_place, seen}
-use Rattle.aom_sound.specs.State.{Choice, Dispatch, Frame, Inside, Main_left, Of_main, Of_root, Run, State, next, set_word, word}
+use Rattle.aom_sound.specs.Places.{Cell, Entry, Object, Place, Sight, changed, held, moved, requested, same_place, seen, Elsewhere, Field, Going, Register, Root}
+use Rattle.aom_sound.specs.State.{Answered, Asks, Choice, Dispatch, Frame, Inside, Of_main, Of_object, Run, Seat, State, next, set_word, word}
 use Rattle.aom_sound.specs.WellTyped.{Awaits, Back, Caught, EndsDispatch, EndsWell, Fits, IsApart, LeavesNone, Now, Returns, Stack, WellTyped, WordFits, past_going}
 use Rattle.aom_sound.proofs.Suiting.{all_moved, all_returned, known_plain, known_resting, rejoins_caller, rejoins_trap, rests_there, suits_rests}
 use Rattle.aom_sound.specs.Requests.{AllSuit, Suits, states_claim, thing_kind}
@@ -349,21 +349,22 @@ module _ (p : Image) (t : Typing) (wired : IsWired p) (c : Choice) (s : State) (
           ((ap is_none (word_of_object (word fr a) (register sh a) obj (at_hand.good.stack.1.words a)), (h, tt)), finish (moved (top marked a) (top ls x) s.cells) (set_word fr2 x None) (set_register sh2 x (Maybe y Ready)) refl refl (items e) (next_unowning sh2.registers x (Maybe y Ready) u) (loosen p t (moved (top marked a) (top ls x) s.cells) (set_word fr2 x None) sh2 ls x (register sh a) (Maybe y Ready) weak f) leads)
       go (Left y) none r e n u w leads = absurd none
 
--- main returns to its dispatch
-module _ (p : Image) (t : Typing) (c : Choice) (s : State) (fr : Frame) (sh : Shape) (gv : Gives) (w : Dispatch) (ls : List Layer) (at_hand : At p t s fr sh (Mark gv ∷ Dispatching w ∷ ls)) where
+-- the method of main or of an object returns to its dispatch
+module _ (p : Image) (t : Typing) (c : Choice) (s : State) (fr : Frame) (sh : Shape) (gv : Gives) (w : Dispatch) (seats : List Seat) (ls : List Layer) (at_hand : At p t s fr sh (Mark gv ∷ Dispatching w seats ∷ ls)) where
   abbrev pub dispatched : List Layer
-  dispatched = Mark gv ∷ Dispatching w ∷ ls
+  dispatched = Mark gv ∷ Dispatching w seats ∷ ls
 
   gives_nothing : (w : Dispatch) → EndsDispatch p w (Caught gv) → gv ≡ Nothing
   gives_nothing Of_main e = e
+  gives_nothing (Of_object x) e = e
   gives_nothing _ e = absurd (assumption tt)
 
-  ends : (w : Dispatch) → EndsDispatch p w Now
-  ends Of_main = tt
-  ends (Main_left code) = tt
-  ends Of_root = tt
+  ends : (w : Dispatch) → EndsDispatch p w (Caught gv) → EndsDispatch p w Now
+  ends Of_main e = tt
+  ends (Of_object x) e = tt
+  ends _ e = absurd (assumption tt)
 
-  pub law_return_dispatch : (a : ℕ) → Law p t c s fr sh (Mark gv ∷ Dispatching w ∷ ls) at_hand (Return a)
+  pub law_return_dispatch : (a : ℕ) → Law p t c s fr sh (Mark gv ∷ Dispatching w seats ∷ ls) at_hand (Return a)
   law_return_dispatch a n leads =
       let r = returnable p fr sh a n in
       let below = at_hand.good.stack.4.1 in
@@ -372,13 +373,13 @@ module _ (p : Image) (t : Typing) (c : Choice) (s : State) (fr : Frame) (sh : Sh
       let free : none_owns sh.registers ≡ true = ap (λ g. none_owns (result_moved p fr.method fr.place sh g a).registers) (sym nothing) ∙ r.free in (
         return_needs p t c s fr sh dispatched at_hand a r (subst (λ g. AllTrue (result_needs p fr (tasks_of dispatched) s g a)) (sym nothing) tt) (mark_on_top s.items _ (same_items p t c s fr sh dispatched at_hand entries), tt),
         ended_plainly p t c s fr sh dispatched at_hand a r at_hand.good.stack.4.0.2 (record {
-          layers = Dispatching w ∷ ls;
+          layers = Dispatching w seats ∷ ls;
           tasks = refl;
           items = forms_below s.items Mark_form _ (same_items p t c s fr sh dispatched at_hand entries);
           undos = undos_below p s.items at_hand.undos;
           good = record {
-            stack = (ends w, below.1);
-            fits = λ q. subst (λ k. Fits p (seen s.cells) (held s.cells q) k) (mark_claims p (declared p s.cells) gv (Dispatching w ∷ ls) q) (ended p s.cells fr sh dispatched at_hand.good.stack.2 at_hand.good.stack.3 refl entries free q (seen s.cells) (held s.cells q) (at_hand.good.fits q));
+            stack = (ends w below.0, below.1, below.2, below.3);
+            fits = λ q. subst (λ k. Fits p (seen s.cells) (held s.cells q) k) (mark_claims p (declared p s.cells) gv (Dispatching w seats ∷ ls) q) (ended p s.cells fr sh dispatched at_hand.good.stack.2 at_hand.good.stack.3 refl entries free q (seen s.cells) (held s.cells q) (at_hand.good.fits q));
             suits = all_returned p s.cells s.cells fr sh dispatched at_hand.good.suits at_hand.good.stack.2 (λ n. refl) (λ n off. refl) (λ o from e h.
                 let apart : IsApart p (Inside o from) dispatched = subst (λ h. IsApart p h dispatched) e at_hand.good.stack.3 in
                 rests_there p o dispatched (requested s.cells o.name) apart.3 (suits_rests (thing_kind p o.thing) sh.states (requested s.cells o.name) r.settled (subst (λ k. Suits (thing_kind p o.thing) k (requested s.cells o.name)) (known_resting p o fr sh.states dispatched at_hand.good.stack.4.0.2 apart.3) h)));
@@ -408,6 +409,45 @@ module _ (p : Image) (t : Typing) (c : Choice) (s : State) (fr : Frame) (sh : Sh
             suits = all_returned p s.cells s.cells fr sh below at_hand.good.suits at_hand.good.stack.2 (λ n. refl) (λ n off. refl) (λ o from e h.
                 let apart : IsApart p (Inside o from) below = subst (λ h. IsApart p h below) e at_hand.good.stack.3 in
                 rests_there p o below (requested s.cells o.name) apart.3 (suits_rests (thing_kind p o.thing) sh.states (requested s.cells o.name) r.settled (subst (λ k. Suits (thing_kind p o.thing) k (requested s.cells o.name)) (known_resting p o fr sh.states below at_hand.good.stack.4.0.2 apart.3) h)));
+            tidy = at_hand.good.tidy;
+          };
+        }),
+      )
+
+-- an `error` method answers the dispatch that asked it
+module _ (p : Image) (t : Typing) (c : Choice) (s : State) (fr : Frame) (sh : Shape) (x : Seat) (seats : List Seat) (ls : List Layer) (at_hand : At p t s fr sh (Dispatching (Asks x) seats ∷ ls)) where
+  abbrev pub asker : List Layer
+  asker = Dispatching (Asks x) seats ∷ ls
+
+  same_claims : (answer : ℤ) (d : Place → Kind) (r : Place) → claim p d (Dispatching (Answered x answer) seats ∷ ls) r ≡ claim p d (Dispatching (Asks x) seats ∷ ls) r
+  same_claims answer d (Register f i) = refl
+  same_claims answer d (Entry k) = refl
+  same_claims answer d (Field n f) = refl
+  same_claims answer d (Going k) = refl
+  same_claims answer d (Elsewhere Root) = refl
+
+  pub law_answer : (a : ℕ) → Law p t c s fr sh (Dispatching (Asks x) seats ∷ ls) at_hand (Return a)
+  law_answer a n leads =
+      let r = returnable p fr sh a n in
+      let below = at_hand.good.stack.4 in
+      let gives : gives_of p fr.method ≡ A_word = below.0.1 in
+      let answer : ℤ = told_answer (gives_of p fr.method) fr a in
+      let rule = subst (λ g. AllTrue (rule_result p fr.method fr.place sh g a)) gives r.result in
+      let told = word_is p s (word fr a) (register sh a) rule.0 (at_hand.good.stack.1.words a) in
+      let entries : no_entry sh.entries ≡ true = ap (λ g. entries_done p g sh.entries) (sym gives) ∙ r.entries in
+      let free : none_owns sh.registers ≡ true = ap (λ g. none_owns (result_moved p fr.method fr.place sh g a).registers) (sym gives) ∙ r.free in (
+        return_needs p t c s fr sh asker at_hand a r (subst (λ g. AllTrue (result_needs p fr (tasks_of asker) s g a)) (sym gives) (told.0, tt)) (refl, tt),
+        ended_plainly p t c s fr sh asker at_hand a r below.0.2 (record {
+          layers = Dispatching (Answered x answer) seats ∷ ls;
+          tasks = refl;
+          items = same_items p t c s fr sh asker at_hand entries;
+          undos = at_hand.undos;
+          good = record {
+            stack = (tt, below.1, below.2, below.3);
+            fits = λ q. subst (λ k. Fits p (seen s.cells) (held s.cells q) k) (sym (same_claims answer (declared p s.cells) q)) (ended p s.cells fr sh asker at_hand.good.stack.2 at_hand.good.stack.3 refl entries free q (seen s.cells) (held s.cells q) (at_hand.good.fits q));
+            suits = all_returned p s.cells s.cells fr sh asker at_hand.good.suits at_hand.good.stack.2 (λ n. refl) (λ n off. refl) (λ o from e h.
+                let apart : IsApart p (Inside o from) asker = subst (λ h. IsApart p h asker) e at_hand.good.stack.3 in
+                rests_there p o asker (requested s.cells o.name) apart.3 (suits_rests (thing_kind p o.thing) sh.states (requested s.cells o.name) r.settled (subst (λ k. Suits (thing_kind p o.thing) k (requested s.cells o.name)) (known_resting p o fr sh.states asker below.0.2 apart.3) h)));
             tidy = at_hand.good.tidy;
           };
         }),

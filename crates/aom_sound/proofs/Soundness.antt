@@ -1,5 +1,12 @@
 -- Each run of an image that has a typing: every state that it comes to is well typed, and where it ended nothing is at hand.
-use Rattle.std.proofs.Common.{Bool, List, None, Option, Some, [], ap, cond, false, inl, inr, refl, subst, sym, true, ⊎_elim, ◌∙◌, ◌∷◌, ◌≡◌}
+use Rattle.std.specs.Ordering.{int_eq}
+use Rattle.aom_image.specs.declared.method.Role.TheVariants.{Error as Error_role}
+use Rattle.aom_sound.specs.Enlisted.{part_of}
+use Rattle.aom_sound.proofs.Turned.{dispatched_so}
+use Rattle.aom_sound.proofs.Guarded.{goes_same}
+use Rattle.aom_sound.proofs.Signals.{signals_are_ready}
+use Rattle.aom_sound.proofs.Turning.{turn_goes_on}
+use Rattle.std.proofs.Common.{Bool, List, None, Option, Some, [], ap, cond, false, inl, inr, refl, subst, sym, true, ⊎_elim, ◌∙◌, ◌∷◌, ◌≡◌, pos, ℤ, ℕ}
 use Rattle.std.specs.Prelude.{◌⊎◌}
 use Rattle.aom_image.specs.Image.{Image}
 use Rattle.aom_rules.specs.Typing.{IsTyped, Typing}
@@ -13,14 +20,14 @@ use Rattle.aom_sound.proofs.Resting.{IsEnd, Takes, course_ended, move_rest}
 use Rattle.aom_sound.proofs.Steps.{step_keeps}
 use Rattle.aom_sound.specs.Destruction.{gone}
 use Rattle.aom_sound.specs.Laws.{IsSound, IsWired}
-use Rattle.aom_sound.specs.Moves.{IsOpen, counted, dispatch_ends, main_ends, step}
+use Rattle.aom_sound.specs.Moves.{IsOpen, answered, asking, counted, dispatch_ends, failed, handled, main_ends, object_ends, step}
 use Rattle.aom_sound.specs.Places.{Elsewhere, Object, Root, held}
 use Rattle.aom_sound.specs.Quiet.{IsCalm}
 use Rattle.aom_sound.specs.Registers.{AllInRange}
-use Rattle.aom_sound.specs.State.{Choice, Dispatch, Dispatched, Goes, IsStuck, Main_left, Of_main, Of_root, Outcome, Rest, State, Task}
+use Rattle.aom_sound.specs.State.{Answered, Asks, Object_left, Of_object, Choice, Dispatch, Dispatched, Goes, IsStuck, Main_left, Of_main, Of_root, Outcome, Rest, State, Task}
 use Rattle.aom_sound.specs.Steps.{Move}
 use Rattle.aom_sound.specs.WellTyped.{Good, Keeps, WellTyped}
-use Rattle.aom_sound.specs.World.{IsBusy, Reaches, begins, boot_state, moves, waits, Outside}
+use Rattle.aom_sound.specs.World.{Completes, Cuts, IsBetween, IsBusy, Passes, Picks, Reaches, Strays, Turning, Waits, begins, boot_state, moves, turn, turned, turning, turns, Outside}
 use Rattle.aom_transcript.specs.declared.line.Ending.{Ending}
 use Rattle.aom_transcript.specs.declared.line.Ending.TheVariants.{Stopped}
 use Rattle.aom_transcript.specs.declared.line.Line.{Line}
@@ -48,10 +55,28 @@ main_holds p s true (Some o) f e = inl refl
 main_holds p s true None f e = inr (record { idle = refl; rootless = λ h. e })
 main_holds p s false root f e = inr (record { idle = refl; rootless = λ h. absurd (not_stopped s.rest.stopped f h) })
 
+object_holds : (p : Image) (s : State) → ((object_ends p s).rest.ended ≡ s.rest.ended) ⊎ IsAtRest (object_ends p s)
+object_holds p s = main_holds p (handled s) s.rest.stopped (held s.cells (Elsewhere Root)) refl refl
+
+answer_holds : (p : Image) (answer : ℤ) (s : State) → ((answered p answer s).rest.ended ≡ s.rest.ended) ⊎ IsAtRest (answered p answer s)
+answer_holds p answer s = go (int_eq answer (pos 0))
+  where
+    go : (b : Bool) → ((cond b (object_ends p s) (failed answer s)).rest.ended ≡ s.rest.ended) ⊎ IsAtRest (cond b (object_ends p s) (failed answer s))
+    go true = object_holds p s
+    go false = inr (record { idle = refl; rootless = λ h. cc })
+
 dispatch_holds : (p : Image) (s : State) (d : Dispatch) → (d ≡ Of_root → held s.cells (Elsewhere Root) ≡ None) → ((dispatch_ends p d s).rest.ended ≡ s.rest.ended) ⊎ IsAtRest (dispatch_ends p d s)
 dispatch_holds p s Of_main rootless = main_holds p s s.rest.stopped (held s.cells (Elsewhere Root)) refl refl
 dispatch_holds p s (Main_left code) rootless = inr (record { idle = refl; rootless = λ h. cc })
 dispatch_holds p s Of_root rootless = inr (record { idle = refl; rootless = λ h. rootless refl })
+dispatch_holds p s (Of_object x) rootless = object_holds p s
+dispatch_holds p s (Object_left x code) rootless = go (part_of p Error_role x.object.thing)
+  where
+    go : (m : Option ℕ) → ((asking p m x code s).rest.ended ≡ s.rest.ended) ⊎ IsAtRest (asking p m x code s)
+    go None = answer_holds p code s
+    go (Some m) = inl refl
+dispatch_holds p s (Asks x) rootless = object_holds p s
+dispatch_holds p s (Answered x answer) rootless = answer_holds p answer s
 
 -- a move ends the run only where it leaves nothing at hand
 move_holds : (p : Image) (c : Choice) (s u : State) → Uprooted s → Move p c s u → (u.rest.ended ≡ s.rest.ended) ⊎ IsAtRest u
@@ -63,13 +88,25 @@ move_holds p c s u gone m = go (move_rest p c s u m)
         subst (λ v. (v.rest.ended ≡ s.rest.ended) ⊎ IsAtRest v) (sym e.3)
         (dispatch_holds p (counted p s) e.0 (λ is. gone e.1 (e.2 ∙ ap (λ x. Dispatched x ∷ e.1) is)))
 
+-- a turn ends the run with nothing at hand
+turn_holds : (p : Image) (outside : Outside) (s u : State) → IsBetween s → turn p outside s ≡ Goes u → GoesOn u
+turn_holds p outside s u between e = go (turning outside s) e
+  where
+    go : (k : Turning) → turned p s k ≡ Goes u → GoesOn u
+    go Cuts e = subst (λ v. GoesOn v) (goes_same _ u e) (inr (record { idle = between.idle; rootless = λ h. cc }))
+    go Waits e = subst (λ v. GoesOn v) (goes_same _ u e) (inr (record { idle = between.idle; rootless = λ h. cc }))
+    go (Completes o) e = subst (λ v. GoesOn v) (goes_same _ u e) (inl between.going)
+    go (Passes due) e = subst (λ v. GoesOn v) (goes_same _ u e) (inl between.going)
+    go (Picks x) e = subst (λ v. GoesOn v) (sym (dispatched_so p s u x e).2) (inl between.going)
+    go Strays e = cc
+
 busy_open : (s : State) → IsBusy s → GoesOn s → s.rest.ended ≡ None
 busy_open s busy (inl e) = e
 busy_open s busy (inr settled) = let clash : busy.0 ∷ busy.1 ≡ [] = sym busy.2 ∙ settled.idle in cc
 
 -- by the layers
 uprooted_so : (p : Image) (t : Typing) (s : State) → WellTyped p t s → Uprooted s
-uprooted_so p t s w ts e = dispatch_layer (λ ls. Good p t s.cells ls) Of_root ts w.layers (sym w.tasks ∙ e) w.good (λ ls _ good. root_gone p t s ls good)
+uprooted_so p t s w ts e = dispatch_layer (λ ls. Good p t s.cells ls) Of_root ts w.layers (sym w.tasks ∙ e) w.good (λ seats ls _ good. root_gone p t s seats ls good)
 
 module _ (p : Image) (t : Typing) (outside : Outside) (wired : IsWired p) (typed : IsTyped p t) where
   -- what holds of each state of a run
@@ -90,11 +127,11 @@ module _ (p : Image) (t : Typing) (outside : Outside) (wired : IsWired p) (typed
   stays : (lines : List Line) (s : State) → Reaches p outside (boot_state p) lines s → Stays s
   stays _ _ begins = record { well = boot_keeps p t wired typed; calm = calm_keeps.boot p; in_range = registers_keep.boot p; goes_on = inl refl }
   stays _ _ (moves {lines = lines} {s = s} {u = u} c before busy choice e) = moved_on s u c (stays lines s before) busy choice e
-  stays _ _ (waits {lines = lines} {s = s} before between) = let h = stays lines s before in record {
-    well = record { layers = h.well.layers; tasks = h.well.tasks; items = h.well.items; undos = h.well.undos; good = h.well.good };
-    calm = h.calm;
-    in_range = h.in_range;
-    goes_on = inr (record { idle = between.idle; rootless = λ e. cc });
+  stays _ _ (turns {lines = lines} {s = s} {u = u} before between e) = let h = stays lines s before in record {
+    well = subst (λ o. Keeps p t o) e (turn_goes_on p t outside wired typed s h.well between);
+    calm = calm_keeps.turns p outside s u h.calm e;
+    in_range = registers_keep.turns p outside s u h.in_range e;
+    goes_on = turn_holds p outside s u between e;
   }
 
   goes : (o : Outcome) → Keeps p t o → (u : State) × (o ≡ Goes u)
@@ -115,6 +152,8 @@ module _ (p : Image) (t : Typing) (outside : Outside) (wired : IsWired p) (typed
   pub sound : IsSound p outside
   sound = record {
     goes_on = λ lines s r busy c choice. goes (step p c s) (step_keeps p t wired typed c s (stays lines s r).well choice.name);
+    turns_on = λ lines s r between. goes (turn p outside s) (turn_goes_on p t outside wired typed s (stays lines s r).well between);
+    settled = λ lines s r idle. signals_are_ready p t s (stays lines s r).well idle;
     caught = λ lines s code tasks items r at top. let h = stays lines s r in caught_owned p t wired s h.well h.calm h.in_range code tasks items at top;
     owned = λ lines s d r e. let h = stays lines s r in (ends_owned p t wired s h.well h.in_range).0 d e;
     stopped_empty = λ lines s r e.

@@ -2,11 +2,11 @@
 use Rattle.std.proofs.Common.{List, None, Option, Some, ◌≡◌, ℕ}
 use Rattle.aom_classes.specs.Roles.{main_of}
 use Rattle.aom_image.specs.Image.{Image}
-use Rattle.aom_sound.proofs.Preserving.{Kept, keeps}
+use Rattle.aom_sound.proofs.Preserving.{Kept, keeps, turn_keeps_it}
 use Rattle.aom_sound.specs.Moves.{step}
 use Rattle.aom_sound.specs.State.{Choice, Goes, State}
 use Rattle.aom_sound.specs.Traps.{AllAtTraps, at_traps}
-use Rattle.aom_sound.specs.World.{Reaches, begins, boot_state, main_tasks, moves, waits, Outside}
+use Rattle.aom_sound.specs.World.{Reaches, begins, boot_state, main_tasks, moves, turns, Outside}
 use Rattle.aom_transcript.specs.declared.line.Line.{Line}
 
 kept : (p : Image) (c : Choice) (s : State) → Kept p c (at_traps p) s
@@ -21,6 +21,7 @@ kept p c s = record {
   cancels = λ fr ts m a e. tt;
   traps = λ fr ts target m first x a. (tt, (target, m, first, x, a.there));
   destructs = λ o m height ts e. tt;
+  asks = λ x m code height e. tt;
   undoes = λ m w items ts e. tt;
   unwinds = λ code ts w. tt;
 }
@@ -37,4 +38,4 @@ boot p (Some m) = (tt, (tt, tt))
 pub stand : (p : Image) (outside : Outside) (lines : List Line) (s : State) → Reaches p outside (boot_state p) lines s → AllAtTraps p s.tasks
 stand p outside _ _ begins = boot p (main_of p)
 stand p outside _ _ (moves {lines = lines} {s = s} {u = u} c before busy choice e) = stays p c s u (stand p outside lines s before) e
-stand p outside _ _ (waits {lines = lines} {s = s} before between) = stand p outside lines s before
+stand p outside _ _ (turns {lines = lines} {s = s} {u = u} before between e) = turn_keeps_it p outside (at_traps p) s u (λ m height x. tt) (λ x. tt) (stand p outside lines s before) e

@@ -22,14 +22,14 @@ use Rattle.aom_sound.proofs.Words.{law_binary, law_compare, law_const, law_copy,
 use Rattle.aom_sound.proofs.Leaving.{law_leave, law_leave_if}
 use Rattle.aom_sound.proofs.Moves.{law_move, law_put, law_take}
 use Rattle.aom_sound.proofs.Requesting.{law_abort, law_enlist, law_issue, law_jump_active, law_jump_added, law_set_active, law_status, main_of_none}
-use Rattle.aom_sound.proofs.Returning.{law_return, law_return_caught, law_return_dispatch, law_return_unwound}
+use Rattle.aom_sound.proofs.Returning.{law_answer, law_return, law_return_caught, law_return_dispatch, law_return_unwound}
 use Rattle.aom_sound.proofs.Straight.{At, Law, fitted, settle, stepped, well}
 use Rattle.aom_sound.proofs.Unwinding.{unwinds}
 use Rattle.aom_sound.specs.Claims.{Dispatching, Dying, Layer, Mark, Method, Unwinding, forms, items_of, tasks_of}
 use Rattle.aom_sound.specs.Laws.{IsWired}
 use Rattle.aom_sound.specs.Moves.{counted, does, needs, step, step_instr, step_task}
 use Rattle.aom_sound.specs.Places.{named}
-use Rattle.aom_sound.specs.State.{Choice, Destroy, Dispatch, Dispatched, Frame, IsStuck, Need, Run, State, Task, Trapped, Unwind, guarded, next}
+use Rattle.aom_sound.specs.State.{Asks, Choice, Destroy, Dispatch, Dispatched, Frame, IsStuck, Need, Run, State, Task, Trapped, Unwind, guarded, next}
 use Rattle.aom_sound.specs.WellTyped.{Caught, Good, Keeps, Now, Returns, WellTyped}
 use Rattle.aom_sound.proofs.Layers.{dispatch_layer, going_layer, leave_layer, mark_layer, method_layer}
 use Rattle.aom_sound.proofs.Cancelling.{law_cancel}
@@ -98,7 +98,8 @@ returns p t wired c s fr sh (Dying o ∷ ls) h a = law_destructor p t c s fr sh 
 returns p t wired c s fr sh (Unwinding code es ∷ ls) h a = law_return_unwound p t c s fr sh code es ls h a
 returns p t wired c s fr sh (Mark gv ∷ []) h a = let clash : Caught gv ≡ Now = h.good.stack.4.1 in cc
 returns p t wired c s fr sh (Mark gv ∷ Method fr2 sh2 ∷ ls) h a = law_return_caught p t wired c s fr fr2 sh sh2 gv ls h a
-returns p t wired c s fr sh (Mark gv ∷ Dispatching w ∷ ls) h a = law_return_dispatch p t c s fr sh gv w ls h a
+returns p t wired c s fr sh (Mark gv ∷ Dispatching w seats ∷ ls) h a = law_return_dispatch p t c s fr sh gv w seats ls h a
+returns p t wired c s fr sh (Dispatching (Asks x) seats ∷ ls) h a = law_answer p t c s fr sh x seats ls h a
 returns p t wired c s fr sh _ h a = absurd (grind (arith, h.good.stack.4))
 
 -- an instruction of a well-typed state
@@ -129,8 +130,8 @@ module _ (p : Image) (t : Typing) (c : Choice) (s : State) where
 
   of_dispatch : IsWired p → IsTyped p t → (d : Dispatch) (ts : List Task) → s.tasks ≡ Dispatched d ∷ ts → WellTyped p t s → Keeps p t (step_task p c s s.tasks)
   of_dispatch wired typed d ts e w =
-      dispatch_layer Stacked d ts w.layers (sym w.tasks ∙ e) (w.tasks, w.items, w.good) (λ ls rest h.
-      subst (λ l. Keeps p t (step_task p c s l)) (sym h.0) (dispatch_keeps p t wired typed s d ls h.2 h.1))
+      dispatch_layer Stacked d ts w.layers (sym w.tasks ∙ e) (w.tasks, w.items, w.good) (λ seats ls rest h.
+      subst (λ l. Keeps p t (step_task p c s l)) (sym h.0) (dispatch_keeps p t wired typed s d seats ls h.2 h.1))
 
   of_unwinding : IsWired p → IsTyped p t → (code : ℤ) (ts : List Task) → s.tasks ≡ Unwind code ∷ ts → WellTyped p t s → Keeps p t (step_task p c s s.tasks)
   of_unwinding wired typed code ts e w =

@@ -1,4 +1,6 @@
 -- The words of a cell count for no place, and its request for the age of objects alone: where these change, what is claimed holds on.
+use Rattle.std.specs.Prelude.{is_some}
+use Rattle.aom_sound.proofs.Seats.{first_kept}
 use Rattle.std.proofs.Common.{Bool, List, Option, Some, [], ap, cond, false, refl, subst, sym, true, ℕ, ℤ, ◌==◌, ◌∙◌, ◌∷◌, ◌≡◌}
 use Rattle.aom_image.specs.Image.{Image}
 use Rattle.aom_shape.specs.Kinds.{is_ready_kind}
@@ -7,9 +9,9 @@ use Rattle.aom_rules.specs.Typing.{Typing}
 use Rattle.aom_sound.proofs.Claimed.{claim_rel, fits_age}
 use Rattle.aom_sound.proofs.Straight.{Fitted}
 use Rattle.aom_sound.specs.Claims.{Dispatching, Dying, Layer, Mark, Method, Unwinding, claim, declared, declared_field}
-use Rattle.aom_sound.specs.Places.{Cell, Field, Object, Place, Request, Tidy, held, named, requested, same_place, seen, set_request, set_word_field}
-use Rattle.aom_sound.specs.State.{AtRoot, Frame, Home, Inside, Static}
-use Rattle.aom_sound.specs.WellTyped.{Back, Fits, IsHoused, Stack}
+use Rattle.aom_sound.specs.Places.{Cell, Entry, Field, Object, Place, Request, Tidy, held, named, requested, same_place, seen, set_request, set_word_field}
+use Rattle.aom_sound.specs.State.{AtRoot, Frame, Home, Inside, Seat, Static}
+use Rattle.aom_sound.specs.WellTyped.{AllSit, Back, Fits, IsHoused, Stack, seat_of}
 use Rattle.aom_sound.specs.Words.{stored}
 use Rattle.aom_sound.specs.Requests.{Suits, states_claim, thing_kind}
 use Rattle.std.proofs.lemmas.Bool.{eq-eqb, eqb-true, true≢false}
@@ -84,6 +86,30 @@ requested_there (c ∷ cs) n m r other = go (c.object.name == m) (c.object.name 
     go true false em en rest = refl
     go true true em en rest = absurd (true≢false (sym (eq-eqb n m (sym (eqb-true c.object.name n en) ∙ eqb-true c.object.name m em)) ∙ other))
 
+pub on_some : (f : Request → Request) (r : Option Request) → is_some r ≡ true → is_some (on_request f r) ≡ true
+on_some f (Some r) e = refl
+on_some f _ e = cc
+
+-- what is enlisted stays so where another request is put in the place of one that there is
+asked_some : (cs : List Cell) (n m : ℕ) (r : Option Request) → ((n == m) ≡ true → is_some r ≡ true) → is_some (requested cs m) ≡ true → is_some (requested (set_request n r cs) m) ≡ true
+asked_some [] n m r h some = cc
+asked_some (c ∷ cs) n m r h some = go (c.object.name == m) (c.object.name == n) refl refl some (asked_some cs n m r h)
+  where
+    go :
+        (x y : Bool) → (c.object.name == m) ≡ x → (c.object.name == n) ≡ y → is_some (cond x c.request (requested cs m)) ≡ true →
+        (is_some (requested cs m) ≡ true → is_some (requested (set_request n r cs) m) ≡ true) → is_some (cond x (cond y r c.request) (requested (set_request n r cs) m)) ≡ true
+    go false y em en some rest = rest some
+    go true false em en some rest = some
+    go true true em en some rest = h (eq-eqb n m (sym (eqb-true c.object.name n en) ∙ eqb-true c.object.name m em))
+
+pub set_listed : (cs : List Cell) (n : ℕ) (r : Option Request) → (is_some (requested cs n) ≡ true → is_some r ≡ true) → (m : ℕ) → is_some (requested cs m) ≡ true → is_some (requested (set_request n r cs) m) ≡ true
+set_listed cs n r h m some = asked_some cs n m r (λ e. h (ap (λ k. is_some (requested cs k)) (eqb-true n m e) ∙ some)) some
+
+pub listed_still : (cs : List Cell) (home : Home) (r : Option Request) → (is_some (own_request cs home) ≡ true → is_some r ≡ true) → (m : ℕ) → is_some (requested cs m) ≡ true → is_some (requested (rerequested cs home r) m) ≡ true
+listed_still cs Static r h m some = some
+listed_still cs AtRoot r h m some = some
+listed_still cs (Inside o from) r h m some = set_listed cs o.name r h m some
+
 pub rerequested_alike : (cs : List Cell) (home : Home) (r : Option Request) → Alike cs (rerequested cs home r)
 rerequested_alike cs Static r = alike_itself cs
 rerequested_alike cs AtRoot r = alike_itself cs
@@ -110,13 +136,19 @@ module _ (p : Image) (t : Typing) (cs cs' : List Cell) (alike : Alike cs cs') wh
   housed_alike ls AtRoot h = h
   housed_alike ls (Inside o from) h = record { there = alike.held_so from ∙ h.there; lives = alike.named_so o.name ∙ h.lives; below = h.below; ready = h.ready }
 
-  pub stack_alike : (ls : List Layer) (back : Back) → Stack p t cs back ls → Stack p t cs' back ls
-  stack_alike [] back s = s
-  stack_alike (Method fr sh ∷ ls) back s = (s.0, s.1, housed_alike ls fr.home s.2, s.3, stack_alike ls _ s.4)
-  stack_alike (Mark gv ∷ ls) back s = (s.0, stack_alike ls _ s.1)
-  stack_alike (Dying o ∷ ls) back s = ((alike.named_so o.name ∙ s.0.0, alike.held_so _ ∙ s.0.1), s.1, stack_alike ls _ s.2)
-  stack_alike (Dispatching d ∷ ls) back s = s
-  stack_alike (Unwinding code es ∷ ls) back s = (s.0, stack_alike ls _ s.1)
+  pub sits_alike : (xs : List Seat) → AllSit cs xs → AllSit cs' xs
+  sits_alike [] s = tt
+  sits_alike (x ∷ xs) s = ((alike.held_so x.place ∙ s.0.0, alike.named_so x.object.name ∙ s.0.1, s.0.2, s.0.3), sits_alike xs s.1)
+
+  -- where what is enlisted stays so
+  module _ (listed : (n : ℕ) → is_some (requested cs n) ≡ true → is_some (requested cs' n) ≡ true) where
+    pub stack_alike : (ls : List Layer) (back : Back) → Stack p t cs back ls → Stack p t cs' back ls
+    stack_alike [] back s = s
+    stack_alike (Method fr sh ∷ ls) back s = (s.0, s.1, housed_alike ls fr.home s.2, s.3, stack_alike ls _ s.4)
+    stack_alike (Mark gv ∷ ls) back s = (s.0, stack_alike ls _ s.1)
+    stack_alike (Dying o ∷ ls) back s = ((alike.named_so o.name ∙ s.0.0, alike.held_so _ ∙ s.0.1), s.1, stack_alike ls _ s.2)
+    stack_alike (Dispatching d seats ∷ ls) back s = (s.0, s.1, sits_alike seats s.2, first_kept cs cs' (Entry 0) (seat_of d) seats (λ r o other there lives some. listed o.name some) tt s.2 s.3)
+    stack_alike (Unwinding code es ∷ ls) back s = (s.0, stack_alike ls _ s.1)
 
   -- where what is claimed to be fresh has the request that it had
   pub fits_alike :
@@ -139,5 +171,5 @@ stored_fitted p t cs home w v fr sh ls g =
       frames = g.frames;
       housed = housed_alike p t cs cs' alike ls fr.home g.housed;
       apart = g.apart;
-      stack = stack_alike p t cs cs' alike ls _ g.stack;
+      stack = stack_alike p t cs cs' alike (λ n some. ap is_some (requests n) ∙ some) ls _ g.stack;
     }

@@ -17,7 +17,8 @@ use Rattle.aom_shape.specs.declared.kind.Filling.{Filling}
 use Rattle.aom_shape.specs.declared.kind.Filling.TheVariants.{Empty}
 use Rattle.aom_shape.specs.declared.kind.Kind.{Kind}
 use Rattle.aom_shape.specs.declared.kind.Kind.TheVariants.{Maybe, Null, Own, Unset, Word}
-use Rattle.aom_sound.proofs.Claimed.{NoFieldHere, Outside, claim-set_register, claim_frame, claim_from, claim_ready, claim_weaker, declared_moved, fits_weaker, holds_moved, keep_fits, outside_differs, owns_no_more, stack_moved, word_fits_weaker}
+use Rattle.aom_sound.proofs.Seats.{NoFieldHere}
+use Rattle.aom_sound.proofs.Claimed.{Outside, claim-set_register, claim_frame, claim_from, claim_ready, claim_weaker, declared_moved, fits_weaker, holds_moved, keep_fits, outside_differs, owns_no_more, stack_moved, word_fits_weaker}
 use Rattle.aom_sound.proofs.Maps.{at-put_at, held_moved, one_place, requested_moved, same_place-true, tidy_moved}
 use Rattle.aom_sound.proofs.Things.{stands_along, stands_same}
 use Rattle.aom_sound.specs.Claims.{Layer, Method, claim, declared, forms, home_claim, items_of, objects, root_claim, tasks_of}

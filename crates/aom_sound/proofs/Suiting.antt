@@ -1,11 +1,13 @@
 -- How what is known of requests changes with the layers, and how it goes on to hold.
 use Rattle.std.proofs.Common.{Bool, IsTrue, List, None, Option, Some, [], ap, cond, false, inl, inr, refl, subst, sym, true, ℕ, ℤ, ◌&&◌, ◌==◌, ◌∙◌, ◌∷◌, ◌≡◌}
 use Rattle.std.proofs.lemmas.Bool.{eqb-true, true≢false}
-use Rattle.std.specs.Prelude.{not, ◌||◌}
+use Rattle.std.specs.Prelude.{is_none, is_some, not, ◌||◌}
 use Rattle.aom_image.specs.Image.{Image}
 use Rattle.aom_image.specs.Views.{has, method_role}
 use Rattle.aom_image.specs.declared.class.ClassKind.{ClassKind}
 use Rattle.aom_image.specs.declared.class.ClassKind.TheVariants.{Active as An_active, Server as A_server}
+use Rattle.aom_image.specs.declared.class.Provider.{Provider}
+use Rattle.aom_image.specs.declared.class.Provider.TheVariants.{Timer as A_timer}
 use Rattle.aom_roles.specs.States.{active_states, cancel_done, first_of, idle, last_of, server_states, states_of}
 use Rattle.aom_rules.specs.Requests.{is_cancel, unissued}
 use Rattle.aom_shape.proofs.Sets.{has_along, has_itself}
@@ -13,23 +15,23 @@ use Rattle.aom_shape.specs.Shape.{Shape}
 use Rattle.aom_sound.proofs.Maps.{named_moved, requested_moved}
 use Rattle.aom_sound.specs.Claims.{Dispatching, Dying, Layer, Mark, Method, Unwinding}
 use Rattle.aom_sound.specs.Places.{Aborted, Active, Cancelling, Cell, Idle, Issued, Object, Phase, Place, Request, moved, named, requested}
-use Rattle.aom_sound.specs.Enlisted.{cancelled, in_phase, is_aborted, is_cancelling, is_unanswered, on_request, pending, status_of}
+use Rattle.aom_sound.specs.Enlisted.{cancelled, in_phase, is_aborted, is_cancelling, is_idle, is_unanswered, on_request, pending, status_of}
 use Rattle.std.specs.Ordering.{int_eq}
-use Rattle.aom_sound.specs.Requests.{AllSuit, Joins, Known, Suits, Unworked, known_at, phase_state, resting_in, rests_in, state_of, states_claim, thing_kind, works_at}
+use Rattle.aom_sound.specs.Requests.{AllSuit, Joins, Known, Suits, Unworked, is_timed, known_at, phase_state, resting_in, rests_in, state_of, states_claim, thing_kind, works_at}
 use Rattle.aom_sound.specs.State.{AtRoot, Frame, Home, Inside, Static}
 use Rattle.aom_sound.specs.WellTyped.{IsHoused}
 use Rattle.aom_image.specs.declared.method.Gives.{Gives}
 
 -- a larger set
 pub suits_less : (k : Option ClassKind) (a b : ℕ) (c : Bool) (r : Option Request) → IsTrue (has a b) → Suits k (record { states = b; cancelled = c }) r → Suits k (record { states = a; cancelled = c }) r
-suits_less (Some (An_active v b)) a b' c r h s = (has_along a b' (state_of r) h s.0, s.1, s.2)
+suits_less (Some (An_active v b)) a b' c r h s = (has_along a b' (state_of r) h s.0, s.1, s.2, s.3)
 suits_less (Some (A_server m x b)) a b' c r h s = (has_along a b' (state_of r) h s.0, s.1)
 suits_less _ a b c r h s = s
 
 -- what is not issued, nor being cancelled, may rest
 pub suits_rests : (k : Option ClassKind) (states : ℕ) (r : Option Request) → unissued states ≡ true → Suits k (resting_in states) r → Suits k (resting_in (states_of k)) r
 unfolding states_of
-suits_rests (Some (An_active v b)) states r u s = (go r s.0 s.1, s.1, s.2)
+suits_rests (Some (An_active v b)) states r u s = (go r s.0 s.1, s.1, s.2, s.3)
   where
     phase : (q : Phase) → IsTrue (has states (phase_state q)) → is_cancelling q ≡ false → IsTrue (has active_states (phase_state q))
     phase Idle h g = refl
@@ -52,13 +54,13 @@ rests_unissued _ = refl
 -- what is not enlisted may be under construction, and may rest
 pub suits_new : (k : Option ClassKind) → Suits k (resting_in (states_of k)) None
 unfolding states_of
-suits_new (Some (An_active v b)) = (refl, refl, refl)
+suits_new (Some (An_active v b)) = (refl, refl, refl, refl)
 suits_new (Some (A_server m x b)) = (refl, refl)
 suits_new _ = refl
 
 begins_new : (k : Option ClassKind) → Suits k (resting_in (first_of k)) None
 unfolding first_of
-begins_new (Some (An_active v b)) = (refl, refl, refl)
+begins_new (Some (An_active v b)) = (refl, refl, refl, refl)
 begins_new (Some (A_server m x b)) = (refl, refl)
 begins_new _ = refl
 
@@ -83,7 +85,7 @@ unworked_rests p o (Method fr sh ∷ ls) u = ap (λ b. cond b (known_at p fr sh.
 unworked_rests p o (Mark gv ∷ ls) u = unworked_rests p o ls u
 unworked_rests p o (Dying x ∷ ls) u = ap (λ b. cond b (resting_in (last_of (thing_kind p o.thing))) (states_claim p o ls)) u.0 ∙ unworked_rests p o ls u.1
 unworked_rests p o (Unwinding code es ∷ ls) u = unworked_rests p o ls u
-unworked_rests p o (Dispatching d ∷ ls) u = unworked_rests p o ls u
+unworked_rests p o (Dispatching d seats ∷ ls) u = unworked_rests p o ls u
 
 -- moves of ownership count for no request
 pub all_moved : (p : Image) (cs : List Cell) (a b : Place) (ls : List Layer) → AllSuit p cs ls → AllSuit p (moved a b cs) ls
@@ -133,13 +135,31 @@ completed (Some (A_server m x b)) n r h s = go r s.1 (has_along cancel_done n.st
     go (Some q) g h = absurd (served_only q.phase g h)
 completed _ n r h s = ap (λ r. int_eq (status_of r) pending) s
 
+-- a completed request has no timer
+pub untimed : (v : Provider) (q : Request) → int_eq q.status pending ≡ false → is_timed v (Some q) ≡ true → is_none q.timer ≡ true
+untimed A_timer q e t = go (not (is_idle q.phase)) (sym (ap (λ x. cond (not (is_idle q.phase) && x) (is_some q.timer) (is_none q.timer)) e) ∙ t)
+  where
+    go : (b : Bool) → cond (b && false) (is_some q.timer) (is_none q.timer) ≡ true → is_none q.timer ≡ true
+    go true t = t
+    go false t = t
+untimed _ q e t = t
+
+pub idle_timed : (v : Provider) (q : Request) → q.phase ≡ Idle → is_none q.timer ≡ true → is_timed v (Some q) ≡ true
+idle_timed A_timer q e n = ap (λ x. cond (not (is_idle x) && int_eq q.status pending) (is_some q.timer) (is_none q.timer)) e ∙ n
+idle_timed _ q e n = n
+
+-- a request that is made keeps its timer while it goes on
+pub timed_on : (v : Provider) (q : Request) (phase : Phase) → is_idle q.phase ≡ false → is_idle phase ≡ false → is_timed v (Some q) ≡ true → is_timed v (Some (record q { phase = phase })) ≡ true
+timed_on A_timer q phase before after t = ap (λ b. cond (not b && int_eq q.status pending) (is_some q.timer) (is_none q.timer)) after ∙ sym (ap (λ b. cond (not b && int_eq q.status pending) (is_some q.timer) (is_none q.timer)) before) ∙ t
+timed_on _ q phase before after t = t
+
 -- and leaves its object idle
 pub cancel_ends : (k : Option ClassKind) (n : Known) (r : Option Request) → IsTrue (has cancel_done n.states) → Suits k n r → Suits k (resting_in idle) (on_request cancelled r)
-cancel_ends (Some (An_active v b)) n r h s = go r (has_along cancel_done n.states (state_of r) h s.0)
+cancel_ends (Some (An_active v b)) n r h s = go r (has_along cancel_done n.states (state_of r) h s.0) s.2 s.3
   where
-    go : (r : Option Request) → IsTrue (has cancel_done (state_of r)) → Suits (Some (An_active v b)) (resting_in idle) (on_request cancelled r)
-    go None h = cc
-    go (Some q) h = (refl, refl, refl)
+    go : (r : Option Request) → IsTrue (has cancel_done (state_of r)) → is_unanswered r ≡ false → is_timed v r ≡ true → Suits (Some (An_active v b)) (resting_in idle) (on_request cancelled r)
+    go None h u t = cc
+    go (Some q) h u t = (refl, refl, refl, idle_timed v (cancelled q) refl (untimed v q (done_only q.phase q.status h u) t))
 cancel_ends (Some (A_server m x b)) n r h s = go r (has_along cancel_done n.states (state_of r) h s.0)
   where
     go : (r : Option Request) → IsTrue (has cancel_done (state_of r)) → Suits (Some (A_server m x b)) (resting_in idle) (on_request cancelled r)

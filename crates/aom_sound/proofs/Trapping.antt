@@ -33,7 +33,7 @@ use Rattle.aom_sound.specs.State.{A_mark, An_object, An_operation, Choice, Destr
 use Rattle.aom_sound.specs.Steps.{Acts, Arrives, Clears, Comes_out, Ends as A_dispatch_ends, Move, Rests, Undoes, Vanishes}
 use Rattle.aom_sound.specs.Traps.{ComesOff, GoesOnAfter, IsPast, IsTrapping, TellsZero, TrapsKeep, WasPast, marks, traps}
 use Rattle.aom_sound.specs.WellTyped.{Keeps, WellTyped}
-use Rattle.aom_sound.specs.World.{IsBetween, IsBusy, Reaches, begins, boot_state, moves, waiting, waits, Outside}
+use Rattle.aom_sound.specs.World.{IsBetween, IsBusy, Reaches, begins, boot_state, moves, turn, turns, Outside}
 use Rattle.aom_transcript.specs.declared.line.Line.{Line}
 use Rattle.aom_sound.specs.Enlisted.{ended_cells}
 
@@ -62,7 +62,7 @@ marks_of_layers (Method fr sh ∷ ls) = marks_under sh.entries (items_of ls) ∙
 marks_of_layers (Mark gv ∷ ls) = ap suc (marks_of_layers ls)
 marks_of_layers (Dying o ∷ ls) = marks_of_layers ls
 marks_of_layers (Unwinding code es ∷ ls) = marks_under es (items_of ls) ∙ marks_of_layers ls
-marks_of_layers (Dispatching d ∷ ls) = marks_of_layers ls
+marks_of_layers (Dispatching d seats ∷ ls) = marks_of_layers ls
 
 all_matched : (p : Image) (t : Typing) (s : State) → WellTyped p t s → marks s.items ≡ traps s.tasks
 all_matched p t s w = sym (marks_of_forms s.items) ∙ ap mark_forms w.items ∙ marks_of_layers w.layers ∙ ap traps (sym w.tasks)
@@ -189,6 +189,7 @@ module _ (p : Image) (c : Choice) (fr : Frame) (ts : List Task) (s : State) (at_
   return_there g a (Trapped ∷ under) at o = through_trap g a under at (under_trap below under o)
   return_there g a (Destroy ∷ under) at o = inl (o, inl refl)
   return_there g a (Unwind code ∷ under) at o = inl (o, inl refl)
+  return_there g a (Dispatched d ∷ under) at o = inl (with_task below under _ (under_dispatch below under d o), inl refl)
   return_there g a _ at o = given
 
 -- the last item is another at most
@@ -335,9 +336,9 @@ module _ (p : Image) (t : Typing) (outside : Outside) (wired : IsWired p) (typed
     reaches = moves c h.reaches busy choice e;
   })
 
-  waited : (s : State) → IsBetween s → Lasts s → Lasts (waiting s)
-  waited s between (inl h) = absurd (none_below below (h.over, sym between.idle ∙ h.tasks))
-  waited s between (inr h) = inr (record {
+  turned : (s u : State) → IsBetween s → turn p outside s ≡ Goes u → Lasts s → Lasts u
+  turned s u between e (inl h) = absurd (none_below below (h.over, sym between.idle ∙ h.tasks))
+  turned s u between e (inr h) = inr (record {
     earlier = h.earlier;
     last = h.last;
     until = h.until;
@@ -346,14 +347,14 @@ module _ (p : Image) (t : Typing) (outside : Outside) (wired : IsWired p) (typed
     after = h.after;
     move = h.move;
     past = h.past;
-    lines = h.lines;
-    reaches = waits h.reaches between;
+    lines = _;
+    reaches = turns h.reaches between e;
   })
 
   lasts : IsTrapping below items from → (lines : List Line) (s : State) → Reaches p outside from lines s → Lasts s
   lasts h _ _ begins = inl h
   lasts h _ _ (moves {lines = lines} {s = s} {u = u} c before busy choice e) = moved_on lines s u c (well_on p t outside wired typed from well lines s before) before busy choice e (lasts h lines s before)
-  lasts h _ _ (waits {lines = lines} {s = s} before between) = waited s between (lasts h lines s before)
+  lasts h _ _ (turns {lines = lines} {s = s} {u = u} before between e) = turned s u between e (lasts h lines s before)
 
 pub traps_keep : TrapsKeep
 traps_keep = record {

@@ -12,7 +12,7 @@ use Rattle.aom_sound.specs.Claims.{Dispatching, Layer, Mark, Mark_form, Unwindin
 use Rattle.aom_sound.specs.Cleanup.{dealt_with, top_is_whole, unwound}
 use Rattle.aom_sound.specs.Laws.{IsWired}
 use Rattle.aom_sound.specs.Places.{Entry, Place, changed}
-use Rattle.aom_sound.specs.State.{A_mark, An_object, An_operation, Dispatch, Goes, IsStuck, Item, Main_left, NullOrDead, Of_main, Of_root, State, Unwind}
+use Rattle.aom_sound.specs.State.{A_mark, An_object, An_operation, Answered, Asks, Object_left, Of_object, Dispatch, Goes, IsStuck, Item, Main_left, NullOrDead, Of_main, Of_root, State, Unwind}
 use Rattle.aom_sound.specs.WellTyped.{AllUndo, EndsDispatch, Good, Keeps, Leaves, Stack, WellTyped}
 use Rattle.aom_sound.proofs.Items.{no_mark}
 
@@ -57,12 +57,16 @@ module _ (p : Image) (t : Typing) (wired : IsWired p) (typed : IsTyped p t) (s :
       go : (items : List Item) → forms items ≡ Mark_form ∷ items_of ls → AllUndo p items → Keeps p t (unwound p code (tasks_of (Mark gv ∷ ls)) s items)
       go (A_mark ∷ items) same undos = let rest : forms items ≡ items_of ls = cc in arrives p t s code items gv ls rest undos good
       go _ same undos = cc
-  of_none (Dispatching d ∷ ls) same undos good = absurd (no_dispatch d good.stack.1.0)
+  of_none (Dispatching d seats ∷ ls) same undos good = absurd (no_dispatch d good.stack.1.0)
     where
       no_dispatch : (d : Dispatch) → EndsDispatch p d Leaves → ⊥
       no_dispatch Of_main e = e
       no_dispatch (Main_left x) e = e
       no_dispatch Of_root e = e
+      no_dispatch (Of_object x) e = e
+      no_dispatch (Object_left x c) e = e
+      no_dispatch (Asks x) e = e
+      no_dispatch (Answered x c) e = e
   of_none _ same undos good = absurd (assumption tt)
 
   pub unwinds : (es : List Pushed) (ls : List Layer) → forms s.items ≡ objects es (items_of ls) → AllUndo p s.items → Good p t s.cells (Unwinding code es ∷ ls) → Keeps p t (unwound p code (tasks_of ls) s s.items)

@@ -4,7 +4,7 @@ use Rattle.aom_image.specs.Image.{Image}
 use Rattle.aom_rules.specs.Typing.{Typing}
 use Rattle.aom_sound.specs.Claims.{Dispatching, Dying, Layer, Mark, Method, Unwinding, tasks_of}
 use Rattle.aom_sound.specs.Places.{Cell}
-use Rattle.aom_sound.specs.State.{Destroy, Dispatch, Dispatched, Frame, Of_main, Of_root, Run, State, Task, Trapped, Unwind}
+use Rattle.aom_sound.specs.State.{Destroy, Dispatch, Dispatched, Asks, Frame, Of_main, Of_object, Of_root, Run, Seat, State, Task, Trapped, Unwind}
 use Rattle.aom_sound.specs.WellTyped.{Back, Caught, Gone, Leaves, Now, Returns, Stack, WellTyped}
 
 -- what stands over a layer: a method, a cell that goes, or a leave
@@ -17,6 +17,8 @@ pub data Under : Over → Type 0 where
   -- a method that waits for the one that it called
   Caller : Frame → Under A_method → Under A_method
   Under_trap : Under A_leave → Under A_method
+  -- a dispatch that waits for its answer
+  Asker : Seat → Under A_method
   -- a cell whose destructor runs
   Destroyed : Under A_going → Under A_method
   -- a leave that runs an operation, or has an object destroyed
@@ -28,6 +30,7 @@ pub data Under : Over → Type 0 where
   -- who set the trap
   Catcher : Frame → Under A_method → Under A_leave
   Main's : Under A_leave
+  Object's : Seat → Under A_leave
 
 pub data Tower : Type 0 where
   Runs : Frame → Under A_method → Tower
@@ -47,6 +50,8 @@ listed (Deleter fr b) = Run fr ∷ listed b
 listed The_root = Dispatched Of_root ∷ []
 listed (Catcher fr b) = Run fr ∷ listed b
 listed Main's = Dispatched Of_main ∷ []
+listed (Object's x) = Dispatched (Of_object x) ∷ []
+listed (Asker x) = Dispatched (Asks x) ∷ []
 
 abbrev pub all_listed : Tower → List Task
 all_listed (Runs fr b) = Run fr ∷ listed b
@@ -68,16 +73,18 @@ under p t cs Now [] s = (Idle, refl)
 under p t cs Now (Method fr sh ∷ ls) s = let b = under p t cs (Returns fr.method fr.home) ls s.4 in (Runs fr b.0, ap (λ l. Run fr ∷ l) b.1)
 under p t cs Now (Dying o ∷ ls) s = let b = under p t cs Gone ls s.2 in (Goes b.0, ap (λ l. Destroy ∷ l) b.1)
 under p t cs Now (Unwinding code es ∷ ls) s = let b = under p t cs Leaves ls s.1 in (Unwinds code b.0, ap (λ l. Unwind code ∷ l) b.1)
-under p t cs Now (Dispatching d ∷ ls) s = (Ends d, ap (λ l. Dispatched d ∷ tasks_of l) s.1)
+under p t cs Now (Dispatching d seats ∷ ls) s = (Ends d, ap (λ l. Dispatched d ∷ tasks_of l) s.1)
 under p t cs (Returns m home) (Method fr sh ∷ ls) s = let b = under p t cs (Returns fr.method fr.home) ls s.4 in (Caller fr b.0, ap (λ l. Run fr ∷ l) b.1)
 under p t cs (Returns m home) (Mark gv ∷ ls) s = let b = under p t cs (Caught gv) ls s.1 in (Under_trap b.0, ap (λ l. Trapped ∷ l) b.1)
 under p t cs (Returns m home) (Dying o ∷ ls) s = let b = under p t cs Gone ls s.2 in (Destroyed b.0, ap (λ l. Destroy ∷ l) b.1)
 under p t cs (Returns m home) (Unwinding code es ∷ ls) s = let b = under p t cs Leaves ls s.1 in (Undoing code b.0, ap (λ l. Unwind code ∷ l) b.1)
 under p t cs (Caught g) (Method fr sh ∷ ls) s = let b = under p t cs (Returns fr.method fr.home) ls s.4 in (Catcher fr b.0, ap (λ l. Run fr ∷ l) b.1)
-under p t cs (Caught g) (Dispatching Of_main ∷ ls) s = (Main's, ap (λ l. Dispatched Of_main ∷ tasks_of l) s.1)
+under p t cs (Caught g) (Dispatching Of_main seats ∷ ls) s = (Main's, ap (λ l. Dispatched Of_main ∷ tasks_of l) s.1)
+under p t cs (Caught g) (Dispatching (Of_object x) seats ∷ ls) s = (Object's x, ap (λ l. Dispatched (Of_object x) ∷ tasks_of l) s.1)
+under p t cs (Returns m home) (Dispatching (Asks x) seats ∷ ls) s = (Asker x, ap (λ l. Dispatched (Asks x) ∷ tasks_of l) s.1)
 under p t cs Gone (Method fr sh ∷ ls) s = let b = under p t cs (Returns fr.method fr.home) ls s.4 in (Deleter fr b.0, ap (λ l. Run fr ∷ l) b.1)
 under p t cs Gone (Unwinding code es ∷ ls) s = let b = under p t cs Leaves ls s.1 in (Clearing code b.0, ap (λ l. Unwind code ∷ l) b.1)
-under p t cs Gone (Dispatching Of_root ∷ ls) s = (The_root, ap (λ l. Dispatched Of_root ∷ tasks_of l) s.1)
+under p t cs Gone (Dispatching Of_root seats ∷ ls) s = (The_root, ap (λ l. Dispatched Of_root ∷ tasks_of l) s.1)
 under p t cs Leaves (Mark gv ∷ ls) s = let b = under p t cs (Caught gv) ls s.1 in (b.0, ap (λ l. Trapped ∷ l) b.1)
 under p t cs _ _ s = absurd (grind arith)
 

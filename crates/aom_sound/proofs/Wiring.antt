@@ -15,20 +15,20 @@ use Rattle.aom_instructions.specs.declared.instr.Instr.TheVariants.{Call, PushOp
 use Rattle.aom_instructions.specs.declared.instr.Target.{Target}
 use Rattle.aom_instructions.specs.declared.limits.Limits.{Limits}
 use Rattle.aom_image.specs.declared.method.Gives.{Gives}
-use Rattle.aom_image.specs.declared.method.Gives.TheVariants.{Left, Nothing}
+use Rattle.aom_image.specs.declared.method.Gives.TheVariants.{Left, Nothing, Word as A_word}
 use Rattle.aom_image.specs.declared.method.Method.{Method as Method_declared}
 use Rattle.aom_image.specs.declared.method.Role.{Role}
-use Rattle.aom_image.specs.declared.method.Role.TheVariants.{Cancel, Construct, Destruct, Do, Main, Undo}
+use Rattle.aom_image.specs.declared.method.Role.TheVariants.{Cancel, Construct, Destruct, Do, Error, Main, Run, Undo}
 use Rattle.aom_image.specs.declared.method.Thing.TheVariants.{Object as An_object_of}
 use Rattle.aom_roles.specs.Classes.{ClassOrdered, OwnsBefore, kind_in}
-use Rattle.aom_roles.specs.Shapes.{HasShape, IsCancel, IsConstruct, IsDestruct, IsDo, IsMain, IsShaped, IsTrapped as ShapedTrapped, IsUndo as ShapedUndo, NamesRoles, gives_left, gives_nothing, is_role, is_word, kind_of}
+use Rattle.aom_roles.specs.Shapes.{HasShape, IsCancel, IsConstruct, IsDestruct, IsDo, IsMain, IsShaped, IsTrapped as ShapedTrapped, IsUndo as ShapedUndo, NamesRoles, gives_left, gives_nothing, is_role, is_word, kind_of, IsError, IsRun, gives_word}
 use Rattle.aom_classes.specs.Linked.{IsLinked}
 use Rattle.aom_classes.specs.Needs.{KindNeeds, NeedsMet}
 use Rattle.aom_classes.specs.Roles.{main_of, role_of, same_role}
 use Rattle.aom_classes.proofs.Facts.{all_there, at_place, of_method}
 use Rattle.aom_classes.proofs.Playing.{main_found, role_found, same_roles}
 use Rattle.aom_shape.specs.Things.{Member, field_thing}
-use Rattle.aom_sound.specs.Laws.{IsCalled, IsTrapped, IsWired}
+use Rattle.aom_sound.specs.Laws.{IsAnswerer, IsCalled, IsHandler, IsTrapped, IsWired}
 use Rattle.aom_sound.specs.WellTyped.{IsUndo, LeavesNone}
 use Rattle.aom_image.specs.declared.method.Argument.{Argument}
 use Rattle.aom_image.specs.declared.method.Argument.TheVariants.{Word as Takes_word}
@@ -44,6 +44,11 @@ nothing_given : (g : Gives) → gives_nothing g ≡ true → g ≡ Nothing
 unfolding gives_nothing
 nothing_given Nothing e = refl
 nothing_given _ e = cc
+
+word_given : (g : Gives) → gives_word g ≡ true → g ≡ A_word
+unfolding gives_word
+word_given A_word e = refl
+word_given _ e = cc
 
 one_word : (xs : List Argument) → length xs ≡ 1 → IsTrue (list_all is_word xs) → xs ≡ Takes_word ∷ []
 unfolding is_word
@@ -174,6 +179,50 @@ module _ (p : Image) (formed : WellFormed p) (linked : IsLinked p) where
       go : (o : Option ClassDecl) → class_at p c ≡ o → is_active_kind (kind_in o) ≡ true → (m : ℕ) × (role_of p c Cancel ≡ Some m)
       go None e h = cc
       go (Some d) e h = of_kind d e d.kind refl h
+
+  -- and one that is dispatched for its objects
+  has_handler : (c : ℕ) → is_active_kind (kind_of p (Some c)) ≡ true → (m : ℕ) × (role_of p c Run ≡ Some m)
+  unfolding kind_of kind_in class_at
+  has_handler c active = go (class_at p c) refl active
+    where
+      some : (o : Option ℕ) → IsSome o → (m : ℕ) × (o ≡ Some m)
+      some None h = cc
+      some (Some m) h = (m, refl)
+
+      of_kind : (d : ClassDecl) → class_at p c ≡ Some d → (k : ClassKind) → d.kind ≡ k → is_active_kind (Some k) ≡ true → (m : ℕ) × (role_of p c Run ≡ Some m)
+      of_kind d e (An_active v b) same h = let needs = subst (λ k. KindNeeds p c k) same (at_place (NeedsMet p) p.classes c d linked.needs e).kind in some (role_of p c Run) needs.run
+      of_kind d e _ same h = cc
+
+      go : (o : Option ClassDecl) → class_at p c ≡ o → is_active_kind (kind_in o) ≡ true → (m : ℕ) × (role_of p c Run ≡ Some m)
+      go None e h = cc
+      go (Some d) e h = of_kind d e d.kind refl h
+
+  handler_is : (c m : ℕ) → role_of p c Run ≡ Some m → IsHandler p c m
+  unfolding role_in class_in arguments_in gives_in before_in
+  handler_is c m e =
+      let d = role_found p c m Run e in
+      let s : IsRun (kind_of p d.0.class) d.0 = of_role m d.0 Run d.1 d.3 in record {
+        there = rw d.1 refl;
+        role = ap role_in d.1 ∙ ap (λ r. Some r) d.3;
+        class = ap class_in d.1 ∙ d.2;
+        arguments = ap arguments_in d.1 ∙ nil_from_length d.0.arguments s.takes.count;
+        gives = ap gives_in d.1 ∙ nothing_given d.0.gives s.gives;
+        begins = ap before_in d.1 ∙ s.begins;
+      }
+
+  answerer_is : (c m : ℕ) → role_of p c Error ≡ Some m → IsAnswerer p c m
+  unfolding role_in class_in arguments_in gives_in leaves_in before_in
+  answerer_is c m e =
+      let d = role_found p c m Error e in
+      let s : IsError (kind_of p d.0.class) d.0 = of_role m d.0 Error d.1 d.3 in record {
+        there = rw d.1 refl;
+        role = ap role_in d.1 ∙ ap (λ r. Some r) d.3;
+        class = ap class_in d.1 ∙ d.2;
+        arguments = ap arguments_in d.1 ∙ one_word d.0.arguments s.takes.count s.takes.words;
+        gives = ap gives_in d.1 ∙ word_given d.0.gives s.gives;
+        leaves = ap leaves_in d.1 ∙ s.flags;
+        begins = ap before_in d.1 ∙ s.begins;
+      }
 
   -- what may leave is not quiet
   loud : (m : ℕ) → leaves p m ≡ true → is_quiet p m ≡ false
@@ -322,6 +371,9 @@ linked_is_wired p formed linked = record {
   operands = operands_fit p formed linked;
   cancel = has_canceller p formed linked;
   canceller = canceller_is p formed linked;
+  handler = has_handler p formed linked;
+  handles = handler_is p formed linked;
+  answers = answerer_is p formed linked;
   cancels = cancel_is p formed linked;
   quiets = loud p formed linked;
   called = called_is p formed linked;

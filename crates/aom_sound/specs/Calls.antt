@@ -15,10 +15,10 @@ use Rattle.aom_image.specs.declared.method.Thing.TheVariants.{Object as An_objec
 use Rattle.aom_rules.specs.Calls.{is_among}
 use Rattle.aom_shape.specs.Things.{Holder, Nobody, Program, Member, field_thing, stands_for}
 use Rattle.aom_sound.specs.Places.{Object, Place, Register, Entry, Field, Going, Elsewhere, Cell, held, moved}
-use Rattle.aom_sound.specs.State.{Home, Static, AtRoot, Inside, Frame, Task, Run, Trapped, Destroy, Unwind, Dispatched, Item, An_object, An_operation, A_mark, State, Need, Unbalanced, PopUnder, Orphan, NullOrDead, WrongKind, word, set_word, next, field_place, home_holder, frame_of}
+use Rattle.aom_sound.specs.State.{Home, Static, AtRoot, Inside, Frame, Dispatch, Asks, Answered, Task, Run, Trapped, Destroy, Unwind, Dispatched, Item, An_object, An_operation, A_mark, State, Need, Unbalanced, PopUnder, Orphan, NullOrDead, WrongKind, word, set_word, next, field_place, home_holder, frame_of}
 use Rattle.aom_sound.specs.Destruction.{owns_nothing}
 use Rattle.aom_sound.specs.Enlisted.{needs_cancelled}
-use Rattle.aom_sound.specs.Words.{here, needs_word}
+use Rattle.aom_sound.specs.Words.{here, needs_word, word_or_zero}
 use Rattle.aom_sound.specs.Objects.{is_thing}
 
 -- a method of that class may work on what this one works on, and a static one works on nothing
@@ -203,6 +203,21 @@ tops_mark (An_object ∷ items) = false
 tops_mark (An_operation m w ∷ items) = false
 tops_mark (A_mark ∷ items) = true
 
+-- ---- the answer of an `error` method
+
+abbrev pub is_asked : Dispatch → Bool
+is_asked (Asks x) = true
+is_asked _ = false
+
+-- the dispatch that asked has its answer
+abbrev pub answered_by : ℤ → Dispatch → Dispatch
+answered_by answer (Asks x) = Answered x answer
+answered_by answer d = d
+
+abbrev pub told_answer : Gives → Frame → ℕ → ℤ
+told_answer A_word fr a = word_or_zero (word fr a)
+told_answer _ fr a = pos 0
+
 -- what a method works on is a cell, no field of which owns
 abbrev pub is_emptied : List Cell → Home → Bool
 is_emptied cs Static = false
@@ -239,6 +254,7 @@ module _ (p : Image) (fr : Frame) (ts : List Task) (s : State) where
   end_needs (Trapped ∷ Dispatched d ∷ below) = (tops_mark s.items, Unbalanced) ∷ []
   end_needs (Destroy ∷ below) = (is_emptied s.cells fr.home, Orphan) ∷ []
   end_needs (Unwind code ∷ below) = []
+  end_needs (Dispatched d ∷ below) = (is_asked d, Unbalanced) ∷ []
   end_needs _ = (false, Unbalanced) ∷ []
 
   -- one more item lies there than at first, an object of that class
@@ -265,7 +281,7 @@ module _ (p : Image) (fr : Frame) (ts : List Task) (s : State) where
       ∷ needs_cancelled p fr ts s
       ∷ end_needs ts)
 
-  -- to the method that called, through its trap, to a destruction, to an unwinding, or to the dispatch
+  -- to the method that called, through its trap, to a destruction, to an unwinding, or to the dispatch, which hears its answer
   abbrev pub returned : Gives → ℕ → List Task → State
   returned g a (Run caller ∷ below) =
       let c = result_register (instr_at p caller.method caller.place) in
@@ -280,4 +296,5 @@ module _ (p : Image) (fr : Frame) (ts : List Task) (s : State) where
   returned g a (Trapped ∷ Dispatched d ∷ below) = record s { tasks = Dispatched d ∷ below; items = below_top s.items }
   returned g a (Destroy ∷ below) = record s { tasks = Destroy ∷ below }
   returned g a (Unwind code ∷ below) = record s { tasks = Unwind code ∷ below }
+  returned g a (Dispatched d ∷ below) = record s { tasks = Dispatched (answered_by (told_answer g fr a) d) ∷ below }
   returned g a _ = s

@@ -1,5 +1,5 @@
 -- What is claimed of each place, from the methods at hand and their abstract states.
-use Rattle.std.specs.Prelude.{ℕ, ℤ, cond, ◌==◌, map, List, [], ◌∷◌, Option, Some, None, length}
+use Rattle.std.specs.Prelude.{ℕ, ℤ, Bool, true, false, cond, ◌==◌, map, List, [], ◌∷◌, Option, Some, None, length}
 use Rattle.aom_image.specs.Image.{Image}
 use Rattle.aom_image.specs.declared.method.Gives.{Gives}
 use Rattle.aom_shape.specs.Things.{Program, field_thing}
@@ -12,22 +12,22 @@ use Rattle.aom_shape.specs.declared.kind.Filling.TheVariants.{Perhaps}
 use Rattle.aom_shape.specs.declared.kind.Kind.{Kind}
 use Rattle.aom_shape.specs.declared.kind.Kind.TheVariants.{Null, Own}
 use Rattle.aom_sound.specs.Places.{Place, Register, Entry, Field, Going, Elsewhere, Other, Root, Object, Cell, named}
-use Rattle.aom_sound.specs.State.{Home, Static, AtRoot, Inside, Frame, Dispatch, Of_main, Main_left, Of_root, Task, Run, Trapped, Destroy, Unwind, Dispatched, Item, An_object, An_operation, A_mark, thing_holder}
+use Rattle.aom_sound.specs.State.{Home, Static, AtRoot, Inside, Frame, Dispatch, Of_root, Seat, Task, Run, Trapped, Destroy, Unwind, Dispatched, Item, An_object, An_operation, A_mark, thing_holder}
 
--- what stands behind a task: a method with its abstract state, a trap's mark, a cell that is going, a leave with the entries that are still to unwind, or a dispatch
+-- what stands behind a task: a method with its abstract state, a trap's mark, a cell that is going, a leave with the entries that are still to unwind, or a dispatch with the seats from its object's up to the root
 pub data Layer : Type 0 where
   Method : Frame → Shape → Layer
   Mark : (gives : Gives) → Layer
   Dying : Object → Layer
   Unwinding : (code : ℤ) (entries : List Pushed) → Layer
-  Dispatching : Dispatch → Layer
+  Dispatching : Dispatch → (seats : List Seat) → Layer
 
 abbrev pub task_of : Layer → Task
 task_of (Method fr sh) = Run fr
 task_of (Mark gv) = Trapped
 task_of (Dying o) = Destroy
 task_of (Unwinding code es) = Unwind code
-task_of (Dispatching d) = Dispatched d
+task_of (Dispatching d seats) = Dispatched d
 
 abbrev pub tasks_of : List Layer → List Task
 tasks_of [] = []
@@ -38,7 +38,7 @@ entries_of (Method fr sh) = sh.entries
 entries_of (Mark gv) = []
 entries_of (Dying o) = []
 entries_of (Unwinding code es) = es
-entries_of (Dispatching d) = []
+entries_of (Dispatching d seats) = []
 
 -- what is known of an item of the cleanup stack
 pub data Form : Type 0 where
@@ -68,7 +68,7 @@ layer_items (Method fr sh) below = objects sh.entries below
 layer_items (Mark gv) below = Mark_form ∷ below
 layer_items (Dying o) below = below
 layer_items (Unwinding code es) below = objects es below
-layer_items (Dispatching d) below = below
+layer_items (Dispatching d seats) below = below
 
 abbrev pub items_of : List Layer → List Form
 items_of [] = []
@@ -84,7 +84,7 @@ register_claim (Method fr sh) depth f i below = cond (depth == f) (register sh i
 register_claim (Mark gv) depth f i below = below
 register_claim (Dying o) depth f i below = below
 register_claim (Unwinding code es) depth f i below = below
-register_claim (Dispatching d) depth f i below = below
+register_claim (Dispatching d seats) depth f i below = below
 
 abbrev pub home_claim : Image → Home → Shape → ℕ → ℕ → Kind → Kind
 home_claim p Static sh n f below = below
@@ -96,28 +96,31 @@ field_claim p (Method fr sh) n f below = home_claim p fr.home sh n f below
 field_claim p (Mark gv) n f below = below
 field_claim p (Dying o) n f below = cond (o.name == n) Null below
 field_claim p (Unwinding code es) n f below = below
-field_claim p (Dispatching d) n f below = below
+field_claim p (Dispatching d seats) n f below = below
 
 abbrev pub going_claim : Layer → ℕ → ℕ → Kind → Kind
 going_claim (Method fr sh) depth k below = below
 going_claim (Mark gv) depth k below = below
 going_claim (Dying o) depth k below = cond (depth == k) (Own o.thing Ready) below
 going_claim (Unwinding code es) depth k below = below
-going_claim (Dispatching d) depth k below = below
+going_claim (Dispatching d seats) depth k below = below
 
 abbrev pub root_claim : Image → Home → Shape → Kind → Kind
 root_claim p Static sh below = below
 root_claim p AtRoot sh below = filled (field_thing p Program 0) (field sh 0)
 root_claim p (Inside o from) sh below = below
 
+-- the root goes, or is gone
+abbrev pub is_of_root : Dispatch → Bool
+is_of_root Of_root = true
+is_of_root _ = false
+
 abbrev pub other_claim : Image → Layer → Other → Kind → Kind
 other_claim p (Method fr sh) Root below = root_claim p fr.home sh below
 other_claim p (Mark gv) Root below = below
 other_claim p (Dying o) Root below = below
 other_claim p (Unwinding code es) Root below = below
-other_claim p (Dispatching Of_main) Root below = below
-other_claim p (Dispatching (Main_left code)) Root below = below
-other_claim p (Dispatching Of_root) Root below = Null
+other_claim p (Dispatching d seats) Root below = cond (is_of_root d) Null below
 
 abbrev pub layer_claim : Image → Layer → ℕ → List Form → Place → Kind → Kind
 layer_claim p l depth items (Register f i) below = register_claim l depth f i below

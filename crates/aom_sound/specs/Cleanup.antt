@@ -5,7 +5,7 @@ use Rattle.aom_image.specs.Views.{instr_at}
 use Rattle.aom_image.specs.declared.method.Gives.{Gives}
 use Rattle.aom_image.specs.declared.method.Gives.TheVariants.{Nothing, Word as A_word, Own as An_own, Maybe as A_maybe, Left}
 use Rattle.aom_sound.specs.Places.{Place, Entry, Going, Object, Cell, held, moved}
-use Rattle.aom_sound.specs.State.{Static, Frame, Dispatch, Of_main, Main_left, Of_root, Task, Run, Trapped, Destroy, Unwind, Dispatched, Item, An_object, An_operation, A_mark, State, Choice, Need, PopUnder, PushNoTrap, LeaveNoTrap, Unbalanced, Orphan, NullOrDead, WrongKind, Outcome, Goes, IsStuck, word, set_word, next, frame_of}
+use Rattle.aom_sound.specs.State.{Static, Frame, Dispatch, Of_main, Main_left, Of_object, Object_left, Task, Run, Trapped, Destroy, Unwind, Dispatched, Item, An_object, An_operation, A_mark, State, Choice, Need, PopUnder, PushNoTrap, LeaveNoTrap, Unbalanced, Orphan, NullOrDead, WrongKind, Outcome, Goes, IsStuck, word, set_word, next, frame_of}
 use Rattle.aom_sound.specs.Destruction.{begun}
 use Rattle.aom_sound.specs.Words.{here, needs_word, read}
 use Rattle.aom_sound.specs.Objects.{is_no_message}
@@ -115,11 +115,11 @@ dealt_with p (A_mark ∷ items) ts s = record s { tasks = ts }
 
 -- ---- the code arrives
 
--- main's dispatch ends with the code
+-- the dispatch of main, or of an object, is left with the code
 abbrev pub ended_by : ℤ → Dispatch → Dispatch
 ended_by code Of_main = Main_left code
-ended_by code (Main_left c) = Main_left c
-ended_by code Of_root = Of_root
+ended_by code (Of_object x) = Object_left x code
+ended_by code d = d
 
 -- the code is in the register after the result's, where there is no object, or the word 0
 abbrev pub code_told : Gives → ℕ → ℤ → Frame → Frame

@@ -10,6 +10,7 @@ use Rattle.aom_image.specs.declared.class.Provider.TheVariants.{Own, Timer as A_
 use Rattle.aom_image.specs.declared.method.Thing.{Thing}
 use Rattle.aom_image.specs.declared.method.Thing.TheVariants.{Object as An_object_of, Message}
 use Rattle.aom_classes.specs.Roles.{role_of}
+use Rattle.aom_image.specs.declared.method.Role.{Role}
 use Rattle.aom_image.specs.declared.method.Role.TheVariants.{Cancel as Cancels}
 use Rattle.aom_roles.specs.Shapes.{kind_of}
 use Rattle.aom_rules.specs.Requests.{is_active_kind, is_cancel, is_listed_kind}
@@ -170,12 +171,24 @@ cancelled r = record r { phase = Idle }
 abbrev pub aborted : Request → Request
 aborted r = record r { phase = Aborted; status = cond (int_eq r.status pending) cancelled_code r.status; timer = None }
 
--- ---- the method that cancels
+-- its object is picked
+abbrev pub taken_up : Request → Request
+taken_up r = record r { phase = Idle }
 
--- for what a frame works on
+-- its timer completes it, with KErrNone
+abbrev pub timed_out : Request → Request
+timed_out r = record r { status = pos 0; timer = None }
+
+-- ---- methods that are found by their roles
+
+-- the method of the class of a thing in that role
+abbrev pub part_of : Image → Role → Thing → Option ℕ
+part_of p role (An_object_of c) = role_of p c role
+part_of p role Message = None
+
+-- the one that cancels
 abbrev pub cancel_of : Image → Thing → Option ℕ
-cancel_of p (An_object_of c) = role_of p c Cancels
-cancel_of p Message = None
+cancel_of p t = part_of p Cancels t
 
 abbrev pub cancel_method : Image → Home → Option ℕ
 cancel_method p Static = None

@@ -1,5 +1,5 @@
 -- The laws of the checked machine.
-use Rattle.std.specs.Prelude.{ℕ, ℤ, true, false, ◌≡◌, ◌⊎◌, ◌<◌, IsSome, List, [], ◌∷◌, Some, None}
+use Rattle.std.specs.Prelude.{ℕ, ℤ, bit_or, is_some, true, false, ◌≡◌, ◌⊎◌, ◌<◌, IsSome, List, [], ◌∷◌, Some, None}
 use Rattle.aom_image.specs.Image.{Image}
 use Rattle.aom_image.specs.Views.{instr_at, method_at, method_class, method_role, is_quiet, leaves, gives_of, arguments_of}
 use Rattle.aom_instructions.specs.Fits.{InstrFits}
@@ -8,8 +8,9 @@ use Rattle.aom_instructions.specs.declared.instr.Instr.{Instr}
 use Rattle.aom_instructions.specs.declared.instr.Instr.TheVariants.{Call, Trap, PushOperation}
 use Rattle.aom_instructions.specs.declared.instr.Target.{Target}
 use Rattle.aom_instructions.specs.declared.limits.Limits.{Limits}
-use Rattle.aom_image.specs.declared.method.Gives.TheVariants.{Nothing}
-use Rattle.aom_image.specs.declared.method.Role.TheVariants.{Cancel, Do, Main, Construct, Destruct}
+use Rattle.aom_image.specs.declared.method.Gives.TheVariants.{Nothing, Word as A_word}
+use Rattle.aom_image.specs.declared.method.Argument.TheVariants.{Word as Takes_word}
+use Rattle.aom_image.specs.declared.method.Role.TheVariants.{Cancel, Do, Main, Construct, Destruct, Error, Run as Run_role}
 use Rattle.aom_image.specs.declared.method.Thing.TheVariants.{Object as An_object_of}
 use Rattle.aom_classes.specs.Linked.{IsLinked}
 use Rattle.aom_classes.specs.Roles.{role_of, main_of}
@@ -17,7 +18,7 @@ use Rattle.aom_shape.specs.Things.{Member, field_thing}
 use Rattle.aom_shape.specs.Arguments.{after_of, before_of}
 use Rattle.aom_rules.specs.Requests.{is_active_kind, unissued}
 use Rattle.aom_roles.specs.Shapes.{kind_of}
-use Rattle.aom_roles.specs.States.{cancel_open, first_of, last_of, states_of}
+use Rattle.aom_roles.specs.States.{active, cancel_open, first_of, idle, last_of, states_of}
 use Rattle.aom_rules.specs.Typing.{Typing, IsTyped}
 use Rattle.aom_sound.specs.Places.{Elsewhere, Root, held, named}
 use Rattle.aom_sound.specs.State.{Dispatch, Frame, Task, Run, Destroy, Unwind, Dispatched, Item, A_mark, State, Choice, Goes}
@@ -25,7 +26,7 @@ use Rattle.aom_sound.specs.Moves.{step, IsOpen}
 use Rattle.aom_sound.specs.WellTyped.{LeavesNone, IsUndo, WellTyped, Keeps}
 use Rattle.aom_sound.specs.Owned.{Owned}
 use Rattle.aom_sound.specs.Registers.{AllInRange}
-use Rattle.aom_sound.specs.World.{boot_state, IsBusy, Reaches, Outside}
+use Rattle.aom_sound.specs.World.{AllSettled, boot_state, first_ready, has_signal, IsBetween, IsBusy, Reaches, Outside, turn}
 use Rattle.aom_transcript.specs.declared.line.Line.{Line}
 use Rattle.aom_transcript.specs.declared.line.Ending.TheVariants.{Stopped}
 
@@ -44,6 +45,25 @@ pub record IsTrapped (p : Image) (m : ℕ) : Type 0 where
   pub ends : unissued (after_of p m) ≡ true
   pub gives : LeavesNone (gives_of p m)
 
+-- a method that is dispatched for its object: the object is idle as it begins
+pub record IsHandler (p : Image) (c m : ℕ) : Type 0 where
+  pub there : IsSome (method_at p m)
+  pub role : method_role p m ≡ Some Run_role
+  pub class : method_class p m ≡ Some c
+  pub arguments : arguments_of p m ≡ []
+  pub gives : gives_of p m ≡ Nothing
+  pub begins : before_of p m ≡ idle
+
+-- a method that answers a code: it does not leave, and its object is enlisted as it begins
+pub record IsAnswerer (p : Image) (c m : ℕ) : Type 0 where
+  pub there : IsSome (method_at p m)
+  pub role : method_role p m ≡ Some Error
+  pub class : method_class p m ≡ Some c
+  pub arguments : arguments_of p m ≡ Takes_word ∷ []
+  pub gives : gives_of p m ≡ A_word
+  pub leaves : leaves p m ≡ false
+  pub begins : before_of p m ≡ bit_or idle active
+
 -- what linking has found, as far as the laws use it
 pub record IsWired (p : Image) : Type 0 where
   pub has_main : IsSome (main_of p)
@@ -52,6 +72,10 @@ pub record IsWired (p : Image) : Type 0 where
   -- a class of active objects has a method that cancels, which begins with its object being cancelled
   pub cancel : (c : ℕ) → is_active_kind (kind_of p (Some c)) ≡ true → (m : ℕ) × (role_of p c Cancel ≡ Some m)
   pub canceller : (c m : ℕ) → role_of p c Cancel ≡ Some m → (IsSome (method_at p m)) × (method_role p m ≡ Some Cancel) × (method_class p m ≡ Some c) × (arguments_of p m ≡ []) × (before_of p m ≡ cancel_open)
+  -- and one that is dispatched for its objects; it may have one that answers
+  pub handler : (c : ℕ) → is_active_kind (kind_of p (Some c)) ≡ true → (m : ℕ) × (role_of p c Run_role ≡ Some m)
+  pub handles : (c m : ℕ) → role_of p c Run_role ≡ Some m → IsHandler p c m
+  pub answers : (c m : ℕ) → role_of p c Error ≡ Some m → IsAnswerer p c m
   -- a method that cancels is quiet and gives nothing, and what is quiet does not leave
   pub cancels : (m : ℕ) → method_role p m ≡ Some Cancel → (is_quiet p m ≡ true) × (gives_of p m ≡ Nothing)
   pub quiets : (m : ℕ) → leaves p m ≡ true → is_quiet p m ≡ false
@@ -80,6 +104,15 @@ StepKeeps = (p : Image) (t : Typing) → IsWired p → IsTyped p t → (c : Choi
 pub record RegistersKeep : Type 0 where
   pub boot : (p : Image) → AllInRange (boot_state p).cells
   pub moves : (p : Image) → IsWired p → (c : Choice) (s u : State) → AllInRange s.cells → step p c s ≡ Goes u → AllInRange u.cells
+  pub turns : (p : Image) (outside : Outside) (s u : State) → AllInRange s.cells → turn p outside s ≡ Goes u → AllInRange u.cells
+
+-- a turn from a well-typed state between dispatches is not stuck, and leads to a well-typed state
+abbrev pub TurnGoesOn : Type 0
+TurnGoesOn = (p : Image) (t : Typing) (outside : Outside) → IsWired p → IsTyped p t → (s : State) → WellTyped p t s → IsBetween s → Keeps p t (turn p outside s)
+
+-- between dispatches no request is made that is not waited for, and what signals is ready
+abbrev pub SignalsAreReady : Type 0
+SignalsAreReady = (p : Image) (t : Typing) (s : State) → WellTyped p t s → s.tasks ≡ [] → AllSettled s.cells × (has_signal s.cells ≡ is_some (first_ready s.cells))
 
 -- at a dispatch's end, and between dispatches, each cell has exactly one living owner
 abbrev pub EndsOwned : Type 0
@@ -94,6 +127,9 @@ EndsEmpty = (p : Image) (t : Typing) → IsWired p → (s : State) → WellTyped
 -- of each run of an image: it is never stuck, at each caught leave and each dispatch's end each cell has one living owner, and where it stopped no cell is left
 pub record IsSound (p : Image) (outside : Outside) : Type 0 where
   pub goes_on : (lines : List Line) (s : State) → Reaches p outside (boot_state p) lines s → IsBusy s → (c : Choice) → IsOpen p outside.refused c s → (u : State) × (step p c s ≡ Goes u)
+  -- each turn goes on: no signal is stray
+  pub turns_on : (lines : List Line) (s : State) → Reaches p outside (boot_state p) lines s → IsBetween s → (u : State) × (turn p outside s ≡ Goes u)
+  pub settled : (lines : List Line) (s : State) → Reaches p outside (boot_state p) lines s → s.tasks ≡ [] → AllSettled s.cells × (has_signal s.cells ≡ is_some (first_ready s.cells))
   -- a leave is caught once all that was pushed since its trap is dealt with
   pub caught : (lines : List Line) (s : State) (code : ℤ) (tasks : List Task) (items : List Item) → Reaches p outside (boot_state p) lines s → s.tasks ≡ Unwind code ∷ tasks → s.items ≡ A_mark ∷ items → Owned p s
   pub owned : (lines : List Line) (s : State) (d : Dispatch) → Reaches p outside (boot_state p) lines s → s.tasks ≡ Dispatched d ∷ [] → Owned p s

@@ -9,7 +9,7 @@ use Rattle.aom_image.specs.declared.method.Gives.{Gives}
 use Rattle.aom_image.specs.declared.method.Gives.TheVariants.{Nothing, Word as A_word, Own as An_own, Maybe as A_maybe, Left}
 use Rattle.aom_rules.specs.Typing.{Typing, IsTyped}
 use Rattle.aom_sound.specs.Places.{Place, Register, Entry, Going, Object, Cell, held, named}
-use Rattle.aom_sound.specs.State.{Inside, Frame, Of_main, Main_left, Task, Run, Trapped, Destroy, Unwind, Dispatched, Item, An_object, An_operation, A_mark, State, Choice, Goes, word, next}
+use Rattle.aom_sound.specs.State.{Inside, Frame, Of_main, Main_left, Of_object, Object_left, Task, Run, Trapped, Destroy, Unwind, Dispatched, Item, An_object, An_operation, A_mark, State, Choice, Goes, word, next}
 use Rattle.aom_classes.specs.Roles.{destructor_of}
 use Rattle.aom_sound.specs.Moves.{step, written, announcement}
 use Rattle.aom_sound.specs.WellTyped.{WellTyped}
@@ -125,13 +125,14 @@ pub record Hears (code : ℤ) (gives : Gives) (c : ℕ) (cs : List Cell) (depth 
   pub others : (r : ℕ) → r ≢ c → r ≢ suc c → word after r ≡ word before r
   pub goes_on : record after { words = before.words } ≡ next before
 
--- to the method that set the trap, or to main's dispatch
+-- to the method that set the trap, or to the dispatch of main or of an object
 abbrev pub ArrivesAt : Image → ℤ → List Task → State → Type 0
 ArrivesAt p code (Trapped ∷ Run before ∷ ts) u =
     (after : Frame)
     × (u.tasks ≡ Run after ∷ ts)
     × ((target : Target) (m first c : ℕ) → instr_at p before.method before.place ≡ Some (Trap target m first c) → Hears code (gives_of p m) c u.cells (length ts) before after)
 ArrivesAt p code (Trapped ∷ Dispatched Of_main ∷ ts) u = u.tasks ≡ Dispatched (Main_left code) ∷ ts
+ArrivesAt p code (Trapped ∷ Dispatched (Of_object x) ∷ ts) u = u.tasks ≡ Dispatched (Object_left x code) ∷ ts
 ArrivesAt p code _ u = ⊥
 
 -- the mark goes, what lay below it is as it was, and the line of the leave is written

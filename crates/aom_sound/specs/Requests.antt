@@ -1,14 +1,17 @@
 -- What is known of the request of each object, from the methods at hand and their abstract states.
-use Rattle.std.specs.Prelude.{ℕ, Bool, true, false, cond, ◌||◌, ◌==◌, ◌≡◌, ◌⊎◌, IsTrue, List, [], ◌∷◌, Option, Some, None}
+use Rattle.std.specs.Prelude.{ℕ, Bool, true, false, not, is_none, is_some, cond, ◌&&◌, ◌||◌, ◌==◌, ◌≡◌, ◌⊎◌, IsTrue, List, [], ◌∷◌, Option, Some, None}
 use Rattle.aom_image.specs.Image.{Image}
 use Rattle.aom_image.specs.Views.{has, method_role}
 use Rattle.aom_image.specs.declared.class.ClassKind.{ClassKind}
 use Rattle.aom_image.specs.declared.class.ClassKind.TheVariants.{Active as An_active, Server as A_server}
+use Rattle.std.specs.Ordering.{int_eq}
+use Rattle.aom_image.specs.declared.class.Provider.{Provider}
+use Rattle.aom_image.specs.declared.class.Provider.TheVariants.{Timer as A_timer}
 use Rattle.aom_roles.specs.States.{unlisted, idle, issued, active, cancel_open, cancel_done, server_states, states_of, last_of}
 use Rattle.aom_rules.specs.Requests.{is_cancel}
 use Rattle.aom_sound.specs.Claims.{Layer, Method, Mark, Dying, Unwinding, Dispatching}
 pub use Rattle.aom_sound.specs.Enlisted.{thing_kind}
-use Rattle.aom_sound.specs.Enlisted.{in_phase, is_cancelling, is_unanswered}
+use Rattle.aom_sound.specs.Enlisted.{in_phase, is_cancelling, is_idle, is_unanswered, pending}
 use Rattle.aom_sound.specs.Places.{Object, Cell, Phase, Idle, Issued, Active, Cancelling, Aborted, Request, named, requested}
 use Rattle.aom_sound.specs.State.{Frame, Home, Static, AtRoot, Inside}
 
@@ -33,9 +36,19 @@ pub record Known : Type 0 where
 abbrev pub resting_in : ℕ → Known
 resting_in states = record { states = states; cancelled = false }
 
--- an object that may be enlisted is as it is known to be, and what is aborted has its code; an object of another class is not enlisted
+-- a timer runs for that request
+abbrev pub ticks : Provider → Request → Bool
+ticks A_timer r = not (is_idle r.phase) && int_eq r.status pending
+ticks _ r = false
+
+-- a pending request of a timer's has a timer, and no other has one
+abbrev pub is_timed : Provider → Option Request → Bool
+is_timed provider None = true
+is_timed provider (Some r) = cond (ticks provider r) (is_some r.timer) (is_none r.timer)
+
+-- an object that may be enlisted is as it is known to be, what is aborted has its code, and timers run for what is pending; an object of another class is not enlisted
 abbrev pub Suits : Option ClassKind → Known → Option Request → Type 0
-Suits (Some (An_active provider budget)) k r = IsTrue (has k.states (state_of r)) × (in_phase is_cancelling r ≡ k.cancelled) × (is_unanswered r ≡ false)
+Suits (Some (An_active provider budget)) k r = IsTrue (has k.states (state_of r)) × (in_phase is_cancelling r ≡ k.cancelled) × (is_unanswered r ≡ false) × (is_timed provider r ≡ true)
 Suits (Some (A_server most session budget)) k r = IsTrue (has k.states (state_of r)) × IsTrue (has server_states (state_of r))
 Suits _ k r = r ≡ None
 
@@ -61,7 +74,7 @@ module _ (p : Image) (o : Object) where
   states_claim (Mark gv ∷ ls) = states_claim ls
   states_claim (Dying x ∷ ls) = cond (x.name == o.name) (resting_in (last_of (thing_kind p o.thing))) (states_claim ls)
   states_claim (Unwinding code es ∷ ls) = states_claim ls
-  states_claim (Dispatching d ∷ ls) = states_claim ls
+  states_claim (Dispatching d seats ∷ ls) = states_claim ls
 
 -- so it is for each object
 abbrev pub AllSuit : Image → List Cell → List Layer → Type 0
@@ -74,7 +87,7 @@ Unworked n (Method fr sh ∷ ls) = (works_at n fr.home ≡ false) × Unworked n 
 Unworked n (Mark gv ∷ ls) = Unworked n ls
 Unworked n (Dying x ∷ ls) = ((x.name == n) ≡ false) × Unworked n ls
 Unworked n (Unwinding code es ∷ ls) = Unworked n ls
-Unworked n (Dispatching d ∷ ls) = Unworked n ls
+Unworked n (Dispatching d seats ∷ ls) = Unworked n ls
 
 -- right below a method that works on the object stands one that works on it too, and rests with it under a trap, or none works on it but its going
 abbrev pub Joins : Image → Object → List Layer → Type 0

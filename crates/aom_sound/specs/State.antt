@@ -24,11 +24,24 @@ pub record Frame : Type 0 where
   -- how many items the cleanup stack had as it began
   pub height : ℕ
 
--- what stands below all else: main's dispatch, its end where main left with a code, or the end of a stopped run, which destroys the root
+-- an object, and the place that owns it
+pub record Seat : Type 0 where
+  pub object : Object
+  pub place : Place
+
+-- what stands below all else
 pub data Dispatch : Type 0 where
+  -- of main, and its end where main left with a code
   Of_main : Dispatch
   Main_left : (code : ℤ) → Dispatch
+  -- the end of a stopped run, which destroys the root
   Of_root : Dispatch
+  -- of an object, and its end where its method left with a code
+  Of_object : Seat → Dispatch
+  Object_left : Seat → (code : ℤ) → Dispatch
+  -- its `error` method is asked, and has answered
+  Asks : Seat → Dispatch
+  Answered : Seat → (answer : ℤ) → Dispatch
 
 -- what is at hand, the innermost first
 pub data Task : Type 0 where
@@ -52,6 +65,8 @@ pub record Rest : Type 0 where
   pub requests : ℕ
   -- steps of the dispatch at hand
   pub steps : ℕ
+  -- dispatches of objects that are over
+  pub dispatches : ℕ
   -- main's line is written
   pub announced : Bool
   -- `stop` was run

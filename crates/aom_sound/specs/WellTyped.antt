@@ -1,5 +1,5 @@
 -- The well-typed states: what the typing says of the methods at hand holds of the cells and their owners.
-use Rattle.std.specs.Prelude.{IsSome, cond, IsTrue, List, None, Option, Some, [], false, length, suc, true, ℕ, ℤ, ◌<◌, ◌==◌, ◌∷◌, ◌≡◌, ◌⊎◌}
+use Rattle.std.specs.Prelude.{IsSome, is_some, cond, IsTrue, List, None, Option, Some, [], false, length, suc, true, ℕ, ℤ, ◌<◌, ◌==◌, ◌∷◌, ◌≡◌, ◌⊎◌}
 use Rattle.aom_image.specs.Image.{Image}
 use Rattle.aom_image.specs.Views.{has, instr_at, method_at, method_role, method_class, arguments_of, is_quiet, leaves, gives_of}
 use Rattle.aom_image.specs.declared.method.Argument.TheVariants.{Word as Takes_word}
@@ -19,11 +19,11 @@ use Rattle.aom_shape.specs.declared.kind.Age.TheVariants.{Fresh, Ready}
 use Rattle.aom_shape.specs.declared.kind.Filling.TheVariants.{Perhaps}
 use Rattle.aom_shape.specs.declared.kind.Kind.{Kind}
 use Rattle.aom_shape.specs.declared.kind.Kind.TheVariants.{Unset, Word, Null, Own, Maybe}
-use Rattle.aom_sound.specs.Places.{Cell, Elsewhere, Entry, Field, Going, Object, Place, Register, Root, Sight, Tidy, held, named, same_place, seen}
-use Rattle.aom_sound.specs.State.{Home, Static, AtRoot, Inside, Frame, Dispatch, Of_main, Main_left, Of_root, Item, An_object, An_operation, A_mark, word, State, Outcome, Goes, IsStuck, home_holder, thing_holder}
+use Rattle.aom_sound.specs.Places.{Cell, Elsewhere, Entry, Field, Going, Object, Place, Register, Root, Sight, Tidy, held, named, requested, same_place, seen}
+use Rattle.aom_sound.specs.State.{Home, Static, AtRoot, Inside, Frame, Dispatch, Of_main, Main_left, Of_root, Of_object, Object_left, Asks, Answered, Seat, Item, An_object, An_operation, A_mark, word, State, Outcome, Goes, IsStuck, home_holder, thing_holder}
 use Rattle.aom_sound.specs.Calls.{result_register, called}
 use Rattle.aom_sound.specs.Requests.{AllSuit, Joins, states_claim, thing_kind, works_at}
-use Rattle.aom_sound.specs.Claims.{Layer, Method, Mark, Dying, Unwinding, Dispatching, tasks_of, forms, items_of, claim, declared}
+use Rattle.aom_sound.specs.Claims.{is_of_root, Layer, Method, Mark, Dying, Unwinding, Dispatching, tasks_of, forms, items_of, claim, declared}
 
 -- fresh: all fields are null, and the object is not enlisted
 abbrev pub HasAge : Sight → Object → Age → Type 0
@@ -122,6 +122,50 @@ NotIn n Static = Unit {0}
 NotIn n AtRoot = Unit {0}
 NotIn n (Inside o from) = IsNoFieldOf n from
 
+-- ---- seats: from the object that is dispatched up to the root, each in a field of the next
+
+-- the object of some seat has that name
+abbrev pub SomeSits : ℕ → List Seat → Type 0
+SomeSits n [] = ⊥
+SomeSits n (x ∷ xs) = (x.object.name ≡ n) ⊎ SomeSits n xs
+
+-- none is in a field of that cell
+abbrev pub NoSeatIn : ℕ → List Seat → Type 0
+NoSeatIn n [] = Unit {0}
+NoSeatIn n (x ∷ xs) = IsNoFieldOf n x.place × NoSeatIn n xs
+
+-- none is that place
+abbrev pub NoSeatAt : Place → List Seat → Type 0
+NoSeatAt q [] = Unit {0}
+NoSeatAt q (x ∷ xs) = (same_place q x.place ≡ false) × NoSeatAt q xs
+
+-- the place is the root, or a field of an object that sits
+abbrev pub SitsIn : Place → List Seat → Type 0
+SitsIn (Register f r) xs = ⊥
+SitsIn (Entry k) xs = ⊥
+SitsIn (Field n f) xs = SomeSits n xs
+SitsIn (Going k) xs = ⊥
+SitsIn (Elsewhere o) xs = Unit {0}
+
+-- each object is at its place, and lives, and none sits twice
+abbrev pub AllSit : List Cell → List Seat → Type 0
+AllSit cs [] = Unit {0}
+AllSit cs (x ∷ xs) = ((held cs x.place ≡ Some x.object) × (named cs x.object.name ≡ Some x.object) × SitsIn x.place xs × (SomeSits x.object.name xs → ⊥)) × AllSit cs xs
+
+abbrev pub seat_of : Dispatch → Option Seat
+seat_of Of_main = None
+seat_of (Main_left code) = None
+seat_of Of_root = None
+seat_of (Of_object x) = Some x
+seat_of (Object_left x code) = Some x
+seat_of (Asks x) = Some x
+seat_of (Answered x answer) = Some x
+
+-- the object that is dispatched is the first, and is enlisted; with none there are no seats
+abbrev pub SitsFirst : List Cell → Option Seat → List Seat → Type 0
+SitsFirst cs None seats = seats ≡ []
+SitsFirst cs (Some x) seats = (is_some (requested cs x.object.name) ≡ true) × (above : List Seat) × (seats ≡ x ∷ above)
+
 -- no layer's method was called on a field of that cell
 abbrev pub NoneIn : ℕ → List Layer → Type 0
 NoneIn n [] = Unit {0}
@@ -129,7 +173,7 @@ NoneIn n (Method fr sh ∷ ls) = NotIn n fr.home × NoneIn n ls
 NoneIn n (Mark gv ∷ ls) = NoneIn n ls
 NoneIn n (Dying o ∷ ls) = NoneIn n ls
 NoneIn n (Unwinding code es ∷ ls) = NoneIn n ls
-NoneIn n (Dispatching d ∷ ls) = NoneIn n ls
+NoneIn n (Dispatching d seats ∷ ls) = NoSeatIn n seats × NoneIn n ls
 
 -- the layers claim nothing of that cell's fields beyond what its class declares
 abbrev pub by_field : (ℕ → Kind) → Place → Kind
@@ -149,7 +193,7 @@ past_going (Dying o ∷ ls) = ls
 past_going (Method fr sh ∷ ls) = Method fr sh ∷ ls
 past_going (Mark gv ∷ ls) = Mark gv ∷ ls
 past_going (Unwinding code es ∷ ls) = Unwinding code es ∷ ls
-past_going (Dispatching d ∷ ls) = Dispatching d ∷ ls
+past_going (Dispatching d seats ∷ ls) = Dispatching d seats ∷ ls
 
 abbrev pub NotAtRoot : Home → Type 0
 NotAtRoot Static = Unit {0}
@@ -163,9 +207,7 @@ RootUnclaimed (Method fr sh ∷ ls) = NotAtRoot fr.home × RootUnclaimed ls
 RootUnclaimed (Mark gv ∷ ls) = RootUnclaimed ls
 RootUnclaimed (Dying o ∷ ls) = RootUnclaimed ls
 RootUnclaimed (Unwinding code es ∷ ls) = RootUnclaimed ls
-RootUnclaimed (Dispatching Of_main ∷ ls) = RootUnclaimed ls
-RootUnclaimed (Dispatching (Main_left code) ∷ ls) = RootUnclaimed ls
-RootUnclaimed (Dispatching Of_root ∷ ls) = ⊥
+RootUnclaimed (Dispatching d seats ∷ ls) = (is_of_root d ≡ false) × RootUnclaimed ls
 
 abbrev pub NotFrom : Place → Home → Type 0
 NotFrom q Static = Unit {0}
@@ -179,7 +221,7 @@ NoneFrom q (Method fr sh ∷ ls) = NotFrom q fr.home × NoneFrom q ls
 NoneFrom q (Mark gv ∷ ls) = NoneFrom q ls
 NoneFrom q (Dying o ∷ ls) = NoneFrom q ls
 NoneFrom q (Unwinding code es ∷ ls) = NoneFrom q ls
-NoneFrom q (Dispatching d ∷ ls) = NoneFrom q ls
+NoneFrom q (Dispatching d seats ∷ ls) = NoSeatAt q seats × NoneFrom q ls
 
 -- the layers below claim of the fields that a method works on no more than what is declared
 abbrev pub IsApart : Image → Home → List Layer → Type 0
@@ -191,7 +233,7 @@ IsApart p (Inside o from) ls =
     × Unclaimed p (λ f. filled (field_thing p (thing_holder o.thing) f) Perhaps) o.name (past_going ls)
     × Joins p o ls
 
--- some layer's method works on that cell
+-- some layer's method works on that cell, or it sits
 abbrev pub WorksOn : ℕ → Home → Type 0
 WorksOn n Static = ⊥
 WorksOn n AtRoot = ⊥
@@ -203,7 +245,7 @@ SomeIn n (Method fr sh ∷ ls) = WorksOn n fr.home ⊎ SomeIn n ls
 SomeIn n (Mark gv ∷ ls) = SomeIn n ls
 SomeIn n (Dying o ∷ ls) = SomeIn n ls
 SomeIn n (Unwinding code es ∷ ls) = SomeIn n ls
-SomeIn n (Dispatching d ∷ ls) = SomeIn n ls
+SomeIn n (Dispatching d seats ∷ ls) = SomeSits n seats ⊎ SomeIn n ls
 
 -- the place belongs to the layers
 abbrev pub IsBelow : Place → List Layer → Type 0
@@ -257,23 +299,46 @@ IsUnwound p (Caught g) = ⊥
 IsUnwound p Gone = Unit {0}
 IsUnwound p Leaves = ⊥
 
--- a dispatch is at its end, or its method runs under its trap; over the end of a run the root goes
+-- it is over
+abbrev pub IsAtEnd : Back → Type 0
+IsAtEnd Now = Unit {0}
+IsAtEnd (Returns m home) = ⊥
+IsAtEnd (Caught g) = ⊥
+IsAtEnd Gone = ⊥
+IsAtEnd Leaves = ⊥
+
+-- or its method runs under its trap
+abbrev pub IsTrapping : Back → Type 0
+IsTrapping Now = Unit {0}
+IsTrapping (Returns m home) = ⊥
+IsTrapping (Caught g) = g ≡ Nothing
+IsTrapping Gone = ⊥
+IsTrapping Leaves = ⊥
+
+-- the root goes
+abbrev pub IsUprooting : Back → Type 0
+IsUprooting Now = Unit {0}
+IsUprooting (Returns m home) = ⊥
+IsUprooting (Caught g) = ⊥
+IsUprooting Gone = Unit {0}
+IsUprooting Leaves = ⊥
+
+-- a method that does not leave gives its answer
+abbrev pub IsAsking : Image → Back → Type 0
+IsAsking p Now = ⊥
+IsAsking p (Returns m home) = (leaves p m ≡ false) × (gives_of p m ≡ A_word) × (is_cancel (method_role p m) ≡ false)
+IsAsking p (Caught g) = ⊥
+IsAsking p Gone = ⊥
+IsAsking p Leaves = ⊥
+
 abbrev pub EndsDispatch : Image → Dispatch → Back → Type 0
-EndsDispatch p Of_main Now = Unit {0}
-EndsDispatch p Of_main (Returns m home) = ⊥
-EndsDispatch p Of_main (Caught g) = g ≡ Nothing
-EndsDispatch p Of_main Gone = ⊥
-EndsDispatch p Of_main Leaves = ⊥
-EndsDispatch p (Main_left code) Now = Unit {0}
-EndsDispatch p (Main_left code) (Returns m home) = ⊥
-EndsDispatch p (Main_left code) (Caught g) = ⊥
-EndsDispatch p (Main_left code) Gone = ⊥
-EndsDispatch p (Main_left code) Leaves = ⊥
-EndsDispatch p Of_root Now = Unit {0}
-EndsDispatch p Of_root (Returns m home) = ⊥
-EndsDispatch p Of_root (Caught g) = ⊥
-EndsDispatch p Of_root Gone = Unit {0}
-EndsDispatch p Of_root Leaves = ⊥
+EndsDispatch p Of_main back = IsTrapping back
+EndsDispatch p (Main_left code) back = IsAtEnd back
+EndsDispatch p Of_root back = IsUprooting back
+EndsDispatch p (Of_object x) back = IsTrapping back
+EndsDispatch p (Object_left x code) back = IsAtEnd back
+EndsDispatch p (Asks x) back = IsAsking p back
+EndsDispatch p (Answered x answer) back = IsAtEnd back
 
 abbrev pub Stack : Image → Typing → List Cell → Back → List Layer → Type 0
 Stack p t cs back [] = back ≡ Now
@@ -289,7 +354,7 @@ Stack p t cs back (Dying o ∷ ls) =
     × IsDestructorOf p (length (tasks_of ls)) o back
     × Stack p t cs Gone ls
 Stack p t cs back (Unwinding code es ∷ ls) = IsUnwound p back × Stack p t cs Leaves ls
-Stack p t cs back (Dispatching d ∷ ls) = EndsDispatch p d back × (ls ≡ [])
+Stack p t cs back (Dispatching d seats ∷ ls) = EndsDispatch p d back × (ls ≡ []) × AllSit cs seats × SitsFirst cs (seat_of d) seats
 
 -- a well-typed state, by its layers
 pub record Good (p : Image) (t : Typing) (cs : List Cell) (ls : List Layer) : Type 0 where

@@ -1,5 +1,5 @@
 //! The laws, each as the contract of a function that does nothing.
-ghost use Rattle.aom_sound.specs.Laws.{BootKeeps, InstructionKeeps, DestructionKeeps, UnwindingKeeps, TurnKeeps, StepKeeps, EndsOwned, EndsEmpty, RegistersKeep, TypedIsSound, LinkedIsWired};
+ghost use Rattle.aom_sound.specs.Laws.{BootKeeps, InstructionKeeps, DestructionKeeps, UnwindingKeeps, TurnKeeps, TurnGoesOn, SignalsAreReady, StepKeeps, EndsOwned, EndsEmpty, RegistersKeep, TypedIsSound, LinkedIsWired};
 ghost use Rattle.aom_sound.specs.Loops.{LoopsKeep};
 ghost use Rattle.aom_sound.specs.Quiet.{CalmKeeps, CaughtOwned};
 ghost use Rattle.aom_sound.specs.Leaves.{LeavesMove, LeavesArrive};
@@ -38,6 +38,16 @@ pub fn unwinding_keeps()
 /// A dispatch ends well typed.
 pub fn turn_keeps()
     ensures { TurnKeeps }
+{}
+
+/// A turn goes on: something is due, dispatched or waited for, or the run ends.
+pub fn turn_goes_on()
+    ensures { TurnGoesOn }
+{}
+
+/// Between dispatches what signals is ready.
+pub fn signals_are_ready()
+    ensures { SignalsAreReady }
 {}
 
 /// A method in a loop's body has rounds of that loop left.

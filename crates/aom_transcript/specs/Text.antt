@@ -2,9 +2,9 @@
 use Rattle.std.specs.Prelude.{ℕ, List, [], ◌∷◌, ◌++◌, codes, decimal, flat_map}
 use Rattle.std.specs.Fmt.{signed_decimal}
 use Rattle.aom_transcript.specs.declared.line.Line.{Line}
-use Rattle.aom_transcript.specs.declared.line.Line.TheVariants.{Main, Out, Leave, Gone}
+use Rattle.aom_transcript.specs.declared.line.Line.TheVariants.{Main, Out, Leave, Gone, Run}
 use Rattle.aom_transcript.specs.declared.line.Ending.{Ending}
-use Rattle.aom_transcript.specs.declared.line.Ending.TheVariants.{Stopped, Waiting, MainLeft}
+use Rattle.aom_transcript.specs.declared.line.Ending.TheVariants.{Stopped, Waiting, MainLeft, Limit, Error}
 
 -- a line, without its line feed
 abbrev pub line_text : Line → List ℕ
@@ -12,12 +12,15 @@ line_text (Main time) = codes "@" ++ decimal time ++ codes " main"
 line_text (Out word) = codes "out " ++ signed_decimal word
 line_text (Leave code) = codes "leave " ++ signed_decimal code
 line_text (Gone class) = codes "gone " ++ decimal class
+line_text (Run time class status) = codes "@" ++ decimal time ++ codes " run " ++ decimal class ++ codes " " ++ signed_decimal status
 
 -- how a run ended
 abbrev pub ending_text : Ending → List ℕ
 ending_text Stopped = codes "stopped"
 ending_text Waiting = codes "waiting"
 ending_text (MainLeft code) = codes "left " ++ signed_decimal code
+ending_text Limit = codes "limit"
+ending_text (Error answer) = codes "error " ++ signed_decimal answer
 
 -- the last line, where so many cells are left
 abbrev pub end_text : Ending → ℕ → List ℕ

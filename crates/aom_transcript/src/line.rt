@@ -12,6 +12,8 @@ pub enum Line {
     Leave(i32),
     /// A cell of that class went.
     Gone(ClassNumber),
+    /// The dispatch of an object of that class begins, at that time, with that status.
+    Run(u64, ClassNumber, i32),
 }
 
 /// How a run ends.
@@ -21,4 +23,8 @@ pub enum Ending {
     Waiting,
     /// Main left with that code.
     MainLeft(i32),
+    /// So many dispatches were over as the script allows.
+    Limit,
+    /// A dispatch was left, and that was the answer, which is not 0.
+    Error(i32),
 }

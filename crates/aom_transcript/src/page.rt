@@ -54,6 +54,7 @@ impl Page {
             Line::Out(word) => self.add_out(*word),
             Line::Leave(code) => self.add_leave(*code),
             Line::Gone(class) => self.add_gone(class.number()),
+            Line::Run(time, class, status) => self.add_run(*time, class.number(), *status),
         }
     }
 
@@ -129,19 +130,41 @@ impl Page {
         self.add(b"\n");
     }
 
+    fn add_run(&mut self, time: u64, class: u16, status: i32)
+        requires { length self.old + 64 ≤ 4096 }
+        ensures { self.new ≡ self.old ++ ended (line_text (Line.Run time class status)) }
+    {
+        self.add(b"@");
+        self.add_number(time);
+        self.add(b" run ");
+        self.add_class(class);
+        self.add(b" ");
+        self.add_word(status);
+        self.add(b"\n");
+    }
+
     fn add_ending(&mut self, ending: Ending)
-        requires { length self.old + 16 ≤ 4096 }
+        requires { length self.old + 17 ≤ 4096 }
         ensures text { self.new ≡ self.old ++ ending_text ending }
-        ensures short { length self.new ≤ length self.old + 16 }
+        ensures short { length self.new ≤ length self.old + 17 }
     {
         match ending {
             Ending::Stopped => self.add(b"stopped"),
             Ending::Waiting => self.add(b"waiting"),
-            Ending::MainLeft(code) => {
-                self.add(b"left ");
-                self.add_word(code);
-            }
+            Ending::MainLeft(code) => self.add_coded(b"left ", code),
+            Ending::Limit => self.add(b"limit"),
+            Ending::Error(answer) => self.add_coded(b"error ", answer),
         }
+    }
+
+    fn add_coded(&mut self, word: &[u8], code: i32)
+        requires short { length word.now ≤ 6 }
+        requires room { length self.old + 17 ≤ 4096 }
+        ensures text { self.new ≡ self.old ++ word.now ++ signed_decimal code }
+        ensures short { length self.new ≤ length self.old + 17 }
+    {
+        self.add(word);
+        self.add_word(code);
     }
 
     fn add_class(&mut self, class: u16)

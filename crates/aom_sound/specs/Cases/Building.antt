@@ -90,7 +90,7 @@ state_of tasks cells items =
       cells = cells;
       tasks = tasks;
       items = items;
-      rest = record { clock = 0; requests = 0; steps = 0; announced = true; stopped = false; ended = None };
+      rest = record { clock = 0; requests = 0; steps = 0; dispatches = 0; announced = true; stopped = false; ended = None };
     }
 
 -- ---- the cases

@@ -1,0 +1,65 @@
+-- With nothing at hand the owners of an object, one after the other, lead up to the root, and no object is met twice.
+use Rattle.std.proofs.Common.{inl, inr, List, None, Some, [], ap, arith, refl, subst, sym, ℕ, ◌<◌, ◌∙◌, ◌∷◌, ◌≡◌}
+use Rattle.aom_image.specs.Image.{Image}
+use Rattle.aom_rules.specs.Typing.{Typing}
+use Rattle.aom_shape.specs.Things.{field_thing}
+use Rattle.aom_shape.specs.declared.kind.Kind.TheVariants.{Null}
+use Rattle.aom_sound.proofs.Maps.{held_lives, named_name}
+use Rattle.aom_sound.proofs.Owners.{ends, field_thing_of, kind_at, lower_rank, rank}
+use Rattle.aom_sound.proofs.Signals.{at_rest}
+use Rattle.aom_sound.proofs.Straight.{fits_unowning}
+use Rattle.aom_sound.specs.Claims.{claim, declared}
+use Rattle.aom_sound.specs.Laws.{IsWired}
+use Rattle.aom_sound.specs.Owned.{Ends, NoneGoes, at_entry, at_register, at_root, by_cell}
+use Rattle.aom_sound.specs.Places.{Elsewhere, Entry, Field, Object, Place, Register, Root, held, named, seen}
+use Rattle.aom_sound.specs.State.{Seat, State, thing_holder}
+use Rattle.aom_sound.specs.WellTyped.{AllSit, Fits, Now, SomeSits, WellTyped}
+
+-- each stands higher than that one
+abbrev Higher : ℕ → List Seat → Type 0
+Higher n [] = Unit {0}
+Higher n (x ∷ xs) = (n < rank x.object.thing) × Higher n xs
+
+higher_too : (m n : ℕ) (xs : List Seat) → m < n → Higher n xs → Higher m xs
+higher_too m n [] lt h = tt
+higher_too m n (x ∷ xs) lt h = (omega (arith, lt, h.0), higher_too m n xs lt h.1)
+
+module _ (p : Image) (t : Typing) (wired : IsWired p) (s : State) (w : WellTyped p t s) (idle : s.tasks ≡ []) where
+  clear : NoneGoes s.tasks
+  clear = subst (λ ts. NoneGoes ts) (sym idle) tt
+
+  unheld : (q : Place) (o : Object) → declared p s.cells q ≡ Null → held s.cells q ≡ Some o → ⊥
+  unheld q o null e =
+      let f : Fits p (seen s.cells) (held s.cells q) Null = subst (λ k. Fits p (seen s.cells) (held s.cells q) k) (ap (λ l. claim p (declared p s.cells) l q) (at_rest p t s w idle) ∙ null) (w.good.fits q) in
+      let clash : None ≡ Some o = sym (fits_unowning p (seen s.cells) _ Null refl f) ∙ e in cc
+
+  -- what stands lower does not sit among what stands higher
+  not_among : (o : Object) (xs : List Seat) → named s.cells o.name ≡ Some o → AllSit s.cells xs → Higher (rank o.thing) xs → SomeSits o.name xs → ⊥
+  not_among o (x ∷ xs) lives sits high (inl same) =
+      let one : Some x.object ≡ Some o = sym sits.0.1 ∙ ap (λ n. named s.cells n) same ∙ lives in
+      let equal : x.object ≡ o = cc in
+      let lt : rank o.thing < rank o.thing = subst (λ (y : Object). rank o.thing < rank y.thing) equal high.0 in
+      omega (arith, lt)
+  not_among o (x ∷ xs) lives sits high (inr some) = not_among o xs lives sits.1 high.1 some
+  not_among o [] lives sits high some = some
+
+  abbrev Chain : Object → Place → Type 0
+  Chain o q = (above : List Seat) × AllSit s.cells (record { object = o; place = q } ∷ above) × Higher (rank o.thing) above
+
+  follow : (q : Place) (o : Object) → Ends s q → held s.cells q ≡ Some o → Chain o q
+  follow _ o (at_register {f = f} {i = i}) e = absurd (unheld (Register f i) o refl e)
+  follow _ o (at_entry {k = k}) e = absurd (unheld (Entry k) o refl e)
+  follow _ o at_root e = ([], ((e, held_lives s.cells (Elsewhere Root) o w.good.tidy e, tt, λ h. h), tt), tt)
+  follow _ o (by_cell {n = n} {f = f} z q there held_so ends) e =
+      let rest = follow q z ends held_so in
+      let lives = held_lives s.cells (Field n f) o w.good.tidy e in
+      let owner = field_thing_of p t s.cells w.layers Now n f o.thing w.good.stack (kind_at p t wired s w clear (Field n f) o e) in
+      let same : Some owner.0 ≡ Some z = sym owner.1 ∙ there in
+      let equal : owner.0 ≡ z = cc in
+      let lower = lower_rank p wired z.thing o.thing f (subst (λ (y : Object). field_thing p (thing_holder y.thing) f ≡ Some o.thing) equal owner.2) in
+      let high : Higher (rank o.thing) (record { object = z; place = q } ∷ rest.0) = (lower, higher_too (rank o.thing) (rank z.thing) rest.0 lower rest.2) in
+      (record { object = z; place = q } ∷ rest.0, ((e, lives, inl (named_name s.cells n z there), not_among o (record { object = z; place = q } ∷ rest.0) lives rest.1 high), rest.1), high)
+
+  -- so what a place owns sits there
+  pub chain : (q : Place) (o : Object) → held s.cells q ≡ Some o → (above : List Seat) × AllSit s.cells (record { object = o; place = q } ∷ above)
+  chain q o e = let c = follow q o (ends p t wired s w clear q o e) e in (c.0, c.1)

@@ -1,0 +1,70 @@
+-- Seats: which places are none, and that those who sit stay where cells change elsewhere.
+use Rattle.std.proofs.Common.{List, Option, Some, None, [], ap, refl, subst, true, false, ◌&&◌, ◌==◌, ◌∷◌, ◌≡◌}
+use Rattle.std.specs.Prelude.{is_some}
+use Rattle.aom_sound.specs.Places.{Cell, Elsewhere, Entry, Field, Going, Object, Place, Register, held, named, requested, same_place}
+use Rattle.aom_sound.specs.State.{Seat}
+use Rattle.aom_sound.specs.WellTyped.{AllSit, IsNoFieldOf, NoSeatAt, NoSeatIn, SitsFirst, SitsIn}
+
+-- what holds a method's cell is below the method
+abbrev pub NoFieldHere : Place → Place → Type 0
+NoFieldHere (Register f i) from = Unit {0}
+NoFieldHere (Entry k) from = Unit {0}
+NoFieldHere (Field n f) from = IsNoFieldOf n from
+NoFieldHere (Elsewhere w) from = same_place (Elsewhere w) from ≡ false
+NoFieldHere (Going k) from = Unit {0}
+
+-- no seat is that place, or in the fields of its cell
+abbrev pub NoSeatHere : Place → List Seat → Type 0
+NoSeatHere (Register f i) xs = Unit {0}
+NoSeatHere (Entry k) xs = Unit {0}
+NoSeatHere (Field n f) xs = NoSeatIn n xs
+NoSeatHere (Elsewhere w) xs = NoSeatAt (Elsewhere w) xs
+NoSeatHere (Going k) xs = Unit {0}
+
+is_elsewhere : (q r : Place) (xs : List Seat) → SitsIn r xs → NoFieldHere q r → same_place q r ≡ false
+is_elsewhere (Register f i) (Field m g) xs h a = refl
+is_elsewhere (Register f i) (Elsewhere w) xs h a = refl
+is_elsewhere (Entry k) (Field m g) xs h a = refl
+is_elsewhere (Entry k) (Elsewhere w) xs h a = refl
+is_elsewhere (Field n f) (Field m g) xs h a = ap (λ b. b && (f == g)) a
+is_elsewhere (Field n f) (Elsewhere w) xs h a = refl
+is_elsewhere (Going k) (Field m g) xs h a = refl
+is_elsewhere (Going k) (Elsewhere w) xs h a = refl
+is_elsewhere (Elsewhere w) r xs h a = a
+is_elsewhere _ _ xs h a = absurd h
+
+pub no_seat : (cs : List Cell) (q : Place) (xs : List Seat) → NoSeatHere q xs → AllSit cs xs → NoSeatAt q xs
+no_seat cs q [] h s = tt
+no_seat cs (Register f i) (x ∷ xs) h s = (is_elsewhere (Register f i) x.place xs s.0.2 tt, no_seat cs (Register f i) xs tt s.1)
+no_seat cs (Entry k) (x ∷ xs) h s = (is_elsewhere (Entry k) x.place xs s.0.2 tt, no_seat cs (Entry k) xs tt s.1)
+no_seat cs (Field n f) (x ∷ xs) h s = (is_elsewhere (Field n f) x.place xs s.0.2 h.0, no_seat cs (Field n f) xs h.1 s.1)
+no_seat cs (Elsewhere w) (x ∷ xs) h s = h
+no_seat cs (Going k) (x ∷ xs) h s = (is_elsewhere (Going k) x.place xs s.0.2 tt, no_seat cs (Going k) xs tt s.1)
+
+-- where all other places and their objects are as they were
+pub sits_kept :
+    (cs cs' : List Cell) (a b : Place) (xs : List Seat) →
+    ((r : Place) (o : Object) → same_place a r ≡ false → same_place b r ≡ false → held cs r ≡ Some o → named cs o.name ≡ Some o → (held cs' r ≡ Some o) × (named cs' o.name ≡ Some o)) →
+    NoSeatHere a xs → NoSeatHere b xs → AllSit cs xs → AllSit cs' xs
+sits_kept cs cs' a b xs stays na nb s = go xs (no_seat cs a xs na s) (no_seat cs b xs nb s) s
+  where
+    go : (xs : List Seat) → NoSeatAt a xs → NoSeatAt b xs → AllSit cs xs → AllSit cs' xs
+    go [] na nb s = tt
+    go (x ∷ xs) na nb s =
+        let h = stays x.place x.object na.0 nb.0 s.0.0 s.0.1 in
+        ((h.0, h.1, s.0.2, s.0.3), go xs na.1 nb.1 s.1)
+
+-- and what is enlisted stays so
+pub first_kept :
+    (cs cs' : List Cell) (a : Place) (d : Option Seat) (xs : List Seat) →
+    ((r : Place) (o : Object) → same_place a r ≡ false → held cs r ≡ Some o → named cs o.name ≡ Some o → is_some (requested cs o.name) ≡ true → is_some (requested cs' o.name) ≡ true) →
+    NoSeatHere a xs → AllSit cs xs → SitsFirst cs d xs → SitsFirst cs' d xs
+first_kept cs cs' a None xs stays na s f = f
+first_kept cs cs' a (Some x) xs stays na s f = (go xs f.1 f.2 (no_seat cs a xs na s) s f.0, f.1, f.2)
+  where
+    go : (xs above : List Seat) → xs ≡ x ∷ above → NoSeatAt a xs → AllSit cs xs → is_some (requested cs x.object.name) ≡ true → is_some (requested cs' x.object.name) ≡ true
+    go (y ∷ ys) above e na s some =
+        let same : y ≡ x = cc in
+        let here = subst (λ (z : Seat). (same_place a z.place ≡ false) × (held cs z.place ≡ Some z.object) × (named cs z.object.name ≡ Some z.object)) same (na.0, s.0.0, s.0.1) in
+        stays x.place x.object here.0 here.1 here.2 some
+    go [] above e na s some = cc

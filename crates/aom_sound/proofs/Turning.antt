@@ -1,0 +1,281 @@
+-- A turn from a well-typed state goes on to one: a timer completes a request, an object is dispatched, or time passes.
+use Rattle.std.proofs.Common.{Bool, IsTrue, List, None, Option, Some, [], ap, cond, false, inl, length, refl, subst, sym, true, ℕ, ◌&&◌, ◌==◌, ◌∙◌, ◌∷◌, ◌≡◌}
+use Rattle.std.proofs.lemmas.Bool.{and_parts, eq-eqb, eqb-true, ne_eqb, true≢false}
+use Rattle.std.specs.Prelude.{is_some, map, nat_le, not}
+use Rattle.std.specs.Ordering.{int_eq}
+use Rattle.aom_image.specs.Image.{Image}
+use Rattle.aom_image.specs.Views.{has, method_class}
+use Rattle.aom_image.specs.declared.class.ClassKind.{ClassKind}
+use Rattle.aom_image.specs.declared.class.ClassKind.TheVariants.{Active as An_active, Server as A_server}
+use Rattle.aom_image.specs.declared.class.Provider.{Provider}
+use Rattle.aom_image.specs.declared.class.Provider.TheVariants.{Timer as A_timer}
+use Rattle.aom_image.specs.declared.method.Gives.TheVariants.{Nothing}
+use Rattle.aom_image.specs.declared.method.Role.TheVariants.{Run as Handles}
+use Rattle.aom_image.specs.declared.method.Thing.{Thing}
+use Rattle.aom_image.specs.declared.method.Thing.TheVariants.{Message, Object as An_object_of}
+use Rattle.aom_roles.specs.Shapes.{kind_of}
+use Rattle.aom_roles.specs.States.{idle, server_states, states_of}
+use Rattle.aom_rules.specs.Requests.{is_active_kind, is_cancel}
+use Rattle.aom_rules.specs.Typing.{IsTyped, Typing}
+use Rattle.aom_shape.specs.Arguments.{argument_kind, entry_fields}
+use Rattle.aom_shape.specs.Tables.{at}
+use Rattle.aom_shape.specs.Things.{holder_by}
+use Rattle.aom_shape.specs.declared.kind.Filling.TheVariants.{Perhaps}
+use Rattle.aom_shape.specs.declared.kind.Kind.TheVariants.{Unset}
+use Rattle.aom_sound.proofs.Chains.{chain}
+use Rattle.aom_sound.proofs.Claimed.{declared_ready}
+use Rattle.aom_sound.proofs.Destroying.{at_alike}
+use Rattle.aom_sound.proofs.Entering.{Entering, enters}
+use Rattle.aom_sound.proofs.Maps.{same_place_refl}
+use Rattle.aom_sound.proofs.Owners.{later}
+use Rattle.aom_sound.proofs.Signals.{at_rest, signals_are_ready}
+use Rattle.aom_sound.proofs.Storing.{Alike, fits_alike, requested_here, requested_there, rerequested_alike, sits_alike}
+use Rattle.aom_sound.proofs.Suiting.{idle_timed, untimed}
+use Rattle.aom_sound.proofs.Turned.{picked}
+use Rattle.aom_sound.specs.Claims.{Dispatching, Layer, Mark, claim, declared, forms, items_of}
+use Rattle.aom_sound.specs.Enlisted.{is_aborted, is_active, is_idle, on_request, part_of, pending, taken_up, timed_out}
+use Rattle.aom_sound.specs.Laws.{IsHandler, IsWired, TurnGoesOn}
+use Rattle.aom_sound.specs.Places.{Active, Cell, Elsewhere, Entry, Field, Going, Object, Phase, Place, Register, Request, Root, Tidy, held, named, requested, seen}
+use Rattle.aom_sound.specs.Requests.{AllSuit, Known, Suits, is_timed, phase_state, resting_in, rests_in, thing_kind}
+use Rattle.aom_sound.specs.State.{A_mark, Inside, Of_object, Rest, Seat, State, thing_holder}
+use Rattle.aom_sound.specs.WellTyped.{AllSit, Fits, Good, Keeps, WellTyped, WordFits}
+use Rattle.aom_sound.specs.World.{Candidate, Completes, Cuts, Timed, among_ready, before_others, by_timer, dispatched, first_due, first_ready, goes_before, has_signal, is_ready, picks, turned, with_request}
+
+-- ---- the object that is picked
+
+record Found (cs : List Cell) (y : Candidate) : Type 0 where
+  there : held cs y.seat.place ≡ Some y.seat.object
+  lives : named cs y.seat.object.name ≡ Some y.seat.object
+  asked : requested cs y.seat.object.name ≡ Some y.request
+  ready : is_ready y.request ≡ true
+
+found_later : (c : Cell) (cs : List Cell) (y : Candidate) → Tidy (c ∷ cs) → Found cs y → Found (c ∷ cs) y
+found_later c cs y tidy f = record {
+  there = later cs c y.seat.place y.seat.object tidy f.there;
+  lives = ap (λ b. cond b (Some c.object) (named cs y.seat.object.name)) other ∙ f.lives;
+  asked = ap (λ b. cond b c.request (requested cs y.seat.object.name)) other ∙ f.asked;
+  ready = f.ready;
+}
+  where
+    other : (c.object.name == y.seat.object.name) ≡ false
+    other = ne_eqb c.object.name y.seat.object.name (λ same. let clash : Some y.seat.object ≡ None = sym f.lives ∙ sym (ap (λ n. named cs n) same) ∙ tidy.1 in cc)
+
+module _ (c : Cell) (cs : List Cell) (y : Candidate) (tidy : Tidy (c ∷ cs)) (rest : first_ready cs ≡ Some y → Found cs y) where
+  among : (others : Option Candidate) → first_ready cs ≡ others → others ≡ Some y → Found (c ∷ cs) y
+  among others same e = found_later c cs y tidy (rest (same ∙ e))
+
+  abbrev me : Request → Candidate
+  me r = record { seat = record { object = c.object; place = c.owner }; request = r }
+
+  found_here : (r : Request) → c.request ≡ Some r → is_ready r ≡ true → Found (c ∷ cs) (me r)
+  found_here r here ready = record {
+    there = ap (λ b. cond b (Some c.object) (held cs c.owner)) (same_place_refl c.owner);
+    lives = ap (λ b. cond b (Some c.object) (named cs c.object.name)) (eq-eqb c.object.name c.object.name refl);
+    asked = ap (λ b. cond b c.request (requested cs c.object.name)) (eq-eqb c.object.name c.object.name refl) ∙ here;
+    ready = ready;
+  }
+
+  first : (r : Request) → c.request ≡ Some r → (others : Option Candidate) → first_ready cs ≡ others → is_ready r ≡ true → Some (before_others (me r) others) ≡ Some y → Found (c ∷ cs) y
+  first r here None same ready e = let equal : me r ≡ y = cc in subst (λ z. Found (c ∷ cs) z) equal (found_here r here ready)
+  first r here (Some b) same ready e = go (goes_before b.request r) e
+    where
+      go : (x : Bool) → Some (cond x b (me r)) ≡ Some y → Found (c ∷ cs) y
+      go true e = among (Some b) same e
+      go false e = let equal : me r ≡ y = cc in subst (λ z. Found (c ∷ cs) z) equal (found_here r here ready)
+
+  of_ready : (r : Request) → c.request ≡ Some r → (b : Bool) → is_ready r ≡ b → cond b (Some (before_others (me r) (first_ready cs))) (first_ready cs) ≡ Some y → Found (c ∷ cs) y
+  of_ready r here true ready e = first r here (first_ready cs) refl ready e
+  of_ready r here false ready e = among (first_ready cs) refl e
+
+  of_request : (r : Option Request) → c.request ≡ r → among_ready c r (first_ready cs) ≡ Some y → Found (c ∷ cs) y
+  of_request None here e = among (first_ready cs) refl e
+  of_request (Some r) here e = of_ready r here (is_ready r) refl e
+
+found : (cs : List Cell) → Tidy cs → (y : Candidate) → first_ready cs ≡ Some y → Found cs y
+found [] tidy y e = cc
+found (c ∷ cs) tidy y e = of_request c cs y tidy (λ e. found cs tidy.2 y e) c.request refl e
+
+is_completed : (r : Request) → is_ready r ≡ true → int_eq r.status pending ≡ false
+is_completed r e = go (int_eq r.status pending) (and_parts (is_active r.phase) (not (int_eq r.status pending)) e).1
+  where
+    go : (b : Bool) → not b ≡ true → b ≡ false
+    go true e = cc
+    go false e = refl
+
+-- it is of a class of active objects
+ready_active : (k : Option ClassKind) (r : Request) → is_ready r ≡ true → Suits k (resting_in (states_of k)) (Some r) → is_active_kind k ≡ true
+ready_active (Some (An_active v b)) r e s = refl
+ready_active (Some (A_server most x b)) r e s = absurd (go r.phase (and_parts (is_active r.phase) (not (int_eq r.status pending)) e).0 s.1)
+  where
+    go : (q : Phase) → is_active q ≡ true → IsTrue (has server_states (phase_state q)) → ⊥
+    go Active e h = cc
+    go _ e h = cc
+ready_active _ r e s = cc
+
+suits_taken : (k : Option ClassKind) (r : Request) → is_ready r ≡ true → Suits k (resting_in (states_of k)) (Some r) → Suits k (resting_in idle) (Some (taken_up r))
+suits_taken (Some (An_active v b)) r e s = (refl, refl, refl, idle_timed v (taken_up r) refl (untimed v r (is_completed r e) s.3))
+suits_taken (Some (A_server most x b)) r e s = (refl, refl)
+suits_taken _ r e s = cc
+
+-- a timer completes a request
+suits_timed_out : (k : Option ClassKind) (n : Known) (r : Option Request) → Suits k n r → Suits k n (on_request timed_out r)
+suits_timed_out k n None s = s
+suits_timed_out (Some (An_active v b)) n (Some r) s = (s.0, s.1, answered (is_aborted r.phase), timed v)
+  where
+    answered : (b : Bool) → (b && false) ≡ false
+    answered true = refl
+    answered false = refl
+
+    timed : (v : Provider) → is_timed v (Some (timed_out r)) ≡ true
+    timed A_timer = ap (λ b. cond b false true) (answered (not (is_idle r.phase)))
+    timed _ = refl
+suits_timed_out (Some (A_server most x b)) n (Some r) s = (s.0, s.1)
+suits_timed_out _ n (Some r) s = cc
+
+module _ (p : Image) (t : Typing) (s : State) (w : WellTyped p t s) (idle_now : s.tasks ≡ []) where
+  good : Good p t s.cells []
+  good = subst (λ ls. Good p t s.cells ls) (at_rest p t s w idle_now) w.good
+
+  items : s.items ≡ []
+  items = go s.items (w.items ∙ ap items_of (at_rest p t s w idle_now))
+    where
+      go : (is : List _) → forms is ≡ [] → is ≡ []
+      go [] e = refl
+      go (i ∷ is) e = cc
+
+  -- nothing but what no place tells changes
+  same_well : (r : Rest) → WellTyped p t (record s { rest = r })
+  same_well r = record { layers = w.layers; tasks = w.tasks; items = w.items; undos = w.undos; good = w.good }
+
+  module _ (f : Request → Request) (o : Object) where
+    abbrev then : List Cell
+    then = with_request f o s.cells
+
+    alike : Alike s.cells then
+    alike = rerequested_alike s.cells (Inside o (Elsewhere Root)) (on_request f (requested s.cells o.name))
+
+    fits_then : (r : Place) → Fits p (seen then) (held then r) (declared p then r)
+    fits_then r = fits_alike p t s.cells then alike [] r (λ y e fresh. absurd (true≢false (sym (declared_ready p s.cells r) ∙ fresh))) (good.fits r)
+
+    others_then : (y : Object) → named then y.name ≡ Some y → (o.name == y.name) ≡ false → Suits (thing_kind p y.thing) (resting_in (rests_in p y)) (requested then y.name)
+    others_then y lives other =
+        subst (λ r. Suits (thing_kind p y.thing) (resting_in (rests_in p y)) r) (sym (requested_there s.cells o.name y.name (on_request f (requested s.cells o.name)) other))
+        (good.suits y (sym (alike.named_so y.name) ∙ lives))
+
+  -- the request of an object is completed by its timer
+  completed : (o : Object) → WellTyped p t (record s { cells = with_request timed_out o s.cells })
+  completed o = record {
+    layers = [];
+    tasks = idle_now;
+    items = ap forms items;
+    undos = w.undos;
+    good = record { stack = refl; fits = fits_then timed_out o; suits = suits; tidy = (alike timed_out o).tidy good.tidy };
+  }
+    where
+      suits : AllSuit p (with_request timed_out o s.cells) []
+      suits y lives = go (o.name == y.name) refl
+        where
+          was : named s.cells y.name ≡ Some y
+          was = sym ((alike timed_out o).named_so y.name) ∙ lives
+
+          go : (b : Bool) → (o.name == y.name) ≡ b → Suits (thing_kind p y.thing) (resting_in (rests_in p y)) (requested (with_request timed_out o s.cells) y.name)
+          go false other = others_then timed_out o y lives other
+          go true same =
+              let equal : o.name ≡ y.name = eqb-true o.name y.name same in
+              subst (λ n. Suits (thing_kind p y.thing) (resting_in (rests_in p y)) (requested (with_request timed_out o s.cells) n)) equal
+              (subst (λ r. Suits (thing_kind p y.thing) (resting_in (rests_in p y)) r) (sym (requested_here s.cells o.name (on_request timed_out (requested s.cells o.name)) y (ap (λ n. named s.cells n) equal ∙ was)))
+              (suits_timed_out (thing_kind p y.thing) (resting_in (rests_in p y)) (requested s.cells o.name)
+              (subst (λ n. Suits (thing_kind p y.thing) (resting_in (rests_in p y)) (requested s.cells n)) (sym equal) (good.suits y was))))
+
+  module _ (wired : IsWired p) (typed : IsTyped p t) where
+    -- the method of an object of a class of active objects
+    handler_of : (x : Thing) → is_active_kind (thing_kind p x) ≡ true → (m : ℕ) × (part_of p Handles x ≡ Some m) × (c : ℕ) × (x ≡ An_object_of c) × IsHandler p c m
+    unfolding kind_of
+    handler_of (An_object_of c) e = let h = wired.handler c e in (h.0, h.1, c, refl, wired.handles c h.0 h.1)
+    handler_of Message e = cc
+
+    picked_well : (y : Candidate) → first_ready s.cells ≡ Some y → Keeps p t (dispatched (part_of p Handles y.seat.object.thing) y.seat s)
+    picked_well y e = subst (λ h. Keeps p t (dispatched h y.seat s)) (sym it.1) well
+      where
+        x : Seat
+        x = y.seat
+
+        cs : List Cell
+        cs = with_request taken_up y.seat.object s.cells
+
+        it_is : Found s.cells y
+        it_is = found s.cells good.tidy y e
+
+        rests : Suits (thing_kind p y.seat.object.thing) (resting_in (states_of (thing_kind p y.seat.object.thing))) (Some y.request)
+        rests = subst (λ r. Suits (thing_kind p y.seat.object.thing) (resting_in (rests_in p y.seat.object)) r) it_is.asked (good.suits y.seat.object it_is.lives)
+
+        it : (m : ℕ) × (part_of p Handles y.seat.object.thing ≡ Some m) × (c : ℕ) × (y.seat.object.thing ≡ An_object_of c) × IsHandler p c m
+        it = handler_of y.seat.object.thing (ready_active (thing_kind p y.seat.object.thing) y.request it_is.ready rests)
+
+        sits : (above : List Seat) × AllSit s.cells (y.seat ∷ above)
+        sits = chain p t wired s w idle_now y.seat.place y.seat.object it_is.there
+
+        now : requested cs y.seat.object.name ≡ Some (taken_up y.request)
+        now = requested_here s.cells y.seat.object.name (on_request taken_up (requested s.cells y.seat.object.name)) y.seat.object it_is.lives ∙ ap (on_request taken_up) it_is.asked
+
+        sits_now : AllSit cs (y.seat ∷ sits.0)
+        sits_now = sits_alike p t s.cells cs (alike taken_up y.seat.object) (y.seat ∷ sits.0) sits.1
+
+        over : List Layer
+        over = Mark Nothing ∷ Dispatching (Of_object y.seat) (y.seat ∷ sits.0) ∷ []
+
+        claims : (d : Place → _) (r : Place) → claim p d (Mark Nothing ∷ Dispatching (Of_object y.seat) (y.seat ∷ sits.0) ∷ []) r ≡ d r
+        claims d (Register f i) = refl
+        claims d (Entry k) = refl
+        claims d (Field n f) = refl
+        claims d (Elsewhere Root) = refl
+        claims d (Going k) = refl
+
+        entering : Entering p t cs y.seat sits.0 over it.0 []
+        entering = record {
+          claims = claims;
+          states = λ z. refl;
+          none_in = λ n h. (h, tt);
+          some_in = λ n h. inl h;
+          joins = tt;
+          past = refl;
+          stack = ((it.4.gives, tt, ap is_cancel it.4.role), (refl, refl, sits_now, (ap is_some now, sits.0, refl)));
+          fits = fits_then taken_up y.seat.object;
+          own = subst (λ n. Suits (thing_kind p y.seat.object.thing) (resting_in n) (requested cs y.seat.object.name)) (sym it.4.begins)
+              (subst (λ r. Suits (thing_kind p y.seat.object.thing) (resting_in idle) r) (sym now) (suits_taken (thing_kind p y.seat.object.thing) y.request it_is.ready rests));
+          others = λ z lives other. others_then taken_up y.seat.object z lives other;
+          tidy = (alike taken_up y.seat.object).tidy good.tidy;
+          sits = sits_now;
+          there = it.4.there;
+          holder = ap (λ r. holder_by r (method_class p it.0)) it.4.role ∙ ap (λ k. holder_by (Some Handles) k) it.4.class ∙ sym (ap thing_holder it.3);
+          plain = ap is_cancel it.4.role;
+          words = λ i. subst (λ xs. WordFits None (at Unset (map argument_kind xs) i)) (sym it.4.arguments) tt;
+          free = λ i. subst (λ xs. Fits p (seen cs) None (at Unset (map argument_kind xs) i)) (sym it.4.arguments) tt;
+          fields = λ f. ap (λ r. at Perhaps (entry_fields r) f) it.4.role ∙ at_alike 8 Perhaps f;
+        }
+
+        well : WellTyped p t (picked it.0 y.seat s)
+        well = enters p t typed cs y.seat sits.0 over it.0 [] entering (picked it.0 y.seat s) (length (A_mark ∷ s.items)) (ap (λ is. length (A_mark ∷ is)) items) refl refl (ap (λ is. forms (A_mark ∷ is)) items) w.undos
+
+    picks_well : (ready : Option Candidate) → first_ready s.cells ≡ ready → (next : Option Timed) → Keeps p t (turned p s (picks (is_some ready) ready next))
+    picks_well (Some y) e next = picked_well y e
+    picks_well None e None = same_well _
+    picks_well None e (Some x) = same_well _
+
+    signal_well : (next : Option Timed) → Keeps p t (turned p s (picks (has_signal s.cells) (first_ready s.cells) next))
+    signal_well next = subst (λ b. Keeps p t (turned p s (picks b (first_ready s.cells) next))) (sym (signals_are_ready p t s w idle_now).1) (picks_well (first_ready s.cells) refl next)
+
+    timer_well : (next : Option Timed) → Keeps p t (turned p s (by_timer s next))
+    timer_well None = signal_well None
+    timer_well (Some x) = go (nat_le x.timer.due s.rest.clock)
+      where
+        go : (b : Bool) → Keeps p t (turned p s (cond b (Completes x.object) (picks (has_signal s.cells) (first_ready s.cells) (Some x))))
+        go true = completed x.object
+        go false = signal_well (Some x)
+
+pub turn_goes_on : TurnGoesOn
+turn_goes_on p t outside wired typed s w between = go (nat_le outside.limit s.rest.dispatches)
+  where
+    go : (b : Bool) → Keeps p t (turned p s (cond b Cuts (by_timer s (first_due s.cells))))
+    go true = same_well p t s w between.idle _
+    go false = timer_well p t s w between.idle wired typed (first_due s.cells)
