@@ -1,4 +1,4 @@
--- A move of each of two states that are the same but for names: the new cells' names are changed with one another.
+-- A move of each of two states that are the same but for names, where the new cells' names are changed with one another, and a turn of each.
 use Rattle.std.proofs.Common.{List, None, ap, length, refl, subst, sym, ℕ, ◌∙◌, ◌≡◌}
 use Rattle.aom_image.specs.Image.{Image}
 use Rattle.aom_rules.specs.Typing.{Typing}
@@ -6,9 +6,11 @@ use Rattle.aom_sound.specs.Moves.{IsOpen, is_refused, step, written}
 use Rattle.aom_sound.specs.Places.{named}
 use Rattle.aom_sound.specs.State.{Choice, Goes, IsStuck, Outcome, State}
 use Rattle.aom_sound.specs.WellTyped.{WellTyped}
+use Rattle.aom_sound.specs.World.{Outside, turn, written_turn}
 use Rattle.aom_determined.proofs.Cells.{cells_counted}
 use Rattle.aom_determined.proofs.Fresh.{renamed_twice, swap_first, swap_one_to_one, swapped, swapped_free}
 use Rattle.aom_determined.proofs.Steps.{free_so, moves_so, refused_so, writes_so}
+use Rattle.aom_determined.proofs.Turning.{turns_so, writes_turn_so}
 use Rattle.aom_determined.specs.Laws.{MovesStayAlike}
 use Rattle.aom_determined.specs.Names.{AlikeOutcomes, AreAlike, IsOneToOne, renamed, renamed_choice, renamed_outcome}
 
@@ -57,6 +59,17 @@ writes_alike p s u alike = sym (writes_so alike.names alike.one_to_one p s) ∙ 
 
 pub moves_stay_alike : MovesStayAlike
 moves_stay_alike p t refused c d s u well_u alike open_c open_d = (move_alike p t refused c d s u well_u alike open_c open_d, writes_alike p s u alike)
+
+-- a turn makes no cell
+pub turn_alike : (p : Image) (outside : Outside) (s u : State) → AreAlike s u → AlikeOutcomes (turn p outside s) (turn p outside u)
+turn_alike p outside s u alike =
+    subst
+    (AlikeOutcomes (turn p outside s))
+    (sym (turns_so alike.names alike.one_to_one p outside s) ∙ ap (turn p outside) (sym alike.same))
+    (alike_renamed alike.names alike.one_to_one (turn p outside s))
+
+pub turn_writes_alike : (outside : Outside) (s u : State) → AreAlike s u → written_turn outside s ≡ written_turn outside u
+turn_writes_alike outside s u alike = sym (writes_turn_so alike.names alike.one_to_one outside s) ∙ ap (written_turn outside) (sym alike.same)
 
 -- they have as many cells
 pub alike_counted : (s u : State) → AreAlike s u → length s.cells ≡ length u.cells

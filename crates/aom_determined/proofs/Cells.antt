@@ -11,7 +11,7 @@ use Rattle.aom_sound.specs.State.{Task}
 use Rattle.aom_determined.specs.Names.{IsOneToOne, renamed_cell, renamed_cells, renamed_object, renamed_place, renamed_tasks}
 
 -- a renamed answer
-cond_mapped : {A B : Type 0} (f : A → B) (b : Bool) (x : A) (o : Option A) → cond b (Some (f x)) (option_map f o) ≡ option_map f (cond b (Some x) o)
+pub cond_mapped : {A B : Type 0} (f : A → B) (b : Bool) (x : A) (o : Option A) → cond b (Some (f x)) (option_map f o) ≡ option_map f (cond b (Some x) o)
 cond_mapped f true x o = refl
 cond_mapped f false x o = refl
 

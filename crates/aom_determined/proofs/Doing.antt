@@ -9,7 +9,7 @@ use Rattle.aom_instructions.specs.declared.instr.Target.{Target}
 use Rattle.aom_instructions.specs.declared.instr.Target.TheVariants.{Entry as On_entry, Field as On_field, Register as On_register, This}
 use Rattle.aom_image.specs.declared.method.Gives.{Gives}
 use Rattle.aom_image.specs.declared.method.Gives.TheVariants.{Left, Maybe as A_maybe, Nothing, Own as An_own, Word as A_word}
-use Rattle.aom_sound.specs.Calls.{below_top, entry_place, home_at, own_home, received, result_cells, result_register, returned, target_home}
+use Rattle.aom_sound.specs.Calls.{answered_by, below_top, told_answer, entry_place, home_at, own_home, received, result_cells, result_register, returned, target_home}
 use Rattle.aom_sound.specs.Cleanup.{code_told, dealt_with, destroyed, to_trap, top_place}
 use Rattle.aom_classes.specs.Roles.{destructor_of}
 use Rattle.aom_sound.specs.Destruction.{begun, begun_by}
@@ -17,11 +17,11 @@ use Rattle.aom_sound.specs.Effects.{Calls, Cancels, Carried, Destroys, Destroys_
 use Rattle.aom_sound.specs.Enlisted.{cancel_method, cancelled, cancelling, ended_cells, in_phase, is_active, is_busy, on_request, own_request, rerequested}
 use Rattle.aom_sound.specs.Moves.{does, needs}
 use Rattle.aom_sound.specs.Places.{Cell, Entry, Going, Object, Place, Register, Request, held, moved}
-use Rattle.aom_sound.specs.State.{A_mark, An_object, An_operation, AtRoot, Choice, Destroy, Dispatched, Frame, Home, Inside, Item, Run, State, Static, Task, Trapped, Unwind, counter, field_place}
+use Rattle.aom_sound.specs.State.{A_mark, An_object, An_operation, Asks, AtRoot, Choice, Destroy, Dispatch, Dispatched, Frame, Home, Inside, Item, Run, State, Static, Task, Trapped, Unwind, counter, field_place}
 use Rattle.aom_sound.specs.Words.{loaded, stored}
 use Rattle.aom_determined.proofs.Cells.{held_renamed, moved_renamed, order_kept, set_request_renamed, set_word_field_renamed, tasks_counted, timer_kept, word_field_kept}
 use Rattle.aom_determined.proofs.Needs.{call_kept, field_renamed, free_at, given_renamed, held_field, holder_kept, kind_kept, leave_kept, message_at, own_request_kept, push_kept, pushed_renamed, put_kept, refusal_kept, register_renamed, return_kept, trap_kept, under_trap_kept, whole_kept}
-use Rattle.aom_determined.specs.Names.{IsOneToOne, renamed, renamed_cells, renamed_choice, renamed_frame, renamed_home, renamed_object, renamed_place, renamed_tasks}
+use Rattle.aom_determined.specs.Names.{IsOneToOne, renamed, renamed_cells, renamed_choice, renamed_dispatch, renamed_frame, renamed_home, renamed_object, renamed_place, renamed_tasks}
 use Rattle.aom_rules.specs.Requests.{is_cancel}
 
 -- ---- an effect under other names: a new cell and one that goes have names
@@ -116,6 +116,15 @@ module _ (names : ℕ → ℕ) where
   told_renamed (A_maybe t) a code fr = refl
   told_renamed (Left x) a code fr = refl
 
+  -- an answer names no cell
+  answer_kept : (g : Gives) (fr : Frame) (a : ℕ) → told_answer g (renamed_frame names fr) a ≡ told_answer g fr a
+  answer_kept A_word fr a = refl
+  answer_kept _ fr a = refl
+
+  answered_by_renamed : (answer : ℤ) (d : Dispatch) → answered_by answer (renamed_dispatch names d) ≡ renamed_dispatch names (answered_by answer d)
+  answered_by_renamed answer (Asks x) = refl
+  answered_by_renamed answer _ = refl
+
 module _ (names : ℕ → ℕ) (one_to_one : IsOneToOne names) (p : Image) (c : Choice) (fr : Frame) (ts : List Task) (s : State) where
   -- whatever a register has moves to a place
   from_register : (a : ℕ) (q : Place) → moved (Register (length (renamed_tasks names ts)) a) (renamed_place names q) (renamed_cells names s.cells) ≡ renamed_cells names (moved (Register (length ts) a) q s.cells)
@@ -139,6 +148,7 @@ module _ (names : ℕ → ℕ) (one_to_one : IsOneToOne names) (p : Image) (c : 
   returned_renamed g a (Trapped ∷ Run caller ∷ below) =
       let b = result_register (instr_at p caller.method caller.place) in
       rw (result_cells_renamed g a b below, received_renamed names p fr ts s g a b caller)
+  returned_renamed g a (Dispatched d ∷ below) = rw (answer_kept names g fr a, answered_by_renamed names (told_answer g fr a) d)
   returned_renamed g a _ = refl
 
   -- the cells as a return begins

@@ -8,10 +8,10 @@ use Rattle.aom_sound.proofs.Claimed.{claim_unnamed}
 use Rattle.aom_sound.proofs.Straight.{fits_unowning}
 use Rattle.aom_sound.specs.Claims.{Dispatching, Dying, Layer, Mark, Method, Unwinding, declared, declared_field, tasks_of}
 use Rattle.aom_sound.specs.Places.{Cell, Elsewhere, Entry, Field, Going, Place, Register, held, named, same_place, seen}
-use Rattle.aom_sound.specs.State.{AtRoot, Home, Inside, Run, State, Static, Task}
-use Rattle.aom_sound.specs.WellTyped.{Back, Caught, Fits, Gone, Good, IsHoused, Leaves, Now, Returns, Stack, WellTyped}
+use Rattle.aom_sound.specs.State.{Answered, Asks, AtRoot, Dispatch, Dispatched, Home, Inside, Object_left, Of_object, Run, Seat, State, Static, Task}
+use Rattle.aom_sound.specs.WellTyped.{AllSit, Back, Caught, Fits, Gone, Good, IsHoused, Leaves, Now, Returns, SitsFirst, Stack, WellTyped, seat_of}
 use Rattle.aom_sound.proofs.Maps.{same_place_refl}
-use Rattle.aom_determined.specs.Names.{IsOneToOne, renamed, renamed_cells, renamed_home, renamed_place, renamed_task, renamed_tasks}
+use Rattle.aom_determined.specs.Names.{IsOneToOne, renamed, renamed_cells, renamed_dispatch, renamed_home, renamed_place, renamed_seat, renamed_task, renamed_tasks}
 
 -- ---- two names change places
 
@@ -64,8 +64,19 @@ module _ (then first : ℕ → ℕ) where
   home_twice AtRoot = refl
   home_twice (Inside o from) = rw (place_twice from)
 
+  seat_twice : (x : Seat) → renamed_seat both x ≡ renamed_seat then (renamed_seat first x)
+  seat_twice x = rw (place_twice x.place)
+
+  dispatch_twice : (d : Dispatch) → renamed_dispatch both d ≡ renamed_dispatch then (renamed_dispatch first d)
+  dispatch_twice (Of_object x) = ap Of_object (seat_twice x)
+  dispatch_twice (Object_left x code) = ap (λ y. Object_left y code) (seat_twice x)
+  dispatch_twice (Asks x) = ap Asks (seat_twice x)
+  dispatch_twice (Answered x answer) = ap (λ y. Answered y answer) (seat_twice x)
+  dispatch_twice _ = refl
+
   task_twice : (k : Task) → renamed_task both k ≡ renamed_task then (renamed_task first k)
   task_twice (Run fr) = rw (home_twice fr.home)
+  task_twice (Dispatched d) = ap Dispatched (dispatch_twice d)
   task_twice _ = refl
 
   tasks_twice : (ts : List Task) → renamed_tasks both ts ≡ renamed_tasks then (renamed_tasks first ts)
@@ -123,13 +134,30 @@ module _ (names : ℕ → ℕ) where
       held_so from (λ e. let clash : Some o ≡ None = sym housed.there ∙ e in cc),
     )
 
+    -- an object that sits, and its place
+    seat_spared : (x : Seat) → held cs x.place ≡ Some x.object → named cs x.object.name ≡ Some x.object → renamed_seat names x ≡ x
+    seat_spared x there lives = rw (
+      named_so x.object.name (λ e. let clash : Some x.object ≡ None = sym lives ∙ e in cc),
+      held_so x.place (λ e. let clash : Some x.object ≡ None = sym there ∙ e in cc),
+    )
+
+    first_spared : (x : Seat) (seats : List Seat) → AllSit cs seats → SitsFirst cs (Some x) seats → renamed_seat names x ≡ x
+    first_spared x seats sit h = let all : AllSit cs (x ∷ h.1) = subst (AllSit cs) h.2 sit in seat_spared x all.0.0 all.0.1
+
+    dispatch_spared : (d : Dispatch) (seats : List Seat) → AllSit cs seats → SitsFirst cs (seat_of d) seats → renamed_dispatch names d ≡ d
+    dispatch_spared (Of_object x) seats sit h = ap Of_object (first_spared x seats sit h)
+    dispatch_spared (Object_left x code) seats sit h = ap (λ y. Object_left y code) (first_spared x seats sit h)
+    dispatch_spared (Asks x) seats sit h = ap Asks (first_spared x seats sit h)
+    dispatch_spared (Answered x answer) seats sit h = ap (λ y. Answered y answer) (first_spared x seats sit h)
+    dispatch_spared _ seats sit h = refl
+
     tasks_spared : (ls : List Layer) (back : Back) → Stack p t cs back ls → renamed_tasks names (tasks_of ls) ≡ tasks_of ls
     tasks_spared [] back k = refl
     tasks_spared (Method fr sh ∷ ls) back k = rw (home_spared ls fr.home k.2, tasks_spared ls (Returns fr.method fr.home) k.4)
     tasks_spared (Mark gv ∷ ls) back k = rw (tasks_spared ls (Caught gv) k.1)
     tasks_spared (Dying o ∷ ls) back k = rw (tasks_spared ls Gone k.2)
     tasks_spared (Unwinding code es ∷ ls) back k = rw (tasks_spared ls Leaves k.1)
-    tasks_spared (Dispatching d ∷ ls) back k = rw k.1
+    tasks_spared (Dispatching d seats ∷ ls) back k = rw (dispatch_spared d seats k.2 k.3, k.1)
 
 -- of a cell that is not there no field owns
 unnamed_owns_nothing : (p : Image) (t : Typing) (cs : List Cell) (ls : List Layer) → Good p t cs ls → (n f : ℕ) → named cs n ≡ None → held cs (Field n f) ≡ None

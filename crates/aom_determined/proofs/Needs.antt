@@ -12,14 +12,14 @@ use Rattle.aom_image.specs.declared.method.Gives.TheVariants.{Left, Maybe as A_m
 use Rattle.aom_image.specs.declared.method.Thing.{Thing}
 use Rattle.aom_image.specs.declared.method.Thing.TheVariants.{Object as An_object_of}
 use Rattle.aom_shape.specs.Things.{field_thing}
-use Rattle.aom_sound.specs.Calls.{end_needs, entry_place, given_cells, is_level, is_worked_on, is_emptied, leaves_object, needs_argument, needs_call, needs_each, needs_entering, needs_result, needs_return, needs_target, needs_target_object, needs_trap, passed_cells, result_needs, result_source}
+use Rattle.aom_sound.specs.Calls.{end_needs, is_asked, entry_place, given_cells, is_level, is_worked_on, is_emptied, leaves_object, needs_argument, needs_call, needs_each, needs_entering, needs_result, needs_return, needs_target, needs_target_object, needs_trap, passed_cells, result_needs, result_source}
 use Rattle.aom_sound.specs.Cleanup.{above_trap_is_free, has_trap, if_refused, leave_needs, needs_push, pushed_cells, top_is_whole}
 use Rattle.aom_sound.specs.Enlisted.{home_kind, own_request}
 use Rattle.aom_sound.specs.Objects.{is_declared_thing, is_no_message, is_thing, needs_put}
 use Rattle.aom_sound.specs.Places.{Cell, Entry, Object, Register, held, moved}
-use Rattle.aom_sound.specs.State.{A_mark, An_object, An_operation, AtRoot, Choice, Destroy, Dispatched, Frame, Home, Inside, Item, Need, Orphan, Run, State, Static, Task, Trapped, Unwind, field_place, home_holder}
+use Rattle.aom_sound.specs.State.{A_mark, An_object, An_operation, Asks, AtRoot, Choice, Destroy, Dispatch, Dispatched, Frame, Home, Inside, Item, Need, Orphan, Run, State, Static, Task, Trapped, Unwind, field_place, home_holder}
 use Rattle.aom_determined.proofs.Cells.{held_renamed, moved_renamed, none_owns_kept, owns_nothing_kept, requested_kept, tasks_counted}
-use Rattle.aom_determined.specs.Names.{IsOneToOne, renamed, renamed_cells, renamed_choice, renamed_frame, renamed_home, renamed_object, renamed_place, renamed_tasks}
+use Rattle.aom_determined.specs.Names.{IsOneToOne, renamed, renamed_cells, renamed_choice, renamed_dispatch, renamed_frame, renamed_home, renamed_object, renamed_place, renamed_tasks}
 
 -- ---- what is asked of an object, none of which is its name
 
@@ -68,6 +68,10 @@ module _ (names : ℕ → ℕ) where
   field_renamed (Inside o from) f = refl
 
   -- ---- what is asked of tasks
+
+  pub is_asked_kept : (d : Dispatch) → is_asked (renamed_dispatch names d) ≡ is_asked d
+  is_asked_kept (Asks x) = refl
+  is_asked_kept _ = refl
 
   pub trap_kept : (ts : List Task) → has_trap (renamed_tasks names ts) ≡ has_trap ts
   trap_kept [] = refl
@@ -224,6 +228,7 @@ module _ (names : ℕ → ℕ) (one_to_one : IsOneToOne names) (p : Image) (c : 
   end_kept (Destroy ∷ below) = rw (emptied_kept names one_to_one s.cells fr.home)
   end_kept (Trapped ∷ Run caller ∷ below) = refl
   end_kept (Trapped ∷ _) = refl
+  end_kept (Dispatched d ∷ below) = rw (is_asked_kept names d)
   end_kept _ = refl
 
   leaves_object_kept : (x : ℕ) (items : List Item) → leaves_object p fr' ts' s' x items ≡ leaves_object p fr ts s x items

@@ -1,4 +1,4 @@
--- Two runs, turn by turn: after as many turns they have written the same, and are the same but for names.
+-- Two runs, stage by stage, where each stage is a move or a turn: after as many stages they have written the same, and are the same but for names.
 use Rattle.std.proofs.Common.{List, None, Option, Some, [], ap, append-nil, append_assoc, arith, inl, inr, refl, subst, suc, sym, zero, ℕ, ⊎_elim, ◌∙◌, ◌∷◌, ◌≡◌, ◌<◌, ◌≤◌}
 use Rattle.std.proofs.lemmas.Bool.{cases_eq, cases_lt}
 use Rattle.std.specs.Prelude.{◌++◌, ◌⊎◌}
@@ -12,15 +12,15 @@ use Rattle.aom_sound.specs.Laws.{IsWired}
 use Rattle.aom_sound.specs.Moves.{IsOpen, step, written}
 use Rattle.aom_sound.specs.State.{Choice, Goes, Outcome, State}
 use Rattle.aom_sound.specs.WellTyped.{WellTyped}
-use Rattle.aom_sound.specs.World.{IsBetween, IsBusy, Reaches, Run_of, begins, boot_state, main_tasks, moves, waiting, waits, Outside}
+use Rattle.aom_sound.specs.World.{IsBetween, IsBusy, Reaches, Run_of, begins, boot_state, main_tasks, moves, turn, turns, written_turn, Outside}
 use Rattle.aom_transcript.specs.declared.line.Ending.{Ending}
 use Rattle.aom_transcript.specs.declared.line.Line.{Line}
-use Rattle.aom_determined.proofs.Alike.{move_alike, writes_alike}
+use Rattle.aom_determined.proofs.Alike.{move_alike, turn_alike, turn_writes_alike, writes_alike}
 use Rattle.aom_determined.specs.Laws.{Begins, TextIsDetermined}
 use Rattle.aom_determined.specs.Names.{AlikeOutcomes, AreAlike, renamed_tasks}
 
 module _ (p : Image) (t : Typing) (outside : Outside) (wired : IsWired p) (typed : IsTyped p t) where
-  -- one turn of a run: a move, or the end of one that waits
+  -- one stage of a run: a move, or a turn between dispatches
   record Moved (v s : State) (new : List Line) : Type 0 where
     choice : Choice
     busy : IsBusy v
@@ -28,32 +28,32 @@ module _ (p : Image) (t : Typing) (outside : Outside) (wired : IsWired p) (typed
     goes : step p choice v ≡ Goes s
     lines : new ≡ written p v
 
-  record Waited (v s : State) (new : List Line) : Type 0 where
+  record Turned (v s : State) (new : List Line) : Type 0 where
     between : IsBetween v
-    goes : s ≡ waiting v
-    lines : new ≡ []
+    goes : turn p outside v ≡ Goes s
+    lines : new ≡ written_turn outside v
 
-  abbrev Turned : State → State → List Line → Type 0
-  Turned v s new = Moved v s new ⊎ Waited v s new
+  abbrev Stage : State → State → List Line → Type 0
+  Stage v s new = Moved v s new ⊎ Turned v s new
 
-  -- so many turns of a run
+  -- so many stages of a run
   abbrev After : ℕ → List Line → State → Type 0
   After zero lines s = (lines ≡ []) × (s ≡ boot_state p)
-  After (suc n) lines s = (before : List Line) × (v : State) × (new : List Line) × After n before v × Reaches p outside (boot_state p) before v × Turned v s new × (lines ≡ before ++ new)
+  After (suc n) lines s = (before : List Line) × (v : State) × (new : List Line) × After n before v × Reaches p outside (boot_state p) before v × Stage v s new × (lines ≡ before ++ new)
 
-  turns : (lines : List Line) (s : State) → Reaches p outside (boot_state p) lines s → (n : ℕ) × After n lines s
-  turns _ _ begins = (zero, (refl, refl))
-  turns _ _ (moves {lines = lines} {s = s} {u = u} c before busy choice e) =
-      let h = turns lines s before in
+  stages : (lines : List Line) (s : State) → Reaches p outside (boot_state p) lines s → (n : ℕ) × After n lines s
+  stages _ _ begins = (zero, (refl, refl))
+  stages _ _ (moves {lines = lines} {s = s} {u = u} c before busy choice e) =
+      let h = stages lines s before in
       (suc h.0, (lines, s, written p s, h.1, before, inl (record { choice = c; busy = busy; open_so = choice; goes = e; lines = refl }), refl))
-  turns _ _ (waits {lines = lines} {s = s} before between) =
-      let h = turns lines s before in
-      (suc h.0, (lines, s, [], h.1, before, inr (record { between = between; goes = refl; lines = refl }), sym (append-nil lines)))
+  stages _ _ (turns {lines = lines} {s = s} before between e) =
+      let h = stages lines s before in
+      (suc h.0, (lines, s, written_turn outside s, h.1, before, inr (record { between = between; goes = e; lines = refl }), refl))
 
   well : (lines : List Line) (s : State) → Reaches p outside (boot_state p) lines s → WellTyped p t s
   well lines s r = well_on p t outside wired typed (boot_state p) (boot_keeps p t wired typed) lines s r
 
-  -- ---- as many turns
+  -- ---- as many stages
 
   -- what is at hand in one is at hand in the other
   busy_idle : (v w : State) → AreAlike v w → IsBusy v → w.tasks ≡ [] → ⊥
@@ -65,19 +65,16 @@ module _ (p : Image) (t : Typing) (outside : Outside) (wired : IsWired p) (typed
   goes_alike : (o o' : Outcome) (s u : State) → o ≡ Goes s → o' ≡ Goes u → AlikeOutcomes o o' → AreAlike s u
   goes_alike o o' s u e e' h = subst (λ x. AlikeOutcomes (Goes s) x) e' (subst (λ x. AlikeOutcomes x o') e h)
 
-  waiting_alike : (v w : State) → AreAlike v w → AreAlike (waiting v) (waiting w)
-  waiting_alike v w alike = record { names = alike.names; one_to_one = alike.one_to_one; same = ap waiting alike.same }
-
-  turn_alike : (v w s u : State) (new new' : List Line) → WellTyped p t w → AreAlike v w → Turned v s new → Turned w u new' → (new ≡ new') × AreAlike s u
-  turn_alike v w s u new new' wt alike (inl m) (inl n) = (
+  stage_alike : (v w s u : State) (new new' : List Line) → WellTyped p t w → AreAlike v w → Stage v s new → Stage w u new' → (new ≡ new') × AreAlike s u
+  stage_alike v w s u new new' wt alike (inl m) (inl n) = (
     m.lines ∙ writes_alike p v w alike ∙ sym n.lines,
     goes_alike _ _ s u m.goes n.goes (move_alike p t outside.refused m.choice n.choice v w wt alike m.open_so n.open_so),
   )
-  turn_alike v w s u new new' wt alike (inl m) (inr n) = absurd (busy_idle v w alike m.busy n.between.idle)
-  turn_alike v w s u new new' wt alike (inr m) (inl n) = absurd (idle_busy v w alike m.between.idle n.busy)
-  turn_alike v w s u new new' wt alike (inr m) (inr n) = (
-    m.lines ∙ sym n.lines,
-    subst (λ x. AreAlike x u) (sym m.goes) (subst (λ x. AreAlike (waiting v) x) (sym n.goes) (waiting_alike v w alike)),
+  stage_alike v w s u new new' wt alike (inl m) (inr n) = absurd (busy_idle v w alike m.busy n.between.idle)
+  stage_alike v w s u new new' wt alike (inr m) (inl n) = absurd (idle_busy v w alike m.between.idle n.busy)
+  stage_alike v w s u new new' wt alike (inr m) (inr n) = (
+    m.lines ∙ turn_writes_alike outside v w alike ∙ sym n.lines,
+    goes_alike _ _ s u m.goes n.goes (turn_alike p outside v w alike),
   )
 
   -- nothing in the boot state has a name
@@ -92,10 +89,10 @@ module _ (p : Image) (t : Typing) (outside : Outside) (wired : IsWired p) (typed
   together zero lines others s u a b = (a.0 ∙ sym b.0, subst (λ x. AreAlike x u) (sym a.1) (subst (λ x. AreAlike (boot_state p) x) (sym b.1) booted))
   together (suc n) lines others s u a b =
       let before = together n a.0 b.0 a.1 b.1 a.3 b.3 in
-      let now = turn_alike a.1 b.1 s u a.2 b.2 (well b.0 b.1 b.4) before.1 a.5 b.5 in
+      let now = stage_alike a.1 b.1 s u a.2 b.2 (well b.0 b.1 b.4) before.1 a.5 b.5 in
       (a.6 ∙ ap (λ x. x ++ a.2) before.0 ∙ ap (λ x. b.0 ++ x) now.0 ∙ sym b.6, now.1)
 
-  -- ---- fewer turns
+  -- ---- fewer stages
 
   record Earlier (n : ℕ) (lines : List Line) : Type 0 where
     first : List Line
@@ -133,26 +130,26 @@ module _ (p : Image) (t : Typing) (outside : Outside) (wired : IsWired p) (typed
       let before = together n lines h.after.0 s h.after.1 a h.after.3 in
       go h.after.1 (same_ended s h.after.1 before.1 ∙ run.ended) h.after.4 h.after.5
     where
-      go : {first new : List Line} {x : State} (v : State) → v.rest.ended ≡ Some ending → Reaches p outside (boot_state p) first v → Turned v x new → ⊥
+      go : {first new : List Line} {x : State} (v : State) → v.rest.ended ≡ Some ending → Reaches p outside (boot_state p) first v → Stage v x new → ⊥
       go {first = first} v over r (inl m) = let clash : m.busy.0 ∷ m.busy.1 ≡ [] = sym m.busy.2 ∙ over_idle p t outside wired typed first v ending r over in cc
       go v over r (inr m) = let clash : Some ending ≡ None = sym over ∙ m.between.going in cc
 
   agree : (lines others : List Line) (s u : State) → Reaches p outside (boot_state p) lines s → Reaches p outside (boot_state p) others u → Begins lines others ⊎ Begins others lines
   agree lines others s u r q =
-      let a = turns lines s r in
-      let b = turns others u q in
+      let a = stages lines s r in
+      let b = stages others u q in
       ⊎_elim (λ lt. inl (begins_so a.0 b.0 lines others s u (omega arith) a.1 b.1)) (λ le. inr (begins_so b.0 a.0 others lines u s le b.1 a.1)) (cases_lt a.0 b.0)
 
   whole : (lines others : List Line) (s u : State) (ending : Ending) → Run_of p outside lines s ending → Reaches p outside (boot_state p) others u → Begins others lines
   whole lines others s u ending run q =
-      let a = turns lines s run.reaches in
-      let b = turns others u q in
+      let a = stages lines s run.reaches in
+      let b = stages others u q in
       ⊎_elim (λ lt. absurd (never_past a.0 b.0 lines others s u ending run lt a.1 b.1)) (λ le. begins_so b.0 a.0 others lines u s le b.1 a.1) (cases_lt a.0 b.0)
 
   ended : (lines others : List Line) (s u : State) (ending other : Ending) → Run_of p outside lines s ending → Run_of p outside others u other → (lines ≡ others) × (ending ≡ other) × AreAlike s u
   ended lines others s u ending other run run' =
-      let a = turns lines s run.reaches in
-      let b = turns others u run'.reaches in
+      let a = stages lines s run.reaches in
+      let b = stages others u run'.reaches in
       ⊎_elim
       (λ lt. absurd (never_past a.0 b.0 lines others s u ending run lt a.1 b.1))
       (λ le. ⊎_elim

@@ -1,21 +1,25 @@
 -- A move under other names, by the task at hand: the same move, and the same lines.
-use Rattle.std.proofs.Common.{Bool, List, None, Option, Some, [], ap, cond, false, length, refl, sym, true, ℕ, ℤ, ◌∙◌, ◌∷◌, ◌≡◌}
+use Rattle.std.proofs.Common.{Bool, List, None, Option, Some, [], ap, cond, false, length, pos, refl, sym, true, ℕ, ℤ, ◌∙◌, ◌∷◌, ◌≡◌}
 use Rattle.std.specs.Prelude.{option_map}
+use Rattle.std.specs.Ordering.{int_eq}
 use Rattle.aom_image.specs.Image.{Image}
+use Rattle.aom_image.specs.declared.method.Role.TheVariants.{Error as Answers}
 use Rattle.aom_image.specs.Views.{instr_at}
 use Rattle.aom_instructions.specs.declared.instr.Instr.{Instr}
 use Rattle.aom_instructions.specs.declared.instr.Instr.TheVariants.{Print}
 use Rattle.aom_sound.specs.Calls.{called, result_register}
-use Rattle.aom_sound.specs.Cleanup.{arrived, dealt_with, top_is_whole, unwound}
+use Rattle.aom_sound.specs.Cleanup.{arrived, dealt_with, ended_by, top_is_whole, unwound}
 use Rattle.aom_sound.specs.Destruction.{gone, owns_nothing}
-use Rattle.aom_sound.specs.Moves.{IsOpen, asked, counted, dispatch_ends, does, goes_line, is_counted, is_refused, main_ends, makes_cell, needs, step, step_instr, step_task, written, written_instr, written_task}
+use Rattle.aom_sound.specs.Enlisted.{part_of}
+use Rattle.aom_sound.specs.Moves.{IsOpen, answered, asked, asking, counted, dispatch_ends, does, failed, goes_line, handled, is_counted, is_refused, main_ends, makes_cell, needs, object_ends, step, step_instr, step_task, written, written_instr, written_task}
 use Rattle.aom_sound.specs.Places.{Elsewhere, Going, Object, Root, held, named, without}
-use Rattle.aom_sound.specs.State.{A_mark, An_object, An_operation, Choice, Destroy, Dispatch, Dispatched, Frame, Goes, IsStuck, Item, Main_left, Need, NullOrDead, Of_main, Of_root, Orphan, Run, State, Task, Trapped, Unwind, guarded, resumed}
-use Rattle.aom_determined.proofs.Cells.{cells_counted, held_renamed, moved_renamed, named_renamed, owns_nothing_kept, tasks_counted, without_renamed}
+use Rattle.aom_sound.specs.State.{A_mark, An_object, An_operation, Answered, Asks, Choice, Destroy, Dispatch, Dispatched, Frame, Goes, IsStuck, Item, Main_left, Need, NullOrDead, Object_left, Of_main, Of_object, Of_root, Orphan, Run, Seat, State, Task, Trapped, Unwind, guarded, resumed}
+use Rattle.aom_determined.proofs.Cells.{cells_counted, cond_applied, held_renamed, moved_renamed, named_renamed, owns_nothing_kept, tasks_counted, without_renamed}
 use Rattle.aom_determined.proofs.Doing.{begun_renamed, dealt_renamed, does_renamed, needs_kept, told_renamed}
 use Rattle.aom_determined.proofs.Needs.{whole_kept}
+use Rattle.aom_determined.proofs.Turning.{turns_so, writes_turn_so}
 use Rattle.aom_determined.specs.Laws.{NamesMeanNothing}
-use Rattle.aom_determined.specs.Names.{IsOneToOne, renamed, renamed_cells, renamed_choice, renamed_frame, renamed_object, renamed_outcome, renamed_tasks}
+use Rattle.aom_determined.specs.Names.{IsOneToOne, renamed, renamed_cells, renamed_choice, renamed_dispatch, renamed_frame, renamed_object, renamed_outcome, renamed_seat, renamed_tasks}
 
 guarded_renamed : (names : ℕ → ℕ) (ns : List Need) (s : State) → guarded ns (renamed names s) ≡ renamed_outcome names (guarded ns s)
 guarded_renamed names [] s = refl
@@ -51,10 +55,16 @@ module _ (names : ℕ → ℕ) (one_to_one : IsOneToOne names) where
       rw (owns_nothing_kept names one_to_one s.cells o.name, tasks_counted names ts, without_renamed names one_to_one (Going (length ts)) s.cells, resumed_renamed ts)
       (guarded_renamed names ((owns_nothing s.cells o.name, Orphan) ∷ []) (record s { cells = without (Going (length ts)) s.cells; tasks = resumed ts }))
 
+  ended_by_renamed : (code : ℤ) (d : Dispatch) → ended_by code (renamed_dispatch names d) ≡ renamed_dispatch names (ended_by code d)
+  ended_by_renamed code Of_main = refl
+  ended_by_renamed code (Of_object x) = refl
+  ended_by_renamed code _ = refl
+
   arrived_renamed :
       (p : Image) (code : ℤ) (ts : List Task) (items : List Item) (s : State) →
       arrived p code (renamed_tasks names ts) items (renamed names s) ≡ renamed_outcome names (arrived p code ts items s)
   arrived_renamed p code (Trapped ∷ Run fr ∷ ts) items s = let i = instr_at p fr.method fr.place in rw (told_renamed names (called p i) (result_register i) code fr)
+  arrived_renamed p code (Trapped ∷ Dispatched d ∷ ts) items s = rw (ended_by_renamed code d)
   arrived_renamed p code _ items s = refl
 
   unwound_renamed :
@@ -76,12 +86,30 @@ module _ (names : ℕ → ℕ) (one_to_one : IsOneToOne names) where
   main_ends_renamed p true None s = refl
   main_ends_renamed p false o s = refl
 
-  ends_renamed : (p : Image) (d : Dispatch) (s : State) → dispatch_ends p d (renamed names s) ≡ renamed names (dispatch_ends p d s)
+  object_ends_renamed : (p : Image) (s : State) → object_ends p (renamed names s) ≡ renamed names (object_ends p s)
+  object_ends_renamed p s =
+      ap (λ o. main_ends p s.rest.stopped o (handled (renamed names s))) (held_renamed names one_to_one s.cells (Elsewhere Root))
+      ∙ main_ends_renamed p s.rest.stopped (held s.cells (Elsewhere Root)) (handled s)
+
+  answered_renamed : (p : Image) (answer : ℤ) (s : State) → answered p answer (renamed names s) ≡ renamed names (answered p answer s)
+  answered_renamed p answer s =
+      ap (λ u. cond (int_eq answer (pos 0)) u (failed answer (renamed names s))) (object_ends_renamed p s)
+      ∙ cond_applied (renamed names) (int_eq answer (pos 0)) (object_ends p s) (failed answer s)
+
+  asking_renamed : (p : Image) (m : Option ℕ) (x : Seat) (code : ℤ) (s : State) → asking p m (renamed_seat names x) code (renamed names s) ≡ renamed names (asking p m x code s)
+  asking_renamed p None x code s = answered_renamed p code s
+  asking_renamed p (Some m) x code s = refl
+
+  ends_renamed : (p : Image) (d : Dispatch) (s : State) → dispatch_ends p (renamed_dispatch names d) (renamed names s) ≡ renamed names (dispatch_ends p d s)
   ends_renamed p Of_main s =
       ap (λ o. main_ends p s.rest.stopped o (renamed names s)) (held_renamed names one_to_one s.cells (Elsewhere Root))
       ∙ main_ends_renamed p s.rest.stopped (held s.cells (Elsewhere Root)) s
   ends_renamed p (Main_left code) s = refl
   ends_renamed p Of_root s = refl
+  ends_renamed p (Of_object x) s = object_ends_renamed p s
+  ends_renamed p (Object_left x code) s = asking_renamed p (part_of p Answers x.object.thing) x code s
+  ends_renamed p (Asks x) s = object_ends_renamed p s
+  ends_renamed p (Answered x answer) s = answered_renamed p answer s
 
   task_renamed : (p : Image) (c : Choice) (s : State) (ts : List Task) → step_task p (renamed_choice names c) (renamed names s) (renamed_tasks names ts) ≡ renamed_outcome names (step_task p c s ts)
   task_renamed p c s [] = refl
@@ -156,4 +184,6 @@ names_mean_nothing = record {
   opens = λ p refused names one_to_one c s h. opens_so names one_to_one p refused c s h;
   moves = λ p names one_to_one c s. moves_so names one_to_one p c s;
   writes = λ p names one_to_one s. writes_so names one_to_one p s;
+  turns = λ p outside names one_to_one s. turns_so names one_to_one p outside s;
+  writes_turn = λ outside names one_to_one s. writes_turn_so names one_to_one outside s;
 }

@@ -5,17 +5,19 @@ use Rattle.aom_rules.specs.Typing.{Typing, IsTyped}
 use Rattle.aom_sound.specs.State.{State, Choice}
 use Rattle.aom_sound.specs.Moves.{step, written, IsOpen}
 use Rattle.aom_sound.specs.WellTyped.{WellTyped}
-use Rattle.aom_sound.specs.World.{boot_state, Reaches, Run_of, Outside}
+use Rattle.aom_sound.specs.World.{boot_state, Reaches, Run_of, Outside, turn, written_turn}
 use Rattle.aom_sound.specs.Laws.{IsWired}
 use Rattle.aom_transcript.specs.declared.line.Line.{Line}
 use Rattle.aom_transcript.specs.declared.line.Ending.{Ending}
 use Rattle.aom_determined.specs.Names.{IsOneToOne, renamed, renamed_choice, renamed_outcome, AreAlike, AlikeOutcomes}
 
--- of any state, well typed or not: under other names the same moves are open to it, it moves to the same state under these names, or is stuck alike, and writes the same
+-- of any state, well typed or not: under other names the same moves are open to it, it moves to the same state under these names, or is stuck alike, and writes the same; and so does a turn
 pub record NamesMeanNothing : Type 0 where
   pub opens : (p : Image) (refused : List ℕ) (names : ℕ → ℕ) → IsOneToOne names → (c : Choice) (s : State) → IsOpen p refused c s → IsOpen p refused (renamed_choice names c) (renamed names s)
   pub moves : (p : Image) (names : ℕ → ℕ) → IsOneToOne names → (c : Choice) (s : State) → step p (renamed_choice names c) (renamed names s) ≡ renamed_outcome names (step p c s)
   pub writes : (p : Image) (names : ℕ → ℕ) → IsOneToOne names → (s : State) → written p (renamed names s) ≡ written p s
+  pub turns : (p : Image) (outside : Outside) (names : ℕ → ℕ) → IsOneToOne names → (s : State) → turn p outside (renamed names s) ≡ renamed_outcome names (turn p outside s)
+  pub writes_turn : (outside : Outside) (names : ℕ → ℕ) → IsOneToOne names → (s : State) → written_turn outside (renamed names s) ≡ written_turn outside s
 
 -- two states that are the same but for names, of which one is well typed, move alike, each with any free name for a new cell, and write the same
 abbrev pub MovesStayAlike : Type 0
@@ -28,7 +30,7 @@ MovesStayAlike =
 abbrev pub Begins : List Line → List Line → Type 0
 Begins lines whole = (more : List Line) × (whole ≡ lines ++ more)
 
--- any two runs of an image with the same requests outside
+-- any two runs of an image with the same outside
 pub record IsDetermined (p : Image) (outside : Outside) : Type 0 where
   -- as far as both have come they have written the same
   pub agree : (lines others : List Line) (s u : State) → Reaches p outside (boot_state p) lines s → Reaches p outside (boot_state p) others u → Begins lines others ⊎ Begins others lines

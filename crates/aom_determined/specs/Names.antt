@@ -1,7 +1,7 @@
 -- A state under other names: each cell has another name, and whatever names a cell says the new one.
 use Rattle.std.specs.Prelude.{ℕ, ◌≡◌, List, map}
 use Rattle.aom_sound.specs.Places.{Place, Register, Entry, Field, Going, Elsewhere, Object, Cell}
-use Rattle.aom_sound.specs.State.{Home, Static, AtRoot, Inside, Frame, Task, Run, Trapped, Destroy, Unwind, Dispatched, State, Choice, Outcome, Goes, IsStuck}
+use Rattle.aom_sound.specs.State.{Home, Static, AtRoot, Inside, Frame, Seat, Dispatch, Of_main, Main_left, Of_root, Of_object, Object_left, Asks, Answered, Task, Run, Trapped, Destroy, Unwind, Dispatched, State, Choice, Outcome, Goes, IsStuck}
 
 -- two names stay two
 abbrev pub IsOneToOne : (ℕ → ℕ) → Type 0
@@ -33,12 +33,26 @@ module _ (names : ℕ → ℕ) where
   abbrev pub renamed_frame : Frame → Frame
   renamed_frame fr = record fr { home = renamed_home fr.home }
 
+  -- the object and the place that owns it
+  abbrev pub renamed_seat : Seat → Seat
+  renamed_seat x = record { object = renamed_object x.object; place = renamed_place x.place }
+
+  -- a dispatch of main has no seat
+  abbrev pub renamed_dispatch : Dispatch → Dispatch
+  renamed_dispatch Of_main = Of_main
+  renamed_dispatch (Main_left code) = Main_left code
+  renamed_dispatch Of_root = Of_root
+  renamed_dispatch (Of_object x) = Of_object (renamed_seat x)
+  renamed_dispatch (Object_left x code) = Object_left (renamed_seat x) code
+  renamed_dispatch (Asks x) = Asks (renamed_seat x)
+  renamed_dispatch (Answered x answer) = Answered (renamed_seat x) answer
+
   abbrev pub renamed_task : Task → Task
   renamed_task (Run fr) = Run (renamed_frame fr)
   renamed_task Trapped = Trapped
   renamed_task Destroy = Destroy
   renamed_task (Unwind code) = Unwind code
-  renamed_task (Dispatched d) = Dispatched d
+  renamed_task (Dispatched d) = Dispatched (renamed_dispatch d)
 
   abbrev pub renamed_tasks : List Task → List Task
   renamed_tasks ts = map renamed_task ts

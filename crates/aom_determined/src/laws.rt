@@ -1,7 +1,7 @@
 //! The laws, each as the contract of a function that does nothing.
 ghost use Rattle.aom_determined.specs.Laws.{NamesMeanNothing, MovesStayAlike, TextIsDetermined};
 
-/// A state moves under other names as it moves under its own, and writes the same.
+/// A state moves under other names as it moves under its own, and writes the same; so it does with a turn between dispatches.
 pub fn names_mean_nothing()
     ensures { NamesMeanNothing }
 {}

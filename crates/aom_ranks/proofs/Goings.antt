@@ -16,7 +16,7 @@ use Rattle.aom_ranks.specs.Ranks.{destructions, is_going, standing}
 
 -- ---- cells
 
-none_there : (c : Cell) (cs : List Cell) (g : Place) → held (c ∷ cs) g ≡ None → (same_place c.owner g ≡ false) × (held cs g ≡ None)
+pub none_there : (c : Cell) (cs : List Cell) (g : Place) → held (c ∷ cs) g ≡ None → (same_place c.owner g ≡ false) × (held cs g ≡ None)
 none_there c cs g e = false_given (λ b. cond b (Some c.object) (held cs g) ≡ None) (same_place c.owner g) e (λ e. cc) (λ s e. (s, e))
 
 all_stand : (cs : List Cell) → ((k : ℕ) → held cs (Going k) ≡ None) → standing cs ≡ length cs
@@ -61,7 +61,7 @@ goes_at (Method fr sh ∷ ls) k = goes_at ls k
 goes_at (Mark gv ∷ ls) k = goes_at ls k
 goes_at (Unwinding code es ∷ ls) k = goes_at ls k
 goes_at (Dying o ∷ ls) k = (length (tasks_of ls) == k) || goes_at ls k
-goes_at (Dispatching d ∷ ls) k = goes_at ls k
+goes_at (Dispatching d seats ∷ ls) k = goes_at ls k
 
 -- each destruction has its cell
 abbrev DyingHeld : List Cell → List Layer → Type 0
@@ -70,7 +70,7 @@ DyingHeld cs (Method fr sh ∷ ls) = DyingHeld cs ls
 DyingHeld cs (Mark gv ∷ ls) = DyingHeld cs ls
 DyingHeld cs (Unwinding code es ∷ ls) = DyingHeld cs ls
 DyingHeld cs (Dying o ∷ ls) = (held cs (Going (length (tasks_of ls))) ≡ Some o) × DyingHeld cs ls
-DyingHeld cs (Dispatching d ∷ ls) = DyingHeld cs ls
+DyingHeld cs (Dispatching d seats ∷ ls) = DyingHeld cs ls
 
 other_depth : (cs : List Cell) (n k : ℕ) → (n == k) ≡ false → held (without (Going n) cs) (Going k) ≡ held cs (Going k)
 other_depth cs n k e = held_without cs (Going n) (Going k) ∙ ap (λ b. cond ((3 == 3) && (b && (0 == 0))) None (held cs (Going k))) e
@@ -84,14 +84,14 @@ held_below cs n (Method fr sh ∷ ls) le h = held_below cs n ls (omega (arith, l
 held_below cs n (Mark gv ∷ ls) le h = held_below cs n ls (omega (arith, le)) h
 held_below cs n (Unwinding code es ∷ ls) le h = held_below cs n ls (omega (arith, le)) h
 held_below cs n (Dying o ∷ ls) le h = (other_depth cs n (length (tasks_of ls)) (ne_eqb n (length (tasks_of ls)) (λ e. absurd (omega (arith, le, e)))) ∙ h.0, held_below cs n ls (omega (arith, le)) h.1)
-held_below cs n (Dispatching d ∷ ls) le h = held_below cs n ls (omega (arith, le)) h
+held_below cs n (Dispatching d seats ∷ ls) le h = held_below cs n ls (omega (arith, le)) h
 
 counted_cells : (ls : List Layer) (cs : List Cell) → Tidy cs → DyingHeld cs ls → ((k : ℕ) → goes_at ls k ≡ false → held cs (Going k) ≡ None) → standing cs + destructions (tasks_of ls) ≡ length cs
 counted_cells [] cs t h none = omega (arith, all_stand cs (λ k. none k refl))
 counted_cells (Method fr sh ∷ ls) cs t h none = counted_cells ls cs t h none
 counted_cells (Mark gv ∷ ls) cs t h none = counted_cells ls cs t h none
 counted_cells (Unwinding code es ∷ ls) cs t h none = counted_cells ls cs t h none
-counted_cells (Dispatching d ∷ ls) cs t h none = counted_cells ls cs t h none
+counted_cells (Dispatching d seats ∷ ls) cs t h none = counted_cells ls cs t h none
 counted_cells (Dying o ∷ ls) cs t h none =
     let n = length (tasks_of ls) in
     let ih = counted_cells ls (without (Going n) cs) (tidy_without cs (Going n) t) (held_below cs n ls (omega arith) h.1) (λ k e. left_none k (n == k) refl e) in
@@ -109,18 +109,18 @@ stack_held p t cs back (Method fr sh ∷ ls) h = stack_held p t cs (Returns fr.m
 stack_held p t cs back (Mark gv ∷ ls) h = stack_held p t cs (Caught gv) ls h.1
 stack_held p t cs back (Unwinding code es ∷ ls) h = stack_held p t cs Leaves ls h.1
 stack_held p t cs back (Dying o ∷ ls) h = (h.0.1, stack_held p t cs Gone ls h.2)
-stack_held p t cs back (Dispatching d ∷ []) h = tt
-stack_held p t cs back (Dispatching d ∷ l ∷ ls) h = let clash : l ∷ ls ≡ [] = h.1 in cc
+stack_held p t cs back (Dispatching d seats ∷ []) h = tt
+stack_held p t cs back (Dispatching d seats ∷ l ∷ ls) h = let clash : l ∷ ls ≡ [] = h.1 in cc
 
 claims_none : (p : Image) (cs : List Cell) (ls : List Layer) (k : ℕ) → goes_at ls k ≡ false → claim p (declared p cs) ls (Going k) ≡ Null
 claims_none p cs [] k e = refl
 claims_none p cs (Method fr sh ∷ ls) k e = claims_none p cs ls k e
 claims_none p cs (Mark gv ∷ ls) k e = claims_none p cs ls k e
 claims_none p cs (Unwinding code es ∷ ls) k e = claims_none p cs ls k e
-claims_none p cs (Dispatching d ∷ ls) k e = claims_none p cs ls k e
+claims_none p cs (Dispatching d seats ∷ ls) k e = claims_none p cs ls k e
 claims_none p cs (Dying o ∷ ls) k e = let ih : (goes_at ls k ≡ false → claim p (declared p cs) ls (Going k) ≡ Null) = λ h. claims_none p cs ls k h in false_given (λ b. (b || goes_at ls k) ≡ false) (length (tasks_of ls) == k) e (λ e. cc) (λ s e. ap (λ b. cond b (Own o.thing Ready) (claim p (declared p cs) ls (Going k))) s ∙ ih e)
 
-nothing_of_null : (p : Image) (h : Sight) (o : Option Object) → Fits p h o Null → o ≡ None
+pub nothing_of_null : (p : Image) (h : Sight) (o : Option Object) → Fits p h o Null → o ≡ None
 nothing_of_null p h o f = none_given (λ x. Fits p h x Null) o f (λ x fits. fits) (λ none fits. none)
 
 pub cells_stand_or_go : (p : Image) (t : Typing) (s : State) → WellTyped p t s → standing s.cells + destructions s.tasks ≡ length s.cells

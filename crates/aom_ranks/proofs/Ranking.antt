@@ -1,8 +1,10 @@
 -- Every move leads to a lower rank.
 use Rattle.std.proofs.lemmas.Option.{same_Some}
+use Rattle.std.specs.Ordering.{int_eq}
+use Rattle.std.specs.Prelude.{cond, pos}
 use Rattle.std.proofs.Common.{◌≡◌, ◌<◌, ◌≤◌, ◌+◌, ◌*◌, ◌∙◌, ℕ, ℤ, suc, Bool, true, false, List, [], ◌∷◌, length, Option, Some, None, slice_get, refl, sym, ap, arith, subst}
 use Rattle.aom_image.specs.Image.{Image}
-use Rattle.aom_image.specs.Views.{class_in, instr_at, is_quiet, method_at, method_class, method_role}
+use Rattle.aom_image.specs.Views.{class_in, instr_at, is_quiet, method_at}
 use Rattle.aom_instructions.specs.declared.instr.Instr.{Instr}
 use Rattle.aom_instructions.specs.declared.instr.Instr.TheVariants.{Cancel, Return}
 use Rattle.aom_image.specs.declared.method.Gives.{Gives}
@@ -25,24 +27,21 @@ use Rattle.aom_sound.proofs.Steps.{step_keeps}
 use Rattle.aom_sound.specs.Laws.{IsWired}
 use Rattle.aom_ranks.specs.Laws.{Moves, no_move, one_move}
 use Rattle.aom_sound.specs.WellTyped.{Keeps}
-use Rattle.aom_sound.specs.Moves.{counted, dispatch_ends, main_ends, step}
+use Rattle.aom_sound.specs.Moves.{answered, asking, counted, dispatch_ends, failed, handled, main_ends, object_ends, step}
 use Rattle.aom_sound.specs.Places.{Elsewhere, Entry, Going, Object, Root, held, moved, without}
-use Rattle.aom_sound.specs.State.{A_mark, An_object, An_operation, Choice, Destroy, Dispatch, Dispatched, Frame, Goes, Home, Inside, Item, Main_left, Of_main, Of_root, Outcome, Run, State, Task, Trapped, Unwind, home_holder, resumed, thing_holder}
+use Rattle.aom_sound.specs.State.{A_mark, An_object, An_operation, Answered, Asks, Choice, Destroy, Dispatch, Dispatched, Frame, Goes, Item, Main_left, Object_left, Of_main, Of_object, Of_root, Outcome, Seat, Run, State, Task, Trapped, Unwind, home_holder, resumed}
 use Rattle.aom_sound.specs.WellTyped.{AllUndo, Good, Now, Stack, WellTyped}
 use Rattle.aom_sound.specs.World.{IsBusy}
-use Rattle.aom_ranks.specs.Ranks.{cell_rank, end_rank, frame_rank, operations, rank, rank_worths, standing, tasks_rank}
+use Rattle.aom_ranks.specs.Ranks.{cell_rank, end_rank, frame_rank, operations, rank, rank_worths, run_rank, standing, tasks_rank, waiting_rank}
 use Rattle.aom_ranks.proofs.Falling.{falls, paid, straight}
 use Rattle.aom_ranks.proofs.Levels.{begun_paid, canceller_before, price_some, quiet_canceller, undo_paid}
 use Rattle.aom_ranks.proofs.Standing.{operations_below, standing_asked, standing_goes, standing_passes, standing_without}
 use Rattle.aom_ranks.proofs.Sums.{one_less, scaled_le}
 use Rattle.aom_ranks.proofs.Worths.{resumed_alike, returned_less, told_alike}
 use Rattle.aom_sound.proofs.Layers.{method_layer}
-use Rattle.aom_sound.specs.Enlisted.{cancel_method, cancel_of, ended_cells}
-use Rattle.aom_shape.specs.Things.{Member, holder_by, holder_of}
-use Rattle.aom_image.specs.declared.method.Role.{Role}
-use Rattle.aom_image.specs.declared.method.Role.TheVariants.{Main}
-use Rattle.aom_image.specs.declared.method.Thing.{Thing}
-use Rattle.aom_image.specs.declared.method.Thing.TheVariants.{Object as An_object_of}
+use Rattle.aom_sound.specs.Enlisted.{cancel_method, ended_cells, part_of}
+use Rattle.aom_shape.specs.Things.{holder_of}
+use Rattle.aom_image.specs.declared.method.Role.TheVariants.{Error}
 use Rattle.aom_sound.proofs.Callees.{cancel_class}
 
 -- ---- a return
@@ -60,7 +59,7 @@ returns :
     rank p (returned p fr (tasks_of ls) (record s { cells = ended_cells p fr s.cells }) g a (tasks_of ls)) < tasks_rank p (Run fr ∷ tasks_of ls) + (standing s.cells + operations s.items) * cell_rank p
 returns p t s fr sh ls h some g a =
     let u = returned p fr (tasks_of ls) (record s { cells = ended_cells p fr s.cells }) g a (tasks_of ls) in
-    let less = returned_less (rank_worths p) standing operations standing_passes operations_below standing_asked p t s fr sh g a ls h in
+    let less = returned_less (rank_worths p) standing operations standing_passes operations_below standing_asked (λ x answer. omega arith) p t s fr sh g a ls h in
     let cells = scaled_le (standing u.cells + operations u.items) (standing s.cells + operations s.items) (cell_rank p) less.1 in
     omega (arith, some, less.0, cells)
 
@@ -103,24 +102,60 @@ module _ (p : Image) (t : Typing) (linked : IsLinked p) (typed : IsTyped p t) (c
       let cells = scaled_le (standing (without (Going (length ts)) s.cells) + operations s.items) (standing s.cells + operations s.items) (cell_rank p) (omega (arith, fewer)) in
       omega (arith, resumed_alike (rank_worths p) ts, cells)
 
-  of_main : (ts : List Task) (b : Bool) (o : Option Object) → held s.cells (Elsewhere Root) ≡ o → rank p (main_ends p b o (counted p s)) < total (Dispatched Of_main ∷ ts)
-  of_main ts true (Some o) there =
-      let destruction = begun_paid p linked o (length s.items) (Dispatched Of_root ∷ []) in
+  kept_alike : (v : State) → v.cells ≡ s.cells → v.items ≡ s.items → (standing v.cells + operations v.items) * cell_rank p ≡ (standing s.cells + operations s.items) * cell_rank p
+  kept_alike v same alike = ap (λ cs. (standing cs + operations v.items) * cell_rank p) same ∙ ap (λ is. (standing s.cells + operations is) * cell_rank p) alike
+
+  -- main's end is worth 2: the root's destruction may begin, with its own end before it
+  ends_main :
+      (b : Bool) (o : Option Object) → held s.cells (Elsewhere Root) ≡ o → (v : State) → v.cells ≡ s.cells → v.items ≡ s.items →
+      rank p (main_ends p b o v) < 2 + (standing s.cells + operations s.items) * cell_rank p
+  ends_main true (Some o) there v same alike =
+      let destruction = begun_paid p linked o (length v.items) (Dispatched Of_root ∷ []) in
       let goes = standing_goes (Elsewhere Root) (length (Dispatched Of_root ∷ [])) o s.cells refl there in
       let cells = one_less (standing (moved (Elsewhere Root) (Going (length (Dispatched Of_root ∷ []))) s.cells) + operations s.items) (standing s.cells + operations s.items) (cell_rank p) (omega (arith, goes)) in
-      omega (arith, destruction, cells)
-  of_main ts true None there = omega arith
-  of_main ts false o there = omega arith
+      let these : (standing (moved (Elsewhere Root) (Going (length (Dispatched Of_root ∷ []))) v.cells) + operations v.items) * cell_rank p ≡ (standing (moved (Elsewhere Root) (Going (length (Dispatched Of_root ∷ []))) s.cells) + operations s.items) * cell_rank p =
+      ap (λ cs. (standing (moved (Elsewhere Root) (Going (length (Dispatched Of_root ∷ []))) cs) + operations v.items) * cell_rank p) same
+      ∙ ap (λ is. (standing (moved (Elsewhere Root) (Going (length (Dispatched Of_root ∷ []))) s.cells) + operations is) * cell_rank p) alike in
+      omega (arith, destruction, cells, these)
+  ends_main true None there v same alike = omega (arith, kept_alike v same alike)
+  ends_main false o there v same alike = omega (arith, kept_alike v same alike)
+
+  of_main : (ts : List Task) (b : Bool) (o : Option Object) → held s.cells (Elsewhere Root) ≡ o → rank p (main_ends p b o (counted p s)) < total (Dispatched Of_main ∷ ts)
+  of_main ts b o there = omega (arith, ends_main b o there (counted p s) refl refl)
+
+  -- the dispatch of an object is over, with at least as much before it as main's end has
+  of_object : (ts : List Task) (d : Dispatch) → 2 ≤ end_rank p d → rank p (object_ends p (counted p s)) < total (Dispatched d ∷ ts)
+  of_object ts d some = omega (arith, ends_main s.rest.stopped (held s.cells (Elsewhere Root)) refl (handled (counted p s)) refl refl, some)
+
+  by_answer : (ts : List Task) (d : Dispatch) → 2 ≤ end_rank p d → (answer : ℤ) → rank p (answered p answer (counted p s)) < total (Dispatched d ∷ ts)
+  by_answer ts d some answer = go (int_eq answer (pos 0))
+    where
+      go : (b : Bool) → rank p (cond b (object_ends p (counted p s)) (failed answer (counted p s))) < total (Dispatched d ∷ ts)
+      go true = of_object ts d some
+      go false = omega (arith, some)
+
+  -- a whole run of the method that is asked is paid for
+  by_asking : (ts : List Task) (x : Seat) (code : ℤ) (m : Option ℕ) → rank p (asking p m x code (counted p s)) < waiting_rank p ts + (4 + run_rank p m) + (standing s.cells + operations s.items) * cell_rank p
+  by_asking ts x code None = omega (arith, by_answer ts (Answered x code) (omega arith) code)
+  by_asking ts x code (Some m) = omega arith
 
   of_dispatch : (ts : List Task) (d : Dispatch) → rank p (dispatch_ends p d (counted p s)) < total (Dispatched d ∷ ts)
   of_dispatch ts Of_main = of_main ts s.rest.stopped (held s.cells (Elsewhere Root)) refl
   of_dispatch ts (Main_left code) = omega arith
   of_dispatch ts Of_root = omega arith
+  of_dispatch ts (Of_object x) = of_object ts (Of_object x) (omega arith)
+  of_dispatch ts (Object_left x code) = omega (arith, by_asking ts x code (part_of p Error x.object.thing))
+  of_dispatch ts (Asks x) = of_object ts (Asks x) (omega arith)
+  of_dispatch ts (Answered x answer) = by_answer ts (Answered x answer) (omega arith) answer
 
-  ended_alike : (code : ℤ) (d : Dispatch) → end_rank (ended_by code d) ≤ end_rank d
+  ended_alike : (code : ℤ) (d : Dispatch) → end_rank p (ended_by code d) ≤ end_rank p d
   ended_alike code Of_main = omega arith
   ended_alike code (Main_left n) = omega arith
   ended_alike code Of_root = omega arith
+  ended_alike code (Of_object x) = omega arith
+  ended_alike code (Object_left x n) = omega arith
+  ended_alike code (Asks x) = omega arith
+  ended_alike code (Answered x n) = omega arith
 
   -- the mark is no operation
   unmarked : (items : List Item) → s.items ≡ A_mark ∷ items → (standing s.cells + operations items) * cell_rank p ≤ (standing s.cells + operations s.items) * cell_rank p

@@ -8,11 +8,11 @@ use Rattle.aom_image.specs.declared.method.Gives.{Gives}
 use Rattle.aom_image.specs.declared.method.Gives.TheVariants.{Nothing, Word as A_word, Own as An_own, Maybe as A_maybe, Left}
 use Rattle.aom_shape.specs.Shape.{Shape}
 use Rattle.aom_rules.specs.Typing.{Typing}
-use Rattle.aom_sound.specs.Calls.{below_top, passed_cells, received, result_cells, result_register, returned}
+use Rattle.aom_sound.specs.Calls.{answered_by, below_top, passed_cells, received, result_cells, result_register, returned, told_answer}
 use Rattle.aom_sound.specs.Claims.{Dispatching, Dying, Layer, Mark, Method, Unwinding, tasks_of}
 use Rattle.aom_sound.specs.Cleanup.{code_told, to_trap}
 use Rattle.aom_sound.specs.Places.{Cell, Register, Request, moved}
-use Rattle.aom_sound.specs.State.{Destroy, Dispatched, Frame, Home, Item, Run, State, Task, Trapped, Unwind, next, resumed}
+use Rattle.aom_sound.specs.State.{Answered, Asks, Destroy, Dispatch, Dispatched, Frame, Home, Item, Main_left, Object_left, Of_main, Of_object, Of_root, Run, Seat, State, Task, Trapped, Unwind, next, resumed}
 use Rattle.aom_sound.specs.WellTyped.{Caught, Now, Returns, Stack}
 use Rattle.aom_ranks.specs.Worths.{Worths, tasks_worth, waiting_worth}
 use Rattle.aom_sound.specs.Enlisted.{cancelled, ended_cells, on_request, own_request, rerequested}
@@ -79,7 +79,7 @@ module _ (w : Worths) where
   -- a return to what stands below
   module _ (f : List Cell → ℕ) (g : List Item → ℕ)
       (passes : (d i e j : ℕ) (cs : List Cell) → f (moved (Register d i) (Register e j) cs) ≤ f cs) (below : (items : List Item) → g (below_top items) ≤ g items)
-      (asks : (cs : List Cell) (h : Home) (r : Option Request) → f (rerequested cs h r) ≡ f cs)
+      (asks : (cs : List Cell) (h : Home) (r : Option Request) → f (rerequested cs h r) ≡ f cs) (answers : (x : Seat) (answer : ℤ) → w.dispatch (Answered x answer) ≤ w.dispatch (Asks x))
       (p : Image) (t : Typing) (s : State) (fr : Frame) (sh : Shape) (gives : Gives) (a : ℕ) where
     -- the state as the method ends
     abbrev pub ended : State
@@ -94,6 +94,16 @@ module _ (w : Worths) where
         go : (b : Bool) → f (cond b (rerequested s.cells fr.home r) s.cells) ≤ f s.cells
         go true = omega (arith, asks s.cells fr.home r)
         go false = omega arith
+
+    -- a dispatch that asked has its answer
+    answered_less : (answer : ℤ) (d : Dispatch) → w.dispatch (answered_by answer d) ≤ w.dispatch d
+    answered_less answer (Asks x) = answers x answer
+    answered_less answer Of_main = omega arith
+    answered_less answer (Main_left code) = omega arith
+    answered_less answer Of_root = omega arith
+    answered_less answer (Of_object x) = omega arith
+    answered_less answer (Object_left x code) = omega arith
+    answered_less answer (Answered x y) = omega arith
 
     abbrev pub after : List Layer → State
     after ls = returned p fr (tasks_of ls) ended gives a (tasks_of ls)
@@ -114,5 +124,6 @@ module _ (w : Worths) where
         let x = result_register (instr_at p caller.method caller.place) in
         let over = Trapped ∷ Run caller ∷ tasks_of ls in
         (omega (arith, received_alike p fr over ended gives a x caller (tasks_of ls)), omega (arith, result_less f passes p fr over ended gives a x (tasks_of ls), ended_less, below s.items))
-    returned_less (Mark gv ∷ Dispatching d ∷ ls) h = (omega arith, omega (arith, ended_less, below s.items))
+    returned_less (Mark gv ∷ Dispatching d seats ∷ ls) h = (omega arith, omega (arith, ended_less, below s.items))
+    returned_less (Dispatching d seats ∷ ls) h = (omega (arith, answered_less (told_answer gives fr a) d), omega (arith, ended_less))
     returned_less _ h = absurd (grind arith)

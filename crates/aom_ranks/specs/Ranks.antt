@@ -3,8 +3,10 @@ use Rattle.std.specs.Prelude.{ℕ, suc, Bool, true, false, cond, ◌+◌, ◌*�
 use Rattle.aom_image.specs.Image.{Image}
 use Rattle.aom_image.specs.Views.{is_quiet, method_at}
 use Rattle.aom_image.specs.declared.method.Method.{Method}
+use Rattle.aom_image.specs.declared.method.Role.TheVariants.{Error}
+use Rattle.aom_sound.specs.Enlisted.{part_of}
 use Rattle.aom_sound.specs.Places.{Place, Register, Entry, Field, Going, Elsewhere, Cell}
-use Rattle.aom_sound.specs.State.{Frame, Dispatch, Of_main, Main_left, Of_root, Task, Run, Trapped, Destroy, Unwind, Dispatched, Item, An_object, An_operation, A_mark, State}
+use Rattle.aom_sound.specs.State.{Frame, Dispatch, Of_main, Main_left, Of_root, Of_object, Object_left, Asks, Answered, Seat, Task, Run, Trapped, Destroy, Unwind, Dispatched, Item, An_object, An_operation, A_mark, State}
 use Rattle.aom_ranks.specs.Within.{left}
 use Rattle.aom_ranks.specs.Worths.{Worths, tasks_worth, waiting_worth}
 
@@ -34,15 +36,28 @@ method_rank p m counters place = left_in (method_at p m) counters place * price 
 abbrev pub frame_rank : Image → Frame → ℕ
 frame_rank p fr = method_rank p fr.method fr.counters fr.place
 
--- the end of main's dispatch may begin the root's destruction, and the end after that does not
-abbrev pub end_rank : Dispatch → ℕ
-end_rank Of_main = 2
-end_rank (Main_left code) = 1
-end_rank Of_root = 1
+-- a whole run of a method, if there is one
+abbrev pub run_rank : Image → Option ℕ → ℕ
+run_rank p None = 0
+run_rank p (Some m) = method_rank p m [] 0
+
+-- of the `error` method of an object's class
+abbrev pub error_rank : Image → Seat → ℕ
+error_rank p x = run_rank p (part_of p Error x.object.thing)
+
+-- the end of main's dispatch, or of an object's, may begin the root's destruction, and the end after that does not; where its method left, the object's `error` method is asked before that
+abbrev pub end_rank : Image → Dispatch → ℕ
+end_rank p Of_main = 2
+end_rank p (Main_left code) = 1
+end_rank p Of_root = 1
+end_rank p (Of_object x) = 4 + error_rank p x
+end_rank p (Object_left x code) = 4 + error_rank p x
+end_rank p (Asks x) = 3
+end_rank p (Answered x answer) = 2
 
 -- a trap, the going of a cell and a leave are a move each
 abbrev pub rank_worths : Image → Worths
-rank_worths p = record { method = method_rank p; trap = 1; going = 1; leave = 1; dispatch = end_rank }
+rank_worths p = record { method = method_rank p; trap = 1; going = 1; leave = 1; dispatch = end_rank p }
 
 abbrev pub waiting_rank : Image → List Task → ℕ
 waiting_rank p ts = waiting_worth (rank_worths p) ts

@@ -16,7 +16,7 @@ use Rattle.aom_rules.specs.Objects.{flow_jump_empty, flow_jump_null}
 use Rattle.aom_rules.specs.Requests.{enlisted, flow_narrowed, inactive, outstanding, own_kind}
 use Rattle.aom_rules.specs.Rules.{flows, rule_needs}
 use Rattle.aom_shape.specs.Shape.{Shape}
-use Rattle.aom_shape.specs.Things.{Member, field_thing, holder_by, holder_of}
+use Rattle.aom_shape.specs.Things.{field_thing}
 use Rattle.aom_rules.specs.Typing.{Typing}
 use Rattle.aom_shape.specs.declared.kind.Filling.{Filling}
 use Rattle.aom_shape.specs.declared.kind.Filling.TheVariants.{Empty, Full, Perhaps}
@@ -27,14 +27,12 @@ use Rattle.aom_sound.proofs.Requesting.{active_listed, busy_in, free_in, listed_
 use Rattle.aom_sound.proofs.Straight.{At, field_fits, kind_fits}
 use Rattle.aom_sound.specs.Claims.{Layer, tasks_of}
 use Rattle.aom_sound.specs.Effects.{Calls, Cancels, Counts, Destroys, Destroys_last, Effect, Goes_on, Jumps, Leaves, Operates, Pushed, Pushed_operation, Repeats, Returns, Sets_trap, Update, cancels_if, deals, deletes, effect, jumps_if, jumps_unless, makes_unless, round}
-use Rattle.aom_sound.specs.Enlisted.{cancel_method, cancel_of as cancel_for, in_phase, is_active, is_busy, own_request}
+use Rattle.aom_sound.specs.Enlisted.{cancel_method, in_phase, is_active, is_busy, own_request}
 use Rattle.aom_sound.specs.Places.{Object, held, seen}
-use Rattle.aom_sound.specs.State.{An_object, An_operation, Choice, Frame, Home, Inside, Item, State, Task, counter, field_place, home_holder, thing_holder}
+use Rattle.aom_sound.specs.State.{An_object, An_operation, Choice, Frame, Item, State, Task, counter, field_place, home_holder}
 use Rattle.aom_sound.specs.WellTyped.{Fits}
 use Rattle.aom_sound.specs.Words.{here, read}
 use Rattle.aom_prices.specs.Prices.{AllPaid, IsPriced, Prices, Stands, cancel_of, kind_price, own, perhaps_price, price}
-use Rattle.aom_image.specs.declared.method.Role.{Role}
-use Rattle.aom_image.specs.declared.method.Thing.TheVariants.{Object as An_object_of}
 use Rattle.aom_sound.proofs.Callees.{cancel_class}
 
 module _ (c : Prices) (fr : Frame) (sh : Shape) where

@@ -1,5 +1,9 @@
 pub mod Pushed
 pub mod Covering
 pub mod Paying
+pub mod Counted
+pub mod Emptied
+pub mod Turns
+pub mod Payers
 pub mod Within
 pub mod Examples

@@ -228,7 +228,7 @@ module _ (p : Image) (t : Typing) (c : Prices) (linked : IsLinked p) (priced : I
   -- what the method could still cost is dropped
   returns : (g : Gives) (a : ℕ) → 1 ≤ c.from fr.method fr.place → Pays (Returns g a)
   returns g a some =
-      let less = returned_less (left_worths p c) (objects_left c) (operations_left c) (register_passes c) (operations_below c) (rerequested_same c) p t s fr sh g a ls at_hand.good.stack in
+      let less = returned_less (left_worths p c) (objects_left c) (operations_left c) (register_passes c) (operations_below c) (rerequested_same c) (λ x answer. omega arith) p t s fr sh g a ls at_hand.good.stack in
       omega (arith, some, less.0, less.1)
 
   pub pays : (i : Instr) → slice_get d.code fr.place ≡ Some i → Stands p t fr.method fr.place sh i → (e : Effect) → Fits p ch fr ts s i e → Covers c fr sh e → Pays e

@@ -100,7 +100,7 @@ module _ (c : Prices) where
   stored_same cs AtRoot w v = refl
   stored_same cs (Inside o from) w v = written_same o.name w v cs
 
-  asked_same : (n : ℕ) (r : Option Request) (cs : List Cell) → objects_left c (set_request n r cs) ≡ objects_left c cs
+  pub asked_same : (n : ℕ) (r : Option Request) (cs : List Cell) → objects_left c (set_request n r cs) ≡ objects_left c cs
   asked_same n r [] = refl
   asked_same n r (x ∷ cs) = ap (λ y. due c x.owner x.object + y) (asked_same n r cs)
 

@@ -1,11 +1,26 @@
 -- Every move pays for the steps that it is, and so each dispatch keeps within what is declared.
 use Rattle.std.proofs.lemmas.Option.{same_Some}
-use Rattle.std.proofs.Common.{◌≡◌, ◌<◌, ◌≤◌, ◌+◌, ◌∙◌, ℕ, ℤ, Bool, true, false, cond, List, [], ◌∷◌, length, Option, Some, None, refl, sym, ap, arith, subst}
+use Rattle.std.specs.Ordering.{int_eq}
+use Rattle.std.specs.Prelude.{IsSome, is_none, pos}
+use Rattle.std.proofs.Common.{◌≡◌, ◌<◌, ◌≤◌, ◌+◌, ◌∙◌, ◌^◌, slice_get, ℕ, ℤ, Bool, true, false, cond, List, [], ◌∷◌, length, Option, Some, None, refl, sym, ap, arith, subst}
 use Rattle.aom_image.specs.Image.{Image}
 use Rattle.aom_image.specs.Views.{instr_at, method_at}
-use Rattle.aom_image.specs.WellFormed.{WellFormed}
+use Rattle.aom_image.specs.WellFormed.{ClassFits, KindFits, WellFormed}
 use Rattle.aom_instructions.specs.declared.instr.Instr.{Instr}
 use Rattle.aom_image.specs.declared.method.Thing.TheVariants.{Object as An_object_of}
+use Rattle.aom_image.specs.declared.class.ClassKind.{ClassKind}
+use Rattle.aom_image.specs.declared.class.ClassKind.TheVariants.{Active, Plain, Server, Session}
+use Rattle.aom_image.specs.declared.method.Method.{Method as Method_declared}
+use Rattle.aom_image.specs.declared.class.ClassDecl.{ClassDecl}
+use Rattle.aom_image.specs.declared.method.Role.{Role}
+use Rattle.aom_image.specs.declared.method.Role.TheVariants.{Error, Run as Handles}
+use Rattle.aom_image.specs.Views.{class_at}
+use Rattle.aom_roles.specs.Classes.{kind_in}
+use Rattle.aom_roles.specs.Shapes.{HasShape, IsShaped, is_active_in, kind_of}
+use Rattle.aom_rules.specs.Requests.{is_active_kind}
+use Rattle.aom_classes.specs.Roles.{role_of}
+use Rattle.aom_classes.proofs.Facts.{all_there}
+use Rattle.aom_classes.proofs.Playing.{role_found}
 use Rattle.aom_classes.specs.Linked.{IsLinked}
 use Rattle.aom_classes.specs.Roles.{main_of}
 use Rattle.aom_classes.proofs.Facts.{of_method}
@@ -17,34 +32,40 @@ use Rattle.aom_shape.specs.Things.{root_thing}
 use Rattle.aom_rules.specs.Typing.{IsTyped, Typing}
 use Rattle.aom_shape.specs.declared.kind.Filling.TheVariants.{Perhaps}
 use Rattle.aom_sound.proofs.Booting.{boot_keeps}
-use Rattle.aom_sound.proofs.Counting.{move_steps, steps_are_counted}
+use Rattle.aom_sound.proofs.Counting.{steps_are_counted}
 use Rattle.aom_sound.proofs.Moving.{acted, steps_are_moves}
-use Rattle.aom_sound.proofs.Steps.{step_keeps}
+use Rattle.aom_sound.proofs.Course.{well_on}
 use Rattle.aom_sound.proofs.Straight.{At}
 use Rattle.aom_sound.proofs.Wiring.{linked_is_wired}
 use Rattle.aom_sound.specs.Calls.{called, result_register}
 use Rattle.aom_sound.specs.Claims.{Dispatching, Layer, Method, forms, items_of, tasks_of}
 use Rattle.aom_sound.specs.Cleanup.{ended_by}
-use Rattle.aom_sound.specs.Counting.{steps_of, taken}
+use Rattle.aom_sound.specs.Counting.{ends_object, restarts, starts, steps_of, taken}
 use Rattle.aom_sound.specs.Destruction.{begun}
 use Rattle.aom_sound.specs.Effects.{effect}
 use Rattle.aom_sound.specs.Laws.{IsWired}
-use Rattle.aom_sound.specs.Moves.{counted, dispatch_ends, is_counted, main_ends, step, step_instr, step_task}
+use Rattle.aom_sound.specs.Enlisted.{part_of}
+use Rattle.aom_sound.specs.Moves.{answered, asking, counted, dispatch_ends, failed, handled, main_ends, object_ends, step, step_instr, step_task}
 use Rattle.aom_sound.specs.Places.{Elsewhere, Entry, Going, Object, Root, held, moved, seen}
-use Rattle.aom_sound.specs.State.{An_object, Choice, Destroy, Dispatch, Dispatched, Frame, Goes, Item, Main_left, Of_main, Of_root, Outcome, Run, State, Task, Trapped, Unwind, raised}
+use Rattle.aom_sound.specs.State.{An_object, Answered, Asks, Choice, Destroy, Dispatch, Dispatched, Frame, Goes, Item, Main_left, Object_left, Of_main, Of_object, Of_root, Run, Seat, State, Task, Trapped, Unwind}
 use Rattle.aom_sound.specs.Steps.{Acts, Arrives, Clears, Comes_out, Ends, Move, Rests, Undoes, Vanishes, IsStill}
-use Rattle.aom_sound.specs.WellTyped.{Fits, Good, Keeps, WellTyped}
-use Rattle.aom_sound.specs.World.{Reaches, begins, boot_state, moves, waits, Outside}
+use Rattle.aom_sound.specs.WellTyped.{Fits, Good, WellTyped}
+use Rattle.aom_sound.specs.World.{Reaches, begins, boot_state, main_tasks, moves, turn, turning, turns, Outside}
 use Rattle.aom_transcript.specs.declared.line.Line.{Line}
 use Rattle.aom_ranks.proofs.Worths.{resumed_alike, told_alike}
 use Rattle.aom_prices.specs.Layers.{ArePricesUpTo}
-use Rattle.aom_prices.specs.Prices.{IsPriced, Prices, Stands, price}
+use Rattle.aom_prices.specs.Prices.{IsPriced, Prices, Stands, perhaps_price, price}
 use Rattle.aom_prices.specs.Dispatches.{IsAffordable, main_price, method_price, root_price}
 use Rattle.aom_steps.specs.Laws.{BootWithin, KeepsBudget, MovesPay, StepsWithin}
-use Rattle.aom_steps.specs.Left.{WithinBudget, end_left, left, left_worths, objects_left, operations_left, tasks_left}
+use Rattle.aom_steps.specs.Left.{WithinBudget, end_left, left, left_worths, objects_left, operations_left, tasks_left, waiting_left}
+use Rattle.aom_steps.specs.Payers.{AffordsObjects, class_budget, declared_of, object_price, payer, price_of}
 use Rattle.aom_steps.proofs.Covering.{covers}
 use Rattle.aom_steps.proofs.Paying.{begun_left, fresh_rounds, pays}
 use Rattle.aom_steps.proofs.Pushed.{leaves_entry, moved_less, without_less}
+use Rattle.aom_steps.proofs.Counted.{none_counted, steps_counted}
+use Rattle.aom_steps.proofs.Emptied.{none_at_end}
+use Rattle.aom_steps.proofs.Payers.{payers}
+use Rattle.aom_steps.proofs.Turns.{turns_pay}
 use Rattle.aom_sound.proofs.Layers.{method_layer}
 use Rattle.aom_sound.proofs.Wiring.{main_of_none}
 use Rattle.aom_image.proofs.Given.{some_given}
@@ -102,49 +123,121 @@ module _ (p : Image) (t : Typing) (c : Prices) (linked : IsLinked p) (typed : Is
   ended_less code Of_main = omega arith
   ended_less code (Main_left n) = omega arith
   ended_less code Of_root = omega arith
+  ended_less code (Of_object x) = omega arith
+  ended_less code (Object_left x n) = omega arith
+  ended_less code (Asks x) = omega arith
+  ended_less code (Answered x n) = omega arith
 
   -- the root is of its declared class
   root_pays : (o : Object) (root : Option ℕ) → Fits p (seen s.cells) (Some o) (filled (root_thing root 0) Perhaps) → c.destruction o.thing ≤ root_price c root
   root_pays o root f = some_given (λ r. Fits p (seen s.cells) (Some o) (filled (root_thing r 0) Perhaps)) root f (λ none. none) (λ x is fits.
       omega (arith, ap (λ r. root_price c r) is, priced.stands_in o.thing (An_object_of x) fits.0))
 
-  of_main :
-      (ts : List Task) (b : Bool) (o : Option Object) → Fits p (seen s.cells) o (filled (root_thing p.header.root 0) Perhaps) →
-      left p c (main_ends p b o (counted p s)) ≤ all_left (Dispatched Of_main ∷ ts)
-  of_main ts true (Some o) f =
-      let destruction = begun_left p t c priced o (length s.items) (Dispatched Of_root ∷ []) in
-      omega (arith, destruction, moved_less c (Elsewhere Root) (Going (length (Dispatched Of_root ∷ []))) s.cells refl, root_pays o p.header.root f)
-  of_main ts true None f = omega arith
-  of_main ts false o f = omega arith
+  -- what is pushed, and the root's destruction, which main's end may begin
+  main_left_over : (b : Bool) (o : Option Object) (v : State) → v.cells ≡ s.cells → v.items ≡ s.items → Fits p (seen s.cells) o (filled (root_thing p.header.root 0) Perhaps) →
+      left p c (main_ends p b o v) ≤ root_price c p.header.root + (objects_left c s.cells + operations_left c s.items)
+  main_left_over true (Some o) v same alike f =
+      let destruction = begun_left p t c priced o (length v.items) (Dispatched Of_root ∷ []) in
+      let pushed = ap (λ cs. objects_left c cs) same in
+      let operations = ap (λ is. operations_left c is) alike in
+      omega (arith, destruction, moved_less c (Elsewhere Root) (Going (length (Dispatched Of_root ∷ []))) v.cells refl, root_pays o p.header.root f, pushed, operations)
+  main_left_over true None v same alike f = omega (arith, ap (λ cs. objects_left c cs) same, ap (λ is. operations_left c is) alike)
+  main_left_over false o v same alike f = omega (arith, ap (λ cs. objects_left c cs) same, ap (λ is. operations_left c is) alike)
 
-  of_dispatch : (ls : List Layer) → Good p t s.cells ls → (d : Dispatch) (ts : List Task) → tasks_of ls ≡ Dispatched d ∷ ts → left p c (dispatch_ends p d (counted p s)) ≤ all_left (Dispatched d ∷ ts)
-  of_dispatch ls good (Main_left code) ts at = omega arith
-  of_dispatch ls good Of_root ts at = omega arith
-  of_dispatch ls good Of_main ts at = dispatch_layer (Good p t s.cells) Of_main ts ls at good (λ below under last.
-      let alone = subst (λ b. Good p t s.cells (Dispatching Of_main ∷ b)) last.stack.1 last in of_main ts s.rest.stopped (held s.cells (Elsewhere Root)) (alone.fits (Elsewhere Root)))
+  -- a dispatch that ends stands alone
+  abbrev Alone : Dispatch → Type 0
+  Alone d = (seats : List Seat) × Good p t s.cells (Dispatching d seats ∷ []) × (forms s.items ≡ items_of (Dispatching d seats ∷ []))
+
+  alone : (d : Dispatch) (ts : List Task) → s.tasks ≡ Dispatched d ∷ ts → Alone d
+  alone d ts at = dispatch_layer (λ ls. Good p t s.cells ls × (forms s.items ≡ items_of ls)) d ts w.layers (sym w.tasks ∙ at) (w.good, w.items) (λ seats below under last.
+      let both = subst (λ b. Good p t s.cells (Dispatching d seats ∷ b) × (forms s.items ≡ items_of (Dispatching d seats ∷ b))) last.0.stack.1 last in (seats, both.0, both.1))
+
+  -- the method that is asked was paid for
+  asked_left : (ts : List Task) (x : Seat) (code : ℤ) (m : Option ℕ) → is_none m ≡ false → left p c (asking p m x code (counted p s)) ≤ perhaps_price c m + waiting_left p c ts + (objects_left c s.cells + operations_left c s.items)
+  asked_left ts x code None none = cc
+  asked_left ts x code (Some m) none = omega (arith, fresh_rounds c m (method_at p m))
+
+  of_dispatch : (d : Dispatch) (ts : List Task) → s.tasks ≡ Dispatched d ∷ ts → ends_object p d ≡ false → left p c (dispatch_ends p d (counted p s)) ≤ all_left (Dispatched d ∷ ts)
+  of_dispatch (Main_left code) ts at goes_on = omega arith
+  of_dispatch Of_root ts at goes_on = omega arith
+  of_dispatch Of_main ts at goes_on =
+      let last = alone Of_main ts at in
+      omega (arith, main_left_over s.rest.stopped (held s.cells (Elsewhere Root)) (counted p s) refl refl (last.1.fits (Elsewhere Root)))
+  of_dispatch (Object_left x code) ts at goes_on = omega (arith, asked_left ts x code (part_of p Error x.object.thing) goes_on)
+  of_dispatch _ ts at goes_on = cc
+
+  -- ---- the dispatch of an object ends
+
+  -- main's price has the root's destruction in it
+  root_in_main : root_price c p.header.root ≤ main_price p c
+  root_in_main = some_given (λ o. IsSome o) (main_of p) linked.main (λ none. cc) (λ m is there. omega (arith, ap (λ o. method_price p c o) is))
+
+  module _ (d : Dispatch) (seats : List Seat) (last : Good p t s.cells (Dispatching d seats ∷ [])) (items : forms s.items ≡ items_of (Dispatching d seats ∷ []))
+      (root : Fits p (seen s.cells) (held s.cells (Elsewhere Root)) (filled (root_thing p.header.root 0) Perhaps)) where
+    object_left_over : left p c (object_ends p (counted p s)) ≤ main_price p c
+    object_left_over =
+        let bare = none_at_end c p t s.cells s.items d seats last items in
+        omega (arith, bare, root_in_main, main_left_over s.rest.stopped (held s.cells (Elsewhere Root)) (handled (counted p s)) refl refl root)
+
+    answer_left_over : (answer : ℤ) → left p c (answered p answer (counted p s)) ≤ main_price p c
+    answer_left_over answer = go (int_eq answer (pos 0))
+      where
+        go : (b : Bool) → left p c (cond b (object_ends p (counted p s)) (failed answer (counted p s))) ≤ main_price p c
+        go true = object_left_over
+        go false = omega (arith, none_at_end c p t s.cells s.items d seats last items)
+
+    unasked_left_over : (x : Seat) (code : ℤ) (m : Option ℕ) → is_none m ≡ true → left p c (asking p m x code (counted p s)) ≤ main_price p c
+    unasked_left_over x code None none = answer_left_over code
+    unasked_left_over x code (Some m) none = cc
+
+  over_by : (d : Dispatch) (ts : List Task) → s.tasks ≡ Dispatched d ∷ ts → ends_object p d ≡ true → left p c (dispatch_ends p d (counted p s)) ≤ main_price p c
+  over_by (Of_object x) ts at ends = let last = alone (Of_object x) ts at in object_left_over (Of_object x) last.0 last.1 last.2 (last.1.fits (Elsewhere Root))
+  over_by (Object_left x code) ts at ends =
+      let last = alone (Object_left x code) ts at in unasked_left_over (Object_left x code) last.0 last.1 last.2 (last.1.fits (Elsewhere Root)) x code (part_of p Error x.object.thing) ends
+  over_by (Asks x) ts at ends = let last = alone (Asks x) ts at in object_left_over (Asks x) last.0 last.1 last.2 (last.1.fits (Elsewhere Root))
+  over_by (Answered x answer) ts at ends = let last = alone (Answered x answer) ts at in answer_left_over (Answered x answer) last.0 last.1 last.2 (last.1.fits (Elsewhere Root)) answer
+  over_by _ ts at ends = cc
+
+  -- no other move counts steps anew
+  not_over : (ts : List Task) (u : State) → s.tasks ≡ ts → restarts p s.tasks ≡ true → restarts p ts ≡ false → left p c u ≤ main_price p c
+  not_over ts u at ends goes_on = let clash : true ≡ false = sym ends ∙ ap (λ l. restarts p l) at ∙ goes_on in cc
+
+  still_on : (ts : List Task) → IsStill ts → restarts p ts ≡ false
+  still_on [] still = refl
+  still_on _ still = absurd still
+
+  restart_pays : (u : State) → Move p ch s u → restarts p s.tasks ≡ true → left p c u ≤ main_price p c
+  restart_pays u (Rests still same) ends = not_over s.tasks u refl ends (still_on s.tasks still)
+  restart_pays u (Acts fr ts i e at there met fits same) ends = not_over (Run fr ∷ ts) u at ends refl
+  restart_pays u (Vanishes ts o at there owns same) ends = not_over (Destroy ∷ ts) u at ends refl
+  restart_pays u (Clears code ts items o at top there same) ends = not_over (Unwind code ∷ ts) u at ends refl
+  restart_pays u (Undoes code ts items m x at top same) ends = not_over (Unwind code ∷ ts) u at ends refl
+  restart_pays u (Arrives code fr ts items at top same) ends = not_over (Unwind code ∷ Trapped ∷ Run fr ∷ ts) u at ends refl
+  restart_pays u (Comes_out code d ts items at top same) ends = not_over (Unwind code ∷ Trapped ∷ Dispatched d ∷ ts) u at ends refl
+  restart_pays u (Ends d ts at same) ends = subst (λ x. left p c x ≤ main_price p c) (sym same) (over_by d ts at (subst (λ l. restarts p l ≡ true) at ends))
 
   -- ---- the kinds of moves
 
   by : (ts : List Task) (u v : State) → s.tasks ≡ ts → u ≡ v → steps_of ts + left p c v ≤ all_left ts → steps_of s.tasks + left p c u ≤ left p c s
   by ts u v at same pays = subst (λ x. steps_of s.tasks + left p c x ≤ left p c s) (sym same) (subst (λ l. steps_of l + left p c v ≤ all_left l) (sym at) pays)
 
-  move_pays : (u : State) → step p ch s ≡ Goes u → Move p ch s u → steps_of s.tasks + left p c u ≤ left p c s
-  move_pays u goes (Rests still same) = by s.tasks u _ refl same (omega (arith, still_none s.tasks still))
-  move_pays u goes (Acts fr ts i e at there met fits same) =
+  move_pays : (u : State) → step p ch s ≡ Goes u → Move p ch s u → restarts p s.tasks ≡ false → steps_of s.tasks + left p c u ≤ left p c s
+  move_pays u goes (Rests still same) goes_on = by s.tasks u _ refl same (omega (arith, still_none s.tasks still))
+  move_pays u goes (Acts fr ts i e at there met fits same) goes_on =
       by (Run fr ∷ ts) u u at refl (acts w.layers w.tasks w.items w.good fr ts (sym w.tasks ∙ at) i u there (subst (λ l. step_task p ch (counted p s) l ≡ Goes u) at goes))
-  move_pays u goes (Vanishes ts o at there owns same) = by (Destroy ∷ ts) u _ at same (omega (arith, resumed_alike (left_worths p c) ts, without_less c (Going (length ts)) s.cells))
-  move_pays u goes (Clears code ts items o at top there same) = by (Unwind code ∷ ts) u _ at same (omega (arith, clears code ts items o top there))
-  move_pays u goes (Undoes code ts items m x at top same) =
+  move_pays u goes (Vanishes ts o at there owns same) goes_on = by (Destroy ∷ ts) u _ at same (omega (arith, resumed_alike (left_worths p c) ts, without_less c (Going (length ts)) s.cells))
+  move_pays u goes (Clears code ts items o at top there same) goes_on = by (Unwind code ∷ ts) u _ at same (omega (arith, clears code ts items o top there))
+  move_pays u goes (Undoes code ts items m x at top same) goes_on =
       let paid : operations_left c s.items ≡ price c m + operations_left c items = ap (λ l. operations_left c l) top in
       by (Unwind code ∷ ts) u _ at same (omega (arith, paid, fresh_rounds c m (method_at p m)))
-  move_pays u goes (Arrives code fr ts items at top same) =
+  move_pays u goes (Arrives code fr ts items at top same) goes_on =
       let i = instr_at p fr.method fr.place in
       let paid : operations_left c s.items ≡ operations_left c items = ap (λ l. operations_left c l) top in
       by (Unwind code ∷ Trapped ∷ Run fr ∷ ts) u _ at same (omega (arith, told_alike (left_worths p c) (called p i) (result_register i) code fr ts, paid))
-  move_pays u goes (Comes_out code d ts items at top same) =
+  move_pays u goes (Comes_out code d ts items at top same) goes_on =
       let paid : operations_left c s.items ≡ operations_left c items = ap (λ l. operations_left c l) top in
       by (Unwind code ∷ Trapped ∷ Dispatched d ∷ ts) u _ at same (omega (arith, ended_less code d, paid))
-  move_pays u goes (Ends d ts at same) = by (Dispatched d ∷ ts) u _ at same (omega (arith, of_dispatch w.layers w.good d ts (sym w.tasks ∙ at)))
+  move_pays u goes (Ends d ts at same) goes_on = by (Dispatched d ∷ ts) u _ at same (omega (arith, of_dispatch d ts at (subst (λ l. restarts p l ≡ false) at goes_on)))
 
 -- ---- the laws
 
@@ -157,34 +250,121 @@ boot_within p c = go (main_of p) refl
 
 step_pays :
     (p : Image) (t : Typing) (c : Prices) → IsLinked p → IsTyped p t → IsPriced p t c → (ch : Choice) (s u : State) → WellTyped p t s → step p ch s ≡ Goes u →
-    steps_of s.tasks + left p c u ≤ left p c s
+    restarts p s.tasks ≡ false → steps_of s.tasks + left p c u ≤ left p c s
 step_pays p t c linked typed priced ch s u w goes = move_pays p t c linked typed priced ch s w u goes (steps_are_moves p ch s u goes)
 
-counted_less : (ts : List Task) (n : ℕ) → cond (is_counted ts) (raised n) n ≤ n + steps_of ts
-counted_less (Run fr ∷ ts) n = omega arith
-counted_less (Destroy ∷ ts) n = omega arith
-counted_less _ n = omega arith
+restart_left :
+    (p : Image) (t : Typing) (c : Prices) → IsLinked p → IsTyped p t → IsPriced p t c → (ch : Choice) (s u : State) → WellTyped p t s → step p ch s ≡ Goes u →
+    restarts p s.tasks ≡ true → left p c u ≤ main_price p c
+restart_left p t c linked typed priced ch s u w goes = restart_pays p t c linked typed priced ch s w u (steps_are_moves p ch s u goes)
 
 pub moves_pay : MovesPay
 moves_pay = record {
   pays = step_pays;
-  within = λ p t c linked typed priced ch s u w goes n h. record {
-    within = omega (arith, step_pays p t c linked typed priced ch s u w goes, move_steps p ch s u goes, counted_less s.tasks s.rest.steps, h.within);
-  };
+  restarts_pay = restart_left;
+  payers = payers;
+  within = λ p t c linked typed priced ch s u w goes n enough h. go p t c linked typed priced ch s u w goes n h (restarts p s.tasks) refl enough;
 }
+  where
+    go :
+        (p : Image) (t : Typing) (c : Prices) → IsLinked p → IsTyped p t → IsPriced p t c → (ch : Choice) (s u : State) → WellTyped p t s → step p ch s ≡ Goes u →
+        (n : ℕ) → WithinBudget p c n s → (b : Bool) → restarts p s.tasks ≡ b → (restarts p s.tasks ≡ true → main_price p c ≤ n) → WithinBudget p c n u
+    go p t c linked typed priced ch s u w goes n h true ends enough = record {
+      within =
+          omega (arith, restart_left p t c linked typed priced ch s u w goes ends, none_counted p ch s u goes ends, enough ends);
+    }
+    go p t c linked typed priced ch s u w goes n h false on enough = record {
+      within =
+          omega (arith, step_pays p t c linked typed priced ch s u w goes on, steps_counted p ch s u goes on, h.within);
+    }
 
 module _ (p : Image) (t : Typing) (c : Prices) (outside : Outside) (wired : IsWired p) (linked : IsLinked p) (typed : IsTyped p t) (priced : IsPriced p t c) where
-  keeps_on : (u : State) (o : Outcome) → o ≡ Goes u → Keeps p t o → WellTyped p t u
-  keeps_on u o e k = subst (λ x. Keeps p t x) e k
+  well : {lines : List Line} {s : State} → Reaches p outside (boot_state p) lines s → WellTyped p t s
+  well {lines = lines} {s = s} reached = well_on p t outside wired typed (boot_state p) (boot_keeps p t wired typed) lines s reached
 
-  stays : {lines : List Line} {s : State} (reached : Reaches p outside (boot_state p) lines s) → WellTyped p t s × (taken reached + left p c s ≤ main_price p c)
-  stays begins = (boot_keeps p t wired typed, (boot_within p c).within)
-  stays (moves {s = s} {u = u} ch reached busy opened goes) =
-      let so = stays reached in
-      (keeps_on u (step p ch s) goes (step_keeps p t wired typed ch s so.0 opened.name), omega (arith, so.1, step_pays p t c linked typed priced ch s u so.0 goes))
-  stays (waits reached between) =
-      let so = stays reached in
-      (record { layers = so.0.layers; tasks = so.0.tasks; items = so.0.items; undos = so.0.undos; good = so.0.good }, so.1)
+  -- within the price of what pays at that state
+  abbrev Within : ℕ → State → Type 0
+  Within n s = n + left p c s ≤ price_of p c (payer s.tasks)
+
+  -- with a move: what was taken is taken still, or steps are counted anew
+  moves_on : (s u : State) (ch : Choice) (n : ℕ) → WellTyped p t s → step p ch s ≡ Goes u → Within n s → (b : Bool) → restarts p s.tasks ≡ b → Within (cond b 0 (n + steps_of s.tasks)) u
+  moves_on s u ch n w goes h true ends =
+      let main = payers p ch s u goes ∙ ap (λ b. cond b None (payer s.tasks)) ends in
+      omega (arith, restart_left p t c linked typed priced ch s u w goes ends, ap (λ x. price_of p c x) main)
+  moves_on s u ch n w goes h false on =
+      let same = payers p ch s u goes ∙ ap (λ b. cond b None (payer s.tasks)) on in
+      omega (arith, h, step_pays p t c linked typed priced ch s u w goes on, ap (λ x. price_of p c x) same)
+
+  -- and with a turn
+  turns_on : (s u : State) (n : ℕ) → WellTyped p t s → s.tasks ≡ [] → turn p outside s ≡ Goes u → Within n s → (b : Bool) → starts (turning outside s) ≡ b → Within (cond b 0 n) u
+  turns_on s u n w idle goes h true begun = omega (arith, turns_pay.begins p t c outside s u w idle goes begun)
+  turns_on s u n w idle goes h false on =
+      let passed = turns_pay.passes p c outside s u idle goes on in
+      omega (arith, h, passed.1, ap (λ ts. price_of p c (payer ts)) (passed.0 ∙ sym idle))
+
+  by_main : (m : Option ℕ) → payer (main_tasks m) ≡ None
+  by_main None = refl
+  by_main (Some m) = refl
+
+  stays : {lines : List Line} {s : State} (reached : Reaches p outside (boot_state p) lines s) → Within (taken reached) s
+  stays begins = omega (arith, (boot_within p c).within, ap (λ x. price_of p c x) (by_main (main_of p)))
+  stays (moves {s = s} {u = u} ch reached busy opened goes) = moves_on s u ch (taken reached) (well reached) goes (stays reached) (restarts p s.tasks) refl
+  stays (turns {s = s} {u = u} reached between goes) = turns_on s u (taken reached) (well reached) between.idle goes (stays reached) (starts (turning outside s)) refl
+
+-- ---- what is declared
+
+-- a class whose objects are dispatched is one of active objects
+active_so : (k : Option ClassKind) → is_active_in k ≡ true → is_active_kind k ≡ true
+unfolding is_active_in
+active_so (Some (Active provider budget)) e = refl
+active_so _ e = cc
+
+module _ (p : Image) (linked : IsLinked p) (x : ℕ) where
+  shaped : (role : Role) (m : ℕ) → role_of p x role ≡ Some m → (d : Method_declared) × HasShape role (kind_of p (Some x)) d
+  unfolding method_at
+  shaped role m e =
+      let w = role_found p x m role e in
+      let all : IsShaped p w.0 = all_there (IsShaped p) p.methods m w.0 linked.shapes w.1 in
+      (w.0, subst (λ k. HasShape role (kind_of p k) w.0) w.2 (subst (λ r. HasShape r (kind_of p w.0.class) w.0) w.3 all.role))
+
+  abbrev IsActive : Type 0
+  IsActive = is_active_kind (kind_of p (Some x)) ≡ true
+
+  -- no other has a price
+  unpriced : (c : Prices) → is_active_kind (kind_of p (Some x)) ≡ false → object_price p c x ≤ 0
+  unpriced c none = go (role_of p x Handles) (role_of p x Error) (λ m e. active_so (kind_of p (Some x)) (shaped Handles m e).1.of) (λ m e. active_so (kind_of p (Some x)) (shaped Error m e).1.of)
+    where
+      go : (a b : Option ℕ) → ((m : ℕ) → a ≡ Some m → IsActive) → ((m : ℕ) → b ≡ Some m → IsActive) → perhaps_price c a + perhaps_price c b ≤ 0
+      go None None runs answers = omega arith
+      go (Some m) b runs answers = let clash : true ≡ false = sym (runs m refl) ∙ none in cc
+      go None (Some m) runs answers = let clash : true ≡ false = sym (answers m refl) ∙ none in cc
+
+  object_declared : (c : Prices) → AffordsObjects p c → object_price p c x ≤ declared_of p (Some x)
+  object_declared c affords = go (is_active_kind (kind_of p (Some x))) refl
+    where
+      go : (b : Bool) → is_active_kind (kind_of p (Some x)) ≡ b → object_price p c x ≤ declared_of p (Some x)
+      go true e = affords.each x e
+      go false e = omega (arith, unpriced c e)
+
+all_declared : (p : Image) (t : Typing) (c : Prices) → IsLinked p → IsAffordable p t c → AffordsObjects p c → (payer : Option ℕ) → price_of p c payer ≤ declared_of p payer
+all_declared p t c linked affords objects None = affords.declared
+all_declared p t c linked affords objects (Some x) = object_declared p linked x c objects
+
+-- a declaration is a number of 32 bits
+declared_fits : (p : Image) → WellFormed p → (payer : Option ℕ) → declared_of p payer < 2 ^ 32
+unfolding kind_of class_at kind_in
+declared_fits p formed None = formed.header.budget
+declared_fits p formed (Some x) = of_class (slice_get p.classes x) refl
+  where
+    of_kind : (d : ClassDecl) → ClassFits (length p.classes) p.header.natives d → (k : ClassKind) → d.kind ≡ k → class_budget (Some k) < 2 ^ 32
+    of_kind d fits (Active provider budget) e = (subst (λ k. KindFits (length p.classes) p.header.natives k) e fits.kind).1
+    of_kind d fits Plain e = omega arith
+    of_kind d fits (Server most session budget) e = omega arith
+    of_kind d fits Session e = omega arith
+
+    of_class : (o : Option ClassDecl) → slice_get p.classes x ≡ o → class_budget (kind_in o) < 2 ^ 32
+    of_class None e = omega arith
+    of_class (Some d) e = of_kind d (all_there (ClassFits (length p.classes) p.header.natives) p.classes x d formed.classes.each e) d.kind refl
 
 -- a price up to a limit that is below the limit is the price
 module _ (limit : ℕ) (p : Image) (t : Typing) (c : Prices) (wired : IsWired p) (are : ArePricesUpTo limit p t c) where
@@ -202,25 +382,49 @@ module _ (limit : ℕ) (p : Image) (t : Typing) (c : Prices) (wired : IsWired p)
   pub affordable_below : p.header.budget < limit → main_price p c ≤ p.header.budget → IsAffordable p t are.whole.prices
   affordable_below below declared = record { priced = are.whole.pays; declared = omega (arith, same_main (omega (arith, below, declared)), declared) }
 
+  same_part : (x : ℕ) (role : Role) → perhaps_price c (role_of p x role) < limit → perhaps_price are.whole.prices (role_of p x role) ≡ perhaps_price c (role_of p x role)
+  same_part x role less = go (role_of p x role) refl less
+    where
+      go : (m : Option ℕ) → role_of p x role ≡ m → perhaps_price c m < limit → perhaps_price are.whole.prices m ≡ perhaps_price c m
+      go None e less = refl
+      go (Some m) e less =
+          let w = role_found p x m role e in
+          omega (arith, are.methods m (subst (λ o. IsSome o) (sym w.1) refl), less)
+
+  pub objects_below : ((x : ℕ) → declared_of p (Some x) < limit) → AffordsObjects p c → AffordsObjects p are.whole.prices
+  objects_below below affords = record {
+    each = λ x active.
+        let most = affords.each x active in
+        let less = below x in
+        omega (arith, same_part x Handles (omega (arith, most, less)), same_part x Error (omega (arith, most, less)), most);
+  }
+
 pub steps_within : StepsWithin
-steps_within = record { price = by_price; each = by_budget; limited = by_limit }
+steps_within = record { price = by_price; main = of_main; each = by_budget; limited = by_limit }
   where
     by_price :
         (p : Image) (t : Typing) (c : Prices) (outside : Outside) → WellFormed p → IsLinked p → IsTyped p t → IsPriced p t c →
-        (lines : List Line) (s : State) (reached : Reaches p outside (boot_state p) lines s) → taken reached ≤ main_price p c
-    by_price p t c outside formed linked typed priced lines s reached = omega (arith, (stays p t c outside (linked_is_wired p formed linked) linked typed priced reached).1)
+        (lines : List Line) (s : State) (reached : Reaches p outside (boot_state p) lines s) → taken reached ≤ price_of p c (payer s.tasks)
+    by_price p t c outside formed linked typed priced lines s reached = omega (arith, stays p t c outside (linked_is_wired p formed linked) linked typed priced reached)
 
-    by_budget : (p : Image) (t : Typing) (c : Prices) (outside : Outside) → WellFormed p → IsLinked p → IsTyped p t → IsAffordable p t c → KeepsBudget p outside
-    by_budget p t c outside formed linked typed affords = record {
+    of_main :
+        (p : Image) (t : Typing) (c : Prices) (outside : Outside) → WellFormed p → IsLinked p → IsTyped p t → IsAffordable p t c →
+        (lines : List Line) (s : State) (reached : Reaches p outside (boot_state p) lines s) → payer s.tasks ≡ None → taken reached ≤ p.header.budget
+    of_main p t c outside formed linked typed affords lines s reached none =
+        omega (arith, by_price p t c outside formed linked typed affords.priced lines s reached, ap (λ x. price_of p c x) none, affords.declared)
+
+    by_budget : (p : Image) (t : Typing) (c : Prices) (outside : Outside) → WellFormed p → IsLinked p → IsTyped p t → IsAffordable p t c → AffordsObjects p c → KeepsBudget p outside
+    by_budget p t c outside formed linked typed affords objects = record {
       within = within;
-      counted = λ lines s reached. omega (arith, within lines s reached, formed.header.budget, steps_are_counted.runs p outside lines s reached);
+      counted = λ lines s reached. omega (arith, within lines s reached, declared_fits p formed (payer s.tasks), steps_are_counted.runs p outside lines s reached);
     }
       where
-        within : (lines : List Line) (s : State) (reached : Reaches p outside (boot_state p) lines s) → taken reached ≤ p.header.budget
-        within lines s reached = omega (arith, by_price p t c outside formed linked typed affords.priced lines s reached, affords.declared)
+        within : (lines : List Line) (s : State) (reached : Reaches p outside (boot_state p) lines s) → taken reached ≤ declared_of p (payer s.tasks)
+        within lines s reached = omega (arith, by_price p t c outside formed linked typed affords.priced lines s reached, all_declared p t c linked affords objects (payer s.tasks))
 
     by_limit :
         (limit : ℕ) (p : Image) (t : Typing) (c : Prices) (outside : Outside) → WellFormed p → IsLinked p → IsTyped p t → ArePricesUpTo limit p t c →
-        p.header.budget < limit → main_price p c ≤ p.header.budget → KeepsBudget p outside
-    by_limit limit p t c outside formed linked typed are below declared =
-        by_budget p t are.whole.prices outside formed linked typed (affordable_below limit p t c (linked_is_wired p formed linked) are below declared)
+        p.header.budget < limit → main_price p c ≤ p.header.budget → ((x : ℕ) → declared_of p (Some x) < limit) → AffordsObjects p c → KeepsBudget p outside
+    by_limit limit p t c outside formed linked typed are below declared objects_low objects =
+        let wired = linked_is_wired p formed linked in
+        by_budget p t are.whole.prices outside formed linked typed (affordable_below limit p t c wired are below declared) (objects_below limit p t c wired are objects_low objects)

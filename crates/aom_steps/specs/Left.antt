@@ -3,12 +3,14 @@ use Rattle.std.specs.Prelude.{ℕ, ◌+◌, ◌-◌, ◌*◌, ◌≤◌, cond, B
 use Rattle.aom_image.specs.Image.{Image}
 use Rattle.aom_image.specs.Views.{method_at}
 use Rattle.aom_image.specs.declared.method.Method.{Method}
+use Rattle.aom_image.specs.declared.method.Role.TheVariants.{Error}
+use Rattle.aom_sound.specs.Enlisted.{part_of}
 use Rattle.aom_sound.specs.Places.{Place, Register, Entry, Field, Going, Elsewhere, Object, Cell}
-use Rattle.aom_sound.specs.State.{Dispatch, Of_main, Main_left, Of_root, Task, Item, An_object, An_operation, A_mark, State}
+use Rattle.aom_sound.specs.State.{Dispatch, Of_main, Main_left, Of_root, Of_object, Object_left, Asks, Answered, Seat, Task, Item, An_object, An_operation, A_mark, State}
 use Rattle.aom_ranks.specs.Within.{loops_worth}
 use Rattle.aom_ranks.specs.Worths.{Worths, tasks_worth, waiting_worth}
 use Rattle.aom_prices.specs.Dispatches.{root_price}
-use Rattle.aom_prices.specs.Prices.{Prices, price}
+use Rattle.aom_prices.specs.Prices.{Prices, perhaps_price, price}
 
 -- the rounds that are left of a loop, but for the one at hand, which its place pays for
 abbrev pub rounds_price : Prices → (m rounds place : ℕ) → ℕ
@@ -22,11 +24,19 @@ rounds_left c m (Some d) counters place = loops_worth d.code (rounds_price c m) 
 abbrev pub method_left : Image → Prices → (m : ℕ) (counters : List ℕ) → (place : ℕ) → ℕ
 method_left p c m counters place = c.from m place + rounds_left c m (method_at p m) counters place
 
--- main's end may begin the root's destruction
+-- the `error` method of an object's class, if it has one
+abbrev pub error_price : Image → Prices → Seat → ℕ
+error_price p c x = perhaps_price c (part_of p Error x.object.thing)
+
+-- main's end may begin the root's destruction; where the method of an object leaves, its `error` method follows. The root's destruction after the dispatch of an object is no part of that dispatch: steps are counted anew, and main's price pays
 abbrev pub end_left : Image → Prices → Dispatch → ℕ
 end_left p c Of_main = root_price c p.header.root
 end_left p c (Main_left code) = 0
 end_left p c Of_root = 0
+end_left p c (Of_object x) = error_price p c x
+end_left p c (Object_left x code) = error_price p c x
+end_left p c (Asks x) = 0
+end_left p c (Answered x answer) = 0
 
 -- the going of a cell is a step; a trap and a leave are none
 abbrev pub left_worths : Image → Prices → Worths

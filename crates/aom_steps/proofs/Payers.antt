@@ -1,0 +1,140 @@
+-- Who pays stays the same while a dispatch goes on, and main pays once the dispatch of an object has ended.
+use Rattle.std.proofs.Common.{◌≡◌, ◌∙◌, ℕ, ℤ, pos, Bool, true, false, cond, List, [], ◌∷◌, Option, Some, None, refl, sym, ap}
+use Rattle.std.specs.Ordering.{int_eq}
+use Rattle.std.specs.Prelude.{is_none}
+use Rattle.aom_image.specs.Image.{Image}
+use Rattle.aom_image.specs.declared.method.Gives.{Gives}
+use Rattle.aom_image.specs.declared.method.Role.TheVariants.{Error}
+use Rattle.aom_classes.specs.Roles.{destructor_of}
+use Rattle.aom_sound.proofs.Moving.{steps_are_moves}
+use Rattle.aom_sound.specs.Calls.{answered_by, returned, told_answer}
+use Rattle.aom_sound.specs.Cleanup.{ended_by, to_trap}
+use Rattle.aom_sound.specs.Counting.{ends_object, restarts}
+use Rattle.aom_sound.specs.Destruction.{begun, begun_by}
+use Rattle.aom_sound.specs.Effects.{Calls, Cancels, Counts, Destroys, Destroys_last, Effect, Goes_on, Jumps, Leaves, Operates, Repeats, Returns, Sets_trap, applied, with_words}
+use Rattle.aom_sound.specs.Enlisted.{ended_cells, part_of}
+use Rattle.aom_sound.specs.Moves.{answered, asking, counted, dispatch_ends, failed, handled, main_ends, object_ends, step}
+use Rattle.aom_sound.specs.Places.{Elsewhere, Object, Root, held}
+use Rattle.aom_sound.specs.State.{Answered, Asks, Choice, Destroy, Dispatch, Dispatched, Frame, Goes, Main_left, Object_left, Of_main, Of_object, Of_root, Run, State, Task, Trapped, Unwind, resumed}
+use Rattle.aom_sound.specs.Steps.{Acts, Arrives, Clears, Comes_out, Ends, IsStill, Move, Rests, Undoes, Vanishes}
+use Rattle.aom_steps.specs.Payers.{payer, payer_of}
+
+-- ---- tasks
+
+trap_payer : (ts : List Task) → payer (to_trap ts) ≡ payer ts
+trap_payer [] = refl
+trap_payer (Run fr ∷ ts) = trap_payer ts
+trap_payer (Trapped ∷ ts) = refl
+trap_payer (Destroy ∷ ts) = refl
+trap_payer (Unwind code ∷ ts) = refl
+trap_payer (Dispatched d ∷ ts) = refl
+
+resumed_payer : (ts : List Task) → payer (resumed ts) ≡ payer ts
+resumed_payer [] = refl
+resumed_payer (Run fr ∷ ts) = refl
+resumed_payer (Trapped ∷ ts) = refl
+resumed_payer (Destroy ∷ ts) = refl
+resumed_payer (Unwind code ∷ ts) = refl
+resumed_payer (Dispatched d ∷ ts) = refl
+
+begun_payer : (p : Image) (o : Object) (height : ℕ) (ts : List Task) → payer (begun p o height ts) ≡ payer ts
+begun_payer p o height ts = go (destructor_of p o.thing)
+  where
+    go : (m : Option ℕ) → payer (begun_by m o height ts) ≡ payer ts
+    go None = refl
+    go (Some m) = refl
+
+ended_payer : (code : ℤ) (d : Dispatch) → payer_of (ended_by code d) ≡ payer_of d
+ended_payer code Of_main = refl
+ended_payer code (Main_left n) = refl
+ended_payer code Of_root = refl
+ended_payer code (Of_object x) = refl
+ended_payer code (Object_left x n) = refl
+ended_payer code (Asks x) = refl
+ended_payer code (Answered x n) = refl
+
+answered_payer : (answer : ℤ) (d : Dispatch) → payer_of (answered_by answer d) ≡ payer_of d
+answered_payer answer Of_main = refl
+answered_payer answer (Main_left n) = refl
+answered_payer answer Of_root = refl
+answered_payer answer (Of_object x) = refl
+answered_payer answer (Object_left x n) = refl
+answered_payer answer (Asks x) = refl
+answered_payer answer (Answered x n) = refl
+
+returned_payer : (p : Image) (fr : Frame) (ts : List Task) (v : State) (g : Gives) (a : ℕ) (below : List Task) → payer v.tasks ≡ payer below → payer (returned p fr ts v g a below).tasks ≡ payer below
+returned_payer p fr ts v g a (Run caller ∷ below) same = refl
+returned_payer p fr ts v g a (Trapped ∷ Run caller ∷ below) same = refl
+returned_payer p fr ts v g a (Trapped ∷ Dispatched d ∷ below) same = refl
+returned_payer p fr ts v g a (Destroy ∷ below) same = refl
+returned_payer p fr ts v g a (Unwind code ∷ below) same = refl
+returned_payer p fr ts v g a (Dispatched d ∷ below) same = answered_payer (told_answer g fr a) d
+returned_payer p fr ts v g a _ same = same
+
+-- ---- effects, and the ends of dispatches
+
+acts_payer : (p : Image) (fr : Frame) (ts : List Task) (v : State) → v.tasks ≡ Run fr ∷ ts → (e : Effect) → payer (applied p fr ts v e).tasks ≡ payer ts
+acts_payer p fr ts v at (Goes_on ch) = refl
+acts_payer p fr ts v at (Jumps to) = refl
+acts_payer p fr ts v at (Counts depth n) = refl
+acts_payer p fr ts v at (Repeats depth n to) = refl
+acts_payer p fr ts v at (Calls target m first) = refl
+acts_payer p fr ts v at (Cancels m) = refl
+acts_payer p fr ts v at (Sets_trap target m first) = refl
+acts_payer p fr ts v at (Returns g a) = returned_payer p fr ts (record v { cells = ended_cells p fr v.cells }) g a ts (ap payer at)
+acts_payer p fr ts v at (Leaves code u) = trap_payer ts
+acts_payer p fr ts v at (Destroys o a words) = begun_payer p o _ (Run (with_words fr words) ∷ ts)
+acts_payer p fr ts v at (Destroys_last o) = begun_payer p o _ (Run fr ∷ ts)
+acts_payer p fr ts v at (Operates m w) = refl
+
+-- main pays for what its end begins
+main_payer : (p : Image) (b : Bool) (o : Option Object) (v : State) → payer (main_ends p b o v).tasks ≡ None
+main_payer p true (Some o) v = begun_payer p o _ (Dispatched Of_root ∷ [])
+main_payer p true None v = refl
+main_payer p false o v = refl
+
+object_payer : (p : Image) (v : State) → payer (object_ends p v).tasks ≡ None
+object_payer p v = main_payer p v.rest.stopped (held v.cells (Elsewhere Root)) (handled v)
+
+answer_payer : (p : Image) (answer : ℤ) (v : State) → payer (answered p answer v).tasks ≡ None
+answer_payer p answer v = go (int_eq answer (pos 0))
+  where
+    go : (b : Bool) → payer (cond b (object_ends p v) (failed answer v)).tasks ≡ None
+    go true = object_payer p v
+    go false = refl
+
+ends_payer : (p : Image) (d : Dispatch) (v : State) → payer (dispatch_ends p d v).tasks ≡ cond (ends_object p d) None (payer_of d)
+ends_payer p Of_main v = main_payer p v.rest.stopped (held v.cells (Elsewhere Root)) v
+ends_payer p (Main_left code) v = refl
+ends_payer p Of_root v = refl
+ends_payer p (Of_object x) v = object_payer p v
+ends_payer p (Asks x) v = object_payer p v
+ends_payer p (Answered x answer) v = answer_payer p answer v
+ends_payer p (Object_left x code) v = go (part_of p Error x.object.thing)
+  where
+    go : (m : Option ℕ) → payer (asking p m x code v).tasks ≡ cond (is_none m) None (payer_of (Object_left x code))
+    go None = answer_payer p code v
+    go (Some m) = refl
+
+-- ---- moves
+
+module _ (p : Image) (ch : Choice) (s : State) where
+  by : (ts : List Task) (u v : State) → s.tasks ≡ ts → u ≡ v → payer v.tasks ≡ cond (restarts p ts) None (payer ts) → payer u.tasks ≡ cond (restarts p s.tasks) None (payer s.tasks)
+  by ts u v at same pays = ap (λ (x : State). payer x.tasks) same ∙ pays ∙ ap (λ l. cond (restarts p l) None (payer l)) (sym at)
+
+  still_payer : (ts : List Task) → IsStill ts → payer ts ≡ cond (restarts p ts) None (payer ts)
+  still_payer [] still = refl
+  still_payer _ still = absurd still
+
+  moved : (u : State) → Move p ch s u → payer u.tasks ≡ cond (restarts p s.tasks) None (payer s.tasks)
+  moved u (Rests still same) = by s.tasks u _ refl same (still_payer s.tasks still)
+  moved u (Acts fr ts i e at there met fits same) = by (Run fr ∷ ts) u _ at same (acts_payer p fr ts (counted p s) at e)
+  moved u (Vanishes ts o at there owns same) = by (Destroy ∷ ts) u _ at same (resumed_payer ts)
+  moved u (Clears code ts items o at top there same) = by (Unwind code ∷ ts) u _ at same (begun_payer p o _ (Unwind code ∷ ts))
+  moved u (Undoes code ts items m x at top same) = by (Unwind code ∷ ts) u _ at same refl
+  moved u (Arrives code fr ts items at top same) = by (Unwind code ∷ Trapped ∷ Run fr ∷ ts) u _ at same refl
+  moved u (Comes_out code d ts items at top same) = by (Unwind code ∷ Trapped ∷ Dispatched d ∷ ts) u _ at same (ended_payer code d)
+  moved u (Ends d ts at same) = by (Dispatched d ∷ ts) u _ at same (ends_payer p d (counted p s))
+
+pub payers : (p : Image) (ch : Choice) (s u : State) → step p ch s ≡ Goes u → payer u.tasks ≡ cond (restarts p s.tasks) None (payer s.tasks)
+payers p ch s u goes = moved p ch s u (steps_are_moves p ch s u goes)
