@@ -20,10 +20,10 @@ use Rattle.aom_shape.specs.declared.kind.Kind.TheVariants.{Maybe, Null, Own, Uns
 use Rattle.aom_sound.proofs.Items.{length_forms}
 use Rattle.aom_sound.proofs.Maps.{held_lives, one_place}
 use Rattle.aom_sound.proofs.Straight.{claim_field}
-use Rattle.aom_sound.specs.Claims.{Dispatching, Dying, Layer, Mark, Mark_form, Method, Object_form, Unwinding, claim, declared, declared_field, entry_claim, entry_form, form, forms, home_claim, items_of, objects, root_claim}
+use Rattle.aom_sound.specs.Claims.{Dispatching, Dying, Layer, Mark, Mark_form, Method, Object_form, Unwinding, claim, declared, declared_field, entry_claim, entry_form, form, forms, home_claim, is_of_root, items_of, objects, root_claim}
 use Rattle.aom_sound.specs.Owned.{over}
 use Rattle.aom_sound.specs.Places.{Cell, Elsewhere, Entry, Field, Object, Place, Register, Root, Sight, held, named, seen}
-use Rattle.aom_sound.specs.State.{An_object, AtRoot, Destroy, Dispatched, Frame, Home, Inside, Item, Main_left, Of_main, Of_root, Run, State, Static, Task, Trapped, Unwind, field_place, thing_holder, word}
+use Rattle.aom_sound.specs.State.{An_object, AtRoot, Destroy, Dispatched, Frame, Home, Inside, Item, Run, State, Static, Task, Trapped, Unwind, field_place, thing_holder, word}
 use Rattle.aom_sound.specs.WellTyped.{Back, Caught, Fits, Gone, IsHoused, Leaves, Now, Returns, Stack, Good}
 use Rattle.aom_sound.proofs.Layers.{method_layer}
 use Rattle.aom_exec.specs.Agreement.{Agreement, AgreesInAll, FieldsAgree, NumberSays, RegistersAgree}
@@ -116,7 +116,7 @@ module _ (p : Image) (t : Typing) (cs : List Cell) (n : ℕ) (o : Option Object)
           inside false e fits = below fits
   field_says x f lives (Mark gv ∷ ls) back st fits = field_says x f lives ls (Caught gv) st.1 fits
   field_says x f lives (Unwinding code es ∷ ls) back st fits = field_says x f lives ls Leaves st.1 fits
-  field_says x f lives (Dispatching d ∷ ls) back st fits =
+  field_says x f lives (Dispatching d seats ∷ ls) back st fits =
       declared_says p (seen cs) (field_thing p (thing_holder x.thing) f) Perhaps n o same
       (subst (λ y. F (declared_field p y f)) lives (subst (λ l. F (claim p (declared p cs) l (Field x.name f))) st.1 fits))
   field_says x f lives (Dying y ∷ ls) back st fits = go (y.name == x.name) (field_says x f lives ls Gone st.2) fits
@@ -136,9 +136,11 @@ module _ (p : Image) (t : Typing) (cs : List Cell) (n : ℕ) (o : Option Object)
   root_says (Mark gv ∷ ls) fits = root_says ls fits
   root_says (Dying y ∷ ls) fits = root_says ls fits
   root_says (Unwinding code es ∷ ls) fits = root_says ls fits
-  root_says (Dispatching Of_main ∷ ls) fits = root_says ls fits
-  root_says (Dispatching (Main_left code) ∷ ls) fits = root_says ls fits
-  root_says (Dispatching Of_root ∷ ls) fits = declared_says p (seen cs) (field_thing p Program 0) Empty n o same (empty_fits p (seen cs) (field_thing p Program 0) o fits)
+  root_says (Dispatching d seats ∷ ls) fits = go (is_of_root d) (root_says ls) fits
+    where
+      go : (b : Bool) → (F (claim p (declared p cs) ls (Elsewhere Root)) → RootDeclared) → F (cond b Null (claim p (declared p cs) ls (Elsewhere Root))) → RootDeclared
+      go true below fits = declared_says p (seen cs) (field_thing p Program 0) Empty n o same (empty_fits p (seen cs) (field_thing p Program 0) o fits)
+      go false below fits = below fits
 
 -- an object's item is claimed to own
 abbrev IsOwn : Kind → Type 0
@@ -187,7 +189,7 @@ module _ (p : Image) (d : Place → Kind) (k : ℕ) where
   entries_own (Method fr sh ∷ ls) e = pushed_own sh.entries ls (entries_own ls) e
   entries_own (Unwinding code es ∷ ls) e = pushed_own es ls (entries_own ls) e
   entries_own (Dying o ∷ ls) e = entries_own ls e
-  entries_own (Dispatching x ∷ ls) e = entries_own ls e
+  entries_own (Dispatching d seats ∷ ls) e = entries_own ls e
   entries_own (Mark gv ∷ ls) e = let below : ClaimedOwn ls = entries_own ls in false_given (λ b. cond b (Some Mark_form) (over (items_of ls) k) ≡ Some Object_form) (length (items_of ls) == k) e (λ e. cc) (λ _ e. below e)
 
 -- ---- all together

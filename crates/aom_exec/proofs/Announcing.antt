@@ -1,26 +1,47 @@
 -- From the first move on main's line is written: a move takes its course, or ends a dispatch, and neither takes that back.
-use Rattle.std.proofs.Common.{Bool, None, Option, Some, ap, false, inl, inr, refl, subst, sym, true, ◌∙◌, ◌≡◌}
+use Rattle.std.proofs.Common.{Bool, None, Option, Some, ap, cond, false, inl, inr, pos, refl, subst, sym, true, ℕ, ℤ, ◌∙◌, ◌≡◌}
+use Rattle.std.specs.Ordering.{int_eq}
 use Rattle.std.specs.Prelude.{◌⊎◌}
 use Rattle.aom_image.specs.Image.{Image}
 use Rattle.aom_sound.proofs.Moving.{steps_are_moves}
 use Rattle.aom_sound.proofs.Resting.{IsEnd, Takes, course_announced, move_rest}
-use Rattle.aom_sound.specs.Moves.{counted, dispatch_ends, main_ends, step}
+use Rattle.aom_image.specs.declared.method.Role.TheVariants.{Error as Answers}
+use Rattle.aom_sound.specs.Enlisted.{part_of}
+use Rattle.aom_sound.specs.Moves.{answered, asking, counted, dispatch_ends, failed, handled, main_ends, object_ends, step}
 use Rattle.aom_sound.specs.Places.{Elsewhere, Object, Root, held}
-use Rattle.aom_sound.specs.State.{Choice, Dispatch, Goes, Main_left, Of_main, Of_root, Rest, State}
+use Rattle.aom_sound.specs.State.{Answered, Asks, Choice, Dispatch, Goes, Main_left, Object_left, Of_main, Of_object, Of_root, Rest, Seat, State}
 
 abbrev IsTold : State → Type 0
 IsTold s = s.rest.announced ≡ true
 
+main_told : (p : Image) (s : State) → IsTold s → (b : Bool) (o : Option Object) → IsTold (main_ends p b o s)
+main_told p s told true (Some o) = told
+main_told p s told true None = told
+main_told p s told false o = told
+
 module _ (p : Image) (s : State) (told : IsTold s) where
-  main_told : (b : Bool) (o : Option Object) → IsTold (main_ends p b o s)
-  main_told true (Some o) = told
-  main_told true None = told
-  main_told false o = told
+  object_told : IsTold (object_ends p s)
+  object_told = main_told p (handled s) told s.rest.stopped (held s.cells (Elsewhere Root))
+
+  answer_told : (answer : ℤ) → IsTold (answered p answer s)
+  answer_told answer = go (int_eq answer (pos 0))
+    where
+      go : (b : Bool) → IsTold (cond b (object_ends p s) (failed answer s))
+      go true = object_told
+      go false = told
+
+  asking_told : (m : Option ℕ) (x : Seat) (code : ℤ) → IsTold (asking p m x code s)
+  asking_told None x code = answer_told code
+  asking_told (Some m) x code = told
 
   end_told : (d : Dispatch) → IsTold (dispatch_ends p d s)
-  end_told Of_main = main_told s.rest.stopped (held s.cells (Elsewhere Root))
+  end_told Of_main = main_told p s told s.rest.stopped (held s.cells (Elsewhere Root))
   end_told (Main_left code) = told
   end_told Of_root = told
+  end_told (Of_object x) = object_told
+  end_told (Object_left x code) = asking_told (part_of p Answers x.object.thing) x code
+  end_told (Asks x) = object_told
+  end_told (Answered x answer) = answer_told answer
 
 pub step_told : (p : Image) (c : Choice) (s u : State) → step p c s ≡ Goes u → u.rest.announced ≡ true
 step_told p c s u e = go (move_rest p c s u (steps_are_moves p c s u e))

@@ -103,7 +103,7 @@ boots p m linked admitted (t, strongest, prices, affordable) depths heights boot
       keeps = λ c s well unused. step_keeps p t w strongest.typed c s well unused;
       prices = prices;
       affordable = affordable;
-      pays = λ c s u well goes n h. moves_pay.within p t prices linked strongest.typed affordable.priced c s u well goes n h;
+      pays = λ c s u well goes n anew h. moves_pay.within p t prices linked strongest.typed affordable.priced c s u well goes n anew h;
     } in
     record {
       typing = t;
@@ -114,5 +114,7 @@ boots p m linked admitted (t, strongest, prices, affordable) depths heights boot
       room = boot_room p t sound;
       waits = none_waits p t;
       within = record { within = omega (arith, (boot_within p prices).within, affordable.declared) };
+      none = refl;
+      asks = tt;
       agrees = boot_agrees p m booted;
     }

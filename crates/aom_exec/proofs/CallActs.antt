@@ -18,7 +18,7 @@ use Rattle.aom_frames.specs.declared.task.Dispatch.{Dispatch as Held_dispatch}
 use Rattle.aom_exec.specs.declared.parts.Parts.{Parts}
 use Rattle.aom_exec.specs.Places.{value_in}
 use Rattle.aom_exec.specs.Agrees.{word_at, Shows, dispatch_of, number, Agrees}
-use Rattle.aom_exec.specs.Acts.{requested, Does}
+use Rattle.aom_exec.specs.Acts.{Does}
 use Rattle.aom_exec.specs.Acts as acts
 use Rattle.aom_exec.proofs.Entries.{mark_shows_none, unmarked}
 use Rattle.aom_exec.proofs.GoingOn.{goes_on_as}
@@ -43,8 +43,8 @@ pub fits_null : (p : Image) (h : Sight) (o : Option Object) → Fits p h o Null 
 fits_null p h o e = fits_unowning p h o Null refl e
 
 pub closing : (p : Image) (t : Typing) (s : State) (d : Dispatch) → WellTyped p t s → s.tasks ≡ Dispatched d ∷ [] → Closing s
-closing p t s d typed e = dispatch_layer (Good p t s.cells) d [] typed.layers (sym typed.tasks ∙ e) typed.good (λ ls _ good.
-    let alone = subst (λ ls. Good p t s.cells (Dispatching d ∷ ls)) good.stack.1 good in
+closing p t s d typed e = dispatch_layer (Good p t s.cells) d [] typed.layers (sym typed.tasks ∙ e) typed.good (λ seats ls _ good.
+    let alone = subst (λ ls. Good p t s.cells (Dispatching d seats ∷ ls)) good.stack.1 good in
     record {
       registers = λ d i. fits_null p (seen s.cells) _ (alone.fits (Register d i));
       entries = λ k. fits_null p (seen s.cells) _ (alone.fits (Entry k));

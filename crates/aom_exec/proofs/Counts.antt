@@ -95,13 +95,13 @@ few_tasks p t cs back [] s = omega arith
 few_tasks p t cs back (Method fr sh ∷ ls) s = let few = few_tasks p t cs (Returns fr.method fr.home) ls s.4 in omega (arith, few)
 few_tasks p t cs back (Mark g ∷ []) s = omega arith
 few_tasks p t cs back (Mark g ∷ Method fr sh ∷ ls) s = let few = few_tasks p t cs (Returns fr.method fr.home) ls s.1.4 in omega (arith, few)
-few_tasks p t cs back (Mark g ∷ Dispatching d ∷ ls) s = subst (λ us. length (tasks_of (Mark g ∷ Dispatching d ∷ us)) ≤ (2 * methods_in (tasks_of (Mark g ∷ Dispatching d ∷ us)) + 2 * unwindings_in (tasks_of (Mark g ∷ Dispatching d ∷ us)) + 2)) (sym s.1.1) (omega arith)
+few_tasks p t cs back (Mark g ∷ Dispatching d seats ∷ ls) s = subst (λ us. length (tasks_of (Mark g ∷ Dispatching d seats ∷ us)) ≤ (2 * methods_in (tasks_of (Mark g ∷ Dispatching d seats ∷ us)) + 2 * unwindings_in (tasks_of (Mark g ∷ Dispatching d seats ∷ us)) + 2)) (sym s.1.1) (omega arith)
 few_tasks p t cs back (Dying o ∷ []) s = omega arith
 few_tasks p t cs back (Dying o ∷ Method fr sh ∷ ls) s = let few = few_tasks p t cs (Returns fr.method fr.home) ls s.2.4 in omega (arith, few)
 few_tasks p t cs back (Dying o ∷ Unwinding code es ∷ ls) s = let few = few_tasks p t cs Leaves ls s.2.1 in omega (arith, few)
-few_tasks p t cs back (Dying o ∷ Dispatching d ∷ ls) s = subst (λ us. length (tasks_of (Dying o ∷ Dispatching d ∷ us)) ≤ (2 * methods_in (tasks_of (Dying o ∷ Dispatching d ∷ us)) + 2 * unwindings_in (tasks_of (Dying o ∷ Dispatching d ∷ us)) + 2)) (sym s.2.1) (omega arith)
+few_tasks p t cs back (Dying o ∷ Dispatching d seats ∷ ls) s = subst (λ us. length (tasks_of (Dying o ∷ Dispatching d seats ∷ us)) ≤ (2 * methods_in (tasks_of (Dying o ∷ Dispatching d seats ∷ us)) + 2 * unwindings_in (tasks_of (Dying o ∷ Dispatching d seats ∷ us)) + 2)) (sym s.2.1) (omega arith)
 few_tasks p t cs back (Unwinding code es ∷ ls) s = let few = few_tasks p t cs Leaves ls s.1 in omega (arith, few)
-few_tasks p t cs back (Dispatching d ∷ ls) s = subst (λ us. length (tasks_of (Dispatching d ∷ us)) ≤ (2 * methods_in (tasks_of (Dispatching d ∷ us)) + 2 * unwindings_in (tasks_of (Dispatching d ∷ us)) + 2)) (sym s.1) (omega arith)
+few_tasks p t cs back (Dispatching d seats ∷ ls) s = subst (λ us. length (tasks_of (Dispatching d seats ∷ us)) ≤ (2 * methods_in (tasks_of (Dispatching d seats ∷ us)) + 2 * unwindings_in (tasks_of (Dispatching d seats ∷ us)) + 2)) (sym s.1) (omega arith)
 few_tasks p t cs back _ s = absurd (assumption tt)
 
 pub tasks_at_hand : (p : Image) (t : Typing) (depths : HasDepths p) (heights : ℕ → ℕ) (s : State) → WellTyped p t s → IsCalm p s.tasks → HasRoom p (at 0 depths.depths) heights s → length s.tasks ≤ 518
@@ -143,10 +143,10 @@ few_marks p t cs back [] s = omega arith
 few_marks p t cs back (Method fr sh ∷ ls) s = let few = few_marks p t cs (Returns fr.method fr.home) ls s.4 in omega (arith, few, no_marks sh.entries (items_of ls))
 few_marks p t cs back (Mark g ∷ []) s = omega arith
 few_marks p t cs back (Mark g ∷ Method fr sh ∷ ls) s = let few = few_marks p t cs (Returns fr.method fr.home) ls s.1.4 in omega (arith, few, no_marks sh.entries (items_of ls))
-few_marks p t cs back (Mark g ∷ Dispatching d ∷ ls) s = subst (λ us. form_marks (items_of (Mark g ∷ Dispatching d ∷ us)) ≤ suc (methods_in (tasks_of (Mark g ∷ Dispatching d ∷ us)))) (sym s.1.1) (omega arith)
+few_marks p t cs back (Mark g ∷ Dispatching d seats ∷ ls) s = subst (λ us. form_marks (items_of (Mark g ∷ Dispatching d seats ∷ us)) ≤ suc (methods_in (tasks_of (Mark g ∷ Dispatching d seats ∷ us)))) (sym s.1.1) (omega arith)
 few_marks p t cs back (Dying o ∷ ls) s = few_marks p t cs Gone ls s.2
 few_marks p t cs back (Unwinding code es ∷ ls) s = let few = few_marks p t cs Leaves ls s.1 in omega (arith, few, no_marks es (items_of ls))
-few_marks p t cs back (Dispatching d ∷ ls) s = subst (λ us. form_marks (items_of (Dispatching d ∷ us)) ≤ suc (methods_in (tasks_of (Dispatching d ∷ us)))) (sym s.1) (omega arith)
+few_marks p t cs back (Dispatching d seats ∷ ls) s = subst (λ us. form_marks (items_of (Dispatching d seats ∷ us)) ≤ suc (methods_in (tasks_of (Dispatching d seats ∷ us)))) (sym s.1) (omega arith)
 few_marks p t cs back _ s = absurd (assumption tt)
 
 -- the marks under the method that runs

@@ -29,7 +29,7 @@ low_stack p t cs back (Method fr sh ∷ ls) n s le =
 low_stack p t cs back (Mark gv ∷ ls) n s le = low_stack p t cs (Caught gv) ls n s.1 (omega (arith, le))
 low_stack p t cs back (Dying o ∷ ls) n s le = low_stack p t cs Gone ls n s.2 le
 low_stack p t cs back (Unwinding code es ∷ ls) n s le = low_stack p t cs Leaves ls n s.1 (omega (arith, length_objects es (items_of ls), le))
-low_stack p t cs back (Dispatching d ∷ ls) n s le = subst (λ us. AllLow n (tasks_of us)) (sym s.1) tt
+low_stack p t cs back (Dispatching d seats ∷ ls) n s le = subst (λ us. AllLow n (tasks_of us)) (sym s.1) tt
 
 -- under a trap the methods began where its mark was not there yet
 abbrev pub LowUnder : ℕ → List Task → Type 0

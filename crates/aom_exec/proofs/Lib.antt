@@ -44,3 +44,5 @@ pub mod Working
 pub mod Many
 pub mod Agreeing
 pub mod Alike
+pub mod Mains
+pub mod Unasked

@@ -52,7 +52,7 @@ waits_alike p = by_tasks (λ ms us. waiting_rank p (map ranked ms) ≡ waiting_r
       trapped = ap (λ k. 1 + k) e;
       destroys = λ x. ap (λ k. 1 + k) e;
       unwinds = λ code c same. ap (λ k. 1 + k) e;
-      ends = λ x d same. ap (λ k. end_rank k + waiting_rank p (map ranked ms)) same ∙ ap (λ k. end_rank d + k) e;
+      ends = λ x d same. ap (λ k. end_rank p k + waiting_rank p (map ranked ms)) same ∙ ap (λ k. end_rank p d + k) e;
     }) m u same)
 
 tasks_alike : (p : Image) (ms : List Held_task) (us : List Task) → SameTasks ms us → tasks_rank p (map ranked ms) ≡ tasks_rank p us

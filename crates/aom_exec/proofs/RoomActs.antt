@@ -275,6 +275,7 @@ module _ (p : Image) (t : Typing) (depth heights : ℕ → ℕ) (tables : Tables
         (popped_top p depth heights cells' s.items (Run caller ∷ below) (low_top (Run caller ∷ below) low) (recelled p depth heights over.cells cells' s.items (Run caller ∷ below) (result_same p fr ts over g a x below (length s.items)) v'))
     return_room g a (Trapped ∷ Dispatched d ∷ below) low v = popped_top p depth heights over.cells s.items (Dispatched d ∷ below) (low_top (Dispatched d ∷ below) low) (recelled p depth heights s.cells over.cells s.items (Dispatched d ∷ below) ended_same v)
     return_room g a (Destroy ∷ below) low v = recelled p depth heights s.cells over.cells s.items (Destroy ∷ below) ended_same v
+    return_room g a (Dispatched d ∷ below) low v = recelled p depth heights s.cells over.cells s.items (Dispatched d ∷ below) ended_same v
     return_room g a (Unwind code ∷ below) low v = recelled p depth heights s.cells over.cells s.items (Unwind code ∷ below) ended_same v
     return_room g a _ low v = recelled p depth heights s.cells over.cells s.items s.tasks ended_same given
 

@@ -29,6 +29,7 @@ use Rattle.aom_sound.specs.World.{boot_state, main_tasks}
 use Rattle.aom_exec.specs.Room.{HasRoom}
 use Rattle.aom_exec.proofs.Depths.{Roomy, on_again, popped, recelled}
 use Rattle.aom_exec.proofs.Heights.{Stands_here, low_unwinding, stands_here}
+use Rattle.aom_exec.proofs.Mains.{AllMains, IsMains}
 use Rattle.aom_exec.proofs.RoomActs.{Tables, acts_room, begins_over, clears, undoes}
 
 module _ (p : Image) (t : Typing) (depth heights : ℕ → ℕ) (tables : Tables p t depth heights) where
@@ -43,16 +44,17 @@ module _ (p : Image) (t : Typing) (depth heights : ℕ → ℕ) (tables : Tables
   told s (A_maybe y) x code fr items ts w = w
   told s (Left y) x code fr items ts w = w
 
-  -- a dispatch ends
-  ends : (s : State) (d : Dispatch) (ts : List Task) → Roomy p depth heights s.cells s.items ts → RoomyState (dispatch_ends p d s)
-  ends s Of_root ts w = (tt, tt, tt, w.3)
-  ends s (Main_left code) ts w = (tt, tt, tt, w.3)
-  ends s Of_main ts w = go s.rest.stopped (held s.cells (Elsewhere Root))
+  -- main's dispatch ends
+  ends : (s : State) (d : Dispatch) (ts : List Task) → IsMains d → Roomy p depth heights s.cells s.items ts → RoomyState (dispatch_ends p d s)
+  ends s Of_root ts mains w = (tt, tt, tt, w.3)
+  ends s (Main_left code) ts mains w = (tt, tt, tt, w.3)
+  ends s Of_main ts mains w = go s.rest.stopped (held s.cells (Elsewhere Root))
     where
       go : (b : Bool) (root : Option Object) → RoomyState (main_ends p b root s)
       go true (Some o) = begins_over p t depth heights tables (moved (Elsewhere Root) (Going 1) s.cells) s.items o (Dispatched Of_root ∷ []) (λ m e. tt) (tt, tt, tt, w.3)
       go true None = (tt, tt, tt, w.3)
       go false root = (tt, tt, tt, w.3)
+  ends s _ ts mains w = absurd mains
 
   -- a method's move
   acts :
@@ -75,32 +77,32 @@ module _ (p : Image) (t : Typing) (depth heights : ℕ → ℕ) (tables : Tables
       Roomy p depth heights s.cells (i ∷ items) (Unwind code ∷ ts)
   with_top code ts i items s room at top = subst (λ is. Roomy p depth heights s.cells is (Unwind code ∷ ts)) top (subst (λ us. Roomy p depth heights s.cells s.items us) at room)
 
-  roomy_moves : IsTyped p t → (c : Choice) (s u : State) → WellTyped p t s → RoomyState s → Move p c s u → RoomyState u
-  roomy_moves typed c s u w room (Rests still same) = subst RoomyState (sym same) room
-  roomy_moves typed c s u w room (Acts fr ts i e at there met fits same) = subst RoomyState (sym same) (acts typed c s w room fr ts i e at there fits)
-  roomy_moves typed c s u w room (Vanishes ts o at there owns same) =
+  roomy_moves : IsTyped p t → (c : Choice) (s u : State) → AllMains s.tasks → WellTyped p t s → RoomyState s → Move p c s u → RoomyState u
+  roomy_moves typed c s u mains w room (Rests still same) = subst RoomyState (sym same) room
+  roomy_moves typed c s u mains w room (Acts fr ts i e at there met fits same) = subst RoomyState (sym same) (acts typed c s w room fr ts i e at there fits)
+  roomy_moves typed c s u mains w room (Vanishes ts o at there owns same) =
       let cells' = without (Going (length ts)) s.cells in
       subst RoomyState (sym same) (on_again p depth heights cells' s.items ts (recelled p depth heights s.cells cells' s.items ts (λ k lt. held_without s.cells (Going (length ts)) _) (subst (λ us. Roomy p depth heights s.cells s.items us) at room)))
-  roomy_moves typed c s u w room (Clears code ts items o at top there same) =
+  roomy_moves typed c s u mains w room (Clears code ts items o at top there same) =
       subst RoomyState (sym same) (clears p t depth heights tables s.cells items o (Unwind code ∷ ts) there (low_unwinding p t s code ts An_object items w at top) (with_top code ts An_object items s room at top))
-  roomy_moves typed c s u w room (Undoes code ts items m x at top same) =
+  roomy_moves typed c s u mains w room (Undoes code ts items m x at top same) =
       subst RoomyState (sym same) (undoes p t depth heights tables s.cells items m x (Unwind code ∷ ts) (subst (λ is. AllUndo p is) top w.undos).0 (low_unwinding p t s code ts (An_operation m x) items w at top) (with_top code ts (An_operation m x) items s room at top))
-  roomy_moves typed c s u w room (Arrives code fr ts items at top same) =
+  roomy_moves typed c s u mains w room (Arrives code fr ts items at top same) =
       let i = instr_at p fr.method fr.place in
       let low = low_unwinding p t s code (Trapped ∷ Run fr ∷ ts) A_mark items w at top in
       subst RoomyState (sym same) (told s (called p i) (result_register i) code fr items ts (popped p depth heights s.cells A_mark items (Run fr ∷ ts) low (with_top code (Trapped ∷ Run fr ∷ ts) A_mark items s room at top)))
-  roomy_moves typed c s u w room (Comes_out code d ts items at top same) =
+  roomy_moves typed c s u mains w room (Comes_out code d ts items at top same) =
       subst RoomyState (sym same) (popped p depth heights s.cells A_mark items (Dispatched d ∷ ts) (low_unwinding p t s code (Trapped ∷ Dispatched d ∷ ts) A_mark items w at top) (with_top code (Trapped ∷ Dispatched d ∷ ts) A_mark items s room at top))
-  roomy_moves typed c s u w room (Ends d ts at same) = subst RoomyState (sym same) (ends (counted p s) d ts (subst (λ us. Roomy p depth heights s.cells s.items us) at room))
+  roomy_moves typed c s u mains w room (Ends d ts at same) = subst RoomyState (sym same) (ends (counted p s) d ts (subst AllMains at mains).0 (subst (λ us. Roomy p depth heights s.cells s.items us) at room))
 
 -- the tables of an accepted image
 pub tables_of : (p : Image) (t : Typing) → IsWired p → IsStrongest p t → (depths : HasDepths p) (heights : HasHeights p) → Tables p t (at 0 depths.depths) (at 0 heights.heights)
 tables_of p t wired strongest depths heights = record { wired = wired; strongest = strongest; less = depths.are.less; own = heights.are.own; under = heights.are.under }
 
 -- each move keeps it
-pub keeps_room : (p : Image) (t : Typing) → IsWired p → IsTyped p t → IsStrongest p t → (depths : HasDepths p) (heights : HasHeights p) (c : Choice) (s u : State) → WellTyped p t s → HasRoom p (at 0 depths.depths) (at 0 heights.heights) s → step p c s ≡ Goes u → HasRoom p (at 0 depths.depths) (at 0 heights.heights) u
-keeps_room p t wired typed strongest depths heights c s u w room e =
-    let after = roomy_moves p t (at 0 depths.depths) (at 0 heights.heights) (tables_of p t wired strongest depths heights) typed c s u w (room.under, room.runs, room.fit, room.entries) (steps_are_moves p c s u e) in
+pub keeps_room : (p : Image) (t : Typing) → IsWired p → IsTyped p t → IsStrongest p t → (depths : HasDepths p) (heights : HasHeights p) (c : Choice) (s u : State) → AllMains s.tasks → WellTyped p t s → HasRoom p (at 0 depths.depths) (at 0 heights.heights) s → step p c s ≡ Goes u → HasRoom p (at 0 depths.depths) (at 0 heights.heights) u
+keeps_room p t wired typed strongest depths heights c s u mains w room e =
+    let after = roomy_moves p t (at 0 depths.depths) (at 0 heights.heights) (tables_of p t wired strongest depths heights) typed c s u mains w (room.under, room.runs, room.fit, room.entries) (steps_are_moves p c s u e) in
     record { under = after.0; runs = after.1; fit = after.2; entries = after.3 }
 
 -- the boot state has it

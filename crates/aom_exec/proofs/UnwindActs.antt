@@ -24,7 +24,7 @@ use Rattle.aom_sound.specs.Claims.{Method, Mark, Unwinding, tasks_of, claim, dec
 use Rattle.aom_sound.specs.Cleanup.{arrival, code_told, dealt_with as deals_with, ended_by, top_is_whole, tops_entry, unwound}
 use Rattle.aom_sound.specs.Laws.{IsWired}
 use Rattle.aom_sound.specs.Places.{Place, Register, changed, held, seen}
-use Rattle.aom_sound.specs.State.{Frame, Dispatch, Of_main, Main_left, Task, Run, Trapped, Unwind, Dispatched, Item, An_object, An_operation, A_mark, State, Goes, IsStuck, NullOrDead, next, set_word, word}
+use Rattle.aom_sound.specs.State.{Frame, Dispatch, Of_main, Main_left, Of_root, Task, Run, Trapped, Unwind, Dispatched, Item, An_object, An_operation, A_mark, State, Goes, IsStuck, NullOrDead, next, set_word, word}
 use Rattle.aom_sound.specs.WellTyped.{Caught, EndsDispatch, Fits, Good, Keeps, WellTyped}
 use Rattle.aom_transcript.specs.declared.line.Line.TheVariants.{Leave}
 use Rattle.aom_sound.proofs.Guarded.{goes_same, guarded_goes, guarded_met}
@@ -52,6 +52,7 @@ use Rattle.aom_exec.proofs.Finding.{held_beneath, unwinds_over, IsTrapOnTop}
 use Rattle.aom_exec.proofs.LeavingActs.{unwinds_value, unwinds_word}
 use Rattle.aom_exec.proofs.Overs.{over_value, over_words}
 use Rattle.aom_exec.proofs.Alike.{A_caught_leave, A_last_leave, Alike, Alike_items, Entries_alike, Tops, alike, both_end, both_marks, both_run, both_trapped, both_unwind, caught_leave_on_top, entries_alike, entries_own, entries_run, items_alike, last_leave_on_top, same_below, tops}
+use Rattle.aom_exec.proofs.Mains.{IsMains, mains}
 use Rattle.aom_exec.proofs.ReturnActs.{awaiting, bears, word_alone}
 use Rattle.aom_exec.proofs.Standing.{an_open, moved_on}
 use Rattle.aom_exec.proofs.Stepping.{at_rest, goes_somewhere, step_of_unwinding, unwinding_of}
@@ -160,15 +161,17 @@ awaited_caught p t s code caller ts typed top some =
     subst (λ us. held s.cells (Register (length us) x) ≡ None) rest none)))
 
 -- main's dispatch alone is left
-left_main : (p : Image) (t : Typing) (s : State) (code : ℤ) (d : Dispatch) (ts : List Task) → WellTyped p t s → s.tasks ≡ Unwind code ∷ Trapped ∷ Dispatched d ∷ ts → d ≡ Of_main
-left_main p t s code d ts typed top =
+left_main : (p : Image) (t : Typing) (s : State) (code : ℤ) (d : Dispatch) (ts : List Task) → IsMains d → WellTyped p t s → s.tasks ≡ Unwind code ∷ Trapped ∷ Dispatched d ∷ ts → d ≡ Of_main
+left_main p t s code d ts mains typed top =
     leave_layer (Good p t s.cells) code (Trapped ∷ Dispatched d ∷ ts) typed.layers (sym typed.tasks ∙ top) typed.good (λ es ls under good.
     mark_layer (λ ls. Good p t s.cells (Unwinding code es ∷ ls)) (Dispatched d ∷ ts) ls under good (λ gv ls under good.
-    dispatch_layer (λ ls. Good p t s.cells (Unwinding code es ∷ Mark gv ∷ ls)) d ts ls under good (λ ls _ good. which d gv good.stack.1.1.0)))
+    dispatch_layer (λ ls. Good p t s.cells (Unwinding code es ∷ Mark gv ∷ ls)) d ts ls under good (λ seats ls _ good. which d gv mains good.stack.1.1.0)))
   where
-    which : (d : Dispatch) (g : Gives) → EndsDispatch p d (Caught g) → d ≡ Of_main
-    which Of_main g e = refl
-    which _ g e = absurd e
+    which : (d : Dispatch) (g : Gives) → IsMains d → EndsDispatch p d (Caught g) → d ≡ Of_main
+    which Of_main g mains e = refl
+    which (Main_left code) g mains e = absurd e
+    which Of_root g mains e = absurd e
+    which _ g mains e = absurd mains
 
 module _ (p : Image) (m : Parts) (s : State) (agrees : Agrees p m s) (es : Held_items) (marked : m.entries ≡ record es { items = Is_mark ∷ es.items }) (g : Held_frame) (ms : List Held_task) (caller : Frame) (ts : List Task) (same_frame : SameFrame g caller) (same_below : SameTasks ms ts) (x : ℕ) (coded : suc x < 16)
     (base : (r : Place) → Shows (value_in (Runs_frame g ∷ ms) m.cells es.items m.root r) (word_at (Run caller ∷ ts) r) (held s.cells r)) where
@@ -308,8 +311,8 @@ module _ (p : Image) (m : Parts) (es : Held_items) (marked : m.entries ≡ recor
 
       go : (us : List Held_task) (code : ℤ) (below : List Task) → s.tasks ≡ Unwind code ∷ below → Tops A_last_leave us → Alike us (Unwind code ∷ below)
           → (ks : List Item) → s.items ≡ A_mark ∷ ks → unwound p code below s (A_mark ∷ ks) ≡ Goes u → Done us code
-      go _ code _ top (last_leave_on_top c y ms) (both_unwind _ _ _ _ same _ (both_trapped _ _ _ (both_end _ d _ ts _ rest _))) ks items e =
-          let main = left_main p h.typing s code d ts h.typed top in
+      go _ code _ top (last_leave_on_top c y ms) (both_unwind _ _ _ _ same _ (both_trapped _ _ _ (both_end _ d _ ts ends rest _))) ks items e =
+          let main = left_main p h.typing s code d ts (mains y d ends) h.typed top in
           let v : State = record s { tasks = Dispatched (Main_left code) ∷ ts; items = ks } in
           let is : v ≡ u = ap (λ x. record s { tasks = Dispatched (ended_by code x) ∷ ts; items = ks }) (sym main) ∙ goes_same (record s { tasks = Dispatched (ended_by code d) ∷ ts; items = ks }) u e in
           let fresh = subst (WellTyped p h.typing) (sym is) typed in

@@ -1,5 +1,5 @@
 -- Each move keeps what the typing says of the methods that wait: what runs over a method leaves its registers alone, and a method begins to wait with its operands moved.
-use Rattle.std.proofs.Common.{Bool, List, None, Option, Some, [], ap, arith, cond, false, length, refl, subst, suc, sym, true, ℕ, ℤ, ◌&&◌, ◌<◌, ◌==◌, ◌∙◌, ◌∷◌, ◌≡◌}
+use Rattle.std.proofs.Common.{Bool, List, None, Option, Some, [], ap, arith, cond, false, length, pos, refl, subst, suc, sym, true, ℕ, ℤ, ◌&&◌, ◌<◌, ◌==◌, ◌∙◌, ◌∷◌, ◌≡◌}
 use Rattle.std.proofs.lemmas.Bool.{eq-eqb, eqb-true, ne_eqb}
 use Rattle.aom_image.specs.Image.{Image}
 use Rattle.aom_image.specs.Views.{arguments_of, instr_at, method_class}
@@ -35,9 +35,9 @@ use Rattle.aom_sound.specs.Cleanup.{to_trap, top_place}
 use Rattle.aom_sound.specs.Destruction.{begun_by}
 use Rattle.aom_classes.specs.Roles.{destructor_of}
 use Rattle.aom_sound.specs.Effects.{Calls, Cancels, Carried, Counts, Destroys, Destroys_last, Effect, Goes_on, In_field, In_register, Jumps, Leaves, Made, Operates, Popped, Pushed, Repeats, Requested, Returns, Sets_trap, Spot, Update, Written, applied, cells_after, deletes, spot_place, with_words}
-use Rattle.aom_sound.specs.Moves.{counted, dispatch_ends, does, main_ends, needs, step}
+use Rattle.aom_sound.specs.Moves.{answered, asking, counted, dispatch_ends, does, failed, handled, main_ends, needs, object_ends, step}
 use Rattle.aom_sound.specs.Places.{Cell, Elsewhere, Entry, Going, Object, Place, Register, Root, Sight, held, moved, same_place, seen, without}
-use Rattle.aom_sound.specs.State.{AtRoot, Choice, Destroy, Dispatch, Dispatched, Frame, Goes, Home, Inside, Main_left, Need, Of_main, Of_root, Run, State, Static, Task, Trapped, Unwind, field_place, guarded, resumed, word}
+use Rattle.aom_sound.specs.State.{Answered, Asks, AtRoot, Choice, Destroy, Dispatch, Dispatched, Frame, Goes, Home, Inside, Main_left, Need, Object_left, Of_main, Of_object, Of_root, Run, Seat, State, Static, Task, Trapped, Unwind, field_place, guarded, resumed, word}
 use Rattle.aom_sound.specs.Steps.{Acts, Arrives, Clears, Comes_out, Ends, Fits as May, Move, Rests, Undoes, Vanishes}
 use Rattle.aom_sound.specs.WellTyped.{Fits, Good, WellTyped, WordFits}
 use Rattle.aom_sound.specs.Words.{here, stored}
@@ -48,7 +48,9 @@ use Rattle.aom_exec.specs.Waits.{AllWait, KindSays, OthersWait, Waits, while_wai
 use Rattle.aom_exec.proofs.Depths.{held_apart}
 use Rattle.aom_exec.proofs.Standing.{no_word}
 use Rattle.aom_exec.proofs.Stepping.{at_step, step_of_instr}
-use Rattle.aom_sound.specs.Enlisted.{begun_cells, cancelling, ended_cells, on_request, own_request}
+use Rattle.std.specs.Ordering.{int_eq}
+use Rattle.aom_image.specs.declared.method.Role.TheVariants.{Error as Answers}
+use Rattle.aom_sound.specs.Enlisted.{begun_cells, cancelling, ended_cells, on_request, own_request, part_of}
 
 -- ---- kinds
 
@@ -271,7 +273,7 @@ module _ (p : Image) (t : Typing) (c : Choice) (s : State) (fr : Frame) (ts : Li
     where
       stays : W over
       stays = subst (OthersWait p t over.cells) (sym at_hand) ended_w
-  returns g a (Dispatched d ∷ below) e = subst (OthersWait p t over.cells) (sym at_hand) ended_w
+  returns g a (Dispatched d ∷ below) e = subst (AllWait p t over.cells) (sym e) ended_w
   returns g a (Trapped ∷ []) e = subst (OthersWait p t over.cells) (sym at_hand) ended_w
   returns g a (Trapped ∷ Trapped ∷ below) e = subst (OthersWait p t over.cells) (sym at_hand) ended_w
   returns g a (Trapped ∷ Destroy ∷ below) e = subst (OthersWait p t over.cells) (sym at_hand) ended_w
@@ -358,15 +360,33 @@ module _ (p : Image) (t : Typing) (c : Choice) (s u : State) (typed : WellTyped 
       (sym (ap (λ x. applied p fr ts mid (deletes fr x a)) some) ∙ sym (ap (λ j. does p c fr ts mid j) is) ∙ guarded_goes (needs p c fr ts mid i) (does p c fr ts mid i) u goes_on)
       wait
 
+  main_wait : (v : State) (b : Bool) (root : Option Object) → V (main_ends p b root v)
+  main_wait v true (Some o) = begun_wait p t _ (destructor_of p o.thing) o _ (Dispatched Of_root ∷ []) tt
+  main_wait v true None = tt
+  main_wait v false root = tt
+
+  object_wait : (v : State) → V (object_ends p v)
+  object_wait v = main_wait (handled v) v.rest.stopped (held v.cells (Elsewhere Root))
+
+  answer_waits : (answer : ℤ) (v : State) → V (answered p answer v)
+  answer_waits answer v = go (int_eq answer (pos 0))
+    where
+      go : (b : Bool) → V (cond b (object_ends p v) (failed answer v))
+      go true = object_wait v
+      go false = tt
+
+  asking_waits : (m : Option ℕ) (x : Seat) (code : ℤ) (v : State) → V (asking p m x code v)
+  asking_waits None x code v = answer_waits code v
+  asking_waits (Some m) x code v = tt
+
   ends : (d : Dispatch) → V (dispatch_ends p d (counted p s))
   ends Of_root = tt
   ends (Main_left code) = tt
-  ends Of_main = go s.rest.stopped (held s.cells (Elsewhere Root))
-    where
-      go : (b : Bool) (root : Option Object) → V (main_ends p b root (counted p s))
-      go true (Some o) = begun_wait p t _ (destructor_of p o.thing) o _ (Dispatched Of_root ∷ []) tt
-      go true None = tt
-      go false root = tt
+  ends Of_main = main_wait (counted p s) s.rest.stopped (held s.cells (Elsewhere Root))
+  ends (Of_object x) = object_wait (counted p s)
+  ends (Object_left x code) = asking_waits (part_of p Answers x.object.thing) x code (counted p s)
+  ends (Asks x) = object_wait (counted p s)
+  ends (Answered x answer) = answer_waits answer (counted p s)
 
   pub keeps_waiting : V u
   keeps_waiting = go (steps_are_moves p c s u goes)

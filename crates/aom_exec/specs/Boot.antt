@@ -20,4 +20,4 @@ pub record Booted (p : Image) (m : Parts) : Type 0 where
   pub cells : m.cells ≡ record { slots = []; limit = p.header.cells }
   pub entries : m.entries ≡ record { items = Mark ∷ []; depth = 1024 }
   pub root : m.root ≡ null
-  pub rest : m.rest ≡ record { clock = 0; requests = 0; steps = 0; announced = false; stopped = false; ended = None }
+  pub rest : m.rest ≡ record { clock = 0; requests = 0; steps = 0; dispatches = 0; announced = false; stopped = false; ended = None }

@@ -15,3 +15,4 @@ pub mod WordMoves
 pub mod Boot
 pub mod Going
 pub mod Cleanup
+pub mod Requests

@@ -7,7 +7,7 @@ ghost use Rattle.aom_exec.specs.Counts.{raised_by};
 use aom_transcript::Ending;
 use std::marker::Model;
 
-/// What no place of the machine tells.
+/// What no place of the machine tells. No object is dispatched yet, so no such dispatch is over.
 #[derive(Drop)]
 pub struct Rest {
     clock: u64,
@@ -23,13 +23,13 @@ impl Model for Rest {
 
     ghost Value = { RestRecord };
 
-    ghost view = { λ r. record { clock = r.clock; requests = r.requests; steps = r.steps; announced = r.announced; stopped = r.stopped; ended = r.ended } };
+    ghost view = { λ r. record { clock = r.clock; requests = r.requests; steps = r.steps; dispatches = 0; announced = r.announced; stopped = r.stopped; ended = r.ended } };
 }
 
 impl Rest {
     /// Time 0, before anything.
     pub fn new() -> Rest
-        ensures { result ≡ record { clock = 0; requests = 0; steps = 0; announced = false; stopped = false; ended = None } }
+        ensures { result ≡ record { clock = 0; requests = 0; steps = 0; dispatches = 0; announced = false; stopped = false; ended = None } }
     {
         Rest {
             clock: 0,

@@ -5,3 +5,4 @@ pub mod Tries
 pub mod Meaning
 pub mod Figuring
 pub mod Graphing
+pub mod Affording

@@ -2,6 +2,7 @@
 use Rattle.std.proofs.Common.{◌≡◌, ◌∙◌, List, ℕ, Ok, true, false, ap, length, refl, sym, subst, inl, inr}
 use Rattle.std.specs.Prelude.{◌⊎◌}
 use Rattle.aom_image.specs.Image.{Image}
+use Rattle.aom_classes.specs.Admitted.{IsAdmitted}
 use Rattle.aom_classes.specs.Linked.{IsLinked}
 use Rattle.aom_rules.specs.Typing.{Typing}
 use Rattle.aom_verify.specs.Strongest.{IsStrongest}
@@ -9,13 +10,14 @@ use Rattle.aom_prices.specs.Dispatches.{IsAffordable}
 use Rattle.aom_prices.specs.Prices.{Prices}
 use Rattle.aom_sound.specs.Laws.{LinkedIsWired}
 use Rattle.aom_transcript.specs.declared.line.Ending.{Ending}
+use Rattle.aom_transcript.specs.declared.line.Ending.TheVariants as endings
 use Rattle.aom_determined.specs.Laws.{TextIsDetermined}
 use Rattle.aom_determined.proofs.Alike.{alike_counted}
 use Rattle.aom_transcript.specs.Text.{transcript}
 use Rattle.aom_ranks.specs.Runs.{TypedRunsWell}
 use Rattle.aom_steps.specs.Laws.{StepsWithin}
 use Rattle.aom_run.specs.declared.outcome.Outcome.{Outcome}
-use Rattle.aom_run.specs.declared.outcome.Outcome.TheVariants.{Stopped, Waiting, MainLeft, WriteFault}
+use Rattle.aom_run.specs.declared.outcome.Outcome.TheVariants.{Stopped, Waiting, MainLeft, Limit, Error, WriteFault}
 use Rattle.aom_run.proofs.Faulting.{IsOfText, is_of_text}
 use Rattle.aom_run.specs.Runs.{after}
 use Rattle.aom_run.specs.Script.{Script, denoted, RefusesOrWants}
@@ -29,6 +31,7 @@ use Rattle.aom_main.specs.declared.faults.Fault.TheVariants as faults
 use Rattle.aom_main.specs.Status.{of_script, of_script_kind, status_of}
 use Rattle.aom_main.specs.Acceptable.{IsSpelled, IsAcceptable, Refuses, RefusesOrWants as RefusesImage}
 use Rattle.aom_main.specs.Headline.{Sent, outside_of, IsSilent, Told, Shows, Accepts, AcceptedAnswers, AllRunWell, CheckAnswers, Ends, ImageWantsMemory, IsOnly, IsRefused, RunAnswers, Runs, Transcribed}
+use Rattle.aom_main.proofs.Affording.{affords}
 use Rattle.aom_main.specs.Explored.{AcceptedExplores, Begun, ExploreAnswers, Explored}
 use Rattle.aom_main.specs.Explored.ExploreBreaks.{script_wants_memory as wants_for_script, machine_wants_memory as wants_for_machine, output_fails as fails}
 use Rattle.aom_main.specs.declared.exploring.Part.{Part}
@@ -38,32 +41,32 @@ use Rattle.aom_main.specs.Headline.RunBreaks.{machine_wants_memory, output_fails
 
 -- what the laws of runs say of an accepted image
 pub all_run_well :
-    (p : Image) → IsLinked p → (t : Typing) × IsStrongest p t × (c : Prices) × IsAffordable p t c →
+    (p : Image) → IsLinked p → IsAdmitted p → (t : Typing) × IsStrongest p t × (c : Prices) × IsAffordable p t c →
     TypedRunsWell → StepsWithin → LinkedIsWired → TextIsDetermined → AllRunWell p
-all_run_well p linked table law steps wired determined =
+all_run_well p linked admitted table law steps wired determined =
     record {
       each = λ bytes spelled outside. law.each p table.0 outside spelled.formed linked table.1.typed;
-      within = λ bytes spelled outside. steps.each p table.0 table.2 outside spelled.formed linked table.1.typed table.3;
+      within = λ bytes spelled outside. steps.each p table.0 table.2 outside spelled.formed linked table.1.typed table.3 (affords p table.2 admitted);
       one = λ bytes spelled outside. determined p table.0 outside (wired p spelled.formed linked) table.1.typed;
     }
 
 -- a run of a linked image that has a typing
-abbrev runs_of : (bytes text : List ℕ) (p : Image) (script : Script) → IsAcceptable p → AllRunWell p → IsSpelled bytes p → denoted text ≡ Ok script → Runs bytes text
-runs_of bytes text p script acceptable well spelled denotes =
+abbrev runs_of : (bytes text : List ℕ) (limit : ℕ) (p : Image) (script : Script) → IsAcceptable p → AllRunWell p → IsSpelled bytes p → denoted text ≡ Ok script → Runs bytes text limit
+runs_of bytes text limit p script acceptable well spelled denotes =
     record {
       image = p;
       spelled = spelled;
       acceptable = acceptable;
       script = script;
       denotes = denotes;
-      well = well.each bytes spelled (outside_of script);
-      within = well.within bytes spelled (outside_of script);
-      determined = well.one bytes spelled (outside_of script);
+      well = well.each bytes spelled (outside_of script limit);
+      within = well.within bytes spelled (outside_of script limit);
+      determined = well.one bytes spelled (outside_of script limit);
     }
 
 -- what went out is what each run that ends has written
-only : (bytes text : List ℕ) (r : Runs bytes text) (ending : Ending) (out : Sent) → Transcribed r.image (outside_of r.script) ending out → IsOnly r.image (outside_of r.script) ending out
-only bytes text r ending out shows lines last other run =
+only : (bytes text : List ℕ) (limit : ℕ) (r : Runs bytes text limit) (ending : Ending) (out : Sent) → Transcribed r.image (outside_of r.script limit) ending out → IsOnly r.image (outside_of r.script limit) ending out
+only bytes text limit r ending out shows lines last other run =
     let same = r.determined.ended shows.lines lines shows.last last ending other shows.run run in (
       sym same.1,
       shows.out
@@ -72,25 +75,27 @@ only bytes text r ending out shows lines last other run =
           ∙ ap (λ n. after out.before (transcript lines other n)) (alike_counted shows.last last same.2),
     )
 
-ran : (bytes text : List ℕ) (r : Runs bytes text) (out errors : Sent) (outcome : Outcome) (status : ExitStatus) → Shows r.image (outside_of r.script) outcome out
-    → Ends outcome status errors → AcceptedAnswers bytes text out errors status
-ran bytes text r out errors Stopped status shows ends = subst (AcceptedAnswers bytes text out errors) (sym ends.0) (r, shows, only bytes text r _ out shows, ends.1)
-ran bytes text r out errors Waiting status shows ends = subst (AcceptedAnswers bytes text out errors) (sym ends.0) (r, shows, only bytes text r _ out shows, ends.1)
-ran bytes text r out errors (MainLeft code) status shows ends = subst (AcceptedAnswers bytes text out errors) (sym ends.0) (r, code, shows, only bytes text r _ out shows, ends.1)
-ran bytes text r out errors WriteFault status shows ends = subst (AcceptedAnswers bytes text out errors) (sym ends.0) (output_fails r shows ends.1)
+ran : (bytes text : List ℕ) (limit : ℕ) (r : Runs bytes text limit) (out errors : Sent) (outcome : Outcome) (status : ExitStatus) → Shows r.image (outside_of r.script limit) outcome out
+    → Ends outcome status errors → AcceptedAnswers bytes text limit out errors status
+ran bytes text limit r out errors Stopped status shows ends = subst (AcceptedAnswers bytes text limit out errors) (sym ends.0) (r, shows, only bytes text limit r _ out shows, ends.1)
+ran bytes text limit r out errors Waiting status shows ends = subst (AcceptedAnswers bytes text limit out errors) (sym ends.0) (r, endings.Waiting, tt, shows, only bytes text limit r _ out shows, ends.1)
+ran bytes text limit r out errors (MainLeft code) status shows ends = subst (AcceptedAnswers bytes text limit out errors) (sym ends.0) (r, endings.MainLeft code, tt, shows, only bytes text limit r _ out shows, ends.1)
+ran bytes text limit r out errors Limit status shows ends = subst (AcceptedAnswers bytes text limit out errors) (sym ends.0) (r, endings.Limit, tt, shows, only bytes text limit r _ out shows, ends.1)
+ran bytes text limit r out errors (Error answer) status shows ends = subst (AcceptedAnswers bytes text limit out errors) (sym ends.0) (r, endings.Error answer, tt, shows, only bytes text limit r _ out shows, ends.1)
+ran bytes text limit r out errors WriteFault status shows ends = subst (AcceptedAnswers bytes text limit out errors) (sym ends.0) (output_fails r shows ends.1)
 
 -- a run of an accepted image under a script ended so
-pub ran_of : (bytes text : List ℕ) (p : Image) (script : Script) → IsAcceptable p → AllRunWell p → IsSpelled bytes p → denoted text ≡ Ok script
-    → (out errors : Sent) (outcome : Outcome) (status : ExitStatus) → Shows p (outside_of script) outcome out → Ends outcome status errors → AcceptedAnswers bytes text out errors status
-ran_of bytes text p script acceptable well spelled denotes out errors outcome status shows ends =
-    ran bytes text (runs_of bytes text p script acceptable well spelled denotes) out errors outcome status shows ends
+pub ran_of : (bytes text : List ℕ) (limit : ℕ) (p : Image) (script : Script) → IsAcceptable p → AllRunWell p → IsSpelled bytes p → denoted text ≡ Ok script
+    → (out errors : Sent) (outcome : Outcome) (status : ExitStatus) → Shows p (outside_of script limit) outcome out → Ends outcome status errors → AcceptedAnswers bytes text limit out errors status
+ran_of bytes text limit p script acceptable well spelled denotes out errors outcome status shows ends =
+    ran bytes text limit (runs_of bytes text limit p script acceptable well spelled denotes) out errors outcome status shows ends
 
 -- no memory was found for its machine, and that is told
-pub unbooted : (bytes text : List ℕ) (p : Image) (script : Script) → IsAcceptable p → AllRunWell p → IsSpelled bytes p → denoted text ≡ Ok script
-    → (fault : Fault) (out errors : Sent) (status : ExitStatus) → fault ≡ faults.Memory → IsSilent out → Told fault status errors → AcceptedAnswers bytes text out errors status
-unbooted bytes text p script acceptable well spelled denotes fault out errors status is silent told =
+pub unbooted : (bytes text : List ℕ) (limit : ℕ) (p : Image) (script : Script) → IsAcceptable p → AllRunWell p → IsSpelled bytes p → denoted text ≡ Ok script
+    → (fault : Fault) (out errors : Sent) (status : ExitStatus) → fault ≡ faults.Memory → IsSilent out → Told fault status errors → AcceptedAnswers bytes text limit out errors status
+unbooted bytes text limit p script acceptable well spelled denotes fault out errors status is silent told =
     let memory : Told faults.Memory status errors = subst (λ f. Told f status errors) is told in
-    subst (AcceptedAnswers bytes text out errors) (sym memory.0) (machine_wants_memory silent (runs_of bytes text p script acceptable well spelled denotes) memory.1)
+    subst (AcceptedAnswers bytes text limit out errors) (sym memory.0) (machine_wants_memory silent (runs_of bytes text limit p script acceptable well spelled denotes) memory.1)
 
 -- ---- a text that is no script
 
@@ -100,47 +105,47 @@ told_so fault kinds.OutOfMemory h = absurd h
 told_so fault kind h = refl
 
 -- what is told of a text that is no script, or that there was no memory for
-pub unscripted : (bytes text : List ℕ) (fault : ScriptFault) (line : Fault) (out errors : Sent) (status : ExitStatus) → Accepts bytes → RefusesOrWants text fault → IsSilent out
-    → line ≡ of_script fault → Told line status errors → AcceptedAnswers bytes text out errors status
-unscripted bytes text fault line out errors status accepts (inl denotes) silent is told =
+pub unscripted : (bytes text : List ℕ) (limit : ℕ) (fault : ScriptFault) (line : Fault) (out errors : Sent) (status : ExitStatus) → Accepts bytes → RefusesOrWants text fault → IsSilent out
+    → line ≡ of_script fault → Told line status errors → AcceptedAnswers bytes text limit out errors status
+unscripted bytes text limit fault line out errors status accepts (inl denotes) silent is told =
     let script : Told (faults.Script fault) status errors = subst (λ f. Told f status errors) (is ∙ told_so fault fault.kind (is_of_text text fault denotes)) told in
-    subst (AcceptedAnswers bytes text out errors) (sym script.0) (record { silent = silent; accepts = accepts; fault = fault; denotes = denotes; tells = script.1 })
-unscripted bytes text fault line out errors status accepts (inr wants) silent is told =
+    subst (AcceptedAnswers bytes text limit out errors) (sym script.0) (record { silent = silent; accepts = accepts; fault = fault; denotes = denotes; tells = script.1 })
+unscripted bytes text limit fault line out errors status accepts (inr wants) silent is told =
     let memory : Told faults.Memory status errors = subst (λ f. Told f status errors) (is ∙ ap (of_script_kind fault) wants.lines.kind) told in
-    subst (AcceptedAnswers bytes text out errors) (sym memory.0) (script_wants_memory silent accepts fault wants memory.1)
+    subst (AcceptedAnswers bytes text limit out errors) (sym memory.0) (script_wants_memory silent accepts fault wants memory.1)
 
 -- ---- runs with one more refusal
 
-module _ (bytes text : List ℕ) (p : Image) (script : Script) (acceptable : IsAcceptable p) (well : AllRunWell p) (spelled : IsSpelled bytes p) (denotes : denoted text ≡ Ok script) (part : Part) (out errors : Sent) where
-  abbrev of_them : Runs bytes text
-  of_them = runs_of bytes text p script acceptable well spelled denotes
+module _ (bytes text : List ℕ) (limit : ℕ) (p : Image) (script : Script) (acceptable : IsAcceptable p) (well : AllRunWell p) (spelled : IsSpelled bytes p) (denotes : denoted text ≡ Ok script) (part : Part) (out errors : Sent) where
+  abbrev of_them : Runs bytes text limit
+  of_them = runs_of bytes text limit p script acceptable well spelled denotes
 
   -- memory was wanting for one of them
-  pub broken_off : (fault : Fault) (status : ExitStatus) → fault ≡ faults.Memory → (count : ℕ) × Begun p script part.first count out → Told fault status errors → AcceptedExplores bytes text part out errors status
+  pub broken_off : (fault : Fault) (status : ExitStatus) → fault ≡ faults.Memory → (count : ℕ) × Begun p script limit part.first count out → Told fault status errors → AcceptedExplores bytes text limit part out errors status
   broken_off fault status is begun told =
       let memory : Told faults.Memory status errors = subst (λ f. Told f status errors) is told in
-      subst (AcceptedExplores bytes text part out errors) (sym memory.0) (wants_for_machine of_them begun.0 begun.1 memory.1)
+      subst (AcceptedExplores bytes text limit part out errors) (sym memory.0) (wants_for_machine of_them begun.0 begun.1 memory.1)
 
   -- the output failed
-  pub cut_off : (status : ExitStatus) → Explored p script part out → out.failed ≡ true → Told faults.Write status errors → AcceptedExplores bytes text part out errors status
-  cut_off status explored failed told = subst (AcceptedExplores bytes text part out errors) (sym told.0) (fails of_them explored failed told.1)
+  pub cut_off : (status : ExitStatus) → Explored p script limit part out → out.failed ≡ true → Told faults.Write status errors → AcceptedExplores bytes text limit part out errors status
+  cut_off status explored failed told = subst (AcceptedExplores bytes text limit part out errors) (sym told.0) (fails of_them explored failed told.1)
 
-  pub explored : Explored p script part out → out.failed ≡ false → IsSilent errors → AcceptedExplores bytes text part out errors statuses.Done
+  pub explored : Explored p script limit part out → out.failed ≡ false → IsSilent errors → AcceptedExplores bytes text limit part out errors statuses.Done
   explored all lives silent = (of_them, all, lives, silent)
 
-pub untried : (bytes text : List ℕ) (part : Part) (fault : ScriptFault) (line : Fault) (out errors : Sent) (status : ExitStatus) → Accepts bytes → RefusesOrWants text fault → IsSilent out
-    → line ≡ of_script fault → Told line status errors → AcceptedExplores bytes text part out errors status
-untried bytes text part fault line out errors status accepts (inl denotes) silent is told =
+pub untried : (bytes text : List ℕ) (limit : ℕ) (part : Part) (fault : ScriptFault) (line : Fault) (out errors : Sent) (status : ExitStatus) → Accepts bytes → RefusesOrWants text fault → IsSilent out
+    → line ≡ of_script fault → Told line status errors → AcceptedExplores bytes text limit part out errors status
+untried bytes text limit part fault line out errors status accepts (inl denotes) silent is told =
     let script : Told (faults.Script fault) status errors = subst (λ f. Told f status errors) (is ∙ told_so fault fault.kind (is_of_text text fault denotes)) told in
-    subst (AcceptedExplores bytes text part out errors) (sym script.0) (record { silent = silent; accepts = accepts; fault = fault; denotes = denotes; tells = script.1 })
-untried bytes text part fault line out errors status accepts (inr wants) silent is told =
+    subst (AcceptedExplores bytes text limit part out errors) (sym script.0) (record { silent = silent; accepts = accepts; fault = fault; denotes = denotes; tells = script.1 })
+untried bytes text limit part fault line out errors status accepts (inr wants) silent is told =
     let memory : Told faults.Memory status errors = subst (λ f. Told f status errors) (is ∙ ap (of_script_kind fault) wants.lines.kind) told in
-    subst (AcceptedExplores bytes text part out errors) (sym memory.0) (wants_for_script silent accepts fault wants memory.1)
+    subst (AcceptedExplores bytes text limit part out errors) (sym memory.0) (wants_for_script silent accepts fault wants memory.1)
 
-pub explores : (bytes text : List ℕ) (part : Part) (out errors : Sent) (status : ExitStatus) → AcceptedExplores bytes text part out errors status → ExploreAnswers bytes text part out errors status
-explores bytes text part out errors statuses.ImageRefused a = absurd a
-explores bytes text part out errors statuses.Fault a = inr a
-explores bytes text part out errors _ a = a
+pub explores : (bytes text : List ℕ) (limit : ℕ) (part : Part) (out errors : Sent) (status : ExitStatus) → AcceptedExplores bytes text limit part out errors status → ExploreAnswers bytes text limit part out errors status
+explores bytes text limit part out errors statuses.ImageRefused a = absurd a
+explores bytes text limit part out errors statuses.Fault a = inr a
+explores bytes text limit part out errors _ a = a
 
 -- ---- bytes that are no accepted image
 
@@ -162,17 +167,17 @@ turned bytes (faults.Budget fault) out errors status refuses complete silent tol
 turned bytes faults.Memory out errors status refuses complete silent told = inr (told.0, record { silent = silent; tells = told.1 })
 turned bytes _ out errors status refuses complete silent told = absurd refuses
 
-to_run : (bytes text : List ℕ) (out errors : Sent) (status : ExitStatus) → Turned bytes out errors status → RunAnswers bytes text out errors status
-to_run bytes text out errors status (inl refused) = subst (RunAnswers bytes text out errors) (sym refused.0) refused.1
-to_run bytes text out errors status (inr wants) = subst (RunAnswers bytes text out errors) (sym wants.0) (inl wants.1)
+to_run : (bytes text : List ℕ) (limit : ℕ) (out errors : Sent) (status : ExitStatus) → Turned bytes out errors status → RunAnswers bytes text limit out errors status
+to_run bytes text limit out errors status (inl refused) = subst (RunAnswers bytes text limit out errors) (sym refused.0) refused.1
+to_run bytes text limit out errors status (inr wants) = subst (RunAnswers bytes text limit out errors) (sym wants.0) (inl wants.1)
 
 to_check : (bytes : List ℕ) (out errors : Sent) (status : ExitStatus) → Turned bytes out errors status → CheckAnswers bytes out errors status
 to_check bytes out errors status (inl refused) = subst (CheckAnswers bytes out errors) (sym refused.0) refused.1
 to_check bytes out errors status (inr wants) = subst (CheckAnswers bytes out errors) (sym wants.0) (inl wants.1)
 
-pub unaccepted : (bytes text : List ℕ) (fault : Fault) (out errors : Sent) (status : ExitStatus) → RefusesImage bytes fault
-    → ((p : Image) → IsSpelled bytes p → IsAcceptable p → fault ≡ faults.Memory) → IsSilent out → Told fault status errors → RunAnswers bytes text out errors status
-unaccepted bytes text fault out errors status refuses complete silent told = to_run bytes text out errors status (turned bytes fault out errors status refuses complete silent told)
+pub unaccepted : (bytes text : List ℕ) (limit : ℕ) (fault : Fault) (out errors : Sent) (status : ExitStatus) → RefusesImage bytes fault
+    → ((p : Image) → IsSpelled bytes p → IsAcceptable p → fault ≡ faults.Memory) → IsSilent out → Told fault status errors → RunAnswers bytes text limit out errors status
+unaccepted bytes text limit fault out errors status refuses complete silent told = to_run bytes text limit out errors status (turned bytes fault out errors status refuses complete silent told)
 
 pub unchecked : (bytes : List ℕ) (fault : Fault) (out errors : Sent) (status : ExitStatus) → RefusesImage bytes fault
     → ((p : Image) → IsSpelled bytes p → IsAcceptable p → fault ≡ faults.Memory) → IsSilent out → Told fault status errors → CheckAnswers bytes out errors status
@@ -181,10 +186,10 @@ unchecked bytes fault out errors status refuses complete silent told = to_check 
 -- ---- an accepted image
 
 -- what is answered of an accepted image is an answer
-pub accepted : (bytes text : List ℕ) (out errors : Sent) (status : ExitStatus) → AcceptedAnswers bytes text out errors status → RunAnswers bytes text out errors status
-accepted bytes text out errors statuses.Done answers = answers
-accepted bytes text out errors statuses.ImageRefused answers = absurd answers
-accepted bytes text out errors statuses.CallRefused answers = answers
-accepted bytes text out errors statuses.Unfinished answers = answers
-accepted bytes text out errors statuses.Broken answers = answers
-accepted bytes text out errors statuses.Fault answers = inr answers
+pub accepted : (bytes text : List ℕ) (limit : ℕ) (out errors : Sent) (status : ExitStatus) → AcceptedAnswers bytes text limit out errors status → RunAnswers bytes text limit out errors status
+accepted bytes text limit out errors statuses.Done answers = answers
+accepted bytes text limit out errors statuses.ImageRefused answers = absurd answers
+accepted bytes text limit out errors statuses.CallRefused answers = answers
+accepted bytes text limit out errors statuses.Unfinished answers = answers
+accepted bytes text limit out errors statuses.Broken answers = answers
+accepted bytes text limit out errors statuses.Fault answers = inr answers

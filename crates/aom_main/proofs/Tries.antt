@@ -8,25 +8,25 @@ use Rattle.aom_main.specs.Explored.{Begun, Tried}
 use Rattle.aom_main.specs.Headline.{Says, Sent}
 
 -- all numbers below that one were tried
-pub record SoFar (p : Image) (script : Script) (first number : ℕ) (sent : Sent) : Type 0 where
+pub record SoFar (p : Image) (script : Script) (limit first number : ℕ) (sent : Sent) : Type 0 where
   pub count : ℕ
   pub reached : first + count ≡ number
-  pub begun : Begun p script first count sent
+  pub begun : Begun p script limit first count sent
 
-pub nothing : (p : Image) (script : Script) (first : ℕ) (sent : Sent) → sent.now ≡ sent.before → Begun p script first 0 sent
-nothing p script first sent same = record {
+pub nothing : (p : Image) (script : Script) (limit first : ℕ) (sent : Sent) → sent.now ≡ sent.before → Begun p script limit first 0 sent
+nothing p script limit first sent same = record {
   text = [];
   tried = refl;
   says = record { count = 0; part = same ∙ after_none sent.before; whole = λ lives. same ∙ after_none sent.before };
 }
 
-pub start : (p : Image) (script : Script) (first : ℕ) (sent : Sent) → sent.now ≡ sent.before → SoFar p script first first sent
-start p script first sent same = record { count = 0; reached = omega arith; begun = nothing p script first sent same }
+pub start : (p : Image) (script : Script) (limit first : ℕ) (sent : Sent) → sent.now ≡ sent.before → SoFar p script limit first first sent
+start p script limit first sent same = record { count = 0; reached = omega arith; begun = nothing p script limit first sent same }
 
 -- one line more
-pub one_more : (p : Image) (script : Script) (first number : ℕ) (mid sent : Sent) (line : List ℕ) → SoFar p script first number mid → mid.failed ≡ false → mid.before ≡ sent.before
-    → Tried p script number line → Says line (record { before = mid.now; now = sent.now; failed = sent.failed }) → SoFar p script first (number + 1) sent
-one_more p script first number mid sent line far lives same tried says =
+pub one_more : (p : Image) (script : Script) (limit first number : ℕ) (mid sent : Sent) (line : List ℕ) → SoFar p script limit first number mid → mid.failed ≡ false → mid.before ≡ sent.before
+    → Tried p script limit number line → Says line (record { before = mid.now; now = sent.now; failed = sent.failed }) → SoFar p script limit first (number + 1) sent
+one_more p script limit first number mid sent line far lives same tried says =
     let text = far.begun.text in
     let out : mid.now ≡ after sent.before text = far.begun.says.whole lives ∙ ap (λ o. after o text) same in
     record {
@@ -44,9 +44,9 @@ one_more p script first number mid sent line far lives same tried says =
     }
 
 -- a line that was not written changes nothing
-pub unwritten : (p : Image) (script : Script) (first number : ℕ) (mid sent : Sent) → SoFar p script first number mid → mid.before ≡ sent.before → mid.now ≡ sent.now → mid.failed ≡ sent.failed
-    → (count : ℕ) × Begun p script first count sent
-unwritten p script first number mid sent far before now failed =
+pub unwritten : (p : Image) (script : Script) (limit first number : ℕ) (mid sent : Sent) → SoFar p script limit first number mid → mid.before ≡ sent.before → mid.now ≡ sent.now → mid.failed ≡ sent.failed
+    → (count : ℕ) × Begun p script limit first count sent
+unwritten p script limit first number mid sent far before now failed =
     let text = far.begun.text in (
       far.count,
       record {

@@ -24,49 +24,49 @@ pub record IsLast (p : Image) (outside : Outside) (last : Last) : Type 0 where
   pub requests : last.requests ≡ state.rest.requests
 
 -- the line of a run in which the request of that number is refused beside those of the script
-pub record Tried (p : Image) (script : Script) (number : ℕ) (line : List ℕ) : Type 0 where
+pub record Tried (p : Image) (script : Script) (limit number : ℕ) (line : List ℕ) : Type 0 where
   pub lines : List Line
   pub state : State
   pub ending : Ending
-  pub run : Run_of p (refusing (script.refused ++ number ∷ [])) lines state ending
+  pub run : Run_of p (refusing (script.refused ++ number ∷ []) limit) lines state ending
   pub is : line ≡ ended (tried_text number ending (length state.cells))
 
 -- one such line for each of so many numbers, from the first on
-abbrev pub EachTried : Image → Script → (first count : ℕ) → List ℕ → Type 0
-EachTried p script first zero text = text ≡ []
-EachTried p script first (suc count) text = (before line : List ℕ) × EachTried p script first count before × Tried p script (first + count) line × (text ≡ before ++ line)
+abbrev pub EachTried : Image → Script → (limit first count : ℕ) → List ℕ → Type 0
+EachTried p script limit first zero text = text ≡ []
+EachTried p script limit first (suc count) text = (before line : List ℕ) × EachTried p script limit first count before × Tried p script limit (first + count) line × (text ≡ before ++ line)
 
 -- so many of them went out, or a beginning of that where the sink has failed
-pub record Begun (p : Image) (script : Script) (first count : ℕ) (sent : Sent) : Type 0 where
+pub record Begun (p : Image) (script : Script) (limit first count : ℕ) (sent : Sent) : Type 0 where
   pub text : List ℕ
-  pub tried : EachTried p script first count text
+  pub tried : EachTried p script limit first count text
   pub says : Says text sent
 
 -- the numbers from the first to the last of a part that the run without further refusals makes
-pub record Explored (p : Image) (script : Script) (part : Part) (sent : Sent) : Type 0 where
+pub record Explored (p : Image) (script : Script) (limit : ℕ) (part : Part) (sent : Sent) : Type 0 where
   pub plain : Last
-  pub is : IsLast p (outside_of script) plain
+  pub is : IsLast p (outside_of script limit) plain
   pub count : ℕ
-  pub begun : Begun p script part.first count sent
+  pub begun : Begun p script limit part.first count sent
   pub all : sent.failed ≡ false → count ≡ suc (min part.last plain.requests) - part.first
 
 -- of an accepted image: memory was wanting for the script, or for one of the machines, or the output failed
-pub data ExploreBreaks (bytes text : List ℕ) (part : Part) (out errors : Sent) : Type 0 where
-  script_wants_memory : IsSilent out → Accepts bytes → (fault : ScriptFault) → WantsMemory text fault → Tells faults.Memory errors → ExploreBreaks bytes text part out errors
-  machine_wants_memory : (r : Runs bytes text) (count : ℕ) → Begun r.image r.script part.first count out → Tells faults.Memory errors → ExploreBreaks bytes text part out errors
-  output_fails : (r : Runs bytes text) → Explored r.image r.script part out → out.failed ≡ true → Tells faults.Write errors → ExploreBreaks bytes text part out errors
+pub data ExploreBreaks (bytes text : List ℕ) (limit : ℕ) (part : Part) (out errors : Sent) : Type 0 where
+  script_wants_memory : IsSilent out → Accepts bytes → (fault : ScriptFault) → WantsMemory text fault → Tells faults.Memory errors → ExploreBreaks bytes text limit part out errors
+  machine_wants_memory : (r : Runs bytes text limit) (count : ℕ) → Begun r.image r.script limit part.first count out → Tells faults.Memory errors → ExploreBreaks bytes text limit part out errors
+  output_fails : (r : Runs bytes text limit) → Explored r.image r.script limit part out → out.failed ≡ true → Tells faults.Write errors → ExploreBreaks bytes text limit part out errors
 
 -- what each status says of a call of `explore` whose image is accepted
-abbrev pub AcceptedExplores : List ℕ → List ℕ → Part → Sent → Sent → ExitStatus → Type 0
-AcceptedExplores bytes text part out errors Done = (r : Runs bytes text) × Explored r.image r.script part out × (out.failed ≡ false) × IsSilent errors
-AcceptedExplores bytes text part out errors CallRefused = IsNoScript bytes text out errors
-AcceptedExplores bytes text part out errors Faulty = ExploreBreaks bytes text part out errors
-AcceptedExplores bytes text part out errors ImageRefused = ⊥
-AcceptedExplores bytes text part out errors Unfinished = ⊥
-AcceptedExplores bytes text part out errors Broken = ⊥
+abbrev pub AcceptedExplores : List ℕ → List ℕ → ℕ → Part → Sent → Sent → ExitStatus → Type 0
+AcceptedExplores bytes text limit part out errors Done = (r : Runs bytes text limit) × Explored r.image r.script limit part out × (out.failed ≡ false) × IsSilent errors
+AcceptedExplores bytes text limit part out errors CallRefused = IsNoScript bytes text out errors
+AcceptedExplores bytes text limit part out errors Faulty = ExploreBreaks bytes text limit part out errors
+AcceptedExplores bytes text limit part out errors ImageRefused = ⊥
+AcceptedExplores bytes text limit part out errors Unfinished = ⊥
+AcceptedExplores bytes text limit part out errors Broken = ⊥
 
 -- and of any call
-abbrev pub ExploreAnswers : List ℕ → List ℕ → Part → Sent → Sent → ExitStatus → Type 0
-ExploreAnswers bytes text part out errors ImageRefused = IsRefused bytes out errors
-ExploreAnswers bytes text part out errors Faulty = ImageWantsMemory out errors ⊎ ExploreBreaks bytes text part out errors
-ExploreAnswers bytes text part out errors status = AcceptedExplores bytes text part out errors status
+abbrev pub ExploreAnswers : List ℕ → List ℕ → ℕ → Part → Sent → Sent → ExitStatus → Type 0
+ExploreAnswers bytes text limit part out errors ImageRefused = IsRefused bytes out errors
+ExploreAnswers bytes text limit part out errors Faulty = ImageWantsMemory out errors ⊎ ExploreBreaks bytes text limit part out errors
+ExploreAnswers bytes text limit part out errors status = AcceptedExplores bytes text limit part out errors status

@@ -1,5 +1,5 @@
 -- What a call promises of its sinks and its status, from bytes to bytes.
-use Rattle.std.specs.Prelude.{ℕ, ℤ, ◌≡◌, ◌⊎◌, Bool, true, false, List, Option, length, take, codes, Ok, Err}
+use Rattle.std.specs.Prelude.{ℕ, ◌≡◌, ◌⊎◌, Bool, true, false, List, Option, length, take, codes, Ok, Err}
 use Rattle.aom_image.specs.Image.{Image}
 use Rattle.aom_sound.specs.State.{State}
 use Rattle.aom_sound.specs.World.{Outside, refusing, Run_of}
@@ -73,6 +73,8 @@ abbrev pub Shows : Image → Outside → Outcome → Sent → Type 0
 Shows p outside outcomes.Stopped out = Transcribed p outside endings.Stopped out
 Shows p outside outcomes.Waiting out = Transcribed p outside endings.Waiting out
 Shows p outside (outcomes.MainLeft code) out = Transcribed p outside (endings.MainLeft code) out
+Shows p outside outcomes.Limit out = Transcribed p outside endings.Limit out
+Shows p outside (outcomes.Error answer) out = Transcribed p outside (endings.Error answer) out
 Shows p outside outcomes.WriteFault out = Cut p outside out
 
 -- the status of a run, and what the errors say of it
@@ -80,6 +82,8 @@ abbrev pub Ends : Outcome → ExitStatus → Sent → Type 0
 Ends outcomes.Stopped status errors = (status ≡ Done) × IsSilent errors
 Ends outcomes.Waiting status errors = (status ≡ Unfinished) × IsSilent errors
 Ends (outcomes.MainLeft code) status errors = (status ≡ Broken) × IsSilent errors
+Ends outcomes.Limit status errors = (status ≡ Unfinished) × IsSilent errors
+Ends (outcomes.Error answer) status errors = (status ≡ Broken) × IsSilent errors
 Ends outcomes.WriteFault status errors = Told faults.Write status errors
 
 -- the bytes are an accepted image
@@ -94,20 +98,20 @@ pub record AllRunWell (p : Image) : Type 0 where
   pub within : (bytes : List ℕ) → IsSpelled bytes p → (outside : Outside) → KeepsBudget p outside
   pub one : (bytes : List ℕ) → IsSpelled bytes p → (outside : Outside) → IsDetermined p outside
 
--- what a script lets come from outside
-abbrev pub outside_of : Script → Outside
-outside_of script = refusing script.refused
+-- what a script lets come from outside, and the limit of the call
+abbrev pub outside_of : Script → (limit : ℕ) → Outside
+outside_of script limit = refusing script.refused limit
 
--- they are, and the text is a script; each run of that image under that script goes well within its declared steps, and none writes anything else than another
-pub record Runs (bytes text : List ℕ) : Type 0 where
+-- they are, and the text is a script; each run of that image under that script and limit goes well within its declared steps, and none writes anything else than another
+pub record Runs (bytes text : List ℕ) (limit : ℕ) : Type 0 where
   pub image : Image
   pub spelled : IsSpelled bytes image
   pub acceptable : IsAcceptable image
   pub script : Script
   pub denotes : denoted text ≡ Ok script
-  pub well : RunsWell image (outside_of script)
-  pub within : KeepsBudget image (outside_of script)
-  pub determined : IsDetermined image (outside_of script)
+  pub well : RunsWell image (outside_of script limit)
+  pub within : KeepsBudget image (outside_of script limit)
+  pub determined : IsDetermined image (outside_of script limit)
 
 -- the bytes are no accepted image, and the errors say why
 pub record IsRefused (bytes : List ℕ) (out errors : Sent) : Type 0 where
@@ -127,19 +131,31 @@ pub record IsNoScript (bytes text : List ℕ) (out errors : Sent) : Type 0 where
   pub tells : Tells (faults.Script fault) errors
 
 -- of an accepted image: memory was wanting before anything went out, for a request that the script refuses or for the machine, or the output failed
-pub data RunBreaks (bytes text : List ℕ) (out errors : Sent) : Type 0 where
-  script_wants_memory : IsSilent out → Accepts bytes → (fault : ScriptFault) → WantsMemory text fault → Tells faults.Memory errors → RunBreaks bytes text out errors
-  machine_wants_memory : IsSilent out → Runs bytes text → Tells faults.Memory errors → RunBreaks bytes text out errors
-  output_fails : (r : Runs bytes text) → Cut r.image (outside_of r.script) out → Tells faults.Write errors → RunBreaks bytes text out errors
+pub data RunBreaks (bytes text : List ℕ) (limit : ℕ) (out errors : Sent) : Type 0 where
+  script_wants_memory : IsSilent out → Accepts bytes → (fault : ScriptFault) → WantsMemory text fault → Tells faults.Memory errors → RunBreaks bytes text limit out errors
+  machine_wants_memory : IsSilent out → Runs bytes text limit → Tells faults.Memory errors → RunBreaks bytes text limit out errors
+  output_fails : (r : Runs bytes text limit) → Cut r.image (outside_of r.script limit) out → Tells faults.Write errors → RunBreaks bytes text limit out errors
+
+-- the run ended before it stopped: for nothing, or at the limit
+abbrev pub IsUnfinished : Ending → Type 0
+IsUnfinished endings.Waiting = Unit {0}
+IsUnfinished endings.Limit = Unit {0}
+IsUnfinished _ = ⊥
+
+-- main left, or a dispatch was left and answered with an error
+abbrev pub IsBroken : Ending → Type 0
+IsBroken (endings.MainLeft code) = Unit {0}
+IsBroken (endings.Error answer) = Unit {0}
+IsBroken _ = ⊥
 
 -- what each status says of a call of `run` whose image is accepted
-abbrev pub AcceptedAnswers : List ℕ → List ℕ → Sent → Sent → ExitStatus → Type 0
-AcceptedAnswers bytes text out errors Done = (r : Runs bytes text) × Transcribed r.image (outside_of r.script) endings.Stopped out × IsOnly r.image (outside_of r.script) endings.Stopped out × IsSilent errors
-AcceptedAnswers bytes text out errors Unfinished = (r : Runs bytes text) × Transcribed r.image (outside_of r.script) endings.Waiting out × IsOnly r.image (outside_of r.script) endings.Waiting out × IsSilent errors
-AcceptedAnswers bytes text out errors Broken = (r : Runs bytes text) × (code : ℤ) × Transcribed r.image (outside_of r.script) (endings.MainLeft code) out × IsOnly r.image (outside_of r.script) (endings.MainLeft code) out × IsSilent errors
-AcceptedAnswers bytes text out errors ImageRefused = ⊥
-AcceptedAnswers bytes text out errors CallRefused = IsNoScript bytes text out errors
-AcceptedAnswers bytes text out errors Faulty = RunBreaks bytes text out errors
+abbrev pub AcceptedAnswers : List ℕ → List ℕ → ℕ → Sent → Sent → ExitStatus → Type 0
+AcceptedAnswers bytes text limit out errors Done = (r : Runs bytes text limit) × Transcribed r.image (outside_of r.script limit) endings.Stopped out × IsOnly r.image (outside_of r.script limit) endings.Stopped out × IsSilent errors
+AcceptedAnswers bytes text limit out errors Unfinished = (r : Runs bytes text limit) × (ending : Ending) × IsUnfinished ending × Transcribed r.image (outside_of r.script limit) ending out × IsOnly r.image (outside_of r.script limit) ending out × IsSilent errors
+AcceptedAnswers bytes text limit out errors Broken = (r : Runs bytes text limit) × (ending : Ending) × IsBroken ending × Transcribed r.image (outside_of r.script limit) ending out × IsOnly r.image (outside_of r.script limit) ending out × IsSilent errors
+AcceptedAnswers bytes text limit out errors ImageRefused = ⊥
+AcceptedAnswers bytes text limit out errors CallRefused = IsNoScript bytes text out errors
+AcceptedAnswers bytes text limit out errors Faulty = RunBreaks bytes text limit out errors
 
 -- memory was wanting on the way to an accepted image, before anything went out. It says nothing of the image
 pub record ImageWantsMemory (out errors : Sent) : Type 0 where
@@ -147,10 +163,10 @@ pub record ImageWantsMemory (out errors : Sent) : Type 0 where
   pub tells : Tells faults.Memory errors
 
 -- what each status says of a call of `run`
-abbrev pub RunAnswers : List ℕ → List ℕ → Sent → Sent → ExitStatus → Type 0
-RunAnswers bytes text out errors ImageRefused = IsRefused bytes out errors
-RunAnswers bytes text out errors Faulty = ImageWantsMemory out errors ⊎ RunBreaks bytes text out errors
-RunAnswers bytes text out errors status = AcceptedAnswers bytes text out errors status
+abbrev pub RunAnswers : List ℕ → List ℕ → ℕ → Sent → Sent → ExitStatus → Type 0
+RunAnswers bytes text limit out errors ImageRefused = IsRefused bytes out errors
+RunAnswers bytes text limit out errors Faulty = ImageWantsMemory out errors ⊎ RunBreaks bytes text limit out errors
+RunAnswers bytes text limit out errors status = AcceptedAnswers bytes text limit out errors status
 
 -- what `check` writes of an accepted image
 abbrev pub accepted_text : List ℕ

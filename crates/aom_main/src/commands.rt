@@ -23,7 +23,7 @@ pub fn run_bytes<W: Sink, E: Sink>(
     errors: &mut E,
 ) -> ExitStatus
     requires limit { (1 ≤ limit) × (limit ≤ 1000000000) }
-    ensures { RunAnswers image.now script.now (record { before = W.out out.old; now = W.out out.new; failed = W.failed out.new }) (record { before = E.out errors.old; now = E.out errors.new; failed = E.failed errors.new }) result }
+    ensures { RunAnswers image.now script.now limit (record { before = W.out out.old; now = W.out out.new; failed = W.failed out.new }) (record { before = E.out errors.old; now = E.out errors.new; failed = E.failed errors.new }) result }
 {
     match accept_bytes(alloc, image) {
         Ok(accepted) => run_text(alloc, &accepted, script, limit, out, errors),
@@ -41,7 +41,7 @@ fn run_text<W: Sink, E: Sink>(
     errors: &mut E,
 ) -> ExitStatus
     requires limit { (1 ≤ limit) × (limit ≤ 1000000000) }
-    ensures { (bytes : List ℕ) → IsSpelled bytes accepted.now → AcceptedAnswers bytes text.now (record { before = W.out out.old; now = W.out out.new; failed = W.failed out.new }) (record { before = E.out errors.old; now = E.out errors.new; failed = E.failed errors.new }) result }
+    ensures { (bytes : List ℕ) → IsSpelled bytes accepted.now → AcceptedAnswers bytes text.now limit (record { before = W.out out.old; now = W.out out.new; failed = W.failed out.new }) (record { before = E.out errors.old; now = E.out errors.new; failed = E.failed errors.new }) result }
 {
     accepted.facts();
     match read_script(alloc, text) {
@@ -60,7 +60,7 @@ fn run_script<W: Sink, E: Sink>(
     errors: &mut E,
 ) -> ExitStatus
     requires limit { (1 ≤ limit) × (limit ≤ 1000000000) }
-    ensures { (bytes text : List ℕ) → IsSpelled bytes accepted.now → denoted text ≡ Ok script.now → AcceptedAnswers bytes text (record { before = W.out out.old; now = W.out out.new; failed = W.failed out.new }) (record { before = E.out errors.old; now = E.out errors.new; failed = E.failed errors.new }) result }
+    ensures { (bytes text : List ℕ) → IsSpelled bytes accepted.now → denoted text ≡ Ok script.now → AcceptedAnswers bytes text limit (record { before = W.out out.old; now = W.out out.new; failed = W.failed out.new }) (record { before = E.out errors.old; now = E.out errors.new; failed = E.failed errors.new }) result }
 {
     accepted.facts();
     runs_well(accepted);
@@ -78,6 +78,8 @@ fn end<E: Sink>(outcome: Outcome, errors: &mut E) -> ExitStatus
         Outcome::Stopped => ExitStatus::Done,
         Outcome::Waiting => ExitStatus::Unfinished,
         Outcome::MainLeft(_) => ExitStatus::Broken,
+        Outcome::Limit => ExitStatus::Unfinished,
+        Outcome::Error(_) => ExitStatus::Broken,
         Outcome::WriteFault => tell(&Fault::Write, errors),
     }
 }

@@ -61,6 +61,8 @@ fn ending_of(outcome: Outcome) -> Ending
         Outcome::Stopped => Ending::Stopped,
         Outcome::Waiting => Ending::Waiting,
         Outcome::MainLeft(code) => Ending::MainLeft(code),
+        Outcome::Limit => Ending::Limit,
+        Outcome::Error(answer) => Ending::Error(answer),
         Outcome::WriteFault => unreachable!(),
     }
 }
@@ -74,7 +76,7 @@ fn last_of(
     limit: u32,
 ) -> Result<Last, Fault>
     requires limit { (1 ≤ limit) × (limit ≤ 1000000000) }
-    ensures ok { IfOk result (λ last. IsLast accepted.now (refusing refused.items) last) }
+    ensures ok { IfOk result (λ last. IsLast accepted.now (refusing refused.items limit) last) }
     ensures err { IfErr result (λ fault. fault ≡ Fault.Memory) }
 {
     let mut turn = Turn::new(alloc, accepted, refused)?;
@@ -97,7 +99,7 @@ fn try_one<W: Sink>(
     out: &mut W,
 ) -> Result<(), Fault>
     requires limit { (1 ≤ limit) × (limit ≤ 1000000000) }
-    ensures ok { IfOk result (λ _. (line : List ℕ) × Tried accepted.now script.now number line × Says line (record { before = W.out out.old; now = W.out out.new; failed = W.failed out.new })) }
+    ensures ok { IfOk result (λ _. (line : List ℕ) × Tried accepted.now script.now limit number line × Says line (record { before = W.out out.old; now = W.out out.new; failed = W.failed out.new })) }
     ensures err { IfErr result (λ fault. (fault ≡ Fault.Memory) × (W.out out.new ≡ W.out out.old) × (W.failed out.new ≡ W.failed out.old)) }
 {
     let mut refused = Vec::from_slice(alloc, script.refused())?;
@@ -122,8 +124,8 @@ fn explore<W: Sink>(
     out: &mut W,
 ) -> Result<(), Fault>
     requires limit { (1 ≤ limit) × (limit ≤ 1000000000) }
-    ensures ok { IfOk result (λ _. Explored accepted.now script.now part (record { before = W.out out.old; now = W.out out.new; failed = W.failed out.new })) }
-    ensures err { IfErr result (λ fault. (fault ≡ Fault.Memory) × ((count : ℕ) × Begun accepted.now script.now part.first count (record { before = W.out out.old; now = W.out out.new; failed = W.failed out.new }))) }
+    ensures ok { IfOk result (λ _. Explored accepted.now script.now limit part (record { before = W.out out.old; now = W.out out.new; failed = W.failed out.new })) }
+    ensures err { IfErr result (λ fault. (fault ≡ Fault.Memory) × ((count : ℕ) × Begun accepted.now script.now limit part.first count (record { before = W.out out.old; now = W.out out.new; failed = W.failed out.new }))) }
 {
     let own = Vec::from_slice(alloc, script.refused())?;
     let plain = last_of(alloc, accepted, script, own, limit)?;
@@ -148,7 +150,7 @@ pub fn explore_bytes<W: Sink, E: Sink>(
     errors: &mut E,
 ) -> ExitStatus
     requires limit { (1 ≤ limit) × (limit ≤ 1000000000) }
-    ensures { ExploreAnswers image.now script.now part (record { before = W.out out.old; now = W.out out.new; failed = W.failed out.new }) (record { before = E.out errors.old; now = E.out errors.new; failed = E.failed errors.new }) result }
+    ensures { ExploreAnswers image.now script.now limit part (record { before = W.out out.old; now = W.out out.new; failed = W.failed out.new }) (record { before = E.out errors.old; now = E.out errors.new; failed = E.failed errors.new }) result }
 {
     match accept_bytes(alloc, image) {
         Ok(accepted) => explore_text(alloc, &accepted, script, limit, part, out, errors),
@@ -167,7 +169,7 @@ fn explore_text<W: Sink, E: Sink>(
     errors: &mut E,
 ) -> ExitStatus
     requires limit { (1 ≤ limit) × (limit ≤ 1000000000) }
-    ensures { (bytes : List ℕ) → IsSpelled bytes accepted.now → AcceptedExplores bytes text.now part (record { before = W.out out.old; now = W.out out.new; failed = W.failed out.new }) (record { before = E.out errors.old; now = E.out errors.new; failed = E.failed errors.new }) result }
+    ensures { (bytes : List ℕ) → IsSpelled bytes accepted.now → AcceptedExplores bytes text.now limit part (record { before = W.out out.old; now = W.out out.new; failed = W.failed out.new }) (record { before = E.out errors.old; now = E.out errors.new; failed = E.failed errors.new }) result }
 {
     accepted.facts();
     match read_script(alloc, text) {
@@ -187,7 +189,7 @@ fn explore_script<W: Sink, E: Sink>(
     errors: &mut E,
 ) -> ExitStatus
     requires limit { (1 ≤ limit) × (limit ≤ 1000000000) }
-    ensures { (bytes text : List ℕ) → IsSpelled bytes accepted.now → denoted text ≡ Ok script.now → AcceptedExplores bytes text part (record { before = W.out out.old; now = W.out out.new; failed = W.failed out.new }) (record { before = E.out errors.old; now = E.out errors.new; failed = E.failed errors.new }) result }
+    ensures { (bytes text : List ℕ) → IsSpelled bytes accepted.now → denoted text ≡ Ok script.now → AcceptedExplores bytes text limit part (record { before = W.out out.old; now = W.out out.new; failed = W.failed out.new }) (record { before = E.out errors.old; now = E.out errors.new; failed = E.failed errors.new }) result }
 {
     accepted.facts();
     runs_well(accepted);

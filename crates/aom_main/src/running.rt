@@ -18,7 +18,7 @@ pub fn run_accepted<W: Sink>(
     out: &mut W,
 ) -> Result<Outcome, Fault>
     requires limit { (1 ≤ limit) × (limit ≤ 1000000000) }
-    ensures ok { IfOk result (λ outcome. Shows accepted.now (outside_of script.now) outcome (record { before = W.out out.old; now = W.out out.new; failed = W.failed out.new })) }
+    ensures ok { IfOk result (λ outcome. Shows accepted.now (outside_of script.now limit) outcome (record { before = W.out out.old; now = W.out out.new; failed = W.failed out.new })) }
     ensures err { IfErr result (λ fault. (fault ≡ Fault.Memory) × (W.out out.new ≡ W.out out.old)) }
 {
     let refused = Vec::from_slice(alloc, script.refused())?;

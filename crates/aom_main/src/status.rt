@@ -10,9 +10,9 @@ pub enum ExitStatus {
     ImageRefused,
     /// The command line, a native's word or the script is refused.
     CallRefused,
-    /// A run has ended before it stopped.
+    /// A run has ended before it stopped: for nothing, or at its limit.
     Unfinished,
-    /// Main has left.
+    /// Main has left, or a dispatch was left and answered with an error.
     Broken,
     /// A file, the output or the memory has failed.
     Fault,

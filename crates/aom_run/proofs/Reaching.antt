@@ -4,7 +4,7 @@ use Rattle.aom_image.proofs.Given.{cons_given}
 use Rattle.aom_image.specs.Image.{Image}
 use Rattle.aom_sound.specs.Moves.{written}
 use Rattle.aom_sound.specs.State.{State}
-use Rattle.aom_sound.specs.World.{Reaches, begins, moves as moved, waits as waited, IsBusy, Outside}
+use Rattle.aom_sound.specs.World.{Reaches, begins, moves as moved, turns, written_turn, IsBusy, Outside}
 use Rattle.aom_transcript.specs.declared.line.Line.{Line}
 use Rattle.aom_lines.specs.Turn.{Turn}
 use Rattle.aom_exec.specs.declared.progress.Progress.{Progress}
@@ -40,7 +40,8 @@ pub reaches_both : (p : Image) (outside : Outside) (b : State) (lines : List Lin
 reaches_both p outside b lines s _ _ r begins = subst (λ ls. Reaches p outside b ls s) (sym (append-nil lines)) r
 reaches_both p outside b lines s _ _ r (moved {lines = more} {s = v} {u = u} c before busy free goes) =
     subst (λ ls. Reaches p outside b ls u) (append_assoc lines more (written p v)) (moved c (reaches_both p outside b lines s more v r before) busy free goes)
-reaches_both p outside b lines s _ _ r (waited {lines = more} {s = v} before between) = waited (reaches_both p outside b lines s more v r before) between
+reaches_both p outside b lines s _ _ r (turns {lines = more} {s = v} {u = u} before between goes) =
+    subst (λ ls. Reaches p outside b ls u) (append_assoc lines more (written_turn outside v)) (turns (reaches_both p outside b lines s more v r before) between goes)
 
 -- the turn is filled, however far the machine has come
 abbrev pub Went : Machine → Turn → Turn → Machine → Type 0

@@ -9,7 +9,7 @@ use Rattle.aom_transcript.specs.declared.line.Ending.TheVariants as endings
 use Rattle.aom_lines.specs.Turn.{Turn}
 use Rattle.aom_transcript.specs.Text.{text_of, transcript}
 use Rattle.aom_run.specs.declared.outcome.Outcome.{Outcome}
-use Rattle.aom_run.specs.declared.outcome.Outcome.TheVariants.{Stopped, Waiting, MainLeft, WriteFault}
+use Rattle.aom_run.specs.declared.outcome.Outcome.TheVariants.{Stopped, Waiting, MainLeft, Limit, Error, WriteFault}
 use Rattle.aom_exec.specs.declared.progress.Progress.{Progress}
 use Rattle.aom_exec.specs.Progress.{progress_of}
 use Rattle.aom_exec.specs.Steps.{Machine, StandsFor}
@@ -65,4 +65,6 @@ abbrev pub Ran : Machine → Outside → Outcome → Bool → Option (List ℕ) 
 Ran old outside Stopped failed before now new = Told old.image outside endings.Stopped before now new
 Ran old outside Waiting failed before now new = Told old.image outside endings.Waiting before now new
 Ran old outside (MainLeft code) failed before now new = Told old.image outside (endings.MainLeft code) before now new
+Ran old outside Limit failed before now new = Told old.image outside endings.Limit before now new
+Ran old outside (Error answer) failed before now new = Told old.image outside (endings.Error answer) before now new
 Ran old outside WriteFault failed before now new = (failed ≡ true) × CutShort old.image outside before now

@@ -10,6 +10,10 @@ pub enum Outcome {
     Waiting,
     /// Main left with that code.
     MainLeft(i32),
+    /// So many dispatches were over as the call allows.
+    Limit,
+    /// A dispatch was left, and that was the answer.
+    Error(i32),
     /// The transcript could not be written.
     WriteFault,
 }
@@ -22,6 +26,8 @@ impl Outcome {
             Ending::Stopped => Outcome::Stopped,
             Ending::Waiting => Outcome::Waiting,
             Ending::MainLeft(code) => Outcome::MainLeft(code),
+            Ending::Limit => Outcome::Limit,
+            Ending::Error(answer) => Outcome::Error(answer),
         }
     }
 }

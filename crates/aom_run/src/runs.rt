@@ -19,7 +19,7 @@ const MANY_LINES: usize = 64;
 /// Runs a fresh machine to its end and writes the transcript, one step after another. It stops where the sink fails.
 /// No other run of its image has another transcript.
 ///
-/// The limit is of dispatches after main's, from 1 to 10^9; so far there is none, and no timed line of a script.
+/// The run ends after so many dispatches of objects, from 1 to 10^9; so far there is none, and no timed line of a script.
 pub fn run<W: Sink>(
     machine: &mut Machine,
     _script: &Script,
@@ -31,8 +31,8 @@ pub fn run<W: Sink>(
     requires room { machine.old.image.header.messages + 80 ≤ turn.old.room }
     requires limit { (1 ≤ _limit) × (_limit ≤ 1000000000) }
     ensures image { machine.new.image ≡ machine.old.image }
-    ensures ran { Ran machine.old (refusing turn.old.refused) result (W.failed out.new) (W.out out.old) (W.out out.new) machine.new }
-    ensures determined { IsDetermined machine.old.image (refusing turn.old.refused) }
+    ensures ran { Ran machine.old (refusing turn.old.refused _limit) result (W.failed out.new) (W.out out.old) (W.out out.new) machine.new }
+    ensures determined { IsDetermined machine.old.image (refusing turn.old.refused _limit) }
 {
     aom_determined::text_is_determined();
     match run_lines(machine, turn, out) {
@@ -41,13 +41,13 @@ pub fn run<W: Sink>(
     }
 }
 
-/// Runs a fresh machine to its end and writes its lines, or gives up where the sink fails.
+/// Runs a fresh machine to its end and writes its lines, or gives up where the sink fails. So it is with each limit.
 fn run_lines<W: Sink>(machine: &mut Machine, turn: &mut Turn, out: &mut W) -> Option<Ending>
     requires fresh { IsFresh machine.old }
     requires room { machine.old.image.header.messages + 80 ≤ turn.old.room }
     ensures image { machine.new.image ≡ machine.old.image }
-    ensures none { IfNone result ((W.failed out.new ≡ true) × CutShort machine.old.image (refusing turn.old.refused) (W.out out.old) (W.out out.new)) }
-    ensures some { IfSome result (λ ending. Ended machine.old.image (refusing turn.old.refused) ending (W.out out.old) (W.out out.new) machine.new) }
+    ensures none { IfNone result ((W.failed out.new ≡ true) × ((limit : ℕ) → 1 ≤ limit → CutShort machine.old.image (refusing turn.old.refused limit) (W.out out.old) (W.out out.new))) }
+    ensures some { IfSome result (λ ending. (limit : ℕ) → 1 ≤ limit → Ended machine.old.image (refusing turn.old.refused limit) ending (W.out out.old) (W.out out.new) machine.new) }
 {
     let mut page = Page::new();
     loop {

@@ -10,3 +10,9 @@ returns-in-Waiting g c = rw c.in-Waiting.is (refl, refl)
 
 pub returns-in-MainLeft : goal.returns-in-MainLeft
 returns-in-MainLeft g c = rw c.in-MainLeft.is (refl, refl)
+
+pub returns-in-Limit : goal.returns-in-Limit
+returns-in-Limit g c = rw c.in-Limit.is (refl, refl)
+
+pub returns-in-Error : goal.returns-in-Error
+returns-in-Error g c = rw c.in-Error.is (refl, refl)

@@ -16,7 +16,7 @@ returns-clause-ok g c =
         lines = last.lines;
         state = last.state;
         ending = end;
-        run = subst (λ (xs : List ℕ). Run_of c.args.accepted.now (refusing xs) last.lines last.state end) items last.run;
+        run = subst (λ (xs : List ℕ). Run_of c.args.accepted.now (refusing xs c.args.limit) last.lines last.state end) items last.run;
         is = line ∙ ap (λ (n : ℕ). ended (tried_text c.args.number end n)) last.cells;
       },
       record { count = c.write_text.ensures.prefix.0; part = c.write_text.ensures.prefix.2; whole = c.write_text.ensures.whole },

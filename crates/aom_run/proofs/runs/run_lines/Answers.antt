@@ -1,5 +1,4 @@
 use Rattle.std.proofs.Common.{◌∙◌, ap, sym, refl, take, arith}
-use Rattle.aom_sound.specs.World.{refusing}
 use Rattle.aom_lines.specs.Turn.{Turn}
 use Rattle.aom_transcript.specs.Text.{text_of}
 use Rattle.aom_run.specs.Runs.{after}
@@ -7,7 +6,7 @@ use Rattle.aom_run.proofs.Running.{starts, next, goes_on, cut, turned, waits, en
 use Rattle.aom_run.proofs.runs.run_lines.Goals as goal
 
 pub loop-page-init : goal.loop-page-init
-loop-page-init g c = record { so_far = starts (refusing c.args.turn.now.refused) _ c.args.machine.now c.requires.fresh; image = refl; refused = refl; room = c.requires.room }
+loop-page-init g c = record { so_far = starts c.args.turn.now.refused _ c.args.machine.now c.requires.fresh; image = refl; refused = refl; room = c.requires.room }
 
 pub returns-then-has_failed-clause-none : goal.returns-then-has_failed-clause-none
 returns-then-has_failed-clause-none g c =

@@ -1,5 +1,5 @@
-use Rattle.std.proofs.Common.{subst}
-use Rattle.aom_exec.specs.Steps.{Machine, SteppedOn}
+use Rattle.std.proofs.Common.{subst, ◌<◌}
+use Rattle.aom_exec.specs.Steps.{Machine, SteppedOn, rank}
 use Rattle.aom_exec.proofs.Many.{stands_on}
 use Rattle.aom_exec.proofs.Agreeing.{agrees_in_all}
 use Rattle.aom_exec.proofs.machine.Machine.step_on.Goals as goal
@@ -16,3 +16,8 @@ returns-clause-steps c =
 
 pub returns-clause-agrees : goal.returns-clause-agrees
 returns-clause-agrees c = agrees_in_all _
+
+pub returns-clause-falls : goal.returns-clause-falls
+returns-clause-falls c = λ running.
+    let lower = subst (λ p. rank (record { image = p; parts = c.step_on.new.self }) < rank (record { image = p; parts = c.self.inside.parts })) c.linked.ensures (c.step_on.ensures.falls running) in
+    subst (λ (m : Machine). rank (record { image = c.self.inside.accepted.now; parts = c.step_on.new.self }) < rank m) c.self.view_is lower
