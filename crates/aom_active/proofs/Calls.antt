@@ -1,0 +1,421 @@
+-- Each call: what the three parts are after it.
+use Rattle.std.proofs.Common.{◌≡◌, ◌<◌, ◌==◌, ℕ, ℤ, pos, negsuc, Bool, true, false, not, cond, List, [], ◌∷◌, Option, Some, None, refl, sym, ap, ◌∙◌, subst}
+use Rattle.std.specs.Prelude.{All, AllPairs, IsNone, is_some}
+use Rattle.std.specs.Ordering.{int_eq}
+use Rattle.std.proofs.lemmas.Bool.{eqb-true, false≢true}
+use Rattle.std.proofs.lemmas.Option.{same_Some}
+use Rattle.std.proofs.lemmas.List.Elements.{All-head, All-tail}
+use Rattle.aom_scheduler.specs.declared.entry.Entry.{Entry}
+use Rattle.aom_requests.specs.Requests.{Table, Changes, holds_signal, is_pending, is_ready, kept_code, pending, request_at, state_at, state_of, taken, with_state, with_status}
+use Rattle.aom_requests.specs.declared.request.State.{State}
+use Rattle.aom_requests.specs.declared.request.State.TheVariants.{Idle as Held_idle, Issued as Held_issued, Active as Held_active, Cancelling as Held_cancelling, Aborted as Held_aborted}
+use Rattle.aom_requests.specs.declared.request.Request.{Request as Held_request}
+use Rattle.aom_requests.specs.declared.request.Request.TheVariants.{Object as Held_object, Server as Held_server}
+use Rattle.aom_scheduler.specs.Order.{placed, without}
+use Rattle.aom_scheduler.specs.Roster.{IsSound, Roster, before, first_ready, marked, place, waiting}
+use Rattle.aom_scheduler.specs.Pending.{AreInOrder, Pending, due_by, due_of, left_by, no_later, timer_of}
+use Rattle.aom_scheduler.specs.declared.timer.Timer.{Timer as Held_timer}
+use Rattle.aom_scheduler.proofs.Items.{AreDistinct, IsAbsent, place-absent}
+use Rattle.aom_image.specs.declared.class.Provider.TheVariants.{Own}
+use Rattle.aom_sound.specs.Enlisted.{aborted, cancelled, cancelling, issued_by, taken_up, timed_out, waits}
+use Rattle.aom_sound.specs.Places.{Request}
+use Rattle.aom_active.specs.Aborts.{aborted_request}
+use Rattle.aom_active.specs.Agrees.{Active, IsWhole, StandsFor, Tells, due_in, may_stand, timer_in}
+use Rattle.aom_active.specs.Meanings.{Completes, Enlists, IsFirstDue, IsFirstReady, IsNewest, IsNewestTimer, Makes, Picks, Removes, Times, asked_anew, enlisted_with, is_being_cancelled, timed_for}
+use Rattle.aom_active.proofs.Firsts.{first_by, left_none, left_some, none_by, picks_first, picks_none, ready_is_some, ready_signals, set_by}
+use Rattle.aom_active.proofs.Halves.{IsKept, Timely, changes_twice, kept_anew, listed_placed, listed_without, timely_kept, timely_placed, timely_without, timer_anew}
+use Rattle.aom_active.proofs.Lists.{id_of, standing}
+use Rattle.aom_active.proofs.Turns.{Enters, Follows, Runs, enters_placed, enters_without, follows_marked, follows_same, no_due_no_timer, no_timer, runs_placed, runs_same, runs_without, stand_anew, tells_anew}
+
+-- ---- requests in the table
+
+-- an object's request in a state
+record IsIn (h : Option Held_request) (s : State) : Type 0 where
+  status : ℤ
+  is : h ≡ Some (Held_object s status)
+
+in_state : (h : Option Held_request) (s : State) → state_of h ≡ Some s → IsIn h s
+in_state None s e = cc
+in_state (Some (Held_object x status)) s e = record { status = status; is = ap (λ y. Some (Held_object y status)) (same_Some x s e) }
+in_state (Some (Held_server b)) s e = cc
+
+-- an object's request in any state
+record IsObject (h : Option Held_request) : Type 0 where
+  state : State
+  in_it : IsIn h state
+
+some_object : (h : Option Held_request) → may_stand h ≡ true → is_some h ≡ true → IsObject h
+some_object None stand some = cc
+some_object (Some (Held_object x status)) stand some = record { state = x; in_it = record { status = status; is = refl } }
+some_object (Some (Held_server b)) stand some = cc
+
+pending_is_some : (h : Option Held_request) → is_pending h ≡ true → is_some h ≡ true
+pending_is_some None e = cc
+pending_is_some (Some h) e = refl
+
+cancelled_is_some : (h : Option Held_request) → is_being_cancelled h ≡ true → is_some h ≡ true
+cancelled_is_some None e = cc
+cancelled_is_some (Some h) e = refl
+
+-- what is being cancelled is not ready
+cancelled_waits : (h : Option Held_request) → is_being_cancelled h ≡ true → is_ready h ≡ false
+cancelled_waits (Some (Held_object Held_cancelling status)) e = refl
+cancelled_waits (Some (Held_object Held_aborted status)) e = refl
+cancelled_waits _ e = cc
+
+-- a request that is completed may stand in any state
+completed_stands : (x : State) (status : ℤ) → int_eq status pending ≡ false → may_stand (Some (Held_object x status)) ≡ true
+completed_stands Held_aborted status over = ap not over
+completed_stands Held_idle status over = refl
+completed_stands Held_issued status over = refl
+completed_stands Held_active status over = refl
+completed_stands Held_cancelling status over = refl
+
+none_of : {A : Type 0} (o : Option A) → is_some o ≡ false → o ≡ None
+none_of None e = refl
+none_of (Some x) e = cc
+
+-- ---- a request that becomes another
+
+pub record Made (old new : Active) (id : ℕ) (f : Request → Request) : Type 0 where
+  pub whole : IsWhole new
+  pub makes : Makes old new id f
+
+whole_from : (a new : Active) (id : ℕ) (q : Option Held_request) → IsWhole a → Changes a.table new.table id q → may_stand q ≡ true → Enters new.table new.roster → Runs new.table new.pending → IsWhole new
+whole_from a new id q w ch stand enters runs = record {
+  places = enters.places;
+  dues = runs.dues;
+  requests = stand_anew a.table new.table id q ch stand w.requests;
+  enlisted = enters.enlisted;
+  marks = enters.marks;
+  waits = runs.waits;
+}
+
+-- what the timers stand for once the request is another
+abbrev Retimes : List Held_timer → List Held_timer → ℕ → (Request → Request) → Type 0
+Retimes ts us id f = (asked : ℕ → Option Request) (r : Request) → asked id ≡ Some r → Timely asked ts → Timely (asked_anew id (Some (f r)) asked) us
+
+made :
+    (a new : Active) (id : ℕ) (q : Option Held_request) (f : Request → Request) → IsWhole a → Changes a.table new.table id q → may_stand q ≡ true →
+    Follows a.roster new.table new.roster → Runs new.table new.pending → Retimes a.pending.timers new.pending.timers id f →
+    ((r : Request) → Tells (request_at a.table id) (Some r) → Tells q (Some (f r))) → ((r : Request) → IsKept (Some r) (Some (f r))) → Made a new id f
+made a new id q f w ch stand follows runs retimes tells kept = record {
+  whole = whole_from a new id q w ch stand follows.enters runs;
+  makes = record { limit = ch.limit; stands = stands };
+}
+  where
+    stands : (asked : ℕ → Option Request) (r : Request) → StandsFor a asked → asked id ≡ Some r → StandsFor new (asked_anew id (Some (f r)) asked)
+    stands asked r s here =
+        let now = asked_anew id (Some (f r)) asked in
+        let l = follows.listed asked now (kept_anew id r (f r) asked here (kept r)) (record { priorities = s.priorities; order = s.order }) in
+        let t = retimes asked r here (record { dues = s.dues; sooner = s.sooner }) in
+        record {
+          tells = tells_anew a.table new.table id q (Some (f r)) asked ch (tells r (subst (Tells (request_at a.table id)) here (s.tells id))) s.tells;
+          priorities = l.priorities;
+          order = l.order;
+          dues = t.dues;
+          sooner = t.sooner;
+        }
+
+retimes_same : (ts : List Held_timer) (id : ℕ) (f : Request → Request) → ((r : Request) → r.timer ≡ (f r).timer) → Retimes ts ts id f
+retimes_same ts id f keeps asked r here t = timely_kept asked (asked_anew id (Some (f r)) asked) ts (timer_anew id r (f r) asked here (keeps r)) t
+
+retimes_none : (ts : List Held_timer) (id : ℕ) (f : Request → Request) → due_of id ts ≡ None → ((r : Request) → (f r).timer ≡ None) → Retimes ts ts id f
+retimes_none ts id f unset loses asked r here t =
+    let none : timer_in (Some r) ≡ None = no_due_no_timer (Some r) (sym unset ∙ t.dues id ∙ ap due_in here) in
+    timely_kept asked (asked_anew id (Some (f r)) asked) ts (timer_anew id r (f r) asked here (none ∙ sym (loses r))) t
+
+retimes_without : (ts : List Held_timer) (id : ℕ) (f : Request → Request) → ((r : Request) → (f r).timer ≡ None) → Retimes ts (without id_of id ts) id f
+retimes_without ts id f loses asked r here t = timely_without asked id (Some (f r)) ts (loses r) t
+
+-- ---- the calls
+
+abbrev parts : Table → Roster → Pending → Active
+parts t r p = record { table = t; roster = r; pending = p }
+
+module _ {old : Active} (a : Active) (same : a ≡ old) (w : IsWhole a) (id : ℕ) where
+  -- what is required of the whole holds of its parts
+  state_here : (s : State) → state_at old.table id ≡ Some s → IsIn (request_at a.table id) s
+  state_here s state = in_state (request_at a.table id) s (ap (λ x. state_at x.table id) same ∙ state)
+
+  marked_as : (t : Table) (r : Roster) (q : Option Held_request) (ready : Bool) → Changes a.table t id q → ready ≡ is_ready (request_at t id) →
+      r ≡ record a.roster { entries = marked id ready a.roster.entries } → is_some (request_at a.table id) ≡ true → is_some q ≡ true → Follows a.roster t r
+  marked_as t r q ready ch ready_is roster_is listed some =
+      subst (λ x. Follows a.roster t x) (sym (roster_is ∙ ap (λ b. record a.roster { entries = marked id b a.roster.entries }) (ready_is ∙ ap is_ready ch.here)))
+      (follows_marked a w t id q ch listed some)
+
+  pub sets_active :
+      (t : Table) (r : Roster) (ready : Bool) → state_at old.table id ≡ Some Held_issued → Changes a.table t id (with_state Held_active (request_at a.table id)) →
+      ready ≡ is_ready (request_at t id) → r ≡ record a.roster { entries = marked id ready a.roster.entries } → Made old (parts t r a.pending) id waits
+  sets_active t r ready state change ready_is roster_is =
+      let o = state_here Held_issued state in
+      let q = Some (Held_object Held_active o.status) in
+      let ch = subst (λ h. Changes a.table t id (with_state Held_active h)) o.is change in
+      subst (λ x. Made x (parts t r a.pending) id waits) same
+      (made a (parts t r a.pending) id q waits w ch refl (marked_as t r q ready ch ready_is roster_is (ap is_some o.is) refl)
+      (runs_same a w t id q ch (λ e. sym (ap is_pending o.is) ∙ e)) (retimes_same a.pending.timers id waits (λ x. refl))
+      (λ x e. let told : Tells (Some (Held_object Held_issued o.status)) (Some x) = subst (λ h. Tells h (Some x)) o.is e in (refl, told.1)) (λ x. (refl, refl)))
+
+  pub begins_cancel :
+      (t : Table) (r : Roster) → state_at old.table id ≡ Some Held_active → Changes a.table t id (with_state Held_cancelling (request_at a.table id)) →
+      r ≡ record a.roster { entries = marked id false a.roster.entries } → Made old (parts t r a.pending) id cancelling
+  begins_cancel t r state change roster_is =
+      let o = state_here Held_active state in
+      let q = Some (Held_object Held_cancelling o.status) in
+      let ch = subst (λ h. Changes a.table t id (with_state Held_cancelling h)) o.is change in
+      subst (λ x. Made x (parts t r a.pending) id cancelling) same
+      (made a (parts t r a.pending) id q cancelling w ch refl (marked_as t r q false ch (sym (ap is_ready ch.here)) roster_is (ap is_some o.is) refl)
+      (runs_same a w t id q ch (λ e. sym (ap is_pending o.is) ∙ e)) (retimes_same a.pending.timers id cancelling (λ x. refl))
+      (λ x e. let told : Tells (Some (Held_object Held_active o.status)) (Some x) = subst (λ h. Tells h (Some x)) o.is e in (refl, told.1)) (λ x. (refl, refl)))
+
+  pub issues_own :
+      (s t : Table) (code given : ℤ) → given ≡ code → state_at old.table id ≡ Some Held_idle → Changes a.table s id (Some (Held_object Held_issued pending)) →
+      Changes s t id (with_status (kept_code given) (request_at s id)) → Made old (parts t a.roster a.pending) id (issued_by Own 0 0 code)
+  issues_own s t code given given_is state first second =
+      let o = state_here Held_idle state in
+      let q = Some (Held_object Held_issued (kept_code code)) in
+      let over : is_pending (request_at a.table id) ≡ false = ap is_pending o.is in
+      let ch = changes_twice a.table s t id (Some (Held_object Held_issued pending)) q first (subst (λ k. Changes s t id (with_status (kept_code k) (Some (Held_object Held_issued pending)))) given_is (subst (λ h. Changes s t id (with_status (kept_code given) h)) first.here second)) in
+      subst (λ x. Made x (parts t a.roster a.pending) id (issued_by Own 0 0 code)) same
+      (made a (parts t a.roster a.pending) id q (issued_by Own 0 0 code) w ch refl (follows_same a w t id q ch (ap is_some o.is) refl (sym (ap is_ready o.is)))
+      (runs_same a w t id q ch (λ e. absurd (false≢true (sym over ∙ e)))) (retimes_none a.pending.timers id (issued_by Own 0 0 code) (no_timer a w t id q ch over) (λ x. refl))
+      (λ x e. (refl, refl)) (λ x. (refl, refl)))
+
+  pub ends_cancel :
+      (t : Table) → is_being_cancelled (request_at old.table id) ≡ true → is_pending (request_at old.table id) ≡ false →
+      Changes a.table t id (taken (request_at a.table id)) → Made old (parts t a.roster a.pending) id cancelled
+  ends_cancel t being completed change =
+      let being_here : is_being_cancelled (request_at a.table id) ≡ true = ap (λ x. is_being_cancelled (request_at x.table id)) same ∙ being in
+      let over : is_pending (request_at a.table id) ≡ false = ap (λ x. is_pending (request_at x.table id)) same ∙ completed in
+      let o = some_object (request_at a.table id) (w.requests id) (cancelled_is_some (request_at a.table id) being_here) in
+      let q = Some (Held_object Held_idle o.in_it.status) in
+      let ch = subst (λ h. Changes a.table t id (taken h)) o.in_it.is change in
+      subst (λ x. Made x (parts t a.roster a.pending) id cancelled) same
+      (made a (parts t a.roster a.pending) id q cancelled w ch refl (follows_same a w t id q ch (ap is_some o.in_it.is) refl (sym (cancelled_waits (request_at a.table id) being_here)))
+      (runs_same a w t id q ch (λ e. absurd (false≢true (sym over ∙ e)))) (retimes_same a.pending.timers id cancelled (λ x. refl))
+      (λ x e. let told : Tells (Some (Held_object o.state o.in_it.status)) (Some x) = subst (λ h. Tells h (Some x)) o.in_it.is e in (refl, told.1)) (λ x. (refl, refl)))
+
+  pub aborts :
+      (t : Table) (p : Pending) → is_being_cancelled (request_at old.table id) ≡ true → Changes a.table t id (aborted_request (request_at a.table id)) →
+      p ≡ record a.pending { timers = without id_of id a.pending.timers } → Made old (parts t a.roster p) id aborted
+  aborts t p being change pending_is =
+      let being_here : is_being_cancelled (request_at a.table id) ≡ true = ap (λ x. is_being_cancelled (request_at x.table id)) same ∙ being in
+      let o = some_object (request_at a.table id) (w.requests id) (cancelled_is_some (request_at a.table id) being_here) in
+      let code = cond (int_eq o.in_it.status pending) (negsuc 2) o.in_it.status in
+      let q = Some (Held_object Held_aborted code) in
+      let ch = subst (λ h. Changes a.table t id (aborted_request h)) o.in_it.is change in
+      let timers = record a.pending { timers = without id_of id a.pending.timers } in
+      subst (λ x. Made x (parts t a.roster p) id aborted) same
+      (subst (λ y. Made a (parts t a.roster y) id aborted) (sym pending_is)
+      (made a (parts t a.roster timers) id q aborted w ch (answered o.in_it.status (int_eq o.in_it.status pending) refl)
+      (follows_same a w t id q ch (ap is_some o.in_it.is) refl (sym (cancelled_waits (request_at a.table id) being_here)))
+      (runs_without a w t id q ch) (retimes_without a.pending.timers id aborted (λ x. refl))
+      (λ x e. let told : Tells (Some (Held_object o.state o.in_it.status)) (Some x) = subst (λ h. Tells h (Some x)) o.in_it.is e in (refl, ap (λ v. cond (int_eq v pending) (negsuc 2) v) told.1))
+      (λ x. (refl, refl))))
+    where
+      answered : (status : ℤ) (b : Bool) → int_eq status pending ≡ b → not (int_eq (cond b (negsuc 2) status) pending) ≡ true
+      answered status true e = refl
+      answered status false e = ap not e
+
+  pub times_out :
+      (now : ℕ) (t : Table) (r : Roster) (p : Pending) (ready : Bool) → AreInOrder old.pending → due_by now a.pending.timers ≡ Some id →
+      Changes a.table t id (with_status (pos 0) (request_at a.table id)) → ready ≡ is_ready (request_at t id) → r ≡ record a.roster { entries = marked id ready a.roster.entries } →
+      p ≡ record a.pending { timers = left_by now a.pending.timers } → Made old (parts t r p) id timed_out
+  times_out now t r p ready ordered due change ready_is roster_is pending_is =
+      let listed = pending_is_some (request_at a.table id) (w.waits id (set_by now id a.pending.timers due)) in
+      let o = some_object (request_at a.table id) (w.requests id) listed in
+      let q = Some (Held_object o.state (pos 0)) in
+      let ch = subst (λ h. Changes a.table t id (with_status (pos 0) h)) o.in_it.is change in
+      let timers = record a.pending { timers = without id_of id a.pending.timers } in
+      let left = pending_is ∙ ap (λ ts. record a.pending { timers = ts }) (left_some now id a.pending.timers (subst (λ x. AreDistinct id_of x.pending.timers) (sym same) ordered.distinct) due) in
+      subst (λ x. Made x (parts t r p) id timed_out) same
+      (subst (λ y. Made a (parts t r y) id timed_out) (sym left)
+      (made a (parts t r timers) id q timed_out w ch (completed_stands o.state (pos 0) refl) (marked_as t r q ready ch ready_is roster_is listed refl)
+      (runs_without a w t id q ch) (retimes_without a.pending.timers id timed_out (λ x. refl))
+      (λ x e. let told : Tells (Some (Held_object o.state o.in_it.status)) (Some x) = subst (λ h. Tells h (Some x)) o.in_it.is e in (told.0, refl)) (λ x. (refl, refl))))
+
+  -- the first that is ready holds a signal, and is enlisted
+  pub pick_is_ready : first_ready a.roster.entries ≡ Some id → is_ready (request_at a.table id) ≡ true
+  pick_is_ready e = entry_ready a.roster.entries w.marks e
+    where
+      entry_ready : (es : List Entry) → All (λ e. e.is_ready ≡ is_ready (request_at a.table e.id)) es → first_ready es ≡ Some id → is_ready (request_at a.table id) ≡ true
+      entry_ready [] marks e = cc
+      entry_ready (x ∷ xs) marks e = go x.is_ready refl e (λ f. entry_ready xs (All-tail (λ e. e.is_ready ≡ is_ready (request_at a.table e.id)) x xs marks) f)
+        where
+          go : (b : Bool) → x.is_ready ≡ b → cond b (Some x.id) (first_ready xs) ≡ Some id → (first_ready xs ≡ Some id → is_ready (request_at a.table id) ≡ true) → is_ready (request_at a.table id) ≡ true
+          go true ready e rest = ap (λ k. is_ready (request_at a.table k)) (sym (same_Some x.id id e)) ∙ sym (All-head (λ e. e.is_ready ≡ is_ready (request_at a.table e.id)) x xs marks) ∙ ready
+          go false waits e rest = rest e
+
+  pub pick_signals : first_ready a.roster.entries ≡ Some id → holds_signal (request_at a.table id) ≡ true
+  pick_signals e = ready_signals (request_at a.table id) (pick_is_ready e)
+
+  pub pick_enlisted : first_ready a.roster.entries ≡ Some id → is_some (place id a.roster) ≡ true
+  pick_enlisted e = w.enlisted id ∙ ready_is_some (request_at a.table id) (pick_is_ready e)
+
+  pub takes_up :
+      (t : Table) (r : Roster) → first_ready a.roster.entries ≡ Some id → Changes a.table t id (taken (request_at a.table id)) →
+      r ≡ record a.roster { entries = marked id false a.roster.entries } → Made old (parts t r a.pending) id taken_up
+  takes_up t r first change roster_is =
+      let ready = pick_is_ready first in
+      let listed = ready_is_some (request_at a.table id) ready in
+      let o = some_object (request_at a.table id) (w.requests id) listed in
+      let q = Some (Held_object Held_idle o.in_it.status) in
+      let ch = subst (λ h. Changes a.table t id (taken h)) o.in_it.is change in
+      subst (λ x. Made x (parts t r a.pending) id taken_up) same
+      (made a (parts t r a.pending) id q taken_up w ch refl (marked_as t r q false ch (sym (ap is_ready ch.here)) roster_is listed refl)
+      (runs_same a w t id q ch (λ e. absurd (false≢true (sym (ready_is_over (request_at a.table id) ready) ∙ e)))) (retimes_same a.pending.timers id taken_up (λ x. refl))
+      (λ x e. let told : Tells (Some (Held_object o.state o.in_it.status)) (Some x) = subst (λ h. Tells h (Some x)) o.in_it.is e in (refl, told.1)) (λ x. (refl, refl)))
+    where
+      ready_is_over : (h : Option Held_request) → is_ready h ≡ true → is_pending h ≡ false
+      ready_is_over (Some (Held_object Held_active status)) e = go (int_eq status pending) e
+        where
+          go : (b : Bool) → not b ≡ true → b ≡ false
+          go true e = cc
+          go false e = refl
+      ready_is_over (Some (Held_server b)) e = refl
+      ready_is_over _ e = cc
+
+module _ {old : Active} (a : Active) (same : a ≡ old) (w : IsWhole a) where
+  -- the timer that is due first, and the pick
+  pub none_completes : (now : ℕ) (p : Pending) (result : Option ℕ) → result ≡ None → due_by now a.pending.timers ≡ None → p ≡ record a.pending { timers = left_by now a.pending.timers } → Completes now old (parts a.table a.roster p) result
+  none_completes now p result none due pending_is =
+      subst (λ r. Completes now old (parts a.table a.roster p) r) (sym none)
+      (subst (λ x. Completes now x (parts a.table a.roster p) None) same (
+        ap (λ y. parts a.table a.roster y) (pending_is ∙ ap (λ ts. record a.pending { timers = ts }) (left_none now a.pending.timers due)),
+        λ asked s. none_by asked now a.pending.timers (record { dues = s.dues; sooner = s.sooner }) due,
+      ))
+
+  pub is_first_due : (now id : ℕ) → due_by now a.pending.timers ≡ Some id → (asked : ℕ → Option Request) → StandsFor old asked → IsFirstDue now id asked
+  is_first_due now id due asked s =
+      let here = subst (λ x. StandsFor x asked) (sym same) s in
+      first_by asked now id a.pending.timers (record { dues = here.dues; sooner = here.sooner }) due
+
+  pub none_picked : (first result : Option ℕ) → first ≡ None → (IsNone first → All (λ e. e.is_ready ≡ false) a.roster.entries) → result ≡ None → Picks old old result
+  none_picked first result none waits is =
+      subst (λ r. Picks old old r) (sym is)
+      (refl, λ asked s. picks_none a w asked (subst (λ x. StandsFor x asked) (sym same) s) (waits (subst IsNone (sym none) refl)))
+
+  pub is_first_ready : (id : ℕ) → first_ready a.roster.entries ≡ Some id → (asked : ℕ → Option Request) → StandsFor old asked → IsFirstReady id asked
+  is_first_ready id first asked s = picks_first a w asked (subst (λ x. StandsFor x asked) (sym same) s) id first
+
+-- ---- an object that is enlisted, one that is no more, and a timer that is set
+
+pub record Enlisted (old new : Active) (id : ℕ) (priority : ℤ) : Type 0 where
+  pub whole : IsWhole new
+  pub enlists : Enlists old new id priority
+
+pub record Removed (old new : Active) (id : ℕ) : Type 0 where
+  pub whole : IsWhole new
+  pub removes : Removes old new id
+
+pub record Timed (old new : Active) (id due : ℕ) : Type 0 where
+  pub whole : IsWhole new
+  pub times : Times old new id due
+
+module _ {old : Active} (a : Active) (same : a ≡ old) (w : IsWhole a) (id : ℕ) where
+  pub enlists_it :
+      (t : Table) (r : Roster) (priority given : ℤ) → given ≡ priority → IsSound old.roster → request_at old.table id ≡ None → Changes a.table t id (Some (Held_object Held_idle (pos 0))) →
+      r ≡ record a.roster { entries = placed before (waiting id given) a.roster.entries } → Enlisted old (parts t r a.pending) id priority
+  enlists_it t r priority given given_is ordered fresh ch roster_is =
+      subst (λ x. Enlisted x (parts t r a.pending) id priority) same
+      (subst (λ x. Enlisted a (parts t x a.pending) id priority) (sym (roster_is ∙ ap (λ p. record a.roster { entries = placed before (waiting id p) a.roster.entries }) given_is))
+      (record {
+        whole = whole_from a (parts t grown a.pending) id q w ch refl (enters_placed a w t id q ch priority absent refl refl) (runs_same a w t id q ch (λ e. absurd (false≢true (sym (ap is_pending free) ∙ e))));
+        enlists = record { limit = ch.limit; stands = stands };
+      }))
+    where
+      q : Option Held_request
+      q = Some (Held_object Held_idle (pos 0))
+
+      grown : Roster
+      grown = record a.roster { entries = placed before (waiting id priority) a.roster.entries }
+
+      free : request_at a.table id ≡ None
+      free = ap (λ x. request_at x.table id) same ∙ fresh
+
+      absent : IsAbsent (λ e. e.id) id a.roster.entries
+      absent = place-absent (λ e. e.id) id a.roster.entries (none_of (place id a.roster) (w.enlisted id ∙ ap is_some free))
+
+      unasked : (o : Option Request) → Tells None o → timer_in o ≡ None
+      unasked None tells = refl
+      unasked (Some x) tells = absurd tells
+
+      stands : (asked : ℕ → Option Request) (order : ℕ) → StandsFor a asked → IsNewest order asked → StandsFor (parts t grown a.pending) (asked_anew id (Some (enlisted_with order priority)) asked)
+      stands asked order s newest =
+          let now = asked_anew id (Some (enlisted_with order priority)) asked in
+          let l = listed_placed asked id order priority a.roster.entries (record { priorities = s.priorities; order = s.order }) absent (subst (λ x. AllPairs (λ e f. before e f ≡ true) x.roster.entries) (sym same) ordered.sorted) newest in
+          let u = timely_kept asked now a.pending.timers (λ n. keeps n (id == n) refl) (record { dues = s.dues; sooner = s.sooner }) in
+          record {
+            tells = tells_anew a.table t id q (Some (enlisted_with order priority)) asked ch (refl, refl) s.tells;
+            priorities = l.priorities;
+            order = l.order;
+            dues = u.dues;
+            sooner = u.sooner;
+          }
+        where
+          keeps : (n : ℕ) (b : Bool) → (id == n) ≡ b → timer_in (asked n) ≡ timer_in (cond b (Some (enlisted_with order priority)) (asked n))
+          keeps n true equal = ap (λ k. timer_in (asked k)) (sym (eqb-true id n equal)) ∙ unasked (asked id) (subst (λ h. Tells h (asked id)) free (s.tells id))
+          keeps n false other = refl
+
+  pub removes_it :
+      (t : Table) (r : Roster) (p : Pending) → Changes a.table t id None → r ≡ record a.roster { entries = without (λ e. e.id) id a.roster.entries } →
+      p ≡ record a.pending { timers = without id_of id a.pending.timers } → Removed old (parts t r p) id
+  removes_it t r p ch roster_is pending_is =
+      subst (λ x. Removed x (parts t r p) id) same
+      (subst (λ x. Removed a (parts t x p) id) (sym roster_is)
+      (subst (λ x. Removed a (parts t less x) id) (sym pending_is)
+      (record {
+        whole = whole_from a (parts t less fewer) id None w ch refl (enters_without a w t id None ch refl) (runs_without a w t id None ch);
+        removes = record { limit = ch.limit; stands = stands };
+      })))
+    where
+      less : Roster
+      less = record a.roster { entries = without (λ e. e.id) id a.roster.entries }
+
+      fewer : Pending
+      fewer = record a.pending { timers = without id_of id a.pending.timers }
+
+      stands : (asked : ℕ → Option Request) → StandsFor a asked → StandsFor (parts t less fewer) (asked_anew id None asked)
+      stands asked s =
+          let l = listed_without asked id None a.roster.entries (record { priorities = s.priorities; order = s.order }) in
+          let u = timely_without asked id None a.pending.timers refl (record { dues = s.dues; sooner = s.sooner }) in
+          record { tells = tells_anew a.table t id None None asked ch tt s.tells; priorities = l.priorities; order = l.order; dues = u.dues; sooner = u.sooner }
+
+  pub sets_timer :
+      (t : Table) (p : Pending) (due : ℕ) → AreInOrder old.pending → state_at old.table id ≡ Some Held_idle → Changes a.table t id (Some (Held_object Held_issued pending)) →
+      p ≡ record a.pending { timers = placed no_later (timer_of id due) a.pending.timers } → Timed old (parts t a.roster p) id due
+  sets_timer t p due ordered state ch pending_is =
+      subst (λ x. Timed x (parts t a.roster p) id due) same
+      (subst (λ x. Timed a (parts t a.roster x) id due) (sym pending_is)
+      (record {
+        whole =
+            whole_from a (parts t a.roster more) id q w ch refl (follows_same a w t id q ch (ap is_some o.is) refl (sym (ap is_ready o.is))).enters
+            (runs_placed a w t id q ch due unset refl);
+        times = record { limit = ch.limit; stands = stands };
+      }))
+    where
+      q : Option Held_request
+      q = Some (Held_object Held_issued pending)
+
+      o : IsIn (request_at a.table id) Held_idle
+      o = state_here a same w id Held_idle state
+
+      unset : due_of id a.pending.timers ≡ None
+      unset = no_timer a w t id q ch (ap is_pending o.is)
+
+      more : Pending
+      more = record a.pending { timers = placed no_later (timer_of id due) a.pending.timers }
+
+      stands : (asked : ℕ → Option Request) (r : Request) (order : ℕ) → StandsFor a asked → asked id ≡ Some r → IsNewestTimer order asked → StandsFor (parts t a.roster more) (asked_anew id (Some (timed_for due order r)) asked)
+      stands asked r order s here newest =
+          let now = asked_anew id (Some (timed_for due order r)) asked in
+          let l = (follows_same a w t id q ch (ap is_some o.is) refl (sym (ap is_ready o.is))).listed asked now (kept_anew id r (timed_for due order r) asked here (refl, refl)) (record { priorities = s.priorities; order = s.order }) in
+          let u = timely_placed asked id due order r a.pending.timers a.pending.limit (record { dues = s.dues; sooner = s.sooner }) unset (subst (λ x. AreInOrder x.pending) (sym same) ordered) newest in
+          record { tells = tells_anew a.table t id q (Some (timed_for due order r)) asked ch (refl, refl) s.tells; priorities = l.priorities; order = l.order; dues = u.dues; sooner = u.sooner }
+
+  -- an object that is enlisted has a place among the timers
+  pub has_place : (s : State) → IsSound old.roster → state_at old.table id ≡ Some s → id < a.pending.limit
+  has_place s ordered state =
+      let o = state_here a same w id s state in
+      let found = standing (λ e. e.id) id (λ e. e.id < a.roster.limit) a.roster.entries (w.enlisted id ∙ ap is_some o.is) (subst (λ x. IsSound x.roster) (sym same) ordered).below in
+      subst (λ n. id < n) (w.places ∙ sym w.dues) (subst (λ n. n < a.roster.limit) found.number_is found.holds)

@@ -1,0 +1,32 @@
+-- Names and requests of cells that stand once.
+use Rattle.std.proofs.Common.{◌≡◌, ◌==◌, ℕ, Bool, true, false, cond, List, [], ◌∷◌, Some, refl, sym, ap, ◌∙◌}
+use Rattle.std.specs.Prelude.{is_some}
+use Rattle.std.proofs.lemmas.Bool.{eq-eqb, ne_eqb, false≢true}
+use Rattle.aom_sound.specs.Places.{Cell, Object, Request, Tidy, named, requested}
+
+-- what has a request is there
+pub asked_lives : (cs : List Cell) (n : ℕ) (r : Request) → requested cs n ≡ Some r → is_some (named cs n) ≡ true
+asked_lives [] n r e = cc
+asked_lives (c ∷ cs) n r e = go (c.object.name == n) e (asked_lives cs n r)
+  where
+    go : (b : Bool) → cond b c.request (requested cs n) ≡ Some r → (requested cs n ≡ Some r → is_some (named cs n) ≡ true) → is_some (cond b (Some c.object) (named cs n)) ≡ true
+    go true e rest = refl
+    go false e rest = rest e
+
+-- what is there behind a cell has another name, and another place
+pub other_name : (c : Cell) (cs : List Cell) (n : ℕ) → Tidy (c ∷ cs) → is_some (named cs n) ≡ true → (c.object.name == n) ≡ false
+other_name c cs n tidy lives = ne_eqb c.object.name n (λ same. false≢true (sym (ap is_some tidy.1) ∙ ap (λ m. is_some (named cs m)) same ∙ lives))
+
+-- the request of the first cell, and that of another
+pub asked_first : (c : Cell) (cs : List Cell) → requested (c ∷ cs) c.object.name ≡ c.request
+asked_first c cs = ap (λ b. cond b c.request (requested cs c.object.name)) (eq-eqb c.object.name c.object.name refl)
+
+pub asked_later : (c : Cell) (cs : List Cell) (n : ℕ) (r : Request) → Tidy (c ∷ cs) → requested cs n ≡ Some r → requested (c ∷ cs) n ≡ Some r
+asked_later c cs n r tidy e = ap (λ b. cond b c.request (requested cs n)) (other_name c cs n tidy (asked_lives cs n r e)) ∙ e
+
+-- what is there still is behind another cell
+pub named_first : (c : Cell) (cs : List Cell) → named (c ∷ cs) c.object.name ≡ Some c.object
+named_first c cs = ap (λ b. cond b (Some c.object) (named cs c.object.name)) (eq-eqb c.object.name c.object.name refl)
+
+pub named_later : (c : Cell) (cs : List Cell) (n : ℕ) (o : Object) → Tidy (c ∷ cs) → named cs n ≡ Some o → named (c ∷ cs) n ≡ Some o
+named_later c cs n o tidy e = ap (λ b. cond b (Some c.object) (named cs n)) (other_name c cs n tidy (ap is_some e)) ∙ e

@@ -1,0 +1,142 @@
+-- The pick: what is the first ready request is that of the candidate that the checked machine takes.
+use Rattle.std.proofs.Common.{◌≡◌, ◌≢◌, ◌==◌, ℕ, ℤ, Bool, true, false, cond, List, [], ◌∷◌, Option, Some, None, refl, sym, ap, ◌∙◌, subst, arith}
+use Rattle.std.specs.Prelude.{◌&&◌, ◌||◌, int_lt, is_some, nat_lt}
+use Rattle.std.specs.Ordering.{int_eq}
+use Rattle.std.proofs.lemmas.Bool.{eqb-true, eqb-false, false≢true}
+use Rattle.std.proofs.lemmas.Int.{ints}
+use Rattle.aom_sound.proofs.Maps.{same_place-true, same_place_refl}
+use Rattle.aom_sound.specs.Places.{Cell, Object, Place, Request, Tidy, held, named, requested, same_place}
+use Rattle.aom_sound.specs.World.{Candidate, among_ready, before_others, first_ready, goes_before, is_ready}
+use Rattle.aom_active.proofs.Cells.{asked_first, asked_later, named_first, named_later, other_name}
+use Rattle.aom_active.specs.Meanings.{IsFirstReady, NoneReady}
+
+-- what is held behind a cell is held in another place
+held_later : (c : Cell) (cs : List Cell) (p : Place) (o : Object) → Tidy (c ∷ cs) → held cs p ≡ Some o → held (c ∷ cs) p ≡ Some o
+held_later c cs p o tidy e = go (same_place c.owner p) refl
+  where
+    go : (b : Bool) → same_place c.owner p ≡ b → cond b (Some c.object) (held cs p) ≡ Some o
+    go true same = let clash : Some o ≡ None = sym e ∙ sym (ap (λ q. held cs q) (same_place-true c.owner p same)) ∙ tidy.0 in cc
+    go false other = e
+
+-- a candidate is a cell that is there, with its request
+record Seated (cs : List Cell) (x : Candidate) : Type 0 where
+  holds : held cs x.seat.place ≡ Some x.seat.object
+  lives : named cs x.seat.object.name ≡ Some x.seat.object
+  asked : requested cs x.seat.object.name ≡ Some x.request
+  ready : is_ready x.request ≡ true
+
+-- the first cell as one
+abbrev first_seat : Cell → Request → Candidate
+first_seat c r = record { seat = record { object = c.object; place = c.owner }; request = r }
+
+seated_first : (c : Cell) (cs : List Cell) (r : Request) → c.request ≡ Some r → is_ready r ≡ true → Seated (c ∷ cs) (first_seat c r)
+seated_first c cs r here ready = record {
+  holds = ap (λ b. cond b (Some c.object) (held cs c.owner)) (same_place_refl c.owner);
+  lives = named_first c cs;
+  asked = asked_first c cs ∙ here;
+  ready = ready;
+}
+
+seated_later : (c : Cell) (cs : List Cell) (x : Candidate) → Tidy (c ∷ cs) → Seated cs x → Seated (c ∷ cs) x
+seated_later c cs x tidy s = record {
+  holds = held_later c cs x.seat.place x.seat.object tidy s.holds;
+  lives = named_later c cs x.seat.object.name x.seat.object tidy s.lives;
+  asked = asked_later c cs x.seat.object.name x.request tidy s.asked;
+  ready = s.ready;
+}
+
+seated : (cs : List Cell) → Tidy cs → (x : Candidate) → first_ready cs ≡ Some x → Seated cs x
+seated [] tidy x e = cc
+seated (c ∷ cs) tidy x e = by_request c.request refl e (λ f. seated_later c cs x tidy (seated cs tidy.2 x f))
+  where
+    by_front : (r : Request) → c.request ≡ Some r → is_ready r ≡ true → (others : Option Candidate) → Some (before_others (first_seat c r) others) ≡ Some x → (others ≡ Some x → Seated (c ∷ cs) x) → Seated (c ∷ cs) x
+    by_front r here ready None e rest = let same : first_seat c r ≡ x = cc in subst (λ y. Seated (c ∷ cs) y) same (seated_first c cs r here ready)
+    by_front r here ready (Some b) e rest = go (goes_before b.request r) e
+      where
+        go : (g : Bool) → Some (cond g b (first_seat c r)) ≡ Some x → Seated (c ∷ cs) x
+        go true e = rest e
+        go false e = let same : first_seat c r ≡ x = cc in subst (λ y. Seated (c ∷ cs) y) same (seated_first c cs r here ready)
+
+    by_ready : (r : Request) → c.request ≡ Some r → (b : Bool) → is_ready r ≡ b → cond b (Some (before_others (first_seat c r) (first_ready cs))) (first_ready cs) ≡ Some x → (first_ready cs ≡ Some x → Seated (c ∷ cs) x) → Seated (c ∷ cs) x
+    by_ready r here true ready e rest = by_front r here ready (first_ready cs) e rest
+    by_ready r here false ready e rest = rest e
+
+    by_request : (q : Option Request) → c.request ≡ q → among_ready c q (first_ready cs) ≡ Some x → (first_ready cs ≡ Some x → Seated (c ∷ cs) x) → Seated (c ∷ cs) x
+    by_request None here e rest = rest e
+    by_request (Some r) here e rest = by_ready r here (is_ready r) refl e rest
+
+-- of two requests one does not go before the other where that goes before it
+not_both : (r q : Request) → goes_before r q ≡ true → goes_before q r ≡ false
+not_both r q e = at r.priority q.priority r.order q.order e
+  where
+    at : (a b : ℤ) (m n : ℕ) → (int_lt b a || (int_eq a b && nat_lt m n)) ≡ true → (int_lt a b || (int_eq b a && nat_lt n m)) ≡ false
+    at a b m n e = grind (arith, ints)
+
+-- the candidate of that name with that request comes first
+record IsChosen (cs : List Cell) (id : ℕ) (r : Request) : Type 0 where
+  candidate : Candidate
+  first : first_ready cs ≡ Some candidate
+  name : candidate.seat.object.name ≡ id
+  request : candidate.request ≡ r
+
+chosen :
+    (cs : List Cell) (id : ℕ) (r : Request) → Tidy cs → requested cs id ≡ Some r → is_ready r ≡ true →
+    ((n : ℕ) (q : Request) → n ≢ id → requested cs n ≡ Some q → is_ready q ≡ true → goes_before r q ≡ true) → IsChosen cs id r
+chosen [] id r tidy asked ready first = cc
+chosen (c ∷ cs) id r tidy asked ready first =
+    go (c.object.name == id) refl asked (λ here. chosen cs id r tidy.2 here ready (λ n q other e. first n q other (asked_later c cs n q tidy e)))
+  where
+    alone : (others : Option Candidate) → first_ready cs ≡ others → c.object.name ≡ id → before_others (first_seat c r) others ≡ first_seat c r
+    alone None e same = refl
+    alone (Some b) e same =
+        let s = seated cs tidy.2 b e in
+        let other = eqb-false c.object.name b.seat.object.name (other_name c cs b.seat.object.name tidy (ap is_some s.lives)) in
+        ap (λ g. cond g b (first_seat c r)) (not_both r b.request
+        (first b.seat.object.name b.request (λ equal. other (same ∙ sym equal)) (asked_later c cs b.seat.object.name b.request tidy s.asked) s.ready))
+
+    in_front : c.object.name ≡ id → c.request ≡ Some r → IsChosen (c ∷ cs) id r
+    in_front same here = record {
+      candidate = first_seat c r;
+      first =
+          ap (λ q. among_ready c q (first_ready cs)) here ∙ ap (λ b. cond b (Some (before_others (first_seat c r) (first_ready cs))) (first_ready cs)) ready
+          ∙ ap Some (alone (first_ready cs) refl same);
+      name = same;
+      request = refl;
+    }
+
+    behind : (c.object.name == id) ≡ false → IsChosen cs id r → IsChosen (c ∷ cs) id r
+    behind other w = record {
+      candidate = w.candidate;
+      first = ap (λ o. among_ready c c.request o) w.first ∙ by_request c.request refl;
+      name = w.name;
+      request = w.request;
+    }
+      where
+        by_ready : (q : Request) → c.request ≡ Some q → (b : Bool) → is_ready q ≡ b → cond b (Some (before_others (first_seat c q) (Some w.candidate))) (Some w.candidate) ≡ Some w.candidate
+        by_ready q here true is = ap (λ g. Some (cond g w.candidate (first_seat c q))) (ap (λ p. goes_before p q) w.request ∙ first c.object.name q (eqb-false c.object.name id other) (asked_first c cs ∙ here) is)
+        by_ready q here false is = refl
+
+        by_request : (q : Option Request) → c.request ≡ q → among_ready c q (Some w.candidate) ≡ Some w.candidate
+        by_request None here = refl
+        by_request (Some q) here = by_ready q here (is_ready q) refl
+
+    go : (b : Bool) → (c.object.name == id) ≡ b → cond b c.request (requested cs id) ≡ Some r → (requested cs id ≡ Some r → IsChosen cs id r) → IsChosen (c ∷ cs) id r
+    go true same here rest = in_front (eqb-true c.object.name id same) here
+    go false other here rest = behind other (rest here)
+
+-- the first ready object is the candidate that the checked machine takes
+pub picked :
+    (cs : List Cell) (id : ℕ) → Tidy cs → IsFirstReady id (requested cs) →
+    (x : Candidate) × (first_ready cs ≡ Some x) × (x.seat.object.name ≡ id) × (named cs id ≡ Some x.seat.object) × (held cs x.seat.place ≡ Some x.seat.object) × (requested cs id ≡ Some x.request)
+picked cs id tidy f =
+    let w = chosen cs id f.request tidy f.stands f.ready f.first in
+    let s = seated cs tidy w.candidate w.first in
+    (w.candidate, w.first, w.name, ap (λ n. named cs n) (sym w.name) ∙ s.lives, s.holds, f.stands ∙ ap Some (sym w.request))
+
+-- and it takes none where none is ready
+pub none_picked : (cs : List Cell) → Tidy cs → NoneReady (requested cs) → first_ready cs ≡ None
+none_picked cs tidy none = go (first_ready cs) refl
+  where
+    go : (o : Option Candidate) → first_ready cs ≡ o → o ≡ None
+    go None e = refl
+    go (Some x) e = let s = seated cs tidy x e in absurd (false≢true (sym (none x.seat.object.name x.request s.asked) ∙ s.ready))

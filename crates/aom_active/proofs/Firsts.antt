@@ -1,0 +1,229 @@
+-- The first of the timers and the first entry that is ready, as they tell of the requests that they stand for.
+use Rattle.std.proofs.Common.{◌≡◌, ◌≢◌, ◌<◌, ◌≤◌, ◌==◌, ℕ, Bool, true, false, cond, List, [], ◌∷◌, Option, Some, None, refl, sym, ap, ◌∙◌, subst, arith}
+use Rattle.std.specs.Prelude.{All, AllPairs, IsSome, is_some, not, ◌&&◌, ◌||◌, nat_le, nat_lt, option_map}
+use Rattle.std.specs.Ordering.{int_eq}
+use Rattle.std.proofs.lemmas.Bool.{eq-eqb, eqb-true, eqb-false, false≢true, true≢false, leb-true, leb-false}
+use Rattle.std.proofs.lemmas.Option.{none-some, same_Some}
+use Rattle.std.proofs.lemmas.List.Elements.{All-cons, All-head, All-tail, All-weaker}
+use Rattle.aom_requests.specs.Requests as Held
+use Rattle.aom_requests.specs.Requests.{holds_signal, pending, request_at}
+use Rattle.aom_requests.specs.declared.request.State.TheVariants.{Idle as Held_idle, Issued as Held_issued, Active as Held_active, Cancelling as Held_cancelling, Aborted as Held_aborted}
+use Rattle.aom_requests.specs.declared.request.Request.{Request as Held_request}
+use Rattle.aom_requests.specs.declared.request.Request.TheVariants.{Object as Held_object, Server as Held_server}
+use Rattle.aom_scheduler.specs.Order.{without}
+use Rattle.aom_scheduler.specs.Roster.{first_ready}
+use Rattle.aom_scheduler.specs.Pending.{due_by, due_of, left_by}
+use Rattle.aom_scheduler.specs.declared.entry.Entry.{Entry}
+use Rattle.aom_scheduler.specs.declared.timer.Timer.{Timer as Held_timer}
+use Rattle.aom_scheduler.proofs.Items.{AreDistinct, at_head, pairs-head, pairs-tail, without-at}
+use Rattle.aom_scheduler.proofs.Timing.{stands-if_set}
+use Rattle.aom_sound.specs.Enlisted.{is_active}
+use Rattle.aom_sound.specs.Places.{Request, Timer}
+use Rattle.aom_sound.specs.World.{goes_before, is_ready, is_sooner}
+use Rattle.aom_active.specs.Agrees.{Active, ComesSooner, GoesBefore, IsSooner, IsWhole, StandsFor, Tells, timer_in}
+use Rattle.aom_active.specs.Meanings.{IsFirstDue, IsFirstReady, NoneDue, NoneReady}
+use Rattle.aom_active.proofs.Halves.{Timely}
+use Rattle.aom_active.proofs.Lists.{Standing, both, id_of, standing}
+
+-- ---- timers
+
+-- what has a due time is a timer
+record There (o : Option Timer) (due : ℕ) : Type 0 where
+  timer : Timer
+  is : o ≡ Some timer
+  due_is : timer.due ≡ due
+
+timer_there : (o : Option Timer) (due : ℕ) → Some due ≡ option_map (λ t. t.due) o → There o due
+timer_there None due e = absurd (none-some _ (sym e))
+timer_there (Some t) due e = record { timer = t; is = refl; due_is = sym (same_Some due t.due e) }
+
+-- the first timer is a request's, and sooner than those of all others
+pub record IsFirstTimer (asked : ℕ → Option Request) (t : Held_timer) : Type 0 where
+  pub timer : Timer
+  pub runs : timer_in (asked t.id) ≡ Some timer
+  pub due_is : timer.due ≡ t.due
+  pub first : (n : ℕ) (u : Timer) → n ≢ t.id → timer_in (asked n) ≡ Some u → is_sooner timer u ≡ true
+
+pub first_timer : (asked : ℕ → Option Request) (t : Held_timer) (ts : List Held_timer) → Timely asked (t ∷ ts) → IsFirstTimer asked t
+first_timer asked t ts s = record { timer = own.timer; runs = own.is; due_is = own.due_is; first = first }
+  where
+    own : There (timer_in (asked t.id)) t.due
+    own = timer_there (timer_in (asked t.id)) t.due (sym (ap (λ b. cond b (Some t.due) (due_of t.id ts)) (eq-eqb t.id t.id refl)) ∙ s.dues t.id)
+
+    first : (n : ℕ) (u : Timer) → n ≢ t.id → timer_in (asked n) ≡ Some u → is_sooner own.timer u ≡ true
+    first n u other e = by_place (standing id_of n (λ v. IsSooner (asked t.id) (asked v.id)) ts (stands-if_set n ts set) (pairs-head (λ v w. IsSooner (asked v.id) (asked w.id)) t ts s.sooner))
+      where
+        later : (b : Bool) → (t.id == n) ≡ b → cond b (Some t.due) (due_of n ts) ≡ Some u.due → due_of n ts ≡ Some u.due
+        later true same is = absurd (other (sym (eqb-true t.id n same)))
+        later false differs is = is
+
+        set : IsSome (due_of n ts)
+        set = ap is_some (later (t.id == n) refl (s.dues n ∙ ap (option_map (λ v. v.due)) e))
+
+        by_place : Standing id_of n (λ v. IsSooner (asked t.id) (asked v.id)) → is_sooner own.timer u ≡ true
+        by_place w = subst (λ o. ComesSooner (Some own.timer) o) (ap (λ k. timer_in (asked k)) w.number_is ∙ e) (subst (λ o. ComesSooner o (timer_in (asked w.item.id))) own.is w.holds)
+
+-- it is the first that is due, or none is
+pub first_by : (asked : ℕ → Option Request) (now id : ℕ) (ts : List Held_timer) → Timely asked ts → due_by now ts ≡ Some id → IsFirstDue now id asked
+first_by asked now id [] s e = cc
+first_by asked now id (t ∷ ts) s e = go (nat_le t.due now) refl e
+  where
+    go : (b : Bool) → nat_le t.due now ≡ b → cond b (Some t.id) None ≡ Some id → IsFirstDue now id asked
+    go true le is =
+        let f = first_timer asked t ts s in
+        subst (λ n. IsFirstDue now n asked) (same_Some t.id id is)
+        (record { timer = f.timer; runs = f.runs; due = omega (arith, f.due_is, leb-true t.due now le); first = f.first })
+    go false le is = cc
+
+no_earlier : (t u : Timer) → is_sooner t u ≡ true → t.due ≤ u.due
+no_earlier t u e = at t.due u.due t.order u.order e
+  where
+    at : (a b m n : ℕ) → (nat_lt a b || ((a == b) && nat_lt m n)) ≡ true → a ≤ b
+    at a b m n e = grind (arith)
+
+pub none_by : (asked : ℕ → Option Request) (now : ℕ) (ts : List Held_timer) → Timely asked ts → due_by now ts ≡ None → NoneDue now asked
+none_by asked now [] s e = λ n u runs. absurd (none-some _ (s.dues n ∙ ap (option_map (λ v. v.due)) runs))
+none_by asked now (t ∷ ts) s e = λ n u runs. go (nat_le t.due now) refl e n u runs
+  where
+    by_name : now < t.due → (n : ℕ) (u : Timer) → timer_in (asked n) ≡ Some u → (b : Bool) → (n == t.id) ≡ b → now < u.due
+    by_name late n u runs true same =
+        let f = first_timer asked t ts s in
+        let equal : f.timer ≡ u = same_Some f.timer u (sym f.runs ∙ sym (ap (λ k. timer_in (asked k)) (eqb-true n t.id same)) ∙ runs) in
+        omega (arith, late, f.due_is, ap (λ v. v.due) equal)
+    by_name late n u runs false other =
+        let f = first_timer asked t ts s in
+        omega (arith, late, f.due_is, no_earlier f.timer u (f.first n u (eqb-false n t.id other) runs))
+
+    go : (b : Bool) → nat_le t.due now ≡ b → cond b (Some t.id) None ≡ None → (n : ℕ) (u : Timer) → timer_in (asked n) ≡ Some u → now < u.due
+    go true le is = cc
+    go false le is = λ n u runs. by_name (leb-false t.due now le) n u runs (n == t.id) refl
+
+-- what is left of the timers
+pub left_none : (now : ℕ) (ts : List Held_timer) → due_by now ts ≡ None → left_by now ts ≡ ts
+left_none now [] e = refl
+left_none now (t ∷ ts) e = go (nat_le t.due now) e
+  where
+    go : (b : Bool) → cond b (Some t.id) None ≡ None → cond b ts (t ∷ ts) ≡ t ∷ ts
+    go true e = cc
+    go false e = refl
+
+pub left_some : (now id : ℕ) (ts : List Held_timer) → AreDistinct id_of ts → due_by now ts ≡ Some id → left_by now ts ≡ without id_of id ts
+left_some now id [] distinct e = cc
+left_some now id (t ∷ ts) distinct e = go (nat_le t.due now) e
+  where
+    go : (b : Bool) → cond b (Some t.id) None ≡ Some id → cond b ts (t ∷ ts) ≡ without id_of id (t ∷ ts)
+    go true e = without-at id_of id (t ∷ ts) 0 distinct (at_head t ts (same_Some t.id id e))
+    go false e = cc
+
+-- the object of the first that is due has a timer
+pub set_by : (now id : ℕ) (ts : List Held_timer) → due_by now ts ≡ Some id → is_some (due_of id ts) ≡ true
+set_by now id [] e = cc
+set_by now id (t ∷ ts) e = go (nat_le t.due now) e
+  where
+    go : (b : Bool) → cond b (Some t.id) None ≡ Some id → is_some (due_of id (t ∷ ts)) ≡ true
+    go true e = ap (λ b. is_some (cond b (Some t.due) (due_of id ts))) (eq-eqb t.id id (same_Some t.id id e))
+    go false e = cc
+
+-- ---- entries
+
+-- the first entry that is ready, of those of which something holds, and how it is related to all others that are
+record IsFirstEntry (R : Entry → Entry → Type 0) (P : Entry → Type 0) (id : ℕ) (es : List Entry) : Type 0 where
+  entry : Entry
+  name : entry.id ≡ id
+  ready : entry.is_ready ≡ true
+  holds : P entry
+  first : All (λ f. f.id ≢ id → f.is_ready ≡ true → R entry f) es
+
+first_entry : (R : Entry → Entry → Type 0) (P : Entry → Type 0) (id : ℕ) (es : List Entry) → first_ready es ≡ Some id → AllPairs R es → All P es → IsFirstEntry R P id es
+first_entry R P id [] e pairs all = cc
+first_entry R P id (x ∷ xs) e pairs all = go x.is_ready refl e (λ later. first_entry R P id xs later (pairs-tail R x xs pairs) (All-tail P x xs all))
+  where
+    go : (b : Bool) → x.is_ready ≡ b → cond b (Some x.id) (first_ready xs) ≡ Some id → (first_ready xs ≡ Some id → IsFirstEntry R P id xs) → IsFirstEntry R P id (x ∷ xs)
+    go true ready e rest = record {
+      entry = x;
+      name = same_Some x.id id e;
+      ready = ready;
+      holds = All-head P x xs all;
+      first =
+          All-cons (λ f. f.id ≢ id → f.is_ready ≡ true → R x f) x xs (λ other is. absurd (other (same_Some x.id id e)))
+          (All-weaker (R x) (λ f. f.id ≢ id → f.is_ready ≡ true → R x f) (λ f r other is. r) xs (pairs-head R x xs pairs));
+    }
+    go false waits e rest =
+        let w = rest e in
+        record {
+          entry = w.entry;
+          name = w.name;
+          ready = w.ready;
+          holds = w.holds;
+          first = All-cons (λ f. f.id ≢ id → f.is_ready ≡ true → R w.entry f) x xs (λ other is. absurd (false≢true (sym waits ∙ is))) w.first;
+        }
+
+-- a request is ready as the table tells
+same_ready : (h : Option Held_request) (r : Request) → Tells h (Some r) → Held.is_ready h ≡ is_ready r
+same_ready None r tells = absurd tells
+same_ready (Some (Held_object Held_active s)) r tells = ap (λ x. not (int_eq x pending)) tells.1 ∙ ap (λ p. is_active p && not (int_eq r.status pending)) tells.0
+same_ready (Some (Held_object Held_idle s)) r tells = ap (λ p. is_active p && not (int_eq r.status pending)) tells.0
+same_ready (Some (Held_object Held_issued s)) r tells = ap (λ p. is_active p && not (int_eq r.status pending)) tells.0
+same_ready (Some (Held_object Held_cancelling s)) r tells = ap (λ p. is_active p && not (int_eq r.status pending)) tells.0
+same_ready (Some (Held_object Held_aborted s)) r tells = ap (λ p. is_active p && not (int_eq r.status pending)) tells.0
+same_ready (Some (Held_server b)) r tells = absurd tells
+
+-- what is ready is enlisted, and holds a signal
+pub ready_is_some : (h : Option Held_request) → Held.is_ready h ≡ true → is_some h ≡ true
+ready_is_some None e = cc
+ready_is_some (Some h) e = refl
+
+pub ready_signals : (h : Option Held_request) → Held.is_ready h ≡ true → holds_signal h ≡ true
+ready_signals (Some (Held_object Held_active s)) e = e
+ready_signals (Some (Held_server b)) e = e
+ready_signals _ e = cc
+
+-- a request that the table tells
+record Told (o : Option Request) (b : Bool) : Type 0 where
+  request : Request
+  is : o ≡ Some request
+  ready : is_ready request ≡ b
+
+told : (h : Option Held_request) (o : Option Request) → Tells h o → is_some h ≡ true → Told o (Held.is_ready h)
+told h (Some r) tells some = record { request = r; is = refl; ready = sym (same_ready h r tells) }
+told None None tells some = cc
+told (Some (Held_object s v)) None tells some = absurd tells
+told (Some (Held_server b)) None tells some = absurd tells
+
+module _ (a : Active) (w : IsWhole a) (asked : ℕ → Option Request) (s : StandsFor a asked) where
+  -- the entry of a request that is ready
+  entry_of : (P : Entry → Type 0) → All P a.roster.entries → (n : ℕ) (r : Request) → asked n ≡ Some r → is_ready r ≡ true → Standing (λ e. e.id) n (λ e. P e × (e.is_ready ≡ true))
+  entry_of P all n r e ready = record { item = found.item; number_is = found.number_is; holds = (found.holds.0, found.holds.1 ∙ ap (λ k. Held.is_ready (request_at a.table k)) found.number_is ∙ held_ready) }
+    where
+      held_ready : Held.is_ready (request_at a.table n) ≡ true
+      held_ready = same_ready (request_at a.table n) r (subst (Tells (request_at a.table n)) e (s.tells n)) ∙ ready
+
+      found : Standing (λ f. f.id) n (λ f. P f × (f.is_ready ≡ Held.is_ready (request_at a.table f.id)))
+      found =
+          standing (λ f. f.id) n (λ f. P f × (f.is_ready ≡ Held.is_ready (request_at a.table f.id))) a.roster.entries (w.enlisted n ∙ ready_is_some (request_at a.table n) held_ready)
+          (both P (λ f. f.is_ready ≡ Held.is_ready (request_at a.table f.id)) a.roster.entries all w.marks)
+
+  pub picks_first : (id : ℕ) → first_ready a.roster.entries ≡ Some id → IsFirstReady id asked
+  picks_first id e = record { request = own.request; stands = own.is; ready = own.ready ∙ held_ready; first = first }
+    where
+      f : IsFirstEntry (λ e f. GoesBefore (asked e.id) (asked f.id)) (λ e. e.is_ready ≡ Held.is_ready (request_at a.table e.id)) id a.roster.entries
+      f = first_entry (λ e f. GoesBefore (asked e.id) (asked f.id)) (λ e. e.is_ready ≡ Held.is_ready (request_at a.table e.id)) id a.roster.entries e s.order w.marks
+
+      held_ready : Held.is_ready (request_at a.table id) ≡ true
+      held_ready = sym (ap (λ k. Held.is_ready (request_at a.table k)) f.name) ∙ sym f.holds ∙ f.ready
+
+      own : Told (asked id) (Held.is_ready (request_at a.table id))
+      own = told (request_at a.table id) (asked id) (s.tells id) (ready_is_some (request_at a.table id) held_ready)
+
+      first : (n : ℕ) (r : Request) → n ≢ id → asked n ≡ Some r → is_ready r ≡ true → goes_before own.request r ≡ true
+      first n r other is ready =
+          let y = entry_of (λ g. g.id ≢ id → g.is_ready ≡ true → GoesBefore (asked f.entry.id) (asked g.id)) f.first n r is ready in
+          subst (λ o. GoesBefore (Some own.request) o) (ap asked y.number_is ∙ is)
+          (subst (λ o. GoesBefore o (asked y.item.id)) (ap asked f.name ∙ own.is) (y.holds.0 (λ same. other (sym y.number_is ∙ same)) y.holds.1))
+
+  pub picks_none : All (λ e. e.is_ready ≡ false) a.roster.entries → NoneReady asked
+  picks_none none n r is = go (is_ready r) refl
+    where
+      go : (b : Bool) → is_ready r ≡ b → b ≡ false
+      go true ready = let y = entry_of (λ e. e.is_ready ≡ false) none n r is ready in absurd (true≢false (sym y.holds.1 ∙ y.holds.0))
+      go false ready = refl

@@ -1,0 +1,10 @@
+pub mod Lists
+pub mod Halves
+pub mod Cells
+pub mod Choosing
+pub mod Firsts
+pub mod Dues
+pub mod Turns
+pub mod Calls
+pub mod Asking
+pub mod Telling

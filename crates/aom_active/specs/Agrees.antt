@@ -1,0 +1,94 @@
+-- The active objects of a machine, and when they stand for the requests of the checked machine.
+use Rattle.std.specs.Prelude.{◌≡◌, ℕ, ℤ, Bool, true, false, not, is_some, Option, Some, None, option_map, All, AllPairs, replicate}
+use Rattle.std.specs.Ordering.{int_eq}
+use Rattle.aom_requests.specs.Requests.{Table, request_at, is_pending, is_ready, pending}
+use Rattle.aom_requests.specs.declared.request.State.{State}
+use Rattle.aom_requests.specs.declared.request.State.TheVariants.{Idle as Held_idle, Issued as Held_issued, Active as Held_active, Cancelling as Held_cancelling, Aborted as Held_aborted}
+use Rattle.aom_requests.specs.declared.request.Request.{Request as Held_request}
+use Rattle.aom_requests.specs.declared.request.Request.TheVariants.{Object as Held_object, Server as Held_server}
+use Rattle.aom_scheduler.specs.Roster.{Roster, empty, place}
+use Rattle.aom_scheduler.specs.Pending.{Pending, no_timers, due_of}
+use Rattle.aom_sound.specs.Places.{Phase, Idle, Issued, Active as Waiting, Cancelling, Aborted, Request, Timer}
+use Rattle.aom_sound.specs.World.{goes_before, is_sooner}
+
+-- what each object waits for, the order of the picks, and the timers
+pub record Active : Type 0 where
+  pub table : Table
+  pub roster : Roster
+  pub pending : Pending
+
+-- no object, and a place for each number below the limit
+abbrev pub nobody : ℕ → Active
+nobody limit = record { table = record { slots = replicate limit None; limit = limit }; roster = empty limit; pending = no_timers limit }
+
+-- ---- the three hang together
+
+-- an active object's request, completed if it is aborted
+abbrev pub may_stand : Option Held_request → Bool
+may_stand None = true
+may_stand (Some (Held_object Held_aborted status)) = not (int_eq status pending)
+may_stand (Some (Held_object _ status)) = true
+may_stand (Some (Held_server has_signal)) = false
+
+-- who has a request has an entry, which is ready as the request is, and timers run for requests that are pending
+pub record IsWhole (a : Active) : Type 0 where
+  pub places : a.roster.limit ≡ a.table.limit
+  pub dues : a.pending.limit ≡ a.table.limit
+  pub requests : (n : ℕ) → may_stand (request_at a.table n) ≡ true
+  pub enlisted : (n : ℕ) → is_some (place n a.roster) ≡ is_some (request_at a.table n)
+  pub marks : All (λ e. e.is_ready ≡ is_ready (request_at a.table e.id)) a.roster.entries
+  pub waits : (n : ℕ) → is_some (due_of n a.pending.timers) ≡ true → is_pending (request_at a.table n) ≡ true
+
+-- ---- and stand for the requests of the checked machine, by name
+
+abbrev pub phase_of : State → Phase
+phase_of Held_idle = Idle
+phase_of Held_issued = Issued
+phase_of Held_active = Waiting
+phase_of Held_cancelling = Cancelling
+phase_of Held_aborted = Aborted
+
+-- the same request, as far as the table tells
+abbrev pub Tells : Option Held_request → Option Request → Type 0
+Tells None None = Unit {0}
+Tells None (Some r) = ⊥
+Tells (Some (Held_object state status)) None = ⊥
+Tells (Some (Held_object state status)) (Some r) = (phase_of state ≡ r.phase) × (status ≡ r.status)
+Tells (Some (Held_server has_signal)) r = ⊥
+
+-- a request of that priority
+abbrev pub HasPriority : ℤ → Option Request → Type 0
+HasPriority priority None = ⊥
+HasPriority priority (Some r) = r.priority ≡ priority
+
+-- two requests, of which the first goes before the second
+abbrev pub GoesBefore : Option Request → Option Request → Type 0
+GoesBefore None q = ⊥
+GoesBefore (Some r) None = ⊥
+GoesBefore (Some r) (Some q) = goes_before r q ≡ true
+
+-- the timer that runs for a request
+abbrev pub timer_in : Option Request → Option Timer
+timer_in None = None
+timer_in (Some r) = r.timer
+
+-- when it is due
+abbrev pub due_in : Option Request → Option ℕ
+due_in r = option_map (λ t. t.due) (timer_in r)
+
+-- two timers, of which the first is sooner than the second
+abbrev pub ComesSooner : Option Timer → Option Timer → Type 0
+ComesSooner None u = ⊥
+ComesSooner (Some t) None = ⊥
+ComesSooner (Some t) (Some u) = is_sooner t u ≡ true
+
+abbrev pub IsSooner : Option Request → Option Request → Type 0
+IsSooner r q = ComesSooner (timer_in r) (timer_in q)
+
+-- these are the requests of the checked machine, and the entries and the timers stand in its order
+pub record StandsFor (a : Active) (asked : ℕ → Option Request) : Type 0 where
+  pub tells : (n : ℕ) → Tells (request_at a.table n) (asked n)
+  pub priorities : All (λ e. HasPriority e.priority (asked e.id)) a.roster.entries
+  pub order : AllPairs (λ e f. GoesBefore (asked e.id) (asked f.id)) a.roster.entries
+  pub dues : (n : ℕ) → due_of n a.pending.timers ≡ due_in (asked n)
+  pub sooner : AllPairs (λ t u. IsSooner (asked t.id) (asked u.id)) a.pending.timers

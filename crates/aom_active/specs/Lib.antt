@@ -1,0 +1,4 @@
+pub mod Agrees
+pub mod Meanings
+pub mod Aborts
+pub mod Turns

@@ -1,0 +1,210 @@
+//! The active objects of a machine.
+ghost use Rattle.std.specs.Prelude.{◌≡◌, ◌<◌, ◌≤◌, Some, None, IfOk, IsTrue, IsFalse, is_some};
+ghost use Rattle.aom_requests.specs.Requests.{request_at, IsEnlisted, state_at, status_at, is_pending};
+ghost use Rattle.aom_scheduler.specs.Pending.{first_due, AreInOrder};
+ghost use Rattle.aom_scheduler.specs.Roster.{IsSound};
+ghost use Rattle.aom_image.specs.declared.class.Provider.TheVariants.{Own};
+ghost use Rattle.aom_sound.specs.Enlisted.{issued_by, waits, cancelling, aborted, cancelled};
+ghost use Rattle.aom_active.specs.Agrees.{StandsFor};
+ghost use Rattle.aom_active.specs.Meanings.{is_waited_for, is_being_cancelled, is_busy, Makes, Removes, Enlists, Times, Completes, IsNextDue, Picks};
+
+use crate::parts::{abort_request, mark, stop_timer};
+use aom_cells::CellId;
+use aom_requests::{Requests, State};
+use aom_scheduler::{Schedule, Timers};
+use std::alloc::{AllocError, Global};
+use std::marker::Model;
+
+/// The objects that are enlisted (CActiveScheduler), each with its request (CActive) and its timer (RTimer).
+#[derive(Drop)]
+pub struct ActiveObjects {
+    requests: Requests,
+    schedule: Schedule,
+    timers: Timers,
+}
+
+impl Model for ActiveObjects {
+    ghost use Rattle.aom_active.specs.Agrees.{Active, IsWhole};
+
+    ghost Value = { Active };
+
+    ghost view = { λ a. record { table = a.requests; roster = a.schedule; pending = a.timers } };
+
+    ghost invariant = { λ a. IsWhole (record { table = a.requests; roster = a.schedule; pending = a.timers }) };
+}
+
+impl ActiveObjects {
+    /// No object is enlisted, and there is a place for each number below `limit`, which is all the memory that is ever taken.
+    pub fn with_limit(alloc: Global, limit: usize) -> Result<ActiveObjects, AllocError>
+        requires { limit ≤ 4096 }
+        ensures limit { IfOk result (λ a. a.table.limit ≡ limit) }
+        ensures stands { IfOk result (λ a. StandsFor a (λ n. None)) }
+    {
+        let requests = Requests::with_limit(alloc, limit)?;
+        let schedule = Schedule::with_limit(alloc, limit)?;
+        let timers = Timers::with_limit(alloc, limit)?;
+        Ok(ActiveObjects {
+            requests,
+            schedule,
+            timers,
+        })
+    }
+
+    /// Enlists an idle object, which goes after all of its priority: CActiveScheduler::Add.
+    pub fn enlist(&mut self, id: CellId, priority: i32)
+        requires place { id < self.old.table.limit }
+        requires fresh { request_at self.old.table id ≡ None }
+        ensures { Enlists self.old self.new id priority }
+    {
+        self.in_order();
+        self.requests.add(id);
+        self.schedule.insert(id, priority);
+    }
+
+    /// The object is enlisted no more, and its timer ends: CActive::Deque. A signal that it holds goes with it.
+    pub fn remove(&mut self, id: CellId)
+        requires { IsEnlisted self.old.table id }
+        ensures { Removes self.old self.new id }
+    {
+        self.schedule.remove(id);
+        self.requests.remove(id);
+        stop_timer(&mut self.timers, id);
+    }
+
+    /// An idle object makes a request of itself, which is completed at once: RThread::RequestComplete. It does not wait for it yet.
+    pub fn issue_own(&mut self, id: CellId, code: i32)
+        requires { state_at self.old.table id ≡ Some State.Idle }
+        ensures { Makes self.old self.new id (issued_by Own 0 0 code) }
+    {
+        self.requests.issue(id);
+        self.requests.complete(id, code);
+    }
+
+    /// An idle object makes a request of a timer, which is due at that time in microseconds: RTimer::At. It does not wait for it yet.
+    pub fn issue_timer(&mut self, id: CellId, due: u64)
+        requires { state_at self.old.table id ≡ Some State.Idle }
+        ensures { Times self.old self.new id due }
+    {
+        self.in_order();
+        self.requests.issue(id);
+        self.timers.after(id, due);
+    }
+
+    /// The object waits for its request, and is ready if that is completed already: CActive::SetActive.
+    pub fn set_active(&mut self, id: CellId)
+        requires { state_at self.old.table id ≡ Some State.Issued }
+        ensures { Makes self.old self.new id waits }
+    {
+        self.requests.set_active(id);
+        mark(&mut self.schedule, id, self.requests.is_ready(id));
+    }
+
+    /// A cancel of the request begins, and the object waits for it no more: CActive::Cancel, before DoCancel.
+    pub fn cancelling(&mut self, id: CellId)
+        requires { state_at self.old.table id ≡ Some State.Active }
+        ensures { Makes self.old self.new id cancelling }
+    {
+        self.requests.cancelling(id);
+        mark(&mut self.schedule, id, false);
+    }
+
+    /// A request that is being cancelled is completed with KErrCancel if it is pending still, and its timer ends: RTimer::Cancel.
+    pub fn abort(&mut self, id: CellId)
+        requires { IsTrue (is_being_cancelled (request_at self.old.table id)) }
+        ensures { Makes self.old self.new id aborted }
+    {
+        abort_request(&mut self.requests, id);
+        stop_timer(&mut self.timers, id);
+    }
+
+    /// A cancel of a request that is completed is over: its signal is taken, as CActive::Cancel does by User::WaitForRequest.
+    pub fn cancelled(&mut self, id: CellId)
+        requires cancelled { IsTrue (is_being_cancelled (request_at self.old.table id)) }
+        requires completed { IsFalse (is_pending (request_at self.old.table id)) }
+        ensures { Makes self.old self.new id cancelled }
+    {
+        self.requests.wait_for(id);
+    }
+
+    /// The object whose timer is due first, if it is due by `now`: its request is completed with KErrNone.
+    pub fn due(&mut self, now: u64) -> Option<CellId>
+        ensures { Completes now self.old self.new result }
+    {
+        self.in_order();
+        let id = self.timers.due(now)?;
+        self.requests.complete(id, 0);
+        let is_ready = self.requests.is_ready(id);
+        mark(&mut self.schedule, id, is_ready);
+        Some(id)
+    }
+
+    /// When the first timer is due, in microseconds.
+    pub fn next_due(&self) -> Option<u64>
+        ensures value { result ≡ first_due self.now.pending.timers }
+        ensures next { IsNextDue self.now result }
+    {
+        self.timers.next_due()
+    }
+
+    /// The pick among those that are ready, whose RunL is next: its signal is taken, and it is idle.
+    pub fn pick(&mut self) -> Option<CellId>
+        ensures { Picks self.old self.new result }
+    {
+        let pick = self.schedule.next_ready()?;
+        self.requests.wait_for(pick);
+        self.schedule.set_waiting(pick);
+        Some(pick)
+    }
+
+    pub fn is_enlisted(&self, id: CellId) -> bool
+        ensures { result ≡ is_some (request_at self.now.table id) }
+    {
+        self.requests.is_enlisted(id)
+    }
+
+    /// Whether the object waits for its request: CActive::IsActive, but for a cancel.
+    pub fn is_active(&self, id: CellId) -> bool
+        ensures { result ≡ is_waited_for (request_at self.now.table id) }
+    {
+        self.is_enlisted(id) && self.requests.state(id) == State::Active
+    }
+
+    /// Whether the object waits for its request, or that is being cancelled.
+    pub fn is_busy(&self, id: CellId) -> bool
+        ensures { result ≡ is_busy (request_at self.now.table id) }
+    {
+        self.is_enlisted(id)
+            && matches!(
+                self.requests.state(id),
+                State::Active | State::Cancelling | State::Aborted
+            )
+    }
+
+    /// How far the object's request has come, if it is enlisted.
+    pub fn state(&self, id: CellId) -> Option<State>
+        ensures { result ≡ state_at self.now.table id }
+    {
+        if self.is_enlisted(id) {
+            Some(self.requests.state(id))
+        } else {
+            None
+        }
+    }
+
+    /// The status of the object's last request, 0 before the first: CActive::iStatus.
+    pub fn status(&self, id: CellId) -> i32
+        requires { IsEnlisted self.now.table id }
+        ensures { status_at self.now.table id ≡ Some result }
+    {
+        self.requests.status(id)
+    }
+
+    /// For proofs alone: the entries and the timers are in order.
+    fn in_order(&self)
+        ensures entries { IsSound self.now.roster }
+        ensures timers { AreInOrder self.now.pending }
+    {
+        let _ = self.schedule.count();
+        let _ = self.timers.count();
+    }
+}
