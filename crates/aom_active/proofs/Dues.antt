@@ -37,14 +37,14 @@ timer_later : (c : Cell) (cs : List Cell) (n : ℕ) (t : Timer) → Tidy (c ∷ 
 timer_later c cs n t tidy e = ap (λ b. timer_in (cond b c.request (requested cs n))) (other_name c cs n tidy (timer_lives cs n t e)) ∙ e
 
 -- what runs is the timer of a cell that is there
-record Running (cs : List Cell) (x : Timed) : Type 0 where
-  lives : named cs x.object.name ≡ Some x.object
-  runs : timer_in (requested cs x.object.name) ≡ Some x.timer
+pub record Running (cs : List Cell) (x : Timed) : Type 0 where
+  pub lives : named cs x.object.name ≡ Some x.object
+  pub runs : timer_in (requested cs x.object.name) ≡ Some x.timer
 
 abbrev first_running : Cell → Timer → Timed
 first_running c t = record { object = c.object; timer = t }
 
-running : (cs : List Cell) → Tidy cs → (x : Timed) → first_due cs ≡ Some x → Running cs x
+pub running : (cs : List Cell) → Tidy cs → (x : Timed) → first_due cs ≡ Some x → Running cs x
 running [] tidy x e = cc
 running (c ∷ cs) tidy x e = by_timer (timer_in c.request) refl (λ f. later (running cs tidy.2 x f))
   where

@@ -1,5 +1,5 @@
 -- The first of the timers and the first entry that is ready, as they tell of the requests that they stand for.
-use Rattle.std.proofs.Common.{◌≡◌, ◌≢◌, ◌<◌, ◌≤◌, ◌==◌, ℕ, Bool, true, false, cond, List, [], ◌∷◌, Option, Some, None, refl, sym, ap, ◌∙◌, subst, arith}
+use Rattle.std.proofs.Common.{◌≡◌, ◌≢◌, ◌<◌, ◌≤◌, ◌==◌, ℕ, Bool, true, false, cond, List, [], ◌∷◌, length, suc, Option, Some, None, refl, sym, ap, ◌∙◌, subst, arith}
 use Rattle.std.specs.Prelude.{All, AllPairs, IsSome, is_some, not, ◌&&◌, ◌||◌, nat_le, nat_lt, option_map}
 use Rattle.std.specs.Ordering.{int_eq}
 use Rattle.std.proofs.lemmas.Bool.{eq-eqb, eqb-true, eqb-false, false≢true, true≢false, leb-true, leb-false}
@@ -113,6 +113,15 @@ left_some now id (t ∷ ts) distinct e = go (nat_le t.due now) e
   where
     go : (b : Bool) → cond b (Some t.id) None ≡ Some id → cond b ts (t ∷ ts) ≡ without id_of id (t ∷ ts)
     go true e = without-at id_of id (t ∷ ts) 0 distinct (at_head t ts (same_Some t.id id e))
+    go false e = cc
+
+-- the first is set no more then
+pub fewer_left : (now id : ℕ) (ts : List Held_timer) → due_by now ts ≡ Some id → length (left_by now ts) < length ts
+fewer_left now id [] e = cc
+fewer_left now id (t ∷ ts) e = go (nat_le t.due now) e
+  where
+    go : (b : Bool) → cond b (Some t.id) None ≡ Some id → length (cond b ts (t ∷ ts)) < suc (length ts)
+    go true e = omega arith
     go false e = cc
 
 -- the object of the first that is due has a timer

@@ -1,5 +1,5 @@
 //! The active objects of a machine.
-ghost use Rattle.std.specs.Prelude.{◌≡◌, ◌<◌, ◌≤◌, Some, None, IfOk, IsTrue, IsFalse, is_some};
+ghost use Rattle.std.specs.Prelude.{◌≡◌, ◌<◌, ◌≤◌, Some, None, IfOk, IfSome, IsTrue, IsFalse, is_some, length};
 ghost use Rattle.aom_requests.specs.Requests.{request_at, IsEnlisted, state_at, status_at, is_pending};
 ghost use Rattle.aom_scheduler.specs.Pending.{first_due, AreInOrder};
 ghost use Rattle.aom_scheduler.specs.Roster.{IsSound};
@@ -128,7 +128,8 @@ impl ActiveObjects {
 
     /// The object whose timer is due first, if it is due by `now`: its request is completed with KErrNone.
     pub fn due(&mut self, now: u64) -> Option<CellId>
-        ensures { Completes now self.old self.new result }
+        ensures completes { Completes now self.old self.new result }
+        ensures fewer { IfSome result (λ id. length self.new.pending.timers < length self.old.pending.timers) }
     {
         self.in_order();
         let id = self.timers.due(now)?;

@@ -146,23 +146,24 @@ lives_by_class h n = by_cell (cell_at h n)
     by_cell (Some c) = (λ yes. yes, λ yes. yes)
 
 -- the heap without cells is bounded
-pub bounded_empty : (limit : ℕ) → IsBounded (record { slots = []; limit = limit })
-bounded_empty limit = record { within = omega arith; ids = λ id lives. absurd (false≢true lives) }
+pub bounded_empty : (limit : ℕ) → limit ≤ 4096 → IsBounded (record { slots = []; limit = limit })
+bounded_empty limit small = record { within = omega arith; ids = λ id lives. absurd (false≢true lives); limit = small }
 
--- a change at a number below 4,096 keeps the heap bounded, if no more cells live than may
-pub bounded_after : (old new : Heap) (id : ℕ) (cell : Option Cell) → IsBounded old → Changes old new id cell → id < 4096 → count new ≤ new.limit → IsBounded new
+-- a change at a number below the limit keeps the heap bounded, if no more cells live than may
+pub bounded_after : (old new : Heap) (id : ℕ) (cell : Option Cell) → IsBounded old → Changes old new id cell → id < new.limit → count new ≤ new.limit → IsBounded new
 bounded_after old new id cell was ch small within =
     record {
       within = within;
       ids = λ n lives. elim (cases_Bool (id == n)) [
-        | inl e ↦ subst (λ k. k < 4096) (eqb-true id n e) small
-        | inr e ↦ was.ids n (subst (λ c. IsSome c) (ch.others n (λ same. false≢true (sym e ∙ eq-eqb id n (sym same)))) lives)
+        | inl e ↦ subst (λ k. k < new.limit) (eqb-true id n e) small
+        | inr e ↦ subst (λ k. n < k) (sym ch.limit) (was.ids n (subst (λ c. IsSome c) (ch.others n (λ same. false≢true (sym e ∙ eq-eqb id n (sym same)))) lives))
       ];
+      limit = subst (λ k. k ≤ 4096) (sym ch.limit) was.limit;
     }
 
 -- no cell has the number null
 pub null_is_none : (h : Heap) → IsBounded h → cell_at h null ≡ None
-null_is_none h bounded = by_cell (cell_at h null) (bounded.ids null)
+null_is_none h bounded = by_cell (cell_at h null) (λ lives. let below = bounded.ids null lives in let most = bounded.limit in omega (arith, below, most))
   where
     by_cell : (cell : Option Cell) → (IsSome cell → null < 4096) → cell ≡ None
     by_cell None small = refl

@@ -70,7 +70,8 @@ pub record Changes (old new : Heap) (id : ℕ) (cell : Option Cell) : Type 0 whe
   pub others : (other : ℕ) → other ≢ id → cell_at new other ≡ cell_at old other
   pub limit : new.limit ≡ old.limit
 
--- no more cells live than may, and the numbers of those that live are below 4,096
+-- no more cells live than may, and the numbers of those that live are below that limit, which is 4,096 at most
 pub record IsBounded (h : Heap) : Type 0 where
   pub within : count h ≤ h.limit
-  pub ids : (id : ℕ) → Lives h id → id < 4096
+  pub ids : (id : ℕ) → Lives h id → id < h.limit
+  pub limit : h.limit ≤ 4096

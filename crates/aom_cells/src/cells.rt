@@ -16,14 +16,14 @@ pub struct Cells {
 }
 
 impl Model for Cells {
-    ghost use Rattle.std.specs.Prelude.{◌≤◌};
+    ghost use Rattle.std.specs.Prelude.{◌≡◌};
     ghost use Rattle.aom_cells.specs.Heap.{Heap, IsBounded};
 
     ghost Value = { Heap };
 
     ghost view = { λ c. record { slots = c.slab.slots; limit = c.limit } };
 
-    ghost invariant = { λ c. IsBounded (record { slots = c.slab.slots; limit = c.limit }) × (c.limit ≤ c.slab.capacity) × (c.slab.capacity ≤ 4096) };
+    ghost invariant = { λ c. IsBounded (record { slots = c.slab.slots; limit = c.limit }) × (c.slab.capacity ≡ c.limit) };
 }
 
 impl Cells {
@@ -34,7 +34,7 @@ impl Cells {
     {
         let slab = Slab::with_capacity(alloc, limit)?;
         // It is `limit`, but the slab promises only that it is no less, and ids lie below it.
-        if slab.capacity() > 4096 {
+        if slab.capacity() > limit {
             return Err(AllocError);
         }
         Ok(Cells { slab, limit })
@@ -67,9 +67,10 @@ impl Cells {
     pub fn living(&self, number: u32) -> CellId
         requires { Lives self.now number }
         ensures value { result ≡ number }
+        ensures below { result < self.now.limit }
         ensures in_range { result < 4096 }
     {
-        // The look at a field tells that the numbers of living cells are below 4,096.
+        // The look at a field tells that the numbers of living cells are below the limit.
         let _ = &self.slab;
         CellId::new(number)
     }

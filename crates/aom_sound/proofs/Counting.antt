@@ -9,7 +9,7 @@ use Rattle.std.proofs.Common.{Bool, List, None, Option, Some, ap, arith, cond, f
 use Rattle.aom_image.specs.Image.{Image}
 use Rattle.aom_sound.proofs.Moving.{steps_are_moves}
 use Rattle.aom_sound.proofs.Resting.{move_rest, IsEnd, Takes}
-use Rattle.aom_sound.specs.Counting.{StepsAreCounted, ends_object, in_range, restarts, starts, steps_of, taken}
+use Rattle.aom_sound.specs.Counting.{DispatchesAreCounted, StepsAreCounted, ends_object, in_range, restarts, starts, steps_of, taken}
 use Rattle.aom_sound.specs.Effects.{Course, Goes_its_way, Stops, coursed}
 use Rattle.aom_sound.specs.Moves.{answered, asking, counted, dispatch_ends, failed, handled, is_counted, main_ends, object_ends, step, step_task}
 use Rattle.aom_sound.specs.Places.{Elsewhere, Object, Root, held}
@@ -17,53 +17,62 @@ use Rattle.aom_sound.specs.State.{Answered, Asks, Choice, Destroy, Dispatch, Dis
 use Rattle.aom_sound.specs.World.{Completes, Cuts, Passes, Picks, Reaches, Strays, Turning, Waits, begins, boot_state, moves, turn, turned, turning, turns, Outside}
 use Rattle.aom_transcript.specs.declared.line.Line.{Line}
 
-course_steps : (x : Course) (r : Rest) → (coursed x r).steps ≡ r.steps
-course_steps Goes_its_way r = refl
-course_steps Stops r = refl
+-- the counts after a move, by those before it: where the dispatch of an object ends steps are counted anew, and it counts
+abbrev Counts : Bool → Rest → Rest → Type 0
+Counts ends r u = (u.steps ≡ cond ends 0 r.steps) × (u.dispatches ≡ cond ends (raised r.dispatches) r.dispatches)
 
-main_steps : (p : Image) (b : Bool) (o : Option Object) (s : State) → (main_ends p b o s).rest.steps ≡ s.rest.steps
-main_steps p true (Some o) s = refl
-main_steps p true None s = refl
-main_steps p false o s = refl
+course_counts : (x : Course) (r : Rest) → Counts false r (coursed x r)
+course_counts Goes_its_way r = (refl, refl)
+course_counts Stops r = (refl, refl)
 
-object_steps : (p : Image) (s : State) → (object_ends p s).rest.steps ≡ 0
-object_steps p s = main_steps p s.rest.stopped (held s.cells (Elsewhere Root)) (handled s)
+main_counts : (p : Image) (b : Bool) (o : Option Object) (s : State) → Counts false s.rest (main_ends p b o s).rest
+main_counts p true (Some o) s = (refl, refl)
+main_counts p true None s = (refl, refl)
+main_counts p false o s = (refl, refl)
 
-answer_steps : (p : Image) (answer : ℤ) (s : State) → (answered p answer s).rest.steps ≡ 0
-answer_steps p answer s = go (int_eq answer (pos 0))
+object_counts : (p : Image) (s : State) → Counts true s.rest (object_ends p s).rest
+object_counts p s = main_counts p s.rest.stopped (held s.cells (Elsewhere Root)) (handled s)
+
+answer_counts : (p : Image) (answer : ℤ) (s : State) → Counts true s.rest (answered p answer s).rest
+answer_counts p answer s = go (int_eq answer (pos 0))
   where
-    go : (b : Bool) → (cond b (object_ends p s) (failed answer s)).rest.steps ≡ 0
-    go true = object_steps p s
-    go false = refl
+    go : (b : Bool) → Counts true s.rest (cond b (object_ends p s) (failed answer s)).rest
+    go true = object_counts p s
+    go false = (refl, refl)
 
-end_steps : (p : Image) (d : Dispatch) (s : State) → (dispatch_ends p d s).rest.steps ≡ cond (ends_object p d) 0 s.rest.steps
-end_steps p Of_main s = main_steps p s.rest.stopped (held s.cells (Elsewhere Root)) s
-end_steps p (Main_left code) s = refl
-end_steps p Of_root s = refl
-end_steps p (Of_object x) s = object_steps p s
-end_steps p (Object_left x code) s = go (part_of p Error x.object.thing)
+end_counts : (p : Image) (d : Dispatch) (s : State) → Counts (ends_object p d) s.rest (dispatch_ends p d s).rest
+end_counts p Of_main s = main_counts p s.rest.stopped (held s.cells (Elsewhere Root)) s
+end_counts p (Main_left code) s = (refl, refl)
+end_counts p Of_root s = (refl, refl)
+end_counts p (Of_object x) s = object_counts p s
+end_counts p (Object_left x code) s = go (part_of p Error x.object.thing)
   where
-    go : (m : Option ℕ) → (asking p m x code s).rest.steps ≡ cond (is_none m) 0 s.rest.steps
-    go None = answer_steps p code s
-    go (Some m) = refl
-end_steps p (Asks x) s = object_steps p s
-end_steps p (Answered x answer) s = answer_steps p answer s
+    go : (m : Option ℕ) → Counts (is_none m) s.rest (asking p m x code s).rest
+    go None = answer_counts p code s
+    go (Some m) = (refl, refl)
+end_counts p (Asks x) s = object_counts p s
+end_counts p (Answered x answer) s = answer_counts p answer s
 
 -- a move counts, and nothing else does
-pub move_steps : (p : Image) (c : Choice) (s u : State) → step p c s ≡ Goes u → u.rest.steps ≡ cond (restarts p s.tasks) 0 (counted p s).rest.steps
-move_steps p c s u e = go (move_rest p c s u (steps_are_moves p c s u e))
+move_counts : (p : Image) (c : Choice) (s u : State) → step p c s ≡ Goes u → Counts (restarts p s.tasks) (counted p s).rest u.rest
+move_counts p c s u e = go (move_rest p c s u (steps_are_moves p c s u e))
   where
-    go : Takes p s u ⊎ IsEnd p s u → u.rest.steps ≡ cond (restarts p s.tasks) 0 (counted p s).rest.steps
+    go : Takes p s u ⊎ IsEnd p s u → Counts (restarts p s.tasks) (counted p s).rest u.rest
     go (inl t) = by_tasks s.tasks refl
       where
-        plain : u.rest.steps ≡ (counted p s).rest.steps
-        plain = ap (λ (r : Rest). r.steps) t.1 ∙ course_steps t.0 (counted p s).rest
+        plain : Counts false (counted p s).rest u.rest
+        plain = subst (λ r. Counts false (counted p s).rest r) (sym t.1) (course_counts t.0 (counted p s).rest)
 
-        by_tasks : (ts : List Task) → s.tasks ≡ ts → u.rest.steps ≡ cond (restarts p ts) 0 (counted p s).rest.steps
+        by_tasks : (ts : List Task) → s.tasks ≡ ts → Counts (restarts p ts) (counted p s).rest u.rest
         by_tasks (Dispatched d ∷ ts) at =
-            ap (λ (x : State). x.rest.steps) (sym (goes_same (dispatch_ends p d (counted p s)) u (subst (λ l. step_task p c (counted p s) l ≡ Goes u) at e))) ∙ end_steps p d (counted p s)
+            subst (λ (x : State). Counts (ends_object p d) (counted p s).rest x.rest) (goes_same (dispatch_ends p d (counted p s)) u (subst (λ l. step_task p c (counted p s) l ≡ Goes u) at e)) (end_counts p d (counted p s))
         by_tasks _ at = plain
-    go (inr d) = ap (λ (x : State). x.rest.steps) d.3 ∙ end_steps p d.0 (counted p s) ∙ sym (ap (λ ts. cond (restarts p ts) 0 (counted p s).rest.steps) d.2)
+    go (inr d) =
+        subst (λ ts. Counts (restarts p ts) (counted p s).rest u.rest) (sym d.2)
+        (subst (λ (x : State). Counts (ends_object p d.0) (counted p s).rest x.rest) (sym d.3) (end_counts p d.0 (counted p s)))
+
+pub move_steps : (p : Image) (c : Choice) (s u : State) → step p c s ≡ Goes u → u.rest.steps ≡ cond (restarts p s.tasks) 0 (counted p s).rest.steps
+move_steps p c s u e = (move_counts p c s u e).0
 
 counted_steps : (ts : List Task) (n : ℕ) → n ≡ in_range n → cond (is_counted ts) (raised n) n ≡ in_range (n + steps_of ts)
 counted_steps (Run fr ∷ ts) n e = refl
@@ -94,6 +103,18 @@ turn_count p outside s u e = go (turning outside s) e
     go (Passes due) e = ap (λ (v : State). v.rest.steps) (sym (goes_same _ u e))
     go Waits e = ap (λ (v : State). v.rest.steps) (sym (goes_same _ u e))
 
+-- and ends no dispatch
+turn_dispatches : (p : Image) (outside : Outside) (s u : State) → turn p outside s ≡ Goes u → u.rest.dispatches ≡ s.rest.dispatches
+turn_dispatches p outside s u e = go (turning outside s) e
+  where
+    go : (k : Turning) → turned p s k ≡ Goes u → u.rest.dispatches ≡ s.rest.dispatches
+    go (Picks x) e = ap (λ (v : State). v.rest.dispatches) (dispatched_so p s u x e).2
+    go Strays e = cc
+    go Cuts e = ap (λ (v : State). v.rest.dispatches) (sym (goes_same _ u e))
+    go (Completes o) e = ap (λ (v : State). v.rest.dispatches) (sym (goes_same _ u e))
+    go (Passes due) e = ap (λ (v : State). v.rest.dispatches) (sym (goes_same _ u e))
+    go Waits e = ap (λ (v : State). v.rest.dispatches) (sym (goes_same _ u e))
+
 anew : (b : Bool) (n : ℕ) → cond b 0 (in_range n) ≡ in_range (cond b 0 n)
 anew true n = refl
 anew false n = refl
@@ -113,3 +134,6 @@ steps_are_counted = record {
   turns = turn_count;
   runs = λ p outside lines s reached. runs_count p outside reached;
 }
+
+pub dispatches_are_counted : DispatchesAreCounted
+dispatches_are_counted = record { moves = λ p c s u e. (move_counts p c s u e).1; turns = turn_dispatches }

@@ -163,7 +163,7 @@ module _ (p : Image) (t : Typing) (s : State) (w : WellTyped p t s) (idle_now : 
         (good.suits y (sym (alike.named_so y.name) ∙ lives))
 
   -- the request of an object is completed by its timer
-  completed : (o : Object) → WellTyped p t (record s { cells = with_request timed_out o s.cells })
+  pub completed : (o : Object) → WellTyped p t (record s { cells = with_request timed_out o s.cells })
   completed o = record {
     layers = [];
     tasks = idle_now;
@@ -194,7 +194,7 @@ module _ (p : Image) (t : Typing) (s : State) (w : WellTyped p t s) (idle_now : 
     handler_of (An_object_of c) e = let h = wired.handler c e in (h.0, h.1, c, refl, wired.handles c h.0 h.1)
     handler_of Message e = cc
 
-    picked_well : (y : Candidate) → first_ready s.cells ≡ Some y → Keeps p t (dispatched (part_of p Handles y.seat.object.thing) y.seat s)
+    pub picked_well : (y : Candidate) → first_ready s.cells ≡ Some y → Keeps p t (dispatched (part_of p Handles y.seat.object.thing) y.seat s)
     picked_well y e = subst (λ h. Keeps p t (dispatched h y.seat s)) (sym it.1) well
       where
         x : Seat

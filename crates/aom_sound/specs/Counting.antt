@@ -1,7 +1,7 @@
 -- What counts as a step: an instruction that runs, those of destructors and operations among them, and a cell that goes.
 use Rattle.std.specs.Prelude.{ℕ, Bool, true, false, cond, is_none, ◌+◌, ◌-◌, ◌^◌, ◌≡◌, min, List, ◌∷◌}
 use Rattle.aom_image.specs.Image.{Image}
-use Rattle.aom_sound.specs.State.{Dispatch, Of_main, Main_left, Of_root, Of_object, Object_left, Asks, Answered, Task, Run, Destroy, Dispatched, State, Choice, Goes}
+use Rattle.aom_sound.specs.State.{Dispatch, Of_main, Main_left, Of_root, Of_object, Object_left, Asks, Answered, Task, Run, Destroy, Dispatched, State, Choice, Goes, raised}
 use Rattle.aom_image.specs.declared.method.Role.TheVariants.{Error}
 use Rattle.aom_sound.specs.Enlisted.{part_of}
 use Rattle.aom_sound.specs.Moves.{step}
@@ -50,3 +50,8 @@ pub record StepsAreCounted : Type 0 where
   pub moves : (p : Image) (c : Choice) (s u : State) → s.rest.steps ≡ in_range s.rest.steps → step p c s ≡ Goes u → u.rest.steps ≡ cond (restarts p s.tasks) 0 (in_range (s.rest.steps + steps_of s.tasks))
   pub turns : (p : Image) (outside : Outside) (s u : State) → turn p outside s ≡ Goes u → u.rest.steps ≡ cond (starts (turning outside s)) 0 s.rest.steps
   pub runs : (p : Image) (outside : Outside) (lines : List Line) (s : State) (reached : Reaches p outside (boot_state p) lines s) → s.rest.steps ≡ in_range (taken reached)
+
+-- a dispatch of an object counts as it ends, and so far as the count reaches
+pub record DispatchesAreCounted : Type 0 where
+  pub moves : (p : Image) (c : Choice) (s u : State) → step p c s ≡ Goes u → u.rest.dispatches ≡ cond (restarts p s.tasks) (raised s.rest.dispatches) s.rest.dispatches
+  pub turns : (p : Image) (outside : Outside) (s u : State) → turn p outside s ≡ Goes u → u.rest.dispatches ≡ s.rest.dispatches

@@ -64,7 +64,7 @@ module _ (p : Image) (c : Prices) (s : State) (bare : objects_left c s.cells + o
   beginning (Some m) same u e = subst Paid (goes_same _ u e)
       (omega (arith, begun_so x.object.thing refl m same, fresh_rounds c m (method_at p m), bare, asked_same c x.object.name (on_request taken_up (requested s.cells x.object.name)) s.cells))
 
-picking : (p : Image) (t : Typing) (c : Prices) (s : State) → WellTyped p t s → s.tasks ≡ [] → (x : Turning) → starts x ≡ true → (u : State) → turned p s x ≡ Goes u → left p c u ≤ price_of p c (payer u.tasks)
+pub picking : (p : Image) (t : Typing) (c : Prices) (s : State) → WellTyped p t s → s.tasks ≡ [] → (x : Turning) → starts x ≡ true → (u : State) → turned p s x ≡ Goes u → left p c u ≤ price_of p c (payer u.tasks)
 picking p t c s w idle (Picks x) f u e = beginning p c s (none_between p t c s w idle) x (part_of p Handles x.object.thing) refl u e
 picking p t c s w idle _ f u e = cc
 
