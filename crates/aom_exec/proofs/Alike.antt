@@ -7,12 +7,12 @@ use Rattle.aom_frames.specs.Tasks.{Runs, below_first}
 use Rattle.aom_exec.specs.Places.{IsDestroying, IsEnding, IsTrapped, IsUnwinding}
 use Rattle.aom_sound.specs.State.{Frame, Task, Run, Trapped, Destroy, Unwind, Dispatch, Dispatched, Item, An_object, An_operation, A_mark}
 use Rattle.aom_frames.specs.declared.frame.Frame.{Frame as Held_frame}
-use Rattle.aom_frames.specs.declared.task.Dispatch.{Dispatch as Held_dispatch}
+use Rattle.aom_frames.specs.declared.dispatch.Dispatch.{Dispatch as Held_dispatch}
 use Rattle.aom_frames.specs.declared.task.Task.{Task as Held_task}
 use Rattle.aom_frames.specs.declared.task.Task.TheVariants.{Run as Runs_frame, Trapped as Is_trap, Destroy as Destroys, Unwind as Unwinds, Dispatched as Ends}
 use Rattle.aom_cleanup.specs.declared.item.Item.{Item as Held_item}
 use Rattle.aom_cleanup.specs.declared.item.Item.TheVariants.{Object as Holds_object, Operation as Holds_operation, Mark as Is_mark}
-use Rattle.aom_exec.specs.Agrees.{dispatch_of, SameFrame, SameTask, SameTasks, SameItem, SameItems}
+use Rattle.aom_exec.specs.Agrees.{SameFrame, SameTask, SameTasks, SameDispatch, SameItem, SameItems}
 
 -- a task of the machine and the one that it stands for
 pub record EachTask (P : Held_task → Task → Type 0) : Type 0 where
@@ -20,7 +20,7 @@ pub record EachTask (P : Held_task → Task → Type 0) : Type 0 where
   pub trapped : P Is_trap Trapped
   pub destroys : (x : ℕ) → P (Destroys x) Destroy
   pub unwinds : (code c : ℤ) → code ≡ c → P (Unwinds code) (Unwind c)
-  pub ends : (x : Held_dispatch) (d : Dispatch) → dispatch_of x ≡ d → P (Ends x) (Dispatched d)
+  pub ends : (x : Held_dispatch) (d : Dispatch) → SameDispatch x d → P (Ends x) (Dispatched d)
 
 pub by_task : (P : Held_task → Task → Type 0) → EachTask P → (m : Held_task) (u : Task) → SameTask m u → P m u
 by_task P each (Runs_frame f) (Run fr) same = each.runs f fr same
@@ -55,7 +55,7 @@ pub data Alike : List Held_task → List Task → Type 0 where
   both_trapped : (ms : List Held_task) (ts : List Task) → SameTasks ms ts → Alike ms ts → Alike (Is_trap ∷ ms) (Trapped ∷ ts)
   both_go : (x : ℕ) (ms : List Held_task) (ts : List Task) → SameTasks ms ts → Alike ms ts → Alike (Destroys x ∷ ms) (Destroy ∷ ts)
   both_unwind : (code c : ℤ) (ms : List Held_task) (ts : List Task) → code ≡ c → SameTasks ms ts → Alike ms ts → Alike (Unwinds code ∷ ms) (Unwind c ∷ ts)
-  both_end : (x : Held_dispatch) (d : Dispatch) (ms : List Held_task) (ts : List Task) → dispatch_of x ≡ d → SameTasks ms ts → Alike ms ts → Alike (Ends x ∷ ms) (Dispatched d ∷ ts)
+  both_end : (x : Held_dispatch) (d : Dispatch) (ms : List Held_task) (ts : List Task) → SameDispatch x d → SameTasks ms ts → Alike ms ts → Alike (Ends x ∷ ms) (Dispatched d ∷ ts)
 
 pub alike : (ms : List Held_task) (us : List Task) → SameTasks ms us → Alike ms us
 alike = by_tasks Alike no_tasks (λ m u ms us same below more. by_task (λ m u. Alike (m ∷ ms) (u ∷ us)) (record {

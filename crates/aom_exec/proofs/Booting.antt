@@ -9,7 +9,7 @@ use Rattle.aom_cells.specs.declared.cell.Cell.{Cell as Held_cell}
 use Rattle.aom_cleanup.specs.Items.{Stack as Held_items, entry_in}
 use Rattle.aom_frames.specs.Tasks.{fresh}
 use Rattle.aom_frames.specs.declared.task.Task.TheVariants.{Run as Runs_frame, Trapped as Is_trap, Dispatched as Ends}
-use Rattle.aom_frames.specs.declared.task.Dispatch.TheVariants.{Main}
+use Rattle.aom_frames.specs.declared.dispatch.Dispatch.TheVariants.{Main}
 use Rattle.aom_sound.specs.State.{AtRoot, frame_of, Run, Trapped, Dispatched, Of_main, A_mark}
 use Rattle.aom_rules.specs.Typing.{Typing}
 use Rattle.aom_verify.specs.Strongest.{IsStrongest}
@@ -28,8 +28,10 @@ use Rattle.aom_exec.specs.declared.parts.Parts.{Parts}
 use Rattle.aom_exec.specs.Boot.{Booted}
 use Rattle.aom_exec.specs.Places.{register_in, going_in, value}
 use Rattle.aom_exec.specs.Agrees.{SameTasks, SameItems, word_in, word_at, thing_in, Agrees}
+use Rattle.aom_exec.proofs.Affording.{affords}
 use Rattle.aom_exec.proofs.CallActs.{shows_null}
 use Rattle.aom_exec.proofs.Entries.{mark_shows_none}
+use Rattle.aom_exec.proofs.Paying.{boots_within, keeps_within}
 use Rattle.aom_exec.proofs.Rooms.{boot_room}
 use Rattle.aom_exec.proofs.Standing.{begun_frame, begun_registers}
 use Rattle.aom_exec.proofs.Waiting.{none_waits}
@@ -63,7 +65,7 @@ module _ (p : Image) (m : Parts) (booted : Booted p m) where
   boot_agrees : Agrees p m (boot_state p)
   boot_agrees = record {
     tasks = subst (λ us. SameTasks us (main_tasks (main_of p))) (sym booted.tasks) (subst (λ us. SameTasks (Runs_frame (fresh booted.main null) ∷ Is_trap ∷ Ends Main ∷ []) us) (sym (boot_tasks p booted.main booted.is_main))
-        (begun_frame booted.main null AtRoot 1 refl, (tt, (refl, tt))));
+        (begun_frame booted.main null AtRoot 1 refl, (tt, ((Elsewhere Root, refl), tt))));
     values = λ r. shows_null _ _ _ (no_value r) (no_word_yet r) refl;
     cells = record {
       things = λ n. ap thing_in (no_cell n);
@@ -75,6 +77,7 @@ module _ (p : Image) (m : Parts) (booted : Booted p m) where
       null_is_none = no_cell null;
     };
     entries = subst (λ (e : Held_items). SameItems e.items (A_mark ∷ [])) (sym booted.entries) (tt, tt);
+    requests = record { stands = booted.requests; limit = booted.numbers };
     rest = booted.rest;
     room = (let d = booted.depth in omega arith);
     entry_room = (let d = ap (λ (e : Held_items). e.depth) booted.entries in omega arith);
@@ -103,7 +106,8 @@ boots p m linked admitted (t, strongest, prices, affordable) depths heights boot
       keeps = λ c s well unused. step_keeps p t w strongest.typed c s well unused;
       prices = prices;
       affordable = affordable;
-      pays = λ c s u well goes n anew h. moves_pay.within p t prices linked strongest.typed affordable.priced c s u well goes n anew h;
+      objects = affords p prices admitted;
+      pays = λ c s u well goes h. keeps_within p t prices linked strongest.typed affordable moves_pay c s u well goes h;
     } in
     record {
       typing = t;
@@ -113,8 +117,6 @@ boots p m linked admitted (t, strongest, prices, affordable) depths heights boot
       traps = boots_at_traps p (main_of p);
       room = boot_room p t sound;
       waits = none_waits p t;
-      within = record { within = omega (arith, (boot_within p prices).within, affordable.declared) };
-      none = refl;
-      asks = tt;
+      within = boots_within p t prices linked strongest.typed affordable boot_within;
       agrees = boot_agrees p m booted;
     }

@@ -14,10 +14,10 @@ use Rattle.aom_sound.proofs.Layers.{dispatch_layer}
 use Rattle.aom_cleanup.specs.Items.{Stack as Held_items, entry_in}
 use Rattle.aom_cleanup.specs.declared.item.Item.TheVariants.{Mark as Is_mark}
 use Rattle.aom_frames.specs.declared.task.Task.TheVariants.{Dispatched as Ends}
-use Rattle.aom_frames.specs.declared.task.Dispatch.{Dispatch as Held_dispatch}
+use Rattle.aom_frames.specs.declared.dispatch.Dispatch.{Dispatch as Held_dispatch}
 use Rattle.aom_exec.specs.declared.parts.Parts.{Parts}
 use Rattle.aom_exec.specs.Places.{value_in}
-use Rattle.aom_exec.specs.Agrees.{word_at, Shows, dispatch_of, number, Agrees}
+use Rattle.aom_exec.specs.Agrees.{word_at, Shows, SameDispatch, number, Agrees}
 use Rattle.aom_exec.specs.Acts.{Does}
 use Rattle.aom_exec.specs.Acts as acts
 use Rattle.aom_exec.proofs.Entries.{mark_shows_none, unmarked}
@@ -30,7 +30,7 @@ pub stop_does : (m : Parts) (refused : List ℕ) → Does refused Stop m (acts.n
 stop_does m refused = plain_does m (acts.next (record m { rest = record m.rest { stopped = true } })) refused Stop refl (λ p h c met.
     let s = h.state in
     goes_on_as p m h (record m { rest = record m.rest { stopped = true } }) s.cells s.items (record s.rest { stopped = true })
-    (record { stack = refl; cells = h.agrees.cells; entries = h.agrees.entries; rest = ap (λ (r : Rest). record r { stopped = true }) h.agrees.rest; room = h.agrees.entry_room })
+    (record { stack = refl; cells = h.agrees.cells; entries = h.agrees.entries; requests = h.agrees.requests; rest = ap (λ (r : Rest). record r { stopped = true }) h.agrees.rest; room = h.agrees.entry_room })
     (λ f ms e top. top.values))
 
 -- where a dispatch is at its end, no register, entry or destruction owns
@@ -55,7 +55,7 @@ pub shows_null : (n : ℕ) (w : Option ℤ) (o : Option Object) → n ≡ null �
 shows_null n w o e f g = subst (λ w. Shows n w o) (sym f) (subst (λ o. Shows n None o) (sym g) e)
 
 -- as main ends, its dispatch is at its end
-pub ended : (p : Image) (m : Parts) (es : Held_items) (s : State) (x : Held_dispatch) (d : Dispatch) → Agrees p m s → m.entries ≡ record es { items = Is_mark ∷ es.items } → dispatch_of x ≡ d
+pub ended : (p : Image) (m : Parts) (es : Held_items) (s : State) (x : Held_dispatch) (d : Dispatch) → Agrees p m s → m.entries ≡ record es { items = Is_mark ∷ es.items } → SameDispatch x d
     → Closing (record s { tasks = Dispatched d ∷ []; items = below_top s.items })
     → Agrees p (record m { stack = record m.stack { tasks = Ends x ∷ [] }; entries = es }) (record s { tasks = Dispatched d ∷ []; items = below_top s.items })
 ended p m es s x d agrees marked same shut = record {
@@ -63,6 +63,7 @@ ended p m es s x d agrees marked same shut = record {
   values = values;
   cells = agrees.cells;
   entries = unmarked m.entries.items es.items s.items (ap (λ (e : Held_items). e.items) marked) agrees.entries;
+  requests = agrees.requests;
   rest = agrees.rest;
   room = agrees.room;
   entry_room = subst (λ n. 1024 ≤ n) (ap (λ (e : Held_items). e.depth) marked) agrees.entry_room;

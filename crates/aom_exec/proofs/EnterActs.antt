@@ -26,6 +26,7 @@ use Rattle.aom_frames.specs.declared.task.Task.{Task as Held_task}
 use Rattle.aom_frames.specs.declared.task.Task.TheVariants.{Run as Runs_frame, Trapped as Is_trap}
 use Rattle.aom_cleanup.specs.declared.item.Item.TheVariants.{Mark as Is_mark}
 use Rattle.aom_cleanup.specs.declared.item.Item.{Item}
+use Rattle.aom_exec.proofs.Asking.{requests_passed}
 use Rattle.aom_exec.specs.declared.parts.Parts.{Parts}
 use Rattle.aom_exec.specs.Next.{IsNext, counting}
 use Rattle.aom_exec.specs.Places.{value_in, register_in, going_in, with_items, with_tasks}
@@ -315,6 +316,7 @@ call_does p m refused target k first x h here =
       values = done.values;
       cells = done.cells;
       entries = h.agrees.entries;
+      requests = requests_passed p fr ts s m.active (suc (length ts)) xs first 0 s.cells h.agrees.requests;
       rest = h.agrees.rest;
       room = h.agrees.room;
       entry_room = h.agrees.entry_room;
@@ -346,6 +348,7 @@ trap_does p m refused target k first x h here =
       values = λ r. subst (λ n. Shows n (word_at (Run (entered p fr ts s target k first (suc (length s.items))) ∷ Trapped ∷ Run fr ∷ ts) r) (held (passed_cells p fr ts s (suc (suc (length ts))) xs first 0 s.cells) r)) (sym (marked_value (Runs_frame (given xs first 0 f (fresh k this)) ∷ Is_trap ∷ Runs_frame (passed_on xs first f) ∷ ms) m.cells m.entries.items m.root r)) (done.values r);
       cells = done.cells;
       entries = (tt, h.agrees.entries);
+      requests = requests_passed p fr ts s m.active (suc (suc (length ts))) xs first 0 s.cells h.agrees.requests;
       rest = h.agrees.rest;
       room = h.agrees.room;
       entry_room = h.agrees.entry_room;

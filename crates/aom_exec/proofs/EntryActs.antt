@@ -22,6 +22,7 @@ use Rattle.aom_frames.specs.Tasks.{on_top, with_register, register_here}
 use Rattle.aom_frames.specs.declared.frame.Frame.{Frame as Held_frame}
 use Rattle.aom_frames.specs.declared.task.Task.{Task as Held_task}
 use Rattle.aom_frames.specs.declared.task.Task.TheVariants.{Run as Runs_frame}
+use Rattle.aom_exec.proofs.Asking.{requests_moved}
 use Rattle.aom_exec.specs.declared.parts.Parts.{Parts}
 use Rattle.aom_exec.specs.Acts.{At_hand, requested, set_register, leaving, refuses, refuses_entry, Made, Does}
 use Rattle.aom_exec.specs.Acts as acts
@@ -76,7 +77,7 @@ module _ (p : Image) (m : Parts) (h : At_hand p m) (r : Rest) (rest : record m.r
       let was = word_here fr ts a ∙ wordless in
       goes_on_with p m h (with_items (Holds_object n ∷ m.entries.items) (asked m)) (moved here there s.cells) (An_object ∷ s.items) r (put_at None fr.words a None)
       (on_top (with_register a null)) (with_register a null) (λ f ms. refl)
-      (record { stack = refl; cells = cells_moved p m.cells s.cells here there h.agrees.cells; entries = (tt, h.agrees.entries); rest = rest; room = h.agrees.entry_room })
+      (record { stack = refl; cells = cells_moved p m.cells s.cells here there h.agrees.cells; entries = (tt, h.agrees.entries); requests = requests_moved p m.active s.cells here there h.agrees.requests; rest = rest; room = h.agrees.entry_room })
       (λ f ms e top.
       let wide = top.frame.wide in
       let v = value_in (Runs_frame f ∷ ms) m.cells m.entries.items m.root in
@@ -97,7 +98,7 @@ module _ (p : Image) (m : Parts) (h : At_hand p m) (r : Rest) (rest : record m.r
       let s = h.state in
       let i = Holds_operation k (register_here m.stack.tasks a) in
       goes_on_as p m h (with_items (i ∷ m.entries.items) (asked m)) s.cells (An_operation k (read h.frame h.below s a) ∷ s.items) r
-      (record { stack = refl; cells = h.agrees.cells; entries = ((refl, is), h.agrees.entries); rest = rest; room = h.agrees.entry_room })
+      (record { stack = refl; cells = h.agrees.cells; entries = ((refl, is), h.agrees.entries); requests = h.agrees.requests; rest = rest; room = h.agrees.entry_room })
       (λ f ms e top q. subst (λ n. Shows n (word_at (Run h.frame ∷ h.below) q) (held s.cells q)) (sym (value_alike (Runs_frame f ∷ ms) m.cells (i ∷ m.entries.items) m.entries.items m.root (λ d. owns_none i m.entries.items d refl) q)) (top.values q))
 
 -- where the request is refused the machine leaves
@@ -168,7 +169,7 @@ module _ (m : Parts) (refused : List ℕ) (es : Held_items) where
       let same = subst (λ is. SameItems is s.items) was h.agrees.entries in
       let deep = same_items_length es.items items (below_same (Holds_object n) es.items s.items same) in
       goes_on_with p m h (record m { entries = es }) (moved from here s.cells) items s.rest (put_at None fr.words a None) (on_top (with_register a n)) (with_register a n) (λ f ms. refl)
-      (record { stack = refl; cells = cells_moved p m.cells s.cells from here h.agrees.cells; entries = below_same (Holds_object n) es.items s.items same; rest = h.agrees.rest; room = deep_enough m.entries es _ h.agrees.entry_room popped })
+      (record { stack = refl; cells = cells_moved p m.cells s.cells from here h.agrees.cells; entries = below_same (Holds_object n) es.items s.items same; requests = requests_moved p m.active s.cells from here h.agrees.requests; rest = h.agrees.rest; room = deep_enough m.entries es _ h.agrees.entry_room popped })
       (λ f ms e top.
       let wide = top.frame.wide in
       let v = value_in (Runs_frame f ∷ ms) m.cells (Holds_object n ∷ es.items) m.root in
@@ -191,7 +192,7 @@ module _ (m : Parts) (refused : List ℕ) (es : Held_items) where
       let was : m.entries.items ≡ i ∷ es.items = ap (λ (e : Held_items). e.items) popped in
       let same = subst (λ is. SameItems is s.items) was h.agrees.entries in
       goes_on_as p m h (record m { entries = es }) s.cells (below_top s.items) s.rest
-      (record { stack = refl; cells = h.agrees.cells; entries = below_same i es.items s.items same; rest = h.agrees.rest; room = deep_enough m.entries es _ h.agrees.entry_room popped })
+      (record { stack = refl; cells = h.agrees.cells; entries = below_same i es.items s.items same; requests = h.agrees.requests; rest = h.agrees.rest; room = deep_enough m.entries es _ h.agrees.entry_room popped })
       (λ f ms e top q.
       subst (λ k. Shows k (word_at (Run fr ∷ ts) q) (held s.cells q))
       (value_alike (Runs_frame f ∷ ms) m.cells (i ∷ es.items) es.items m.root (λ d. owns_none i es.items d (operation_owns i es.items s.items same met.1.0)) q)

@@ -22,6 +22,7 @@ use Rattle.aom_sound.proofs.Layers.{method_layer}
 use Rattle.aom_frames.specs.Tasks.{on_top, with_register, register_here, this_here}
 use Rattle.aom_frames.specs.declared.task.Task.{Task as Held_task}
 use Rattle.aom_frames.specs.declared.task.Task.TheVariants.{Run as Runs_frame}
+use Rattle.aom_exec.proofs.Asking.{requests_moved, requests_stored}
 use Rattle.aom_exec.specs.declared.parts.Parts.{Parts}
 use Rattle.aom_exec.specs.Places.{value_in}
 use Rattle.aom_exec.specs.Agrees.{word_at, home_number, Shows, number, SameCells, Agrees}
@@ -41,7 +42,7 @@ use Rattle.aom_exec.proofs.Cells.{cells_moved}
 
 module _ (p : Image) (m : Parts) (h : At_hand p m) where
   -- it lives
-  housed : (o : Object) (from : Place) → h.frame.home ≡ Inside o from → named h.state.cells o.name ≡ Some o
+  pub housed : (o : Object) (from : Place) → h.frame.home ≡ Inside o from → named h.state.cells o.name ≡ Some o
   housed o from e = method_layer (λ ls. Stack p h.typing h.state.cells Now ls) h.frame h.below h.typed.layers (sym h.typed.tasks ∙ h.top) h.typed.good.stack (λ sh ls _ stack.
       let lives = subst (IsHoused p h.state.cells ls) e stack.2 in
       lives.lives)
@@ -50,7 +51,7 @@ module _ (p : Image) (m : Parts) (h : At_hand p m) where
   this_is : this m ≡ home_number h.frame.home
   this_is = by_top p m h (λ us. this_here us ≡ home_number h.frame.home) (λ f ms top. top.frame.this)
 
-  inside_number : (o : Object) (from : Place) → h.frame.home ≡ Inside o from → this m ≡ o.name
+  pub inside_number : (o : Object) (from : Place) → h.frame.home ≡ Inside o from → this m ≡ o.name
   inside_number o from e = this_is ∙ ap home_number e
 
   inside_there : (o : Object) (from : Place) → h.frame.home ≡ Inside o from → this m ≢ null
@@ -171,7 +172,7 @@ store_does m refused w b heap puts =
     let cs = stored s.cells fr.home w v in
     let written = subst (λ v. PutsWord (this m) w v m.cells heap) (word_read p m h b met.1.0) puts in
     goes_on_as p m h (record m { cells = heap }) cs s.items s.rest
-    (record { stack = refl; cells = cells_after_store p m h heap w v met.0 written; entries = h.agrees.entries; rest = h.agrees.rest; room = h.agrees.entry_room })
+    (record { stack = refl; cells = cells_after_store p m h heap w v met.0 written; entries = h.agrees.entries; requests = requests_stored p m.active s.cells fr.home w v h.agrees.requests; rest = h.agrees.rest; room = h.agrees.entry_room })
     (λ f ms e top q.
     subst (λ n. Shows n (word_at (Run fr ∷ ts) q) (held cs q)) (sym (word_put_elsewhere (Runs_frame f ∷ ms) m.cells heap m.entries.items m.root (this m) w v written q))
     (subst (λ o. Shows (value_in (Runs_frame f ∷ ms) m.cells m.entries.items m.root q) (word_at (Run fr ∷ ts) q) o) (sym (held_stored p m h fr.home w v q)) (top.values q))))
@@ -188,7 +189,7 @@ take_does m mid refused a g n small reads writes =
     let mid' = record m { cells = mid.cells; root = mid.root } in
     subst (λ k. Agrees p (acts.next (set_register a n k)) (record s { cells = moved q here s.cells; tasks = Run (next (set_word fr a None)) ∷ ts })) (sym written.rest)
     (goes_on_with p m h mid' (moved q here s.cells) s.items s.rest (put_at None fr.words a None) (on_top (with_register a n)) (with_register a n) (λ f ms. refl)
-    (record { stack = refl; cells = cells_moved p mid.cells s.cells q here written.cells; entries = h.agrees.entries; rest = h.agrees.rest; room = h.agrees.entry_room })
+    (record { stack = refl; cells = cells_moved p mid.cells s.cells q here written.cells; entries = h.agrees.entries; requests = requests_moved p m.active s.cells q here h.agrees.requests; rest = h.agrees.rest; room = h.agrees.entry_room })
     (λ f ms e top.
     let wide = top.frame.wide in
     let v = value_in (Runs_frame f ∷ ms) m.cells m.entries.items m.root in
@@ -219,7 +220,7 @@ put_does m mid refused g b x small reads writes =
     let mid' = record m { cells = mid.cells; root = mid.root } in
     subst (λ k. Agrees p (acts.next (set_register b null k)) (record s { cells = moved here q s.cells; tasks = Run (next fr) ∷ ts })) (sym written.rest)
     (goes_on_with p m h mid' (moved here q s.cells) s.items s.rest fr.words (on_top (with_register b null)) (with_register b null) (λ f ms. refl)
-    (record { stack = refl; cells = cells_moved p mid.cells s.cells here q written.cells; entries = h.agrees.entries; rest = h.agrees.rest; room = h.agrees.entry_room })
+    (record { stack = refl; cells = cells_moved p mid.cells s.cells here q written.cells; entries = h.agrees.entries; requests = requests_moved p m.active s.cells here q h.agrees.requests; rest = h.agrees.rest; room = h.agrees.entry_room })
     (λ f ms e top.
     let wide = top.frame.wide in
     let v = value_in (Runs_frame f ∷ ms) m.cells m.entries.items m.root in

@@ -13,7 +13,7 @@ use Rattle.aom_cells.specs.declared.cell.Cell.{Cell as Held_cell}
 use Rattle.aom_rules.specs.Typing.{Typing}
 use Rattle.aom_sound.specs.Places.{Place, Register, Entry, Field, Going, Elsewhere, Root, same_place, Object, Cell, held, named, moved, changed}
 use Rattle.aom_sound.specs.Effects.{applied, deletes}
-use Rattle.aom_sound.specs.State.{Home, Inside, frame_of, word, set_word, Of_main, Of_root, Task, Run, Destroy, Dispatched, resumed, Rest, State, raised}
+use Rattle.aom_sound.specs.State.{Home, Inside, frame_of, word, set_word, Dispatch, Of_root, Task, Run, Destroy, Dispatched, resumed, Rest, State, raised}
 use Rattle.aom_classes.specs.Roles.{destructor_of}
 use Rattle.aom_sound.specs.Destruction.{begun, begun_by, is_field_of, owns_nothing}
 use Rattle.aom_sound.specs.Moves.{goes_line}
@@ -25,11 +25,15 @@ use Rattle.aom_frames.specs.Tasks.{fresh, on_top, with_place, with_register, pla
 use Rattle.aom_frames.specs.declared.frame.Frame.{Frame as Held_frame}
 use Rattle.aom_frames.specs.declared.task.Task.{Task as Held_task}
 use Rattle.aom_frames.specs.declared.task.Task.TheVariants.{Run as Runs_frame, Destroy as Destroys, Dispatched as Ends}
-use Rattle.aom_frames.specs.declared.task.Dispatch.TheVariants.{Main, Root as End_of_run}
+use Rattle.aom_frames.specs.declared.dispatch.Dispatch.{Dispatch as Held_dispatch}
+use Rattle.aom_frames.specs.declared.dispatch.Dispatch.TheVariants.{Root as End_of_run}
+use Rattle.aom_exec.proofs.Asking.{requests_gone, requests_moved}
 use Rattle.aom_exec.specs.declared.parts.Parts.{Parts}
 use Rattle.aom_exec.specs.Places.{value_in, register_in, going_in, going_here, with_tasks}
 use Rattle.aom_exec.specs.Going.{destructor_in, destructor_at, destroying, uprooted}
-use Rattle.aom_exec.specs.Agrees.{word_in, word_at, Shows, SameCells, SameItems, SameTasks, thing_in, thing_of, number, Agrees}
+use Rattle.aom_active.specs.Agrees.{Active}
+use Rattle.aom_exec.specs.Requests.{Delists}
+use Rattle.aom_exec.specs.Agrees.{word_in, word_at, Shows, SameCells, SameItems, SameTasks, thing_in, thing_of, number, Agrees, SameRequests}
 use Rattle.aom_exec.specs.Acts.{requested, In_going, without_going, DoesIn, GoesAway}
 use Rattle.aom_exec.specs.Acts as acts
 use Rattle.aom_exec.proofs.Values.{cases, same_length, kept, moves, writes, at_depth, register_past, going_past, word_past, value_here, value_kept, value_written, word_next, word_written, destroys_value, destroys_word}
@@ -74,18 +78,19 @@ module _ (p : Image) (m : Parts) (s : State) (us : List Held_task) (ts : List Ta
       (λ q. destroys_word ts (length ts) q ∙ ap (λ x. cond (same_place there q) None x) (ew q))
       (λ q. held_moved s.cells from there q empty)
 
-  pub begins : (d : Option ℕ) (o : Object) (height : ℕ) (r r' : Rest) → n ≡ o.name → r ≡ r' → SameTasks us ts → SameCells p m.cells s.cells → SameItems m.entries.items s.items → 1024 ≤ m.stack.depth → 1024 ≤ m.entries.depth → DyingShows
+  pub begins : (d : Option ℕ) (o : Object) (height : ℕ) (r r' : Rest) → n ≡ o.name → r ≡ r' → SameTasks us ts → SameCells p m.cells s.cells → SameItems m.entries.items s.items → SameRequests p m.active s.cells → 1024 ≤ m.stack.depth → 1024 ≤ m.entries.depth → DyingShows
       → Agrees p (record m { stack = record m.stack { tasks = destroying d n us }; root = root; rest = r }) (record s { cells = gone_from; tasks = begun_by d o height ts; rest = r' })
-  begins None o height r r' name rest same cells entries room entry_room values = record {
+  begins None o height r r' name rest same cells entries requests room entry_room values = record {
     tasks = (tt, same);
     values = values;
     cells = cells_moved p m.cells s.cells from (Going (length ts)) cells;
     entries = entries;
+    requests = requests_moved p m.active s.cells from (Going (length ts)) requests;
     rest = rest;
     room = room;
     entry_room = entry_room;
   }
-  begins (Some k) o height r r' name rest same cells entries room entry_room values =
+  begins (Some k) o height r r' name rest same cells entries requests room entry_room values =
       let home = Inside o (Going (length ts)) in
       record {
         tasks = (begun_frame k n home height name, (tt, same));
@@ -94,6 +99,7 @@ module _ (p : Image) (m : Parts) (s : State) (us : List Held_task) (ts : List Ta
             (subst (λ w. Shows (value_in (Destroys n ∷ us) m.cells m.entries.items root q) w (held gone_from q)) (sym (fresh_word k home height (Destroy ∷ ts) q)) (values q));
         cells = cells_moved p m.cells s.cells from (Going (length ts)) cells;
         entries = entries;
+        requests = requests_moved p m.active s.cells from (Going (length ts)) requests;
         rest = rest;
         room = room;
         entry_room = entry_room;
@@ -131,37 +137,38 @@ module _ (p : Image) (m : Parts) (refused : List ℕ) where
           subst (λ d. Agrees p (with_tasks (destroying d k us) m) (record s { cells = moved here (Going (suc (length ts))) s.cells; tasks = begun p o (length s.items) vs }))
           (sym (ap (destructor_at p m.cells) name ∙ destructor_same p m h.typing s h.typed h.agrees here o e))
           (begins p m s us vs here m.root k (destructor_of p o.thing) o (length s.items) m.rest s.rest name h.agrees.rest
-          (reframed f fr (slice_set f.registers a null) _ f.place fr.place top.frame (length-set f.registers a null ∙ wide) top.frame.place, top.below) h.agrees.cells h.agrees.entries h.agrees.room h.agrees.entry_room
+          (reframed f fr (slice_set f.registers a null) _ f.place fr.place top.frame (length-set f.registers a null ∙ wide) top.frame.place, top.below) h.agrees.cells h.agrees.entries h.agrees.requests h.agrees.room h.agrees.entry_room
           (dying_shows p m s us vs here m.root k (value_in (Runs_frame f ∷ ms) m.cells m.entries.items m.root) (word_at (Run fr ∷ ts)) top.values (ap suc top.deep) was
           (value_here f ms m.cells m.entries.items m.root (length ts) a top.deep) empty
           (value_written f ms m.cells m.entries.items m.root (length ts) a null f.place top.deep (omega arith))
           (λ q. word_written fr ts a fr.place None q ∙ sym (kept (word_at (Run fr ∷ ts)) here q ∙ ap (λ x. changed (word_at (Run fr ∷ ts)) here x q) was))))
 
 -- the root is null, and else all is as it was
-root_taken : (h : Heap) (es : List Item) (root : ℕ) (q : Place) → value_in (Ends End_of_run ∷ []) h es null q ≡ changed (value_in (Ends Main ∷ []) h es root) (Elsewhere Root) null q
-root_taken h es root (Register d i) = refl
-root_taken h es root (Entry k) = refl
-root_taken h es root (Field n f) = refl
-root_taken h es root (Going k) = refl
-root_taken h es root (Elsewhere Root) = refl
+root_taken : (x : Held_dispatch) (h : Heap) (es : List Item) (root : ℕ) (q : Place) → value_in (Ends End_of_run ∷ []) h es null q ≡ changed (value_in (Ends x ∷ []) h es root) (Elsewhere Root) null q
+root_taken x h es root (Register d i) = refl
+root_taken x h es root (Entry k) = refl
+root_taken x h es root (Field n f) = refl
+root_taken x h es root (Going k) = refl
+root_taken x h es root (Elsewhere Root) = refl
 
-no_words : (q : Place) → word_at (Dispatched Of_root ∷ []) q ≡ word_at (Dispatched Of_main ∷ []) q
-no_words _ = refl
+-- the end of a dispatch has no word
+pub end_word : (d e : Dispatch) (q : Place) → word_at (Dispatched d ∷ []) q ≡ word_at (Dispatched e ∷ []) q
+end_word d e _ = refl
 
--- where main's dispatch is at its end, the root is at hand to go
-pub uproots : (p : Image) (m : Parts) (t : Typing) (s : State) (o : Object) (r : Rest) → WellTyped p t s → Agrees p m s → m.stack.tasks ≡ Ends Main ∷ [] → s.tasks ≡ Dispatched Of_main ∷ [] → held s.cells (Elsewhere Root) ≡ Some o → record m.rest { clock = raised m.rest.clock } ≡ r
-    → Agrees p (uprooted p m) (record s { cells = moved (Elsewhere Root) (Going 1) s.cells; tasks = begun p o (length s.items) (Dispatched Of_root ∷ []); rest = r })
-uproots p m t s o r typed agrees held_top top e rest =
-    let v = value_in (Ends Main ∷ []) m.cells m.entries.items m.root in
-    let w = word_at (Dispatched Of_main ∷ []) in
+-- where a dispatch is at its end, the root is at hand to go, with these counts
+pub uproots : (p : Image) (m : Parts) (t : Typing) (s : State) (x : Held_dispatch) (d : Dispatch) (o : Object) (rest r : Rest) → WellTyped p t s → Agrees p m s → m.stack.tasks ≡ Ends x ∷ [] → s.tasks ≡ Dispatched d ∷ [] → held s.cells (Elsewhere Root) ≡ Some o → record rest { clock = raised rest.clock } ≡ r
+    → Agrees p (uprooted p (record m { rest = rest })) (record s { cells = moved (Elsewhere Root) (Going 1) s.cells; tasks = begun p o (length s.items) (Dispatched Of_root ∷ []); rest = r })
+uproots p m t s x d o rest r typed agrees held_top top e same =
+    let v = value_in (Ends x ∷ []) m.cells m.entries.items m.root in
+    let w = word_at (Dispatched d ∷ []) in
     let u = record s { cells = moved (Elsewhere Root) (Going 1) s.cells; tasks = begun p o (length s.items) (Dispatched Of_root ∷ []); rest = r } in
-    let rest' = record m.rest { clock = raised m.rest.clock } in
+    let rest' = record rest { clock = raised rest.clock } in
     let values : (q : Place) → Shows (v q) (w q) (held s.cells q) = λ q. subst (λ us. Shows (v q) (word_at us q) (held s.cells q)) top (subst (λ us. Shows (value_in us m.cells m.entries.items m.root q) (word_at s.tasks q) (held s.cells q)) held_top (agrees.values q)) in
     let name : m.root ≡ o.name = values (Elsewhere Root) ∙ ap number e in
     subst (λ ms. Agrees p (record m { stack = record m.stack { tasks = destroying (destructor_at p m.cells m.root) m.root (Ends End_of_run ∷ ms) }; root = null; rest = rest' }) u) (sym (ap below_first held_top))
-    (subst (λ d. Agrees p (record m { stack = record m.stack { tasks = destroying d m.root (Ends End_of_run ∷ []) }; root = null; rest = rest' }) u) (sym (ap (destructor_at p m.cells) name ∙ destructor_same p m t s typed agrees (Elsewhere Root) o e))
-    (begins p m s (Ends End_of_run ∷ []) (Dispatched Of_root ∷ []) (Elsewhere Root) null m.root (destructor_of p o.thing) o (length s.items) rest' r name rest (refl, tt) agrees.cells agrees.entries agrees.room agrees.entry_room
-    (dying_shows p m s (Ends End_of_run ∷ []) (Dispatched Of_root ∷ []) (Elsewhere Root) null m.root v w values refl refl refl (nothing_held p m t s typed agrees (Going 1) (values (Going 1))) (root_taken m.cells m.entries.items m.root) no_words)))
+    (subst (λ k. Agrees p (record m { stack = record m.stack { tasks = destroying k m.root (Ends End_of_run ∷ []) }; root = null; rest = rest' }) u) (sym (ap (destructor_at p m.cells) name ∙ destructor_same p m t s typed agrees (Elsewhere Root) o e))
+    (begins p m s (Ends End_of_run ∷ []) (Dispatched Of_root ∷ []) (Elsewhere Root) null m.root (destructor_of p o.thing) o (length s.items) rest' r name same ((Elsewhere Root, refl), tt) agrees.cells agrees.entries agrees.requests agrees.room agrees.entry_room
+    (dying_shows p m s (Ends End_of_run ∷ []) (Dispatched Of_root ∷ []) (Elsewhere Root) null m.root v w values refl refl refl (nothing_held p m t s typed agrees (Going 1) (values (Going 1))) (root_taken x m.cells m.entries.items m.root) (end_word Of_root d))))
 
 -- what is known of the machine, taken apart
 pub record Ends_cell (m : Parts) (s : State) (x : ℕ) (ms : List Held_task) (ts : List Task) : Type 0 where
@@ -227,7 +234,7 @@ fields_gone us h h' es root n nulls ch _ = refl
 line_of : (o : Object) (class : ℕ) → o.thing ≡ An_object_of class → goes_line (Some o) ≡ Gone class ∷ []
 line_of o class e = ap (λ (t : Thing). goes_line (Some (record o { thing = t }))) e
 
-thing_is : (t : Thing) (class : ℕ) (c : Option Held_cell) → class_of c ≡ Some class → thing_in c ≡ Some t → t ≡ An_object_of class
+pub thing_is : (t : Thing) (class : ℕ) (c : Option Held_cell) → class_of c ≡ Some class → thing_in c ≡ Some t → t ≡ An_object_of class
 thing_is t class c e f = some_given (λ c. (class_of c ≡ Some class) × (thing_in c ≡ Some t)) c (e, f) (λ none. none-some _ none.0) (λ x is h. sym (same_Some _ _ h.1) ∙ ap An_object_of (same_Some _ _ h.0))
 
 module _ (p : Image) (m : Parts) (h : In_going p m) (o : Object) where
@@ -241,10 +248,10 @@ module _ (p : Image) (m : Parts) (h : In_going p m) (o : Object) where
   thing_of_it : (n class : ℕ) → class_at m.cells n ≡ Some class → n ≡ o.name → named h.state.cells o.name ≡ Some o → o.thing ≡ An_object_of class
   thing_of_it n class is name lives = thing_is o.thing class (cell_at m.cells n) is (h.agrees.cells.things n ∙ ap (λ k. thing_of (named h.state.cells k)) name ∙ ap thing_of lives)
 
-  goes : (heap : Heap) → owns_nothing h.state.cells o.name ≡ true → Changes m.cells heap o.name None → count heap + 1 ≡ count m.cells
+  goes : (heap : Heap) (a : Active) → owns_nothing h.state.cells o.name ≡ true → Changes m.cells heap o.name None → count heap + 1 ≡ count m.cells → Delists m.active a o.name
       → (x : ℕ) (ms : List Held_task) → Ends_cell m h.state x ms h.below → held h.state.cells (Going (length h.below)) ≡ Some o
-      → Agrees p (acts.next (record (with_tasks ms m) { cells = heap })) (without_going h.state h.below)
-  goes heap free gone less x ms top holds =
+      → Agrees p (acts.next (record (with_tasks ms m) { cells = heap; active = a })) (without_going h.state h.below)
+  goes heap a free gone less off x ms top holds =
       let s = h.state in
       let ts = h.below in
       let d = length ts in
@@ -261,19 +268,20 @@ module _ (p : Image) (m : Parts) (h : In_going p m) (o : Object) where
             (held_without s.cells (Going d));
         cells = cells_without p m.cells heap s.cells (Going d) o h.agrees.cells h.typed.good.tidy holds gone less;
         entries = h.agrees.entries;
+        requests = requests_gone p m.active a s.cells (Going d) o h.typed.good.tidy holds off h.agrees.requests;
         rest = h.agrees.rest;
         room = h.agrees.room;
         entry_room = h.agrees.entry_room;
       }
 
-pub go_does : (m : Parts) (heap : Heap) (n class : ℕ) (told : Turn) → n ≡ going_here m.stack.tasks → class_at m.cells n ≡ Some class → Changes m.cells heap n None → count heap + 1 ≡ count m.cells
-    → GoesAway m (acts.next (record (with_tasks (below_first m.stack.tasks) m) { cells = heap })) told (record told { lines = told.lines ++ Gone class ∷ [] })
-go_does m heap n class told which is gone less p h o holds free =
+pub go_does : (m : Parts) (heap : Heap) (a : Active) (n class : ℕ) (told : Turn) → n ≡ going_here m.stack.tasks → class_at m.cells n ≡ Some class → Changes m.cells heap n None → count heap + 1 ≡ count m.cells → Delists m.active a n
+    → GoesAway m (acts.next (record (with_tasks (below_first m.stack.tasks) m) { cells = heap; active = a })) told (record told { lines = told.lines ++ Gone class ∷ [] })
+go_does m heap a n class told which is gone less off p h o holds free =
     by_going p m h
-    (λ us. n ≡ going_here us → Agrees p (acts.next (record (with_tasks (below_first us) m) { cells = heap })) (without_going h.state h.below) × (record told { lines = told.lines ++ Gone class ∷ [] } ≡ record told { lines = told.lines ++ goes_line (Some o) }))
+    (λ us. n ≡ going_here us → Agrees p (acts.next (record (with_tasks (below_first us) m) { cells = heap; active = a })) (without_going h.state h.below) × (record told { lines = told.lines ++ Gone class ∷ [] } ≡ record told { lines = told.lines ++ goes_line (Some o) }))
     (λ x ms top which.
     let name : n ≡ o.name = which ∙ number_of p m h o x ms top holds in (
-      goes p m h o heap free (subst (λ k. Changes m.cells heap k None) name gone) less x ms top holds,
+      goes p m h o heap a free (subst (λ k. Changes m.cells heap k None) name gone) less (subst (λ k. Delists m.active a k) name off) x ms top holds,
       ap (λ ls. record told { lines = told.lines ++ ls }) (sym (line_of o class (thing_of_it p m h o n class is name (held_lives h.state.cells _ o h.typed.good.tidy holds)))),
     ))
     which

@@ -85,6 +85,7 @@ leaves p m s code agrees free =
           (subst (λ w. Shows (value_in (held_to_trap m.stack.tasks) m.cells m.entries.items m.root r) w (held s.cells r)) (sym (unwinds_word (to_trap s.tasks) code r)) (stays.values r));
       cells = agrees.cells;
       entries = agrees.entries;
+      requests = agrees.requests;
       rest = agrees.rest;
       room = agrees.room;
       entry_room = agrees.entry_room;

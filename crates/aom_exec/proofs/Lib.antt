@@ -3,6 +3,7 @@ pub mod OnTop
 pub mod Entries
 pub mod Overs
 pub mod CellWords
+pub mod Asking
 pub mod Standing
 pub mod Cells
 pub mod CellFields
@@ -12,7 +13,9 @@ pub mod LoopActs
 pub mod ObjectActs
 pub mod MoveActs
 pub mod FieldActs
+pub mod RequestActs
 pub mod CallActs
+pub mod CancelEnds
 pub mod ReturnActs
 pub mod GoingActs
 pub mod Stepping
@@ -30,6 +33,9 @@ pub mod Finding
 pub mod Announcing
 pub mod Ranking
 pub mod Progressing
+pub mod Turning
+pub mod Affording
+pub mod Paying
 pub mod Booting
 pub mod EnterActs
 pub mod Traps
@@ -44,5 +50,3 @@ pub mod Working
 pub mod Many
 pub mod Agreeing
 pub mod Alike
-pub mod Mains
-pub mod Unasked

@@ -7,6 +7,7 @@ use Rattle.aom_sound.specs.Places.{Register, moved, changed, held}
 use Rattle.aom_sound.proofs.Maps.{held_moved}
 use Rattle.aom_frames.specs.Tasks.{on_top, with_register, register_here}
 use Rattle.aom_frames.specs.declared.task.Task.TheVariants.{Run as Runs_frame}
+use Rattle.aom_exec.proofs.Asking.{requests_moved}
 use Rattle.aom_exec.specs.declared.parts.Parts.{Parts}
 use Rattle.aom_exec.specs.Places.{value_in}
 use Rattle.aom_exec.specs.Acts.{set_register, Does}
@@ -28,7 +29,7 @@ module _ (m : Parts) (refused : List ℕ) where
       let to = Register (length ts) a in
       goes_on_with p m h m (moved from to s.cells) s.items s.rest (put_at None h.frame.words a None) (λ us. on_top (with_register a x) (on_top (with_register b null) us))
       (λ f. with_register a x (with_register b null f)) (λ f ms. refl)
-      (record { stack = refl; cells = cells_moved p m.cells s.cells from to h.agrees.cells; entries = h.agrees.entries; rest = h.agrees.rest; room = h.agrees.entry_room })
+      (record { stack = refl; cells = cells_moved p m.cells s.cells from to h.agrees.cells; entries = h.agrees.entries; requests = requests_moved p m.active s.cells from to h.agrees.requests; rest = h.agrees.rest; room = h.agrees.entry_room })
       (λ f ms e top.
       let wide = top.frame.wide in
       let left = with_register b null f in

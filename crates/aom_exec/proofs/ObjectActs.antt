@@ -21,6 +21,7 @@ use Rattle.aom_frames.specs.Tasks.{on_top, with_register, register_here}
 use Rattle.aom_frames.specs.declared.frame.Frame.{Frame as Held_frame}
 use Rattle.aom_frames.specs.declared.task.Task.{Task as Held_task}
 use Rattle.aom_frames.specs.declared.task.Task.TheVariants.{Run as Runs_frame}
+use Rattle.aom_exec.proofs.Asking.{requests_made}
 use Rattle.aom_exec.specs.declared.parts.Parts.{Parts}
 use Rattle.aom_exec.specs.Places.{value_in}
 use Rattle.aom_exec.specs.Agrees.{Shows, number, SameCells, thing_in, thing_of, Agrees}
@@ -69,7 +70,7 @@ module _ (m : Parts) (refused : List ℕ) where
       let s = h.state in
       let mid = record m { rest = r } in
       goes_on_with p m h mid s.cells s.items r' (put_at None h.frame.words a None) (on_top (with_register a null)) (with_register a null) (λ f ms. refl)
-      (record { stack = refl; cells = h.agrees.cells; entries = h.agrees.entries; rest = rest; room = h.agrees.entry_room })
+      (record { stack = refl; cells = h.agrees.cells; entries = h.agrees.entries; requests = h.agrees.requests; rest = rest; room = h.agrees.entry_room })
       (λ f ms e top. written p m h mid s.cells a null None None small refl f ms top (λ q. refl) (still_none p m h a none))
 
   pub delete_null_does : (p : Image) (a : ℕ) → a < 16 → register_here m.stack.tasks a ≡ null → DoesIn p refused (Delete a) m (acts.next (set_register a null m))
@@ -171,6 +172,7 @@ module _ (m : Parts) (turn : Turn) where
         stack = refl;
         cells = cells_made p m.cells heap s.cells n class (zeros p class) here h.agrees.cells (zeros_at (words_of p class)) fits none some ch more;
         entries = h.agrees.entries;
+        requests = requests_made p m.active s.cells n (An_object_of class) (zeros p class) here (unnamed p m s n h.agrees none) h.agrees.requests;
         rest = rest;
         room = h.agrees.entry_room;
       })

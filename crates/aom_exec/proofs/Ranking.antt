@@ -7,7 +7,7 @@ use Rattle.aom_image.specs.declared.method.Method.{Method}
 use Rattle.aom_cells.specs.Heap.{count}
 use Rattle.aom_shape.specs.Tables.{at}
 use Rattle.aom_rules.specs.Typing.{Typing}
-use Rattle.aom_sound.specs.State.{Frame, Task, Trapped, Destroy, Unwind, Dispatched, Item, State, next}
+use Rattle.aom_sound.specs.State.{Dispatch, Frame, Task, Trapped, Destroy, Unwind, Dispatched, Item, State, next}
 use Rattle.aom_sound.specs.WellTyped.{WellTyped}
 use Rattle.aom_frames.specs.declared.frame.Frame.{Frame as Held_frame}
 use Rattle.aom_frames.specs.declared.task.Task.{Task as Held_task}
@@ -18,7 +18,11 @@ use Rattle.aom_ranks.specs.Ranks.{price, left_in, frame_rank, end_rank, waiting_
 use Rattle.aom_ranks.proofs.Goings.{cells_stand_or_go}
 use Rattle.aom_ranks.proofs.Ranking.{moves_lower_ranks}
 use Rattle.aom_ranks.proofs.Rounds.{worth_alike}
+use Rattle.aom_sound.specs.Places.{Elsewhere, Place, Root}
+use Rattle.aom_exec.specs.Agrees.{SameDispatch, dispatch_of}
 use Rattle.aom_exec.specs.declared.parts.Parts.{Parts}
+use Rattle.aom_frames.specs.declared.dispatch.Dispatch.{Dispatch as Held_dispatch}
+use Rattle.aom_frames.specs.declared.dispatch.Dispatch.TheVariants.{Answered as One_answered, Asks as One_asks, Main, MainLeft, Object as Of_one, ObjectLeft as One_left, Root as End_of_run}
 use Rattle.aom_exec.specs.Agrees.{SameFrame, SameTasks, SameItems, Agrees}
 use Rattle.aom_exec.specs.Ranks.{ranked, operations_in, rank_of}
 use Rattle.aom_exec.specs.Steps.{Sound, Moved}
@@ -45,6 +49,19 @@ frame_alike p f fr to to' same there =
     ∙ ap (λ k. left_in (method_at p fr.method) f.counters k * price p fr.method) there
     ∙ ap (λ k. k * price p fr.method) (left_alike f.counters fr.counters (λ i. at_index 0 f.counters i ∙ same.counters i) (method_at p fr.method) to')
 
+-- where an object sits its rank does not tell
+placed_alike : (p : Image) (q r : Place) (x : Held_dispatch) → end_rank p (dispatch_of q x) ≡ end_rank p (dispatch_of r x)
+placed_alike p q r Main = refl
+placed_alike p q r (MainLeft code) = refl
+placed_alike p q r End_of_run = refl
+placed_alike p q r (Of_one x) = refl
+placed_alike p q r (One_left x code) = refl
+placed_alike p q r (One_asks x) = refl
+placed_alike p q r (One_answered x answer) = refl
+
+end_alike : (p : Image) (x : Held_dispatch) (d : Dispatch) → SameDispatch x d → end_rank p (dispatch_of (Elsewhere Root) x) ≡ end_rank p d
+end_alike p x d same = placed_alike p (Elsewhere Root) same.0 x ∙ ap (end_rank p) same.1
+
 waits_alike : (p : Image) (ms : List Held_task) (us : List Task) → SameTasks ms us → waiting_rank p (map ranked ms) ≡ waiting_rank p us
 waits_alike p = by_tasks (λ ms us. waiting_rank p (map ranked ms) ≡ waiting_rank p us) refl (λ m u ms us same _ e.
     by_task (λ m u. waiting_rank p (map ranked (m ∷ ms)) ≡ waiting_rank p (u ∷ us)) (record {
@@ -52,7 +69,7 @@ waits_alike p = by_tasks (λ ms us. waiting_rank p (map ranked ms) ≡ waiting_r
       trapped = ap (λ k. 1 + k) e;
       destroys = λ x. ap (λ k. 1 + k) e;
       unwinds = λ code c same. ap (λ k. 1 + k) e;
-      ends = λ x d same. ap (λ k. end_rank p k + waiting_rank p (map ranked ms)) same ∙ ap (λ k. end_rank p d + k) e;
+      ends = λ x d same. ap (λ k. k + waiting_rank p (map ranked ms)) (end_alike p x d same) ∙ ap (λ k. end_rank p d + k) e;
     }) m u same)
 
 tasks_alike : (p : Image) (ms : List Held_task) (us : List Task) → SameTasks ms us → tasks_rank p (map ranked ms) ≡ tasks_rank p us

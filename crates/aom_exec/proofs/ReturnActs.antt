@@ -1,12 +1,12 @@
--- A method returns: to the method that called it, to the going of its cell, or through the trap of its dispatch.
-use Rattle.std.proofs.Common.{Bool, IfSome, IsTrue, List, None, Option, Some, [], ap, arith, cond, false, length, pos, refl, slice_get, slice_index_or, slice_set, subst, suc, sym, true, ℕ, ℤ, ◌&&◌, ◌<◌, ◌==◌, ◌∙◌, ◌∷◌, ◌≡◌, ◌≤◌}
+-- A method returns: to the method that called it, through a trap, to the going of its cell, to an unwinding, or to the dispatch that has asked it.
+use Rattle.std.proofs.Common.{Bool, List, None, Option, Some, [], ap, arith, cond, false, length, pos, refl, slice_index_or, slice_set, subst, suc, sym, true, ℕ, ℤ, ◌&&◌, ◌<◌, ◌==◌, ◌∙◌, ◌∷◌, ◌≡◌, ◌≤◌}
 use Rattle.std.proofs.lemmas.Bool.{OnTrue_at, eq-eqb, eqb-true, ne_eqb}
 use Rattle.std.proofs.lemmas.List.{length-set}
 use Rattle.aom_image.specs.Image.{Image}
-use Rattle.aom_image.specs.Views.{gives_in, gives_of, instr_at, method_at, method_role, role_in}
-use Rattle.aom_image.specs.declared.method.Method.{Method as Method_decl, Method as Method_declared}
+use Rattle.aom_image.specs.Views.{gives_in, gives_of, instr_at, method_at}
 use Rattle.aom_instructions.specs.declared.instr.Instr.TheVariants.{Return}
 use Rattle.aom_image.specs.declared.method.Gives.{Gives}
+use Rattle.aom_image.specs.declared.method.Method.{Method as Method_decl}
 use Rattle.aom_image.specs.declared.method.Gives.TheVariants.{Left, Maybe as A_maybe, Nothing, Own as An_own, Word as A_word}
 use Rattle.aom_cells.specs.Heap.{Heap, null}
 use Rattle.aom_shape.specs.Kinds.{is_unowning, register}
@@ -16,10 +16,10 @@ use Rattle.aom_shape.specs.Needs.{AllTrue}
 use Rattle.aom_shape.specs.Shape.{Shape}
 use Rattle.aom_rules.specs.Typing.{Typing}
 use Rattle.aom_sound.proofs.View.{under_dispatch}
-use Rattle.aom_sound.specs.Calls.{below_top, needs_return, result_needs, result_register, returned}
+use Rattle.aom_sound.specs.Calls.{answered_by, below_top, result_needs, result_register, returned, told_answer}
 use Rattle.aom_sound.specs.Claims.{Method, Mark, tasks_of, claim, declared}
 use Rattle.aom_sound.specs.Places.{Cell, Elsewhere, Entry, Field, Going, Object, Place, Register, changed, held, moved, same_place, seen}
-use Rattle.aom_sound.specs.State.{Choice, Destroy, Dispatch, Dispatched, Frame, Run, State, Task, Trapped, Unwind, next, set_word, word}
+use Rattle.aom_sound.specs.State.{Answered, Destroy, Dispatch, Dispatched, Frame, Run, State, Task, Trapped, Unwind, next, set_word, word}
 use Rattle.aom_sound.specs.WellTyped.{Awaits, Fits, Good, WellTyped, WordFits}
 use Rattle.aom_sound.proofs.Claimed.{claim_register_above}
 use Rattle.aom_sound.proofs.Finishing.{all_parts}
@@ -33,11 +33,20 @@ use Rattle.aom_frames.specs.Tasks.{Runs, method_here, place_here, register_here,
 use Rattle.aom_frames.specs.declared.frame.Frame.{Frame as Held_frame}
 use Rattle.aom_frames.specs.declared.task.Task.{Task as Held_task}
 use Rattle.aom_frames.specs.declared.task.Task.TheVariants.{Run as Runs_frame, Trapped as Is_trap, Destroy as Destroys, Dispatched as Ends, Unwind as Unwinds}
-use Rattle.aom_frames.specs.declared.task.Dispatch.{Dispatch as Held_dispatch}
+use Rattle.aom_frames.specs.declared.dispatch.Dispatch.{Dispatch as Held_dispatch}
+use Rattle.aom_frames.specs.declared.dispatch.Dispatch.TheVariants.{Asks as One_asks}
+use Rattle.aom_active.specs.Agrees.{Active}
+use Rattle.aom_sound.specs.Enlisted.{ended_cells}
+use Rattle.aom_sound.proofs.Storing.{ended_alike}
+use Rattle.aom_exec.specs.Ends.{heard, told_by}
+use Rattle.aom_exec.specs.Going.{ending_here}
+use Rattle.aom_exec.proofs.Asking.{requests_moved}
+use Rattle.aom_exec.proofs.CancelEnds.{IsOver, ended_agrees, method_is}
+use Rattle.aom_exec.proofs.OnTop.{ending_of}
 use Rattle.aom_exec.specs.declared.parts.Parts.{Parts}
 use Rattle.aom_exec.specs.Places.{value_in, register_in, going_in, with_tasks, IsDestroying, IsEnding, IsTrapped, IsUnwinding}
-use Rattle.aom_exec.specs.Agrees.{word_at, word_in, Shows, SameCells, SameFrame, SameTasks, Agrees}
-use Rattle.aom_exec.specs.Acts.{At_hand, requested, resulted, DoesIn}
+use Rattle.aom_exec.specs.Agrees.{word_at, word_in, Shows, SameCells, SameDispatch, SameFrame, SameTasks, Agrees, SameRequests, dispatch_of, seat_of}
+use Rattle.aom_exec.specs.Acts.{At_hand, resulted, DoesIn}
 use Rattle.aom_exec.specs.Acts as acts
 use Rattle.aom_exec.proofs.Entries.{mark_shows_none, unmarked, value_alike}
 use Rattle.aom_exec.proofs.Overs.{held_over, higher, over_value, over_words, tasks_over}
@@ -47,22 +56,18 @@ use Rattle.aom_exec.proofs.Standing.{Top, by_top, goes_on, moved_on, register_sh
 use Rattle.std.specs.Bool.{OnTrue}
 use Rattle.std.proofs.lemmas.Option.{none-some}
 use Rattle.aom_image.proofs.Given.{none_given}
-use Rattle.aom_exec.proofs.Alike.{A_catcher, A_going, A_last_trap, A_leave, A_method, Alike, Tops, alike, both_end, both_go, both_run, both_trapped, both_unwind, catcher_on_top, going_on_top, last_trap_on_top, leave_on_top, method_on_top, tops}
+use Rattle.aom_exec.proofs.Alike.{A_catcher, A_going, A_last_trap, A_leave, A_method, An_end, Alike, Tops, alike, both_end, both_go, both_run, both_trapped, both_unwind, catcher_on_top, end_on_top, going_on_top, last_trap_on_top, leave_on_top, method_on_top, tops}
 use Rattle.aom_exec.proofs.Values.{at_depth, cases, going_past, kept, none_alike, register_past, value_kept, value_written, word_next, word_past, word_written, writes}
-use Rattle.aom_exec.proofs.WordActs.{plain_at}
-use Rattle.aom_sound.specs.Enlisted.{cancelled, ended_cells, on_request, own_request, rerequested}
-use Rattle.aom_classes.specs.Admitted.{IsAdmitted, admits_argument, admits_instr, admits_method, admits_result, admits_role, stays}
-use Rattle.aom_image.specs.declared.method.Role.{Role}
-use Rattle.aom_image.specs.declared.method.Role.TheVariants.{Cancel}
-use Rattle.aom_rules.specs.Requests.{is_cancel}
-use Rattle.std.specs.List.{list_all}
-use Rattle.aom_classes.proofs.Each.{all_five}
-use Rattle.aom_sound.specs.Moves.{does}
+use Rattle.aom_exec.proofs.WordActs.{plain_at, word_read}
 
 -- what a method gives back
 pub gives_here : (p : Image) (k : ℕ) (d : Method_decl) → method_at p k ≡ Some d → gives_of p k ≡ d.gives
 unfolding gives_in
 gives_here p k d e = ap gives_in e
+
+-- the machine once the method is gone, and the cancel that it may have ended is over
+pub dropped : (m ended new : Parts) → ended ≡ record m { active = ended.active } → new ≡ with_tasks (below_first ended.stack.tasks) ended → new ≡ with_tasks (below_first m.stack.tasks) (record m { active = ended.active })
+dropped m ended new rest drop = drop ∙ ap (λ (k : Parts). with_tasks (below_first k.stack.tasks) k) rest
 
 -- ---- what lies below the task that is over
 
@@ -162,24 +167,32 @@ word_alone p t s fr ts i w typed top has = method_layer (λ ls. Good p t s.cells
         owned x (Maybe y age) fits word = none-some _ (sym word)
         owned x _ fits word = fits
 
-module _ (p : Image) (m : Parts) (h : At_hand p m) (f : Held_frame) (a : ℕ) where
-  abbrev s : State
-  s = h.state
+-- what gives an object has no word in its register
+abbrev pub Wordless : Gives → Option ℤ → Type 0
+Wordless Nothing w = Unit {0}
+Wordless A_word w = Unit {0}
+Wordless (An_own t) w = w ≡ None
+Wordless (A_maybe t) w = w ≡ None
+Wordless (Left c) w = Unit {0}
 
-  abbrev fr : Frame
-  fr = h.frame
+wordless : (p : Image) (fr : Frame) (ts : List Task) (s : State) (g : Gives) (a : ℕ) → AllTrue (result_needs p fr ts s g a) → Wordless g (word fr a)
+wordless p fr ts s (An_own t) a met = no_word _ met.0
+wordless p fr ts s (A_maybe t) a met = no_word _ met.0
+wordless p fr ts s _ a met = tt
 
-  -- to the going of a cell, or to an unwinding: nothing goes over
-  to_waiting : (ms : List Held_task) (ts : List Task) → Top m s fr ts f ms → WellTyped p h.typing (record s { tasks = ts }) → Agrees p (with_tasks ms m) (record s { tasks = ts })
-  to_waiting ms ts top typed = record {
+module _ (p : Image) (m : Parts) (t : Typing) (s : State) (fr : Frame) (agrees : Agrees p m s) (f : Held_frame) (a : ℕ) where
+  -- to the going of a cell, to an unwinding or to a dispatch: nothing goes over
+  to_waiting : (ms : List Held_task) (ts : List Task) → Top m s fr ts f ms → ((i : ℕ) → held s.cells (Register (length ts) i) ≡ None)
+      → Agrees p (with_tasks ms m) (record s { tasks = ts })
+  to_waiting ms ts top clear = record {
     tasks = top.below;
-    values = λ r. subst (Shows (value_in ms m.cells m.entries.items m.root r) (word_at ts r)) (cleared_none _ (held s.cells) (λ i. none_above p h.typing (record s { tasks = ts }) _ i typed (omega arith)) r)
-        (beneath f ms fr ts m.cells m.entries.items m.root (held s.cells) top.deep top.values r);
-    cells = h.agrees.cells;
-    entries = h.agrees.entries;
-    rest = h.agrees.rest;
-    room = h.agrees.room;
-    entry_room = h.agrees.entry_room;
+    values = λ r. subst (Shows (value_in ms m.cells m.entries.items m.root r) (word_at ts r)) (cleared_none _ (held s.cells) clear r) (beneath f ms fr ts m.cells m.entries.items m.root (held s.cells) top.deep top.values r);
+    cells = agrees.cells;
+    entries = agrees.entries;
+    requests = agrees.requests;
+    rest = agrees.rest;
+    room = agrees.room;
+    entry_room = agrees.entry_room;
   }
 
   -- to a method, or through a trap to one
@@ -239,6 +252,7 @@ module _ (p : Image) (m : Parts) (h : At_hand p m) (f : Held_frame) (a : ℕ) wh
     record Landed (rs : List ℕ) (ws : List (Option ℤ)) (cs : List Cell) : Type 0 where
       values : (r : Place) → Shows (value_in (Runs_frame (record g { registers = rs }) ∷ ms) m.cells m.entries.items m.root r) (word_at (Run (record caller { words = ws }) ∷ ts) r) (held cs r)
       cells : SameCells p m.cells cs
+      requests : SameRequests p m.active cs
       wide : length rs ≡ 16
 
     abbrev IsClear : List Cell → Type 0
@@ -248,13 +262,14 @@ module _ (p : Image) (m : Parts) (h : At_hand p m) (f : Held_frame) (a : ℕ) wh
     lands_bare : IsClear s.cells → Landed g.registers caller.words s.cells
     lands_bare clear = record {
       values = λ r. subst (Shows (value_in (Runs_frame g ∷ ms) m.cells m.entries.items m.root r) (word_at (Run caller ∷ ts) r)) (cleared_none _ (held s.cells) clear r) (base r);
-      cells = h.agrees.cells;
+      cells = agrees.cells;
+      requests = agrees.requests;
       wide = same_frame.wide;
     }
 
     -- with a number
-    lands : (cs : List Cell) (w : Option ℤ) (o : Option Object) → SameCells p m.cells cs → Shows n w o → ((r : Place) → held cs r ≡ changed under to o r) → Landed (slice_set g.registers x n) (set_word caller x w).words cs
-    lands cs w o cells shows holds =
+    lands : (cs : List Cell) (w : Option ℤ) (o : Option Object) → SameCells p m.cells cs → SameRequests p m.active cs → Shows n w o → ((r : Place) → held cs r ≡ changed under to o r) → Landed (slice_set g.registers x n) (set_word caller x w).words cs
+    lands cs w o cells requests shows holds =
         let wide = same_frame.wide in
         record {
           values = writes _ _ _ _ _ _ to n w o base shows
@@ -262,19 +277,20 @@ module _ (p : Image) (m : Parts) (h : At_hand p m) (f : Held_frame) (a : ℕ) wh
               (word_written caller ts x caller.place w)
               holds;
           cells = cells;
+          requests = requests;
           wide = length-set g.registers x n ∙ wide;
         }
 
     -- with a word
     lands_word : IsClear s.cells → held s.cells to ≡ None → Landed (slice_set g.registers x n) (set_word caller x (word fr a)).words s.cells
     lands_word clear empty =
-        lands s.cells (word fr a) None h.agrees.cells (subst (Shows n (word fr a)) (clear a) number_shows)
+        lands s.cells (word fr a) None agrees.cells agrees.requests (subst (Shows n (word fr a)) (clear a) number_shows)
         (λ r. kept (held s.cells) to r ∙ ap (λ o. changed (held s.cells) to o r) empty ∙ ap (λ o. cond (same_place to r) None o) (sym (cleared_none _ (held s.cells) clear r)))
 
     -- with an object
     lands_object : IsClear (moved from to s.cells) → held s.cells to ≡ None → word fr a ≡ None → Landed (slice_set g.registers x n) (set_word caller x None).words (moved from to s.cells)
     lands_object clear empty wordless =
-        lands (moved from to s.cells) None (held s.cells from) (cells_moved p m.cells s.cells from to h.agrees.cells) (subst (λ w. Shows n w (held s.cells from)) wordless number_shows) holds
+        lands (moved from to s.cells) None (held s.cells from) (cells_moved p m.cells s.cells from to agrees.cells) (requests_moved p m.active s.cells from to agrees.requests) (subst (λ w. Shows n w (held s.cells from)) wordless number_shows) holds
       where
         elsewhere : (r : Place) → same_place from r ≡ false → under r ≡ held s.cells r → held (moved from to s.cells) r ≡ changed under to (held s.cells from) r
         elsewhere r e same = held_moved s.cells from to r empty ∙ ap (λ b. cond (same_place to r) (held s.cells from) (cond b None (held s.cells r))) e ∙ ap (λ o. cond (same_place to r) (held s.cells from) o) (sym same)
@@ -298,7 +314,7 @@ module _ (p : Image) (m : Parts) (h : At_hand p m) (f : Held_frame) (a : ℕ) wh
     lands_next rs ws cs landed =
         let g' = record g { registers = rs } in
         let caller' = record caller { words = ws } in
-        goes_on p m s m.cells cs m.rest s.rest (record g' { place = suc g.place }) ms (next caller') ts h.agrees landed.cells h.agrees.rest same_below (moved_on g caller rs ws same_frame landed.wide)
+        goes_on p m s m.cells cs m.rest s.rest (record g' { place = suc g.place }) ms (next caller') ts agrees landed.cells landed.requests agrees.rest same_below (moved_on g caller rs ws same_frame landed.wide)
         (λ r. subst (λ k. Shows k (word_at (Run (next caller') ∷ ts) r) (held cs r)) (sym (value_kept g' ms m.cells m.entries.items m.root (suc g.place) r))
         (subst (λ w. Shows (value_in (Runs_frame g' ∷ ms) m.cells m.entries.items m.root r) w (held cs r)) (sym (word_next caller' ts (suc caller.place) r)) (landed.values r)))
 
@@ -319,14 +335,15 @@ module _ (p : Image) (m : Parts) (h : At_hand p m) (f : Held_frame) (a : ℕ) wh
               (word_written caller' ts (suc x) (suc caller.place) (Some (pos 0)))
               (λ r. kept (held cs) q r ∙ ap (λ o. changed (held cs) q o r) empty);
           cells = landed.cells;
-          entries = unmarked m.entries.items es.items s.items was h.agrees.entries;
-          rest = h.agrees.rest;
-          room = h.agrees.room;
-          entry_room = subst (λ k. 1024 ≤ k) (ap (λ (e : Held_items). e.depth) marked) h.agrees.entry_room;
+          entries = unmarked m.entries.items es.items s.items was agrees.entries;
+          requests = landed.requests;
+          rest = agrees.rest;
+          room = agrees.room;
+          entry_room = subst (λ k. 1024 ≤ k) (ap (λ (e : Held_items). e.depth) marked) agrees.entry_room;
         }
 
   -- to a method
-  module _ (g : Held_frame) (ms : List Held_task) (caller : Frame) (ts : List Task) (top : Top m s fr (Run caller ∷ ts) f (Runs_frame g ∷ ms)) (tasks : s.tasks ≡ Run fr ∷ Run caller ∷ ts) (small : result_register (instr_at p caller.method caller.place) < 16) where
+  module _ (g : Held_frame) (ms : List Held_task) (caller : Frame) (ts : List Task) (top : Top m s fr (Run caller ∷ ts) f (Runs_frame g ∷ ms)) (empty : bears (gives_of p fr.method) ≡ true → held s.cells (Register (length ts) (result_register (instr_at p caller.method caller.place))) ≡ None) (small : result_register (instr_at p caller.method caller.place) < 16) where
     abbrev y : ℕ
     y = result_register (instr_at p caller.method caller.place)
 
@@ -335,19 +352,19 @@ module _ (p : Image) (m : Parts) (h : At_hand p m) (f : Held_frame) (a : ℕ) wh
 
     abbrev Goes : Gives → Type 0
     Goes gv =
-        AllTrue (result_needs p fr (Run caller ∷ ts) s gv a) → bears gv ≡ bears (gives_of p fr.method)
-        → WellTyped p h.typing (returned p fr (Run caller ∷ ts) s gv a (Run caller ∷ ts))
+        Wordless gv (word fr a) → bears gv ≡ bears (gives_of p fr.method)
+        → WellTyped p t (returned p fr (Run caller ∷ ts) s gv a (Run caller ∷ ts))
         → Agrees p (acts.next (resulted gv y k (with_tasks (Runs_frame g ∷ ms) m))) (returned p fr (Run caller ∷ ts) s gv a (Run caller ∷ ts))
 
     to_method : (gv : Gives) → Goes gv
-    to_method Nothing met same typed = lands_next false g ms caller ts top small _ _ _ (lands_bare false g ms caller ts top small (λ i. none_above p h.typing _ _ i typed (omega arith)))
-    to_method A_word met same typed = lands_next false g ms caller ts top small _ _ _ (lands_word false g ms caller ts top small (λ i. none_above p h.typing _ _ i typed (omega arith)) (awaited p h.typing s fr caller ts h.typed tasks (sym same)))
-    to_method (An_own z) met same typed = lands_next false g ms caller ts top small _ _ _ (lands_object false g ms caller ts top small (λ i. none_above p h.typing _ _ i typed (omega arith)) (awaited p h.typing s fr caller ts h.typed tasks (sym same)) (no_word _ met.0))
-    to_method (A_maybe z) met same typed = lands_next false g ms caller ts top small _ _ _ (lands_object false g ms caller ts top small (λ i. none_above p h.typing _ _ i typed (omega arith)) (awaited p h.typing s fr caller ts h.typed tasks (sym same)) (no_word _ met.0))
-    to_method (Left z) met same typed = lands_next false g ms caller ts top small _ _ _ (lands_bare false g ms caller ts top small (λ i. none_above p h.typing _ _ i typed (omega arith)))
+    to_method Nothing met same typed = lands_next false g ms caller ts top small _ _ _ (lands_bare false g ms caller ts top small (λ i. none_above p t _ _ i typed (omega arith)))
+    to_method A_word met same typed = lands_next false g ms caller ts top small _ _ _ (lands_word false g ms caller ts top small (λ i. none_above p t _ _ i typed (omega arith)) (empty (sym same)))
+    to_method (An_own z) met same typed = lands_next false g ms caller ts top small _ _ _ (lands_object false g ms caller ts top small (λ i. none_above p t _ _ i typed (omega arith)) (empty (sym same)) met)
+    to_method (A_maybe z) met same typed = lands_next false g ms caller ts top small _ _ _ (lands_object false g ms caller ts top small (λ i. none_above p t _ _ i typed (omega arith)) (empty (sym same)) met)
+    to_method (Left z) met same typed = lands_next false g ms caller ts top small _ _ _ (lands_bare false g ms caller ts top small (λ i. none_above p t _ _ i typed (omega arith)))
 
   -- through a trap
-  module _ (es : Held_items) (marked : m.entries ≡ record es { items = Is_mark ∷ es.items }) (g : Held_frame) (ms : List Held_task) (caller : Frame) (ts : List Task) (top : Top m s fr (Trapped ∷ Run caller ∷ ts) f (Is_trap ∷ Runs_frame g ∷ ms)) (tasks : s.tasks ≡ Run fr ∷ Trapped ∷ Run caller ∷ ts) (coded : suc (result_register (instr_at p caller.method caller.place)) < 16) where
+  module _ (es : Held_items) (marked : m.entries ≡ record es { items = Is_mark ∷ es.items }) (g : Held_frame) (ms : List Held_task) (caller : Frame) (ts : List Task) (top : Top m s fr (Trapped ∷ Run caller ∷ ts) f (Is_trap ∷ Runs_frame g ∷ ms)) (empty : bears (gives_of p fr.method) ≡ true → held s.cells (Register (length ts) (result_register (instr_at p caller.method caller.place))) ≡ None) (coded : suc (result_register (instr_at p caller.method caller.place)) < 16) where
     abbrev z : ℕ
     z = result_register (instr_at p caller.method caller.place)
 
@@ -359,122 +376,185 @@ module _ (p : Image) (m : Parts) (h : At_hand p m) (f : Held_frame) (a : ℕ) wh
 
     abbrev GoesThrough : Gives → Type 0
     GoesThrough gv =
-        AllTrue (result_needs p fr (Trapped ∷ Run caller ∷ ts) s gv a) → bears gv ≡ bears (gives_of p fr.method)
-        → WellTyped p h.typing (returned p fr (Trapped ∷ Run caller ∷ ts) s gv a (Trapped ∷ Run caller ∷ ts))
+        Wordless gv (word fr a) → bears gv ≡ bears (gives_of p fr.method)
+        → WellTyped p t (returned p fr (Trapped ∷ Run caller ∷ ts) s gv a (Trapped ∷ Run caller ∷ ts))
         → Agrees p (acts.next (acts.set_register (suc z) 0 (resulted gv z j (with_tasks (Runs_frame g ∷ ms) (record m { entries = es }))))) (returned p fr (Trapped ∷ Run caller ∷ ts) s gv a (Trapped ∷ Run caller ∷ ts))
 
     -- the code's register has a word then
-    code_alone : (cs : List Cell) (caller' : Frame) (items : _) → WellTyped p h.typing (record s { cells = cs; tasks = Run (next (set_word caller' (suc z) (Some (pos 0)))) ∷ ts; items = items }) → held cs (Register (length ts) (suc z)) ≡ None
-    code_alone cs caller' items typed = word_alone p h.typing _ (next (set_word caller' (suc z) (Some (pos 0)))) ts (suc z) (pos 0) typed refl (at-put_at None caller'.words (suc z) (suc z) (Some (pos 0)) ∙ ap (λ b. cond b (Some (pos 0)) (word caller' (suc z))) (eq-eqb (suc z) (suc z) refl))
+    code_alone : (cs : List Cell) (caller' : Frame) (items : _) → WellTyped p t (record s { cells = cs; tasks = Run (next (set_word caller' (suc z) (Some (pos 0)))) ∷ ts; items = items }) → held cs (Register (length ts) (suc z)) ≡ None
+    code_alone cs caller' items typed = word_alone p t _ (next (set_word caller' (suc z) (Some (pos 0)))) ts (suc z) (pos 0) typed refl (at-put_at None caller'.words (suc z) (suc z) (Some (pos 0)) ∙ ap (λ b. cond b (Some (pos 0)) (word caller' (suc z))) (eq-eqb (suc z) (suc z) refl))
 
     through : (gv : Gives) → GoesThrough gv
-    through Nothing met same typed = lands_coded true g ms caller ts top small_too es marked coded _ _ _ (code_alone _ caller _ typed) (lands_bare true g ms caller ts top small_too (λ i. none_above p h.typing _ _ i typed (omega arith)))
-    through A_word met same typed = lands_coded true g ms caller ts top small_too es marked coded _ _ _ (code_alone _ (set_word caller z (word fr a)) _ typed) (lands_word true g ms caller ts top small_too (λ i. none_above p h.typing _ _ i typed (omega arith)) (awaited_trapped p h.typing s fr caller ts h.typed tasks (sym same)))
-    through (An_own t) met same typed = lands_coded true g ms caller ts top small_too es marked coded _ _ _ (code_alone _ (set_word caller z None) _ typed) (lands_object true g ms caller ts top small_too (λ i. none_above p h.typing _ _ i typed (omega arith)) (awaited_trapped p h.typing s fr caller ts h.typed tasks (sym same)) (no_word _ met.0))
-    through (A_maybe t) met same typed = lands_coded true g ms caller ts top small_too es marked coded _ _ _ (code_alone _ (set_word caller z None) _ typed) (lands_object true g ms caller ts top small_too (λ i. none_above p h.typing _ _ i typed (omega arith)) (awaited_trapped p h.typing s fr caller ts h.typed tasks (sym same)) (no_word _ met.0))
-    through (Left t) met same typed = lands_coded true g ms caller ts top small_too es marked coded _ _ _ (code_alone _ caller _ typed) (lands_bare true g ms caller ts top small_too (λ i. none_above p h.typing _ _ i typed (omega arith)))
+    through Nothing met same typed = lands_coded true g ms caller ts top small_too es marked coded _ _ _ (code_alone _ caller _ typed) (lands_bare true g ms caller ts top small_too (λ i. none_above p t _ _ i typed (omega arith)))
+    through A_word met same typed = lands_coded true g ms caller ts top small_too es marked coded _ _ _ (code_alone _ (set_word caller z (word fr a)) _ typed) (lands_word true g ms caller ts top small_too (λ i. none_above p t _ _ i typed (omega arith)) (empty (sym same)))
+    through (An_own thing) met same typed = lands_coded true g ms caller ts top small_too es marked coded _ _ _ (code_alone _ (set_word caller z None) _ typed) (lands_object true g ms caller ts top small_too (λ i. none_above p t _ _ i typed (omega arith)) (empty (sym same)) met)
+    through (A_maybe thing) met same typed = lands_coded true g ms caller ts top small_too es marked coded _ _ _ (code_alone _ (set_word caller z None) _ typed) (lands_object true g ms caller ts top small_too (λ i. none_above p t _ _ i typed (omega arith)) (empty (sym same)) met)
+    through (Left thing) met same typed = lands_coded true g ms caller ts top small_too es marked coded _ _ _ (code_alone _ caller _ typed) (lands_bare true g ms caller ts top small_too (λ i. none_above p t _ _ i typed (omega arith)))
 
--- no image that is admitted has a method that cancels
-cancels_never : (p : Image) → IsAdmitted p → (m : ℕ) → is_cancel (method_role p m) ≡ false
-unfolding method_at role_in admits_method admits_role
-cancels_never p a m = go (slice_get p.methods m) (a.methods m)
+-- ---- a dispatch that has asked hears the answer
+
+heard_same : (answer answer' : ℤ) (x : Held_dispatch) (d : Dispatch) → answer ≡ answer' → SameDispatch x d → SameDispatch (heard answer x) (answered_by answer' d)
+heard_same answer answer' x d e same = (same.0, subst (λ d. dispatch_of same.0 (heard answer x) ≡ answered_by answer' d) same.1 (go same.0 x))
   where
-    role : (r : Role) → IsTrue (admits_role r) → is_cancel (Some r) ≡ false
-    role Cancel h = cc
-    role _ h = refl
+    go : (q : Place) (x : Held_dispatch) → dispatch_of q (heard answer x) ≡ answered_by answer' (dispatch_of q x)
+    go q (One_asks x) = ap (λ n. Answered (seat_of q x) n) e
+    go q _ = refl
 
-    go : (o : Option Method_declared) → IfSome o (λ d. IsTrue (admits_method d)) → is_cancel (role_in o) ≡ false
-    go None h = refl
-    go (Some d) h = role d.role (all_five (admits_role d.role) (stays d) (list_all admits_argument d.arguments) (admits_result d.gives) (list_all admits_instr d.code) h).0
+-- a dispatch has no place of its own
+redispatched : (p : Image) (m : Parts) (s : State) (x y : Held_dispatch) (ms : List Held_task) (d e : Dispatch) (ts : List Task) → SameDispatch y e
+    → Agrees p (with_tasks (Ends x ∷ ms) m) (record s { tasks = Dispatched d ∷ ts }) → Agrees p (with_tasks (Ends y ∷ ms) m) (record s { tasks = Dispatched e ∷ ts })
+redispatched p m s x y ms d e ts same agrees = record {
+  tasks = (same, agrees.tasks.1);
+  values = values;
+  cells = agrees.cells;
+  entries = agrees.entries;
+  requests = agrees.requests;
+  rest = agrees.rest;
+  room = agrees.room;
+  entry_room = agrees.entry_room;
+}
+  where
+    values : (r : Place) → Shows (value_in (Ends y ∷ ms) m.cells m.entries.items m.root r) (word_at (Dispatched e ∷ ts) r) (held s.cells r)
+    values (Register k i) = agrees.values (Register k i)
+    values (Entry k) = agrees.values (Entry k)
+    values (Field n g) = agrees.values (Field n g)
+    values (Going k) = agrees.values (Going k)
+    values (Elsewhere o) = agrees.values (Elsewhere o)
 
-module _ (p : Image) (m : Parts) (refused : List ℕ) (a : ℕ) where
-  -- the needs of the result, of those of the return
-  of_result : (h : At_hand p m) → AllTrue (needs_return p h.frame h.below h.state a) → AllTrue (result_needs p h.frame h.below h.state (gives_of p h.frame.method) a)
-  of_result h needs = (all_parts (result_needs p h.frame h.below h.state (gives_of p h.frame.method) a) _ needs).0
+-- what the machine tells is the word that the method gives
+told_same : (p : Image) (m : Parts) (h : At_hand p m) (g : Gives) (a : ℕ) → AllTrue (result_needs p h.frame h.below h.state g a)
+    → told_by g (register_here m.stack.tasks a) ≡ told_answer g h.frame a
+told_same p m h A_word a met = word_read p m h a met.0
+told_same p m h _ a met = refl
 
-  -- so far no method cancels, so a return changes no request
-  by_end :
-      (h : At_hand p m) (c : Choice) (M : Parts) → WellTyped p h.typing (does p c h.frame h.below (requested (Return a) h.state) (Return a)) →
-      (WellTyped p h.typing (returned p h.frame h.below (requested (Return a) h.state) (gives_of p h.frame.method) a h.below) → Agrees p M (returned p h.frame h.below (requested (Return a) h.state) (gives_of p h.frame.method) a h.below)) →
-      Agrees p M (does p c h.frame h.below (requested (Return a) h.state) (Return a))
-  by_end h c M typed agrees =
-      let after : List Cell → State = λ cs. returned p h.frame h.below (record (requested (Return a) h.state) { cells = cs }) (gives_of p h.frame.method) a h.below in
-      let same : ended_cells p h.frame h.state.cells ≡ h.state.cells = ap (λ b. cond b (rerequested h.state.cells h.frame.home (on_request cancelled (own_request h.state.cells h.frame.home))) h.state.cells) (cancels_never p h.admitted h.frame.method) in
-      subst (λ cs. Agrees p M (after cs)) (sym same) (agrees (subst (λ cs. WellTyped p h.typing (after cs)) same typed))
+-- ---- the return, once the cancel that the method may have ended is over
+
+module _ (p : Image) (m : Parts) (refused : List ℕ) (a : ℕ) (act : Active) (is_over : IsOver p m act) where
+  -- the machine then, the state that it stands for, and that once the method is gone
+  abbrev mid : Parts
+  mid = record m { active = act }
+
+  abbrev past : At_hand p m → State
+  past h = record h.state { cells = ended_cells p h.frame h.state.cells }
+
+  abbrev after : (h : At_hand p m) → List Task → State
+  after h ts = returned p h.frame ts (past h) (gives_of p h.frame.method) a ts
+
+  agree : (h : At_hand p m) → Agrees p mid (past h)
+  agree h = ended_agrees p m h act is_over
+
+  still : (h : At_hand p m) (q : Place) → held (past h).cells q ≡ held h.state.cells q
+  still h q = (ended_alike p h.frame h.state.cells).held_so q
+
+  top_over : (h : At_hand p m) (ts : List Task) (f : Held_frame) (ms : List Held_task) → Top m h.state h.frame ts f ms → Top mid (past h) h.frame ts f ms
+  top_over h ts f ms top = record {
+    frame = top.frame;
+    below = top.below;
+    deep = top.deep;
+    values = λ r. subst (Shows (value_in (Runs_frame f ∷ ms) m.cells m.entries.items m.root r) (word_at (Run h.frame ∷ ts) r)) (sym (still h r)) (top.values r);
+  }
+
+  -- what holds of the machine's tasks tells what is below its method
+  by_return : (P : List Held_task → Type 0) (G : List Held_task → Parts) → P m.stack.tasks
+      → ((h : At_hand p m) (f : Held_frame) (ms : List Held_task) → Top mid (past h) h.frame h.below f ms → Alike ms h.below → AllTrue (result_needs p h.frame h.below h.state (gives_of p h.frame.method) a)
+      → WellTyped p h.typing (after h h.below) → P (Runs_frame f ∷ ms) → Agrees p (G (Runs_frame f ∷ ms)) (after h h.below))
+      → DoesIn p refused (Return a) m (G m.stack.tasks)
+  by_return P G has each h here =
+      plain_at p m (G m.stack.tasks) refused (Return a) refl h (λ c needs typed.
+      let met = (all_parts (result_needs p h.frame h.below h.state (gives_of p h.frame.method) a) _ needs).0 in
+      by_top p m h (λ us. P us → Agrees p (G us) (after h h.below)) (λ f ms top has. each h f ms (top_over h h.below f ms top) (alike ms h.below top.below) met typed has) has)
 
   pub return_to_method : (x : ℕ) → Runs (below_first m.stack.tasks) → x < 16 → x ≡ result_register (instr_at p (method_here (below_first m.stack.tasks)) (place_here (below_first m.stack.tasks)))
-      → DoesIn p refused (Return a) m (acts.next (resulted (gives_of p (method_here m.stack.tasks)) x (register_here m.stack.tasks a) (with_tasks (below_first m.stack.tasks) m)))
-  return_to_method x runs small is h here =
-      plain_at p m _ refused (Return a) refl h (λ c needs typed. by_end h c _ typed (λ typed. by_top p m h
-      (λ us. Runs (below_first us) → x ≡ result_register (instr_at p (method_here (below_first us)) (place_here (below_first us))) → Agrees p (acts.next (resulted (gives_of p (method_here us)) x (register_here us a) (with_tasks (below_first us) m))) (returned p h.frame h.below (requested (Return a) h.state) (gives_of p h.frame.method) a h.below))
-      (λ f ms top runs is. go f ms h.below h.top top (tops A_method ms runs) (alike ms h.below top.below) is (of_result h needs) typed)
-      runs is))
+      → DoesIn p refused (Return a) m (acts.next (resulted (gives_of p (method_here m.stack.tasks)) x (register_here m.stack.tasks a) (with_tasks (below_first m.stack.tasks) mid)))
+  return_to_method x runs small is =
+      by_return (λ us. Runs (below_first us) × (x ≡ result_register (instr_at p (method_here (below_first us)) (place_here (below_first us)))))
+      (λ us. acts.next (resulted (gives_of p (method_here us)) x (register_here us a) (with_tasks (below_first us) mid))) (runs, is)
+      (λ h f ms top same met typed has. go h f ms h.below h.top top (tops A_method ms has.0) same has.1 (wordless p h.frame h.below h.state (gives_of p h.frame.method) a met) typed)
     where
-      go : (f : Held_frame) (ms : List Held_task) (ts : List Task) → h.state.tasks ≡ Run h.frame ∷ ts → Top m h.state h.frame ts f ms → Tops A_method ms → Alike ms ts → x ≡ result_register (instr_at p (method_here ms) (place_here ms))
-          → AllTrue (result_needs p h.frame ts h.state (gives_of p h.frame.method) a) → WellTyped p h.typing (returned p h.frame ts h.state (gives_of p h.frame.method) a ts)
-          → Agrees p (acts.next (resulted (gives_of p f.method) x (slice_index_or f.registers a null) (with_tasks ms m))) (returned p h.frame ts h.state (gives_of p h.frame.method) a ts)
-      go f _ _ e top (method_on_top g ms) (both_run _ caller _ ts frame _ _) is needs typed =
+      go : (h : At_hand p m) (f : Held_frame) (ms : List Held_task) (ts : List Task) → h.state.tasks ≡ Run h.frame ∷ ts → Top mid (past h) h.frame ts f ms
+          → Tops A_method ms → Alike ms ts → x ≡ result_register (instr_at p (method_here ms) (place_here ms))
+          → Wordless (gives_of p h.frame.method) (word h.frame a) → WellTyped p h.typing (after h ts)
+          → Agrees p (acts.next (resulted (gives_of p f.method) x (slice_index_or f.registers a null) (with_tasks ms mid))) (after h ts)
+      go h f _ _ e top (method_on_top g ms) (both_run _ caller _ ts frame _ _) is wordless typed =
           let at : x ≡ result_register (instr_at p caller.method caller.place) = is ∙ ap (λ k. result_register (instr_at p k g.place)) frame.method ∙ ap (λ k. result_register (instr_at p caller.method k)) frame.place in
-          subst (λ k. Agrees p (acts.next (resulted (gives_of p k) x (slice_index_or f.registers a null) (with_tasks (Runs_frame g ∷ ms) m))) (returned p h.frame (Run caller ∷ ts) h.state (gives_of p h.frame.method) a (Run caller ∷ ts))) (sym top.frame.method)
-          (subst (λ k. Agrees p (acts.next (resulted (gives_of p h.frame.method) k (slice_index_or f.registers a null) (with_tasks (Runs_frame g ∷ ms) m))) (returned p h.frame (Run caller ∷ ts) h.state (gives_of p h.frame.method) a (Run caller ∷ ts))) (sym at)
-          (to_method p m h f a g ms caller ts top e (subst (λ k. k < 16) at small) (gives_of p h.frame.method) needs refl typed))
+          subst (λ k. Agrees p (acts.next (resulted (gives_of p k) x (slice_index_or f.registers a null) (with_tasks (Runs_frame g ∷ ms) mid))) (after h (Run caller ∷ ts))) (sym top.frame.method)
+          (subst (λ k. Agrees p (acts.next (resulted (gives_of p h.frame.method) k (slice_index_or f.registers a null) (with_tasks (Runs_frame g ∷ ms) mid))) (after h (Run caller ∷ ts))) (sym at)
+          (to_method p mid h.typing (past h) h.frame (agree h) f a g ms caller ts top (λ some. still h _ ∙ awaited p h.typing h.state h.frame caller ts h.typed e some)
+          (subst (λ k. k < 16) at small) (gives_of p h.frame.method) wordless refl typed))
 
   pub return_through : (es : Held_items) (x : ℕ) → IsTrapped (below_first m.stack.tasks) → Runs (below_first (below_first m.stack.tasks)) → m.entries ≡ record es { items = Is_mark ∷ es.items } → suc x < 16
       → x ≡ result_register (instr_at p (method_here (below_first (below_first m.stack.tasks))) (place_here (below_first (below_first m.stack.tasks))))
-      → DoesIn p refused (Return a) m (acts.next (acts.set_register (suc x) 0 (resulted (gives_of p (method_here m.stack.tasks)) x (register_here m.stack.tasks a) (record (with_tasks (below_first (below_first m.stack.tasks)) m) { entries = es }))))
-  return_through es x trapped runs marked small is h here =
-      plain_at p m _ refused (Return a) refl h (λ c needs typed. by_end h c _ typed (λ typed. by_top p m h
-      (λ us. IsTrapped (below_first us) → Runs (below_first (below_first us)) → x ≡ result_register (instr_at p (method_here (below_first (below_first us))) (place_here (below_first (below_first us)))) → Agrees p (acts.next (acts.set_register (suc x) 0 (resulted (gives_of p (method_here us)) x (register_here us a) (record (with_tasks (below_first (below_first us)) m) { entries = es })))) (returned p h.frame h.below (requested (Return a) h.state) (gives_of p h.frame.method) a h.below))
-      (λ f ms top trapped runs is. go f ms h.below h.top top (tops A_catcher ms (trapped, runs)) (alike ms h.below top.below) is (of_result h needs) typed)
-      trapped runs is))
+      → DoesIn p refused (Return a) m (acts.next (acts.set_register (suc x) 0 (resulted (gives_of p (method_here m.stack.tasks)) x (register_here m.stack.tasks a) (record (with_tasks (below_first (below_first m.stack.tasks)) mid) { entries = es }))))
+  return_through es x trapped runs marked small is =
+      by_return (λ us. IsTrapped (below_first us) × Runs (below_first (below_first us)) × (x ≡ result_register (instr_at p (method_here (below_first (below_first us))) (place_here (below_first (below_first us))))))
+      (λ us. acts.next (acts.set_register (suc x) 0 (resulted (gives_of p (method_here us)) x (register_here us a) (record (with_tasks (below_first (below_first us)) mid) { entries = es })))) (trapped, runs, is)
+      (λ h f ms top same met typed has. go h f ms h.below h.top top (tops A_catcher ms (has.0, has.1)) same has.2 (wordless p h.frame h.below h.state (gives_of p h.frame.method) a met) typed)
     where
-      go : (f : Held_frame) (ms : List Held_task) (ts : List Task) → h.state.tasks ≡ Run h.frame ∷ ts → Top m h.state h.frame ts f ms → Tops A_catcher ms → Alike ms ts → x ≡ result_register (instr_at p (method_here (below_first ms)) (place_here (below_first ms)))
-          → AllTrue (result_needs p h.frame ts h.state (gives_of p h.frame.method) a) → WellTyped p h.typing (returned p h.frame ts h.state (gives_of p h.frame.method) a ts)
-          → Agrees p (acts.next (acts.set_register (suc x) 0 (resulted (gives_of p f.method) x (slice_index_or f.registers a null) (record (with_tasks (below_first ms) m) { entries = es })))) (returned p h.frame ts h.state (gives_of p h.frame.method) a ts)
-      go f _ _ e top (catcher_on_top g ms) (both_trapped _ _ _ (both_run _ caller _ ts frame _ _)) is needs typed =
+      go : (h : At_hand p m) (f : Held_frame) (ms : List Held_task) (ts : List Task) → h.state.tasks ≡ Run h.frame ∷ ts → Top mid (past h) h.frame ts f ms
+          → Tops A_catcher ms → Alike ms ts → x ≡ result_register (instr_at p (method_here (below_first ms)) (place_here (below_first ms)))
+          → Wordless (gives_of p h.frame.method) (word h.frame a) → WellTyped p h.typing (after h ts)
+          → Agrees p (acts.next (acts.set_register (suc x) 0 (resulted (gives_of p f.method) x (slice_index_or f.registers a null) (record (with_tasks (below_first ms) mid) { entries = es })))) (after h ts)
+      go h f _ _ e top (catcher_on_top g ms) (both_trapped _ _ _ (both_run _ caller _ ts frame _ _)) is wordless typed =
           let at : x ≡ result_register (instr_at p caller.method caller.place) = is ∙ ap (λ k. result_register (instr_at p k g.place)) frame.method ∙ ap (λ k. result_register (instr_at p caller.method k)) frame.place in
-          subst (λ k. Agrees p (acts.next (acts.set_register (suc x) 0 (resulted (gives_of p k) x (slice_index_or f.registers a null) (record (with_tasks (Runs_frame g ∷ ms) m) { entries = es })))) (returned p h.frame (Trapped ∷ Run caller ∷ ts) h.state (gives_of p h.frame.method) a (Trapped ∷ Run caller ∷ ts))) (sym top.frame.method)
-          (subst (λ k. Agrees p (acts.next (acts.set_register (suc k) 0 (resulted (gives_of p h.frame.method) k (slice_index_or f.registers a null) (record (with_tasks (Runs_frame g ∷ ms) m) { entries = es })))) (returned p h.frame (Trapped ∷ Run caller ∷ ts) h.state (gives_of p h.frame.method) a (Trapped ∷ Run caller ∷ ts))) (sym at)
-          (through p m h f a es marked g ms caller ts top e (subst (λ k. suc k < 16) at small) (gives_of p h.frame.method) needs refl typed))
+          subst (λ k. Agrees p (acts.next (acts.set_register (suc x) 0 (resulted (gives_of p k) x (slice_index_or f.registers a null) (record (with_tasks (Runs_frame g ∷ ms) mid) { entries = es })))) (after h (Trapped ∷ Run caller ∷ ts))) (sym top.frame.method)
+          (subst (λ k. Agrees p (acts.next (acts.set_register (suc k) 0 (resulted (gives_of p h.frame.method) k (slice_index_or f.registers a null) (record (with_tasks (Runs_frame g ∷ ms) mid) { entries = es })))) (after h (Trapped ∷ Run caller ∷ ts))) (sym at)
+          (through p mid h.typing (past h) h.frame (agree h) f a es marked g ms caller ts top (λ some. still h _ ∙ awaited_trapped p h.typing h.state h.frame caller ts h.typed e some)
+          (subst (λ k. suc k < 16) at small) (gives_of p h.frame.method) wordless refl typed))
 
-  pub return_to_going : IsDestroying (below_first m.stack.tasks) → DoesIn p refused (Return a) m (with_tasks (below_first m.stack.tasks) m)
-  return_to_going destroying h here =
-      plain_at p m _ refused (Return a) refl h (λ c needs typed. by_end h c _ typed (λ typed. by_top p m h
-      (λ us. IsDestroying (below_first us) → Agrees p (with_tasks (below_first us) m) (returned p h.frame h.below (requested (Return a) h.state) (gives_of p h.frame.method) a h.below))
-      (λ f ms top destroying. go f ms h.below top (tops A_going ms destroying) (alike ms h.below top.below) typed)
-      destroying))
+  pub return_to_going : IsDestroying (below_first m.stack.tasks) → DoesIn p refused (Return a) m (with_tasks (below_first m.stack.tasks) mid)
+  return_to_going destroying =
+      by_return (λ us. IsDestroying (below_first us)) (λ us. with_tasks (below_first us) mid) destroying
+      (λ h f ms top same met typed has. go h f ms h.below top (tops A_going ms has) same typed)
     where
-      go : (f : Held_frame) (ms : List Held_task) (ts : List Task) → Top m h.state h.frame ts f ms → Tops A_going ms → Alike ms ts → WellTyped p h.typing (returned p h.frame ts h.state (gives_of p h.frame.method) a ts) → Agrees p (with_tasks ms m) (returned p h.frame ts h.state (gives_of p h.frame.method) a ts)
-      go f _ _ top (going_on_top x ms) (both_go _ _ ts _ _) typed = to_waiting p m h f a (Destroys x ∷ ms) (Destroy ∷ ts) top typed
+      go : (h : At_hand p m) (f : Held_frame) (ms : List Held_task) (ts : List Task) → Top mid (past h) h.frame ts f ms → Tops A_going ms → Alike ms ts
+          → WellTyped p h.typing (after h ts) → Agrees p (with_tasks ms mid) (after h ts)
+      go h f _ _ top (going_on_top x ms) (both_go _ _ ts _ _) typed = to_waiting p mid h.typing (past h) h.frame (agree h) f a (Destroys x ∷ ms) (Destroy ∷ ts) top
+          (λ i. none_above p h.typing (after h (Destroy ∷ ts)) _ i typed (omega arith))
+
+  pub return_to_unwinding : IsUnwinding (below_first m.stack.tasks) → DoesIn p refused (Return a) m (with_tasks (below_first m.stack.tasks) mid)
+  return_to_unwinding unwinding =
+      by_return (λ us. IsUnwinding (below_first us)) (λ us. with_tasks (below_first us) mid) unwinding
+      (λ h f ms top same met typed has. go h f ms h.below top (tops A_leave ms has) same typed)
+    where
+      go : (h : At_hand p m) (f : Held_frame) (ms : List Held_task) (ts : List Task) → Top mid (past h) h.frame ts f ms → Tops A_leave ms → Alike ms ts
+          → WellTyped p h.typing (after h ts) → Agrees p (with_tasks ms mid) (after h ts)
+      go h f _ _ top (leave_on_top code ms) (both_unwind _ c _ ts _ _ _) typed = to_waiting p mid h.typing (past h) h.frame (agree h) f a (Unwinds code ∷ ms) (Unwind c ∷ ts) top
+          (λ i. none_above p h.typing (after h (Unwind c ∷ ts)) _ i typed (omega arith))
+
+  pub return_to_dispatch : (g : Gives) (d : Held_dispatch) → gives_of p (method_here m.stack.tasks) ≡ g → ending_here (below_first m.stack.tasks) ≡ Some d
+      → DoesIn p refused (Return a) m (with_tasks (Ends (heard (told_by g (register_here m.stack.tasks a)) d) ∷ below_first (below_first m.stack.tasks)) mid)
+  return_to_dispatch g d gives ending =
+      by_return (λ us. ending_here (below_first us) ≡ Some d) (λ us. with_tasks (Ends (heard answer d) ∷ below_first (below_first us)) mid) ending
+      (λ h f ms top same met typed has.
+      let told = ap (λ k. told_by k (register_here m.stack.tasks a)) (sym gives ∙ ap (gives_of p) (method_is p m h)) ∙ told_same p m h (gives_of p h.frame.method) a met in
+      go h f ms h.below top (tops An_end ms (ending_of ms has)) same has told typed)
+    where
+      answer : ℤ
+      answer = told_by g (register_here m.stack.tasks a)
+
+      go : (h : At_hand p m) (f : Held_frame) (ms : List Held_task) (ts : List Task) → Top mid (past h) h.frame ts f ms → Tops An_end ms → Alike ms ts → ending_here ms ≡ Some d
+          → answer ≡ told_answer (gives_of p h.frame.method) h.frame a → WellTyped p h.typing (after h ts) → Agrees p (with_tasks (Ends (heard answer d) ∷ below_first ms) mid) (after h ts)
+      go h f _ _ top (end_on_top x ms) (both_end _ e _ ts same below _) is told typed =
+          let at : x ≡ d = cc in
+          let waits = to_waiting p mid h.typing (past h) h.frame (agree h) f a (Ends x ∷ ms) (Dispatched e ∷ ts) top
+          (λ i. none_above p h.typing (after h (Dispatched e ∷ ts)) _ i typed (omega arith)) in
+          redispatched p mid (past h) x (heard answer d) ms e _ ts (heard_same answer _ d e told (subst (λ x. SameDispatch x e) at same)) waits
 
   pub return_to_end : (es : Held_items) → IsEnding (below_first (below_first m.stack.tasks)) → IsTrapped (below_first m.stack.tasks) → m.entries ≡ record es { items = Is_mark ∷ es.items }
-      → DoesIn p refused (Return a) m (record m { stack = record m.stack { tasks = below_first (below_first m.stack.tasks) }; entries = es })
-  return_to_end es ending trapped marked h here =
-      plain_at p m _ refused (Return a) refl h (λ c needs typed. by_end h c _ typed (λ typed. by_top p m h
-      (λ us. IsEnding (below_first (below_first us)) → IsTrapped (below_first us) → Agrees p (record m { stack = record m.stack { tasks = below_first (below_first us) }; entries = es }) (returned p h.frame h.below (requested (Return a) h.state) (gives_of p h.frame.method) a h.below))
-      (λ f ms top ending trapped. go ms h.below (tops A_last_trap ms (trapped, ending)) (alike ms h.below top.below) typed)
-      ending trapped))
+      → DoesIn p refused (Return a) m (record (with_tasks (below_first (below_first m.stack.tasks)) mid) { entries = es })
+  return_to_end es ending trapped marked =
+      by_return (λ us. IsTrapped (below_first us) × IsEnding (below_first (below_first us))) (λ us. record (with_tasks (below_first (below_first us)) mid) { entries = es }) (trapped, ending)
+      (λ h f ms top same met typed has. go h ms h.below (tops A_last_trap ms has) same typed)
     where
-      ends : Held_dispatch → List Held_task → Parts
-      ends x ms = record m { stack = record m.stack { tasks = Ends x ∷ ms }; entries = es }
+      ends_with : Held_dispatch → List Held_task → Parts
+      ends_with x ms = record (with_tasks (Ends x ∷ ms) mid) { entries = es }
 
-      ended_state : Dispatch → List Task → State
-      ended_state d ts = record h.state { tasks = Dispatched d ∷ ts; items = below_top h.state.items }
+      ended_state : At_hand p m → Dispatch → List Task → State
+      ended_state h d ts = record (past h) { tasks = Dispatched d ∷ ts; items = below_top h.state.items }
 
-      go : (ms : List Held_task) (ts : List Task) → Tops A_last_trap ms → Alike ms ts → WellTyped p h.typing (returned p h.frame ts h.state (gives_of p h.frame.method) a ts)
-          → Agrees p (record m { stack = record m.stack { tasks = below_first ms }; entries = es }) (returned p h.frame ts h.state (gives_of p h.frame.method) a ts)
-      go _ _ (last_trap_on_top x ms) (both_trapped _ _ _ (both_end _ d _ ts same below _)) typed =
+      go : (h : At_hand p m) (ms : List Held_task) (ts : List Task) → Tops A_last_trap ms → Alike ms ts → WellTyped p h.typing (after h ts) → Agrees p (record (with_tasks (below_first ms) mid) { entries = es }) (after h ts)
+      go h _ _ (last_trap_on_top x ms) (both_trapped _ _ _ (both_end _ d _ ts same below _)) typed =
           let last = under_dispatch p h.typing _ d ts typed refl in
-          let shut = closing p h.typing _ d (subst (λ us. WellTyped p h.typing (ended_state d us)) last typed) refl in
-          subst (λ us. Agrees p (ends x us) (ended_state d ts)) (sym (none_alike ms ts below last))
-          (subst (λ us. Agrees p (ends x []) (ended_state d us)) (sym last) (ended p m es h.state x d h.agrees marked same shut))
-
-  pub return_to_unwinding : IsUnwinding (below_first m.stack.tasks) → DoesIn p refused (Return a) m (with_tasks (below_first m.stack.tasks) m)
-  return_to_unwinding unwinding h here =
-      plain_at p m _ refused (Return a) refl h (λ c needs typed. by_end h c _ typed (λ typed. by_top p m h
-      (λ us. IsUnwinding (below_first us) → Agrees p (with_tasks (below_first us) m) (returned p h.frame h.below (requested (Return a) h.state) (gives_of p h.frame.method) a h.below))
-      (λ f ms top unwinding. go f ms h.below top (tops A_leave ms unwinding) (alike ms h.below top.below) typed)
-      unwinding))
-    where
-      go : (f : Held_frame) (ms : List Held_task) (ts : List Task) → Top m h.state h.frame ts f ms → Tops A_leave ms → Alike ms ts → WellTyped p h.typing (returned p h.frame ts h.state (gives_of p h.frame.method) a ts) → Agrees p (with_tasks ms m) (returned p h.frame ts h.state (gives_of p h.frame.method) a ts)
-      go f _ _ top (leave_on_top code ms) (both_unwind _ c _ ts _ _ _) typed = to_waiting p m h f a (Unwinds code ∷ ms) (Unwind c ∷ ts) top typed
+          let shut = closing p h.typing _ d (subst (λ us. WellTyped p h.typing (ended_state h d us)) last typed) refl in
+          subst (λ us. Agrees p (ends_with x us) (ended_state h d ts)) (sym (none_alike ms ts below last))
+          (subst (λ us. Agrees p (ends_with x []) (ended_state h d us)) (sym last) (ended p mid es (past h) x d (agree h) marked same shut))

@@ -23,16 +23,15 @@ use Rattle.aom_exec.specs.Room.{HasRoom}
 use Rattle.aom_exec.specs.Steps.{Sound, Stands}
 use Rattle.aom_exec.proofs.Counts as counts
 use Rattle.aom_exec.proofs.Counts.{marks_at_hand, push_at_hand, push_operation_at_hand, tasks_at_hand}
-use Rattle.aom_exec.proofs.Mains.{AllMains}
 use Rattle.aom_exec.proofs.RoomMoves.{boots_with_room, keeps_room}
 use Rattle.aom_exec.proofs.Stepping.{frame_of}
 use Rattle.aom_exec.proofs.Values.{same_length}
 use Rattle.aom_exec.proofs.Alike.{by_item, by_items}
 
 -- each move keeps the room
-pub room_kept : (p : Image) (t : Typing) (s u : State) (sound : Sound p t) → AllMains s.tasks → WellTyped p t s → IsCalm p s.tasks → (c : Choice) → HasRoom p (at 0 sound.depths.depths) (at 0 sound.heights.heights) s → step p c s ≡ Goes u
+pub room_kept : (p : Image) (t : Typing) (s u : State) (sound : Sound p t) → WellTyped p t s → IsCalm p s.tasks → (c : Choice) → HasRoom p (at 0 sound.depths.depths) (at 0 sound.heights.heights) s → step p c s ≡ Goes u
     → HasRoom p (at 0 sound.depths.depths) (at 0 sound.heights.heights) u
-room_kept p t s u sound mains typed calm c room e = keeps_room p t sound.wired sound.typed sound.strongest sound.depths sound.heights c s u mains typed room e
+room_kept p t s u sound typed calm c room e = keeps_room p t sound.wired sound.typed sound.strongest sound.depths sound.heights c s u typed room e
 
 -- the boot state has it
 pub boot_room : (p : Image) (t : Typing) (sound : Sound p t) → HasRoom p (at 0 sound.depths.depths) (at 0 sound.heights.heights) (boot_state p)

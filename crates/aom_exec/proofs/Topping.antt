@@ -24,7 +24,7 @@ use Rattle.aom_sound.proofs.Finishing.{all_parts}
 use Rattle.aom_sound.proofs.Layers.{mark_layer, method_layer}
 use Rattle.aom_frames.specs.Tasks.{Runs, method_here, place_here, below_first}
 use Rattle.aom_frames.specs.declared.task.Task.{Task as Held_task}
-use Rattle.aom_frames.specs.declared.task.Task.TheVariants.{Run as Runs_frame, Trapped as Is_trap, Dispatched as Ends}
+use Rattle.aom_frames.specs.declared.task.Task.TheVariants.{Run as Runs_frame, Trapped as Is_trap}
 use Rattle.aom_exec.specs.declared.parts.Parts.{Parts}
 use Rattle.aom_exec.specs.Acts.{requested}
 use Rattle.aom_exec.specs.Agrees.{SameItems, SameTasks, number, Agrees}
@@ -171,8 +171,3 @@ returns_within p ms to runs = go to (tops A_method ms runs)
 
 pub returns_within_through : (p : Image) (ms : List Held_task) → ReturnsTo p ms → IsTrapped ms → Runs (below_first ms) → (place_here (below_first ms) + 1) < 2 ^ 64
 returns_within_through p ms to trapped runs = (caught_within p to (tops A_catcher ms (trapped, runs))).0
-
--- and no dispatch ends right below it
-pub returns_to_none : (p : Image) (ms : List Held_task) → ReturnsTo p ms → IsEnding ms → ⊥
-returns_to_none p (Ends d ∷ ms) to ending = to
-returns_to_none p _ to ending = assumption tt

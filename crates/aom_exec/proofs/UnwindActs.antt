@@ -24,24 +24,26 @@ use Rattle.aom_sound.specs.Claims.{Method, Mark, Unwinding, tasks_of, claim, dec
 use Rattle.aom_sound.specs.Cleanup.{arrival, code_told, dealt_with as deals_with, ended_by, top_is_whole, tops_entry, unwound}
 use Rattle.aom_sound.specs.Laws.{IsWired}
 use Rattle.aom_sound.specs.Places.{Place, Register, changed, held, seen}
-use Rattle.aom_sound.specs.State.{Frame, Dispatch, Of_main, Main_left, Of_root, Task, Run, Trapped, Unwind, Dispatched, Item, An_object, An_operation, A_mark, State, Goes, IsStuck, NullOrDead, next, set_word, word}
-use Rattle.aom_sound.specs.WellTyped.{Caught, EndsDispatch, Fits, Good, Keeps, WellTyped}
+use Rattle.aom_sound.specs.State.{Frame, Task, Run, Trapped, Unwind, Dispatched, Item, An_object, An_operation, A_mark, State, Goes, IsStuck, NullOrDead, next, set_word, word}
+use Rattle.aom_sound.specs.WellTyped.{Fits, Good, Keeps, WellTyped}
 use Rattle.aom_transcript.specs.declared.line.Line.TheVariants.{Leave}
 use Rattle.aom_sound.proofs.Guarded.{goes_same, guarded_goes, guarded_met}
 use Rattle.aom_sound.specs.Traps.{AllAtTraps}
 use Rattle.aom_sound.proofs.Straight.{claim_register, fits_unowning}
 use Rattle.aom_sound.proofs.Maps.{at-put_at}
-use Rattle.aom_sound.proofs.Layers.{dispatch_layer, leave_layer, mark_layer, method_layer}
+use Rattle.aom_sound.proofs.Layers.{leave_layer, mark_layer, method_layer}
 use Rattle.aom_lines.specs.Turn.{Turn}
 use Rattle.aom_frames.specs.Tasks.{Runs, method_here, place_here, below_first}
 use Rattle.aom_frames.specs.declared.frame.Frame.{Frame as Held_frame}
 use Rattle.aom_frames.specs.declared.task.Task.{Task as Held_task}
 use Rattle.aom_frames.specs.declared.task.Task.TheVariants.{Run as Runs_frame, Trapped as Is_trap, Unwind as Unwinds, Dispatched as Ends}
-use Rattle.aom_frames.specs.declared.task.Dispatch.TheVariants.{MainLeft}
+use Rattle.aom_frames.specs.declared.dispatch.Dispatch.{Dispatch as Held_dispatch}
+use Rattle.aom_frames.specs.declared.dispatch.Dispatch.TheVariants.{Answered as One_answered, Asks as One_asks, Main, MainLeft, Object as Of_one, ObjectLeft as One_left, Root as End_of_run}
 use Rattle.aom_exec.specs.declared.parts.Parts.{Parts}
 use Rattle.aom_exec.specs.Acts as acts
-use Rattle.aom_exec.specs.Agrees.{Shows, SameFrame, SameItems, SameTasks, word_at, Agrees}
+use Rattle.aom_exec.specs.Agrees.{Shows, SameFrame, SameItems, SameTasks, dispatch_of, word_at, Agrees}
 use Rattle.aom_exec.specs.Cleanup.{TopLives, Unwinds as Unwinds_by, dealt_with, lost, told}
+use Rattle.aom_exec.specs.Ends.{left, left_by}
 use Rattle.aom_exec.specs.Places.{code_here, value_in, with_tasks, IsEnding, IsTrapped, IsUnwinding}
 use Rattle.aom_exec.specs.Room.{CalleeThere, CallsThere, ReturnsTo}
 use Rattle.aom_exec.specs.Steps.{Stands}
@@ -52,7 +54,6 @@ use Rattle.aom_exec.proofs.Finding.{held_beneath, unwinds_over, IsTrapOnTop}
 use Rattle.aom_exec.proofs.LeavingActs.{unwinds_value, unwinds_word}
 use Rattle.aom_exec.proofs.Overs.{over_value, over_words}
 use Rattle.aom_exec.proofs.Alike.{A_caught_leave, A_last_leave, Alike, Alike_items, Entries_alike, Tops, alike, both_end, both_marks, both_run, both_trapped, both_unwind, caught_leave_on_top, entries_alike, entries_own, entries_run, items_alike, last_leave_on_top, same_below, tops}
-use Rattle.aom_exec.proofs.Mains.{IsMains, mains}
 use Rattle.aom_exec.proofs.ReturnActs.{awaiting, bears, word_alone}
 use Rattle.aom_exec.proofs.Standing.{an_open, moved_on}
 use Rattle.aom_exec.proofs.Stepping.{at_rest, goes_somewhere, step_of_unwinding, unwinding_of}
@@ -160,18 +161,15 @@ awaited_caught p t s code caller ts typed top some =
     let none = fits_unowning p (seen s.cells) (held s.cells q) (register sh' x) quiet (subst (Fits p (seen s.cells) (held s.cells q)) claims (good.fits q)) in
     subst (λ us. held s.cells (Register (length us) x) ≡ None) rest none)))
 
--- main's dispatch alone is left
-left_main : (p : Image) (t : Typing) (s : State) (code : ℤ) (d : Dispatch) (ts : List Task) → IsMains d → WellTyped p t s → s.tasks ≡ Unwind code ∷ Trapped ∷ Dispatched d ∷ ts → d ≡ Of_main
-left_main p t s code d ts mains typed top =
-    leave_layer (Good p t s.cells) code (Trapped ∷ Dispatched d ∷ ts) typed.layers (sym typed.tasks ∙ top) typed.good (λ es ls under good.
-    mark_layer (λ ls. Good p t s.cells (Unwinding code es ∷ ls)) (Dispatched d ∷ ts) ls under good (λ gv ls under good.
-    dispatch_layer (λ ls. Good p t s.cells (Unwinding code es ∷ Mark gv ∷ ls)) d ts ls under good (λ seats ls _ good. which d gv mains good.stack.1.1.0)))
-  where
-    which : (d : Dispatch) (g : Gives) → IsMains d → EndsDispatch p d (Caught g) → d ≡ Of_main
-    which Of_main g mains e = refl
-    which (Main_left code) g mains e = absurd e
-    which Of_root g mains e = absurd e
-    which _ g mains e = absurd mains
+-- a dispatch is left with the code on both sides
+left_alike : (code : ℤ) (q : Place) (x : Held_dispatch) → dispatch_of q (left code x) ≡ ended_by code (dispatch_of q x)
+left_alike code q Main = refl
+left_alike code q (MainLeft c) = refl
+left_alike code q End_of_run = refl
+left_alike code q (Of_one x) = refl
+left_alike code q (One_left x c) = refl
+left_alike code q (One_asks x) = refl
+left_alike code q (One_answered x answer) = refl
 
 module _ (p : Image) (m : Parts) (s : State) (agrees : Agrees p m s) (es : Held_items) (marked : m.entries ≡ record es { items = Is_mark ∷ es.items }) (g : Held_frame) (ms : List Held_task) (caller : Frame) (ts : List Task) (same_frame : SameFrame g caller) (same_below : SameTasks ms ts) (x : ℕ) (coded : suc x < 16)
     (base : (r : Place) → Shows (value_in (Runs_frame g ∷ ms) m.cells es.items m.root r) (word_at (Run caller ∷ ts) r) (held s.cells r)) where
@@ -213,6 +211,7 @@ module _ (p : Image) (m : Parts) (s : State) (agrees : Agrees p m s) (es : Held_
             (λ r. kept (held s.cells) q r ∙ ap (λ o. changed (held s.cells) q o r) none);
         cells = agrees.cells;
         entries = unmarked m.entries.items es.items s.items was agrees.entries;
+        requests = agrees.requests;
         rest = agrees.rest;
         room = agrees.room;
         entry_room = subst (λ k. 1024 ≤ k) (ap (λ (e : Held_items). e.depth) marked) agrees.entry_room;
@@ -295,8 +294,7 @@ module _ (p : Image) (m : Parts) (es : Held_items) (marked : m.entries ≡ recor
             ap (λ w. record t { lines = t.lines ++ Leave w ∷ [] }) same ∙ ap (λ js. record t { lines = t.lines ++ arrival code js }) (sym items),
           )
 
-  pub arrives_end : IsUnwinding m.stack.tasks → IsTrapped (below_first m.stack.tasks) → IsEnding under
-      → Unwinds_by p m (record (with_tasks (Ends (MainLeft (code_here m.stack.tasks)) ∷ below_first under) m) { entries = es }) t said
+  pub arrives_end : IsUnwinding m.stack.tasks → IsTrapped (below_first m.stack.tasks) → IsEnding under → Unwinds_by p m (record (with_tasks (left_by (code_here m.stack.tasks) under) m) { entries = es }) t said
   arrives_end unwinding trapped ending h u e typed =
       let k = top_mark h.state.items h.agrees.entries in
       go m.stack.tasks h.code h.below h.top (tops A_last_leave m.stack.tasks (unwinding, trapped, ending))
@@ -307,20 +305,21 @@ module _ (p : Image) (m : Parts) (es : Held_items) (marked : m.entries ≡ recor
 
       Done : List Held_task → ℤ → Type 0
       Done us code =
-          Agrees p (record (with_tasks (Ends (MainLeft (code_here us)) ∷ below_first (below_first (below_first us))) m) { entries = es }) u × (record t { lines = t.lines ++ Leave (code_here us) ∷ [] } ≡ record t { lines = t.lines ++ arrival code s.items })
+          Agrees p (record (with_tasks (left_by (code_here us) (below_first (below_first us))) m) { entries = es }) u × (record t { lines = t.lines ++ Leave (code_here us) ∷ [] } ≡ record t { lines = t.lines ++ arrival code s.items })
 
       go : (us : List Held_task) (code : ℤ) (below : List Task) → s.tasks ≡ Unwind code ∷ below → Tops A_last_leave us → Alike us (Unwind code ∷ below)
           → (ks : List Item) → s.items ≡ A_mark ∷ ks → unwound p code below s (A_mark ∷ ks) ≡ Goes u → Done us code
       go _ code _ top (last_leave_on_top c y ms) (both_unwind _ _ _ _ same _ (both_trapped _ _ _ (both_end _ d _ ts ends rest _))) ks items e =
-          let main = left_main p h.typing s code d ts (mains y d ends) h.typed top in
-          let v : State = record s { tasks = Dispatched (Main_left code) ∷ ts; items = ks } in
-          let is : v ≡ u = ap (λ x. record s { tasks = Dispatched (ended_by code x) ∷ ts; items = ks }) (sym main) ∙ goes_same (record s { tasks = Dispatched (ended_by code d) ∷ ts; items = ks }) u e in
+          let d' = ended_by code d in
+          let v : State = record s { tasks = Dispatched d' ∷ ts; items = ks } in
+          let is : v ≡ u = goes_same v u e in
           let fresh = subst (WellTyped p h.typing) (sym is) typed in
-          let none = under_dispatch p h.typing v (Main_left code) ts fresh refl in
+          let none = under_dispatch p h.typing v d' ts fresh refl in
           let bare = none_alike ms ts rest none in
-          let items_too : v ≡ record s { tasks = Dispatched (Main_left code) ∷ []; items = below_top s.items } = ap (λ us. record s { tasks = Dispatched (Main_left code) ∷ us; items = ks }) none ∙ ap (λ js. record s { tasks = Dispatched (Main_left code) ∷ []; items = below_top js }) (sym items) in
-          let shut = closing p h.typing (record s { tasks = Dispatched (Main_left code) ∷ []; items = below_top s.items }) (Main_left code) (subst (WellTyped p h.typing) items_too fresh) refl in
-          let end = ended p m es s (MainLeft c) (Main_left code) h.agrees marked (ap Main_left same) shut in (
-            subst (λ us. Agrees p (record (with_tasks (Ends (MainLeft c) ∷ us) m) { entries = es }) u) (sym bare) (subst (Agrees p (record (with_tasks (Ends (MainLeft c) ∷ []) m) { entries = es })) (sym items_too ∙ is) end),
+          let items_too : v ≡ record s { tasks = Dispatched d' ∷ []; items = below_top s.items } = ap (λ us. record s { tasks = Dispatched d' ∷ us; items = ks }) none ∙ ap (λ js. record s { tasks = Dispatched d' ∷ []; items = below_top js }) (sym items) in
+          let shut = closing p h.typing (record s { tasks = Dispatched d' ∷ []; items = below_top s.items }) d' (subst (WellTyped p h.typing) items_too fresh) refl in
+          let as_left : dispatch_of ends.0 (left c y) ≡ d' = left_alike c ends.0 y ∙ ap (ended_by c) ends.1 ∙ ap (λ w. ended_by w d) same in
+          let end = ended p m es s (left c y) d' h.agrees marked (ends.0, as_left) shut in (
+            subst (λ us. Agrees p (record (with_tasks (Ends (left c y) ∷ us) m) { entries = es }) u) (sym bare) (subst (Agrees p (record (with_tasks (Ends (left c y) ∷ []) m) { entries = es })) (sym items_too ∙ is) end),
             ap (λ w. record t { lines = t.lines ++ Leave w ∷ [] }) same ∙ ap (λ js. record t { lines = t.lines ++ arrival code js }) (sym items),
           )

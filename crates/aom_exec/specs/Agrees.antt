@@ -7,13 +7,15 @@ use Rattle.aom_image.specs.declared.method.Thing.TheVariants.{Object as An_objec
 use Rattle.aom_cells.specs.Heap.{Heap, null, cell_at, count}
 use Rattle.aom_cells.specs.Heap.{word_at as cell_word}
 use Rattle.aom_cells.specs.declared.cell.Cell.{Cell as Held_cell}
-use Rattle.aom_sound.specs.Places.{Place, Register, Entry, Field, Going, Elsewhere, Object, Cell, held, named, word_field}
-use Rattle.aom_sound.specs.State.{Home, Static, AtRoot, Inside, Frame, Dispatch, Of_main, Main_left, Of_root, word, counter, Task, Run, Trapped, Destroy, Unwind, Dispatched, Item, An_object, An_operation, A_mark, State}
+use Rattle.aom_sound.specs.Places.{Place, Register, Entry, Field, Going, Elsewhere, Object, Cell, held, named, requested, word_field}
+use Rattle.aom_sound.specs.State.{Home, Static, AtRoot, Inside, Frame, Seat, Dispatch, Of_main, Main_left, Of_root, Of_object, Object_left, Asks, Answered, word, counter, Task, Run, Trapped, Destroy, Unwind, Dispatched, Item, An_object, An_operation, A_mark, State}
+use Rattle.aom_active.specs.Agrees.{Active, StandsFor}
 use Rattle.aom_frames.specs.declared.frame.Frame.{Frame as Held_frame}
 use Rattle.aom_frames.specs.declared.task.Task.{Task as Held_task}
 use Rattle.aom_frames.specs.declared.task.Task.TheVariants.{Run as Runs_frame, Trapped as Is_trap, Destroy as Destroys, Unwind as Unwinds, Dispatched as Ends}
-use Rattle.aom_frames.specs.declared.task.Dispatch.{Dispatch as Held_dispatch}
-use Rattle.aom_frames.specs.declared.task.Dispatch.TheVariants.{Main, MainLeft, Root}
+use Rattle.aom_frames.specs.declared.dispatch.Dispatch.{Dispatch as Held_dispatch}
+use Rattle.aom_frames.specs.declared.dispatch.Dispatch.TheVariants.{Main, MainLeft, Root, Object as Of_one, ObjectLeft as One_left, Asks as One_asks, Answered as One_answered}
+use Rattle.aom_frames.specs.declared.dispatch.Subject.{Subject}
 use Rattle.aom_cleanup.specs.declared.item.Item.{Item as Held_item}
 use Rattle.aom_cleanup.specs.declared.item.Item.TheVariants.{Object as Holds_object, Operation as Holds_operation, Mark as Is_mark}
 use Rattle.aom_exec.specs.declared.parts.Parts.{Parts}
@@ -64,10 +66,22 @@ pub record SameFrame (f : Held_frame) (fr : Frame) : Type 0 where
   pub counters : (i : ℕ) → slice_index_or f.counters i 0 ≡ counter fr i
   pub loops : length f.counters ≡ 4
 
-abbrev pub dispatch_of : Held_dispatch → Dispatch
-dispatch_of Main = Of_main
-dispatch_of (MainLeft code) = Main_left code
-dispatch_of Root = Of_root
+-- the object that is dispatched, in that place
+abbrev pub seat_of : Place → Subject → Seat
+seat_of q x = record { object = record { name = x.number; thing = An_object_of x.class }; place = q }
+
+abbrev pub dispatch_of : Place → Held_dispatch → Dispatch
+dispatch_of q Main = Of_main
+dispatch_of q (MainLeft code) = Main_left code
+dispatch_of q Root = Of_root
+dispatch_of q (Of_one x) = Of_object (seat_of q x)
+dispatch_of q (One_left x code) = Object_left (seat_of q x) code
+dispatch_of q (One_asks x) = Asks (seat_of q x)
+dispatch_of q (One_answered x answer) = Answered (seat_of q x) answer
+
+-- where its object sits the machine does not keep
+abbrev pub SameDispatch : Held_dispatch → Dispatch → Type 0
+SameDispatch x d = (q : Place) × (dispatch_of q x ≡ d)
 
 -- frames and other tasks, one by one
 abbrev pub SameTask : Held_task → Task → Type 0
@@ -75,7 +89,7 @@ SameTask (Runs_frame f) (Run fr) = SameFrame f fr
 SameTask Is_trap Trapped = Unit {0}
 SameTask (Destroys x) Destroy = Unit {0}
 SameTask (Unwinds code) (Unwind c) = code ≡ c
-SameTask (Ends d) (Dispatched e) = dispatch_of d ≡ e
+SameTask (Ends d) (Dispatched e) = SameDispatch d e
 SameTask _ _ = ⊥
 
 abbrev pub SameTasks : List Held_task → List Task → Type 0
@@ -114,12 +128,18 @@ pub record SameCells (p : Image) (h : Heap) (cs : List Cell) : Type 0 where
   pub classes : (n : ℕ) (c : Held_cell) → cell_at h n ≡ Some c → c.class < 256
   pub null_is_none : cell_at h null ≡ None
 
+-- the same objects are enlisted, by their numbers, with the same requests
+pub record SameRequests (p : Image) (a : Active) (cs : List Cell) : Type 0 where
+  pub stands : StandsFor a (requested cs)
+  pub limit : a.table.limit ≡ p.header.cells
+
 -- the machine stands for a state
 pub record Agrees (p : Image) (m : Parts) (s : State) : Type 0 where
   pub tasks : SameTasks m.stack.tasks s.tasks
   pub values : (r : Place) → Shows (value m r) (word_at s.tasks r) (held s.cells r)
   pub cells : SameCells p m.cells s.cells
   pub entries : SameItems m.entries.items s.items
+  pub requests : SameRequests p m.active s.cells
   pub rest : m.rest ≡ s.rest
   pub room : 1024 ≤ m.stack.depth
   pub entry_room : 1024 ≤ m.entries.depth

@@ -8,8 +8,8 @@ use Rattle.aom_sound.specs.State.{raised}
 use Rattle.aom_frames.specs.Tasks.{fresh, below_first}
 use Rattle.aom_frames.specs.declared.task.Task.{Task}
 use Rattle.aom_frames.specs.declared.task.Task.TheVariants.{Run, Trapped, Destroy, Unwind, Dispatched}
-use Rattle.aom_frames.specs.declared.task.Dispatch.{Dispatch}
-use Rattle.aom_frames.specs.declared.task.Dispatch.TheVariants.{Root}
+use Rattle.aom_frames.specs.declared.dispatch.Dispatch.{Dispatch}
+use Rattle.aom_frames.specs.declared.dispatch.Dispatch.TheVariants.{Root}
 use Rattle.aom_exec.specs.declared.parts.Parts.{Parts}
 
 -- the destructor of a class

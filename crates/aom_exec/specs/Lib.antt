@@ -11,8 +11,10 @@ pub mod Waits
 pub mod Steps
 pub mod Agreement
 pub mod Next
+pub mod Turns
 pub mod WordMoves
 pub mod Boot
 pub mod Going
+pub mod Ends
 pub mod Cleanup
 pub mod Requests

@@ -7,6 +7,7 @@ use Rattle.aom_frames.specs.declared.task.Task.TheVariants.{Run as Runs_frame, T
 use Rattle.aom_cleanup.specs.declared.item.Item.{Item as Held_item}
 use Rattle.aom_cleanup.specs.declared.item.Item.TheVariants.{Object as Holds_object, Operation as Holds_operation, Mark as Is_mark}
 use Rattle.aom_ranks.specs.Ranks.{tasks_rank, destructions, cell_rank}
+use Rattle.aom_sound.specs.Places.{Elsewhere, Root}
 use Rattle.aom_exec.specs.Agrees.{dispatch_of}
 
 -- a task, by all that its rank hangs on
@@ -15,7 +16,8 @@ ranked (Runs_frame f) = Run (record { method = f.method; place = f.place; words 
 ranked Is_trap = Trapped
 ranked (Destroys x) = Destroy
 ranked (Unwinds code) = Unwind code
-ranked (Ends d) = Dispatched (dispatch_of d)
+-- where its object sits its rank does not tell
+ranked (Ends d) = Dispatched (dispatch_of (Elsewhere Root) d)
 
 -- how many operations are on the cleanup stack
 abbrev pub operations_in : List Held_item → ℕ

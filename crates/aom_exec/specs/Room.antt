@@ -90,13 +90,14 @@ pub record HasRoom (p : Image) (depth heights : ℕ → ℕ) (s : State) : Type 
   pub fit : AllFit p heights s.items s.tasks
   pub entries : entries_in s.items ≤ 1024
 
--- what a method returns to: a method that may go on, its trap or that of the dispatch, the going of a cell, or an unwinding
+-- what a method returns to: a method that may go on, its trap or that of the dispatch, the going of a cell, an unwinding, or the dispatch that has asked it
 abbrev pub ReturnsTo : Image → List Held_task → Type 0
 ReturnsTo p (Runs_frame f ∷ ts) = IsSome (instr_at p f.method f.place) × ((f.place + 1) < 2 ^ 64)
 ReturnsTo p (Is_trap ∷ Runs_frame f ∷ ts) = IsSome (instr_at p f.method f.place) × ((f.place + 1) < 2 ^ 64) × (suc (result_register (instr_at p f.method f.place)) < 16)
 ReturnsTo p (Is_trap ∷ Ends d ∷ ts) = Unit {0}
 ReturnsTo p (Destroys x ∷ ts) = Unit {0}
 ReturnsTo p (Unwinds code ∷ ts) = Unit {0}
+ReturnsTo p (Ends d ∷ ts) = Unit {0}
 ReturnsTo p _ = ⊥
 
 -- the method that an instruction calls is there

@@ -1,5 +1,12 @@
 //! Calls, returns, and `stop`.
-ghost use Rattle.std.specs.Prelude.{ℕ, suc, List, ◌<◌, ◌+◌, ◌^◌, ◌≡◌, IsSome, Some};
+ghost use Rattle.aom_exec.specs.Ends.{heard, told_by};
+ghost use Rattle.aom_exec.specs.Going.{ending_here};
+ghost use Rattle.aom_exec.specs.Places.{with_tasks};
+ghost use Rattle.aom_exec.specs.Requests.{EndsCancel, IsCancelled};
+ghost use Rattle.aom_exec.specs.Fields.{this};
+ghost use Rattle.aom_frames.specs.declared.task.Task.TheVariants.{Dispatched};
+ghost use Rattle.aom_frames.specs.Tasks.{below_first};
+ghost use Rattle.std.specs.Prelude.{ℕ, suc, List, ◌<◌, ◌≤◌, ◌+◌, ◌^◌, ◌∷◌, ◌≡◌, IsSome, Some, length};
 ghost use Rattle.aom_image.specs.Image.{Image};
 ghost use Rattle.aom_image.specs.Views.{instr_at};
 ghost use Rattle.aom_instructions.specs.declared.instr.Instr.TheVariants.{Call, Return, Stop, Trap};
@@ -14,8 +21,8 @@ use crate::parts::Parts;
 use aom_cells::NULL;
 use aom_classes::Linked;
 use aom_cleanup::Item;
-use aom_frames::{Frame, TaskKind};
-use aom_image::{ClassNumber, Gives, Instr, MethodNumber, Register, Target};
+use aom_frames::{Dispatch, Frame, Task, TaskKind};
+use aom_image::{ClassNumber, Gives, Instr, MethodNumber, Register, Role, Target};
 
 /// The register to which the result of a call comes.
 pub fn result_of(instr: Instr) -> u8
@@ -24,6 +31,16 @@ pub fn result_of(instr: Instr) -> u8
 {
     match instr {
         Instr::Call(_, _, _, to) | Instr::Trap(_, _, _, to) => to.number(),
+        _ => 0,
+    }
+}
+
+/// The answer that a method gives, by the number in the register that it returns.
+fn answer_of(gives: Gives, number: u32) -> i32
+    ensures { result ≡ told_by gives number }
+{
+    match gives {
+        Gives::Word => number.cast_signed(),
         _ => 0,
     }
 }
@@ -115,13 +132,43 @@ impl Parts {
         self.next();
     }
 
-    /// A method returns: to the one that called it, through a trap, to the going of its cell, or to an unwinding.
+    /// Where a method that cancels is over, the signal of the request is taken.
+    fn end_cancel(&mut self, role: Role)
+        requires { IsCancelled role self.old }
+        ensures ended { EndsCancel role self.old.active self.new.active (this self.old) }
+        ensures rest { self.new ≡ record self.old { active = self.new.active } }
+    {
+        if let Role::Cancel = role {
+            let id = self.cell();
+            self.active.cancelled(id);
+        }
+    }
+
+    /// The dispatch that has asked hears the answer.
+    fn hear(&mut self, dispatch: Dispatch, gives: Gives, number: u32)
+        requires ending { ending_here self.old.stack.tasks ≡ Some dispatch }
+        requires room { length self.old.stack.tasks ≤ self.old.stack.depth }
+        ensures { self.new ≡ with_tasks (Dispatched (heard (told_by gives number) dispatch) ∷ below_first self.old.stack.tasks) self.old }
+    {
+        let Dispatch::Asks(subject) = dispatch else {
+            return;
+        };
+        self.drop_task();
+        let answer = answer_of(gives, number);
+        self.stack
+            .push(Task::Dispatched(Dispatch::Answered(subject, answer)));
+    }
+
+    /// A method returns: to the one that called it, through a trap, to the going of its cell, to an unwinding, or to the
+    /// dispatch that has asked it.
     pub fn give_back(&mut self, from: Register, linked: &Linked)
         requires { IsNext linked.now (Return from) self.old }
         ensures { (refused : List ℕ) → DoesIn linked.now refused (Return from) self.old self.new }
     {
-        let gives = linked.method(self.stack.method()).gives;
+        let method = linked.method(self.stack.method());
+        let gives = method.gives;
         let number = self.register(from);
+        self.end_cancel(method.role);
         self.drop_task();
         match self.stack.top() {
             Some(TaskKind::Run) => self.receive(gives, number, linked),
@@ -134,7 +181,7 @@ impl Parts {
             }
             Some(TaskKind::Destroy(_)) => {}
             Some(TaskKind::Unwind(_)) => {}
-            Some(TaskKind::Dispatched(_)) => unreachable!(),
+            Some(TaskKind::Dispatched(dispatch)) => self.hear(dispatch, gives, number),
             None => unreachable!(),
         }
     }

@@ -15,7 +15,7 @@ use std::mem;
 
 impl Parts {
     /// The cell of the method that runs.
-    fn cell(&self) -> CellId
+    pub fn cell(&self) -> CellId
         requires runs { Runs self.now.stack.tasks }
         requires lives { Lives self.now.cells (this self.now) }
         ensures { result ≡ this self.now }

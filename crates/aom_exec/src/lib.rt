@@ -9,6 +9,7 @@
 
 mod calls;
 mod cleanup;
+mod closing;
 mod fault;
 mod fields;
 mod going;
@@ -18,7 +19,9 @@ mod moves;
 mod objects;
 mod parts;
 mod progress;
+mod requests;
 mod rest;
+mod turns;
 mod words;
 
 pub use fault::BootFault;

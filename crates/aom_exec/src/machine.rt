@@ -1,9 +1,12 @@
 //! A machine over the image that it runs.
-ghost use Rattle.std.specs.Prelude.{◌≡◌, ◌<◌, ◌≤◌, ◌+◌, ◌↔◌, IfOk, IsTrue, length};
+ghost use Rattle.std.specs.Prelude.{◌≡◌, ◌<◌, ◌≤◌, ◌+◌, ◌↔◌, IfOk, IsTrue, length, true};
 ghost use Rattle.aom_cells.specs.Heap.{count};
-ghost use Rattle.aom_sound.specs.World.{boot_state};
+ghost use Rattle.aom_sound.specs.World.{Cuts, Passes, Waits, boot_state, first_due};
 ghost use Rattle.aom_exec.specs.Agreement.{AgreesInAll};
-ghost use Rattle.aom_exec.specs.Steps.{StandsFor, Stepped, SteppedOn, Waited, progress, rank};
+ghost use Rattle.aom_exec.specs.Steps.{StandsFor, Stepped, SteppedOn, progress, rank, timers};
+ghost use Rattle.aom_exec.specs.Turns.{Completed, Picked, TakesAll, due_at};
+ghost use Rattle.aom_sound.specs.State.{State};
+ghost use Rattle.aom_steps.specs.Payers.{declared_of, payer};
 ghost use Rattle.aom_exec.specs.declared.progress.Progress.TheVariants.{Running, Turned};
 
 use crate::fault::BootFault;
@@ -74,14 +77,66 @@ impl<'a> Machine<'a> {
         self.parts.step_on(self.accepted.linked(), turn)
     }
 
-    /// The turn in which nothing is due and nothing signals. The run is over.
+    /// Between dispatches: the timer that is due first completes the request of its object, if it is due by now. Answers whether one was.
+    pub fn due(&mut self) -> bool
+        requires { progress self.old ≡ Turned }
+        ensures image { self.new.image ≡ self.old.image }
+        ensures completed { Completed self.old result self.new }
+        ensures fewer { result ≡ true → timers self.new < timers self.old }
+        ensures agrees { AgreesInAll self.new }
+    {
+        self.parts.due()
+    }
+
+    /// Between dispatches: the ready object that goes before all others is dispatched, with its line (CActiveScheduler::Start's
+    /// RunL). Answers false where nothing signals.
+    pub fn pick(&mut self, turn: &mut Turn) -> bool
+        requires between { progress self.old ≡ Turned }
+        requires room { length turn.old.lines < turn.old.room }
+        ensures image { self.new.image ≡ self.old.image }
+        ensures picked { Picked self.old result turn.old turn.new self.new }
+        ensures agrees { AgreesInAll self.new }
+    {
+        self.parts.pick(self.accepted.linked(), turn)
+    }
+
+    /// When the timer that is due first is due.
+    pub fn next_due(&self) -> Option<u64>
+        ensures { (s : State) → StandsFor self.now s → result ≡ due_at (first_due s.cells) }
+    {
+        self.parts.active.next_due()
+    }
+
+    /// Between dispatches time passes. It does not go back.
+    pub fn set_clock(&mut self, time: u64)
+        requires between { progress self.old ≡ Turned }
+        requires later { self.old.parts.rest.clock ≤ time }
+        ensures image { self.new.image ≡ self.old.image }
+        ensures passed { TakesAll self.old (Passes time) self.new }
+        ensures timers { timers self.new ≡ timers self.old }
+        ensures agrees { AgreesInAll self.new }
+    {
+        self.parts.rest.set_clock(time);
+    }
+
+    /// Between dispatches, where nothing is due and nothing signals: the run is over.
     pub fn wait(&mut self)
         requires { progress self.old ≡ Turned }
         ensures image { self.new.image ≡ self.old.image }
-        ensures waited { Waited self.old self.new }
+        ensures waited { TakesAll self.old Waits self.new }
         ensures agrees { AgreesInAll self.new }
     {
         self.parts.rest.wait();
+    }
+
+    /// Between dispatches, where so many of objects are over as there may be: the run is over.
+    pub fn cut(&mut self)
+        requires { progress self.old ≡ Turned }
+        ensures image { self.new.image ≡ self.old.image }
+        ensures cut { TakesAll self.old Cuts self.new }
+        ensures agrees { AgreesInAll self.new }
+    {
+        self.parts.rest.cut();
     }
 
     /// How far the machine has come.
@@ -105,10 +160,18 @@ impl<'a> Machine<'a> {
         self.parts.rest.clock()
     }
 
-    /// The steps of the dispatch at hand, or of the last one: instructions that ran, and cells that went.
+    /// How many dispatches of objects are over.
+    pub fn dispatches(&self) -> u64
+        ensures { result ≡ self.now.parts.rest.dispatches }
+    {
+        self.parts.rest.dispatches()
+    }
+
+    /// The steps of the dispatch at hand: instructions that ran, and cells that went. After main's they stay until an object is
+    /// dispatched, and after an object's there are none.
     pub fn steps(&self) -> u64
         ensures is { result ≡ self.now.parts.rest.steps }
-        ensures within { result ≤ self.now.image.header.budget }
+        ensures within { (s : State) → StandsFor self.now s → result ≤ declared_of self.now.image (payer s.tasks) }
     {
         self.parts.rest.steps()
     }

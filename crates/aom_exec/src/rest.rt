@@ -1,18 +1,20 @@
 //! The clock, the counts, and how far the run has come.
 ghost use Rattle.std.specs.Prelude.{◌≡◌, Some, None, true, false, cond};
 ghost use Rattle.aom_sound.specs.State.{raised};
-ghost use Rattle.aom_transcript.specs.declared.line.Ending.TheVariants.{Stopped, Waiting, MainLeft};
+ghost use Rattle.aom_transcript.specs.declared.line.Ending.TheVariants.{Error, Limit, MainLeft, Stopped, Waiting};
 ghost use Rattle.aom_exec.specs.Counts.{raised_by};
 
 use aom_transcript::Ending;
 use std::marker::Model;
 
-/// What no place of the machine tells. No object is dispatched yet, so no such dispatch is over.
+/// What no place of the machine tells.
 #[derive(Drop)]
 pub struct Rest {
     clock: u64,
     requests: u64,
     steps: u64,
+    /// Dispatches of objects that are over.
+    dispatches: u64,
     announced: bool,
     stopped: bool,
     ended: Option<Ending>,
@@ -23,7 +25,7 @@ impl Model for Rest {
 
     ghost Value = { RestRecord };
 
-    ghost view = { λ r. record { clock = r.clock; requests = r.requests; steps = r.steps; dispatches = 0; announced = r.announced; stopped = r.stopped; ended = r.ended } };
+    ghost view = { λ r. record { clock = r.clock; requests = r.requests; steps = r.steps; dispatches = r.dispatches; announced = r.announced; stopped = r.stopped; ended = r.ended } };
 }
 
 impl Rest {
@@ -35,6 +37,7 @@ impl Rest {
             clock: 0,
             requests: 0,
             steps: 0,
+            dispatches: 0,
             announced: false,
             stopped: false,
             ended: None,
@@ -51,6 +54,12 @@ impl Rest {
         ensures { result ≡ self.now.steps }
     {
         self.steps
+    }
+
+    pub fn dispatches(&self) -> u64
+        ensures { result ≡ self.now.dispatches }
+    {
+        self.dispatches
     }
 
     pub fn requests(&self) -> u64
@@ -135,6 +144,43 @@ impl Rest {
     {
         self.tick();
         self.ended = Some(Ending::MainLeft(code));
+    }
+
+    /// The dispatch of an object is over: it counts, and its steps count no more.
+    pub fn count_dispatch(&mut self)
+        ensures { self.new ≡ record self.old { steps = 0; dispatches = raised self.old.dispatches } }
+    {
+        self.steps = 0;
+        self.dispatches = self.dispatches.saturating_add(1);
+    }
+
+    /// A dispatch begins, which has taken no step.
+    pub fn count_anew(&mut self)
+        ensures { self.new ≡ record self.old { steps = 0 } }
+    {
+        self.steps = 0;
+    }
+
+    /// The end of an object's dispatch, which was left, and that was the answer.
+    pub fn fail(&mut self, answer: i32)
+        ensures { self.new ≡ record self.old { clock = raised self.old.clock; ended = Some (Error answer) } }
+    {
+        self.tick();
+        self.ended = Some(Ending::Error(answer));
+    }
+
+    /// Time passes.
+    pub fn set_clock(&mut self, time: u64)
+        ensures { self.new ≡ record self.old { clock = time } }
+    {
+        self.clock = time;
+    }
+
+    /// So many dispatches are over as there may be.
+    pub fn cut(&mut self)
+        ensures { self.new ≡ record self.old { ended = Some Limit } }
+    {
+        self.ended = Some(Ending::Limit);
     }
 
     /// A turn in which nothing is due.

@@ -8,12 +8,14 @@
 //! `specs/Words.antt`). This room knows no cells and no other instructions: it is told where a method goes on.
 #![tactic(auto)]
 
+mod dispatch;
 mod frame;
 mod task;
 mod tasks;
 mod words;
 
+pub use dispatch::{Dispatch, Subject};
 pub use frame::Frame;
-pub use task::{Dispatch, Task, TaskKind};
+pub use task::{Task, TaskKind};
 pub use tasks::Tasks;
 pub use words::is_on_words;

@@ -5,4 +5,3 @@ pub mod Tries
 pub mod Meaning
 pub mod Figuring
 pub mod Graphing
-pub mod Affording

@@ -31,7 +31,7 @@ use Rattle.aom_main.specs.declared.faults.Fault.TheVariants as faults
 use Rattle.aom_main.specs.Status.{of_script, of_script_kind, status_of}
 use Rattle.aom_main.specs.Acceptable.{IsSpelled, IsAcceptable, Refuses, RefusesOrWants as RefusesImage}
 use Rattle.aom_main.specs.Headline.{Sent, outside_of, IsSilent, Told, Shows, Accepts, AcceptedAnswers, AllRunWell, CheckAnswers, Ends, ImageWantsMemory, IsOnly, IsRefused, RunAnswers, Runs, Transcribed}
-use Rattle.aom_main.proofs.Affording.{affords}
+use Rattle.aom_exec.proofs.Affording.{affords}
 use Rattle.aom_main.specs.Explored.{AcceptedExplores, Begun, ExploreAnswers, Explored}
 use Rattle.aom_main.specs.Explored.ExploreBreaks.{script_wants_memory as wants_for_script, machine_wants_memory as wants_for_machine, output_fails as fails}
 use Rattle.aom_main.specs.declared.exploring.Part.{Part}

@@ -1,7 +1,12 @@
+pub mod Spared
+pub mod Timing
 pub mod Completing
 pub mod Lines
 pub mod Prefix
 pub mod Reaching
+pub mod Turnings
+pub mod Between
 pub mod Running
 pub mod Sending
+pub mod Underway
 pub mod Faulting

@@ -1,5 +1,5 @@
 -- A step of the machine is moves of a run, and steps one after another fill a turn.
-use Rattle.std.proofs.Common.{◌≡◌, List, [], ◌++◌, sym, ap, subst, ◌∙◌, append-nil, append_assoc}
+use Rattle.std.proofs.Common.{◌≡◌, ℕ, List, [], ◌++◌, sym, ap, subst, ◌∙◌, append-nil, append_assoc}
 use Rattle.aom_image.proofs.Given.{cons_given}
 use Rattle.aom_image.specs.Image.{Image}
 use Rattle.aom_sound.specs.Moves.{written}
@@ -9,30 +9,44 @@ use Rattle.aom_transcript.specs.declared.line.Line.{Line}
 use Rattle.aom_lines.specs.Turn.{Turn}
 use Rattle.aom_exec.specs.declared.progress.Progress.{Progress}
 use Rattle.aom_exec.specs.Steps.{Machine, StandsFor, Stands, Steps, rests, moves, Settles, settled, settles, IsUncounted, Quiet, begins as none, goes_on as then_on, SteppedOn}
-use Rattle.aom_run.specs.Runs.{Filled, ReachesWith}
+use Rattle.aom_run.specs.Runs.{Filled, Moving, begins as stays, goes_on}
 
 is_busy : (s : State) → IsUncounted s.tasks → IsBusy s
 is_busy s uncounted = cons_given (λ ts. IsUncounted ts) s.tasks uncounted (λ u. u) (λ t ts e u. (t, ts, e))
 
--- the moves that count as no step are moves of a run
-settled_on : (p : Image) (outside : Outside) (b : State) (lines : List Line) (s : State) (more : List Line) (u : State)
-    → Reaches p outside b lines s → Settles p outside.refused s more u → Reaches p outside b (lines ++ more) u
-settled_on p outside b lines s _ _ r (settled not) = subst (λ ls. Reaches p outside b ls s) (sym (append-nil lines)) r
-settled_on p outside b lines s _ v r (settles {u = u} {lines = more} c uncounted free goes rest) =
-    subst (λ ls. Reaches p outside b ls v) (append_assoc lines _ more) (settled_on p outside b (lines ++ written p s) u more v (moved c r (is_busy s uncounted) free goes) rest)
+-- the moves that count as no step
+settled_on : (p : Image) (refused : List ℕ) (b : State) (lines : List Line) (s : State) (more : List Line) (u : State)
+    → Moving p refused b lines s → Settles p refused s more u → Moving p refused b (lines ++ more) u
+settled_on p refused b lines s _ _ r (settled not) = subst (λ ls. Moving p refused b ls s) (sym (append-nil lines)) r
+settled_on p refused b lines s _ v r (settles {u = u} {lines = more} c uncounted free goes rest) =
+    subst (λ ls. Moving p refused b ls v) (append_assoc lines _ more) (settled_on p refused b (lines ++ written p s) u more v (goes_on c r (is_busy s uncounted) free goes) rest)
 
--- a step of the machine is none, or one or more moves of a run
-reaches_on : (p : Image) (outside : Outside) (b : State) (lines : List Line) (s : State) (more : List Line) (u : State)
-    → Reaches p outside b lines s → Steps p outside.refused s more u → Reaches p outside b (lines ++ more) u
-reaches_on p outside b lines s more u r (rests done) = subst (λ ls. Reaches p outside b ls s) (sym (append-nil lines)) r
-reaches_on p outside b lines s _ v r (moves {u = u} {lines = more} c hand free goes rest) =
-    subst (λ ls. Reaches p outside b ls v) (append_assoc lines _ more) (settled_on p outside b (lines ++ written p s) u more v (moved c r hand.busy free goes) rest)
+-- a step of the machine is no move, or one or more
+steps_on : (p : Image) (refused : List ℕ) (b : State) (lines : List Line) (s : State) (more : List Line) (u : State)
+    → Moving p refused b lines s → Steps p refused s more u → Moving p refused b (lines ++ more) u
+steps_on p refused b lines s more u r (rests done) = subst (λ ls. Moving p refused b ls s) (sym (append-nil lines)) r
+steps_on p refused b lines s _ v r (moves {u = u} {lines = more} c hand free goes rest) =
+    subst (λ ls. Moving p refused b ls v) (append_assoc lines _ more) (settled_on p refused b (lines ++ written p s) u more v (goes_on c r hand.busy free goes) rest)
 
 -- quiet steps add no line
-reaches_over : (p : Image) (outside : Outside) (b : State) (lines : List Line) (s v : State) → Reaches p outside b lines s → Quiet p outside.refused s v → Reaches p outside b lines v
-reaches_over p outside b lines s _ r none = r
-reaches_over p outside b lines s _ r (then_on {v} {u} before last hand) =
-    subst (λ ls. Reaches p outside b ls u) (append-nil lines) (reaches_on p outside b lines v [] u (reaches_over p outside b lines s v r before) last)
+quietly_on : (p : Image) (refused : List ℕ) (b : State) (lines : List Line) (s v : State) → Moving p refused b lines s → Quiet p refused s v → Moving p refused b lines v
+quietly_on p refused b lines s _ r none = r
+quietly_on p refused b lines s _ r (then_on {v} {u} before last hand) =
+    subst (λ ls. Moving p refused b ls u) (append-nil lines) (steps_on p refused b lines v [] u (quietly_on p refused b lines s v r before) last)
+
+-- moves that go on from where others came to
+pub moving_both : (p : Image) (refused : List ℕ) (b : State) (lines : List Line) (s : State) (more : List Line) (u : State)
+    → Moving p refused b lines s → Moving p refused s more u → Moving p refused b (lines ++ more) u
+moving_both p refused b lines s _ _ r stays = subst (λ ls. Moving p refused b ls s) (sym (append-nil lines)) r
+moving_both p refused b lines s _ _ r (goes_on {lines = more} {s = v} {u = u} c before busy free goes) =
+    subst (λ ls. Moving p refused b ls u) (append_assoc lines more (written p v)) (goes_on c (moving_both p refused b lines s more v r before) busy free goes)
+
+-- and a run goes on with them
+pub reaches_then : (p : Image) (outside : Outside) (b : State) (lines : List Line) (s : State) (more : List Line) (u : State)
+    → Reaches p outside b lines s → Moving p outside.refused s more u → Reaches p outside b (lines ++ more) u
+reaches_then p outside b lines s _ _ r stays = subst (λ ls. Reaches p outside b ls s) (sym (append-nil lines)) r
+reaches_then p outside b lines s _ _ r (goes_on {lines = more} {s = v} {u = u} c before busy free goes) =
+    subst (λ ls. Reaches p outside b ls u) (append_assoc lines more (written p v)) (moved c (reaches_then p outside b lines s more v r before) busy free goes)
 
 -- a run that goes on from where another came to
 pub reaches_both : (p : Image) (outside : Outside) (b : State) (lines : List Line) (s : State) (more : List Line) (u : State)
@@ -47,12 +61,12 @@ reaches_both p outside b lines s _ _ r (turns {lines = more} {s = v} {u = u} bef
 abbrev pub Went : Machine → Turn → Turn → Machine → Type 0
 Went old told now new =
     (s : State) → StandsFor old s
-    → (lines : List Line) × (u : State) × ReachesWith old.image told.refused s lines u
+    → (lines : List Line) × (u : State) × Moving old.image told.refused s lines u
     × (now ≡ record told { lines = told.lines ++ lines })
     × StandsFor new u
 
 pub went_nowhere : (m : Machine) (told : Turn) → Went m told told m
-went_nowhere m told s stands = ([], s, λ outside same. begins, ap (λ ls. record told { lines = ls }) (sym (append-nil told.lines)), stands)
+went_nowhere m told s stands = ([], s, stays, ap (λ ls. record told { lines = ls }) (sym (append-nil told.lines)), stands)
 
 pub went : (old new : Machine) (told now : Turn) (progress : Progress) → Filled old progress told now new → Went old told now new
 went old new told now progress filled s stands = let f = filled s stands in (f.0, f.1, f.2, f.3, f.5)
@@ -64,12 +78,9 @@ filled old m new told mid now progress went image stepped s stands =
     let same : mid.refused ≡ told.refused = ap (λ (t : Turn). t.refused) w.3 in
     let quiet = subst (λ q. Quiet q told.refused w.1 x.1) image (subst (λ r. Quiet m.image r w.1 x.1) same x.3) in
     let steps = subst (λ q. Steps q told.refused x.1 x.0 x.2) image (subst (λ r. Steps m.image r x.1 x.0 x.2) same x.4) in
-    let reaches : ReachesWith old.image told.refused s (w.0 ++ x.0) x.2 =
-    λ outside under.
-    let before = reaches_over old.image outside s w.0 w.1 x.1 (w.2 outside under) (subst (λ r. Quiet old.image r w.1 x.1) (sym under) quiet) in
-    reaches_on old.image outside s w.0 x.1 x.0 x.2 before (subst (λ r. Steps old.image r x.1 x.0 x.2) (sym under) steps) in
+    let moving = steps_on old.image told.refused s w.0 x.1 x.0 x.2 (quietly_on old.image told.refused s w.0 w.1 x.1 w.2 quiet) steps in
     let turn = x.5 ∙ ap (λ (t : Turn). record t { lines = t.lines ++ x.0 }) w.3 ∙ ap (λ ls. record told { lines = ls }) (append_assoc told.lines w.0 x.0) in
-    (w.0 ++ x.0, x.2, reaches, turn, x.6, x.7)
+    (w.0 ++ x.0, x.2, moving, turn, x.6, x.7)
 
 pub stands_on : (m new : Machine) (told now : Turn) (progress : Progress) → Stands m → SteppedOn m progress told now new → Stands new
 stands_on m new told now progress stands stepped = let x = stepped stands.0 stands.1 in (x.2, x.7)

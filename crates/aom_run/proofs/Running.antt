@@ -1,46 +1,49 @@
 -- A run, some steps of the machine after others.
-use Rattle.std.proofs.Common.{◌≡◌, ◌≤◌, ℕ, suc, min, ◌+◌, append-nil, Bool, true, List, [], ◌++◌, Option, Some, length, take, refl, sym, ap, subst, ◌∙◌, append_assoc, arith}
+use Rattle.std.proofs.Common.{◌≡◌, ◌≢◌, ◌≤◌, ◌-◌, ◌^◌, ℕ, min, ◌+◌, append-nil, Bool, true, List, [], ◌++◌, Option, Some, None, length, take, refl, sym, ap, subst, suc, ◌<◌, ◌∷◌, ◌∙◌, append_assoc, arith, IfNone}
+use Rattle.std.specs.Prelude.{is_some}
 use Rattle.aom_image.specs.Image.{Image}
 use Rattle.aom_sound.specs.State.{State, Task}
-use Rattle.aom_sound.specs.World.{boot_state, Reaches, begins, turns, turned as turned_by, ends_as, refusing, written_by, written_turn, Outside}
+use Rattle.aom_sound.specs.World.{boot_state, Reaches, begins, Outside}
 use Rattle.aom_transcript.specs.declared.line.Line.{Line}
 use Rattle.aom_transcript.specs.declared.line.Ending.{Ending}
 use Rattle.aom_transcript.specs.declared.line.Ending.TheVariants as endings
 use Rattle.aom_lines.specs.Turn.{Turn}
 use Rattle.aom_transcript.specs.Text.{text_of, ended, end_text, transcript}
-use Rattle.aom_ranks.specs.Ranks.{rank}
 use Rattle.aom_run.specs.declared.outcome.Outcome.{Outcome}
 use Rattle.aom_run.specs.declared.outcome.Outcome.TheVariants.{Stopped, Waiting, MainLeft, Limit, Error, WriteFault}
 use Rattle.aom_exec.specs.declared.progress.Progress.{Progress}
 use Rattle.aom_exec.specs.declared.progress.Progress.TheVariants as progresses
-use Rattle.aom_exec.specs.Steps.{Machine, StandsFor, Waited, progress as reached}
-use Rattle.aom_exec.specs.Progress.{progress_of, progress_by}
+use Rattle.aom_exec.specs.Steps.{Machine, Stands, StandsFor, progress as reached}
+use Rattle.aom_frames.specs.declared.task.Task.{Task as Held_task}
+use Rattle.aom_steps.specs.Payers.{payer}
+use Rattle.aom_exec.specs.Progress.{progress_by, progress_of}
 use Rattle.aom_run.specs.Outcomes.{outcome_of}
 use Rattle.aom_exec.proofs.Progressing.{is_as_far}
-use Rattle.aom_run.specs.Runs.{after, Filled, Ended, ReachesWith, Told, CutShort, Ran}
-use Rattle.aom_exec.proofs.Mains.{all_mains}
-use Rattle.aom_run.proofs.Completing.{Completed, IsOfMain, completes}
-use Rattle.aom_run.proofs.Reaching.{reaches_both}
+use Rattle.aom_run.specs.Runs.{after, CutOff, Ended, Moving, Sent, Told, CutShort, Ran}
+use Rattle.aom_run.specs.Turns.{TakesTurns, one_where}
+use Rattle.aom_run.proofs.Spared.{moving_spares}
+use Rattle.aom_run.proofs.Completing.{Completed, completes}
+use Rattle.aom_run.proofs.Reaching.{reaches_both, reaches_then}
 use Rattle.aom_run.proofs.Sending.{cut_short, after_both, after_none, text_of_both, cut_next}
 
--- the machine stands for a state that a run comes to where those requests are refused, and the run's lines are out
-pub record SoFar (p : Image) (refused : List ℕ) (before now : Option (List ℕ)) (m : Machine) : Type 0 where
+-- the machine stands for a state that a run comes to; all its lines are out but the last, which are told and not out yet
+pub record SoFar (p : Image) (outside : Outside) (before now : Option (List ℕ)) (told : List Line) (m : Machine) : Type 0 where
   pub lines : List Line
   pub state : State
-  pub reaches : ReachesWith p refused (boot_state p) lines state
+  pub reaches : Reaches p outside (boot_state p) (lines ++ told) state
   pub stands : StandsFor m state
   pub out : now ≡ after before (text_of lines)
 
-pub starts : (refused : List ℕ) (out : Option (List ℕ)) (m : Machine) → StandsFor m (boot_state m.image) → SoFar m.image refused out out m
-starts refused out m fresh = record { lines = []; state = boot_state m.image; reaches = λ outside under. begins; stands = fresh; out = after_none out }
+pub starts : (outside : Outside) (out : Option (List ℕ)) (m : Machine) (told : List Line) → told ≡ [] → StandsFor m (boot_state m.image) → SoFar m.image outside out out told m
+starts outside out m told none fresh =
+    record { lines = []; state = boot_state m.image; reaches = subst (λ ls. Reaches m.image outside (boot_state m.image) ls (boot_state m.image)) (sym none) begins; stands = fresh; out = after_none out }
 
 -- a run that has come to a state that the machine stands for can be brought to an end
-completed : (p : Image) (outside : Outside) → 1 ≤ outside.limit → (lines : List Line) (s : State) (m : Machine) → m.image ≡ p → Reaches p outside (boot_state p) lines s → StandsFor m s → Completed p outside lines
-completed p outside some lines s m image r stands =
+completed : (p : Image) (outside : Outside) → outside.limit ≤ 2 ^ 64 - 1 → (lines : List Line) (s : State) (m : Machine) → m.image ≡ p → Reaches p outside (boot_state p) lines s → StandsFor m s → Completed p outside lines
+completed p outside few lines s m image r stands =
     let Whole : Image → Type 0 = λ q. Reaches q outside (boot_state q) lines s → Completed q outside lines in
     let sound = stands.sound in
-    let main : IsOfMain s = record { mains = all_mains m.parts.stack.tasks s.tasks stands.agrees.tasks; none = stands.none; asks = stands.asks } in
-    subst Whole image (λ r'. completes m.image stands.typing outside some sound.admitted sound.linked sound.typed sound.keeps (suc (rank m.image s)) lines s (omega arith) r' stands.typed main) r
+    subst Whole image (λ r'. completes m.image stands.typing outside few sound.wired sound.linked sound.typed sound.keeps lines s r' stands.typed) r
 
 -- the beginning of the lines of a run is one of its transcript
 cut_of : (p : Image) (outside : Outside) (before now : Option (List ℕ)) (lines : List Line) → Completed p outside lines → (n : ℕ) → now ≡ after before (take n (text_of lines)) → CutShort p outside before now
@@ -57,45 +60,164 @@ cut_of p outside before now lines all n out =
       out = out ∙ ap (after before) (short ∙ ap (take (min n (length (text_of lines)))) (sym whole));
     }
 
--- what is known after some steps, before their lines are out
-pub record Next (p : Image) (refused : List ℕ) (before mid : Option (List ℕ)) (told : List Line) (progress : Progress) (new : Machine) : Type 0 where
-  pub lines : List Line
-  pub state : State
-  pub reaches : ReachesWith p refused (boot_state p) lines state
-  pub stands : StandsFor new state
-  pub is : progress ≡ progress_of state
-  pub sent : ℕ
-  pub part : (n : ℕ) → after mid (take n (text_of told)) ≡ after before (take (sent + n) (text_of lines))
-  pub whole : after mid (text_of told) ≡ after before (text_of lines)
+ended_by : (ended : Option Ending) (tasks : List Task) (ending : Ending) → progress_by ended tasks ≡ progresses.Ended ending → ended ≡ Some ending
+ended_by (Some e) tasks ending is = let same : e ≡ ending = cc in ap (λ x. Some x) same
+ended_by _ _ ending is = absurd (grind arith)
 
-pub next : (p : Image) (refused : List ℕ) (before mid : Option (List ℕ)) (m new : Machine) (old now : Turn) (progress : Progress)
-    → SoFar p refused before mid m → m.image ≡ p → old.refused ≡ refused → old.lines ≡ [] → Filled m progress old now new
-    → Next p refused before mid now.lines progress new
-next p refused before mid m new old now progress far image same clear filled =
-    let s = filled far.state far.stands in
-    let told : now.lines ≡ s.0 = ap (λ (t : Turn). t.lines) s.3 ∙ ap (λ ls. ls ++ s.0) clear in
-    let more : ReachesWith p refused far.state s.0 s.1 = λ outside under. subst (λ q. Reaches q outside far.state s.0 s.1) image (s.2 outside (under ∙ sym same)) in
-    record {
-      lines = far.lines ++ s.0;
-      state = s.1;
-      reaches = λ outside under. reaches_both p outside (boot_state p) far.lines far.state s.0 s.1 (far.reaches outside under) (more outside under);
-      stands = s.5;
-      is = s.4;
-      sent = length (text_of far.lines);
-      part = λ n.
-          ap (λ ls. after mid (take n (text_of ls))) told ∙ ap (λ o. after o (take n (text_of s.0))) far.out ∙ cut_next before (text_of far.lines) (text_of s.0) n
-          ∙ ap (λ t. after before (take (length (text_of far.lines) + n) t)) (sym (text_of_both far.lines s.0));
-      whole =
-          ap (λ ls. after mid (text_of ls)) told ∙ ap (λ o. after o (text_of s.0)) far.out ∙ after_both before (text_of far.lines) (text_of s.0)
-          ∙ ap (after before) (sym (text_of_both far.lines s.0));
-    }
+-- ---- a run goes on
 
--- what steps leave of their turn
-pub room_kept : (m new : Machine) (old now : Turn) (progress : Progress) (s : State) → StandsFor m s → Filled m progress old now new → now.room ≡ old.room
-room_kept m new old now progress s stands filled = ap (λ (t : Turn). t.room) (filled s stands).3
+module _ (p : Image) (outside : Outside) (before mid now : Option (List ℕ)) (m new : Machine) (told turn : Turn) (far : SoFar p outside before mid told.lines m) (image : m.image ≡ p) where
+  module _ (same : told.refused ≡ outside.refused) where
+    more : (lines : List Line) (u : State) → Moving m.image told.refused far.state lines u → Reaches p outside (boot_state p) ((far.lines ++ told.lines) ++ lines) u
+    more lines u moving =
+        reaches_then p outside (boot_state p) (far.lines ++ told.lines) far.state lines u far.reaches
+        (subst (λ q. Moving q outside.refused far.state lines u) image (subst (λ r. Moving m.image r far.state lines u) same moving))
 
-pub refused_kept : (m new : Machine) (old now : Turn) (progress : Progress) (s : State) → StandsFor m s → Filled m progress old now new → now.refused ≡ old.refused
-refused_kept m new old now progress s stands filled = ap (λ (t : Turn). t.refused) (filled s stands).3
+    text : (lines : List Line) → text_of far.lines ++ text_of (told.lines ++ lines) ≡ text_of ((far.lines ++ told.lines) ++ lines)
+    text lines = sym (text_of_both far.lines (told.lines ++ lines)) ∙ ap text_of (sym (append_assoc far.lines told.lines lines))
+
+    -- all that was told is out, and more
+    pub sent_on : (progress : Progress) → Sent m progress told turn mid now new → SoFar p outside before now turn.lines new
+    sent_on progress sent =
+        let x = sent far.state far.stands in
+        let none : turn.lines ≡ [] = ap (λ (t : Turn). t.lines) x.3 in
+        let lines = (far.lines ++ told.lines) ++ x.0 in
+        record {
+          lines = lines;
+          state = x.1;
+          reaches = subst (λ ls. Reaches p outside (boot_state p) (lines ++ ls) x.1) (sym none) (subst (λ ls. Reaches p outside (boot_state p) ls x.1) (sym (append-nil lines)) (more x.0 x.1 x.2));
+          stands = x.7;
+          out = x.4 ∙ ap (λ o. after o (text_of (told.lines ++ x.0))) far.out ∙ after_both before (text_of far.lines) (text_of (told.lines ++ x.0)) ∙ ap (after before) (text x.0);
+        }
+
+    -- the sink failed
+    pub cut : outside.limit ≤ 2 ^ 64 - 1 → new.image ≡ p → CutOff m told mid now new → CutShort p outside before now
+    cut few again cut_off =
+        let x = cut_off far.state far.stands in
+        let b = text_of (told.lines ++ x.0) in
+        let all = completed p outside few ((far.lines ++ told.lines) ++ x.0) x.1 new again (more x.0 x.1 x.2) x.4 in
+        cut_of p outside before now ((far.lines ++ told.lines) ++ x.0) all (length (text_of far.lines) + x.3.0)
+        (x.3.1 ∙ ap (λ o. after o (take x.3.0 b)) far.out ∙ cut_next before (text_of far.lines) b x.3.0 ∙ ap (λ t. after before (take (length (text_of far.lines) + x.3.0) t)) (text x.0))
+
+  -- turns
+  module _ (none : told.lines ≡ []) where
+    bare : (lines : List Line) (u : State) → Reaches m.image outside far.state lines u → Reaches p outside (boot_state p) (far.lines ++ lines) u
+    bare lines u turns =
+        reaches_both p outside (boot_state p) far.lines far.state lines u
+        (subst (λ ls. Reaches p outside (boot_state p) ls far.state) (append-nil far.lines) (subst (λ ls. Reaches p outside (boot_state p) (far.lines ++ ls) far.state) none far.reaches))
+        (subst (λ q. Reaches q outside far.state lines u) image turns)
+
+    pub turned_on : TakesTurns m outside None told turn new → SoFar p outside before mid turn.lines new
+    turned_on takes =
+        let x = takes far.state far.stands in
+        let is : turn.lines ≡ x.0 = ap (λ (t : Turn). t.lines) x.3 ∙ ap (λ ls. ls ++ x.0) none in
+        record { lines = far.lines; state = x.1; reaches = subst (λ ls. Reaches p outside (boot_state p) (far.lines ++ ls) x.1) (sym is) (bare x.0 x.1 x.2); stands = x.5; out = far.out }
+
+    pub turned_end : (ending : Ending) → TakesTurns m outside (Some ending) told turn new → Ended p outside ending before mid new
+    turned_end ending takes =
+        let x = takes far.state far.stands in
+        let silent : far.lines ++ x.0 ≡ far.lines = ap (λ ls. far.lines ++ ls) x.4.0 ∙ append-nil far.lines in
+        record { lines = far.lines; state = x.1; run = record { reaches = subst (λ ls. Reaches p outside (boot_state p) ls x.1) silent (bare x.0 x.1 x.2); ended = x.4.1 }; stands = x.5; out = far.out }
+
+    -- the run is over
+    pub ends : (ending : Ending) → progresses.Ended ending ≡ reached m → Ended p outside ending before mid m
+    ends ending is =
+        record {
+          lines = far.lines;
+          state = far.state;
+          run = record {
+            reaches = subst (λ ls. Reaches p outside (boot_state p) ls far.state) (append-nil far.lines) (subst (λ ls. Reaches p outside (boot_state p) (far.lines ++ ls) far.state) none far.reaches);
+            ended = ended_by far.state.rest.ended far.state.tasks ending (sym (is_as_far m far.state far.stands) ∙ sym is);
+          };
+          stands = far.stands;
+          out = far.out;
+        }
+
+-- what a dispatch leaves
+module _ (m new : Machine) (told now : Turn) (progress : Progress) (before out : Option (List ℕ)) (stands : Stands m) (sent : Sent m progress told now before out new) where
+  pub sent_turn : now ≡ record told { lines = [] }
+  sent_turn = (sent stands.0 stands.1).3
+
+  pub sent_far : progress ≡ reached new
+  sent_far = let x = sent stands.0 stands.1 in x.5 ∙ sym (is_as_far new x.1 x.7)
+
+  pub sent_rests : progress ≢ progresses.Running
+  sent_rests = (sent stands.0 stands.1).6
+
+-- and turns
+module _ (m new : Machine) (outside : Outside) (told now : Turn) (stands : Stands m) (takes : TakesTurns m outside None told now new) where
+  pub turned_stands : Stands new
+  turned_stands = let x = takes stands.0 stands.1 in (x.1, x.5)
+
+  pub turned_few : told.lines ≡ [] → length now.lines ≤ 1
+  turned_few none =
+      let x = takes stands.0 stands.1 in
+      let few = x.4.0 in
+      let is = ap length (ap (λ (t : Turn). t.lines) x.3 ∙ ap (λ ls. ls ++ x.0) none) in
+      omega (arith, few, is)
+
+  pub turned_same : now ≡ record told { lines = now.lines }
+  turned_same = let is = (takes stands.0 stands.1).3 in is ∙ ap (λ ls. record told { lines = ls }) (sym (ap (λ (t : Turn). t.lines) is))
+
+pub turned_still : (m : Machine) (outside : Outside) (ending : Ending) (told now : Turn) (new : Machine) → Stands m → TakesTurns m outside (Some ending) told now new → now ≡ told
+turned_still m outside ending told now new stands takes =
+    let x = takes stands.0 stands.1 in
+    x.3 ∙ ap (λ ls. record told { lines = told.lines ++ ls }) x.4.0 ∙ ap (λ ls. record told { lines = ls }) (append-nil told.lines)
+
+-- ---- how often an object may be dispatched yet
+
+pub turned_now : (progress : Progress) → progress ≢ progresses.Running → ((ending : Ending) → progress ≡ progresses.Ended ending → ⊥) → progress ≡ progresses.Turned
+turned_now progresses.Running not_running not_ended = absurd (not_running refl)
+turned_now progresses.Turned not_running not_ended = refl
+turned_now (progresses.Ended ending) not_running not_ended = absurd (not_ended ending refl)
+
+abbrev rounds_by : ℕ → Option Ending → ℕ
+rounds_by spare None = suc spare
+rounds_by spare (Some ending) = 0
+
+abbrev pub rounds : ℕ → Machine → ℕ
+rounds limit m = rounds_by (limit - m.parts.rest.dispatches) m.parts.rest.ended
+
+still_open : (ended : Option Ending) (tasks : List Held_task) → progress_by ended tasks ≡ progresses.Turned → ended ≡ None
+still_open None tasks is = refl
+still_open (Some ending) tasks is = cc
+
+nothing_left : (tasks : List Task) → progress_by None tasks ≢ progresses.Running → tasks ≡ []
+nothing_left [] rests = refl
+nothing_left (t ∷ ts) rests = absurd (rests refl)
+
+-- each dispatch of an object is one of them
+fewer_by : (p : Image) (refused : List ℕ) (limit : ℕ) → limit ≤ 2 ^ 64 - 1 → (m new : Machine) (s u v : State) (lines : List Line) (progress : Progress) → StandsFor m s → StandsFor new v
+    → reached m ≡ progresses.Turned → s.rest.dispatches < limit → u.rest.dispatches ≡ s.rest.dispatches → is_some (payer u.tasks) ≡ true
+    → Moving p refused u lines v → progress ≡ progress_of v → progress ≢ progresses.Running → rounds limit new < rounds limit m
+fewer_by p refused limit few m new s u v lines progress stands then_stands between below same paid moving far rests = go v.rest.ended refl
+  where
+    was : rounds limit m ≡ suc (limit - s.rest.dispatches)
+    was = ap (λ e. rounds_by (limit - m.parts.rest.dispatches) e) (still_open m.parts.rest.ended m.parts.stack.tasks between) ∙ ap (λ r. suc (limit - r.dispatches)) stands.agrees.rest
+
+    is : (e : Option Ending) → v.rest.ended ≡ e → rounds limit new ≡ rounds_by (limit - v.rest.dispatches) e
+    is e ended = ap (λ r. rounds_by (limit - r.dispatches) r.ended) then_stands.agrees.rest ∙ ap (λ e. rounds_by (limit - v.rest.dispatches) e) ended
+
+    go : (e : Option Ending) → v.rest.ended ≡ e → rounds limit new < rounds limit m
+    go (Some ending) ended = omega (arith, was, is (Some ending) ended)
+    go None going =
+        let none : v.tasks ≡ [] = nothing_left v.tasks (λ running. rests (far ∙ ap (λ e. progress_by e v.tasks) going ∙ running)) in
+        let bare = ap (λ ts. one_where (is_some (payer ts))) none in
+        let one = ap one_where paid in
+        let kept = moving_spares p limit few refused u lines v moving in
+        omega (arith, was, is None going, bare, one, kept, same, below)
+
+pub fewer_rounds : (outside : Outside) → outside.limit ≤ 2 ^ 64 - 1 → (m mid new : Machine) (told turn now : Turn) (progress : Progress) (before out : Option (List ℕ))
+    → Stands m → reached m ≡ progresses.Turned → TakesTurns m outside None told turn mid → Sent mid progress turn now before out new → rounds outside.limit new < rounds outside.limit m
+fewer_rounds outside few m mid new told turn now progress before out stands between takes sent =
+    let x = takes stands.0 stands.1 in
+    let y = sent x.1 x.5 in
+    fewer_by mid.image turn.refused outside.limit few m new stands.0 x.1 y.1 y.0 progress stands.1 y.7 between x.4.1 x.4.2 x.4.3 y.2 y.5 y.6
+
+-- what is said of a run that was given up
+pub given_up : {A : Type 0} {X : Type 0} (r : Option A) → X → IfNone r X
+given_up None x = x
+given_up (Some a) x = tt
 
 same_outcome : (d e : Ending) → outcome_of d ≡ outcome_of e → d ≡ e
 same_outcome endings.Stopped endings.Stopped is = refl
@@ -104,46 +226,6 @@ same_outcome (endings.MainLeft n) (endings.MainLeft k) is = cc
 same_outcome endings.Limit endings.Limit is = refl
 same_outcome (endings.Error n) (endings.Error k) is = cc
 same_outcome _ _ is = absurd cc
-
-ended_by : (ended : Option Ending) (tasks : List Task) (ending : Ending) → progress_by ended tasks ≡ progresses.Ended ending → ended ≡ Some ending
-ended_by (Some e) tasks ending is = let same : e ≡ ending = cc in ap (λ x. Some x) same
-ended_by _ _ ending is = absurd (grind arith)
-
-module _ (p : Image) (refused : List ℕ) (before mid now : Option (List ℕ)) (told : List Line) (progress : Progress) (new : Machine) (n : Next p refused before mid told progress new) where
-  pub goes_on : now ≡ after mid (text_of told) → SoFar p refused before now new
-  goes_on out = record { lines = n.lines; state = n.state; reaches = n.reaches; stands = n.stands; out = out ∙ n.whole }
-
-  pub cut : new.image ≡ p → (count : ℕ) → now ≡ after mid (take count (text_of told)) → (limit : ℕ) → 1 ≤ limit → CutShort p (refusing refused limit) before now
-  cut image count out limit some =
-      let all = completed p (refusing refused limit) some n.lines n.state new image (n.reaches (refusing refused limit) refl) n.stands in
-      cut_of p (refusing refused limit) before now n.lines all (n.sent + count) (out ∙ n.part count)
-
-  pub turned : progress ≡ progresses.Turned → reached new ≡ progresses.Turned
-  turned is = is_as_far new n.state n.stands ∙ sym n.is ∙ is
-
-  pub waits : (last : Machine) → Waited new last → now ≡ after mid (text_of told) → (limit : ℕ) → 1 ≤ limit → Ended p (refusing refused limit) endings.Waiting before now last
-  waits last wait out limit some =
-      let outside = refusing refused limit in
-      let w = wait n.state n.stands in
-      let for_nothing = w.1 outside some in
-      let silent : n.lines ++ written_turn outside n.state ≡ n.lines = ap (λ x. n.lines ++ written_by n.state x) for_nothing ∙ append-nil n.lines in
-      record {
-        lines = n.lines;
-        state = ends_as endings.Waiting n.state;
-        run = record { reaches = subst (λ ls. Reaches p outside (boot_state p) ls (ends_as endings.Waiting n.state)) silent (turns (n.reaches outside refl) w.0 (ap (turned_by p n.state) for_nothing)); ended = refl };
-        stands = w.2;
-        out = out ∙ n.whole;
-      }
-
-  pub ends : (ending : Ending) → progress ≡ progresses.Ended ending → now ≡ after mid (text_of told) → (limit : ℕ) → 1 ≤ limit → Ended p (refusing refused limit) ending before now new
-  ends ending is out limit some =
-      record {
-        lines = n.lines;
-        state = n.state;
-        run = record { reaches = n.reaches (refusing refused limit) refl; ended = ended_by n.state.rest.ended n.state.tasks ending (sym n.is ∙ is) };
-        stands = n.stands;
-        out = out ∙ n.whole;
-      }
 
 -- the last line after the others
 module _ (m new : Machine) (outside : Outside) (ending : Ending) (before mid now : Option (List ℕ)) (failed : Bool) (run : Ended m.image outside ending before mid new) where

@@ -2,3 +2,4 @@ pub mod Faults
 pub mod Outcomes
 pub mod Runs
 pub mod Script
+pub mod Turns

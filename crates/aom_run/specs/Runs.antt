@@ -1,8 +1,9 @@
 -- What a run of the machine tells of the checked machine.
-use Rattle.std.specs.Prelude.{◌≡◌, ℕ, Bool, true, List, ◌++◌, Option, length, take, option_map}
+use Rattle.std.specs.Prelude.{◌≡◌, ◌≢◌, ℕ, Bool, true, List, [], ◌++◌, Option, length, take, option_map}
 use Rattle.aom_image.specs.Image.{Image}
-use Rattle.aom_sound.specs.State.{State}
-use Rattle.aom_sound.specs.World.{boot_state, Reaches, Run_of, Outside}
+use Rattle.aom_sound.specs.Moves.{IsOpen, step, written}
+use Rattle.aom_sound.specs.State.{Choice, Goes, State}
+use Rattle.aom_sound.specs.World.{boot_state, IsBusy, Run_of, Outside}
 use Rattle.aom_transcript.specs.declared.line.Line.{Line}
 use Rattle.aom_transcript.specs.declared.line.Ending.{Ending}
 use Rattle.aom_transcript.specs.declared.line.Ending.TheVariants as endings
@@ -11,6 +12,7 @@ use Rattle.aom_transcript.specs.Text.{text_of, transcript}
 use Rattle.aom_run.specs.declared.outcome.Outcome.{Outcome}
 use Rattle.aom_run.specs.declared.outcome.Outcome.TheVariants.{Stopped, Waiting, MainLeft, Limit, Error, WriteFault}
 use Rattle.aom_exec.specs.declared.progress.Progress.{Progress}
+use Rattle.aom_exec.specs.declared.progress.Progress.TheVariants.{Running}
 use Rattle.aom_exec.specs.Progress.{progress_of}
 use Rattle.aom_exec.specs.Steps.{Machine, StandsFor}
 
@@ -22,17 +24,37 @@ after out text = option_map (λ t. t ++ text) out
 abbrev pub IsFresh : Machine → Type 0
 IsFresh m = StandsFor m (boot_state m.image)
 
--- a run comes there where those requests are refused, whatever else comes from outside
-abbrev pub ReachesWith : Image → List ℕ → State → List Line → State → Type 0
-ReachesWith p refused s lines u = (outside : Outside) → outside.refused ≡ refused → Reaches p outside s lines u
+-- moves one after another at which something is at hand, with their lines, where those requests are refused
+pub data Moving (p : Image) (refused : List ℕ) (from : State) : List Line → State → Type 0 where
+  begins : Moving p refused from [] from
+  goes_on : {lines : List Line} {s u : State} (c : Choice) → Moving p refused from lines s → IsBusy s → IsOpen p refused c s → step p c s ≡ Goes u → Moving p refused from (lines ++ written p s) u
 
--- from each state that the machine stands for a run comes to one that it then stands for, and its lines are added to the turn
+-- from each state that the machine stands for moves lead to one that it then stands for, and their lines are added to the turn
 abbrev pub Filled : Machine → Progress → Turn → Turn → Machine → Type 0
 Filled old progress told now new =
     (s : State) → StandsFor old s
-    → (lines : List Line) × (u : State) × ReachesWith old.image told.refused s lines u
+    → (lines : List Line) × (u : State) × Moving old.image told.refused s lines u
     × (now ≡ record told { lines = told.lines ++ lines })
     × (progress ≡ progress_of u)
+    × StandsFor new u
+
+-- so until nothing is at hand: what was in the turn is out, and their lines are out after it
+abbrev pub Sent : Machine → Progress → Turn → Turn → Option (List ℕ) → Option (List ℕ) → Machine → Type 0
+Sent old progress told now before out new =
+    (s : State) → StandsFor old s
+    → (lines : List Line) × (u : State) × Moving old.image told.refused s lines u
+    × (now ≡ record told { lines = [] })
+    × (out ≡ after before (text_of (told.lines ++ lines)))
+    × (progress ≡ progress_of u)
+    × (progress ≢ Running)
+    × StandsFor new u
+
+-- or a beginning of all that, where the sink failed
+abbrev pub CutOff : Machine → Turn → Option (List ℕ) → Option (List ℕ) → Machine → Type 0
+CutOff old told before out new =
+    (s : State) → StandsFor old s
+    → (lines : List Line) × (u : State) × Moving old.image told.refused s lines u
+    × ((sent : ℕ) × (out ≡ after before (take sent (text_of (told.lines ++ lines)))))
     × StandsFor new u
 
 -- a run to its end: the machine stands for its last state, and its lines are out

@@ -6,12 +6,14 @@
 //! memory, by signature. It knows what a machine's calls promise, and nothing of how it keeps its cells.
 #![tactic(auto)]
 
+mod dispatches;
 mod fault;
 mod line;
 mod outcome;
 mod runs;
 mod script;
 mod sink;
+mod turns;
 
 pub use fault::{ScriptFault, ScriptFaultKind};
 pub use outcome::Outcome;

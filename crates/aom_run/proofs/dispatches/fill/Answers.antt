@@ -1,16 +1,15 @@
 use Rattle.std.proofs.Common.{◌∙◌, length, refl, ap, arith}
 use Rattle.aom_run.proofs.Reaching.{went_nowhere, went, filled, stands_on, room_stays}
-use Rattle.aom_run.proofs.runs.fill.Goals as goal
+use Rattle.aom_run.proofs.dispatches.fill.Goals as goal
 
 pub loop-progress-init : goal.loop-progress-init
 loop-progress-init c =
-    let none = ap length c.requires.empty in
     record {
       went = went_nowhere c.args.machine.now c.args.turn.now;
       stands = c.requires.stands;
       image = refl;
       room = refl;
-      few = omega (arith, none);
+      few = c.requires.few;
       lower = omega arith;
     }
 

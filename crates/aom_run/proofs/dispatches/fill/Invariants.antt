@@ -1,7 +1,7 @@
 use Rattle.std.proofs.Common.{◌≡◌, ◌<◌, ◌≤◌, length}
 use Rattle.aom_exec.specs.Steps.{Stands, rank}
 use Rattle.aom_run.proofs.Reaching.{Went}
-use Rattle.aom_run.proofs.runs.fill.Given as goal
+use Rattle.aom_run.proofs.dispatches.fill.Given as goal
 
 abbrev pub invariant-loop-progress : goal.invariant-loop-progress
 invariant-loop-progress l = record {

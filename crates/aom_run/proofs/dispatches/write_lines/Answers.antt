@@ -1,8 +1,8 @@
 use Rattle.std.proofs.Common.{◌∙◌, ap, sym, take, arith}
 use Rattle.aom_run.specs.Runs.{after}
 use Rattle.aom_run.proofs.Sending.{Paged, line_added, still_paged, page_sent, page_cut}
-use Rattle.aom_run.proofs.runs.write_lines.Goals.{then-not-has_room+else-has_failed, else-not-has_room}
-use Rattle.aom_run.proofs.runs.write_lines.Goals as goal
+use Rattle.aom_run.proofs.dispatches.write_lines.Goals.{then-not-has_room+else-has_failed, else-not-has_room}
+use Rattle.aom_run.proofs.dispatches.write_lines.Goals as goal
 
 pub returns-then-has_failed-clause-prefix : goal.returns-then-has_failed-clause-prefix
 returns-then-has_failed-clause-prefix g c =

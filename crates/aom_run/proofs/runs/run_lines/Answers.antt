@@ -1,73 +1,131 @@
-use Rattle.std.proofs.Common.{◌∙◌, ap, sym, refl, take, arith}
+use Rattle.std.proofs.Common.{None, Some, ap, arith, length, refl, subst, sym, [], ◌∙◌}
 use Rattle.aom_lines.specs.Turn.{Turn}
-use Rattle.aom_transcript.specs.Text.{text_of}
-use Rattle.aom_run.specs.Runs.{after}
-use Rattle.aom_run.proofs.Running.{starts, next, goes_on, cut, turned, waits, ends, room_kept, refused_kept}
+use Rattle.aom_sound.specs.World.{boot_state, refusing}
+use Rattle.aom_exec.specs.Steps.{Stands}
+use Rattle.aom_run.specs.Turns.{TakesTurns}
+use Rattle.aom_run.proofs.Running.{cut, ends, fewer_rounds, given_up, sent_far, sent_on, sent_rests, sent_turn, starts, turned_end, turned_few, turned_now, turned_on, turned_same, turned_stands}
 use Rattle.aom_run.proofs.runs.run_lines.Goals as goal
 
-pub loop-page-init : goal.loop-page-init
-loop-page-init g c = record { so_far = starts c.args.turn.now.refused _ c.args.machine.now c.requires.fresh; image = refl; refused = refl; room = c.requires.room }
-
-pub returns-then-has_failed-clause-none : goal.returns-then-has_failed-clause-none
-returns-then-has_failed-clause-none g c =
-    let i = c.loop-page.invariant in
-    let refused = ap (λ (t : Turn). t.refused) c.clear.ensures ∙ i.refused in
-    let clear = ap (λ (t : Turn). t.lines) c.clear.ensures in
-    let n = next _ _ _ _ _ _ _ _ _ i.so_far i.image refused clear c.fill-progress.ensures.steps in
-    let sent = c.write_lines.ensures.prefix in
-    (sym c.has_failed.ensures ∙ c.if-has_failed.true, cut _ _ _ _ _ _ _ _ n (c.fill-progress.ensures.image ∙ i.image) sent.0 (sent.1 ∙ ap (λ ls. after (g.W.Sink.out c.loop-page.out) (take sent.0 (text_of ls))) c.lines.ensures))
-
-pub loop-page-preserved : goal.loop-page-preserved
-loop-page-preserved g c =
-    let i = c.loop-page.invariant in
-    let refused = ap (λ (t : Turn). t.refused) c.clear.ensures ∙ i.refused in
-    let clear = ap (λ (t : Turn). t.lines) c.clear.ensures in
-    let n = next _ _ _ _ _ _ _ _ _ i.so_far i.image refused clear c.fill-progress.ensures.steps in
-    let out = c.write_lines.ensures.whole (sym c.has_failed.ensures ∙ c.if-has_failed.false) ∙ ap (λ ls. after (g.W.Sink.out c.loop-page.out) (text_of ls)) c.lines.ensures in
-    record {
-      so_far = goes_on _ _ _ _ _ _ _ _ n out;
-      image = c.fill-progress.ensures.image ∙ i.image;
-      refused = refused_kept c.loop-page.machine _ _ _ _ i.so_far.state i.so_far.stands c.fill-progress.ensures.steps ∙ refused;
-      room =
-          let kept = room_kept c.loop-page.machine _ _ _ _ i.so_far.state i.so_far.stands c.fill-progress.ensures.steps in
-          let cleared = ap (λ (t : Turn). t.room) c.clear.ensures in
-          let room = i.room in
-          omega arith;
-    }
-
-pub fill-progress-requires : goal.fill-progress-requires
-fill-progress-requires g c =
-    let i = c.loop-page.invariant in
-    let room = i.room in
+pub run_dispatch-requires : goal.run_dispatch-requires
+run_dispatch-requires g c =
+    let none = ap (λ (t : Turn). length t.lines) c.clear.ensures in
     let kept = ap (λ (t : Turn). t.room) c.clear.ensures in
+    let room = c.requires.room in
+    record { stands = (boot_state c.args.machine.now.image, c.requires.fresh); few = omega (arith, none); room = omega (arith, kept, room) }
+
+pub returns-in_err-progress-clause-none : goal.returns-in_err-progress-clause-none
+returns-in_err-progress-clause-none g c =
+    let outside = refusing c.args.turn.now.refused c.args.limit in
+    let out = g.W.Sink.out c.args.out.now in
+    let far = starts outside out c.args.machine.now c.clear.new.self.lines (ap (λ (t : Turn). t.lines) c.clear.ensures) c.requires.fresh in
+    let off = c.in_err-progress.ensures.none in
+    let fits = c.ranges.limit.fits in
+    given_up c.from_residual.result
+    (off.0, cut _ outside out out _ c.args.machine.now c.run_dispatch.new.machine c.clear.new.self c.run_dispatch.new.turn far refl (ap (λ (t : Turn). t.refused) c.clear.ensures) (omega (arith, fits)) c.run_dispatch.ensures.image off.1)
+
+pub loop-progress-init : goal.loop-progress-init
+loop-progress-init g c =
+    let outside = refusing c.args.turn.now.refused c.args.limit in
+    let out = g.W.Sink.out c.args.out.now in
+    let far = starts outside out c.args.machine.now c.clear.new.self.lines (ap (λ (t : Turn). t.lines) c.clear.ensures) c.requires.fresh in
+    let sent = c.in_ok-progress.ensures.some in
+    let stands : Stands c.args.machine.now = (boot_state c.args.machine.now.image, c.requires.fresh) in
     record {
-      stands = (i.so_far.state, i.so_far.stands);
-      empty = ap (λ (t : Turn). t.lines) c.clear.ensures;
-      room = omega (arith, room, kept);
+      so_far = sent_on _ outside out out _ c.args.machine.now c.run_dispatch.new.machine c.clear.new.self c.run_dispatch.new.turn far refl (ap (λ (t : Turn). t.refused) c.clear.ensures) _ sent;
+      image = c.run_dispatch.ensures.image;
+      turn = sent_turn _ _ _ _ _ _ _ stands sent ∙ ap (λ (t : Turn). record t { lines = [] }) c.clear.ensures;
+      as_far = sent_far _ _ _ _ _ _ _ stands sent;
+      rests = sent_rests _ _ _ _ _ _ _ stands sent;
     }
 
-pub wait-requires : goal.wait-requires
-wait-requires g c =
-    let i = c.loop-page.invariant in
-    let refused = ap (λ (t : Turn). t.refused) c.clear.ensures ∙ i.refused in
-    let clear = ap (λ (t : Turn). t.lines) c.clear.ensures in
-    let n = next _ _ _ _ _ _ _ _ _ i.so_far i.image refused clear c.fill-progress.ensures.steps in
-    turned _ _ _ _ (g.W.Sink.out c.write_lines.new.out) _ _ _ n c.in-Turned.is
+pub returns-in-Ended : goal.returns-in-Ended
+returns-in-Ended g c =
+    let i = c.loop-progress.invariant in
+    record {
+      image = i.image;
+      none = tt;
+      some = ends _ (refusing c.args.turn.now.refused c.args.limit) (g.W.Sink.out c.args.out.now) (g.W.Sink.out c.loop-progress.out) (g.W.Sink.out c.loop-progress.out) c.loop-progress.machine c.loop-progress.machine c.loop-progress.turn c.loop-progress.turn i.so_far i.image
+          (ap (λ (t : Turn). t.lines) i.turn) c.in-Ended.ending (sym c.in-Ended.is ∙ i.as_far);
+    }
 
-pub returns-in-Turned-clause-some : goal.returns-in-Turned-clause-some
-returns-in-Turned-clause-some g c =
-    let i = c.loop-page.invariant in
-    let refused = ap (λ (t : Turn). t.refused) c.clear.ensures ∙ i.refused in
-    let clear = ap (λ (t : Turn). t.lines) c.clear.ensures in
-    let n = next _ _ _ _ _ _ _ _ _ i.so_far i.image refused clear c.fill-progress.ensures.steps in
-    let out = c.write_lines.ensures.whole (sym c.has_failed.ensures ∙ c.if-has_failed.false) ∙ ap (λ ls. after (g.W.Sink.out c.loop-page.out) (text_of ls)) c.lines.ensures in
-    waits _ _ _ _ _ _ _ _ n _ c.wait.ensures.waited out
+pub take_turns-requires : goal.take_turns-requires
+take_turns-requires g c =
+    let i = c.loop-progress.invariant in
+    let none = ap (λ (t : Turn). length t.lines) i.turn in
+    let kept = ap (λ (t : Turn). t.room) i.turn in
+    let room = c.requires.room in
+    record { stands = (i.so_far.state, i.so_far.stands); between = sym i.as_far ∙ turned_now c.loop-progress.progress i.rests c.in_default.not-Ended; room = omega (arith, none, kept, room) }
 
-pub returns-in-Ended-clause-some : goal.returns-in-Ended-clause-some
-returns-in-Ended-clause-some g c =
-    let i = c.loop-page.invariant in
-    let refused = ap (λ (t : Turn). t.refused) c.clear.ensures ∙ i.refused in
-    let clear = ap (λ (t : Turn). t.lines) c.clear.ensures in
-    let n = next _ _ _ _ _ _ _ _ _ i.so_far i.image refused clear c.fill-progress.ensures.steps in
-    let out = c.write_lines.ensures.whole (sym c.has_failed.ensures ∙ c.if-has_failed.false) ∙ ap (λ ls. after (g.W.Sink.out c.loop-page.out) (text_of ls)) c.lines.ensures in
-    ends _ _ _ _ _ _ _ _ n _ c.in-Ended.is out
+pub returns-in-Some : goal.returns-in-Some
+returns-in-Some g c =
+    let i = c.loop-progress.invariant in
+    let same = ap (λ (t : Turn). t.refused) i.turn in
+    record {
+      image = c.take_turns.ensures.image ∙ i.image;
+      none = tt;
+      some = turned_end _ (refusing c.args.turn.now.refused c.args.limit) (g.W.Sink.out c.args.out.now) (g.W.Sink.out c.loop-progress.out) (g.W.Sink.out c.loop-progress.out) c.loop-progress.machine c.take_turns.new.machine c.loop-progress.turn c.take_turns.new.turn i.so_far i.image
+          (ap (λ (t : Turn). t.lines) i.turn) c.in-Some.ending (subst (λ r. TakesTurns c.loop-progress.machine (refusing r c.args.limit) (Some c.in-Some.ending) c.loop-progress.turn c.take_turns.new.turn c.take_turns.new.machine) same c.in-Some.ensures.turns);
+    }
+
+pub run_dispatch-requires-in-loop-progress : goal.run_dispatch-requires-in-loop-progress
+run_dispatch-requires-in-loop-progress g c =
+    let i = c.loop-progress.invariant in
+    let outside = refusing c.loop-progress.turn.refused c.args.limit in
+    let stands : Stands c.loop-progress.machine = (i.so_far.state, i.so_far.stands) in
+    let turns = c.in_default-take_turns.ensures.turns in
+    let few = turned_few c.loop-progress.machine c.take_turns.new.machine outside c.loop-progress.turn c.take_turns.new.turn stands turns (ap (λ (t : Turn). t.lines) i.turn) in
+    let kept = ap (λ (t : Turn). t.room) (turned_same c.loop-progress.machine c.take_turns.new.machine outside c.loop-progress.turn c.take_turns.new.turn stands turns ∙ ap (λ (t : Turn). record t { lines = c.take_turns.new.turn.lines }) i.turn) in
+    let room = c.requires.room in
+    record { stands = turned_stands c.loop-progress.machine c.take_turns.new.machine outside c.loop-progress.turn c.take_turns.new.turn stands turns; few = omega (arith, few); room = omega (arith, kept, room) }
+
+pub returns-in_err-progress-2-clause-image : goal.returns-in_err-progress-2-clause-image
+returns-in_err-progress-2-clause-image g c = c.run_dispatch-in-loop-progress.ensures.image ∙ c.take_turns.ensures.image ∙ c.loop-progress.invariant.image
+
+pub returns-in_err-progress-2-clause-none : goal.returns-in_err-progress-2-clause-none
+returns-in_err-progress-2-clause-none g c =
+    let i = c.loop-progress.invariant in
+    let outside = refusing c.args.turn.now.refused c.args.limit in
+    let before = g.W.Sink.out c.args.out.now in
+    let mid = g.W.Sink.out c.loop-progress.out in
+    let same = ap (λ (t : Turn). t.refused) i.turn in
+    let m = c.take_turns.new.machine in
+    let turn = c.take_turns.new.turn in
+    let image = c.take_turns.ensures.image ∙ i.image in
+    let turns = subst (λ r. TakesTurns c.loop-progress.machine (refusing r c.args.limit) None c.loop-progress.turn turn m) same c.in_default-take_turns.ensures.turns in
+    let far = turned_on _ outside before mid mid c.loop-progress.machine m c.loop-progress.turn turn i.so_far i.image (ap (λ (t : Turn). t.lines) i.turn) turns in
+    let refused = ap (λ (t : Turn). t.refused) (turned_same c.loop-progress.machine m outside c.loop-progress.turn turn (i.so_far.state, i.so_far.stands) turns) ∙ same in
+    let off = c.in_err-progress-2.ensures.none in
+    let fits = c.ranges.limit.fits in
+    given_up c.from_residual-in_err-progress-2.result
+    (off.0, cut _ outside before mid _ m c.run_dispatch-in-loop-progress.new.machine turn c.run_dispatch-in-loop-progress.new.turn far image refused (omega (arith, fits)) (c.run_dispatch-in-loop-progress.ensures.image ∙ image) off.1)
+
+pub loop-progress-smaller : goal.loop-progress-smaller
+loop-progress-smaller g c =
+    let i = c.loop-progress.invariant in
+    let fits = c.ranges.limit.fits in
+    fewer_rounds (refusing c.loop-progress.turn.refused c.args.limit) (omega (arith, fits)) c.loop-progress.machine c.take_turns.new.machine c.run_dispatch-in-loop-progress.new.machine c.loop-progress.turn c.take_turns.new.turn
+    c.run_dispatch-in-loop-progress.new.turn _ _ _ (i.so_far.state, i.so_far.stands) (sym i.as_far ∙ turned_now c.loop-progress.progress i.rests c.in_default.not-Ended) c.in_default-take_turns.ensures.turns c.in_ok-progress-2.ensures.some
+
+pub loop-progress-preserved : goal.loop-progress-preserved
+loop-progress-preserved g c =
+    let i = c.loop-progress.invariant in
+    let outside = refusing c.args.turn.now.refused c.args.limit in
+    let before = g.W.Sink.out c.args.out.now in
+    let mid = g.W.Sink.out c.loop-progress.out in
+    let same = ap (λ (t : Turn). t.refused) i.turn in
+    let m = c.take_turns.new.machine in
+    let turn = c.take_turns.new.turn in
+    let image = c.take_turns.ensures.image ∙ i.image in
+    let was : Stands c.loop-progress.machine = (i.so_far.state, i.so_far.stands) in
+    let turns = subst (λ r. TakesTurns c.loop-progress.machine (refusing r c.args.limit) None c.loop-progress.turn turn m) same c.in_default-take_turns.ensures.turns in
+    let far = turned_on _ outside before mid mid c.loop-progress.machine m c.loop-progress.turn turn i.so_far i.image (ap (λ (t : Turn). t.lines) i.turn) turns in
+    let frame = turned_same c.loop-progress.machine m outside c.loop-progress.turn turn was turns in
+    let stands = turned_stands c.loop-progress.machine m outside c.loop-progress.turn turn was turns in
+    let sent = c.in_ok-progress-2.ensures.some in
+    record {
+      so_far = sent_on _ outside before mid _ m c.run_dispatch-in-loop-progress.new.machine turn c.run_dispatch-in-loop-progress.new.turn far image (ap (λ (t : Turn). t.refused) frame ∙ same) _ sent;
+      image = c.run_dispatch-in-loop-progress.ensures.image ∙ image;
+      turn = sent_turn _ _ _ _ _ _ _ stands sent ∙ ap (λ (t : Turn). record t { lines = [] }) frame ∙ ap (λ (t : Turn). record t { lines = [] }) i.turn;
+      as_far = sent_far _ _ _ _ _ _ _ stands sent;
+      rests = sent_rests _ _ _ _ _ _ _ stands sent;
+    }

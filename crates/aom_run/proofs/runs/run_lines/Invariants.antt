@@ -1,15 +1,18 @@
-use Rattle.std.proofs.Common.{◌≡◌, ◌≤◌, ◌+◌}
-use Rattle.aom_exec.specs.Steps.{rank}
-use Rattle.aom_run.proofs.Running.{SoFar}
+use Rattle.std.proofs.Common.{◌≡◌, ◌≢◌, []}
+use Rattle.aom_sound.specs.World.{refusing}
+use Rattle.aom_exec.specs.Steps.{progress}
+use Rattle.aom_exec.specs.declared.progress.Progress.TheVariants.{Running}
+use Rattle.aom_run.proofs.Running.{SoFar, rounds}
 use Rattle.aom_run.proofs.runs.run_lines.Given as goal
 
-abbrev pub invariant-loop-page : goal.invariant-loop-page
-invariant-loop-page g l = record {
-  so_far : SoFar l.fn.machine.image l.fn.turn.refused (g.W.Sink.out l.fn.out) (g.W.Sink.out l.out) l.machine;
+abbrev pub invariant-loop-progress : goal.invariant-loop-progress
+invariant-loop-progress g l = record {
+  so_far : SoFar l.fn.machine.image (refusing l.fn.turn.refused l.fn.limit) (g.W.Sink.out l.fn.out) (g.W.Sink.out l.out) l.turn.lines l.machine;
   image : l.machine.image ≡ l.fn.machine.image;
-  refused : l.turn.refused ≡ l.fn.turn.refused;
-  room : l.fn.machine.image.header.messages + 80 ≤ l.turn.room;
+  turn : l.turn ≡ record l.fn.turn { lines = [] };
+  as_far : l.progress ≡ progress l.machine;
+  rests : l.progress ≢ Running;
 }
 
-abbrev pub decreases-loop-page : goal.decreases-loop-page
-decreases-loop-page g l = rank l.machine
+abbrev pub decreases-loop-progress : goal.decreases-loop-progress
+decreases-loop-progress g l = rounds l.fn.limit l.machine

@@ -1,10 +1,12 @@
--- What a machine stands for is within what main declares.
+-- What a machine stands for is within what is declared of the dispatch.
 use Rattle.std.proofs.Common.{◌≤◌, subst}
-use Rattle.aom_exec.specs.Steps.{Machine}
+use Rattle.aom_sound.specs.State.{State}
+use Rattle.aom_steps.specs.Payers.{declared_of, payer}
+use Rattle.aom_exec.specs.Steps.{Machine, StandsFor}
 use Rattle.aom_exec.proofs.Progressing.{steps_within}
 use Rattle.aom_exec.proofs.machine.Machine.steps.Goals as goal
 
 pub returns-clause-within : goal.returns-clause-within
 returns-clause-within c =
     let m : Machine = record { image = c.self.inside.accepted.now; parts = c.self.inside.parts } in
-    rw c.steps.ensures (subst (λ (n : Machine). m.parts.rest.steps ≤ n.image.header.budget) c.self.view_is (steps_within m c.self.invariant))
+    rw c.steps.ensures (subst (λ (n : Machine). (s : State) → StandsFor n s → m.parts.rest.steps ≤ declared_of n.image (payer s.tasks)) c.self.view_is (λ s st. steps_within m s st))

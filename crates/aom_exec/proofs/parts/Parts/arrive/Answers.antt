@@ -4,9 +4,8 @@ use Rattle.std.proofs.lemmas.Int.{to_z-of_z}
 use Rattle.aom_image.specs.Views.{instr_at}
 use Rattle.aom_transcript.specs.declared.line.Line.TheVariants.{Leave}
 use Rattle.aom_frames.specs.Tasks.{Runs, method_here, place_here, below_first}
-use Rattle.aom_frames.specs.declared.task.Task.TheVariants.{Dispatched}
-use Rattle.aom_frames.specs.declared.task.Dispatch.TheVariants.{MainLeft}
 use Rattle.aom_exec.specs.Cleanup.{Unwinds, told}
+use Rattle.aom_exec.specs.Ends.{left_by}
 use Rattle.aom_exec.specs.Places.{code_here, with_tasks}
 use Rattle.aom_exec.proofs.Topping.{coded_through, ends_under}
 use Rattle.aom_exec.proofs.UnwindActs.{arrives_end, arrives_method}
@@ -42,5 +41,5 @@ returns-else-is_running c =
     let marked = rw (c.drop_task-2.ensures, c.drop_task.ensures) at c.unmark.ensures in
     let stops : Runs under → ⊥ = λ runs. false≢true (sym c.if-is_running.false ∙ c.is_running.ensures.1 (rw (c.drop_task-2.ensures, c.drop_task.ensures) runs)) in
     let ending = ends_under p (below_first m.stack.tasks) c.requires.below c.requires.trapped stops in
-    rw (c.push-else-is_running.ensures, c.drop_task-else-is_running.ensures, c.push.ensures, c.drop_task-2.ensures, c.drop_task.ensures)
-    (subst (λ w. Unwinds p m (record (with_tasks (Dispatched (MainLeft w) ∷ below_first under) m) { entries = es }) t (record t { lines = t.lines ++ Leave w ∷ [] })) (sym code) (arrives_end p m es marked t fits c.requires.unwinding c.requires.trapped ending))
+    rw (c.leave_dispatch.ensures, c.push.ensures, c.drop_task-2.ensures, c.drop_task.ensures)
+    (subst (λ w. Unwinds p m (record (with_tasks (left_by w under) m) { entries = es }) t (record t { lines = t.lines ++ Leave w ∷ [] })) (sym code) (arrives_end p m es marked t fits c.requires.unwinding c.requires.trapped ending))

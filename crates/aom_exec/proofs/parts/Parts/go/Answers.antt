@@ -6,4 +6,5 @@ returns c =
     let class = rw c.drop_task.ensures at c.release-class.ensures.class in
     let gone = rw c.drop_task.ensures at c.release-class.ensures.gone in
     let count = rw c.drop_task.ensures at c.release-class.ensures.count in
-    rw (c.resume.ensures, c.release-class.ensures.rest, c.drop_task.ensures, c.push.ensures) (go_does c.args.self.now c.release-class.new.self.cells c.args.number c.release-class.result c.args.turn.now c.requires.going class gone count)
+    let off = rw c.drop_task.ensures at c.release-class.ensures.delisted in
+    rw (c.resume.ensures, c.release-class.ensures.rest, c.drop_task.ensures, c.push.ensures) (go_does c.args.self.now c.release-class.new.self.cells c.release-class.new.self.active c.args.number c.release-class.result c.args.turn.now c.requires.going class gone count off)

@@ -1,0 +1,494 @@
+-- The parts of a turn: what the machine does between dispatches is what the checked machine does.
+use Rattle.std.proofs.Common.{ap, append-nil, arith, Bool, cond, false, length, List, None, Option, refl, Some, subst, sym, true, ℕ, ◌<◌, ◌≤◌, ◌∙◌, ◌∷◌, ◌++◌, ◌≡◌, []}
+use Rattle.std.specs.Prelude.{IfSome, IsSome, IsTrue, is_some, not, option_map}
+use Rattle.std.specs.Ordering.{int_eq}
+use Rattle.std.proofs.lemmas.Bool.{and_parts, eq-eqb, true≢false}
+use Rattle.std.proofs.lemmas.List.{nil_from_length}
+use Rattle.std.proofs.lemmas.Option.{none-some, same_Some}
+use Rattle.aom_image.specs.Image.{Image}
+use Rattle.aom_image.specs.Views.{has}
+use Rattle.aom_image.specs.declared.class.ClassKind.{ClassKind}
+use Rattle.aom_image.specs.declared.class.ClassKind.TheVariants.{Active as An_active, Server as A_server}
+use Rattle.aom_image.specs.declared.method.Role.TheVariants.{Run as Handles}
+use Rattle.aom_image.specs.declared.method.Thing.{Thing}
+use Rattle.aom_image.specs.declared.method.Thing.TheVariants.{Message, Object as An_object_of}
+use Rattle.aom_roles.specs.States.{server_states}
+use Rattle.aom_rules.specs.Requests.{is_active_kind}
+use Rattle.aom_rules.specs.Typing.{Typing}
+use Rattle.aom_shape.specs.Tables.{at}
+use Rattle.aom_cells.specs.Heap.{Heap, cell_at, class_at, class_of, null}
+use Rattle.aom_cells.specs.declared.cell.Cell.{Cell as Held_cell}
+use Rattle.aom_cleanup.specs.declared.item.Item.{Item as Held_item}
+use Rattle.aom_cleanup.specs.declared.item.Item.TheVariants.{Mark as Is_mark}
+use Rattle.aom_frames.specs.Tasks.{fresh}
+use Rattle.aom_frames.specs.declared.dispatch.Dispatch.{Dispatch as Held_dispatch}
+use Rattle.aom_frames.specs.declared.dispatch.Dispatch.TheVariants.{Object as Of_one}
+use Rattle.aom_frames.specs.declared.dispatch.Subject.{Subject}
+use Rattle.aom_frames.specs.declared.task.Task.{Task as Held_task}
+use Rattle.aom_frames.specs.declared.task.Task.TheVariants.{Dispatched as Ends, Run as Runs_frame, Trapped as Is_trap}
+use Rattle.aom_lines.specs.Turn.{Turn}
+use Rattle.aom_transcript.specs.declared.line.Ending.TheVariants.{Limit, Waiting}
+use Rattle.aom_transcript.specs.declared.line.Line.TheVariants.{Run as Run_line}
+use Rattle.aom_active.proofs.Asking.{asked_set}
+use Rattle.aom_active.proofs.Choosing as choosing
+use Rattle.aom_active.proofs.Dues.{due_first, none_due}
+use Rattle.aom_active.proofs.Telling.{standing_follows, told_enlisted, told_status}
+use Rattle.aom_active.specs.Agrees.{Active, StandsFor as Asks_for, timer_in}
+use Rattle.aom_active.specs.Meanings.{IsFirstDue, IsFirstReady, Makes, asked_anew}
+use Rattle.aom_active.specs.Meanings as meanings
+use Rattle.aom_sound.proofs.Signals.{at_rest, signals_are_ready}
+use Rattle.aom_sound.proofs.Storing.{Alike, rerequested_alike}
+use Rattle.aom_sound.proofs.Turned.{picked}
+use Rattle.aom_sound.proofs.Turning.{completed, picked_well}
+use Rattle.aom_sound.specs.Claims.{items_of}
+use Rattle.aom_sound.specs.Enlisted.{is_active, on_request, part_of, pending, status_of, taken_up, thing_kind, timed_out}
+use Rattle.aom_sound.specs.Places.{Active as Waits_for, Cell, Elsewhere, Entry, Object, Phase, Going, Place, Register, Request, Root, Timer, held, named, requested}
+use Rattle.aom_sound.specs.Requests.{Known, Suits, phase_state, states_claim}
+use Rattle.aom_sound.specs.State.{Dispatch, Dispatched, Goes, Inside, Of_object, Rest, Seat, State, Trapped}
+use Rattle.aom_sound.specs.WellTyped.{Keeps}
+use Rattle.aom_sound.specs.World.{Candidate, Cuts, IsBetween, Passes, Picks, Timed, Turning, Waits, dispatched, ends_as, first_due, first_ready, is_ready, run_line, turned, with_request}
+use Rattle.aom_steps.proofs.Pushed.{asked_same}
+use Rattle.aom_steps.proofs.Turns.{picking}
+use Rattle.aom_steps.specs.Payers as payers
+use Rattle.aom_steps.specs.Payers.{declared_of, payer, price_of}
+use Rattle.aom_exec.specs.declared.parts.Parts.{Parts}
+use Rattle.aom_exec.specs.declared.progress.Progress.TheVariants.{Turned}
+use Rattle.aom_exec.specs.Agrees.{Agrees, SameCells, SameRequests, SameTasks, Shows, seat_of, thing_in, thing_of, word_at}
+use Rattle.aom_exec.specs.Places.{going_in, register_in, value, value_in}
+use Rattle.aom_exec.specs.Progress.{progress_by}
+use Rattle.aom_exec.specs.Room.{AllRunUnder}
+use Rattle.aom_exec.specs.Steps.{KeepsWithin, Machine, Stands, StandsFor, progress}
+use Rattle.aom_exec.specs.Turns.{CanDispatch, Completed, Dispatches, Picked, TakesAll, due_at, running}
+use Rattle.aom_exec.specs.Waits.{OthersWait}
+use Rattle.aom_exec.proofs.Entries.{mark_shows_none, same_items_length}
+use Rattle.aom_exec.proofs.Finding.{class_fits}
+use Rattle.aom_exec.proofs.GoingActs.{fresh_value, fresh_word}
+use Rattle.aom_exec.proofs.Overs.{over_value, over_words}
+use Rattle.aom_exec.proofs.Progressing.{between, is_as_far}
+use Rattle.aom_exec.proofs.RoomMoves.{dispatches_with_room, none_formed}
+use Rattle.aom_exec.proofs.Standing.{begun_frame}
+use Rattle.aom_exec.proofs.Stepping.{agrees_rest, room_rest, typed_rest, within_rest}
+use Rattle.aom_exec.proofs.Values.{at_depth, going_past, none_alike, register_past}
+use Rattle.aom_exec.proofs.Asking.{cells_asked}
+
+-- ---- another request of a cell
+
+module _ (cs : List Cell) (o : Object) (f : Request → Request) where
+  alike : Alike cs (with_request f o cs)
+  alike = rerequested_alike cs (Inside o (Elsewhere Root)) (on_request f (requested cs o.name))
+
+  cells_then : (p : Image) (h : Heap) → SameCells p h cs → SameCells p h (with_request f o cs)
+  cells_then p h same = cells_asked p h cs o.name (on_request f (requested cs o.name)) same
+
+  requests_asked : (p : Image) (old new : Active) (r : Request) → named cs o.name ≡ Some o → requested cs o.name ≡ Some r → Makes old new o.name f → SameRequests p old cs → SameRequests p new (with_request f o cs)
+  requests_asked p old new r lives is makes h = record {
+    stands = standing_follows new (asked_anew o.name (Some (f r)) (requested cs)) (requested (with_request f o cs)) now (makes.stands (requested cs) r h.stands is);
+    limit = makes.limit ∙ h.limit;
+  }
+    where
+      now : (n : ℕ) → asked_anew o.name (Some (f r)) (requested cs) n ≡ requested (with_request f o cs) n
+      now n = ap (λ q. asked_anew o.name (on_request f q) (requested cs) n) (sym is) ∙ asked_set cs o.name (on_request f (requested cs o.name)) (ap is_some lives) n
+
+-- ---- nothing is at hand
+
+pub machine_between : (m : Machine) (s : State) → StandsFor m s → progress m ≡ Turned → IsBetween s
+machine_between m s st turned = between s (sym (is_as_far m s st) ∙ turned)
+
+-- a turn that writes nothing
+silent : (told : Turn) → told ≡ record told { lines = told.lines ++ [] }
+silent told = ap (λ ls. record told { lines = ls }) (sym (append-nil told.lines))
+
+-- what no place tells is another
+stands_rest : (p : Image) (m : Parts) (s : State) (r r' : Rest) → r ≡ r' → r'.steps ≡ s.rest.steps → StandsFor (record { image = p; parts = m }) s → StandsFor (record { image = p; parts = record m { rest = r } }) (record s { rest = r' })
+stands_rest p m s r r' same steps st = record {
+  typing = st.typing;
+  sound = st.sound;
+  typed = typed_rest p st.typing s r' st.typed;
+  calm = st.calm;
+  traps = st.traps;
+  room = room_rest p _ _ s r' st.room;
+  waits = st.waits;
+  within = within_rest p st.sound.prices (declared_of p (payer s.tasks)) s r' steps st.within;
+  agrees = agrees_rest p m s r r' same st.agrees;
+}
+
+-- a machine that takes a part of a turn from each state stands for one again
+pub takes_again : (old new : Machine) (part : Turning) → TakesAll old part new → Stands old → Stands new
+takes_again old new part takes st = let t = takes (record { lines = []; refused = []; room = 0 }) st.0 st.1 in (t.state, t.stands)
+
+module _ (p : Image) (m : Parts) (turned : progress_by m.rest.ended m.stack.tasks ≡ Turned) where
+  abbrev old : Machine
+  old = record { image = p; parts = m }
+
+  -- time passes
+  pub passes_time : (time : ℕ) → TakesAll old (Passes time) (record { image = p; parts = record m { rest = record m.rest { clock = time } } })
+  passes_time time told s st = record {
+    between = machine_between old s st turned;
+    state = record s { rest = record s.rest { clock = time } };
+    goes = refl;
+    lines = silent told;
+    stands = stands_rest p m s (record m.rest { clock = time }) (record s.rest { clock = time }) (ap (λ (r : Rest). record r { clock = time }) st.agrees.rest) refl st;
+  }
+
+  -- the run is over
+  pub waits_ends : TakesAll old Waits (record { image = p; parts = record m { rest = record m.rest { ended = Some Waiting } } })
+  waits_ends told s st = record {
+    between = machine_between old s st turned;
+    state = ends_as Waiting s;
+    goes = refl;
+    lines = silent told;
+    stands = stands_rest p m s (record m.rest { ended = Some Waiting }) (record s.rest { ended = Some Waiting }) (ap (λ (r : Rest). record r { ended = Some Waiting }) st.agrees.rest) refl st;
+  }
+
+  pub cut_ends : TakesAll old Cuts (record { image = p; parts = record m { rest = record m.rest { ended = Some Limit } } })
+  cut_ends told s st = record {
+    between = machine_between old s st turned;
+    state = ends_as Limit s;
+    goes = refl;
+    lines = silent told;
+    stands = stands_rest p m s (record m.rest { ended = Some Limit }) (record s.rest { ended = Some Limit }) (ap (λ (r : Rest). record r { ended = Some Limit }) st.agrees.rest) refl st;
+  }
+
+-- when the timer that is due first is due
+due_same : (o : Option Timed) → option_map (λ x. x.timer.due) o ≡ due_at o
+due_same None = refl
+due_same (Some x) = refl
+
+pub next_due_told : (m : Machine) (due : Option ℕ) → meanings.IsNextDue m.parts.active due → (s : State) → StandsFor m s → due ≡ due_at (first_due s.cells)
+next_due_told m due next s st = next s.cells st.typed.good.tidy st.agrees.requests.stands ∙ due_same (first_due s.cells)
+
+-- ---- a timer completes a request
+
+module _ (p : Image) (m : Parts) (a : Active) (turned : progress_by m.rest.ended m.stack.tasks ≡ Turned) where
+  abbrev before : Machine
+  before = record { image = p; parts = m }
+
+  abbrev after : Machine
+  after = record { image = p; parts = record m { active = a } }
+
+  module _ (s : State) (st : StandsFor before s) (o : Object) (r : Request) (lives : named s.cells o.name ≡ Some o) (is : requested s.cells o.name ≡ Some r) (makes : Makes m.active a o.name timed_out) where
+    abbrev timed : State
+    timed = record s { cells = with_request timed_out o s.cells }
+
+    timed_agrees : Agrees p (record m { active = a }) timed
+    timed_agrees = record {
+      tasks = st.agrees.tasks;
+      values = λ q. subst (λ h. Shows (value m q) (word_at s.tasks q) h) (sym ((alike s.cells o timed_out).held_so q)) (st.agrees.values q);
+      cells = cells_then s.cells o timed_out p m.cells st.agrees.cells;
+      entries = st.agrees.entries;
+      requests = requests_asked s.cells o timed_out p m.active a r lives is makes st.agrees.requests;
+      rest = st.agrees.rest;
+      room = st.agrees.room;
+      entry_room = st.agrees.entry_room;
+    }
+
+    timed_stands : StandsFor after timed
+    timed_stands =
+        let idle = (machine_between before s st turned).idle in
+        let cs = with_request timed_out o s.cells in
+        record {
+          typing = st.typing;
+          sound = st.sound;
+          typed = completed p st.typing s st.typed idle o;
+          calm = st.calm;
+          traps = st.traps;
+          room = record { under = st.room.under; runs = subst (λ ts. AllRunUnder p (at 0 st.sound.depths.depths) cs s.items ts) (sym idle) tt; fit = st.room.fit; entries = st.room.entries };
+          waits = subst (λ ts. OthersWait p st.typing cs ts) (sym idle) tt;
+          within = record { within = omega (arith, st.within.within, asked_same st.sound.prices o.name (on_request timed_out (requested s.cells o.name)) s.cells) };
+          agrees = timed_agrees;
+        }
+
+  timer_completes : (id : ℕ) → Makes m.active a id timed_out → ((asked : ℕ → Option Request) → Asks_for m.active asked → IsFirstDue m.rest.clock id asked) → Completed before true after
+  timer_completes id makes first told s st =
+      let f = first (requested s.cells) st.agrees.requests.stands in
+      let d = due_first s.cells m.rest.clock id st.typed.good.tidy f in
+      let r = has_timer (requested s.cells id) f.timer f.runs in
+      let o = d.0.object in
+      let same : o.name ≡ id = d.2 in
+      let lives : named s.cells o.name ≡ Some o = ap (named s.cells) same ∙ d.3 in
+      let is : requested s.cells o.name ≡ Some r.0 = ap (requested s.cells) same ∙ r.1 in
+      let made = subst (λ n. Makes m.active a n timed_out) (sym same) makes in (
+        d.0,
+        d.1,
+        omega (arith, d.4, ap (λ (r : Rest). r.clock) st.agrees.rest),
+        record {
+          between = machine_between before s st turned;
+          state = timed s st o r.0 lives is made;
+          goes = refl;
+          lines = silent told;
+          stands = timed_stands s st o r.0 lives is made;
+        },
+      )
+    where
+      has_timer : (q : Option Request) (t : Timer) → timer_in q ≡ Some t → (r : Request) × (q ≡ Some r)
+      has_timer None t e = absurd (none-some _ e)
+      has_timer (Some r) t e = (r, refl)
+
+  nothing_due : a ≡ m.active → ((asked : ℕ → Option Request) → Asks_for m.active asked → meanings.NoneDue m.rest.clock asked) → Completed before false after
+  nothing_due same none = (
+    ap (λ x. record { image = p; parts = record m { active = x } }) same,
+    λ s st x e.
+        let now = none_due s.cells m.rest.clock st.typed.good.tidy (none (requested s.cells) st.agrees.requests.stands) x e in
+        subst (λ n. n < x.timer.due) (ap (λ (r : Rest). r.clock) st.agrees.rest) now,
+  )
+
+  pub due_completes : (due : Option ℕ) → meanings.Completes m.rest.clock m.active a due → Completed before (is_some due) after
+  due_completes None c = nothing_due c.0 c.1
+  due_completes (Some id) c = timer_completes id c.0 c.1
+
+-- and stands for a state again
+pub completed_again : (first last : Machine) (b : Bool) → Completed first b last → Stands first → Stands last
+completed_again first last true c st = let t = (c (record { lines = []; refused = []; room = 0 }) st.0 st.1).3 in (t.state, t.stands)
+completed_again first last false c st = subst (λ m. Stands m) (sym c.0) st
+
+-- ---- an object is dispatched
+
+-- its class is one of active objects
+ready_active : (k : Option ClassKind) (n : Known) (r : Request) → is_ready r ≡ true → Suits k n (Some r) → is_active_kind k ≡ true
+ready_active (Some (An_active v b)) n r e s = refl
+ready_active (Some (A_server most x b)) n r e s = absurd (go r.phase (and_parts (is_active r.phase) (not (int_eq r.status pending)) e).0 s.1)
+  where
+    go : (q : Phase) → is_active q ≡ true → IsTrue (has server_states (phase_state q)) → ⊥
+    go Waits_for e h = cc
+    go _ e h = cc
+ready_active _ n r e s = cc
+
+class_told : (t : Thing) (class : ℕ) (c : Option Held_cell) → class_of c ≡ Some class → thing_in c ≡ Some t → t ≡ An_object_of class
+class_told t class None e f = cc
+class_told t class (Some c) e f = sym (same_Some _ _ f) ∙ ap An_object_of (same_Some _ _ e)
+
+-- its method that handles the signal is there, since the checked machine goes on with it
+has_method : (p : Image) (t : Typing) (x : Seat) (s : State) (o : Option ℕ) → Keeps p t (dispatched o x s) → IsSome o
+has_method p t x s None k = absurd k
+has_method p t x s (Some m) k = refl
+
+has_class : (p : Image) (t : Thing) → IsSome (part_of p Handles t) → (class : ℕ) × (t ≡ An_object_of class)
+has_class p (An_object_of class) some = (class, refl)
+has_class p Message some = cc
+
+-- the request of the object, once it is another
+here : (n : ℕ) (q : Option Request) (asked : ℕ → Option Request) → asked_anew n q asked n ≡ q
+here n q asked = ap (λ b. cond b q (asked n)) (eq-eqb n n refl)
+
+-- the line of a dispatch, as the machine writes it
+dispatch_line : (s : State) (o : Object) (class : ℕ) → o.thing ≡ An_object_of class → run_line s o ≡ Run_line s.rest.clock class (status_of (requested s.cells o.name)) ∷ []
+dispatch_line s o class e = ap (λ (t : Thing). run_line s (record o { thing = t })) e
+
+-- no task of a dispatch that begins shows anything, and nor does its mark
+begun_value : (d : Held_dispatch) (us : List Held_task) (h : Heap) (es : List Held_item) (root : ℕ) (q : Place) → value_in (Ends d ∷ us) h (Is_mark ∷ es) root q ≡ value_in us h es root q
+begun_value d us h es root (Register k i) = at_depth (length us) k null (register_in us k i) (λ e. register_past us k i (omega arith))
+begun_value d us h es root (Going k) = at_depth (length us) k null (going_in us k) (λ e. going_past us k (omega arith))
+begun_value d us h es root (Entry k) = mark_shows_none es k
+begun_value d us h es root _ = refl
+
+no_word : (d : Dispatch) (q : Place) → word_at (Dispatched d ∷ []) q ≡ word_at [] q
+no_word d (Register k i) = at_depth 0 k None None (λ e. refl)
+no_word d _ = refl
+
+module _ (p : Image) (m : Parts) (s : State) (st : StandsFor (record { image = p; parts = m }) s) (idle : s.tasks ≡ []) where
+  -- nothing is on the cleanup stack
+  none_pushed : s.items ≡ []
+  none_pushed = none_formed s.items (st.typed.items ∙ ap items_of (at_rest p st.typing s st.typed idle))
+
+  none_marked : m.entries.items ≡ []
+  none_marked = nil_from_length m.entries.items (same_items_length m.entries.items s.items st.agrees.entries ∙ ap length none_pushed)
+
+  none_running : m.stack.tasks ≡ []
+  none_running = none_alike m.stack.tasks s.tasks st.agrees.tasks idle
+
+  -- the object that is picked, as the checked machine finds it
+  record Pick (id : ℕ) : Type 0 where
+    candidate : Candidate
+    first : first_ready s.cells ≡ Some candidate
+    name : candidate.seat.object.name ≡ id
+    lives : named s.cells id ≡ Some candidate.seat.object
+    holds : held s.cells candidate.seat.place ≡ Some candidate.seat.object
+    asked : requested s.cells id ≡ Some candidate.request
+    ready : is_ready candidate.request ≡ true
+    keeps : Keeps p st.typing (dispatched (part_of p Handles candidate.seat.object.thing) candidate.seat s)
+
+  pick_of : (id : ℕ) → IsFirstReady id (requested s.cells) → Pick id
+  pick_of id f =
+      let x = choosing.picked s.cells id st.typed.good.tidy f in
+      record {
+        candidate = x.0;
+        first = x.1;
+        name = x.2;
+        lives = x.3;
+        holds = x.4;
+        asked = x.5;
+        ready = subst (λ r. is_ready r ≡ true) (same_Some _ _ (sym f.stands ∙ x.5)) f.ready;
+        keeps = picked_well p st.typing s st.typed idle st.sound.wired st.sound.typed x.0 x.1;
+      }
+
+  module _ (id : ℕ) (k : Pick id) where
+    abbrev object : Object
+    object = k.candidate.seat.object
+
+    its_thing : thing_in (cell_at m.cells id) ≡ Some object.thing
+    its_thing = st.agrees.cells.things id ∙ ap thing_of k.lives
+
+    its_method : IsSome (part_of p Handles object.thing)
+    its_method = has_method p st.typing k.candidate.seat s (part_of p Handles object.thing) k.keeps
+
+    -- what the machine needs to know of it
+    can_dispatch : (a : Active) → Makes m.active a id taken_up → CanDispatch p (record m { active = a }) id
+    can_dispatch a makes = record {
+      class = class.0;
+      is = is;
+      small = subst (λ o. IfSome o (λ c. c < 256)) is (class_fits p m s st.agrees id);
+      handled = subst (λ t. IsSome (part_of p Handles t)) class.1 its_method;
+      enlisted = told_enlisted a _ (makes.stands (requested s.cells) k.candidate.request st.agrees.requests.stands k.asked) id ∙ ap is_some (here id (Some (taken_up k.candidate.request)) (requested s.cells));
+      idle = none_running;
+      bare = none_marked;
+      room = st.agrees.room;
+    }
+      where
+        class : (c : ℕ) × (object.thing ≡ An_object_of c)
+        class = has_class p object.thing its_method
+
+        class_in : (o : Option Held_cell) → thing_in o ≡ Some (An_object_of class.0) → class_of o ≡ Some class.0
+        class_in None e = cc
+        class_in (Some c) e = ap payers.class_of (same_Some _ _ e)
+
+        is : class_at m.cells id ≡ Some class.0
+        is = class_in (cell_at m.cells id) (its_thing ∙ ap Some class.1)
+
+    -- the dispatch that the machine begins is that of the checked machine
+    module _ (a : Active) (told now : Turn) (new : Parts) (makes : Makes m.active a id taken_up) (d : Dispatches p id (record m { active = a }) told now new) where
+      abbrev then : State
+      then = picked d.method k.candidate.seat s
+
+      name : id ≡ object.name
+      name = sym k.name
+
+      thing : object.thing ≡ An_object_of d.class
+      thing = class_told object.thing d.class (cell_at m.cells id) d.is its_thing
+
+      method : part_of p Handles object.thing ≡ Some d.method
+      method = ap (part_of p Handles) thing ∙ d.handles
+
+      goes : turned p s (Picks k.candidate.seat) ≡ Goes then
+      goes = ap (λ h. dispatched h k.candidate.seat s) method
+
+      lives : named s.cells object.name ≡ Some object
+      lives = ap (named s.cells) k.name ∙ k.lives
+
+      asked : requested s.cells object.name ≡ Some k.candidate.request
+      asked = ap (requested s.cells) k.name ∙ k.asked
+
+      made : Makes m.active a object.name taken_up
+      made = subst (λ n. Makes m.active a n taken_up) name makes
+
+      dispatch_agrees : Agrees p (running d.method d.class id (record m { active = a })) then
+      dispatch_agrees = record {
+        tasks = (begun_frame d.method id (Inside object k.candidate.seat.place) (length then.items) name, (tt, ((k.candidate.seat.place, seat), subst (λ us. SameTasks us []) (sym none_running) tt)));
+        values = values;
+        cells = cells_then s.cells object taken_up p m.cells st.agrees.cells;
+        entries = (tt, st.agrees.entries);
+        requests = requests_asked s.cells object taken_up p m.active a k.candidate.request lives asked made st.agrees.requests;
+        rest = ap (λ (r : Rest). record r { steps = 0 }) st.agrees.rest;
+        room = st.agrees.room;
+        entry_room = st.agrees.entry_room;
+      }
+        where
+          subject : Subject
+          subject = record { number = id; class = d.class }
+
+          seat : Of_object (seat_of k.candidate.seat.place subject) ≡ Of_object k.candidate.seat
+          seat =
+              ap (λ n. Of_object (record { object = record { name = n; thing = An_object_of d.class }; place = k.candidate.seat.place })) name
+              ∙ ap (λ t. Of_object (record { object = record { name = object.name; thing = t }; place = k.candidate.seat.place })) (sym thing)
+
+          dispatch : List Held_task
+          dispatch = Ends (Of_one subject) ∷ m.stack.tasks
+
+          shown : (q : Place) → value_in (Runs_frame (fresh d.method id) ∷ Is_trap ∷ dispatch) m.cells (Is_mark ∷ m.entries.items) m.root q ≡ value m q
+          shown q =
+              fresh_value d.method id (Is_trap ∷ dispatch) m.cells (Is_mark ∷ m.entries.items) m.root q ∙ over_value true dispatch m.cells (Is_mark ∷ m.entries.items) m.root q
+              ∙ begun_value (Of_one subject) m.stack.tasks m.cells m.entries.items m.root q
+
+          worded : (q : Place) → word_at then.tasks q ≡ word_at s.tasks q
+          worded q =
+              fresh_word d.method (Inside object k.candidate.seat.place) (length then.items) (Trapped ∷ Dispatched (Of_object k.candidate.seat) ∷ []) q
+              ∙ over_words true (Dispatched (Of_object k.candidate.seat) ∷ []) q ∙ no_word (Of_object k.candidate.seat) q ∙ ap (λ ts. word_at ts q) (sym idle)
+
+          values : (q : Place) → Shows (value_in (Runs_frame (fresh d.method id) ∷ Is_trap ∷ dispatch) m.cells (Is_mark ∷ m.entries.items) m.root q) (word_at then.tasks q) (held then.cells q)
+          values q =
+              subst (λ n. Shows n (word_at then.tasks q) (held then.cells q)) (sym (shown q))
+              (subst (λ w. Shows (value m q) w (held then.cells q)) (sym (worded q))
+              (subst (λ h. Shows (value m q) (word_at s.tasks q) h) (sym ((alike s.cells object taken_up).held_so q)) (st.agrees.values q)))
+
+      -- it costs no more than its class declares
+      dispatch_within : KeepsWithin p st.sound.prices then
+      dispatch_within = record { within = omega (arith, picking p st.typing st.sound.prices s st.typed idle (Picks k.candidate.seat) refl then goes, affords) }
+        where
+          active : is_active_kind (thing_kind p object.thing) ≡ true
+          active = ready_active (thing_kind p object.thing) (states_claim p object st.typed.layers) k.candidate.request k.ready
+              (subst (λ r. Suits (thing_kind p object.thing) (states_claim p object st.typed.layers) r) asked (st.typed.good.suits object lives))
+
+          affords : price_of p st.sound.prices (payers.class_of object.thing) ≤ declared_of p (payers.class_of object.thing)
+          affords = subst (λ t. price_of p st.sound.prices (payers.class_of t) ≤ declared_of p (payers.class_of t)) (sym thing) (st.sound.objects.each d.class (subst (λ t. is_active_kind (thing_kind p t) ≡ true) thing active))
+
+      dispatch_stands : StandsFor (record { image = p; parts = running d.method d.class id (record m { active = a }) }) then
+      dispatch_stands = record {
+        typing = st.typing;
+        sound = st.sound;
+        typed = subst (λ h. Keeps p st.typing (dispatched h k.candidate.seat s)) method k.keeps;
+        calm = (λ clearing. absurd (true≢false (sym clearing)), (refl, tt));
+        traps = (tt, (tt, tt));
+        room = dispatches_with_room p (at 0 st.sound.depths.depths) st.sound.heights then.cells d.method (Inside object k.candidate.seat.place) (Of_object k.candidate.seat) s.items then.rest none_pushed;
+        waits = tt;
+        within = dispatch_within;
+        agrees = dispatch_agrees;
+      }
+
+      same_status : d.status ≡ status_of (requested s.cells object.name)
+      same_status =
+          same_Some _ _ (sym d.completed ∙ told_status a _ (makes.stands (requested s.cells) k.candidate.request st.agrees.requests.stands k.asked) id (taken_up k.candidate.request) (here id (Some (taken_up k.candidate.request)) (requested s.cells)))
+          ∙ sym (ap status_of asked)
+
+      same_line : Run_line m.rest.clock d.class d.status ∷ [] ≡ run_line s object
+      same_line =
+          ap (λ t. Run_line t d.class d.status ∷ []) (ap (λ (r : Rest). r.clock) st.agrees.rest) ∙ ap (λ v. Run_line s.rest.clock d.class v ∷ []) same_status ∙ sym (dispatch_line s object d.class thing)
+
+module _ (p : Image) (m : Parts) (turned : progress_by m.rest.ended m.stack.tasks ≡ Turned) where
+  abbrev was : Machine
+  was = record { image = p; parts = m }
+
+  -- what the machine needs to know of the object that it picks
+  pub picks_can : (a : Active) (id : ℕ) → Stands was → meanings.Picks m.active a (Some id) → CanDispatch p (record m { active = a }) id
+  picks_can a id (s, st) c =
+      let idle = (machine_between was s st turned).idle in
+      can_dispatch p m s st idle id (pick_of p m s st idle id (c.1 (requested s.cells) st.agrees.requests.stands)) a c.0
+
+  pub picks_one : (a : Active) (id : ℕ) (told now : Turn) (new : Parts) → meanings.Picks m.active a (Some id) → Dispatches p id (record m { active = a }) told now new → Picked was true told now (record { image = p; parts = new })
+  picks_one a id told now new c d s st =
+      let idle = (machine_between was s st turned).idle in
+      let k = pick_of p m s st idle id (c.1 (requested s.cells) st.agrees.requests.stands) in (
+        k.candidate,
+        k.first,
+        (signals_are_ready p st.typing s st.typed idle).1 ∙ ap is_some k.first,
+        record {
+          between = machine_between was s st turned;
+          state = then p m s st idle id k a told now new c.0 d;
+          goes = goes p m s st idle id k a told now new c.0 d;
+          lines = d.lines ∙ ap (λ ls. record told { lines = told.lines ++ ls }) (same_line p m s st idle id k a told now new c.0 d);
+          stands = subst (λ x. StandsFor (record { image = p; parts = x }) (then p m s st idle id k a told now new c.0 d)) (sym d.runs) (dispatch_stands p m s st idle id k a told now new c.0 d);
+        },
+      )
+
+  pub picks_none : (a : Active) (told : Turn) (o : Option ℕ) → ((id : ℕ) → o ≡ Some id → ⊥) → meanings.Picks m.active a o → Picked was false told told (record { image = p; parts = record m { active = a } })
+  picks_none a told (Some id) not c = absurd (not id refl)
+  picks_none a told None not c = (
+    ap (λ x. record { image = p; parts = record m { active = x } }) c.0,
+    refl,
+    λ s st.
+        let idle = (machine_between was s st turned).idle in
+        (signals_are_ready p st.typing s st.typed idle).1 ∙ ap is_some (choosing.none_picked s.cells st.typed.good.tidy (c.1 (requested s.cells) st.agrees.requests.stands)),
+  )
+
+-- and the machine stands for a state again
+pub picked_again : (first last : Machine) (b : Bool) (told now : Turn) → Picked first b told now last → Stands first → Stands last
+picked_again first last true told now c st = let t = (c st.0 st.1).3 in (t.state, t.stands)
+picked_again first last false told now c st = subst (λ m. Stands m) (sym c.0) st

@@ -1,0 +1,81 @@
+//! A dispatch, from where it begins until nothing is at hand, and its lines.
+ghost use Rattle.std.specs.Prelude.{ℕ, true, false, ◌≡◌, ◌<◌, ◌≤◌, length, take, IfNone, IfSome};
+ghost use Rattle.aom_transcript.specs.Text.{text_of};
+ghost use Rattle.aom_run.specs.Runs.{CutOff, Filled, Sent, after};
+ghost use Rattle.aom_exec.specs.Steps.{Stands, rank};
+
+use crate::{Sink, write_text};
+use aom_exec::{Machine, Progress};
+use aom_lines::Turn;
+use aom_transcript::{Line, Page};
+
+/// How many lines the machine writes, at least, before they are sent out. A turn has room for them and for one call more.
+const MANY_LINES: usize = 64;
+
+/// Runs what is at hand until nothing is, and writes its lines after those of the turn, or gives up where the sink fails.
+pub fn run_dispatch<W: Sink>(
+    machine: &mut Machine,
+    turn: &mut Turn,
+    page: &mut Page,
+    out: &mut W,
+) -> Option<Progress>
+    requires stands { Stands machine.old }
+    requires few { length turn.old.lines < 64 }
+    requires room { 80 ≤ turn.old.room }
+    ensures image { machine.new.image ≡ machine.old.image }
+    ensures none { IfNone result ((W.failed out.new ≡ true) × CutOff machine.old turn.old (W.out out.old) (W.out out.new) machine.new) }
+    ensures some { IfSome result (λ progress. Sent machine.old progress turn.old turn.new (W.out out.old) (W.out out.new) machine.new) }
+{
+    loop {
+        let progress = fill(machine, turn);
+        write_lines(out, page, turn.lines());
+        if out.has_failed() {
+            return None;
+        }
+        turn.clear();
+        match progress {
+            Progress::Running => {}
+            other => return Some(other),
+        }
+    }
+}
+
+/// Steps on until the turn has many lines or nothing is at hand.
+fn fill(machine: &mut Machine, turn: &mut Turn) -> Progress
+    requires stands { Stands machine.old }
+    requires few { length turn.old.lines < 64 }
+    requires room { 80 ≤ turn.old.room }
+    ensures image { machine.new.image ≡ machine.old.image }
+    ensures steps { Filled machine.old result turn.old turn.new machine.new }
+    ensures falls { result ≡ Progress.Running → rank machine.new < rank machine.old }
+{
+    loop {
+        let progress = machine.step_on(turn);
+        if turn.lines().len() >= MANY_LINES {
+            return progress;
+        }
+        match progress {
+            Progress::Running => {}
+            other => return other,
+        }
+    }
+}
+
+/// Writes lines out, as many at once as the page has room for, and stops where the sink fails.
+fn write_lines<W: Sink>(out: &mut W, page: &mut Page, lines: &[Line])
+    ensures prefix { (n : ℕ) × (W.out out.new ≡ after (W.out out.old) (take n (text_of lines.now))) }
+    ensures whole { W.failed out.new ≡ false → W.out out.new ≡ after (W.out out.old) (text_of lines.now) }
+{
+    page.clear();
+    for line in lines {
+        if !page.has_room() {
+            write_text(out, page.as_bytes());
+            if out.has_failed() {
+                return;
+            }
+            page.clear();
+        }
+        page.add_line(line);
+    }
+    write_text(out, page.as_bytes());
+}
