@@ -26,10 +26,11 @@ fn goes_on_far(
     Ok(machine.step_on(&mut turn) == Progress::Running)
 }
 
-/// How many single steps a run takes to its end, where it tells as many.
+/// How many single steps a run that stops takes to its end, where it tells as many. The end of the stopped dispatch is one
+/// more, which counts as none.
 fn single_steps(alloc: Global, accepted: &Accepted) -> Option<u64> {
     let mut machine = Machine::boot(alloc, accepted).ok()?;
-    for count in 1..3000 {
+    for count in 0..3000 {
         if !goes_on(alloc, accepted, &mut machine).ok()? {
             return (machine.steps() == count).then_some(count);
         }

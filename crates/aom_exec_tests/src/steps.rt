@@ -90,20 +90,21 @@ fn walks(
     }
 }
 
-/// Two objects are wanted. What is printed tells whether the second was had.
+/// Two objects are wanted. What is printed tells whether the second was had. The end of a dispatch that ran `stop` is a step
+/// of its own, the last here.
 const TWO_OBJECTS: &str = "image cells 1 budget 12;class C plain
 method main main;new r0 C;new r1 C;const r2 1;jnull r1 L;const r2 2
 L: print r2;delete r0;delete r1;stop;ret;end";
 
 #[test]
 fn a_full_heap_refuses_the_second_object(rt: HostRuntime) -> Result<(), Fail> {
-    let trace = "@0 main\n1 1 1 1 out 1\n1 1 gone 0\n0 0 0 0 ";
+    let trace = "@0 main\n1 1 1 1 out 1\n1 1 gone 0\n0 0 0 0 0 ";
     walks(&rt, rt.alloc(), TWO_OBJECTS, 0, trace, Ending::Stopped)
 }
 
 #[test]
 fn the_first_request_is_refused_by_its_number(rt: HostRuntime) -> Result<(), Fail> {
-    let trace = "@0 main\n0 1 1 1 1 out 2\n1 1 1 gone 0\n0 0 0 ";
+    let trace = "@0 main\n0 1 1 1 1 out 2\n1 1 1 gone 0\n0 0 0 0 ";
     walks(&rt, rt.alloc(), TWO_OBJECTS, 1, trace, Ending::Stopped)
 }
 
@@ -113,7 +114,7 @@ fn the_root_is_put_taken_and_moved(rt: HostRuntime) -> Result<(), Fail> {
 method main main;new r0 C;jnull r0 E;put f0 r0;jempty f0 E;take r1 f0;jempty f0 L
 L: move r0 r1;put f0 r0
 E: stop;ret;end";
-    let trace = "@0 main\n1 1 1 1 1 1 1 1 1 1 gone 0\n0 ";
+    let trace = "@0 main\n1 1 1 1 1 1 1 1 1 1 1 gone 0\n0 ";
     walks(&rt, rt.alloc(), text, 0, trace, Ending::Stopped)
 }
 

@@ -1,10 +1,17 @@
 -- Lines of runs with one more refusal, one after the other.
-use Rattle.std.proofs.Common.{◌≡◌, ℕ, suc, ◌+◌, false, List, [], ◌++◌, length, take, refl, sym, ap, ◌∙◌, arith}
+use Rattle.std.proofs.Common.{◌≡◌, ℕ, suc, ◌+◌, Bool, false, List, [], ◌++◌, Option, length, take, refl, sym, ap, subst, ◌∙◌, arith}
 use Rattle.aom_image.specs.Image.{Image}
-use Rattle.aom_run.specs.Runs.{after}
+use Rattle.aom_sound.specs.State.{State}
+use Rattle.aom_sound.specs.World.{Outside, Run_of}
+use Rattle.aom_transcript.specs.declared.line.Ending.{Ending}
+use Rattle.aom_transcript.specs.declared.line.Ending.TheVariants as endings
+use Rattle.aom_exec.specs.Steps.{Machine, StandsFor}
+use Rattle.aom_run.specs.Outcomes.{outcome_of}
+use Rattle.aom_run.specs.Runs.{Ran, Told, after}
+use Rattle.aom_run.specs.declared.outcome.Outcome.{Outcome}
 use Rattle.aom_run.specs.Script.{Script}
 use Rattle.aom_run.proofs.Sending.{after_both, after_none, cut_next}
-use Rattle.aom_main.specs.Explored.{Begun, Tried}
+use Rattle.aom_main.specs.Explored.{Begun, IsLast, Tried}
 use Rattle.aom_main.specs.Headline.{Says, Sent}
 
 -- all numbers below that one were tried
@@ -59,3 +66,27 @@ unwritten p script limit first number mid sent far before now failed =
         };
       },
     )
+
+-- ---- a run whose lines go nowhere
+
+told_of : (m new : Machine) (outside : Outside) (ending : Ending) (failed : Bool) (before now : Option (List ℕ)) → Ran m outside (outcome_of ending) failed before now new → Told m.image outside ending before now new
+told_of m new outside endings.Stopped failed before now ran = ran
+told_of m new outside endings.Waiting failed before now ran = ran
+told_of m new outside (endings.MainLeft code) failed before now ran = ran
+told_of m new outside endings.Limit failed before now ran = ran
+told_of m new outside (endings.Error answer) failed before now ran = ran
+
+-- how it ended, with how many cells and after how many requests, the machine tells
+pub last_so : (p : Image) (m new : Machine) (outside : Outside) (outcome : Outcome) (ending : Ending) (failed : Bool) (before now : Option (List ℕ)) (cells requests : ℕ)
+    → m.image ≡ p → outcome ≡ outcome_of ending → Ran m outside outcome failed before now new
+    → ((s : State) → StandsFor new s → (cells ≡ length s.cells) × (requests ≡ s.rest.requests))
+    → IsLast p outside (record { ending = ending; cells = cells; requests = requests })
+last_so p m new outside outcome ending failed before now cells requests image is ran tells =
+    let told = told_of m new outside ending failed before now (subst (λ o. Ran m outside o failed before now new) is ran) in
+    record {
+      lines = told.lines;
+      state = told.state;
+      run = subst (λ q. Run_of q outside told.lines told.state ending) image told.run;
+      cells = (tells told.state told.stands).0;
+      requests = (tells told.state told.stands).1;
+    }
