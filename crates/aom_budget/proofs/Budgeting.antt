@@ -1,35 +1,37 @@
--- What was found of main's dispatch is its price, and an image whose dispatches cost more than is declared of them is none that keeps its budgets.
-use Rattle.std.proofs.Common.{◌≡◌, ◌∙◌, ◌<◌, ◌≤◌, ◌+◌, ℕ, true, List, [], Option, Some, None, IsSome, IsTrue, refl, sym, arith}
+-- What was found of each dispatch is its price, and an image whose dispatches cost more than is declared of them is none that keeps its budgets.
+use Rattle.std.proofs.Common.{◌≡◌, ◌∙◌, ◌<◌, ◌≤◌, ◌+◌, ⊎_elim, inl, inr, ap, ap₂, ℕ, List, [], length, Option, Some, None, IsSome, refl, sym, subst, arith}
 use Rattle.aom_image.proofs.Given.{some_given}
-use Rattle.std.specs.Prelude.{IfSome, min, slice_get}
-use Rattle.std.specs.List.{list_all}
-use Rattle.std.proofs.lemmas.Option.{slice_get_within, same_Some}
+use Rattle.std.specs.Prelude.{min, slice_get}
+use Rattle.std.proofs.lemmas.Bool.Decides.{eqb_tells}
+use Rattle.std.proofs.lemmas.Option.{slice_get_cases, slice_get_within, same_Some}
 use Rattle.aom_image.specs.Image.{Image}
 use Rattle.aom_image.specs.Views.{class_at, method_at}
+use Rattle.aom_image.specs.WellFormed.{ClassFits, KindFits, WellFormed}
 use Rattle.aom_image.specs.declared.class.ClassDecl.{ClassDecl}
 use Rattle.aom_image.specs.declared.class.ClassKind.{ClassKind}
-use Rattle.aom_image.specs.declared.class.ClassKind.TheVariants.{Plain}
+use Rattle.aom_image.specs.declared.class.ClassKind.TheVariants.{Plain, Active, Server, Session}
+use Rattle.aom_image.specs.declared.method.Role.{Role}
+use Rattle.aom_image.specs.declared.method.Role.TheVariants.{Run, Error, Accept, Service}
 use Rattle.aom_image.specs.declared.method.Thing.{Thing}
 use Rattle.aom_image.specs.declared.method.Thing.TheVariants.{Object}
-use Rattle.aom_classes.specs.Admitted.{IsAdmitted, admits_class, admits_thing, is_plain}
 use Rattle.aom_classes.specs.Linked.{IsLinked}
-use Rattle.aom_classes.specs.Roles.{destructor_of, is_main, main_of}
-use Rattle.aom_classes.proofs.Each.{both}
-use Rattle.aom_classes.proofs.Playing.{found}
+use Rattle.aom_classes.specs.Roles.{destructor_of, main_of, role_of}
+use Rattle.aom_classes.proofs.Facts.{all_there}
+use Rattle.aom_classes.proofs.Playing.{main_found as main_method, role_found as role_method}
 use Rattle.aom_shape.specs.Tables.{at}
 use Rattle.aom_rules.specs.Typing.{Typing}
 use Rattle.aom_verify.specs.Strongest.{IsStrongest}
 use Rattle.aom_prices.specs.Costs.{ArePrices, destructor_price}
-use Rattle.aom_prices.specs.Dispatches.{IsAffordable, main_price, root_price}
+use Rattle.aom_prices.specs.Dispatches.{IsAffordable, main_price, method_price, root_price}
 use Rattle.aom_prices.specs.Layers.{SayTheSame}
 use Rattle.aom_prices.specs.Prices.{Prices, price}
 use Rattle.aom_prices.proofs.Alike.{IsCovered, prices_alike}
 use Rattle.aom_prices.proofs.Methods.{destructor_within, method_is_some}
 use Rattle.aom_prices.proofs.Unique.{law_one}
-use Rattle.aom_budget.specs.Budgets.{BudgetsWithin, IsBefore, IsOver, class_declares, declared_by, kind_declares, payer_price}
+use Rattle.aom_budget.specs.Budgets.{BudgetsWithin, CostsWithin, IsBefore, IsOver, class_declares, class_price, declared_by, kind_declares, kind_price, payer_price, role_price}
 use Rattle.aom_budget.specs.Depths.{DepthsWithin}
 use Rattle.aom_budget.specs.Faults.{Refuses}
-use Rattle.aom_budget.specs.Figures.{main_by, root_by}
+use Rattle.aom_budget.specs.Figures.{ClassesWithin, IsWithin, TellsFirst, TellsOver, class_by, kind_by, main_by, payer_by, role_by, root_by}
 use Rattle.aom_budget.specs.Heights.{HeightsWithin}
 use Rattle.aom_budget.specs.Pricing.{ArePriced, destruction_by, price_by}
 use Rattle.aom_budget.specs.declared.fault.BudgetFault.{BudgetFault}
@@ -38,10 +40,12 @@ use Rattle.aom_budget.specs.declared.fault.Payer.{Payer}
 use Rattle.aom_budget.specs.declared.fault.Payer.TheVariants.{Main, Class}
 use Rattle.aom_budget.proofs.Priced.{method_there, pays_before}
 
--- main is a method
+-- main, and what plays a role in a class, are methods
 main_there : (p : Image) (m : ℕ) → main_of p ≡ Some m → IsSome (method_at p m)
-unfolding main_of
-main_there p m e = let w = found is_main p.methods m e in method_is_some p m (slice_get_within p.methods m w.0 w.1)
+main_there p m e = let d = main_method p m e in rw d.1 refl
+
+role_there : (p : Image) (k m : ℕ) (role : Role) → role_of p k role ≡ Some m → IsSome (method_at p m)
+role_there p k m role e = let d = role_method p k m role e in rw d.1 refl
 
 some_main : (p : Image) → IsLinked p → (m : ℕ) × (main_of p ≡ Some m)
 some_main p linked = some_given (λ o. IsSome o) (main_of p) linked.main (λ some. cc) (λ m e some. (m, e))
@@ -65,12 +69,34 @@ module _ (p : Image) (linked : IsLinked p) (t d : Typing) (one : IsStrongest p t
   same : SayTheSame p c e
   same = law_one p d c e (pays_before p d linked other) (prices_alike p t d c one.typed other.typed (covered p t d one other) (covered p d t other one) are) also
 
+  same_role : (k : ℕ) (role : Role) → role_price p c k role ≡ role_price p e k role
+  same_role k role = go (role_of p k role) refl
+    where
+      go : (o : Option ℕ) → role_of p k role ≡ o → destructor_price c o ≡ destructor_price e o
+      go None is = refl
+      go (Some m) is = same.methods m (role_there p k m role is)
+
+  same_kind : (k : ℕ) (kind : ClassKind) → kind_price p c k kind ≡ kind_price p e k kind
+  same_kind k Plain = refl
+  same_kind k (Active provider budget) = rw (same_role k Run, same_role k Error) refl
+  same_kind k (Server sessions session budget) = rw (same_role k Accept, same_role session Service, same.classes (Object session)) refl
+  same_kind k Session = refl
+
+  same_class : (k : ℕ) (class : Option ClassDecl) → class_price p c k class ≡ class_price p e k class
+  same_class k None = refl
+  same_class k (Some d) = same_kind k d.kind
+
   same_root : (root : Option ℕ) → root_price c root ≡ root_price e root
   same_root None = refl
   same_root (Some x) = same.classes (Object x)
 
-  pub same_main : (m : ℕ) → main_of p ≡ Some m → main_price p c ≡ main_price p e
-  same_main m is = rw is (omega (arith, same.methods m (main_there p m is), same_root p.header.root))
+  same_main : (o : Option ℕ) → main_of p ≡ o → method_price p c o ≡ method_price p e o
+  same_main None is = refl
+  same_main (Some m) is = rw (same.methods m (main_there p m is), same_root p.header.root) refl
+
+  pub same_payer : (payer : Payer) → payer_price p c payer ≡ payer_price p e payer
+  same_payer Main = same_main (main_of p) refl
+  same_payer (Class k) = same_class k (class_at p k)
 
 -- ---- what was found
 
@@ -92,73 +118,161 @@ module _ (p : Image) (prices : List ℕ) (h : ArePriced p prices) where
   root_found None = refl
   root_found (Some x) = destruction_found (Object x)
 
-  pub main_found : (m : ℕ) → main_of p ≡ Some m → main_by p prices ≡ min 4294967296 (main_price p whole)
+  main_found : (m : ℕ) → main_of p ≡ Some m → main_by p prices ≡ min 4294967296 (main_price p whole)
   main_found m is = rw is (omega (arith, price_found m (main_there p m is), root_found p.header.root))
 
--- ---- no class of an admitted image is dispatched
+  role_found : (k : ℕ) (role : Role) → role_by p prices k role ≡ min 4294967296 (role_price p whole k role)
+  role_found k role = go (role_of p k role) refl
+    where
+      go : (o : Option ℕ) → role_of p k role ≡ o → price_by prices o ≡ min 4294967296 (destructor_price whole o)
+      go None e = refl
+      go (Some m) e = price_found m (role_there p k m role e)
 
-plain_declares : (k : ClassKind) → is_plain k ≡ true → kind_declares k ≡ None
-unfolding is_plain
-plain_declares Plain plain = refl
-plain_declares _ plain = absurd cc
+  kind_found : (k : ℕ) (kind : ClassKind) → kind_by p prices k kind ≡ min 4294967296 (kind_price p whole k kind)
+  kind_found k Plain = refl
+  kind_found k (Active provider budget) = omega (arith, role_found k Run, role_found k Error)
+  kind_found k (Server sessions session budget) = omega (arith, role_found k Accept, role_found session Service, destruction_found (Object session))
+  kind_found k Session = refl
 
-pub none_declares : (p : Image) (k : ℕ) → IsAdmitted p → declared_by p (Class k) ≡ None
-unfolding class_at admits_class
-none_declares p k admitted = go (slice_get p.classes k) (admitted.classes k)
+  class_found : (k : ℕ) (class : Option ClassDecl) → class_by p prices k class ≡ min 4294967296 (class_price p whole k class)
+  class_found k None = refl
+  class_found k (Some d) = kind_found k d.kind
+
+  found : IsLinked p → (payer : Payer) → payer_by p prices payer ≡ min 4294967296 (payer_price p whole payer)
+  found linked Main = let main = some_main p linked in main_found main.0 main.1
+  found linked (Class k) = class_found k (class_at p k)
+
+-- ---- what is declared
+
+-- a budget is below 2^32, so what counts for 2^32 is more
+kind_below : (classes natives : ℕ) (kind : ClassKind) (most : ℕ) → KindFits classes natives kind → kind_declares kind ≡ Some most → most < 4294967296
+kind_below classes natives (Active provider budget) most fits e = let is : budget ≡ most = same_Some budget most e in omega (arith, fits.1, is)
+kind_below classes natives (Server sessions session budget) most fits e = let is : budget ≡ most = same_Some budget most e in omega (arith, fits.3, is)
+kind_below classes natives _ most fits e = absurd cc
+
+declared_below : (p : Image) (payer : Payer) (most : ℕ) → WellFormed p → declared_by p payer ≡ Some most → most < 4294967296
+unfolding class_at
+declared_below p Main most formed e = let is : p.header.budget ≡ most = same_Some p.header.budget most e in omega (arith, formed.header.budget, is)
+declared_below p (Class k) most formed e = go (slice_get p.classes k) refl e
   where
-    go : (o : Option ClassDecl) → IfSome o (λ x. IsTrue (admits_class x)) → class_declares o ≡ None
-    go None h = refl
-    go (Some d) h = plain_declares d.kind (both (is_plain d.kind) (list_all admits_thing d.fields) h).0
+    go : (o : Option ClassDecl) → slice_get p.classes k ≡ o → class_declares o ≡ Some most → most < 4294967296
+    go None is e = absurd cc
+    go (Some d) is e = kind_below (length p.classes) p.header.natives d.kind most (all_there (ClassFits (length p.classes) p.header.natives) p.classes k d formed.classes.each is).kind e
+
+-- what is past the classes declares nothing
+declares_within : (p : Image) (k most : ℕ) → declared_by p (Class k) ≡ Some most → k < length p.classes
+unfolding class_at
+declares_within p k most e = go (slice_get p.classes k) refl e
+  where
+    go : (o : Option ClassDecl) → slice_get p.classes k ≡ o → class_declares o ≡ Some most → k < length p.classes
+    go None is e = absurd cc
+    go (Some d) is e = slice_get_within p.classes k d is
+
+-- ---- what was found against what is declared
+
+pub main_within : (p : Image) (prices : List ℕ) (declared cost : ℕ) → declared ≡ p.header.budget → cost ≡ main_by p prices → cost ≤ declared → IsWithin p prices Main
+main_within p prices declared cost declares costs le most e = let same : p.header.budget ≡ most = same_Some p.header.budget most e in omega (arith, le, costs, declares, same)
+
+pub main_over :
+    (p : Image) (prices : List ℕ) (declared cost : ℕ) (fault : BudgetFault) → declared ≡ p.header.budget → cost ≡ main_by p prices → declared < cost → fault ≡ OverBudget Main cost declared →
+    TellsOver p prices Main fault
+main_over p prices declared cost fault declares costs over told =
+    record { most = p.header.budget; declares = refl; over = omega (arith, over, costs, declares); is = told ∙ ap₂ (OverBudget Main) costs declares }
+
+pub class_there : (p : Image) (k : ℕ) → k < length p.classes → IsSome (class_at p k)
+unfolding class_at
+class_there p k within = ⊎_elim
+    (λ found. subst (λ o. IsSome o) (sym found.2) refl)
+    (λ past. absurd (omega (arith, past.0, within)))
+    (slice_get_cases p.classes k).1
+
+-- what the class at a number declares
+module _ (p : Image) (prices : List ℕ) (k : ℕ) (class : ClassDecl) (is : class_at p k ≡ Some class) where
+  declares_here : (most : Option ℕ) → kind_declares class.kind ≡ most → declared_by p (Class k) ≡ most
+  declares_here most e = ap class_declares is ∙ e
+
+  pub within_none : kind_declares class.kind ≡ None → IsWithin p prices (Class k)
+  within_none none most e = let declares = declares_here None none in absurd cc
+
+  pub within_some : (declared cost : ℕ) → kind_declares class.kind ≡ Some declared → cost ≡ payer_by p prices (Class k) → cost ≤ declared → IsWithin p prices (Class k)
+  within_some declared cost declares costs le most e = let same : declared ≡ most = same_Some declared most (sym (declares_here (Some declared) declares) ∙ e) in omega (arith, le, costs, same)
+
+  pub tells_first :
+      (declared cost : ℕ) (fault : BudgetFault) → ClassesWithin p prices k → kind_declares class.kind ≡ Some declared →
+      cost ≡ payer_by p prices (Class k) → declared < cost → fault ≡ OverBudget (Class k) cost declared → TellsFirst p prices fault
+  tells_first declared cost fault earlier declares costs over told = record {
+    class = k;
+    tells = record { most = declared; declares = declares_here (Some declared) declares; over = omega (arith, over, costs); is = told ∙ ap (λ n. OverBudget (Class k) n declared) costs };
+    earlier = earlier;
+  }
+
+-- one more is within
+pub classes_more : (p : Image) (prices : List ℕ) (count : ℕ) → ClassesWithin p prices count → IsWithin p prices (Class count) → ClassesWithin p prices (count + 1)
+classes_more p prices count below here k within = elim (eqb_tells k count) [
+  | inl w ↦ rw w.1 here
+  | inr w ↦ below k (omega (arith, within, w.1))
+]
 
 -- ---- the test
 
-module _ (p : Image) (prices : List ℕ) (linked : IsLinked p) (admitted : IsAdmitted p) (h : ArePriced p prices) where
-  found_main : main_by p prices ≡ min 4294967296 (main_price p (whole p prices h))
-  found_main = let main = some_main p linked in main_found p prices h main.0 main.1
+module _ (p : Image) (prices : List ℕ) (formed : WellFormed p) (linked : IsLinked p) (h : ArePriced p prices) where
+  costs_within : (payer : Payer) → IsWithin p prices payer → (most : ℕ) → declared_by p payer ≡ Some most → payer_price p (whole p prices h) payer ≤ most
+  costs_within payer within most e = omega (arith, found p prices h linked payer, within most e, declared_below p payer most formed e)
 
-  pub budgets_within : p.header.budget < 4294967296 → main_by p prices ≤ p.header.budget → BudgetsWithin p
-  budgets_within small le = record { typing = h.typing; strongest = h.strongest; prices = whole p prices h; are = h.told.whole.are; within = within }
+  pub budgets_within : IsWithin p prices Main → ClassesWithin p prices (length p.classes) → BudgetsWithin p
+  budgets_within main classes = record { typing = h.typing; strongest = h.strongest; prices = whole p prices h; are = h.told.whole.are; within = within }
     where
-      within : (payer : Payer) (most : ℕ) → declared_by p payer ≡ Some most → payer_price p (whole p prices h) payer ≤ most
-      within Main most e = let is : p.header.budget ≡ most = same_Some p.header.budget most e in omega (arith, small, le, found_main, is)
-      within (Class k) most e = let none = none_declares p k admitted in absurd cc
+      within : CostsWithin p (whole p prices h)
+      within Main most e = costs_within Main main most e
+      within (Class k) most e = costs_within (Class k) (classes k (declares_within p k most e)) most e
 
-  pub is_over : p.header.budget < main_by p prices → IsOver p Main (main_by p prices) p.header.budget
-  is_over lt = record {
+  -- a fault that tells of the first payer that is over is why the image is refused
+  refuses_over : (payer : Payer) (fault : BudgetFault) → TellsOver p prices payer fault → ((before : Payer) → IsBefore before payer → IsWithin p prices before) → Refuses p fault
+  refuses_over payer fault tells earlier = subst (Refuses p) (sym tells.is) (record {
     typing = h.typing;
     strongest = h.strongest;
     prices = whole p prices h;
     are = h.told.whole.are;
-    declares = refl;
-    is = found_main;
-    over = omega (arith, lt, found_main);
-    first = first;
-  }
+    declares = tells.declares;
+    is = found p prices h linked payer;
+    over = omega (arith, tells.over, found p prices h linked payer);
+    first = λ before enough is_before e. costs_within before (earlier before is_before) enough e;
+  })
+
+  pub refuses_main : (fault : BudgetFault) → TellsOver p prices Main fault → Refuses p fault
+  refuses_main fault tells = refuses_over Main fault tells earlier
     where
-      first : (before : Payer) (enough : ℕ) → IsBefore before Main → declared_by p before ≡ Some enough → payer_price p (whole p prices h) before ≤ enough
-      first Main enough earlier e = absurd earlier
-      first (Class j) enough earlier e = absurd earlier
+      earlier : (before : Payer) → IsBefore before Main → IsWithin p prices before
+      earlier Main is_before = absurd is_before
+      earlier (Class j) is_before = absurd is_before
+
+  pub refuses_class : (fault : BudgetFault) → IsWithin p prices Main → TellsFirst p prices fault → Refuses p fault
+  refuses_class fault main first = refuses_over (Class first.class) fault first.tells earlier
+    where
+      earlier : (before : Payer) → IsBefore before (Class first.class) → IsWithin p prices before
+      earlier Main is_before = main
+      earlier (Class j) is_before = first.earlier j is_before
 
 -- ---- what an accepted image keeps to
 
--- a table pays for main's dispatch within what is declared of it
-pub affordable : (p : Image) (prices : List ℕ) → IsLinked p → BudgetsWithin p → ArePriced p prices → (t : Typing) × IsStrongest p t × (c : Prices) × IsAffordable p t c
-affordable p prices linked b h =
-    let main = some_main p linked in
-    let is = same_main p linked h.typing b.typing h.strongest b.strongest (whole p prices h) b.prices h.told.whole.are b.are main.0 main.1 in
-    (h.typing, h.strongest, whole p prices h, record { priced = h.told.whole.pays; declared = omega (arith, is, b.within Main p.header.budget refl) })
+-- a table pays for each dispatch within what is declared of it
+pub affordable : (p : Image) (prices : List ℕ) → IsLinked p → BudgetsWithin p → ArePriced p prices → (t : Typing) × IsStrongest p t × (c : Prices) × IsAffordable p t c × CostsWithin p c
+affordable p prices linked b h = (h.typing, h.strongest, whole p prices h, record { priced = h.told.whole.pays; declared = within Main p.header.budget refl }, within)
+  where
+    within : CostsWithin p (whole p prices h)
+    within payer most e =
+        let is = same_payer p linked h.typing b.typing h.strongest b.strongest (whole p prices h) b.prices h.told.whole.are b.are payer in
+        omega (arith, is, b.within payer most e)
 
 -- an image that keeps its budgets is over none
-none_over : (p : Image) (payer : Payer) (price most : ℕ) → IsLinked p → IsAdmitted p → BudgetsWithin p → IsOver p payer price most → ⊥
-none_over p Main price most linked admitted b h =
-    let main = some_main p linked in
-    let is = same_main p linked b.typing h.typing b.strongest h.strongest b.prices h.prices b.are h.are main.0 main.1 in
-    omega (arith, is, h.over, b.within Main most h.declares)
-none_over p (Class k) price most linked admitted b h = let none = none_declares p k admitted in let declares = h.declares in cc
+none_over : (p : Image) (payer : Payer) (found most : ℕ) → IsLinked p → BudgetsWithin p → IsOver p payer found most → ⊥
+none_over p payer found most linked b h =
+    let is = same_payer p linked b.typing h.typing b.strongest h.strongest b.prices h.prices b.are h.are payer in
+    omega (arith, is, h.over, b.within payer most h.declares)
 
 -- an image within its limits is refused for nothing
-pub refuses_none : (p : Image) (fault : BudgetFault) → IsLinked p → IsAdmitted p → Refuses p fault → BudgetsWithin p → DepthsWithin p → HeightsWithin p → ⊥
-refuses_none p (OverBudget payer price most) linked admitted h budgets within low = none_over p payer price most linked admitted budgets h
-refuses_none p TooDeep linked admitted h budgets within low = omega (arith, within.within h.1.method h.1.count h.1.frames, h.1.many)
-refuses_none p CleanupTooDeep linked admitted h budgets within low = omega (arith, low.within h.2.method h.2.count h.2.heights, h.2.many)
-refuses_none p OutOfMemory linked admitted h budgets within low = h
+pub refuses_none : (p : Image) (fault : BudgetFault) → IsLinked p → Refuses p fault → BudgetsWithin p → DepthsWithin p → HeightsWithin p → ⊥
+refuses_none p (OverBudget payer found most) linked h budgets within low = none_over p payer found most linked budgets h
+refuses_none p TooDeep linked h budgets within low = omega (arith, within.within h.1.method h.1.count h.1.frames, h.1.many)
+refuses_none p CleanupTooDeep linked h budgets within low = omega (arith, low.within h.2.method h.2.count h.2.heights, h.2.many)
+refuses_none p OutOfMemory linked h budgets within low = h

@@ -1,8 +1,10 @@
--- What some instructions may call, and a chain of methods that is too deep.
+-- What some instructions may call, a chain of methods that is too deep, and what dispatches of objects cost.
 use Rattle.std.proofs.Common.{◌≡◌, ℕ, zero, suc, ◌<◌, ◌≤◌, [], ◌∷◌, Some, None, IsSome, refl, arith}
+use Rattle.std.proofs.lemmas.Option.{same_Some}
 use Rattle.aom_image.specs.Image.{Image}
 use Rattle.aom_image.specs.Views.{method_at, class_at, class_in}
-use Rattle.aom_image.specs.declared.class.ClassKind.TheVariants.{Session, Server}
+use Rattle.aom_image.specs.declared.class.ClassKind.TheVariants.{Active, Session, Server}
+use Rattle.aom_image.specs.declared.class.Provider.TheVariants.{Own as Own_provider}
 use Rattle.aom_instructions.specs.declared.instr.Instr.TheVariants.{Push, PushOperation, Delete, Trap, Cancel, PopDelete}
 use Rattle.aom_instructions.specs.declared.instr.Target.TheVariants.{This}
 use Rattle.aom_image.specs.declared.method.Gives.TheVariants.{Nothing}
@@ -18,9 +20,13 @@ use Rattle.aom_shape.specs.declared.kind.Delivery.TheVariants.{Here}
 use Rattle.aom_shape.specs.declared.kind.Age.TheVariants.{Ready}
 use Rattle.aom_shape.specs.declared.kind.Kind.{Kind}
 use Rattle.aom_shape.specs.declared.kind.Kind.TheVariants.{Null, Own, Maybe}
+use Rattle.aom_budget.specs.Budgets.{declared_by}
 use Rattle.aom_budget.specs.Calls.{callees, MayCall}
 use Rattle.aom_budget.specs.Depths.{Frames, IsTooDeep}
 use Rattle.aom_budget.specs.Depths.Frames.{alone, calling}
+use Rattle.aom_budget.specs.Figures.{IsWithin, TellsFirst, payer_by}
+use Rattle.aom_budget.specs.declared.fault.BudgetFault.TheVariants.{OverBudget}
+use Rattle.aom_budget.specs.declared.fault.Payer.TheVariants.{Class}
 
 method : ℕ → Role → Method
 method class role = record { class = Some class; role = role; flags = record { 0 = 0 }; before = record { 0 = 0 }; after = record { 0 = 0 }; arguments = []; gives = Nothing; code = [] }
@@ -69,3 +75,47 @@ chain p first calls (suc n) h = calling (calls n (omega (arith, h))) (chain p fi
 -- 257 methods, each of which calls the one before it
 chain_of_257 : (p : Image) → IsSome (method_at p 0) → ((m : ℕ) → m < 256 → MayCall p (suc m) m) → IsTooDeep p
 chain_of_257 p first calls = record { method = 256; count = 257; frames = chain p first calls 256 (omega arith); many = omega arith }
+
+-- ---- budgets
+
+-- class 0 is active: it runs in the method 0, and the method 1 is its error method; class 1 has sessions, whose service is the method 2; class 2 is their server, which accepts in the method 3
+dispatched : Image
+dispatched = record {
+  header = record { cells = 4; messages = 0; natives = 0; root = None; budget = 100 };
+  classes = record { kind = Active Own_provider 12; words = 0; fields = [] } ∷ record { kind = Session; words = 0; fields = [] } ∷ record { kind = Server 4 1 8; words = 0; fields = [] } ∷ [];
+  methods = method 0 roles.Run ∷ method 0 roles.Error ∷ method 1 roles.Service ∷ method 2 roles.Accept ∷ method 1 roles.Destruct ∷ [];
+}
+
+active_pays_for_both : payer_by dispatched (7 ∷ 5 ∷ 1 ∷ 1 ∷ 1 ∷ []) (Class 0) ≡ 12
+unfolding dispatched method class_at role_of plays role_number
+active_pays_for_both = refl
+
+sum_is_kept : payer_by dispatched (4294967296 ∷ 5 ∷ 1 ∷ 1 ∷ 1 ∷ []) (Class 0) ≡ 4294967296
+unfolding dispatched method class_at role_of plays role_number
+sum_is_kept = refl
+
+server_pays_for_accept : payer_by dispatched (7 ∷ 5 ∷ 3 ∷ 6 ∷ 4 ∷ []) (Class 2) ≡ 6
+unfolding dispatched method class_at role_of plays role_number
+server_pays_for_accept = refl
+
+server_pays_for_service : payer_by dispatched (7 ∷ 5 ∷ 8 ∷ 6 ∷ 4 ∷ []) (Class 2) ≡ 8
+unfolding dispatched method class_at role_of plays role_number
+server_pays_for_service = refl
+
+-- the end of a session is a step, and its destructor
+server_pays_for_the_end : payer_by dispatched (7 ∷ 5 ∷ 3 ∷ 6 ∷ 8 ∷ []) (Class 2) ≡ 9
+unfolding dispatched method class_at role_of plays role_number
+server_pays_for_the_end = refl
+
+sessions_declare_nothing : declared_by dispatched (Class 1) ≡ None
+unfolding dispatched class_at
+sessions_declare_nothing = refl
+
+-- a class that costs just what it declares is within, and one step more is over
+within_to_the_step : IsWithin dispatched (7 ∷ 5 ∷ 1 ∷ 1 ∷ 1 ∷ []) (Class 0)
+unfolding dispatched method class_at role_of plays role_number
+within_to_the_step most e = let same : 12 ≡ most = same_Some 12 most e in omega (arith, same)
+
+over_by_a_step : TellsFirst dispatched (7 ∷ 6 ∷ 1 ∷ 1 ∷ 1 ∷ []) (OverBudget (Class 0) 13 12)
+unfolding dispatched method class_at role_of plays role_number
+over_by_a_step = record { class = 0; tells = record { most = 12; declares = refl; over = omega arith; is = refl }; earlier = λ k below. absurd (omega (arith, below)) }

@@ -57,13 +57,17 @@ payer_price p c (Class k) = class_price p c k (class_at p k)
 
 -- ---- whether that is enough
 
--- by the prices of the strongest typing each dispatch costs at most what is declared of it
+-- by a table of prices each dispatch costs at most what is declared of it
+abbrev pub CostsWithin : Image → Prices → Type 0
+CostsWithin p c = (payer : Payer) (most : ℕ) → declared_by p payer ≡ Some most → payer_price p c payer ≤ most
+
+-- the prices of the strongest typing are such a table
 pub record BudgetsWithin (p : Image) : Type 0 where
   pub typing : Typing
   pub strongest : IsStrongest p typing
   pub prices : Prices
   pub are : ArePrices p typing prices
-  pub within : (payer : Payer) (most : ℕ) → declared_by p payer ≡ Some most → payer_price p prices payer ≤ most
+  pub within : CostsWithin p prices
 
 -- main comes first, then the classes by number
 abbrev pub IsBefore : Payer → Payer → Type 0

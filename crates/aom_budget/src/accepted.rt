@@ -7,7 +7,7 @@ ghost use Rattle.aom_rules.specs.Typing.{Typing, IsTyped};
 ghost use Rattle.aom_verify.specs.Strongest.{IsStrongest};
 ghost use Rattle.aom_prices.specs.Dispatches.{IsAffordable};
 ghost use Rattle.aom_prices.specs.Prices.{Prices};
-ghost use Rattle.aom_budget.specs.Budgets.{BudgetsWithin};
+ghost use Rattle.aom_budget.specs.Budgets.{BudgetsWithin, CostsWithin};
 ghost use Rattle.aom_budget.specs.Depths.{HasDepths, DepthsWithin};
 ghost use Rattle.aom_budget.specs.Heights.{HasHeights, HeightsWithin};
 ghost use Rattle.aom_budget.specs.Pricing.{IsPriceUpTo};
@@ -71,7 +71,7 @@ impl Accepted {
         ensures typed { (t : Typing) × IsTyped self.now t }
         ensures strongest { (t : Typing) × IsStrongest self.now t }
         ensures budgets { BudgetsWithin self.now }
-        ensures affordable { (t : Typing) × IsStrongest self.now t × (c : Prices) × IsAffordable self.now t c }
+        ensures affordable { (t : Typing) × IsStrongest self.now t × (c : Prices) × IsAffordable self.now t c × CostsWithin self.now c }
         ensures depths { HasDepths self.now }
         ensures within { DepthsWithin self.now }
         ensures heights { HasHeights self.now }

@@ -1,21 +1,55 @@
 //! The figures of a checked image, and whether it keeps within what it declares and within the limits.
-ghost use Rattle.std.specs.Prelude.{◌≡◌, IfOk, IfErr};
+ghost use Rattle.std.specs.Prelude.{◌≡◌, ◌≤◌, ◌<◌, length, IfOk, IfErr, IsSome};
+ghost use Rattle.aom_image.specs.Views.{class_at};
 ghost use Rattle.aom_shape.specs.Tables.{at};
-ghost use Rattle.aom_budget.specs.Budgets.{BudgetsWithin};
+ghost use Rattle.aom_budget.specs.Budgets.{BudgetsWithin, kind_declares};
 ghost use Rattle.aom_budget.specs.Depths.{HasDepths};
 ghost use Rattle.aom_budget.specs.Faults.{Refuses};
-ghost use Rattle.aom_budget.specs.Figures.{AreFigures, main_by};
+ghost use Rattle.aom_budget.specs.Figures.{AreFigures, class_by, ClassesWithin, kind_by, main_by, TellsFirst};
 ghost use Rattle.aom_budget.specs.Heights.{HasHeights};
 
 use crate::extents::Extents;
-use crate::prices::{main_price, prices_of};
+use crate::prices::{kind_price, main_price, prices_of};
 use crate::sums::Sums;
 use crate::{BudgetFault, Payer};
 use aom_classes::Linked;
-use aom_image::MethodNumber;
+use aom_image::{ClassKind, ClassNumber, MethodNumber};
 use aom_verify::Checked;
 use std::alloc::{AllocError, Global};
 use std::marker::Model;
+
+/// The number of the class at an index.
+fn class_number(index: usize) -> ClassNumber
+    requires { index < 256 }
+    ensures { result ≡ index }
+{
+    ClassNumber::new(index as u16).unwrap()
+}
+
+/// What a class declares of each dispatch of its objects, if they are dispatched.
+pub fn budget_of(kind: ClassKind) -> Option<u32>
+    ensures { result ≡ kind_declares kind }
+{
+    match kind {
+        ClassKind::Plain | ClassKind::Session => None,
+        ClassKind::Active { budget, .. } | ClassKind::Server { budget, .. } => Some(budget),
+    }
+}
+
+/// Whether a dispatch costs no more than is declared of it.
+fn within(payer: Payer, price: u64, declared: u32) -> Result<(), BudgetFault>
+    ensures ok { IfOk result (λ _. price ≤ declared) }
+    ensures err { IfErr result (λ fault. (declared < price) × (fault ≡ BudgetFault.OverBudget payer price declared)) }
+{
+    if price > u64::from(declared) {
+        return Err(BudgetFault::OverBudget {
+            payer,
+            price,
+            declared,
+        });
+    }
+    Ok(())
+}
 
 /// What the methods of a checked image come to, and what they cost, by their numbers.
 #[derive(Drop)]
@@ -70,8 +104,39 @@ impl Figures {
         main_price(linked, &self.prices)
     }
 
-    /// Whether the image keeps within what it declares, then within 256 frames, and then within 1,024 cleanup entries. An
-    /// image that is admitted so far has no class whose objects are dispatched, so main alone declares a budget.
+    /// How many steps a dispatch of an object of that class takes at most, or 2^32 where that is more, by the class's kind.
+    /// It is 0 where its objects are not dispatched.
+    pub fn kind_price(&self, linked: &Linked, class: ClassNumber, kind: ClassKind) -> u64
+        ensures { result ≡ kind_by linked.now self.now.prices class kind }
+    {
+        kind_price(linked, class, kind, &self.prices)
+    }
+
+    fn class_price(&self, linked: &Linked, class: ClassNumber) -> u64
+        requires { IsSome (class_at linked.now class) }
+        ensures { result ≡ class_by linked.now self.now.prices class (class_at linked.now class) }
+    {
+        self.kind_price(linked, class, linked.class(class).kind)
+    }
+
+    /// Whether the classes keep within what they declare, the lowest number first.
+    fn keep_classes(&self, linked: &Linked) -> Result<(), BudgetFault>
+        ensures ok { IfOk result (λ _. ClassesWithin linked.now self.now.prices (length linked.now.classes)) }
+        ensures err { IfErr result (λ fault. TellsFirst linked.now self.now.prices fault) }
+    {
+        let classes = linked.image().classes();
+        for index in 0..classes.len() {
+            let class = class_number(index);
+            if let Some(declared) = budget_of(linked.class(class).kind) {
+                let price = self.class_price(linked, class);
+                within(Payer::Class(class), price, declared)?;
+            }
+        }
+        Ok(())
+    }
+
+    /// Whether the image keeps within what it declares of main and of the classes, then within 256 frames, and then within
+    /// 1,024 cleanup entries.
     pub fn keep(&self, checked: &Checked) -> Result<(), BudgetFault>
         requires { AreFigures checked.now self.now }
         ensures budgets { IfOk result (λ _. BudgetsWithin checked.now) }
@@ -81,15 +146,9 @@ impl Figures {
     {
         let linked = checked.linked();
         linked.facts();
-        let price = self.main_price(linked);
         let declared = linked.image().header().budget;
-        if price > u64::from(declared) {
-            return Err(BudgetFault::OverBudget {
-                payer: Payer::Main,
-                price,
-                declared,
-            });
-        }
+        within(Payer::Main, self.main_price(linked), declared)?;
+        self.keep_classes(linked)?;
         self.extents.keep(checked)
     }
 }

@@ -19,4 +19,4 @@ mod targets;
 
 pub use accepted::{Accepted, accept};
 pub use fault::{BudgetFault, Payer};
-pub use figures::Figures;
+pub use figures::{Figures, budget_of};

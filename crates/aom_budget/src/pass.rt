@@ -314,7 +314,7 @@ fn kind_cost(linked: &Linked, prices: &Sums, kind: Kind) -> u64
 }
 
 /// What a method costs, if there is one.
-fn perhaps_cost(prices: &Sums, method: Option<MethodNumber>) -> u64
+pub(crate) fn perhaps_cost(prices: &Sums, method: Option<MethodNumber>) -> u64
     ensures is { result ≡ price_by prices.now method }
     ensures low { result ≤ 4294967296 }
 {

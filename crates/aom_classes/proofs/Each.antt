@@ -12,13 +12,12 @@ pub join : (a b : Bool) → IsTrue a → IsTrue b → IsTrue (a && b)
 join true b h k = k
 join false b h k = h
 
-pub all_five : (a b c d e : Bool) → IsTrue (a && b && c && d && e) → IsTrue a × IsTrue b × IsTrue c × IsTrue d × IsTrue e
-all_five a b c d e h =
-    let u = both (a && b && c && d) e h in
-    let v = both (a && b && c) d u.0 in
-    let w = both (a && b) c v.0 in
-    let x = both a b w.0 in
-    (x.0, x.1, w.1, v.1, u.1)
+pub all_four : (a b c d : Bool) → IsTrue (a && b && c && d) → IsTrue a × IsTrue b × IsTrue c × IsTrue d
+all_four a b c d h =
+    let u = both (a && b && c) d h in
+    let v = both (a && b) c u.0 in
+    let w = both a b v.0 in
+    (w.0, w.1, v.1, u.1)
 
 -- a test that each element passes, place by place
 pub each_passes : {X : Type 0} (test : X → Bool) (xs : List X) → IsTrue (list_all test xs) → EachPasses test xs

@@ -7,10 +7,10 @@ use Rattle.aom_image.specs.Image.{Image}
 use Rattle.aom_image.specs.Views.{method_at, instr_at, instr_in}
 use Rattle.aom_image.specs.declared.method.Method.{Method}
 use Rattle.aom_instructions.specs.declared.instr.Instr.{Instr}
-use Rattle.aom_classes.specs.Admitted.{IsAdmitted, admits_role, stays, admits_argument, admits_result, admits_method, admits_instr}
+use Rattle.aom_classes.specs.Admitted.{IsAdmitted, admits_role, admits_argument, admits_result, admits_method, admits_instr}
 use Rattle.aom_classes.specs.Jumps.{KeepsWithin, JumpsWell}
 use Rattle.aom_classes.specs.Linked.{IsLinked}
-use Rattle.aom_classes.proofs.Each.{all_five, each_passes}
+use Rattle.aom_classes.proofs.Each.{all_four, each_passes}
 
 -- what holds at each place of a list holds of an element
 pub at_place : {X : Type 0} (P : ℕ → X → Type 0) (xs : List X) (k : ℕ) (x : X) → ((j : ℕ) → IfSome (slice_get xs j) (P j)) → slice_get xs k ≡ Some x → P k x
@@ -37,8 +37,8 @@ pub admitted_instr : (p : Image) (m place : ℕ) (i : Instr) → IsAdmitted p �
 unfolding admits_method
 admitted_instr p m place i a e =
     let w = of_method p m place i e in
-    let t = all_five (admits_role w.0.role) (stays w.0) (list_all admits_argument w.0.arguments) (admits_result w.0.gives) (list_all admits_instr w.0.code) (admitted_method p m w.0 a w.1) in
-    at_place (λ _ x. IsTrue (admits_instr x)) w.0.code place i (each_passes admits_instr w.0.code t.4) w.2
+    let t = all_four (admits_role w.0.role) (list_all admits_argument w.0.arguments) (admits_result w.0.gives) (list_all admits_instr w.0.code) (admitted_method p m w.0 a w.1) in
+    at_place (λ _ x. IsTrue (admits_instr x)) w.0.code place i (each_passes admits_instr w.0.code t.3) w.2
 
 -- an instruction's jump and next place are within its method
 pub linked_place : (p : Image) (m place : ℕ) (d : Method) (i : Instr) → IsLinked p → method_at p m ≡ Some d → slice_get d.code place ≡ Some i → KeepsWithin (length d.code) place i

@@ -4,7 +4,8 @@ use Rattle.std.specs.List.{list_all}
 use Rattle.aom_image.specs.Image.{Image}
 use Rattle.aom_image.specs.declared.class.ClassDecl.{ClassDecl}
 use Rattle.aom_image.specs.declared.class.ClassKind.{ClassKind}
-use Rattle.aom_image.specs.declared.class.ClassKind.TheVariants.{Plain}
+use Rattle.aom_image.specs.declared.class.ClassKind.TheVariants.{Active, Plain}
+use Rattle.aom_image.specs.declared.class.Provider.TheVariants.{Own, Timer}
 use Rattle.aom_image.specs.declared.image.Header.{Header}
 use Rattle.aom_instructions.specs.declared.instr.Instr.{Instr}
 use Rattle.aom_image.specs.declared.method.Argument.{Argument}
@@ -13,7 +14,7 @@ use Rattle.aom_image.specs.declared.method.Gives.{Gives}
 use Rattle.aom_image.specs.declared.method.Gives.TheVariants as gives
 use Rattle.aom_image.specs.declared.method.Method.{Method}
 use Rattle.aom_image.specs.declared.method.Role.{Role}
-use Rattle.aom_image.specs.declared.method.Role.TheVariants.{Do, Main, Construct, Destruct, Undo}
+use Rattle.aom_image.specs.declared.method.Role.TheVariants.{Cancel, Construct, Destruct, Do, Error, Main, Run, Undo}
 use Rattle.aom_image.specs.declared.method.Thing.{Thing}
 use Rattle.aom_image.specs.declared.method.Thing.TheVariants.{Object, Message}
 use Rattle.aom_instructions.specs.declared.mnemonic.Mnemonic.{Mnemonic}
@@ -24,15 +25,7 @@ use Rattle.aom_instructions.specs.Rows.{row}
 -- the instructions that come later
 abbrev pub later : List Mnemonic
 later =
-    m.JumpActive
-    ∷ m.JumpAdded
-    ∷ m.Enlist
-    ∷ m.Issue
-    ∷ m.SetActive
-    ∷ m.Cancel
-    ∷ m.Abort
-    ∷ m.Status
-    ∷ m.Connect
+    m.Connect
     ∷ m.Ask
     ∷ m.Close
     ∷ m.TakeMessage
@@ -46,27 +39,32 @@ is_other a b = not ((row a).opcode == (row b).opcode)
 unfoldable pub admits_instr : Instr → Bool
 admits_instr i = list_all (is_other (mnemonic i)) later
 
--- whether a class is plain
-unfoldable pub is_plain : ClassKind → Bool
-is_plain Plain = true
-is_plain _ = false
+-- whether a class is plain, or one of active objects whose requests are their own or a timer's
+unfoldable pub admits_kind : ClassKind → Bool
+admits_kind Plain = true
+admits_kind (Active Own budget) = true
+admits_kind (Active Timer budget) = true
+admits_kind _ = false
 
 -- whether what may be owned is an object
 unfoldable pub admits_thing : Thing → Bool
 admits_thing (Object c) = true
 admits_thing Message = false
 
--- whether a class is plain, and owns objects alone
+-- whether a class is so, and owns objects alone
 unfoldable pub admits_class : ClassDecl → Bool
-admits_class c = is_plain c.kind && list_all admits_thing c.fields
+admits_class c = admits_kind c.kind && list_all admits_thing c.fields
 
--- whether a method does, constructs or destructs, is main, or undoes
+-- whether a method does, constructs or destructs, is main, undoes, or is one of an active object
 unfoldable pub admits_role : Role → Bool
 admits_role Do = true
 admits_role Main = true
 admits_role Construct = true
 admits_role Destruct = true
 admits_role Undo = true
+admits_role Run = true
+admits_role Cancel = true
+admits_role Error = true
 admits_role _ = false
 
 unfoldable pub admits_argument : Argument → Bool
@@ -80,13 +78,9 @@ admits_result (gives.Own t) = admits_thing t
 admits_result (gives.Maybe t) = admits_thing t
 admits_result (gives.Left c) = true
 
--- whether a method is of no states
-abbrev pub stays : Method → Bool
-stays d = nat_eq d.before.0 0 && nat_eq d.after.0 0
-
 -- whether a method has such a role, arguments and result, and is of admitted instructions
 unfoldable pub admits_method : Method → Bool
-admits_method d = admits_role d.role && stays d && list_all admits_argument d.arguments && admits_result d.gives && list_all admits_instr d.code
+admits_method d = admits_role d.role && list_all admits_argument d.arguments && admits_result d.gives && list_all admits_instr d.code
 
 -- whether there are no natives
 abbrev pub admits_header : Header → Bool
@@ -96,7 +90,7 @@ admits_header h = nat_eq h.natives 0
 abbrev pub EachPasses : {X : Type 0} → (X → Bool) → List X → Type 0
 EachPasses test xs = (k : ℕ) → IfSome (slice_get xs k) (λ x. IsTrue (test x))
 
--- an image of plain classes, without natives and messages
+-- an image of plain classes and of active objects, without natives and messages
 pub record IsAdmitted (p : Image) : Type 0 where
   pub header : IsTrue (admits_header p.header)
   pub classes : EachPasses admits_class p.classes

@@ -1,23 +1,15 @@
 //! What an image may have so far.
 ghost use Rattle.std.specs.Prelude.{◌≡◌, ◌↔◌, IsTrue};
 ghost use Rattle.std.specs.List.{list_all};
-ghost use Rattle.aom_classes.specs.Admitted.{is_other, admits_instr, is_plain, admits_thing, admits_class, admits_role, admits_argument, admits_result, stays, admits_method, admits_header, EachPasses, IsAdmitted};
+ghost use Rattle.aom_classes.specs.Admitted.{is_other, admits_instr, admits_kind, admits_thing, admits_class, admits_role, admits_argument, admits_result, admits_method, admits_header, EachPasses, IsAdmitted};
 
 use aom_image::{
-    Argument, ClassDecl, ClassKind, Gives, Header, Image, Instr, Method, Mnemonic, Role, Thing,
+    Argument, ClassDecl, ClassKind, Gives, Header, Image, Instr, Method, Mnemonic, Provider, Role,
+    Thing,
 };
-use bitflags::Flags;
 
 /// The instructions that come later.
-const LATER: [Mnemonic; 13] = [
-    Mnemonic::JumpActive,
-    Mnemonic::JumpAdded,
-    Mnemonic::Enlist,
-    Mnemonic::Issue,
-    Mnemonic::SetActive,
-    Mnemonic::Cancel,
-    Mnemonic::Abort,
-    Mnemonic::Status,
+const LATER: [Mnemonic; 5] = [
     Mnemonic::Connect,
     Mnemonic::Ask,
     Mnemonic::Close,
@@ -39,11 +31,15 @@ fn admits_instr(instr: &Instr) -> bool
     LATER.iter().all(|other| is_other(mnemonic, *other))
 }
 
-#[tactic(auto, unfolding(crate::specs::Admitted::is_plain))]
-fn is_plain(kind: ClassKind) -> bool
-    ensures { result ≡ is_plain kind }
+#[tactic(auto, unfolding(crate::specs::Admitted::admits_kind))]
+fn admits_kind(kind: ClassKind) -> bool
+    ensures { result ≡ admits_kind kind }
 {
-    matches!(kind, ClassKind::Plain)
+    match kind {
+        ClassKind::Plain => true,
+        ClassKind::Active { provider, .. } => !matches!(provider, Provider::Native(_)),
+        ClassKind::Server { .. } | ClassKind::Session => false,
+    }
 }
 
 #[tactic(auto, unfolding(crate::specs::Admitted::admits_thing))]
@@ -63,7 +59,7 @@ fn admits_things(things: &[Thing]) -> bool
 fn admits_class(class: &ClassDecl) -> bool
     ensures { result ≡ admits_class class.now }
 {
-    is_plain(class.kind) && admits_things(class.fields.as_slice())
+    admits_kind(class.kind) && admits_things(class.fields.as_slice())
 }
 
 #[tactic(auto, unfolding(crate::specs::Admitted::admits_role))]
@@ -72,7 +68,14 @@ fn admits_role(role: Role) -> bool
 {
     matches!(
         role,
-        Role::Do | Role::Main | Role::Construct | Role::Destruct | Role::Undo
+        Role::Do
+            | Role::Main
+            | Role::Construct
+            | Role::Destruct
+            | Role::Undo
+            | Role::Run
+            | Role::Cancel
+            | Role::Error
     )
 }
 
@@ -108,18 +111,11 @@ fn admits_code(code: &[Instr]) -> bool
     code.iter().all(|instr| admits_instr(instr))
 }
 
-fn stays(method: &Method) -> bool
-    ensures { result ≡ stays method.now }
-{
-    method.before.bits() == 0 && method.after.bits() == 0
-}
-
 #[tactic(auto, unfolding(crate::specs::Admitted::admits_method))]
 fn admits_method(method: &Method) -> bool
     ensures { result ≡ admits_method method.now }
 {
     admits_role(method.role)
-        && stays(method)
         && admits_arguments(method.arguments.as_slice())
         && admits_result(method.gives)
         && admits_code(method.code.as_slice())

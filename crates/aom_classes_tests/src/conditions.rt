@@ -6,7 +6,8 @@ use crate::drafts::{
 };
 use aom_classes::{RoleTable, check_conditions, link};
 use aom_image::{
-    Argument, ClassKind, ClassNumber, Gives, Image, Instr, MethodFlags, Role, States, Target, Thing,
+    Argument, ClassKind, ClassNumber, Gives, Image, Instr, MethodFlags, Provider, Role, States,
+    Target, Thing,
 };
 use bitflags::Flags;
 use std::alloc::Global;
@@ -409,14 +410,48 @@ fn what_is_not_admitted_yet(rt: HostRuntime) {
     let alloc = rt.alloc();
     let code = [ret()];
     let message = Argument::Own(Thing::Message);
-    assert!(rt; fault_beside(alloc, work().between(States::IDLE, States::NONE)) == Some(0));
-    assert!(rt; fault_beside(alloc, work().between(States::NONE, States::IDLE)) == Some(0));
     assert!(rt; fault_beside(alloc, work().taking(1, message)) == Some(0));
     assert!(rt; fault_beside(alloc, work().giving(Gives::Own(Thing::Message))) == Some(0));
     let holder = alone(alloc, &code).owner(alloc, Thing::Message);
     assert!(rt; link_fault(alloc, holder) == Some(0));
     let session = alone(alloc, &code).class(alloc, ClassKind::Session);
     assert!(rt; link_fault(alloc, session) == Some(0));
+    assert!(rt; link_fault(alloc, whole(alloc)) == Some(0));
+}
+
+/// An active class whose requests are made of that, with its methods.
+fn waiting(alloc: Global, provider: Provider) -> ImageDraft {
+    let waiting = States::UNLISTED.union(States::IDLE);
+    let cancel = draft(Role::Cancel)
+        .of(0)
+        .between(States::OPEN, States::DONE)
+        .flagged(MethodFlags::QUIET);
+    let run = draft(Role::Run)
+        .of(0)
+        .between(States::IDLE, waiting.union(States::ACTIVE));
+    ImageDraft::new(alloc)
+        .class(
+            alloc,
+            ClassKind::Active {
+                provider,
+                budget: 1,
+            },
+        )
+        .method(alloc, cancel, &[Instr::Abort, ret()])
+        .method(
+            alloc,
+            destruct(0).between(waiting.union(States::ACTIVE), waiting),
+            &[Instr::Cancel, ret()],
+        )
+        .method(alloc, run, &[Instr::Status(register(0)), ret()])
+        .method(alloc, main(), &[ret()])
+}
+
+#[test]
+fn active_classes_are_admitted(rt: HostRuntime) {
+    let alloc = rt.alloc();
+    assert!(rt; link_fault(alloc, waiting(alloc, Provider::Own)).is_none());
+    assert!(rt; link_fault(alloc, waiting(alloc, Provider::Timer)).is_none());
 }
 
 #[test]

@@ -9,12 +9,12 @@ use Rattle.aom_instructions.specs.declared.instr.Instr.{Instr}
 use Rattle.aom_instructions.specs.declared.instr.Instr.TheVariants.{Print}
 use Rattle.aom_sound.specs.Calls.{called, result_register}
 use Rattle.aom_sound.specs.Cleanup.{arrived, dealt_with, ended_by, top_is_whole, unwound}
-use Rattle.aom_sound.specs.Destruction.{gone, owns_nothing}
+use Rattle.aom_sound.specs.Destruction.{gone, needs_gone}
 use Rattle.aom_sound.specs.Enlisted.{part_of}
 use Rattle.aom_sound.specs.Moves.{IsOpen, answered, asked, asking, counted, dispatch_ends, does, failed, goes_line, handled, is_counted, is_refused, main_ends, makes_cell, needs, object_ends, step, step_instr, step_task, written, written_instr, written_task}
 use Rattle.aom_sound.specs.Places.{Elsewhere, Going, Object, Root, held, named, without}
 use Rattle.aom_sound.specs.State.{A_mark, An_object, An_operation, Answered, Asks, Choice, Destroy, Dispatch, Dispatched, Frame, Goes, IsStuck, Item, Main_left, Need, NullOrDead, Object_left, Of_main, Of_object, Of_root, Orphan, Run, Seat, State, Task, Trapped, Unwind, guarded, resumed}
-use Rattle.aom_determined.proofs.Cells.{cells_counted, cond_applied, held_renamed, moved_renamed, named_renamed, owns_nothing_kept, tasks_counted, without_renamed}
+use Rattle.aom_determined.proofs.Cells.{cells_counted, cond_applied, held_renamed, moved_renamed, named_renamed, owns_nothing_kept, requested_kept, tasks_counted, without_renamed}
 use Rattle.aom_determined.proofs.Doing.{begun_renamed, dealt_renamed, does_renamed, needs_kept, told_renamed}
 use Rattle.aom_determined.proofs.Needs.{whole_kept}
 use Rattle.aom_determined.proofs.Turning.{turns_so, writes_turn_so}
@@ -52,8 +52,8 @@ module _ (names : ℕ → ℕ) (one_to_one : IsOneToOne names) where
   gone_renamed : (o : Option Object) (ts : List Task) (s : State) → gone (option_map (renamed_object names) o) (renamed_tasks names ts) (renamed names s) ≡ renamed_outcome names (gone o ts s)
   gone_renamed None ts s = refl
   gone_renamed (Some o) ts s =
-      rw (owns_nothing_kept names one_to_one s.cells o.name, tasks_counted names ts, without_renamed names one_to_one (Going (length ts)) s.cells, resumed_renamed ts)
-      (guarded_renamed names ((owns_nothing s.cells o.name, Orphan) ∷ []) (record s { cells = without (Going (length ts)) s.cells; tasks = resumed ts }))
+      rw (owns_nothing_kept names one_to_one s.cells o.name, requested_kept names one_to_one s.cells o.name, tasks_counted names ts, without_renamed names one_to_one (Going (length ts)) s.cells, resumed_renamed ts)
+      (guarded_renamed names (needs_gone s.cells o) (record s { cells = without (Going (length ts)) s.cells; tasks = resumed ts }))
 
   ended_by_renamed : (code : ℤ) (d : Dispatch) → ended_by code (renamed_dispatch names d) ≡ renamed_dispatch names (ended_by code d)
   ended_by_renamed code Of_main = refl

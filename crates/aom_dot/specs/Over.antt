@@ -5,8 +5,7 @@ use Rattle.aom_image.specs.declared.class.ClassKind.{ClassKind}
 use Rattle.aom_classes.specs.Roles.{main_of}
 use Rattle.aom_shape.specs.Tables.{at}
 use Rattle.aom_budget.specs.Budgets.{kind_declares}
-use Rattle.aom_budget.specs.Figures.{Figures, main_by}
-use Rattle.aom_figures.specs.Dispatches.{kind_by}
+use Rattle.aom_budget.specs.Figures.{Figures, kind_by, main_by}
 
 -- a price is more than what is declared, where something is
 abbrev pub is_over : ℕ → Option ℕ → Bool

@@ -2,9 +2,9 @@
 ghost use Rattle.std.specs.Prelude.{◌≡◌, ◌++◌, OnOk};
 ghost use Rattle.aom_dot.specs.Over.{color_text, class_is_over, main_is_over, method_is_over, is_over};
 
-use aom_budget::Figures;
+use aom_budget::{Figures, budget_of};
 use aom_classes::Linked;
-use aom_figures::{Writer, declared, kind_price};
+use aom_figures::Writer;
 use aom_image::{ClassDecl, ClassNumber, MethodNumber};
 use std::alloc::AllocError;
 
@@ -27,8 +27,8 @@ fn class_is_over(
 ) -> bool
     ensures { result ≡ class_is_over linked.now figures.now.prices class declaration.now.kind }
 {
-    let price = kind_price(linked, figures, class, declaration.kind);
-    is_over(price, declared(declaration.kind))
+    let price = figures.kind_price(linked, class, declaration.kind);
+    is_over(price, budget_of(declaration.kind))
 }
 
 /// Whether it is main, and main's dispatch may cost more than is declared of it.

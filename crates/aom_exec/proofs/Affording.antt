@@ -1,32 +1,37 @@
--- An image that is admitted has no class of active objects, so it affords the dispatches of all of them.
-use Rattle.std.proofs.Common.{Option, None, Some, true, ◌≡◌, ℕ}
-use Rattle.std.specs.Prelude.{IfSome, IsTrue, slice_get}
-use Rattle.std.specs.List.{list_all}
+-- An image whose dispatches cost at most what it declares of them affords those of the objects of each of its classes.
+use Rattle.std.proofs.Common.{Option, None, Some, ap, arith, refl, true, ◌≡◌, ◌≤◌, ◌+◌, ℕ}
 use Rattle.aom_image.specs.Image.{Image}
 use Rattle.aom_image.specs.Views.{class_at}
 use Rattle.aom_image.specs.declared.class.ClassDecl.{ClassDecl}
 use Rattle.aom_image.specs.declared.class.ClassKind.{ClassKind}
-use Rattle.aom_image.specs.declared.class.ClassKind.TheVariants.{Plain}
-use Rattle.aom_classes.proofs.Each.{both}
-use Rattle.aom_classes.specs.Admitted.{IsAdmitted, admits_class, admits_thing, is_plain}
+use Rattle.aom_image.specs.declared.class.ClassKind.TheVariants.{Active}
+use Rattle.aom_image.specs.declared.method.Role.TheVariants.{Error, Run as Handles}
+use Rattle.aom_classes.specs.Roles.{role_of}
 use Rattle.aom_roles.specs.Classes.{kind_in}
 use Rattle.aom_roles.specs.Shapes.{kind_of}
 use Rattle.aom_rules.specs.Requests.{is_active_kind}
-use Rattle.aom_prices.specs.Prices.{Prices}
-use Rattle.aom_steps.specs.Payers.{AffordsObjects}
+use Rattle.aom_prices.specs.Costs.{destructor_price}
+use Rattle.aom_prices.specs.Prices.{Prices, perhaps_price}
+use Rattle.aom_budget.specs.Budgets.{CostsWithin, class_declares, class_price, kind_declares, kind_price}
+use Rattle.aom_budget.specs.declared.fault.Payer.TheVariants.{Class}
+use Rattle.aom_steps.specs.Payers.{AffordsObjects, class_budget, object_price}
 
-plain_only : (k : ClassKind) → IsTrue (is_plain k) → is_active_kind (Some k) ≡ true → ⊥
-unfolding is_plain
-plain_only Plain plain active = cc
-plain_only _ plain active = cc
+-- the price of a method that may not be there
+same_price : (c : Prices) (m : Option ℕ) → perhaps_price c m ≡ destructor_price c m
+same_price c None = refl
+same_price c (Some m) = refl
 
-none_active : (p : Image) → IsAdmitted p → (x : ℕ) → is_active_kind (kind_of p (Some x)) ≡ true → ⊥
-unfolding kind_of kind_in class_at admits_class
-none_active p admitted x active = go (slice_get p.classes x) (admitted.classes x) active
-  where
-    go : (o : Option ClassDecl) → IfSome o (λ d. IsTrue (admits_class d)) → is_active_kind (kind_in o) ≡ true → ⊥
-    go None h e = cc
-    go (Some d) h e = plain_only d.kind (both (is_plain d.kind) (list_all admits_thing d.fields) h).0 e
+module _ (p : Image) (c : Prices) (x : ℕ) where
+  of_kind : (k : ClassKind) → is_active_kind (Some k) ≡ true → ((most : ℕ) → kind_declares k ≡ Some most → kind_price p c x k ≤ most) → object_price p c x ≤ class_budget (Some k)
+  of_kind (Active provider budget) active within =
+      omega (arith, same_price c (role_of p x Handles), same_price c (role_of p x Error), within budget refl)
+  of_kind _ active within = cc
 
-pub affords : (p : Image) (c : Prices) → IsAdmitted p → AffordsObjects p c
-affords p c admitted = record { each = λ x active. absurd (none_active p admitted x active) }
+  of_class : (d : Option ClassDecl) → is_active_kind (kind_in d) ≡ true → ((most : ℕ) → class_declares d ≡ Some most → class_price p c x d ≤ most) → object_price p c x ≤ class_budget (kind_in d)
+  unfolding kind_in
+  of_class None active within = cc
+  of_class (Some d) active within = of_kind d.kind active within
+
+pub affords : (p : Image) (c : Prices) → CostsWithin p c → AffordsObjects p c
+unfolding kind_of
+affords p c within = record { each = λ x active. of_class p c x (class_at p x) active (λ most e. within (Class x) most e) }

@@ -13,6 +13,7 @@ use Rattle.aom_frames.specs.declared.dispatch.Dispatch.TheVariants.{Main}
 use Rattle.aom_sound.specs.State.{AtRoot, frame_of, Run, Trapped, Dispatched, Of_main, A_mark}
 use Rattle.aom_rules.specs.Typing.{Typing}
 use Rattle.aom_verify.specs.Strongest.{IsStrongest}
+use Rattle.aom_budget.specs.Budgets.{CostsWithin}
 use Rattle.aom_budget.specs.Depths.{HasDepths}
 use Rattle.aom_budget.specs.Heights.{HasHeights}
 use Rattle.aom_sound.specs.Places.{Place, Register, Entry, Field, Going, Elsewhere, Root}
@@ -88,11 +89,11 @@ module _ (p : Image) (m : Parts) (booted : Booted p m) where
 
 -- the strongest typing, and a table of prices that the image can afford
 abbrev pub Afforded : Image → Type 0
-Afforded p = (t : Typing) × IsStrongest p t × (c : Prices) × IsAffordable p t c
+Afforded p = (t : Typing) × IsStrongest p t × (c : Prices) × IsAffordable p t c × CostsWithin p c
 
 pub boots : (p : Image) (m : Parts) → IsLinked p → IsAdmitted p → Afforded p → HasDepths p → HasHeights p → BootKeeps → StepKeeps → CalmKeeps → LinkedIsWired → BootWithin → MovesPay
     → Booted p m → StandsFor (record { image = p; parts = m }) (boot_state p)
-boots p m linked admitted (t, strongest, prices, affordable) depths heights boot_keeps step_keeps calm_keeps wired boot_within moves_pay booted =
+boots p m linked admitted (t, strongest, prices, affordable, costs) depths heights boot_keeps step_keeps calm_keeps wired boot_within moves_pay booted =
     let w = wired p booted.formed linked in
     let sound : Sound p t = record {
       formed = booted.formed;
@@ -106,7 +107,7 @@ boots p m linked admitted (t, strongest, prices, affordable) depths heights boot
       keeps = λ c s well unused. step_keeps p t w strongest.typed c s well unused;
       prices = prices;
       affordable = affordable;
-      objects = affords p prices admitted;
+      objects = affords p prices costs;
       pays = λ c s u well goes h. keeps_within p t prices linked strongest.typed affordable moves_pay c s u well goes h;
     } in
     record {

@@ -18,7 +18,7 @@ use Rattle.aom_image.specs.declared.method.Thing.{Thing}
 use Rattle.aom_instructions.specs.declared.instr.Instr.{Instr}
 use Rattle.aom_instructions.specs.declared.instr.Instr.TheVariants.{Abort, Cancel, Enlist, Issue, JumpActive, JumpAdded, SetActive, Status}
 use Rattle.aom_classes.proofs.Each.{both}
-use Rattle.aom_classes.specs.Admitted.{IsAdmitted, admits_class, admits_thing, is_plain}
+use Rattle.aom_classes.specs.Admitted.{IsAdmitted, admits_class, admits_thing, admits_kind}
 use Rattle.aom_classes.specs.Roles.{role_of}
 use Rattle.aom_cells.specs.Heap.{Heap, Lives, cell_at, class_at, class_of}
 use Rattle.aom_cells.specs.declared.cell.Cell.{Cell as Held_cell}
@@ -101,9 +101,9 @@ waits_active _ e = cc
 -- ---- what a class of active objects makes its requests of
 
 -- no class with a native provider is admitted so far
-not_plain : (n budget : ℕ) (k : ClassKind) → IsTrue (is_plain k) → k ≡ An_active (Native n) budget → ⊥
-unfolding is_plain
-not_plain n budget k fits e = let plain : IsTrue (is_plain (An_active (Native n) budget)) = subst (λ k. IsTrue (is_plain k)) e fits in cc
+never_native : (n budget : ℕ) (k : ClassKind) → IsTrue (admits_kind k) → k ≡ An_active (Native n) budget → ⊥
+unfolding admits_kind
+never_native n budget k fits e = let admitted : IsTrue (admits_kind (An_active (Native n) budget)) = subst (λ k. IsTrue (admits_kind k)) e fits in cc
 
 pub no_native : (p : Image) → IsAdmitted p → (class n budget : ℕ) → kind_of p (Some class) ≡ Some (An_active (Native n) budget) → ⊥
 unfolding kind_of kind_in declared_at admits_class
@@ -111,7 +111,7 @@ no_native p admitted class n budget is = go (slice_get p.classes class) (admitte
   where
     go : (o : Option ClassDecl) → IfSome o (λ d. IsTrue (admits_class d)) → kind_in o ≡ Some (An_active (Native n) budget) → ⊥
     go None h e = none-some _ e
-    go (Some d) h e = not_plain n budget d.kind (both (is_plain d.kind) (list_all admits_thing d.fields) h).0 (same_Some _ _ e)
+    go (Some d) h e = never_native n budget d.kind (both (admits_kind d.kind) (list_all admits_thing d.fields) h).0 (same_Some _ _ e)
 
 -- the provider of a kind, and how a request is made of it
 provided : (k : Option ClassKind) (q : Provider) → provider_of k ≡ Some q → (budget : ℕ) × (k ≡ Some (An_active q budget))

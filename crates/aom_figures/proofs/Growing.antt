@@ -6,7 +6,7 @@ use Rattle.aom_image.specs.Views.{class_at}
 use Rattle.aom_image.specs.declared.class.ClassDecl.{ClassDecl}
 use Rattle.aom_budget.specs.Budgets.{class_declares, kind_declares}
 use Rattle.aom_budget.specs.declared.fault.Payer.TheVariants.{Class}
-use Rattle.aom_figures.specs.Dispatches.{class_by, kind_by}
+use Rattle.aom_budget.specs.Figures.{class_by, kind_by}
 use Rattle.aom_figures.specs.Text.{by_number, declared_text, payer_lines}
 
 class_here : (p : Image) (k : ℕ) (class : ClassDecl) → k < length p.classes → class ≡ slice_index_or p.classes k class → class_at p k ≡ Some class

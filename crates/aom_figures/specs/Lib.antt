@@ -1,2 +1,1 @@
-pub mod Dispatches
 pub mod Text

@@ -5,10 +5,9 @@ use Rattle.aom_image.specs.Image.{Image}
 use Rattle.aom_shape.specs.Tables.{at}
 use Rattle.aom_budget.specs.Budgets.{declared_by}
 use Rattle.aom_budget.specs.Faults.{payer_text}
-use Rattle.aom_budget.specs.Figures.{Figures}
+use Rattle.aom_budget.specs.Figures.{Figures, payer_by}
 use Rattle.aom_budget.specs.declared.fault.Payer.{Payer}
 use Rattle.aom_budget.specs.declared.fault.Payer.TheVariants.{Main, Class}
-use Rattle.aom_figures.specs.Dispatches.{dispatch_by}
 
 -- what is written for each number below that one, in their order
 abbrev pub by_number : (ℕ → List ℕ) → ℕ → List ℕ
@@ -27,7 +26,7 @@ declared_text payer price None = []
 declared_text payer price (Some declared) = dispatch_line payer price declared
 
 abbrev pub payer_lines : Image → List ℕ → Payer → List ℕ
-payer_lines p prices payer = declared_text payer (dispatch_by p prices payer) (declared_by p payer)
+payer_lines p prices payer = declared_text payer (payer_by p prices payer) (declared_by p payer)
 
 abbrev pub classes_text : Image → List ℕ → List ℕ
 classes_text p prices = by_number (λ k. payer_lines p prices (Class k)) (length p.classes)

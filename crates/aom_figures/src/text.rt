@@ -3,15 +3,14 @@ ghost use Rattle.std.specs.Prelude.{◌≡◌, ◌<◌, ◌++◌, length, IfOk, 
 ghost use Rattle.aom_budget.specs.Faults.{payer_text};
 ghost use Rattle.aom_budget.specs.declared.fault.Payer.TheVariants as payers;
 ghost use Rattle.aom_figures.specs.Text.{classes_text, declared_text, dispatch_line, entries_line, figures_text, frames_line, limits_text, method_line, methods_text, payer_lines};
-ghost use Rattle.aom_figures.specs.Dispatches.{kind_by};
+ghost use Rattle.aom_budget.specs.Figures.{kind_by};
 ghost use Rattle.aom_budget.specs.Budgets.{kind_declares};
 
-use crate::dispatches::kind_price;
 use crate::most::{method_number, most_entries, most_frames};
 use crate::writer::Writer;
-use aom_budget::{Figures, Payer};
+use aom_budget::{Figures, Payer, budget_of};
 use aom_classes::Linked;
-use aom_image::{ClassDecl, ClassKind, ClassNumber, MethodNumber};
+use aom_image::{ClassDecl, ClassNumber, MethodNumber};
 use std::alloc::{AllocError, Global};
 
 /// The number of the class at an index.
@@ -20,16 +19,6 @@ fn class_number(index: usize) -> ClassNumber
     ensures { result ≡ index }
 {
     ClassNumber::new(index as u16).unwrap()
-}
-
-/// The budget of a class, if its objects are dispatched.
-pub fn declared(kind: ClassKind) -> Option<u32>
-    ensures { result ≡ kind_declares kind }
-{
-    match kind {
-        ClassKind::Plain | ClassKind::Session => None,
-        ClassKind::Active { budget, .. } | ClassKind::Server { budget, .. } => Some(budget),
-    }
 }
 
 impl Writer {
@@ -62,9 +51,9 @@ impl Writer {
     ) -> Result<(), AllocError>
         ensures { OnOk result (self.new ≡ self.old ++ declared_text (payers.Class class) (kind_by linked.now figures.now.prices class declaration.now.kind) (kind_declares declaration.now.kind)) }
     {
-        match declared(declaration.kind) {
+        match budget_of(declaration.kind) {
             Some(declared) => {
-                let price = kind_price(linked, figures, class, declaration.kind);
+                let price = figures.kind_price(linked, class, declaration.kind);
                 self.dispatch(Payer::Class(class), price, declared)
             }
             None => Ok(()),

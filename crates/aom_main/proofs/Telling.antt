@@ -2,10 +2,10 @@
 use Rattle.std.proofs.Common.{◌≡◌, ◌∙◌, List, ℕ, Ok, true, false, ap, length, refl, sym, subst, inl, inr}
 use Rattle.std.specs.Prelude.{◌⊎◌}
 use Rattle.aom_image.specs.Image.{Image}
-use Rattle.aom_classes.specs.Admitted.{IsAdmitted}
 use Rattle.aom_classes.specs.Linked.{IsLinked}
 use Rattle.aom_rules.specs.Typing.{Typing}
 use Rattle.aom_verify.specs.Strongest.{IsStrongest}
+use Rattle.aom_budget.specs.Budgets.{CostsWithin}
 use Rattle.aom_prices.specs.Dispatches.{IsAffordable}
 use Rattle.aom_prices.specs.Prices.{Prices}
 use Rattle.aom_sound.specs.Laws.{LinkedIsWired}
@@ -41,12 +41,12 @@ use Rattle.aom_main.specs.Headline.RunBreaks.{machine_wants_memory, output_fails
 
 -- what the laws of runs say of an accepted image
 pub all_run_well :
-    (p : Image) → IsLinked p → IsAdmitted p → (t : Typing) × IsStrongest p t × (c : Prices) × IsAffordable p t c →
+    (p : Image) → IsLinked p → (t : Typing) × IsStrongest p t × (c : Prices) × IsAffordable p t c × CostsWithin p c →
     TypedRunsWell → StepsWithin → LinkedIsWired → TextIsDetermined → AllRunWell p
-all_run_well p linked admitted table law steps wired determined =
+all_run_well p linked table law steps wired determined =
     record {
       each = λ bytes spelled outside. law.each p table.0 outside spelled.formed linked table.1.typed;
-      within = λ bytes spelled outside. steps.each p table.0 table.2 outside spelled.formed linked table.1.typed table.3 (affords p table.2 admitted);
+      within = λ bytes spelled outside. steps.each p table.0 table.2 outside spelled.formed linked table.1.typed table.3 (affords p table.2 table.4);
       one = λ bytes spelled outside. determined p table.0 outside (wired p spelled.formed linked) table.1.typed;
     }
 

@@ -1,7 +1,7 @@
 //! Images that declare their price, and images that declare a step less.
 ghost use Rattle.std.specs.Prelude.{◌<◌};
 
-use crate::pages::{assembled, runs};
+use crate::pages::{assembled, checks, runs};
 use crate::programs::{refuses, stops};
 use aom_main::ExitStatus;
 use aom_pages::Answer;
@@ -121,4 +121,43 @@ fn a_cleanup_stack_has_1024_entries(rt: HostRuntime) -> Result<(), Fail> {
         both.as_str(),
         "budget 1 main price 2058 declared 2057\n",
     )
+}
+
+/// Two active classes, of which the handler of the first may leave and its error method follows then: 3 and 2 steps. No
+/// object of the second is made; its handler takes one step.
+fn two_classes(alloc: Global, main: u32, first: u32, second: u32) -> Result<String, Fail> {
+    Ok(format!(in alloc;
+        "image cells 2 budget {main} root A;class A active self budget {first};class B active self budget {second}
+method k cancel of A;abort;ret;end
+method d destruct of A;cancel;ret;end
+method r run of A leaves;status r0;leaveif r0;ret;end
+method e error of A;const r0 0;ret r0;end
+method bk cancel of B;abort;ret;end
+method bd destruct of B;cancel;ret;end
+method br run of B;ret;end
+method n construct of A;enlist 0;const r0 0;issue r0 r0;setactive;ret;end
+method main main leaves;newl r0 A;push r0;call c0 n;pop r0;put f0 r0;ret;end
+"
+    )?)
+}
+
+#[test]
+fn each_class_keeps_its_budget(rt: HostRuntime) -> Result<(), Fail> {
+    let exact = two_classes(rt.alloc(), 21, 5, 1)?;
+    let told = Answer::told(rt.alloc(), ExitStatus::Done, "accepted\n", "")?;
+    let image = assembled(rt.alloc(), exact.as_str())?;
+    assert_eq!(rt; checks(rt.alloc(), image.as_slice(), 100), told);
+    for (main, first, second, line) in [
+        // the handler and the error method together
+        (21, 4, 1, "budget 1 class 0 price 5 declared 4\n"),
+        // a class of which no object is made
+        (21, 5, 0, "budget 1 class 1 price 1 declared 0\n"),
+        // the lower number of two, and main before both
+        (21, 2, 0, "budget 1 class 0 price 5 declared 2\n"),
+        (1, 2, 0, "budget 1 main price 21 declared 1\n"),
+    ] {
+        let text = two_classes(rt.alloc(), main, first, second)?;
+        refuses(&rt, rt.alloc(), text.as_str(), line)?;
+    }
+    Ok(())
 }

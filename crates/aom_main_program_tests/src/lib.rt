@@ -9,3 +9,5 @@ mod leaves;
 mod pages;
 #[cfg(test)]
 mod programs;
+#[cfg(test)]
+mod turns;

@@ -1,4 +1,6 @@
 //! What the tests share: the image of a text, and what a command answered and wrote.
+ghost use Rattle.std.specs.Prelude.{◌≤◌};
+
 use aom_main::{ExitStatus, asm_bytes, check_bytes, run_bytes};
 use aom_pages::{Answer, Page};
 use std::alloc::Global;
@@ -17,9 +19,22 @@ pub fn assembled(alloc: Global, text: &str) -> Result<Vec<u8>, Fail> {
 
 /// Runs an image, with so much room for the output.
 pub fn runs(alloc: Global, image: &[u8], script: &[u8], room: usize) -> Answer<ExitStatus> {
+    runs_until(alloc, image, script, 1_000_000, room)
+}
+
+/// Runs it until so many dispatches of objects are over.
+pub fn runs_until(
+    alloc: Global,
+    image: &[u8],
+    script: &[u8],
+    limit: u32,
+    room: usize,
+) -> Answer<ExitStatus>
+    requires { (1 ≤ limit) × (limit ≤ 1000000000) }
+{
     let mut out = Page::new(alloc, room);
     let mut errors = Page::new(alloc, 100);
-    let status = run_bytes(alloc, image, script, 1_000_000, &mut out, &mut errors);
+    let status = run_bytes(alloc, image, script, limit, &mut out, &mut errors);
     Answer::of(status, out, errors)
 }
 

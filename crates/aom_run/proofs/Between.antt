@@ -19,7 +19,7 @@ use Rattle.aom_transcript.specs.declared.line.Ending.TheVariants.{Limit, Waiting
 use Rattle.aom_run.proofs.Spared.{picked_pays}
 use Rattle.aom_run.proofs.Reaching.{reaches_both}
 use Rattle.aom_run.proofs.Turnings.{completes_so, cuts_so, passes_so, picks_so, waits_so}
-use Rattle.aom_run.specs.Turns.{Completed, IsDue, NoneIsDue, TakesTurns}
+use Rattle.aom_run.specs.Turns.{CompletesDue, IsDue, NoneIsDue, TakesTurns}
 
 -- a state between dispatches
 pub turned_far : (m : Machine) (s : State) → StandsFor m s → IsBetween s → progress m ≡ Turned
@@ -43,11 +43,11 @@ completed_tasks p s u o goes = ap (λ (v : State). v.tasks) (sym (goes_same _ u 
 no_turn : Turn
 no_turn = record { lines = []; refused = []; room = 0 }
 
-pub none_completed : (m : Machine) → Completed m m
+pub none_completed : (m : Machine) → CompletesDue m m
 none_completed m s stands = (s, λ outside below. begins, refl, stands)
 
-module _ (old m new : Machine) (so_far : Completed old m) (image : m.image ≡ old.image) (one : Completes_one m true new) where
-  pub one_completed : Completed old new
+module _ (old m new : Machine) (so_far : CompletesDue old m) (image : m.image ≡ old.image) (one : Completes_one m true new) where
+  pub one_completed : CompletesDue old new
   one_completed s stands =
       let w = so_far s stands in
       let x = one no_turn w.0 w.3 in
@@ -95,7 +95,7 @@ Below m outside = m.parts.rest.dispatches < outside.limit
 below_so : (m : Machine) (outside : Outside) (s : State) → StandsFor m s → Below m outside → s.rest.dispatches < outside.limit
 below_so m outside s stands below = subst (λ r. r.dispatches < outside.limit) stands.agrees.rest below
 
-pub stands_after : (old new : Machine) → Completed old new → Stands old → Stands new
+pub stands_after : (old new : Machine) → CompletesDue old new → Stands old → Stands new
 stands_after old new completed stands = let x = completed stands.0 stands.1 in (x.0, x.3)
 
 -- the machine is between dispatches, there may be more of them, and nothing is due
@@ -107,7 +107,7 @@ pub record Rests (old : Machine) (outside : Outside) (m : Machine) : Type 0 wher
   pub none : NoneIsDue m
   pub image : m.image ≡ old.image
 
-pub rests_first : (old m : Machine) (outside : Outside) → Below old outside → Stands old → Completed old m → progress m ≡ Turned → NoneIsDue m → m.image ≡ old.image → Rests old outside m
+pub rests_first : (old m : Machine) (outside : Outside) → Below old outside → Stands old → CompletesDue old m → progress m ≡ Turned → NoneIsDue m → m.image ≡ old.image → Rests old outside m
 rests_first old m outside below stands completed between none image =
     let far : Idles old outside m = λ s stands. let x = completed s stands in (x.0, x.1 outside (below_so old outside s stands below), ap (λ r. r.dispatches) x.2, x.3) in
     record { below = below; far = far; stands = stands_after old m completed stands; between = between; none = none; image = image }
@@ -209,7 +209,7 @@ module _ (old m : Machine) (outside : Outside) (rests : Rests old outside m) whe
           (t.state, t.stands, (x.0, ap (λ (v : State). first_due v.cells) same ∙ x.1, omega (arith, clock, due)))
 
       -- and what is due then completes its request
-      pub rests_on : (new : Machine) → Completed passed new → progress new ≡ Turned → NoneIsDue new → new.image ≡ passed.image → Rests old outside new
+      pub rests_on : (new : Machine) → CompletesDue passed new → progress new ≡ Turned → NoneIsDue new → new.image ≡ passed.image → Rests old outside new
       rests_on new completed between none same =
           let on : Idles old outside new =
           λ s stands.

@@ -69,7 +69,7 @@ module _ (outside : Outside) (s : State) where
       go false at = kind_by (first_due s.cells) (leb-false outside.limit s.rest.dispatches at) refl
 
 -- a run that was brought to its end
-pub record Completed (p : Image) (outside : Outside) (lines : List Line) : Type 0 where
+pub record CanEnd (p : Image) (outside : Outside) (lines : List Line) : Type 0 where
   pub more : List Line
   pub last : State
   pub ending : Ending
@@ -90,24 +90,24 @@ module _ (p : Image) (t : Typing) (outside : Outside) (few : outside.limit ≤ 2
 
   -- each run that has come so far can be brought to an end, where there may be fewer dispatches than that
   abbrev Ends : ℕ → Type 0
-  Ends n = (lines : List Line) (s : State) → spare outside.limit s < n → Reached lines s → WellTyped p t s → Completed p outside lines
+  Ends n = (lines : List Line) (s : State) → spare outside.limit s < n → Reached lines s → WellTyped p t s → CanEnd p outside lines
 
   -- the run is over: no more lines
-  over : (lines : List Line) (s : State) (ending : Ending) → Reached lines s → s.rest.ended ≡ Some ending → Completed p outside lines
+  over : (lines : List Line) (s : State) (ending : Ending) → Reached lines s → s.rest.ended ≡ Some ending → CanEnd p outside lines
   over lines s ending r e = record { more = []; last = s; ending = ending; run = record { reaches = subst (λ ls. Reached ls s) (sym (append-nil lines)) r; ended = e } }
 
   -- lines of a move, and then more
-  further : (lines now : List Line) → Completed p outside (lines ++ now) → Completed p outside lines
+  further : (lines now : List Line) → CanEnd p outside (lines ++ now) → CanEnd p outside lines
   further lines now c = record { more = now ++ c.more; last = c.last; ending = c.ending; run = subst (λ ls. Run_of p outside ls c.last c.ending) (append_assoc lines now c.more) c.run }
 
   -- ---- turns
 
   -- between dispatches, where so many turns may come before the next
   abbrev Between : ℕ → ℕ → Type 0
-  Between n k = (lines : List Line) (s : State) → to_turn s < k → spare outside.limit s < suc n → Reached lines s → WellTyped p t s → IsBetween s → Completed p outside lines
+  Between n k = (lines : List Line) (s : State) → to_turn s < k → spare outside.limit s < suc n → Reached lines s → WellTyped p t s → IsBetween s → CanEnd p outside lines
 
   by_kind : (n k : ℕ) → Ends n → Between n k → (lines : List Line) (s : State) → to_turn s ≤ k → spare outside.limit s < suc n → WellTyped p t s → IsBetween s
-      → (x : Turning) → Kind outside s x → (u : State) → turned p s x ≡ Goes u → Reached lines u → WellTyped p t u → Completed p outside lines
+      → (x : Turning) → Kind outside s x → (u : State) → turned p s x ≡ Goes u → Reached lines u → WellTyped p t u → CanEnd p outside lines
   by_kind n k ends again lines s less spares w between _ cuts u goes r typed = over lines u Limit r (ap (λ (v : State). v.rest.ended) (sym (goes_same _ u goes)))
   by_kind n k ends again lines s less spares w between _ waits u goes r typed = over lines u Waiting r (ap (λ (v : State). v.rest.ended) (sym (goes_same _ u goes)))
   by_kind n k ends again lines s less spares w between _ strays u goes r typed = cc
@@ -134,8 +134,8 @@ module _ (p : Image) (t : Typing) (outside : Outside) (few : outside.limit ≤ 2
 
   -- ---- moves
 
-  by_move : (n k : ℕ) → ((lines : List Line) (s : State) → rank p s < k → spare outside.limit s < n → Reached lines s → WellTyped p t s → Completed p outside lines)
-      → (lines : List Line) (s : State) → rank p s ≤ k → spare outside.limit s < n → Reached lines s → WellTyped p t s → IsBusy s → Completed p outside lines
+  by_move : (n k : ℕ) → ((lines : List Line) (s : State) → rank p s < k → spare outside.limit s < n → Reached lines s → WellTyped p t s → CanEnd p outside lines)
+      → (lines : List Line) (s : State) → rank p s ≤ k → spare outside.limit s < n → Reached lines s → WellTyped p t s → IsBusy s → CanEnd p outside lines
   by_move n k again lines s less spares r w busy =
       let free = is_open s in
       let next = leads_on p t (step p (choice s) s) (keeps (choice s) s w free.name) in
@@ -143,15 +143,15 @@ module _ (p : Image) (t : Typing) (outside : Outside) (few : outside.limit ≤ 2
       let kept = moved_spares p outside.limit few (choice s) s next.0 next.1 in
       further lines (written p s) (again (lines ++ written p s) next.0 (omega (arith, lower, less)) (omega (arith, kept, spares)) (moves (choice s) r busy free next.1) next.2)
 
-  by_tasks : (n : ℕ) → Ends n → (ts : List Task) (lines : List Line) (s : State) → s.tasks ≡ ts → s.rest.ended ≡ None → spare outside.limit s < suc n → Reached lines s → WellTyped p t s → (IsBusy s → Completed p outside lines) → Completed p outside lines
+  by_tasks : (n : ℕ) → Ends n → (ts : List Task) (lines : List Line) (s : State) → s.tasks ≡ ts → s.rest.ended ≡ None → spare outside.limit s < suc n → Reached lines s → WellTyped p t s → (IsBusy s → CanEnd p outside lines) → CanEnd p outside lines
   by_tasks n ends [] lines s none going spares r w busy = by_turns n (suc (to_turn s)) ends lines s (omega arith) spares r w (record { idle = none; going = going })
   by_tasks n ends (task ∷ tasks) lines s is going spares r w busy = busy (task, tasks, is)
 
-  by_end : (n : ℕ) → Ends n → (e : Option Ending) (lines : List Line) (s : State) → s.rest.ended ≡ e → spare outside.limit s < suc n → Reached lines s → WellTyped p t s → (IsBusy s → Completed p outside lines) → Completed p outside lines
+  by_end : (n : ℕ) → Ends n → (e : Option Ending) (lines : List Line) (s : State) → s.rest.ended ≡ e → spare outside.limit s < suc n → Reached lines s → WellTyped p t s → (IsBusy s → CanEnd p outside lines) → CanEnd p outside lines
   by_end n ends None lines s going spares r w busy = by_tasks n ends s.tasks lines s refl going spares r w busy
   by_end n ends (Some ending) lines s ended spares r w busy = over lines s ending r ended
 
-  by_moves : (n k : ℕ) → Ends n → (lines : List Line) (s : State) → rank p s < k → spare outside.limit s < suc n → Reached lines s → WellTyped p t s → Completed p outside lines
+  by_moves : (n k : ℕ) → Ends n → (lines : List Line) (s : State) → rank p s < k → spare outside.limit s < suc n → Reached lines s → WellTyped p t s → CanEnd p outside lines
   by_moves n zero ends lines s less spares r w = absurd (omega arith)
   by_moves n (suc k) ends lines s less spares r w =
       by_end n ends s.rest.ended lines s refl spares r w (λ busy. by_move (suc n) k (by_moves n k ends) lines s (omega (arith, less)) spares r w busy)
@@ -160,5 +160,5 @@ module _ (p : Image) (t : Typing) (outside : Outside) (few : outside.limit ≤ 2
   ends_all zero lines s spares r w = absurd (omega arith)
   ends_all (suc n) lines s spares r w = by_moves n (suc (rank p s)) (ends_all n) lines s (omega arith) spares r w
 
-  pub completes : (lines : List Line) (s : State) → Reached lines s → WellTyped p t s → Completed p outside lines
+  pub completes : (lines : List Line) (s : State) → Reached lines s → WellTyped p t s → CanEnd p outside lines
   completes lines s r w = ends_all (suc (spare outside.limit s)) lines s (omega arith) r w

@@ -18,7 +18,7 @@ is_busy s uncounted = cons_given (λ ts. IsUncounted ts) s.tasks uncounted (λ u
 settled_on : (p : Image) (refused : List ℕ) (b : State) (lines : List Line) (s : State) (more : List Line) (u : State)
     → Moving p refused b lines s → Settles p refused s more u → Moving p refused b (lines ++ more) u
 settled_on p refused b lines s _ _ r (settled not) = subst (λ ls. Moving p refused b ls s) (sym (append-nil lines)) r
-settled_on p refused b lines s _ v r (settles {u = u} {lines = more} c uncounted free goes rest) =
+settled_on p refused b lines s _ v r (settles {u = u} {lines = more} c uncounted on free goes rest) =
     subst (λ ls. Moving p refused b ls v) (append_assoc lines _ more) (settled_on p refused b (lines ++ written p s) u more v (goes_on c r (is_busy s uncounted) free goes) rest)
 
 -- a step of the machine is no move, or one or more

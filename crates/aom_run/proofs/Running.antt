@@ -22,7 +22,7 @@ use Rattle.aom_exec.proofs.Progressing.{is_as_far}
 use Rattle.aom_run.specs.Runs.{after, CutOff, Ended, Moving, Sent, Told, CutShort, Ran}
 use Rattle.aom_run.specs.Turns.{TakesTurns, one_where}
 use Rattle.aom_run.proofs.Spared.{moving_spares}
-use Rattle.aom_run.proofs.Completing.{Completed, completes}
+use Rattle.aom_run.proofs.Completing.{CanEnd, completes}
 use Rattle.aom_run.proofs.Reaching.{reaches_both, reaches_then}
 use Rattle.aom_run.proofs.Sending.{cut_short, after_both, after_none, text_of_both, cut_next}
 
@@ -39,14 +39,14 @@ starts outside out m told none fresh =
     record { lines = []; state = boot_state m.image; reaches = subst (λ ls. Reaches m.image outside (boot_state m.image) ls (boot_state m.image)) (sym none) begins; stands = fresh; out = after_none out }
 
 -- a run that has come to a state that the machine stands for can be brought to an end
-completed : (p : Image) (outside : Outside) → outside.limit ≤ 2 ^ 64 - 1 → (lines : List Line) (s : State) (m : Machine) → m.image ≡ p → Reaches p outside (boot_state p) lines s → StandsFor m s → Completed p outside lines
+completed : (p : Image) (outside : Outside) → outside.limit ≤ 2 ^ 64 - 1 → (lines : List Line) (s : State) (m : Machine) → m.image ≡ p → Reaches p outside (boot_state p) lines s → StandsFor m s → CanEnd p outside lines
 completed p outside few lines s m image r stands =
-    let Whole : Image → Type 0 = λ q. Reaches q outside (boot_state q) lines s → Completed q outside lines in
+    let Whole : Image → Type 0 = λ q. Reaches q outside (boot_state q) lines s → CanEnd q outside lines in
     let sound = stands.sound in
     subst Whole image (λ r'. completes m.image stands.typing outside few sound.wired sound.linked sound.typed sound.keeps lines s r' stands.typed) r
 
 -- the beginning of the lines of a run is one of its transcript
-cut_of : (p : Image) (outside : Outside) (before now : Option (List ℕ)) (lines : List Line) → Completed p outside lines → (n : ℕ) → now ≡ after before (take n (text_of lines)) → CutShort p outside before now
+cut_of : (p : Image) (outside : Outside) (before now : Option (List ℕ)) (lines : List Line) → CanEnd p outside lines → (n : ℕ) → now ≡ after before (take n (text_of lines)) → CutShort p outside before now
 cut_of p outside before now lines all n out =
     let rest = text_of all.more ++ ended (end_text all.ending (length all.last.cells)) in
     let whole : transcript (lines ++ all.more) all.ending (length all.last.cells) ≡ text_of lines ++ rest = ap (λ t. t ++ ended (end_text all.ending (length all.last.cells))) (text_of_both lines all.more) ∙ append_assoc (text_of lines) (text_of all.more) (ended (end_text all.ending (length all.last.cells))) in

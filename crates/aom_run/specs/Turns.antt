@@ -20,8 +20,8 @@ abbrev pub IsDue : Machine → Type 0
 IsDue m = (s : State) × StandsFor m s × ((x : Timed) × (first_due s.cells ≡ Some x) × (x.timer.due ≤ s.rest.clock))
 
 -- turns that write no line, at the same time, and dispatch nothing
-abbrev pub Completed : Machine → Machine → Type 0
-Completed old new =
+abbrev pub CompletesDue : Machine → Machine → Type 0
+CompletesDue old new =
     (s : State) → StandsFor old s
     → (u : State) × ((outside : Outside) → s.rest.dispatches < outside.limit → Reaches old.image outside s [] u)
     × (u.rest ≡ s.rest)

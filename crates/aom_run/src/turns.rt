@@ -1,7 +1,7 @@
 //! What comes between dispatches: timers, picks and the passing of time.
 ghost use Rattle.std.specs.Prelude.{◌≡◌, ◌<◌, ◌≤◌, length};
 ghost use Rattle.aom_sound.specs.World.{refusing};
-ghost use Rattle.aom_run.specs.Turns.{Completed, IsDue, NoneIsDue, TakesTurns};
+ghost use Rattle.aom_run.specs.Turns.{CompletesDue, IsDue, NoneIsDue, TakesTurns};
 ghost use Rattle.aom_exec.specs.Steps.{Stands, progress, timers};
 ghost use Rattle.aom_exec.specs.declared.progress.Progress.TheVariants.{Turned};
 
@@ -40,7 +40,7 @@ fn complete_due(machine: &mut Machine)
     requires stands { Stands machine.old }
     requires between { progress machine.old ≡ Turned }
     ensures image { machine.new.image ≡ machine.old.image }
-    ensures completed { Completed machine.old machine.new }
+    ensures completed { CompletesDue machine.old machine.new }
     ensures between { progress machine.new ≡ Turned }
     ensures none { NoneIsDue machine.new }
     ensures falls { IsDue machine.old → timers machine.new < timers machine.old }

@@ -11,6 +11,7 @@ use Rattle.aom_sound.specs.Cases.Moves.{MovesBite}
 use Rattle.aom_sound.specs.Cases.Objects.{ObjectsBite}
 use Rattle.aom_sound.specs.Cases.Requests.{RequestsBite}
 use Rattle.aom_sound.specs.Cases.Returns.{ReturnsBite}
+use Rattle.aom_sound.specs.Cases.Turns.{TurnsBite}
 use Rattle.aom_sound.specs.Cases.Words.{WordsBite}
 
 pub words_bite : WordsBite
@@ -48,3 +49,12 @@ requests_bite = record { reading = refl; enlisting = refl; issuing = refl; waiti
 pub moves_bite : MovesBite
 unfolding class_at class_in fields_in gives_in instr_in method_at role_in
 moves_bite = record { going = refl; unwinding = refl; arrival = refl; traps = refl; standing = refl; later = refl }
+
+pub turns_bite : TurnsBite
+turns_bite =
+    record {
+      signals = (refl, (refl, (refl, (refl, (refl, (refl, (refl, (refl, tt))))))));
+      picks = (refl, (refl, (refl, (refl, (refl, tt)))));
+      timers = (refl, (refl, (refl, (refl, (refl, (refl, tt))))));
+      stray = refl;
+    }

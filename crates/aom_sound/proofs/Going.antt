@@ -1,5 +1,5 @@
 -- A cell goes.
-use Rattle.std.proofs.Common.{Bool, List, None, Option, Some, [], ap, arith, cond, false, inl, inr, length, refl, subst, sym, true, ℕ, ◌&&◌, ◌==◌, ◌∙◌, ◌∷◌, ◌≡◌}
+use Rattle.std.proofs.Common.{Bool, IsTrue, List, None, Option, Some, [], ap, arith, cond, false, inl, inr, length, refl, subst, sym, true, ℕ, ◌&&◌, ◌==◌, ◌∙◌, ◌∷◌, ◌≡◌}
 use Rattle.std.proofs.lemmas.Bool.{and_from, cases_Bool, eq-eqb, eqb-true, ne_eqb, true≢false}
 use Rattle.std.specs.Prelude.{not}
 use Rattle.aom_image.specs.Image.{Image}
@@ -13,12 +13,16 @@ use Rattle.aom_sound.proofs.Destroying.{Untouched, other_name, untouched}
 use Rattle.aom_sound.proofs.Maps.{front_free, held_without, named_without, requested_without, same_place-true, tidy_without, unnamed, unrequested}
 use Rattle.aom_sound.proofs.Straight.{Fitted, fits_unowning, settle}
 use Rattle.aom_sound.specs.Claims.{Dispatching, Dying, Layer, Mark, Method, Unwinding, claim, declared, declared_field, forms, items_of, objects, tasks_of}
-use Rattle.aom_sound.specs.Destruction.{gone, is_field_of, owns_nothing}
-use Rattle.aom_sound.specs.Places.{Cell, Elsewhere, Entry, Field, Going, Object, Place, Register, Root, Tidy, held, named, requested, same_place, seen, without}
-use Rattle.aom_sound.specs.State.{AtRoot, Home, Inside, IsStuck, Of_root, Orphan, State, Static, guarded, next, resumed}
+use Rattle.aom_sound.specs.Destruction.{gone, is_at_rest, is_field_of, owns_nothing}
+use Rattle.aom_sound.specs.Enlisted.{is_idle}
+use Rattle.aom_sound.specs.Places.{Cell, Elsewhere, Entry, Field, Going, Idle, Object, Phase, Place, Register, Request, Root, Tidy, held, named, requested, same_place, seen, without}
+use Rattle.aom_sound.specs.State.{ActiveDestroyed, AtRoot, Home, Inside, IsStuck, Of_root, Orphan, State, Static, guarded, next, resumed}
 use Rattle.aom_sound.specs.WellTyped.{seat_of, AllUndo, Back, Caught, Fits, Gone, Good, Holds, IsHoused, Keeps, Leaves, Now, Returns, Stack, WellTyped}
-use Rattle.aom_sound.specs.Requests.{AllSuit, Suits, resting_in, states_claim, thing_kind}
-use Rattle.aom_roles.specs.States.{last_of}
+use Rattle.aom_sound.specs.Requests.{AllSuit, Suits, phase_state, resting_in, states_claim, thing_kind}
+use Rattle.aom_roles.specs.States.{last_of, server_states}
+use Rattle.aom_image.specs.Views.{has}
+use Rattle.aom_image.specs.declared.class.ClassKind.{ClassKind}
+use Rattle.aom_image.specs.declared.class.ClassKind.TheVariants.{Active as An_active, Server as A_server}
 
 -- the fields of a cell that goes are null, so nothing is owned by it
 pub nothing_in : (cs : List Cell) (n : ℕ) → ((f : ℕ) → held cs (Field n f) ≡ None) → owns_nothing cs n ≡ true
@@ -176,14 +180,38 @@ goes_on p t s (Dispatching Of_root seats ∷ ls) stack fits suits tidy tasks ite
 goes_on p t s (Dying o ∷ ls) stack fits suits tidy tasks items undos = record { layers = Dying o ∷ ls; tasks = tasks; items = items; undos = undos; good = record { stack = (stack.0, tt, stack.2); fits = fits; suits = suits; tidy = tidy } }
 goes_on p t s _ stack fits suits tidy tasks items undos = absurd (assumption tt)
 
+-- what is about to go is at rest
+dying_rests : (k : Option ClassKind) (r : Option Request) → Suits k (resting_in (last_of k)) r → is_at_rest r ≡ true
+unfolding last_of
+dying_rests k None s = refl
+dying_rests (Some (An_active v b)) (Some r) s = phase r.phase s.0
+  where
+    phase : (q : Phase) → IsTrue (has server_states (phase_state q)) → is_idle q ≡ true
+    phase Idle h = refl
+    phase _ h = cc
+dying_rests (Some (A_server most x b)) (Some r) s = phase r.phase s.1
+  where
+    phase : (q : Phase) → IsTrue (has server_states (phase_state q)) → is_idle q ≡ true
+    phase Idle h = refl
+    phase _ h = cc
+dying_rests _ (Some r) s = cc
+
+rests_as_it_goes : (p : Image) (t : Typing) (cs : List Cell) (o : Object) (ls : List Layer) → Good p t cs (Dying o ∷ ls) → is_at_rest (requested cs o.name) ≡ true
+rests_as_it_goes p t cs o ls good =
+    let last = resting_in (last_of (thing_kind p o.thing)) in
+    let suits = good.suits o good.stack.0.0 in
+    dying_rests (thing_kind p o.thing) (requested cs o.name) (subst (λ b. Suits (thing_kind p o.thing) (cond b last (states_claim p o ls)) (requested cs o.name)) (eq-eqb o.name o.name refl) suits)
+
 pub going_keeps : (p : Image) (t : Typing) (s : State) (o : Object) (ls : List Layer) → Good p t s.cells (Dying o ∷ ls) → forms s.items ≡ items_of ls → AllUndo p s.items → Keeps p t (gone (held s.cells (Going (length (tasks_of ls)))) (tasks_of ls) s)
 going_keeps p t s o ls good items undos =
     let g = Going (length (tasks_of ls)) in
+    let after : State = record s { cells = without g s.cells; tasks = resumed (tasks_of ls) } in
     subst (λ x. Keeps p t (gone x (tasks_of ls) s)) (sym good.stack.0.1)
-    (subst (λ b. Keeps p t (cond b (guarded [] (record s { cells = without g s.cells; tasks = resumed (tasks_of ls) })) (IsStuck Orphan))) (sym (nothing_in s.cells o.name (no_fields p t s.cells o ls good)))
-    (goes_on p t (record s { cells = without g s.cells; tasks = resumed (tasks_of ls) }) ls
+    (subst (λ b. Keeps p t (cond b (guarded ((is_at_rest (requested s.cells o.name), ActiveDestroyed) ∷ []) after) (IsStuck Orphan))) (sym (nothing_in s.cells o.name (no_fields p t s.cells o ls good)))
+    (subst (λ b. Keeps p t (cond b (guarded [] after) (IsStuck ActiveDestroyed))) (sym (rests_as_it_goes p t s.cells o ls good))
+    (goes_on p t after ls
     (stack_without p t s.cells g o good.tidy good.stack.0.1 ls Gone (omega arith) (λ from. tt) good.stack.2)
     (fits_after p t s.cells o ls good)
     (suits_after p t s.cells o ls good)
     (tidy_without s.cells g good.tidy)
-    refl items undos))
+    refl items undos)))

@@ -17,7 +17,7 @@ use Rattle.aom_sound.proofs.Fitting.{EffectFits, SpotFits, UpdateFits, fits}
 use Rattle.aom_sound.proofs.Guarded.{goes_same, guarded_goes, guarded_met}
 use Rattle.aom_sound.specs.Calls.{passed_cells, result_cells, result_register, returned}
 use Rattle.aom_sound.specs.Cleanup.{arrived, dealt_with, destroyed, top_is_whole, top_place, unwound}
-use Rattle.aom_sound.specs.Destruction.{gone, owns_nothing}
+use Rattle.aom_sound.specs.Destruction.{gone, needs_gone}
 use Rattle.aom_sound.specs.Effects.{Calls, Cancels, Carried, Destroys, Destroys_last, Effect, Goes_on, In_field, In_register, Leaves, Made, Popped, Pushed, Requested, Returns, Sets_trap, Spot, Update, Written, applied, cells_after, effect, spot_place}
 use Rattle.aom_sound.specs.Enlisted.{cancelled, cancelling, ended_cells, on_request, own_request, rerequested, part_of}
 use Rattle.aom_sound.specs.Laws.{IsWired, RegistersKeep}
@@ -162,7 +162,7 @@ unwind_in_range p code ts (A_mark ∷ items) s u all e = arrive_in_range p code 
 go_in_range : (o : Option Object) (ts : List Task) (s u : State) → AllInRange s.cells → gone o ts s ≡ Goes u → AllInRange u.cells
 go_in_range None ts s u all e = cc
 go_in_range (Some o) ts s u all e =
-    subst (λ v. AllInRange v.cells) (guarded_goes ((owns_nothing s.cells o.name, Orphan) ∷ []) (record s { cells = without (Going (length ts)) s.cells; tasks = resumed ts }) u e)
+    subst (λ v. AllInRange v.cells) (guarded_goes (needs_gone s.cells o) (record s { cells = without (Going (length ts)) s.cells; tasks = resumed ts }) u e)
     (end_in_range (Going (length ts)) s.cells all)
 
 close_in_range : (p : Image) (s : State) (b : Bool) (root : Option Object) → AllInRange s.cells → AllInRange (main_ends p b root s).cells

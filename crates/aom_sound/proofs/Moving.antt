@@ -8,7 +8,7 @@ use Rattle.aom_shape.specs.Needs.{AllTrue}
 use Rattle.aom_sound.proofs.Fitting.{fits}
 use Rattle.aom_sound.proofs.Guarded.{goes_same, guarded_goes, guarded_met}
 use Rattle.aom_sound.specs.Cleanup.{arrived, destroyed, unwound}
-use Rattle.aom_sound.specs.Destruction.{gone, owns_nothing}
+use Rattle.aom_sound.specs.Destruction.{gone, needs_gone}
 use Rattle.aom_sound.specs.Effects.{applied, effect}
 use Rattle.aom_sound.specs.Moves.{act, counted, does, needs, step_instr, step_task}
 use Rattle.aom_sound.specs.Places.{Entry, Going, Object, held, without}
@@ -22,7 +22,7 @@ vanishes p c ts s u at e = go (held s.cells (Going (length ts))) refl e
     go : (o : Option Object) → held s.cells (Going (length ts)) ≡ o → gone o ts (counted p s) ≡ Goes u → Move p c s u
     go None there e = cc
     go (Some o) there e =
-        let needed = (owns_nothing s.cells o.name, Orphan) ∷ [] in
+        let needed = needs_gone s.cells o in
         let after : State = record (counted p s) { cells = without (Going (length ts)) s.cells; tasks = resumed ts } in
         Vanishes ts o at there (guarded_met needed after u e).0 (sym (guarded_goes needed after u e))
 

@@ -7,4 +7,5 @@ pub mod Calls
 pub mod Returns
 pub mod Cleanup
 pub mod Moves
+pub mod Turns
 pub mod Owners

@@ -2,8 +2,9 @@
 use Rattle.std.specs.Prelude.{ℕ, Bool, true, false, not, ◌&&◌, ◌==◌, List, [], ◌∷◌, Option, Some, None, length}
 use Rattle.aom_image.specs.Image.{Image}
 use Rattle.aom_classes.specs.Roles.{destructor_of}
-use Rattle.aom_sound.specs.Places.{Place, Register, Entry, Field, Going, Elsewhere, Object, Cell, without}
-use Rattle.aom_sound.specs.State.{Inside, Task, Run, Destroy, frame_of, State, Outcome, IsStuck, Orphan, NullOrDead, guarded, resumed}
+use Rattle.aom_sound.specs.Enlisted.{is_idle}
+use Rattle.aom_sound.specs.Places.{Place, Register, Entry, Field, Going, Elsewhere, Object, Cell, Request, requested, without}
+use Rattle.aom_sound.specs.State.{Inside, Task, Run, Destroy, frame_of, State, Outcome, Need, IsStuck, Orphan, NullOrDead, ActiveDestroyed, guarded, resumed}
 
 abbrev pub begun_by : Option ℕ → Object → ℕ → List Task → List Task
 begun_by None o height below = Destroy ∷ below
@@ -25,8 +26,16 @@ abbrev pub owns_nothing : List Cell → ℕ → Bool
 owns_nothing [] n = true
 owns_nothing (c ∷ cs) n = not (is_field_of n c.owner) && owns_nothing cs n
 
+-- the object has no request that is issued, waited for or being cancelled
+abbrev pub is_at_rest : Option Request → Bool
+is_at_rest None = true
+is_at_rest (Some r) = is_idle r.phase
+
+-- what the going of a cell needs
+abbrev pub needs_gone : List Cell → Object → List Need
+needs_gone cs o = (owns_nothing cs o.name, Orphan) ∷ (is_at_rest (requested cs o.name), ActiveDestroyed) ∷ []
+
 -- the going of a cell
 abbrev pub gone : Option Object → List Task → State → Outcome
 gone None ts s = IsStuck NullOrDead
-gone (Some o) ts s =
-    guarded ((owns_nothing s.cells o.name, Orphan) ∷ []) (record s { cells = without (Going (length ts)) s.cells; tasks = resumed ts })
+gone (Some o) ts s = guarded (needs_gone s.cells o) (record s { cells = without (Going (length ts)) s.cells; tasks = resumed ts })

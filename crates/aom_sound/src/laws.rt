@@ -13,6 +13,7 @@ ghost use Rattle.aom_sound.specs.Cases.Returns.{ReturnsBite};
 ghost use Rattle.aom_sound.specs.Cases.Cleanup.{CleanupBites};
 ghost use Rattle.aom_sound.specs.Cases.Requests.{RequestsBite};
 ghost use Rattle.aom_sound.specs.Cases.Moves.{MovesBite};
+ghost use Rattle.aom_sound.specs.Cases.Turns.{TurnsBite};
 ghost use Rattle.aom_sound.specs.Cases.Owners.{OwnersBite};
 
 /// A run of a typed image begins well typed.
@@ -153,6 +154,11 @@ pub fn requests_bite()
 /// Each need of the moves that are no instruction bites.
 pub fn moves_bite()
     ensures { MovesBite }
+{}
+
+/// A turn does what its examples say, and a stray signal bites.
+pub fn turns_bite()
+    ensures { TurnsBite }
 {}
 
 /// Places that do not own are no owners.

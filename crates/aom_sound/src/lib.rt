@@ -13,5 +13,5 @@ pub use laws::{
     ends_owned, instruction_keeps, leaves_arrive, leaves_move, linked_is_wired, loops_keep,
     moves_bite, objects_bite, owners_bite, registers_keep, requests_bite, returns_bite,
     signals_are_ready, step_keeps, steps_are_counted, steps_are_moves, traps_keep, turn_goes_on,
-    turn_keeps, typed_is_sound, unwinding_keeps, words_bite,
+    turn_keeps, turns_bite, typed_is_sound, unwinding_keeps, words_bite,
 };

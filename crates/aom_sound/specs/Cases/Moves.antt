@@ -1,13 +1,13 @@
 -- The needs of the moves that are no instruction, and of the place where a method stands.
-use Rattle.std.specs.Prelude.{pos, Bool, false, List, [], ◌∷◌, ◌≡◌, map, None}
+use Rattle.std.specs.Prelude.{pos, Bool, false, List, [], ◌∷◌, ◌≡◌, map, None, Some}
 use Rattle.aom_image.specs.Image.{Image}
 use Rattle.aom_instructions.specs.declared.instr.Instr.TheVariants.{Stop, Cancel, Connect, Ask, Close, TakeMessage, Reply}
 use Rattle.aom_image.specs.declared.method.Gives.TheVariants.{Nothing}
 use Rattle.aom_image.specs.declared.method.Thing.TheVariants.{Message}
-use Rattle.aom_sound.specs.Places.{Entry, Field, Going}
-use Rattle.aom_sound.specs.State.{Static, frame_of, Task, Run, Trapped, Destroy, Unwind, Dispatched, Of_main, An_object, An_operation, A_mark, State, Stuck, Unbalanced, Orphan, NullOrDead, WrongKind}
+use Rattle.aom_sound.specs.Places.{Entry, Field, Going, Phase, Idle, Issued, Active, Cancelling, Aborted}
+use Rattle.aom_sound.specs.State.{Static, frame_of, Task, Run, Trapped, Destroy, Unwind, Dispatched, Of_main, An_object, An_operation, A_mark, State, Stuck, Unbalanced, ActiveDestroyed, Orphan, NullOrDead, WrongKind}
 use Rattle.aom_sound.specs.Moves.{step}
-use Rattle.aom_sound.specs.Cases.Building.{leaf, pair, a_method, a_cell, at_bottom, small_image, state_of, Case, fails, is_stuck_by, missed, AllBite}
+use Rattle.aom_sound.specs.Cases.Building.{leaf, pair, waiter, a_method, a_cell, at_bottom, small_image, state_of, Case, fails, is_stuck_by, missed, AllBite}
 
 -- a state, and the kind in which the machine is stuck there, if it is
 pub record Turning : Type 0 where
@@ -30,7 +30,11 @@ AllTurn cases = missed 0 (map turns cases) ≡ []
 abbrev pub runs : Task
 runs = Run (frame_of 0 Static 1)
 
--- a cell goes: it is there, and no field of it owns
+-- a cell goes whose object is enlisted, with its request in that phase
+abbrev pub goes_in : Phase → List Stuck → Turning
+goes_in phase kinds = at kinds (state_of (Destroy ∷ at_bottom) (record (a_cell 1 waiter (Going 2)) { request = Some (record { order = 0; priority = pos 0; phase = phase; status = pos 0; timer = None }) } ∷ []) (A_mark ∷ []))
+
+-- a cell goes: it is there, no field of it owns, and it has no request
 abbrev pub going_cases : List Turning
 going_cases =
     at [] (state_of (Destroy ∷ at_bottom) (a_cell 1 pair (Going 2) ∷ []) (A_mark ∷ []))
@@ -39,6 +43,11 @@ going_cases =
     ∷ at (NullOrDead ∷ []) (state_of (Destroy ∷ at_bottom) (a_cell 1 pair (Going 3) ∷ []) (A_mark ∷ []))
     ∷ at (Orphan ∷ []) (state_of (Destroy ∷ at_bottom) (a_cell 1 pair (Going 2) ∷ a_cell 2 leaf (Field 1 0) ∷ []) (A_mark ∷ []))
     ∷ at (Orphan ∷ []) (state_of (Destroy ∷ at_bottom) (a_cell 2 Message (Field 1 1) ∷ a_cell 1 pair (Going 2) ∷ []) (A_mark ∷ []))
+    ∷ goes_in Idle []
+    ∷ goes_in Issued (ActiveDestroyed ∷ [])
+    ∷ goes_in Active (ActiveDestroyed ∷ [])
+    ∷ goes_in Cancelling (ActiveDestroyed ∷ [])
+    ∷ goes_in Aborted (ActiveDestroyed ∷ [])
     ∷ []
 
 -- a leave unwinds: an object's item owns one, and under the entries lies a mark

@@ -1,5 +1,4 @@
 -- An image within its limits is refused for want of memory alone.
-use Rattle.aom_classes.specs.Admitted.{IsAdmitted}
 use Rattle.aom_classes.specs.Linked.{IsLinked}
 use Rattle.aom_budget.proofs.Budgeting.{refuses_none}
 use Rattle.aom_budget.proofs.accepted.accept.Goals as goal
@@ -7,5 +6,4 @@ use Rattle.aom_budget.proofs.accepted.accept.Goals as goal
 pub returns-in_err-keep-clause-complete : goal.returns-in_err-keep-clause-complete
 returns-in_err-keep-clause-complete c =
     let linked : IsLinked c.args.checked = rw c.linked.ensures at c.facts.ensures.linked in
-    let admitted : IsAdmitted c.args.checked = rw c.linked.ensures at c.facts.ensures.admitted in
-    λ budgets within high. absurd (refuses_none _ _ linked admitted c.in_err-keep.ensures.err budgets within high)
+    λ budgets within high. absurd (refuses_none _ _ linked c.in_err-keep.ensures.err budgets within high)

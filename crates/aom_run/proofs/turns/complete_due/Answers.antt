@@ -2,7 +2,7 @@ use Rattle.std.proofs.Common.{refl, inl, inr, subst, sym, ◌∙◌, ◌<◌, �
 use Rattle.aom_exec.specs.Steps.{Machine, StandsFor, progress, timers}
 use Rattle.aom_exec.specs.declared.progress.Progress.TheVariants.{Turned}
 use Rattle.aom_exec.specs.Turns.{Completed as Completes_one}
-use Rattle.aom_run.specs.Turns.{Completed, IsDue}
+use Rattle.aom_run.specs.Turns.{CompletesDue, IsDue}
 use Rattle.aom_run.proofs.Between.{completed_far, completed_stands, fewer_then, none_completed, one_completed, was_due}
 use Rattle.aom_run.proofs.turns.complete_due.Goals as goal
 
@@ -37,7 +37,7 @@ returns c =
     let same = sym none.0 in
     record {
       image = c.due.ensures.image ∙ i.image;
-      completed = subst (λ (x : Machine). Completed c.args.machine.now x) same i.completed;
+      completed = subst (λ (x : Machine). CompletesDue c.args.machine.now x) same i.completed;
       between = subst (λ (x : Machine). progress x ≡ Turned) same i.between;
       none = λ s stands. none.1 s (subst (λ (x : Machine). StandsFor x s) none.0 stands);
       falls = subst (λ (x : Machine). IsDue c.args.machine.now → timers x < timers c.args.machine.now) same (was_due c.args.machine.now m i.fewer none.1);

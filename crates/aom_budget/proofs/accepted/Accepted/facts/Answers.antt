@@ -6,6 +6,7 @@ use Rattle.aom_verify.specs.Strongest.{IsStrongest}
 use Rattle.aom_prices.specs.Dispatches.{IsAffordable}
 use Rattle.aom_prices.specs.Prices.{Prices}
 use Rattle.aom_classes.specs.Linked.{IsLinked}
+use Rattle.aom_budget.specs.Budgets.{CostsWithin}
 use Rattle.aom_budget.specs.Depths.{DepthsWithin}
 use Rattle.aom_budget.specs.Heights.{HeightsWithin}
 use Rattle.aom_budget.proofs.Budgeting.{affordable}
@@ -15,7 +16,7 @@ use Rattle.aom_budget.proofs.accepted.Accepted.facts.Goals as goal
 pub returns-clause-affordable : goal.returns-clause-affordable
 returns-clause-affordable c =
     let linked : IsLinked c.self.inside.checked = subst IsLinked (c.linked.ensures ∙ sym c.self.view_is) c.facts.ensures.linked in
-    subst (λ (p : Image). (t : Typing) × IsStrongest p t × (prices : Prices) × IsAffordable p t prices) c.self.view_is (affordable _ _ linked c.self.invariant.0 c.self.invariant.3.priced)
+    subst (λ (p : Image). (t : Typing) × IsStrongest p t × (prices : Prices) × IsAffordable p t prices × CostsWithin p prices) c.self.view_is (affordable _ _ linked c.self.invariant.0 c.self.invariant.3.priced)
 
 pub returns-clause-within : goal.returns-clause-within
 returns-clause-within c = subst DepthsWithin c.self.view_is (all_within _ c.self.invariant.1)

@@ -1,29 +1,44 @@
--- What was found of main's dispatch is compared with what is declared of it.
-use Rattle.std.proofs.Common.{◌≡◌, ◌∙◌, ap, arith}
+-- What was found of main's dispatch is compared with what is declared of it, and then what was found of the classes.
+use Rattle.std.proofs.Common.{◌≡◌, ◌∙◌, ap}
+use Rattle.std.proofs.lemmas.Result.{err_from_is_err_and}
 use Rattle.aom_image.specs.Image.{Image}
 use Rattle.aom_image.specs.WellFormed.{WellFormed}
 use Rattle.aom_image.specs.declared.image.Header.{Header}
-use Rattle.aom_classes.specs.Admitted.{IsAdmitted}
 use Rattle.aom_classes.specs.Linked.{IsLinked}
-use Rattle.aom_budget.specs.Figures.{main_by}
-use Rattle.aom_budget.proofs.Budgeting.{budgets_within, is_over}
+use Rattle.aom_budget.specs.Figures.{IsWithin, TellsFirst, main_by}
+use Rattle.aom_budget.specs.declared.fault.Payer.TheVariants.{Main}
+use Rattle.aom_budget.proofs.Budgeting.{budgets_within, main_over, main_within, refuses_class, refuses_main}
 use Rattle.aom_budget.proofs.figures.Figures.keep.Goals as goal
 
-pub returns-then-price-from-clause-err : goal.returns-then-price-from-clause-err
-returns-then-price-from-clause-err c =
+pub returns-in_err-within-clause-err : goal.returns-in_err-within-clause-err
+returns-in_err-within-clause-err c =
+    let error = err_from_is_err_and c.from_residual.result c.from_residual.ensures.1 in
     let linked : IsLinked c.args.checked.now = rw c.linked-linked.ensures at c.facts.ensures.linked in
-    let admitted : IsAdmitted c.args.checked.now = rw c.linked-linked.ensures at c.facts.ensures.admitted in
     let image : c.image.result.now ≡ c.args.checked.now = c.image.ensures ∙ c.linked-linked.ensures in
-    let budget : c.header.result.now.budget ≡ c.args.checked.now.header.budget = ap (λ (h : Header). h.budget) (c.header.ensures.value ∙ ap (λ (p : Image). p.header) image) in
-    let is : c.main_price-price.result ≡ main_by c.args.checked.now c.args.self.now.prices = c.main_price-price.ensures ∙ ap (λ (p : Image). main_by p c.args.self.now.prices) c.linked-linked.ensures in
-    rw (is, budget) (is_over _ _ linked admitted c.requires.priced (omega (arith, c.if-price-from.true, c.from.ensures, budget, is)))
+    let formed : WellFormed c.args.checked.now = rw image at c.header.ensures.well_formed in
+    let declares : c.header.result.now.budget ≡ c.args.checked.now.header.budget = ap (λ (h : Header). h.budget) (c.header.ensures.value ∙ ap (λ (p : Image). p.header) image) in
+    let costs : c.main_price.result ≡ main_by c.args.checked.now c.args.self.now.prices = c.main_price.ensures ∙ ap (λ (p : Image). main_by p c.args.self.now.prices) c.linked-linked.ensures in
+    rw (error.1, error.2) (refuses_main _ _ formed linked c.requires.priced _ (main_over _ _ _ _ _ declares costs c.in_err-within.ensures.err.0 c.in_err-within.ensures.err.1))
+
+pub returns-in_err-keep_classes-clause-err : goal.returns-in_err-keep_classes-clause-err
+returns-in_err-keep_classes-clause-err c =
+    let error = err_from_is_err_and c.from_residual-in_err-keep_classes.result c.from_residual-in_err-keep_classes.ensures.1 in
+    let linked : IsLinked c.args.checked.now = rw c.linked-linked.ensures at c.facts.ensures.linked in
+    let image : c.image.result.now ≡ c.args.checked.now = c.image.ensures ∙ c.linked-linked.ensures in
+    let formed : WellFormed c.args.checked.now = rw image at c.header.ensures.well_formed in
+    let declares : c.header.result.now.budget ≡ c.args.checked.now.header.budget = ap (λ (h : Header). h.budget) (c.header.ensures.value ∙ ap (λ (p : Image). p.header) image) in
+    let costs : c.main_price.result ≡ main_by c.args.checked.now c.args.self.now.prices = c.main_price.ensures ∙ ap (λ (p : Image). main_by p c.args.self.now.prices) c.linked-linked.ensures in
+    let main : IsWithin c.args.checked.now c.args.self.now.prices Main = main_within _ _ _ _ declares costs c.in_ok-within.ensures.ok in
+    let first : TellsFirst c.args.checked.now c.args.self.now.prices c.in_err-keep_classes.field-0.0 = rw c.linked-linked.ensures at c.in_err-keep_classes.ensures.err in
+    rw (error.1, error.2) (refuses_class _ _ formed linked c.requires.priced _ main first)
 
 pub keep-requires-clause-budgets : goal.keep-requires-clause-budgets
 keep-requires-clause-budgets c =
     let linked : IsLinked c.args.checked.now = rw c.linked-linked.ensures at c.facts.ensures.linked in
-    let admitted : IsAdmitted c.args.checked.now = rw c.linked-linked.ensures at c.facts.ensures.admitted in
     let image : c.image.result.now ≡ c.args.checked.now = c.image.ensures ∙ c.linked-linked.ensures in
-    let budget : c.header.result.now.budget ≡ c.args.checked.now.header.budget = ap (λ (h : Header). h.budget) (c.header.ensures.value ∙ ap (λ (p : Image). p.header) image) in
     let formed : WellFormed c.args.checked.now = rw image at c.header.ensures.well_formed in
-    let is : c.main_price-price.result ≡ main_by c.args.checked.now c.args.self.now.prices = c.main_price-price.ensures ∙ ap (λ (p : Image). main_by p c.args.self.now.prices) c.linked-linked.ensures in
-    budgets_within _ _ linked admitted c.requires.priced formed.header.budget (omega (arith, c.if-price-from.false, c.from.ensures, budget, is))
+    let declares : c.header.result.now.budget ≡ c.args.checked.now.header.budget = ap (λ (h : Header). h.budget) (c.header.ensures.value ∙ ap (λ (p : Image). p.header) image) in
+    let costs : c.main_price.result ≡ main_by c.args.checked.now c.args.self.now.prices = c.main_price.ensures ∙ ap (λ (p : Image). main_by p c.args.self.now.prices) c.linked-linked.ensures in
+    let main : IsWithin c.args.checked.now c.args.self.now.prices Main = main_within _ _ _ _ declares costs c.in_ok-within.ensures.ok in
+    let classes = rw c.linked-linked.ensures at c.in_ok-keep_classes.ensures.ok in
+    budgets_within _ _ formed linked c.requires.priced main classes

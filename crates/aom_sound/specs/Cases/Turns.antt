@@ -1,0 +1,85 @@
+-- What a turn does, by what signals, what is due and what waits; and where it is stuck.
+use Rattle.std.specs.Prelude.{ℕ, ℤ, pos, negsuc, List, [], ◌∷◌, ◌≡◌, Option, Some, None}
+use Rattle.aom_sound.specs.Enlisted.{pending}
+use Rattle.aom_sound.specs.Places.{Active, Cancelling, Cell, Elsewhere, Idle, Issued, Object, Phase, Root, Timer}
+use Rattle.aom_sound.specs.State.{IsStuck, Seat, State, Stray}
+use Rattle.aom_sound.specs.World.{Completes, Cuts, Outside, Passes, Picks, Strays, Turning, Waits, refusing, turn, turning}
+use Rattle.aom_sound.specs.Cases.Building.{a_cell, state_of, waiter}
+use Rattle.aom_sound.specs.Cases.Moves.{an_image}
+
+-- an object that is enlisted, with its place among those enlisted, its priority, its request and that request's status
+abbrev pub listed : (name order : ℕ) (priority : ℤ) → Phase → (status : ℤ) → Cell
+listed name order priority phase status =
+    record (a_cell name waiter (Elsewhere Root)) { request = Some (record { order = order; priority = priority; phase = phase; status = status; timer = None }) }
+
+-- one that waits for a timer
+abbrev pub timed : (name order : ℕ) → Timer → Cell
+timed name order timer =
+    record (a_cell name waiter (Elsewhere Root)) { request = Some (record { order = order; priority = pos 0; phase = Active; status = pending; timer = Some timer }) }
+
+abbrev pub named_so : ℕ → Object
+named_so name = record { name = name; thing = waiter }
+
+abbrev pub seat_of : ℕ → Seat
+seat_of name = record { object = named_so name; place = Elsewhere Root }
+
+-- at time 0, with nothing at hand and no dispatch so far
+abbrev pub between : List Cell → State
+between cells = state_of [] cells []
+
+-- a run that may have so many dispatches
+abbrev pub within : ℕ → Outside
+within limit = refusing [] limit
+
+pub record Turn_case : Type 0 where
+  pub cells : List Cell
+  pub limit : ℕ
+  pub comes : Turning
+
+abbrev pub comes_to : Turning → List Cell → Turn_case
+comes_to comes cells = record { cells = cells; limit = 9; comes = comes }
+
+abbrev pub AllCome : List Turn_case → Type 0
+AllCome [] = Unit {0}
+AllCome (c ∷ cs) = (turning (within c.limit) (between c.cells) ≡ c.comes) × AllCome cs
+
+-- a completed request signals, unless its signal is taken
+abbrev pub signal_cases : List Turn_case
+signal_cases =
+    comes_to Waits []
+    ∷ comes_to Waits (a_cell 1 waiter (Elsewhere Root) ∷ [])
+    ∷ comes_to Waits (listed 1 0 (pos 0) Idle (negsuc 2) ∷ [])
+    ∷ comes_to Waits (listed 1 0 (pos 0) Active pending ∷ [])
+    ∷ comes_to Waits (listed 1 0 (pos 0) Issued pending ∷ [])
+    ∷ comes_to (Picks (seat_of 1)) (listed 1 0 (pos 0) Active (pos 0) ∷ [])
+    ∷ comes_to Strays (listed 1 0 (pos 0) Issued (pos 0) ∷ [])
+    ∷ comes_to Strays (listed 1 0 (pos 0) Cancelling (pos 0) ∷ [])
+    ∷ []
+
+-- of the ready objects the one of the highest priority is picked, and among equals the one enlisted first
+abbrev pub pick_cases : List Turn_case
+pick_cases =
+    comes_to (Picks (seat_of 2)) (listed 1 0 (pos 0) Active (pos 0) ∷ listed 2 1 (pos 5) Active (pos 0) ∷ [])
+    ∷ comes_to (Picks (seat_of 1)) (listed 1 0 (pos 0) Active (pos 0) ∷ listed 2 1 (negsuc 0) Active (pos 0) ∷ [])
+    ∷ comes_to (Picks (seat_of 1)) (listed 1 0 (pos 0) Active (pos 0) ∷ listed 2 1 (pos 0) Active (pos 0) ∷ [])
+    ∷ comes_to (Picks (seat_of 1)) (listed 2 1 (pos 0) Active (pos 0) ∷ listed 1 0 (pos 0) Active (pos 0) ∷ [])
+    ∷ comes_to (Picks (seat_of 1)) (listed 1 0 (pos 0) Active (pos 0) ∷ listed 2 1 (pos 5) Active pending ∷ [])
+    ∷ []
+
+-- timers that are due come before signals, the earliest first, and among equals the one begun first; the limit comes before all
+abbrev pub timer_cases : List Turn_case
+timer_cases =
+    comes_to (Passes 5) (timed 1 0 (record { due = 5; order = 0 }) ∷ [])
+    ∷ comes_to (Passes 4) (timed 1 0 (record { due = 5; order = 0 }) ∷ timed 2 1 (record { due = 4; order = 1 }) ∷ [])
+    ∷ comes_to (Completes (named_so 1)) (timed 1 0 (record { due = 0; order = 0 }) ∷ listed 2 1 (pos 0) Active (pos 0) ∷ [])
+    ∷ comes_to (Picks (seat_of 2)) (timed 1 0 (record { due = 1; order = 0 }) ∷ listed 2 1 (pos 0) Active (pos 0) ∷ [])
+    ∷ comes_to (Completes (named_so 2)) (timed 1 0 (record { due = 0; order = 1 }) ∷ timed 2 1 (record { due = 0; order = 0 }) ∷ [])
+    ∷ record (comes_to Cuts (timed 1 0 (record { due = 0; order = 0 }) ∷ listed 2 1 (pos 0) Active (pos 0) ∷ [])) { limit = 0 }
+    ∷ []
+
+-- each turn comes out so, and a signal without a ready object makes it stuck
+pub record TurnsBite : Type 0 where
+  pub signals : AllCome signal_cases
+  pub picks : AllCome pick_cases
+  pub timers : AllCome timer_cases
+  pub stray : turn an_image (within 9) (between (listed 1 0 (pos 0) Issued (pos 0) ∷ [])) ≡ IsStuck Stray
