@@ -1,0 +1,4 @@
+pub mod Delays
+pub mod Ids
+pub mod Lines
+pub mod Slots

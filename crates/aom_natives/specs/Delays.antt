@@ -1,0 +1,19 @@
+-- What a delay makes of its entries.
+use Rattle.std.specs.Prelude.{ℕ, ℤ, ◌-◌, ◌==◌, Bool, List, map}
+use Rattle.aom_natives.specs.declared.delay.Entry.{Entry}
+
+-- the ids that are owed
+abbrev pub ids_in : List Entry → List ℕ
+ids_in entries = map (λ e. e.id) entries
+
+-- an entry waits for no poll any more
+abbrev pub is_due : Entry → Bool
+is_due e = e.count == 0
+
+-- what a poll answers for it
+abbrev pub completed : Entry → ℕ × ℤ
+completed e = (e.id, e.code)
+
+-- it waits for one poll less
+abbrev pub lowered : Entry → Entry
+lowered e = record e { count = e.count - 1 }

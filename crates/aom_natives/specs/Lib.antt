@@ -1,0 +1,4 @@
+pub mod Delays
+pub mod Lines
+pub mod Owed
+pub mod Slots
