@@ -1,4 +1,6 @@
 //! Worked programs of active objects: their turns, from the text to the transcript.
+ghost use Rattle.std.specs.Prelude.{◌≤◌};
+
 use crate::pages::{assembled, runs_until};
 use crate::programs::{refuses, stops};
 use aom_main::ExitStatus;
