@@ -16,8 +16,7 @@ use Rattle.aom_scheduler.specs.Roster.{IsSound, Roster, before, first_ready, mar
 use Rattle.aom_scheduler.specs.Pending.{AreInOrder, Pending, due_by, due_of, left_by, no_later, timer_of}
 use Rattle.aom_scheduler.specs.declared.timer.Timer.{Timer as Held_timer}
 use Rattle.aom_scheduler.proofs.Items.{AreDistinct, IsAbsent, place-absent}
-use Rattle.aom_image.specs.declared.class.Provider.TheVariants.{Own}
-use Rattle.aom_sound.specs.Enlisted.{aborted, cancelled, cancelling, issued_by, taken_up, timed_out, waits}
+use Rattle.aom_sound.specs.Enlisted.{aborted, cancelled, cancelling, completed_at_once, taken_up, timed_out, waits}
 use Rattle.aom_sound.specs.Places.{Request}
 use Rattle.aom_active.specs.Aborts.{aborted_request}
 use Rattle.aom_active.specs.Agrees.{Active, IsWhole, StandsFor, Tells, due_in, may_stand, timer_in}
@@ -170,15 +169,15 @@ module _ {old : Active} (a : Active) (same : a ≡ old) (w : IsWhole a) (id : �
 
   pub issues_own :
       (s t : Table) (code given : ℤ) → given ≡ code → state_at old.table id ≡ Some Held_idle → Changes a.table s id (Some (Held_object Held_issued pending)) →
-      Changes s t id (with_status (kept_code given) (request_at s id)) → Made old (parts t a.roster a.pending) id (issued_by Own 0 0 code)
+      Changes s t id (with_status (kept_code given) (request_at s id)) → Made old (parts t a.roster a.pending) id (completed_at_once code)
   issues_own s t code given given_is state first second =
       let o = state_here Held_idle state in
       let q = Some (Held_object Held_issued (kept_code code)) in
       let over : is_pending (request_at a.table id) ≡ false = ap is_pending o.is in
       let ch = changes_twice a.table s t id (Some (Held_object Held_issued pending)) q first (subst (λ k. Changes s t id (with_status (kept_code k) (Some (Held_object Held_issued pending)))) given_is (subst (λ h. Changes s t id (with_status (kept_code given) h)) first.here second)) in
-      subst (λ x. Made x (parts t a.roster a.pending) id (issued_by Own 0 0 code)) same
-      (made a (parts t a.roster a.pending) id q (issued_by Own 0 0 code) w ch refl (follows_same a w t id q ch (ap is_some o.is) refl (sym (ap is_ready o.is)))
-      (runs_same a w t id q ch (λ e. absurd (false≢true (sym over ∙ e)))) (retimes_none a.pending.timers id (issued_by Own 0 0 code) (no_timer a w t id q ch over) (λ x. refl))
+      subst (λ x. Made x (parts t a.roster a.pending) id (completed_at_once code)) same
+      (made a (parts t a.roster a.pending) id q (completed_at_once code) w ch refl (follows_same a w t id q ch (ap is_some o.is) refl (sym (ap is_ready o.is)))
+      (runs_same a w t id q ch (λ e. absurd (false≢true (sym over ∙ e)))) (retimes_none a.pending.timers id (completed_at_once code) (no_timer a w t id q ch over) (λ x. refl))
       (λ x e. (refl, refl)) (λ x. (refl, refl)))
 
   pub ends_cancel :

@@ -4,7 +4,7 @@ ghost use Rattle.aom_requests.specs.Requests.{request_at, IsEnlisted, state_at, 
 ghost use Rattle.aom_scheduler.specs.Pending.{first_due, AreInOrder};
 ghost use Rattle.aom_scheduler.specs.Roster.{IsSound};
 ghost use Rattle.aom_image.specs.declared.class.Provider.TheVariants.{Own};
-ghost use Rattle.aom_sound.specs.Enlisted.{issued_by, waits, cancelling, aborted, cancelled};
+ghost use Rattle.aom_sound.specs.Enlisted.{completed_at_once, waits, cancelling, aborted, cancelled};
 ghost use Rattle.aom_active.specs.Agrees.{StandsFor};
 ghost use Rattle.aom_active.specs.Meanings.{is_waited_for, is_being_cancelled, is_busy, Makes, Removes, Enlists, Times, Completes, IsNextDue, Picks};
 
@@ -74,7 +74,7 @@ impl ActiveObjects {
     /// An idle object makes a request of itself, which is completed at once: RThread::RequestComplete. It does not wait for it yet.
     pub fn issue_own(&mut self, id: CellId, code: i32)
         requires { state_at self.old.table id ≡ Some State.Idle }
-        ensures { Makes self.old self.new id (issued_by Own 0 0 code) }
+        ensures { Makes self.old self.new id (completed_at_once code) }
     {
         self.requests.issue(id);
         self.requests.complete(id, code);

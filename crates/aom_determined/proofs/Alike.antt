@@ -1,5 +1,5 @@
 -- A move of each of two states that are the same but for names, where the new cells' names are changed with one another, and a turn of each.
-use Rattle.std.proofs.Common.{List, None, ap, length, refl, subst, sym, ℕ, ◌∙◌, ◌≡◌}
+use Rattle.std.proofs.Common.{List, None, ap, length, refl, subst, sym, ℕ, ◌∙◌, ◌≡◌, Bool, true, false, ℤ}
 use Rattle.aom_image.specs.Image.{Image}
 use Rattle.aom_rules.specs.Typing.{Typing}
 use Rattle.aom_sound.specs.Moves.{IsOpen, is_refused, step, written}
@@ -13,12 +13,14 @@ use Rattle.aom_determined.proofs.Steps.{free_so, moves_so, refused_so, writes_so
 use Rattle.aom_determined.proofs.Turning.{turns_so, writes_turn_so}
 use Rattle.aom_determined.specs.Laws.{MovesStayAlike}
 use Rattle.aom_determined.specs.Names.{AlikeOutcomes, AreAlike, IsOneToOne, renamed, renamed_choice, renamed_outcome}
+use Rattle.aom_determined.specs.Hearing.{is_heard}
+use Rattle.aom_determined.proofs.Hearing.{step_unheard, heard_kept}
 
 alike_renamed : (names : ℕ → ℕ) → IsOneToOne names → (o : Outcome) → AlikeOutcomes o (renamed_outcome names o)
 alike_renamed names one_to_one (Goes s) = record { names = names; one_to_one = one_to_one; same = refl }
 alike_renamed names one_to_one (IsStuck kind) = refl
 
-module _ (p : Image) (t : Typing) (refused : List ℕ) (c d : Choice) (s u : State) (well : WellTyped p t u) (alike : AreAlike s u) (open_c : IsOpen p refused c s) (open_d : IsOpen p refused d u) where
+module _ (p : Image) (t : Typing) (refused : List ℕ) (c d : Choice) (s u : State) (well : WellTyped p t u) (alike : AreAlike s u) (open_c : IsOpen p refused c s) (open_d : IsOpen p refused d u) (answers : is_heard p s.tasks ≡ true → c.answer ≡ d.answer) where
   -- the new cell of the first state gets the name that the second state's gets
   names : ℕ → ℕ
   names n = swapped (alike.names c.name) d.name (alike.names n)
@@ -44,12 +46,24 @@ module _ (p : Image) (t : Typing) (refused : List ℕ) (c d : Choice) (s u : Sta
       ∙ ap (is_refused p refused) (sym alike.same)
       ∙ sym open_d.refusal
 
-  same_choice : renamed_choice names c ≡ d
-  unfolding names
+  -- it hears what the first hears
+  hearing : ℤ → Choice
+  hearing answer = record d { answer = answer }
+
+  same_choice : renamed_choice names c ≡ hearing c.answer
+  unfolding names hearing
   same_choice = rw (swap_first (alike.names c.name) d.name, same_refusal)
 
+  same_hearing : step p (hearing c.answer) u ≡ step p d u
+  unfolding hearing
+  same_hearing = go (is_heard p s.tasks) refl
+    where
+      go : (b : Bool) → is_heard p s.tasks ≡ b → step p (record d { answer = c.answer }) u ≡ step p d u
+      go true e = ap (λ a. step p (record d { answer = a }) u) (answers e)
+      go false e = step_unheard p d c.answer u (ap (λ x. is_heard p x.tasks) alike.same ∙ heard_kept p alike.names s.tasks ∙ e)
+
   same_step : renamed_outcome names (step p c s) ≡ step p d u
-  same_step = sym (moves_so names one_to_one p c s) ∙ ap (λ x. step p x (renamed names s)) same_choice ∙ ap (step p d) same_state
+  same_step = sym (moves_so names one_to_one p c s) ∙ ap (λ x. step p x (renamed names s)) same_choice ∙ ap (step p (hearing c.answer)) same_state ∙ same_hearing
 
   pub move_alike : AlikeOutcomes (step p c s) (step p d u)
   move_alike = subst (AlikeOutcomes (step p c s)) same_step (alike_renamed names one_to_one (step p c s))
@@ -58,7 +72,7 @@ pub writes_alike : (p : Image) (s u : State) → AreAlike s u → written p s �
 writes_alike p s u alike = sym (writes_so alike.names alike.one_to_one p s) ∙ ap (written p) (sym alike.same)
 
 pub moves_stay_alike : MovesStayAlike
-moves_stay_alike p t refused c d s u well_u alike open_c open_d = (move_alike p t refused c d s u well_u alike open_c open_d, writes_alike p s u alike)
+moves_stay_alike p t refused c d s u well_u alike open_c open_d answers = (move_alike p t refused c d s u well_u alike open_c open_d answers, writes_alike p s u alike)
 
 -- a turn makes no cell
 pub turn_alike : (p : Image) (outside : Outside) (s u : State) → AreAlike s u → AlikeOutcomes (turn p outside s) (turn p outside u)

@@ -6,7 +6,7 @@ use Rattle.std.specs.Prelude.{max, option_map}
 use Rattle.aom_sound.specs.Calls.{is_register_but, none_owns_but}
 use Rattle.aom_sound.specs.Destruction.{is_field_of, owns_nothing}
 use Rattle.aom_sound.specs.Enlisted.{next_order, next_timer, order_after, request_after}
-use Rattle.aom_sound.specs.Places.{Cell, Elsewhere, Entry, Field, Going, Place, Register, Request, held, moved, named, requested, same_place, set_request, set_word_field, without, word_field}
+use Rattle.aom_sound.specs.Places.{Cell, Elsewhere, Entry, Field, Going, Place, Register, Request, held, moved, named, requested, same_place, set_request, set_word_field, without, word_field, in_session, set_session}
 use Rattle.aom_sound.specs.State.{Task}
 use Rattle.aom_determined.specs.Names.{IsOneToOne, renamed_cell, renamed_cells, renamed_object, renamed_place, renamed_tasks}
 
@@ -79,6 +79,14 @@ module _ (names : ℕ → ℕ) (one_to_one : IsOneToOne names) where
   pub set_request_renamed : (n : ℕ) (r : Option Request) (cs : List Cell) → set_request (names n) r (renamed_cells names cs) ≡ renamed_cells names (set_request n r cs)
   set_request_renamed n r [] = refl
   set_request_renamed n r (c ∷ cs) = rw (same_name c.object.name n, set_request_renamed n r cs)
+
+  pub in_session_kept : (cs : List Cell) (n : ℕ) → in_session (renamed_cells names cs) (names n) ≡ in_session cs n
+  in_session_kept [] n = refl
+  in_session_kept (c ∷ cs) n = rw (same_name c.object.name n, in_session_kept cs n)
+
+  pub set_session_renamed : (n : ℕ) (session : Bool) (cs : List Cell) → set_session (names n) session (renamed_cells names cs) ≡ renamed_cells names (set_session n session cs)
+  set_session_renamed n session [] = refl
+  set_session_renamed n session (c ∷ cs) = rw (same_name c.object.name n, set_session_renamed n session cs)
 
   is_field_kept : (n : ℕ) (q : Place) → is_field_of (names n) (renamed_place names q) ≡ is_field_of n q
   is_field_kept n (Field m f) = same_name n m

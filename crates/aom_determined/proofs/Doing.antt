@@ -4,7 +4,7 @@ use Rattle.std.specs.Prelude.{is_some, option_map}
 use Rattle.aom_image.specs.Image.{Image}
 use Rattle.aom_image.specs.Views.{instr_at, method_class, method_role}
 use Rattle.aom_instructions.specs.declared.instr.Instr.{Instr}
-use Rattle.aom_instructions.specs.declared.instr.Instr.TheVariants.{Abort, Add, And, Call, Cancel, Const, Copy, Delete, Enlist, Issue, JumpActive, JumpAdded, JumpEmpty, JumpNull, Load, Move, Mul, New, NewOrLeave, Next, Or, Pop, Push, PushOperation, Put, Return, SetActive, Status, Store, Sub, Take, Trap, Xor}
+use Rattle.aom_instructions.specs.declared.instr.Instr.TheVariants.{Abort, Add, And, Call, Cancel, Const, Copy, Delete, Enlist, Issue, JumpActive, JumpAdded, JumpEmpty, JumpNull, Load, Move, Mul, New, NewOrLeave, Next, Or, Pop, Push, PushOperation, Put, Return, SetActive, Status, Connect, Ask, Close, Store, Sub, Take, Trap, Xor}
 use Rattle.aom_instructions.specs.declared.instr.Target.{Target}
 use Rattle.aom_instructions.specs.declared.instr.Target.TheVariants.{Entry as On_entry, Field as On_field, Register as On_register, This}
 use Rattle.aom_image.specs.declared.method.Gives.{Gives}
@@ -13,16 +13,17 @@ use Rattle.aom_sound.specs.Calls.{answered_by, below_top, told_answer, entry_pla
 use Rattle.aom_sound.specs.Cleanup.{code_told, dealt_with, destroyed, to_trap, top_place}
 use Rattle.aom_classes.specs.Roles.{destructor_of}
 use Rattle.aom_sound.specs.Destruction.{begun, begun_by}
-use Rattle.aom_sound.specs.Effects.{Calls, Cancels, Carried, Destroys, Destroys_last, Effect, Goes_on, In_field, In_register, Jumps, Leaves, Made, Popped, Popped_operation, Pushed, Pushed_operation, Requested, Returns, Same, Sets_trap, Spot, Update, Written, applied, cancels_if, cells_after, deals, deletes, effect, items_after, jumps_if, jumps_unless, makes_unless, round, sets, spot_place, updates, with_words, writes}
+use Rattle.aom_sound.specs.Effects.{Calls, Cancels, Carried, Destroys, Destroys_last, Effect, Goes_on, In_field, In_register, Jumps, Leaves, Made, Popped, Popped_operation, Pushed, Pushed_operation, Requested, Returns, Same, Sets_trap, Spot, Update, Written, applied, cancels_if, cells_after, deals, deletes, effect, items_after, jumps_if, jumps_unless, makes_unless, round, sets, spot_place, updates, with_words, writes, Sessioned}
 use Rattle.aom_sound.specs.Enlisted.{cancel_method, cancelled, cancelling, ended_cells, in_phase, is_active, is_busy, on_request, own_request, rerequested}
 use Rattle.aom_sound.specs.Moves.{does, needs}
 use Rattle.aom_sound.specs.Places.{Cell, Entry, Going, Object, Place, Register, Request, held, moved}
 use Rattle.aom_sound.specs.State.{A_mark, An_object, An_operation, Asks, AtRoot, Choice, Destroy, Dispatch, Dispatched, Frame, Home, Inside, Item, Run, State, Static, Task, Trapped, Unwind, counter, field_place}
 use Rattle.aom_sound.specs.Words.{loaded, stored}
-use Rattle.aom_determined.proofs.Cells.{held_renamed, moved_renamed, order_kept, set_request_renamed, set_word_field_renamed, tasks_counted, timer_kept, word_field_kept}
+use Rattle.aom_determined.proofs.Cells.{held_renamed, moved_renamed, order_kept, set_request_renamed, set_word_field_renamed, tasks_counted, timer_kept, word_field_kept, in_session_kept, set_session_renamed}
 use Rattle.aom_determined.proofs.Needs.{call_kept, field_renamed, free_at, given_renamed, held_field, holder_kept, kind_kept, leave_kept, message_at, own_request_kept, push_kept, pushed_renamed, put_kept, refusal_kept, register_renamed, return_kept, trap_kept, under_trap_kept, whole_kept}
 use Rattle.aom_determined.specs.Names.{IsOneToOne, renamed, renamed_cells, renamed_choice, renamed_dispatch, renamed_frame, renamed_home, renamed_object, renamed_place, renamed_tasks}
 use Rattle.aom_rules.specs.Requests.{is_cancel}
+use Rattle.aom_sound.specs.Natives.{own_session, resessioned}
 
 -- ---- an effect under other names: a new cell and one that goes have names
 
@@ -83,6 +84,18 @@ module _ (names : ℕ → ℕ) (one_to_one : IsOneToOne names) where
   rerequested_renamed cs Static r = refl
   rerequested_renamed cs AtRoot r = refl
   rerequested_renamed cs (Inside o from) r = set_request_renamed names one_to_one o.name r cs
+
+  -- ---- sessions
+
+  own_session_kept : (cs : List Cell) (h : Home) → own_session (renamed_cells names cs) (renamed_home names h) ≡ own_session cs h
+  own_session_kept cs Static = refl
+  own_session_kept cs AtRoot = refl
+  own_session_kept cs (Inside o from) = in_session_kept names one_to_one cs o.name
+
+  resessioned_renamed : (cs : List Cell) (h : Home) (session : Bool) → resessioned (renamed_cells names cs) (renamed_home names h) session ≡ renamed_cells names (resessioned cs h session)
+  resessioned_renamed cs Static session = refl
+  resessioned_renamed cs AtRoot session = refl
+  resessioned_renamed cs (Inside o from) session = set_session_renamed names one_to_one o.name session cs
 
   -- ---- what an item is dealt with
 
@@ -202,6 +215,7 @@ module _ (names : ℕ → ℕ) (one_to_one : IsOneToOne names) (p : Image) (c : 
   cells_renamed (Made name class a) = rw (tasks_counted names ts)
   cells_renamed (Written w v) = stored_renamed names one_to_one s.cells fr.home w v
   cells_renamed (Requested r) = rerequested_renamed names one_to_one s.cells fr.home r
+  cells_renamed (Sessioned session) = resessioned_renamed names one_to_one s.cells fr.home session
   cells_renamed (Pushed a) = pushed_renamed names one_to_one p c fr ts s a
   cells_renamed (Pushed_operation m w) = refl
   cells_renamed (Popped a) = rw (tasks_counted names ts, moved_renamed names one_to_one (top_place s.items) (Register (length ts) a) s.cells)
@@ -299,11 +313,13 @@ module _ (names : ℕ → ℕ) (one_to_one : IsOneToOne names) (p : Image) (c : 
   effect_renamed (JumpActive to) = branch_renamed (in_phase is_busy) to
   effect_renamed (JumpAdded to) = branch_renamed is_some to
   effect_renamed (Enlist priority) = rw (order_kept names s.cells)
-  effect_renamed (Issue a b) = rw (kind_kept names p fr.home, timer_kept names s.cells, own_request_kept names one_to_one s.cells fr.home)
+  effect_renamed (Issue a b) = rw (kind_kept names p fr.home, timer_kept names s.cells, own_session_kept names one_to_one s.cells fr.home, own_request_kept names one_to_one s.cells fr.home)
   effect_renamed SetActive = rw (own_request_kept names one_to_one s.cells fr.home)
   effect_renamed Cancel = cancel_renamed
   effect_renamed Abort = rw (own_request_kept names one_to_one s.cells fr.home)
   effect_renamed (Status a) = rw (own_request_kept names one_to_one s.cells fr.home)
+  effect_renamed (Connect a) = rw (kind_kept names p fr.home, own_session_kept names one_to_one s.cells fr.home)
+  effect_renamed (Ask a b x) = rw (kind_kept names p fr.home, own_session_kept names one_to_one s.cells fr.home)
   effect_renamed _ = first_of (cc, search (either_renamed), search (dealt_alike))
 
   -- ---- what an instruction needs
@@ -339,6 +355,9 @@ module _ (names : ℕ → ℕ) (one_to_one : IsOneToOne names) (p : Image) (c : 
   needs_kept Cancel = rw (kind_kept names p fr.home, own_request_kept names one_to_one s.cells fr.home)
   needs_kept Abort = rw (kind_kept names p fr.home, own_request_kept names one_to_one s.cells fr.home)
   needs_kept (Status a) = rw (kind_kept names p fr.home, free_at names one_to_one s.cells ts a)
+  needs_kept (Connect a) = rw (kind_kept names p fr.home, free_at names one_to_one s.cells ts a)
+  needs_kept (Ask a b x) = rw (kind_kept names p fr.home, free_at names one_to_one s.cells ts a)
+  needs_kept Close = rw (kind_kept names p fr.home, own_request_kept names one_to_one s.cells fr.home)
   needs_kept (Return a) = return_kept names one_to_one p c fr ts s a
   needs_kept _ = first_of (cc, rw (leave_kept names s.cells (Run fr ∷ ts)), rw (whole_kept names one_to_one s.cells s.items))
 

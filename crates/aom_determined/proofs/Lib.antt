@@ -3,6 +3,7 @@ pub mod Needs
 pub mod Doing
 pub mod Turning
 pub mod Steps
+pub mod Hearing
 pub mod Fresh
 pub mod Alike
 pub mod Runs

@@ -1,6 +1,6 @@
 -- Two runs, stage by stage, where each stage is a move or a turn: after as many stages they have written the same, and are the same but for names.
 use Rattle.std.proofs.Common.{List, None, Option, Some, [], ap, append-nil, append_assoc, arith, inl, inr, refl, subst, suc, sym, zero, ℕ, ⊎_elim, ◌∙◌, ◌∷◌, ◌≡◌, ◌<◌, ◌≤◌}
-use Rattle.std.proofs.lemmas.Bool.{cases_eq, cases_lt}
+use Rattle.std.proofs.lemmas.Bool.{cases_eq, cases_lt, true≢false}
 use Rattle.std.specs.Prelude.{◌++◌, ◌⊎◌}
 use Rattle.aom_image.specs.Image.{Image}
 use Rattle.aom_classes.specs.Roles.{main_of}
@@ -18,8 +18,10 @@ use Rattle.aom_transcript.specs.declared.line.Line.{Line}
 use Rattle.aom_determined.proofs.Alike.{move_alike, turn_alike, turn_writes_alike, writes_alike}
 use Rattle.aom_determined.specs.Laws.{Begins, TextIsDetermined}
 use Rattle.aom_determined.specs.Names.{AlikeOutcomes, AreAlike, renamed_tasks}
+use Rattle.aom_determined.specs.Hearing.{HasNoNative}
+use Rattle.aom_determined.proofs.Hearing.{none_heard}
 
-module _ (p : Image) (t : Typing) (outside : Outside) (wired : IsWired p) (typed : IsTyped p t) where
+module _ (p : Image) (t : Typing) (outside : Outside) (wired : IsWired p) (typed : IsTyped p t) (natives : HasNoNative p) where
   -- one stage of a run: a move, or a turn between dispatches
   record Moved (v s : State) (new : List Line) : Type 0 where
     choice : Choice
@@ -68,7 +70,7 @@ module _ (p : Image) (t : Typing) (outside : Outside) (wired : IsWired p) (typed
   stage_alike : (v w s u : State) (new new' : List Line) → WellTyped p t w → AreAlike v w → Stage v s new → Stage w u new' → (new ≡ new') × AreAlike s u
   stage_alike v w s u new new' wt alike (inl m) (inl n) = (
     m.lines ∙ writes_alike p v w alike ∙ sym n.lines,
-    goes_alike _ _ s u m.goes n.goes (move_alike p t outside.refused m.choice n.choice v w wt alike m.open_so n.open_so),
+    goes_alike _ _ s u m.goes n.goes (move_alike p t outside.refused m.choice n.choice v w wt alike m.open_so n.open_so (λ heard. absurd (true≢false (sym heard ∙ none_heard p natives v.tasks)))),
   )
   stage_alike v w s u new new' wt alike (inl m) (inr n) = absurd (busy_idle v w alike m.busy n.between.idle)
   stage_alike v w s u new new' wt alike (inr m) (inl n) = absurd (idle_busy v w alike m.between.idle n.busy)
@@ -160,4 +162,4 @@ module _ (p : Image) (t : Typing) (outside : Outside) (wired : IsWired p) (typed
       (cases_lt a.0 b.0)
 
 pub text_is_determined : TextIsDetermined
-text_is_determined p t outside wired typed = record { agree = agree p t outside wired typed; whole = whole p t outside wired typed; ended = ended p t outside wired typed }
+text_is_determined p t outside wired typed natives = record { agree = agree p t outside wired typed natives; whole = whole p t outside wired typed natives; ended = ended p t outside wired typed natives }

@@ -13,7 +13,7 @@ use Rattle.aom_sound.specs.Destruction.{gone, needs_gone}
 use Rattle.aom_sound.specs.Enlisted.{part_of}
 use Rattle.aom_sound.specs.Moves.{IsOpen, answered, asked, asking, counted, dispatch_ends, does, failed, goes_line, handled, is_counted, is_refused, main_ends, makes_cell, needs, object_ends, step, step_instr, step_task, written, written_instr, written_task}
 use Rattle.aom_sound.specs.Places.{Elsewhere, Going, Object, Root, held, named, without}
-use Rattle.aom_sound.specs.State.{A_mark, An_object, An_operation, Answered, Asks, Choice, Destroy, Dispatch, Dispatched, Frame, Goes, IsStuck, Item, Main_left, Need, NullOrDead, Object_left, Of_main, Of_object, Of_root, Orphan, Run, Seat, State, Task, Trapped, Unwind, guarded, resumed}
+use Rattle.aom_sound.specs.State.{A_mark, An_object, An_operation, Answered, Asks, Choice, Destroy, Dispatch, Dispatched, Frame, Goes, IsStuck, Item, Main_left, Need, NullOrDead, Object_left, Of_main, Of_object, Of_root, Run, Seat, State, Task, Trapped, Unwind, guarded, resumed}
 use Rattle.aom_determined.proofs.Cells.{cells_counted, cond_applied, held_renamed, moved_renamed, named_renamed, owns_nothing_kept, requested_kept, tasks_counted, without_renamed}
 use Rattle.aom_determined.proofs.Doing.{begun_renamed, dealt_renamed, does_renamed, needs_kept, told_renamed}
 use Rattle.aom_determined.proofs.Needs.{whole_kept}

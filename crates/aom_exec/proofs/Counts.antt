@@ -1,5 +1,5 @@
 -- How much a well-typed state has at hand: methods, tasks, marks and entries.
-use Rattle.std.proofs.Common.{List, Some, [], ap, arith, false, inl, length, refl, subst, suc, sym, ℕ, ◌*◌, ◌+◌, ◌<◌, ◌∙◌, ◌∷◌, ◌≡◌, ◌≤◌}
+use Rattle.std.proofs.Common.{List, Some, [], ap, arith, false, inl, length, refl, subst, suc, sym, ℕ, ◌*◌, ◌+◌, ◌<◌, ◌∙◌, ◌∷◌, ◌≡◌, ◌≤◌, pos}
 use Rattle.std.proofs.lemmas.Bool.{true≢false}
 use Rattle.aom_image.specs.Image.{Image}
 use Rattle.aom_image.specs.Views.{instr_at}
@@ -177,7 +177,7 @@ push_at_hand p t wired typed strongest depths heights s fr ts w same room a here
     let needs = subst (λ i. AllTrue (rule_needs p fr.method fr.place h.shape i)) it x.needs in
     let leads = subst (λ i. AllLead t fr.method (flows p fr.method fr.place h.shape i)) it x.flows in
     let roomy = subst (λ l. Roomy p (at 0 depths.depths) (at 0 heights.heights) s.cells s.items l) same (room.under, room.runs, room.fit, room.entries) in
-    let few = pushes p t (at 0 depths.depths) (at 0 heights.heights) (tables_of p t wired strongest depths heights) (record { name = 0; refused = false }) fr ts s w.undos same h roomy (Push a) (with_entry (entry_of (register h.shape a)) (set_register h.shape a Null)) here needs.1.0 leads.0 refl in
+    let few = pushes p t (at 0 depths.depths) (at 0 heights.heights) (tables_of p t wired strongest depths heights) (record { name = 0; refused = false; answer = pos 0 }) fr ts s w.undos same h roomy (Push a) (with_entry (entry_of (register h.shape a)) (set_register h.shape a Null)) here needs.1.0 leads.0 refl in
     omega (arith, few)
 
 pub push_operation_at_hand : (p : Image) (t : Typing) → IsWired p → IsTyped p t → IsStrongest p t → (depths : HasDepths p) (heights : HasHeights p) (s : State) (fr : Frame) (ts : List Task) → WellTyped p t s → s.tasks ≡ Run fr ∷ ts → HasRoom p (at 0 depths.depths) (at 0 heights.heights) s
@@ -189,5 +189,5 @@ push_operation_at_hand p t wired typed strongest depths heights s fr ts w same r
     let needs = subst (λ i. AllTrue (rule_needs p fr.method fr.place h.shape i)) it x.needs in
     let leads = subst (λ i. AllLead t fr.method (flows p fr.method fr.place h.shape i)) it x.flows in
     let roomy = subst (λ l. Roomy p (at 0 depths.depths) (at 0 heights.heights) s.cells s.items l) same (room.under, room.runs, room.fit, room.entries) in
-    let few = pushes p t (at 0 depths.depths) (at 0 heights.heights) (tables_of p t wired strongest depths heights) (record { name = 0; refused = false }) fr ts s w.undos same h roomy (PushOperation a m) (with_entry Pushed_operation h.shape) here needs.1.0 leads.0 refl in
+    let few = pushes p t (at 0 depths.depths) (at 0 heights.heights) (tables_of p t wired strongest depths heights) (record { name = 0; refused = false; answer = pos 0 }) fr ts s w.undos same h roomy (PushOperation a m) (with_entry Pushed_operation h.shape) here needs.1.0 leads.0 refl in
     omega (arith, few)

@@ -1,5 +1,5 @@
 -- Instructions on the cleanup stack.
-use Rattle.std.proofs.Common.{inl, inr, ◌≡◌, ◌≤◌, ◌==◌, ℕ, ℤ, ◌<◌, Bool, true, false, cond, length, List, [], ◌∷◌, Option, None, negsuc, refl, sym, ap, ◌∙◌, subst, arith}
+use Rattle.std.proofs.Common.{inl, inr, ◌≡◌, ◌≤◌, ◌==◌, ℕ, ℤ, ◌<◌, Bool, true, false, cond, length, List, [], ◌∷◌, Option, None, negsuc, refl, sym, ap, ◌∙◌, subst, arith, pos}
 use Rattle.std.specs.Int.{w32, cast_signed}
 use Rattle.std.proofs.lemmas.Bool.{true≢false}
 use Rattle.aom_image.specs.Image.{Image}
@@ -112,7 +112,7 @@ module _ (m : Parts) (turn : Turn) where
   pub push_does : (a : ℕ) (refused : Bool) → a < 16 → refused ≡ refuses_entry turn m → Does turn.refused (Push a) m (cond refused (leaving (negsuc 3) (held_pushed a m)) (held_pushed a m))
   push_does a refused small same p h here =
       let s = h.state in
-      let c : Choice = record { name = null; refused = refused } in (
+      let c : Choice = record { name = null; refused = refused; answer = pos 0 } in (
         c,
         record { name = unnamed p m s null h.agrees h.agrees.cells.null_is_none; refusal = same ∙ same_entry_refusal p turn m h (Push a) here refl },
         λ needs typed.
@@ -124,7 +124,7 @@ module _ (m : Parts) (turn : Turn) where
   pub push_operation_does : (a k : ℕ) (refused : Bool) → refused ≡ refuses_entry turn m → Does turn.refused (PushOperation a k) m (cond refused (leaving (negsuc 3) (held_operation a k m)) (held_operation a k m))
   push_operation_does a k refused same p h here =
       let s = h.state in
-      let c : Choice = record { name = null; refused = refused } in (
+      let c : Choice = record { name = null; refused = refused; answer = pos 0 } in (
         c,
         record { name = unnamed p m s null h.agrees h.agrees.cells.null_is_none; refusal = same ∙ same_entry_refusal p turn m h (PushOperation a k) here refl },
         λ needs typed.
@@ -136,7 +136,7 @@ module _ (m : Parts) (turn : Turn) where
   -- `newl` leaves where it is refused
   pub newl_refused : (a class : ℕ) → true ≡ refuses turn m → Does turn.refused (NewOrLeave a class) m (leaving (negsuc 3) (asked m))
   newl_refused a class full p h here = (
-    record { name = null; refused = true },
+    record { name = null; refused = true; answer = pos 0 },
     record { name = unnamed p m h.state null h.agrees h.agrees.cells.null_is_none; refusal = full ∙ same_refusal p turn m h (NewOrLeave a class) here refl },
     λ needs typed. leaves_at p (asked m) (requested (NewOrLeave a class) h.state) h.frame h.below no_memory h.top (agrees_rest p m h.state _ _ (asks_one m turn h.state.rest h.agrees.rest) h.agrees) needs.1.1.0,
   )
@@ -145,7 +145,7 @@ module _ (m : Parts) (turn : Turn) where
   newl_made a class n heap small granted made p h here = elim made [
     | inl none ↦ absurd (true≢false (sym none.0))
     | inr it ↦ (
-      record { name = n; refused = false },
+      record { name = n; refused = false; answer = pos 0 },
       record { name = unnamed p m h.state n h.agrees it.2; refusal = granted ∙ same_refusal p turn m h (NewOrLeave a class) here refl },
       λ needs typed. made_agrees m turn p h a class n heap _ small (asks_one m turn h.state.rest h.agrees.rest) needs.0 it.1 it.2 it.3 it.4 it.5,
     )

@@ -154,7 +154,7 @@ module _ (m : Parts) (turn : Turn) where
 
   refused_does : (a class : ℕ) → a < 16 → true ≡ refuses turn m → Does turn.refused (New a class) m (acts.next (set_register a null (asked m.cells)))
   refused_does a class small full p h here = (
-    record { name = null; refused = true },
+    record { name = null; refused = true; answer = pos 0 },
     record { name = unnamed p m h.state null h.agrees h.agrees.cells.null_is_none; refusal = full ∙ same_refusal p turn m h (New a class) here refl },
     λ needs typed. nulled m turn.refused p h a _ _ small (ap (λ (r : Rest). record r { requests = raised r.requests }) h.agrees.rest) (free _ needs.0),
   )
@@ -185,7 +185,7 @@ module _ (m : Parts) (turn : Turn) where
   made_does : (a class n : ℕ) (heap : Heap) → a < 16 → false ≡ refuses turn m → class < 256 → cell_at m.cells n ≡ None → n ≢ null → Changes m.cells heap n (Some (blank class)) → count heap ≡ count m.cells + 1
       → Does turn.refused (New a class) m (acts.next (set_register a n (asked heap)))
   made_does a class n heap small granted fits none some ch more p h here = (
-    record { name = n; refused = false },
+    record { name = n; refused = false; answer = pos 0 },
     record { name = unnamed p m h.state n h.agrees none; refusal = granted ∙ same_refusal p turn m h (New a class) here refl },
     λ needs typed. made_agrees p h a class n heap _ small (asks_one h.state.rest h.agrees.rest) needs.0 fits none some ch more,
   )

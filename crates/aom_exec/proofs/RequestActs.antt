@@ -35,9 +35,9 @@ use Rattle.aom_active.specs.Agrees.{Active, StandsFor}
 use Rattle.aom_active.specs.Meanings.{Enlists, Makes, Times, asked_anew, is_being_cancelled, is_busy, is_waited_for}
 use Rattle.aom_active.proofs.Asking.{asked_set, newest, newest_timer}
 use Rattle.aom_active.proofs.Telling.{held_state, standing_follows, told_active, told_busy, told_cancelling, told_enlisted, told_fresh, told_state, told_status}
-use Rattle.aom_sound.specs.Effects.{applied, cancels_if, jumps_if, updates, Cancels, Requested, writes as writes_word}
+use Rattle.aom_sound.specs.Effects.{applied, cancels_if, jumps_if, updates, Cancels, Requested, writes as writes_word, asking_with}
 use Rattle.aom_sound.specs.Enlisted as enlisted
-use Rattle.aom_sound.specs.Enlisted.{aborted, begun_cells, cancel_method, cancel_of, cancelling, due_after, first_request, home_kind, in_phase, is_cancelling, is_idle, is_issued, issued_by, issued_of, next_order, next_timer, on_request, own_request, rerequested, status_of, thing_kind, waits}
+use Rattle.aom_sound.specs.Enlisted.{aborted, begun_cells, cancel_method, cancel_of, cancelling, due_after, first_request, home_kind, in_phase, is_cancelling, is_idle, is_issued, issued_by, issued_of, next_order, next_timer, on_request, own_request, rerequested, status_of, thing_kind, waits, Asking, completed_at_once}
 use Rattle.aom_sound.specs.Places.{Cell, Idle, Issued, Object, Phase, Place, Request, held, named, requested, set_request}
 use Rattle.aom_sound.specs.State.{AtRoot, Choice, Frame, Home, Inside, Rest, Run, State, Static, Task, frame_of}
 use Rattle.aom_sound.specs.Moves.{needs}
@@ -118,8 +118,8 @@ provided : (k : Option ClassKind) (q : Provider) → provider_of k ≡ Some q �
 provided (Some (An_active v budget)) q e = (budget, ap (λ v. Some (An_active v budget)) (same_Some _ _ e))
 provided _ q e = absurd (none-some _ e)
 
-issued_as : (k : Option ClassKind) (q : Provider) (clock order : ℕ) (w : ℤ) → provider_of k ≡ Some q → issued_of k clock order w ≡ issued_by q clock order w
-issued_as k q clock order w e = ap (λ k. issued_of k clock order w) (provided k q e).1
+issued_as : (k : Option ClassKind) (q : Provider) (asking : Asking) (w : ℤ) → provider_of k ≡ Some q → issued_of k asking w ≡ issued_by q asking w
+issued_as k q asking w e = ap (λ k. issued_of k asking w) (provided k q e).1
 
 -- so none that an object's class has is native
 pub not_native : (p : Image) → IsAdmitted p → (class : Option ℕ) (q : Provider) → provider_of (kind_of p class) ≡ Some q → is_native q ≡ false
@@ -238,11 +238,15 @@ module _ (p : Image) (m : Parts) (h : At_hand p m) where
         requests_asked a (Some (first_request h.state.cells priority)) enlists.limit
         (enlists.stands (requested h.state.cells) (next_order h.state.cells) h.agrees.requests.stands (newest h.state.cells h.typed.good.tidy))
 
-    pub requests_timed : (a : Active) (w : ℤ) (r : Request) → own_request h.state.cells h.frame.home ≡ Some r → Times m.active a (this m) (due_after h.state.rest.clock w)
-        → SameRequests p a (rerequested h.state.cells h.frame.home (on_request (issued_by A_timer h.state.rest.clock (next_timer h.state.cells) w) (own_request h.state.cells h.frame.home)))
-    requests_timed a w r is times =
-        subst (λ o. SameRequests p a (rerequested h.state.cells h.frame.home (on_request (issued_by A_timer h.state.rest.clock (next_timer h.state.cells) w) o))) (sym is)
-        (requests_asked a (Some (issued_by A_timer h.state.rest.clock (next_timer h.state.cells) w r)) times.limit
+    -- what a request is made with, and with which status a native would begin it
+    abbrev pub made_with : ℤ → Asking
+    made_with started = record { clock = h.state.rest.clock; order = next_timer h.state.cells; started = started }
+
+    pub requests_timed : (a : Active) (w started : ℤ) (r : Request) → own_request h.state.cells h.frame.home ≡ Some r → Times m.active a (this m) (due_after h.state.rest.clock w)
+        → SameRequests p a (rerequested h.state.cells h.frame.home (on_request (issued_by A_timer (made_with started) w) (own_request h.state.cells h.frame.home)))
+    requests_timed a w started r is times =
+        subst (λ o. SameRequests p a (rerequested h.state.cells h.frame.home (on_request (issued_by A_timer (made_with started) w) o))) (sym is)
+        (requests_asked a (Some (issued_by A_timer (made_with started) w r)) times.limit
         (times.stands (requested h.state.cells) r (next_timer h.state.cells) h.agrees.requests.stands (sym own_told ∙ is) (newest_timer h.state.cells h.typed.good.tidy)))
 
   -- the object's request is another, and the method goes on
@@ -383,25 +387,25 @@ module _ (m : Parts) (refused : List ℕ) (a : Active) where
       asks_on p m h a _ (requests_become p m h (on_object p m h (active_listed _ met.0)) a aborted r.0 r.1 makes))
 
 -- a request is made of a provider
-requests_made : (p : Image) (m : Parts) (h : At_hand p m) (on : OnObject p m h) (a : Active) (q : Provider) (w : ℤ) (r : Request) → own_request h.state.cells h.frame.home ≡ Some r → Issues q h.state.rest.clock w m.active a (this m)
-    → SameRequests p a (rerequested h.state.cells h.frame.home (on_request (issued_by q h.state.rest.clock (next_timer h.state.cells) w) (own_request h.state.cells h.frame.home)))
-requests_made p m h on a Own w r is issues = requests_become p m h on a (issued_by Own 0 0 w) r is issues
-requests_made p m h on a A_timer w r is issues = requests_timed p m h on a w r is issues
-requests_made p m h on a (Native n) w r is issues = absurd issues
+requests_made : (p : Image) (m : Parts) (h : At_hand p m) (on : OnObject p m h) (a : Active) (q : Provider) (w started : ℤ) (r : Request) → own_request h.state.cells h.frame.home ≡ Some r → Issues q h.state.rest.clock w m.active a (this m)
+    → SameRequests p a (rerequested h.state.cells h.frame.home (on_request (issued_by q (made_with p m h on started) w) (own_request h.state.cells h.frame.home)))
+requests_made p m h on a Own w started r is issues = requests_become p m h on a (completed_at_once w) r is issues
+requests_made p m h on a A_timer w started r is issues = requests_timed p m h on a w started r is issues
+requests_made p m h on a (Native n) w started r is issues = absurd issues
 
 pub issue_does : (p : Image) (m : Parts) (refused : List ℕ) (a : Active) (q : Provider) (b x : ℕ) → provider_of (kind_here p m) ≡ Some q → Issues q m.rest.clock (cast_signed w32 (register_here m.stack.tasks b)) m.active a (this m) → DoesIn p refused (Issue b x) m (acts.next (record m { active = a }))
 issue_does p m refused a q b x provider issues h here =
     plain_at p m _ refused (Issue b x) refl h (λ c met typed.
     let clock = h.state.rest.clock in
-    let order = next_timer h.state.cells in
+    let asking = asking_with p c h.frame h.below h.state in
     let w = read h.frame h.below h.state b in
     let on = on_object p m h (active_listed _ met.1.1.0) in
     let r = in_one is_idle _ met.1.1.1.1.0 in
-    let made = issued_as (home_kind p h.frame.home) q clock order w (ap provider_of (kind_told p m h on) ∙ provider) in
+    let made = issued_as (home_kind p h.frame.home) q asking w (ap provider_of (kind_told p m h on) ∙ provider) in
     let same : m.rest.clock ≡ clock = ap (λ r. r.clock) h.agrees.rest in
     let it = subst (λ n. Issues q n w m.active a (this m)) same (subst (λ v. Issues q m.rest.clock v m.active a (this m)) (word_read p m h b met.0) issues) in
     subst (λ f. Agrees p (acts.next (record m { active = a })) (applied p h.frame h.below h.state (updates h.frame (Requested (on_request f (own_request h.state.cells h.frame.home)))))) (sym made)
-    (asks_on p m h a _ (requests_made p m h on a q w r.0 r.1 it)))
+    (asks_on p m h a _ (requests_made p m h on a q w asking.started r.0 r.1 it)))
 
 -- a request that is not active is left alone
 pub cancel_idle_does : (m : Parts) (refused : List ℕ) → is_waited_for (request_at m.active.table (this m)) ≡ false → Does refused Cancel m (acts.next m)

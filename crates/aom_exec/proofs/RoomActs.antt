@@ -38,14 +38,14 @@ use Rattle.aom_sound.proofs.Destroying.{destroys}
 use Rattle.aom_sound.proofs.Finishing.{all_parts}
 use Rattle.aom_sound.proofs.Items.{length_forms}
 use Rattle.aom_sound.proofs.Maps.{held_moved, same_place_refl}
-use Rattle.aom_sound.proofs.Storing.{ended_alike, held_set_word, rerequested_alike}
+use Rattle.aom_sound.proofs.Storing.{ended_alike, held_set_word, rerequested_alike, resessioned_alike}
 use Rattle.aom_sound.proofs.Things.{stands_same}
 use Rattle.aom_sound.specs.Calls.{below_top, entered, given_cells, over_caller, over_trap, passed_cells, received, result_cells, result_register, returned}
 use Rattle.aom_sound.specs.Claims.{objects}
 use Rattle.aom_sound.specs.Cleanup.{operation_frame, top_place}
 use Rattle.aom_classes.specs.Roles.{destructor_of}
 use Rattle.aom_sound.specs.Destruction.{begun, begun_by}
-use Rattle.aom_sound.specs.Effects.{Calls, Cancels, Carried, Counts, Destroys, Destroys_last, Effect, Goes_on, In_field, In_register, Jumps, Leaves, Made, Operates, Popped, Popped_operation, Pushed, Pushed_operation, Repeats, Requested, Returns, Same, Sets_trap, Spot, Update, Written, applied, cells_after, items_after, spot_place, with_words}
+use Rattle.aom_sound.specs.Effects.{Calls, Cancels, Carried, Counts, Destroys, Destroys_last, Effect, Goes_on, In_field, In_register, Jumps, Leaves, Made, Operates, Popped, Popped_operation, Pushed, Pushed_operation, Repeats, Requested, Returns, Same, Sets_trap, Spot, Update, Written, applied, cells_after, items_after, spot_place, with_words, Sessioned}
 use Rattle.aom_sound.specs.Laws.{IsWired}
 use Rattle.aom_sound.specs.Steps.{Fits as May, FitsUpdate}
 use Rattle.aom_sound.specs.Places.{Cell, Entry, Going, Object, Register, Sight, held, moved, same_place, seen}
@@ -371,6 +371,7 @@ module _ (p : Image) (t : Typing) (depth heights : ℕ → ℕ) (tables : Tables
     updated_room i stands r n (Made name x a) f = moves (cells_after p fr ts s (Made name x a)) (λ k lt. refl)
     updated_room i stands r n (Written x v) f = moves (cells_after p fr ts s (Written x v)) (stored_same s.cells fr.home x (length s.items) v)
     updated_room i stands r n (Requested q) f = moves (cells_after p fr ts s (Requested q)) (λ k lt. (rerequested_alike s.cells fr.home q).held_so (Entry k))
+    updated_room i stands r n (Sessioned b) f = moves (cells_after p fr ts s (Sessioned b)) (λ k lt. (resessioned_alike s.cells fr.home b).held_so (Entry k))
     updated_room i stands r n (Pushed a) f = push_room a (stands_as i _ stands f.0) (subst Ruled f.0 r).1.0 (subst Leading f.0 n).0
     updated_room i stands r n (Pushed_operation m v) f = push_operation_room f.0 m v (stands_as i _ stands f.1) (subst Ruled f.1 r).1.0 (subst Leading f.1 n).0
     updated_room i stands r n (Popped a) f = pop_room a (subst Ruled f.0 r).1.0

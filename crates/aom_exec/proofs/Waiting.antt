@@ -28,13 +28,13 @@ use Rattle.aom_sound.proofs.Finishing.{all_parts}
 use Rattle.aom_sound.proofs.Guarded.{guarded_goes, guarded_met}
 use Rattle.aom_sound.proofs.Maps.{at-put_at, held_without, same_place-true}
 use Rattle.aom_sound.proofs.Moving.{steps_are_moves}
-use Rattle.aom_sound.proofs.Storing.{ended_alike, held_set_word, rerequested_alike}
+use Rattle.aom_sound.proofs.Storing.{ended_alike, held_set_word, rerequested_alike, resessioned_alike}
 use Rattle.aom_sound.proofs.Straight.{register_fits}
 use Rattle.aom_sound.specs.Calls.{needs_each, needs_entering, needs_target, passed_cells, result_cells, returned}
 use Rattle.aom_sound.specs.Cleanup.{to_trap, top_place}
 use Rattle.aom_sound.specs.Destruction.{begun_by}
 use Rattle.aom_classes.specs.Roles.{destructor_of}
-use Rattle.aom_sound.specs.Effects.{Calls, Cancels, Carried, Counts, Destroys, Destroys_last, Effect, Goes_on, In_field, In_register, Jumps, Leaves, Made, Operates, Popped, Pushed, Repeats, Requested, Returns, Sets_trap, Spot, Update, Written, applied, cells_after, deletes, spot_place, with_words}
+use Rattle.aom_sound.specs.Effects.{Calls, Cancels, Carried, Counts, Destroys, Destroys_last, Effect, Goes_on, In_field, In_register, Jumps, Leaves, Made, Operates, Popped, Pushed, Repeats, Requested, Returns, Sets_trap, Spot, Update, Written, applied, cells_after, deletes, spot_place, with_words, Sessioned}
 use Rattle.aom_sound.specs.Moves.{answered, asking, counted, dispatch_ends, does, failed, handled, main_ends, needs, object_ends, step}
 use Rattle.aom_sound.specs.Places.{Cell, Elsewhere, Entry, Going, Object, Place, Register, Root, Sight, held, moved, same_place, seen, without}
 use Rattle.aom_sound.specs.State.{Answered, Asks, AtRoot, Choice, Destroy, Dispatch, Dispatched, Frame, Goes, Home, Inside, Main_left, Need, Object_left, Of_main, Of_object, Of_root, Run, Seat, State, Static, Task, Trapped, Unwind, field_place, guarded, resumed, word}
@@ -114,6 +114,7 @@ module _ (p : Image) (fr : Frame) (ts : List Task) (s : State) where
   updated_same (Made name class a) d i lt = ap (λ b. cond b (Some (record { name = name; thing = An_object_of class })) (held s.cells (Register d i))) (higher_apart (length ts) a d i lt)
   updated_same (Written w v) d i lt = stored_same s.cells fr.home w v (length ts) d i lt
   updated_same (Requested r) d i lt = (rerequested_alike s.cells fr.home r).held_so (Register d i)
+  updated_same (Sessioned b) d i lt = (resessioned_alike s.cells fr.home b).held_so (Register d i)
   updated_same (Pushed a) d i lt = held_apart s.cells (here fr ts s a) (Entry (length s.items)) (Register d i) (higher_apart (length ts) a d i lt) refl
   updated_same (Popped a) d i lt = held_apart s.cells (top_place s.items) (here fr ts s a) (Register d i) refl (higher_apart (length ts) a d i lt)
   updated_same _ d i lt = refl

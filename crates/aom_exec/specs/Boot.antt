@@ -23,4 +23,4 @@ pub record Booted (p : Image) (m : Parts) : Type 0 where
   pub requests : StandsFor m.active (λ n. None)
   pub numbers : m.active.table.limit ≡ p.header.cells
   pub root : m.root ≡ null
-  pub rest : m.rest ≡ record { clock = 0; requests = 0; steps = 0; dispatches = 0; announced = false; stopped = false; ended = None }
+  pub rest : m.rest ≡ record { clock = 0; requests = 0; steps = 0; dispatches = 0; announced = false; stopped = false; delivered = 0; polled = 0; ended = None }

@@ -12,7 +12,7 @@ use Rattle.aom_cells.specs.Heap.{Lives, class_at}
 use Rattle.aom_requests.specs.Requests.{is_pending, request_at}
 use Rattle.aom_active.specs.Agrees.{Active}
 use Rattle.aom_active.specs.Meanings.{Makes, Removes, Times, is_being_cancelled}
-use Rattle.aom_sound.specs.Enlisted.{cancelled, due_after, issued_by}
+use Rattle.aom_sound.specs.Enlisted.{cancelled, due_after, completed_at_once}
 use Rattle.aom_frames.specs.Tasks.{Runs}
 use Rattle.aom_exec.specs.declared.parts.Parts.{Parts}
 use Rattle.aom_exec.specs.Fields.{this}
@@ -43,7 +43,7 @@ provider_of _ = None
 
 -- a request of an object is made of that provider
 abbrev pub Issues : Provider → (clock : ℕ) → ℤ → Active → Active → ℕ → Type 0
-Issues Own clock a old new id = Makes old new id (issued_by Own 0 0 a)
+Issues Own clock a old new id = Makes old new id (completed_at_once a)
 Issues Timer clock a old new id = Times old new id (due_after clock a)
 Issues (Native n) clock a old new id = ⊥
 

@@ -2,12 +2,13 @@
 use Rattle.std.proofs.Common.{◌≡◌, ◌≤◌, ◌∙◌, ℕ, ℤ, suc, Bool, true, false, cond, List, [], ◌∷◌, Option, Some, refl, ap, arith}
 use Rattle.aom_image.specs.declared.method.Thing.{Thing}
 use Rattle.aom_sound.specs.Enlisted.{rerequested}
-use Rattle.aom_sound.specs.Places.{Cell, Going, Object, Place, Register, Request, held, moved, same_place, set_request, set_word_field, with_new, without}
+use Rattle.aom_sound.specs.Places.{Cell, Going, Object, Place, Register, Request, held, moved, same_place, set_request, set_word_field, with_new, without, set_session}
 use Rattle.aom_sound.specs.State.{AtRoot, Home, Inside, Item, An_object, An_operation, A_mark, Static, field_place}
 use Rattle.aom_sound.specs.Calls.{below_top}
 use Rattle.aom_sound.specs.Words.{stored}
 use Rattle.aom_sound.proofs.Maps.{same_place-true}
 use Rattle.aom_ranks.specs.Ranks.{is_going, standing, operations}
+use Rattle.aom_sound.specs.Natives.{resessioned}
 
 -- what moves from a place of a cell that stood
 pub standing_moved : (from to : Place) (cs : List Cell) → is_going from ≡ false → standing (moved from to cs) ≤ standing cs
@@ -76,6 +77,15 @@ pub standing_asked : (cs : List Cell) (h : Home) (r : Option Request) → standi
 standing_asked cs Static r = refl
 standing_asked cs AtRoot r = refl
 standing_asked cs (Inside o from) r = asked_same o.name r cs
+
+opened_same : (n : ℕ) (b : Bool) (cs : List Cell) → standing (set_session n b cs) ≡ standing cs
+opened_same n b [] = refl
+opened_same n b (c ∷ cs) = ap (λ x. cond (is_going c.owner) x (suc x)) (opened_same n b cs)
+
+pub standing_opened : (cs : List Cell) (h : Home) (b : Bool) → standing (resessioned cs h b) ≡ standing cs
+standing_opened cs Static b = refl
+standing_opened cs AtRoot b = refl
+standing_opened cs (Inside o from) b = opened_same o.name b cs
 
 pub field_stands : (h : Home) (f : ℕ) → is_going (field_place h f) ≡ false
 field_stands Static f = refl

@@ -10,3 +10,4 @@ pub mod Branching
 pub mod Growing
 pub mod Examples
 pub mod RequestExamples
+pub mod NativeExamples

@@ -5,7 +5,7 @@ use Rattle.std.specs.Prelude.{bit_and, bit_or}
 use Rattle.aom_image.specs.Image.{Image}
 use Rattle.aom_image.specs.Views.{arguments_of, gives_of, fields_of, has, leaves, method_class, method_role}
 use Rattle.aom_instructions.specs.declared.instr.Instr.{Instr}
-use Rattle.aom_instructions.specs.declared.instr.Instr.TheVariants.{Const, Copy, Move, Add, Sub, Mul, And, Or, Xor, JumpEqual, JumpLess, JumpNull, JumpEmpty, Print, Load, Store, Take, Put, New, NewOrLeave, Delete, Push, PushOperation, Pop, Call, Trap, Return, Leave, LeaveIf, Enlist, Issue, SetActive, Cancel, Abort, Status}
+use Rattle.aom_instructions.specs.declared.instr.Instr.TheVariants.{Const, Copy, Move, Add, Sub, Mul, And, Or, Xor, JumpEqual, JumpLess, JumpNull, JumpEmpty, Print, Load, Store, Take, Put, New, NewOrLeave, Delete, Push, PushOperation, Pop, Call, Trap, Return, Leave, LeaveIf, Enlist, Issue, SetActive, Cancel, Abort, Status, Connect, Ask, Close}
 use Rattle.aom_instructions.specs.declared.instr.Target.{Target}
 use Rattle.aom_instructions.specs.declared.instr.Target.TheVariants.{This, Register, Field, Entry as On_entry}
 use Rattle.aom_image.specs.declared.method.Argument.{Argument}
@@ -404,6 +404,12 @@ needs_more p m pc a b SetActive h n = (n.0, (has_along issued a.states b.states 
 needs_more p m pc a b Cancel h n = (n.0, (has_along active_states a.states b.states n.1.0 h.states, tt))
 needs_more p m pc a b Abort h n = (n.0, (has_along (bit_or cancel_open cancel_done) a.states b.states n.1.0 h.states, tt))
 needs_more p m pc a b (Status r) h n = (n.0, (unowning_more (register a r) (register b r) (h.registers r) n.1.0, tt))
+needs_more p m pc a b (Connect r) h n = (n.0, (unowning_more (register a r) (register b r) (h.registers r) n.1.0, tt))
+needs_more p m pc a b (Ask r s t) h n = (
+  word_more (register a s) (register b s) (h.registers s) n.0,
+  (word_more (register a t) (register b t) (h.registers t) n.1.0, (n.1.1.0, (unowning_more (register a r) (register b r) (h.registers r) n.1.1.1.0, tt))),
+)
+needs_more p m pc a b Close h n = (n.0, (has_along server_states a.states b.states n.1.0 h.states, tt))
 -- of the entries or of the method alone, or of nothing, or never met
 needs_more p m pc a b _ h n = grind (arith, n, h.entries)
 

@@ -2,6 +2,7 @@ pub mod Words
 pub mod Objects
 pub mod Cleanup
 pub mod Requests
+pub mod Natives
 pub mod Calls
 pub mod Ways
 pub mod Rules

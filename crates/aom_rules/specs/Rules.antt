@@ -3,7 +3,7 @@ use Rattle.std.specs.Prelude.{ℕ, false, List, [], ◌∷◌, Result}
 use Rattle.aom_image.specs.Image.{Image}
 use Rattle.aom_roles.specs.States.{unlisted, idle, issued, active, cancel_done}
 use Rattle.aom_instructions.specs.declared.instr.Instr.{Instr}
-use Rattle.aom_instructions.specs.declared.instr.Instr.TheVariants.{Const, Copy, Move, Add, Sub, Mul, And, Or, Xor, Jump, JumpEqual, JumpLess, JumpNull, JumpEmpty, JumpActive, JumpAdded, Loop, Next, Print, Load, Store, Take, Put, New, NewOrLeave, Delete, Push, PushOperation, Pop, PopOperation, PopDelete, Call, Trap, Return, Leave, LeaveIf, Enlist, Issue, SetActive, Cancel, Abort, Status, Stop}
+use Rattle.aom_instructions.specs.declared.instr.Instr.TheVariants.{Const, Copy, Move, Add, Sub, Mul, And, Or, Xor, Jump, JumpEqual, JumpLess, JumpNull, JumpEmpty, JumpActive, JumpAdded, Loop, Next, Print, Load, Store, Take, Put, New, NewOrLeave, Delete, Push, PushOperation, Pop, PopOperation, PopDelete, Call, Trap, Return, Leave, LeaveIf, Enlist, Issue, SetActive, Cancel, Abort, Status, Connect, Ask, Close, Stop}
 use Rattle.aom_image.specs.declared.method.Thing.TheVariants.{Object}
 use Rattle.aom_shape.specs.Shape.{Shape}
 use Rattle.aom_shape.specs.Needs.{Need, Flow, judged}
@@ -12,6 +12,7 @@ use Rattle.aom_rules.specs.Objects.{new_age, rule_move, rule_jump_null, rule_jum
 use Rattle.aom_rules.specs.Calls.{rule_call, rule_trap, rule_return}
 use Rattle.aom_rules.specs.Cleanup.{rule_new_or_leave, rule_push, rule_push_operation, rule_pop, rule_pop_operation, rule_pop_delete, rule_leave}
 use Rattle.aom_rules.specs.Requests.{enlisted, inactive, outstanding, rule_abort, rule_cancel, rule_enlist, rule_issue, rule_jump_active, rule_jump_added, rule_set_active, rule_status}
+use Rattle.aom_rules.specs.Natives.{rule_ask, rule_close, rule_connect}
 use Rattle.aom_rules.specs.Ways.{Ways, Ends, Goes_on, Goes_to, Branches, Goes_back, Branches_on_null, Branches_on_empty, Branches_in, As_before, Holding, Moved, Taken, Filled, Pushed, Pushed_operation, Popped, Dropped, Called, Caught, Left_in, Cancelled, flowing}
 use Rattle.aom_shape.specs.declared.kind.Kind.TheVariants.{Word, Null, Own, Maybe}
 use Rattle.aom_shape.specs.declared.why.Why.{Why}
@@ -61,6 +62,9 @@ ways_of p SetActive = Goes_on (Left_in active)
 ways_of p Cancel = Goes_on Cancelled
 ways_of p Abort = Goes_on (Left_in cancel_done)
 ways_of p (Status a) = Goes_on (Holding a Word)
+ways_of p (Connect a) = Goes_on (Holding a Word)
+ways_of p (Ask a b c) = Goes_on (Holding a Word)
+ways_of p Close = Goes_on As_before
 ways_of p Stop = Goes_on As_before
 ways_of p _ = Ends
 
@@ -108,6 +112,9 @@ module _ (p : Image) (m : ℕ) (pc : ℕ) (sh : Shape) where
   rule_needs Cancel = rule_cancel p m sh
   rule_needs Abort = rule_abort p m sh
   rule_needs (Status a) = rule_status p m sh a
+  rule_needs (Connect a) = rule_connect p m sh a
+  rule_needs (Ask a b c) = rule_ask p m sh a b c
+  rule_needs Close = rule_close p m sh
   rule_needs Stop = []
   -- the others come with their stages, and no image that has one is linked until then
   rule_needs _ = (false, RegisterKind) ∷ []

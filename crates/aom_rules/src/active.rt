@@ -17,7 +17,7 @@ use aom_shape::{Flow, Kind, Why, judge};
 use bitflags::Flags;
 
 /// The states of a server.
-fn server_states() -> States
+pub(crate) fn server_states() -> States
     ensures { result.0 ≡ server_states }
 {
     States::UNLISTED.union(States::IDLE)
@@ -89,7 +89,7 @@ impl Site<'_> {
     }
 
     /// Each state in which the object may be is one of these.
-    fn needs_states(&self, states: States, why: Why) -> (bool, Why)
+    pub(crate) fn needs_states(&self, states: States, why: Why) -> (bool, Why)
         ensures { result ≡ (has states.0 self.now.shape.states, why) }
     {
         (states.contains(self.shape.states()), why)

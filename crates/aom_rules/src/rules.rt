@@ -90,10 +90,9 @@ pub fn rule(
         Instr::Abort => site.rule_abort(),
         Instr::Status(a) => site.rule_status(a),
         Instr::Cancel => site.rule_cancel(),
-        Instr::Connect(_)
-        | Instr::Ask(_, _, _)
-        | Instr::Close
-        | Instr::TakeMessage(_)
-        | Instr::Reply(_, _) => Err(Why::RegisterKind),
+        Instr::Connect(a) => site.rule_connect(a),
+        Instr::Ask(a, b, c) => site.rule_ask(a, b, c),
+        Instr::Close => site.rule_close(),
+        Instr::TakeMessage(_) | Instr::Reply(_, _) => Err(Why::RegisterKind),
     }
 }

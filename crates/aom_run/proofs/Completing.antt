@@ -1,5 +1,5 @@
 -- A run can always be brought to an end: each move lowers the rank, turns complete timers, and there are only so many dispatches of objects.
-use Rattle.std.proofs.Common.{◌≡◌, ℕ, zero, suc, ◌+◌, ◌-◌, ◌^◌, ◌<◌, ◌≤◌, ◌==◌, Bool, true, false, List, [], ◌∷◌, ◌++◌, Option, Some, None, ap, refl, sym, subst, cond, ◌∙◌, arith, append-nil, append_assoc}
+use Rattle.std.proofs.Common.{◌≡◌, ℕ, zero, suc, ◌+◌, ◌-◌, ◌^◌, ◌<◌, ◌≤◌, ◌==◌, Bool, true, false, List, [], ◌∷◌, ◌++◌, Option, Some, None, ap, refl, sym, subst, cond, ◌∙◌, arith, append-nil, append_assoc, pos}
 use Rattle.std.specs.Prelude.{nat_le}
 use Rattle.std.proofs.lemmas.Bool.{leb-false, ne_eqb}
 use Rattle.aom_image.specs.Image.{Image}
@@ -79,7 +79,7 @@ module _ (p : Image) (t : Typing) (outside : Outside) (few : outside.limit ≤ 2
     (keeps : (c : Choice) (s : State) → WellTyped p t s → named s.cells c.name ≡ None → Keeps p t (step p c s)) where
   -- an open choice
   choice : State → Choice
-  choice s = record { name = top s.cells; refused = is_refused p outside.refused s }
+  choice s = record { name = top s.cells; refused = is_refused p outside.refused s; answer = pos 0 }
 
   is_open : (s : State) → IsOpen p outside.refused (choice s) s
   unfolding choice

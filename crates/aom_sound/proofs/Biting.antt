@@ -8,6 +8,7 @@ use Rattle.aom_shape.specs.Things.{words_in}
 use Rattle.aom_sound.specs.Cases.Calls.{CallBites, CallsBite}
 use Rattle.aom_sound.specs.Cases.Cleanup.{CleanupBites}
 use Rattle.aom_sound.specs.Cases.Moves.{MovesBite}
+use Rattle.aom_sound.specs.Cases.Natives.{NativesBite}
 use Rattle.aom_sound.specs.Cases.Objects.{ObjectsBite}
 use Rattle.aom_sound.specs.Cases.Requests.{RequestsBite}
 use Rattle.aom_sound.specs.Cases.Returns.{ReturnsBite}
@@ -45,6 +46,19 @@ cleanup_bites = record { leaves = refl; leave = refl; leave_if = refl; news = re
 pub requests_bite : RequestsBite
 unfolding class_at gives_in instr_in kind_in kind_of method_at
 requests_bite = record { reading = refl; enlisting = refl; issuing = refl; waiting = refl; cancelling = refl; aborting = refl }
+
+pub natives_bite : NativesBite
+unfolding class_at gives_in instr_in kind_in kind_of method_at
+natives_bite =
+    record {
+      connects = refl;
+      asks = refl;
+      closes = refl;
+      connected = (refl, (refl, (refl, (refl, (refl, (refl, tt))))));
+      asked = (refl, (refl, (refl, (refl, (refl, tt)))));
+      issued = (refl, (refl, (refl, (refl, (refl, (refl, tt))))));
+      closed = (refl, (refl, (refl, tt)));
+    }
 
 pub moves_bite : MovesBite
 unfolding class_at class_in fields_in gives_in instr_in method_at role_in

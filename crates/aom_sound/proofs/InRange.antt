@@ -18,15 +18,16 @@ use Rattle.aom_sound.proofs.Guarded.{goes_same, guarded_goes, guarded_met}
 use Rattle.aom_sound.specs.Calls.{passed_cells, result_cells, result_register, returned}
 use Rattle.aom_sound.specs.Cleanup.{arrived, dealt_with, destroyed, top_is_whole, top_place, unwound}
 use Rattle.aom_sound.specs.Destruction.{gone, needs_gone}
-use Rattle.aom_sound.specs.Effects.{Calls, Cancels, Carried, Destroys, Destroys_last, Effect, Goes_on, In_field, In_register, Leaves, Made, Popped, Pushed, Requested, Returns, Sets_trap, Spot, Update, Written, applied, cells_after, effect, spot_place}
+use Rattle.aom_sound.specs.Effects.{Calls, Cancels, Carried, Destroys, Destroys_last, Effect, Goes_on, In_field, In_register, Leaves, Made, Popped, Pushed, Requested, Returns, Sets_trap, Spot, Update, Written, applied, cells_after, effect, spot_place, Sessioned}
 use Rattle.aom_sound.specs.Enlisted.{cancelled, cancelling, ended_cells, on_request, own_request, rerequested, part_of}
 use Rattle.aom_sound.specs.Laws.{IsWired, RegistersKeep}
 use Rattle.aom_sound.specs.Moves.{counted, dispatch_ends, does, main_ends, needs, step, step_instr, step_task, answered, asking, failed, handled, object_ends}
-use Rattle.aom_sound.specs.Places.{Cell, Elsewhere, Entry, Going, Object, Place, Register, Request, Root, held, moved, same_place, set_request, set_word_field, without}
+use Rattle.aom_sound.specs.Places.{Cell, Elsewhere, Entry, Going, Object, Place, Register, Request, Root, held, moved, same_place, set_request, set_word_field, without, set_session}
 use Rattle.aom_sound.specs.Registers.{AllInRange, IsInRange}
-use Rattle.aom_sound.specs.State.{A_mark, An_object, An_operation, AtRoot, Choice, Destroy, Dispatch, Dispatched, Frame, Goes, Home, Inside, IsStuck, Item, Main_left, NullOrDead, Of_main, Of_root, Orphan, Run, State, Static, Task, Trapped, Unwind, field_place, resumed, Answered, Asks, Object_left, Of_object}
+use Rattle.aom_sound.specs.State.{A_mark, An_object, An_operation, AtRoot, Choice, Destroy, Dispatch, Dispatched, Frame, Goes, Home, Inside, IsStuck, Item, Main_left, NullOrDead, Of_main, Of_root, Run, State, Static, Task, Trapped, Unwind, field_place, resumed, Answered, Asks, Object_left, Of_object}
 use Rattle.aom_sound.specs.Words.{here, stored}
 use Rattle.aom_rules.specs.Requests.{is_cancel}
+use Rattle.aom_sound.specs.Natives.{resessioned}
 
 move_in_range : (p q : Place) (cs : List Cell) → IsInRange q → AllInRange cs → AllInRange (moved p q cs)
 move_in_range p q [] fits all = tt
@@ -51,6 +52,10 @@ write_in_range n w v (c ∷ cs) all = (all.0, write_in_range n w v cs all.1)
 asks_in_range : (n : ℕ) (r : Option Request) (cs : List Cell) → AllInRange cs → AllInRange (set_request n r cs)
 asks_in_range n r [] all = tt
 asks_in_range n r (c ∷ cs) all = (all.0, asks_in_range n r cs all.1)
+
+opens_in_range : (n : ℕ) (session : Bool) (cs : List Cell) → AllInRange cs → AllInRange (set_session n session cs)
+opens_in_range n session [] all = tt
+opens_in_range n session (c ∷ cs) all = (all.0, opens_in_range n session cs all.1)
 
 field_in_range : (home : Home) (f : ℕ) → IsInRange (field_place home f)
 field_in_range Static f = tt
@@ -92,11 +97,17 @@ module _ (p : Image) (wired : IsWired p) (fr : Frame) (ts : List Task) (s : Stat
   request_in_range AtRoot r = all
   request_in_range (Inside o from) r = asks_in_range o.name r s.cells all
 
+  session_in_range : (home : Home) (session : Bool) → AllInRange (resessioned s.cells home session)
+  session_in_range Static session = all
+  session_in_range AtRoot session = all
+  session_in_range (Inside o from) session = opens_in_range o.name session s.cells all
+
   update_in_range : (u : Update) → UpdateFits p u → AllInRange (cells_after p fr ts s u)
   update_in_range (Carried from to) fits = move_in_range (spot_place p fr ts s from) (spot_place p fr ts s to) s.cells (spot_in_range to fits) all
   update_in_range (Made name class a) fits = (fits, all)
   update_in_range (Written w v) fits = store_in_range fr.home w v
   update_in_range (Requested r) fits = request_in_range fr.home r
+  update_in_range (Sessioned session) fits = session_in_range fr.home session
   update_in_range (Pushed a) fits = move_in_range (here fr ts s a) (Entry (length s.items)) s.cells tt all
   update_in_range (Popped a) fits = move_in_range (top_place s.items) (here fr ts s a) s.cells fits all
   update_in_range _ fits = all

@@ -15,6 +15,7 @@ pub mod Jumps
 pub mod Storing
 pub mod Words
 pub mod Requesting
+pub mod Serving
 pub mod Cancelling
 pub mod Moves
 pub mod Creation

@@ -12,7 +12,7 @@ use Rattle.aom_sound.specs.Destruction.{gone, needs_gone}
 use Rattle.aom_sound.specs.Effects.{applied, effect}
 use Rattle.aom_sound.specs.Moves.{act, counted, does, needs, step_instr, step_task}
 use Rattle.aom_sound.specs.Places.{Entry, Going, Object, held, without}
-use Rattle.aom_sound.specs.State.{A_mark, An_object, An_operation, Choice, Destroy, Dispatched, Frame, Goes, IsStuck, Item, NullOrDead, Orphan, Run, State, Task, Trapped, Unwind, resumed}
+use Rattle.aom_sound.specs.State.{A_mark, An_object, An_operation, Choice, Destroy, Dispatched, Frame, Goes, IsStuck, Item, NullOrDead, Run, State, Task, Trapped, Unwind, resumed}
 use Rattle.aom_sound.specs.Steps.{Acts, Arrives, Clears, Comes_out, Ends, Fits, IsStill, Move, Rests, StepsAreMoves, Undoes, Vanishes}
 
 -- a cell goes

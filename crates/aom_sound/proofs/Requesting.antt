@@ -27,8 +27,8 @@ use Rattle.aom_sound.proofs.Straight.{At, Fitted, Law, fitted, reframed, settle,
 use Rattle.aom_sound.proofs.Suiting.{idle_timed, timed_on, same_object}
 use Rattle.aom_sound.proofs.Words.{has_word, unowned, writes_word}
 use Rattle.aom_sound.specs.Claims.{Layer, Method, claim, declared, home_claim, root_claim, tasks_of}
-use Rattle.aom_sound.specs.Effects.{Requested, applied, jumps_if, updates}
-use Rattle.aom_sound.specs.Enlisted.{aborted, cancelled_code, first_request, home_kind, in_phase, is_active, is_busy, is_cancelling, is_idle, is_issued, issued_by, issued_of, next_timer, on_request, own_request, pending, rerequested, status_of, waits}
+use Rattle.aom_sound.specs.Effects.{Requested, applied, jumps_if, updates, asking_with}
+use Rattle.aom_sound.specs.Enlisted.{aborted, cancelled_code, first_request, home_kind, in_phase, is_active, is_busy, is_cancelling, is_idle, is_issued, issued_by, issued_of, on_request, own_request, pending, rerequested, status_of, waits, Asking}
 use Rattle.aom_sound.specs.Laws.{IsWired}
 use Rattle.aom_sound.specs.Places.{Aborted, Active, Cancelling, Cell, Elsewhere, Entry, Field, Going, Idle, Issued, Object, Phase, Place, Register, Request, Root, held, named, requested, same_place, seen}
 use Rattle.aom_sound.specs.Requests.{is_timed, Known, Suits, known_at, phase_state, state_of, states_claim, thing_kind, works_at}
@@ -209,17 +209,17 @@ issued_made : (q : Phase) → is_issued q ≡ true → is_idle q ≡ false
 issued_made Issued h = refl
 issued_made _ h = cc
 
-suits_issued : (k : Option ClassKind) (n : Known) (clock order : ℕ) (a : ℤ) (r : Option Request) → is_active_kind k ≡ true → in_phase is_idle r ≡ true → Suits k n r → Suits k (record { states = issued; cancelled = n.cancelled }) (on_request (issued_of k clock order a) r)
-suits_issued (Some (An_active v b)) n clock order a (Some r) e free s = go v
+suits_issued : (k : Option ClassKind) (n : Known) (asking : Asking) (a : ℤ) (r : Option Request) → is_active_kind k ≡ true → in_phase is_idle r ≡ true → Suits k n r → Suits k (record { states = issued; cancelled = n.cancelled }) (on_request (issued_of k asking a) r)
+suits_issued (Some (An_active v b)) n asking a (Some r) e free s = go v
   where
     still : false ≡ n.cancelled
     still = sym (idle_still r.phase free) ∙ s.1
 
-    go : (v : Provider) → Suits (Some (An_active v b)) (record { states = issued; cancelled = n.cancelled }) (Some (issued_by v clock order a r))
+    go : (v : Provider) → Suits (Some (An_active v b)) (record { states = issued; cancelled = n.cancelled }) (Some (issued_by v asking a r))
     go Own = (refl, still, refl, refl)
     go A_timer = (refl, still, refl, refl)
     go (Native m) = (refl, still, refl, refl)
-suits_issued _ n clock order a _ e free s = cc
+suits_issued _ n asking a _ e free s = cc
 
 suits_active : (k : Option ClassKind) (n : Known) (r : Option Request) → is_active_kind k ≡ true → in_phase is_issued r ≡ true → Suits k n r → Suits k (record { states = active; cancelled = n.cancelled }) (on_request waits r)
 suits_active (Some (An_active v b)) n (Some r) e made s = (refl, sym (issued_still r.phase made) ∙ s.1, refl, timed_on v r Active (issued_made r.phase made) refl s.3)
@@ -329,7 +329,7 @@ module _ (p : Image) (t : Typing) (main_none : (m : ℕ) → method_role p m ≡
   listed_home : is_listed_kind (own_kind p fr.method) ≡ true → is_listed_kind (home_kind p fr.home) ≡ true
   listed_home l = let it = of_object l in ap (λ h. is_listed_kind (home_kind p h)) it.home ∙ ap is_listed_kind it.kind ∙ l
 
-  home_is_own : is_listed_kind (own_kind p fr.method) ≡ true → home_kind p fr.home ≡ own_kind p fr.method
+  pub home_is_own : is_listed_kind (own_kind p fr.method) ≡ true → home_kind p fr.home ≡ own_kind p fr.method
   home_is_own l = let it = of_object l in ap (λ h. home_kind p h) it.home ∙ it.kind
 
   -- no place claims the object to be fresh
@@ -420,10 +420,10 @@ module _ (p : Image) (t : Typing) (main_none : (m : ℕ) → method_role p m ≡
       let it = of_object listed in
       let free = only_idle own (in_state listed idle n.1.1.1.1.0) in
       let code = read fr (tasks_of ls) s a in
-      let order = next_timer s.cells in
-      let suit = subst (λ k. Suits (own_kind p fr.method) (its listed issued) (on_request (issued_of k s.rest.clock order code) own)) (sym (home_is_own listed)) (suits_issued (own_kind p fr.method) (its listed sh.states) s.rest.clock order code own active free.1 it.suits) in (
+      let asking = asking_with p c fr (tasks_of ls) s in
+      let suit = subst (λ k. Suits (own_kind p fr.method) (its listed issued) (on_request (issued_of k asking code) own)) (sym (home_is_own listed)) (suits_issued (own_kind p fr.method) (its listed sh.states) asking code own active free.1 it.suits) in (
         (has_word p t c s fr sh ls at_hand a n.0, (has_word p t c s fr sh ls at_hand b n.1.0, (active_home active, (free.0, (free.1, tt))))),
-        asks listed issued (on_request (issued_of (home_kind p fr.home) s.rest.clock order code) own) (on_some (issued_of (home_kind p fr.home) s.rest.clock order code) own) suit leads.0,
+        asks listed issued (on_request (issued_of (home_kind p fr.home) asking code) own) (on_some (issued_of (home_kind p fr.home) asking code) own) suit leads.0,
       )
 
   pub law_set_active : Law p t c s fr sh ls at_hand SetActive

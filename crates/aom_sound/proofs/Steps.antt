@@ -6,7 +6,7 @@ use Rattle.std.specs.Prelude.{int_lt}
 use Rattle.aom_image.specs.Image.{Image}
 use Rattle.aom_image.specs.Views.{instr_at}
 use Rattle.aom_instructions.specs.declared.instr.Instr.{Instr}
-use Rattle.aom_instructions.specs.declared.instr.Instr.TheVariants.{Abort, Add, And, Call, Cancel, Const, Copy, Delete, Enlist, Issue, Jump, JumpActive, JumpAdded, JumpEmpty, JumpEqual, JumpLess, JumpNull, Leave, LeaveIf, Load, Loop, Move, Mul, New, NewOrLeave, Next, Or, Pop, PopDelete, PopOperation, Print, Push, PushOperation, Put, Return, SetActive, Status, Stop, Store, Sub, Take, Trap, Xor}
+use Rattle.aom_instructions.specs.declared.instr.Instr.TheVariants.{Abort, Add, And, Call, Cancel, Const, Copy, Delete, Enlist, Issue, Jump, JumpActive, JumpAdded, JumpEmpty, JumpEqual, JumpLess, JumpNull, Leave, LeaveIf, Load, Loop, Move, Mul, New, NewOrLeave, Next, Or, Pop, PopDelete, PopOperation, Print, Push, PushOperation, Put, Return, SetActive, Status, Stop, Store, Sub, Take, Trap, Xor, Connect, Ask, Close}
 use Rattle.aom_shape.specs.Needs.{AllTrue}
 use Rattle.aom_shape.specs.Shape.{Shape}
 use Rattle.aom_rules.specs.Typing.{IsTyped, Typing}
@@ -33,6 +33,7 @@ use Rattle.aom_sound.specs.State.{Asks, Choice, Destroy, Dispatch, Dispatched, F
 use Rattle.aom_sound.specs.WellTyped.{Caught, Good, Keeps, Now, Returns, WellTyped}
 use Rattle.aom_sound.proofs.Layers.{dispatch_layer, going_layer, leave_layer, mark_layer, method_layer}
 use Rattle.aom_sound.proofs.Cancelling.{law_cancel}
+use Rattle.aom_sound.proofs.Serving.{law_connect, law_ask, law_close}
 
 -- a state goes on where all needs are met
 kept : (p : Image) (t : Typing) (needs : List Need) (s : State) → AllTrue needs → WellTyped p t s → Keeps p t (guarded needs s)
@@ -88,6 +89,9 @@ module _ (p : Image) (t : Typing) (wired : IsWired p) (typed : IsTyped p t) (c :
   law Cancel here back = law_cancel p t wired typed c s fr sh ls at_hand
   law Abort here back = law_abort p t (main_of_none p wired) c s fr sh ls at_hand
   law (Status a) here back = law_status p t (main_of_none p wired) c s fr sh ls at_hand a
+  law (Connect a) here back = law_connect p t (main_of_none p wired) c s fr sh ls at_hand a
+  law (Ask a b x) here back = law_ask p t (main_of_none p wired) c s fr sh ls at_hand a b x
+  law Close here back = law_close p t (main_of_none p wired) c s fr sh ls at_hand
   law _ here back = λ n l. cc
 
 -- a method returns to what stands below it

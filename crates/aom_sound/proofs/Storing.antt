@@ -9,7 +9,7 @@ use Rattle.aom_rules.specs.Typing.{Typing}
 use Rattle.aom_sound.proofs.Claimed.{claim_rel, fits_age}
 use Rattle.aom_sound.proofs.Straight.{Fitted}
 use Rattle.aom_sound.specs.Claims.{Dispatching, Dying, Layer, Mark, Method, Unwinding, claim, declared, declared_field}
-use Rattle.aom_sound.specs.Places.{Cell, Entry, Field, Object, Place, Request, Tidy, held, named, requested, same_place, seen, set_request, set_word_field}
+use Rattle.aom_sound.specs.Places.{Cell, Entry, Field, Object, Place, Request, Tidy, held, named, requested, same_place, seen, set_request, set_word_field, set_session}
 use Rattle.aom_sound.specs.State.{AtRoot, Frame, Home, Inside, Seat, Static}
 use Rattle.aom_sound.specs.WellTyped.{AllSit, Back, Fits, IsHoused, Stack, seat_of}
 use Rattle.aom_sound.specs.Words.{stored}
@@ -18,6 +18,7 @@ use Rattle.std.proofs.lemmas.Bool.{eq-eqb, eqb-true, true≢false}
 use Rattle.aom_sound.specs.Enlisted.{cancelled, ended_cells, on_request, own_request, rerequested}
 use Rattle.aom_rules.specs.Requests.{is_cancel}
 use Rattle.aom_image.specs.Views.{method_role}
+use Rattle.aom_sound.specs.Natives.{resessioned}
 
 -- the same cells in the same places
 pub record Alike (cs cs' : List Cell) : Type 0 where
@@ -158,12 +159,36 @@ module _ (p : Image) (t : Typing) (cs cs' : List Cell) (alike : Alike cs cs') wh
       subst (λ k. Fits p (seen cs') (held cs' r) k) (sym (claim_rel (λ x y. x ≡ y) (λ k. refl) p (declared p cs') (declared p cs) ls r (declared_alike r)))
       (subst (λ o. Fits p (seen cs') o (claim p (declared p cs) ls r)) (sym (alike.held_so r)) (fits_age p (seen cs) (seen cs') (held cs r) _ (λ x e fresh age. (λ f. alike.held_so _ ∙ age.0 f, requests x e fresh ∙ age.1)) f))
 
--- a word is stored
-pub stored_fitted : (p : Image) (t : Typing) (cs : List Cell) (home : Home) (w : ℕ) (v : ℤ) (fr : Frame) (sh : Shape) (ls : List Layer) → Fitted p t cs fr sh ls → Fitted p t (stored cs home w v) fr sh ls
-stored_fitted p t cs home w v fr sh ls g =
-    let alike = stored_alike cs home w v in
-    let requests = stored_requests cs home w v in
-    let cs' = stored cs home w v in
+-- the cells with a session of one of them open or not
+held_session : (cs : List Cell) (n : ℕ) (b : Bool) (q : Place) → held (set_session n b cs) q ≡ held cs q
+held_session [] n b q = refl
+held_session (c ∷ cs) n b q = ap (λ x. cond (same_place c.owner q) (Some c.object) x) (held_session cs n b q)
+
+named_session : (cs : List Cell) (n : ℕ) (b : Bool) (m : ℕ) → named (set_session n b cs) m ≡ named cs m
+named_session [] n b m = refl
+named_session (c ∷ cs) n b m = ap (λ x. cond (c.object.name == m) (Some c.object) x) (named_session cs n b m)
+
+requested_session : (cs : List Cell) (n : ℕ) (b : Bool) (m : ℕ) → requested (set_session n b cs) m ≡ requested cs m
+requested_session [] n b m = refl
+requested_session (c ∷ cs) n b m = ap (λ x. cond (c.object.name == m) c.request x) (requested_session cs n b m)
+
+tidy_session : (cs : List Cell) (n : ℕ) (b : Bool) → Tidy cs → Tidy (set_session n b cs)
+tidy_session [] n b t = tt
+tidy_session (c ∷ cs) n b t = (held_session cs n b c.owner ∙ t.0, named_session cs n b c.object.name ∙ t.1, tidy_session cs n b t.2)
+
+pub resessioned_alike : (cs : List Cell) (home : Home) (b : Bool) → Alike cs (resessioned cs home b)
+resessioned_alike cs Static b = alike_itself cs
+resessioned_alike cs AtRoot b = alike_itself cs
+resessioned_alike cs (Inside o from) b = record { held_so = held_session cs o.name b; named_so = named_session cs o.name b; tidy = tidy_session cs o.name b }
+
+pub resessioned_requests : (cs : List Cell) (home : Home) (b : Bool) (n : ℕ) → requested (resessioned cs home b) n ≡ requested cs n
+resessioned_requests cs Static b n = refl
+resessioned_requests cs AtRoot b n = refl
+resessioned_requests cs (Inside o from) b n = requested_session cs o.name b n
+
+-- other cells in the same places, with the same requests
+alike_fitted : (p : Image) (t : Typing) (cs cs' : List Cell) → Alike cs cs' → ((n : ℕ) → requested cs' n ≡ requested cs n) → (fr : Frame) (sh : Shape) (ls : List Layer) → Fitted p t cs fr sh ls → Fitted p t cs' fr sh ls
+alike_fitted p t cs cs' alike requests fr sh ls g =
     record {
       fits = λ r. fits_alike p t cs cs' alike (Method fr sh ∷ ls) r (λ x e fresh. requests x.name) (g.fits r);
       suits = λ o lives. subst (λ r. Suits (thing_kind p o.thing) (states_claim p o (Method fr sh ∷ ls)) r) (sym (requests o.name)) (g.suits o (sym (alike.named_so o.name) ∙ lives));
@@ -173,3 +198,11 @@ stored_fitted p t cs home w v fr sh ls g =
       apart = g.apart;
       stack = stack_alike p t cs cs' alike (λ n some. ap is_some (requests n) ∙ some) ls _ g.stack;
     }
+
+-- a session is open or not
+pub sessioned_fitted : (p : Image) (t : Typing) (cs : List Cell) (home : Home) (b : Bool) (fr : Frame) (sh : Shape) (ls : List Layer) → Fitted p t cs fr sh ls → Fitted p t (resessioned cs home b) fr sh ls
+sessioned_fitted p t cs home b = alike_fitted p t cs (resessioned cs home b) (resessioned_alike cs home b) (resessioned_requests cs home b)
+
+-- a word is stored
+pub stored_fitted : (p : Image) (t : Typing) (cs : List Cell) (home : Home) (w : ℕ) (v : ℤ) (fr : Frame) (sh : Shape) (ls : List Layer) → Fitted p t cs fr sh ls → Fitted p t (stored cs home w v) fr sh ls
+stored_fitted p t cs home w v = alike_fitted p t cs (stored cs home w v) (stored_alike cs home w v) (stored_requests cs home w v)

@@ -2,6 +2,7 @@
 pub mod Building
 pub mod Words
 pub mod Requests
+pub mod Natives
 pub mod Objects
 pub mod Calls
 pub mod Returns

@@ -140,16 +140,25 @@ interval (negsuc n) = 0
 abbrev pub due_after : ℕ → ℤ → ℕ
 due_after clock a = min (clock + interval a) (2 ^ 64 - 1)
 
--- a request is made at a provider: one's own completes at once, with that code, and a timer once that interval is over
-abbrev pub issued_by : Provider → (clock order : ℕ) → ℤ → Request → Request
-issued_by Own clock order a r = record r { phase = Issued; status = recorded a; timer = None }
-issued_by A_timer clock order a r = record r { phase = Issued; status = pending; timer = Some (record { due = due_after clock a; order = order }) }
--- what a native does comes with natives
-issued_by (Native n) clock order a r = record r { phase = Issued; status = pending; timer = None }
+-- what a request is made with: the time, the order of the next timer, and the status with which a native begins it
+pub record Asking : Type 0 where
+  pub clock : ℕ
+  pub order : ℕ
+  pub started : ℤ
 
-abbrev pub issued_of : Option ClassKind → (clock order : ℕ) → ℤ → Request → Request
-issued_of (Some (An_active provider budget)) clock order a r = issued_by provider clock order a r
-issued_of _ clock order a r = r
+-- a request that is completed as it is made
+abbrev pub completed_at_once : ℤ → Request → Request
+completed_at_once code r = record r { phase = Issued; status = recorded code; timer = None }
+
+-- a request is made at a provider: one's own completes at once, with that code, a timer once that interval is over, and a native as it answers
+abbrev pub issued_by : Provider → Asking → ℤ → Request → Request
+issued_by Own asking a r = completed_at_once a r
+issued_by A_timer asking a r = record r { phase = Issued; status = pending; timer = Some (record { due = due_after asking.clock a; order = asking.order }) }
+issued_by (Native n) asking a r = record r { phase = Issued; status = asking.started; timer = None }
+
+abbrev pub issued_of : Option ClassKind → Asking → ℤ → Request → Request
+issued_of (Some (An_active provider budget)) asking a r = issued_by provider asking a r
+issued_of _ asking a r = r
 
 -- of an enlisted object
 abbrev pub on_request : (Request → Request) → Option Request → Option Request

@@ -6,6 +6,7 @@ pub mod Objects
 pub mod Calls
 pub mod Cleanup
 pub mod Enlisted
+pub mod Natives
 pub mod Effects
 pub mod Moves
 pub mod Tasks

@@ -1,5 +1,5 @@
 -- Places, the cells with their owners, and what a place holds.
-use Rattle.std.specs.Prelude.{ℕ, ℤ, pos, Bool, cond, ◌&&◌, ◌==◌, ◌≡◌, List, [], ◌∷◌, Option, Some, None}
+use Rattle.std.specs.Prelude.{ℕ, ℤ, pos, Bool, false, cond, ◌&&◌, ◌==◌, ◌≡◌, List, [], ◌∷◌, Option, Some, None}
 use Rattle.aom_image.specs.declared.method.Thing.{Thing}
 use Rattle.aom_shape.specs.Tables.{at, put_at}
 
@@ -79,6 +79,8 @@ pub record Cell : Type 0 where
   pub words : List ℤ
   -- none where the object is not enlisted
   pub request : Option Request
+  -- a session is open at the native of its class
+  pub session : Bool
   pub owner : Place
 
 -- what a place holds: the cell that it owns
@@ -114,9 +116,9 @@ abbrev pub without : Place → List Cell → List Cell
 without p [] = []
 without p (c ∷ cs) = cond (same_place c.owner p) (without p cs) (c ∷ without p cs)
 
--- one more cell, with these words, which is not enlisted
+-- one more cell, with these words, which is not enlisted and has no session
 abbrev pub with_new : ℕ → Thing → List ℤ → Place → List Cell → List Cell
-with_new name thing words owner cs = record { object = record { name = name; thing = thing }; words = words; request = None; owner = owner } ∷ cs
+with_new name thing words owner cs = record { object = record { name = name; thing = thing }; words = words; request = None; session = false; owner = owner } ∷ cs
 
 -- a word of the cell of that name
 abbrev pub word_field : List Cell → ℕ → ℕ → ℤ
@@ -137,6 +139,16 @@ Tidy (c ∷ cs) = (held cs c.owner ≡ None) × (named cs c.object.name ≡ None
 abbrev pub set_request : ℕ → Option Request → List Cell → List Cell
 set_request n r [] = []
 set_request n r (c ∷ cs) = record c { request = cond (c.object.name == n) r c.request } ∷ set_request n r cs
+
+-- whether the cell of that name has a session
+abbrev pub in_session : List Cell → ℕ → Bool
+in_session [] n = false
+in_session (c ∷ cs) n = cond (c.object.name == n) c.session (in_session cs n)
+
+-- the session of the cell of that name is open or not
+abbrev pub set_session : ℕ → Bool → List Cell → List Cell
+set_session n session [] = []
+set_session n session (c ∷ cs) = record c { session = cond (c.object.name == n) session c.session } ∷ set_session n session cs
 
 -- a function of places with one value changed
 abbrev pub changed : {A : Type 0} → (Place → A) → Place → A → Place → A

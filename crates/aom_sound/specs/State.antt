@@ -71,6 +71,10 @@ pub record Rest : Type 0 where
   pub announced : Bool
   -- `stop` was run
   pub stopped : Bool
+  -- events that are delivered
+  pub delivered : ℕ
+  -- the natives before this one are polled in the turn at hand
+  pub polled : ℕ
   -- the run is over
   pub ended : Option Ending
 
@@ -80,11 +84,14 @@ pub record State : Type 0 where
   -- last first
   pub items : List Item
   pub rest : Rest
+  -- the natives that are killed
+  pub killed : List ℕ
 
--- what is left free, and what the request at hand will hear: the name of a new cell, and whether the request is refused
+-- what is left free, and what is heard at hand: the name of a new cell, whether the allocation request is refused, and what the native answers
 pub record Choice : Type 0 where
   pub name : ℕ
   pub refused : Bool
+  pub answer : ℤ
 
 -- the kinds of stuck states
 pub data Stuck : Type 0 where

@@ -37,7 +37,8 @@ boot_state p =
       cells = [];
       tasks = main_tasks (main_of p);
       items = A_mark ∷ [];
-      rest = record { clock = 0; requests = 0; steps = 0; dispatches = 0; announced = false; stopped = false; ended = None };
+      rest = record { clock = 0; requests = 0; steps = 0; dispatches = 0; announced = false; stopped = false; delivered = 0; polled = 0; ended = None };
+      killed = [];
     }
 
 -- some task is at hand

@@ -12,6 +12,7 @@ ghost use Rattle.aom_sound.specs.Cases.Calls.{CallsBite};
 ghost use Rattle.aom_sound.specs.Cases.Returns.{ReturnsBite};
 ghost use Rattle.aom_sound.specs.Cases.Cleanup.{CleanupBites};
 ghost use Rattle.aom_sound.specs.Cases.Requests.{RequestsBite};
+ghost use Rattle.aom_sound.specs.Cases.Natives.{NativesBite};
 ghost use Rattle.aom_sound.specs.Cases.Moves.{MovesBite};
 ghost use Rattle.aom_sound.specs.Cases.Turns.{TurnsBite};
 ghost use Rattle.aom_sound.specs.Cases.Owners.{OwnersBite};
@@ -149,6 +150,11 @@ pub fn cleanup_bites()
 /// Each need of an instruction on the request of an object bites.
 pub fn requests_bite()
     ensures { RequestsBite }
+{}
+
+/// Each need of an instruction at a native bites, and what is found is what it answers.
+pub fn natives_bite()
+    ensures { NativesBite }
 {}
 
 /// Each need of the moves that are no instruction bites.

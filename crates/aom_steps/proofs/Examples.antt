@@ -1,7 +1,7 @@
 -- A closed image with a typing and a table that pays for it: the premises of the laws of steps can be met.
 use Rattle.std.proofs.lemmas.Option.{same_Some}
 use Rattle.std.specs.Prelude.{false}
-use Rattle.std.proofs.Common.{◌≡◌, ◌≤◌, ◌+◌, ◌-◌, ◌*◌, ◌∙◌, ℕ, zero, suc, List, [], ◌∷◌, Option, Some, None, IsSome, replicate, refl, sym, ap, arith, subst}
+use Rattle.std.proofs.Common.{◌≡◌, ◌≤◌, ◌+◌, ◌-◌, ◌*◌, ◌∙◌, ℕ, zero, suc, List, [], ◌∷◌, Option, Some, None, IsSome, replicate, refl, sym, ap, arith, subst, pos}
 use Rattle.aom_image.specs.Image.{Image}
 use Rattle.aom_image.specs.Views.{arguments_in, class_at, class_in, fields_in, gives_in, instr_at, instr_in, method_at, quiet_in, role_in}
 use Rattle.aom_image.specs.declared.class.ClassKind.TheVariants.{Plain}
@@ -217,7 +217,7 @@ typed = record { each = passing; entry = enters_method }
 -- so many moves on, with one name for each new cell, which is free again by then
 abbrev after : ℕ → Outcome → Outcome
 after zero o = o
-after (suc n) (Goes s) = after n (step image (record { name = 0; refused = false }) s)
+after (suc n) (Goes s) = after n (step image (record { name = 0; refused = false; answer = pos 0 }) s)
 after (suc n) (IsStuck kind) = IsStuck kind
 
 abbrev outcome : Outcome → Option (ℕ × Option Ending)

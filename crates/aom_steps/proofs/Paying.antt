@@ -24,7 +24,7 @@ use Rattle.aom_sound.specs.Calls.{below_top}
 use Rattle.aom_sound.specs.Claims.{Layer, tasks_of}
 use Rattle.aom_sound.specs.Cleanup.{top_place}
 use Rattle.aom_sound.specs.Destruction.{begun, begun_by}
-use Rattle.aom_sound.specs.Effects.{Calls, Cancels, Carried, Counts, Destroys, Destroys_last, Effect, Goes_on, In_field, In_register, Jumps, Leaves, Made, Operates, Popped, Popped_operation, Pushed, Pushed_operation, Repeats, Requested, Returns, Same, Sets_trap, Spot, Update, Written, applied, cells_after, items_after, spot_place, with_words}
+use Rattle.aom_sound.specs.Effects.{Calls, Cancels, Carried, Counts, Destroys, Destroys_last, Effect, Goes_on, In_field, In_register, Jumps, Leaves, Made, Operates, Popped, Popped_operation, Pushed, Pushed_operation, Repeats, Requested, Returns, Same, Sets_trap, Spot, Update, Written, applied, cells_after, items_after, spot_place, with_words, Sessioned}
 use Rattle.aom_sound.specs.Places.{Entry, Going, Object, Sight, held, seen}
 use Rattle.aom_sound.specs.State.{An_object, An_operation, Choice, Frame, Run, State, Task, Trapped, counter}
 use Rattle.aom_sound.specs.Steps.{Fits, Sets}
@@ -37,7 +37,7 @@ use Rattle.aom_ranks.proofs.Worths.{passed_less, returned_less, to_trap_less}
 use Rattle.aom_prices.specs.Prices.{IsPriced, Prices, Stands, kind_price, price}
 use Rattle.aom_steps.specs.Left.{is_entry, left, left_worths, method_left, objects_left, operations_left, rounds_left, rounds_price, tasks_left, waiting_left}
 use Rattle.aom_steps.proofs.Covering.{Affords, Covers, pushes}
-use Rattle.aom_steps.proofs.Pushed.{enters_stack, field_no_entry, leaves_entry, moved_less, none_moves, operations_below, register_passes, rerequested_same, stored_same}
+use Rattle.aom_steps.proofs.Pushed.{enters_stack, field_no_entry, leaves_entry, moved_less, none_moves, operations_below, register_passes, rerequested_same, stored_same, resessioned_same}
 use Rattle.aom_sound.specs.Enlisted.{cancelling, on_request, own_request}
 
 -- ---- what begins, and what ends
@@ -133,6 +133,7 @@ module _ (p : Image) (t : Typing) (c : Prices) (linked : IsLinked p) (priced : I
   after (Made name x a) = omega arith
   after (Written w v) = omega (arith, stored_same c s.cells fr.home w v)
   after (Requested r) = omega (arith, rerequested_same c s.cells fr.home r)
+  after (Sessioned b) = omega (arith, resessioned_same c s.cells fr.home b)
   after (Pushed a) = of_object (held s.cells (here fr ts s a)) refl
     where
       of_object : (o : Option Object) → held s.cells (here fr ts s a) ≡ o → objects_left c (cells_after p fr ts s (Pushed a)) + operations_left c s.items ≤ kind_price c (register sh a) + pushed

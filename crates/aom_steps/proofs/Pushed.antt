@@ -1,7 +1,7 @@
 -- What the objects and operations on the cleanup stack may still cost, after each change of the cells and of the items.
 use Rattle.std.proofs.Common.{◌≡◌, ◌≤◌, ◌+◌, ◌∙◌, ℕ, ℤ, Bool, true, false, cond, List, [], ◌∷◌, Option, Some, None, refl, ap, arith, subst}
 use Rattle.aom_sound.specs.Enlisted.{rerequested}
-use Rattle.aom_sound.specs.Places.{Cell, Object, Place, Register, Request, Tidy, held, moved, same_place, set_request, set_word_field, without}
+use Rattle.aom_sound.specs.Places.{Cell, Object, Place, Register, Request, Tidy, held, moved, same_place, set_request, set_word_field, without, set_session}
 use Rattle.aom_sound.specs.State.{AtRoot, Home, Inside, Item, An_object, An_operation, A_mark, Static, field_place}
 use Rattle.aom_sound.specs.Calls.{below_top}
 use Rattle.aom_sound.specs.Words.{stored}
@@ -9,6 +9,7 @@ use Rattle.aom_sound.proofs.Maps.{same_place-true}
 use Rattle.aom_prices.specs.Prices.{Prices}
 use Rattle.aom_steps.specs.Left.{due, is_entry, objects_left, operations_left}
 use Rattle.aom_image.proofs.Given.{false_given}
+use Rattle.aom_sound.specs.Natives.{resessioned}
 
 pub field_no_entry : (h : Home) (f : ℕ) → is_entry (field_place h f) ≡ false
 field_no_entry Static f = refl
@@ -108,6 +109,15 @@ module _ (c : Prices) where
   rerequested_same cs Static r = refl
   rerequested_same cs AtRoot r = refl
   rerequested_same cs (Inside o from) r = asked_same o.name r cs
+
+  opened_same : (n : ℕ) (b : Bool) (cs : List Cell) → objects_left c (set_session n b cs) ≡ objects_left c cs
+  opened_same n b [] = refl
+  opened_same n b (x ∷ cs) = ap (λ y. due c x.owner x.object + y) (opened_same n b cs)
+
+  pub resessioned_same : (cs : List Cell) (h : Home) (b : Bool) → objects_left c (resessioned cs h b) ≡ objects_left c cs
+  resessioned_same cs Static b = refl
+  resessioned_same cs AtRoot b = refl
+  resessioned_same cs (Inside o from) b = opened_same o.name b cs
 
   -- ---- items
 

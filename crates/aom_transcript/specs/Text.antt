@@ -2,7 +2,7 @@
 use Rattle.std.specs.Prelude.{ℕ, List, [], ◌∷◌, ◌++◌, codes, decimal, flat_map}
 use Rattle.std.specs.Fmt.{signed_decimal}
 use Rattle.aom_transcript.specs.declared.line.Line.{Line}
-use Rattle.aom_transcript.specs.declared.line.Line.TheVariants.{Main, Out, Leave, Gone, Run}
+use Rattle.aom_transcript.specs.declared.line.Line.TheVariants.{Main, Out, Leave, Gone, Run, Killed}
 use Rattle.aom_transcript.specs.declared.line.Ending.{Ending}
 use Rattle.aom_transcript.specs.declared.line.Ending.TheVariants.{Stopped, Waiting, MainLeft, Limit, Error}
 
@@ -13,6 +13,7 @@ line_text (Out word) = codes "out " ++ signed_decimal word
 line_text (Leave code) = codes "leave " ++ signed_decimal code
 line_text (Gone class) = codes "gone " ++ decimal class
 line_text (Run time class status) = codes "@" ++ decimal time ++ codes " run " ++ decimal class ++ codes " " ++ signed_decimal status
+line_text (Killed native) = codes "killed " ++ decimal native
 
 -- how a run ended
 abbrev pub ending_text : Ending → List ℕ

@@ -1,11 +1,13 @@
-//! What a run shows: the lines of its transcript, how it ended, and their text.
+//! What a run hears and shows: the events of its script, the lines of its transcript, how it ended, and their text.
 //!
-//! A `Line` is a value; a `Page` is the text of some lines in one buffer, and takes no memory. The text is the one that `specs/Text.antt`
+//! An `Event` and a `Line` are values; a `Page` is the text of some lines in one buffer, and takes no memory. The text is the one that `specs/Text.antt`
 //! spells. This room knows no machine: the laws and the machine say which lines a run has.
 #![tactic(auto)]
 
+mod event;
 mod line;
 mod page;
 
+pub use event::{Event, TimedEvent};
 pub use line::{Ending, Line};
 pub use page::Page;

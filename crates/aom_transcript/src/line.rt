@@ -14,6 +14,8 @@ pub enum Line {
     Gone(ClassNumber),
     /// The dispatch of an object of that class begins, at that time, with that status.
     Run(u64, ClassNumber, i32),
+    /// The native of that number was killed.
+    Killed(u8),
 }
 
 /// How a run ends.

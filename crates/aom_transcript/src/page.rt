@@ -55,6 +55,7 @@ impl Page {
             Line::Leave(code) => self.add_leave(*code),
             Line::Gone(class) => self.add_gone(class.number()),
             Line::Run(time, class, status) => self.add_run(*time, class.number(), *status),
+            Line::Killed(native) => self.add_killed(*native),
         }
     }
 
@@ -140,6 +141,15 @@ impl Page {
         self.add_class(class);
         self.add(b" ");
         self.add_word(status);
+        self.add(b"\n");
+    }
+
+    fn add_killed(&mut self, native: u8)
+        requires { length self.old + 64 ≤ 4096 }
+        ensures { self.new ≡ self.old ++ ended (line_text (Line.Killed native)) }
+    {
+        self.add(b"killed ");
+        self.add_class(u16::from(native));
         self.add(b"\n");
     }
 

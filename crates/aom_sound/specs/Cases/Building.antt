@@ -3,7 +3,7 @@ use Rattle.std.specs.Prelude.{ℕ, ◌+◌, ℤ, pos, Bool, true, false, cond, �
 use Rattle.aom_image.specs.Image.{Image}
 use Rattle.aom_image.specs.declared.class.ClassDecl.{ClassDecl}
 use Rattle.aom_image.specs.declared.class.ClassKind.TheVariants.{Active, Plain, Server}
-use Rattle.aom_image.specs.declared.class.Provider.TheVariants.{Own}
+use Rattle.aom_image.specs.declared.class.Provider.TheVariants.{Native, Own}
 use Rattle.aom_instructions.specs.declared.instr.Instr.{Instr}
 use Rattle.aom_image.specs.declared.method.Argument.{Argument}
 use Rattle.aom_image.specs.declared.method.Gives.{Gives}
@@ -33,12 +33,17 @@ waiter = An_object_of 2
 abbrev pub keeper : Thing
 keeper = An_object_of 3
 
+-- and one of active objects that the first native serves
+abbrev pub served : Thing
+served = An_object_of 4
+
 abbrev pub small_classes : List ClassDecl
 small_classes =
     record { kind = Plain; words = 0; fields = [] }
     ∷ record { kind = Plain; words = 1; fields = leaf ∷ Message ∷ [] }
     ∷ record { kind = Active Own 1; words = 0; fields = [] }
     ∷ record { kind = Server 1 0 1; words = 0; fields = [] }
+    ∷ record { kind = Active (Native 0) 1; words = 0; fields = [] }
     ∷ []
 
 abbrev pub a_method : Option ℕ → List Argument → Gives → List Instr → Method
@@ -58,7 +63,7 @@ a_method class arguments gives code =
 abbrev pub small_image : Method → Method → Image
 small_image here called =
     record {
-      header = record { cells = 8; messages = 0; natives = 0; root = Some 1; budget = 1 };
+      header = record { cells = 8; messages = 0; natives = 1; root = Some 1; budget = 1 };
       classes = small_classes;
       methods = here ∷ called ∷ [];
     }
@@ -69,7 +74,7 @@ abbrev pub seven : Option ℤ
 seven = Some (pos 7)
 
 abbrev pub a_cell : ℕ → Thing → Place → Cell
-a_cell name thing owner = record { object = record { name = name; thing = thing }; words = []; request = None; owner = owner }
+a_cell name thing owner = record { object = record { name = name; thing = thing }; words = []; request = None; session = false; owner = owner }
 
 -- main's dispatch under its trap
 abbrev pub at_bottom : List Task
@@ -90,7 +95,8 @@ state_of tasks cells items =
       cells = cells;
       tasks = tasks;
       items = items;
-      rest = record { clock = 0; requests = 0; steps = 0; dispatches = 0; announced = true; stopped = false; ended = None };
+      rest = record { clock = 0; requests = 0; steps = 0; dispatches = 0; announced = true; stopped = false; delivered = 0; polled = 0; ended = None };
+      killed = [];
     }
 
 -- ---- the cases
@@ -141,7 +147,7 @@ abbrev pub begins : Case → State
 begins c = state_of (Run (frame_at c) ∷ c.below) c.cells c.items
 
 abbrev pub choice_of : Case → Choice
-choice_of c = record { name = 99; refused = c.refused }
+choice_of c = record { name = 99; refused = c.refused; answer = pos 0 }
 
 -- the kinds of the needs that are not met
 abbrev pub unmet : List Need → List Stuck

@@ -1,7 +1,7 @@
 -- The needs of the moves that are no instruction, and of the place where a method stands.
 use Rattle.std.specs.Prelude.{pos, Bool, false, List, [], ◌∷◌, ◌≡◌, map, None, Some}
 use Rattle.aom_image.specs.Image.{Image}
-use Rattle.aom_instructions.specs.declared.instr.Instr.TheVariants.{Stop, Cancel, Connect, Ask, Close, TakeMessage, Reply}
+use Rattle.aom_instructions.specs.declared.instr.Instr.TheVariants.{Stop, Cancel, TakeMessage, Reply}
 use Rattle.aom_image.specs.declared.method.Gives.TheVariants.{Nothing}
 use Rattle.aom_image.specs.declared.method.Thing.TheVariants.{Message}
 use Rattle.aom_sound.specs.Places.{Entry, Field, Going, Phase, Idle, Issued, Active, Cancelling, Aborted}
@@ -22,7 +22,7 @@ abbrev pub an_image : Image
 an_image = small_image (a_method None [] Nothing (Stop ∷ [])) (a_method None [] Nothing (Stop ∷ []))
 
 abbrev pub turns : Turning → Bool
-turns c = is_stuck_by c.kinds (step an_image (record { name = 99; refused = false }) c.state)
+turns c = is_stuck_by c.kinds (step an_image (record { name = 99; refused = false; answer = pos 0 }) c.state)
 
 abbrev pub AllTurn : List Turning → Type 0
 AllTurn cases = missed 0 (map turns cases) ≡ []
@@ -99,9 +99,6 @@ abbrev pub later_cases : List Case
 later_cases =
     map (λ i. fails i (WrongKind ∷ [])) (
     Cancel
-    ∷ Connect 0
-    ∷ Ask 0 1 2
-    ∷ Close
     ∷ TakeMessage 0
     ∷ Reply 0 1
     ∷ []

@@ -1,5 +1,5 @@
 -- What a turn does, by what signals, what is due and what waits; and where it is stuck.
-use Rattle.std.specs.Prelude.{ℕ, ℤ, pos, negsuc, List, [], ◌∷◌, ◌≡◌, Option, Some, None}
+use Rattle.std.specs.Prelude.{ℕ, ℤ, pos, negsuc, List, [], ◌∷◌, ◌≡◌, Some, None}
 use Rattle.aom_sound.specs.Enlisted.{pending}
 use Rattle.aom_sound.specs.Places.{Active, Cancelling, Cell, Elsewhere, Idle, Issued, Object, Phase, Root, Timer}
 use Rattle.aom_sound.specs.State.{IsStuck, Seat, State, Stray}

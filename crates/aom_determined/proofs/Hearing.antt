@@ -1,0 +1,101 @@
+-- What a native answers counts only where it is heard.
+use Rattle.std.proofs.Common.{List, None, Option, Some, [], ap, false, refl, ℕ, ℤ, ◌∷◌, ◌≡◌, IsTrue}
+use Rattle.aom_image.specs.Image.{Image}
+use Rattle.aom_image.specs.Views.{instr_at, class_at}
+use Rattle.aom_image.specs.declared.class.ClassKind.{ClassKind}
+use Rattle.aom_image.specs.declared.class.ClassKind.TheVariants.{Active as An_active}
+use Rattle.aom_image.specs.declared.class.Provider.TheVariants.{Native}
+use Rattle.aom_image.specs.declared.method.Thing.TheVariants.{Message, Object as An_object_of}
+use Rattle.aom_instructions.specs.declared.instr.Instr.{Instr}
+use Rattle.aom_instructions.specs.declared.instr.Instr.TheVariants.{Ask, Connect, Issue}
+use Rattle.aom_rules.specs.Natives.{is_native_kind}
+use Rattle.aom_sound.specs.Effects.{Requested, applied, needs, updates}
+use Rattle.aom_sound.specs.Enlisted.{home_kind, issued_of, next_timer, on_request, own_request, thing_kind}
+use Rattle.aom_sound.specs.Moves.{counted, step, step_instr, step_task}
+use Rattle.aom_sound.specs.Places.{Request}
+use Rattle.aom_sound.specs.State.{AtRoot, Choice, Frame, Home, Inside, Run, State, Static, Task, guarded}
+use Rattle.aom_sound.specs.Words.{read}
+use Rattle.aom_determined.proofs.Needs.{kind_kept}
+use Rattle.aom_determined.specs.Hearing.{HasNoNative, hears, is_heard}
+use Rattle.aom_determined.specs.Names.{renamed_tasks}
+use Rattle.aom_image.specs.declared.method.Thing.{Thing}
+use Rattle.std.specs.Prelude.{IfSome, slice_get}
+use Rattle.std.specs.List.{list_all}
+use Rattle.aom_image.specs.declared.class.ClassDecl.{ClassDecl}
+use Rattle.aom_classes.proofs.Each.{both}
+use Rattle.aom_classes.specs.Admitted.{IsAdmitted, admits_class, admits_thing, admits_kind}
+use Rattle.aom_roles.specs.Classes.{kind_in}
+use Rattle.aom_roles.specs.Shapes.{kind_of}
+
+-- where no native serves a class, a request begins the same whatever one would answer
+unheard : (k : Option ClassKind) (clock order : ℕ) (x y a : ℤ) (r : Request) → is_native_kind k ≡ false → issued_of k (record { clock = clock; order = order; started = x }) a r ≡ issued_of k (record { clock = clock; order = order; started = y }) a r
+unheard (Some (An_active (Native n) budget)) clock order x y a r h = cc
+unheard _ clock order x y a r h = refl
+
+unheard_on : (k : Option ClassKind) (clock order : ℕ) (x y a : ℤ) (r : Option Request) → is_native_kind k ≡ false → on_request (issued_of k (record { clock = clock; order = order; started = x }) a) r ≡ on_request (issued_of k (record { clock = clock; order = order; started = y }) a) r
+unheard_on k clock order x y a None h = refl
+unheard_on k clock order x y a (Some r) h = ap Some (unheard k clock order x y a r h)
+
+module _ (p : Image) (c : Choice) (answer : ℤ) where
+  abbrev other : Choice
+  other = record c { answer = answer }
+
+  instr_unheard : (fr : Frame) (ts : List Task) (s : State) (i : Option Instr) → hears (home_kind p fr.home) i ≡ false → step_instr p other fr ts s i ≡ step_instr p c fr ts s i
+  instr_unheard fr ts s (Some (Connect a)) h = rw h
+  instr_unheard fr ts s (Some (Ask a b x)) h = rw h
+  instr_unheard fr ts s (Some (Issue a b)) h =
+      ap (λ r. guarded (needs p c fr ts s (Issue a b)) (applied p fr ts s (updates fr (Requested r)))) (unheard_on (home_kind p fr.home) s.rest.clock (next_timer s.cells) _ _ (read fr ts s a) (own_request s.cells fr.home) h)
+  instr_unheard fr ts s _ h = refl
+
+  task_unheard : (s : State) (ts : List Task) → is_heard p ts ≡ false → step_task p other s ts ≡ step_task p c s ts
+  task_unheard s (Run fr ∷ ts) h = instr_unheard fr ts s (instr_at p fr.method fr.place) h
+  task_unheard s _ h = refl
+
+  pub step_unheard : (s : State) → is_heard p s.tasks ≡ false → step p other s ≡ step p c s
+  step_unheard s h = task_unheard (counted p s) s.tasks h
+
+-- a native is heard under other names too
+pub heard_kept : (p : Image) (names : ℕ → ℕ) (ts : List Task) → is_heard p (renamed_tasks names ts) ≡ is_heard p ts
+heard_kept p names (Run fr ∷ ts) = ap (λ k. hears k (instr_at p fr.method fr.place)) (kind_kept names p fr.home)
+heard_kept p names [] = refl
+heard_kept p names _ = refl
+
+module _ (p : Image) (natives : HasNoNative p) where
+  home_unserved : (h : Home) → is_native_kind (home_kind p h) ≡ false
+  home_unserved Static = refl
+  home_unserved AtRoot = refl
+  home_unserved (Inside o from) = go o.thing
+    where
+      go : (t : Thing) → is_native_kind (thing_kind p t) ≡ false
+      go (An_object_of class) = natives.none (Some class)
+      go Message = natives.none None
+
+  none_hears : (k : Option ClassKind) (i : Option Instr) → is_native_kind k ≡ false → hears k i ≡ false
+  none_hears k (Some (Connect a)) h = h
+  none_hears k (Some (Ask a b x)) h = h
+  none_hears k (Some (Issue a b)) h = h
+  none_hears k _ h = refl
+
+  -- where there is no native none is heard
+  pub none_heard : (ts : List Task) → is_heard p ts ≡ false
+  none_heard (Run fr ∷ ts) = none_hears (home_kind p fr.home) (instr_at p fr.method fr.place) (home_unserved fr.home)
+  none_heard _ = refl
+
+-- no class of an image that is admitted so far has a native
+kind_unserved : (k : ClassKind) → IsTrue (admits_kind k) → is_native_kind (Some k) ≡ false
+unfolding admits_kind
+kind_unserved (An_active (Native n) budget) h = cc
+kind_unserved _ h = refl
+
+class_unserved : (o : Option ClassDecl) → IfSome o (λ d. IsTrue (admits_class d)) → is_native_kind (kind_in o) ≡ false
+unfolding kind_in admits_class
+class_unserved None h = refl
+class_unserved (Some d) h = kind_unserved d.kind (both (admits_kind d.kind) (list_all admits_thing d.fields) h).0
+
+pub admitted_unserved : (p : Image) → IsAdmitted p → HasNoNative p
+unfolding kind_of class_at
+admitted_unserved p admitted = record { none = go }
+  where
+    go : (class : Option ℕ) → is_native_kind (kind_of p class) ≡ false
+    go None = refl
+    go (Some c) = class_unserved (slice_get p.classes c) (admitted.classes c)

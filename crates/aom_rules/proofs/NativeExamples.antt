@@ -1,0 +1,122 @@
+-- One refused instruction for each need at a native, and some that pass.
+use Rattle.std.proofs.Common.{◌≡◌, ℕ, List, [], ◌∷◌, Some, None, Ok, Err, refl}
+use Rattle.aom_image.specs.Image.{Image}
+use Rattle.aom_image.specs.Views.{class_at, class_in, method_at}
+use Rattle.aom_image.specs.declared.class.ClassDecl.{ClassDecl}
+use Rattle.aom_image.specs.declared.class.ClassKind.TheVariants.{Active, Plain}
+use Rattle.aom_image.specs.declared.class.Provider.TheVariants.{Native, Own as No_provider, Timer}
+use Rattle.aom_image.specs.declared.method.Gives.TheVariants.{Nothing}
+use Rattle.aom_image.specs.declared.method.Method.{Method}
+use Rattle.aom_image.specs.declared.method.Role.TheVariants.{Do}
+use Rattle.aom_image.specs.declared.method.Thing.TheVariants.{Object}
+use Rattle.aom_instructions.specs.declared.instr.Instr.TheVariants.{Ask, Close, Connect}
+use Rattle.aom_roles.specs.Classes.{kind_in}
+use Rattle.aom_roles.specs.Shapes.{kind_of}
+use Rattle.aom_rules.specs.Rules.{rule}
+use Rattle.aom_shape.specs.Shape.{Shape}
+use Rattle.aom_shape.specs.declared.kind.Age.TheVariants.{Ready}
+use Rattle.aom_shape.specs.declared.kind.Delivery.TheVariants.{Here}
+use Rattle.aom_shape.specs.declared.kind.Kind.{Kind}
+use Rattle.aom_shape.specs.declared.kind.Kind.TheVariants.{Own, Unset, Word}
+use Rattle.aom_shape.specs.declared.why.Why.TheVariants.{NotIdle, RegisterKind}
+
+-- a native serves class 0, a timer class 1, nothing class 2, and class 3 is plain
+classes : List ClassDecl
+classes =
+    record { kind = Active (Native 0) 10; words = 0; fields = [] }
+    ∷ record { kind = Active Timer 10; words = 0; fields = [] }
+    ∷ record { kind = Active No_provider 10; words = 0; fields = [] }
+    ∷ record { kind = Plain; words = 0; fields = [] }
+    ∷ []
+
+-- it may leave, and begin and end in those states
+method : (class before after : ℕ) → Method
+method class before after =
+    record { class = Some class; role = Do; flags = record { 0 = 1 }; before = record { 0 = before }; after = record { 0 = after }; arguments = []; gives = Nothing; code = [] }
+
+-- its only method is of that class
+of_class : (class before after : ℕ) → Image
+of_class class before after = record {
+  header = record { cells = 4; messages = 1; natives = 1; root = None; budget = 100 };
+  classes = classes;
+  methods = method class before after ∷ [];
+}
+
+-- a state of two registers
+state : (a b : Kind) → ℕ → Shape
+state a b states = record { registers = a ∷ b ∷ []; fields = []; entries = []; states = states; delivery = Here }
+
+-- ---- connect
+
+connect_at_a_timer : rule (of_class 1 11 11) 0 0 (state Unset Unset 1) (Connect 0) ≡ Err RegisterKind
+unfolding of_class method state classes method_at class_at class_in kind_of kind_in
+connect_at_a_timer = refl
+
+connect_at_none : rule (of_class 2 11 11) 0 0 (state Unset Unset 1) (Connect 0) ≡ Err RegisterKind
+unfolding of_class method state classes method_at class_at class_in kind_of kind_in
+connect_at_none = refl
+
+connect_of_a_plain_object : rule (of_class 3 0 0) 0 0 (state Unset Unset 0) (Connect 0) ≡ Err RegisterKind
+unfolding of_class method state classes method_at class_at class_in kind_of kind_in
+connect_of_a_plain_object = refl
+
+connect_over_an_owner : rule (of_class 0 11 11) 0 0 (state (Own (Object 3) Ready) Unset 1) (Connect 0) ≡ Err RegisterKind
+unfolding of_class method state classes method_at class_at class_in kind_of kind_in
+connect_over_an_owner = refl
+
+-- the answer is a word
+connect_in_any_state : rule (of_class 0 11 11) 0 0 (state Unset Unset 11) (Connect 0) ≡ Ok ((1, state Word Unset 11) ∷ [])
+unfolding of_class method state classes method_at class_at class_in kind_of kind_in
+connect_in_any_state = refl
+
+-- ---- ask
+
+ask_at_a_timer : rule (of_class 1 11 11) 0 0 (state Word Word 1) (Ask 0 0 1) ≡ Err RegisterKind
+unfolding of_class method state classes method_at class_at class_in kind_of kind_in
+ask_at_a_timer = refl
+
+ask_of_a_plain_object : rule (of_class 3 0 0) 0 0 (state Word Word 0) (Ask 0 0 1) ≡ Err RegisterKind
+unfolding of_class method state classes method_at class_at class_in kind_of kind_in
+ask_of_a_plain_object = refl
+
+ask_of_no_function : rule (of_class 0 11 11) 0 0 (state Unset Word 1) (Ask 0 0 1) ≡ Err RegisterKind
+unfolding of_class method state classes method_at class_at class_in kind_of kind_in
+ask_of_no_function = refl
+
+ask_with_no_word : rule (of_class 0 11 11) 0 0 (state Word Unset 1) (Ask 0 0 1) ≡ Err RegisterKind
+unfolding of_class method state classes method_at class_at class_in kind_of kind_in
+ask_with_no_word = refl
+
+ask_over_an_owner : rule (of_class 0 11 11) 0 0 (state (Own (Object 3) Ready) Word 1) (Ask 0 1 1) ≡ Err RegisterKind
+unfolding of_class method state classes method_at class_at class_in kind_of kind_in
+ask_over_an_owner = refl
+
+ask_in_any_state : rule (of_class 0 11 11) 0 0 (state Unset Word 11) (Ask 0 1 1) ≡ Ok ((1, state Word Word 11) ∷ [])
+unfolding of_class method state classes method_at class_at class_in kind_of kind_in
+ask_in_any_state = refl
+
+-- ---- close
+
+close_at_a_timer : rule (of_class 1 11 11) 0 0 (state Unset Unset 1) Close ≡ Err RegisterKind
+unfolding of_class method state classes method_at class_at class_in kind_of kind_in
+close_at_a_timer = refl
+
+close_of_a_plain_object : rule (of_class 3 0 0) 0 0 (state Unset Unset 0) Close ≡ Err RegisterKind
+unfolding of_class method state classes method_at class_at class_in kind_of kind_in
+close_of_a_plain_object = refl
+
+close_while_issued : rule (of_class 0 11 11) 0 0 (state Unset Unset 6) Close ≡ Err NotIdle
+unfolding of_class method state classes method_at class_at class_in kind_of kind_in
+close_while_issued = refl
+
+close_while_active : rule (of_class 0 11 11) 0 0 (state Unset Unset 11) Close ≡ Err NotIdle
+unfolding of_class method state classes method_at class_at class_in kind_of kind_in
+close_while_active = refl
+
+close_in_a_cancel : rule (of_class 0 11 11) 0 0 (state Unset Unset 32) Close ≡ Err NotIdle
+unfolding of_class method state classes method_at class_at class_in kind_of kind_in
+close_in_a_cancel = refl
+
+close_once_idle : rule (of_class 0 11 11) 0 0 (state Unset Unset 3) Close ≡ Ok ((1, state Unset Unset 3) ∷ [])
+unfolding of_class method state classes method_at class_at class_in kind_of kind_in
+close_once_idle = refl

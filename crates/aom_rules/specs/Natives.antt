@@ -1,0 +1,35 @@
+-- The rules of instructions on the native that serves the method's own object.
+use Rattle.std.specs.Prelude.{ℕ, Bool, true, false, List, [], ◌∷◌, Option, Some}
+use Rattle.aom_image.specs.Image.{Image}
+use Rattle.aom_image.specs.Views.{has}
+use Rattle.aom_image.specs.declared.class.ClassKind.{ClassKind}
+use Rattle.aom_image.specs.declared.class.ClassKind.TheVariants.{Active}
+use Rattle.aom_image.specs.declared.class.Provider.TheVariants.{Native}
+use Rattle.aom_roles.specs.States.{server_states}
+use Rattle.aom_rules.specs.Requests.{own_kind}
+use Rattle.aom_shape.specs.Kinds.{is_unowning, is_word, register}
+use Rattle.aom_shape.specs.Needs.{Need}
+use Rattle.aom_shape.specs.Shape.{Shape}
+use Rattle.aom_shape.specs.declared.why.Why.TheVariants.{NotIdle, RegisterKind}
+
+-- objects of a class of active objects that a native serves
+abbrev pub is_native_kind : Option ClassKind → Bool
+is_native_kind (Some (Active (Native n) budget)) = true
+is_native_kind _ = false
+
+module _ (p : Image) (m : ℕ) (sh : Shape) where
+  -- the answer may take the place of what owns nothing
+  abbrev pub rule_connect : ℕ → List Need
+  rule_connect a = (is_native_kind (own_kind p m), RegisterKind) ∷ (is_unowning (register sh a), RegisterKind) ∷ []
+
+  abbrev pub rule_ask : ℕ → ℕ → ℕ → List Need
+  rule_ask a b x =
+      (is_word (register sh b), RegisterKind)
+      ∷ (is_word (register sh x), RegisterKind)
+      ∷ (is_native_kind (own_kind p m), RegisterKind)
+      ∷ (is_unowning (register sh a), RegisterKind)
+      ∷ []
+
+  -- no request is outstanding at the native
+  abbrev pub rule_close : List Need
+  rule_close = (is_native_kind (own_kind p m), RegisterKind) ∷ (has server_states sh.states, NotIdle) ∷ []

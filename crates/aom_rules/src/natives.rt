@@ -1,0 +1,88 @@
+//! The rules of instructions on the native that serves the method's own object.
+ghost use Rattle.std.specs.Prelude.{◌≡◌, Some};
+ghost use Rattle.aom_image.specs.Views.{method_class};
+ghost use Rattle.aom_instructions.specs.declared.instr.Instr.TheVariants.{Ask, Close, Connect};
+ghost use Rattle.aom_roles.specs.Classes.{kind_at};
+ghost use Rattle.aom_roles.specs.Shapes.{kind_of};
+ghost use Rattle.aom_rules.specs.Natives.{is_native_kind};
+ghost use Rattle.aom_rules.specs.Requests.{own_kind};
+ghost use Rattle.aom_rules.specs.Site.{Tells};
+ghost use Rattle.aom_shape.specs.declared.why.Why.TheVariants.{RegisterKind};
+
+use crate::active::server_states;
+use crate::site::Site;
+use aom_classes::Linked;
+use aom_image::{ClassKind, ClassNumber, Provider, Register};
+use aom_shape::{Flow, Why, judge};
+
+fn is_native_kind(kind: ClassKind) -> bool
+    ensures { result ≡ is_native_kind (Some kind) }
+{
+    match kind {
+        ClassKind::Active { provider, .. } => matches!(provider, Provider::Native(_)),
+        _ => false,
+    }
+}
+
+/// A native serves the objects of the class.
+#[tactic(auto, unfolding(aom_roles::specs::Classes::kind_in, aom_image::specs::Views::class_at))]
+fn is_native(linked: &Linked, class: ClassNumber) -> bool
+    ensures { result ≡ is_native_kind (kind_at linked.now class) }
+{
+    let classes = linked.image().classes();
+    match classes.as_slice().get(class.number() as usize) {
+        None => false,
+        Some(declared) => is_native_kind(declared.kind),
+    }
+}
+
+/// A native serves what a method of that class works on.
+#[tactic(auto, unfolding(aom_roles::specs::Shapes::kind_of))]
+fn is_native_of(linked: &Linked, class: Option<ClassNumber>) -> bool
+    ensures { result ≡ is_native_kind (kind_of linked.now class) }
+{
+    match class {
+        None => false,
+        Some(class) => is_native(linked, class),
+    }
+}
+
+impl Site<'_> {
+    /// The method works on an object that a native serves.
+    #[tactic(auto, using(aom_shape::proofs::Views::class_there))]
+    fn needs_native_kind(&self) -> (bool, Why)
+        ensures { result ≡ (is_native_kind (own_kind self.now.image self.now.method), RegisterKind) }
+    {
+        let class = self.linked.method(self.method).class;
+        (is_native_of(self.linked, class), Why::RegisterKind)
+    }
+
+    pub(crate) fn rule_connect(&self, a: Register) -> Result<Flow, Why>
+        ensures { Tells self.now (Connect a) result }
+    {
+        let needs = [self.needs_native_kind(), self.needs_unowning(a)];
+        judge(&needs, self.with_word(a))
+    }
+
+    pub(crate) fn rule_ask(&self, a: Register, b: Register, c: Register) -> Result<Flow, Why>
+        ensures { Tells self.now (Ask a b c) result }
+    {
+        let needs = [
+            self.needs_word(b),
+            self.needs_word(c),
+            self.needs_native_kind(),
+            self.needs_unowning(a),
+        ];
+        judge(&needs, self.with_word(a))
+    }
+
+    pub(crate) fn rule_close(&self) -> Result<Flow, Why>
+        ensures { Tells self.now Close result }
+    {
+        let needs = [
+            self.needs_native_kind(),
+            self.needs_states(server_states(), Why::NotIdle),
+        ];
+        judge(&needs, self.next(self.shape))
+    }
+}
