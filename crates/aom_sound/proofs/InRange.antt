@@ -1,8 +1,8 @@
 -- Only registers that a method has come to own: an instruction names no other, and arguments come to the first ones.
 use Rattle.std.specs.Ordering.{int_eq}
 use Rattle.aom_image.specs.declared.method.Role.TheVariants.{Error}
-use Rattle.aom_sound.specs.World.{Outside, turn}
-use Rattle.aom_sound.proofs.Turned.{completes, keeps_all, picks, turns_so}
+use Rattle.aom_sound.specs.World.{Completion, Outside, turn}
+use Rattle.aom_sound.proofs.Turned.{completes, keeps_all, kills, picks, turns_so}
 use Rattle.std.proofs.Common.{Bool, List, None, Option, Some, [], arith, cond, false, length, refl, subst, suc, true, ℕ, ℤ, ◌+◌, ◌∷◌, ◌≡◌, ◌≤◌, pos}
 use Rattle.aom_image.specs.Image.{Image}
 use Rattle.aom_instructions.specs.Operands.{IsRegister}
@@ -27,7 +27,7 @@ use Rattle.aom_sound.specs.Registers.{AllInRange, IsInRange}
 use Rattle.aom_sound.specs.State.{A_mark, An_object, An_operation, AtRoot, Choice, Destroy, Dispatch, Dispatched, Frame, Goes, Home, Inside, IsStuck, Item, Main_left, NullOrDead, Of_main, Of_root, Run, State, Static, Task, Trapped, Unwind, field_place, resumed, Answered, Asks, Object_left, Of_object}
 use Rattle.aom_sound.specs.Words.{here, stored}
 use Rattle.aom_rules.specs.Requests.{is_cancel}
-use Rattle.aom_sound.specs.Natives.{resessioned}
+use Rattle.aom_sound.specs.Natives.{all_bereaved, resessioned}
 
 move_in_range : (p q : Place) (cs : List Cell) → IsInRange q → AllInRange cs → AllInRange (moved p q cs)
 move_in_range p q [] fits all = tt
@@ -56,6 +56,10 @@ asks_in_range n r (c ∷ cs) all = (all.0, asks_in_range n r cs all.1)
 opens_in_range : (n : ℕ) (session : Bool) (cs : List Cell) → AllInRange cs → AllInRange (set_session n session cs)
 opens_in_range n session [] all = tt
 opens_in_range n session (c ∷ cs) all = (all.0, opens_in_range n session cs all.1)
+
+bereaved_in_range : (p : Image) (n : ℕ) (cs : List Cell) → AllInRange cs → AllInRange (all_bereaved p n cs)
+bereaved_in_range p n [] all = tt
+bereaved_in_range p n (c ∷ cs) all = (all.0, bereaved_in_range p n cs all.1)
 
 field_in_range : (home : Home) (f : ℕ) → IsInRange (field_place home f)
 field_in_range Static f = tt
@@ -222,10 +226,11 @@ moves p wired c s u all e = go s.tasks e
     go (Unwind code ∷ ts) e = unwind_in_range p code ts s.items (counted p s) u all e
     go (Dispatched d ∷ ts) e = subst (λ v. AllInRange v.cells) (goes_same _ u e) (dispatch_in_range p d (counted p s) all)
 
-turns : (p : Image) (outside : Outside) (s u : State) → AllInRange s.cells → turn p outside s ≡ Goes u → AllInRange u.cells
-turns p outside s u all e = elim (turns_so p outside s u e) as (λ v d. AllInRange v.cells) [
+turns : (p : Image) (outside : Outside) (answer : Option Completion) (s u : State) → AllInRange s.cells → turn p outside answer s ≡ Goes u → AllInRange u.cells
+turns p outside answer s u all e = elim (turns_so p outside answer s u e) as (λ v d. AllInRange v.cells) [
   | keeps_all r ↦ all
-  | completes o ↦ asks_in_range o.name _ s.cells all
+  | completes code o r other ↦ asks_in_range o.name _ s.cells all
+  | kills n r k ↦ bereaved_in_range p n s.cells all
   | picks x m at ↦ asks_in_range x.object.name _ s.cells all
 ]
 

@@ -1,5 +1,5 @@
 -- The words of a cell count for no place, and its request for the age of objects alone: where these change, what is claimed holds on.
-use Rattle.std.specs.Prelude.{is_some}
+use Rattle.std.specs.Prelude.{is_some, map}
 use Rattle.aom_sound.proofs.Seats.{first_kept}
 use Rattle.std.proofs.Common.{Bool, List, Option, Some, [], ap, cond, false, refl, subst, sym, true, ℕ, ℤ, ◌==◌, ◌∙◌, ◌∷◌, ◌≡◌}
 use Rattle.aom_image.specs.Image.{Image}
@@ -18,7 +18,7 @@ use Rattle.std.proofs.lemmas.Bool.{eq-eqb, eqb-true, true≢false}
 use Rattle.aom_sound.specs.Enlisted.{cancelled, ended_cells, on_request, own_request, rerequested}
 use Rattle.aom_rules.specs.Requests.{is_cancel}
 use Rattle.aom_image.specs.Views.{method_role}
-use Rattle.aom_sound.specs.Natives.{resessioned}
+use Rattle.aom_sound.specs.Natives.{all_bereaved, bereaved, is_served_by, resessioned, terminated_request}
 
 -- the same cells in the same places
 pub record Alike (cs cs' : List Cell) : Type 0 where
@@ -206,3 +206,41 @@ sessioned_fitted p t cs home b = alike_fitted p t cs (resessioned cs home b) (re
 -- a word is stored
 pub stored_fitted : (p : Image) (t : Typing) (cs : List Cell) (home : Home) (w : ℕ) (v : ℤ) (fr : Frame) (sh : Shape) (ls : List Layer) → Fitted p t cs fr sh ls → Fitted p t (stored cs home w v) fr sh ls
 stored_fitted p t cs home w v = alike_fitted p t cs (stored cs home w v) (stored_alike cs home w v) (stored_requests cs home w v)
+
+-- ---- each cell may have another request and another session
+
+-- a cell with those
+abbrev pub reset : (Cell → Option Request) → (Cell → Bool) → Cell → Cell
+reset f g c = record c { request = f c; session = g c }
+
+module _ (f : Cell → Option Request) (g : Cell → Bool) where
+  held_reset : (cs : List Cell) (r : Place) → held (map (reset f g) cs) r ≡ held cs r
+  held_reset [] r = refl
+  held_reset (c ∷ cs) r = ap (λ x. cond (same_place c.owner r) (Some c.object) x) (held_reset cs r)
+
+  named_reset : (cs : List Cell) (n : ℕ) → named (map (reset f g) cs) n ≡ named cs n
+  named_reset [] n = refl
+  named_reset (c ∷ cs) n = ap (λ x. cond (c.object.name == n) (Some c.object) x) (named_reset cs n)
+
+  tidy_reset : (cs : List Cell) → Tidy cs → Tidy (map (reset f g) cs)
+  tidy_reset [] t = tt
+  tidy_reset (c ∷ cs) t = (held_reset cs c.owner ∙ t.0, named_reset cs c.object.name ∙ t.1, tidy_reset cs t.2)
+
+  pub reset_alike : (cs : List Cell) → Alike cs (map (reset f g) cs)
+  reset_alike cs = record { held_so = held_reset cs; named_so = named_reset cs; tidy = tidy_reset cs }
+
+-- what a native that is killed leaves behind
+pub bereaved_alike : (p : Image) (n : ℕ) (cs : List Cell) → Alike cs (all_bereaved p n cs)
+bereaved_alike p n cs = reset_alike (λ c. (bereaved p n c).request) (λ c. (bereaved p n c).session) cs
+
+pub requested_bereaved : (p : Image) (n : ℕ) (cs : List Cell) (o : Object) → named cs o.name ≡ Some o → requested (all_bereaved p n cs) o.name ≡ cond (is_served_by p n o.thing) (terminated_request (requested cs o.name)) (requested cs o.name)
+requested_bereaved p n [] o e = cc
+requested_bereaved p n (c ∷ cs) o e = go (c.object.name == o.name) e (requested_bereaved p n cs o)
+  where
+    becomes : Object → Option Request → Option Request
+    becomes x r = cond (is_served_by p n x.thing) (terminated_request r) r
+
+    go : (b : Bool) → cond b (Some c.object) (named cs o.name) ≡ Some o → (named cs o.name ≡ Some o → requested (all_bereaved p n cs) o.name ≡ becomes o (requested cs o.name)) →
+        cond b (becomes c.object c.request) (requested (all_bereaved p n cs) o.name) ≡ becomes o (cond b c.request (requested cs o.name))
+    go true e rest = let same : c.object ≡ o = cc in ap (λ x. becomes x c.request) same
+    go false e rest = rest e

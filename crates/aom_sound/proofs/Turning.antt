@@ -1,5 +1,5 @@
 -- A turn from a well-typed state goes on to one: a timer completes a request, an object is dispatched, or time passes.
-use Rattle.std.proofs.Common.{Bool, IsTrue, List, None, Option, Some, [], ap, cond, false, inl, length, refl, subst, sym, true, ℕ, ◌&&◌, ◌==◌, ◌∙◌, ◌∷◌, ◌≡◌}
+use Rattle.std.proofs.Common.{Bool, IsTrue, List, None, Option, Some, [], ap, cond, false, inl, length, refl, subst, sym, true, ℕ, ℤ, ◌&&◌, ◌==◌, ◌∙◌, ◌∷◌, ◌≡◌, pos}
 use Rattle.std.proofs.lemmas.Bool.{and_parts, eq-eqb, eqb-true, ne_eqb, true≢false}
 use Rattle.std.specs.Prelude.{is_some, map, nat_le, not}
 use Rattle.std.specs.Ordering.{int_eq}
@@ -29,17 +29,21 @@ use Rattle.aom_sound.proofs.Entering.{Entering, enters}
 use Rattle.aom_sound.proofs.Maps.{same_place_refl}
 use Rattle.aom_sound.proofs.Owners.{later}
 use Rattle.aom_sound.proofs.Signals.{at_rest, signals_are_ready}
-use Rattle.aom_sound.proofs.Storing.{Alike, fits_alike, requested_here, requested_there, rerequested_alike, sits_alike}
+use Rattle.aom_sound.proofs.Storing.{Alike, fits_alike, requested_here, requested_there, rerequested_alike, sits_alike, bereaved_alike, requested_bereaved}
 use Rattle.aom_sound.proofs.Suiting.{idle_timed, untimed}
-use Rattle.aom_sound.proofs.Turned.{picked}
+use Rattle.aom_sound.proofs.Turned.{picked, recorded_so}
 use Rattle.aom_sound.specs.Claims.{Dispatching, Layer, Mark, claim, declared, forms, items_of}
-use Rattle.aom_sound.specs.Enlisted.{is_aborted, is_active, is_idle, on_request, part_of, pending, taken_up, timed_out}
+use Rattle.aom_sound.specs.Enlisted.{is_aborted, is_active, is_idle, on_request, part_of, pending, taken_up, timed_out, completed_with, recorded}
 use Rattle.aom_sound.specs.Laws.{IsHandler, IsWired, TurnGoesOn}
 use Rattle.aom_sound.specs.Places.{Active, Cell, Elsewhere, Entry, Field, Going, Object, Phase, Place, Register, Request, Root, Tidy, held, named, requested, seen}
 use Rattle.aom_sound.specs.Requests.{AllSuit, Known, Suits, is_timed, phase_state, resting_in, rests_in, thing_kind}
-use Rattle.aom_sound.specs.State.{A_mark, Inside, Of_object, Rest, Seat, State, thing_holder}
+use Rattle.aom_sound.specs.State.{A_mark, Inside, Of_object, Rest, Seat, State, thing_holder, Goes, IsStuck, CompletedTwice}
 use Rattle.aom_sound.specs.WellTyped.{AllSit, Fits, Good, Keeps, WellTyped, WordFits}
-use Rattle.aom_sound.specs.World.{Candidate, Completes, Cuts, Timed, among_ready, before_others, by_timer, dispatched, first_due, first_ready, goes_before, has_signal, is_ready, picks, turned, with_request}
+use Rattle.aom_sound.specs.World.{AnswersWell, Candidate, Completes, Completion, Cuts, Outside, Timed, Turning, among_ready, before_others, by_timer, dispatched, first_due, first_ready, goes_before, has_signal, is_ready, picks, turned, with_request, Hears, Kills, Polls, answered_by, by_event, delivers, lives, next_event, next_native, next_time, past_native, polled, polls}
+use Rattle.aom_sound.specs.Natives.{all_bereaved, is_outstanding_at, is_owed, is_served_by, terminated, terminated_request}
+use Rattle.aom_transcript.specs.declared.event.Event.{Event}
+use Rattle.aom_transcript.specs.declared.event.Event.TheVariants.{Kill, Tell}
+use Rattle.aom_transcript.specs.declared.event.TimedEvent.{TimedEvent}
 
 -- ---- the object that is picked
 
@@ -117,20 +121,32 @@ suits_taken (Some (An_active v b)) r e s = (refl, refl, refl, idle_timed v (take
 suits_taken (Some (A_server most x b)) r e s = (refl, refl)
 suits_taken _ r e s = cc
 
--- a timer completes a request
-suits_timed_out : (k : Option ClassKind) (n : Known) (r : Option Request) → Suits k n r → Suits k n (on_request timed_out r)
-suits_timed_out k n None s = s
-suits_timed_out (Some (An_active v b)) n (Some r) s = (s.0, s.1, answered (is_aborted r.phase), timed v)
-  where
-    answered : (b : Bool) → (b && false) ≡ false
-    answered true = refl
-    answered false = refl
+-- a request is completed, with a code that tells it from one that is not
+module _ (code : ℤ) (settled : int_eq code pending ≡ false) where
+  answered : (b : Bool) → (b && int_eq code pending) ≡ false
+  answered b = ap (λ x. b && x) settled ∙ never b
+    where
+      never : (b : Bool) → (b && false) ≡ false
+      never true = refl
+      never false = refl
 
-    timed : (v : Provider) → is_timed v (Some (timed_out r)) ≡ true
-    timed A_timer = ap (λ b. cond b false true) (answered (not (is_idle r.phase)))
-    timed _ = refl
-suits_timed_out (Some (A_server most x b)) n (Some r) s = (s.0, s.1)
-suits_timed_out _ n (Some r) s = cc
+  suits_completed : (k : Option ClassKind) (n : Known) (r : Option Request) → Suits k n r → Suits k n (on_request (completed_with code) r)
+  suits_completed k n None s = s
+  suits_completed (Some (An_active v b)) n (Some r) s = (s.0, s.1, answered (is_aborted r.phase), timed v)
+    where
+      timed : (v : Provider) → is_timed v (Some (completed_with code r)) ≡ true
+      timed A_timer = ap (λ b. cond b false true) (answered (not (is_idle r.phase)))
+      timed _ = refl
+  suits_completed (Some (A_server most x b)) n (Some r) s = (s.0, s.1)
+  suits_completed _ n (Some r) s = cc
+
+suits_bereaved : (served : Bool) (k : Option ClassKind) (n : Known) (r : Option Request) → Suits k n r → Suits k n (cond served (terminated_request r) r)
+suits_bereaved false k n r s = s
+suits_bereaved true k n r s = go (is_owed r)
+  where
+    go : (b : Bool) → Suits k n (cond b (on_request (completed_with terminated) r) r)
+    go true = suits_completed terminated refl k n r s
+    go false = s
 
 module _ (p : Image) (t : Typing) (s : State) (w : WellTyped p t s) (idle_now : s.tasks ≡ []) where
   good : Good p t s.cells []
@@ -147,6 +163,20 @@ module _ (p : Image) (t : Typing) (s : State) (w : WellTyped p t s) (idle_now : 
   same_well : (r : Rest) → WellTyped p t (record s { rest = r })
   same_well r = record { layers = w.layers; tasks = w.tasks; items = w.items; undos = w.undos; good = w.good }
 
+  -- other cells in the same places, whose requests suit
+  module _ (cs : List Cell) (like : Alike s.cells cs) (r : Rest) (killed : List ℕ) where
+    alike_well : AllSuit p cs [] → WellTyped p t (record s { cells = cs; rest = r; killed = killed })
+    alike_well suits = record {
+      layers = [];
+      tasks = idle_now;
+      items = ap forms items;
+      undos = w.undos;
+      good = record { stack = refl; fits = fits; suits = suits; tidy = like.tidy good.tidy };
+    }
+      where
+        fits : (q : Place) → Fits p (seen cs) (held cs q) (declared p cs q)
+        fits q = fits_alike p t s.cells cs like [] q (λ y e fresh. absurd (true≢false (sym (declared_ready p s.cells q) ∙ fresh))) (good.fits q)
+
   module _ (f : Request → Request) (o : Object) where
     abbrev then : List Cell
     then = with_request f o s.cells
@@ -162,30 +192,43 @@ module _ (p : Image) (t : Typing) (s : State) (w : WellTyped p t s) (idle_now : 
         subst (λ r. Suits (thing_kind p y.thing) (resting_in (rests_in p y)) r) (sym (requested_there s.cells o.name y.name (on_request f (requested s.cells o.name)) other))
         (good.suits y (sym (alike.named_so y.name) ∙ lives))
 
-  -- the request of an object is completed by its timer
-  pub completed : (o : Object) → WellTyped p t (record s { cells = with_request timed_out o s.cells })
-  completed o = record {
-    layers = [];
-    tasks = idle_now;
-    items = ap forms items;
-    undos = w.undos;
-    good = record { stack = refl; fits = fits_then timed_out o; suits = suits; tidy = (alike timed_out o).tidy good.tidy };
-  }
-    where
-      suits : AllSuit p (with_request timed_out o s.cells) []
-      suits y lives = go (o.name == y.name) refl
-        where
-          was : named s.cells y.name ≡ Some y
-          was = sym ((alike timed_out o).named_so y.name) ∙ lives
+  -- the request of an object is completed
+  module _ (code : ℤ) (settled : int_eq code pending ≡ false) (o : Object) where
+    suits_then : AllSuit p (with_request (completed_with code) o s.cells) []
+    suits_then y lives = go (o.name == y.name) refl
+      where
+        was : named s.cells y.name ≡ Some y
+        was = sym ((alike (completed_with code) o).named_so y.name) ∙ lives
 
-          go : (b : Bool) → (o.name == y.name) ≡ b → Suits (thing_kind p y.thing) (resting_in (rests_in p y)) (requested (with_request timed_out o s.cells) y.name)
-          go false other = others_then timed_out o y lives other
-          go true same =
-              let equal : o.name ≡ y.name = eqb-true o.name y.name same in
-              subst (λ n. Suits (thing_kind p y.thing) (resting_in (rests_in p y)) (requested (with_request timed_out o s.cells) n)) equal
-              (subst (λ r. Suits (thing_kind p y.thing) (resting_in (rests_in p y)) r) (sym (requested_here s.cells o.name (on_request timed_out (requested s.cells o.name)) y (ap (λ n. named s.cells n) equal ∙ was)))
-              (suits_timed_out (thing_kind p y.thing) (resting_in (rests_in p y)) (requested s.cells o.name)
-              (subst (λ n. Suits (thing_kind p y.thing) (resting_in (rests_in p y)) (requested s.cells n)) (sym equal) (good.suits y was))))
+        go : (b : Bool) → (o.name == y.name) ≡ b → Suits (thing_kind p y.thing) (resting_in (rests_in p y)) (requested (with_request (completed_with code) o s.cells) y.name)
+        go false other = others_then (completed_with code) o y lives other
+        go true same =
+            let equal : o.name ≡ y.name = eqb-true o.name y.name same in
+            subst (λ n. Suits (thing_kind p y.thing) (resting_in (rests_in p y)) (requested (with_request (completed_with code) o s.cells) n)) equal
+            (subst (λ r. Suits (thing_kind p y.thing) (resting_in (rests_in p y)) r) (sym (requested_here s.cells o.name (on_request (completed_with code) (requested s.cells o.name)) y (ap (λ n. named s.cells n) equal ∙ was)))
+            (suits_completed code settled (thing_kind p y.thing) (resting_in (rests_in p y)) (requested s.cells o.name)
+            (subst (λ n. Suits (thing_kind p y.thing) (resting_in (rests_in p y)) (requested s.cells n)) (sym equal) (good.suits y was))))
+
+    pub completed : (r : Rest) → WellTyped p t (record s { cells = with_request (completed_with code) o s.cells; rest = r })
+    completed r = alike_well (with_request (completed_with code) o s.cells) (alike (completed_with code) o) r s.killed suits_then
+
+  -- a native is killed
+  suits_without : (n : ℕ) → AllSuit p (all_bereaved p n s.cells) []
+  suits_without n y lives =
+      let was : named s.cells y.name ≡ Some y = sym ((bereaved_alike p n s.cells).named_so y.name) ∙ lives in
+      subst (λ r. Suits (thing_kind p y.thing) (resting_in (rests_in p y)) r) (sym (requested_bereaved p n s.cells y was))
+      (suits_bereaved (is_served_by p n y.thing) (thing_kind p y.thing) (resting_in (rests_in p y)) (requested s.cells y.name) (good.suits y was))
+
+  pub bereaved_well : (n : ℕ) (r : Rest) (killed : List ℕ) → WellTyped p t (record s { cells = all_bereaved p n s.cells; rest = r; killed = killed })
+  bereaved_well n r killed = alike_well (all_bereaved p n s.cells) (bereaved_alike p n s.cells) r killed (suits_without n)
+
+  -- a native is polled, and completes what is outstanding at it
+  answered_well : (n : ℕ) (a : Completion) (c : Cell) → is_outstanding_at p n c ≡ true → Keeps p t (answered_by p n (Some c) a.code s)
+  answered_well n a c owed = subst (λ b. Keeps p t (cond b (Goes (past_native n (record s { cells = with_request (completed_with (recorded a.code)) c.object s.cells }))) (IsStuck CompletedTwice))) (sym owed) (completed (recorded a.code) (recorded_so a.code) c.object _)
+
+  polled_well : (n : ℕ) (answer : Option Completion) → AnswersWell p s (Polls n answer) → Keeps p t (polled p n answer s)
+  polled_well n None owed = same_well _
+  polled_well n (Some a) owed = subst (λ c. Keeps p t (answered_by p n c a.code s)) (sym owed.1) (answered_well n a owed.0 owed.2)
 
   module _ (wired : IsWired p) (typed : IsTyped p t) where
     -- the method of an object of a class of active objects
@@ -257,25 +300,51 @@ module _ (p : Image) (t : Typing) (s : State) (w : WellTyped p t s) (idle_now : 
         well : WellTyped p t (picked it.0 y.seat s)
         well = enters p t typed cs y.seat sits.0 over it.0 [] entering (picked it.0 y.seat s) (length (A_mark ∷ s.items)) (ap (λ is. length (A_mark ∷ is)) items) refl refl (ap (λ is. forms (A_mark ∷ is)) items) w.undos
 
-    picks_well : (ready : Option Candidate) → first_ready s.cells ≡ ready → (next : Option Timed) → Keeps p t (turned p s (picks (is_some ready) ready next))
+    picks_well : (ready : Option Candidate) → first_ready s.cells ≡ ready → (next : Option ℕ) → Keeps p t (turned p s (picks (is_some ready) ready next))
     picks_well (Some y) e next = picked_well y e
     picks_well None e None = same_well _
-    picks_well None e (Some x) = same_well _
+    picks_well None e (Some time) = same_well _
 
-    signal_well : (next : Option Timed) → Keeps p t (turned p s (picks (has_signal s.cells) (first_ready s.cells) next))
+    signal_well : (next : Option ℕ) → Keeps p t (turned p s (picks (has_signal s.cells) (first_ready s.cells) next))
     signal_well next = subst (λ b. Keeps p t (turned p s (picks b (first_ready s.cells) next))) (sym (signals_are_ready p t s w idle_now).1) (picks_well (first_ready s.cells) refl next)
 
-    timer_well : (next : Option Timed) → Keeps p t (turned p s (by_timer s next))
-    timer_well None = signal_well None
-    timer_well (Some x) = go (nat_le x.timer.due s.rest.clock)
+    -- one test after another, as a turn makes them
+    poll_well : (n : Option ℕ) (answer : Option Completion) (after : Turning) → AnswersWell p s (polls n answer after) → (AnswersWell p s after → Keeps p t (turned p s after)) → Keeps p t (turned p s (polls n answer after))
+    poll_well None answer after owed then = then owed
+    poll_well (Some n) answer after owed then = polled_well n answer owed
+
+    deliver_well : (outside : Outside) (event : Event) → Keeps p t (turned p s (delivers outside s event))
+    deliver_well outside (Tell n word) = same_well _
+    deliver_well outside (Kill n) = go (lives outside s n)
       where
-        go : (b : Bool) → Keeps p t (turned p s (cond b (Completes x.object) (picks (has_signal s.cells) (first_ready s.cells) (Some x))))
-        go true = completed x.object
-        go false = signal_well (Some x)
+        go : (b : Bool) → Keeps p t (turned p s (cond b (Kills n) Hears))
+        go true = bereaved_well n _ _
+        go false = same_well _
+
+    event_well : (outside : Outside) (next : Option TimedEvent) (after : Turning) → AnswersWell p s (by_event outside s next after) → (AnswersWell p s after → Keeps p t (turned p s after)) → Keeps p t (turned p s (by_event outside s next after))
+    event_well outside None after owed then = then owed
+    event_well outside (Some e) after owed then = go (nat_le e.time s.rest.clock) owed
+      where
+        go : (b : Bool) → AnswersWell p s (cond b (delivers outside s e.event) after) → Keeps p t (turned p s (cond b (delivers outside s e.event) after))
+        go true owed = deliver_well outside e.event
+        go false owed = then owed
+
+    timer_well : (next : Option Timed) (after : Turning) → AnswersWell p s (by_timer s next after) → (AnswersWell p s after → Keeps p t (turned p s after)) → Keeps p t (turned p s (by_timer s next after))
+    timer_well None after owed then = then owed
+    timer_well (Some x) after owed then = go (nat_le x.timer.due s.rest.clock) owed
+      where
+        go : (b : Bool) → AnswersWell p s (cond b (Completes x.object) after) → Keeps p t (turned p s (cond b (Completes x.object) after))
+        go true owed = completed (pos 0) refl x.object s.rest
+        go false owed = then owed
 
 pub turn_goes_on : TurnGoesOn
-turn_goes_on p t outside wired typed s w between = go (nat_le outside.limit s.rest.dispatches)
+turn_goes_on p t outside wired typed answer s w between = go (nat_le outside.limit s.rest.dispatches)
   where
-    go : (b : Bool) → Keeps p t (turned p s (cond b Cuts (by_timer s (first_due s.cells))))
-    go true = same_well p t s w between.idle _
-    go false = timer_well p t s w between.idle wired typed (first_due s.cells)
+    go : (b : Bool) → AnswersWell p s (cond b Cuts (by_timer s (first_due s.cells) (by_event outside s (next_event outside s) (polls (next_native outside s) answer (picks (has_signal s.cells) (first_ready s.cells) (next_time outside s))))))
+        → Keeps p t (turned p s (cond b Cuts (by_timer s (first_due s.cells) (by_event outside s (next_event outside s) (polls (next_native outside s) answer (picks (has_signal s.cells) (first_ready s.cells) (next_time outside s)))))))
+    go true owed = same_well p t s w between.idle _
+    go false owed =
+        timer_well p t s w between.idle wired typed (first_due s.cells) _ owed (λ owed.
+        event_well p t s w between.idle wired typed outside (next_event outside s) _ owed (λ owed.
+        poll_well p t s w between.idle wired typed (next_native outside s) answer _ owed (λ owed.
+        signal_well p t s w between.idle wired typed (next_time outside s))))

@@ -1,13 +1,14 @@
 -- Instructions at the native that serves what a method works on.
-use Rattle.std.specs.Prelude.{ℕ, ℤ, pos, negsuc, int_lt, Bool, false, ◌&&◌, ◌||◌, ◌==◌, cond, not, List, [], ◌∷◌, Option, Some, None}
+use Rattle.std.specs.Prelude.{ℕ, ℤ, pos, negsuc, int_lt, Bool, false, ◌&&◌, ◌||◌, ◌==◌, cond, not, List, [], ◌∷◌, map, Option, Some, None}
 use Rattle.std.specs.List.{list_any}
 use Rattle.std.specs.Ordering.{int_eq}
 use Rattle.aom_image.specs.Image.{Image}
 use Rattle.aom_image.specs.declared.class.ClassKind.{ClassKind}
 use Rattle.aom_image.specs.declared.class.ClassKind.TheVariants.{Active as An_active}
 use Rattle.aom_image.specs.declared.class.Provider.TheVariants.{Native}
+use Rattle.aom_image.specs.declared.method.Thing.{Thing}
 use Rattle.aom_rules.specs.Natives.{is_native_kind}
-use Rattle.aom_sound.specs.Enlisted.{home_kind, is_idle, own_request, pending, recorded}
+use Rattle.aom_sound.specs.Enlisted.{completed_with, home_kind, is_idle, on_request, own_request, pending, recorded, thing_kind}
 use Rattle.aom_sound.specs.Places.{Cell, Request, in_session, set_session}
 use Rattle.aom_sound.specs.State.{Frame, Home, Static, AtRoot, Inside, Need, State, Task, ClosedWhileOutstanding, WrongKind}
 use Rattle.aom_sound.specs.Words.{needs_word, needs_written}
@@ -67,12 +68,38 @@ replied dead session answer = cond dead terminated (cond session answer not_foun
 abbrev pub started : (dead session : Bool) → ℤ → ℤ
 started dead session answer = cond dead terminated (cond session (cond (int_lt answer (pos 0)) (recorded answer) pending) not_found)
 
--- ---- the needs
+-- ---- what is outstanding
 
--- a request is outstanding at a native
+-- a request is made, and not completed
 abbrev pub is_owed : Option Request → Bool
 is_owed None = false
 is_owed (Some r) = not (is_idle r.phase) && int_eq r.status pending
+
+-- the native serves what that names
+abbrev pub is_served_by : Image → ℕ → Thing → Bool
+is_served_by p n t = has_number (native_of (thing_kind p t))
+  where
+    has_number : Option ℕ → Bool
+    has_number None = false
+    has_number (Some k) = k == n
+
+-- the cell's request is outstanding at that native
+abbrev pub is_outstanding_at : Image → ℕ → Cell → Bool
+is_outstanding_at p n c = is_served_by p n c.object.thing && is_owed c.request
+
+-- ---- a native is killed
+
+abbrev pub terminated_request : Option Request → Option Request
+terminated_request r = cond (is_owed r) (on_request (completed_with terminated) r) r
+
+-- what a cell that it serves has outstanding there is completed, and its session is over
+abbrev pub bereaved : Image → ℕ → Cell → Cell
+bereaved p n c = record c { request = cond (is_served_by p n c.object.thing) (terminated_request c.request) c.request; session = not (is_served_by p n c.object.thing) && c.session }
+
+abbrev pub all_bereaved : Image → ℕ → List Cell → List Cell
+all_bereaved p n cs = map (bereaved p n) cs
+
+-- ---- the needs of instructions
 
 module _ (p : Image) (fr : Frame) (ts : List Task) (s : State) where
   -- the native that serves what the frame works on is killed

@@ -1,5 +1,5 @@
 -- While a cell goes or a leave unwinds, quiet methods alone run, and no trap is set.
-use Rattle.std.specs.Prelude.{ℤ, Bool, true, false, ◌≡◌, List, [], ◌∷◌}
+use Rattle.std.specs.Prelude.{Bool, List, Option, [], false, true, ℤ, ◌∷◌, ◌≡◌}
 use Rattle.aom_image.specs.Image.{Image}
 use Rattle.aom_image.specs.Views.{is_quiet}
 use Rattle.aom_rules.specs.Typing.{Typing, IsTyped}
@@ -9,7 +9,7 @@ use Rattle.aom_sound.specs.Tasks.{TaskLaw, Holds}
 use Rattle.aom_sound.specs.WellTyped.{WellTyped}
 use Rattle.aom_sound.specs.Owned.{Owned}
 use Rattle.aom_sound.specs.Registers.{AllInRange}
-use Rattle.aom_sound.specs.World.{boot_state, Outside, turn}
+use Rattle.aom_sound.specs.World.{Completion, Outside, boot_state, turn}
 use Rattle.aom_sound.specs.Laws.{IsWired}
 
 -- a cell goes, or a leave unwinds
@@ -36,7 +36,7 @@ IsCalm p ts = Holds (calm p) ts
 pub record CalmKeeps : Type 0 where
   pub boot : (p : Image) → IsCalm p (boot_state p).tasks
   pub moves : (p : Image) (t : Typing) → IsWired p → IsTyped p t → (c : Choice) (s u : State) → WellTyped p t s → IsCalm p s.tasks → step p c s ≡ Goes u → IsCalm p u.tasks
-  pub turns : (p : Image) (outside : Outside) (s u : State) → IsCalm p s.tasks → turn p outside s ≡ Goes u → IsCalm p u.tasks
+  pub turns : (p : Image) (outside : Outside) (answer : Option Completion) (s u : State) → IsCalm p s.tasks → turn p outside answer s ≡ Goes u → IsCalm p u.tasks
 
 -- where a leave has nothing more to unwind, each cell has exactly one living owner
 abbrev pub CaughtOwned : Type 0

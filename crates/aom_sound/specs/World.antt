@@ -1,17 +1,21 @@
 -- The world round the dispatches: how a run begins, goes on from turn to turn, and ends.
-use Rattle.std.specs.Prelude.{ℕ, Bool, true, false, not, ◌&&◌, ◌||◌, ◌==◌, cond, nat_le, nat_lt, int_lt, length, ◌≡◌, List, [], ◌∷◌, ◌++◌, Option, Some, None}
+use Rattle.std.specs.Prelude.{ℕ, zero, suc, ℤ, Bool, true, false, not, ◌&&◌, ◌||◌, ◌-◌, ◌==◌, cond, min, nat_le, nat_lt, int_lt, length, ◌≡◌, List, [], ◌∷◌, ◌++◌, Option, Some, None}
 use Rattle.std.specs.Ordering.{int_eq}
 use Rattle.aom_image.specs.Image.{Image}
 use Rattle.aom_image.specs.declared.method.Role.TheVariants.{Run as Handles}
 use Rattle.aom_image.specs.declared.method.Thing.{Thing}
 use Rattle.aom_image.specs.declared.method.Thing.TheVariants.{Object as An_object_of, Message}
 use Rattle.aom_classes.specs.Roles.{main_of}
-use Rattle.aom_sound.specs.Enlisted.{is_active, is_idle, is_unsettled, on_request, part_of, pending, status_of, taken_up, timed_out}
+use Rattle.aom_sound.specs.Enlisted.{completed_with, is_active, is_idle, is_unsettled, on_request, part_of, pending, recorded, status_of, taken_up, timed_out}
+use Rattle.aom_sound.specs.Natives.{all_bereaved, is_dead, is_outstanding_at}
 use Rattle.aom_sound.specs.Places.{Cell, Object, Request, Timer, requested, set_request}
-use Rattle.aom_sound.specs.State.{AtRoot, Inside, frame_of, Seat, Task, Run, Trapped, Dispatched, Of_main, Of_object, A_mark, State, Choice, Outcome, Goes, IsStuck, Stray, WrongKind}
+use Rattle.aom_sound.specs.State.{AtRoot, Inside, frame_of, Seat, Task, Run, Trapped, Dispatched, Of_main, Of_object, A_mark, State, Choice, Outcome, Goes, IsStuck, CompletedTwice, NullOrDead, Stray, WrongKind, guarded}
 use Rattle.aom_sound.specs.Moves.{step, written, IsOpen}
+use Rattle.aom_transcript.specs.declared.event.Event.{Event}
+use Rattle.aom_transcript.specs.declared.event.Event.TheVariants.{Kill, Tell}
+use Rattle.aom_transcript.specs.declared.event.TimedEvent.{TimedEvent}
 use Rattle.aom_transcript.specs.declared.line.Line.{Line}
-use Rattle.aom_transcript.specs.declared.line.Line.TheVariants.{Run as Run_line}
+use Rattle.aom_transcript.specs.declared.line.Line.TheVariants.{Killed, Run as Run_line}
 use Rattle.aom_transcript.specs.declared.line.Ending.{Ending}
 use Rattle.aom_transcript.specs.declared.line.Ending.TheVariants.{Limit, Waiting}
 
@@ -21,9 +25,14 @@ pub record Outside : Type 0 where
   pub refused : List ℕ
   -- after so many dispatches of objects the run ends
   pub limit : ℕ
+  -- how many natives there are
+  pub natives : ℕ
+  -- what comes from outside during the run, in its order
+  pub events : List TimedEvent
 
+-- nothing but that
 abbrev pub refusing : List ℕ → ℕ → Outside
-refusing numbers limit = record { refused = numbers; limit = limit }
+refusing numbers limit = record { refused = numbers; limit = limit; natives = 0; events = [] }
 
 -- main runs under the trap of its dispatch
 abbrev pub main_tasks : Option ℕ → List Task
@@ -124,6 +133,40 @@ abbrev pub AllSettled : List Cell → Type 0
 AllSettled [] = Unit {0}
 AllSettled (c ∷ cs) = (is_settled c.request ≡ true) × AllSettled cs
 
+-- ---- events and natives
+
+-- the event that comes next
+abbrev pub event_at : List TimedEvent → ℕ → Option TimedEvent
+event_at [] k = None
+event_at (e ∷ es) zero = Some e
+event_at (e ∷ es) (suc k) = event_at es k
+
+abbrev pub next_event : Outside → State → Option TimedEvent
+next_event outside s = event_at outside.events s.rest.delivered
+
+-- there is a native of that number, and it is not killed
+abbrev pub lives : Outside → State → ℕ → Bool
+lives outside s n = nat_lt n outside.natives && not (is_dead s.killed n)
+
+-- the first that is not killed, of so many from that number on
+abbrev pub first_living : List ℕ → (many n : ℕ) → Option ℕ
+first_living killed zero n = None
+first_living killed (suc many) n = cond (is_dead killed n) (first_living killed many (suc n)) (Some n)
+
+-- the native that is polled next in the turn at hand
+abbrev pub next_native : Outside → State → Option ℕ
+next_native outside s = first_living s.killed (outside.natives - s.rest.polled) s.rest.polled
+
+-- what a native that is polled completes: the request of a cell, counted from the newest, with a code
+pub record Completion : Type 0 where
+  pub cell : ℕ
+  pub code : ℤ
+
+abbrev pub cell_at : List Cell → ℕ → Option Cell
+cell_at [] k = None
+cell_at (c ∷ cs) zero = Some c
+cell_at (c ∷ cs) (suc k) = cell_at cs k
+
 -- ---- turns
 
 -- what a turn does
@@ -132,33 +175,81 @@ pub data Turning : Type 0 where
   Cuts : Turning
   -- the timer of an object completes its request
   Completes : Object → Turning
+  -- an event changes nothing here: it is for a native, or kills none
+  Hears : Turning
+  -- an event kills a native
+  Kills : (native : ℕ) → Turning
+  -- a native is polled, and completes that, or nothing
+  Polls : (native : ℕ) → Option Completion → Turning
   -- an object is dispatched
   Picks : Seat → Turning
   -- a signal, and no object is ready
   Strays : Turning
-  -- time passes until a timer is due
-  Passes : (due : ℕ) → Turning
+  -- time passes until a timer is due or an event comes
+  Passes : (time : ℕ) → Turning
   -- for nothing
   Waits : Turning
 
--- nothing signals
-abbrev pub passes : Option Timed → Turning
-passes None = Waits
-passes (Some x) = Passes x.timer.due
+-- the nearer of two times, where there are any
+abbrev pub nearer : Option ℕ → Option ℕ → Option ℕ
+nearer None b = b
+nearer (Some a) None = Some a
+nearer (Some a) (Some b) = Some (min a b)
 
--- nothing is due
-abbrev pub picks : Bool → Option Candidate → Option Timed → Turning
+abbrev pub due_of : Option Timed → Option ℕ
+due_of None = None
+due_of (Some x) = Some x.timer.due
+
+abbrev pub time_of : Option TimedEvent → Option ℕ
+time_of None = None
+time_of (Some e) = Some e.time
+
+-- when something comes next
+abbrev pub next_time : Outside → State → Option ℕ
+next_time outside s = nearer (due_of (first_due s.cells)) (time_of (next_event outside s))
+
+-- nothing signals
+abbrev pub passes : Option ℕ → Turning
+passes None = Waits
+passes (Some time) = Passes time
+
+-- all natives are polled
+abbrev pub picks : Bool → Option Candidate → Option ℕ → Turning
 picks true None next = Strays
 picks true (Some x) next = Picks x.seat
 picks false ready next = passes next
 
-abbrev pub by_timer : State → Option Timed → Turning
-by_timer s None = picks (has_signal s.cells) (first_ready s.cells) None
-by_timer s (Some x) = cond (nat_le x.timer.due s.rest.clock) (Completes x.object) (picks (has_signal s.cells) (first_ready s.cells) (Some x))
+-- all events that are due are delivered
+abbrev pub polls : Option ℕ → Option Completion → Turning → Turning
+polls None answer after = after
+polls (Some n) answer after = Polls n answer
 
--- timers that are due come first, then signals, then time
-abbrev pub turning : Outside → State → Turning
-turning outside s = cond (nat_le outside.limit s.rest.dispatches) Cuts (by_timer s (first_due s.cells))
+abbrev pub delivers : Outside → State → Event → Turning
+delivers outside s (Tell n word) = Hears
+delivers outside s (Kill n) = cond (lives outside s n) (Kills n) Hears
+
+-- all timers that are due have completed their requests
+abbrev pub by_event : Outside → State → Option TimedEvent → Turning → Turning
+by_event outside s None after = after
+by_event outside s (Some e) after = cond (nat_le e.time s.rest.clock) (delivers outside s e.event) after
+
+abbrev pub by_timer : State → Option Timed → Turning → Turning
+by_timer s None after = after
+by_timer s (Some x) after = cond (nat_le x.timer.due s.rest.clock) (Completes x.object) after
+
+-- timers that are due come first, then events, then each native once, then signals, then time
+abbrev pub turning : Outside → Option Completion → State → Turning
+turning outside answer s =
+    cond (nat_le outside.limit s.rest.dispatches) Cuts
+      (by_timer s (first_due s.cells)
+        (by_event outside s (next_event outside s)
+          (polls (next_native outside s) answer
+            (picks (has_signal s.cells) (first_ready s.cells) (next_time outside s)))))
+
+-- a native that is polled completes what is outstanding at it
+abbrev pub AnswersWell : Image → State → Turning → Type 0
+AnswersWell p s (Polls n (Some a)) = (c : Cell) × (cell_at s.cells a.cell ≡ Some c) × (is_outstanding_at p n c ≡ true)
+AnswersWell p s _ = Unit {0}
 
 abbrev pub ends_as : Ending → State → State
 ends_as ending s = record s { rest = record s.rest { ended = Some ending } }
@@ -179,19 +270,43 @@ dispatched (Some m) x s =
       cells = with_request taken_up x.object s.cells;
       tasks = run_tasks m x (length (A_mark ∷ s.items));
       items = A_mark ∷ s.items;
-      rest = record s.rest { steps = 0 };
+      rest = record s.rest { steps = 0; polled = 0 };
     })
+
+-- one event more is delivered
+abbrev pub heard_one : State → State
+heard_one s = record s { rest = record s.rest { delivered = suc s.rest.delivered } }
+
+-- the native is killed
+abbrev pub without_native : Image → ℕ → State → State
+without_native p n s = record s { cells = all_bereaved p n s.cells; killed = s.killed ++ n ∷ [] }
+
+-- the natives up to this one are polled
+abbrev pub past_native : ℕ → State → State
+past_native n s = record s { rest = record s.rest { polled = suc n } }
+
+-- what a cell has outstanding is completed with that code
+abbrev pub answered_by : Image → ℕ → Option Cell → ℤ → State → Outcome
+answered_by p n None code s = IsStuck NullOrDead
+answered_by p n (Some c) code s = guarded ((is_outstanding_at p n c, CompletedTwice) ∷ []) (past_native n (record s { cells = with_request (completed_with (recorded code)) c.object s.cells }))
+
+abbrev pub polled : Image → ℕ → Option Completion → State → Outcome
+polled p n None s = Goes (past_native n s)
+polled p n (Some a) s = answered_by p n (cell_at s.cells a.cell) a.code s
 
 abbrev pub turned : Image → State → Turning → Outcome
 turned p s Cuts = Goes (ends_as Limit s)
 turned p s (Completes o) = Goes (record s { cells = with_request timed_out o s.cells })
+turned p s Hears = Goes (heard_one s)
+turned p s (Kills n) = Goes (without_native p n (heard_one s))
+turned p s (Polls n answer) = polled p n answer s
 turned p s (Picks x) = dispatched (part_of p Handles x.object.thing) x s
 turned p s Strays = IsStuck Stray
-turned p s (Passes due) = Goes (record s { rest = record s.rest { clock = due } })
+turned p s (Passes time) = Goes (record s { rest = record s.rest { clock = time; polled = 0 } })
 turned p s Waits = Goes (ends_as Waiting s)
 
-abbrev pub turn : Image → Outside → State → Outcome
-turn p outside s = turned p s (turning outside s)
+abbrev pub turn : Image → Outside → Option Completion → State → Outcome
+turn p outside answer s = turned p s (turning outside answer s)
 
 -- the line of a dispatch: its time, the class of its object, and the status with which its request is completed
 abbrev pub run_line : State → Object → List Line
@@ -203,16 +318,18 @@ run_line s o = of_thing o.thing
 
 abbrev pub written_by : State → Turning → List Line
 written_by s (Picks x) = run_line s x.object
+written_by s (Kills n) = Killed n ∷ []
 written_by s _ = []
 
+-- whatever a native answers
 abbrev pub written_turn : Outside → State → List Line
-written_turn outside s = written_by s (turning outside s)
+written_turn outside s = written_by s (turning outside None s)
 
 -- the states that a run comes to, with the lines that it has written by then
 pub data Reaches (p : Image) (outside : Outside) (from : State) : List Line → State → Type 0 where
   begins : Reaches p outside from [] from
   moves : {lines : List Line} {s u : State} (c : Choice) → Reaches p outside from lines s → IsBusy s → IsOpen p outside.refused c s → step p c s ≡ Goes u → Reaches p outside from (lines ++ written p s) u
-  turns : {lines : List Line} {s u : State} → Reaches p outside from lines s → IsBetween s → turn p outside s ≡ Goes u → Reaches p outside from (lines ++ written_turn outside s) u
+  turns : {lines : List Line} {s u : State} (answer : Option Completion) → Reaches p outside from lines s → IsBetween s → AnswersWell p s (turning outside answer s) → turn p outside answer s ≡ Goes u → Reaches p outside from (lines ++ written_turn outside s) u
 
 -- a run of the image from its boot, and how it ended
 pub record Run_of (p : Image) (outside : Outside) (lines : List Line) (s : State) (ending : Ending) : Type 0 where
