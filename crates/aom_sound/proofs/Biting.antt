@@ -13,6 +13,7 @@ use Rattle.aom_sound.specs.Cases.Objects.{ObjectsBite}
 use Rattle.aom_sound.specs.Cases.Requests.{RequestsBite}
 use Rattle.aom_sound.specs.Cases.Returns.{ReturnsBite}
 use Rattle.aom_sound.specs.Cases.Turns.{TurnsBite}
+use Rattle.aom_sound.specs.Cases.Events.{EventsBite}
 use Rattle.aom_sound.specs.Cases.Words.{WordsBite}
 
 pub words_bite : WordsBite
@@ -71,4 +72,15 @@ turns_bite =
       picks = (refl, (refl, (refl, (refl, (refl, tt)))));
       timers = (refl, (refl, (refl, (refl, (refl, (refl, tt))))));
       stray = refl;
+    }
+
+pub events_bite : EventsBite
+unfolding class_at kind_in kind_of
+events_bite =
+    record {
+      events = (refl, (refl, (refl, (refl, (refl, (refl, (refl, (refl, tt))))))));
+      polls = (refl, (refl, (refl, (refl, (refl, tt)))));
+      times = (refl, (refl, (refl, (refl, tt))));
+      kills = (refl, refl, (refl, refl, (refl, refl, (refl, refl, (refl, refl, (refl, refl, tt))))));
+      completions = (refl, refl, (refl, refl, (refl, refl, (refl, refl, (refl, refl, (refl, refl, (refl, refl, (refl, refl, tt))))))));
     }

@@ -9,4 +9,5 @@ pub mod Returns
 pub mod Cleanup
 pub mod Moves
 pub mod Turns
+pub mod Events
 pub mod Owners

@@ -241,10 +241,10 @@ by_timer s (Some x) after = cond (nat_le x.timer.due s.rest.clock) (Completes x.
 abbrev pub turning : Outside → Option Completion → State → Turning
 turning outside answer s =
     cond (nat_le outside.limit s.rest.dispatches) Cuts
-      (by_timer s (first_due s.cells)
-        (by_event outside s (next_event outside s)
-          (polls (next_native outside s) answer
-            (picks (has_signal s.cells) (first_ready s.cells) (next_time outside s)))))
+    (by_timer s (first_due s.cells)
+    (by_event outside s (next_event outside s)
+    (polls (next_native outside s) answer
+    (picks (has_signal s.cells) (first_ready s.cells) (next_time outside s)))))
 
 -- a native that is polled completes what is outstanding at it
 abbrev pub AnswersWell : Image → State → Turning → Type 0

@@ -15,6 +15,7 @@ ghost use Rattle.aom_sound.specs.Cases.Requests.{RequestsBite};
 ghost use Rattle.aom_sound.specs.Cases.Natives.{NativesBite};
 ghost use Rattle.aom_sound.specs.Cases.Moves.{MovesBite};
 ghost use Rattle.aom_sound.specs.Cases.Turns.{TurnsBite};
+ghost use Rattle.aom_sound.specs.Cases.Events.{EventsBite};
 ghost use Rattle.aom_sound.specs.Cases.Owners.{OwnersBite};
 
 /// A run of a typed image begins well typed.
@@ -165,6 +166,11 @@ pub fn moves_bite()
 /// A turn does what its examples say, and a stray signal bites.
 pub fn turns_bite()
     ensures { TurnsBite }
+{}
+
+/// Events and natives come in their order, and leave what their examples say.
+pub fn events_bite()
+    ensures { EventsBite }
 {}
 
 /// Places that do not own are no owners.
