@@ -1,19 +1,20 @@
 -- A move of each of two states that are the same but for names, where the new cells' names are changed with one another, and a turn of each.
-use Rattle.std.proofs.Common.{List, None, ap, length, refl, subst, sym, ℕ, ◌∙◌, ◌≡◌, Bool, true, false, ℤ}
+use Rattle.std.proofs.Common.{List, None, Option, ap, length, refl, subst, sym, ℕ, ◌∙◌, ◌≡◌, Bool, true, false, ℤ}
 use Rattle.aom_image.specs.Image.{Image}
 use Rattle.aom_rules.specs.Typing.{Typing}
 use Rattle.aom_sound.specs.Moves.{IsOpen, is_refused, step, written}
 use Rattle.aom_sound.specs.Places.{named}
 use Rattle.aom_sound.specs.State.{Choice, Goes, IsStuck, Outcome, State}
 use Rattle.aom_sound.specs.WellTyped.{WellTyped}
-use Rattle.aom_sound.specs.World.{Outside, turn, written_turn}
+use Rattle.aom_sound.specs.World.{Completion, Outside, turn, turning, written_turn}
 use Rattle.aom_determined.proofs.Cells.{cells_counted}
 use Rattle.aom_determined.proofs.Fresh.{renamed_twice, swap_first, swap_one_to_one, swapped, swapped_free}
 use Rattle.aom_determined.proofs.Steps.{free_so, moves_so, refused_so, writes_so}
-use Rattle.aom_determined.proofs.Turning.{turns_so, writes_turn_so}
-use Rattle.aom_determined.specs.Laws.{MovesStayAlike}
+use Rattle.aom_determined.proofs.Polling.{turn_unpolled}
+use Rattle.aom_determined.proofs.Turning.{polling_kept, turns_so, writes_turn_so}
+use Rattle.aom_determined.specs.Laws.{MovesStayAlike, TurnsStayAlike}
 use Rattle.aom_determined.specs.Names.{AlikeOutcomes, AreAlike, IsOneToOne, renamed, renamed_choice, renamed_outcome}
-use Rattle.aom_determined.specs.Hearing.{is_heard}
+use Rattle.aom_determined.specs.Hearing.{is_heard, is_polling}
 use Rattle.aom_determined.proofs.Hearing.{step_unheard, heard_kept}
 
 alike_renamed : (names : ℕ → ℕ) → IsOneToOne names → (o : Outcome) → AlikeOutcomes o (renamed_outcome names o)
@@ -74,16 +75,30 @@ writes_alike p s u alike = sym (writes_so alike.names alike.one_to_one p s) ∙ 
 pub moves_stay_alike : MovesStayAlike
 moves_stay_alike p t refused c d s u well_u alike open_c open_d answers = (move_alike p t refused c d s u well_u alike open_c open_d answers, writes_alike p s u alike)
 
--- a turn makes no cell
-pub turn_alike : (p : Image) (outside : Outside) (s u : State) → AreAlike s u → AlikeOutcomes (turn p outside s) (turn p outside u)
-turn_alike p outside s u alike =
-    subst
-    (AlikeOutcomes (turn p outside s))
-    (sym (turns_so alike.names alike.one_to_one p outside s) ∙ ap (turn p outside) (sym alike.same))
-    (alike_renamed alike.names alike.one_to_one (turn p outside s))
+-- a turn makes no cell, and hears what the other hears
+module _ (p : Image) (outside : Outside) (answer other : Option Completion) (s u : State) (alike : AreAlike s u) (answers : is_polling (turning outside None s) ≡ true → answer ≡ other) where
+  same_polling : is_polling (turning outside None u) ≡ is_polling (turning outside None s)
+  same_polling = ap (λ x. is_polling (turning outside None x)) alike.same ∙ polling_kept alike.names outside s
+
+  same_turn : turn p outside answer u ≡ turn p outside other u
+  same_turn = go (is_polling (turning outside None s)) refl
+    where
+      go : (b : Bool) → is_polling (turning outside None s) ≡ b → turn p outside answer u ≡ turn p outside other u
+      go true e = ap (λ a. turn p outside a u) (answers e)
+      go false e = let unpolled = same_polling ∙ e in turn_unpolled answer p outside u unpolled ∙ sym (turn_unpolled other p outside u unpolled)
+
+  pub turn_alike : AlikeOutcomes (turn p outside answer s) (turn p outside other u)
+  turn_alike =
+      subst
+      (AlikeOutcomes (turn p outside answer s))
+      (sym (turns_so alike.names alike.one_to_one p outside answer s) ∙ ap (turn p outside answer) (sym alike.same) ∙ same_turn)
+      (alike_renamed alike.names alike.one_to_one (turn p outside answer s))
 
 pub turn_writes_alike : (outside : Outside) (s u : State) → AreAlike s u → written_turn outside s ≡ written_turn outside u
 turn_writes_alike outside s u alike = sym (writes_turn_so alike.names alike.one_to_one outside s) ∙ ap (written_turn outside) (sym alike.same)
+
+pub turns_stay_alike : TurnsStayAlike
+turns_stay_alike p outside answer other s u alike answers = (turn_alike p outside answer other s u alike answers, turn_writes_alike outside s u alike)
 
 -- they have as many cells
 pub alike_counted : (s u : State) → AreAlike s u → length s.cells ≡ length u.cells

@@ -1,13 +1,14 @@
 -- What is read of cells and done to them, under other names: the same, renamed.
-use Rattle.std.proofs.Common.{Bool, List, None, Option, Some, [], ap, cond, false, length, refl, true, ℕ, ℤ, ◌&&◌, ◌==◌, ◌∙◌, ◌∷◌, ◌≡◌}
+use Rattle.std.proofs.Common.{Bool, List, None, Option, Some, [], ap, cond, false, length, refl, suc, true, zero, ℕ, ℤ, ◌&&◌, ◌==◌, ◌∙◌, ◌∷◌, ◌≡◌}
 use Rattle.std.proofs.lemmas.Bool.{eq-eqb, eqb-false, eqb-true, ne_eqb}
 use Rattle.std.proofs.lemmas.List.{length-map}
-use Rattle.std.specs.Prelude.{max, option_map}
+use Rattle.std.specs.Prelude.{map, max, option_map}
 use Rattle.aom_sound.specs.Calls.{is_register_but, none_owns_but}
 use Rattle.aom_sound.specs.Destruction.{is_field_of, owns_nothing}
 use Rattle.aom_sound.specs.Enlisted.{next_order, next_timer, order_after, request_after}
 use Rattle.aom_sound.specs.Places.{Cell, Elsewhere, Entry, Field, Going, Place, Register, Request, held, moved, named, requested, same_place, set_request, set_word_field, without, word_field, in_session, set_session}
 use Rattle.aom_sound.specs.State.{Task}
+use Rattle.aom_sound.specs.World.{cell_at}
 use Rattle.aom_determined.specs.Names.{IsOneToOne, renamed_cell, renamed_cells, renamed_object, renamed_place, renamed_tasks}
 
 -- a renamed answer
@@ -95,6 +96,17 @@ module _ (names : ℕ → ℕ) (one_to_one : IsOneToOne names) where
   pub owns_nothing_kept : (cs : List Cell) (n : ℕ) → owns_nothing (renamed_cells names cs) (names n) ≡ owns_nothing cs n
   owns_nothing_kept [] n = refl
   owns_nothing_kept (c ∷ cs) n = rw (is_field_kept n c.owner, owns_nothing_kept cs n)
+
+-- what changes each cell without a look at its name
+pub each_renamed : (names : ℕ → ℕ) (f : Cell → Cell) → ((c : Cell) → f (renamed_cell names c) ≡ renamed_cell names (f c)) → (cs : List Cell) → map f (renamed_cells names cs) ≡ renamed_cells names (map f cs)
+each_renamed names f same [] = refl
+each_renamed names f same (c ∷ cs) = ap (λ x. x ∷ map f (renamed_cells names cs)) (same c) ∙ ap (λ xs. renamed_cell names (f c) ∷ xs) (each_renamed names f same cs)
+
+-- a cell by its place in the list
+pub cell_at_renamed : (names : ℕ → ℕ) (cs : List Cell) (k : ℕ) → cell_at (renamed_cells names cs) k ≡ option_map (renamed_cell names) (cell_at cs k)
+cell_at_renamed names [] k = refl
+cell_at_renamed names (c ∷ cs) zero = refl
+cell_at_renamed names (c ∷ cs) (suc k) = cell_at_renamed names cs k
 
 -- no order looks at a name
 pub order_kept : (names : ℕ → ℕ) (cs : List Cell) → next_order (renamed_cells names cs) ≡ next_order cs

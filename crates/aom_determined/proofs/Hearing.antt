@@ -61,14 +61,14 @@ heard_kept p names [] = refl
 heard_kept p names _ = refl
 
 module _ (p : Image) (natives : HasNoNative p) where
+  pub thing_unserved : (t : Thing) → is_native_kind (thing_kind p t) ≡ false
+  thing_unserved (An_object_of class) = natives.none (Some class)
+  thing_unserved Message = natives.none None
+
   home_unserved : (h : Home) → is_native_kind (home_kind p h) ≡ false
   home_unserved Static = refl
   home_unserved AtRoot = refl
-  home_unserved (Inside o from) = go o.thing
-    where
-      go : (t : Thing) → is_native_kind (thing_kind p t) ≡ false
-      go (An_object_of class) = natives.none (Some class)
-      go Message = natives.none None
+  home_unserved (Inside o from) = thing_unserved o.thing
 
   none_hears : (k : Option ClassKind) (i : Option Instr) → is_native_kind k ≡ false → hears k i ≡ false
   none_hears k (Some (Connect a)) h = h

@@ -4,6 +4,7 @@ pub mod Doing
 pub mod Turning
 pub mod Steps
 pub mod Hearing
+pub mod Polling
 pub mod Fresh
 pub mod Alike
 pub mod Runs

@@ -1,5 +1,5 @@
 -- What is asked is asked under other names too: no need looks at a name but to compare it with another.
-use Rattle.std.proofs.Common.{List, None, Option, Some, [], ap, cond, length, refl, suc, ℕ, ◌&&◌, ◌==◌, ◌∙◌, ◌∷◌, ◌≡◌}
+use Rattle.std.proofs.Common.{Bool, List, None, Option, Some, [], ap, cond, false, length, refl, suc, true, ℕ, ◌&&◌, ◌==◌, ◌∙◌, ◌∷◌, ◌≡◌}
 use Rattle.std.specs.Prelude.{is_none, is_some, option_map, ◌++◌}
 use Rattle.aom_image.specs.Image.{Image}
 use Rattle.aom_image.specs.Views.{arguments_of, gives_of, method_class}
@@ -17,9 +17,9 @@ use Rattle.aom_sound.specs.Cleanup.{above_trap_is_free, has_trap, if_refused, le
 use Rattle.aom_sound.specs.Enlisted.{home_kind, own_request}
 use Rattle.aom_sound.specs.Objects.{is_declared_thing, is_no_message, is_thing, needs_put}
 use Rattle.aom_sound.specs.Places.{Cell, Entry, Object, Register, held, moved}
-use Rattle.aom_sound.specs.State.{A_mark, An_object, An_operation, Asks, AtRoot, Choice, Destroy, Dispatch, Dispatched, Frame, Home, Inside, Item, Need, Orphan, Run, State, Static, Task, Trapped, Unwind, field_place, home_holder}
+use Rattle.aom_sound.specs.State.{A_mark, An_object, An_operation, Asks, AtRoot, Choice, Destroy, Dispatch, Dispatched, Frame, Home, Inside, IsStuck, Item, Need, Orphan, Run, State, Static, Task, Trapped, Unwind, field_place, guarded, home_holder}
 use Rattle.aom_determined.proofs.Cells.{held_renamed, moved_renamed, none_owns_kept, owns_nothing_kept, requested_kept, tasks_counted}
-use Rattle.aom_determined.specs.Names.{IsOneToOne, renamed, renamed_cells, renamed_choice, renamed_dispatch, renamed_frame, renamed_home, renamed_object, renamed_place, renamed_tasks}
+use Rattle.aom_determined.specs.Names.{IsOneToOne, renamed, renamed_cells, renamed_choice, renamed_dispatch, renamed_frame, renamed_home, renamed_object, renamed_outcome, renamed_place, renamed_tasks}
 
 -- ---- what is asked of an object, none of which is its name
 
@@ -281,3 +281,15 @@ module _ (names : ℕ → ℕ) (one_to_one : IsOneToOne names) (p : Image) (c : 
     declared_kept names p (field_thing p (home_holder fr.home) f) (held s.cells (Register (length ts) b)),
     field_at names one_to_one s.cells fr.home f,
   )
+
+-- ---- what becomes of a state once its needs are met
+
+pub guarded_renamed : (names : ℕ → ℕ) (ns : List Need) (s : State) → guarded ns (renamed names s) ≡ renamed_outcome names (guarded ns s)
+guarded_renamed names [] s = refl
+guarded_renamed names (n ∷ ns) s = go n.0 (guarded_renamed names ns s)
+  where
+    go :
+        (b : Bool) → guarded ns (renamed names s) ≡ renamed_outcome names (guarded ns s) →
+        cond b (guarded ns (renamed names s)) (IsStuck n.1) ≡ renamed_outcome names (cond b (guarded ns s) (IsStuck n.1))
+    go true e = e
+    go false e = refl

@@ -1,6 +1,6 @@
 -- Two runs, stage by stage, where each stage is a move or a turn: after as many stages they have written the same, and are the same but for names.
-use Rattle.std.proofs.Common.{List, None, Option, Some, [], ap, append-nil, append_assoc, arith, inl, inr, refl, subst, suc, sym, zero, ℕ, ⊎_elim, ◌∙◌, ◌∷◌, ◌≡◌, ◌<◌, ◌≤◌}
-use Rattle.std.proofs.lemmas.Bool.{cases_eq, cases_lt, true≢false}
+use Rattle.std.proofs.Common.{List, None, Option, Some, [], ap, append-nil, append_assoc, arith, inl, inr, refl, subst, suc, sym, true, zero, ℕ, ⊎_elim, ◌∙◌, ◌∷◌, ◌≡◌, ◌<◌, ◌≤◌}
+use Rattle.std.proofs.lemmas.Bool.{cases_eq, cases_lt}
 use Rattle.std.specs.Prelude.{◌++◌, ◌⊎◌}
 use Rattle.aom_image.specs.Image.{Image}
 use Rattle.aom_classes.specs.Roles.{main_of}
@@ -12,45 +12,47 @@ use Rattle.aom_sound.specs.Laws.{IsWired}
 use Rattle.aom_sound.specs.Moves.{IsOpen, step, written}
 use Rattle.aom_sound.specs.State.{Choice, Goes, Outcome, State}
 use Rattle.aom_sound.specs.WellTyped.{WellTyped}
-use Rattle.aom_sound.specs.World.{IsBetween, IsBusy, Reaches, Run_of, begins, boot_state, main_tasks, moves, turn, turns, written_turn, Outside}
+use Rattle.aom_sound.specs.World.{Completion, IsBetween, IsBusy, Reaches, Run_of, begins, boot_state, main_tasks, moves, turn, turning, turns, written_turn, Outside}
 use Rattle.aom_transcript.specs.declared.line.Ending.{Ending}
 use Rattle.aom_transcript.specs.declared.line.Line.{Line}
 use Rattle.aom_determined.proofs.Alike.{move_alike, turn_alike, turn_writes_alike, writes_alike}
 use Rattle.aom_determined.specs.Laws.{Begins, TextIsDetermined}
 use Rattle.aom_determined.specs.Names.{AlikeOutcomes, AreAlike, renamed_tasks}
-use Rattle.aom_determined.specs.Hearing.{HasNoNative}
-use Rattle.aom_determined.proofs.Hearing.{none_heard}
+use Rattle.aom_determined.specs.Hearing.{Follows, Oracle, is_heard, is_polling, stages}
+use Rattle.aom_determined.proofs.Hearing.{heard_kept}
+use Rattle.aom_determined.proofs.Turning.{polling_kept}
 
-module _ (p : Image) (t : Typing) (outside : Outside) (wired : IsWired p) (typed : IsTyped p t) (natives : HasNoNative p) where
-  -- one stage of a run: a move, or a turn between dispatches
-  record Moved (v s : State) (new : List Line) : Type 0 where
+module _ (p : Image) (t : Typing) (outside : Outside) (wired : IsWired p) (typed : IsTyped p t) (oracle : Oracle) where
+  -- one stage of a run, after so many: a move, or a turn between dispatches
+  record Moved (n : ℕ) (v s : State) (new : List Line) : Type 0 where
     choice : Choice
     busy : IsBusy v
     open_so : IsOpen p outside.refused choice v
     goes : step p choice v ≡ Goes s
     lines : new ≡ written p v
+    hears : is_heard p v.tasks ≡ true → choice.answer ≡ oracle.answers n
 
-  record Turned (v s : State) (new : List Line) : Type 0 where
+  record Turned (n : ℕ) (v s : State) (new : List Line) : Type 0 where
+    answer : Option Completion
     between : IsBetween v
-    goes : turn p outside v ≡ Goes s
+    goes : turn p outside answer v ≡ Goes s
     lines : new ≡ written_turn outside v
+    hears : is_polling (turning outside None v) ≡ true → answer ≡ oracle.completes n
 
-  abbrev Stage : State → State → List Line → Type 0
-  Stage v s new = Moved v s new ⊎ Turned v s new
+  abbrev Stage : ℕ → State → State → List Line → Type 0
+  Stage n v s new = Moved n v s new ⊎ Turned n v s new
 
   -- so many stages of a run
   abbrev After : ℕ → List Line → State → Type 0
   After zero lines s = (lines ≡ []) × (s ≡ boot_state p)
-  After (suc n) lines s = (before : List Line) × (v : State) × (new : List Line) × After n before v × Reaches p outside (boot_state p) before v × Stage v s new × (lines ≡ before ++ new)
+  After (suc n) lines s = (before : List Line) × (v : State) × (new : List Line) × After n before v × Reaches p outside (boot_state p) before v × Stage n v s new × (lines ≡ before ++ new)
 
-  stages : (lines : List Line) (s : State) → Reaches p outside (boot_state p) lines s → (n : ℕ) × After n lines s
-  stages _ _ begins = (zero, (refl, refl))
-  stages _ _ (moves {lines = lines} {s = s} {u = u} c before busy choice e) =
-      let h = stages lines s before in
-      (suc h.0, (lines, s, written p s, h.1, before, inl (record { choice = c; busy = busy; open_so = choice; goes = e; lines = refl }), refl))
-  stages _ _ (turns {lines = lines} {s = s} before between e) =
-      let h = stages lines s before in
-      (suc h.0, (lines, s, written_turn outside s, h.1, before, inr (record { between = between; goes = e; lines = refl }), refl))
+  staged : {lines : List Line} {s : State} (reached : Reaches p outside (boot_state p) lines s) → Follows oracle reached → After (stages reached) lines s
+  staged begins follows = (refl, refl)
+  staged (moves {lines = lines} {s = s} c before busy choice e) follows =
+      (lines, s, written p s, staged before follows.0, before, inl (record { choice = c; busy = busy; open_so = choice; goes = e; lines = refl; hears = follows.1 }), refl)
+  staged (turns {lines = lines} {s = s} answer before between owed e) follows =
+      (lines, s, written_turn outside s, staged before follows.0, before, inr (record { answer = answer; between = between; goes = e; lines = refl; hears = follows.1 }), refl)
 
   well : (lines : List Line) (s : State) → Reaches p outside (boot_state p) lines s → WellTyped p t s
   well lines s r = well_on p t outside wired typed (boot_state p) (boot_keeps p t wired typed) lines s r
@@ -67,16 +69,23 @@ module _ (p : Image) (t : Typing) (outside : Outside) (wired : IsWired p) (typed
   goes_alike : (o o' : Outcome) (s u : State) → o ≡ Goes s → o' ≡ Goes u → AlikeOutcomes o o' → AreAlike s u
   goes_alike o o' s u e e' h = subst (λ x. AlikeOutcomes (Goes s) x) e' (subst (λ x. AlikeOutcomes x o') e h)
 
-  stage_alike : (v w s u : State) (new new' : List Line) → WellTyped p t w → AreAlike v w → Stage v s new → Stage w u new' → (new ≡ new') × AreAlike s u
-  stage_alike v w s u new new' wt alike (inl m) (inl n) = (
-    m.lines ∙ writes_alike p v w alike ∙ sym n.lines,
-    goes_alike _ _ s u m.goes n.goes (move_alike p t outside.refused m.choice n.choice v w wt alike m.open_so n.open_so (λ heard. absurd (true≢false (sym heard ∙ none_heard p natives v.tasks)))),
+  -- and what is heard in one is heard in the other
+  hears_alike : (n : ℕ) (v w s u : State) (new new' : List Line) → AreAlike v w → (one : Moved n v s new) (other : Moved n w u new') → is_heard p v.tasks ≡ true → one.choice.answer ≡ other.choice.answer
+  hears_alike n v w s u new new' alike one other heard = one.hears heard ∙ sym (other.hears (ap (λ x. is_heard p x.tasks) alike.same ∙ heard_kept p alike.names v.tasks ∙ heard))
+
+  polls_alike : (n : ℕ) (v w s u : State) (new new' : List Line) → AreAlike v w → (one : Turned n v s new) (other : Turned n w u new') → is_polling (turning outside None v) ≡ true → one.answer ≡ other.answer
+  polls_alike n v w s u new new' alike one other polled = one.hears polled ∙ sym (other.hears (ap (λ x. is_polling (turning outside None x)) alike.same ∙ polling_kept alike.names outside v ∙ polled))
+
+  stage_alike : (n : ℕ) (v w s u : State) (new new' : List Line) → WellTyped p t w → AreAlike v w → Stage n v s new → Stage n w u new' → (new ≡ new') × AreAlike s u
+  stage_alike n v w s u new new' wt alike (inl one) (inl other) = (
+    one.lines ∙ writes_alike p v w alike ∙ sym other.lines,
+    goes_alike _ _ s u one.goes other.goes (move_alike p t outside.refused one.choice other.choice v w wt alike one.open_so other.open_so (hears_alike n v w s u new new' alike one other)),
   )
-  stage_alike v w s u new new' wt alike (inl m) (inr n) = absurd (busy_idle v w alike m.busy n.between.idle)
-  stage_alike v w s u new new' wt alike (inr m) (inl n) = absurd (idle_busy v w alike m.between.idle n.busy)
-  stage_alike v w s u new new' wt alike (inr m) (inr n) = (
-    m.lines ∙ turn_writes_alike outside v w alike ∙ sym n.lines,
-    goes_alike _ _ s u m.goes n.goes (turn_alike p outside v w alike),
+  stage_alike n v w s u new new' wt alike (inl one) (inr other) = absurd (busy_idle v w alike one.busy other.between.idle)
+  stage_alike n v w s u new new' wt alike (inr one) (inl other) = absurd (idle_busy v w alike one.between.idle other.busy)
+  stage_alike n v w s u new new' wt alike (inr one) (inr other) = (
+    one.lines ∙ turn_writes_alike outside v w alike ∙ sym other.lines,
+    goes_alike _ _ s u one.goes other.goes (turn_alike p outside one.answer other.answer v w alike (polls_alike n v w s u new new' alike one other)),
   )
 
   -- nothing in the boot state has a name
@@ -91,7 +100,7 @@ module _ (p : Image) (t : Typing) (outside : Outside) (wired : IsWired p) (typed
   together zero lines others s u a b = (a.0 ∙ sym b.0, subst (λ x. AreAlike x u) (sym a.1) (subst (λ x. AreAlike (boot_state p) x) (sym b.1) booted))
   together (suc n) lines others s u a b =
       let before = together n a.0 b.0 a.1 b.1 a.3 b.3 in
-      let now = stage_alike a.1 b.1 s u a.2 b.2 (well b.0 b.1 b.4) before.1 a.5 b.5 in
+      let now = stage_alike n a.1 b.1 s u a.2 b.2 (well b.0 b.1 b.4) before.1 a.5 b.5 in
       (a.6 ∙ ap (λ x. x ++ a.2) before.0 ∙ ap (λ x. b.0 ++ x) now.0 ∙ sym b.6, now.1)
 
   -- ---- fewer stages
@@ -132,34 +141,50 @@ module _ (p : Image) (t : Typing) (outside : Outside) (wired : IsWired p) (typed
       let before = together n lines h.after.0 s h.after.1 a h.after.3 in
       go h.after.1 (same_ended s h.after.1 before.1 ∙ run.ended) h.after.4 h.after.5
     where
-      go : {first new : List Line} {x : State} (v : State) → v.rest.ended ≡ Some ending → Reaches p outside (boot_state p) first v → Stage v x new → ⊥
+      go : {first new : List Line} {x : State} (v : State) → v.rest.ended ≡ Some ending → Reaches p outside (boot_state p) first v → Stage n v x new → ⊥
       go {first = first} v over r (inl m) = let clash : m.busy.0 ∷ m.busy.1 ≡ [] = sym m.busy.2 ∙ over_idle p t outside wired typed first v ending r over in cc
       go v over r (inr m) = let clash : Some ending ≡ None = sym over ∙ m.between.going in cc
 
-  agree : (lines others : List Line) (s u : State) → Reaches p outside (boot_state p) lines s → Reaches p outside (boot_state p) others u → Begins lines others ⊎ Begins others lines
-  agree lines others s u r q =
-      let a = stages lines s r in
-      let b = stages others u q in
-      ⊎_elim (λ lt. inl (begins_so a.0 b.0 lines others s u (omega arith) a.1 b.1)) (λ le. inr (begins_so b.0 a.0 others lines u s le b.1 a.1)) (cases_lt a.0 b.0)
+  abbrev Reached : List Line → State → Type 0
+  Reached lines s = Reaches p outside (boot_state p) lines s
 
-  whole : (lines others : List Line) (s u : State) (ending : Ending) → Run_of p outside lines s ending → Reaches p outside (boot_state p) others u → Begins others lines
-  whole lines others s u ending run q =
-      let a = stages lines s run.reaches in
-      let b = stages others u q in
-      ⊎_elim (λ lt. absurd (never_past a.0 b.0 lines others s u ending run lt a.1 b.1)) (λ le. begins_so b.0 a.0 others lines u s le b.1 a.1) (cases_lt a.0 b.0)
-
-  ended : (lines others : List Line) (s u : State) (ending other : Ending) → Run_of p outside lines s ending → Run_of p outside others u other → (lines ≡ others) × (ending ≡ other) × AreAlike s u
-  ended lines others s u ending other run run' =
-      let a = stages lines s run.reaches in
-      let b = stages others u run'.reaches in
+  agree : (lines others : List Line) (s u : State) (one : Reached lines s) (other : Reached others u) → Follows oracle one → Follows oracle other → Begins lines others ⊎ Begins others lines
+  agree lines others s u one other hears follows =
+      let a = staged one hears in
+      let b = staged other follows in
       ⊎_elim
-      (λ lt. absurd (never_past a.0 b.0 lines others s u ending run lt a.1 b.1))
-      (λ le. ⊎_elim
-      (λ e. let same = together a.0 lines others s u a.1 (subst (λ n. After n others u) (sym e) b.1) in
-      (same.0, let x : Some ending ≡ Some other = sym run.ended ∙ sym (same_ended s u same.1) ∙ run'.ended in cc, same.1))
-      (λ ne. absurd (never_past b.0 a.0 others lines u s other run' (omega arith) b.1 a.1))
-      (cases_eq a.0 b.0))
-      (cases_lt a.0 b.0)
+      (λ lt. inl (begins_so (stages one) (stages other) lines others s u (omega arith) a b))
+      (λ le. inr (begins_so (stages other) (stages one) others lines u s le b a))
+      (cases_lt (stages one) (stages other))
+
+  whole : (lines others : List Line) (s u : State) (ending : Ending) (one : Run_of p outside lines s ending) (other : Reached others u) → Follows oracle one.reaches → Follows oracle other → Begins others lines
+  whole lines others s u ending one other hears follows =
+      let a = staged one.reaches hears in
+      let b = staged other follows in
+      ⊎_elim
+      (λ lt. absurd (never_past (stages one.reaches) (stages other) lines others s u ending one lt a b))
+      (λ le. begins_so (stages other) (stages one.reaches) others lines u s le b a)
+      (cases_lt (stages one.reaches) (stages other))
+
+  same_length : (n m : ℕ) (lines others : List Line) (s u : State) (ending last : Ending) → Run_of p outside lines s ending → Run_of p outside others u last → After n lines s → After m others u → n ≡ m
+  same_length n m lines others s u ending last one other a b = ⊎_elim
+      (λ lt. absurd (never_past n m lines others s u ending one lt a b))
+      (λ le. ⊎_elim (λ e. e) (λ ne. absurd (never_past m n others lines u s last other (omega arith) b a)) (cases_eq n m))
+      (cases_lt n m)
+
+  ended :
+      (lines others : List Line) (s u : State) (ending last : Ending) (one : Run_of p outside lines s ending) (other : Run_of p outside others u last) →
+      Follows oracle one.reaches → Follows oracle other.reaches → (lines ≡ others) × (ending ≡ last) × AreAlike s u
+  ended lines others s u ending last one other hears follows =
+      let a = staged one.reaches hears in
+      let b = staged other.reaches follows in
+      let e = same_length (stages one.reaches) (stages other.reaches) lines others s u ending last one other a b in
+      let same = together (stages one.reaches) lines others s u a (subst (λ n. After n others u) (sym e) b) in
+      (same.0, let x : Some ending ≡ Some last = sym one.ended ∙ sym (same_ended s u same.1) ∙ other.ended in cc, same.1)
 
 pub text_is_determined : TextIsDetermined
-text_is_determined p t outside wired typed natives = record { agree = agree p t outside wired typed natives; whole = whole p t outside wired typed natives; ended = ended p t outside wired typed natives }
+text_is_determined p t outside wired typed = record {
+  agree = λ oracle. agree p t outside wired typed oracle;
+  whole = λ oracle. whole p t outside wired typed oracle;
+  ended = λ oracle. ended p t outside wired typed oracle;
+}

@@ -13,23 +13,13 @@ use Rattle.aom_sound.specs.Destruction.{gone, needs_gone}
 use Rattle.aom_sound.specs.Enlisted.{part_of}
 use Rattle.aom_sound.specs.Moves.{IsOpen, answered, asked, asking, counted, dispatch_ends, does, failed, goes_line, handled, is_counted, is_refused, main_ends, makes_cell, needs, object_ends, step, step_instr, step_task, written, written_instr, written_task}
 use Rattle.aom_sound.specs.Places.{Elsewhere, Going, Object, Root, held, named, without}
-use Rattle.aom_sound.specs.State.{A_mark, An_object, An_operation, Answered, Asks, Choice, Destroy, Dispatch, Dispatched, Frame, Goes, IsStuck, Item, Main_left, Need, NullOrDead, Object_left, Of_main, Of_object, Of_root, Run, Seat, State, Task, Trapped, Unwind, guarded, resumed}
+use Rattle.aom_sound.specs.State.{A_mark, An_object, An_operation, Answered, Asks, Choice, Destroy, Dispatch, Dispatched, Frame, Goes, IsStuck, Item, Main_left, NullOrDead, Object_left, Of_main, Of_object, Of_root, Run, Seat, State, Task, Trapped, Unwind, guarded, resumed}
 use Rattle.aom_determined.proofs.Cells.{cells_counted, cond_applied, held_renamed, moved_renamed, named_renamed, owns_nothing_kept, requested_kept, tasks_counted, without_renamed}
 use Rattle.aom_determined.proofs.Doing.{begun_renamed, dealt_renamed, does_renamed, needs_kept, told_renamed}
-use Rattle.aom_determined.proofs.Needs.{whole_kept}
+use Rattle.aom_determined.proofs.Needs.{guarded_renamed, whole_kept}
 use Rattle.aom_determined.proofs.Turning.{turns_so, writes_turn_so}
 use Rattle.aom_determined.specs.Laws.{NamesMeanNothing}
 use Rattle.aom_determined.specs.Names.{IsOneToOne, renamed, renamed_cells, renamed_choice, renamed_dispatch, renamed_frame, renamed_object, renamed_outcome, renamed_seat, renamed_tasks}
-
-guarded_renamed : (names : ℕ → ℕ) (ns : List Need) (s : State) → guarded ns (renamed names s) ≡ renamed_outcome names (guarded ns s)
-guarded_renamed names [] s = refl
-guarded_renamed names (n ∷ ns) s = go n.0 (guarded_renamed names ns s)
-  where
-    go :
-        (b : Bool) → guarded ns (renamed names s) ≡ renamed_outcome names (guarded ns s) →
-        cond b (guarded ns (renamed names s)) (IsStuck n.1) ≡ renamed_outcome names (cond b (guarded ns s) (IsStuck n.1))
-    go true e = e
-    go false e = refl
 
 module _ (names : ℕ → ℕ) (one_to_one : IsOneToOne names) where
   resumed_renamed : (ts : List Task) → resumed (renamed_tasks names ts) ≡ renamed_tasks names (resumed ts)
@@ -184,6 +174,6 @@ names_mean_nothing = record {
   opens = λ p refused names one_to_one c s h. opens_so names one_to_one p refused c s h;
   moves = λ p names one_to_one c s. moves_so names one_to_one p c s;
   writes = λ p names one_to_one s. writes_so names one_to_one p s;
-  turns = λ p outside names one_to_one s. turns_so names one_to_one p outside s;
+  turns = λ p outside answer names one_to_one s. turns_so names one_to_one p outside answer s;
   writes_turn = λ outside names one_to_one s. writes_turn_so names one_to_one outside s;
 }

@@ -1,15 +1,21 @@
--- A turn under other names: orders, priorities and times decide, so the same timer is due first, the same object is picked, and its line is the same.
-use Rattle.std.proofs.Common.{Bool, List, None, Option, Some, [], ap, cond, false, refl, true, ℕ, ◌∙◌, ◌∷◌, ◌≡◌, ◌||◌}
+-- A turn under other names: orders, priorities, times and numbers decide, so the same timer is due first, the same native is polled or killed, the same object is picked, and the lines are the same.
+use Rattle.std.proofs.Common.{Bool, List, None, Option, Some, [], ap, cond, false, refl, true, ℕ, ℤ, ◌∙◌, ◌∷◌, ◌≡◌, ◌||◌}
 use Rattle.std.specs.Prelude.{nat_le, option_map}
 use Rattle.aom_image.specs.Image.{Image}
 use Rattle.aom_image.specs.declared.method.Role.TheVariants.{Run as Handles}
 use Rattle.aom_image.specs.declared.method.Thing.{Thing}
 use Rattle.aom_image.specs.declared.method.Thing.TheVariants.{Message, Object as An_object_of}
-use Rattle.aom_sound.specs.Enlisted.{on_request, part_of, taken_up, timed_out}
+use Rattle.aom_sound.specs.Enlisted.{completed_with, on_request, part_of, recorded, taken_up, timed_out}
+use Rattle.aom_sound.specs.Natives.{all_bereaved, bereaved, is_outstanding_at}
 use Rattle.aom_sound.specs.Places.{Cell, Object, Request, Timer, requested, set_request}
-use Rattle.aom_sound.specs.State.{Seat, State}
-use Rattle.aom_sound.specs.World.{Candidate, Completes, Cuts, Outside, Passes, Picks, Strays, Timed, Turning, Waits, among_ready, among_timers, before_others, by_timer, dispatched, first_due, first_ready, goes_before, has_signal, is_ready, is_sooner, passes, picks, run_line, signals, sooner, turn, turned, turning, with_request, written_by, written_turn}
-use Rattle.aom_determined.proofs.Cells.{cond_applied, cond_mapped, requested_kept, set_request_renamed}
+use Rattle.aom_sound.specs.State.{CompletedTwice, Seat, State, guarded}
+use Rattle.aom_sound.specs.World.{Candidate, Completes, Completion, Cuts, Hears, Kills, Outside, Picks, Polls, Timed, Turning, among_ready, among_timers, answered_by, before_others, by_event, by_timer, cell_at, delivers, dispatched, due_of, first_due, first_ready, goes_before, has_signal, is_ready, is_sooner, lives, nearer, next_event, next_native, next_time, passes, past_native, picks, polled, polls, run_line, signals, sooner, time_of, turn, turned, turning, with_request, written_by, written_turn}
+use Rattle.aom_transcript.specs.declared.event.Event.{Event}
+use Rattle.aom_transcript.specs.declared.event.Event.TheVariants.{Kill, Tell}
+use Rattle.aom_transcript.specs.declared.event.TimedEvent.{TimedEvent}
+use Rattle.aom_determined.proofs.Cells.{cell_at_renamed, cond_applied, cond_mapped, each_renamed, requested_kept, set_request_renamed}
+use Rattle.aom_determined.proofs.Needs.{guarded_renamed}
+use Rattle.aom_determined.specs.Hearing.{is_polling}
 use Rattle.aom_determined.specs.Names.{IsOneToOne, renamed, renamed_cell, renamed_cells, renamed_object, renamed_outcome, renamed_seat}
 
 module _ (names : ℕ → ℕ) where
@@ -23,9 +29,7 @@ module _ (names : ℕ → ℕ) where
   renamed_turning Cuts = Cuts
   renamed_turning (Completes o) = Completes (renamed_object names o)
   renamed_turning (Picks x) = Picks (renamed_seat names x)
-  renamed_turning Strays = Strays
-  renamed_turning (Passes due) = Passes due
-  renamed_turning Waits = Waits
+  renamed_turning t = t
 
   -- ---- timers
 
@@ -70,38 +74,70 @@ module _ (names : ℕ → ℕ) where
 
   -- ---- what the turn does
 
-  passes_renamed : (next : Option Timed) → passes (option_map renamed_timed next) ≡ renamed_turning (passes next)
-  passes_renamed None = refl
-  passes_renamed (Some x) = refl
+  due_kept : (x : Option Timed) → due_of (option_map renamed_timed x) ≡ due_of x
+  due_kept None = refl
+  due_kept (Some x) = refl
 
-  picks_renamed :
-      (signal : Bool) (ready : Option Candidate) (next : Option Timed) →
-      picks signal (option_map renamed_candidate ready) (option_map renamed_timed next) ≡ renamed_turning (picks signal ready next)
+  time_kept : (outside : Outside) (s : State) → next_time outside (renamed names s) ≡ next_time outside s
+  time_kept outside s = ap (λ d. nearer d (time_of (next_event outside s))) (ap due_of (due_renamed s.cells) ∙ due_kept (first_due s.cells))
+
+  passes_renamed : (next : Option ℕ) → passes next ≡ renamed_turning (passes next)
+  passes_renamed None = refl
+  passes_renamed (Some time) = refl
+
+  picks_renamed : (signal : Bool) (ready : Option Candidate) (next : Option ℕ) → picks signal (option_map renamed_candidate ready) next ≡ renamed_turning (picks signal ready next)
   picks_renamed true None next = refl
   picks_renamed true (Some x) next = refl
   picks_renamed false ready next = passes_renamed next
 
-  picked_renamed :
-      (cs : List Cell) (next : Option Timed) →
-      picks (has_signal (renamed_cells names cs)) (first_ready (renamed_cells names cs)) (option_map renamed_timed next) ≡ renamed_turning (picks (has_signal cs) (first_ready cs) next)
-  picked_renamed cs next =
-      ap (λ b. picks b (first_ready (renamed_cells names cs)) (option_map renamed_timed next)) (signal_kept cs)
-      ∙ ap (λ x. picks (has_signal cs) x (option_map renamed_timed next)) (ready_renamed cs)
-      ∙ picks_renamed (has_signal cs) (first_ready cs) next
+  -- of a state where all natives are polled
+  abbrev picked : Outside → State → Turning
+  picked outside s = picks (has_signal s.cells) (first_ready s.cells) (next_time outside s)
 
-  by_timer_renamed : (s : State) (x : Option Timed) → by_timer (renamed names s) (option_map renamed_timed x) ≡ renamed_turning (by_timer s x)
-  by_timer_renamed s None = picked_renamed s.cells None
-  by_timer_renamed s (Some x) =
-      let due = nat_le x.timer.due s.rest.clock in
-      ap (cond due (Completes (renamed_object names x.object))) (picked_renamed s.cells (Some x))
-      ∙ cond_applied renamed_turning due (Completes x.object) (picks (has_signal s.cells) (first_ready s.cells) (Some x))
+  picked_renamed : (outside : Outside) (s : State) → picked outside (renamed names s) ≡ renamed_turning (picked outside s)
+  picked_renamed outside s =
+      ap (λ b. picks b (first_ready (renamed_cells names s.cells)) (next_time outside (renamed names s))) (signal_kept s.cells)
+      ∙ ap (λ x. picks (has_signal s.cells) x (next_time outside (renamed names s))) (ready_renamed s.cells)
+      ∙ ap (picks (has_signal s.cells) (option_map renamed_candidate (first_ready s.cells))) (time_kept outside s)
+      ∙ picks_renamed (has_signal s.cells) (first_ready s.cells) (next_time outside s)
 
-  turning_renamed : (outside : Outside) (s : State) → turning outside (renamed names s) ≡ renamed_turning (turning outside s)
-  turning_renamed outside s =
+  polls_renamed : (n : Option ℕ) (answer : Option Completion) (after : Turning) → polls n answer (renamed_turning after) ≡ renamed_turning (polls n answer after)
+  polls_renamed None answer after = refl
+  polls_renamed (Some n) answer after = refl
+
+  delivers_renamed : (outside : Outside) (s : State) (e : Event) → delivers outside s e ≡ renamed_turning (delivers outside s e)
+  delivers_renamed outside s (Tell n word) = refl
+  delivers_renamed outside s (Kill n) = cond_applied renamed_turning (lives outside s n) (Kills n) Hears
+
+  by_event_renamed : (outside : Outside) (s : State) (e : Option TimedEvent) (after : Turning) → by_event outside s e (renamed_turning after) ≡ renamed_turning (by_event outside s e after)
+  by_event_renamed outside s None after = refl
+  by_event_renamed outside s (Some e) after =
+      let due = nat_le e.time s.rest.clock in
+      ap (λ x. cond due x (renamed_turning after)) (delivers_renamed outside s e.event) ∙ cond_applied renamed_turning due (delivers outside s e.event) after
+
+  by_timer_renamed : (s : State) (x : Option Timed) (after : Turning) → by_timer s (option_map renamed_timed x) (renamed_turning after) ≡ renamed_turning (by_timer s x after)
+  by_timer_renamed s None after = refl
+  by_timer_renamed s (Some x) after = cond_applied renamed_turning (nat_le x.timer.due s.rest.clock) (Completes x.object) after
+
+  pub turning_renamed : (outside : Outside) (answer : Option Completion) (s : State) → turning outside answer (renamed names s) ≡ renamed_turning (turning outside answer s)
+  turning_renamed outside answer s =
       let cut = nat_le outside.limit s.rest.dispatches in
-      ap (λ x. cond cut Cuts (by_timer (renamed names s) x)) (due_renamed s.cells)
-      ∙ ap (cond cut Cuts) (by_timer_renamed s (first_due s.cells))
-      ∙ cond_applied renamed_turning cut Cuts (by_timer s (first_due s.cells))
+      let polled = polls (next_native outside s) answer (picked outside s) in
+      let heard = by_event outside s (next_event outside s) polled in
+      ap (λ t. cond cut Cuts (by_timer s (first_due (renamed_cells names s.cells)) (by_event outside s (next_event outside s) (polls (next_native outside s) answer t)))) (picked_renamed outside s)
+      ∙ ap (λ t. cond cut Cuts (by_timer s (first_due (renamed_cells names s.cells)) (by_event outside s (next_event outside s) t))) (polls_renamed (next_native outside s) answer (picked outside s))
+      ∙ ap (λ t. cond cut Cuts (by_timer s (first_due (renamed_cells names s.cells)) t)) (by_event_renamed outside s (next_event outside s) polled)
+      ∙ ap (λ x. cond cut Cuts (by_timer s x (renamed_turning heard))) (due_renamed s.cells)
+      ∙ ap (cond cut Cuts) (by_timer_renamed s (first_due s.cells) heard)
+      ∙ cond_applied renamed_turning cut Cuts (by_timer s (first_due s.cells) heard)
+
+  polling_renamed : (t : Turning) → is_polling (renamed_turning t) ≡ is_polling t
+  polling_renamed (Polls n answer) = refl
+  polling_renamed _ = refl
+
+  -- a native is polled under other names too
+  pub polling_kept : (outside : Outside) (s : State) → is_polling (turning outside None (renamed names s)) ≡ is_polling (turning outside None s)
+  polling_kept outside s = ap is_polling (turning_renamed outside None s) ∙ polling_renamed (turning outside None s)
 
 module _ (names : ℕ → ℕ) (one_to_one : IsOneToOne names) where
   -- ---- where it leads
@@ -115,16 +151,30 @@ module _ (names : ℕ → ℕ) (one_to_one : IsOneToOne names) where
   dispatched_renamed None x s = refl
   dispatched_renamed (Some m) x s = rw (request_renamed taken_up x.object s.cells)
 
-  turned_renamed : (p : Image) (s : State) (t : Turning) → turned p (renamed names s) (renamed_turning names t) ≡ renamed_outcome names (turned p s t)
-  turned_renamed p s Cuts = refl
-  turned_renamed p s (Completes o) = rw (request_renamed timed_out o s.cells)
-  turned_renamed p s (Picks x) = dispatched_renamed (part_of p Handles x.object.thing) x s
-  turned_renamed p s Strays = refl
-  turned_renamed p s (Passes due) = refl
-  turned_renamed p s Waits = refl
+  -- a native completes what a cell has outstanding, or is killed
+  answered_renamed : (p : Image) (n : ℕ) (c : Option Cell) (code : ℤ) (s : State) → answered_by p n (option_map (renamed_cell names) c) code (renamed names s) ≡ renamed_outcome names (answered_by p n c code s)
+  answered_renamed p n None code s = refl
+  answered_renamed p n (Some c) code s =
+      let needs = (is_outstanding_at p n c, CompletedTwice) ∷ [] in
+      ap (λ cs. guarded needs (past_native n (record (renamed names s) { cells = cs }))) (request_renamed (completed_with (recorded code)) c.object s.cells)
+      ∙ guarded_renamed names needs (past_native n (record s { cells = with_request (completed_with (recorded code)) c.object s.cells }))
 
-  pub turns_so : (p : Image) (outside : Outside) (s : State) → turn p outside (renamed names s) ≡ renamed_outcome names (turn p outside s)
-  turns_so p outside s = ap (turned p (renamed names s)) (turning_renamed names outside s) ∙ turned_renamed p s (turning outside s)
+  polled_renamed : (p : Image) (n : ℕ) (answer : Option Completion) (s : State) → polled p n answer (renamed names s) ≡ renamed_outcome names (polled p n answer s)
+  polled_renamed p n None s = refl
+  polled_renamed p n (Some a) s = ap (λ c. answered_by p n c a.code (renamed names s)) (cell_at_renamed names s.cells a.cell) ∙ answered_renamed p n (cell_at s.cells a.cell) a.code s
+
+  bereaved_renamed : (p : Image) (n : ℕ) (cs : List Cell) → all_bereaved p n (renamed_cells names cs) ≡ renamed_cells names (all_bereaved p n cs)
+  bereaved_renamed p n cs = each_renamed names (bereaved p n) (λ c. refl) cs
+
+  turned_renamed : (p : Image) (s : State) (t : Turning) → turned p (renamed names s) (renamed_turning names t) ≡ renamed_outcome names (turned p s t)
+  turned_renamed p s (Completes o) = rw (request_renamed timed_out o s.cells)
+  turned_renamed p s (Kills n) = rw (bereaved_renamed p n s.cells)
+  turned_renamed p s (Polls n answer) = polled_renamed p n answer s
+  turned_renamed p s (Picks x) = dispatched_renamed (part_of p Handles x.object.thing) x s
+  turned_renamed p s _ = refl
+
+  pub turns_so : (p : Image) (outside : Outside) (answer : Option Completion) (s : State) → turn p outside answer (renamed names s) ≡ renamed_outcome names (turn p outside answer s)
+  turns_so p outside answer s = ap (turned p (renamed names s)) (turning_renamed names outside answer s) ∙ turned_renamed p s (turning outside answer s)
 
   -- ---- what it writes
 
@@ -140,4 +190,4 @@ module _ (names : ℕ → ℕ) (one_to_one : IsOneToOne names) where
   by_kept s _ = refl
 
   pub writes_turn_so : (outside : Outside) (s : State) → written_turn outside (renamed names s) ≡ written_turn outside s
-  writes_turn_so outside s = ap (written_by (renamed names s)) (turning_renamed names outside s) ∙ by_kept s (turning outside s)
+  writes_turn_so outside s = ap (written_by (renamed names s)) (turning_renamed names outside None s) ∙ by_kept s (turning outside None s)

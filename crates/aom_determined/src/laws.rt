@@ -1,5 +1,5 @@
 //! The laws, each as the contract of a function that does nothing.
-ghost use Rattle.aom_determined.specs.Laws.{NamesMeanNothing, MovesStayAlike, TextIsDetermined};
+ghost use Rattle.aom_determined.specs.Laws.{MovesStayAlike, NamesMeanNothing, NothingIsHeard, TextIsDetermined, TurnsStayAlike};
 
 /// A state moves under other names as it moves under its own, and writes the same; so it does with a turn between dispatches.
 pub fn names_mean_nothing()
@@ -11,7 +11,17 @@ pub fn moves_stay_alike()
     ensures { MovesStayAlike }
 {}
 
-/// Two runs of one image write one text and end alike, whatever names their cells have.
+/// So they do with a turn, where a native that is polled completes the same for both.
+pub fn turns_stay_alike()
+    ensures { TurnsStayAlike }
+{}
+
+/// Two runs of one image that hear the same of natives write one text and end alike, whatever names their cells have.
 pub fn text_is_determined()
     ensures { TextIsDetermined }
+{}
+
+/// Where no native serves a class of the image, all its runs hear the same of natives.
+pub fn nothing_is_heard()
+    ensures { NothingIsHeard }
 {}

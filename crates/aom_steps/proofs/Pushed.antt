@@ -10,6 +10,8 @@ use Rattle.aom_prices.specs.Prices.{Prices}
 use Rattle.aom_steps.specs.Left.{due, is_entry, objects_left, operations_left}
 use Rattle.aom_image.proofs.Given.{false_given}
 use Rattle.aom_sound.specs.Natives.{resessioned}
+use Rattle.aom_sound.proofs.Storing.{reset}
+use Rattle.std.specs.Prelude.{map}
 
 pub field_no_entry : (h : Home) (f : ℕ) → is_entry (field_place h f) ≡ false
 field_no_entry Static f = refl
@@ -118,6 +120,11 @@ module _ (c : Prices) where
   resessioned_same cs Static b = refl
   resessioned_same cs AtRoot b = refl
   resessioned_same cs (Inside o from) b = opened_same o.name b cs
+
+  -- each cell has another request and another session
+  pub reset_same : (f : Cell → Option Request) (g : Cell → Bool) (cs : List Cell) → objects_left c (map (reset f g) cs) ≡ objects_left c cs
+  reset_same f g [] = refl
+  reset_same f g (x ∷ cs) = ap (λ y. due c x.owner x.object + y) (reset_same f g cs)
 
   -- ---- items
 

@@ -6,23 +6,23 @@ use Rattle.aom_image.specs.declared.method.Role.TheVariants.{Error, Run as Handl
 use Rattle.aom_image.specs.declared.method.Thing.{Thing}
 use Rattle.aom_image.specs.declared.method.Thing.TheVariants.{Message, Object as An_object_of}
 use Rattle.aom_rules.specs.Typing.{Typing}
+use Rattle.aom_sound.proofs.Guarded.{goes_same}
+use Rattle.aom_sound.proofs.Turned.{Polled, answers, nothing, polled_so}
 use Rattle.aom_sound.specs.Claims.{Layer, forms, items_of, tasks_of}
 use Rattle.aom_sound.specs.Counting.{starts}
-use Rattle.aom_sound.specs.Enlisted.{on_request, part_of, taken_up, timed_out}
-use Rattle.aom_sound.specs.Places.{requested}
-use Rattle.aom_sound.specs.State.{Goes, Seat, State}
+use Rattle.aom_sound.specs.Enlisted.{completed_with, on_request, part_of, recorded, taken_up, timed_out}
+use Rattle.aom_sound.specs.Natives.{all_bereaved, bereaved}
+use Rattle.aom_sound.specs.Places.{Cell, Object, Request, requested}
+use Rattle.aom_sound.specs.State.{Goes, Rest, Seat, State}
 use Rattle.aom_sound.specs.WellTyped.{Good, WellTyped}
-use Rattle.aom_sound.specs.World.{Completes, Cuts, Passes, Picks, Turning, Waits, dispatched, turned, turning}
+use Rattle.aom_sound.specs.World.{Completes, Cuts, Hears, Kills, Passes, Picks, Polls, Turning, Waits, dispatched, heard_one, past_native, turned, turning, with_request, without_native}
 use Rattle.aom_prices.specs.Prices.{Prices, perhaps_price, price}
 use Rattle.aom_steps.specs.Laws.{TurnsPay}
 use Rattle.aom_steps.specs.Left.{left, objects_left, operations_left, tasks_left}
 use Rattle.aom_steps.specs.Payers.{class_of, payer, price_of}
 use Rattle.aom_steps.proofs.Emptied.{none_at_hand}
 use Rattle.aom_steps.proofs.Paying.{fresh_rounds}
-use Rattle.aom_steps.proofs.Pushed.{asked_same}
-
-goes_same : (s u : State) → Goes s ≡ Goes u → s ≡ u
-goes_same s u e = cc
+use Rattle.aom_steps.proofs.Pushed.{asked_same, reset_same}
 
 -- ---- a turn that dispatches no object
 
@@ -33,10 +33,29 @@ module _ (p : Image) (c : Prices) (s : State) (idle : s.tasks ≡ []) where
   passed : (u v : State) → Goes v ≡ Goes u → Passed v → Passed u
   passed u v e h = subst Passed (goes_same v u e) h
 
+  -- other cells, of which as much is left
+  with_cells : (cs : List Cell) (r : Rest) → objects_left c cs ≡ objects_left c s.cells → Passed (record s { cells = cs; rest = r })
+  with_cells cs r same = (idle, ap (λ n. tasks_left p c s.tasks + (n + operations_left c s.items)) same)
+
+  completed : (f : Request → Request) (o : Object) (r : Rest) → Passed (record s { cells = with_request f o s.cells; rest = r })
+  completed f o r = with_cells (with_request f o s.cells) r (asked_same c o.name (on_request f (requested s.cells o.name)) s.cells)
+
+  polling : (u : State) (n : ℕ) → Polled n s u → Passed u
+  polling u n d = elim d as (λ v d. Passed v) [
+    | nothing ↦ (idle, refl)
+    | answers o code ↦ completed (completed_with (recorded code)) o (past_native n s).rest
+  ]
+
+  killing : (n : ℕ) → Passed (without_native p n (heard_one s))
+  killing n = with_cells (all_bereaved p n s.cells) (heard_one s).rest (reset_same c (λ x. (bereaved p n x).request) (λ x. (bereaved p n x).session) s.cells)
+
   passing : (x : Turning) → starts x ≡ false → (u : State) → turned p s x ≡ Goes u → Passed u
   passing Cuts f u e = passed u _ e (idle, refl)
-  passing (Completes o) f u e = passed u _ e (idle, ap (λ n. tasks_left p c s.tasks + (n + operations_left c s.items)) (asked_same c o.name (on_request timed_out (requested s.cells o.name)) s.cells))
-  passing (Passes due) f u e = passed u _ e (idle, refl)
+  passing (Completes o) f u e = passed u _ e (completed timed_out o s.rest)
+  passing Hears f u e = passed u _ e (idle, refl)
+  passing (Kills n) f u e = passed u _ e (killing n)
+  passing (Polls n answer) f u e = polling u n (polled_so p s u n answer e)
+  passing (Passes time) f u e = passed u _ e (idle, refl)
   passing Waits f u e = passed u _ e (idle, refl)
   passing _ f u e = cc
 
@@ -70,6 +89,6 @@ picking p t c s w idle _ f u e = cc
 
 pub turns_pay : TurnsPay
 turns_pay = record {
-  begins = λ p t c outside s u w idle e f. picking p t c s w idle (turning outside s) f u e;
-  passes = λ p c outside s u idle e f. passing p c s idle (turning outside s) f u e;
+  begins = λ p t c outside answer s u w idle e f. picking p t c s w idle (turning outside answer s) f u e;
+  passes = λ p c outside answer s u idle e f. passing p c s idle (turning outside answer s) f u e;
 }

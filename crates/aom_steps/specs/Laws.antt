@@ -1,5 +1,5 @@
 -- The laws of steps.
-use Rattle.std.specs.Prelude.{ℕ, true, false, cond, ◌+◌, ◌≤◌, ◌<◌, ◌≡◌, List, [], Some, None}
+use Rattle.std.specs.Prelude.{ℕ, true, false, cond, ◌+◌, ◌≤◌, ◌<◌, ◌≡◌, List, [], Option, Some, None}
 use Rattle.aom_image.specs.Image.{Image}
 use Rattle.aom_image.specs.WellFormed.{WellFormed}
 use Rattle.aom_classes.specs.Linked.{IsLinked}
@@ -8,7 +8,7 @@ use Rattle.aom_sound.specs.Counting.{restarts, starts, steps_of, taken}
 use Rattle.aom_sound.specs.Moves.{step}
 use Rattle.aom_sound.specs.State.{State, Choice, Goes}
 use Rattle.aom_sound.specs.WellTyped.{WellTyped}
-use Rattle.aom_sound.specs.World.{boot_state, Reaches, Outside, turn, turning}
+use Rattle.aom_sound.specs.World.{boot_state, Completion, Reaches, Outside, turn, turning}
 use Rattle.aom_transcript.specs.declared.line.Line.{Line}
 use Rattle.aom_prices.specs.Dispatches.{IsAffordable, main_price}
 use Rattle.aom_prices.specs.Layers.{ArePricesUpTo}
@@ -35,14 +35,14 @@ pub record MovesPay : Type 0 where
       (p : Image) (t : Typing) (c : Prices) → IsLinked p → IsTyped p t → IsPriced p t c → (ch : Choice) (s u : State) → WellTyped p t s → step p ch s ≡ Goes u →
       (n : ℕ) → (restarts p s.tasks ≡ true → main_price p c ≤ n) → WithinBudget p c n s → WithinBudget p c n u
 
--- a turn that dispatches an object begins with the price of its class, and any other costs nothing
+-- a turn that dispatches an object begins with the price of its class, and any other costs nothing: whatever comes from outside, and whatever a native completes
 pub record TurnsPay : Type 0 where
   pub begins :
-      (p : Image) (t : Typing) (c : Prices) (outside : Outside) (s u : State) → WellTyped p t s → s.tasks ≡ [] → turn p outside s ≡ Goes u →
-      starts (turning outside s) ≡ true → left p c u ≤ price_of p c (payer u.tasks)
+      (p : Image) (t : Typing) (c : Prices) (outside : Outside) (answer : Option Completion) (s u : State) → WellTyped p t s → s.tasks ≡ [] → turn p outside answer s ≡ Goes u →
+      starts (turning outside answer s) ≡ true → left p c u ≤ price_of p c (payer u.tasks)
   pub passes :
-      (p : Image) (c : Prices) (outside : Outside) (s u : State) → s.tasks ≡ [] → turn p outside s ≡ Goes u →
-      starts (turning outside s) ≡ false → (u.tasks ≡ []) × (left p c u ≡ left p c s)
+      (p : Image) (c : Prices) (outside : Outside) (answer : Option Completion) (s u : State) → s.tasks ≡ [] → turn p outside answer s ≡ Goes u →
+      starts (turning outside answer s) ≡ false → (u.tasks ≡ []) × (left p c u ≡ left p c s)
 
 -- no dispatch in a run of the image has taken more steps than its payer declares, main or the class of an object, and what is counted is what was taken
 pub record KeepsBudget (p : Image) (outside : Outside) : Type 0 where
