@@ -1,5 +1,5 @@
 -- What a native answers counts only where it is heard.
-use Rattle.std.proofs.Common.{List, None, Option, Some, [], ap, false, refl, ℕ, ℤ, ◌∷◌, ◌≡◌, IsTrue}
+use Rattle.std.proofs.Common.{List, None, Option, Some, [], absurd, ap, arith, false, refl, ℕ, ℤ, ◌∷◌, ◌≡◌}
 use Rattle.aom_image.specs.Image.{Image}
 use Rattle.aom_image.specs.Views.{instr_at, class_at}
 use Rattle.aom_image.specs.declared.class.ClassKind.{ClassKind}
@@ -19,11 +19,10 @@ use Rattle.aom_determined.proofs.Needs.{kind_kept}
 use Rattle.aom_determined.specs.Hearing.{HasNoNative, hears, is_heard}
 use Rattle.aom_determined.specs.Names.{renamed_tasks}
 use Rattle.aom_image.specs.declared.method.Thing.{Thing}
-use Rattle.std.specs.Prelude.{IfSome, slice_get}
-use Rattle.std.specs.List.{list_all}
+use Rattle.std.specs.Prelude.{length, slice_get}
 use Rattle.aom_image.specs.declared.class.ClassDecl.{ClassDecl}
-use Rattle.aom_classes.proofs.Each.{both}
-use Rattle.aom_classes.specs.Admitted.{IsAdmitted, admits_class, admits_thing, admits_kind}
+use Rattle.aom_classes.proofs.Facts.{all_there}
+use Rattle.aom_image.specs.WellFormed.{ClassFits, KindFits, WellFormed}
 use Rattle.aom_roles.specs.Classes.{kind_in}
 use Rattle.aom_roles.specs.Shapes.{kind_of}
 
@@ -81,21 +80,23 @@ module _ (p : Image) (natives : HasNoNative p) where
   none_heard (Run fr ∷ ts) = none_hears (home_kind p fr.home) (instr_at p fr.method fr.place) (home_unserved fr.home)
   none_heard _ = refl
 
--- no class of an image that is admitted so far has a native
-kind_unserved : (k : ClassKind) → IsTrue (admits_kind k) → is_native_kind (Some k) ≡ false
-unfolding admits_kind
-kind_unserved (An_active (Native n) budget) h = cc
-kind_unserved _ h = refl
-
-class_unserved : (o : Option ClassDecl) → IfSome o (λ d. IsTrue (admits_class d)) → is_native_kind (kind_in o) ≡ false
-unfolding kind_in admits_class
-class_unserved None h = refl
-class_unserved (Some d) h = kind_unserved d.kind (both (admits_kind d.kind) (list_all admits_thing d.fields) h).0
-
-pub admitted_unserved : (p : Image) → IsAdmitted p → HasNoNative p
-unfolding kind_of class_at
-admitted_unserved p admitted = record { none = go }
+-- a class of an image without natives has none
+class_unserved : (p : Image) (c : ClassDecl) → p.header.natives ≡ 0 → ClassFits (length p.classes) p.header.natives c → is_native_kind (Some c.kind) ≡ false
+class_unserved p c none fits = go c.kind fits.kind
   where
+    go : (k : ClassKind) → KindFits (length p.classes) p.header.natives k → is_native_kind (Some k) ≡ false
+    go (An_active (Native n) budget) h = let some = h.0 in absurd (omega (arith, some, none))
+    go _ h = refl
+
+pub unnamed_unserved : (p : Image) → WellFormed p → p.header.natives ≡ 0 → HasNoNative p
+unfolding kind_of kind_in class_at
+unnamed_unserved p formed none = record { none = go }
+  where
+    there : (o : Option ClassDecl) (c : ℕ) → slice_get p.classes c ≡ o → is_native_kind (kind_in o) ≡ false
+    unfolding kind_in
+    there None c is = refl
+    there (Some d) c is = class_unserved p d none (all_there (ClassFits (length p.classes) p.header.natives) p.classes c d formed.classes is)
+
     go : (class : Option ℕ) → is_native_kind (kind_of p class) ≡ false
     go None = refl
-    go (Some c) = class_unserved (slice_get p.classes c) (admitted.classes c)
+    go (Some c) = there (slice_get p.classes c) c refl

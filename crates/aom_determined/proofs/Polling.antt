@@ -17,7 +17,7 @@ use Rattle.aom_transcript.specs.declared.event.Event.TheVariants.{Kill, Tell}
 use Rattle.aom_transcript.specs.declared.event.TimedEvent.{TimedEvent}
 use Rattle.aom_transcript.specs.declared.line.Line.{Line}
 use Rattle.aom_determined.proofs.Cells.{cond_applied}
-use Rattle.aom_determined.proofs.Hearing.{none_heard, thing_unserved}
+use Rattle.aom_determined.proofs.Hearing.{none_heard, thing_unserved, unnamed_unserved}
 use Rattle.aom_determined.specs.Hearing.{Follows, HasNoNative, Oracle, is_heard, is_polling, stages}
 use Rattle.aom_determined.specs.Laws.{NothingIsHeard}
 
@@ -146,6 +146,7 @@ module _ (p : Image) (natives : HasNoNative p) where
 
 pub nothing_is_heard : NothingIsHeard
 nothing_is_heard = record {
+  unnamed = unnamed_unserved;
   without = λ p outside natives none oracle from lines s reached. without p natives outside oracle none reached;
   idle = λ p outside natives oracle nothing from lines s reached. idle p natives outside oracle nothing reached;
 }

@@ -1,6 +1,7 @@
 -- The laws of names, and that the text of a run is determined.
 use Rattle.std.specs.Prelude.{ℕ, true, ◌≡◌, ◌⊎◌, List, ◌++◌, Option, None}
 use Rattle.aom_image.specs.Image.{Image}
+use Rattle.aom_image.specs.WellFormed.{WellFormed}
 use Rattle.aom_rules.specs.Typing.{Typing, IsTyped}
 use Rattle.aom_sound.specs.State.{State, Choice}
 use Rattle.aom_sound.specs.Moves.{step, written, IsOpen}
@@ -60,6 +61,8 @@ TextIsDetermined = (p : Image) (t : Typing) (outside : Outside) → IsWired p �
 
 -- of any run of an image with no native that serves a class of it: what is heard of natives changes nothing
 pub record NothingIsHeard : Type 0 where
+  -- such is an image that names none
+  pub unnamed : (p : Image) → WellFormed p → p.header.natives ≡ 0 → HasNoNative p
   -- where there is no native it follows whatever an oracle says
   pub without :
       (p : Image) (outside : Outside) → HasNoNative p → outside.natives ≡ 0 →
