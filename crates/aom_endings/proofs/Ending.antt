@@ -1,0 +1,225 @@
+-- A run can always be brought to an end: each move lowers the rank, turns take of what is left, and there are only so many dispatches of objects.
+use Rattle.std.proofs.Common.{◌≡◌, ℕ, zero, suc, ◌+◌, ◌-◌, ◌^◌, ◌<◌, ◌≤◌, ◌==◌, Bool, true, false, List, [], ◌∷◌, ◌++◌, Option, Some, None, ap, refl, sym, subst, cond, ◌∙◌, arith, append-nil, append_assoc, length, pos}
+use Rattle.std.specs.Prelude.{is_some, nat_le}
+use Rattle.std.proofs.lemmas.Bool.{ne_eqb}
+use Rattle.aom_image.specs.Image.{Image}
+use Rattle.aom_classes.specs.Linked.{IsLinked}
+use Rattle.aom_rules.specs.Typing.{Typing, IsTyped}
+use Rattle.aom_sound.proofs.Guarded.{goes_same}
+use Rattle.aom_sound.proofs.Steps.{step_keeps}
+use Rattle.aom_sound.proofs.Turning.{turn_goes_on}
+use Rattle.aom_sound.specs.Laws.{IsWired}
+use Rattle.aom_sound.specs.Places.{Cell, named}
+use Rattle.aom_sound.specs.State.{Rest, Task, State, Choice, Goes}
+use Rattle.aom_sound.specs.Moves.{step, written, is_refused, IsOpen}
+use Rattle.aom_sound.specs.WellTyped.{WellTyped}
+use Rattle.aom_sound.proofs.Turned.{answers, nothing, polled_rest, polled_so}
+use Rattle.aom_sound.specs.Enlisted.{recorded}
+use Rattle.aom_sound.specs.World.{AnswersWell, boot_state, Candidate, Completes, Completion, Cuts, Hears, Kills, Outside, Reaches, Timed, Turning, by_event, by_timer, delivers, first_due, first_ready, has_signal, lives, moves, next_event, next_native, next_time, picks, polled, polls, turn, turned, turning, turns, Run_of, IsBusy, written_turn, IsBetween}
+use Rattle.aom_transcript.specs.declared.event.Event.{Event}
+use Rattle.aom_transcript.specs.declared.event.Event.TheVariants.{Kill, Tell}
+use Rattle.aom_transcript.specs.declared.event.TimedEvent.{TimedEvent}
+use Rattle.aom_transcript.specs.declared.line.Line.{Line}
+use Rattle.aom_transcript.specs.declared.line.Ending.{Ending}
+use Rattle.aom_transcript.specs.declared.line.Ending.TheVariants.{Limit, Waiting}
+use Rattle.aom_ranks.specs.Ranks.{rank}
+use Rattle.aom_ranks.proofs.Ranking.{moves_lower_ranks}
+use Rattle.aom_ranks.proofs.Arriving.{leads_on}
+use Rattle.aom_endings.proofs.Sorts.{Kind, completes_one, cuts, hears_one, kills_one, kind_of, passes_on, picks_one, polls_one, strays, waits}
+use Rattle.aom_endings.proofs.Lefts.{bereaved_no_more, completed_fewer, completed_no_more, event_there, events_left, fewer_left, later_left, left, natives_left, no_more_left, passed_late, timers_in}
+use Rattle.aom_endings.proofs.Spending.{moved_spares, picked_spares}
+use Rattle.aom_endings.specs.Endings.{CanEnd, RunsCanEnd, one_where, spare}
+use Rattle.aom_steps.specs.Payers.{payer}
+
+-- a number above all names
+top : List Cell → ℕ
+top [] = 0
+top (c ∷ cs) = c.object.name + 1 + top cs
+
+above : (cs : List Cell) (n : ℕ) → top cs ≤ n → named cs n ≡ None
+unfolding top
+above [] n h = refl
+above (c ∷ cs) n h =
+    let other : (c.object.name == n) ≡ false = ne_eqb c.object.name n (λ e. omega arith) in
+    rw other (above cs n (omega arith))
+
+-- a native that is polled may complete nothing
+module _ (p : Image) (outside : Outside) (s : State) where
+  picks_well : (b : Bool) (ready : Option Candidate) (next : Option ℕ) → AnswersWell p s (picks b ready next)
+  picks_well true None next = tt
+  picks_well true (Some x) next = tt
+  picks_well false ready None = tt
+  picks_well false ready (Some time) = tt
+
+  polls_well : (n : Option ℕ) (after : Turning) → AnswersWell p s after → AnswersWell p s (polls n None after)
+  polls_well None after then = then
+  polls_well (Some n) after then = tt
+
+  delivers_well : (event : Event) → AnswersWell p s (delivers outside s event)
+  delivers_well (Tell n word) = tt
+  delivers_well (Kill n) = go (lives outside s n)
+    where
+      go : (b : Bool) → AnswersWell p s (cond b (Kills n) Hears)
+      go true = tt
+      go false = tt
+
+  event_well : (next : Option TimedEvent) (after : Turning) → AnswersWell p s after → AnswersWell p s (by_event outside s next after)
+  event_well None after then = then
+  event_well (Some e) after then = go (nat_le e.time s.rest.clock)
+    where
+      go : (b : Bool) → AnswersWell p s (cond b (delivers outside s e.event) after)
+      go true = delivers_well e.event
+      go false = then
+
+  timer_well : (next : Option Timed) (after : Turning) → AnswersWell p s after → AnswersWell p s (by_timer s next after)
+  timer_well None after then = then
+  timer_well (Some x) after then = go (nat_le x.timer.due s.rest.clock)
+    where
+      go : (b : Bool) → AnswersWell p s (cond b (Completes x.object) after)
+      go true = tt
+      go false = then
+
+  completes_nothing : AnswersWell p s (turning outside None s)
+  completes_nothing = go (nat_le outside.limit s.rest.dispatches)
+    where
+      go : (b : Bool) → AnswersWell p s (cond b Cuts (by_timer s (first_due s.cells) (by_event outside s (next_event outside s) (polls (next_native outside s) None (picks (has_signal s.cells) (first_ready s.cells) (next_time outside s))))))
+      go true = tt
+      go false = timer_well (first_due s.cells) _ (event_well (next_event outside s) _ (polls_well (next_native outside s) _ (picks_well (has_signal s.cells) (first_ready s.cells) (next_time outside s))))
+
+-- a poll starts no timer, and nothing comes to be at hand
+polled_no_more : (p : Image) (s u : State) (n : ℕ) (answer : Option Completion) → polled p n answer s ≡ Goes u → timers_in u.cells ≤ timers_in s.cells
+polled_no_more p s u n answer e = elim (polled_so p s u n answer e) as (λ v d. timers_in v.cells ≤ timers_in s.cells) [
+  | nothing ↦ omega arith
+  | answers o code ↦ completed_no_more (recorded code) s.cells o
+]
+
+polled_tasks : (p : Image) (s u : State) (n : ℕ) (answer : Option Completion) → polled p n answer s ≡ Goes u → u.tasks ≡ s.tasks
+polled_tasks p s u n answer e = elim (polled_so p s u n answer e) as (λ v d. v.tasks ≡ s.tasks) [
+  | nothing ↦ refl
+  | answers o code ↦ refl
+]
+
+module _ (p : Image) (t : Typing) (outside : Outside) (few : outside.limit ≤ 2 ^ 64 - 1) (wired : IsWired p) (linked : IsLinked p) (is_typed : IsTyped p t) where
+  -- an open choice
+  choice : State → Choice
+  choice s = record { name = top s.cells; refused = is_refused p outside.refused s; answer = pos 0 }
+
+  is_open : (s : State) → IsOpen p outside.refused (choice s) s
+  unfolding choice
+  is_open s = record { name = above s.cells (top s.cells) (omega arith); refusal = refl }
+
+  abbrev Reached : List Line → State → Type 0
+  Reached lines s = Reaches p outside (boot_state p) lines s
+
+  -- each run that has come so far can be brought to an end, where there may be fewer dispatches than that
+  abbrev Ends : ℕ → Type 0
+  Ends n = (lines : List Line) (s : State) → spare outside.limit s < n → Reached lines s → WellTyped p t s → CanEnd p outside lines
+
+  -- the run is over: no more lines
+  over : (lines : List Line) (s : State) (ending : Ending) → Reached lines s → s.rest.ended ≡ Some ending → CanEnd p outside lines
+  over lines s ending r e = record { more = []; last = s; ending = ending; run = record { reaches = subst (λ ls. Reached ls s) (sym (append-nil lines)) r; ended = e } }
+
+  -- lines of a move, and then more
+  further : (lines now : List Line) → CanEnd p outside (lines ++ now) → CanEnd p outside lines
+  further lines now c = record { more = now ++ c.more; last = c.last; ending = c.ending; run = subst (λ ls. Run_of p outside ls c.last c.ending) (append_assoc lines now c.more) c.run }
+
+  -- ---- turns
+
+  -- between dispatches, with so little left, and so few natives to poll
+  abbrev Between : ℕ → ℕ → ℕ → Type 0
+  Between n k j = (lines : List Line) (s : State) → left outside s < k → natives_left outside s < j → spare outside.limit s < suc n → Reached lines s → WellTyped p t s → IsBetween s → CanEnd p outside lines
+
+  -- a turn after which nothing is at hand, and the run goes on
+  module _ (s u : State) (tasks : u.tasks ≡ s.tasks) (dispatches : u.rest.dispatches ≡ s.rest.dispatches) (ended : u.rest.ended ≡ s.rest.ended) where
+    still_between : IsBetween s → IsBetween u
+    still_between between = record { idle = tasks ∙ between.idle; going = ended ∙ between.going }
+
+    still_spare : spare outside.limit u ≡ spare outside.limit s
+    still_spare = ap (λ n. outside.limit - (n + one_where (is_some (payer u.tasks)))) dispatches ∙ ap (λ ts. outside.limit - (s.rest.dispatches + one_where (is_some (payer ts)))) tasks
+
+  -- less is left
+  less_left : (n k : ℕ) → ((j : ℕ) → Between n k j) → (lines : List Line) (s u : State) → left outside s ≤ k → left outside u < left outside s → spare outside.limit s < suc n
+      → u.tasks ≡ s.tasks → u.rest.dispatches ≡ s.rest.dispatches → u.rest.ended ≡ s.rest.ended → IsBetween s → Reached lines u → WellTyped p t u → CanEnd p outside lines
+  less_left n k again lines s u most falls spares tasks dispatches ended between r typed =
+      again (suc (natives_left outside u)) lines u (omega (arith, falls, most)) (omega arith) (omega (arith, still_spare s u tasks dispatches ended, spares)) r typed (still_between s u tasks dispatches ended between)
+
+  by_kind : (n k j : ℕ) → Ends n → ((j : ℕ) → Between n k j) → Between n (suc k) j → (lines : List Line) (s : State) → left outside s ≤ k → natives_left outside s ≤ j → spare outside.limit s < suc n → WellTyped p t s → IsBetween s
+      → (x : Turning) → Kind outside s x → (u : State) → turned p s x ≡ Goes u → Reached lines u → WellTyped p t u → CanEnd p outside lines
+  by_kind n k j ends again polling lines s most few_natives spares w between _ cuts u goes r typed = over lines u Limit r (ap (λ (v : State). v.rest.ended) (sym (goes_same _ u goes)))
+  by_kind n k j ends again polling lines s most few_natives spares w between _ waits u goes r typed = over lines u Waiting r (ap (λ (v : State). v.rest.ended) (sym (goes_same _ u goes)))
+  by_kind n k j ends again polling lines s most few_natives spares w between _ strays u goes r typed = cc
+  by_kind n k j ends again polling lines s most few_natives spares w between _ (completes_one x first) u goes r typed =
+      let same = sym (goes_same _ u goes) in
+      let timers = completed_fewer (pos 0) s.cells w.good.tidy x first in
+      let falls = fewer_left outside s u (omega (arith, timers, ap (λ (v : State). timers_in v.cells) same, ap (λ (v : State). events_left outside v) same)) in
+      less_left n k again lines s u most falls spares (ap (λ (v : State). v.tasks) same) (ap (λ (v : State). v.rest.dispatches) same) (ap (λ (v : State). v.rest.ended) same) between r typed
+  by_kind n k j ends again polling lines s most few_natives spares w between _ (hears_one e next) u goes r typed =
+      let same = sym (goes_same _ u goes) in
+      let there = event_there outside.events s.rest.delivered e next in
+      let falls = fewer_left outside s u (omega (arith, there, ap (λ (v : State). timers_in v.cells) same, ap (λ (v : State). v.rest.delivered) same)) in
+      less_left n k again lines s u most falls spares (ap (λ (v : State). v.tasks) same) (ap (λ (v : State). v.rest.dispatches) same) (ap (λ (v : State). v.rest.ended) same) between r typed
+  by_kind n k j ends again polling lines s most few_natives spares w between _ (kills_one e native next) u goes r typed =
+      let same = sym (goes_same _ u goes) in
+      let there = event_there outside.events s.rest.delivered e next in
+      let timers = bereaved_no_more p native s.cells in
+      let falls = fewer_left outside s u (omega (arith, there, timers, ap (λ (v : State). timers_in v.cells) same, ap (λ (v : State). v.rest.delivered) same)) in
+      less_left n k again lines s u most falls spares (ap (λ (v : State). v.tasks) same) (ap (λ (v : State). v.rest.dispatches) same) (ap (λ (v : State). v.rest.ended) same) between r typed
+  by_kind n k j ends again polling lines s most few_natives spares w between _ (passes_on time next early) u goes r typed =
+      let same = sym (goes_same _ u goes) in
+      let late = passed_late outside s u time next (ap (λ (v : State). v.cells) same) (ap (λ (v : State). v.rest.clock) same) (ap (λ (v : State). v.rest.delivered) same) in
+      let falls = later_left outside s u (omega (arith, ap (λ (v : State). timers_in v.cells) same, ap (λ (v : State). v.rest.delivered) same)) early late in
+      less_left n k again lines s u most falls spares (ap (λ (v : State). v.tasks) same) (ap (λ (v : State). v.rest.dispatches) same) (ap (λ (v : State). v.rest.ended) same) between r typed
+  by_kind n k j ends again polling lines s most few_natives spares w between _ (picks_one x below) u goes r typed =
+      let fewer = picked_spares p outside.limit s u x.seat below between.idle goes in
+      ends lines u (omega (arith, fewer, spares)) r typed
+  by_kind n k j ends again polling lines s most few_natives spares w between _ (polls_one native answer from to early) u goes r typed =
+      let rest = polled_rest p s u native answer goes in
+      let timers = polled_no_more p s u native answer goes in
+      let events = ap (λ (x : Rest). length outside.events - x.delivered) rest in
+      let fewer = ap (λ (x : Rest). x.polled) rest in
+      let kept = no_more_left outside s u (omega (arith, timers, events)) early in
+      let tasks = polled_tasks p s u native answer goes in
+      let dispatches = ap (λ (x : Rest). x.dispatches) rest in
+      let ended = ap (λ (x : Rest). x.ended) rest in
+      polling lines u (omega (arith, kept, most)) (omega (arith, fewer, from, to, few_natives)) (omega (arith, still_spare s u tasks dispatches ended, spares)) r typed (still_between s u tasks dispatches ended between)
+
+  by_turns : (n k j : ℕ) → Ends n → Between n k j
+  by_turns n zero j ends lines s less few_natives spares r w between = absurd (omega (arith, less))
+  by_turns n (suc k) zero ends lines s less few_natives spares r w between = absurd (omega (arith, few_natives))
+  by_turns n (suc k) (suc j) ends lines s less few_natives spares r w between =
+      let owed = completes_nothing p outside s in
+      let next = leads_on p t (turn p outside None s) (turn_goes_on p t outside wired is_typed None s w between owed) in
+      further lines (written_turn outside s)
+      (by_kind n k j ends (λ i. by_turns n k i ends) (by_turns n (suc k) j ends) (lines ++ written_turn outside s) s (omega (arith, less)) (omega (arith, few_natives)) spares w between
+      (turning outside None s) (kind_of outside s None) next.0 next.1 (turns None r between owed next.1) next.2)
+
+  -- ---- moves
+
+  by_move : (n k : ℕ) → ((lines : List Line) (s : State) → rank p s < k → spare outside.limit s < n → Reached lines s → WellTyped p t s → CanEnd p outside lines)
+      → (lines : List Line) (s : State) → rank p s ≤ k → spare outside.limit s < n → Reached lines s → WellTyped p t s → IsBusy s → CanEnd p outside lines
+  by_move n k again lines s less spares r w busy =
+      let free = is_open s in
+      let next = leads_on p t (step p (choice s) s) (step_keeps p t wired is_typed (choice s) s w free.name) in
+      let lower = moves_lower_ranks p t linked is_typed (choice s) s next.0 w busy next.1 in
+      let kept = moved_spares p outside.limit few (choice s) s next.0 next.1 in
+      further lines (written p s) (again (lines ++ written p s) next.0 (omega (arith, lower, less)) (omega (arith, kept, spares)) (moves (choice s) r busy free next.1) next.2)
+
+  by_tasks : (n : ℕ) → Ends n → (ts : List Task) (lines : List Line) (s : State) → s.tasks ≡ ts → s.rest.ended ≡ None → spare outside.limit s < suc n → Reached lines s → WellTyped p t s → (IsBusy s → CanEnd p outside lines) → CanEnd p outside lines
+  by_tasks n ends [] lines s none going spares r w busy = by_turns n (suc (left outside s)) (suc (natives_left outside s)) ends lines s (omega arith) (omega arith) spares r w (record { idle = none; going = going })
+  by_tasks n ends (task ∷ tasks) lines s is going spares r w busy = busy (task, tasks, is)
+
+  by_end : (n : ℕ) → Ends n → (e : Option Ending) (lines : List Line) (s : State) → s.rest.ended ≡ e → spare outside.limit s < suc n → Reached lines s → WellTyped p t s → (IsBusy s → CanEnd p outside lines) → CanEnd p outside lines
+  by_end n ends None lines s going spares r w busy = by_tasks n ends s.tasks lines s refl going spares r w busy
+  by_end n ends (Some ending) lines s ended spares r w busy = over lines s ending r ended
+
+  by_moves : (n k : ℕ) → Ends n → (lines : List Line) (s : State) → rank p s < k → spare outside.limit s < suc n → Reached lines s → WellTyped p t s → CanEnd p outside lines
+  by_moves n zero ends lines s less spares r w = absurd (omega (arith, less))
+  by_moves n (suc k) ends lines s less spares r w =
+      by_end n ends s.rest.ended lines s refl spares r w (λ busy. by_move (suc n) k (by_moves n k ends) lines s (omega (arith, less)) spares r w busy)
+
+  ends_all : (n : ℕ) → Ends n
+  ends_all zero lines s spares r w = absurd (omega (arith, spares))
+  ends_all (suc n) lines s spares r w = by_moves n (suc (rank p s)) (ends_all n) lines s (omega arith) spares r w
+
+pub runs_can_end : RunsCanEnd
+runs_can_end p t outside few wired linked is_typed lines s r w = ends_all p t outside few wired linked is_typed (suc (spare outside.limit s)) lines s (omega arith) r w

@@ -1,0 +1,142 @@
+-- What is left between dispatches: timers that run, events to come, natives to poll. Each turn that dispatches nothing takes of it.
+use Rattle.std.proofs.Common.{◌≡◌, ◌<◌, ◌≤◌, ◌+◌, ◌-◌, ◌*◌, ◌==◌, ℕ, zero, suc, ℤ, Bool, true, false, List, [], ◌∷◌, Option, Some, None, ap, arith, cond, length, refl, sym, ◌∙◌}
+use Rattle.std.specs.Prelude.{is_some, map, min, nat_le, not, ◌||◌}
+use Rattle.std.proofs.lemmas.Bool.{le-leb, leb-false, leb-true}
+use Rattle.aom_active.proofs.Dues.{running}
+use Rattle.aom_active.specs.Agrees.{timer_in}
+use Rattle.aom_image.specs.Image.{Image}
+use Rattle.aom_sound.specs.Enlisted.{completed_with, on_request}
+use Rattle.aom_sound.specs.Natives.{all_bereaved, is_dead, is_owed, is_served_by, terminated, terminated_request}
+use Rattle.aom_sound.specs.Places.{Cell, Object, Request, Tidy, requested, set_request}
+use Rattle.aom_sound.specs.State.{State}
+use Rattle.aom_sound.specs.World.{Outside, Timed, due_of, event_at, first_due, first_living, nearer, next_event, next_time, time_of, with_request}
+use Rattle.aom_transcript.specs.declared.event.TimedEvent.{TimedEvent}
+use Rattle.aom_endings.specs.Endings.{one_where}
+use Rattle.aom_endings.proofs.Spending.{one_at_most}
+
+-- ---- the timers that run
+
+abbrev timed : Option Request → ℕ
+timed r = one_where (is_some (timer_in r))
+
+abbrev pub timers_in : List Cell → ℕ
+timers_in [] = 0
+timers_in (c ∷ cs) = timed c.request + timers_in cs
+
+without_more : (cs : List Cell) (n : ℕ) (r : Option Request) → timer_in r ≡ None → timers_in (set_request n r cs) ≤ timers_in cs
+without_more [] n r none = omega arith
+without_more (c ∷ cs) n r none = go (c.object.name == n) (without_more cs n r none)
+  where
+    go : (b : Bool) → timers_in (set_request n r cs) ≤ timers_in cs → timed (cond b r c.request) + timers_in (set_request n r cs) ≤ timed c.request + timers_in cs
+    go true rest = omega (arith, rest, ap (λ t. one_where (is_some t)) none)
+    go false rest = omega (arith, rest)
+
+one_fewer : (cs : List Cell) (n : ℕ) (r : Option Request) → timer_in r ≡ None → is_some (timer_in (requested cs n)) ≡ true → timers_in (set_request n r cs) < timers_in cs
+one_fewer [] n r none runs = cc
+one_fewer (c ∷ cs) n r none runs = go (c.object.name == n) runs (without_more cs n r none) (λ it. one_fewer cs n r none it)
+  where
+    go : (b : Bool) → is_some (timer_in (cond b c.request (requested cs n))) ≡ true → timers_in (set_request n r cs) ≤ timers_in cs
+        → (is_some (timer_in (requested cs n)) ≡ true → timers_in (set_request n r cs) < timers_in cs) → timed (cond b r c.request) + timers_in (set_request n r cs) < timed c.request + timers_in cs
+    go true it rest later = omega (arith, rest, ap (λ t. one_where (is_some t)) none, ap one_where it)
+    go false it rest later = omega (arith, later it)
+
+completed_none : (code : ℤ) (r : Option Request) → timer_in (on_request (completed_with code) r) ≡ None
+completed_none code None = refl
+completed_none code (Some r) = refl
+
+pub completed_fewer : (code : ℤ) (cs : List Cell) → Tidy cs → (x : Timed) → first_due cs ≡ Some x → timers_in (with_request (completed_with code) x.object cs) < timers_in cs
+completed_fewer code cs tidy x first =
+    let r = running cs tidy x first in
+    one_fewer cs x.object.name (on_request (completed_with code) (requested cs x.object.name)) (completed_none code (requested cs x.object.name)) (ap is_some r.runs)
+
+pub completed_no_more : (code : ℤ) (cs : List Cell) (o : Object) → timers_in (with_request (completed_with code) o cs) ≤ timers_in cs
+completed_no_more code cs o = without_more cs o.name (on_request (completed_with code) (requested cs o.name)) (completed_none code (requested cs o.name))
+
+-- a kill starts none
+ended_timed : (served : Bool) (r : Option Request) → timed (cond served (terminated_request r) r) ≤ timed r
+ended_timed false r = omega arith
+ended_timed true r = go (is_owed r)
+  where
+    go : (b : Bool) → timed (cond b (on_request (completed_with terminated) r) r) ≤ timed r
+    go true = omega (arith, ap (λ t. one_where (is_some t)) (completed_none terminated r))
+    go false = omega arith
+
+pub bereaved_no_more : (p : Image) (n : ℕ) (cs : List Cell) → timers_in (all_bereaved p n cs) ≤ timers_in cs
+bereaved_no_more p n [] = omega arith
+bereaved_no_more p n (c ∷ cs) = omega (arith, ended_timed (is_served_by p n c.object.thing) c.request, bereaved_no_more p n cs)
+
+-- ---- what has come by a time
+
+abbrev pub reached : Option ℕ → ℕ → Bool
+reached None now = false
+reached (Some time) now = nat_le time now
+
+-- a timer is due, or an event has come
+abbrev pub is_late : Outside → State → Bool
+is_late outside s = reached (due_of (first_due s.cells)) s.rest.clock || reached (time_of (next_event outside s)) s.rest.clock
+
+pub early_both : (outside : Outside) (s : State) → reached (due_of (first_due s.cells)) s.rest.clock ≡ false → reached (time_of (next_event outside s)) s.rest.clock ≡ false → is_late outside s ≡ false
+early_both outside s timer event = ap (λ b. b || reached (time_of (next_event outside s)) s.rest.clock) timer ∙ event
+
+-- the nearer of two times has come by then
+nearer_reached : (a b : Option ℕ) (time : ℕ) → nearer a b ≡ Some time → (reached a time || reached b time) ≡ true
+nearer_reached None None time e = cc
+nearer_reached None (Some b) time e = let same : b ≡ time = cc in le-leb b time (omega (arith, same))
+nearer_reached (Some a) None time e = let same : a ≡ time = cc in ap (λ x. x || false) (le-leb a time (omega (arith, same)))
+nearer_reached (Some a) (Some b) time e = let same : min a b ≡ time = cc in go (nat_le a b) refl same
+  where
+    or_true : (x : Bool) → (x || true) ≡ true
+    or_true true = refl
+    or_true false = refl
+
+    go : (x : Bool) → nat_le a b ≡ x → min a b ≡ time → (nat_le a time || nat_le b time) ≡ true
+    go true is same = ap (λ y. y || nat_le b time) (le-leb a time (omega (arith, leb-true a b is, same)))
+    go false is same = ap (λ y. nat_le a time || y) (le-leb b time (omega (arith, leb-false a b is, same))) ∙ or_true (nat_le a time)
+
+pub passed_late : (outside : Outside) (s u : State) (time : ℕ) → next_time outside s ≡ Some time → u.cells ≡ s.cells → u.rest.clock ≡ time → u.rest.delivered ≡ s.rest.delivered → is_late outside u ≡ true
+passed_late outside s u time next cells clock delivered =
+    ap (λ cs. reached (due_of (first_due cs)) u.rest.clock || reached (time_of (event_at outside.events u.rest.delivered)) u.rest.clock) cells
+    ∙ ap (λ k. reached (due_of (first_due s.cells)) u.rest.clock || reached (time_of (event_at outside.events k)) u.rest.clock) delivered
+    ∙ ap (λ now. reached (due_of (first_due s.cells)) now || reached (time_of (next_event outside s)) now) clock
+    ∙ nearer_reached (due_of (first_due s.cells)) (time_of (next_event outside s)) time next
+
+-- ---- events and natives
+
+pub event_there : (es : List TimedEvent) (k : ℕ) (e : TimedEvent) → event_at es k ≡ Some e → k < length es
+event_there [] k e is = cc
+event_there (x ∷ es) zero e is = omega arith
+event_there (x ∷ es) (suc k) e is = omega (arith, event_there es k e is)
+
+pub living_within : (killed : List ℕ) (many n k : ℕ) → first_living killed many n ≡ Some k → (n ≤ k) × (k < n + many)
+living_within killed zero n k e = cc
+living_within killed (suc many) n k e = go (is_dead killed n) (living_within killed many (suc n) k) e
+  where
+    go : (b : Bool) → (first_living killed many (suc n) ≡ Some k → (suc n ≤ k) × (k < suc n + many)) → cond b (first_living killed many (suc n)) (Some n) ≡ Some k → (n ≤ k) × (k < n + suc many)
+    go true later e =
+        let rest = later e in
+        let from = rest.0 in
+        let to = rest.1 in
+        (omega (arith, from), omega (arith, to))
+    go false later e = let same : n ≡ k = cc in (omega (arith, same), omega (arith, same))
+
+-- ---- how many turns there may be before time has passed for all, and before it passes
+
+abbrev pub events_left : Outside → State → ℕ
+events_left outside s = length outside.events - s.rest.delivered
+
+abbrev pub natives_left : Outside → State → ℕ
+natives_left outside s = outside.natives - s.rest.polled
+
+abbrev pub left : Outside → State → ℕ
+left outside s = 2 * (timers_in s.cells + events_left outside s) + one_where (not (is_late outside s))
+
+-- fewer timers or events
+pub fewer_left : (outside : Outside) (s u : State) → timers_in u.cells + events_left outside u < timers_in s.cells + events_left outside s → left outside u < left outside s
+fewer_left outside s u fewer = omega (arith, fewer, one_at_most (not (is_late outside u)))
+
+-- or as many, and time has come where it had not
+pub later_left : (outside : Outside) (s u : State) → timers_in u.cells + events_left outside u ≤ timers_in s.cells + events_left outside s → is_late outside s ≡ false → is_late outside u ≡ true → left outside u < left outside s
+later_left outside s u same early late = omega (arith, same, ap (λ b. one_where (not b)) early, ap (λ b. one_where (not b)) late)
+
+pub no_more_left : (outside : Outside) (s u : State) → timers_in u.cells + events_left outside u ≤ timers_in s.cells + events_left outside s → is_late outside s ≡ false → left outside u ≤ left outside s
+no_more_left outside s u same early = omega (arith, same, ap (λ b. one_where (not b)) early, one_at_most (not (is_late outside u)))

@@ -1,0 +1,4 @@
+mod Spending
+mod Lefts
+mod Sorts
+mod Ending

@@ -1,0 +1,77 @@
+-- What a turn is, by what is due, what has come, what is left to poll and what is ready.
+use Rattle.std.proofs.Common.{◌≡◌, ◌<◌, ◌≤◌, ◌-◌, ◌+◌, ℕ, Bool, true, false, Option, Some, None, ap, arith, cond, refl, sym, subst, ◌∙◌}
+use Rattle.std.specs.Prelude.{nat_le}
+use Rattle.std.proofs.lemmas.Bool.{leb-false}
+use Rattle.aom_sound.specs.State.{State}
+use Rattle.aom_sound.specs.World.{Candidate, Completes, Completion, Cuts, Hears, Kills, Outside, Passes, Picks, Polls, Strays, Timed, Turning, Waits, by_event, by_timer, delivers, due_of, first_due, first_ready, has_signal, lives, next_event, next_native, next_time, picks, polls, time_of, turning}
+use Rattle.aom_transcript.specs.declared.event.Event.{Event}
+use Rattle.aom_transcript.specs.declared.event.Event.TheVariants.{Kill, Tell}
+use Rattle.aom_transcript.specs.declared.event.TimedEvent.{TimedEvent}
+use Rattle.aom_endings.proofs.Lefts.{early_both, is_late, living_within, reached}
+
+pub data Kind (outside : Outside) (s : State) : Turning → Type 0 where
+  cuts : Kind outside s Cuts
+  completes_one : (x : Timed) → first_due s.cells ≡ Some x → Kind outside s (Completes x.object)
+  hears_one : (e : TimedEvent) → next_event outside s ≡ Some e → Kind outside s Hears
+  kills_one : (e : TimedEvent) (n : ℕ) → next_event outside s ≡ Some e → Kind outside s (Kills n)
+  polls_one : (n : ℕ) (answer : Option Completion) → s.rest.polled ≤ n → n < s.rest.polled + (outside.natives - s.rest.polled) → is_late outside s ≡ false → Kind outside s (Polls n answer)
+  picks_one : (x : Candidate) → s.rest.dispatches < outside.limit → Kind outside s (Picks x.seat)
+  strays : Kind outside s Strays
+  passes_on : (time : ℕ) → next_time outside s ≡ Some time → is_late outside s ≡ false → Kind outside s (Passes time)
+  waits : Kind outside s Waits
+
+module _ (outside : Outside) (s : State) where
+  -- of what waits, whether it has come
+  abbrev timer_early : Type 0
+  timer_early = reached (due_of (first_due s.cells)) s.rest.clock ≡ false
+
+  abbrev event_early : Type 0
+  event_early = reached (time_of (next_event outside s)) s.rest.clock ≡ false
+
+  picks_kind : (b : Bool) (ready : Option Candidate) (next : Option ℕ) → s.rest.dispatches < outside.limit → next_time outside s ≡ next → is_late outside s ≡ false → Kind outside s (picks b ready next)
+  picks_kind true None next below is early = strays
+  picks_kind true (Some x) next below is early = picks_one x below
+  picks_kind false ready None below is early = waits
+  picks_kind false ready (Some time) below is early = passes_on time is early
+
+  polls_kind : (n : Option ℕ) → next_native outside s ≡ n → (answer : Option Completion) (after : Turning) → is_late outside s ≡ false → Kind outside s after → Kind outside s (polls n answer after)
+  polls_kind None is answer after early then = then
+  polls_kind (Some n) is answer after early then =
+      let within = living_within s.killed (outside.natives - s.rest.polled) s.rest.polled n is in
+      polls_one n answer within.0 within.1 early
+
+  delivers_kind : (e : TimedEvent) → next_event outside s ≡ Some e → (event : Event) → Kind outside s (delivers outside s event)
+  delivers_kind e is (Tell n word) = hears_one e is
+  delivers_kind e is (Kill n) = go (lives outside s n)
+    where
+      go : (b : Bool) → Kind outside s (cond b (Kills n) Hears)
+      go true = kills_one e n is
+      go false = hears_one e is
+
+  event_kind : (next : Option TimedEvent) → next_event outside s ≡ next → (after : Turning) → (event_early → Kind outside s after) → Kind outside s (by_event outside s next after)
+  event_kind None is after then = then (ap (λ e. reached (time_of e) s.rest.clock) is)
+  event_kind (Some e) is after then = go (nat_le e.time s.rest.clock) refl
+    where
+      go : (b : Bool) → nat_le e.time s.rest.clock ≡ b → Kind outside s (cond b (delivers outside s e.event) after)
+      go true come = delivers_kind e is e.event
+      go false early = then (ap (λ e. reached (time_of e) s.rest.clock) is ∙ early)
+
+  timer_kind : (next : Option Timed) → first_due s.cells ≡ next → (after : Turning) → (timer_early → Kind outside s after) → Kind outside s (by_timer s next after)
+  timer_kind None is after then = then (ap (λ x. reached (due_of x) s.rest.clock) is)
+  timer_kind (Some x) is after then = go (nat_le x.timer.due s.rest.clock) refl
+    where
+      go : (b : Bool) → nat_le x.timer.due s.rest.clock ≡ b → Kind outside s (cond b (Completes x.object) after)
+      go true due = completes_one x is
+      go false early = then (ap (λ x. reached (due_of x) s.rest.clock) is ∙ early)
+
+  pub kind_of : (answer : Option Completion) → Kind outside s (turning outside answer s)
+  kind_of answer = go (nat_le outside.limit s.rest.dispatches) refl
+    where
+      go : (b : Bool) → nat_le outside.limit s.rest.dispatches ≡ b
+          → Kind outside s (cond b Cuts (by_timer s (first_due s.cells) (by_event outside s (next_event outside s) (polls (next_native outside s) answer (picks (has_signal s.cells) (first_ready s.cells) (next_time outside s))))))
+      go true at = cuts
+      go false at =
+          timer_kind (first_due s.cells) refl _ (λ timer.
+          event_kind (next_event outside s) refl _ (λ event.
+          polls_kind (next_native outside s) refl answer _ (early_both outside s timer event)
+          (picks_kind (has_signal s.cells) (first_ready s.cells) (next_time outside s) (leb-false outside.limit s.rest.dispatches at) refl (early_both outside s timer event))))
