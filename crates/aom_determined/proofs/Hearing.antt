@@ -93,7 +93,6 @@ unfolding kind_of kind_in class_at
 unnamed_unserved p formed none = record { none = go }
   where
     there : (o : Option ClassDecl) (c : ℕ) → slice_get p.classes c ≡ o → is_native_kind (kind_in o) ≡ false
-    unfolding kind_in
     there None c is = refl
     there (Some d) c is = class_unserved p d none (all_there (ClassFits (length p.classes) p.header.natives) p.classes c d formed.classes is)
 
