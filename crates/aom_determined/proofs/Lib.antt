@@ -5,6 +5,7 @@ pub mod Turning
 pub mod Steps
 pub mod Hearing
 pub mod Polling
+pub mod Oracles
 pub mod Fresh
 pub mod Alike
 pub mod Runs

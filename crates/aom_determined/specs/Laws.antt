@@ -59,6 +59,10 @@ pub record IsDetermined (p : Image) (outside : Outside) : Type 0 where
 abbrev pub TextIsDetermined : Type 0
 TextIsDetermined = (p : Image) (t : Typing) (outside : Outside) → IsWired p → IsTyped p t → IsDetermined p outside
 
+-- what a run heard of natives is an oracle that it follows
+abbrev pub EachRunFollows : Type 0
+EachRunFollows = (p : Image) (outside : Outside) (from : State) (lines : List Line) (s : State) (reached : Reaches p outside from lines s) → (oracle : Oracle) × Follows oracle reached
+
 -- of any run of an image with no native that serves a class of it: what is heard of natives changes nothing
 pub record NothingIsHeard : Type 0 where
   -- such is an image that names none

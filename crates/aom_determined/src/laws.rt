@@ -1,5 +1,5 @@
 //! The laws, each as the contract of a function that does nothing.
-ghost use Rattle.aom_determined.specs.Laws.{MovesStayAlike, NamesMeanNothing, NothingIsHeard, TextIsDetermined, TurnsStayAlike};
+ghost use Rattle.aom_determined.specs.Laws.{EachRunFollows, MovesStayAlike, NamesMeanNothing, NothingIsHeard, TextIsDetermined, TurnsStayAlike};
 
 /// A state moves under other names as it moves under its own, and writes the same; so it does with a turn between dispatches.
 pub fn names_mean_nothing()
@@ -19,6 +19,11 @@ pub fn turns_stay_alike()
 /// Two runs of one image that hear the same of natives write one text and end alike, whatever names their cells have.
 pub fn text_is_determined()
     ensures { TextIsDetermined }
+{}
+
+/// Each run follows an oracle: what it heard of natives, by its moves and turns.
+pub fn each_run_follows()
+    ensures { EachRunFollows }
 {}
 
 /// Where no native serves a class of the image, all its runs hear the same of natives.

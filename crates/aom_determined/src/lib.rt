@@ -8,4 +8,7 @@
 
 mod laws;
 
-pub use laws::{moves_stay_alike, names_mean_nothing, nothing_is_heard, text_is_determined, turns_stay_alike};
+pub use laws::{
+    each_run_follows, moves_stay_alike, names_mean_nothing, nothing_is_heard, text_is_determined,
+    turns_stay_alike,
+};
