@@ -184,9 +184,13 @@ aborted r = record r { phase = Aborted; status = cond (int_eq r.status pending) 
 abbrev pub taken_up : Request → Request
 taken_up r = record r { phase = Idle }
 
+-- it is completed with that code
+abbrev pub completed_with : ℤ → Request → Request
+completed_with code r = record r { status = code; timer = None }
+
 -- its timer completes it, with KErrNone
 abbrev pub timed_out : Request → Request
-timed_out r = record r { status = pos 0; timer = None }
+timed_out r = completed_with (pos 0) r
 
 -- ---- methods that are found by their roles
 

@@ -7,6 +7,7 @@ pub mod Calls
 pub mod Cleanup
 pub mod Enlisted
 pub mod Natives
+pub mod Wanted
 pub mod Effects
 pub mod Moves
 pub mod Tasks
