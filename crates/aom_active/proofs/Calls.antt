@@ -16,11 +16,11 @@ use Rattle.aom_scheduler.specs.Roster.{IsSound, Roster, before, first_ready, mar
 use Rattle.aom_scheduler.specs.Pending.{AreInOrder, Pending, due_by, due_of, left_by, no_later, timer_of}
 use Rattle.aom_scheduler.specs.declared.timer.Timer.{Timer as Held_timer}
 use Rattle.aom_scheduler.proofs.Items.{AreDistinct, IsAbsent, place-absent}
-use Rattle.aom_sound.specs.Enlisted.{aborted, cancelled, cancelling, completed_at_once, taken_up, timed_out, waits}
+use Rattle.aom_sound.specs.Enlisted.{aborted, cancelled, cancelling, completed_at_once, completed_with, recorded, taken_up, timed_out, waits}
 use Rattle.aom_sound.specs.Places.{Request}
 use Rattle.aom_active.specs.Aborts.{aborted_request}
 use Rattle.aom_active.specs.Agrees.{Active, IsWhole, StandsFor, Tells, due_in, may_stand, timer_in}
-use Rattle.aom_active.specs.Meanings.{Completes, Enlists, IsFirstDue, IsFirstReady, IsNewest, IsNewestTimer, Makes, Picks, Removes, Times, asked_anew, enlisted_with, is_being_cancelled, timed_for}
+use Rattle.aom_active.specs.Meanings.{Completes, Enlists, IsFirstDue, IsFirstReady, IsNewest, IsNewestTimer, Makes, Picks, Removes, Times, asked_anew, begun_with, enlisted_with, is_being_cancelled, timed_for}
 use Rattle.aom_active.proofs.Firsts.{first_by, left_none, left_some, none_by, picks_first, picks_none, ready_is_some, ready_signals, set_by}
 use Rattle.aom_active.proofs.Halves.{IsKept, Timely, changes_twice, kept_anew, listed_placed, listed_without, timely_kept, timely_placed, timely_without, timer_anew}
 use Rattle.aom_active.proofs.Lists.{id_of, standing}
@@ -69,6 +69,13 @@ completed_stands Held_idle status over = refl
 completed_stands Held_issued status over = refl
 completed_stands Held_active status over = refl
 completed_stands Held_cancelling status over = refl
+
+kept_is_over : (code : ℤ) → int_eq (kept_code code) pending ≡ false
+kept_is_over code = go (int_eq code pending) refl
+  where
+    go : (b : Bool) → int_eq code pending ≡ b → int_eq (cond b (negsuc 1) code) pending ≡ false
+    go true e = refl
+    go false e = e
 
 none_of : {A : Type 0} (o : Option A) → is_some o ≡ false → o ≡ None
 none_of None e = refl
@@ -231,6 +238,34 @@ module _ {old : Active} (a : Active) (same : a ≡ old) (w : IsWhole a) (id : �
       (subst (λ y. Made a (parts t r y) id timed_out) (sym left)
       (made a (parts t r timers) id q timed_out w ch (completed_stands o.state (pos 0) refl) (marked_as t r q ready ch ready_is roster_is listed refl)
       (runs_without a w t id q ch) (retimes_without a.pending.timers id timed_out (λ x. refl))
+      (λ x e. let told : Tells (Some (Held_object o.state o.in_it.status)) (Some x) = subst (λ h. Tells h (Some x)) o.in_it.is e in (told.0, refl)) (λ x. (refl, refl))))
+
+  pub issues_native :
+      (t : Table) → state_at old.table id ≡ Some Held_idle → Changes a.table t id (Some (Held_object Held_issued pending)) → Made old (parts t a.roster a.pending) id (begun_with pending)
+  issues_native t state ch =
+      let o = state_here Held_idle state in
+      let q = Some (Held_object Held_issued pending) in
+      let over : is_pending (request_at a.table id) ≡ false = ap is_pending o.is in
+      subst (λ x. Made x (parts t a.roster a.pending) id (begun_with pending)) same
+      (made a (parts t a.roster a.pending) id q (begun_with pending) w ch refl (follows_same a w t id q ch (ap is_some o.is) refl (sym (ap is_ready o.is)))
+      (runs_same a w t id q ch (λ e. absurd (false≢true (sym over ∙ e)))) (retimes_none a.pending.timers id (begun_with pending) (no_timer a w t id q ch over) (λ x. refl))
+      (λ x e. (refl, refl)) (λ x. (refl, refl)))
+
+  pub completes_it :
+      (t : Table) (r : Roster) (p : Pending) (code given : ℤ) (ready : Bool) → given ≡ code → is_pending (request_at old.table id) ≡ true →
+      Changes a.table t id (with_status (kept_code given) (request_at a.table id)) → ready ≡ is_ready (request_at t id) → r ≡ record a.roster { entries = marked id ready a.roster.entries } →
+      p ≡ record a.pending { timers = without id_of id a.pending.timers } → Made old (parts t r p) id (completed_with (recorded code))
+  completes_it t r p code given ready given_is awaited change ready_is roster_is pending_is =
+      let listed = pending_is_some (request_at a.table id) (ap (λ x. is_pending (request_at x.table id)) same ∙ awaited) in
+      let o = some_object (request_at a.table id) (w.requests id) listed in
+      let f = completed_with (recorded code) in
+      let q = Some (Held_object o.state (kept_code code)) in
+      let ch = subst (λ k. Changes a.table t id (with_status (kept_code k) (Some (Held_object o.state o.in_it.status)))) given_is (subst (λ h. Changes a.table t id (with_status (kept_code given) h)) o.in_it.is change) in
+      let timers = record a.pending { timers = without id_of id a.pending.timers } in
+      subst (λ x. Made x (parts t r p) id f) same
+      (subst (λ y. Made a (parts t r y) id f) (sym pending_is)
+      (made a (parts t r timers) id q f w ch (completed_stands o.state (kept_code code) (kept_is_over code)) (marked_as t r q ready ch ready_is roster_is listed refl)
+      (runs_without a w t id q ch) (retimes_without a.pending.timers id f (λ x. refl))
       (λ x e. let told : Tells (Some (Held_object o.state o.in_it.status)) (Some x) = subst (λ h. Tells h (Some x)) o.in_it.is e in (told.0, refl)) (λ x. (refl, refl))))
 
   -- the first that is ready holds a signal, and is enlisted

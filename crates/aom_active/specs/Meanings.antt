@@ -72,6 +72,10 @@ pub record Times (old new : Active) (id due : ℕ) : Type 0 where
   pub stands : (asked : ℕ → Option Request) (r : Request) (order : ℕ) → StandsFor old asked → asked id ≡ Some r → IsNewestTimer order asked
       → StandsFor new (asked_anew id (Some (timed_for due order r)) asked)
 
+-- a request as it begins at a native with that status, as `issued_by` of a native makes it
+abbrev pub begun_with : ℤ → Request → Request
+begun_with status r = record r { phase = Issued; status = status; timer = None }
+
 -- ---- the timer that is due first
 
 -- the timer of that object is due by now, and sooner than all others

@@ -4,9 +4,9 @@ ghost use Rattle.aom_requests.specs.Requests.{request_at, IsEnlisted, state_at, 
 ghost use Rattle.aom_scheduler.specs.Pending.{first_due, AreInOrder};
 ghost use Rattle.aom_scheduler.specs.Roster.{IsSound};
 ghost use Rattle.aom_image.specs.declared.class.Provider.TheVariants.{Own};
-ghost use Rattle.aom_sound.specs.Enlisted.{completed_at_once, waits, cancelling, aborted, cancelled};
+ghost use Rattle.aom_sound.specs.Enlisted.{completed_at_once, completed_with, pending, recorded, waits, cancelling, aborted, cancelled};
 ghost use Rattle.aom_active.specs.Agrees.{StandsFor};
-ghost use Rattle.aom_active.specs.Meanings.{is_waited_for, is_being_cancelled, is_busy, Makes, Removes, Enlists, Times, Completes, IsNextDue, Picks};
+ghost use Rattle.aom_active.specs.Meanings.{is_waited_for, is_being_cancelled, is_busy, begun_with, Makes, Removes, Enlists, Times, Completes, IsNextDue, Picks};
 
 use crate::parts::{abort_request, mark, stop_timer};
 use aom_cells::CellId;
@@ -88,6 +88,26 @@ impl ActiveObjects {
         self.in_order();
         self.requests.issue(id);
         self.timers.after(id, due);
+    }
+
+    /// An idle object makes a request of a native, which has not completed it. It does not wait for it yet.
+    pub fn issue_native(&mut self, id: CellId)
+        requires { state_at self.old.table id ≡ Some State.Idle }
+        ensures { Makes self.old self.new id (begun_with pending) }
+    {
+        // It is not completed, so its object is not ready.
+        self.requests.issue(id);
+    }
+
+    /// A pending request is completed with that code, and its timer ends: RThread::RequestComplete. The object is ready if it waits for it.
+    pub fn complete(&mut self, id: CellId, outcome: i32)
+        requires { IsTrue (is_pending (request_at self.old.table id)) }
+        ensures { Makes self.old self.new id (completed_with (recorded outcome)) }
+    {
+        self.requests.complete(id, outcome);
+        let ready = self.requests.is_ready(id);
+        mark(&mut self.schedule, id, ready);
+        stop_timer(&mut self.timers, id);
     }
 
     /// The object waits for its request, and is ready if that is completed already: CActive::SetActive.

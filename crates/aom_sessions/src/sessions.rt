@@ -1,0 +1,85 @@
+//! Sessions by the number of a cell, and the natives that are killed.
+ghost use Rattle.std.specs.Prelude.{◌≡◌, ◌<◌, ◌≤◌, ◌++◌, ◌∷◌, [], IfOk, IsTrue, length, replicate, true, false};
+ghost use Rattle.aom_sessions.specs.Sessions.{is_open, is_killed, Changes};
+
+use aom_cells::CellId;
+use std::alloc::{AllocError, Global};
+use std::marker::Model;
+
+/// Which cells have a session, and which natives are killed.
+#[derive(Drop)]
+pub struct Sessions {
+    flags: Vec<bool>,
+    killed: Vec<usize>,
+    room: usize,
+}
+
+impl Model for Sessions {
+    ghost use Rattle.std.specs.Prelude.{vec_capacity, ◌≤◌};
+    ghost use Rattle.aom_sessions.specs.Sessions.{Standing};
+
+    ghost Value = { Standing };
+
+    ghost view = { λ s. record { flags = s.flags.items; killed = s.killed.items; room = s.room } };
+
+    ghost invariant = { λ s. s.room ≤ vec_capacity s.killed };
+}
+
+impl Sessions {
+    /// No session and no death, with a place for each cell below `cells` and room for the ends of so many natives, which is all the
+    /// memory that is ever taken.
+    pub fn with_limits(alloc: Global, cells: usize, natives: usize) -> Result<Sessions, AllocError>
+        ensures { IfOk result (λ s. s ≡ record { flags = replicate cells false; killed = []; room = natives }) }
+    {
+        let flags = vec![in alloc; false; cells]?;
+        let killed = Vec::with_capacity(alloc, natives)?;
+        Ok(Sessions {
+            flags,
+            killed,
+            room: natives,
+        })
+    }
+
+    /// Whether the cell of that number has a session open. One that has no place has none.
+    pub fn is_open(&self, id: CellId) -> bool
+        ensures { result ≡ is_open self.now id }
+    {
+        self.flags
+            .get(id.number() as usize)
+            .copied()
+            .unwrap_or(false)
+    }
+
+    /// The cell of that number has a session from then on.
+    pub fn open(&mut self, id: CellId)
+        requires { id < length self.old.flags }
+        ensures { Changes self.old self.new id true }
+    {
+        self.flags[id.number() as usize] = true;
+    }
+
+    /// The cell of that number has no session from then on. One that has no place has none.
+    pub fn close(&mut self, id: CellId)
+        ensures { Changes self.old self.new id false }
+    {
+        let place = id.number() as usize;
+        if place < self.flags.len() {
+            self.flags[place] = false;
+        }
+    }
+
+    /// Whether that native is killed.
+    pub fn is_dead(&self, native: usize) -> bool
+        ensures { result ≡ is_killed self.now native }
+    {
+        self.killed.contains(&native)
+    }
+
+    /// That native is killed, after those that are.
+    pub fn kill(&mut self, native: usize)
+        requires { length self.old.killed < self.old.room }
+        ensures { self.new ≡ record self.old { killed = self.old.killed ++ native ∷ [] } }
+    {
+        self.killed.push(native).unwrap();
+    }
+}
