@@ -1,5 +1,5 @@
 -- The parts of a turn: what the machine does between dispatches is what the checked machine does.
-use Rattle.std.proofs.Common.{ap, append-nil, arith, Bool, cond, false, length, List, None, Option, refl, Some, subst, sym, true, ℕ, ◌<◌, ◌≤◌, ◌∙◌, ◌∷◌, ◌++◌, ◌≡◌, []}
+use Rattle.std.proofs.Common.{ap, append-nil, arith, Bool, cond, false, length, List, None, Option, pos, refl, Some, subst, suc, sym, true, ℕ, ◌<◌, ◌≤◌, ◌∙◌, ◌∷◌, ◌++◌, ◌≡◌, []}
 use Rattle.std.specs.Prelude.{IfSome, IsSome, IsTrue, is_some, not, option_map}
 use Rattle.std.specs.Ordering.{int_eq}
 use Rattle.std.proofs.lemmas.Bool.{and_parts, eq-eqb, true≢false}
@@ -46,7 +46,7 @@ use Rattle.aom_sound.specs.Places.{Active as Waits_for, Cell, Elsewhere, Entry, 
 use Rattle.aom_sound.specs.Requests.{Known, Suits, phase_state, states_claim}
 use Rattle.aom_sound.specs.State.{Dispatch, Dispatched, Goes, Inside, Of_object, Rest, Seat, State, Trapped}
 use Rattle.aom_sound.specs.WellTyped.{Keeps}
-use Rattle.aom_sound.specs.World.{Candidate, Cuts, IsBetween, Passes, Picks, Timed, Turning, Waits, dispatched, ends_as, first_due, first_ready, is_ready, run_line, turned, with_request}
+use Rattle.aom_sound.specs.World.{Candidate, Cuts, Hears, IsBetween, Passes, Picks, Timed, Turning, Waits, dispatched, due_of, ends_as, first_due, heard_one, first_ready, is_ready, run_line, turned, with_request}
 use Rattle.aom_steps.proofs.Pushed.{asked_same}
 use Rattle.aom_steps.proofs.Turns.{picking}
 use Rattle.aom_steps.specs.Payers as payers
@@ -58,7 +58,7 @@ use Rattle.aom_exec.specs.Places.{going_in, register_in, value, value_in}
 use Rattle.aom_exec.specs.Progress.{progress_by}
 use Rattle.aom_exec.specs.Room.{AllRunUnder}
 use Rattle.aom_exec.specs.Steps.{KeepsWithin, Machine, Stands, StandsFor, progress}
-use Rattle.aom_exec.specs.Turns.{CanDispatch, Completed, Dispatches, Picked, TakesAll, due_at, running}
+use Rattle.aom_exec.specs.Turns.{CanDispatch, Completed, Dispatches, Picked, TakesAll, running}
 use Rattle.aom_exec.specs.Waits.{OthersWait}
 use Rattle.aom_exec.proofs.Entries.{mark_shows_none, same_items_length}
 use Rattle.aom_exec.proofs.Finding.{class_fits}
@@ -121,13 +121,23 @@ module _ (p : Image) (m : Parts) (turned : progress_by m.rest.ended m.stack.task
   old = record { image = p; parts = m }
 
   -- time passes
-  pub passes_time : (time : ℕ) → TakesAll old (Passes time) (record { image = p; parts = record m { rest = record m.rest { clock = time } } })
+  pub passes_time : (time : ℕ) → TakesAll old (Passes time) (record { image = p; parts = record m { rest = record m.rest { clock = time; polled = 0 } } })
   passes_time time told s st = record {
     between = machine_between old s st turned;
-    state = record s { rest = record s.rest { clock = time } };
+    state = record s { rest = record s.rest { clock = time; polled = 0 } };
     goes = refl;
     lines = silent told;
-    stands = stands_rest p m s (record m.rest { clock = time }) (record s.rest { clock = time }) (ap (λ (r : Rest). record r { clock = time }) st.agrees.rest) refl st;
+    stands = stands_rest p m s (record m.rest { clock = time; polled = 0 }) (record s.rest { clock = time; polled = 0 }) (ap (λ (r : Rest). record r { clock = time; polled = 0 }) st.agrees.rest) refl st;
+  }
+
+  -- an event comes
+  pub hears_one : TakesAll old Hears (record { image = p; parts = record m { rest = record m.rest { delivered = suc m.rest.delivered } } })
+  hears_one told s st = record {
+    between = machine_between old s st turned;
+    state = heard_one s;
+    goes = refl;
+    lines = silent told;
+    stands = stands_rest p m s (record m.rest { delivered = suc m.rest.delivered }) (record s.rest { delivered = suc s.rest.delivered }) (ap (λ (r : Rest). record r { delivered = suc r.delivered }) st.agrees.rest) refl st;
   }
 
   -- the run is over
@@ -150,11 +160,11 @@ module _ (p : Image) (m : Parts) (turned : progress_by m.rest.ended m.stack.task
   }
 
 -- when the timer that is due first is due
-due_same : (o : Option Timed) → option_map (λ x. x.timer.due) o ≡ due_at o
+due_same : (o : Option Timed) → option_map (λ x. x.timer.due) o ≡ due_of o
 due_same None = refl
 due_same (Some x) = refl
 
-pub next_due_told : (m : Machine) (due : Option ℕ) → meanings.IsNextDue m.parts.active due → (s : State) → StandsFor m s → due ≡ due_at (first_due s.cells)
+pub next_due_told : (m : Machine) (due : Option ℕ) → meanings.IsNextDue m.parts.active due → (s : State) → StandsFor m s → due ≡ due_of (first_due s.cells)
 next_due_told m due next s st = next s.cells st.typed.good.tidy st.agrees.requests.stands ∙ due_same (first_due s.cells)
 
 -- ---- a timer completes a request
@@ -189,7 +199,7 @@ module _ (p : Image) (m : Parts) (a : Active) (turned : progress_by m.rest.ended
         record {
           typing = st.typing;
           sound = st.sound;
-          typed = completed p st.typing s st.typed idle o;
+          typed = completed p st.typing s st.typed idle (pos 0) refl o s.rest;
           calm = st.calm;
           traps = st.traps;
           room = record { under = st.room.under; runs = subst (λ ts. AllRunUnder p (at 0 st.sound.depths.depths) cs s.items ts) (sym idle) tt; fit = st.room.fit; entries = st.room.entries };

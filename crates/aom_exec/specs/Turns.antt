@@ -42,11 +42,6 @@ abbrev pub Picked : Machine → Bool → Turn → Turn → Machine → Type 0
 Picked old true told now new = (s : State) → StandsFor old s → (x : Candidate) × (first_ready s.cells ≡ Some x) × (has_signal s.cells ≡ true) × Takes old s (Picks x.seat) told now new
 Picked old false told now new = (new ≡ old) × (now ≡ told) × ((s : State) → StandsFor old s → has_signal s.cells ≡ false)
 
--- when a timer is due
-abbrev pub due_at : Option Timed → Option ℕ
-due_at None = None
-due_at (Some x) = Some x.timer.due
-
 -- ---- a dispatch begins
 
 -- the cell of that number lives, its class has a method that handles a signal, it is enlisted, and nothing is at hand
@@ -66,7 +61,7 @@ running method class id m =
     record m {
       stack = record m.stack { tasks = Run (fresh method id) ∷ Trapped ∷ Dispatched (Of_one (record { number = id; class = class })) ∷ m.stack.tasks };
       entries = record m.entries { items = Mark ∷ m.entries.items };
-      rest = record m.rest { steps = 0 };
+      rest = record m.rest { steps = 0; polled = 0 };
     }
 
 -- the cell of that number is dispatched, by its class, with its line

@@ -1,10 +1,10 @@
 //! A machine over the image that it runs.
-ghost use Rattle.std.specs.Prelude.{◌≡◌, ◌<◌, ◌≤◌, ◌+◌, ◌↔◌, IfOk, IsTrue, length, true};
+ghost use Rattle.std.specs.Prelude.{◌≡◌, ◌<◌, ◌≤◌, ◌+◌, ◌^◌, ◌↔◌, IfOk, IsTrue, length, suc, true};
 ghost use Rattle.aom_cells.specs.Heap.{count};
-ghost use Rattle.aom_sound.specs.World.{Cuts, Passes, Waits, boot_state, first_due};
+ghost use Rattle.aom_sound.specs.World.{Cuts, Hears, Passes, Waits, boot_state, due_of, first_due};
 ghost use Rattle.aom_exec.specs.Agreement.{AgreesInAll};
 ghost use Rattle.aom_exec.specs.Steps.{StandsFor, Stepped, SteppedOn, progress, rank, timers};
-ghost use Rattle.aom_exec.specs.Turns.{Completed, Picked, TakesAll, due_at};
+ghost use Rattle.aom_exec.specs.Turns.{Completed, Picked, TakesAll};
 ghost use Rattle.aom_sound.specs.State.{State};
 ghost use Rattle.aom_steps.specs.Payers.{declared_of, payer};
 ghost use Rattle.aom_exec.specs.declared.progress.Progress.TheVariants.{Running, Turned};
@@ -102,7 +102,7 @@ impl<'a> Machine<'a> {
 
     /// When the timer that is due first is due.
     pub fn next_due(&self) -> Option<u64>
-        ensures { (s : State) → StandsFor self.now s → result ≡ due_at (first_due s.cells) }
+        ensures { (s : State) → StandsFor self.now s → result ≡ due_of (first_due s.cells) }
     {
         self.parts.active.next_due()
     }
@@ -117,6 +117,19 @@ impl<'a> Machine<'a> {
         ensures agrees { AgreesInAll self.new }
     {
         self.parts.rest.set_clock(time);
+    }
+
+    /// Between dispatches an event comes from outside that changes nothing here.
+    pub fn hear(&mut self)
+        requires between { progress self.old ≡ Turned }
+        requires few { self.old.parts.rest.delivered + 1 < 2 ^ 64 }
+        ensures image { self.new.image ≡ self.old.image }
+        ensures heard { TakesAll self.old Hears self.new }
+        ensures delivered { self.new.parts.rest.delivered ≡ suc self.old.parts.rest.delivered }
+        ensures timers { timers self.new ≡ timers self.old }
+        ensures agrees { AgreesInAll self.new }
+    {
+        self.parts.rest.deliver();
     }
 
     /// Between dispatches, where nothing is due and nothing signals: the run is over.
@@ -158,6 +171,13 @@ impl<'a> Machine<'a> {
         ensures { result ≡ self.now.parts.rest.clock }
     {
         self.parts.rest.clock()
+    }
+
+    /// How many events have come.
+    pub fn delivered(&self) -> u64
+        ensures { result ≡ self.now.parts.rest.delivered }
+    {
+        self.parts.rest.delivered()
     }
 
     /// How many dispatches of objects are over.

@@ -1,13 +1,12 @@
 -- The first timer of the machine is that of the checked machine.
 use Rattle.std.proofs.Common.{subst, ◌≡◌}
 use Rattle.aom_sound.specs.State.{State}
-use Rattle.aom_sound.specs.World.{first_due}
+use Rattle.aom_sound.specs.World.{due_of, first_due}
 use Rattle.aom_exec.specs.Steps.{Machine, StandsFor}
-use Rattle.aom_exec.specs.Turns.{due_at}
 use Rattle.aom_exec.proofs.Turning.{next_due_told}
 use Rattle.aom_exec.proofs.machine.Machine.next_due.Goals as goal
 
 pub returns : goal.returns
 returns c =
     let m : Machine = record { image = c.self.inside.accepted.now; parts = c.self.inside.parts } in
-    subst (λ (n : Machine). (s : State) → StandsFor n s → c.next_due.result ≡ due_at (first_due s.cells)) c.self.view_is (λ s st. next_due_told m c.next_due.result c.next_due.ensures.next s st)
+    subst (λ (n : Machine). (s : State) → StandsFor n s → c.next_due.result ≡ due_of (first_due s.cells)) c.self.view_is (λ s st. next_due_told m c.next_due.result c.next_due.ensures.next s st)

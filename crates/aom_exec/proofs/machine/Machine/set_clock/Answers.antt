@@ -13,14 +13,14 @@ invariant_of-self c =
     let turned = subst (λ (m : Machine). progress m ≡ Turned) (sym c.self.view_is) c.requires.between in
     let p = c.self.inside.accepted.now in
     let m = c.self.inside.parts in
-    rw c.set_clock.ensures (takes_again (record { image = p; parts = m }) (record { image = p; parts = record m { rest = record m.rest { clock = c.args.time } } }) (Passes c.args.time) (passes_time p m turned c.args.time) c.self.invariant)
+    rw c.set_clock.ensures (takes_again (record { image = p; parts = m }) (record { image = p; parts = record m { rest = record m.rest { clock = c.args.time; polled = 0 } } }) (Passes c.args.time) (passes_time p m turned c.args.time) c.self.invariant)
 
 pub returns-clause-passed : goal.returns-clause-passed
 returns-clause-passed c =
     let turned = subst (λ (m : Machine). progress m ≡ Turned) (sym c.self.view_is) c.requires.between in
     let p = c.self.inside.accepted.now in
     let m = c.self.inside.parts in
-    rw c.set_clock.ensures (subst (λ (old : Machine). TakesAll old (Passes c.args.time) (record { image = p; parts = record m { rest = record m.rest { clock = c.args.time } } })) c.self.view_is (passes_time p m turned c.args.time))
+    rw c.set_clock.ensures (subst (λ (old : Machine). TakesAll old (Passes c.args.time) (record { image = p; parts = record m { rest = record m.rest { clock = c.args.time; polled = 0 } } })) c.self.view_is (passes_time p m turned c.args.time))
 
 pub returns-clause-agrees : goal.returns-clause-agrees
 returns-clause-agrees c = agrees_in_all _
