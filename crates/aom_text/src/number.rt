@@ -50,7 +50,7 @@ impl Number {
         }
     }
 
-    /// The number, if it is from 0 to high. Exact also for a number that is larger than any size.
+    /// The number, if it is from 0 to high. Exact however large the number is.
     pub fn up_to(self, high: u64) -> Option<u64>
         requires { high < 2 ^ 50 }
         ensures { result ≡ number_within 0 high self }
@@ -62,9 +62,8 @@ impl Number {
         }
     }
 
-    /// Whether the number is below that. Exact also for a number that is larger than any size.
+    /// Whether the number is below a limit. Exact for limits below 2^50, however large the number is.
     pub fn is_below(self, limit: u64) -> bool
-        requires { limit ≤ 2 ^ 50 }
         ensures { result ≡ number_below limit self }
     {
         (self.is_negative && self.size != 0) || self.size < limit
