@@ -8,8 +8,12 @@ fn events_stand_in_the_order_of_the_text(rt: HostRuntime) -> Result<(), Fail> {
     let alloc = rt.alloc();
     let text =
         b"-0 event 0 -2147483648\nrefuse 3\n\t7  kill\t15 \r\n\n7 event 15 2147483647\n1000000000000000 kill 00\nrefuse 2";
-    let Ok(script) = read_script(alloc, text.as_slice()) else {
-        return Ok(());
+    let script = match read_script(alloc, text.as_slice()) {
+        Ok(script) => script,
+        Err(fault) => {
+            assert_eq!(rt; fault.kind, ScriptFaultKind::OutOfMemory);
+            return Ok(());
+        }
     };
     assert_eq!(rt; script.refused(), [3u32, 2].as_slice());
     let events = [
@@ -65,7 +69,7 @@ fn times_go_on(rt: HostRuntime) -> Result<(), Fail> {
 #[test]
 fn the_first_fault_of_a_timed_line_is_told(rt: HostRuntime) -> Result<(), Fail> {
     for (text, line, kind) in [
-        ("\xc8".as_bytes(), 1, ScriptFaultKind::NotAscii),
+        (b"\xc8".as_slice(), 1, ScriptFaultKind::NotAscii),
         (b"9 kill 0\n1 kill \xc8", 2, ScriptFaultKind::NotAscii),
         (b"foo", 1, ScriptFaultKind::BadLine),
         (b"x Kill 0", 1, ScriptFaultKind::BadLine),
