@@ -18,12 +18,12 @@ use Rattle.aom_ranks.specs.Runs.{TypedRunsWell}
 use Rattle.aom_steps.specs.Laws.{StepsWithin}
 use Rattle.aom_run.specs.declared.outcome.Outcome.{Outcome}
 use Rattle.aom_run.specs.declared.outcome.Outcome.TheVariants.{Stopped, Waiting, MainLeft, Limit, Error, WriteFault}
-use Rattle.aom_run.proofs.Faulting.{IsOfText, is_of_text}
+use Rattle.aom_script.proofs.Faulting.{IsOfText, is_of_text}
 use Rattle.aom_run.specs.Runs.{after}
-use Rattle.aom_run.specs.Script.{Script, denoted, RefusesOrWants}
-use Rattle.aom_run.specs.declared.fault.ScriptFault.{ScriptFault}
-use Rattle.aom_run.specs.declared.fault.ScriptFaultKind.{ScriptFaultKind}
-use Rattle.aom_run.specs.declared.fault.ScriptFaultKind.TheVariants as kinds
+use Rattle.aom_script.specs.Script.{Script, denoted, RefusesOrWants}
+use Rattle.aom_script.specs.declared.fault.ScriptFault.{ScriptFault}
+use Rattle.aom_script.specs.declared.fault.ScriptFaultKind.{ScriptFaultKind}
+use Rattle.aom_script.specs.declared.fault.ScriptFaultKind.TheVariants as kinds
 use Rattle.aom_main.specs.declared.status.ExitStatus.{ExitStatus}
 use Rattle.aom_main.specs.declared.status.ExitStatus.TheVariants as statuses
 use Rattle.aom_main.specs.declared.faults.Fault.{Fault}

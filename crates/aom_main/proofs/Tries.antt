@@ -9,7 +9,7 @@ use Rattle.aom_exec.specs.Steps.{Machine, StandsFor}
 use Rattle.aom_run.specs.Outcomes.{outcome_of}
 use Rattle.aom_run.specs.Runs.{Ran, Told, after}
 use Rattle.aom_run.specs.declared.outcome.Outcome.{Outcome}
-use Rattle.aom_run.specs.Script.{Script}
+use Rattle.aom_script.specs.Script.{Script}
 use Rattle.aom_run.proofs.Sending.{after_both, after_none, cut_next}
 use Rattle.aom_main.specs.Explored.{Begun, IsLast, Tried}
 use Rattle.aom_main.specs.Headline.{Says, Sent}

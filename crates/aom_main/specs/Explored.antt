@@ -6,8 +6,8 @@ use Rattle.aom_sound.specs.World.{Outside, Run_of, refusing}
 use Rattle.aom_transcript.specs.Text.{ended, tried_text}
 use Rattle.aom_transcript.specs.declared.line.Ending.{Ending}
 use Rattle.aom_transcript.specs.declared.line.Line.{Line}
-use Rattle.aom_run.specs.Script.{Script, WantsMemory}
-use Rattle.aom_run.specs.declared.fault.ScriptFault.{ScriptFault}
+use Rattle.aom_script.specs.Script.{Script, WantsMemory}
+use Rattle.aom_script.specs.declared.fault.ScriptFault.{ScriptFault}
 use Rattle.aom_main.specs.Headline.{Accepts, ImageWantsMemory, IsNoScript, IsRefused, IsSilent, Runs, Says, Sent, Tells, outside_of}
 use Rattle.aom_main.specs.declared.exploring.Last.{Last}
 use Rattle.aom_main.specs.declared.exploring.Part.{Part}

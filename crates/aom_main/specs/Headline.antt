@@ -13,8 +13,8 @@ use Rattle.aom_steps.specs.Laws.{KeepsBudget}
 use Rattle.aom_run.specs.declared.outcome.Outcome.{Outcome}
 use Rattle.aom_run.specs.declared.outcome.Outcome.TheVariants as outcomes
 use Rattle.aom_run.specs.Runs.{after, CutShort}
-use Rattle.aom_run.specs.Script.{Script, WantsMemory, denoted}
-use Rattle.aom_run.specs.declared.fault.ScriptFault.{ScriptFault}
+use Rattle.aom_script.specs.Script.{Script, WantsMemory, denoted}
+use Rattle.aom_script.specs.declared.fault.ScriptFault.{ScriptFault}
 use Rattle.aom_main.specs.declared.status.ExitStatus.{ExitStatus}
 use Rattle.aom_main.specs.declared.status.ExitStatus.TheVariants.{Done, ImageRefused, CallRefused, Unfinished, Broken, Fault as Faulty}
 use Rattle.aom_main.specs.declared.faults.Fault.{Fault}

@@ -13,10 +13,10 @@ use Rattle.aom_verify.specs.declared.refusal.Refusal.TheVariants as refusals
 use Rattle.aom_budget.specs.Faults.{line_of as budget_line}
 use Rattle.aom_budget.specs.declared.fault.BudgetFault.{BudgetFault}
 use Rattle.aom_budget.specs.declared.fault.BudgetFault.TheVariants as budgets
-use Rattle.aom_run.specs.Faults.{fault_text}
-use Rattle.aom_run.specs.declared.fault.ScriptFault.{ScriptFault}
-use Rattle.aom_run.specs.declared.fault.ScriptFaultKind.{ScriptFaultKind}
-use Rattle.aom_run.specs.declared.fault.ScriptFaultKind.TheVariants as kinds
+use Rattle.aom_script.specs.Faults.{fault_text}
+use Rattle.aom_script.specs.declared.fault.ScriptFault.{ScriptFault}
+use Rattle.aom_script.specs.declared.fault.ScriptFaultKind.{ScriptFaultKind}
+use Rattle.aom_script.specs.declared.fault.ScriptFaultKind.TheVariants as kinds
 use Rattle.aom_text.specs.Faults.{fault_text as asm_line}
 use Rattle.aom_text.specs.declared.fault.AsmFault.{AsmFault}
 use Rattle.aom_text.specs.declared.fault.AsmFaultKind.{AsmFaultKind}

@@ -1,6 +1,6 @@
 //! The commands, over the bytes of files.
 ghost use Rattle.std.specs.Prelude.{ℕ, ◌≡◌, ◌≤◌, List, Ok};
-ghost use Rattle.aom_run.specs.Script.{denoted};
+ghost use Rattle.aom_script.specs.Script.{denoted};
 ghost use Rattle.aom_main.specs.Acceptable.{IsSpelled};
 ghost use Rattle.aom_main.specs.Assembly.{AsmAnswers, DisAnswers};
 ghost use Rattle.aom_main.specs.Headline.{AcceptedAnswers, Ends, RunAnswers, CheckAnswers, Sends};
@@ -10,7 +10,8 @@ use crate::assembling::{assemble_bytes, disassemble_bytes};
 use crate::running::{run_accepted, runs_well};
 use crate::{ExitStatus, Fault, tell};
 use aom_budget::Accepted;
-use aom_run::{Outcome, Script, Sink, read_script, write_text};
+use aom_run::{Outcome, Sink, write_text};
+use aom_script::{Script, read_script};
 use std::alloc::Global;
 
 /// Runs an image under a script, and writes the transcript. The image is looked at before the script.

@@ -2,7 +2,7 @@
 ghost use Rattle.std.specs.Prelude.{ℕ, ◌≡◌, ◌≤◌, ◌<◌, ◌^◌, ◌++◌, ◌∷◌, [], List, IfOk, IfErr, Ok};
 ghost use Rattle.aom_sound.specs.World.{refusing};
 ghost use Rattle.aom_run.specs.Outcomes.{outcome_of};
-ghost use Rattle.aom_run.specs.Script.{denoted};
+ghost use Rattle.aom_script.specs.Script.{denoted};
 ghost use Rattle.aom_run.specs.declared.outcome.Outcome.TheVariants.{WriteFault};
 ghost use Rattle.aom_main.specs.Acceptable.{IsSpelled};
 ghost use Rattle.aom_main.specs.Explored.{AcceptedExplores, Begun, ExploreAnswers, Explored, IsLast, Tried};
@@ -14,7 +14,8 @@ use crate::{ExitStatus, Fault, tell};
 use aom_budget::Accepted;
 use aom_exec::Machine;
 use aom_lines::Turn;
-use aom_run::{Outcome, Script, Sink, read_script, run, write_text};
+use aom_run::{Outcome, Sink, run, write_text};
+use aom_script::{Script, read_script};
 use aom_transcript::{Ending, Page};
 use std::alloc::{AllocError, Global};
 

@@ -6,7 +6,8 @@ use crate::Fault;
 use aom_budget::Accepted;
 use aom_exec::Machine;
 use aom_lines::Turn;
-use aom_run::{Outcome, Script, Sink, run};
+use aom_run::{Outcome, Sink, run};
+use aom_script::Script;
 use std::alloc::Global;
 
 /// Boots a machine and runs it to its end. All memory is taken before anything is written.

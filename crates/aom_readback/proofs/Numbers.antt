@@ -20,13 +20,13 @@ pub size_of_decimal : (n : ℕ) → n < 2 ^ 64 → digits_size (decimal n) ≡ n
 size_of_decimal n small = digits_value-decimal own n small
 
 -- digits, of which there is one, spell their number
-of_digits : (b : Bool) (ds : List ℕ) (n : ℕ) → 0 < length ds → list_all is_digit ds ≡ true → digits_size ds ≡ n → n < 2 ^ 40 → number_from b ds ≡ Some (record { is_negative = b; size = n })
+of_digits : (b : Bool) (ds : List ℕ) (n : ℕ) → 0 < length ds → list_all is_digit ds ≡ true → digits_size ds ≡ n → n < 2 ^ 50 → number_from b ds ≡ Some (record { is_negative = b; size = n })
 of_digits b ds n some digits is small =
-    let whole : min (digits_size ds) (2 ^ 40) ≡ n = omega arith in
+    let whole : min (digits_size ds) (2 ^ 50) ≡ n = omega arith in
     let one : (length ds == 0) ≡ false = grind (arith, common_steps) in
     rw (one, digits, whole)
 
-pub number_from_decimal : (b : Bool) (n : ℕ) → n < 2 ^ 40 → number_from b (decimal n) ≡ Some (record { is_negative = b; size = n })
+pub number_from_decimal : (b : Bool) (n : ℕ) → n < 2 ^ 50 → number_from b (decimal n) ≡ Some (record { is_negative = b; size = n })
 number_from_decimal b n small = of_digits b (decimal n) n (decimal_nonempty n (omega arith)) (all_digits n (omega arith)) (size_of_decimal n (omega arith)) small
 
 -- digits begin with no minus
@@ -36,7 +36,7 @@ no_minus (d ∷ ds) digits =
     let other : (d == 45) ≡ false = grind (arith, common_steps) in
     rw other
 
-pub number_of_decimal : (n : ℕ) → n < 2 ^ 40 → number_of (decimal n) ≡ Some (record { is_negative = false; size = n })
+pub number_of_decimal : (n : ℕ) → n < 2 ^ 50 → number_of (decimal n) ≡ Some (record { is_negative = false; size = n })
 number_of_decimal n small = no_minus (decimal n) (all_digits n (omega arith)) ∙ number_from_decimal false n small
 
 -- ---- ranges

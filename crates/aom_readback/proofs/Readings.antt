@@ -120,11 +120,11 @@ takes_flag key = record { reads = λ rest. ap Ok (took_same key rest) }
 
 -- ---- numbers
 
-pub takes_number : (low high n : ℕ) → low ≤ n → n ≤ high → n < 2 ^ 40 → Takes (number low high) (decimal n ∷ []) n
+pub takes_number : (low high n : ℕ) → low ≤ n → n ≤ high → n < 2 ^ 50 → Takes (number low high) (decimal n ∷ []) n
 takes_number low high n above below small = sees (number_in low high) (takes_word (decimal n) (plain_decimal n (omega arith)))
     (ap (λ o. elim o [ None ↦ Err BadNumber | Some m ↦ in_range (number_within low high m) ]) (number_of_decimal n small) ∙ ap in_range (within low high n above below))
 
-pub takes_optional : (key : Keyword) (high n : ℕ) → n ≤ high → n < 2 ^ 40 → Takes (optional_number key high) (keyword_text key ∷ decimal n ∷ []) n
+pub takes_optional : (key : Keyword) (high n : ℕ) → n ≤ high → n < 2 ^ 50 → Takes (optional_number key high) (keyword_text key ∷ decimal n ∷ []) n
 takes_optional key high n below small = record {
   reads = λ rest. ap (λ p. if p.0 then number 0 high p.1 else Ok (0, p.1)) (took_same key (decimal n ∷ rest)) ∙ (takes_number 0 high n (omega arith) below small).reads rest;
 }
@@ -150,11 +150,11 @@ takes_declared letter n names is small there = sees (declared_at n names) (takes
 
 -- ---- operands
 
-pub indexed_reads : (letter highest n : ℕ) → n ≤ highest → n < 2 ^ 40 → indexed letter highest (lettered letter n) ≡ Ok n
+pub indexed_reads : (letter highest n : ℕ) → n ≤ highest → n < 2 ^ 50 → indexed letter highest (lettered letter n) ≡ Ok n
 indexed_reads letter highest n below small =
     ap (λ b. if b then index_of highest (number_of (decimal n)) else Err BadShape) (eq-eqb letter letter refl)
     ∙ ap (index_of highest) (number_of_decimal n small)
     ∙ ap in_range (within 0 highest n (omega arith) below)
 
-pub takes_indexed : (letter highest n : ℕ) → is_letter letter ≡ true → n ≤ highest → n < 2 ^ 40 → Takes (seen (indexed letter highest) word) (lettered letter n ∷ []) n
+pub takes_indexed : (letter highest n : ℕ) → is_letter letter ≡ true → n ≤ highest → n < 2 ^ 50 → Takes (seen (indexed letter highest) word) (lettered letter n ∷ []) n
 takes_indexed letter highest n is below small = sees (indexed letter highest) (takes_word (lettered letter n) (plain_lettered letter n is (omega arith))) (indexed_reads letter highest n below small)

@@ -29,7 +29,7 @@ use Rattle.aom_readback.specs.Naming.{HasNames, code_labels, heading_of}
 
 -- a number in decimal digits reads as that number
 abbrev pub NumbersReadBack : Type 0
-NumbersReadBack = (n : ℕ) → n < 2 ^ 40 → number_of (decimal n) ≡ Some (record { is_negative = false; size = n })
+NumbersReadBack = (n : ℕ) → n < 2 ^ 50 → number_of (decimal n) ≡ Some (record { is_negative = false; size = n })
 
 -- each word of the language and each mnemonic reads as what it is written for
 pub record TablesReadBack : Type 0 where

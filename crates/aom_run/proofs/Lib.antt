@@ -1,7 +1,6 @@
 pub mod Spared
 pub mod Timing
 pub mod Completing
-pub mod Lines
 pub mod Prefix
 pub mod Reaching
 pub mod Turnings
@@ -9,4 +8,3 @@ pub mod Between
 pub mod Running
 pub mod Sending
 pub mod Underway
-pub mod Faulting

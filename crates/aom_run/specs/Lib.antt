@@ -1,5 +1,3 @@
-pub mod Faults
 pub mod Outcomes
 pub mod Runs
-pub mod Script
 pub mod Turns

@@ -10,15 +10,16 @@ ghost use Rattle.aom_exec.specs.Steps.{StandsFor};
 
 use crate::dispatches::run_dispatch;
 use crate::turns::take_turns;
-use crate::{Outcome, Script, Sink, write_text};
+use crate::{Outcome, Sink, write_text};
 use aom_exec::{Machine, Progress};
 use aom_lines::Turn;
+use aom_script::Script;
 use aom_transcript::{Ending, Page};
 
 /// Runs a fresh machine to its end and writes the transcript, one step after another. It stops where the sink fails.
 /// No other run of its image has another transcript.
 ///
-/// The run ends after `limit` dispatches of objects, from 1 to 10^9. So far no script has a timed line.
+/// The run ends after `limit` dispatches of objects, from 1 to 10^9. It hears none of the script's events so far.
 pub fn run<W: Sink>(
     machine: &mut Machine,
     _script: &Script,

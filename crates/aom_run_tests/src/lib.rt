@@ -1,7 +1,5 @@
-//! Tests of `aom_run`, from outside: scripts that are read, texts that go out, and runs with their transcripts.
+//! Tests of `aom_run`, from outside: texts that go out, and runs with their transcripts.
 #![tactic(auto)]
 
 #[cfg(test)]
 mod runs;
-#[cfg(test)]
-mod scripts;

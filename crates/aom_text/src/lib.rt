@@ -13,6 +13,6 @@ mod word;
 
 pub use fault::{AsmFault, AsmFaultKind};
 pub use name::is_name;
-pub use number::Number;
+pub use number::{Number, sizes_are_told};
 pub use text::{Statement, Text, last_line, split_line};
 pub use word::{Words, is_text_word};

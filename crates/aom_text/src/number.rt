@@ -1,16 +1,16 @@
 //! Numbers.
 ghost use Rattle.std.specs.Prelude.{◌≡◌, ◌≤◌, ◌<◌, ◌^◌, not, length};
 ghost use Rattle.std.specs.List.{list_all};
-ghost use Rattle.aom_text.specs.Numbers.{is_digit, is_digits, digits_size, most, number_from, number_of, number_within, number_signed};
+ghost use Rattle.aom_text.specs.Numbers.{is_digit, is_digits, digits_size, most, number_from, number_of, number_below, number_within, number_signed, SizesAreTold};
 
 /// Sizes from here on are not told apart: each is out of every range.
-const MOST: u64 = 1 << 40;
+const MOST: u64 = 1 << 50;
 
 /// A decimal number, with a minus or without.
 #[derive(Clone, Copy, PartialEq, Eq, Debug)]
 pub struct Number {
     pub is_negative: bool,
-    /// At most 2^40, which also stands for what is larger.
+    /// At most 2^50, which also stands for what is larger.
     pub size: u64,
 }
 
@@ -50,6 +50,25 @@ impl Number {
         }
     }
 
+    /// The number, if it is from 0 to high. Exact however large the number is.
+    pub fn up_to(self, high: u64) -> Option<u64>
+        requires { high < 2 ^ 50 }
+        ensures { result ≡ number_within 0 high self }
+    {
+        if (!self.is_negative || self.size == 0) && self.size <= high {
+            Some(self.size)
+        } else {
+            None
+        }
+    }
+
+    /// Whether the number is below a limit. Exact for limits below 2^50, however large the number is.
+    pub fn is_below(self, limit: u64) -> bool
+        ensures { result ≡ number_below limit self }
+    {
+        (self.is_negative && self.size != 0) || self.size < limit
+    }
+
     /// The number, if it has 32 bits with its sign.
     pub fn signed(self) -> Option<i32>
         ensures { result ≡ number_signed self }
@@ -62,6 +81,12 @@ impl Number {
             None
         }
     }
+}
+
+/// Below the most size the sizes that are told are the true ones: no comparison with a limit there goes wrong.
+pub fn sizes_are_told()
+    ensures { SizesAreTold }
+{
 }
 
 fn is_digit(b: u8) -> bool
@@ -79,7 +104,7 @@ fn is_digits(word: &[u8]) -> bool
 /// The size that digits spell.
 fn size_of(digits: &[u8]) -> u64
     ensures size { result ≡ most (digits_size digits.now) }
-    ensures bounded { result ≤ 2 ^ 40 }
+    ensures bounded { result ≤ 2 ^ 50 }
 {
     let mut size = 0;
     for digit in digits {

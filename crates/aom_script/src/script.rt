@@ -1,32 +1,31 @@
 //! A script, and how its text is read.
 ghost use Rattle.std.specs.Prelude.{◌≡◌, ◌⊎◌, [], IfOk, IfErr, Ok, Err};
 ghost use Rattle.aom_text.specs.Text.{lines_of};
-ghost use Rattle.aom_run.specs.Script.{denoted, denoted_by, Adds, LinesWantMemory, RefusesOrWants};
+ghost use Rattle.aom_script.specs.Script.{denoted, denoted_by, last_time, Adds, IsTimely, Keeps, LinesWantMemory, RefusesOrWants};
 
 use crate::line::{ScriptLine, read_line};
 use crate::{ScriptFault, ScriptFaultKind};
 use aom_text::split_line;
+use aom_transcript::TimedEvent;
 use std::alloc::{AllocError, Global};
 use std::marker::Model;
 
 /// The most bytes of a script's text.
 const MOST_BYTES: usize = 1 << 20;
 
-/// The most lines of a script's text.
-const MOST_LINES: u32 = 65536;
-
 /// What a script says.
 #[derive(Drop)]
 pub struct Script {
     refused: Vec<u32>,
+    timed: Vec<TimedEvent>,
 }
 
 impl Model for Script {
-    ghost use Rattle.aom_run.specs.Script.{Script as ScriptRecord};
+    ghost use Rattle.aom_script.specs.Script.{Script as ScriptRecord};
 
     ghost Value = { ScriptRecord };
 
-    ghost view = { λ s. record { refused = s.refused.items } };
+    ghost view = { λ s. record { refused = s.refused.items; timed = s.timed.items } };
 }
 
 impl Script {
@@ -37,32 +36,58 @@ impl Script {
         self.refused.as_slice()
     }
 
+    /// What comes from outside, in the order of the text. No time is below the one before it.
+    pub fn events(&self) -> &[TimedEvent]
+        ensures { result.now ≡ self.now.timed }
+    {
+        self.timed.as_slice()
+    }
+
     fn empty(alloc: Global) -> Script
-        ensures { result.refused ≡ [] }
+        ensures refused { result.refused ≡ [] }
+        ensures timed { result.timed ≡ [] }
     {
         Script {
             refused: Vec::new(alloc),
+            timed: Vec::new(alloc),
         }
+    }
+
+    /// The time of the last event, or 0.
+    fn last_time(&self) -> u64
+        ensures { result ≡ last_time self.now.timed }
+    {
+        match self.timed.last() {
+            Some(event) => event.time,
+            None => 0,
+        }
+    }
+
+    /// Adds what a line says.
+    fn keep(&mut self, said: ScriptLine) -> Result<(), ScriptFaultKind>
+        ensures { Keeps said self.old self.new result }
+    {
+        match said {
+            ScriptLine::Empty => {}
+            ScriptLine::Refuse(request) => self.refused.push(request)?,
+            ScriptLine::Timed(event) => self.timed.push(event)?,
+        }
+        Ok(())
     }
 
     /// Adds what the line of that number says.
     fn add(&mut self, number: u32, line: &[u8]) -> Result<(), ScriptFaultKind>
         ensures { Adds number line.now self.old self.new result }
     {
-        let said = read_line(line)?;
-        if number > MOST_LINES {
-            return Err(ScriptFaultKind::LimitPassed);
-        }
-        if let ScriptLine::Refuse(request) = said {
-            self.refused.push(request)?;
-        }
-        Ok(())
+        let said = read_line(number, self.last_time(), line)?;
+        self.keep(said)
     }
 }
 
 /// Reads a script.
 pub fn read_script(alloc: Global, text: &[u8]) -> Result<Script, ScriptFault>
     ensures ok { IfOk result (λ script. denoted text.now ≡ Ok script) }
+    ensures timely { IfOk result (λ script. IsTimely script.timed) }
     ensures err { IfErr result (λ fault. RefusesOrWants text.now fault) }
 {
     if text.len() > MOST_BYTES {

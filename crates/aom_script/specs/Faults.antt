@@ -1,8 +1,8 @@
 -- The faults of a script, as they are told.
 use Rattle.std.specs.Prelude.{ℕ, List, ◌++◌, codes, decimal}
-use Rattle.aom_run.specs.declared.fault.ScriptFault.{ScriptFault}
-use Rattle.aom_run.specs.declared.fault.ScriptFaultKind.{ScriptFaultKind}
-use Rattle.aom_run.specs.declared.fault.ScriptFaultKind.TheVariants.{NotAscii, BadLine, BadNumber, TimeBack, LimitPassed, OutOfMemory}
+use Rattle.aom_script.specs.declared.fault.ScriptFault.{ScriptFault}
+use Rattle.aom_script.specs.declared.fault.ScriptFaultKind.{ScriptFaultKind}
+use Rattle.aom_script.specs.declared.fault.ScriptFaultKind.TheVariants.{NotAscii, BadLine, BadNumber, TimeBack, LimitPassed, OutOfMemory}
 
 -- the number of a fault
 abbrev pub number_of : ScriptFaultKind → ℕ

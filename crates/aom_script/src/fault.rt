@@ -1,7 +1,7 @@
 //! Why a script is refused.
 ghost use Rattle.std.specs.Prelude.{◌≡◌};
-ghost use Rattle.aom_run.specs.Faults.{number_of};
-ghost use Rattle.aom_run.specs.declared.fault.ScriptFaultKind.TheVariants.{OutOfMemory};
+ghost use Rattle.aom_script.specs.Faults.{number_of};
+ghost use Rattle.aom_script.specs.declared.fault.ScriptFaultKind.TheVariants.{OutOfMemory};
 
 use std::alloc::AllocFailed;
 use std::fmt;
@@ -48,7 +48,7 @@ pub struct ScriptFault {
 
 impl fmt::Display for ScriptFault {
     ghost use Rattle.std.specs.Prelude.{Some};
-    ghost use Rattle.aom_run.specs.Faults.{fault_text};
+    ghost use Rattle.aom_script.specs.Faults.{fault_text};
 
     ghost output = { λ f. Some (fault_text f) };
 

@@ -1,7 +1,7 @@
 use Rattle.std.proofs.Common.{◌≤◌, length}
 use Rattle.aom_text.specs.Text.{lines_of}
-use Rattle.aom_run.proofs.Lines.{SoFar}
-use Rattle.aom_run.proofs.script.read_lines.Given as goal
+use Rattle.aom_script.proofs.Lines.{SoFar}
+use Rattle.aom_script.proofs.script.read_lines.Given as goal
 
 abbrev pub invariant-loop-rest : goal.invariant-loop-rest
 invariant-loop-rest l = record {

@@ -1,8 +1,8 @@
 -- The lines that are read are those before what is left.
 use Rattle.std.proofs.Common.{subst}
 use Rattle.aom_text.specs.Text.{lines_of}
-use Rattle.aom_run.proofs.Lines.{SoFar, stops, goes_on, few}
-use Rattle.aom_run.proofs.script.read_lines.Goals as goal
+use Rattle.aom_script.proofs.Lines.{SoFar, stops, goes_on, few}
+use Rattle.aom_script.proofs.script.read_lines.Goals as goal
 
 pub returns-in-Err-clause-err : goal.returns-in-Err-clause-err
 returns-in-Err-clause-err c =

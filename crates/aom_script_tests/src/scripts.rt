@@ -1,5 +1,5 @@
 //! Scripts that are read, and each fault with its line.
-use aom_run::{ScriptFault, ScriptFaultKind, read_script};
+use aom_script::{ScriptFault, ScriptFaultKind, read_script};
 use std::alloc::Global;
 use std::test::Fail;
 
@@ -37,7 +37,8 @@ fn requests_are_refused_in_the_order_of_the_text(rt: HostRuntime) -> Result<(), 
 #[test]
 fn a_bad_line_is_told_first(rt: HostRuntime) -> Result<(), Fail> {
     for (text, line, kind) in [
-        ("0 kill 0".as_bytes(), 1, ScriptFaultKind::BadLine),
+        ("0 close 0".as_bytes(), 1, ScriptFaultKind::BadLine),
+        (b"foo", 1, ScriptFaultKind::BadLine),
         (b"\n\n \nrefuse 1\n\x00", 5, ScriptFaultKind::NotAscii),
         (b"\n\x0b\nword", 2, ScriptFaultKind::NotAscii),
         (b"word \x7f", 1, ScriptFaultKind::NotAscii),

@@ -1,0 +1,128 @@
+-- No fault of a text is want of memory: by the definition of what a text denotes.
+use Rattle.std.proofs.Common.{◌≡◌, ℕ, ◌+◌, ◌^◌, nat_le, if◌then◌else◌, Bool, true, false, List, [], ◌∷◌, ◌++◌, length, codes, Option, None, Some, Result, Ok, Err, subst}
+use Rattle.std.specs.List.{list_all}
+use Rattle.std.specs.Str.{bytes_eq}
+use Rattle.aom_text.specs.Numbers.{number_of}
+use Rattle.aom_text.specs.Text.{lines_of}
+use Rattle.aom_text.specs.Words.{is_plain, words}
+use Rattle.aom_text.specs.declared.number.Number.{Number}
+use Rattle.aom_script.specs.Script.{Script, counted, denoted, denoted_by, event_says, fault_in, fault_of, faults_after, in_line, in_place, is_back, is_refusal, kill_numbers, kill_says, last_time, line_says, reading_of, refusal_says, refused_in, said_by, tell_numbers, timed_in, timed_says, unless, words_say}
+use Rattle.aom_script.specs.declared.fault.ScriptFault.{ScriptFault}
+use Rattle.aom_script.specs.declared.fault.ScriptFaultKind.{ScriptFaultKind}
+use Rattle.aom_script.specs.declared.fault.ScriptFaultKind.TheVariants.{NotAscii, BadLine, BadNumber, TimeBack, LimitPassed, OutOfMemory}
+use Rattle.aom_script.specs.declared.line.ScriptLine.{ScriptLine}
+use Rattle.aom_script.specs.declared.reading.Reading.{Reading}
+
+-- a fault of the text itself
+abbrev pub IsOfText : ScriptFaultKind → Type 0
+IsOfText NotAscii = Unit {0}
+IsOfText BadLine = Unit {0}
+IsOfText BadNumber = Unit {0}
+IsOfText TimeBack = Unit {0}
+IsOfText LimitPassed = Unit {0}
+IsOfText OutOfMemory = ⊥
+
+abbrev Fails_so : {A : Type 0} → Result A ScriptFaultKind → Type 0
+Fails_so (Ok x) = Unit {0}
+Fails_so (Err kind) = IsOfText kind
+
+abbrev Has_so : Option ScriptFaultKind → Type 0
+Has_so None = Unit {0}
+Has_so (Some kind) = IsOfText kind
+
+abbrev All_so : List ScriptFault → Type 0
+All_so [] = Unit {0}
+All_so (fault ∷ faults) = IsOfText fault.kind × All_so faults
+
+abbrev Denotes_so : Result Script ScriptFault → Type 0
+Denotes_so (Ok script) = Unit {0}
+Denotes_so (Err fault) = IsOfText fault.kind
+
+either : {A : Type 0} (P : A → Type 0) (b : Bool) (x y : A) → P x → P y → P (if b then x else y)
+either P true x y here there = here
+either P false x y here there = there
+
+-- ---- the kinds of lines
+
+refusals : (request : Option Number) → Fails_so (refusal_says request)
+refusals None = tt
+refusals (Some request) = tt
+
+tells : (time native word : Option Number) → Fails_so (tell_numbers time native word)
+tells (Some time) (Some native) (Some word) = tt
+tells (Some time) (Some native) None = tt
+tells (Some time) None word = tt
+tells None native word = tt
+
+kills : (time native : Option Number) → Fails_so (kill_numbers time native)
+kills (Some time) (Some native) = tt
+kills (Some time) None = tt
+kills None native = tt
+
+events : (ws : List (List ℕ)) → Fails_so (event_says ws)
+events [] = tt
+events (time ∷ []) = tt
+events (time ∷ native ∷ []) = tt
+events (time ∷ native ∷ word ∷ []) = tells (number_of time) (number_of native) (number_of word)
+events (time ∷ native ∷ word ∷ other ∷ ws) = tt
+
+ends : (ws : List (List ℕ)) → Fails_so (kill_says ws)
+ends [] = tt
+ends (time ∷ []) = tt
+ends (time ∷ native ∷ []) = kills (number_of time) (number_of native)
+ends (time ∷ native ∷ other ∷ ws) = tt
+
+timed : (kind : List ℕ) (ws : List (List ℕ)) → Fails_so (timed_says kind ws)
+timed kind ws =
+    let not_event = either Fails_so (bytes_eq kind (codes "kill")) (kill_says ws) (Err BadLine) (ends ws) tt in
+    either Fails_so (bytes_eq kind (codes "event")) (event_says ws) (if bytes_eq kind (codes "kill") then kill_says ws else Err BadLine) (events ws) not_event
+
+of_words : (ws : List (List ℕ)) → Fails_so (words_say ws)
+of_words [] = tt
+of_words (first ∷ []) = tt
+of_words (first ∷ second ∷ others) = either Fails_so (is_refusal first others) (refusal_says (number_of second)) (timed_says second (first ∷ others)) (refusals (number_of second)) (timed second (first ∷ others))
+
+of_reading : (line : List ℕ) → Fails_so (reading_of line)
+of_reading line = either Fails_so (list_all is_plain line) (words_say (words line)) (Err NotAscii) (of_words (words line)) tt
+
+-- ---- lines in their places
+
+of_count : (number : ℕ) (said : Option ScriptLine) → Fails_so (counted number said)
+of_count number None = tt
+of_count number (Some said) = either Fails_so (nat_le number 65536) (Ok said) (Err LimitPassed) tt tt
+
+of_place : (number last : ℕ) (reading : Result Reading ScriptFaultKind) → Fails_so reading → Fails_so (in_place number last reading)
+of_place number last (Err kind) h = h
+of_place number last (Ok reading) h = either Fails_so (is_back last reading) (Err TimeBack) (counted number (said_by reading)) tt (of_count number (said_by reading))
+
+has_so : (said : Result ScriptLine ScriptFaultKind) → Fails_so said → Has_so (fault_in said)
+has_so (Ok said) h = tt
+has_so (Err kind) h = h
+
+added : (number : ℕ) (fault : Option ScriptFaultKind) (faults : List ScriptFault) → Has_so fault → All_so faults → All_so (in_line number fault ++ faults)
+added number None faults h hs = hs
+added number (Some kind) faults h hs = (h, hs)
+
+of_line : (before : List (List ℕ)) (line : List ℕ) → Has_so (fault_of before line)
+of_line before line =
+    let number = length before + 1 in
+    let last = last_time (timed_in before) in
+    has_so (line_says number last line) (of_place number last (reading_of line) (of_reading line))
+
+of_lines : (before lines : List (List ℕ)) → All_so (faults_after before lines)
+of_lines before [] = tt
+of_lines before (line ∷ lines) = added (length before + 1) (fault_of before line) (faults_after (before ++ line ∷ []) lines) (of_line before line) (of_lines (before ++ line ∷ []) lines)
+
+first_so : (faults : List ScriptFault) (script : Script) → All_so faults → Denotes_so (unless faults script)
+first_so [] script h = tt
+first_so (fault ∷ faults) script h = h.0
+
+of_text : (text : List ℕ) → Denotes_so (denoted text)
+of_text text =
+    let lines = lines_of text in
+    let script : Script = record { refused = refused_in lines; timed = timed_in lines } in
+    either Denotes_so (nat_le (length text) (2 ^ 20)) (denoted_by lines) (Err (record { line = 1; kind = LimitPassed })) (first_so (faults_after [] lines) script (of_lines [] lines)) tt
+
+-- the fault that a text denotes
+pub is_of_text : (text : List ℕ) (fault : ScriptFault) → denoted text ≡ Err fault → IsOfText fault.kind
+is_of_text text fault denotes = subst Denotes_so denotes (of_text text)

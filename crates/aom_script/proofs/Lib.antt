@@ -1,0 +1,3 @@
+pub mod Faulting
+pub mod Lines
+pub mod Timely

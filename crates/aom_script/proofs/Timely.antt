@@ -1,0 +1,121 @@
+-- The times of a denoted script never fall and its numbers are in their ranges: line by line, by the lines before.
+use Rattle.std.proofs.Common.{◌≡◌, ◌∙◌, ◌≤◌, ◌<◌, ℕ, ◌+◌, ◌^◌, ◌==◌, ◌&&◌, ◌||◌, Bool, true, false, not, nat_le, List, [], ◌∷◌, ◌++◌, length, append-nil, Option, None, Some, Result, Ok, Err, refl, sym, ap, subst, arith, rules, tests}
+use Rattle.std.proofs.lemmas.Grind.{flat_map-append, fold-append}
+use Rattle.std.specs.Prelude.{cond, option_map, ℤ}
+use Rattle.std.specs.List.{All}
+use Rattle.std.proofs.lemmas.List.Elements.{All-nil, All-cons}
+use Rattle.aom_text.specs.Numbers.{number_below, number_within, number_signed}
+use Rattle.aom_text.specs.declared.number.Number.{Number}
+use Rattle.aom_transcript.specs.declared.event.Event.{Event}
+use Rattle.aom_transcript.specs.declared.event.Event.TheVariants.{Tell, Kill}
+use Rattle.aom_transcript.specs.declared.event.TimedEvent.{TimedEvent}
+use Rattle.aom_script.specs.declared.fault.ScriptFault.{ScriptFault}
+use Rattle.aom_script.specs.declared.fault.ScriptFaultKind.{ScriptFaultKind}
+use Rattle.aom_script.specs.declared.line.ScriptLine.{ScriptLine}
+use Rattle.aom_script.specs.declared.line.ScriptLine.TheVariants.{Empty, Refuse, Timed}
+use Rattle.aom_script.specs.declared.reading.EventNumbers.{EventNumbers}
+use Rattle.aom_script.specs.declared.reading.EventNumbers.TheVariants.{ToTell, ToKill}
+use Rattle.aom_script.specs.declared.reading.Reading.{Reading}
+use Rattle.aom_script.specs.declared.reading.Reading.TheVariants.{Blank, Refusal, At}
+use Rattle.aom_script.specs.Script.{Script, reading_of, said_by, said_in, event_within, is_back, both, at_time, line_says, time_after, last_time, fault_in, timed_by, refused_in, timed_in, in_line, faults_after, unless, denoted_by, Rises, native_of, InRange, IsTimely}
+use Rattle.aom_script.proofs.Lines.{Said, is_said}
+
+-- ---- numbers
+
+pub in_range : (low high : ℕ) (n : Number) (k : ℕ) → number_within low high n ≡ Some k → (k ≡ n.size) × (k ≤ high)
+in_range low high n k e = go ((not n.is_negative || n.size == 0) && nat_le low n.size && nat_le n.size high) refl e where
+  go : (b : Bool) → ((not n.is_negative || n.size == 0) && nat_le low n.size && nat_le n.size high) ≡ b → cond b (Some n.size) None ≡ Some k → (k ≡ n.size) × (k ≤ high)
+  go true c e = let same : k ≡ n.size = cc in (same, subst (λ m. m ≤ high) (sym same) (search (rules, tests, c)))
+  go false c e = absurd cc
+
+not_below : (last : ℕ) (n : Number) → number_below last n ≡ false → last ≤ n.size
+not_below last n c = search (rules, tests, c)
+
+native_small : (event : EventNumbers) (e : Event) → event_within event ≡ Some e → native_of e < 16
+native_small (ToTell native word) e is = go (number_within 0 15 native) (number_signed word) refl is where
+  go : (n : Option ℕ) (w : Option ℤ) → number_within 0 15 native ≡ n → both Tell n w ≡ Some e → native_of e < 16
+  go (Some n) (Some w) within is = let small = (in_range 0 15 native n within).1 in subst (λ e. native_of e < 16) (the_event is) (omega (arith, small)) where
+    the_event : Some (Tell n w) ≡ Some e → Tell n w ≡ e
+    the_event is = cc
+  go (Some n) None within is = absurd cc
+  go None w within is = absurd cc
+native_small (ToKill native) e is = go (number_within 0 15 native) refl is where
+  go : (n : Option ℕ) → number_within 0 15 native ≡ n → option_map Kill n ≡ Some e → native_of e < 16
+  go (Some n) within is = let small = (in_range 0 15 native n within).1 in subst (λ e. native_of e < 16) (the_event is) (omega (arith, small)) where
+    the_event : Some (Kill n) ≡ Some e → Kill n ≡ e
+    the_event is = cc
+  go None within is = absurd cc
+
+-- ---- one line
+
+-- what a line adds to the events, after the last time
+pub record Fits (last : ℕ) (said : ScriptLine) : Type 0 where
+  pub rises : (events : List TimedEvent) → Rises (time_after last (timed_by (Some said))) events → Rises last (timed_by (Some said) ++ events)
+  pub in_range : (events : List TimedEvent) → All InRange events → All InRange (timed_by (Some said) ++ events)
+
+nothing : (last : ℕ) (said : ScriptLine) → timed_by (Some said) ≡ [] → Fits last said
+nothing last said none = record {
+  rises = λ events r. subst (λ es. Rises (time_after last es) events → Rises last (es ++ events)) (sym none) (λ r. r) r;
+  in_range = λ events a. subst (λ es. All InRange (es ++ events)) (sym none) a;
+}
+
+one : (last : ℕ) (event : TimedEvent) → last ≤ event.time → InRange event → Fits last (Timed event)
+one last event later within = record { rises = λ events r. (later, r); in_range = λ events a. All-cons InRange event events within a }
+
+timed_fits : (last : ℕ) (time : Number) (event : EventNumbers) (said : ScriptLine) → number_below last time ≡ false → both at_time (number_within 0 (10 ^ 15) time) (event_within event) ≡ Some said → Fits last said
+timed_fits last time event said on_time is = go (number_within 0 (10 ^ 15) time) (event_within event) refl refl is where
+  go : (t : Option ℕ) (e : Option Event) → number_within 0 (10 ^ 15) time ≡ t → event_within event ≡ e → both at_time t e ≡ Some said → Fits last said
+  go (Some t) (Some e) at comes is =
+      let within = in_range 0 (10 ^ 15) time t at in
+      let later = subst (λ k. last ≤ k) (sym within.0) (not_below last time on_time) in
+      subst (Fits last) (the_line is) (one last (record { time = t; event = e }) later (record { time = within.1; native = native_small event e comes })) where
+        the_line : Some (at_time t e) ≡ Some said → at_time t e ≡ said
+        the_line is = cc
+  go (Some t) None at comes is = absurd cc
+  go None e at comes is = absurd cc
+
+refusal_fits : (last : ℕ) (o : Option ℕ) (said : ScriptLine) → option_map Refuse o ≡ Some said → Fits last said
+refusal_fits last (Some request) said is = let line : Refuse request ≡ said = cc in nothing last said (ap (λ s. timed_by (Some s)) (sym line))
+refusal_fits last None said is = absurd cc
+
+fits : (last : ℕ) (reading : Reading) (said : ScriptLine) → is_back last reading ≡ false → said_by reading ≡ Some said → Fits last said
+fits last Blank said on_time is = let line : Empty ≡ said = cc in nothing last said (ap (λ s. timed_by (Some s)) (sym line))
+fits last (Refusal request) said on_time is = refusal_fits last _ said is
+fits last (At time event) said on_time is = timed_fits last time event said on_time is
+
+-- ---- all lines
+
+-- the last time, with one line more
+time_on : (before : List (List ℕ)) (line : List ℕ) → last_time (timed_in (before ++ line ∷ [])) ≡ time_after (last_time (timed_in before)) (timed_by (said_in (reading_of line)))
+time_on before line =
+    ap last_time (flat_map-append (λ l. timed_by (said_in (reading_of l))) before (line ∷ []) ∙ ap (λ es. timed_in before ++ es) (append-nil (timed_by (said_in (reading_of line)))))
+    ∙ fold-append (λ earlier event. event.time) 0 (timed_in before) (timed_by (said_in (reading_of line)))
+
+-- some events rise from that time on, and are in their ranges
+pub record Are (time : ℕ) (events : List TimedEvent) : Type 0 where
+  pub rises : Rises time events
+  pub in_range : All InRange events
+
+added : (last : ℕ) (reading : Result Reading ScriptFaultKind) (said : ScriptLine) (number : ℕ) (events : List TimedEvent) → Said number last reading said → Are (time_after last (timed_by (said_in reading))) events → Are last (timed_by (said_in reading) ++ events)
+added last reading said number events s are =
+    let is : said_in reading ≡ Some said = ap said_in s.reads ∙ s.says in
+    let f = fits last s.ok said s.on_time s.says in
+    subst (λ o. Are (time_after last (timed_by o)) events → Are last (timed_by o ++ events)) (sym is) (λ are. record { rises = f.rises events are.rises; in_range = f.in_range events are.in_range }) are
+
+timely_after : (before lines : List (List ℕ)) → faults_after before lines ≡ [] → Are (last_time (timed_in before)) (timed_in lines)
+timely_after before [] e = record { rises = tt; in_range = All-nil InRange }
+timely_after before (line ∷ lines) e = go (line_says (length before + 1) (last_time (timed_in before)) line) (timely_after (before ++ line ∷ []) lines) refl e where
+  go : (said : Result ScriptLine ScriptFaultKind) → (faults_after (before ++ line ∷ []) lines ≡ [] → Are (last_time (timed_in (before ++ line ∷ []))) (timed_in lines)) → line_says (length before + 1) (last_time (timed_in before)) line ≡ said → in_line (length before + 1) (fault_in said) ++ faults_after (before ++ line ∷ []) lines ≡ [] → Are (last_time (timed_in before)) (timed_in (line ∷ lines))
+  go (Ok said) rest says e =
+      let later = subst (λ t. Are t (timed_in lines)) (time_on before line) (rest e) in
+      added (last_time (timed_in before)) (reading_of line) said (length before + 1) (timed_in lines) (is_said (length before + 1) (last_time (timed_in before)) (reading_of line) said says) later
+  go (Err kind) rest says e = absurd cc
+
+the_timed : (lines : List (List ℕ)) (script : Script) → unless [] (record { refused = refused_in lines; timed = timed_in lines }) ≡ Ok script → timed_in lines ≡ script.timed
+the_timed lines script e = let same : record { refused = refused_in lines; timed = timed_in lines } ≡ script = cc in ap (λ (s : Script). s.timed) same
+
+pub timely : (lines : List (List ℕ)) (script : Script) → denoted_by lines ≡ Ok script → IsTimely script.timed
+timely lines script e = go (faults_after [] lines) refl e where
+  go : (faults : List ScriptFault) → faults_after [] lines ≡ faults → unless faults (record { refused = refused_in lines; timed = timed_in lines }) ≡ Ok script → IsTimely script.timed
+  go [] none e = let are = timely_after [] lines none in subst IsTimely (the_timed lines script e) (record { rises = are.rises; in_range = are.in_range })
+  go (fault ∷ faults) some e = absurd cc

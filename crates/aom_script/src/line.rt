@@ -1,0 +1,72 @@
+//! What a line of a script says.
+ghost use Rattle.std.specs.Prelude.{◌≡◌};
+ghost use Rattle.aom_text.specs.Numbers.{number_within};
+ghost use Rattle.aom_script.specs.Script.{event_within, line_says, said_by};
+
+use crate::ScriptFaultKind;
+use crate::reading::{EventNumbers, Reading};
+use aom_text::Number;
+use aom_transcript::{Event, TimedEvent};
+
+/// The most lines of a script's text.
+const MOST_LINES: u32 = 65536;
+
+/// The latest time, in microseconds.
+const LATEST: u64 = 1_000_000_000_000_000;
+
+/// What a line says.
+#[derive(Clone, Copy, PartialEq, Eq, Debug)]
+pub enum ScriptLine {
+    Empty,
+    /// The allocation request of that number, counted from 1, is refused.
+    Refuse(u32),
+    /// An event comes.
+    Timed(TimedEvent),
+}
+
+/// Reads the line of that number, which is given without its line feed, after a time.
+pub fn read_line(number: u32, last: u64, line: &[u8]) -> Result<ScriptLine, ScriptFaultKind>
+    ensures { result ≡ line_says number last line.now }
+{
+    let reading = Reading::of(line)?;
+    if reading.is_back(last) {
+        return Err(ScriptFaultKind::TimeBack);
+    }
+    match said_by(reading) {
+        Some(said) if number <= MOST_LINES => Ok(said),
+        _ => Err(ScriptFaultKind::LimitPassed),
+    }
+}
+
+/// What a line's numbers say, if each is in its range.
+fn said_by(reading: Reading) -> Option<ScriptLine>
+    ensures { result ≡ said_by reading }
+{
+    match reading {
+        Reading::Blank => Some(ScriptLine::Empty),
+        Reading::Refusal(request) => Some(ScriptLine::Refuse(request.within(1, u32::MAX)?)),
+        Reading::At(time, event) => Some(ScriptLine::Timed(TimedEvent {
+            time: time.up_to(LATEST)?,
+            event: event_within(event)?,
+        })),
+    }
+}
+
+fn event_within(numbers: EventNumbers) -> Option<Event>
+    ensures { result ≡ event_within numbers }
+{
+    match numbers {
+        EventNumbers::ToTell(native, word) => Some(Event::Tell(
+            native_within(native)?,
+            word.signed()?,
+        )),
+        EventNumbers::ToKill(native) => Some(Event::Kill(native_within(native)?)),
+    }
+}
+
+/// The number of a native.
+fn native_within(number: Number) -> Option<u8>
+    ensures { result ≡ number_within 0 15 number }
+{
+    Some(number.within(0, 15)? as u8)
+}

@@ -1,0 +1,137 @@
+//! The numbers of a line, before any is looked at for its range.
+ghost use Rattle.std.specs.Prelude.{◌≡◌, ◌∷◌};
+ghost use Rattle.aom_text.specs.Numbers.{number_of};
+ghost use Rattle.aom_script.specs.Script.{event_says, is_back, is_refusal, kill_numbers, kill_says, reading_of, refusal_says, tell_numbers, timed_says, words_say};
+
+use crate::ScriptFaultKind;
+use aom_text::{Number, Words, is_text_word};
+
+/// The numbers of an event, without its time.
+#[derive(Clone, Copy, PartialEq, Eq, Debug)]
+pub enum EventNumbers {
+    /// A native, and the word that it is told.
+    ToTell(Number, Number),
+    /// A native.
+    ToKill(Number),
+}
+
+/// The numbers of a line.
+#[derive(Clone, Copy, PartialEq, Eq, Debug)]
+pub enum Reading {
+    Blank,
+    /// A request.
+    Refusal(Number),
+    /// A time, and what comes then.
+    At(Number, EventNumbers),
+}
+
+impl Reading {
+    /// Reads a line, which is given without its line feed.
+    pub fn of(line: &[u8]) -> Result<Reading, ScriptFaultKind>
+        ensures { result ≡ reading_of line.now }
+    {
+        if is_text_word(line) {
+            read_words(Words::of(line))
+        } else {
+            Err(ScriptFaultKind::NotAscii)
+        }
+    }
+
+    /// Whether it has a time, and that is below the last one.
+    pub fn is_back(self, last: u64) -> bool
+        ensures { result ≡ is_back last self }
+    {
+        match self {
+            Reading::At(time, _) => time.is_below(last),
+            _ => false,
+        }
+    }
+}
+
+/// Reads the words of a line.
+fn read_words(words: Words) -> Result<Reading, ScriptFaultKind>
+    ensures { result ≡ words_say words.entry }
+{
+    let mut words = words;
+    let Some(first) = words.next() else {
+        return Ok(Reading::Blank);
+    };
+    let Some(second) = words.next() else {
+        return Err(ScriptFaultKind::BadLine);
+    };
+    if is_refusal(first, &words) {
+        read_refusal(second)
+    } else {
+        read_timed(second, first, words)
+    }
+}
+
+/// Whether the first word is `refuse`, with one word behind it that is read.
+fn is_refusal(first: &[u8], others: &Words) -> bool
+    ensures { result ≡ is_refusal first.now others.now }
+{
+    first == b"refuse".as_slice() && others.is_empty()
+}
+
+fn read_refusal(request: &[u8]) -> Result<Reading, ScriptFaultKind>
+    ensures { result ≡ refusal_says (number_of request.now) }
+{
+    match Number::of(request) {
+        Some(request) => Ok(Reading::Refusal(request)),
+        None => Err(ScriptFaultKind::BadNumber),
+    }
+}
+
+/// Reads a timed line by its kind, its time and the words after them.
+fn read_timed(kind: &[u8], time: &[u8], words: Words) -> Result<Reading, ScriptFaultKind>
+    ensures { result ≡ timed_says kind.now (time.now ∷ words.entry) }
+{
+    if kind == b"event".as_slice() {
+        read_event(time, words)
+    } else if kind == b"kill".as_slice() {
+        read_kill(time, words)
+    } else {
+        Err(ScriptFaultKind::BadLine)
+    }
+}
+
+fn read_event(time: &[u8], words: Words) -> Result<Reading, ScriptFaultKind>
+    ensures { result ≡ event_says (time.now ∷ words.entry) }
+{
+    let mut words = words;
+    match (words.next(), words.next()) {
+        (Some(native), Some(word)) if words.is_empty() => read_tell(time, native, word),
+        _ => Err(ScriptFaultKind::BadLine),
+    }
+}
+
+fn read_tell(time: &[u8], native: &[u8], word: &[u8]) -> Result<Reading, ScriptFaultKind>
+    ensures { result ≡ tell_numbers (number_of time.now) (number_of native.now) (number_of word.now) }
+{
+    match (Number::of(time), Number::of(native), Number::of(word)) {
+        (Some(time), Some(native), Some(word)) => Ok(Reading::At(
+            time,
+            EventNumbers::ToTell(native, word),
+        )),
+        _ => Err(ScriptFaultKind::BadNumber),
+    }
+}
+
+fn read_kill(time: &[u8], words: Words) -> Result<Reading, ScriptFaultKind>
+    ensures { result ≡ kill_says (time.now ∷ words.entry) }
+{
+    let mut words = words;
+    match words.next() {
+        Some(native) if words.is_empty() => read_killed(time, native),
+        _ => Err(ScriptFaultKind::BadLine),
+    }
+}
+
+fn read_killed(time: &[u8], native: &[u8]) -> Result<Reading, ScriptFaultKind>
+    ensures { result ≡ kill_numbers (number_of time.now) (number_of native.now) }
+{
+    match (Number::of(time), Number::of(native)) {
+        (Some(time), Some(native)) => Ok(Reading::At(time, EventNumbers::ToKill(native))),
+        _ => Err(ScriptFaultKind::BadNumber),
+    }
+}

@@ -1,0 +1,7 @@
+//! Tests of `aom_script`, in a crate of their own: a crate with tests is proved twice.
+#![tactic(auto)]
+
+#[cfg(test)]
+mod events;
+#[cfg(test)]
+mod scripts;
