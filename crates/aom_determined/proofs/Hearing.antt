@@ -1,5 +1,5 @@
 -- What a native answers counts only where it is heard.
-use Rattle.std.proofs.Common.{List, None, Option, Some, [], absurd, ap, arith, false, refl, ℕ, ℤ, ◌∷◌, ◌≡◌}
+use Rattle.std.proofs.Common.{List, None, Option, Some, [], ap, arith, false, refl, ℕ, ℤ, ◌∷◌, ◌≡◌}
 use Rattle.aom_image.specs.Image.{Image}
 use Rattle.aom_image.specs.Views.{instr_at, class_at}
 use Rattle.aom_image.specs.declared.class.ClassKind.{ClassKind}
@@ -94,7 +94,7 @@ unnamed_unserved p formed none = record { none = go }
   where
     there : (o : Option ClassDecl) (c : ℕ) → slice_get p.classes c ≡ o → is_native_kind (kind_in o) ≡ false
     there None c is = refl
-    there (Some d) c is = class_unserved p d none (all_there (ClassFits (length p.classes) p.header.natives) p.classes c d formed.classes is)
+    there (Some d) c is = class_unserved p d none (all_there (ClassFits (length p.classes) p.header.natives) p.classes c d formed.classes.each is)
 
     go : (class : Option ℕ) → is_native_kind (kind_of p class) ≡ false
     go None = refl

@@ -1,13 +1,18 @@
 -- What comes between dispatches, until an object is dispatched or the run ends.
-use Rattle.std.specs.Prelude.{◌≡◌, ◌<◌, ◌≤◌, ◌+◌, ◌-◌, ◌++◌, is_some, ℕ, Bool, true, false, List, [], Option, Some, None, length}
+use Rattle.std.specs.Prelude.{◌≡◌, ◌⊎◌, ◌<◌, ◌≤◌, ◌+◌, ◌-◌, ◌++◌, is_some, ℕ, true, List, [], Option, Some, None, length}
 use Rattle.aom_sound.specs.State.{State}
-use Rattle.aom_sound.specs.World.{Outside, Reaches, Timed, first_due}
+use Rattle.aom_sound.specs.World.{Outside, Reaches, Timed, event_at, first_due, refusing}
 use Rattle.aom_steps.specs.Payers.{payer}
+use Rattle.aom_transcript.specs.declared.event.TimedEvent.{TimedEvent}
 use Rattle.aom_transcript.specs.declared.line.Line.{Line}
 use Rattle.aom_transcript.specs.declared.line.Ending.{Ending}
 use Rattle.aom_lines.specs.Turn.{Turn}
-use Rattle.aom_exec.specs.Steps.{Machine, StandsFor}
+use Rattle.aom_exec.specs.Steps.{Machine, StandsFor, timers}
 use Rattle.aom_exec.specs.Turns.{NoneDue}
+
+-- what comes from outside of the image, where there is no native
+abbrev pub outside_of : List ℕ → ℕ → List TimedEvent → Outside
+outside_of refused limit events = record (refusing refused limit) { events = events }
 
 -- ---- timers
 
@@ -27,6 +32,36 @@ CompletesDue old new =
     × (u.rest ≡ s.rest)
     × StandsFor new u
 
+-- ---- events
+
+-- the next event comes later than the machine's clock says, if there is one
+abbrev pub NoneHasCome : List TimedEvent → Machine → Type 0
+NoneHasCome events m = (e : TimedEvent) → event_at events m.parts.rest.delivered ≡ Some e → m.parts.rest.clock < e.time
+
+-- it has come
+abbrev pub HasCome : List TimedEvent → Machine → Type 0
+HasCome events m = (e : TimedEvent) × (event_at events m.parts.rest.delivered ≡ Some e) × (e.time ≤ m.parts.rest.clock)
+
+-- how many come yet
+abbrev pub to_come : List TimedEvent → Machine → ℕ
+to_come events m = length events - m.parts.rest.delivered
+
+-- and how many timers run besides
+abbrev pub waiting : List TimedEvent → Machine → ℕ
+waiting events m = timers m + to_come events m
+
+-- turns that write no line and dispatch nothing, where these events come
+abbrev pub Settles : List TimedEvent → Machine → Machine → Type 0
+Settles events old new =
+    (s : State) → StandsFor old s
+    → (u : State) × ((refused : List ℕ) (limit : ℕ) → s.rest.dispatches < limit → Reaches old.image (outside_of refused limit events) s [] u)
+    × (u.rest.dispatches ≡ s.rest.dispatches)
+    × StandsFor new u
+
+-- something that the machine waits for has come
+abbrev pub IsLate : List TimedEvent → Machine → Type 0
+IsLate events m = IsDue m ⊎ HasCome events m
+
 -- ---- what turns lead to
 
 -- an object is dispatched, with its line, or the run is over
@@ -42,16 +77,3 @@ TakesTurns old outside result told now new =
     × (now ≡ record told { lines = told.lines ++ lines })
     × LeadTo outside result s lines u
     × StandsFor new u
-
--- ---- how many dispatches there may still be
-
-abbrev pub one_where : Bool → ℕ
-one_where true = 1
-one_where false = 0
-
--- the dispatches of objects that have begun
-abbrev pub begun : State → ℕ
-begun s = s.rest.dispatches + one_where (is_some (payer s.tasks))
-
-abbrev pub spare : ℕ → State → ℕ
-spare limit s = limit - begun s
