@@ -1,5 +1,5 @@
 //! The clock, the counts, and how far the run has come.
-ghost use Rattle.std.specs.Prelude.{◌≡◌, Some, None, true, false, cond, []};
+ghost use Rattle.std.specs.Prelude.{◌≡◌, Some, None, true, false, cond};
 ghost use Rattle.aom_sound.specs.State.{raised};
 ghost use Rattle.aom_transcript.specs.declared.line.Ending.TheVariants.{Error, Limit, MainLeft, Stopped, Waiting};
 ghost use Rattle.aom_exec.specs.Counts.{raised_by};
@@ -17,22 +17,25 @@ pub struct Rest {
     dispatches: u64,
     announced: bool,
     stopped: bool,
+    /// Events that are delivered.
+    delivered: u64,
+    /// The natives before this one are polled in the turn at hand.
+    polled: u64,
     ended: Option<Ending>,
 }
 
 impl Model for Rest {
-    ghost use Rattle.std.specs.Prelude.{[]};
     ghost use Rattle.aom_sound.specs.State.{Rest as RestRecord};
 
     ghost Value = { RestRecord };
 
-    ghost view = { λ r. record { clock = r.clock; requests = r.requests; steps = r.steps; dispatches = r.dispatches; announced = r.announced; stopped = r.stopped; killed = []; ended = r.ended } };
+    ghost view = { λ r. record { clock = r.clock; requests = r.requests; steps = r.steps; dispatches = r.dispatches; announced = r.announced; stopped = r.stopped; delivered = r.delivered; polled = r.polled; ended = r.ended } };
 }
 
 impl Rest {
     /// Time 0, before anything.
     pub fn new() -> Rest
-        ensures { result ≡ record { clock = 0; requests = 0; steps = 0; dispatches = 0; announced = false; stopped = false; killed = []; ended = None } }
+        ensures { result ≡ record { clock = 0; requests = 0; steps = 0; dispatches = 0; announced = false; stopped = false; delivered = 0; polled = 0; ended = None } }
     {
         Rest {
             clock: 0,
@@ -41,6 +44,8 @@ impl Rest {
             dispatches: 0,
             announced: false,
             stopped: false,
+            delivered: 0,
+            polled: 0,
             ended: None,
         }
     }
