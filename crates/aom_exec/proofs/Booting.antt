@@ -1,5 +1,5 @@
 -- A machine that has booted stands for the boot state.
-use Rattle.std.proofs.Common.{◌≡◌, ◌==◌, ℕ, Bool, true, false, cond, [], ◌∷◌, Some, None, refl, sym, ap, ◌∙◌, subst, arith}
+use Rattle.std.proofs.Common.{◌≡◌, ◌==◌, ℕ, Bool, true, false, cond, [], ◌∷◌, Some, None, refl, sym, ap, ◌∙◌, subst, arith, length, replicate, slice_index_or}
 use Rattle.aom_image.specs.Image.{Image}
 use Rattle.aom_classes.specs.Admitted.{IsAdmitted}
 use Rattle.aom_classes.specs.Linked.{IsLinked}
@@ -37,6 +37,9 @@ use Rattle.aom_exec.proofs.Rooms.{boot_room}
 use Rattle.aom_exec.proofs.Standing.{begun_frame, begun_registers}
 use Rattle.aom_exec.proofs.Waiting.{none_waits}
 use Rattle.aom_exec.specs.Steps.{Sound, StandsFor}
+use Rattle.aom_sessions.specs.Sessions.{Standing, is_open}
+use Rattle.aom_exec.proofs.CellWords.{all_same}
+use Rattle.std.proofs.lemmas.List.{length-replicate}
 
 -- three tasks, none of which has anything there
 all_none : {A : Type 0} (a b c : Bool) (x y : A) → x ≡ y → cond a x (cond b y (cond c y y)) ≡ y
@@ -47,7 +50,11 @@ all_none false false c x y e = cond_same c y
 boot_tasks : (p : Image) (main : ℕ) → main_of p ≡ Some main → main_tasks (main_of p) ≡ Run (frame_of main AtRoot 1) ∷ Trapped ∷ Dispatched Of_main ∷ []
 boot_tasks p main e = ap main_tasks e
 
-module _ (p : Image) (m : Parts) (booted : Booted p m) where
+-- no cell has a session
+all_closed : (k n : ℕ) → slice_index_or (replicate k false) n false ≡ false
+all_closed k n = all_same k n false
+
+module _ (p : Image) (natives : ℕ) (m : Parts) (booted : Booted p natives m) where
   -- no place has anything
   no_value : (r : Place) → value m r ≡ null
   no_value (Register d i) = ap (λ us. register_in us d i) booted.tasks ∙ all_none (2 == d) (1 == d) (0 == d) _ null (begun_registers booted.main null i)
@@ -79,6 +86,11 @@ module _ (p : Image) (m : Parts) (booted : Booted p m) where
     };
     entries = subst (λ (e : Held_items). SameItems e.items (A_mark ∷ [])) (sym booted.entries) (tt, tt);
     requests = record { stands = booted.requests; limit = booted.numbers };
+    natives = record {
+      sessions = λ n. ap (λ (w : Standing). is_open w n) booted.sessions ∙ all_closed p.header.cells n;
+      dead = ap (λ (w : Standing). w.killed) booted.sessions;
+      limit = ap (λ (w : Standing). length w.flags) booted.sessions ∙ length-replicate p.header.cells false;
+    };
     rest = booted.rest;
     room = (let d = booted.depth in omega arith);
     entry_room = (let d = ap (λ (e : Held_items). e.depth) booted.entries in omega arith);
@@ -91,9 +103,9 @@ module _ (p : Image) (m : Parts) (booted : Booted p m) where
 abbrev pub Afforded : Image → Type 0
 Afforded p = (t : Typing) × IsStrongest p t × (c : Prices) × IsAffordable p t c × CostsWithin p c
 
-pub boots : (p : Image) (m : Parts) → IsLinked p → IsAdmitted p → Afforded p → HasDepths p → HasHeights p → BootKeeps → StepKeeps → CalmKeeps → LinkedIsWired → BootWithin → MovesPay
-    → Booted p m → StandsFor (record { image = p; parts = m }) (boot_state p)
-boots p m linked admitted (t, strongest, prices, affordable, costs) depths heights boot_keeps step_keeps calm_keeps wired boot_within moves_pay booted =
+pub boots : (p : Image) (natives : ℕ) (m : Parts) → IsLinked p → IsAdmitted p → Afforded p → HasDepths p → HasHeights p → BootKeeps → StepKeeps → CalmKeeps → LinkedIsWired → BootWithin → MovesPay
+    → Booted p natives m → StandsFor (record { image = p; parts = m }) (boot_state p)
+boots p natives m linked admitted (t, strongest, prices, affordable, costs) depths heights boot_keeps step_keeps calm_keeps wired boot_within moves_pay booted =
     let w = wired p booted.formed linked in
     let sound : Sound p t = record {
       formed = booted.formed;
@@ -119,5 +131,5 @@ boots p m linked admitted (t, strongest, prices, affordable, costs) depths heigh
       room = boot_room p t sound;
       waits = none_waits p t;
       within = boots_within p t prices linked strongest.typed affordable boot_within;
-      agrees = boot_agrees p m booted;
+      agrees = boot_agrees p natives m booted;
     }

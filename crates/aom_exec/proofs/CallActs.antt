@@ -30,7 +30,7 @@ pub stop_does : (m : Parts) (refused : List ℕ) → Does refused Stop m (acts.n
 stop_does m refused = plain_does m (acts.next (record m { rest = record m.rest { stopped = true } })) refused Stop refl (λ p h c met.
     let s = h.state in
     goes_on_as p m h (record m { rest = record m.rest { stopped = true } }) s.cells s.items (record s.rest { stopped = true })
-    (record { stack = refl; cells = h.agrees.cells; entries = h.agrees.entries; requests = h.agrees.requests; rest = ap (λ (r : Rest). record r { stopped = true }) h.agrees.rest; room = h.agrees.entry_room })
+    (record { stack = refl; cells = h.agrees.cells; entries = h.agrees.entries; requests = h.agrees.requests; natives = h.agrees.natives; rest = ap (λ (r : Rest). record r { stopped = true }) h.agrees.rest; room = h.agrees.entry_room })
     (λ f ms e top. top.values))
 
 -- where a dispatch is at its end, no register, entry or destruction owns
@@ -64,6 +64,7 @@ ended p m es s x d agrees marked same shut = record {
   cells = agrees.cells;
   entries = unmarked m.entries.items es.items s.items (ap (λ (e : Held_items). e.items) marked) agrees.entries;
   requests = agrees.requests;
+  natives = agrees.natives;
   rest = agrees.rest;
   room = agrees.room;
   entry_room = subst (λ n. 1024 ≤ n) (ap (λ (e : Held_items). e.depth) marked) agrees.entry_room;

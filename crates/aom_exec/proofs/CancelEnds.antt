@@ -36,7 +36,7 @@ use Rattle.aom_active.proofs.Telling.{standing_follows, told_cancelling, told_ov
 use Rattle.aom_frames.specs.Tasks.{Runs, method_here, this_here}
 use Rattle.aom_exec.specs.declared.parts.Parts.{Parts}
 use Rattle.aom_exec.specs.Acts.{At_hand, requested as counted}
-use Rattle.aom_exec.specs.Agrees.{Agrees, SameCells, SameRequests, Shows, home_number, word_at}
+use Rattle.aom_exec.specs.Agrees.{Agrees, SameCells, SameRequests, Shows, home_number, word_at, SameNatives}
 use Rattle.aom_exec.specs.Fields.{this}
 use Rattle.aom_exec.specs.Next.{IsNext, counting}
 use Rattle.aom_exec.specs.Places.{value}
@@ -46,6 +46,7 @@ use Rattle.aom_exec.proofs.Housing.{at_hand, needs_met}
 use Rattle.aom_exec.proofs.Standing.{by_top}
 use Rattle.aom_exec.proofs.Stepping.{at_step}
 use Rattle.aom_exec.proofs.Asking.{cells_asked}
+use Rattle.aom_exec.proofs.Sessions.{natives_asked}
 
 -- ---- the method works on an active object
 
@@ -216,6 +217,7 @@ module _ (p : Image) (m : Parts) (h : At_hand p m) where
     cells = ended_heap;
     entries = h.agrees.entries;
     requests = ended_requests act over.role (ap (method_role p) (sym (method_is p m h)) ∙ over.plays) over.was over.ends;
+    natives = by_ended (λ cs. SameNatives p m.sessions cs h.state.killed) h.agrees.natives (λ n r. natives_asked p m.sessions h.state.killed cells n r h.agrees.natives);
     rest = h.agrees.rest;
     room = h.agrees.room;
     entry_room = h.agrees.entry_room;

@@ -57,7 +57,7 @@ module _ (p : Image) (m : Parts) (t : Typing) (s : State) (typed : WellTyped p t
       let name : n ≡ o.name = sym there ∙ old from ∙ ap number e in
       let empty : held s.cells (Going (length ts)) ≡ None = nothing_held p m t s typed agrees (Going (length ts)) (sym (going_past us (length ts) (omega arith)) ∙ agrees.values (Going (length ts))) in
       subst (λ d. Agrees p (with_tasks (destroying d n us) mid) (destroyed p (Some o) js ts s)) (sym (ap (destructor_at p m.cells) name ∙ destructor_same p m t s typed agrees from o e))
-      (begins p mid below us ts from m.root n (destructor_of p o.thing) o (length js) m.rest s.rest name agrees.rest agrees.tasks agrees.cells same agrees.requests agrees.room agrees.entry_room
+      (begins p mid below us ts from m.root n (destructor_of p o.thing) o (length js) m.rest s.rest name agrees.rest agrees.tasks agrees.cells same agrees.requests agrees.natives agrees.room agrees.entry_room
       (dying_shows p mid below us ts from m.root n v (word_at ts) old long refl there empty (value_popped us m.cells is m.root n (length js) even) (λ q. refl)))
 
   -- an operation is run
@@ -84,6 +84,7 @@ module _ (p : Image) (m : Parts) (t : Typing) (s : State) (typed : WellTyped p t
         cells = agrees.cells;
         entries = same;
         requests = agrees.requests;
+        natives = agrees.natives;
         rest = agrees.rest;
         room = agrees.room;
         entry_room = agrees.entry_room;

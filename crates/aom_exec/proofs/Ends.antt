@@ -80,6 +80,7 @@ emptied p m s r r' agrees shut same = record {
   cells = agrees.cells;
   entries = agrees.entries;
   requests = agrees.requests;
+  natives = agrees.natives;
   rest = same;
   room = agrees.room;
   entry_room = agrees.entry_room;
@@ -210,6 +211,7 @@ module _ (p : Image) (m : Parts) (announced : m.rest.announced ≡ true) (t : Ty
           cells = agrees.cells;
           entries = agrees.entries;
           requests = agrees.requests;
+          natives = agrees.natives;
           rest = same_counts (λ r. r);
           room = agrees.room;
           entry_room = agrees.entry_room;
@@ -234,6 +236,7 @@ module _ (p : Image) (m : Parts) (told : Turn) (announced : m.rest.announced ≡
           choice = c.0;
           state = after;
           is_open = c.1;
+          hears = c.2;
           goes = is;
           typed = subst (Keeps p t) is (sound.keeps c.0 s typed c.1.name);
           agrees = subst (λ y. Agrees p new (dispatch_ends p (dispatch_of e.place y) (at_close s))) (sym (which m s e x ending)) (ends t s typed agrees e);

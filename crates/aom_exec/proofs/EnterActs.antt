@@ -45,6 +45,7 @@ use Rattle.aom_exec.proofs.WordActs.{plain_at}
 use Rattle.aom_exec.proofs.Standing.{Top, by_top, begun_frame, reframed, no_word}
 use Rattle.aom_exec.proofs.Stepping.{at_step}
 use Rattle.aom_exec.proofs.Values.{kept, moves, value_here, value_written, word_written, writes}
+use Rattle.aom_exec.proofs.Sessions.{natives_passed}
 
 -- what a method takes, and of which class it is
 pub arguments_here : (p : Image) (k : ℕ) (d : Method_decl) → method_at p k ≡ Some d → arguments_of p k ≡ d.arguments
@@ -317,6 +318,7 @@ call_does p m refused target k first x h here =
       cells = done.cells;
       entries = h.agrees.entries;
       requests = requests_passed p fr ts s m.active (suc (length ts)) xs first 0 s.cells h.agrees.requests;
+      natives = natives_passed p fr ts s m.sessions (suc (length ts)) xs first 0 s.cells h.agrees.natives;
       rest = h.agrees.rest;
       room = h.agrees.room;
       entry_room = h.agrees.entry_room;
@@ -349,6 +351,7 @@ trap_does p m refused target k first x h here =
       cells = done.cells;
       entries = (tt, h.agrees.entries);
       requests = requests_passed p fr ts s m.active (suc (suc (length ts))) xs first 0 s.cells h.agrees.requests;
+      natives = natives_passed p fr ts s m.sessions (suc (suc (length ts))) xs first 0 s.cells h.agrees.natives;
       rest = h.agrees.rest;
       room = h.agrees.room;
       entry_room = h.agrees.entry_room;

@@ -37,6 +37,7 @@ use Rattle.aom_exec.proofs.Stepping.{agrees_rest}
 use Rattle.aom_exec.proofs.Values.{kept, moves, value_here, value_written, word_written}
 use Rattle.aom_exec.proofs.WordActs.{plain_does, word_read}
 use Rattle.aom_exec.proofs.GoingOn.{framed, goes_on_as, goes_on_with}
+use Rattle.aom_exec.proofs.Sessions.{natives_moved}
 
 same_cond : {A : Type 0} (b : Bool) (x : A) → x ≡ cond b x x
 same_cond true x = refl
@@ -77,7 +78,7 @@ module _ (p : Image) (m : Parts) (h : At_hand p m) (r : Rest) (rest : record m.r
       let was = word_here fr ts a ∙ wordless in
       goes_on_with p m h (with_items (Holds_object n ∷ m.entries.items) (asked m)) (moved here there s.cells) (An_object ∷ s.items) r (put_at None fr.words a None)
       (on_top (with_register a null)) (with_register a null) (λ f ms. refl)
-      (record { stack = refl; cells = cells_moved p m.cells s.cells here there h.agrees.cells; entries = (tt, h.agrees.entries); requests = requests_moved p m.active s.cells here there h.agrees.requests; rest = rest; room = h.agrees.entry_room })
+      (record { stack = refl; cells = cells_moved p m.cells s.cells here there h.agrees.cells; entries = (tt, h.agrees.entries); requests = requests_moved p m.active s.cells here there h.agrees.requests; natives = natives_moved p m.sessions s.killed s.cells here there h.agrees.natives; rest = rest; room = h.agrees.entry_room })
       (λ f ms e top.
       let wide = top.frame.wide in
       let v = value_in (Runs_frame f ∷ ms) m.cells m.entries.items m.root in
@@ -98,7 +99,7 @@ module _ (p : Image) (m : Parts) (h : At_hand p m) (r : Rest) (rest : record m.r
       let s = h.state in
       let i = Holds_operation k (register_here m.stack.tasks a) in
       goes_on_as p m h (with_items (i ∷ m.entries.items) (asked m)) s.cells (An_operation k (read h.frame h.below s a) ∷ s.items) r
-      (record { stack = refl; cells = h.agrees.cells; entries = ((refl, is), h.agrees.entries); requests = h.agrees.requests; rest = rest; room = h.agrees.entry_room })
+      (record { stack = refl; cells = h.agrees.cells; entries = ((refl, is), h.agrees.entries); requests = h.agrees.requests; natives = h.agrees.natives; rest = rest; room = h.agrees.entry_room })
       (λ f ms e top q. subst (λ n. Shows n (word_at (Run h.frame ∷ h.below) q) (held s.cells q)) (sym (value_alike (Runs_frame f ∷ ms) m.cells (i ∷ m.entries.items) m.entries.items m.root (λ d. owns_none i m.entries.items d refl) q)) (top.values q))
 
 -- where the request is refused the machine leaves
@@ -112,9 +113,10 @@ module _ (m : Parts) (turn : Turn) where
   pub push_does : (a : ℕ) (refused : Bool) → a < 16 → refused ≡ refuses_entry turn m → Does turn.refused (Push a) m (cond refused (leaving (negsuc 3) (held_pushed a m)) (held_pushed a m))
   push_does a refused small same p h here =
       let s = h.state in
-      let c : Choice = record { name = null; refused = refused; answer = pos 0 } in (
+      let c : Choice = record { name = null; refused = refused; answer = m.heard } in (
         c,
         record { name = unnamed p m s null h.agrees h.agrees.cells.null_is_none; refusal = same ∙ same_entry_refusal p turn m h (Push a) here refl },
+        refl,
         λ needs typed.
             let was = no_word _ needs.0 in
             let object = object_pushed p m h _ (asks_one m turn s.rest h.agrees.rest) a small was in
@@ -124,9 +126,10 @@ module _ (m : Parts) (turn : Turn) where
   pub push_operation_does : (a k : ℕ) (refused : Bool) → refused ≡ refuses_entry turn m → Does turn.refused (PushOperation a k) m (cond refused (leaving (negsuc 3) (held_operation a k m)) (held_operation a k m))
   push_operation_does a k refused same p h here =
       let s = h.state in
-      let c : Choice = record { name = null; refused = refused; answer = pos 0 } in (
+      let c : Choice = record { name = null; refused = refused; answer = m.heard } in (
         c,
         record { name = unnamed p m s null h.agrees h.agrees.cells.null_is_none; refusal = same ∙ same_entry_refusal p turn m h (PushOperation a k) here refl },
+        refl,
         λ needs typed.
             let is = word_read p m h a needs.0 in
             let operation = operation_comes p m h _ (asks_one m turn s.rest h.agrees.rest) a k is in
@@ -136,8 +139,9 @@ module _ (m : Parts) (turn : Turn) where
   -- `newl` leaves where it is refused
   pub newl_refused : (a class : ℕ) → true ≡ refuses turn m → Does turn.refused (NewOrLeave a class) m (leaving (negsuc 3) (asked m))
   newl_refused a class full p h here = (
-    record { name = null; refused = true; answer = pos 0 },
+    record { name = null; refused = true; answer = m.heard },
     record { name = unnamed p m h.state null h.agrees h.agrees.cells.null_is_none; refusal = full ∙ same_refusal p turn m h (NewOrLeave a class) here refl },
+    refl,
     λ needs typed. leaves_at p (asked m) (requested (NewOrLeave a class) h.state) h.frame h.below no_memory h.top (agrees_rest p m h.state _ _ (asks_one m turn h.state.rest h.agrees.rest) h.agrees) needs.1.1.0,
   )
 
@@ -145,8 +149,9 @@ module _ (m : Parts) (turn : Turn) where
   newl_made a class n heap small granted made p h here = elim made [
     | inl none ↦ absurd (true≢false (sym none.0))
     | inr it ↦ (
-      record { name = n; refused = false; answer = pos 0 },
+      record { name = n; refused = false; answer = m.heard },
       record { name = unnamed p m h.state n h.agrees it.2; refusal = granted ∙ same_refusal p turn m h (NewOrLeave a class) here refl },
+      refl,
       λ needs typed. made_agrees m turn p h a class n heap _ small (asks_one m turn h.state.rest h.agrees.rest) needs.0 it.1 it.2 it.3 it.4 it.5,
     )
   ]
@@ -169,7 +174,7 @@ module _ (m : Parts) (refused : List ℕ) (es : Held_items) where
       let same = subst (λ is. SameItems is s.items) was h.agrees.entries in
       let deep = same_items_length es.items items (below_same (Holds_object n) es.items s.items same) in
       goes_on_with p m h (record m { entries = es }) (moved from here s.cells) items s.rest (put_at None fr.words a None) (on_top (with_register a n)) (with_register a n) (λ f ms. refl)
-      (record { stack = refl; cells = cells_moved p m.cells s.cells from here h.agrees.cells; entries = below_same (Holds_object n) es.items s.items same; requests = requests_moved p m.active s.cells from here h.agrees.requests; rest = h.agrees.rest; room = deep_enough m.entries es _ h.agrees.entry_room popped })
+      (record { stack = refl; cells = cells_moved p m.cells s.cells from here h.agrees.cells; entries = below_same (Holds_object n) es.items s.items same; requests = requests_moved p m.active s.cells from here h.agrees.requests; natives = natives_moved p m.sessions s.killed s.cells from here h.agrees.natives; rest = h.agrees.rest; room = deep_enough m.entries es _ h.agrees.entry_room popped })
       (λ f ms e top.
       let wide = top.frame.wide in
       let v = value_in (Runs_frame f ∷ ms) m.cells (Holds_object n ∷ es.items) m.root in
@@ -192,7 +197,7 @@ module _ (m : Parts) (refused : List ℕ) (es : Held_items) where
       let was : m.entries.items ≡ i ∷ es.items = ap (λ (e : Held_items). e.items) popped in
       let same = subst (λ is. SameItems is s.items) was h.agrees.entries in
       goes_on_as p m h (record m { entries = es }) s.cells (below_top s.items) s.rest
-      (record { stack = refl; cells = h.agrees.cells; entries = below_same i es.items s.items same; requests = h.agrees.requests; rest = h.agrees.rest; room = deep_enough m.entries es _ h.agrees.entry_room popped })
+      (record { stack = refl; cells = h.agrees.cells; entries = below_same i es.items s.items same; requests = h.agrees.requests; natives = h.agrees.natives; rest = h.agrees.rest; room = deep_enough m.entries es _ h.agrees.entry_room popped })
       (λ f ms e top q.
       subst (λ k. Shows k (word_at (Run fr ∷ ts) q) (held s.cells q))
       (value_alike (Runs_frame f ∷ ms) m.cells (i ∷ es.items) es.items m.root (λ d. owns_none i es.items d (operation_owns i es.items s.items same met.1.0)) q)

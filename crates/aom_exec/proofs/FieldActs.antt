@@ -37,6 +37,7 @@ use Rattle.aom_exec.proofs.ObjectActs.{jumps_empty, passes_full}
 use Rattle.aom_image.proofs.Given.{some_given}
 use Rattle.aom_exec.proofs.GoingOn.{framed, goes_on_as, goes_on_with}
 use Rattle.aom_exec.proofs.Cells.{cells_moved}
+use Rattle.aom_exec.proofs.Sessions.{natives_moved, natives_stored}
 
 -- ---- the cell that a method works on
 
@@ -172,7 +173,7 @@ store_does m refused w b heap puts =
     let cs = stored s.cells fr.home w v in
     let written = subst (λ v. PutsWord (this m) w v m.cells heap) (word_read p m h b met.1.0) puts in
     goes_on_as p m h (record m { cells = heap }) cs s.items s.rest
-    (record { stack = refl; cells = cells_after_store p m h heap w v met.0 written; entries = h.agrees.entries; requests = requests_stored p m.active s.cells fr.home w v h.agrees.requests; rest = h.agrees.rest; room = h.agrees.entry_room })
+    (record { stack = refl; cells = cells_after_store p m h heap w v met.0 written; entries = h.agrees.entries; requests = requests_stored p m.active s.cells fr.home w v h.agrees.requests; natives = natives_stored p m.sessions s.killed s.cells fr.home w v h.agrees.natives; rest = h.agrees.rest; room = h.agrees.entry_room })
     (λ f ms e top q.
     subst (λ n. Shows n (word_at (Run fr ∷ ts) q) (held cs q)) (sym (word_put_elsewhere (Runs_frame f ∷ ms) m.cells heap m.entries.items m.root (this m) w v written q))
     (subst (λ o. Shows (value_in (Runs_frame f ∷ ms) m.cells m.entries.items m.root q) (word_at (Run fr ∷ ts) q) o) (sym (held_stored p m h fr.home w v q)) (top.values q))))
@@ -189,7 +190,7 @@ take_does m mid refused a g n small reads writes =
     let mid' = record m { cells = mid.cells; root = mid.root } in
     subst (λ k. Agrees p (acts.next (set_register a n k)) (record s { cells = moved q here s.cells; tasks = Run (next (set_word fr a None)) ∷ ts })) (sym written.rest)
     (goes_on_with p m h mid' (moved q here s.cells) s.items s.rest (put_at None fr.words a None) (on_top (with_register a n)) (with_register a n) (λ f ms. refl)
-    (record { stack = refl; cells = cells_moved p mid.cells s.cells q here written.cells; entries = h.agrees.entries; requests = requests_moved p m.active s.cells q here h.agrees.requests; rest = h.agrees.rest; room = h.agrees.entry_room })
+    (record { stack = refl; cells = cells_moved p mid.cells s.cells q here written.cells; entries = h.agrees.entries; requests = requests_moved p m.active s.cells q here h.agrees.requests; natives = natives_moved p m.sessions s.killed s.cells q here h.agrees.natives; rest = h.agrees.rest; room = h.agrees.entry_room })
     (λ f ms e top.
     let wide = top.frame.wide in
     let v = value_in (Runs_frame f ∷ ms) m.cells m.entries.items m.root in
@@ -220,7 +221,7 @@ put_does m mid refused g b x small reads writes =
     let mid' = record m { cells = mid.cells; root = mid.root } in
     subst (λ k. Agrees p (acts.next (set_register b null k)) (record s { cells = moved here q s.cells; tasks = Run (next fr) ∷ ts })) (sym written.rest)
     (goes_on_with p m h mid' (moved here q s.cells) s.items s.rest fr.words (on_top (with_register b null)) (with_register b null) (λ f ms. refl)
-    (record { stack = refl; cells = cells_moved p mid.cells s.cells here q written.cells; entries = h.agrees.entries; requests = requests_moved p m.active s.cells here q h.agrees.requests; rest = h.agrees.rest; room = h.agrees.entry_room })
+    (record { stack = refl; cells = cells_moved p mid.cells s.cells here q written.cells; entries = h.agrees.entries; requests = requests_moved p m.active s.cells here q h.agrees.requests; natives = natives_moved p m.sessions s.killed s.cells here q h.agrees.natives; rest = h.agrees.rest; room = h.agrees.entry_room })
     (λ f ms e top.
     let wide = top.frame.wide in
     let v = value_in (Runs_frame f ∷ ms) m.cells m.entries.items m.root in

@@ -1,5 +1,5 @@
 -- How a destruction begins, and the going of a cell.
-use Rattle.std.proofs.Common.{suc, ◌≡◌, ℕ, ℤ, ◌+◌, ◌<◌, ◌≤◌, true, cond, not, ◌==◌, length, List, [], ◌∷◌, ◌++◌, Option, Some, None, slice_set, slice_index_or, refl, sym, ap, ◌∙◌, subst, arith}
+use Rattle.std.proofs.Common.{suc, ◌≡◌, ℕ, ℤ, ◌+◌, ◌<◌, ◌≤◌, true, cond, not, ◌==◌, length, List, [], ◌∷◌, ◌++◌, Option, Some, None, slice_set, slice_index_or, refl, sym, ap, ◌∙◌, subst, arith, false}
 use Rattle.aom_image.proofs.Given.{some_given}
 use Rattle.std.proofs.lemmas.Option.{none-some, same_Some}
 use Rattle.std.proofs.lemmas.Bool.{and_parts, eqb-true, eq-eqb, false≢true}
@@ -33,7 +33,7 @@ use Rattle.aom_exec.specs.Places.{value_in, register_in, going_in, going_here, w
 use Rattle.aom_exec.specs.Going.{destructor_in, destructor_at, destroying, uprooted}
 use Rattle.aom_active.specs.Agrees.{Active}
 use Rattle.aom_exec.specs.Requests.{Delists}
-use Rattle.aom_exec.specs.Agrees.{word_in, word_at, Shows, SameCells, SameItems, SameTasks, thing_in, thing_of, number, Agrees, SameRequests}
+use Rattle.aom_exec.specs.Agrees.{word_in, word_at, Shows, SameCells, SameItems, SameTasks, thing_in, thing_of, number, Agrees, SameRequests, SameNatives}
 use Rattle.aom_exec.specs.Acts.{requested, In_going, without_going, DoesIn, GoesAway}
 use Rattle.aom_exec.specs.Acts as acts
 use Rattle.aom_exec.proofs.Values.{cases, same_length, kept, moves, writes, at_depth, register_past, going_past, word_past, value_here, value_kept, value_written, word_next, word_written, destroys_value, destroys_word}
@@ -43,6 +43,8 @@ use Rattle.aom_exec.proofs.ObjectActs.{shown}
 use Rattle.aom_exec.proofs.WordActs.{plain_at}
 use Rattle.aom_cleanup.specs.declared.item.Item.{Item}
 use Rattle.aom_exec.proofs.Alike.{Alike, both_go, alike, by_task, by_tasks}
+use Rattle.aom_sessions.specs.Sessions.{Standing, Sets}
+use Rattle.aom_exec.proofs.Sessions.{natives_moved, natives_gone}
 
 -- a method at its first place shows nothing, and has no word
 pub fresh_value : (method this : ℕ) (us : List Held_task) (h : Heap) (es : List Item) (root : ℕ) (r : Place) → value_in (Runs_frame (fresh method this) ∷ us) h es root r ≡ value_in us h es root r
@@ -78,19 +80,20 @@ module _ (p : Image) (m : Parts) (s : State) (us : List Held_task) (ts : List Ta
       (λ q. destroys_word ts (length ts) q ∙ ap (λ x. cond (same_place there q) None x) (ew q))
       (λ q. held_moved s.cells from there q empty)
 
-  pub begins : (d : Option ℕ) (o : Object) (height : ℕ) (r r' : Rest) → n ≡ o.name → r ≡ r' → SameTasks us ts → SameCells p m.cells s.cells → SameItems m.entries.items s.items → SameRequests p m.active s.cells → 1024 ≤ m.stack.depth → 1024 ≤ m.entries.depth → DyingShows
+  pub begins : (d : Option ℕ) (o : Object) (height : ℕ) (r r' : Rest) → n ≡ o.name → r ≡ r' → SameTasks us ts → SameCells p m.cells s.cells → SameItems m.entries.items s.items → SameRequests p m.active s.cells → SameNatives p m.sessions s.cells s.killed → 1024 ≤ m.stack.depth → 1024 ≤ m.entries.depth → DyingShows
       → Agrees p (record m { stack = record m.stack { tasks = destroying d n us }; root = root; rest = r }) (record s { cells = gone_from; tasks = begun_by d o height ts; rest = r' })
-  begins None o height r r' name rest same cells entries requests room entry_room values = record {
+  begins None o height r r' name rest same cells entries requests natives room entry_room values = record {
     tasks = (tt, same);
     values = values;
     cells = cells_moved p m.cells s.cells from (Going (length ts)) cells;
     entries = entries;
     requests = requests_moved p m.active s.cells from (Going (length ts)) requests;
+    natives = natives_moved p m.sessions s.killed s.cells from (Going (length ts)) natives;
     rest = rest;
     room = room;
     entry_room = entry_room;
   }
-  begins (Some k) o height r r' name rest same cells entries requests room entry_room values =
+  begins (Some k) o height r r' name rest same cells entries requests natives room entry_room values =
       let home = Inside o (Going (length ts)) in
       record {
         tasks = (begun_frame k n home height name, (tt, same));
@@ -100,6 +103,7 @@ module _ (p : Image) (m : Parts) (s : State) (us : List Held_task) (ts : List Ta
         cells = cells_moved p m.cells s.cells from (Going (length ts)) cells;
         entries = entries;
         requests = requests_moved p m.active s.cells from (Going (length ts)) requests;
+        natives = natives_moved p m.sessions s.killed s.cells from (Going (length ts)) natives;
         rest = rest;
         room = room;
         entry_room = entry_room;
@@ -137,7 +141,7 @@ module _ (p : Image) (m : Parts) (refused : List ℕ) where
           subst (λ d. Agrees p (with_tasks (destroying d k us) m) (record s { cells = moved here (Going (suc (length ts))) s.cells; tasks = begun p o (length s.items) vs }))
           (sym (ap (destructor_at p m.cells) name ∙ destructor_same p m h.typing s h.typed h.agrees here o e))
           (begins p m s us vs here m.root k (destructor_of p o.thing) o (length s.items) m.rest s.rest name h.agrees.rest
-          (reframed f fr (slice_set f.registers a null) _ f.place fr.place top.frame (length-set f.registers a null ∙ wide) top.frame.place, top.below) h.agrees.cells h.agrees.entries h.agrees.requests h.agrees.room h.agrees.entry_room
+          (reframed f fr (slice_set f.registers a null) _ f.place fr.place top.frame (length-set f.registers a null ∙ wide) top.frame.place, top.below) h.agrees.cells h.agrees.entries h.agrees.requests h.agrees.natives h.agrees.room h.agrees.entry_room
           (dying_shows p m s us vs here m.root k (value_in (Runs_frame f ∷ ms) m.cells m.entries.items m.root) (word_at (Run fr ∷ ts)) top.values (ap suc top.deep) was
           (value_here f ms m.cells m.entries.items m.root (length ts) a top.deep) empty
           (value_written f ms m.cells m.entries.items m.root (length ts) a null f.place top.deep (omega arith))
@@ -167,7 +171,7 @@ uproots p m t s x d o rest r typed agrees held_top top e same =
     let name : m.root ≡ o.name = values (Elsewhere Root) ∙ ap number e in
     subst (λ ms. Agrees p (record m { stack = record m.stack { tasks = destroying (destructor_at p m.cells m.root) m.root (Ends End_of_run ∷ ms) }; root = null; rest = rest' }) u) (sym (ap below_first held_top))
     (subst (λ k. Agrees p (record m { stack = record m.stack { tasks = destroying k m.root (Ends End_of_run ∷ []) }; root = null; rest = rest' }) u) (sym (ap (destructor_at p m.cells) name ∙ destructor_same p m t s typed agrees (Elsewhere Root) o e))
-    (begins p m s (Ends End_of_run ∷ []) (Dispatched Of_root ∷ []) (Elsewhere Root) null m.root (destructor_of p o.thing) o (length s.items) rest' r name same ((Elsewhere Root, refl), tt) agrees.cells agrees.entries agrees.requests agrees.room agrees.entry_room
+    (begins p m s (Ends End_of_run ∷ []) (Dispatched Of_root ∷ []) (Elsewhere Root) null m.root (destructor_of p o.thing) o (length s.items) rest' r name same ((Elsewhere Root, refl), tt) agrees.cells agrees.entries agrees.requests agrees.natives agrees.room agrees.entry_room
     (dying_shows p m s (Ends End_of_run ∷ []) (Dispatched Of_root ∷ []) (Elsewhere Root) null m.root v w values refl refl refl (nothing_held p m t s typed agrees (Going 1) (values (Going 1))) (root_taken x m.cells m.entries.items m.root) (end_word Of_root d))))
 
 -- what is known of the machine, taken apart
@@ -248,10 +252,10 @@ module _ (p : Image) (m : Parts) (h : In_going p m) (o : Object) where
   thing_of_it : (n class : ℕ) → class_at m.cells n ≡ Some class → n ≡ o.name → named h.state.cells o.name ≡ Some o → o.thing ≡ An_object_of class
   thing_of_it n class is name lives = thing_is o.thing class (cell_at m.cells n) is (h.agrees.cells.things n ∙ ap (λ k. thing_of (named h.state.cells k)) name ∙ ap thing_of lives)
 
-  goes : (heap : Heap) (a : Active) → owns_nothing h.state.cells o.name ≡ true → Changes m.cells heap o.name None → count heap + 1 ≡ count m.cells → Delists m.active a o.name
+  goes : (heap : Heap) (a : Active) (w : Standing) → owns_nothing h.state.cells o.name ≡ true → Changes m.cells heap o.name None → count heap + 1 ≡ count m.cells → Delists m.active a o.name → Sets m.sessions w o.name false
       → (x : ℕ) (ms : List Held_task) → Ends_cell m h.state x ms h.below → held h.state.cells (Going (length h.below)) ≡ Some o
-      → Agrees p (acts.next (record (with_tasks ms m) { cells = heap; active = a })) (without_going h.state h.below)
-  goes heap a free gone less off x ms top holds =
+      → Agrees p (acts.next (record (with_tasks ms m) { cells = heap; active = a; sessions = w })) (without_going h.state h.below)
+  goes heap a w free gone less off shut x ms top holds =
       let s = h.state in
       let ts = h.below in
       let d = length ts in
@@ -269,19 +273,20 @@ module _ (p : Image) (m : Parts) (h : In_going p m) (o : Object) where
         cells = cells_without p m.cells heap s.cells (Going d) o h.agrees.cells h.typed.good.tidy holds gone less;
         entries = h.agrees.entries;
         requests = requests_gone p m.active a s.cells (Going d) o h.typed.good.tidy holds off h.agrees.requests;
+        natives = natives_gone p m.sessions w s.killed s.cells (Going d) o h.typed.good.tidy holds shut h.agrees.natives;
         rest = h.agrees.rest;
         room = h.agrees.room;
         entry_room = h.agrees.entry_room;
       }
 
-pub go_does : (m : Parts) (heap : Heap) (a : Active) (n class : ℕ) (told : Turn) → n ≡ going_here m.stack.tasks → class_at m.cells n ≡ Some class → Changes m.cells heap n None → count heap + 1 ≡ count m.cells → Delists m.active a n
-    → GoesAway m (acts.next (record (with_tasks (below_first m.stack.tasks) m) { cells = heap; active = a })) told (record told { lines = told.lines ++ Gone class ∷ [] })
-go_does m heap a n class told which is gone less off p h o holds free =
+pub go_does : (m : Parts) (heap : Heap) (a : Active) (w : Standing) (n class : ℕ) (told : Turn) → n ≡ going_here m.stack.tasks → class_at m.cells n ≡ Some class → Changes m.cells heap n None → count heap + 1 ≡ count m.cells → Delists m.active a n → Sets m.sessions w n false
+    → GoesAway m (acts.next (record (with_tasks (below_first m.stack.tasks) m) { cells = heap; active = a; sessions = w })) told (record told { lines = told.lines ++ Gone class ∷ [] })
+go_does m heap a w n class told which is gone less off shut p h o holds free =
     by_going p m h
-    (λ us. n ≡ going_here us → Agrees p (acts.next (record (with_tasks (below_first us) m) { cells = heap; active = a })) (without_going h.state h.below) × (record told { lines = told.lines ++ Gone class ∷ [] } ≡ record told { lines = told.lines ++ goes_line (Some o) }))
+    (λ us. n ≡ going_here us → Agrees p (acts.next (record (with_tasks (below_first us) m) { cells = heap; active = a; sessions = w })) (without_going h.state h.below) × (record told { lines = told.lines ++ Gone class ∷ [] } ≡ record told { lines = told.lines ++ goes_line (Some o) }))
     (λ x ms top which.
     let name : n ≡ o.name = which ∙ number_of p m h o x ms top holds in (
-      goes p m h o heap a free (subst (λ k. Changes m.cells heap k None) name gone) less (subst (λ k. Delists m.active a k) name off) x ms top holds,
+      goes p m h o heap a w free (subst (λ k. Changes m.cells heap k None) name gone) less (subst (λ k. Delists m.active a k) name off) (subst (λ k. Sets m.sessions w k false) name shut) x ms top holds,
       ap (λ ls. record told { lines = told.lines ++ ls }) (sym (line_of o class (thing_of_it p m h o n class is name (held_lives h.state.cells _ o h.typed.good.tidy holds)))),
     ))
     which

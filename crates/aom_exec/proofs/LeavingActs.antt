@@ -86,6 +86,7 @@ leaves p m s code agrees free =
       cells = agrees.cells;
       entries = agrees.entries;
       requests = agrees.requests;
+      natives = agrees.natives;
       rest = agrees.rest;
       room = agrees.room;
       entry_room = agrees.entry_room;

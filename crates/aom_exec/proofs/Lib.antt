@@ -4,6 +4,7 @@ pub mod Entries
 pub mod Overs
 pub mod CellWords
 pub mod Asking
+pub mod Sessions
 pub mod Standing
 pub mod Cells
 pub mod CellFields
@@ -47,6 +48,7 @@ pub mod Topping
 pub mod UnwindActs
 pub mod Settled
 pub mod Working
+pub mod Unwanted
 pub mod Many
 pub mod Agreeing
 pub mod Alike

@@ -18,6 +18,7 @@ use Rattle.aom_exec.proofs.WordActs.{plain_does}
 use Rattle.aom_exec.proofs.GoingOn.{goes_on_with}
 use Rattle.aom_exec.proofs.Cells.{cells_moved}
 use Rattle.aom_shape.specs.Tables.{put_at}
+use Rattle.aom_exec.proofs.Sessions.{natives_moved}
 
 module _ (m : Parts) (refused : List ℕ) where
   pub move_does : (a b : ℕ) → a < 16 → b < 16 → Does refused (Move a b) m (acts.next (set_register a (register_here m.stack.tasks b) (set_register b null m)))
@@ -29,7 +30,7 @@ module _ (m : Parts) (refused : List ℕ) where
       let to = Register (length ts) a in
       goes_on_with p m h m (moved from to s.cells) s.items s.rest (put_at None h.frame.words a None) (λ us. on_top (with_register a x) (on_top (with_register b null) us))
       (λ f. with_register a x (with_register b null f)) (λ f ms. refl)
-      (record { stack = refl; cells = cells_moved p m.cells s.cells from to h.agrees.cells; entries = h.agrees.entries; requests = requests_moved p m.active s.cells from to h.agrees.requests; rest = h.agrees.rest; room = h.agrees.entry_room })
+      (record { stack = refl; cells = cells_moved p m.cells s.cells from to h.agrees.cells; entries = h.agrees.entries; requests = requests_moved p m.active s.cells from to h.agrees.requests; natives = natives_moved p m.sessions s.killed s.cells from to h.agrees.natives; rest = h.agrees.rest; room = h.agrees.entry_room })
       (λ f ms e top.
       let wide = top.frame.wide in
       let left = with_register b null f in

@@ -33,6 +33,7 @@ use Rattle.aom_exec.proofs.CellWords.{all_same, zeros_at}
 use Rattle.aom_exec.proofs.GoingOn.{goes_on_with, still_none, written}
 use Rattle.aom_exec.proofs.WordActs.{jumps, passes, plain_does, plain_at}
 use Rattle.aom_cleanup.specs.declared.item.Item.{Item}
+use Rattle.aom_exec.proofs.Sessions.{natives_made}
 
 -- what a register shows that has no word
 pub shown : (p : Image) (m : Parts) (h : At_hand p m) (f : Held_frame) (ms : List Held_task) → Top m h.state h.frame h.below f ms → (a : ℕ) → word h.frame a ≡ None → slice_index_or f.registers a null ≡ number (held h.state.cells (Register (length h.below) a))
@@ -70,7 +71,7 @@ module _ (m : Parts) (refused : List ℕ) where
       let s = h.state in
       let mid = record m { rest = r } in
       goes_on_with p m h mid s.cells s.items r' (put_at None h.frame.words a None) (on_top (with_register a null)) (with_register a null) (λ f ms. refl)
-      (record { stack = refl; cells = h.agrees.cells; entries = h.agrees.entries; requests = h.agrees.requests; rest = rest; room = h.agrees.entry_room })
+      (record { stack = refl; cells = h.agrees.cells; entries = h.agrees.entries; requests = h.agrees.requests; natives = h.agrees.natives; rest = rest; room = h.agrees.entry_room })
       (λ f ms e top. written p m h mid s.cells a null None None small refl f ms top (λ q. refl) (still_none p m h a none))
 
   pub delete_null_does : (p : Image) (a : ℕ) → a < 16 → register_here m.stack.tasks a ≡ null → DoesIn p refused (Delete a) m (acts.next (set_register a null m))
@@ -154,8 +155,9 @@ module _ (m : Parts) (turn : Turn) where
 
   refused_does : (a class : ℕ) → a < 16 → true ≡ refuses turn m → Does turn.refused (New a class) m (acts.next (set_register a null (asked m.cells)))
   refused_does a class small full p h here = (
-    record { name = null; refused = true; answer = pos 0 },
+    record { name = null; refused = true; answer = m.heard },
     record { name = unnamed p m h.state null h.agrees h.agrees.cells.null_is_none; refusal = full ∙ same_refusal p turn m h (New a class) here refl },
+    refl,
     λ needs typed. nulled m turn.refused p h a _ _ small (ap (λ (r : Rest). record r { requests = raised r.requests }) h.agrees.rest) (free _ needs.0),
   )
 
@@ -173,6 +175,7 @@ module _ (m : Parts) (turn : Turn) where
         cells = cells_made p m.cells heap s.cells n class (zeros p class) here h.agrees.cells (zeros_at (words_of p class)) fits none some ch more;
         entries = h.agrees.entries;
         requests = requests_made p m.active s.cells n (An_object_of class) (zeros p class) here (unnamed p m s n h.agrees none) h.agrees.requests;
+        natives = natives_made p m.sessions s.killed s.cells n (An_object_of class) (zeros p class) here (unnamed p m s n h.agrees none) h.agrees.natives;
         rest = rest;
         room = h.agrees.entry_room;
       })
@@ -185,8 +188,9 @@ module _ (m : Parts) (turn : Turn) where
   made_does : (a class n : ℕ) (heap : Heap) → a < 16 → false ≡ refuses turn m → class < 256 → cell_at m.cells n ≡ None → n ≢ null → Changes m.cells heap n (Some (blank class)) → count heap ≡ count m.cells + 1
       → Does turn.refused (New a class) m (acts.next (set_register a n (asked heap)))
   made_does a class n heap small granted fits none some ch more p h here = (
-    record { name = n; refused = false; answer = pos 0 },
+    record { name = n; refused = false; answer = m.heard },
     record { name = unnamed p m h.state n h.agrees none; refusal = granted ∙ same_refusal p turn m h (New a class) here refl },
+    refl,
     λ needs typed. made_agrees p h a class n heap _ small (asks_one h.state.rest h.agrees.rest) needs.0 fits none some ch more,
   )
 

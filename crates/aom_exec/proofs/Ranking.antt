@@ -114,7 +114,7 @@ same_rank p t m s typed agrees =
 busy_state : (ms : List Held_task) (us : List Task) → SameTasks ms us → 0 < length ms → (u : Task) × (vs : List Task) × (us ≡ u ∷ vs)
 busy_state ms us same busy = cons_given (λ vs. 0 < length vs) us (let even = same_length ms us same in omega arith) (λ none. omega arith) (λ u vs e _. (u, vs, e))
 
-pub moved_falls : (p : Image) (t : Typing) (refused : List ℕ) (m new : Parts) (s : State) → Sound p t → WellTyped p t s → Agrees p m s → Moved p refused t s new → 0 < length m.stack.tasks
+pub moved_falls : (p : Image) (t : Typing) (refused : List ℕ) (m new : Parts) (s : State) → Sound p t → WellTyped p t s → Agrees p m s → Moved p refused m.heard t s new → 0 < length m.stack.tasks
     → rank_of p new.stack.tasks new.entries.items (count new.cells) < rank_of p m.stack.tasks m.entries.items (count m.cells)
 moved_falls p t refused m new s sound typed agrees moved busy =
     let before = same_rank p t m s typed agrees in

@@ -64,6 +64,7 @@ use Rattle.aom_exec.proofs.Standing.{begun_frame, by_top, free}
 use Rattle.aom_exec.proofs.Stepping.{at_step}
 use Rattle.aom_exec.proofs.WordActs.{jumps, passes, plain_at, plain_does, word_put, word_read}
 use Rattle.aom_exec.proofs.Asking.{cells_asked}
+use Rattle.aom_exec.proofs.Sessions.{natives_rerequested}
 
 -- ---- the cells with another request of one of them
 
@@ -254,7 +255,7 @@ module _ (p : Image) (m : Parts) (h : At_hand p m) where
   asks_on a r requests =
       let cs = rerequested h.state.cells h.frame.home r in
       goes_on_as p m h (record m { active = a }) cs h.state.items h.state.rest
-      (record { stack = refl; cells = cells_rerequested p m.cells h.state.cells h.frame.home r h.agrees.cells; entries = h.agrees.entries; requests = requests; rest = h.agrees.rest; room = h.agrees.entry_room })
+      (record { stack = refl; cells = cells_rerequested p m.cells h.state.cells h.frame.home r h.agrees.cells; entries = h.agrees.entries; requests = requests; natives = natives_rerequested p m.sessions h.state.killed h.state.cells h.frame.home r h.agrees.natives; rest = h.agrees.rest; room = h.agrees.entry_room })
       (λ f ms e top q. subst (λ o. Shows (value_in (Runs_frame f ∷ ms) m.cells m.entries.items m.root q) (word_at (Run h.frame ∷ h.below) q) o) (sym ((rerequested_alike h.state.cells h.frame.home r).held_so q)) (top.values q))
 
 -- ---- what the code needs to know of an instruction that is next
@@ -438,6 +439,7 @@ module _ (p : Image) (m : Parts) (refused : List ℕ) (a : Active) (k : ℕ) whe
         cells = cells_rerequested p m.cells s.cells fr.home r h.agrees.cells;
         entries = h.agrees.entries;
         requests = requests;
+        natives = natives_rerequested p m.sessions s.killed s.cells fr.home r h.agrees.natives;
         rest = h.agrees.rest;
         room = h.agrees.room;
         entry_room = h.agrees.entry_room;

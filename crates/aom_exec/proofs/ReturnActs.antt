@@ -45,7 +45,7 @@ use Rattle.aom_exec.proofs.CancelEnds.{IsOver, ended_agrees, method_is}
 use Rattle.aom_exec.proofs.OnTop.{ending_of}
 use Rattle.aom_exec.specs.declared.parts.Parts.{Parts}
 use Rattle.aom_exec.specs.Places.{value_in, register_in, going_in, with_tasks, IsDestroying, IsEnding, IsTrapped, IsUnwinding}
-use Rattle.aom_exec.specs.Agrees.{word_at, word_in, Shows, SameCells, SameDispatch, SameFrame, SameTasks, Agrees, SameRequests, dispatch_of, seat_of}
+use Rattle.aom_exec.specs.Agrees.{word_at, word_in, Shows, SameCells, SameDispatch, SameFrame, SameTasks, Agrees, SameRequests, dispatch_of, seat_of, SameNatives}
 use Rattle.aom_exec.specs.Acts.{At_hand, resulted, DoesIn}
 use Rattle.aom_exec.specs.Acts as acts
 use Rattle.aom_exec.proofs.Entries.{mark_shows_none, unmarked, value_alike}
@@ -59,6 +59,7 @@ use Rattle.aom_image.proofs.Given.{none_given}
 use Rattle.aom_exec.proofs.Alike.{A_catcher, A_going, A_last_trap, A_leave, A_method, An_end, Alike, Tops, alike, both_end, both_go, both_run, both_trapped, both_unwind, catcher_on_top, end_on_top, going_on_top, last_trap_on_top, leave_on_top, method_on_top, tops}
 use Rattle.aom_exec.proofs.Values.{at_depth, cases, going_past, kept, none_alike, register_past, value_kept, value_written, word_next, word_past, word_written, writes}
 use Rattle.aom_exec.proofs.WordActs.{plain_at, word_read}
+use Rattle.aom_exec.proofs.Sessions.{natives_moved}
 
 -- what a method gives back
 pub gives_here : (p : Image) (k : ℕ) (d : Method_decl) → method_at p k ≡ Some d → gives_of p k ≡ d.gives
@@ -190,6 +191,7 @@ module _ (p : Image) (m : Parts) (t : Typing) (s : State) (fr : Frame) (agrees :
     cells = agrees.cells;
     entries = agrees.entries;
     requests = agrees.requests;
+    natives = agrees.natives;
     rest = agrees.rest;
     room = agrees.room;
     entry_room = agrees.entry_room;
@@ -253,6 +255,7 @@ module _ (p : Image) (m : Parts) (t : Typing) (s : State) (fr : Frame) (agrees :
       values : (r : Place) → Shows (value_in (Runs_frame (record g { registers = rs }) ∷ ms) m.cells m.entries.items m.root r) (word_at (Run (record caller { words = ws }) ∷ ts) r) (held cs r)
       cells : SameCells p m.cells cs
       requests : SameRequests p m.active cs
+      natives : SameNatives p m.sessions cs s.killed
       wide : length rs ≡ 16
 
     abbrev IsClear : List Cell → Type 0
@@ -264,12 +267,13 @@ module _ (p : Image) (m : Parts) (t : Typing) (s : State) (fr : Frame) (agrees :
       values = λ r. subst (Shows (value_in (Runs_frame g ∷ ms) m.cells m.entries.items m.root r) (word_at (Run caller ∷ ts) r)) (cleared_none _ (held s.cells) clear r) (base r);
       cells = agrees.cells;
       requests = agrees.requests;
+      natives = agrees.natives;
       wide = same_frame.wide;
     }
 
     -- with a number
-    lands : (cs : List Cell) (w : Option ℤ) (o : Option Object) → SameCells p m.cells cs → SameRequests p m.active cs → Shows n w o → ((r : Place) → held cs r ≡ changed under to o r) → Landed (slice_set g.registers x n) (set_word caller x w).words cs
-    lands cs w o cells requests shows holds =
+    lands : (cs : List Cell) (w : Option ℤ) (o : Option Object) → SameCells p m.cells cs → SameRequests p m.active cs → SameNatives p m.sessions cs s.killed → Shows n w o → ((r : Place) → held cs r ≡ changed under to o r) → Landed (slice_set g.registers x n) (set_word caller x w).words cs
+    lands cs w o cells requests natives shows holds =
         let wide = same_frame.wide in
         record {
           values = writes _ _ _ _ _ _ to n w o base shows
@@ -278,19 +282,20 @@ module _ (p : Image) (m : Parts) (t : Typing) (s : State) (fr : Frame) (agrees :
               holds;
           cells = cells;
           requests = requests;
+          natives = natives;
           wide = length-set g.registers x n ∙ wide;
         }
 
     -- with a word
     lands_word : IsClear s.cells → held s.cells to ≡ None → Landed (slice_set g.registers x n) (set_word caller x (word fr a)).words s.cells
     lands_word clear empty =
-        lands s.cells (word fr a) None agrees.cells agrees.requests (subst (Shows n (word fr a)) (clear a) number_shows)
+        lands s.cells (word fr a) None agrees.cells agrees.requests agrees.natives (subst (Shows n (word fr a)) (clear a) number_shows)
         (λ r. kept (held s.cells) to r ∙ ap (λ o. changed (held s.cells) to o r) empty ∙ ap (λ o. cond (same_place to r) None o) (sym (cleared_none _ (held s.cells) clear r)))
 
     -- with an object
     lands_object : IsClear (moved from to s.cells) → held s.cells to ≡ None → word fr a ≡ None → Landed (slice_set g.registers x n) (set_word caller x None).words (moved from to s.cells)
     lands_object clear empty wordless =
-        lands (moved from to s.cells) None (held s.cells from) (cells_moved p m.cells s.cells from to agrees.cells) (requests_moved p m.active s.cells from to agrees.requests) (subst (λ w. Shows n w (held s.cells from)) wordless number_shows) holds
+        lands (moved from to s.cells) None (held s.cells from) (cells_moved p m.cells s.cells from to agrees.cells) (requests_moved p m.active s.cells from to agrees.requests) (natives_moved p m.sessions s.killed s.cells from to agrees.natives) (subst (λ w. Shows n w (held s.cells from)) wordless number_shows) holds
       where
         elsewhere : (r : Place) → same_place from r ≡ false → under r ≡ held s.cells r → held (moved from to s.cells) r ≡ changed under to (held s.cells from) r
         elsewhere r e same = held_moved s.cells from to r empty ∙ ap (λ b. cond (same_place to r) (held s.cells from) (cond b None (held s.cells r))) e ∙ ap (λ o. cond (same_place to r) (held s.cells from) o) (sym same)
@@ -314,7 +319,7 @@ module _ (p : Image) (m : Parts) (t : Typing) (s : State) (fr : Frame) (agrees :
     lands_next rs ws cs landed =
         let g' = record g { registers = rs } in
         let caller' = record caller { words = ws } in
-        goes_on p m s m.cells cs m.rest s.rest (record g' { place = suc g.place }) ms (next caller') ts agrees landed.cells landed.requests agrees.rest same_below (moved_on g caller rs ws same_frame landed.wide)
+        goes_on p m s m.cells cs m.rest s.rest (record g' { place = suc g.place }) ms (next caller') ts agrees landed.cells landed.requests landed.natives agrees.rest same_below (moved_on g caller rs ws same_frame landed.wide)
         (λ r. subst (λ k. Shows k (word_at (Run (next caller') ∷ ts) r) (held cs r)) (sym (value_kept g' ms m.cells m.entries.items m.root (suc g.place) r))
         (subst (λ w. Shows (value_in (Runs_frame g' ∷ ms) m.cells m.entries.items m.root r) w (held cs r)) (sym (word_next caller' ts (suc caller.place) r)) (landed.values r)))
 
@@ -337,6 +342,7 @@ module _ (p : Image) (m : Parts) (t : Typing) (s : State) (fr : Frame) (agrees :
           cells = landed.cells;
           entries = unmarked m.entries.items es.items s.items was agrees.entries;
           requests = landed.requests;
+          natives = landed.natives;
           rest = agrees.rest;
           room = agrees.room;
           entry_room = subst (λ k. 1024 ≤ k) (ap (λ (e : Held_items). e.depth) marked) agrees.entry_room;
@@ -409,6 +415,7 @@ redispatched p m s x y ms d e ts same agrees = record {
   cells = agrees.cells;
   entries = agrees.entries;
   requests = agrees.requests;
+  natives = agrees.natives;
   rest = agrees.rest;
   room = agrees.room;
   entry_room = agrees.entry_room;

@@ -155,10 +155,10 @@ boots_with_room p depth heights = go (main_of p)
 
 -- and so has a dispatch that begins
 pub dispatches_with_room :
-    (p : Image) (depth : ℕ → ℕ) (heights : HasHeights p) (cs : List Cell) (m : ℕ) (home : Home) (d : Dispatch) (items : List Item) (r : Rest) → items ≡ [] →
-    HasRoom p depth (at 0 heights.heights) (record { cells = cs; tasks = Run (frame_of m home (length (A_mark ∷ items))) ∷ Trapped ∷ Dispatched d ∷ []; items = A_mark ∷ items; rest = r })
-dispatches_with_room p depth heights cs m home d items r bare =
-    subst (λ is. HasRoom p depth (at 0 heights.heights) (record { cells = cs; tasks = Run (frame_of m home (length (A_mark ∷ is))) ∷ Trapped ∷ Dispatched d ∷ []; items = A_mark ∷ is; rest = r })) (sym bare)
+    (p : Image) (depth : ℕ → ℕ) (heights : HasHeights p) (cs : List Cell) (m : ℕ) (home : Home) (d : Dispatch) (items : List Item) (r : Rest) (dead : List ℕ) → items ≡ [] →
+    HasRoom p depth (at 0 heights.heights) (record { cells = cs; tasks = Run (frame_of m home (length (A_mark ∷ items))) ∷ Trapped ∷ Dispatched d ∷ []; items = A_mark ∷ items; rest = r; killed = dead })
+dispatches_with_room p depth heights cs m home d items r dead bare =
+    subst (λ is. HasRoom p depth (at 0 heights.heights) (record { cells = cs; tasks = Run (frame_of m home (length (A_mark ∷ is))) ∷ Trapped ∷ Dispatched d ∷ []; items = A_mark ∷ is; rest = r; killed = dead })) (sym bare)
     (record {
       under = (tt, tt);
       runs = ((λ le k e. cc, tt), tt);

@@ -70,6 +70,7 @@ use Rattle.aom_exec.proofs.Standing.{begun_frame}
 use Rattle.aom_exec.proofs.Stepping.{agrees_rest, room_rest, typed_rest, within_rest}
 use Rattle.aom_exec.proofs.Values.{at_depth, going_past, none_alike, register_past}
 use Rattle.aom_exec.proofs.Asking.{cells_asked}
+use Rattle.aom_exec.proofs.Sessions.{natives_asked}
 
 -- ---- another request of a cell
 
@@ -187,6 +188,7 @@ module _ (p : Image) (m : Parts) (a : Active) (turned : progress_by m.rest.ended
       cells = cells_then s.cells o timed_out p m.cells st.agrees.cells;
       entries = st.agrees.entries;
       requests = requests_asked s.cells o timed_out p m.active a r lives is makes st.agrees.requests;
+      natives = natives_asked p m.sessions s.killed s.cells o.name _ st.agrees.natives;
       rest = st.agrees.rest;
       room = st.agrees.room;
       entry_room = st.agrees.entry_room;
@@ -397,6 +399,7 @@ module _ (p : Image) (m : Parts) (s : State) (st : StandsFor (record { image = p
         cells = cells_then s.cells object taken_up p m.cells st.agrees.cells;
         entries = (tt, st.agrees.entries);
         requests = requests_asked s.cells object taken_up p m.active a k.candidate.request lives asked made st.agrees.requests;
+        natives = natives_asked p m.sessions s.killed s.cells object.name _ st.agrees.natives;
         rest = ap (λ (r : Rest). record r { steps = 0 }) st.agrees.rest;
         room = st.agrees.room;
         entry_room = st.agrees.entry_room;
@@ -447,7 +450,7 @@ module _ (p : Image) (m : Parts) (s : State) (st : StandsFor (record { image = p
         typed = subst (λ h. Keeps p st.typing (dispatched h k.candidate.seat s)) method k.keeps;
         calm = (λ clearing. absurd (true≢false (sym clearing)), (refl, tt));
         traps = (tt, (tt, tt));
-        room = dispatches_with_room p (at 0 st.sound.depths.depths) st.sound.heights then.cells d.method (Inside object k.candidate.seat.place) (Of_object k.candidate.seat) s.items then.rest none_pushed;
+        room = dispatches_with_room p (at 0 st.sound.depths.depths) st.sound.heights then.cells d.method (Inside object k.candidate.seat.place) (Of_object k.candidate.seat) s.items then.rest s.killed none_pushed;
         waits = tt;
         within = dispatch_within;
         agrees = dispatch_agrees;

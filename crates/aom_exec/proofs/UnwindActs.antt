@@ -212,6 +212,7 @@ module _ (p : Image) (m : Parts) (s : State) (agrees : Agrees p m s) (es : Held_
         cells = agrees.cells;
         entries = unmarked m.entries.items es.items s.items was agrees.entries;
         requests = agrees.requests;
+        natives = agrees.natives;
         rest = agrees.rest;
         room = agrees.room;
         entry_room = subst (λ k. 1024 ≤ k) (ap (λ (e : Held_items). e.depth) marked) agrees.entry_room;

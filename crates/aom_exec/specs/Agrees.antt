@@ -7,7 +7,7 @@ use Rattle.aom_image.specs.declared.method.Thing.TheVariants.{Object as An_objec
 use Rattle.aom_cells.specs.Heap.{Heap, null, cell_at, count}
 use Rattle.aom_cells.specs.Heap.{word_at as cell_word}
 use Rattle.aom_cells.specs.declared.cell.Cell.{Cell as Held_cell}
-use Rattle.aom_sound.specs.Places.{Place, Register, Entry, Field, Going, Elsewhere, Object, Cell, held, named, requested, word_field}
+use Rattle.aom_sound.specs.Places.{Place, Register, Entry, Field, Going, Elsewhere, Object, Cell, held, in_session, named, requested, word_field}
 use Rattle.aom_sound.specs.State.{Home, Static, AtRoot, Inside, Frame, Seat, Dispatch, Of_main, Main_left, Of_root, Of_object, Object_left, Asks, Answered, word, counter, Task, Run, Trapped, Destroy, Unwind, Dispatched, Item, An_object, An_operation, A_mark, State}
 use Rattle.aom_active.specs.Agrees.{Active, StandsFor}
 use Rattle.aom_frames.specs.declared.frame.Frame.{Frame as Held_frame}
@@ -19,6 +19,7 @@ use Rattle.aom_frames.specs.declared.dispatch.Subject.{Subject}
 use Rattle.aom_cleanup.specs.declared.item.Item.{Item as Held_item}
 use Rattle.aom_cleanup.specs.declared.item.Item.TheVariants.{Object as Holds_object, Operation as Holds_operation, Mark as Is_mark}
 use Rattle.aom_exec.specs.declared.parts.Parts.{Parts}
+use Rattle.aom_sessions.specs.Sessions.{Standing, is_open}
 use Rattle.aom_exec.specs.Places.{value}
 
 -- the number of what a place owns, and null where it owns nothing
@@ -133,6 +134,12 @@ pub record SameRequests (p : Image) (a : Active) (cs : List Cell) : Type 0 where
   pub stands : StandsFor a (requested cs)
   pub limit : a.table.limit ≡ p.header.cells
 
+-- the same cells have a session, by their numbers, and the same natives are killed
+pub record SameNatives (p : Image) (w : Standing) (cs : List Cell) (killed : List ℕ) : Type 0 where
+  pub sessions : (n : ℕ) → is_open w n ≡ in_session cs n
+  pub dead : w.killed ≡ killed
+  pub limit : length w.flags ≡ p.header.cells
+
 -- the machine stands for a state
 pub record Agrees (p : Image) (m : Parts) (s : State) : Type 0 where
   pub tasks : SameTasks m.stack.tasks s.tasks
@@ -140,6 +147,7 @@ pub record Agrees (p : Image) (m : Parts) (s : State) : Type 0 where
   pub cells : SameCells p m.cells s.cells
   pub entries : SameItems m.entries.items s.items
   pub requests : SameRequests p m.active s.cells
+  pub natives : SameNatives p m.sessions s.cells s.killed
   pub rest : m.rest ≡ s.rest
   pub room : 1024 ≤ m.stack.depth
   pub entry_room : 1024 ≤ m.entries.depth

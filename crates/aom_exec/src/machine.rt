@@ -35,14 +35,14 @@ impl<'a> Model for Machine<'a> {
 }
 
 impl<'a> Machine<'a> {
-    /// A machine at time 0, with main at hand. It takes all the memory that the machine will ever have.
-    pub fn boot(alloc: Global, accepted: &'a Accepted) -> Result<Machine<'a>, BootFault>
+    /// A machine at time 0, with main at hand, beside so many natives. It takes all the memory that the machine will ever have.
+    pub fn boot(alloc: Global, accepted: &'a Accepted, natives: usize) -> Result<Machine<'a>, BootFault>
         ensures image { IfOk result (λ m. m.image ≡ accepted.now) }
         ensures stands { IfOk result (λ m. StandsFor m (boot_state accepted.now)) }
         ensures agrees { IfOk result AgreesInAll }
     {
         let linked = accepted.linked();
-        let parts = Parts::boot(alloc, linked)?;
+        let parts = Parts::boot(alloc, linked, natives)?;
         aom_sound::boot_keeps();
         aom_sound::step_keeps();
         aom_sound::calm_keeps();

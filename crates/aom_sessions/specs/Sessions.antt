@@ -17,7 +17,7 @@ abbrev pub is_killed : Standing → ℕ → Bool
 is_killed s native = list_any (λ k. k == native) s.killed
 
 -- the cell of that number has a session or none from then on, and all else is as before
-pub record Changes (old new : Standing) (id : ℕ) (flag : Bool) : Type 0 where
+pub record Sets (old new : Standing) (id : ℕ) (flag : Bool) : Type 0 where
   pub here : is_open new id ≡ flag
   pub others : (other : ℕ) → other ≢ id → is_open new other ≡ is_open old other
   pub places : length new.flags ≡ length old.flags

@@ -1,6 +1,6 @@
 //! Sessions by the number of a cell, and the natives that are killed.
 ghost use Rattle.std.specs.Prelude.{◌≡◌, ◌<◌, ◌≤◌, ◌++◌, ◌∷◌, [], IfOk, IsTrue, length, replicate, true, false};
-ghost use Rattle.aom_sessions.specs.Sessions.{is_open, is_killed, Changes};
+ghost use Rattle.aom_sessions.specs.Sessions.{is_open, is_killed, Sets};
 
 use aom_cells::CellId;
 use std::alloc::{AllocError, Global};
@@ -53,14 +53,14 @@ impl Sessions {
     /// The cell of that number has a session from then on.
     pub fn open(&mut self, id: CellId)
         requires { id < length self.old.flags }
-        ensures { Changes self.old self.new id true }
+        ensures { Sets self.old self.new id true }
     {
         self.flags[id.number() as usize] = true;
     }
 
     /// The cell of that number has no session from then on. One that has no place has none.
     pub fn close(&mut self, id: CellId)
-        ensures { Changes self.old self.new id false }
+        ensures { Sets self.old self.new id false }
     {
         let place = id.number() as usize;
         if place < self.flags.len() {

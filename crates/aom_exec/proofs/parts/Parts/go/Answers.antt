@@ -7,4 +7,5 @@ returns c =
     let gone = rw c.drop_task.ensures at c.release-class.ensures.gone in
     let count = rw c.drop_task.ensures at c.release-class.ensures.count in
     let off = rw c.drop_task.ensures at c.release-class.ensures.delisted in
-    rw (c.resume.ensures, c.release-class.ensures.rest, c.drop_task.ensures, c.push.ensures) (go_does c.args.self.now c.release-class.new.self.cells c.release-class.new.self.active c.args.number c.release-class.result c.args.turn.now c.requires.going class gone count off)
+    let shut = rw c.drop_task.ensures at c.release-class.ensures.closed in
+    rw (c.resume.ensures, c.release-class.ensures.rest, c.drop_task.ensures, c.push.ensures) (go_does c.args.self.now c.release-class.new.self.cells c.release-class.new.self.active c.release-class.new.self.sessions c.args.number c.release-class.result c.args.turn.now c.requires.going class gone count off shut)

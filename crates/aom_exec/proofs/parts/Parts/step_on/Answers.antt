@@ -1,10 +1,11 @@
-use Rattle.std.proofs.Common.{◌≤◌, length, refl, ap, subst, arith}
+use Rattle.std.proofs.Common.{inl, ◌≤◌, length, refl, ap, subst, arith}
 use Rattle.aom_exec.specs.Steps.{SteppedOn, begins}
+use Rattle.aom_exec.proofs.Unwanted.{no_natives, unwanted}
 use Rattle.aom_exec.proofs.Many.{went_on, same_turn, then_steps, stands_on}
 use Rattle.aom_exec.proofs.parts.Parts.step_on.Goals as goal
 
 pub loop-progress-init : goal.loop-progress-init
-loop-progress-init c = record { went = λ s st. (s, begins, st); stands = c.requires.stands; same = refl; lower = omega arith }
+loop-progress-init c = record { went = λ s st. (s, begins, st, inl refl); stands = c.requires.stands; same = refl; lower = omega arith }
 
 pub loop-progress-preserved : goal.loop-progress-preserved
 loop-progress-preserved c =
@@ -17,7 +18,7 @@ loop-progress-preserved c =
     let falls = c.step-progress.ensures.falls c.in-Running.is in
     let lower = i.lower in
     record {
-      went = went_on p c.args.self.now c.loop-progress.self c.step-progress.new.self c.args.turn.now c.step-progress.new.turn c.step-progress.result i.went stepped c.in-Running.is less;
+      went = went_on p c.args.self.now c.loop-progress.self c.step-progress.new.self c.args.turn.now c.step-progress.new.turn c.step-progress.result i.went stepped c.in-Running.is less (λ s st. unwanted p (no_natives p.header st.sound.admitted.header) st.sound.formed s);
       stands = stands_on p c.loop-progress.self c.step-progress.new.self c.args.turn.now c.step-progress.new.turn c.step-progress.result i.stands stepped;
       same = same_turn p c.loop-progress.self c.step-progress.new.self c.args.turn.now c.step-progress.new.turn c.step-progress.result i.stands stepped less;
       lower = omega (arith, falls, lower);

@@ -1,0 +1,67 @@
+-- Where the image names no native, nothing is wanted of one.
+use Rattle.std.proofs.Common.{◌≡◌, ◌<◌, ◌∙◌, ℕ, List, ◌∷◌, [], Option, Some, None, refl, sym, ap, subst, length, slice_get, IsTrue, arith}
+use Rattle.std.proofs.lemmas.Option.{same_Some, none-some}
+use Rattle.aom_image.specs.Image.{Image}
+use Rattle.aom_image.specs.Views.{class_at, instr_at}
+use Rattle.aom_image.specs.WellFormed.{ClassFits, KindFits, WellFormed}
+use Rattle.aom_image.specs.declared.class.ClassDecl.{ClassDecl}
+use Rattle.aom_image.specs.declared.class.ClassKind.{ClassKind}
+use Rattle.aom_image.specs.declared.class.ClassKind.TheVariants.{Active as An_active}
+use Rattle.aom_image.specs.declared.class.Provider.TheVariants.{Native, Own, Timer}
+use Rattle.aom_image.specs.declared.method.Thing.{Thing}
+use Rattle.aom_image.specs.declared.method.Thing.TheVariants.{Object as An_object_of, Message}
+use Rattle.aom_image.specs.declared.image.Header.{Header}
+use Rattle.aom_classes.proofs.Facts.{all_there}
+use Rattle.aom_classes.specs.Admitted.{admits_header}
+use Rattle.aom_roles.specs.Classes.{kind_in}
+use Rattle.aom_roles.specs.Shapes.{kind_of}
+use Rattle.aom_instructions.specs.declared.instr.Instr.{Instr}
+use Rattle.aom_sound.specs.Enlisted.{thing_kind}
+use Rattle.aom_sound.specs.Natives.{native_of}
+use Rattle.aom_sound.specs.Places.{Going, Object, held}
+use Rattle.aom_sound.specs.State.{AtRoot, Destroy, Dispatched, Frame, Home, Inside, Run, State, Static, Task, Trapped, Unwind}
+use Rattle.aom_sound.specs.Wanted.{wanted, wanted_at, wanted_by, wanted_going, wanted_gone, wanted_task}
+
+pub no_natives : (h : Header) → IsTrue (admits_header h) → h.natives ≡ 0
+no_natives h e = grind (arith, e)
+
+module _ (p : Image) (none_named : p.header.natives ≡ 0) (formed : WellFormed p) where
+  kind_no_native : (k : ClassKind) → KindFits (length p.classes) p.header.natives k → native_of (Some k) ≡ None
+  kind_no_native (An_active (Native n) budget) fits = absurd (let below : n < p.header.natives = fits.0 in omega (arith, below, none_named))
+  kind_no_native (An_active Own budget) fits = refl
+  kind_no_native (An_active Timer budget) fits = refl
+  kind_no_native _ fits = refl
+
+  class_no_native : (class : Option ℕ) → native_of (kind_of p class) ≡ None
+  unfolding kind_of kind_in class_at
+  class_no_native None = refl
+  class_no_native (Some c) = go (slice_get p.classes c) refl
+    where
+      go : (o : Option ClassDecl) → slice_get p.classes c ≡ o → native_of (kind_in o) ≡ None
+      go None e = refl
+      go (Some d) e = kind_no_native d.kind (all_there (ClassFits (length p.classes) p.header.natives) p.classes c d formed.classes.each e).kind
+
+  thing_no_native : (t : Thing) → native_of (thing_kind p t) ≡ None
+  thing_no_native (An_object_of c) = class_no_native (Some c)
+  thing_no_native Message = class_no_native None
+
+  module _ (s : State) where
+    none_at_home : (fr : Frame) (ts : List Task) (home : Home) (i : Option Instr) → wanted_by s p fr ts home i ≡ None
+    none_at_home fr ts Static i = refl
+    none_at_home fr ts AtRoot i = refl
+    none_at_home fr ts (Inside o from) i = ap (λ n. wanted_at s fr ts o n i) (thing_no_native o.thing)
+
+    none_gone : (o : Option Object) → wanted_gone s p o ≡ None
+    none_gone None = refl
+    none_gone (Some o) = ap (wanted_going s o) (thing_no_native o.thing)
+
+    none_of_task : (ts : List Task) → wanted_task s p ts ≡ None
+    none_of_task [] = refl
+    none_of_task (Run fr ∷ ts) = none_at_home fr ts fr.home (instr_at p fr.method fr.place)
+    none_of_task (Trapped ∷ ts) = refl
+    none_of_task (Destroy ∷ ts) = none_gone (held s.cells (Going (length ts)))
+    none_of_task (Unwind code ∷ ts) = refl
+    none_of_task (Dispatched d ∷ ts) = refl
+
+    pub unwanted : wanted p s ≡ None
+    unwanted = none_of_task s.tasks
