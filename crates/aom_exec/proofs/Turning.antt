@@ -141,6 +141,10 @@ module _ (p : Image) (m : Parts) (turned : progress_by m.rest.ended m.stack.task
     stands = stands_rest p m s (record m.rest { delivered = suc m.rest.delivered }) (record s.rest { delivered = suc s.rest.delivered }) (ap (λ (r : Rest). record r { delivered = suc r.delivered }) st.agrees.rest) refl st;
   }
 
+  -- and what the machine stands for then it stood for before it
+  pub stands_back : (s : State) → StandsFor (record { image = p; parts = record m { rest = record m.rest { delivered = suc m.rest.delivered } } }) s → StandsFor old (record s { rest = m.rest })
+  stands_back s st = stands_rest p (record m { rest = record m.rest { delivered = suc m.rest.delivered } }) s m.rest m.rest refl (ap (λ (r : Rest). r.steps) st.agrees.rest) st
+
   -- the run is over
   pub waits_ends : TakesAll old Waits (record { image = p; parts = record m { rest = record m.rest { ended = Some Waiting } } })
   waits_ends told s st = record {

@@ -125,7 +125,8 @@ impl<'a> Machine<'a> {
         requires few { self.old.parts.rest.delivered + 1 < 2 ^ 64 }
         ensures image { self.new.image ≡ self.old.image }
         ensures heard { TakesAll self.old Hears self.new }
-        ensures delivered { self.new.parts.rest.delivered ≡ suc self.old.parts.rest.delivered }
+        ensures rest { self.new.parts.rest ≡ record self.old.parts.rest { delivered = suc self.old.parts.rest.delivered } }
+        ensures back { (s : State) → StandsFor self.new s → StandsFor self.old (record s { rest = self.old.parts.rest }) }
         ensures timers { timers self.new ≡ timers self.old }
         ensures agrees { AgreesInAll self.new }
     {

@@ -36,7 +36,6 @@ use Rattle.aom_main.specs.Explored.{AcceptedExplores, Begun, ExploreAnswers, Exp
 use Rattle.aom_main.specs.Explored.ExploreBreaks.{script_wants_memory as wants_for_script, machine_wants_memory as wants_for_machine, output_fails as fails}
 use Rattle.aom_main.specs.declared.exploring.Part.{Part}
 use Rattle.aom_main.specs.Headline.RunBreaks.{machine_wants_memory, output_fails, script_wants_memory}
-use Rattle.aom_determined.proofs.Hearing.{admitted_unserved}
 use Rattle.aom_classes.specs.Admitted.{IsAdmitted}
 
 -- ---- a run
@@ -49,7 +48,7 @@ all_run_well p linked admitted table law steps wired determined =
     record {
       each = λ bytes spelled outside. law.each p table.0 outside spelled.formed linked table.1.typed;
       within = λ bytes spelled outside. steps.each p table.0 table.2 outside spelled.formed linked table.1.typed table.3 (affords p table.2 table.4);
-      one = λ bytes spelled outside. determined p table.0 outside (wired p spelled.formed linked) table.1.typed (admitted_unserved p admitted);
+      one = λ bytes spelled outside. determined p table.0 outside (wired p spelled.formed linked) table.1.typed;
     }
 
 -- a run of a linked image that has a typing

@@ -2,7 +2,8 @@
 use Rattle.std.specs.Prelude.{ℕ, zero, suc, ◌+◌, ◌-◌, ◌≡◌, ◌⊎◌, min, true, false, List, [], ◌∷◌, ◌++◌, length}
 use Rattle.aom_image.specs.Image.{Image}
 use Rattle.aom_sound.specs.State.{State}
-use Rattle.aom_sound.specs.World.{Outside, Run_of, refusing}
+use Rattle.aom_run.specs.Turns.{hearing}
+use Rattle.aom_sound.specs.World.{Outside, Run_of}
 use Rattle.aom_transcript.specs.Text.{ended, tried_text}
 use Rattle.aom_transcript.specs.declared.line.Ending.{Ending}
 use Rattle.aom_transcript.specs.declared.line.Line.{Line}
@@ -28,7 +29,7 @@ pub record Tried (p : Image) (script : Script) (limit number : ℕ) (line : List
   pub lines : List Line
   pub state : State
   pub ending : Ending
-  pub run : Run_of p (refusing (script.refused ++ number ∷ []) limit) lines state ending
+  pub run : Run_of p (hearing (script.refused ++ number ∷ []) limit script.timed) lines state ending
   pub is : line ≡ ended (tried_text number ending (length state.cells))
 
 -- one such line for each of so many numbers, from the first on

@@ -2,7 +2,8 @@
 use Rattle.std.specs.Prelude.{ℕ, ◌≡◌, ◌⊎◌, Bool, true, false, List, Option, length, take, codes, Ok, Err}
 use Rattle.aom_image.specs.Image.{Image}
 use Rattle.aom_sound.specs.State.{State}
-use Rattle.aom_sound.specs.World.{Outside, refusing, Run_of}
+use Rattle.aom_run.specs.Turns.{hearing}
+use Rattle.aom_sound.specs.World.{Outside, Run_of}
 use Rattle.aom_transcript.specs.declared.line.Line.{Line}
 use Rattle.aom_transcript.specs.declared.line.Ending.{Ending}
 use Rattle.aom_transcript.specs.declared.line.Ending.TheVariants as endings
@@ -100,7 +101,7 @@ pub record AllRunWell (p : Image) : Type 0 where
 
 -- what a script lets come from outside, and the limit of the call
 abbrev pub outside_of : Script → (limit : ℕ) → Outside
-outside_of script limit = refusing script.refused limit
+outside_of script limit = hearing script.refused limit script.timed
 
 -- they are, and the text is a script; each run of that image under that script and limit goes well within its declared steps, and none writes anything else than another
 pub record Runs (bytes text : List ℕ) (limit : ℕ) : Type 0 where

@@ -1,6 +1,6 @@
 //! Runs of an image in which one more allocation request is refused, each by its last line.
 ghost use Rattle.std.specs.Prelude.{ℕ, ◌≡◌, ◌≤◌, ◌<◌, ◌^◌, ◌++◌, ◌∷◌, [], List, IfOk, IfErr, Ok};
-ghost use Rattle.aom_sound.specs.World.{refusing};
+ghost use Rattle.aom_run.specs.Turns.{hearing};
 ghost use Rattle.aom_run.specs.Outcomes.{outcome_of};
 ghost use Rattle.aom_script.specs.Script.{denoted};
 ghost use Rattle.aom_run.specs.declared.outcome.Outcome.TheVariants.{WriteFault};
@@ -77,7 +77,7 @@ fn last_of(
     limit: u32,
 ) -> Result<Last, Fault>
     requires limit { (1 ≤ limit) × (limit ≤ 1000000000) }
-    ensures ok { IfOk result (λ last. IsLast accepted.now (refusing refused.items limit) last) }
+    ensures ok { IfOk result (λ last. IsLast accepted.now (hearing refused.items limit script.now.timed) last) }
     ensures err { IfErr result (λ fault. fault ≡ Fault.Memory) }
 {
     let mut turn = Turn::new(alloc, accepted, refused)?;

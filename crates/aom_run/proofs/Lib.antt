@@ -1,8 +1,7 @@
 pub mod Spared
-pub mod Timing
-pub mod Completing
 pub mod Prefix
 pub mod Reaching
+pub mod Gets
 pub mod Turnings
 pub mod Between
 pub mod Running

@@ -20,9 +20,10 @@ use Rattle.aom_exec.specs.Progress.{progress_by, progress_of}
 use Rattle.aom_run.specs.Outcomes.{outcome_of}
 use Rattle.aom_exec.proofs.Progressing.{is_as_far}
 use Rattle.aom_run.specs.Runs.{after, CutOff, Ended, Moving, Sent, Told, CutShort, Ran}
-use Rattle.aom_run.specs.Turns.{TakesTurns, one_where}
+use Rattle.aom_endings.proofs.Ending.{runs_can_end}
+use Rattle.aom_endings.specs.Endings.{CanEnd, one_where}
+use Rattle.aom_run.specs.Turns.{TakesTurns}
 use Rattle.aom_run.proofs.Spared.{moving_spares}
-use Rattle.aom_run.proofs.Completing.{CanEnd, completes}
 use Rattle.aom_run.proofs.Reaching.{reaches_both, reaches_then}
 use Rattle.aom_run.proofs.Sending.{cut_short, after_both, after_none, text_of_both, cut_next}
 
@@ -43,7 +44,7 @@ completed : (p : Image) (outside : Outside) → outside.limit ≤ 2 ^ 64 - 1 →
 completed p outside few lines s m image r stands =
     let Whole : Image → Type 0 = λ q. Reaches q outside (boot_state q) lines s → CanEnd q outside lines in
     let sound = stands.sound in
-    subst Whole image (λ r'. completes m.image stands.typing outside few sound.wired sound.linked sound.typed sound.keeps lines s r' stands.typed) r
+    subst Whole image (λ r'. runs_can_end m.image stands.typing outside few sound.wired sound.linked sound.typed lines s r' stands.typed) r
 
 -- the beginning of the lines of a run is one of its transcript
 cut_of : (p : Image) (outside : Outside) (before now : Option (List ℕ)) (lines : List Line) → CanEnd p outside lines → (n : ℕ) → now ≡ after before (take n (text_of lines)) → CutShort p outside before now

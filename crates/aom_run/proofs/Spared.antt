@@ -1,36 +1,11 @@
--- How many dispatches of objects there may still be: no move makes more of them.
-use Rattle.std.proofs.Common.{◌≡◌, ℕ, ◌<◌, ◌≤◌, ◌^◌, ◌-◌, ◌∙◌, Bool, true, false, List, [], Some, None, ap, arith, cond, refl}
-use Rattle.std.specs.Prelude.{is_some}
+-- How many dispatches of objects there may still be: moves one after another make no more of them.
+use Rattle.std.proofs.Common.{◌≡◌, ℕ, ◌≤◌, ◌^◌, ◌-◌, List, arith}
 use Rattle.aom_image.specs.Image.{Image}
-use Rattle.aom_image.specs.declared.method.Role.TheVariants.{Run as Handles}
-use Rattle.aom_image.specs.declared.method.Thing.{Thing}
-use Rattle.aom_image.specs.declared.method.Thing.TheVariants.{Message, Object as An_object_of}
-use Rattle.aom_sound.proofs.Counting.{dispatches_are_counted}
-use Rattle.aom_sound.proofs.Turned.{dispatched_so}
-use Rattle.aom_sound.specs.Counting.{restarts}
-use Rattle.aom_sound.specs.Enlisted.{part_of}
-use Rattle.aom_sound.specs.Moves.{step}
-use Rattle.aom_sound.specs.State.{Choice, Goes, Seat, State, raised}
-use Rattle.aom_sound.specs.World.{Picks, turned}
-use Rattle.aom_steps.proofs.Payers.{payers}
-use Rattle.aom_steps.specs.Payers.{class_of, payer}
+use Rattle.aom_sound.specs.State.{State}
 use Rattle.aom_transcript.specs.declared.line.Line.{Line}
+use Rattle.aom_endings.proofs.Spending.{moved_spares}
+use Rattle.aom_endings.specs.Endings.{spare}
 use Rattle.aom_run.specs.Runs.{Moving, begins, goes_on}
-use Rattle.aom_run.specs.Turns.{one_where, spare}
-
-one_at_most : (b : Bool) → one_where b ≤ 1
-one_at_most true = omega arith
-one_at_most false = omega arith
-
-pub moved_spares : (p : Image) (limit : ℕ) → limit ≤ 2 ^ 64 - 1 → (c : Choice) (s u : State) → step p c s ≡ Goes u → spare limit u ≤ spare limit s
-moved_spares p limit most c s u goes = go (restarts p s.tasks) refl
-  where
-    go : (b : Bool) → restarts p s.tasks ≡ b → spare limit u ≤ spare limit s
-    go b is = by_case b (dispatches_are_counted.moves p c s u goes ∙ ap (λ x. cond x (raised s.rest.dispatches) s.rest.dispatches) is) (ap (λ o. one_where (is_some o)) (payers p c s u goes ∙ ap (λ x. cond x None (payer s.tasks)) is))
-      where
-        by_case : (b : Bool) → u.rest.dispatches ≡ cond b (raised s.rest.dispatches) s.rest.dispatches → one_where (is_some (payer u.tasks)) ≡ one_where (is_some (cond b None (payer s.tasks))) → spare limit u ≤ spare limit s
-        by_case true counts pays = omega (arith, counts, pays, one_at_most (is_some (payer s.tasks)), most)
-        by_case false counts pays = omega (arith, counts, pays)
 
 pub moving_spares : (p : Image) (limit : ℕ) → limit ≤ 2 ^ 64 - 1 → (refused : List ℕ) (s : State) (lines : List Line) (u : State) → Moving p refused s lines u → spare limit u ≤ spare limit s
 moving_spares p limit most refused s _ _ begins = omega arith
@@ -38,19 +13,3 @@ moving_spares p limit most refused s _ _ (goes_on {lines} {s = v} {u = u} c befo
     let first = moving_spares p limit most refused s lines v before in
     let last = moved_spares p limit most c v u goes in
     omega (arith, first, last)
-
--- the dispatch of an object takes one of them
-class_there : (p : Image) (t : Thing) (m : ℕ) → part_of p Handles t ≡ Some m → is_some (class_of t) ≡ true
-class_there p (An_object_of c) m e = refl
-class_there p Message m e = cc
-
-pub picked_pays : (p : Image) (s u : State) (x : Seat) → turned p s (Picks x) ≡ Goes u → is_some (payer u.tasks) ≡ true
-picked_pays p s u x goes =
-    let d = dispatched_so p s u x goes in
-    ap (λ (v : State). is_some (payer v.tasks)) d.2 ∙ class_there p x.object.thing d.0 d.1
-
-pub picked_spares : (p : Image) (limit : ℕ) (s u : State) (x : Seat) → s.rest.dispatches < limit → s.tasks ≡ [] → turned p s (Picks x) ≡ Goes u → spare limit u < spare limit s
-picked_spares p limit s u x below idle goes =
-    let one = ap one_where (picked_pays p s u x goes) in
-    let none = ap (λ ts. one_where (is_some (payer ts))) idle in
-    omega (arith, below, one, none, ap (λ (v : State). v.rest.dispatches) (dispatched_so p s u x goes).2)

@@ -11,8 +11,8 @@ use Rattle.aom_exec.specs.Steps.{Machine, StandsFor, timers}
 use Rattle.aom_exec.specs.Turns.{NoneDue}
 
 -- what comes from outside of the image, where there is no native
-abbrev pub outside_of : List ℕ → ℕ → List TimedEvent → Outside
-outside_of refused limit events = record (refusing refused limit) { events = events }
+abbrev pub hearing : List ℕ → ℕ → List TimedEvent → Outside
+hearing refused limit events = record (refusing refused limit) { events = events }
 
 -- ---- timers
 
@@ -54,7 +54,7 @@ waiting events m = timers m + to_come events m
 abbrev pub Settles : List TimedEvent → Machine → Machine → Type 0
 Settles events old new =
     (s : State) → StandsFor old s
-    → (u : State) × ((refused : List ℕ) (limit : ℕ) → s.rest.dispatches < limit → Reaches old.image (outside_of refused limit events) s [] u)
+    → (u : State) × ((refused : List ℕ) (limit : ℕ) → s.rest.dispatches < limit → Reaches old.image (hearing refused limit events) s [] u)
     × (u.rest.dispatches ≡ s.rest.dispatches)
     × StandsFor new u
 

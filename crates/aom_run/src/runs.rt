@@ -1,10 +1,10 @@
 //! A run, from a fresh machine to its end, with its transcript.
 ghost use Rattle.std.specs.Prelude.{ℕ, true, false, ◌≡◌, ◌+◌, ◌<◌, ◌≤◌, length, take, IfNone, IfSome};
 ghost use Rattle.aom_sound.specs.State.{State};
-ghost use Rattle.aom_sound.specs.World.{refusing};
 ghost use Rattle.aom_determined.specs.Laws.{IsDetermined};
 ghost use Rattle.aom_transcript.specs.Text.{ended, end_text};
 ghost use Rattle.aom_run.specs.Outcomes.{outcome_of};
+ghost use Rattle.aom_run.specs.Turns.{hearing};
 ghost use Rattle.aom_run.specs.Runs.{IsFresh, Ran, Ended, CutShort, after};
 ghost use Rattle.aom_exec.specs.Steps.{StandsFor};
 
@@ -14,15 +14,16 @@ use crate::{Outcome, Sink, write_text};
 use aom_exec::{Machine, Progress};
 use aom_lines::Turn;
 use aom_script::Script;
-use aom_transcript::{Ending, Page};
+use aom_transcript::{Ending, Page, TimedEvent};
 
 /// Runs a fresh machine to its end and writes the transcript, one step after another. It stops where the sink fails.
 /// No other run of its image has another transcript.
 ///
-/// The run ends after `limit` dispatches of objects, from 1 to 10^9. It hears none of the script's events so far.
+/// The run ends after `limit` dispatches of objects, from 1 to 10^9. It hears the script's events, each at its time; there is no native yet
+/// that one could be for.
 pub fn run<W: Sink>(
     machine: &mut Machine,
-    _script: &Script,
+    script: &Script,
     turn: &mut Turn,
     limit: u32,
     out: &mut W,
@@ -31,11 +32,11 @@ pub fn run<W: Sink>(
     requires room { machine.old.image.header.messages + 80 ≤ turn.old.room }
     requires limit { (1 ≤ limit) × (limit ≤ 1000000000) }
     ensures image { machine.new.image ≡ machine.old.image }
-    ensures ran { Ran machine.old (refusing turn.old.refused limit) result (W.failed out.new) (W.out out.old) (W.out out.new) machine.new }
-    ensures determined { IsDetermined machine.old.image (refusing turn.old.refused limit) }
+    ensures ran { Ran machine.old (hearing turn.old.refused limit script.now.timed) result (W.failed out.new) (W.out out.old) (W.out out.new) machine.new }
+    ensures determined { IsDetermined machine.old.image (hearing turn.old.refused limit script.now.timed) }
 {
     aom_determined::text_is_determined();
-    match run_lines(machine, turn, limit, out) {
+    match run_lines(machine, script.events(), turn, limit, out) {
         None => Outcome::WriteFault,
         Some(ending) => finish(machine, ending, out),
     }
@@ -44,6 +45,7 @@ pub fn run<W: Sink>(
 /// Runs a fresh machine to its end and writes its lines, or gives up where the sink fails.
 fn run_lines<W: Sink>(
     machine: &mut Machine,
+    events: &[TimedEvent],
     turn: &mut Turn,
     limit: u32,
     out: &mut W,
@@ -51,8 +53,8 @@ fn run_lines<W: Sink>(
     requires fresh { IsFresh machine.old }
     requires room { machine.old.image.header.messages + 80 ≤ turn.old.room }
     ensures image { machine.new.image ≡ machine.old.image }
-    ensures none { IfNone result ((W.failed out.new ≡ true) × CutShort machine.old.image (refusing turn.old.refused limit) (W.out out.old) (W.out out.new)) }
-    ensures some { IfSome result (λ ending. Ended machine.old.image (refusing turn.old.refused limit) ending (W.out out.old) (W.out out.new) machine.new) }
+    ensures none { IfNone result ((W.failed out.new ≡ true) × CutShort machine.old.image (hearing turn.old.refused limit events.now) (W.out out.old) (W.out out.new)) }
+    ensures some { IfSome result (λ ending. Ended machine.old.image (hearing turn.old.refused limit events.now) ending (W.out out.old) (W.out out.new) machine.new) }
 {
     turn.clear();
     let mut page = Page::new();
@@ -61,7 +63,7 @@ fn run_lines<W: Sink>(
         if let Progress::Ended(ending) = progress {
             return Some(ending);
         }
-        if let Some(ending) = take_turns(machine, turn, limit) {
+        if let Some(ending) = take_turns(machine, events, turn, limit) {
             return Some(ending);
         }
         progress = run_dispatch(machine, turn, &mut page, out)?;

@@ -2,7 +2,7 @@
 ghost use Rattle.std.specs.Prelude.{◌≡◌, ◌<◌, ◌≤◌, ◌↔◌, IsTrue, length};
 ghost use Rattle.aom_sound.specs.State.{State};
 ghost use Rattle.aom_sound.specs.World.{due_of, event_at, first_due, nearer, time_of};
-ghost use Rattle.aom_run.specs.Turns.{CompletesDue, HasCome, IsDue, IsLate, NoneHasCome, NoneIsDue, Settles, TakesTurns, outside_of, to_come, waiting};
+ghost use Rattle.aom_run.specs.Turns.{CompletesDue, HasCome, IsDue, IsLate, NoneHasCome, NoneIsDue, Settles, TakesTurns, hearing, to_come, waiting};
 ghost use Rattle.aom_exec.specs.Steps.{Stands, StandsFor, progress, timers};
 ghost use Rattle.aom_exec.specs.declared.progress.Progress.TheVariants.{Turned};
 
@@ -21,7 +21,7 @@ pub fn take_turns(
     requires between { progress machine.old ≡ Turned }
     requires room { length turn.old.lines < turn.old.room }
     ensures image { machine.new.image ≡ machine.old.image }
-    ensures turns { TakesTurns machine.old (outside_of turn.old.refused limit events.now) result turn.old turn.new machine.new }
+    ensures turns { TakesTurns machine.old (hearing turn.old.refused limit events.now) result turn.old turn.new machine.new }
 {
     if machine.dispatches() >= u64::from(limit) {
         machine.cut();

@@ -1,4 +1,3 @@
-use Rattle.aom_determined.proofs.Hearing.{admitted_unserved}
 use Rattle.aom_run.proofs.Running.{ran}
 use Rattle.aom_run.proofs.runs.run.Goals as goal
 
@@ -11,7 +10,7 @@ pub returns-in-None-clause-ran : goal.returns-in-None-clause-ran
 returns-in-None-clause-ran g c = c.in-None.ensures.none
 
 pub returns-in-None-clause-determined : goal.returns-in-None-clause-determined
-returns-in-None-clause-determined g c = c.text_is_determined.ensures _ c.requires.fresh.typing _ c.requires.fresh.sound.wired c.requires.fresh.sound.typed (admitted_unserved _ c.requires.fresh.sound.admitted)
+returns-in-None-clause-determined g c = c.text_is_determined.ensures _ c.requires.fresh.typing _ c.requires.fresh.sound.wired c.requires.fresh.sound.typed
 
 pub returns-in-Some-clause-determined : goal.returns-in-Some-clause-determined
-returns-in-Some-clause-determined g c = c.text_is_determined.ensures _ c.requires.fresh.typing _ c.requires.fresh.sound.wired c.requires.fresh.sound.typed (admitted_unserved _ c.requires.fresh.sound.admitted)
+returns-in-Some-clause-determined g c = c.text_is_determined.ensures _ c.requires.fresh.typing _ c.requires.fresh.sound.wired c.requires.fresh.sound.typed

@@ -3,7 +3,7 @@ use Rattle.aom_exec.specs.Steps.{Machine, StandsFor, progress, timers}
 use Rattle.aom_exec.specs.declared.progress.Progress.TheVariants.{Turned}
 use Rattle.aom_exec.specs.Turns.{Completed as Completes_one}
 use Rattle.aom_run.specs.Turns.{CompletesDue, IsDue}
-use Rattle.aom_run.proofs.Between.{completed_far, completed_stands, fewer_then, none_completed, one_completed, was_due}
+use Rattle.aom_run.proofs.Between.{completed_far, completed_stands, fewer_then, no_more_then, none_completed, one_completed, was_due}
 use Rattle.aom_run.proofs.turns.complete_due.Goals as goal
 
 pub loop-init : goal.loop-init
@@ -40,5 +40,6 @@ returns c =
       completed = subst (λ (x : Machine). CompletesDue c.args.machine.now x) same i.completed;
       between = subst (λ (x : Machine). progress x ≡ Turned) same i.between;
       none = λ s stands. none.1 s (subst (λ (x : Machine). StandsFor x s) none.0 stands);
+      no_more = no_more_then c.args.machine.now m c.due.new.self i.fewer none.0;
       falls = subst (λ (x : Machine). IsDue c.args.machine.now → timers x < timers c.args.machine.now) same (was_due c.args.machine.now m i.fewer none.1);
     }

@@ -2,10 +2,11 @@
 use Rattle.std.proofs.Common.{ap, subst, suc, sym, ◌≡◌, ◌∙◌}
 use Rattle.aom_sound.specs.World.{Hears}
 use Rattle.aom_exec.specs.declared.progress.Progress.TheVariants.{Turned}
-use Rattle.aom_exec.specs.Steps.{Machine, progress}
+use Rattle.aom_sound.specs.State.{State}
+use Rattle.aom_exec.specs.Steps.{Machine, StandsFor, progress}
 use Rattle.aom_exec.specs.Turns.{TakesAll}
 use Rattle.aom_exec.proofs.Agreeing.{agrees_in_all}
-use Rattle.aom_exec.proofs.Turning.{hears_one, takes_again}
+use Rattle.aom_exec.proofs.Turning.{hears_one, stands_back, takes_again}
 use Rattle.aom_exec.proofs.machine.Machine.hear.Goals as goal
 
 pub invariant_of-self : goal.invariant_of-self
@@ -21,6 +22,13 @@ returns-clause-heard c =
     let p = c.self.inside.accepted.now in
     let m = c.self.inside.parts in
     rw c.deliver.ensures (subst (λ (old : Machine). TakesAll old Hears (record { image = p; parts = record m { rest = record m.rest { delivered = suc m.rest.delivered } } })) c.self.view_is (hears_one p m turned))
+
+pub returns-clause-back : goal.returns-clause-back
+returns-clause-back c =
+    let turned = subst (λ (m : Machine). progress m ≡ Turned) (sym c.self.view_is) c.requires.between in
+    let p = c.self.inside.accepted.now in
+    let m = c.self.inside.parts in
+    rw c.deliver.ensures (subst (λ (old : Machine). (s : State) → StandsFor (record { image = p; parts = record m { rest = record m.rest { delivered = suc m.rest.delivered } } }) s → StandsFor old (record s { rest = old.parts.rest })) c.self.view_is (stands_back p m turned))
 
 pub returns-clause-agrees : goal.returns-clause-agrees
 returns-clause-agrees c = agrees_in_all _
