@@ -1,0 +1,12 @@
+//! The laws, each as the contract of a function that does nothing.
+ghost use Rattle.aom_owed.specs.Laws.{BootOwesNothing, OwesAtOne};
+
+/// As a run begins nothing is outstanding.
+pub fn boot_owes_nothing()
+    ensures { BootOwesNothing }
+{}
+
+/// A cell is served by one native, and owes there.
+pub fn owes_at_one()
+    ensures { OwesAtOne }
+{}
