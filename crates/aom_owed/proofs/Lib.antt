@@ -1,1 +1,6 @@
 pub mod Cells
+pub mod Effects
+pub mod Requests
+pub mod Calls
+pub mod Moves
+pub mod Found
