@@ -130,7 +130,7 @@ module _ (p : Image) (answer : ℤ) (s : State) where
     unserved : (k : ℕ) → serves p s.cells k o.name ≡ false
     unserved k = ap (λ x. serves_object p k x) lives ∙ served_none p k o.thing native
 
-    still : (k : ℕ) (b c : Bool) → (serves p s.cells k o.name && b) ≡ (serves p s.cells k o.name && c)
+    pub still : (k : ℕ) (b c : Bool) → (serves p s.cells k o.name && b) ≡ (serves p s.cells k o.name && c)
     still k b c = ap (λ x. x && b) (unserved k) ∙ sym (ap (λ x. x && c) (unserved k))
 
     asked_elsewhere : (r : Option Request) → Told p answer s None (set_request o.name r s.cells)

@@ -4,3 +4,5 @@ pub mod Requests
 pub mod Calls
 pub mod Moves
 pub mod Found
+pub mod Turns
+pub mod Runs

@@ -11,7 +11,7 @@ use Rattle.aom_sound.proofs.Turned.{recorded_so}
 use Rattle.aom_owed.proofs.Cells.{Unchanged, meets_asked, meets_opened, owes_asked, owes_opened, served_none, served_so, unchanged_asked, unchanged_itself, unchanged_opened}
 use Rattle.aom_owed.specs.Owed.{Finds, FindsWell, IsLinkedUp, is_for, meets, meets_after, owes, owes_after, serves, serves_object, takes_on}
 use Rattle.aom_sound.specs.Destruction.{is_at_rest}
-use Rattle.aom_sound.specs.Enlisted.{Asking, aborted, cancelled, cancelled_code, cancelling, first_request, home_kind, in_phase, is_active, is_idle, is_issued, issued_by, issued_of, on_request, own_request, pending, recorded, rerequested, status_of, thing_kind, waits}
+use Rattle.aom_sound.specs.Enlisted.{Asking, aborted, cancelled, cancelled_code, cancelling, completed_with, taken_up, first_request, home_kind, in_phase, is_active, is_idle, is_issued, issued_by, issued_of, on_request, own_request, pending, recorded, rerequested, status_of, thing_kind, waits}
 use Rattle.aom_sound.specs.Natives.{has_died, is_dead, is_owed, is_served_by, native_of, not_found, opens, own_session, resessioned, started, terminated}
 use Rattle.aom_sound.specs.Places.{Active, Cell, Idle, Issued, Object, Phase, Request, in_session, named, requested, set_request, set_session}
 use Rattle.aom_sound.specs.State.{AtRoot, Frame, Home, Inside, State, Static, Task}
@@ -59,6 +59,14 @@ none_owed (Some r) e = cc
 pub cancelled_owed : (r : Option Request) → is_owed (on_request cancelled r) ≡ false
 cancelled_owed None = refl
 cancelled_owed (Some r) = refl
+
+pub taken_owed : (r : Option Request) → is_owed (on_request taken_up r) ≡ false
+taken_owed None = refl
+taken_owed (Some r) = refl
+
+pub completed_with_owed : (code : ℤ) → int_eq code pending ≡ false → (r : Option Request) → is_owed (on_request (completed_with code) r) ≡ false
+completed_with_owed code settled None = refl
+completed_with_owed code settled (Some r) = and_right (not (is_idle r.phase)) (int_eq code pending) settled
 
 pub aborted_owed : (r : Option Request) → is_owed (on_request aborted r) ≡ false
 aborted_owed None = refl

@@ -10,5 +10,5 @@
 mod laws;
 
 pub use laws::{
-    boot_owes_nothing, moves_are_told, owes_at_one,
+    boot_owes_nothing, moves_are_told, owes_at_one, runs_are_linked_up, turns_are_told,
 };
