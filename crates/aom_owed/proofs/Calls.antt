@@ -9,7 +9,7 @@ use Rattle.aom_instructions.specs.declared.instr.Instr.{Instr}
 use Rattle.aom_instructions.specs.declared.instr.Instr.TheVariants.{Abort, Ask, Close, Connect, Issue}
 use Rattle.aom_owed.proofs.Cells.{Unchanged, meets_asked, meets_opened, owes_asked, owes_opened, served_none, served_so, unchanged_asked, unchanged_itself, unchanged_opened}
 use Rattle.aom_owed.proofs.Requests.{aborted_owed, cancelled_owed, completed_owed, idle_owed, issued_owed, started_owed}
-use Rattle.aom_owed.specs.Owed.{Finds, FindsWell, IsLinkedUp, is_for, meets, meets_after, owes, owes_after, serves, serves_object, takes_on}
+use Rattle.aom_owed.specs.Owed.{Finds, FindsWell, SessionsHold, is_for, meets, meets_after, owes, owes_after, serves, serves_object, takes_on}
 use Rattle.aom_rules.specs.Requests.{is_cancel}
 use Rattle.aom_sound.specs.Enlisted.{Asking, aborted, cancelled, ended_cells, home_kind, in_phase, is_idle, issued_of, on_request, own_request, pending, rerequested, status_of, thing_kind}
 use Rattle.aom_sound.specs.Natives.{has_died, is_dead, is_owed, native_of, opens, own_session, resessioned, started}
@@ -64,26 +64,26 @@ taken_off f name m x y v before now = go (name == m) refl
 pub for_one : (n x k m : ℕ) → is_for n x k m ≡ true → (n ≡ k) × (x ≡ m)
 for_one n x k m e = let both = and_parts (n == k) (x == m) e in (eqb-true n k both.0, eqb-true x m both.1)
 
--- ---- after a call it is linked up
+-- ---- sessions hold after a call
 
-module _ (p : Image) (answer : ℤ) (s : State) (linked : IsLinkedUp p s) (w : Option Wanted) where
+module _ (p : Image) (answer : ℤ) (s : State) (holds : SessionsHold p s) (w : Option Wanted) where
   met_after : (finds : FindsWell p s w) (k m : ℕ) → owes_after w answer k m (owes p s.cells k m) ≡ true → meets_after w answer k m (meets p s.cells k m) ≡ true
   met_after finds k m = go w finds
     where
       begun : (n x : ℕ) → meets p s.cells n x ≡ true → (b : Bool) → is_for n x k m ≡ b → ((takes_on answer && b) || owes p s.cells k m) ≡ true → meets p s.cells k m ≡ true
       begun n x f true e owed = let one = for_one n x k m e in ap (λ j. meets p s.cells j m) (sym one.0) ∙ ap (λ y. meets p s.cells n y) (sym one.1) ∙ f
-      begun n x f false e owed = linked.met k m (sym (ap (λ b. b || owes p s.cells k m) (and_right (takes_on answer) false refl)) ∙ owed)
+      begun n x f false e owed = holds.met k m (sym (ap (λ b. b || owes p s.cells k m) (and_right (takes_on answer) false refl)) ∙ owed)
 
       left : (n x : ℕ) → owes p s.cells n x ≡ false → (b : Bool) → is_for n x k m ≡ b → owes p s.cells k m ≡ true → (not b && meets p s.cells k m) ≡ true
       left n x f true e owed = let one = for_one n x k m e in absurd (true≢false (sym owed ∙ ap (λ j. owes p s.cells j m) (sym one.0) ∙ ap (λ y. owes p s.cells n y) (sym one.1) ∙ f))
-      left n x f false e owed = linked.met k m owed
+      left n x f false e owed = holds.met k m owed
 
       go : (w : Option Wanted) → FindsWell p s w → owes_after w answer k m (owes p s.cells k m) ≡ true → meets_after w answer k m (meets p s.cells k m) ≡ true
-      go None f e = linked.met k m e
-      go (Some (Opens n x)) f e = or_right (takes_on answer && is_for n x k m) (meets p s.cells k m) (linked.met k m e)
+      go None f e = holds.met k m e
+      go (Some (Opens n x)) f e = or_right (takes_on answer && is_for n x k m) (meets p s.cells k m) (holds.met k m e)
       go (Some (Starts n x y z)) f e = begun n x f.meets (is_for n x k m) refl e
-      go (Some (Asks n x y z)) f e = linked.met k m e
-      go (Some (Cancels n x)) f e = linked.met k m (and_parts (not (is_for n x k m)) (owes p s.cells k m) e).1
+      go (Some (Asks n x y z)) f e = holds.met k m e
+      go (Some (Cancels n x)) f e = holds.met k m (and_parts (not (is_for n x k m)) (owes p s.cells k m) e).1
       go (Some (Closes n x)) f e = left n x f.owes (is_for n x k m) refl e
 
   lives_after : (finds : FindsWell p s w) (k m : ℕ) → meets_after w answer k m (meets p s.cells k m) ≡ true → is_dead s.killed k ≡ false
@@ -91,18 +91,18 @@ module _ (p : Image) (answer : ℤ) (s : State) (linked : IsLinkedUp p s) (w : O
     where
       opened : (n x : ℕ) → is_dead s.killed n ≡ false → (b : Bool) → is_for n x k m ≡ b → ((takes_on answer && b) || meets p s.cells k m) ≡ true → is_dead s.killed k ≡ false
       opened n x f true e met = ap (λ j. is_dead s.killed j) (sym (for_one n x k m e).0) ∙ f
-      opened n x f false e met = linked.lives k m (sym (ap (λ b. b || meets p s.cells k m) (and_right (takes_on answer) false refl)) ∙ met)
+      opened n x f false e met = holds.lives k m (sym (ap (λ b. b || meets p s.cells k m) (and_right (takes_on answer) false refl)) ∙ met)
 
       go : (w : Option Wanted) → FindsWell p s w → meets_after w answer k m (meets p s.cells k m) ≡ true → is_dead s.killed k ≡ false
-      go None f e = linked.lives k m e
+      go None f e = holds.lives k m e
       go (Some (Opens n x)) f e = opened n x f.lives (is_for n x k m) refl e
-      go (Some (Starts n x y z)) f e = linked.lives k m e
-      go (Some (Asks n x y z)) f e = linked.lives k m e
-      go (Some (Cancels n x)) f e = linked.lives k m e
-      go (Some (Closes n x)) f e = linked.lives k m (and_parts (not (is_for n x k m)) (meets p s.cells k m) e).1
+      go (Some (Starts n x y z)) f e = holds.lives k m e
+      go (Some (Asks n x y z)) f e = holds.lives k m e
+      go (Some (Cancels n x)) f e = holds.lives k m e
+      go (Some (Closes n x)) f e = holds.lives k m (and_parts (not (is_for n x k m)) (meets p s.cells k m) e).1
 
-  pub linked_after : (u : State) → Told p answer s w u.cells → u.killed ≡ s.killed → IsLinkedUp p u
-  linked_after u told killed = record {
+  pub sessions_after : (u : State) → Told p answer s w u.cells → u.killed ≡ s.killed → SessionsHold p u
+  sessions_after u told killed = record {
     met = λ k m e. told.meets k m ∙ met_after told.finds k m (sym (told.owes k m) ∙ e);
     lives = λ k m e. ap (λ l. is_dead l k) killed ∙ lives_after told.finds k m (sym (told.meets k m) ∙ e);
   }
@@ -140,7 +140,7 @@ module _ (p : Image) (answer : ℤ) (s : State) where
     opened_elsewhere b = told_none _ (unchanged_opened p s.cells o b (λ k. still k b (in_session s.cells o.name)))
 
   -- one that native n serves
-  module _ (linked : IsLinkedUp p s) (o : Object) (lives : named s.cells o.name ≡ Some o) (n : ℕ) (native : native_of (thing_kind p o.thing) ≡ Some n) where
+  module _ (holds : SessionsHold p s) (o : Object) (lives : named s.cells o.name ≡ Some o) (n : ℕ) (native : native_of (thing_kind p o.thing) ≡ Some n) where
     pub served : (k : ℕ) → serves p s.cells k o.name ≡ (n == k)
     served k = ap (λ x. serves_object p k x) lives ∙ served_so p k n o.thing native
 
@@ -160,10 +160,10 @@ module _ (p : Image) (answer : ℤ) (s : State) where
 
     -- an open session tells that its native lives
     pub alive_in : in_session s.cells o.name ≡ true → is_dead s.killed n ≡ false
-    alive_in met = linked.lives n o.name (ap (λ x. x && in_session s.cells o.name) here ∙ met)
+    alive_in met = holds.lives n o.name (ap (λ x. x && in_session s.cells o.name) here ∙ met)
 
     open_for : is_owed (requested s.cells o.name) ≡ true → in_session s.cells o.name ≡ true
-    open_for owed = sym (ap (λ x. x && in_session s.cells o.name) here) ∙ linked.met n o.name (ap (λ x. x && is_owed (requested s.cells o.name)) here ∙ owed)
+    open_for owed = sym (ap (λ x. x && in_session s.cells o.name) here) ∙ holds.met n o.name (ap (λ x. x && is_owed (requested s.cells o.name)) here ∙ owed)
 
     connects : (d x : Bool) → is_dead s.killed n ≡ d → in_session s.cells o.name ≡ x → Told p answer s (wanted_if (not (d || x)) (Opens n o.name)) (set_session o.name (opens d x answer) s.cells)
     connects true true dead met = absurd (true≢false (sym dead ∙ alive_in met))
@@ -259,7 +259,7 @@ module _ (p : Image) (answer : ℤ) (s : State) (fr : Frame) (ts : List Task) wh
       go None = refl
       go (Some n) = none n o.name
 
-  module _ (linked : IsLinkedUp p s) where
+  module _ (holds : SessionsHold p s) where
     pub connect_told : (a : ℕ) (h : Home) → IsAlive s.cells h → Told p answer s (wanted_by s p fr ts h (Some (Connect a))) (resessioned s.cells h (opens (has_died s.killed (native_of (home_kind p h))) (own_session s.cells h) answer))
     connect_told a Static alive = told_none p answer s _ (unchanged_itself p s.cells)
     connect_told a AtRoot alive = told_none p answer s _ (unchanged_itself p s.cells)
@@ -267,7 +267,7 @@ module _ (p : Image) (answer : ℤ) (s : State) (fr : Frame) (ts : List Task) wh
       where
         go : (x : Option ℕ) → native_of (thing_kind p o.thing) ≡ x → Told p answer s (wanted_at s fr ts o x (Some (Connect a))) (set_session o.name (opens (has_died s.killed x) (in_session s.cells o.name) answer) s.cells)
         go None e = opened_elsewhere p answer s o alive e _
-        go (Some n) e = connects p answer s linked o alive n e (is_dead s.killed n) (in_session s.cells o.name) refl refl
+        go (Some n) e = connects p answer s holds o alive n e (is_dead s.killed n) (in_session s.cells o.name) refl refl
 
     pub issue_told :
         (clock order a b : ℕ) (h : Home) → IsAlive s.cells h → in_phase is_idle (own_request s.cells h) ≡ true →
@@ -279,7 +279,7 @@ module _ (p : Image) (answer : ℤ) (s : State) (fr : Frame) (ts : List Task) wh
         go : (x : Option ℕ) → native_of (thing_kind p o.thing) ≡ x →
             Told p answer s (wanted_at s fr ts o x (Some (Issue a b))) (set_request o.name (on_request (issued_of (thing_kind p o.thing) (record { clock = clock; order = order; started = started (has_died s.killed x) (in_session s.cells o.name) answer }) (read fr ts s a)) (requested s.cells o.name)) s.cells)
         go None e = asked_elsewhere p answer s o alive e _
-        go (Some n) e = issues p answer s linked o alive n e clock order (read fr ts s a) _ _ idle (is_dead s.killed n) (in_session s.cells o.name) refl refl
+        go (Some n) e = issues p answer s holds o alive n e clock order (read fr ts s a) _ _ idle (is_dead s.killed n) (in_session s.cells o.name) refl refl
 
     pub ask_told : (a b x : ℕ) (h : Home) → IsAlive s.cells h → Told p answer s (wanted_by s p fr ts h (Some (Ask a b x))) s.cells
     ask_told a b x Static alive = told_none p answer s _ (unchanged_itself p s.cells)
@@ -288,7 +288,7 @@ module _ (p : Image) (answer : ℤ) (s : State) (fr : Frame) (ts : List Task) wh
       where
         go : (y : Option ℕ) → native_of (thing_kind p o.thing) ≡ y → Told p answer s (wanted_at s fr ts o y (Some (Ask a b x))) s.cells
         go None e = told_none p answer s _ (unchanged_itself p s.cells)
-        go (Some n) e = asks p answer s linked o alive n e (is_dead s.killed n) (in_session s.cells o.name) _ _ refl refl
+        go (Some n) e = asks p answer s holds o alive n e (is_dead s.killed n) (in_session s.cells o.name) _ _ refl refl
 
     pub abort_told : (h : Home) → IsAlive s.cells h → Told p answer s (wanted_by s p fr ts h (Some Abort)) (rerequested s.cells h (on_request aborted (own_request s.cells h)))
     abort_told Static alive = told_none p answer s _ (unchanged_itself p s.cells)
@@ -297,7 +297,7 @@ module _ (p : Image) (answer : ℤ) (s : State) (fr : Frame) (ts : List Task) wh
       where
         go : (x : Option ℕ) → native_of (thing_kind p o.thing) ≡ x → Told p answer s (wanted_at s fr ts o x (Some Abort)) (set_request o.name (on_request aborted (requested s.cells o.name)) s.cells)
         go None e = asked_elsewhere p answer s o alive e _
-        go (Some n) e = aborts p answer s linked o alive n e (is_owed (requested s.cells o.name)) refl
+        go (Some n) e = aborts p answer s holds o alive n e (is_owed (requested s.cells o.name)) refl
 
     pub close_told : (h : Home) → IsAlive s.cells h → is_owed (own_request s.cells h) ≡ false → Told p answer s (wanted_by s p fr ts h (Some Close)) (resessioned s.cells h false)
     close_told Static alive unowed = told_none p answer s _ (unchanged_itself p s.cells)
@@ -306,4 +306,4 @@ module _ (p : Image) (answer : ℤ) (s : State) (fr : Frame) (ts : List Task) wh
       where
         go : (x : Option ℕ) → native_of (thing_kind p o.thing) ≡ x → Told p answer s (wanted_at s fr ts o x (Some Close)) (set_session o.name false s.cells)
         go None e = opened_elsewhere p answer s o alive e false
-        go (Some n) e = closes p answer s linked o alive n e unowed (in_session s.cells o.name) refl
+        go (Some n) e = closes p answer s holds o alive n e unowed (in_session s.cells o.name) refl

@@ -145,9 +145,6 @@ module _ (p : Image) (cs : List Cell) (o : Object) where
   pub owes_asked : (r : Option Request) (k m : ℕ) → owes p (set_request o.name r cs) k m ≡ cond (o.name == m) (serves p cs k o.name && is_owed r) (owes p cs k m)
   owes_asked r k m = go (o.name == m) refl
     where
-      then : List Cell
-      then = set_request o.name r cs
-
       objects : (x : ℕ) → named (set_request o.name r cs) x ≡ named cs x
       objects x = (rerequested_alike cs (Inside o (Elsewhere Root)) r).named_so x
 
@@ -227,5 +224,5 @@ pub boot_owes_nothing : BootOwesNothing
 boot_owes_nothing = record {
   owes = λ p n m. refl;
   meets = λ p n m. refl;
-  linked_up = λ p. record { met = λ n m e. absurd (true≢false (sym e)); lives = λ n m e. absurd (true≢false (sym e)) };
+  sessions = λ p. record { met = λ n m e. absurd (true≢false (sym e)); lives = λ n m e. absurd (true≢false (sym e)) };
 }

@@ -8,12 +8,12 @@ use Rattle.aom_image.specs.Views.{gives_of, instr_at, method_role}
 use Rattle.aom_image.specs.declared.method.Role.TheVariants.{Error}
 use Rattle.aom_instructions.specs.declared.instr.Instr.{Instr}
 use Rattle.aom_instructions.specs.declared.instr.Instr.TheVariants.{Abort, Ask, Cancel, Close, Connect, Delete, Enlist, Issue, JumpActive, JumpAdded, JumpEmpty, JumpEqual, JumpLess, JumpNull, LeaveIf, New, NewOrLeave, Next, PopDelete, Push, PushOperation, Return, SetActive}
-use Rattle.aom_owed.proofs.Calls.{IsAlive, Told, abort_told, alive_in, at_it, found, ask_told, asked_same, close_told, connect_told, ended_same, issue_told, linked_after, taken_off, told_none, unasked}
+use Rattle.aom_owed.proofs.Calls.{IsAlive, Told, abort_told, alive_in, at_it, found, ask_told, asked_same, close_told, connect_told, ended_same, issue_told, sessions_after, taken_off, told_none, unasked}
 use Rattle.aom_owed.proofs.Cells.{Unchanged, meets_gone, owes_gone, served_none, served_so, unchanged_along, unchanged_itself, unchanged_moved}
 use Rattle.aom_owed.proofs.Effects.{IsAside, applied_killed, applied_unchanged, returned_unchanged}
 use Rattle.aom_owed.proofs.Requests.{cancelling_owed, idle_owed, none_owed, rests_owed, waits_owed}
-use Rattle.aom_owed.specs.Laws.{IsTold, MovesAreTold}
-use Rattle.aom_owed.specs.Owed.{Finds, IsLinkedUp, is_for, meets, owes, serves, serves_object}
+use Rattle.aom_owed.specs.Laws.{FollowsCall, MovesFollowCalls}
+use Rattle.aom_owed.specs.Owed.{Finds, SessionsHold, is_for, meets, owes, serves, serves_object}
 use Rattle.aom_rules.specs.Typing.{Typing}
 use Rattle.aom_shape.specs.Needs.{AllTrue}
 use Rattle.aom_sound.proofs.Finishing.{all_parts}
@@ -37,7 +37,7 @@ use Rattle.aom_sound.specs.WellTyped.{Good, IsHoused, WellTyped}
 
 -- ---- an instruction
 
-module _ (p : Image) (c : Choice) (fr : Frame) (ts : List Task) (s : State) (linked : IsLinkedUp p s) (alive : IsAlive s.cells fr.home) (unused : named s.cells c.name ≡ None) where
+module _ (p : Image) (c : Choice) (fr : Frame) (ts : List Task) (s : State) (holds : SessionsHold p s) (alive : IsAlive s.cells fr.home) (unused : named s.cells c.name ≡ None) where
   abbrev Tells : Instr → Type 0
   Tells i = Told p c.answer s (wanted_by s p fr ts fr.home (Some i)) (applied p fr ts (counted p s) (effect p c fr ts (counted p s) i)).cells
 
@@ -94,11 +94,11 @@ module _ (p : Image) (c : Choice) (fr : Frame) (ts : List Task) (s : State) (lin
       (returned_unchanged p fr ts (record (counted p s) { cells = ended_cells p fr s.cells }) (gives_of p fr.method) a ts)
 
   tells : (i : Instr) → AllTrue (needs p c fr ts (counted p s) i) → Tells i
-  tells (Connect a) met = connect_told p c.answer s fr ts linked a fr.home alive
-  tells (Issue a b) met = issue_told p c.answer s fr ts linked s.rest.clock (next_timer s.cells) a b fr.home alive met.1.1.1.1.0
-  tells (Ask a b x) met = ask_told p c.answer s fr ts linked a b x fr.home alive
-  tells Abort met = abort_told p c.answer s fr ts linked fr.home alive
-  tells Close met = close_told p c.answer s fr ts linked fr.home alive (unowed (is_owed (own_request s.cells fr.home)) met.1.0)
+  tells (Connect a) met = connect_told p c.answer s fr ts holds a fr.home alive
+  tells (Issue a b) met = issue_told p c.answer s fr ts holds s.rest.clock (next_timer s.cells) a b fr.home alive met.1.1.1.1.0
+  tells (Ask a b x) met = ask_told p c.answer s fr ts holds a b x fr.home alive
+  tells Abort met = abort_told p c.answer s fr ts holds fr.home alive
+  tells Close met = close_told p c.answer s fr ts holds fr.home alive (unowed (is_owed (own_request s.cells fr.home)) met.1.0)
     where
       unowed : (b : Bool) → not b ≡ true → b ≡ false
       unowed true e = sym e
@@ -125,7 +125,7 @@ module _ (p : Image) (c : Choice) (fr : Frame) (ts : List Task) (s : State) (lin
 
 -- ---- the going of a cell
 
-module _ (p : Image) (answer : ℤ) (s : State) (linked : IsLinkedUp p s) (tidy : Tidy s.cells) (k : ℕ) (o : Object) (there : held s.cells (Going k) ≡ Some o) (rests : is_at_rest (requested s.cells o.name) ≡ true) where
+module _ (p : Image) (answer : ℤ) (s : State) (holds : SessionsHold p s) (tidy : Tidy s.cells) (k : ℕ) (o : Object) (there : held s.cells (Going k) ≡ Some o) (rests : is_at_rest (requested s.cells o.name) ≡ true) where
   lives : named s.cells o.name ≡ Some o
   lives = held_lives s.cells (Going k) o tidy there
 
@@ -149,12 +149,12 @@ module _ (p : Image) (answer : ℤ) (s : State) (linked : IsLinkedUp p s) (tidy 
   ends_session : (n : ℕ) → native_of (thing_kind p o.thing) ≡ Some n → (b : Bool) → in_session s.cells o.name ≡ b → Told p answer s (wanted_if b (Closes n o.name)) (without (Going k) s.cells)
   ends_session n native false met = unmet (λ j. and_right (serves p s.cells j o.name) _ met)
   ends_session n native true met = record {
-    finds = found p answer s linked o lives n native true false (alive_in p answer s linked o lives n native met) met unowed;
+    finds = found p answer s holds o lives n native true false (alive_in p answer s holds o lives n native met) met unowed;
     owes = owes_so;
     meets = λ j m.
         meets_gone p s.cells (Going k) o tidy there j m
         ∙ not_cond (o.name == m) (meets p s.cells j m)
-        ∙ taken_off (λ x. meets p s.cells j x) o.name m (n == j) true false (at_it p answer s linked o lives n native j _ true met) refl;
+        ∙ taken_off (λ x. meets p s.cells j x) o.name m (n == j) true false (at_it p answer s holds o lives n native j _ true met) refl;
   }
     where
       not_cond : (b x : Bool) → (not b && x) ≡ cond b false x
@@ -219,15 +219,15 @@ still_asks_none : (p : Image) (s : State) (ts : List Task) → IsStill ts → wa
 still_asks_none p s [] still = refl
 still_asks_none p s (t ∷ ts) still = absurd still
 
-module _ (p : Image) (t : Typing) (c : Choice) (s u : State) (w : WellTyped p t s) (unused : named s.cells c.name ≡ None) (linked : IsLinkedUp p s) (e : step p c s ≡ Goes u) where
+module _ (p : Image) (t : Typing) (c : Choice) (s u : State) (w : WellTyped p t s) (unused : named s.cells c.name ≡ None) (holds : SessionsHold p s) (e : step p c s ≡ Goes u) where
   abbrev Tale : Type 0
   Tale = Told p c.answer s (wanted p s) u.cells × (u.killed ≡ s.killed)
 
   -- a move that makes no call
   calmly : (v : State) → u ≡ v → wanted p s ≡ None → IsCalm p s v → Tale
   calmly v same none calm = (
-      subst (λ x. Told p c.answer s x u.cells) (sym none) (subst (λ (x : State). Told p c.answer s None x.cells) (sym same) (told_none p c.answer s v.cells calm.0)),
-      ap (λ (x : State). x.killed) same ∙ calm.1,
+    subst (λ x. Told p c.answer s x u.cells) (sym none) (subst (λ (x : State). Told p c.answer s None x.cells) (sym same) (told_none p c.answer s v.cells calm.0)),
+    ap (λ (x : State). x.killed) same ∙ calm.1,
   )
 
   of_method : (fr : Frame) (ts : List Task) (i : Instr) → s.tasks ≡ Run fr ∷ ts → instr_at p fr.method fr.place ≡ Some i → Tale
@@ -243,7 +243,7 @@ module _ (p : Image) (t : Typing) (c : Choice) (s u : State) (w : WellTyped p t 
       told =
           subst (λ l. Told p c.answer s (wanted_task s p l) u.cells) (sym at)
           (subst (λ x. Told p c.answer s (wanted_by s p fr ts fr.home x) u.cells) (sym there)
-          (subst (λ (x : State). Told p c.answer s (wanted_by s p fr ts fr.home (Some i)) x.cells) (sym acts.2) (tells p c fr ts s linked alive unused i acts.0)))
+          (subst (λ (x : State). Told p c.answer s (wanted_by s p fr ts fr.home (Some i)) x.cells) (sym acts.2) (tells p c fr ts s holds alive unused i acts.0)))
 
   of_going : (ts : List Task) (o : Object) → s.tasks ≡ Destroy ∷ ts → held s.cells (Going (length ts)) ≡ Some o → Tale
   of_going ts o at there = (told, sym (ap (λ (x : State). x.killed) after))
@@ -259,7 +259,7 @@ module _ (p : Image) (t : Typing) (c : Choice) (s u : State) (w : WellTyped p t 
           subst (λ l. Told p c.answer s (wanted_task s p l) u.cells) (sym at)
           (subst (λ x. Told p c.answer s (wanted_gone s p x) u.cells) (sym there)
           (subst (λ (x : State). Told p c.answer s (wanted_gone s p (Some o)) x.cells) after
-          (goes_told p c.answer s linked w.good.tidy (length ts) o there (guarded_met (needs_gone s.cells o) _ u goes).1.0)))
+          (goes_told p c.answer s holds w.good.tidy (length ts) o there (guarded_met (needs_gone s.cells o) _ u goes).1.0)))
 
   of_move : Move p c s u → Tale
   of_move (Acts fr ts i effect at there met fits same) = of_method fr ts i at there
@@ -271,14 +271,14 @@ module _ (p : Image) (t : Typing) (c : Choice) (s u : State) (w : WellTyped p t 
   of_move (Comes_out code d ts items at top same) = calmly _ same (ap (λ l. wanted_task s p l) at) (unchanged_itself p s.cells, refl)
   of_move (Ends d ts at same) = calmly _ same (ap (λ l. wanted_task s p l) at) (end_calm p d (counted p s))
 
-  move_told : IsTold p c s u
+  move_told : FollowsCall p c s u
   move_told = let tale = of_move (steps_are_moves p c s u e) in record {
     finds = tale.0.finds;
     owes = tale.0.owes;
     meets = tale.0.meets;
     killed = tale.1;
-    linked_up = linked_after p c.answer s linked (wanted p s) u tale.0 tale.1;
+    sessions = sessions_after p c.answer s holds (wanted p s) u tale.0 tale.1;
   }
 
-pub moves_are_told : MovesAreTold
-moves_are_told p t c s u w unused linked e = move_told p t c s u w unused linked e
+pub moves_follow_calls : MovesFollowCalls
+moves_follow_calls p t c s u w unused holds e = move_told p t c s u w unused holds e

@@ -9,7 +9,7 @@ use Rattle.aom_image.specs.declared.class.ClassKind.TheVariants.{Active as An_ac
 use Rattle.aom_image.specs.declared.class.Provider.TheVariants.{Native, Own, Timer as A_timer}
 use Rattle.aom_sound.proofs.Turned.{recorded_so}
 use Rattle.aom_owed.proofs.Cells.{Unchanged, meets_asked, meets_opened, owes_asked, owes_opened, served_none, served_so, unchanged_asked, unchanged_itself, unchanged_opened}
-use Rattle.aom_owed.specs.Owed.{Finds, FindsWell, IsLinkedUp, is_for, meets, meets_after, owes, owes_after, serves, serves_object, takes_on}
+use Rattle.aom_owed.specs.Owed.{Finds, FindsWell, SessionsHold, is_for, meets, meets_after, owes, owes_after, serves, serves_object, takes_on}
 use Rattle.aom_sound.specs.Destruction.{is_at_rest}
 use Rattle.aom_sound.specs.Enlisted.{Asking, aborted, cancelled, cancelled_code, cancelling, completed_with, taken_up, first_request, home_kind, in_phase, is_active, is_idle, is_issued, issued_by, issued_of, on_request, own_request, pending, recorded, rerequested, status_of, thing_kind, waits}
 use Rattle.aom_sound.specs.Natives.{has_died, is_dead, is_owed, is_served_by, native_of, not_found, opens, own_session, resessioned, started, terminated}

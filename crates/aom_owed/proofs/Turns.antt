@@ -13,8 +13,8 @@ use Rattle.aom_owed.proofs.Calls.{asked_same, still, taken_off}
 use Rattle.aom_owed.proofs.Cells.{Unchanged, meets_asked, native_served, owes_asked, served_so, unchanged_asked, unchanged_itself}
 use Rattle.aom_owed.proofs.Found.{IsAbout, IsCell, IsDue, is_due, is_found_ready, stands_at, turn_about}
 use Rattle.aom_owed.proofs.Requests.{completed_owed, completed_with_owed, taken_owed}
-use Rattle.aom_owed.specs.Laws.{IsTurned, TurnsAreTold}
-use Rattle.aom_owed.specs.Owed.{CompletesOwed, IsLinkedUp, has_name, killed_turned, meets, meets_turned, owes, owes_turned, serves, serves_object}
+use Rattle.aom_owed.specs.Laws.{FollowsTurn, TurnsKillOrComplete}
+use Rattle.aom_owed.specs.Owed.{CompletesOwed, SessionsHold, has_name, killed_turned, meets, meets_turned, owes, owes_turned, serves, serves_object}
 use Rattle.aom_rules.specs.Typing.{Typing}
 use Rattle.aom_sound.proofs.Guarded.{goes_same, guarded_goes}
 use Rattle.aom_sound.proofs.Storing.{bereaved_alike}
@@ -68,9 +68,6 @@ owes_bereaved : (p : Image) (n : ℕ) (cs : List Cell) (k m : ℕ) → owes p (a
 owes_bereaved p n [] k m = sym (and_right (not (n == k)) false refl)
 owes_bereaved p n (c ∷ cs) k m = go (c.object.name == m) (owes_bereaved p n cs k m)
   where
-    left : Option Request
-    left = cond (is_served_by p n c.object.thing) (terminated_request c.request) c.request
-
     go : (b : Bool) → owes p (all_bereaved p n cs) k m ≡ (not (n == k) && owes p cs k m) →
         (serves_object p k (cond b (Some c.object) (named (all_bereaved p n cs) m)) && is_owed (cond b (cond (is_served_by p n c.object.thing) (terminated_request c.request) c.request) (requested (all_bereaved p n cs) m)))
         ≡ (not (n == k) && (serves_object p k (cond b (Some c.object) (named cs m)) && is_owed (cond b c.request (requested cs m))))
@@ -141,7 +138,7 @@ module _ (p : Image) (t : Typing) (s : State) (w : WellTyped p t s) where
     owes_completed k m =
         owes_asked p s.cells c.object (on_request (completed_with code) (requested s.cells c.object.name)) k m
         ∙ taken_off (λ x. owes p s.cells k x) c.object.name m (n == k) true _ (ap (λ x. x && is_owed (requested s.cells c.object.name)) (served k) ∙ ap (λ x. (n == k) && x) outstanding)
-            (and_right (serves p s.cells k c.object.name) _ (completed_with_owed code settled (requested s.cells c.object.name)))
+        (and_right (serves p s.cells k c.object.name) _ (completed_with_owed code settled (requested s.cells c.object.name)))
         ∙ ap (λ x. not ((n == k) && has_name x m) && owes p s.cells k m) (sym at)
 
 -- ---- any turn
@@ -182,32 +179,32 @@ module _ (p : Image) (t : Typing) (s u : State) (w : WellTyped p t s) where
       let same = subst (λ (y : Seat). Unchanged p s.cells (with_request taken_up y.object s.cells)) about.2 (picked_same p t s w about.0 ready.0 ready.1) in
       subst (λ (v : State). Tale p s v (Picks x)) (sym d.2) (record { completes = tt; owes = same.owes; meets = same.meets; killed = refl })
 
--- ---- it is linked up then
+-- ---- sessions hold after it
 
-module _ (p : Image) (s : State) (linked : IsLinkedUp p s) where
+module _ (p : Image) (s : State) (holds : SessionsHold p s) where
   met_turned : (k : Turning) (n m : ℕ) → owes_turned s.cells k n m (owes p s.cells n m) ≡ true → meets_turned k n (meets p s.cells n m) ≡ true
-  met_turned (Kills x) n m e = let both = and_parts (not (x == n)) (owes p s.cells n m) e in and_from (not (x == n)) (meets p s.cells n m) both.0 (linked.met n m both.1)
-  met_turned (Polls x (Some a)) n m e = linked.met n m (and_parts (not ((x == n) && has_name (cell_at s.cells a.cell) m)) (owes p s.cells n m) e).1
-  met_turned (Polls x None) n m e = linked.met n m e
-  met_turned _ n m e = linked.met n m e
+  met_turned (Kills x) n m e = let both = and_parts (not (x == n)) (owes p s.cells n m) e in and_from (not (x == n)) (meets p s.cells n m) both.0 (holds.met n m both.1)
+  met_turned (Polls x (Some a)) n m e = holds.met n m (and_parts (not ((x == n) && has_name (cell_at s.cells a.cell) m)) (owes p s.cells n m) e).1
+  met_turned (Polls x None) n m e = holds.met n m e
+  met_turned _ n m e = holds.met n m e
 
   lives_turned : (k : Turning) (n m : ℕ) → meets_turned k n (meets p s.cells n m) ≡ true → is_dead (killed_turned k s.killed) n ≡ false
   lives_turned (Kills x) n m e =
       let both = and_parts (not (x == n)) (meets p s.cells n m) e in
-      list_any-append (λ j. j == n) s.killed (x ∷ []) ∙ or_from (is_dead s.killed n) ((x == n) || false) (linked.lives n m both.1) (other (x == n) both.0)
+      list_any-append (λ j. j == n) s.killed (x ∷ []) ∙ or_from (is_dead s.killed n) ((x == n) || false) (holds.lives n m both.1) (other (x == n) both.0)
     where
       other : (b : Bool) → not b ≡ true → (b || false) ≡ false
       other true e = sym e
       other false e = refl
-  lives_turned _ n m e = linked.lives n m e
+  lives_turned _ n m e = holds.lives n m e
 
-  linked_turned : (u : State) (k : Turning) → Tale p s u k → IsLinkedUp p u
-  linked_turned u k tale = record {
+  sessions_turned : (u : State) (k : Turning) → Tale p s u k → SessionsHold p u
+  sessions_turned u k tale = record {
     met = λ n m e. tale.meets n m ∙ met_turned k n m (sym (tale.owes n m) ∙ e);
     lives = λ n m e. ap (λ l. is_dead l n) tale.killed ∙ lives_turned k n m (sym (tale.meets n m) ∙ e);
   }
 
-pub turns_are_told : TurnsAreTold
-turns_are_told p t outside answer s u w well linked e =
+pub turns_kill_or_complete : TurnsKillOrComplete
+turns_kill_or_complete p t outside answer s u w well holds e =
     let tale = told p t s u w (turning outside answer s) (turn_about outside answer s) well e in
-    record { completes = tale.completes; owes = tale.owes; meets = tale.meets; killed = tale.killed; linked_up = linked_turned p s linked u (turning outside answer s) tale }
+    record { completes = tale.completes; owes = tale.owes; meets = tale.meets; killed = tale.killed; sessions = sessions_turned p s holds u (turning outside answer s) tale }

@@ -10,41 +10,41 @@ use Rattle.aom_sound.specs.Wanted.{wanted}
 use Rattle.aom_sound.specs.WellTyped.{WellTyped}
 use Rattle.aom_sound.specs.World.{AnswersWell, Completion, Outside, Reaches, boot_state, turn, turning}
 use Rattle.aom_transcript.specs.declared.line.Line.{Line}
-use Rattle.aom_owed.specs.Owed.{CompletesOwed, FindsWell, IsLinkedUp, killed_turned, meets, meets_after, meets_turned, owes, owes_after, owes_turned}
+use Rattle.aom_owed.specs.Owed.{CompletesOwed, FindsWell, SessionsHold, killed_turned, meets, meets_after, meets_turned, owes, owes_after, owes_turned}
 
 -- as a run begins nothing is outstanding, and no session is open
 pub record BootOwesNothing : Type 0 where
   pub owes : (p : Image) (n m : ℕ) → owes p (boot_state p).cells n m ≡ false
   pub meets : (p : Image) (n m : ℕ) → meets p (boot_state p).cells n m ≡ false
-  pub linked_up : (p : Image) → IsLinkedUp p (boot_state p)
+  pub sessions : (p : Image) → SessionsHold p (boot_state p)
 
 -- a move changes what is outstanding and what sessions are open as the call that it makes does, and kills no native
-pub record IsTold (p : Image) (c : Choice) (s u : State) : Type 0 where
+pub record FollowsCall (p : Image) (c : Choice) (s u : State) : Type 0 where
   pub finds : FindsWell p s (wanted p s)
   pub owes : (k m : ℕ) → owes p u.cells k m ≡ owes_after (wanted p s) c.answer k m (owes p s.cells k m)
   pub meets : (k m : ℕ) → meets p u.cells k m ≡ meets_after (wanted p s) c.answer k m (meets p s.cells k m)
   pub killed : u.killed ≡ s.killed
-  pub linked_up : IsLinkedUp p u
+  pub sessions : SessionsHold p u
 
-abbrev pub MovesAreTold : Type 0
-MovesAreTold = (p : Image) (t : Typing) (c : Choice) (s u : State) → WellTyped p t s → named s.cells c.name ≡ None → IsLinkedUp p s → step p c s ≡ Goes u → IsTold p c s u
+abbrev pub MovesFollowCalls : Type 0
+MovesFollowCalls = (p : Image) (t : Typing) (c : Choice) (s u : State) → WellTyped p t s → named s.cells c.name ≡ None → SessionsHold p s → step p c s ≡ Goes u → FollowsCall p c s u
 
 -- a turn changes it where it kills a native, or completes what is outstanding at one
-pub record IsTurned (p : Image) (outside : Outside) (answer : Option Completion) (s u : State) : Type 0 where
+pub record FollowsTurn (p : Image) (outside : Outside) (answer : Option Completion) (s u : State) : Type 0 where
   pub completes : CompletesOwed p s.cells (turning outside answer s)
   pub owes : (k m : ℕ) → owes p u.cells k m ≡ owes_turned s.cells (turning outside answer s) k m (owes p s.cells k m)
   pub meets : (k m : ℕ) → meets p u.cells k m ≡ meets_turned (turning outside answer s) k (meets p s.cells k m)
   pub killed : u.killed ≡ killed_turned (turning outside answer s) s.killed
-  pub linked_up : IsLinkedUp p u
+  pub sessions : SessionsHold p u
 
-abbrev pub TurnsAreTold : Type 0
-TurnsAreTold =
-    (p : Image) (t : Typing) (outside : Outside) (answer : Option Completion) (s u : State) → WellTyped p t s → AnswersWell p s (turning outside answer s) → IsLinkedUp p s → turn p outside answer s ≡ Goes u →
-    IsTurned p outside answer s u
+abbrev pub TurnsKillOrComplete : Type 0
+TurnsKillOrComplete =
+    (p : Image) (t : Typing) (outside : Outside) (answer : Option Completion) (s u : State) → WellTyped p t s → AnswersWell p s (turning outside answer s) → SessionsHold p s → turn p outside answer s ≡ Goes u →
+    FollowsTurn p outside answer s u
 
--- so it is linked up all along a run
-abbrev pub RunsAreLinkedUp : Type 0
-RunsAreLinkedUp = (p : Image) (t : Typing) (outside : Outside) → IsWired p → IsTyped p t → (lines : List Line) (s : State) → Reaches p outside (boot_state p) lines s → IsLinkedUp p s
+-- so sessions hold all along a run
+abbrev pub RunsKeepSessions : Type 0
+RunsKeepSessions = (p : Image) (t : Typing) (outside : Outside) → IsWired p → IsTyped p t → (lines : List Line) (s : State) → Reaches p outside (boot_state p) lines s → SessionsHold p s
 
 -- a cell owes at one native alone
 abbrev pub OwesAtOne : Type 0

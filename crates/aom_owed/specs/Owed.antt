@@ -1,4 +1,4 @@
--- What is outstanding at natives, what is known of sessions, and how calls and turns change both.
+-- What is outstanding at natives and what sessions are open, and how calls and turns change both.
 use Rattle.std.specs.Prelude.{ℕ, ℤ, pos, int_lt, Bool, true, false, not, cond, ◌&&◌, ◌||◌, ◌==◌, ◌≡◌, List, [], ◌∷◌, ◌++◌, Option, Some, None}
 use Rattle.aom_image.specs.Image.{Image}
 use Rattle.aom_sound.specs.Natives.{is_dead, is_owed, is_served_by}
@@ -25,8 +25,8 @@ owes p cs n m = serves p cs n m && is_owed (requested cs m)
 abbrev pub meets : Image → List Cell → (native name : ℕ) → Bool
 meets p cs n m = serves p cs n m && in_session cs m
 
--- what is outstanding is so in a session, and a native that is killed has none
-pub record IsLinkedUp (p : Image) (s : State) : Type 0 where
+-- what is outstanding is so in an open session, and none is open with a native that is killed
+pub record SessionsHold (p : Image) (s : State) : Type 0 where
   pub met : (n m : ℕ) → owes p s.cells n m ≡ true → meets p s.cells n m ≡ true
   pub lives : (n m : ℕ) → meets p s.cells n m ≡ true → is_dead s.killed n ≡ false
 
@@ -39,7 +39,7 @@ pub record Finds (p : Image) (s : State) (native name : ℕ) (session outstandin
   pub meets : meets p s.cells native name ≡ session
   pub owes : owes p s.cells native name ≡ outstanding
 
--- no session is opened twice, and none is asked, left or begun with a request but an open one; a request is begun once, cancelled while it is outstanding, and a session is closed with none
+-- a session is opened where none is, and all else is asked in an open one: a request is begun where none is outstanding and cancelled where one is, and a session is closed with nothing outstanding
 abbrev pub FindsWell : Image → State → Option Wanted → Type 0
 FindsWell p s None = Unit {0}
 FindsWell p s (Some (Opens n x)) = Finds p s n x false false

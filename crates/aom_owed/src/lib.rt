@@ -10,5 +10,5 @@
 mod laws;
 
 pub use laws::{
-    boot_owes_nothing, moves_are_told, owes_at_one, runs_are_linked_up, turns_are_told,
+    boot_owes_nothing, moves_follow_calls, owes_at_one, runs_keep_sessions, turns_kill_or_complete,
 };
