@@ -1,5 +1,5 @@
 -- What a move tells, by the call that it makes: how instructions on requests and sessions bear on what is outstanding.
-use Rattle.std.proofs.Common.{Bool, List, None, Option, Some, ap, cond, false, refl, subst, sym, true, ℕ, ℤ, ◌&&◌, ◌==◌, ◌∙◌, ◌∷◌, ◌≡◌}
+use Rattle.std.proofs.Common.{Bool, List, None, Option, Some, ap, cond, false, refl, sym, true, ℕ, ℤ, ◌&&◌, ◌==◌, ◌∙◌, ◌≡◌}
 use Rattle.std.proofs.lemmas.Bool.{and_parts, and_right, eq-eqb, eqb-true, or_right, true≢false}
 use Rattle.std.specs.Ordering.{int_eq}
 use Rattle.std.specs.Prelude.{not, ◌||◌}

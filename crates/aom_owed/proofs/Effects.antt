@@ -1,5 +1,5 @@
 -- Effects that begin, complete and cancel no request and open and close no session change nothing that is outstanding, and no effect kills a native.
-use Rattle.std.proofs.Common.{List, None, [], ap, length, refl, suc, ◌∙◌, ℕ, ℤ, ◌+◌, ◌∷◌, ◌≡◌}
+use Rattle.std.proofs.Common.{List, None, [], ap, length, refl, suc, ◌∙◌, ℕ, ◌∷◌, ◌≡◌}
 use Rattle.aom_image.specs.Image.{Image}
 use Rattle.aom_image.specs.Views.{arguments_of, instr_at}
 use Rattle.aom_image.specs.declared.method.Argument.{Argument}
@@ -10,11 +10,11 @@ use Rattle.aom_image.specs.declared.method.Thing.TheVariants.{Object as An_objec
 use Rattle.aom_owed.proofs.Cells.{Unchanged, unchanged_along, unchanged_itself, unchanged_moved, unchanged_new, unchanged_stored}
 use Rattle.aom_sound.specs.Calls.{passed_cells, result_cells, result_register, returned}
 use Rattle.aom_sound.specs.Cleanup.{top_place}
-use Rattle.aom_sound.specs.Effects.{Calls, Cancels, Carried, Counts, Destroys, Destroys_last, Effect, Goes_on, Jumps, Leaves, Made, Operates, Popped, Popped_operation, Pushed, Pushed_operation, Repeats, Requested, Returns, Same, Sessioned, Sets_trap, Update, Written, applied, cells_after, spot_place}
+use Rattle.aom_sound.specs.Effects.{Calls, Cancels, Carried, Destroys, Destroys_last, Effect, Goes_on, Leaves, Made, Popped, Pushed, Requested, Returns, Sessioned, Sets_trap, Update, Written, applied, cells_after, spot_place}
 use Rattle.aom_sound.specs.Enlisted.{ended_cells}
 use Rattle.aom_sound.specs.Objects.{no_words}
 use Rattle.aom_sound.specs.Places.{Cell, Entry, Going, Register, moved, named}
-use Rattle.aom_sound.specs.State.{Destroy, Dispatch, Dispatched, Frame, Run, State, Task, Trapped, Unwind}
+use Rattle.aom_sound.specs.State.{Destroy, Dispatched, Frame, Run, State, Task, Trapped, Unwind}
 use Rattle.aom_sound.specs.Words.{here}
 
 -- a cell that is made has that name, and no request nor session changes

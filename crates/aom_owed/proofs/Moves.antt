@@ -1,38 +1,37 @@
 -- Each move tells what the call does that it makes: instructions on requests and sessions, the going of a cell, and all others, which make none.
 use Rattle.std.proofs.Common.{Bool, List, None, Option, Some, [], ap, cond, false, length, refl, subst, suc, sym, true, zero, ℕ, ℤ, ◌&&◌, ◌==◌, ◌∙◌, ◌∷◌, ◌≡◌, pos}
-use Rattle.std.proofs.lemmas.Bool.{and_right, eq-eqb, eqb-true}
+use Rattle.std.proofs.lemmas.Bool.{and_right, eqb-true}
 use Rattle.std.specs.Ordering.{int_eq}
-use Rattle.std.specs.Prelude.{int_lt, not}
+use Rattle.std.specs.Prelude.{not}
 use Rattle.aom_image.specs.Image.{Image}
-use Rattle.aom_image.specs.Views.{gives_of, instr_at, method_role}
+use Rattle.aom_image.specs.Views.{gives_of, instr_at}
 use Rattle.aom_image.specs.declared.method.Role.TheVariants.{Error}
 use Rattle.aom_instructions.specs.declared.instr.Instr.{Instr}
 use Rattle.aom_instructions.specs.declared.instr.Instr.TheVariants.{Abort, Ask, Cancel, Close, Connect, Delete, Enlist, Issue, JumpActive, JumpAdded, JumpEmpty, JumpEqual, JumpLess, JumpNull, LeaveIf, New, NewOrLeave, Next, PopDelete, Push, PushOperation, Return, SetActive}
 use Rattle.aom_owed.proofs.Calls.{IsAlive, Told, abort_told, alive_in, at_it, found, ask_told, asked_same, close_told, connect_told, ended_same, issue_told, sessions_after, taken_off, told_none, unasked}
-use Rattle.aom_owed.proofs.Cells.{Unchanged, meets_gone, owes_gone, served_none, served_so, unchanged_along, unchanged_itself, unchanged_moved}
+use Rattle.aom_owed.proofs.Cells.{Unchanged, meets_gone, owes_gone, served_none, unchanged_along, unchanged_itself, unchanged_moved}
 use Rattle.aom_owed.proofs.Effects.{IsAside, applied_killed, applied_unchanged, returned_unchanged}
-use Rattle.aom_owed.proofs.Requests.{cancelling_owed, idle_owed, none_owed, rests_owed, waits_owed}
+use Rattle.aom_owed.proofs.Requests.{cancelling_owed, none_owed, rests_owed, waits_owed}
 use Rattle.aom_owed.specs.Laws.{FollowsCall, MovesFollowCalls}
-use Rattle.aom_owed.specs.Owed.{Finds, SessionsHold, is_for, meets, owes, serves, serves_object}
+use Rattle.aom_owed.specs.Owed.{SessionsHold, meets, owes, serves, serves_object}
 use Rattle.aom_rules.specs.Typing.{Typing}
 use Rattle.aom_shape.specs.Needs.{AllTrue}
 use Rattle.aom_sound.proofs.Finishing.{all_parts}
-use Rattle.aom_sound.proofs.Guarded.{goes_same, guarded_goes, guarded_met}
+use Rattle.aom_sound.proofs.Guarded.{guarded_goes, guarded_met}
 use Rattle.aom_sound.proofs.Layers.{method_layer}
 use Rattle.aom_sound.proofs.Maps.{held_lives}
 use Rattle.aom_sound.proofs.Moving.{acted, steps_are_moves}
 use Rattle.aom_sound.specs.Calls.{result_needs, returned}
 use Rattle.aom_sound.specs.Claims.{Layer}
-use Rattle.aom_sound.specs.Cleanup.{is_negative}
 use Rattle.aom_sound.specs.Destruction.{gone, is_at_rest, needs_gone}
-use Rattle.aom_sound.specs.Effects.{Cancels, Effect, Leaves, Same, applied, cancels_if, deals, deletes, effect, jumps_if, jumps_unless, makes_unless, round, sets, unless_refused, updates}
-use Rattle.aom_sound.specs.Enlisted.{cancel_method, cancelling, ended_cells, first_request, in_phase, is_active, next_timer, on_request, own_request, part_of, pending, rerequested, status_of, thing_kind, waits}
-use Rattle.aom_sound.specs.Moves.{act, answered, asking, counted, dispatch_ends, failed, handled, main_ends, needs, object_ends, step, step_instr, step_task}
-use Rattle.aom_sound.specs.Natives.{is_dead, is_owed, native_of}
-use Rattle.aom_sound.specs.Places.{Tidy, Cell, Elsewhere, Entry, Going, Object, Request, Root, held, in_session, moved, named, requested, without}
+use Rattle.aom_sound.specs.Effects.{Effect, Leaves, Same, applied, cancels_if, deals, deletes, effect, jumps_if, jumps_unless, makes_unless, round, sets, unless_refused, updates}
+use Rattle.aom_sound.specs.Enlisted.{cancel_method, cancelling, ended_cells, first_request, in_phase, is_active, next_timer, on_request, own_request, part_of, thing_kind, waits}
+use Rattle.aom_sound.specs.Moves.{answered, asking, counted, dispatch_ends, failed, handled, main_ends, needs, object_ends, step, step_instr, step_task}
+use Rattle.aom_sound.specs.Natives.{is_owed, native_of}
+use Rattle.aom_sound.specs.Places.{Tidy, Cell, Elsewhere, Entry, Going, Object, Root, held, in_session, named, requested, without}
 use Rattle.aom_sound.specs.State.{An_object, An_operation, Answered, Asks, AtRoot, Choice, Destroy, Dispatch, Dispatched, Frame, Goes, Home, Inside, Item, Main_left, Object_left, Of_main, Of_object, Of_root, Run, State, Static, Task, Unwind, resumed}
 use Rattle.aom_sound.specs.Steps.{Acts, Arrives, Clears, Comes_out, Ends, Fits, IsStill, Move, Rests, Undoes, Vanishes}
-use Rattle.aom_sound.specs.Wanted.{Closes, Wanted, wanted, wanted_by, wanted_going, wanted_gone, wanted_here, wanted_if, wanted_task}
+use Rattle.aom_sound.specs.Wanted.{Closes, wanted, wanted_by, wanted_going, wanted_gone, wanted_here, wanted_if, wanted_task}
 use Rattle.aom_sound.specs.WellTyped.{Good, IsHoused, WellTyped}
 
 -- ---- an instruction

@@ -1,24 +1,17 @@
 -- How each instruction on a request or a session bears on what is outstanding, by what its move asks of a native.
-use Rattle.std.proofs.Common.{Bool, List, None, Option, Some, ap, cond, false, refl, subst, sym, true, ℕ, ℤ, ◌&&◌, ◌==◌, ◌∙◌, ◌∷◌, ◌≡◌, pos}
-use Rattle.std.proofs.lemmas.Bool.{and_right, eqb-true, true≢false}
+use Rattle.std.proofs.Common.{Bool, None, Option, Some, ap, cond, false, refl, sym, true, ℕ, ℤ, ◌&&◌, ◌≡◌, pos}
+use Rattle.std.proofs.lemmas.Bool.{and_right, true≢false}
 use Rattle.std.specs.Ordering.{int_eq}
-use Rattle.std.specs.Prelude.{int_lt, is_none, is_some, not, ◌||◌}
-use Rattle.aom_image.specs.Image.{Image}
+use Rattle.std.specs.Prelude.{int_lt, is_none, not}
 use Rattle.aom_image.specs.declared.class.ClassKind.{ClassKind}
 use Rattle.aom_image.specs.declared.class.ClassKind.TheVariants.{Active as An_active}
 use Rattle.aom_image.specs.declared.class.Provider.TheVariants.{Native, Own, Timer as A_timer}
 use Rattle.aom_sound.proofs.Turned.{recorded_so}
-use Rattle.aom_owed.proofs.Cells.{Unchanged, meets_asked, meets_opened, owes_asked, owes_opened, served_none, served_so, unchanged_asked, unchanged_itself, unchanged_opened}
-use Rattle.aom_owed.specs.Owed.{Finds, FindsWell, SessionsHold, is_for, meets, meets_after, owes, owes_after, serves, serves_object, takes_on}
+use Rattle.aom_owed.specs.Owed.{takes_on}
 use Rattle.aom_sound.specs.Destruction.{is_at_rest}
-use Rattle.aom_sound.specs.Enlisted.{Asking, aborted, cancelled, cancelled_code, cancelling, completed_with, taken_up, first_request, home_kind, in_phase, is_active, is_idle, is_issued, issued_by, issued_of, on_request, own_request, pending, recorded, rerequested, status_of, thing_kind, waits}
-use Rattle.aom_sound.specs.Natives.{has_died, is_dead, is_owed, is_served_by, native_of, not_found, opens, own_session, resessioned, started, terminated}
-use Rattle.aom_sound.specs.Places.{Active, Cell, Idle, Issued, Object, Phase, Request, in_session, named, requested, set_request, set_session}
-use Rattle.aom_sound.specs.State.{AtRoot, Frame, Home, Inside, State, Static, Task}
-use Rattle.aom_sound.specs.Wanted.{Asks, Cancels, Closes, Opens, Starts, Wanted, is_served, wanted_at, wanted_by, wanted_here, wanted_if}
-use Rattle.aom_sound.specs.Words.{read}
-use Rattle.aom_instructions.specs.declared.instr.Instr.{Instr}
-use Rattle.aom_instructions.specs.declared.instr.Instr.TheVariants.{Abort, Ask, Close, Connect, Issue}
+use Rattle.aom_sound.specs.Enlisted.{Asking, aborted, cancelled, cancelled_code, cancelling, completed_with, taken_up, in_phase, is_active, is_idle, is_issued, issued_of, on_request, pending, recorded, status_of, waits}
+use Rattle.aom_sound.specs.Natives.{is_owed, native_of, started}
+use Rattle.aom_sound.specs.Places.{Active, Issued, Phase, Request}
 
 -- ---- requests that are owed
 

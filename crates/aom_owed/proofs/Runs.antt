@@ -1,5 +1,5 @@
 -- All along a run sessions hold: as it begins, after each move, and after each turn.
-use Rattle.std.proofs.Common.{List, Option, ◌∙◌, ◌≡◌, subst}
+use Rattle.std.proofs.Common.{List, subst}
 use Rattle.aom_image.specs.Image.{Image}
 use Rattle.aom_owed.proofs.Cells.{boot_owes_nothing}
 use Rattle.aom_owed.proofs.Moves.{moves_follow_calls}

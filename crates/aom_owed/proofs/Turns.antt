@@ -1,5 +1,5 @@
 -- Each turn tells what its kill or its completion does: what a timer completes no native serves, and what is dispatched is completed before.
-use Rattle.std.proofs.Common.{Bool, List, None, Option, Some, [], ap, cond, false, refl, subst, sym, true, ℕ, ℤ, ◌&&◌, ◌++◌, ◌==◌, ◌∙◌, ◌∷◌, ◌≡◌, pos}
+use Rattle.std.proofs.Common.{Bool, List, None, Option, Some, [], ap, cond, false, refl, subst, sym, true, ℕ, ℤ, ◌&&◌, ◌==◌, ◌∙◌, ◌∷◌, ◌≡◌, pos}
 use Rattle.std.proofs.lemmas.Bool.{and_from, and_parts, and_right, eqb-true, or_from, true≢false}
 use Rattle.std.proofs.lemmas.List.Folds.{list_any-append}
 use Rattle.std.specs.Ordering.{int_eq}
@@ -10,22 +10,21 @@ use Rattle.aom_image.specs.declared.class.ClassKind.TheVariants.{Active as An_ac
 use Rattle.aom_image.specs.declared.class.Provider.TheVariants.{Native, Own, Timer as A_timer}
 use Rattle.aom_image.specs.declared.method.Thing.{Thing}
 use Rattle.aom_owed.proofs.Calls.{asked_same, still, taken_off}
-use Rattle.aom_owed.proofs.Cells.{Unchanged, meets_asked, native_served, owes_asked, served_so, unchanged_asked, unchanged_itself}
+use Rattle.aom_owed.proofs.Cells.{Unchanged, meets_asked, native_served, owes_asked, served_so, unchanged_asked}
 use Rattle.aom_owed.proofs.Found.{IsAbout, IsCell, IsDue, is_due, is_found_ready, stands_at, turn_about}
 use Rattle.aom_owed.proofs.Requests.{completed_owed, completed_with_owed, taken_owed}
-use Rattle.aom_owed.specs.Laws.{FollowsTurn, TurnsKillOrComplete}
+use Rattle.aom_owed.specs.Laws.{TurnsKillOrComplete}
 use Rattle.aom_owed.specs.Owed.{CompletesOwed, SessionsHold, has_name, killed_turned, meets, meets_turned, owes, owes_turned, serves, serves_object}
 use Rattle.aom_rules.specs.Typing.{Typing}
 use Rattle.aom_sound.proofs.Guarded.{goes_same, guarded_goes}
-use Rattle.aom_sound.proofs.Storing.{bereaved_alike}
-use Rattle.aom_sound.proofs.Turned.{dispatched_so, picked, recorded_so}
+use Rattle.aom_sound.proofs.Turned.{dispatched_so, recorded_so}
 use Rattle.aom_sound.specs.Enlisted.{completed_with, is_active, on_request, pending, recorded, taken_up, thing_kind, timed_out}
 use Rattle.aom_sound.specs.Natives.{all_bereaved, is_dead, is_outstanding_at, is_owed, is_served_by, native_of, terminated, terminated_request}
-use Rattle.aom_sound.specs.Places.{Cell, Elsewhere, Object, Request, Root, Tidy, Timer, in_session, named, requested}
+use Rattle.aom_sound.specs.Places.{Cell, Request, Timer, in_session, named, requested}
 use Rattle.aom_sound.specs.Requests.{Known, Suits, states_claim}
 use Rattle.aom_sound.specs.State.{CompletedTwice, Goes, Inside, Seat, State}
 use Rattle.aom_sound.specs.WellTyped.{WellTyped}
-use Rattle.aom_sound.specs.World.{AnswersWell, Candidate, Completes, Completion, Cuts, Hears, Kills, Outside, Passes, Picks, Polls, Strays, Timed, Turning, Waits, answered_by, cell_at, is_ready, past_native, turn, turned, turning, with_request}
+use Rattle.aom_sound.specs.World.{AnswersWell, Candidate, Completes, Cuts, Hears, Kills, Passes, Picks, Polls, Strays, Timed, Turning, Waits, answered_by, cell_at, is_ready, turned, turning, with_request}
 
 -- ---- a native is killed
 

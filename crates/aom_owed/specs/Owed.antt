@@ -1,11 +1,11 @@
 -- What is outstanding at natives and what sessions are open, and how calls and turns change both.
-use Rattle.std.specs.Prelude.{ℕ, ℤ, pos, int_lt, Bool, true, false, not, cond, ◌&&◌, ◌||◌, ◌==◌, ◌≡◌, List, [], ◌∷◌, ◌++◌, Option, Some, None}
+use Rattle.std.specs.Prelude.{ℕ, ℤ, pos, int_lt, Bool, true, false, not, ◌&&◌, ◌||◌, ◌==◌, ◌≡◌, List, [], ◌∷◌, ◌++◌, Option, Some, None}
 use Rattle.aom_image.specs.Image.{Image}
 use Rattle.aom_sound.specs.Natives.{is_dead, is_owed, is_served_by}
 use Rattle.aom_sound.specs.Places.{Cell, Object, in_session, named, requested}
 use Rattle.aom_sound.specs.State.{State}
 use Rattle.aom_sound.specs.Wanted.{Wanted, Opens, Starts, Asks, Cancels, Closes}
-use Rattle.aom_sound.specs.World.{Completion, Kills, Polls, Turning, cell_at}
+use Rattle.aom_sound.specs.World.{Kills, Polls, Turning, cell_at}
 
 -- ---- cells and their natives
 
