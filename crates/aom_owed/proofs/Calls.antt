@@ -1,6 +1,6 @@
 -- What a move tells, by the call that it makes: how instructions on requests and sessions bear on what is outstanding.
 use Rattle.std.proofs.Common.{Bool, List, None, Option, Some, ap, cond, false, refl, sym, true, ℕ, ℤ, ◌&&◌, ◌==◌, ◌∙◌, ◌≡◌}
-use Rattle.std.proofs.lemmas.Bool.{and_parts, and_right, eq-eqb, eqb-true, or_right, true≢false}
+use Rattle.std.proofs.lemmas.Bool.{not-true, and_parts, and_right, eq-eqb, eqb-true, or_right, true≢false}
 use Rattle.std.specs.Ordering.{int_eq}
 use Rattle.std.specs.Prelude.{not, ◌||◌}
 use Rattle.aom_image.specs.Image.{Image}
@@ -119,11 +119,22 @@ module _ (p : Image) (answer : ℤ) (s : State) where
   pub told_none : (cs : List Cell) → Unchanged p s.cells cs → Told p answer s None cs
   told_none cs same = record { finds = tt; owes = same.owes; meets = same.meets }
 
+  -- what a request is made with, at a native that is killed or not, in a session or not
+  abbrev pub asking : (clock order : ℕ) (dead session : Bool) → Asking
+  asking clock order dead session = record { clock = clock; order = order; started = started dead session answer }
+
   -- a request that is owed as before
   pub asked_same : (h : Home) (r : Option Request) → is_owed r ≡ is_owed (own_request s.cells h) → Unchanged p s.cells (rerequested s.cells h r)
   asked_same Static r e = unchanged_itself p s.cells
   asked_same AtRoot r e = unchanged_itself p s.cells
   asked_same (Inside o from) r e = unchanged_asked p s.cells o r (λ k. ap (λ b. serves p s.cells k o.name && b) e)
+
+  -- nothing is told of a request that is owed as before, nor of a session that is as it was
+  asked_alike : (o : Object) (r : Option Request) → is_owed r ≡ is_owed (requested s.cells o.name) → Told p answer s None (set_request o.name r s.cells)
+  asked_alike o r e = told_none _ (unchanged_asked p s.cells o r (λ k. ap (λ b. serves p s.cells k o.name && b) e))
+
+  opened_alike : (o : Object) (b : Bool) → b ≡ in_session s.cells o.name → Told p answer s None (set_session o.name b s.cells)
+  opened_alike o b e = told_none _ (unchanged_opened p s.cells o b (λ k. ap (λ b. serves p s.cells k o.name && b) e))
 
   -- an object that no native serves owes nothing, whatever its request and its session
   module _ (o : Object) (lives : named s.cells o.name ≡ Some o) (native : native_of (thing_kind p o.thing) ≡ None) where
@@ -167,8 +178,8 @@ module _ (p : Image) (answer : ℤ) (s : State) where
 
     connects : (d x : Bool) → is_dead s.killed n ≡ d → in_session s.cells o.name ≡ x → Told p answer s (wanted_if (not (d || x)) (Opens n o.name)) (set_session o.name (opens d x answer) s.cells)
     connects true true dead met = absurd (true≢false (sym dead ∙ alive_in met))
-    connects true false dead met = told_none _ (unchanged_opened p s.cells o false (λ k. ap (λ b. serves p s.cells k o.name && b) (sym met)))
-    connects false true dead met = told_none _ (unchanged_opened p s.cells o true (λ k. ap (λ b. serves p s.cells k o.name && b) (sym met)))
+    connects true false dead met = opened_alike o false (sym met)
+    connects false true dead met = opened_alike o true (sym met)
     connects false false dead met = record {
       finds = found false false dead met (unowed (is_owed (requested s.cells o.name)) refl);
       owes = owes_opened p s.cells o (takes_on answer);
@@ -180,18 +191,14 @@ module _ (p : Image) (answer : ℤ) (s : State) where
         unowed false owed = owed
 
     module _ (clock order : ℕ) (a : ℤ) (f w : ℤ) (idle : in_phase is_idle (requested s.cells o.name) ≡ true) where
-      abbrev asking : Bool → Bool → Asking
-      asking d x = record { clock = clock; order = order; started = started d x answer }
-
       abbrev then : Bool → Bool → Option Request
-      then d x = on_request (issued_of (thing_kind p o.thing) (asking d x) a) (requested s.cells o.name)
+      then d x = on_request (issued_of (thing_kind p o.thing) (asking clock order d x) a) (requested s.cells o.name)
 
       owed_then : (d x : Bool) → is_owed (then d x) ≡ ((not d && x) && takes_on answer)
-      owed_then d x = issued_owed (thing_kind p o.thing) n (asking d x) a (requested s.cells o.name) native idle ∙ started_owed d x answer
+      owed_then d x = issued_owed (thing_kind p o.thing) n (asking clock order d x) a (requested s.cells o.name) native idle ∙ started_owed d x answer
 
       not_begun : (d x : Bool) → (not d && x) ≡ false → Told p answer s None (set_request o.name (then d x) s.cells)
-      not_begun d x e =
-          told_none _ (unchanged_asked p s.cells o (then d x) (λ k. ap (λ b. serves p s.cells k o.name && b) (owed_then d x ∙ ap (λ b. b && takes_on answer) e ∙ sym (idle_owed (requested s.cells o.name) idle))))
+      not_begun d x e = asked_alike o (then d x) (owed_then d x ∙ ap (λ b. b && takes_on answer) e ∙ sym (idle_owed (requested s.cells o.name) idle))
 
       issues : (d x : Bool) → is_dead s.killed n ≡ d → in_session s.cells o.name ≡ x → Told p answer s (wanted_if (not d && x) (Starts n o.name f w)) (set_request o.name (then d x) s.cells)
       issues true x dead met = not_begun true x refl
@@ -214,7 +221,7 @@ module _ (p : Image) (answer : ℤ) (s : State) where
     }
 
     aborts : (b : Bool) → is_owed (requested s.cells o.name) ≡ b → Told p answer s (wanted_if b (Cancels n o.name)) (set_request o.name (on_request aborted (requested s.cells o.name)) s.cells)
-    aborts false owed = told_none _ (unchanged_asked p s.cells o _ (λ k. ap (λ b. serves p s.cells k o.name && b) (aborted_owed (requested s.cells o.name) ∙ sym owed)))
+    aborts false owed = asked_alike o _ (aborted_owed (requested s.cells o.name) ∙ sym owed)
     aborts true owed = record {
       finds = found true true (alive_in (open_for owed)) (open_for owed) owed;
       owes = λ k m.
@@ -224,7 +231,7 @@ module _ (p : Image) (answer : ℤ) (s : State) where
     }
 
     closes : is_owed (requested s.cells o.name) ≡ false → (b : Bool) → in_session s.cells o.name ≡ b → Told p answer s (wanted_if b (Closes n o.name)) (set_session o.name false s.cells)
-    closes unowed false met = told_none _ (unchanged_opened p s.cells o false (λ k. ap (λ b. serves p s.cells k o.name && b) (sym met)))
+    closes unowed false met = opened_alike o false (sym met)
     closes unowed true met = record {
       finds = found true false (alive_in met) met unowed;
       owes = owes_opened p s.cells o false;
@@ -238,16 +245,9 @@ module _ (p : Image) (answer : ℤ) (s : State) (fr : Frame) (ts : List Task) wh
   pub ended_same : not (is_cancel (method_role p fr.method) && int_eq (status_of (own_request s.cells fr.home)) pending) ≡ true → Unchanged p s.cells (ended_cells p fr s.cells)
   ended_same e = go (is_cancel (method_role p fr.method)) e
     where
-      own : Option Request
-      own = own_request s.cells fr.home
-
-      done : (b : Bool) → not b ≡ true → b ≡ false
-      done true e = sym e
-      done false e = refl
-
       go : (b : Bool) → not (b && int_eq (status_of (own_request s.cells fr.home)) pending) ≡ true → Unchanged p s.cells (cond b (rerequested s.cells fr.home (on_request cancelled (own_request s.cells fr.home))) s.cells)
       go false e = unchanged_itself p s.cells
-      go true e = asked_same p answer s fr.home _ (cancelled_owed (own_request s.cells fr.home) ∙ sym (completed_owed (own_request s.cells fr.home) (done _ e)))
+      go true e = asked_same p answer s fr.home _ (cancelled_owed (own_request s.cells fr.home) ∙ sym (completed_owed (own_request s.cells fr.home) (not-true (int_eq (status_of (own_request s.cells fr.home)) pending) e)))
 
   -- an instruction that makes no call at any cell makes none
   pub unasked : (i : Instr) → ((n name : ℕ) → wanted_here s fr ts n name i ≡ None) → (h : Home) → wanted_by s p fr ts h (Some i) ≡ None
@@ -260,7 +260,9 @@ module _ (p : Image) (answer : ℤ) (s : State) (fr : Frame) (ts : List Task) wh
       go (Some n) = none n o.name
 
   module _ (holds : SessionsHold p s) where
-    pub connect_told : (a : ℕ) (h : Home) → IsAlive s.cells h → Told p answer s (wanted_by s p fr ts h (Some (Connect a))) (resessioned s.cells h (opens (has_died s.killed (native_of (home_kind p h))) (own_session s.cells h) answer))
+    pub connect_told :
+        (a : ℕ) (h : Home) → IsAlive s.cells h →
+        Told p answer s (wanted_by s p fr ts h (Some (Connect a))) (resessioned s.cells h (opens (has_died s.killed (native_of (home_kind p h))) (own_session s.cells h) answer))
     connect_told a Static alive = told_none p answer s _ (unchanged_itself p s.cells)
     connect_told a AtRoot alive = told_none p answer s _ (unchanged_itself p s.cells)
     connect_told a (Inside o from) alive = go (native_of (thing_kind p o.thing)) refl
@@ -271,13 +273,15 @@ module _ (p : Image) (answer : ℤ) (s : State) (fr : Frame) (ts : List Task) wh
 
     pub issue_told :
         (clock order a b : ℕ) (h : Home) → IsAlive s.cells h → in_phase is_idle (own_request s.cells h) ≡ true →
-        Told p answer s (wanted_by s p fr ts h (Some (Issue a b))) (rerequested s.cells h (on_request (issued_of (home_kind p h) (record { clock = clock; order = order; started = started (has_died s.killed (native_of (home_kind p h))) (own_session s.cells h) answer }) (read fr ts s a)) (own_request s.cells h)))
+        Told p answer s (wanted_by s p fr ts h (Some (Issue a b)))
+        (rerequested s.cells h (on_request (issued_of (home_kind p h) (asking p answer s clock order (has_died s.killed (native_of (home_kind p h))) (own_session s.cells h)) (read fr ts s a)) (own_request s.cells h)))
     issue_told clock order a b Static alive idle = told_none p answer s _ (unchanged_itself p s.cells)
     issue_told clock order a b AtRoot alive idle = told_none p answer s _ (unchanged_itself p s.cells)
     issue_told clock order a b (Inside o from) alive idle = go (native_of (thing_kind p o.thing)) refl
       where
         go : (x : Option ℕ) → native_of (thing_kind p o.thing) ≡ x →
-            Told p answer s (wanted_at s fr ts o x (Some (Issue a b))) (set_request o.name (on_request (issued_of (thing_kind p o.thing) (record { clock = clock; order = order; started = started (has_died s.killed x) (in_session s.cells o.name) answer }) (read fr ts s a)) (requested s.cells o.name)) s.cells)
+            Told p answer s (wanted_at s fr ts o x (Some (Issue a b)))
+            (set_request o.name (on_request (issued_of (thing_kind p o.thing) (asking p answer s clock order (has_died s.killed x) (in_session s.cells o.name)) (read fr ts s a)) (requested s.cells o.name)) s.cells)
         go None e = asked_elsewhere p answer s o alive e _
         go (Some n) e = issues p answer s holds o alive n e clock order (read fr ts s a) _ _ idle (is_dead s.killed n) (in_session s.cells o.name) refl refl
 

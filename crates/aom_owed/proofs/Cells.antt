@@ -71,7 +71,8 @@ session_there : (cs : List Cell) (n m : ℕ) (b : Bool) → (n == m) ≡ false �
 session_there [] n m b other = refl
 session_there (c ∷ cs) n m b other = go (c.object.name == m) (c.object.name == n) refl refl (session_there cs n m b other)
   where
-    go : (x y : Bool) → (c.object.name == m) ≡ x → (c.object.name == n) ≡ y → in_session (set_session n b cs) m ≡ in_session cs m → cond x (cond y b c.session) (in_session (set_session n b cs) m) ≡ cond x c.session (in_session cs m)
+    go : (x y : Bool) → (c.object.name == m) ≡ x → (c.object.name == n) ≡ y → in_session (set_session n b cs) m ≡ in_session cs m →
+        cond x (cond y b c.session) (in_session (set_session n b cs) m) ≡ cond x c.session (in_session cs m)
     go false y em en rest = rest
     go true false em en rest = refl
     go true true em en rest = absurd (true≢false (sym (eq-eqb n m (sym (eqb-true c.object.name n en) ∙ eqb-true c.object.name m em)) ∙ other))
@@ -87,7 +88,8 @@ session_without : (cs : List Cell) (g : Place) (o : Object) (n : ℕ) → Tidy c
 session_without [] g o n t e d = refl
 session_without (c ∷ cs) g o n t e d = go (same_place c.owner g) refl (session_without cs g o n t.2) e
   where
-    go : (x : Bool) → same_place c.owner g ≡ x → (held cs g ≡ Some o → (o.name == n) ≡ false → in_session (without g cs) n ≡ in_session cs n) → cond x (Some c.object) (held cs g) ≡ Some o → in_session (cond x (without g cs) (c ∷ without g cs)) n ≡ cond (c.object.name == n) c.session (in_session cs n)
+    go : (x : Bool) → same_place c.owner g ≡ x → (held cs g ≡ Some o → (o.name == n) ≡ false → in_session (without g cs) n ≡ in_session cs n) → cond x (Some c.object) (held cs g) ≡ Some o →
+        in_session (cond x (without g cs) (c ∷ without g cs)) n ≡ cond (c.object.name == n) c.session (in_session cs n)
     go true f ih e =
         let same : c.object ≡ o = cc in
         session_unheld cs g n (ap (λ q. held cs q) (sym (same_place-true c.owner g f)) ∙ t.0)

@@ -45,7 +45,9 @@ module _ (c : Cell) (cs : List Cell) (x : Timed) (tidy : Tidy (c ∷ cs)) (rest 
   due_here : (r : Request) → c.request ≡ Some r → (t : Timer) → r.timer ≡ Some t → record { object = c.object; timer = t } ≡ x → IsDue (c ∷ cs) x
   due_here r asked t timed same = subst (λ y. IsDue (c ∷ cs) y) same (r, subst (λ q. IsCell (c ∷ cs) c.object q) asked (is_first c cs), timed)
 
-  sooner_due : (r : Request) → c.request ≡ Some r → (t : Timer) → r.timer ≡ Some t → (others : Option Timed) → first_due cs ≡ others → Some (sooner (record { object = c.object; timer = t }) others) ≡ Some x → IsDue (c ∷ cs) x
+  sooner_due :
+      (r : Request) → c.request ≡ Some r → (t : Timer) → r.timer ≡ Some t → (others : Option Timed) → first_due cs ≡ others →
+      Some (sooner (record { object = c.object; timer = t }) others) ≡ Some x → IsDue (c ∷ cs) x
   sooner_due r asked t timed None same e = due_here r asked t timed cc
   sooner_due r asked t timed (Some b) same e = go (is_sooner b.timer t) e
     where
@@ -150,12 +152,16 @@ module _ (outside : Outside) (answer : Option Completion) (s : State) where
       go true = (x, e, refl)
       go false = h
 
+  -- where the limit is not reached
+  abbrev within : Turning
+  within = by_timer s (first_due s.cells) (by_event outside s (next_event outside s) (polls (next_native outside s) answer (picks (has_signal s.cells) (first_ready s.cells) (next_time outside s))))
+
+  about_within : IsAbout s within
+  about_within = about_timer (first_due s.cells) _ refl (about_event (next_event outside s) _ (about_native (next_native outside s) _ (about_ready (has_signal s.cells) (first_ready s.cells) (next_time outside s) refl)))
+
   pub turn_about : IsAbout s (turning outside answer s)
   turn_about = go (nat_le outside.limit s.rest.dispatches)
     where
-      on : IsAbout s (by_timer s (first_due s.cells) (by_event outside s (next_event outside s) (polls (next_native outside s) answer (picks (has_signal s.cells) (first_ready s.cells) (next_time outside s)))))
-      on = about_timer (first_due s.cells) _ refl (about_event (next_event outside s) _ (about_native (next_native outside s) _ (about_ready (has_signal s.cells) (first_ready s.cells) (next_time outside s) refl)))
-
-      go : (b : Bool) → IsAbout s (cond b Cuts (by_timer s (first_due s.cells) (by_event outside s (next_event outside s) (polls (next_native outside s) answer (picks (has_signal s.cells) (first_ready s.cells) (next_time outside s))))))
+      go : (b : Bool) → IsAbout s (cond b Cuts within)
       go true = tt
-      go false = on
+      go false = about_within

@@ -1,6 +1,6 @@
 -- Each move tells what the call does that it makes: instructions on requests and sessions, the going of a cell, and all others, which make none.
 use Rattle.std.proofs.Common.{Bool, List, None, Option, Some, [], ap, cond, false, length, refl, subst, suc, sym, true, zero, ℕ, ℤ, ◌&&◌, ◌==◌, ◌∙◌, ◌∷◌, ◌≡◌, pos}
-use Rattle.std.proofs.lemmas.Bool.{and_right, eqb-true}
+use Rattle.std.proofs.lemmas.Bool.{not-true, and_right, eqb-true}
 use Rattle.std.specs.Ordering.{int_eq}
 use Rattle.std.specs.Prelude.{not}
 use Rattle.aom_image.specs.Image.{Image}
@@ -97,11 +97,7 @@ module _ (p : Image) (c : Choice) (fr : Frame) (ts : List Task) (s : State) (hol
   tells (Issue a b) met = issue_told p c.answer s fr ts holds s.rest.clock (next_timer s.cells) a b fr.home alive met.1.1.1.1.0
   tells (Ask a b x) met = ask_told p c.answer s fr ts holds a b x fr.home alive
   tells Abort met = abort_told p c.answer s fr ts holds fr.home alive
-  tells Close met = close_told p c.answer s fr ts holds fr.home alive (unowed (is_owed (own_request s.cells fr.home)) met.1.0)
-    where
-      unowed : (b : Bool) → not b ≡ true → b ≡ false
-      unowed true e = sym e
-      unowed false e = refl
+  tells Close met = close_told p c.answer s fr ts holds fr.home alive (not-true (is_owed (own_request s.cells fr.home)) met.1.0)
   tells (Enlist priority) met = silent (Enlist priority) (λ n name. refl) (asked_same p c.answer s fr.home (Some (first_request s.cells priority)) (sym (none_owed (own_request s.cells fr.home) met.1.0)))
   tells SetActive met = silent SetActive (λ n name. refl) (asked_same p c.answer s fr.home (on_request waits (own_request s.cells fr.home)) (waits_owed (own_request s.cells fr.home) met.1.1.1.0))
   tells Cancel met = silent Cancel (λ n name. refl) (cancels (in_phase is_active (own_request s.cells fr.home)) refl (cancel_method p fr.home))

@@ -79,7 +79,9 @@ started_owed false true answer = go (int_lt answer (pos 0))
     go true = recorded_so answer
     go false = refl
 
-pub issued_owed : (k : Option ClassKind) (n : ℕ) (asking : Asking) (a : ℤ) (r : Option Request) → native_of k ≡ Some n → in_phase is_idle r ≡ true → is_owed (on_request (issued_of k asking a) r) ≡ int_eq asking.started pending
+pub issued_owed :
+    (k : Option ClassKind) (n : ℕ) (asking : Asking) (a : ℤ) (r : Option Request) → native_of k ≡ Some n → in_phase is_idle r ≡ true →
+    is_owed (on_request (issued_of k asking a) r) ≡ int_eq asking.started pending
 issued_owed k n asking a None e idle = absurd (true≢false (sym idle))
 issued_owed (Some (An_active (Native x) budget)) n asking a (Some r) e idle = refl
 issued_owed (Some (An_active Own budget)) n asking a (Some r) e idle = cc

@@ -1,6 +1,6 @@
 -- Each turn tells what its kill or its completion does: what a timer completes no native serves, and what is dispatched is completed before.
 use Rattle.std.proofs.Common.{Bool, List, None, Option, Some, [], ap, cond, false, refl, subst, sym, true, ℕ, ℤ, ◌&&◌, ◌==◌, ◌∙◌, ◌∷◌, ◌≡◌, pos}
-use Rattle.std.proofs.lemmas.Bool.{and_from, and_parts, and_right, eqb-true, or_from, true≢false}
+use Rattle.std.proofs.lemmas.Bool.{not-true, and_from, and_parts, and_right, eqb-true, or_from, true≢false}
 use Rattle.std.proofs.lemmas.List.Folds.{list_any-append}
 use Rattle.std.specs.Ordering.{int_eq}
 use Rattle.std.specs.Prelude.{is_none, not, ◌||◌}
@@ -109,11 +109,10 @@ module _ (p : Image) (t : Typing) (s : State) (w : WellTyped p t s) where
   -- ---- an object is dispatched
 
   picked_same : (y : Candidate) → IsCell s.cells y.seat.object (Some y.request) → is_ready y.request ≡ true → Unchanged p s.cells (with_request taken_up y.seat.object s.cells)
-  picked_same y cell ready = asked_same p (pos 0) s (Inside y.seat.object y.seat.place) (on_request taken_up (requested s.cells y.seat.object.name)) (taken_owed (requested s.cells y.seat.object.name) ∙ sym (ap is_owed cell.asked ∙ completed_owed (Some y.request) (completed (int_eq y.request.status pending) (and_parts (is_active y.request.phase) (not (int_eq y.request.status pending)) ready).1)))
-    where
-      completed : (b : Bool) → not b ≡ true → b ≡ false
-      completed true e = sym e
-      completed false e = refl
+  picked_same y cell ready =
+      let own = requested s.cells y.seat.object.name in
+      let completed = not-true (int_eq y.request.status pending) (and_parts (is_active y.request.phase) (not (int_eq y.request.status pending)) ready).1 in
+      asked_same p (pos 0) s (Inside y.seat.object y.seat.place) (on_request taken_up own) (taken_owed own ∙ sym (ap is_owed cell.asked ∙ completed_owed (Some y.request) completed))
 
   -- ---- a request is completed
 
@@ -150,7 +149,9 @@ record Tale (p : Image) (s u : State) (k : Turning) : Type 0 where
   killed : u.killed ≡ killed_turned k s.killed
 
 module _ (p : Image) (t : Typing) (s u : State) (w : WellTyped p t s) where
-  asked_then : (i : ℕ) (c : Cell) → cell_at s.cells i ≡ Some c → (n : ℕ) (code : ℤ) → is_outstanding_at p n c ≡ true → answered_by p n (Some c) code s ≡ Goes u → Tale p s u (Polls n (Some (record { cell = i; code = code })))
+  asked_then :
+      (i : ℕ) (c : Cell) → cell_at s.cells i ≡ Some c → (n : ℕ) (code : ℤ) → is_outstanding_at p n c ≡ true → answered_by p n (Some c) code s ≡ Goes u →
+      Tale p s u (Polls n (Some (record { cell = i; code = code })))
   asked_then i c at n code owed e =
       subst (λ (v : State). Tale p s v (Polls n (Some (record { cell = i; code = code })))) (guarded_goes ((is_outstanding_at p n c, CompletedTwice) ∷ []) _ u e)
       (record {
@@ -190,11 +191,7 @@ module _ (p : Image) (s : State) (holds : SessionsHold p s) where
   lives_turned : (k : Turning) (n m : ℕ) → meets_turned k n (meets p s.cells n m) ≡ true → is_dead (killed_turned k s.killed) n ≡ false
   lives_turned (Kills x) n m e =
       let both = and_parts (not (x == n)) (meets p s.cells n m) e in
-      list_any-append (λ j. j == n) s.killed (x ∷ []) ∙ or_from (is_dead s.killed n) ((x == n) || false) (holds.lives n m both.1) (other (x == n) both.0)
-    where
-      other : (b : Bool) → not b ≡ true → (b || false) ≡ false
-      other true e = sym e
-      other false e = refl
+      list_any-append (λ j. j == n) s.killed (x ∷ []) ∙ or_from (is_dead s.killed n) ((x == n) || false) (holds.lives n m both.1) (ap (λ b. b || false) (not-true (x == n) both.0))
   lives_turned _ n m e = holds.lives n m e
 
   sessions_turned : (u : State) (k : Turning) → Tale p s u k → SessionsHold p u
