@@ -1,0 +1,167 @@
+-- The cell that a turn is about: whose timer is due, that is ready, or that stands at a place.
+use Rattle.std.proofs.Common.{Bool, List, None, Option, Some, [], ap, cond, false, refl, subst, suc, sym, true, zero, ℕ, ℤ, ◌==◌, ◌∙◌, ◌∷◌, ◌≡◌}
+use Rattle.std.proofs.lemmas.Bool.{eq-eqb, ne_eqb}
+use Rattle.std.specs.Prelude.{nat_le}
+use Rattle.aom_sound.specs.Places.{Cell, Object, Phase, Request, Tidy, Timer, named, requested}
+use Rattle.aom_sound.specs.State.{State}
+use Rattle.aom_sound.specs.World.{Candidate, Completes, Completion, Cuts, Hears, Kills, Outside, Picks, Polls, Timed, Turning, among_ready, among_timers, before_others, by_event, by_timer, cell_at, delivers, first_due, first_ready, goes_before, has_signal, is_ready, is_sooner, lives, next_event, next_native, next_time, passes, picks, polls, sooner, turning}
+use Rattle.aom_transcript.specs.declared.event.Event.{Event}
+use Rattle.aom_transcript.specs.declared.event.Event.TheVariants.{Kill, Tell}
+use Rattle.aom_transcript.specs.declared.event.TimedEvent.{TimedEvent}
+
+-- that object is there, with that request
+pub record IsCell (cs : List Cell) (o : Object) (r : Option Request) : Type 0 where
+  pub lives : named cs o.name ≡ Some o
+  pub asked : requested cs o.name ≡ r
+
+is_first : (c : Cell) (cs : List Cell) → IsCell (c ∷ cs) c.object c.request
+is_first c cs = record {
+  lives = ap (λ b. cond b (Some c.object) (named cs c.object.name)) (eq-eqb c.object.name c.object.name refl);
+  asked = ap (λ b. cond b c.request (requested cs c.object.name)) (eq-eqb c.object.name c.object.name refl);
+}
+
+is_later : (c : Cell) (cs : List Cell) (o : Object) (r : Option Request) → Tidy (c ∷ cs) → IsCell cs o r → IsCell (c ∷ cs) o r
+is_later c cs o r tidy f = record { lives = ap (λ b. cond b (Some c.object) (named cs o.name)) other ∙ f.lives; asked = ap (λ b. cond b c.request (requested cs o.name)) other ∙ f.asked }
+  where
+    other : (c.object.name == o.name) ≡ false
+    other = ne_eqb c.object.name o.name (λ same. let clash : Some o ≡ None = sym f.lives ∙ sym (ap (λ n. named cs n) same) ∙ tidy.1 in cc)
+
+-- ---- by its place
+
+pub stands_at : (cs : List Cell) → Tidy cs → (i : ℕ) (c : Cell) → cell_at cs i ≡ Some c → IsCell cs c.object c.request
+stands_at [] tidy i c e = cc
+stands_at (d ∷ cs) tidy zero c e = let same : d ≡ c = cc in subst (λ (x : Cell). IsCell (d ∷ cs) x.object x.request) same (is_first d cs)
+stands_at (d ∷ cs) tidy (suc i) c e = is_later d cs c.object c.request tidy (stands_at cs tidy.2 i c e)
+
+-- ---- by its timer
+
+abbrev pub IsDue : List Cell → Timed → Type 0
+IsDue cs x = (r : Request) × IsCell cs x.object (Some r) × (r.timer ≡ Some x.timer)
+
+module _ (c : Cell) (cs : List Cell) (x : Timed) (tidy : Tidy (c ∷ cs)) (rest : first_due cs ≡ Some x → IsDue cs x) where
+  due_later : first_due cs ≡ Some x → IsDue (c ∷ cs) x
+  due_later e = let d = rest e in (d.0, is_later c cs x.object (Some d.0) tidy d.1, d.2)
+
+  due_here : (r : Request) → c.request ≡ Some r → (t : Timer) → r.timer ≡ Some t → record { object = c.object; timer = t } ≡ x → IsDue (c ∷ cs) x
+  due_here r asked t timed same = subst (λ y. IsDue (c ∷ cs) y) same (r, subst (λ q. IsCell (c ∷ cs) c.object q) asked (is_first c cs), timed)
+
+  sooner_due :
+      (r : Request) → c.request ≡ Some r → (t : Timer) → r.timer ≡ Some t → (others : Option Timed) → first_due cs ≡ others →
+      Some (sooner (record { object = c.object; timer = t }) others) ≡ Some x → IsDue (c ∷ cs) x
+  sooner_due r asked t timed None same e = due_here r asked t timed cc
+  sooner_due r asked t timed (Some b) same e = go (is_sooner b.timer t) e
+    where
+      go : (earlier : Bool) → Some (cond earlier b (record { object = c.object; timer = t })) ≡ Some x → IsDue (c ∷ cs) x
+      go true e = due_later (same ∙ e)
+      go false e = due_here r asked t timed cc
+
+  by_its_timer : (order : ℕ) (priority : ℤ) (phase : Phase) (status : ℤ) (timer : Option Timer) →
+      c.request ≡ Some (record { order = order; priority = priority; phase = phase; status = status; timer = timer }) →
+      among_timers c.object (Some (record { order = order; priority = priority; phase = phase; status = status; timer = timer })) (first_due cs) ≡ Some x → IsDue (c ∷ cs) x
+  by_its_timer order priority phase status None asked e = due_later e
+  by_its_timer order priority phase status (Some t) asked e = sooner_due _ asked t refl (first_due cs) refl e
+
+  by_its_request : (r : Option Request) → c.request ≡ r → among_timers c.object r (first_due cs) ≡ Some x → IsDue (c ∷ cs) x
+  by_its_request None asked e = due_later e
+  by_its_request (Some r) asked e = by_its_timer r.order r.priority r.phase r.status r.timer asked e
+
+pub is_due : (cs : List Cell) → Tidy cs → (x : Timed) → first_due cs ≡ Some x → IsDue cs x
+is_due [] tidy x e = cc
+is_due (c ∷ cs) tidy x e = by_its_request c cs x tidy (λ e. is_due cs tidy.2 x e) c.request refl e
+
+-- ---- as the first that is ready
+
+abbrev pub IsReady : List Cell → Candidate → Type 0
+IsReady cs y = IsCell cs y.seat.object (Some y.request) × (is_ready y.request ≡ true)
+
+module _ (c : Cell) (cs : List Cell) (y : Candidate) (tidy : Tidy (c ∷ cs)) (rest : first_ready cs ≡ Some y → IsReady cs y) where
+  ready_later : first_ready cs ≡ Some y → IsReady (c ∷ cs) y
+  ready_later e = let d = rest e in (is_later c cs y.seat.object (Some y.request) tidy d.0, d.1)
+
+  abbrev me : Request → Candidate
+  me r = record { seat = record { object = c.object; place = c.owner }; request = r }
+
+  ready_here : (r : Request) → c.request ≡ Some r → is_ready r ≡ true → me r ≡ y → IsReady (c ∷ cs) y
+  ready_here r asked ready same = subst (λ z. IsReady (c ∷ cs) z) same (subst (λ q. IsCell (c ∷ cs) c.object q) asked (is_first c cs), ready)
+
+  first_of_all : (r : Request) → c.request ≡ Some r → is_ready r ≡ true → (others : Option Candidate) → first_ready cs ≡ others → Some (before_others (me r) others) ≡ Some y → IsReady (c ∷ cs) y
+  first_of_all r asked ready None same e = ready_here r asked ready cc
+  first_of_all r asked ready (Some b) same e = go (goes_before b.request r) e
+    where
+      go : (later : Bool) → Some (cond later b (me r)) ≡ Some y → IsReady (c ∷ cs) y
+      go true e = ready_later (same ∙ e)
+      go false e = ready_here r asked ready cc
+
+  ready_or_not : (r : Request) → c.request ≡ Some r → (b : Bool) → is_ready r ≡ b → cond b (Some (before_others (me r) (first_ready cs))) (first_ready cs) ≡ Some y → IsReady (c ∷ cs) y
+  ready_or_not r asked true ready e = first_of_all r asked ready (first_ready cs) refl e
+  ready_or_not r asked false ready e = ready_later e
+
+  with_request_of : (r : Option Request) → c.request ≡ r → among_ready c r (first_ready cs) ≡ Some y → IsReady (c ∷ cs) y
+  with_request_of None asked e = ready_later e
+  with_request_of (Some r) asked e = ready_or_not r asked (is_ready r) refl e
+
+pub is_found_ready : (cs : List Cell) → Tidy cs → (y : Candidate) → first_ready cs ≡ Some y → IsReady cs y
+is_found_ready [] tidy y e = cc
+is_found_ready (c ∷ cs) tidy y e = with_request_of c cs y tidy (λ e. is_found_ready cs tidy.2 y e) c.request refl e
+
+-- ---- what a turn is about
+
+abbrev pub IsAbout : State → Turning → Type 0
+IsAbout s (Completes o) = (x : Timed) × (first_due s.cells ≡ Some x) × (x.object ≡ o)
+IsAbout s (Picks x) = (y : Candidate) × (first_ready s.cells ≡ Some y) × (y.seat ≡ x)
+IsAbout s _ = Unit {0}
+
+module _ (outside : Outside) (answer : Option Completion) (s : State) where
+  about_time : (next : Option ℕ) → IsAbout s (passes next)
+  about_time None = tt
+  about_time (Some time) = tt
+
+  about_ready : (b : Bool) (ready : Option Candidate) (next : Option ℕ) → first_ready s.cells ≡ ready → IsAbout s (picks b ready next)
+  about_ready true None next e = tt
+  about_ready true (Some y) next e = (y, e, refl)
+  about_ready false ready next e = about_time next
+
+  about_native : (n : Option ℕ) (after : Turning) → IsAbout s after → IsAbout s (polls n answer after)
+  about_native None after h = h
+  about_native (Some n) after h = polled answer
+    where
+      polled : (a : Option Completion) → IsAbout s (Polls n a)
+      polled a = tt
+
+  about_event : (next : Option TimedEvent) (after : Turning) → IsAbout s after → IsAbout s (by_event outside s next after)
+  about_event None after h = h
+  about_event (Some e) after h = go (nat_le e.time s.rest.clock)
+    where
+      killed : (b : Bool) (n : ℕ) → IsAbout s (cond b (Kills n) Hears)
+      killed true n = tt
+      killed false n = tt
+
+      delivered : (event : Event) → IsAbout s (delivers outside s event)
+      delivered (Tell n word) = tt
+      delivered (Kill n) = killed (lives outside s n) n
+
+      go : (b : Bool) → IsAbout s (cond b (delivers outside s e.event) after)
+      go true = delivered e.event
+      go false = h
+
+  about_timer : (next : Option Timed) (after : Turning) → first_due s.cells ≡ next → IsAbout s after → IsAbout s (by_timer s next after)
+  about_timer None after e h = h
+  about_timer (Some x) after e h = go (nat_le x.timer.due s.rest.clock)
+    where
+      go : (b : Bool) → IsAbout s (cond b (Completes x.object) after)
+      go true = (x, e, refl)
+      go false = h
+
+  -- where the limit is not reached
+  abbrev within : Turning
+  within = by_timer s (first_due s.cells) (by_event outside s (next_event outside s) (polls (next_native outside s) answer (picks (has_signal s.cells) (first_ready s.cells) (next_time outside s))))
+
+  about_within : IsAbout s within
+  about_within = about_timer (first_due s.cells) _ refl (about_event (next_event outside s) _ (about_native (next_native outside s) _ (about_ready (has_signal s.cells) (first_ready s.cells) (next_time outside s) refl)))
+
+  pub turn_about : IsAbout s (turning outside answer s)
+  turn_about = go (nat_le outside.limit s.rest.dispatches)
+    where
+      go : (b : Bool) → IsAbout s (cond b Cuts within)
+      go true = tt
+      go false = about_within
