@@ -32,6 +32,8 @@ fn a_line_has_a_text(rt: HostRuntime) {
         (Line::Out(7), "out 7\n"),
         (Line::Out(i32::MIN), "out -2147483648\n"),
         (Line::Gone(class), "gone 255\n"),
+        (Line::Killed(0), "killed 0\n"),
+        (Line::Killed(15), "killed 15\n"),
     ] {
         let mut page = Page::new();
         page.add_line(&line);

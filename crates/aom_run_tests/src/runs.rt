@@ -41,10 +41,10 @@ fn accepted_of(alloc: Global, text: &str) -> Option<Accepted> {
     accept(alloc, checked).ok()
 }
 
-fn outcome_of(alloc: Global, text: &str, sink: &mut Page) -> Option<Outcome> {
+fn outcome_of(alloc: Global, text: &str, script: &str, sink: &mut Page) -> Option<Outcome> {
     let accepted = accepted_of(alloc, text)?;
-    let script = read_script(alloc, b"\n").ok()?;
-    let mut machine = Machine::boot(alloc, &accepted).ok()?;
+    let script = read_script(alloc, script.as_bytes()).ok()?;
+    let mut machine = Machine::boot(alloc, &accepted, 0).ok()?;
     let mut turn = Turn::new(alloc, &accepted, Vec::new(alloc)).ok()?;
     Some(run(&mut machine, &script, &mut turn, 1, sink))
 }
@@ -69,9 +69,18 @@ fn a_run_is_told(rt: HostRuntime) -> Result<(), Fail> {
         (STOPS, 0, Outcome::WriteFault, ""),
     ] {
         let mut sink = with_room(&rt, room);
-        assert_eq!(rt; outcome_of(rt.alloc(), text, &mut sink), Some(outcome));
+        assert_eq!(rt; outcome_of(rt.alloc(), text, "\n", &mut sink), Some(outcome));
         assert_eq!(rt; sink.text.as_slice(), transcript.as_bytes());
     }
+    Ok(())
+}
+
+#[test]
+fn a_run_hears_events_of_natives_that_are_not_there(rt: HostRuntime) -> Result<(), Fail> {
+    let events = "0 kill 3\n4 event 0 9\n4 kill 0\n1000000000000000 event 15 -1\n";
+    let mut sink = with_room(&rt, 100);
+    assert_eq!(rt; outcome_of(rt.alloc(), WAITS, events, &mut sink), Some(Outcome::Waiting));
+    assert_eq!(rt; sink.text.as_slice(), b"@0 main\nout 7\nend waiting cells 0\n".as_slice());
     Ok(())
 }
 
