@@ -86,8 +86,7 @@ impl Number {
 /// Below the most size the sizes that are told are the true ones: no comparison with a limit there goes wrong.
 pub fn sizes_are_told()
     ensures { SizesAreTold }
-{
-}
+{}
 
 fn is_digit(b: u8) -> bool
     ensures { result ≡ is_digit b }
