@@ -1,5 +1,5 @@
 -- Each call: what the three parts are after it.
-use Rattle.std.proofs.Common.{◌≡◌, ◌<◌, ◌==◌, ℕ, ℤ, pos, negsuc, Bool, true, false, not, cond, List, [], ◌∷◌, Option, Some, None, refl, sym, ap, ◌∙◌, subst}
+use Rattle.std.proofs.Common.{◌≡◌, ◌<◌, ◌==◌, ◌&&◌, ℕ, ℤ, pos, negsuc, Bool, true, false, not, cond, List, [], ◌∷◌, Option, Some, None, refl, sym, ap, ◌∙◌, subst}
 use Rattle.std.specs.Prelude.{All, AllPairs, IsNone, is_some}
 use Rattle.std.specs.Ordering.{int_eq}
 use Rattle.std.proofs.lemmas.Bool.{eqb-true, false≢true}
@@ -17,9 +17,11 @@ use Rattle.aom_scheduler.specs.Pending.{AreInOrder, Pending, due_by, due_of, lef
 use Rattle.aom_scheduler.specs.declared.timer.Timer.{Timer as Held_timer}
 use Rattle.aom_scheduler.proofs.Items.{AreDistinct, IsAbsent, place-absent}
 use Rattle.aom_sound.specs.Enlisted.{aborted, cancelled, cancelling, completed_at_once, completed_with, recorded, taken_up, timed_out, waits}
+use Rattle.aom_sound.specs.Enlisted.{is_idle}
+use Rattle.aom_sound.specs.Natives.{is_owed}
 use Rattle.aom_sound.specs.Places.{Request}
 use Rattle.aom_active.specs.Aborts.{aborted_request}
-use Rattle.aom_active.specs.Agrees.{Active, IsWhole, StandsFor, Tells, due_in, may_stand, timer_in}
+use Rattle.aom_active.specs.Agrees.{Active, IsWhole, StandsFor, Tells, due_in, may_stand, phase_of, timer_in}
 use Rattle.aom_active.specs.Meanings.{Completes, Enlists, IsFirstDue, IsFirstReady, IsNewest, IsNewestTimer, Makes, Picks, Removes, Times, asked_anew, begun_with, enlisted_with, is_being_cancelled, timed_for}
 use Rattle.aom_active.proofs.Firsts.{first_by, left_none, left_some, none_by, picks_first, picks_none, ready_is_some, ready_signals, set_by}
 use Rattle.aom_active.proofs.Halves.{IsKept, Timely, changes_twice, kept_anew, listed_placed, listed_without, timely_kept, timely_placed, timely_without, timer_anew}
@@ -80,6 +82,29 @@ kept_is_over code = go (int_eq code pending) refl
 none_of : {A : Type 0} (o : Option A) → is_some o ≡ false → o ≡ None
 none_of None e = refl
 none_of (Some x) e = cc
+
+-- a request that is pending is outstanding
+owed : (h : Option Held_request) (r : Option Request) → may_stand h ≡ true → Tells h r → is_pending h ≡ is_owed r
+owed None None stand tells = refl
+owed None (Some r) stand tells = absurd tells
+owed (Some (Held_server b)) r stand tells = absurd tells
+owed (Some (Held_object x status)) None stand tells = absurd tells
+owed (Some (Held_object x status)) (Some r) stand tells =
+    by x stand ∙ ap (λ q. not (is_idle q) && int_eq status pending) tells.0 ∙ ap (λ v. not (is_idle r.phase) && int_eq v pending) tells.1
+  where
+    over : (b : Bool) → not b ≡ true → false ≡ b
+    over true e = cc
+    over false e = refl
+
+    by : (x : State) → may_stand (Some (Held_object x status)) ≡ true → is_pending (Some (Held_object x status)) ≡ (not (is_idle (phase_of x)) && int_eq status pending)
+    by Held_idle stand = refl
+    by Held_issued stand = refl
+    by Held_active stand = refl
+    by Held_cancelling stand = refl
+    by Held_aborted stand = over (int_eq status pending) stand
+
+pub is_outstanding : {old : Active} (a : Active) → a ≡ old → IsWhole a → (id : ℕ) (asked : ℕ → Option Request) → StandsFor old asked → is_pending (request_at a.table id) ≡ is_owed (asked id)
+is_outstanding a same w id asked s = owed (request_at a.table id) (asked id) (w.requests id) ((subst (λ x. StandsFor x asked) (sym same) s).tells id)
 
 -- ---- a request that becomes another
 

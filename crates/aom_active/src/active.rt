@@ -1,10 +1,12 @@
 //! The active objects of a machine.
-ghost use Rattle.std.specs.Prelude.{◌≡◌, ◌<◌, ◌≤◌, Some, None, IfOk, IfSome, IsTrue, IsFalse, is_some, length};
+ghost use Rattle.std.specs.Prelude.{◌≡◌, ◌<◌, ◌≤◌, ℕ, Option, Some, None, IfOk, IfSome, IsTrue, IsFalse, is_some, length};
 ghost use Rattle.aom_requests.specs.Requests.{request_at, IsEnlisted, state_at, status_at, is_pending};
 ghost use Rattle.aom_scheduler.specs.Pending.{first_due, AreInOrder};
 ghost use Rattle.aom_scheduler.specs.Roster.{IsSound};
 ghost use Rattle.aom_image.specs.declared.class.Provider.TheVariants.{Own};
 ghost use Rattle.aom_sound.specs.Enlisted.{completed_at_once, completed_with, pending, recorded, waits, cancelling, aborted, cancelled};
+ghost use Rattle.aom_sound.specs.Natives.{is_owed};
+ghost use Rattle.aom_sound.specs.Places.{Request as RequestRecord};
 ghost use Rattle.aom_active.specs.Agrees.{StandsFor};
 ghost use Rattle.aom_active.specs.Meanings.{is_waited_for, is_being_cancelled, is_busy, begun_with, Makes, Removes, Enlists, Times, Completes, IsNextDue, Picks};
 
@@ -175,6 +177,13 @@ impl ActiveObjects {
         self.requests.wait_for(pick);
         self.schedule.set_waiting(pick);
         Some(pick)
+    }
+
+    /// Whether a request of the object is made, and not completed.
+    pub fn is_pending(&self, id: CellId) -> bool
+        ensures { (asked : ℕ → Option RequestRecord) → StandsFor self.now asked → result ≡ is_owed (asked id) }
+    {
+        self.requests.is_pending(id)
     }
 
     pub fn is_enlisted(&self, id: CellId) -> bool

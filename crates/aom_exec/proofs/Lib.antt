@@ -15,6 +15,7 @@ pub mod ObjectActs
 pub mod MoveActs
 pub mod FieldActs
 pub mod RequestActs
+pub mod NativeActs
 pub mod CallActs
 pub mod CancelEnds
 pub mod ReturnActs

@@ -1,8 +1,8 @@
 -- Instructions on the request of what a method works on: the machine's table stands for the requests that the checked machine then has.
-use Rattle.std.proofs.Common.{◌≡◌, ℕ, ℤ, Bool, true, false, cond, length, List, ◌∷◌, Option, Some, None, IsSome, IsTrue, refl, sym, ap, ◌∙◌, subst}
+use Rattle.std.proofs.Common.{◌≡◌, ◌==◌, ℕ, ℤ, Bool, true, false, cond, length, List, ◌∷◌, Option, Some, None, IsSome, IsTrue, refl, sym, ap, ◌∙◌, subst}
 use Rattle.std.specs.Prelude.{IfSome, is_some, slice_get}
 use Rattle.std.specs.Int.{w32, cast_signed}
-use Rattle.std.specs.List.{list_all}
+use Rattle.std.specs.List.{list_any}
 use Rattle.std.proofs.lemmas.Bool.{false≢true}
 use Rattle.std.proofs.lemmas.Option.{none-some, same_Some}
 use Rattle.aom_image.proofs.Given.{some_given}
@@ -17,8 +17,8 @@ use Rattle.aom_image.specs.declared.method.Role.TheVariants.{Cancel as Cancels_r
 use Rattle.aom_image.specs.declared.method.Thing.{Thing}
 use Rattle.aom_instructions.specs.declared.instr.Instr.{Instr}
 use Rattle.aom_instructions.specs.declared.instr.Instr.TheVariants.{Abort, Cancel, Enlist, Issue, JumpActive, JumpAdded, SetActive, Status}
-use Rattle.aom_classes.proofs.Each.{both}
-use Rattle.aom_classes.specs.Admitted.{IsAdmitted, admits_class, admits_thing, admits_kind}
+use Rattle.aom_sessions.specs.Sessions.{is_killed, is_open}
+use Rattle.aom_sound.specs.Natives.{has_died, is_served_by_dead, native_of, own_session, started}
 use Rattle.aom_classes.specs.Roles.{role_of}
 use Rattle.aom_cells.specs.Heap.{Heap, Lives, cell_at, class_at, class_of}
 use Rattle.aom_cells.specs.declared.cell.Cell.{Cell as Held_cell}
@@ -32,13 +32,13 @@ use Rattle.aom_requests.specs.declared.request.State.TheVariants.{Active as Held
 use Rattle.aom_requests.specs.declared.request.Request.{Request as Held_request}
 use Rattle.aom_requests.specs.declared.request.Request.TheVariants.{Object as Held_object}
 use Rattle.aom_active.specs.Agrees.{Active, StandsFor}
-use Rattle.aom_active.specs.Meanings.{Enlists, Makes, Times, asked_anew, is_being_cancelled, is_busy, is_waited_for}
+use Rattle.aom_active.specs.Meanings.{Enlists, Makes, Times, asked_anew, begun_with, is_being_cancelled, is_busy, is_waited_for}
 use Rattle.aom_active.proofs.Asking.{asked_set, newest, newest_timer}
 use Rattle.aom_active.proofs.Telling.{held_state, standing_follows, told_active, told_busy, told_cancelling, told_enlisted, told_fresh, told_state, told_status}
-use Rattle.aom_sound.specs.Effects.{applied, cancels_if, jumps_if, updates, Cancels, Requested, writes as writes_word, asking_with}
+use Rattle.aom_sound.specs.Effects.{applied, cancels_if, jumps_if, updates, Cancels, Requested, writes as writes_word, asking_with, heard}
 use Rattle.aom_sound.specs.Enlisted as enlisted
 use Rattle.aom_sound.specs.Enlisted.{aborted, begun_cells, cancel_method, cancel_of, cancelling, due_after, first_request, home_kind, in_phase, is_cancelling, is_idle, is_issued, issued_by, issued_of, next_order, next_timer, on_request, own_request, rerequested, status_of, thing_kind, waits, Asking, completed_at_once}
-use Rattle.aom_sound.specs.Places.{Cell, Idle, Issued, Object, Phase, Place, Request, held, named, requested, set_request}
+use Rattle.aom_sound.specs.Places.{Cell, Idle, Issued, Object, Phase, Place, Request, held, in_session, named, requested, set_request}
 use Rattle.aom_sound.specs.State.{AtRoot, Choice, Frame, Home, Inside, Rest, Run, State, Static, Task, frame_of}
 use Rattle.aom_sound.specs.Moves.{needs}
 use Rattle.aom_sound.specs.Words.{read, word_or_zero}
@@ -54,7 +54,7 @@ use Rattle.aom_exec.specs.Fields.{this}
 use Rattle.aom_exec.specs.Next.{IsNext, counting}
 use Rattle.aom_exec.specs.Places.{value_in, with_tasks}
 use Rattle.aom_exec.specs.Steps.{Stands}
-use Rattle.aom_exec.specs.Requests.{Issues, is_native, kind_here, provider_of}
+use Rattle.aom_exec.specs.Requests.{Issues, kind_here, provider_of}
 use Rattle.aom_exec.proofs.CellFields.{cell_of}
 use Rattle.aom_exec.proofs.FieldActs.{housed, inside_number}
 use Rattle.aom_exec.proofs.GoingActs.{fresh_value, fresh_word, thing_is}
@@ -62,7 +62,7 @@ use Rattle.aom_exec.proofs.GoingOn.{goes_on_as}
 use Rattle.aom_exec.proofs.Housing.{at_hand, needs_met}
 use Rattle.aom_exec.proofs.Standing.{begun_frame, by_top, free}
 use Rattle.aom_exec.proofs.Stepping.{at_step}
-use Rattle.aom_exec.proofs.WordActs.{jumps, passes, plain_at, plain_does, word_put, word_read}
+use Rattle.aom_exec.proofs.WordActs.{heard_at, jumps, passes, plain_at, plain_does, word_put, word_read}
 use Rattle.aom_exec.proofs.Asking.{cells_asked}
 use Rattle.aom_exec.proofs.Sessions.{natives_rerequested}
 
@@ -101,19 +101,6 @@ waits_active _ e = cc
 
 -- ---- what a class of active objects makes its requests of
 
--- no class with a native provider is admitted so far
-never_native : (n budget : ℕ) (k : ClassKind) → IsTrue (admits_kind k) → k ≡ An_active (Native n) budget → ⊥
-unfolding admits_kind
-never_native n budget k fits e = let admitted : IsTrue (admits_kind (An_active (Native n) budget)) = subst (λ k. IsTrue (admits_kind k)) e fits in cc
-
-pub no_native : (p : Image) → IsAdmitted p → (class n budget : ℕ) → kind_of p (Some class) ≡ Some (An_active (Native n) budget) → ⊥
-unfolding kind_of kind_in declared_at admits_class
-no_native p admitted class n budget is = go (slice_get p.classes class) (admitted.classes class) is
-  where
-    go : (o : Option ClassDecl) → IfSome o (λ d. IsTrue (admits_class d)) → kind_in o ≡ Some (An_active (Native n) budget) → ⊥
-    go None h e = none-some _ e
-    go (Some d) h e = never_native n budget d.kind (both (admits_kind d.kind) (list_all admits_thing d.fields) h).0 (same_Some _ _ e)
-
 -- the provider of a kind, and how a request is made of it
 provided : (k : Option ClassKind) (q : Provider) → provider_of k ≡ Some q → (budget : ℕ) × (k ≡ Some (An_active q budget))
 provided (Some (An_active v budget)) q e = (budget, ap (λ v. Some (An_active v budget)) (same_Some _ _ e))
@@ -122,13 +109,9 @@ provided _ q e = absurd (none-some _ e)
 issued_as : (k : Option ClassKind) (q : Provider) (asking : Asking) (w : ℤ) → provider_of k ≡ Some q → issued_of k asking w ≡ issued_by q asking w
 issued_as k q asking w e = ap (λ k. issued_of k asking w) (provided k q e).1
 
--- so none that an object's class has is native
-pub not_native : (p : Image) → IsAdmitted p → (class : Option ℕ) (q : Provider) → provider_of (kind_of p class) ≡ Some q → is_native q ≡ false
-unfolding kind_of
-not_native p admitted None q e = absurd (none-some _ e)
-not_native p admitted (Some c) Own e = refl
-not_native p admitted (Some c) A_timer e = refl
-not_native p admitted (Some c) (Native n) e = let k = provided (kind_of p (Some c)) (Native n) e in absurd (no_native p admitted c n k.0 k.1)
+-- the native that serves the objects of a class is its provider
+pub native_provided : (k : Option ClassKind) (n : ℕ) → provider_of k ≡ Some (Native n) → native_of k ≡ Some n
+native_provided k n e = ap native_of (provided k (Native n) e).1
 
 -- what is of a class of active objects lives, and its class is declared
 cell_there : (p : Image) (c : Option Held_cell) → is_active_kind (kind_of p (class_of c)) ≡ true → IsSome c
@@ -267,7 +250,7 @@ module _ (p : Image) (m : Parts) (i : Instr) (next : IsNext p i m) (listed : (c 
   abbrev hand : At_hand p before
   hand = at_hand p before next.stands next.runs
 
-  finds_object : OnObject p before hand
+  pub finds_object : OnObject p before hand
   finds_object = let n = needs_met p m i next in on_object p before hand (listed n.0 hand.frame hand.below (acts.requested i (at_step hand.state)) n.1)
 
   pub finds_cell : Lives m.cells (this m)
@@ -387,16 +370,32 @@ module _ (m : Parts) (refused : List ℕ) (a : Active) where
       let r = in_one is_cancelling _ met.1.0 in
       asks_on p m h a _ (requests_become p m h (on_object p m h (active_listed _ met.0)) a aborted r.0 r.1 makes))
 
--- a request is made of a provider
-requests_made : (p : Image) (m : Parts) (h : At_hand p m) (on : OnObject p m h) (a : Active) (q : Provider) (w started : ℤ) (r : Request) → own_request h.state.cells h.frame.home ≡ Some r → Issues q h.state.rest.clock w m.active a (this m)
-    → SameRequests p a (rerequested h.state.cells h.frame.home (on_request (issued_by q (made_with p m h on started) w) (own_request h.state.cells h.frame.home)))
-requests_made p m h on a Own w started r is issues = requests_become p m h on a (completed_at_once w) r is issues
-requests_made p m h on a A_timer w started r is issues = requests_timed p m h on a w started r is issues
-requests_made p m h on a (Native n) w started r is issues = absurd issues
+-- what a native has answered is what the checked machine hears
+module _ (p : Image) (m : Parts) (h : At_hand p m) (on : OnObject p m h) (n : ℕ) (serves : native_of (kind_here p m) ≡ Some n) where
+  dead_told : is_killed m.sessions n ≡ is_served_by_dead p h.frame h.below h.state
+  dead_told = ap (λ ks. list_any (λ k. k == n) ks) h.agrees.natives.dead ∙ sym (ap (has_died h.state.killed) (ap native_of (kind_told p m h on) ∙ serves))
 
-pub issue_does : (p : Image) (m : Parts) (refused : List ℕ) (a : Active) (q : Provider) (b x : ℕ) → provider_of (kind_here p m) ≡ Some q → Issues q m.rest.clock (cast_signed w32 (register_here m.stack.tasks b)) m.active a (this m) → DoesIn p refused (Issue b x) m (acts.next (record m { active = a }))
+  session_told : is_open m.sessions (this m) ≡ own_session h.state.cells h.frame.home
+  session_told = h.agrees.natives.sessions (this m) ∙ ap (in_session h.state.cells) on.number ∙ sym (ap (own_session h.state.cells) on.home)
+
+  pub heard_told : {A : Type 0} (f : Bool → Bool → ℤ → A) (c : Choice) → c.answer ≡ m.heard → f (is_killed m.sessions n) (is_open m.sessions (this m)) m.heard ≡ heard p c h.frame h.below h.state f
+  heard_told f c hears =
+      ap (λ d. f d (is_open m.sessions (this m)) m.heard) dead_told
+      ∙ ap (λ b. f (is_served_by_dead p h.frame h.below h.state) b m.heard) session_told
+      ∙ ap (λ a. f (is_served_by_dead p h.frame h.below h.state) (own_session h.state.cells h.frame.home) a) (sym hears)
+
+-- a request is made of a provider
+requests_made : (p : Image) (m : Parts) (h : At_hand p m) (on : OnObject p m h) (a : Active) (q : Provider) (w status : ℤ) (r : Request) → own_request h.state.cells h.frame.home ≡ Some r
+    → ((n : ℕ) → q ≡ Native n → started (is_killed m.sessions n) (is_open m.sessions (this m)) m.heard ≡ status) → Issues q m.sessions m.heard h.state.rest.clock w m.active a (this m)
+    → SameRequests p a (rerequested h.state.cells h.frame.home (on_request (issued_by q (made_with p m h on status) w) (own_request h.state.cells h.frame.home)))
+requests_made p m h on a Own w status r is begins issues = requests_become p m h on a (completed_at_once w) r is issues
+requests_made p m h on a A_timer w status r is begins issues = requests_timed p m h on a w status r is issues
+requests_made p m h on a (Native n) w status r is begins issues = requests_become p m h on a (begun_with status) r is (subst (λ v. Makes m.active a (this m) (begun_with v)) (begins n refl) issues)
+
+pub issue_does : (p : Image) (m : Parts) (refused : List ℕ) (a : Active) (q : Provider) (b x : ℕ) → provider_of (kind_here p m) ≡ Some q
+    → Issues q m.sessions m.heard m.rest.clock (cast_signed w32 (register_here m.stack.tasks b)) m.active a (this m) → DoesIn p refused (Issue b x) m (acts.next (record m { active = a }))
 issue_does p m refused a q b x provider issues h here =
-    plain_at p m _ refused (Issue b x) refl h (λ c met typed.
+    heard_at p m _ refused (Issue b x) refl h (λ c hears met typed.
     let clock = h.state.rest.clock in
     let asking = asking_with p c h.frame h.below h.state in
     let w = read h.frame h.below h.state b in
@@ -404,9 +403,10 @@ issue_does p m refused a q b x provider issues h here =
     let r = in_one is_idle _ met.1.1.1.1.0 in
     let made = issued_as (home_kind p h.frame.home) q asking w (ap provider_of (kind_told p m h on) ∙ provider) in
     let same : m.rest.clock ≡ clock = ap (λ r. r.clock) h.agrees.rest in
-    let it = subst (λ n. Issues q n w m.active a (this m)) same (subst (λ v. Issues q m.rest.clock v m.active a (this m)) (word_read p m h b met.0) issues) in
+    let it = subst (λ n. Issues q m.sessions m.heard n w m.active a (this m)) same (subst (λ v. Issues q m.sessions m.heard m.rest.clock v m.active a (this m)) (word_read p m h b met.0) issues) in
     subst (λ f. Agrees p (acts.next (record m { active = a })) (applied p h.frame h.below h.state (updates h.frame (Requested (on_request f (own_request h.state.cells h.frame.home)))))) (sym made)
-    (asks_on p m h a _ (requests_made p m h on a q w asking.started r.0 r.1 it)))
+    (asks_on p m h a _ (requests_made p m h on a q w asking.started r.0 r.1
+    (λ n native. heard_told p m h on n (native_provided (kind_here p m) n (provider ∙ ap (λ v. Some v) native)) started c hears) it)))
 
 -- a request that is not active is left alone
 pub cancel_idle_does : (m : Parts) (refused : List ℕ) → is_waited_for (request_at m.active.table (this m)) ≡ false → Does refused Cancel m (acts.next m)

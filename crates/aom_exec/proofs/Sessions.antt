@@ -1,6 +1,6 @@
 -- The sessions of cells, where cells move, change, come and go.
-use Rattle.std.proofs.Common.{ap, Bool, cond, false, List, None, Option, refl, Some, subst, suc, sym, true, ℕ, ℤ, ◌==◌, ◌∙◌, ◌∷◌, ◌≡◌, []}
-use Rattle.std.proofs.lemmas.Bool.{eqb-true, eqb-false}
+use Rattle.std.proofs.Common.{ap, Bool, cond, false, List, None, Option, refl, Some, subst, suc, sym, true, ℕ, ℤ, ◌==◌, ◌∙◌, ◌∷◌, ◌≡◌, [], length, pos}
+use Rattle.std.proofs.lemmas.Bool.{eqb-true, eqb-false, false≢true}
 use Rattle.aom_image.specs.Image.{Image}
 use Rattle.aom_image.specs.declared.method.Argument.{Argument}
 use Rattle.aom_image.specs.declared.method.Argument.TheVariants.{Own as Takes_own, Word as Takes_word}
@@ -8,11 +8,15 @@ use Rattle.aom_image.specs.declared.method.Thing.{Thing}
 use Rattle.aom_sessions.specs.Sessions.{Sets, Standing, is_open}
 use Rattle.aom_sound.specs.Calls.{passed_cells}
 use Rattle.aom_sound.specs.Enlisted.{ended_cells, rerequested}
-use Rattle.aom_sound.specs.Places.{Cell, Object, Place, Register, Request, Tidy, held, in_session, moved, named, same_place, set_request, set_session, set_word_field, with_new, without}
+use Rattle.aom_sound.specs.Places.{Cell, Object, Place, Register, Request, Tidy, held, in_session, moved, named, same_place, set_request, set_session, set_word_field, with_new, without, word_field}
 use Rattle.aom_sound.specs.State.{AtRoot, Frame, Home, Inside, State, Static, Task}
 use Rattle.aom_sound.specs.Words.{here, stored}
 use Rattle.aom_sound.proofs.Maps.{same_place-true, unnamed}
-use Rattle.aom_exec.specs.Agrees.{SameNatives}
+use Rattle.aom_exec.specs.Agrees.{SameCells, SameNatives, thing_of}
+use Rattle.aom_cells.specs.Heap.{Heap}
+use Rattle.aom_shape.specs.Tables.{at}
+use Rattle.aom_sound.specs.Natives.{resessioned}
+use Rattle.aom_sound.proofs.Storing.{resessioned_alike}
 
 -- ---- what the cells tell
 
@@ -97,6 +101,61 @@ module _ (p : Image) (fr : Frame) (ts : List Task) (s : State) (w : Standing) wh
   natives_passed depth (Takes_word ∷ xs) first to cs h = natives_passed depth xs (suc first) (suc to) cs h
   natives_passed depth (Takes_own t ∷ xs) first to cs h =
       natives_passed depth xs (suc first) (suc to) (moved (here fr ts s first) (Register depth to) cs) (natives_moved p w s.killed cs (here fr ts s first) (Register depth to) h)
+
+-- ---- a session that opens or closes
+
+session_here : (cs : List Cell) (n : ℕ) (b : Bool) (o : Object) → named cs n ≡ Some o → in_session (set_session n b cs) n ≡ b
+session_here [] n b o e = cc
+session_here (c ∷ cs) n b o e = go (c.object.name == n) e (session_here cs n b o)
+  where
+    go : (x : Bool) → cond x (Some c.object) (named cs n) ≡ Some o → (named cs n ≡ Some o → in_session (set_session n b cs) n ≡ b) → cond x (cond x b c.session) (in_session (set_session n b cs) n) ≡ b
+    go true e rest = refl
+    go false e rest = rest e
+
+session_there : (cs : List Cell) (n : ℕ) (b : Bool) (k : ℕ) → (n == k) ≡ false → in_session (set_session n b cs) k ≡ in_session cs k
+session_there [] n b k apart = refl
+session_there (c ∷ cs) n b k apart = go (c.object.name == k) refl (c.object.name == n) refl (session_there cs n b k apart)
+  where
+    go : (x : Bool) → (c.object.name == k) ≡ x → (y : Bool) → (c.object.name == n) ≡ y → in_session (set_session n b cs) k ≡ in_session cs k → cond x (cond y b c.session) (in_session (set_session n b cs) k) ≡ cond x c.session (in_session cs k)
+    go true here true there rest = let same : (n == k) ≡ true = ap (λ i. i == k) (sym (eqb-true c.object.name n there)) ∙ here in absurd (false≢true (sym apart ∙ same))
+    go true here false there rest = refl
+    go false here y there rest = rest
+
+pub natives_set : (p : Image) (old new : Standing) (killed : List ℕ) (cs : List Cell) (o : Object) (b : Bool) → named cs o.name ≡ Some o → Sets old new o.name b → SameNatives p old cs killed → SameNatives p new (set_session o.name b cs) killed
+natives_set p old new killed cs o b lives set h = record {
+  sessions = λ n. by n (o.name == n) refl;
+  dead = set.killed ∙ h.dead;
+  limit = set.places ∙ h.limit;
+}
+  where
+    by : (n : ℕ) (x : Bool) → (o.name == n) ≡ x → is_open new n ≡ in_session (set_session o.name b cs) n
+    by n true same =
+        let is = eqb-true o.name n same in
+        ap (is_open new) (sym is) ∙ set.here ∙ sym (ap (in_session (set_session o.name b cs)) (sym is) ∙ session_here cs o.name b o lives)
+    by n false other = set.others n (λ e. eqb-false o.name n other (sym e)) ∙ h.sessions n ∙ sym (session_there cs o.name b n other)
+
+-- it changes no word and no count
+words_opened : (cs : List Cell) (n : ℕ) (b : Bool) (k w : ℕ) → word_field (set_session n b cs) k w ≡ word_field cs k w
+words_opened [] n b k w = refl
+words_opened (c ∷ cs) n b k w = ap (λ x. cond (c.object.name == k) (at (pos 0) c.words w) x) (words_opened cs n b k w)
+
+length_opened : (cs : List Cell) (n : ℕ) (b : Bool) → length (set_session n b cs) ≡ length cs
+length_opened [] n b = refl
+length_opened (c ∷ cs) n b = ap suc (length_opened cs n b)
+
+-- so the same cells live
+pub cells_resessioned : (p : Image) (h : Heap) (cs : List Cell) (home : Home) (b : Bool) → SameCells p h cs → SameCells p h (resessioned cs home b)
+cells_resessioned p h cs Static b same = same
+cells_resessioned p h cs AtRoot b same = same
+cells_resessioned p h cs (Inside o from) b same = record {
+  things = λ k. same.things k ∙ ap thing_of (sym ((resessioned_alike cs (Inside o from) b).named_so k));
+  words = λ k w. same.words k w ∙ sym (words_opened cs o.name b k w);
+  count = same.count ∙ sym (length_opened cs o.name b);
+  limit = same.limit;
+  wide = same.wide;
+  classes = same.classes;
+  null_is_none = same.null_is_none;
+}
 
 -- a cell that goes has its session closed
 pub natives_gone : (p : Image) (old new : Standing) (killed : List ℕ) (cs : List Cell) (g : Place) (o : Object) → Tidy cs → held cs g ≡ Some o → Sets old new o.name false → SameNatives p old cs killed → SameNatives p new (without g cs) killed

@@ -18,3 +18,4 @@ pub mod Going
 pub mod Ends
 pub mod Cleanup
 pub mod Requests
+pub mod Natives

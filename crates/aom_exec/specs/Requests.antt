@@ -11,8 +11,10 @@ use Rattle.aom_roles.specs.Shapes.{kind_of}
 use Rattle.aom_cells.specs.Heap.{Lives, class_at}
 use Rattle.aom_requests.specs.Requests.{is_pending, request_at}
 use Rattle.aom_active.specs.Agrees.{Active}
-use Rattle.aom_active.specs.Meanings.{Makes, Removes, Times, is_being_cancelled}
+use Rattle.aom_active.specs.Meanings.{Makes, Removes, Times, begun_with, is_being_cancelled}
 use Rattle.aom_sound.specs.Enlisted.{cancelled, due_after, completed_at_once}
+use Rattle.aom_sound.specs.Natives.{started}
+use Rattle.aom_sessions.specs.Sessions.{Standing, is_killed, is_open}
 use Rattle.aom_frames.specs.Tasks.{Runs}
 use Rattle.aom_exec.specs.declared.parts.Parts.{Parts}
 use Rattle.aom_exec.specs.Fields.{this}
@@ -41,14 +43,8 @@ abbrev pub provider_of : Option ClassKind → Option Provider
 provider_of (Some (An_active provider budget)) = Some provider
 provider_of _ = None
 
--- a request of an object is made of that provider
-abbrev pub Issues : Provider → (clock : ℕ) → ℤ → Active → Active → ℕ → Type 0
-Issues Own clock a old new id = Makes old new id (completed_at_once a)
-Issues Timer clock a old new id = Times old new id (due_after clock a)
-Issues (Native n) clock a old new id = ⊥
-
--- it is one of the natives
-abbrev pub is_native : Provider → Bool
-is_native Own = false
-is_native Timer = false
-is_native (Native n) = true
+-- a request of an object is made of that provider, where sessions stand so and a native has answered that
+abbrev pub Issues : Provider → Standing → (heard : ℤ) → (clock : ℕ) → ℤ → Active → Active → ℕ → Type 0
+Issues Own w heard clock a old new id = Makes old new id (completed_at_once a)
+Issues Timer w heard clock a old new id = Times old new id (due_after clock a)
+Issues (Native n) w heard clock a old new id = Makes old new id (begun_with (started (is_killed w n) (is_open w id) heard))

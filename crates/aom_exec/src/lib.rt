@@ -16,6 +16,7 @@ mod going;
 mod leaving;
 mod machine;
 mod moves;
+mod natives;
 mod objects;
 mod parts;
 mod progress;

@@ -36,7 +36,11 @@ impl<'a> Model for Machine<'a> {
 
 impl<'a> Machine<'a> {
     /// A machine at time 0, with main at hand, beside so many natives. It takes all the memory that the machine will ever have.
-    pub fn boot(alloc: Global, accepted: &'a Accepted, natives: usize) -> Result<Machine<'a>, BootFault>
+    pub fn boot(
+        alloc: Global,
+        accepted: &'a Accepted,
+        natives: usize,
+    ) -> Result<Machine<'a>, BootFault>
         ensures image { IfOk result (λ m. m.image ≡ accepted.now) }
         ensures stands { IfOk result (λ m. StandsFor m (boot_state accepted.now)) }
         ensures agrees { IfOk result AgreesInAll }

@@ -8,7 +8,7 @@ ghost use Rattle.aom_instructions.specs.declared.instr.Instr.TheVariants.{Abort,
 ghost use Rattle.aom_exec.specs.Acts.{Does, DoesIn, next, to_place};
 ghost use Rattle.aom_exec.specs.Fields.{this};
 ghost use Rattle.aom_exec.specs.Next.{IsNext};
-ghost use Rattle.aom_exec.specs.Requests.{Issues, is_native, kind_here, provider_of};
+ghost use Rattle.aom_exec.specs.Requests.{Issues, kind_here, provider_of};
 ghost use Rattle.aom_requests.specs.Requests.{state_at, status_at};
 ghost use Rattle.aom_requests.specs.declared.request.State.{State};
 ghost use Rattle.aom_sound.specs.Words.{word_or_zero};
@@ -87,7 +87,7 @@ impl Parts {
     }
 
     /// What the method's object makes its requests of.
-    fn provider(&self, linked: &Linked) -> Provider
+    pub fn provider(&self, linked: &Linked) -> Provider
         requires runs { Runs self.now.stack.tasks }
         requires small { IfSome (class_at self.now.cells (this self.now)) (λ class. class < 256) }
         requires active { is_active_kind (kind_here linked.now self.now) ≡ true }
@@ -100,11 +100,10 @@ impl Parts {
         }
     }
 
-    /// A request is made: one's own is completed at once with that code, and a timer's once that interval is over.
+    /// A request is made: one's own is completed at once with that code, a timer's once that interval is over, and a native's as it answers.
     fn make_request(&mut self, id: CellId, provider: Provider, word: i32)
         requires idle { state_at self.old.active.table id ≡ Some State.Idle }
-        requires inside { is_native provider ≡ false }
-        ensures made { Issues provider self.old.rest.clock word self.old.active self.new.active id }
+        ensures made { Issues provider self.old.sessions self.old.heard self.old.rest.clock word self.old.active self.new.active id }
         ensures rest { self.new ≡ record self.old { active = self.new.active } }
     {
         match provider {
@@ -113,7 +112,7 @@ impl Parts {
                 let due = due_after(self.rest.clock(), word);
                 self.active.issue_timer(id, due);
             }
-            Provider::Native(_) => unreachable!(),
+            Provider::Native(native) => self.start(id, native.number() as usize),
         }
     }
 
