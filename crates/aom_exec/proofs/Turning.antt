@@ -404,7 +404,7 @@ module _ (p : Image) (m : Parts) (s : State) (st : StandsFor (record { image = p
         entries = (tt, st.agrees.entries);
         requests = requests_asked s.cells object taken_up p m.active a k.candidate.request lives asked made st.agrees.requests;
         natives = natives_asked p m.sessions s.killed s.cells object.name _ st.agrees.natives;
-        rest = ap (λ (r : Rest). record r { steps = 0 }) st.agrees.rest;
+        rest = ap (λ (r : Rest). record r { steps = 0; polled = 0 }) st.agrees.rest;
         room = st.agrees.room;
         entry_room = st.agrees.entry_room;
       }
