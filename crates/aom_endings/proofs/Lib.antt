@@ -1,4 +1,4 @@
-mod Spending
-mod Lefts
-mod Sorts
-mod Ending
+pub mod Spending
+pub mod Lefts
+pub mod Sorts
+pub mod Ending

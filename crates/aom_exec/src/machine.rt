@@ -124,7 +124,7 @@ impl<'a> Machine<'a> {
     }
 
     /// Between dispatches an event comes from outside that changes nothing here.
-    pub fn hear(&mut self)
+    pub fn hear_event(&mut self)
         requires between { progress self.old ≡ Turned }
         requires few { self.old.parts.rest.delivered + 1 < 2 ^ 64 }
         ensures image { self.new.image ≡ self.old.image }

@@ -1,5 +1,5 @@
 -- A step of the machine is moves of a run, and steps one after another fill a turn.
-use Rattle.std.proofs.Common.{◌≡◌, ℕ, List, [], ◌++◌, sym, ap, subst, ◌∙◌, append-nil, append_assoc}
+use Rattle.std.proofs.Common.{◌≡◌, ℕ, ℤ, List, [], ◌++◌, sym, ap, subst, ◌∙◌, append-nil, append_assoc}
 use Rattle.aom_image.proofs.Given.{cons_given}
 use Rattle.aom_image.specs.Image.{Image}
 use Rattle.aom_sound.specs.Moves.{written}
@@ -22,17 +22,17 @@ settled_on p refused b lines s _ v r (settles {u = u} {lines = more} c uncounted
     subst (λ ls. Moving p refused b ls v) (append_assoc lines _ more) (settled_on p refused b (lines ++ written p s) u more v (goes_on c r (is_busy s uncounted) free goes) rest)
 
 -- a step of the machine is no move, or one or more
-steps_on : (p : Image) (refused : List ℕ) (b : State) (lines : List Line) (s : State) (more : List Line) (u : State)
-    → Moving p refused b lines s → Steps p refused s more u → Moving p refused b (lines ++ more) u
-steps_on p refused b lines s more u r (rests done) = subst (λ ls. Moving p refused b ls s) (sym (append-nil lines)) r
-steps_on p refused b lines s _ v r (moves {u = u} {lines = more} c hand free goes rest) =
+steps_on : (p : Image) (refused : List ℕ) (heard : ℤ) (b : State) (lines : List Line) (s : State) (more : List Line) (u : State)
+    → Moving p refused b lines s → Steps p refused heard s more u → Moving p refused b (lines ++ more) u
+steps_on p refused heard b lines s more u r (rests done) = subst (λ ls. Moving p refused b ls s) (sym (append-nil lines)) r
+steps_on p refused heard b lines s _ v r (moves {u = u} {lines = more} c hand free hears goes rest) =
     subst (λ ls. Moving p refused b ls v) (append_assoc lines _ more) (settled_on p refused b (lines ++ written p s) u more v (goes_on c r hand.busy free goes) rest)
 
 -- quiet steps add no line
-quietly_on : (p : Image) (refused : List ℕ) (b : State) (lines : List Line) (s v : State) → Moving p refused b lines s → Quiet p refused s v → Moving p refused b lines v
-quietly_on p refused b lines s _ r none = r
-quietly_on p refused b lines s _ r (then_on {v} {u} before last hand) =
-    subst (λ ls. Moving p refused b ls u) (append-nil lines) (steps_on p refused b lines v [] u (quietly_on p refused b lines s v r before) last)
+quietly_on : (p : Image) (refused : List ℕ) (heard : ℤ) (b : State) (lines : List Line) (s v : State) → Moving p refused b lines s → Quiet p refused heard s v → Moving p refused b lines v
+quietly_on p refused heard b lines s _ r none = r
+quietly_on p refused heard b lines s _ r (then_on {v} {u} before last hand wants) =
+    subst (λ ls. Moving p refused b ls u) (append-nil lines) (steps_on p refused heard b lines v [] u (quietly_on p refused heard b lines s v r before) last)
 
 -- moves that go on from where others came to
 pub moving_both : (p : Image) (refused : List ℕ) (b : State) (lines : List Line) (s : State) (more : List Line) (u : State)
@@ -76,9 +76,10 @@ filled old m new told mid now progress went image stepped s stands =
     let w = went s stands in
     let x = stepped w.1 w.4 in
     let same : mid.refused ≡ told.refused = ap (λ (t : Turn). t.refused) w.3 in
-    let quiet = subst (λ q. Quiet q told.refused w.1 x.1) image (subst (λ r. Quiet m.image r w.1 x.1) same x.3) in
-    let steps = subst (λ q. Steps q told.refused x.1 x.0 x.2) image (subst (λ r. Steps m.image r x.1 x.0 x.2) same x.4) in
-    let moving = steps_on old.image told.refused s w.0 x.1 x.0 x.2 (quietly_on old.image told.refused s w.0 w.1 x.1 w.2 quiet) steps in
+    let heard = m.parts.heard in
+    let quiet = subst (λ q. Quiet q told.refused heard w.1 x.1) image (subst (λ r. Quiet m.image r heard w.1 x.1) same x.3) in
+    let steps = subst (λ q. Steps q told.refused heard x.1 x.0 x.2) image (subst (λ r. Steps m.image r heard x.1 x.0 x.2) same x.4) in
+    let moving = steps_on old.image told.refused heard s w.0 x.1 x.0 x.2 (quietly_on old.image told.refused heard s w.0 w.1 x.1 w.2 quiet) steps in
     let turn = x.5 ∙ ap (λ (t : Turn). record t { lines = t.lines ++ x.0 }) w.3 ∙ ap (λ ls. record told { lines = ls }) (append_assoc told.lines w.0 x.0) in
     (w.0 ++ x.0, x.2, moving, turn, x.6, x.7)
 

@@ -50,7 +50,7 @@ module _ (outside : Outside) (s : State) where
       heard (Kill n) = ap (λ b. cond b (Kills n) Hears) not_there
         where
           not_there : lives outside s n ≡ false
-          not_there = ap (λ k. nat_lt n k && not (is_dead s.killed n)) no_natives ∙ ap (λ b. b && not (is_dead s.killed n)) (le-ltb 0 n (omega arith))
+          not_there = ap (λ k. nat_lt n k && not (is_dead s.killed n)) no_natives ∙ ap (λ b. b && not (is_dead s.killed n)) (le-ltb n 0 (omega arith))
 
       early : (next : Option Timed) → first_due s.cells ≡ next → by_timer s next then_events ≡ then_events
       early None first = refl

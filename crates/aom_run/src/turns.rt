@@ -86,14 +86,20 @@ fn complete_due(machine: &mut Machine)
 fn next_event(machine: &Machine, events: &[TimedEvent]) -> Option<TimedEvent>
     ensures { result ≡ event_at events.now machine.now.parts.rest.delivered }
 {
-    events.get(machine.delivered() as usize).copied()
+    match events.get(machine.delivered() as usize) {
+        Some(event) => Some(*event),
+        None => None,
+    }
 }
 
 /// Whether the next event has come.
 fn has_come(machine: &Machine, events: &[TimedEvent]) -> bool
     ensures come { IsTrue result ↔ HasCome events.now machine.now }
 {
-    next_event(machine, events).is_some_and(|event| event.time <= machine.clock())
+    match next_event(machine, events) {
+        Some(event) => event.time <= machine.clock(),
+        None => false,
+    }
 }
 
 /// Each event that has come is heard, where no timer is due.
@@ -111,6 +117,6 @@ fn hear_due(machine: &mut Machine, events: &[TimedEvent])
     ensures falls { HasCome events.now machine.old → to_come events.now machine.new < to_come events.now machine.old }
 {
     while has_come(machine, events) {
-        machine.hear();
+        machine.hear_event();
     }
 }

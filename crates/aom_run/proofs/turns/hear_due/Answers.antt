@@ -4,28 +4,28 @@ use Rattle.aom_run.specs.Turns.{HasCome}
 use Rattle.aom_run.proofs.Between.{at_most_to_come, come_not, come_within, had_come, heard_far, heard_fewer, heard_none, heard_settles, less_to_come, none_settles, settles_both, stands_settled}
 use Rattle.aom_run.proofs.turns.hear_due.Goals as goal
 
-pub loop-init : goal.loop-init
-loop-init c = record { settled = none_settles c.args.events.now c.args.machine.now; stands = c.requires.stands; between = c.requires.between; none_due = c.requires.none_due; image = refl; timers = refl; fewer = inl refl }
+pub loop-machine-init : goal.loop-machine-init
+loop-machine-init c = record { settled = none_settles c.args.events.now c.args.machine.now; stands = c.requires.stands; between = c.requires.between; none_due = c.requires.none_due; image = refl; timers = refl; fewer = inl refl }
 
-pub hear-requires : goal.hear-requires
-hear-requires c =
-    let come = c.has_come.ensures.to c.loop-test.true in
-    let within = come_within c.args.events.now c.loop.machine come in
-    record { between = c.loop.invariant.between; few = omega (arith, within) }
+pub hear_event-requires : goal.hear_event-requires
+hear_event-requires c =
+    let come = c.has_come.ensures.to c.loop-machine-test.true in
+    let within = come_within c.args.events.now c.loop-machine.machine come in
+    record { between = c.loop-machine.invariant.between; few = omega (arith, within) }
 
-pub loop-smaller : goal.loop-smaller
-loop-smaller c =
-    let i = c.loop.invariant in
-    let e = c.hear.ensures in
-    heard_fewer c.args.events.now c.loop.machine c.hear.new.self i.none_due (c.has_come.ensures.to c.loop-test.true) e.heard e.rest e.back
+pub loop-machine-smaller : goal.loop-machine-smaller
+loop-machine-smaller c =
+    let i = c.loop-machine.invariant in
+    let e = c.hear_event.ensures in
+    heard_fewer c.args.events.now c.loop-machine.machine c.hear_event.new.self i.none_due (c.has_come.ensures.to c.loop-machine-test.true) e.heard e.rest e.back
 
-pub loop-preserved : goal.loop-preserved
-loop-preserved c =
-    let i = c.loop.invariant in
-    let m = c.loop.machine in
-    let new = c.hear.new.self in
-    let e = c.hear.ensures in
-    let come = c.has_come.ensures.to c.loop-test.true in
+pub loop-machine-preserved : goal.loop-machine-preserved
+loop-machine-preserved c =
+    let i = c.loop-machine.invariant in
+    let m = c.loop-machine.machine in
+    let new = c.hear_event.new.self in
+    let e = c.hear_event.ensures in
+    let come = c.has_come.ensures.to c.loop-machine-test.true in
     let then = heard_settles c.args.events.now m new i.none_due come e.heard e.rest e.back in
     record {
       settled = settles_both c.args.events.now c.args.machine.now m new i.image i.settled then;
@@ -39,8 +39,8 @@ loop-preserved c =
 
 pub returns : goal.returns
 returns c =
-    let i = c.loop.invariant in
-    let none = come_not c.args.events.now c.loop.machine (λ come. c.loop-test.false (c.has_come.ensures.from come)) in
+    let i = c.loop-machine.invariant in
+    let none = come_not c.args.events.now c.loop-machine.machine (λ come. c.loop-machine-test.false (c.has_come.ensures.from come)) in
     record {
       image = i.image;
       settled = i.settled;
@@ -48,6 +48,6 @@ returns c =
       none_due = i.none_due;
       none_come = none;
       timers = i.timers;
-      no_more = at_most_to_come c.args.events.now c.args.machine.now c.loop.machine i.fewer;
-      falls = had_come c.args.events.now c.args.machine.now c.loop.machine i.fewer none;
+      no_more = at_most_to_come c.args.events.now c.args.machine.now c.loop-machine.machine i.fewer;
+      falls = had_come c.args.events.now c.args.machine.now c.loop-machine.machine i.fewer none;
     }

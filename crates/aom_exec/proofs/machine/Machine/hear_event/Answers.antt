@@ -7,7 +7,7 @@ use Rattle.aom_exec.specs.Steps.{Machine, StandsFor, progress}
 use Rattle.aom_exec.specs.Turns.{TakesAll}
 use Rattle.aom_exec.proofs.Agreeing.{agrees_in_all}
 use Rattle.aom_exec.proofs.Turning.{hears_one, stands_back, takes_again}
-use Rattle.aom_exec.proofs.machine.Machine.hear.Goals as goal
+use Rattle.aom_exec.proofs.machine.Machine.hear_event.Goals as goal
 
 pub invariant_of-self : goal.invariant_of-self
 invariant_of-self c =
