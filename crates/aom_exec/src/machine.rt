@@ -1,9 +1,9 @@
 //! A machine over the image that it runs.
-ghost use Rattle.std.specs.Prelude.{◌≡◌, ◌<◌, ◌≤◌, ◌+◌, ◌↔◌, IfOk, IsTrue, length, option_map, true};
+ghost use Rattle.std.specs.Prelude.{◌≡◌, ◌<◌, ◌≤◌, ◌+◌, ◌↔◌, ◌⊎◌, IfOk, IsTrue, length, option_map, true};
 ghost use Rattle.aom_cells.specs.Heap.{count};
 ghost use Rattle.aom_sound.specs.World.{Cuts, Passes, Waits, boot_state, first_due};
 ghost use Rattle.aom_exec.specs.Agreement.{AgreesInAll};
-ghost use Rattle.aom_exec.specs.Steps.{StandsFor, Stepped, SteppedOn, progress, rank, timers};
+ghost use Rattle.aom_exec.specs.Steps.{StandsFor, Stepped, SteppedOn, Wants, progress, rank, timers};
 ghost use Rattle.aom_exec.specs.Turns.{Completed, Picked, TakesAll, due_at};
 ghost use Rattle.aom_sound.specs.State.{State};
 ghost use Rattle.aom_sound.specs.Wanted.{wanted};
@@ -72,13 +72,13 @@ impl<'a> Machine<'a> {
         self.parts.step(self.accepted.linked(), turn, 1)
     }
 
-    /// Steps until something is written or nothing is at hand.
+    /// Steps until something is written, nothing is at hand, or the next step asks something of a native. The first step alone hears one.
     pub fn step_on(&mut self, turn: &mut Turn) -> Progress
         requires room { length turn.old.lines + 2 < turn.old.room }
         ensures image { self.new.image ≡ self.old.image }
         ensures steps { SteppedOn self.old result turn.old turn.new self.new }
         ensures agrees { AgreesInAll self.new }
-        ensures told { result ≡ Running → length turn.old.lines < length turn.new.lines }
+        ensures told { result ≡ Running → (length turn.old.lines < length turn.new.lines) ⊎ Wants self.new }
         ensures falls { result ≡ Running → rank self.new < rank self.old }
     {
         self.parts.step_on(self.accepted.linked(), turn)

@@ -1,14 +1,14 @@
 //! What the next step asks of a native.
 ghost use Rattle.aom_cells.specs.Heap.{Lives, class_at};
 ghost use Rattle.aom_exec.specs.Places.{IsDestroying, going_here};
-ghost use Rattle.aom_exec.specs.Steps.{Stands, StandsFor};
+ghost use Rattle.aom_exec.specs.Steps.{Stands, StandsFor, Wants, WantsNothing};
 ghost use Rattle.aom_exec.specs.Wanted.{as_wanted, closes_open, wanted_of};
 ghost use Rattle.aom_frames.specs.Tasks.{Runs};
 ghost use Rattle.aom_roles.specs.Shapes.{kind_of};
 ghost use Rattle.aom_sound.specs.Natives.{native_of};
 ghost use Rattle.aom_sound.specs.State.{State};
 ghost use Rattle.aom_sound.specs.Wanted.{wanted};
-ghost use Rattle.std.specs.Prelude.{◌≡◌, ◌<◌, IfSome, Some, option_map};
+ghost use Rattle.std.specs.Prelude.{◌≡◌, ◌<◌, IfSome, Some, false, option_map, true};
 
 use crate::parts::Parts;
 use aom_cells::{CellId, NULL};
@@ -154,6 +154,22 @@ impl Parts {
         match self.serving(number, linked) {
             Some(native) => self.closing(native, id),
             None => None,
+        }
+    }
+
+    /// Whether the next step asks anything of a native, where the image names any.
+    pub fn asks(&self, linked: &Linked, has_natives: bool) -> bool
+        requires stands { Stands (record { image = linked.now; parts = self.now }) }
+        requires named { has_natives ≡ false → linked.now.header.natives ≡ 0 }
+        ensures wants { result ≡ true → Wants (record { image = linked.now; parts = self.now }) }
+        ensures quiet { result ≡ false → WantsNothing (record { image = linked.now; parts = self.now }) }
+    {
+        if !has_natives {
+            return false;
+        }
+        match self.wanted(linked) {
+            Some(_) => true,
+            None => false,
         }
     }
 
