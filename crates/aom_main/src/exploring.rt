@@ -80,7 +80,7 @@ fn last_of(
     ensures err { IfErr result (λ fault. fault ≡ Fault.Memory) }
 {
     let mut turn = Turn::new(alloc, accepted, refused)?;
-    let mut machine = Machine::boot(alloc, accepted)?;
+    let mut machine = Machine::boot(alloc, accepted, 0)?;
     let outcome = run(&mut machine, script, &mut turn, limit, &mut Nowhere);
     Ok(Last {
         ending: ending_of(outcome),

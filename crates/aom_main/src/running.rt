@@ -23,7 +23,7 @@ pub fn run_accepted<W: Sink>(
 {
     let refused = Vec::from_slice(alloc, script.refused())?;
     let mut turn = Turn::new(alloc, accepted, refused)?;
-    let mut machine = Machine::boot(alloc, accepted)?;
+    let mut machine = Machine::boot(alloc, accepted, 0)?;
     Ok(run(&mut machine, script, &mut turn, limit, out))
 }
 

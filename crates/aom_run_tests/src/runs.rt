@@ -43,7 +43,7 @@ fn accepted_of(alloc: Global, text: &str) -> Option<Accepted> {
 fn outcome_of(alloc: Global, text: &str, sink: &mut Page) -> Option<Outcome> {
     let accepted = accepted_of(alloc, text)?;
     let script = read_script(alloc, b"\n").ok()?;
-    let mut machine = Machine::boot(alloc, &accepted).ok()?;
+    let mut machine = Machine::boot(alloc, &accepted, 0).ok()?;
     let mut turn = Turn::new(alloc, &accepted, Vec::new(alloc)).ok()?;
     Some(run(&mut machine, &script, &mut turn, 1, sink))
 }
