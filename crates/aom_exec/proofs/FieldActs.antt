@@ -49,13 +49,13 @@ module _ (p : Image) (m : Parts) (h : At_hand p m) where
       lives.lives)
 
   -- the machine's number of it
-  this_is : this m ≡ home_number h.frame.home
+  pub this_is : this m ≡ home_number h.frame.home
   this_is = by_top p m h (λ us. this_here us ≡ home_number h.frame.home) (λ f ms top. top.frame.this)
 
   pub inside_number : (o : Object) (from : Place) → h.frame.home ≡ Inside o from → this m ≡ o.name
   inside_number o from e = this_is ∙ ap home_number e
 
-  inside_there : (o : Object) (from : Place) → h.frame.home ≡ Inside o from → this m ≢ null
+  pub inside_there : (o : Object) (from : Place) → h.frame.home ≡ Inside o from → this m ≢ null
   inside_there o from e n = none-some _ (sym (sym (housed o from e) ∙ ap (named h.state.cells) (sym (inside_number o from e) ∙ n) ∙ unnamed p m h.state null h.agrees h.agrees.cells.null_is_none))
 
   pub is_housed : ThisLives m

@@ -50,6 +50,7 @@ pub mod UnwindActs
 pub mod Settled
 pub mod Working
 pub mod Unwanted
+pub mod Wanting
 pub mod Many
 pub mod Agreeing
 pub mod Alike

@@ -149,7 +149,7 @@ pub record OnObject (p : Image) (m : Parts) (h : At_hand p m) : Type 0 where
   pub number : this m ≡ object.name
 
 -- the machine's cell is of the same kind
-kind_same : (p : Image) (c : Option Held_cell) (t : Thing) → thing_in c ≡ Some t → thing_kind p t ≡ kind_of p (class_of c)
+pub kind_same : (p : Image) (c : Option Held_cell) (t : Thing) → thing_in c ≡ Some t → thing_kind p t ≡ kind_of p (class_of c)
 kind_same p c t e = some_given (λ c. thing_in c ≡ Some t) c e (λ none. none-some _ none) (λ x is some. ap (thing_kind p) (sym (same_Some _ _ some)) ∙ ap (λ c. kind_of p (class_of c)) (sym is))
 
 module _ (p : Image) (m : Parts) (h : At_hand p m) where

@@ -1,5 +1,5 @@
 -- Where the image names no native, nothing is wanted of one.
-use Rattle.std.proofs.Common.{◌≡◌, ◌<◌, ◌∙◌, ℕ, List, ◌∷◌, [], Option, Some, None, refl, sym, ap, subst, length, slice_get, IsTrue, arith}
+use Rattle.std.proofs.Common.{◌≡◌, ◌<◌, ◌∙◌, ℕ, List, ◌∷◌, [], Option, Some, None, refl, sym, ap, subst, length, slice_get, arith}
 use Rattle.std.proofs.lemmas.Option.{same_Some, none-some}
 use Rattle.aom_image.specs.Image.{Image}
 use Rattle.aom_image.specs.Views.{class_at, instr_at}
@@ -10,9 +10,7 @@ use Rattle.aom_image.specs.declared.class.ClassKind.TheVariants.{Active as An_ac
 use Rattle.aom_image.specs.declared.class.Provider.TheVariants.{Native, Own, Timer}
 use Rattle.aom_image.specs.declared.method.Thing.{Thing}
 use Rattle.aom_image.specs.declared.method.Thing.TheVariants.{Object as An_object_of, Message}
-use Rattle.aom_image.specs.declared.image.Header.{Header}
 use Rattle.aom_classes.proofs.Facts.{all_there}
-use Rattle.aom_classes.specs.Admitted.{admits_header}
 use Rattle.aom_roles.specs.Classes.{kind_in}
 use Rattle.aom_roles.specs.Shapes.{kind_of}
 use Rattle.aom_instructions.specs.declared.instr.Instr.{Instr}
@@ -21,9 +19,6 @@ use Rattle.aom_sound.specs.Natives.{native_of}
 use Rattle.aom_sound.specs.Places.{Going, Object, held}
 use Rattle.aom_sound.specs.State.{AtRoot, Destroy, Dispatched, Frame, Home, Inside, Run, State, Static, Task, Trapped, Unwind}
 use Rattle.aom_sound.specs.Wanted.{wanted, wanted_at, wanted_by, wanted_going, wanted_gone, wanted_task}
-
-pub no_natives : (h : Header) → IsTrue (admits_header h) → h.natives ≡ 0
-no_natives h e = grind (arith, e)
 
 module _ (p : Image) (none_named : p.header.natives ≡ 0) (formed : WellFormed p) where
   kind_no_native : (k : ClassKind) → KindFits (length p.classes) p.header.natives k → native_of (Some k) ≡ None

@@ -19,3 +19,4 @@ pub mod Ends
 pub mod Cleanup
 pub mod Requests
 pub mod Natives
+pub mod Wanted

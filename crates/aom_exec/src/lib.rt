@@ -23,8 +23,10 @@ mod progress;
 mod requests;
 mod rest;
 mod turns;
+mod wanted;
 mod words;
 
 pub use fault::BootFault;
 pub use machine::Machine;
 pub use progress::Progress;
+pub use wanted::Wanted;

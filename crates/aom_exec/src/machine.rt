@@ -1,17 +1,20 @@
 //! A machine over the image that it runs.
-ghost use Rattle.std.specs.Prelude.{◌≡◌, ◌<◌, ◌≤◌, ◌+◌, ◌^◌, ◌↔◌, IfOk, IsTrue, length, suc, true};
+ghost use Rattle.std.specs.Prelude.{◌≡◌, ◌<◌, ◌≤◌, ◌+◌, ◌^◌, ◌↔◌, ◌⊎◌, IfOk, IsTrue, length, option_map, suc, true};
 ghost use Rattle.aom_cells.specs.Heap.{count};
 ghost use Rattle.aom_sound.specs.World.{Cuts, Hears, Passes, Waits, boot_state, due_of, first_due};
 ghost use Rattle.aom_exec.specs.Agreement.{AgreesInAll};
-ghost use Rattle.aom_exec.specs.Steps.{StandsFor, Stepped, SteppedOn, progress, rank, timers};
+ghost use Rattle.aom_exec.specs.Steps.{StandsFor, Stepped, SteppedOn, Wants, progress, rank, timers};
 ghost use Rattle.aom_exec.specs.Turns.{Completed, Picked, TakesAll};
 ghost use Rattle.aom_sound.specs.State.{State};
+ghost use Rattle.aom_sound.specs.Wanted.{wanted};
+ghost use Rattle.aom_exec.specs.Wanted.{as_wanted};
 ghost use Rattle.aom_steps.specs.Payers.{declared_of, payer};
 ghost use Rattle.aom_exec.specs.declared.progress.Progress.TheVariants.{Running, Turned};
 
 use crate::fault::BootFault;
 use crate::parts::Parts;
 use crate::progress::Progress;
+use crate::wanted::Wanted;
 use aom_budget::Accepted;
 use aom_lines::Turn;
 use std::alloc::Global;
@@ -69,16 +72,32 @@ impl<'a> Machine<'a> {
         self.parts.step(self.accepted.linked(), turn, 1)
     }
 
-    /// Steps until something is written or nothing is at hand.
+    /// Steps until something is written, nothing is at hand, or the next step asks something of a native. The first step alone hears one.
     pub fn step_on(&mut self, turn: &mut Turn) -> Progress
         requires room { length turn.old.lines + 2 < turn.old.room }
         ensures image { self.new.image ≡ self.old.image }
         ensures steps { SteppedOn self.old result turn.old turn.new self.new }
         ensures agrees { AgreesInAll self.new }
-        ensures told { result ≡ Running → length turn.old.lines < length turn.new.lines }
+        ensures told { result ≡ Running → (length turn.old.lines < length turn.new.lines) ⊎ Wants self.new }
         ensures falls { result ≡ Running → rank self.new < rank self.old }
     {
         self.parts.step_on(self.accepted.linked(), turn)
+    }
+
+    /// What the next step asks of a native, if it asks anything. The call is made before the step, which hears its answer.
+    pub fn wanted(&self) -> Option<Wanted>
+        ensures { (s : State) → StandsFor self.now s → wanted self.now.image s ≡ option_map as_wanted result }
+    {
+        self.parts.wanted(self.accepted.linked())
+    }
+
+    /// A native has answered that to what the next step asks.
+    pub fn hear(&mut self, answer: i32)
+        ensures heard { self.new ≡ record self.old { parts = record self.old.parts { heard = answer } } }
+        ensures stands { (s : State) → StandsFor self.old s → StandsFor self.new s }
+        ensures agrees { AgreesInAll self.new }
+    {
+        self.parts.heard = answer;
     }
 
     /// Between dispatches: the timer that is due first completes the request of its object, if it is due by now. Answers whether one was.

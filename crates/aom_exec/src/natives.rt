@@ -108,16 +108,16 @@ impl Parts {
         let id = self.cell();
         let native = self.native(linked);
         let is_dead = self.sessions.is_dead(native);
-        let answer = self.replied(id, is_dead);
-        self.write_word(to, answer);
+        let reply = self.replied(id, is_dead);
+        self.write_word(to, reply);
     }
 
     pub fn close_session(&mut self)
         requires { (p : Image) × IsNext p Close self.old }
         ensures { (refused : List ℕ) → Does refused Close self.old self.new }
     {
-        let id = self.cell();
-        self.sessions.close(id);
+        let own = self.cell();
+        self.sessions.close(own);
         self.next();
     }
 

@@ -12,6 +12,6 @@ native-native-requires-clause-native c = ask_served c.args.linked.now c.args.sel
 
 pub returns : goal.returns
 returns c = λ refused function word.
-    let fits : FitsSigned w32 c.replied-answer.result = search rules in
-    let writes = rw (to_z-of_z w32 c.replied-answer.result fits, c.replied-answer.ensures, c.is_dead-is_dead.ensures, c.cell-id.ensures) at c.write_word.ensures in
+    let fits : FitsSigned w32 c.replied-reply.result = search rules in
+    let writes = rw (to_z-of_z w32 c.replied-reply.result fits, c.replied-reply.ensures, c.is_dead-is_dead.ensures, c.cell-id.ensures) at c.write_word.ensures in
     ask_does c.args.linked.now c.args.self.now c.write_word.new.self refused c.native-native.result c.native-native.ensures c.args.to function word writes

@@ -1,6 +1,5 @@
-use Rattle.std.proofs.Common.{inl, ◌≤◌, length, refl, ap, subst, arith}
+use Rattle.std.proofs.Common.{inl, inr, ◌≤◌, length, refl, ap, subst, arith}
 use Rattle.aom_exec.specs.Steps.{SteppedOn, begins}
-use Rattle.aom_exec.proofs.Unwanted.{no_natives, unwanted}
 use Rattle.aom_exec.proofs.Many.{went_on, same_turn, then_steps, stands_on}
 use Rattle.aom_exec.proofs.parts.Parts.step_on.Goals as goal
 
@@ -18,7 +17,7 @@ loop-progress-preserved c =
     let falls = c.step-progress.ensures.falls c.in-Running.is in
     let lower = i.lower in
     record {
-      went = went_on p c.args.self.now c.loop-progress.self c.step-progress.new.self c.args.turn.now c.step-progress.new.turn c.step-progress.result i.went stepped c.in-Running.is less (λ s st. unwanted p (no_natives p.header st.sound.admitted.header) st.sound.formed s);
+      went = went_on p c.args.self.now c.loop-progress.self c.step-progress.new.self c.args.turn.now c.step-progress.new.turn c.step-progress.result i.went stepped c.in-Running.is less (c.asks.ensures.quiet c.if-asks.false);
       stands = stands_on p c.loop-progress.self c.step-progress.new.self c.args.turn.now c.step-progress.new.turn c.step-progress.result i.stands stepped;
       same = same_turn p c.loop-progress.self c.step-progress.new.self c.args.turn.now c.step-progress.new.turn c.step-progress.result i.stands stepped less;
       lower = omega (arith, falls, lower);
@@ -30,6 +29,27 @@ returns-then-lines-before-clause-steps c =
     let p = c.args.linked.now in
     let stepped = subst (λ t. SteppedOn (record { image = p; parts = c.loop-progress.self }) c.step-progress.result t c.step-progress.new.turn (record { image = p; parts = c.step-progress.new.self })) i.same c.step-progress.ensures.steps in
     then_steps p c.args.self.now c.loop-progress.self c.step-progress.new.self c.args.turn.now c.step-progress.new.turn c.step-progress.result i.went stepped
+
+pub asks-requires-clause-stands : goal.asks-requires-clause-stands
+asks-requires-clause-stands c =
+    let i = c.loop-progress.invariant in
+    let p = c.args.linked.now in
+    let stepped = subst (λ t. SteppedOn (record { image = p; parts = c.loop-progress.self }) c.step-progress.result t c.step-progress.new.turn (record { image = p; parts = c.step-progress.new.self })) i.same c.step-progress.ensures.steps in
+    stands_on p c.loop-progress.self c.step-progress.new.self c.args.turn.now c.step-progress.new.turn c.step-progress.result i.stands stepped
+
+pub returns-then-asks : goal.returns-then-asks
+returns-then-asks c =
+    let i = c.loop-progress.invariant in
+    let p = c.args.linked.now in
+    let stepped = subst (λ t. SteppedOn (record { image = p; parts = c.loop-progress.self }) c.step-progress.result t c.step-progress.new.turn (record { image = p; parts = c.step-progress.new.self })) i.same c.step-progress.ensures.steps in
+    let steps = then_steps p c.args.self.now c.loop-progress.self c.step-progress.new.self c.args.turn.now c.step-progress.new.turn c.step-progress.result i.went stepped in
+    let falls = c.step-progress.ensures.falls c.in-Running.is in
+    let lower = i.lower in
+    record {
+      steps = subst (λ is. SteppedOn (record { image = p; parts = c.args.self.now }) is c.args.turn.now c.step-progress.new.turn (record { image = p; parts = c.step-progress.new.self })) c.in-Running.is steps;
+      told = λ is. inr (c.asks.ensures.wants c.if-asks.true);
+      falls = λ is. omega (arith, falls, lower);
+    }
 
 pub returns-in_default : goal.returns-in_default
 returns-in_default c =

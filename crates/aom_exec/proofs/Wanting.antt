@@ -1,0 +1,212 @@
+-- What the machine finds that the next step asks of a native is what the checked machine wants.
+use Rattle.std.proofs.Common.{◌≡◌, ◌==◌, ◌&&◌, ◌||◌, ℕ, ℤ, Bool, true, false, not, cond, length, List, ◌∷◌, Option, Some, None, refl, sym, ap, ◌∙◌, subst, [], slice_get}
+use Rattle.std.specs.Prelude.{option_map, is_some}
+use Rattle.std.specs.List.{list_any}
+use Rattle.aom_image.specs.Image.{Image}
+use Rattle.aom_image.specs.Views.{instr_at}
+use Rattle.aom_instructions.specs.declared.instr.Instr.{Instr}
+use Rattle.aom_instructions.specs.declared.instr.Instr.TheVariants.{Abort, Ask, Close, Connect, Issue}
+use Rattle.aom_cells.specs.Heap.{class_at, class_of, null, Lives}
+use Rattle.aom_image.specs.Views.{class_at as declared_at}
+use Rattle.aom_image.specs.declared.class.ClassDecl.{ClassDecl}
+use Rattle.aom_roles.specs.Classes.{kind_in}
+use Rattle.aom_roles.specs.Shapes.{kind_of}
+use Rattle.aom_sessions.specs.Sessions.{is_killed, is_open}
+use Rattle.aom_sound.specs.Enlisted.{thing_kind}
+use Rattle.aom_sound.specs.Natives.{is_dead, is_owed, native_of}
+use Rattle.aom_sound.specs.Moves.{needs}
+use Rattle.aom_sound.specs.Places.{Going, Object, held as owned_at, in_session, named, requested}
+use Rattle.aom_sound.specs.State.{AtRoot, Choice, Destroy, Frame, Home, Inside, State, Static, Task, word}
+use Rattle.aom_sound.specs.Wanted.{Asks, Cancels, Closes, Opens, Starts, is_served, wanted, wanted_at, wanted_by, wanted_going, wanted_gone, wanted_here, wanted_task}
+use Rattle.aom_sound.specs.WellTyped.{Keeps}
+use Rattle.aom_shape.specs.Needs.{AllTrue}
+use Rattle.aom_sound.specs.Words.{read}
+use Rattle.aom_frames.specs.Tasks.{Runs, method_here, place_here}
+use Rattle.aom_exec.specs.declared.parts.Parts.{Parts}
+use Rattle.aom_exec.specs.declared.wanted.Wanted.{Wanted as Held_wanted}
+use Rattle.aom_exec.specs.declared.wanted.Wanted.TheVariants.{Open, Start, Ask as Held_ask, Cancel, Close as Held_close}
+use Rattle.aom_exec.specs.Acts.{At_hand, In_going}
+use Rattle.aom_exec.specs.Acts as acts
+use Rattle.aom_exec.specs.Places.{IsDestroying, going_here}
+use Rattle.aom_exec.specs.Agrees.{home_number, thing_of}
+use Rattle.aom_exec.specs.Fields.{this}
+use Rattle.aom_exec.specs.Steps.{Machine, StandsFor}
+use Rattle.aom_exec.specs.Wanted.{as_wanted, wanted_of, word_here}
+use Rattle.aom_exec.proofs.FieldActs.{housed, inside_number, inside_there, this_is}
+use Rattle.aom_exec.proofs.RequestActs.{kind_same}
+use Rattle.aom_exec.proofs.Finding.{object_lives}
+use Rattle.aom_exec.proofs.GoingActs.{by_going, number_of}
+use Rattle.aom_exec.proofs.Standing.{an_open}
+use Rattle.aom_exec.proofs.Stepping.{at_step, cell_found, frame_of, going_of, met, step_of_instr}
+use Rattle.aom_sound.proofs.Maps.{held_lives}
+use Rattle.aom_exec.proofs.WordActs.{word_read}
+
+both_not : (a b : Bool) → (not a && not b) ≡ not (a || b)
+both_not true b = refl
+both_not false b = refl
+
+mapped : (b : Bool) (w : Held_wanted) → cond b (Some (as_wanted w)) None ≡ option_map as_wanted (cond b (Some w) None)
+mapped true w = refl
+mapped false w = refl
+
+module _ (p : Image) (m : Parts) (s : State) (st : StandsFor (record { image = p; parts = m }) s) (runs : Runs m.stack.tasks) where
+  abbrev h : At_hand p m
+  h =
+      let f = frame_of m.stack.tasks s.tasks runs st.agrees.tasks in
+      record { typing = st.typing; state = s; frame = f.0; below = f.1; top = f.2; wired = st.sound.wired; admitted = st.sound.admitted; typed = st.typed; agrees = st.agrees }
+
+  by_home : wanted p s ≡ wanted_by s p h.frame h.below h.frame.home (instr_at p h.frame.method h.frame.place)
+  by_home = ap (wanted_task s p) h.top
+
+  -- what works on no cell wants nothing
+  pub null_wants : this m ≡ null → wanted p s ≡ None
+  null_wants none = by_home ∙ go h.frame.home refl
+    where
+      go : (home : Home) → h.frame.home ≡ home → wanted_by s p h.frame h.below home (instr_at p h.frame.method h.frame.place) ≡ None
+      go Static e = refl
+      go AtRoot e = refl
+      go (Inside o from) e = absurd (inside_there p m h o from e none)
+
+  kind_told : (o : Object) → this m ≡ o.name → named s.cells o.name ≡ Some o → native_of (thing_kind p o.thing) ≡ native_of (kind_of p (class_at m.cells (this m)))
+  kind_told o number lives = ap native_of (kind_same p _ o.thing (st.agrees.cells.things (this m) ∙ ap thing_of (ap (named s.cells) number ∙ lives)))
+
+  pub unserved_wants : native_of (kind_of p (class_at m.cells (this m))) ≡ None → wanted p s ≡ None
+  unserved_wants none = by_home ∙ go h.frame.home refl
+    where
+      go : (home : Home) → h.frame.home ≡ home → wanted_by s p h.frame h.below home (instr_at p h.frame.method h.frame.place) ≡ None
+      go Static e = refl
+      go AtRoot e = refl
+      go (Inside o from) e =
+          ap (λ n. wanted_at s h.frame h.below o n (instr_at p h.frame.method h.frame.place)) (kind_told o (inside_number p m h o from e) (housed p m h o from e) ∙ none)
+
+  -- the instruction that is next, and its needs
+  module _ (i : Instr) (here : instr_at p (method_here m.stack.tasks) (place_here m.stack.tasks) ≡ Some i) where
+    found : instr_at p h.frame.method h.frame.place ≡ Some i
+    found =
+        let f = frame_of m.stack.tasks s.tasks runs st.agrees.tasks in
+        ap (λ k. instr_at p k f.0.place) (sym f.3) ∙ ap (λ k. instr_at p (method_here m.stack.tasks) k) (sym f.4) ∙ here
+
+    needed : (c : Choice) × AllTrue (needs p c h.frame h.below (acts.requested i (at_step s)) i)
+    needed =
+        let c = an_open p [] m s st.agrees in
+        let k = met p st.typing _ _ (subst (Keeps p st.typing) (step_of_instr p c.0 s h.frame h.below i h.top found) (st.sound.keeps c.0 s st.typed c.1.name)) in
+        (c.0, k.0)
+
+  -- what the native of the cell is asked
+  module _ (n : ℕ) (owed : Bool) (owes : owed ≡ is_owed (requested s.cells (this m))) where
+    abbrev id : ℕ
+    id = this m
+
+    dead : is_dead s.killed n ≡ is_killed m.sessions n
+    dead = sym (ap (λ ks. list_any (λ k. k == n) ks) st.agrees.natives.dead)
+
+    session : in_session s.cells id ≡ is_open m.sessions id
+    session = sym (st.agrees.natives.sessions id)
+
+    served : is_served s n id ≡ (not (is_killed m.sessions n) && is_open m.sessions id)
+    served = ap (λ d. not d && in_session s.cells id) dead ∙ ap (λ b. not (is_killed m.sessions n) && b) session
+
+    word_told : (b : ℕ) → is_some (word h.frame b) ≡ true → read h.frame h.below s b ≡ word_here m b
+    word_told b some = sym (word_read p m h b some)
+
+    wanted_so : (i : Instr) → instr_at p (method_here m.stack.tasks) (place_here m.stack.tasks) ≡ Some i → wanted_here s h.frame h.below n id i ≡ option_map as_wanted (wanted_of m owed n id i)
+    wanted_so (Connect a) here =
+        ap (λ b. cond b (Some (Opens n id)) None) (ap (λ d. not (d || in_session s.cells id)) dead ∙ ap (λ b. not (is_killed m.sessions n || b)) session ∙ sym (both_not (is_killed m.sessions n) (is_open m.sessions id)))
+        ∙ mapped (not (is_killed m.sessions n) && not (is_open m.sessions id)) (Open n id)
+    wanted_so (Issue a b) here =
+        let k = needed (Issue a b) here in
+        ap (λ x. cond x (Some (Starts n id (read h.frame h.below s b) (read h.frame h.below s a))) None) served
+        ∙ ap (λ v. cond (not (is_killed m.sessions n) && is_open m.sessions id) (Some (Starts n id v (read h.frame h.below s a))) None) (word_told b k.1.1.0)
+        ∙ ap (λ v. cond (not (is_killed m.sessions n) && is_open m.sessions id) (Some (Starts n id (word_here m b) v)) None) (word_told a k.1.0)
+        ∙ mapped (not (is_killed m.sessions n) && is_open m.sessions id) (Start n id (word_here m b) (word_here m a))
+    wanted_so (Ask a b x) here =
+        let k = needed (Ask a b x) here in
+        ap (λ y. cond y (Some (Asks n id (read h.frame h.below s b) (read h.frame h.below s x))) None) served
+        ∙ ap (λ v. cond (not (is_killed m.sessions n) && is_open m.sessions id) (Some (Asks n id v (read h.frame h.below s x))) None) (word_told b k.1.0)
+        ∙ ap (λ v. cond (not (is_killed m.sessions n) && is_open m.sessions id) (Some (Asks n id (word_here m b) v)) None) (word_told x k.1.1.0)
+        ∙ mapped (not (is_killed m.sessions n) && is_open m.sessions id) (Held_ask n id (word_here m b) (word_here m x))
+    wanted_so Abort here = ap (λ b. cond b (Some (Cancels n id)) None) (sym owes) ∙ mapped owed (Cancel n id)
+    wanted_so Close here = ap (λ b. cond b (Some (Closes n id)) None) session ∙ mapped (is_open m.sessions id) (Held_close n id)
+    wanted_so i here = refl
+
+    pub served_wants : (id ≡ null → ⊥) → native_of (kind_of p (class_at m.cells id)) ≡ Some n → (i : Instr) → instr_at p (method_here m.stack.tasks) (place_here m.stack.tasks) ≡ Some i → wanted p s ≡ option_map as_wanted (wanted_of m owed n id i)
+    served_wants some serves i here = by_home ∙ ap (wanted_by s p h.frame h.below h.frame.home) (found i here) ∙ go h.frame.home refl
+      where
+        go : (home : Home) → h.frame.home ≡ home → wanted_by s p h.frame h.below home (Some i) ≡ option_map as_wanted (wanted_of m owed n id i)
+        go Static e = absurd (some (this_is p m h ∙ ap home_number e))
+        go AtRoot e = absurd (some (this_is p m h ∙ ap home_number e))
+        go (Inside o from) e =
+            let number = inside_number p m h o from e in
+            ap (λ k. wanted_at s h.frame h.below o k (Some i)) (kind_told o number (housed p m h o from e) ∙ serves)
+            ∙ ap (λ name. wanted_here s h.frame h.below n name i) (sym number) ∙ wanted_so i here
+
+-- ---- the going of a cell
+
+module _ (p : Image) (m : Parts) (s : State) (st : StandsFor (record { image = p; parts = m }) s) (destroying : IsDestroying m.stack.tasks) where
+  below : List Task
+  below = (going_of m.stack.tasks s.tasks destroying st.agrees.tasks).0
+
+  top : s.tasks ≡ Destroy ∷ below
+  unfolding below
+  top = (going_of m.stack.tasks s.tasks destroying st.agrees.tasks).1
+
+  object : (o : Object) × (owned_at s.cells (Going (length below)) ≡ Some o)
+  object = let k = cell_found p m st.typing s below st.sound st.typed st.agrees top in (k.0, k.1)
+
+  hand : In_going p m
+  hand = record { typing = st.typing; state = s; below = below; top = top; typed = st.typed; agrees = st.agrees }
+
+  number : going_here m.stack.tasks ≡ object.0.name
+  unfolding hand
+  number = by_going p m hand (λ us. going_here us ≡ object.0.name) (λ x ms over. number_of p m hand object.0 x ms over object.1)
+
+  wanted_is : wanted p s ≡ wanted_going s object.0 (native_of (kind_of p (class_at m.cells (going_here m.stack.tasks))))
+  wanted_is =
+      let o = object.0 in
+      let lives = held_lives s.cells _ o st.typed.good.tidy object.1 in
+      let kind = kind_same p _ o.thing (st.agrees.cells.things (going_here m.stack.tasks) ∙ ap thing_of (ap (named s.cells) number ∙ lives)) in
+      ap (wanted_task s p) top ∙ ap (wanted_gone s p) object.1 ∙ ap (wanted_going s o) (ap native_of kind)
+
+  pub going_lives : Lives m.cells (going_here m.stack.tasks)
+  going_lives = object_lives p m st.typing s st.typed st.agrees _ object.0 _ object.1 number
+
+  pub nothing_going : native_of (kind_of p (class_at m.cells (going_here m.stack.tasks))) ≡ None → wanted p s ≡ None
+  nothing_going none = wanted_is ∙ ap (wanted_going s object.0) none
+
+  pub closes_going : (n : ℕ) → native_of (kind_of p (class_at m.cells (going_here m.stack.tasks))) ≡ Some n → wanted p s ≡ option_map as_wanted (cond (is_open m.sessions (going_here m.stack.tasks)) (Some (Held_close n (going_here m.stack.tasks))) None)
+  closes_going n serves =
+      wanted_is ∙ ap (wanted_going s object.0) serves
+      ∙ ap (λ k. cond (in_session s.cells k) (Some (Closes n k)) None) (sym number)
+      ∙ ap (λ b. cond b (Some (Closes n (going_here m.stack.tasks))) None) (sym (st.agrees.natives.sessions (going_here m.stack.tasks)))
+      ∙ mapped (is_open m.sessions (going_here m.stack.tasks)) (Held_close n (going_here m.stack.tasks))
+
+-- ---- the class of a cell
+
+pub kind_in_image : (p : Image) (class : Option ℕ) (c : ℕ) (o : Option ClassDecl) → class ≡ Some c → slice_get p.classes c ≡ o → kind_of p class ≡ kind_in o
+unfolding kind_of declared_at
+kind_in_image p class c o is there = ap (kind_of p) is ∙ ap kind_in there
+
+pub native_missing : native_of (kind_in None) ≡ None
+unfolding kind_in
+native_missing = refl
+
+pub native_declared : (d : ClassDecl) → native_of (kind_in (Some d)) ≡ native_of (Some d.kind)
+unfolding kind_in
+native_declared d = refl
+
+-- ---- what a native has answered changes no state
+
+pub heard_stands : (p : Image) (m : Parts) (answer : ℤ) (s : State) → StandsFor (record { image = p; parts = m }) s → StandsFor (record { image = p; parts = record m { heard = answer } }) s
+heard_stands p m answer s st =
+    let a = st.agrees in
+    record {
+      typing = st.typing;
+      sound = st.sound;
+      typed = st.typed;
+      calm = st.calm;
+      traps = st.traps;
+      room = st.room;
+      waits = st.waits;
+      within = st.within;
+      agrees = record { tasks = a.tasks; values = a.values; cells = a.cells; entries = a.entries; requests = a.requests; natives = a.natives; rest = a.rest; room = a.room; entry_room = a.entry_room };
+    }

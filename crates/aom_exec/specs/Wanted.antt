@@ -1,0 +1,36 @@
+-- What the next step asks of a native, in the machine's numbers.
+use Rattle.std.specs.Prelude.{ℕ, ℤ, Bool, ◌&&◌, not, cond, Option, Some, None}
+use Rattle.std.specs.Int.{w32, cast_signed}
+use Rattle.aom_instructions.specs.declared.instr.Instr.{Instr}
+use Rattle.aom_instructions.specs.declared.instr.Instr.TheVariants.{Abort as Aborts, Ask as Asks_native, Close as Closes_session, Connect as Connects, Issue as Issues}
+use Rattle.aom_frames.specs.Tasks.{register_here}
+use Rattle.aom_sessions.specs.Sessions.{is_killed, is_open}
+use Rattle.aom_sound.specs.Wanted.{Wanted, Opens, Starts, Asks, Cancels, Closes}
+use Rattle.aom_exec.specs.declared.parts.Parts.{Parts}
+use Rattle.aom_exec.specs.declared.wanted.Wanted.{Wanted as Held_wanted}
+use Rattle.aom_exec.specs.declared.wanted.Wanted.TheVariants.{Open, Start, Ask, Cancel, Close}
+
+-- the same, as the checked machine says it
+abbrev pub as_wanted : Held_wanted → Wanted
+as_wanted (Open native id) = Opens native id
+as_wanted (Start native id function word) = Starts native id function word
+as_wanted (Ask native id function word) = Asks native id function word
+as_wanted (Cancel native id) = Cancels native id
+as_wanted (Close native id) = Closes native id
+
+-- the word in a register of the method that runs
+abbrev pub word_here : Parts → ℕ → ℤ
+word_here m a = cast_signed w32 (register_here m.stack.tasks a)
+
+-- of an instruction of a method that works on the cell of that number, which that native serves
+abbrev pub wanted_of : Parts → (owed : Bool) → (native id : ℕ) → Instr → Option Held_wanted
+wanted_of m owed n id (Connects a) = cond (not (is_killed m.sessions n) && not (is_open m.sessions id)) (Some (Open n id)) None
+wanted_of m owed n id (Issues a b) = cond (not (is_killed m.sessions n) && is_open m.sessions id) (Some (Start n id (word_here m b) (word_here m a))) None
+wanted_of m owed n id (Asks_native a b x) = cond (not (is_killed m.sessions n) && is_open m.sessions id) (Some (Ask n id (word_here m b) (word_here m x))) None
+wanted_of m owed n id Aborts = cond owed (Some (Cancel n id)) None
+wanted_of m owed n id Closes_session = cond (is_open m.sessions id) (Some (Close n id)) None
+wanted_of m owed n id i = None
+
+-- of a cell that goes
+abbrev pub closes_open : Parts → (native id : ℕ) → Option Held_wanted
+closes_open m n id = cond (is_open m.sessions id) (Some (Close n id)) None
