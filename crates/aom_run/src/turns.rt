@@ -94,7 +94,7 @@ fn next_event(machine: &Machine, events: &[TimedEvent]) -> Option<TimedEvent>
 
 /// Whether the next event has come.
 fn has_come(machine: &Machine, events: &[TimedEvent]) -> bool
-    ensures come { IsTrue result ↔ HasCome events.now machine.now }
+    ensures { IsTrue result ↔ HasCome events.now machine.now }
 {
     match next_event(machine, events) {
         Some(event) => event.time <= machine.clock(),

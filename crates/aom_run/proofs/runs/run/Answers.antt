@@ -1,13 +1,20 @@
+use Rattle.std.proofs.Common.{◌≡◌, List, subst, true}
+use Rattle.aom_transcript.specs.declared.event.TimedEvent.{TimedEvent}
+use Rattle.aom_run.specs.Runs.{CutShort, Ended}
+use Rattle.aom_run.specs.Turns.{hearing}
 use Rattle.aom_run.proofs.Running.{ran}
 use Rattle.aom_run.proofs.runs.run.Goals as goal
 
 pub returns-in-Some-clause-ran : goal.returns-in-Some-clause-ran
 returns-in-Some-clause-ran g c =
     let finish = c.finish.ensures in
-    ran c.args.machine.now c.run_lines.new.machine _ _ _ _ _ _ c.in-Some.ensures.some c.finish.result finish.fault finish.outcome finish.prefix finish.whole
+    let run = subst (λ (es : List TimedEvent). Ended c.args.machine.now.image (hearing c.args.turn.now.refused c.args.limit es) c.in-Some.ending (g.W.Sink.out c.args.out.now) (g.W.Sink.out c.run_lines.new.out) c.run_lines.new.machine) c.events.ensures c.in-Some.ensures.some in
+    ran c.args.machine.now c.run_lines.new.machine _ _ _ _ _ _ run c.finish.result finish.fault finish.outcome finish.prefix finish.whole
 
 pub returns-in-None-clause-ran : goal.returns-in-None-clause-ran
-returns-in-None-clause-ran g c = c.in-None.ensures.none
+returns-in-None-clause-ran g c =
+    let cut = λ (es : List TimedEvent). (g.W.Sink.failed c.run_lines.new.out ≡ true) × CutShort c.args.machine.now.image (hearing c.args.turn.now.refused c.args.limit es) (g.W.Sink.out c.args.out.now) (g.W.Sink.out c.run_lines.new.out) in
+    subst cut c.events.ensures c.in-None.ensures.none
 
 pub returns-in-None-clause-determined : goal.returns-in-None-clause-determined
 returns-in-None-clause-determined g c = c.text_is_determined.ensures _ c.requires.fresh.typing _ c.requires.fresh.sound.wired c.requires.fresh.sound.typed

@@ -1,5 +1,6 @@
 -- Each event that has come is heard.
-use Rattle.std.proofs.Common.{arith, inl, inr, refl, subst, ◌∙◌, ◌≡◌, ◌<◌, length}
+use Rattle.std.proofs.lemmas.Bool.{true≢false}
+use Rattle.std.proofs.Common.{arith, inl, inr, refl, subst, sym, ◌∙◌, ◌≡◌, ◌<◌, length}
 use Rattle.aom_run.specs.Turns.{HasCome}
 use Rattle.aom_run.proofs.Between.{at_most_to_come, come_not, come_within, had_come, heard_far, heard_fewer, heard_none, heard_settles, less_to_come, none_settles, settles_both, stands_settled}
 use Rattle.aom_run.proofs.turns.hear_due.Goals as goal
@@ -9,7 +10,7 @@ loop-machine-init c = record { settled = none_settles c.args.events.now c.args.m
 
 pub hear_event-requires : goal.hear_event-requires
 hear_event-requires c =
-    let come = c.has_come.ensures.to c.loop-machine-test.true in
+    let come = c.has_come.ensures.0 c.loop-machine-test.true in
     let within = come_within c.args.events.now c.loop-machine.machine come in
     record { between = c.loop-machine.invariant.between; few = omega (arith, within) }
 
@@ -17,7 +18,7 @@ pub loop-machine-smaller : goal.loop-machine-smaller
 loop-machine-smaller c =
     let i = c.loop-machine.invariant in
     let e = c.hear_event.ensures in
-    heard_fewer c.args.events.now c.loop-machine.machine c.hear_event.new.self i.none_due (c.has_come.ensures.to c.loop-machine-test.true) e.heard e.rest e.back
+    heard_fewer c.args.events.now c.loop-machine.machine c.hear_event.new.self i.none_due (c.has_come.ensures.0 c.loop-machine-test.true) e.heard e.rest e.back
 
 pub loop-machine-preserved : goal.loop-machine-preserved
 loop-machine-preserved c =
@@ -25,7 +26,7 @@ loop-machine-preserved c =
     let m = c.loop-machine.machine in
     let new = c.hear_event.new.self in
     let e = c.hear_event.ensures in
-    let come = c.has_come.ensures.to c.loop-machine-test.true in
+    let come = c.has_come.ensures.0 c.loop-machine-test.true in
     let then = heard_settles c.args.events.now m new i.none_due come e.heard e.rest e.back in
     record {
       settled = settles_both c.args.events.now c.args.machine.now m new i.image i.settled then;
@@ -40,7 +41,7 @@ loop-machine-preserved c =
 pub returns : goal.returns
 returns c =
     let i = c.loop-machine.invariant in
-    let none = come_not c.args.events.now c.loop-machine.machine (λ come. c.loop-machine-test.false (c.has_come.ensures.from come)) in
+    let none = come_not c.args.events.now c.loop-machine.machine (λ come. true≢false (sym (c.has_come.ensures.1 come) ∙ c.loop-machine-test.false)) in
     record {
       image = i.image;
       settled = i.settled;
