@@ -1,5 +1,9 @@
 -- What is known of an outcome, of a script and of the image is what the status answers.
-use Rattle.std.proofs.Common.{◌≡◌, ◌∙◌, List, ℕ, Ok, true, false, ap, length, refl, sym, subst, inl, inr}
+use Rattle.std.proofs.Common.{◌≡◌, ◌∙◌, List, None, ℕ, Ok, true, false, ap, length, pos, refl, sym, subst, inl, inr}
+use Rattle.std.proofs.lemmas.Bool.{eqb-true}
+use Rattle.aom_transcript.specs.declared.line.Line.{Line}
+use Rattle.aom_sound.specs.State.{State}
+use Rattle.aom_sound.specs.World.{Reaches, boot_state}
 use Rattle.std.specs.Prelude.{◌⊎◌}
 use Rattle.aom_image.specs.Image.{Image}
 use Rattle.aom_classes.specs.Linked.{IsLinked}
@@ -11,6 +15,8 @@ use Rattle.aom_prices.specs.Prices.{Prices}
 use Rattle.aom_sound.specs.Laws.{LinkedIsWired}
 use Rattle.aom_transcript.specs.declared.line.Ending.{Ending}
 use Rattle.aom_transcript.specs.declared.line.Ending.TheVariants as endings
+use Rattle.aom_determined.proofs.Polling.{nothing_is_heard}
+use Rattle.aom_determined.specs.Hearing.{Follows, Oracle}
 use Rattle.aom_determined.specs.Laws.{TextIsDetermined}
 use Rattle.aom_determined.proofs.Alike.{alike_counted}
 use Rattle.aom_transcript.specs.Text.{transcript}
@@ -65,10 +71,19 @@ runs_of bytes text limit p script acceptable well spelled denotes =
       determined = well.one bytes spelled (outside_of script limit);
     }
 
+-- an image that is admitted names no native, so nothing is heard of any
+silence : Oracle
+silence = record { answers = λ n. pos 0; completes = λ n. None }
+
+unheard : (bytes text : List ℕ) (limit : ℕ) (r : Runs bytes text limit) (lines : List Line) (s : State) (reached : Reaches r.image (outside_of r.script limit) (boot_state r.image) lines s) → Follows silence reached
+unheard bytes text limit r lines s reached =
+    let none = nothing_is_heard.unnamed r.image r.spelled.formed (eqb-true r.image.header.natives 0 r.acceptable.admitted.header) in
+    nothing_is_heard.without r.image (outside_of r.script limit) none refl silence (boot_state r.image) lines s reached
+
 -- what went out is what each run that ends has written
 only : (bytes text : List ℕ) (limit : ℕ) (r : Runs bytes text limit) (ending : Ending) (out : Sent) → Transcribed r.image (outside_of r.script limit) ending out → IsOnly r.image (outside_of r.script limit) ending out
 only bytes text limit r ending out shows lines last other run =
-    let same = r.determined.ended shows.lines lines shows.last last ending other shows.run run in (
+    let same = r.determined.ended silence shows.lines lines shows.last last ending other shows.run run (unheard bytes text limit r shows.lines shows.last shows.run.reaches) (unheard bytes text limit r lines last run.reaches) in (
       sym same.1,
       shows.out
           ∙ ap (λ ls. after out.before (transcript ls ending (length shows.last.cells))) same.0
