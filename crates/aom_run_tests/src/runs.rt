@@ -69,7 +69,10 @@ fn a_run_is_told(rt: HostRuntime) -> Result<(), Fail> {
         (STOPS, 0, Outcome::WriteFault, ""),
     ] {
         let mut sink = with_room(&rt, room);
-        assert_eq!(rt; outcome_of(rt.alloc(), text, "\n", &mut sink), Some(outcome));
+        assert_eq!(rt;
+            outcome_of(rt.alloc(), text, "\n", &mut sink),
+            Some(outcome)
+        );
         assert_eq!(rt; sink.text.as_slice(), transcript.as_bytes());
     }
     Ok(())
@@ -79,8 +82,14 @@ fn a_run_is_told(rt: HostRuntime) -> Result<(), Fail> {
 fn a_run_hears_events_of_natives_that_are_not_there(rt: HostRuntime) -> Result<(), Fail> {
     let events = "0 kill 3\n4 event 0 9\n4 kill 0\n1000000000000000 event 15 -1\n";
     let mut sink = with_room(&rt, 100);
-    assert_eq!(rt; outcome_of(rt.alloc(), WAITS, events, &mut sink), Some(Outcome::Waiting));
-    assert_eq!(rt; sink.text.as_slice(), b"@0 main\nout 7\nend waiting cells 0\n".as_slice());
+    assert_eq!(rt;
+        outcome_of(rt.alloc(), WAITS, events, &mut sink),
+        Some(Outcome::Waiting)
+    );
+    assert_eq!(rt;
+        sink.text.as_slice(),
+        b"@0 main\nout 7\nend waiting cells 0\n".as_slice()
+    );
     Ok(())
 }
 
