@@ -1,6 +1,6 @@
 -- What is left between dispatches: timers that run, events to come, natives to poll. Each turn that dispatches nothing takes of it.
-use Rattle.std.proofs.Common.{◌≡◌, ◌<◌, ◌≤◌, ◌+◌, ◌-◌, ◌*◌, ◌==◌, ℕ, zero, suc, ℤ, Bool, true, false, List, [], ◌∷◌, Option, Some, None, ap, arith, cond, length, refl, sym, ◌∙◌}
-use Rattle.std.specs.Prelude.{is_some, map, min, nat_le, not, ◌||◌}
+use Rattle.std.proofs.Common.{◌≡◌, ◌<◌, ◌≤◌, ◌+◌, ◌-◌, ◌*◌, ◌==◌, ℕ, zero, suc, ℤ, Bool, true, false, List, [], ◌∷◌, Option, Some, None, ap, arith, cond, length, refl, ◌∙◌}
+use Rattle.std.specs.Prelude.{is_some, min, nat_le, not, ◌||◌}
 use Rattle.std.proofs.lemmas.Bool.{le-leb, leb-false, leb-true}
 use Rattle.aom_active.proofs.Dues.{running}
 use Rattle.aom_active.specs.Agrees.{timer_in}

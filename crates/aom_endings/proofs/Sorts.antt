@@ -1,5 +1,5 @@
 -- What a turn is, by what is due, what has come, what is left to poll and what is ready.
-use Rattle.std.proofs.Common.{◌≡◌, ◌<◌, ◌≤◌, ◌-◌, ◌+◌, ℕ, Bool, true, false, Option, Some, None, ap, arith, cond, refl, sym, subst, ◌∙◌}
+use Rattle.std.proofs.Common.{◌≡◌, ◌<◌, ◌≤◌, ◌-◌, ◌+◌, ℕ, Bool, true, false, Option, Some, None, ap, cond, refl, ◌∙◌}
 use Rattle.std.specs.Prelude.{nat_le}
 use Rattle.std.proofs.lemmas.Bool.{leb-false}
 use Rattle.aom_sound.specs.State.{State}

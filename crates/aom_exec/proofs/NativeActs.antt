@@ -11,10 +11,10 @@ use Rattle.aom_rules.specs.Natives.{is_native_kind}
 use Rattle.aom_rules.specs.Requests.{is_active_kind, is_listed_kind}
 use Rattle.aom_shape.specs.Tables.{put_at}
 use Rattle.aom_sessions.specs.Sessions.{Sets, Standing, is_killed, is_open}
-use Rattle.aom_sound.specs.Effects.{Sessioned, applied, heard, sets, updates}
+use Rattle.aom_sound.specs.Effects.{Sessioned, applied, sets, updates}
 use Rattle.aom_sound.specs.Natives.{connected, native_of, opens, replied, resessioned}
 use Rattle.aom_sound.specs.Places.{Register, held}
-use Rattle.aom_sound.specs.State.{Choice, Rest, Run}
+use Rattle.aom_sound.specs.State.{Rest, Run}
 use Rattle.aom_sound.proofs.Requesting.{active_listed}
 use Rattle.aom_sound.proofs.Storing.{resessioned_alike, resessioned_requests}
 use Rattle.aom_frames.specs.Tasks.{on_top, with_register}

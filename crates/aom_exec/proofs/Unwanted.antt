@@ -1,6 +1,5 @@
 -- Where the image names no native, nothing is wanted of one.
-use Rattle.std.proofs.Common.{◌≡◌, ◌<◌, ◌∙◌, ℕ, List, ◌∷◌, [], Option, Some, None, refl, sym, ap, subst, length, slice_get, arith}
-use Rattle.std.proofs.lemmas.Option.{same_Some, none-some}
+use Rattle.std.proofs.Common.{◌≡◌, ◌<◌, ℕ, List, ◌∷◌, [], Option, Some, None, refl, ap, length, slice_get, arith}
 use Rattle.aom_image.specs.Image.{Image}
 use Rattle.aom_image.specs.Views.{class_at, instr_at}
 use Rattle.aom_image.specs.WellFormed.{ClassFits, KindFits, WellFormed}

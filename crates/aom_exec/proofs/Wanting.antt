@@ -6,7 +6,7 @@ use Rattle.aom_image.specs.Image.{Image}
 use Rattle.aom_image.specs.Views.{instr_at}
 use Rattle.aom_instructions.specs.declared.instr.Instr.{Instr}
 use Rattle.aom_instructions.specs.declared.instr.Instr.TheVariants.{Abort, Ask, Close, Connect, Issue}
-use Rattle.aom_cells.specs.Heap.{class_at, class_of, null, Lives}
+use Rattle.aom_cells.specs.Heap.{class_at, null, Lives}
 use Rattle.aom_image.specs.Views.{class_at as declared_at}
 use Rattle.aom_image.specs.declared.class.ClassDecl.{ClassDecl}
 use Rattle.aom_roles.specs.Classes.{kind_in}
@@ -16,7 +16,7 @@ use Rattle.aom_sound.specs.Enlisted.{thing_kind}
 use Rattle.aom_sound.specs.Natives.{is_dead, is_owed, native_of}
 use Rattle.aom_sound.specs.Moves.{needs}
 use Rattle.aom_sound.specs.Places.{Going, Object, held as owned_at, in_session, named, requested}
-use Rattle.aom_sound.specs.State.{AtRoot, Choice, Destroy, Frame, Home, Inside, State, Static, Task, word}
+use Rattle.aom_sound.specs.State.{AtRoot, Choice, Destroy, Home, Inside, State, Static, Task, word}
 use Rattle.aom_sound.specs.Wanted.{Asks, Cancels, Closes, Opens, Starts, is_served, wanted, wanted_at, wanted_by, wanted_going, wanted_gone, wanted_here, wanted_task}
 use Rattle.aom_sound.specs.WellTyped.{Keeps}
 use Rattle.aom_shape.specs.Needs.{AllTrue}
@@ -30,7 +30,7 @@ use Rattle.aom_exec.specs.Acts as acts
 use Rattle.aom_exec.specs.Places.{IsDestroying, going_here}
 use Rattle.aom_exec.specs.Agrees.{home_number, thing_of}
 use Rattle.aom_exec.specs.Fields.{this}
-use Rattle.aom_exec.specs.Steps.{Machine, StandsFor}
+use Rattle.aom_exec.specs.Steps.{StandsFor}
 use Rattle.aom_exec.specs.Wanted.{as_wanted, wanted_of, word_here}
 use Rattle.aom_exec.proofs.FieldActs.{housed, inside_number, inside_there, this_is}
 use Rattle.aom_exec.proofs.RequestActs.{kind_same}

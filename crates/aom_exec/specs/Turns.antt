@@ -1,5 +1,5 @@
 -- The parts of a turn, as a machine takes them one by one between dispatches.
-use Rattle.std.specs.Prelude.{◌≡◌, ◌<◌, ◌≤◌, ◌++◌, ℕ, ℤ, Bool, true, false, [], ◌∷◌, Option, Some, None, IsSome}
+use Rattle.std.specs.Prelude.{◌≡◌, ◌<◌, ◌≤◌, ◌++◌, ℕ, ℤ, Bool, true, false, [], ◌∷◌, Some, IsSome}
 use Rattle.aom_image.specs.Image.{Image}
 use Rattle.aom_image.specs.declared.method.Role.TheVariants.{Run as Handles}
 use Rattle.aom_classes.specs.Roles.{role_of}

@@ -1,5 +1,5 @@
 -- The event that comes next is that of the list.
-use Rattle.std.proofs.Common.{◌≡◌, ℕ, zero, suc, List, [], ◌∷◌, Option, refl}
+use Rattle.std.proofs.Common.{◌≡◌, ℕ, zero, suc, List, [], ◌∷◌, refl}
 use Rattle.std.specs.Prelude.{slice_get}
 use Rattle.aom_sound.specs.World.{event_at}
 use Rattle.aom_transcript.specs.declared.event.TimedEvent.{TimedEvent}

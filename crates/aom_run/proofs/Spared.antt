@@ -1,5 +1,5 @@
 -- How many dispatches of objects there may still be: moves one after another make no more of them.
-use Rattle.std.proofs.Common.{◌≡◌, ℕ, ◌≤◌, ◌^◌, ◌-◌, List, arith}
+use Rattle.std.proofs.Common.{ℕ, ◌≤◌, ◌^◌, ◌-◌, List, arith}
 use Rattle.aom_image.specs.Image.{Image}
 use Rattle.aom_sound.specs.State.{State}
 use Rattle.aom_transcript.specs.declared.line.Line.{Line}

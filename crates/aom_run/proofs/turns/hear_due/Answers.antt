@@ -1,7 +1,6 @@
 -- Each event that has come is heard.
 use Rattle.std.proofs.lemmas.Bool.{true≢false}
-use Rattle.std.proofs.Common.{arith, inl, inr, refl, subst, sym, ◌∙◌, ◌≡◌, ◌<◌, length}
-use Rattle.aom_run.specs.Turns.{HasCome}
+use Rattle.std.proofs.Common.{arith, inl, inr, refl, sym, ◌∙◌}
 use Rattle.aom_run.proofs.Between.{at_most_to_come, come_not, come_within, had_come, heard_far, heard_fewer, heard_none, heard_settles, less_to_come, none_settles, settles_both, stands_settled}
 use Rattle.aom_run.proofs.turns.hear_due.Goals as goal
 

@@ -1,5 +1,5 @@
 -- The event is the one of the list.
-use Rattle.std.proofs.Common.{ap, length, refl, sym, ◌∙◌, ◌≡◌}
+use Rattle.std.proofs.Common.{ap, length, refl, sym, ◌∙◌}
 use Rattle.std.proofs.lemmas.Bool.{ltb-false, ltb-true}
 use Rattle.std.proofs.lemmas.Option.{slice_get_past, slice_get_read}
 use Rattle.aom_sound.specs.World.{event_at}

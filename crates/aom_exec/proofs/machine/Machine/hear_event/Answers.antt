@@ -1,5 +1,5 @@
 -- An event comes.
-use Rattle.std.proofs.Common.{ap, subst, suc, sym, ◌≡◌, ◌∙◌}
+use Rattle.std.proofs.Common.{subst, suc, sym, ◌≡◌}
 use Rattle.aom_sound.specs.World.{Hears}
 use Rattle.aom_exec.specs.declared.progress.Progress.TheVariants.{Turned}
 use Rattle.aom_sound.specs.State.{State}

@@ -1,4 +1,4 @@
-use Rattle.std.proofs.Common.{ap, arith, length, sym, ◌∙◌, ◌<◌, ◌≤◌, ◌≡◌, slice_get, Some}
+use Rattle.std.proofs.Common.{ap, arith, length, sym, ◌∙◌, ◌<◌, ◌≤◌, Some}
 use Rattle.std.proofs.lemmas.Option.{slice_get-get_or, slice_get_past}
 use Rattle.aom_sound.specs.Natives.{native_of}
 use Rattle.aom_exec.proofs.Wanting.{kind_in_image, native_declared, native_missing}

@@ -1,9 +1,6 @@
-use Rattle.std.proofs.Common.{ap, sym, ◌∙◌, ◌≡◌}
+use Rattle.std.proofs.Common.{ap, sym, ◌∙◌}
 use Rattle.std.specs.Prelude.{option_map}
-use Rattle.aom_cells.specs.Heap.{null}
-use Rattle.aom_sound.specs.Natives.{is_owed}
 use Rattle.aom_sound.specs.Places.{requested}
-use Rattle.aom_exec.specs.Fields.{this}
 use Rattle.aom_exec.specs.Wanted.{as_wanted}
 use Rattle.aom_exec.proofs.Finding.{finds_instr}
 use Rattle.aom_exec.proofs.Housing.{finds_home}
