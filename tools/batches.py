@@ -21,6 +21,10 @@ class Turned:
     owner: str
     name: str
 
+    def path(self):
+        """What a check is asked for it by."""
+        return "::".join(it for it in (self.module, self.owner, self.name) if it)
+
     def is_told_by(self, path):
         """Whether a name in a check's answer is that of this function, or of a closure in it."""
         head, _, rest = path.partition(f"{self.module}::")
@@ -109,13 +113,24 @@ def own_failures(crate, lines):
 
 def shown(crate, batch, status, lines):
     """The edits of a batch that its check shows refused: a function that each turns has a failure of its own, and no function that is not turned has one."""
-    if status != 1 or not any(it.startswith("logic=not-proved") for it in lines):
+    if status != 1 or not any(it.startswith(("logic=not-proved", "only=")) for it in lines):
         return set()
     failed = own_failures(crate, lines)
     everything = [it for _, turned in batch for it in turned]
     if any(not any(it.is_told_by(path) for it in everything) for path in failed):
         return set()
     return {edit.name for edit, turned in batch if any(it.is_told_by(path) for it in turned for path in failed)}
+
+
+def refused_at(status, lines, functions):
+    """The line by which a check of these functions refuses one of them; empty where it refuses none."""
+    if status != 1 or not any(it.startswith("only=") for it in lines):
+        return ""
+    for line in lines:
+        told = FUNCTION.match(line)
+        if told and told[2].startswith(("not proved", "no proof")) and any(f"::{told[1]}".endswith(f"::{it}") for it in functions):
+            return line
+    return ""
 
 
 def unread(lines, changed):

@@ -36,6 +36,12 @@ def edit_files(crate):
     return good, [it for it in names if it not in good and not it.endswith(".md")]
 
 
+def places_of(crate):
+    """Which function shows an edit, by the edit's name, where must-fail/where.md says so in a line '- NAME.edit: FUNCTION'."""
+    file = f"{crate}/must-fail/where.md"
+    return {it[1]: [it[2]] for it in re.finditer(r"(?m)^- (\S+\.edit): (\S+)$", read_text(file))} if os.path.isfile(file) else {}
+
+
 def pairs_of(lines):
     """The pairs of an edit: file, old text, new text."""
     path, old = "", None
@@ -96,6 +102,8 @@ def edit_faults(house, names):
     for name in names:
         good, bad = edit_files(house.folder(name))
         yield from ((name, it, "a name is of letters, digits, _, - and . and ends in .edit (or .md, if it is only to be read)") for it in bad)
+        lost = [it for it in places_of(house.folder(name)) if it not in good]
+        yield from ((name, "where.md", f"there is no {it}") for it in lost)
         read = (read_edit(house.folder(name), it) for it in good)
         yield from ((name, it.name, it.fault) for it in read if it.fault)
 

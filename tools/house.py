@@ -16,15 +16,16 @@ class House:
 
     def __init__(self, top):
         self.top = top
-        self.direct, self.said = {}, {}
+        self.direct, self.said, self.of_kit = {}, {}, {}
         with open(f"{top}/crates.txt", encoding="utf-8") as it:
             for line in it:
                 head, colon, below = line.partition("#")[0].partition(":")
                 if colon:
                     name = head.split()[0]
                     self.direct[name], self.said[name] = below.split(), line
-        for name in self.direct:
-            self.direct[name] = [it for it in self.direct[name] if it in self.direct]
+        for name, below in self.direct.items():
+            self.of_kit[name] = [it for it in below if it not in self.direct]
+        self.direct = {name: [it for it in below if it in self.direct] for name, below in self.direct.items()}
         self.below = {}
         for name in self.direct:
             self.stack_of(name)
@@ -40,6 +41,10 @@ class House:
 
     def folder(self, name):
         return f"{self.top}/crates/{name}"
+
+    def library(self, name):
+        """What a check of a crate above reads of a proved library."""
+        return f"{self.top}/crates/{name}/out/rlib/{name}.rlib"
 
     def lines(self, name):
         """How much a crate has to prove, in lines."""

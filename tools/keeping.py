@@ -15,13 +15,9 @@ FIRST = 10**9
 class Keeping:
     """The proofs of some crates and of all below them. Rooms are made and dropped in the given folder."""
 
-    def __init__(self, house, names, lanes, place, proved, failed):
+    def __init__(self, house, lanes, place):
         self.house, self.lanes, self.place = house, lanes, place
-        # what is called with the name of each crate once it is proved, or with its name and the reason
-        self.proved, self.failed = proved, failed
-        self.wanted = {one for it in names for one in [*house.stack_of(it), it]}
-        self.left = {it: set(house.direct[it]) for it in self.wanted}
-        self.weight = {it: house.lines(it) for it in self.wanted}
+        self.wanted, self.left, self.weight = set(), {}, {}
         self.behind, self.seconds, self.lock = {}, 0.0, threading.Lock()
 
     def chain(self, name):
@@ -31,7 +27,12 @@ class Keeping:
             self.behind[name] = self.weight[name] + max(map(self.chain, above), default=0)
         return self.behind[name]
 
-    def start(self):
+    def start(self, names, ready, proved, failed):
+        """What is called with the name of a crate that can be tried, of one that is proved, and of one that is not, with the reason."""
+        self.tell_ready, self.tell_proved, self.tell_failed = ready, proved, failed
+        self.wanted = {one for it in names for one in [*self.house.stack_of(it), it]}
+        self.left = {it: set(self.house.direct[it]) for it in self.wanted}
+        self.weight = {it: self.house.lines(it) for it in self.wanted}
         for name in sorted(self.wanted):
             if not self.left[name]:
                 self.add(name)
@@ -52,12 +53,17 @@ class Keeping:
         with self.lock:
             self.seconds += time.monotonic() - start
         if status:
-            self.failed(name, [it for it in lines if tells_errors(it) and ": warning" not in it] or lines[-3:])
+            self.tell_failed(name, [it for it in lines if tells_errors(it) and ": warning" not in it] or lines[-3:])
             return
-        self.proved(name)
+        self.tell_proved(name)
+        self.tell_ready(name, self.house, f"{folder}/out/incremental")
         with self.lock:
             ready = [it for it in self.wanted if self.left[it] == {name}]
             for it in self.wanted:
                 self.left[it].discard(name)
         for it in ready:
             self.add(it)
+
+    def times(self):
+        """How many proofs, and the seconds that they took in one lane."""
+        return len(self.wanted), self.seconds

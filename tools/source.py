@@ -41,8 +41,8 @@ def closing(code, at):
 
 
 def plain(words):
-    """A type or a trait as a check's names spell it: its words in a row, with no brackets."""
-    return "".join(WORD.findall(re.sub(r"'[a-z_]+|\b(dyn|mut)\b", " ", words)))
+    """A type or a trait as a check's names spell it: its words in a row, with no brackets, and of each path the last."""
+    return "".join(WORD.findall(re.sub(r"'[a-z_]+|\b(dyn|mut)\b|\w+\s*::\s*(?=\w)", " ", words)))
 
 
 def without_parameters(words):

@@ -1,74 +1,108 @@
 """Tries every must-fail edit: each has to be refused by the prover."""
 
+import os
+import shutil
 import tempfile
 import threading
 import time
 
-from batches import plan, shown, texts_of, unread
-from edit_files import edit_faults, edit_files, read_edit
-from house import KEPT, make_room, run_rt, tells_errors
-from keeping import Keeping
-from lanes import Lanes
+import rattle
+from batches import plan, refused_at, shown, texts_of, unread
+from edit_files import edit_faults, edit_files, places_of, read_edit
+from house import PARTS, copy_parts, tells_errors
 from verdicts import Verdicts
+
+# the memory that a check takes for each line of a crate, in bytes
+LINE = 300_000
+KINDS = ("batches", "by one function", "whole", "proofs of their own")
+# so many checks of a crate after its first are worth a proof of it as it stands
+MANY = 3
 
 
 class Trial:
-    """A run over the edits of some crates of a clean copy. Rooms are made and dropped in the given folder; what earlier runs here saw refused is not tried again."""
+    """A run over the edits of some crates of a clean copy. The source says which crates are proved and can be tried. Copies are made and dropped in the given folder; what earlier runs here saw refused is not tried again."""
 
-    def __init__(self, house, names, lanes, place, say, verdicts=None):
-        self.house, self.place, self.say = house, place, say
+    def __init__(self, house, names, source, place, say, verdicts=None):
+        self.house, self.source, self.place, self.say = house, source, place, say
+        self.lanes = source.lanes
         self.verdicts = verdicts or Verdicts(house, None)
-        self.lanes = Lanes(lanes, say)
         self.passed, self.failed = [], []
-        self.seconds, self.checks = {"batches": 0.0, "alone": 0.0}, {"batches": 0, "alone": 0}
-        self.lock = threading.Lock()
+        self.seconds, self.checks = dict.fromkeys(KINDS, 0.0), dict.fromkeys(KINDS, 0)
+        # by crate: where its libraries lie, and what its checks have kept
+        self.libraries, self.kept, self.rest = {}, {}, {}
+        # by crate: what waits for a proof of it as it stands; None once that is kept
+        self.waiting = {}
+        self.proved, self.given_up = set(), set()
+        # what is kept of a crate is read or replaced by one check at a time
+        self.lock, self.moving = threading.Lock(), threading.Lock()
         self.names = [it for it in names if any(edit_files(house.folder(it)))]
         self.known = {it: self.known_of(it) for it in self.names}
-        wanted = [it for it in self.names if len(self.known[it]) < len(edit_files(house.folder(it))[0])]
-        self.kept = Keeping(house, wanted, self.lanes, place, self.add_edits, self.give_up)
+        self.weight = {it: house.lines(it) for it in self.names}
+        self.places = {it: places_of(house.folder(it)) for it in self.names}
 
     def known_of(self, name):
         """The edits of a crate that an earlier run saw refused, as it and they stand."""
         return [it for it in edit_files(self.house.folder(name))[0] if self.verdicts.is_refused(name, it)]
 
-    def run(self):
+    def begin(self):
         for name, it, fault in edit_faults(self.house, self.names):
             self.tell(name, it, False, f"BAD EDIT: {fault}")
         for name in self.names:
             for it in self.known[name]:
                 self.tell(name, it, True, "refused, as it must be (by an earlier run here, of the same texts)")
-        self.kept.start()
+        self.source.start([it for it in self.names if self.left_of(it)], self.add_edits, self.count, self.give_up)
+
+    def run(self):
+        """Tries all; what the source never handed on fails."""
         self.lanes.run()
-        return not self.failed
+        told = {*self.passed, *self.failed}
+        for name in self.names:
+            for it in self.left_of(name):
+                if f"{name}/{it}" not in told:
+                    self.tell(name, it, False, "NOT TRIED")
 
     def times(self):
         """What was done, how often, and the seconds that it took in one lane."""
-        return [("proofs below them", len(self.kept.wanted), self.kept.seconds), *((it, self.checks[it], self.seconds[it]) for it in self.seconds)]
+        return [("proofs below them", *self.source.times()), *((it, self.checks[it], self.seconds[it]) for it in self.seconds)]
 
     def tell(self, name, edit, well, text):
         with self.lock:
+            well = well and name not in self.given_up
             (self.passed if well else self.failed).append(f"{name}/{edit}")
             self.say(f"must-fail {name}/{edit}: {text}")
 
     def tell_refused(self, name, edit, text):
-        self.verdicts.keep_refused(name, edit)
+        if name in self.proved:
+            self.verdicts.keep_refused(name, edit)
         self.tell(name, edit, True, f"refused, as it must be{text}")
 
-    def checked(self, kind, folder, *words):
-        """A check in a room, with its time."""
+    def checked(self, kind, name, folder, functions, kept):
+        """A check of a crate's copy, with its time."""
         start = time.monotonic()
-        answer = run_rt(folder, *words)
+        answer = rattle.check(self.libraries[name], name, folder, functions, kept)
         with self.lock:
             self.seconds[kind] += time.monotonic() - start
             self.checks[kind] += 1
         return answer
 
+    def count(self, name):
+        """Takes that a crate is proved: what was refused of it before counts."""
+        with self.lock:
+            self.proved.add(name)
+            refused = [it.removeprefix(f"{name}/") for it in self.passed if it.startswith(f"{name}/")]
+        for it in refused:
+            self.verdicts.keep_refused(name, it)
+
     def give_up(self, name, lines):
-        """No edit of a crate that is not proved can be tried, nor of one above it."""
+        """What is refused of a crate that is not proved, or stands on one, says nothing."""
         for it in self.names:
-            if it == name or name in self.house.stack_of(it):
-                for edit in self.left_of(it):
-                    self.tell(it, edit, False, f"NOT TRIED: {name} is not proved: {lines[0][:200]}")
+            if it not in self.given_up and (it == name or name in self.house.stack_of(it)):
+                with self.lock:
+                    self.given_up.add(it)
+                    told = [one for one in self.passed if one.startswith(f"{it}/")]
+                    self.passed = [one for one in self.passed if one not in told]
+                    self.failed += told
+                self.say(f"must-fail {it}: its edits do NOT COUNT: {name} is not proved: {lines[0][:200]}")
 
     def left_of(self, name):
         """The edits of a crate that are to be tried."""
@@ -76,38 +110,110 @@ class Trial:
 
     # the edits
 
-    def add_edits(self, name):
-        if name not in self.names:
+    def add_edits(self, name, libraries, kept):
+        """Adds the checks of a crate's edits. Where nothing of the crate is kept they stand on what the first of them keeps."""
+        if name not in self.names or name in self.given_up:
             return
+        self.libraries[name], self.kept[name] = libraries, kept
         folder = self.house.folder(name)
         edits = [read_edit(folder, it) for it in self.left_of(name)]
         together, alone = plan(name, folder, [it for it in edits if not it.fault])
-        for batch in together:
-            self.add_batch(name, batch)
-        for edit in alone:
-            self.add_alone(name, edit)
+        adders = [lambda it=it: self.add_batch(name, it) for it in together] + [lambda it=it: self.add_alone(name, it) for it in alone]
+        self.rest[name] = adders[1:]
+        if kept:
+            self.waiting[name] = None
+        for add in adders[:1]:
+            add()
+        if kept:
+            self.add_rest(name)
+
+    def add_rest(self, name):
+        """Adds the checks of a crate after its first. Many of them are worth a proof of the crate as it stands, which they then stand on."""
+        with self.lock:
+            rest = self.rest.pop(name, [])
+        for add in rest:
+            if len(rest) < MANY:
+                add()
+            else:
+                self.when_whole(name, add)
+
+    def add(self, name, more, work):
+        """Puts a check of a crate in the lanes. It falls where the crate turns out not to be proved."""
+        needs = 10**9 + LINE * self.weight[name]
+        self.lanes.add(self.weight[name] + more, lambda: name in self.given_up or work(), needs)
 
     def add_batch(self, name, batch):
         if len(batch) == 1:
-            self.add_alone(name, batch[0][0])
+            self.add_alone(name, batch[0][0], [it.path() for it in batch[0][1]])
+        elif batch:
+            self.add(name, len(batch), lambda: self.try_batch(name, batch))
+
+    def add_alone(self, name, edit, functions=()):
+        """Adds the check of one edit: first of the functions that may show it, if any are known."""
+        places = list(functions) or self.places[name].get(edit.name, [])
+        if places:
+            self.add(name, 0, lambda: self.try_alone(name, edit, places))
         else:
-            self.lanes.add(self.kept.weight[name] + len(batch), lambda: self.try_batch(name, batch))
+            self.add_whole(name, edit)
 
-    def add_alone(self, name, edit):
-        self.lanes.add(self.kept.weight[name], lambda: self.try_alone(name, edit))
+    def add_whole(self, name, edit):
+        """Adds a check of the whole crate with an edit."""
+        self.when_whole(name, lambda: self.add(name, 0, lambda: self.try_whole(name, edit)))
 
-    def check_with(self, kind, name, texts):
-        """Checks a copy of a crate with these texts in place of its own, over what the crate as it stands has kept."""
+    def when_whole(self, name, add):
+        """Adds what is to stand on a proof of the crate as it stands, which the first that wants it begins."""
+        with self.lock:
+            is_first = name not in self.waiting
+            waiting = self.waiting.setdefault(name, [])
+            if waiting is not None:
+                waiting.append(add)
+        if waiting is None:
+            add()
+        elif is_first:
+            self.add(name, 1, lambda: self.complete(name))
+
+    def complete(self, name):
+        """Proves a crate as it stands over what its first check kept, and keeps that for what waits for it."""
+        status, lines = self.check_with("proofs of their own", name, {}, [])
+        if status:
+            self.give_up(name, [it for it in lines if tells_errors(it)] or lines[-1:])
+        with self.lock:
+            adders, self.waiting[name] = self.waiting[name], None
+        for add in adders:
+            add()
+
+    def check_with(self, kind, name, texts, functions):
+        """Checks a copy of a crate with these texts in place of its own, or these functions of it, over what is kept of the crate."""
         with tempfile.TemporaryDirectory(dir=self.place, ignore_cleanup_errors=True) as room:
-            make_room(self.house, name, f"{room}/r", KEPT[:1])
+            copy_parts(self.house.folder(name), f"{room}/c", PARTS)
             for path, text in texts.items():
-                with open(f"{room}/r/crates/{name}/{path}", "w", encoding="utf-8") as it:
+                with open(f"{room}/c/{path}", "w", encoding="utf-8") as it:
                     it.write(text)
-            return self.checked(kind, f"{room}/r/crates/{name}", "check", "--jobs", "1")
+            with self.moving:
+                if self.kept[name]:
+                    shutil.copytree(self.kept[name], f"{room}/kept")
+            answer = self.checked(kind, name, f"{room}/c", functions, f"{room}/kept")
+            if os.path.isdir(f"{room}/kept") and (not texts or not self.kept[name]):
+                self.keep(name, f"{room}/kept")
+        self.add_rest(name)
+        return answer
+
+    def keep(self, name, kept):
+        """Keeps the work of a check for those after it."""
+        to = f"{self.place}/kept/{name}"
+        with self.moving:
+            shutil.rmtree(to, ignore_errors=True)
+            os.makedirs(os.path.dirname(to), exist_ok=True)
+            self.kept[name] = shutil.move(kept, to)
 
     def try_batch(self, name, batch):
         texts = texts_of(self.house.folder(name), [it for it, _ in batch])
-        status, lines = self.check_with("batches", name, texts)
+        functions = sorted({it.path() for _, turned in batch for it in turned})
+        status, lines = self.check_with("batches", name, texts, functions)
+        unknown = rattle.unknown_functions(lines)
+        if unknown:
+            self.try_without(name, batch, unknown)
+            return
         refused = shown(name, batch, status, lines)
         for edit in sorted(refused):
             self.tell_refused(name, edit, " (shown in a batch, by a goal of its own)")
@@ -121,8 +227,25 @@ class Trial:
         self.add_batch(name, left[:half])
         self.add_batch(name, left[half:])
 
-    def try_alone(self, name, edit):
-        status, lines = self.check_with("alone", name, edit.texts)
+    def try_without(self, name, batch, unknown):
+        """Tries the edits alone whose functions a check knows by other names, and the others in a batch."""
+        known = [it for it in batch if not any(turned.path() in unknown for turned in it[1])]
+        for edit, _ in batch:
+            if edit.name not in [it.name for it, _ in known]:
+                self.add_alone(name, edit)
+        self.add_batch(name, known)
+
+    def try_alone(self, name, edit, functions):
+        """Tries an edit by the functions that may show it. The whole crate is the last word where these do not."""
+        status, lines = self.check_with("by one function", name, edit.texts, functions)
+        at = refused_at(status, lines, functions)
+        if at and not unread(lines, edit.texts):
+            self.tell_refused(name, edit.name, f": {at[:160]}")
+        else:
+            self.add_whole(name, edit)
+
+    def try_whole(self, name, edit):
+        status, lines = self.check_with("whole", name, edit.texts, [])
         told = next((it for it in lines if tells_errors(it) and ": warning" not in it), "")
         bad = unread(lines, edit.texts)
         if bad:

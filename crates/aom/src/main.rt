@@ -4,6 +4,7 @@
 //! Here is what a contract can say nothing of: the command line as the system gives it, files, and the two outputs.
 #![tactic(auto)]
 
+ghost use Rattle.std.specs.Prelude.{◌≤◌};
 ghost use Rattle.aom_command_line.specs.CommandLine.{KeepsLimit};
 
 mod files;
@@ -11,12 +12,14 @@ mod output;
 
 use crate::files::read_file;
 use crate::output::Output;
-use aom_command_line::{Words, WordsFault, read_words};
+use aom_command_line::{RunWords, Words, WordsFault, read_words};
 use aom_main::{
     ExitStatus, Fault, Part, asm_bytes, check_bytes, dis_bytes, dot_bytes, explore_bytes,
     prices_bytes, run_bytes, tell,
 };
+use aom_natives::{Counter, Delay, Line, Native, NativeKind};
 use aom_run::{Sink, write_text};
+use std::alloc::Global;
 use std::env;
 use std::io::{self, BufWriter, Write};
 use std::process::ExitCode;
@@ -108,17 +111,40 @@ fn obey<W: Sink, E: Sink>(
         Words::Run(run) => {
             let image = read_file(rt, &run.image)?;
             let script = read_file(rt, &run.script)?;
-            Ok(run_bytes(alloc, &image, &script, run.limit, out, errors))
+            run_beside(alloc, run, &image, &script, out, errors)
         }
         Words::Explore { run, first, last } => {
             let image = read_file(rt, &run.image)?;
             let script = read_file(rt, &run.script)?;
             let (first, last) = (*first, *last);
             let part = Part { first, last };
-            Ok(explore_bytes(alloc, &image, &script, run.limit, part, out, errors))
+            let kinds = run.natives.as_slice();
+            Ok(explore_bytes(alloc, &image, &script, run.limit, kinds, part, out, errors))
         }
         Words::Asm { text } => Ok(asm_bytes(alloc, &read_file(rt, text)?, out, errors)),
         Words::Dis { image } => Ok(dis_bytes(alloc, &read_file(rt, image)?, out, errors)),
         Words::Dot { image } => Ok(dot_bytes(alloc, &read_file(rt, image)?, out, errors)),
     }
+}
+
+/// Makes the natives that the words name, and runs an image beside them.
+fn run_beside<W: Sink, E: Sink>(
+    alloc: Global,
+    run: &RunWords,
+    image: &[u8],
+    script: &[u8],
+    out: &mut W,
+    errors: &mut E,
+) -> Result<ExitStatus, Fault>
+    requires limit { (1 ≤ run.now.limit) × (run.now.limit ≤ 1000000000) }
+{
+    let mut boxes: Vec<Box<dyn Native>> = Vec::new(alloc);
+    for kind in run.natives.as_slice() {
+        match *kind {
+            NativeKind::Counter => boxes.push(Box::new(alloc, Counter::new())?)?,
+            NativeKind::Line => boxes.push(Box::new(alloc, Line::new())?)?,
+            NativeKind::Delay => boxes.push(Box::new(alloc, Delay::new())?)?,
+        }
+    }
+    Ok(run_bytes(alloc, image, script, run.limit, boxes, out, errors))
 }

@@ -12,8 +12,6 @@
 mod active;
 mod laws;
 mod parts;
-#[cfg(test)]
-mod tests;
 
 pub use active::ActiveObjects;
 pub use laws::standing_follows;

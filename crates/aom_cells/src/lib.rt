@@ -10,8 +10,6 @@
 mod cell;
 mod cells;
 mod id;
-#[cfg(test)]
-mod tests;
 
 pub use cells::Cells;
 pub use id::{CellId, NULL};

@@ -1,12 +1,10 @@
 -- What an image may have so far.
-use Rattle.std.specs.Prelude.{ℕ, ◌==◌, Bool, true, false, not, ◌&&◌, nat_eq, List, [], ◌∷◌, IfSome, IsTrue, slice_get}
+use Rattle.std.specs.Prelude.{ℕ, ◌==◌, Bool, true, false, not, ◌&&◌, List, [], ◌∷◌, IfSome, IsTrue, slice_get}
 use Rattle.std.specs.List.{list_all}
 use Rattle.aom_image.specs.Image.{Image}
 use Rattle.aom_image.specs.declared.class.ClassDecl.{ClassDecl}
 use Rattle.aom_image.specs.declared.class.ClassKind.{ClassKind}
 use Rattle.aom_image.specs.declared.class.ClassKind.TheVariants.{Active, Plain}
-use Rattle.aom_image.specs.declared.class.Provider.TheVariants.{Own, Timer}
-use Rattle.aom_image.specs.declared.image.Header.{Header}
 use Rattle.aom_instructions.specs.declared.instr.Instr.{Instr}
 use Rattle.aom_image.specs.declared.method.Argument.{Argument}
 use Rattle.aom_image.specs.declared.method.Argument.TheVariants as arguments
@@ -24,13 +22,7 @@ use Rattle.aom_instructions.specs.Rows.{row}
 
 -- the instructions that come later
 abbrev pub later : List Mnemonic
-later =
-    m.Connect
-    ∷ m.Ask
-    ∷ m.Close
-    ∷ m.TakeMessage
-    ∷ m.Reply
-    ∷ []
+later = m.TakeMessage ∷ m.Reply ∷ []
 
 abbrev pub is_other : Mnemonic → Mnemonic → Bool
 is_other a b = not ((row a).opcode == (row b).opcode)
@@ -39,11 +31,10 @@ is_other a b = not ((row a).opcode == (row b).opcode)
 unfoldable pub admits_instr : Instr → Bool
 admits_instr i = list_all (is_other (mnemonic i)) later
 
--- whether a class is plain, or one of active objects whose requests are their own or a timer's
+-- whether a class is plain, or one of active objects
 unfoldable pub admits_kind : ClassKind → Bool
 admits_kind Plain = true
-admits_kind (Active Own budget) = true
-admits_kind (Active Timer budget) = true
+admits_kind (Active provider budget) = true
 admits_kind _ = false
 
 -- whether what may be owned is an object
@@ -82,16 +73,11 @@ admits_result (gives.Left c) = true
 unfoldable pub admits_method : Method → Bool
 admits_method d = admits_role d.role && list_all admits_argument d.arguments && admits_result d.gives && list_all admits_instr d.code
 
--- whether there are no natives
-abbrev pub admits_header : Header → Bool
-admits_header h = nat_eq h.natives 0
-
 -- each element of a list passes a test
 abbrev pub EachPasses : {X : Type 0} → (X → Bool) → List X → Type 0
 EachPasses test xs = (k : ℕ) → IfSome (slice_get xs k) (λ x. IsTrue (test x))
 
--- an image of plain classes and of active objects, without natives and messages
+-- an image of plain classes and of active objects, without messages
 pub record IsAdmitted (p : Image) : Type 0 where
-  pub header : IsTrue (admits_header p.header)
   pub classes : EachPasses admits_class p.classes
   pub methods : EachPasses admits_method p.methods

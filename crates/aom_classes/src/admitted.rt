@@ -1,21 +1,14 @@
 //! What an image may have so far.
 ghost use Rattle.std.specs.Prelude.{◌≡◌, ◌↔◌, IsTrue};
 ghost use Rattle.std.specs.List.{list_all};
-ghost use Rattle.aom_classes.specs.Admitted.{is_other, admits_instr, admits_kind, admits_thing, admits_class, admits_role, admits_argument, admits_result, admits_method, admits_header, EachPasses, IsAdmitted};
+ghost use Rattle.aom_classes.specs.Admitted.{is_other, admits_instr, admits_kind, admits_thing, admits_class, admits_role, admits_argument, admits_result, admits_method, EachPasses, IsAdmitted};
 
 use aom_image::{
-    Argument, ClassDecl, ClassKind, Gives, Header, Image, Instr, Method, Mnemonic, Provider, Role,
-    Thing,
+    Argument, ClassDecl, ClassKind, Gives, Image, Instr, Method, Mnemonic, Role, Thing,
 };
 
 /// The instructions that come later.
-const LATER: [Mnemonic; 5] = [
-    Mnemonic::Connect,
-    Mnemonic::Ask,
-    Mnemonic::Close,
-    Mnemonic::TakeMessage,
-    Mnemonic::Reply,
-];
+const LATER: [Mnemonic; 2] = [Mnemonic::TakeMessage, Mnemonic::Reply];
 
 fn is_other(a: Mnemonic, b: Mnemonic) -> bool
     ensures { result ≡ is_other a b }
@@ -36,8 +29,7 @@ fn admits_kind(kind: ClassKind) -> bool
     ensures { result ≡ admits_kind kind }
 {
     match kind {
-        ClassKind::Plain => true,
-        ClassKind::Active { provider, .. } => !matches!(provider, Provider::Native(_)),
+        ClassKind::Plain | ClassKind::Active { .. } => true,
         ClassKind::Server { .. } | ClassKind::Session => false,
     }
 }
@@ -135,17 +127,9 @@ fn admits_methods(methods: &[Method]) -> bool
     methods.iter().all(|method| admits_method(method))
 }
 
-fn admits_header(header: &Header) -> bool
-    ensures { result ≡ admits_header header.now }
-{
-    header.natives == 0
-}
-
 /// Whether the image has nothing that is not admitted yet.
 pub fn is_admitted(image: &Image) -> bool
     ensures { IsTrue result ↔ IsAdmitted image.now }
 {
-    admits_header(image.header())
-        && admits_classes(image.classes().as_slice())
-        && admits_methods(image.methods().as_slice())
+    admits_classes(image.classes().as_slice()) && admits_methods(image.methods().as_slice())
 }

@@ -9,8 +9,6 @@
 
 mod cleanup;
 mod item;
-#[cfg(test)]
-mod tests;
 
 pub use cleanup::Cleanup;
 pub use item::Item;

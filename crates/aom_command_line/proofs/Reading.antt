@@ -1,5 +1,7 @@
 -- What `clap` answers of the words of a command line.
-use Rattle.std.proofs.Common.{◌≡◌, ◌∙◌, ℕ, Bool, ◌||◌, true, false, ◌<◌, ◌^◌, ◌⊎◌, List, [], Option, Some, None, Result, Ok, Err, option_map, unwrap_or, is_some, IsSome, codes, refl, sym, ap, subst, arith}
+use Rattle.std.proofs.Common.{◌≡◌, ◌≢◌, ◌∙◌, ℕ, ◌+◌, Bool, ◌||◌, true, false, ◌<◌, ◌^◌, ◌⊎◌, List, [], ◌∷◌, ◌++◌, Contains, length, map, take, slice_index_or, Option, Some, None, Result, Ok, Err, option_map, unwrap_or, is_some, codes, refl, sym, ap, ap₂, inl, inr, subst, arith}
+use Rattle.std.proofs.lemmas.List.{get_or-map, length-map, map-append, map_more, take-map}
+use Rattle.std.proofs.lemmas.List.Elements.{Contains-get_or}
 use Rattle.std.specs.Borrow.{Bor}
 use Rattle.std.specs.Fmt.{decimal}
 use Rattle.std.specs.Str.Parse.{IsNumeral, ParsesUnsigned, digits_value, without_leading_plus}
@@ -13,7 +15,9 @@ use Rattle.clap.specs.declared.error.kind.ErrorKind.{ErrorKind}
 use Rattle.clap.specs.declared.error.kind.ErrorKind.TheVariants.{OutOfMemory}
 use Rattle.aom_command_line.specs.declared.words.WordsFault.{WordsFault}
 use Rattle.aom_command_line.specs.declared.words.WordsFault.TheVariants as faults
-use Rattle.aom_command_line.specs.CommandLine.{IsCommand, Declines, DeclinesRun, Says, form, word_of}
+use Rattle.aom_natives.specs.Kinds.{word_of as word_of_kind}
+use Rattle.aom_natives.specs.declared.kind.NativeKind.{NativeKind}
+use Rattle.aom_command_line.specs.CommandLine.{IsCommand, Declines, DeclinesNatives, DeclinesRun, NamesKinds, NamesNoKinds, Says, form, texts_in, word_of}
 
 same : {E : Type 0} (v n : ℕ) (r : Result ℕ E) → r ≡ Ok v → r ≡ Ok n → Some v ≡ Some n
 same v n r a b = cc
@@ -42,21 +46,6 @@ chosen f id o d r is empty found = ap (λ (s : Bor Text). s.now) is ∙ read o d
     read : (o : Option (Bor Text)) (d : Bor Text) → d.now ≡ [] → (unwrap_or o d).now ≡ unwrap_or (option_map (λ s. s.now) o) []
     read None d e = e
     read (Some s) d e = refl
-
-some_raw : (o : Option MatchedArg) → is_some o ≡ true → IsSome (option_map raw_values o)
-some_raw None e = absurd cc
-some_raw (Some a) e = refl
-
-no_raw : (o : Option MatchedArg) → is_some o ≡ false → option_map raw_values o ≡ None
-no_raw None e = refl
-no_raw (Some a) e = absurd cc
-
--- whether words were found for a name
-pub there : (f : Found) (id : Text) (b : Bool) → b ≡ is_some (matched_of f id) → b ≡ true → IsSome (all_of id (rows_of f))
-there f id b is found = subst IsSome (raw_values-rows f id) (some_raw (matched_of f id) (sym is ∙ found))
-
-pub absent : (f : Found) (id : Text) (b : Bool) → b ≡ is_some (matched_of f id) → b ≡ false → all_of id (rows_of f) ≡ None
-absent f id b is missing = sym (raw_values-rows f id) ∙ no_raw (matched_of f id) (sym is ∙ missing)
 
 -- without a command there is none
 pub nothing_met : (met : Option (Text × List Row)) → None ≡ option_map (λ p. p.1) met → true ≡ true → IsCommand met → ⊥
@@ -89,3 +78,31 @@ pub says : (taken : Bool) (met : Option (Text × List Row)) (kind : ErrorKind) (
 says taken met kind (faults.Text text) s passes = λ is command. s (passes is)
 says taken met kind faults.Native s passes = absurd s
 says taken met kind faults.Memory s passes = s
+
+-- ---- the words of natives
+
+-- one word more names one kind more
+pub one_more_kind : (words : List (Bor Text)) (i : ℕ) (d : Bor Text) (kinds more : List NativeKind) (kind : NativeKind) → i < length words → take i (texts_in words) ≡ map word_of_kind kinds
+    → (slice_index_or words i d).now ≡ word_of_kind kind → more ≡ kinds ++ kind ∷ [] → take (i + 1) (texts_in words) ≡ map word_of_kind more
+one_more_kind words i d kinds more kind within same is grown =
+    let now : Bor Text → Text = λ w. w.now in
+    take-map now (i + 1) words ∙ map_more now words i d within ∙ ap₂ (λ xs t. xs ++ t ∷ []) (sym (take-map now i words) ∙ same) is ∙ sym (map-append word_of_kind kinds (kind ∷ [])) ∙ ap (map word_of_kind) (sym grown)
+
+-- one of the words is of no native
+pub no_kind : (words : List (Bor Text)) (i : ℕ) (d : Bor Text) → i < length words → ((kind : NativeKind) → (slice_index_or words i d).now ≢ word_of_kind kind) → NamesNoKinds (Some (texts_in words))
+no_kind words i d within none =
+    let now : Bor Text → Text = λ w. w.now in
+    inr ((slice_index_or words i d).now, subst (Contains (texts_in words)) (get_or-map now words i d d.now within) (Contains-get_or (texts_in words) i d.now (rw (length-map words now) within)), none)
+
+-- the words that are found for natives
+pub found_words : (f : Found) (id : Text) (words : List (Bor Text)) → Some (texts_in words) ≡ option_map raw_values (matched_of f id) → Some (texts_in words) ≡ all_of id (rows_of f)
+found_words f id words found = found ∙ raw_values-rows f id
+
+pub no_words : (f : Found) (id : Text) → None ≡ option_map raw_values (matched_of f id) → None ≡ all_of id (rows_of f)
+no_words f id found = found ∙ raw_values-rows f id
+
+pub none_named : (words : Option (List Text)) (kinds : List NativeKind) → None ≡ words → kinds ≡ [] → NamesKinds words kinds
+none_named words kinds none empty = record { same = rw (← none, empty) refl; few = rw empty (omega arith) }
+
+pub too_many : (words : List (Bor Text)) → 16 < length words → NamesNoKinds (Some (texts_in words))
+too_many words many = inl (rw (length-map words (λ (w : Bor Text). w.now)) many)

@@ -1,5 +1,6 @@
 -- The form of a command line as `clap` reads it, and what is asked by one.
-use Rattle.std.specs.Prelude.{ℕ, ◌≡◌, ◌≢◌, ◌≤◌, ◌⊎◌, String, Bool, true, false, List, [], ◌∷◌, map, Option, Some, None, codes, unwrap_or, IsSome, pos}
+use Rattle.std.specs.Prelude.{ℕ, ◌≡◌, ◌≢◌, ◌≤◌, ◌<◌, ◌⊎◌, String, Bool, true, false, List, [], ◌∷◌, Contains, length, map, Option, Some, None, codes, unwrap_or, pos}
+use Rattle.std.specs.Borrow.{Bor}
 use Rattle.std.specs.String.{string_bytes}
 use Rattle.std.specs.Fmt.{decimal}
 use Rattle.std.specs.Str.Parse.{IsNumeral, digits_value, without_leading_plus}
@@ -10,6 +11,8 @@ use Rattle.clap.specs.declared.builder.value_parser.ValueParser.{ValueParser}
 use Rattle.clap.specs.declared.builder.value_parser.ValueParser.TheVariants.{Signed}
 use Rattle.clap.specs.declared.error.kind.ErrorKind.{ErrorKind}
 use Rattle.clap.specs.declared.error.kind.ErrorKind.TheVariants.{OutOfMemory}
+use Rattle.aom_natives.specs.Kinds.{word_of as word_of_kind}
+use Rattle.aom_natives.specs.declared.kind.NativeKind.{NativeKind}
 use Rattle.aom_command_line.specs.declared.words.RunWords.{RunWords}
 use Rattle.aom_command_line.specs.declared.words.Words.{Words}
 use Rattle.aom_command_line.specs.declared.words.Words.TheVariants.{Check, Run, Explore, Asm, Dis, Dot}
@@ -114,12 +117,36 @@ pub record IsFlag (text : Option Text) (flag : Bool) : Type 0 where
   pub used : text ≡ Some (codes "true") → flag ≡ true
   pub unused : text ≡ Some (codes "false") → flag ≡ false
 
--- the words found for a command that runs an image ask this; no native is known yet
+-- the texts of words that are lent
+abbrev pub texts_in : List (Bor Text) → List Text
+texts_in words = map (λ (w : Bor Text). w.now) words
+
+-- the words, if there are any, are those of these natives in their order, which are at most 16
+pub record NamesKinds (words : Option (List Text)) (kinds : List NativeKind) : Type 0 where
+  pub same : unwrap_or words [] ≡ map word_of_kind kinds
+  pub few : length kinds ≤ 16
+
+-- the word is of no native
+abbrev pub IsNoKind : Text → Type 0
+IsNoKind word = (kind : NativeKind) → word ≢ word_of_kind kind
+
+-- there are more than 16 words, or one is of no native
+abbrev pub NamesNoKinds : Option (List Text) → Type 0
+NamesNoKinds None = ⊥
+NamesNoKinds (Some words) = (16 < length words) ⊎ ((word : Text) × Contains words word × IsNoKind word)
+
+-- why words for natives are refused
+abbrev pub DeclinesNatives : Option (List Text) → WordsFault → Type 0
+DeclinesNatives words (faults.Text text) = ⊥
+DeclinesNatives words faults.Native = NamesNoKinds words
+DeclinesNatives words faults.Memory = Unit {0}
+
+-- the words found for a command that runs an image ask this
 pub record AsksRun (rows : List Row) (run : RunWords) : Type 0 where
   pub image : string_bytes run.image ≡ word_of (codes "IMAGE") rows
   pub script : string_bytes run.script ≡ word_of (codes "SCRIPT") rows
   pub limit : IsNumberUpTo 1000000000 (one_of (codes "limit") rows) run.limit
-  pub natives : all_of (codes "NATIVE") rows ≡ None
+  pub natives : NamesKinds (all_of (codes "NATIVE") rows) run.natives.items
 
 -- a command and the words found for it ask this
 abbrev pub Asks : Option (Text × List Row) → Words → Type 0
@@ -139,22 +166,20 @@ abbrev pub IsCommand : Option (Text × List Row) → Type 0
 IsCommand None = ⊥
 IsCommand (Some met) = (met.0 ≡ codes "check") ⊎ (met.0 ≡ codes "run") ⊎ (met.0 ≡ codes "explore") ⊎ (met.0 ≡ codes "asm") ⊎ (met.0 ≡ codes "dis") ⊎ (met.0 ≡ codes "dot")
 
--- it is a command that runs an image, with natives
-abbrev pub NamesNatives : Option (Text × List Row) → Type 0
-NamesNatives None = ⊥
-NamesNatives (Some met) = ((met.0 ≡ codes "run") ⊎ (met.0 ≡ codes "explore")) × IsSome (all_of (codes "NATIVE") met.1)
+-- it is a command that runs an image, with a word of no native or one word too many
+abbrev pub NamesNoNatives : Option (Text × List Row) → Type 0
+NamesNoNatives None = ⊥
+NamesNoNatives (Some met) = ((met.0 ≡ codes "run") ⊎ (met.0 ≡ codes "explore")) × NamesNoKinds (all_of (codes "NATIVE") met.1)
 
--- why words ask nothing: `clap` does not take them, or they name natives, or memory is wanting
+-- why words ask nothing: `clap` does not take them, or they do not name natives where they should, or memory is wanting
 abbrev pub Declines : Bool → Option (Text × List Row) → WordsFault → Type 0
 Declines taken met (faults.Text text) = taken ≡ true → IsCommand met → ⊥
-Declines taken met faults.Native = NamesNatives met
+Declines taken met faults.Native = NamesNoNatives met
 Declines taken met faults.Memory = Unit {0}
 
 -- why the words found for a command that runs an image ask nothing
 abbrev pub DeclinesRun : List Row → WordsFault → Type 0
-DeclinesRun rows (faults.Text text) = ⊥
-DeclinesRun rows faults.Native = IsSome (all_of (codes "NATIVE") rows)
-DeclinesRun rows faults.Memory = Unit {0}
+DeclinesRun rows fault = DeclinesNatives (all_of (codes "NATIVE") rows) fault
 
 -- what is made of an error of `clap`
 abbrev pub Says : ErrorKind → WordsFault → Type 0

@@ -1,14 +1,15 @@
 //! The command line.
-ghost use Rattle.std.specs.Prelude.{◌≡◌, ◌≤◌, IfOk, IfErr, Some, false, true, codes};
+ghost use Rattle.std.specs.Prelude.{◌≡◌, ◌≤◌, IfOk, IfErr, Some, false, true, codes, length};
 ghost use Rattle.std.specs.String.{string_bytes};
 ghost use Rattle.clap.specs.declared.builder.command.Command.TheViews.{out-Command as fields_of};
-ghost use Rattle.clap.specs.Words.{app_of, found_of, kind_of, one_of, rows_of, rule_of, subcommand_of, subcommand_rows_of, takes, with_subcommand};
-ghost use Rattle.aom_command_line.specs.CommandLine.{asm_form, check_form, dis_form, dot_form, explore_form, run_form, form, file_rule, from_rule, limit_rule, native_rule, number_rule, prices_rule, to_rule, texts_of, with_files, word_of, Asks, AsksRun, Declines, DeclinesRun, IsFlag, IsNumberUpTo, KeepsLimit, Says};
+ghost use Rattle.clap.specs.Words.{all_of, app_of, found_of, kind_of, one_of, rows_of, rule_of, subcommand_of, subcommand_rows_of, takes, with_subcommand};
+ghost use Rattle.aom_command_line.specs.CommandLine.{asm_form, check_form, dis_form, dot_form, explore_form, run_form, form, file_rule, from_rule, limit_rule, native_rule, number_rule, prices_rule, to_rule, texts_of, with_files, word_of, Asks, AsksRun, Declines, DeclinesNatives, DeclinesRun, IsFlag, IsNumberUpTo, KeepsLimit, NamesKinds, Says, texts_in};
 
+use aom_natives::NativeKind;
 use clap::builder::ValueParser;
 use clap::error::ErrorKind;
 use clap::{Arg, ArgAction, ArgMatches, Command, Error, value_parser};
-use std::alloc::{AllocError, Global};
+use std::alloc::{AllocError, AllocFailed, Global};
 
 /// What is asked, with the names of files.
 #[derive(Debug, Drop)]
@@ -43,7 +44,7 @@ pub enum Words {
 pub enum WordsFault {
     /// What `clap` has to say: a fault, or the help that was asked for.
     Text(String),
-    /// No native of that name.
+    /// No native of that name, or one too many.
     Native,
     Memory,
 }
@@ -59,6 +60,17 @@ impl From<AllocError> for WordsFault {
     }
 }
 
+impl<T: Drop> From<AllocFailed<T>> for WordsFault {
+    ghost use Rattle.std.specs.Prelude.{◌≡◌};
+    ghost use Rattle.aom_command_line.specs.declared.words.WordsFault.TheVariants.{Memory};
+
+    ghost from_gives = { λ _ f. f ≡ Memory };
+
+    fn from(_failed: AllocFailed<T>) -> WordsFault {
+        WordsFault::Memory
+    }
+}
+
 /// What every command that runs an image is given.
 #[derive(Debug, Drop)]
 pub struct RunWords {
@@ -66,7 +78,12 @@ pub struct RunWords {
     pub script: String,
     /// The most dispatches after main's, of each run.
     pub limit: u32,
+    /// The natives, from number 0 on.
+    pub natives: Vec<NativeKind>,
 }
+
+/// The most natives that a command line may name.
+const MOST_NATIVES: usize = 16;
 
 /// Reads a command line, the program's own word first.
 pub fn read_words(alloc: Global, words: Vec<String>) -> Result<Words, WordsFault>
@@ -327,19 +344,47 @@ fn explore_words(alloc: Global, own: &ArgMatches) -> Result<Words, WordsFault>
     })
 }
 
-/// What is to run. There are no natives yet, so no word names one.
+/// What is to run.
 fn run_words(alloc: Global, own: &ArgMatches) -> Result<RunWords, WordsFault>
     ensures asks { IfOk result (λ run. AsksRun (rows_of (found_of own.now)) run) }
     ensures declines { IfErr result (λ fault. DeclinesRun (rows_of (found_of own.now)) fault) }
 {
-    if own.contains_id("NATIVE") {
-        return Err(WordsFault::Native);
-    }
     Ok(RunWords {
+        natives: natives_of(alloc, own)?,
         image: word_of(alloc, own, "IMAGE")?,
         script: word_of(alloc, own, "SCRIPT")?,
         limit: limit_of(own),
     })
+}
+
+/// The natives that the words name.
+fn natives_of(alloc: Global, own: &ArgMatches) -> Result<Vec<NativeKind>, WordsFault>
+    ensures named { IfOk result (λ kinds. NamesKinds (all_of (codes "NATIVE") (rows_of (found_of own.now))) kinds.items) }
+    ensures declines { IfErr result (λ fault. DeclinesNatives (all_of (codes "NATIVE") (rows_of (found_of own.now))) fault) }
+{
+    let Some(words) = own.get_strs("NATIVE") else {
+        return Ok(Vec::new(alloc));
+    };
+    if words.len() > MOST_NATIVES {
+        return Err(WordsFault::Native);
+    }
+    kinds_of(alloc, words)
+}
+
+/// The kinds that words name, of which there are not too many.
+fn kinds_of(alloc: Global, words: &[&str]) -> Result<Vec<NativeKind>, WordsFault>
+    requires { length words.now ≤ 16 }
+    ensures named { IfOk result (λ kinds. NamesKinds (Some (texts_in words.now)) kinds.items) }
+    ensures declines { IfErr result (λ fault. DeclinesNatives (Some (texts_in words.now)) fault) }
+{
+    let mut kinds = Vec::new(alloc);
+    for word in words {
+        match NativeKind::of_word(word) {
+            Some(kind) => kinds.push(kind)?,
+            None => return Err(WordsFault::Native),
+        }
+    }
+    Ok(kinds)
 }
 
 fn asks_prices(own: &ArgMatches) -> bool

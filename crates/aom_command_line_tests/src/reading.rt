@@ -1,4 +1,5 @@
 use aom_command_line::{RunWords, Words, WordsFault, read_words};
+use aom_natives::NativeKind;
 use std::alloc::Global;
 use std::test::Fail;
 
@@ -18,15 +19,30 @@ enum Asked {
 }
 
 fn is_one(run: &RunWords) -> bool {
-    run.image.as_str() == "one.image" && run.script.as_str() == "one.script"
+    run.image.as_str() == "one.image"
+        && run.script.as_str() == "one.script"
+        && run.natives.is_empty()
 }
 
-fn ask(alloc: Global, line: &str) -> Result<Asked, Fail> {
+fn words_of(alloc: Global, line: &str) -> Result<Vec<String>, Fail> {
     let mut words = Vec::new(alloc);
     for word in line.split(' ') {
         words.push(String::from_str(alloc, word)?)?;
     }
-    Ok(match &read_words(alloc, words) {
+    Ok(words)
+}
+
+/// The natives of a command line that runs an image.
+fn named(alloc: Global, line: &str) -> Result<Vec<NativeKind>, Fail> {
+    match read_words(alloc, words_of(alloc, line)?) {
+        Ok(Words::Run(run)) => Ok(run.natives),
+        Ok(Words::Explore { run, .. }) => Ok(run.natives),
+        _ => Err(Fail::from("no run")),
+    }
+}
+
+fn ask(alloc: Global, line: &str) -> Result<Asked, Fail> {
+    Ok(match &read_words(alloc, words_of(alloc, line)?) {
         Ok(Words::Check { image, prices }) if image.as_str() == "one.image" => {
             if *prices { Asked::Prices } else { Asked::Check }
         }
@@ -103,21 +119,52 @@ fn the_command_line_is_read(rt: HostRuntime) -> Result<(), Fail> {
         ("aom --help", Asked::Text),
         ("aom help run", Asked::Text),
         ("aom walk", Asked::Text),
-        ("aom run one.image one.script counter", Asked::Native),
+        ("aom run one.image one.script clock", Asked::Native),
+        ("aom run one.image one.script Counter", Asked::Native),
         (
-            "aom explore --from 3 one.image one.script counter",
+            "aom run one.image one.script counter line delays",
             Asked::Native,
         ),
         (
-            "aom run one.image one.script a b c d e f g h i j k l m n o p q",
+            "aom explore --from 3 one.image one.script count",
             Asked::Native,
         ),
+        (
+            "aom run one.image one.script line line line line line line line line line line line line line line line line line",
+            Asked::Native,
+        ),
+        ("aom check one.image counter", Asked::Text),
         (
             "aom run --limit 0 one.image one.script counter",
             Asked::Text,
         ),
     ] {
         assert_eq!(rt; ask(rt.alloc(), line)?, expected);
+    }
+    Ok(())
+}
+
+#[test]
+fn natives_are_named_in_their_order(rt: HostRuntime) -> Result<(), Fail> {
+    use NativeKind::{Counter, Delay, Line};
+
+    for (line, expected) in [
+        ("aom run one.image one.script", &[][..]),
+        ("aom run one.image one.script counter", &[Counter][..]),
+        (
+            "aom run --limit 7 one.image one.script line counter delay line",
+            &[Line, Counter, Delay, Line][..],
+        ),
+        (
+            "aom explore --to 3 one.image one.script delay",
+            &[Delay][..],
+        ),
+        (
+            "aom run one.image one.script line line line line line line line line line line line line line line line line",
+            &[Line; 16][..],
+        ),
+    ] {
+        assert_eq!(rt; named(rt.alloc(), line)?.as_slice(), expected);
     }
     Ok(())
 }

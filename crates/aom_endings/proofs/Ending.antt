@@ -32,11 +32,11 @@ use Rattle.aom_endings.specs.Endings.{CanEnd, RunsCanEnd, one_where, spare}
 use Rattle.aom_steps.specs.Payers.{payer}
 
 -- a number above all names
-top : List Cell → ℕ
+pub top : List Cell → ℕ
 top [] = 0
 top (c ∷ cs) = c.object.name + 1 + top cs
 
-above : (cs : List Cell) (n : ℕ) → top cs ≤ n → named cs n ≡ None
+pub above : (cs : List Cell) (n : ℕ) → top cs ≤ n → named cs n ≡ None
 unfolding top
 above [] n h = refl
 above (c ∷ cs) n h =

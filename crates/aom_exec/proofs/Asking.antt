@@ -91,4 +91,5 @@ cells_asked p h cs n r same = record {
   wide = same.wide;
   classes = same.classes;
   null_is_none = same.null_is_none;
+  below = same.below;
 }

@@ -54,7 +54,7 @@ boot_tasks p main e = ap main_tasks e
 all_closed : (k n : ℕ) → slice_index_or (replicate k false) n false ≡ false
 all_closed k n = all_same k n false
 
-module _ (p : Image) (natives : ℕ) (m : Parts) (booted : Booted p natives m) where
+module _ (p : Image) (m : Parts) (booted : Booted p m) where
   -- no place has anything
   no_value : (r : Place) → value m r ≡ null
   no_value (Register d i) = ap (λ us. register_in us d i) booted.tasks ∙ all_none (2 == d) (1 == d) (0 == d) _ null (begun_registers booted.main null i)
@@ -83,6 +83,7 @@ module _ (p : Image) (natives : ℕ) (m : Parts) (booted : Booted p natives m) w
       wide = λ n c e. absurd (never n c e);
       classes = λ n c e. absurd (never n c e);
       null_is_none = no_cell null;
+      below = λ n c e. absurd (never n c e);
     };
     entries = subst (λ (e : Held_items). SameItems e.items (A_mark ∷ [])) (sym booted.entries) (tt, tt);
     requests = record { stands = booted.requests; limit = booted.numbers };
@@ -103,9 +104,9 @@ module _ (p : Image) (natives : ℕ) (m : Parts) (booted : Booted p natives m) w
 abbrev pub Afforded : Image → Type 0
 Afforded p = (t : Typing) × IsStrongest p t × (c : Prices) × IsAffordable p t c × CostsWithin p c
 
-pub boots : (p : Image) (natives : ℕ) (m : Parts) → IsLinked p → IsAdmitted p → Afforded p → HasDepths p → HasHeights p → BootKeeps → StepKeeps → CalmKeeps → LinkedIsWired → BootWithin → MovesPay
-    → Booted p natives m → StandsFor (record { image = p; parts = m }) (boot_state p)
-boots p natives m linked admitted (t, strongest, prices, affordable, costs) depths heights boot_keeps step_keeps calm_keeps wired boot_within moves_pay booted =
+pub boots : (p : Image) (m : Parts) → IsLinked p → IsAdmitted p → Afforded p → HasDepths p → HasHeights p → BootKeeps → StepKeeps → CalmKeeps → LinkedIsWired → BootWithin → MovesPay
+    → Booted p m → StandsFor (record { image = p; parts = m }) (boot_state p)
+boots p m linked admitted (t, strongest, prices, affordable, costs) depths heights boot_keeps step_keeps calm_keeps wired boot_within moves_pay booted =
     let w = wired p booted.formed linked in
     let sound : Sound p t = record {
       formed = booted.formed;
@@ -131,5 +132,5 @@ boots p natives m linked admitted (t, strongest, prices, affordable, costs) dept
       room = boot_room p t sound;
       waits = none_waits p t;
       within = boots_within p t prices linked strongest.typed affordable boot_within;
-      agrees = boot_agrees p natives m booted;
+      agrees = boot_agrees p m booted;
     }

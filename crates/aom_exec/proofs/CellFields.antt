@@ -81,6 +81,9 @@ cells_rewritten p h h' cs cs' n c c' same at ch class as_wide as_many names as_l
       (λ e. let it = new k z e is in subst (λ x. x < 256) (sym class ∙ ap (λ y. y.class) it) (same.classes n c at))
       (λ e. same.classes k z (sym (other k e) ∙ is));
   null_is_none = ch.others null (λ d. none-some _ (sym (sym at ∙ ap (λ i. cell_at h i) (sym d) ∙ same.null_is_none))) ∙ same.null_is_none;
+  below = λ k z is. subst (λ l. k < l) (sym ch.limit) (cases (n == k)
+      (λ e. subst (λ i. i < h.limit) (eqb-true n k e) (same.below n c at))
+      (λ e. same.below k z (sym (other k e) ∙ is)));
 }
   where
     other : (k : ℕ) → (n == k) ≡ false → cell_at h' k ≡ cell_at h k

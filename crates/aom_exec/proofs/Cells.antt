@@ -1,5 +1,5 @@
 -- The machine's cells, where owners move and where a cell goes.
-use Rattle.std.proofs.Common.{suc, ◌≡◌, ℕ, pos, ◌+◌, Bool, true, false, cond, not, ◌==◌, length, List, [], ◌∷◌, Option, Some, None, refl, sym, ap, ◌∙◌, arith}
+use Rattle.std.proofs.Common.{suc, ◌≡◌, ℕ, pos, ◌+◌, Bool, true, false, cond, not, ◌==◌, length, List, [], ◌∷◌, Option, Some, None, refl, sym, ap, ◌∙◌, arith, subst, ◌<◌}
 use Rattle.std.proofs.lemmas.Bool.{eqb-true, eq-eqb, false≢true, false_from_ne_true, not-true, true≢false}
 use Rattle.aom_image.specs.Image.{Image}
 use Rattle.aom_cells.specs.Heap.{Heap, null, cell_at, word_of, count, Changes}
@@ -23,6 +23,7 @@ cells_moved p h cs from to same = record {
   wide = same.wide;
   classes = same.classes;
   null_is_none = same.null_is_none;
+  below = same.below;
 }
 
 -- where a place owns nothing, nothing of its goes
@@ -80,6 +81,7 @@ cells_without p h h' cs g o same tidy is ch less = record {
   null_is_none = cases (o.name == null)
       (λ e. ap (cell_at h') (sym (eqb-true o.name null e)) ∙ ch.here)
       (λ e. other null e ∙ same.null_is_none);
+  below = λ k c e. subst (λ l. k < l) (sym ch.limit) (same.below k c (sym (still k c e) ∙ e));
 }
   where
     other : (k : ℕ) → (o.name == k) ≡ false → cell_at h' k ≡ cell_at h k

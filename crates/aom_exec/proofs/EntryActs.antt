@@ -152,7 +152,7 @@ module _ (m : Parts) (turn : Turn) where
       record { name = n; refused = false; answer = m.heard },
       record { name = unnamed p m h.state n h.agrees it.2; refusal = granted ∙ same_refusal p turn m h (NewOrLeave a class) here refl },
       refl,
-      λ needs typed. made_agrees m turn p h a class n heap _ small (asks_one m turn h.state.rest h.agrees.rest) needs.0 it.1 it.2 it.3 it.4 it.5,
+      λ needs typed. made_agrees m turn p h a class n heap _ small (asks_one m turn h.state.rest h.agrees.rest) needs.0 it.1 it.2 it.3 it.4 it.5 it.6,
     )
   ]
 

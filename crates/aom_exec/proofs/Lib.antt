@@ -36,6 +36,10 @@ pub mod Announcing
 pub mod Ranking
 pub mod Progressing
 pub mod Turning
+pub mod Timers
+pub mod Served
+pub mod Polling
+pub mod Killing
 pub mod Affording
 pub mod Paying
 pub mod Booting

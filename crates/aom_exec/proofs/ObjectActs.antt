@@ -95,8 +95,8 @@ abbrev zeros : Image → ℕ → List ℤ
 zeros p class = replicate (words_of p class) (pos 0)
 
 -- the cells with a new one
-cells_made : (p : Image) (h h' : Heap) (cs : List Cell) (n class : ℕ) (ws : List ℤ) (q : Place) → SameCells p h cs → ((w : ℕ) → at (pos 0) ws w ≡ pos 0) → class < 256 → cell_at h n ≡ None → n ≢ null → Changes h h' n (Some (blank class)) → count h' ≡ count h + 1 → SameCells p h' (with_new n (An_object_of class) ws q cs)
-cells_made p h h' cs n class ws q same zeros small none some ch more = record {
+cells_made : (p : Image) (h h' : Heap) (cs : List Cell) (n class : ℕ) (ws : List ℤ) (q : Place) → SameCells p h cs → ((w : ℕ) → at (pos 0) ws w ≡ pos 0) → class < 256 → cell_at h n ≡ None → n ≢ null → Changes h h' n (Some (blank class)) → count h' ≡ count h + 1 → n < h'.limit → SameCells p h' (with_new n (An_object_of class) ws q cs)
+cells_made p h h' cs n class ws q same zeros small none some ch more within = record {
   things = λ k. cases (n == k)
       (λ e. ap (λ i. thing_in (cell_at h' i)) (sym (eqb-true n k e)) ∙ ap thing_in ch.here ∙ ap (λ b. thing_of (cond b (Some (record { name = n; thing = An_object_of class })) (named cs k))) (sym e))
       (λ e. ap thing_in (other k e) ∙ same.things k ∙ ap (λ b. thing_of (cond b (Some (record { name = n; thing = An_object_of class })) (named cs k))) (sym e));
@@ -112,6 +112,9 @@ cells_made p h h' cs n class ws q same zeros small none some ch more = record {
       (λ e. let it : blank class ≡ c = new k c e is in subst (λ z. z.class < 256) it small)
       (λ e. same.classes k c (sym (other k e) ∙ is));
   null_is_none = ch.others null (λ d. some (sym d)) ∙ same.null_is_none;
+  below = λ k c is. cases (n == k)
+      (λ e. subst (λ i. i < h'.limit) (eqb-true n k e) within)
+      (λ e. subst (λ l. k < l) (sym ch.limit) (same.below k c (sym (other k e) ∙ is)));
 }
   where
     other : (k : ℕ) → (n == k) ≡ false → cell_at h' k ≡ cell_at h k
@@ -163,16 +166,16 @@ module _ (m : Parts) (turn : Turn) where
 
   -- a new cell comes to a register
   pub made_agrees : (p : Image) (h : At_hand p m) (a class n : ℕ) (heap : Heap) (r : Rest) → a < 16 → record m.rest { requests = raised m.rest.requests } ≡ r → is_none (held h.state.cells (Register (length h.below) a)) ≡ true
-      → class < 256 → cell_at m.cells n ≡ None → n ≢ null → Changes m.cells heap n (Some (blank class)) → count heap ≡ count m.cells + 1
+      → class < 256 → cell_at m.cells n ≡ None → n ≢ null → Changes m.cells heap n (Some (blank class)) → count heap ≡ count m.cells + 1 → n < heap.limit
       → Agrees p (acts.next (set_register a n (asked heap))) (record h.state { cells = with_new n (An_object_of class) (zeros p class) (Register (length h.below) a) h.state.cells; tasks = Run (next (set_word h.frame a None)) ∷ h.below; rest = r })
-  made_agrees p h a class n heap r small rest empty fits none some ch more =
+  made_agrees p h a class n heap r small rest empty fits none some ch more within =
       let s = h.state in
       let here = Register (length h.below) a in
       let cs = with_new n (An_object_of class) (zeros p class) here s.cells in
       goes_on_with p m h (asked heap) cs s.items r (put_at None h.frame.words a None) (on_top (with_register a n)) (with_register a n) (λ f ms. refl)
       (record {
         stack = refl;
-        cells = cells_made p m.cells heap s.cells n class (zeros p class) here h.agrees.cells (zeros_at (words_of p class)) fits none some ch more;
+        cells = cells_made p m.cells heap s.cells n class (zeros p class) here h.agrees.cells (zeros_at (words_of p class)) fits none some ch more within;
         entries = h.agrees.entries;
         requests = requests_made p m.active s.cells n (An_object_of class) (zeros p class) here (unnamed p m s n h.agrees none) h.agrees.requests;
         natives = natives_made p m.sessions s.killed s.cells n (An_object_of class) (zeros p class) here (unnamed p m s n h.agrees none) h.agrees.natives;
@@ -185,17 +188,17 @@ module _ (m : Parts) (turn : Turn) where
   pub asks_one : (r : Rest) → m.rest ≡ r → record m.rest { requests = raised m.rest.requests } ≡ record r { requests = raised r.requests }
   asks_one r e = ap (λ (q : Rest). record q { requests = raised q.requests }) e
 
-  made_does : (a class n : ℕ) (heap : Heap) → a < 16 → false ≡ refuses turn m → class < 256 → cell_at m.cells n ≡ None → n ≢ null → Changes m.cells heap n (Some (blank class)) → count heap ≡ count m.cells + 1
+  made_does : (a class n : ℕ) (heap : Heap) → a < 16 → false ≡ refuses turn m → class < 256 → cell_at m.cells n ≡ None → n ≢ null → Changes m.cells heap n (Some (blank class)) → count heap ≡ count m.cells + 1 → n < heap.limit
       → Does turn.refused (New a class) m (acts.next (set_register a n (asked heap)))
-  made_does a class n heap small granted fits none some ch more p h here = (
+  made_does a class n heap small granted fits none some ch more within p h here = (
     record { name = n; refused = false; answer = m.heard },
     record { name = unnamed p m h.state n h.agrees none; refusal = granted ∙ same_refusal p turn m h (New a class) here refl },
     refl,
-    λ needs typed. made_agrees p h a class n heap _ small (asks_one h.state.rest h.agrees.rest) needs.0 fits none some ch more,
+    λ needs typed. made_agrees p h a class n heap _ small (asks_one h.state.rest h.agrees.rest) needs.0 fits none some ch more within,
   )
 
   pub new_does : (a class n : ℕ) (refused : Bool) (heap : Heap) → a < 16 → refused ≡ refuses turn m → Made class refused n m.cells heap → Does turn.refused (New a class) m (acts.next (set_register a n (asked heap)))
   new_does a class n refused heap small same it = elim it [
     | inl null_made ↦ subst (λ x. Does turn.refused (New a class) m (acts.next (set_register a n (asked x)))) (sym null_made.2) (subst (λ k. Does turn.refused (New a class) m (acts.next (set_register a k (asked m.cells)))) (sym null_made.1) (refused_does a class small (sym null_made.0 ∙ same)))
-    | inr new_made ↦ made_does a class n heap small (sym new_made.0 ∙ same) new_made.1 new_made.2 new_made.3 new_made.4 new_made.5
+    | inr new_made ↦ made_does a class n heap small (sym new_made.0 ∙ same) new_made.1 new_made.2 new_made.3 new_made.4 new_made.5 new_made.6
   ]

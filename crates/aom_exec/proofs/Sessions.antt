@@ -21,7 +21,7 @@ use Rattle.aom_sound.proofs.Storing.{resessioned_alike}
 -- ---- what the cells tell
 
 -- a name that no cell has is in no session
-unnamed_closed : (cs : List Cell) (n : ℕ) → named cs n ≡ None → in_session cs n ≡ false
+pub unnamed_closed : (cs : List Cell) (n : ℕ) → named cs n ≡ None → in_session cs n ≡ false
 unnamed_closed [] n e = refl
 unnamed_closed (c ∷ cs) n e = go (c.object.name == n) e (unnamed_closed cs n)
   where
@@ -155,6 +155,7 @@ cells_resessioned p h cs (Inside o from) b same = record {
   wide = same.wide;
   classes = same.classes;
   null_is_none = same.null_is_none;
+  below = same.below;
 }
 
 -- a cell that goes has its session closed

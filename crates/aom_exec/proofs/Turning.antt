@@ -45,10 +45,11 @@ use Rattle.aom_sound.specs.Enlisted.{is_active, on_request, part_of, pending, st
 use Rattle.aom_sound.specs.Places.{Active as Waits_for, Cell, Elsewhere, Entry, Object, Phase, Going, Place, Register, Request, Root, Timer, held, named, requested}
 use Rattle.aom_sound.specs.Requests.{Known, Suits, phase_state, states_claim}
 use Rattle.aom_sound.specs.State.{Dispatch, Dispatched, Goes, Inside, Of_object, Rest, Seat, State, Trapped}
-use Rattle.aom_sound.specs.WellTyped.{Keeps}
+use Rattle.aom_sound.specs.WellTyped.{Keeps, WellTyped}
 use Rattle.aom_sound.specs.World.{Candidate, Cuts, Hears, IsBetween, Passes, Picks, Timed, Turning, Waits, dispatched, due_of, ends_as, first_due, heard_one, first_ready, is_ready, run_line, turned, with_request}
 use Rattle.aom_steps.proofs.Pushed.{asked_same}
 use Rattle.aom_steps.proofs.Turns.{picking}
+use Rattle.aom_steps.specs.Left.{objects_left}
 use Rattle.aom_steps.specs.Payers as payers
 use Rattle.aom_steps.specs.Payers.{declared_of, payer, price_of}
 use Rattle.aom_exec.specs.declared.parts.Parts.{Parts}
@@ -75,13 +76,13 @@ use Rattle.aom_exec.proofs.Sessions.{natives_asked}
 -- ---- another request of a cell
 
 module _ (cs : List Cell) (o : Object) (f : Request → Request) where
-  alike : Alike cs (with_request f o cs)
+  pub alike : Alike cs (with_request f o cs)
   alike = rerequested_alike cs (Inside o (Elsewhere Root)) (on_request f (requested cs o.name))
 
-  cells_then : (p : Image) (h : Heap) → SameCells p h cs → SameCells p h (with_request f o cs)
+  pub cells_then : (p : Image) (h : Heap) → SameCells p h cs → SameCells p h (with_request f o cs)
   cells_then p h same = cells_asked p h cs o.name (on_request f (requested cs o.name)) same
 
-  requests_asked : (p : Image) (old new : Active) (r : Request) → named cs o.name ≡ Some o → requested cs o.name ≡ Some r → Makes old new o.name f → SameRequests p old cs → SameRequests p new (with_request f o cs)
+  pub requests_asked : (p : Image) (old new : Active) (r : Request) → named cs o.name ≡ Some o → requested cs o.name ≡ Some r → Makes old new o.name f → SameRequests p old cs → SameRequests p new (with_request f o cs)
   requests_asked p old new r lives is makes h = record {
     stands = standing_follows new (asked_anew o.name (Some (f r)) (requested cs)) (requested (with_request f o cs)) now (makes.stands (requested cs) r h.stands is);
     limit = makes.limit ∙ h.limit;
@@ -96,11 +97,11 @@ pub machine_between : (m : Machine) (s : State) → StandsFor m s → progress m
 machine_between m s st turned = between s (sym (is_as_far m s st) ∙ turned)
 
 -- a turn that writes nothing
-silent : (told : Turn) → told ≡ record told { lines = told.lines ++ [] }
+pub silent : (told : Turn) → told ≡ record told { lines = told.lines ++ [] }
 silent told = ap (λ ls. record told { lines = ls }) (sym (append-nil told.lines))
 
 -- what no place tells is another
-stands_rest : (p : Image) (m : Parts) (s : State) (r r' : Rest) → r ≡ r' → r'.steps ≡ s.rest.steps → StandsFor (record { image = p; parts = m }) s → StandsFor (record { image = p; parts = record m { rest = r } }) (record s { rest = r' })
+pub stands_rest : (p : Image) (m : Parts) (s : State) (r r' : Rest) → r ≡ r' → r'.steps ≡ s.rest.steps → StandsFor (record { image = p; parts = m }) s → StandsFor (record { image = p; parts = record m { rest = r } }) (record s { rest = r' })
 stands_rest p m s r r' same steps st = record {
   typing = st.typing;
   sound = st.sound;
@@ -164,6 +165,24 @@ module _ (p : Image) (m : Parts) (turned : progress_by m.rest.ended m.stack.task
     stands = stands_rest p m s (record m.rest { ended = Some Limit }) (record s.rest { ended = Some Limit }) (ap (λ (r : Rest). record r { ended = Some Limit }) st.agrees.rest) refl st;
   }
 
+-- nothing is at hand, and other cells have as much outstanding on the cleanup stack
+module _ (p : Image) (m : Parts) (s : State) (st : StandsFor (record { image = p; parts = m }) s) (idle : s.tasks ≡ []) where
+  pub stands_as :
+      (new : Parts) (cs : List Cell) (r : Rest) (killed : List ℕ) → WellTyped p st.typing (record s { cells = cs; rest = r; killed = killed }) →
+      objects_left st.sound.prices cs ≡ objects_left st.sound.prices s.cells → r.steps ≡ s.rest.steps → Agrees p new (record s { cells = cs; rest = r; killed = killed }) →
+      StandsFor (record { image = p; parts = new }) (record s { cells = cs; rest = r; killed = killed })
+  stands_as new cs r killed typed as_many steps agrees = record {
+    typing = st.typing;
+    sound = st.sound;
+    typed = typed;
+    calm = st.calm;
+    traps = st.traps;
+    room = record { under = st.room.under; runs = subst (λ ts. AllRunUnder p (at 0 st.sound.depths.depths) cs s.items ts) (sym idle) tt; fit = st.room.fit; entries = st.room.entries };
+    waits = subst (λ ts. OthersWait p st.typing cs ts) (sym idle) tt;
+    within = record { within = omega (arith, st.within.within, as_many, steps) };
+    agrees = agrees;
+  }
+
 -- when the timer that is due first is due
 due_same : (o : Option Timed) → option_map (λ x. x.timer.due) o ≡ due_of o
 due_same None = refl
@@ -202,17 +221,8 @@ module _ (p : Image) (m : Parts) (a : Active) (turned : progress_by m.rest.ended
     timed_stands =
         let idle = (machine_between before s st turned).idle in
         let cs = with_request timed_out o s.cells in
-        record {
-          typing = st.typing;
-          sound = st.sound;
-          typed = completed p st.typing s st.typed idle (pos 0) refl o s.rest;
-          calm = st.calm;
-          traps = st.traps;
-          room = record { under = st.room.under; runs = subst (λ ts. AllRunUnder p (at 0 st.sound.depths.depths) cs s.items ts) (sym idle) tt; fit = st.room.fit; entries = st.room.entries };
-          waits = subst (λ ts. OthersWait p st.typing cs ts) (sym idle) tt;
-          within = record { within = omega (arith, st.within.within, asked_same st.sound.prices o.name (on_request timed_out (requested s.cells o.name)) s.cells) };
-          agrees = timed_agrees;
-        }
+        stands_as p m s st idle (record m { active = a }) cs s.rest s.killed (completed p st.typing s st.typed idle (pos 0) refl o s.rest)
+        (asked_same st.sound.prices o.name (on_request timed_out (requested s.cells o.name)) s.cells) refl timed_agrees
 
   timer_completes : (id : ℕ) → Makes m.active a id timed_out → ((asked : ℕ → Option Request) → Asks_for m.active asked → IsFirstDue m.rest.clock id asked) → Completed before true after
   timer_completes id makes first told s st =

@@ -115,10 +115,10 @@ module _ (p : Image) (m : Parts) (s : State) (st : StandsFor (record { image = p
         ∙ mapped (not (is_killed m.sessions n) && not (is_open m.sessions id)) (Open n id)
     wanted_so (Issue a b) here =
         let k = needed (Issue a b) here in
-        ap (λ x. cond x (Some (Starts n id (read h.frame h.below s b) (read h.frame h.below s a))) None) served
-        ∙ ap (λ v. cond (not (is_killed m.sessions n) && is_open m.sessions id) (Some (Starts n id v (read h.frame h.below s a))) None) (word_told b k.1.1.0)
-        ∙ ap (λ v. cond (not (is_killed m.sessions n) && is_open m.sessions id) (Some (Starts n id (word_here m b) v)) None) (word_told a k.1.0)
-        ∙ mapped (not (is_killed m.sessions n) && is_open m.sessions id) (Start n id (word_here m b) (word_here m a))
+        ap (λ x. cond x (Some (Starts n id (read h.frame h.below s a) (read h.frame h.below s b))) None) served
+        ∙ ap (λ v. cond (not (is_killed m.sessions n) && is_open m.sessions id) (Some (Starts n id v (read h.frame h.below s b))) None) (word_told a k.1.0)
+        ∙ ap (λ v. cond (not (is_killed m.sessions n) && is_open m.sessions id) (Some (Starts n id (word_here m a) v)) None) (word_told b k.1.1.0)
+        ∙ mapped (not (is_killed m.sessions n) && is_open m.sessions id) (Start n id (word_here m a) (word_here m b))
     wanted_so (Ask a b x) here =
         let k = needed (Ask a b x) here in
         ap (λ y. cond y (Some (Asks n id (read h.frame h.below s b) (read h.frame h.below s x))) None) served

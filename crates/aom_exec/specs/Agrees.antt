@@ -128,6 +128,7 @@ pub record SameCells (p : Image) (h : Heap) (cs : List Cell) : Type 0 where
   pub wide : (n : ℕ) (c : Held_cell) → cell_at h n ≡ Some c → length c.fields ≡ 8
   pub classes : (n : ℕ) (c : Held_cell) → cell_at h n ≡ Some c → c.class < 256
   pub null_is_none : cell_at h null ≡ None
+  pub below : (n : ℕ) (c : Held_cell) → cell_at h n ≡ Some c → n < h.limit
 
 -- the same objects are enlisted, by their numbers, with the same requests
 pub record SameRequests (p : Image) (a : Active) (cs : List Cell) : Type 0 where

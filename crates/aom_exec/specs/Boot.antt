@@ -11,8 +11,8 @@ use Rattle.aom_cleanup.specs.declared.item.Item.TheVariants.{Mark}
 use Rattle.aom_active.specs.Agrees.{StandsFor}
 use Rattle.aom_exec.specs.declared.parts.Parts.{Parts}
 
--- time 0, main at hand under its trap, no cell, the mark of the trap, and room for the ends of so many natives
-pub record Booted (p : Image) (natives : ℕ) (m : Parts) : Type 0 where
+-- time 0, main at hand under its trap, no cell, and the mark of the trap
+pub record Booted (p : Image) (m : Parts) : Type 0 where
   pub formed : WellFormed p
   pub main : ℕ
   pub is_main : main_of p ≡ Some main
@@ -22,6 +22,6 @@ pub record Booted (p : Image) (natives : ℕ) (m : Parts) : Type 0 where
   pub entries : m.entries ≡ record { items = Mark ∷ []; depth = 1024 }
   pub requests : StandsFor m.active (λ n. None)
   pub numbers : m.active.table.limit ≡ p.header.cells
-  pub sessions : m.sessions ≡ record { flags = replicate p.header.cells false; killed = []; room = natives }
+  pub sessions : m.sessions ≡ record { flags = replicate p.header.cells false; killed = [] }
   pub root : m.root ≡ null
   pub rest : m.rest ≡ record { clock = 0; requests = 0; steps = 0; dispatches = 0; announced = false; stopped = false; delivered = 0; polled = 0; ended = None }

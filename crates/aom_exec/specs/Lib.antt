@@ -20,3 +20,4 @@ pub mod Cleanup
 pub mod Requests
 pub mod Natives
 pub mod Wanted
+pub mod Serving

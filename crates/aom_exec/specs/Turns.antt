@@ -1,5 +1,5 @@
 -- The parts of a turn, as a machine takes them one by one between dispatches.
-use Rattle.std.specs.Prelude.{◌≡◌, ◌<◌, ◌≤◌, ◌++◌, ℕ, ℤ, Bool, true, false, [], ◌∷◌, Some, IsSome}
+use Rattle.std.specs.Prelude.{◌≡◌, ◌<◌, ◌≤◌, ◌++◌, ℕ, ℤ, Bool, true, false, List, [], ◌∷◌, Option, None, Some, IsSome}
 use Rattle.aom_image.specs.Image.{Image}
 use Rattle.aom_image.specs.declared.method.Role.TheVariants.{Run as Handles}
 use Rattle.aom_classes.specs.Roles.{role_of}
@@ -10,8 +10,9 @@ use Rattle.aom_frames.specs.Tasks.{fresh}
 use Rattle.aom_frames.specs.declared.task.Task.TheVariants.{Run, Trapped, Dispatched}
 use Rattle.aom_frames.specs.declared.dispatch.Dispatch.TheVariants.{Object as Of_one}
 use Rattle.aom_cleanup.specs.declared.item.Item.TheVariants.{Mark}
+use Rattle.aom_sound.specs.Places.{Cell}
 use Rattle.aom_sound.specs.State.{Goes, State}
-use Rattle.aom_sound.specs.World.{Candidate, Completes, IsBetween, Picks, Timed, Turning, first_due, first_ready, has_signal, turned, written_by}
+use Rattle.aom_sound.specs.World.{Candidate, Completes, Completion, IsBetween, Picks, Timed, Turning, cell_at, first_due, first_ready, has_signal, turned, written_by}
 use Rattle.aom_lines.specs.Turn.{Turn}
 use Rattle.aom_exec.specs.declared.parts.Parts.{Parts}
 use Rattle.aom_exec.specs.Steps.{Machine, StandsFor}
@@ -41,6 +42,13 @@ Completed old false new = (new ≡ old) × ((s : State) → StandsFor old s → 
 abbrev pub Picked : Machine → Bool → Turn → Turn → Machine → Type 0
 Picked old true told now new = (s : State) → StandsFor old s → (x : Candidate) × (first_ready s.cells ≡ Some x) × (has_signal s.cells ≡ true) × Takes old s (Picks x.seat) told now new
 Picked old false told now new = (new ≡ old) × (now ≡ told) × ((s : State) → StandsFor old s → has_signal s.cells ≡ false)
+
+-- the cell of that number is completed with that code, or nothing is, as a native answers that is polled
+abbrev pub Answers : List Cell → Option (ℕ × ℤ) → Option Completion → Type 0
+Answers cells None None = Unit {0}
+Answers cells None (Some a) = ⊥
+Answers cells (Some x) None = ⊥
+Answers cells (Some x) (Some a) = (c : Cell) × (cell_at cells a.cell ≡ Some c) × (c.object.name ≡ x.0) × (a.code ≡ x.1)
 
 -- ---- a dispatch begins
 

@@ -25,7 +25,7 @@ word_here m a = cast_signed w32 (register_here m.stack.tasks a)
 -- of an instruction of a method that works on the cell of that number, which that native serves
 abbrev pub wanted_of : Parts → (owed : Bool) → (native id : ℕ) → Instr → Option Held_wanted
 wanted_of m owed n id (Connects a) = cond (not (is_killed m.sessions n) && not (is_open m.sessions id)) (Some (Open n id)) None
-wanted_of m owed n id (Issues a b) = cond (not (is_killed m.sessions n) && is_open m.sessions id) (Some (Start n id (word_here m b) (word_here m a))) None
+wanted_of m owed n id (Issues a b) = cond (not (is_killed m.sessions n) && is_open m.sessions id) (Some (Start n id (word_here m a) (word_here m b))) None
 wanted_of m owed n id (Asks_native a b x) = cond (not (is_killed m.sessions n) && is_open m.sessions id) (Some (Ask n id (word_here m b) (word_here m x))) None
 wanted_of m owed n id Aborts = cond owed (Some (Cancel n id)) None
 wanted_of m owed n id Closes_session = cond (is_open m.sessions id) (Some (Close n id)) None

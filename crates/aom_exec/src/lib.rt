@@ -10,7 +10,6 @@
 mod calls;
 mod cleanup;
 mod closing;
-mod fault;
 mod fields;
 mod going;
 mod leaving;
@@ -22,11 +21,11 @@ mod parts;
 mod progress;
 mod requests;
 mod rest;
+mod serving;
 mod turns;
 mod wanted;
 mod words;
 
-pub use fault::BootFault;
 pub use machine::Machine;
 pub use progress::Progress;
 pub use wanted::Wanted;

@@ -1,23 +1,25 @@
 //! A machine over the image that it runs.
-ghost use Rattle.std.specs.Prelude.{◌≡◌, ◌<◌, ◌≤◌, ◌+◌, ◌^◌, ◌↔◌, ◌⊎◌, IfOk, IsTrue, length, option_map, suc, true};
+ghost use Rattle.std.specs.Prelude.{◌≡◌, ◌<◌, ◌≤◌, ◌+◌, ◌++◌, ◌∷◌, ◌^◌, ◌↔◌, ◌⊎◌, [], IfOk, IfSome, IsTrue, Option, false, length, option_map, suc, true};
 ghost use Rattle.aom_cells.specs.Heap.{count};
-ghost use Rattle.aom_sound.specs.World.{Cuts, Hears, Passes, Waits, boot_state, due_of, first_due};
+ghost use Rattle.aom_sound.specs.World.{AnswersWell, Completion, Cuts, Hears, Kills, Passes, Polls, Waits, boot_state, due_of, first_due};
+ghost use Rattle.aom_lines.specs.Turn.{Turn as TurnRecord};
+ghost use Rattle.aom_owed.specs.Owed.{owes};
 ghost use Rattle.aom_exec.specs.Agreement.{AgreesInAll};
 ghost use Rattle.aom_exec.specs.Steps.{StandsFor, Stepped, SteppedOn, Wants, progress, rank, timers};
-ghost use Rattle.aom_exec.specs.Turns.{Completed, Picked, TakesAll};
+ghost use Rattle.aom_exec.specs.Turns.{Answers, Completed, NoneDue, Picked, Takes, TakesAll};
+ghost use Rattle.aom_sessions.specs.Sessions.{is_killed};
 ghost use Rattle.aom_sound.specs.State.{State};
 ghost use Rattle.aom_sound.specs.Wanted.{wanted};
 ghost use Rattle.aom_exec.specs.Wanted.{as_wanted};
 ghost use Rattle.aom_steps.specs.Payers.{declared_of, payer};
 ghost use Rattle.aom_exec.specs.declared.progress.Progress.TheVariants.{Running, Turned};
 
-use crate::fault::BootFault;
 use crate::parts::Parts;
 use crate::progress::Progress;
 use crate::wanted::Wanted;
 use aom_budget::Accepted;
 use aom_lines::Turn;
-use std::alloc::Global;
+use std::alloc::{AllocError, Global};
 use std::marker::Model;
 
 /// What an accepted image does.
@@ -38,18 +40,14 @@ impl<'a> Model for Machine<'a> {
 }
 
 impl<'a> Machine<'a> {
-    /// A machine at time 0, with main at hand, beside so many natives. It takes all the memory that the machine will ever have.
-    pub fn boot(
-        alloc: Global,
-        accepted: &'a Accepted,
-        natives: usize,
-    ) -> Result<Machine<'a>, BootFault>
+    /// A machine at time 0, with main at hand. It takes all the memory that the machine will ever have.
+    pub fn boot(alloc: Global, accepted: &'a Accepted) -> Result<Machine<'a>, AllocError>
         ensures image { IfOk result (λ m. m.image ≡ accepted.now) }
         ensures stands { IfOk result (λ m. StandsFor m (boot_state accepted.now)) }
         ensures agrees { IfOk result AgreesInAll }
     {
         let linked = accepted.linked();
-        let parts = Parts::boot(alloc, linked, natives)?;
+        let parts = Parts::boot(alloc, linked)?;
         aom_sound::boot_keeps();
         aom_sound::step_keeps();
         aom_sound::calm_keeps();
@@ -156,6 +154,39 @@ impl<'a> Machine<'a> {
         self.parts.rest.deliver();
     }
 
+    /// Between dispatches an event kills a native, with its line: what is outstanding there is completed with -15
+    /// (KErrServerTerminated), and sessions with it are over.
+    pub fn kill(&mut self, native: u8, turn: &mut Turn)
+        requires between { progress self.old ≡ Turned }
+        requires few { self.old.parts.rest.delivered + 1 < 2 ^ 64 }
+        requires lives { is_killed self.old.parts.sessions native ≡ false }
+        requires room { length turn.old.lines < turn.old.room }
+        ensures image { self.new.image ≡ self.old.image }
+        ensures killed { (s : State) → StandsFor self.old s → Takes self.old s (Kills native) turn.old turn.new self.new }
+        ensures rest { self.new.parts.rest ≡ record self.old.parts.rest { delivered = suc self.old.parts.rest.delivered } }
+        ensures ended { self.new.parts.sessions.killed ≡ self.old.parts.sessions.killed ++ native ∷ [] }
+        ensures timers { timers self.new ≡ timers self.old }
+        ensures agrees { AgreesInAll self.new }
+    {
+        self.parts.kill(native, self.accepted.linked(), turn);
+    }
+
+    /// Between dispatches a native is polled: it completes the request of the cell of that number with a code, or nothing.
+    pub fn polled(&mut self, native: usize, completion: Option<(u32, i32)>)
+        requires between { progress self.old ≡ Turned }
+        requires few { native + 1 < 2 ^ 64 }
+        requires owed { IfSome completion (λ x. (s : State) × StandsFor self.old s × (owes self.old.image s.cells native x.0 ≡ true)) }
+        ensures image { self.new.image ≡ self.old.image }
+        ensures polled { (s : State) → StandsFor self.old s → (answer : Option Completion) × Answers s.cells completion answer × AnswersWell self.old.image s (Polls native answer) × ((told : TurnRecord) → Takes self.old s (Polls native answer) told told self.new) }
+        ensures rest { self.new.parts.rest ≡ record self.old.parts.rest { polled = suc native } }
+        ensures sessions { self.new.parts.sessions ≡ self.old.parts.sessions }
+        ensures none_due { ((s : State) → StandsFor self.old s → NoneDue s) → (s : State) → StandsFor self.new s → NoneDue s }
+        ensures timers { timers self.new ≡ timers self.old }
+        ensures agrees { AgreesInAll self.new }
+    {
+        self.parts.polled(native, completion);
+    }
+
     /// Between dispatches, where nothing is due and nothing signals: the run is over.
     pub fn wait(&mut self)
         requires { progress self.old ≡ Turned }
@@ -202,6 +233,13 @@ impl<'a> Machine<'a> {
         ensures { result ≡ self.now.parts.rest.delivered }
     {
         self.parts.rest.delivered()
+    }
+
+    /// The natives before that number are polled in the turn at hand.
+    pub fn polled_so_far(&self) -> u64
+        ensures { result ≡ self.now.parts.rest.polled }
+    {
+        self.parts.rest.polled()
     }
 
     /// How many dispatches of objects are over.

@@ -25,7 +25,7 @@ use aom_image::{Provider, Register};
 const NOT_FOUND: i32 = -1;
 
 /// The native is killed: KErrServerTerminated.
-const TERMINATED: i32 = -15;
+pub const TERMINATED: i32 = -15;
 
 impl Parts {
     /// The native that serves the method's object.

@@ -68,6 +68,12 @@ impl Rest {
         self.dispatches
     }
 
+    pub fn polled(&self) -> u64
+        ensures { result ≡ self.now.polled }
+    {
+        self.polled
+    }
+
     pub fn requests(&self) -> u64
         ensures { result ≡ self.now.requests }
     {
@@ -180,6 +186,14 @@ impl Rest {
         ensures { self.new ≡ record self.old { delivered = suc self.old.delivered } }
     {
         self.delivered += 1;
+    }
+
+    /// The natives up to that one are polled in the turn at hand.
+    pub fn poll(&mut self, native: usize)
+        requires { native + 1 < 2 ^ 64 }
+        ensures { self.new ≡ record self.old { polled = suc native } }
+    {
+        self.polled = native as u64 + 1;
     }
 
     /// The end of an object's dispatch, which was left, and that was the answer.

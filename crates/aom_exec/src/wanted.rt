@@ -68,7 +68,7 @@ fn native_of(kind: ClassKind) -> Option<usize>
 
 impl Parts {
     /// The native that serves a living cell, if one does.
-    fn serving(&self, number: u32, linked: &Linked) -> Option<usize>
+    pub fn serving(&self, number: u32, linked: &Linked) -> Option<usize>
         requires lives { Lives self.now.cells number }
         requires small { IfSome (class_at self.now.cells number) (λ class. class < 256) }
         ensures { native_of (kind_of linked.now (class_at self.now.cells number)) ≡ result }
@@ -91,7 +91,7 @@ impl Parts {
         let is_open = self.sessions.is_open(cell);
         match instr {
             Instr::Connect(_) if !is_dead && !is_open => Some(Wanted::Open { native, id }),
-            Instr::Issue(word, function) if !is_dead && is_open => Some(Wanted::Start {
+            Instr::Issue(function, word) if !is_dead && is_open => Some(Wanted::Start {
                 native,
                 id,
                 function: self.word(function),

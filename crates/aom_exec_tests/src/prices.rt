@@ -29,7 +29,7 @@ fn goes_on_far(
 /// How many single steps a run that stops takes to its end, where it tells as many. The end of the stopped dispatch is one
 /// more, which counts as none.
 fn single_steps(alloc: Global, accepted: &Accepted) -> Option<u64> {
-    let mut machine = Machine::boot(alloc, accepted, 0).ok()?;
+    let mut machine = Machine::boot(alloc, accepted).ok()?;
     for count in 0..3000 {
         if !goes_on(alloc, accepted, &mut machine).ok()? {
             return (machine.steps() == count).then_some(count);
@@ -40,7 +40,7 @@ fn single_steps(alloc: Global, accepted: &Accepted) -> Option<u64> {
 
 /// How many steps a run tells that goes on by several at once.
 fn told_steps(alloc: Global, accepted: &Accepted) -> Option<u64> {
-    let mut machine = Machine::boot(alloc, accepted, 0).ok()?;
+    let mut machine = Machine::boot(alloc, accepted).ok()?;
     for _ in 0..3000 {
         if !goes_on_far(alloc, accepted, &mut machine).ok()? {
             return Some(machine.steps());

@@ -79,7 +79,7 @@ fn walks(
         accepted.figures().main_price(accepted.linked()),
         u64::from(declared)
     );
-    match Machine::boot(alloc, &accepted, 0) {
+    match Machine::boot(alloc, &accepted) {
         Ok(mut machine) => {
             let trace = trace_of(rt, alloc, &accepted, refused, &mut machine)?;
             assert_eq!(rt; trace.as_slice(), wanted.as_bytes());

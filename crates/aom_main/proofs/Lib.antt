@@ -1,3 +1,4 @@
+pub mod Boxes
 pub mod Refusing
 pub mod Sending
 pub mod Telling

@@ -1,9 +1,8 @@
 -- What is known of an outcome, of a script and of the image is what the status answers.
-use Rattle.std.proofs.Common.{◌≡◌, ◌∙◌, List, None, ℕ, Ok, true, false, ap, length, pos, refl, sym, subst, inl, inr}
-use Rattle.std.proofs.lemmas.Bool.{eqb-true}
+use Rattle.std.proofs.Common.{◌≡◌, ◌↔◌, ◌<◌, ◌≤◌, ◌∙◌, Bool, List, None, Option, ℕ, Ok, true, false, ap, arith, length, pos, refl, sym, subst, inl, inr}
 use Rattle.aom_transcript.specs.declared.line.Line.{Line}
 use Rattle.aom_sound.specs.State.{State}
-use Rattle.aom_sound.specs.World.{Reaches, boot_state}
+use Rattle.aom_sound.specs.World.{Outside, Reaches, Run_of, boot_state}
 use Rattle.std.specs.Prelude.{◌⊎◌}
 use Rattle.aom_image.specs.Image.{Image}
 use Rattle.aom_classes.specs.Linked.{IsLinked}
@@ -15,6 +14,7 @@ use Rattle.aom_prices.specs.Prices.{Prices}
 use Rattle.aom_sound.specs.Laws.{LinkedIsWired}
 use Rattle.aom_transcript.specs.declared.line.Ending.{Ending}
 use Rattle.aom_transcript.specs.declared.line.Ending.TheVariants as endings
+use Rattle.aom_determined.proofs.Oracles.{each_run_follows}
 use Rattle.aom_determined.proofs.Polling.{nothing_is_heard}
 use Rattle.aom_determined.specs.Hearing.{Follows, Oracle}
 use Rattle.aom_determined.specs.Laws.{TextIsDetermined}
@@ -25,7 +25,8 @@ use Rattle.aom_steps.specs.Laws.{StepsWithin}
 use Rattle.aom_run.specs.declared.outcome.Outcome.{Outcome}
 use Rattle.aom_run.specs.declared.outcome.Outcome.TheVariants.{Stopped, Waiting, MainLeft, Limit, Error, WriteFault}
 use Rattle.aom_script.proofs.Faulting.{IsOfText, is_of_text}
-use Rattle.aom_run.specs.Runs.{after}
+use Rattle.aom_run.specs.Runs.{Ran, after}
+use Rattle.aom_machine.specs.declared.machine.Machine.{Machine}
 use Rattle.aom_script.specs.Script.{Script, denoted, RefusesOrWants}
 use Rattle.aom_script.specs.declared.fault.ScriptFault.{ScriptFault}
 use Rattle.aom_script.specs.declared.fault.ScriptFaultKind.{ScriptFaultKind}
@@ -34,15 +35,18 @@ use Rattle.aom_main.specs.declared.status.ExitStatus.{ExitStatus}
 use Rattle.aom_main.specs.declared.status.ExitStatus.TheVariants as statuses
 use Rattle.aom_main.specs.declared.faults.Fault.{Fault}
 use Rattle.aom_main.specs.declared.faults.Fault.TheVariants as faults
-use Rattle.aom_main.specs.Status.{of_script, of_script_kind, status_of}
+use Rattle.aom_machine.specs.declared.fault.BootFault.{BootFault}
+use Rattle.aom_machine.specs.declared.fault.BootFault.TheVariants as boots
+use Rattle.aom_main.specs.Status.{of_boot, of_script, of_script_kind, status_of}
 use Rattle.aom_main.specs.Acceptable.{IsSpelled, IsAcceptable, Refuses, RefusesOrWants as RefusesImage}
-use Rattle.aom_main.specs.Headline.{Sent, outside_of, IsSilent, Told, Shows, Accepts, AcceptedAnswers, AllRunWell, CheckAnswers, Ends, ImageWantsMemory, IsOnly, IsRefused, RunAnswers, Runs, Transcribed}
+use Rattle.aom_main.specs.Headline.{Sent, outside_of, IsSilent, Told, Shows, Accepts, AcceptedAnswers, AllRunWell, CheckAnswers, Ends, EndsAs, HasNatives, ImageWantsMemory, IsOnly, IsRefused, RefusesBoot, RunAnswers, Runs, Shown, Transcribed}
 use Rattle.aom_exec.proofs.Affording.{affords}
-use Rattle.aom_main.specs.Explored.{AcceptedExplores, Begun, ExploreAnswers, Explored}
+use Rattle.aom_main.specs.Explored.{AcceptedExplores, BreaksOff, ExploreAnswers, Explored, RefusesTry}
 use Rattle.aom_main.specs.Explored.ExploreBreaks.{script_wants_memory as wants_for_script, machine_wants_memory as wants_for_machine, output_fails as fails}
 use Rattle.aom_main.specs.declared.exploring.Part.{Part}
 use Rattle.aom_main.specs.Headline.RunBreaks.{machine_wants_memory, output_fails, script_wants_memory}
 use Rattle.aom_classes.specs.Admitted.{IsAdmitted}
+use Rattle.aom_main.proofs.Tries.{nothing}
 
 -- ---- a run
 
@@ -58,60 +62,103 @@ all_run_well p linked admitted table law steps wired determined =
     }
 
 -- a run of a linked image that has a typing
-abbrev runs_of : (bytes text : List ℕ) (limit : ℕ) (p : Image) (script : Script) → IsAcceptable p → AllRunWell p → IsSpelled bytes p → denoted text ≡ Ok script → Runs bytes text limit
-runs_of bytes text limit p script acceptable well spelled denotes =
+abbrev runs_of : (bytes text : List ℕ) (limit natives : ℕ) (p : Image) (script : Script) → IsAcceptable p → AllRunWell p → IsSpelled bytes p → denoted text ≡ Ok script → Runs bytes text limit natives
+runs_of bytes text limit natives p script acceptable well spelled denotes =
     record {
       image = p;
       spelled = spelled;
       acceptable = acceptable;
       script = script;
       denotes = denotes;
-      well = well.each bytes spelled (outside_of script limit);
-      within = well.within bytes spelled (outside_of script limit);
-      determined = well.one bytes spelled (outside_of script limit);
+      well = well.each bytes spelled (outside_of script limit natives);
+      within = well.within bytes spelled (outside_of script limit natives);
+      determined = well.one bytes spelled (outside_of script limit natives);
     }
 
--- an image that is admitted names no native, so nothing is heard of any
+-- natives of which nothing is heard
 silence : Oracle
 silence = record { answers = λ n. pos 0; completes = λ n. None }
 
-unheard : (bytes text : List ℕ) (limit : ℕ) (r : Runs bytes text limit) (lines : List Line) (s : State) (reached : Reaches r.image (outside_of r.script limit) (boot_state r.image) lines s) → Follows silence reached
-unheard bytes text limit r lines s reached =
-    let none = nothing_is_heard.unnamed r.image r.spelled.formed (eqb-true r.image.header.natives 0 r.acceptable.admitted.header) in
-    nothing_is_heard.without r.image (outside_of r.script limit) none refl silence (boot_state r.image) lines s reached
+module _ (bytes text : List ℕ) (limit natives : ℕ) (r : Runs bytes text limit natives) where
+  abbrev around : Outside
+  around = outside_of r.script limit natives
 
--- what went out is what each run that ends has written
-only : (bytes text : List ℕ) (limit : ℕ) (r : Runs bytes text limit) (ending : Ending) (out : Sent) → Transcribed r.image (outside_of r.script limit) ending out → IsOnly r.image (outside_of r.script limit) ending out
-only bytes text limit r ending out shows lines last other run =
-    let same = r.determined.ended silence shows.lines lines shows.last last ending other shows.run run (unheard bytes text limit r shows.lines shows.last shows.run.reaches) (unheard bytes text limit r lines last run.reaches) in (
-      sym same.1,
-      shows.out
-          ∙ ap (λ ls. after out.before (transcript ls ending (length shows.last.cells))) same.0
-          ∙ ap (λ e. after out.before (transcript lines e (length shows.last.cells))) same.1
-          ∙ ap (λ n. after out.before (transcript lines other n)) (alike_counted shows.last last same.2),
-    )
+  -- of an image that names no native nothing is heard, whatever natives there are
+  unheard : r.image.header.natives ≡ 0 → (lines : List Line) (s : State) (reached : Reaches r.image around (boot_state r.image) lines s) → Follows silence reached
+  unfolding silence
+  unheard none lines s reached = nothing_is_heard.idle r.image around (nothing_is_heard.unnamed r.image r.spelled.formed none) silence (λ n. refl) (boot_state r.image) lines s reached
 
-ran : (bytes text : List ℕ) (limit : ℕ) (r : Runs bytes text limit) (out errors : Sent) (outcome : Outcome) (status : ExitStatus) → Shows r.image (outside_of r.script limit) outcome out
-    → Ends outcome status errors → AcceptedAnswers bytes text limit out errors status
-ran bytes text limit r out errors Stopped status shows ends = subst (AcceptedAnswers bytes text limit out errors) (sym ends.0) (r, shows, only bytes text limit r _ out shows, ends.1)
-ran bytes text limit r out errors Waiting status shows ends = subst (AcceptedAnswers bytes text limit out errors) (sym ends.0) (r, endings.Waiting, tt, shows, only bytes text limit r _ out shows, ends.1)
-ran bytes text limit r out errors (MainLeft code) status shows ends = subst (AcceptedAnswers bytes text limit out errors) (sym ends.0) (r, endings.MainLeft code, tt, shows, only bytes text limit r _ out shows, ends.1)
-ran bytes text limit r out errors Limit status shows ends = subst (AcceptedAnswers bytes text limit out errors) (sym ends.0) (r, endings.Limit, tt, shows, only bytes text limit r _ out shows, ends.1)
-ran bytes text limit r out errors (Error answer) status shows ends = subst (AcceptedAnswers bytes text limit out errors) (sym ends.0) (r, endings.Error answer, tt, shows, only bytes text limit r _ out shows, ends.1)
-ran bytes text limit r out errors WriteFault status shows ends = subst (AcceptedAnswers bytes text limit out errors) (sym ends.0) (output_fails r shows ends.1)
+  -- two runs that hear the same end alike
+  ends_as : (oracle : Oracle) (ending : Ending) (out : Sent) (shown : Transcribed r.image around ending out) (lines : List Line) (last : State) (other : Ending) (run : Run_of r.image around lines last other)
+      → Follows oracle shown.run.reaches → Follows oracle run.reaches → EndsAs ending out lines last other
+  ends_as oracle ending out shown lines last other run one another =
+      let same = r.determined.ended oracle shown.lines lines shown.last last ending other shown.run run one another in (
+        sym same.1,
+        shown.out
+            ∙ ap (λ ls. after out.before (transcript ls ending (length shown.last.cells))) same.0
+            ∙ ap (λ e. after out.before (transcript lines e (length shown.last.cells))) same.1
+            ∙ ap (λ n. after out.before (transcript lines other n)) (alike_counted shown.last last same.2),
+      )
 
--- a run of an accepted image under a script ended so
-pub ran_of : (bytes text : List ℕ) (limit : ℕ) (p : Image) (script : Script) → IsAcceptable p → AllRunWell p → IsSpelled bytes p → denoted text ≡ Ok script
-    → (out errors : Sent) (outcome : Outcome) (status : ExitStatus) → Shows p (outside_of script limit) outcome out → Ends outcome status errors → AcceptedAnswers bytes text limit out errors status
-ran_of bytes text limit p script acceptable well spelled denotes out errors outcome status shows ends =
-    ran bytes text limit (runs_of bytes text limit p script acceptable well spelled denotes) out errors outcome status shows ends
+  -- what went out is what each run that ends and hears the same has written
+  only : (ending : Ending) (out : Sent) (shown : Transcribed r.image around ending out) → IsOnly r.image around ending out shown
+  only ending out shown =
+      let heard = each_run_follows r.image around (boot_state r.image) shown.lines shown.last shown.run.reaches in record {
+        oracle = heard.0;
+        follows = heard.1;
+        hearing_same = λ lines last other run same. ends_as heard.0 ending out shown lines last other run heard.1 same;
+        hearing_none = λ none lines last other run.
+            ends_as silence ending out shown lines last other run (unheard none shown.lines shown.last shown.run.reaches) (unheard none lines last run.reaches);
+      }
 
--- no memory was found for its machine, and that is told
-pub unbooted : (bytes text : List ℕ) (limit : ℕ) (p : Image) (script : Script) → IsAcceptable p → AllRunWell p → IsSpelled bytes p → denoted text ≡ Ok script
-    → (fault : Fault) (out errors : Sent) (status : ExitStatus) → fault ≡ faults.Memory → IsSilent out → Told fault status errors → AcceptedAnswers bytes text limit out errors status
-unbooted bytes text limit p script acceptable well spelled denotes fault out errors status is silent told =
-    let memory : Told faults.Memory status errors = subst (λ f. Told f status errors) is told in
-    subst (AcceptedAnswers bytes text limit out errors) (sym memory.0) (machine_wants_memory silent (runs_of bytes text limit p script acceptable well spelled denotes) memory.1)
+  so : (ending : Ending) (out : Sent) → HasNatives r.image natives → Transcribed r.image around ending out → Shown bytes text limit natives ending out
+  so ending out enough shown = record { runs = r; enough = enough; transcribed = shown; only = only ending out shown }
+
+  ran : (out errors : Sent) (outcome : Outcome) (status : ExitStatus) → HasNatives r.image natives → Shows r.image around outcome out → Ends outcome status errors
+      → AcceptedAnswers bytes text limit natives out errors status
+  ran out errors Stopped status enough shows ends = subst (AcceptedAnswers bytes text limit natives out errors) (sym ends.0) (so _ out enough shows, ends.1)
+  ran out errors Waiting status enough shows ends = subst (AcceptedAnswers bytes text limit natives out errors) (sym ends.0) (endings.Waiting, tt, so _ out enough shows, ends.1)
+  ran out errors (MainLeft code) status enough shows ends = subst (AcceptedAnswers bytes text limit natives out errors) (sym ends.0) (endings.MainLeft code, tt, so _ out enough shows, ends.1)
+  ran out errors Limit status enough shows ends = subst (AcceptedAnswers bytes text limit natives out errors) (sym ends.0) (endings.Limit, tt, so _ out enough shows, ends.1)
+  ran out errors (Error answer) status enough shows ends = subst (AcceptedAnswers bytes text limit natives out errors) (sym ends.0) (endings.Error answer, tt, so _ out enough shows, ends.1)
+  ran out errors WriteFault status enough shows ends = subst (AcceptedAnswers bytes text limit natives out errors) (sym ends.0) (output_fails r enough shows ends.1)
+
+-- the fault by which a machine does not boot
+pub boot_refused : (p : Image) (natives : ℕ) (fault : BootFault) → (fault ≡ boots.TooFewNatives) ↔ (natives < p.header.natives) → RefusesBoot p natives (of_boot fault)
+boot_refused p natives boots.TooFewNatives tells = tells.0 refl
+boot_refused p natives boots.OutOfMemory tells = not_fewer (λ few. other (tells.1 few))
+  where
+    other : boots.OutOfMemory ≡ boots.TooFewNatives → ⊥
+    other e = cc
+
+    not_fewer : (natives < p.header.natives → ⊥) → p.header.natives ≤ natives
+    not_fewer none = omega (arith, none)
+
+-- what a run of a machine sends is what its outcome shows
+pub shown_by : {X : Type 0} {B : X → Type 0} (p : Image) (m new : Machine X B) (outside : Outside) (outcome : Outcome) (failed : Bool) (before now : Option (List ℕ)) → m.core.image ≡ p → Ran m outside outcome failed before now new
+    → Shows p outside outcome (record { before = before; now = now; failed = failed })
+shown_by p m new outside Stopped failed before now image ran = rw (← image) (record { lines = ran.lines; last = ran.state; run = ran.run; out = ran.out })
+shown_by p m new outside Waiting failed before now image ran = rw (← image) (record { lines = ran.lines; last = ran.state; run = ran.run; out = ran.out })
+shown_by p m new outside (MainLeft code) failed before now image ran = rw (← image) (record { lines = ran.lines; last = ran.state; run = ran.run; out = ran.out })
+shown_by p m new outside Limit failed before now image ran = rw (← image) (record { lines = ran.lines; last = ran.state; run = ran.run; out = ran.out })
+shown_by p m new outside (Error answer) failed before now image ran = rw (← image) (record { lines = ran.lines; last = ran.state; run = ran.run; out = ran.out })
+shown_by p m new outside WriteFault failed before now image ran = rw (← image) (record { failed = ran.0; beginning = ran.1 })
+
+module _ (bytes text : List ℕ) (limit natives : ℕ) (p : Image) (script : Script) (acceptable : IsAcceptable p) (well : AllRunWell p) (spelled : IsSpelled bytes p) (denotes : denoted text ≡ Ok script) (out errors : Sent) where
+  abbrev of_it : Runs bytes text limit natives
+  of_it = runs_of bytes text limit natives p script acceptable well spelled denotes
+
+  -- a run of an accepted image under a script ended so
+  pub ran_of : (outcome : Outcome) (status : ExitStatus) → HasNatives p natives → Shows p (outside_of script limit natives) outcome out → Ends outcome status errors → AcceptedAnswers bytes text limit natives out errors status
+  ran_of outcome status enough shows ends = ran bytes text limit natives of_it out errors outcome status enough shows ends
+
+  -- its machine did not boot, and that is told
+  pub unbooted : (fault : Fault) (status : ExitStatus) → RefusesBoot p natives fault → IsSilent out → Told fault status errors → AcceptedAnswers bytes text limit natives out errors status
+  unbooted (faults.Boot boots.TooFewNatives) status few silent told =
+      let accepts : Accepts bytes = record { image = p; spelled = spelled; acceptable = acceptable } in
+      subst (AcceptedAnswers bytes text limit natives out errors) (sym told.0) (inr (record { silent = silent; accepts = accepts; script = script; denotes = denotes; few = few; tells = told.1 }))
+  unbooted faults.Memory status enough silent told = subst (AcceptedAnswers bytes text limit natives out errors) (sym told.0) (machine_wants_memory silent of_it enough told.1)
+  unbooted _ status refused silent told = absurd refused
 
 -- ---- a text that is no script
 
@@ -121,47 +168,71 @@ told_so fault kinds.OutOfMemory h = absurd h
 told_so fault kind h = refl
 
 -- what is told of a text that is no script, or that there was no memory for
-pub unscripted : (bytes text : List ℕ) (limit : ℕ) (fault : ScriptFault) (line : Fault) (out errors : Sent) (status : ExitStatus) → Accepts bytes → RefusesOrWants text fault → IsSilent out
-    → line ≡ of_script fault → Told line status errors → AcceptedAnswers bytes text limit out errors status
-unscripted bytes text limit fault line out errors status accepts (inl denotes) silent is told =
+pub unscripted : (bytes text : List ℕ) (limit natives : ℕ) (fault : ScriptFault) (line : Fault) (out errors : Sent) (status : ExitStatus) → Accepts bytes → RefusesOrWants text fault → IsSilent out
+    → line ≡ of_script fault → Told line status errors → AcceptedAnswers bytes text limit natives out errors status
+unscripted bytes text limit natives fault line out errors status accepts (inl denotes) silent is told =
     let script : Told (faults.Script fault) status errors = subst (λ f. Told f status errors) (is ∙ told_so fault fault.kind (is_of_text text fault denotes)) told in
-    subst (AcceptedAnswers bytes text limit out errors) (sym script.0) (record { silent = silent; accepts = accepts; fault = fault; denotes = denotes; tells = script.1 })
-unscripted bytes text limit fault line out errors status accepts (inr wants) silent is told =
+    subst (AcceptedAnswers bytes text limit natives out errors) (sym script.0) (inl (record { silent = silent; accepts = accepts; fault = fault; denotes = denotes; tells = script.1 }))
+unscripted bytes text limit natives fault line out errors status accepts (inr wants) silent is told =
     let memory : Told faults.Memory status errors = subst (λ f. Told f status errors) (is ∙ ap (of_script_kind fault) wants.lines.kind) told in
-    subst (AcceptedAnswers bytes text limit out errors) (sym memory.0) (script_wants_memory silent accepts fault wants memory.1)
+    subst (AcceptedAnswers bytes text limit natives out errors) (sym memory.0) (script_wants_memory silent accepts fault wants memory.1)
 
 -- ---- runs with one more refusal
 
-module _ (bytes text : List ℕ) (limit : ℕ) (p : Image) (script : Script) (acceptable : IsAcceptable p) (well : AllRunWell p) (spelled : IsSpelled bytes p) (denotes : denoted text ≡ Ok script) (part : Part) (out errors : Sent) where
-  abbrev of_them : Runs bytes text limit
-  of_them = runs_of bytes text limit p script acceptable well spelled denotes
+-- with enough natives memory alone is wanting
+pub tried_refused : (p : Image) (natives : ℕ) (fault : Fault) → HasNatives p natives → RefusesTry p natives fault → fault ≡ faults.Memory
+tried_refused p natives (faults.Boot boots.TooFewNatives) enough few = absurd (omega (arith, enough, few))
+tried_refused p natives faults.Memory enough wants = refl
+tried_refused p natives _ enough refused = absurd refused
 
-  -- memory was wanting for one of them
-  pub broken_off : (fault : Fault) (status : ExitStatus) → fault ≡ faults.Memory → (count : ℕ) × Begun p script limit part.first count out → Told fault status errors → AcceptedExplores bytes text limit part out errors status
-  broken_off fault status is begun told =
-      let memory : Told faults.Memory status errors = subst (λ f. Told f status errors) is told in
-      subst (AcceptedExplores bytes text limit part out errors) (sym memory.0) (wants_for_machine of_them begun.0 begun.1 memory.1)
+-- want of memory is a reason at any time
+pub memory_refused : (p : Image) (natives : ℕ) (fault : Fault) → fault ≡ faults.Memory → RefusesTry p natives fault
+memory_refused p natives fault is = rw is tt
+
+-- nothing was tried yet
+pub begin_refused : (p : Image) (script : Script) (limit natives first : ℕ) (sent : Sent) (fault : Fault) → IsSilent sent → RefusesTry p natives fault → BreaksOff p script limit natives first sent fault
+begin_refused p script limit natives first sent (faults.Boot boots.TooFewNatives) silent few = (few, silent)
+begin_refused p script limit natives first sent faults.Memory silent wants = (0, nothing p script limit natives first sent silent)
+begin_refused p script limit natives first sent _ silent refused = absurd refused
+
+-- why a machine does not boot is why its run is not made
+pub run_refused : (p : Image) (natives : ℕ) (fault : Fault) → RefusesBoot p natives fault → RefusesTry p natives fault
+run_refused p natives (faults.Boot boots.TooFewNatives) few = few
+run_refused p natives faults.Memory enough = tt
+run_refused p natives _ refused = absurd refused
+
+module _ (bytes text : List ℕ) (limit natives : ℕ) (p : Image) (script : Script) (acceptable : IsAcceptable p) (well : AllRunWell p) (spelled : IsSpelled bytes p) (denotes : denoted text ≡ Ok script) (part : Part) (out errors : Sent) where
+  abbrev of_them : Runs bytes text limit natives
+  of_them = runs_of bytes text limit natives p script acceptable well spelled denotes
+
+  -- one of them was not made, and that is told
+  pub broken_off : (fault : Fault) (status : ExitStatus) → BreaksOff p script limit natives part.first out fault → Told fault status errors → AcceptedExplores bytes text limit natives part out errors status
+  broken_off (faults.Boot boots.TooFewNatives) status off told =
+      let accepts : Accepts bytes = record { image = p; spelled = spelled; acceptable = acceptable } in
+      subst (AcceptedExplores bytes text limit natives part out errors) (sym told.0) (inr (record { silent = off.1; accepts = accepts; script = script; denotes = denotes; few = off.0; tells = told.1 }))
+  broken_off faults.Memory status off told = subst (AcceptedExplores bytes text limit natives part out errors) (sym told.0) (wants_for_machine of_them off.0 off.1 told.1)
+  broken_off _ status off told = absurd off
 
   -- the output failed
-  pub cut_off : (status : ExitStatus) → Explored p script limit part out → out.failed ≡ true → Told faults.Write status errors → AcceptedExplores bytes text limit part out errors status
-  cut_off status explored failed told = subst (AcceptedExplores bytes text limit part out errors) (sym told.0) (fails of_them explored failed told.1)
+  pub cut_off : (status : ExitStatus) → HasNatives p natives → Explored p script limit natives part out → out.failed ≡ true → Told faults.Write status errors → AcceptedExplores bytes text limit natives part out errors status
+  cut_off status enough explored failed told = subst (AcceptedExplores bytes text limit natives part out errors) (sym told.0) (fails of_them enough explored failed told.1)
 
-  pub explored : Explored p script limit part out → out.failed ≡ false → IsSilent errors → AcceptedExplores bytes text limit part out errors statuses.Done
-  explored all lives silent = (of_them, all, lives, silent)
+  pub explored : HasNatives p natives → Explored p script limit natives part out → out.failed ≡ false → IsSilent errors → AcceptedExplores bytes text limit natives part out errors statuses.Done
+  explored enough all lives silent = (of_them, enough, all, lives, silent)
 
-pub untried : (bytes text : List ℕ) (limit : ℕ) (part : Part) (fault : ScriptFault) (line : Fault) (out errors : Sent) (status : ExitStatus) → Accepts bytes → RefusesOrWants text fault → IsSilent out
-    → line ≡ of_script fault → Told line status errors → AcceptedExplores bytes text limit part out errors status
-untried bytes text limit part fault line out errors status accepts (inl denotes) silent is told =
+pub untried : (bytes text : List ℕ) (limit natives : ℕ) (part : Part) (fault : ScriptFault) (line : Fault) (out errors : Sent) (status : ExitStatus) → Accepts bytes → RefusesOrWants text fault → IsSilent out
+    → line ≡ of_script fault → Told line status errors → AcceptedExplores bytes text limit natives part out errors status
+untried bytes text limit natives part fault line out errors status accepts (inl denotes) silent is told =
     let script : Told (faults.Script fault) status errors = subst (λ f. Told f status errors) (is ∙ told_so fault fault.kind (is_of_text text fault denotes)) told in
-    subst (AcceptedExplores bytes text limit part out errors) (sym script.0) (record { silent = silent; accepts = accepts; fault = fault; denotes = denotes; tells = script.1 })
-untried bytes text limit part fault line out errors status accepts (inr wants) silent is told =
+    subst (AcceptedExplores bytes text limit natives part out errors) (sym script.0) (inl (record { silent = silent; accepts = accepts; fault = fault; denotes = denotes; tells = script.1 }))
+untried bytes text limit natives part fault line out errors status accepts (inr wants) silent is told =
     let memory : Told faults.Memory status errors = subst (λ f. Told f status errors) (is ∙ ap (of_script_kind fault) wants.lines.kind) told in
-    subst (AcceptedExplores bytes text limit part out errors) (sym memory.0) (wants_for_script silent accepts fault wants memory.1)
+    subst (AcceptedExplores bytes text limit natives part out errors) (sym memory.0) (wants_for_script silent accepts fault wants memory.1)
 
-pub explores : (bytes text : List ℕ) (limit : ℕ) (part : Part) (out errors : Sent) (status : ExitStatus) → AcceptedExplores bytes text limit part out errors status → ExploreAnswers bytes text limit part out errors status
-explores bytes text limit part out errors statuses.ImageRefused a = absurd a
-explores bytes text limit part out errors statuses.Fault a = inr a
-explores bytes text limit part out errors _ a = a
+pub explores : (bytes text : List ℕ) (limit natives : ℕ) (part : Part) (out errors : Sent) (status : ExitStatus) → AcceptedExplores bytes text limit natives part out errors status → ExploreAnswers bytes text limit natives part out errors status
+explores bytes text limit natives part out errors statuses.ImageRefused a = absurd a
+explores bytes text limit natives part out errors statuses.Fault a = inr a
+explores bytes text limit natives part out errors _ a = a
 
 -- ---- bytes that are no accepted image
 
@@ -183,17 +254,17 @@ turned bytes (faults.Budget fault) out errors status refuses complete silent tol
 turned bytes faults.Memory out errors status refuses complete silent told = inr (told.0, record { silent = silent; tells = told.1 })
 turned bytes _ out errors status refuses complete silent told = absurd refuses
 
-to_run : (bytes text : List ℕ) (limit : ℕ) (out errors : Sent) (status : ExitStatus) → Turned bytes out errors status → RunAnswers bytes text limit out errors status
-to_run bytes text limit out errors status (inl refused) = subst (RunAnswers bytes text limit out errors) (sym refused.0) refused.1
-to_run bytes text limit out errors status (inr wants) = subst (RunAnswers bytes text limit out errors) (sym wants.0) (inl wants.1)
+to_run : (bytes text : List ℕ) (limit natives : ℕ) (out errors : Sent) (status : ExitStatus) → Turned bytes out errors status → RunAnswers bytes text limit natives out errors status
+to_run bytes text limit natives out errors status (inl refused) = subst (RunAnswers bytes text limit natives out errors) (sym refused.0) refused.1
+to_run bytes text limit natives out errors status (inr wants) = subst (RunAnswers bytes text limit natives out errors) (sym wants.0) (inl wants.1)
 
 to_check : (bytes : List ℕ) (out errors : Sent) (status : ExitStatus) → Turned bytes out errors status → CheckAnswers bytes out errors status
 to_check bytes out errors status (inl refused) = subst (CheckAnswers bytes out errors) (sym refused.0) refused.1
 to_check bytes out errors status (inr wants) = subst (CheckAnswers bytes out errors) (sym wants.0) (inl wants.1)
 
-pub unaccepted : (bytes text : List ℕ) (limit : ℕ) (fault : Fault) (out errors : Sent) (status : ExitStatus) → RefusesImage bytes fault
-    → ((p : Image) → IsSpelled bytes p → IsAcceptable p → fault ≡ faults.Memory) → IsSilent out → Told fault status errors → RunAnswers bytes text limit out errors status
-unaccepted bytes text limit fault out errors status refuses complete silent told = to_run bytes text limit out errors status (turned bytes fault out errors status refuses complete silent told)
+pub unaccepted : (bytes text : List ℕ) (limit natives : ℕ) (fault : Fault) (out errors : Sent) (status : ExitStatus) → RefusesImage bytes fault
+    → ((p : Image) → IsSpelled bytes p → IsAcceptable p → fault ≡ faults.Memory) → IsSilent out → Told fault status errors → RunAnswers bytes text limit natives out errors status
+unaccepted bytes text limit natives fault out errors status refuses complete silent told = to_run bytes text limit natives out errors status (turned bytes fault out errors status refuses complete silent told)
 
 pub unchecked : (bytes : List ℕ) (fault : Fault) (out errors : Sent) (status : ExitStatus) → RefusesImage bytes fault
     → ((p : Image) → IsSpelled bytes p → IsAcceptable p → fault ≡ faults.Memory) → IsSilent out → Told fault status errors → CheckAnswers bytes out errors status
@@ -202,10 +273,10 @@ unchecked bytes fault out errors status refuses complete silent told = to_check 
 -- ---- an accepted image
 
 -- what is answered of an accepted image is an answer
-pub accepted : (bytes text : List ℕ) (limit : ℕ) (out errors : Sent) (status : ExitStatus) → AcceptedAnswers bytes text limit out errors status → RunAnswers bytes text limit out errors status
-accepted bytes text limit out errors statuses.Done answers = answers
-accepted bytes text limit out errors statuses.ImageRefused answers = absurd answers
-accepted bytes text limit out errors statuses.CallRefused answers = answers
-accepted bytes text limit out errors statuses.Unfinished answers = answers
-accepted bytes text limit out errors statuses.Broken answers = answers
-accepted bytes text limit out errors statuses.Fault answers = inr answers
+pub accepted : (bytes text : List ℕ) (limit natives : ℕ) (out errors : Sent) (status : ExitStatus) → AcceptedAnswers bytes text limit natives out errors status → RunAnswers bytes text limit natives out errors status
+accepted bytes text limit natives out errors statuses.Done answers = answers
+accepted bytes text limit natives out errors statuses.ImageRefused answers = absurd answers
+accepted bytes text limit natives out errors statuses.CallRefused answers = answers
+accepted bytes text limit natives out errors statuses.Unfinished answers = answers
+accepted bytes text limit natives out errors statuses.Broken answers = answers
+accepted bytes text limit natives out errors statuses.Fault answers = inr answers

@@ -1,5 +1,5 @@
 -- What a call promises of its sinks and its status, from bytes to bytes.
-use Rattle.std.specs.Prelude.{ℕ, ◌≡◌, ◌⊎◌, Bool, true, false, List, Option, length, take, codes, Ok, Err}
+use Rattle.std.specs.Prelude.{ℕ, ◌≡◌, ◌<◌, ◌≤◌, ◌⊎◌, Bool, true, false, List, Option, length, take, codes, Ok, Err}
 use Rattle.aom_image.specs.Image.{Image}
 use Rattle.aom_sound.specs.State.{State}
 use Rattle.aom_run.specs.Turns.{hearing}
@@ -7,7 +7,9 @@ use Rattle.aom_sound.specs.World.{Outside, Run_of}
 use Rattle.aom_transcript.specs.declared.line.Line.{Line}
 use Rattle.aom_transcript.specs.declared.line.Ending.{Ending}
 use Rattle.aom_transcript.specs.declared.line.Ending.TheVariants as endings
+use Rattle.aom_determined.specs.Hearing.{Follows, Oracle}
 use Rattle.aom_determined.specs.Laws.{IsDetermined}
+use Rattle.aom_machine.specs.declared.fault.BootFault.TheVariants.{TooFewNatives}
 use Rattle.aom_transcript.specs.Text.{ended, transcript}
 use Rattle.aom_ranks.specs.Runs.{RunsWell}
 use Rattle.aom_steps.specs.Laws.{KeepsBudget}
@@ -60,9 +62,16 @@ pub record Transcribed (p : Image) (outside : Outside) (ending : Ending) (sent :
   pub run : Run_of p outside lines last ending
   pub out : sent.now ≡ after sent.before (transcript lines ending (length last.cells))
 
--- and each run of the image that ends ends so, with the transcript that went out
-abbrev pub IsOnly : Image → Outside → Ending → Sent → Type 0
-IsOnly p outside ending sent = (lines : List Line) (last : State) (other : Ending) → Run_of p outside lines last other → (other ≡ ending) × (sent.now ≡ after sent.before (transcript lines other (length last.cells)))
+-- a run that ended so would have sent what went out
+abbrev pub EndsAs : Ending → Sent → List Line → State → Ending → Type 0
+EndsAs ending sent lines last other = (other ≡ ending) × (sent.now ≡ after sent.before (transcript lines other (length last.cells)))
+
+-- no other transcript could have gone out: some oracle says what the run heard of natives, and each run of the image that ends and hears the same ends so, with the transcript that went out. Of an image that names no native so does each run that ends
+pub record IsOnly (p : Image) (outside : Outside) (ending : Ending) (sent : Sent) (shown : Transcribed p outside ending sent) : Type 0 where
+  pub oracle : Oracle
+  pub follows : Follows oracle shown.run.reaches
+  pub hearing_same : (lines : List Line) (last : State) (other : Ending) (run : Run_of p outside lines last other) → Follows oracle run.reaches → EndsAs ending sent lines last other
+  pub hearing_none : p.header.natives ≡ 0 → (lines : List Line) (last : State) (other : Ending) → Run_of p outside lines last other → EndsAs ending sent lines last other
 
 -- the sink has failed, and a beginning of such a transcript went out
 pub record Cut (p : Image) (outside : Outside) (sent : Sent) : Type 0 where
@@ -99,20 +108,20 @@ pub record AllRunWell (p : Image) : Type 0 where
   pub within : (bytes : List ℕ) → IsSpelled bytes p → (outside : Outside) → KeepsBudget p outside
   pub one : (bytes : List ℕ) → IsSpelled bytes p → (outside : Outside) → IsDetermined p outside
 
--- what a script lets come from outside, and the limit of the call
-abbrev pub outside_of : Script → (limit : ℕ) → Outside
-outside_of script limit = hearing script.refused limit script.timed
+-- what a script lets come from outside, beside so many natives, and the limit of the call
+abbrev pub outside_of : Script → (limit natives : ℕ) → Outside
+outside_of script limit natives = hearing script.refused limit natives script.timed
 
--- they are, and the text is a script; each run of that image under that script and limit goes well within its declared steps, and none writes anything else than another
-pub record Runs (bytes text : List ℕ) (limit : ℕ) : Type 0 where
+-- they are, and the text is a script; each run of that image under that script and limit, beside so many natives, goes well within its declared steps, and none that hears the same of natives writes anything else than another
+pub record Runs (bytes text : List ℕ) (limit natives : ℕ) : Type 0 where
   pub image : Image
   pub spelled : IsSpelled bytes image
   pub acceptable : IsAcceptable image
   pub script : Script
   pub denotes : denoted text ≡ Ok script
-  pub well : RunsWell image (outside_of script limit)
-  pub within : KeepsBudget image (outside_of script limit)
-  pub determined : IsDetermined image (outside_of script limit)
+  pub well : RunsWell image (outside_of script limit natives)
+  pub within : KeepsBudget image (outside_of script limit natives)
+  pub determined : IsDetermined image (outside_of script limit natives)
 
 -- the bytes are no accepted image, and the errors say why
 pub record IsRefused (bytes : List ℕ) (out errors : Sent) : Type 0 where
@@ -131,11 +140,30 @@ pub record IsNoScript (bytes text : List ℕ) (out errors : Sent) : Type 0 where
   pub denotes : denoted text ≡ Err fault
   pub tells : Tells (faults.Script fault) errors
 
+-- there are as many natives as the image names, or more
+abbrev pub HasNatives : Image → (natives : ℕ) → Type 0
+HasNatives p natives = p.header.natives ≤ natives
+
+-- the bytes are an accepted image that names more natives than there are, the text is a script, and the errors say that the machine does not boot
+pub record WantsNatives (bytes text : List ℕ) (natives : ℕ) (out errors : Sent) : Type 0 where
+  pub silent : IsSilent out
+  pub accepts : Accepts bytes
+  pub script : Script
+  pub denotes : denoted text ≡ Ok script
+  pub few : natives < accepts.image.header.natives
+  pub tells : Tells (faults.Boot TooFewNatives) errors
+
+-- why an image is not run beside so many natives: it names more, or memory was wanting
+abbrev pub RefusesBoot : Image → (natives : ℕ) → Fault → Type 0
+RefusesBoot p natives (faults.Boot TooFewNatives) = natives < p.header.natives
+RefusesBoot p natives faults.Memory = HasNatives p natives
+RefusesBoot p natives _ = ⊥
+
 -- of an accepted image: memory was wanting before anything went out, for a request that the script refuses or for the machine, or the output failed
-pub data RunBreaks (bytes text : List ℕ) (limit : ℕ) (out errors : Sent) : Type 0 where
-  script_wants_memory : IsSilent out → Accepts bytes → (fault : ScriptFault) → WantsMemory text fault → Tells faults.Memory errors → RunBreaks bytes text limit out errors
-  machine_wants_memory : IsSilent out → Runs bytes text limit → Tells faults.Memory errors → RunBreaks bytes text limit out errors
-  output_fails : (r : Runs bytes text limit) → Cut r.image (outside_of r.script limit) out → Tells faults.Write errors → RunBreaks bytes text limit out errors
+pub data RunBreaks (bytes text : List ℕ) (limit natives : ℕ) (out errors : Sent) : Type 0 where
+  script_wants_memory : IsSilent out → Accepts bytes → (fault : ScriptFault) → WantsMemory text fault → Tells faults.Memory errors → RunBreaks bytes text limit natives out errors
+  machine_wants_memory : IsSilent out → (r : Runs bytes text limit natives) → HasNatives r.image natives → Tells faults.Memory errors → RunBreaks bytes text limit natives out errors
+  output_fails : (r : Runs bytes text limit natives) → HasNatives r.image natives → Cut r.image (outside_of r.script limit natives) out → Tells faults.Write errors → RunBreaks bytes text limit natives out errors
 
 -- the run ended before it stopped: for nothing, or at the limit
 abbrev pub IsUnfinished : Ending → Type 0
@@ -149,25 +177,32 @@ IsBroken (endings.MainLeft code) = Unit {0}
 IsBroken (endings.Error answer) = Unit {0}
 IsBroken _ = ⊥
 
+-- the transcript of a run that ended so went out, and no other could have
+pub record Shown (bytes text : List ℕ) (limit natives : ℕ) (ending : Ending) (out : Sent) : Type 0 where
+  pub runs : Runs bytes text limit natives
+  pub enough : HasNatives runs.image natives
+  pub transcribed : Transcribed runs.image (outside_of runs.script limit natives) ending out
+  pub only : IsOnly runs.image (outside_of runs.script limit natives) ending out transcribed
+
 -- what each status says of a call of `run` whose image is accepted
-abbrev pub AcceptedAnswers : List ℕ → List ℕ → ℕ → Sent → Sent → ExitStatus → Type 0
-AcceptedAnswers bytes text limit out errors Done = (r : Runs bytes text limit) × Transcribed r.image (outside_of r.script limit) endings.Stopped out × IsOnly r.image (outside_of r.script limit) endings.Stopped out × IsSilent errors
-AcceptedAnswers bytes text limit out errors Unfinished = (r : Runs bytes text limit) × (ending : Ending) × IsUnfinished ending × Transcribed r.image (outside_of r.script limit) ending out × IsOnly r.image (outside_of r.script limit) ending out × IsSilent errors
-AcceptedAnswers bytes text limit out errors Broken = (r : Runs bytes text limit) × (ending : Ending) × IsBroken ending × Transcribed r.image (outside_of r.script limit) ending out × IsOnly r.image (outside_of r.script limit) ending out × IsSilent errors
-AcceptedAnswers bytes text limit out errors ImageRefused = ⊥
-AcceptedAnswers bytes text limit out errors CallRefused = IsNoScript bytes text out errors
-AcceptedAnswers bytes text limit out errors Faulty = RunBreaks bytes text limit out errors
+abbrev pub AcceptedAnswers : List ℕ → List ℕ → (limit natives : ℕ) → Sent → Sent → ExitStatus → Type 0
+AcceptedAnswers bytes text limit natives out errors Done = Shown bytes text limit natives endings.Stopped out × IsSilent errors
+AcceptedAnswers bytes text limit natives out errors Unfinished = (ending : Ending) × IsUnfinished ending × Shown bytes text limit natives ending out × IsSilent errors
+AcceptedAnswers bytes text limit natives out errors Broken = (ending : Ending) × IsBroken ending × Shown bytes text limit natives ending out × IsSilent errors
+AcceptedAnswers bytes text limit natives out errors ImageRefused = ⊥
+AcceptedAnswers bytes text limit natives out errors CallRefused = IsNoScript bytes text out errors ⊎ WantsNatives bytes text natives out errors
+AcceptedAnswers bytes text limit natives out errors Faulty = RunBreaks bytes text limit natives out errors
 
 -- memory was wanting on the way to an accepted image, before anything went out. It says nothing of the image
 pub record ImageWantsMemory (out errors : Sent) : Type 0 where
   pub silent : IsSilent out
   pub tells : Tells faults.Memory errors
 
--- what each status says of a call of `run`
-abbrev pub RunAnswers : List ℕ → List ℕ → ℕ → Sent → Sent → ExitStatus → Type 0
-RunAnswers bytes text limit out errors ImageRefused = IsRefused bytes out errors
-RunAnswers bytes text limit out errors Faulty = ImageWantsMemory out errors ⊎ RunBreaks bytes text limit out errors
-RunAnswers bytes text limit out errors status = AcceptedAnswers bytes text limit out errors status
+-- what each status says of a call of `run`, beside so many natives
+abbrev pub RunAnswers : List ℕ → List ℕ → (limit natives : ℕ) → Sent → Sent → ExitStatus → Type 0
+RunAnswers bytes text limit natives out errors ImageRefused = IsRefused bytes out errors
+RunAnswers bytes text limit natives out errors Faulty = ImageWantsMemory out errors ⊎ RunBreaks bytes text limit natives out errors
+RunAnswers bytes text limit natives out errors status = AcceptedAnswers bytes text limit natives out errors status
 
 -- what `check` writes of an accepted image
 abbrev pub accepted_text : List ℕ

@@ -17,6 +17,9 @@ use Rattle.aom_script.specs.Faults.{fault_text}
 use Rattle.aom_script.specs.declared.fault.ScriptFault.{ScriptFault}
 use Rattle.aom_script.specs.declared.fault.ScriptFaultKind.{ScriptFaultKind}
 use Rattle.aom_script.specs.declared.fault.ScriptFaultKind.TheVariants as kinds
+use Rattle.aom_machine.specs.Standing.{fault_number as boot_number}
+use Rattle.aom_machine.specs.declared.fault.BootFault.{BootFault}
+use Rattle.aom_machine.specs.declared.fault.BootFault.TheVariants as boots
 use Rattle.aom_text.specs.Faults.{fault_text as asm_line}
 use Rattle.aom_text.specs.declared.fault.AsmFault.{AsmFault}
 use Rattle.aom_text.specs.declared.fault.AsmFaultKind.{AsmFaultKind}
@@ -24,7 +27,7 @@ use Rattle.aom_text.specs.declared.fault.AsmFaultKind.TheVariants as texts
 use Rattle.aom_main.specs.declared.status.ExitStatus.{ExitStatus}
 use Rattle.aom_main.specs.declared.status.ExitStatus.TheVariants as statuses
 use Rattle.aom_main.specs.declared.faults.Fault.{Fault}
-use Rattle.aom_main.specs.declared.faults.Fault.TheVariants.{Load, Asm, Link, Verify, Budget, Script, Native, File, Write, Memory}
+use Rattle.aom_main.specs.declared.faults.Fault.TheVariants.{Load, Asm, Link, Verify, Budget, Script, Boot, Native, File, Write, Memory}
 
 -- the number that the system gets
 abbrev pub status_number : ExitStatus → ℕ
@@ -43,6 +46,7 @@ fault_line (Link fault) = codes "link " ++ decimal (number_of fault)
 fault_line (Verify refusal) = line_of refusal
 fault_line (Budget fault) = budget_line fault
 fault_line (Script fault) = fault_text fault
+fault_line (Boot fault) = codes "boot " ++ decimal (boot_number fault)
 fault_line Native = codes "native"
 fault_line File = codes "file"
 fault_line Write = codes "write"
@@ -56,6 +60,7 @@ status_of (Link fault) = statuses.ImageRefused
 status_of (Verify refusal) = statuses.ImageRefused
 status_of (Budget fault) = statuses.ImageRefused
 status_of (Script fault) = statuses.CallRefused
+status_of (Boot fault) = statuses.CallRefused
 status_of Native = statuses.CallRefused
 status_of File = statuses.Fault
 status_of Write = statuses.Fault
@@ -91,3 +96,7 @@ of_script_kind fault kind = Script fault
 
 abbrev pub of_script : ScriptFault → Fault
 of_script fault = of_script_kind fault fault.kind
+
+abbrev pub of_boot : BootFault → Fault
+of_boot boots.OutOfMemory = Memory
+of_boot fault = Boot fault

@@ -1,5 +1,6 @@
 //! The commands, over the bytes of files.
-ghost use Rattle.std.specs.Prelude.{ℕ, ◌≡◌, ◌≤◌, List, Ok};
+ghost use Rattle.std.specs.Prelude.{ℕ, ◌≡◌, ◌≤◌, List, Ok, length};
+ghost use Rattle.aom_natives.specs.Owed.{OweNothing};
 ghost use Rattle.aom_script.specs.Script.{denoted};
 ghost use Rattle.aom_main.specs.Acceptable.{IsSpelled};
 ghost use Rattle.aom_main.specs.Assembly.{AsmAnswers, DisAnswers};
@@ -10,24 +11,28 @@ use crate::assembling::{assemble_bytes, disassemble_bytes};
 use crate::running::{run_accepted, runs_well};
 use crate::{ExitStatus, Fault, tell};
 use aom_budget::Accepted;
+use aom_natives::Native;
 use aom_run::{Outcome, Sink, write_text};
 use aom_script::{Script, read_script};
 use std::alloc::Global;
 
-/// Runs an image under a script, and writes the transcript. The image is looked at before the script.
+/// Runs an image under a script beside those natives, and writes the transcript. The image is looked at before the script, and
+/// the script before the natives.
 pub fn run_bytes<W: Sink, E: Sink>(
     alloc: Global,
     image: &[u8],
     script: &[u8],
     limit: u32,
+    boxes: Vec<Box<dyn Native>>,
     out: &mut W,
     errors: &mut E,
 ) -> ExitStatus
     requires limit { (1 ≤ limit) × (limit ≤ 1000000000) }
-    ensures { RunAnswers image.now script.now limit (record { before = W.out out.old; now = W.out out.new; failed = W.failed out.new }) (record { before = E.out errors.old; now = E.out errors.new; failed = E.failed errors.new }) result }
+    requires owed { OweNothing (λ b. (⟦<dyn Native as Native>⟧ b.vtable).owed b.value) boxes.items }
+    ensures { RunAnswers image.now script.now limit (length boxes.items) (record { before = W.out out.old; now = W.out out.new; failed = W.failed out.new }) (record { before = E.out errors.old; now = E.out errors.new; failed = E.failed errors.new }) result }
 {
     match accept_bytes(alloc, image) {
-        Ok(accepted) => run_text(alloc, &accepted, script, limit, out, errors),
+        Ok(accepted) => run_text(alloc, &accepted, script, limit, boxes, out, errors),
         Err(refusal) => tell(&refusal, errors),
     }
 }
@@ -38,15 +43,17 @@ fn run_text<W: Sink, E: Sink>(
     accepted: &Accepted,
     text: &[u8],
     limit: u32,
+    boxes: Vec<Box<dyn Native>>,
     out: &mut W,
     errors: &mut E,
 ) -> ExitStatus
     requires limit { (1 ≤ limit) × (limit ≤ 1000000000) }
-    ensures { (bytes : List ℕ) → IsSpelled bytes accepted.now → AcceptedAnswers bytes text.now limit (record { before = W.out out.old; now = W.out out.new; failed = W.failed out.new }) (record { before = E.out errors.old; now = E.out errors.new; failed = E.failed errors.new }) result }
+    requires owed { OweNothing (λ b. (⟦<dyn Native as Native>⟧ b.vtable).owed b.value) boxes.items }
+    ensures { (bytes : List ℕ) → IsSpelled bytes accepted.now → AcceptedAnswers bytes text.now limit (length boxes.items) (record { before = W.out out.old; now = W.out out.new; failed = W.failed out.new }) (record { before = E.out errors.old; now = E.out errors.new; failed = E.failed errors.new }) result }
 {
     accepted.facts();
     match read_script(alloc, text) {
-        Ok(script) => run_script(alloc, accepted, &script, limit, out, errors),
+        Ok(script) => run_script(alloc, accepted, &script, limit, boxes, out, errors),
         Err(fault) => tell(&Fault::from(fault), errors),
     }
 }
@@ -57,15 +64,17 @@ fn run_script<W: Sink, E: Sink>(
     accepted: &Accepted,
     script: &Script,
     limit: u32,
+    boxes: Vec<Box<dyn Native>>,
     out: &mut W,
     errors: &mut E,
 ) -> ExitStatus
     requires limit { (1 ≤ limit) × (limit ≤ 1000000000) }
-    ensures { (bytes text : List ℕ) → IsSpelled bytes accepted.now → denoted text ≡ Ok script.now → AcceptedAnswers bytes text limit (record { before = W.out out.old; now = W.out out.new; failed = W.failed out.new }) (record { before = E.out errors.old; now = E.out errors.new; failed = E.failed errors.new }) result }
+    requires owed { OweNothing (λ b. (⟦<dyn Native as Native>⟧ b.vtable).owed b.value) boxes.items }
+    ensures { (bytes text : List ℕ) → IsSpelled bytes accepted.now → denoted text ≡ Ok script.now → AcceptedAnswers bytes text limit (length boxes.items) (record { before = W.out out.old; now = W.out out.new; failed = W.failed out.new }) (record { before = E.out errors.old; now = E.out errors.new; failed = E.failed errors.new }) result }
 {
     accepted.facts();
     runs_well(accepted);
-    match run_accepted(alloc, accepted, script, limit, out) {
+    match run_accepted(alloc, accepted, script, limit, boxes, out) {
         Ok(outcome) => end(outcome, errors),
         Err(fault) => tell(&fault, errors),
     }

@@ -1,19 +1,21 @@
 //! Runs of an image in which one more allocation request is refused, each by its last line.
-ghost use Rattle.std.specs.Prelude.{ℕ, ◌≡◌, ◌≤◌, ◌<◌, ◌^◌, ◌++◌, ◌∷◌, [], List, IfOk, IfErr, Ok};
+ghost use Rattle.std.specs.Prelude.{ℕ, ◌≡◌, ◌≤◌, ◌<◌, ◌^◌, ◌++◌, ◌∷◌, [], List, IfOk, IfErr, Ok, length};
+ghost use Rattle.aom_natives.specs.Owed.{OweNothing};
 ghost use Rattle.aom_run.specs.Turns.{hearing};
 ghost use Rattle.aom_run.specs.Outcomes.{outcome_of};
 ghost use Rattle.aom_script.specs.Script.{denoted};
 ghost use Rattle.aom_run.specs.declared.outcome.Outcome.TheVariants.{WriteFault};
 ghost use Rattle.aom_main.specs.Acceptable.{IsSpelled};
-ghost use Rattle.aom_main.specs.Explored.{AcceptedExplores, Begun, ExploreAnswers, Explored, IsLast, Tried};
-ghost use Rattle.aom_main.specs.Headline.{Says};
+ghost use Rattle.aom_main.specs.Explored.{AcceptedExplores, BreaksOff, ExploreAnswers, Explored, IsLast, RefusesTry, Tried};
+ghost use Rattle.aom_main.specs.Headline.{HasNatives, RefusesBoot, Says};
 
 use crate::accepting::accept_bytes;
 use crate::running::runs_well;
 use crate::{ExitStatus, Fault, tell};
 use aom_budget::Accepted;
-use aom_exec::Machine;
 use aom_lines::Turn;
+use aom_machine::Machine;
+use aom_natives::{Counter, Delay, Line, Native, NativeKind};
 use aom_run::{Outcome, Sink, run, write_text};
 use aom_script::{Script, read_script};
 use aom_transcript::{Ending, Page};
@@ -68,26 +70,57 @@ fn ending_of(outcome: Outcome) -> Ending
     }
 }
 
-/// Runs an accepted image to its end where those requests are refused, and writes nothing.
+/// Runs an accepted image beside those natives to its end where those requests are refused, and writes nothing.
+fn last_beside(
+    alloc: Global,
+    accepted: &Accepted,
+    script: &Script,
+    refused: Vec<u32>,
+    limit: u32,
+    boxes: Vec<Box<dyn Native>>,
+) -> Result<Last, Fault>
+    requires limit { (1 ≤ limit) × (limit ≤ 1000000000) }
+    requires owed { OweNothing (λ b. (⟦<dyn Native as Native>⟧ b.vtable).owed b.value) boxes.items }
+    ensures ok { IfOk result (λ last. IsLast accepted.now (hearing refused.items limit (length boxes.items) script.now.timed) last) }
+    ensures enough { IfOk result (λ _. HasNatives accepted.now (length boxes.items)) }
+    ensures err { IfErr result (λ fault. RefusesBoot accepted.now (length boxes.items) fault) }
+{
+    let mut machine = match Machine::boot(alloc, accepted, boxes) {
+        Ok(machine) => machine,
+        Err((fault, _boxes)) => return Err(Fault::from(fault)),
+    };
+    let mut turn = Turn::new(alloc, accepted, refused)?;
+    let outcome = run(&mut machine, script, &mut turn, limit, &mut Nowhere);
+    Ok(Last {
+        ending: ending_of(outcome),
+        cells: machine.core.count(),
+        requests: machine.core.requests(),
+    })
+}
+
+/// Makes the natives of one run, and runs an accepted image beside them to its end.
 fn last_of(
     alloc: Global,
     accepted: &Accepted,
     script: &Script,
     refused: Vec<u32>,
     limit: u32,
+    kinds: &[NativeKind],
 ) -> Result<Last, Fault>
     requires limit { (1 ≤ limit) × (limit ≤ 1000000000) }
-    ensures ok { IfOk result (λ last. IsLast accepted.now (hearing refused.items limit script.now.timed) last) }
-    ensures err { IfErr result (λ fault. fault ≡ Fault.Memory) }
+    ensures ok { IfOk result (λ last. IsLast accepted.now (hearing refused.items limit (length kinds.now) script.now.timed) last) }
+    ensures enough { IfOk result (λ _. HasNatives accepted.now (length kinds.now)) }
+    ensures err { IfErr result (λ fault. RefusesTry accepted.now (length kinds.now) fault) }
 {
-    let mut turn = Turn::new(alloc, accepted, refused)?;
-    let mut machine = Machine::boot(alloc, accepted, 0)?;
-    let outcome = run(&mut machine, script, &mut turn, limit, &mut Nowhere);
-    Ok(Last {
-        ending: ending_of(outcome),
-        cells: machine.count(),
-        requests: machine.requests(),
-    })
+    let mut boxes: Vec<Box<dyn Native>> = Vec::new(alloc);
+    for kind in kinds {
+        match *kind {
+            NativeKind::Counter => boxes.push(Box::new(alloc, Counter::new())?)?,
+            NativeKind::Line => boxes.push(Box::new(alloc, Line::new())?)?,
+            NativeKind::Delay => boxes.push(Box::new(alloc, Delay::new())?)?,
+        }
+    }
+    last_beside(alloc, accepted, script, refused, limit, boxes)
 }
 
 /// Runs an accepted image with the request of that number refused too, and writes how that ended.
@@ -96,18 +129,20 @@ fn try_one<W: Sink>(
     accepted: &Accepted,
     script: &Script,
     limit: u32,
+    kinds: &[NativeKind],
     number: u32,
     out: &mut W,
 ) -> Result<(), Fault>
     requires limit { (1 ≤ limit) × (limit ≤ 1000000000) }
-    ensures ok { IfOk result (λ _. (line : List ℕ) × Tried accepted.now script.now limit number line × Says line (record { before = W.out out.old; now = W.out out.new; failed = W.failed out.new })) }
+    requires enough { HasNatives accepted.now (length kinds.now) }
+    ensures ok { IfOk result (λ _. (line : List ℕ) × Tried accepted.now script.now limit (length kinds.now) number line × Says line (record { before = W.out out.old; now = W.out out.new; failed = W.failed out.new })) }
     ensures err { IfErr result (λ fault. (fault ≡ Fault.Memory) × (W.out out.new ≡ W.out out.old) × (W.failed out.new ≡ W.failed out.old)) }
 {
     let mut refused = Vec::from_slice(alloc, script.refused())?;
     if let Err(failed) = refused.push(number) {
         return Err(AllocError::from(failed).into());
     }
-    let last = last_of(alloc, accepted, script, refused, limit)?;
+    let last = last_of(alloc, accepted, script, refused, limit, kinds)?;
     let mut page = Page::new();
     page.add_tried(number as u64, last.ending, last.cells);
     write_text(out, page.as_bytes());
@@ -121,40 +156,44 @@ fn explore<W: Sink>(
     accepted: &Accepted,
     script: &Script,
     limit: u32,
+    kinds: &[NativeKind],
     part: Part,
     out: &mut W,
 ) -> Result<(), Fault>
     requires limit { (1 ≤ limit) × (limit ≤ 1000000000) }
-    ensures ok { IfOk result (λ _. Explored accepted.now script.now limit part (record { before = W.out out.old; now = W.out out.new; failed = W.failed out.new })) }
-    ensures err { IfErr result (λ fault. (fault ≡ Fault.Memory) × ((count : ℕ) × Begun accepted.now script.now limit part.first count (record { before = W.out out.old; now = W.out out.new; failed = W.failed out.new }))) }
+    ensures ok { IfOk result (λ _. Explored accepted.now script.now limit (length kinds.now) part (record { before = W.out out.old; now = W.out out.new; failed = W.failed out.new })) }
+    ensures enough { IfOk result (λ _. HasNatives accepted.now (length kinds.now)) }
+    ensures err { IfErr result (λ fault. BreaksOff accepted.now script.now limit (length kinds.now) part.first (record { before = W.out out.old; now = W.out out.new; failed = W.failed out.new }) fault) }
 {
     let own = Vec::from_slice(alloc, script.refused())?;
-    let plain = last_of(alloc, accepted, script, own, limit)?;
+    let plain = last_of(alloc, accepted, script, own, limit, kinds)?;
     let last = plain.requests.min(part.last as u64);
     let mut number = part.first as u64;
     while number <= last && !out.has_failed() {
-        try_one(alloc, accepted, script, limit, number as u32, out)?;
+        try_one(alloc, accepted, script, limit, kinds, number as u32, out)?;
         number += 1;
     }
     Ok(())
 }
 
 /// Runs an image under a script, once for each of its allocation requests within the part, with that one refused too, and
-/// writes how each of these runs ended. The image is looked at before the script.
+/// writes how each of these runs ended. Each has natives of its own, of those kinds. The image is looked at before the script,
+/// and the script before the natives.
 pub fn explore_bytes<W: Sink, E: Sink>(
     alloc: Global,
     image: &[u8],
     script: &[u8],
     limit: u32,
+    kinds: &[NativeKind],
     part: Part,
     out: &mut W,
     errors: &mut E,
 ) -> ExitStatus
     requires limit { (1 ≤ limit) × (limit ≤ 1000000000) }
-    ensures { ExploreAnswers image.now script.now limit part (record { before = W.out out.old; now = W.out out.new; failed = W.failed out.new }) (record { before = E.out errors.old; now = E.out errors.new; failed = E.failed errors.new }) result }
+    ensures { ExploreAnswers image.now script.now limit (length kinds.now) part (record { before = W.out out.old; now = W.out out.new; failed = W.failed out.new }) (record { before = E.out errors.old; now = E.out errors.new; failed = E.failed errors.new }) result }
 {
     match accept_bytes(alloc, image) {
-        Ok(accepted) => explore_text(alloc, &accepted, script, limit, part, out, errors),
+        Ok(accepted) => explore_text(alloc, &accepted, script, limit, kinds, part, out, errors),
         Err(refusal) => tell(&refusal, errors),
     }
 }
@@ -165,16 +204,17 @@ fn explore_text<W: Sink, E: Sink>(
     accepted: &Accepted,
     text: &[u8],
     limit: u32,
+    kinds: &[NativeKind],
     part: Part,
     out: &mut W,
     errors: &mut E,
 ) -> ExitStatus
     requires limit { (1 ≤ limit) × (limit ≤ 1000000000) }
-    ensures { (bytes : List ℕ) → IsSpelled bytes accepted.now → AcceptedExplores bytes text.now limit part (record { before = W.out out.old; now = W.out out.new; failed = W.failed out.new }) (record { before = E.out errors.old; now = E.out errors.new; failed = E.failed errors.new }) result }
+    ensures { (bytes : List ℕ) → IsSpelled bytes accepted.now → AcceptedExplores bytes text.now limit (length kinds.now) part (record { before = W.out out.old; now = W.out out.new; failed = W.failed out.new }) (record { before = E.out errors.old; now = E.out errors.new; failed = E.failed errors.new }) result }
 {
     accepted.facts();
     match read_script(alloc, text) {
-        Ok(script) => explore_script(alloc, accepted, &script, limit, part, out, errors),
+        Ok(script) => explore_script(alloc, accepted, &script, limit, kinds, part, out, errors),
         Err(fault) => tell(&Fault::from(fault), errors),
     }
 }
@@ -185,16 +225,17 @@ fn explore_script<W: Sink, E: Sink>(
     accepted: &Accepted,
     script: &Script,
     limit: u32,
+    kinds: &[NativeKind],
     part: Part,
     out: &mut W,
     errors: &mut E,
 ) -> ExitStatus
     requires limit { (1 ≤ limit) × (limit ≤ 1000000000) }
-    ensures { (bytes text : List ℕ) → IsSpelled bytes accepted.now → denoted text ≡ Ok script.now → AcceptedExplores bytes text limit part (record { before = W.out out.old; now = W.out out.new; failed = W.failed out.new }) (record { before = E.out errors.old; now = E.out errors.new; failed = E.failed errors.new }) result }
+    ensures { (bytes text : List ℕ) → IsSpelled bytes accepted.now → denoted text ≡ Ok script.now → AcceptedExplores bytes text limit (length kinds.now) part (record { before = W.out out.old; now = W.out out.new; failed = W.failed out.new }) (record { before = E.out errors.old; now = E.out errors.new; failed = E.failed errors.new }) result }
 {
     accepted.facts();
     runs_well(accepted);
-    if let Err(fault) = explore(alloc, accepted, script, limit, part, out) {
+    if let Err(fault) = explore(alloc, accepted, script, limit, kinds, part, out) {
         return tell(&fault, errors);
     }
     if out.has_failed() {

@@ -71,6 +71,7 @@ impl FaultLine {
                     u64::from(fault.kind.number()),
                 );
             }
+            Fault::Boot(fault) => self.add_one(b"boot ", u64::from(fault.number())),
             Fault::Native => self.add(b"native"),
             Fault::File => self.add(b"file"),
             Fault::Write => self.add(b"write"),

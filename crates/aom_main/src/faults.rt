@@ -8,12 +8,12 @@ use crate::fault_line::FaultLine;
 use aom_budget::BudgetFault;
 use aom_classes::LinkFault;
 use aom_codec::LoadFault;
-use aom_exec::BootFault;
+use aom_machine::BootFault;
 use aom_run::{Sink, write_text};
 use aom_script::{ScriptFault, ScriptFaultKind};
 use aom_text::{AsmFault, AsmFaultKind};
 use aom_verify::Refusal;
-use std::alloc::AllocError;
+use std::alloc::{AllocError, AllocFailed};
 
 /// Why a call does not do what is asked. Each is told in one line.
 #[derive(Clone, Copy, PartialEq, Eq, Debug)]
@@ -24,7 +24,9 @@ pub enum Fault {
     Verify(Refusal),
     Budget(BudgetFault),
     Script(ScriptFault),
-    /// No native of that name.
+    /// The machine does not boot.
+    Boot(BootFault),
+    /// No native of that name, or one too many.
     Native,
     /// A file that cannot be read.
     File,
@@ -41,7 +43,7 @@ impl Fault {
         match self {
             Fault::Load(_) | Fault::Asm(_) | Fault::Link(_) | Fault::Verify(_) | Fault::Budget(_) =>
                 ExitStatus::ImageRefused,
-            Fault::Script(_) | Fault::Native => ExitStatus::CallRefused,
+            Fault::Script(_) | Fault::Boot(_) | Fault::Native => ExitStatus::CallRefused,
             Fault::File | Fault::Write | Fault::Memory => ExitStatus::Fault,
         }
     }
@@ -133,13 +135,14 @@ impl From<ScriptFault> for Fault {
 
 impl From<BootFault> for Fault {
     ghost use Rattle.std.specs.Prelude.{◌≡◌};
-    ghost use Rattle.aom_main.specs.declared.faults.Fault.TheVariants.{Memory};
+    ghost use Rattle.aom_main.specs.Status.{of_boot};
 
-    ghost from_gives = { λ _ f. f ≡ Memory };
+    ghost from_gives = { λ e f. f ≡ of_boot e };
 
     fn from(fault: BootFault) -> Fault {
         match fault {
             BootFault::OutOfMemory => Fault::Memory,
+            BootFault::TooFewNatives => Fault::Boot(fault),
         }
     }
 }
@@ -151,6 +154,17 @@ impl From<AllocError> for Fault {
     ghost from_gives = { λ _ f. f ≡ Memory };
 
     fn from(_error: AllocError) -> Fault {
+        Fault::Memory
+    }
+}
+
+impl<T: Drop> From<AllocFailed<T>> for Fault {
+    ghost use Rattle.std.specs.Prelude.{◌≡◌};
+    ghost use Rattle.aom_main.specs.declared.faults.Fault.TheVariants.{Memory};
+
+    ghost from_gives = { λ _ f. f ≡ Memory };
+
+    fn from(_failed: AllocFailed<T>) -> Fault {
         Fault::Memory
     }
 }

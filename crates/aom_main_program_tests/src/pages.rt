@@ -34,7 +34,8 @@ pub fn runs_until(
 {
     let mut out = Page::new(alloc, room);
     let mut errors = Page::new(alloc, 100);
-    let status = run_bytes(alloc, image, script, limit, &mut out, &mut errors);
+    let boxes = Vec::new(alloc);
+    let status = run_bytes(alloc, image, script, limit, boxes, &mut out, &mut errors);
     Answer::of(status, out, errors)
 }
 

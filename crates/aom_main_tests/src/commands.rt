@@ -1,5 +1,6 @@
 //! Each command over bytes and pages, and what is told where something fails.
 use crate::pages::{FIRST, FULL_HEAP, LISTING, SHORT, assembles, checks, explores, lists, runs};
+use aom_machine::BootFault;
 use aom_main::{ExitStatus, Fault, Part, run_bytes, tell};
 use aom_pages::{Answer, Page};
 use std::alloc::Global;
@@ -55,13 +56,11 @@ fn other_bytes_are_refused(rt: HostRuntime) -> Result<(), Fail> {
     let mut longer = Vec::from_slice(alloc, &FIRST)?;
     longer.push(0)?;
     let other_magic = changed(alloc, 0, 0x40)?;
-    let one_native = changed(alloc, 14, 1)?;
     let unset_register = changed(alloc, 57, 2)?;
     for (bytes, line) in [
         (&FIRST[..79], "load 3\n"),
         (longer.as_slice(), "load 4\n"),
         (other_magic.as_slice(), "load 1\n"),
-        (one_native.as_slice(), "link 0\n"),
         (unset_register.as_slice(), "verify 0 1 1\n"),
     ] {
         let refused = Answer::told(alloc, ExitStatus::ImageRefused, "", line)?;
@@ -162,7 +161,7 @@ fn errors_that_fail_change_nothing_else(rt: HostRuntime) -> Result<(), Fail> {
     let alloc = rt.alloc();
     let mut out = Page::new(alloc, 100);
     let mut errors = Page::new(alloc, 3);
-    let status = run_bytes(alloc, b"", b"", 1, &mut out, &mut errors);
+    let status = run_bytes(alloc, b"", b"", 1, Vec::new(alloc), &mut out, &mut errors);
     assert_eq!(rt; status, ExitStatus::ImageRefused);
     assert_eq!(rt; errors.text.as_slice(), b"loa".as_slice());
     assert!(rt; out.text.is_empty());
@@ -173,6 +172,7 @@ fn errors_that_fail_change_nothing_else(rt: HostRuntime) -> Result<(), Fail> {
 fn each_fault_has_its_line_and_status(rt: HostRuntime) -> Result<(), Fail> {
     let alloc = rt.alloc();
     for (fault, line, number) in [
+        (Fault::Boot(BootFault::TooFewNatives), "boot 1\n", 2),
         (Fault::Native, "native\n", 2),
         (Fault::File, "file\n", 5),
         (Fault::Write, "write\n", 5),

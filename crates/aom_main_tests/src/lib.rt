@@ -1,9 +1,16 @@
-//! Tests of `aom_main`, from outside: each command over bytes and sinks. Programs are in `aom_main_program_tests`.
+//! Tests of `aom_main`, from outside: each command over bytes and sinks, and programs beside natives, those of the tests' own
+//! among them. Other programs are in `aom_main_program_tests`.
 #![tactic(auto)]
 
+#[cfg(test)]
+mod backlog;
 #[cfg(test)]
 mod commands;
 #[cfg(test)]
 mod memory;
 #[cfg(test)]
 mod pages;
+#[cfg(test)]
+mod served;
+#[cfg(test)]
+mod tally;

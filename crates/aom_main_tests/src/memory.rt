@@ -38,7 +38,16 @@ fn checked(alloc: Global, image: &[u8]) -> Slips {
 fn run_with(alloc: Global, image: &[u8], script: &[u8]) -> Slips {
     let mut out = Slip::blank();
     let mut errors = Slip::blank();
-    let status = run_bytes(alloc, image, script, 1_000_000, &mut out, &mut errors);
+    let boxes = Vec::new(alloc);
+    let status = run_bytes(
+        alloc,
+        image,
+        script,
+        1_000_000,
+        boxes,
+        &mut out,
+        &mut errors,
+    );
     Slips {
         status,
         out,

@@ -25,7 +25,16 @@ pub const FULL_HEAP: [u8; 156] = [
 pub fn runs(alloc: Global, image: &[u8], script: &[u8], room: usize) -> Answer<ExitStatus> {
     let mut out = Page::new(alloc, room);
     let mut errors = Page::new(alloc, 100);
-    let status = run_bytes(alloc, image, script, 1_000_000, &mut out, &mut errors);
+    let boxes = Vec::new(alloc);
+    let status = run_bytes(
+        alloc,
+        image,
+        script,
+        1_000_000,
+        boxes,
+        &mut out,
+        &mut errors,
+    );
     Answer::of(status, out, errors)
 }
 
@@ -39,7 +48,16 @@ pub fn explores(
 ) -> Answer<ExitStatus> {
     let mut out = Page::new(alloc, room);
     let mut errors = Page::new(alloc, 100);
-    let status = explore_bytes(alloc, image, script, 1_000_000, part, &mut out, &mut errors);
+    let status = explore_bytes(
+        alloc,
+        image,
+        script,
+        1_000_000,
+        &[],
+        part,
+        &mut out,
+        &mut errors,
+    );
     Answer::of(status, out, errors)
 }
 

@@ -1,4 +1,5 @@
 pub mod Delays
+pub mod Kinds
 pub mod Lines
 pub mod Owed
 pub mod Slots

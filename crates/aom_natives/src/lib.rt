@@ -5,12 +5,13 @@
 //! the type's own allow. `Natives` holds boxes of such types by number, and beside each box the ids that are outstanding
 //! there: before and after each call they are those that the box owes (`AllAgree` of `specs/Slots.antt`). No type can say
 //! that, since nothing but a clause may look into a box, so each call requires it and ensures it. `Natives::adopt` takes
-//! all memory, before it moves the first box. `Counter`, `Line` and `Delay` are natives with rooms of fixed size. This
-//! crate knows no cells and no machine: an id is a number.
+//! all memory, before it moves the first box. `Counter`, `Line` and `Delay` are natives with rooms of fixed size, and
+//! `NativeKind` is which of them a word names. This crate knows no cells and no machine: an id is a number.
 #![tactic(auto)]
 
 mod counter;
 mod delay;
+mod kind;
 mod line;
 mod living;
 mod native;
@@ -19,6 +20,7 @@ mod outstanding;
 
 pub use counter::Counter;
 pub use delay::{Delay, Entry};
+pub use kind::NativeKind;
 pub use line::Line;
 pub use living::Living;
 pub use native::Native;

@@ -142,11 +142,11 @@ module _ (p : Image) (t : Typing) (s : State) (w : WellTyped p t s) where
 -- ---- any turn
 
 -- what a turn tells of the state after it
-record Tale (p : Image) (s u : State) (k : Turning) : Type 0 where
-  completes : CompletesOwed p s.cells k
-  owes : (n m : ℕ) → owes p u.cells n m ≡ owes_turned s.cells k n m (owes p s.cells n m)
-  meets : (n m : ℕ) → meets p u.cells n m ≡ meets_turned k n (meets p s.cells n m)
-  killed : u.killed ≡ killed_turned k s.killed
+pub record Tale (p : Image) (s u : State) (k : Turning) : Type 0 where
+  pub completes : CompletesOwed p s.cells k
+  pub owes : (n m : ℕ) → owes p u.cells n m ≡ owes_turned s.cells k n m (owes p s.cells n m)
+  pub meets : (n m : ℕ) → meets p u.cells n m ≡ meets_turned k n (meets p s.cells n m)
+  pub killed : u.killed ≡ killed_turned k s.killed
 
 module _ (p : Image) (t : Typing) (s u : State) (w : WellTyped p t s) where
   asked_then :
@@ -161,7 +161,7 @@ module _ (p : Image) (t : Typing) (s u : State) (w : WellTyped p t s) where
         killed = refl;
       })
 
-  told : (k : Turning) → IsAbout s k → AnswersWell p s k → turned p s k ≡ Goes u → Tale p s u k
+  pub told : (k : Turning) → IsAbout s k → AnswersWell p s k → turned p s k ≡ Goes u → Tale p s u k
   told Cuts about well e = subst (λ (v : State). Tale p s v Cuts) (goes_same _ u e) (record { completes = tt; owes = λ n m. refl; meets = λ n m. refl; killed = refl })
   told Hears about well e = subst (λ (v : State). Tale p s v Hears) (goes_same _ u e) (record { completes = tt; owes = λ n m. refl; meets = λ n m. refl; killed = refl })
   told (Passes time) about well e = subst (λ (v : State). Tale p s v (Passes time)) (goes_same _ u e) (record { completes = tt; owes = λ n m. refl; meets = λ n m. refl; killed = refl })
@@ -194,7 +194,7 @@ module _ (p : Image) (s : State) (holds : SessionsHold p s) where
       list_any-append (λ j. j == n) s.killed (x ∷ []) ∙ or_from (is_dead s.killed n) ((x == n) || false) (holds.lives n m both.1) (ap (λ b. b || false) (not-true (x == n) both.0))
   lives_turned _ n m e = holds.lives n m e
 
-  sessions_turned : (u : State) (k : Turning) → Tale p s u k → SessionsHold p u
+  pub sessions_turned : (u : State) (k : Turning) → Tale p s u k → SessionsHold p u
   sessions_turned u k tale = record {
     met = λ n m e. tale.meets n m ∙ met_turned k n m (sym (tale.owes n m) ∙ e);
     lives = λ n m e. ap (λ l. is_dead l n) tale.killed ∙ lives_turned k n m (sym (tale.meets n m) ∙ e);

@@ -10,8 +10,6 @@
 
 mod request;
 mod requests;
-#[cfg(test)]
-mod tests;
 
 pub use request::{PENDING, State};
 pub use requests::Requests;

@@ -3,7 +3,9 @@ pub mod Prefix
 pub mod Reaching
 pub mod Gets
 pub mod Turnings
+pub mod Parts
 pub mod Between
+pub mod Resting
 pub mod Running
 pub mod Sending
 pub mod Underway

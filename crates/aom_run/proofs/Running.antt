@@ -1,9 +1,11 @@
 -- A run, some steps of the machine after others.
-use Rattle.std.proofs.Common.{◌≡◌, ◌≢◌, ◌≤◌, ◌-◌, ◌^◌, ℕ, min, ◌+◌, append-nil, Bool, true, List, [], ◌++◌, Option, Some, None, length, take, refl, sym, ap, subst, suc, ◌<◌, ◌∷◌, ◌∙◌, append_assoc, arith, IfNone}
-use Rattle.std.specs.Prelude.{is_some}
+use Rattle.std.proofs.Common.{◌≡◌, ◌≢◌, ◌≤◌, ◌-◌, ◌^◌, ℕ, min, ◌+◌, append-nil, Bool, true, List, [], ◌++◌, Option, Some, None, length, take, refl, sym, ap, subst, suc, ◌<◌, ◌∷◌, ◌∙◌, inl, inr, append_assoc, arith, IfNone}
+use Rattle.std.proofs.Math.Nat.{mul-le-mul_right, suc-mul}
+use Rattle.std.specs.Prelude.{◌⊎◌, ◌*◌, is_some}
 use Rattle.aom_image.specs.Image.{Image}
 use Rattle.aom_sound.specs.State.{State, Task}
-use Rattle.aom_sound.specs.World.{boot_state, Reaches, begins, Outside}
+use Rattle.aom_sound.specs.World.{boot_state, IsBetween, Reaches, begins, Outside}
+use Rattle.aom_transcript.specs.declared.event.TimedEvent.{TimedEvent}
 use Rattle.aom_transcript.specs.declared.line.Line.{Line}
 use Rattle.aom_transcript.specs.declared.line.Ending.{Ending}
 use Rattle.aom_transcript.specs.declared.line.Ending.TheVariants as endings
@@ -13,7 +15,9 @@ use Rattle.aom_run.specs.declared.outcome.Outcome.{Outcome}
 use Rattle.aom_run.specs.declared.outcome.Outcome.TheVariants.{Stopped, Waiting, MainLeft, Limit, Error, WriteFault}
 use Rattle.aom_exec.specs.declared.progress.Progress.{Progress}
 use Rattle.aom_exec.specs.declared.progress.Progress.TheVariants as progresses
-use Rattle.aom_exec.specs.Steps.{Machine, Stands, StandsFor, progress as reached}
+use Rattle.aom_exec.specs.Steps.{progress as reached}
+use Rattle.aom_machine.specs.Calls.{Stands, StandsFor, natives_of}
+use Rattle.aom_machine.specs.declared.machine.Machine.{Machine}
 use Rattle.aom_frames.specs.declared.task.Task.{Task as Held_task}
 use Rattle.aom_steps.specs.Payers.{payer}
 use Rattle.aom_exec.specs.Progress.{progress_by, progress_of}
@@ -22,29 +26,10 @@ use Rattle.aom_exec.proofs.Progressing.{is_as_far}
 use Rattle.aom_run.specs.Runs.{after, CutOff, Ended, Moving, Sent, Told, CutShort, Ran}
 use Rattle.aom_endings.proofs.Ending.{runs_can_end}
 use Rattle.aom_endings.specs.Endings.{CanEnd, one_where}
-use Rattle.aom_run.specs.Turns.{TakesTurns}
-use Rattle.aom_run.proofs.Spared.{moving_spares}
+use Rattle.aom_run.specs.Turns.{TakesTurns, hearing, to_come}
+use Rattle.aom_run.proofs.Spared.{idle_stays, moving_spares}
 use Rattle.aom_run.proofs.Reaching.{reaches_both, reaches_then}
 use Rattle.aom_run.proofs.Sending.{cut_short, after_both, after_none, text_of_both, cut_next}
-
--- the machine stands for a state that a run comes to; all its lines are out but the last, which are told and not out yet
-pub record SoFar (p : Image) (outside : Outside) (before now : Option (List ℕ)) (told : List Line) (m : Machine) : Type 0 where
-  pub lines : List Line
-  pub state : State
-  pub reaches : Reaches p outside (boot_state p) (lines ++ told) state
-  pub stands : StandsFor m state
-  pub out : now ≡ after before (text_of lines)
-
-pub starts : (outside : Outside) (out : Option (List ℕ)) (m : Machine) (told : List Line) → told ≡ [] → StandsFor m (boot_state m.image) → SoFar m.image outside out out told m
-starts outside out m told none fresh =
-    record { lines = []; state = boot_state m.image; reaches = subst (λ ls. Reaches m.image outside (boot_state m.image) ls (boot_state m.image)) (sym none) begins; stands = fresh; out = after_none out }
-
--- a run that has come to a state that the machine stands for can be brought to an end
-completed : (p : Image) (outside : Outside) → outside.limit ≤ 2 ^ 64 - 1 → (lines : List Line) (s : State) (m : Machine) → m.image ≡ p → Reaches p outside (boot_state p) lines s → StandsFor m s → CanEnd p outside lines
-completed p outside few lines s m image r stands =
-    let Whole : Image → Type 0 = λ q. Reaches q outside (boot_state q) lines s → CanEnd q outside lines in
-    let sound = stands.sound in
-    subst Whole image (λ r'. runs_can_end m.image stands.typing outside few sound.wired sound.linked sound.typed lines s r' stands.typed) r
 
 -- the beginning of the lines of a run is one of its transcript
 cut_of : (p : Image) (outside : Outside) (before now : Option (List ℕ)) (lines : List Line) → CanEnd p outside lines → (n : ℕ) → now ≡ after before (take n (text_of lines)) → CutShort p outside before now
@@ -65,119 +50,16 @@ ended_by : (ended : Option Ending) (tasks : List Task) (ending : Ending) → pro
 ended_by (Some e) tasks ending is = let same : e ≡ ending = cc in ap (λ x. Some x) same
 ended_by _ _ ending is = absurd (grind arith)
 
--- ---- a run goes on
-
-module _ (p : Image) (outside : Outside) (before mid now : Option (List ℕ)) (m new : Machine) (told turn : Turn) (far : SoFar p outside before mid told.lines m) (image : m.image ≡ p) where
-  module _ (same : told.refused ≡ outside.refused) where
-    more : (lines : List Line) (u : State) → Moving m.image told.refused far.state lines u → Reaches p outside (boot_state p) ((far.lines ++ told.lines) ++ lines) u
-    more lines u moving =
-        reaches_then p outside (boot_state p) (far.lines ++ told.lines) far.state lines u far.reaches
-        (subst (λ q. Moving q outside.refused far.state lines u) image (subst (λ r. Moving m.image r far.state lines u) same moving))
-
-    text : (lines : List Line) → text_of far.lines ++ text_of (told.lines ++ lines) ≡ text_of ((far.lines ++ told.lines) ++ lines)
-    text lines = sym (text_of_both far.lines (told.lines ++ lines)) ∙ ap text_of (sym (append_assoc far.lines told.lines lines))
-
-    -- all that was told is out, and more
-    pub sent_on : (progress : Progress) → Sent m progress told turn mid now new → SoFar p outside before now turn.lines new
-    sent_on progress sent =
-        let x = sent far.state far.stands in
-        let none : turn.lines ≡ [] = ap (λ (t : Turn). t.lines) x.3 in
-        let lines = (far.lines ++ told.lines) ++ x.0 in
-        record {
-          lines = lines;
-          state = x.1;
-          reaches = subst (λ ls. Reaches p outside (boot_state p) (lines ++ ls) x.1) (sym none) (subst (λ ls. Reaches p outside (boot_state p) ls x.1) (sym (append-nil lines)) (more x.0 x.1 x.2));
-          stands = x.7;
-          out = x.4 ∙ ap (λ o. after o (text_of (told.lines ++ x.0))) far.out ∙ after_both before (text_of far.lines) (text_of (told.lines ++ x.0)) ∙ ap (after before) (text x.0);
-        }
-
-    -- the sink failed
-    pub cut : outside.limit ≤ 2 ^ 64 - 1 → new.image ≡ p → CutOff m told mid now new → CutShort p outside before now
-    cut few again cut_off =
-        let x = cut_off far.state far.stands in
-        let b = text_of (told.lines ++ x.0) in
-        let all = completed p outside few ((far.lines ++ told.lines) ++ x.0) x.1 new again (more x.0 x.1 x.2) x.4 in
-        cut_of p outside before now ((far.lines ++ told.lines) ++ x.0) all (length (text_of far.lines) + x.3.0)
-        (x.3.1 ∙ ap (λ o. after o (take x.3.0 b)) far.out ∙ cut_next before (text_of far.lines) b x.3.0 ∙ ap (λ t. after before (take (length (text_of far.lines) + x.3.0) t)) (text x.0))
-
-  -- turns
-  module _ (none : told.lines ≡ []) where
-    bare : (lines : List Line) (u : State) → Reaches m.image outside far.state lines u → Reaches p outside (boot_state p) (far.lines ++ lines) u
-    bare lines u turns =
-        reaches_both p outside (boot_state p) far.lines far.state lines u
-        (subst (λ ls. Reaches p outside (boot_state p) ls far.state) (append-nil far.lines) (subst (λ ls. Reaches p outside (boot_state p) (far.lines ++ ls) far.state) none far.reaches))
-        (subst (λ q. Reaches q outside far.state lines u) image turns)
-
-    pub turned_on : TakesTurns m outside None told turn new → SoFar p outside before mid turn.lines new
-    turned_on takes =
-        let x = takes far.state far.stands in
-        let is : turn.lines ≡ x.0 = ap (λ (t : Turn). t.lines) x.3 ∙ ap (λ ls. ls ++ x.0) none in
-        record { lines = far.lines; state = x.1; reaches = subst (λ ls. Reaches p outside (boot_state p) (far.lines ++ ls) x.1) (sym is) (bare x.0 x.1 x.2); stands = x.5; out = far.out }
-
-    pub turned_end : (ending : Ending) → TakesTurns m outside (Some ending) told turn new → Ended p outside ending before mid new
-    turned_end ending takes =
-        let x = takes far.state far.stands in
-        let silent : far.lines ++ x.0 ≡ far.lines = ap (λ ls. far.lines ++ ls) x.4.0 ∙ append-nil far.lines in
-        record { lines = far.lines; state = x.1; run = record { reaches = subst (λ ls. Reaches p outside (boot_state p) ls x.1) silent (bare x.0 x.1 x.2); ended = x.4.1 }; stands = x.5; out = far.out }
-
-    -- the run is over
-    pub ends : (ending : Ending) → progresses.Ended ending ≡ reached m → Ended p outside ending before mid m
-    ends ending is =
-        record {
-          lines = far.lines;
-          state = far.state;
-          run = record {
-            reaches = subst (λ ls. Reaches p outside (boot_state p) ls far.state) (append-nil far.lines) (subst (λ ls. Reaches p outside (boot_state p) (far.lines ++ ls) far.state) none far.reaches);
-            ended = ended_by far.state.rest.ended far.state.tasks ending (sym (is_as_far m far.state far.stands) ∙ sym is);
-          };
-          stands = far.stands;
-          out = far.out;
-        }
-
--- what a dispatch leaves
-module _ (m new : Machine) (told now : Turn) (progress : Progress) (before out : Option (List ℕ)) (stands : Stands m) (sent : Sent m progress told now before out new) where
-  pub sent_turn : now ≡ record told { lines = [] }
-  sent_turn = (sent stands.0 stands.1).3
-
-  pub sent_far : progress ≡ reached new
-  sent_far = let x = sent stands.0 stands.1 in x.5 ∙ sym (is_as_far new x.1 x.7)
-
-  pub sent_rests : progress ≢ progresses.Running
-  sent_rests = (sent stands.0 stands.1).6
-
--- and turns
-module _ (m new : Machine) (outside : Outside) (told now : Turn) (stands : Stands m) (takes : TakesTurns m outside None told now new) where
-  pub turned_stands : Stands new
-  turned_stands = let x = takes stands.0 stands.1 in (x.1, x.5)
-
-  pub turned_few : told.lines ≡ [] → length now.lines ≤ 1
-  turned_few none =
-      let x = takes stands.0 stands.1 in
-      let few = x.4.0 in
-      let is = ap length (ap (λ (t : Turn). t.lines) x.3 ∙ ap (λ ls. ls ++ x.0) none) in
-      omega (arith, few, is)
-
-  pub turned_same : now ≡ record told { lines = now.lines }
-  turned_same = let is = (takes stands.0 stands.1).3 in is ∙ ap (λ ls. record told { lines = ls }) (sym (ap (λ (t : Turn). t.lines) is))
-
-pub turned_still : (m : Machine) (outside : Outside) (ending : Ending) (told now : Turn) (new : Machine) → Stands m → TakesTurns m outside (Some ending) told now new → now ≡ told
-turned_still m outside ending told now new stands takes =
-    let x = takes stands.0 stands.1 in
-    x.3 ∙ ap (λ ls. record told { lines = told.lines ++ ls }) x.4.0 ∙ ap (λ ls. record told { lines = ls }) (append-nil told.lines)
-
--- ---- how often an object may be dispatched yet
-
 pub turned_now : (progress : Progress) → progress ≢ progresses.Running → ((ending : Ending) → progress ≡ progresses.Ended ending → ⊥) → progress ≡ progresses.Turned
 turned_now progresses.Running not_running not_ended = absurd (not_running refl)
 turned_now progresses.Turned not_running not_ended = refl
 turned_now (progresses.Ended ending) not_running not_ended = absurd (not_ended ending refl)
 
+-- ---- how often an object may be dispatched yet
+
 abbrev rounds_by : ℕ → Option Ending → ℕ
 rounds_by spare None = suc spare
 rounds_by spare (Some ending) = 0
-
-abbrev pub rounds : ℕ → Machine → ℕ
-rounds limit m = rounds_by (limit - m.parts.rest.dispatches) m.parts.rest.ended
 
 still_open : (ended : Option Ending) (tasks : List Held_task) → progress_by ended tasks ≡ progresses.Turned → ended ≡ None
 still_open None tasks is = refl
@@ -187,33 +69,12 @@ nothing_left : (tasks : List Task) → progress_by None tasks ≢ progresses.Run
 nothing_left [] rests = refl
 nothing_left (t ∷ ts) rests = absurd (rests refl)
 
--- each dispatch of an object is one of them
-fewer_by : (p : Image) (refused : List ℕ) (limit : ℕ) → limit ≤ 2 ^ 64 - 1 → (m new : Machine) (s u v : State) (lines : List Line) (progress : Progress) → StandsFor m s → StandsFor new v
-    → reached m ≡ progresses.Turned → s.rest.dispatches < limit → u.rest.dispatches ≡ s.rest.dispatches → is_some (payer u.tasks) ≡ true
-    → Moving p refused u lines v → progress ≡ progress_of v → progress ≢ progresses.Running → rounds limit new < rounds limit m
-fewer_by p refused limit few m new s u v lines progress stands then_stands between below same paid moving far rests = go v.rest.ended refl
-  where
-    was : rounds limit m ≡ suc (limit - s.rest.dispatches)
-    was = ap (λ e. rounds_by (limit - m.parts.rest.dispatches) e) (still_open m.parts.rest.ended m.parts.stack.tasks between) ∙ ap (λ r. suc (limit - r.dispatches)) stands.agrees.rest
-
-    is : (e : Option Ending) → v.rest.ended ≡ e → rounds limit new ≡ rounds_by (limit - v.rest.dispatches) e
-    is e ended = ap (λ r. rounds_by (limit - r.dispatches) r.ended) then_stands.agrees.rest ∙ ap (λ e. rounds_by (limit - v.rest.dispatches) e) ended
-
-    go : (e : Option Ending) → v.rest.ended ≡ e → rounds limit new < rounds limit m
-    go (Some ending) ended = omega (arith, was, is (Some ending) ended)
-    go None going =
-        let none : v.tasks ≡ [] = nothing_left v.tasks (λ running. rests (far ∙ ap (λ e. progress_by e v.tasks) going ∙ running)) in
-        let bare = ap (λ ts. one_where (is_some (payer ts))) none in
-        let one = ap one_where paid in
-        let kept = moving_spares p limit few refused u lines v moving in
-        omega (arith, was, is None going, bare, one, kept, same, below)
-
-pub fewer_rounds : (outside : Outside) → outside.limit ≤ 2 ^ 64 - 1 → (m mid new : Machine) (told turn now : Turn) (progress : Progress) (before out : Option (List ℕ))
-    → Stands m → reached m ≡ progresses.Turned → TakesTurns m outside None told turn mid → Sent mid progress turn now before out new → rounds outside.limit new < rounds outside.limit m
-fewer_rounds outside few m mid new told turn now progress before out stands between takes sent =
-    let x = takes stands.0 stands.1 in
-    let y = sent x.1 x.5 in
-    fewer_by mid.image turn.refused outside.limit few m new stands.0 x.1 y.1 y.0 progress stands.1 y.7 between x.4.1 x.4.2 x.4.3 y.2 y.5 y.6
+-- one less of the first is less, whatever there is of the second
+lower : (a b c d k : ℕ) → a < b → c ≤ k → a * suc k + c < b * suc k + d
+lower a b c d k less most =
+    let all : suc a * suc k ≤ b * suc k = mul-le-mul_right (suc k) (omega (arith, less)) in
+    let one = suc-mul a (suc k) in
+    omega (arith, all, one, most)
 
 -- what is said of a run that was given up
 pub given_up : {A : Type 0} {X : Type 0} (r : Option A) → X → IfNone r X
@@ -228,37 +89,218 @@ same_outcome endings.Limit endings.Limit is = refl
 same_outcome (endings.Error n) (endings.Error k) is = cc
 same_outcome _ _ is = absurd cc
 
--- the last line after the others
-module _ (m new : Machine) (outside : Outside) (ending : Ending) (before mid now : Option (List ℕ)) (failed : Bool) (run : Ended m.image outside ending before mid new) where
-  last : List ℕ
-  last = ended (end_text ending (length run.state.cells))
+module _ {X : Type 0} {B : X → Type 0} where
+  -- the machine stands for a state that a run comes to; all its lines are out but the last, which are told and not out yet
+  pub record SoFar (p : Image) (outside : Outside) (before now : Option (List ℕ)) (told : List Line) (m : Machine X B) : Type 0 where
+    pub lines : List Line
+    pub state : State
+    pub reaches : Reaches p outside (boot_state p) (lines ++ told) state
+    pub stands : StandsFor m state
+    pub out : now ≡ after before (text_of lines)
 
-  told : now ≡ after mid last → Told m.image outside ending before now new
-  unfolding last
-  told out = record { lines = run.lines; state = run.state; run = run.run; stands = run.stands; out = out ∙ ap (λ o. after o last) run.out ∙ after_both before (text_of run.lines) last }
+  pub starts : (outside : Outside) (out : Option (List ℕ)) (m : Machine X B) (told : List Line) → told ≡ [] → StandsFor m (boot_state m.core.image) → SoFar m.core.image outside out out told m
+  starts outside out m told none fresh =
+      record { lines = []; state = boot_state m.core.image; reaches = subst (λ ls. Reaches m.core.image outside (boot_state m.core.image) ls (boot_state m.core.image)) (sym none) begins; stands = fresh; out = after_none out }
 
-  cut_last : (n : ℕ) → now ≡ after mid (take n last) → CutShort m.image outside before now
-  unfolding last
-  cut_last n out =
-      record {
-        lines = run.lines;
-        state = run.state;
-        ending = ending;
-        run = run.run;
-        sent = length (text_of run.lines) + n;
-        out = out ∙ ap (λ o. after o (take n last)) run.out ∙ cut_next before (text_of run.lines) last n;
-      }
+  -- a run that has come to a state that the machine stands for can be brought to an end
+  completed : (p : Image) (outside : Outside) → outside.limit ≤ 2 ^ 64 - 1 → (lines : List Line) (s : State) (m : Machine X B) → m.core.image ≡ p → Reaches p outside (boot_state p) lines s → StandsFor m s → CanEnd p outside lines
+  completed p outside few lines s m image r stands =
+      let Whole : Image → Type 0 = λ q. Reaches q outside (boot_state q) lines s → CanEnd q outside lines in
+      let sound = stands.stands.sound in
+      subst Whole image (λ r'. runs_can_end m.core.image stands.stands.typing outside few sound.wired sound.linked sound.typed lines s r' stands.stands.typed) r
 
-  pub ran : (outcome : Outcome) → (outcome ≡ WriteFault → failed ≡ true) → ((outcome ≡ WriteFault → ⊥) → outcome ≡ outcome_of ending)
-      → ((s : State) → StandsFor new s → (n : ℕ) × (now ≡ after mid (take n (ended (end_text ending (length s.cells))))))
-      → ((outcome ≡ WriteFault → ⊥) → (s : State) → StandsFor new s → now ≡ after mid (ended (end_text ending (length s.cells))))
-      → Ran m outside outcome failed before now new
-  unfolding last
-  ran Stopped fault is part whole = subst (λ e. Told m.image outside e before now new) (sym (same_outcome endings.Stopped ending (is (λ f. cc)))) (told (whole (λ f. cc) run.state run.stands))
-  ran Waiting fault is part whole = subst (λ e. Told m.image outside e before now new) (sym (same_outcome endings.Waiting ending (is (λ f. cc)))) (told (whole (λ f. cc) run.state run.stands))
-  ran (MainLeft n) fault is part whole = subst (λ e. Told m.image outside e before now new) (sym (same_outcome (endings.MainLeft n) ending (is (λ f. cc)))) (told (whole (λ f. cc) run.state run.stands))
-  ran Limit fault is part whole = subst (λ e. Told m.image outside e before now new) (sym (same_outcome endings.Limit ending (is (λ f. cc)))) (told (whole (λ f. cc) run.state run.stands))
-  ran (Error n) fault is part whole = subst (λ e. Told m.image outside e before now new) (sym (same_outcome (endings.Error n) ending (is (λ f. cc)))) (told (whole (λ f. cc) run.state run.stands))
-  ran WriteFault fault is part whole =
-      let sent = part run.state run.stands in
-      (fault refl, cut_last sent.0 sent.1)
+  -- ---- a run goes on
+
+  module _ (p : Image) (outside : Outside) (before mid now : Option (List ℕ)) (m new : Machine X B) (told turn : Turn) (far : SoFar p outside before mid told.lines m) (image : m.core.image ≡ p) where
+    module _ (same : told.refused ≡ outside.refused) where
+      more : (lines : List Line) (u : State) → Moving m.core.image told.refused far.state lines u → Reaches p outside (boot_state p) ((far.lines ++ told.lines) ++ lines) u
+      more lines u moving =
+          reaches_then p outside (boot_state p) (far.lines ++ told.lines) far.state lines u far.reaches
+          (subst (λ q. Moving q outside.refused far.state lines u) image (subst (λ r. Moving m.core.image r far.state lines u) same moving))
+
+      text : (lines : List Line) → text_of far.lines ++ text_of (told.lines ++ lines) ≡ text_of ((far.lines ++ told.lines) ++ lines)
+      text lines = sym (text_of_both far.lines (told.lines ++ lines)) ∙ ap text_of (sym (append_assoc far.lines told.lines lines))
+
+      -- all that was told is out, and more
+      pub sent_on : (progress : Progress) → Sent m progress told turn mid now new → SoFar p outside before now turn.lines new
+      sent_on progress sent =
+          let x = sent far.state far.stands in
+          let none : turn.lines ≡ [] = ap (λ (t : Turn). t.lines) x.3 in
+          let lines = (far.lines ++ told.lines) ++ x.0 in
+          record {
+            lines = lines;
+            state = x.1;
+            reaches = subst (λ ls. Reaches p outside (boot_state p) (lines ++ ls) x.1) (sym none) (subst (λ ls. Reaches p outside (boot_state p) ls x.1) (sym (append-nil lines)) (more x.0 x.1 x.2));
+            stands = x.7;
+            out = x.4 ∙ ap (λ o. after o (text_of (told.lines ++ x.0))) far.out ∙ after_both before (text_of far.lines) (text_of (told.lines ++ x.0)) ∙ ap (after before) (text x.0);
+          }
+
+      -- the sink failed
+      pub cut : outside.limit ≤ 2 ^ 64 - 1 → new.core.image ≡ p → CutOff m told mid now new → CutShort p outside before now
+      cut few again cut_off =
+          let x = cut_off far.state far.stands in
+          let b = text_of (told.lines ++ x.0) in
+          let all = completed p outside few ((far.lines ++ told.lines) ++ x.0) x.1 new again (more x.0 x.1 x.2) x.4 in
+          cut_of p outside before now ((far.lines ++ told.lines) ++ x.0) all (length (text_of far.lines) + x.3.0)
+          (x.3.1 ∙ ap (λ o. after o (take x.3.0 b)) far.out ∙ cut_next before (text_of far.lines) b x.3.0 ∙ ap (λ t. after before (take (length (text_of far.lines) + x.3.0) t)) (text x.0))
+
+    -- turns
+    module _ (none : told.lines ≡ []) where
+      bare : (lines : List Line) (u : State) → Reaches m.core.image outside far.state lines u → Reaches p outside (boot_state p) (far.lines ++ lines) u
+      bare lines u turns =
+          reaches_both p outside (boot_state p) far.lines far.state lines u
+          (subst (λ ls. Reaches p outside (boot_state p) ls far.state) (append-nil far.lines) (subst (λ ls. Reaches p outside (boot_state p) (far.lines ++ ls) far.state) none far.reaches))
+          (subst (λ q. Reaches q outside far.state lines u) image turns)
+
+      pub turned_on : TakesTurns m outside None told turn new → SoFar p outside before mid turn.lines new
+      turned_on takes =
+          let x = takes far.state far.stands in
+          let is : turn.lines ≡ x.0 = ap (λ (t : Turn). t.lines) x.3 ∙ ap (λ ls. ls ++ x.0) none in
+          record { lines = far.lines; state = x.1; reaches = subst (λ ls. Reaches p outside (boot_state p) (far.lines ++ ls) x.1) (sym is) (bare x.0 x.1 x.2); stands = x.5; out = far.out }
+
+      pub turned_end : (ending : Ending) → TakesTurns m outside (Some ending) told turn new → Ended p outside ending before mid new
+      turned_end ending takes =
+          let x = takes far.state far.stands in
+          let silent : far.lines ++ x.0 ≡ far.lines = ap (λ ls. far.lines ++ ls) x.4.0 ∙ append-nil far.lines in
+          record { lines = far.lines; state = x.1; run = record { reaches = subst (λ ls. Reaches p outside (boot_state p) ls x.1) silent (bare x.0 x.1 x.2); ended = x.4.1 }; stands = x.5; out = far.out }
+
+      -- the run is over
+      pub ends : (ending : Ending) → progresses.Ended ending ≡ reached m.core → Ended p outside ending before mid m
+      ends ending is =
+          record {
+            lines = far.lines;
+            state = far.state;
+            run = record {
+              reaches = subst (λ ls. Reaches p outside (boot_state p) ls far.state) (append-nil far.lines) (subst (λ ls. Reaches p outside (boot_state p) (far.lines ++ ls) far.state) none far.reaches);
+              ended = ended_by far.state.rest.ended far.state.tasks ending (sym (is_as_far m.core far.state far.stands.stands) ∙ sym is);
+            };
+            stands = far.stands;
+            out = far.out;
+          }
+
+  -- what a dispatch leaves
+  module _ (m new : Machine X B) (told now : Turn) (progress : Progress) (before out : Option (List ℕ)) (stands : Stands m) (sent : Sent m progress told now before out new) where
+    pub sent_turn : now ≡ record told { lines = [] }
+    sent_turn = (sent stands.0 stands.1).3
+
+    pub sent_far : progress ≡ reached new.core
+    sent_far = let x = sent stands.0 stands.1 in x.5 ∙ sym (is_as_far new.core x.1 x.7.stands)
+
+    pub sent_rests : progress ≢ progresses.Running
+    sent_rests = (sent stands.0 stands.1).6
+
+  -- and turns
+  module _ (m new : Machine X B) (outside : Outside) (told now : Turn) (stands : Stands m) (takes : TakesTurns m outside None told now new) where
+    pub turned_stands : Stands new
+    turned_stands = let x = takes stands.0 stands.1 in (x.1, x.5)
+
+    pub turned_few : told.lines ≡ [] → length now.lines ≤ 1
+    turned_few none =
+        let x = takes stands.0 stands.1 in
+        let few = x.4.0 in
+        let is = ap length (ap (λ (t : Turn). t.lines) x.3 ∙ ap (λ ls. ls ++ x.0) none) in
+        omega (arith, few, is)
+
+    pub turned_same : now ≡ record told { lines = now.lines }
+    turned_same = let is = (takes stands.0 stands.1).3 in is ∙ ap (λ ls. record told { lines = ls }) (sym (ap (λ (t : Turn). t.lines) is))
+
+  pub turned_still : (m : Machine X B) (outside : Outside) (ending : Ending) (told now : Turn) (new : Machine X B) → Stands m → TakesTurns m outside (Some ending) told now new → now ≡ told
+  turned_still m outside ending told now new stands takes =
+      let x = takes stands.0 stands.1 in
+      x.3 ∙ ap (λ ls. record told { lines = told.lines ++ ls }) x.4.0 ∙ ap (λ ls. record told { lines = ls }) (append-nil told.lines)
+
+  abbrev pub rounds : ℕ → Machine X B → ℕ
+  rounds limit m = rounds_by (limit - m.core.parts.rest.dispatches) m.core.parts.rest.ended
+
+  -- each dispatch of an object is one of them
+  fewer_by : (p : Image) (refused : List ℕ) (limit : ℕ) → limit ≤ 2 ^ 64 - 1 → (m new : Machine X B) (s u v : State) (lines : List Line) (progress : Progress) → StandsFor m s → StandsFor new v
+      → reached m.core ≡ progresses.Turned → s.rest.dispatches < limit → u.rest.dispatches ≡ s.rest.dispatches → is_some (payer u.tasks) ≡ true
+      → Moving p refused u lines v → progress ≡ progress_of v → progress ≢ progresses.Running → rounds limit new < rounds limit m
+  fewer_by p refused limit few m new s u v lines progress stands then_stands between below same paid moving far rests = go v.rest.ended refl
+    where
+      was : rounds limit m ≡ suc (limit - s.rest.dispatches)
+      was = ap (λ e. rounds_by (limit - m.core.parts.rest.dispatches) e) (still_open m.core.parts.rest.ended m.core.parts.stack.tasks between) ∙ ap (λ r. suc (limit - r.dispatches)) stands.stands.agrees.rest
+
+      is : (e : Option Ending) → v.rest.ended ≡ e → rounds limit new ≡ rounds_by (limit - v.rest.dispatches) e
+      is e ended = ap (λ r. rounds_by (limit - r.dispatches) r.ended) then_stands.stands.agrees.rest ∙ ap (λ e. rounds_by (limit - v.rest.dispatches) e) ended
+
+      go : (e : Option Ending) → v.rest.ended ≡ e → rounds limit new < rounds limit m
+      go (Some ending) ended = omega (arith, was, is (Some ending) ended)
+      go None going =
+          let none : v.tasks ≡ [] = nothing_left v.tasks (λ running. rests (far ∙ ap (λ e. progress_by e v.tasks) going ∙ running)) in
+          let bare = ap (λ ts. one_where (is_some (payer ts))) none in
+          let one = ap one_where paid in
+          let kept = moving_spares p limit few refused u lines v moving in
+          omega (arith, was, is None going, bare, one, kept, same, below)
+
+  -- how many dispatches there may be yet, and then how many events are to come
+  abbrev pub left : List TimedEvent → ℕ → Machine X B → ℕ
+  left events limit m = rounds limit m * suc (length events) + to_come events m
+
+  -- a native's end leaves as many dispatches, and fewer events
+  fewer_to_come : (events : List TimedEvent) (limit : ℕ) (m new : Machine X B) (s u v : State) → StandsFor m s → StandsFor new v → v ≡ u → reached m.core ≡ progresses.Turned → u.rest.dispatches ≡ s.rest.dispatches
+      → u.rest.ended ≡ None → length events - u.rest.delivered < length events - s.rest.delivered → left events limit new < left events limit m
+  fewer_to_come events limit m new s u v stands then_stands none between same going fewer =
+      let was = ap (λ e. rounds_by (limit - m.core.parts.rest.dispatches) e) (still_open m.core.parts.rest.ended m.core.parts.stack.tasks between) ∙ ap (λ r. suc (limit - r.dispatches)) stands.stands.agrees.rest in
+      let now = then_stands.stands.agrees.rest ∙ ap (λ (x : State). x.rest) none in
+      let is = ap (λ r. rounds_by (limit - r.dispatches) r.ended) now ∙ ap (λ e. rounds_by (limit - u.rest.dispatches) e) going ∙ ap (λ n. suc (limit - n)) same in
+      let rounds_same : rounds limit new * suc (length events) ≡ rounds limit m * suc (length events) = ap (λ n. n * suc (length events)) (is ∙ sym was) in
+      let came = ap (λ r. r.delivered) stands.stands.agrees.rest in
+      let comes = ap (λ r. r.delivered) now in
+      omega (arith, rounds_same, came, comes, fewer)
+
+  pub fewer_left : (outside : Outside) → outside.limit ≤ 2 ^ 64 - 1 → (m mid new : Machine X B) (told turn now : Turn) (progress : Progress) (before out : Option (List ℕ))
+      → Stands m → reached m.core ≡ progresses.Turned → TakesTurns m outside None told turn mid → Sent mid progress turn now before out new → left outside.events outside.limit new < left outside.events outside.limit m
+  fewer_left outside few m mid new told turn now progress before out stands between takes sent =
+      let x = takes stands.0 stands.1 in
+      let y = sent x.1 x.5 in
+      go x.1 x.4.2 x.4.1 x.4.3 y.0 y.1 y.2 y.5 y.6 y.7
+    where
+      go : (u : State) → u.rest.dispatches ≡ stands.0.rest.dispatches → stands.0.rest.dispatches < outside.limit → (is_some (payer u.tasks) ≡ true) ⊎ (IsBetween u × (length outside.events - u.rest.delivered < length outside.events - stands.0.rest.delivered))
+          → (lines : List Line) (v : State) → Moving mid.core.image turn.refused u lines v → progress ≡ progress_of v → progress ≢ progresses.Running → StandsFor new v → left outside.events outside.limit new < left outside.events outside.limit m
+      go u same below (inl paid) lines v moving far rests then_stands =
+          lower (rounds outside.limit new) (rounds outside.limit m) (to_come outside.events new) (to_come outside.events m) (length outside.events)
+          (fewer_by mid.core.image turn.refused outside.limit few m new stands.0 u v lines progress stands.1 then_stands between below same paid moving far rests) (omega arith)
+      go u same below (inr told) lines v moving far rests then_stands =
+          fewer_to_come outside.events outside.limit m new stands.0 u v stands.1 then_stands (idle_stays mid.core.image turn.refused u lines v told.0.idle moving) between same told.0.going told.1
+
+  -- what the machine in the run has of natives and refused requests is what it had at first
+  pub turns_as : (m new : Machine X B) (limit : ℕ) (events : List TimedEvent) (result : Option Ending) (told now : Turn) {refused : List ℕ} {natives : ℕ} → told.refused ≡ refused → natives_of m ≡ natives
+      → TakesTurns m (hearing told.refused limit (natives_of m) events) result told now new → TakesTurns m (hearing refused limit natives events) result told now new
+  turns_as m new limit events result told now {refused} {natives} same count takes =
+      subst (λ n. TakesTurns m (hearing refused limit n events) result told now new) count (subst (λ r. TakesTurns m (hearing r limit (natives_of m) events) result told now new) same takes)
+
+  -- the last line after the others
+  module _ (m new : Machine X B) (outside : Outside) (ending : Ending) (before mid now : Option (List ℕ)) (failed : Bool) (run : Ended m.core.image outside ending before mid new) where
+    last : List ℕ
+    last = ended (end_text ending (length run.state.cells))
+
+    told : now ≡ after mid last → Told m.core.image outside ending before now new
+    unfolding last
+    told out = record { lines = run.lines; state = run.state; run = run.run; stands = run.stands; out = out ∙ ap (λ o. after o last) run.out ∙ after_both before (text_of run.lines) last }
+
+    cut_last : (n : ℕ) → now ≡ after mid (take n last) → CutShort m.core.image outside before now
+    unfolding last
+    cut_last n out =
+        record {
+          lines = run.lines;
+          state = run.state;
+          ending = ending;
+          run = run.run;
+          sent = length (text_of run.lines) + n;
+          out = out ∙ ap (λ o. after o (take n last)) run.out ∙ cut_next before (text_of run.lines) last n;
+        }
+
+    pub ran : (outcome : Outcome) → (outcome ≡ WriteFault → failed ≡ true) → ((outcome ≡ WriteFault → ⊥) → outcome ≡ outcome_of ending)
+        → ((s : State) → StandsFor new s → (n : ℕ) × (now ≡ after mid (take n (ended (end_text ending (length s.cells))))))
+        → ((outcome ≡ WriteFault → ⊥) → (s : State) → StandsFor new s → now ≡ after mid (ended (end_text ending (length s.cells))))
+        → Ran m outside outcome failed before now new
+    unfolding last
+    ran Stopped fault is part whole = subst (λ e. Told m.core.image outside e before now new) (sym (same_outcome endings.Stopped ending (is (λ f. cc)))) (told (whole (λ f. cc) run.state run.stands))
+    ran Waiting fault is part whole = subst (λ e. Told m.core.image outside e before now new) (sym (same_outcome endings.Waiting ending (is (λ f. cc)))) (told (whole (λ f. cc) run.state run.stands))
+    ran (MainLeft n) fault is part whole = subst (λ e. Told m.core.image outside e before now new) (sym (same_outcome (endings.MainLeft n) ending (is (λ f. cc)))) (told (whole (λ f. cc) run.state run.stands))
+    ran Limit fault is part whole = subst (λ e. Told m.core.image outside e before now new) (sym (same_outcome endings.Limit ending (is (λ f. cc)))) (told (whole (λ f. cc) run.state run.stands))
+    ran (Error n) fault is part whole = subst (λ e. Told m.core.image outside e before now new) (sym (same_outcome (endings.Error n) ending (is (λ f. cc)))) (told (whole (λ f. cc) run.state run.stands))
+    ran WriteFault fault is part whole =
+        let sent = part run.state run.stands in
+        (fault refl, cut_last sent.0 sent.1)

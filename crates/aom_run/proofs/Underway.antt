@@ -7,7 +7,8 @@ use Rattle.aom_lines.specs.Turn.{Turn}
 use Rattle.aom_exec.specs.declared.progress.Progress.{Progress}
 use Rattle.aom_exec.specs.declared.progress.Progress.TheVariants.{Running}
 use Rattle.aom_exec.specs.Progress.{progress_of}
-use Rattle.aom_exec.specs.Steps.{Machine, Stands, StandsFor}
+use Rattle.aom_machine.specs.Calls.{Stands, StandsFor}
+use Rattle.aom_machine.specs.declared.machine.Machine.{Machine}
 use Rattle.aom_run.specs.Runs.{after, begins, CutOff, Filled, Moving, Sent}
 use Rattle.aom_run.proofs.Reaching.{moving_both}
 use Rattle.aom_run.proofs.Sending.{after_both, after_none, cut_next, text_of_both}
@@ -16,61 +17,62 @@ use Rattle.aom_run.proofs.Sending.{after_both, after_none, cut_next, text_of_bot
 abbrev pub Part : Turn → Turn → Option (List ℕ) → Option (List ℕ) → List Line → Type 0
 Part told turn before out lines = (sent : List Line) × (sent ++ turn.lines ≡ told.lines ++ lines) × (out ≡ after before (text_of sent))
 
-abbrev pub Underway : Machine → Turn → Option (List ℕ) → Option (List ℕ) → Turn → Machine → Type 0
-Underway old told before out turn m =
-    (s : State) → StandsFor old s
-    → (lines : List Line) × (u : State) × Moving old.image told.refused s lines u × Part told turn before out lines × StandsFor m u
+module _ {X : Type 0} {B : X → Type 0} where
+  abbrev pub Underway : Machine X B → Turn → Option (List ℕ) → Option (List ℕ) → Turn → Machine X B → Type 0
+  Underway old told before out turn m =
+      (s : State) → StandsFor old s
+      → (lines : List Line) × (u : State) × Moving old.core.image told.refused s lines u × Part told turn before out lines × StandsFor m u
 
-pub underway : (m : Machine) (told : Turn) (out : Option (List ℕ)) → Underway m told out out told m
-underway m told out s stands = ([], s, begins, ([], sym (append-nil told.lines), after_none out), stands)
+  pub underway : (m : Machine X B) (told : Turn) (out : Option (List ℕ)) → Underway m told out out told m
+  underway m told out s stands = ([], s, begins, ([], sym (append-nil told.lines), after_none out), stands)
 
-pub still_stands : (m new : Machine) (turn full : Turn) (progress : Progress) → Stands m → Filled m progress turn full new → Stands new
-still_stands m new turn full progress stands f = let y = f stands.0 stands.1 in (y.1, y.5)
+  pub still_stands : (m new : Machine X B) (turn full : Turn) (progress : Progress) → Stands m → Filled m progress turn full new → Stands new
+  still_stands m new turn full progress stands f = let y = f stands.0 stands.1 in (y.1, y.5)
 
--- nothing of a turn changes but its lines
-pub cleared_same : (m new : Machine) (told turn full clear : Turn) (progress : Progress) → turn ≡ record told { lines = turn.lines } → Stands m → Filled m progress turn full new → clear ≡ record full { lines = [] } → clear ≡ record told { lines = clear.lines }
-cleared_same m new told turn full clear progress same stands f is =
-    let y = f stands.0 stands.1 in
-    let all : clear ≡ record told { lines = [] } = is ∙ ap (λ (t : Turn). record t { lines = [] }) y.3 ∙ ap (λ (t : Turn). record t { lines = [] }) same in
-    all ∙ ap (λ ls. record told { lines = ls }) (sym (ap (λ (t : Turn). t.lines) all))
+  -- nothing of a turn changes but its lines
+  pub cleared_same : (m new : Machine X B) (told turn full clear : Turn) (progress : Progress) → turn ≡ record told { lines = turn.lines } → Stands m → Filled m progress turn full new → clear ≡ record full { lines = [] } → clear ≡ record told { lines = clear.lines }
+  cleared_same m new told turn full clear progress same stands f is =
+      let y = f stands.0 stands.1 in
+      let all : clear ≡ record told { lines = [] } = is ∙ ap (λ (t : Turn). record t { lines = [] }) y.3 ∙ ap (λ (t : Turn). record t { lines = [] }) same in
+      all ∙ ap (λ ls. record told { lines = ls }) (sym (ap (λ (t : Turn). t.lines) all))
 
-module _ (old m new : Machine) (told turn full : Turn) (before out : Option (List ℕ)) (progress : Progress)
-    (w : Underway old told before out turn m) (image : m.image ≡ old.image) (same : turn ≡ record told { lines = turn.lines }) (f : Filled m progress turn full new) where
-  module _ (s : State) (stands : StandsFor old s) where
-    -- steps that fill the turn
-    further : (lines : List Line) × (u : State) × Moving old.image told.refused s lines u × Part told full before out lines × (full ≡ record told { lines = full.lines }) × (progress ≡ progress_of u) × StandsFor new u
-    further =
-        let x = w s stands in
-        let y = f x.1 x.4 in
-        let refused : turn.refused ≡ told.refused = ap (λ (t : Turn). t.refused) same in
-        let moving = subst (λ q. Moving q told.refused x.1 y.0 y.1) image (subst (λ r. Moving m.image r x.1 y.0 y.1) refused y.2) in
-        let lines : full.lines ≡ turn.lines ++ y.0 = ap (λ (t : Turn). t.lines) y.3 in
-        let all = ap (λ ls. x.3.0 ++ ls) lines ∙ sym (append_assoc x.3.0 turn.lines y.0) ∙ ap (λ ls. ls ++ y.0) x.3.1 ∙ append_assoc told.lines x.0 y.0 in
-        let frame : full ≡ record told { lines = full.lines } = y.3 ∙ ap (λ (t : Turn). record t { lines = turn.lines ++ y.0 }) same ∙ ap (λ ls. record told { lines = ls }) (sym lines) in
-        (x.0 ++ y.0, y.1, moving_both old.image told.refused s x.0 x.1 y.0 y.1 x.2 moving, (x.3.0, all, x.3.2), frame, y.4, y.5)
+  module _ (old m new : Machine X B) (told turn full : Turn) (before out : Option (List ℕ)) (progress : Progress)
+      (w : Underway old told before out turn m) (image : m.core.image ≡ old.core.image) (same : turn ≡ record told { lines = turn.lines }) (f : Filled m progress turn full new) where
+    module _ (s : State) (stands : StandsFor old s) where
+      -- steps that fill the turn
+      further : (lines : List Line) × (u : State) × Moving old.core.image told.refused s lines u × Part told full before out lines × (full ≡ record told { lines = full.lines }) × (progress ≡ progress_of u) × StandsFor new u
+      further =
+          let x = w s stands in
+          let y = f x.1 x.4 in
+          let refused : turn.refused ≡ told.refused = ap (λ (t : Turn). t.refused) same in
+          let moving = subst (λ q. Moving q told.refused x.1 y.0 y.1) image (subst (λ r. Moving m.core.image r x.1 y.0 y.1) refused y.2) in
+          let lines : full.lines ≡ turn.lines ++ y.0 = ap (λ (t : Turn). t.lines) y.3 in
+          let all = ap (λ ls. x.3.0 ++ ls) lines ∙ sym (append_assoc x.3.0 turn.lines y.0) ∙ ap (λ ls. ls ++ y.0) x.3.1 ∙ append_assoc told.lines x.0 y.0 in
+          let frame : full ≡ record told { lines = full.lines } = y.3 ∙ ap (λ (t : Turn). record t { lines = turn.lines ++ y.0 }) same ∙ ap (λ ls. record told { lines = ls }) (sym lines) in
+          (x.0 ++ y.0, y.1, moving_both old.core.image told.refused s x.0 x.1 y.0 y.1 x.2 moving, (x.3.0, all, x.3.2), frame, y.4, y.5)
 
-  -- the sink failed
-  pub cut_off : (now : Option (List ℕ)) (n : ℕ) → now ≡ after out (take n (text_of full.lines)) → CutOff old told before now new
-  cut_off now n e s stands =
-      let x = further s stands in
-      let a = text_of x.3.0 in
-      let b = text_of full.lines in
-      let all = sym (text_of_both x.3.0 full.lines) ∙ ap text_of x.3.1 in
-      (x.0, x.1, x.2, (length a + n, e ∙ ap (λ o. after o (take n b)) x.3.2 ∙ cut_next before a b n ∙ ap (λ t. after before (take (length a + n) t)) all), x.6)
-
-  -- all that the turn has is out, and it is cleared
-  module _ (now : Option (List ℕ)) (clear : Turn) (is : clear ≡ record full { lines = [] }) (e : now ≡ after out (text_of full.lines)) where
-    all_out : (sent lines : List Line) → sent ++ full.lines ≡ told.lines ++ lines → out ≡ after before (text_of sent) → now ≡ after before (text_of (told.lines ++ lines))
-    all_out sent lines all so_far =
-        e ∙ ap (λ o. after o (text_of full.lines)) so_far ∙ after_both before (text_of sent) (text_of full.lines) ∙ ap (after before) (sym (text_of_both sent full.lines) ∙ ap text_of all)
-
-    pub underway_still : Underway old told before now clear new
-    underway_still s stands =
+    -- the sink failed
+    pub cut_off : (now : Option (List ℕ)) (n : ℕ) → now ≡ after out (take n (text_of full.lines)) → CutOff old told before now new
+    cut_off now n e s stands =
         let x = further s stands in
-        let none : (told.lines ++ x.0) ++ clear.lines ≡ told.lines ++ x.0 = ap (λ (t : Turn). (told.lines ++ x.0) ++ t.lines) is ∙ append-nil (told.lines ++ x.0) in
-        (x.0, x.1, x.2, (told.lines ++ x.0, none, all_out x.3.0 x.0 x.3.1 x.3.2), x.6)
+        let a = text_of x.3.0 in
+        let b = text_of full.lines in
+        let all = sym (text_of_both x.3.0 full.lines) ∙ ap text_of x.3.1 in
+        (x.0, x.1, x.2, (length a + n, e ∙ ap (λ o. after o (take n b)) x.3.2 ∙ cut_next before a b n ∙ ap (λ t. after before (take (length a + n) t)) all), x.6)
 
-    pub is_sent : progress ≢ Running → Sent old progress told clear before now new
-    is_sent rests s stands =
-        let x = further s stands in
-        (x.0, x.1, x.2, is ∙ ap (λ (t : Turn). record t { lines = [] }) x.4, all_out x.3.0 x.0 x.3.1 x.3.2, x.5, rests, x.6)
+    -- all that the turn has is out, and it is cleared
+    module _ (now : Option (List ℕ)) (clear : Turn) (is : clear ≡ record full { lines = [] }) (e : now ≡ after out (text_of full.lines)) where
+      all_out : (sent lines : List Line) → sent ++ full.lines ≡ told.lines ++ lines → out ≡ after before (text_of sent) → now ≡ after before (text_of (told.lines ++ lines))
+      all_out sent lines all so_far =
+          e ∙ ap (λ o. after o (text_of full.lines)) so_far ∙ after_both before (text_of sent) (text_of full.lines) ∙ ap (after before) (sym (text_of_both sent full.lines) ∙ ap text_of all)
+
+      pub underway_still : Underway old told before now clear new
+      underway_still s stands =
+          let x = further s stands in
+          let none : (told.lines ++ x.0) ++ clear.lines ≡ told.lines ++ x.0 = ap (λ (t : Turn). (told.lines ++ x.0) ++ t.lines) is ∙ append-nil (told.lines ++ x.0) in
+          (x.0, x.1, x.2, (told.lines ++ x.0, none, all_out x.3.0 x.0 x.3.1 x.3.2), x.6)
+
+      pub is_sent : progress ≢ Running → Sent old progress told clear before now new
+      is_sent rests s stands =
+          let x = further s stands in
+          (x.0, x.1, x.2, is ∙ ap (λ (t : Turn). record t { lines = [] }) x.4, all_out x.3.0 x.0 x.3.1 x.3.2, x.5, rests, x.6)

@@ -14,64 +14,17 @@ use Rattle.aom_run.specs.declared.outcome.Outcome.TheVariants.{Stopped, Waiting,
 use Rattle.aom_exec.specs.declared.progress.Progress.{Progress}
 use Rattle.aom_exec.specs.declared.progress.Progress.TheVariants.{Running}
 use Rattle.aom_exec.specs.Progress.{progress_of}
-use Rattle.aom_exec.specs.Steps.{Machine, StandsFor}
+use Rattle.aom_machine.specs.Calls.{StandsFor}
+use Rattle.aom_machine.specs.declared.machine.Machine.{Machine}
 
 -- what is out once a text is out too, where the sink tells it
 abbrev pub after : Option (List ℕ) → List ℕ → Option (List ℕ)
 after out text = option_map (λ t. t ++ text) out
 
--- a machine that has not run: it stands for the boot state
-abbrev pub IsFresh : Machine → Type 0
-IsFresh m = StandsFor m (boot_state m.image)
-
 -- moves one after another at which something is at hand, with their lines, where those requests are refused
 pub data Moving (p : Image) (refused : List ℕ) (from : State) : List Line → State → Type 0 where
   begins : Moving p refused from [] from
   goes_on : {lines : List Line} {s u : State} (c : Choice) → Moving p refused from lines s → IsBusy s → IsOpen p refused c s → step p c s ≡ Goes u → Moving p refused from (lines ++ written p s) u
-
--- from each state that the machine stands for moves lead to one that it then stands for, and their lines are added to the turn
-abbrev pub Filled : Machine → Progress → Turn → Turn → Machine → Type 0
-Filled old progress told now new =
-    (s : State) → StandsFor old s
-    → (lines : List Line) × (u : State) × Moving old.image told.refused s lines u
-    × (now ≡ record told { lines = told.lines ++ lines })
-    × (progress ≡ progress_of u)
-    × StandsFor new u
-
--- so until nothing is at hand: what was in the turn is out, and their lines are out after it
-abbrev pub Sent : Machine → Progress → Turn → Turn → Option (List ℕ) → Option (List ℕ) → Machine → Type 0
-Sent old progress told now before out new =
-    (s : State) → StandsFor old s
-    → (lines : List Line) × (u : State) × Moving old.image told.refused s lines u
-    × (now ≡ record told { lines = [] })
-    × (out ≡ after before (text_of (told.lines ++ lines)))
-    × (progress ≡ progress_of u)
-    × (progress ≢ Running)
-    × StandsFor new u
-
--- or a beginning of all that, where the sink failed
-abbrev pub CutOff : Machine → Turn → Option (List ℕ) → Option (List ℕ) → Machine → Type 0
-CutOff old told before out new =
-    (s : State) → StandsFor old s
-    → (lines : List Line) × (u : State) × Moving old.image told.refused s lines u
-    × ((sent : ℕ) × (out ≡ after before (take sent (text_of (told.lines ++ lines)))))
-    × StandsFor new u
-
--- a run to its end: the machine stands for its last state, and its lines are out
-pub record Ended (p : Image) (outside : Outside) (ending : Ending) (before now : Option (List ℕ)) (new : Machine) : Type 0 where
-  pub lines : List Line
-  pub state : State
-  pub run : Run_of p outside lines state ending
-  pub stands : StandsFor new state
-  pub out : now ≡ after before (text_of lines)
-
--- and its last line too
-pub record Told (p : Image) (outside : Outside) (ending : Ending) (before now : Option (List ℕ)) (new : Machine) : Type 0 where
-  pub lines : List Line
-  pub state : State
-  pub run : Run_of p outside lines state ending
-  pub stands : StandsFor new state
-  pub out : now ≡ after before (transcript lines ending (length state.cells))
 
 -- a run whose sink failed: a beginning of the transcript of a run is out
 pub record CutShort (p : Image) (outside : Outside) (before now : Option (List ℕ)) : Type 0 where
@@ -82,11 +35,60 @@ pub record CutShort (p : Image) (outside : Outside) (before now : Option (List �
   pub sent : ℕ
   pub out : now ≡ after before (take sent (transcript lines ending (length state.cells)))
 
--- what an outcome says of the run
-abbrev pub Ran : Machine → Outside → Outcome → Bool → Option (List ℕ) → Option (List ℕ) → Machine → Type 0
-Ran old outside Stopped failed before now new = Told old.image outside endings.Stopped before now new
-Ran old outside Waiting failed before now new = Told old.image outside endings.Waiting before now new
-Ran old outside (MainLeft code) failed before now new = Told old.image outside (endings.MainLeft code) before now new
-Ran old outside Limit failed before now new = Told old.image outside endings.Limit before now new
-Ran old outside (Error answer) failed before now new = Told old.image outside (endings.Error answer) before now new
-Ran old outside WriteFault failed before now new = (failed ≡ true) × CutShort old.image outside before now
+module _ {X : Type 0} {B : X → Type 0} where
+  -- a machine that has not run: it stands for the boot state
+  abbrev pub IsFresh : Machine X B → Type 0
+  IsFresh m = StandsFor m (boot_state m.core.image)
+
+  -- from each state that the machine stands for moves lead to one that it then stands for, and their lines are added to the turn
+  abbrev pub Filled : Machine X B → Progress → Turn → Turn → Machine X B → Type 0
+  Filled old progress told now new =
+      (s : State) → StandsFor old s
+      → (lines : List Line) × (u : State) × Moving old.core.image told.refused s lines u
+      × (now ≡ record told { lines = told.lines ++ lines })
+      × (progress ≡ progress_of u)
+      × StandsFor new u
+
+  -- so until nothing is at hand: what was in the turn is out, and their lines are out after it
+  abbrev pub Sent : Machine X B → Progress → Turn → Turn → Option (List ℕ) → Option (List ℕ) → Machine X B → Type 0
+  Sent old progress told now before out new =
+      (s : State) → StandsFor old s
+      → (lines : List Line) × (u : State) × Moving old.core.image told.refused s lines u
+      × (now ≡ record told { lines = [] })
+      × (out ≡ after before (text_of (told.lines ++ lines)))
+      × (progress ≡ progress_of u)
+      × (progress ≢ Running)
+      × StandsFor new u
+
+  -- or a beginning of all that, where the sink failed
+  abbrev pub CutOff : Machine X B → Turn → Option (List ℕ) → Option (List ℕ) → Machine X B → Type 0
+  CutOff old told before out new =
+      (s : State) → StandsFor old s
+      → (lines : List Line) × (u : State) × Moving old.core.image told.refused s lines u
+      × ((sent : ℕ) × (out ≡ after before (take sent (text_of (told.lines ++ lines)))))
+      × StandsFor new u
+
+  -- a run to its end: the machine stands for its last state, and its lines are out
+  pub record Ended (p : Image) (outside : Outside) (ending : Ending) (before now : Option (List ℕ)) (new : Machine X B) : Type 0 where
+    pub lines : List Line
+    pub state : State
+    pub run : Run_of p outside lines state ending
+    pub stands : StandsFor new state
+    pub out : now ≡ after before (text_of lines)
+
+  -- and its last line too
+  pub record Told (p : Image) (outside : Outside) (ending : Ending) (before now : Option (List ℕ)) (new : Machine X B) : Type 0 where
+    pub lines : List Line
+    pub state : State
+    pub run : Run_of p outside lines state ending
+    pub stands : StandsFor new state
+    pub out : now ≡ after before (transcript lines ending (length state.cells))
+
+  -- what an outcome says of the run
+  abbrev pub Ran : Machine X B → Outside → Outcome → Bool → Option (List ℕ) → Option (List ℕ) → Machine X B → Type 0
+  Ran old outside Stopped failed before now new = Told old.core.image outside endings.Stopped before now new
+  Ran old outside Waiting failed before now new = Told old.core.image outside endings.Waiting before now new
+  Ran old outside (MainLeft code) failed before now new = Told old.core.image outside (endings.MainLeft code) before now new
+  Ran old outside Limit failed before now new = Told old.core.image outside endings.Limit before now new
+  Ran old outside (Error answer) failed before now new = Told old.core.image outside (endings.Error answer) before now new
+  Ran old outside WriteFault failed before now new = (failed ≡ true) × CutShort old.core.image outside before now

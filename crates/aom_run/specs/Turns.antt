@@ -1,79 +1,99 @@
--- What comes between dispatches, until an object is dispatched or the run ends.
+-- What comes between dispatches, until an object is dispatched, a native's end is told, or the run ends.
 use Rattle.std.specs.Prelude.{◌≡◌, ◌⊎◌, ◌<◌, ◌≤◌, ◌+◌, ◌-◌, ◌++◌, is_some, ℕ, true, List, [], Option, Some, None, length}
 use Rattle.aom_sound.specs.State.{State}
-use Rattle.aom_sound.specs.World.{Outside, Reaches, Timed, event_at, first_due, refusing}
+use Rattle.aom_sound.specs.World.{IsBetween, Outside, Reaches, Timed, event_at, first_due, first_living}
 use Rattle.aom_steps.specs.Payers.{payer}
 use Rattle.aom_transcript.specs.declared.event.TimedEvent.{TimedEvent}
 use Rattle.aom_transcript.specs.declared.line.Line.{Line}
 use Rattle.aom_transcript.specs.declared.line.Ending.{Ending}
 use Rattle.aom_lines.specs.Turn.{Turn}
-use Rattle.aom_exec.specs.Steps.{Machine, StandsFor, timers}
-use Rattle.aom_exec.specs.Turns.{NoneDue}
+use Rattle.aom_exec.specs.Steps.{timers}
+use Rattle.aom_machine.specs.Calls.{StandsFor, natives_of}
+use Rattle.aom_machine.specs.declared.machine.Machine.{Machine}
 
--- what comes from outside of the image, where there is no native
-abbrev pub hearing : List ℕ → ℕ → List TimedEvent → Outside
-hearing refused limit events = record (refusing refused limit) { events = events }
-
--- ---- timers
-
--- no timer is due by the machine's clock
-abbrev pub NoneIsDue : Machine → Type 0
-NoneIsDue m = (s : State) → StandsFor m s → NoneDue s
-
--- the timer that is due first is
-abbrev pub IsDue : Machine → Type 0
-IsDue m = (s : State) × StandsFor m s × ((x : Timed) × (first_due s.cells ≡ Some x) × (x.timer.due ≤ s.rest.clock))
-
--- turns that write no line, at the same time, and dispatch nothing
-abbrev pub CompletesDue : Machine → Machine → Type 0
-CompletesDue old new =
-    (s : State) → StandsFor old s
-    → (u : State) × ((outside : Outside) → s.rest.dispatches < outside.limit → Reaches old.image outside s [] u)
-    × (u.rest ≡ s.rest)
-    × StandsFor new u
-
--- ---- events
-
--- the next event comes later than the machine's clock says, if there is one
-abbrev pub NoneHasCome : List TimedEvent → Machine → Type 0
-NoneHasCome events m = (e : TimedEvent) → event_at events m.parts.rest.delivered ≡ Some e → m.parts.rest.clock < e.time
-
--- it has come
-abbrev pub HasCome : List TimedEvent → Machine → Type 0
-HasCome events m = (e : TimedEvent) × (event_at events m.parts.rest.delivered ≡ Some e) × (e.time ≤ m.parts.rest.clock)
-
--- how many come yet
-abbrev pub to_come : List TimedEvent → Machine → ℕ
-to_come events m = length events - m.parts.rest.delivered
-
--- and how many timers run besides
-abbrev pub waiting : List TimedEvent → Machine → ℕ
-waiting events m = timers m + to_come events m
-
--- turns that write no line and dispatch nothing, where these events come
-abbrev pub Settles : List TimedEvent → Machine → Machine → Type 0
-Settles events old new =
-    (s : State) → StandsFor old s
-    → (u : State) × ((refused : List ℕ) (limit : ℕ) → s.rest.dispatches < limit → Reaches old.image (hearing refused limit events) s [] u)
-    × (u.rest.dispatches ≡ s.rest.dispatches)
-    × StandsFor new u
-
--- something that the machine waits for has come
-abbrev pub IsLate : List TimedEvent → Machine → Type 0
-IsLate events m = IsDue m ⊎ HasCome events m
+-- what comes from outside of the image, where there are so many natives
+abbrev pub hearing : List ℕ → ℕ → (natives : ℕ) → List TimedEvent → Outside
+hearing refused limit natives events = record { refused = refused; limit = limit; natives = natives; events = events }
 
 -- ---- what turns lead to
 
--- an object is dispatched, with its line, or the run is over
+-- an object is dispatched, or a native's end was told, so that fewer events are to come; or the run is over
 abbrev pub LeadTo : Outside → Option Ending → State → List Line → State → Type 0
-LeadTo outside None s lines u = (length lines ≤ 1) × (s.rest.dispatches < outside.limit) × (u.rest.dispatches ≡ s.rest.dispatches) × (is_some (payer u.tasks) ≡ true)
+LeadTo outside None s lines u =
+    (length lines ≤ 1) × (s.rest.dispatches < outside.limit) × (u.rest.dispatches ≡ s.rest.dispatches)
+    × ((is_some (payer u.tasks) ≡ true) ⊎ (IsBetween u × (length outside.events - u.rest.delivered < length outside.events - s.rest.delivered)))
 LeadTo outside (Some ending) s lines u = (lines ≡ []) × (u.rest.ended ≡ Some ending)
 
--- from each state that the machine stands for a run comes to one that it then stands for, and the lines are added to the turn
-abbrev pub TakesTurns : Machine → Outside → Option Ending → Turn → Turn → Machine → Type 0
-TakesTurns old outside result told now new =
-    (s : State) → StandsFor old s
-    → (lines : List Line) × (u : State) × Reaches old.image outside s lines u
-    × (now ≡ record told { lines = told.lines ++ lines })
-    × LeadTo outside result s lines u
-    × StandsFor new u
+module _ {X : Type 0} {B : X → Type 0} where
+  -- ---- timers
+
+  -- the timer that is due first is due by the clock
+  abbrev pub IsDue : Machine X B → Type 0
+  IsDue m = (s : State) × StandsFor m s × ((x : Timed) × (first_due s.cells ≡ Some x) × (x.timer.due ≤ s.rest.clock))
+
+  -- turns that write no line, at the same time, and dispatch nothing
+  abbrev pub CompletesDue : Machine X B → Machine X B → Type 0
+  CompletesDue old new =
+      (s : State) → StandsFor old s
+      → (u : State) × ((outside : Outside) → s.rest.dispatches < outside.limit → Reaches old.core.image outside s [] u)
+      × (u.rest ≡ s.rest)
+      × StandsFor new u
+
+  -- ---- events
+
+  -- the next event comes later than the machine's clock says, if there is one
+  abbrev pub NoneHasCome : List TimedEvent → Machine X B → Type 0
+  NoneHasCome events m = (e : TimedEvent) → event_at events m.core.parts.rest.delivered ≡ Some e → m.core.parts.rest.clock < e.time
+
+  -- it has come
+  abbrev pub HasCome : List TimedEvent → Machine X B → Type 0
+  HasCome events m = (e : TimedEvent) × (event_at events m.core.parts.rest.delivered ≡ Some e) × (e.time ≤ m.core.parts.rest.clock)
+
+  -- how many come yet
+  abbrev pub to_come : List TimedEvent → Machine X B → ℕ
+  to_come events m = length events - m.core.parts.rest.delivered
+
+  -- and how many timers run besides
+  abbrev pub waiting : List TimedEvent → Machine X B → ℕ
+  waiting events m = timers m.core + to_come events m
+
+  -- turns that write no line and dispatch nothing, where these events come
+  abbrev pub Settles : List TimedEvent → Machine X B → Machine X B → Type 0
+  Settles events old new =
+      (s : State) → StandsFor old s
+      → (u : State) × ((refused : List ℕ) (limit : ℕ) → s.rest.dispatches < limit → Reaches old.core.image (hearing refused limit (natives_of old) events) s [] u)
+      × (u.rest.dispatches ≡ s.rest.dispatches)
+      × (s.rest.delivered ≤ u.rest.delivered)
+      × StandsFor new u
+
+  -- turns that dispatch nothing, of which the last kills a native and writes its line
+  abbrev pub TellsEnd : List TimedEvent → Machine X B → Turn → Turn → Machine X B → Type 0
+  TellsEnd events old told now new =
+      (s : State) → StandsFor old s
+      → (lines : List Line) × (u : State) × ((refused : List ℕ) (limit : ℕ) → s.rest.dispatches < limit → Reaches old.core.image (hearing refused limit (natives_of old) events) s lines u)
+      × (now ≡ record told { lines = told.lines ++ lines })
+      × (length lines ≤ 1)
+      × (u.rest.dispatches ≡ s.rest.dispatches)
+      × (IsBetween u × (length events - u.rest.delivered < length events - s.rest.delivered))
+      × StandsFor new u
+
+  -- something that the machine waits for has come
+  abbrev pub IsLate : List TimedEvent → Machine X B → Type 0
+  IsLate events m = IsDue m ⊎ HasCome events m
+
+  -- ---- natives
+
+  -- each living native is polled in the turn at hand
+  abbrev pub AllPolled : Machine X B → Type 0
+  AllPolled m = (s : State) → StandsFor m s → first_living s.killed (natives_of m - s.rest.polled) s.rest.polled ≡ None
+
+  -- ---- turns
+
+  -- from each state that the machine stands for a run comes to one that it then stands for, and the lines are added to the turn
+  abbrev pub TakesTurns : Machine X B → Outside → Option Ending → Turn → Turn → Machine X B → Type 0
+  TakesTurns old outside result told now new =
+      (s : State) → StandsFor old s
+      → (lines : List Line) × (u : State) × Reaches old.core.image outside s lines u
+      × (now ≡ record told { lines = told.lines ++ lines })
+      × LeadTo outside result s lines u
+      × StandsFor new u

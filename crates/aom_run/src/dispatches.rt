@@ -2,11 +2,15 @@
 ghost use Rattle.std.specs.Prelude.{ℕ, true, false, ◌≡◌, ◌<◌, ◌≤◌, length, take, IfNone, IfSome};
 ghost use Rattle.aom_transcript.specs.Text.{text_of};
 ghost use Rattle.aom_run.specs.Runs.{CutOff, Filled, Sent, after};
-ghost use Rattle.aom_exec.specs.Steps.{Stands, rank};
+ghost use Rattle.aom_exec.specs.Steps.{rank};
+ghost use Rattle.aom_machine.specs.Calls.{Stands, natives_of};
+ghost use Rattle.aom_natives.specs.Slots.{AllAgree};
 
 use crate::{Sink, write_text};
-use aom_exec::{Machine, Progress};
+use aom_exec::Progress;
 use aom_lines::Turn;
+use aom_machine::Machine;
+use aom_natives::Native;
 use aom_transcript::{Line, Page};
 
 /// How many lines the machine writes, at least, before they are sent out. A turn has room for them and for one call more.
@@ -19,10 +23,13 @@ pub fn run_dispatch<W: Sink>(
     page: &mut Page,
     out: &mut W,
 ) -> Option<Progress>
+    requires agree { AllAgree (λ l. l.ids) (λ l. (⟦<dyn Native as Native>⟧ l.native.vtable).owed l.native.value) machine.old.natives.slots.items }
     requires stands { Stands machine.old }
     requires few { length turn.old.lines < 64 }
     requires room { 80 ≤ turn.old.room }
-    ensures image { machine.new.image ≡ machine.old.image }
+    ensures agree { AllAgree (λ l. l.ids) (λ l. (⟦<dyn Native as Native>⟧ l.native.vtable).owed l.native.value) machine.new.natives.slots.items }
+    ensures image { machine.new.core.image ≡ machine.old.core.image }
+    ensures natives { natives_of machine.new ≡ natives_of machine.old }
     ensures none { IfNone result ((W.failed out.new ≡ true) × CutOff machine.old turn.old (W.out out.old) (W.out out.new) machine.new) }
     ensures some { IfSome result (λ progress. Sent machine.old progress turn.old turn.new (W.out out.old) (W.out out.new) machine.new) }
 {
@@ -42,12 +49,15 @@ pub fn run_dispatch<W: Sink>(
 
 /// Steps on until the turn has many lines or nothing is at hand.
 fn fill(machine: &mut Machine, turn: &mut Turn) -> Progress
+    requires agree { AllAgree (λ l. l.ids) (λ l. (⟦<dyn Native as Native>⟧ l.native.vtable).owed l.native.value) machine.old.natives.slots.items }
     requires stands { Stands machine.old }
     requires few { length turn.old.lines < 64 }
     requires room { 80 ≤ turn.old.room }
-    ensures image { machine.new.image ≡ machine.old.image }
+    ensures agree { AllAgree (λ l. l.ids) (λ l. (⟦<dyn Native as Native>⟧ l.native.vtable).owed l.native.value) machine.new.natives.slots.items }
+    ensures image { machine.new.core.image ≡ machine.old.core.image }
+    ensures natives { natives_of machine.new ≡ natives_of machine.old }
     ensures steps { Filled machine.old result turn.old turn.new machine.new }
-    ensures falls { result ≡ Progress.Running → rank machine.new < rank machine.old }
+    ensures falls { result ≡ Progress.Running → rank machine.new.core < rank machine.old.core }
 {
     loop {
         let progress = machine.step_on(turn);

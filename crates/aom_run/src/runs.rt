@@ -6,21 +6,24 @@ ghost use Rattle.aom_transcript.specs.Text.{ended, end_text};
 ghost use Rattle.aom_run.specs.Outcomes.{outcome_of};
 ghost use Rattle.aom_run.specs.Turns.{hearing};
 ghost use Rattle.aom_run.specs.Runs.{IsFresh, Ran, Ended, CutShort, after};
-ghost use Rattle.aom_exec.specs.Steps.{StandsFor};
+ghost use Rattle.aom_machine.specs.Calls.{StandsFor, natives_of};
+ghost use Rattle.aom_natives.specs.Slots.{AllAgree};
 
 use crate::dispatches::run_dispatch;
 use crate::turns::take_turns;
 use crate::{Outcome, Sink, write_text};
-use aom_exec::{Machine, Progress};
+use aom_exec::Progress;
 use aom_lines::Turn;
+use aom_machine::Machine;
+use aom_natives::Native;
 use aom_script::Script;
 use aom_transcript::{Ending, Page, TimedEvent};
 
 /// Runs a fresh machine to its end and writes the transcript, one step after another. It stops where the sink fails.
-/// No other run of its image has another transcript.
+/// No other run of its image that hears the same of natives has another transcript.
 ///
-/// The run ends after `limit` dispatches of objects, from 1 to 10^9. It hears the script's events, each at its time; there is no native yet
-/// that one could be for.
+/// The run ends after `limit` dispatches of objects, from 1 to 10^9. It hears the script's events, each at its time, and polls each living
+/// native once in each turn.
 pub fn run<W: Sink>(
     machine: &mut Machine,
     script: &Script,
@@ -28,12 +31,14 @@ pub fn run<W: Sink>(
     limit: u32,
     out: &mut W,
 ) -> Outcome
+    requires agree { AllAgree (λ l. l.ids) (λ l. (⟦<dyn Native as Native>⟧ l.native.vtable).owed l.native.value) machine.old.natives.slots.items }
     requires fresh { IsFresh machine.old }
-    requires room { machine.old.image.header.messages + 80 ≤ turn.old.room }
+    requires room { machine.old.core.image.header.messages + 80 ≤ turn.old.room }
     requires limit { (1 ≤ limit) × (limit ≤ 1000000000) }
-    ensures image { machine.new.image ≡ machine.old.image }
-    ensures ran { Ran machine.old (hearing turn.old.refused limit script.now.timed) result (W.failed out.new) (W.out out.old) (W.out out.new) machine.new }
-    ensures determined { IsDetermined machine.old.image (hearing turn.old.refused limit script.now.timed) }
+    ensures agree { AllAgree (λ l. l.ids) (λ l. (⟦<dyn Native as Native>⟧ l.native.vtable).owed l.native.value) machine.new.natives.slots.items }
+    ensures image { machine.new.core.image ≡ machine.old.core.image }
+    ensures ran { Ran machine.old (hearing turn.old.refused limit (natives_of machine.old) script.now.timed) result (W.failed out.new) (W.out out.old) (W.out out.new) machine.new }
+    ensures determined { IsDetermined machine.old.core.image (hearing turn.old.refused limit (natives_of machine.old) script.now.timed) }
 {
     aom_determined::text_is_determined();
     match run_lines(machine, script.events(), turn, limit, out) {
@@ -50,11 +55,13 @@ fn run_lines<W: Sink>(
     limit: u32,
     out: &mut W,
 ) -> Option<Ending>
+    requires agree { AllAgree (λ l. l.ids) (λ l. (⟦<dyn Native as Native>⟧ l.native.vtable).owed l.native.value) machine.old.natives.slots.items }
     requires fresh { IsFresh machine.old }
-    requires room { machine.old.image.header.messages + 80 ≤ turn.old.room }
-    ensures image { machine.new.image ≡ machine.old.image }
-    ensures none { IfNone result ((W.failed out.new ≡ true) × CutShort machine.old.image (hearing turn.old.refused limit events.now) (W.out out.old) (W.out out.new)) }
-    ensures some { IfSome result (λ ending. Ended machine.old.image (hearing turn.old.refused limit events.now) ending (W.out out.old) (W.out out.new) machine.new) }
+    requires room { machine.old.core.image.header.messages + 80 ≤ turn.old.room }
+    ensures agree { AllAgree (λ l. l.ids) (λ l. (⟦<dyn Native as Native>⟧ l.native.vtable).owed l.native.value) machine.new.natives.slots.items }
+    ensures image { machine.new.core.image ≡ machine.old.core.image }
+    ensures none { IfNone result ((W.failed out.new ≡ true) × CutShort machine.old.core.image (hearing turn.old.refused limit (natives_of machine.old) events.now) (W.out out.old) (W.out out.new)) }
+    ensures some { IfSome result (λ ending. Ended machine.old.core.image (hearing turn.old.refused limit (natives_of machine.old) events.now) ending (W.out out.old) (W.out out.new) machine.new) }
 {
     turn.clear();
     let mut page = Page::new();
@@ -78,7 +85,7 @@ fn finish<W: Sink>(machine: &Machine, ending: Ending, out: &mut W) -> Outcome
     ensures whole { (result ≡ Outcome.WriteFault → ⊥) → (s : State) → StandsFor machine.now s → W.out out.new ≡ after (W.out out.old) (ended (end_text ending (length s.cells))) }
 {
     let mut page = Page::new();
-    page.add_end(ending, machine.count());
+    page.add_end(ending, machine.core.count());
     write_text(out, page.as_bytes());
     if out.has_failed() {
         return Outcome::WriteFault;

@@ -1,33 +1,43 @@
-//! What comes between dispatches: timers, events, picks and the passing of time.
-ghost use Rattle.std.specs.Prelude.{◌≡◌, ◌<◌, ◌≤◌, ◌↔◌, IsTrue, length};
+//! What comes between dispatches: timers, events, polls, picks and the passing of time.
+ghost use Rattle.std.specs.Prelude.{◌≡◌, ◌<◌, ◌≤◌, ◌+◌, true, false, List, IfNone, IfSome, length};
 ghost use Rattle.aom_sound.specs.State.{State};
 ghost use Rattle.aom_sound.specs.World.{due_of, event_at, first_due, nearer, time_of};
-ghost use Rattle.aom_run.specs.Turns.{CompletesDue, HasCome, IsDue, IsLate, NoneHasCome, NoneIsDue, Settles, TakesTurns, hearing, to_come, waiting};
-ghost use Rattle.aom_exec.specs.Steps.{Stands, StandsFor, progress, timers};
+ghost use Rattle.aom_exec.specs.Steps.{progress, timers};
 ghost use Rattle.aom_exec.specs.declared.progress.Progress.TheVariants.{Turned};
+ghost use Rattle.aom_machine.specs.Calls.{NoneIsDue, Stands, StandsFor, natives_of};
+ghost use Rattle.aom_natives.specs.Slots.{AllAgree};
+ghost use Rattle.aom_transcript.specs.declared.event.TimedEvent.{TimedEvent};
+ghost use Rattle.aom_run.specs.Turns.{AllPolled, CompletesDue, HasCome, IsDue, IsLate, NoneHasCome, Settles, TakesTurns, TellsEnd, hearing, to_come, waiting};
 
-use aom_exec::Machine;
 use aom_lines::Turn;
-use aom_transcript::{Ending, TimedEvent};
+use aom_machine::Machine;
+use aom_natives::Native;
+use aom_transcript::{Ending, Event, TimedEvent};
 
-/// Between dispatches: turns, until an object is dispatched, or the run ends. An object's dispatch begins with its line, and nothing else is written.
+/// Between dispatches: turns, until an object is dispatched, a native is killed, or the run ends. What begins or is killed has its line, and
+/// nothing else is written.
 pub fn take_turns(
     machine: &mut Machine,
     events: &[TimedEvent],
     turn: &mut Turn,
     limit: u32,
 ) -> Option<Ending>
+    requires agree { AllAgree (λ l. l.ids) (λ l. (⟦<dyn Native as Native>⟧ l.native.vtable).owed l.native.value) machine.old.natives.slots.items }
     requires stands { Stands machine.old }
-    requires between { progress machine.old ≡ Turned }
+    requires between { progress machine.old.core ≡ Turned }
     requires room { length turn.old.lines < turn.old.room }
-    ensures image { machine.new.image ≡ machine.old.image }
-    ensures turns { TakesTurns machine.old (hearing turn.old.refused limit events.now) result turn.old turn.new machine.new }
+    ensures agree { AllAgree (λ l. l.ids) (λ l. (⟦<dyn Native as Native>⟧ l.native.vtable).owed l.native.value) machine.new.natives.slots.items }
+    ensures image { machine.new.core.image ≡ machine.old.core.image }
+    ensures natives { natives_of machine.new ≡ natives_of machine.old }
+    ensures turns { TakesTurns machine.old (hearing turn.old.refused limit (natives_of machine.old) events.now) result turn.old turn.new machine.new }
 {
-    if machine.dispatches() >= u64::from(limit) {
+    if machine.core.dispatches() >= u64::from(limit) {
         machine.cut();
         return Some(Ending::Limit);
     }
-    settle(machine, events);
+    if settle(machine, events, turn) {
+        return None;
+    }
     loop {
         if machine.pick(turn) {
             return None;
@@ -37,7 +47,9 @@ pub fn take_turns(
             return Some(Ending::Waiting);
         };
         machine.set_clock(time);
-        settle(machine, events);
+        if settle(machine, events, turn) {
+            return None;
+        }
     }
 }
 
@@ -45,7 +57,7 @@ pub fn take_turns(
 fn next_time(machine: &Machine, events: &[TimedEvent]) -> Option<u64>
     ensures { (s : State) → StandsFor machine.now s → result ≡ nearer (due_of (first_due s.cells)) (time_of (event_at events.now s.rest.delivered)) }
 {
-    match (machine.next_due(), next_event(machine, events)) {
+    match (machine.core.next_due(), next_event(machine, events)) {
         (Some(due), Some(event)) => Some(due.min(event.time)),
         (Some(due), None) => Some(due),
         (None, Some(event)) => Some(event.time),
@@ -53,70 +65,114 @@ fn next_time(machine: &Machine, events: &[TimedEvent]) -> Option<u64>
     }
 }
 
-/// All that is due by now: each timer completes the request of its object, and then each event is heard.
-fn settle(machine: &mut Machine, events: &[TimedEvent])
+/// All that is due by now: each timer completes the request of its object, each event is heard, and then each native is polled. Answers
+/// whether an event killed a native; then the rest waits until its line is out.
+fn settle(machine: &mut Machine, events: &[TimedEvent], turn: &mut Turn) -> bool
+    requires agree { AllAgree (λ l. l.ids) (λ l. (⟦<dyn Native as Native>⟧ l.native.vtable).owed l.native.value) machine.old.natives.slots.items }
     requires stands { Stands machine.old }
-    requires between { progress machine.old ≡ Turned }
-    ensures image { machine.new.image ≡ machine.old.image }
-    ensures settled { Settles events.now machine.old machine.new }
-    ensures between { progress machine.new ≡ Turned }
-    ensures none_due { NoneIsDue machine.new }
-    ensures none_come { NoneHasCome events.now machine.new }
-    ensures falls { IsLate events.now machine.old → waiting events.now machine.new < waiting events.now machine.old }
+    requires between { progress machine.old.core ≡ Turned }
+    requires room { length turn.old.lines < turn.old.room }
+    ensures agree { AllAgree (λ l. l.ids) (λ l. (⟦<dyn Native as Native>⟧ l.native.vtable).owed l.native.value) machine.new.natives.slots.items }
+    ensures image { machine.new.core.image ≡ machine.old.core.image }
+    ensures natives { natives_of machine.new ≡ natives_of machine.old }
+    ensures killed { result ≡ true → TellsEnd events.now machine.old turn.old turn.new machine.new }
+    ensures quiet { result ≡ false → turn.new ≡ turn.old }
+    ensures settled { result ≡ false → Settles events.now machine.old machine.new }
+    ensures between { progress machine.new.core ≡ Turned }
+    ensures none_due { result ≡ false → NoneIsDue machine.new }
+    ensures none_come { result ≡ false → NoneHasCome events.now machine.new }
+    ensures polled { result ≡ false → AllPolled machine.new }
+    ensures falls { result ≡ false → IsLate events.now machine.old → waiting events.now machine.new < waiting events.now machine.old }
 {
     complete_due(machine);
-    hear_due(machine, events);
+    if hear_due(machine, events, turn) {
+        return true;
+    }
+    poll_all(machine);
+    false
 }
 
 /// Each timer that is due completes the request of its object.
 fn complete_due(machine: &mut Machine)
+    requires agree { AllAgree (λ l. l.ids) (λ l. (⟦<dyn Native as Native>⟧ l.native.vtable).owed l.native.value) machine.old.natives.slots.items }
     requires stands { Stands machine.old }
-    requires between { progress machine.old ≡ Turned }
-    ensures image { machine.new.image ≡ machine.old.image }
+    requires between { progress machine.old.core ≡ Turned }
+    ensures agree { AllAgree (λ l. l.ids) (λ l. (⟦<dyn Native as Native>⟧ l.native.vtable).owed l.native.value) machine.new.natives.slots.items }
+    ensures image { machine.new.core.image ≡ machine.old.core.image }
+    ensures natives { natives_of machine.new ≡ natives_of machine.old }
     ensures completed { CompletesDue machine.old machine.new }
-    ensures between { progress machine.new ≡ Turned }
+    ensures between { progress machine.new.core ≡ Turned }
     ensures none { NoneIsDue machine.new }
-    ensures no_more { timers machine.new ≤ timers machine.old }
-    ensures falls { IsDue machine.old → timers machine.new < timers machine.old }
+    ensures no_more { timers machine.new.core ≤ timers machine.old.core }
+    ensures falls { IsDue machine.old → timers machine.new.core < timers machine.old.core }
 {
     while machine.due() {}
 }
 
 /// The event that comes next, if there is one.
 fn next_event(machine: &Machine, events: &[TimedEvent]) -> Option<TimedEvent>
-    ensures { result ≡ event_at events.now machine.now.parts.rest.delivered }
+    ensures { result ≡ event_at events.now machine.now.core.parts.rest.delivered }
 {
-    match events.get(machine.delivered() as usize) {
+    match events.get(machine.core.delivered() as usize) {
         Some(event) => Some(*event),
         None => None,
     }
 }
 
-/// Whether the next event has come.
-fn has_come(machine: &Machine, events: &[TimedEvent]) -> bool
-    ensures { IsTrue result ↔ HasCome events.now machine.now }
+/// The next event, if it has come.
+fn come_event(machine: &Machine, events: &[TimedEvent]) -> Option<Event>
+    ensures some { IfSome result (λ event. (come : HasCome events.now machine.now) × (come.0.event ≡ event)) }
+    ensures none { IfNone result (NoneHasCome events.now machine.now) }
 {
     match next_event(machine, events) {
-        Some(event) => event.time <= machine.clock(),
-        None => false,
+        Some(event) if event.time <= machine.core.clock() => Some(event.event),
+        _ => None,
     }
 }
 
-/// Each event that has come is heard, where no timer is due.
-fn hear_due(machine: &mut Machine, events: &[TimedEvent])
+/// Each event that has come is heard, where no timer is due, up to one that kills a native. Answers whether one did.
+fn hear_due(machine: &mut Machine, events: &[TimedEvent], turn: &mut Turn) -> bool
+    requires agree { AllAgree (λ l. l.ids) (λ l. (⟦<dyn Native as Native>⟧ l.native.vtable).owed l.native.value) machine.old.natives.slots.items }
     requires stands { Stands machine.old }
-    requires between { progress machine.old ≡ Turned }
+    requires between { progress machine.old.core ≡ Turned }
     requires none_due { NoneIsDue machine.old }
-    ensures image { machine.new.image ≡ machine.old.image }
-    ensures settled { Settles events.now machine.old machine.new }
-    ensures between { progress machine.new ≡ Turned }
-    ensures none_due { NoneIsDue machine.new }
-    ensures none_come { NoneHasCome events.now machine.new }
-    ensures timers { timers machine.new ≡ timers machine.old }
+    requires room { length turn.old.lines < turn.old.room }
+    ensures agree { AllAgree (λ l. l.ids) (λ l. (⟦<dyn Native as Native>⟧ l.native.vtable).owed l.native.value) machine.new.natives.slots.items }
+    ensures image { machine.new.core.image ≡ machine.old.core.image }
+    ensures natives { natives_of machine.new ≡ natives_of machine.old }
+    ensures killed { result ≡ true → TellsEnd events.now machine.old turn.old turn.new machine.new }
+    ensures quiet { result ≡ false → turn.new ≡ turn.old }
+    ensures settled { result ≡ false → Settles events.now machine.old machine.new }
+    ensures between { progress machine.new.core ≡ Turned }
+    ensures none_due { result ≡ false → NoneIsDue machine.new }
+    ensures none_come { result ≡ false → NoneHasCome events.now machine.new }
+    ensures timers { timers machine.new.core ≡ timers machine.old.core }
     ensures no_more { to_come events.now machine.new ≤ to_come events.now machine.old }
-    ensures falls { HasCome events.now machine.old → to_come events.now machine.new < to_come events.now machine.old }
+    ensures falls { result ≡ false → HasCome events.now machine.old → to_come events.now machine.new < to_come events.now machine.old }
 {
-    while has_come(machine, events) {
-        machine.hear_event();
+    while let Some(event) = come_event(machine, events) {
+        if machine.deliver(event, turn) {
+            return true;
+        }
     }
+    false
+}
+
+/// Each living native is polled once in the turn at hand, where no timer is due.
+fn poll_all(machine: &mut Machine)
+    requires agree { AllAgree (λ l. l.ids) (λ l. (⟦<dyn Native as Native>⟧ l.native.vtable).owed l.native.value) machine.old.natives.slots.items }
+    requires stands { Stands machine.old }
+    requires between { progress machine.old.core ≡ Turned }
+    requires none_due { NoneIsDue machine.old }
+    ensures agree { AllAgree (λ l. l.ids) (λ l. (⟦<dyn Native as Native>⟧ l.native.vtable).owed l.native.value) machine.new.natives.slots.items }
+    ensures image { machine.new.core.image ≡ machine.old.core.image }
+    ensures natives { natives_of machine.new ≡ natives_of machine.old }
+    ensures settled { (events : List TimedEvent) → NoneHasCome events machine.old → Settles events machine.old machine.new }
+    ensures between { progress machine.new.core ≡ Turned }
+    ensures none_due { NoneIsDue machine.new }
+    ensures rest { machine.new.core.parts.rest ≡ record machine.old.core.parts.rest { polled = machine.new.core.parts.rest.polled } }
+    ensures polled { AllPolled machine.new }
+    ensures timers { timers machine.new.core ≡ timers machine.old.core }
+{
+    while machine.poll() {}
 }

@@ -2,8 +2,8 @@
 use aom_asm::assemble;
 use aom_budget::{Accepted, accept};
 use aom_classes::link;
-use aom_exec::Machine;
 use aom_lines::Turn;
+use aom_machine::Machine;
 use aom_pages::Page;
 use aom_run::{Outcome, Sink, run, write_text};
 use aom_script::read_script;
@@ -44,7 +44,7 @@ fn accepted_of(alloc: Global, text: &str) -> Option<Accepted> {
 fn outcome_of(alloc: Global, text: &str, script: &str, sink: &mut Page) -> Option<Outcome> {
     let accepted = accepted_of(alloc, text)?;
     let script = read_script(alloc, script.as_bytes()).ok()?;
-    let mut machine = Machine::boot(alloc, &accepted, 0).ok()?;
+    let mut machine = Machine::boot(alloc, &accepted, Vec::new(alloc)).ok()?;
     let mut turn = Turn::new(alloc, &accepted, Vec::new(alloc)).ok()?;
     Some(run(&mut machine, &script, &mut turn, 1, sink))
 }

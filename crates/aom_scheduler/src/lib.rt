@@ -11,8 +11,6 @@
 mod entry;
 mod order;
 mod schedule;
-#[cfg(test)]
-mod tests;
 mod timer;
 mod timers;
 

@@ -6,38 +6,38 @@ use aom_cells::CellId;
 use std::alloc::{AllocError, Global};
 use std::marker::Model;
 
+/// A native that can be killed has one of so many numbers.
+const MOST_NATIVES: usize = 256;
+
 /// Which cells have a session, and which natives are killed.
 #[derive(Drop)]
 pub struct Sessions {
     flags: Vec<bool>,
-    killed: Vec<usize>,
-    room: usize,
+    /// Each once, the first first.
+    killed: Vec<u8>,
 }
 
 impl Model for Sessions {
     ghost use Rattle.std.specs.Prelude.{vec_capacity, ◌≤◌};
-    ghost use Rattle.aom_sessions.specs.Sessions.{Standing};
+    ghost use Rattle.aom_sessions.specs.Sessions.{AreNatives, Standing};
 
     ghost Value = { Standing };
 
-    ghost view = { λ s. record { flags = s.flags.items; killed = s.killed.items; room = s.room } };
+    ghost view = { λ s. record { flags = s.flags.items; killed = s.killed.items } };
 
-    ghost invariant = { λ s. s.room ≤ vec_capacity s.killed };
+    ghost invariant = { λ s. (256 ≤ vec_capacity s.killed) × AreNatives s.killed.items };
 }
 
 impl Sessions {
-    /// No session and no death, with a place for each cell below `cells` and room for the ends of so many natives, which is all the
+    /// No session and no death, with a place for each cell below `cells` and for the end of each native that can end, which is all the
     /// memory that is ever taken.
-    pub fn with_limits(alloc: Global, cells: usize, natives: usize) -> Result<Sessions, AllocError>
-        ensures { IfOk result (λ s. s ≡ record { flags = replicate cells false; killed = []; room = natives }) }
+    #[tactic(auto, using(crate::proofs::Numbers::no_natives))]
+    pub fn with_limit(alloc: Global, cells: usize) -> Result<Sessions, AllocError>
+        ensures { IfOk result (λ s. s ≡ record { flags = replicate cells false; killed = [] }) }
     {
         let flags = vec![in alloc; false; cells]?;
-        let killed = Vec::with_capacity(alloc, natives)?;
-        Ok(Sessions {
-            flags,
-            killed,
-            room: natives,
-        })
+        let killed = Vec::with_capacity(alloc, MOST_NATIVES)?;
+        Ok(Sessions { flags, killed })
     }
 
     /// Whether the cell of that number has a session open. One that has no place has none.
@@ -72,12 +72,13 @@ impl Sessions {
     pub fn is_dead(&self, native: usize) -> bool
         ensures { result ≡ is_killed self.now native }
     {
-        self.killed.contains(&native)
+        self.killed.iter().any(|killed| *killed as usize == native)
     }
 
     /// That native is killed, after those that are.
-    pub fn kill(&mut self, native: usize)
-        requires { length self.old.killed < self.old.room }
+    #[tactic(auto, using(crate::proofs::Numbers::few, crate::proofs::Numbers::one_more))]
+    pub fn kill(&mut self, native: u8)
+        requires { is_killed self.old native ≡ false }
         ensures { self.new ≡ record self.old { killed = self.old.killed ++ native ∷ [] } }
     {
         self.killed.push(native).unwrap();

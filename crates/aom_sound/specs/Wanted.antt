@@ -29,7 +29,7 @@ module _ (s : State) where
   -- an instruction of a method that works on a cell of a native
   abbrev pub wanted_here : Frame → List Task → (native name : ℕ) → Instr → Option Wanted
   wanted_here fr ts n name (Connect a) = wanted_if (not (is_dead s.killed n || in_session s.cells name)) (Opens n name)
-  wanted_here fr ts n name (Issue a b) = wanted_if (is_served n name) (Starts n name (read fr ts s b) (read fr ts s a))
+  wanted_here fr ts n name (Issue a b) = wanted_if (is_served n name) (Starts n name (read fr ts s a) (read fr ts s b))
   wanted_here fr ts n name (Ask a b x) = wanted_if (is_served n name) (Asks n name (read fr ts s b) (read fr ts s x))
   wanted_here fr ts n name Abort = wanted_if (is_owed (requested s.cells name)) (Cancels n name)
   wanted_here fr ts n name Close = wanted_if (in_session s.cells name) (Closes n name)

@@ -1,5 +1,5 @@
 -- A script is run as what its text denotes. A text that is no script is told, and so is want of memory.
-use Rattle.std.proofs.Common.{refl}
+use Rattle.std.proofs.Common.{length, refl}
 use Rattle.aom_main.specs.Acceptable.{IsAcceptable}
 use Rattle.aom_main.specs.Headline.{Accepts}
 use Rattle.aom_main.proofs.Telling.{unscripted}
@@ -14,4 +14,4 @@ returns-in-Err g c =
     let acceptable : IsAcceptable c.args.accepted.now = record { admitted = facts.admitted; linked = facts.linked; typing = facts.typed.0; typed = facts.typed.1; budgets = facts.budgets; depths = facts.within; heights = facts.high } in
     λ bytes spelled.
     let accepts : Accepts bytes = record { image = c.args.accepted.now; spelled = spelled; acceptable = acceptable } in
-    unscripted bytes c.args.text.now c.args.limit c.in-Err.fault c.from.result _ _ c.tell.result accepts c.in-Err.ensures.err refl c.from.ensures c.tell.ensures
+    unscripted bytes c.args.text.now c.args.limit (length c.args.boxes.items) c.in-Err.fault c.from.result _ _ c.tell.result accepts c.in-Err.ensures.err refl c.from.ensures c.tell.ensures

@@ -1,20 +1,22 @@
 -- Each number is tried in turn. Where memory is wanting what went out stays.
-use Rattle.std.proofs.Common.{refl, sym, inl, arith, rules, ◌∙◌}
+use Rattle.std.proofs.Common.{length, refl, sym, subst, inl, arith, rules, ◌∙◌}
 use Rattle.std.proofs.lemmas.Result.{err_from_is_err_and}
-use Rattle.aom_main.proofs.Tries.{nothing, one_more}
+use Rattle.aom_main.specs.Explored.{RefusesTry}
+use Rattle.aom_main.proofs.Telling.{begin_refused, memory_refused}
+use Rattle.aom_main.proofs.Tries.{one_more}
 use Rattle.aom_main.proofs.exploring.explore.Goals as goal
 
 pub returns-in_err-own-clause-err : goal.returns-in_err-own-clause-err
 returns-in_err-own-clause-err g c =
     let p = err_from_is_err_and c.from_residual.result c.from_residual.ensures.1 in
-    rw p.1 (p.2, (0, nothing _ _ _ _ _ refl))
+    rw p.1 (begin_refused c.args.accepted.now c.args.script.now c.args.limit (length c.args.kinds.now) c.args.part.first (record { before = g.W.Sink.out c.args.out.now; now = g.W.Sink.out c.args.out.now; failed = g.W.Sink.failed c.args.out.now }) p.0 refl (memory_refused c.args.accepted.now (length c.args.kinds.now) p.0 p.2))
 
 pub returns-in_err-plain-clause-err : goal.returns-in_err-plain-clause-err
 returns-in_err-plain-clause-err g c =
     let p = err_from_is_err_and c.from_residual-in_err-plain.result c.from_residual-in_err-plain.ensures.1 in
-    rw p.1 (p.2 ∙ c.in_err-plain.ensures.err, (0, nothing _ _ _ _ _ refl))
+    rw p.1 (begin_refused c.args.accepted.now c.args.script.now c.args.limit (length c.args.kinds.now) c.args.part.first (record { before = g.W.Sink.out c.args.out.now; now = g.W.Sink.out c.args.out.now; failed = g.W.Sink.failed c.args.out.now }) p.0 refl (subst (RefusesTry c.args.accepted.now (length c.args.kinds.now)) (sym p.2) c.in_err-plain.ensures.err))
 
 pub loop-number-preserved : goal.loop-number-preserved
 loop-number-preserved g c =
     let tried = c.in_ok-try_one.ensures.ok in
-    (one_more _ _ _ _ _ _ _ tried.0 c.loop-number.invariant.0 (sym c.has_failed.ensures ∙ search rules) refl tried.1 tried.2, inl (omega (arith, c.loop-number-test.true)))
+    (one_more _ _ _ _ _ _ _ _ tried.0 c.loop-number.invariant.0 (sym c.has_failed.ensures ∙ search rules) refl tried.1 tried.2, inl (omega (arith, c.loop-number-test.true)))

@@ -1,5 +1,5 @@
 -- The line is that of a run with the number among what is refused.
-use Rattle.std.proofs.Common.{◌≡◌, ◌++◌, ◌∷◌, [], ℕ, List, ap, subst, ◌∙◌}
+use Rattle.std.proofs.Common.{◌≡◌, ◌++◌, ◌∷◌, [], ℕ, List, ap, length, subst, ◌∙◌}
 use Rattle.aom_run.specs.Turns.{hearing}
 use Rattle.aom_sound.specs.World.{Run_of}
 use Rattle.aom_transcript.specs.Text.{ended, tried_text}
@@ -17,7 +17,7 @@ returns-clause-ok g c =
         lines = last.lines;
         state = last.state;
         ending = end;
-        run = subst (λ (xs : List ℕ). Run_of c.args.accepted.now (hearing xs c.args.limit c.args.script.now.timed) last.lines last.state end) items last.run;
+        run = subst (λ (xs : List ℕ). Run_of c.args.accepted.now (hearing xs c.args.limit (length c.args.kinds.now) c.args.script.now.timed) last.lines last.state end) items last.run;
         is = line ∙ ap (λ (n : ℕ). ended (tried_text c.args.number end n)) last.cells;
       },
       record { count = c.write_text.ensures.prefix.0; part = c.write_text.ensures.prefix.2; whole = c.write_text.ensures.whole },

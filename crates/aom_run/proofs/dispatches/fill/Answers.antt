@@ -1,45 +1,47 @@
 use Rattle.std.proofs.Common.{◌∙◌, length, refl, ap, arith}
-use Rattle.aom_run.proofs.Reaching.{went_nowhere, went, filled, stands_on, room_stays}
+use Rattle.aom_run.proofs.Reaching.{steps_of, went_nowhere, went, filled, stands_on, room_stays}
 use Rattle.aom_run.proofs.dispatches.fill.Goals as goal
 
 pub loop-progress-init : goal.loop-progress-init
-loop-progress-init c =
+loop-progress-init g c =
     record {
       went = went_nowhere c.args.machine.now c.args.turn.now;
       stands = c.requires.stands;
+      agree = c.requires.agree;
       image = refl;
+      natives = refl;
       room = refl;
       few = c.requires.few;
       lower = omega arith;
     }
 
 pub step_on-progress-requires : goal.step_on-progress-requires
-step_on-progress-requires c =
+step_on-progress-requires g c =
     let i = c.loop-progress.invariant in
     let room = i.room in
     let few = i.few in
     let enough = c.requires.room in
-    record { room = omega (arith, room, few, enough) }
+    record { agree = i.agree; stands = i.stands; room = omega (arith, room, few, enough) }
 
 pub returns-then-lines-ge-MANY_LINES-clause-image :
     goal.returns-then-lines-ge-MANY_LINES-clause-image
-returns-then-lines-ge-MANY_LINES-clause-image c = c.step_on-progress.ensures.image ∙ c.loop-progress.invariant.image
+returns-then-lines-ge-MANY_LINES-clause-image g c = c.step_on-progress.ensures.image ∙ c.loop-progress.invariant.image
 
 pub returns-then-lines-ge-MANY_LINES-clause-steps :
     goal.returns-then-lines-ge-MANY_LINES-clause-steps
-returns-then-lines-ge-MANY_LINES-clause-steps c =
+returns-then-lines-ge-MANY_LINES-clause-steps g c =
     let i = c.loop-progress.invariant in
-    filled c.args.machine.now c.loop-progress.machine c.step_on-progress.new.self c.args.turn.now c.loop-progress.turn c.step_on-progress.new.turn c.step_on-progress.result i.went i.image c.step_on-progress.ensures.steps
+    filled c.args.machine.now c.loop-progress.machine c.step_on-progress.new.self c.args.turn.now c.loop-progress.turn c.step_on-progress.new.turn c.step_on-progress.result i.went i.image (steps_of c.loop-progress.machine c.step_on-progress.new.self c.step_on-progress.result c.loop-progress.turn c.step_on-progress.new.turn c.step_on-progress.ensures.steps)
 
 pub returns-then-lines-ge-MANY_LINES-clause-falls :
     goal.returns-then-lines-ge-MANY_LINES-clause-falls
-returns-then-lines-ge-MANY_LINES-clause-falls c = λ running.
+returns-then-lines-ge-MANY_LINES-clause-falls g c = λ running.
     let falls = c.step_on-progress.ensures.falls running in
     let lower = c.loop-progress.invariant.lower in
     omega (arith, falls, lower)
 
 pub loop-progress-preserved : goal.loop-progress-preserved
-loop-progress-preserved c =
+loop-progress-preserved g c =
     let i = c.loop-progress.invariant in
     let old = c.args.machine.now in
     let told = c.args.turn.now in
@@ -48,7 +50,7 @@ loop-progress-preserved c =
     let new = c.step_on-progress.new.self in
     let now = c.step_on-progress.new.turn in
     let progress = c.step_on-progress.result in
-    let steps = c.step_on-progress.ensures.steps in
+    let steps = (steps_of c.loop-progress.machine c.step_on-progress.new.self c.step_on-progress.result c.loop-progress.turn c.step_on-progress.new.turn c.step_on-progress.ensures.steps) in
     let falls = c.step_on-progress.ensures.falls c.in-Running.is in
     let lower = i.lower in
     let count = ap length c.lines.ensures in
@@ -56,17 +58,21 @@ loop-progress-preserved c =
     record {
       went = went old new told now progress (filled old m new told mid now progress i.went i.image steps);
       stands = stands_on m new mid now progress i.stands steps;
+      agree = c.step_on-progress.ensures.agree;
       image = c.step_on-progress.ensures.image ∙ i.image;
+      natives = c.step_on-progress.ensures.natives ∙ i.natives;
       room = room_stays m new mid now progress i.stands steps ∙ i.room;
       few = omega (arith, count, test);
       lower = omega (arith, falls, lower);
     }
 
 pub returns-in_default : goal.returns-in_default
-returns-in_default c =
+returns-in_default g c =
     let i = c.loop-progress.invariant in
     record {
+      agree = c.step_on-progress.ensures.agree;
       image = c.step_on-progress.ensures.image ∙ i.image;
-      steps = filled c.args.machine.now c.loop-progress.machine c.step_on-progress.new.self c.args.turn.now c.loop-progress.turn c.step_on-progress.new.turn c.step_on-progress.result i.went i.image c.step_on-progress.ensures.steps;
+      natives = c.step_on-progress.ensures.natives ∙ i.natives;
+      steps = filled c.args.machine.now c.loop-progress.machine c.step_on-progress.new.self c.args.turn.now c.loop-progress.turn c.step_on-progress.new.turn c.step_on-progress.result i.went i.image (steps_of c.loop-progress.machine c.step_on-progress.new.self c.step_on-progress.result c.loop-progress.turn c.step_on-progress.new.turn c.step_on-progress.ensures.steps);
       falls = λ is. absurd (c.in_default.not-Running is);
     }

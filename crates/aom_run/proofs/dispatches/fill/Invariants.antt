@@ -1,17 +1,21 @@
 use Rattle.std.proofs.Common.{◌≡◌, ◌<◌, ◌≤◌, length}
-use Rattle.aom_exec.specs.Steps.{Stands, rank}
+use Rattle.aom_exec.specs.Steps.{rank}
+use Rattle.aom_machine.specs.Calls.{Stands, natives_of}
+use Rattle.aom_natives.specs.Slots.{AllAgree}
 use Rattle.aom_run.proofs.Reaching.{Went}
 use Rattle.aom_run.proofs.dispatches.fill.Given as goal
 
 abbrev pub invariant-loop-progress : goal.invariant-loop-progress
-invariant-loop-progress l = record {
+invariant-loop-progress g l = record {
   went : Went l.fn.machine l.fn.turn l.turn l.machine;
   stands : Stands l.machine;
-  image : l.machine.image ≡ l.fn.machine.image;
+  agree : AllAgree (λ x. x.ids) (λ x. (goal.Native-dyn g (x.native.vtable, x.native.value)).owed x.native.value) l.machine.natives.slots.items;
+  image : l.machine.core.image ≡ l.fn.machine.core.image;
+  natives : natives_of l.machine ≡ natives_of l.fn.machine;
   room : l.turn.room ≡ l.fn.turn.room;
   few : length l.turn.lines < 64;
-  lower : rank l.machine ≤ rank l.fn.machine;
+  lower : rank l.machine.core ≤ rank l.fn.machine.core;
 }
 
 abbrev pub decreases-loop-progress : goal.decreases-loop-progress
-decreases-loop-progress l = rank l.machine
+decreases-loop-progress g l = rank l.machine.core

@@ -7,12 +7,12 @@ use Rattle.aom_run.proofs.dispatches.run_dispatch.Goals as goal
 
 pub loop-progress-init : goal.loop-progress-init
 loop-progress-init g c =
-    record { underway = underway c.args.machine.now c.args.turn.now (g.W.Sink.out c.args.out.now); stands = c.requires.stands; image = refl; same = refl; few = c.requires.few }
+    record { underway = underway c.args.machine.now c.args.turn.now (g.W.Sink.out c.args.out.now); stands = c.requires.stands; agree = c.requires.agree; image = refl; natives = refl; same = refl; few = c.requires.few }
 
 pub fill-progress-requires : goal.fill-progress-requires
 fill-progress-requires g c =
     let i = c.loop-progress.invariant in
-    record { stands = i.stands; few = i.few; room = subst (λ (t : Turn). 80 ≤ t.room) (sym i.same) c.requires.room }
+    record { agree = i.agree; stands = i.stands; few = i.few; room = subst (λ (t : Turn). 80 ≤ t.room) (sym i.same) c.requires.room }
 
 pub returns-then-has_failed-clause-image : goal.returns-then-has_failed-clause-image
 returns-then-has_failed-clause-image g c = c.fill-progress.ensures.image ∙ c.loop-progress.invariant.image
@@ -22,7 +22,7 @@ returns-then-has_failed-clause-none g c =
     let i = c.loop-progress.invariant in
     let sent = c.write_lines.ensures.prefix in (
       sym c.has_failed.ensures ∙ c.if-has_failed.true,
-      cut_off _ _ _ _ _ _ _ _ _ i.underway i.image i.same c.fill-progress.ensures.steps _ sent.0 (sent.1 ∙ ap (λ ls. after (g.W.Sink.out c.loop-progress.out) (take sent.0 (text_of ls))) c.lines.ensures),
+      cut_off c.args.machine.now c.loop-progress.machine c.fill-progress.new.machine c.args.turn.now c.loop-progress.turn c.fill-progress.new.turn (g.W.Sink.out c.args.out.now) (g.W.Sink.out c.loop-progress.out) c.fill-progress.result i.underway i.image i.same c.fill-progress.ensures.steps _ sent.0 (sent.1 ∙ ap (λ ls. after (g.W.Sink.out c.loop-progress.out) (take sent.0 (text_of ls))) c.lines.ensures),
     )
 
 pub loop-progress-smaller : goal.loop-progress-smaller
@@ -34,9 +34,11 @@ loop-progress-preserved g c =
     let out = c.write_lines.ensures.whole (sym c.has_failed.ensures ∙ c.if-has_failed.false) ∙ ap (λ ls. after (g.W.Sink.out c.loop-progress.out) (text_of ls)) c.lines.ensures in
     let none = ap (λ (t : Turn). length t.lines) c.clear.ensures in
     record {
-      underway = underway_still _ _ _ _ _ _ _ _ _ i.underway i.image i.same c.fill-progress.ensures.steps _ _ c.clear.ensures out;
-      stands = still_stands _ _ _ _ _ i.stands c.fill-progress.ensures.steps;
+      underway = underway_still c.args.machine.now c.loop-progress.machine c.fill-progress.new.machine c.args.turn.now c.loop-progress.turn c.fill-progress.new.turn (g.W.Sink.out c.args.out.now) (g.W.Sink.out c.loop-progress.out) c.fill-progress.result i.underway i.image i.same c.fill-progress.ensures.steps _ _ c.clear.ensures out;
+      stands = still_stands c.loop-progress.machine c.fill-progress.new.machine c.loop-progress.turn c.fill-progress.new.turn c.fill-progress.result i.stands c.fill-progress.ensures.steps;
+      agree = c.fill-progress.ensures.agree;
       image = c.fill-progress.ensures.image ∙ i.image;
+      natives = c.fill-progress.ensures.natives ∙ i.natives;
       same = cleared_same c.loop-progress.machine c.fill-progress.new.machine c.args.turn.now c.loop-progress.turn c.fill-progress.new.turn c.clear.new.self c.fill-progress.result i.same i.stands c.fill-progress.ensures.steps c.clear.ensures;
       few = omega (arith, none);
     }
@@ -46,7 +48,9 @@ returns-in_default g c =
     let i = c.loop-progress.invariant in
     let out = c.write_lines.ensures.whole (sym c.has_failed.ensures ∙ c.if-has_failed.false) ∙ ap (λ ls. after (g.W.Sink.out c.loop-progress.out) (text_of ls)) c.lines.ensures in
     record {
+      agree = c.fill-progress.ensures.agree;
       image = c.fill-progress.ensures.image ∙ i.image;
+      natives = c.fill-progress.ensures.natives ∙ i.natives;
       none = tt;
-      some = is_sent _ _ _ _ _ _ _ _ _ i.underway i.image i.same c.fill-progress.ensures.steps _ _ c.clear.ensures out c.in_default.not-Running;
+      some = is_sent c.args.machine.now c.loop-progress.machine c.fill-progress.new.machine c.args.turn.now c.loop-progress.turn c.fill-progress.new.turn (g.W.Sink.out c.args.out.now) (g.W.Sink.out c.loop-progress.out) c.fill-progress.result i.underway i.image i.same c.fill-progress.ensures.steps _ _ c.clear.ensures out c.in_default.not-Running;
     }

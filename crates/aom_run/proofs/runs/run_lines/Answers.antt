@@ -1,9 +1,9 @@
-use Rattle.std.proofs.Common.{None, Some, ap, arith, length, refl, subst, sym, [], ◌∙◌}
+use Rattle.std.proofs.Common.{None, Some, ap, arith, length, refl, sym, [], ◌∙◌}
 use Rattle.aom_lines.specs.Turn.{Turn}
 use Rattle.aom_sound.specs.World.{boot_state}
-use Rattle.aom_exec.specs.Steps.{Stands}
-use Rattle.aom_run.specs.Turns.{TakesTurns, hearing}
-use Rattle.aom_run.proofs.Running.{cut, ends, fewer_rounds, given_up, sent_far, sent_on, sent_rests, sent_turn, starts, turned_end, turned_few, turned_now, turned_on, turned_same, turned_stands}
+use Rattle.aom_machine.specs.Calls.{Stands, natives_of}
+use Rattle.aom_run.specs.Turns.{hearing}
+use Rattle.aom_run.proofs.Running.{cut, ends, fewer_left, given_up, sent_far, sent_on, sent_rests, sent_turn, starts, turned_end, turned_few, turned_now, turned_on, turned_same, turned_stands, turns_as}
 use Rattle.aom_run.proofs.runs.run_lines.Goals as goal
 
 pub run_dispatch-requires : goal.run_dispatch-requires
@@ -11,11 +11,11 @@ run_dispatch-requires g c =
     let none = ap (λ (t : Turn). length t.lines) c.clear.ensures in
     let kept = ap (λ (t : Turn). t.room) c.clear.ensures in
     let room = c.requires.room in
-    record { stands = (boot_state c.args.machine.now.image, c.requires.fresh); few = omega (arith, none); room = omega (arith, kept, room) }
+    record { agree = c.requires.agree; stands = (boot_state c.args.machine.now.core.image, c.requires.fresh); few = omega (arith, none); room = omega (arith, kept, room) }
 
 pub returns-in_err-progress-clause-none : goal.returns-in_err-progress-clause-none
 returns-in_err-progress-clause-none g c =
-    let outside = hearing c.args.turn.now.refused c.args.limit c.args.events.now in
+    let outside = hearing c.args.turn.now.refused c.args.limit (natives_of c.args.machine.now) c.args.events.now in
     let out = g.W.Sink.out c.args.out.now in
     let far = starts outside out c.args.machine.now c.clear.new.self.lines (ap (λ (t : Turn). t.lines) c.clear.ensures) c.requires.fresh in
     let off = c.in_err-progress.ensures.none in
@@ -25,26 +25,29 @@ returns-in_err-progress-clause-none g c =
 
 pub loop-progress-init : goal.loop-progress-init
 loop-progress-init g c =
-    let outside = hearing c.args.turn.now.refused c.args.limit c.args.events.now in
+    let outside = hearing c.args.turn.now.refused c.args.limit (natives_of c.args.machine.now) c.args.events.now in
     let out = g.W.Sink.out c.args.out.now in
     let far = starts outside out c.args.machine.now c.clear.new.self.lines (ap (λ (t : Turn). t.lines) c.clear.ensures) c.requires.fresh in
     let sent = c.in_ok-progress.ensures.some in
-    let stands : Stands c.args.machine.now = (boot_state c.args.machine.now.image, c.requires.fresh) in
+    let stands : Stands c.args.machine.now = (boot_state c.args.machine.now.core.image, c.requires.fresh) in
     record {
       so_far = sent_on _ outside out out _ c.args.machine.now c.run_dispatch.new.machine c.clear.new.self c.run_dispatch.new.turn far refl (ap (λ (t : Turn). t.refused) c.clear.ensures) _ sent;
+      agree = c.run_dispatch.ensures.agree;
       image = c.run_dispatch.ensures.image;
-      turn = sent_turn _ _ _ _ _ _ _ stands sent ∙ ap (λ (t : Turn). record t { lines = [] }) c.clear.ensures;
-      as_far = sent_far _ _ _ _ _ _ _ stands sent;
-      rests = sent_rests _ _ _ _ _ _ _ stands sent;
+      natives = c.run_dispatch.ensures.natives;
+      turn = sent_turn c.args.machine.now c.run_dispatch.new.machine _ _ _ _ _ stands sent ∙ ap (λ (t : Turn). record t { lines = [] }) c.clear.ensures;
+      as_far = sent_far c.args.machine.now c.run_dispatch.new.machine _ _ _ _ _ stands sent;
+      rests = sent_rests c.args.machine.now c.run_dispatch.new.machine _ _ _ _ _ stands sent;
     }
 
 pub returns-in-Ended : goal.returns-in-Ended
 returns-in-Ended g c =
     let i = c.loop-progress.invariant in
     record {
+      agree = i.agree;
       image = i.image;
       none = tt;
-      some = ends _ (hearing c.args.turn.now.refused c.args.limit c.args.events.now) (g.W.Sink.out c.args.out.now) (g.W.Sink.out c.loop-progress.out) (g.W.Sink.out c.loop-progress.out) c.loop-progress.machine c.loop-progress.machine c.loop-progress.turn c.loop-progress.turn i.so_far i.image
+      some = ends _ (hearing c.args.turn.now.refused c.args.limit (natives_of c.args.machine.now) c.args.events.now) (g.W.Sink.out c.args.out.now) (g.W.Sink.out c.loop-progress.out) (g.W.Sink.out c.loop-progress.out) c.loop-progress.machine c.loop-progress.machine c.loop-progress.turn c.loop-progress.turn i.so_far i.image
           (ap (λ (t : Turn). t.lines) i.turn) c.in-Ended.ending (sym c.in-Ended.is ∙ i.as_far);
     }
 
@@ -54,29 +57,30 @@ take_turns-requires g c =
     let none = ap (λ (t : Turn). length t.lines) i.turn in
     let kept = ap (λ (t : Turn). t.room) i.turn in
     let room = c.requires.room in
-    record { stands = (i.so_far.state, i.so_far.stands); between = sym i.as_far ∙ turned_now c.loop-progress.progress i.rests c.in_default.not-Ended; room = omega (arith, none, kept, room) }
+    record { agree = i.agree; stands = (i.so_far.state, i.so_far.stands); between = sym i.as_far ∙ turned_now c.loop-progress.progress i.rests c.in_default.not-Ended; room = omega (arith, none, kept, room) }
 
 pub returns-in-Some : goal.returns-in-Some
 returns-in-Some g c =
     let i = c.loop-progress.invariant in
     let same = ap (λ (t : Turn). t.refused) i.turn in
     record {
+      agree = c.take_turns.ensures.agree;
       image = c.take_turns.ensures.image ∙ i.image;
       none = tt;
-      some = turned_end _ (hearing c.args.turn.now.refused c.args.limit c.args.events.now) (g.W.Sink.out c.args.out.now) (g.W.Sink.out c.loop-progress.out) (g.W.Sink.out c.loop-progress.out) c.loop-progress.machine c.take_turns.new.machine c.loop-progress.turn c.take_turns.new.turn i.so_far i.image
-          (ap (λ (t : Turn). t.lines) i.turn) c.in-Some.ending (subst (λ r. TakesTurns c.loop-progress.machine (hearing r c.args.limit c.args.events.now) (Some c.in-Some.ending) c.loop-progress.turn c.take_turns.new.turn c.take_turns.new.machine) same c.in-Some.ensures.turns);
+      some = turned_end _ (hearing c.args.turn.now.refused c.args.limit (natives_of c.args.machine.now) c.args.events.now) (g.W.Sink.out c.args.out.now) (g.W.Sink.out c.loop-progress.out) (g.W.Sink.out c.loop-progress.out) c.loop-progress.machine c.take_turns.new.machine c.loop-progress.turn c.take_turns.new.turn i.so_far i.image
+          (ap (λ (t : Turn). t.lines) i.turn) c.in-Some.ending (turns_as c.loop-progress.machine c.take_turns.new.machine c.args.limit c.args.events.now (Some c.in-Some.ending) c.loop-progress.turn c.take_turns.new.turn same i.natives c.in-Some.ensures.turns);
     }
 
 pub run_dispatch-requires-in-loop-progress : goal.run_dispatch-requires-in-loop-progress
 run_dispatch-requires-in-loop-progress g c =
     let i = c.loop-progress.invariant in
-    let outside = hearing c.loop-progress.turn.refused c.args.limit c.args.events.now in
+    let outside = hearing c.loop-progress.turn.refused c.args.limit (natives_of c.loop-progress.machine) c.args.events.now in
     let stands : Stands c.loop-progress.machine = (i.so_far.state, i.so_far.stands) in
     let turns = c.in_default-take_turns.ensures.turns in
     let few = turned_few c.loop-progress.machine c.take_turns.new.machine outside c.loop-progress.turn c.take_turns.new.turn stands turns (ap (λ (t : Turn). t.lines) i.turn) in
     let kept = ap (λ (t : Turn). t.room) (turned_same c.loop-progress.machine c.take_turns.new.machine outside c.loop-progress.turn c.take_turns.new.turn stands turns ∙ ap (λ (t : Turn). record t { lines = c.take_turns.new.turn.lines }) i.turn) in
     let room = c.requires.room in
-    record { stands = turned_stands c.loop-progress.machine c.take_turns.new.machine outside c.loop-progress.turn c.take_turns.new.turn stands turns; few = omega (arith, few); room = omega (arith, kept, room) }
+    record { agree = c.take_turns.ensures.agree; stands = turned_stands c.loop-progress.machine c.take_turns.new.machine outside c.loop-progress.turn c.take_turns.new.turn stands turns; few = omega (arith, few); room = omega (arith, kept, room) }
 
 pub returns-in_err-progress-2-clause-image : goal.returns-in_err-progress-2-clause-image
 returns-in_err-progress-2-clause-image g c = c.run_dispatch-in-loop-progress.ensures.image ∙ c.take_turns.ensures.image ∙ c.loop-progress.invariant.image
@@ -84,14 +88,14 @@ returns-in_err-progress-2-clause-image g c = c.run_dispatch-in-loop-progress.ens
 pub returns-in_err-progress-2-clause-none : goal.returns-in_err-progress-2-clause-none
 returns-in_err-progress-2-clause-none g c =
     let i = c.loop-progress.invariant in
-    let outside = hearing c.args.turn.now.refused c.args.limit c.args.events.now in
+    let outside = hearing c.args.turn.now.refused c.args.limit (natives_of c.args.machine.now) c.args.events.now in
     let before = g.W.Sink.out c.args.out.now in
     let mid = g.W.Sink.out c.loop-progress.out in
     let same = ap (λ (t : Turn). t.refused) i.turn in
     let m = c.take_turns.new.machine in
     let turn = c.take_turns.new.turn in
     let image = c.take_turns.ensures.image ∙ i.image in
-    let turns = subst (λ r. TakesTurns c.loop-progress.machine (hearing r c.args.limit c.args.events.now) None c.loop-progress.turn turn m) same c.in_default-take_turns.ensures.turns in
+    let turns = turns_as c.loop-progress.machine m c.args.limit c.args.events.now None c.loop-progress.turn turn same i.natives c.in_default-take_turns.ensures.turns in
     let far = turned_on _ outside before mid mid c.loop-progress.machine m c.loop-progress.turn turn i.so_far i.image (ap (λ (t : Turn). t.lines) i.turn) turns in
     let refused = ap (λ (t : Turn). t.refused) (turned_same c.loop-progress.machine m outside c.loop-progress.turn turn (i.so_far.state, i.so_far.stands) turns) ∙ same in
     let off = c.in_err-progress-2.ensures.none in
@@ -103,13 +107,13 @@ pub loop-progress-smaller : goal.loop-progress-smaller
 loop-progress-smaller g c =
     let i = c.loop-progress.invariant in
     let fits = c.ranges.limit.fits in
-    fewer_rounds (hearing c.loop-progress.turn.refused c.args.limit c.args.events.now) (omega (arith, fits)) c.loop-progress.machine c.take_turns.new.machine c.run_dispatch-in-loop-progress.new.machine c.loop-progress.turn c.take_turns.new.turn
+    fewer_left (hearing c.loop-progress.turn.refused c.args.limit (natives_of c.loop-progress.machine) c.args.events.now) (omega (arith, fits)) c.loop-progress.machine c.take_turns.new.machine c.run_dispatch-in-loop-progress.new.machine c.loop-progress.turn c.take_turns.new.turn
     c.run_dispatch-in-loop-progress.new.turn _ _ _ (i.so_far.state, i.so_far.stands) (sym i.as_far ∙ turned_now c.loop-progress.progress i.rests c.in_default.not-Ended) c.in_default-take_turns.ensures.turns c.in_ok-progress-2.ensures.some
 
 pub loop-progress-preserved : goal.loop-progress-preserved
 loop-progress-preserved g c =
     let i = c.loop-progress.invariant in
-    let outside = hearing c.args.turn.now.refused c.args.limit c.args.events.now in
+    let outside = hearing c.args.turn.now.refused c.args.limit (natives_of c.args.machine.now) c.args.events.now in
     let before = g.W.Sink.out c.args.out.now in
     let mid = g.W.Sink.out c.loop-progress.out in
     let same = ap (λ (t : Turn). t.refused) i.turn in
@@ -117,15 +121,17 @@ loop-progress-preserved g c =
     let turn = c.take_turns.new.turn in
     let image = c.take_turns.ensures.image ∙ i.image in
     let was : Stands c.loop-progress.machine = (i.so_far.state, i.so_far.stands) in
-    let turns = subst (λ r. TakesTurns c.loop-progress.machine (hearing r c.args.limit c.args.events.now) None c.loop-progress.turn turn m) same c.in_default-take_turns.ensures.turns in
+    let turns = turns_as c.loop-progress.machine m c.args.limit c.args.events.now None c.loop-progress.turn turn same i.natives c.in_default-take_turns.ensures.turns in
     let far = turned_on _ outside before mid mid c.loop-progress.machine m c.loop-progress.turn turn i.so_far i.image (ap (λ (t : Turn). t.lines) i.turn) turns in
     let frame = turned_same c.loop-progress.machine m outside c.loop-progress.turn turn was turns in
     let stands = turned_stands c.loop-progress.machine m outside c.loop-progress.turn turn was turns in
     let sent = c.in_ok-progress-2.ensures.some in
     record {
       so_far = sent_on _ outside before mid _ m c.run_dispatch-in-loop-progress.new.machine turn c.run_dispatch-in-loop-progress.new.turn far image (ap (λ (t : Turn). t.refused) frame ∙ same) _ sent;
+      agree = c.run_dispatch-in-loop-progress.ensures.agree;
       image = c.run_dispatch-in-loop-progress.ensures.image ∙ image;
-      turn = sent_turn _ _ _ _ _ _ _ stands sent ∙ ap (λ (t : Turn). record t { lines = [] }) frame ∙ ap (λ (t : Turn). record t { lines = [] }) i.turn;
-      as_far = sent_far _ _ _ _ _ _ _ stands sent;
-      rests = sent_rests _ _ _ _ _ _ _ stands sent;
+      natives = c.run_dispatch-in-loop-progress.ensures.natives ∙ c.take_turns.ensures.natives ∙ i.natives;
+      turn = sent_turn m c.run_dispatch-in-loop-progress.new.machine _ _ _ _ _ stands sent ∙ ap (λ (t : Turn). record t { lines = [] }) frame ∙ ap (λ (t : Turn). record t { lines = [] }) i.turn;
+      as_far = sent_far m c.run_dispatch-in-loop-progress.new.machine _ _ _ _ _ stands sent;
+      rests = sent_rests m c.run_dispatch-in-loop-progress.new.machine _ _ _ _ _ stands sent;
     }

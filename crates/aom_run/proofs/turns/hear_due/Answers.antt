@@ -1,53 +1,82 @@
--- Each event that has come is heard.
-use Rattle.std.proofs.lemmas.Bool.{true≢false}
-use Rattle.std.proofs.Common.{arith, inl, inr, refl, sym, ◌∙◌}
-use Rattle.aom_run.proofs.Between.{at_most_to_come, come_not, come_within, had_come, heard_far, heard_fewer, heard_none, heard_settles, less_to_come, none_settles, settles_both, stands_settled}
+-- Each event that has come is heard, up to one that kills a native.
+use Rattle.std.proofs.Common.{arith, inl, inr, refl, subst, sym, ◌∙◌}
+use Rattle.aom_machine.specs.Calls.{Delivered}
+use Rattle.aom_run.specs.Turns.{TellsEnd}
+use Rattle.aom_run.proofs.Between.{come_within, heard_far, heard_fewer, heard_settles, heard_stands, heard_tells, less_to_come, none_settles, settles_both, tells_after}
 use Rattle.aom_run.proofs.turns.hear_due.Goals as goal
 
-pub loop-machine-init : goal.loop-machine-init
-loop-machine-init c = record { settled = none_settles c.args.events.now c.args.machine.now; stands = c.requires.stands; between = c.requires.between; none_due = c.requires.none_due; image = refl; timers = refl; fewer = inl refl }
-
-pub hear_event-requires : goal.hear_event-requires
-hear_event-requires c =
-    let come = c.has_come.ensures.0 c.loop-machine-test.true in
-    let within = come_within c.args.events.now c.loop-machine.machine come in
-    record { between = c.loop-machine.invariant.between; few = omega (arith, within) }
-
-pub loop-machine-smaller : goal.loop-machine-smaller
-loop-machine-smaller c =
-    let i = c.loop-machine.invariant in
-    let e = c.hear_event.ensures in
-    heard_fewer c.args.events.now c.loop-machine.machine c.hear_event.new.self i.none_due (c.has_come.ensures.0 c.loop-machine-test.true) e.heard e.rest e.back
-
-pub loop-machine-preserved : goal.loop-machine-preserved
-loop-machine-preserved c =
-    let i = c.loop-machine.invariant in
-    let m = c.loop-machine.machine in
-    let new = c.hear_event.new.self in
-    let e = c.hear_event.ensures in
-    let come = c.has_come.ensures.0 c.loop-machine-test.true in
-    let then = heard_settles c.args.events.now m new i.none_due come e.heard e.rest e.back in
+pub loop-event-init : goal.loop-event-init
+loop-event-init g c =
     record {
-      settled = settles_both c.args.events.now c.args.machine.now m new i.image i.settled then;
-      stands = stands_settled c.args.events.now m new then i.stands;
-      between = heard_far c.args.events.now m new i.none_due come e.heard e.rest e.back i.stands;
-      none_due = heard_none c.args.events.now m new i.none_due come e.heard e.rest e.back;
-      image = e.image ∙ i.image;
-      timers = e.timers ∙ i.timers;
-      fewer = inr (less_to_come c.args.events.now c.args.machine.now m new i.fewer (heard_fewer c.args.events.now m new i.none_due come e.heard e.rest e.back));
+      settled = none_settles c.args.events.now c.args.machine.now;
+      stands = c.requires.stands;
+      between = c.requires.between;
+      none_due = c.requires.none_due;
+      agree = c.requires.agree;
+      image = refl;
+      natives = refl;
+      timers = refl;
+      turn = refl;
+      fewer = inl refl;
     }
 
-pub returns : goal.returns
-returns c =
-    let i = c.loop-machine.invariant in
-    let none = come_not c.args.events.now c.loop-machine.machine (λ come. true≢false (sym (c.has_come.ensures.1 come) ∙ c.loop-machine-test.false)) in
+pub deliver-requires-clause-few : goal.deliver-requires-clause-few
+deliver-requires-clause-few g c =
+    let within = come_within c.args.events.now c.loop-event.machine c.in-Some.ensures.some.0 in
+    omega (arith, within)
+
+pub returns-then-deliver-clause-killed : goal.returns-then-deliver-clause-killed
+returns-then-deliver-clause-killed g c = λ killed.
+    let i = c.loop-event.invariant in
+    let m = c.loop-event.machine in
+    let new = c.deliver.new.self in
+    let now = c.deliver.new.turn in
+    let e = c.deliver.ensures in
+    let come = c.in-Some.ensures.some in
+    let takes = subst (λ event. Delivered m event c.loop-event.turn now new) (sym come.1) e.delivered in
+    subst (λ t. TellsEnd c.args.events.now c.args.machine.now t now new) i.turn
+    (tells_after c.args.events.now c.args.machine.now m i.image i.natives i.settled c.loop-event.turn now new (heard_tells c.args.events.now m new c.loop-event.turn now i.none_due come.0 takes e.rest))
+
+pub returns-then-deliver-clause-between : goal.returns-then-deliver-clause-between
+returns-then-deliver-clause-between g c =
+    let i = c.loop-event.invariant in
+    let m = c.loop-event.machine in
+    let e = c.deliver.ensures in
+    let come = c.in-Some.ensures.some in
+    let takes = subst (λ event. Delivered m event c.loop-event.turn c.deliver.new.turn c.deliver.new.self) (sym come.1) e.delivered in
+    heard_far c.args.events.now m c.deliver.new.self c.loop-event.turn c.deliver.new.turn i.none_due come.0 takes e.rest i.stands
+
+pub loop-event-smaller : goal.loop-event-smaller
+loop-event-smaller g c =
+    let i = c.loop-event.invariant in
+    let m = c.loop-event.machine in
+    let e = c.deliver.ensures in
+    let come = c.in-Some.ensures.some in
+    let takes = subst (λ event. Delivered m event c.loop-event.turn c.deliver.new.turn c.deliver.new.self) (sym come.1) e.delivered in
+    heard_fewer c.args.events.now m c.deliver.new.self c.loop-event.turn c.deliver.new.turn i.none_due come.0 takes e.rest
+
+pub loop-event-preserved : goal.loop-event-preserved
+loop-event-preserved g c =
+    let i = c.loop-event.invariant in
+    let old = c.args.machine.now in
+    let m = c.loop-event.machine in
+    let new = c.deliver.new.self in
+    let told = c.loop-event.turn in
+    let now = c.deliver.new.turn in
+    let e = c.deliver.ensures in
+    let events = c.args.events.now in
+    let come = c.in-Some.ensures.some in
+    let takes = subst (λ event. Delivered m event told now new) (sym come.1) e.delivered in
+    let quiet = e.quiet c.if-deliver.false in
     record {
-      image = i.image;
-      settled = i.settled;
-      between = i.between;
-      none_due = i.none_due;
-      none_come = none;
-      timers = i.timers;
-      no_more = at_most_to_come c.args.events.now c.args.machine.now c.loop-machine.machine i.fewer;
-      falls = had_come c.args.events.now c.args.machine.now c.loop-machine.machine i.fewer none;
+      settled = settles_both events old m i.image i.natives i.settled new (heard_settles events m new told now i.none_due come.0 takes e.rest quiet);
+      stands = heard_stands events m new told now i.none_due come.0 takes e.rest i.stands;
+      between = heard_far events m new told now i.none_due come.0 takes e.rest i.stands;
+      none_due = e.none_due c.if-deliver.false i.none_due;
+      agree = e.agree;
+      image = e.image ∙ i.image;
+      natives = e.natives ∙ i.natives;
+      timers = e.timers ∙ i.timers;
+      turn = quiet ∙ i.turn;
+      fewer = inr (less_to_come events old m new i.fewer (heard_fewer events m new told now i.none_due come.0 takes e.rest));
     }

@@ -7,14 +7,14 @@ use Rattle.aom_run.proofs.Gets.{event_got}
 use Rattle.aom_run.proofs.turns.next_event.Goals as goal
 
 pub returns-in-Some : goal.returns-in-Some
-returns-in-Some c =
+returns-in-Some g c =
     let es = c.args.events.now in
     let k = c.delivered.result in
     let e = c.in-Some.ensures.lookup in
     sym (ap (event_at es) (sym c.delivered.ensures) ∙ sym (event_got es k) ∙ slice_get_read es (length es) k c.in-Some.event.now refl (ltb-true k (length es) (sym e.0)) e.1)
 
 pub returns-in-None : goal.returns-in-None
-returns-in-None c =
+returns-in-None g c =
     let es = c.args.events.now in
     let k = c.delivered.result in
     let e = c.in-None.ensures.lookup in

@@ -1,26 +1,60 @@
--- All that is due by now is settled.
-use Rattle.std.proofs.Common.{◌∙◌}
-use Rattle.aom_run.proofs.Between.{completed_settles, late_falls, rest_after, settles_both, stands_after}
+-- All that is due by now is settled, or a native is killed.
+use Rattle.std.proofs.Common.{arith, ap, ◌∙◌}
+use Rattle.aom_run.proofs.Between.{completed_settles, kept_come, late_falls, rest_after, settles_both, stands_after, stands_settled, tells_after}
 use Rattle.aom_run.proofs.turns.settle.Goals as goal
 
 pub hear_due-requires : goal.hear_due-requires
-hear_due-requires c =
+hear_due-requires g c =
     let done = c.complete_due.ensures in
-    record { stands = stands_after c.args.machine.now c.complete_due.new.machine done.completed c.requires.stands; between = done.between; none_due = done.none }
+    record { agree = done.agree; stands = stands_after c.args.machine.now c.complete_due.new.machine done.completed c.requires.stands; between = done.between; none_due = done.none; room = c.requires.room }
 
-pub returns : goal.returns
-returns c =
+pub returns-then-hear_due-clause-killed : goal.returns-then-hear_due-clause-killed
+returns-then-hear_due-clause-killed g c = λ killed.
+    let done = c.complete_due.ensures in
+    let events = c.args.events.now in
+    tells_after events c.args.machine.now c.complete_due.new.machine done.image done.natives (completed_settles events c.args.machine.now c.complete_due.new.machine done.completed) c.args.turn.now c.hear_due.new.turn c.hear_due.new.machine
+    (c.hear_due.ensures.killed c.if-hear_due.true)
+
+pub poll_all-requires : goal.poll_all-requires
+poll_all-requires g c =
     let done = c.complete_due.ensures in
     let heard = c.hear_due.ensures in
+    let quiet = c.if-hear_due.false in
+    record {
+      agree = heard.agree;
+      stands = stands_settled c.args.events.now c.complete_due.new.machine c.hear_due.new.machine (heard.settled quiet) (stands_after c.args.machine.now c.complete_due.new.machine done.completed c.requires.stands);
+      between = heard.between;
+      none_due = heard.none_due quiet;
+    }
+
+pub returns : goal.returns
+returns g c =
+    let done = c.complete_due.ensures in
+    let heard = c.hear_due.ensures in
+    let polled = c.poll_all.ensures in
+    let quiet = c.if-hear_due.false in
     let old = c.args.machine.now in
     let m = c.complete_due.new.machine in
-    let new = c.hear_due.new.machine in
+    let k = c.hear_due.new.machine in
+    let new = c.poll_all.new.machine in
     let events = c.args.events.now in
+    let first = settles_both events old m done.image done.natives (completed_settles events old m done.completed) k (heard.settled quiet) in
+    let image = heard.image ∙ done.image in
+    let natives = heard.natives ∙ done.natives in
     record {
-      image = heard.image ∙ done.image;
-      settled = settles_both events old m new done.image (completed_settles events old m done.completed) heard.settled;
-      between = heard.between;
-      none_due = heard.none_due;
-      none_come = heard.none_come;
-      falls = late_falls events old m new (rest_after old m done.completed c.requires.stands) done.no_more done.falls heard.timers heard.no_more heard.falls;
+      agree = polled.agree;
+      image = polled.image ∙ image;
+      natives = polled.natives ∙ natives;
+      killed = λ e. absurd cc;
+      quiet = λ e. heard.quiet quiet;
+      settled = λ e. settles_both events old k image natives first new (polled.settled events (heard.none_come quiet));
+      between = polled.between;
+      none_due = λ e. polled.none_due;
+      none_come = λ e. kept_come events k new polled.rest (heard.none_come quiet);
+      polled = λ e. polled.polled;
+      falls = λ e late.
+          let less = late_falls events old m k (rest_after old m done.completed c.requires.stands) done.no_more done.falls heard.timers heard.no_more (heard.falls quiet) late in
+          let timers = polled.timers in
+          let kept = ap (λ r. r.delivered) polled.rest in
+          omega (arith, less, timers, kept);
     }

@@ -1,98 +1,138 @@
-use Rattle.std.proofs.Common.{ap, arith, length, refl, subst, sym, true, Some, ◌∙◌, ◌<◌}
+use Rattle.std.proofs.Common.{ap, arith, length, subst, sym, true, Some, ◌∙◌, ◌<◌}
 use Rattle.aom_transcript.specs.declared.line.Ending.TheVariants.{Waiting}
 use Rattle.aom_lines.specs.Turn.{Turn}
-use Rattle.aom_exec.specs.Turns.{Picked}
-use Rattle.aom_run.specs.Turns.{TakesTurns, hearing, waiting}
-use Rattle.aom_run.proofs.Between.{dispatches_one, limit_cuts, no_earlier, none_picked, passed_far, passed_late, passed_stands, passed_to_come, rests_on, stands_settled, waits_on}
+use Rattle.aom_machine.specs.Calls.{Picked, natives_of}
+use Rattle.aom_run.specs.Turns.{TakesTurns, TellsEnd, hearing, waiting}
+use Rattle.aom_run.proofs.Between.{stands_settled}
+use Rattle.aom_run.proofs.Resting.{dispatches_one, ends_told, limit_cuts, no_earlier, none_picked, passed_far, passed_late, passed_stands, passed_to_come, rests_on, tells_on, waits_on}
 use Rattle.aom_run.proofs.turns.take_turns.Goals as goal
 
 pub returns-then-dispatches-from-clause-turns : goal.returns-then-dispatches-from-clause-turns
-returns-then-dispatches-from-clause-turns c =
+returns-then-dispatches-from-clause-turns g c =
     let over = c.if-dispatches-from.true in
     let limit = c.from.ensures in
     let dispatches = c.dispatches.ensures in
-    limit_cuts c.args.machine.now (hearing c.args.turn.now.refused c.args.limit c.args.events.now) (omega (arith, over, limit, dispatches)) c.args.turn.now c.cut.new.self c.cut.ensures.cut
+    limit_cuts c.args.machine.now (hearing c.args.turn.now.refused c.args.limit (natives_of c.args.machine.now) c.args.events.now) (omega (arith, over, limit, dispatches)) c.args.turn.now c.cut.new.self c.cut.ensures.cut
+
+pub returns-then-settle-clause-turns : goal.returns-then-settle-clause-turns
+returns-then-settle-clause-turns g c =
+    let under = c.if-dispatches-from.false in
+    let limit = c.from.ensures in
+    let dispatches = c.dispatches.ensures in
+    ends_told c.args.machine.now c.settle.new.machine c.args.events.now c.args.turn.now.refused c.args.limit c.args.turn.now c.settle.new.turn (omega (arith, under, limit, dispatches)) (c.settle.ensures.killed c.if-settle.true)
 
 pub loop-limit-init : goal.loop-limit-init
-loop-limit-init c =
+loop-limit-init g c =
     let under = c.if-dispatches-from.false in
     let limit = c.from.ensures in
     let dispatches = c.dispatches.ensures in
     let done = c.settle.ensures in
+    let quiet = c.if-settle.false in
     record {
       rests = record {
         below = omega (arith, under, limit, dispatches);
-        far = done.settled;
-        stands = stands_settled c.args.events.now c.args.machine.now c.settle.new.machine done.settled c.requires.stands;
+        far = done.settled quiet;
+        stands = stands_settled c.args.events.now c.args.machine.now c.settle.new.machine (done.settled quiet) c.requires.stands;
         between = done.between;
-        none_due = done.none_due;
-        none_come = done.none_come;
+        none_due = done.none_due quiet;
+        none_come = done.none_come quiet;
+        polled = done.polled quiet;
         image = done.image;
+        natives = done.natives;
       };
-      turn = refl;
+      agree = done.agree;
+      turn = done.quiet quiet;
     }
 
 pub pick-requires : goal.pick-requires
-pick-requires c =
+pick-requires g c =
     let i = c.loop-limit.invariant in
-    record { between = i.rests.between; room = subst (λ (t : Turn). length t.lines < t.room) (sym i.turn) c.requires.room }
+    record { agree = i.agree; between = i.rests.between; room = subst (λ (t : Turn). length t.lines < t.room) (sym i.turn) c.requires.room }
 
 pub returns-then-pick : goal.returns-then-pick
-returns-then-pick c =
+returns-then-pick g c =
     let i = c.loop-limit.invariant in
     let m = c.loop-limit.machine in
     let picked = subst (λ b. Picked m b c.loop-limit.turn c.pick.new.turn c.pick.new.self) c.if-pick.true c.pick.ensures.picked in
     record {
+      agree = c.pick.ensures.agree;
       image = c.pick.ensures.image ∙ i.rests.image;
+      natives = c.pick.ensures.natives ∙ i.rests.natives;
       turns = dispatches_one c.args.machine.now m c.args.events.now c.args.turn.now.refused c.args.limit i.rests c.args.turn.now c.pick.new.turn c.pick.new.self (subst (λ t. Picked m true t c.pick.new.turn c.pick.new.self) i.turn picked);
     }
 
 pub wait-requires : goal.wait-requires
-wait-requires c = (none_picked _ _ _ c.loop-limit.turn c.pick.new.turn c.pick.result c.loop-limit.invariant.rests c.if-pick.false c.pick.ensures.picked).0.between
+wait-requires g c = record { agree = c.pick.ensures.agree; between = (none_picked c.args.machine.now c.loop-limit.machine c.pick.new.self c.loop-limit.turn c.pick.new.turn c.pick.result c.loop-limit.invariant.rests c.if-pick.false c.pick.ensures.picked).0.between }
 
 pub returns-in_default : goal.returns-in_default
-returns-in_default c =
+returns-in_default g c =
     let i = c.loop-limit.invariant in
-    let k = none_picked c.args.machine.now c.loop-limit.machine c.pick.new.self c.loop-limit.turn c.pick.new.turn c.pick.result i.rests c.if-pick.false c.pick.ensures.picked in
+    let k = none_picked c.args.machine.now c.loop-limit.machine c.pick.new.self c.loop-limit.turn c.pick.new.turn c.pick.result c.loop-limit.invariant.rests c.if-pick.false c.pick.ensures.picked in
     let waits = waits_on c.args.machine.now c.pick.new.self c.args.events.now c.args.turn.now.refused c.args.limit k.0 k.2 c.next_time.result c.next_time.ensures c.in_default.is c.args.turn.now c.wait.new.self c.wait.ensures.waited in
     record {
+      agree = c.wait.ensures.agree;
       image = c.wait.ensures.image ∙ k.0.image;
-      turns = subst (λ t. TakesTurns c.args.machine.now (hearing c.args.turn.now.refused c.args.limit c.args.events.now) (Some Waiting) c.args.turn.now t c.wait.new.self) (sym (k.1 ∙ i.turn)) waits;
+      natives = c.wait.ensures.natives ∙ k.0.natives;
+      turns = subst (λ t. TakesTurns c.args.machine.now (hearing c.args.turn.now.refused c.args.limit (natives_of c.args.machine.now) c.args.events.now) (Some Waiting) c.args.turn.now t c.wait.new.self) (sym (k.1 ∙ i.turn)) waits;
     }
 
 pub set_clock-requires : goal.set_clock-requires
-set_clock-requires c =
+set_clock-requires g c =
     let k = none_picked c.args.machine.now c.loop-limit.machine c.pick.new.self c.loop-limit.turn c.pick.new.turn c.pick.result c.loop-limit.invariant.rests c.if-pick.false c.pick.ensures.picked in
-    record { between = k.0.between; later = no_earlier c.args.machine.now c.pick.new.self c.args.events.now c.args.turn.now.refused c.args.limit k.0 k.2 c.next_time.result c.next_time.ensures c.in-Some.time c.in-Some.is }
+    record {
+      agree = c.pick.ensures.agree;
+      between = k.0.between;
+      later = no_earlier c.args.machine.now c.pick.new.self c.args.events.now c.args.turn.now.refused c.args.limit k.0 k.2 c.next_time.result c.next_time.ensures c.in-Some.time c.in-Some.is;
+    }
 
 pub settle-requires-in-loop-limit : goal.settle-requires-in-loop-limit
-settle-requires-in-loop-limit c =
+settle-requires-in-loop-limit g c =
     let k = none_picked c.args.machine.now c.loop-limit.machine c.pick.new.self c.loop-limit.turn c.pick.new.turn c.pick.result c.loop-limit.invariant.rests c.if-pick.false c.pick.ensures.picked in
     let e = c.set_clock.ensures in
     record {
+      agree = e.agree;
       stands = passed_stands c.args.machine.now c.pick.new.self c.args.events.now c.args.turn.now.refused c.args.limit k.0 k.2 c.next_time.result c.next_time.ensures c.in-Some.time c.in-Some.is c.set_clock.new.self e.image e.passed;
       between = passed_far c.args.machine.now c.pick.new.self c.args.events.now c.args.turn.now.refused c.args.limit k.0 k.2 c.next_time.result c.next_time.ensures c.in-Some.time c.in-Some.is c.set_clock.new.self e.image e.passed;
+      room = subst (λ (t : Turn). length t.lines < t.room) (sym (k.1 ∙ c.loop-limit.invariant.turn)) c.requires.room;
+    }
+
+pub returns-then-settle-2 : goal.returns-then-settle-2
+returns-then-settle-2 g c =
+    let i = c.loop-limit.invariant in
+    let k = none_picked c.args.machine.now c.loop-limit.machine c.pick.new.self c.loop-limit.turn c.pick.new.turn c.pick.result c.loop-limit.invariant.rests c.if-pick.false c.pick.ensures.picked in
+    let e = c.set_clock.ensures in
+    let done = c.settle-in-loop-limit.ensures in
+    let new = c.settle-in-loop-limit.new.machine in
+    let now = c.settle-in-loop-limit.new.turn in
+    let tells = subst (λ t. TellsEnd c.args.events.now c.set_clock.new.self t now new) (k.1 ∙ i.turn) (done.killed c.if-settle-2.true) in
+    record {
+      agree = done.agree;
+      image = done.image ∙ e.image ∙ k.0.image;
+      natives = done.natives ∙ e.natives ∙ k.0.natives;
+      turns = tells_on c.args.machine.now c.pick.new.self c.args.events.now c.args.turn.now.refused c.args.limit k.0 k.2 c.next_time.result c.next_time.ensures c.in-Some.time c.in-Some.is c.set_clock.new.self e.image e.passed e.natives new c.args.turn.now now tells;
     }
 
 pub loop-limit-smaller : goal.loop-limit-smaller
-loop-limit-smaller c =
+loop-limit-smaller g c =
     let k = none_picked c.args.machine.now c.loop-limit.machine c.pick.new.self c.loop-limit.turn c.pick.new.turn c.pick.result c.loop-limit.invariant.rests c.if-pick.false c.pick.ensures.picked in
     let e = c.set_clock.ensures in
     let late = passed_late c.args.machine.now c.pick.new.self c.args.events.now c.args.turn.now.refused c.args.limit k.0 k.2 c.next_time.result c.next_time.ensures c.in-Some.time c.in-Some.is c.set_clock.new.self e.image e.passed in
-    let falls = c.settle-in-loop-limit.ensures.falls late in
+    let falls = c.settle-in-loop-limit.ensures.falls c.if-settle-2.false late in
     let events = passed_to_come c.args.machine.now c.pick.new.self c.args.events.now c.args.turn.now.refused c.args.limit k.0 k.2 c.next_time.result c.next_time.ensures c.in-Some.time c.in-Some.is c.set_clock.new.self e.image e.passed in
     let same = e.timers in
     let still = ap (waiting c.args.events.now) k.3 in
     omega (arith, falls, events, same, still)
 
 pub loop-limit-preserved : goal.loop-limit-preserved
-loop-limit-preserved c =
+loop-limit-preserved g c =
     let i = c.loop-limit.invariant in
-    let k = none_picked c.args.machine.now c.loop-limit.machine c.pick.new.self c.loop-limit.turn c.pick.new.turn c.pick.result i.rests c.if-pick.false c.pick.ensures.picked in
+    let k = none_picked c.args.machine.now c.loop-limit.machine c.pick.new.self c.loop-limit.turn c.pick.new.turn c.pick.result c.loop-limit.invariant.rests c.if-pick.false c.pick.ensures.picked in
     let e = c.set_clock.ensures in
     let done = c.settle-in-loop-limit.ensures in
+    let quiet = c.if-settle-2.false in
     record {
       rests = rests_on c.args.machine.now c.pick.new.self c.args.events.now c.args.turn.now.refused c.args.limit k.0 k.2 c.next_time.result c.next_time.ensures c.in-Some.time c.in-Some.is c.set_clock.new.self e.image e.passed
-          c.settle-in-loop-limit.new.machine done.settled done.between done.none_due done.none_come done.image;
-      turn = k.1 ∙ i.turn;
+          e.natives c.settle-in-loop-limit.new.machine (done.settled quiet) done.between (done.none_due quiet) (done.none_come quiet) (done.polled quiet) done.image done.natives;
+      agree = done.agree;
+      turn = done.quiet quiet ∙ k.1 ∙ i.turn;
     }

@@ -1,0 +1,380 @@
+-- A native is killed: cell by cell, what each has outstanding there is completed and its session is over, and the machine then stands for
+-- the state that the checked machine goes to.
+use Rattle.std.proofs.Common.{ap, arith, Bool, cond, false, length, List, None, Option, pos, refl, Some, subst, suc, sym, true, ℕ, ◌++◌, ◌+◌, ◌<◌, ◌==◌, ◌∙◌, ◌∷◌, ◌≡◌, []}
+use Rattle.std.specs.Prelude.{◌&&◌, ◌||◌, IfSome, is_some, nat_lt, not}
+use Rattle.std.proofs.lemmas.Bool.{and_parts, eqb-false, eqb-true, false≢true}
+use Rattle.aom_image.specs.Image.{Image}
+use Rattle.aom_cells.specs.Heap.{Heap, Lives, cell_at, class_at}
+use Rattle.aom_cells.specs.declared.cell.Cell.{Cell as Held_cell}
+use Rattle.aom_lines.specs.Turn.{Turn}
+use Rattle.aom_active.proofs.Cells.{asked_lives}
+use Rattle.aom_active.proofs.Telling.{standing_follows}
+use Rattle.aom_active.specs.Agrees.{Active, StandsFor as Asks_for, timer_in}
+use Rattle.aom_active.specs.Meanings.{Makes, asked_anew}
+use Rattle.aom_owed.specs.Owed.{serves, serves_object}
+use Rattle.aom_sessions.specs.Sessions.{Sets, Standing, is_open}
+use Rattle.aom_shape.specs.Tables.{at}
+use Rattle.aom_sound.proofs.Storing.{bereaved_alike}
+use Rattle.aom_sound.proofs.Turning.{bereaved_well}
+use Rattle.aom_sound.specs.Enlisted.{completed_with, is_unanswered, on_request}
+use Rattle.aom_sound.specs.Natives.{all_bereaved, bereaved, is_owed, is_served_by, terminated, terminated_request}
+use Rattle.aom_sound.specs.Places.{Cell, Object, Request, in_session, named, requested, word_field}
+use Rattle.aom_sound.specs.State.{Rest, State}
+use Rattle.aom_sound.specs.World.{Kills, heard_one, without_native}
+use Rattle.aom_steps.proofs.Pushed.{reset_same}
+use Rattle.aom_transcript.specs.declared.line.Line.TheVariants.{Killed}
+use Rattle.aom_exec.specs.declared.parts.Parts.{Parts}
+use Rattle.aom_exec.specs.declared.progress.Progress.TheVariants.{Turned}
+use Rattle.aom_exec.specs.Agrees.{Agrees, SameCells, Shows, thing_in, thing_of, word_at}
+use Rattle.aom_exec.specs.Places.{value}
+use Rattle.aom_exec.specs.Progress.{progress_by}
+use Rattle.aom_exec.specs.Serving.{Bereaves, KeepsOthers, serves_class}
+use Rattle.aom_exec.specs.Steps.{Machine, Stands, StandsFor}
+use Rattle.aom_exec.specs.Turns.{Takes}
+use Rattle.aom_exec.proofs.Finding.{class_fits}
+use Rattle.aom_exec.proofs.Served.{class_told, coded, untimed}
+use Rattle.aom_exec.proofs.Sessions.{unnamed_closed}
+use Rattle.aom_exec.proofs.Timers.{timers_same}
+use Rattle.aom_exec.proofs.Turning.{machine_between, stands_as}
+
+-- ---- one request
+
+-- what is outstanding is completed, and all else stays
+pub terminates : (old new : Active) (id : ℕ) (asked : ℕ → Option Request) → Asks_for old asked → is_owed (asked id) ≡ true → Makes old new id (completed_with terminated) → Asks_for new (asked_anew id (terminated_request (asked id)) asked)
+terminates old new id asked stands owed makes = go (asked id) refl owed
+  where
+    go : (q : Option Request) → asked id ≡ q → is_owed q ≡ true → Asks_for new (asked_anew id (terminated_request (asked id)) asked)
+    go None e owed = absurd (false≢true owed)
+    go (Some r) e owed =
+        subst (λ q. Asks_for new (asked_anew id q asked)) (sym (ap terminated_request e ∙ ap (λ b. cond b (Some (completed_with terminated r)) (Some r)) owed)) (makes.stands asked r stands e)
+
+pub spares : (a : Active) (id : ℕ) (asked : ℕ → Option Request) → Asks_for a asked → is_owed (asked id) ≡ false → Asks_for a (asked_anew id (terminated_request (asked id)) asked)
+spares a id asked stands owed = standing_follows a asked (asked_anew id (terminated_request (asked id)) asked) (λ n. go n (id == n) refl) stands
+  where
+    go : (n : ℕ) (b : Bool) → (id == n) ≡ b → asked n ≡ cond b (terminated_request (asked id)) (asked n)
+    go n true same = ap asked (sym (eqb-true id n same)) ∙ sym (ap (λ b. cond b (on_request (completed_with terminated) (asked id)) (asked id)) owed)
+    go n false other = refl
+
+-- ---- the cells once a native is killed
+
+module _ (p : Image) (native : ℕ) where
+  abbrev after : List Cell → List Cell
+  after cs = all_bereaved p native cs
+
+  request_after : (cs : List Cell) (id : ℕ) → requested (after cs) id ≡ cond (serves p cs native id) (terminated_request (requested cs id)) (requested cs id)
+  request_after [] id = refl
+  request_after (c ∷ cs) id = go (c.object.name == id) (request_after cs id)
+    where
+      becomes : Bool → Option Request → Option Request
+      becomes b q = cond b (terminated_request q) q
+
+      go : (b : Bool) → requested (after cs) id ≡ becomes (serves p cs native id) (requested cs id) →
+          cond b (becomes (is_served_by p native c.object.thing) c.request) (requested (after cs) id) ≡ becomes (serves_object p native (cond b (Some c.object) (named cs id))) (cond b c.request (requested cs id))
+      go true rest = refl
+      go false rest = rest
+
+  session_after : (cs : List Cell) (id : ℕ) → in_session (after cs) id ≡ (not (serves p cs native id) && in_session cs id)
+  session_after [] id = refl
+  session_after (c ∷ cs) id = go (c.object.name == id) (session_after cs id)
+    where
+      go : (b : Bool) → in_session (after cs) id ≡ (not (serves p cs native id) && in_session cs id) →
+          cond b (not (is_served_by p native c.object.thing) && c.session) (in_session (after cs) id) ≡ (not (serves_object p native (cond b (Some c.object) (named cs id))) && cond b c.session (in_session cs id))
+      go true rest = refl
+      go false rest = rest
+
+  words_after : (cs : List Cell) (id w : ℕ) → word_field (after cs) id w ≡ word_field cs id w
+  words_after [] id w = refl
+  words_after (c ∷ cs) id w = ap (λ x. cond (c.object.name == id) (at (pos 0) c.words w) x) (words_after cs id w)
+
+  length_after : (cs : List Cell) → length (after cs) ≡ length cs
+  length_after [] = refl
+  length_after (c ∷ cs) = ap suc (length_after cs)
+
+  cells_after : (h : Heap) (cs : List Cell) → SameCells p h cs → SameCells p h (after cs)
+  cells_after h cs same = record {
+    things = λ n. same.things n ∙ ap thing_of (sym ((bereaved_alike p native cs).named_so n));
+    words = λ n w. same.words n w ∙ sym (words_after cs n w);
+    count = same.count ∙ sym (length_after cs);
+    limit = same.limit;
+    wide = same.wide;
+    classes = same.classes;
+    null_is_none = same.null_is_none;
+    below = same.below;
+  }
+
+  -- a cell that the native serves has something outstanding or a session
+  abbrev is_hit : List Cell → ℕ → Bool
+  is_hit cs id = (is_owed (requested cs id) || in_session cs id) && serves p cs native id
+
+  -- and such cells alone are others
+  hit_request : (cs : List Cell) (id : ℕ) (b : Bool) → is_hit cs id ≡ b → requested (after cs) id ≡ cond b (terminated_request (requested cs id)) (requested cs id)
+  hit_request cs id b e = request_after cs id ∙ go (requested cs id) (is_owed (requested cs id)) refl (in_session cs id) (serves p cs native id) ∙ ap (λ x. cond x (terminated_request (requested cs id)) (requested cs id)) e
+    where
+      go : (q : Option Request) (o : Bool) → is_owed q ≡ o → (i s : Bool) → cond s (terminated_request q) q ≡ cond ((o || i) && s) (terminated_request q) q
+      go q true f i true = refl
+      go q true f i false = refl
+      go q false f true true = refl
+      go q false f true false = refl
+      go q false f false true = ap (λ b. cond b (on_request (completed_with terminated) q) q) f
+      go q false f false false = refl
+
+  hit_session : (cs : List Cell) (id : ℕ) (b : Bool) → is_hit cs id ≡ b → in_session (after cs) id ≡ cond b false (in_session cs id)
+  hit_session cs id b e = session_after cs id ∙ go (is_owed (requested cs id)) (in_session cs id) (serves p cs native id) ∙ ap (λ x. cond x false (in_session cs id)) e
+    where
+      go : (o i s : Bool) → (not s && i) ≡ cond ((o || i) && s) false i
+      go true i true = refl
+      go true i false = refl
+      go false true true = refl
+      go false true false = refl
+      go false false true = refl
+      go false false false = refl
+
+-- ---- one cell after another
+
+-- what is below a number is as it comes to be, and all else as it was
+abbrev pub up_to : {A : Type 0} → ℕ → (ℕ → A) → (ℕ → A) → ℕ → A
+up_to k now was n = cond (nat_lt n k) (now n) (was n)
+
+none_below : (n : ℕ) → nat_lt n 0 ≡ false
+none_below n = grind (arith)
+
+not_below : (n : ℕ) → nat_lt n n ≡ false
+not_below n = grind (arith)
+
+is_below : (n k : ℕ) → n < k → nat_lt n k ≡ true
+is_below n k less = grind (arith)
+
+same_below : (k n : ℕ) → (k == n) ≡ false → nat_lt n (k + 1) ≡ nat_lt n k
+same_below k n other = grind (arith)
+
+up_to_next : {A : Type 0} (k : ℕ) (now was : ℕ → A) (n : ℕ) → up_to (k + 1) now was n ≡ cond (k == n) (now n) (up_to k now was n)
+up_to_next k now was n = go (k == n) refl
+  where
+    go : (b : Bool) → (k == n) ≡ b → up_to (k + 1) now was n ≡ cond b (now n) (up_to k now was n)
+    go true same = ap (λ b. cond b (now n) (was n)) (is_below n (k + 1) (omega (arith, eqb-true k n same)))
+    go false other = ap (λ b. cond b (now n) (was n)) (same_below k n other)
+
+-- the cells below a number are bereaved
+pub record BereavesBelow (p : Image) (native k : ℕ) (old new : Parts) : Type 0 where
+  pub requests : (s : State) → StandsFor (record { image = p; parts = old }) s → Asks_for new.active (up_to k (requested (all_bereaved p native s.cells)) (requested s.cells))
+  pub sessions : (s : State) → StandsFor (record { image = p; parts = old }) s → (n : ℕ) → is_open new.sessions n ≡ up_to k (in_session (all_bereaved p native s.cells)) (in_session s.cells) n
+  pub others : KeepsOthers old new
+
+pub none_yet : (p : Image) (native : ℕ) (m : Parts) → BereavesBelow p native 0 m m
+none_yet p native m = record {
+  requests = λ s st. standing_follows m.active (requested s.cells) (up_to 0 (requested (all_bereaved p native s.cells)) (requested s.cells)) (λ n. ap (λ b. cond b (requested (all_bereaved p native s.cells) n) (requested s.cells n)) (sym (none_below n))) st.agrees.requests.stands;
+  sessions = λ s st n. st.agrees.natives.sessions n ∙ ap (λ b. cond b (in_session (all_bereaved p native s.cells) n) (in_session s.cells n)) (sym (none_below n));
+  others = record { numbers = refl; places = refl; killed = refl; rest = refl };
+}
+
+module _ (p : Image) (native : ℕ) (old : Parts) (k : ℕ) (now : Parts) (so_far : BereavesBelow p native k old now) where
+  abbrev first : Machine
+  first = record { image = p; parts = old }
+
+  same_cells : now.cells ≡ old.cells
+  same_cells = ap (λ (x : Parts). x.cells) so_far.others.rest
+
+  module _ (s : State) (st : StandsFor first s) where
+    abbrev asked : ℕ → Option Request
+    asked = up_to k (requested (all_bereaved p native s.cells)) (requested s.cells)
+
+    own_request : asked k ≡ requested s.cells k
+    own_request = ap (λ b. cond b (requested (all_bereaved p native s.cells) k) (requested s.cells k)) (not_below k)
+
+    own_session : is_open now.sessions k ≡ in_session s.cells k
+    own_session = so_far.sessions s st k ∙ ap (λ b. cond b (in_session (all_bereaved p native s.cells) k) (in_session s.cells k)) (not_below k)
+
+    something : (is_owed (asked k) || is_open now.sessions k) ≡ (is_owed (requested s.cells k) || in_session s.cells k)
+    something = ap (λ q. is_owed q || is_open now.sessions k) own_request ∙ ap (λ b. is_owed (requested s.cells k) || b) own_session
+
+    -- what the machine finds is whether the cell is hit
+    hit_told : ((is_owed (asked k) || is_open now.sessions k) && serves_class p native (class_at now.cells k)) ≡ is_hit p native s.cells k
+    hit_told =
+        ap (λ b. b && serves_class p native (class_at now.cells k)) something
+        ∙ ap (λ b. (is_owed (requested s.cells k) || in_session s.cells k) && b) (ap (λ h. serves_class p native (class_at h k)) same_cells ∙ class_told p old s st native k)
+
+    -- what has anything lives
+    something_lives : (is_owed (requested s.cells k) || in_session s.cells k) ≡ true → is_some (named s.cells k) ≡ true
+    something_lives e = go (named s.cells k) refl
+      where
+        no_request : (q : Option Request) → named s.cells k ≡ None → requested s.cells k ≡ q → is_owed q ≡ false
+        no_request None none f = refl
+        no_request (Some r) none f = absurd (false≢true (sym (ap is_some none) ∙ asked_lives s.cells k r f))
+
+        go : (o : Option Object) → named s.cells k ≡ o → is_some o ≡ true
+        go (Some o) f = refl
+        go None f = absurd (false≢true (sym (ap (λ b. b || in_session s.cells k) (no_request (requested s.cells k) f refl) ∙ unnamed_closed s.cells k f) ∙ e))
+
+    lives_here : (is_owed (asked k) || is_open now.sessions k) ≡ true → Lives now.cells k
+    lives_here e = go (cell_at now.cells k) (named s.cells k) (ap (λ h. thing_in (cell_at h k)) same_cells ∙ st.agrees.cells.things k) (something_lives (sym something ∙ e))
+      where
+        go : (c : Option Held_cell) (o : Option Object) → thing_in c ≡ thing_of o → is_some o ≡ true → is_some c ≡ true
+        go (Some c) o f some = refl
+        go None None f some = some
+        go None (Some o) f some = cc
+
+    coded_here : is_hit p native s.cells k ≡ true → is_unanswered (asked k) ≡ false
+    coded_here hit = ap is_unanswered own_request ∙ coded p old s st native k (and_parts (is_owed (requested s.cells k) || in_session s.cells k) (serves p s.cells native k) hit).1
+
+    -- the requests once that cell is as it comes to be
+    requests_next : (b : Bool) → is_hit p native s.cells k ≡ b → (n : ℕ) →
+        asked_anew k (cond b (terminated_request (asked k)) (asked k)) asked n ≡ up_to (k + 1) (requested (all_bereaved p native s.cells)) (requested s.cells) n
+    requests_next b hit n = go (k == n) refl ∙ sym (up_to_next k (requested (all_bereaved p native s.cells)) (requested s.cells) n)
+      where
+        own : cond b (terminated_request (asked k)) (asked k) ≡ requested (all_bereaved p native s.cells) k
+        own = ap (λ q. cond b (terminated_request q) q) own_request ∙ sym (hit_request p native s.cells k b hit)
+
+        go : (x : Bool) → (k == n) ≡ x → cond x (cond b (terminated_request (asked k)) (asked k)) (asked n) ≡ cond x (requested (all_bereaved p native s.cells) n) (asked n)
+        go true same = own ∙ ap (requested (all_bereaved p native s.cells)) (eqb-true k n same)
+        go false other = refl
+
+  -- what the machine needs to know of the cell
+  pub needs_life : Stands first → (asked : ℕ → Option Request) × Asks_for now.active asked × ((is_owed (asked k) || is_open now.sessions k) ≡ true → Lives now.cells k)
+  needs_life (s, st) = (asked s st, so_far.requests s st, lives_here s st)
+
+  abbrev pub IsHit : Bool → Type 0
+  IsHit b = (asked : ℕ → Option Request) → Asks_for now.active asked → b ≡ ((is_owed (asked k) || is_open now.sessions k) && serves_class p native (class_at now.cells k))
+
+  hit_in : (b : Bool) → IsHit b → (s : State) (st : StandsFor first s) → is_hit p native s.cells k ≡ b
+  hit_in b hit s st = sym (hit (asked s st) (so_far.requests s st) ∙ hit_told s st)
+
+  pub needs_code : Stands first → IsHit true → (asked : ℕ → Option Request) × Asks_for now.active asked × (is_unanswered (asked k) ≡ false)
+  needs_code (s, st) hit = (asked s st, so_far.requests s st, coded_here s st (hit_in true hit s st))
+
+  -- the cell is hit
+  pub hits_next : (new : Parts) → IsHit true → ((asked : ℕ → Option Request) → Asks_for now.active asked → Asks_for new.active (asked_anew k (terminated_request (asked k)) asked)) →
+      new.active.table.limit ≡ now.active.table.limit → Sets now.sessions new.sessions k false → new ≡ record now { active = new.active; sessions = new.sessions } → BereavesBelow p native (k + 1) old new
+  hits_next new hit makes numbers sets rest = record {
+    requests = λ s st. standing_follows new.active _ _ (requests_next s st true (hit_in true hit s st)) (makes (asked s st) (so_far.requests s st));
+    sessions = λ s st n. open_next s st n (k == n) refl ∙ sym (up_to_next k (in_session (all_bereaved p native s.cells)) (in_session s.cells) n);
+    others = record {
+      numbers = numbers ∙ so_far.others.numbers;
+      places = sets.places ∙ so_far.others.places;
+      killed = sets.killed ∙ so_far.others.killed;
+      rest = rest ∙ ap (λ (x : Parts). record x { active = new.active; sessions = new.sessions }) so_far.others.rest;
+    };
+  }
+    where
+      open_next : (s : State) → StandsFor first s → (n : ℕ) (x : Bool) → (k == n) ≡ x →
+          is_open new.sessions n ≡ cond x (in_session (all_bereaved p native s.cells) n) (up_to k (in_session (all_bereaved p native s.cells)) (in_session s.cells) n)
+      open_next s st n true same =
+          let is = eqb-true k n same in
+          ap (is_open new.sessions) (sym is) ∙ sets.here ∙ sym (hit_session p native s.cells k true (hit_in true hit s st)) ∙ ap (in_session (all_bereaved p native s.cells)) is
+      open_next s st n false other = sets.others n (λ e. eqb-false k n other (sym e)) ∙ so_far.sessions s st n
+
+  -- the cell is not
+  pub misses_next : IsHit false → BereavesBelow p native (k + 1) old now
+  misses_next hit = record {
+    requests = λ s st. standing_follows now.active (asked s st) _ (λ n. same_request s st n ∙ requests_next s st false (hit_in false hit s st) n) (so_far.requests s st);
+    sessions = λ s st n. so_far.sessions s st n ∙ same_session s st n (k == n) refl ∙ sym (up_to_next k (in_session (all_bereaved p native s.cells)) (in_session s.cells) n);
+    others = so_far.others;
+  }
+    where
+      same_request : (s : State) (st : StandsFor first s) (n : ℕ) → asked s st n ≡ asked_anew k (asked s st k) (asked s st) n
+      same_request s st n = go (k == n) refl
+        where
+          go : (x : Bool) → (k == n) ≡ x → asked s st n ≡ cond x (asked s st k) (asked s st n)
+          go true same = ap (asked s st) (sym (eqb-true k n same))
+          go false other = refl
+
+      same_session : (s : State) → StandsFor first s → (n : ℕ) (x : Bool) → (k == n) ≡ x →
+          up_to k (in_session (all_bereaved p native s.cells)) (in_session s.cells) n ≡ cond x (in_session (all_bereaved p native s.cells) n) (up_to k (in_session (all_bereaved p native s.cells)) (in_session s.cells) n)
+      same_session s st n true same =
+          let is = eqb-true k n same in
+          sym (ap (up_to k (in_session (all_bereaved p native s.cells)) (in_session s.cells)) is)
+          ∙ sym (so_far.sessions s st k) ∙ own_session s st ∙ sym (hit_session p native s.cells k false (hit_in false hit s st)) ∙ ap (in_session (all_bereaved p native s.cells)) is
+      same_session s st n false other = refl
+
+  -- no cell has a number past the limit
+  pub all_hit : k ≡ old.cells.limit → Bereaves p native old now
+  all_hit end = record {
+    requests = λ s st. standing_follows now.active (asked s st) (requested (all_bereaved p native s.cells)) (λ n. request_of s st n (nat_lt n k) refl) (so_far.requests s st);
+    sessions = λ s st n. so_far.sessions s st n ∙ session_of s st n (nat_lt n k) refl;
+    others = so_far.others;
+  }
+    where
+      unnamed : (s : State) → StandsFor first s → (n : ℕ) → nat_lt n k ≡ false → serves p s.cells native n ≡ false
+      unnamed s st n past = go (cell_at old.cells n) refl (named s.cells n) (st.agrees.cells.things n)
+        where
+          go : (c : Option Held_cell) → cell_at old.cells n ≡ c → (o : Option Object) → thing_in c ≡ thing_of o → serves_object p native o ≡ false
+          go None e None f = refl
+          go None e (Some o) f = cc
+          go (Some c) e o f = let less = st.agrees.cells.below n c e in absurd (false≢true (sym past ∙ is_below n k (omega (arith, less, end))))
+
+      request_of : (s : State) → StandsFor first s → (n : ℕ) (b : Bool) → nat_lt n k ≡ b → cond b (requested (all_bereaved p native s.cells) n) (requested s.cells n) ≡ requested (all_bereaved p native s.cells) n
+      request_of s st n true below = refl
+      request_of s st n false past = sym (request_after p native s.cells n ∙ ap (λ b. cond b (terminated_request (requested s.cells n)) (requested s.cells n)) (unnamed s st n past))
+
+      session_of : (s : State) → StandsFor first s → (n : ℕ) (b : Bool) → nat_lt n k ≡ b → cond b (in_session (all_bereaved p native s.cells) n) (in_session s.cells n) ≡ in_session (all_bereaved p native s.cells) n
+      session_of s st n true below = refl
+      session_of s st n false past = sym (session_after p native s.cells n ∙ ap (λ b. not b && in_session s.cells n) (unnamed s st n past))
+
+-- ---- the turn
+
+module _ (p : Image) (native : ℕ) (m b : Parts) (bereaves : Bereaves p native m b) where
+  abbrev was : Machine
+  was = record { image = p; parts = m }
+
+  -- the native is among those that are killed, and one event more is delivered
+  abbrev pub killed_parts : Parts
+  killed_parts = record m { active = b.active; sessions = record b.sessions { killed = m.sessions.killed ++ native ∷ [] }; rest = record m.rest { delivered = suc m.rest.delivered } }
+
+  pub killed_is : (w : Standing) (r : Rest) → w ≡ record b.sessions { killed = b.sessions.killed ++ native ∷ [] } → r ≡ record b.rest { delivered = suc b.rest.delivered } → record b { sessions = w; rest = r } ≡ killed_parts
+  killed_is w r sessions rest =
+      ap (λ (x : Parts). record x { sessions = w; rest = r }) bereaves.others.rest
+      ∙ ap (λ x. record m { active = b.active; sessions = x; rest = r }) (sessions ∙ ap (λ ks. record b.sessions { killed = ks ++ native ∷ [] }) bereaves.others.killed)
+      ∙ ap (λ x. record m { active = b.active; sessions = record b.sessions { killed = m.sessions.killed ++ native ∷ [] }; rest = x }) (rest ∙ ap (λ (x : Parts). record x.rest { delivered = suc x.rest.delivered }) bereaves.others.rest)
+
+  module _ (s : State) (st : StandsFor was s) where
+    abbrev cs : List Cell
+    cs = all_bereaved p native s.cells
+
+    killed_agrees : Agrees p killed_parts (without_native p native (heard_one s))
+    killed_agrees = record {
+      tasks = st.agrees.tasks;
+      values = λ q. subst (λ h. Shows (value m q) (word_at s.tasks q) h) (sym ((bereaved_alike p native s.cells).held_so q)) (st.agrees.values q);
+      cells = cells_after p native m.cells s.cells st.agrees.cells;
+      entries = st.agrees.entries;
+      requests = record { stands = bereaves.requests s st; limit = bereaves.others.numbers ∙ st.agrees.requests.limit };
+      natives = record {
+        sessions = bereaves.sessions s st;
+        dead = ap (λ ks. ks ++ native ∷ []) st.agrees.natives.dead;
+        limit = bereaves.others.places ∙ st.agrees.natives.limit;
+      };
+      rest = ap (λ (r : Rest). record r { delivered = suc r.delivered }) st.agrees.rest;
+      room = st.agrees.room;
+      entry_room = st.agrees.entry_room;
+    }
+
+    killed_stands : s.tasks ≡ [] → StandsFor (record { image = p; parts = killed_parts }) (without_native p native (heard_one s))
+    killed_stands idle =
+        stands_as p m s st idle killed_parts cs (heard_one s).rest (s.killed ++ native ∷ []) (bereaved_well p st.typing s st.typed idle native (heard_one s).rest (s.killed ++ native ∷ []))
+        (reset_same st.sound.prices (λ c. (bereaved p native c).request) (λ c. (bereaved p native c).session) s.cells) refl killed_agrees
+
+    -- what the native served has no timer
+    killed_timers : b.active.pending.timers ≡ m.active.pending.timers
+    killed_timers = timers_same m.active b.active (requested s.cells) (requested cs) same st.agrees.requests.stands (bereaves.requests s st)
+      where
+        ended : (q : Option Request) → timer_in q ≡ None → timer_in (terminated_request q) ≡ None
+        ended None e = refl
+        ended (Some r) e = go (is_owed (Some r))
+          where
+            go : (x : Bool) → timer_in (cond x (Some (completed_with terminated r)) (Some r)) ≡ None
+            go true = refl
+            go false = e
+
+        go : (n : ℕ) (x : Bool) → serves p s.cells native n ≡ x → timer_in (requested s.cells n) ≡ timer_in (cond x (terminated_request (requested s.cells n)) (requested s.cells n))
+        go n true served = let none = untimed p m s st native n served in none ∙ sym (ended (requested s.cells n) none)
+        go n false other = refl
+
+        same : (n : ℕ) → timer_in (requested s.cells n) ≡ timer_in (requested cs n)
+        same n = go n (serves p s.cells native n) refl ∙ ap timer_in (sym (request_after p native s.cells n))
+
+  pub kills : progress_by m.rest.ended m.stack.tasks ≡ Turned → (told now : Turn) → now ≡ record told { lines = told.lines ++ Killed native ∷ [] } →
+      (s : State) → StandsFor was s → Takes was s (Kills native) told now (record { image = p; parts = killed_parts })
+  kills turned told now lines s st =
+      let between = machine_between was s st turned in
+      record { between = between; state = without_native p native (heard_one s); goes = refl; lines = lines; stands = killed_stands s st between.idle }
+
+  pub kills_no_timer : Stands was → b.active.pending.timers ≡ m.active.pending.timers
+  kills_no_timer (s, st) = killed_timers s st

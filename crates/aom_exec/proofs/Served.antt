@@ -1,0 +1,161 @@
+-- What is known of a cell that a native serves: its place, and its request, which has no timer.
+use Rattle.std.proofs.Common.{ap, Bool, cond, false, List, None, Option, refl, Some, subst, suc, sym, true, zero, ℕ, ◌==◌, ◌∙◌, ◌∷◌, ◌≡◌, []}
+use Rattle.std.specs.Prelude.{◌&&◌, is_none, is_some, not}
+use Rattle.std.specs.Ordering.{int_eq}
+use Rattle.std.proofs.lemmas.Bool.{eqb-true, true≢false}
+use Rattle.std.proofs.lemmas.Option.{same_Some}
+use Rattle.aom_image.specs.Image.{Image}
+use Rattle.aom_image.specs.declared.class.ClassKind.{ClassKind}
+use Rattle.aom_image.specs.declared.class.ClassKind.TheVariants.{Active as An_active}
+use Rattle.aom_image.specs.declared.class.Provider.TheVariants.{Native, Own, Timer as A_timer}
+use Rattle.aom_cells.specs.Heap.{cell_at, class_at, class_of}
+use Rattle.aom_cells.specs.declared.cell.Cell.{Cell as Held_cell}
+use Rattle.aom_requests.specs.Requests.{is_pending, request_at}
+use Rattle.aom_requests.specs.declared.request.State.{State as Held_state}
+use Rattle.aom_requests.specs.declared.request.State.TheVariants.{Aborted as Held_aborted, Active as Held_active, Cancelling as Held_cancelling, Idle as Held_idle, Issued as Held_issued}
+use Rattle.aom_requests.specs.declared.request.Request.{Request as Held_request}
+use Rattle.aom_requests.specs.declared.request.Request.TheVariants.{Object as Held_object, Server as Held_server}
+use Rattle.aom_active.specs.Agrees.{Tells, phase_of, timer_in}
+use Rattle.aom_owed.proofs.Cells.{native_served}
+use Rattle.aom_owed.specs.Owed.{owes, serves, serves_object}
+use Rattle.aom_sound.specs.Enlisted.{is_aborted, is_idle, is_unanswered, pending, thing_kind}
+use Rattle.aom_sound.specs.Natives.{is_owed, is_served_by, native_of}
+use Rattle.aom_sound.specs.Places.{Cell, Object, Request, Timer, named, requested}
+use Rattle.aom_sound.specs.Requests.{Known, Suits, states_claim}
+use Rattle.aom_sound.specs.State.{State}
+use Rattle.aom_sound.specs.World.{cell_at as standing_at}
+use Rattle.aom_exec.specs.declared.parts.Parts.{Parts}
+use Rattle.aom_exec.specs.Agrees.{thing_in, thing_of}
+use Rattle.aom_exec.specs.Serving.{serves_class}
+use Rattle.aom_exec.specs.Steps.{StandsFor}
+
+-- ---- where it stands
+
+-- the cell of a name, counted from the newest
+pub record Placed (cs : List Cell) (id : ℕ) : Type 0 where
+  pub index : ℕ
+  pub cell : Cell
+  pub at : standing_at cs index ≡ Some cell
+  pub name : cell.object.name ≡ id
+  pub lives : named cs id ≡ Some cell.object
+  pub asked : requested cs id ≡ cell.request
+
+pub placed : (cs : List Cell) (id : ℕ) → is_some (named cs id) ≡ true → Placed cs id
+placed [] id e = cc
+placed (c ∷ cs) id e = go (c.object.name == id) refl e (placed cs id)
+  where
+    go : (b : Bool) → (c.object.name == id) ≡ b → is_some (cond b (Some c.object) (named cs id)) ≡ true → (is_some (named cs id) ≡ true → Placed cs id) → Placed (c ∷ cs) id
+    go true same e rest = record {
+      index = zero;
+      cell = c;
+      at = refl;
+      name = eqb-true c.object.name id same;
+      lives = ap (λ b. cond b (Some c.object) (named cs id)) same;
+      asked = ap (λ b. cond b c.request (requested cs id)) same;
+    }
+    go false other e rest =
+        let r = rest e in
+        record {
+          index = suc r.index;
+          cell = r.cell;
+          at = r.at;
+          name = r.name;
+          lives = ap (λ b. cond b (Some c.object) (named cs id)) other ∙ r.lives;
+          asked = ap (λ b. cond b c.request (requested cs id)) other ∙ r.asked;
+        }
+
+-- ---- its request
+
+-- of what a native serves it has its code once it is aborted, and no timer
+record Answered (q : Option Request) : Type 0 where
+  code : is_unanswered q ≡ false
+  timer : timer_in q ≡ None
+
+no_timer : (t : Option Timer) → is_none t ≡ true → t ≡ None
+no_timer None e = refl
+no_timer (Some t) e = cc
+
+answered_by : (k : Option ClassKind) (n : ℕ) (known : Known) (q : Option Request) → native_of k ≡ Some n → Suits k known q → Answered q
+answered_by k n known None native suits = record { code = refl; timer = refl }
+answered_by (Some (An_active (Native x) budget)) n known (Some r) native suits = record { code = suits.2; timer = no_timer r.timer suits.3 }
+answered_by (Some (An_active Own budget)) n known (Some r) native suits = cc
+answered_by (Some (An_active A_timer budget)) n known (Some r) native suits = cc
+answered_by _ n known (Some r) native suits = cc
+
+module _ (p : Image) (m : Parts) (s : State) (st : StandsFor (record { image = p; parts = m }) s) (native id : ℕ) where
+  lives_served : serves p s.cells native id ≡ true → is_some (named s.cells id) ≡ true
+  lives_served served = go (named s.cells id) served
+    where
+      go : (o : Option Object) → serves_object p native o ≡ true → is_some o ≡ true
+      go None e = cc
+      go (Some o) e = refl
+
+  pub its_place : serves p s.cells native id ≡ true → Placed s.cells id
+  its_place served = placed s.cells id (lives_served served)
+
+  answered : serves p s.cells native id ≡ true → Answered (requested s.cells id)
+  answered served =
+      let c = its_place served in
+      let o = c.cell.object in
+      let thing : is_served_by p native o.thing ≡ true = sym (ap (serves_object p native) c.lives) ∙ served in
+      let suits : Suits (thing_kind p o.thing) (states_claim p o st.typed.layers) (requested s.cells id) =
+      subst (λ n. Suits (thing_kind p o.thing) (states_claim p o st.typed.layers) (requested s.cells n)) c.name (st.typed.good.suits o (ap (named s.cells) c.name ∙ c.lives)) in
+      answered_by (thing_kind p o.thing) native (states_claim p o st.typed.layers) (requested s.cells id) (native_served p native o.thing thing) suits
+
+  pub coded : serves p s.cells native id ≡ true → is_unanswered (requested s.cells id) ≡ false
+  coded served = (answered served).code
+
+  pub untimed : serves p s.cells native id ≡ true → timer_in (requested s.cells id) ≡ None
+  untimed served = (answered served).timer
+
+  -- the machine finds its class
+  pub class_told : serves_class p native (class_at m.cells id) ≡ serves p s.cells native id
+  class_told = go (cell_at m.cells id) (named s.cells id) (st.agrees.cells.things id)
+    where
+      go : (c : Option Held_cell) (o : Option Object) → thing_in c ≡ thing_of o → serves_class p native (class_of c) ≡ serves_object p native o
+      go None None e = refl
+      go None (Some o) e = cc
+      go (Some c) None e = cc
+      go (Some c) (Some o) e = ap (is_served_by p native) (same_Some _ _ e)
+
+-- ---- what the table tells of it
+
+-- a request that is outstanding is pending
+pub pending_told : (h : Option Held_request) (q : Option Request) → Tells h q → is_unanswered q ≡ false → is_owed q ≡ true → is_pending h ≡ true
+pending_told None None tells coded owed = cc
+pending_told None (Some r) tells coded owed = absurd tells
+pending_told (Some (Held_server b)) q tells coded owed = absurd tells
+pending_told (Some (Held_object x status)) None tells coded owed = absurd tells
+pending_told (Some (Held_object x status)) (Some r) tells coded owed =
+    go x (ap (λ q. is_aborted q && int_eq status pending) tells.0 ∙ ap (λ v. is_aborted r.phase && int_eq v pending) tells.1 ∙ coded)
+    (ap (λ q. not (is_idle q) && int_eq status pending) tells.0 ∙ ap (λ v. not (is_idle r.phase) && int_eq v pending) tells.1 ∙ owed)
+  where
+    go : (x : Held_state) → (is_aborted (phase_of x) && int_eq status pending) ≡ false → (not (is_idle (phase_of x)) && int_eq status pending) ≡ true → is_pending (Some (Held_object x status)) ≡ true
+    go Held_idle c o = cc
+    go Held_issued c o = o
+    go Held_active c o = o
+    go Held_cancelling c o = o
+    go Held_aborted c o = absurd (true≢false (sym o ∙ c))
+
+-- and the same is outstanding in each state that the machine stands for
+held_owed : Option Held_request → Bool
+held_owed None = false
+held_owed (Some (Held_object x status)) = not (is_idle (phase_of x)) && int_eq status pending
+held_owed (Some (Held_server b)) = false
+
+told_owed : (h : Option Held_request) (q : Option Request) → Tells h q → is_owed q ≡ held_owed h
+unfolding held_owed
+told_owed None None tells = refl
+told_owed None (Some r) tells = absurd tells
+told_owed (Some (Held_server b)) q tells = absurd tells
+told_owed (Some (Held_object x status)) None tells = absurd tells
+told_owed (Some (Held_object x status)) (Some r) tells = sym (ap (λ q. not (is_idle q) && int_eq status pending) tells.0 ∙ ap (λ v. not (is_idle r.phase) && int_eq v pending) tells.1)
+
+module _ (p : Image) (m : Parts) (native id : ℕ) where
+  owes_told : (s : State) → StandsFor (record { image = p; parts = m }) s → owes p s.cells native id ≡ (serves_class p native (class_at m.cells id) && held_owed (request_at m.active.table id))
+  owes_told s st =
+      ap (λ b. b && is_owed (requested s.cells id)) (sym (class_told p m s st native id))
+      ∙ ap (λ b. serves_class p native (class_at m.cells id) && b) (told_owed _ (requested s.cells id) (st.agrees.requests.stands.tells id))
+
+  pub owes_in_all : (s u : State) → StandsFor (record { image = p; parts = m }) s → StandsFor (record { image = p; parts = m }) u → owes p s.cells native id ≡ true → owes p u.cells native id ≡ true
+  owes_in_all s u st su owed = owes_told u su ∙ sym (owes_told s st) ∙ owed

@@ -1,0 +1,48 @@
+-- What a native may answer to what a step asks, and to a poll.
+use Rattle.std.specs.Prelude.{ℕ, ℤ, suc, pred, ◌≡◌, ◌<◌, ◌&&◌, cond, List, length, Option, None, Some, IfSome, IsSome, is_some}
+use Rattle.aom_natives.specs.Owed.{IsNew, IsOwed, times}
+use Rattle.aom_owed.specs.Owed.{is_for, takes_on}
+use Rattle.aom_natives.specs.Slots.{ids_at, living_at}
+use Rattle.aom_image.specs.Image.{Image}
+use Rattle.aom_sound.specs.State.{State}
+use Rattle.aom_exec.specs.Progress.{progress_of}
+use Rattle.aom_exec.specs.declared.progress.Progress.{Progress}
+use Rattle.aom_exec.specs.declared.progress.Progress.TheVariants.{Running}
+use Rattle.aom_sound.specs.Wanted.{wanted, Wanted, Opens, Starts, Asks, Cancels, Closes}
+
+-- the answer is one that the native may give to what it is asked, as it stands, by its relations; nothing is said where there is no answer
+abbrev pub MayHear : {L : Type 0} → (open_may : L → ℕ → ℤ → Type 0) → (start_may call_may : L → ℕ → ℤ → ℤ → ℤ → Type 0) → List (Option L) → Option Wanted → ℤ → Type 0
+MayHear open_may start_may call_may slots (Some (Opens n x)) answer = IfSome (living_at slots n) (λ l. open_may l x answer)
+MayHear open_may start_may call_may slots (Some (Starts n x f w)) answer = IfSome (living_at slots n) (λ l. start_may l x f w answer)
+MayHear open_may start_may call_may slots (Some (Asks n x f w)) answer = IfSome (living_at slots n) (λ l. call_may l x f w answer)
+MayHear open_may start_may call_may slots _ answer = Unit {0}
+
+-- what is asked: nothing, unless something is at hand
+abbrev pub asked_by : Progress → Option Wanted → Option Wanted
+asked_by Running asked = asked
+asked_by _ asked = None
+
+abbrev pub asked_of : Image → State → Option Wanted
+asked_of p s = asked_by (progress_of s) (wanted p s)
+
+-- ---- what is kept of natives, over a call
+
+-- the call may be made: the native lives; what is begun is not outstanding there, and there is room for it; what is cancelled is, and what is closed is not
+abbrev pub MayAsk : {L : Type 0} → (L → List ℕ) → List (Option L) → Wanted → Type 0
+MayAsk kept slots (Opens n x) = IsSome (living_at slots n)
+MayAsk kept slots (Starts n x f w) = IsSome (living_at slots n) × IsNew (ids_at kept slots n) x × (length (ids_at kept slots n) < 4096)
+MayAsk kept slots (Asks n x f w) = IsSome (living_at slots n)
+MayAsk kept slots (Cancels n x) = IsSome (living_at slots n) × IsOwed (ids_at kept slots n) x
+MayAsk kept slots (Closes n x) = IsSome (living_at slots n) × IsNew (ids_at kept slots n) x
+
+-- whether x is outstanding at native k after a call with that answer, by how often it was before
+abbrev pub times_after : Option Wanted → ℤ → (k m : ℕ) → ℕ → ℕ
+times_after (Some (Starts n x f w)) answer k m before = cond (takes_on answer && is_for n x k m) (suc before) before
+times_after (Some (Cancels n x)) answer k m before = cond (is_for n x k m) (pred before) before
+times_after _ answer k m before = before
+
+-- the call is made: the same natives live, and what is kept of each is what it owes by then
+pub record Asked {L : Type 0} (kept : L → List ℕ) (old : List (Option L)) (asked : Option Wanted) (answer : ℤ) (new : List (Option L)) : Type 0 where
+  pub count : length new ≡ length old
+  pub living : (k : ℕ) → is_some (living_at new k) ≡ is_some (living_at old k)
+  pub times : (k m : ℕ) → times m (ids_at kept new k) ≡ times_after asked answer k m (times m (ids_at kept old k))

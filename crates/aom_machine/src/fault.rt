@@ -1,0 +1,27 @@
+//! Why a machine does not boot.
+ghost use Rattle.std.specs.Prelude.{◌≡◌};
+ghost use Rattle.aom_machine.specs.Standing.{fault_number};
+
+use std::alloc::AllocError;
+use thiserror::Error;
+
+#[derive(Clone, Copy, PartialEq, Eq, Debug, Error)]
+pub enum BootFault {
+    /// There are fewer natives than the image names.
+    #[error("boot 1")]
+    TooFewNatives,
+    #[error("boot 2")]
+    OutOfMemory,
+}
+
+impl BootFault {
+    /// The number by which it is printed.
+    pub fn number(self) -> u8
+        ensures { result ≡ fault_number self }
+    {
+        match self {
+            BootFault::TooFewNatives => 1,
+            BootFault::OutOfMemory => 2,
+        }
+    }
+}

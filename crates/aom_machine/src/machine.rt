@@ -1,0 +1,73 @@
+//! A machine and the natives beside it.
+ghost use Rattle.std.specs.Prelude.{ℕ, ℤ, ◌≡◌, ◌<◌, ◌≤◌, ◌+◌, ◌^◌, ◌↔◌, IfErr, IfOk, IfSome, map, option_map, length, suc, true, false, None, Some};
+ghost use Rattle.aom_exec.specs.Steps.{progress, rank, timers};
+ghost use Rattle.aom_exec.specs.declared.progress.Progress.TheVariants.{Running, Turned};
+ghost use Rattle.aom_machine.specs.Answers.{MayHear, asked_of};
+ghost use Rattle.aom_machine.specs.Calls.{Completed, Delivered, NoneIsDue, Picked, Polled, Stands, StandsFor, SteppedOn, TakesAll, natives_of, to_poll};
+ghost use Rattle.aom_natives.specs.Owed.{OweNothing};
+ghost use Rattle.aom_natives.specs.Slots.{AllAgree, living_at};
+ghost use Rattle.aom_sound.specs.State.{State};
+ghost use Rattle.aom_sound.specs.Wanted.{wanted};
+ghost use Rattle.aom_exec.specs.Wanted.{as_wanted};
+ghost use Rattle.aom_transcript.specs.declared.event.Event.TheVariants.{Kill};
+ghost use Rattle.aom_sound.specs.World.{Cuts, Hears, first_living, Passes, Waits, boot_state};
+
+use crate::BootFault;
+use aom_budget::Accepted;
+use aom_exec::{Progress, Wanted};
+use aom_lines::Turn;
+use aom_natives::{Native, Natives};
+use aom_transcript::Event;
+use std::alloc::Global;
+
+/// What an accepted image does, and the natives that it talks to.
+#[derive(Drop)]
+pub struct Machine<'a> {
+    pub core: aom_exec::Machine<'a>,
+    pub natives: Natives,
+}
+
+impl<'a> Machine<'a> {
+    /// A machine at time 0, with main at hand, beside those natives, each of which owes nothing. It takes all the memory that the machine
+    /// will ever have. Where it does not boot, the natives come back.
+    pub fn boot(
+        alloc: Global,
+        accepted: &'a Accepted,
+        boxes: Vec<Box<dyn Native>>,
+    ) -> Result<Machine<'a>, (BootFault, Vec<Box<dyn Native>>)>
+        requires { OweNothing (λ b. (⟦<dyn Native as Native>⟧ b.vtable).owed b.value) boxes.items }
+        ensures image { IfOk result (λ m. m.core.image ≡ accepted.now) }
+        ensures stands { IfOk result (λ m. StandsFor m (boot_state accepted.now)) }
+        ensures agree { IfOk result (λ m. AllAgree (λ l. l.ids) (λ l. (⟦<dyn Native as Native>⟧ l.native.vtable).owed l.native.value) m.natives.slots.items) }
+        ensures boxes { IfOk result (λ m. map (option_map (λ l. l.native)) m.natives.slots.items ≡ map (λ b. Some b) boxes.items) }
+        ensures few { IfErr result (λ e. (e.0 ≡ BootFault.TooFewNatives) ↔ (length boxes.items < accepted.now.header.natives)) }
+        ensures back { IfErr result (λ e. e.1.items ≡ boxes.items) }
+    {
+        if boxes.len() < accepted.linked().image().header().natives as usize {
+            return Err((BootFault::TooFewNatives, boxes));
+        }
+        let Ok(core) = aom_exec::Machine::boot(alloc, accepted) else {
+            return Err((BootFault::OutOfMemory, boxes));
+        };
+        match Natives::adopt(alloc, boxes) {
+            Ok(natives) => Ok(Machine { core, natives }),
+            Err((_, boxes)) => Err((BootFault::OutOfMemory, boxes)),
+        }
+    }
+
+    /// Steps until something is written, nothing is at hand, or the next step asks something of a native. What the first step asks is
+    /// asked of its native before.
+    pub fn step_on(&mut self, turn: &mut Turn) -> Progress
+        requires agree { AllAgree (λ l. l.ids) (λ l. (⟦<dyn Native as Native>⟧ l.native.vtable).owed l.native.value) self.old.natives.slots.items }
+        requires stands { Stands self.old }
+        requires room { length turn.old.lines + 2 < turn.old.room }
+        ensures agree { AllAgree (λ l. l.ids) (λ l. (⟦<dyn Native as Native>⟧ l.native.vtable).owed l.native.value) self.new.natives.slots.items }
+        ensures image { self.new.core.image ≡ self.old.core.image }
+        ensures natives { natives_of self.new ≡ natives_of self.old }
+        ensures steps { (s : State) → StandsFor self.old s → (heard : ℤ) × MayHear (λ l. (⟦<dyn Native as Native>⟧ l.native.vtable).open_may l.native.value) (λ l. (⟦<dyn Native as Native>⟧ l.native.vtable).start_may l.native.value) (λ l. (⟦<dyn Native as Native>⟧ l.native.vtable).call_may l.native.value) self.old.natives.slots.items (asked_of self.old.core.image s) heard × SteppedOn self.old heard result turn.old turn.new self.new s }
+        ensures falls { result ≡ Running → rank self.new.core < rank self.old.core }
+    {
+        self.ask();
+        self.core.step_on(turn)
+    }
+}

@@ -1,0 +1,184 @@
+//! A native of the tests' own that answers as a counter, and what it is asked in a run.
+ghost use Rattle.std.specs.Prelude.{ℕ, ℤ, pos, negsuc, ◌≡◌, ◌≢◌, List, [], Option, None};
+ghost use Rattle.std.specs.Int.{w32, int_wrapping_add};
+
+use crate::served::{counting, serves, waits};
+use aom_main::ExitStatus;
+use aom_natives::{Counter, Native};
+use aom_pages::Answer;
+use std::cell::Cell;
+use std::rc::Rc;
+use std::test::Fail;
+
+/// How often a native was asked for what, and the sum of its events' words.
+#[derive(Clone, Copy, PartialEq, Eq, Debug, Default)]
+struct Asked {
+    opens: u32,
+    calls: u32,
+    closes: u32,
+    polls: u32,
+    events: u32,
+    words: i32,
+    drops: u32,
+}
+
+/// Answers as a counter does. What it is asked it counts outside, where it can be read once the native is gone.
+struct Tally {
+    counter: Counter,
+    asked: Rc<Cell<Asked>>,
+}
+
+impl Drop for Tally {
+    fn drop(self) {
+        let mut asked = self.asked.get();
+        asked.drops = asked.drops.saturating_add(1);
+        self.asked.set(asked);
+        let Tally {
+            counter: _,
+            asked: _,
+        } = self;
+    }
+}
+
+impl Tally {
+    fn new(asked: Rc<Cell<Asked>>) -> Tally
+        ensures { ⟦<Tally as Native>⟧.owed result ≡ [] }
+    {
+        Tally {
+            counter: Counter::new(),
+            asked,
+        }
+    }
+}
+
+impl Native for Tally {
+    ghost owed = { λ _. [] };
+
+    ghost open_may = { λ _ _ answer. answer ≡ pos 0 };
+
+    ghost start_may = { λ _ _ _ _ answer. answer ≡ negsuc 4 };
+
+    ghost call_may = { λ t _ function word answer. (function ≡ pos 0 → answer ≡ int_wrapping_add w32 t.counter.total word) × (function ≢ pos 0 → answer ≡ negsuc 4) };
+
+    ghost poll_may = { λ _ _ answer. answer ≡ None };
+
+    fn open(&mut self, id: u32) -> i32 {
+        let mut asked = self.asked.get();
+        asked.opens = asked.opens.saturating_add(1);
+        self.asked.set(asked);
+        self.counter.open(id)
+    }
+
+    fn start(&mut self, id: u32, function: i32, word: i32) -> i32 {
+        self.counter.start(id, function, word)
+    }
+
+    fn call(&mut self, id: u32, function: i32, word: i32) -> i32 {
+        let mut asked = self.asked.get();
+        asked.calls = asked.calls.saturating_add(1);
+        self.asked.set(asked);
+        self.counter.call(id, function, word)
+    }
+
+    fn cancel(&mut self, id: u32) {
+        self.counter.cancel(id);
+    }
+
+    fn poll(&mut self, now: u64) -> Option<(u32, i32)> {
+        let mut asked = self.asked.get();
+        asked.polls = asked.polls.saturating_add(1);
+        self.asked.set(asked);
+        self.counter.poll(now)
+    }
+
+    fn event(&mut self, word: i32) {
+        let mut asked = self.asked.get();
+        asked.events = asked.events.saturating_add(1);
+        asked.words = asked.words.wrapping_add(word);
+        self.asked.set(asked);
+        self.counter.event(word);
+    }
+
+    fn close(&mut self, id: u32) {
+        let mut asked = self.asked.get();
+        asked.closes = asked.closes.saturating_add(1);
+        self.asked.set(asked);
+        self.counter.close(id);
+    }
+}
+
+#[test]
+fn a_box_is_asked_once_for_each_call(rt: HostRuntime) -> Result<(), Fail> {
+    let alloc = rt.alloc();
+    let asked = Rc::new(alloc, Cell::new(Asked::default()))?;
+    let mut boxes: Vec<Box<dyn Native>> = Vec::with_capacity(alloc, 1)?;
+    boxes.push(Box::new(alloc, Tally::new(asked.clone()?))?)?;
+    let text = counting(alloc, true)?;
+    let told = Answer::told(
+        alloc,
+        ExitStatus::Done,
+        "@0 main\nout 7\nout 14\ngone 0\nend stopped cells 0\n",
+        "",
+    )?;
+    assert_eq!(rt; serves(alloc, text.as_str(), "", boxes)?, told);
+    let once = Asked {
+        opens: 1,
+        calls: 2,
+        closes: 1,
+        polls: 0,
+        events: 0,
+        words: 0,
+        drops: 1,
+    };
+    assert_eq!(rt; asked.get(), once);
+    Ok(())
+}
+
+/// The turn after main, and the one to which time passes, which is the last.
+#[test]
+fn a_box_is_polled_once_in_each_turn(rt: HostRuntime) -> Result<(), Fail> {
+    let alloc = rt.alloc();
+    let asked = Rc::new(alloc, Cell::new(Asked::default()))?;
+    let mut boxes: Vec<Box<dyn Native>> = Vec::with_capacity(alloc, 1)?;
+    boxes.push(Box::new(alloc, Tally::new(asked.clone()?))?)?;
+    let text = counting(alloc, false)?;
+    let told = waits(alloc, "@0 main\nout 7\nout 14\nend waiting cells 1\n")?;
+    assert_eq!(rt; serves(alloc, text.as_str(), "5 event 1 3", boxes)?, told);
+    let twice = Asked {
+        opens: 1,
+        calls: 2,
+        closes: 0,
+        polls: 2,
+        events: 0,
+        words: 0,
+        drops: 1,
+    };
+    assert_eq!(rt; asked.get(), twice);
+    Ok(())
+}
+
+#[test]
+fn an_event_reaches_its_box(rt: HostRuntime) -> Result<(), Fail> {
+    let alloc = rt.alloc();
+    let asked = Rc::new(alloc, Cell::new(Asked::default()))?;
+    let mut boxes: Vec<Box<dyn Native>> = Vec::with_capacity(alloc, 1)?;
+    boxes.push(Box::new(alloc, Tally::new(asked.clone()?))?)?;
+    let text = counting(alloc, false)?;
+    let told = waits(
+        alloc,
+        "@0 main\nout 7\nout 14\nkilled 0\nend waiting cells 1\n",
+    )?;
+    let script = "0 event 0 3\n5 event 0 40\n5 event 1 500\n6 kill 0\n7 event 0 6000";
+    assert_eq!(rt; serves(alloc, text.as_str(), script, boxes)?, told);
+    let reached = Asked {
+        opens: 1,
+        calls: 2,
+        closes: 0,
+        polls: 2,
+        events: 2,
+        words: 43,
+        drops: 1,
+    };
+    assert_eq!(rt; asked.get(), reached);
+    Ok(())
+}

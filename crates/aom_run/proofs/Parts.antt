@@ -1,0 +1,73 @@
+-- What a part of a turn leaves as it was, and how a run goes on by it.
+use Rattle.std.proofs.Common.{◌≡◌, ◌≤◌, ℕ, suc, Bool, true, false, List, [], ◌∷◌, ◌++◌, Option, Some, None, length, ap, arith, cond, subst, sym, refl, ◌∙◌}
+use Rattle.std.specs.Prelude.{nat_lt, not, ◌&&◌}
+use Rattle.aom_image.specs.Image.{Image}
+use Rattle.aom_lines.specs.Turn.{Turn}
+use Rattle.aom_sound.proofs.Guarded.{goes_same, guarded_goes}
+use Rattle.aom_sound.specs.Enlisted.{completed_with, recorded}
+use Rattle.aom_sound.specs.Natives.{is_dead, is_outstanding_at}
+use Rattle.aom_sound.specs.Places.{Cell, Object}
+use Rattle.aom_sound.specs.State.{CompletedTwice, Goes, State}
+use Rattle.aom_sound.specs.World.{AnswersWell, Completes, Completion, Hears, IsBetween, Kills, Outside, Polls, Reaches, Turning, answered_by, cell_at, delivers, lives, past_native, turned, turning, turns, with_request, written_by}
+use Rattle.aom_transcript.specs.declared.event.Event.{Event}
+use Rattle.aom_transcript.specs.declared.event.Event.TheVariants.{Kill, Tell}
+use Rattle.aom_transcript.specs.declared.line.Line.{Line}
+
+pub no_turn : Turn
+no_turn = record { lines = []; refused = []; room = 0 }
+
+pub still_between : (s u : State) → u.tasks ≡ s.tasks → u.rest.ended ≡ s.rest.ended → IsBetween s → IsBetween u
+still_between s u tasks ended between = record { idle = tasks ∙ between.idle; going = ended ∙ between.going }
+
+-- a timer completes a request
+pub completed_same : (p : Image) (s u : State) (o : Object) → turned p s (Completes o) ≡ Goes u → (u.tasks ≡ s.tasks) × (u.rest ≡ s.rest)
+completed_same p s u o goes = let same = sym (goes_same _ u goes) in (ap (λ (v : State). v.tasks) same, ap (λ (v : State). v.rest) same)
+
+-- an event is delivered
+pub delivered_same : (p : Image) (outside : Outside) (s u : State) (event : Event) → turned p s (delivers outside s event) ≡ Goes u → (u.tasks ≡ s.tasks) × (u.rest ≡ record s.rest { delivered = suc s.rest.delivered })
+delivered_same p outside s u (Tell n word) goes = let same = sym (goes_same _ u goes) in (ap (λ (v : State). v.tasks) same, ap (λ (v : State). v.rest) same)
+delivered_same p outside s u (Kill n) goes = go (lives outside s n) goes
+  where
+    go : (b : Bool) → turned p s (cond b (Kills n) Hears) ≡ Goes u → (u.tasks ≡ s.tasks) × (u.rest ≡ record s.rest { delivered = suc s.rest.delivered })
+    go true goes = let same = sym (goes_same _ u goes) in (ap (λ (v : State). v.tasks) same, ap (λ (v : State). v.rest) same)
+    go false goes = let same = sym (goes_same _ u goes) in (ap (λ (v : State). v.tasks) same, ap (λ (v : State). v.rest) same)
+
+-- by the number of natives alone
+pub delivers_alike : (one other : Outside) → one.natives ≡ other.natives → (s : State) (event : Event) → delivers one s event ≡ delivers other s event
+delivers_alike one other same s (Tell n word) = refl
+delivers_alike one other same s (Kill n) = ap (λ k. cond (nat_lt n k && not (is_dead s.killed n)) (Kills n) Hears) same
+
+-- no answer is heard by that, and one line is written at most
+pub delivers_well : (p : Image) (outside : Outside) (s : State) (event : Event) → AnswersWell p s (delivers outside s event) × (length (written_by s (delivers outside s event)) ≤ 1)
+delivers_well p outside s (Tell n word) = (tt, omega arith)
+delivers_well p outside s (Kill n) = go (lives outside s n)
+  where
+    go : (b : Bool) → AnswersWell p s (cond b (Kills n) Hears) × (length (written_by s (cond b (Kills n) Hears)) ≤ 1)
+    go true = (tt, omega arith)
+    go false = (tt, omega arith)
+
+-- a native is polled
+pub polled_same : (p : Image) (s u : State) (n : ℕ) (answer : Option Completion) → turned p s (Polls n answer) ≡ Goes u → (u.tasks ≡ s.tasks) × (u.rest ≡ record s.rest { polled = suc n })
+polled_same p s u n None goes = let same = sym (goes_same _ u goes) in (ap (λ (v : State). v.tasks) same, ap (λ (v : State). v.rest) same)
+polled_same p s u n (Some a) goes = go (cell_at s.cells a.cell) goes
+  where
+    go : (c : Option Cell) → answered_by p n c a.code s ≡ Goes u → (u.tasks ≡ s.tasks) × (u.rest ≡ record s.rest { polled = suc n })
+    go None goes = absurd cc
+    go (Some c) goes =
+        let same : u ≡ past_native n (record s { cells = with_request (completed_with (recorded a.code)) c.object s.cells }) =
+        sym (guarded_goes ((is_outstanding_at p n c, CompletedTwice) ∷ []) (past_native n (record s { cells = with_request (completed_with (recorded a.code)) c.object s.cells })) u goes) in
+        (ap (λ (v : State). v.tasks) same, ap (λ (v : State). v.rest) same)
+
+-- ---- a run goes on
+
+-- by a part that hears no native
+pub turns_by : (p : Image) (outside : Outside) (from : State) (lines : List Line) (s u : State) (x : Turning)
+    → Reaches p outside from lines s → IsBetween s → turning outside None s ≡ x → AnswersWell p s x → turned p s x ≡ Goes u → Reaches p outside from (lines ++ written_by s x) u
+turns_by p outside from lines s u x r between is owed goes =
+    subst (λ k. Reaches p outside from (lines ++ written_by s k) u) is (turns None r between (subst (λ k. AnswersWell p s k) (sym is) owed) (ap (turned p s) is ∙ goes))
+
+-- by a poll, which writes nothing
+pub polls_by : (p : Image) (outside : Outside) (from s u : State) (n : ℕ) (answer : Option Completion)
+    → Reaches p outside from [] s → IsBetween s → ((other : Option Completion) → turning outside other s ≡ Polls n other) → AnswersWell p s (Polls n answer) → turned p s (Polls n answer) ≡ Goes u → Reaches p outside from [] u
+polls_by p outside from s u n answer r between is owed goes =
+    subst (λ k. Reaches p outside from (written_by s k) u) (is None) (turns answer r between (subst (λ k. AnswersWell p s k) (sym (is answer)) owed) (ap (turned p s) (is answer) ∙ goes))

@@ -1,0 +1,254 @@
+-- The machine rests between dispatches, with all that is due by now settled: an object is dispatched, or time passes, or the run ends.
+use Rattle.std.proofs.Common.{◌≡◌, ◌⊎◌, inl, inr, ◌<◌, ◌≤◌, ◌-◌, ℕ, min, Bool, true, false, List, [], Option, Some, None, length, ap, arith, refl, subst, sym, ◌∙◌}
+use Rattle.std.proofs.lemmas.Bool.{cases_lt}
+use Rattle.aom_exec.specs.declared.progress.Progress.TheVariants.{Turned}
+use Rattle.aom_exec.specs.Steps.{progress}
+use Rattle.aom_image.specs.declared.method.Thing.{Thing}
+use Rattle.aom_image.specs.declared.method.Thing.TheVariants.{Message, Object as An_object_of}
+use Rattle.aom_lines.specs.Turn.{Turn}
+use Rattle.aom_machine.specs.Calls.{NoneIsDue, Picked, Stands, StandsFor, Takes, TakesAll, natives_of}
+use Rattle.aom_machine.specs.declared.machine.Machine.{Machine}
+use Rattle.aom_sound.proofs.Counting.{dispatches_are_counted}
+use Rattle.aom_sound.proofs.Guarded.{goes_same}
+use Rattle.aom_sound.specs.Places.{Object}
+use Rattle.aom_sound.specs.State.{Goes, State}
+use Rattle.aom_sound.specs.World.{AnswersWell, Cuts, IsBetween, Outside, Passes, Picks, Reaches, Timed, Turning, Waits, begins, due_of, event_at, first_due, first_living, has_signal, nearer, next_event, next_native, next_time, run_line, time_of, turned, turning, written_by}
+use Rattle.aom_transcript.specs.declared.line.Ending.TheVariants.{Limit, Waiting}
+use Rattle.aom_transcript.specs.declared.event.TimedEvent.{TimedEvent}
+use Rattle.aom_endings.proofs.Spending.{picked_pays}
+use Rattle.aom_run.proofs.Between.{none_now, settles_both, stands_settled, tells_after, turned_far}
+use Rattle.aom_run.proofs.Parts.{no_turn, still_between, turns_by}
+use Rattle.aom_run.proofs.Turnings.{NoneCome, cuts_so, passes_so, picks_so, waits_so}
+use Rattle.aom_run.specs.Turns.{AllPolled, IsLate, NoneHasCome, Settles, TakesTurns, TellsEnd, hearing, to_come}
+
+-- the nearer of two times is one of them
+nearer_is : (a b : Option ℕ) (time : ℕ) → nearer a b ≡ Some time → ((x : ℕ) × (a ≡ Some x) × (x ≤ time)) ⊎ ((x : ℕ) × (b ≡ Some x) × (x ≤ time))
+nearer_is None None time e = cc
+nearer_is None (Some b) time e = let same : b ≡ time = cc in inr (b, refl, omega (arith, same))
+nearer_is (Some a) None time e = let same : a ≡ time = cc in inl (a, refl, omega (arith, same))
+nearer_is (Some a) (Some b) time e = let same : min a b ≡ time = cc in go (cases_lt a b) same
+  where
+    go : (a < b) ⊎ (b ≤ a) → min a b ≡ time → ((x : ℕ) × (Some a ≡ Some x) × (x ≤ time)) ⊎ ((x : ℕ) × (Some b ≡ Some x) × (x ≤ time))
+    go (inl less) same = inl (a, refl, omega (arith, less, same))
+    go (inr most) same = inr (b, refl, omega (arith, most, same))
+
+due_is : (o : Option Timed) (x : ℕ) → due_of o ≡ Some x → (t : Timed) × (o ≡ Some t) × (t.timer.due ≡ x)
+due_is None x e = cc
+due_is (Some t) x e = (t, refl, cc)
+
+time_is : (o : Option TimedEvent) (x : ℕ) → time_of o ≡ Some x → (e : TimedEvent) × (o ≡ Some e) × (e.time ≡ x)
+time_is None x e = cc
+time_is (Some t) x e = (t, refl, cc)
+
+module _ {X : Type 0} {B : X → Type 0} where
+  -- ---- turns that dispatch nothing
+
+  -- there may be more dispatches
+  abbrev pub Below : Machine X B → ℕ → Type 0
+  Below m limit = m.core.parts.rest.dispatches < limit
+
+  below_so : (m : Machine X B) (limit : ℕ) (s : State) → StandsFor m s → Below m limit → s.rest.dispatches < limit
+  below_so m limit s stands below = subst (λ r. r.dispatches < limit) stands.stands.agrees.rest below
+
+  -- a native's end is told
+  pub ends_told : (old new : Machine X B) (events : List TimedEvent) (refused : List ℕ) (limit : ℕ) (told now : Turn) → Below old limit → TellsEnd events old told now new → TakesTurns old (hearing refused limit (natives_of old) events) None told now new
+  ends_told old new events refused limit told now below tells s stands =
+      let x = tells s stands in
+      let most = below_so old limit s stands below in
+      (x.0, x.1, x.2 refused limit most, x.3, (x.4, most, x.5, inr x.6), x.7)
+
+  -- the machine is between dispatches, there may be more of them, nothing is due, nothing has come, and all natives are polled
+  pub record Rests (old : Machine X B) (events : List TimedEvent) (limit : ℕ) (m : Machine X B) : Type 0 where
+    pub below : Below old limit
+    pub far : Settles events old m
+    pub stands : Stands m
+    pub between : progress m.core ≡ Turned
+    pub none_due : NoneIsDue m
+    pub none_come : NoneHasCome events m
+    pub polled : AllPolled m
+    pub image : m.core.image ≡ old.core.image
+    pub natives : natives_of m ≡ natives_of old
+
+  -- where nothing signals nothing changes
+  pub none_picked : {events : List TimedEvent} {limit : ℕ} (old m new : Machine X B) (told now : Turn) (result : Bool) → Rests old events limit m → result ≡ false → Picked m result told now new
+      → Rests old events limit new × (now ≡ told) × ((s : State) → StandsFor new s → has_signal s.cells ≡ false) × (new ≡ m)
+  none_picked {events} {limit} old m new told now result rests none picked =
+      let it = subst (λ b. Picked m b told now new) none picked in
+      (subst (λ x. Rests old events limit x) (sym it.0) rests, it.1, λ s stands. it.2 s (subst (λ x. StandsFor x s) it.0 stands), it.0)
+
+  module _ (old m : Machine X B) (events : List TimedEvent) (refused : List ℕ) (limit : ℕ) (rests : Rests old events limit m) where
+    abbrev outside : Outside
+    outside = hearing refused limit (natives_of old) events
+
+    still_below : (s : State) (stands : StandsFor old s) → (rests.far s stands).0.rest.dispatches < limit
+    still_below s stands = subst (λ n. n < limit) (sym (rests.far s stands).2) (below_so old limit s stands rests.below)
+
+    early : (s : State) → StandsFor m s → NoneCome outside s
+    early s stands = none_now events refused limit m rests.none_come s stands
+
+    all_polled : (s : State) → StandsFor m s → next_native outside s ≡ None
+    all_polled s stands = ap (λ n. first_living s.killed (n - s.rest.polled) s.rest.polled) (sym rests.natives) ∙ rests.polled s stands
+
+    -- a part of a turn
+    one_part : (s : State) (stands : StandsFor old s) (x : Turning) (u : State) → turning outside None (rests.far s stands).0 ≡ x → AnswersWell old.core.image (rests.far s stands).0 x → IsBetween (rests.far s stands).0
+        → turned m.core.image (rests.far s stands).0 x ≡ Goes u → Reaches old.core.image outside s (written_by (rests.far s stands).0 x) u
+    one_part s stands x u is owed between goes =
+        let w = rests.far s stands in
+        turns_by old.core.image outside s [] w.0 u x (w.1 refused limit (below_so old limit s stands rests.below)) between is owed (subst (λ q. turned q w.0 x ≡ Goes u) rests.image goes)
+
+    one_line : (o : Object) (s : State) → length (run_line s o) ≤ 1
+    one_line o s = go o.thing refl
+      where
+        go : (t : Thing) → o.thing ≡ t → length (run_line s o) ≤ 1
+        go (An_object_of c) is = rw is (omega arith)
+        go Message is = rw is (omega arith)
+
+    -- an object is dispatched
+    pub dispatches_one : (told now : Turn) (new : Machine X B) → Picked m true told now new → TakesTurns old outside None told now new
+    dispatches_one told now new picked s stands =
+        let w = rests.far s stands in
+        let x = picked w.0 w.4 in
+        let t = x.3 in
+        let is = picks_so outside w.0 (still_below s stands) (rests.none_due w.0 w.4.stands) (early w.0 w.4) (all_polled w.0 w.4) x.0 x.2 x.1 in
+        let same = dispatches_are_counted.turns m.core.image outside None w.0 t.state (ap (turned m.core.image w.0) is ∙ t.goes) in (
+          run_line w.0 x.0.seat.object,
+          t.state,
+          one_part s stands (Picks x.0.seat) t.state is tt t.between t.goes,
+          t.lines,
+          (one_line x.0.seat.object w.0, below_so old limit s stands rests.below, same ∙ w.2, inl (picked_pays m.core.image w.0 t.state x.0.seat t.goes)),
+          t.stands,
+        )
+
+    module _ (quiet : (s : State) → StandsFor m s → has_signal s.cells ≡ false) (next : Option ℕ) (told_so : (s : State) → StandsFor m s → next ≡ next_time outside s) where
+      -- nothing comes any more, and the run is over
+      pub waits_on : next ≡ None → (told : Turn) (new : Machine X B) → TakesAll m Waits new → TakesTurns old outside (Some Waiting) told told new
+      waits_on e told new takes s stands =
+          let w = rests.far s stands in
+          let t = takes told w.0 w.4 in
+          let is = waits_so outside w.0 (still_below s stands) (rests.none_due w.0 w.4.stands) (early w.0 w.4) (all_polled w.0 w.4) (quiet w.0 w.4) (sym (told_so w.0 w.4) ∙ e) in
+          ([], t.state, one_part s stands Waits t.state is tt t.between t.goes, t.lines, (refl, ap (λ (v : State). v.rest.ended) (sym (goes_same _ t.state t.goes))), t.stands)
+
+      -- time passes
+      module _ (time : ℕ) (e : next ≡ Some time) (passed : Machine X B) (again : passed.core.image ≡ m.core.image) (takes : TakesAll m (Passes time) passed) where
+        at_time : (s : State) (stands : StandsFor m s) → Takes m s (Passes time) no_turn no_turn passed
+        at_time s stands = takes no_turn s stands
+
+        pub passes_on : Settles events old passed
+        passes_on s stands =
+            let w = rests.far s stands in
+            let t = at_time w.0 w.4 in
+            let on : (refused : List ℕ) (limit : ℕ) → s.rest.dispatches < limit → Reaches old.core.image (hearing refused limit (natives_of old) events) s [] t.state =
+            λ others most below.
+            let still : w.0.rest.dispatches < most = subst (λ n. n < most) (sym w.2) below in
+            let is = passes_so (hearing others most (natives_of old) events) w.0 still (rests.none_due w.0 w.4.stands) (early w.0 w.4) (all_polled w.0 w.4) (quiet w.0 w.4) time (sym (told_so w.0 w.4) ∙ e) in
+            turns_by old.core.image (hearing others most (natives_of old) events) s [] w.0 t.state (Passes time) (w.1 others most below) t.between is tt (subst (λ q. turned q w.0 (Passes time) ≡ Goes t.state) rests.image t.goes) in
+            let same = sym (goes_same _ t.state t.goes) in
+            let before = w.3 in
+            let kept = ap (λ (v : State). v.rest.delivered) same in
+            (t.state, on, ap (λ (v : State). v.rest.dispatches) same ∙ w.2, omega (arith, before, kept), t.stands)
+
+        pub passed_stands : Stands passed
+        passed_stands = let t = at_time rests.stands.0 rests.stands.1 in (t.state, t.stands)
+
+        pub passed_far : progress passed.core ≡ Turned
+        passed_far =
+            let t = at_time rests.stands.0 rests.stands.1 in
+            let same = sym (goes_same _ t.state t.goes) in
+            turned_far passed t.state t.stands (still_between rests.stands.0 t.state (ap (λ (v : State). v.tasks) same) (ap (λ (v : State). v.rest.ended) same) t.between)
+
+        -- no event is delivered by that
+        pub passed_to_come : to_come events passed ≡ to_come events m
+        passed_to_come =
+            let t = at_time rests.stands.0 rests.stands.1 in
+            let same = ap (λ (v : State). v.rest.delivered) (sym (goes_same _ t.state t.goes)) in
+            let one = ap (λ r. r.delivered) t.stands.stands.agrees.rest in
+            let two = ap (λ r. r.delivered) rests.stands.1.stands.agrees.rest in
+            ap (λ n. length events - n) (one ∙ same ∙ sym two)
+
+        -- what it passes to has come then
+        pub passed_late : IsLate events passed
+        passed_late = go (nearer_is (due_of (first_due s.cells)) (time_of (next_event outside s)) time (sym (told_so s rests.stands.1) ∙ e))
+          where
+            s : State
+            s = rests.stands.0
+
+            t : Takes m s (Passes time) no_turn no_turn passed
+            t = at_time s rests.stands.1
+
+            same : t.state ≡ record s { rest = record s.rest { clock = time; polled = 0 } }
+            same = sym (goes_same _ t.state t.goes)
+
+            rest : passed.core.parts.rest ≡ record s.rest { clock = time; polled = 0 }
+            rest = t.stands.stands.agrees.rest ∙ ap (λ (v : State). v.rest) same
+
+            go : ((x : ℕ) × (due_of (first_due s.cells) ≡ Some x) × (x ≤ time)) ⊎ ((x : ℕ) × (time_of (next_event outside s) ≡ Some x) × (x ≤ time)) → IsLate events passed
+            go (inl due) =
+                let x = due_is (first_due s.cells) due.0 due.1 in
+                let at = x.2 in
+                let by = due.2 in
+                let clock = ap (λ (v : State). v.rest.clock) same in
+                inl (t.state, t.stands, (x.0, ap (λ (v : State). first_due v.cells) same ∙ x.1, omega (arith, at, by, clock)))
+            go (inr come) =
+                let x = time_is (next_event outside s) come.0 come.1 in
+                let at = x.2 in
+                let by = come.2 in
+                let clock = ap (λ r. r.clock) rest in
+                inr (x.0, ap (λ r. event_at events r.delivered) rest ∙ x.1, omega (arith, at, by, clock))
+
+        module _ (all : natives_of passed ≡ natives_of m) (new : Machine X B) where
+          -- a native is killed then
+          pub tells_on : (told now : Turn) → TellsEnd events passed told now new → TakesTurns old outside None told now new
+          tells_on told now tells = ends_told old new events refused limit told now rests.below (tells_after events old passed (again ∙ rests.image) (all ∙ rests.natives) passes_on told now new tells)
+
+          -- or all that is due then is settled
+          pub rests_on : Settles events passed new → progress new.core ≡ Turned → NoneIsDue new → NoneHasCome events new → AllPolled new → new.core.image ≡ passed.core.image → natives_of new ≡ natives_of passed → Rests old events limit new
+          rests_on settled between none_due none_come polled same count = record {
+            below = rests.below;
+            far = settles_both events old passed (again ∙ rests.image) (all ∙ rests.natives) passes_on new settled;
+            stands = stands_settled events passed new settled passed_stands;
+            between = between;
+            none_due = none_due;
+            none_come = none_come;
+            polled = polled;
+            image = same ∙ again ∙ rests.image;
+            natives = count ∙ all ∙ rests.natives;
+          }
+
+      -- time does not go back
+      pub no_earlier : (time : ℕ) → next ≡ Some time → m.core.parts.rest.clock ≤ time
+      no_earlier time e = go (nearest (due_of (first_due s.cells)) (time_of (next_event outside s)) time (sym (told_so s rests.stands.1) ∙ e))
+        where
+          s : State
+          s = rests.stands.0
+
+          clock : m.core.parts.rest.clock ≡ s.rest.clock
+          clock = ap (λ r. r.clock) rests.stands.1.stands.agrees.rest
+
+          nearest : (a b : Option ℕ) (time : ℕ) → nearer a b ≡ Some time → (a ≡ Some time) ⊎ (b ≡ Some time)
+          nearest None b time e = inr e
+          nearest (Some a) None time e = inl e
+          nearest (Some a) (Some b) time e = let same : min a b ≡ time = cc in by_less (cases_lt a b) same
+            where
+              by_less : (a < b) ⊎ (b ≤ a) → min a b ≡ time → (Some a ≡ Some time) ⊎ (Some b ≡ Some time)
+              by_less (inl less) same = inl (ap Some (let it : a ≡ time = omega (arith, less, same) in it))
+              by_less (inr most) same = inr (ap Some (let it : b ≡ time = omega (arith, most, same) in it))
+
+          go : (due_of (first_due s.cells) ≡ Some time) ⊎ (time_of (next_event outside s) ≡ Some time) → m.core.parts.rest.clock ≤ time
+          go (inl due) =
+              let x = due_is (first_due s.cells) time due in
+              let early = rests.none_due s rests.stands.1.stands x.0 x.1 in
+              let at = x.2 in
+              omega (arith, early, at, clock)
+          go (inr come) =
+              let x = time_is (next_event outside s) time come in
+              let early = early s rests.stands.1 x.0 x.1 in
+              let at = x.2 in
+              omega (arith, early, at, clock)
+
+  -- ---- the limit
+
+  pub limit_cuts : (old : Machine X B) (outside : Outside) → outside.limit ≤ old.core.parts.rest.dispatches → (told : Turn) (new : Machine X B) → TakesAll old Cuts new → TakesTurns old outside (Some Limit) told told new
+  limit_cuts old outside at told new takes s stands =
+      let t = takes told s stands in
+      let is = cuts_so outside s (subst (λ r. outside.limit ≤ r.dispatches) stands.stands.agrees.rest at) in
+      ([], t.state, turns_by old.core.image outside s [] s t.state Cuts begins t.between is tt t.goes, t.lines, (refl, ap (λ (v : State). v.rest.ended) (sym (goes_same _ t.state t.goes))), t.stands)

@@ -1,0 +1,72 @@
+"""Runs rt ci over one copy of the repository, and beside it the must-fail edits over another."""
+
+import os
+import re
+import shutil
+import subprocess
+import threading
+import time
+
+from following import Following
+from house import House
+from lanes import Lanes
+from trial import Trial
+from verdicts import Verdicts
+
+
+def knows_anew():
+    """Whether this toolchain's rt ci keeps what it has proved, so that it can be asked to prove all."""
+    said = subprocess.run(["rt", "help"], stdin=subprocess.DEVNULL, stdout=subprocess.PIPE, stderr=subprocess.STDOUT, text=True)
+    return "--anew" in said.stdout
+
+
+class Proofs:
+    """A run of rt ci over a copy without must-fail edits: what passed and failed, and how long it took."""
+
+    def __init__(self, top, jobs, anew):
+        self.top, self.jobs, self.anew = top, jobs, anew
+        self.passed, self.failed, self.seconds = 0, 1, 0.0
+
+    def run(self, hear):
+        """Runs it, and hands on each line that it says."""
+        start, last = time.monotonic(), ""
+        for name in os.listdir(f"{self.top}/crates"):
+            shutil.rmtree(f"{self.top}/crates/{name}/must-fail", ignore_errors=True)
+        how = {"stdin": subprocess.DEVNULL, "stdout": subprocess.PIPE, "stderr": subprocess.STDOUT, "text": True, "errors": "replace"}
+        words = ["rt", "ci", *(["--anew"] if self.anew and knows_anew() else [])]
+        with subprocess.Popen(words, cwd=self.top, env={**os.environ, "RT_JOBS": str(self.jobs)}, **how) as ran:
+            for line in ran.stdout:
+                last = line.rstrip("\n")
+                hear(last)
+        counts = re.fullmatch(r"(\d+) passed, (\d+) failed", last)
+        if counts:
+            self.passed, self.failed = int(counts[1]), int(counts[2])
+        if ran.returncode and not self.failed:
+            self.failed = 1
+        self.seconds = time.monotonic() - start
+
+
+def prove_and_try(place, jobs, anew, say, show, verdicts_at=None):
+    """Proves the copy `proofs` of a folder, and tries the edits of its copy `edits`, each once rt ci has proved what it stands on: the run of rt ci, and the trial. Proofs come first."""
+    house, proofs = House(f"{place}/edits"), Proofs(f"{place}/proofs", jobs, anew)
+    following = Following(house, proofs.top, Lanes(jobs, say), place)
+    trial = Trial(house, list(house.direct), following, place, say, Verdicts(house, verdicts_at, anew))
+    trial.begin()
+
+    def hear(line):
+        show(line)
+        following.hear(line)
+
+    def follow():
+        try:
+            proofs.run(hear)
+        finally:
+            following.end()
+
+    prover = threading.Thread(target=follow, daemon=True)
+    prover.start()
+    # a thread's niceness is handed on to the threads and processes that it makes
+    os.nice(19)
+    trial.run()
+    prover.join()
+    return proofs, trial
