@@ -1,16 +1,13 @@
 //! What a step asks of a native.
-ghost use Rattle.std.specs.Prelude.{ℕ, ℤ, ◌≡◌, ◌<◌, ◌≤◌, ◌+◌, ◌^◌, ◌↔◌, IfErr, IfOk, IfSome, map, option_map, length, suc, true, false, None, Some};
+ghost use Rattle.std.specs.Prelude.{◌≡◌, ◌<◌, Some};
 ghost use Rattle.aom_exec.specs.Steps.{StandsFor as CoreStandsFor};
-ghost use Rattle.aom_exec.specs.declared.progress.Progress.TheVariants.{Running, Turned};
+ghost use Rattle.aom_exec.specs.declared.progress.Progress.TheVariants.{Running};
 ghost use Rattle.aom_machine.specs.Answers.{Asked, MayAsk, MayHear, asked_of};
-ghost use Rattle.aom_machine.specs.Calls.{Completed, Delivered, NoneIsDue, Picked, Polled, Stands, StandsFor, SteppedOn, TakesAll, natives_of, to_poll};
-ghost use Rattle.aom_natives.specs.Owed.{OweNothing};
-ghost use Rattle.aom_natives.specs.Slots.{AllAgree, living_at};
+ghost use Rattle.aom_machine.specs.Calls.{Stands, StandsFor};
+ghost use Rattle.aom_natives.specs.Slots.{AllAgree};
 ghost use Rattle.aom_sound.specs.State.{State};
 ghost use Rattle.aom_sound.specs.Wanted.{wanted};
 ghost use Rattle.aom_exec.specs.Wanted.{as_wanted};
-ghost use Rattle.aom_transcript.specs.declared.event.Event.TheVariants.{Kill};
-ghost use Rattle.aom_sound.specs.World.{Cuts, Hears, first_living, Passes, Waits, boot_state};
 
 use crate::Machine;
 use aom_exec::{Progress, Wanted};

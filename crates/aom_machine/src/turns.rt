@@ -1,16 +1,13 @@
 //! What is done between dispatches: timers, events, polls and the pick.
-ghost use Rattle.std.specs.Prelude.{ℕ, ℤ, ◌≡◌, ◌<◌, ◌≤◌, ◌+◌, ◌-◌, ◌^◌, ◌↔◌, IfErr, IfOk, IfSome, IsSome, map, option_map, length, suc, true, false, None, Some};
-ghost use Rattle.aom_exec.specs.Steps.{progress, rank, timers};
-ghost use Rattle.aom_exec.specs.declared.progress.Progress.TheVariants.{Running, Turned};
-ghost use Rattle.aom_machine.specs.Answers.{Asked, MayAsk, MayHear};
-ghost use Rattle.aom_machine.specs.Calls.{Completed, Delivered, NoneIsDue, Picked, Polled, Stands, StandsFor, SteppedOn, TakesAll, natives_of, to_poll};
+ghost use Rattle.std.specs.Prelude.{◌≡◌, ◌<◌, ◌≤◌, ◌+◌, ◌-◌, ◌^◌, IfSome, IsSome, length, suc, true, false, None, Some};
+ghost use Rattle.aom_exec.specs.Steps.{progress, timers};
+ghost use Rattle.aom_exec.specs.declared.progress.Progress.TheVariants.{Turned};
+ghost use Rattle.aom_machine.specs.Calls.{Completed, Delivered, NoneIsDue, Picked, Polled, Stands, StandsFor, TakesAll, natives_of, to_poll};
 ghost use Rattle.aom_machine.specs.Standing.{KeptSame};
 ghost use Rattle.aom_natives.specs.Slots.{AllAgree, living_at};
 ghost use Rattle.aom_sound.specs.State.{State};
-ghost use Rattle.aom_sound.specs.Wanted.{wanted};
-ghost use Rattle.aom_exec.specs.Wanted.{as_wanted};
 ghost use Rattle.aom_transcript.specs.declared.event.Event.TheVariants.{Kill};
-ghost use Rattle.aom_sound.specs.World.{Cuts, Hears, first_living, Passes, Waits, boot_state};
+ghost use Rattle.aom_sound.specs.World.{Cuts, Hears, first_living, Passes, Waits};
 
 use crate::Machine;
 use aom_lines::Turn;

@@ -1,5 +1,5 @@
 //! A native of the tests' own that refuses every second request and completes the last first, and what a run hears of it.
-ghost use Rattle.std.specs.Prelude.{ℕ, ℤ, pos, negsuc, ◌≡◌, ◌⊎◌, List, [], Option};
+ghost use Rattle.std.specs.Prelude.{pos, negsuc, ◌≡◌, ◌⊎◌, [], Option};
 
 use crate::served::{TWO_SENSORS, serves, waits};
 use aom_natives::Native;

@@ -1,5 +1,5 @@
 //! A native of the tests' own that answers as a counter, and what it is asked in a run.
-ghost use Rattle.std.specs.Prelude.{ℕ, ℤ, pos, negsuc, ◌≡◌, ◌≢◌, List, [], Option, None};
+ghost use Rattle.std.specs.Prelude.{pos, negsuc, ◌≡◌, ◌≢◌, [], Option, None};
 ghost use Rattle.std.specs.Int.{w32, int_wrapping_add};
 
 use crate::served::{counting, serves, waits};

@@ -1,5 +1,5 @@
 //! A run, from a fresh machine to its end, with its transcript.
-ghost use Rattle.std.specs.Prelude.{ℕ, true, false, ◌≡◌, ◌+◌, ◌<◌, ◌≤◌, length, take, IfNone, IfSome};
+ghost use Rattle.std.specs.Prelude.{ℕ, true, ◌≡◌, ◌+◌, ◌<◌, ◌≤◌, length, take, IfNone, IfSome};
 ghost use Rattle.aom_sound.specs.State.{State};
 ghost use Rattle.aom_determined.specs.Laws.{IsDetermined};
 ghost use Rattle.aom_transcript.specs.Text.{ended, end_text};

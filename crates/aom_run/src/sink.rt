@@ -1,5 +1,5 @@
 //! Where a transcript goes.
-ghost use Rattle.std.specs.Prelude.{ℕ, Bool, true, false, ◌≡◌, ◌<◌, ◌≤◌, ◌+◌, List, ◌++◌, length, take, Option, Some, option_map};
+ghost use Rattle.std.specs.Prelude.{ℕ, Bool, true, false, ◌≡◌, ◌<◌, ◌≤◌, ◌+◌, List, ◌++◌, length, take, Option, option_map};
 
 /// Where text goes. It may take less than it is given, or fail.
 pub trait Sink {

@@ -1,5 +1,5 @@
 //! What comes between dispatches: timers, events, polls, picks and the passing of time.
-ghost use Rattle.std.specs.Prelude.{◌≡◌, ◌<◌, ◌≤◌, ◌+◌, true, false, List, IfNone, IfSome, length};
+ghost use Rattle.std.specs.Prelude.{◌≡◌, ◌<◌, ◌≤◌, true, false, List, IfNone, IfSome, length};
 ghost use Rattle.aom_sound.specs.State.{State};
 ghost use Rattle.aom_sound.specs.World.{due_of, event_at, first_due, nearer, time_of};
 ghost use Rattle.aom_exec.specs.Steps.{progress, timers};
