@@ -1,6 +1,5 @@
-//! A native of the tests' own that answers as a counter, and what it is asked in a run.
-ghost use Rattle.std.specs.Prelude.{pos, negsuc, ◌≡◌, ◌≢◌, [], Option, None};
-ghost use Rattle.std.specs.Int.{w32, int_wrapping_add};
+//! What a native is asked in a run.
+ghost use Rattle.std.specs.Prelude.{◌≡◌};
 
 use crate::served::{counting, serves, waits};
 use aom_main::ExitStatus;
@@ -22,73 +21,70 @@ struct Asked {
     drops: u32,
 }
 
-/// Answers as a counter does. What it is asked it counts outside, where it can be read once the native is gone.
-struct Tally {
-    counter: Counter,
+/// A native, and how often it was asked for what, which is counted outside, where it can be read once the native is gone.
+struct Tally<N: Native> {
+    native: N,
     asked: Rc<Cell<Asked>>,
 }
 
-impl Drop for Tally {
+impl<N: Native> Drop for Tally<N> {
     fn drop(self) {
         let mut asked = self.asked.get();
         asked.drops = asked.drops.saturating_add(1);
         self.asked.set(asked);
         let Tally {
-            counter: _,
+            native: _,
             asked: _,
         } = self;
     }
 }
 
-impl Tally {
-    fn new(asked: Rc<Cell<Asked>>) -> Tally
-        ensures { ⟦<Tally as Native>⟧.owed result ≡ [] }
+impl<N: Native> Tally<N> {
+    fn new(native: N, asked: Rc<Cell<Asked>>) -> Tally<N>
+        ensures { ⟦<Tally<N> as Native>⟧.owed result ≡ N.owed native }
     {
-        Tally {
-            counter: Counter::new(),
-            asked,
-        }
+        Tally { native, asked }
     }
 }
 
-impl Native for Tally {
-    ghost owed = { λ _. [] };
+impl<N: Native> Native for Tally<N> {
+    ghost owed = { λ t. N.owed t.native };
 
-    ghost open_may = { λ _ _ answer. answer ≡ pos 0 };
+    ghost open_may = { λ t. N.open_may t.native };
 
-    ghost start_may = { λ _ _ _ _ answer. answer ≡ negsuc 4 };
+    ghost start_may = { λ t. N.start_may t.native };
 
-    ghost call_may = { λ t _ function word answer. (function ≡ pos 0 → answer ≡ int_wrapping_add w32 t.counter.total word) × (function ≢ pos 0 → answer ≡ negsuc 4) };
+    ghost call_may = { λ t. N.call_may t.native };
 
-    ghost poll_may = { λ _ _ answer. answer ≡ None };
+    ghost poll_may = { λ t. N.poll_may t.native };
 
     fn open(&mut self, id: u32) -> i32 {
         let mut asked = self.asked.get();
         asked.opens = asked.opens.saturating_add(1);
         self.asked.set(asked);
-        self.counter.open(id)
+        self.native.open(id)
     }
 
     fn start(&mut self, id: u32, function: i32, word: i32) -> i32 {
-        self.counter.start(id, function, word)
+        self.native.start(id, function, word)
     }
 
     fn call(&mut self, id: u32, function: i32, word: i32) -> i32 {
         let mut asked = self.asked.get();
         asked.calls = asked.calls.saturating_add(1);
         self.asked.set(asked);
-        self.counter.call(id, function, word)
+        self.native.call(id, function, word)
     }
 
     fn cancel(&mut self, id: u32) {
-        self.counter.cancel(id);
+        self.native.cancel(id);
     }
 
     fn poll(&mut self, now: u64) -> Option<(u32, i32)> {
         let mut asked = self.asked.get();
         asked.polls = asked.polls.saturating_add(1);
         self.asked.set(asked);
-        self.counter.poll(now)
+        self.native.poll(now)
     }
 
     fn event(&mut self, word: i32) {
@@ -96,14 +92,14 @@ impl Native for Tally {
         asked.events = asked.events.saturating_add(1);
         asked.words = asked.words.wrapping_add(word);
         self.asked.set(asked);
-        self.counter.event(word);
+        self.native.event(word);
     }
 
     fn close(&mut self, id: u32) {
         let mut asked = self.asked.get();
         asked.closes = asked.closes.saturating_add(1);
         self.asked.set(asked);
-        self.counter.close(id);
+        self.native.close(id);
     }
 }
 
@@ -112,7 +108,7 @@ fn a_box_is_asked_once_for_each_call(rt: HostRuntime) -> Result<(), Fail> {
     let alloc = rt.alloc();
     let asked = Rc::new(alloc, Cell::new(Asked::default()))?;
     let mut boxes: Vec<Box<dyn Native>> = Vec::with_capacity(alloc, 1)?;
-    boxes.push(Box::new(alloc, Tally::new(asked.clone()?))?)?;
+    boxes.push(Box::new(alloc, Tally::new(Counter::new(), asked.clone()?))?)?;
     let text = counting(alloc, true)?;
     let told = Answer::told(
         alloc,
@@ -140,7 +136,7 @@ fn a_box_is_polled_once_in_each_turn(rt: HostRuntime) -> Result<(), Fail> {
     let alloc = rt.alloc();
     let asked = Rc::new(alloc, Cell::new(Asked::default()))?;
     let mut boxes: Vec<Box<dyn Native>> = Vec::with_capacity(alloc, 1)?;
-    boxes.push(Box::new(alloc, Tally::new(asked.clone()?))?)?;
+    boxes.push(Box::new(alloc, Tally::new(Counter::new(), asked.clone()?))?)?;
     let text = counting(alloc, false)?;
     let told = waits(alloc, "@0 main\nout 7\nout 14\nend waiting cells 1\n")?;
     assert_eq!(rt; serves(alloc, text.as_str(), "5 event 1 3", boxes)?, told);
@@ -162,7 +158,7 @@ fn an_event_reaches_its_box(rt: HostRuntime) -> Result<(), Fail> {
     let alloc = rt.alloc();
     let asked = Rc::new(alloc, Cell::new(Asked::default()))?;
     let mut boxes: Vec<Box<dyn Native>> = Vec::with_capacity(alloc, 1)?;
-    boxes.push(Box::new(alloc, Tally::new(asked.clone()?))?)?;
+    boxes.push(Box::new(alloc, Tally::new(Counter::new(), asked.clone()?))?)?;
     let text = counting(alloc, false)?;
     let told = waits(
         alloc,
