@@ -1,7 +1,7 @@
 //! What a step asks of a native.
 ghost use Rattle.std.specs.Prelude.{ℕ, ℤ, ◌≡◌, ◌<◌, ◌≤◌, ◌+◌, ◌^◌, ◌↔◌, IfErr, IfOk, IfSome, map, option_map, length, suc, true, false, None, Some};
-ghost use Rattle.aom_exec.specs.Steps.{StandsFor as CoreStandsFor};
-ghost use Rattle.aom_exec.specs.declared.progress.Progress.TheVariants.{Running, Turned};
+ghost use Rattle.aom_parts.specs.Stands.{StandsFor as CoreStandsFor};
+ghost use Rattle.aom_parts.specs.declared.progress.Progress.TheVariants.{Running, Turned};
 ghost use Rattle.aom_machine.specs.Answers.{Asked, MayAsk, MayHear, asked_of};
 ghost use Rattle.aom_machine.specs.Calls.{Completed, Delivered, NoneIsDue, Picked, Polled, Stands, StandsFor, SteppedOn, TakesAll, natives_of, to_poll};
 ghost use Rattle.aom_natives.specs.Owed.{OweNothing};

@@ -1,7 +1,7 @@
 //! What is done between dispatches: timers, events, polls and the pick.
 ghost use Rattle.std.specs.Prelude.{ℕ, ℤ, ◌≡◌, ◌<◌, ◌≤◌, ◌+◌, ◌-◌, ◌^◌, ◌↔◌, IfErr, IfOk, IfSome, IsSome, map, option_map, length, suc, true, false, None, Some};
 ghost use Rattle.aom_exec.specs.Steps.{progress, rank, timers};
-ghost use Rattle.aom_exec.specs.declared.progress.Progress.TheVariants.{Running, Turned};
+ghost use Rattle.aom_parts.specs.declared.progress.Progress.TheVariants.{Running, Turned};
 ghost use Rattle.aom_machine.specs.Answers.{Asked, MayAsk, MayHear};
 ghost use Rattle.aom_machine.specs.Calls.{Completed, Delivered, NoneIsDue, Picked, Polled, Stands, StandsFor, SteppedOn, TakesAll, natives_of, to_poll};
 ghost use Rattle.aom_machine.specs.Standing.{KeptSame};
