@@ -25,6 +25,6 @@ returns c = λ refused to.
     let arguments = arguments_here p c.args.method c.method-called.result.now c.method-called.ensures in
     let class = class_here p c.args.method c.method-called.result.now c.method-called.ensures in
     let does = call_does p m refused c.args.target c.args.method c.args.first to in
-    rw (c.enter.ensures, c.begin-frame.ensures, c.target-this.ensures, c.number.ensures.value, c.as_slice.ensures)
+    rw (c.enter.ensures, c.begin-frame.ensures, c.target_of-this.ensures, c.number.ensures.value, c.as_slice.ensures)
     (subst (λ k. DoesIn p refused (Call c.args.target c.args.method c.args.first to) m (with_tasks (Runs_frame (given_here c.method-called.result.now.arguments c.args.first m.stack.tasks (fresh c.args.method (target_here c.args.target k m))) ∷ on_top (passed_on c.method-called.result.now.arguments c.args.first) m.stack.tasks) m)) class
     (subst (λ xs. DoesIn p refused (Call c.args.target c.args.method c.args.first to) m (with_tasks (Runs_frame (given_here xs c.args.first m.stack.tasks (fresh c.args.method (target_here c.args.target (method_class p c.args.method) m))) ∷ on_top (passed_on xs c.args.first) m.stack.tasks) m)) arguments does))

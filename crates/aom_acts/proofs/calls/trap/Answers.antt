@@ -33,6 +33,6 @@ returns c = λ refused to.
     let arguments = arguments_here p k c.method-called.result.now c.method-called.ensures in
     let class = class_here p k c.method-called.result.now c.method-called.ensures in
     let does = trap_does p m refused c.args.target k first to in
-    rw (c.mark.ensures, c.enter_trap.ensures, c.begin-frame.ensures, c.target-this.ensures, c.number.ensures.value, c.as_slice.ensures)
+    rw (c.mark.ensures, c.enter_trap.ensures, c.begin-frame.ensures, c.target_of-this.ensures, c.number.ensures.value, c.as_slice.ensures)
     (subst (λ d. DoesIn p refused (Trap c.args.target k first to) m (with_items (Mark ∷ m.entries.items) (with_tasks (Runs_frame (given_here c.method-called.result.now.arguments first m.stack.tasks (fresh k (target_here c.args.target d m))) ∷ Is_trap ∷ on_top (passed_on c.method-called.result.now.arguments first) m.stack.tasks) m))) class
     (subst (λ xs. DoesIn p refused (Trap c.args.target k first to) m (with_items (Mark ∷ m.entries.items) (with_tasks (Runs_frame (given_here xs first m.stack.tasks (fresh k (target_here c.args.target (method_class p k) m))) ∷ Is_trap ∷ on_top (passed_on xs first) m.stack.tasks) m))) arguments does))
