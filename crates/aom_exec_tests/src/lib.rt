@@ -9,5 +9,3 @@ mod images;
 mod prices;
 #[cfg(test)]
 mod steps;
-#[cfg(test)]
-mod tellings;
