@@ -44,7 +44,9 @@ fn accepted_of(alloc: Global, text: &str) -> Option<Accepted> {
 fn outcome_of(alloc: Global, text: &str, script: &str, sink: &mut Page) -> Option<Outcome> {
     let accepted = accepted_of(alloc, text)?;
     let script = read_script(alloc, script.as_bytes()).ok()?;
-    let mut machine = Machine::boot(alloc, &accepted, Vec::new(alloc)).ok()?;
+    let Ok(mut machine) = Machine::boot(alloc, &accepted, Vec::new(alloc)) else {
+        return None;
+    };
     let mut turn = Turn::new(alloc, &accepted, Vec::new(alloc)).ok()?;
     Some(run(&mut machine, &script, &mut turn, 1, sink))
 }
