@@ -27,11 +27,11 @@ use Rattle.aom_sound.specs.State.{An_object, AtRoot, Destroy, Dispatched, Frame,
 use Rattle.aom_sound.specs.WellTyped.{Back, Caught, Fits, Gone, IsHoused, Leaves, Now, Returns, Stack, Good}
 use Rattle.aom_sound.proofs.Layers.{method_layer}
 use Rattle.aom_exec.specs.Agreement.{Agreement, AgreesInAll, FieldsAgree, NumberSays, RegistersAgree}
-use Rattle.aom_exec.specs.Agrees.{Shows, number, word_at, word_in, word_of}
-use Rattle.aom_exec.specs.Places.{value}
-use Rattle.aom_exec.specs.Steps.{Machine, StandsFor}
-use Rattle.aom_exec.specs.Waits.{AllWait, KindSays, OthersWait, Waits}
-use Rattle.aom_exec.proofs.Standing.{unnamed}
+use Rattle.aom_parts.specs.Agrees.{Shows, number, word_at, word_in, word_of}
+use Rattle.aom_parts.specs.Places.{value}
+use Rattle.aom_parts.specs.Stands.{Machine, StandsFor}
+use Rattle.aom_parts.specs.Waits.{AllWait, KindSays, OthersWait, Waits}
+use Rattle.aom_acts.proofs.Standing.{unnamed}
 use Rattle.aom_exec.proofs.Waiting.{runs_typed}
 
 -- ---- registers

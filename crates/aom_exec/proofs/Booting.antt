@@ -25,20 +25,20 @@ use Rattle.aom_prices.specs.Prices.{Prices}
 use Rattle.aom_steps.specs.Laws.{BootWithin, MovesPay}
 use Rattle.aom_sound.proofs.Standing.{boot as boots_at_traps}
 use Rattle.aom_sound.proofs.Maps.{cond_same}
-use Rattle.aom_exec.specs.declared.parts.Parts.{Parts}
-use Rattle.aom_exec.specs.Boot.{Booted}
-use Rattle.aom_exec.specs.Places.{register_in, going_in, value}
-use Rattle.aom_exec.specs.Agrees.{SameTasks, SameItems, word_in, word_at, thing_in, Agrees}
+use Rattle.aom_parts.specs.declared.parts.Parts.{Parts}
+use Rattle.aom_parts.specs.Boot.{Booted}
+use Rattle.aom_parts.specs.Places.{register_in, going_in, value}
+use Rattle.aom_parts.specs.Agrees.{SameTasks, SameItems, word_in, word_at, thing_in, Agrees}
 use Rattle.aom_exec.proofs.Affording.{affords}
-use Rattle.aom_exec.proofs.CallActs.{shows_null}
-use Rattle.aom_exec.proofs.Entries.{mark_shows_none}
+use Rattle.aom_acts.proofs.CallActs.{shows_null}
+use Rattle.aom_parts.proofs.Entries.{mark_shows_none}
 use Rattle.aom_exec.proofs.Paying.{boots_within, keeps_within}
-use Rattle.aom_exec.proofs.Rooms.{boot_room}
-use Rattle.aom_exec.proofs.Standing.{begun_frame, begun_registers}
+use Rattle.aom_acts.proofs.Rooms.{boot_room}
+use Rattle.aom_acts.proofs.Standing.{begun_frame, begun_registers}
 use Rattle.aom_exec.proofs.Waiting.{none_waits}
-use Rattle.aom_exec.specs.Steps.{Sound, StandsFor}
+use Rattle.aom_parts.specs.Stands.{Sound, StandsFor}
 use Rattle.aom_sessions.specs.Sessions.{Standing, is_open}
-use Rattle.aom_exec.proofs.CellWords.{all_same}
+use Rattle.aom_parts.proofs.CellWords.{all_same}
 use Rattle.std.proofs.lemmas.List.{length-replicate}
 
 -- three tasks, none of which has anything there

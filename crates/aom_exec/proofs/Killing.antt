@@ -23,17 +23,17 @@ use Rattle.aom_sound.specs.State.{Rest, State}
 use Rattle.aom_sound.specs.World.{Kills, heard_one, without_native}
 use Rattle.aom_steps.proofs.Pushed.{reset_same}
 use Rattle.aom_transcript.specs.declared.line.Line.TheVariants.{Killed}
-use Rattle.aom_exec.specs.declared.parts.Parts.{Parts}
-use Rattle.aom_exec.specs.declared.progress.Progress.TheVariants.{Turned}
-use Rattle.aom_exec.specs.Agrees.{Agrees, SameCells, Shows, thing_in, thing_of, word_at}
-use Rattle.aom_exec.specs.Places.{value}
-use Rattle.aom_exec.specs.Progress.{progress_by}
+use Rattle.aom_parts.specs.declared.parts.Parts.{Parts}
+use Rattle.aom_parts.specs.declared.progress.Progress.TheVariants.{Turned}
+use Rattle.aom_parts.specs.Agrees.{Agrees, SameCells, Shows, thing_in, thing_of, word_at}
+use Rattle.aom_parts.specs.Places.{value}
+use Rattle.aom_parts.specs.Progress.{progress_by}
 use Rattle.aom_exec.specs.Serving.{Bereaves, KeepsOthers, serves_class}
-use Rattle.aom_exec.specs.Steps.{Machine, Stands, StandsFor}
+use Rattle.aom_parts.specs.Stands.{Machine, Stands, StandsFor}
 use Rattle.aom_exec.specs.Turns.{Takes}
-use Rattle.aom_exec.proofs.Finding.{class_fits}
+use Rattle.aom_acts.proofs.Finding.{class_fits}
 use Rattle.aom_exec.proofs.Served.{class_told, coded, untimed}
-use Rattle.aom_exec.proofs.Sessions.{unnamed_closed}
+use Rattle.aom_parts.proofs.Sessions.{unnamed_closed}
 use Rattle.aom_exec.proofs.Timers.{timers_same}
 use Rattle.aom_exec.proofs.Turning.{machine_between, stands_as}
 

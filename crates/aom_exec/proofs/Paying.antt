@@ -14,7 +14,7 @@ use Rattle.aom_prices.specs.Prices.{Prices}
 use Rattle.aom_steps.proofs.Counted.{none_counted, steps_counted}
 use Rattle.aom_steps.specs.Laws.{BootWithin, MovesPay}
 use Rattle.aom_steps.specs.Payers.{declared_of, payer}
-use Rattle.aom_exec.specs.Steps.{KeepsWithin}
+use Rattle.aom_parts.specs.Stands.{KeepsWithin}
 
 module _ (p : Image) (t : Typing) (c : Prices) (linked : IsLinked p) (typed : IsTyped p t) (affordable : IsAffordable p t c) where
   pub keeps_within : MovesPay → (ch : Choice) (s u : State) → WellTyped p t s → step p ch s ≡ Goes u → KeepsWithin p c s → KeepsWithin p c u

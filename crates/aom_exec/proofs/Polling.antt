@@ -18,17 +18,17 @@ use Rattle.aom_sound.specs.Places.{Object, Request, named, requested}
 use Rattle.aom_sound.specs.State.{CompletedTwice, Goes, IsStuck, Rest, State}
 use Rattle.aom_sound.specs.World.{AnswersWell, Completion, Polls, answered_by, past_native, turned, with_request}
 use Rattle.aom_steps.proofs.Pushed.{asked_same}
-use Rattle.aom_exec.specs.declared.parts.Parts.{Parts}
-use Rattle.aom_exec.specs.declared.progress.Progress.TheVariants.{Turned}
-use Rattle.aom_exec.specs.Agrees.{Agrees, Shows, word_at}
-use Rattle.aom_exec.specs.Places.{value}
-use Rattle.aom_exec.specs.Progress.{progress_by}
+use Rattle.aom_parts.specs.declared.parts.Parts.{Parts}
+use Rattle.aom_parts.specs.declared.progress.Progress.TheVariants.{Turned}
+use Rattle.aom_parts.specs.Agrees.{Agrees, Shows, word_at}
+use Rattle.aom_parts.specs.Places.{value}
+use Rattle.aom_parts.specs.Progress.{progress_by}
 use Rattle.aom_exec.specs.Serving.{Finishes}
-use Rattle.aom_exec.specs.Steps.{Machine, Stands, StandsFor}
+use Rattle.aom_parts.specs.Stands.{Machine, Stands, StandsFor}
 use Rattle.aom_exec.specs.Turns.{Answers, Takes}
-use Rattle.aom_exec.proofs.CellFields.{cell_of}
+use Rattle.aom_parts.proofs.CellFields.{cell_of}
 use Rattle.aom_exec.proofs.Served.{Placed, coded, its_place, owes_in_all, pending_told, untimed}
-use Rattle.aom_exec.proofs.Sessions.{natives_asked}
+use Rattle.aom_parts.proofs.Sessions.{natives_asked}
 use Rattle.aom_exec.proofs.Timers.{timers_same}
 use Rattle.aom_exec.proofs.Turning.{alike, cells_then, machine_between, requests_asked, silent, stands_as, stands_rest}
 

@@ -19,15 +19,15 @@ use Rattle.aom_ranks.proofs.Goings.{cells_stand_or_go}
 use Rattle.aom_ranks.proofs.Ranking.{moves_lower_ranks}
 use Rattle.aom_ranks.proofs.Rounds.{worth_alike}
 use Rattle.aom_sound.specs.Places.{Elsewhere, Place, Root}
-use Rattle.aom_exec.specs.Agrees.{SameDispatch, dispatch_of}
-use Rattle.aom_exec.specs.declared.parts.Parts.{Parts}
+use Rattle.aom_parts.specs.Agrees.{SameDispatch, dispatch_of, SameFrame, SameTasks, SameItems, Agrees}
+use Rattle.aom_parts.specs.declared.parts.Parts.{Parts}
 use Rattle.aom_frames.specs.declared.dispatch.Dispatch.{Dispatch as Held_dispatch}
 use Rattle.aom_frames.specs.declared.dispatch.Dispatch.TheVariants.{Answered as One_answered, Asks as One_asks, Main, MainLeft, Object as Of_one, ObjectLeft as One_left, Root as End_of_run}
-use Rattle.aom_exec.specs.Agrees.{SameFrame, SameTasks, SameItems, Agrees}
 use Rattle.aom_exec.specs.Ranks.{ranked, operations_in, rank_of}
-use Rattle.aom_exec.specs.Steps.{Sound, Moved}
-use Rattle.aom_exec.proofs.Alike.{by_task, by_tasks, by_item, by_items}
-use Rattle.aom_exec.proofs.Values.{same_length}
+use Rattle.aom_parts.specs.Stands.{Sound}
+use Rattle.aom_acts.specs.Moves.{Moved}
+use Rattle.aom_parts.proofs.Alike.{by_task, by_tasks, by_item, by_items}
+use Rattle.aom_parts.proofs.Values.{same_length}
 use Rattle.aom_image.proofs.Given.{cons_given}
 
 -- ---- what is left of a method hangs on the number of rounds in each counter

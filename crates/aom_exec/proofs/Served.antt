@@ -24,10 +24,10 @@ use Rattle.aom_sound.specs.Places.{Cell, Object, Request, Timer, named, requeste
 use Rattle.aom_sound.specs.Requests.{Known, Suits, states_claim}
 use Rattle.aom_sound.specs.State.{State}
 use Rattle.aom_sound.specs.World.{cell_at as standing_at}
-use Rattle.aom_exec.specs.declared.parts.Parts.{Parts}
-use Rattle.aom_exec.specs.Agrees.{thing_in, thing_of}
+use Rattle.aom_parts.specs.declared.parts.Parts.{Parts}
+use Rattle.aom_parts.specs.Agrees.{thing_in, thing_of}
 use Rattle.aom_exec.specs.Serving.{serves_class}
-use Rattle.aom_exec.specs.Steps.{StandsFor}
+use Rattle.aom_parts.specs.Stands.{StandsFor}
 
 -- ---- where it stands
 

@@ -15,7 +15,7 @@ use Rattle.aom_scheduler.specs.declared.timer.Timer.{Timer as Held_timer}
 use Rattle.aom_sound.specs.Places.{Request, Timer}
 use Rattle.aom_sound.specs.State.{State}
 use Rattle.aom_sound.specs.World.{Timed, first_due, is_sooner}
-use Rattle.aom_exec.specs.Steps.{Machine, Stands, StandsFor}
+use Rattle.aom_parts.specs.Stands.{Machine, Stands, StandsFor}
 use Rattle.aom_exec.specs.Turns.{NoneDue}
 
 -- ---- one list

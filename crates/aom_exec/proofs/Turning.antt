@@ -52,26 +52,27 @@ use Rattle.aom_steps.proofs.Turns.{picking}
 use Rattle.aom_steps.specs.Left.{objects_left}
 use Rattle.aom_steps.specs.Payers as payers
 use Rattle.aom_steps.specs.Payers.{declared_of, payer, price_of}
-use Rattle.aom_exec.specs.declared.parts.Parts.{Parts}
-use Rattle.aom_exec.specs.declared.progress.Progress.TheVariants.{Turned}
-use Rattle.aom_exec.specs.Agrees.{Agrees, SameCells, SameRequests, SameTasks, Shows, seat_of, thing_in, thing_of, word_at}
-use Rattle.aom_exec.specs.Places.{going_in, register_in, value, value_in}
-use Rattle.aom_exec.specs.Progress.{progress_by}
-use Rattle.aom_exec.specs.Room.{AllRunUnder}
-use Rattle.aom_exec.specs.Steps.{KeepsWithin, Machine, Stands, StandsFor, progress}
+use Rattle.aom_parts.specs.declared.parts.Parts.{Parts}
+use Rattle.aom_parts.specs.declared.progress.Progress.TheVariants.{Turned}
+use Rattle.aom_parts.specs.Agrees.{Agrees, SameCells, SameRequests, SameTasks, Shows, seat_of, thing_in, thing_of, word_at}
+use Rattle.aom_parts.specs.Places.{going_in, register_in, value, value_in}
+use Rattle.aom_parts.specs.Progress.{progress_by}
+use Rattle.aom_parts.specs.Room.{AllRunUnder}
+use Rattle.aom_parts.specs.Stands.{KeepsWithin, Machine, Stands, StandsFor}
+use Rattle.aom_exec.specs.Steps.{progress}
 use Rattle.aom_exec.specs.Turns.{CanDispatch, Completed, Dispatches, Picked, TakesAll, running}
-use Rattle.aom_exec.specs.Waits.{OthersWait}
-use Rattle.aom_exec.proofs.Entries.{mark_shows_none, same_items_length}
-use Rattle.aom_exec.proofs.Finding.{class_fits}
-use Rattle.aom_exec.proofs.GoingActs.{fresh_value, fresh_word}
-use Rattle.aom_exec.proofs.Overs.{over_value, over_words}
+use Rattle.aom_parts.specs.Waits.{OthersWait}
+use Rattle.aom_parts.proofs.Entries.{mark_shows_none, same_items_length}
+use Rattle.aom_acts.proofs.Finding.{class_fits}
+use Rattle.aom_acts.proofs.GoingActs.{fresh_value, fresh_word}
+use Rattle.aom_parts.proofs.Overs.{over_value, over_words}
 use Rattle.aom_exec.proofs.Progressing.{between, is_as_far}
-use Rattle.aom_exec.proofs.RoomMoves.{dispatches_with_room, none_formed}
-use Rattle.aom_exec.proofs.Standing.{begun_frame}
-use Rattle.aom_exec.proofs.Stepping.{agrees_rest, room_rest, typed_rest, within_rest}
-use Rattle.aom_exec.proofs.Values.{at_depth, going_past, none_alike, register_past}
-use Rattle.aom_exec.proofs.Asking.{cells_asked}
-use Rattle.aom_exec.proofs.Sessions.{natives_asked}
+use Rattle.aom_acts.proofs.RoomMoves.{dispatches_with_room, none_formed}
+use Rattle.aom_acts.proofs.Standing.{begun_frame}
+use Rattle.aom_acts.proofs.Stepping.{agrees_rest, room_rest, typed_rest, within_rest}
+use Rattle.aom_parts.proofs.Values.{at_depth, going_past, none_alike, register_past}
+use Rattle.aom_parts.proofs.Asking.{cells_asked}
+use Rattle.aom_parts.proofs.Sessions.{natives_asked}
 
 -- ---- another request of a cell
 

@@ -43,11 +43,11 @@ use Rattle.aom_sound.specs.WellTyped.{Fits, Good, WellTyped, WordFits}
 use Rattle.aom_sound.specs.Words.{here, stored}
 use Rattle.aom_sound.specs.World.{boot_state, main_tasks}
 use Rattle.aom_sound.proofs.Layers.{method_layer}
-use Rattle.aom_exec.specs.Acts.{requested}
-use Rattle.aom_exec.specs.Waits.{AllWait, KindSays, OthersWait, Waits, while_waiting}
-use Rattle.aom_exec.proofs.Depths.{held_apart}
-use Rattle.aom_exec.proofs.Standing.{no_word}
-use Rattle.aom_exec.proofs.Stepping.{at_step, step_of_instr}
+use Rattle.aom_acts.specs.Acts.{requested}
+use Rattle.aom_parts.specs.Waits.{AllWait, KindSays, OthersWait, Waits, while_waiting}
+use Rattle.aom_parts.proofs.Depths.{held_apart}
+use Rattle.aom_acts.proofs.Standing.{no_word}
+use Rattle.aom_acts.proofs.Stepping.{at_step, step_of_instr}
 use Rattle.std.specs.Ordering.{int_eq}
 use Rattle.aom_image.specs.declared.method.Role.TheVariants.{Error as Answers}
 use Rattle.aom_sound.specs.Enlisted.{begun_cells, cancelling, ended_cells, on_request, own_request, part_of}

@@ -22,24 +22,24 @@ use Rattle.aom_sound.specs.WellTyped.{Keeps}
 use Rattle.aom_shape.specs.Needs.{AllTrue}
 use Rattle.aom_sound.specs.Words.{read}
 use Rattle.aom_frames.specs.Tasks.{Runs, method_here, place_here}
-use Rattle.aom_exec.specs.declared.parts.Parts.{Parts}
+use Rattle.aom_parts.specs.declared.parts.Parts.{Parts}
 use Rattle.aom_exec.specs.declared.wanted.Wanted.{Wanted as Held_wanted}
 use Rattle.aom_exec.specs.declared.wanted.Wanted.TheVariants.{Open, Start, Ask as Held_ask, Cancel, Close as Held_close}
-use Rattle.aom_exec.specs.Acts.{At_hand, In_going}
-use Rattle.aom_exec.specs.Acts as acts
-use Rattle.aom_exec.specs.Places.{IsDestroying, going_here}
-use Rattle.aom_exec.specs.Agrees.{home_number, thing_of}
-use Rattle.aom_exec.specs.Fields.{this}
-use Rattle.aom_exec.specs.Steps.{StandsFor}
+use Rattle.aom_acts.specs.Acts.{At_hand, In_going}
+use Rattle.aom_acts.specs.Acts as acts
+use Rattle.aom_parts.specs.Places.{IsDestroying, going_here}
+use Rattle.aom_parts.specs.Agrees.{home_number, thing_of}
+use Rattle.aom_parts.specs.Fields.{this}
+use Rattle.aom_parts.specs.Stands.{StandsFor}
 use Rattle.aom_exec.specs.Wanted.{as_wanted, wanted_of, word_here}
-use Rattle.aom_exec.proofs.FieldActs.{housed, inside_number, inside_there, this_is}
-use Rattle.aom_exec.proofs.RequestActs.{kind_same}
-use Rattle.aom_exec.proofs.Finding.{object_lives}
-use Rattle.aom_exec.proofs.GoingActs.{by_going, number_of}
-use Rattle.aom_exec.proofs.Standing.{an_open}
-use Rattle.aom_exec.proofs.Stepping.{at_step, cell_found, frame_of, going_of, met, step_of_instr}
+use Rattle.aom_acts.proofs.FieldActs.{housed, inside_number, inside_there, this_is}
+use Rattle.aom_acts.proofs.RequestActs.{kind_same}
+use Rattle.aom_acts.proofs.Finding.{object_lives}
+use Rattle.aom_acts.proofs.GoingActs.{by_going, number_of}
+use Rattle.aom_acts.proofs.Standing.{an_open}
+use Rattle.aom_acts.proofs.Stepping.{at_step, cell_found, frame_of, going_of, met, step_of_instr}
 use Rattle.aom_sound.proofs.Maps.{held_lives}
-use Rattle.aom_exec.proofs.WordActs.{word_read}
+use Rattle.aom_acts.proofs.WordActs.{word_read}
 
 both_not : (a b : Bool) → (not a && not b) ≡ not (a || b)
 both_not true b = refl

@@ -15,11 +15,11 @@ use Rattle.aom_sound.specs.Owned.{over}
 use Rattle.aom_sound.specs.Places.{Elsewhere, Entry, Field, Object, Place, Register, Root, held, named}
 use Rattle.aom_sound.specs.State.{An_object, Frame, Run, State, Task, field_place, home_holder, thing_holder}
 use Rattle.aom_verify.specs.Strongest.{IsStrongest}
-use Rattle.aom_exec.specs.declared.parts.Parts.{Parts}
-use Rattle.aom_exec.specs.Agrees.{word_at}
-use Rattle.aom_exec.specs.Places.{value}
-use Rattle.aom_exec.specs.Steps.{Machine, StandsFor}
-use Rattle.aom_exec.specs.Waits.{while_waiting}
+use Rattle.aom_parts.specs.declared.parts.Parts.{Parts}
+use Rattle.aom_parts.specs.Agrees.{word_at}
+use Rattle.aom_parts.specs.Places.{value}
+use Rattle.aom_parts.specs.Stands.{Machine, StandsFor}
+use Rattle.aom_parts.specs.Waits.{while_waiting}
 
 -- the reserved number, where nothing is owned
 pub record IsNull (n : ℕ) (o : Option Object) : Type 0 where

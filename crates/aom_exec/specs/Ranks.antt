@@ -8,7 +8,7 @@ use Rattle.aom_cleanup.specs.declared.item.Item.{Item as Held_item}
 use Rattle.aom_cleanup.specs.declared.item.Item.TheVariants.{Object as Holds_object, Operation as Holds_operation, Mark as Is_mark}
 use Rattle.aom_ranks.specs.Ranks.{tasks_rank, destructions, cell_rank}
 use Rattle.aom_sound.specs.Places.{Elsewhere, Root}
-use Rattle.aom_exec.specs.Agrees.{dispatch_of}
+use Rattle.aom_parts.specs.Agrees.{dispatch_of}
 
 -- a task, by all that its rank hangs on
 abbrev pub ranked : Held_task → Task

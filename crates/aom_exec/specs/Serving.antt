@@ -9,8 +9,8 @@ use Rattle.aom_sound.specs.Enlisted.{completed_with, recorded}
 use Rattle.aom_sound.specs.Natives.{all_bereaved, is_served_by}
 use Rattle.aom_sound.specs.Places.{in_session, requested}
 use Rattle.aom_sound.specs.State.{State}
-use Rattle.aom_exec.specs.declared.parts.Parts.{Parts}
-use Rattle.aom_exec.specs.Steps.{StandsFor}
+use Rattle.aom_parts.specs.declared.parts.Parts.{Parts}
+use Rattle.aom_parts.specs.Stands.{StandsFor}
 
 -- ---- one is polled
 

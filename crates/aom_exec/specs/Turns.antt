@@ -14,8 +14,8 @@ use Rattle.aom_sound.specs.Places.{Cell}
 use Rattle.aom_sound.specs.State.{Goes, State}
 use Rattle.aom_sound.specs.World.{Candidate, Completes, Completion, IsBetween, Picks, Timed, Turning, cell_at, first_due, first_ready, has_signal, turned, written_by}
 use Rattle.aom_lines.specs.Turn.{Turn}
-use Rattle.aom_exec.specs.declared.parts.Parts.{Parts}
-use Rattle.aom_exec.specs.Steps.{Machine, StandsFor}
+use Rattle.aom_parts.specs.declared.parts.Parts.{Parts}
+use Rattle.aom_parts.specs.Stands.{Machine, StandsFor}
 
 -- a part of a turn, with its lines, to a state that the machine then stands for
 pub record Takes (old : Machine) (s : State) (part : Turning) (told now : Turn) (new : Machine) : Type 0 where

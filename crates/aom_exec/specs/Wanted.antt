@@ -6,7 +6,7 @@ use Rattle.aom_instructions.specs.declared.instr.Instr.TheVariants.{Abort as Abo
 use Rattle.aom_frames.specs.Tasks.{register_here}
 use Rattle.aom_sessions.specs.Sessions.{is_killed, is_open}
 use Rattle.aom_sound.specs.Wanted.{Wanted, Opens, Starts, Asks, Cancels, Closes}
-use Rattle.aom_exec.specs.declared.parts.Parts.{Parts}
+use Rattle.aom_parts.specs.declared.parts.Parts.{Parts}
 use Rattle.aom_exec.specs.declared.wanted.Wanted.{Wanted as Held_wanted}
 use Rattle.aom_exec.specs.declared.wanted.Wanted.TheVariants.{Open, Start, Ask, Cancel, Close}
 

@@ -5,20 +5,21 @@ ghost use Rattle.aom_sound.specs.World.{AnswersWell, Completion, Cuts, Hears, Ki
 ghost use Rattle.aom_lines.specs.Turn.{Turn as TurnRecord};
 ghost use Rattle.aom_owed.specs.Owed.{owes};
 ghost use Rattle.aom_exec.specs.Agreement.{AgreesInAll};
-ghost use Rattle.aom_exec.specs.Steps.{StandsFor, Stepped, SteppedOn, Wants, progress, rank, timers};
+ghost use Rattle.aom_parts.specs.Stands.{StandsFor};
+ghost use Rattle.aom_exec.specs.Steps.{Stepped, SteppedOn, Wants, progress, rank, timers};
 ghost use Rattle.aom_exec.specs.Turns.{Answers, Completed, NoneDue, Picked, Takes, TakesAll};
 ghost use Rattle.aom_sessions.specs.Sessions.{is_killed};
 ghost use Rattle.aom_sound.specs.State.{State};
 ghost use Rattle.aom_sound.specs.Wanted.{wanted};
 ghost use Rattle.aom_exec.specs.Wanted.{as_wanted};
 ghost use Rattle.aom_steps.specs.Payers.{declared_of, payer};
-ghost use Rattle.aom_exec.specs.declared.progress.Progress.TheVariants.{Running, Turned};
+ghost use Rattle.aom_parts.specs.declared.progress.Progress.TheVariants.{Running, Turned};
 
-use crate::parts::Parts;
-use crate::progress::Progress;
-use crate::wanted::Wanted;
+use crate::wanted::{self, Wanted};
+use crate::{moves, serving, turns};
 use aom_budget::Accepted;
 use aom_lines::Turn;
+use aom_parts::{Parts, Progress};
 use std::alloc::{AllocError, Global};
 use std::marker::Model;
 
@@ -30,7 +31,7 @@ pub struct Machine<'a> {
 }
 
 impl<'a> Model for Machine<'a> {
-    ghost use Rattle.aom_exec.specs.Steps.{Machine as MachineRecord, Stands};
+    ghost use Rattle.aom_parts.specs.Stands.{Machine as MachineRecord, Stands};
 
     ghost Value = { MachineRecord };
 
@@ -67,7 +68,7 @@ impl<'a> Machine<'a> {
         ensures agrees { AgreesInAll self.new }
         ensures falls { result ≡ Running → rank self.new < rank self.old }
     {
-        self.parts.step(self.accepted.linked(), turn, 1)
+        moves::step(&mut self.parts, self.accepted.linked(), turn, 1)
     }
 
     /// Steps until something is written, nothing is at hand, or the next step asks something of a native. The first step alone hears one.
@@ -79,14 +80,14 @@ impl<'a> Machine<'a> {
         ensures told { result ≡ Running → (length turn.old.lines < length turn.new.lines) ⊎ Wants self.new }
         ensures falls { result ≡ Running → rank self.new < rank self.old }
     {
-        self.parts.step_on(self.accepted.linked(), turn)
+        moves::step_on(&mut self.parts, self.accepted.linked(), turn)
     }
 
     /// What the next step asks of a native, if it asks anything. The call is made before the step, which hears its answer.
     pub fn wanted(&self) -> Option<Wanted>
         ensures { (s : State) → StandsFor self.now s → wanted self.now.image s ≡ option_map as_wanted result }
     {
-        self.parts.wanted(self.accepted.linked())
+        wanted::wanted_next(&self.parts, self.accepted.linked())
     }
 
     /// A native has answered that to what the next step asks.
@@ -106,7 +107,7 @@ impl<'a> Machine<'a> {
         ensures fewer { result ≡ true → timers self.new < timers self.old }
         ensures agrees { AgreesInAll self.new }
     {
-        self.parts.due()
+        turns::due(&mut self.parts)
     }
 
     /// Between dispatches: the ready object that goes before all others is dispatched, with its line (CActiveScheduler::Start's
@@ -118,7 +119,7 @@ impl<'a> Machine<'a> {
         ensures picked { Picked self.old result turn.old turn.new self.new }
         ensures agrees { AgreesInAll self.new }
     {
-        self.parts.pick(self.accepted.linked(), turn)
+        turns::pick(&mut self.parts, self.accepted.linked(), turn)
     }
 
     /// When the timer that is due first is due.
@@ -168,7 +169,7 @@ impl<'a> Machine<'a> {
         ensures timers { timers self.new ≡ timers self.old }
         ensures agrees { AgreesInAll self.new }
     {
-        self.parts.kill(native, self.accepted.linked(), turn);
+        serving::kill(&mut self.parts, native, self.accepted.linked(), turn);
     }
 
     /// Between dispatches a native is polled: it completes the request of the cell of that number with a code, or nothing.
@@ -184,7 +185,7 @@ impl<'a> Machine<'a> {
         ensures timers { timers self.new ≡ timers self.old }
         ensures agrees { AgreesInAll self.new }
     {
-        self.parts.polled(native, completion);
+        serving::polled(&mut self.parts, native, completion);
     }
 
     /// Between dispatches, where nothing is due and nothing signals: the run is over.

@@ -1,7 +1,8 @@
 //! What the next step asks of a native.
 ghost use Rattle.aom_cells.specs.Heap.{Lives, class_at};
-ghost use Rattle.aom_exec.specs.Places.{IsDestroying, going_here};
-ghost use Rattle.aom_exec.specs.Steps.{Stands, StandsFor, Wants, WantsNothing};
+ghost use Rattle.aom_parts.specs.Places.{IsDestroying, going_here};
+ghost use Rattle.aom_parts.specs.Stands.{Stands, StandsFor};
+ghost use Rattle.aom_exec.specs.Steps.{Wants, WantsNothing};
 ghost use Rattle.aom_exec.specs.Wanted.{as_wanted, closes_open, wanted_of};
 ghost use Rattle.aom_frames.specs.Tasks.{Runs};
 ghost use Rattle.aom_roles.specs.Shapes.{kind_of};
@@ -10,11 +11,11 @@ ghost use Rattle.aom_sound.specs.State.{State};
 ghost use Rattle.aom_sound.specs.Wanted.{wanted};
 ghost use Rattle.std.specs.Prelude.{◌≡◌, ◌<◌, IfSome, Some, false, option_map, true};
 
-use crate::parts::Parts;
 use aom_cells::{CellId, NULL};
 use aom_classes::Linked;
 use aom_frames::TaskKind;
 use aom_image::{ClassKind, Instr, Provider};
+use aom_parts::Parts;
 
 /// A call that is to be made on a native, for the cell of that number, before the step that hears its answer.
 #[derive(Clone, Copy, PartialEq, Eq, Debug)]
@@ -66,122 +67,126 @@ fn native_of(kind: ClassKind) -> Option<usize>
     }
 }
 
-impl Parts {
-    /// The native that serves a living cell, if one does.
-    pub fn serving(&self, number: u32, linked: &Linked) -> Option<usize>
-        requires lives { Lives self.now.cells number }
-        requires small { IfSome (class_at self.now.cells number) (λ class. class < 256) }
-        ensures { native_of (kind_of linked.now (class_at self.now.cells number)) ≡ result }
-    {
-        let class = self.class(number);
-        let classes = linked.image().classes().as_slice();
-        match classes.get(class.number() as usize) {
-            Some(declared) => native_of(declared.kind),
-            None => None,
-        }
+/// The native that serves a living cell, if one does.
+pub fn serving(parts: &Parts, number: u32, linked: &Linked) -> Option<usize>
+    requires lives { Lives parts.now.cells number }
+    requires small { IfSome (class_at parts.now.cells number) (λ class. class < 256) }
+    ensures { native_of (kind_of linked.now (class_at parts.now.cells number)) ≡ result }
+{
+    let class = parts.class(number);
+    let classes = linked.image().classes().as_slice();
+    match classes.get(class.number() as usize) {
+        Some(declared) => native_of(declared.kind),
+        None => None,
     }
+}
 
-    /// What an instruction asks of the native that serves the cell of that number, where a request is outstanding or not.
-    fn wanted_of(&self, instr: Instr, native: usize, cell: CellId, is_owed: bool) -> Option<Wanted>
-        requires { Runs self.now.stack.tasks }
-        ensures { result ≡ wanted_of self.now is_owed native cell instr }
-    {
-        let id = cell.number();
-        let is_dead = self.sessions.is_dead(native);
-        let is_open = self.sessions.is_open(cell);
-        match instr {
-            Instr::Connect(_) if !is_dead && !is_open => Some(Wanted::Open { native, id }),
-            Instr::Issue(function, word) if !is_dead && is_open => Some(Wanted::Start {
-                native,
-                id,
-                function: self.word(function),
-                word: self.word(word),
-            }),
-            Instr::Ask(_, function, word) if !is_dead && is_open => Some(Wanted::Ask {
-                native,
-                id,
-                function: self.word(function),
-                word: self.word(word),
-            }),
-            Instr::Abort if is_owed => Some(Wanted::Cancel { native, id }),
-            Instr::Close if is_open => Some(Wanted::Close { native, id }),
-            _ => None,
-        }
+/// What an instruction asks of the native that serves the cell of that number, where a request is outstanding or not.
+fn wanted_of(
+    parts: &Parts,
+    instr: Instr,
+    native: usize,
+    cell: CellId,
+    is_owed: bool,
+) -> Option<Wanted>
+    requires { Runs parts.now.stack.tasks }
+    ensures { result ≡ wanted_of parts.now is_owed native cell instr }
+{
+    let id = cell.number();
+    let is_dead = parts.sessions.is_dead(native);
+    let is_open = parts.sessions.is_open(cell);
+    match instr {
+        Instr::Connect(_) if !is_dead && !is_open => Some(Wanted::Open { native, id }),
+        Instr::Issue(function, word) if !is_dead && is_open => Some(Wanted::Start {
+            native,
+            id,
+            function: parts.word(function),
+            word: parts.word(word),
+        }),
+        Instr::Ask(_, function, word) if !is_dead && is_open => Some(Wanted::Ask {
+            native,
+            id,
+            function: parts.word(function),
+            word: parts.word(word),
+        }),
+        Instr::Abort if is_owed => Some(Wanted::Cancel { native, id }),
+        Instr::Close if is_open => Some(Wanted::Close { native, id }),
+        _ => None,
     }
+}
 
-    /// What the instruction asks that is next.
-    fn wanted_here(&self, linked: &Linked) -> Option<Wanted>
-        requires runs { Runs self.now.stack.tasks }
-        requires stands { Stands (record { image = linked.now; parts = self.now }) }
-        ensures { (s : State) → StandsFor (record { image = linked.now; parts = self.now }) s → wanted linked.now s ≡ option_map as_wanted result }
-    {
-        let number = self.stack.this();
-        if number == NULL {
-            return None;
-        }
-        let id = self.cells.living(number);
-        match self.serving(number, linked) {
-            Some(native) => {
-                let is_owed = self.active.is_pending(id);
-                self.wanted_of(*self.fetch(linked), native, id, is_owed)
-            }
-            None => None,
-        }
+/// What the instruction asks that is next.
+fn wanted_here(parts: &Parts, linked: &Linked) -> Option<Wanted>
+    requires runs { Runs parts.now.stack.tasks }
+    requires stands { Stands (record { image = linked.now; parts = parts.now }) }
+    ensures { (s : State) → StandsFor (record { image = linked.now; parts = parts.now }) s → wanted linked.now s ≡ option_map as_wanted result }
+{
+    let number = parts.stack.this();
+    if number == NULL {
+        return None;
     }
-
-    /// A session that is open is to be closed.
-    fn closing(&self, native: usize, cell: CellId) -> Option<Wanted>
-        ensures { result ≡ closes_open self.now native cell }
-    {
-        if self.sessions.is_open(cell) {
-            Some(Wanted::Close {
-                native,
-                id: cell.number(),
-            })
-        } else {
-            None
+    let id = parts.cells.living(number);
+    match serving(parts, number, linked) {
+        Some(native) => {
+            let is_owed = parts.active.is_pending(id);
+            wanted_of(parts, *parts.fetch(linked), native, id, is_owed)
         }
+        None => None,
     }
+}
 
-    /// What the going of the cell of that number asks, which is at hand: a session that is open is closed.
-    fn wanted_going(&self, number: u32, linked: &Linked) -> Option<Wanted>
-        requires destroying { IsDestroying self.now.stack.tasks }
-        requires going { number ≡ going_here self.now.stack.tasks }
-        requires stands { Stands (record { image = linked.now; parts = self.now }) }
-        ensures { (s : State) → StandsFor (record { image = linked.now; parts = self.now }) s → wanted linked.now s ≡ option_map as_wanted result }
-    {
-        let id = self.cells.living(number);
-        match self.serving(number, linked) {
-            Some(native) => self.closing(native, id),
-            None => None,
-        }
+/// A session that is open is to be closed.
+fn closing(parts: &Parts, native: usize, cell: CellId) -> Option<Wanted>
+    ensures { result ≡ closes_open parts.now native cell }
+{
+    if parts.sessions.is_open(cell) {
+        Some(Wanted::Close {
+            native,
+            id: cell.number(),
+        })
+    } else {
+        None
     }
+}
 
-    /// Whether the next step asks anything of a native, where the image names any.
-    pub fn asks(&self, linked: &Linked, has_natives: bool) -> bool
-        requires stands { Stands (record { image = linked.now; parts = self.now }) }
-        requires named { has_natives ≡ false → linked.now.header.natives ≡ 0 }
-        ensures wants { result ≡ true → Wants (record { image = linked.now; parts = self.now }) }
-        ensures quiet { result ≡ false → WantsNothing (record { image = linked.now; parts = self.now }) }
-    {
-        if !has_natives {
-            return false;
-        }
-        match self.wanted(linked) {
-            Some(_) => true,
-            None => false,
-        }
+/// What the going of the cell of that number asks, which is at hand: a session that is open is closed.
+fn wanted_going(parts: &Parts, number: u32, linked: &Linked) -> Option<Wanted>
+    requires destroying { IsDestroying parts.now.stack.tasks }
+    requires going { number ≡ going_here parts.now.stack.tasks }
+    requires stands { Stands (record { image = linked.now; parts = parts.now }) }
+    ensures { (s : State) → StandsFor (record { image = linked.now; parts = parts.now }) s → wanted linked.now s ≡ option_map as_wanted result }
+{
+    let id = parts.cells.living(number);
+    match serving(parts, number, linked) {
+        Some(native) => closing(parts, native, id),
+        None => None,
     }
+}
 
-    /// What the next step asks of a native, if it asks anything.
-    pub fn wanted(&self, linked: &Linked) -> Option<Wanted>
-        requires { Stands (record { image = linked.now; parts = self.now }) }
-        ensures { (s : State) → StandsFor (record { image = linked.now; parts = self.now }) s → wanted linked.now s ≡ option_map as_wanted result }
-    {
-        match self.stack.top() {
-            Some(TaskKind::Run) => self.wanted_here(linked),
-            Some(TaskKind::Destroy(number)) => self.wanted_going(number, linked),
-            _ => None,
-        }
+/// Whether the next step asks anything of a native, where the image names any.
+pub fn asks(parts: &Parts, linked: &Linked, has_natives: bool) -> bool
+    requires stands { Stands (record { image = linked.now; parts = parts.now }) }
+    requires named { has_natives ≡ false → linked.now.header.natives ≡ 0 }
+    ensures wants { result ≡ true → Wants (record { image = linked.now; parts = parts.now }) }
+    ensures quiet { result ≡ false → WantsNothing (record { image = linked.now; parts = parts.now }) }
+{
+    if !has_natives {
+        return false;
+    }
+    match wanted_next(parts, linked) {
+        Some(_) => true,
+        None => false,
+    }
+}
+
+/// What the next step asks of a native, if it asks anything.
+pub fn wanted_next(parts: &Parts, linked: &Linked) -> Option<Wanted>
+    requires { Stands (record { image = linked.now; parts = parts.now }) }
+    ensures { (s : State) → StandsFor (record { image = linked.now; parts = parts.now }) s → wanted linked.now s ≡ option_map as_wanted result }
+{
+    match parts.stack.top() {
+        Some(TaskKind::Run) => wanted_here(parts, linked),
+        Some(TaskKind::Destroy(number)) => wanted_going(parts, number, linked),
+        _ => None,
     }
 }

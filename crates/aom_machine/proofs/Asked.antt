@@ -15,8 +15,8 @@ use Rattle.aom_sound.specs.Natives.{is_dead}
 use Rattle.aom_sound.specs.Places.{in_session}
 use Rattle.aom_sound.specs.State.{State}
 use Rattle.aom_sound.specs.Wanted.{Wanted, Opens, Starts, Asks, Cancels, Closes, wanted}
-use Rattle.aom_exec.specs.Agrees.{Agrees}
-use Rattle.aom_exec.specs.Steps.{Machine as Core, StandsFor as Core_stands}
+use Rattle.aom_parts.specs.Agrees.{Agrees}
+use Rattle.aom_parts.specs.Stands.{Machine as Core, StandsFor as Core_stands}
 use Rattle.aom_machine.specs.Answers.{Asked, MayAsk, times_after}
 use Rattle.aom_machine.specs.Standing.{Serves}
 use Rattle.aom_machine.proofs.Moving.{Went, asks_well}

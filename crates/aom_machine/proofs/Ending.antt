@@ -16,7 +16,7 @@ use Rattle.aom_sound.specs.State.{Rest, State}
 use Rattle.aom_sound.specs.World.{AnswersWell, Completion, Hears, Kills, Outside, Polls, Turning, cell_at, delivers, first_living, lives}
 use Rattle.aom_transcript.specs.declared.event.Event.TheVariants.{Kill}
 use Rattle.aom_lines.specs.Turn.{Turn}
-use Rattle.aom_exec.specs.Steps.{Machine as Core, StandsFor as Core_stands}
+use Rattle.aom_parts.specs.Stands.{Machine as Core, StandsFor as Core_stands}
 use Rattle.aom_exec.specs.Turns.{Answers, Takes as Core_takes}
 use Rattle.aom_machine.specs.declared.machine.Machine.{Machine}
 use Rattle.aom_machine.specs.Calls.{Delivered, Polled, StandsFor, Takes, natives_of}

@@ -14,8 +14,9 @@ use Rattle.aom_sound.specs.Wanted.{Wanted, wanted, wanted_task}
 use Rattle.aom_sound.specs.WellTyped.{Keeps, WellTyped}
 use Rattle.aom_endings.proofs.Ending.{above, top}
 use Rattle.aom_transcript.specs.declared.line.Line.{Line}
-use Rattle.aom_exec.specs.Progress.{progress_by, progress_of}
-use Rattle.aom_exec.specs.Steps.{Hears, IsAtHand, IsDone, IsUncounted, Quiet, Settles, Sound, Steps}
+use Rattle.aom_parts.specs.Progress.{progress_by, progress_of}
+use Rattle.aom_exec.specs.Steps.{Hears, IsAtHand, IsDone, IsUncounted, Quiet, Settles, Steps}
+use Rattle.aom_parts.specs.Stands.{Sound}
 use Rattle.aom_exec.specs.Steps as steps
 use Rattle.aom_machine.specs.Answers.{asked_by, asked_of}
 

@@ -18,7 +18,7 @@ use Rattle.aom_sound.specs.State.{Rest, State}
 use Rattle.aom_sound.specs.WellTyped.{WellTyped}
 use Rattle.aom_sound.specs.World.{AnswersWell, Completes, Completion, Cuts, Hears, Kills, Passes, Picks, Polls, Turning, Waits, cell_at}
 use Rattle.aom_lines.specs.Turn.{Turn}
-use Rattle.aom_exec.specs.Steps.{Machine as Core, StandsFor as Core_stands}
+use Rattle.aom_parts.specs.Stands.{Machine as Core, StandsFor as Core_stands}
 use Rattle.aom_exec.specs.Turns.{NoneDue, Completed as Core_completed, Picked as Core_picked, Takes as Core_takes, TakesAll as Core_takes_all}
 use Rattle.aom_machine.specs.declared.machine.Machine.{Machine}
 use Rattle.aom_machine.specs.Calls.{Completed, Picked, StandsFor, Takes, TakesAll}

@@ -12,10 +12,11 @@ use Rattle.aom_sound.specs.State.{State}
 use Rattle.aom_sound.specs.Wanted.{Wanted, Starts, wanted}
 use Rattle.aom_owed.specs.Owed.{FindsWell, is_for, takes_on}
 use Rattle.aom_lines.specs.Turn.{Turn}
-use Rattle.aom_exec.specs.declared.progress.Progress.{Progress}
-use Rattle.aom_exec.specs.declared.progress.Progress.TheVariants.{Ended, Running, Turned}
-use Rattle.aom_exec.specs.Progress.{progress_of}
-use Rattle.aom_exec.specs.Steps.{Machine as Core, Quiet, StandsFor as Core_stands, SteppedOn as Core_stepped_on, Steps, progress}
+use Rattle.aom_parts.specs.declared.progress.Progress.{Progress}
+use Rattle.aom_parts.specs.declared.progress.Progress.TheVariants.{Ended, Running, Turned}
+use Rattle.aom_parts.specs.Progress.{progress_of}
+use Rattle.aom_parts.specs.Stands.{Machine as Core, StandsFor as Core_stands}
+use Rattle.aom_exec.specs.Steps.{Quiet, SteppedOn as Core_stepped_on, Steps, progress}
 use Rattle.aom_machine.specs.declared.machine.Machine.{Machine}
 use Rattle.aom_machine.specs.Answers.{Asked, MayAsk, MayHear, asked_by, asked_of}
 use Rattle.aom_machine.specs.Calls.{StandsFor, SteppedOn}

@@ -5,9 +5,9 @@ use Rattle.aom_owed.specs.Owed.{is_for, takes_on}
 use Rattle.aom_natives.specs.Slots.{ids_at, living_at}
 use Rattle.aom_image.specs.Image.{Image}
 use Rattle.aom_sound.specs.State.{State}
-use Rattle.aom_exec.specs.Progress.{progress_of}
-use Rattle.aom_exec.specs.declared.progress.Progress.{Progress}
-use Rattle.aom_exec.specs.declared.progress.Progress.TheVariants.{Running}
+use Rattle.aom_parts.specs.Progress.{progress_of}
+use Rattle.aom_parts.specs.declared.progress.Progress.{Progress}
+use Rattle.aom_parts.specs.declared.progress.Progress.TheVariants.{Running}
 use Rattle.aom_sound.specs.Wanted.{wanted, Wanted, Opens, Starts, Asks, Cancels, Closes}
 
 -- the answer is one that the native may give to what it is asked, as it stands, by its relations; nothing is said where there is no answer

@@ -6,9 +6,10 @@ use Rattle.aom_transcript.specs.declared.line.Line.{Line}
 use Rattle.aom_sound.specs.State.{Goes, State}
 use Rattle.aom_sound.specs.Wanted.{wanted}
 use Rattle.aom_sound.specs.World.{AnswersWell, Candidate, Completes, Completion, IsBetween, Outside, Picks, Polls, Timed, Turning, delivers, first_due, first_living, first_ready, has_signal, turned, written_by}
-use Rattle.aom_exec.specs.declared.progress.Progress.{Progress}
-use Rattle.aom_exec.specs.Progress.{progress_of}
-use Rattle.aom_exec.specs.Steps.{Quiet, StandsFor as Core_stands, Steps}
+use Rattle.aom_parts.specs.declared.progress.Progress.{Progress}
+use Rattle.aom_parts.specs.Progress.{progress_of}
+use Rattle.aom_exec.specs.Steps.{Quiet, Steps}
+use Rattle.aom_parts.specs.Stands.{StandsFor as Core_stands}
 use Rattle.aom_exec.specs.Turns.{Answers, NoneDue}
 use Rattle.aom_machine.specs.declared.machine.Machine.{Machine}
 use Rattle.aom_machine.specs.Standing.{StandsBeside}

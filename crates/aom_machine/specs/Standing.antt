@@ -7,7 +7,7 @@ use Rattle.aom_natives.specs.Slots.{ids_at, living_at}
 use Rattle.aom_owed.specs.Owed.{SessionsHold, owes}
 use Rattle.aom_sound.specs.Natives.{is_dead}
 use Rattle.aom_sound.specs.State.{State}
-use Rattle.aom_exec.specs.Steps.{Machine, StandsFor}
+use Rattle.aom_parts.specs.Stands.{Machine, StandsFor}
 use Rattle.aom_machine.specs.declared.fault.BootFault.{BootFault}
 use Rattle.aom_machine.specs.declared.fault.BootFault.TheVariants.{OutOfMemory, TooFewNatives}
 

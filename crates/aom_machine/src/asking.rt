@@ -1,7 +1,7 @@
 //! What a step asks of a native.
 ghost use Rattle.std.specs.Prelude.{◌≡◌, ◌<◌, Some};
-ghost use Rattle.aom_exec.specs.Steps.{StandsFor as CoreStandsFor};
-ghost use Rattle.aom_exec.specs.declared.progress.Progress.TheVariants.{Running};
+ghost use Rattle.aom_parts.specs.Stands.{StandsFor as CoreStandsFor};
+ghost use Rattle.aom_parts.specs.declared.progress.Progress.TheVariants.{Running};
 ghost use Rattle.aom_machine.specs.Answers.{Asked, MayAsk, MayHear, asked_of};
 ghost use Rattle.aom_machine.specs.Calls.{Stands, StandsFor};
 ghost use Rattle.aom_natives.specs.Slots.{AllAgree};

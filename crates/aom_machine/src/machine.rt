@@ -1,7 +1,7 @@
 //! A machine and the natives beside it.
 ghost use Rattle.std.specs.Prelude.{ℤ, ◌≡◌, ◌<◌, ◌+◌, ◌↔◌, IfErr, IfOk, map, option_map, length, Some};
 ghost use Rattle.aom_exec.specs.Steps.{rank};
-ghost use Rattle.aom_exec.specs.declared.progress.Progress.TheVariants.{Running};
+ghost use Rattle.aom_parts.specs.declared.progress.Progress.TheVariants.{Running};
 ghost use Rattle.aom_machine.specs.Answers.{MayHear, asked_of};
 ghost use Rattle.aom_machine.specs.Calls.{Stands, StandsFor, SteppedOn, natives_of};
 ghost use Rattle.aom_natives.specs.Owed.{OweNothing};

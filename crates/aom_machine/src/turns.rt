@@ -1,7 +1,7 @@
 //! What is done between dispatches: timers, events, polls and the pick.
 ghost use Rattle.std.specs.Prelude.{◌≡◌, ◌<◌, ◌≤◌, ◌+◌, ◌-◌, ◌^◌, IfSome, IsSome, length, suc, true, false, None, Some};
 ghost use Rattle.aom_exec.specs.Steps.{progress, timers};
-ghost use Rattle.aom_exec.specs.declared.progress.Progress.TheVariants.{Turned};
+ghost use Rattle.aom_parts.specs.declared.progress.Progress.TheVariants.{Turned};
 ghost use Rattle.aom_machine.specs.Calls.{Completed, Delivered, NoneIsDue, Picked, Polled, Stands, StandsFor, TakesAll, natives_of, to_poll};
 ghost use Rattle.aom_machine.specs.Standing.{KeptSame};
 ghost use Rattle.aom_natives.specs.Slots.{AllAgree, living_at};

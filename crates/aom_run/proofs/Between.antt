@@ -2,10 +2,10 @@
 use Rattle.std.proofs.Common.{◌≡◌, ◌⊎◌, inl, inr, ◌<◌, ◌≤◌, ◌-◌, ℕ, ℤ, suc, Bool, true, false, List, [], Option, Some, None, length, ap, append-nil, arith, refl, subst, sym, ◌∙◌}
 use Rattle.std.proofs.lemmas.List.{append_cancel_left}
 use Rattle.aom_exec.proofs.Progressing.{is_as_far}
-use Rattle.aom_exec.specs.Progress.{progress_of}
-use Rattle.aom_exec.specs.declared.progress.Progress.TheVariants.{Turned}
+use Rattle.aom_parts.specs.Progress.{progress_of}
+use Rattle.aom_parts.specs.declared.progress.Progress.TheVariants.{Turned}
 use Rattle.aom_exec.specs.Steps.{progress, timers}
-use Rattle.aom_exec.specs.declared.rest.Rest.{Rest}
+use Rattle.aom_parts.specs.declared.rest.Rest.{Rest}
 use Rattle.aom_lines.specs.Turn.{Turn}
 use Rattle.aom_machine.specs.Calls.{Completed as Completes_one, Delivered, NoneIsDue, Polled, Stands, StandsFor, Takes, natives_of}
 use Rattle.aom_machine.specs.declared.machine.Machine.{Machine}

@@ -7,7 +7,7 @@ use Rattle.aom_sound.specs.State.{State}
 use Rattle.aom_sound.specs.World.{Reaches, begins, moves as moved, turns, written_turn, IsBusy, Outside}
 use Rattle.aom_transcript.specs.declared.line.Line.{Line}
 use Rattle.aom_lines.specs.Turn.{Turn}
-use Rattle.aom_exec.specs.declared.progress.Progress.{Progress}
+use Rattle.aom_parts.specs.declared.progress.Progress.{Progress}
 use Rattle.aom_exec.specs.Steps.{Steps, rests, moves, Settles, settled, settles, IsUncounted, Quiet, begins as none, goes_on as then_on}
 use Rattle.aom_machine.specs.Calls.{Stands, StandsFor, SteppedOn}
 use Rattle.aom_machine.specs.declared.machine.Machine.{Machine}

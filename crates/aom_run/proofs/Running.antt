@@ -13,14 +13,14 @@ use Rattle.aom_lines.specs.Turn.{Turn}
 use Rattle.aom_transcript.specs.Text.{text_of, ended, end_text, transcript}
 use Rattle.aom_run.specs.declared.outcome.Outcome.{Outcome}
 use Rattle.aom_run.specs.declared.outcome.Outcome.TheVariants.{Stopped, Waiting, MainLeft, Limit, Error, WriteFault}
-use Rattle.aom_exec.specs.declared.progress.Progress.{Progress}
-use Rattle.aom_exec.specs.declared.progress.Progress.TheVariants as progresses
+use Rattle.aom_parts.specs.declared.progress.Progress.{Progress}
+use Rattle.aom_parts.specs.declared.progress.Progress.TheVariants as progresses
 use Rattle.aom_exec.specs.Steps.{progress as reached}
 use Rattle.aom_machine.specs.Calls.{Stands, StandsFor, natives_of}
 use Rattle.aom_machine.specs.declared.machine.Machine.{Machine}
 use Rattle.aom_frames.specs.declared.task.Task.{Task as Held_task}
 use Rattle.aom_steps.specs.Payers.{payer}
-use Rattle.aom_exec.specs.Progress.{progress_by, progress_of}
+use Rattle.aom_parts.specs.Progress.{progress_by, progress_of}
 use Rattle.aom_run.specs.Outcomes.{outcome_of}
 use Rattle.aom_exec.proofs.Progressing.{is_as_far}
 use Rattle.aom_run.specs.Runs.{after, CutOff, Ended, Moving, Sent, Told, CutShort, Ran}

@@ -4,9 +4,9 @@ use Rattle.aom_sound.specs.State.{State}
 use Rattle.aom_transcript.specs.declared.line.Line.{Line}
 use Rattle.aom_transcript.specs.Text.{text_of}
 use Rattle.aom_lines.specs.Turn.{Turn}
-use Rattle.aom_exec.specs.declared.progress.Progress.{Progress}
-use Rattle.aom_exec.specs.declared.progress.Progress.TheVariants.{Running}
-use Rattle.aom_exec.specs.Progress.{progress_of}
+use Rattle.aom_parts.specs.declared.progress.Progress.{Progress}
+use Rattle.aom_parts.specs.declared.progress.Progress.TheVariants.{Running}
+use Rattle.aom_parts.specs.Progress.{progress_of}
 use Rattle.aom_machine.specs.Calls.{Stands, StandsFor}
 use Rattle.aom_machine.specs.declared.machine.Machine.{Machine}
 use Rattle.aom_run.specs.Runs.{after, begins, CutOff, Filled, Moving, Sent}

@@ -11,9 +11,9 @@ use Rattle.aom_lines.specs.Turn.{Turn}
 use Rattle.aom_transcript.specs.Text.{text_of, transcript}
 use Rattle.aom_run.specs.declared.outcome.Outcome.{Outcome}
 use Rattle.aom_run.specs.declared.outcome.Outcome.TheVariants.{Stopped, Waiting, MainLeft, Limit, Error, WriteFault}
-use Rattle.aom_exec.specs.declared.progress.Progress.{Progress}
-use Rattle.aom_exec.specs.declared.progress.Progress.TheVariants.{Running}
-use Rattle.aom_exec.specs.Progress.{progress_of}
+use Rattle.aom_parts.specs.declared.progress.Progress.{Progress}
+use Rattle.aom_parts.specs.declared.progress.Progress.TheVariants.{Running}
+use Rattle.aom_parts.specs.Progress.{progress_of}
 use Rattle.aom_machine.specs.Calls.{StandsFor}
 use Rattle.aom_machine.specs.declared.machine.Machine.{Machine}
 

@@ -3,7 +3,7 @@ ghost use Rattle.std.specs.Prelude.{◌≡◌, ◌<◌, ◌≤◌, true, false, 
 ghost use Rattle.aom_sound.specs.State.{State};
 ghost use Rattle.aom_sound.specs.World.{due_of, event_at, first_due, nearer, time_of};
 ghost use Rattle.aom_exec.specs.Steps.{progress, timers};
-ghost use Rattle.aom_exec.specs.declared.progress.Progress.TheVariants.{Turned};
+ghost use Rattle.aom_parts.specs.declared.progress.Progress.TheVariants.{Turned};
 ghost use Rattle.aom_machine.specs.Calls.{NoneIsDue, Stands, StandsFor, natives_of};
 ghost use Rattle.aom_natives.specs.Slots.{AllAgree};
 ghost use Rattle.aom_transcript.specs.declared.event.TimedEvent.{TimedEvent};

@@ -3,7 +3,7 @@ use Rattle.aom_machine.specs.Calls.{natives_of}
 use Rattle.aom_natives.specs.Slots.{AllAgree}
 use Rattle.aom_run.specs.Turns.{hearing}
 use Rattle.aom_exec.specs.Steps.{progress}
-use Rattle.aom_exec.specs.declared.progress.Progress.TheVariants.{Running}
+use Rattle.aom_parts.specs.declared.progress.Progress.TheVariants.{Running}
 use Rattle.aom_run.proofs.Running.{SoFar, left}
 use Rattle.aom_run.proofs.runs.run_lines.Given as goal
 

@@ -1,6 +1,6 @@
 use Rattle.std.proofs.Common.{◌≡◌, List}
 use Rattle.aom_exec.specs.Steps.{progress, timers}
-use Rattle.aom_exec.specs.declared.progress.Progress.TheVariants.{Turned}
+use Rattle.aom_parts.specs.declared.progress.Progress.TheVariants.{Turned}
 use Rattle.aom_machine.specs.Calls.{NoneIsDue, Stands, natives_of, to_poll}
 use Rattle.aom_natives.specs.Slots.{AllAgree}
 use Rattle.aom_transcript.specs.declared.event.TimedEvent.{TimedEvent}

@@ -1,6 +1,6 @@
 use Rattle.std.proofs.Common.{subst}
 use Rattle.aom_sound.specs.World.{boot_state}
-use Rattle.aom_exec.specs.Boot.{Booted}
+use Rattle.aom_parts.specs.Boot.{Booted}
 use Rattle.aom_exec.proofs.Booting.{boots}
 use Rattle.aom_exec.proofs.Agreeing.{agrees_in_all}
 use Rattle.aom_exec.proofs.machine.Machine.boot.Goals as goal

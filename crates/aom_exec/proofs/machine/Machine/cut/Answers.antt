@@ -2,8 +2,9 @@
 use Rattle.std.proofs.Common.{Some, subst, sym, ◌≡◌}
 use Rattle.aom_transcript.specs.declared.line.Ending.TheVariants.{Limit}
 use Rattle.aom_sound.specs.World.{Cuts}
-use Rattle.aom_exec.specs.declared.progress.Progress.TheVariants.{Turned}
-use Rattle.aom_exec.specs.Steps.{Machine, progress}
+use Rattle.aom_parts.specs.declared.progress.Progress.TheVariants.{Turned}
+use Rattle.aom_parts.specs.Stands.{Machine}
+use Rattle.aom_exec.specs.Steps.{progress}
 use Rattle.aom_exec.specs.Turns.{TakesAll}
 use Rattle.aom_exec.proofs.Agreeing.{agrees_in_all}
 use Rattle.aom_exec.proofs.Turning.{cut_ends, takes_again}

@@ -1,7 +1,8 @@
 -- The timer that is due first completes the request of its object.
 use Rattle.std.proofs.Common.{subst, sym, ◌≡◌}
-use Rattle.aom_exec.specs.declared.progress.Progress.TheVariants.{Turned}
-use Rattle.aom_exec.specs.Steps.{Machine, progress}
+use Rattle.aom_parts.specs.declared.progress.Progress.TheVariants.{Turned}
+use Rattle.aom_parts.specs.Stands.{Machine}
+use Rattle.aom_exec.specs.Steps.{progress}
 use Rattle.aom_exec.specs.Turns.{Completed}
 use Rattle.aom_exec.proofs.Agreeing.{agrees_in_all}
 use Rattle.aom_exec.proofs.Turning.{completed_again}
@@ -16,12 +17,12 @@ due-requires-clause-between c = subst (λ (m : Machine). progress m ≡ Turned) 
 pub invariant_of-self : goal.invariant_of-self
 invariant_of-self c =
     let p = c.self.inside.accepted.now in
-    completed_again (record { image = p; parts = c.self.inside.parts }) (record { image = p; parts = c.due.new.self }) c.due.result (c.due.ensures.completed p) c.self.invariant
+    completed_again (record { image = p; parts = c.self.inside.parts }) (record { image = p; parts = c.due.new.parts }) c.due.result (c.due.ensures.completed p) c.self.invariant
 
 pub returns-clause-completed : goal.returns-clause-completed
 returns-clause-completed c =
     let p = c.self.inside.accepted.now in
-    subst (λ (m : Machine). Completed m c.due.result (record { image = p; parts = c.due.new.self })) c.self.view_is (c.due.ensures.completed p)
+    subst (λ (m : Machine). Completed m c.due.result (record { image = p; parts = c.due.new.parts })) c.self.view_is (c.due.ensures.completed p)
 
 pub returns-clause-agrees : goal.returns-clause-agrees
 returns-clause-agrees c = agrees_in_all _

@@ -1,7 +1,7 @@
 use Rattle.std.proofs.Common.{subst, sym}
 use Rattle.std.specs.Int.{w32}
 use Rattle.std.proofs.lemmas.Int.{to_z-of_z}
-use Rattle.aom_exec.specs.Steps.{Machine, StandsFor}
+use Rattle.aom_parts.specs.Stands.{Machine, StandsFor}
 use Rattle.aom_exec.proofs.Agreeing.{agrees_in_all}
 use Rattle.aom_exec.proofs.Wanting.{heard_stands}
 use Rattle.aom_exec.proofs.machine.Machine.hear.Goals as goal

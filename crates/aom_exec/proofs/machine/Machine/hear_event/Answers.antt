@@ -1,9 +1,10 @@
 -- An event comes.
 use Rattle.std.proofs.Common.{subst, suc, sym, ◌≡◌}
 use Rattle.aom_sound.specs.World.{Hears}
-use Rattle.aom_exec.specs.declared.progress.Progress.TheVariants.{Turned}
+use Rattle.aom_parts.specs.declared.progress.Progress.TheVariants.{Turned}
 use Rattle.aom_sound.specs.State.{State}
-use Rattle.aom_exec.specs.Steps.{Machine, StandsFor, progress}
+use Rattle.aom_parts.specs.Stands.{Machine, StandsFor}
+use Rattle.aom_exec.specs.Steps.{progress}
 use Rattle.aom_exec.specs.Turns.{TakesAll}
 use Rattle.aom_exec.proofs.Agreeing.{agrees_in_all}
 use Rattle.aom_exec.proofs.Turning.{hears_one, stands_back, takes_again}

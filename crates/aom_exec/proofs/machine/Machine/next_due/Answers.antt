@@ -2,7 +2,7 @@
 use Rattle.std.proofs.Common.{subst, ◌≡◌}
 use Rattle.aom_sound.specs.State.{State}
 use Rattle.aom_sound.specs.World.{due_of, first_due}
-use Rattle.aom_exec.specs.Steps.{Machine, StandsFor}
+use Rattle.aom_parts.specs.Stands.{Machine, StandsFor}
 use Rattle.aom_exec.proofs.Turning.{next_due_told}
 use Rattle.aom_exec.proofs.machine.Machine.next_due.Goals as goal
 

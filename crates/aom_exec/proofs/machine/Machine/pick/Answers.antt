@@ -1,7 +1,8 @@
 -- The ready object that goes before all others is dispatched.
 use Rattle.std.proofs.Common.{subst, sym, ◌≡◌}
-use Rattle.aom_exec.specs.declared.progress.Progress.TheVariants.{Turned}
-use Rattle.aom_exec.specs.Steps.{Machine, Stands, progress}
+use Rattle.aom_parts.specs.declared.progress.Progress.TheVariants.{Turned}
+use Rattle.aom_parts.specs.Stands.{Machine, Stands}
+use Rattle.aom_exec.specs.Steps.{progress}
 use Rattle.aom_exec.specs.Turns.{Picked}
 use Rattle.aom_exec.proofs.Agreeing.{agrees_in_all}
 use Rattle.aom_exec.proofs.Turning.{picked_again}
@@ -16,14 +17,14 @@ pick-requires-clause-between c = subst (λ (m : Machine). progress m ≡ Turned)
 pub invariant_of-self : goal.invariant_of-self
 invariant_of-self c =
     let p = c.self.inside.accepted.now in
-    let picked = subst (λ p. Picked (record { image = p; parts = c.self.inside.parts }) c.pick.result c.args.turn.now c.pick.new.turn (record { image = p; parts = c.pick.new.self })) c.linked.ensures c.pick.ensures in
-    picked_again (record { image = p; parts = c.self.inside.parts }) (record { image = p; parts = c.pick.new.self }) c.pick.result c.args.turn.now c.pick.new.turn picked c.self.invariant
+    let picked = subst (λ p. Picked (record { image = p; parts = c.self.inside.parts }) c.pick.result c.args.turn.now c.pick.new.turn (record { image = p; parts = c.pick.new.parts })) c.linked.ensures c.pick.ensures in
+    picked_again (record { image = p; parts = c.self.inside.parts }) (record { image = p; parts = c.pick.new.parts }) c.pick.result c.args.turn.now c.pick.new.turn picked c.self.invariant
 
 pub returns-clause-picked : goal.returns-clause-picked
 returns-clause-picked c =
     let p = c.self.inside.accepted.now in
-    let picked = subst (λ p. Picked (record { image = p; parts = c.self.inside.parts }) c.pick.result c.args.turn.now c.pick.new.turn (record { image = p; parts = c.pick.new.self })) c.linked.ensures c.pick.ensures in
-    subst (λ (m : Machine). Picked m c.pick.result c.args.turn.now c.pick.new.turn (record { image = p; parts = c.pick.new.self })) c.self.view_is picked
+    let picked = subst (λ p. Picked (record { image = p; parts = c.self.inside.parts }) c.pick.result c.args.turn.now c.pick.new.turn (record { image = p; parts = c.pick.new.parts })) c.linked.ensures c.pick.ensures in
+    subst (λ (m : Machine). Picked m c.pick.result c.args.turn.now c.pick.new.turn (record { image = p; parts = c.pick.new.parts })) c.self.view_is picked
 
 pub returns-clause-agrees : goal.returns-clause-agrees
 returns-clause-agrees c = agrees_in_all _

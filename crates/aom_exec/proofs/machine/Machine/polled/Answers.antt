@@ -1,9 +1,10 @@
 -- A native is polled.
 use Rattle.std.proofs.Common.{ap, length, subst, sym, ◌≡◌}
 use Rattle.aom_sound.specs.State.{State}
-use Rattle.aom_exec.specs.declared.parts.Parts.{Parts}
-use Rattle.aom_exec.specs.declared.progress.Progress.TheVariants.{Turned}
-use Rattle.aom_exec.specs.Steps.{Machine, Stands, StandsFor, progress, timers}
+use Rattle.aom_parts.specs.declared.parts.Parts.{Parts}
+use Rattle.aom_parts.specs.declared.progress.Progress.TheVariants.{Turned}
+use Rattle.aom_parts.specs.Stands.{Machine, Stands, StandsFor}
+use Rattle.aom_exec.specs.Steps.{progress, timers}
 use Rattle.aom_exec.specs.Turns.{NoneDue}
 use Rattle.aom_exec.proofs.Agreeing.{agrees_in_all}
 use Rattle.aom_exec.proofs.Polling.{IsOwed, PollsAll, owed_pending, polled_again, polled_timers, polls_well}
@@ -21,32 +22,32 @@ invariant_of-self c =
     let turned = subst (λ (m : Machine). progress m ≡ Turned) (sym c.self.view_is) c.requires.between in
     let owed = subst (λ (m : Machine). IsOwed m c.args.native c.args.completion) (sym c.self.view_is) c.requires.owed in
     subst (λ x. Stands (record { image = p; parts = x })) (sym c.polled.ensures.rest)
-    (polled_again p c.self.inside.parts c.args.native turned c.args.completion c.polled.new.self.active owed c.polled.ensures.finishes c.self.invariant)
+    (polled_again p c.self.inside.parts c.args.native turned c.args.completion c.polled.new.parts.active owed c.polled.ensures.finishes c.self.invariant)
 
 pub returns-clause-polled : goal.returns-clause-polled
 returns-clause-polled c =
     let p = c.self.inside.accepted.now in
     let turned = subst (λ (m : Machine). progress m ≡ Turned) (sym c.self.view_is) c.requires.between in
     let owed = subst (λ (m : Machine). IsOwed m c.args.native c.args.completion) (sym c.self.view_is) c.requires.owed in
-    subst (λ (old : Machine). PollsAll c.args.native c.args.completion old (record { image = p; parts = c.polled.new.self })) c.self.view_is
+    subst (λ (old : Machine). PollsAll c.args.native c.args.completion old (record { image = p; parts = c.polled.new.parts })) c.self.view_is
     (subst (λ x. PollsAll c.args.native c.args.completion (record { image = p; parts = c.self.inside.parts }) (record { image = p; parts = x })) (sym c.polled.ensures.rest)
-    (polls_well p c.self.inside.parts c.args.native turned c.args.completion c.polled.new.self.active owed c.polled.ensures.finishes))
+    (polls_well p c.self.inside.parts c.args.native turned c.args.completion c.polled.new.parts.active owed c.polled.ensures.finishes))
 
 pub returns-clause-none_due : goal.returns-clause-none_due
 returns-clause-none_due c =
     let p = c.self.inside.accepted.now in
     let m = c.self.inside.parts in
     let owed = subst (λ (m : Machine). IsOwed m c.args.native c.args.completion) (sym c.self.view_is) c.requires.owed in
-    let same = polled_timers p m c.args.native c.args.completion c.polled.new.self.active owed c.polled.ensures.finishes in
-    subst (λ (old : Machine). ((s : State) → StandsFor old s → NoneDue s) → (s : State) → StandsFor (record { image = p; parts = c.polled.new.self }) s → NoneDue s) c.self.view_is
-    (none_due_still (record { image = p; parts = m }) (record { image = p; parts = c.polled.new.self }) c.self.invariant same (ap (λ (x : Parts). x.rest.clock) c.polled.ensures.rest))
+    let same = polled_timers p m c.args.native c.args.completion c.polled.new.parts.active owed c.polled.ensures.finishes in
+    subst (λ (old : Machine). ((s : State) → StandsFor old s → NoneDue s) → (s : State) → StandsFor (record { image = p; parts = c.polled.new.parts }) s → NoneDue s) c.self.view_is
+    (none_due_still (record { image = p; parts = m }) (record { image = p; parts = c.polled.new.parts }) c.self.invariant same (ap (λ (x : Parts). x.rest.clock) c.polled.ensures.rest))
 
 pub returns-clause-timers : goal.returns-clause-timers
 returns-clause-timers c =
     let p = c.self.inside.accepted.now in
     let owed = subst (λ (m : Machine). IsOwed m c.args.native c.args.completion) (sym c.self.view_is) c.requires.owed in
-    subst (λ (old : Machine). timers (record { image = p; parts = c.polled.new.self }) ≡ timers old) c.self.view_is
-    (ap length (polled_timers p c.self.inside.parts c.args.native c.args.completion c.polled.new.self.active owed c.polled.ensures.finishes))
+    subst (λ (old : Machine). timers (record { image = p; parts = c.polled.new.parts }) ≡ timers old) c.self.view_is
+    (ap length (polled_timers p c.self.inside.parts c.args.native c.args.completion c.polled.new.parts.active owed c.polled.ensures.finishes))
 
 pub returns-clause-agrees : goal.returns-clause-agrees
 returns-clause-agrees c = agrees_in_all _

@@ -1,8 +1,9 @@
 -- Time passes.
 use Rattle.std.proofs.Common.{subst, sym, ◌≡◌}
 use Rattle.aom_sound.specs.World.{Passes}
-use Rattle.aom_exec.specs.declared.progress.Progress.TheVariants.{Turned}
-use Rattle.aom_exec.specs.Steps.{Machine, progress}
+use Rattle.aom_parts.specs.declared.progress.Progress.TheVariants.{Turned}
+use Rattle.aom_parts.specs.Stands.{Machine}
+use Rattle.aom_exec.specs.Steps.{progress}
 use Rattle.aom_exec.specs.Turns.{TakesAll}
 use Rattle.aom_exec.proofs.Agreeing.{agrees_in_all}
 use Rattle.aom_exec.proofs.Turning.{passes_time, takes_again}

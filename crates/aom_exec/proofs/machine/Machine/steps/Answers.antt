@@ -2,7 +2,7 @@
 use Rattle.std.proofs.Common.{◌≤◌, subst}
 use Rattle.aom_sound.specs.State.{State}
 use Rattle.aom_steps.specs.Payers.{declared_of, payer}
-use Rattle.aom_exec.specs.Steps.{Machine, StandsFor}
+use Rattle.aom_parts.specs.Stands.{Machine, StandsFor}
 use Rattle.aom_exec.proofs.Progressing.{steps_within}
 use Rattle.aom_exec.proofs.machine.Machine.steps.Goals as goal
 

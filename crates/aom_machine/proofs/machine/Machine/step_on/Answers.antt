@@ -1,5 +1,6 @@
 use Rattle.std.proofs.Common.{◌≡◌, ◌<◌, ◌∙◌, ap, subst, sym, refl}
-use Rattle.aom_exec.specs.Steps.{Machine as Core, rank}
+use Rattle.aom_parts.specs.Stands.{Machine as Core}
+use Rattle.aom_exec.specs.Steps.{rank}
 use Rattle.aom_machine.proofs.Stepped.{stepped_on}
 use Rattle.aom_machine.proofs.machine.Machine.step_on.Goals as goal
 

@@ -1,0 +1,114 @@
+-- The last item of the cleanup stack is dealt with: an object is destroyed, and an operation is run.
+use Rattle.std.proofs.Common.{◌≡◌, ℕ, ℤ, true, length, List, [], ◌∷◌, Option, Some, None, slice_set, refl, sym, ap, ◌∙◌, subst, arith}
+use Rattle.std.specs.Int.{w32, cast_signed}
+use Rattle.std.specs.Prelude.{is_some}
+use Rattle.std.proofs.lemmas.List.{length-set, length-replicate}
+use Rattle.aom_image.specs.Image.{Image}
+use Rattle.aom_instructions.specs.declared.instr.Instr.TheVariants.{PopDelete}
+use Rattle.aom_cells.specs.Heap.{null}
+use Rattle.aom_cleanup.specs.declared.item.Item.{Item as Held_item}
+use Rattle.aom_cleanup.specs.declared.item.Item.TheVariants.{Object as Holds_object, Operation as Holds_operation}
+use Rattle.aom_rules.specs.Typing.{Typing}
+use Rattle.aom_sound.specs.Cleanup.{dealt_with as deals_with, destroyed, operation_frame, tops_entry, top_is_whole, top_place}
+use Rattle.aom_classes.specs.Roles.{destructor_of}
+use Rattle.aom_sound.specs.Places.{Place, Register, Entry, Going, Object, changed, held}
+use Rattle.aom_sound.proofs.Dealing.{dealing as dealing_effect}
+use Rattle.aom_sound.specs.State.{Static, frame_of, Run, Item, An_object, State}
+use Rattle.aom_sound.specs.WellTyped.{WellTyped}
+use Rattle.aom_frames.specs.Tasks.{fresh}
+use Rattle.aom_frames.specs.declared.task.Task.TheVariants.{Run as Runs_frame}
+use Rattle.aom_cleanup.specs.Items.{IsAboveMark}
+use Rattle.aom_acts.proofs.Housing.{at_hand, needs_met}
+use Rattle.aom_acts.specs.Next.{IsNext, counting}
+use Rattle.aom_acts.proofs.Topping.{entry_tops, top_lives}
+use Rattle.aom_parts.specs.declared.parts.Parts.{Parts}
+use Rattle.aom_acts.specs.Acts.{DoesIn}
+use Rattle.aom_parts.specs.Agrees.{Shows, SameFrame, SameItems, word_at, number, Agrees}
+use Rattle.aom_acts.specs.Cleanup.{TopLives, dealing, dealt_with}
+use Rattle.aom_acts.specs.Going.{destroying, destructor_at}
+use Rattle.aom_parts.specs.Places.{value_in, with_items, with_tasks}
+use Rattle.aom_parts.proofs.Alike.{Entries_alike, entries_alike, entries_own, entries_run}
+use Rattle.aom_parts.proofs.Entries.{owns_none, same_items_length, top_value, value_alike, value_popped}
+use Rattle.aom_acts.proofs.GoingActs.{begins, destructor_same, dying_shows, fresh_value, fresh_word}
+use Rattle.aom_acts.proofs.ReturnActs.{none_above}
+use Rattle.aom_acts.proofs.Standing.{begun_frame, nothing_held, reframed}
+use Rattle.aom_parts.proofs.Values.{going_past, kept, same_length, value_written, word_written, writes}
+use Rattle.aom_acts.proofs.WordActs.{plain_at}
+
+module _ (p : Image) (m : Parts) (t : Typing) (s : State) (typed : WellTyped p t s) (agrees : Agrees p m s) where
+  deep : length m.stack.tasks ≡ length s.tasks
+  deep = same_length m.stack.tasks s.tasks agrees.tasks
+
+  -- an object is destroyed
+  object_goes : (n : ℕ) (is : List Held_item) (js : List Item) → m.entries.items ≡ Holds_object n ∷ is → SameItems is js → (o : Option Object) → held s.cells (Entry (length js)) ≡ o → top_is_whole s.cells (An_object ∷ js) ≡ true
+      → Agrees p (dealing p (Holds_object n ∷ is) m) (destroyed p o js s.tasks s)
+  object_goes n is js was same None e whole = let none = sym whole ∙ ap (λ (o : Option Object). is_some o) e in cc
+  object_goes n is js was same (Some o) e whole =
+      let us = m.stack.tasks in
+      let ts = s.tasks in
+      let from = Entry (length js) in
+      let mid = with_items is m in
+      let below : State = record s { items = js } in
+      let even = same_items_length is js same in
+      let long = deep in
+      let v = value_in us m.cells (Holds_object n ∷ is) m.root in
+      let old : (q : Place) → Shows (v q) (word_at ts q) (held s.cells q) = λ q. subst (λ es. Shows (value_in us m.cells es m.root q) (word_at ts q) (held s.cells q)) was (agrees.values q) in
+      let there = top_value us m.cells is m.root n (length js) even in
+      let name : n ≡ o.name = sym there ∙ old from ∙ ap number e in
+      let empty : held s.cells (Going (length ts)) ≡ None = nothing_held p m t s typed agrees (Going (length ts)) (sym (going_past us (length ts) (omega arith)) ∙ agrees.values (Going (length ts))) in
+      subst (λ d. Agrees p (with_tasks (destroying d n us) mid) (destroyed p (Some o) js ts s)) (sym (ap (destructor_at p m.cells) name ∙ destructor_same p m t s typed agrees from o e))
+      (begins p mid below us ts from m.root n (destructor_of p o.thing) o (length js) m.rest s.rest name agrees.rest agrees.tasks agrees.cells same agrees.requests agrees.natives agrees.room agrees.entry_room
+      (dying_shows p mid below us ts from m.root n v (word_at ts) old long refl there empty (value_popped us m.cells is m.root n (length js) even) (λ q. refl)))
+
+  -- an operation is run
+  operation_runs : (k n k' : ℕ) (w : ℤ) (is : List Held_item) (js : List Item) → m.entries.items ≡ Holds_operation k n ∷ is → k ≡ k' → cast_signed w32 n ≡ w → SameItems is js
+      → Agrees p (dealing p (Holds_operation k n ∷ is) m) (record s { tasks = Run (operation_frame k' w (length js)) ∷ s.tasks; items = js })
+  operation_runs k n k' w is js was which word same =
+      let us = m.stack.tasks in
+      let ts = s.tasks in
+      let d = length ts in
+      let q0 = Register d 0 in
+      let f = fresh k null in
+      let fr = frame_of k' Static (length js) in
+      let long = deep in
+      let begun = subst (λ x. SameFrame f (frame_of x Static (length js))) which (begun_frame k null Static (length js) refl) in
+      let base : (q : Place) → Shows (value_in (Runs_frame f ∷ us) m.cells is m.root q) (word_at (Run fr ∷ ts) q) (held s.cells q) = λ q.
+      subst (λ x. Shows x (word_at (Run fr ∷ ts) q) (held s.cells q)) (sym (fresh_value k null us m.cells is m.root q ∙ sym (value_alike us m.cells (Holds_operation k n ∷ is) is m.root (λ e. owns_none (Holds_operation k n) is e refl) q) ∙ sym (ap (λ es. value_in us m.cells es m.root q) was)))
+      (subst (λ x. Shows (value_in us m.cells m.entries.items m.root q) x (held s.cells q)) (sym (fresh_word k' Static (length js) ts q)) (agrees.values q)) in
+      record {
+        tasks = (reframed f fr (slice_set f.registers 0 n) (Some w ∷ []) 0 0 begun (length-set f.registers 0 n ∙ length-replicate 16 null) refl, agrees.tasks);
+        values = writes _ _ _ _ (held s.cells) _ q0 n (Some w) None base word
+            (value_written f us m.cells is m.root d 0 n 0 long (let wide = length-replicate 16 null in omega arith))
+            (word_written fr ts 0 0 (Some w))
+            (λ q. kept (held s.cells) q0 q ∙ ap (λ o. changed (held s.cells) q0 o q) (none_above p t s d 0 typed (omega arith)));
+        cells = agrees.cells;
+        entries = same;
+        requests = agrees.requests;
+        natives = agrees.natives;
+        rest = agrees.rest;
+        room = agrees.room;
+        entry_room = agrees.entry_room;
+      }
+
+  pub deals : tops_entry s.items ≡ true → top_is_whole s.cells s.items ≡ true → Agrees p (dealt_with p m) (deals_with p s.items s.tasks s)
+  deals some whole = go refl (entries_alike m.entries.items s.items agrees.entries (entry_tops m.entries.items s.items agrees.entries some)) whole
+    where
+      go : {is : List Held_item} {js : List Item} → m.entries.items ≡ is → Entries_alike is js → top_is_whole s.cells js ≡ true → Agrees p (dealing p is m) (deals_with p js s.tasks s)
+      go was (entries_own n is js same) whole = object_goes n is js was same (held s.cells (Entry (length js))) refl whole
+      go was (entries_run k n k' w is js which word same) whole = operation_runs k n k' w is js was which word same
+
+module _ (p : Image) (m : Parts) where
+  pub deletes_entry : IsNext p PopDelete m → IsAboveMark m.entries.items
+  unfolding at_hand
+  deletes_entry next = let n = needs_met p m PopDelete next in entry_tops m.entries.items next.stands.0.items next.stands.1.agrees.entries n.1.0
+
+  pub deletes_whole : IsNext p PopDelete m → TopLives m
+  unfolding at_hand
+  deletes_whole next = let n = needs_met p m PopDelete next in top_lives p (counting next.counts m) next.stands.1.typing next.stands.0 next.stands.1.typed next.stands.1.agrees n.1.1.0
+
+pub pop_delete_does : (p : Image) (m : Parts) (refused : List ℕ) → DoesIn p refused PopDelete m (dealt_with p m)
+pop_delete_does p m refused h here =
+    plain_at p m _ refused PopDelete refl h (λ c needs typed.
+    let s = h.state in
+    subst (Agrees p (dealt_with p m)) (dealing_effect p h.frame h.below s s.items (held s.cells (top_place s.items)) refl refl needs.0 needs.1.0)
+    (subst (λ us. Agrees p (dealt_with p m) (deals_with p s.items us s)) h.top (deals p m h.typing s h.typed h.agrees needs.0 needs.1.0)))

@@ -1,0 +1,371 @@
+-- A method is called: it begins over the one that runs, with its arguments in its first registers.
+use Rattle.std.proofs.Common.{zero, suc, ◌≡◌, ◌==◌, ◌&&◌, ℕ, ℤ, ◌<◌, ◌≤◌, ◌+◌, Bool, true, false, cond, length, List, [], ◌∷◌, ◌++◌, Option, Some, None, slice_index_or, slice_set, refl, sym, ap, ◌∙◌, subst, arith, append-nil, append_assoc}
+use Rattle.std.specs.Prelude.{IsSome, is_some, nat_le}
+use Rattle.std.proofs.lemmas.Bool.{eq-eqb, eqb-true, ne_eqb}
+use Rattle.std.proofs.lemmas.Bool.Decides.{leb_tells}
+use Rattle.std.proofs.lemmas.List.{length-set}
+use Rattle.aom_image.specs.Image.{Image}
+use Rattle.aom_image.specs.Views.{arguments_in, arguments_of, class_in, method_at, method_class}
+use Rattle.aom_instructions.specs.declared.instr.Instr.TheVariants.{Call, Trap}
+use Rattle.aom_instructions.specs.declared.instr.Target.{Target}
+use Rattle.aom_instructions.specs.declared.instr.Target.TheVariants.{This, Register as On_register, Field as On_field, Entry as On_entry}
+use Rattle.aom_image.specs.declared.method.Argument.{Argument}
+use Rattle.aom_image.specs.declared.method.Argument.TheVariants.{Word as Takes_word, Own as Takes_own}
+use Rattle.aom_image.specs.declared.method.Method.{Method as Method_decl}
+use Rattle.aom_cells.specs.Heap.{Heap, null}
+use Rattle.aom_shape.specs.Needs.{AllTrue}
+use Rattle.aom_shape.specs.Tables.{put_at}
+use Rattle.aom_sound.specs.Calls.{entered, entry_place, home_at, needs_each, needs_target, passed_cells, passed_words, target_home}
+use Rattle.aom_sound.specs.Places.{Place, Register, Entry, Going, Object, Cell, changed, held, moved, same_place}
+use Rattle.aom_sound.specs.State.{Frame, Task, Run, Trapped, A_mark, State, field_place, frame_of, word}
+use Rattle.aom_sound.proofs.Finishing.{all_parts}
+use Rattle.aom_sound.proofs.Maps.{held_moved}
+use Rattle.aom_frames.specs.Tasks.{fresh, given, given_here, on_top, passed_on, passing, register_here, this_here, with_register, method_here, place_here}
+use Rattle.aom_frames.specs.declared.frame.Frame.{Frame as Held_frame}
+use Rattle.aom_frames.specs.declared.task.Task.{Task as Held_task}
+use Rattle.aom_frames.specs.declared.task.Task.TheVariants.{Run as Runs_frame, Trapped as Is_trap}
+use Rattle.aom_cleanup.specs.declared.item.Item.TheVariants.{Mark as Is_mark}
+use Rattle.aom_cleanup.specs.declared.item.Item.{Item}
+use Rattle.aom_parts.proofs.Asking.{requests_passed}
+use Rattle.aom_parts.specs.declared.parts.Parts.{Parts}
+use Rattle.aom_acts.specs.Next.{IsNext, counting}
+use Rattle.aom_parts.specs.Places.{value_in, register_in, going_in, with_items, with_tasks}
+use Rattle.aom_parts.specs.Agrees.{word_at, word_in, Shows, SameCells, SameFrame, home_number, number, Agrees}
+use Rattle.aom_acts.specs.Acts.{At_hand, DoesIn, requested}
+use Rattle.aom_acts.specs.Calls.{target_here}
+use Rattle.aom_parts.proofs.Cells.{cells_moved}
+use Rattle.aom_parts.proofs.Entries.{entry_number, mark_shows_none}
+use Rattle.aom_acts.proofs.FieldActs.{field_shown}
+use Rattle.aom_acts.proofs.GoingActs.{fresh_value, fresh_word}
+use Rattle.aom_acts.proofs.Housing.{at_hand, needs_met}
+use Rattle.aom_acts.proofs.ObjectActs.{shown}
+use Rattle.aom_parts.proofs.Overs.{held_over, higher, over_deep, over_register, over_value, over_word, over_words, tasks_over}
+use Rattle.aom_acts.proofs.ReturnActs.{none_above}
+use Rattle.aom_acts.proofs.WordActs.{plain_at}
+use Rattle.aom_acts.proofs.Standing.{Top, by_top, begun_frame, reframed, no_word}
+use Rattle.aom_acts.proofs.Stepping.{at_step}
+use Rattle.aom_parts.proofs.Values.{kept, moves, value_here, value_written, word_written, writes}
+use Rattle.aom_parts.proofs.Sessions.{natives_passed}
+
+-- what a method takes, and of which class it is
+pub arguments_here : (p : Image) (k : ℕ) (d : Method_decl) → method_at p k ≡ Some d → arguments_of p k ≡ d.arguments
+unfolding arguments_in
+arguments_here p k d e = ap arguments_in e
+
+pub class_here : (p : Image) (k : ℕ) (d : Method_decl) → method_at p k ≡ Some d → method_class p k ≡ d.class
+unfolding class_in
+class_here p k d e = ap class_in e
+
+-- a list written at its end
+put_at_end : {A : Type 0} (d : A) (xs : List A) (v : A) → put_at d xs (length xs) v ≡ xs ++ v ∷ []
+put_at_end d [] v = refl
+put_at_end d (x ∷ xs) v = ap (λ ys. x ∷ ys) (put_at_end d xs v)
+
+length_more : {A : Type 0} (xs : List A) (v : A) → length (xs ++ v ∷ []) ≡ suc (length xs)
+length_more [] v = refl
+length_more (x ∷ xs) v = ap suc (length_more xs v)
+
+-- ---- a method is called over another one, or over a trap on it
+
+-- a method's registers hold nothing that goes
+going_kept : (b : Bool) (f f' g : Held_frame) (ms : List Held_task) (k : ℕ) → going_in (Runs_frame g ∷ held_over b (Runs_frame f' ∷ ms)) k ≡ going_in (Runs_frame g ∷ held_over b (Runs_frame f ∷ ms)) k
+going_kept true f f' g ms k = refl
+going_kept false f f' g ms k = refl
+
+-- ---- the arguments go over one after the other
+
+module _ (p : Image) (trapped : Bool) (heap : Heap) (es : List Item) (root : ℕ) (ms : List Held_task) (ts : List Task) (fr cal : Frame) (s : State) (deep : length ms ≡ length ts) where
+  abbrev pub lower : ℕ → Place
+  lower i = Register (length ts) i
+
+  abbrev pub tops : List Task
+  tops = tasks_over trapped (Run fr ∷ ts)
+
+  abbrev pub held_tops : Held_frame → List Held_task
+  held_tops f = held_over trapped (Runs_frame f ∷ ms)
+
+  abbrev pub upper : ℕ → Place
+  upper i = Register (length tops) i
+
+  high : length ts < length tops
+  high = higher trapped (Run fr ∷ ts) (omega arith)
+
+  even_tops : (f : Held_frame) → length (held_tops f) ≡ length tops
+  even_tops f = over_deep trapped (Runs_frame f ∷ ms) (Run fr ∷ ts) (ap suc deep)
+
+  same_tops : (f f' : Held_frame) → length (held_tops f) ≡ length (held_tops f')
+  same_tops f f' = even_tops f ∙ sym (even_tops f')
+
+  abbrev pub with_words : List (Option ℤ) → Frame
+  with_words ws = record cal { words = ws }
+
+  -- so many have gone
+  pub record Passing (f g : Held_frame) (cs : List Cell) (ws : List (Option ℤ)) (to : ℕ) : Type 0 where
+    pub values : (r : Place) → Shows (value_in (Runs_frame g ∷ held_tops f) heap es root r) (word_at (Run (with_words ws) ∷ tops) r) (held cs r)
+    pub cells : SameCells p heap cs
+    pub free : (i : ℕ) → to ≤ i → held cs (upper i) ≡ None
+    pub even : length ws ≡ to
+    pub caller : SameFrame f fr
+    pub called : SameFrame g (with_words ws)
+
+  -- what a register at that depth holds, past the method that is called
+  past_called : (f g : Held_frame) (e j : ℕ) → value_in (Runs_frame g ∷ held_tops f) heap es root (Register e j) ≡ cond (length (held_tops f) == e) (slice_index_or g.registers j null) (register_in (Runs_frame f ∷ ms) e j)
+  past_called f g e j = ap (λ x. cond (length (held_tops f) == e) (slice_index_or g.registers j null) x) (over_register trapped (Runs_frame f ∷ ms) e j)
+
+  lower_value : (f g : Held_frame) (i : ℕ) → value_in (Runs_frame g ∷ held_tops f) heap es root (lower i) ≡ slice_index_or f.registers i null
+  lower_value f g i =
+      let above = high in
+      let even = even_tops f in
+      past_called f g (length ts) i
+      ∙ ap (λ b. cond b (slice_index_or g.registers i null) (register_in (Runs_frame f ∷ ms) (length ts) i)) (ne_eqb (length (held_tops f)) (length ts) (λ e. absurd (omega arith)))
+      ∙ value_here f ms heap es root (length ts) i deep
+
+  lower_word : (c : Frame) (i : ℕ) → word_at (Run c ∷ tops) (lower i) ≡ word fr i
+  lower_word c i =
+      let above = high in
+      ap (λ b. cond b (word c i) (word_in tops (length ts) i)) (ne_eqb (length tops) (length ts) (λ e. absurd (omega arith)))
+      ∙ over_word trapped (Run fr ∷ ts) (length ts) i
+      ∙ ap (λ b. cond b (word fr i) (word_in ts (length ts) i)) (eq-eqb (length ts) (length ts) refl)
+
+  -- the register of the caller is null from then on
+  lower_written : (f g : Held_frame) (i : ℕ) → i < length f.registers → (r : Place)
+      → value_in (Runs_frame g ∷ held_tops (record f { registers = slice_set f.registers i null })) heap es root r ≡ changed (value_in (Runs_frame g ∷ held_tops f) heap es root) (lower i) null r
+  lower_written f g i small (Going k) = going_kept trapped f (record f { registers = slice_set f.registers i null }) g ms k
+  lower_written f g i small (Register e j) =
+      let f' = record f { registers = slice_set f.registers i null } in
+      past_called f' g e j
+      ∙ ap (λ n. cond (n == e) (slice_index_or g.registers j null) (register_in (Runs_frame f' ∷ ms) e j)) (same_tops f' f)
+      ∙ ap (λ n. cond (length (held_tops f) == e) (slice_index_or g.registers j null) n) (value_written f ms heap es root (length ts) i null f.place deep small (Register e j))
+      ∙ go (length (held_tops f) == e) refl
+      ∙ ap (λ x. cond ((length ts == e) && (i == j)) null x) (sym (past_called f g e j))
+    where
+      go : (b : Bool) → (length (held_tops f) == e) ≡ b
+          → cond b (slice_index_or g.registers j null) (cond ((length ts == e) && (i == j)) null (register_in (Runs_frame f ∷ ms) e j)) ≡ cond ((length ts == e) && (i == j)) null (cond b (slice_index_or g.registers j null) (register_in (Runs_frame f ∷ ms) e j))
+      go false is = refl
+      go true is =
+          let at = eqb-true (length (held_tops f)) e is in
+          let above = high in
+          let even = even_tops f in
+          ap (λ b. cond (b && (i == j)) null (slice_index_or g.registers j null)) (sym (ne_eqb (length ts) e (λ d. absurd (omega arith))))
+  lower_written f g i small _ = refl
+
+  words_put : (ws : List (Option ℤ)) (to : ℕ) (w : Option ℤ) → length ws ≡ to → (r : Place) → word_at (Run (with_words (ws ++ w ∷ [])) ∷ tops) r ≡ changed (word_at (Run (with_words ws) ∷ tops)) (upper to) w r
+  words_put ws to w even r =
+      ap (λ vs. word_at (Run (with_words vs) ∷ tops) r) (sym (put_at_end None ws w) ∙ ap (λ n. put_at None ws n w) even)
+      ∙ word_written (with_words ws) tops to cal.place w r
+
+  upper_written : (f g : Held_frame) (to n : ℕ) → to < length g.registers → (r : Place)
+      → value_in (Runs_frame (with_register to n g) ∷ held_tops f) heap es root r ≡ changed (value_in (Runs_frame g ∷ held_tops f) heap es root) (upper to) n r
+  upper_written f g to n small = value_written g (held_tops f) heap es root (length tops) to n g.place (even_tops f) small
+
+  called_on : (g : Held_frame) (ws : List (Option ℤ)) (to n : ℕ) (w : Option ℤ) → SameFrame g (with_words ws) → SameFrame (with_register to n g) (with_words (ws ++ w ∷ []))
+  called_on g ws to n w same = let wide = same.wide in reframed g (with_words ws) (slice_set g.registers to n) (ws ++ w ∷ []) g.place cal.place same (length-set g.registers to n ∙ wide) same.place
+
+  -- a word, which owns nothing
+  word_alone : (n : ℕ) (w : Option ℤ) (o : Option Object) → is_some w ≡ true → Shows n w o → Shows n w None
+  word_alone n (Some w) None e shows = shows
+  word_alone n _ _ e shows = absurd (first_of (assumption tt, cc))
+
+  word_goes : (f g : Held_frame) (cs : List Cell) (ws : List (Option ℤ)) (first to : ℕ) → to < 16 → is_some (word fr first) ≡ true → Passing f g cs ws to → Passing f (with_register to (slice_index_or f.registers first null) g) cs (ws ++ word fr first ∷ []) (suc to)
+  word_goes f g cs ws first to small some passing =
+      let wide = passing.called.wide in
+      let n = slice_index_or f.registers first null in
+      let shows = subst (λ k. Shows k (word fr first) (held cs (lower first))) (lower_value f g first) (subst (λ w. Shows (value_in (Runs_frame g ∷ held_tops f) heap es root (lower first)) w (held cs (lower first))) (lower_word (with_words ws) first) (passing.values (lower first))) in
+      record {
+        values = writes _ _ _ _ _ _ (upper to) n (word fr first) None passing.values (word_alone n (word fr first) (held cs (lower first)) some shows)
+            (upper_written f g to n (omega arith))
+            (words_put ws to (word fr first) passing.even)
+            (λ r. kept (held cs) (upper to) r ∙ ap (λ o. changed (held cs) (upper to) o r) (passing.free to (omega arith)));
+        cells = passing.cells;
+        free = λ i le. passing.free i (omega arith);
+        even = length_more ws (word fr first) ∙ ap suc passing.even;
+        caller = passing.caller;
+        called = called_on g ws to n (word fr first) passing.called;
+      }
+
+  -- an object, which leaves null
+  object_goes : (f g : Held_frame) (cs : List Cell) (ws : List (Option ℤ)) (first to : ℕ) → to < 16 → first < 16 → word fr first ≡ None → Passing f g cs ws to
+      → Passing (with_register first null f) (with_register to (slice_index_or f.registers first null) g) (moved (lower first) (upper to) cs) (ws ++ None ∷ []) (suc to)
+  object_goes f g cs ws first to small low none passing =
+      let wide = passing.called.wide in
+      let broad = passing.caller.wide in
+      let n = slice_index_or f.registers first null in
+      let v = value_in (Runs_frame g ∷ held_tops f) heap es root in
+      let there = passing.free to (omega arith) in
+      let above = high in
+      record {
+        values = moves v _ (word_at (Run (with_words ws) ∷ tops)) _ (held cs) _ (lower first) (upper to) passing.values (lower_word (with_words ws) first ∙ none)
+            (λ r. upper_written (with_register first null f) g to n (omega arith) r
+            ∙ ap (λ x. cond (same_place (upper to) r) n x) (lower_written f g first (omega arith) r)
+            ∙ ap (λ x. changed (changed v (lower first) null) (upper to) x r) (sym (lower_value f g first)))
+            (words_put ws to None passing.even)
+            (λ r. held_moved cs (lower first) (upper to) r there);
+        cells = cells_moved p heap cs (lower first) (upper to) passing.cells;
+        free = λ i le. held_moved cs (lower first) (upper to) (upper i) there
+            ∙ ap (λ b. cond ((length tops == length tops) && b) (held cs (lower first)) (cond (same_place (lower first) (upper i)) None (held cs (upper i)))) (ne_eqb to i (λ e. absurd (omega arith)))
+            ∙ aside (length tops == length tops) (held cs (lower first)) _
+            ∙ ap (λ b. cond (b && (first == i)) None (held cs (upper i))) (ne_eqb (length ts) (length tops) (λ e. absurd (omega arith)))
+            ∙ passing.free i (omega arith);
+        even = length_more {A = Option ℤ} ws None ∙ ap suc passing.even;
+        caller = reframed f fr (slice_set f.registers first null) fr.words f.place fr.place passing.caller (length-set f.registers first null ∙ broad) passing.caller.place;
+        called = called_on g ws to n None passing.called;
+      }
+    where
+      aside : (b : Bool) (x y : Option Object) → cond (b && false) x y ≡ y
+      aside true x y = refl
+      aside false x y = refl
+
+  all_go : (xs : List Argument) (first to : ℕ) (f g : Held_frame) (cs : List Cell) (ws : List (Option ℤ)) → (first + length xs) ≤ 16 → (to + length xs) ≤ 16 → AllTrue (needs_each p fr ts s xs first) → Passing f g cs ws to
+      → Passing (passed_on xs first f) (given xs first to f g) (passed_cells p fr ts s (length tops) xs first to cs) (ws ++ passed_words p fr ts s xs first) (to + length xs)
+  all_go [] first to f g cs ws low small needs passing = subst (λ n. Passing f g cs (ws ++ []) n) (let n = zero in omega arith) (subst (λ vs. Passing f g cs vs to) (sym (append-nil ws)) passing)
+  all_go (Takes_word ∷ xs) first to f g cs ws low small needs passing =
+      let n = slice_index_or f.registers first null in
+      let rest = all_go xs (suc first) (suc to) f (with_register to n g) cs (ws ++ word fr first ∷ []) (omega arith) (omega arith) needs.1 (word_goes f g cs ws first to (omega arith) needs.0 passing) in
+      subst (λ k. Passing (passed_on xs (suc first) f) (given xs (suc first) (suc to) f (with_register to n g)) (passed_cells p fr ts s (length tops) xs (suc first) (suc to) cs) (ws ++ word fr first ∷ passed_words p fr ts s xs (suc first)) k) (omega arith)
+      (subst (λ vs. Passing (passed_on xs (suc first) f) (given xs (suc first) (suc to) f (with_register to n g)) (passed_cells p fr ts s (length tops) xs (suc first) (suc to) cs) vs (suc to + length xs)) (append_assoc ws (word fr first ∷ []) (passed_words p fr ts s xs (suc first))) rest)
+  all_go (Takes_own t ∷ xs) first to f g cs ws low small needs passing =
+      let n = slice_index_or f.registers first null in
+      let f' = with_register first null f in
+      let g' = with_register to n g in
+      let cs' = moved (lower first) (upper to) cs in
+      let rest = all_go xs (suc first) (suc to) f' g' cs' (ws ++ None ∷ []) (omega arith) (omega arith) needs.1.1.1 (object_goes f g cs ws first to (omega arith) (omega arith) (no_word _ needs.0) passing) in
+      subst (λ k. Passing (passed_on xs (suc first) f') (given xs (suc first) (suc to) f' g') (passed_cells p fr ts s (length tops) xs (suc first) (suc to) cs') (ws ++ None ∷ passed_words p fr ts s xs (suc first)) k) (omega arith)
+      (subst (λ vs. Passing (passed_on xs (suc first) f') (given xs (suc first) (suc to) f' g') (passed_cells p fr ts s (length tops) xs (suc first) (suc to) cs') vs (suc to + length xs)) (append_assoc ws (None ∷ []) (passed_words p fr ts s xs (suc first))) rest)
+
+-- ---- the call
+
+-- what the method works on
+home_of : (p : Image) (m : Parts) (h : At_hand p m) (target : Target) (class : Option ℕ) (first count : ℕ) → AllTrue (needs_target p h.frame h.below h.state target class first count) → target_here target class m ≡ home_number (target_home p h.frame h.below h.state target class)
+home_of p m h This None first count needs = refl
+home_of p m h This (Some c) first count needs = by_top p m h (λ us. this_here us ≡ home_number h.frame.home) (λ f ms top. top.frame.this)
+home_of p m h (On_register r) class first count needs =
+    by_top p m h (λ us. register_here us r ≡ home_number (home_at (held h.state.cells (Register (length h.below) r)) (Register (length h.below) r)))
+    (λ f ms top. shown p m h f ms top r (no_word _ needs.0) ∙ owner (held h.state.cells (Register (length h.below) r)) (Register (length h.below) r))
+  where
+    owner : (o : Option Object) (q : Place) → number o ≡ home_number (home_at o q)
+    owner None q = refl
+    owner (Some o) q = refl
+home_of p m h (On_field g) class first count needs = field_shown p m h g needs.0 ∙ owner (held h.state.cells (field_place h.frame.home g)) (field_place h.frame.home g)
+  where
+    owner : (o : Option Object) (q : Place) → number o ≡ home_number (home_at o q)
+    owner None q = refl
+    owner (Some o) q = refl
+home_of p m h (On_entry k) class first count needs =
+    entry_number m.entries.items h.state.items k _ h.agrees.entries needs.0 refl
+    ∙ h.agrees.values (entry_place h.state.items k)
+    ∙ owner (held h.state.cells (entry_place h.state.items k)) (entry_place h.state.items k)
+  where
+    owner : (o : Option Object) (q : Place) → number o ≡ home_number (home_at o q)
+    owner None q = refl
+    owner (Some o) q = refl
+
+-- what a method that is called finds, over the caller or over a trap on it
+module _ (p : Image) (m : Parts) (h : At_hand p m) (trapped : Bool) (target : Target) (k first height : ℕ) where
+  abbrev xs : List Argument
+  xs = arguments_of p k
+
+  abbrev called : Frame
+  called = frame_of k (target_home p h.frame h.below h.state target (method_class p k)) height
+
+  abbrev this : ℕ
+  this = target_here target (method_class p k) m
+
+  abbrev over : List Task
+  over = tasks_over trapped (Run h.frame ∷ h.below)
+
+  pub enters : (f : Held_frame) (ms : List Held_task) (top : Top m h.state h.frame h.below f ms) → this ≡ home_number (target_home p h.frame h.below h.state target (method_class p k)) → (first + length xs) ≤ 16 → AllTrue (needs_each p h.frame h.below h.state xs first)
+      → Passing p trapped m.cells m.entries.items m.root ms h.below h.frame called h.state top.deep (passed_on xs first f) (given xs first 0 f (fresh k this)) (passed_cells p h.frame h.below h.state (length over) xs first 0 h.state.cells) (passed_words p h.frame h.below h.state xs first) (0 + length xs)
+  enters f ms top home fits each =
+      let s = h.state in
+      let fr = h.frame in
+      let ts = h.below in
+      let us = held_over trapped (Runs_frame f ∷ ms) in
+      let layers = ap length h.top in
+      let above = higher trapped (Run fr ∷ ts) {n = length ts} (omega arith) in
+      let begun : Passing p trapped m.cells m.entries.items m.root ms ts fr called s top.deep f (fresh k this) s.cells [] 0 = record {
+        values = λ r. subst (λ n. Shows n (word_at (Run called ∷ over) r) (held s.cells r)) (sym (fresh_value k this us m.cells m.entries.items m.root r ∙ over_value trapped (Runs_frame f ∷ ms) m.cells m.entries.items m.root r))
+            (subst (λ w. Shows (value_in (Runs_frame f ∷ ms) m.cells m.entries.items m.root r) w (held s.cells r)) (sym (fresh_word k (target_home p fr ts s target (method_class p k)) height over r ∙ over_words trapped (Run fr ∷ ts) r)) (top.values r));
+        cells = h.agrees.cells;
+        free = λ i le. none_above p h.typing s (length over) i h.typed (omega arith);
+        even = refl;
+        caller = top.frame;
+        called = begun_frame k this (target_home p fr ts s target (method_class p k)) height home;
+      } in
+      all_go p trapped m.cells m.entries.items m.root ms ts fr called s top.deep xs first 0 f (fresh k this) s.cells [] fits (omega arith) each begun
+
+pub within : (a n : ℕ) → nat_le (a + n) 16 ≡ true → (a + n) ≤ 16
+within a n e = grind (arith, leb_tells (a + n) 16)
+
+pub call_does : (p : Image) (m : Parts) (refused : List ℕ) (target : Target) (k first x : ℕ)
+    → DoesIn p refused (Call target k first x) m (with_tasks (Runs_frame (given_here (arguments_of p k) first m.stack.tasks (fresh k (target_here target (method_class p k) m))) ∷ on_top (passed_on (arguments_of p k) first) m.stack.tasks) m)
+call_does p m refused target k first x h here =
+    let s = h.state in
+    let fr = h.frame in
+    let ts = h.below in
+    let xs = arguments_of p k in
+    let this = target_here target (method_class p k) m in
+    plain_at p m _ refused (Call target k first x) refl h (λ c needs typed.
+    let parts = all_parts (needs_target p fr ts s target (method_class p k) first (length xs)) _ needs in
+    let fits = within first (length xs) parts.1.0 in
+    let each = (all_parts (needs_each p fr ts s xs first) _ parts.1.1).0 in
+    by_top p m h
+    (λ us. Agrees p (with_tasks (Runs_frame (given_here xs first us (fresh k this)) ∷ on_top (passed_on xs first) us) m) (record s { cells = passed_cells p fr ts s (suc (length ts)) xs first 0 s.cells; tasks = Run (entered p fr ts s target k first (length s.items)) ∷ Run fr ∷ ts }))
+    (λ f ms top.
+    let done = enters p m h false target k first (length s.items) f ms top (home_of p m h target (method_class p k) first (length xs) parts.0) fits each in
+    record {
+      tasks = (done.called, (done.caller, top.below));
+      values = done.values;
+      cells = done.cells;
+      entries = h.agrees.entries;
+      requests = requests_passed p fr ts s m.active (suc (length ts)) xs first 0 s.cells h.agrees.requests;
+      natives = natives_passed p fr ts s m.sessions (suc (length ts)) xs first 0 s.cells h.agrees.natives;
+      rest = h.agrees.rest;
+      room = h.agrees.room;
+      entry_room = h.agrees.entry_room;
+    }))
+
+-- under a trap, whose mark owns nothing
+marked_value : (us : List Held_task) (h : Heap) (es : List Item) (root : ℕ) (r : Place) → value_in us h (Is_mark ∷ es) root r ≡ value_in us h es root r
+marked_value us h es root (Entry k) = mark_shows_none es k
+marked_value us h es root _ = refl
+
+pub trap_does : (p : Image) (m : Parts) (refused : List ℕ) (target : Target) (k first x : ℕ)
+    → DoesIn p refused (Trap target k first x) m (with_items (Is_mark ∷ m.entries.items) (with_tasks (Runs_frame (given_here (arguments_of p k) first m.stack.tasks (fresh k (target_here target (method_class p k) m))) ∷ Is_trap ∷ on_top (passed_on (arguments_of p k) first) m.stack.tasks) m))
+trap_does p m refused target k first x h here =
+    let s = h.state in
+    let fr = h.frame in
+    let ts = h.below in
+    let xs = arguments_of p k in
+    let this = target_here target (method_class p k) m in
+    plain_at p m _ refused (Trap target k first x) refl h (λ c needs typed.
+    let parts = all_parts (needs_target p fr ts s target (method_class p k) first (length xs)) _ needs in
+    let fits = within first (length xs) parts.1.0 in
+    let each = (all_parts (needs_each p fr ts s xs first) _ parts.1.1).0 in
+    by_top p m h
+    (λ us. Agrees p (with_items (Is_mark ∷ m.entries.items) (with_tasks (Runs_frame (given_here xs first us (fresh k this)) ∷ Is_trap ∷ on_top (passed_on xs first) us) m)) (record s { cells = passed_cells p fr ts s (suc (suc (length ts))) xs first 0 s.cells; tasks = Run (entered p fr ts s target k first (suc (length s.items))) ∷ Trapped ∷ Run fr ∷ ts; items = A_mark ∷ s.items }))
+    (λ f ms top.
+    let done = enters p m h true target k first (suc (length s.items)) f ms top (home_of p m h target (method_class p k) first (length xs) parts.0) fits each in
+    record {
+      tasks = (done.called, (tt, (done.caller, top.below)));
+      values = λ r. subst (λ n. Shows n (word_at (Run (entered p fr ts s target k first (suc (length s.items))) ∷ Trapped ∷ Run fr ∷ ts) r) (held (passed_cells p fr ts s (suc (suc (length ts))) xs first 0 s.cells) r)) (sym (marked_value (Runs_frame (given xs first 0 f (fresh k this)) ∷ Is_trap ∷ Runs_frame (passed_on xs first f) ∷ ms) m.cells m.entries.items m.root r)) (done.values r);
+      cells = done.cells;
+      entries = (tt, h.agrees.entries);
+      requests = requests_passed p fr ts s m.active (suc (suc (length ts))) xs first 0 s.cells h.agrees.requests;
+      natives = natives_passed p fr ts s m.sessions (suc (suc (length ts))) xs first 0 s.cells h.agrees.natives;
+      rest = h.agrees.rest;
+      room = h.agrees.room;
+      entry_room = h.agrees.entry_room;
+    }))
+
+-- ---- what the code needs to know of a call that is next
+
+module _ (p : Image) (m : Parts) (target : Target) (k first x : ℕ) (next : IsNext p (Call target k first x) m) where
+  pub called_there : IsSome (method_at p k)
+  called_there = (next.stands.1.sound.wired.called (method_here m.stack.tasks) (place_here m.stack.tasks) target k first x next.here).there
+
+  pub called_fits : (first + length (arguments_of p k)) ≤ 16
+  called_fits =
+      let n = needs_met p m (Call target k first x) next in
+      let h = at_hand p (counting next.counts m) next.stands next.runs in
+      let parts = all_parts (needs_target p h.frame h.below (requested (Call target k first x) (at_step h.state)) target (method_class p k) first (length (arguments_of p k))) _ n.1 in
+      grind (arith, leb_tells (first + length (arguments_of p k)) 16, parts.1.0)

@@ -1,0 +1,244 @@
+-- Instructions on the words and the owning fields of what a method works on: of its cell, or of main's, the root.
+use Rattle.std.proofs.lemmas.Option.{none-some}
+use Rattle.std.proofs.Common.{inl, inr, ◌≡◌, ◌≢◌, ℕ, ℤ, ◌<◌, true, cond, length, List, ◌∷◌, Option, Some, None, refl, sym, ap, ◌∙◌, subst, arith}
+use Rattle.std.specs.Prelude.{is_some, nat_lt}
+use Rattle.std.specs.Int.{w32, cast_signed}
+use Rattle.std.proofs.lemmas.Bool.{eq-eqb, false≢true, ltb-true, ne_eqb}
+use Rattle.aom_image.specs.Image.{Image}
+use Rattle.aom_instructions.specs.declared.instr.Instr.TheVariants.{Load, Store, Take, Put, JumpEmpty}
+use Rattle.aom_image.specs.declared.method.Thing.{Thing}
+use Rattle.aom_cells.specs.Heap.{Heap, null, field_at, Lives, word_at as cell_word}
+use Rattle.aom_shape.specs.Things.{field_thing, word_count}
+use Rattle.aom_shape.specs.Tables.{put_at}
+use Rattle.aom_sound.specs.Places.{Place, Register, Field, Elsewhere, Root, Object, held, named, moved, changed}
+use Rattle.aom_sound.specs.Effects.{applied, writes as writes_word}
+use Rattle.aom_sound.specs.State.{Home, Static, AtRoot, Inside, next, set_word, Task, Run, field_place, home_holder}
+use Rattle.aom_sound.specs.Objects.{is_declared_thing}
+use Rattle.aom_sound.specs.WellTyped.{IsHoused, Now, Stack}
+use Rattle.aom_sound.specs.Words.{loaded, stored, read}
+use Rattle.aom_sound.proofs.Storing.{held_set_word}
+use Rattle.aom_sound.proofs.Maps.{held_moved}
+use Rattle.aom_sound.proofs.Layers.{method_layer}
+use Rattle.aom_frames.specs.Tasks.{on_top, with_register, register_here, this_here}
+use Rattle.aom_frames.specs.declared.task.Task.{Task as Held_task}
+use Rattle.aom_frames.specs.declared.task.Task.TheVariants.{Run as Runs_frame}
+use Rattle.aom_parts.proofs.Asking.{requests_moved, requests_stored}
+use Rattle.aom_parts.specs.declared.parts.Parts.{Parts}
+use Rattle.aom_parts.specs.Places.{value_in, WritesWord, set_register}
+use Rattle.aom_parts.specs.Agrees.{word_at, home_number, Shows, number, SameCells, Agrees}
+use Rattle.aom_acts.specs.Acts.{At_hand, Does}
+use Rattle.aom_parts.specs.Places as places
+use Rattle.aom_parts.specs.Fields.{this, ThisLives, field_here, PutsWord, PutsField, WritesField}
+use Rattle.aom_parts.proofs.Values.{kept, value_here, value_written, word_written, moves}
+use Rattle.aom_acts.proofs.Standing.{by_top, word_here, free, no_word, unnamed}
+use Rattle.aom_parts.proofs.CellFields.{field_written, root_written, word_put_elsewhere, cell_of, cells_put, cells_stored}
+use Rattle.aom_acts.proofs.WordActs.{word_read, word_put, plain_does}
+use Rattle.aom_acts.proofs.ObjectActs.{jumps_empty, passes_full}
+use Rattle.aom_image.proofs.Given.{some_given}
+use Rattle.aom_acts.proofs.GoingOn.{framed, goes_on_as, goes_on_with}
+use Rattle.aom_parts.proofs.Cells.{cells_moved}
+use Rattle.aom_parts.proofs.Sessions.{natives_moved, natives_stored}
+
+-- ---- the cell that a method works on
+
+module _ (p : Image) (m : Parts) (h : At_hand p m) where
+  -- it lives
+  pub housed : (o : Object) (from : Place) → h.frame.home ≡ Inside o from → named h.state.cells o.name ≡ Some o
+  housed o from e = method_layer (λ ls. Stack p h.typing h.state.cells Now ls) h.frame h.below h.typed.layers (sym h.typed.tasks ∙ h.top) h.typed.good.stack (λ sh ls _ stack.
+      let lives = subst (IsHoused p h.state.cells ls) e stack.2 in
+      lives.lives)
+
+  -- the machine's number of it
+  pub this_is : this m ≡ home_number h.frame.home
+  this_is = by_top p m h (λ us. this_here us ≡ home_number h.frame.home) (λ f ms top. top.frame.this)
+
+  pub inside_number : (o : Object) (from : Place) → h.frame.home ≡ Inside o from → this m ≡ o.name
+  inside_number o from e = this_is ∙ ap home_number e
+
+  pub inside_there : (o : Object) (from : Place) → h.frame.home ≡ Inside o from → this m ≢ null
+  inside_there o from e n = none-some _ (sym (sym (housed o from e) ∙ ap (named h.state.cells) (sym (inside_number o from e) ∙ n) ∙ unnamed p m h.state null h.agrees h.agrees.cells.null_is_none))
+
+  pub is_housed : ThisLives m
+  is_housed there = go h.frame.home refl
+    where
+      go : (home : Home) → h.frame.home ≡ home → Lives m.cells (this m)
+      go (Inside o from) e =
+          let c = cell_of p m.cells h.state.cells o.name o h.agrees.cells (housed o from e) in
+          subst (Lives m.cells) (sym (inside_number o from e)) (ap is_some c.1)
+      go _ e = absurd (there (this_is ∙ ap home_number e))
+
+  -- a method that has words has a cell
+  no_words : {P : Type 0} (w : ℕ) → nat_lt w 0 ≡ true → P
+  no_words w e = let lt = ltb-true w 0 e in absurd (omega (arith, lt))
+
+  pub has_cell : (w : ℕ) → nat_lt w (word_count p (home_holder h.frame.home)) ≡ true → this m ≢ null
+  has_cell w has n = go h.frame.home refl has
+    where
+      go : (home : Home) → h.frame.home ≡ home → nat_lt w (word_count p (home_holder home)) ≡ true → ⊥
+      go Static e has = no_words w has
+      go AtRoot e has = no_words w has
+      go (Inside o from) e has = inside_there o from e n
+
+  -- ---- words
+
+  pub word_loaded : (w : ℕ) → nat_lt w (word_count p (home_holder h.frame.home)) ≡ true → cell_word m.cells (this m) w ≡ loaded h.state.cells h.frame.home w
+  word_loaded w has = go h.frame.home refl has
+    where
+      go : (home : Home) → h.frame.home ≡ home → nat_lt w (word_count p (home_holder home)) ≡ true → cell_word m.cells (this m) w ≡ loaded h.state.cells home w
+      go Static e has = no_words w has
+      go AtRoot e has = no_words w has
+      go (Inside o from) e has = ap (λ n. cell_word m.cells n w) (inside_number o from e) ∙ h.agrees.cells.words o.name w
+
+  held_stored : (home : Home) (w : ℕ) (v : ℤ) (r : Place) → held (stored h.state.cells home w v) r ≡ held h.state.cells r
+  held_stored Static w v r = refl
+  held_stored AtRoot w v r = refl
+  held_stored (Inside o from) w v r = held_set_word h.state.cells o.name w v r
+
+  cells_after_store : (heap : Heap) (w : ℕ) (v : ℤ) → nat_lt w (word_count p (home_holder h.frame.home)) ≡ true → PutsWord (this m) w v m.cells heap → SameCells p heap (stored h.state.cells h.frame.home w v)
+  cells_after_store heap w v has puts = go h.frame.home refl has
+    where
+      go : (home : Home) → h.frame.home ≡ home → nat_lt w (word_count p (home_holder home)) ≡ true → SameCells p heap (stored h.state.cells home w v)
+      go Static e has = no_words w has
+      go AtRoot e has = no_words w has
+      go (Inside o from) e has = cells_stored p m.cells heap h.state.cells o.name w v o h.agrees.cells (housed o from e) (subst (λ n. PutsWord n w v m.cells heap) (inside_number o from e) puts)
+
+  -- ---- owning fields
+
+  pub no_word_there : (home : Home) (f : ℕ) (us : List Task) → word_at us (field_place home f) ≡ None
+  no_word_there Static f us = refl
+  no_word_there AtRoot f us = refl
+  no_word_there (Inside o from) f us = refl
+
+  -- a field's number is read from its place
+  here_at_root : (f : ℕ) → this m ≡ null → m.root ≡ field_here f m
+  here_at_root f n = ap (λ b. cond b m.root (field_at m.cells (this m) f)) (sym (eq-eqb (this m) null n))
+
+  pub field_read_here : (f : ℕ) (us : List Held_task) → is_some (field_thing p (home_holder h.frame.home) f) ≡ true → value_in us m.cells m.entries.items m.root (field_place h.frame.home f) ≡ field_here f m
+  field_read_here f us has = go h.frame.home refl has
+    where
+      go : (home : Home) → h.frame.home ≡ home → is_some (field_thing p (home_holder home) f) ≡ true → value_in us m.cells m.entries.items m.root (field_place home f) ≡ field_here f m
+      go Static e has = cc
+      go AtRoot e has = here_at_root f (this_is ∙ ap home_number e)
+      go (Inside o from) e has =
+          ap (λ n. field_at m.cells n f) (sym (inside_number o from e))
+          ∙ ap (λ b. cond b m.root (field_at m.cells (this m) f)) (sym (ne_eqb (this m) null (inside_there o from e)))
+
+  -- and written in its place
+  pub record Written (mid : Parts) (q : Place) (x : ℕ) : Type 0 where
+    pub values : (us : List Held_task) (r : Place) → value_in us mid.cells m.entries.items mid.root r ≡ changed (value_in us m.cells m.entries.items m.root) q x r
+    pub cells : SameCells p mid.cells h.state.cells
+    pub rest : mid ≡ record m { cells = mid.cells; root = mid.root }
+
+  pub field_written_here : (mid : Parts) (f x : ℕ) → is_some (field_thing p (home_holder h.frame.home) f) ≡ true → WritesField f x m mid → Written mid (field_place h.frame.home f) x
+  field_written_here mid f x has writes = go h.frame.home refl has
+    where
+      at_root : mid ≡ record m { root = x } → Written mid (Elsewhere Root) x
+      at_root e = subst (λ k. Written k (Elsewhere Root) x) (sym e) (record { values = λ us r. root_written us m.cells m.entries.items m.root x r; cells = h.agrees.cells; rest = refl })
+
+      in_cell : (o : Object) (from : Place) → h.frame.home ≡ Inside o from → PutsField (this m) f x m.cells mid.cells → mid ≡ record m { cells = mid.cells } → Written mid (Field o.name f) x
+      in_cell o from e puts same =
+          let at = subst (λ n. PutsField n f x m.cells mid.cells) (inside_number o from e) puts in
+          let root : mid.root ≡ m.root = ap (λ (k : Parts). k.root) same in
+          record {
+            values = λ us r. ap (λ n. value_in us mid.cells m.entries.items n r) root ∙ field_written us m.cells mid.cells m.entries.items m.root o.name f x at r;
+            cells = cells_put p m.cells mid.cells h.state.cells o.name f x o h.agrees.cells (housed o from e) at;
+            rest = same ∙ ap (λ n. record m { cells = mid.cells; root = n }) (sym root);
+          }
+
+      go : (home : Home) → h.frame.home ≡ home → is_some (field_thing p (home_holder home) f) ≡ true → Written mid (field_place home f) x
+      go Static e has = cc
+      go AtRoot e has = elim writes [ inl root ↦ at_root root.1 | inr cell ↦ absurd (cell.0 (this_is ∙ ap home_number e)) ]
+      go (Inside o from) e has = elim writes [ inl root ↦ absurd (inside_there o from e root.0) | inr cell ↦ in_cell o from e cell.1 cell.2 ]
+
+  -- the number in a field is that of what the field owns
+  pub field_shown : (f : ℕ) → is_some (field_thing p (home_holder h.frame.home) f) ≡ true → field_here f m ≡ number (held h.state.cells (field_place h.frame.home f))
+  field_shown f has =
+      let q = field_place h.frame.home f in
+      sym (field_read_here f m.stack.tasks has) ∙ subst (λ w. Shows (value_in m.stack.tasks m.cells m.entries.items m.root q) w (held h.state.cells q)) (no_word_there h.frame.home f h.state.tasks) (h.agrees.values q)
+
+-- ---- the instructions
+
+pub load_does : (m new : Parts) (refused : List ℕ) (a w : ℕ) → WritesWord a (cell_word m.cells (this m) w) m new → Does refused (Load a w) m new
+load_does m new refused a w x =
+    plain_does m new refused (Load a w) refl (λ p h c met.
+    subst (λ v. Agrees p new (applied p h.frame h.below h.state (writes_word h.frame a v))) (word_loaded p m h w met.0) (word_put p m new h a _ (free _ met.1.0) x))
+
+pub store_does : (m : Parts) (refused : List ℕ) (w b : ℕ) (heap : Heap) → PutsWord (this m) w (cast_signed w32 (register_here m.stack.tasks b)) m.cells heap → Does refused (Store w b) m (places.next (record m { cells = heap }))
+store_does m refused w b heap puts =
+    plain_does m (places.next (record m { cells = heap })) refused (Store w b) refl (λ p h c met.
+    let s = h.state in
+    let fr = h.frame in
+    let ts = h.below in
+    let v = read fr ts s b in
+    let cs = stored s.cells fr.home w v in
+    let written = subst (λ v. PutsWord (this m) w v m.cells heap) (word_read p m h b met.1.0) puts in
+    goes_on_as p m h (record m { cells = heap }) cs s.items s.rest
+    (record { stack = refl; cells = cells_after_store p m h heap w v met.0 written; entries = h.agrees.entries; requests = requests_stored p m.active s.cells fr.home w v h.agrees.requests; natives = natives_stored p m.sessions s.killed s.cells fr.home w v h.agrees.natives; rest = h.agrees.rest; room = h.agrees.entry_room })
+    (λ f ms e top q.
+    subst (λ n. Shows n (word_at (Run fr ∷ ts) q) (held cs q)) (sym (word_put_elsewhere (Runs_frame f ∷ ms) m.cells heap m.entries.items m.root (this m) w v written q))
+    (subst (λ o. Shows (value_in (Runs_frame f ∷ ms) m.cells m.entries.items m.root q) (word_at (Run fr ∷ ts) q) o) (sym (held_stored p m h fr.home w v q)) (top.values q))))
+
+pub take_does : (m mid : Parts) (refused : List ℕ) (a g n : ℕ) → a < 16 → n ≡ field_here g m → WritesField g null m mid → Does refused (Take a g) m (places.next (set_register a n mid))
+take_does m mid refused a g n small reads writes =
+    plain_does m (places.next (set_register a n mid)) refused (Take a g) refl (λ p h c met.
+    let s = h.state in
+    let fr = h.frame in
+    let ts = h.below in
+    let q = field_place fr.home g in
+    let here = Register (length ts) a in
+    let written = field_written_here p m h mid g null met.0 writes in
+    let mid' = record m { cells = mid.cells; root = mid.root } in
+    subst (λ k. Agrees p (places.next (set_register a n k)) (record s { cells = moved q here s.cells; tasks = Run (next (set_word fr a None)) ∷ ts })) (sym written.rest)
+    (goes_on_with p m h mid' (moved q here s.cells) s.items s.rest (put_at None fr.words a None) (on_top (with_register a n)) (with_register a n) (λ f ms. refl)
+    (record { stack = refl; cells = cells_moved p mid.cells s.cells q here written.cells; entries = h.agrees.entries; requests = requests_moved p m.active s.cells q here h.agrees.requests; natives = natives_moved p m.sessions s.killed s.cells q here h.agrees.natives; rest = h.agrees.rest; room = h.agrees.entry_room })
+    (λ f ms e top.
+    let wide = top.frame.wide in
+    let v = value_in (Runs_frame f ∷ ms) m.cells m.entries.items m.root in
+    record {
+      frame = framed p m h f ms _ a n top;
+      values = moves v _ _ _ (held s.cells) _ q here top.values (no_word_there p m h fr.home g (Run fr ∷ ts))
+          (λ r.
+          value_written f ms mid.cells m.entries.items mid.root (length ts) a n f.place top.deep (omega arith) r
+          ∙ ap (λ y. changed (λ z. y) here n r) (written.values (Runs_frame f ∷ ms) r)
+          ∙ ap (λ y. changed (changed v q null) here y r) (reads ∙ sym (field_read_here p m h g (Runs_frame f ∷ ms) met.0)))
+          (word_written fr ts a fr.place None)
+          (λ r. held_moved s.cells q here r (free _ met.1.0));
+    })))
+
+-- a field that a thing is declared for is declared
+declared_some : (p : Image) (t : Option Thing) (o : Option Object) → is_declared_thing p t o ≡ true → is_some t ≡ true
+declared_some p t o e = some_given (λ t. is_declared_thing p t o ≡ true) t e (λ none. false≢true none) (λ x is _. ap is_some is)
+
+pub put_does : (m mid : Parts) (refused : List ℕ) (g b x : ℕ) → b < 16 → x ≡ register_here m.stack.tasks b → WritesField g x m mid → Does refused (Put g b) m (places.next (set_register b null mid))
+put_does m mid refused g b x small reads writes =
+    plain_does m (places.next (set_register b null mid)) refused (Put g b) refl (λ p h c met.
+    let s = h.state in
+    let fr = h.frame in
+    let ts = h.below in
+    let q = field_place fr.home g in
+    let here = Register (length ts) b in
+    let written = field_written_here p m h mid g x (declared_some p _ _ met.1.0) writes in
+    let mid' = record m { cells = mid.cells; root = mid.root } in
+    subst (λ k. Agrees p (places.next (set_register b null k)) (record s { cells = moved here q s.cells; tasks = Run (next fr) ∷ ts })) (sym written.rest)
+    (goes_on_with p m h mid' (moved here q s.cells) s.items s.rest fr.words (on_top (with_register b null)) (with_register b null) (λ f ms. refl)
+    (record { stack = refl; cells = cells_moved p mid.cells s.cells here q written.cells; entries = h.agrees.entries; requests = requests_moved p m.active s.cells here q h.agrees.requests; natives = natives_moved p m.sessions s.killed s.cells here q h.agrees.natives; rest = h.agrees.rest; room = h.agrees.entry_room })
+    (λ f ms e top.
+    let wide = top.frame.wide in
+    let v = value_in (Runs_frame f ∷ ms) m.cells m.entries.items m.root in
+    record {
+      frame = framed p m h f ms _ b null top;
+      values = moves v _ _ _ (held s.cells) _ here q top.values (word_here fr ts b ∙ no_word _ met.0)
+          (λ r.
+          written.values (Runs_frame (with_register b null f) ∷ ms) r
+          ∙ ap (λ y. changed (λ z. y) q x r) (value_written f ms m.cells m.entries.items m.root (length ts) b null f.place top.deep (omega arith) r)
+          ∙ ap (λ y. changed (changed v here null) q y r) (reads ∙ ap (λ us. register_here us b) e ∙ sym (value_here f ms m.cells m.entries.items m.root (length ts) b top.deep)))
+          (λ r. kept (word_at (Run fr ∷ ts)) q r ∙ ap (λ y. changed (word_at (Run fr ∷ ts)) q y r) (no_word_there p m h fr.home g (Run fr ∷ ts)))
+          (λ r. held_moved s.cells here q r (free _ met.1.1.0));
+    })))
+
+module _ (m : Parts) (refused : List ℕ) where
+  pub jump_empty_does : (g to : ℕ) → field_here g m ≡ null → Does refused (JumpEmpty g to) m (places.to_place to m)
+  jump_empty_does g to is = plain_does m (places.to_place to m) refused (JumpEmpty g to) refl (λ p h c met. jumps_empty m refused p h (field_place h.frame.home g) to (sym (field_shown p m h g met.0) ∙ is))
+
+  pub jump_full_does : (g to : ℕ) → field_here g m ≢ null → Does refused (JumpEmpty g to) m (places.next m)
+  jump_full_does g to is = plain_does m (places.next m) refused (JumpEmpty g to) refl (λ p h c met. passes_full m refused p h (field_place h.frame.home g) to (λ n. is (field_shown p m h g met.0 ∙ n)))

@@ -1,0 +1,50 @@
+-- The cell of the method that runs lives, and where an instruction reads or writes its words there is one.
+use Rattle.std.proofs.Common.{◌≡◌, ℕ, [], Some, sym, ap, ◌∙◌, subst}
+use Rattle.aom_image.specs.Image.{Image}
+use Rattle.aom_image.specs.Views.{instr_at}
+use Rattle.aom_instructions.specs.declared.instr.Instr.{Instr}
+use Rattle.aom_instructions.specs.declared.instr.Instr.TheVariants.{Load, Store}
+use Rattle.aom_cells.specs.Heap.{Lives}
+use Rattle.aom_shape.specs.Needs.{AllTrue}
+use Rattle.aom_sound.specs.State.{Choice}
+use Rattle.aom_sound.specs.Moves.{needs}
+use Rattle.aom_sound.specs.WellTyped.{Keeps}
+use Rattle.aom_frames.specs.Tasks.{Runs, method_here}
+use Rattle.aom_parts.specs.declared.parts.Parts.{Parts}
+use Rattle.aom_acts.specs.Acts.{At_hand, requested}
+use Rattle.aom_parts.specs.Fields.{this, ThisLives}
+use Rattle.aom_acts.specs.Next.{IsNext, counting}
+use Rattle.aom_parts.specs.Stands.{Stands}
+use Rattle.aom_acts.proofs.Standing.{an_open}
+use Rattle.aom_acts.proofs.Stepping.{met, frame_of, at_step, step_of_instr}
+use Rattle.aom_acts.proofs.FieldActs.{is_housed, has_cell}
+
+module _ (p : Image) (m : Parts) (st : Stands (record { image = p; parts = m })) (runs : Runs m.stack.tasks) where
+  unfoldable pub at_hand : At_hand p m
+  at_hand =
+      let f = frame_of m.stack.tasks st.0.tasks runs st.1.agrees.tasks in
+      record { typing = st.1.typing; state = st.0; frame = f.0; below = f.1; top = f.2; wired = st.1.sound.wired; admitted = st.1.sound.admitted; typed = st.1.typed; agrees = st.1.agrees }
+
+  pub finds_home : ThisLives m
+  finds_home = is_housed p m at_hand
+
+module _ (p : Image) (m : Parts) where
+  -- the needs of the instruction that is next are met
+  pub needs_met : (i : Instr) (next : IsNext p i m)
+      → (c : Choice) × (let h = at_hand p (counting next.counts m) next.stands next.runs in AllTrue (needs p c h.frame h.below (requested i (at_step h.state)) i))
+  unfolding at_hand
+  needs_met i next =
+      let st = next.stands in
+      let f = frame_of m.stack.tasks st.0.tasks next.runs st.1.agrees.tasks in
+      let e : instr_at p f.0.method f.0.place ≡ Some i = ap (λ k. instr_at p k f.0.place) (sym f.3) ∙ ap (λ k. instr_at p (method_here m.stack.tasks) k) (sym f.4) ∙ next.here in
+      let c = an_open p [] (counting next.counts m) st.0 st.1.agrees in
+      let k = met p st.1.typing _ _ (subst (Keeps p st.1.typing) (step_of_instr p c.0 st.0 f.0 f.1 i f.2 e) (st.1.sound.keeps c.0 st.0 st.1.typed c.1.name)) in (
+        c.0,
+        k.0,
+      )
+
+  pub finds_loaded : (a w : ℕ) → IsNext p (Load a w) m → Lives m.cells (this m)
+  finds_loaded a w next = let n = needs_met (Load a w) next in next.housed (has_cell p (counting next.counts m) (at_hand p (counting next.counts m) next.stands next.runs) w n.1.0)
+
+  pub finds_stored : (w b : ℕ) → IsNext p (Store w b) m → Lives m.cells (this m)
+  finds_stored w b next = let n = needs_met (Store w b) next in next.housed (has_cell p (counting next.counts m) (at_hand p (counting next.counts m) next.stands next.runs) w n.1.0)

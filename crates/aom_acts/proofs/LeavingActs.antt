@@ -1,0 +1,125 @@
+-- A leave: the methods over the trap end, and nothing of theirs is owned.
+use Rattle.std.proofs.Common.{pos, ◌≡◌, ◌<◌, ◌≤◌, ℕ, ℤ, true, false, cond, not, length, List, [], ◌∷◌, None, refl, sym, ap, ◌∙◌, subst, arith}
+use Rattle.std.proofs.lemmas.Bool.{eq-eqb, and_parts}
+use Rattle.std.specs.Int.{w32, cast_signed}
+use Rattle.std.specs.Prelude.{int_lt, is_some}
+use Rattle.aom_image.specs.Image.{Image}
+use Rattle.aom_instructions.specs.declared.instr.Instr.TheVariants.{Leave, LeaveIf}
+use Rattle.aom_shape.specs.Needs.{AllTrue}
+use Rattle.aom_cells.specs.Heap.{Heap, null}
+use Rattle.aom_cleanup.specs.declared.item.Item.{Item}
+use Rattle.aom_sound.specs.Calls.{is_register_but, none_owns_but}
+use Rattle.aom_sound.specs.Cleanup.{above_trap_is_free, leave_needs, to_trap}
+use Rattle.aom_sound.specs.Places.{Place, Register, Going, Cell, held}
+use Rattle.aom_sound.specs.Effects.{Leaves, Same, applied, updates}
+use Rattle.aom_sound.specs.State.{Task, Run, Trapped, Destroy, Unwind, Dispatched, State, word, Frame}
+use Rattle.aom_sound.specs.Words.{read}
+use Rattle.aom_frames.specs.Tasks.{Runs, register_here, to_trap as held_to_trap}
+use Rattle.aom_frames.specs.declared.task.Task.{Task as Held_task}
+use Rattle.aom_frames.specs.declared.task.Task.TheVariants.{Run as Runs_frame, Trapped as Is_trap, Destroy as Destroys, Unwind as Unwinds, Dispatched as Ends}
+use Rattle.aom_parts.specs.declared.parts.Parts.{Parts}
+use Rattle.aom_acts.specs.Acts.{At_hand, leaving, Does}
+use Rattle.aom_parts.specs.Places as places
+use Rattle.aom_parts.specs.Places.{value_in, register_in, going_in}
+use Rattle.aom_parts.specs.Agrees.{word_in, word_at, Shows, SameTasks, Agrees}
+use Rattle.aom_parts.proofs.Alike.{A_method, Tops, method_on_top, tops}
+use Rattle.aom_parts.proofs.Cells.{unowned}
+use Rattle.aom_acts.proofs.ReturnActs.{beneath, cleared_none}
+use Rattle.aom_acts.proofs.WordActs.{plain_does, word_read, passes}
+use Rattle.aom_parts.proofs.Values.{at_depth, going_past, register_past, same_length, word_past}
+
+-- a leave is no place
+pub unwinds_value : (us : List Held_task) (h : Heap) (es : List Item) (root : ℕ) (code : ℤ) (r : Place) → value_in (Unwinds code ∷ us) h es root r ≡ value_in us h es root r
+unwinds_value us h es root code (Register d i) = at_depth (length us) d null (register_in us d i) (λ k. register_past us d i (omega arith))
+unwinds_value us h es root code (Going k) = at_depth (length us) k null (going_in us k) (λ e. going_past us k (omega arith))
+unwinds_value us h es root code _ = refl
+
+pub unwinds_word : (us : List Task) (code : ℤ) (r : Place) → word_at (Unwind code ∷ us) r ≡ word_at us r
+unwinds_word us code (Register d i) = at_depth (length us) d None (word_in us d i) (λ k. word_past us d i (omega arith))
+unwinds_word us code _ = refl
+
+-- a frame whose registers own nothing
+pub none_owned : (cs : List Cell) (d i : ℕ) → none_owns_but cs d None ≡ true → held cs (Register d i) ≡ None
+none_owned [] d i e = refl
+none_owned (c ∷ cs) d i e =
+    let both = and_parts (not (is_register_but d None c.owner)) (none_owns_but cs d None) e in
+    unowned c cs (Register d i) (is_register_but d None) (eq-eqb d d refl) both.0 (none_owned cs d i both.1)
+
+-- a leave is one task in the place of some
+pub to_trap_shorter : (us : List Held_task) → Runs us → length (held_to_trap us) < length us
+to_trap_shorter us runs = go (tops A_method us runs)
+  where
+    no_longer : (us : List Held_task) → length (held_to_trap us) ≤ length us
+    no_longer (Runs_frame f ∷ us) = let few = no_longer us in omega arith
+    no_longer _ = omega arith
+
+    go : {us : List Held_task} → Tops A_method us → length (held_to_trap us) < length us
+    go (method_on_top f us) = let few = no_longer us in omega arith
+
+-- the tasks that stay, and what they hold
+pub record Stays (cs : List Cell) (heap : Heap) (es : List Item) (root : ℕ) (ms : List Held_task) (ts : List Task) : Type 0 where
+  pub tasks : SameTasks ms ts
+  pub values : (r : Place) → Shows (value_in ms heap es root r) (word_at ts r) (held cs r)
+
+pub stays_to_trap : (cs : List Cell) (heap : Heap) (es : List Item) (root : ℕ) (ms : List Held_task) (ts : List Task) → above_trap_is_free cs ts ≡ true → Stays cs heap es root ms ts → Stays cs heap es root (held_to_trap ms) (to_trap ts)
+stays_to_trap cs heap es root [] [] free stays = stays
+stays_to_trap cs heap es root (Runs_frame f ∷ ms) (Run fr ∷ ts) free stays =
+    let both = and_parts (none_owns_but cs (length ts) None) (above_trap_is_free cs ts) free in
+    stays_to_trap cs heap es root ms ts both.1 (record {
+      tasks = stays.tasks.1;
+      values = λ r. subst (Shows (value_in ms heap es root r) (word_at ts r)) (cleared_none (length ts) (held cs) (λ i. none_owned cs (length ts) i both.0) r) (beneath f ms fr ts heap es root (held cs) (same_length ms ts stays.tasks.1) stays.values r);
+    })
+stays_to_trap cs heap es root (Is_trap ∷ ms) (Trapped ∷ ts) free stays = stays
+stays_to_trap cs heap es root (Destroys x ∷ ms) (Destroy ∷ ts) free stays = stays
+stays_to_trap cs heap es root (Unwinds code ∷ ms) (Unwind c ∷ ts) free stays = stays
+stays_to_trap cs heap es root (Ends d ∷ ms) (Dispatched x ∷ ts) free stays = stays
+stays_to_trap cs heap es root _ _ free stays = absurd (assumption tt)
+
+-- the machine leaves
+pub leaves : (p : Image) (m : Parts) (s : State) (code : ℤ) → Agrees p m s → above_trap_is_free s.cells s.tasks ≡ true → Agrees p (leaving code m) (record s { tasks = Unwind code ∷ to_trap s.tasks })
+leaves p m s code agrees free =
+    let stays = stays_to_trap s.cells m.cells m.entries.items m.root m.stack.tasks s.tasks free (record { tasks = agrees.tasks; values = agrees.values }) in
+    record {
+      tasks = (refl, stays.tasks);
+      values = λ r. subst (λ n. Shows n (word_at (Unwind code ∷ to_trap s.tasks) r) (held s.cells r)) (sym (unwinds_value (held_to_trap m.stack.tasks) m.cells m.entries.items m.root code r))
+          (subst (λ w. Shows (value_in (held_to_trap m.stack.tasks) m.cells m.entries.items m.root r) w (held s.cells r)) (sym (unwinds_word (to_trap s.tasks) code r)) (stays.values r));
+      cells = agrees.cells;
+      entries = agrees.entries;
+      requests = agrees.requests;
+      natives = agrees.natives;
+      rest = agrees.rest;
+      room = agrees.room;
+      entry_room = agrees.entry_room;
+    }
+
+pub leaves_at : (p : Image) (m : Parts) (s : State) (fr : Frame) (ts : List Task) (code : ℤ) → s.tasks ≡ Run fr ∷ ts → Agrees p m s → above_trap_is_free s.cells (Run fr ∷ ts) ≡ true → Agrees p (leaving code m) (record s { tasks = Unwind code ∷ to_trap ts })
+leaves_at p m s fr ts code top agrees free =
+    subst (λ us. Agrees p (leaving code m) (record s { tasks = Unwind code ∷ to_trap us })) top
+    (leaves p m s code agrees (subst (λ us. above_trap_is_free s.cells us ≡ true) (sym top) free))
+
+module _ (m : Parts) (refused : List ℕ) where
+  -- with a register's word
+  left_with :
+      (p : Image) (h : At_hand p m) (a : ℕ) → is_some (word h.frame a) ≡ true → above_trap_is_free h.state.cells (Run h.frame ∷ h.below) ≡ true →
+      Agrees p (leaving (cast_signed w32 (register_here m.stack.tasks a)) m) (applied p h.frame h.below h.state (Leaves (read h.frame h.below h.state a) Same))
+  left_with p h a some free =
+      subst (λ w. Agrees p (leaving (cast_signed w32 (register_here m.stack.tasks a)) m) (applied p h.frame h.below h.state (Leaves w Same))) (word_read p m h a some)
+      (leaves_at p m h.state h.frame h.below (cast_signed w32 (register_here m.stack.tasks a)) h.top h.agrees free)
+
+  pub leave_does : (a : ℕ) → Does refused (Leave a) m (leaving (cast_signed w32 (register_here m.stack.tasks a)) m)
+  leave_does a = plain_does m (leaving (cast_signed w32 (register_here m.stack.tasks a)) m) refused (Leave a) refl (λ p h c met. left_with p h a met.0 met.1.1.0)
+
+  left_negative : (a : ℕ) → int_lt (cast_signed w32 (register_here m.stack.tasks a)) (pos 0) ≡ true → Does refused (LeaveIf a) m (leaving (cast_signed w32 (register_here m.stack.tasks a)) m)
+  left_negative a less = plain_does m (leaving (cast_signed w32 (register_here m.stack.tasks a)) m) refused (LeaveIf a) refl (λ p h c met.
+      let below : int_lt (read h.frame h.below h.state a) (pos 0) ≡ true = ap (λ w. int_lt w (pos 0)) (sym (word_read p m h a met.0)) ∙ less in
+      let free = subst (λ b. AllTrue (cond b (leave_needs h.state.cells (Run h.frame ∷ h.below)) [])) below met.1 in
+      subst (λ b. Agrees p (leaving (cast_signed w32 (register_here m.stack.tasks a)) m) (applied p h.frame h.below h.state (cond b (Leaves (read h.frame h.below h.state a) Same) (updates h.frame Same)))) (sym below) (left_with p h a met.0 free.1.0))
+
+  pub leave_if_leaves : (a : ℕ) (code : ℤ) → code ≡ cast_signed w32 (register_here m.stack.tasks a) → int_lt code (pos 0) ≡ true → Does refused (LeaveIf a) m (leaving code m)
+  leave_if_leaves a code e less = subst (λ w. Does refused (LeaveIf a) m (leaving w m)) (sym e) (left_negative a (ap (λ w. int_lt w (pos 0)) (sym e) ∙ less))
+
+  pub leave_if_stays : (a : ℕ) → int_lt (cast_signed w32 (register_here m.stack.tasks a)) (pos 0) ≡ false → Does refused (LeaveIf a) m (places.next m)
+  leave_if_stays a more = plain_does m (places.next m) refused (LeaveIf a) refl (λ p h c met.
+      let above : int_lt (read h.frame h.below h.state a) (pos 0) ≡ false = ap (λ w. int_lt w (pos 0)) (sym (word_read p m h a met.0)) ∙ more in
+      subst (λ b. Agrees p (places.next m) (applied p h.frame h.below h.state (cond b (Leaves (read h.frame h.below h.state a) Same) (updates h.frame Same)))) (sym above)
+      (passes m refused p h))

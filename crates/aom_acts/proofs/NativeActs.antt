@@ -1,0 +1,133 @@
+-- Instructions at a native: the machine's flags stand for the sessions that the checked machine then has.
+use Rattle.std.proofs.Common.{◌≡◌, ℕ, ℤ, Bool, true, false, length, List, ◌∷◌, Option, Some, None, refl, sym, ap, ◌∙◌, subst}
+use Rattle.aom_image.specs.Image.{Image}
+use Rattle.aom_image.specs.declared.class.ClassKind.{ClassKind}
+use Rattle.aom_image.specs.declared.class.ClassKind.TheVariants.{Active as An_active}
+use Rattle.aom_image.specs.declared.class.Provider.{Provider}
+use Rattle.aom_image.specs.declared.class.Provider.TheVariants.{Native}
+use Rattle.aom_instructions.specs.declared.instr.Instr.TheVariants.{Ask, Close, Connect}
+use Rattle.aom_cells.specs.Heap.{Lives}
+use Rattle.aom_rules.specs.Natives.{is_native_kind}
+use Rattle.aom_rules.specs.Requests.{is_active_kind, is_listed_kind}
+use Rattle.aom_shape.specs.Tables.{put_at}
+use Rattle.aom_sessions.specs.Sessions.{Sets, Standing, is_killed, is_open}
+use Rattle.aom_sound.specs.Effects.{Sessioned, applied, sets, updates}
+use Rattle.aom_sound.specs.Natives.{connected, native_of, opens, replied, resessioned}
+use Rattle.aom_sound.specs.Places.{Register, held}
+use Rattle.aom_sound.specs.State.{Rest, Run}
+use Rattle.aom_sound.proofs.Requesting.{active_listed}
+use Rattle.aom_sound.proofs.Storing.{resessioned_alike, resessioned_requests}
+use Rattle.aom_frames.specs.Tasks.{on_top, with_register}
+use Rattle.aom_frames.specs.declared.task.Task.TheVariants.{Run as Runs_frame}
+use Rattle.aom_parts.specs.declared.parts.Parts.{Parts}
+use Rattle.aom_acts.specs.Acts.{At_hand, Does, DoesIn}
+use Rattle.aom_parts.specs.Places.{WritesWord, value_in}
+use Rattle.aom_parts.specs.Places as places
+use Rattle.aom_parts.specs.Agrees.{Agrees, SameNatives, Shows, word_at}
+use Rattle.aom_parts.specs.Fields.{this}
+use Rattle.aom_acts.specs.Next.{IsNext, counting}
+use Rattle.aom_parts.specs.Stands.{Stands}
+use Rattle.aom_acts.specs.Requests.{kind_here, provider_of}
+use Rattle.aom_parts.proofs.Asking.{requests_as}
+use Rattle.aom_acts.proofs.GoingOn.{Beside, goes_on_as, goes_on_with, still_none, written}
+use Rattle.aom_acts.proofs.Housing.{needs_met}
+use Rattle.aom_acts.proofs.RequestActs.{OnObject, finds_cell, finds_object, heard_told, kind_told, on_object}
+use Rattle.aom_parts.proofs.Sessions.{cells_resessioned, natives_set}
+use Rattle.aom_acts.proofs.Standing.{free}
+use Rattle.aom_acts.proofs.WordActs.{heard_at, plain_does, word_put}
+
+-- objects that a native serves are active objects
+pub native_active : (k : Option ClassKind) → is_native_kind k ≡ true → is_active_kind k ≡ true
+native_active (Some (An_active (Native n) budget)) e = refl
+native_active _ e = cc
+
+native_listed : (k : Option ClassKind) → is_native_kind k ≡ true → is_listed_kind k ≡ true
+native_listed k e = active_listed k (native_active k e)
+
+-- and a native is their provider
+pub provider_native : (k : Option ClassKind) (q : Provider) → is_native_kind k ≡ true → provider_of k ≡ Some q → (n : ℕ) × (q ≡ Native n)
+provider_native (Some (An_active (Native n) budget)) q e provides = (n, let same : Some (Native n) ≡ Some q = provides in cc)
+provider_native _ q e provides = cc
+
+pub provider_serves : (k : Option ClassKind) (n : ℕ) → provider_of k ≡ Some (Native n) → native_of k ≡ Some n
+provider_serves (Some (An_active (Native k) budget)) n e = let same : Some (Native k) ≡ Some (Native n) = e in cc
+provider_serves _ n e = cc
+
+-- ---- what the code needs to know of an instruction that is next
+
+module _ (p : Image) (m : Parts) where
+  pub connect_lives : (a : ℕ) → IsNext p (Connect a) m → Lives m.cells (this m)
+  connect_lives a next = finds_cell p m (Connect a) next (λ c fr ts s n. native_listed _ n.0)
+
+  pub ask_lives : (a b x : ℕ) → IsNext p (Ask a b x) m → Lives m.cells (this m)
+  ask_lives a b x next = finds_cell p m (Ask a b x) next (λ c fr ts s n. native_listed _ n.1.1.0)
+
+  pub close_lives : IsNext p Close m → Lives m.cells (this m)
+  close_lives next = finds_cell p m Close next (λ c fr ts s n. native_listed _ n.0)
+
+  pub connect_served : (a : ℕ) → IsNext p (Connect a) m → is_native_kind (kind_here p m) ≡ true
+  connect_served a next =
+      let n = needs_met p m (Connect a) next in
+      let x = finds_object p m (Connect a) next (λ c fr ts s n. native_listed _ n.0) in
+      ap is_native_kind (sym (kind_told p _ _ x)) ∙ n.1.0
+
+  pub ask_served : (a b x : ℕ) → IsNext p (Ask a b x) m → is_native_kind (kind_here p m) ≡ true
+  ask_served a b x next =
+      let n = needs_met p m (Ask a b x) next in
+      let o = finds_object p m (Ask a b x) next (λ c fr ts s n. native_listed _ n.1.1.0) in
+      ap is_native_kind (sym (kind_told p _ _ o)) ∙ n.1.1.1.0
+
+  -- there is a place for the session of each cell
+  pub same_places : {counts : Rest} → Stands (record { image = p; parts = counting counts m }) → length m.sessions.flags ≡ m.cells.limit
+  same_places stands = stands.1.agrees.natives.limit ∙ sym stands.1.agrees.cells.limit
+
+-- ---- the instructions
+
+module _ (p : Image) (m : Parts) (h : At_hand p m) (on : OnObject p m h) (w : Standing) (b : Bool) (set : Sets m.sessions w (this m) b) where
+  -- the session is another
+  beside : Beside p m h (record m { sessions = w }) (resessioned h.state.cells h.frame.home b) h.state.items h.state.rest
+  beside = record {
+    stack = refl;
+    cells = cells_resessioned p m.cells h.state.cells h.frame.home b h.agrees.cells;
+    entries = h.agrees.entries;
+    requests = requests_as p m.active h.state.cells (resessioned h.state.cells h.frame.home b) (λ n. sym (resessioned_requests h.state.cells h.frame.home b n)) h.agrees.requests;
+    natives =
+        subst (λ home. SameNatives p w (resessioned h.state.cells home b) h.state.killed) (sym on.home)
+        (natives_set p m.sessions w h.state.killed h.state.cells on.object b on.lives (subst (λ k. Sets m.sessions w k b) on.number set) h.agrees.natives);
+    rest = h.agrees.rest;
+    room = h.agrees.entry_room;
+  }
+
+  -- and a register that owned nothing has a word
+  session_put : (new : Parts) (a : ℕ) (v : ℤ) → held h.state.cells (Register (length h.below) a) ≡ None → WritesWord a v (record m { sessions = w }) new → Agrees p new (applied p h.frame h.below h.state (sets h.frame a (Some v) (Sessioned b)))
+  session_put new a v none x =
+      let s = h.state in
+      let n = x.number in
+      let cs = resessioned s.cells h.frame.home b in
+      subst (λ k. Agrees p k (applied p h.frame h.below s (sets h.frame a (Some v) (Sessioned b)))) (sym x.written)
+      (goes_on_with p m h (record m { sessions = w }) cs s.items s.rest (put_at None h.frame.words a (Some v)) (on_top (with_register a n)) (with_register a n) (λ f ms. refl) beside
+      (λ f ms e top. written p m h (record m { sessions = w }) cs a n (Some v) None x.small x.word f ms top (λ q. refl) (λ q. (resessioned_alike s.cells h.frame.home b).held_so q ∙ still_none p m h a none q)))
+
+  session_passes : Agrees p (places.next (record m { sessions = w })) (applied p h.frame h.below h.state (updates h.frame (Sessioned b)))
+  session_passes =
+      goes_on_as p m h (record m { sessions = w }) (resessioned h.state.cells h.frame.home b) h.state.items h.state.rest beside
+      (λ f ms e top q. subst (λ o. Shows (value_in (Runs_frame f ∷ ms) m.cells m.entries.items m.root q) (word_at (Run h.frame ∷ h.below) q) o) (sym ((resessioned_alike h.state.cells h.frame.home b).held_so q)) (top.values q))
+
+module _ (p : Image) (m new : Parts) (refused : List ℕ) (n : ℕ) (serves : native_of (kind_here p m) ≡ Some n) where
+  pub connect_does : (a : ℕ) (w : Standing) → Sets m.sessions w (this m) (opens (is_killed m.sessions n) (is_open m.sessions (this m)) m.heard)
+      → WritesWord a (connected (is_killed m.sessions n) (is_open m.sessions (this m)) m.heard) (record m { sessions = w }) new → DoesIn p refused (Connect a) m new
+  connect_does a w set writes h here =
+      heard_at p m new refused (Connect a) refl h (λ c hears met typed.
+      let on = on_object p m h (native_listed _ met.0) in
+      let flag = subst (λ b. Sets m.sessions w (this m) b) (heard_told p m h on n serves opens c hears) set in
+      let word = subst (λ v. WritesWord a v (record m { sessions = w }) new) (heard_told p m h on n serves connected c hears) writes in
+      session_put p m h on w _ flag new a _ (free _ met.1.0) word)
+
+  pub ask_does : (a b x : ℕ) → WritesWord a (replied (is_killed m.sessions n) (is_open m.sessions (this m)) m.heard) m new → DoesIn p refused (Ask a b x) m new
+  ask_does a b x writes h here =
+      heard_at p m new refused (Ask a b x) refl h (λ c hears met typed.
+      let on = on_object p m h (native_listed _ met.1.1.0) in
+      word_put p m new h a _ (free _ met.1.1.1.0) (subst (λ v. WritesWord a v m new) (heard_told p m h on n serves replied c hears) writes))
+
+pub close_does : (m : Parts) (refused : List ℕ) (w : Standing) → Sets m.sessions w (this m) false → Does refused Close m (places.next (record m { sessions = w }))
+close_does m refused w set = plain_does m _ refused Close refl (λ p h c met. session_passes p m h (on_object p m h (native_listed _ met.0)) w false set)

@@ -1,0 +1,457 @@
+-- Instructions on the request of what a method works on: the machine's table stands for the requests that the checked machine then has.
+use Rattle.std.proofs.Common.{◌≡◌, ◌==◌, ℕ, ℤ, Bool, true, false, cond, length, List, ◌∷◌, Option, Some, None, IsSome, refl, sym, ap, ◌∙◌, subst}
+use Rattle.std.specs.Prelude.{is_some}
+use Rattle.std.specs.Int.{w32, cast_signed}
+use Rattle.std.specs.List.{list_any}
+use Rattle.std.proofs.lemmas.Bool.{false≢true}
+use Rattle.std.proofs.lemmas.Option.{none-some, same_Some}
+use Rattle.aom_image.proofs.Given.{some_given}
+use Rattle.aom_image.specs.Image.{Image}
+use Rattle.aom_image.specs.Views.{class_at as declared_at}
+use Rattle.aom_image.specs.declared.class.ClassDecl.{ClassDecl}
+use Rattle.aom_image.specs.declared.class.ClassKind.{ClassKind}
+use Rattle.aom_image.specs.declared.class.ClassKind.TheVariants.{Active as An_active}
+use Rattle.aom_image.specs.declared.class.Provider.{Provider}
+use Rattle.aom_image.specs.declared.class.Provider.TheVariants.{Own, Timer as A_timer, Native}
+use Rattle.aom_image.specs.declared.method.Role.TheVariants.{Cancel as Cancels_role}
+use Rattle.aom_image.specs.declared.method.Thing.{Thing}
+use Rattle.aom_instructions.specs.declared.instr.Instr.{Instr}
+use Rattle.aom_instructions.specs.declared.instr.Instr.TheVariants.{Abort, Cancel, Enlist, Issue, JumpActive, JumpAdded, SetActive, Status}
+use Rattle.aom_sessions.specs.Sessions.{is_killed, is_open}
+use Rattle.aom_sound.specs.Natives.{has_died, is_served_by_dead, native_of, own_session, started}
+use Rattle.aom_classes.specs.Roles.{role_of}
+use Rattle.aom_cells.specs.Heap.{Heap, Lives, cell_at, class_at, class_of}
+use Rattle.aom_cells.specs.declared.cell.Cell.{Cell as Held_cell}
+use Rattle.aom_roles.specs.Classes.{kind_in}
+use Rattle.aom_roles.specs.Shapes.{kind_of}
+use Rattle.aom_rules.specs.Requests.{is_active_kind, is_listed_kind}
+use Rattle.aom_shape.specs.Needs.{AllTrue}
+use Rattle.aom_requests.specs.Requests.{request_at, state_at, state_of, status_at}
+use Rattle.aom_requests.specs.Requests as table
+use Rattle.aom_requests.specs.declared.request.State.TheVariants.{Active as Held_active}
+use Rattle.aom_requests.specs.declared.request.Request.{Request as Held_request}
+use Rattle.aom_requests.specs.declared.request.Request.TheVariants.{Object as Held_object}
+use Rattle.aom_active.specs.Agrees.{Active, StandsFor}
+use Rattle.aom_active.specs.Meanings.{Enlists, Makes, Times, asked_anew, begun_with, is_being_cancelled, is_busy, is_waited_for}
+use Rattle.aom_active.proofs.Asking.{asked_set, newest, newest_timer}
+use Rattle.aom_active.proofs.Telling.{held_state, standing_follows, told_active, told_busy, told_cancelling, told_enlisted, told_fresh, told_state, told_status}
+use Rattle.aom_sound.specs.Effects.{applied, cancels_if, jumps_if, updates, Cancels, Requested, writes as writes_word, asking_with, heard}
+use Rattle.aom_sound.specs.Enlisted as enlisted
+use Rattle.aom_sound.specs.Enlisted.{aborted, begun_cells, cancel_method, cancel_of, cancelling, due_after, first_request, home_kind, in_phase, is_cancelling, is_idle, is_issued, issued_by, issued_of, next_order, next_timer, on_request, own_request, rerequested, status_of, thing_kind, waits, Asking, completed_at_once}
+use Rattle.aom_sound.specs.Places.{Cell, Idle, Issued, Object, Phase, Place, Request, held, in_session, named, requested, set_request}
+use Rattle.aom_sound.specs.State.{AtRoot, Choice, Frame, Home, Inside, Rest, Run, State, Static, Task, frame_of}
+use Rattle.aom_sound.specs.Moves.{needs}
+use Rattle.aom_sound.specs.Words.{read, word_or_zero}
+use Rattle.aom_sound.proofs.Requesting.{active_listed}
+use Rattle.aom_sound.proofs.Storing.{rerequested_alike}
+use Rattle.aom_frames.specs.Tasks.{fresh, register_here}
+use Rattle.aom_frames.specs.declared.task.Task.TheVariants.{Run as Runs_frame}
+use Rattle.aom_parts.specs.declared.parts.Parts.{Parts}
+use Rattle.aom_acts.specs.Acts.{At_hand, Does, DoesIn}
+use Rattle.aom_parts.specs.Places.{WritesWord, value_in, with_tasks}
+use Rattle.aom_parts.specs.Places as places
+use Rattle.aom_acts.specs.Acts as acts
+use Rattle.aom_parts.specs.Agrees.{Agrees, SameCells, SameRequests, Shows, home_number, thing_in, thing_of, word_at}
+use Rattle.aom_parts.specs.Fields.{this}
+use Rattle.aom_acts.specs.Next.{IsNext, counting}
+use Rattle.aom_parts.specs.Stands.{Stands}
+use Rattle.aom_acts.specs.Requests.{Issues, kind_here, provider_of}
+use Rattle.aom_parts.proofs.CellFields.{cell_of}
+use Rattle.aom_acts.proofs.FieldActs.{housed, inside_number}
+use Rattle.aom_acts.proofs.GoingActs.{fresh_value, fresh_word, thing_is}
+use Rattle.aom_acts.proofs.GoingOn.{goes_on_as}
+use Rattle.aom_acts.proofs.Housing.{at_hand, needs_met}
+use Rattle.aom_acts.proofs.Standing.{begun_frame, by_top, free}
+use Rattle.aom_acts.proofs.Stepping.{at_step}
+use Rattle.aom_acts.proofs.WordActs.{heard_at, jumps, passes, plain_at, plain_does, word_put, word_read}
+use Rattle.aom_parts.proofs.Asking.{cells_asked}
+use Rattle.aom_parts.proofs.Sessions.{natives_rerequested}
+
+-- ---- the cells with another request of one of them
+
+pub cells_rerequested : (p : Image) (h : Heap) (cs : List Cell) (home : Home) (r : Option Request) → SameCells p h cs → SameCells p h (rerequested cs home r)
+cells_rerequested p h cs Static r same = same
+cells_rerequested p h cs AtRoot r same = same
+cells_rerequested p h cs (Inside o from) r same = cells_asked p h cs o.name r same
+
+-- the table that has that request under its name stands for them
+pub requests_set : (p : Image) (old new : Active) (cs : List Cell) (o : Object) (r : Option Request) → named cs o.name ≡ Some o → new.table.limit ≡ old.table.limit → StandsFor new (asked_anew o.name r (requested cs)) → SameRequests p old cs → SameRequests p new (set_request o.name r cs)
+requests_set p old new cs o r lives limit stands same = record {
+  stands = standing_follows new (asked_anew o.name r (requested cs)) (requested (set_request o.name r cs)) (asked_set cs o.name r (ap is_some lives)) stands;
+  limit = limit ∙ same.limit;
+}
+
+-- ---- what a test of a phase tells
+
+in_one : (test : Phase → Bool) (o : Option Request) → in_phase test o ≡ true → (r : Request) × (o ≡ Some r) × (test r.phase ≡ true)
+in_one test None e = absurd (false≢true e)
+in_one test (Some r) e = (r, refl, e)
+
+idle_only : (x : Phase) → is_idle x ≡ true → x ≡ Idle
+idle_only Idle e = refl
+idle_only _ e = cc
+
+issued_only : (x : Phase) → is_issued x ≡ true → x ≡ Issued
+issued_only Issued e = refl
+issued_only _ e = cc
+
+-- an object that waits is active
+pub waits_active : (h : Option Held_request) → is_waited_for h ≡ true → state_of h ≡ Some Held_active
+waits_active (Some (Held_object Held_active status)) e = refl
+waits_active _ e = cc
+
+-- ---- what a class of active objects makes its requests of
+
+-- the provider of a kind, and how a request is made of it
+provided : (k : Option ClassKind) (q : Provider) → provider_of k ≡ Some q → (budget : ℕ) × (k ≡ Some (An_active q budget))
+provided (Some (An_active v budget)) q e = (budget, ap (λ v. Some (An_active v budget)) (same_Some _ _ e))
+provided _ q e = absurd (none-some _ e)
+
+issued_as : (k : Option ClassKind) (q : Provider) (asking : Asking) (w : ℤ) → provider_of k ≡ Some q → issued_of k asking w ≡ issued_by q asking w
+issued_as k q asking w e = ap (λ k. issued_of k asking w) (provided k q e).1
+
+-- the native that serves the objects of a class is its provider
+pub native_provided : (k : Option ClassKind) (n : ℕ) → provider_of k ≡ Some (Native n) → native_of k ≡ Some n
+native_provided k n e = ap native_of (provided k (Native n) e).1
+
+-- what is of a class of active objects lives, and its class is declared
+cell_there : (p : Image) (c : Option Held_cell) → is_active_kind (kind_of p (class_of c)) ≡ true → IsSome c
+unfolding kind_of
+cell_there p None e = absurd (false≢true e)
+cell_there p (Some c) e = refl
+
+pub kind_lives : (p : Image) (m : Parts) → is_active_kind (kind_here p m) ≡ true → Lives m.cells (this m)
+kind_lives p m e = cell_there p (cell_at m.cells (this m)) e
+
+class_there : (o : Option ClassDecl) → is_active_kind (kind_in o) ≡ true → IsSome o
+unfolding kind_in
+class_there None e = absurd (false≢true e)
+class_there (Some d) e = refl
+
+pub kind_declared : (p : Image) (class : Option ℕ) (c : ℕ) → class ≡ Some c → is_active_kind (kind_of p class) ≡ true → IsSome (declared_at p c)
+unfolding kind_of
+kind_declared p class c is e = class_there (declared_at p c) (ap (λ k. is_active_kind (kind_of p k)) (sym is) ∙ e)
+
+pub active_kind : (k : ClassKind) → is_active_kind (Some k) ≡ true → (q : Provider) × (budget : ℕ) × (k ≡ An_active q budget)
+active_kind (An_active q budget) e = (q, budget, refl)
+active_kind _ e = absurd (false≢true e)
+
+pub kind_found : (p : Image) (class : Option ℕ) (c : ℕ) (d : ClassDecl) → class ≡ Some c → declared_at p c ≡ Some d → kind_of p class ≡ Some d.kind
+unfolding kind_of kind_in
+kind_found p class c d is e = ap (kind_of p) is ∙ ap kind_in e
+
+-- ---- the object of a method
+
+pub record OnObject (p : Image) (m : Parts) (h : At_hand p m) : Type 0 where
+  pub object : Object
+  pub from : Place
+  pub home : h.frame.home ≡ Inside object from
+  pub lives : named h.state.cells object.name ≡ Some object
+  pub number : this m ≡ object.name
+
+-- the machine's cell is of the same kind
+pub kind_same : (p : Image) (c : Option Held_cell) (t : Thing) → thing_in c ≡ Some t → thing_kind p t ≡ kind_of p (class_of c)
+kind_same p c t e = some_given (λ c. thing_in c ≡ Some t) c e (λ none. none-some _ none) (λ x is some. ap (thing_kind p) (sym (same_Some _ _ some)) ∙ ap (λ c. kind_of p (class_of c)) (sym is))
+
+module _ (p : Image) (m : Parts) (h : At_hand p m) where
+  pub on_object : is_listed_kind (home_kind p h.frame.home) ≡ true → OnObject p m h
+  on_object listed = go h.frame.home refl listed
+    where
+      go : (home : Home) → h.frame.home ≡ home → is_listed_kind (home_kind p home) ≡ true → OnObject p m h
+      go Static e listed = absurd (false≢true listed)
+      go AtRoot e listed = absurd (false≢true listed)
+      go (Inside o from) e listed = record { object = o; from = from; home = e; lives = housed p m h o from e; number = inside_number p m h o from e }
+
+  module _ (x : OnObject p m h) where
+    pub object_lives : Lives m.cells (this m)
+    object_lives = subst (Lives m.cells) (sym x.number) (ap is_some (cell_of p m.cells h.state.cells x.object.name x.object h.agrees.cells x.lives).1)
+
+    -- its request stands under the machine's number
+    pub own_told : own_request h.state.cells h.frame.home ≡ requested h.state.cells (this m)
+    own_told = ap (own_request h.state.cells) x.home ∙ ap (requested h.state.cells) (sym x.number)
+
+    named_here : named h.state.cells (this m) ≡ Some x.object
+    named_here = ap (named h.state.cells) x.number ∙ x.lives
+
+    pub kind_told : home_kind p h.frame.home ≡ kind_here p m
+    kind_told = ap (home_kind p) x.home ∙ kind_same p _ x.object.thing (h.agrees.cells.things (this m) ∙ ap thing_of named_here)
+
+    -- the method that cancels is the one that the machine finds
+    pub cancel_told : (class : ℕ) → class_at m.cells (this m) ≡ Some class → cancel_method p h.frame.home ≡ role_of p class Cancels_role
+    cancel_told class is = ap (cancel_method p) x.home ∙ ap (cancel_of p) (thing_is x.object.thing class _ is (h.agrees.cells.things (this m) ∙ ap thing_of named_here))
+
+    -- what the table tells of it
+    pub active_told : is_waited_for (request_at m.active.table (this m)) ≡ in_phase enlisted.is_active (own_request h.state.cells h.frame.home)
+    active_told = told_active m.active (requested h.state.cells) h.agrees.requests.stands (this m) ∙ sym (ap (in_phase enlisted.is_active) own_told)
+
+    pub busy_told : is_busy (request_at m.active.table (this m)) ≡ in_phase enlisted.is_busy (own_request h.state.cells h.frame.home)
+    busy_told = told_busy m.active (requested h.state.cells) h.agrees.requests.stands (this m) ∙ sym (ap (in_phase enlisted.is_busy) own_told)
+
+    pub cancelling_told : is_being_cancelled (request_at m.active.table (this m)) ≡ in_phase is_cancelling (own_request h.state.cells h.frame.home)
+    cancelling_told = told_cancelling m.active (requested h.state.cells) h.agrees.requests.stands (this m) ∙ sym (ap (in_phase is_cancelling) own_told)
+
+    pub added_told : is_some (request_at m.active.table (this m)) ≡ is_some (own_request h.state.cells h.frame.home)
+    added_told = told_enlisted m.active (requested h.state.cells) h.agrees.requests.stands (this m) ∙ sym (ap is_some own_told)
+
+    pub state_told : (r : Request) → own_request h.state.cells h.frame.home ≡ Some r → state_at m.active.table (this m) ≡ Some (held_state r.phase)
+    state_told r is = told_state m.active (requested h.state.cells) h.agrees.requests.stands (this m) r (sym own_told ∙ is)
+
+    pub fresh_told : own_request h.state.cells h.frame.home ≡ None → request_at m.active.table (this m) ≡ None
+    fresh_told none = told_fresh m.active (requested h.state.cells) h.agrees.requests.stands (this m) (sym own_told ∙ none)
+
+    pub status_told : word_or_zero (status_at m.active.table (this m)) ≡ status_of (own_request h.state.cells h.frame.home)
+    status_told = go (own_request h.state.cells h.frame.home) refl
+      where
+        go : (o : Option Request) → own_request h.state.cells h.frame.home ≡ o → word_or_zero (status_at m.active.table (this m)) ≡ status_of o
+        go None e = ap (λ x. word_or_zero (table.status_of x)) (fresh_told e)
+        go (Some r) e = ap word_or_zero (told_status m.active (requested h.state.cells) h.agrees.requests.stands (this m) r (sym own_told ∙ e))
+
+    -- the requests with another one of this object
+    requests_asked : (a : Active) (r : Option Request) → a.table.limit ≡ m.active.table.limit → StandsFor a (asked_anew (this m) r (requested h.state.cells)) → SameRequests p a (rerequested h.state.cells h.frame.home r)
+    requests_asked a r limit stands =
+        subst (λ home. SameRequests p a (rerequested h.state.cells home r)) (sym x.home)
+        (requests_set p m.active a h.state.cells x.object r x.lives limit (subst (λ n. StandsFor a (asked_anew n r (requested h.state.cells))) x.number stands) h.agrees.requests)
+
+    -- it becomes this of it
+    pub requests_become : (a : Active) (f : Request → Request) (r : Request) → own_request h.state.cells h.frame.home ≡ Some r → Makes m.active a (this m) f → SameRequests p a (rerequested h.state.cells h.frame.home (on_request f (own_request h.state.cells h.frame.home)))
+    requests_become a f r is makes =
+        subst (λ o. SameRequests p a (rerequested h.state.cells h.frame.home (on_request f o))) (sym is)
+        (requests_asked a (Some (f r)) makes.limit (makes.stands (requested h.state.cells) r h.agrees.requests.stands (sym own_told ∙ is)))
+
+    pub requests_enlisted : (a : Active) (priority : ℤ) → Enlists m.active a (this m) priority → SameRequests p a (rerequested h.state.cells h.frame.home (Some (first_request h.state.cells priority)))
+    requests_enlisted a priority enlists =
+        requests_asked a (Some (first_request h.state.cells priority)) enlists.limit
+        (enlists.stands (requested h.state.cells) (next_order h.state.cells) h.agrees.requests.stands (newest h.state.cells h.typed.good.tidy))
+
+    -- what a request is made with, and with which status a native would begin it
+    abbrev pub made_with : ℤ → Asking
+    made_with started = record { clock = h.state.rest.clock; order = next_timer h.state.cells; started = started }
+
+    pub requests_timed : (a : Active) (w started : ℤ) (r : Request) → own_request h.state.cells h.frame.home ≡ Some r → Times m.active a (this m) (due_after h.state.rest.clock w)
+        → SameRequests p a (rerequested h.state.cells h.frame.home (on_request (issued_by A_timer (made_with started) w) (own_request h.state.cells h.frame.home)))
+    requests_timed a w started r is times =
+        subst (λ o. SameRequests p a (rerequested h.state.cells h.frame.home (on_request (issued_by A_timer (made_with started) w) o))) (sym is)
+        (requests_asked a (Some (issued_by A_timer (made_with started) w r)) times.limit
+        (times.stands (requested h.state.cells) r (next_timer h.state.cells) h.agrees.requests.stands (sym own_told ∙ is) (newest_timer h.state.cells h.typed.good.tidy)))
+
+  -- the object's request is another, and the method goes on
+  asks_on : (a : Active) (r : Option Request) → SameRequests p a (rerequested h.state.cells h.frame.home r) → Agrees p (places.next (record m { active = a })) (applied p h.frame h.below h.state (updates h.frame (Requested r)))
+  asks_on a r requests =
+      let cs = rerequested h.state.cells h.frame.home r in
+      goes_on_as p m h (record m { active = a }) cs h.state.items h.state.rest
+      (record { stack = refl; cells = cells_rerequested p m.cells h.state.cells h.frame.home r h.agrees.cells; entries = h.agrees.entries; requests = requests; natives = natives_rerequested p m.sessions h.state.killed h.state.cells h.frame.home r h.agrees.natives; rest = h.agrees.rest; room = h.agrees.entry_room })
+      (λ f ms e top q. subst (λ o. Shows (value_in (Runs_frame f ∷ ms) m.cells m.entries.items m.root q) (word_at (Run h.frame ∷ h.below) q) o) (sym ((rerequested_alike h.state.cells h.frame.home r).held_so q)) (top.values q))
+
+-- ---- what the code needs to know of an instruction that is next
+
+module _ (p : Image) (m : Parts) (i : Instr) (next : IsNext p i m) (listed : (c : Choice) (fr : Frame) (ts : List Task) (s : State) → AllTrue (needs p c fr ts s i) → is_listed_kind (home_kind p fr.home) ≡ true) where
+  abbrev before : Parts
+  before = counting next.counts m
+
+  abbrev hand : At_hand p before
+  hand = at_hand p before next.stands next.runs
+
+  pub finds_object : OnObject p before hand
+  finds_object = let n = needs_met p m i next in on_object p before hand (listed n.0 hand.frame hand.below (acts.requested i (at_step hand.state)) n.1)
+
+  pub finds_cell : Lives m.cells (this m)
+  finds_cell = object_lives p before hand finds_object
+
+module _ (p : Image) (m : Parts) where
+  pub jump_active_lives : (to : ℕ) → IsNext p (JumpActive to) m → Lives m.cells (this m)
+  jump_active_lives to next = finds_cell p m (JumpActive to) next (λ c fr ts s n. active_listed (home_kind p fr.home) n.0)
+
+  pub jump_added_lives : (to : ℕ) → IsNext p (JumpAdded to) m → Lives m.cells (this m)
+  jump_added_lives to next = finds_cell p m (JumpAdded to) next (λ c fr ts s n. n.0)
+
+  pub status_lives : (a : ℕ) → IsNext p (Status a) m → Lives m.cells (this m)
+  status_lives a next = finds_cell p m (Status a) next (λ c fr ts s n. active_listed (home_kind p fr.home) n.0)
+
+  pub enlist_lives : (priority : ℤ) → IsNext p (Enlist priority) m → Lives m.cells (this m)
+  enlist_lives priority next = finds_cell p m (Enlist priority) next (λ c fr ts s n. n.0)
+
+  pub issue_lives : (a b : ℕ) → IsNext p (Issue a b) m → Lives m.cells (this m)
+  issue_lives a b next = finds_cell p m (Issue a b) next (λ c fr ts s n. active_listed (home_kind p fr.home) n.1.1.0)
+
+  pub set_active_lives : IsNext p SetActive m → Lives m.cells (this m)
+  set_active_lives next = finds_cell p m SetActive next (λ c fr ts s n. active_listed (home_kind p fr.home) n.0)
+
+  pub cancel_lives : IsNext p Cancel m → Lives m.cells (this m)
+  cancel_lives next = finds_cell p m Cancel next (λ c fr ts s n. active_listed (home_kind p fr.home) n.0)
+
+  pub abort_lives : IsNext p Abort m → Lives m.cells (this m)
+  abort_lives next = finds_cell p m Abort next (λ c fr ts s n. active_listed (home_kind p fr.home) n.0)
+
+  -- there is a place for the request of each cell
+  pub same_limit : {counts : Rest} → Stands (record { image = p; parts = counting counts m }) → m.active.table.limit ≡ m.cells.limit
+  same_limit stands = stands.1.agrees.requests.limit ∙ sym stands.1.agrees.cells.limit
+
+  -- an object that is enlisted is not so yet
+  pub enlist_fresh : (priority : ℤ) → IsNext p (Enlist priority) m → request_at m.active.table (this m) ≡ None
+  enlist_fresh priority next =
+      let n = needs_met p m (Enlist priority) next in
+      let x = finds_object p m (Enlist priority) next (λ c fr ts s n. n.0) in
+      fresh_told p _ _ x (free _ n.1.1.0)
+
+  -- one that makes a request is idle, and its class has a provider
+  pub issue_idle : (a b : ℕ) → IsNext p (Issue a b) m → state_at m.active.table (this m) ≡ Some (held_state Idle)
+  issue_idle a b next =
+      let n = needs_met p m (Issue a b) next in
+      let x = finds_object p m (Issue a b) next (λ c fr ts s n. active_listed (home_kind p fr.home) n.1.1.0) in
+      let r = in_one is_idle _ n.1.1.1.1.1.0 in
+      state_told p _ _ x r.0 r.1 ∙ ap (λ x. Some (held_state x)) (idle_only r.0.phase r.2)
+
+  pub issue_provided : (a b : ℕ) → IsNext p (Issue a b) m → is_active_kind (kind_here p m) ≡ true
+  issue_provided a b next =
+      let n = needs_met p m (Issue a b) next in
+      let x = finds_object p m (Issue a b) next (λ c fr ts s n. active_listed (home_kind p fr.home) n.1.1.0) in
+      ap is_active_kind (sym (kind_told p _ _ x)) ∙ n.1.1.1.0
+
+  -- one that waits from then on has a request
+  pub set_active_issued : IsNext p SetActive m → state_at m.active.table (this m) ≡ Some (held_state Issued)
+  set_active_issued next =
+      let n = needs_met p m SetActive next in
+      let x = finds_object p m SetActive next (λ c fr ts s n. active_listed (home_kind p fr.home) n.0) in
+      let r = in_one is_issued _ n.1.1.1.1.0 in
+      state_told p _ _ x r.0 r.1 ∙ ap (λ x. Some (held_state x)) (issued_only r.0.phase r.2)
+
+  -- the class of one that cancels has a method that does
+  pub cancel_kind : IsNext p Cancel m → is_active_kind (kind_here p m) ≡ true
+  cancel_kind next =
+      let n = needs_met p m Cancel next in
+      let x = finds_object p m Cancel next (λ c fr ts s n. active_listed (home_kind p fr.home) n.0) in
+      ap is_active_kind (sym (kind_told p _ _ x)) ∙ n.1.0
+
+  pub cancel_there : (class : ℕ) → IsNext p Cancel m → class_at m.cells (this m) ≡ Some class → role_of p class Cancels_role ≡ None → ⊥
+  cancel_there class next is none =
+      let found = next.stands.1.sound.wired.cancel class (ap (λ k. is_active_kind (kind_of p k)) (sym is) ∙ cancel_kind next) in
+      none-some _ (sym none ∙ found.1)
+
+  -- one that is aborted is being cancelled
+  pub abort_cancelling : IsNext p Abort m → is_being_cancelled (request_at m.active.table (this m)) ≡ true
+  abort_cancelling next =
+      let n = needs_met p m Abort next in
+      let x = finds_object p m Abort next (λ c fr ts s n. active_listed (home_kind p fr.home) n.0) in
+      cancelling_told p _ _ x ∙ n.1.1.0
+
+-- ---- the instructions
+
+module _ (m : Parts) (refused : List ℕ) where
+  -- a jump by what the table tells of the request
+  jumps_as : (p : Image) (h : At_hand p m) (there here : Bool) (to : ℕ) → here ≡ there → Agrees p (cond there (places.to_place to m) (places.next m)) (applied p h.frame h.below h.state (jumps_if h.frame here to))
+  jumps_as p h true here to e = subst (λ b. Agrees p (places.to_place to m) (applied p h.frame h.below h.state (jumps_if h.frame b to))) (sym e) (jumps m refused p h to)
+  jumps_as p h false here to e = subst (λ b. Agrees p (places.next m) (applied p h.frame h.below h.state (jumps_if h.frame b to))) (sym e) (passes m refused p h)
+
+  pub jump_active_does : (to : ℕ) (b : Bool) → is_busy (request_at m.active.table (this m)) ≡ b → Does refused (JumpActive to) m (cond b (places.to_place to m) (places.next m))
+  jump_active_does to b is = plain_does m _ refused (JumpActive to) refl (λ p h c met. jumps_as p h b _ to (sym (busy_told p m h (on_object p m h (active_listed _ met.0))) ∙ is))
+
+  pub jump_added_does : (to : ℕ) (b : Bool) → is_some (request_at m.active.table (this m)) ≡ b → Does refused (JumpAdded to) m (cond b (places.to_place to m) (places.next m))
+  jump_added_does to b is = plain_does m _ refused (JumpAdded to) refl (λ p h c met. jumps_as p h b _ to (sym (added_told p m h (on_object p m h met.0)) ∙ is))
+
+  -- the status of the last request, and 0 where there was none
+  pub status_does : (new : Parts) (a : ℕ) → WritesWord a (word_or_zero (status_at m.active.table (this m))) m new → Does refused (Status a) m new
+  status_does new a x =
+      plain_does m new refused (Status a) refl (λ p h c met.
+      subst (λ v. Agrees p new (applied p h.frame h.below h.state (writes_word h.frame a v))) (status_told p m h (on_object p m h (active_listed _ met.0))) (word_put p m new h a _ (free _ met.1.0) x))
+
+module _ (m : Parts) (refused : List ℕ) (a : Active) where
+  pub enlist_does : (priority : ℤ) → Enlists m.active a (this m) priority → Does refused (Enlist priority) m (places.next (record m { active = a }))
+  enlist_does priority enlists =
+      plain_does m _ refused (Enlist priority) refl (λ p h c met. asks_on p m h a _ (requests_enlisted p m h (on_object p m h met.0) a priority enlists))
+
+  pub set_active_does : Makes m.active a (this m) waits → Does refused SetActive m (places.next (record m { active = a }))
+  set_active_does makes =
+      plain_does m _ refused SetActive refl (λ p h c met.
+      let r = in_one is_issued _ met.1.1.1.0 in
+      asks_on p m h a _ (requests_become p m h (on_object p m h (active_listed _ met.0)) a waits r.0 r.1 makes))
+
+  pub abort_does : Makes m.active a (this m) aborted → Does refused Abort m (places.next (record m { active = a }))
+  abort_does makes =
+      plain_does m _ refused Abort refl (λ p h c met.
+      let r = in_one is_cancelling _ met.1.0 in
+      asks_on p m h a _ (requests_become p m h (on_object p m h (active_listed _ met.0)) a aborted r.0 r.1 makes))
+
+-- what a native has answered is what the checked machine hears
+module _ (p : Image) (m : Parts) (h : At_hand p m) (on : OnObject p m h) (n : ℕ) (serves : native_of (kind_here p m) ≡ Some n) where
+  dead_told : is_killed m.sessions n ≡ is_served_by_dead p h.frame h.below h.state
+  dead_told = ap (λ ks. list_any (λ k. k == n) ks) h.agrees.natives.dead ∙ sym (ap (has_died h.state.killed) (ap native_of (kind_told p m h on) ∙ serves))
+
+  session_told : is_open m.sessions (this m) ≡ own_session h.state.cells h.frame.home
+  session_told = h.agrees.natives.sessions (this m) ∙ ap (in_session h.state.cells) on.number ∙ sym (ap (own_session h.state.cells) on.home)
+
+  pub heard_told : {A : Type 0} (f : Bool → Bool → ℤ → A) (c : Choice) → c.answer ≡ m.heard → f (is_killed m.sessions n) (is_open m.sessions (this m)) m.heard ≡ heard p c h.frame h.below h.state f
+  heard_told f c hears =
+      ap (λ d. f d (is_open m.sessions (this m)) m.heard) dead_told
+      ∙ ap (λ b. f (is_served_by_dead p h.frame h.below h.state) b m.heard) session_told
+      ∙ ap (λ a. f (is_served_by_dead p h.frame h.below h.state) (own_session h.state.cells h.frame.home) a) (sym hears)
+
+-- a request is made of a provider
+requests_made : (p : Image) (m : Parts) (h : At_hand p m) (on : OnObject p m h) (a : Active) (q : Provider) (w status : ℤ) (r : Request) → own_request h.state.cells h.frame.home ≡ Some r
+    → ((n : ℕ) → q ≡ Native n → started (is_killed m.sessions n) (is_open m.sessions (this m)) m.heard ≡ status) → Issues q m.sessions m.heard h.state.rest.clock w m.active a (this m)
+    → SameRequests p a (rerequested h.state.cells h.frame.home (on_request (issued_by q (made_with p m h on status) w) (own_request h.state.cells h.frame.home)))
+requests_made p m h on a Own w status r is begins issues = requests_become p m h on a (completed_at_once w) r is issues
+requests_made p m h on a A_timer w status r is begins issues = requests_timed p m h on a w status r is issues
+requests_made p m h on a (Native n) w status r is begins issues = requests_become p m h on a (begun_with status) r is (subst (λ v. Makes m.active a (this m) (begun_with v)) (begins n refl) issues)
+
+pub issue_does : (p : Image) (m : Parts) (refused : List ℕ) (a : Active) (q : Provider) (b x : ℕ) → provider_of (kind_here p m) ≡ Some q
+    → Issues q m.sessions m.heard m.rest.clock (cast_signed w32 (register_here m.stack.tasks b)) m.active a (this m) → DoesIn p refused (Issue b x) m (places.next (record m { active = a }))
+issue_does p m refused a q b x provider issues h here =
+    heard_at p m _ refused (Issue b x) refl h (λ c hears met typed.
+    let clock = h.state.rest.clock in
+    let asking = asking_with p c h.frame h.below h.state in
+    let w = read h.frame h.below h.state b in
+    let on = on_object p m h (active_listed _ met.1.1.0) in
+    let r = in_one is_idle _ met.1.1.1.1.0 in
+    let made = issued_as (home_kind p h.frame.home) q asking w (ap provider_of (kind_told p m h on) ∙ provider) in
+    let same : m.rest.clock ≡ clock = ap (λ r. r.clock) h.agrees.rest in
+    let it = subst (λ n. Issues q m.sessions m.heard n w m.active a (this m)) same (subst (λ v. Issues q m.sessions m.heard m.rest.clock v m.active a (this m)) (word_read p m h b met.0) issues) in
+    subst (λ f. Agrees p (places.next (record m { active = a })) (applied p h.frame h.below h.state (updates h.frame (Requested (on_request f (own_request h.state.cells h.frame.home)))))) (sym made)
+    (asks_on p m h a _ (requests_made p m h on a q w asking.started r.0 r.1
+    (λ n native. heard_told p m h on n (native_provided (kind_here p m) n (provider ∙ ap (λ v. Some v) native)) started c hears) it)))
+
+-- a request that is not active is left alone
+pub cancel_idle_does : (m : Parts) (refused : List ℕ) → is_waited_for (request_at m.active.table (this m)) ≡ false → Does refused Cancel m (places.next m)
+cancel_idle_does m refused idle =
+    plain_does m _ refused Cancel refl (λ p h c met.
+    let on = on_object p m h (active_listed _ met.0) in
+    subst (λ b. Agrees p (places.next m) (applied p h.frame h.below h.state (cancels_if h.frame b (cancel_method p h.frame.home)))) (sym (sym (active_told p m h on) ∙ idle)) (passes m refused p h))
+
+-- and else the method that cancels begins over the one that runs
+module _ (p : Image) (m : Parts) (refused : List ℕ) (a : Active) (k : ℕ) where
+  abbrev cancels : Parts
+  cancels = with_tasks (Runs_frame (fresh k (this m)) ∷ m.stack.tasks) (record m { active = a })
+
+  cancel_begins : (h : At_hand p m) → this m ≡ home_number h.frame.home → SameRequests p a (begun_cells h.frame h.state.cells) → Agrees p cancels (applied p h.frame h.below h.state (Cancels k))
+  cancel_begins h number requests =
+      let s = h.state in
+      let fr = h.frame in
+      let ts = h.below in
+      let n = this m in
+      let r = on_request cancelling (own_request s.cells fr.home) in
+      let cs = begun_cells fr s.cells in
+      let called = frame_of k fr.home (length s.items) in
+      by_top p m h (λ us. Agrees p (record m { stack = record m.stack { tasks = Runs_frame (fresh k n) ∷ us }; active = a }) (record s { cells = cs; tasks = Run called ∷ Run fr ∷ ts }))
+      (λ f ms top. record {
+        tasks = (begun_frame k n fr.home (length s.items) number, (top.frame, top.below));
+        values = λ q.
+            subst (λ x. Shows x (word_at (Run called ∷ Run fr ∷ ts) q) (held cs q)) (sym (fresh_value k n (Runs_frame f ∷ ms) m.cells m.entries.items m.root q))
+            (subst (λ w. Shows (value_in (Runs_frame f ∷ ms) m.cells m.entries.items m.root q) w (held cs q)) (sym (fresh_word k fr.home (length s.items) (Run fr ∷ ts) q))
+            (subst (λ o. Shows (value_in (Runs_frame f ∷ ms) m.cells m.entries.items m.root q) (word_at (Run fr ∷ ts) q) o) (sym ((rerequested_alike s.cells fr.home r).held_so q)) (top.values q)));
+        cells = cells_rerequested p m.cells s.cells fr.home r h.agrees.cells;
+        entries = h.agrees.entries;
+        requests = requests;
+        natives = natives_rerequested p m.sessions s.killed s.cells fr.home r h.agrees.natives;
+        rest = h.agrees.rest;
+        room = h.agrees.room;
+        entry_room = h.agrees.entry_room;
+      })
+
+  pub cancel_does : (class : ℕ) → class_at m.cells (this m) ≡ Some class → role_of p class Cancels_role ≡ Some k → is_waited_for (request_at m.active.table (this m)) ≡ true → Makes m.active a (this m) cancelling → DoesIn p refused Cancel m cancels
+  cancel_does class is role waited makes h here =
+      plain_at p m _ refused Cancel refl h (λ c met typed.
+      let on = on_object p m h (active_listed _ met.0) in
+      let active = sym (active_told p m h on) ∙ waited in
+      let r = in_one enlisted.is_active _ active in
+      subst (λ b. Agrees p cancels (applied p h.frame h.below h.state (cancels_if h.frame b (cancel_method p h.frame.home)))) (sym active)
+      (subst (λ o. Agrees p cancels (applied p h.frame h.below h.state (cancels_if h.frame true o))) (sym (cancel_told p m h on class is ∙ role))
+      (cancel_begins h (on.number ∙ sym (ap home_number on.home)) (requests_become p m h on a cancelling r.0 r.1 makes))))

@@ -1,0 +1,567 @@
+-- A method returns: to the method that called it, through a trap, to the going of its cell, to an unwinding, or to the dispatch that has asked it.
+use Rattle.std.proofs.Common.{Bool, List, None, Option, Some, [], ap, arith, cond, false, length, pos, refl, slice_index_or, slice_set, subst, suc, sym, true, ℕ, ℤ, ◌&&◌, ◌<◌, ◌==◌, ◌∙◌, ◌∷◌, ◌≡◌, ◌≤◌}
+use Rattle.std.proofs.lemmas.Bool.{OnTrue_at, eq-eqb, eqb-true, ne_eqb}
+use Rattle.std.proofs.lemmas.List.{length-set}
+use Rattle.aom_image.specs.Image.{Image}
+use Rattle.aom_image.specs.Views.{gives_in, gives_of, instr_at, method_at}
+use Rattle.aom_instructions.specs.declared.instr.Instr.TheVariants.{Return}
+use Rattle.aom_image.specs.declared.method.Gives.{Gives}
+use Rattle.aom_image.specs.declared.method.Method.{Method as Method_decl}
+use Rattle.aom_image.specs.declared.method.Gives.TheVariants.{Left, Maybe as A_maybe, Nothing, Own as An_own, Word as A_word}
+use Rattle.aom_cells.specs.Heap.{Heap, null}
+use Rattle.aom_shape.specs.Kinds.{is_unowning, register}
+use Rattle.aom_shape.specs.declared.kind.Kind.{Kind}
+use Rattle.aom_shape.specs.declared.kind.Kind.TheVariants.{Own, Maybe}
+use Rattle.aom_shape.specs.Needs.{AllTrue}
+use Rattle.aom_shape.specs.Shape.{Shape}
+use Rattle.aom_rules.specs.Typing.{Typing}
+use Rattle.aom_sound.proofs.View.{under_dispatch}
+use Rattle.aom_sound.specs.Calls.{answered_by, below_top, result_needs, result_register, returned, told_answer}
+use Rattle.aom_sound.specs.Claims.{Method, Mark, tasks_of, claim, declared}
+use Rattle.aom_sound.specs.Places.{Cell, Elsewhere, Entry, Field, Going, Object, Place, Register, changed, held, moved, same_place, seen}
+use Rattle.aom_sound.specs.State.{Answered, Destroy, Dispatch, Dispatched, Frame, Run, State, Task, Trapped, Unwind, next, set_word, word}
+use Rattle.aom_sound.specs.WellTyped.{Awaits, Fits, Good, WellTyped, WordFits}
+use Rattle.aom_sound.proofs.Claimed.{claim_register_above}
+use Rattle.aom_sound.proofs.Finishing.{all_parts}
+use Rattle.aom_sound.proofs.Maps.{at-put_at, held_moved}
+use Rattle.aom_sound.proofs.Straight.{claim_register, fits_unowning}
+use Rattle.aom_sound.proofs.Layers.{mark_layer, method_layer}
+use Rattle.aom_cleanup.specs.Items.{Stack as Held_items}
+use Rattle.aom_cleanup.specs.declared.item.Item.TheVariants.{Mark as Is_mark}
+use Rattle.aom_cleanup.specs.declared.item.Item.{Item}
+use Rattle.aom_frames.specs.Tasks.{Runs, method_here, place_here, register_here, below_first}
+use Rattle.aom_frames.specs.declared.frame.Frame.{Frame as Held_frame}
+use Rattle.aom_frames.specs.declared.task.Task.{Task as Held_task}
+use Rattle.aom_frames.specs.declared.task.Task.TheVariants.{Run as Runs_frame, Trapped as Is_trap, Destroy as Destroys, Dispatched as Ends, Unwind as Unwinds}
+use Rattle.aom_frames.specs.declared.dispatch.Dispatch.{Dispatch as Held_dispatch}
+use Rattle.aom_frames.specs.declared.dispatch.Dispatch.TheVariants.{Asks as One_asks}
+use Rattle.aom_active.specs.Agrees.{Active}
+use Rattle.aom_sound.specs.Enlisted.{ended_cells}
+use Rattle.aom_sound.proofs.Storing.{ended_alike}
+use Rattle.aom_acts.specs.Ends.{heard, told_by}
+use Rattle.aom_acts.specs.Going.{ending_here}
+use Rattle.aom_parts.proofs.Asking.{requests_moved}
+use Rattle.aom_acts.proofs.CancelEnds.{IsOver, ended_agrees, method_is}
+use Rattle.aom_acts.proofs.OnTop.{ending_of}
+use Rattle.aom_parts.specs.declared.parts.Parts.{Parts}
+use Rattle.aom_parts.specs.Places.{value_in, register_in, going_in, with_tasks, IsDestroying, IsEnding, IsTrapped, IsUnwinding}
+use Rattle.aom_parts.specs.Agrees.{word_at, word_in, Shows, SameCells, SameDispatch, SameFrame, SameTasks, Agrees, SameRequests, dispatch_of, seat_of, SameNatives}
+use Rattle.aom_acts.specs.Acts.{At_hand, resulted, DoesIn}
+use Rattle.aom_parts.specs.Places as places
+use Rattle.aom_parts.proofs.Entries.{mark_shows_none, unmarked, value_alike}
+use Rattle.aom_parts.proofs.Overs.{held_over, higher, over_value, over_words, tasks_over}
+use Rattle.aom_acts.proofs.CallActs.{closing, ended, fits_null, shows_null}
+use Rattle.aom_parts.proofs.Cells.{cells_moved}
+use Rattle.aom_acts.proofs.Standing.{Top, by_top, goes_on, moved_on, register_shows, no_word}
+use Rattle.std.specs.Bool.{OnTrue}
+use Rattle.std.proofs.lemmas.Option.{none-some}
+use Rattle.aom_image.proofs.Given.{none_given}
+use Rattle.aom_parts.proofs.Alike.{A_catcher, A_going, A_last_trap, A_leave, A_method, An_end, Alike, Tops, alike, both_end, both_go, both_run, both_trapped, both_unwind, catcher_on_top, end_on_top, going_on_top, last_trap_on_top, leave_on_top, method_on_top, tops}
+use Rattle.aom_parts.proofs.Values.{at_depth, cases, going_past, kept, none_alike, register_past, value_kept, value_written, word_next, word_past, word_written, writes}
+use Rattle.aom_acts.proofs.WordActs.{plain_at, word_read}
+use Rattle.aom_parts.proofs.Sessions.{natives_moved}
+
+-- what a method gives back
+pub gives_here : (p : Image) (k : ℕ) (d : Method_decl) → method_at p k ≡ Some d → gives_of p k ≡ d.gives
+unfolding gives_in
+gives_here p k d e = ap gives_in e
+
+-- the machine once the method is gone, and the cancel that it may have ended is over
+pub dropped : (m ended new : Parts) → ended ≡ record m { active = ended.active } → new ≡ with_tasks (below_first ended.stack.tasks) ended → new ≡ with_tasks (below_first m.stack.tasks) (record m { active = ended.active })
+dropped m ended new rest drop = drop ∙ ap (λ (k : Parts). with_tasks (below_first k.stack.tasks) k) rest
+
+-- ---- what lies below the task that is over
+
+-- what places hold, but for the registers of that depth
+abbrev pub cleared : ℕ → (Place → Option Object) → Place → Option Object
+cleared d h (Register e i) = cond (d == e) None (h (Register e i))
+cleared d h (Entry k) = h (Entry k)
+cleared d h (Field n g) = h (Field n g)
+cleared d h (Going k) = h (Going k)
+cleared d h (Elsewhere o) = h (Elsewhere o)
+
+pub cleared_none : (d : ℕ) (h : Place → Option Object) → ((i : ℕ) → h (Register d i) ≡ None) → (r : Place) → cleared d h r ≡ h r
+cleared_none d h none (Register e i) = cases (d == e)
+    (λ b. ap (λ x. cond x None (h (Register e i))) b ∙ sym (none i) ∙ ap (λ k. h (Register k i)) (eqb-true d e b))
+    (λ b. ap (λ x. cond x None (h (Register e i))) b)
+cleared_none d h none _ = refl
+
+-- the other places stand for what they stood for
+pub beneath : (f : Held_frame) (us : List Held_task) (fr : Frame) (ts : List Task) (heap : Heap) (es : List Item) (root : ℕ) (h : Place → Option Object) → length us ≡ length ts
+    → ((r : Place) → Shows (value_in (Runs_frame f ∷ us) heap es root r) (word_at (Run fr ∷ ts) r) (h r))
+    → (r : Place) → Shows (value_in us heap es root r) (word_at ts r) (cleared (length ts) h r)
+beneath f us fr ts heap es root h deep old (Register e i) = go (length ts == e) refl (subst (λ d. Shows (cond (d == e) (slice_index_or f.registers i null) (register_in us e i)) (cond (length ts == e) (word fr i) (word_in ts e i)) (h (Register e i))) deep (old (Register e i)))
+  where
+    go : (b : Bool) → (length ts == e) ≡ b → Shows (cond b (slice_index_or f.registers i null) (register_in us e i)) (cond b (word fr i) (word_in ts e i)) (h (Register e i)) → Shows (register_in us e i) (word_in ts e i) (cond b None (h (Register e i)))
+    go false is shows = shows
+    go true is shows = let at = eqb-true (length ts) e is in shows_null _ _ _ (register_past us e i (omega arith)) (word_past ts e i (omega arith)) refl
+beneath f us fr ts heap es root h deep old (Going k) = subst (λ n. Shows n None (h (Going k))) (at_depth (length us) k null (going_in us k) (λ e. going_past us k (omega arith))) (old (Going k))
+beneath f us fr ts heap es root h deep old (Entry k) = old (Entry k)
+beneath f us fr ts heap es root h deep old (Field n g) = old (Field n g)
+beneath f us fr ts heap es root h deep old (Elsewhere o) = old (Elsewhere o)
+
+-- past the tasks at hand no register owns
+pub none_above : (p : Image) (t : Typing) (s : State) (d i : ℕ) → WellTyped p t s → length s.tasks ≤ d → held s.cells (Register d i) ≡ None
+none_above p t s d i typed le =
+    let layers = ap length typed.tasks in
+    fits_null p (seen s.cells) _ (subst (Fits p (seen s.cells) (held s.cells (Register d i))) (claim_register_above p s.cells typed.layers d i (omega arith)) (typed.good.fits (Register d i)))
+
+-- what the result comes to owns nothing
+abbrev pub bears : Gives → Bool
+bears Nothing = false
+bears A_word = true
+bears (An_own t) = true
+bears (A_maybe t) = true
+bears (Left c) = false
+
+awaits : (g : Gives) (x : ℕ) (sh : Shape) → Awaits g x sh → OnTrue (bears g) (is_unowning (register sh x) ≡ true)
+awaits Nothing x sh a = tt
+awaits (Left c) x sh a = tt
+awaits _ x sh a = a
+
+pub awaiting : (g : Gives) (x : ℕ) (sh : Shape) → bears g ≡ true → Awaits g x sh → is_unowning (register sh x) ≡ true
+awaiting g x sh b a = OnTrue_at b (awaits g x sh a)
+
+awaited : (p : Image) (t : Typing) (s : State) (fr caller : Frame) (ts : List Task) → WellTyped p t s → s.tasks ≡ Run fr ∷ Run caller ∷ ts → bears (gives_of p fr.method) ≡ true
+    → held s.cells (Register (length ts) (result_register (instr_at p caller.method caller.place))) ≡ None
+awaited p t s fr caller ts typed top some =
+    method_layer (Good p t s.cells) fr (Run caller ∷ ts) typed.layers (sym typed.tasks ∙ top) typed.good (λ sh ls under good.
+    method_layer (λ ls. Good p t s.cells (Method fr sh ∷ ls)) caller ts ls under good (λ sh' ls rest good.
+    let x = result_register (instr_at p caller.method caller.place) in
+    let q = Register (length (tasks_of ls)) x in
+    let quiet = awaiting (gives_of p fr.method) x sh' some good.stack.4.0.1 in
+    let claims : claim p (declared p s.cells) (Method fr sh ∷ Method caller sh' ∷ ls) q ≡ register sh' x =
+    ap (λ b. cond b (register sh x) (claim p (declared p s.cells) (Method caller sh' ∷ ls) q)) (ne_eqb (suc (length (tasks_of ls))) (length (tasks_of ls)) (λ e. absurd (omega arith))) ∙ claim_register p (declared p s.cells) caller sh' ls x in
+    let none = fits_unowning p (seen s.cells) (held s.cells q) (register sh' x) quiet (subst (Fits p (seen s.cells) (held s.cells q)) claims (good.fits q)) in
+    subst (λ us. held s.cells (Register (length us) x) ≡ None) rest none))
+
+-- the same through a trap
+awaited_trapped : (p : Image) (t : Typing) (s : State) (fr caller : Frame) (ts : List Task) → WellTyped p t s → s.tasks ≡ Run fr ∷ Trapped ∷ Run caller ∷ ts → bears (gives_of p fr.method) ≡ true
+    → held s.cells (Register (length ts) (result_register (instr_at p caller.method caller.place))) ≡ None
+awaited_trapped p t s fr caller ts typed top some =
+    method_layer (Good p t s.cells) fr (Trapped ∷ Run caller ∷ ts) typed.layers (sym typed.tasks ∙ top) typed.good (λ sh ls under good.
+    mark_layer (λ ls. Good p t s.cells (Method fr sh ∷ ls)) (Run caller ∷ ts) ls under good (λ gv ls under good.
+    method_layer (λ ls. Good p t s.cells (Method fr sh ∷ Mark gv ∷ ls)) caller ts ls under good (λ sh' ls rest good.
+    let x = result_register (instr_at p caller.method caller.place) in
+    let d = length (tasks_of ls) in
+    let q = Register d x in
+    let mark = good.stack.4 in
+    let quiet = awaiting gv x sh' (ap bears (sym mark.0.0) ∙ some) mark.1.0.2 in
+    let claims : claim p (declared p s.cells) (Method fr sh ∷ Mark gv ∷ Method caller sh' ∷ ls) q ≡ register sh' x =
+    ap (λ b. cond b (register sh x) (claim p (declared p s.cells) (Mark gv ∷ Method caller sh' ∷ ls) q)) (ne_eqb (suc (suc d)) d (λ e. absurd (omega arith))) ∙ claim_register p (declared p s.cells) caller sh' ls x in
+    let none = fits_unowning p (seen s.cells) (held s.cells q) (register sh' x) quiet (subst (Fits p (seen s.cells) (held s.cells q)) claims (good.fits q)) in
+    subst (λ us. held s.cells (Register (length us) x) ≡ None) rest none)))
+
+-- a register with a word owns nothing
+pub word_alone : (p : Image) (t : Typing) (s : State) (fr : Frame) (ts : List Task) (i : ℕ) (w : ℤ) → WellTyped p t s → s.tasks ≡ Run fr ∷ ts → word fr i ≡ Some w → held s.cells (Register (length ts) i) ≡ None
+word_alone p t s fr ts i w typed top has = method_layer (λ ls. Good p t s.cells ls) fr ts typed.layers (sym typed.tasks ∙ top) typed.good (λ sh ls rest good.
+    let q = Register (length (tasks_of ls)) i in
+    let claims = claim_register p (declared p s.cells) fr sh ls i in
+    let none = kind_alone (register sh i) (word fr i) (held s.cells q) has (good.stack.1.words i) (subst (Fits p (seen s.cells) (held s.cells q)) claims (good.fits q)) in
+    subst (λ us. held s.cells (Register (length us) i) ≡ None) rest none)
+  where
+    kind_alone : (k : Kind) (w' : Option ℤ) (o : Option Object) → w' ≡ Some w → WordFits w' k → Fits p (seen s.cells) o k → o ≡ None
+    kind_alone k w' o e word fits = none_given (λ o. Fits p (seen s.cells) o k) o fits (λ x fits. owned x k fits (subst (λ v. WordFits v k) e word)) (λ is _. is)
+      where
+        owned : (x : Object) (k : Kind) → Fits p (seen s.cells) (Some x) k → WordFits (Some w) k → ⊥
+        owned x (Own y age) fits word = none-some _ (sym word)
+        owned x (Maybe y age) fits word = none-some _ (sym word)
+        owned x _ fits word = fits
+
+-- what gives an object has no word in its register
+abbrev pub Wordless : Gives → Option ℤ → Type 0
+Wordless Nothing w = Unit {0}
+Wordless A_word w = Unit {0}
+Wordless (An_own t) w = w ≡ None
+Wordless (A_maybe t) w = w ≡ None
+Wordless (Left c) w = Unit {0}
+
+wordless : (p : Image) (fr : Frame) (ts : List Task) (s : State) (g : Gives) (a : ℕ) → AllTrue (result_needs p fr ts s g a) → Wordless g (word fr a)
+wordless p fr ts s (An_own t) a met = no_word _ met.0
+wordless p fr ts s (A_maybe t) a met = no_word _ met.0
+wordless p fr ts s _ a met = tt
+
+module _ (p : Image) (m : Parts) (t : Typing) (s : State) (fr : Frame) (agrees : Agrees p m s) (f : Held_frame) (a : ℕ) where
+  -- to the going of a cell, to an unwinding or to a dispatch: nothing goes over
+  to_waiting : (ms : List Held_task) (ts : List Task) → Top m s fr ts f ms → ((i : ℕ) → held s.cells (Register (length ts) i) ≡ None)
+      → Agrees p (with_tasks ms m) (record s { tasks = ts })
+  to_waiting ms ts top clear = record {
+    tasks = top.below;
+    values = λ r. subst (Shows (value_in ms m.cells m.entries.items m.root r) (word_at ts r)) (cleared_none _ (held s.cells) clear r) (beneath f ms fr ts m.cells m.entries.items m.root (held s.cells) top.deep top.values r);
+    cells = agrees.cells;
+    entries = agrees.entries;
+    requests = agrees.requests;
+    natives = agrees.natives;
+    rest = agrees.rest;
+    room = agrees.room;
+    entry_room = agrees.entry_room;
+  }
+
+  -- to a method, or through a trap to one
+  module _ (trapped : Bool) (g : Held_frame) (ms : List Held_task) (caller : Frame) (ts : List Task) (top : Top m s fr (tasks_over trapped (Run caller ∷ ts)) f (held_over trapped (Runs_frame g ∷ ms))) (small : result_register (instr_at p caller.method caller.place) < 16) where
+    abbrev x : ℕ
+    x = result_register (instr_at p caller.method caller.place)
+
+    abbrev n : ℕ
+    n = slice_index_or f.registers a null
+
+    abbrev over : List Task
+    over = tasks_over trapped (Run caller ∷ ts)
+
+    abbrev under : Place → Option Object
+    under = cleared (length over) (held s.cells)
+
+    abbrev from : Place
+    from = Register (length over) a
+
+    abbrev to : Place
+    to = Register (length ts) x
+
+    high : length ts < length over
+    high = higher trapped (Run caller ∷ ts) (omega arith)
+
+    deep : length ms ≡ length ts
+    deep = apart trapped top.deep
+      where
+        apart : (b : Bool) → length (held_over b (Runs_frame g ∷ ms)) ≡ length (tasks_over b (Run caller ∷ ts)) → length ms ≡ length ts
+        apart true e = omega arith
+        apart false e = omega arith
+
+    same_frame : SameFrame g caller
+    same_frame = apart trapped top.below
+      where
+        apart : (b : Bool) → SameTasks (held_over b (Runs_frame g ∷ ms)) (tasks_over b (Run caller ∷ ts)) → SameFrame g caller
+        apart true e = e.1.0
+        apart false e = e.0
+
+    same_below : SameTasks ms ts
+    same_below = apart trapped top.below
+      where
+        apart : (b : Bool) → SameTasks (held_over b (Runs_frame g ∷ ms)) (tasks_over b (Run caller ∷ ts)) → SameTasks ms ts
+        apart true e = e.1.1
+        apart false e = e.1
+
+    base : (r : Place) → Shows (value_in (Runs_frame g ∷ ms) m.cells m.entries.items m.root r) (word_at (Run caller ∷ ts) r) (under r)
+    base r =
+        subst (λ k. Shows k (word_at (Run caller ∷ ts) r) (under r)) (over_value trapped (Runs_frame g ∷ ms) m.cells m.entries.items m.root r)
+        (subst (λ w. Shows (value_in (held_over trapped (Runs_frame g ∷ ms)) m.cells m.entries.items m.root r) w (under r)) (over_words trapped (Run caller ∷ ts) r)
+        (beneath f (held_over trapped (Runs_frame g ∷ ms)) fr over m.cells m.entries.items m.root (held s.cells) top.deep top.values r))
+
+    number_shows : Shows n (word fr a) (held s.cells from)
+    number_shows = register_shows m s fr over f (held_over trapped (Runs_frame g ∷ ms)) top a
+
+    -- the result has come
+    record Landed (rs : List ℕ) (ws : List (Option ℤ)) (cs : List Cell) : Type 0 where
+      values : (r : Place) → Shows (value_in (Runs_frame (record g { registers = rs }) ∷ ms) m.cells m.entries.items m.root r) (word_at (Run (record caller { words = ws }) ∷ ts) r) (held cs r)
+      cells : SameCells p m.cells cs
+      requests : SameRequests p m.active cs
+      natives : SameNatives p m.sessions cs s.killed
+      wide : length rs ≡ 16
+
+    abbrev IsClear : List Cell → Type 0
+    IsClear cs = (i : ℕ) → held cs (Register (length over) i) ≡ None
+
+    -- with nothing
+    lands_bare : IsClear s.cells → Landed g.registers caller.words s.cells
+    lands_bare clear = record {
+      values = λ r. subst (Shows (value_in (Runs_frame g ∷ ms) m.cells m.entries.items m.root r) (word_at (Run caller ∷ ts) r)) (cleared_none _ (held s.cells) clear r) (base r);
+      cells = agrees.cells;
+      requests = agrees.requests;
+      natives = agrees.natives;
+      wide = same_frame.wide;
+    }
+
+    -- with a number
+    lands : (cs : List Cell) (w : Option ℤ) (o : Option Object) → SameCells p m.cells cs → SameRequests p m.active cs → SameNatives p m.sessions cs s.killed → Shows n w o → ((r : Place) → held cs r ≡ changed under to o r) → Landed (slice_set g.registers x n) (set_word caller x w).words cs
+    lands cs w o cells requests natives shows holds =
+        let wide = same_frame.wide in
+        record {
+          values = writes _ _ _ _ _ _ to n w o base shows
+              (value_written g ms m.cells m.entries.items m.root (length ts) x n g.place deep (omega arith))
+              (word_written caller ts x caller.place w)
+              holds;
+          cells = cells;
+          requests = requests;
+          natives = natives;
+          wide = length-set g.registers x n ∙ wide;
+        }
+
+    -- with a word
+    lands_word : IsClear s.cells → held s.cells to ≡ None → Landed (slice_set g.registers x n) (set_word caller x (word fr a)).words s.cells
+    lands_word clear empty =
+        lands s.cells (word fr a) None agrees.cells agrees.requests agrees.natives (subst (Shows n (word fr a)) (clear a) number_shows)
+        (λ r. kept (held s.cells) to r ∙ ap (λ o. changed (held s.cells) to o r) empty ∙ ap (λ o. cond (same_place to r) None o) (sym (cleared_none _ (held s.cells) clear r)))
+
+    -- with an object
+    lands_object : IsClear (moved from to s.cells) → held s.cells to ≡ None → word fr a ≡ None → Landed (slice_set g.registers x n) (set_word caller x None).words (moved from to s.cells)
+    lands_object clear empty wordless =
+        lands (moved from to s.cells) None (held s.cells from) (cells_moved p m.cells s.cells from to agrees.cells) (requests_moved p m.active s.cells from to agrees.requests) (natives_moved p m.sessions s.killed s.cells from to agrees.natives) (subst (λ w. Shows n w (held s.cells from)) wordless number_shows) holds
+      where
+        elsewhere : (r : Place) → same_place from r ≡ false → under r ≡ held s.cells r → held (moved from to s.cells) r ≡ changed under to (held s.cells from) r
+        elsewhere r e same = held_moved s.cells from to r empty ∙ ap (λ b. cond (same_place to r) (held s.cells from) (cond b None (held s.cells r))) e ∙ ap (λ o. cond (same_place to r) (held s.cells from) o) (sym same)
+
+        holds : (r : Place) → held (moved from to s.cells) r ≡ changed under to (held s.cells from) r
+        holds (Entry k) = elsewhere (Entry k) refl refl
+        holds (Field k i) = elsewhere (Field k i) refl refl
+        holds (Going k) = elsewhere (Going k) refl refl
+        holds (Elsewhere o) = elsewhere (Elsewhere o) refl refl
+        holds (Register e i) = cases (length over == e)
+            (λ b.
+            let at = eqb-true (length over) e b in
+            let above = high in
+            ap (λ k. held (moved from to s.cells) (Register k i)) (sym at)
+            ∙ clear i
+            ∙ sym (ap (λ c. cond (c && (x == i)) (held s.cells from) (under (Register e i))) (ne_eqb (length ts) e (λ d. absurd (omega arith))) ∙ ap (λ c. cond c None (held s.cells (Register e i))) b))
+            (λ b. elsewhere (Register e i) (ap (λ c. c && (a == i)) b) (ap (λ c. cond c None (held s.cells (Register e i))) b))
+
+    -- the method goes on
+    lands_next : (rs : List ℕ) (ws : List (Option ℤ)) (cs : List Cell) → Landed rs ws cs → Agrees p (places.next (with_tasks (Runs_frame (record g { registers = rs }) ∷ ms) m)) (record s { cells = cs; tasks = Run (next (record caller { words = ws })) ∷ ts })
+    lands_next rs ws cs landed =
+        let g' = record g { registers = rs } in
+        let caller' = record caller { words = ws } in
+        goes_on p m s m.cells cs m.rest s.rest (record g' { place = suc g.place }) ms (next caller') ts agrees landed.cells landed.requests landed.natives agrees.rest same_below (moved_on g caller rs ws same_frame landed.wide)
+        (λ r. subst (λ k. Shows k (word_at (Run (next caller') ∷ ts) r) (held cs r)) (sym (value_kept g' ms m.cells m.entries.items m.root (suc g.place) r))
+        (subst (λ w. Shows (value_in (Runs_frame g' ∷ ms) m.cells m.entries.items m.root r) w (held cs r)) (sym (word_next caller' ts (suc caller.place) r)) (landed.values r)))
+
+    -- through its trap, with 0 for the code
+    lands_coded : (es : Held_items) → m.entries ≡ record es { items = Is_mark ∷ es.items } → suc x < 16 → (rs : List ℕ) (ws : List (Option ℤ)) (cs : List Cell) → held cs (Register (length ts) (suc x)) ≡ None → Landed rs ws cs
+        → Agrees p (places.next (places.set_register (suc x) 0 (with_tasks (Runs_frame (record g { registers = rs }) ∷ ms) (record m { entries = es })))) (record s { cells = cs; tasks = Run (next (set_word (record caller { words = ws }) (suc x) (Some (pos 0)))) ∷ ts; items = below_top s.items })
+    lands_coded es marked coded rs ws cs empty landed =
+        let g' = record g { registers = rs } in
+        let caller' = record caller { words = ws } in
+        let q = Register (length ts) (suc x) in
+        let wide = landed.wide in
+        let was : m.entries.items ≡ Is_mark ∷ es.items = ap (λ (e : Held_items). e.items) marked in
+        let old : (r : Place) → Shows (value_in (Runs_frame g' ∷ ms) m.cells es.items m.root r) (word_at (Run caller' ∷ ts) r) (held cs r) = λ r. subst (λ k. Shows k (word_at (Run caller' ∷ ts) r) (held cs r)) (ap (λ is. value_in (Runs_frame g' ∷ ms) m.cells is m.root r) was ∙ value_alike (Runs_frame g' ∷ ms) m.cells (Is_mark ∷ es.items) es.items m.root (λ k. mark_shows_none es.items k) r) (landed.values r) in
+        record {
+          tasks = (moved_on g caller (slice_set rs (suc x) 0) (set_word caller' (suc x) (Some (pos 0))).words same_frame (length-set rs (suc x) 0 ∙ wide), same_below);
+          values = writes _ _ _ _ (held cs) _ q 0 (Some (pos 0)) None old refl
+              (value_written g' ms m.cells es.items m.root (length ts) (suc x) 0 (suc g.place) deep (omega arith))
+              (word_written caller' ts (suc x) (suc caller.place) (Some (pos 0)))
+              (λ r. kept (held cs) q r ∙ ap (λ o. changed (held cs) q o r) empty);
+          cells = landed.cells;
+          entries = unmarked m.entries.items es.items s.items was agrees.entries;
+          requests = landed.requests;
+          natives = landed.natives;
+          rest = agrees.rest;
+          room = agrees.room;
+          entry_room = subst (λ k. 1024 ≤ k) (ap (λ (e : Held_items). e.depth) marked) agrees.entry_room;
+        }
+
+  -- to a method
+  module _ (g : Held_frame) (ms : List Held_task) (caller : Frame) (ts : List Task) (top : Top m s fr (Run caller ∷ ts) f (Runs_frame g ∷ ms)) (empty : bears (gives_of p fr.method) ≡ true → held s.cells (Register (length ts) (result_register (instr_at p caller.method caller.place))) ≡ None) (small : result_register (instr_at p caller.method caller.place) < 16) where
+    abbrev y : ℕ
+    y = result_register (instr_at p caller.method caller.place)
+
+    abbrev k : ℕ
+    k = slice_index_or f.registers a null
+
+    abbrev Goes : Gives → Type 0
+    Goes gv =
+        Wordless gv (word fr a) → bears gv ≡ bears (gives_of p fr.method)
+        → WellTyped p t (returned p fr (Run caller ∷ ts) s gv a (Run caller ∷ ts))
+        → Agrees p (places.next (resulted gv y k (with_tasks (Runs_frame g ∷ ms) m))) (returned p fr (Run caller ∷ ts) s gv a (Run caller ∷ ts))
+
+    to_method : (gv : Gives) → Goes gv
+    to_method Nothing met same typed = lands_next false g ms caller ts top small _ _ _ (lands_bare false g ms caller ts top small (λ i. none_above p t _ _ i typed (omega arith)))
+    to_method A_word met same typed = lands_next false g ms caller ts top small _ _ _ (lands_word false g ms caller ts top small (λ i. none_above p t _ _ i typed (omega arith)) (empty (sym same)))
+    to_method (An_own z) met same typed = lands_next false g ms caller ts top small _ _ _ (lands_object false g ms caller ts top small (λ i. none_above p t _ _ i typed (omega arith)) (empty (sym same)) met)
+    to_method (A_maybe z) met same typed = lands_next false g ms caller ts top small _ _ _ (lands_object false g ms caller ts top small (λ i. none_above p t _ _ i typed (omega arith)) (empty (sym same)) met)
+    to_method (Left z) met same typed = lands_next false g ms caller ts top small _ _ _ (lands_bare false g ms caller ts top small (λ i. none_above p t _ _ i typed (omega arith)))
+
+  -- through a trap
+  module _ (es : Held_items) (marked : m.entries ≡ record es { items = Is_mark ∷ es.items }) (g : Held_frame) (ms : List Held_task) (caller : Frame) (ts : List Task) (top : Top m s fr (Trapped ∷ Run caller ∷ ts) f (Is_trap ∷ Runs_frame g ∷ ms)) (empty : bears (gives_of p fr.method) ≡ true → held s.cells (Register (length ts) (result_register (instr_at p caller.method caller.place))) ≡ None) (coded : suc (result_register (instr_at p caller.method caller.place)) < 16) where
+    abbrev z : ℕ
+    z = result_register (instr_at p caller.method caller.place)
+
+    abbrev j : ℕ
+    j = slice_index_or f.registers a null
+
+    small_too : z < 16
+    small_too = omega (arith, coded)
+
+    abbrev GoesThrough : Gives → Type 0
+    GoesThrough gv =
+        Wordless gv (word fr a) → bears gv ≡ bears (gives_of p fr.method)
+        → WellTyped p t (returned p fr (Trapped ∷ Run caller ∷ ts) s gv a (Trapped ∷ Run caller ∷ ts))
+        → Agrees p (places.next (places.set_register (suc z) 0 (resulted gv z j (with_tasks (Runs_frame g ∷ ms) (record m { entries = es }))))) (returned p fr (Trapped ∷ Run caller ∷ ts) s gv a (Trapped ∷ Run caller ∷ ts))
+
+    -- the code's register has a word then
+    code_alone : (cs : List Cell) (caller' : Frame) (items : _) → WellTyped p t (record s { cells = cs; tasks = Run (next (set_word caller' (suc z) (Some (pos 0)))) ∷ ts; items = items }) → held cs (Register (length ts) (suc z)) ≡ None
+    code_alone cs caller' items typed = word_alone p t _ (next (set_word caller' (suc z) (Some (pos 0)))) ts (suc z) (pos 0) typed refl (at-put_at None caller'.words (suc z) (suc z) (Some (pos 0)) ∙ ap (λ b. cond b (Some (pos 0)) (word caller' (suc z))) (eq-eqb (suc z) (suc z) refl))
+
+    through : (gv : Gives) → GoesThrough gv
+    through Nothing met same typed = lands_coded true g ms caller ts top small_too es marked coded _ _ _ (code_alone _ caller _ typed) (lands_bare true g ms caller ts top small_too (λ i. none_above p t _ _ i typed (omega arith)))
+    through A_word met same typed = lands_coded true g ms caller ts top small_too es marked coded _ _ _ (code_alone _ (set_word caller z (word fr a)) _ typed) (lands_word true g ms caller ts top small_too (λ i. none_above p t _ _ i typed (omega arith)) (empty (sym same)))
+    through (An_own thing) met same typed = lands_coded true g ms caller ts top small_too es marked coded _ _ _ (code_alone _ (set_word caller z None) _ typed) (lands_object true g ms caller ts top small_too (λ i. none_above p t _ _ i typed (omega arith)) (empty (sym same)) met)
+    through (A_maybe thing) met same typed = lands_coded true g ms caller ts top small_too es marked coded _ _ _ (code_alone _ (set_word caller z None) _ typed) (lands_object true g ms caller ts top small_too (λ i. none_above p t _ _ i typed (omega arith)) (empty (sym same)) met)
+    through (Left thing) met same typed = lands_coded true g ms caller ts top small_too es marked coded _ _ _ (code_alone _ caller _ typed) (lands_bare true g ms caller ts top small_too (λ i. none_above p t _ _ i typed (omega arith)))
+
+-- ---- a dispatch that has asked hears the answer
+
+heard_same : (answer answer' : ℤ) (x : Held_dispatch) (d : Dispatch) → answer ≡ answer' → SameDispatch x d → SameDispatch (heard answer x) (answered_by answer' d)
+heard_same answer answer' x d e same = (same.0, subst (λ d. dispatch_of same.0 (heard answer x) ≡ answered_by answer' d) same.1 (go same.0 x))
+  where
+    go : (q : Place) (x : Held_dispatch) → dispatch_of q (heard answer x) ≡ answered_by answer' (dispatch_of q x)
+    go q (One_asks x) = ap (λ n. Answered (seat_of q x) n) e
+    go q _ = refl
+
+-- a dispatch has no place of its own
+redispatched : (p : Image) (m : Parts) (s : State) (x y : Held_dispatch) (ms : List Held_task) (d e : Dispatch) (ts : List Task) → SameDispatch y e
+    → Agrees p (with_tasks (Ends x ∷ ms) m) (record s { tasks = Dispatched d ∷ ts }) → Agrees p (with_tasks (Ends y ∷ ms) m) (record s { tasks = Dispatched e ∷ ts })
+redispatched p m s x y ms d e ts same agrees = record {
+  tasks = (same, agrees.tasks.1);
+  values = values;
+  cells = agrees.cells;
+  entries = agrees.entries;
+  requests = agrees.requests;
+  natives = agrees.natives;
+  rest = agrees.rest;
+  room = agrees.room;
+  entry_room = agrees.entry_room;
+}
+  where
+    values : (r : Place) → Shows (value_in (Ends y ∷ ms) m.cells m.entries.items m.root r) (word_at (Dispatched e ∷ ts) r) (held s.cells r)
+    values (Register k i) = agrees.values (Register k i)
+    values (Entry k) = agrees.values (Entry k)
+    values (Field n g) = agrees.values (Field n g)
+    values (Going k) = agrees.values (Going k)
+    values (Elsewhere o) = agrees.values (Elsewhere o)
+
+-- what the machine tells is the word that the method gives
+told_same : (p : Image) (m : Parts) (h : At_hand p m) (g : Gives) (a : ℕ) → AllTrue (result_needs p h.frame h.below h.state g a)
+    → told_by g (register_here m.stack.tasks a) ≡ told_answer g h.frame a
+told_same p m h A_word a met = word_read p m h a met.0
+told_same p m h _ a met = refl
+
+-- ---- the return, once the cancel that the method may have ended is over
+
+module _ (p : Image) (m : Parts) (refused : List ℕ) (a : ℕ) (act : Active) (is_over : IsOver p m act) where
+  -- the machine then, the state that it stands for, and that once the method is gone
+  abbrev mid : Parts
+  mid = record m { active = act }
+
+  abbrev past : At_hand p m → State
+  past h = record h.state { cells = ended_cells p h.frame h.state.cells }
+
+  abbrev after : (h : At_hand p m) → List Task → State
+  after h ts = returned p h.frame ts (past h) (gives_of p h.frame.method) a ts
+
+  agree : (h : At_hand p m) → Agrees p mid (past h)
+  agree h = ended_agrees p m h act is_over
+
+  still : (h : At_hand p m) (q : Place) → held (past h).cells q ≡ held h.state.cells q
+  still h q = (ended_alike p h.frame h.state.cells).held_so q
+
+  top_over : (h : At_hand p m) (ts : List Task) (f : Held_frame) (ms : List Held_task) → Top m h.state h.frame ts f ms → Top mid (past h) h.frame ts f ms
+  top_over h ts f ms top = record {
+    frame = top.frame;
+    below = top.below;
+    deep = top.deep;
+    values = λ r. subst (Shows (value_in (Runs_frame f ∷ ms) m.cells m.entries.items m.root r) (word_at (Run h.frame ∷ ts) r)) (sym (still h r)) (top.values r);
+  }
+
+  -- what holds of the machine's tasks tells what is below its method
+  by_return : (P : List Held_task → Type 0) (G : List Held_task → Parts) → P m.stack.tasks
+      → ((h : At_hand p m) (f : Held_frame) (ms : List Held_task) → Top mid (past h) h.frame h.below f ms → Alike ms h.below → AllTrue (result_needs p h.frame h.below h.state (gives_of p h.frame.method) a)
+      → WellTyped p h.typing (after h h.below) → P (Runs_frame f ∷ ms) → Agrees p (G (Runs_frame f ∷ ms)) (after h h.below))
+      → DoesIn p refused (Return a) m (G m.stack.tasks)
+  by_return P G has each h here =
+      plain_at p m (G m.stack.tasks) refused (Return a) refl h (λ c needs typed.
+      let met = (all_parts (result_needs p h.frame h.below h.state (gives_of p h.frame.method) a) _ needs).0 in
+      by_top p m h (λ us. P us → Agrees p (G us) (after h h.below)) (λ f ms top has. each h f ms (top_over h h.below f ms top) (alike ms h.below top.below) met typed has) has)
+
+  pub return_to_method : (x : ℕ) → Runs (below_first m.stack.tasks) → x < 16 → x ≡ result_register (instr_at p (method_here (below_first m.stack.tasks)) (place_here (below_first m.stack.tasks)))
+      → DoesIn p refused (Return a) m (places.next (resulted (gives_of p (method_here m.stack.tasks)) x (register_here m.stack.tasks a) (with_tasks (below_first m.stack.tasks) mid)))
+  return_to_method x runs small is =
+      by_return (λ us. Runs (below_first us) × (x ≡ result_register (instr_at p (method_here (below_first us)) (place_here (below_first us)))))
+      (λ us. places.next (resulted (gives_of p (method_here us)) x (register_here us a) (with_tasks (below_first us) mid))) (runs, is)
+      (λ h f ms top same met typed has. go h f ms h.below h.top top (tops A_method ms has.0) same has.1 (wordless p h.frame h.below h.state (gives_of p h.frame.method) a met) typed)
+    where
+      go : (h : At_hand p m) (f : Held_frame) (ms : List Held_task) (ts : List Task) → h.state.tasks ≡ Run h.frame ∷ ts → Top mid (past h) h.frame ts f ms
+          → Tops A_method ms → Alike ms ts → x ≡ result_register (instr_at p (method_here ms) (place_here ms))
+          → Wordless (gives_of p h.frame.method) (word h.frame a) → WellTyped p h.typing (after h ts)
+          → Agrees p (places.next (resulted (gives_of p f.method) x (slice_index_or f.registers a null) (with_tasks ms mid))) (after h ts)
+      go h f _ _ e top (method_on_top g ms) (both_run _ caller _ ts frame _ _) is wordless typed =
+          let at : x ≡ result_register (instr_at p caller.method caller.place) = is ∙ ap (λ k. result_register (instr_at p k g.place)) frame.method ∙ ap (λ k. result_register (instr_at p caller.method k)) frame.place in
+          subst (λ k. Agrees p (places.next (resulted (gives_of p k) x (slice_index_or f.registers a null) (with_tasks (Runs_frame g ∷ ms) mid))) (after h (Run caller ∷ ts))) (sym top.frame.method)
+          (subst (λ k. Agrees p (places.next (resulted (gives_of p h.frame.method) k (slice_index_or f.registers a null) (with_tasks (Runs_frame g ∷ ms) mid))) (after h (Run caller ∷ ts))) (sym at)
+          (to_method p mid h.typing (past h) h.frame (agree h) f a g ms caller ts top (λ some. still h _ ∙ awaited p h.typing h.state h.frame caller ts h.typed e some)
+          (subst (λ k. k < 16) at small) (gives_of p h.frame.method) wordless refl typed))
+
+  pub return_through : (es : Held_items) (x : ℕ) → IsTrapped (below_first m.stack.tasks) → Runs (below_first (below_first m.stack.tasks)) → m.entries ≡ record es { items = Is_mark ∷ es.items } → suc x < 16
+      → x ≡ result_register (instr_at p (method_here (below_first (below_first m.stack.tasks))) (place_here (below_first (below_first m.stack.tasks))))
+      → DoesIn p refused (Return a) m (places.next (places.set_register (suc x) 0 (resulted (gives_of p (method_here m.stack.tasks)) x (register_here m.stack.tasks a) (record (with_tasks (below_first (below_first m.stack.tasks)) mid) { entries = es }))))
+  return_through es x trapped runs marked small is =
+      by_return (λ us. IsTrapped (below_first us) × Runs (below_first (below_first us)) × (x ≡ result_register (instr_at p (method_here (below_first (below_first us))) (place_here (below_first (below_first us))))))
+      (λ us. places.next (places.set_register (suc x) 0 (resulted (gives_of p (method_here us)) x (register_here us a) (record (with_tasks (below_first (below_first us)) mid) { entries = es })))) (trapped, runs, is)
+      (λ h f ms top same met typed has. go h f ms h.below h.top top (tops A_catcher ms (has.0, has.1)) same has.2 (wordless p h.frame h.below h.state (gives_of p h.frame.method) a met) typed)
+    where
+      go : (h : At_hand p m) (f : Held_frame) (ms : List Held_task) (ts : List Task) → h.state.tasks ≡ Run h.frame ∷ ts → Top mid (past h) h.frame ts f ms
+          → Tops A_catcher ms → Alike ms ts → x ≡ result_register (instr_at p (method_here (below_first ms)) (place_here (below_first ms)))
+          → Wordless (gives_of p h.frame.method) (word h.frame a) → WellTyped p h.typing (after h ts)
+          → Agrees p (places.next (places.set_register (suc x) 0 (resulted (gives_of p f.method) x (slice_index_or f.registers a null) (record (with_tasks (below_first ms) mid) { entries = es })))) (after h ts)
+      go h f _ _ e top (catcher_on_top g ms) (both_trapped _ _ _ (both_run _ caller _ ts frame _ _)) is wordless typed =
+          let at : x ≡ result_register (instr_at p caller.method caller.place) = is ∙ ap (λ k. result_register (instr_at p k g.place)) frame.method ∙ ap (λ k. result_register (instr_at p caller.method k)) frame.place in
+          subst (λ k. Agrees p (places.next (places.set_register (suc x) 0 (resulted (gives_of p k) x (slice_index_or f.registers a null) (record (with_tasks (Runs_frame g ∷ ms) mid) { entries = es })))) (after h (Trapped ∷ Run caller ∷ ts))) (sym top.frame.method)
+          (subst (λ k. Agrees p (places.next (places.set_register (suc k) 0 (resulted (gives_of p h.frame.method) k (slice_index_or f.registers a null) (record (with_tasks (Runs_frame g ∷ ms) mid) { entries = es })))) (after h (Trapped ∷ Run caller ∷ ts))) (sym at)
+          (through p mid h.typing (past h) h.frame (agree h) f a es marked g ms caller ts top (λ some. still h _ ∙ awaited_trapped p h.typing h.state h.frame caller ts h.typed e some)
+          (subst (λ k. suc k < 16) at small) (gives_of p h.frame.method) wordless refl typed))
+
+  pub return_to_going : IsDestroying (below_first m.stack.tasks) → DoesIn p refused (Return a) m (with_tasks (below_first m.stack.tasks) mid)
+  return_to_going destroying =
+      by_return (λ us. IsDestroying (below_first us)) (λ us. with_tasks (below_first us) mid) destroying
+      (λ h f ms top same met typed has. go h f ms h.below top (tops A_going ms has) same typed)
+    where
+      go : (h : At_hand p m) (f : Held_frame) (ms : List Held_task) (ts : List Task) → Top mid (past h) h.frame ts f ms → Tops A_going ms → Alike ms ts
+          → WellTyped p h.typing (after h ts) → Agrees p (with_tasks ms mid) (after h ts)
+      go h f _ _ top (going_on_top x ms) (both_go _ _ ts _ _) typed = to_waiting p mid h.typing (past h) h.frame (agree h) f a (Destroys x ∷ ms) (Destroy ∷ ts) top
+          (λ i. none_above p h.typing (after h (Destroy ∷ ts)) _ i typed (omega arith))
+
+  pub return_to_unwinding : IsUnwinding (below_first m.stack.tasks) → DoesIn p refused (Return a) m (with_tasks (below_first m.stack.tasks) mid)
+  return_to_unwinding unwinding =
+      by_return (λ us. IsUnwinding (below_first us)) (λ us. with_tasks (below_first us) mid) unwinding
+      (λ h f ms top same met typed has. go h f ms h.below top (tops A_leave ms has) same typed)
+    where
+      go : (h : At_hand p m) (f : Held_frame) (ms : List Held_task) (ts : List Task) → Top mid (past h) h.frame ts f ms → Tops A_leave ms → Alike ms ts
+          → WellTyped p h.typing (after h ts) → Agrees p (with_tasks ms mid) (after h ts)
+      go h f _ _ top (leave_on_top code ms) (both_unwind _ c _ ts _ _ _) typed = to_waiting p mid h.typing (past h) h.frame (agree h) f a (Unwinds code ∷ ms) (Unwind c ∷ ts) top
+          (λ i. none_above p h.typing (after h (Unwind c ∷ ts)) _ i typed (omega arith))
+
+  pub return_to_dispatch : (g : Gives) (d : Held_dispatch) → gives_of p (method_here m.stack.tasks) ≡ g → ending_here (below_first m.stack.tasks) ≡ Some d
+      → DoesIn p refused (Return a) m (with_tasks (Ends (heard (told_by g (register_here m.stack.tasks a)) d) ∷ below_first (below_first m.stack.tasks)) mid)
+  return_to_dispatch g d gives ending =
+      by_return (λ us. ending_here (below_first us) ≡ Some d) (λ us. with_tasks (Ends (heard answer d) ∷ below_first (below_first us)) mid) ending
+      (λ h f ms top same met typed has.
+      let told = ap (λ k. told_by k (register_here m.stack.tasks a)) (sym gives ∙ ap (gives_of p) (method_is p m h)) ∙ told_same p m h (gives_of p h.frame.method) a met in
+      go h f ms h.below top (tops An_end ms (ending_of ms has)) same has told typed)
+    where
+      answer : ℤ
+      answer = told_by g (register_here m.stack.tasks a)
+
+      go : (h : At_hand p m) (f : Held_frame) (ms : List Held_task) (ts : List Task) → Top mid (past h) h.frame ts f ms → Tops An_end ms → Alike ms ts → ending_here ms ≡ Some d
+          → answer ≡ told_answer (gives_of p h.frame.method) h.frame a → WellTyped p h.typing (after h ts) → Agrees p (with_tasks (Ends (heard answer d) ∷ below_first ms) mid) (after h ts)
+      go h f _ _ top (end_on_top x ms) (both_end _ e _ ts same below _) is told typed =
+          let at : x ≡ d = cc in
+          let waits = to_waiting p mid h.typing (past h) h.frame (agree h) f a (Ends x ∷ ms) (Dispatched e ∷ ts) top
+          (λ i. none_above p h.typing (after h (Dispatched e ∷ ts)) _ i typed (omega arith)) in
+          redispatched p mid (past h) x (heard answer d) ms e _ ts (heard_same answer _ d e told (subst (λ x. SameDispatch x e) at same)) waits
+
+  pub return_to_end : (es : Held_items) → IsEnding (below_first (below_first m.stack.tasks)) → IsTrapped (below_first m.stack.tasks) → m.entries ≡ record es { items = Is_mark ∷ es.items }
+      → DoesIn p refused (Return a) m (record (with_tasks (below_first (below_first m.stack.tasks)) mid) { entries = es })
+  return_to_end es ending trapped marked =
+      by_return (λ us. IsTrapped (below_first us) × IsEnding (below_first (below_first us))) (λ us. record (with_tasks (below_first (below_first us)) mid) { entries = es }) (trapped, ending)
+      (λ h f ms top same met typed has. go h ms h.below (tops A_last_trap ms has) same typed)
+    where
+      ends_with : Held_dispatch → List Held_task → Parts
+      ends_with x ms = record (with_tasks (Ends x ∷ ms) mid) { entries = es }
+
+      ended_state : At_hand p m → Dispatch → List Task → State
+      ended_state h d ts = record (past h) { tasks = Dispatched d ∷ ts; items = below_top h.state.items }
+
+      go : (h : At_hand p m) (ms : List Held_task) (ts : List Task) → Tops A_last_trap ms → Alike ms ts → WellTyped p h.typing (after h ts) → Agrees p (record (with_tasks (below_first ms) mid) { entries = es }) (after h ts)
+      go h _ _ (last_trap_on_top x ms) (both_trapped _ _ _ (both_end _ d _ ts same below _)) typed =
+          let last = under_dispatch p h.typing _ d ts typed refl in
+          let shut = closing p h.typing _ d (subst (λ us. WellTyped p h.typing (ended_state h d us)) last typed) refl in
+          subst (λ us. Agrees p (ends_with x us) (ended_state h d ts)) (sym (none_alike ms ts below last))
+          (subst (λ us. Agrees p (ends_with x []) (ended_state h d us)) (sym last) (ended p mid es (past h) x d (agree h) marked same shut))

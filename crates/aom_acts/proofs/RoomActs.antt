@@ -1,0 +1,404 @@
+-- Each instruction keeps the room that a run needs.
+use Rattle.std.proofs.Common.{Bool, List, None, Option, Some, [], ap, arith, cond, false, inl, length, refl, subst, suc, sym, true, ℕ, ℤ, pos, ◌&&◌, ◌==◌, ◌+◌, ◌++◌, ◌-◌, ◌<◌, ◌∙◌, ◌∷◌, ◌≡◌, ◌≤◌}
+use Rattle.aom_image.proofs.Given.{false_given, some_given}
+use Rattle.std.proofs.lemmas.Bool.{ne_eqb, true≢false}
+use Rattle.std.specs.Prelude.{is_some, not, ◌||◌}
+use Rattle.aom_image.specs.Image.{Image}
+use Rattle.aom_image.specs.Views.{arguments_of, instr_at, is_quiet, leaves, method_class, method_role}
+use Rattle.aom_instructions.specs.declared.instr.Instr.{Instr}
+use Rattle.aom_instructions.specs.declared.instr.Instr.TheVariants.{Call, Cancel, Delete, Push, PushOperation, Trap}
+use Rattle.aom_instructions.specs.declared.instr.Target.{Target}
+use Rattle.aom_image.specs.declared.method.Argument.{Argument}
+use Rattle.aom_image.specs.declared.method.Argument.TheVariants.{Own as Takes_own, Word as Takes_word}
+use Rattle.aom_image.specs.declared.method.Gives.{Gives}
+use Rattle.aom_image.specs.declared.method.Gives.TheVariants.{Left, Maybe as A_maybe, Nothing, Own as An_own, Word as A_word}
+use Rattle.aom_image.specs.declared.method.Thing.{Thing}
+use Rattle.aom_image.specs.declared.method.Thing.TheVariants.{Object as An_object_of, Message}
+use Rattle.aom_classes.proofs.Facts.{of_method}
+use Rattle.aom_rules.specs.Calls.{each_argument, rule_target}
+use Rattle.aom_rules.specs.Requests.{is_construct}
+use Rattle.aom_rules.specs.Cleanup.{entry_of}
+use Rattle.aom_shape.specs.Entries.{with_entry}
+use Rattle.aom_shape.specs.Kinds.{no_entry, register, set_register}
+use Rattle.aom_shape.specs.Needs.{AllTrue, only_if}
+use Rattle.aom_rules.specs.Rules.{flows, rule_needs}
+use Rattle.aom_shape.specs.Shape.{Shape}
+use Rattle.aom_shape.specs.Tables.{at}
+use Rattle.aom_rules.specs.Typing.{AllLead, Leads, Typing, shape_at}
+use Rattle.aom_shape.specs.declared.kind.Entry.{Entry as Pushed_entry}
+use Rattle.aom_shape.specs.declared.kind.Entry.TheVariants.{Operation}
+use Rattle.aom_shape.specs.declared.kind.Kind.{Kind}
+use Rattle.aom_shape.specs.declared.kind.Kind.TheVariants.{Maybe, Null, Own}
+use Rattle.aom_verify.specs.Strongest.{IsStrongest}
+use Rattle.aom_budget.specs.Calls.{Among, MayCall, callees, destructors, listed, object_class, sessions_with}
+use Rattle.aom_budget.specs.Calls as budget
+use Rattle.aom_budget.specs.Heights.{CallsOver, Enters, StandsWith}
+use Rattle.aom_sound.proofs.Claimed.{length_objects}
+use Rattle.aom_sound.proofs.Destroying.{destroys}
+use Rattle.aom_sound.proofs.Finishing.{all_parts}
+use Rattle.aom_sound.proofs.Items.{length_forms}
+use Rattle.aom_sound.proofs.Maps.{held_moved, same_place_refl}
+use Rattle.aom_sound.proofs.Storing.{ended_alike, held_set_word, rerequested_alike, resessioned_alike}
+use Rattle.aom_sound.proofs.Things.{stands_same}
+use Rattle.aom_sound.specs.Calls.{below_top, entered, given_cells, over_caller, over_trap, passed_cells, received, result_cells, result_register, returned}
+use Rattle.aom_sound.specs.Claims.{objects}
+use Rattle.aom_sound.specs.Cleanup.{operation_frame, top_place}
+use Rattle.aom_classes.specs.Roles.{destructor_of}
+use Rattle.aom_sound.specs.Destruction.{begun, begun_by}
+use Rattle.aom_sound.specs.Effects.{Calls, Cancels, Carried, Counts, Destroys, Destroys_last, Effect, Goes_on, In_field, In_register, Jumps, Leaves, Made, Operates, Popped, Popped_operation, Pushed, Pushed_operation, Repeats, Requested, Returns, Same, Sets_trap, Spot, Update, Written, applied, cells_after, items_after, spot_place, with_words, Sessioned}
+use Rattle.aom_sound.specs.Laws.{IsWired}
+use Rattle.aom_sound.specs.Steps.{Fits as May, FitsUpdate}
+use Rattle.aom_sound.specs.Places.{Cell, Entry, Going, Object, Register, Sight, held, moved, same_place, seen}
+use Rattle.aom_sound.specs.State.{A_mark, An_object, An_operation, AtRoot, Choice, Destroy, Dispatched, Frame, Home, Inside, Item, Run, State, Static, Task, Trapped, Unwind, field_place, frame_of, next, set_word}
+use Rattle.aom_sound.specs.WellTyped.{AllUndo, Fits, IsUndo}
+use Rattle.aom_sound.specs.Words.{here, stored}
+use Rattle.aom_parts.specs.Room.{IsUnder, below_height, destructor_in, entries_in, may_push}
+use Rattle.aom_parts.proofs.Depths.{AllLow, Roomy, SameEntries, begins, dropped, held_apart, item_pushed, lower, off_to_trap, popped, popped_top, recelled, top_under}
+use Rattle.aom_parts.proofs.Heights.{LowUnder, Stands_here, own_entries}
+use Rattle.aom_sound.specs.Enlisted.{begun_cells, cancel_method, cancelling, ended_cells, on_request, own_request}
+use Rattle.aom_sound.proofs.Callees.{cancel_class, cancel_quiet}
+
+-- the destructor of an object is that of the class which its register's kind tells
+destructor_among : (p : Image) (h : Sight) (o : Object) (k : Kind) (m : ℕ) → Fits p h (Some o) k → destructor_of p o.thing ≡ Some m → Among m (destructors p (object_class k))
+destructor_among p h o (Own t a) m fits e = of_thing t (ap (destructor_of p) (sym (stands_same p o.thing t fits.0)) ∙ e)
+  where
+    of_thing : (t : Thing) → destructor_of p t ≡ Some m → Among m (destructors p (object_class (Own t a)))
+    of_thing (An_object_of c) e = subst (λ d. Among m (listed d ++ listed (budget.destructor_of p (sessions_with p (Some c))))) (sym e) (inl refl)
+    of_thing Message e = cc
+destructor_among p h o (Maybe t a) m fits e = of_thing t (ap (destructor_of p) (sym (stands_same p o.thing t fits.0)) ∙ e)
+  where
+    of_thing : (t : Thing) → destructor_of p t ≡ Some m → Among m (destructors p (object_class (Maybe t a)))
+    of_thing (An_object_of c) e = subst (λ d. Among m (listed d ++ listed (budget.destructor_of p (sessions_with p (Some c))))) (sym e) (inl refl)
+    of_thing Message e = cc
+destructor_among p h o _ m fits e = absurd (assumption tt)
+
+-- what comes to no entries calls nothing that may
+pushes_from : (quiet quiet' leave leave' : Bool) → only_if quiet quiet' ≡ true → only_if leave' leave ≡ true → (not quiet' || leave') ≡ true → (not quiet || leave) ≡ true
+pushes_from true true true leave' q l may = refl
+pushes_from false quiet' leave leave' q l may = refl
+pushes_from _ _ _ _ q l may = absurd cc
+
+pushes_where : (quiet leave : Bool) → leave ≡ true → (not quiet || leave) ≡ true
+pushes_where true true e = refl
+pushes_where true false e = absurd (true≢false (sym e))
+pushes_where false leave e = refl
+
+pushes_loud : (quiet leave : Bool) → not quiet ≡ true → (not quiet || leave) ≡ true
+pushes_loud true leave e = absurd (true≢false (sym e))
+pushes_loud false leave e = refl
+
+pushes_none : (quiet leave : Bool) → quiet ≡ true → leave ≡ false → (not quiet || leave) ≡ true → ⊥
+pushes_none true true q l may = true≢false l
+pushes_none true false q l may = true≢false (sym may)
+pushes_none false leave q l may = true≢false (sym q)
+
+-- a field's place is no entry
+field_apart : (home : Home) (f k : ℕ) → same_place (field_place home f) (Entry k) ≡ false
+field_apart Static f k = refl
+field_apart AtRoot f k = refl
+field_apart (Inside o from) f k = refl
+
+entry_apart : (j k : ℕ) → k < j → same_place (Entry j) (Entry k) ≡ false
+entry_apart j k lt = ap (λ b. b && (0 == 0)) (ne_eqb j k (λ e. absurd (omega (arith, lt, e))))
+
+-- the entries are as they were
+stored_same : (cs : List Cell) (home : Home) (w n : ℕ) (v : ℤ) → SameEntries cs (stored cs home w v) n
+stored_same cs Static w n v k lt = refl
+stored_same cs AtRoot w n v k lt = refl
+stored_same cs (Inside o from) w n v k lt = held_set_word cs o.name w v (Entry k)
+
+passed_same : (p : Image) (fr : Frame) (ts : List Task) (s : State) (d : ℕ) (xs : List Argument) (first to : ℕ) (cs : List Cell) (k : ℕ) → held (passed_cells p fr ts s d xs first to cs) (Entry k) ≡ held cs (Entry k)
+passed_same p fr ts s d [] first to cs k = refl
+passed_same p fr ts s d (Takes_word ∷ xs) first to cs k = passed_same p fr ts s d xs (suc first) (suc to) cs k
+passed_same p fr ts s d (Takes_own t ∷ xs) first to cs k =
+    passed_same p fr ts s d xs (suc first) (suc to) (moved (here fr ts s first) (Register d to) cs) k
+    ∙ held_apart cs (here fr ts s first) (Register d to) (Entry k) refl refl
+
+result_same : (p : Image) (fr : Frame) (ts : List Task) (s : State) (g : Gives) (a x : ℕ) (below : List Task) (n : ℕ) → SameEntries s.cells (result_cells p fr ts s g a x below) n
+result_same p fr ts s (An_own t) a x below n k lt = held_apart s.cells (here fr ts s a) (Register (length below) x) (Entry k) refl refl
+result_same p fr ts s (A_maybe t) a x below n k lt = held_apart s.cells (here fr ts s a) (Register (length below) x) (Entry k) refl refl
+result_same p fr ts s _ a x below n k lt = refl
+
+-- the tables of depths and of heights
+pub record Tables (p : Image) (t : Typing) (depth heights : ℕ → ℕ) : Type 0 where
+  pub wired : IsWired p
+  pub strongest : IsStrongest p t
+  pub less : (m k : ℕ) → MayCall p m k → depth k < depth m
+  pub own : (m n : ℕ) → StandsWith p m n → n ≤ heights m
+  pub under : (m k h : ℕ) → CallsOver p m k h → (h + heights k) ≤ heights m
+
+module _ (p : Image) (t : Typing) (depth heights : ℕ → ℕ) (tables : Tables p t depth heights) where
+  -- ---- what leaves the cleanup stack is dealt with
+
+  pub begins_over : (cs : List Cell) (items : List Item) (o : Object) (ts : List Task) → ((m : ℕ) → destructor_of p o.thing ≡ Some m → IsUnder depth (depth m) ts) → Roomy p depth heights cs items ts → Roomy p depth heights cs items (begun p o (length items) ts)
+  begins_over cs items o ts under w = go (destructor_of p o.thing) refl
+    where
+      go : (d : Option ℕ) → destructor_of p o.thing ≡ d → Roomy p depth heights cs items (begun_by d o (length items) ts)
+      go None e = w
+      go (Some m) e =
+          let x = destroys p tables.wired o.thing m e in
+          begins p depth heights cs items (frame_of m (Inside o (Going (length ts))) (length items)) (Destroy ∷ ts) refl (under m e) (λ may. absurd (pushes_none (is_quiet p m) (leaves p m) x.quiet x.stays may)) w
+
+  pub clears : (cs : List Cell) (items : List Item) (o : Object) (ts : List Task) → held cs (Entry (length items)) ≡ Some o → AllLow (length items) ts → Roomy p depth heights cs (An_object ∷ items) ts
+      → Roomy p depth heights (moved (Entry (length items)) (Going (length ts)) cs) items (begun p o (length items) ts)
+  clears cs items o ts there low w =
+      let cells' = moved (Entry (length items)) (Going (length ts)) cs in
+      begins_over cells' items o ts
+      (λ m d. top_under p depth heights cs An_object items ts m low (ap (destructor_in p) there ∙ d) w.1)
+      (recelled p depth heights cs cells' items ts (λ k lt. held_apart cs (Entry (length items)) (Going (length ts)) (Entry k) (entry_apart (length items) k lt) refl) (popped p depth heights cs An_object items ts low w))
+
+  pub undoes : (cs : List Cell) (items : List Item) (m : ℕ) (w : ℤ) (ts : List Task) → IsUndo p m → AllLow (length items) ts → Roomy p depth heights cs (An_operation m w ∷ items) ts
+      → Roomy p depth heights cs items (Run (operation_frame m w (length items)) ∷ ts)
+  undoes cs items m w ts undo low room =
+      begins p depth heights cs items (operation_frame m w (length items)) ts refl
+      (top_under p depth heights cs (An_operation m w) items ts m low refl room.1)
+      (λ may. absurd (pushes_none (is_quiet p m) (leaves p m) undo.quiet undo.leaves may))
+      (popped p depth heights cs (An_operation m w) items ts low room)
+
+  -- what an instruction calls is less deep than its method
+  pub may_call : (fr : Frame) (sh : Shape) → shape_at t fr.method fr.place ≡ Some sh → (i : Instr) (k : ℕ) → instr_at p fr.method fr.place ≡ Some i → Among k (callees p fr.method sh i) → depth k < depth fr.method
+  may_call fr sh there i k stands calls = tables.less fr.method k (record {
+    states = at [] t fr.method;
+    strongest = tables.strongest.each fr.method (ap is_some (of_method p fr.method fr.place i stands).1);
+    place = fr.place;
+    calls = record { shape = sh; there = there; instr = i; stands = stands; calls = calls };
+  })
+
+  -- ---- a method's move
+
+  module _ (c : Choice) (fr : Frame) (ts : List Task) (s : State) (undos : AllUndo p s.items) (at_hand : s.tasks ≡ Run fr ∷ ts) (h : Stands_here p t s fr ts) (w : Roomy p depth heights s.cells s.items (Run fr ∷ ts)) where
+    abbrev R : State → Type 0
+    R u = Roomy p depth heights u.cells u.items u.tasks
+
+    -- once the method has changed that
+    abbrev After : Update → Type 0
+    After u = Roomy p depth heights (cells_after p fr ts s u) (items_after u s.items) (Run fr ∷ ts)
+
+    given : R s
+    given = subst (λ l. Roomy p depth heights s.cells s.items l) (sym at_hand) w
+
+    -- all the items, of which the last ones are the method's
+    high : length s.items ≡ length (objects h.shape.entries h.below)
+    high = sym (length_forms s.items) ∙ ap length h.items
+
+    fr_low : fr.height ≤ length s.items
+    fr_low = omega (arith, high, h.height, length_objects h.shape.entries h.below)
+
+    all_low : AllLow (length s.items) (Run fr ∷ ts)
+    all_low = (fr_low, lower fr.height (length s.items) ts fr_low h.low)
+
+    counted_own : entries_in s.items ≡ length h.shape.entries + entries_in (below_height fr.height s.items)
+    counted_own = own_entries h.shape.entries h.below s.items h.items ∙ ap (λ n. length h.shape.entries + entries_in (below_height n s.items)) (sym h.height)
+
+    moves : (cs' : List Cell) → SameEntries s.cells cs' (length s.items) → Roomy p depth heights cs' s.items (Run fr ∷ ts)
+    moves cs' same = recelled p depth heights s.cells cs' s.items (Run fr ∷ ts) same w
+
+    -- ---- calls
+
+    -- a method that is called finds room for its entries
+    finds : (i : Instr) (m : ℕ) → instr_at p fr.method fr.place ≡ Some i → Enters i m → may_push p fr.method ≡ true → entries_in s.items + heights m ≤ 1024
+    finds i m stands enters may =
+        let more = tables.under fr.method m (length h.shape.entries) (record {
+          place = fr.place;
+          shape = h.shape;
+          stands = record { states = at [] t fr.method; strongest = tables.strongest.each fr.method (ap is_some (of_method p fr.method fr.place i stands).1); there = h.there };
+          instr = i;
+          here = stands;
+          enters = enters;
+          count = refl;
+        }) in
+        let fit = w.2.0 may in
+        omega (arith, more, fit, counted_own)
+
+    call_room :
+        (target : Target) (m first x : ℕ) → instr_at p fr.method fr.place ≡ Some (Call target m first x) → AllTrue (rule_needs p fr.method fr.place h.shape (Call target m first x)) →
+        R (applied p fr ts s (Calls target m first))
+    call_room target m first x stands n =
+        let parts = all_parts (rule_target p fr.method h.shape target (method_class p m) (is_construct (method_role p m)) first (length (arguments_of p m))) _ n in
+        let more = all_parts (each_argument p h.shape (arguments_of p m) first) _ parts.1.1 in
+        begins p depth heights (given_cells p fr ts s (over_caller p fr ts s) m first) s.items (entered p fr ts s target m first (length s.items)) (Run fr ∷ ts) refl
+        (may_call fr h.shape h.there (Call target m first x) m stands (inl refl))
+        (λ may. finds (Call target m first x) m stands refl (pushes_from (is_quiet p fr.method) (is_quiet p m) (leaves p fr.method) (leaves p m) more.1.1.0 more.1.1.1.1.0 may))
+        (moves (given_cells p fr ts s (over_caller p fr ts s) m first) (λ k lt. passed_same p fr ts s _ (arguments_of p m) first 0 s.cells k))
+
+    trap_room : (target : Target) (m first x : ℕ) → instr_at p fr.method fr.place ≡ Some (Trap target m first x) → not (is_quiet p fr.method) ≡ true → R (applied p fr ts s (Sets_trap target m first))
+    trap_room target m first x stands loud =
+        let cells' = given_cells p fr ts s (over_trap p fr ts s) m first in
+        let may = pushes_loud (is_quiet p fr.method) (leaves p fr.method) loud in
+        begins p depth heights cells' (A_mark ∷ s.items) (entered p fr ts s target m first (length (A_mark ∷ s.items))) (Trapped ∷ Run fr ∷ ts) refl
+        (may_call fr h.shape h.there (Trap target m first x) m stands (inl refl))
+        (λ _. finds (Trap target m first x) m stands refl may)
+        (item_pushed p depth heights cells' A_mark s.items (Run fr ∷ ts) all_low (λ k e. cc) w.3 (moves cells' (λ k lt. passed_same p fr ts s _ (arguments_of p m) first 0 s.cells k)))
+
+    -- ---- returns
+
+    goes_back : (cs : List Cell) (items : List Item) (g : Gives) (a x : ℕ) (caller : Frame) (below : List Task) → Roomy p depth heights cs items (Run caller ∷ below) → Roomy p depth heights cs items (Run (next (received p fr ts s g a x caller)) ∷ below)
+    goes_back cs items Nothing a x caller below v = v
+    goes_back cs items A_word a x caller below v = v
+    goes_back cs items (An_own u) a x caller below v = v
+    goes_back cs items (A_maybe u) a x caller below v = v
+    goes_back cs items (Left u) a x caller below v = v
+
+    goes_back_trapped : (cs : List Cell) (items : List Item) (g : Gives) (a x : ℕ) (caller : Frame) (below : List Task) (v : Option ℤ) → Roomy p depth heights cs items (Run caller ∷ below) → Roomy p depth heights cs items (Run (next (set_word (received p fr ts s g a x caller) (suc x) v)) ∷ below)
+    goes_back_trapped cs items Nothing a x caller below u v = v
+    goes_back_trapped cs items A_word a x caller below u v = v
+    goes_back_trapped cs items (An_own y) a x caller below u v = v
+    goes_back_trapped cs items (A_maybe y) a x caller below u v = v
+    goes_back_trapped cs items (Left y) a x caller below u v = v
+
+    -- the mark is gone
+    low_top : (below : List Task) → AllLow (fr.height - 1) below → AllLow (length (below_top s.items)) below
+    low_top below low = go s.items fr_low
+      where
+        go : (items : List Item) → fr.height ≤ length items → AllLow (length (below_top items)) below
+        go [] le = lower (fr.height - 1) 0 below (omega (arith, le)) low
+        go (i ∷ items) le = lower (fr.height - 1) (length items) below (omega (arith, le)) low
+
+    -- the state as the method ends
+    abbrev over : State
+    over = record s { cells = ended_cells p fr s.cells }
+
+    ended_same : SameEntries s.cells over.cells (length s.items)
+    ended_same k lt = (ended_alike p fr s.cells).held_so (Entry k)
+
+    return_room : (g : Gives) (a : ℕ) (below : List Task) → LowUnder fr.height below → Roomy p depth heights s.cells s.items below → R (returned p fr ts over g a below)
+    return_room g a (Run caller ∷ below) low v =
+        let x = result_register (instr_at p caller.method caller.place) in
+        let cells' = result_cells p fr ts over g a x below in
+        let v' = recelled p depth heights s.cells over.cells s.items (Run caller ∷ below) ended_same v in
+        goes_back cells' s.items g a x caller below (recelled p depth heights over.cells cells' s.items (Run caller ∷ below) (result_same p fr ts over g a x below (length s.items)) v')
+    return_room g a (Trapped ∷ Run caller ∷ below) low v =
+        let x = result_register (instr_at p caller.method caller.place) in
+        let cells' = result_cells p fr ts over g a x below in
+        let v' = recelled p depth heights s.cells over.cells s.items (Run caller ∷ below) ended_same v in
+        goes_back_trapped cells' (below_top s.items) g a x caller below (Some (pos 0))
+        (popped_top p depth heights cells' s.items (Run caller ∷ below) (low_top (Run caller ∷ below) low) (recelled p depth heights over.cells cells' s.items (Run caller ∷ below) (result_same p fr ts over g a x below (length s.items)) v'))
+    return_room g a (Trapped ∷ Dispatched d ∷ below) low v = popped_top p depth heights over.cells s.items (Dispatched d ∷ below) (low_top (Dispatched d ∷ below) low) (recelled p depth heights s.cells over.cells s.items (Dispatched d ∷ below) ended_same v)
+    return_room g a (Destroy ∷ below) low v = recelled p depth heights s.cells over.cells s.items (Destroy ∷ below) ended_same v
+    return_room g a (Dispatched d ∷ below) low v = recelled p depth heights s.cells over.cells s.items (Dispatched d ∷ below) ended_same v
+    return_room g a (Unwind code ∷ below) low v = recelled p depth heights s.cells over.cells s.items (Unwind code ∷ below) ended_same v
+    return_room g a _ low v = recelled p depth heights s.cells over.cells s.items s.tasks ended_same given
+
+    -- ---- cancels
+
+    -- the method that cancels is quiet, and comes to no entries
+    cancel_room : (m : ℕ) → instr_at p fr.method fr.place ≡ Some Cancel → cancel_method p fr.home ≡ Some m → R (applied p fr ts s (Cancels m))
+    cancel_room m stands e =
+        let found = cancel_class p fr.home fr.method m h.holder e in
+        let quiet = cancel_quiet p tables.wired fr.home m e in
+        let stays : leaves p m ≡ false = false_given (λ b. b ≡ true → is_quiet p m ≡ false) (leaves p m) (tables.wired.quiets m) (λ loud. absurd (true≢false (sym quiet ∙ loud refl))) (λ stays loud. stays) in
+        let among : Among m (listed (budget.cancel_of p (method_class p fr.method))) = subst (λ o. Among m (listed o)) (sym (ap (λ o. budget.cancel_of p o) found.1 ∙ found.2)) (inl refl) in
+        begins p depth heights (begun_cells fr s.cells) s.items (frame_of m fr.home (length s.items)) (Run fr ∷ ts) refl
+        (may_call fr h.shape h.there Cancel m stands among)
+        (λ may. absurd (pushes_none (is_quiet p m) (leaves p m) quiet stays may))
+        (moves (begun_cells fr s.cells) (λ k lt. (rerequested_alike s.cells fr.home (on_request cancelling (own_request s.cells fr.home))).held_so (Entry k)))
+
+    -- ---- the cleanup stack
+
+    -- a push finds room for one entry more
+    pub pushes : (i : Instr) (after : Shape) → instr_at p fr.method fr.place ≡ Some i → leaves p fr.method ≡ true → Leads t fr.method (suc fr.place) after → length after.entries ≡ suc (length h.shape.entries) → suc (entries_in s.items) ≤ 1024
+    pushes i after stands leave leads one =
+        let more = tables.own fr.method (suc (length h.shape.entries)) (record {
+          place = suc fr.place;
+          shape = leads.0;
+          stands = record { states = at [] t fr.method; strongest = tables.strongest.each fr.method (ap is_some (of_method p fr.method fr.place i stands).1); there = leads.1 };
+          count = ap length leads.2.entries ∙ one;
+        }) in
+        let fit = w.2.0 (pushes_where (is_quiet p fr.method) (leaves p fr.method) leave) in
+        omega (arith, more, fit, counted_own)
+
+    push_room :
+        (a : ℕ) → instr_at p fr.method fr.place ≡ Some (Push a) → leaves p fr.method ≡ true →
+        Leads t fr.method (suc fr.place) (with_entry (entry_of (register h.shape a)) (set_register h.shape a Null)) → After (Pushed a)
+    push_room a stands leave leads =
+        item_pushed p depth heights (moved (here fr ts s a) (Entry (length s.items)) s.cells) An_object s.items (Run fr ∷ ts) all_low
+        (λ m e. some_given (λ o. (Fits p (seen s.cells) o (register h.shape a)) × (destructor_in p o ≡ Some m)) (held s.cells (here fr ts s a)) (h.fits a, sym (ap (destructor_in p) there_now) ∙ e) (λ given. cc) (λ o _ given. may_call fr h.shape h.there (Push a) m stands (destructor_among p (seen s.cells) o (register h.shape a) m given.0 given.1)))
+        (let few = pushes (Push a) (with_entry (entry_of (register h.shape a)) (set_register h.shape a Null)) stands leave leads refl in omega (arith, few))
+        (moves (moved (here fr ts s a) (Entry (length s.items)) s.cells) (λ k lt. held_apart s.cells (here fr ts s a) (Entry (length s.items)) (Entry k) refl (entry_apart (length s.items) k lt)))
+      where
+        -- what the register owned is in the entry's place
+        there_now : held (moved (here fr ts s a) (Entry (length s.items)) s.cells) (Entry (length s.items)) ≡ held s.cells (here fr ts s a)
+        there_now = held_moved s.cells (here fr ts s a) (Entry (length s.items)) (Entry (length s.items)) h.free ∙ ap (λ b. cond b (held s.cells (here fr ts s a)) (held s.cells (Entry (length s.items)))) (same_place_refl (Entry (length s.items)))
+
+    push_operation_room :
+        (a m : ℕ) (v : ℤ) → instr_at p fr.method fr.place ≡ Some (PushOperation a m) → leaves p fr.method ≡ true → Leads t fr.method (suc fr.place) (with_entry Operation h.shape) →
+        After (Pushed_operation m v)
+    push_operation_room a m v stands leave leads =
+        item_pushed p depth heights s.cells (An_operation m v) s.items (Run fr ∷ ts) all_low
+        (λ k e. let same : m ≡ k = cc in subst (λ x. depth x < depth fr.method) same (may_call fr h.shape h.there (PushOperation a m) m stands (inl refl)))
+        (let few = pushes (PushOperation a m) (with_entry Operation h.shape) stands leave leads refl in omega (arith, few))
+        w
+
+    -- the last item is the method's own
+    low_below : not (no_entry h.shape.entries) ≡ true → AllLow (length (below_top s.items)) (Run fr ∷ ts)
+    low_below some = go h.shape.entries s.items high some
+      where
+        go : (es : List Pushed_entry) (items : List Item) → length items ≡ length (objects es h.below) → not (no_entry es) ≡ true → AllLow (length (below_top items)) (Run fr ∷ ts)
+        go (e ∷ es) (i ∷ items) same some =
+            let le : fr.height ≤ length items = omega (arith, same, h.height, length_objects es h.below) in
+            (le, lower fr.height (length items) ts le h.low)
+        go _ _ same some = absurd cc
+
+    pop_room : (a : ℕ) → not (no_entry h.shape.entries) ≡ true → After (Popped a)
+    pop_room a some = go s.items (low_below some) w
+      where
+        go : (items : List Item) → AllLow (length (below_top items)) (Run fr ∷ ts) → Roomy p depth heights s.cells items (Run fr ∷ ts) → Roomy p depth heights (moved (top_place items) (here fr ts s a) s.cells) (below_top items) (Run fr ∷ ts)
+        go items low room =
+            let cells' = moved (top_place items) (here fr ts s a) s.cells in
+            recelled p depth heights s.cells cells' (below_top items) (Run fr ∷ ts)
+            (λ k lt. held_apart s.cells (top_place items) (here fr ts s a) (Entry k) (entry_apart (length (below_top items)) k lt) refl)
+            (popped_top p depth heights s.cells items (Run fr ∷ ts) low room)
+
+    -- ---- the effects
+
+    abbrev Ruled : Instr → Type 0
+    Ruled i = AllTrue (rule_needs p fr.method fr.place h.shape i)
+
+    abbrev Leading : Instr → Type 0
+    Leading i = AllLead t fr.method (flows p fr.method fr.place h.shape i)
+
+    stands_as : (i j : Instr) → instr_at p fr.method fr.place ≡ Some i → i ≡ j → instr_at p fr.method fr.place ≡ Some j
+    stands_as i j stands e = stands ∙ ap (λ x. Some x) e
+
+    spot_apart : (x : Spot) (k : ℕ) → same_place (spot_place p fr ts s x) (Entry k) ≡ false
+    spot_apart (In_register a) k = refl
+    spot_apart (In_field f) k = field_apart fr.home f k
+
+    -- after an update, with the method on top
+    updated_room : (i : Instr) → instr_at p fr.method fr.place ≡ Some i → Ruled i → Leading i → (u : Update) → FitsUpdate ts s.items i u → After u
+    updated_room i stands r n Same f = w
+    updated_room i stands r n (Carried from to) f = moves (cells_after p fr ts s (Carried from to)) (λ k lt. held_apart s.cells (spot_place p fr ts s from) (spot_place p fr ts s to) (Entry k) (spot_apart from k) (spot_apart to k))
+    updated_room i stands r n (Made name x a) f = moves (cells_after p fr ts s (Made name x a)) (λ k lt. refl)
+    updated_room i stands r n (Written x v) f = moves (cells_after p fr ts s (Written x v)) (stored_same s.cells fr.home x (length s.items) v)
+    updated_room i stands r n (Requested q) f = moves (cells_after p fr ts s (Requested q)) (λ k lt. (rerequested_alike s.cells fr.home q).held_so (Entry k))
+    updated_room i stands r n (Sessioned b) f = moves (cells_after p fr ts s (Sessioned b)) (λ k lt. (resessioned_alike s.cells fr.home b).held_so (Entry k))
+    updated_room i stands r n (Pushed a) f = push_room a (stands_as i _ stands f.0) (subst Ruled f.0 r).1.0 (subst Leading f.0 n).0
+    updated_room i stands r n (Pushed_operation m v) f = push_operation_room f.0 m v (stands_as i _ stands f.1) (subst Ruled f.1 r).1.0 (subst Leading f.1 n).0
+    updated_room i stands r n (Popped a) f = pop_room a (subst Ruled f.0 r).1.0
+    updated_room i stands r n Popped_operation f = popped_top p depth heights s.cells s.items (Run fr ∷ ts) (low_below (subst Ruled f.0 r).0) w
+
+    -- an object of a register goes
+    delete_room :
+        (o : Object) (a : ℕ) (words : List (Option ℤ)) → instr_at p fr.method fr.place ≡ Some (Delete a) → Fits p (seen s.cells) (Some o) (register h.shape a) →
+        R (applied p fr ts s (Destroys o a words))
+    delete_room o a words stands fits =
+        begins_over (moved (here fr ts s a) (Going (length (Run fr ∷ ts))) s.cells) s.items o (Run (with_words fr words) ∷ ts)
+        (λ m e. may_call fr h.shape h.there (Delete a) m stands (destructor_among p (seen s.cells) o (register h.shape a) m fits e))
+        (moves (moved (here fr ts s a) (Going (length (Run fr ∷ ts))) s.cells) (λ k lt. held_apart s.cells (here fr ts s a) (Going (length (Run fr ∷ ts))) (Entry k) refl refl))
+
+    pub acts_room : (i : Instr) → instr_at p fr.method fr.place ≡ Some i → Ruled i → Leading i → (e : Effect) → May p c fr ts s i e → R (applied p fr ts s e)
+    acts_room i stands r n (Goes_on ch) f = updated_room i stands r n ch.update f.1
+    acts_room i stands r n (Jumps to) f = w
+    acts_room i stands r n (Counts d rounds) f = w
+    acts_room i stands r n (Repeats d rounds to) f = w
+    acts_room i stands r n (Calls target m first) f = call_room target m first f.0 (stands_as i _ stands f.1) (subst Ruled f.1 r)
+    acts_room i stands r n (Cancels m) f = cancel_room m (stands_as i _ stands f.0) f.1
+    acts_room i stands r n (Sets_trap target m first) f = trap_room target m first f.0 (stands_as i _ stands f.1) (subst Ruled f.1 r).0
+    acts_room i stands r n (Returns g a) f = return_room g a ts h.low_under (dropped p depth heights s.cells s.items fr ts w)
+    acts_room i stands r n (Leaves code u) f =
+        let cs = cells_after p fr ts s u in
+        let items = items_after u s.items in
+        off_to_trap p depth heights cs items ts (dropped p depth heights cs items fr ts (updated_room i stands r n u f.2))
+    acts_room i stands r n (Destroys o a words) f = delete_room o a words (stands_as i _ stands f.0) (subst (λ x. Fits p (seen s.cells) x (register h.shape a)) f.1 (h.fits a))
+    acts_room i stands r n (Destroys_last o) f = clears s.cells (below_top s.items) o (Run fr ∷ ts) f.2 (low_below (subst Ruled f.0 r).0) (subst (λ is. Roomy p depth heights s.cells is (Run fr ∷ ts)) f.1 w)
+    acts_room i stands r n (Operates m v) f = undoes s.cells (below_top s.items) m v (Run fr ∷ ts) (subst (λ is. AllUndo p is) f.1 undos).0 (low_below (subst Ruled f.0 r).0) (subst (λ is. Roomy p depth heights s.cells is (Run fr ∷ ts)) f.1 w)

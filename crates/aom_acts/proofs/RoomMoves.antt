@@ -1,0 +1,167 @@
+-- Each move of a well-typed state keeps the room that a run needs.
+use Rattle.std.proofs.lemmas.Option.{same_Some}
+use Rattle.std.proofs.Common.{Bool, List, None, Option, Some, [], ap, arith, cond, false, length, pos, refl, subst, sym, true, ℕ, ℤ, ◌∙◌, ◌∷◌, ◌≡◌, ◌≤◌}
+use Rattle.std.specs.Ordering.{int_eq}
+use Rattle.aom_image.specs.declared.method.Role.TheVariants.{Error as Answers}
+use Rattle.aom_image.specs.Image.{Image}
+use Rattle.aom_image.specs.Views.{instr_at}
+use Rattle.aom_instructions.specs.declared.instr.Instr.{Instr}
+use Rattle.aom_image.specs.declared.method.Gives.{Gives}
+use Rattle.aom_image.specs.declared.method.Gives.TheVariants.{Left, Maybe as A_maybe, Nothing, Own as An_own, Word as A_word}
+use Rattle.aom_classes.specs.Roles.{main_of}
+use Rattle.aom_shape.specs.Needs.{AllTrue}
+use Rattle.aom_rules.specs.Rules.{flows, rule_needs}
+use Rattle.aom_shape.specs.Tables.{at}
+use Rattle.aom_rules.specs.Typing.{AllLead, IsTyped, Typing}
+use Rattle.aom_verify.specs.Strongest.{IsStrongest}
+use Rattle.aom_budget.specs.Depths.{HasDepths}
+use Rattle.aom_budget.specs.Heights.{HasHeights}
+use Rattle.aom_sound.proofs.Moving.{steps_are_moves}
+use Rattle.aom_sound.specs.Effects.{Effect, applied}
+use Rattle.aom_sound.specs.Steps.{Acts, Arrives, Clears, Comes_out, Ends, Fits, Move, Rests, Undoes, Vanishes}
+use Rattle.aom_sound.proofs.Maps.{held_without}
+use Rattle.aom_sound.specs.Calls.{called, result_register}
+use Rattle.aom_sound.specs.Cleanup.{code_told}
+use Rattle.aom_sound.specs.Laws.{IsWired}
+use Rattle.aom_sound.proofs.Layers.{dispatch_layer}
+use Rattle.aom_sound.specs.Claims.{Dispatching, forms, items_of}
+use Rattle.aom_sound.specs.Enlisted.{part_of}
+use Rattle.aom_sound.specs.Moves.{answered, asking, counted, dispatch_ends, error_frame, failed, handled, main_ends, object_ends, step}
+use Rattle.aom_sound.specs.Places.{Cell, Elsewhere, Going, Object, Root, held, moved, without}
+use Rattle.aom_sound.specs.State.{A_mark, An_object, An_operation, Answered, Asks, Choice, Dispatch, Dispatched, Frame, Goes, Home, Item, Main_left, Object_left, Of_main, Of_object, Of_root, Rest, Run, Seat, State, Task, Trapped, Unwind, frame_of, next}
+use Rattle.aom_sound.specs.WellTyped.{AllUndo, Good, WellTyped}
+use Rattle.aom_sound.specs.World.{boot_state, main_tasks}
+use Rattle.aom_parts.specs.Room.{HasRoom, entries_in}
+use Rattle.aom_parts.proofs.Depths.{Roomy, on_again, popped, recelled}
+use Rattle.aom_parts.proofs.Heights.{Stands_here, low_unwinding, stands_here}
+use Rattle.aom_acts.proofs.RoomActs.{Tables, acts_room, begins_over, clears, undoes}
+
+-- where a dispatch is at its end nothing is on the cleanup stack
+pub none_formed : (items : List Item) → forms items ≡ [] → items ≡ []
+none_formed [] e = refl
+none_formed (i ∷ items) e = cc
+
+pub bare_end : (p : Image) (t : Typing) (s : State) (d : Dispatch) (ts : List Task) → WellTyped p t s → s.tasks ≡ Dispatched d ∷ ts → s.items ≡ []
+bare_end p t s d ts typed at = dispatch_layer (λ ls. (forms s.items ≡ items_of ls) × Good p t s.cells ls) d ts typed.layers (sym typed.tasks ∙ at) (typed.items, typed.good)
+    (λ seats ls _ h. none_formed s.items (h.0 ∙ ap (λ b. items_of (Dispatching d seats ∷ b)) h.1.stack.1))
+
+module _ (p : Image) (t : Typing) (depth heights : ℕ → ℕ) (tables : Tables p t depth heights) where
+  abbrev RoomyState : State → Type 0
+  RoomyState u = Roomy p depth heights u.cells u.items u.tasks
+
+  -- nothing is on the cleanup stack
+  few : (v : State) → v.items ≡ [] → entries_in v.items ≤ 1024
+  few v bare = subst (λ items. entries_in items ≤ 1024) (sym bare) (omega arith)
+
+  -- the method that goes on is the one that waited
+  told : (s : State) (g : Gives) (x : ℕ) (code : ℤ) (fr : Frame) (items : List Item) (ts : List Task) → Roomy p depth heights s.cells items (Run fr ∷ ts) → Roomy p depth heights s.cells items (Run (next (code_told g x code fr)) ∷ ts)
+  told s Nothing x code fr items ts w = w
+  told s A_word x code fr items ts w = w
+  told s (An_own y) x code fr items ts w = w
+  told s (A_maybe y) x code fr items ts w = w
+  told s (Left y) x code fr items ts w = w
+
+  -- a dispatch ends, and its method that answers finds all the room that there is
+  module _ (within : (m : ℕ) → heights m ≤ 1024) (s : State) (bare : s.items ≡ []) where
+    root_roomy : (v : State) → v.cells ≡ s.cells → v.items ≡ s.items → (b : Bool) (root : Option Object) → RoomyState (main_ends p b root v)
+    root_roomy v cells items true (Some o) =
+        begins_over p t depth heights tables (moved (Elsewhere Root) (Going 1) v.cells) v.items o (Dispatched Of_root ∷ []) (λ m e. tt) (tt, tt, tt, few v (items ∙ bare))
+    root_roomy v cells items true None = (tt, tt, tt, few v (items ∙ bare))
+    root_roomy v cells items false root = (tt, tt, tt, few v (items ∙ bare))
+
+    answer_roomy : (answer : ℤ) → RoomyState (answered p answer s)
+    answer_roomy answer = go (int_eq answer (pos 0))
+      where
+        go : (b : Bool) → RoomyState (cond b (object_ends p s) (failed answer s))
+        go true = root_roomy (handled s) refl refl s.rest.stopped (held s.cells (Elsewhere Root))
+        go false = (tt, tt, tt, few s bare)
+
+    asking_roomy : (m : Option ℕ) (x : Seat) (code : ℤ) → RoomyState (asking p m x code s)
+    asking_roomy None x code = answer_roomy code
+    asking_roomy (Some m) x code =
+        subst (λ items. Roomy p depth heights s.cells items (Run (error_frame m x code (length items)) ∷ Dispatched (Asks x) ∷ [])) (sym bare)
+        ((tt, tt), (tt, tt), ((λ may. let most = within m in omega (arith, most)), tt), omega arith)
+
+    ends : (d : Dispatch) → RoomyState (dispatch_ends p d s)
+    ends Of_root = (tt, tt, tt, few s bare)
+    ends (Main_left code) = (tt, tt, tt, few s bare)
+    ends Of_main = root_roomy s refl refl s.rest.stopped (held s.cells (Elsewhere Root))
+    ends (Of_object x) = root_roomy (handled s) refl refl s.rest.stopped (held s.cells (Elsewhere Root))
+    ends (Object_left x code) = asking_roomy (part_of p Answers x.object.thing) x code
+    ends (Asks x) = root_roomy (handled s) refl refl s.rest.stopped (held s.cells (Elsewhere Root))
+    ends (Answered x answer) = answer_roomy answer
+
+  -- a method's move
+  acts :
+      IsTyped p t → (c : Choice) (s : State) → WellTyped p t s → RoomyState s → (fr : Frame) (ts : List Task) (i : Instr) (e : Effect) → s.tasks ≡ Run fr ∷ ts →
+      instr_at p fr.method fr.place ≡ Some i → Fits p c fr ts (counted p s) i e → RoomyState (applied p fr ts (counted p s) e)
+  acts typed c s w room fr ts i e at there fits =
+      let h = stands_here p t s fr ts w at in
+      let x = typed.each fr.method fr.place h.shape h.there in
+      let is : x.instr ≡ i = same_Some x.instr i (sym x.stands ∙ there) in
+      acts_room p t depth heights tables c fr ts (counted p s) w.undos at (again h) (subst (λ us. Roomy p depth heights s.cells s.items us) at room) i there
+      (subst (λ j. AllTrue (rule_needs p fr.method fr.place h.shape j)) is x.needs) (subst (λ j. AllLead t fr.method (flows p fr.method fr.place h.shape j)) is x.flows) e fits
+    where
+      -- what a move counts is no part of it
+      again : Stands_here p t s fr ts → Stands_here p t (counted p s) fr ts
+      again h = record { shape = h.shape; below = h.below; there = h.there; items = h.items; height = h.height; holder = h.holder; low = h.low; low_under = h.low_under; fits = h.fits; free = h.free }
+
+  -- under a leave, with its last item
+  with_top :
+      (code : ℤ) (ts : List Task) (i : Item) (items : List Item) (s : State) → RoomyState s → s.tasks ≡ Unwind code ∷ ts → s.items ≡ i ∷ items →
+      Roomy p depth heights s.cells (i ∷ items) (Unwind code ∷ ts)
+  with_top code ts i items s room at top = subst (λ is. Roomy p depth heights s.cells is (Unwind code ∷ ts)) top (subst (λ us. Roomy p depth heights s.cells s.items us) at room)
+
+  roomy_moves : ((m : ℕ) → heights m ≤ 1024) → IsTyped p t → (c : Choice) (s u : State) → WellTyped p t s → RoomyState s → Move p c s u → RoomyState u
+  roomy_moves within typed c s u w room (Rests still same) = subst RoomyState (sym same) room
+  roomy_moves within typed c s u w room (Acts fr ts i e at there met fits same) = subst RoomyState (sym same) (acts typed c s w room fr ts i e at there fits)
+  roomy_moves within typed c s u w room (Vanishes ts o at there owns same) =
+      let cells' = without (Going (length ts)) s.cells in
+      subst RoomyState (sym same) (on_again p depth heights cells' s.items ts (recelled p depth heights s.cells cells' s.items ts (λ k lt. held_without s.cells (Going (length ts)) _) (subst (λ us. Roomy p depth heights s.cells s.items us) at room)))
+  roomy_moves within typed c s u w room (Clears code ts items o at top there same) =
+      subst RoomyState (sym same) (clears p t depth heights tables s.cells items o (Unwind code ∷ ts) there (low_unwinding p t s code ts An_object items w at top) (with_top code ts An_object items s room at top))
+  roomy_moves within typed c s u w room (Undoes code ts items m x at top same) =
+      subst RoomyState (sym same) (undoes p t depth heights tables s.cells items m x (Unwind code ∷ ts) (subst (λ is. AllUndo p is) top w.undos).0 (low_unwinding p t s code ts (An_operation m x) items w at top) (with_top code ts (An_operation m x) items s room at top))
+  roomy_moves within typed c s u w room (Arrives code fr ts items at top same) =
+      let i = instr_at p fr.method fr.place in
+      let low = low_unwinding p t s code (Trapped ∷ Run fr ∷ ts) A_mark items w at top in
+      subst RoomyState (sym same) (told s (called p i) (result_register i) code fr items ts (popped p depth heights s.cells A_mark items (Run fr ∷ ts) low (with_top code (Trapped ∷ Run fr ∷ ts) A_mark items s room at top)))
+  roomy_moves within typed c s u w room (Comes_out code d ts items at top same) =
+      subst RoomyState (sym same) (popped p depth heights s.cells A_mark items (Dispatched d ∷ ts) (low_unwinding p t s code (Trapped ∷ Dispatched d ∷ ts) A_mark items w at top) (with_top code (Trapped ∷ Dispatched d ∷ ts) A_mark items s room at top))
+  roomy_moves within typed c s u w room (Ends d ts at same) = subst RoomyState (sym same) (ends within (counted p s) (bare_end p t s d ts w at) d)
+
+-- the tables of an accepted image
+pub tables_of : (p : Image) (t : Typing) → IsWired p → IsStrongest p t → (depths : HasDepths p) (heights : HasHeights p) → Tables p t (at 0 depths.depths) (at 0 heights.heights)
+tables_of p t wired strongest depths heights = record { wired = wired; strongest = strongest; less = depths.are.less; own = heights.are.own; under = heights.are.under }
+
+-- each move keeps it
+pub keeps_room : (p : Image) (t : Typing) → IsWired p → IsTyped p t → IsStrongest p t → (depths : HasDepths p) (heights : HasHeights p) (c : Choice) (s u : State) → WellTyped p t s → HasRoom p (at 0 depths.depths) (at 0 heights.heights) s → step p c s ≡ Goes u → HasRoom p (at 0 depths.depths) (at 0 heights.heights) u
+keeps_room p t wired typed strongest depths heights c s u w room e =
+    let after = roomy_moves p t (at 0 depths.depths) (at 0 heights.heights) (tables_of p t wired strongest depths heights) (λ m. heights.are.within m) typed c s u w (room.under, room.runs, room.fit, room.entries) (steps_are_moves p c s u e) in
+    record { under = after.0; runs = after.1; fit = after.2; entries = after.3 }
+
+-- the boot state has it
+pub boots_with_room : (p : Image) (depth : ℕ → ℕ) (heights : HasHeights p) → HasRoom p depth (at 0 heights.heights) (boot_state p)
+boots_with_room p depth heights = go (main_of p)
+  where
+    go : (m : Option ℕ) → HasRoom p depth (at 0 heights.heights) (record (boot_state p) { tasks = main_tasks m })
+    go None = record { under = tt; runs = tt; fit = tt; entries = omega arith }
+    go (Some m) = record {
+      under = (tt, tt);
+      runs = ((λ le k e. cc, tt), tt);
+      fit = (λ may. let most = heights.are.within m in omega (arith, most), tt);
+      entries = omega arith;
+    }
+
+-- and so has a dispatch that begins
+pub dispatches_with_room :
+    (p : Image) (depth : ℕ → ℕ) (heights : HasHeights p) (cs : List Cell) (m : ℕ) (home : Home) (d : Dispatch) (items : List Item) (r : Rest) (dead : List ℕ) → items ≡ [] →
+    HasRoom p depth (at 0 heights.heights) (record { cells = cs; tasks = Run (frame_of m home (length (A_mark ∷ items))) ∷ Trapped ∷ Dispatched d ∷ []; items = A_mark ∷ items; rest = r; killed = dead })
+dispatches_with_room p depth heights cs m home d items r dead bare =
+    subst (λ is. HasRoom p depth (at 0 heights.heights) (record { cells = cs; tasks = Run (frame_of m home (length (A_mark ∷ is))) ∷ Trapped ∷ Dispatched d ∷ []; items = A_mark ∷ is; rest = r; killed = dead })) (sym bare)
+    (record {
+      under = (tt, tt);
+      runs = ((λ le k e. cc, tt), tt);
+      fit = (λ may. let most = heights.are.within m in omega (arith, most), tt);
+      entries = omega arith;
+    })

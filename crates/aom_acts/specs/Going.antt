@@ -1,0 +1,45 @@
+-- Where a destruction begins.
+use Rattle.std.specs.Prelude.{ℕ, List, [], ◌∷◌, Option, Some, None}
+use Rattle.aom_image.specs.Image.{Image}
+use Rattle.aom_image.specs.declared.method.Role.TheVariants.{Destruct}
+use Rattle.aom_classes.specs.Roles.{role_of}
+use Rattle.aom_cells.specs.Heap.{Heap, null, class_at}
+use Rattle.aom_sound.specs.State.{raised}
+use Rattle.aom_frames.specs.Tasks.{fresh, below_first}
+use Rattle.aom_frames.specs.declared.task.Task.{Task}
+use Rattle.aom_frames.specs.declared.task.Task.TheVariants.{Run, Trapped, Destroy, Unwind, Dispatched}
+use Rattle.aom_frames.specs.declared.dispatch.Dispatch.{Dispatch}
+use Rattle.aom_frames.specs.declared.dispatch.Dispatch.TheVariants.{Root}
+use Rattle.aom_parts.specs.declared.parts.Parts.{Parts}
+
+-- the destructor of a class
+abbrev pub destructor_in : Image → Option ℕ → Option ℕ
+destructor_in p None = None
+destructor_in p (Some class) = role_of p class Destruct
+
+-- the destructor of the cell at a number
+abbrev pub destructor_at : Image → Heap → ℕ → Option ℕ
+destructor_at p h n = destructor_in p (class_at h n)
+
+-- the destruction of a cell over these tasks, with its destructor if there is one
+abbrev pub destroying : Option ℕ → ℕ → List Task → List Task
+destroying None n ts = Destroy n ∷ ts
+destroying (Some method) n ts = Run (fresh method n) ∷ Destroy n ∷ ts
+
+-- the dispatch that is at its end
+abbrev pub ending_here : List Task → Option Dispatch
+ending_here [] = None
+ending_here (Run f ∷ ts) = None
+ending_here (Trapped ∷ ts) = None
+ending_here (Destroy x ∷ ts) = None
+ending_here (Unwind code ∷ ts) = None
+ending_here (Dispatched d ∷ ts) = Some d
+
+-- the root is at hand to go, over the end of the run
+abbrev pub uprooted : Image → Parts → Parts
+uprooted p m =
+    record m {
+      stack = record m.stack { tasks = destroying (destructor_at p m.cells m.root) m.root (Dispatched Root ∷ below_first m.stack.tasks) };
+      root = null;
+      rest = record m.rest { clock = raised m.rest.clock };
+    }

@@ -1,0 +1,9 @@
+pub mod Acts
+pub mod Calls
+pub mod Moves
+pub mod Next
+pub mod Going
+pub mod Ends
+pub mod Cleanup
+pub mod Requests
+pub mod Natives

@@ -1,0 +1,207 @@
+//! Calls, returns, and `stop`.
+ghost use Rattle.aom_acts.specs.Ends.{heard, told_by};
+ghost use Rattle.aom_acts.specs.Going.{ending_here};
+ghost use Rattle.aom_parts.specs.Places.{with_tasks, next, set_register};
+ghost use Rattle.aom_acts.specs.Requests.{EndsCancel, IsCancelled};
+ghost use Rattle.aom_parts.specs.Fields.{this, ThisLives};
+ghost use Rattle.aom_frames.specs.declared.task.Task.TheVariants.{Dispatched};
+ghost use Rattle.aom_frames.specs.Tasks.{below_first, Runs, method_here, place_here};
+ghost use Rattle.std.specs.Prelude.{ℕ, suc, List, ◌<◌, ◌≤◌, ◌+◌, ◌^◌, ◌∷◌, ◌≡◌, IsSome, Some, length};
+ghost use Rattle.aom_image.specs.Image.{Image};
+ghost use Rattle.aom_image.specs.Views.{instr_at};
+ghost use Rattle.aom_instructions.specs.declared.instr.Instr.TheVariants.{Call, Return, Stop, Trap};
+ghost use Rattle.aom_sound.specs.Calls.{result_register};
+ghost use Rattle.aom_acts.specs.Acts.{Does, DoesIn, resulted};
+ghost use Rattle.aom_acts.specs.Calls.{target_here};
+ghost use Rattle.aom_acts.specs.Next.{IsNext};
+
+use aom_cells::NULL;
+use aom_classes::Linked;
+use aom_cleanup::Item;
+use aom_frames::{Dispatch, Frame, Task, TaskKind};
+use aom_image::{ClassNumber, Gives, Instr, MethodNumber, Register, Role, Target};
+use aom_parts::Parts;
+
+/// The register to which the result of a call comes.
+pub fn result_of(instr: Instr) -> u8
+    ensures value { result ≡ result_register (Some instr) }
+    ensures in_range { result < 16 }
+{
+    match instr {
+        Instr::Call(_, _, _, to) | Instr::Trap(_, _, _, to) => to.number(),
+        _ => 0,
+    }
+}
+
+/// The answer that a method gives, by the number in the register that it returns.
+fn answer_of(gives: Gives, number: u32) -> i32
+    ensures { result ≡ told_by gives number }
+{
+    match gives {
+        Gives::Word => number.cast_signed(),
+        _ => 0,
+    }
+}
+
+/// What a method that is called works on: the number of a cell, or null.
+fn target_of(parts: &Parts, target: Target, class: Option<ClassNumber>) -> u32
+    requires runs { Runs parts.now.stack.tasks }
+    requires housed { ThisLives parts.now }
+    ensures { result ≡ target_here target class parts.now }
+{
+    match target {
+        Target::This => match class {
+            None => NULL,
+            Some(_) => parts.stack.this(),
+        },
+        Target::Register(register) => parts.register(register),
+        Target::Field(field) => parts.field(field),
+        Target::Entry(depth) => match parts.entries.entry(depth.number() as usize) {
+            Some(Item::Object(number)) => number,
+            _ => NULL,
+        },
+    }
+}
+
+/// Calls a method, with its arguments from a register on.
+pub fn call(
+    parts: &mut Parts,
+    target: Target,
+    method: MethodNumber,
+    first: Register,
+    linked: &Linked,
+)
+    requires { (to : ℕ) × IsNext linked.now (Call target method first to) parts.old }
+    ensures { (refused : List ℕ) (to : ℕ) → DoesIn linked.now refused (Call target method first to) parts.old parts.new }
+{
+    let called = linked.method(method);
+    let this = target_of(parts, target, called.class);
+    let frame = Frame::begin(method, this);
+    parts
+        .stack
+        .enter(frame, first.number(), called.arguments.as_slice());
+}
+
+/// The same under a trap, whose mark lies on the cleanup stack.
+pub fn trap(
+    parts: &mut Parts,
+    target: Target,
+    method: MethodNumber,
+    first: Register,
+    linked: &Linked,
+)
+    requires { (to : ℕ) × IsNext linked.now (Trap target method first to) parts.old }
+    ensures { (refused : List ℕ) (to : ℕ) → DoesIn linked.now refused (Trap target method first to) parts.old parts.new }
+{
+    let called = linked.method(method);
+    let this = target_of(parts, target, called.class);
+    let frame = Frame::begin(method, this);
+    parts
+        .stack
+        .enter_trap(frame, first.number(), called.arguments.as_slice());
+    parts.entries.mark();
+}
+
+/// A result comes to a register, if the method gives one.
+fn take_result(parts: &mut Parts, to: u8, gives: Gives, number: u32)
+    requires runs { Runs parts.old.stack.tasks }
+    requires within { to < 16 }
+    ensures { parts.new ≡ resulted gives to number parts.old }
+{
+    match gives {
+        Gives::Nothing | Gives::Left(_) => {}
+        Gives::Word | Gives::Own(_) | Gives::Maybe(_) => {
+            parts.stack.set_register(to, number);
+        }
+    }
+}
+
+/// A result comes to the method that called, which goes on.
+fn receive(parts: &mut Parts, gives: Gives, number: u32, linked: &Linked)
+    requires runs { Runs parts.old.stack.tasks }
+    requires there { IsSome (instr_at linked.now (method_here parts.old.stack.tasks) (place_here parts.old.stack.tasks)) }
+    requires within { place_here parts.old.stack.tasks + 1 < 2 ^ 64 }
+    ensures in_range { result_register (instr_at linked.now (method_here parts.old.stack.tasks) (place_here parts.old.stack.tasks)) < 16 }
+    ensures received { parts.new ≡ next (resulted gives (result_register (instr_at linked.now (method_here parts.old.stack.tasks) (place_here parts.old.stack.tasks))) number parts.old) }
+{
+    let to = result_of(*parts.fetch(linked));
+    take_result(parts, to, gives, number);
+    parts.next();
+}
+
+/// The same through its trap, with 0 for the code in the next register.
+fn receive_trapped(parts: &mut Parts, gives: Gives, number: u32, linked: &Linked)
+    requires runs { Runs parts.old.stack.tasks }
+    requires there { IsSome (instr_at linked.now (method_here parts.old.stack.tasks) (place_here parts.old.stack.tasks)) }
+    requires within { place_here parts.old.stack.tasks + 1 < 2 ^ 64 }
+    requires coded { suc (result_register (instr_at linked.now (method_here parts.old.stack.tasks) (place_here parts.old.stack.tasks))) < 16 }
+    ensures { parts.new ≡ next (set_register (suc (result_register (instr_at linked.now (method_here parts.old.stack.tasks) (place_here parts.old.stack.tasks)))) 0 (resulted gives (result_register (instr_at linked.now (method_here parts.old.stack.tasks) (place_here parts.old.stack.tasks))) number parts.old)) }
+{
+    let to = result_of(*parts.fetch(linked));
+    take_result(parts, to, gives, number);
+    parts.stack.set_register(to + 1, 0);
+    parts.next();
+}
+
+/// Where a method that cancels is over, the signal of the request is taken.
+fn end_cancel(parts: &mut Parts, role: Role)
+    requires { IsCancelled role parts.old }
+    ensures ended { EndsCancel role parts.old.active parts.new.active (this parts.old) }
+    ensures rest { parts.new ≡ record parts.old { active = parts.new.active } }
+{
+    if let Role::Cancel = role {
+        let id = parts.cell();
+        parts.active.cancelled(id);
+    }
+}
+
+/// The dispatch that has asked hears the answer.
+fn hear(parts: &mut Parts, dispatch: Dispatch, gives: Gives, number: u32)
+    requires ending { ending_here parts.old.stack.tasks ≡ Some dispatch }
+    requires room { length parts.old.stack.tasks ≤ parts.old.stack.depth }
+    ensures { parts.new ≡ with_tasks (Dispatched (heard (told_by gives number) dispatch) ∷ below_first parts.old.stack.tasks) parts.old }
+{
+    let Dispatch::Asks(subject) = dispatch else {
+        return;
+    };
+    parts.drop_task();
+    let answer = answer_of(gives, number);
+    parts
+        .stack
+        .push(Task::Dispatched(Dispatch::Answered(subject, answer)));
+}
+
+/// A method returns: to the one that called it, through a trap, to the going of its cell, to an unwinding, or to the
+/// dispatch that has asked it.
+pub fn give_back(parts: &mut Parts, from: Register, linked: &Linked)
+    requires { IsNext linked.now (Return from) parts.old }
+    ensures { (refused : List ℕ) → DoesIn linked.now refused (Return from) parts.old parts.new }
+{
+    let method = linked.method(parts.stack.method());
+    let gives = method.gives;
+    let number = parts.register(from);
+    end_cancel(parts, method.role);
+    parts.drop_task();
+    match parts.stack.top() {
+        Some(TaskKind::Run) => receive(parts, gives, number, linked),
+        Some(TaskKind::Trapped) => {
+            parts.drop_task();
+            parts.entries.unmark();
+            if parts.is_running() {
+                receive_trapped(parts, gives, number, linked);
+            }
+        }
+        Some(TaskKind::Destroy(_)) => {}
+        Some(TaskKind::Unwind(_)) => {}
+        Some(TaskKind::Dispatched(dispatch)) => hear(parts, dispatch, gives, number),
+        None => unreachable!(),
+    }
+}
+
+pub fn stop(parts: &mut Parts)
+    requires { (p : Image) × IsNext p Stop parts.old }
+    ensures { (refused : List ℕ) → Does refused Stop parts.old parts.new }
+{
+    parts.rest.stop();
+    parts.next();
+}

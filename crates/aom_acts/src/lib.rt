@@ -1,0 +1,25 @@
+//! The instructions of the machine, group by group, and what else is one move: the going of a cell, a leave that
+//! unwinds, and the end of a dispatch.
+//!
+//! Each is a function over the `Parts`. An instruction does as it does in the checked machine (`DoesIn` of
+//! `specs/Acts.antt`), and so does each move (`Moves` of `specs/Moves.antt`); no instruction tests what a number stands
+//! for. This room knows no step, no turn and no native.
+#![tactic(auto)]
+
+mod calls;
+mod cleanup;
+mod closing;
+mod fields;
+mod going;
+mod leaving;
+mod natives;
+mod objects;
+mod performing;
+mod requests;
+mod words;
+
+pub use closing::close;
+pub use going::go;
+pub use leaving::unwind;
+pub use natives::TERMINATED;
+pub use performing::perform;

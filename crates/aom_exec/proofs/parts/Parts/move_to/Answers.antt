@@ -1,5 +1,0 @@
-use Rattle.aom_exec.proofs.MoveActs.{move_does}
-use Rattle.aom_exec.proofs.parts.Parts.move_to.Goals as goal
-
-pub returns : goal.returns
-returns c = λ refused. rw (c.next.ensures, c.set_register.ensures.written, c.take_register-object.ensures.emptied, c.take_register-object.ensures.value) (move_does c.args.self.now refused c.args.to c.args.from c.set_register.ensures.in_range c.take_register-object.ensures.in_range)

@@ -1,5 +1,0 @@
-use Rattle.aom_exec.proofs.FieldActs.{take_does}
-use Rattle.aom_exec.proofs.parts.Parts.take.Goals as goal
-
-pub returns : goal.returns
-returns c = λ refused. rw (c.next.ensures, c.set_register.ensures.written) (take_does c.args.self.now c.take_field-number.new.self refused c.args.to c.args.field c.take_field-number.result c.set_register.ensures.in_range c.take_field-number.ensures.value c.take_field-number.ensures.emptied)

@@ -1,0 +1,17 @@
+-- A native is killed as the checked machine kills it.
+use Rattle.std.proofs.Common.{subst, sym}
+use Rattle.aom_sound.specs.World.{Kills}
+use Rattle.aom_exec.specs.Turns.{Takes}
+use Rattle.aom_exec.proofs.Killing.{killed_is, kills, kills_no_timer}
+use Rattle.aom_exec.proofs.serving.kill.Goals as goal
+
+pub returns-clause-killed : goal.returns-clause-killed
+returns-clause-killed c = λ s st.
+    let p = c.args.linked.now in
+    let m = c.args.parts.now in
+    let b = c.bereave_all.new.parts in
+    subst (λ x. Takes (record { image = p; parts = m }) s (Kills c.args.native) c.args.turn.now c.push.new.self (record { image = p; parts = x })) (sym (killed_is p c.args.native m b c.bereave_all.ensures c.kill.new.self c.deliver.new.self c.kill.ensures c.deliver.ensures))
+    (kills p c.args.native m b c.bereave_all.ensures c.requires.between c.args.turn.now c.push.new.self c.push.ensures s st)
+
+pub returns-clause-timers : goal.returns-clause-timers
+returns-clause-timers c = kills_no_timer c.args.linked.now c.args.native c.args.parts.now c.bereave_all.new.parts c.bereave_all.ensures c.requires.stands

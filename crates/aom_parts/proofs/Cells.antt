@@ -1,0 +1,93 @@
+-- The machine's cells, where owners move and where a cell goes.
+use Rattle.std.proofs.Common.{suc, ◌≡◌, ℕ, pos, ◌+◌, Bool, true, false, cond, not, ◌==◌, length, List, [], ◌∷◌, Option, Some, None, refl, sym, ap, ◌∙◌, arith, subst, ◌<◌}
+use Rattle.std.proofs.lemmas.Bool.{eqb-true, eq-eqb, false≢true, false_from_ne_true, not-true, true≢false}
+use Rattle.aom_image.specs.Image.{Image}
+use Rattle.aom_cells.specs.Heap.{Heap, null, cell_at, word_of, count, Changes}
+use Rattle.aom_shape.specs.Tables.{at}
+use Rattle.aom_sound.specs.Places.{Place, Object, Cell, same_place, held, named, moved, without, Tidy, word_field}
+use Rattle.aom_sound.proofs.Maps.{front_free, same_place-true, named_moved, named_without, unnamed}
+use Rattle.aom_parts.specs.Agrees.{SameCells, thing_in, thing_of}
+use Rattle.aom_parts.proofs.Values.{cases}
+use Rattle.aom_parts.proofs.CellWords.{words_moved, words_unnamed}
+
+length_moved : (cs : List Cell) (p q : Place) → length (moved p q cs) ≡ length cs
+length_moved [] p q = refl
+length_moved (c ∷ cs) p q = ap suc (length_moved cs p q)
+
+pub cells_moved : (p : Image) (h : Heap) (cs : List Cell) (from to : Place) → SameCells p h cs → SameCells p h (moved from to cs)
+cells_moved p h cs from to same = record {
+  things = λ n. same.things n ∙ ap thing_of (sym (named_moved cs from to n));
+  words = λ n w. same.words n w ∙ sym (words_moved cs from to n w);
+  count = same.count ∙ sym (length_moved cs from to);
+  limit = same.limit;
+  wide = same.wide;
+  classes = same.classes;
+  null_is_none = same.null_is_none;
+  below = same.below;
+}
+
+-- where a place owns nothing, nothing of its goes
+without_free : (cs : List Cell) (g : Place) → held cs g ≡ None → without g cs ≡ cs
+without_free [] g e = refl
+without_free (c ∷ cs) g e =
+    let f = front_free _ _ _ e in
+    ap (λ b. cond b (without g cs) (c ∷ without g cs)) f.0 ∙ ap (λ (ds : List Cell). c ∷ ds) (without_free cs g f.1)
+
+-- the place of a cell that is not owned so is another
+pub unowned : (c : Cell) (cs : List Cell) (r : Place) (is : Place → Bool) → is r ≡ true → not (is c.owner) ≡ true → held cs r ≡ None → held (c ∷ cs) r ≡ None
+unowned c cs r is here other none =
+    let apart = false_from_ne_true (same_place c.owner r) (λ same. true≢false (sym here ∙ ap is (sym (same_place-true c.owner r same)) ∙ not-true _ other)) in
+    ap (λ b. cond b (Some c.object) (held cs r)) apart ∙ none
+
+-- and else one cell goes
+abbrev counted : Option Object → ℕ
+counted None = 0
+counted (Some o) = 1
+
+length_without : (cs : List Cell) (g : Place) → Tidy cs → length cs ≡ counted (held cs g) + length (without g cs)
+length_without [] g tidy = omega arith
+length_without (c ∷ cs) g tidy = go (same_place c.owner g) refl (length_without cs g tidy.2)
+  where
+    go : (b : Bool) → same_place c.owner g ≡ b → length cs ≡ counted (held cs g) + length (without g cs)
+        → suc (length cs) ≡ counted (cond b (Some c.object) (held cs g)) + length (cond b (without g cs) (c ∷ without g cs))
+    go true is rest = let same = ap length (without_free cs g (ap (held cs) (sym (same_place-true c.owner g is)) ∙ tidy.0)) in omega arith
+    go false is rest = omega (arith, rest)
+
+-- the words of another cell than the one that goes
+words_without : (cs : List Cell) (g : Place) (o : Object) (n w : ℕ) → Tidy cs → held cs g ≡ Some o → (o.name == n) ≡ false → word_field (without g cs) n w ≡ word_field cs n w
+words_without [] g o n w t e d = refl
+words_without (c ∷ cs) g o n w t e d = go (same_place c.owner g) refl (words_without cs g o n w t.2) e
+  where
+    go : (x : Bool) → same_place c.owner g ≡ x → (held cs g ≡ Some o → (o.name == n) ≡ false → word_field (without g cs) n w ≡ word_field cs n w) → cond x (Some c.object) (held cs g) ≡ Some o → word_field (cond x (without g cs) (c ∷ without g cs)) n w ≡ cond (c.object.name == n) (at (pos 0) c.words w) (word_field cs n w)
+    go true f rest e =
+        let same : c.object ≡ o = cc in
+        ap (λ l. word_field l n w) (without_free cs g (ap (λ q. held cs q) (sym (same_place-true c.owner g f)) ∙ t.0))
+        ∙ ap (λ b. cond b (at (pos 0) c.words w) (word_field cs n w)) (sym (ap (λ x. x.name == n) same ∙ d))
+    go false f rest e = ap (λ x. cond (c.object.name == n) (at (pos 0) c.words w) x) (rest e d)
+
+-- the cell that a place owned goes
+pub cells_without : (p : Image) (h h' : Heap) (cs : List Cell) (g : Place) (o : Object) → SameCells p h cs → Tidy cs → held cs g ≡ Some o → Changes h h' o.name None → count h' + 1 ≡ count h → SameCells p h' (without g cs)
+cells_without p h h' cs g o same tidy is ch less = record {
+  things = λ k. cases (o.name == k)
+      (λ e. ap (λ i. thing_in (cell_at h' i)) (sym (eqb-true o.name k e)) ∙ ap thing_in ch.here ∙ sym (ap thing_of (ap (named (without g cs)) (sym (eqb-true o.name k e)) ∙ unnamed cs g o tidy is)))
+      (λ e. ap thing_in (other k e) ∙ same.things k ∙ ap thing_of (sym (named_without cs g o k tidy is e)));
+  words = λ k w. cases (o.name == k)
+      (λ e. ap (λ i. word_of (cell_at h' i) w) (sym (eqb-true o.name k e)) ∙ ap (λ c. word_of c w) ch.here ∙ sym (words_unnamed (without g cs) k w (ap (named (without g cs)) (sym (eqb-true o.name k e)) ∙ unnamed cs g o tidy is)))
+      (λ e. ap (λ c. word_of c w) (other k e) ∙ same.words k w ∙ sym (words_without cs g o k w tidy is e));
+  count = (let a = length_without cs g tidy ∙ ap (λ o. counted o + length (without g cs)) is in let b = same.count in omega arith);
+  limit = ch.limit ∙ same.limit;
+  wide = λ k c e. same.wide k c (sym (still k c e) ∙ e);
+  classes = λ k c e. same.classes k c (sym (still k c e) ∙ e);
+  null_is_none = cases (o.name == null)
+      (λ e. ap (cell_at h') (sym (eqb-true o.name null e)) ∙ ch.here)
+      (λ e. other null e ∙ same.null_is_none);
+  below = λ k c e. subst (λ l. k < l) (sym ch.limit) (same.below k c (sym (still k c e) ∙ e));
+}
+  where
+    other : (k : ℕ) → (o.name == k) ≡ false → cell_at h' k ≡ cell_at h k
+    other k e = ch.others k (λ d. false≢true (sym e ∙ eq-eqb o.name k (sym d)))
+
+    still : (k : ℕ) (c : _) → cell_at h' k ≡ Some c → cell_at h' k ≡ cell_at h k
+    still k c is' = cases (o.name == k)
+        (λ e. let none : cell_at h' k ≡ None = ap (cell_at h') (sym (eqb-true o.name k e)) ∙ ch.here in absurd (let clash : Some c ≡ None = sym is' ∙ none in cc))
+        (λ e. other k e)

@@ -1,0 +1,179 @@
+-- The room that a run needs, and what a move does to it: a frame begins or ends, an item comes or goes, cells move.
+use Rattle.std.proofs.Common.{Bool, List, Some, [], ap, arith, cond, false, length, refl, subst, sym, true, ℕ, ◌+◌, ◌<◌, ◌∙◌, ◌∷◌, ◌≡◌, ◌≤◌}
+use Rattle.std.proofs.lemmas.Bool.{le-ltb, lt-ltb}
+use Rattle.aom_image.specs.Image.{Image}
+use Rattle.aom_sound.proofs.Maps.{same_place-true}
+use Rattle.aom_sound.specs.Cleanup.{to_trap}
+use Rattle.aom_sound.specs.Calls.{below_top}
+use Rattle.aom_sound.specs.Places.{Cell, Entry, Place, held, moved, same_place}
+use Rattle.aom_sound.specs.State.{A_mark, An_object, An_operation, Destroy, Dispatched, Frame, Item, Run, Task, Trapped, Unwind, resumed}
+use Rattle.aom_parts.specs.Room.{AllFit, AllRunUnder, AllUnder, IsUnder, RunsUnder, below_height, destructor_in, entries_in, may_push, run_by}
+
+-- each method at hand began where the cleanup stack had no more items than that
+abbrev pub AllLow : ℕ → List Task → Type 0
+AllLow n [] = Unit {0}
+AllLow n (Run fr ∷ ts) = (fr.height ≤ n) × AllLow n ts
+AllLow n (Trapped ∷ ts) = AllLow n ts
+AllLow n (Destroy ∷ ts) = AllLow n ts
+AllLow n (Unwind code ∷ ts) = AllLow n ts
+AllLow n (Dispatched d ∷ ts) = AllLow n ts
+
+pub lower : (n k : ℕ) (ts : List Task) → n ≤ k → AllLow n ts → AllLow k ts
+lower n k [] le w = tt
+lower n k (Run fr ∷ ts) le w = (omega (arith, w.0), lower n k ts le w.1)
+lower n k (Trapped ∷ ts) le w = lower n k ts le w
+lower n k (Destroy ∷ ts) le w = lower n k ts le w
+lower n k (Unwind code ∷ ts) le w = lower n k ts le w
+lower n k (Dispatched d ∷ ts) le w = lower n k ts le w
+
+-- entries below that number own what they owned
+abbrev pub SameEntries : List Cell → List Cell → ℕ → Type 0
+SameEntries cs cs' n = (k : ℕ) → k < n → held cs' (Entry k) ≡ held cs (Entry k)
+
+-- what moves from one place to another leaves the others as they are
+pub held_apart : (cs : List Cell) (q r e : Place) → same_place q e ≡ false → same_place r e ≡ false → held (moved q r cs) e ≡ held cs e
+held_apart [] q r e apart apart' = refl
+held_apart (c ∷ cs) q r e apart apart' = go (same_place c.owner q) refl (held_apart cs q r e apart apart')
+  where
+    go : (b : Bool) → same_place c.owner q ≡ b → held (moved q r cs) e ≡ held cs e → cond (same_place (cond b r c.owner) e) (Some c.object) (held (moved q r cs) e) ≡ cond (same_place c.owner e) (Some c.object) (held cs e)
+    go true h rest =
+        ap (λ b. cond b (Some c.object) (held (moved q r cs) e)) apart'
+        ∙ rest
+        ∙ sym (ap (λ b. cond b (Some c.object) (held cs e)) (ap (λ x. same_place x e) (same_place-true c.owner q h) ∙ apart))
+    go false h rest = ap (λ x. cond (same_place c.owner e) (Some c.object) x) rest
+
+-- the items below a height, as one is pushed over it
+pub below_pushed : (height : ℕ) (i : Item) (items : List Item) → height ≤ length items → below_height height (i ∷ items) ≡ below_height height items
+below_pushed height i items le = ap (λ b. cond b (i ∷ items) (below_height height items)) (le-ltb (length items) height le)
+
+pub below_all : (height : ℕ) (items : List Item) → length items ≤ height → below_height height items ≡ items
+below_all height [] le = refl
+below_all height (i ∷ items) le = ap (λ b. cond b (i ∷ items) (below_height height items)) (lt-ltb (length items) height (omega (arith, le)))
+
+pub fewer_entries : (i : Item) (items : List Item) → entries_in items ≤ entries_in (i ∷ items)
+fewer_entries An_object items = omega arith
+fewer_entries (An_operation m w) items = omega arith
+fewer_entries A_mark items = omega arith
+
+module _ (p : Image) (depth heights : ℕ → ℕ) where
+  abbrev pub Roomy : List Cell → List Item → List Task → Type 0
+  Roomy cs items ts = AllUnder depth ts × AllRunUnder p depth cs items ts × AllFit p heights items ts × (entries_in items ≤ 1024)
+
+  pub under_less : (n k : ℕ) (ts : List Task) → n < k → IsUnder depth k ts → IsUnder depth n ts
+  under_less n k [] lt u = tt
+  under_less n k (Run fr ∷ ts) lt u = omega (arith, lt, u)
+  under_less n k (Trapped ∷ ts) lt u = under_less n k ts lt u
+  under_less n k (Destroy ∷ ts) lt u = under_less n k ts lt u
+  under_less n k (Unwind code ∷ ts) lt u = under_less n k ts lt u
+  under_less n k (Dispatched d ∷ ts) lt u = under_less n k ts lt u
+
+  -- ---- cells move
+
+  same_runs : (cs cs' : List Cell) (height n : ℕ) (items : List Item) → SameEntries cs cs' (length items) → RunsUnder p depth cs height n items → RunsUnder p depth cs' height n items
+  same_runs cs cs' height n [] same w = tt
+  same_runs cs cs' height n (i ∷ items) same w = (λ le m e. w.0 le m (sym (same_run i) ∙ e), same_runs cs cs' height n items (λ k lt. same k (omega (arith, lt))) w.1)
+    where
+      same_run : (i : Item) → run_by p cs' i (length items) ≡ run_by p cs i (length items)
+      same_run An_object = ap (destructor_in p) (same (length items) (omega arith))
+      same_run (An_operation m w) = refl
+      same_run A_mark = refl
+
+  all_same : (cs cs' : List Cell) (items : List Item) (ts : List Task) → SameEntries cs cs' (length items) → AllRunUnder p depth cs items ts → AllRunUnder p depth cs' items ts
+  all_same cs cs' items [] same w = tt
+  all_same cs cs' items (Run fr ∷ ts) same w = (same_runs cs cs' fr.height (depth fr.method) items same w.0, all_same cs cs' items ts same w.1)
+  all_same cs cs' items (Trapped ∷ ts) same w = all_same cs cs' items ts same w
+  all_same cs cs' items (Destroy ∷ ts) same w = all_same cs cs' items ts same w
+  all_same cs cs' items (Unwind code ∷ ts) same w = all_same cs cs' items ts same w
+  all_same cs cs' items (Dispatched d ∷ ts) same w = all_same cs cs' items ts same w
+
+  pub recelled : (cs cs' : List Cell) (items : List Item) (ts : List Task) → SameEntries cs cs' (length items) → Roomy cs items ts → Roomy cs' items ts
+  recelled cs cs' items ts same w = (w.0, all_same cs cs' items ts same w.1, w.2, w.3)
+
+  -- ---- the last item goes
+
+  runs_below : (cs : List Cell) (i : Item) (items : List Item) (ts : List Task) → AllRunUnder p depth cs (i ∷ items) ts → AllRunUnder p depth cs items ts
+  runs_below cs i items [] w = tt
+  runs_below cs i items (Run fr ∷ ts) w = (w.0.1, runs_below cs i items ts w.1)
+  runs_below cs i items (Trapped ∷ ts) w = runs_below cs i items ts w
+  runs_below cs i items (Destroy ∷ ts) w = runs_below cs i items ts w
+  runs_below cs i items (Unwind code ∷ ts) w = runs_below cs i items ts w
+  runs_below cs i items (Dispatched d ∷ ts) w = runs_below cs i items ts w
+
+  same_fit : (items items' : List Item) (ts : List Task) (n : ℕ) → AllLow n ts → ((h : ℕ) → h ≤ n → below_height h items' ≡ below_height h items) → AllFit p heights items ts → AllFit p heights items' ts
+  same_fit items items' [] n low same w = tt
+  same_fit items items' (Run fr ∷ ts) n low same w = (λ may. subst (λ is. entries_in is + heights fr.method ≤ 1024) (sym (same fr.height low.0)) (w.0 may), same_fit items items' ts n low.1 same w.1)
+  same_fit items items' (Trapped ∷ ts) n low same w = same_fit items items' ts n low same w
+  same_fit items items' (Destroy ∷ ts) n low same w = same_fit items items' ts n low same w
+  same_fit items items' (Unwind code ∷ ts) n low same w = same_fit items items' ts n low same w
+  same_fit items items' (Dispatched d ∷ ts) n low same w = same_fit items items' ts n low same w
+
+  pub popped : (cs : List Cell) (i : Item) (items : List Item) (ts : List Task) → AllLow (length items) ts → Roomy cs (i ∷ items) ts → Roomy cs items ts
+  popped cs i items ts low w = (
+    w.0,
+    runs_below cs i items ts w.1,
+    same_fit (i ∷ items) items ts (length items) low (λ h le. sym (below_pushed h i items le)) w.2,
+    omega (arith, fewer_entries i items, w.3),
+  )
+
+  pub popped_top : (cs : List Cell) (items : List Item) (ts : List Task) → AllLow (length (below_top items)) ts → Roomy cs items ts → Roomy cs (below_top items) ts
+  popped_top cs [] ts low w = w
+  popped_top cs (i ∷ items) ts low w = popped cs i items ts low w
+
+  -- ---- an item is pushed
+
+  pushed_runs : (cs : List Cell) (i : Item) (items : List Item) (ts : List Task) → AllUnder depth ts → ((m : ℕ) → run_by p cs i (length items) ≡ Some m → IsUnder depth (depth m) ts) → AllRunUnder p depth cs items ts → AllRunUnder p depth cs (i ∷ items) ts
+  pushed_runs cs i items [] u h w = tt
+  pushed_runs cs i items (Run fr ∷ ts) u h w = ((λ le m e. h m e, w.0), pushed_runs cs i items ts u.1 (λ m e. under_less (depth m) (depth fr.method) ts (h m e) u.0) w.1)
+  pushed_runs cs i items (Trapped ∷ ts) u h w = pushed_runs cs i items ts u h w
+  pushed_runs cs i items (Destroy ∷ ts) u h w = pushed_runs cs i items ts u h w
+  pushed_runs cs i items (Unwind code ∷ ts) u h w = pushed_runs cs i items ts u h w
+  pushed_runs cs i items (Dispatched d ∷ ts) u h w = pushed_runs cs i items ts u h w
+
+  pub item_pushed : (cs : List Cell) (i : Item) (items : List Item) (ts : List Task) → AllLow (length items) ts → ((m : ℕ) → run_by p cs i (length items) ≡ Some m → IsUnder depth (depth m) ts) → entries_in (i ∷ items) ≤ 1024 → Roomy cs items ts → Roomy cs (i ∷ items) ts
+  item_pushed cs i items ts low h few w = (
+    w.0,
+    pushed_runs cs i items ts w.0 h w.1,
+    same_fit items (i ∷ items) ts (length items) low (λ height le. below_pushed height i items le) w.2,
+    few,
+  )
+
+  -- ---- a method begins
+
+  runs_above : (cs : List Cell) (height n : ℕ) (items : List Item) → length items ≤ height → RunsUnder p depth cs height n items
+  runs_above cs height n [] le = tt
+  runs_above cs height n (i ∷ items) le = (λ low m e. absurd (omega (arith, le, low)), runs_above cs height n items (omega (arith, le)))
+
+  pub begins : (cs : List Cell) (items : List Item) (fr : Frame) (ts : List Task) → fr.height ≡ length items → IsUnder depth (depth fr.method) ts → (may_push p fr.method ≡ true → entries_in items + heights fr.method ≤ 1024) → Roomy cs items ts → Roomy cs items (Run fr ∷ ts)
+  begins cs items fr ts high under fit w =
+      let le : length items ≤ fr.height = omega (arith, high) in (
+        (under, w.0),
+        (runs_above cs fr.height (depth fr.method) items le, w.1),
+        (λ may. subst (λ is. entries_in is + heights fr.method ≤ 1024) (sym (below_all fr.height items le)) (fit may), w.2),
+        w.3,
+      )
+
+  -- what the last item runs is less deep than the method below
+  pub top_under : (cs : List Cell) (i : Item) (items : List Item) (ts : List Task) (m : ℕ) → AllLow (length items) ts → run_by p cs i (length items) ≡ Some m → AllRunUnder p depth cs (i ∷ items) ts → IsUnder depth (depth m) ts
+  top_under cs i items [] m low e w = tt
+  top_under cs i items (Run fr ∷ ts) m low e w = w.0.0 low.0 m e
+  top_under cs i items (Trapped ∷ ts) m low e w = top_under cs i items ts m low e w
+  top_under cs i items (Destroy ∷ ts) m low e w = top_under cs i items ts m low e w
+  top_under cs i items (Unwind code ∷ ts) m low e w = top_under cs i items ts m low e w
+  top_under cs i items (Dispatched d ∷ ts) m low e w = top_under cs i items ts m low e w
+
+  -- ---- methods end
+
+  pub dropped : (cs : List Cell) (items : List Item) (fr : Frame) (ts : List Task) → Roomy cs items (Run fr ∷ ts) → Roomy cs items ts
+  dropped cs items fr ts w = (w.0.1, w.1.1, w.2.1, w.3)
+
+  pub off_to_trap : (cs : List Cell) (items : List Item) (ts : List Task) → Roomy cs items ts → Roomy cs items (to_trap ts)
+  off_to_trap cs items (Run fr ∷ ts) w = off_to_trap cs items ts (dropped cs items fr ts w)
+  off_to_trap cs items _ w = w
+
+  pub on_again : (cs : List Cell) (items : List Item) (ts : List Task) → Roomy cs items ts → Roomy cs items (resumed ts)
+  on_again cs items [] w = w
+  on_again cs items (Run fr ∷ ts) w = w
+  on_again cs items (Trapped ∷ ts) w = w
+  on_again cs items (Destroy ∷ ts) w = w
+  on_again cs items (Unwind code ∷ ts) w = w
+  on_again cs items (Dispatched d ∷ ts) w = w

@@ -1,0 +1,11 @@
+pub mod Values
+pub mod Entries
+pub mod Overs
+pub mod CellWords
+pub mod Asking
+pub mod Sessions
+pub mod Cells
+pub mod CellFields
+pub mod Depths
+pub mod Heights
+pub mod Alike

@@ -1,0 +1,173 @@
+-- The sessions of cells, where cells move, change, come and go.
+use Rattle.std.proofs.Common.{ap, Bool, cond, false, List, None, Option, refl, Some, suc, sym, true, ℕ, ℤ, ◌==◌, ◌∙◌, ◌∷◌, ◌≡◌, [], length, pos}
+use Rattle.std.proofs.lemmas.Bool.{eqb-true, eqb-false, false≢true}
+use Rattle.aom_image.specs.Image.{Image}
+use Rattle.aom_image.specs.declared.method.Argument.{Argument}
+use Rattle.aom_image.specs.declared.method.Argument.TheVariants.{Own as Takes_own, Word as Takes_word}
+use Rattle.aom_image.specs.declared.method.Thing.{Thing}
+use Rattle.aom_sessions.specs.Sessions.{Sets, Standing, is_open}
+use Rattle.aom_sound.specs.Calls.{passed_cells}
+use Rattle.aom_sound.specs.Enlisted.{rerequested}
+use Rattle.aom_sound.specs.Places.{Cell, Object, Place, Register, Request, Tidy, held, in_session, moved, named, same_place, set_request, set_session, set_word_field, with_new, without, word_field}
+use Rattle.aom_sound.specs.State.{AtRoot, Frame, Home, Inside, State, Static, Task}
+use Rattle.aom_sound.specs.Words.{here, stored}
+use Rattle.aom_sound.proofs.Maps.{same_place-true, unnamed}
+use Rattle.aom_parts.specs.Agrees.{SameCells, SameNatives, thing_of}
+use Rattle.aom_cells.specs.Heap.{Heap}
+use Rattle.aom_shape.specs.Tables.{at}
+use Rattle.aom_sound.specs.Natives.{resessioned}
+use Rattle.aom_sound.proofs.Storing.{resessioned_alike}
+
+-- ---- what the cells tell
+
+-- a name that no cell has is in no session
+pub unnamed_closed : (cs : List Cell) (n : ℕ) → named cs n ≡ None → in_session cs n ≡ false
+unnamed_closed [] n e = refl
+unnamed_closed (c ∷ cs) n e = go (c.object.name == n) e (unnamed_closed cs n)
+  where
+    go : (b : Bool) → cond b (Some c.object) (named cs n) ≡ None → (named cs n ≡ None → in_session cs n ≡ false) → cond b c.session (in_session cs n) ≡ false
+    go true e rest = cc
+    go false e rest = rest e
+
+session_moved : (cs : List Cell) (p q : Place) (n : ℕ) → in_session (moved p q cs) n ≡ in_session cs n
+session_moved [] p q n = refl
+session_moved (c ∷ cs) p q n = ap (λ x. cond (c.object.name == n) c.session x) (session_moved cs p q n)
+
+session_written : (cs : List Cell) (m w : ℕ) (v : ℤ) (n : ℕ) → in_session (set_word_field m w v cs) n ≡ in_session cs n
+session_written [] m w v n = refl
+session_written (c ∷ cs) m w v n = ap (λ x. cond (c.object.name == n) c.session x) (session_written cs m w v n)
+
+session_asked : (cs : List Cell) (m : ℕ) (r : Option Request) (n : ℕ) → in_session (set_request m r cs) n ≡ in_session cs n
+session_asked [] m r n = refl
+session_asked (c ∷ cs) m r n = ap (λ x. cond (c.object.name == n) c.session x) (session_asked cs m r n)
+
+session_new : (cs : List Cell) (name : ℕ) (thing : Thing) (words : List ℤ) (owner : Place) → named cs name ≡ None → (n : ℕ) → in_session (with_new name thing words owner cs) n ≡ in_session cs n
+session_new cs name thing words owner new n = go (name == n) refl
+  where
+    go : (b : Bool) → (name == n) ≡ b → cond b false (in_session cs n) ≡ in_session cs n
+    go true same = sym (ap (in_session cs) (sym (eqb-true name n same)) ∙ unnamed_closed cs name new)
+    go false other = refl
+
+-- what owns nothing takes nothing along
+same_without : (cs : List Cell) (g : Place) → held cs g ≡ None → without g cs ≡ cs
+same_without [] g e = refl
+same_without (c ∷ cs) g e = go (same_place c.owner g) e (same_without cs g)
+  where
+    go : (x : Bool) → cond x (Some c.object) (held cs g) ≡ None → (held cs g ≡ None → without g cs ≡ cs) → cond x (without g cs) (c ∷ without g cs) ≡ c ∷ cs
+    go true e rest = cc
+    go false e rest = ap (λ l. c ∷ l) (rest e)
+
+-- a cell that goes takes its own along
+session_without : (cs : List Cell) (g : Place) (o : Object) (n : ℕ) → Tidy cs → held cs g ≡ Some o → (o.name == n) ≡ false → in_session (without g cs) n ≡ in_session cs n
+session_without [] g o n t e d = refl
+session_without (c ∷ cs) g o n t e d = go (same_place c.owner g) refl (session_without cs g o n t.2) e
+  where
+    go : (x : Bool) → same_place c.owner g ≡ x → (held cs g ≡ Some o → (o.name == n) ≡ false → in_session (without g cs) n ≡ in_session cs n) → cond x (Some c.object) (held cs g) ≡ Some o → in_session (cond x (without g cs) (c ∷ without g cs)) n ≡ cond (c.object.name == n) c.session (in_session cs n)
+    go true f ih e =
+        let same : c.object ≡ o = cc in
+        ap (λ l. in_session l n) (same_without cs g (ap (λ q. held cs q) (sym (same_place-true c.owner g f)) ∙ t.0))
+        ∙ ap (λ b. cond b c.session (in_session cs n)) (sym (ap (λ x. x.name == n) same ∙ d))
+    go false f ih e = ap (λ x. cond (c.object.name == n) c.session x) (ih e d)
+
+-- ---- the machine's flags
+
+module _ (p : Image) (w : Standing) (killed : List ℕ) where
+  -- it does not matter by which cells the sessions are told
+  pub natives_as : (cs ds : List Cell) → ((n : ℕ) → in_session ds n ≡ in_session cs n) → SameNatives p w cs killed → SameNatives p w ds killed
+  natives_as cs ds same h = record { sessions = λ n. h.sessions n ∙ sym (same n); dead = h.dead; limit = h.limit }
+
+  pub natives_moved : (cs : List Cell) (q r : Place) → SameNatives p w cs killed → SameNatives p w (moved q r cs) killed
+  natives_moved cs q r h = natives_as cs (moved q r cs) (session_moved cs q r) h
+
+  pub natives_stored : (cs : List Cell) (home : Home) (k : ℕ) (v : ℤ) → SameNatives p w cs killed → SameNatives p w (stored cs home k v) killed
+  natives_stored cs Static k v h = h
+  natives_stored cs AtRoot k v h = h
+  natives_stored cs (Inside o from) k v h = natives_as cs (set_word_field o.name k v cs) (session_written cs o.name k v) h
+
+  pub natives_made : (cs : List Cell) (n : ℕ) (thing : Thing) (words : List ℤ) (owner : Place) → named cs n ≡ None → SameNatives p w cs killed → SameNatives p w (with_new n thing words owner cs) killed
+  natives_made cs n thing words owner fresh h = natives_as cs (with_new n thing words owner cs) (session_new cs n thing words owner fresh) h
+
+  pub natives_asked : (cs : List Cell) (n : ℕ) (r : Option Request) → SameNatives p w cs killed → SameNatives p w (set_request n r cs) killed
+  natives_asked cs n r h = natives_as cs (set_request n r cs) (session_asked cs n r) h
+
+  pub natives_rerequested : (cs : List Cell) (home : Home) (r : Option Request) → SameNatives p w cs killed → SameNatives p w (rerequested cs home r) killed
+  natives_rerequested cs Static r h = h
+  natives_rerequested cs AtRoot r h = h
+  natives_rerequested cs (Inside o from) r h = natives_asked cs o.name r h
+
+module _ (p : Image) (fr : Frame) (ts : List Task) (s : State) (w : Standing) where
+  pub natives_passed : (depth : ℕ) (xs : List Argument) (first to : ℕ) (cs : List Cell) → SameNatives p w cs s.killed → SameNatives p w (passed_cells p fr ts s depth xs first to cs) s.killed
+  natives_passed depth [] first to cs h = h
+  natives_passed depth (Takes_word ∷ xs) first to cs h = natives_passed depth xs (suc first) (suc to) cs h
+  natives_passed depth (Takes_own t ∷ xs) first to cs h =
+      natives_passed depth xs (suc first) (suc to) (moved (here fr ts s first) (Register depth to) cs) (natives_moved p w s.killed cs (here fr ts s first) (Register depth to) h)
+
+-- ---- a session that opens or closes
+
+session_here : (cs : List Cell) (n : ℕ) (b : Bool) (o : Object) → named cs n ≡ Some o → in_session (set_session n b cs) n ≡ b
+session_here [] n b o e = cc
+session_here (c ∷ cs) n b o e = go (c.object.name == n) e (session_here cs n b o)
+  where
+    go : (x : Bool) → cond x (Some c.object) (named cs n) ≡ Some o → (named cs n ≡ Some o → in_session (set_session n b cs) n ≡ b) → cond x (cond x b c.session) (in_session (set_session n b cs) n) ≡ b
+    go true e rest = refl
+    go false e rest = rest e
+
+session_there : (cs : List Cell) (n : ℕ) (b : Bool) (k : ℕ) → (n == k) ≡ false → in_session (set_session n b cs) k ≡ in_session cs k
+session_there [] n b k apart = refl
+session_there (c ∷ cs) n b k apart = go (c.object.name == k) refl (c.object.name == n) refl (session_there cs n b k apart)
+  where
+    go : (x : Bool) → (c.object.name == k) ≡ x → (y : Bool) → (c.object.name == n) ≡ y → in_session (set_session n b cs) k ≡ in_session cs k → cond x (cond y b c.session) (in_session (set_session n b cs) k) ≡ cond x c.session (in_session cs k)
+    go true here true there rest = let same : (n == k) ≡ true = ap (λ i. i == k) (sym (eqb-true c.object.name n there)) ∙ here in absurd (false≢true (sym apart ∙ same))
+    go true here false there rest = refl
+    go false here y there rest = rest
+
+pub natives_set : (p : Image) (old new : Standing) (killed : List ℕ) (cs : List Cell) (o : Object) (b : Bool) → named cs o.name ≡ Some o → Sets old new o.name b → SameNatives p old cs killed → SameNatives p new (set_session o.name b cs) killed
+natives_set p old new killed cs o b lives set h = record {
+  sessions = λ n. by n (o.name == n) refl;
+  dead = set.killed ∙ h.dead;
+  limit = set.places ∙ h.limit;
+}
+  where
+    by : (n : ℕ) (x : Bool) → (o.name == n) ≡ x → is_open new n ≡ in_session (set_session o.name b cs) n
+    by n true same =
+        let is = eqb-true o.name n same in
+        ap (is_open new) (sym is) ∙ set.here ∙ sym (ap (in_session (set_session o.name b cs)) (sym is) ∙ session_here cs o.name b o lives)
+    by n false other = set.others n (λ e. eqb-false o.name n other (sym e)) ∙ h.sessions n ∙ sym (session_there cs o.name b n other)
+
+-- it changes no word and no count
+words_opened : (cs : List Cell) (n : ℕ) (b : Bool) (k w : ℕ) → word_field (set_session n b cs) k w ≡ word_field cs k w
+words_opened [] n b k w = refl
+words_opened (c ∷ cs) n b k w = ap (λ x. cond (c.object.name == k) (at (pos 0) c.words w) x) (words_opened cs n b k w)
+
+length_opened : (cs : List Cell) (n : ℕ) (b : Bool) → length (set_session n b cs) ≡ length cs
+length_opened [] n b = refl
+length_opened (c ∷ cs) n b = ap suc (length_opened cs n b)
+
+-- so the same cells live
+pub cells_resessioned : (p : Image) (h : Heap) (cs : List Cell) (home : Home) (b : Bool) → SameCells p h cs → SameCells p h (resessioned cs home b)
+cells_resessioned p h cs Static b same = same
+cells_resessioned p h cs AtRoot b same = same
+cells_resessioned p h cs (Inside o from) b same = record {
+  things = λ k. same.things k ∙ ap thing_of (sym ((resessioned_alike cs (Inside o from) b).named_so k));
+  words = λ k w. same.words k w ∙ sym (words_opened cs o.name b k w);
+  count = same.count ∙ sym (length_opened cs o.name b);
+  limit = same.limit;
+  wide = same.wide;
+  classes = same.classes;
+  null_is_none = same.null_is_none;
+  below = same.below;
+}
+
+-- a cell that goes has its session closed
+pub natives_gone : (p : Image) (old new : Standing) (killed : List ℕ) (cs : List Cell) (g : Place) (o : Object) → Tidy cs → held cs g ≡ Some o → Sets old new o.name false → SameNatives p old cs killed → SameNatives p new (without g cs) killed
+natives_gone p old new killed cs g o tidy holds shut h = record {
+  sessions = λ n. by n (o.name == n) refl;
+  dead = shut.killed ∙ h.dead;
+  limit = shut.places ∙ h.limit;
+}
+  where
+    by : (n : ℕ) (b : Bool) → (o.name == n) ≡ b → is_open new n ≡ in_session (without g cs) n
+    by n true same =
+        let is = eqb-true o.name n same in
+        ap (is_open new) (sym is) ∙ shut.here ∙ sym (ap (in_session (without g cs)) (sym is) ∙ unnamed_closed (without g cs) o.name (unnamed cs g o tidy holds))
+    by n false other = shut.others n (λ e. eqb-false o.name n other (sym e)) ∙ h.sessions n ∙ sym (session_without cs g o n tidy holds other)

@@ -1,0 +1,10 @@
+pub mod Counts
+pub mod Progress
+pub mod Places
+pub mod Cells
+pub mod Room
+pub mod Agrees
+pub mod Fields
+pub mod Waits
+pub mod Stands
+pub mod Boot
