@@ -1,7 +1,7 @@
 -- A native is killed: cell by cell, what each has outstanding there is completed and its session is over, and the machine then stands for
 -- the state that the checked machine goes to.
 use Rattle.std.proofs.Common.{ap, arith, Bool, cond, false, length, List, None, Option, pos, refl, Some, subst, suc, sym, true, ℕ, ◌++◌, ◌+◌, ◌<◌, ◌==◌, ◌∙◌, ◌∷◌, ◌≡◌, []}
-use Rattle.std.specs.Prelude.{◌&&◌, ◌||◌, IfSome, is_some, nat_lt, not}
+use Rattle.std.specs.Prelude.{◌&&◌, ◌||◌, is_some, nat_lt, not}
 use Rattle.std.proofs.lemmas.Bool.{and_parts, eqb-false, eqb-true, false≢true}
 use Rattle.aom_image.specs.Image.{Image}
 use Rattle.aom_cells.specs.Heap.{Heap, Lives, cell_at, class_at}
@@ -31,7 +31,6 @@ use Rattle.aom_parts.specs.Progress.{progress_by}
 use Rattle.aom_exec.specs.Serving.{Bereaves, KeepsOthers, serves_class}
 use Rattle.aom_parts.specs.Stands.{Machine, Stands, StandsFor}
 use Rattle.aom_exec.specs.Turns.{Takes}
-use Rattle.aom_acts.proofs.Finding.{class_fits}
 use Rattle.aom_exec.proofs.Served.{class_told, coded, untimed}
 use Rattle.aom_parts.proofs.Sessions.{unnamed_closed}
 use Rattle.aom_exec.proofs.Timers.{timers_same}

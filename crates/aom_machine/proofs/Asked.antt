@@ -1,25 +1,23 @@
 -- What a step asks fits the natives, and what is kept of them after the call and the step fits the state.
 use Rattle.std.proofs.Common.{◌≡◌, ◌<◌, ◌≤◌, ℤ, ℕ, zero, suc, Bool, true, false, cond, List, [], ◌∷◌, Option, Some, None, refl, sym, ap, subst, ◌∙◌, length, arith, slice_index_or}
-use Rattle.std.specs.Prelude.{is_some, not, IsSome, ◌&&◌, ◌||◌, ◌==◌, pred}
-use Rattle.std.proofs.lemmas.Bool.{and_parts, eqb-true, true≢false}
+use Rattle.std.specs.Prelude.{not, IsSome, ◌&&◌, ◌||◌, pred}
+use Rattle.std.proofs.lemmas.Bool.{and_parts, true≢false}
 use Rattle.aom_image.specs.Image.{Image}
 use Rattle.aom_image.specs.WellFormed.{WellFormed}
 use Rattle.aom_rules.specs.Typing.{Typing}
 use Rattle.aom_endings.specs.Endings.{one_where}
 use Rattle.aom_natives.specs.Owed.{IsNew, IsOwed, times}
 use Rattle.aom_natives.specs.Slots.{ids_at, living_at}
-use Rattle.aom_owed.specs.Owed.{Finds, FindsWell, SessionsHold, is_for, meets, owes, owes_after, serves, takes_on}
+use Rattle.aom_owed.specs.Owed.{Finds, FindsWell, is_for, meets, owes, owes_after, serves, takes_on}
 use Rattle.aom_owed.proofs.Calls.{for_one}
-use Rattle.aom_sessions.specs.Sessions.{is_open}
 use Rattle.aom_sound.specs.Natives.{is_dead}
 use Rattle.aom_sound.specs.Places.{in_session}
 use Rattle.aom_sound.specs.State.{State}
-use Rattle.aom_sound.specs.Wanted.{Wanted, Opens, Starts, Asks, Cancels, Closes, wanted}
-use Rattle.aom_parts.specs.Agrees.{Agrees}
+use Rattle.aom_sound.specs.Wanted.{Wanted, Opens, Starts, Asks, Cancels, Closes}
 use Rattle.aom_parts.specs.Stands.{Machine as Core, StandsFor as Core_stands}
 use Rattle.aom_machine.specs.Answers.{Asked, MayAsk, times_after}
 use Rattle.aom_machine.specs.Standing.{Serves}
-use Rattle.aom_machine.proofs.Moving.{Went, asks_well}
+use Rattle.aom_machine.proofs.Moving.{Went}
 use Rattle.aom_machine.proofs.Named.{at_most_one, few, serving_named}
 
 -- a cell with a session open has a number below 4,096

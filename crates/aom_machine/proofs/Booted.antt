@@ -1,5 +1,5 @@
 -- As a machine boots, its natives owe nothing.
-use Rattle.std.proofs.Common.{◌≡◌, ◌<◌, ◌≤◌, ℕ, zero, suc, Bool, false, true, List, [], ◌∷◌, Option, Some, None, refl, sym, ap, ◌∙◌, length, map, arith}
+use Rattle.std.proofs.Common.{◌≡◌, ◌<◌, ◌≤◌, ℕ, zero, suc, List, [], ◌∷◌, Option, Some, None, refl, sym, ap, ◌∙◌, length, map, arith}
 use Rattle.std.specs.Prelude.{option_map, IsSome}
 use Rattle.aom_image.specs.Image.{Image}
 use Rattle.aom_endings.specs.Endings.{one_where}

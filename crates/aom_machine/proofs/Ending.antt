@@ -1,26 +1,24 @@
 -- Natives that are killed, and those that are polled: which they are in the checked machine.
-use Rattle.std.proofs.Common.{◌≡◌, ◌<◌, ◌≤◌, ◌+◌, ◌-◌, ℤ, ℕ, suc, Bool, true, false, cond, List, [], ◌∷◌, ◌++◌, Option, Some, None, refl, sym, ap, subst, ◌∙◌, length, inl, inr, arith, nat_lt}
+use Rattle.std.proofs.Common.{◌≡◌, ◌<◌, ◌≤◌, ◌+◌, ◌-◌, ℤ, ℕ, suc, Bool, true, false, cond, List, [], ◌∷◌, Option, Some, None, refl, sym, ap, subst, ◌∙◌, length, inl, inr, arith, nat_lt}
 use Rattle.std.proofs.lemmas.List.{get_or_past, length-append}
 use Rattle.aom_transcript.specs.declared.line.Line.TheVariants.{Killed}
 use Rattle.std.specs.Prelude.{IfSome, IsSome, MatchOption, is_some, not, ◌&&◌, ◌==◌}
 use Rattle.std.proofs.lemmas.Bool.{cases_lt, le-ltb, lt-ltb, not-true, true≢false}
-use Rattle.aom_natives.specs.Owed.{TakesOut, times}
+use Rattle.aom_natives.specs.Owed.{TakesOut}
 use Rattle.aom_natives.specs.Slots.{KeepsOthers, ids_at, living_at}
 use Rattle.aom_natives.proofs.Ids.{same-out}
-use Rattle.aom_endings.specs.Endings.{one_where}
 use Rattle.aom_owed.specs.Owed.{has_name, owes}
 use Rattle.aom_sessions.specs.Sessions.{is_killed}
 use Rattle.aom_sound.specs.Natives.{is_dead}
-use Rattle.aom_sound.specs.Places.{Cell}
 use Rattle.aom_sound.specs.State.{Rest, State}
-use Rattle.aom_sound.specs.World.{AnswersWell, Completion, Hears, Kills, Outside, Polls, Turning, cell_at, delivers, first_living, lives}
+use Rattle.aom_sound.specs.World.{AnswersWell, Completion, Hears, Kills, Outside, Polls, cell_at, delivers, first_living, lives}
 use Rattle.aom_transcript.specs.declared.event.Event.TheVariants.{Kill}
 use Rattle.aom_lines.specs.Turn.{Turn}
 use Rattle.aom_parts.specs.Stands.{Machine as Core, StandsFor as Core_stands}
 use Rattle.aom_exec.specs.Turns.{Answers, Takes as Core_takes}
 use Rattle.aom_machine.specs.declared.machine.Machine.{Machine}
-use Rattle.aom_machine.specs.Calls.{Delivered, Polled, StandsFor, Takes, natives_of}
-use Rattle.aom_machine.specs.Standing.{KeptSame, Serves}
+use Rattle.aom_machine.specs.Calls.{Delivered, StandsFor, Takes, natives_of}
+use Rattle.aom_machine.specs.Standing.{KeptSame}
 use Rattle.aom_machine.proofs.Asked.{one_there}
 use Rattle.aom_machine.proofs.Named.{there}
 use Rattle.aom_machine.proofs.Serving.{heard_plain, kept_but, serves_completed, serves_killed, tale_of, takes_plainly, takes_so, untouched}

@@ -6,7 +6,6 @@ use Rattle.std.proofs.lemmas.List.Folds.{list_any-append}
 use Rattle.aom_natives.proofs.Ids.{same-out}
 use Rattle.aom_machine.proofs.Named.{at_most_one, elsewhere, there, turned_false}
 use Rattle.aom_image.specs.Image.{Image}
-use Rattle.aom_rules.specs.Typing.{Typing}
 use Rattle.aom_endings.specs.Endings.{one_where}
 use Rattle.aom_natives.specs.Owed.{TakesOut, times}
 use Rattle.aom_natives.specs.Slots.{KeepsOthers, ids_at, ids_of, living_at}
@@ -15,7 +14,6 @@ use Rattle.aom_owed.proofs.Found.{IsAbout}
 use Rattle.aom_owed.proofs.Turns.{Tale, sessions_turned, told}
 use Rattle.aom_sound.specs.Natives.{is_dead}
 use Rattle.aom_sound.specs.State.{Rest, State}
-use Rattle.aom_sound.specs.WellTyped.{WellTyped}
 use Rattle.aom_sound.specs.World.{AnswersWell, Completes, Completion, Cuts, Hears, Kills, Passes, Picks, Polls, Turning, Waits, cell_at}
 use Rattle.aom_lines.specs.Turn.{Turn}
 use Rattle.aom_parts.specs.Stands.{Machine as Core, StandsFor as Core_stands}

@@ -1,10 +1,9 @@
 -- What the calls of a machine with natives do, from each state that it stands for.
-use Rattle.std.specs.Prelude.{ℕ, ℤ, ◌≡◌, ◌<◌, ◌≤◌, ◌-◌, ◌++◌, Bool, true, false, List, [], ◌∷◌, length, Option, Some, None}
+use Rattle.std.specs.Prelude.{ℕ, ℤ, ◌≡◌, ◌≤◌, ◌-◌, ◌++◌, Bool, true, false, List, length, Option, Some, None}
 use Rattle.aom_lines.specs.Turn.{Turn}
 use Rattle.aom_transcript.specs.declared.event.Event.{Event}
 use Rattle.aom_transcript.specs.declared.line.Line.{Line}
 use Rattle.aom_sound.specs.State.{Goes, State}
-use Rattle.aom_sound.specs.Wanted.{wanted}
 use Rattle.aom_sound.specs.World.{AnswersWell, Candidate, Completes, Completion, IsBetween, Outside, Picks, Polls, Timed, Turning, delivers, first_due, first_living, first_ready, has_signal, turned, written_by}
 use Rattle.aom_parts.specs.declared.progress.Progress.{Progress}
 use Rattle.aom_parts.specs.Progress.{progress_of}

@@ -1,4 +1,4 @@
-use Rattle.std.proofs.Common.{rules, ◌≡◌, ◌<◌, ◌≤◌, length, sym, subst, ap, ◌∙◌, arith}
+use Rattle.std.proofs.Common.{rules, ◌<◌, ◌≤◌, length, sym, subst, arith}
 use Rattle.aom_sound.specs.World.{boot_state}
 use Rattle.aom_machine.specs.Standing.{Serves}
 use Rattle.aom_machine.proofs.Booted.{count, serves_at_boot}

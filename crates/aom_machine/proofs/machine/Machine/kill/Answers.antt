@@ -1,5 +1,4 @@
-use Rattle.std.proofs.Common.{◌∙◌, sym, ap, length}
-use Rattle.aom_lines.specs.Turn.{Turn}
+use Rattle.std.proofs.Common.{◌∙◌, sym}
 use Rattle.aom_machine.proofs.Serving.{none_due_still}
 use Rattle.aom_machine.proofs.Ending.{kills_nothing, kills_one, line_more}
 use Rattle.aom_machine.proofs.machine.Machine.kill.Goals as goal

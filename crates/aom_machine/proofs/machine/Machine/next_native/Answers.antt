@@ -1,4 +1,4 @@
-use Rattle.std.proofs.Common.{rules, ◌≡◌, ◌<◌, ◌≤◌, ◌∙◌, sym, arith}
+use Rattle.std.proofs.Common.{rules, ◌<◌, ◌≤◌, ◌∙◌, sym, arith}
 use Rattle.aom_machine.specs.Calls.{natives_of}
 use Rattle.aom_machine.proofs.Ending.{first_here, first_later, first_none, from_polled, is_alive_so, is_dead_so}
 use Rattle.aom_machine.proofs.machine.Machine.next_native.Goals as goal

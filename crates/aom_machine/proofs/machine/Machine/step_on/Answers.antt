@@ -1,4 +1,4 @@
-use Rattle.std.proofs.Common.{◌≡◌, ◌<◌, ◌∙◌, ap, subst, sym, refl}
+use Rattle.std.proofs.Common.{◌<◌, ap, subst, refl}
 use Rattle.aom_parts.specs.Stands.{Machine as Core}
 use Rattle.aom_exec.specs.Steps.{rank}
 use Rattle.aom_machine.proofs.Stepped.{stepped_on}
