@@ -1,0 +1,14 @@
+use Rattle.std.proofs.Common.{◌≡◌, Some, sym, ap, ◌∙◌}
+use Rattle.aom_queues.specs.Lists.{with_list, list_at, first_of}
+use Rattle.aom_queues.proofs.Rings.{without-first, first-in}
+use Rattle.aom_queues.proofs.lists.Lists.take_first.Goals as goal
+
+pub unlink-requires : goal.unlink-requires
+unlink-requires c =
+    let first : first_of (list_at c.args.self.now c.args.list) ≡ Some c.in_ok-node.node = sym c.first.ensures ∙ c.in_ok-node.was in
+    first-in (list_at c.args.self.now c.args.list) c.in_ok-node.node first
+
+pub returns-clause-rest : goal.returns-clause-rest
+returns-clause-rest c =
+    let first : first_of (list_at c.args.self.now c.args.list) ≡ Some c.in_ok-node.node = sym c.first.ensures ∙ c.in_ok-node.was in
+    c.unlink.ensures ∙ ap (λ xs. with_list c.args.list xs c.args.self.now) (without-first (list_at c.args.self.now c.args.list) c.in_ok-node.node (c.in_order.ensures.once c.args.list) first)
