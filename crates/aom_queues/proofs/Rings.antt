@@ -429,3 +429,14 @@ first-in (y ∷ ys) x e = inl (same_Some y x e)
 pub first-none : (xs : List ℕ) → first_of xs ≡ None → rest_of xs ≡ xs
 first-none [] e = refl
 first-none (y ∷ ys) e = absurd (cc)
+
+-- a node that was taken out is in no list
+pub free-without : (t : Table) (x : ℕ) → IsFree (record t { lists = map (without x) t.lists }) x
+free-without t x = record { nowhere = λ l i. go l (cases_lt l (length t.lists)) i }
+  where
+    cases_lt : (m n : ℕ) → (m < n) ⊎ (n ≤ m)
+    cases_lt m n = grind arith
+
+    go : (l : ℕ) → (l < length t.lists) ⊎ (length t.lists ≤ l) → IsIn x (at (map (without x) t.lists) l) → ⊥
+    go l (inl small) i = (in-without x x (list_at t l) (subst (IsIn x) (get_or-map (without x) t.lists l [] [] small) i)).0 refl
+    go l (inr large) i = elim (subst (IsIn x) (get_or_past (map (without x) t.lists) l [] (omega (arith, large, length-map t.lists (without x)))) i) [ ]

@@ -111,6 +111,7 @@ impl Lists {
         requires { list < length self.old.lists }
         ensures first { result ≡ first_of (list_at self.old list) }
         ensures rest { self.new ≡ with_list list (rest_of (list_at self.old list)) self.old }
+        ensures free { IfSome result (λ node. IsFree self.new node) }
     {
         self.in_order();
         let node = self.first(list)?;
@@ -120,7 +121,8 @@ impl Lists {
 
     /// Takes the node out of the list that it is in, if it is in one.
     pub fn remove(&mut self, node: u16)
-        ensures { self.new ≡ record self.old { lists = map (without node) self.old.lists } }
+        ensures removed { self.new ≡ record self.old { lists = map (without node) self.old.lists } }
+        ensures free { IsFree self.new node }
     {
         self.in_order();
         if let Some(list) = self.home(node) {
