@@ -94,7 +94,7 @@ module _ (A B : List ℕ) (H : List (Option ℕ)) (C : List ℕ) (lists : List (
   sound = record { below = node-below; apart = apart; once = r.once }
 
 -- a node of the list after a write to one list
-at-set-cases : (lists : List (List ℕ)) (l m : ℕ) (xs : List ℕ) (x : ℕ) → l < length lists → IsIn x (at (slice_set lists l xs) m)
+pub at-set-cases : (lists : List (List ℕ)) (l m : ℕ) (xs : List ℕ) (x : ℕ) → l < length lists → IsIn x (at (slice_set lists l xs) m)
     → ((m ≡ l) × IsIn x xs) ⊎ ((m ≢ l) × IsIn x (at lists m))
 at-set-cases lists l m xs x small i = go (cases_eq m l)
   where
@@ -103,7 +103,7 @@ at-set-cases lists l m xs x small i = go (cases_eq m l)
     go (inr other) = inr (other, subst (IsIn x) (get_or-set_other lists l m xs [] other) i)
 
 -- what holds of the list that was written and of all others holds of each
-at-set : (P : ℕ → List ℕ → Type 0) (lists : List (List ℕ)) (l : ℕ) (xs : List ℕ) → l < length lists → P l xs
+pub at-set : (P : ℕ → List ℕ → Type 0) (lists : List (List ℕ)) (l : ℕ) (xs : List ℕ) → l < length lists → P l xs
     → ((m : ℕ) → m ≢ l → P m (at lists m)) → (m : ℕ) → P m (at (slice_set lists l xs) m)
 at-set P lists l xs small here others m = go (cases_eq m l)
   where

@@ -111,6 +111,7 @@ impl Lists {
         requires { list < length self.old.lists }
         ensures first { result ≡ first_of (list_at self.old list) }
         ensures rest { self.new ≡ with_list list (rest_of (list_at self.old list)) self.old }
+        ensures below { IfSome result (λ node. node < self.old.nodes) }
         ensures free { IfSome result (λ node. IsFree self.new node) }
     {
         self.in_order();

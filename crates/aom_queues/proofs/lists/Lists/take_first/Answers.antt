@@ -20,3 +20,8 @@ returns-clause-free c =
     let there = first-in (list_at c.args.self.now c.args.list) c.in_ok-node.node first in
     subst (λ (t : Table). IsFree t c.in_ok-node.node) (sym (c.unlink.ensures ∙ without-one c.args.self.now c.args.list c.in_ok-node.node c.in_order.ensures there))
     (free-without c.args.self.now c.in_ok-node.node)
+
+pub returns-clause-below : goal.returns-clause-below
+returns-clause-below c =
+    let first : first_of (list_at c.args.self.now c.args.list) ≡ Some c.in_ok-node.node = sym c.first.ensures ∙ c.in_ok-node.was in
+    c.in_order.ensures.below c.in_ok-node.node c.args.list (first-in (list_at c.args.self.now c.args.list) c.in_ok-node.node first)
