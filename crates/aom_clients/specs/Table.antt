@@ -26,7 +26,13 @@ pub record Row : Type 0 where
 abbrev row_of : Option Refusal → Option Refusal → Option Client → Option Client → Row
 row_of connect send close die = record { connect = connect; send = send; close = close; die = die }
 
--- the table                                connect            send                     close                    die
+-- | at            | connect       | send               | close          | die   |
+-- | Unconnected   | asks a server | NotFound           | nothing        | Dead  |
+-- | Connecting    | ServerBusy    | ServerBusy         | Unconnected    | Dead  |
+-- | Open          | ServerBusy    | asks for a slot    | Closing        | Dying |
+-- | Closing       | ServerBusy    | ServerBusy         | nothing        | Dying |
+-- | Gone          | asks a server | ServerTerminated   | Unconnected    | Dead  |
+-- | Dead, Dying   | Died          | Died               | nothing        | nothing |
 abbrev pub row : Client → Row
 row Unconnected = row_of None (Some NotFound) None (Some Dead)
 row (Connecting server slots) = row_of (Some ServerBusy) (Some ServerBusy) (Some Unconnected) (Some Dead)

@@ -1,5 +1,5 @@
 //! The calls.
-ghost use Rattle.std.specs.Prelude.{◌≡◌, ◌<◌, ◌≤◌, ◌++◌, ◌∷◌, [], true, Some, None, IfOk, IfSome, IsSome, length, replicate, is_some};
+ghost use Rattle.std.specs.Prelude.{◌≡◌, ◌<◌, ◌≤◌, ◌++◌, ◌∷◌, [], true, false, Some, None, IfOk, IfSome, IsSome, IsNone, length, replicate, is_some};
 ghost use Rattle.aom_clients.specs.Table.{row, completion, session_of, server_of};
 ghost use Rattle.aom_clients.specs.Clients.{at_first, client_at, place_at, queue_at, sessions_at, sent_at, with_client, with_place, with_sent, queued, answer, has_room, connect_refusal, after_connect, has_slot, send_refusal, after_send, leaving, after_close, after_die, freed, first_entry, after_next, opened, after_connected, parted, after_closed, after_complete, after_next_gone, after_session_gone, first_client, client_after};
 ghost use Rattle.aom_clients.specs.Nodes.{is_open_at};
@@ -62,6 +62,13 @@ impl Clients {
         })
     }
 
+    /// The number below which the cells of servers are.
+    pub fn cells(&self) -> usize
+        ensures { result ≡ length self.now.queues }
+    {
+        self.queues.lists()
+    }
+
     /// What a client is at.
     pub fn client(&self, client: u8) -> Client
         requires { client < 64 }
@@ -89,7 +96,8 @@ impl Clients {
     /// Whether anything waits in the server's queue.
     pub fn is_queued(&self, server: u16) -> bool
         requires { server < length self.now.queues }
-        ensures { result ≡ is_some (first_entry self.now (queue_at self.now server)) }
+        ensures value { result ≡ is_some (first_entry self.now (queue_at self.now server)) }
+        ensures empty { result ≡ false → queue_at self.now server ≡ [] }
     {
         self.queues.count(server) > 0
     }
@@ -364,6 +372,7 @@ impl Clients {
         requires { server < length self.old.queues }
         ensures taken { result ≡ first_entry self.old (queue_at self.old server) }
         ensures after { self.new ≡ after_next_gone server self.old }
+        ensures empty { IsNone result → queue_at self.new server ≡ [] }
     {
         let node = self.queues.take_first(server)?;
         let entry = Entry::of_node(node);

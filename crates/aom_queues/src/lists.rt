@@ -56,6 +56,20 @@ impl Lists {
         let _ = &self.after;
     }
 
+    /// How many lists there are.
+    pub fn lists(&self) -> usize
+        ensures { result ≡ length self.now.lists }
+    {
+        self.counts.len()
+    }
+
+    /// The number below which nodes are.
+    pub fn nodes(&self) -> usize
+        ensures { result ≡ self.now.nodes }
+    {
+        self.homes.len()
+    }
+
     /// How many nodes the list has.
     pub fn count(&self, list: u16) -> u16
         requires { list < length self.now.lists }

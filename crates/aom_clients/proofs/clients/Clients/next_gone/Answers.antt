@@ -6,7 +6,7 @@ use Rattle.aom_clients.specs.Nodes.{entry_of}
 use Rattle.aom_clients.specs.Parts.{MessageBelow, ConnectBelow, given_up, place_freed}
 use Rattle.aom_clients.proofs.Same.{kept-as, state-as, written}
 use Rattle.aom_clients.proofs.clients.Clients.next_gone.Goals as goal
-use Rattle.aom_clients.specs.Clients.{first_entry, gone}
+use Rattle.aom_clients.specs.Clients.{first_entry, gone, queue_at}
 use Rattle.aom_clients.specs.Parts.{client_in}
 use Rattle.aom_clients.proofs.Services.{none-taken, queue-none, message-below, connect-below, taken-is, gone-kept, gone-seen}
 
@@ -101,3 +101,9 @@ returns-clause-after c =
     let clients = written w.len w.items c.give_up.new.clients many ∙ c.give_up.ensures ∙ ap (given_up c.of_node-entry.result) c.deref_mut.ensures.value in
     state-as _ _ _ _ _ c.take_first.new.self _ c.self.inside.sessions _ c.free_slot.new.sent clients places c.take_first.ensures.rest refl c.free_slot.ensures
     ∙ gone-seen _ _ _ _ _ _ c.self.invariant _ c.self.view_is c.args.server n c.requires first small free c.of_node-entry.result c.of_node-entry.ensures
+
+pub returns-in_err-node-clause-empty : goal.returns-in_err-node-clause-empty
+returns-in_err-node-clause-empty c = λ _.
+    let none = queue-none _ _ _ _ _ _ c.self.invariant _ c.self.view_is c.args.server c.in_err-node.ensures.first in
+    let same = c.take_first.ensures.rest ∙ none-taken c.self.inside.queues c.args.server c.in_err-node.ensures.first in
+    ap (λ s. queue_at s c.args.server) (state-as _ _ _ _ _ c.take_first.new.self _ c.self.inside.sessions _ c.self.inside.sent refl refl same refl refl ∙ c.self.view_is) ∙ none
