@@ -174,5 +174,6 @@ shown-first zero = refl
 shown-first (suc n) = ap (λ es. no_entry ∷ es) (shown-first n)
 
 pub at-first-seen : (cells : ℕ) → state_of all_clients all_places (empty 1152 cells) (empty 64 cells) (empty 1024 128) ≡ at_first cells
+unfolding at_first
 at-first-seen cells =
     ap (λ qs. record { clients = all_clients; places = all_places; queues = qs; sessions = list_of cells; sent = list_of 64 }) (shown-first cells)

@@ -10,3 +10,4 @@ pub mod Departures
 pub mod Draining
 pub mod Same
 pub mod Answering
+mod Examples

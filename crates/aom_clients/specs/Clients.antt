@@ -22,7 +22,7 @@ pub record State : Type 0 where
   pub sent : List (List ℕ)
 
 -- nobody asked for anything yet; so many cells may be servers
-abbrev pub at_first : ℕ → State
+unfoldable pub at_first : ℕ → State
 at_first cells =
     record { clients = replicate 64 Unconnected; places = replicate 1024 Free; queues = replicate cells []; sessions = replicate cells []; sent = replicate 64 [] }
 

@@ -36,7 +36,7 @@ pub enum Client {
 
 impl Client {
     /// Why a connect is refused whatever the server says.
-    pub fn connect_refusal(self) -> Option<Refusal>
+    pub(crate) fn connect_refusal(self) -> Option<Refusal>
         ensures { result ≡ (row self).connect }
     {
         match self {
@@ -49,7 +49,7 @@ impl Client {
     }
 
     /// Why a send is refused whatever room there is.
-    pub fn send_refusal(self) -> Option<Refusal>
+    pub(crate) fn send_refusal(self) -> Option<Refusal>
         ensures { result ≡ (row self).send }
     {
         match self {
@@ -62,7 +62,7 @@ impl Client {
     }
 
     /// What it is at after a close that does anything.
-    pub fn closed(self) -> Option<Client>
+    pub(crate) fn closed(self) -> Option<Client>
         ensures { result ≡ (row self).close }
     {
         match self {
@@ -78,7 +78,7 @@ impl Client {
     }
 
     /// What it is at after its death, if it lived.
-    pub fn dead(self) -> Option<Client>
+    pub(crate) fn dead(self) -> Option<Client>
         ensures { result ≡ (row self).die }
     {
         match self {
@@ -94,7 +94,7 @@ impl Client {
     }
 
     /// What it is at once the server of its session went.
-    pub fn at_gone(self) -> Client
+    pub(crate) fn at_gone(self) -> Client
         ensures { result ≡ at_gone self }
     {
         match self {

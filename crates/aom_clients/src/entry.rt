@@ -26,7 +26,7 @@ pub const PLACES: u16 = 1024;
 
 impl Entry {
     /// The entry that a node stands for: a place's number is that of its message, and each client has two nodes after these.
-    pub fn of_node(node: u16) -> Entry
+    pub(crate) fn of_node(node: u16) -> Entry
         requires { node < 1152 }
         ensures { result ≡ entry_of node }
     {

@@ -33,14 +33,14 @@ impl Place {
         }
     }
 
-    pub fn is_queued(self) -> bool
+    pub(crate) fn is_queued(self) -> bool
         ensures { result ≡ is_queued self }
     {
         matches!(self, Place::Queued { .. })
     }
 
     /// What is left of it when its client closes or dies.
-    pub fn closed(self) -> Place
+    pub(crate) fn closed(self) -> Place
         ensures { result ≡ closed_place self }
     {
         match self {
@@ -51,7 +51,7 @@ impl Place {
     }
 
     /// What is made of it when it is taken from its queue.
-    pub fn held(self) -> Place
+    pub(crate) fn held(self) -> Place
         ensures { result ≡ held_place self }
     {
         match self {

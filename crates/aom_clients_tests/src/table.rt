@@ -1,13 +1,31 @@
-//! Each command in each state.
+//! Each command, and each part of a service, in each state.
 use crate::calls::{
-    all_gone, at, close, closed, connect, connect_nowhere, connected, die, next, next_kind, open,
-    send, send_nowhere,
+    all_gone, at, close, closed, connect, connect_nowhere, connected, die, next, open, send,
+    send_nowhere,
 };
 use aom_clients::{Client, Clients};
+use std::alloc::{AllocError, Global};
 use std::test::Fail;
 
 /// The cell of the server of these tests.
 const SERVER: u16 = 7;
+
+/// What client 3, or its server, does.
+#[derive(Clone, Copy)]
+enum Command {
+    Look,
+    ConnectNowhere,
+    ConnectToFull,
+    Connect,
+    Send,
+    SendNowhere,
+    Close,
+    Die,
+    ServeWithSession,
+    ServeWithNone,
+    ServeClose,
+    ServerGoes,
+}
 
 /// Brings client 3 into a state: 0 unconnected, 1 connecting, 2 open with two slots, 3 closing, 4 gone, 5 dead, 6 dying.
 fn bring(clients: &mut Clients, state: u8) {
@@ -43,132 +61,128 @@ fn state(clients: &Clients) -> u8 {
     }
 }
 
+/// The code that is told, if the command has one.
+fn make(clients: &mut Clients, command: Command) -> i32 {
+    match command {
+        Command::Look => 0,
+        Command::ConnectNowhere => connect_nowhere(clients, 3),
+        Command::ConnectToFull => connect(clients, 3, SERVER, 0, 2),
+        Command::Connect => connect(clients, 3, SERVER, 4, 2),
+        Command::Send => send(clients, 3, 100),
+        Command::SendNowhere => send_nowhere(clients, 3),
+        Command::Close => {
+            close(clients, 3);
+            0
+        }
+        Command::Die => {
+            die(clients, 3);
+            0
+        }
+        Command::ServeWithSession => {
+            next(clients, SERVER);
+            connected(clients, 3, Some(9));
+            0
+        }
+        Command::ServeWithNone => {
+            next(clients, SERVER);
+            connected(clients, 3, None);
+            0
+        }
+        Command::ServeClose => {
+            next(clients, SERVER);
+            closed(clients, 3);
+            0
+        }
+        Command::ServerGoes => {
+            all_gone(clients, SERVER);
+            0
+        }
+    }
+}
+
+/// The codes of a command in the seven states, and what the client is at then.
+fn column(alloc: Global, command: Command) -> Result<([i32; 7], [u8; 7]), AllocError> {
+    let mut codes = [0; 7];
+    let mut ends = [0; 7];
+    for start in 0..7u8 {
+        let mut clients = Clients::with_limit(alloc, 16)?;
+        bring(&mut clients, start);
+        codes[start as usize] = make(&mut clients, command);
+        ends[start as usize] = state(&clients);
+    }
+    Ok((codes, ends))
+}
+
 #[test]
 fn each_state_can_be_had(rt: HostRuntime) -> Result<(), Fail> {
-    for wanted in 0..7 {
-        let mut clients = Clients::with_limit(rt.alloc(), 16)?;
-        bring(&mut clients, wanted);
-        assert_eq!(rt; state(&clients), wanted);
-        assert_eq!(rt; clients.cells(), 16);
-    }
+    let (_, ends) = column(rt.alloc(), Command::Look)?;
+    assert_eq!(rt; ends, [0, 1, 2, 3, 4, 5, 6]);
+    Ok(())
+}
+
+#[test]
+fn connect_where_no_server_is_there(rt: HostRuntime) -> Result<(), Fail> {
+    let (codes, ends) = column(rt.alloc(), Command::ConnectNowhere)?;
+    assert_eq!(rt; codes, [-1, -16, -16, -16, -1, -13, -13]);
+    assert_eq!(rt; ends, [0, 1, 2, 3, 4, 5, 6]);
+    Ok(())
+}
+
+#[test]
+fn connect_to_a_server_that_is_full(rt: HostRuntime) -> Result<(), Fail> {
+    let (codes, ends) = column(rt.alloc(), Command::ConnectToFull)?;
+    assert_eq!(rt; codes, [-16, -16, -16, -16, -16, -13, -13]);
+    assert_eq!(rt; ends, [0, 1, 2, 3, 4, 5, 6]);
     Ok(())
 }
 
 #[test]
 fn connect_in_each_state(rt: HostRuntime) -> Result<(), Fail> {
-    for (start, nowhere, full, code, end) in [
-        (0, -1, -16, 0, 1),
-        (1, -16, -16, -16, 1),
-        (2, -16, -16, -16, 2),
-        (3, -16, -16, -16, 3),
-        (4, -1, -16, 0, 1),
-        (5, -13, -13, -13, 5),
-        (6, -13, -13, -13, 6),
-    ] {
-        let mut clients = Clients::with_limit(rt.alloc(), 16)?;
-        bring(&mut clients, start);
-        assert_eq!(rt; connect_nowhere(&mut clients, 3), nowhere);
-        assert_eq!(rt; state(&clients), start);
-        assert_eq!(rt; connect(&mut clients, 3, SERVER, 0, 2), full);
-        assert_eq!(rt; state(&clients), start);
-        assert_eq!(rt; connect(&mut clients, 3, SERVER, 4, 2), code);
-        assert_eq!(rt; state(&clients), end);
-    }
+    let (codes, ends) = column(rt.alloc(), Command::Connect)?;
+    assert_eq!(rt; codes, [0, -16, -16, -16, 0, -13, -13]);
+    assert_eq!(rt; ends, [1, 1, 2, 3, 1, 5, 6]);
     Ok(())
 }
 
 #[test]
 fn send_in_each_state(rt: HostRuntime) -> Result<(), Fail> {
-    for (start, code) in [
-        (0, -1),
-        (1, -16),
-        (2, 0),
-        (3, -16),
-        (4, -15),
-        (5, -13),
-        (6, -13),
-    ] {
-        let mut clients = Clients::with_limit(rt.alloc(), 16)?;
-        bring(&mut clients, start);
-        assert_eq!(rt; send(&mut clients, 3, 100), code);
-        assert_eq!(rt; state(&clients), start);
-    }
+    let (codes, ends) = column(rt.alloc(), Command::Send)?;
+    assert_eq!(rt; codes, [-1, -16, 0, -16, -15, -13, -13]);
+    assert_eq!(rt; ends, [0, 1, 2, 3, 4, 5, 6]);
     Ok(())
 }
 
 #[test]
-fn close_in_each_state(rt: HostRuntime) -> Result<(), Fail> {
-    for (start, end) in [(0, 0), (1, 0), (2, 3), (3, 3), (4, 0), (5, 5), (6, 6)] {
-        let mut clients = Clients::with_limit(rt.alloc(), 16)?;
-        bring(&mut clients, start);
-        assert_eq!(rt; close(&mut clients, 3), 0);
-        assert_eq!(rt; state(&clients), end);
-    }
+fn send_where_no_place_is_free(rt: HostRuntime) -> Result<(), Fail> {
+    let (codes, ends) = column(rt.alloc(), Command::SendNowhere)?;
+    assert_eq!(rt; codes, [-1, -16, -16, -16, -15, -13, -13]);
+    assert_eq!(rt; ends, [0, 1, 2, 3, 4, 5, 6]);
     Ok(())
 }
 
 #[test]
-fn die_in_each_state(rt: HostRuntime) -> Result<(), Fail> {
-    for (start, end) in [(0, 5), (1, 5), (2, 6), (3, 6), (4, 5), (5, 5), (6, 6)] {
-        let mut clients = Clients::with_limit(rt.alloc(), 16)?;
-        bring(&mut clients, start);
-        assert_eq!(rt; die(&mut clients, 3), 0);
-        assert_eq!(rt; state(&clients), end);
-    }
+fn close_and_die_in_each_state(rt: HostRuntime) -> Result<(), Fail> {
+    let (_, ends) = column(rt.alloc(), Command::Close)?;
+    assert_eq!(rt; ends, [0, 0, 3, 3, 0, 5, 6]);
+    let (_, ends) = column(rt.alloc(), Command::Die)?;
+    assert_eq!(rt; ends, [5, 5, 6, 6, 5, 5, 6]);
     Ok(())
 }
 
 #[test]
 fn a_service_in_each_state(rt: HostRuntime) -> Result<(), Fail> {
-    for (start, with, without, after) in [
-        (0, 0, 0, 0),
-        (1, 2, 0, 1),
-        (2, 2, 2, 2),
-        (3, 3, 3, 0),
-        (4, 4, 4, 4),
-        (5, 5, 5, 5),
-        (6, 6, 6, 5),
-    ] {
-        let mut clients = Clients::with_limit(rt.alloc(), 16)?;
-        bring(&mut clients, start);
-        next(&mut clients, SERVER);
-        connected(&mut clients, 3, Some(9));
-        assert_eq!(rt; state(&clients), with);
-        let mut clients = Clients::with_limit(rt.alloc(), 16)?;
-        bring(&mut clients, start);
-        next(&mut clients, SERVER);
-        connected(&mut clients, 3, None);
-        assert_eq!(rt; state(&clients), without);
-        let mut clients = Clients::with_limit(rt.alloc(), 16)?;
-        bring(&mut clients, start);
-        next(&mut clients, SERVER);
-        closed(&mut clients, 3);
-        assert_eq!(rt; state(&clients), after);
-    }
+    let (_, ends) = column(rt.alloc(), Command::ServeWithSession)?;
+    assert_eq!(rt; ends, [0, 2, 2, 3, 4, 5, 6]);
+    let (_, ends) = column(rt.alloc(), Command::ServeWithNone)?;
+    assert_eq!(rt; ends, [0, 0, 2, 3, 4, 5, 6]);
+    let (_, ends) = column(rt.alloc(), Command::ServeClose)?;
+    assert_eq!(rt; ends, [0, 1, 2, 0, 4, 5, 5]);
     Ok(())
 }
 
 #[test]
 fn a_server_goes_in_each_state(rt: HostRuntime) -> Result<(), Fail> {
-    for (start, end) in [(0, 0), (1, 0), (2, 4), (3, 0), (4, 4), (5, 5), (6, 5)] {
-        let mut clients = Clients::with_limit(rt.alloc(), 16)?;
-        bring(&mut clients, start);
-        all_gone(&mut clients, SERVER);
-        assert_eq!(rt; state(&clients), end);
-        assert_eq!(rt; next_kind(&mut clients, SERVER), (0, 0));
-    }
-    Ok(())
-}
-
-#[test]
-fn slots_and_places_run_out(rt: HostRuntime) -> Result<(), Fail> {
-    let mut clients = Clients::with_limit(rt.alloc(), 16)?;
-    bring(&mut clients, 2);
-    assert_eq!(rt; send_nowhere(&mut clients, 3), -16);
-    assert_eq!(rt; send(&mut clients, 3, 1), 0);
-    assert_eq!(rt; send(&mut clients, 3, 2), 0);
-    assert_eq!(rt; send(&mut clients, 3, 3), -16);
-    next(&mut clients, SERVER);
-    assert_eq!(rt; send(&mut clients, 3, 3), -16);
+    let (_, ends) = column(rt.alloc(), Command::ServerGoes)?;
+    assert_eq!(rt; ends, [0, 0, 4, 0, 4, 5, 5]);
     Ok(())
 }
