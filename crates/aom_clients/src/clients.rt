@@ -74,7 +74,8 @@ impl Clients {
         requires { client < 64 }
         ensures { result ≡ client_at self.now client }
     {
-        self.clients[client as usize]
+        let at = client as usize;
+        self.clients[at]
     }
 
     /// What a message place has.
@@ -82,7 +83,8 @@ impl Clients {
         requires { place < 1024 }
         ensures { result ≡ place_at self.now place }
     {
-        self.places[place as usize]
+        let at = place as usize;
+        self.places[at]
     }
 
     /// The cell of a client's session.

@@ -63,19 +63,13 @@ impl Lists {
         self.counts.len()
     }
 
-    /// The number below which nodes are.
-    pub fn nodes(&self) -> usize
-        ensures { result ≡ self.now.nodes }
-    {
-        self.homes.len()
-    }
-
     /// How many nodes the list has.
     pub fn count(&self, list: u16) -> u16
         requires { list < length self.now.lists }
         ensures { result ≡ length (list_at self.now list) }
     {
-        self.counts[list as usize]
+        let place = list as usize;
+        self.counts[place]
     }
 
     /// The list that the node is in.
