@@ -1,0 +1,179 @@
+-- What reads answer, and the lists at first.
+use Rattle.std.proofs.Common.{◌≡◌, ◌≢◌, ◌<◌, ◌≤◌, ◌+◌, ◌⊎◌, ◌==◌, ℕ, zero, suc, Bool, true, false, cond, List, [], ◌∷◌, Some, None, length, replicate, get_or, refl, sym, ap, ◌∙◌, subst, inl, inr, arith}
+use Rattle.std.specs.Prelude.{map, filter, slice_index_or, nat_lt}
+use Rattle.std.proofs.lemmas.Bool.{cases_eq, eq-eqb, ne_eqb, cond-true, cond-false}
+use Rattle.std.proofs.lemmas.Option.{same_Some}
+use Rattle.std.proofs.lemmas.List.{length-replicate, get_or_past}
+use Rattle.aom_queues.specs.Lists.{Table, IsIn, empty, list_at, first_of, after_node}
+use Rattle.aom_clients.specs.declared.client.Client.{Client}
+use Rattle.aom_clients.specs.declared.client.Client.TheVariants.{Unconnected, Connecting, Open, Closing, Gone, Dead, Dying}
+use Rattle.aom_clients.specs.declared.place.Place.{Place}
+use Rattle.aom_clients.specs.declared.place.Place.TheVariants.{Free, Queued, Held, Discarded}
+use Rattle.aom_clients.specs.declared.entry.Entry.{Entry}
+use Rattle.aom_clients.specs.Table.{server_of}
+use Rattle.aom_clients.specs.Clients.{State, at_first, client_at, queue_at, sessions_at, sent_at, has_slot, sending_to, is_connect, first_client, client_after}
+use Rattle.aom_clients.specs.Nodes.{entry_of, connecting_in, slots_of, named_by, state_of, IsKept}
+use Rattle.aom_clients.proofs.Entries.{connects-counted}
+use Rattle.aom_clients.proofs.Steps.{client, nothing, false-true, cases_lt, client-is, queue-is}
+
+less : (m n : ℕ) → nat_lt m n ≡ true → m < n
+less m n h = grind arith
+
+-- a send that is not refused has a slot
+pub slot-taken : (b : Bool) (m : ℕ) → sending_to None b (Some m) ≡ None → b ≡ true
+slot-taken true m e = refl
+slot-taken false m e = absurd (cc)
+
+slot-below : (x : Client) (used : ℕ) → has_slot used x ≡ true → used < slots_of x
+slot-below Unconnected used h = absurd (false-true h)
+slot-below (Connecting k n) used h = absurd (false-true h)
+slot-below (Open k s n) used h = less used n h
+slot-below (Closing k s) used h = absurd (false-true h)
+slot-below Gone used h = absurd (false-true h)
+slot-below Dead used h = absurd (false-true h)
+slot-below (Dying k s) used h = absurd (false-true h)
+
+-- nodes after a node, as contracts of sessions say it
+pub first-same : (xs : List ℕ) → first_of xs ≡ first_client xs
+first-same [] = refl
+first-same (x ∷ xs) = refl
+
+pub after-same : (c : ℕ) (xs : List ℕ) → after_node c xs ≡ client_after c xs
+after-same c [] = refl
+after-same c (x ∷ xs) =
+    ap (λ o. cond (x == c) o (after_node c xs)) (first-same xs) ∙ ap (λ o. cond (x == c) (first_client xs) o) (after-same c xs)
+
+first-in : (d : ℕ) (xs : List ℕ) → first_of xs ≡ Some d → IsIn d xs
+first-in d [] e = absurd (nothing d e)
+first-in d (x ∷ xs) e = inl (same_Some x d e)
+
+after-in : (c d : ℕ) (xs : List ℕ) → after_node c xs ≡ Some d → IsIn d xs
+after-in c d [] e = absurd (nothing d e)
+after-in c d (x ∷ xs) e = go (cases_eq x c) (after-in c d xs)
+  where
+    go : (x ≡ c) ⊎ (x ≢ c) → (after_node c xs ≡ Some d → IsIn d xs) → IsIn d (x ∷ xs)
+    go (inl same) more = inr (first-in d xs (sym (cond-true (x == c) (first_of xs) (after_node c xs) (eq-eqb x c same)) ∙ e))
+    go (inr other) more = inr (more (sym (cond-false (x == c) (first_of xs) (after_node c xs) (ne_eqb x c other)) ∙ e))
+
+module _ (cl : List Client) (pl : List Place) (q cn ss st : Table) (r : IsKept cl pl q cn ss st) (s : State) (is : state_of cl pl q ss st ≡ s) where
+  pub slot-room : (c : ℕ) → has_slot (length (sent_at s c)) (client_at s c) ≡ true → length (sent_at s c) < 64
+  slot-room c h =
+      let few = r.named.slots c in
+      omega (arith, slot-below (client_at s c) (length (sent_at s c)) h, ap slots_of (client-is cl pl q cn ss st r s is c), few)
+
+  pub room-is : (k most : ℕ) → nat_lt (length (list_at ss k) + length (list_at cn k)) most
+      ≡ nat_lt (length (sessions_at s k) + length (filter is_connect (queue_at s k))) most
+  room-is k most =
+      ap (λ n. nat_lt (n + length (list_at cn k)) most) (ap (λ t. length (sessions_at t k)) is)
+      ∙ ap (λ n. nat_lt (length (sessions_at s k) + n) most)
+      (ap length (r.listed.same k) ∙ connects-counted (list_at q k) ∙ ap (λ es. length (filter is_connect es)) (queue-is cl pl q cn ss st r s is k))
+
+  session-small : (k c : ℕ) → IsIn c (list_at ss k) → c < 64
+  session-small k c i = go (cases_lt c (length cl))
+    where
+      go : (c < length cl) ⊎ (length cl ≤ c) → c < 64
+      go (inl few) = omega (arith, few, r.sized.clients_long)
+      go (inr large) = absurd (nothing k (sym (ap server_of (get_or_past cl c Unconnected large)) ∙ r.connected.has k c i))
+
+  pub first-small : (k c : ℕ) → first_of (list_at ss k) ≡ Some c → c < 64
+  first-small k c e = session-small k c (first-in c (list_at ss k) e)
+
+  pub next-small : (k c d : ℕ) → after_node c (list_at ss k) ≡ Some d → d < 64
+  next-small k c d e = session-small k d (after-in c d (list_at ss k) e)
+
+  pub after-is : (k c : ℕ) → after_node c (list_at ss k) ≡ client_after c (sessions_at s k)
+  after-is k c = after-same c (list_at ss k) ∙ ap (λ t. client_after c (sessions_at t k)) is
+
+-- at first ----------------------------------------------------------------------------------------------------------------------------------
+same-all : {X : Type 0} (d : X) (n i : ℕ) → get_or (replicate n d) i d ≡ d
+same-all d zero i = refl
+same-all d (suc n) zero = refl
+same-all d (suc n) (suc i) = same-all d n i
+
+abbrev all_clients : List Client
+all_clients = replicate 64 Unconnected
+
+abbrev all_places : List Place
+all_places = replicate 1024 Free
+
+no-list : (n m k : ℕ) → list_at (empty n m) k ≡ []
+no-list n m k = same-all (nobody) m k
+  where
+    nobody : List ℕ
+    nobody = []
+
+no-node : (n m k x : ℕ) → IsIn x (list_at (empty n m) k) → ⊥
+no-node n m k x i = elim (subst (IsIn x) (no-list n m k) i) [ ]
+
+calm : (c : ℕ) → client all_clients c ≡ Unconnected
+calm c = same-all Unconnected 64 c
+
+unused : (m : ℕ) → slice_index_or all_places m Free ≡ Free
+unused m = same-all Free 1024 m
+
+pub at-first : (cells : ℕ) → cells ≤ 4096 → IsKept all_clients all_places (empty 1152 cells) (empty 64 cells) (empty 64 cells) (empty 1024 128)
+at-first cells few = record {
+  sized = record {
+    clients_long = length-replicate 64 Unconnected;
+    places_long = length-replicate 1024 Free;
+    queues_nodes = refl;
+    connects_nodes = refl;
+    sessions_nodes = refl;
+    sent_nodes = refl;
+    cells = omega (arith, few, length-replicate cells nil);
+    connects_long = refl;
+    sessions_long = refl;
+    sent_long = length-replicate 128 nil;
+  };
+  entries = record {
+    messages = λ k m small i. absurd (no-node 1152 cells k m i);
+    connects = λ k c small i. absurd (no-node 1152 cells k (1024 + c) i);
+    closes = λ k c small i. absurd (no-node 1152 cells k (1088 + c) i);
+    waits = λ c m e. absurd (not-queued c (sym (unused m) ∙ e));
+  };
+  listed = record { same = λ k. no-list 64 cells k ∙ sym (ap connecting_in (no-list 1152 cells k)) };
+  connected = record {
+    has = λ k c i. absurd (no-node 64 cells k c i);
+    listed = λ k c e. absurd (nothing k (sym (ap server_of (calm c)) ∙ e));
+  };
+  out = record {
+    out = λ c m small i. absurd (no-node 1024 128 c m i);
+    past = λ c m small i. absurd (no-node 1024 128 (64 + c) m i);
+    waiting = λ c m e. absurd (not-queued c (sym (unused m) ∙ e));
+    held = λ c m e. absurd (not-held c (sym (unused m) ∙ e));
+    senders = λ c m e. absurd (not-discarded c (sym (unused m) ∙ e));
+    few = λ c small. omega (arith, ap length (no-list 1024 128 c));
+  };
+  named = record {
+    servers = λ c k e. absurd (nothing k (sym (ap named_by (calm c)) ∙ e));
+    slots = λ c. omega (arith, ap slots_of (calm c));
+  };
+}
+  where
+    nil : List ℕ
+    nil = []
+
+    not-queued : (c : ℕ) → Free ≡ Queued c → ⊥
+    not-queued c e = cc
+
+    not-held : (c : ℕ) → Free ≡ Held c → ⊥
+    not-held c e = cc
+
+    not-discarded : (c : ℕ) → Free ≡ Discarded c → ⊥
+    not-discarded c e = cc
+
+-- so many lists of nodes with none, and of entries
+abbrev list_of : ℕ → List (List ℕ)
+list_of n = replicate n []
+
+abbrev no_entry : List Entry
+no_entry = []
+
+shown-first : (n : ℕ) → map (map entry_of) (list_of n) ≡ replicate n no_entry
+shown-first zero = refl
+shown-first (suc n) = ap (λ es. no_entry ∷ es) (shown-first n)
+
+pub at-first-seen : (cells : ℕ) → state_of all_clients all_places (empty 1152 cells) (empty 64 cells) (empty 1024 128) ≡ at_first cells
+unfolding at_first
+at-first-seen cells =
+    ap (λ qs. record { clients = all_clients; places = all_places; queues = qs; sessions = list_of cells; sent = list_of 64 }) (shown-first cells)

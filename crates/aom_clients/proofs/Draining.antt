@@ -1,0 +1,134 @@
+-- One message more was taken off its list: what is left comes to the same.
+use Rattle.std.proofs.Common.{◌≡◌, ◌≢◌, ◌<◌, ◌≤◌, ◌+◌, ℕ, suc, Bool, true, false, cond, List, [], ◌∷◌, ◌++◌, Some, None, length, refl, sym, ap, ◌∙◌, subst, inl, inr, arith}
+use Rattle.std.specs.Prelude.{map, slice_set}
+use Rattle.std.proofs.lemmas.List.{length-set, length-append, set-set, set-get_or, set_comm, append_assoc, append-nil, get_or-set_same, get_or-set_other}
+use Rattle.aom_queues.specs.Lists.{Table, IsIn, list_at, with_list, without, first_of, rest_of}
+use Rattle.aom_clients.specs.declared.place.Place.{Place}
+use Rattle.aom_clients.specs.Table.{is_queued, closed_place}
+use Rattle.aom_clients.specs.Withdrawals.{without_each, left_at, left_each, waiting_each, noted}
+use Rattle.aom_clients.proofs.Leaving.{place}
+use Rattle.aom_clients.proofs.Services.{shape}
+
+-- the list and all others
+pub record Drained (t u : Table) (k m : ℕ) : Type 0 where
+  pub listed : k < length u.lists
+  pub shaped : list_at t k ≡ m ∷ list_at u k
+  pub emptied : with_list k [] u ≡ with_list k [] t
+
+pub drained : (t u : Table) (k m : ℕ) → k < length t.lists → Some m ≡ first_of (list_at t k) → u ≡ with_list k (rest_of (list_at t k)) t → Drained t u k m
+drained t u k m small first is =
+    let rest : list_at u k ≡ rest_of (list_at t k) = ap (λ v. list_at v k) is ∙ get_or-set_same t.lists k (rest_of (list_at t k)) [] small in
+    record {
+      listed = omega (arith, small, ap (λ v. length v.lists) is, length-set t.lists k (rest_of (list_at t k)));
+      shaped = shape (list_at t k) m (sym first) ∙ ap (λ xs. m ∷ xs) (sym rest);
+      emptied = ap (with_list k []) is ∙ ap (λ ls. record t { lists = ls }) (set-set t.lists k (rest_of (list_at t k)) []);
+    }
+
+module _ (t u : Table) (k m : ℕ) (d : Drained t u k m) where
+  pub head-is-in : IsIn m (list_at t k)
+  head-is-in = subst (IsIn m) (sym d.shaped) (inl refl)
+
+  pub tail-in : (n : ℕ) → IsIn n (list_at u k) → IsIn n (list_at t k)
+  tail-in n i = subst (IsIn n) (sym d.shaped) (inr i)
+
+  pub places-drained : (pl : List Place) (p : Place) → p ≡ closed_place (place pl m) → left_each (list_at u k) (slice_set pl m p) ≡ left_each (list_at t k) pl
+  places-drained pl p is = ap (λ x. left_each (list_at u k) (slice_set pl m x)) is ∙ ap (λ xs. left_each xs pl) (sym d.shaped)
+
+  pub queues-drained : (q v : Table) → v ≡ record q { lists = map (without m) q.lists }
+      → record v { lists = without_each (list_at u k) v.lists } ≡ record q { lists = without_each (list_at t k) q.lists }
+  queues-drained q v is = ap (λ (w : Table). record w { lists = without_each (list_at u k) w.lists }) is ∙ ap (λ xs. record q { lists = without_each xs q.lists }) (sym d.shaped)
+
+  pub freed-drained : (pl : List Place) (was p : Place) (freed more : List ℕ) → was ≡ place pl m → p ≡ closed_place was → more ≡ noted m was freed
+      → more ++ waiting_each (list_at u k) (slice_set pl m p) ≡ freed ++ waiting_each (list_at t k) pl
+  freed-drained pl was p freed more was_is p_is more_is =
+      ap (λ xs. xs ++ waiting_each (list_at u k) (slice_set pl m p)) (more_is ∙ ap (λ x. noted m x freed) was_is)
+      ∙ ap (λ x. noted m (place pl m) freed ++ waiting_each (list_at u k) (slice_set pl m x)) (p_is ∙ ap closed_place was_is)
+      ∙ by (is_queued (place pl m)) ∙ ap (λ xs. freed ++ waiting_each xs pl) (sym d.shaped)
+    where
+      by : (b : Bool) → cond b (freed ++ m ∷ []) freed ++ waiting_each (list_at u k) (left_at m pl)
+          ≡ freed ++ cond b (m ∷ waiting_each (list_at u k) (left_at m pl)) (waiting_each (list_at u k) (left_at m pl))
+      by true = append_assoc freed (m ∷ []) (waiting_each (list_at u k) (left_at m pl))
+      by false = refl
+
+  pub room-drained : (was : Place) (freed more : List ℕ) → more ≡ noted m was freed → length freed + length (list_at t k) ≤ 64 → length more + length (list_at u k) ≤ 64
+  room-drained was freed more is room = omega (arith, ap length is, by (is_queued was), ap length d.shaped, room)
+    where
+      by : (b : Bool) → length (cond b (freed ++ m ∷ []) freed) ≤ length freed + 1
+      by true = omega (arith, length-append freed (m ∷ []))
+      by false = omega arith
+
+-- in the end the list is empty
+pub drained-all : (t : Table) (k : ℕ) → first_of (list_at t k) ≡ None → list_at t k ≡ []
+drained-all t k e = go (list_at t k) e
+  where
+    go : (xs : List ℕ) → first_of xs ≡ None → xs ≡ []
+    go [] e = refl
+    go (x ∷ xs) e = absurd (cc)
+
+-- a message more was listed as one of an earlier session
+pub record Released (t v : Table) (c : ℕ) : Type 0 where
+  pub long : length v.lists ≡ length t.lists
+  pub fewer : suc (length (list_at v c)) ≡ length (list_at t c)
+  pub same : with_list c [] (with_list (64 + c) (list_at v (64 + c) ++ list_at v c) v) ≡ with_list c [] (with_list (64 + c) (list_at t (64 + c) ++ list_at t c) t)
+
+pub released : (t u v : Table) (c m : ℕ) → 64 + c < length t.lists → Some m ≡ first_of (list_at t c) → u ≡ with_list c (rest_of (list_at t c)) t
+    → v ≡ with_list (64 + c) (list_at u (64 + c) ++ m ∷ []) u → Released t v c
+released t u v c m small first u_is v_is =
+    record {
+      long = long;
+      fewer = omega (arith, ap length at_c, ap length d.shaped);
+      same = ap (λ xs. with_list c [] (with_list (64 + c) xs v)) whole ∙ ap (λ w. with_list c [] (with_list (64 + c) all w)) v_is
+          ∙ ap (λ ls. with_list c [] (record u { lists = ls })) (set-set u.lists (64 + c) (list_at u (64 + c) ++ m ∷ []) all)
+          ∙ ap (λ w. with_list c [] (with_list (64 + c) all w)) u_is
+          ∙ ap (λ ls. with_list c [] (record t { lists = ls })) (set_comm t.lists c (64 + c) (rest_of (list_at t c)) all apart)
+          ∙ ap (λ ls. record t { lists = ls }) (set-set (slice_set t.lists (64 + c) all) c (rest_of (list_at t c)) []);
+    }
+  where
+    near : c < length t.lists
+    near = omega (arith, small)
+
+    d : Drained t u c m
+    d = drained t u c m near first u_is
+
+    all : List ℕ
+    all = list_at t (64 + c) ++ list_at t c
+
+    apart : c ≢ 64 + c
+    apart e = absurd (omega (arith, e))
+
+    back : 64 + c ≢ c
+    back e = absurd (omega (arith, e))
+
+    u_long : length u.lists ≡ length t.lists
+    u_long = ap (λ w. length w.lists) u_is ∙ length-set t.lists c (rest_of (list_at t c))
+
+    long : length v.lists ≡ length t.lists
+    long = ap (λ w. length w.lists) v_is ∙ length-set u.lists (64 + c) (list_at u (64 + c) ++ m ∷ []) ∙ u_long
+
+    at_c : list_at v c ≡ list_at u c
+    at_c = ap (λ w. list_at w c) v_is ∙ get_or-set_other u.lists (64 + c) c (list_at u (64 + c) ++ m ∷ []) [] apart
+
+    at_past : list_at v (64 + c) ≡ list_at t (64 + c) ++ m ∷ []
+    at_past =
+        ap (λ w. list_at w (64 + c)) v_is ∙ get_or-set_same u.lists (64 + c) (list_at u (64 + c) ++ m ∷ []) [] (omega (arith, small, u_long))
+        ∙ ap (λ xs. xs ++ m ∷ []) (ap (λ w. list_at w (64 + c)) u_is ∙ get_or-set_other t.lists c (64 + c) (rest_of (list_at t c)) [] back)
+
+    whole : list_at v (64 + c) ++ list_at v c ≡ list_at t (64 + c) ++ list_at t c
+    whole =
+        ap (λ xs. xs ++ list_at v c) at_past ∙ ap (λ xs. (list_at t (64 + c) ++ m ∷ []) ++ xs) at_c ∙ append_assoc (list_at t (64 + c)) (m ∷ []) (list_at u c)
+        ∙ ap (λ xs. list_at t (64 + c) ++ xs) (sym d.shaped)
+
+-- and when none is left
+pub released-all : (t : Table) (c : ℕ) → None ≡ first_of (list_at t c) → c < length t.lists
+    → with_list c [] (with_list (64 + c) (list_at t (64 + c) ++ list_at t c) t) ≡ t
+released-all t c e small =
+    let none : list_at t c ≡ [] = drained-all t c (sym e) in
+    let apart : 64 + c ≢ c = λ h. absurd (omega (arith, h)) in
+    ap (λ xs. with_list c [] (with_list (64 + c) (list_at t (64 + c) ++ xs) t)) none
+    ∙ ap (λ xs. with_list c [] (with_list (64 + c) xs t)) (append-nil (list_at t (64 + c)))
+    ∙ ap (λ ls. with_list c [] (record t { lists = ls })) (set-get_or t.lists (64 + c) [])
+    ∙ ap (λ xs. with_list c xs t) (sym none) ∙ ap (λ ls. record t { lists = ls }) (set-get_or t.lists c [])
+
+-- the same of the other loops
+pub emptied-all : (t : Table) (k : ℕ) → None ≡ first_of (list_at t k) → with_list k [] t ≡ t
+emptied-all t k e = ap (λ xs. with_list k xs t) (sym (drained-all t k (sym e))) ∙ ap (λ ls. record t { lists = ls }) (set-get_or t.lists k [])

@@ -1,0 +1,181 @@
+-- Each row of the table, command by command, on a state of one client and one server.
+use Rattle.std.proofs.Common.{◌≡◌, ℕ, List, [], ◌∷◌, Option, Some, None, refl}
+use Rattle.aom_clients.specs.declared.client.Client.{Client}
+use Rattle.aom_clients.specs.declared.client.Client.TheVariants.{Unconnected, Connecting, Open, Closing, Gone, Dead, Dying}
+use Rattle.aom_clients.specs.declared.refusal.Refusal.TheVariants.{NotFound, Died, ServerTerminated, ServerBusy}
+use Rattle.aom_clients.specs.declared.place.Place.{Place}
+use Rattle.aom_clients.specs.declared.place.Place.TheVariants.{Free, Queued, Held, Discarded}
+use Rattle.aom_clients.specs.declared.server.Server.{Server}
+use Rattle.aom_clients.specs.declared.entry.Entry.{Entry}
+use Rattle.aom_clients.specs.declared.entry.Entry.TheVariants.{Connect, Message, Close}
+use Rattle.aom_clients.specs.Table.{row, completion}
+use Rattle.aom_clients.specs.Clients.{State, connect_refusal, after_connect, send_refusal, after_send, after_close, after_die, freed, after_next, after_connected, after_closed, after_complete, after_next_gone, after_session_gone}
+
+-- client 0 with two message places and server 0: what it is at, what the places have, the queue, the sessions, and what holds a slot
+abbrev one : Client → Place → Place → List Entry → List ℕ → List ℕ → State
+one x p q queue sessions sent =
+    record { clients = x ∷ []; places = p ∷ q ∷ []; queues = queue ∷ []; sessions = sessions ∷ []; sent = sent ∷ [] }
+
+-- with nothing on its way
+abbrev alone : Client → State
+alone x = one x Free Free [] [] []
+
+-- with its session open, and so many slots
+abbrev open_with : ℕ → State
+open_with slots = one (Open 0 5 slots) Free Free [] (0 ∷ []) []
+
+abbrev to : ℕ → Option Server
+to most = Some (record { cell = 0; most = most })
+
+-- unconnected
+unconnected-nowhere : connect_refusal 0 None (alone Unconnected) ≡ Some NotFound
+unconnected-nowhere = refl
+
+unconnected-full : connect_refusal 0 (to 0) (alone Unconnected) ≡ Some ServerBusy
+unconnected-full = refl
+
+unconnected-connects : after_connect 0 (to 1) 2 (alone Unconnected) ≡ one (Connecting 0 2) Free Free (Connect 0 ∷ []) [] []
+unconnected-connects = refl
+
+unconnected-send : send_refusal 0 (Some 1) (alone Unconnected) ≡ Some NotFound
+unconnected-send = refl
+
+unconnected-close : after_close 0 (alone Unconnected) ≡ alone Unconnected
+unconnected-close = refl
+
+unconnected-die : after_die 0 (alone Unconnected) ≡ alone Dead
+unconnected-die = refl
+
+-- connecting
+abbrev asking : State
+asking = one (Connecting 0 2) Free Free (Connect 0 ∷ []) [] []
+
+connecting-connect : connect_refusal 0 (to 9) asking ≡ Some ServerBusy
+connecting-connect = refl
+
+connecting-send : send_refusal 0 (Some 1) asking ≡ Some ServerBusy
+connecting-send = refl
+
+connecting-close : after_close 0 asking ≡ alone Unconnected
+connecting-close = refl
+
+connecting-die : after_die 0 asking ≡ alone Dead
+connecting-die = refl
+
+-- open: a message is sent while a slot and a place are free
+open-connect : connect_refusal 0 (to 9) (open_with 2) ≡ Some ServerBusy
+open-connect = refl
+
+open-send : after_send 0 (Some 1) (open_with 2) ≡ one (Open 0 5 2) Free (Queued 0) (Message 1 ∷ []) (0 ∷ []) (1 ∷ [])
+open-send = refl
+
+open-no-slot : send_refusal 0 (Some 1) (open_with 0) ≡ Some ServerBusy
+open-no-slot = refl
+
+open-no-place : send_refusal 0 None (open_with 2) ≡ Some ServerBusy
+open-no-place = refl
+
+-- what waits goes, what is held is discarded, and a close is queued last
+abbrev busy : State
+busy = one (Open 0 5 2) (Held 0) (Queued 0) (Message 1 ∷ []) (0 ∷ []) (0 ∷ 1 ∷ [])
+
+open-close : after_close 0 busy ≡ one (Closing 0 5) (Discarded 0) Free (Close 0 ∷ []) (0 ∷ []) []
+open-close = refl
+
+open-die : after_die 0 busy ≡ one (Dying 0 5) (Discarded 0) Free (Close 0 ∷ []) (0 ∷ []) []
+open-die = refl
+
+open-freed : freed (row (Open 0 5 2)).close 0 busy ≡ 1 ∷ []
+open-freed = refl
+
+-- closing
+abbrev ends : Client → State
+ends x = one x Free Free (Close 0 ∷ []) (0 ∷ []) []
+
+closing-connect : connect_refusal 0 (to 9) (ends (Closing 0 5)) ≡ Some ServerBusy
+closing-connect = refl
+
+closing-send : send_refusal 0 (Some 1) (ends (Closing 0 5)) ≡ Some ServerBusy
+closing-send = refl
+
+closing-close : after_close 0 (ends (Closing 0 5)) ≡ ends (Closing 0 5)
+closing-close = refl
+
+closing-die : after_die 0 (ends (Closing 0 5)) ≡ ends (Dying 0 5)
+closing-die = refl
+
+-- gone: it stays so where its connect is refused
+gone-refused : after_connect 0 (to 0) 2 (alone Gone) ≡ alone Gone
+gone-refused = refl
+
+gone-connects : after_connect 0 (to 1) 2 (alone Gone) ≡ one (Connecting 0 2) Free Free (Connect 0 ∷ []) [] []
+gone-connects = refl
+
+gone-send : send_refusal 0 (Some 1) (alone Gone) ≡ Some ServerTerminated
+gone-send = refl
+
+gone-close : after_close 0 (one Gone (Held 0) Free [] [] []) ≡ one Unconnected (Discarded 0) Free [] [] []
+gone-close = refl
+
+gone-die : after_die 0 (alone Gone) ≡ alone Dead
+gone-die = refl
+
+-- dead and dying
+dead-connect : connect_refusal 0 (to 9) (alone Dead) ≡ Some Died
+dead-connect = refl
+
+dead-send : send_refusal 0 (Some 1) (alone Dead) ≡ Some Died
+dead-send = refl
+
+dead-close : after_close 0 (alone Dead) ≡ alone Dead
+dead-close = refl
+
+dead-die : after_die 0 (alone Dead) ≡ alone Dead
+dead-die = refl
+
+dying-connect : connect_refusal 0 (to 9) (ends (Dying 0 5)) ≡ Some Died
+dying-connect = refl
+
+dying-send : send_refusal 0 (Some 1) (ends (Dying 0 5)) ≡ Some Died
+dying-send = refl
+
+dying-close : after_close 0 (ends (Dying 0 5)) ≡ ends (Dying 0 5)
+dying-close = refl
+
+dying-die : after_die 0 (ends (Dying 0 5)) ≡ ends (Dying 0 5)
+dying-die = refl
+
+-- a service: a connect, a message and a close are taken and served
+connect-served : after_connected 0 (Some 5) (after_next 0 asking) ≡ open_with 2
+connect-served = refl
+
+connect-declined : after_connected 0 None (after_next 0 asking) ≡ alone Unconnected
+connect-declined = refl
+
+message-taken : after_next 0 busy ≡ one (Open 0 5 2) (Held 0) (Held 0) [] (0 ∷ []) (0 ∷ 1 ∷ [])
+message-taken = refl
+
+message-completed : after_complete 0 busy ≡ one (Open 0 5 2) Free (Queued 0) (Message 1 ∷ []) (0 ∷ []) (1 ∷ [])
+message-completed = refl
+
+close-served : after_closed 0 (after_next 0 (ends (Closing 0 5))) ≡ alone Unconnected
+close-served = refl
+
+death-served : after_closed 0 (after_next 0 (ends (Dying 0 5))) ≡ alone Dead
+death-served = refl
+
+-- a server goes: a connect and a message are completed, and a session ends
+connect-gone : after_next_gone 0 asking ≡ alone Unconnected
+connect-gone = refl
+
+message-gone : after_next_gone 0 busy ≡ one (Open 0 5 2) (Held 0) Free [] (0 ∷ []) (0 ∷ [])
+message-gone = refl
+
+session-over : after_session_gone 0 (after_next_gone 0 busy) ≡ one Gone (Held 0) Free [] [] []
+session-over = refl
+
+closing-over : after_session_gone 0 (after_next_gone 0 (ends (Closing 0 5))) ≡ alone Unconnected
+closing-over = refl
+
+dying-over : after_session_gone 0 (after_next_gone 0 (ends (Dying 0 5))) ≡ alone Dead
+dying-over = refl

@@ -1,0 +1,421 @@
+-- What the parts of a service, and the going of a server, make of the lists: they are kept, and tell the state that their definitions tell.
+use Rattle.std.proofs.Common.{◌≡◌, ◌≢◌, ◌<◌, ◌≤◌, ◌+◌, ◌⊎◌, ◌++◌, ℕ, true, List, [], ◌∷◌, Some, None, length, take, refl, sym, ap, ◌∙◌, subst, inl, inr, arith}
+use Rattle.std.specs.Prelude.{map, filter, slice_set, IsSome}
+use Rattle.std.proofs.lemmas.Bool.{cases_eq}
+use Rattle.std.proofs.lemmas.Option.{same_Some}
+use Rattle.std.proofs.lemmas.List.{length-set, get_or-set_same, get_or-set_other, take-map, map-set, set-get_or}
+use Rattle.aom_queues.specs.Lists.{Table, IsIn, IsFree, list_at, with_list, without, first_of, rest_of}
+use Rattle.aom_queues.proofs.Members.{in-without, without-in}
+use Rattle.aom_clients.specs.declared.client.Client.{Client}
+use Rattle.aom_clients.specs.declared.client.Client.TheVariants.{Unconnected, Connecting, Open, Closing, Gone, Dead, Dying}
+use Rattle.aom_clients.specs.declared.place.Place.{Place}
+use Rattle.aom_clients.specs.declared.place.Place.TheVariants.{Free, Queued, Held, Discarded}
+use Rattle.aom_clients.specs.declared.entry.Entry.{Entry}
+use Rattle.aom_clients.specs.declared.entry.Entry.TheVariants.{Connect, Message, Close}
+use Rattle.aom_clients.specs.Table.{is_queued, held_place, completion, sender}
+use Rattle.aom_clients.specs.Clients.{State, client_at, place_at, queue_at, sessions_at, with_client, with_queue, taken_entry, first_entry, taking, taken, after_next, opened, going, gone, parted, after_complete, after_next_gone, is_no_connect_of, is_no_close_of}
+use Rattle.aom_clients.specs.Nodes.{entry_of, is_connect_node, slots_of, named_by, state_of, Waits, AreSized, AreEntries, AreConnects, AreNamed, IsKept}
+use Rattle.aom_clients.specs.Parts.{MessageBelow, ConnectBelow, client_in, unlisted, held_by, given_up, slot_freed, place_freed, is_connecting, is_ending, is_apart}
+use Rattle.aom_clients.proofs.Entries.{Kind, kind, message-is, connect-is, close-is, message-no, close-no, no-connect, no-close}
+use Rattle.aom_clients.proofs.Entries.Kind.{message, connect, close}
+use Rattle.aom_clients.proofs.Tables.{alike-same, alike-with, alike-without, Fewer, fewer-with, fewer-without, at-without, shown, shown-without}
+use Rattle.aom_clients.proofs.Kept.{at-write, sized-as, named-set, named-as, entries-fewer, entries-client, entries-place, listed-rest-connect, listed-rest-other, listed-without-connect, listed-without-other, sessions-client, sessions-open, sessions-part, sent-taken, sent-complete}
+use Rattle.aom_clients.proofs.Leaving.{place}
+use Rattle.aom_clients.proofs.Steps.{client, false-true, nothing, IsAsking, asking, asks, IsEnding, ending, NamesNone, names-none, client-is, place-is, queue-is, cell, among, waiting-below}
+
+-- a list by its first node
+pub shape : (xs : List ℕ) (n : ℕ) → first_of xs ≡ Some n → xs ≡ n ∷ rest_of xs
+shape [] n e = absurd (nothing n e)
+shape (x ∷ xs) n e = ap (λ y. y ∷ xs) (same_Some x n e)
+
+never-held : (p : Place) (c : ℕ) → held_place p ≡ Queued c → ⊥
+never-held Free c e = cc
+never-held (Queued d) c e = cc
+never-held (Held d) c e = cc
+never-held (Discarded d) c e = cc
+
+module _ (cl : List Client) (pl : List Place) (q cn ss st : Table) (r : IsKept cl pl q cn ss st) (s : State) (is : state_of cl pl q ss st ≡ s) where
+  -- the first entry of a queue leaves -----------------------------------------------------------------------------------------------------
+  module _ (k n : ℕ) (inside : k < length s.queues) (first : first_of (list_at q k) ≡ Some n) (small : n < 1152)
+      (free : IsFree (with_list k (rest_of (list_at q k)) q) n) where
+    abbrev ns : List ℕ
+    ns = rest_of (list_at q k)
+
+    abbrev q1 : Table
+    q1 = with_list k ns q
+
+    -- the view before
+    abbrev old : State
+    old = state_of cl pl q ss st
+
+    here : k < length q.lists
+    here = cell cl pl q cn ss st r s is k inside
+
+    shaped : list_at q k ≡ n ∷ ns
+    shaped = shape (list_at q k) n first
+
+    head-in : IsIn n (list_at q k)
+    head-in = subst (IsIn n) (sym shaped) (inl refl)
+
+    fewer : Fewer q q1
+    fewer = fewer-with q k ns here (λ y i. subst (IsIn y) (sym shaped) (inr i))
+
+    rest-stays : (j y : ℕ) → y ≢ n → IsIn y (list_at q j) → IsIn y (list_at q1 j)
+    rest-stays j y other i = go (cases_eq j k)
+      where
+        behind : IsIn y (n ∷ ns) → IsIn y ns
+        behind (inl e) = absurd (other (sym e))
+        behind (inr i) = i
+
+        go : (j ≡ k) ⊎ (j ≢ k) → IsIn y (list_at q1 j)
+        go (inl same) =
+            subst (λ l. IsIn y (list_at q1 l)) (sym same) (subst (IsIn y) (sym (get_or-set_same q.lists k ns [] here))
+            (behind (subst (IsIn y) shaped (subst (λ l. IsIn y (list_at q l)) same i))))
+        go (inr apart) = subst (IsIn y) (sym (get_or-set_other q.lists k j ns [] apart)) i
+
+    -- entries without one that is no message
+    entries-less : 1024 ≤ n → AreEntries cl pl q1
+    entries-less large =
+        entries-fewer cl pl q q1 fewer (λ c m e j i. rest-stays j m (λ same. absurd (omega (arith, same, large, waiting-below cl pl q cn ss st r s is c m e))) i) r.entries
+
+    -- entries without a message whose place has something else
+    entries-taken : (p : Place) → n < 1024 → ((c : ℕ) → p ≡ Queued c → ⊥) → AreEntries cl (slice_set pl n p) q1
+    entries-taken p message_node never = record {
+      messages = λ j m less i. at-write Free (λ m (x : Place). m < 1024 → IsIn m (list_at q1 j) → is_queued x ≡ true) pl n p placed
+          (λ less i. absurd (free.nowhere j i)) (λ m other less i. r.entries.messages j m less (fewer.each j m i)) m less i;
+      connects = λ j c less i. r.entries.connects j c less (fewer.each j (1024 + c) i);
+      closes = λ j c less i. r.entries.closes j c less (fewer.each j (1088 + c) i);
+      waits = λ c m e. at-write Free (λ m (x : Place). x ≡ Queued c → Waits cl q1 c m) pl n p placed (λ e. absurd (never c e))
+          (λ m other e. still c m other e) m e;
+    }
+      where
+        placed : n < length pl
+        placed = omega (arith, message_node, r.sized.places_long)
+
+        still : (c m : ℕ) → m ≢ n → place pl m ≡ Queued c → Waits cl q1 c m
+        still c m other e =
+            let w = r.entries.waits c m e in
+            record { server = w.server; open_there = w.open_there; there = rest-stays w.server m other w.there }
+
+    -- what contracts see of the queues
+    shown-rest : shown entry_of q1.lists ≡ slice_set (shown entry_of q.lists) k (map entry_of ns)
+    shown-rest = map-set (map entry_of) q.lists k ns
+
+    queue-shape : queue_at s k ≡ entry_of n ∷ map entry_of ns
+    queue-shape = sym (queue-is cl pl q cn ss st r s is k) ∙ ap (map entry_of) shaped
+
+    sized-same : AreSized cl pl q1 cn ss st
+    sized-same = sized-as _ _ _ _ _ _ _ _ _ _ _ _ refl refl (alike-with q k ns) (alike-same cn) (alike-same ss) (alike-same st) r.sized
+
+    named-same : AreNamed cl (length q1.lists)
+    named-same = named-as cl q q1 (alike-with q k ns) r.named
+
+    -- its connect is listed no more
+    connect-listed : (c : ℕ) → c < 64 → n ≡ 1024 + c → AreConnects q1 (with_list k (rest_of (list_at cn k)) cn)
+    connect-listed c less e =
+        listed-rest-connect q cn k c ns here r.sized.connects_long less (shaped ∙ ap (λ y. y ∷ ns) e) r.listed
+
+    pub client-told : (e : Entry) → client_in pl e ≡ (taken_entry s e).client
+    client-told (Connect c) = refl
+    client-told (Message m) = ap sender (place-is cl pl q cn ss st r s is m)
+    client-told (Close c) = refl
+
+    entry-told : (e : Entry) → e ≡ (taken_entry s e).entry
+    entry-told (Connect c) = refl
+    entry-told (Message m) = refl
+    entry-told (Close c) = refl
+
+    -- what the call answers
+    pub taken-is : (e : Entry) (c : ℕ) → e ≡ entry_of n → c ≡ client_in pl e → Some (record { entry = e; client = c }) ≡ first_entry s (queue_at s k)
+    taken-is e c e_is c_is =
+        ap (λ x. Some (record { entry = e; client = x })) (c_is ∙ client-told e) ∙ ap (λ x. Some (record { entry = x; client = (taken_entry s e).client })) (entry-told e)
+        ∙ ap (λ x. Some (taken_entry s x)) e_is ∙ sym (ap (first_entry s) queue-shape)
+
+    pub message-below : MessageBelow (length pl) (entry_of n)
+    message-below = go n (kind n)
+      where
+        go : (y : ℕ) → Kind y → MessageBelow (length pl) (entry_of y)
+        go _ (message m less) = subst (MessageBelow (length pl)) (sym (message-is m less)) (omega (arith, less, r.sized.places_long))
+        go _ (connect c less) = subst (MessageBelow (length pl)) (sym (connect-is c less)) tt
+        go _ (close c) = subst (MessageBelow (length pl)) (sym (close-is c)) tt
+
+    pub connect-below : ConnectBelow (length cl) (entry_of n)
+    connect-below = go n (kind n)
+      where
+        go : (y : ℕ) → Kind y → ConnectBelow (length cl) (entry_of y)
+        go _ (message m less) = subst (ConnectBelow (length cl)) (sym (message-is m less)) tt
+        go _ (connect c less) = subst (ConnectBelow (length cl)) (sym (connect-is c less)) (omega (arith, less, r.sized.clients_long))
+        go _ (close c) = subst (ConnectBelow (length cl)) (sym (close-is c)) tt
+
+    -- it is taken
+    pub record IsTaken (e : Entry) : Type 0 where
+      pub kept : IsKept cl (held_by e pl) q1 (unlisted k e cn) ss st
+      pub seen : state_of cl (held_by e pl) q1 ss st ≡ taking e (with_queue k (map entry_of ns) old)
+
+    taken-entry : (y : ℕ) → Kind y → n ≡ y → IsTaken (entry_of y)
+    taken-entry _ (message m less) e = subst IsTaken (sym (message-is m less)) (record {
+      kept = record {
+        sized = sized-as _ _ _ _ _ _ _ _ _ _ _ _ refl (length-set pl m (held_place (place pl m))) (alike-with q k ns) (alike-same cn) (alike-same ss) (alike-same st) r.sized;
+        entries = subst (λ x. AreEntries cl (slice_set pl x (held_place (place pl x))) q1) e
+            (entries-taken (held_place (place pl n)) (omega (arith, e, less)) (λ c h. never-held (place pl n) c h));
+        listed = listed-rest-other q cn k n ns here (ap is_connect_node e ∙ message-no m less) shaped r.listed;
+        connected = r.connected;
+        out = sent-taken pl st m (omega (arith, less, r.sized.places_long)) r.out;
+        named = named-same;
+      };
+      seen = ap (λ qs. record { clients = cl; places = slice_set pl m (held_place (place pl m)); queues = qs; sessions = ss.lists; sent = take 64 st.lists }) shown-rest;
+    })
+    taken-entry _ (connect c less) e = subst IsTaken (sym (connect-is c less)) (record {
+      kept = record {
+        sized = sized-as _ _ _ _ _ _ _ _ _ _ _ _ refl refl (alike-with q k ns) (alike-with cn k (rest_of (list_at cn k))) (alike-same ss) (alike-same st) r.sized;
+        entries = entries-less (omega (arith, e));
+        listed = connect-listed c less e;
+        connected = r.connected;
+        out = r.out;
+        named = named-same;
+      };
+      seen = ap (λ qs. record { clients = cl; places = pl; queues = qs; sessions = ss.lists; sent = take 64 st.lists }) shown-rest;
+    })
+    taken-entry _ (close c) e = subst IsTaken (sym (close-is c)) (record {
+      kept = record {
+        sized = sized-same;
+        entries = entries-less (omega (arith, e));
+        listed = listed-rest-other q cn k n ns here (ap is_connect_node e ∙ close-no c) shaped r.listed;
+        connected = r.connected;
+        out = r.out;
+        named = named-same;
+      };
+      seen = ap (λ qs. record { clients = cl; places = pl; queues = qs; sessions = ss.lists; sent = take 64 st.lists }) shown-rest;
+    })
+
+    pub taken-kept : (e : Entry) → e ≡ entry_of n → IsKept cl (held_by e pl) q1 (unlisted k e cn) ss st
+    taken-kept e e_is = subst (λ x. IsKept cl (held_by x pl) q1 (unlisted k x cn) ss st) (sym e_is) ((taken-entry n (kind n) refl).kept)
+
+    pub taken-seen : (e : Entry) → e ≡ entry_of n → state_of cl (held_by e pl) q1 ss st ≡ after_next k s
+    taken-seen e e_is =
+        ap (λ x. state_of cl (held_by x pl) q1 ss st) e_is ∙ (taken-entry n (kind n) refl).seen ∙ ap (λ t. taking (entry_of n) (with_queue k (map entry_of ns) t)) is
+        ∙ sym (ap (λ es. taken k es s) queue-shape)
+
+    -- it goes with its server
+    pub record IsGone (e : Entry) : Type 0 where
+      pub kept : IsKept (given_up e cl) (place_freed e pl) q1 (unlisted k e cn) ss (slot_freed e st)
+      pub seen : state_of (given_up e cl) (place_freed e pl) q1 ss (slot_freed e st) ≡ going e (with_queue k (map entry_of ns) old)
+
+    gone-entry : (y : ℕ) → Kind y → n ≡ y → IsGone (entry_of y)
+    gone-entry _ (message m less) e = subst IsGone (sym (message-is m less)) (record {
+      kept = record {
+        sized = sized-as _ _ _ _ _ _ _ _ _ _ _ _ refl (length-set pl m Free) (alike-with q k ns) (alike-same cn) (alike-same ss) (alike-without st m) r.sized;
+        entries = subst (λ x. AreEntries cl (slice_set pl x Free) q1) e (entries-taken Free (omega (arith, e, less)) (λ c h. absurd (cc)));
+        listed = listed-rest-other q cn k n ns here (ap is_connect_node e ∙ message-no m less) shaped r.listed;
+        connected = r.connected;
+        out = sent-complete pl st m (omega (arith, less, r.sized.places_long)) r.out;
+        named = named-same;
+      };
+      seen = ap (λ qs. record { clients = cl; places = slice_set pl m Free; queues = qs; sessions = ss.lists; sent = take 64 (map (without m) st.lists) }) shown-rest
+          ∙ ap (λ ls. record { clients = cl; places = slice_set pl m Free; queues = slice_set (shown entry_of q.lists) k (map entry_of ns); sessions = ss.lists; sent = ls })
+          (take-map (without m) 64 st.lists);
+    })
+    gone-entry _ (connect c less) e = subst IsGone (sym (connect-is c less)) (record {
+      kept = record {
+        sized = sized-as _ _ _ _ _ _ _ _ _ _ _ _ (length-set cl c Unconnected) refl (alike-with q k ns) (alike-with cn k (rest_of (list_at cn k))) (alike-same ss) (alike-same st) r.sized;
+        entries = entries-client cl pl q1 c Unconnected (among cl pl q cn ss st r s is c less)
+            (λ j _ i. absurd (free.nowhere j (subst (λ x. IsIn x (list_at q1 j)) (sym e) i)))
+            (λ j _ i. absurd (mine.leaving j (r.entries.closes j c less (fewer.each j (1088 + c) i))))
+            (λ m h. absurd (mine.opened (r.entries.waits c m h).server (r.entries.waits c m h).open_there)) (entries-less (omega (arith, e)));
+        listed = connect-listed c less e;
+        connected = sessions-client cl ss c Unconnected (among cl pl q cn ss st r s is c less) (sym mine.server) r.connected;
+        out = r.out;
+        named = named-as _ q q1 (alike-with q k ns) (named-set cl (length q.lists) c Unconnected (among cl pl q cn ss st r s is c less) (λ j h. absurd (nothing j h)) (omega arith) r.named);
+      };
+      seen = ap (λ qs. record { clients = slice_set cl c Unconnected; places = pl; queues = qs; sessions = ss.lists; sent = take 64 st.lists }) shown-rest;
+    })
+      where
+        mine : IsAsking (client cl c)
+        mine = asking (client cl c) (asks k (client cl c) (r.entries.connects k c less (subst (λ x. IsIn x (list_at q k)) e head-in)))
+    gone-entry _ (close c) e = subst IsGone (sym (close-is c)) (record {
+      kept = record {
+        sized = sized-same;
+        entries = entries-less (omega (arith, e));
+        listed = listed-rest-other q cn k n ns here (ap is_connect_node e ∙ close-no c) shaped r.listed;
+        connected = r.connected;
+        out = r.out;
+        named = named-same;
+      };
+      seen = ap (λ qs. record { clients = cl; places = pl; queues = qs; sessions = ss.lists; sent = take 64 st.lists }) shown-rest;
+    })
+
+    pub gone-kept : (e : Entry) → e ≡ entry_of n → IsKept (given_up e cl) (place_freed e pl) q1 (unlisted k e cn) ss (slot_freed e st)
+    gone-kept e e_is = subst (λ x. IsKept (given_up x cl) (place_freed x pl) q1 (unlisted k x cn) ss (slot_freed x st)) (sym e_is) ((gone-entry n (kind n) refl).kept)
+
+    pub gone-seen : (e : Entry) → e ≡ entry_of n → state_of (given_up e cl) (place_freed e pl) q1 ss (slot_freed e st) ≡ after_next_gone k s
+    gone-seen e e_is =
+        ap (λ x. state_of (given_up x cl) (place_freed x pl) q1 ss (slot_freed x st)) e_is ∙ (gone-entry n (kind n) refl).seen
+        ∙ ap (λ t. going (entry_of n) (with_queue k (map entry_of ns) t)) is ∙ sym (ap (λ es. gone k es s) queue-shape)
+
+  -- a connect was served --------------------------------------------------------------------------------------------------------------------
+  module _ (c : ℕ) (small : c < 64) (mine : is_connecting (client cl c) ≡ true) where
+    ask : IsAsking (client cl c)
+    ask = asking (client cl c) mine
+
+    abbrev q4 : Table
+    q4 = record q { lists = map (without (1024 + c)) q.lists }
+
+    abbrev cn4 : Table
+    cn4 = record cn { lists = map (without c) cn.lists }
+
+    -- messages are where they were
+    message-stays : (j d m : ℕ) → place pl m ≡ Queued d → IsIn m (list_at q j) → IsIn m (list_at q4 j)
+    message-stays j d m e i =
+        subst (IsIn m) (sym (at-without q (1024 + c) j))
+        (without-in m (1024 + c) (list_at q j) (λ same. absurd (omega (arith, same, waiting-below cl pl q cn ss st r s is d m e))) i)
+
+    no-connect-left : (j : ℕ) → IsIn (1024 + c) (list_at q4 j) → ⊥
+    no-connect-left j i = (in-without (1024 + c) (1024 + c) (list_at q j) (subst (IsIn (1024 + c)) (at-without q (1024 + c) j) i)).0 refl
+
+    entries-served : (to : Client) → AreEntries (slice_set cl c to) pl q4
+    entries-served to =
+        entries-client cl pl q4 c to (among cl pl q cn ss st r s is c small) (λ j less i. absurd (no-connect-left j i))
+        (λ j less i. absurd (ask.leaving j (r.entries.closes j c less ((fewer-without q (1024 + c)).each j (1088 + c) i))))
+        (λ m e. absurd (ask.opened (r.entries.waits c m e).server (r.entries.waits c m e).open_there))
+        (entries-fewer cl pl q q4 (fewer-without q (1024 + c)) (λ d m e j i. message-stays j d m e i) r.entries)
+
+    shown-served : shown entry_of q4.lists ≡ map (filter (is_no_connect_of c)) (shown entry_of q.lists)
+    shown-served = shown-without entry_of (is_no_connect_of c) (1024 + c) (no-connect c small) q.lists
+
+    -- with a session
+    module _ (k n slots : ℕ) (was : client cl c ≡ Connecting k slots) where
+      pub session-cell : k < length ss.lists
+      session-cell = omega (arith, r.sized.sessions_long, r.named.servers c k (ap named_by was))
+
+      pub session-free : IsFree ss c
+      session-free = record { nowhere = λ j i. nothing j (sym ask.server ∙ r.connected.has j c i) }
+
+      pub opened-kept : IsKept (slice_set cl c (Open k n slots)) pl q4 cn4 (with_list k (list_at ss k ++ c ∷ []) ss) st
+      opened-kept = record {
+        sized = sized-as _ _ _ _ _ _ _ _ _ _ _ _ (length-set cl c (Open k n slots)) refl (alike-without q (1024 + c)) (alike-without cn c)
+            (alike-with ss k (list_at ss k ++ c ∷ [])) (alike-same st) r.sized;
+        entries = entries-served (Open k n slots);
+        listed = listed-without-connect q cn c small r.listed;
+        connected = sessions-open cl ss c (Open k n slots) k (among cl pl q cn ss st r s is c small) session-cell refl ask.server r.connected;
+        out = r.out;
+        named = named-as _ q q4 (alike-without q (1024 + c)) (named-set cl (length q.lists) c (Open k n slots) (among cl pl q cn ss st r s is c small)
+            (λ j h. r.named.servers c j (ap named_by was ∙ h)) (subst (λ x. x ≤ 64) (ap slots_of was) (r.named.slots c)) r.named);
+      }
+
+      pub opened-seen : state_of (slice_set cl c (Open k n slots)) pl q4 (with_list k (list_at ss k ++ c ∷ []) ss) st ≡ opened (client_at s c) (Some n) c s
+      opened-seen =
+          ap (λ qs. record { clients = slice_set cl c (Open k n slots); places = pl; queues = qs; sessions = slice_set ss.lists k (list_at ss k ++ c ∷ []); sent = take 64 st.lists }) shown-served
+          ∙ sym (ap (λ x. opened x (Some n) c (state_of cl pl q ss st)) was) ∙ ap (λ t. opened (client_at t c) (Some n) c t) is
+
+    -- without one
+    pub disconnected-kept : IsKept (slice_set cl c Unconnected) pl q4 cn4 ss st
+    disconnected-kept = record {
+      sized = sized-as _ _ _ _ _ _ _ _ _ _ _ _ (length-set cl c Unconnected) refl (alike-without q (1024 + c)) (alike-without cn c) (alike-same ss) (alike-same st) r.sized;
+      entries = entries-served Unconnected;
+      listed = listed-without-connect q cn c small r.listed;
+      connected = sessions-client cl ss c Unconnected (among cl pl q cn ss st r s is c small) (sym ask.server) r.connected;
+      out = r.out;
+      named = named-as _ q q4 (alike-without q (1024 + c)) (named-set cl (length q.lists) c Unconnected (among cl pl q cn ss st r s is c small) (λ j h. absurd (nothing j h)) (omega arith) r.named);
+    }
+
+    pub disconnected-seen : state_of (slice_set cl c Unconnected) pl q4 ss st ≡ opened (client_at s c) None c s
+    disconnected-seen =
+        ap (λ qs. record { clients = slice_set cl c Unconnected; places = pl; queues = qs; sessions = ss.lists; sent = take 64 st.lists }) shown-served
+        ∙ by (client cl c) mine refl ∙ ap (λ t. opened (client_at t c) None c t) is
+      where
+        by : (x : Client) → is_connecting x ≡ true → client cl c ≡ x
+            → with_client c Unconnected (record (state_of cl pl q ss st) { queues = map (filter (is_no_connect_of c)) (shown entry_of q.lists) }) ≡ opened (client cl c) None c (state_of cl pl q ss st)
+        by Unconnected e was = absurd (false-true e)
+        by (Connecting k slots) e was = sym (ap (λ x. opened x None c (state_of cl pl q ss st)) was)
+        by (Open k n slots) e was = absurd (false-true e)
+        by (Closing k n) e was = absurd (false-true e)
+        by Gone e was = absurd (false-true e)
+        by Dead e was = absurd (false-true e)
+        by (Dying k n) e was = absurd (false-true e)
+
+  -- a close was served ----------------------------------------------------------------------------------------------------------------------
+  module _ (c : ℕ) (next : Client) (small : c < 64) (over : is_ending (client_at s c) ≡ true) (alone : is_apart next ≡ true) where
+    end : IsEnding (client cl c)
+    end = ending (client cl c) (ap is_ending (client-is cl pl q cn ss st r s is c) ∙ over)
+
+    none : NamesNone next
+    none = names-none next alone
+
+    abbrev q5 : Table
+    q5 = record q { lists = map (without (1088 + c)) q.lists }
+
+    pub parted-kept : IsKept (slice_set cl c next) pl q5 cn (record ss { lists = map (without c) ss.lists }) st
+    parted-kept = record {
+      sized = sized-as _ _ _ _ _ _ _ _ _ _ _ _ (length-set cl c next) refl (alike-without q (1088 + c)) (alike-same cn) (alike-without ss c) (alike-same st) r.sized;
+      entries = entries-client cl pl q5 c next (among cl pl q cn ss st r s is c small)
+          (λ j less i. absurd (end.connecting j (r.entries.connects j c less ((fewer-without q (1088 + c)).each j (1024 + c) i))))
+          (λ j less i. absurd (no_more j i))
+          (λ m e. absurd (end.opened (r.entries.waits c m e).server (r.entries.waits c m e).open_there))
+          (entries-fewer cl pl q q5 (fewer-without q (1088 + c)) (λ d m e j i. stay j d m e i) r.entries);
+      listed = listed-without-other q cn (1088 + c) (close-no c) r.listed;
+      connected = sessions-part cl ss c next (among cl pl q cn ss st r s is c small) none.server r.connected;
+      out = r.out;
+      named = named-as _ q q5 (alike-without q (1088 + c)) (named-set cl (length q.lists) c next (among cl pl q cn ss st r s is c small) (λ j h. absurd (none.named j h)) none.slots r.named);
+    }
+      where
+        no_more : (j : ℕ) → IsIn (1088 + c) (list_at q5 j) → ⊥
+        no_more j i = (in-without (1088 + c) (1088 + c) (list_at q j) (subst (IsIn (1088 + c)) (at-without q (1088 + c) j) i)).0 refl
+
+        stay : (j d m : ℕ) → place pl m ≡ Queued d → IsIn m (list_at q j) → IsIn m (list_at q5 j)
+        stay j d m e i =
+            subst (IsIn m) (sym (at-without q (1088 + c) j))
+            (without-in m (1088 + c) (list_at q j) (λ same. absurd (omega (arith, same, waiting-below cl pl q cn ss st r s is d m e))) i)
+
+    pub parted-seen : state_of (slice_set cl c next) pl q5 (record ss { lists = map (without c) ss.lists }) st ≡ parted c next s
+    parted-seen =
+        ap (λ qs. record { clients = slice_set cl c next; places = pl; queues = qs; sessions = map (without c) ss.lists; sent = take 64 st.lists })
+        (shown-without entry_of (is_no_close_of c) (1088 + c) (no-close c) q.lists) ∙ ap (λ t. parted c next t) is
+
+  -- a message is completed ------------------------------------------------------------------------------------------------------------------
+  module _ (m : ℕ) (below : m < 1024) (out : IsSome (completion (place_at s m))) where
+    not-queued : (p : Place) → IsSome (completion p) → is_queued p ≡ true → ⊥
+    not-queued Free some e = false-true e
+    not-queued (Queued c) some e = false-true some
+    not-queued (Held c) some e = false-true e
+    not-queued (Discarded c) some e = false-true e
+
+    pub complete-kept : IsKept cl (slice_set pl m Free) q cn ss (record st { lists = map (without m) st.lists })
+    complete-kept = record {
+      sized = sized-as _ _ _ _ _ _ _ _ _ _ _ _ refl (length-set pl m Free) (alike-same q) (alike-same cn) (alike-same ss) (alike-without st m) r.sized;
+      entries = entries-place cl pl q m Free (omega (arith, below, r.sized.places_long))
+          (λ j less i. absurd (not-queued (place_at s m) out (sym (ap is_queued (place-is cl pl q cn ss st r s is m)) ∙ r.entries.messages j m less i)))
+          (λ c e. absurd (cc)) r.entries;
+      listed = r.listed;
+      connected = r.connected;
+      out = sent-complete pl st m (omega (arith, below, r.sized.places_long)) r.out;
+      named = r.named;
+    }
+
+    pub complete-seen : state_of cl (slice_set pl m Free) q ss (record st { lists = map (without m) st.lists }) ≡ after_complete m s
+    complete-seen =
+        ap (λ ls. record { clients = cl; places = slice_set pl m Free; queues = shown entry_of q.lists; sessions = ss.lists; sent = ls }) (take-map (without m) 64 st.lists)
+        ∙ ap (after_complete m) is
+
+-- nothing was there to be taken
+pub none-taken : (t : Table) (k : ℕ) → None ≡ first_of (list_at t k) → with_list k (rest_of (list_at t k)) t ≡ t
+none-taken t k e = ap (λ xs. with_list k xs t) (same (list_at t k) e) ∙ ap (λ ls. record t { lists = ls }) (set-get_or t.lists k [])
+  where
+    same : (xs : List ℕ) → None ≡ first_of xs → rest_of xs ≡ xs
+    same [] e = refl
+    same (x ∷ xs) e = absurd (nothing x e)
+
+pub queue-none : (cl : List Client) (pl : List Place) (q cn ss st : Table) (r : IsKept cl pl q cn ss st) (s : State) (is : state_of cl pl q ss st ≡ s) (k : ℕ)
+    → None ≡ first_of (list_at q k) → queue_at s k ≡ []
+queue-none cl pl q cn ss st r s is k e = sym (queue-is cl pl q cn ss st r s is k) ∙ ap (map entry_of) (go (list_at q k) e)
+  where
+    go : (xs : List ℕ) → None ≡ first_of xs → xs ≡ []
+    go [] e = refl
+    go (x ∷ xs) e = absurd (nothing x e)
+
+pub sessions-none : (cl : List Client) (pl : List Place) (q cn ss st : Table) (s : State) (is : state_of cl pl q ss st ≡ s) (k : ℕ)
+    → None ≡ first_of (list_at ss k) → sessions_at s k ≡ []
+sessions-none cl pl q cn ss st s is k e = sym (ap (λ t. sessions_at t k) is) ∙ go (list_at ss k) e
+  where
+    go : (xs : List ℕ) → None ≡ first_of xs → xs ≡ []
+    go [] e = refl
+    go (x ∷ xs) e = absurd (nothing x e)

@@ -1,0 +1,28 @@
+use Rattle.std.proofs.Common.{◌∙◌, arith}
+use Rattle.std.proofs.lemmas.List.{length-set}
+use Rattle.aom_clients.proofs.Draining.{drained, head-is-in, tail-in, places-drained}
+use Rattle.aom_clients.proofs.withdrawal.discard.Goals as goal
+
+pub slice_copy_out-closed : goal.slice_copy_out-closed
+slice_copy_out-closed c =
+    let t = c.loop-place.sent in
+    let d = drained t c.take_first.new.self c.args.list c.in-Some.place c.loop-place.invariant.list c.in-Some.ensures.first c.take_first.ensures.rest in
+    c.loop-place.invariant.within c.in-Some.place (head-is-in t c.take_first.new.self c.args.list c.in-Some.place d)
+
+pub bounds-places-place : goal.bounds-places-place
+bounds-places-place c =
+    let t = c.loop-place.sent in
+    let d = drained t c.take_first.new.self c.args.list c.in-Some.place c.loop-place.invariant.list c.in-Some.ensures.first c.take_first.ensures.rest in
+    c.loop-place.invariant.within c.in-Some.place (head-is-in t c.take_first.new.self c.args.list c.in-Some.place d)
+
+pub loop-place-preserved : goal.loop-place-preserved
+loop-place-preserved c =
+    let t = c.loop-place.sent in
+    let u = c.take_first.new.self in
+    let d = drained t u c.args.list c.in-Some.place c.loop-place.invariant.list c.in-Some.ensures.first c.take_first.ensures.rest in
+    record {
+      list = d.listed;
+      within = λ m i. omega (arith, c.loop-place.invariant.within m (tail-in t u c.args.list c.in-Some.place d m i), length-set c.loop-place.places c.in-Some.place c.closed.result);
+      sent = d.emptied ∙ c.loop-place.invariant.sent;
+      places = places-drained t u c.args.list c.in-Some.place d c.loop-place.places c.closed.result c.closed.ensures ∙ c.loop-place.invariant.places;
+    }

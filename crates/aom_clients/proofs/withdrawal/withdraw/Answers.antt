@@ -1,0 +1,43 @@
+use Rattle.std.proofs.Common.{◌≡◌, ◌++◌, [], refl, sym, ap, ◌∙◌, arith}
+use Rattle.std.proofs.lemmas.List.{length-set, append-nil}
+use Rattle.aom_queues.specs.Lists.{list_at}
+use Rattle.aom_clients.specs.Withdrawals.{waiting_each}
+use Rattle.aom_clients.proofs.Leaving.{place, waiting-is}
+use Rattle.aom_clients.proofs.Draining.{drained, head-is-in, tail-in, places-drained, queues-drained, freed-drained, room-drained, drained-all}
+use Rattle.aom_clients.proofs.withdrawal.withdraw.Goals as goal
+
+pub slice_copy_out-was : goal.slice_copy_out-was
+slice_copy_out-was c =
+    let t = c.loop-place.sent in
+    let d = drained t c.take_first.new.self c.args.list c.in-Some.place c.loop-place.invariant.list c.in-Some.ensures.first c.take_first.ensures.rest in
+    c.loop-place.invariant.within c.in-Some.place (head-is-in t c.take_first.new.self c.args.list c.in-Some.place d)
+
+pub bounds-places-place : goal.bounds-places-place
+bounds-places-place c =
+    let t = c.loop-place.sent in
+    let d = drained t c.take_first.new.self c.args.list c.in-Some.place c.loop-place.invariant.list c.in-Some.ensures.first c.take_first.ensures.rest in
+    c.loop-place.invariant.within c.in-Some.place (head-is-in t c.take_first.new.self c.args.list c.in-Some.place d)
+
+pub loop-place-preserved : goal.loop-place-preserved
+loop-place-preserved c =
+    let t = c.loop-place.sent in
+    let u = c.take_first.new.self in
+    let m = c.in-Some.place in
+    let pl = c.loop-place.places in
+    let d = drained t u c.args.list m c.loop-place.invariant.list c.in-Some.ensures.first c.take_first.ensures.rest in
+    record {
+      list = d.listed;
+      within = λ n i. omega (arith, c.loop-place.invariant.within n (tail-in t u c.args.list m d n i), length-set pl m c.closed.result);
+      room = room-drained t u c.args.list m d (place pl m) c.loop-place.freed.items c.note.new.freed.items c.note.ensures c.loop-place.invariant.room;
+      sent = d.emptied ∙ c.loop-place.invariant.sent;
+      queues = queues-drained t u c.args.list m d c.loop-place.queues c.remove.new.self c.remove.ensures.removed ∙ c.loop-place.invariant.queues;
+      places = places-drained t u c.args.list m d pl c.closed.result c.closed.ensures ∙ c.loop-place.invariant.places;
+      freed = freed-drained t u c.args.list m d pl (place pl m) c.closed.result c.loop-place.freed.items c.note.new.freed.items refl c.closed.ensures c.note.ensures
+          ∙ c.loop-place.invariant.freed;
+    }
+
+pub returns-clause-freed : goal.returns-clause-freed
+returns-clause-freed c =
+    let none : list_at c.loop-place.sent c.args.list ≡ [] = drained-all c.loop-place.sent c.args.list (sym c.in_default.ensures.first) in
+    sym (append-nil c.loop-place.freed.items) ∙ ap (λ xs. c.loop-place.freed.items ++ waiting_each xs c.loop-place.places) (sym none) ∙ c.loop-place.invariant.freed
+    ∙ waiting-is (list_at c.args.sent.now c.args.list) c.args.places.now c.args.places.now (c.in_order.ensures.once c.args.list) (λ n i. refl)

@@ -1,0 +1,5 @@
+pub mod Table
+pub mod Clients
+pub mod Nodes
+pub mod Withdrawals
+pub mod Parts
