@@ -16,7 +16,8 @@ use Rattle.aom_clients.specs.Table.{completion, server_of}
 use Rattle.aom_clients.specs.Clients.{State, at_first, client_at, queue_at, sessions_at, sent_at, has_slot, sending_to, is_connect, first_client, client_after}
 use Rattle.aom_clients.specs.Nodes.{entry_of, connecting_in, slots_of, named_by, state_of, AreSent, IsKept}
 use Rattle.aom_clients.proofs.Entries.{connects-counted}
-use Rattle.aom_clients.proofs.Steps.{client, nothing, false-true, cases_lt, client-is, queue-is}
+use Rattle.aom_clients.proofs.Plain.{nothing, false-true, cases_lt}
+use Rattle.aom_clients.proofs.Steps.{client, client-is, queue-is}
 
 less : (m n : ℕ) → nat_lt m n ≡ true → m < n
 less m n h = grind arith

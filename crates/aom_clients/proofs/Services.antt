@@ -21,7 +21,8 @@ use Rattle.aom_clients.proofs.Entries.Kind.{message, connect, close}
 use Rattle.aom_clients.proofs.Tables.{alike-same, alike-with, alike-without, Fewer, fewer-with, fewer-without, at-without, shown, shown-without}
 use Rattle.aom_clients.proofs.Kept.{at-write, sized-as, named-set, named-as, entries-fewer, entries-client, entries-place, listed-rest-connect, listed-rest-other, listed-without-connect, listed-without-other, sessions-client, sessions-open, sessions-part, sent-taken, sent-complete}
 use Rattle.aom_clients.proofs.Leaving.{place}
-use Rattle.aom_clients.proofs.Steps.{client, queued-of, false-true, nothing, IsAsking, asking, asks, IsEnding, ending, NamesNone, names-none, client-is, place-is, queue-is, cell, among, waiting-below}
+use Rattle.aom_clients.proofs.Plain.{false-true, nothing}
+use Rattle.aom_clients.proofs.Steps.{client, queued-of, IsAsking, asking, asks, IsEnding, ending, NamesNone, names-none, client-is, place-is, queue-is, cell, among, waiting-below}
 
 -- a list by its first node
 pub shape : (xs : List ℕ) (n : ℕ) → first_of xs ≡ Some n → xs ≡ n ∷ rest_of xs

@@ -249,6 +249,18 @@ session_gone k (c ∷ cs) s = with_client c (at_gone (client_at s c)) (with_sent
 abbrev pub after_session_gone : ℕ → State → State
 after_session_gone k s = session_gone k (sessions_at s k) s
 
+-- what is left once all that goes with a server went: the entries of its queue in their order, and then its sessions in theirs
+abbrev pub queue_gone : ℕ → List Entry → State → State
+queue_gone k [] s = s
+queue_gone k (e ∷ es) s = queue_gone k es (gone k (e ∷ es) s)
+
+abbrev pub sessions_gone : ℕ → List ℕ → State → State
+sessions_gone k [] s = s
+sessions_gone k (c ∷ cs) s = sessions_gone k cs (session_gone k (c ∷ cs) s)
+
+abbrev pub server_gone : ℕ → State → State
+server_gone k s = sessions_gone k (sessions_at s k) (queue_gone k (queue_at s k) s)
+
 abbrev pub first_client : List ℕ → Option ℕ
 first_client [] = None
 first_client (c ∷ cs) = Some c
