@@ -1,6 +1,7 @@
 -- What reads answer, and the lists at first.
-use Rattle.std.proofs.Common.{◌≡◌, ◌≢◌, ◌<◌, ◌≤◌, ◌+◌, ◌⊎◌, ◌==◌, ℕ, zero, suc, Bool, true, false, cond, List, [], ◌∷◌, Some, None, length, replicate, get_or, refl, sym, ap, ◌∙◌, subst, inl, inr, arith}
-use Rattle.std.specs.Prelude.{map, filter, slice_index_or, nat_lt}
+use Rattle.std.proofs.Common.{Option, ◌≡◌, ◌≢◌, ◌<◌, ◌≤◌, ◌+◌, ◌⊎◌, ◌==◌, ℕ, zero, suc, Bool, true, false, cond, List, [], ◌∷◌, Some, None, length, replicate, get_or, refl, sym, ap, ◌∙◌, subst, inl, inr, arith}
+use Rattle.std.specs.Prelude.{map, filter, slice_index_or, nat_lt, All, IfSome}
+use Rattle.std.proofs.lemmas.List.Elements.{All-nil, All-cons}
 use Rattle.std.proofs.lemmas.Bool.{cases_eq, eq-eqb, ne_eqb, cond-true, cond-false}
 use Rattle.std.proofs.lemmas.Option.{same_Some}
 use Rattle.std.proofs.lemmas.List.{length-replicate, get_or_past}
@@ -10,11 +11,13 @@ use Rattle.aom_clients.specs.declared.client.Client.TheVariants.{Unconnected, Co
 use Rattle.aom_clients.specs.declared.place.Place.{Place}
 use Rattle.aom_clients.specs.declared.place.Place.TheVariants.{Free, Queued, Held, Discarded}
 use Rattle.aom_clients.specs.declared.entry.Entry.{Entry}
-use Rattle.aom_clients.specs.Table.{server_of}
+use Rattle.aom_clients.specs.declared.place.Completion.{Completion}
+use Rattle.aom_clients.specs.Table.{completion, server_of}
 use Rattle.aom_clients.specs.Clients.{State, at_first, client_at, queue_at, sessions_at, sent_at, has_slot, sending_to, is_connect, first_client, client_after}
-use Rattle.aom_clients.specs.Nodes.{entry_of, connecting_in, slots_of, named_by, state_of, IsKept}
+use Rattle.aom_clients.specs.Nodes.{entry_of, connecting_in, slots_of, named_by, state_of, AreSent, IsKept}
 use Rattle.aom_clients.proofs.Entries.{connects-counted}
-use Rattle.aom_clients.proofs.Steps.{client, nothing, false-true, cases_lt, client-is, queue-is}
+use Rattle.aom_clients.proofs.Plain.{nothing, false-true, cases_lt}
+use Rattle.aom_clients.proofs.Steps.{client, client-is, queue-is}
 
 less : (m n : ℕ) → nat_lt m n ≡ true → m < n
 less m n h = grind arith
@@ -177,3 +180,21 @@ pub at-first-seen : (cells : ℕ) → state_of all_clients all_places (empty 115
 unfolding at_first
 at-first-seen cells =
     ap (λ qs. record { clients = all_clients; places = all_places; queues = qs; sessions = list_of cells; sent = list_of 64 }) (shown-first cells)
+
+-- numbers that are answered ---------------------------------------------------------------------------------------------------------------
+pub if-some : {A : Type 0} (o : Option A) (P : A → Type 0) → ((a : A) → o ≡ Some a → P a) → IfSome o P
+if-some None P h = tt
+if-some (Some a) P h = h a refl
+
+pub all-in : (P : ℕ → Type 0) (xs : List ℕ) → ((x : ℕ) → IsIn x xs → P x) → All P xs
+all-in P [] h = All-nil P
+all-in P (x ∷ xs) h = All-cons P x xs (h x (inl refl)) (all-in P xs (λ y i. h y (inr i)))
+
+pub completed-below : (pl : List Place) (st : Table) → AreSent pl st → (m : ℕ) (t : Completion) → Some t ≡ completion (slice_index_or pl m Free) → t.client < 64
+completed-below pl st s m t e = go (slice_index_or pl m Free) refl e
+  where
+    go : (p : Place) → slice_index_or pl m Free ≡ p → Some t ≡ completion p → t.client < 64
+    go Free is e = absurd (nothing t (sym e))
+    go (Queued c) is e = absurd (nothing t (sym e))
+    go (Held c) is e = subst (λ (x : Completion). x.client < 64) (sym (same_Some t (record { client = c; is_told = true }) e)) (s.held c m is).0
+    go (Discarded c) is e = subst (λ (x : Completion). x.client < 64) (sym (same_Some t (record { client = c; is_told = false }) e)) (s.senders c m is)

@@ -6,15 +6,13 @@ use Rattle.aom_queues.specs.Lists.{IsIn}
 use Rattle.aom_clients.specs.declared.entry.Entry.TheVariants.{Connect, Message, Close}
 use Rattle.aom_clients.specs.Clients.{is_connect, is_no_connect_of, is_no_close_of}
 use Rattle.aom_clients.specs.Nodes.{entry_of, is_connect_node, connecting_in}
+use Rattle.aom_clients.proofs.Plain.{cases_lt}
 
 below : (m n : ℕ) → m < n → nat_lt m n ≡ true
 below m n h = grind arith
 
 above : (m n : ℕ) → n ≤ m → nat_lt m n ≡ false
 above m n h = grind arith
-
-pub cases_lt : (m n : ℕ) → (m < n) ⊎ (n ≤ m)
-cases_lt m n = grind arith
 
 -- a node is a message's, a connect's or a close's
 pub data Kind : ℕ → Type 0 where

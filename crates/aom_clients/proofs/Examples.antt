@@ -8,8 +8,8 @@ use Rattle.aom_clients.specs.declared.place.Place.TheVariants.{Free, Queued, Hel
 use Rattle.aom_clients.specs.declared.server.Server.{Server}
 use Rattle.aom_clients.specs.declared.entry.Entry.{Entry}
 use Rattle.aom_clients.specs.declared.entry.Entry.TheVariants.{Connect, Message, Close}
-use Rattle.aom_clients.specs.Table.{row, completion}
-use Rattle.aom_clients.specs.Clients.{State, connect_refusal, after_connect, send_refusal, after_send, after_close, after_die, freed, after_next, after_connected, after_closed, after_complete, after_next_gone, after_session_gone}
+use Rattle.aom_clients.specs.Table.{row}
+use Rattle.aom_clients.specs.Clients.{State, connect_refusal, after_connect, send_refusal, after_send, after_close, after_die, freed, after_next, after_connected, after_closed, after_complete, after_next_gone, after_session_gone, server_gone}
 
 -- client 0 with two message places and server 0: what it is at, what the places have, the queue, the sessions, and what holds a slot
 abbrev one : Client → Place → Place → List Entry → List ℕ → List ℕ → State
@@ -179,3 +179,12 @@ closing-over = refl
 
 dying-over : after_session_gone 0 (after_next_gone 0 (ends (Dying 0 5))) ≡ alone Dead
 dying-over = refl
+
+server-gone : server_gone 0 busy ≡ one Gone (Held 0) Free [] [] []
+server-gone = refl
+
+server-gone-asked : server_gone 0 asking ≡ alone Unconnected
+server-gone-asked = refl
+
+server-gone-dying : server_gone 0 (ends (Dying 0 5)) ≡ alone Dead
+server-gone-dying = refl

@@ -14,7 +14,8 @@ use Rattle.aom_clients.specs.Nodes.{entry_of, is_held_of, state_of, IsKept}
 use Rattle.aom_clients.proofs.Tables.{alike-same, alike-with, alike-then, shown}
 use Rattle.aom_clients.proofs.Kept.{sized-as, named-set, entries-client, sessions-first}
 use Rattle.aom_clients.proofs.Leaving.{place}
-use Rattle.aom_clients.proofs.Steps.{client, cases_lt, nothing, take-set-lt, IsWith, is-with, queue-is, cell}
+use Rattle.aom_clients.proofs.Plain.{cases_lt, nothing}
+use Rattle.aom_clients.proofs.Steps.{client, take-set-lt, IsWith, is-with, queue-is, cell}
 use Rattle.aom_clients.proofs.Services.{shape}
 use Rattle.aom_clients.proofs.Slots.{sent-release}
 

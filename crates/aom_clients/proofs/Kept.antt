@@ -16,6 +16,7 @@ use Rattle.aom_clients.specs.Nodes.{is_connect_node, connecting_in, is_connectin
 use Rattle.aom_clients.proofs.Entries.{Kind, kind, message-no, close-no, listing-yes, listing-no, listing-append}
 use Rattle.aom_clients.proofs.Entries.Kind.{message, connect, close}
 use Rattle.aom_clients.proofs.Tables.{Alike, Fewer, fewer-with, fewer-without, at-without, pushed-in, push-keeps, push-has}
+use Rattle.aom_clients.proofs.Plain.{nothing, false-true}
 
 -- what holds of the item that is written and of all others holds of each
 pub at-write : {A : Type 0} (d : A) (P : ℕ → A → Type 0) (xs : List A) (c : ℕ) (v : A) → c < length xs → P c v → ((i : ℕ) → i ≢ c → P i (slice_index_or xs i d))
@@ -224,9 +225,6 @@ listed-without-other q cn n other a =
     record { same = λ k. a.same k ∙ sym (ap connecting_in (at-without q n k) ∙ without-other n other (list_at q k)) }
 
 -- sessions --------------------------------------------------------------------------------------------------------------------------------
-nothing : {X : Type 0} (k : X) → None ≡ Some k → ⊥
-nothing k e = cc
-
 pub sessions-client : (cl : List Client) (ss : Table) (c : ℕ) (to : Client) → c < length cl → server_of to ≡ server_of (slice_index_or cl c Unconnected)
     → AreSessions cl ss → AreSessions (slice_set cl c to) ss
 sessions-client cl ss c to small same s =
@@ -292,15 +290,9 @@ sessions-first cl ss k c cs to small there none is free s =
 -- messages --------------------------------------------------------------------------------------------------------------------------------
 free-out : (c : ℕ) (p : Place) → p ≡ Free → is_out_of c p ≡ true → ⊥
 free-out c p e is = false-true (sym (ap (is_out_of c) e) ∙ is)
-  where
-    false-true : false ≡ true → ⊥
-    false-true e = cc
 
 free-held : (c : ℕ) (p : Place) → p ≡ Free → is_held_of c p ≡ true → ⊥
 free-held c p e is = false-true (sym (ap (is_held_of c) e) ∙ is)
-  where
-    false-true : false ≡ true → ⊥
-    false-true e = cc
 
 -- a message is sent: it waits, and holds a slot
 pub sent-send : (pl : List Place) (st : Table) (c m : ℕ) → c < 64 → m < length pl → length st.lists ≡ 128 → slice_index_or pl m Free ≡ Free

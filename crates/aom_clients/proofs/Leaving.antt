@@ -1,5 +1,5 @@
 -- A client leaves its server: what becomes of its messages, of the queues and of the lists.
-use Rattle.std.proofs.Common.{◌≡◌, ◌≢◌, ◌<◌, ◌≤◌, ◌+◌, ◌⊎◌, ◌==◌, ℕ, Bool, true, false, not, cond, List, [], ◌∷◌, Some, None, length, refl, sym, ap, ◌∙◌, subst, inl, inr, arith}
+use Rattle.std.proofs.Common.{◌≡◌, ◌≢◌, ◌<◌, ◌≤◌, ◌+◌, ◌⊎◌, ◌==◌, ℕ, Bool, true, false, not, cond, List, [], ◌∷◌, Some, length, refl, sym, ap, ◌∙◌, subst, inl, inr, arith}
 use Rattle.std.specs.Prelude.{map, filter, slice_index_or}
 use Rattle.std.proofs.lemmas.Bool.{cases_eq, eq-eqb, ne_eqb, eqb-true, cond-true, cond-false}
 use Rattle.std.proofs.lemmas.Option.{same_Some}
@@ -19,6 +19,7 @@ use Rattle.aom_clients.specs.Parts.{IsLeft}
 use Rattle.aom_clients.specs.Withdrawals.{without_each, left_at, left_each, waiting_each}
 use Rattle.aom_clients.proofs.Entries.{Kind, kind, message-is, connect-is, close-is}
 use Rattle.aom_clients.proofs.Entries.Kind.{message, connect, close}
+use Rattle.aom_clients.proofs.Plain.{cases_lt, false-true, nothing}
 
 -- what a client that leaves is at then ------------------------------------------------------------------------------------------------------
 pub record Leaves (was next : Client) : Type 0 where
@@ -27,9 +28,6 @@ pub record Leaves (was next : Client) : Type 0 where
   pub slots : slots_of next ≤ 64
   pub leaving : (k : ℕ) → is_leaving k was ≡ true → is_leaving k next ≡ true
   pub opened : (k : ℕ) → is_open_at k was ≡ true → is_leaving k next ≡ true
-
-nothing : {X : Type 0} (x : X) → None ≡ Some x → ⊥
-nothing x e = cc
 
 pub leaves : (was next : Client) → IsLeft was next → Leaves was next
 leaves Unconnected next (inl e) = absurd (nothing next e)
@@ -69,9 +67,6 @@ closed-twice (Discarded c) = refl
 pub place-there : (pl : List Place) (m : ℕ) (p : Place) → place pl m ≡ p → (p ≡ Free → ⊥) → m < length pl
 place-there pl m p e some = go (cases_lt m (length pl))
   where
-    cases_lt : (a b : ℕ) → (a < b) ⊎ (b ≤ a)
-    cases_lt a b = grind arith
-
     go : (m < length pl) ⊎ (length pl ≤ m) → m < length pl
     go (inl small) = small
     go (inr large) = absurd (some (sym e ∙ get_or_past pl m Free large))
@@ -87,9 +82,6 @@ each-stays (m ∷ ms) pl n e = go (cases_eq n m) (each-stays ms (left_at m pl) n
     same : (n ≡ m) ⊎ (n ≢ m) → place (left_at m pl) n ≡ place pl n
     same (inl is) = inside (cases_lt m (length pl))
       where
-        cases_lt : (a b : ℕ) → (a < b) ⊎ (b ≤ a)
-        cases_lt a b = grind arith
-
         inside : (m < length pl) ⊎ (length pl ≤ m) → place (left_at m pl) n ≡ place pl n
         inside (inl small) = ap (place (left_at m pl)) is ∙ get_or-set_same pl m (closed_place (place pl m)) Free small ∙ ap (λ k. closed_place (place pl k)) (sym is) ∙ e
         inside (inr large) =
@@ -104,9 +96,6 @@ each-stays (m ∷ ms) pl n e = go (cases_eq n m) (each-stays ms (left_at m pl) n
 at-closed : (m : ℕ) (pl : List Place) (n : ℕ) → closed_place (place (left_at m pl) n) ≡ closed_place (place pl n)
 at-closed m pl n = go (cases_eq n m) (cases_lt m (length pl))
   where
-    cases_lt : (a b : ℕ) → (a < b) ⊎ (b ≤ a)
-    cases_lt a b = grind arith
-
     go : (n ≡ m) ⊎ (n ≢ m) → (m < length pl) ⊎ (length pl ≤ m) → closed_place (place (left_at m pl) n) ≡ closed_place (place pl n)
     go (inl e) (inl less) =
         ap closed_place (ap (place (left_at m pl)) e ∙ get_or-set_same pl m (closed_place (place pl m)) Free less ∙ ap (λ k. closed_place (place pl k)) (sym e))
@@ -139,9 +128,6 @@ held-out c Free e = absurd (cc)
 held-out c (Queued d) e = absurd (cc)
 held-out c (Held d) e = e
 held-out c (Discarded d) e = absurd (cc)
-
-false-true : false ≡ true → ⊥
-false-true e = cc
 
 -- the places of a client that leaves, whose messages are on its two lists
 module _ (pl : List Place) (st : Table) (c : ℕ) (small : c < 64) (s : AreSent pl st) where

@@ -1,3 +1,4 @@
+pub mod Plain
 pub mod Entries
 pub mod Tables
 pub mod Kept

@@ -13,15 +13,16 @@ use Rattle.aom_clients.specs.declared.place.Place.TheVariants.{Free, Queued, Hel
 use Rattle.aom_clients.specs.declared.entry.Entry.{Entry}
 use Rattle.aom_clients.specs.declared.entry.Entry.TheVariants.{Connect, Message, Close}
 use Rattle.aom_clients.specs.Table.{is_queued, held_place, completion, sender}
-use Rattle.aom_clients.specs.Clients.{State, client_at, place_at, queue_at, sessions_at, with_client, with_queue, taken_entry, first_entry, taking, taken, after_next, opened, going, gone, parted, after_complete, after_next_gone, is_no_connect_of, is_no_close_of}
+use Rattle.aom_clients.specs.Clients.{MessageBelow, State, client_at, place_at, queue_at, sessions_at, with_client, with_queue, taken_entry, first_entry, taking, taken, after_next, opened, going, gone, parted, after_complete, after_next_gone, is_no_connect_of, is_no_close_of}
 use Rattle.aom_clients.specs.Nodes.{entry_of, is_connect_node, slots_of, named_by, state_of, Waits, AreSized, AreEntries, AreConnects, AreNamed, IsKept}
-use Rattle.aom_clients.specs.Parts.{MessageBelow, ConnectBelow, client_in, unlisted, held_by, given_up, slot_freed, place_freed, is_connecting, is_ending, is_apart}
+use Rattle.aom_clients.specs.Parts.{ConnectBelow, client_in, unlisted, held_by, given_up, slot_freed, place_freed, is_connecting, is_ending, is_apart}
 use Rattle.aom_clients.proofs.Entries.{Kind, kind, message-is, connect-is, close-is, message-no, close-no, no-connect, no-close}
 use Rattle.aom_clients.proofs.Entries.Kind.{message, connect, close}
 use Rattle.aom_clients.proofs.Tables.{alike-same, alike-with, alike-without, Fewer, fewer-with, fewer-without, at-without, shown, shown-without}
 use Rattle.aom_clients.proofs.Kept.{at-write, sized-as, named-set, named-as, entries-fewer, entries-client, entries-place, listed-rest-connect, listed-rest-other, listed-without-connect, listed-without-other, sessions-client, sessions-open, sessions-part, sent-taken, sent-complete}
 use Rattle.aom_clients.proofs.Leaving.{place}
-use Rattle.aom_clients.proofs.Steps.{client, false-true, nothing, IsAsking, asking, asks, IsEnding, ending, NamesNone, names-none, client-is, place-is, queue-is, cell, among, waiting-below}
+use Rattle.aom_clients.proofs.Plain.{false-true, nothing}
+use Rattle.aom_clients.proofs.Steps.{client, queued-of, IsAsking, asking, asks, IsEnding, ending, NamesNone, names-none, client-is, place-is, queue-is, cell, among, waiting-below}
 
 -- a list by its first node
 pub shape : (xs : List ℕ) (n : ℕ) → first_of xs ≡ Some n → xs ≡ n ∷ rest_of xs
@@ -130,6 +131,20 @@ module _ (cl : List Client) (pl : List Place) (q cn ss st : Table) (r : IsKept c
     taken-is e c e_is c_is =
         ap (λ x. Some (record { entry = e; client = x })) (c_is ∙ client-told e) ∙ ap (λ x. Some (record { entry = x; client = (taken_entry s e).client })) (entry-told e)
         ∙ ap (λ x. Some (taken_entry s x)) e_is ∙ sym (ap (first_entry s) queue-shape)
+
+    -- its client and its message's place are among those that there are
+    pub numbered : (e : Entry) (x : ℕ) → e ≡ entry_of n → x ≡ client_in pl e → (x < 64) × MessageBelow 1024 e
+    numbered e x e_is x_is = subst (λ y. (y < 64) × MessageBelow 1024 e) (sym x_is) (subst (λ y. (client_in pl y < 64) × MessageBelow 1024 y) (sym e_is) (go n (kind n) refl))
+      where
+        sent_by : (m : ℕ) → (c : ℕ) × (place pl m ≡ Queued c) → sender (place pl m) < 64
+        sent_by m w = subst (λ p. sender p < 64) (sym w.1) (r.out.waiting w.0 m w.1).0
+
+        go : (y : ℕ) → Kind y → n ≡ y → (client_in pl (entry_of y) < 64) × MessageBelow 1024 (entry_of y)
+        go _ (message m less) e =
+            subst (λ y. (client_in pl y < 64) × MessageBelow 1024 y) (sym (message-is m less))
+            (sent_by m (queued-of (place pl m) (r.entries.messages k m less (subst (λ y. IsIn y (list_at q k)) e head-in))), less)
+        go _ (connect c less) e = subst (λ y. (client_in pl y < 64) × MessageBelow 1024 y) (sym (connect-is c less)) (less, tt)
+        go _ (close c) e = subst (λ y. (client_in pl y < 64) × MessageBelow 1024 y) (sym (close-is c)) (omega (arith, e, small), tt)
 
     pub message-below : MessageBelow (length pl) (entry_of n)
     message-below = go n (kind n)

@@ -1,5 +1,5 @@
 -- The lists of messages once a client left its server, or its server went.
-use Rattle.std.proofs.Common.{◌≡◌, ◌≢◌, ◌<◌, ◌≤◌, ◌+◌, ◌⊎◌, ◌==◌, ◌++◌, ℕ, true, false, List, [], length, refl, sym, ap, ◌∙◌, subst, inl, inr, arith}
+use Rattle.std.proofs.Common.{◌≡◌, ◌≢◌, ◌<◌, ◌≤◌, ◌+◌, ◌⊎◌, ◌==◌, ◌++◌, ℕ, true, List, [], length, refl, sym, ap, ◌∙◌, subst, inl, inr, arith}
 use Rattle.std.specs.Prelude.{map}
 use Rattle.std.proofs.lemmas.Bool.{cases_eq, eq-eqb, ne_eqb, eqb-true, cond-true, cond-false}
 use Rattle.std.proofs.lemmas.List.{length-set, get_or-set_same, get_or-set_other}
@@ -13,9 +13,7 @@ use Rattle.aom_clients.specs.Table.{is_out_of}
 use Rattle.aom_clients.specs.Clients.{left_place}
 use Rattle.aom_clients.specs.Nodes.{is_held_of, AreSent}
 use Rattle.aom_clients.proofs.Leaving.{place}
-
-false-true : false ≡ true → ⊥
-false-true e = cc
+use Rattle.aom_clients.proofs.Plain.{false-true}
 
 -- what another client's message is, it stays
 left-other : (c d : ℕ) (p : Place) → d ≢ c → is_out_of d p ≡ true → left_place c p ≡ p

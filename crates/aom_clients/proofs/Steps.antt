@@ -1,5 +1,5 @@
 -- What each call makes of the lists: they are kept, and tell the state that its definition tells.
-use Rattle.std.proofs.Common.{◌≡◌, ◌≢◌, ◌<◌, ◌≤◌, ◌+◌, ◌-◌, ◌⊎◌, ◌++◌, ℕ, zero, suc, true, false, List, [], ◌∷◌, Some, None, length, take, refl, sym, ap, ◌∙◌, subst, inl, inr, arith}
+use Rattle.std.proofs.Common.{◌≡◌, ◌≢◌, ◌<◌, ◌≤◌, ◌+◌, ◌-◌, ◌⊎◌, ◌++◌, ℕ, zero, suc, true, List, [], ◌∷◌, Some, None, length, take, refl, sym, ap, ◌∙◌, subst, inl, inr, arith}
 use Rattle.std.specs.Prelude.{map, slice_index_or, slice_set}
 use Rattle.std.proofs.lemmas.Bool.{eq-eqb, eqb-true}
 use Rattle.std.proofs.lemmas.Option.{same_Some}
@@ -18,18 +18,10 @@ use Rattle.aom_clients.proofs.Entries.{message-is, connect-is, message-no, liste
 use Rattle.aom_clients.proofs.Tables.{alike-same, alike-with, pushed-in, push-keeps, push-has, shown, shown-at, shown-push}
 use Rattle.aom_clients.proofs.Kept.{at-write, sized-as, named-set, named-as, entries-client, IsApt, entries-push, listed-push-connect, listed-push-other, sessions-client, sent-send}
 use Rattle.aom_clients.proofs.Leaving.{place-there, place}
+use Rattle.aom_clients.proofs.Plain.{cases_lt, false-true, nothing}
 
 abbrev pub client : List Client → ℕ → Client
 client cl c = slice_index_or cl c Unconnected
-
-pub false-true : false ≡ true → ⊥
-false-true e = cc
-
-pub cases_lt : (m n : ℕ) → (m < n) ⊎ (n ≤ m)
-cases_lt m n = grind arith
-
-pub nothing : {X : Type 0} (x : X) → None ≡ Some x → ⊥
-nothing x e = cc
 
 -- clients, by what they are at ------------------------------------------------------------------------------------------------------------
 pub record IsAway (x : Client) : Type 0 where

@@ -1,5 +1,5 @@
 -- All clients and servers, and what each command and each part of a service makes of them.
-use Rattle.std.specs.Prelude.{◌==◌, ◌+◌, ◌++◌, ℕ, Bool, true, false, not, nat_lt, if◌then◌else◌, List, [], ◌∷◌, Option, Some, None, Result, Ok, Err, length, map, filter, replicate, slice_index_or, slice_set}
+use Rattle.std.specs.Prelude.{◌==◌, ◌<◌, ◌+◌, ◌++◌, ℕ, Bool, true, false, not, nat_lt, if◌then◌else◌, List, [], ◌∷◌, Option, Some, None, Result, Ok, Err, length, map, filter, replicate, slice_index_or, slice_set}
 use Rattle.aom_clients.specs.declared.client.Client.{Client}
 use Rattle.aom_clients.specs.declared.client.Client.TheVariants.{Unconnected, Connecting, Open, Closing, Dead, Dying}
 use Rattle.aom_clients.specs.declared.refusal.Refusal.{Refusal}
@@ -152,11 +152,21 @@ freed None c s = []
 freed (Some to) c s = filter (λ m. is_queued (place_at s m)) (sent_at s c)
 
 -- a service ----------------------------------------------------------------------------------------------------------------------------
+-- the place of an entry's message is below that number
+abbrev pub MessageBelow : ℕ → Entry → Type 0
+MessageBelow n (Connect client) = Unit {0}
+MessageBelow n (Message m) = m < n
+MessageBelow n (Close client) = Unit {0}
+
 -- the entry and the client that it is of
 abbrev pub taken_entry : State → Entry → Taken
 taken_entry s (Connect client) = record { entry = Connect client; client = client }
 taken_entry s (Message m) = record { entry = Message m; client = sender (place_at s m) }
 taken_entry s (Close client) = record { entry = Close client; client = client }
+
+-- its client and its message's place are among those that there are
+abbrev pub IsNumbered : Taken → Type 0
+IsNumbered t = (t.client < 64) × MessageBelow 1024 t.entry
 
 -- the first entry of a queue
 abbrev pub first_entry : State → List Entry → Option Taken
@@ -238,6 +248,18 @@ session_gone k (c ∷ cs) s = with_client c (at_gone (client_at s c)) (with_sent
 -- what is left once the first session of a server went with it: its client's messages hold no slot any more
 abbrev pub after_session_gone : ℕ → State → State
 after_session_gone k s = session_gone k (sessions_at s k) s
+
+-- what is left once all that goes with a server went: the entries of its queue in their order, and then its sessions in theirs
+abbrev pub queue_gone : ℕ → List Entry → State → State
+queue_gone k [] s = s
+queue_gone k (e ∷ es) s = queue_gone k es (gone k (e ∷ es) s)
+
+abbrev pub sessions_gone : ℕ → List ℕ → State → State
+sessions_gone k [] s = s
+sessions_gone k (c ∷ cs) s = sessions_gone k cs (session_gone k (c ∷ cs) s)
+
+abbrev pub server_gone : ℕ → State → State
+server_gone k s = sessions_gone k (sessions_at s k) (queue_gone k (queue_at s k) s)
 
 abbrev pub first_client : List ℕ → Option ℕ
 first_client [] = None

@@ -9,11 +9,7 @@ use Rattle.aom_clients.specs.declared.entry.Entry.{Entry}
 use Rattle.aom_clients.specs.declared.entry.Entry.TheVariants.{Connect, Message, Close}
 use Rattle.aom_clients.specs.Table.{row, sender, held_place}
 
--- the message of an entry has a place below that number, and the client of a connect is below it
-abbrev pub MessageBelow : ℕ → Entry → Type 0
-MessageBelow n (Message m) = m < n
-MessageBelow n other = Unit {0}
-
+-- the client of a connect is below that number
 abbrev pub ConnectBelow : ℕ → Entry → Type 0
 ConnectBelow n (Connect c) = c < n
 ConnectBelow n other = Unit {0}

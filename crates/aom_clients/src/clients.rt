@@ -1,8 +1,8 @@
 //! The calls.
-ghost use Rattle.std.specs.Prelude.{◌≡◌, ◌<◌, ◌≤◌, ◌++◌, ◌∷◌, [], true, false, Some, None, IfOk, IfSome, IsSome, IsNone, length, replicate, is_some};
+ghost use Rattle.std.specs.Prelude.{◌≡◌, ◌<◌, ◌≤◌, ◌++◌, ◌∷◌, [], true, false, Some, None, IfOk, IfSome, IsSome, IsNone, All, length, replicate, is_some};
 ghost use Rattle.aom_clients.specs.Table.{row, completion, session_of, server_of};
-ghost use Rattle.aom_clients.specs.Clients.{at_first, client_at, place_at, queue_at, sessions_at, sent_at, with_client, with_place, with_sent, queued, answer, has_room, connect_refusal, after_connect, has_slot, send_refusal, after_send, leaving, after_close, after_die, freed, first_entry, after_next, opened, after_connected, parted, after_closed, after_complete, after_next_gone, after_session_gone, first_client, client_after};
-ghost use Rattle.aom_clients.specs.Nodes.{is_open_at};
+ghost use Rattle.aom_clients.specs.Clients.{at_first, IsNumbered, client_at, place_at, queue_at, sessions_at, sent_at, with_client, with_place, with_sent, queued, answer, has_room, connect_refusal, after_connect, has_slot, send_refusal, after_send, leaving, after_close, after_die, freed, first_entry, after_next, opened, after_connected, parted, after_closed, after_complete, after_next_gone, after_session_gone, first_client, client_after};
+ghost use Rattle.aom_clients.specs.Nodes.{is_open_at, named_by};
 ghost use Rattle.aom_clients.specs.Parts.{IsLeft, is_connecting, is_ending, is_apart};
 
 use crate::entry::{CLIENTS, PLACES, close_node, connect_node};
@@ -72,7 +72,8 @@ impl Clients {
     /// What a client is at.
     pub fn client(&self, client: u8) -> Client
         requires { client < 64 }
-        ensures { result ≡ client_at self.now client }
+        ensures value { result ≡ client_at self.now client }
+        ensures server { IfSome (named_by result) (λ k. k < length self.now.queues) }
     {
         let at = client as usize;
         self.clients[at]
@@ -117,7 +118,8 @@ impl Clients {
     /// The client that has been connected longest to the server.
     pub fn first_session(&self, server: u16) -> Option<u8>
         requires { server < length self.now.queues }
-        ensures { result ≡ first_client (sessions_at self.now server) }
+        ensures value { result ≡ first_client (sessions_at self.now server) }
+        ensures below { IfSome result (λ c. c < 64) }
     {
         let first = self.sessions.first(server)?;
         Some(first as u8)
@@ -126,7 +128,8 @@ impl Clients {
     /// The client that was connected right after this one to the server that both have a session with.
     pub fn next_session(&self, server: u16, client: u8) -> Option<u8>
         requires { server_of (client_at self.now client) ≡ Some server }
-        ensures { result ≡ client_after client (sessions_at self.now server) }
+        ensures value { result ≡ client_after client (sessions_at self.now server) }
+        ensures below { IfSome result (λ c. c < 64) }
     {
         let next = self.sessions.next(server, client as u16)?;
         Some(next as u8)
@@ -243,6 +246,7 @@ impl Clients {
         requires { client < 64 }
         ensures freed { result.items ≡ freed (row (client_at self.old client)).close client self.old }
         ensures after { self.new ≡ after_close client self.old }
+        ensures below { All (λ m. m < 1024) result.items }
     {
         match self.client(client).closed() {
             Some(next) => self.leave(client, next),
@@ -255,6 +259,7 @@ impl Clients {
         requires { client < 64 }
         ensures freed { result.items ≡ freed (row (client_at self.old client)).die client self.old }
         ensures after { self.new ≡ after_die client self.old }
+        ensures below { All (λ m. m < 1024) result.items }
     {
         match self.client(client).dead() {
             Some(next) => self.leave(client, next),
@@ -268,6 +273,7 @@ impl Clients {
         requires next { IsLeft (client_at self.old client) next }
         ensures freed { result.items ≡ freed (Some next) client self.old }
         ensures after { self.new ≡ leaving (Some next) client self.old }
+        ensures below { All (λ m. m < 1024) result.items }
     {
         let was = self.client(client);
         let list = client as u16;
@@ -285,6 +291,7 @@ impl Clients {
         requires { server < length self.old.queues }
         ensures taken { result ≡ first_entry self.old (queue_at self.old server) }
         ensures after { self.new ≡ after_next server self.old }
+        ensures below { IfSome result (λ t. IsNumbered t) }
     {
         let node = self.queues.take_first(server)?;
         let entry = Entry::of_node(node);
@@ -361,6 +368,7 @@ impl Clients {
         requires taken { IsSome (completion (place_at self.old place)) }
         ensures told { Some result ≡ completion (place_at self.old place) }
         ensures after { self.new ≡ after_complete place self.old }
+        ensures below { result.client < 64 }
     {
         let was = self.places[place as usize];
         self.sent.remove(place);
@@ -374,6 +382,7 @@ impl Clients {
         requires { server < length self.old.queues }
         ensures taken { result ≡ first_entry self.old (queue_at self.old server) }
         ensures after { self.new ≡ after_next_gone server self.old }
+        ensures below { IfSome result (λ t. IsNumbered t) }
         ensures empty { IsNone result → queue_at self.new server ≡ [] }
     {
         let node = self.queues.take_first(server)?;
@@ -393,6 +402,7 @@ impl Clients {
         requires empty { queue_at self.old server ≡ [] }
         ensures client { result ≡ first_client (sessions_at self.old server) }
         ensures after { self.new ≡ after_session_gone server self.old }
+        ensures below { IfSome result (λ c. c < 64) }
     {
         let client = self.sessions.take_first(server)? as u8;
         release(&mut self.sent, client);

@@ -1,6 +1,7 @@
 //! What an entry that is taken, and a client that leaves, make of each part of the state.
 ghost use Rattle.std.specs.Prelude.{◌≡◌, ◌<◌, length};
-ghost use Rattle.aom_clients.specs.Parts.{MessageBelow, ConnectBelow, CanClose, client_in, unlisted, held_by, given_up, slot_freed, place_freed, close_queued};
+ghost use Rattle.aom_clients.specs.Clients.{MessageBelow};
+ghost use Rattle.aom_clients.specs.Parts.{ConnectBelow, CanClose, client_in, unlisted, held_by, given_up, slot_freed, place_freed, close_queued};
 
 use crate::entry::close_node;
 use crate::{Client, Entry, Place};

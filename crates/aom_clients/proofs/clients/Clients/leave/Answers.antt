@@ -1,3 +1,5 @@
+use Rattle.std.proofs.lemmas.List.Elements.{All-filter}
+use Rattle.std.specs.Prelude.{All}
 use Rattle.std.proofs.Common.{◌≡◌, ◌<◌, ◌+◌, [], List, length, refl, sym, ap, ◌∙◌, subst, arith}
 use Rattle.std.specs.Prelude.{map, filter, slice_index_or}
 use Rattle.aom_queues.specs.Lists.{Table, IsIn, list_at, with_list, without}
@@ -10,6 +12,7 @@ use Rattle.aom_clients.proofs.Same.{kept-as, state-as, written}
 use Rattle.aom_clients.proofs.clients.Clients.leave.Goals as goal
 use Rattle.aom_clients.proofs.Departures.{sent-below, past-below, can-close, left-kept, left-seen, freed-is}
 use Rattle.aom_clients.proofs.Steps.{client-is}
+use Rattle.aom_clients.proofs.Answering.{all-in}
 
 pub withdraw-freed-requires-clause-within : goal.withdraw-freed-requires-clause-within
 withdraw-freed-requires-clause-within c =
@@ -41,7 +44,7 @@ queue_close-requires c =
     c.remove.ensures.removed ∙ ap (λ n. record c.withdraw-freed.new.queues { lists = map (without n) c.withdraw-freed.new.queues.lists }) c.connect_node.ensures
     ∙ ap (λ (t : Table). record t { lists = map (without (1024 + c.args.client)) t.lists }) c.withdraw-freed.ensures.queues in
     subst (CanClose c.client-was.result c.args.client) (sym queue)
-    (can-close _ _ _ _ _ _ c.self.invariant _ c.self.view_is c.args.client c.args.next c.requires.client c.requires.next c.client-was.result (client-is _ _ _ _ _ _ c.self.invariant _ c.self.view_is c.args.client ∙ sym c.client-was.ensures))
+    (can-close _ _ _ _ _ _ c.self.invariant _ c.self.view_is c.args.client c.args.next c.requires.client c.requires.next c.client-was.result (client-is _ _ _ _ _ _ c.self.invariant _ c.self.view_is c.args.client ∙ sym c.client-was.ensures.value))
 
 pub invariant_of-self : goal.invariant_of-self
 invariant_of-self c =
@@ -63,7 +66,7 @@ invariant_of-self c =
     let lists = c.discard.ensures.sent ∙ ap (with_list (64 + c.args.client) []) sent in
     let queues = c.queue_close.ensures ∙ ap (close_queued c.client-was.result c.args.client) queue in
     kept-as _ _ _ _ _ _ _ _ _ _ _ _ refl places queues c.remove-2.ensures.removed refl lists
-    (left-kept _ _ _ _ _ _ c.self.invariant _ c.self.view_is c.args.client c.args.next c.requires.client c.requires.next c.client-was.result c.client-was.ensures)
+    (left-kept _ _ _ _ _ _ c.self.invariant _ c.self.view_is c.args.client c.args.next c.requires.client c.requires.next c.client-was.result c.client-was.ensures.value)
 
 pub returns-clause-freed : goal.returns-clause-freed
 returns-clause-freed c =
@@ -90,4 +93,13 @@ returns-clause-after c =
     let lists = c.discard.ensures.sent ∙ ap (with_list (64 + c.args.client) []) sent in
     let queues = c.queue_close.ensures ∙ ap (close_queued c.client-was.result c.args.client) queue in
     state-as _ _ _ _ _ c.queue_close.new.queues _ c.self.inside.sessions _ c.discard.new.sent refl places queues refl lists
-    ∙ left-seen _ _ _ _ _ _ c.self.invariant _ c.self.view_is c.args.client c.args.next c.requires.client c.requires.next c.client-was.result c.client-was.ensures
+    ∙ left-seen _ _ _ _ _ _ c.self.invariant _ c.self.view_is c.args.client c.args.next c.requires.client c.requires.next c.client-was.result c.client-was.ensures.value
+
+pub returns-clause-below : goal.returns-clause-below
+returns-clause-below c =
+    let st = c.self.inside.sent in
+    let pl = c.deref_mut.result.now in
+    let xs = list_at st c.args.client in
+    let below : All (λ m. m < 1024) xs =
+    all-in (λ m. m < 1024) xs (λ m i. omega (arith, sent-below _ _ _ _ _ _ c.self.invariant _ c.self.view_is c.args.client c.args.next c.requires.client c.requires.next m i, c.self.invariant.sized.places_long)) in
+    subst (All (λ m. m < 1024)) (sym c.withdraw-freed.ensures.freed) (All-filter (λ m. is_queued (slice_index_or pl m Free)) (λ m. m < 1024) xs below)

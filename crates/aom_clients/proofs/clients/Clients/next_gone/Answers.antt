@@ -3,12 +3,13 @@ use Rattle.aom_queues.specs.Lists.{Table, IsFree, list_at, with_list, rest_of, f
 use Rattle.aom_clients.specs.declared.client.Client.{Client}
 use Rattle.aom_clients.specs.declared.place.Place.{Place}
 use Rattle.aom_clients.specs.Nodes.{entry_of}
-use Rattle.aom_clients.specs.Parts.{MessageBelow, ConnectBelow, given_up, place_freed}
+use Rattle.aom_clients.specs.Parts.{ConnectBelow, given_up, place_freed}
 use Rattle.aom_clients.proofs.Same.{kept-as, state-as, written}
 use Rattle.aom_clients.proofs.clients.Clients.next_gone.Goals as goal
-use Rattle.aom_clients.specs.Clients.{first_entry, gone, queue_at}
+use Rattle.aom_clients.specs.Clients.{MessageBelow, first_entry, gone, queue_at}
 use Rattle.aom_clients.specs.Parts.{client_in}
 use Rattle.aom_clients.proofs.Services.{none-taken, queue-none, message-below, connect-below, taken-is, gone-kept, gone-seen}
+use Rattle.aom_clients.proofs.Services.{numbered}
 
 pub invariant_of-self : goal.invariant_of-self
 invariant_of-self c =
@@ -107,3 +108,13 @@ returns-in_err-node-clause-empty c = λ _.
     let none = queue-none _ _ _ _ _ _ c.self.invariant _ c.self.view_is c.args.server c.in_err-node.ensures.first in
     let same = c.take_first.ensures.rest ∙ none-taken c.self.inside.queues c.args.server c.in_err-node.ensures.first in
     ap (λ s. queue_at s c.args.server) (state-as _ _ _ _ _ c.take_first.new.self _ c.self.inside.sessions _ c.self.inside.sent refl refl same refl refl ∙ c.self.view_is) ∙ none
+
+pub returns-clause-below : goal.returns-clause-below
+returns-clause-below c =
+    let q = c.self.inside.queues in
+    let n = c.in_ok-node.node in
+    let first : first_of (list_at q c.args.server) ≡ Some n = sym c.in_ok-node.ensures.first in
+    let small : n < 1152 = omega (arith, c.in_ok-node.ensures.below, c.self.invariant.sized.queues_nodes) in
+    let free : IsFree (with_list c.args.server (rest_of (list_at q c.args.server)) q) n = subst (λ (t : Table). IsFree t n) c.take_first.ensures.rest c.in_ok-node.ensures.free in
+    numbered _ _ _ _ _ _ c.self.invariant _ c.self.view_is c.args.server n c.requires first small free c.of_node-entry.result c.client_of-client.result c.of_node-entry.ensures
+    (c.client_of-client.ensures ∙ ap (λ ps. client_in ps c.of_node-entry.result) c.deref.ensures.value)

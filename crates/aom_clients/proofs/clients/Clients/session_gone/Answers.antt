@@ -79,3 +79,11 @@ returns-clause-after c =
     ap (slice_set cl d) (c.at_gone.ensures ∙ ap at_gone (get_or_read cl d c.index.result.now small c.index.ensures Unconnected)) in
     state-as _ _ _ _ _ c.self.inside.queues _ c.take_first.new.self _ c.release.new.sent clients refl refl c.take_first.ensures.rest c.release.ensures
     ∙ session-gone-seen _ _ _ _ _ _ c.self.invariant _ c.self.view_is c.args.server d c.requires.server c.requires.empty first free
+
+pub returns-clause-below : goal.returns-clause-below
+returns-clause-below c =
+    let ss = c.self.inside.sessions in
+    let d = c.in_ok-client.field-0 in
+    let first : first_of (list_at ss c.args.server) ≡ Some d = sym c.in_ok-client.ensures.first in
+    let free : IsFree (with_list c.args.server (rest_of (list_at ss c.args.server)) ss) d = subst (λ (t : Table). IsFree t d) c.take_first.ensures.rest c.in_ok-client.ensures.free in
+    session-below _ _ _ _ _ _ c.self.invariant _ c.self.view_is c.args.server d c.requires.server c.requires.empty first free
