@@ -16,11 +16,11 @@ fn open_all(clients: &mut Clients) {
 
 /// How many clients follow one another in the order of their numbers.
 fn count_sessions(clients: &Clients) -> u32 {
-    let mut count = 0;
+    let mut count: u32 = 0;
     let mut session = first_session(clients, SERVER);
     for client in 0..64 {
         if session == Some(client) {
-            count += 1;
+            count = count.saturating_add(1);
         }
         session = next_session(clients, client);
     }
@@ -29,10 +29,10 @@ fn count_sessions(clients: &Clients) -> u32 {
 
 /// How many messages are sent that take all places, by the clients in turn.
 fn send_all(clients: &mut Clients) -> u32 {
-    let mut count = 0;
+    let mut count: u32 = 0;
     for place in 0..1024 {
         if send(clients, (place % 64) as u8, place) == 0 {
-            count += 1;
+            count = count.saturating_add(1);
         }
     }
     count
@@ -40,10 +40,10 @@ fn send_all(clients: &mut Clients) -> u32 {
 
 /// How many messages are taken in the order in which they were sent.
 fn take_all(clients: &mut Clients) -> u32 {
-    let mut count = 0;
+    let mut count: u32 = 0;
     for place in 0..1024u16 {
         if next_kind(clients, SERVER) == (2, (place % 64) as u8) {
-            count += 1;
+            count = count.saturating_add(1);
         }
     }
     count
@@ -51,11 +51,11 @@ fn take_all(clients: &mut Clients) -> u32 {
 
 /// How many messages of these places are completed, and told or not.
 fn complete_some(clients: &mut Clients, from: u16, is_told: bool) -> u32 {
-    let mut count = 0;
+    let mut count: u32 = 0;
     for place in 0..512 {
         if let Some(completion) = complete(clients, from % 1024 + place) {
             if completion.is_told == is_told {
-                count += 1;
+                count = count.saturating_add(1);
             }
         }
     }
@@ -74,12 +74,12 @@ fn leave_all(clients: &mut Clients) {
 
 /// Takes and serves the closes, and answers how many there were.
 fn serve_closes(clients: &mut Clients) -> u32 {
-    let mut count = 0;
+    let mut count: u32 = 0;
     for _ in 0..64 {
         let (kind, client) = next_kind(clients, SERVER);
         if kind == 3 {
             closed(clients, client);
-            count += 1;
+            count = count.saturating_add(1);
         }
     }
     count
