@@ -14,7 +14,7 @@ use Rattle.aom_sound.specs.Effects.{Course, Goes_its_way, Stops, coursed}
 use Rattle.aom_sound.specs.Moves.{answered, asking, counted, dispatch_ends, failed, handled, is_counted, main_ends, object_ends, step, step_task}
 use Rattle.aom_sound.specs.Places.{Elsewhere, Object, Root, held}
 use Rattle.aom_sound.specs.State.{Answered, Asks, Choice, Destroy, Dispatch, Dispatched, Goes, Main_left, Object_left, Of_main, Of_object, Of_root, Rest, Run, State, Task, raised}
-use Rattle.aom_sound.specs.World.{Completes, Completion, Cuts, Outside, Passes, Picks, Reaches, Strays, Turning, Waits, begins, boot_state, moves, turn, turned, turning, turns, Hears, Kills, Polls}
+use Rattle.aom_sound.specs.World.{Completes, Cuts, Heard, Outside, Passes, Picks, Reaches, Strays, Turning, Waits, begins, boot_state, moves, turn, turned, turning, turns, Hears, Kills, Polls}
 use Rattle.aom_transcript.specs.declared.line.Line.{Line}
 
 -- the counts after a move, by those before it: where the dispatch of an object ends steps are counted anew, and it counts
@@ -92,8 +92,8 @@ moves_count : (p : Image) (c : Choice) (s u : State) → s.rest.steps ≡ in_ran
 moves_count p c s u within e = move_steps p c s u e ∙ ap (λ n. cond (restarts p s.tasks) 0 n) (counted_steps s.tasks s.rest.steps within)
 
 -- a turn counts anew where it dispatches an object
-turn_count : (p : Image) (outside : Outside) (answer : Option Completion) (s u : State) → turn p outside answer s ≡ Goes u → u.rest.steps ≡ cond (starts (turning outside answer s)) 0 s.rest.steps
-turn_count p outside answer s u e = go (turning outside answer s) e
+turn_count : (p : Image) (outside : Outside) (heard : Heard) (s u : State) → turn p outside heard s ≡ Goes u → u.rest.steps ≡ cond (starts (turning outside heard s)) 0 s.rest.steps
+turn_count p outside heard s u e = go (turning outside heard s) e
   where
     go : (k : Turning) → turned p s k ≡ Goes u → u.rest.steps ≡ cond (starts k) 0 s.rest.steps
     go (Picks x) e = ap (λ (v : State). v.rest.steps) (dispatched_so p s u x e).2
@@ -107,8 +107,8 @@ turn_count p outside answer s u e = go (turning outside answer s) e
     go Waits e = ap (λ (v : State). v.rest.steps) (sym (goes_same _ u e))
 
 -- and ends no dispatch
-turn_dispatches : (p : Image) (outside : Outside) (answer : Option Completion) (s u : State) → turn p outside answer s ≡ Goes u → u.rest.dispatches ≡ s.rest.dispatches
-turn_dispatches p outside answer s u e = go (turning outside answer s) e
+turn_dispatches : (p : Image) (outside : Outside) (heard : Heard) (s u : State) → turn p outside heard s ≡ Goes u → u.rest.dispatches ≡ s.rest.dispatches
+turn_dispatches p outside heard s u e = go (turning outside heard s) e
   where
     go : (k : Turning) → turned p s k ≡ Goes u → u.rest.dispatches ≡ s.rest.dispatches
     go (Picks x) e = ap (λ (v : State). v.rest.dispatches) (dispatched_so p s u x e).2
@@ -131,8 +131,8 @@ runs_count p outside (moves {s = s} {u = u} c reached busy opened goes) =
     let so = runs_count p outside reached in
     let within : s.rest.steps ≡ in_range s.rest.steps = omega (arith, so) in
     moves_count p c s u within goes ∙ ap (λ n. cond (restarts p s.tasks) 0 n) (ap (λ n. in_range (n + steps_of s.tasks)) so ∙ one_more (taken reached) (steps_of s.tasks) (at_most_one s.tasks)) ∙ anew (restarts p s.tasks) (taken reached + steps_of s.tasks)
-runs_count p outside (turns {s = s} {u = u} answer reached between well goes) =
-    turn_count p outside answer s u goes ∙ ap (λ n. cond (starts (turning outside answer s)) 0 n) (runs_count p outside reached) ∙ anew (starts (turning outside answer s)) (taken reached)
+runs_count p outside (turns {s = s} {u = u} heard reached between well goes) =
+    turn_count p outside heard s u goes ∙ ap (λ n. cond (starts (turning outside heard s)) 0 n) (runs_count p outside reached) ∙ anew (starts (turning outside heard s)) (taken reached)
 
 pub steps_are_counted : StepsAreCounted
 steps_are_counted = record {

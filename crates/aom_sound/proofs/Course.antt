@@ -13,7 +13,7 @@ use Rattle.aom_sound.specs.Leaves.{HasArrived, IsLeaving, IsOver, LeavesArrive, 
 use Rattle.aom_sound.specs.Moves.{IsOpen, step}
 use Rattle.aom_sound.specs.State.{A_mark, Choice, Destroy, Goes, Item, Run, State, Task, Unwind}
 use Rattle.aom_sound.specs.WellTyped.{Keeps, WellTyped}
-use Rattle.aom_sound.specs.World.{IsBetween, IsBusy, Reaches, begins, boot_state, moves, turn, turns, Outside, Completion, AnswersWell, turning}
+use Rattle.aom_sound.specs.World.{IsBetween, IsBusy, Reaches, begins, boot_state, moves, turn, turns, Outside, Heard, HearsWell}
 use Rattle.aom_transcript.specs.declared.line.Line.{Line}
 
 pub leaves_move : LeavesMove
@@ -29,7 +29,7 @@ module _ (p : Image) (t : Typing) (outside : Outside) (wired : IsWired p) (typed
   pub well_on : (from : State) → WellTyped p t from → (lines : List Line) (s : State) → Reaches p outside from lines s → WellTyped p t s
   well_on from w _ _ begins = w
   well_on from w _ _ (moves {lines = lines} {s = s} {u = u} c before busy choice e) = subst (λ o. Keeps p t o) e (step_keeps p t wired typed c s (well_on from w lines s before) choice.name)
-  well_on from w _ _ (turns {lines = lines} {s = s} {u = u} answer before between owed e) = subst (λ o. Keeps p t o) e (turn_goes_on p t outside wired typed answer s (well_on from w lines s before) between owed)
+  well_on from w _ _ (turns {lines = lines} {s = s} {u = u} heard before between well e) = subst (λ o. Keeps p t o) e (turn_goes_on p t outside wired typed heard s (well_on from w lines s before) between well)
 
   module _ (from : State) (well : WellTyped p t from) (code : ℤ) (below : List Task) (entries items : List Item) where
     abbrev Course : State → Type 0
@@ -76,14 +76,14 @@ module _ (p : Image) (t : Typing) (outside : Outside) (wired : IsWired p) (typed
     moved_on lines s u c w busy choice e (inl h) = still s u c w h e
     moved_on lines s u c w busy choice e (inr h) = inr (record { last = h.last; course = h.course; choice = h.choice; after = h.after; move = h.move; arrives = h.arrives; lines = _; reaches = moves c h.reaches busy choice e })
 
-    turned : (answer : Option Completion) (s u : State) → IsBetween s → AnswersWell p s (turning outside answer s) → turn p outside answer s ≡ Goes u → Course s → Course u
-    turned answer s u between owed e (inl h) = absurd (subst (λ ts. IsOver p (length s.items) code below ts) between.idle h.leaving.over)
-    turned answer s u between owed e (inr h) = inr (record { last = h.last; course = h.course; choice = h.choice; after = h.after; move = h.move; arrives = h.arrives; lines = _; reaches = turns answer h.reaches between owed e })
+    turned : (heard : Heard) (s u : State) → IsBetween s → HearsWell p outside heard s → turn p outside heard s ≡ Goes u → Course s → Course u
+    turned heard s u between hears e (inl h) = absurd (subst (λ ts. IsOver p (length s.items) code below ts) between.idle h.leaving.over)
+    turned heard s u between hears e (inr h) = inr (record { last = h.last; course = h.course; choice = h.choice; after = h.after; move = h.move; arrives = h.arrives; lines = _; reaches = turns heard h.reaches between hears e })
 
     course_of : IsLeaving p code below entries items from → (lines : List Line) (s : State) → Reaches p outside from lines s → Course s
     course_of l _ _ begins = inl (record { dealt = []; rest = entries; all = refl; course = leaves; leaving = l })
     course_of l _ _ (moves {lines = lines} {s = s} {u = u} c before busy choice e) = moved_on lines s u c (well_on from well lines s before) busy choice e (course_of l lines s before)
-    course_of l _ _ (turns {lines = lines} {s = s} {u = u} answer before between owed e) = turned answer s u between owed e (course_of l lines s before)
+    course_of l _ _ (turns {lines = lines} {s = s} {u = u} heard before between hears e) = turned heard s u between hears e (course_of l lines s before)
 
 pub leaves_arrive : LeavesArrive
 leaves_arrive p t outside wired typed before s reached code below at =

@@ -1,7 +1,7 @@
 -- Only registers that a method has come to own: an instruction names no other, and arguments come to the first ones.
 use Rattle.std.specs.Ordering.{int_eq}
 use Rattle.aom_image.specs.declared.method.Role.TheVariants.{Error}
-use Rattle.aom_sound.specs.World.{Completion, Outside, turn}
+use Rattle.aom_sound.specs.World.{Heard, Outside, turn}
 use Rattle.aom_sound.proofs.Turned.{completes, keeps_all, kills, picks, turns_so}
 use Rattle.std.proofs.Common.{Bool, List, None, Option, Some, [], arith, cond, false, length, refl, subst, suc, true, ℕ, ℤ, ◌+◌, ◌∷◌, ◌≡◌, ◌≤◌, pos}
 use Rattle.aom_image.specs.Image.{Image}
@@ -226,8 +226,8 @@ moves p wired c s u all e = go s.tasks e
     go (Unwind code ∷ ts) e = unwind_in_range p code ts s.items (counted p s) u all e
     go (Dispatched d ∷ ts) e = subst (λ v. AllInRange v.cells) (goes_same _ u e) (dispatch_in_range p d (counted p s) all)
 
-turns : (p : Image) (outside : Outside) (answer : Option Completion) (s u : State) → AllInRange s.cells → turn p outside answer s ≡ Goes u → AllInRange u.cells
-turns p outside answer s u all e = elim (turns_so p outside answer s u e) as (λ v d. AllInRange v.cells) [
+turns : (p : Image) (outside : Outside) (heard : Heard) (s u : State) → AllInRange s.cells → turn p outside heard s ≡ Goes u → AllInRange u.cells
+turns p outside heard s u all e = elim (turns_so p outside heard s u e) as (λ v d. AllInRange v.cells) [
   | keeps_all r ↦ all
   | completes code o r other ↦ asks_in_range o.name _ s.cells all
   | kills n r k ↦ bereaved_in_range p n s.cells all

@@ -23,7 +23,7 @@ use Rattle.aom_sound.specs.Places.{Elsewhere, Going, Object, Root, held}
 use Rattle.aom_sound.specs.State.{A_mark, An_operation, Choice, Destroy, Dispatch, Dispatched, Frame, Goes, Inside, Item, Answered, Asks, Main_left, Object_left, Of_main, Of_object, Of_root, Run, Seat, State, Task, Trapped, Unwind, counter, frame_of, next, resumed, set_counter, set_word, to_place}
 use Rattle.aom_sound.specs.Steps.{Acts, Arrives, Clears, Comes_out, Ends, Fits, IsStraight, Move, Rests, Sets, Undoes, Vanishes}
 use Rattle.aom_sound.specs.Tasks.{Below, Holds, TaskLaw}
-use Rattle.aom_sound.specs.World.{Completion, Outside, turn}
+use Rattle.aom_sound.specs.World.{Heard, Outside, turn}
 use Rattle.aom_sound.proofs.Turned.{completes, keeps_all, kills, picks, turns_so}
 use Rattle.aom_sound.specs.Enlisted.{cancel_method, ended_cells, part_of}
 
@@ -183,10 +183,10 @@ keeps p c l s u k h e = kept p c l s k u h (steps_are_moves p c s u e)
 
 -- a turn keeps it, where it holds of the method of each object that is dispatched
 pub turn_keeps_it :
-    (p : Image) (outside : Outside) (answer : Option Completion) (l : TaskLaw) (s u : State) →
+    (p : Image) (outside : Outside) (heard : Heard) (l : TaskLaw) (s u : State) →
     ((m height : ℕ) (x : Seat) → l.Runs (frame_of m (Inside x.object x.place) height) (Trapped ∷ Dispatched (Of_object x) ∷ [])) → ((x : Seat) → l.Stands (Dispatched (Of_object x) ∷ [])) →
-    Holds l s.tasks → turn p outside answer s ≡ Goes u → Holds l u.tasks
-turn_keeps_it p outside answer l s u runs stands h e = elim (turns_so p outside answer s u e) as (λ v d. Holds l v.tasks) [
+    Holds l s.tasks → turn p outside heard s ≡ Goes u → Holds l u.tasks
+turn_keeps_it p outside heard l s u runs stands h e = elim (turns_so p outside heard s u e) as (λ v d. Holds l v.tasks) [
   | keeps_all r ↦ h
   | completes code o r other ↦ h
   | kills n r k ↦ h

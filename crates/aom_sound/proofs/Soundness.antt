@@ -27,7 +27,7 @@ use Rattle.aom_sound.specs.Registers.{AllInRange}
 use Rattle.aom_sound.specs.State.{Answered, Asks, Object_left, Of_object, Choice, Dispatch, Dispatched, Goes, IsStuck, Main_left, Of_main, Of_root, Outcome, Rest, State, Task}
 use Rattle.aom_sound.specs.Steps.{Move}
 use Rattle.aom_sound.specs.WellTyped.{Good, Keeps, WellTyped}
-use Rattle.aom_sound.specs.World.{Completes, Completion, Cuts, IsBetween, IsBusy, Outside, Passes, Picks, Reaches, Strays, Turning, Waits, begins, boot_state, moves, turn, turned, turning, turns, Hears, Kills, Polls}
+use Rattle.aom_sound.specs.World.{Completes, Cuts, Heard, IsBetween, IsBusy, Outside, Passes, Picks, Reaches, Strays, Turning, Waits, begins, boot_state, moves, turn, turned, turning, turns, Hears, Kills, Polls}
 use Rattle.aom_transcript.specs.declared.line.Ending.{Ending}
 use Rattle.aom_transcript.specs.declared.line.Ending.TheVariants.{Stopped}
 use Rattle.aom_transcript.specs.declared.line.Line.{Line}
@@ -89,8 +89,8 @@ move_holds p c s u gone m = go (move_rest p c s u m)
         (dispatch_holds p (counted p s) e.0 (λ is. gone e.1 (e.2 ∙ ap (λ x. Dispatched x ∷ e.1) is)))
 
 -- a turn ends the run with nothing at hand
-turn_holds : (p : Image) (outside : Outside) (answer : Option Completion) (s u : State) → IsBetween s → turn p outside answer s ≡ Goes u → GoesOn u
-turn_holds p outside answer s u between e = go (turning outside answer s) e
+turn_holds : (p : Image) (outside : Outside) (heard : Heard) (s u : State) → IsBetween s → turn p outside heard s ≡ Goes u → GoesOn u
+turn_holds p outside heard s u between e = go (turning outside heard s) e
   where
     go : (k : Turning) → turned p s k ≡ Goes u → GoesOn u
     go Cuts e = subst (λ v. GoesOn v) (goes_same _ u e) (inr (record { idle = between.idle; rootless = λ h. cc }))
@@ -130,11 +130,11 @@ module _ (p : Image) (t : Typing) (outside : Outside) (wired : IsWired p) (typed
   stays : (lines : List Line) (s : State) → Reaches p outside (boot_state p) lines s → Stays s
   stays _ _ begins = record { well = boot_keeps p t wired typed; calm = calm_keeps.boot p; in_range = registers_keep.boot p; goes_on = inl refl }
   stays _ _ (moves {lines = lines} {s = s} {u = u} c before busy choice e) = moved_on s u c (stays lines s before) busy choice e
-  stays _ _ (turns {lines = lines} {s = s} {u = u} answer before between owed e) = let h = stays lines s before in record {
-    well = subst (λ o. Keeps p t o) e (turn_goes_on p t outside wired typed answer s h.well between owed);
-    calm = calm_keeps.turns p outside answer s u h.calm e;
-    in_range = registers_keep.turns p outside answer s u h.in_range e;
-    goes_on = turn_holds p outside answer s u between e;
+  stays _ _ (turns {lines = lines} {s = s} {u = u} heard before between well e) = let h = stays lines s before in record {
+    well = subst (λ o. Keeps p t o) e (turn_goes_on p t outside wired typed heard s h.well between well);
+    calm = calm_keeps.turns p outside heard s u h.calm e;
+    in_range = registers_keep.turns p outside heard s u h.in_range e;
+    goes_on = turn_holds p outside heard s u between e;
   }
 
   goes : (o : Outcome) → Keeps p t o → (u : State) × (o ≡ Goes u)
@@ -155,7 +155,7 @@ module _ (p : Image) (t : Typing) (outside : Outside) (wired : IsWired p) (typed
   pub sound : IsSound p outside
   sound = record {
     goes_on = λ lines s r busy c choice. goes (step p c s) (step_keeps p t wired typed c s (stays lines s r).well choice.name);
-    turns_on = λ lines s r between answer owed. goes (turn p outside answer s) (turn_goes_on p t outside wired typed answer s (stays lines s r).well between owed);
+    turns_on = λ lines s r between heard well. goes (turn p outside heard s) (turn_goes_on p t outside wired typed heard s (stays lines s r).well between well);
     settled = λ lines s r idle. signals_are_ready p t s (stays lines s r).well idle;
     caught = λ lines s code tasks items r at top. let h = stays lines s r in caught_owned p t wired s h.well h.calm h.in_range code tasks items at top;
     owned = λ lines s d r e. let h = stays lines s r in (ends_owned p t wired s h.well h.in_range).0 d e;

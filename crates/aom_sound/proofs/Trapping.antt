@@ -33,7 +33,7 @@ use Rattle.aom_sound.specs.State.{A_mark, An_object, An_operation, Choice, Destr
 use Rattle.aom_sound.specs.Steps.{Acts, Arrives, Clears, Comes_out, Ends as A_dispatch_ends, Move, Rests, Undoes, Vanishes}
 use Rattle.aom_sound.specs.Traps.{ComesOff, GoesOnAfter, IsPast, IsTrapping, TellsZero, TrapsKeep, WasPast, marks, traps}
 use Rattle.aom_sound.specs.WellTyped.{Keeps, WellTyped}
-use Rattle.aom_sound.specs.World.{Completion, IsBetween, IsBusy, Outside, Reaches, begins, boot_state, moves, turn, turns, AnswersWell, turning}
+use Rattle.aom_sound.specs.World.{Heard, HearsWell, IsBetween, IsBusy, Outside, Reaches, begins, boot_state, moves, turn, turns}
 use Rattle.aom_transcript.specs.declared.line.Line.{Line}
 use Rattle.aom_sound.specs.Enlisted.{ended_cells}
 
@@ -336,9 +336,9 @@ module _ (p : Image) (t : Typing) (outside : Outside) (wired : IsWired p) (typed
     reaches = moves c h.reaches busy choice e;
   })
 
-  turned : (answer : Option Completion) (s u : State) → IsBetween s → AnswersWell p s (turning outside answer s) → turn p outside answer s ≡ Goes u → Lasts s → Lasts u
-  turned answer s u between owed e (inl h) = absurd (none_below below (h.over, sym between.idle ∙ h.tasks))
-  turned answer s u between owed e (inr h) = inr (record {
+  turned : (heard : Heard) (s u : State) → IsBetween s → HearsWell p outside heard s → turn p outside heard s ≡ Goes u → Lasts s → Lasts u
+  turned heard s u between hears e (inl h) = absurd (none_below below (h.over, sym between.idle ∙ h.tasks))
+  turned heard s u between hears e (inr h) = inr (record {
     earlier = h.earlier;
     last = h.last;
     until = h.until;
@@ -348,13 +348,13 @@ module _ (p : Image) (t : Typing) (outside : Outside) (wired : IsWired p) (typed
     move = h.move;
     past = h.past;
     lines = _;
-    reaches = turns answer h.reaches between owed e;
+    reaches = turns heard h.reaches between hears e;
   })
 
   lasts : IsTrapping below items from → (lines : List Line) (s : State) → Reaches p outside from lines s → Lasts s
   lasts h _ _ begins = inl h
   lasts h _ _ (moves {lines = lines} {s = s} {u = u} c before busy choice e) = moved_on lines s u c (well_on p t outside wired typed from well lines s before) before busy choice e (lasts h lines s before)
-  lasts h _ _ (turns {lines = lines} {s = s} {u = u} answer before between owed e) = turned answer s u between owed e (lasts h lines s before)
+  lasts h _ _ (turns {lines = lines} {s = s} {u = u} heard before between hears e) = turned heard s u between hears e (lasts h lines s before)
 
 pub traps_keep : TrapsKeep
 traps_keep = record {

@@ -8,7 +8,7 @@ use Rattle.aom_sound.specs.Enlisted.{completed_with, part_of, pending, recorded,
 use Rattle.aom_sound.specs.Natives.{all_bereaved, is_outstanding_at}
 use Rattle.aom_sound.specs.Places.{Cell, Object}
 use Rattle.aom_sound.specs.State.{A_mark, CompletedTwice, Goes, Rest, Seat, State}
-use Rattle.aom_sound.specs.World.{Completes, Completion, Cuts, Hears, Kills, Outside, Passes, Picks, Polls, Strays, Turning, Waits, answered_by, cell_at, dispatched, past_native, polled, run_tasks, turn, turned, turning, with_request}
+use Rattle.aom_sound.specs.World.{Completes, Completion, Cuts, Heard, Hears, Kills, Outside, Passes, Picks, Polls, Strays, Turning, Waits, answered_by, cell_at, dispatched, past_native, polled, run_tasks, turn, turned, turning, with_request}
 use Rattle.std.specs.Prelude.{[], length}
 
 abbrev pub picked : ℕ → Seat → State → State
@@ -80,5 +80,5 @@ turned_so p s u Strays e = cc
 turned_so p s u (Passes time) e = subst (λ v. Turned p s v) (goes_same _ u e) (keeps_all _)
 turned_so p s u Waits e = subst (λ v. Turned p s v) (goes_same _ u e) (keeps_all _)
 
-pub turns_so : (p : Image) (outside : Outside) (answer : Option Completion) (s u : State) → turn p outside answer s ≡ Goes u → Turned p s u
-turns_so p outside answer s u e = turned_so p s u (turning outside answer s) e
+pub turns_so : (p : Image) (outside : Outside) (heard : Heard) (s u : State) → turn p outside heard s ≡ Goes u → Turned p s u
+turns_so p outside heard s u e = turned_so p s u (turning outside heard s) e

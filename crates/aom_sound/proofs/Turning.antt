@@ -338,13 +338,13 @@ module _ (p : Image) (t : Typing) (s : State) (w : WellTyped p t s) (idle_now : 
         go false owed = then owed
 
 pub turn_goes_on : TurnGoesOn
-turn_goes_on p t outside wired typed answer s w between = go (nat_le outside.limit s.rest.dispatches)
+turn_goes_on p t outside wired typed heard s w between hears = go (nat_le outside.limit s.rest.dispatches) hears.completion
   where
-    go : (b : Bool) → AnswersWell p s (cond b Cuts (by_timer s (first_due s.cells) (by_event outside s (next_event outside s) (polls (next_native outside s) answer (picks (has_signal s.cells) (first_ready s.cells) (next_time outside s))))))
-        → Keeps p t (turned p s (cond b Cuts (by_timer s (first_due s.cells) (by_event outside s (next_event outside s) (polls (next_native outside s) answer (picks (has_signal s.cells) (first_ready s.cells) (next_time outside s)))))))
+    go : (b : Bool) → AnswersWell p s (cond b Cuts (by_timer s (first_due s.cells) (by_event outside s (next_event outside s) (polls (next_native outside s) heard.completion (picks (has_signal s.cells) (first_ready s.cells) (next_time outside s))))))
+        → Keeps p t (turned p s (cond b Cuts (by_timer s (first_due s.cells) (by_event outside s (next_event outside s) (polls (next_native outside s) heard.completion (picks (has_signal s.cells) (first_ready s.cells) (next_time outside s)))))))
     go true owed = same_well p t s w between.idle _
     go false owed =
         timer_well p t s w between.idle wired typed (first_due s.cells) _ owed (λ owed.
         event_well p t s w between.idle wired typed outside (next_event outside s) _ owed (λ owed.
-        poll_well p t s w between.idle wired typed (next_native outside s) answer _ owed (λ owed.
+        poll_well p t s w between.idle wired typed (next_native outside s) heard.completion _ owed (λ owed.
         signal_well p t s w between.idle wired typed (next_time outside s))))

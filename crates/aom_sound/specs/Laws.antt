@@ -26,7 +26,7 @@ use Rattle.aom_sound.specs.Moves.{step, IsOpen}
 use Rattle.aom_sound.specs.WellTyped.{LeavesNone, IsUndo, WellTyped, Keeps}
 use Rattle.aom_sound.specs.Owned.{Owned}
 use Rattle.aom_sound.specs.Registers.{AllInRange}
-use Rattle.aom_sound.specs.World.{AllSettled, AnswersWell, Completion, boot_state, first_ready, has_signal, IsBetween, IsBusy, Reaches, Outside, turn, turning}
+use Rattle.aom_sound.specs.World.{AllSettled, Heard, HearsWell, boot_state, first_ready, has_signal, IsBetween, IsBusy, Reaches, Outside, turn}
 use Rattle.aom_transcript.specs.declared.line.Line.{Line}
 use Rattle.aom_transcript.specs.declared.line.Ending.TheVariants.{Stopped}
 
@@ -104,13 +104,13 @@ StepKeeps = (p : Image) (t : Typing) → IsWired p → IsTyped p t → (c : Choi
 pub record RegistersKeep : Type 0 where
   pub boot : (p : Image) → AllInRange (boot_state p).cells
   pub moves : (p : Image) → IsWired p → (c : Choice) (s u : State) → AllInRange s.cells → step p c s ≡ Goes u → AllInRange u.cells
-  pub turns : (p : Image) (outside : Outside) (answer : Option Completion) (s u : State) → AllInRange s.cells → turn p outside answer s ≡ Goes u → AllInRange u.cells
+  pub turns : (p : Image) (outside : Outside) (heard : Heard) (s u : State) → AllInRange s.cells → turn p outside heard s ≡ Goes u → AllInRange u.cells
 
 -- a turn from a well-typed state between dispatches is not stuck, whatever a native completes that it owes, and leads to a well-typed state
 abbrev pub TurnGoesOn : Type 0
 TurnGoesOn =
-    (p : Image) (t : Typing) (outside : Outside) → IsWired p → IsTyped p t → (answer : Option Completion) (s : State) → WellTyped p t s → IsBetween s → AnswersWell p s (turning outside answer s) →
-    Keeps p t (turn p outside answer s)
+    (p : Image) (t : Typing) (outside : Outside) → IsWired p → IsTyped p t → (heard : Heard) (s : State) → WellTyped p t s → IsBetween s → HearsWell p outside heard s →
+    Keeps p t (turn p outside heard s)
 
 -- between dispatches no request is made that is not waited for, and what signals is ready
 abbrev pub SignalsAreReady : Type 0
@@ -130,7 +130,7 @@ EndsEmpty = (p : Image) (t : Typing) → IsWired p → (s : State) → WellTyped
 pub record IsSound (p : Image) (outside : Outside) : Type 0 where
   pub goes_on : (lines : List Line) (s : State) → Reaches p outside (boot_state p) lines s → IsBusy s → (c : Choice) → IsOpen p outside.refused c s → (u : State) × (step p c s ≡ Goes u)
   -- each turn goes on: no signal is stray
-  pub turns_on : (lines : List Line) (s : State) → Reaches p outside (boot_state p) lines s → IsBetween s → (answer : Option Completion) → AnswersWell p s (turning outside answer s) → (u : State) × (turn p outside answer s ≡ Goes u)
+  pub turns_on : (lines : List Line) (s : State) → Reaches p outside (boot_state p) lines s → IsBetween s → (heard : Heard) → HearsWell p outside heard s → (u : State) × (turn p outside heard s ≡ Goes u)
   pub settled : (lines : List Line) (s : State) → Reaches p outside (boot_state p) lines s → s.tasks ≡ [] → AllSettled s.cells × (has_signal s.cells ≡ is_some (first_ready s.cells))
   -- a leave is caught once all that was pushed since its trap is dealt with
   pub caught : (lines : List Line) (s : State) (code : ℤ) (tasks : List Task) (items : List Item) → Reaches p outside (boot_state p) lines s → s.tasks ≡ Unwind code ∷ tasks → s.items ≡ A_mark ∷ items → Owned p s

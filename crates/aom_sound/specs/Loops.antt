@@ -7,7 +7,7 @@ use Rattle.aom_classes.specs.Linked.{IsLinked}
 use Rattle.aom_sound.specs.State.{Frame, Task, State, Choice, Goes, counter}
 use Rattle.aom_sound.specs.Moves.{step}
 use Rattle.aom_sound.specs.Tasks.{TaskLaw, Holds}
-use Rattle.aom_sound.specs.World.{boot_state, Completion, Outside, turn}
+use Rattle.aom_sound.specs.World.{boot_state, Heard, Outside, turn}
 
 -- in each body that has that place, a round of its loop is left, and no more than the loop has
 abbrev pub RoundsAt : Image → Frame → ℕ → Type 0
@@ -25,4 +25,4 @@ pub record LoopsKeep : Type 0 where
   pub linked : (p : Image) → WellFormed p → IsLinked p → IsLooped p
   pub boot : (p : Image) → RoundsLeft p (boot_state p).tasks
   pub moves : (p : Image) → IsLooped p → (c : Choice) (s u : State) → RoundsLeft p s.tasks → step p c s ≡ Goes u → RoundsLeft p u.tasks
-  pub turns : (p : Image) → IsLooped p → (outside : Outside) (answer : Option Completion) (s u : State) → RoundsLeft p s.tasks → turn p outside answer s ≡ Goes u → RoundsLeft p u.tasks
+  pub turns : (p : Image) → IsLooped p → (outside : Outside) (heard : Heard) (s u : State) → RoundsLeft p s.tasks → turn p outside heard s ≡ Goes u → RoundsLeft p u.tasks

@@ -9,7 +9,7 @@ use Rattle.aom_sound.specs.Tasks.{TaskLaw, Holds}
 use Rattle.aom_sound.specs.WellTyped.{WellTyped}
 use Rattle.aom_sound.specs.Owned.{Owned}
 use Rattle.aom_sound.specs.Registers.{AllInRange}
-use Rattle.aom_sound.specs.World.{Completion, Outside, boot_state, turn}
+use Rattle.aom_sound.specs.World.{Heard, Outside, boot_state, turn}
 use Rattle.aom_sound.specs.Laws.{IsWired}
 
 -- a cell goes, or a leave unwinds
@@ -36,7 +36,7 @@ IsCalm p ts = Holds (calm p) ts
 pub record CalmKeeps : Type 0 where
   pub boot : (p : Image) → IsCalm p (boot_state p).tasks
   pub moves : (p : Image) (t : Typing) → IsWired p → IsTyped p t → (c : Choice) (s u : State) → WellTyped p t s → IsCalm p s.tasks → step p c s ≡ Goes u → IsCalm p u.tasks
-  pub turns : (p : Image) (outside : Outside) (answer : Option Completion) (s u : State) → IsCalm p s.tasks → turn p outside answer s ≡ Goes u → IsCalm p u.tasks
+  pub turns : (p : Image) (outside : Outside) (heard : Heard) (s u : State) → IsCalm p s.tasks → turn p outside heard s ≡ Goes u → IsCalm p u.tasks
 
 -- where a leave has nothing more to unwind, each cell has exactly one living owner
 abbrev pub CaughtOwned : Type 0

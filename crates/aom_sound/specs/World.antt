@@ -8,7 +8,7 @@ use Rattle.aom_image.specs.declared.method.Thing.TheVariants.{Object as An_objec
 use Rattle.aom_classes.specs.Roles.{main_of}
 use Rattle.aom_sound.specs.Enlisted.{completed_with, is_active, is_idle, is_unsettled, on_request, part_of, pending, recorded, status_of, taken_up, timed_out}
 use Rattle.aom_sound.specs.Natives.{all_bereaved, is_dead, is_outstanding_at}
-use Rattle.aom_sound.specs.Places.{Cell, Object, Request, Timer, requested, set_request}
+use Rattle.aom_sound.specs.Places.{Cell, Object, Request, Timer, named, requested, set_request}
 use Rattle.aom_sound.specs.State.{AtRoot, Inside, frame_of, Seat, Task, Run, Trapped, Dispatched, Of_main, Of_object, A_mark, State, Choice, Outcome, Goes, IsStuck, CompletedTwice, NullOrDead, Stray, WrongKind, guarded}
 use Rattle.aom_sound.specs.Moves.{step, written, IsOpen}
 use Rattle.aom_transcript.specs.declared.event.Event.{Event}
@@ -169,6 +169,15 @@ cell_at (c ∷ cs) (suc k) = cell_at cs k
 
 -- ---- turns
 
+-- what a turn hears: what the native that is polled completes, and a name for what the turn makes
+pub record Heard : Type 0 where
+  pub completion : Option Completion
+  pub name : ℕ
+
+-- nothing is completed
+abbrev pub nothing_heard : Heard
+nothing_heard = record { completion = None; name = 0 }
+
 -- what a turn does
 pub data Turning : Type 0 where
   -- the limit is reached
@@ -238,18 +247,23 @@ by_timer s None after = after
 by_timer s (Some x) after = cond (nat_le x.timer.due s.rest.clock) (Completes x.object) after
 
 -- timers that are due come first, then events, then each native once, then signals, then time
-abbrev pub turning : Outside → Option Completion → State → Turning
-turning outside answer s =
+abbrev pub turning : Outside → Heard → State → Turning
+turning outside heard s =
     cond (nat_le outside.limit s.rest.dispatches) Cuts
     (by_timer s (first_due s.cells)
     (by_event outside s (next_event outside s)
-    (polls (next_native outside s) answer
+    (polls (next_native outside s) heard.completion
     (picks (has_signal s.cells) (first_ready s.cells) (next_time outside s)))))
 
 -- a native that is polled completes what is outstanding at it
 abbrev pub AnswersWell : Image → State → Turning → Type 0
 AnswersWell p s (Polls n (Some a)) = (c : Cell) × (cell_at s.cells a.cell ≡ Some c) × (is_outstanding_at p n c ≡ true)
 AnswersWell p s _ = Unit {0}
+
+-- a native that is polled completes what is outstanding at it, and the name is free
+pub record HearsWell (p : Image) (outside : Outside) (heard : Heard) (s : State) : Type 0 where
+  pub completion : AnswersWell p s (turning outside heard s)
+  pub name : named s.cells heard.name ≡ None
 
 abbrev pub ends_as : Ending → State → State
 ends_as ending s = record s { rest = record s.rest { ended = Some ending } }
@@ -305,8 +319,8 @@ turned p s Strays = IsStuck Stray
 turned p s (Passes time) = Goes (record s { rest = record s.rest { clock = time; polled = 0 } })
 turned p s Waits = Goes (ends_as Waiting s)
 
-abbrev pub turn : Image → Outside → Option Completion → State → Outcome
-turn p outside answer s = turned p s (turning outside answer s)
+abbrev pub turn : Image → Outside → Heard → State → Outcome
+turn p outside heard s = turned p s (turning outside heard s)
 
 -- the line of a dispatch: its time, the class of its object, and the status with which its request is completed
 abbrev pub run_line : State → Object → List Line
@@ -321,15 +335,15 @@ written_by s (Picks x) = run_line s x.object
 written_by s (Kills n) = Killed n ∷ []
 written_by s _ = []
 
--- whatever a native answers
+-- whatever is heard
 abbrev pub written_turn : Outside → State → List Line
-written_turn outside s = written_by s (turning outside None s)
+written_turn outside s = written_by s (turning outside nothing_heard s)
 
 -- the states that a run comes to, with the lines that it has written by then
 pub data Reaches (p : Image) (outside : Outside) (from : State) : List Line → State → Type 0 where
   begins : Reaches p outside from [] from
   moves : {lines : List Line} {s u : State} (c : Choice) → Reaches p outside from lines s → IsBusy s → IsOpen p outside.refused c s → step p c s ≡ Goes u → Reaches p outside from (lines ++ written p s) u
-  turns : {lines : List Line} {s u : State} (answer : Option Completion) → Reaches p outside from lines s → IsBetween s → AnswersWell p s (turning outside answer s) → turn p outside answer s ≡ Goes u → Reaches p outside from (lines ++ written_turn outside s) u
+  turns : {lines : List Line} {s u : State} (heard : Heard) → Reaches p outside from lines s → IsBetween s → HearsWell p outside heard s → turn p outside heard s ≡ Goes u → Reaches p outside from (lines ++ written_turn outside s) u
 
 -- a run of the image from its boot, and how it ended
 pub record Run_of (p : Image) (outside : Outside) (lines : List Line) (s : State) (ending : Ending) : Type 0 where

@@ -3,7 +3,7 @@ use Rattle.std.specs.Prelude.{ℕ, ℤ, pos, negsuc, Bool, true, false, ◌≡�
 use Rattle.aom_sound.specs.Enlisted.{pending}
 use Rattle.aom_sound.specs.Places.{Active, Cell, Elsewhere, Idle, Issued, Phase, Request, Root}
 use Rattle.aom_sound.specs.State.{CompletedTwice, Goes, IsStuck, NullOrDead, Outcome, State, Stuck}
-use Rattle.aom_sound.specs.World.{Completes, Hears, Kills, Outside, Passes, Picks, Polls, Turning, Waits, refusing, turning, turned}
+use Rattle.aom_sound.specs.World.{Completes, Hears, Kills, Outside, Passes, Picks, Polls, Turning, Waits, nothing_heard, refusing, turning, turned}
 use Rattle.aom_sound.specs.Cases.Building.{a_cell, served, waiter}
 use Rattle.aom_sound.specs.Cases.Moves.{an_image}
 use Rattle.aom_sound.specs.Cases.Turns.{between, listed, named_so, seat_of, timed}
@@ -38,7 +38,7 @@ state_in c = let s = between c.cells in record s { killed = c.killed; rest = rec
 
 abbrev pub AllComeSo : List Event_case → Type 0
 AllComeSo [] = Unit {0}
-AllComeSo (c ∷ cs) = (turning (outside_of c) None (state_in c) ≡ c.comes) × AllComeSo cs
+AllComeSo (c ∷ cs) = (turning (outside_of c) nothing_heard (state_in c) ≡ c.comes) × AllComeSo cs
 
 -- a completed request that is waited for, and a timer that is due at that time
 abbrev pub ready : Cell

@@ -3,7 +3,7 @@ use Rattle.std.specs.Prelude.{ℕ, ℤ, pos, negsuc, List, [], ◌∷◌, ◌≡
 use Rattle.aom_sound.specs.Enlisted.{pending}
 use Rattle.aom_sound.specs.Places.{Active, Cancelling, Cell, Elsewhere, Idle, Issued, Object, Phase, Root, Timer}
 use Rattle.aom_sound.specs.State.{IsStuck, Seat, State, Stray}
-use Rattle.aom_sound.specs.World.{Completes, Cuts, Outside, Passes, Picks, Strays, Turning, Waits, refusing, turn, turning}
+use Rattle.aom_sound.specs.World.{Completes, Cuts, Outside, Passes, Picks, Strays, Turning, Waits, nothing_heard, refusing, turn, turning}
 use Rattle.aom_sound.specs.Cases.Building.{a_cell, state_of, waiter}
 use Rattle.aom_sound.specs.Cases.Moves.{an_image}
 
@@ -41,7 +41,7 @@ comes_to comes cells = record { cells = cells; limit = 9; comes = comes }
 
 abbrev pub AllCome : List Turn_case → Type 0
 AllCome [] = Unit {0}
-AllCome (c ∷ cs) = (turning (within c.limit) None (between c.cells) ≡ c.comes) × AllCome cs
+AllCome (c ∷ cs) = (turning (within c.limit) nothing_heard (between c.cells) ≡ c.comes) × AllCome cs
 
 -- a completed request signals, unless its signal is taken
 abbrev pub signal_cases : List Turn_case
@@ -82,4 +82,4 @@ pub record TurnsBite : Type 0 where
   pub signals : AllCome signal_cases
   pub picks : AllCome pick_cases
   pub timers : AllCome timer_cases
-  pub stray : turn an_image (within 9) None (between (listed 1 0 (pos 0) Issued (pos 0) ∷ [])) ≡ IsStuck Stray
+  pub stray : turn an_image (within 9) nothing_heard (between (listed 1 0 (pos 0) Issued (pos 0) ∷ [])) ≡ IsStuck Stray
