@@ -1,4 +1,5 @@
 pub mod Maps
+pub mod Counts
 pub mod Things
 pub mod Items
 pub mod Seats

@@ -150,7 +150,7 @@ held_lives (c ∷ cs) p o t e = go (same_place c.owner p) (c.object.name == o.na
     go false true f ih e = absurd (held_named cs p o e (ap (λ k. named cs k) (sym (eqb-true _ _ f)) ∙ t.1))
 
 -- what goes
-without_none : (cs : List Cell) (g : Place) → held cs g ≡ None → without g cs ≡ cs
+pub without_none : (cs : List Cell) (g : Place) → held cs g ≡ None → without g cs ≡ cs
 without_none [] g e = refl
 without_none (c ∷ cs) g e = let f = front_free _ _ _ e in ap (λ b. cond b (without g cs) (c ∷ without g cs)) f.0 ∙ ap (λ x. c ∷ x) (without_none cs g f.1)
 

@@ -1,6 +1,7 @@
 -- Places, the cells with their owners, and what a place holds.
-use Rattle.std.specs.Prelude.{ℕ, ℤ, pos, Bool, false, cond, ◌&&◌, ◌==◌, ◌≡◌, List, [], ◌∷◌, Option, Some, None}
+use Rattle.std.specs.Prelude.{ℕ, suc, ℤ, pos, Bool, false, cond, ◌&&◌, ◌==◌, ◌≡◌, List, [], ◌∷◌, Option, Some, None}
 use Rattle.aom_image.specs.declared.method.Thing.{Thing}
+use Rattle.aom_shape.specs.Kinds.{is_object}
 use Rattle.aom_shape.specs.Tables.{at, put_at}
 
 -- places that no method's frame speaks of but main's
@@ -105,6 +106,11 @@ pub record Sight : Type 0 where
 
 abbrev pub seen : List Cell → Sight
 seen cs = record { holds = held cs; requests = requested cs }
+
+-- how many cells there are: a message counts for none
+abbrev pub count_cells : List Cell → ℕ
+count_cells [] = 0
+count_cells (c ∷ cs) = cond (is_object c.object.thing) (suc (count_cells cs)) (count_cells cs)
 
 -- whatever p owns is owned by q from then on
 abbrev pub moved : Place → Place → List Cell → List Cell

@@ -1,0 +1,94 @@
+-- How many cells there are as moves and turns change them: by the cells one after another.
+use Rattle.std.proofs.Common.{Bool, List, None, Option, Some, [], ap, arith, cond, false, length, refl, suc, sym, true, ℕ, ℤ, ◌+◌, ◌==◌, ◌∙◌, ◌∷◌, ◌≡◌, ◌≤◌}
+use Rattle.std.proofs.lemmas.Bool.{eq-eqb, eqb-true}
+use Rattle.std.proofs.lemmas.Option.{none-some}
+use Rattle.aom_image.specs.Image.{Image}
+use Rattle.aom_image.specs.declared.method.Thing.{Thing}
+use Rattle.aom_image.specs.declared.method.Thing.TheVariants.{Object as An_object_of, Message}
+use Rattle.aom_shape.specs.Kinds.{is_object}
+use Rattle.aom_sound.proofs.Maps.{same_place-true, without_none}
+use Rattle.aom_sound.specs.Natives.{all_bereaved}
+use Rattle.aom_sound.specs.Places.{Cell, Object, Place, Request, Tidy, count_cells, held, moved, named, same_place, set_request, set_session, set_word_field, with_new, without}
+
+-- ---- what changes no thing changes no count
+
+pub count_moved : (cs : List Cell) (p q : Place) → count_cells (moved p q cs) ≡ count_cells cs
+count_moved [] p q = refl
+count_moved (c ∷ cs) p q = ap (λ n. cond (is_object c.object.thing) (suc n) n) (count_moved cs p q)
+
+pub count_asked : (cs : List Cell) (n : ℕ) (r : Option Request) → count_cells (set_request n r cs) ≡ count_cells cs
+count_asked [] n r = refl
+count_asked (c ∷ cs) n r = ap (λ k. cond (is_object c.object.thing) (suc k) k) (count_asked cs n r)
+
+pub count_opened : (cs : List Cell) (n : ℕ) (session : Bool) → count_cells (set_session n session cs) ≡ count_cells cs
+count_opened [] n session = refl
+count_opened (c ∷ cs) n session = ap (λ k. cond (is_object c.object.thing) (suc k) k) (count_opened cs n session)
+
+pub count_stored : (cs : List Cell) (n w : ℕ) (v : ℤ) → count_cells (set_word_field n w v cs) ≡ count_cells cs
+count_stored [] n w v = refl
+count_stored (c ∷ cs) n w v = ap (λ k. cond (is_object c.object.thing) (suc k) k) (count_stored cs n w v)
+
+pub count_bereaved : (p : Image) (n : ℕ) (cs : List Cell) → count_cells (all_bereaved p n cs) ≡ count_cells cs
+count_bereaved p n [] = refl
+count_bereaved p n (c ∷ cs) = ap (λ k. cond (is_object c.object.thing) (suc k) k) (count_bereaved p n cs)
+
+-- ---- what comes and what goes
+
+pub count_new_object : (name class : ℕ) (words : List ℤ) (owner : Place) (cs : List Cell) → count_cells (with_new name (An_object_of class) words owner cs) ≡ suc (count_cells cs)
+count_new_object name class words owner cs = refl
+
+pub count_new_message : (name : ℕ) (words : List ℤ) (owner : Place) (cs : List Cell) → count_cells (with_new name Message words owner cs) ≡ count_cells cs
+count_new_message name words owner cs = refl
+
+-- one where an object is there
+abbrev pub counted_in : Option Object → ℕ
+counted_in None = 0
+counted_in (Some o) = cond (is_object o.thing) 1 0
+
+pub count_without : (cs : List Cell) (g : Place) → Tidy cs → count_cells cs ≡ counted_in (held cs g) + count_cells (without g cs)
+count_without [] g tidy = refl
+count_without (c ∷ cs) g tidy = go (same_place c.owner g) refl (count_without cs g tidy.2)
+  where
+    one : (b : Bool) (n m : ℕ) → m ≡ n → cond b (suc n) n ≡ cond b 1 0 + m
+    one true n m e = omega (arith, e)
+    one false n m e = omega (arith, e)
+
+    more : (b : Bool) (n k m : ℕ) → n ≡ k + m → cond b (suc n) n ≡ k + cond b (suc m) m
+    more true n k m e = omega (arith, e)
+    more false n k m e = e
+
+    go : (b : Bool) → same_place c.owner g ≡ b → count_cells cs ≡ counted_in (held cs g) + count_cells (without g cs)
+        → count_cells (c ∷ cs) ≡ counted_in (cond b (Some c.object) (held cs g)) + count_cells (cond b (without g cs) (c ∷ without g cs))
+    go true is rest = one (is_object c.object.thing) (count_cells cs) (count_cells (without g cs)) (ap count_cells (without_none cs g (ap (λ r. held cs r) (sym (same_place-true c.owner g is)) ∙ tidy.0)))
+    go false is rest = more (is_object c.object.thing) (count_cells cs) (counted_in (held cs g)) (count_cells (without g cs)) rest
+
+-- ---- against all that is in the list
+
+pub count_most : (cs : List Cell) → count_cells cs ≤ length cs
+count_most [] = omega arith
+count_most (c ∷ cs) = go (is_object c.object.thing) (count_most cs)
+  where
+    go : (b : Bool) → count_cells cs ≤ length cs → cond b (suc (count_cells cs)) (count_cells cs) ≤ suc (length cs)
+    go true le = omega (arith, le)
+    go false le = omega (arith, le)
+
+-- each is an object
+abbrev pub AllObjects : List Cell → Type 0
+AllObjects [] = Unit {0}
+AllObjects (c ∷ cs) = (is_object c.object.thing ≡ true) × AllObjects cs
+
+pub count_objects : (cs : List Cell) → AllObjects cs → count_cells cs ≡ length cs
+count_objects [] all = refl
+count_objects (c ∷ cs) all = ap (λ b. cond b (suc (count_cells cs)) (count_cells cs)) all.0 ∙ ap suc (count_objects cs all.1)
+
+-- they are where each name is an object's
+pub all_objects : (cs : List Cell) → Tidy cs → ((n : ℕ) (o : Object) → named cs n ≡ Some o → is_object o.thing ≡ true) → AllObjects cs
+all_objects [] tidy objects = tt
+all_objects (c ∷ cs) tidy objects = (objects c.object.name c.object (ap (λ b. cond b (Some c.object) (named cs c.object.name)) (eq-eqb c.object.name c.object.name refl)), all_objects cs tidy.2 others)
+  where
+    others : (n : ℕ) (o : Object) → named cs n ≡ Some o → is_object o.thing ≡ true
+    others n o e = go (c.object.name == n) refl
+      where
+        go : (b : Bool) → (c.object.name == n) ≡ b → is_object o.thing ≡ true
+        go true same = absurd (none-some o (sym tidy.1 ∙ ap (λ k. named cs k) (eqb-true c.object.name n same) ∙ e))
+        go false other = objects n o (ap (λ b. cond b (Some c.object) (named cs n)) other ∙ e)
