@@ -72,6 +72,7 @@ module _ (p : Image) (t : Typing) (s : State) (code : ℤ) (items : List Item) w
       fits (Entry k) = good.fits (Entry k)
       fits (Field n f) = good.fits (Field n f)
       fits (Elsewhere Root) = good.fits (Elsewhere Root)
+      fits (Elsewhere w) = good.fits (Elsewhere w)
       fits (Going k) = good.fits (Going k)
 
   -- at a dispatch, which ends with it
@@ -89,6 +90,7 @@ module _ (p : Image) (t : Typing) (s : State) (code : ℤ) (items : List Item) w
       fits (Entry k) = good.fits (Entry k)
       fits (Field n f) = good.fits (Field n f)
       fits (Elsewhere Root) = good.fits (Elsewhere Root)
+      fits (Elsewhere w) = good.fits (Elsewhere w)
       fits (Going k) = good.fits (Going k)
   at_dispatch gv (Of_object x) seats ls same undos good = record {
     layers = Dispatching (Object_left x code) seats ∷ ls;
@@ -103,6 +105,7 @@ module _ (p : Image) (t : Typing) (s : State) (code : ℤ) (items : List Item) w
       fits (Entry k) = good.fits (Entry k)
       fits (Field n f) = good.fits (Field n f)
       fits (Elsewhere Root) = good.fits (Elsewhere Root)
+      fits (Elsewhere w) = good.fits (Elsewhere w)
       fits (Going k) = good.fits (Going k)
   at_dispatch gv _ seats ls same undos good = absurd good.stack.1.1.0
 

@@ -74,6 +74,7 @@ module _ (p : Image) (t : Typing) (wired : IsWired p) (typed : IsTyped p t) (s :
       claims d (Entry k) = refl
       claims d (Field n f) = refl
       claims d (Elsewhere Root) = refl
+      claims d (Elsewhere w) = refl
       claims d (Going k) = refl
 
       fits : (r : Place) → Fits p (seen s.cells) (held s.cells r) (declared p s.cells r)
@@ -81,6 +82,7 @@ module _ (p : Image) (t : Typing) (wired : IsWired p) (typed : IsTyped p t) (s :
       fits (Entry k) = good.fits (Entry k)
       fits (Field n f) = good.fits (Field n f)
       fits (Elsewhere Root) = good.fits (Elsewhere Root)
+      fits (Elsewhere w) = good.fits (Elsewhere w)
       fits (Going k) = good.fits (Going k)
 
       entering : Entering p t s.cells x above over m (Some code ∷ [])

@@ -50,6 +50,7 @@ module _ (p : Image) (m : ℕ) (after : Shape) (w : SaysNoMore after (entry_shap
   fits (Entry k) = subst (λ es. Fits p (seen []) None (entry_claim es (Mark_form ∷ []) k Null)) (sym w.entries) tt
   fits (Field n f) = tt
   fits (Elsewhere Root) = root_null p (seen []) (field_thing p Program 0) (field after 0) (field (entry_shape p m) 0) (w.fields 0) (ap (λ r. is_empty (at Perhaps (entry_fields r) 0)) role)
+  fits (Elsewhere w) = tt
   fits (Going k) = tt
 
   pub good : (t : Typing) → shape_at t m 0 ≡ Some after → gives_of p m ≡ Nothing → Good p t [] (Method (begins m) after ∷ Mark Nothing ∷ Dispatching Of_main [] ∷ [])

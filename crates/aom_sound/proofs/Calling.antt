@@ -143,6 +143,7 @@ module _ (p : Image) (t : Typing) (wired : IsWired p) (typed : IsTyped p t) (c :
         go Static b = e.fits (Elsewhere Root)
         go AtRoot b = absurd b
         go (Inside o from) b = e.fits (Elsewhere Root)
+    begins home sh' e after w (Elsewhere o) = e.fits (Elsewhere o)
     begins home sh' e after w (Going k) = e.fits (Going k)
 
     -- all other objects are as they were
@@ -184,6 +185,7 @@ module _ (p : Image) (t : Typing) (wired : IsWired p) (typed : IsTyped p t) (c :
         as_begun after w (Entry k) = ap (λ es. entry_claim es (items_of over) k (claim p (declared p cs) over (Entry k))) w.entries ∙ same (declared p cs) (Entry k) ∙ sym (ap (λ es. entry_claim es [] k (claim p (declared p cs) (Method fr sh' ∷ ls) (Entry k))) w.entries)
         as_begun after w (Field n f) = ap (λ k. home_claim p home after n f k) (same (declared p cs) (Field n f))
         as_begun after w (Elsewhere Root) = ap (λ k. root_claim p home after k) (same (declared p cs) (Elsewhere Root))
+        as_begun after w (Elsewhere o) = same (declared p cs) (Elsewhere o)
         as_begun after w (Going k) = same (declared p cs) (Going k)
 
     -- the caller below, while the call lasts
@@ -561,6 +563,7 @@ module _ (p : Image) (t : Typing) (wired : IsWired p) (typed : IsTyped p t) (c :
               go Static = refl
               go AtRoot = refl
               go (Inside o from) = refl
+          fits (Elsewhere w) = passed.fits (Elsewhere w)
           fits (Going j) = passed.fits (Going j)
 
           u : Untouched p (λ f. filled (field_thing p (thing_holder piled.0.thing) f) Perhaps) piled.0.name (Method fr readied_pile ∷ ls)

@@ -240,6 +240,7 @@ module _ (p : Image) (t : Typing) (wired : IsWired p) (typed : IsTyped p t) (c :
             (subst (λ x. Fits p (seen cs') (held cs' (Field o.name f)) (filled thing x)) (sym (unfilled f)) (subst (λ k. Fits p (seen cs') (held cs' (Field o.name f)) k) own_field (base (Field o.name f))))
         go false e = base (Field n f)
     fits (Elsewhere Root) = subst (λ h. Fits p (seen cs') (held cs' (Elsewhere Root)) (root_claim p h begins.0 (claim p (declared p cs') over (Elsewhere Root)))) (sym it.home) (base (Elsewhere Root))
+    fits (Elsewhere w) = base (Elsewhere w)
     fits (Going k) = base (Going k)
 
     -- nothing cancels the object below

@@ -20,7 +20,7 @@ use Rattle.aom_shape.specs.declared.kind.Kind.TheVariants.{Maybe, Null, Own, Uns
 use Rattle.aom_sound.proofs.Seats.{NoFieldHere, NoSeatHere, first_kept, sits_kept}
 use Rattle.aom_sound.proofs.Maps.{at-put_at, held_moved, named_moved, requested_moved, same_place-true, same_place_refl, transfer}
 use Rattle.aom_sound.specs.Claims.{is_of_root, Dispatching, Dying, Form, Layer, Mark, Method, Unwinding, claim, declared, declared_field, entries_of, entry_claim, home_claim, items_of, layer_claim, objects, root_claim, tasks_of}
-use Rattle.aom_sound.specs.Places.{Cell, Elsewhere, Entry, Field, Going, Object, Place, Register, Root, Sight, changed, held, moved, named, same_place}
+use Rattle.aom_sound.specs.Places.{Cell, Elsewhere, Entry, Field, Going, Object, Place, Register, Root, Sight, changed, held, moved, named, same_place, Session, In_service, Queued}
 use Rattle.aom_sound.specs.State.{AtRoot, Dispatch, Frame, Home, Inside, Seat, Static, field_place, home_holder, thing_holder}
 use Rattle.aom_sound.specs.WellTyped.{Back, Caught, Fits, Gone, HasAge, Holds, IsBelow, IsHoused, IsNoFieldOf, Leaves, NoneFrom, NoneIn, NotFrom, NotIn, Returns, Stack, Unclaimed, WordFits, by_field, seat_of}
 use mathlib.Core.Path.{fun_ext}
@@ -50,7 +50,7 @@ claim-set_register p d fr sh ls a v (Elsewhere Root) = go fr.home
     go Static = refl
     go AtRoot = refl
     go (Inside o from) = refl
-claim-set_register p d fr sh ls a v (Going k) = refl
+claim-set_register p d fr sh ls a v _ = refl
 
 -- what a field is claimed to be, with another filling
 filled_at : (thing : ℕ → Option Thing) (xs : List Filling) (a : ℕ) (x : Filling) (v : Kind) (f : ℕ) → filled (thing a) x ≡ v → filled (thing f) (at Perhaps (put_at Perhaps xs a x) f) ≡ cond (a == f) v (filled (thing f) (at Perhaps xs f))
@@ -100,7 +100,7 @@ claim_push p d fr sh ls v (Elsewhere Root) = go fr.home
     go Static = refl
     go AtRoot = refl
     go (Inside o from) = refl
-claim_push p d fr sh ls v (Going k) = refl
+claim_push p d fr sh ls v _ = refl
 
 pub filled_weaker : (c : Option Thing) {x y : Filling} → WeakerFilling x y → Weaker (filled c x) (filled c y)
 filled_weaker (Some c) perhaps_empty = maybe_null
@@ -140,7 +140,7 @@ claim_weaker p d fr a b ls (Elsewhere Root) w = go fr.home
     go Static = alike
     go AtRoot = filled_weaker (field_thing p Program 0) (w.fields 0)
     go (Inside o from) = alike
-claim_weaker p d fr a b ls (Going k) w = alike
+claim_weaker p d fr a b ls _ w = alike
 
 pub fits_weaker : (p : Image) (h : Sight) (o : Option Object) {a b : Kind} → Weaker a b → Fits p h o b → Fits p h o a
 fits_weaker p h o alike f = f
@@ -213,6 +213,7 @@ declared_moved p cs a b = fun_ext go
     go (Entry k) = refl
     go (Field n f) = ap (λ o. declared_field p o f) (named_moved cs a b n)
     go (Elsewhere Root) = refl
+    go (Elsewhere w) = refl
     go (Going k) = refl
 
 -- a place of the top method, or above it
@@ -320,7 +321,7 @@ claim_from p d fr o (Register g j) sh ls e n b = ap (λ x. cond x (register sh j
 claim_from p d fr o (Entry k) sh ls e n b = entries_below sh.entries (items_of ls) k (claim p d ls (Entry k)) b
 claim_from p d fr o (Field m g) sh ls e n b = ap (λ h. home_claim p h sh m g (claim p d ls (Field m g))) e ∙ ap (λ x. cond x (filled (field_thing p (thing_holder o.thing) g) (field sh g)) (claim p d ls (Field m g))) n
 claim_from p d fr o (Elsewhere Root) sh ls e n b = ap (λ h. root_claim p h sh (claim p d ls (Elsewhere Root))) e
-claim_from p d fr o (Going k) sh ls e n b = refl
+claim_from p d fr o _ sh ls e n b = refl
 
 -- a layer's claims follow those below it
 cond_rel : (R : Kind → Kind → Type 0) → ((k : Kind) → R k k) → (b : Bool) (z x y : Kind) → R x y → R (cond b z x) (cond b z y)
@@ -358,6 +359,9 @@ layer_rel R same p (Mark gv) depth items (Elsewhere Root) x y h = h
 layer_rel R same p (Dying o) depth items (Elsewhere Root) x y h = h
 layer_rel R same p (Unwinding code es) depth items (Elsewhere Root) x y h = h
 layer_rel R same p (Dispatching d seats) depth items (Elsewhere Root) x y h = cond_rel R same (is_of_root d) Null x y h
+layer_rel R same p l depth items (Elsewhere (Session s c)) x y h = h
+layer_rel R same p l depth items (Elsewhere In_service) x y h = h
+layer_rel R same p l depth items (Elsewhere (Queued s m)) x y h = h
 layer_rel R same p (Method fr sh) depth items (Going k) x y h = h
 layer_rel R same p (Mark gv) depth items (Going k) x y h = h
 layer_rel R same p (Dispatching w seats) depth items (Going k) x y h = h
@@ -428,4 +432,5 @@ mark_claims p d gv ls (Register f i) = refl
 mark_claims p d gv ls (Entry k) = refl
 mark_claims p d gv ls (Field n f) = refl
 mark_claims p d gv ls (Elsewhere Root) = refl
+mark_claims p d gv ls (Elsewhere w) = refl
 mark_claims p d gv ls (Going k) = refl

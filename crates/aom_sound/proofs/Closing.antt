@@ -45,6 +45,7 @@ module _ (p : Image) (t : Typing) (s : State) where
       fits d good (Field n f) = good.fits (Field n f)
       fits Of_root good (Elsewhere Root) = subst (λ o. Fits p (seen s.cells) o (filled (field_thing p Program 0) Perhaps)) (sym (root_gone p t s seats [] good)) (nothing (field_thing p Program 0))
       fits _ good (Elsewhere Root) = good.fits (Elsewhere Root)
+      fits d good (Elsewhere w) = good.fits (Elsewhere w)
       fits d good (Going k) = good.fits (Going k)
 
   -- the root goes
@@ -70,6 +71,7 @@ module _ (p : Image) (t : Typing) (s : State) where
       claims (Entry k) = refl
       claims (Field n f) = refl
       claims (Elsewhere Root) = refl
+      claims (Elsewhere w) = refl
       claims (Going k) = refl
 
   -- a dispatch ends, and the root goes first where the run stops

@@ -119,6 +119,7 @@ module _ (p : Image) (t : Typing) (wired : IsWired p) (typed : IsTyped p t) (s :
     runs_fitting height after says (Entry k) = subst (λ es. Fits p (seen s.cells) (held s.cells (Entry k)) (entry_claim es (items_of below) k (claim p (declared p s.cells) below (Entry k)))) (sym says.entries) (fits_below (Entry k))
     runs_fitting height after says (Field n f) = fits_below (Field n f)
     runs_fitting height after says (Elsewhere Root) = fits_below (Elsewhere Root)
+    runs_fitting height after says (Elsewhere w) = fits_below (Elsewhere w)
     runs_fitting height after says (Going k) = fits_below (Going k)
 
     -- an operation works on nothing

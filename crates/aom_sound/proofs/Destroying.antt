@@ -34,9 +34,9 @@ use Rattle.aom_sound.specs.Destruction.{begun, begun_by}
 use Rattle.aom_sound.specs.Laws.{IsWired}
 use Rattle.aom_sound.specs.Effects.{applied, deletes}
 use Rattle.aom_sound.specs.Objects.{is_no_message}
-use Rattle.aom_sound.specs.Places.{Cell, Elsewhere, Entry, Field, Going, Object, Place, Register, Root, Sight, Tidy, changed, held, moved, named, requested, same_place, seen}
+use Rattle.aom_sound.specs.Places.{Cell, Elsewhere, Entry, Field, Going, Object, Place, Register, Root, Sight, Tidy, changed, held, moved, named, requested, same_place, seen, other_cell, Session}
 use Rattle.aom_sound.specs.State.{AtRoot, Choice, Frame, Home, Inside, Run, Seat, State, Static, frame_of, next, set_word, thing_holder, word}
-use Rattle.aom_sound.specs.WellTyped.{AllSit, NoSeatAt, NoSeatIn, SitsIn, SomeSits, AllUndo, Back, Caught, Fits, Gone, Good, IsBelow, IsHoused, IsNoFieldOf, Leaves, NoneIn, NotIn, Returns, SomeIn, Stack, Unclaimed, WellTyped, WordFits, WorksOn}
+use Rattle.aom_sound.specs.WellTyped.{AllSit, NoSeatAt, NoSeatIn, SitsIn, SomeSits, AllUndo, Back, Caught, Fits, Gone, Good, IsBelow, IsHoused, IsNoFieldOf, Leaves, NoneIn, NotIn, Returns, SomeIn, Stack, Unclaimed, WellTyped, WordFits, WorksOn, SomeInAny, IsOther}
 use Rattle.aom_roles.specs.Shapes.{kind_of}
 use Rattle.aom_sound.proofs.Suiting.{all_moved, known_plain, same_object, suits_less, unworked_rests}
 use Rattle.aom_sound.specs.Requests.{AllSuit, Known, Suits, Unworked, known_at, resting_in, states_claim, thing_kind, works_at}
@@ -70,7 +70,11 @@ module _ (p : Image) (t : Typing) (cs : List Cell) (q : Place) (o : Object) (tid
       not_in (Register f i) b = tt
       not_in (Entry j) b = tt
       not_in (Field m f) b = ne_eqb o.name m (λ e. u.some (subst (λ x. SomeIn x ls) (sym e) b))
-      not_in (Elsewhere x) b = tt
+      not_in (Elsewhere w) b = go (other_cell w) b
+        where
+          go : (c : Option ℕ) → SomeInAny c ls → IsOther o.name c
+          go None b = tt
+          go (Some m) b = ne_eqb o.name m (λ e. u.some (subst (λ x. SomeIn x ls) (sym e) b))
       not_in (Going j) b = tt
 
       of : (home : Home) → fr.home ≡ home → IsHoused p cs ls home → Result home
@@ -94,7 +98,8 @@ module _ (p : Image) (t : Typing) (cs : List Cell) (q : Place) (o : Object) (tid
     where
       not_in : (xs : List Seat) (r : Place) → SitsIn r xs → (SomeSits o.name xs → ⊥) → IsNoFieldOf o.name r
       not_in xs (Field m f) h none = ne_eqb o.name m (λ e. none (subst (λ x. SomeSits x xs) (sym e) h))
-      not_in xs (Elsewhere x) h none = tt
+      not_in xs (Elsewhere Root) h none = tt
+      not_in xs (Elsewhere (Session m c)) h none = ne_eqb o.name m (λ e. none (subst (λ x. SomeSits x xs) (sym e) h))
       not_in xs _ h none = absurd h
 
       go : (xs : List Seat) → NoSeatAt q xs → AllSit cs xs → (SomeSits o.name xs → ⊥) × NoSeatIn o.name xs
@@ -206,6 +211,7 @@ module _ (p : Image) (t : Typing) (linked : IsWired p) (typed : IsTyped p t) (cs
       go true e = subst (λ x. Fits p (seen cs) (held cs (Field n f)) (filled x Perhaps)) (no_fields_declared p linked o.thing none f) (fields_fit n f e)
       go false e = fits (Field n f)
   bare none (Elsewhere Root) = fits (Elsewhere Root)
+  bare none (Elsewhere w) = fits (Elsewhere w)
   bare none (Going k) = subst (λ b. Fits p (seen cs) (held cs (Going k)) (cond b (Own o.thing Ready) (claim p (declared p cs) ls (Going k)))) (tail (length (tasks_of ls) == k)) (fits (Going k))
     where
       tail : (b : Bool) → (b && true) ≡ b
@@ -227,6 +233,7 @@ module _ (p : Image) (t : Typing) (linked : IsWired p) (typed : IsTyped p t) (cs
       go true e = subst (λ x. Fits p (seen cs) (held cs (Field n f)) (filled (field_thing p (thing_holder o.thing) f) x)) (sym (perhaps_only (subst (λ x. WeakerFilling (field after f) x) (destruct_fields p m is.role f) (w.fields f)))) (fields_fit n f e)
       go false e = fits (Field n f)
   clothed m height after is w (Elsewhere Root) = fits (Elsewhere Root)
+  clothed m height after is w (Elsewhere o) = fits (Elsewhere o)
   clothed m height after is w (Going k) = subst (λ b. Fits p (seen cs) (held cs (Going k)) (cond b (Own o.thing Ready) (claim p (declared p cs) ls (Going k)))) (tail (length (tasks_of ls) == k)) (fits (Going k))
     where
       tail : (b : Bool) → (b && true) ≡ b

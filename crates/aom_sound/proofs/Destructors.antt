@@ -71,6 +71,7 @@ module _ (p : Image) (t : Typing) (c : Choice) (s : State) (fr : Frame) (sh : Sh
       go true h = null_field f (held s.cells (Field m f)) done h
       go false h = h
   fits_dying eh e n done (Elsewhere Root) = subst (λ h. Fits p (seen s.cells) (held s.cells (Elsewhere Root)) (root_claim p h sh (claim p (declared p s.cells) ls (Elsewhere Root)))) eh (at_hand.good.fits (Elsewhere Root))
+  fits_dying eh e n done (Elsewhere w) = at_hand.good.fits (Elsewhere w)
   fits_dying eh e n done (Going k) = at_hand.good.fits (Going k)
 
   -- the object is in a state in which it may go

@@ -20,7 +20,7 @@ use Rattle.aom_sound.proofs.Destroying.{perhaps_only}
 use Rattle.aom_sound.proofs.Straight.{fits_unowning}
 use Rattle.aom_sound.proofs.Suiting.{known_plain, same_object, suits_less}
 use Rattle.aom_sound.specs.Claims.{Layer, Method, claim, declared, declared_field, entry_claim, forms, items_of, objects, tasks_of}
-use Rattle.aom_sound.specs.Places.{Cell, Elsewhere, Entry, Field, Going, Object, Place, Register, Root, Tidy, held, named, requested, seen}
+use Rattle.aom_sound.specs.Places.{Cell, Elsewhere, Entry, Field, Going, Object, Place, Register, Root, Tidy, held, named, requested, seen, Session}
 use Rattle.aom_sound.specs.Requests.{AllSuit, Joins, Known, Suits, known_at, resting_in, rests_in, states_claim, thing_kind}
 use Rattle.aom_sound.specs.State.{Frame, Inside, Run, Seat, State, frame_of, thing_holder}
 use Rattle.aom_sound.specs.WellTyped.{AllSit, AllUndo, Fits, Good, Holds, IsApart, IsBelow, IsNoFieldOf, NoSeatIn, NoneIn, Returns, SitsIn, SomeIn, SomeSits, Stack, WellTyped, WordFits, by_field, past_going}
@@ -49,7 +49,8 @@ pub record Entering (p : Image) (t : Typing) (cs : List Cell) (x : Seat) (above 
 -- no field of an object that does not sit is a seat
 no_field : (n : ℕ) (q : Place) (xs : List Seat) → (SomeSits n xs → ⊥) → SitsIn q xs → IsNoFieldOf n q
 no_field n (Field m f) xs none h = ne_eqb n m (λ e. none (subst (λ k. SomeSits k xs) (sym e) h))
-no_field n (Elsewhere w) xs none h = tt
+no_field n (Elsewhere Root) xs none h = tt
+no_field n (Elsewhere (Session m c)) xs none h = ne_eqb n m (λ e. none (subst (λ k. SomeSits k xs) (sym e) h))
 no_field n _ xs none h = absurd h
 
 no_fields : (cs : List Cell) (n : ℕ) (xs : List Seat) → (SomeSits n xs → ⊥) → AllSit cs xs → NoSeatIn n xs
@@ -68,7 +69,8 @@ module _ (p : Image) (t : Typing) (typed : IsTyped p t) (cs : List Cell) (x : Se
     where
       below : (q : Place) → SitsIn q above → IsBelow q over
       below (Field n f) h = e.some_in n (inr h)
-      below (Elsewhere w) h = tt
+      below (Elsewhere Root) h = tt
+      below (Elsewhere (Session n c)) h = e.some_in n (inr h)
       below _ h = absurd h
 
   apart : IsApart p (Inside x.object x.place) over
@@ -110,6 +112,7 @@ module _ (p : Image) (t : Typing) (typed : IsTyped p t) (cs : List Cell) (x : Se
           (subst (λ y. Fits p (seen cs) (held cs (Field x.object.name f)) (filled (field_thing p (thing_holder x.object.thing) f) y)) (sym unfilled) own_field)
       go false other = base (Field n f)
   fits height after w (Elsewhere Root) = base (Elsewhere Root)
+  fits height after w (Elsewhere o) = base (Elsewhere o)
   fits height after w (Going k) = base (Going k)
 
   suits : (height : ℕ) (after : Shape) → SaysNoMore after (entry_shape p m) → AllSuit p cs (Method (begun height) after ∷ over)

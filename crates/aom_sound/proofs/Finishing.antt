@@ -149,7 +149,7 @@ ended p cs fr sh ls housed apart at_top e n (Elsewhere Root) h o fits = go fr.ho
     go Static ap' fits = fits
     go AtRoot ap' fits = subst (λ k. Fits p h o k) (sym (claim_root p (declared p cs) ls ap'.0)) (perhaps_fits p h o (field_thing p Program 0) (field sh 0) fits)
     go (Inside x from) ap' fits = fits
-ended p cs fr sh ls housed apart at_top e n (Going k) h o fits = fits
+ended p cs fr sh ls housed apart at_top e n _ h o fits = fits
 
 -- what the rule says of a return
 pub record Returnable (p : Image) (fr : Frame) (sh : Shape) (a : ℕ) : Type 0 where

@@ -36,7 +36,7 @@ nothing_in (c ∷ cs) n h = and_from _ _ (go c.owner h) (nothing_in cs n (λ f. 
       | inl e ↦ absurd (true≢false (sym (ap (λ b. b && (f == f)) (eq-eqb m n (sym (eqb-true n m e))) ∙ eq-eqb f f refl) ∙ (front_free _ _ _ (h f)).0))
       | inr e ↦ ap not e
     ]
-    go (Elsewhere Root) h = refl
+    go (Elsewhere w) h = refl
     go (Going k) h = refl
 
 module _ (p : Image) (t : Typing) (cs : List Cell) (g : Place) (o : Object) (tidy : Tidy cs) (there : held cs g ≡ Some o) where
@@ -115,6 +115,7 @@ module _ (p : Image) (t : Typing) (cs : List Cell) (o : Object) (ls : List Layer
       same_declared (Entry k) h = refl
       same_declared (Field n f) h = ap (λ x. declared_field p x f) (sym (named_without cs g o n good.tidy good.stack.0.1 (h n f refl)))
       same_declared (Elsewhere Root) h = refl
+      same_declared (Elsewhere w) h = refl
       same_declared (Going k) h = refl
 
       keep : (r : Place) → claim p (declared p cs) (Dying o ∷ ls) r ≡ claim p (declared p cs) ls r → ((n f : ℕ) → r ≡ Field n f → (o.name == n) ≡ false) → Fits p (seen cs') (held cs r) (claim p (declared p cs') ls r)
@@ -134,6 +135,7 @@ module _ (p : Image) (t : Typing) (cs : List Cell) (o : Object) (ls : List Layer
               subst (λ x. Fits p (seen cs') x (claim p (declared p cs') ls (Field n f))) (sym gone) (subst (λ k. Fits p (seen cs') None k) (sym null) tt)
           fields false d = keep (Field n f) (ap (λ b. cond b Null (claim p (declared p cs) ls (Field n f))) d) (λ m h e. let same : n ≡ m = cc in subst (λ m. (o.name == m) ≡ false) same d)
       others (Elsewhere Root) e = keep (Elsewhere Root) refl (λ n m e. cc)
+      others (Elsewhere w) e = keep (Elsewhere w) refl (λ n m e. cc)
       others (Going k) e = keep (Going k) (ap (λ b. cond b (Own o.thing Ready) (claim p (declared p cs) ls (Going k))) (tail (length (tasks_of ls) == k) e)) (λ n m e. cc)
         where
           tail : (b : Bool) → (b && true) ≡ false → b ≡ false

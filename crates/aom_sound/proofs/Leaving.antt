@@ -73,6 +73,7 @@ join_claims p d code es fs ls (Register f i) = refl
 join_claims p d code es fs ls (Entry k) = sym (entries_join es fs (items_of ls) k (claim p d ls (Entry k)))
 join_claims p d code es fs ls (Field n f) = refl
 join_claims p d code es fs ls (Elsewhere Root) = refl
+join_claims p d code es fs ls (Elsewhere w) = refl
 join_claims p d code es fs ls (Going k) = refl
 
 -- what lies under a method that may leave: neither the end of the run nor a dispatch's
@@ -106,7 +107,7 @@ ended_by_leave p cs fr sh ls code housed apart at_top n r h o fits = go r fits
     go (Entry k) fits = fits
     go (Field m f) fits = ended p cs fr bare ls housed apart at_top refl n (Field m f) h o (subst (λ k. Fits p h o k) (same_fields fr.home m f (claim p (declared p cs) ls (Field m f))) fits)
     go (Elsewhere Root) fits = ended p cs fr bare ls housed apart at_top refl n (Elsewhere Root) h o (subst (λ k. Fits p h o k) (same_root fr.home (claim p (declared p cs) ls (Elsewhere Root))) fits)
-    go (Going k) fits = fits
+    go _ fits = fits
 
 -- all methods over the trap end so
 all_ended : (p : Image) (t : Typing) (cs : List Cell) (code : ℤ) (ls : List Layer) (es : List Pushed) (m : ℕ) (home : Home) → leaves p m ≡ true → Stack p t cs (Returns m home) ls → (r : Place) (h : Sight) (o : Option Object) → Fits p h o (claim p (declared p cs) (Unwinding code es ∷ ls) r) → Fits p h o (claim p (declared p cs) (Unwinding code (es ++ entries_over ls) ∷ from_trap ls) r)

@@ -3,41 +3,49 @@ use Rattle.std.proofs.lemmas.Option.{none-some}
 use Rattle.std.proofs.Common.{Bool, List, None, Option, Some, [], ap, cond, false, refl, subst, suc, sym, true, zero, ℕ, ◌==◌, ◌∙◌, ◌∷◌, ◌≡◌}
 use Rattle.std.proofs.lemmas.Bool.{and_from, and_parts, eq-eqb, eqb-true, false≢true, ne_eqb, true≢false}
 use Rattle.aom_shape.specs.Tables.{at, put_at}
-use Rattle.aom_sound.specs.Places.{Cell, Elsewhere, Entry, Field, Going, Object, Other, Place, Register, Root, Tidy, changed, held, moved, named, place_inner, place_kind, place_outer, requested, same_place, without}
+use Rattle.aom_sound.specs.Places.{Cell, Elsewhere, Entry, Field, Going, Object, Other, Place, Queued, Register, Root, In_service, Session, Tidy, changed, held, moved, named, place_inner, place_kind, place_outer, place_part, requested, same_place, without}
 use lib.Dec.{eqb-suc-suc, eqb-suc-zero, eqb-zero-suc}
 
 -- equal numbers, equal places
-pub other_from : ℕ → Other
-other_from a = Root
+pub other_from : ℕ → ℕ → ℕ → Other
+other_from zero a b = Root
+other_from (suc zero) a b = Session a b
+other_from (suc (suc zero)) a b = In_service
+other_from (suc (suc (suc k))) a b = Queued a b
 
-pub place_from : ℕ → ℕ → ℕ → Place
-place_from zero a b = Register a b
-place_from (suc zero) a b = Entry a
-place_from (suc (suc zero)) a b = Field a b
-place_from (suc (suc (suc zero))) a b = Going a
-place_from (suc (suc (suc (suc k)))) a b = Elsewhere (other_from a)
+pub place_from : ℕ → ℕ → ℕ → ℕ → Place
+place_from zero part a b = Register a b
+place_from (suc zero) part a b = Entry a
+place_from (suc (suc zero)) part a b = Field a b
+place_from (suc (suc (suc zero))) part a b = Going a
+place_from (suc (suc (suc (suc k)))) part a b = Elsewhere (other_from part a b)
 
-place_again : (p : Place) → place_from (place_kind p) (place_outer p) (place_inner p) ≡ p
+place_again : (p : Place) → place_from (place_kind p) (place_part p) (place_outer p) (place_inner p) ≡ p
 unfolding place_from other_from
 place_again (Register f r) = refl
 place_again (Entry k) = refl
 place_again (Field n f) = refl
 place_again (Elsewhere Root) = refl
+place_again (Elsewhere (Session s c)) = refl
+place_again (Elsewhere In_service) = refl
+place_again (Elsewhere (Queued s m)) = refl
 place_again (Going k) = refl
 
 pub same_place-true : (p q : Place) → same_place p q ≡ true → p ≡ q
 same_place-true p q e =
     let a = and_parts _ _ e in
     let b = and_parts _ _ a.1 in
+    let c = and_parts _ _ b.1 in
     sym (place_again p)
-    ∙ ap (λ k. place_from k (place_outer p) (place_inner p)) (eqb-true _ _ a.0)
-    ∙ ap (λ k. place_from (place_kind q) k (place_inner p)) (eqb-true _ _ b.0)
-    ∙ ap (λ k. place_from (place_kind q) (place_outer q) k) (eqb-true _ _ b.1)
+    ∙ ap (λ k. place_from k (place_part p) (place_outer p) (place_inner p)) (eqb-true _ _ a.0)
+    ∙ ap (λ k. place_from (place_kind q) k (place_outer p) (place_inner p)) (eqb-true _ _ b.0)
+    ∙ ap (λ k. place_from (place_kind q) (place_part q) k (place_inner p)) (eqb-true _ _ c.0)
+    ∙ ap (λ k. place_from (place_kind q) (place_part q) (place_outer q) k) (eqb-true _ _ c.1)
     ∙ place_again q
 
 pub same_place_refl : (p : Place) → same_place p p ≡ true
 same_place_refl p =
-    and_from _ _ (eq-eqb (place_kind p) _ refl) (and_from _ _ (eq-eqb (place_outer p) _ refl) (eq-eqb (place_inner p) _ refl))
+    and_from _ _ (eq-eqb (place_kind p) _ refl) (and_from _ _ (eq-eqb (place_part p) _ refl) (and_from _ _ (eq-eqb (place_outer p) _ refl) (eq-eqb (place_inner p) _ refl)))
 
 pub same_place_comm : (p q : Place) → same_place p q ≡ same_place q p
 same_place_comm p q = go (same_place p q) (same_place q p) refl refl

@@ -25,7 +25,7 @@ use Rattle.aom_sound.proofs.Things.{stands_same}
 use Rattle.aom_sound.specs.Claims.{Dispatching, Dying, Layer, Mark, Mark_form, Method, Object_form, Unwinding, claim, declared, declared_field, entry_claim, entry_form, form, forms, home_claim, items_of, objects, root_claim, task_of, tasks_of}
 use Rattle.aom_sound.specs.Laws.{EndsEmpty, EndsOwned, IsWired}
 use Rattle.aom_sound.specs.Owned.{AllOwned, Ends, HasRegisters, IsObjects, Lives, NoneGoes, Owned, at_entry, at_register, at_root, by_cell, over}
-use Rattle.aom_sound.specs.Places.{Cell, Elsewhere, Entry, Field, Going, Object, Place, Register, Root, Sight, Tidy, held, named, same_place, seen}
+use Rattle.aom_sound.specs.Places.{Cell, Elsewhere, Entry, Field, Going, Object, Place, Register, Root, Sight, Tidy, held, named, same_place, seen, Session, In_service, Queued}
 use Rattle.aom_sound.specs.Registers.{AllInRange, IsInRange}
 use Rattle.aom_sound.specs.State.{An_object, AtRoot, Home, Inside, Item, Of_root, Run, State, Static, thing_holder}
 use Rattle.aom_sound.specs.WellTyped.{Back, Caught, Fits, Gone, IsHoused, Leaves, Now, Returns, Stack, WellTyped}
@@ -176,6 +176,19 @@ module _ (p : Image) (cs : List Cell) (x : Thing) where
   root_lives (Dispatching Of_root seats ∷ ls) h = absurd h
   root_lives (Dispatching d seats ∷ ls) h = root_lives ls h
 
+  -- no layer claims a session or a message
+  no_session : (ls : List Layer) (s c : ℕ) → Claims ls (Elsewhere (Session s c)) → ⊥
+  no_session [] s c h = h
+  no_session (l ∷ ls) s c h = no_session ls s c h
+
+  none_in_service : (ls : List Layer) → Claims ls (Elsewhere In_service) → ⊥
+  none_in_service [] h = h
+  none_in_service (l ∷ ls) h = none_in_service ls h
+
+  none_queued : (ls : List Layer) (s m : ℕ) → Claims ls (Elsewhere (Queued s m)) → ⊥
+  none_queued [] s m h = h
+  none_queued (l ∷ ls) s m h = none_queued ls s m h
+
 -- an item of that form is an object's
 objects_item : (items : List Item) (k : ℕ) → over (forms items) k ≡ Some Object_form → IsObjects (over items k)
 objects_item [] k e = cc
@@ -233,6 +246,9 @@ module _ (p : Image) (t : Typing) (wired : IsWired p) (s : State) (w : WellTyped
   lives (Entry k) o fits e = objects_item s.items k (ap (λ is. over is k) w.items ∙ items_live p s.cells o.thing w.layers k (kind_at (Entry k) o e))
   lives (Field n f) o fits e = let x = field_thing_of p t s.cells w.layers Now n f o.thing w.good.stack (kind_at (Field n f) o e) in (x.0, x.1, ap is_some x.2)
   lives (Elsewhere Root) o fits e = root_lives p s.cells o.thing w.layers (kind_at (Elsewhere Root) o e)
+  lives (Elsewhere (Session n c)) o fits e = no_session p s.cells o.thing w.layers n c (kind_at (Elsewhere (Session n c)) o e)
+  lives (Elsewhere In_service) o fits e = none_in_service p s.cells o.thing w.layers (kind_at (Elsewhere In_service) o e)
+  lives (Elsewhere (Queued n m)) o fits e = none_queued p s.cells o.thing w.layers n m (kind_at (Elsewhere (Queued n m)) o e)
   lives (Going k) o fits e = absurd (unowned_going k o e)
 
   -- the owner stands higher, so that following owners ends
@@ -240,6 +256,9 @@ module _ (p : Image) (t : Typing) (wired : IsWired p) (s : State) (w : WellTyped
   ends_by fuel (Register f i) o e le = at_register
   ends_by fuel (Entry k) o e le = at_entry
   ends_by fuel (Elsewhere Root) o e le = at_root
+  ends_by fuel (Elsewhere (Session n c)) o e le = absurd (no_session p s.cells o.thing w.layers n c (kind_at (Elsewhere (Session n c)) o e))
+  ends_by fuel (Elsewhere In_service) o e le = absurd (none_in_service p s.cells o.thing w.layers (kind_at (Elsewhere In_service) o e))
+  ends_by fuel (Elsewhere (Queued n m)) o e le = absurd (none_queued p s.cells o.thing w.layers n m (kind_at (Elsewhere (Queued n m)) o e))
   ends_by fuel (Going k) o e le = absurd (unowned_going k o e)
   ends_by zero (Field n f) o e le =
       let x = field_thing_of p t s.cells w.layers Now n f o.thing w.good.stack (kind_at (Field n f) o e) in

@@ -62,6 +62,9 @@ owners_bite = record {
       cc;
   gone = λ h. let there = h.each.0.0.1 in cc;
   no_root = λ h. let has = h.each.0.0 in cc;
+  session = λ h. h.each.0.0;
+  service = λ h. h.each.0.0;
+  queue = λ h. h.each.0.0;
   going = λ h. h.settled;
   destruction = λ h. h.settled;
   round = λ h. no_end (Field 2 0) h.each.0.1 (inr refl);

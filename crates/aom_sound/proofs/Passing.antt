@@ -85,6 +85,7 @@ module _ (p : Image) (t : Typing) (fr : Frame) (ls : List Layer) (depth : ℕ) (
       fits (Entry k) = g.fits (Entry k)
       fits (Field n f) = g.fits (Field n f)
       fits (Elsewhere Root) = g.fits (Elsewhere Root)
+      fits (Elsewhere w) = g.fits (Elsewhere w)
       fits (Going k) = g.fits (Going k)
 
   -- the next register of the method called owns nothing
@@ -102,6 +103,7 @@ module _ (p : Image) (t : Typing) (fr : Frame) (ls : List Layer) (depth : ℕ) (
   under d sh regs a v (Entry k) = claim-set_register p d fr sh ls a v (Entry k)
   under d sh regs a v (Field n f) = claim-set_register p d fr sh ls a v (Field n f)
   under d sh regs a v (Elsewhere Root) = claim-set_register p d fr sh ls a v (Elsewhere Root)
+  under d sh regs a v (Elsewhere w) = claim-set_register p d fr sh ls a v (Elsewhere w)
   under d sh regs a v (Going k) = claim-set_register p d fr sh ls a v (Going k)
 
   -- one more register is filled
@@ -117,6 +119,7 @@ module _ (p : Image) (t : Typing) (fr : Frame) (ls : List Layer) (depth : ℕ) (
       go (Entry k) = refl
       go (Field n f) = refl
       go (Elsewhere Root) = refl
+      go (Elsewhere w) = refl
       go (Going k) = refl
 
   given_more : (regs : List Kind) (ws : List (Option ℤ)) (k : Kind) (w : Option ℤ) → length ws ≡ length regs → ((i : ℕ) → WordFits (at None ws i) (at Unset regs i)) → WordFits w k → (i : ℕ) → WordFits (at None (ws ++ w ∷ []) i) (at Unset (regs ++ k ∷ []) i)

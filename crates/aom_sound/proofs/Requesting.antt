@@ -49,13 +49,13 @@ claim_states p d fr sh ls states (Field n f) = go fr.home
     go Static = refl
     go AtRoot = refl
     go (Inside o from) = refl
-claim_states p d fr sh ls states (Going k) = refl
 claim_states p d fr sh ls states (Elsewhere Root) = go fr.home
   where
     go : (h : Home) → root_claim p h (record sh { states = states }) (claim p d ls (Elsewhere Root)) ≡ root_claim p h sh (claim p d ls (Elsewhere Root))
     go Static = refl
     go AtRoot = refl
     go (Inside o from) = refl
+claim_states p d fr sh ls states _ = refl
 
 -- the object that a method works on has another request perhaps, and is in these states
 restated :

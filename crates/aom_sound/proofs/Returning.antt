@@ -425,6 +425,7 @@ module _ (p : Image) (t : Typing) (c : Choice) (s : State) (fr : Frame) (sh : Sh
   same_claims answer d (Field n f) = refl
   same_claims answer d (Going k) = refl
   same_claims answer d (Elsewhere Root) = refl
+  same_claims answer d (Elsewhere w) = refl
 
   pub law_answer : (a : ℕ) → Law p t c s fr sh (Dispatching (Asks x) seats ∷ ls) at_hand (Return a)
   law_answer a n leads =

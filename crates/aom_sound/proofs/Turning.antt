@@ -272,6 +272,7 @@ module _ (p : Image) (t : Typing) (s : State) (w : WellTyped p t s) (idle_now : 
         claims d (Entry k) = refl
         claims d (Field n f) = refl
         claims d (Elsewhere Root) = refl
+        claims d (Elsewhere w) = refl
         claims d (Going k) = refl
 
         entering : Entering p t cs y.seat sits.0 over it.0 []

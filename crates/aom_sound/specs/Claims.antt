@@ -11,7 +11,7 @@ use Rattle.aom_shape.specs.declared.kind.Entry.TheVariants.{Object as Pushed_obj
 use Rattle.aom_shape.specs.declared.kind.Filling.TheVariants.{Perhaps}
 use Rattle.aom_shape.specs.declared.kind.Kind.{Kind}
 use Rattle.aom_shape.specs.declared.kind.Kind.TheVariants.{Null, Own}
-use Rattle.aom_sound.specs.Places.{Place, Register, Entry, Field, Going, Elsewhere, Other, Root, Object, Cell, named}
+use Rattle.aom_sound.specs.Places.{Place, Register, Entry, Field, Going, Elsewhere, Other, Root, Session, In_service, Queued, Object, Cell, named}
 use Rattle.aom_sound.specs.State.{Home, Static, AtRoot, Inside, Frame, Dispatch, Of_root, Seat, Task, Run, Trapped, Destroy, Unwind, Dispatched, Item, An_object, An_operation, A_mark, thing_holder}
 
 -- what stands behind a task: a method with its abstract state, a trap's mark, a cell that is going, a leave with the entries that are still to unwind, or a dispatch with the seats from its object's up to the root
@@ -115,12 +115,20 @@ abbrev pub is_of_root : Dispatch → Bool
 is_of_root Of_root = true
 is_of_root _ = false
 
+-- what a layer claims of the root
+abbrev pub by_root : Image → Layer → Kind → Kind
+by_root p (Method fr sh) below = root_claim p fr.home sh below
+by_root p (Mark gv) below = below
+by_root p (Dying o) below = below
+by_root p (Unwinding code es) below = below
+by_root p (Dispatching d seats) below = cond (is_of_root d) Null below
+
+-- no layer claims a session or a message
 abbrev pub other_claim : Image → Layer → Other → Kind → Kind
-other_claim p (Method fr sh) Root below = root_claim p fr.home sh below
-other_claim p (Mark gv) Root below = below
-other_claim p (Dying o) Root below = below
-other_claim p (Unwinding code es) Root below = below
-other_claim p (Dispatching d seats) Root below = cond (is_of_root d) Null below
+other_claim p l Root below = by_root p l below
+other_claim p l (Session s c) below = below
+other_claim p l In_service below = below
+other_claim p l (Queued s m) below = below
 
 abbrev pub layer_claim : Image → Layer → ℕ → List Form → Place → Kind → Kind
 layer_claim p l depth items (Register f i) below = register_claim l depth f i below
@@ -138,8 +146,12 @@ abbrev pub declared_field : Image → Option Object → ℕ → Kind
 declared_field p None f = Null
 declared_field p (Some o) f = filled (field_thing p (thing_holder o.thing) f) Perhaps
 
+-- no server has a session or a message
 abbrev pub declared_other : Image → Other → Kind
 declared_other p Root = filled (field_thing p Program 0) Perhaps
+declared_other p (Session s c) = Null
+declared_other p In_service = Null
+declared_other p (Queued s m) = Null
 
 abbrev pub declared : Image → List Cell → Place → Kind
 declared p cs (Register f i) = Null

@@ -3,7 +3,7 @@ use Rattle.std.specs.Prelude.{ℕ, ◌==◌, ◌≡◌, cond, List, [], ◌∷�
 use Rattle.aom_image.specs.Image.{Image}
 use Rattle.aom_instructions.specs.Operands.{IsRegister}
 use Rattle.aom_shape.specs.Things.{Program, field_thing}
-use Rattle.aom_sound.specs.Places.{Place, Register, Entry, Field, Going, Elsewhere, Root, Object, Cell, held, named}
+use Rattle.aom_sound.specs.Places.{Place, Register, Entry, Field, Going, Elsewhere, Other, Root, Session, In_service, Queued, Object, Cell, held, named}
 use Rattle.aom_sound.specs.State.{Task, Run, Trapped, Destroy, Unwind, Dispatched, Item, An_object, An_operation, A_mark, State, thing_holder}
 
 -- what stands over so many others
@@ -27,13 +27,20 @@ IsObjects (Some An_object) = Unit {0}
 IsObjects (Some (An_operation m w)) = ⊥
 IsObjects (Some A_mark) = ⊥
 
--- a place lives while its method is at hand, its item lies there or its cell, whose class has that field, stands; the root lives where the image has one
+-- the root lives where the image has one; no server has a session or a message
+abbrev pub LivesOf : Image → Other → Type 0
+LivesOf p Root = IsSome (field_thing p Program 0)
+LivesOf p (Session s c) = ⊥
+LivesOf p In_service = ⊥
+LivesOf p (Queued s m) = ⊥
+
+-- a place lives while its method is at hand, its item lies there or its cell, whose class has that field, stands
 abbrev pub Lives : Image → State → Place → Type 0
 Lives p s (Register f i) = HasRegisters (over s.tasks f) × IsRegister i
 Lives p s (Entry k) = IsObjects (over s.items k)
 Lives p s (Field n f) = (o : Object) × (named s.cells n ≡ Some o) × IsSome (field_thing p (thing_holder o.thing) f)
 Lives p s (Going k) = over s.tasks k ≡ Some Destroy
-Lives p s (Elsewhere Root) = IsSome (field_thing p Program 0)
+Lives p s (Elsewhere o) = LivesOf p o
 
 -- following owners ends at a register, a cleanup entry or the root
 pub data Ends (s : State) : Place → Type 0 where

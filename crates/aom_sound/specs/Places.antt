@@ -4,9 +4,16 @@ use Rattle.aom_image.specs.declared.method.Thing.{Thing}
 use Rattle.aom_shape.specs.Kinds.{is_object}
 use Rattle.aom_shape.specs.Tables.{at, put_at}
 
--- places that no method's frame speaks of but main's
+-- places that are no method's, and no cell's fields
 pub data Other : Type 0 where
+  -- the root of the image
   Root : Other
+  -- the session of a client at the server of that name
+  Session : (server client : ℕ) → Other
+  -- the message that is served
+  In_service : Other
+  -- a message, by its name, in the queue of the server of that name
+  Queued : (server message : ℕ) → Other
 
 -- where a cell can be owned
 pub data Place : Type 0 where
@@ -16,9 +23,24 @@ pub data Place : Type 0 where
   Going : (index : ℕ) → Place
   Elsewhere : Other → Place
 
--- a place as three numbers, so that places are compared as numbers are
+-- a place as four numbers, so that places are compared as numbers are: its kind, which of the other places it is, and two more
+abbrev pub other_kind : Other → ℕ
+other_kind Root = 0
+other_kind (Session s c) = 1
+other_kind In_service = 2
+other_kind (Queued s m) = 3
+
 abbrev pub other_outer : Other → ℕ
 other_outer Root = 0
+other_outer (Session s c) = s
+other_outer In_service = 0
+other_outer (Queued s m) = s
+
+abbrev pub other_inner : Other → ℕ
+other_inner Root = 0
+other_inner (Session s c) = c
+other_inner In_service = 0
+other_inner (Queued s m) = m
 
 abbrev pub place_kind : Place → ℕ
 place_kind (Register f r) = 0
@@ -26,6 +48,13 @@ place_kind (Entry k) = 1
 place_kind (Field n f) = 2
 place_kind (Going k) = 3
 place_kind (Elsewhere o) = 4
+
+abbrev pub place_part : Place → ℕ
+place_part (Register f r) = 0
+place_part (Entry k) = 0
+place_part (Field n f) = 0
+place_part (Going k) = 0
+place_part (Elsewhere o) = other_kind o
 
 abbrev pub place_outer : Place → ℕ
 place_outer (Register f r) = f
@@ -39,10 +68,17 @@ place_inner (Register f r) = r
 place_inner (Entry k) = 0
 place_inner (Field n f) = f
 place_inner (Going k) = 0
-place_inner (Elsewhere o) = 0
+place_inner (Elsewhere o) = other_inner o
 
 abbrev pub same_place : Place → Place → Bool
-same_place p q = (place_kind p == place_kind q) && ((place_outer p == place_outer q) && (place_inner p == place_inner q))
+same_place p q = (place_kind p == place_kind q) && ((place_part p == place_part q) && ((place_outer p == place_outer q) && (place_inner p == place_inner q)))
+
+-- the cell whose place it is
+abbrev pub other_cell : Other → Option ℕ
+other_cell Root = None
+other_cell (Session s c) = Some s
+other_cell In_service = None
+other_cell (Queued s m) = Some s
 
 -- a name, and what it is the name of
 pub record Object : Type 0 where

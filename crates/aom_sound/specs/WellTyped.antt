@@ -19,7 +19,7 @@ use Rattle.aom_shape.specs.declared.kind.Age.TheVariants.{Fresh, Ready}
 use Rattle.aom_shape.specs.declared.kind.Filling.TheVariants.{Perhaps}
 use Rattle.aom_shape.specs.declared.kind.Kind.{Kind}
 use Rattle.aom_shape.specs.declared.kind.Kind.TheVariants.{Unset, Word, Null, Own, Maybe}
-use Rattle.aom_sound.specs.Places.{Cell, Elsewhere, Entry, Field, Going, Object, Place, Register, Root, Sight, Tidy, held, named, requested, same_place, seen}
+use Rattle.aom_sound.specs.Places.{Cell, Elsewhere, Entry, Field, Going, In_service, Object, Other, Place, Queued, Register, Root, Session, Sight, Tidy, held, named, other_cell, requested, same_place, seen}
 use Rattle.aom_sound.specs.State.{Home, Static, AtRoot, Inside, Frame, Dispatch, Of_main, Main_left, Of_root, Of_object, Object_left, Asks, Answered, Seat, Item, An_object, An_operation, A_mark, word, State, Outcome, Goes, IsStuck, home_holder, thing_holder}
 use Rattle.aom_sound.specs.Calls.{result_register, called}
 use Rattle.aom_sound.specs.Requests.{AllSuit, Joins, states_claim, thing_kind, works_at}
@@ -109,13 +109,18 @@ Stands p t (Caught g) fr sh =
 Stands p t Gone fr sh = Leads t fr.method (suc fr.place) sh
 Stands p t Leaves fr sh = ⊥
 
--- that place is no field of that cell
+-- it is another cell, or none
+abbrev pub IsOther : ℕ → Option ℕ → Type 0
+IsOther n None = Unit {0}
+IsOther n (Some m) = (n == m) ≡ false
+
+-- that place is no field of that cell, and none of its others
 abbrev pub IsNoFieldOf : ℕ → Place → Type 0
 IsNoFieldOf n (Register f r) = Unit {0}
 IsNoFieldOf n (Entry k) = Unit {0}
 IsNoFieldOf n (Field m f) = (n == m) ≡ false
 IsNoFieldOf n (Going k) = Unit {0}
-IsNoFieldOf n (Elsewhere o) = Unit {0}
+IsNoFieldOf n (Elsewhere o) = IsOther n (other_cell o)
 
 abbrev pub NotIn : ℕ → Home → Type 0
 NotIn n Static = Unit {0}
@@ -139,13 +144,20 @@ abbrev pub NoSeatAt : Place → List Seat → Type 0
 NoSeatAt q [] = Unit {0}
 NoSeatAt q (x ∷ xs) = (same_place q x.place ≡ false) × NoSeatAt q xs
 
--- the place is the root, or a field of an object that sits
+-- it is the root, or a session at a server that sits
+abbrev pub SitsElsewhere : Other → List Seat → Type 0
+SitsElsewhere Root xs = Unit {0}
+SitsElsewhere (Session s c) xs = SomeSits s xs
+SitsElsewhere In_service xs = ⊥
+SitsElsewhere (Queued s m) xs = ⊥
+
+-- the place is that, or a field of an object that sits
 abbrev pub SitsIn : Place → List Seat → Type 0
 SitsIn (Register f r) xs = ⊥
 SitsIn (Entry k) xs = ⊥
 SitsIn (Field n f) xs = SomeSits n xs
 SitsIn (Going k) xs = ⊥
-SitsIn (Elsewhere o) xs = Unit {0}
+SitsIn (Elsewhere o) xs = SitsElsewhere o xs
 
 -- each object is at its place, and lives, and none sits twice
 abbrev pub AllSit : List Cell → List Seat → Type 0
@@ -247,13 +259,17 @@ SomeIn n (Dying o ∷ ls) = SomeIn n ls
 SomeIn n (Unwinding code es ∷ ls) = SomeIn n ls
 SomeIn n (Dispatching d seats ∷ ls) = SomeSits n seats ⊎ SomeIn n ls
 
+abbrev pub SomeInAny : Option ℕ → List Layer → Type 0
+SomeInAny None ls = Unit {0}
+SomeInAny (Some n) ls = SomeIn n ls
+
 -- the place belongs to the layers
 abbrev pub IsBelow : Place → List Layer → Type 0
 IsBelow (Register f r) ls = f < length (tasks_of ls)
 IsBelow (Entry k) ls = k < length (items_of ls)
 IsBelow (Field n f) ls = SomeIn n ls
 IsBelow (Going k) ls = k < length (tasks_of ls)
-IsBelow (Elsewhere o) ls = Unit {0}
+IsBelow (Elsewhere o) ls = SomeInAny (other_cell o) ls
 
 -- what holds this is below the frame, and is claimed to be ready
 pub record Holds (p : Image) (cs : List Cell) (ls : List Layer) (o : Object) (from : Place) : Type 0 where

@@ -2,7 +2,7 @@
 use Rattle.std.specs.Prelude.{pos, List, [], ◌∷◌, None}
 use Rattle.aom_image.specs.Image.{Image}
 use Rattle.aom_image.specs.declared.method.Gives.TheVariants.{Nothing}
-use Rattle.aom_sound.specs.Places.{Place, Register, Entry, Field, Going, Elsewhere, Root, Cell}
+use Rattle.aom_sound.specs.Places.{Place, Register, Entry, Field, Going, Elsewhere, Root, Cell, Session, In_service, Queued}
 use Rattle.aom_sound.specs.State.{Static, frame_of, Task, Run, Trapped, Destroy, Unwind, Dispatched, Of_main, Item, An_object, An_operation, A_mark}
 use Rattle.aom_sound.specs.Owned.{Owned}
 use Rattle.aom_sound.specs.Cases.Building.{leaf, pair, a_method, a_cell, at_bottom, small_image, state_of}
@@ -51,6 +51,10 @@ pub record OwnersBite : Type 0 where
   pub gone : OwnedAt (Field 6 0) → ⊥
   -- no root where the image has none
   pub no_root : OwnedBy rootless_image caught_tasks (a_cell 5 pair (Elsewhere Root) ∷ []) → ⊥
+  -- no session, nothing in service and no queue, since nobody is served
+  pub session : OwnedAt (Elsewhere (Session 5 0)) → ⊥
+  pub service : OwnedAt (Elsewhere In_service) → ⊥
+  pub queue : OwnedAt (Elsewhere (Queued 5 1)) → ⊥
   -- no destruction, and while one is at hand nothing is as it must be
   pub going : OwnedBy an_image (Destroy ∷ at_bottom) (a_cell 1 leaf (Going 2) ∷ []) → ⊥
   pub destruction : OwnedBy an_image (Destroy ∷ at_bottom) [] → ⊥
