@@ -1,6 +1,6 @@
 -- The course of a leave on a run: which entries it has dealt with, and that its code arrives.
 use Rattle.aom_sound.proofs.Turning.{turn_goes_on}
-use Rattle.std.proofs.Common.{List, Option, [], ap, append-nil, append_assoc, inl, inr, length, refl, subst, sym, ℤ, ◌∙◌, ◌∷◌, ◌≡◌, ◌≢◌}
+use Rattle.std.proofs.Common.{List, [], ap, append-nil, append_assoc, inl, inr, length, refl, subst, sym, ℤ, ◌∙◌, ◌∷◌, ◌≡◌, ◌≢◌}
 use Rattle.std.specs.Prelude.{◌++◌, ◌⊎◌}
 use Rattle.aom_image.specs.Image.{Image}
 use Rattle.aom_rules.specs.Typing.{IsTyped, Typing}

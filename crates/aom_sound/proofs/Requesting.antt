@@ -30,7 +30,7 @@ use Rattle.aom_sound.specs.Claims.{Layer, Method, claim, declared, home_claim, r
 use Rattle.aom_sound.specs.Effects.{Requested, applied, jumps_if, updates, asking_with}
 use Rattle.aom_sound.specs.Enlisted.{aborted, cancelled_code, first_request, home_kind, in_phase, is_active, is_busy, is_cancelling, is_idle, is_issued, issued_by, issued_of, on_request, own_request, pending, rerequested, status_of, waits, Asking}
 use Rattle.aom_sound.specs.Laws.{IsWired}
-use Rattle.aom_sound.specs.Places.{Aborted, Active, Cancelling, Cell, Elsewhere, Entry, Field, Going, Idle, Issued, Object, Phase, Place, Register, Request, Root, held, named, requested, same_place, seen}
+use Rattle.aom_sound.specs.Places.{Aborted, Active, Cancelling, Cell, Elsewhere, Entry, Field, Idle, Issued, Object, Phase, Place, Register, Request, Root, held, named, requested, same_place, seen}
 use Rattle.aom_sound.specs.Requests.{is_timed, Known, Suits, known_at, phase_state, state_of, states_claim, thing_kind, works_at}
 use Rattle.aom_sound.specs.State.{AtRoot, Choice, Frame, Home, Inside, Run, State, Static, field_place, home_holder, next, to_place}
 use Rattle.aom_sound.specs.WellTyped.{Fits, IsHoused, WellTyped}

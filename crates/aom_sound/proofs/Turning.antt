@@ -33,7 +33,7 @@ use Rattle.aom_sound.proofs.Storing.{Alike, fits_alike, requested_here, requeste
 use Rattle.aom_sound.proofs.Suiting.{idle_timed, untimed}
 use Rattle.aom_sound.proofs.Turned.{picked, recorded_so}
 use Rattle.aom_sound.specs.Claims.{Dispatching, Layer, Mark, claim, declared, forms, items_of}
-use Rattle.aom_sound.specs.Enlisted.{is_aborted, is_active, is_idle, on_request, part_of, pending, taken_up, timed_out, completed_with, recorded}
+use Rattle.aom_sound.specs.Enlisted.{is_aborted, is_active, is_idle, on_request, part_of, pending, taken_up, completed_with, recorded}
 use Rattle.aom_sound.specs.Laws.{IsHandler, IsWired, TurnGoesOn}
 use Rattle.aom_sound.specs.Places.{Active, Cell, Elsewhere, Entry, Field, Going, Object, Phase, Place, Register, Request, Root, Tidy, held, named, requested, seen}
 use Rattle.aom_sound.specs.Requests.{AllSuit, Known, Suits, is_timed, phase_state, resting_in, rests_in, thing_kind}

@@ -1,5 +1,5 @@
 -- What counts as a step: an instruction that runs, those of destructors and operations among them, and a cell that goes.
-use Rattle.std.specs.Prelude.{ℕ, Bool, true, false, cond, is_none, ◌+◌, ◌-◌, ◌^◌, ◌≡◌, min, List, ◌∷◌, Option}
+use Rattle.std.specs.Prelude.{ℕ, Bool, true, false, cond, is_none, ◌+◌, ◌-◌, ◌^◌, ◌≡◌, min, List, ◌∷◌}
 use Rattle.aom_image.specs.Image.{Image}
 use Rattle.aom_sound.specs.State.{Dispatch, Of_main, Main_left, Of_root, Of_object, Object_left, Asks, Answered, Task, Run, Destroy, Dispatched, State, Choice, Goes, raised}
 use Rattle.aom_image.specs.declared.method.Role.TheVariants.{Error}

@@ -1,5 +1,5 @@
 -- Loops: the rounds that are left while a method stands in a loop's body.
-use Rattle.std.specs.Prelude.{ℕ, suc, ◌≡◌, ◌<◌, ◌≤◌, List, Option}
+use Rattle.std.specs.Prelude.{ℕ, suc, ◌≡◌, ◌<◌, ◌≤◌, List}
 use Rattle.aom_image.specs.Image.{Image}
 use Rattle.aom_image.specs.WellFormed.{WellFormed}
 use Rattle.aom_classes.specs.Bodies.{Body, IsIn, IsLooped}

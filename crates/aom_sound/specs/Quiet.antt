@@ -1,5 +1,5 @@
 -- While a cell goes or a leave unwinds, quiet methods alone run, and no trap is set.
-use Rattle.std.specs.Prelude.{Bool, List, Option, [], false, true, ℤ, ◌∷◌, ◌≡◌}
+use Rattle.std.specs.Prelude.{Bool, List, [], false, true, ℤ, ◌∷◌, ◌≡◌}
 use Rattle.aom_image.specs.Image.{Image}
 use Rattle.aom_image.specs.Views.{is_quiet}
 use Rattle.aom_rules.specs.Typing.{Typing, IsTyped}
