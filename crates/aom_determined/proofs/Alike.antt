@@ -6,14 +6,14 @@ use Rattle.aom_sound.specs.Moves.{IsOpen, is_refused, step, written}
 use Rattle.aom_sound.specs.Places.{named}
 use Rattle.aom_sound.specs.State.{Choice, Goes, IsStuck, Outcome, State}
 use Rattle.aom_sound.specs.WellTyped.{WellTyped}
-use Rattle.aom_sound.specs.World.{Completion, Outside, turn, turning, written_turn}
+use Rattle.aom_sound.specs.World.{Heard, nothing_heard, Outside, turn, turning, written_turn}
 use Rattle.aom_determined.proofs.Cells.{cells_counted}
 use Rattle.aom_determined.proofs.Fresh.{renamed_twice, swap_first, swap_one_to_one, swapped, swapped_free}
 use Rattle.aom_determined.proofs.Steps.{free_so, moves_so, refused_so, writes_so}
 use Rattle.aom_determined.proofs.Polling.{turn_unpolled}
 use Rattle.aom_determined.proofs.Turning.{polling_kept, turns_so, writes_turn_so}
 use Rattle.aom_determined.specs.Laws.{MovesStayAlike, TurnsStayAlike}
-use Rattle.aom_determined.specs.Names.{AlikeOutcomes, AreAlike, IsOneToOne, renamed, renamed_choice, renamed_outcome}
+use Rattle.aom_determined.specs.Names.{AlikeOutcomes, AreAlike, IsOneToOne, renamed, renamed_choice, renamed_heard, renamed_outcome}
 use Rattle.aom_determined.specs.Hearing.{is_heard, is_polling}
 use Rattle.aom_determined.proofs.Hearing.{step_unheard, heard_kept}
 
@@ -76,29 +76,29 @@ pub moves_stay_alike : MovesStayAlike
 moves_stay_alike p t refused c d s u well_u alike open_c open_d answers = (move_alike p t refused c d s u well_u alike open_c open_d answers, writes_alike p s u alike)
 
 -- a turn makes no cell, and hears what the other hears
-module _ (p : Image) (outside : Outside) (answer other : Option Completion) (s u : State) (alike : AreAlike s u) (answers : is_polling (turning outside None s) ≡ true → answer ≡ other) where
-  same_polling : is_polling (turning outside None u) ≡ is_polling (turning outside None s)
-  same_polling = ap (λ x. is_polling (turning outside None x)) alike.same ∙ polling_kept alike.names outside s
+module _ (p : Image) (outside : Outside) (heard other : Heard) (s u : State) (alike : AreAlike s u) (answers : is_polling (turning outside nothing_heard s) ≡ true → heard.completion ≡ other.completion) where
+  same_polling : is_polling (turning outside nothing_heard u) ≡ is_polling (turning outside nothing_heard s)
+  same_polling = ap (λ x. is_polling (turning outside nothing_heard x)) alike.same ∙ polling_kept alike.names outside s
 
-  same_turn : turn p outside answer u ≡ turn p outside other u
-  same_turn = go (is_polling (turning outside None s)) refl
+  same_turn : turn p outside (renamed_heard alike.names heard) u ≡ turn p outside other u
+  same_turn = go (is_polling (turning outside nothing_heard s)) refl
     where
-      go : (b : Bool) → is_polling (turning outside None s) ≡ b → turn p outside answer u ≡ turn p outside other u
-      go true e = ap (λ a. turn p outside a u) (answers e)
-      go false e = let unpolled = same_polling ∙ e in turn_unpolled answer p outside u unpolled ∙ sym (turn_unpolled other p outside u unpolled)
+      go : (b : Bool) → is_polling (turning outside nothing_heard s) ≡ b → turn p outside (renamed_heard alike.names heard) u ≡ turn p outside other u
+      go true e = ap (λ a. turn p outside (record other { completion = a }) u) (answers e)
+      go false e = let unpolled = same_polling ∙ e in turn_unpolled (renamed_heard alike.names heard) p outside u unpolled ∙ sym (turn_unpolled other p outside u unpolled)
 
-  pub turn_alike : AlikeOutcomes (turn p outside answer s) (turn p outside other u)
+  pub turn_alike : AlikeOutcomes (turn p outside heard s) (turn p outside other u)
   turn_alike =
       subst
-      (AlikeOutcomes (turn p outside answer s))
-      (sym (turns_so alike.names alike.one_to_one p outside answer s) ∙ ap (turn p outside answer) (sym alike.same) ∙ same_turn)
-      (alike_renamed alike.names alike.one_to_one (turn p outside answer s))
+      (AlikeOutcomes (turn p outside heard s))
+      (sym (turns_so alike.names alike.one_to_one p outside heard s) ∙ ap (turn p outside (renamed_heard alike.names heard)) (sym alike.same) ∙ same_turn)
+      (alike_renamed alike.names alike.one_to_one (turn p outside heard s))
 
 pub turn_writes_alike : (outside : Outside) (s u : State) → AreAlike s u → written_turn outside s ≡ written_turn outside u
 turn_writes_alike outside s u alike = sym (writes_turn_so alike.names alike.one_to_one outside s) ∙ ap (written_turn outside) (sym alike.same)
 
 pub turns_stay_alike : TurnsStayAlike
-turns_stay_alike p outside answer other s u alike answers = (turn_alike p outside answer other s u alike answers, turn_writes_alike outside s u alike)
+turns_stay_alike p outside heard other s u alike answers = (turn_alike p outside heard other s u alike answers, turn_writes_alike outside s u alike)
 
 -- they have as many cells
 pub alike_counted : (s u : State) → AreAlike s u → length s.cells ≡ length u.cells

@@ -31,14 +31,14 @@ module _ {p : Image} {outside : Outside} {from : State} where
   follows_both one other begins same follows = tt
   follows_both one other (moves c reached busy opened goes) same follows =
       (follows_both one other reached (sooner (stages reached) one other same) follows.0, λ heard. follows.1 heard ∙ same.answers (stages reached) (omega arith))
-  follows_both one other (turns answer reached between well goes) same follows =
+  follows_both one other (turns heard reached between well goes) same follows =
       (follows_both one other reached (sooner (stages reached) one other same) follows.0, λ polled. follows.1 polled ∙ same.completes (stages reached) (omega arith))
 
   -- what a run heard
   abbrev heard_by : {lines : List Line} {s : State} → Reaches p outside from lines s → Oracle
   heard_by begins = record { answers = λ n. pos 0; completes = λ n. None }
   heard_by (moves c reached busy opened goes) = let before = heard_by reached in record before { answers = said before.answers (stages reached) c.answer }
-  heard_by (turns answer reached between well goes) = let before = heard_by reached in record before { completes = said before.completes (stages reached) answer }
+  heard_by (turns heard reached between well goes) = let before = heard_by reached in record before { completes = said before.completes (stages reached) heard.completion }
 
   follows_it : {lines : List Line} {s : State} (reached : Reaches p outside from lines s) → Follows (heard_by reached) reached
   follows_it begins = tt
@@ -47,11 +47,11 @@ module _ {p : Image} {outside : Outside} {from : State} where
       let n = stages reached in
       let same : SameBefore n before (record before { answers = said before.answers n c.answer }) = record { answers = said_before before.answers n c.answer; completes = λ k lt. refl } in
       (follows_both before (record before { answers = said before.answers n c.answer }) reached same (follows_it reached), λ heard. sym (said_here before.answers n c.answer))
-  follows_it (turns answer reached between well goes) =
+  follows_it (turns heard reached between well goes) =
       let before = heard_by reached in
       let n = stages reached in
-      let same : SameBefore n before (record before { completes = said before.completes n answer }) = record { answers = λ k lt. refl; completes = said_before before.completes n answer } in
-      (follows_both before (record before { completes = said before.completes n answer }) reached same (follows_it reached), λ polled. sym (said_here before.completes n answer))
+      let same : SameBefore n before (record before { completes = said before.completes n heard.completion }) = record { answers = λ k lt. refl; completes = said_before before.completes n heard.completion } in
+      (follows_both before (record before { completes = said before.completes n heard.completion }) reached same (follows_it reached), λ polled. sym (said_here before.completes n heard.completion))
 
 pub each_run_follows : EachRunFollows
 each_run_follows p outside from lines s reached = (heard_by reached, follows_it reached)

@@ -11,7 +11,7 @@ use Rattle.aom_sound.specs.Enlisted.{thing_kind}
 use Rattle.aom_sound.specs.Natives.{is_outstanding_at, native_of}
 use Rattle.aom_sound.specs.Places.{Cell}
 use Rattle.aom_sound.specs.State.{Choice, State}
-use Rattle.aom_sound.specs.World.{AnswersWell, Candidate, Completes, Completion, Cuts, Hears, Kills, Outside, Polls, Reaches, Timed, Turning, begins, by_event, by_timer, delivers, first_due, first_living, first_ready, has_signal, lives, moves, next_event, next_native, next_time, passes, picks, polls, turn, turned, turning, turns}
+use Rattle.aom_sound.specs.World.{AnswersWell, Candidate, Completes, Completion, Cuts, Heard, Hears, Kills, Outside, Polls, Reaches, Timed, Turning, begins, by_event, by_timer, delivers, first_due, first_living, first_ready, has_signal, lives, moves, next_event, next_native, next_time, nothing_heard, passes, picks, polls, turn, turned, turning, turns}
 use Rattle.aom_transcript.specs.declared.event.Event.{Event}
 use Rattle.aom_transcript.specs.declared.event.Event.TheVariants.{Kill, Tell}
 use Rattle.aom_transcript.specs.declared.event.TimedEvent.{TimedEvent}
@@ -26,51 +26,51 @@ abbrev told : Option Completion → Turning → Turning
 told answer (Polls n other) = Polls n answer
 told answer t = t
 
-module _ (answer : Option Completion) where
-  told_passes : (next : Option ℕ) → passes next ≡ told answer (passes next)
+module _ (heard : Heard) where
+  told_passes : (next : Option ℕ) → passes next ≡ told heard.completion (passes next)
   told_passes None = refl
   told_passes (Some time) = refl
 
-  told_picks : (signal : Bool) (ready : Option Candidate) (next : Option ℕ) → picks signal ready next ≡ told answer (picks signal ready next)
+  told_picks : (signal : Bool) (ready : Option Candidate) (next : Option ℕ) → picks signal ready next ≡ told heard.completion (picks signal ready next)
   told_picks true None next = refl
   told_picks true (Some x) next = refl
   told_picks false ready next = told_passes next
 
-  told_polls : (n : Option ℕ) (after : Turning) → after ≡ told answer after → polls n answer after ≡ told answer (polls n None after)
+  told_polls : (n : Option ℕ) (after : Turning) → after ≡ told heard.completion after → polls n heard.completion after ≡ told heard.completion (polls n None after)
   told_polls None after same = same
   told_polls (Some n) after same = refl
 
-  told_delivers : (outside : Outside) (s : State) (e : Event) → delivers outside s e ≡ told answer (delivers outside s e)
+  told_delivers : (outside : Outside) (s : State) (e : Event) → delivers outside s e ≡ told heard.completion (delivers outside s e)
   told_delivers outside s (Tell n word) = refl
-  told_delivers outside s (Kill n) = cond_applied (told answer) (lives outside s n) (Kills n) Hears
+  told_delivers outside s (Kill n) = cond_applied (told heard.completion) (lives outside s n) (Kills n) Hears
 
-  told_by_event : (outside : Outside) (s : State) (e : Option TimedEvent) (after : Turning) → by_event outside s e (told answer after) ≡ told answer (by_event outside s e after)
+  told_by_event : (outside : Outside) (s : State) (e : Option TimedEvent) (after : Turning) → by_event outside s e (told heard.completion after) ≡ told heard.completion (by_event outside s e after)
   told_by_event outside s None after = refl
   told_by_event outside s (Some e) after =
       let due = nat_le e.time s.rest.clock in
-      ap (λ x. cond due x (told answer after)) (told_delivers outside s e.event) ∙ cond_applied (told answer) due (delivers outside s e.event) after
+      ap (λ x. cond due x (told heard.completion after)) (told_delivers outside s e.event) ∙ cond_applied (told heard.completion) due (delivers outside s e.event) after
 
-  told_by_timer : (s : State) (x : Option Timed) (after : Turning) → by_timer s x (told answer after) ≡ told answer (by_timer s x after)
+  told_by_timer : (s : State) (x : Option Timed) (after : Turning) → by_timer s x (told heard.completion after) ≡ told heard.completion (by_timer s x after)
   told_by_timer s None after = refl
-  told_by_timer s (Some x) after = cond_applied (told answer) (nat_le x.timer.due s.rest.clock) (Completes x.object) after
+  told_by_timer s (Some x) after = cond_applied (told heard.completion) (nat_le x.timer.due s.rest.clock) (Completes x.object) after
 
-  told_turning : (outside : Outside) (s : State) → turning outside answer s ≡ told answer (turning outside None s)
+  told_turning : (outside : Outside) (s : State) → turning outside heard s ≡ told heard.completion (turning outside nothing_heard s)
   told_turning outside s =
       let cut = nat_le outside.limit s.rest.dispatches in
       let after = picks (has_signal s.cells) (first_ready s.cells) (next_time outside s) in
       let polled = polls (next_native outside s) None after in
-      let heard = by_event outside s (next_event outside s) polled in
+      let delivered = by_event outside s (next_event outside s) polled in
       ap (λ t. cond cut Cuts (by_timer s (first_due s.cells) (by_event outside s (next_event outside s) t))) (told_polls (next_native outside s) after (told_picks (has_signal s.cells) (first_ready s.cells) (next_time outside s)))
       ∙ ap (λ t. cond cut Cuts (by_timer s (first_due s.cells) t)) (told_by_event outside s (next_event outside s) polled)
-      ∙ ap (cond cut Cuts) (told_by_timer s (first_due s.cells) heard)
-      ∙ cond_applied (told answer) cut Cuts (by_timer s (first_due s.cells) heard)
+      ∙ ap (cond cut Cuts) (told_by_timer s (first_due s.cells) delivered)
+      ∙ cond_applied (told heard.completion) cut Cuts (by_timer s (first_due s.cells) delivered)
 
-  untold : (t : Turning) → is_polling t ≡ false → told answer t ≡ t
+  untold : (t : Turning) → is_polling t ≡ false → told heard.completion t ≡ t
   untold (Polls n other) e = cc
   untold _ e = refl
 
-  pub turn_unpolled : (p : Image) (outside : Outside) (s : State) → is_polling (turning outside None s) ≡ false → turn p outside answer s ≡ turn p outside None s
-  turn_unpolled p outside s e = ap (turned p s) (told_turning outside s ∙ untold (turning outside None s) e)
+  pub turn_unpolled : (p : Image) (outside : Outside) (s : State) → is_polling (turning outside nothing_heard s) ≡ false → turn p outside heard s ≡ turn p outside nothing_heard s
+  turn_unpolled p outside s e = ap (turned p s) (told_turning outside s ∙ untold (turning outside nothing_heard s) e)
 
 -- ---- where there is no native none is polled
 
@@ -105,7 +105,7 @@ none_living outside s none =
     let no_more : outside.natives - s.rest.polled ≡ 0 = omega (arith, none) in
     ap (λ many. first_living s.killed many s.rest.polled) no_more
 
-none_polled : (outside : Outside) (s : State) → outside.natives ≡ 0 → is_polling (turning outside None s) ≡ false
+none_polled : (outside : Outside) (s : State) → outside.natives ≡ 0 → is_polling (turning outside nothing_heard s) ≡ false
 none_polled outside s none =
     let after = picks (has_signal s.cells) (first_ready s.cells) (next_time outside s) in
     let unpolled = ap (λ n. is_polling (polls n None after)) (none_living outside s none) ∙ unpolled_picks (has_signal s.cells) (first_ready s.cells) (next_time outside s) in
@@ -136,13 +136,13 @@ module _ (p : Image) (natives : HasNoNative p) where
     pub without : outside.natives ≡ 0 → {from : State} {lines : List Line} {s : State} (reached : Reaches p outside from lines s) → Follows oracle reached
     without none begins = tt
     without none (moves {s = s} c reached busy opened goes) = (without none reached, unheard_moves c s (stages reached))
-    without none (turns {s = s} answer reached between well goes) = (without none reached, λ polled. absurd (true≢false (sym polled ∙ none_polled outside s none)))
+    without none (turns {s = s} heard reached between well goes) = (without none reached, λ polled. absurd (true≢false (sym polled ∙ none_polled outside s none)))
 
     pub idle : ((n : ℕ) → oracle.completes n ≡ None) → {from : State} {lines : List Line} {s : State} (reached : Reaches p outside from lines s) → Follows oracle reached
     idle nothing begins = tt
     idle nothing (moves {s = s} c reached busy opened goes) = (idle nothing reached, unheard_moves c s (stages reached))
-    idle nothing (turns {s = s} answer reached between well goes) =
-        (idle nothing reached, λ polled. nothing_completed s answer (turning outside None s) polled (subst (λ t. AnswersWell p s t) (told_turning answer outside s) well) ∙ sym (nothing (stages reached)))
+    idle nothing (turns {s = s} heard reached between well goes) =
+        (idle nothing reached, λ polled. nothing_completed s heard.completion (turning outside nothing_heard s) polled (subst (λ t. AnswersWell p s t) (told_turning heard outside s) well.completion) ∙ sym (nothing (stages reached)))
 
 pub nothing_is_heard : NothingIsHeard
 nothing_is_heard = record {

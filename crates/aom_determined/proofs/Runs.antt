@@ -12,7 +12,7 @@ use Rattle.aom_sound.specs.Laws.{IsWired}
 use Rattle.aom_sound.specs.Moves.{IsOpen, step, written}
 use Rattle.aom_sound.specs.State.{Choice, Goes, Outcome, State}
 use Rattle.aom_sound.specs.WellTyped.{WellTyped}
-use Rattle.aom_sound.specs.World.{Completion, IsBetween, IsBusy, Reaches, Run_of, begins, boot_state, main_tasks, moves, turn, turning, turns, written_turn, Outside}
+use Rattle.aom_sound.specs.World.{Heard, IsBetween, IsBusy, Reaches, Run_of, begins, boot_state, main_tasks, moves, nothing_heard, turn, turning, turns, written_turn, Outside}
 use Rattle.aom_transcript.specs.declared.line.Ending.{Ending}
 use Rattle.aom_transcript.specs.declared.line.Line.{Line}
 use Rattle.aom_determined.proofs.Alike.{move_alike, turn_alike, turn_writes_alike, writes_alike}
@@ -33,11 +33,11 @@ module _ (p : Image) (t : Typing) (outside : Outside) (wired : IsWired p) (typed
     hears : is_heard p v.tasks ≡ true → choice.answer ≡ oracle.answers n
 
   record Turned (n : ℕ) (v s : State) (new : List Line) : Type 0 where
-    answer : Option Completion
+    heard : Heard
     between : IsBetween v
-    goes : turn p outside answer v ≡ Goes s
+    goes : turn p outside heard v ≡ Goes s
     lines : new ≡ written_turn outside v
-    hears : is_polling (turning outside None v) ≡ true → answer ≡ oracle.completes n
+    hears : is_polling (turning outside nothing_heard v) ≡ true → heard.completion ≡ oracle.completes n
 
   abbrev Stage : ℕ → State → State → List Line → Type 0
   Stage n v s new = Moved n v s new ⊎ Turned n v s new
@@ -51,8 +51,8 @@ module _ (p : Image) (t : Typing) (outside : Outside) (wired : IsWired p) (typed
   staged begins follows = (refl, refl)
   staged (moves {lines = lines} {s = s} c before busy choice e) follows =
       (lines, s, written p s, staged before follows.0, before, inl (record { choice = c; busy = busy; open_so = choice; goes = e; lines = refl; hears = follows.1 }), refl)
-  staged (turns {lines = lines} {s = s} answer before between owed e) follows =
-      (lines, s, written_turn outside s, staged before follows.0, before, inr (record { answer = answer; between = between; goes = e; lines = refl; hears = follows.1 }), refl)
+  staged (turns {lines = lines} {s = s} heard before between owed e) follows =
+      (lines, s, written_turn outside s, staged before follows.0, before, inr (record { heard = heard; between = between; goes = e; lines = refl; hears = follows.1 }), refl)
 
   well : (lines : List Line) (s : State) → Reaches p outside (boot_state p) lines s → WellTyped p t s
   well lines s r = well_on p t outside wired typed (boot_state p) (boot_keeps p t wired typed) lines s r
@@ -73,8 +73,8 @@ module _ (p : Image) (t : Typing) (outside : Outside) (wired : IsWired p) (typed
   hears_alike : (n : ℕ) (v w s u : State) (new new' : List Line) → AreAlike v w → (one : Moved n v s new) (other : Moved n w u new') → is_heard p v.tasks ≡ true → one.choice.answer ≡ other.choice.answer
   hears_alike n v w s u new new' alike one other heard = one.hears heard ∙ sym (other.hears (ap (λ x. is_heard p x.tasks) alike.same ∙ heard_kept p alike.names v.tasks ∙ heard))
 
-  polls_alike : (n : ℕ) (v w s u : State) (new new' : List Line) → AreAlike v w → (one : Turned n v s new) (other : Turned n w u new') → is_polling (turning outside None v) ≡ true → one.answer ≡ other.answer
-  polls_alike n v w s u new new' alike one other polled = one.hears polled ∙ sym (other.hears (ap (λ x. is_polling (turning outside None x)) alike.same ∙ polling_kept alike.names outside v ∙ polled))
+  polls_alike : (n : ℕ) (v w s u : State) (new new' : List Line) → AreAlike v w → (one : Turned n v s new) (other : Turned n w u new') → is_polling (turning outside nothing_heard v) ≡ true → one.heard.completion ≡ other.heard.completion
+  polls_alike n v w s u new new' alike one other polled = one.hears polled ∙ sym (other.hears (ap (λ x. is_polling (turning outside nothing_heard x)) alike.same ∙ polling_kept alike.names outside v ∙ polled))
 
   stage_alike : (n : ℕ) (v w s u : State) (new new' : List Line) → WellTyped p t w → AreAlike v w → Stage n v s new → Stage n w u new' → (new ≡ new') × AreAlike s u
   stage_alike n v w s u new new' wt alike (inl one) (inl other) = (
@@ -85,7 +85,7 @@ module _ (p : Image) (t : Typing) (outside : Outside) (wired : IsWired p) (typed
   stage_alike n v w s u new new' wt alike (inr one) (inl other) = absurd (idle_busy v w alike one.between.idle other.busy)
   stage_alike n v w s u new new' wt alike (inr one) (inr other) = (
     one.lines ∙ turn_writes_alike outside v w alike ∙ sym other.lines,
-    goes_alike _ _ s u one.goes other.goes (turn_alike p outside one.answer other.answer v w alike (polls_alike n v w s u new new' alike one other)),
+    goes_alike _ _ s u one.goes other.goes (turn_alike p outside one.heard other.heard v w alike (polls_alike n v w s u new new' alike one other)),
   )
 
   -- nothing in the boot state has a name

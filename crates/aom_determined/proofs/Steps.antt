@@ -7,6 +7,7 @@ use Rattle.aom_image.specs.declared.method.Role.TheVariants.{Error as Answers}
 use Rattle.aom_image.specs.Views.{instr_at}
 use Rattle.aom_instructions.specs.declared.instr.Instr.{Instr}
 use Rattle.aom_instructions.specs.declared.instr.Instr.TheVariants.{Print}
+use Rattle.aom_sound.specs.World.{Heard, HearsWell, Outside}
 use Rattle.aom_sound.specs.Calls.{called, result_register}
 use Rattle.aom_sound.specs.Cleanup.{arrived, dealt_with, ended_by, top_is_whole, unwound}
 use Rattle.aom_sound.specs.Destruction.{gone, needs_gone}
@@ -17,9 +18,9 @@ use Rattle.aom_sound.specs.State.{A_mark, An_object, An_operation, Answered, Ask
 use Rattle.aom_determined.proofs.Cells.{cells_counted, cond_applied, held_renamed, moved_renamed, named_renamed, owns_nothing_kept, requested_kept, tasks_counted, without_renamed}
 use Rattle.aom_determined.proofs.Doing.{begun_renamed, dealt_renamed, does_renamed, needs_kept, told_renamed}
 use Rattle.aom_determined.proofs.Needs.{guarded_renamed, whole_kept}
-use Rattle.aom_determined.proofs.Turning.{turns_so, writes_turn_so}
+use Rattle.aom_determined.proofs.Turning.{turns_so, writes_turn_so, answers_so}
 use Rattle.aom_determined.specs.Laws.{NamesMeanNothing}
-use Rattle.aom_determined.specs.Names.{IsOneToOne, renamed, renamed_cells, renamed_choice, renamed_dispatch, renamed_frame, renamed_object, renamed_outcome, renamed_seat, renamed_tasks}
+use Rattle.aom_determined.specs.Names.{IsOneToOne, renamed, renamed_cells, renamed_choice, renamed_dispatch, renamed_frame, renamed_object, renamed_outcome, renamed_seat, renamed_tasks, renamed_heard}
 
 module _ (names : ℕ → ℕ) (one_to_one : IsOneToOne names) where
   resumed_renamed : (ts : List Task) → resumed (renamed_tasks names ts) ≡ renamed_tasks names (resumed ts)
@@ -169,11 +170,15 @@ module _ (names : ℕ → ℕ) (one_to_one : IsOneToOne names) where
   pub opens_so : (p : Image) (refused : List ℕ) (c : Choice) (s : State) → IsOpen p refused c s → IsOpen p refused (renamed_choice names c) (renamed names s)
   opens_so p refused c s h = record { name = free_so s c.name h.name; refusal = h.refusal ∙ sym (refused_so p refused s) }
 
+  hears_so : (p : Image) (outside : Outside) (heard : Heard) (s : State) → HearsWell p outside heard s → HearsWell p outside (renamed_heard names heard) (renamed names s)
+  hears_so p outside heard s well = record { completion = answers_so names one_to_one p outside heard s well.completion; name = free_so s heard.name well.name }
+
 pub names_mean_nothing : NamesMeanNothing
 names_mean_nothing = record {
   opens = λ p refused names one_to_one c s h. opens_so names one_to_one p refused c s h;
   moves = λ p names one_to_one c s. moves_so names one_to_one p c s;
   writes = λ p names one_to_one s. writes_so names one_to_one p s;
-  turns = λ p outside answer names one_to_one s. turns_so names one_to_one p outside answer s;
+  turns = λ p outside heard names one_to_one s. turns_so names one_to_one p outside heard s;
+  hears = λ p outside heard names one_to_one s well. hears_so names one_to_one p outside heard s well;
   writes_turn = λ outside names one_to_one s. writes_turn_so names one_to_one outside s;
 }

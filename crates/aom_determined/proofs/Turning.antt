@@ -1,5 +1,5 @@
 -- A turn under other names: orders, priorities, times and numbers decide, so the same timer is due first, the same native is polled or killed, the same object is picked, and the lines are the same.
-use Rattle.std.proofs.Common.{Bool, List, None, Option, Some, [], ap, cond, false, refl, true, ℕ, ℤ, ◌∙◌, ◌∷◌, ◌≡◌, ◌||◌}
+use Rattle.std.proofs.Common.{Bool, List, None, Option, Some, [], ap, cond, false, refl, true, ℕ, ℤ, ◌∙◌, ◌∷◌, ◌≡◌, ◌||◌, subst, sym}
 use Rattle.std.specs.Prelude.{nat_le, option_map}
 use Rattle.aom_image.specs.Image.{Image}
 use Rattle.aom_image.specs.declared.method.Role.TheVariants.{Run as Handles}
@@ -9,14 +9,14 @@ use Rattle.aom_sound.specs.Enlisted.{completed_with, on_request, part_of, record
 use Rattle.aom_sound.specs.Natives.{all_bereaved, bereaved, is_outstanding_at}
 use Rattle.aom_sound.specs.Places.{Cell, Object, Request, Timer, requested, set_request}
 use Rattle.aom_sound.specs.State.{CompletedTwice, Seat, State, guarded}
-use Rattle.aom_sound.specs.World.{Candidate, Completes, Completion, Cuts, Hears, Kills, Outside, Picks, Polls, Timed, Turning, among_ready, among_timers, answered_by, before_others, by_event, by_timer, cell_at, delivers, dispatched, due_of, first_due, first_ready, goes_before, has_signal, is_ready, is_sooner, lives, nearer, next_event, next_native, next_time, passes, past_native, picks, polled, polls, run_line, signals, sooner, time_of, turn, turned, turning, with_request, written_by, written_turn}
+use Rattle.aom_sound.specs.World.{Candidate, Completes, Completion, Cuts, Heard, Hears, Kills, Outside, Picks, Polls, Timed, Turning, among_ready, among_timers, answered_by, before_others, by_event, by_timer, cell_at, delivers, dispatched, due_of, first_due, first_ready, goes_before, has_signal, is_ready, is_sooner, lives, nearer, next_event, next_native, next_time, nothing_heard, passes, past_native, picks, polled, polls, run_line, signals, sooner, time_of, turn, turned, turning, with_request, written_by, written_turn, AnswersWell}
 use Rattle.aom_transcript.specs.declared.event.Event.{Event}
 use Rattle.aom_transcript.specs.declared.event.Event.TheVariants.{Kill, Tell}
 use Rattle.aom_transcript.specs.declared.event.TimedEvent.{TimedEvent}
 use Rattle.aom_determined.proofs.Cells.{cell_at_renamed, cond_applied, cond_mapped, each_renamed, requested_kept, set_request_renamed}
 use Rattle.aom_determined.proofs.Needs.{guarded_renamed}
 use Rattle.aom_determined.specs.Hearing.{is_polling}
-use Rattle.aom_determined.specs.Names.{IsOneToOne, renamed, renamed_cell, renamed_cells, renamed_object, renamed_outcome, renamed_seat}
+use Rattle.aom_determined.specs.Names.{IsOneToOne, renamed, renamed_cell, renamed_cells, renamed_heard, renamed_object, renamed_outcome, renamed_seat}
 
 module _ (names : ℕ → ℕ) where
   abbrev renamed_timed : Timed → Timed
@@ -119,25 +119,25 @@ module _ (names : ℕ → ℕ) where
   by_timer_renamed s None after = refl
   by_timer_renamed s (Some x) after = cond_applied renamed_turning (nat_le x.timer.due s.rest.clock) (Completes x.object) after
 
-  pub turning_renamed : (outside : Outside) (answer : Option Completion) (s : State) → turning outside answer (renamed names s) ≡ renamed_turning (turning outside answer s)
-  turning_renamed outside answer s =
+  pub turning_renamed : (outside : Outside) (heard : Heard) (s : State) → turning outside (renamed_heard names heard) (renamed names s) ≡ renamed_turning (turning outside heard s)
+  turning_renamed outside heard s =
       let cut = nat_le outside.limit s.rest.dispatches in
-      let polled = polls (next_native outside s) answer (picked outside s) in
-      let heard = by_event outside s (next_event outside s) polled in
-      ap (λ t. cond cut Cuts (by_timer s (first_due (renamed_cells names s.cells)) (by_event outside s (next_event outside s) (polls (next_native outside s) answer t)))) (picked_renamed outside s)
-      ∙ ap (λ t. cond cut Cuts (by_timer s (first_due (renamed_cells names s.cells)) (by_event outside s (next_event outside s) t))) (polls_renamed (next_native outside s) answer (picked outside s))
+      let polled = polls (next_native outside s) heard.completion (picked outside s) in
+      let delivered = by_event outside s (next_event outside s) polled in
+      ap (λ t. cond cut Cuts (by_timer s (first_due (renamed_cells names s.cells)) (by_event outside s (next_event outside s) (polls (next_native outside s) heard.completion t)))) (picked_renamed outside s)
+      ∙ ap (λ t. cond cut Cuts (by_timer s (first_due (renamed_cells names s.cells)) (by_event outside s (next_event outside s) t))) (polls_renamed (next_native outside s) heard.completion (picked outside s))
       ∙ ap (λ t. cond cut Cuts (by_timer s (first_due (renamed_cells names s.cells)) t)) (by_event_renamed outside s (next_event outside s) polled)
-      ∙ ap (λ x. cond cut Cuts (by_timer s x (renamed_turning heard))) (due_renamed s.cells)
-      ∙ ap (cond cut Cuts) (by_timer_renamed s (first_due s.cells) heard)
-      ∙ cond_applied renamed_turning cut Cuts (by_timer s (first_due s.cells) heard)
+      ∙ ap (λ x. cond cut Cuts (by_timer s x (renamed_turning delivered))) (due_renamed s.cells)
+      ∙ ap (cond cut Cuts) (by_timer_renamed s (first_due s.cells) delivered)
+      ∙ cond_applied renamed_turning cut Cuts (by_timer s (first_due s.cells) delivered)
 
   polling_renamed : (t : Turning) → is_polling (renamed_turning t) ≡ is_polling t
   polling_renamed (Polls n answer) = refl
   polling_renamed _ = refl
 
   -- a native is polled under other names too
-  pub polling_kept : (outside : Outside) (s : State) → is_polling (turning outside None (renamed names s)) ≡ is_polling (turning outside None s)
-  polling_kept outside s = ap is_polling (turning_renamed outside None s) ∙ polling_renamed (turning outside None s)
+  pub polling_kept : (outside : Outside) (s : State) → is_polling (turning outside nothing_heard (renamed names s)) ≡ is_polling (turning outside nothing_heard s)
+  polling_kept outside s = ap is_polling (turning_renamed outside nothing_heard s) ∙ polling_renamed (turning outside nothing_heard s)
 
 module _ (names : ℕ → ℕ) (one_to_one : IsOneToOne names) where
   -- ---- where it leads
@@ -173,8 +173,17 @@ module _ (names : ℕ → ℕ) (one_to_one : IsOneToOne names) where
   turned_renamed p s (Picks x) = dispatched_renamed (part_of p Handles x.object.thing) x s
   turned_renamed p s _ = refl
 
-  pub turns_so : (p : Image) (outside : Outside) (answer : Option Completion) (s : State) → turn p outside answer (renamed names s) ≡ renamed_outcome names (turn p outside answer s)
-  turns_so p outside answer s = ap (turned p (renamed names s)) (turning_renamed names outside answer s) ∙ turned_renamed p s (turning outside answer s)
+  pub turns_so : (p : Image) (outside : Outside) (heard : Heard) (s : State) → turn p outside (renamed_heard names heard) (renamed names s) ≡ renamed_outcome names (turn p outside heard s)
+  turns_so p outside heard s = ap (turned p (renamed names s)) (turning_renamed names outside heard s) ∙ turned_renamed p s (turning outside heard s)
+
+  -- what it may hear
+  answers_kept : (p : Image) (s : State) (t : Turning) → AnswersWell p s t → AnswersWell p (renamed names s) (renamed_turning names t)
+  answers_kept p s (Polls n (Some a)) well = (renamed_cell names well.0, cell_at_renamed names s.cells a.cell ∙ ap (option_map (renamed_cell names)) well.1, well.2)
+  answers_kept p s (Polls n None) well = tt
+  answers_kept p s _ well = tt
+
+  pub answers_so : (p : Image) (outside : Outside) (heard : Heard) (s : State) → AnswersWell p s (turning outside heard s) → AnswersWell p (renamed names s) (turning outside (renamed_heard names heard) (renamed names s))
+  answers_so p outside heard s well = subst (λ t. AnswersWell p (renamed names s) t) (sym (turning_renamed names outside heard s)) (answers_kept p s (turning outside heard s) well)
 
   -- ---- what it writes
 
@@ -190,4 +199,4 @@ module _ (names : ℕ → ℕ) (one_to_one : IsOneToOne names) where
   by_kept s _ = refl
 
   pub writes_turn_so : (outside : Outside) (s : State) → written_turn outside (renamed names s) ≡ written_turn outside s
-  writes_turn_so outside s = ap (written_by (renamed names s)) (turning_renamed names outside None s) ∙ by_kept s (turning outside None s)
+  writes_turn_so outside s = ap (written_by (renamed names s)) (turning_renamed names outside nothing_heard s) ∙ by_kept s (turning outside nothing_heard s)

@@ -9,7 +9,7 @@ use Rattle.aom_roles.specs.Shapes.{kind_of}
 use Rattle.aom_rules.specs.Natives.{is_native_kind}
 use Rattle.aom_sound.specs.Enlisted.{home_kind}
 use Rattle.aom_sound.specs.State.{Run, State, Task}
-use Rattle.aom_sound.specs.World.{begins, moves, turns, Completion, Outside, Polls, Reaches, Turning, turning}
+use Rattle.aom_sound.specs.World.{begins, moves, nothing_heard, turns, Completion, Outside, Polls, Reaches, Turning, turning}
 use Rattle.aom_transcript.specs.declared.line.Line.{Line}
 
 -- a method of an object of that kind of class hears what a native answers
@@ -37,13 +37,13 @@ pub record Oracle : Type 0 where
 abbrev pub stages : {p : Image} {outside : Outside} {from : State} {lines : List Line} {s : State} → Reaches p outside from lines s → ℕ
 stages begins = 0
 stages (moves c reached busy opened goes) = suc (stages reached)
-stages (turns answer reached between well goes) = suc (stages reached)
+stages (turns heard reached between well goes) = suc (stages reached)
 
 -- wherever a run hears a native, it hears what the oracle says
 abbrev pub Follows : {p : Image} {outside : Outside} {from : State} {lines : List Line} {s : State} → Oracle → Reaches p outside from lines s → Type 0
 Follows oracle begins = Unit {0}
 Follows {p = p} oracle (moves {s = s} c reached busy opened goes) = Follows oracle reached × (is_heard p s.tasks ≡ true → c.answer ≡ oracle.answers (stages reached))
-Follows {outside = outside} oracle (turns {s = s} answer reached between well goes) = Follows oracle reached × (is_polling (turning outside None s) ≡ true → answer ≡ oracle.completes (stages reached))
+Follows {outside = outside} oracle (turns {s = s} heard reached between well goes) = Follows oracle reached × (is_polling (turning outside nothing_heard s) ≡ true → heard.completion ≡ oracle.completes (stages reached))
 
 -- no native serves a class
 pub record HasNoNative (p : Image) : Type 0 where

@@ -6,20 +6,21 @@ use Rattle.aom_rules.specs.Typing.{Typing, IsTyped}
 use Rattle.aom_sound.specs.State.{State, Choice}
 use Rattle.aom_sound.specs.Moves.{step, written, IsOpen}
 use Rattle.aom_sound.specs.WellTyped.{WellTyped}
-use Rattle.aom_sound.specs.World.{boot_state, Completion, Reaches, Run_of, Outside, turn, turning, written_turn}
+use Rattle.aom_sound.specs.World.{boot_state, Heard, nothing_heard, Reaches, Run_of, Outside, turn, turning, written_turn, HearsWell}
 use Rattle.aom_sound.specs.Laws.{IsWired}
 use Rattle.aom_transcript.specs.declared.line.Line.{Line}
 use Rattle.aom_transcript.specs.declared.line.Ending.{Ending}
 use Rattle.aom_determined.specs.Hearing.{HasNoNative, Oracle, Follows, is_heard, is_polling}
-use Rattle.aom_determined.specs.Names.{IsOneToOne, renamed, renamed_choice, renamed_outcome, AreAlike, AlikeOutcomes}
+use Rattle.aom_determined.specs.Names.{IsOneToOne, renamed, renamed_choice, renamed_heard, renamed_outcome, AreAlike, AlikeOutcomes}
 
--- of any state, well typed or not: under other names the same moves are open to it, it moves to the same state under these names, or is stuck alike, and writes the same; and so does a turn
+-- of any state, well typed or not: under other names the same moves are open to it, and its turns may hear the same; it moves to the same state under these names, or is stuck alike, and writes the same; and so does a turn
 pub record NamesMeanNothing : Type 0 where
   pub opens : (p : Image) (refused : List ℕ) (names : ℕ → ℕ) → IsOneToOne names → (c : Choice) (s : State) → IsOpen p refused c s → IsOpen p refused (renamed_choice names c) (renamed names s)
   pub moves : (p : Image) (names : ℕ → ℕ) → IsOneToOne names → (c : Choice) (s : State) → step p (renamed_choice names c) (renamed names s) ≡ renamed_outcome names (step p c s)
   pub writes : (p : Image) (names : ℕ → ℕ) → IsOneToOne names → (s : State) → written p (renamed names s) ≡ written p s
   -- whatever a native completes, which names its cell by the place in the list of cells
-  pub turns : (p : Image) (outside : Outside) (answer : Option Completion) (names : ℕ → ℕ) → IsOneToOne names → (s : State) → turn p outside answer (renamed names s) ≡ renamed_outcome names (turn p outside answer s)
+  pub turns : (p : Image) (outside : Outside) (heard : Heard) (names : ℕ → ℕ) → IsOneToOne names → (s : State) → turn p outside (renamed_heard names heard) (renamed names s) ≡ renamed_outcome names (turn p outside heard s)
+  pub hears : (p : Image) (outside : Outside) (heard : Heard) (names : ℕ → ℕ) → IsOneToOne names → (s : State) → HearsWell p outside heard s → HearsWell p outside (renamed_heard names heard) (renamed names s)
   pub writes_turn : (outside : Outside) (names : ℕ → ℕ) → IsOneToOne names → (s : State) → written_turn outside (renamed names s) ≡ written_turn outside s
 
 -- two states that are the same but for names, of which one is well typed, move alike, each with any free name for a new cell, and write the same, where both hear the same of a native that answers
@@ -29,12 +30,12 @@ MovesStayAlike =
     WellTyped p t u → AreAlike s u → IsOpen p refused c s → IsOpen p refused d u → (is_heard p s.tasks ≡ true → c.answer ≡ d.answer) →
     AlikeOutcomes (step p c s) (step p d u) × (written p s ≡ written p u)
 
--- and two such states, well typed or not, turn alike, and write the same, where a native that is polled completes the same
+-- and two such states, well typed or not, turn alike, each with any name for what the turn makes, and write the same, where a native that is polled completes the same
 abbrev pub TurnsStayAlike : Type 0
 TurnsStayAlike =
-    (p : Image) (outside : Outside) (answer other : Option Completion) (s u : State) →
-    AreAlike s u → (is_polling (turning outside None s) ≡ true → answer ≡ other) →
-    AlikeOutcomes (turn p outside answer s) (turn p outside other u) × (written_turn outside s ≡ written_turn outside u)
+    (p : Image) (outside : Outside) (heard other : Heard) (s u : State) →
+    AreAlike s u → (is_polling (turning outside nothing_heard s) ≡ true → heard.completion ≡ other.completion) →
+    AlikeOutcomes (turn p outside heard s) (turn p outside other u) × (written_turn outside s ≡ written_turn outside u)
 
 -- lines that may go on to others
 abbrev pub Begins : List Line → List Line → Type 0

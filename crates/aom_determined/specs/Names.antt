@@ -2,6 +2,7 @@
 use Rattle.std.specs.Prelude.{ℕ, ◌≡◌, List, map}
 use Rattle.aom_sound.specs.Places.{Place, Register, Entry, Field, Going, Elsewhere, Object, Cell}
 use Rattle.aom_sound.specs.State.{Home, Static, AtRoot, Inside, Frame, Seat, Dispatch, Of_main, Main_left, Of_root, Of_object, Object_left, Asks, Answered, Task, Run, Trapped, Destroy, Unwind, Dispatched, State, Choice, Outcome, Goes, IsStuck}
+use Rattle.aom_sound.specs.World.{Heard}
 
 -- two names stay two
 abbrev pub IsOneToOne : (ℕ → ℕ) → Type 0
@@ -63,6 +64,10 @@ module _ (names : ℕ → ℕ) where
 
   abbrev pub renamed_choice : Choice → Choice
   renamed_choice c = record c { name = names c.name }
+
+  -- what a native completes is told by the place in the list of cells
+  abbrev pub renamed_heard : Heard → Heard
+  renamed_heard heard = record heard { name = names heard.name }
 
   abbrev pub renamed_outcome : Outcome → Outcome
   renamed_outcome (Goes s) = Goes (renamed s)

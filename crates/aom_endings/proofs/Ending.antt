@@ -15,7 +15,7 @@ use Rattle.aom_sound.specs.Moves.{step, written, is_refused, IsOpen}
 use Rattle.aom_sound.specs.WellTyped.{WellTyped}
 use Rattle.aom_sound.proofs.Turned.{answers, nothing, polled_rest, polled_so}
 use Rattle.aom_sound.specs.Enlisted.{recorded}
-use Rattle.aom_sound.specs.World.{AnswersWell, boot_state, Candidate, Completes, Completion, Cuts, Hears, Kills, Outside, Reaches, Timed, Turning, by_event, by_timer, delivers, first_due, first_ready, has_signal, lives, moves, next_event, next_native, next_time, picks, polled, polls, turn, turned, turning, turns, Run_of, IsBusy, written_turn, IsBetween}
+use Rattle.aom_sound.specs.World.{AnswersWell, boot_state, Candidate, Completes, Completion, Cuts, Heard, Hears, HearsWell, Kills, Outside, Reaches, Timed, Turning, by_event, by_timer, delivers, first_due, first_ready, has_signal, lives, moves, next_event, next_native, next_time, picks, polled, polls, turn, turned, turning, turns, Run_of, IsBusy, written_turn, IsBetween}
 use Rattle.aom_transcript.specs.declared.event.Event.{Event}
 use Rattle.aom_transcript.specs.declared.event.Event.TheVariants.{Kill, Tell}
 use Rattle.aom_transcript.specs.declared.event.TimedEvent.{TimedEvent}
@@ -42,6 +42,10 @@ above [] n h = refl
 above (c ∷ cs) n h =
     let other : (c.object.name == n) ≡ false = ne_eqb c.object.name n (λ e. omega arith) in
     rw other (above cs n (omega arith))
+
+-- nothing is heard, with a free name
+abbrev quiet : State → Heard
+quiet s = record { completion = None; name = top s.cells }
 
 -- a native that is polled may complete nothing
 module _ (p : Image) (outside : Outside) (s : State) where
@@ -79,12 +83,15 @@ module _ (p : Image) (outside : Outside) (s : State) where
       go true = tt
       go false = then
 
-  completes_nothing : AnswersWell p s (turning outside None s)
+  completes_nothing : AnswersWell p s (turning outside (quiet s) s)
   completes_nothing = go (nat_le outside.limit s.rest.dispatches)
     where
       go : (b : Bool) → AnswersWell p s (cond b Cuts (by_timer s (first_due s.cells) (by_event outside s (next_event outside s) (polls (next_native outside s) None (picks (has_signal s.cells) (first_ready s.cells) (next_time outside s))))))
       go true = tt
       go false = timer_well (first_due s.cells) _ (event_well (next_event outside s) _ (polls_well (next_native outside s) _ (picks_well (has_signal s.cells) (first_ready s.cells) (next_time outside s))))
+
+  hears_nothing : HearsWell p outside (quiet s) s
+  hears_nothing = record { completion = completes_nothing; name = above s.cells (top s.cells) (omega arith) }
 
 -- a poll starts no timer, and nothing comes to be at hand
 polled_no_more : (p : Image) (s u : State) (n : ℕ) (answer : Option Completion) → polled p n answer s ≡ Goes u → timers_in u.cells ≤ timers_in s.cells
@@ -187,11 +194,12 @@ module _ (p : Image) (t : Typing) (outside : Outside) (few : outside.limit ≤ 2
   by_turns n zero j ends lines s less few_natives spares r w between = absurd (omega (arith, less))
   by_turns n (suc k) zero ends lines s less few_natives spares r w between = absurd (omega (arith, few_natives))
   by_turns n (suc k) (suc j) ends lines s less few_natives spares r w between =
-      let owed = completes_nothing p outside s in
-      let next = leads_on p t (turn p outside None s) (turn_goes_on p t outside wired is_typed None s w between owed) in
+      let owed = hears_nothing p outside s in
+      let heard = quiet s in
+      let next = leads_on p t (turn p outside heard s) (turn_goes_on p t outside wired is_typed heard s w between owed) in
       further lines (written_turn outside s)
       (by_kind n k j ends (λ i. by_turns n k i ends) (by_turns n (suc k) j ends) (lines ++ written_turn outside s) s (omega (arith, less)) (omega (arith, few_natives)) spares w between
-      (turning outside None s) (kind_of outside s None) next.0 next.1 (turns None r between owed next.1) next.2)
+      (turning outside heard s) (kind_of outside s heard) next.0 next.1 (turns heard r between owed next.1) next.2)
 
   -- ---- moves
 

@@ -3,7 +3,7 @@ use Rattle.std.proofs.Common.{◌≡◌, ◌<◌, ◌≤◌, ◌-◌, ◌+◌, �
 use Rattle.std.specs.Prelude.{nat_le}
 use Rattle.std.proofs.lemmas.Bool.{leb-false}
 use Rattle.aom_sound.specs.State.{State}
-use Rattle.aom_sound.specs.World.{Candidate, Completes, Completion, Cuts, Hears, Kills, Outside, Passes, Picks, Polls, Strays, Timed, Turning, Waits, by_event, by_timer, delivers, due_of, first_due, first_ready, has_signal, lives, next_event, next_native, next_time, picks, polls, time_of, turning}
+use Rattle.aom_sound.specs.World.{Candidate, Completes, Completion, Cuts, Heard, Hears, Kills, Outside, Passes, Picks, Polls, Strays, Timed, Turning, Waits, by_event, by_timer, delivers, due_of, first_due, first_ready, has_signal, lives, next_event, next_native, next_time, picks, polls, time_of, turning}
 use Rattle.aom_transcript.specs.declared.event.Event.{Event}
 use Rattle.aom_transcript.specs.declared.event.Event.TheVariants.{Kill, Tell}
 use Rattle.aom_transcript.specs.declared.event.TimedEvent.{TimedEvent}
@@ -64,14 +64,14 @@ module _ (outside : Outside) (s : State) where
       go true due = completes_one x is
       go false early = then (ap (λ x. reached (due_of x) s.rest.clock) is ∙ early)
 
-  pub kind_of : (answer : Option Completion) → Kind outside s (turning outside answer s)
-  kind_of answer = go (nat_le outside.limit s.rest.dispatches) refl
+  pub kind_of : (heard : Heard) → Kind outside s (turning outside heard s)
+  kind_of heard = go (nat_le outside.limit s.rest.dispatches) refl
     where
       go : (b : Bool) → nat_le outside.limit s.rest.dispatches ≡ b
-          → Kind outside s (cond b Cuts (by_timer s (first_due s.cells) (by_event outside s (next_event outside s) (polls (next_native outside s) answer (picks (has_signal s.cells) (first_ready s.cells) (next_time outside s))))))
+          → Kind outside s (cond b Cuts (by_timer s (first_due s.cells) (by_event outside s (next_event outside s) (polls (next_native outside s) heard.completion (picks (has_signal s.cells) (first_ready s.cells) (next_time outside s))))))
       go true at = cuts
       go false at =
           timer_kind (first_due s.cells) refl _ (λ timer.
           event_kind (next_event outside s) refl _ (λ event.
-          polls_kind (next_native outside s) refl answer _ (early_both outside s timer event)
+          polls_kind (next_native outside s) refl heard.completion _ (early_both outside s timer event)
           (picks_kind (has_signal s.cells) (first_ready s.cells) (next_time outside s) (leb-false outside.limit s.rest.dispatches at) refl (early_both outside s timer event))))

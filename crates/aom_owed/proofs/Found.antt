@@ -4,7 +4,7 @@ use Rattle.std.proofs.lemmas.Bool.{eq-eqb, ne_eqb}
 use Rattle.std.specs.Prelude.{nat_le}
 use Rattle.aom_sound.specs.Places.{Cell, Object, Phase, Request, Tidy, Timer, named, requested}
 use Rattle.aom_sound.specs.State.{State}
-use Rattle.aom_sound.specs.World.{Candidate, Completes, Completion, Cuts, Hears, Kills, Outside, Picks, Polls, Timed, Turning, among_ready, among_timers, before_others, by_event, by_timer, cell_at, delivers, first_due, first_ready, goes_before, has_signal, is_ready, is_sooner, lives, next_event, next_native, next_time, passes, picks, polls, sooner, turning}
+use Rattle.aom_sound.specs.World.{Candidate, Completes, Completion, Cuts, Heard, Hears, Kills, Outside, Picks, Polls, Timed, Turning, among_ready, among_timers, before_others, by_event, by_timer, cell_at, delivers, first_due, first_ready, goes_before, has_signal, is_ready, is_sooner, lives, next_event, next_native, next_time, passes, picks, polls, sooner, turning}
 use Rattle.aom_transcript.specs.declared.event.Event.{Event}
 use Rattle.aom_transcript.specs.declared.event.Event.TheVariants.{Kill, Tell}
 use Rattle.aom_transcript.specs.declared.event.TimedEvent.{TimedEvent}
@@ -111,7 +111,7 @@ IsAbout s (Completes o) = (x : Timed) × (first_due s.cells ≡ Some x) × (x.ob
 IsAbout s (Picks x) = (y : Candidate) × (first_ready s.cells ≡ Some y) × (y.seat ≡ x)
 IsAbout s _ = Unit {0}
 
-module _ (outside : Outside) (answer : Option Completion) (s : State) where
+module _ (outside : Outside) (heard : Heard) (s : State) where
   about_time : (next : Option ℕ) → IsAbout s (passes next)
   about_time None = tt
   about_time (Some time) = tt
@@ -121,9 +121,9 @@ module _ (outside : Outside) (answer : Option Completion) (s : State) where
   about_ready true (Some y) next e = (y, e, refl)
   about_ready false ready next e = about_time next
 
-  about_native : (n : Option ℕ) (after : Turning) → IsAbout s after → IsAbout s (polls n answer after)
+  about_native : (n : Option ℕ) (after : Turning) → IsAbout s after → IsAbout s (polls n heard.completion after)
   about_native None after h = h
-  about_native (Some n) after h = polled answer
+  about_native (Some n) after h = polled heard.completion
     where
       polled : (a : Option Completion) → IsAbout s (Polls n a)
       polled a = tt
@@ -154,12 +154,12 @@ module _ (outside : Outside) (answer : Option Completion) (s : State) where
 
   -- where the limit is not reached
   abbrev within : Turning
-  within = by_timer s (first_due s.cells) (by_event outside s (next_event outside s) (polls (next_native outside s) answer (picks (has_signal s.cells) (first_ready s.cells) (next_time outside s))))
+  within = by_timer s (first_due s.cells) (by_event outside s (next_event outside s) (polls (next_native outside s) heard.completion (picks (has_signal s.cells) (first_ready s.cells) (next_time outside s))))
 
   about_within : IsAbout s within
   about_within = about_timer (first_due s.cells) _ refl (about_event (next_event outside s) _ (about_native (next_native outside s) _ (about_ready (has_signal s.cells) (first_ready s.cells) (next_time outside s) refl)))
 
-  pub turn_about : IsAbout s (turning outside answer s)
+  pub turn_about : IsAbout s (turning outside heard s)
   turn_about = go (nat_le outside.limit s.rest.dispatches)
     where
       go : (b : Bool) → IsAbout s (cond b Cuts within)

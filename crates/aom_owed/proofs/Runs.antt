@@ -22,9 +22,9 @@ module _ (p : Image) (t : Typing) (outside : Outside) (wired : IsWired p) (typed
   stays _ _ (moves {lines = lines} {s = s} {u = u} c before busy choice e) =
       let h = stays lines s before in
       (subst (λ o. Keeps p t o) e (step_keeps p t wired typed c s h.0 choice.name), (moves_follow_calls p t c s u h.0 choice.name h.1 e).sessions)
-  stays _ _ (turns {lines = lines} {s = s} {u = u} answer before between owed e) =
+  stays _ _ (turns {lines = lines} {s = s} {u = u} heard before between owed e) =
       let h = stays lines s before in
-      (subst (λ o. Keeps p t o) e (turn_goes_on p t outside wired typed answer s h.0 between owed), (turns_kill_or_complete p t outside answer s u h.0 owed h.1 e).sessions)
+      (subst (λ o. Keeps p t o) e (turn_goes_on p t outside wired typed heard s h.0 between owed), (turns_kill_or_complete p t outside heard s u h.0 owed.completion h.1 e).sessions)
 
 pub runs_keep_sessions : RunsKeepSessions
 runs_keep_sessions p t outside wired typed lines s reached = (stays p t outside wired typed lines s reached).1

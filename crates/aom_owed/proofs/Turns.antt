@@ -201,6 +201,6 @@ module _ (p : Image) (s : State) (holds : SessionsHold p s) where
   }
 
 pub turns_kill_or_complete : TurnsKillOrComplete
-turns_kill_or_complete p t outside answer s u w well holds e =
-    let tale = told p t s u w (turning outside answer s) (turn_about outside answer s) well e in
-    record { completes = tale.completes; owes = tale.owes; meets = tale.meets; killed = tale.killed; sessions = sessions_turned p s holds u (turning outside answer s) tale }
+turns_kill_or_complete p t outside heard s u w well holds e =
+    let tale = told p t s u w (turning outside heard s) (turn_about outside heard s) well e in
+    record { completes = tale.completes; owes = tale.owes; meets = tale.meets; killed = tale.killed; sessions = sessions_turned p s holds u (turning outside heard s) tale }

@@ -8,7 +8,7 @@ use Rattle.aom_sound.specs.Places.{Cell, named}
 use Rattle.aom_sound.specs.State.{State, Choice, Goes}
 use Rattle.aom_sound.specs.Wanted.{wanted}
 use Rattle.aom_sound.specs.WellTyped.{WellTyped}
-use Rattle.aom_sound.specs.World.{AnswersWell, Completion, Outside, Reaches, boot_state, turn, turning}
+use Rattle.aom_sound.specs.World.{AnswersWell, Heard, Outside, Reaches, boot_state, turn, turning}
 use Rattle.aom_transcript.specs.declared.line.Line.{Line}
 use Rattle.aom_owed.specs.Owed.{CompletesOwed, FindsWell, SessionsHold, killed_turned, meets, meets_after, meets_turned, owes, owes_after, owes_turned}
 
@@ -30,17 +30,17 @@ abbrev pub MovesFollowCalls : Type 0
 MovesFollowCalls = (p : Image) (t : Typing) (c : Choice) (s u : State) → WellTyped p t s → named s.cells c.name ≡ None → SessionsHold p s → step p c s ≡ Goes u → FollowsCall p c s u
 
 -- a turn changes it where it kills a native, or completes what is outstanding at one
-pub record FollowsTurn (p : Image) (outside : Outside) (answer : Option Completion) (s u : State) : Type 0 where
-  pub completes : CompletesOwed p s.cells (turning outside answer s)
-  pub owes : (k m : ℕ) → owes p u.cells k m ≡ owes_turned s.cells (turning outside answer s) k m (owes p s.cells k m)
-  pub meets : (k m : ℕ) → meets p u.cells k m ≡ meets_turned (turning outside answer s) k (meets p s.cells k m)
-  pub killed : u.killed ≡ killed_turned (turning outside answer s) s.killed
+pub record FollowsTurn (p : Image) (outside : Outside) (heard : Heard) (s u : State) : Type 0 where
+  pub completes : CompletesOwed p s.cells (turning outside heard s)
+  pub owes : (k m : ℕ) → owes p u.cells k m ≡ owes_turned s.cells (turning outside heard s) k m (owes p s.cells k m)
+  pub meets : (k m : ℕ) → meets p u.cells k m ≡ meets_turned (turning outside heard s) k (meets p s.cells k m)
+  pub killed : u.killed ≡ killed_turned (turning outside heard s) s.killed
   pub sessions : SessionsHold p u
 
 abbrev pub TurnsKillOrComplete : Type 0
 TurnsKillOrComplete =
-    (p : Image) (t : Typing) (outside : Outside) (answer : Option Completion) (s u : State) → WellTyped p t s → AnswersWell p s (turning outside answer s) → SessionsHold p s → turn p outside answer s ≡ Goes u →
-    FollowsTurn p outside answer s u
+    (p : Image) (t : Typing) (outside : Outside) (heard : Heard) (s u : State) → WellTyped p t s → AnswersWell p s (turning outside heard s) → SessionsHold p s → turn p outside heard s ≡ Goes u →
+    FollowsTurn p outside heard s u
 
 -- so sessions hold all along a run
 abbrev pub RunsKeepSessions : Type 0

@@ -59,12 +59,12 @@ module _ (p : Image) (t : Typing) (outside : Outside) (formed : WellFormed p) (l
   rounds : (lines : List Line) (s : State) → Reaches p outside (boot_state p) lines s → RoundsLeft p s.tasks
   rounds _ _ begins = loops_keep.boot p
   rounds _ _ (moves {lines = lines} {s = s} {u = u} c before busy choice e) = loops_keep.moves p (loops_keep.linked p formed linked) c s u (rounds lines s before) e
-  rounds _ _ (turns {lines = lines} {s = s} {u = u} answer before between owed e) = loops_keep.turns p (loops_keep.linked p formed linked) outside answer s u (rounds lines s before) e
+  rounds _ _ (turns {lines = lines} {s = s} {u = u} heard before between owed e) = loops_keep.turns p (loops_keep.linked p formed linked) outside heard s u (rounds lines s before) e
 
   calm : (lines : List Line) (s : State) → Reaches p outside (boot_state p) lines s → IsCalm p s.tasks
   calm _ _ begins = calm_keeps.boot p
   calm _ _ (moves {lines = lines} {s = s} {u = u} c before busy choice e) = calm_keeps.moves p t wired typed c s u (well lines s before) (calm lines s before) e
-  calm _ _ (turns {lines = lines} {s = s} {u = u} answer before between owed e) = calm_keeps.turns p outside answer s u (calm lines s before) e
+  calm _ _ (turns {lines = lines} {s = s} {u = u} heard before between owed e) = calm_keeps.turns p outside heard s u (calm lines s before) e
 
   runs_well : RunsWell p outside
   runs_well = record {

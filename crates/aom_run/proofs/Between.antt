@@ -242,7 +242,7 @@ module _ {X : Type 0} {B : X → Type 0} where
           let still : (refused : List ℕ) (limit : ℕ) → s.rest.dispatches < limit → Reaches m.core.image (hearing refused limit (natives_of m) events) s [] t.state =
           λ refused limit below.
           let outside = hearing refused limit (natives_of m) events in
-          polls_by m.core.image outside s s t.state x.0 x.2 begins t.between (λ other. polls_so outside s below (none s stands.stands) (none_now refused limit m none_come s stands) other x.0 x.3) x.6 t.goes in
+          polls_by m.core.image outside s s t.state x.0 x.2 begins t.between (λ heard. polls_so outside s below (none s stands.stands) (none_now refused limit m none_come s stands) heard x.0 x.3) x.6 t.goes in
           (t.state, still, ap (λ r. r.dispatches) same.1, omega (arith, late), t.stands)
 
     pub less_to_come : (old m new : Machine X B) → (m ≡ old) ⊎ (to_come events m < to_come events old) → to_come events new < to_come events m → to_come events new < to_come events old

@@ -1,6 +1,7 @@
 -- What a part of a turn leaves as it was, and how a run goes on by it.
 use Rattle.std.proofs.Common.{◌≡◌, ◌≤◌, ℕ, suc, Bool, true, false, List, [], ◌∷◌, ◌++◌, Option, Some, None, length, ap, arith, cond, subst, sym, refl, ◌∙◌}
 use Rattle.std.specs.Prelude.{nat_lt, not, ◌&&◌}
+use Rattle.aom_endings.proofs.Ending.{above, top}
 use Rattle.aom_image.specs.Image.{Image}
 use Rattle.aom_lines.specs.Turn.{Turn}
 use Rattle.aom_sound.proofs.Guarded.{goes_same, guarded_goes}
@@ -8,7 +9,7 @@ use Rattle.aom_sound.specs.Enlisted.{completed_with, recorded}
 use Rattle.aom_sound.specs.Natives.{is_dead, is_outstanding_at}
 use Rattle.aom_sound.specs.Places.{Cell, Object}
 use Rattle.aom_sound.specs.State.{CompletedTwice, Goes, State}
-use Rattle.aom_sound.specs.World.{AnswersWell, Completes, Completion, Hears, IsBetween, Kills, Outside, Polls, Reaches, Turning, answered_by, cell_at, delivers, lives, past_native, turned, turning, turns, with_request, written_by}
+use Rattle.aom_sound.specs.World.{AnswersWell, Completes, Completion, Heard, Hears, IsBetween, Kills, Outside, Polls, Reaches, Turning, answered_by, cell_at, delivers, lives, nothing_heard, past_native, turned, turning, turns, with_request, written_by}
 use Rattle.aom_transcript.specs.declared.event.Event.{Event}
 use Rattle.aom_transcript.specs.declared.event.Event.TheVariants.{Kill, Tell}
 use Rattle.aom_transcript.specs.declared.line.Line.{Line}
@@ -60,14 +61,21 @@ polled_same p s u n (Some a) goes = go (cell_at s.cells a.cell) goes
 
 -- ---- a run goes on
 
+-- what it hears, with a free name: a part makes nothing
+abbrev heard_of : Option Completion → State → Heard
+heard_of answer s = record { completion = answer; name = top s.cells }
+
 -- by a part that hears no native
 pub turns_by : (p : Image) (outside : Outside) (from : State) (lines : List Line) (s u : State) (x : Turning)
-    → Reaches p outside from lines s → IsBetween s → turning outside None s ≡ x → AnswersWell p s x → turned p s x ≡ Goes u → Reaches p outside from (lines ++ written_by s x) u
+    → Reaches p outside from lines s → IsBetween s → turning outside nothing_heard s ≡ x → AnswersWell p s x → turned p s x ≡ Goes u → Reaches p outside from (lines ++ written_by s x) u
 turns_by p outside from lines s u x r between is owed goes =
-    subst (λ k. Reaches p outside from (lines ++ written_by s k) u) is (turns None r between (subst (λ k. AnswersWell p s k) (sym is) owed) (ap (turned p s) is ∙ goes))
+    subst (λ k. Reaches p outside from (lines ++ written_by s k) u) is
+    (turns (heard_of None s) r between (record { completion = subst (λ k. AnswersWell p s k) (sym is) owed; name = above s.cells (top s.cells) (omega arith) }) (ap (turned p s) is ∙ goes))
 
 -- by a poll, which writes nothing
 pub polls_by : (p : Image) (outside : Outside) (from s u : State) (n : ℕ) (answer : Option Completion)
-    → Reaches p outside from [] s → IsBetween s → ((other : Option Completion) → turning outside other s ≡ Polls n other) → AnswersWell p s (Polls n answer) → turned p s (Polls n answer) ≡ Goes u → Reaches p outside from [] u
+    → Reaches p outside from [] s → IsBetween s → ((heard : Heard) → turning outside heard s ≡ Polls n heard.completion) → AnswersWell p s (Polls n answer) → turned p s (Polls n answer) ≡ Goes u → Reaches p outside from [] u
 polls_by p outside from s u n answer r between is owed goes =
-    subst (λ k. Reaches p outside from (written_by s k) u) (is None) (turns answer r between (subst (λ k. AnswersWell p s k) (sym (is answer)) owed) (ap (turned p s) (is answer) ∙ goes))
+    let heard = heard_of answer s in
+    subst (λ k. Reaches p outside from (written_by s k) u) (is nothing_heard)
+    (turns heard r between (record { completion = subst (λ k. AnswersWell p s k) (sym (is heard)) owed; name = above s.cells (top s.cells) (omega arith) }) (ap (turned p s) (is heard) ∙ goes))

@@ -12,7 +12,7 @@ use Rattle.aom_sound.proofs.Counting.{dispatches_are_counted}
 use Rattle.aom_sound.proofs.Guarded.{goes_same}
 use Rattle.aom_sound.specs.Places.{Object}
 use Rattle.aom_sound.specs.State.{Goes, State}
-use Rattle.aom_sound.specs.World.{AnswersWell, Cuts, IsBetween, Outside, Passes, Picks, Reaches, Timed, Turning, Waits, begins, due_of, event_at, first_due, first_living, has_signal, nearer, next_event, next_native, next_time, run_line, time_of, turned, turning, written_by}
+use Rattle.aom_sound.specs.World.{AnswersWell, Cuts, IsBetween, Outside, Passes, Picks, Reaches, Timed, Turning, Waits, begins, due_of, event_at, first_due, first_living, has_signal, nearer, next_event, next_native, next_time, nothing_heard, run_line, time_of, turned, turning, written_by}
 use Rattle.aom_transcript.specs.declared.line.Ending.TheVariants.{Limit, Waiting}
 use Rattle.aom_transcript.specs.declared.event.TimedEvent.{TimedEvent}
 use Rattle.aom_endings.proofs.Spending.{picked_pays}
@@ -90,7 +90,7 @@ module _ {X : Type 0} {B : X → Type 0} where
     all_polled s stands = ap (λ n. first_living s.killed (n - s.rest.polled) s.rest.polled) (sym rests.natives) ∙ rests.polled s stands
 
     -- a part of a turn
-    one_part : (s : State) (stands : StandsFor old s) (x : Turning) (u : State) → turning outside None (rests.far s stands).0 ≡ x → AnswersWell old.core.image (rests.far s stands).0 x → IsBetween (rests.far s stands).0
+    one_part : (s : State) (stands : StandsFor old s) (x : Turning) (u : State) → turning outside nothing_heard (rests.far s stands).0 ≡ x → AnswersWell old.core.image (rests.far s stands).0 x → IsBetween (rests.far s stands).0
         → turned m.core.image (rests.far s stands).0 x ≡ Goes u → Reaches old.core.image outside s (written_by (rests.far s stands).0 x) u
     one_part s stands x u is owed between goes =
         let w = rests.far s stands in
@@ -110,7 +110,7 @@ module _ {X : Type 0} {B : X → Type 0} where
         let x = picked w.0 w.4 in
         let t = x.3 in
         let is = picks_so outside w.0 (still_below s stands) (rests.none_due w.0 w.4.stands) (early w.0 w.4) (all_polled w.0 w.4) x.0 x.2 x.1 in
-        let same = dispatches_are_counted.turns m.core.image outside None w.0 t.state (ap (turned m.core.image w.0) is ∙ t.goes) in (
+        let same = dispatches_are_counted.turns m.core.image outside nothing_heard w.0 t.state (ap (turned m.core.image w.0) is ∙ t.goes) in (
           run_line w.0 x.0.seat.object,
           t.state,
           one_part s stands (Picks x.0.seat) t.state is tt t.between t.goes,

@@ -89,6 +89,6 @@ picking p t c s w idle _ f u e = cc
 
 pub turns_pay : TurnsPay
 turns_pay = record {
-  begins = λ p t c outside answer s u w idle e f. picking p t c s w idle (turning outside answer s) f u e;
-  passes = λ p c outside answer s u idle e f. passing p c s idle (turning outside answer s) f u e;
+  begins = λ p t c outside heard s u w idle e f. picking p t c s w idle (turning outside heard s) f u e;
+  passes = λ p c outside heard s u idle e f. passing p c s idle (turning outside heard s) f u e;
 }

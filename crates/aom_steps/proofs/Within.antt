@@ -50,7 +50,7 @@ use Rattle.aom_sound.specs.Places.{Elsewhere, Entry, Going, Object, Root, held, 
 use Rattle.aom_sound.specs.State.{An_object, Answered, Asks, Choice, Destroy, Dispatch, Dispatched, Frame, Goes, Item, Main_left, Object_left, Of_main, Of_object, Of_root, Run, Seat, State, Task, Trapped, Unwind}
 use Rattle.aom_sound.specs.Steps.{Acts, Arrives, Clears, Comes_out, Ends, Move, Rests, Undoes, Vanishes, IsStill}
 use Rattle.aom_sound.specs.WellTyped.{Fits, Good, WellTyped}
-use Rattle.aom_sound.specs.World.{Completion, Reaches, begins, boot_state, main_tasks, moves, turn, turning, turns, Outside}
+use Rattle.aom_sound.specs.World.{Heard, Reaches, begins, boot_state, main_tasks, moves, turn, turning, turns, Outside}
 use Rattle.aom_transcript.specs.declared.line.Line.{Line}
 use Rattle.aom_ranks.proofs.Worths.{resumed_alike, told_alike}
 use Rattle.aom_prices.specs.Layers.{ArePricesUpTo}
@@ -296,10 +296,10 @@ module _ (p : Image) (t : Typing) (c : Prices) (outside : Outside) (wired : IsWi
       omega (arith, h, step_pays p t c linked typed priced ch s u w goes on, ap (λ x. price_of p c x) same)
 
   -- and with a turn
-  turns_on : (answer : Option Completion) (s u : State) (n : ℕ) → WellTyped p t s → s.tasks ≡ [] → turn p outside answer s ≡ Goes u → Within n s → (b : Bool) → starts (turning outside answer s) ≡ b → Within (cond b 0 n) u
-  turns_on answer s u n w idle goes h true begun = omega (arith, turns_pay.begins p t c outside answer s u w idle goes begun)
-  turns_on answer s u n w idle goes h false on =
-      let passed = turns_pay.passes p c outside answer s u idle goes on in
+  turns_on : (heard : Heard) (s u : State) (n : ℕ) → WellTyped p t s → s.tasks ≡ [] → turn p outside heard s ≡ Goes u → Within n s → (b : Bool) → starts (turning outside heard s) ≡ b → Within (cond b 0 n) u
+  turns_on heard s u n w idle goes h true begun = omega (arith, turns_pay.begins p t c outside heard s u w idle goes begun)
+  turns_on heard s u n w idle goes h false on =
+      let passed = turns_pay.passes p c outside heard s u idle goes on in
       omega (arith, h, passed.1, ap (λ ts. price_of p c (payer ts)) (passed.0 ∙ sym idle))
 
   by_main : (m : Option ℕ) → payer (main_tasks m) ≡ None
@@ -309,7 +309,7 @@ module _ (p : Image) (t : Typing) (c : Prices) (outside : Outside) (wired : IsWi
   stays : {lines : List Line} {s : State} (reached : Reaches p outside (boot_state p) lines s) → Within (taken reached) s
   stays begins = omega (arith, (boot_within p c).within, ap (λ x. price_of p c x) (by_main (main_of p)))
   stays (moves {s = s} {u = u} ch reached busy opened goes) = moves_on s u ch (taken reached) (well reached) goes (stays reached) (restarts p s.tasks) refl
-  stays (turns {s = s} {u = u} answer reached between owed goes) = turns_on answer s u (taken reached) (well reached) between.idle goes (stays reached) (starts (turning outside answer s)) refl
+  stays (turns {s = s} {u = u} heard reached between owed goes) = turns_on heard s u (taken reached) (well reached) between.idle goes (stays reached) (starts (turning outside heard s)) refl
 
 -- ---- what is declared
 

@@ -8,7 +8,7 @@ use Rattle.aom_sound.specs.Counting.{restarts, starts, steps_of, taken}
 use Rattle.aom_sound.specs.Moves.{step}
 use Rattle.aom_sound.specs.State.{State, Choice, Goes}
 use Rattle.aom_sound.specs.WellTyped.{WellTyped}
-use Rattle.aom_sound.specs.World.{boot_state, Completion, Reaches, Outside, turn, turning}
+use Rattle.aom_sound.specs.World.{boot_state, Heard, Reaches, Outside, turn, turning}
 use Rattle.aom_transcript.specs.declared.line.Line.{Line}
 use Rattle.aom_prices.specs.Dispatches.{IsAffordable, main_price}
 use Rattle.aom_prices.specs.Layers.{ArePricesUpTo}
@@ -38,11 +38,11 @@ pub record MovesPay : Type 0 where
 -- a turn that dispatches an object begins with the price of its class, and any other costs nothing: whatever comes from outside, and whatever a native completes
 pub record TurnsPay : Type 0 where
   pub begins :
-      (p : Image) (t : Typing) (c : Prices) (outside : Outside) (answer : Option Completion) (s u : State) → WellTyped p t s → s.tasks ≡ [] → turn p outside answer s ≡ Goes u →
-      starts (turning outside answer s) ≡ true → left p c u ≤ price_of p c (payer u.tasks)
+      (p : Image) (t : Typing) (c : Prices) (outside : Outside) (heard : Heard) (s u : State) → WellTyped p t s → s.tasks ≡ [] → turn p outside heard s ≡ Goes u →
+      starts (turning outside heard s) ≡ true → left p c u ≤ price_of p c (payer u.tasks)
   pub passes :
-      (p : Image) (c : Prices) (outside : Outside) (answer : Option Completion) (s u : State) → s.tasks ≡ [] → turn p outside answer s ≡ Goes u →
-      starts (turning outside answer s) ≡ false → (u.tasks ≡ []) × (left p c u ≡ left p c s)
+      (p : Image) (c : Prices) (outside : Outside) (heard : Heard) (s u : State) → s.tasks ≡ [] → turn p outside heard s ≡ Goes u →
+      starts (turning outside heard s) ≡ false → (u.tasks ≡ []) × (left p c u ≡ left p c s)
 
 -- no dispatch in a run of the image has taken more steps than its payer declares, main or the class of an object, and what is counted is what was taken
 pub record KeepsBudget (p : Image) (outside : Outside) : Type 0 where
