@@ -12,7 +12,7 @@ use Rattle.aom_image.specs.declared.method.Thing.TheVariants.{Object as An_objec
 use Rattle.aom_cells.specs.Heap.{Heap, null, cell_at, word_of, field_of, count, blank, Changes}
 use Rattle.aom_shape.specs.Tables.{at, put_at}
 use Rattle.aom_shape.specs.Things.{words_of}
-use Rattle.aom_sound.specs.Places.{Place, Register, Field, Cell, held, named, with_new, word_field}
+use Rattle.aom_sound.specs.Places.{Place, Register, Field, Cell, held, named, with_new, word_field, count_cells}
 use Rattle.aom_sound.specs.Effects.{applied, deletes, jumps_unless}
 use Rattle.aom_sound.specs.State.{word, next, set_word, Run, Rest, raised}
 use Rattle.aom_sound.specs.Moves.{is_refused, makes, makes_cell}
@@ -139,14 +139,14 @@ module _ (p : Image) (turn : Turn) (m : Parts) (h : At_hand p m) (i : Instr) (he
       ap (λ r. is_named r.requests || nat_le m.cells.limit (count m.cells)) h.agrees.rest
       ∙ ap (λ l. is_named s.rest.requests || nat_le l (count m.cells)) h.agrees.cells.limit
       ∙ ap (λ k. is_named s.rest.requests || nat_le p.header.cells k) h.agrees.cells.count
-      ∙ ap (λ b. is_named s.rest.requests || (b && nat_le p.header.cells (length s.cells))) (sym (makes_here p m h i here ∙ cell))
+      ∙ ap (λ b. is_named s.rest.requests || (b && nat_le p.header.cells (count_cells s.cells))) (sym (makes_here p m h i here ∙ cell))
 
   pub same_entry_refusal : makes (Some i) ≡ false → refuses_entry turn m ≡ is_refused p turn.refused h.state
   same_entry_refusal none =
       let s = h.state in
       ap (λ r. is_named r.requests) h.agrees.rest
       ∙ alone (is_named s.rest.requests)
-      ∙ ap (λ b. is_named s.rest.requests || (b && nat_le p.header.cells (length s.cells))) (sym (makes_here p m h i here ∙ none))
+      ∙ ap (λ b. is_named s.rest.requests || (b && nat_le p.header.cells (count_cells s.cells))) (sym (makes_here p m h i here ∙ none))
     where
       alone : (b : Bool) → b ≡ (b || false)
       alone true = refl

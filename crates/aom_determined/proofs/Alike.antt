@@ -1,9 +1,9 @@
 -- A move of each of two states that are the same but for names, where the new cells' names are changed with one another, and a turn of each.
-use Rattle.std.proofs.Common.{List, None, Option, ap, length, refl, subst, sym, ℕ, ◌∙◌, ◌≡◌, Bool, true, false, ℤ}
+use Rattle.std.proofs.Common.{List, None, Option, ap, refl, subst, sym, ℕ, ◌∙◌, ◌≡◌, Bool, true, false, ℤ}
 use Rattle.aom_image.specs.Image.{Image}
 use Rattle.aom_rules.specs.Typing.{Typing}
 use Rattle.aom_sound.specs.Moves.{IsOpen, is_refused, step, written}
-use Rattle.aom_sound.specs.Places.{named}
+use Rattle.aom_sound.specs.Places.{named, count_cells}
 use Rattle.aom_sound.specs.State.{Choice, Goes, IsStuck, Outcome, State}
 use Rattle.aom_sound.specs.WellTyped.{WellTyped}
 use Rattle.aom_sound.specs.World.{Heard, nothing_heard, Outside, turn, turning, written_turn}
@@ -101,5 +101,5 @@ pub turns_stay_alike : TurnsStayAlike
 turns_stay_alike p outside heard other s u alike answers = (turn_alike p outside heard other s u alike answers, turn_writes_alike outside s u alike)
 
 -- they have as many cells
-pub alike_counted : (s u : State) → AreAlike s u → length s.cells ≡ length u.cells
-alike_counted s u alike = sym (cells_counted alike.names s.cells) ∙ ap (λ x. length x.cells) (sym alike.same)
+pub alike_counted : (s u : State) → AreAlike s u → count_cells s.cells ≡ count_cells u.cells
+alike_counted s u alike = sym (cells_counted alike.names s.cells) ∙ ap (λ x. count_cells x.cells) (sym alike.same)

@@ -3,10 +3,11 @@ use Rattle.std.proofs.Common.{Bool, List, None, Option, Some, [], ap, cond, fals
 use Rattle.std.proofs.lemmas.Bool.{eq-eqb, eqb-false, eqb-true, ne_eqb}
 use Rattle.std.proofs.lemmas.List.{length-map}
 use Rattle.std.specs.Prelude.{map, max, option_map}
+use Rattle.aom_shape.specs.Kinds.{is_object}
 use Rattle.aom_sound.specs.Calls.{is_register_but, none_owns_but}
 use Rattle.aom_sound.specs.Destruction.{is_field_of, owns_nothing}
 use Rattle.aom_sound.specs.Enlisted.{next_order, next_timer, order_after, request_after}
-use Rattle.aom_sound.specs.Places.{Cell, Elsewhere, Entry, Field, Going, Place, Register, Request, held, moved, named, requested, same_place, set_request, set_word_field, without, word_field, in_session, set_session}
+use Rattle.aom_sound.specs.Places.{Cell, Elsewhere, Entry, Field, Going, Place, Register, Request, held, moved, named, requested, same_place, set_request, set_word_field, without, word_field, in_session, set_session, count_cells}
 use Rattle.aom_sound.specs.State.{Task}
 use Rattle.aom_sound.specs.World.{cell_at}
 use Rattle.aom_determined.specs.Names.{IsOneToOne, renamed_cell, renamed_cells, renamed_object, renamed_place, renamed_tasks}
@@ -130,5 +131,6 @@ none_owns_kept names (c ∷ cs) d spared = rw (is_register_kept names d spared c
 pub tasks_counted : (names : ℕ → ℕ) (ts : List Task) → length (renamed_tasks names ts) ≡ length ts
 tasks_counted names ts = length-map ts _
 
-pub cells_counted : (names : ℕ → ℕ) (cs : List Cell) → length (renamed_cells names cs) ≡ length cs
-cells_counted names cs = length-map cs _
+pub cells_counted : (names : ℕ → ℕ) (cs : List Cell) → count_cells (renamed_cells names cs) ≡ count_cells cs
+cells_counted names [] = refl
+cells_counted names (c ∷ cs) = ap (λ n. cond (is_object c.object.thing) (suc n) n) (cells_counted names cs)

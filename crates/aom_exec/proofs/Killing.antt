@@ -14,6 +14,7 @@ use Rattle.aom_active.specs.Meanings.{Makes, asked_anew}
 use Rattle.aom_owed.specs.Owed.{serves, serves_object}
 use Rattle.aom_sessions.specs.Sessions.{Sets, Standing, is_open}
 use Rattle.aom_shape.specs.Tables.{at}
+use Rattle.aom_sound.proofs.Counts.{count_bereaved}
 use Rattle.aom_sound.proofs.Storing.{bereaved_alike}
 use Rattle.aom_sound.proofs.Turning.{bereaved_well}
 use Rattle.aom_sound.specs.Enlisted.{completed_with, is_unanswered, on_request}
@@ -85,15 +86,11 @@ module _ (p : Image) (native : ℕ) where
   words_after [] id w = refl
   words_after (c ∷ cs) id w = ap (λ x. cond (c.object.name == id) (at (pos 0) c.words w) x) (words_after cs id w)
 
-  length_after : (cs : List Cell) → length (after cs) ≡ length cs
-  length_after [] = refl
-  length_after (c ∷ cs) = ap suc (length_after cs)
-
   cells_after : (h : Heap) (cs : List Cell) → SameCells p h cs → SameCells p h (after cs)
   cells_after h cs same = record {
     things = λ n. same.things n ∙ ap thing_of (sym ((bereaved_alike p native cs).named_so n));
     words = λ n w. same.words n w ∙ sym (words_after cs n w);
-    count = same.count ∙ sym (length_after cs);
+    count = same.count ∙ sym (count_bereaved p native cs);
     limit = same.limit;
     wide = same.wide;
     classes = same.classes;

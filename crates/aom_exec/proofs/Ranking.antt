@@ -19,6 +19,7 @@ use Rattle.aom_ranks.proofs.Goings.{cells_stand_or_go}
 use Rattle.aom_ranks.proofs.Ranking.{moves_lower_ranks}
 use Rattle.aom_ranks.proofs.Rounds.{worth_alike}
 use Rattle.aom_sound.specs.Places.{Elsewhere, Place, Root}
+use Rattle.aom_parts.proofs.Cells.{all_counted}
 use Rattle.aom_parts.specs.Agrees.{SameDispatch, dispatch_of, SameFrame, SameTasks, SameItems, Agrees}
 use Rattle.aom_parts.specs.declared.parts.Parts.{Parts}
 use Rattle.aom_frames.specs.declared.dispatch.Dispatch.{Dispatch as Held_dispatch}
@@ -101,7 +102,7 @@ operations_alike = by_items (λ is js. operations_in is ≡ operations js) refl 
 pub same_rank : (p : Image) (t : Typing) (m : Parts) (s : State) → WellTyped p t s → Agrees p m s → rank_of p m.stack.tasks m.entries.items (count m.cells) ≡ rank p s
 same_rank p t m s typed agrees =
     let gone = destructions_alike m.stack.tasks s.tasks agrees.tasks in
-    let live = agrees.cells.count in
+    let live = agrees.cells.count ∙ all_counted p m.cells s.cells agrees.cells typed.good.tidy in
     let all = cells_stand_or_go p t s typed in
     let stand : count m.cells - destructions (map ranked m.stack.tasks) ≡ standing s.cells = omega (arith, gone, live, all) in
     let run = operations_alike m.entries.items s.items agrees.entries in

@@ -1,6 +1,7 @@
 -- What is known of an outcome, of a script and of the image is what the status answers.
-use Rattle.std.proofs.Common.{◌≡◌, ◌↔◌, ◌<◌, ◌≤◌, ◌∙◌, Bool, List, None, Option, ℕ, Ok, true, false, ap, arith, length, pos, refl, sym, subst, inl, inr}
+use Rattle.std.proofs.Common.{◌≡◌, ◌↔◌, ◌<◌, ◌≤◌, ◌∙◌, Bool, List, None, Option, ℕ, Ok, true, false, ap, arith, pos, refl, sym, subst, inl, inr}
 use Rattle.aom_transcript.specs.declared.line.Line.{Line}
+use Rattle.aom_sound.specs.Places.{count_cells}
 use Rattle.aom_sound.specs.State.{State}
 use Rattle.aom_sound.specs.World.{Outside, Reaches, Run_of, boot_state}
 use Rattle.std.specs.Prelude.{◌⊎◌}
@@ -95,8 +96,8 @@ module _ (bytes text : List ℕ) (limit natives : ℕ) (r : Runs bytes text limi
       let same = r.determined.ended oracle shown.lines lines shown.last last ending other shown.run run one another in (
         sym same.1,
         shown.out
-            ∙ ap (λ ls. after out.before (transcript ls ending (length shown.last.cells))) same.0
-            ∙ ap (λ e. after out.before (transcript lines e (length shown.last.cells))) same.1
+            ∙ ap (λ ls. after out.before (transcript ls ending (count_cells shown.last.cells))) same.0
+            ∙ ap (λ e. after out.before (transcript lines e (count_cells shown.last.cells))) same.1
             ∙ ap (λ n. after out.before (transcript lines other n)) (alike_counted shown.last last same.2),
       )
 

@@ -2,6 +2,7 @@
 use Rattle.std.proofs.Common.{◌≡◌, ℕ, suc, ◌+◌, Bool, false, List, [], ◌++◌, Option, Some, length, map, option_map, take, refl, sym, ap, subst, ◌∙◌, arith}
 use Rattle.std.proofs.lemmas.List.{length-map}
 use Rattle.aom_image.specs.Image.{Image}
+use Rattle.aom_sound.specs.Places.{count_cells}
 use Rattle.aom_sound.specs.State.{State}
 use Rattle.aom_sound.specs.World.{Outside, Run_of, boot_state}
 use Rattle.aom_transcript.specs.declared.line.Ending.{Ending}
@@ -84,7 +85,7 @@ module _ {X : Type 0} {B : X → Type 0} where
   -- how it ended, with how many cells and after how many requests, the machine tells
   pub last_so : (p : Image) (m new : Machine X B) (outside : Outside) (outcome : Outcome) (ending : Ending) (failed : Bool) (before now : Option (List ℕ)) (cells requests : ℕ)
       → m.core.image ≡ p → outcome ≡ outcome_of ending → Ran m outside outcome failed before now new
-      → ((s : State) → StandsFor new s → (cells ≡ length s.cells) × (requests ≡ s.rest.requests))
+      → ((s : State) → StandsFor new s → (cells ≡ count_cells s.cells) × (requests ≡ s.rest.requests))
       → IsLast p outside (record { ending = ending; cells = cells; requests = requests })
   last_so p m new outside outcome ending failed before now cells requests image is ran tells =
       let told = told_of m new outside ending failed before now (subst (λ o. Ran m outside o failed before now new) is ran) in

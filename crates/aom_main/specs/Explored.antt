@@ -1,6 +1,7 @@
 -- What is written where each allocation request of a run is refused in turn.
-use Rattle.std.specs.Prelude.{ℕ, zero, suc, ◌+◌, ◌-◌, ◌≡◌, ◌<◌, ◌⊎◌, min, true, false, List, [], ◌∷◌, ◌++◌, length}
+use Rattle.std.specs.Prelude.{ℕ, zero, suc, ◌+◌, ◌-◌, ◌≡◌, ◌<◌, ◌⊎◌, min, true, false, List, [], ◌∷◌, ◌++◌}
 use Rattle.aom_image.specs.Image.{Image}
+use Rattle.aom_sound.specs.Places.{count_cells}
 use Rattle.aom_sound.specs.State.{State}
 use Rattle.aom_run.specs.Turns.{hearing}
 use Rattle.aom_sound.specs.World.{Outside, Run_of}
@@ -23,7 +24,7 @@ pub record IsLast (p : Image) (outside : Outside) (last : Last) : Type 0 where
   pub lines : List Line
   pub state : State
   pub run : Run_of p outside lines state last.ending
-  pub cells : last.cells ≡ length state.cells
+  pub cells : last.cells ≡ count_cells state.cells
   pub requests : last.requests ≡ state.rest.requests
 
 -- the line of a run in which the request of that number is refused beside those of the script
@@ -32,7 +33,7 @@ pub record Tried (p : Image) (script : Script) (limit natives number : ℕ) (lin
   pub state : State
   pub ending : Ending
   pub run : Run_of p (hearing (script.refused ++ number ∷ []) limit natives script.timed) lines state ending
-  pub is : line ≡ ended (tried_text number ending (length state.cells))
+  pub is : line ≡ ended (tried_text number ending (count_cells state.cells))
 
 -- one such line for each of so many numbers, from the first on
 abbrev pub EachTried : Image → Script → (limit natives first count : ℕ) → List ℕ → Type 0

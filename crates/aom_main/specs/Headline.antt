@@ -1,6 +1,7 @@
 -- What a call promises of its sinks and its status, from bytes to bytes.
-use Rattle.std.specs.Prelude.{ℕ, ◌≡◌, ◌<◌, ◌≤◌, ◌⊎◌, Bool, true, false, List, Option, length, take, codes, Ok, Err}
+use Rattle.std.specs.Prelude.{ℕ, ◌≡◌, ◌<◌, ◌≤◌, ◌⊎◌, Bool, true, false, List, Option, take, codes, Ok, Err}
 use Rattle.aom_image.specs.Image.{Image}
+use Rattle.aom_sound.specs.Places.{count_cells}
 use Rattle.aom_sound.specs.State.{State}
 use Rattle.aom_run.specs.Turns.{hearing}
 use Rattle.aom_sound.specs.World.{Outside, Run_of}
@@ -60,11 +61,11 @@ pub record Transcribed (p : Image) (outside : Outside) (ending : Ending) (sent :
   pub lines : List Line
   pub last : State
   pub run : Run_of p outside lines last ending
-  pub out : sent.now ≡ after sent.before (transcript lines ending (length last.cells))
+  pub out : sent.now ≡ after sent.before (transcript lines ending (count_cells last.cells))
 
 -- a run that ended so would have sent what went out
 abbrev pub EndsAs : Ending → Sent → List Line → State → Ending → Type 0
-EndsAs ending sent lines last other = (other ≡ ending) × (sent.now ≡ after sent.before (transcript lines other (length last.cells)))
+EndsAs ending sent lines last other = (other ≡ ending) × (sent.now ≡ after sent.before (transcript lines other (count_cells last.cells)))
 
 -- no other transcript could have gone out: some oracle says what the run heard of natives, and each run of the image that ends and hears the same ends so, with the transcript that went out. Of an image that names no native so does each run that ends
 pub record IsOnly (p : Image) (outside : Outside) (ending : Ending) (sent : Sent) (shown : Transcribed p outside ending sent) : Type 0 where

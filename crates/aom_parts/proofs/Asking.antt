@@ -5,6 +5,7 @@ use Rattle.aom_image.specs.Image.{Image}
 use Rattle.aom_image.specs.declared.method.Argument.{Argument}
 use Rattle.aom_image.specs.declared.method.Argument.TheVariants.{Own as Takes_own, Word as Takes_word}
 use Rattle.aom_image.specs.declared.method.Thing.{Thing}
+use Rattle.aom_sound.proofs.Counts.{count_asked}
 use Rattle.aom_sound.specs.Calls.{passed_cells}
 use Rattle.aom_sound.specs.Places.{Cell, Object, Place, Register, Request, Tidy, held, moved, named, requested, set_word_field, with_new, without, Elsewhere, Root, set_request, word_field}
 use Rattle.aom_sound.specs.State.{AtRoot, Frame, Home, Inside, State, Static, Task}
@@ -77,16 +78,12 @@ words_asked : (cs : List Cell) (n : ℕ) (r : Option Request) (k w : ℕ) → wo
 words_asked [] n r k w = refl
 words_asked (c ∷ cs) n r k w = ap (λ x. cond (c.object.name == k) (at (pos 0) c.words w) x) (words_asked cs n r k w)
 
-length_asked : (cs : List Cell) (n : ℕ) (r : Option Request) → length (set_request n r cs) ≡ length cs
-length_asked [] n r = refl
-length_asked (c ∷ cs) n r = ap suc (length_asked cs n r)
-
 -- so the same cells live
 pub cells_asked : (p : Image) (h : Heap) (cs : List Cell) (n : ℕ) (r : Option Request) → SameCells p h cs → SameCells p h (set_request n r cs)
 cells_asked p h cs n r same = record {
   things = λ k. same.things k ∙ ap thing_of (sym ((rerequested_alike cs (Inside (record { name = n; thing = Message }) (Elsewhere Root)) r).named_so k));
   words = λ k w. same.words k w ∙ sym (words_asked cs n r k w);
-  count = same.count ∙ sym (length_asked cs n r);
+  count = same.count ∙ sym (count_asked cs n r);
   limit = same.limit;
   wide = same.wide;
   classes = same.classes;

@@ -9,7 +9,8 @@ use Rattle.aom_image.specs.declared.method.Thing.TheVariants.{Object as An_objec
 use Rattle.aom_cells.specs.Heap.{Heap, null, cell_at, word_of, field_of, field_at, with_word, with_field, count, Changes}
 use Rattle.aom_cells.specs.Heap.{word_at as cell_word}
 use Rattle.aom_cells.specs.declared.cell.Cell.{Cell as Held_cell}
-use Rattle.aom_sound.specs.Places.{Place, Register, Entry, Field, Going, Elsewhere, Root, Object, Cell, named, changed, word_field, set_word_field}
+use Rattle.aom_sound.proofs.Counts.{count_stored}
+use Rattle.aom_sound.specs.Places.{Place, Register, Entry, Field, Going, Elsewhere, Root, Object, Cell, named, changed, word_field, set_word_field, count_cells}
 use Rattle.aom_sound.proofs.Storing.{named_set_word}
 use Rattle.aom_frames.specs.declared.task.Task.{Task as Held_task}
 use Rattle.aom_parts.specs.Places.{value_in}
@@ -68,7 +69,7 @@ cell_of p h cs n o same lives = some_given (λ c. thing_in c ≡ Some o.thing) (
 
 -- a cell has other words and fields, of the same class and as many
 cells_rewritten : (p : Image) (h h' : Heap) (cs cs' : List Cell) (n : ℕ) (c c' : Held_cell) → SameCells p h cs → cell_at h n ≡ Some c → Changes h h' n (Some c') → c'.class ≡ c.class → length c'.fields ≡ length c.fields → count h' ≡ count h
-    → ((k : ℕ) → named cs' k ≡ named cs k) → length cs' ≡ length cs → ((k w : ℕ) → cell_word h' k w ≡ word_field cs' k w) → SameCells p h' cs'
+    → ((k : ℕ) → named cs' k ≡ named cs k) → count_cells cs' ≡ count_cells cs → ((k w : ℕ) → cell_word h' k w ≡ word_field cs' k w) → SameCells p h' cs'
 cells_rewritten p h h' cs cs' n c c' same at ch class as_wide as_many names as_long words = record {
   things = λ k. things k ∙ same.things k ∙ ap thing_of (sym (names k));
   words = words;
@@ -119,13 +120,9 @@ cells_put p h h' cs n f x o same lives puts =
         (λ e. ap (λ c. word_of c w) (puts.changed.others k (λ d. false≢true (sym e ∙ eq-eqb n k (sym d)))))
 
 -- a word is written
-length_stored : (cs : List Cell) (n w : ℕ) (v : ℤ) → length (set_word_field n w v cs) ≡ length cs
-length_stored [] n w v = refl
-length_stored (c ∷ cs) n w v = ap suc (length_stored cs n w v)
-
 pub cells_stored : (p : Image) (h h' : Heap) (cs : List Cell) (n w : ℕ) (v : ℤ) (o : Object) → SameCells p h cs → named cs n ≡ Some o → PutsWord n w v h h' → SameCells p h' (set_word_field n w v cs)
 cells_stored p h h' cs n w v o same lives puts =
     let c = cell_of p h cs n o same lives in
     let ch : Changes h h' n (Some (record c.0 { words = slice_set c.0.words w v })) = subst (λ z. Changes h h' n (with_word z w v)) c.1 puts.changed in
-    cells_rewritten p h h' cs (set_word_field n w v cs) n c.0 (record c.0 { words = slice_set c.0.words w v }) same c.1 ch refl refl puts.count (named_set_word cs n w v) (length_stored cs n w v)
+    cells_rewritten p h h' cs (set_word_field n w v cs) n c.0 (record c.0 { words = slice_set c.0.words w v }) same c.1 ch refl refl puts.count (named_set_word cs n w v) (count_stored cs n w v)
     (words_stored h h' cs n w v o same.words lives puts.changed puts.here)

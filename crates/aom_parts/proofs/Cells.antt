@@ -2,23 +2,35 @@
 use Rattle.std.proofs.Common.{suc, ◌≡◌, ℕ, pos, ◌+◌, Bool, true, false, cond, not, ◌==◌, length, List, [], ◌∷◌, Option, Some, None, refl, sym, ap, ◌∙◌, arith, subst, ◌<◌}
 use Rattle.std.proofs.lemmas.Bool.{eqb-true, eq-eqb, false≢true, false_from_ne_true, not-true, true≢false}
 use Rattle.aom_image.specs.Image.{Image}
+use Rattle.aom_cells.specs.declared.cell.Cell.{Cell as Held_cell}
 use Rattle.aom_cells.specs.Heap.{Heap, null, cell_at, word_of, count, Changes}
 use Rattle.aom_shape.specs.Tables.{at}
-use Rattle.aom_sound.specs.Places.{Place, Object, Cell, same_place, held, named, moved, without, Tidy, word_field}
-use Rattle.aom_sound.proofs.Maps.{front_free, same_place-true, named_moved, named_without, unnamed}
+use Rattle.aom_image.specs.declared.method.Thing.TheVariants.{Object as An_object_of}
+use Rattle.aom_shape.specs.Kinds.{is_object}
+use Rattle.aom_sound.specs.Places.{Place, Object, Cell, count_cells, same_place, held, named, moved, without, Tidy, word_field}
+use Rattle.aom_sound.proofs.Counts.{all_objects, count_moved, count_objects, count_without, counted_in}
+use Rattle.aom_sound.proofs.Maps.{held_lives, same_place-true, named_moved, named_without, unnamed, without_none}
 use Rattle.aom_parts.specs.Agrees.{SameCells, thing_in, thing_of}
 use Rattle.aom_parts.proofs.Values.{cases}
 use Rattle.aom_parts.proofs.CellWords.{words_moved, words_unnamed}
 
-length_moved : (cs : List Cell) (p q : Place) → length (moved p q cs) ≡ length cs
-length_moved [] p q = refl
-length_moved (c ∷ cs) p q = ap suc (length_moved cs p q)
+-- what the machine has is an object
+pub is_an_object : (p : Image) (h : Heap) (cs : List Cell) (n : ℕ) (o : Object) → SameCells p h cs → named cs n ≡ Some o → is_object o.thing ≡ true
+is_an_object p h cs n o same lives = go (cell_at h n) (same.things n ∙ ap thing_of lives)
+  where
+    go : (c : Option Held_cell) → thing_in c ≡ Some o.thing → is_object o.thing ≡ true
+    go None e = absurd cc
+    go (Some c) e = let object : o.thing ≡ An_object_of c.class = cc in ap is_object object
+
+-- and so is each cell
+pub all_counted : (p : Image) (h : Heap) (cs : List Cell) → SameCells p h cs → Tidy cs → count_cells cs ≡ length cs
+all_counted p h cs same tidy = count_objects cs (all_objects cs tidy (λ n o lives. is_an_object p h cs n o same lives))
 
 pub cells_moved : (p : Image) (h : Heap) (cs : List Cell) (from to : Place) → SameCells p h cs → SameCells p h (moved from to cs)
 cells_moved p h cs from to same = record {
   things = λ n. same.things n ∙ ap thing_of (sym (named_moved cs from to n));
   words = λ n w. same.words n w ∙ sym (words_moved cs from to n w);
-  count = same.count ∙ sym (length_moved cs from to);
+  count = same.count ∙ sym (count_moved cs from to);
   limit = same.limit;
   wide = same.wide;
   classes = same.classes;
@@ -26,32 +38,11 @@ cells_moved p h cs from to same = record {
   below = same.below;
 }
 
--- where a place owns nothing, nothing of its goes
-without_free : (cs : List Cell) (g : Place) → held cs g ≡ None → without g cs ≡ cs
-without_free [] g e = refl
-without_free (c ∷ cs) g e =
-    let f = front_free _ _ _ e in
-    ap (λ b. cond b (without g cs) (c ∷ without g cs)) f.0 ∙ ap (λ (ds : List Cell). c ∷ ds) (without_free cs g f.1)
-
 -- the place of a cell that is not owned so is another
 pub unowned : (c : Cell) (cs : List Cell) (r : Place) (is : Place → Bool) → is r ≡ true → not (is c.owner) ≡ true → held cs r ≡ None → held (c ∷ cs) r ≡ None
 unowned c cs r is here other none =
     let apart = false_from_ne_true (same_place c.owner r) (λ same. true≢false (sym here ∙ ap is (sym (same_place-true c.owner r same)) ∙ not-true _ other)) in
     ap (λ b. cond b (Some c.object) (held cs r)) apart ∙ none
-
--- and else one cell goes
-abbrev counted : Option Object → ℕ
-counted None = 0
-counted (Some o) = 1
-
-length_without : (cs : List Cell) (g : Place) → Tidy cs → length cs ≡ counted (held cs g) + length (without g cs)
-length_without [] g tidy = omega arith
-length_without (c ∷ cs) g tidy = go (same_place c.owner g) refl (length_without cs g tidy.2)
-  where
-    go : (b : Bool) → same_place c.owner g ≡ b → length cs ≡ counted (held cs g) + length (without g cs)
-        → suc (length cs) ≡ counted (cond b (Some c.object) (held cs g)) + length (cond b (without g cs) (c ∷ without g cs))
-    go true is rest = let same = ap length (without_free cs g (ap (held cs) (sym (same_place-true c.owner g is)) ∙ tidy.0)) in omega arith
-    go false is rest = omega (arith, rest)
 
 -- the words of another cell than the one that goes
 words_without : (cs : List Cell) (g : Place) (o : Object) (n w : ℕ) → Tidy cs → held cs g ≡ Some o → (o.name == n) ≡ false → word_field (without g cs) n w ≡ word_field cs n w
@@ -61,7 +52,7 @@ words_without (c ∷ cs) g o n w t e d = go (same_place c.owner g) refl (words_w
     go : (x : Bool) → same_place c.owner g ≡ x → (held cs g ≡ Some o → (o.name == n) ≡ false → word_field (without g cs) n w ≡ word_field cs n w) → cond x (Some c.object) (held cs g) ≡ Some o → word_field (cond x (without g cs) (c ∷ without g cs)) n w ≡ cond (c.object.name == n) (at (pos 0) c.words w) (word_field cs n w)
     go true f rest e =
         let same : c.object ≡ o = cc in
-        ap (λ l. word_field l n w) (without_free cs g (ap (λ q. held cs q) (sym (same_place-true c.owner g f)) ∙ t.0))
+        ap (λ l. word_field l n w) (without_none cs g (ap (λ q. held cs q) (sym (same_place-true c.owner g f)) ∙ t.0))
         ∙ ap (λ b. cond b (at (pos 0) c.words w) (word_field cs n w)) (sym (ap (λ x. x.name == n) same ∙ d))
     go false f rest e = ap (λ x. cond (c.object.name == n) (at (pos 0) c.words w) x) (rest e d)
 
@@ -74,7 +65,7 @@ cells_without p h h' cs g o same tidy is ch less = record {
   words = λ k w. cases (o.name == k)
       (λ e. ap (λ i. word_of (cell_at h' i) w) (sym (eqb-true o.name k e)) ∙ ap (λ c. word_of c w) ch.here ∙ sym (words_unnamed (without g cs) k w (ap (named (without g cs)) (sym (eqb-true o.name k e)) ∙ unnamed cs g o tidy is)))
       (λ e. ap (λ c. word_of c w) (other k e) ∙ same.words k w ∙ sym (words_without cs g o k w tidy is e));
-  count = (let a = length_without cs g tidy ∙ ap (λ o. counted o + length (without g cs)) is in let b = same.count in omega arith);
+  count = (let a = count_without cs g tidy ∙ ap (λ o. counted_in o + count_cells (without g cs)) is in let one = ap {B = ℕ} (λ b. cond b 1 0) (is_an_object p h cs o.name o same (held_lives cs g o tidy is)) in let b = same.count in omega (arith, a, one, b));
   limit = ch.limit ∙ same.limit;
   wide = λ k c e. same.wide k c (sym (still k c e) ∙ e);
   classes = λ k c e. same.classes k c (sym (still k c e) ∙ e);

@@ -6,6 +6,7 @@ use Rattle.aom_image.specs.declared.method.Argument.{Argument}
 use Rattle.aom_image.specs.declared.method.Argument.TheVariants.{Own as Takes_own, Word as Takes_word}
 use Rattle.aom_image.specs.declared.method.Thing.{Thing}
 use Rattle.aom_sessions.specs.Sessions.{Sets, Standing, is_open}
+use Rattle.aom_sound.proofs.Counts.{count_opened}
 use Rattle.aom_sound.specs.Calls.{passed_cells}
 use Rattle.aom_sound.specs.Enlisted.{rerequested}
 use Rattle.aom_sound.specs.Places.{Cell, Object, Place, Register, Request, Tidy, held, in_session, moved, named, same_place, set_request, set_session, set_word_field, with_new, without, word_field}
@@ -139,10 +140,6 @@ words_opened : (cs : List Cell) (n : ℕ) (b : Bool) (k w : ℕ) → word_field 
 words_opened [] n b k w = refl
 words_opened (c ∷ cs) n b k w = ap (λ x. cond (c.object.name == k) (at (pos 0) c.words w) x) (words_opened cs n b k w)
 
-length_opened : (cs : List Cell) (n : ℕ) (b : Bool) → length (set_session n b cs) ≡ length cs
-length_opened [] n b = refl
-length_opened (c ∷ cs) n b = ap suc (length_opened cs n b)
-
 -- so the same cells live
 pub cells_resessioned : (p : Image) (h : Heap) (cs : List Cell) (home : Home) (b : Bool) → SameCells p h cs → SameCells p h (resessioned cs home b)
 cells_resessioned p h cs Static b same = same
@@ -150,7 +147,7 @@ cells_resessioned p h cs AtRoot b same = same
 cells_resessioned p h cs (Inside o from) b same = record {
   things = λ k. same.things k ∙ ap thing_of (sym ((resessioned_alike cs (Inside o from) b).named_so k));
   words = λ k w. same.words k w ∙ sym (words_opened cs o.name b k w);
-  count = same.count ∙ sym (length_opened cs o.name b);
+  count = same.count ∙ sym (count_opened cs o.name b);
   limit = same.limit;
   wide = same.wide;
   classes = same.classes;

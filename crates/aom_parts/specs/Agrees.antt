@@ -7,7 +7,7 @@ use Rattle.aom_image.specs.declared.method.Thing.TheVariants.{Object as An_objec
 use Rattle.aom_cells.specs.Heap.{Heap, null, cell_at, count}
 use Rattle.aom_cells.specs.Heap.{word_at as cell_word}
 use Rattle.aom_cells.specs.declared.cell.Cell.{Cell as Held_cell}
-use Rattle.aom_sound.specs.Places.{Place, Register, Entry, Field, Going, Elsewhere, Object, Cell, held, in_session, named, requested, word_field}
+use Rattle.aom_sound.specs.Places.{Place, Register, Entry, Field, Going, Elsewhere, Object, Cell, held, in_session, named, requested, word_field, count_cells}
 use Rattle.aom_sound.specs.State.{Home, Static, AtRoot, Inside, Frame, Seat, Dispatch, Of_main, Main_left, Of_root, Of_object, Object_left, Asks, Answered, word, counter, Task, Run, Trapped, Destroy, Unwind, Dispatched, Item, An_object, An_operation, A_mark, State}
 use Rattle.aom_active.specs.Agrees.{Active, StandsFor}
 use Rattle.aom_frames.specs.declared.frame.Frame.{Frame as Held_frame}
@@ -123,7 +123,7 @@ thing_of (Some o) = Some o.thing
 pub record SameCells (p : Image) (h : Heap) (cs : List Cell) : Type 0 where
   pub things : (n : ℕ) → thing_in (cell_at h n) ≡ thing_of (named cs n)
   pub words : (n w : ℕ) → cell_word h n w ≡ word_field cs n w
-  pub count : count h ≡ length cs
+  pub count : count h ≡ count_cells cs
   pub limit : h.limit ≡ p.header.cells
   pub wide : (n : ℕ) (c : Held_cell) → cell_at h n ≡ Some c → length c.fields ≡ 8
   pub classes : (n : ℕ) (c : Held_cell) → cell_at h n ≡ Some c → c.class < 256

@@ -3,6 +3,7 @@ use Rattle.std.proofs.Common.{◌≡◌, ◌≢◌, ◌≤◌, ◌-◌, ◌^◌,
 use Rattle.std.proofs.Math.Nat.{mul-le-mul_right, suc-mul}
 use Rattle.std.specs.Prelude.{◌⊎◌, ◌*◌, is_some}
 use Rattle.aom_image.specs.Image.{Image}
+use Rattle.aom_sound.specs.Places.{count_cells}
 use Rattle.aom_sound.specs.State.{State, Task}
 use Rattle.aom_sound.specs.World.{boot_state, IsBetween, Reaches, begins, Outside}
 use Rattle.aom_transcript.specs.declared.event.TimedEvent.{TimedEvent}
@@ -34,8 +35,8 @@ use Rattle.aom_run.proofs.Sending.{cut_short, after_both, after_none, text_of_bo
 -- the beginning of the lines of a run is one of its transcript
 cut_of : (p : Image) (outside : Outside) (before now : Option (List ℕ)) (lines : List Line) → CanEnd p outside lines → (n : ℕ) → now ≡ after before (take n (text_of lines)) → CutShort p outside before now
 cut_of p outside before now lines all n out =
-    let rest = text_of all.more ++ ended (end_text all.ending (length all.last.cells)) in
-    let whole : transcript (lines ++ all.more) all.ending (length all.last.cells) ≡ text_of lines ++ rest = ap (λ t. t ++ ended (end_text all.ending (length all.last.cells))) (text_of_both lines all.more) ∙ append_assoc (text_of lines) (text_of all.more) (ended (end_text all.ending (length all.last.cells))) in
+    let rest = text_of all.more ++ ended (end_text all.ending (count_cells all.last.cells)) in
+    let whole : transcript (lines ++ all.more) all.ending (count_cells all.last.cells) ≡ text_of lines ++ rest = ap (λ t. t ++ ended (end_text all.ending (count_cells all.last.cells))) (text_of_both lines all.more) ∙ append_assoc (text_of lines) (text_of all.more) (ended (end_text all.ending (count_cells all.last.cells))) in
     let short = cut_short n (text_of lines) rest in
     record {
       lines = lines ++ all.more;
@@ -273,7 +274,7 @@ module _ {X : Type 0} {B : X → Type 0} where
   -- the last line after the others
   module _ (m new : Machine X B) (outside : Outside) (ending : Ending) (before mid now : Option (List ℕ)) (failed : Bool) (run : Ended m.core.image outside ending before mid new) where
     last : List ℕ
-    last = ended (end_text ending (length run.state.cells))
+    last = ended (end_text ending (count_cells run.state.cells))
 
     told : now ≡ after mid last → Told m.core.image outside ending before now new
     unfolding last
@@ -292,8 +293,8 @@ module _ {X : Type 0} {B : X → Type 0} where
         }
 
     pub ran : (outcome : Outcome) → (outcome ≡ WriteFault → failed ≡ true) → ((outcome ≡ WriteFault → ⊥) → outcome ≡ outcome_of ending)
-        → ((s : State) → StandsFor new s → (n : ℕ) × (now ≡ after mid (take n (ended (end_text ending (length s.cells))))))
-        → ((outcome ≡ WriteFault → ⊥) → (s : State) → StandsFor new s → now ≡ after mid (ended (end_text ending (length s.cells))))
+        → ((s : State) → StandsFor new s → (n : ℕ) × (now ≡ after mid (take n (ended (end_text ending (count_cells s.cells))))))
+        → ((outcome ≡ WriteFault → ⊥) → (s : State) → StandsFor new s → now ≡ after mid (ended (end_text ending (count_cells s.cells))))
         → Ran m outside outcome failed before now new
     unfolding last
     ran Stopped fault is part whole = subst (λ e. Told m.core.image outside e before now new) (sym (same_outcome endings.Stopped ending (is (λ f. cc)))) (told (whole (λ f. cc) run.state run.stands))

@@ -1,6 +1,7 @@
 -- What a run of the machine tells of the checked machine.
-use Rattle.std.specs.Prelude.{◌≡◌, ◌≢◌, ℕ, Bool, true, List, [], ◌++◌, Option, length, take, option_map}
+use Rattle.std.specs.Prelude.{◌≡◌, ◌≢◌, ℕ, Bool, true, List, [], ◌++◌, Option, take, option_map}
 use Rattle.aom_image.specs.Image.{Image}
+use Rattle.aom_sound.specs.Places.{count_cells}
 use Rattle.aom_sound.specs.Moves.{IsOpen, step, written}
 use Rattle.aom_sound.specs.State.{Choice, Goes, State}
 use Rattle.aom_sound.specs.World.{boot_state, IsBusy, Run_of, Outside}
@@ -33,7 +34,7 @@ pub record CutShort (p : Image) (outside : Outside) (before now : Option (List �
   pub ending : Ending
   pub run : Run_of p outside lines state ending
   pub sent : ℕ
-  pub out : now ≡ after before (take sent (transcript lines ending (length state.cells)))
+  pub out : now ≡ after before (take sent (transcript lines ending (count_cells state.cells)))
 
 module _ {X : Type 0} {B : X → Type 0} where
   -- a machine that has not run: it stands for the boot state
@@ -82,7 +83,7 @@ module _ {X : Type 0} {B : X → Type 0} where
     pub state : State
     pub run : Run_of p outside lines state ending
     pub stands : StandsFor new state
-    pub out : now ≡ after before (transcript lines ending (length state.cells))
+    pub out : now ≡ after before (transcript lines ending (count_cells state.cells))
 
   -- what an outcome says of the run
   abbrev pub Ran : Machine X B → Outside → Outcome → Bool → Option (List ℕ) → Option (List ℕ) → Machine X B → Type 0

@@ -1,5 +1,6 @@
 //! A run, from a fresh machine to its end, with its transcript.
-ghost use Rattle.std.specs.Prelude.{ℕ, true, ◌≡◌, ◌+◌, ◌<◌, ◌≤◌, length, take, IfNone, IfSome};
+ghost use Rattle.std.specs.Prelude.{ℕ, true, ◌≡◌, ◌+◌, ◌<◌, ◌≤◌, take, IfNone, IfSome};
+ghost use Rattle.aom_sound.specs.Places.{count_cells};
 ghost use Rattle.aom_sound.specs.State.{State};
 ghost use Rattle.aom_determined.specs.Laws.{IsDetermined};
 ghost use Rattle.aom_transcript.specs.Text.{ended, end_text};
@@ -81,8 +82,8 @@ fn run_lines<W: Sink>(
 fn finish<W: Sink>(machine: &Machine, ending: Ending, out: &mut W) -> Outcome
     ensures fault { result ≡ Outcome.WriteFault → W.failed out.new ≡ true }
     ensures outcome { (result ≡ Outcome.WriteFault → ⊥) → result ≡ outcome_of ending }
-    ensures prefix { (s : State) → StandsFor machine.now s → (n : ℕ) × (W.out out.new ≡ after (W.out out.old) (take n (ended (end_text ending (length s.cells))))) }
-    ensures whole { (result ≡ Outcome.WriteFault → ⊥) → (s : State) → StandsFor machine.now s → W.out out.new ≡ after (W.out out.old) (ended (end_text ending (length s.cells))) }
+    ensures prefix { (s : State) → StandsFor machine.now s → (n : ℕ) × (W.out out.new ≡ after (W.out out.old) (take n (ended (end_text ending (count_cells s.cells))))) }
+    ensures whole { (result ≡ Outcome.WriteFault → ⊥) → (s : State) → StandsFor machine.now s → W.out out.new ≡ after (W.out out.old) (ended (end_text ending (count_cells s.cells))) }
 {
     let mut page = Page::new();
     page.add_end(ending, machine.core.count());
