@@ -7,10 +7,10 @@ use Rattle.aom_shape.specs.Kinds.{is_object}
 use Rattle.aom_sound.specs.Calls.{is_register_but, none_owns_but}
 use Rattle.aom_sound.specs.Destruction.{is_field_of, owns_nothing}
 use Rattle.aom_sound.specs.Enlisted.{next_order, next_timer, order_after, request_after}
-use Rattle.aom_sound.specs.Places.{Cell, Elsewhere, Entry, Field, Going, Place, Register, Request, held, moved, named, requested, same_place, set_request, set_word_field, without, word_field, in_session, set_session, count_cells}
+use Rattle.aom_sound.specs.Places.{Cell, Elsewhere, Entry, Field, Going, Place, Register, Request, held, moved, named, requested, same_place, set_request, set_word_field, without, word_field, in_session, set_session, count_cells, Other, Root, Session, In_service, Queued}
 use Rattle.aom_sound.specs.State.{Task}
 use Rattle.aom_sound.specs.World.{cell_at}
-use Rattle.aom_determined.specs.Names.{IsOneToOne, renamed_cell, renamed_cells, renamed_object, renamed_place, renamed_tasks}
+use Rattle.aom_determined.specs.Names.{IsOneToOne, renamed_cell, renamed_cells, renamed_object, renamed_place, renamed_tasks, renamed_other}
 
 -- a renamed answer
 pub cond_mapped : {A B : Type 0} (f : A → B) (b : Bool) (x : A) (o : Option A) → cond b (Some (f x)) (option_map f o) ≡ option_map f (cond b (Some x) o)
@@ -29,12 +29,21 @@ module _ (names : ℕ → ℕ) (one_to_one : IsOneToOne names) where
       go true e = eq-eqb (names n) (names m) (ap names (eqb-true n m e))
       go false e = ne_eqb (names n) (names m) (λ same. eqb-false n m e (one_to_one n m same))
 
+  other_kept : (o w : Other) → same_place (Elsewhere (renamed_other names o)) (Elsewhere (renamed_other names w)) ≡ same_place (Elsewhere o) (Elsewhere w)
+  other_kept Root (Session t d) = refl
+  other_kept In_service (Session t d) = refl
+  other_kept (Session s c) (Session t d) = ap (λ b. b && (c == d)) (same_name s t)
+  other_kept (Queued s m) (Session t d) = refl
+  other_kept (Queued s m) (Queued t n) = rw (same_name s t, same_name m n)
+  other_kept _ _ = refl
+
   pub same_place_kept : (p q : Place) → same_place (renamed_place names p) (renamed_place names q) ≡ same_place p q
   same_place_kept (Field n f) (Field m g) = ap (λ b. b && (f == g)) (same_name n m)
   same_place_kept (Register f r) (Field m g) = refl
   same_place_kept (Entry k) (Field m g) = refl
   same_place_kept (Going k) (Field m g) = refl
   same_place_kept (Elsewhere o) (Field m g) = refl
+  same_place_kept (Elsewhere o) (Elsewhere w) = other_kept o w
   same_place_kept _ _ = refl
 
   pub held_renamed : (cs : List Cell) (q : Place) → held (renamed_cells names cs) (renamed_place names q) ≡ option_map (renamed_object names) (held cs q)

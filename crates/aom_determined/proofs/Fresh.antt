@@ -7,11 +7,11 @@ use Rattle.aom_shape.specs.declared.kind.Kind.TheVariants.{Null}
 use Rattle.aom_sound.proofs.Claimed.{claim_unnamed}
 use Rattle.aom_sound.proofs.Straight.{fits_unowning}
 use Rattle.aom_sound.specs.Claims.{Dispatching, Dying, Layer, Mark, Method, Unwinding, declared, declared_field, tasks_of}
-use Rattle.aom_sound.specs.Places.{Cell, Elsewhere, Entry, Field, Going, Place, Register, held, named, same_place, seen}
+use Rattle.aom_sound.specs.Places.{Cell, Elsewhere, Entry, Field, Going, Place, Register, held, named, same_place, seen, Other, Root, Session, In_service, Queued}
 use Rattle.aom_sound.specs.State.{Answered, Asks, AtRoot, Dispatch, Dispatched, Home, Inside, Object_left, Of_object, Run, Seat, State, Static, Task}
 use Rattle.aom_sound.specs.WellTyped.{AllSit, Back, Caught, Fits, Gone, Good, IsHoused, Leaves, Now, Returns, SitsFirst, Stack, WellTyped, seat_of}
 use Rattle.aom_sound.proofs.Maps.{same_place_refl}
-use Rattle.aom_determined.specs.Names.{IsOneToOne, renamed, renamed_cells, renamed_dispatch, renamed_home, renamed_place, renamed_seat, renamed_task, renamed_tasks}
+use Rattle.aom_determined.specs.Names.{IsOneToOne, renamed, renamed_cells, renamed_dispatch, renamed_home, renamed_place, renamed_seat, renamed_task, renamed_tasks, renamed_other}
 
 -- ---- two names change places
 
@@ -48,12 +48,18 @@ module _ (then first : ℕ → ℕ) where
   abbrev both : ℕ → ℕ
   both n = then (first n)
 
+  other_twice : (o : Other) → renamed_other both o ≡ renamed_other then (renamed_other first o)
+  other_twice Root = refl
+  other_twice (Session s c) = refl
+  other_twice In_service = refl
+  other_twice (Queued s m) = refl
+
   place_twice : (q : Place) → renamed_place both q ≡ renamed_place then (renamed_place first q)
   place_twice (Register f r) = refl
   place_twice (Entry k) = refl
   place_twice (Field n f) = refl
   place_twice (Going k) = refl
-  place_twice (Elsewhere o) = refl
+  place_twice (Elsewhere o) = ap Elsewhere (other_twice o)
 
   cells_twice : (cs : List Cell) → renamed_cells both cs ≡ renamed_cells then (renamed_cells first cs)
   cells_twice [] = refl
@@ -165,16 +171,34 @@ unnamed_owns_nothing p t cs ls good n f e =
     let null = claim_unnamed p t cs (declared p cs) ls Now n f good.stack e ∙ ap (λ o. declared_field p o f) e in
     fits_unowning p (seen cs) (held cs (Field n f)) Null refl (subst (λ k. Fits p (seen cs) (held cs (Field n f)) k) null (good.fits (Field n f)))
 
+-- nor does a session or a queue
+session_null : (p : Image) (cs : List Cell) (ls : List Layer) (s c : ℕ) → claim p (declared p cs) ls (Elsewhere (Session s c)) ≡ Null
+session_null p cs [] s c = refl
+session_null p cs (l ∷ ls) s c = session_null p cs ls s c
+
+queued_null : (p : Image) (cs : List Cell) (ls : List Layer) (s m : ℕ) → claim p (declared p cs) ls (Elsewhere (Queued s m)) ≡ Null
+queued_null p cs [] s m = refl
+queued_null p cs (l ∷ ls) s m = queued_null p cs ls s m
+
+unclaimed_owns_nothing : (p : Image) (t : Typing) (cs : List Cell) (ls : List Layer) (o : Other) → Good p t cs ls → claim p (declared p cs) ls (Elsewhere o) ≡ Null → held cs (Elsewhere o) ≡ None
+unclaimed_owns_nothing p t cs ls o good null = fits_unowning p (seen cs) (held cs (Elsewhere o)) Null refl (subst (λ k. Fits p (seen cs) (held cs (Elsewhere o)) k) null (good.fits (Elsewhere o)))
+
 -- a renaming of names that are not in use
 pub spared : (p : Image) (t : Typing) (s : State) (names : ℕ → ℕ) → WellTyped p t s → ((n : ℕ) → named s.cells n ≢ None → names n ≡ n) → renamed names s ≡ s
 spared p t s names well named_so = rw (cells_spared names s.cells named_so held_so, well.tasks, tasks_spared names p t s.cells named_so held_so well.layers Now well.good.stack)
   where
+    other_so : (o : Other) → held s.cells (Elsewhere o) ≢ None → renamed_other names o ≡ o
+    other_so Root some = refl
+    other_so (Session n c) some = absurd (some (unclaimed_owns_nothing p t s.cells well.layers (Session n c) well.good (session_null p s.cells well.layers n c)))
+    other_so In_service some = refl
+    other_so (Queued n m) some = absurd (some (unclaimed_owns_nothing p t s.cells well.layers (Queued n m) well.good (queued_null p s.cells well.layers n m)))
+
     held_so : (q : Place) → held s.cells q ≢ None → renamed_place names q ≡ q
     held_so (Register f r) some = refl
     held_so (Entry k) some = refl
     held_so (Field n f) some = ap (λ m. Field m f) (named_so n (λ e. some (unnamed_owns_nothing p t s.cells well.layers well.good n f e)))
     held_so (Going k) some = refl
-    held_so (Elsewhere o) some = refl
+    held_so (Elsewhere o) some = ap Elsewhere (other_so o some)
 
 -- two names that are free change places, and nothing changes
 pub swapped_free : (p : Image) (t : Typing) (s : State) (a b : ℕ) → WellTyped p t s → named s.cells a ≡ None → named s.cells b ≡ None → renamed (swapped a b) s ≡ s

@@ -1,6 +1,6 @@
 -- A state under other names: each cell has another name, and whatever names a cell says the new one.
 use Rattle.std.specs.Prelude.{ℕ, ◌≡◌, List, map}
-use Rattle.aom_sound.specs.Places.{Place, Register, Entry, Field, Going, Elsewhere, Object, Cell}
+use Rattle.aom_sound.specs.Places.{Place, Register, Entry, Field, Going, Elsewhere, Other, Root, Session, In_service, Queued, Object, Cell}
 use Rattle.aom_sound.specs.State.{Home, Static, AtRoot, Inside, Frame, Seat, Dispatch, Of_main, Main_left, Of_root, Of_object, Object_left, Asks, Answered, Task, Run, Trapped, Destroy, Unwind, Dispatched, State, Choice, Outcome, Goes, IsStuck}
 use Rattle.aom_sound.specs.World.{Heard}
 
@@ -12,13 +12,20 @@ module _ (names : ℕ → ℕ) where
   abbrev pub renamed_object : Object → Object
   renamed_object o = record o { name = names o.name }
 
+  -- sessions and queues stay their server's, and a message that waits goes by its name
+  abbrev pub renamed_other : Other → Other
+  renamed_other Root = Root
+  renamed_other (Session s c) = Session (names s) c
+  renamed_other In_service = In_service
+  renamed_other (Queued s m) = Queued (names s) (names m)
+
   -- a field is one of the same cell
   abbrev pub renamed_place : Place → Place
   renamed_place (Register f r) = Register f r
   renamed_place (Entry k) = Entry k
   renamed_place (Field n f) = Field (names n) f
   renamed_place (Going k) = Going k
-  renamed_place (Elsewhere o) = Elsewhere o
+  renamed_place (Elsewhere o) = Elsewhere (renamed_other o)
 
   abbrev pub renamed_cell : Cell → Cell
   renamed_cell c = record c { object = renamed_object c.object; owner = renamed_place c.owner }

@@ -16,7 +16,7 @@ use Rattle.aom_verify.specs.Strongest.{IsStrongest}
 use Rattle.aom_budget.specs.Budgets.{CostsWithin}
 use Rattle.aom_budget.specs.Depths.{HasDepths}
 use Rattle.aom_budget.specs.Heights.{HasHeights}
-use Rattle.aom_sound.specs.Places.{Place, Register, Entry, Field, Going, Elsewhere, Root}
+use Rattle.aom_sound.specs.Places.{Place, Register, Entry, Field, Going, Elsewhere, Root, Session, In_service, Queued}
 use Rattle.aom_sound.specs.Laws.{BootKeeps, StepKeeps, LinkedIsWired}
 use Rattle.aom_sound.specs.Quiet.{CalmKeeps}
 use Rattle.aom_sound.specs.World.{main_tasks, boot_state}
@@ -62,6 +62,9 @@ module _ (p : Image) (m : Parts) (booted : Booted p m) where
   no_value (Field n f) = ap (λ h. field_at h n f) booted.cells
   no_value (Going k) = ap (λ us. going_in us k) booted.tasks ∙ all_none (2 == k) (1 == k) (0 == k) null null refl
   no_value (Elsewhere Root) = booted.root
+  no_value (Elsewhere (Session s c)) = refl
+  no_value (Elsewhere In_service) = refl
+  no_value (Elsewhere (Queued s n)) = refl
 
   no_word_yet : (r : Place) → word_at (main_tasks (main_of p)) r ≡ None
   no_word_yet (Register d i) = ap (λ us. word_in us d i) (boot_tasks p booted.main booted.is_main) ∙ all_none (2 == d) (1 == d) (0 == d) None None refl

@@ -10,7 +10,7 @@ use Rattle.aom_cells.specs.Heap.{Heap, null, cell_at, word_of, field_of, field_a
 use Rattle.aom_cells.specs.Heap.{word_at as cell_word}
 use Rattle.aom_cells.specs.declared.cell.Cell.{Cell as Held_cell}
 use Rattle.aom_sound.proofs.Counts.{count_stored}
-use Rattle.aom_sound.specs.Places.{Place, Register, Entry, Field, Going, Elsewhere, Root, Object, Cell, named, changed, word_field, set_word_field, count_cells}
+use Rattle.aom_sound.specs.Places.{Place, Register, Entry, Field, Going, Elsewhere, Root, Object, Cell, named, changed, word_field, set_word_field, count_cells, Session, In_service, Queued}
 use Rattle.aom_sound.proofs.Storing.{named_set_word}
 use Rattle.aom_frames.specs.declared.task.Task.{Task as Held_task}
 use Rattle.aom_parts.specs.Places.{value_in}
@@ -45,6 +45,9 @@ field_written us h h' es root n f x puts _ = refl
 
 pub root_written : (us : List Held_task) (h : Heap) (es : List Item) (root x : ℕ) (r : Place) → value_in us h es x r ≡ changed (value_in us h es root) (Elsewhere Root) x r
 root_written us h es root x (Elsewhere Root) = refl
+root_written us h es root x (Elsewhere (Session s c)) = refl
+root_written us h es root x (Elsewhere In_service) = refl
+root_written us h es root x (Elsewhere (Queued s m)) = refl
 root_written us h es root x (Register d i) = refl
 root_written us h es root x (Entry k) = refl
 root_written us h es root x (Field n g) = refl

@@ -1,7 +1,7 @@
 -- The number in each place of the machine.
 use Rattle.std.specs.Prelude.{ℕ, ℤ, pos, cond, ◌==◌, List, [], ◌∷◌, length, Option, Some, None, ◌≡◌, suc, ◌<◌}
 use Rattle.aom_cells.specs.Heap.{Heap, null, field_at}
-use Rattle.aom_sound.specs.Places.{Place, Register, Entry, Field, Going, Elsewhere, Other, Root}
+use Rattle.aom_sound.specs.Places.{Place, Register, Entry, Field, Going, Elsewhere, Other, Root, Session, In_service, Queued}
 use Rattle.aom_frames.specs.Tasks.{register_of, on_top, with_register, with_counter, with_place, place_here}
 use Rattle.aom_frames.specs.declared.task.Task.{Task}
 use Rattle.aom_frames.specs.declared.task.Task.TheVariants.{Run, Trapped, Destroy, Unwind, Dispatched}
@@ -27,8 +27,12 @@ abbrev pub going_in : List Task → ℕ → ℕ
 going_in [] d = null
 going_in (t ∷ ts) d = cond (length ts == d) (going_of t) (going_in ts d)
 
+-- the root's: no server has a session or a message
 abbrev pub other_in : ℕ → Other → ℕ
 other_in root Root = root
+other_in root (Session s c) = null
+other_in root In_service = null
+other_in root (Queued s m) = null
 
 -- the number in a place
 abbrev pub value_in : List Task → Heap → List Item → ℕ → Place → ℕ
