@@ -6,7 +6,7 @@ use Rattle.aom_rules.specs.Typing.{Typing}
 use Rattle.aom_shape.specs.declared.kind.Kind.TheVariants.{Null}
 use Rattle.aom_sound.proofs.Claimed.{claim_unnamed}
 use Rattle.aom_sound.proofs.Straight.{fits_unowning}
-use Rattle.aom_sound.specs.Claims.{Dispatching, Dying, Layer, Mark, Method, Unwinding, declared, declared_field, tasks_of}
+use Rattle.aom_sound.specs.Claims.{Dispatching, Dying, Layer, Mark, Method, Unwinding, declared, declared_field, tasks_of, claim}
 use Rattle.aom_sound.specs.Places.{Cell, Elsewhere, Entry, Field, Going, Place, Register, held, named, same_place, seen, Other, Root, Session, In_service, Queued}
 use Rattle.aom_sound.specs.State.{Answered, Asks, AtRoot, Dispatch, Dispatched, Home, Inside, Object_left, Of_object, Run, Seat, State, Static, Task}
 use Rattle.aom_sound.specs.WellTyped.{AllSit, Back, Caught, Fits, Gone, Good, IsHoused, Leaves, Now, Returns, SitsFirst, Stack, WellTyped, seat_of}

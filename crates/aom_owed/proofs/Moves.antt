@@ -7,7 +7,7 @@ use Rattle.aom_image.specs.Image.{Image}
 use Rattle.aom_image.specs.Views.{gives_of, instr_at}
 use Rattle.aom_image.specs.declared.method.Role.TheVariants.{Error}
 use Rattle.aom_instructions.specs.declared.instr.Instr.{Instr}
-use Rattle.aom_instructions.specs.declared.instr.Instr.TheVariants.{Abort, Ask, Cancel, Close, Connect, Delete, Enlist, Issue, JumpActive, JumpAdded, JumpEmpty, JumpEqual, JumpLess, JumpNull, LeaveIf, New, NewOrLeave, Next, PopDelete, Push, PushOperation, Return, SetActive}
+use Rattle.aom_instructions.specs.declared.instr.Instr.TheVariants.{Abort, Ask, Cancel, Close, Connect, Enlist, Issue, Return, SetActive}
 use Rattle.aom_owed.proofs.Calls.{IsAlive, Told, abort_told, alive_in, at_it, found, ask_told, asked_same, close_told, connect_told, ended_same, issue_told, sessions_after, taken_off, told_none, unasked}
 use Rattle.aom_owed.proofs.Cells.{Unchanged, meets_gone, owes_gone, served_none, unchanged_along, unchanged_itself, unchanged_moved}
 use Rattle.aom_owed.proofs.Effects.{IsAside, applied_killed, applied_unchanged, returned_unchanged}
@@ -102,21 +102,8 @@ module _ (p : Image) (c : Choice) (fr : Frame) (ts : List Task) (s : State) (hol
   tells SetActive met = silent SetActive (λ n name. refl) (asked_same p c.answer s fr.home (on_request waits (own_request s.cells fr.home)) (waits_owed (own_request s.cells fr.home) met.1.1.1.0))
   tells Cancel met = silent Cancel (λ n name. refl) (cancels (in_phase is_active (own_request s.cells fr.home)) refl (cancel_method p fr.home))
   tells (Return a) met = silent (Return a) (λ n name. refl) (returns a met)
-  tells (JumpEqual a b to) met = aside (JumpEqual a b to) (λ n name. refl) (jumps_aside _ to)
-  tells (JumpLess a b to) met = aside (JumpLess a b to) (λ n name. refl) (jumps_aside _ to)
-  tells (JumpActive to) met = aside (JumpActive to) (λ n name. refl) (jumps_aside _ to)
-  tells (JumpAdded to) met = aside (JumpAdded to) (λ n name. refl) (jumps_aside _ to)
-  tells (JumpNull a to) met = aside (JumpNull a to) (λ n name. refl) (misses_aside _ to)
-  tells (JumpEmpty f to) met = aside (JumpEmpty f to) (λ n name. refl) (misses_aside _ to)
-  tells (Next depth to) met = aside (Next depth to) (λ n name. refl) (round_aside _ depth to)
-  tells (Delete a) met = aside (Delete a) (λ n name. refl) (deletes_aside _ a)
-  tells PopDelete met = aside PopDelete (λ n name. refl) (deals_aside _ _)
-  tells (New a x) met = aside (New a x) (λ n name. refl) (makes_aside c.refused x a)
-  tells (NewOrLeave a x) met = aside (NewOrLeave a x) (λ n name. refl) (refused_aside c.refused _ _ tt refl)
-  tells (Push a) met = aside (Push a) (λ n name. refl) (refused_aside c.refused _ _ tt tt)
-  tells (PushOperation a m) met = aside (PushOperation a m) (λ n name. refl) (refused_aside c.refused _ _ tt tt)
-  tells (LeaveIf a) met = aside (LeaveIf a) (λ n name. refl) (leaves_aside _ _)
-  tells i met = aside i (λ n name. refl) tt
+  -- the others make no call, whatever a test of theirs decides
+  tells i met = aside i (λ n name. refl) (search (jumps_aside, misses_aside, round_aside, deletes_aside, deals_aside, makes_aside, refused_aside, leaves_aside))
 
 -- ---- the going of a cell
 
